@@ -1,0 +1,2 @@
+pub mod ReadsInRange
+pub mod ReadsWritten

@@ -1,0 +1,43 @@
+-- What is written of a command is read as that command.
+use Rattle.std.proofs.Common.{◌≡◌, ℕ, ◌+◌, ◌/◌, ◌%◌, ◌<◌, ◌^◌, Bool, true, false, List, [], ◌∷◌, ◌++◌, Option, Some, None, refl, ap, ◌∙◌}
+use Rattle.std.specs.Int.{w16, w32, w64, to_be_bytes}
+use Rattle.std.proofs.lemmas.Nat.{from_be_bytes-to_be_bytes_2, from_be_bytes-to_be_bytes_4, from_be_bytes-to_be_bytes_8}
+use Rattle.pr_cdb.specs.declared.command.Kind.{Kind}
+use Rattle.pr_cdb.specs.declared.command.Kind.TheVariants.{WriteExclusive, ExclusiveAccess, WriteExclusiveRegistrantsOnly, ExclusiveAccessRegistrantsOnly, WriteExclusiveAllRegistrants, ExclusiveAccessAllRegistrants}
+use Rattle.pr_cdb.specs.declared.command.Command.{Command}
+use Rattle.pr_cdb.specs.declared.command.Command.TheVariants.{TestUnitReady, RequestSense, Read, Write, ReadKeys, ReadReservation, ReportCapabilities, Register, RegisterIgnore, Reserve, Release, Clear, Preempt, PreemptAbort}
+use Rattle.pr_cdb.specs.Kinds.{code_of, kind_of_code}
+use Rattle.pr_cdb.specs.Bytes.{be16, be32, be64}
+use Rattle.pr_cdb.specs.Requests.{request_of, named, reserve_out, kind_of_byte, length_of, has_refused_flag, plain, requested, Fits}
+use Rattle.pr_cdb.specs.Spelling.{spelling, kind_byte}
+
+kind_of_byte-code_of : (k : Kind) → kind_of_byte (code_of k) ≡ Some k
+unfolding kind_of_byte kind_of_code
+kind_of_byte-code_of WriteExclusive = refl
+kind_of_byte-code_of ExclusiveAccess = refl
+kind_of_byte-code_of WriteExclusiveRegistrantsOnly = refl
+kind_of_byte-code_of ExclusiveAccessRegistrantsOnly = refl
+kind_of_byte-code_of WriteExclusiveAllRegistrants = refl
+kind_of_byte-code_of ExclusiveAccessAllRegistrants = refl
+
+kind_of_byte-kind_byte : (kind : Option Kind) → kind_of_byte (kind_byte kind) ≡ kind
+unfolding kind_of_byte kind_of_code
+kind_of_byte-kind_byte None = refl
+kind_of_byte-kind_byte (Some k) = kind_of_byte-code_of k
+
+pub written_is_read : (c : Command) → Fits c → requested (spelling c) ≡ plain c
+unfolding request_of named reserve_out length_of has_refused_flag be16 be32 be64 spelling
+written_is_read TestUnitReady fits = refl
+written_is_read RequestSense fits = refl
+written_is_read (Read lba blocks) fits = rw (from_be_bytes-to_be_bytes_4 lba fits.0, from_be_bytes-to_be_bytes_2 blocks fits.1) refl
+written_is_read (Write lba blocks) fits = rw (from_be_bytes-to_be_bytes_4 lba fits.0, from_be_bytes-to_be_bytes_2 blocks fits.1) refl
+written_is_read (ReadKeys alloc) fits = rw (from_be_bytes-to_be_bytes_2 alloc fits) refl
+written_is_read (ReadReservation alloc) fits = rw (from_be_bytes-to_be_bytes_2 alloc fits) refl
+written_is_read (ReportCapabilities alloc) fits = rw (from_be_bytes-to_be_bytes_2 alloc fits) refl
+written_is_read (Register rk sark) fits = rw (from_be_bytes-to_be_bytes_8 rk fits.0, from_be_bytes-to_be_bytes_8 sark fits.1) refl
+written_is_read (RegisterIgnore sark) fits = rw (from_be_bytes-to_be_bytes_8 sark fits) refl
+written_is_read (Reserve rk kind) fits = rw (kind_of_byte-code_of kind, from_be_bytes-to_be_bytes_8 rk fits) refl
+written_is_read (Release rk kind) fits = rw (kind_of_byte-code_of kind, from_be_bytes-to_be_bytes_8 rk fits) refl
+written_is_read (Clear rk) fits = rw (from_be_bytes-to_be_bytes_8 rk fits) refl
+written_is_read (Preempt rk sark kind) fits = rw (kind_of_byte-kind_byte kind, from_be_bytes-to_be_bytes_8 rk fits.0, from_be_bytes-to_be_bytes_8 sark fits.1) refl
+written_is_read (PreemptAbort rk sark kind) fits = rw (kind_of_byte-kind_byte kind, from_be_bytes-to_be_bytes_8 rk fits.0, from_be_bytes-to_be_bytes_8 sark fits.1) refl

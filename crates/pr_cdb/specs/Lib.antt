@@ -1,0 +1,5 @@
+pub mod Kinds
+pub mod Bytes
+pub mod Requests
+pub mod Spelling
+pub mod ReplyData

@@ -1,0 +1,49 @@
+-- The data that replies carry.
+use Rattle.std.specs.Prelude.{ℕ, zero, suc, ◌+◌, ◌-◌, ◌*◌, ◌/◌, ◌%◌, nat_lt, min, if◌then◌else◌, List, [], ◌∷◌, ◌++◌, length, take, Option, Some, None}
+use Rattle.std.specs.Int.{w32, w64, to_be_bytes}
+use Rattle.std.specs.List.{flat_map}
+use Rattle.pr_cdb.specs.declared.command.Kind.{Kind}
+use Rattle.pr_cdb.specs.declared.reply.Sense.{Sense}
+use Rattle.pr_cdb.specs.Kinds.{code_of}
+use Rattle.pr_cdb.specs.Bytes.{be32, be64}
+
+-- sense data in fixed format, 18 bytes of which all but four are fixed (SPC-4, 'Fixed format sense data')
+unfoldable pub sense_bytes : Sense → List ℕ
+sense_bytes s =
+    0x70 ∷ 0 ∷ s.key % 16 ∷ 0 ∷ 0 ∷ 0 ∷ 0 ∷ 0x0a ∷ 0 ∷ 0 ∷ 0 ∷ 0 ∷ s.asc ∷ s.ascq ∷ 0 ∷ 0 ∷ 0 ∷ 0 ∷ []
+
+-- READ KEYS: the generation, the additional length, and each registered nexus's key, equal ones repeated
+-- (SPC-4, 'READ KEYS service action')
+unfoldable pub keys_bytes : ℕ → List ℕ → List ℕ
+keys_bytes generation keys =
+    to_be_bytes w32 generation ++ to_be_bytes w32 (8 * length keys) ++ flat_map (to_be_bytes w64) keys
+
+-- READ RESERVATION: the generation, the additional length, and for a reservation its key, then 5 bytes of
+-- zero, its scope and type, and 2 bytes of zero (SPC-4, 'READ RESERVATION service action')
+unfoldable pub reservation_bytes : ℕ → Option (ℕ × Kind) → List ℕ
+reservation_bytes generation None = to_be_bytes w32 generation ++ to_be_bytes w32 0
+reservation_bytes generation (Some r) =
+    to_be_bytes w32 generation ++ to_be_bytes w32 16 ++ to_be_bytes w64 r.0
+    ++ (0 ∷ 0 ∷ 0 ∷ 0 ∷ 0 ∷ code_of r.1 ∷ 0 ∷ 0 ∷ [])
+
+-- REPORT CAPABILITIES of this unit: 8 bytes, of which the type mask is valid and has all six types
+-- (SPC-4, 'REPORT CAPABILITIES service action')
+unfoldable pub capabilities_bytes : List ℕ
+capabilities_bytes = 0x00 ∷ 0x08 ∷ 0x00 ∷ 0x80 ∷ 0xea ∷ 0x01 ∷ 0x00 ∷ 0x00 ∷ []
+
+-- the first n keys of the data of READ KEYS
+unfoldable pub first_keys : ℕ → List ℕ → List ℕ
+first_keys zero bytes = []
+first_keys (suc n) bytes = first_keys n bytes ++ be64 bytes (8 + 8 * n) ∷ []
+
+-- how many whole keys lie within the bytes and within the additional length, 8 at most
+abbrev pub key_count : List ℕ → ℕ
+key_count bytes = min 8 (min ((length bytes - 8) / 8) (be32 bytes 4 / 8))
+
+-- the keys that the data of READ KEYS has, of which the end may be cut off
+unfoldable pub keys_in : List ℕ → List ℕ
+keys_in bytes = if nat_lt (length bytes) 8 then [] else first_keys (key_count bytes) bytes
+
+-- data cut at the allocation length (SPC-4, 'Allocation length')
+abbrev pub cut : ℕ → List ℕ → List ℕ
+cut alloc bytes = take alloc bytes

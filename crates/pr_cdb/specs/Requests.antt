@@ -1,0 +1,125 @@
+-- What two byte lists, a command descriptor block and a parameter list, ask of the logical unit.
+use Rattle.std.specs.Prelude.{◌≡◌, ℕ, ◌+◌, ◌/◌, ◌%◌, ◌<◌, ◌^◌, Bool, ◌==◌, ◌&&◌, ◌||◌, not, nat_lt, if◌then◌else◌, List, length, slice_index, Option, Some, None, is_none, option_map, Result, Ok, Err}
+use Rattle.std.specs.Option.{option_map_or}
+use Rattle.pr_cdb.specs.declared.command.Kind.{Kind}
+use Rattle.pr_cdb.specs.declared.command.Command.{Command}
+use Rattle.pr_cdb.specs.declared.command.Command.TheVariants.{TestUnitReady, RequestSense, Read, Write, ReadKeys, ReadReservation, ReportCapabilities, Register, RegisterIgnore, Reserve, Release, Clear, Preempt, PreemptAbort}
+use Rattle.pr_cdb.specs.declared.reply.Sense.{Sense}
+use Rattle.pr_cdb.specs.declared.wire.Wire.{Wire}
+use Rattle.pr_cdb.specs.declared.wire.Request.{Request}
+use Rattle.pr_cdb.specs.declared.wire.Request.TheVariants.{Plain, Faulty}
+use Rattle.pr_cdb.specs.declared.wire.Bad.{Bad}
+use Rattle.pr_cdb.specs.declared.wire.Bad.TheVariants.{Short, NotModelled}
+use Rattle.pr_cdb.specs.Kinds.{kind_of_code}
+use Rattle.pr_cdb.specs.Bytes.{be16, be32, be64, has_flag}
+
+-- the command is read, and is this one
+abbrev pub plain : Command → Result Request Bad
+plain c = Ok (Plain c)
+
+-- ILLEGAL REQUEST (5h) with this additional sense code
+abbrev pub illegal : ℕ → Result Request Bad
+illegal asc = Ok (Faulty (record { key = 0x05; asc = asc; ascq = 0x00 }))
+
+-- how many bytes a command with this operation code has, and 0 where the unit has no such command
+-- (SPC-4, 'TEST UNIT READY', 'REQUEST SENSE', 'PERSISTENT RESERVE IN' and 'PERSISTENT RESERVE OUT
+-- command'; SBC-3, 'READ (10)' and 'WRITE (10) command')
+unfoldable pub length_of : ℕ → ℕ
+length_of opcode =
+    if opcode == 0x00 || opcode == 0x03 then 6 else (
+    if opcode == 0x28 || opcode == 0x2a || opcode == 0x5e || opcode == 0x5f then 10 else 0)
+
+-- the type in a byte that has the scope in its high four bits and the type in its low four: there is one
+-- under the scope of the logical unit alone, which is 0
+unfoldable pub kind_of_byte : ℕ → Option Kind
+kind_of_byte b = if b / 16 == 0 then kind_of_code (b % 16) else None
+
+-- a flag of the parameter list that this service action refuses: SPEC_I_PT in each, ALL_TG_PT and APTPL
+-- in REGISTER and in REGISTER AND IGNORE EXISTING KEY
+unfoldable pub has_refused_flag : ℕ → ℕ → Bool
+has_refused_flag action flags =
+    has_flag flags 0x08 || ((action == 0x00 || action == 0x06) && (has_flag flags 0x04 || has_flag flags 0x01))
+
+-- the service action of PERSISTENT RESERVE IN, over its allocation length
+abbrev pub reserve_in : ℕ → ℕ → Option Command
+reserve_in action alloc =
+    if action == 0x00 then Some (ReadKeys alloc) else (
+    if action == 0x01 then Some (ReadReservation alloc) else
+    Some (ReportCapabilities alloc))
+
+-- the service action of PERSISTENT RESERVE OUT, over its type and its two keys. RESERVE and RELEASE need
+-- a type.
+unfoldable pub reserve_out : ℕ → Option Kind → ℕ → ℕ → Option Command
+reserve_out action kind rk sark =
+    if action == 0x00 then Some (Register rk sark) else (
+    if action == 0x01 then option_map (λ k. Reserve rk k) kind else (
+    if action == 0x02 then option_map (λ k. Release rk k) kind else (
+    if action == 0x03 then Some (Clear rk) else (
+    if action == 0x04 then Some (Preempt rk sark kind) else (
+    if action == 0x05 then Some (PreemptAbort rk sark kind) else
+    Some (RegisterIgnore sark))))))
+
+-- the command of the named fields. All other bits, the control byte among them, are ignored.
+unfoldable pub named : List ℕ → List ℕ → Option Command
+named cdb params =
+    let opcode = slice_index cdb 0 in
+    let action = slice_index cdb 1 % 32 in
+    if opcode == 0x00 then Some TestUnitReady else (
+    if opcode == 0x03 then Some RequestSense else (
+    if opcode == 0x28 then Some (Read (be32 cdb 2) (be16 cdb 7)) else (
+    if opcode == 0x2a then Some (Write (be32 cdb 2) (be16 cdb 7)) else (
+    if opcode == 0x5e then reserve_in action (be16 cdb 7) else
+    reserve_out action (kind_of_byte (slice_index cdb 2)) (be64 params 0) (be64 params 8)))))
+
+-- What the logical unit reads. The first line that applies decides (SPC-4 names the faults and leaves
+-- their order to the device server; this order is our own).
+unfoldable pub request_of : List ℕ → List ℕ → Result Request Bad
+request_of cdb params =
+    let opcode = slice_index cdb 0 in
+    let action = slice_index cdb 1 % 32 in
+    let is_sense = opcode == 0x03 in
+    let is_in = opcode == 0x5e in
+    let is_out = opcode == 0x5f in
+    if length cdb == 0 then Err Short else (
+    if opcode == 0x12 || opcode == 0xa0 then Err (NotModelled opcode) else (
+    if length_of opcode == 0 then illegal 0x20 else (
+    if nat_lt (length cdb) (length_of opcode) then Err Short else (
+    if is_sense && has_flag (slice_index cdb 1) 0x01 then illegal 0x24 else (
+    if is_sense && nat_lt (slice_index cdb 4) 18 then Err (NotModelled opcode) else (
+    if (is_in && nat_lt 0x02 action) || (is_out && nat_lt 0x06 action) then illegal 0x24 else (
+    if is_out && not (be32 cdb 5 == 24) then illegal 0x1a else (
+    if is_out && nat_lt (length params) 24 then Err Short else (
+    if is_none (named cdb params) then illegal 0x24 else (
+    if is_out && has_refused_flag action (slice_index params 20) then illegal 0x26 else
+    option_map_or (λ c. plain c) (named cdb params) (illegal 0x24)))))))))))
+
+-- what a command as it travels asks for
+abbrev pub requested : Wire → Result Request Bad
+requested wire = request_of wire.cdb.items wire.params.items
+
+-- each field of the command is in its type's range
+abbrev pub Fits : Command → Type 0
+Fits TestUnitReady = Unit {0}
+Fits RequestSense = Unit {0}
+Fits (Read lba blocks) = (lba < 2 ^ 32) × (blocks < 2 ^ 16)
+Fits (Write lba blocks) = (lba < 2 ^ 32) × (blocks < 2 ^ 16)
+Fits (ReadKeys alloc) = alloc < 2 ^ 16
+Fits (ReadReservation alloc) = alloc < 2 ^ 16
+Fits (ReportCapabilities alloc) = alloc < 2 ^ 16
+Fits (Register rk sark) = (rk < 2 ^ 64) × (sark < 2 ^ 64)
+Fits (RegisterIgnore sark) = sark < 2 ^ 64
+Fits (Reserve rk kind) = rk < 2 ^ 64
+Fits (Release rk kind) = rk < 2 ^ 64
+Fits (Clear rk) = rk < 2 ^ 64
+Fits (Preempt rk sark kind) = (rk < 2 ^ 64) × (sark < 2 ^ 64)
+Fits (PreemptAbort rk sark kind) = (rk < 2 ^ 64) × (sark < 2 ^ 64)
+
+-- a command that is read has its fields in range
+abbrev pub FitsWhereRead : Result Request Bad → Type 0
+FitsWhereRead (Ok (Plain c)) = Fits c
+FitsWhereRead (Ok (Faulty sense)) = Unit {0}
+FitsWhereRead (Err bad) = Unit {0}
+
+-- each number of the list is a byte
+abbrev pub AreBytes : List ℕ → Type 0
+AreBytes bytes = (i : ℕ) → slice_index bytes i < 256

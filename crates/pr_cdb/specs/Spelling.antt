@@ -1,0 +1,56 @@
+-- The bytes of each command, with zero in every field that the command does not name (SPC-4, 'TEST UNIT
+-- READY', 'REQUEST SENSE', 'PERSISTENT RESERVE IN' and 'PERSISTENT RESERVE OUT command'; SBC-3, 'READ
+-- (10)' and 'WRITE (10) command').
+use Rattle.std.specs.Prelude.{ℕ, List, [], ◌∷◌, ◌++◌, Option, Some, None}
+use Rattle.std.specs.Option.{option_map_or}
+use Rattle.std.specs.Int.{w16, w32, w64, to_be_bytes}
+use Rattle.pr_cdb.specs.declared.command.Kind.{Kind}
+use Rattle.pr_cdb.specs.declared.command.Command.{Command}
+use Rattle.pr_cdb.specs.declared.command.Command.TheVariants.{TestUnitReady, RequestSense, Read, Write, ReadKeys, ReadReservation, ReportCapabilities, Register, RegisterIgnore, Reserve, Release, Clear, Preempt, PreemptAbort}
+use Rattle.pr_cdb.specs.declared.wire.Wire.{Wire}
+use Rattle.pr_cdb.specs.Kinds.{code_of}
+
+-- a command descriptor block and its parameter list
+abbrev pub wire_of : List ℕ → List ℕ → Wire
+wire_of cdb params = record { cdb = record { items = cdb }; params = record { items = params } }
+
+-- six bytes, of which the fifth is the allocation length
+abbrev pub six : ℕ → ℕ → Wire
+six opcode alloc = wire_of (opcode ∷ 0 ∷ 0 ∷ 0 ∷ alloc ∷ 0 ∷ []) []
+
+-- READ (10) and WRITE (10): the address of the first block, and how many blocks there are
+abbrev pub transfer : ℕ → ℕ → ℕ → Wire
+transfer opcode lba blocks =
+    wire_of ((opcode ∷ 0 ∷ []) ++ to_be_bytes w32 lba ++ (0 ∷ []) ++ to_be_bytes w16 blocks ++ (0 ∷ [])) []
+
+-- PERSISTENT RESERVE IN: a service action and the allocation length
+abbrev pub reserve_in : ℕ → ℕ → Wire
+reserve_in action alloc = wire_of ((0x5e ∷ action ∷ 0 ∷ 0 ∷ 0 ∷ 0 ∷ 0 ∷ []) ++ to_be_bytes w16 alloc ++ (0 ∷ [])) []
+
+-- PERSISTENT RESERVE OUT: a service action, scope and type, and a parameter list of 24 bytes with the
+-- reservation key and the service action reservation key
+abbrev pub reserve_out : ℕ → ℕ → ℕ → ℕ → Wire
+reserve_out action kind rk sark =
+    wire_of
+    (0x5f ∷ action ∷ kind ∷ 0 ∷ 0 ∷ 0 ∷ 0 ∷ 0 ∷ 24 ∷ 0 ∷ [])
+    (to_be_bytes w64 rk ++ to_be_bytes w64 sark ++ (0 ∷ 0 ∷ 0 ∷ 0 ∷ 0 ∷ 0 ∷ 0 ∷ 0 ∷ []))
+
+-- scope and type: the scope is the logical unit's, which is 0. No type is written as 0.
+abbrev pub kind_byte : Option Kind → ℕ
+kind_byte kind = option_map_or code_of kind 0
+
+unfoldable pub spelling : Command → Wire
+spelling TestUnitReady = six 0x00 0
+spelling RequestSense = six 0x03 18
+spelling (Read lba blocks) = transfer 0x28 lba blocks
+spelling (Write lba blocks) = transfer 0x2a lba blocks
+spelling (ReadKeys alloc) = reserve_in 0x00 alloc
+spelling (ReadReservation alloc) = reserve_in 0x01 alloc
+spelling (ReportCapabilities alloc) = reserve_in 0x02 alloc
+spelling (Register rk sark) = reserve_out 0x00 0 rk sark
+spelling (Reserve rk kind) = reserve_out 0x01 (code_of kind) rk 0
+spelling (Release rk kind) = reserve_out 0x02 (code_of kind) rk 0
+spelling (Clear rk) = reserve_out 0x03 0 rk 0
+spelling (Preempt rk sark kind) = reserve_out 0x04 (kind_byte kind) rk sark
+spelling (PreemptAbort rk sark kind) = reserve_out 0x05 (kind_byte kind) rk sark
+spelling (RegisterIgnore sark) = reserve_out 0x06 0 0 sark

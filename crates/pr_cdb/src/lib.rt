@@ -1,0 +1,25 @@
+//! The bytes of SCSI commands, of their replies and of their sense.
+//!
+//! A [`Command`] is what a host asks of a logical unit: TEST UNIT READY, REQUEST SENSE, READ (10),
+//! WRITE (10), and the service actions of PERSISTENT RESERVE IN and PERSISTENT RESERVE OUT. A [`Wire`]
+//! is a command as it travels: its command descriptor block and its parameter list. [`encode`] writes
+//! the one as the other, and [`decode`] reads what any two byte lists ask for.
+//!
+//! Nothing here takes memory.
+#![tactic(auto)]
+
+mod command;
+mod parameter_data;
+mod reading;
+mod reply;
+mod sense_data;
+mod wire;
+mod writing;
+
+pub use command::{Command, Kind};
+pub use parameter_data::{keys_data, keys_of};
+pub use reading::{decode, reads_in_range};
+pub use reply::{Reply, Sense, Status};
+pub use sense_data::encode_sense;
+pub use wire::{Bad, Request, Wire};
+pub use writing::{encode, reads_what_is_written};

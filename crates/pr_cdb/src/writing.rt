@@ -1,0 +1,105 @@
+//! Writing a command's bytes.
+
+ghost use Rattle.std.specs.Prelude.{◌≡◌, ◌≤◌, ◌<◌, length};
+ghost use Rattle.pr_cdb.specs.Requests.{plain, requested, Fits};
+ghost use Rattle.pr_cdb.specs.Spelling.{spelling, wire_of, kind_byte, six, transfer, reserve_in, reserve_out};
+
+use crate::command::{Command, Kind};
+use crate::wire::{Wire, copied};
+use byteorder::{BigEndian, ByteOrder};
+
+/// The bytes of a command, with zero in every field that the command does not name.
+///
+/// What is written is read as the very command.
+pub fn encode(command: &Command) -> Wire
+    ensures bytes { result ≡ spelling command.now }
+    ensures read_again { requested result ≡ plain command.now }
+{
+    spelled(*command)
+}
+
+/// What is written of a command whose fields are in their types' ranges is read as that command.
+pub fn reads_what_is_written()
+    ensures { (c : Command) → Fits c → requested (spelling c) ≡ plain c }
+{}
+
+// The bytes, and that the fields are in range, as each arm knows.
+#[tactic(auto, unfolding(crate::specs::Spelling::spelling))]
+fn spelled(command: Command) -> Wire
+    ensures bytes { result ≡ spelling command }
+    ensures fits { Fits command }
+{
+    match command {
+        Command::TestUnitReady => six(0x00, 0),
+        Command::RequestSense => six(0x03, 18),
+        Command::Read { lba, blocks } => transfer(0x28, lba, blocks),
+        Command::Write { lba, blocks } => transfer(0x2a, lba, blocks),
+        Command::ReadKeys { alloc } => reserve_in(0x00, alloc),
+        Command::ReadReservation { alloc } => reserve_in(0x01, alloc),
+        Command::ReportCapabilities { alloc } => reserve_in(0x02, alloc),
+        Command::Register { rk, sark } => reserve_out(0x00, 0, rk, sark),
+        Command::Reserve { rk, kind } => reserve_out(0x01, kind.code(), rk, 0),
+        Command::Release { rk, kind } => reserve_out(0x02, kind.code(), rk, 0),
+        Command::Clear { rk } => reserve_out(0x03, 0, rk, 0),
+        Command::Preempt { rk, sark, kind } => reserve_out(0x04, kind_byte(kind), rk, sark),
+        Command::PreemptAbort { rk, sark, kind } => reserve_out(0x05, kind_byte(kind), rk, sark),
+        Command::RegisterIgnore { sark } => reserve_out(0x06, 0, 0, sark),
+    }
+}
+
+fn kind_byte(kind: Option<Kind>) -> u8
+    ensures { result ≡ kind_byte kind }
+{
+    match kind {
+        Some(kind) => kind.code(),
+        None => 0,
+    }
+}
+
+// A command of six bytes.
+fn six(opcode: u8, alloc: u8) -> Wire
+    ensures { result ≡ six opcode alloc }
+{
+    Wire {
+        cdb: copied(&[opcode, 0, 0, 0, alloc, 0]),
+        params: copied(&[]),
+    }
+}
+
+// READ (10) or WRITE (10).
+fn transfer(opcode: u8, lba: u32, blocks: u16) -> Wire
+    ensures { result ≡ transfer opcode lba blocks }
+{
+    let mut cdb = [opcode, 0, 0, 0, 0, 0, 0, 0, 0, 0];
+    BigEndian::write_u32(&mut cdb[2..], lba);
+    BigEndian::write_u16(&mut cdb[7..], blocks);
+    Wire {
+        cdb: copied(&cdb),
+        params: copied(&[]),
+    }
+}
+
+// A service action of PERSISTENT RESERVE IN.
+fn reserve_in(action: u8, alloc: u16) -> Wire
+    ensures { result ≡ reserve_in action alloc }
+{
+    let mut cdb = [0x5e, action, 0, 0, 0, 0, 0, 0, 0, 0];
+    BigEndian::write_u16(&mut cdb[7..], alloc);
+    Wire {
+        cdb: copied(&cdb),
+        params: copied(&[]),
+    }
+}
+
+// A service action of PERSISTENT RESERVE OUT, with its parameter list of 24 bytes.
+fn reserve_out(action: u8, kind: u8, rk: u64, sark: u64) -> Wire
+    ensures { result ≡ reserve_out action kind rk sark }
+{
+    let mut params = [0; 24];
+    BigEndian::write_u64(&mut params, rk);
+    BigEndian::write_u64(&mut params[8..], sark);
+    Wire {
+        cdb: copied(&[0x5f, action, kind, 0, 0, 0, 0, 0, 24, 0]),
+        params: copied(&params),
+    }
+}
