@@ -2,3 +2,4 @@ pub mod Sets
 pub mod Bits
 pub mod Tables
 pub mod States
+pub mod Told
