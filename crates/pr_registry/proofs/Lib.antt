@@ -3,3 +3,4 @@ pub mod Bits
 pub mod Tables
 pub mod States
 pub mod Told
+pub mod Values
