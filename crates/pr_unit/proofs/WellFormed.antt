@@ -1,7 +1,6 @@
 -- A command without conflict and fault leaves a well formed state well formed.
-use Rattle.std.proofs.Common.{◌≡◌, ℕ, ◌<◌, ◌≤◌, ◌^◌, Bool, true, false, ◌==◌, ◌&&◌, ◌||◌, not, IsTrue, if◌then◌else◌, Option, Some, None, is_some, is_none, refl, sym, ap, ◌∙◌, subst, arith}
+use Rattle.std.proofs.Common.{◌≡◌, ℕ, ◌<◌, ◌^◌, Bool, true, false, ◌==◌, ◌&&◌, ◌||◌, not, IsTrue, if◌then◌else◌, Option, Some, None, is_some, is_none, refl, sym, ◌∙◌, subst, arith}
 use Rattle.std.specs.FinSet as set
-use Rattle.std.specs.FinMap as map
 use Rattle.std.proofs.lemmas.Bool.{false≢true}
 use Rattle.std.proofs.lemmas.Bool.Decides.{nat_tests}
 use Rattle.pr_cdb.specs.declared.command.Kind.{Kind}
@@ -16,8 +15,8 @@ use Rattle.pr_registry.specs.Effects.{after, after_register, change, registered,
 use Rattle.pr_registry.proofs.States.{HasKindWhereReplaced, well_formed-registered, well_formed-unregistered, well_formed-reserved, well_formed-released, well_formed-cleared, well_formed-preempted}
 use Rattle.pr_registry.proofs.Told.{AreRegistered, tells_registrants}
 use Rattle.pr_unit.specs.Attentions.{Pairs, is_attention, each_with, reservations_preempted, reservations_released, registrations_preempted}
-use Rattle.pr_unit.specs.UnitStates.{UnitState, IsWellFormed, is_pending, told, effect}
-use Rattle.pr_unit.specs.Conflicts.{lacks_key, is_in_the_way, is_nobodys, preempt_conflicts, command_conflicts}
+use Rattle.pr_unit.specs.UnitStates.{UnitState, IsWellFormed, told}
+use Rattle.pr_unit.specs.Conflicts.{lacks_key, is_in_the_way, is_nobodys, command_conflicts}
 use Rattle.pr_unit.specs.Faults.{illegal, is_held_by_all, is_replacing, preempt_fault, command_fault}
 use Rattle.pr_unit.specs.Laws.{EffectsAreWellFormed}
 use Rattle.pr_unit.proofs.Pairs.{contains-union-pairs, contains-each_with}
@@ -39,7 +38,7 @@ has_kind : (u : State) (sark : ℕ) (kind : Option Kind) → preempt_fault u sar
 has_kind u sark kind none = at (sark == 0 && not (is_held_by_all u.held)) kind (preempt_case u.keys u.held sark) none
   where
     at : (b : Bool) (kind : Option Kind) (case : Case) → (if b then Some (illegal 0x26 0x00) else (if is_none kind && is_replacing case then Some (illegal 0x24 0x00) else None)) ≡ None
-      → HasKindWhereReplaced kind case
+        → HasKindWhereReplaced kind case
     at true kind case is = let bad : Some (illegal 0x26 0x00) ≡ None = is in cc
     at false (Some t) ReplacesAll is = refl
     at false (Some t) (ReplacesHolder s) is = refl
@@ -56,7 +55,7 @@ well_formed-after_register u h key w there fits = at (key == 0) (is_registered u
     at false c is = let key_is : IsKey key = (grind (arith, nat_tests), fits) in well_formed-registered u h key w there key_is
 
 well_formed-after : (u : State) (h : ℕ) (c : Command) → IsWellFormedRegistry u → h < u.hosts → Fits c → command_conflicts u h c ≡ false → command_fault u h c ≡ None
-  → IsWellFormedRegistry (after u h c)
+    → IsWellFormedRegistry (after u h c)
 well_formed-after u h (Register rk sark) w there fits free whole = well_formed-after_register u h sark w there fits.1
 well_formed-after u h (RegisterIgnore sark) w there fits free whole = well_formed-after_register u h sark w there fits
 well_formed-after u h (Reserve rk kind) w there fits free whole =
@@ -128,8 +127,8 @@ told_with u s k q code w are known is =
 
 -- a pair is pending after a change since it was before, or since one of the three codes was told
 told_is_of_host : (u : UnitState) (c : Change) (q code : ℕ) → IsWellFormed u
-  → AreRegistered u.registry c.told_03 → AreRegistered u.registry c.told_04 → AreRegistered u.registry c.told_05
-  → set.contains (told u.pending c) (q, code) ≡ true → IsOfHost u.registry.hosts q code
+    → AreRegistered u.registry c.told_03 → AreRegistered u.registry c.told_04 → AreRegistered u.registry c.told_05
+    → set.contains (told u.pending c) (q, code) ≡ true → IsOfHost u.registry.hosts q code
 told_is_of_host u c q code w t3 t4 t5 is =
     let e3 = each_with c.told_03 reservations_preempted in
     let e4 = each_with c.told_04 reservations_released in
@@ -140,10 +139,10 @@ told_is_of_host u c q code w t3 t4 t5 is =
     let has = λ (s : Pairs). set.contains s (q, code) in
     either_way (has s4) (has e5) P (sym (contains-union-pairs s4 e5 (q, code)) ∙ is)
     (λ in4. either_way (has s3) (has e4) P (sym (contains-union-pairs s3 e4 (q, code)) ∙ in4)
-      (λ in3. either_way (has u.pending) (has e3) P (sym (contains-union-pairs u.pending e3 (q, code)) ∙ in3)
-        (λ old. w.pending q code old)
-        (λ new. told_with u.registry c.told_03 reservations_preempted q code w.registry t3 refl new))
-      (λ new. told_with u.registry c.told_04 reservations_released q code w.registry t4 refl new))
+    (λ in3. either_way (has u.pending) (has e3) P (sym (contains-union-pairs u.pending e3 (q, code)) ∙ in3)
+    (λ old. w.pending q code old)
+    (λ new. told_with u.registry c.told_03 reservations_preempted q code w.registry t3 refl new))
+    (λ new. told_with u.registry c.told_04 reservations_released q code w.registry t4 refl new))
     (λ new. told_with u.registry c.told_05 registrations_preempted q code w.registry t5 refl new)
 
 pub effects_are_well_formed : EffectsAreWellFormed
@@ -152,5 +151,5 @@ effects_are_well_formed u h c w there fits free whole =
     record {
       registry = well_formed-after u.registry h c w.registry there fits free whole;
       pending = λ q code is. let of_host = told_is_of_host u (change u.registry h c) q code w tells.told_03 tells.told_04 tells.told_05 is in
-        (rw (hosts-after u.registry h c) of_host.0, of_host.1);
+          (rw (hosts-after u.registry h c) of_host.0, of_host.1);
     }

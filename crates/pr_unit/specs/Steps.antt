@@ -1,5 +1,6 @@
 -- What the logical unit may answer to a request, and the state that it is in then.
-use Rattle.std.specs.Prelude.{◌≡◌, ℕ, Bool, IsTrue, if◌then◌else◌, List, Option, Some, None, Result, Ok, Err}
+use Rattle.std.specs.Prelude.{◌≡◌, ℕ, IsTrue, if◌then◌else◌, Option, Some, None, Result, Ok, Err}
+use Rattle.pr_cdb.specs.declared.command.Command.TheVariants.{Register, RegisterIgnore, ReadKeys}
 use Rattle.pr_cdb.specs.declared.reply.Sense.{Sense}
 use Rattle.pr_cdb.specs.declared.reply.Reply.{Reply}
 use Rattle.pr_cdb.specs.declared.wire.Request.{Request}
@@ -58,3 +59,19 @@ StepBy Done u h q r u' = IsDone u h q r u'
 -- In state u, the request q of host h may be answered with r, and then the state is u'.
 abbrev pub Step : UnitState → ℕ → Request → Reply → UnitState → Type 0
 Step u h q r u' = StepBy (line u h q) u h q r u'
+
+-- In state u, the bytes of a command of host h may be answered so, and then the state is u'. Bytes that
+-- are no request change nothing.
+abbrev pub Executes : UnitState → ℕ → Result Request Bad → Result Reply Bad → UnitState → Type 0
+Executes u h (Ok q) (Ok r) u' = Step u h q r u'
+Executes u h (Err bad) (Err b) u' = (b ≡ bad) × (u' ≡ u)
+Executes u h _ _ u' = ⊥
+
+-- REGISTER, REGISTER AND IGNORE EXISTING KEY and READ KEYS, and bytes that are at fault or no request
+abbrev pub IsRegisteringOrReadingKeys : Result Request Bad → Type 0
+IsRegisteringOrReadingKeys (Ok (Plain (Register rk sark))) = Unit {0}
+IsRegisteringOrReadingKeys (Ok (Plain (RegisterIgnore sark))) = Unit {0}
+IsRegisteringOrReadingKeys (Ok (Plain (ReadKeys alloc))) = Unit {0}
+IsRegisteringOrReadingKeys (Ok (Plain c)) = ⊥
+IsRegisteringOrReadingKeys (Ok (Faulty sense)) = Unit {0}
+IsRegisteringOrReadingKeys (Err bad) = Unit {0}

@@ -8,7 +8,7 @@ use Rattle.pr_cdb.specs.declared.command.Command.{Command}
 use Rattle.pr_registry.specs.declared.change.Change.{Change}
 use Rattle.pr_registry.specs.Registrations.{State, IsWellFormed as IsWellFormedRegistry}
 use Rattle.pr_registry.specs.Effects.{after, change}
-use Rattle.pr_unit.specs.Attentions.{Pairs, pair_cmp, attentions, is_attention, each_with, reservations_preempted, reservations_released, registrations_preempted}
+use Rattle.pr_unit.specs.Attentions.{Pairs, attentions, is_attention, each_with, reservations_preempted, reservations_released, registrations_preempted}
 
 pub record UnitState : Type 0 where
   pub registry : State

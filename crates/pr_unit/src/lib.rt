@@ -2,6 +2,7 @@
 #![tactic(auto)]
 
 mod laws;
+mod reply;
 mod unit;
 
 pub use laws::{effects_are_well_formed, good_is_fixed};
