@@ -1,8 +1,10 @@
 -- How pieces of a text go out one after another.
-use Rattle.std.proofs.Common.{◌≡◌, ℕ, List, [], ◌∷◌, ◌++◌, Option, None, Some, refl, sym, ap, ◌∙◌, append_assoc, append-nil, Result, Ok, Err, OnOk, OnErr, take, drop, take-append-drop, length, length-drop, ◌-◌}
+use Rattle.std.proofs.Common.{◌≡◌, ℕ, List, [], ◌∷◌, ◌++◌, Option, None, Some, refl, sym, ap, ◌∙◌, append_assoc, append-nil, Result, Ok, Err, IsErr, take, drop, take-append-drop, length, length-drop, ◌-◌, ◌+◌, ◌<◌, ◌≤◌, get_or, drop-cons, add-one}
+use Rattle.std.specs.List.{flat_map}
+use Rattle.std.proofs.Math.ListN.{drop_of_length-le}
 use Rattle.std.proofs.Math.Seq.{take-length}
 use Rattle.std.specs.Io.KnownBytes.{Appends, Keeps}
-use Rattle.fence.specs.Written.{Wrote, AppendsFront}
+use Rattle.fence.specs.Written.{Wrote, AppendsFront, Puts}
 
 pub appends_nothing : (old new : Option (List ℕ)) → Keeps old new → Appends old new []
 appends_nothing None new k = tt
@@ -59,3 +61,40 @@ wrote_some old mid new text rest n w p =
     let all : take (length rest - n) (drop n rest) ≡ drop n rest =
         ap (λ k. take k (drop n rest)) (sym (length-drop n rest)) ∙ take-length (drop n rest)
     in rw all (wrote_more old mid new text (take n rest) (drop n rest) (rw (take-append-drop n rest) w) p)
+
+-- Calls in a row: the first one fails, a later one fails, and the last one ends either way.
+
+pub front_first : (old new : Option (List ℕ)) (x y : List ℕ) → AppendsFront old new x → AppendsFront old new (x ++ y)
+front_first old new x y f = record {
+  left = f.left ++ y;
+  wrote = record {
+    front = f.wrote.front;
+    whole = ap (λ r. r ++ y) f.wrote.whole ∙ append_assoc f.wrote.front f.left y;
+    appended = f.wrote.appended;
+  };
+}
+
+pub front_then : (old mid new : Option (List ℕ)) (x y : List ℕ) → Appends old mid x → AppendsFront mid new y → AppendsFront old new (x ++ y)
+front_then old mid new x y p f = record {
+  left = f.left;
+  wrote = record {
+    front = x ++ f.wrote.front;
+    whole = ap (λ r. x ++ r) f.wrote.whole ∙ sym (append_assoc x f.wrote.front f.left);
+    appended = appends_both old mid new x f.wrote.front p f.wrote.appended;
+  };
+}
+
+pub puts_err : {E : Type 0} (old new : Option (List ℕ)) (x : List ℕ) (r : Result (Unit {0}) E) → AppendsFront old new x → IsErr r → Puts old new x r
+puts_err old new x (Ok done) f h = cc
+puts_err old new x (Err fault) f h = f
+
+pub puts_last : {E : Type 0} (old mid new : Option (List ℕ)) (x y : List ℕ) (r : Result (Unit {0}) E) → Appends old mid x → Puts mid new y r → Puts old new (x ++ y) r
+puts_last old mid new x y (Ok done) p q = appends_both old mid new x y p q
+puts_last old mid new x y (Err fault) p f = front_then old mid new x y p f
+
+-- A loop over a list writes what `flat_map` gives.
+pub flat_map_from : {X : Type 0} (f : X → List ℕ) (xs : List X) (i : ℕ) (d : X) → i < length xs → flat_map f (drop i xs) ≡ f (get_or xs i d) ++ flat_map f (drop (i + 1) xs)
+flat_map_from f xs i d h = rw (add-one, drop-cons xs i d) refl
+
+pub flat_map_end : {X : Type 0} (f : X → List ℕ) (xs : List X) (i : ℕ) → length xs ≤ i → flat_map f (drop i xs) ≡ []
+flat_map_end f xs i h = rw (drop_of_length-le xs {i = i} h) refl

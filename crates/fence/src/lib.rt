@@ -2,5 +2,7 @@
 #![tactic(auto)]
 
 mod output;
+mod printing;
 
 pub use output::{WriteFault, put};
+pub use printing::{Word, put_line};

@@ -1,8 +1,6 @@
 //! Bytes to a writer, of which a part may go out.
 
-ghost use Rattle.std.specs.Prelude.{OnOk, OnErr};
-ghost use Rattle.std.specs.Io.KnownBytes.{Appends};
-ghost use Rattle.fence.specs.Written.{AppendsFront};
+ghost use Rattle.fence.specs.Written.{Puts};
 
 use std::io::Write;
 use thiserror::Error;
@@ -16,8 +14,7 @@ pub struct WriteFault;
 ///
 /// Every error ends it, one that a second call might not meet among them.
 pub fn put<W: Write>(writer: &mut W, text: &[u8]) -> Result<(), WriteFault>
-    ensures ok { OnOk result (Appends (W.contents writer.old) (W.contents writer.new) text.now) }
-    ensures err { OnErr result (AppendsFront (W.contents writer.old) (W.contents writer.new) text.now) }
+    ensures { Puts (W.contents writer.old) (W.contents writer.new) text.now result }
 {
     let mut rest = text;
     while !rest.is_empty() {
