@@ -1,3 +1,4 @@
 pub mod Written
 pub mod PrintedLines
 pub mod Printed
+pub mod TraceText

@@ -3,6 +3,8 @@
 
 mod output;
 mod printing;
+mod trace_output;
 
 pub use output::{WriteFault, put};
 pub use printing::{Word, put_line};
+pub use trace_output::{End, Ended, Entry, Held, write_trace};

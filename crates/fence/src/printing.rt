@@ -53,7 +53,7 @@ pub fn put_spaced<W: Write>(writer: &mut W, words: &[Word<'_>]) -> Result<(), Wr
     Ok(())
 }
 
-fn put_after_space<W: Write>(writer: &mut W, word: Word<'_>) -> Result<(), WriteFault>
+pub(crate) fn put_after_space<W: Write>(writer: &mut W, word: Word<'_>) -> Result<(), WriteFault>
     ensures { Puts (W.contents writer.old) (W.contents writer.new) (32 ∷ printed word.entry) result }
 {
     put(writer, b" ")?;
@@ -61,7 +61,7 @@ fn put_after_space<W: Write>(writer: &mut W, word: Word<'_>) -> Result<(), Write
 }
 
 #[tactic(auto, unfolding(crate::specs::Printed::printed))]
-fn put_word<W: Write>(writer: &mut W, word: Word<'_>) -> Result<(), WriteFault>
+pub(crate) fn put_word<W: Write>(writer: &mut W, word: Word<'_>) -> Result<(), WriteFault>
     ensures { Puts (W.contents writer.old) (W.contents writer.new) (printed word.entry) result }
 {
     match word {
