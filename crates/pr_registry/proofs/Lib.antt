@@ -1,0 +1,4 @@
+pub mod Sets
+pub mod Bits
+pub mod Tables
+pub mod States

@@ -1,0 +1,151 @@
+-- What sets of hosts and registrations contain, and that these are equal where they contain the same.
+use Rattle.std.proofs.Common.{◌≡◌, ℕ, zero, suc, ◌+◌, Bool, true, false, ◌==◌, ◌&&◌, ◌||◌, not, nat_lt, cond, if◌then◌else◌, Option, Some, None, is_some, refl, sym, ap, ◌∙◌, arith, add-one}
+use Rattle.std.specs.Ordering.{nat_cmp}
+use Rattle.std.specs.Cmp.{nat_cmp_total, unsigned_tied}
+use Rattle.std.specs.FinSet as set
+use Rattle.std.specs.FinSet.{nat_cmp-IsAntisymmetric}
+use Rattle.std.specs.FinMap as map
+use Rattle.std.proofs.lemmas.Bool.Decides.{nat_tests}
+use Rattle.pr_registry.specs.Hosts.{Hosts, Keys, nobody, just, is_key, hosts_in, hosts_with, without, is_empty, with_pair, map_where, hosts_where}
+
+pub same_hosts : (s t : Hosts) → ((q : ℕ) → set.contains s q ≡ set.contains t q) → s ≡ t
+same_hosts s t same = set.same_set nat_cmp_total nat_cmp-IsAntisymmetric s t same
+
+pub same_keys : (m n : Keys) → ((q : ℕ) → map.get m q ≡ map.get n q) → m ≡ n
+same_keys m n same = map.same_map nat_cmp_total nat_cmp-IsAntisymmetric m n same
+
+pub contains-nobody : (q : ℕ) → set.contains nobody q ≡ false
+contains-nobody q = set.contains-empty nat_cmp q
+
+pub contains-insert : (s : Hosts) (h q : ℕ) → set.contains (set.insert s h) q ≡ (q == h || set.contains s q)
+contains-insert s h q = set.contains-insert nat_cmp_total s h q ∙ ap (λ b. b || set.contains s q) (unsigned_tied q h)
+
+pub contains-remove : (s : Hosts) (h q : ℕ) → set.contains (set.remove s h) q ≡ (not (q == h) && set.contains s q)
+contains-remove s h q = set.contains-remove nat_cmp_total s h q ∙ ap (λ b. not b && set.contains s q) (unsigned_tied q h)
+
+pub contains-just : (h q : ℕ) → set.contains (just h) q ≡ (q == h)
+contains-just h q =
+    contains-insert nobody h q ∙ ap (λ b. q == h || b) (contains-nobody q) ∙ or-false (q == h)
+  where
+    or-false : (b : Bool) → (b || false) ≡ b
+    or-false true = refl
+    or-false false = refl
+
+pub contains-difference : (s t : Hosts) (q : ℕ) → set.contains (set.difference s t) q ≡ (set.contains s q && not (set.contains t q))
+contains-difference s t q = set.contains-difference nat_cmp_total s t q
+
+pub contains-union : (s t : Hosts) (q : ℕ) → set.contains (set.union s t) q ≡ (set.contains s q || set.contains t q)
+contains-union s t q = set.contains-union nat_cmp_total s t q
+
+pub get-insert : (m : Keys) (h k q : ℕ) → map.get (map.insert m h k) q ≡ (if q == h then Some k else map.get m q)
+get-insert m h k q =
+    map.get-insert nat_cmp_total m h k q ∙ ap (λ b. cond b (Some k) (map.get m q)) (unsigned_tied q h)
+
+pub get-empty : (q : ℕ) → map.get (map.empty {X = ℕ} {R = nat_cmp}) q ≡ None
+get-empty q = map.get-empty nat_cmp q
+
+-- ---- a set and a map that tables give
+
+lt-zero : (q : ℕ) → nat_lt q 0 ≡ false
+lt-zero q = grind (arith, nat_tests)
+
+lt-suc : (q n : ℕ) → nat_lt q (suc n) ≡ (q == n || nat_lt q n)
+lt-suc q n = grind (arith, nat_tests)
+
+same_at : (q n : ℕ) → (q == n) ≡ true → q ≡ n
+same_at q n e = grind (arith, nat_tests)
+
+more_true : (e l x : Bool) → (e ≡ true → x ≡ true) → (e || (l && x)) ≡ ((e || l) && x)
+more_true true l x h = sym (h refl)
+more_true false l x h = refl
+
+more_false : (e l x : Bool) → (e ≡ true → x ≡ false) → (l && x) ≡ ((e || l) && x)
+more_false true true x h = refl
+more_false true false x h = sym (h refl)
+more_false false l x h = refl
+
+pub contains-hosts_where : (n : ℕ) (p : ℕ → Bool) (q : ℕ) → set.contains (hosts_where n p) q ≡ (nat_lt q n && p q)
+unfolding hosts_where
+contains-hosts_where zero p q = contains-nobody q ∙ ap (λ b. b && p q) (sym (lt-zero q))
+contains-hosts_where (suc n) p q =
+    elim (p n) as (λ b. p n ≡ b → set.contains (if b then set.insert (hosts_where n p) n else hosts_where n p) q ≡ (nat_lt q (suc n) && p q)) [
+      | true ↦ λ is. contains-insert (hosts_where n p) n q ∙ ap (λ b. q == n || b) (contains-hosts_where n p q)
+          ∙ more_true (q == n) (nat_lt q n) (p q) (λ e. ap p (same_at q n e) ∙ is) ∙ ap (λ b. b && p q) (sym (lt-suc q n))
+      | false ↦ λ is. contains-hosts_where n p q
+          ∙ more_false (q == n) (nat_lt q n) (p q) (λ e. ap p (same_at q n e) ∙ is) ∙ ap (λ b. b && p q) (sym (lt-suc q n))
+    ] refl
+
+-- one more place
+pub hosts_where-more : (n : ℕ) (p : ℕ → Bool) → hosts_where (n + 1) p ≡ (if p n then set.insert (hosts_where n p) n else hosts_where n p)
+unfolding hosts_where
+hosts_where-more n p = rw add-one refl
+
+pub hosts_where-takes : (n : ℕ) (p : ℕ → Bool) → p n ≡ true → hosts_where (n + 1) p ≡ set.insert (hosts_where n p) n
+hosts_where-takes n p is = hosts_where-more n p ∙ ap (λ b. if b then set.insert (hosts_where n p) n else hosts_where n p) is
+
+pub hosts_where-skips : (n : ℕ) (p : ℕ → Bool) → p n ≡ false → hosts_where (n + 1) p ≡ hosts_where n p
+hosts_where-skips n p is = hosts_where-more n p ∙ ap (λ b. if b then set.insert (hosts_where n p) n else hosts_where n p) is
+
+pub hosts_where-none : (p : ℕ → Bool) → hosts_where 0 p ≡ nobody
+unfolding hosts_where
+hosts_where-none p = refl
+
+pub get-map_where : (n : ℕ) (f : ℕ → Option ℕ) (q : ℕ) → map.get (map_where n f) q ≡ (if nat_lt q n then f q else None)
+unfolding map_where
+get-map_where zero f q = get-empty q ∙ ap (λ b. cond b (f q) None) (sym (lt-zero q))
+get-map_where (suc n) f q =
+    elim (f n) as (λ o. f n ≡ o → map.get (with_pair (map_where n f) n o) q ≡ (if nat_lt q (suc n) then f q else None)) [
+      | Some k ↦ λ is. get-insert (map_where n f) n k q ∙ ap (λ o. cond (q == n) (Some k) o) (get-map_where n f q)
+          ∙ more_some (q == n) (nat_lt q n) (Some k) (f q) (λ e. ap f (same_at q n e) ∙ is) ∙ ap (λ b. cond b (f q) None) (sym (lt-suc q n))
+      | None ↦ λ is. get-map_where n f q
+          ∙ more_none (q == n) (nat_lt q n) (f q) (λ e. ap f (same_at q n e) ∙ is) ∙ ap (λ b. cond b (f q) None) (sym (lt-suc q n))
+    ] refl
+  where
+    more_some : (e l : Bool) (k x : Option ℕ) → (e ≡ true → x ≡ k) → cond e k (cond l x None) ≡ cond (e || l) x None
+    more_some true l k x h = sym (h refl)
+    more_some false l k x h = refl
+
+    more_none : (e l : Bool) (x : Option ℕ) → (e ≡ true → x ≡ None) → cond l x None ≡ cond (e || l) x None
+    more_none true true x h = refl
+    more_none true false x h = sym (h refl)
+    more_none false l x h = refl
+
+-- ---- hosts and their keys
+
+pub contains-hosts_in : (keys : Keys) (q : ℕ) → set.contains (hosts_in keys) q ≡ map.contains_key keys q
+unfolding hosts_in
+contains-hosts_in keys q = set.contains-from_list nat_cmp_total (map.keys keys) q ∙ sym (map.contains_key-keys keys q)
+
+pub get-without : (keys : Keys) (removed : Hosts) (q : ℕ) → map.get (without keys removed) q ≡ (if set.contains removed q then None else map.get keys q)
+unfolding without
+get-without keys removed q =
+    map.get-retain_keys keys (λ h. not (set.contains removed h)) q (λ x tie. ap not (set.contains_tied nat_cmp_total removed q x tie))
+    ∙ turned (set.contains removed q)
+  where
+    turned : (b : Bool) → cond (not b) (map.get keys q) None ≡ cond b None (map.get keys q)
+    turned true = refl
+    turned false = refl
+
+pub contains-hosts_with : (keys : Keys) (k q : ℕ) → set.contains (hosts_with keys k) q ≡ is_key (map.get keys q) k
+unfolding hosts_with
+contains-hosts_with keys k q =
+    set.contains-retain (hosts_in keys) (λ h. is_key (map.get keys h) k) q (λ x tie. ap (λ o. is_key o k) (map.get_tied nat_cmp_total keys q x tie))
+    ∙ ap (λ b. b && is_key (map.get keys q) k) (contains-hosts_in keys q) ∙ there (map.get keys q)
+  where
+    there : (o : Option ℕ) → (is_some o && is_key o k) ≡ is_key o k
+    there None = refl
+    there (Some j) = refl
+
+-- ---- none at all
+
+pub is_empty_from_none : (keys : Keys) → ((q : ℕ) → map.get keys q ≡ None) → is_empty keys ≡ true
+is_empty_from_none keys none =
+    let is : keys ≡ map.empty = same_keys keys map.empty (λ q. none q ∙ sym (get-empty q)) in
+    ap (λ m. map.len m == 0) is ∙ ap (λ n. n == 0) (map.len-empty nat_cmp ℕ)
+
+pub not_empty_from_some : (keys : Keys) (q k : ℕ) → map.get keys q ≡ Some k → is_empty keys ≡ false
+not_empty_from_some keys q k some =
+    elim (is_empty keys) as (λ b. is_empty keys ≡ b → b ≡ false) [
+      | true ↦ λ is. let none : None ≡ Some k = sym (get-empty q) ∙ ap (λ m. map.get m q) (sym (map.empty_of_len keys (same_at (map.len keys) 0 is))) ∙ some in cc
+      | false ↦ λ _. refl
+    ] refl

@@ -1,0 +1,6 @@
+use Rattle.std.proofs.Common.{◌≡◌, ℕ, ◌<◌, None}
+use Rattle.pr_registry.proofs.Tables.{slot}
+use Rattle.pr_registry.proofs.table.is_empty.Given as goal
+
+abbrev pub invariant-loop-slot : goal.invariant-loop-slot
+invariant-loop-slot l = (i : ℕ) → i < l.slot-index → slot l.slots i ≡ None

@@ -1,0 +1,93 @@
+-- What a service action that ends GOOD makes of the registrations, the reservation and PRGENERATION
+-- (SPC-4, 'Registering', 'Unregistering', 'Reserving', 'Releasing', 'Preempting', 'Clearing').
+use Rattle.std.specs.Prelude.{ℕ, ◌+◌, ◌%◌, ◌^◌, ◌==◌, ◌&&◌, if◌then◌else◌, Option, Some, None, option_map}
+use Rattle.std.specs.FinMap as map
+use Rattle.pr_cdb.specs.declared.command.Kind.{Kind}
+use Rattle.pr_cdb.specs.declared.command.Command.{Command}
+use Rattle.pr_cdb.specs.declared.command.Command.TheVariants.{Register, RegisterIgnore, Reserve, Release, Clear, Preempt, PreemptAbort}
+use Rattle.pr_registry.specs.declared.held.Held.{Held}
+use Rattle.pr_registry.specs.declared.held.Held.TheVariants.{One, All}
+use Rattle.pr_registry.specs.declared.change.Change.{Change}
+use Rattle.pr_registry.specs.Hosts.{Keys, just, without, is_empty}
+use Rattle.pr_registry.specs.Registrations.{State, is_registered, established, holds_alone}
+use Rattle.pr_registry.specs.Changes.{Case, ReplacesAll, ReplacesHolder, RemovesKey, no_change, preempt_case, removed_by_preempt, is_released, change_on_unregister, change_on_release, change_on_clear, change_on_preempt}
+
+-- the next generation, which wraps at 2^32
+abbrev pub next : ℕ → ℕ
+next generation = (generation + 1) % 2 ^ 32
+
+-- what is left of a reservation once these registrations remain: one of all registrants ends with the
+-- last of them
+abbrev pub held_by_rest : Keys → Option Held → Option Held
+held_by_rest keys None = None
+held_by_rest keys (Some (One t g)) = Some (One t g)
+held_by_rest keys (Some (All t)) = if is_empty keys then None else Some (All t)
+
+abbrev pub registered : State → ℕ → ℕ → State
+registered u h key = record u { keys = map.insert u.keys h key; generation = next u.generation }
+
+abbrev pub unregistered : State → ℕ → State
+unregistered u h =
+    let keys = without u.keys (just h) in
+    record u {
+      keys = keys;
+      held = if holds_alone u.held h then None else held_by_rest keys u.held;
+      generation = next u.generation;
+    }
+
+-- a reservation that stands, or else the new one
+abbrev pub held_or : Option Held → Held → Option Held
+held_or None new = Some new
+held_or (Some v) new = Some v
+
+abbrev pub reserved : State → ℕ → Kind → State
+reserved u h t = record u { held = held_or u.held (established t h) }
+
+abbrev pub released : State → ℕ → Kind → State
+released u h t = record u { held = if is_released u h t then None else u.held }
+
+abbrev pub cleared : State → State
+cleared u = record u { keys = map.empty; held = None; generation = next u.generation }
+
+-- The reservation after a PREEMPT over these remaining registrations. Where it is replaced there is a
+-- type, since a PREEMPT without one is then at fault.
+abbrev pub held_after_preempt : Keys → Option Held → ℕ → Option Kind → Case → Option Held
+held_after_preempt rest held h kind ReplacesAll = option_map (λ t. established t h) kind
+held_after_preempt rest held h kind (ReplacesHolder s) = option_map (λ t. established t h) kind
+held_after_preempt rest held h kind RemovesKey = held_by_rest rest held
+
+abbrev pub preempted : State → ℕ → ℕ → Option Kind → State
+preempted u h sark kind =
+    let case = preempt_case u.keys u.held sark in
+    let rest = without u.keys (removed_by_preempt u.keys h sark case) in
+    record u { keys = rest; held = held_after_preempt rest u.held h kind case; generation = next u.generation }
+
+-- REGISTER and REGISTER AND IGNORE EXISTING KEY: a key of zero unregisters, and does nothing where there
+-- is no registration
+abbrev pub after_register : State → ℕ → ℕ → State
+after_register u h key =
+    if key == 0 then (if is_registered u h then unregistered u h else u) else registered u h key
+
+abbrev pub change_on_register : State → ℕ → ℕ → Change
+change_on_register u h key = if key == 0 && is_registered u h then change_on_unregister u h else no_change
+
+-- the state after a command of h that ends GOOD
+abbrev pub after : State → ℕ → Command → State
+after u h (Register rk sark) = after_register u h sark
+after u h (RegisterIgnore sark) = after_register u h sark
+after u h (Reserve rk kind) = reserved u h kind
+after u h (Release rk kind) = released u h kind
+after u h (Clear rk) = cleared u
+after u h (Preempt rk sark kind) = preempted u h sark kind
+after u h (PreemptAbort rk sark kind) = preempted u h sark kind
+after u h _ = u
+
+-- whom it removes and tells
+abbrev pub change : State → ℕ → Command → Change
+change u h (Register rk sark) = change_on_register u h sark
+change u h (RegisterIgnore sark) = change_on_register u h sark
+change u h (Release rk kind) = change_on_release u h kind
+change u h (Clear rk) = change_on_clear u h
+change u h (Preempt rk sark kind) = change_on_preempt u h sark kind
+change u h (PreemptAbort rk sark kind) = change_on_preempt u h sark kind
+change u h _ = no_change

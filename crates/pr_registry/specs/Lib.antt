@@ -1,0 +1,4 @@
+pub mod Hosts
+pub mod Registrations
+pub mod Changes
+pub mod Effects

@@ -1,0 +1,113 @@
+-- What a logical unit keeps of persistent reservations (SPC-4, 'Reservations' and 'Persistent
+-- reservations'): who is registered with which key, the reservation, and PRGENERATION.
+use Rattle.std.specs.Prelude.{◌≡◌, ℕ, ◌<◌, ◌≤◌, ◌^◌, Bool, true, false, ◌==◌, IsTrue, List, length, Option, Some, None, slice_index_or, if◌then◌else◌, refl}
+use Rattle.std.specs.FinSet as set
+use Rattle.std.specs.FinMap as map
+use Rattle.std.specs.Coded.{Coded, code_by, coded×, coded_ℕ, coded_option}
+use Rattle.pr_cdb.specs.declared.command.Kind.{Kind}
+use Rattle.pr_cdb.specs.declared.command.Kind.TheVariants.{WriteExclusive, ExclusiveAccess, WriteExclusiveAllRegistrants, ExclusiveAccessAllRegistrants}
+use Rattle.pr_registry.specs.declared.held.Held.{Held}
+use Rattle.pr_registry.specs.declared.held.Held.TheVariants.{One, All}
+use Rattle.pr_registry.specs.Hosts.{Hosts, Keys, hosts_in, is_empty, map_where}
+
+pub record State : Type 0 where
+  pub hosts : ℕ
+  pub keys : Keys
+  pub held : Option Held
+  pub generation : ℕ
+
+abbrev pub state_code : Coded Held → Coded State
+state_code held =
+    code_by (ℕ × (Keys × (Option Held × ℕ))) (coded× coded_ℕ (coded× (map.code coded_ℕ coded_ℕ) (coded× (coded_option held) coded_ℕ)))
+    (λ u. (u.hosts, (u.keys, (u.held, u.generation))))
+    (λ t. record { hosts = t.0; keys = t.1.0; held = t.1.1.0; generation = t.1.1.1 })
+    (λ _. refl)
+
+abbrev pub key_of : State → ℕ → Option ℕ
+key_of u h = map.get u.keys h
+
+abbrev pub is_registered : State → ℕ → Bool
+is_registered u h = map.contains_key u.keys h
+
+abbrev pub registrants : State → Hosts
+registrants u = hosts_in u.keys
+
+-- the registrants but h
+abbrev pub others : State → ℕ → Hosts
+others u h = set.remove (registrants u) h
+
+-- types 7 and 8, under which every registrant holds the reservation
+abbrev pub is_all : Kind → Bool
+is_all WriteExclusiveAllRegistrants = true
+is_all ExclusiveAccessAllRegistrants = true
+is_all _ = false
+
+-- types 5 to 8, under which every registrant has access
+abbrev pub is_for_registrants : Kind → Bool
+is_for_registrants WriteExclusive = false
+is_for_registrants ExclusiveAccess = false
+is_for_registrants _ = true
+
+abbrev pub kind_of : Held → Kind
+kind_of (One t g) = t
+kind_of (All t) = t
+
+-- a reservation of type t that h establishes: its own, or one of all registrants
+abbrev pub established : Kind → ℕ → Held
+established t h = if is_all t then All t else One t h
+
+-- h is the single holder
+abbrev pub holds_alone : Option Held → ℕ → Bool
+holds_alone None h = false
+holds_alone (Some (One t g)) h = g == h
+holds_alone (Some (All t)) h = false
+
+-- h holds: the single holder, or each registrant (SPC-4, 'Persistent reservation holder')
+abbrev pub is_holder_of : Keys → Option Held → ℕ → Bool
+is_holder_of keys None h = false
+is_holder_of keys (Some (One t g)) h = g == h
+is_holder_of keys (Some (All t)) h = map.contains_key keys h
+
+abbrev pub is_holder : State → ℕ → Bool
+is_holder u h = is_holder_of u.keys u.held h
+
+abbrev pub Holds : State → ℕ → Type 0
+Holds u h = IsTrue (is_holder u h)
+
+-- a single holder is registered, and all registrants are at least one
+abbrev pub HasHolder : Keys → Option Held → Type 0
+HasHolder keys None = Unit {0}
+HasHolder keys (Some (One t g)) = (is_all t ≡ false) × IsTrue (map.contains_key keys g)
+HasHolder keys (Some (All t)) = (is_all t ≡ true) × (is_empty keys ≡ false)
+
+-- a key is not zero, and has 64 bits
+abbrev pub IsKey : ℕ → Type 0
+IsKey k = (1 ≤ k) × (k < 2 ^ 64)
+
+abbrev pub IsKeyOrNone : Option ℕ → Type 0
+IsKeyOrNone None = Unit {0}
+IsKeyOrNone (Some k) = IsKey k
+
+pub record IsWellFormed (u : State) : Type 0 where
+  pub hosts : (1 ≤ u.hosts) × (u.hosts ≤ 8)
+  pub keys : (h k : ℕ) → key_of u h ≡ Some k → (h < u.hosts) × IsKey k
+  pub held : HasHolder u.keys u.held
+  pub generation : u.generation < 2 ^ 32
+
+-- nothing is registered or reserved
+abbrev pub fresh : ℕ → State
+fresh hosts = record { hosts = hosts; keys = map.empty; held = None; generation = 0 }
+
+-- the registrations of a table with a place for each of n hosts
+abbrev pub table_keys : ℕ → List (Option ℕ) → Keys
+table_keys n slots = map_where n (λ h. slice_index_or slots h None)
+
+-- the state that a table of 8 places, a reservation and a generation describe
+abbrev pub state_of : ℕ → List (Option ℕ) → Option Held → ℕ → State
+state_of hosts slots held generation =
+    record { hosts = hosts; keys = table_keys 8 slots; held = held; generation = generation }
+
+-- the state that a list of each host's key, a reservation and a generation describe
+abbrev pub state_from : List (Option ℕ) → Option Held → ℕ → State
+state_from keys held generation =
+    record { hosts = length keys; keys = table_keys (length keys) keys; held = held; generation = generation }

@@ -1,0 +1,59 @@
+//! Sets of hosts.
+
+ghost use Rattle.std.specs.Prelude.{◌≡◌, ◌<◌, ◌↔◌, IsTrue};
+ghost use Rattle.std.specs.FinSet as set;
+ghost use Rattle.pr_registry.specs.Hosts.{Hosts, nobody};
+
+use std::marker::Model;
+
+/// A set of hosts, by their numbers.
+#[derive(Debug, Drop)]
+pub struct HostSet {
+    bits: u8,
+}
+
+impl Model for HostSet {
+    ghost use Rattle.std.specs.Prelude.{◌==◌};
+    ghost use Rattle.std.specs.Int.{bit_at};
+    ghost use Rattle.std.specs.FinSet.{code};
+    ghost use Rattle.std.specs.Coded.{coded_ℕ};
+    ghost use Rattle.pr_registry.specs.Hosts.{Hosts, hosts_where};
+
+    ghost Value = { Hosts };
+
+    ghost coded = { code coded_ℕ };
+
+    ghost view = { λ s. hosts_where 8 (λ h. bit_at s.bits h == 1) };
+}
+
+impl HostSet {
+    /// No host.
+    #[tactic(auto, unfolding(crate::specs::Hosts::hosts_where))]
+    pub(crate) fn new() -> Self
+        ensures { result ≡ nobody }
+    {
+        HostSet { bits: 0 }
+    }
+
+    /// Adds a host.
+    pub(crate) fn insert(&mut self, host: u8)
+        requires { host < 8 }
+        ensures { self.new ≡ set.insert self.old host }
+    {
+        self.bits |= 1 << host;
+    }
+
+    /// Whether the host is in the set.
+    pub fn has(&self, host: u8) -> bool
+        ensures { result ≡ set.contains self.now host }
+    {
+        host < 8 && self.bits >> host & 1 == 1
+    }
+
+    /// Whether no host is in the set.
+    pub fn is_empty(&self) -> bool
+        ensures { IsTrue result ↔ (self.now ≡ nobody) }
+    {
+        self.bits == 0
+    }
+}

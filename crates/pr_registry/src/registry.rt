@@ -1,0 +1,153 @@
+//! The registrations, the reservation and the generation.
+
+ghost use Rattle.std.specs.Prelude.{◌≡◌, ◌<◌, ◌≤◌, ◌↔◌, IsTrue, IsSome, IfSome, None, length};
+
+use crate::change::Change;
+use crate::held::Held;
+use crate::table;
+use crate::table::MOST_HOSTS;
+use std::marker::Model;
+
+/// Who is registered with which key, the reservation, and PRGENERATION (SPC-4, 'Persistent
+/// reservations').
+///
+/// Hosts are numbered from 0. Each method that changes the registry is a service action of PERSISTENT
+/// RESERVE OUT that ends GOOD; its `requires` says what must hold for that beyond the sender's keys.
+#[derive(Debug, Drop)]
+pub struct Registry {
+    hosts: u8,
+    slots: [Option<u64>; 8],
+    held: Option<Held>,
+    generation: u32,
+}
+
+impl Model for Registry {
+    ghost use Rattle.pr_registry.specs.contracts.held.Held as held_code;
+    ghost use Rattle.pr_registry.specs.Registrations.{State, state_code, IsWellFormed, state_of};
+
+    ghost Value = { State };
+
+    ghost coded = { state_code held_code.the_row.coded };
+
+    ghost view = { λ r. state_of r.hosts r.slots r.held r.generation };
+
+    ghost invariant = { λ r. IsWellFormed (state_of r.hosts r.slots r.held r.generation) };
+}
+
+impl Registry {
+    ghost use Rattle.pr_registry.specs.Registrations.{IsWellFormed, fresh, state_from, key_of, is_registered};
+    ghost use Rattle.pr_registry.specs.Changes.{no_change, change_on_unregister};
+    ghost use Rattle.pr_registry.specs.Effects.{registered, unregistered};
+
+    /// Nothing is registered or reserved, and the generation is 0.
+    pub fn new(hosts: u8) -> Self
+        requires some { 1 ≤ hosts }
+        requires most { hosts ≤ 8 }
+        ensures { result ≡ fresh hosts }
+    {
+        Registry {
+            hosts,
+            slots: [None; 8],
+            held: None,
+            generation: 0,
+        }
+    }
+
+    /// The registry that has these keys, one place for each host, this reservation and this generation:
+    /// `None` where there is no host or more than 8, a key is zero, the reservation's type does not
+    /// belong to its holders, or it has no holder.
+    pub fn from_parts(keys: &[Option<u64>], held: Option<Held>, generation: u32) -> Option<Self>
+        ensures value { IfSome result (λ r. r ≡ state_from keys.now held generation) }
+        ensures exactly { IsSome result ↔ IsWellFormed (state_from keys.now held generation) }
+    {
+        if keys.is_empty() {
+            return None;
+        }
+        if keys.len() > MOST_HOSTS {
+            return None;
+        }
+        if !table::are_keys(keys) {
+            return None;
+        }
+        let slots = table::slots_of(keys);
+        if !table::has_holder(&slots, held) {
+            return None;
+        }
+        Some(Registry {
+            hosts: keys.len() as u8,
+            slots,
+            held,
+            generation,
+        })
+    }
+
+    /// How many hosts there are, 1 to 8.
+    pub fn hosts(&self) -> u8
+        ensures value { result ≡ self.now.hosts }
+        ensures well_formed { IsWellFormed self.now }
+    {
+        self.hosts
+    }
+
+    /// The key that the host is registered with.
+    pub fn key(&self, host: u8) -> Option<u64>
+        requires { host < self.now.hosts }
+        ensures { result ≡ key_of self.now host }
+    {
+        self.slots[usize::from(host)]
+    }
+
+    /// The reservation.
+    pub fn held(&self) -> Option<Held>
+        ensures { result ≡ self.now.held }
+    {
+        self.held
+    }
+
+    /// PRGENERATION.
+    pub fn generation(&self) -> u32
+        ensures { result ≡ self.now.generation }
+    {
+        self.generation
+    }
+
+    /// REGISTER, or REGISTER AND IGNORE EXISTING KEY, with a key that is not zero: the host has this key
+    /// from now on.
+    pub fn register(&mut self, host: u8, key: u64) -> Change
+        requires there { host < self.old.hosts }
+        requires key { 1 ≤ key }
+        ensures state { self.new ≡ registered self.old host key }
+        ensures change { result ≡ no_change }
+    {
+        table::insert(&mut self.slots, host, key);
+        self.generation = self.generation.wrapping_add(1);
+        Change::none()
+    }
+
+    /// REGISTER, or REGISTER AND IGNORE EXISTING KEY, with the key zero, by a registrant: it loses its
+    /// registration. Where it held alone its reservation ends, and under types 5 and 6 the other
+    /// registrants are told so; a reservation of all registrants ends with the last of them.
+    pub fn unregister(&mut self, host: u8) -> Change
+        requires { IsTrue (is_registered self.old host) }
+        ensures state { self.new ≡ unregistered self.old host }
+        ensures change { result ≡ change_on_unregister self.old host }
+    {
+        let change = self.change_on_unregister(host);
+        table::remove(&mut self.slots, host);
+        self.held = table::held_after_unregister(&self.slots, self.held, host);
+        self.generation = self.generation.wrapping_add(1);
+        change
+    }
+
+    fn change_on_unregister(&self, host: u8) -> Change
+        requires { host < 8 }
+        ensures { result ≡ change_on_unregister self.now host }
+    {
+        let mut change = Change::none();
+        change.removed.insert(host);
+        if table::holds_alone(self.held, host) && table::is_told_of_loss(self.held) {
+            change.told_04 = table::others(&self.slots, host);
+        }
+        change
+    }
+}

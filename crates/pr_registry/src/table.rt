@@ -1,0 +1,184 @@
+//! The registrations as a table with a place for each host, and the questions that service actions ask
+//! of it.
+
+ghost use Rattle.std.specs.Prelude.{◌≡◌, ◌<◌, ◌≤◌, ◌↔◌, ◌==◌, ◌&&◌, not, ℕ, IsTrue, if◌then◌else◌, None, length, slice_index_or};
+ghost use Rattle.std.specs.FinSet as set;
+ghost use Rattle.std.specs.FinMap as map;
+ghost use Rattle.pr_registry.specs.Hosts.{just, hosts_in, is_empty, without};
+ghost use Rattle.pr_registry.specs.Registrations.{table_keys, is_all, is_for_registrants, holds_alone, HasHolder, IsKeyOrNone};
+ghost use Rattle.pr_registry.specs.Changes.{is_told_of_loss};
+ghost use Rattle.pr_registry.specs.Effects.{held_by_rest};
+
+use crate::held::Held;
+use crate::host_set::HostSet;
+use pr_cdb::Kind;
+
+/// How many hosts a logical unit serves at most.
+pub(crate) const MOST_HOSTS: usize = 8;
+
+/// The registered hosts but one.
+pub(crate) fn others(slots: &[Option<u64>; 8], host: u8) -> HostSet
+    ensures { result ≡ set.remove (hosts_in (table_keys 8 slots.now)) host }
+{
+    let mut hosts = HostSet::new();
+    for other in 0..8u8 {
+        if is_other(slots, host, other) {
+            hosts.insert(other);
+        }
+    }
+    hosts
+}
+
+// Whether `other` is a registered host, and not `host`.
+fn is_other(slots: &[Option<u64>; 8], host: u8, other: u8) -> bool
+    ensures { result ≡ (not (other == host) && map.contains_key (table_keys 8 slots.now) other) }
+{
+    other != host && is_registered(slots, other)
+}
+
+/// Whether the host is registered.
+pub(crate) fn is_registered(slots: &[Option<u64>; 8], host: u8) -> bool
+    ensures { result ≡ map.contains_key (table_keys 8 slots.now) host }
+{
+    let place = usize::from(host);
+    place < MOST_HOSTS && slots[place].is_some()
+}
+
+/// Whether nobody is registered.
+pub(crate) fn is_empty(slots: &[Option<u64>; 8]) -> bool
+    ensures { result ≡ is_empty (table_keys 8 slots.now) }
+{
+    for slot in slots {
+        if slot.is_some() {
+            return false;
+        }
+    }
+    true
+}
+
+/// Whether each key is in range: none is zero.
+pub(crate) fn are_keys(slots: &[Option<u64>]) -> bool
+    ensures { IsTrue result
+        ↔ ((i : ℕ) → i < length slots.now → IsKeyOrNone (slice_index_or slots.now i None)) }
+{
+    for slot in slots {
+        if let Some(key) = *slot {
+            if key == 0 {
+                return false;
+            }
+        }
+    }
+    true
+}
+
+/// Whether types 7 and 8 are meant, under which every registrant holds the reservation.
+pub(crate) fn is_all(kind: Kind) -> bool
+    ensures { result ≡ is_all kind }
+{
+    matches!(
+        kind,
+        Kind::WriteExclusiveAllRegistrants | Kind::ExclusiveAccessAllRegistrants
+    )
+}
+
+/// Whether the reservation has a holder: a single one is registered, and all registrants are at least
+/// one.
+pub(crate) fn has_holder(slots: &[Option<u64>; 8], held: Option<Held>) -> bool
+    ensures { IsTrue result ↔ HasHolder (table_keys 8 slots.now) held }
+{
+    match held {
+        None => true,
+        Some(Held::One(kind, host)) => { !is_all(kind) && is_registered(slots, host) }
+        Some(Held::All(kind)) => is_all(kind) && !is_empty(slots),
+    }
+}
+
+/// The keys, with no key past their end.
+pub(crate) fn slots_of(keys: &[Option<u64>]) -> [Option<u64>; 8]
+    requires { length keys.now ≤ 8 }
+    ensures { table_keys 8 result ≡ table_keys (length keys.now) keys.now }
+{
+    let mut slots = [None; 8];
+    for (host, key) in keys.iter().enumerate() {
+        slots[host] = *key;
+    }
+    slots
+}
+
+/// Whether the host is the single holder.
+pub(crate) fn holds_alone(held: Option<Held>, host: u8) -> bool
+    ensures { result ≡ holds_alone held host }
+{
+    match held {
+        Some(Held::One(_, holder)) => holder == host,
+        Some(Held::All(_)) => false,
+        None => false,
+    }
+}
+
+/// Whether the registrants are told when the reservation is lost: under types 5 to 8.
+pub(crate) fn is_told_of_loss(held: Option<Held>) -> bool
+    ensures { result ≡ is_told_of_loss held }
+{
+    match held {
+        Some(Held::One(kind, _)) => is_for_registrants(kind),
+        Some(Held::All(kind)) => is_for_registrants(kind),
+        None => false,
+    }
+}
+
+// Whether types 5 to 8 are meant, under which every registrant has access.
+fn is_for_registrants(kind: Kind) -> bool
+    ensures { result ≡ is_for_registrants kind }
+{
+    !matches!(kind, Kind::WriteExclusive | Kind::ExclusiveAccess)
+}
+
+/// What is left of a reservation once these registrations remain.
+pub(crate) fn held_by_rest(slots: &[Option<u64>; 8], held: Option<Held>) -> Option<Held>
+    ensures { result ≡ held_by_rest (table_keys 8 slots.now) held }
+{
+    match held {
+        Some(Held::One(kind, host)) => Some(Held::One(kind, host)),
+        Some(Held::All(kind)) => {
+            if is_empty(slots) {
+                None
+            } else {
+                Some(Held::All(kind))
+            }
+        }
+        None => None,
+    }
+}
+
+/// The reservation once a host has unregistered and these registrations remain: a single holder's ends
+/// with its registration.
+pub(crate) fn held_after_unregister(
+    slots: &[Option<u64>; 8],
+    held: Option<Held>,
+    host: u8,
+) -> Option<Held>
+    ensures { result
+        ≡ (if holds_alone held host then None else held_by_rest (table_keys 8 slots.now) held) }
+{
+    if holds_alone(held, host) {
+        return None;
+    }
+    held_by_rest(slots, held)
+}
+
+/// Gives the host this key.
+pub(crate) fn insert(slots: &mut [Option<u64>; 8], host: u8, key: u64)
+    requires { host < 8 }
+    ensures { table_keys 8 slots.new ≡ map.insert (table_keys 8 slots.old) host key }
+{
+    slots[usize::from(host)] = Some(key);
+}
+
+/// Takes the host's key away.
+pub(crate) fn remove(slots: &mut [Option<u64>; 8], host: u8)
+    requires { host < 8 }
+    ensures { table_keys 8 slots.new ≡ without (table_keys 8 slots.old) (just host) }
+{
+    slots[usize::from(host)] = None;
+}
