@@ -7,7 +7,7 @@ use Rattle.fence.specs.Written.{Wrote, AppendsFront}
 use Rattle.fence.specs.PrintedLines.{line, spaced, generation_word, registration_word}
 use Rattle.fence.specs.TraceText.{entry_line, entry_lines, ending_line, ending_lines, held_word, name_of, registration_words, texts, unit_line}
 use Rattle.fence.specs.declared.trace_output.Entry.{Entry}
-use Rattle.fence.specs.declared.trace_output.Held.{Held}
+use Rattle.pr_registry.specs.Registrations.{State, key_of}
 use Rattle.fence.specs.declared.trace_output.Ended.{Ended}
 use Rattle.fence.proofs.Fronts.{wrote_front, wrote_more}
 
@@ -34,32 +34,36 @@ entries_more old mid new text names es i e h is w p = wrote_more _ _ _ _ _ _ (rw
 
 -- Registrations.
 
-abbrev pub registrations : (ℕ → Option ℕ) → ℕ → List ArrayString → List ℕ
-registrations key host names = spaced (registration_words key host (texts names))
+abbrev pub registrations : State → ℕ → List ArrayString → List ℕ
+registrations unit host names = spaced (registration_words unit host (texts names))
 
-registrations_from : (key : ℕ → Option ℕ) (names : List ArrayString) (i : ℕ) (name : ArrayString) → i < length names → name ≡ get_or names i name
-    → registrations key i (drop i names) ≡ (32 ∷ registration_word name.bytes (key i)) ++ registrations key (i + 1) (drop (i + 1) names)
+registrations_from : (unit : State) (names : List ArrayString) (i : ℕ) (name : ArrayString) → i < length names → name ≡ get_or names i name
+    → registrations unit i (drop i names) ≡ (32 ∷ registration_word name.bytes (key_of unit i)) ++ registrations unit (i + 1) (drop (i + 1) names)
 unfolding spaced
-registrations_from key names i name h is = rw (drop_here names i name h is) refl
+registrations_from unit names i name h is = rw (drop_here names i name h is) refl
 
-pub registrations_end : (key : ℕ → Option ℕ) (names : List ArrayString) (i : ℕ) → length names ≤ i → registrations key i (drop i names) ≡ []
+pub registrations_end : (unit : State) (names : List ArrayString) (i : ℕ) → length names ≤ i → registrations unit i (drop i names) ≡ []
 unfolding spaced
-registrations_end key names i h = rw (drop_of_length-le names {i = i} h) refl
+registrations_end unit names i h = rw (drop_of_length-le names {i = i} h) refl
 
-pub registrations_front : (old mid new : Option (List ℕ)) (text : List ℕ) (key : ℕ → Option ℕ) (names : List ArrayString) (i : ℕ) (name : ArrayString) → i < length names → name ≡ get_or names i name
-    → Wrote old mid text (registrations key i (drop i names)) → AppendsFront mid new (32 ∷ registration_word name.bytes (key i)) → AppendsFront old new text
-registrations_front old mid new text key names i name h is w f = wrote_front _ _ _ _ _ _ (rw (registrations_from key names i name h is) at w) f
+pub registrations_front : (old mid new : Option (List ℕ)) (text : List ℕ) (unit : State) (names : List ArrayString) (i : ℕ) (name : ArrayString) → i < length names → name ≡ get_or names i name
+    → Wrote old mid text (registrations unit i (drop i names)) → AppendsFront mid new (32 ∷ registration_word name.bytes (key_of unit i)) → AppendsFront old new text
+registrations_front old mid new text unit names i name h is w f = wrote_front _ _ _ _ _ _ (rw (registrations_from unit names i name h is) at w) f
 
-pub registrations_more : (old mid new : Option (List ℕ)) (text : List ℕ) (key : ℕ → Option ℕ) (names : List ArrayString) (i : ℕ) (name : ArrayString) → i < length names → name ≡ get_or names i name
-    → Wrote old mid text (registrations key i (drop i names)) → Appends mid new (32 ∷ registration_word name.bytes (key i)) → Wrote old new text (registrations key (i + 1) (drop (i + 1) names))
-registrations_more old mid new text key names i name h is w p = wrote_more _ _ _ _ _ _ (rw (registrations_from key names i name h is) at w) p
+pub registrations_more : (old mid new : Option (List ℕ)) (text : List ℕ) (unit : State) (names : List ArrayString) (i : ℕ) (name : ArrayString) → i < length names → name ≡ get_or names i name
+    → Wrote old mid text (registrations unit i (drop i names)) → Appends mid new (32 ∷ registration_word name.bytes (key_of unit i)) → Wrote old new text (registrations unit (i + 1) (drop (i + 1) names))
+registrations_more old mid new text unit names i name h is w p = wrote_more _ _ _ _ _ _ (rw (registrations_from unit names i name h is) at w) p
+
+regrouped : (a b c d : List ℕ) → (a ++ (b ++ c)) ++ d ≡ (a ++ (b ++ [])) ++ (c ++ d)
+regrouped a b c d = simp (append_assoc, append-nil)
 
 -- the four pieces in which the line of the unit goes out
-pub unit_pieces : (names : List (List ℕ)) (generation : ℕ) (held : Option Held) (key : ℕ → Option ℕ)
-    → unit_line names generation held key
-    ≡ codes "unit" ++ (spaced (generation_word generation ∷ held_word names held ∷ []) ++ (spaced (registration_words key 0 names) ++ (10 ∷ [])))
+pub unit_pieces : (names : List (List ℕ)) (unit : State)
+    → unit_line names unit
+    ≡ codes "unit" ++ (spaced (generation_word unit.generation ∷ held_word names unit.held ∷ []) ++ (spaced (registration_words unit 0 names) ++ (10 ∷ [])))
 unfolding unit_line line spaced
-unit_pieces names generation held key = simp (append_assoc, append-nil)
+unit_pieces names unit =
+    ap (λ w. codes "unit" ++ (32 ∷ w)) (regrouped (generation_word unit.generation) (32 ∷ held_word names unit.held) (spaced (registration_words unit 0 names)) (10 ∷ []))
 
 -- Ends.
 

@@ -9,9 +9,10 @@ use Rattle.pr_cdb.specs.declared.reply.Status.{Status}
 use Rattle.pr_cdb.specs.declared.reply.Status.TheVariants.{Good, CheckCondition, Conflict}
 use Rattle.pr_cdb.specs.Kinds.{code_of}
 use Rattle.pr_cdb.specs.ReplyData.{sense_bytes}
+use Rattle.pr_registry.specs.Registrations.{State, key_of}
 use Rattle.fence.specs.declared.trace_output.Entry.{Entry}
-use Rattle.fence.specs.declared.trace_output.Held.{Held}
-use Rattle.fence.specs.declared.trace_output.Held.TheVariants.{One, All}
+use Rattle.pr_registry.specs.declared.held.Held.{Held}
+use Rattle.pr_registry.specs.declared.held.Held.TheVariants.{One, All}
 use Rattle.fence.specs.declared.trace_output.End.{End}
 use Rattle.fence.specs.declared.trace_output.End.TheVariants.{Stopped, Ready, Trapped, Left}
 use Rattle.fence.specs.declared.trace_output.Ended.{Ended}
@@ -61,13 +62,14 @@ held_word names (Some (One kind host)) = holder_word kind (name_of names host)
 held_word names (Some (All kind)) = decimal (code_of kind)
 
 -- the registrations of the hosts from this number on, whose names these are
-abbrev pub registration_words : (ℕ → Option ℕ) → ℕ → List (List ℕ) → List (List ℕ)
-registration_words key host [] = []
-registration_words key host (name ∷ names) = registration_word name (key host) ∷ registration_words key (host + 1) names
+abbrev pub registration_words : State → ℕ → List (List ℕ) → List (List ℕ)
+registration_words unit host [] = []
+registration_words unit host (name ∷ names) =
+    registration_word name (key_of unit host) ∷ registration_words unit (host + 1) names
 
-unfoldable pub unit_line : List (List ℕ) → ℕ → Option Held → (ℕ → Option ℕ) → List ℕ
-unit_line names generation held key =
-    line (codes "unit") (generation_word generation ∷ held_word names held ∷ registration_words key 0 names)
+unfoldable pub unit_line : List (List ℕ) → State → List ℕ
+unit_line names unit =
+    line (codes "unit") (generation_word unit.generation ∷ held_word names unit.held ∷ registration_words unit 0 names)
 
 -- Ends.
 
@@ -83,7 +85,7 @@ abbrev pub ending_lines : ℕ → List (List ℕ) → List Ended → List ℕ
 ending_lines host names [] = []
 ending_lines host names (e ∷ es) = ending_line (name_of names host) e.end e.sent ++ ending_lines (host + 1) names es
 
-abbrev pub trace_text : List (List ℕ) → List Entry → ℕ → Option Held → (ℕ → Option ℕ) → List Ended → List ℕ
-trace_text names entries generation held key ends =
+abbrev pub trace_text : List (List ℕ) → List Entry → State → List Ended → List ℕ
+trace_text names entries unit ends =
     line (codes "fence-trace") (codes "1" ∷ [])
-    ++ (entry_lines 0 names entries ++ (unit_line names generation held key ++ ending_lines 0 names ends))
+    ++ (entry_lines 0 names entries ++ (unit_line names unit ++ ending_lines 0 names ends))

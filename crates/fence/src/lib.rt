@@ -7,4 +7,4 @@ mod trace_output;
 
 pub use output::{WriteFault, put};
 pub use printing::{Word, put_line};
-pub use trace_output::{End, Ended, Entry, Held, write_trace};
+pub use trace_output::{End, Ended, Entry, write_trace};

@@ -1,7 +1,8 @@
 //! The text of a trace.
 
-ghost use Rattle.std.specs.Prelude.{◌≡◌, ◌+◌, ◌∷◌, [], codes, slice_index_or};
+ghost use Rattle.std.specs.Prelude.{◌≡◌, ◌+◌, ◌∷◌, [], codes};
 ghost use Rattle.pr_cdb.specs.ReplyData.{sense_bytes};
+ghost use Rattle.pr_registry.specs.Registrations.{key_of};
 ghost use Rattle.fence.specs.Written.{Puts};
 ghost use Rattle.std.specs.Fmt.{decimal};
 ghost use Rattle.fence.specs.Printed.{printed};
@@ -11,7 +12,8 @@ ghost use Rattle.fence.specs.TraceText.{ending_line, ending_lines, entry_line, e
 use crate::output::{WriteFault, put};
 use crate::printing::{Word, put_after_space, put_line, put_word, put_spaced};
 use arrayvec::{ArrayString, ArrayVec};
-use pr_cdb::{Kind, Reply, Sense, Status, Wire, encode_sense};
+use pr_cdb::{Reply, Sense, Status, Wire, encode_sense};
+use pr_registry::{Held, Registry};
 use std::io::Write;
 
 /// A command that reached the unit, its sender's number, and the unit's answer.
@@ -33,13 +35,6 @@ impl Entry {
             reply: self.reply.copy(),
         }
     }
-}
-
-/// A reservation: of one host, or of all registrants.
-#[derive(Clone, Copy, Debug, PartialEq, Eq)]
-pub enum Held {
-    One(Kind, u8),
-    All(Kind),
 }
 
 /// How a host or guest ended.
@@ -68,12 +63,12 @@ pub struct Ended {
 /// Writes a trace. On a fault, what went out is a front of it.
 ///
 /// The names and the ends are those of the hosts and guests in the order of their numbers.
-pub fn write_trace<W: Write>(writer: &mut W, names: &[ArrayString<16>], entries: &[Entry], generation: u32, held: Option<Held>, keys: &[Option<u64>], ends: &[Ended]) -> Result<(), WriteFault>
-    ensures { Puts (W.contents writer.old) (W.contents writer.new) (trace_text (texts names.now) entries.now generation held (λ host. slice_index_or keys.now host None) ends.now) result }
+pub fn write_trace<W: Write>(writer: &mut W, names: &[ArrayString<16>], entries: &[Entry], unit: &Registry, ends: &[Ended]) -> Result<(), WriteFault>
+    ensures { Puts (W.contents writer.old) (W.contents writer.new) (trace_text (texts names.now) entries.now unit.now ends.now) result }
 {
     put_line(writer, Word::Text(b"fence-trace"), &[Word::Text(b"1")])?;
     put_entries(writer, names, entries)?;
-    put_unit(writer, names, generation, held, keys)?;
+    put_unit(writer, names, unit)?;
     put_ends(writer, names, ends)
 }
 
@@ -130,31 +125,33 @@ fn sense_data(sense: Option<Sense>) -> ArrayVec<u8, 18>
     }
 }
 
-fn put_unit<W: Write>(writer: &mut W, names: &[ArrayString<16>], generation: u32, held: Option<Held>, keys: &[Option<u64>]) -> Result<(), WriteFault>
-    ensures { Puts (W.contents writer.old) (W.contents writer.new) (unit_line (texts names.now) generation held (λ host. slice_index_or keys.now host None)) result }
+fn put_unit<W: Write>(writer: &mut W, names: &[ArrayString<16>], unit: &Registry) -> Result<(), WriteFault>
+    ensures { Puts (W.contents writer.old) (W.contents writer.new) (unit_line (texts names.now) unit.now) result }
 {
     put_word(writer, Word::Text(b"unit"))?;
-    put_spaced(writer, &[Word::Generation(generation), held_word(names, held)])?;
-    put_registrations(writer, names, keys)?;
+    put_spaced(writer, &[Word::Generation(unit.generation()), held_word(names, unit.held())])?;
+    put_registrations(writer, names, unit)?;
     put(writer, b"\n")
 }
 
 #[tactic(auto, unfolding(crate::specs::Printed::printed))]
-fn put_registrations<W: Write>(writer: &mut W, names: &[ArrayString<16>], keys: &[Option<u64>]) -> Result<(), WriteFault>
-    ensures { Puts (W.contents writer.old) (W.contents writer.new) (spaced (registration_words (λ host. slice_index_or keys.now host None) 0 (texts names.now))) result }
+fn put_registrations<W: Write>(writer: &mut W, names: &[ArrayString<16>], unit: &Registry) -> Result<(), WriteFault>
+    ensures { Puts (W.contents writer.old) (W.contents writer.new) (spaced (registration_words unit.now 0 (texts names.now))) result }
 {
     for (host, name) in names.iter().enumerate() {
-        put_after_space(writer, Word::Registration(name.as_str().as_bytes(), key_at(keys, host)))?;
+        put_after_space(writer, Word::Registration(name.as_str().as_bytes(), key_of(unit, host)))?;
     }
     Ok(())
 }
 
-fn key_at(keys: &[Option<u64>], host: usize) -> Option<u64>
-    ensures { result ≡ slice_index_or keys.now host None }
+// A host that the unit does not have has no key.
+fn key_of(unit: &Registry, host: usize) -> Option<u64>
+    ensures { result ≡ key_of unit.now host }
 {
-    match keys.get(host) {
-        Some(key) => *key,
-        None => None,
+    if host < usize::from(unit.hosts()) {
+        unit.key(host as u8)
+    } else {
+        None
     }
 }
 
