@@ -2,3 +2,4 @@ pub mod Written
 pub mod PrintedLines
 pub mod Printed
 pub mod TraceText
+pub mod FaultText
