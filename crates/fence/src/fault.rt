@@ -11,6 +11,9 @@ use crate::printing::{Word, put_line};
 use std::alloc::{AllocError, AllocFailed};
 use std::io::Write;
 
+#[cfg(test)]
+mod tests;
+
 /// Why a command of the program came to nothing.
 #[derive(Clone, Copy, Debug, PartialEq, Eq)]
 pub enum Fault {

@@ -16,6 +16,9 @@ use pr_cdb::{Reply, Sense, Status, Wire, encode_sense};
 use pr_registry::{Held, Registry};
 use std::io::Write;
 
+#[cfg(test)]
+mod tests;
+
 /// A command that reached the unit, its sender's number, and the unit's answer.
 #[derive(Debug, Drop, PartialEq, Eq)]
 pub struct Entry {
