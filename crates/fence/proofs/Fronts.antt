@@ -1,26 +1,16 @@
 -- How pieces of a text go out one after another.
-use Rattle.std.proofs.Common.{◌≡◌, ℕ, List, [], ◌∷◌, ◌++◌, Option, None, Some, refl, sym, ap, ◌∙◌, append_assoc, append-nil, Result, Ok, Err, IsErr, take, drop, take-append-drop, length, length-drop, ◌-◌, ◌+◌, ◌<◌, ◌≤◌, get_or, drop-cons, add-one}
+use Rattle.std.proofs.Common.{◌≡◌, ℕ, List, [], ◌++◌, Option, None, Some, refl, sym, ap, ◌∙◌, append_assoc, append-nil, Result, Ok, Err, IsErr, take, drop, take-append-drop, length, length-drop, ◌-◌, ◌+◌, ◌<◌, ◌≤◌, get_or, drop-cons, add-one}
 use Rattle.std.specs.List.{flat_map}
 use Rattle.std.proofs.Math.ListN.{drop_of_length-le}
 use Rattle.std.proofs.Math.Seq.{take-length}
-use Rattle.std.specs.Io.KnownBytes.{Appends, Keeps}
+use Rattle.std.specs.Io.KnownBytes.{Appends}
 use Rattle.fence.specs.Written.{Wrote, AppendsFront, Puts}
-
-pub appends_nothing : (old new : Option (List ℕ)) → Keeps old new → Appends old new []
-appends_nothing None new k = tt
-appends_nothing (Some xs) None k = absurd k
-appends_nothing (Some xs) (Some ys) k = k ∙ sym (append-nil xs)
 
 pub appends_both : (old mid new : Option (List ℕ)) (x y : List ℕ) → Appends old mid x → Appends mid new y → Appends old new (x ++ y)
 appends_both None mid new x y p q = tt
 appends_both (Some xs) None new x y p q = absurd p
 appends_both (Some xs) (Some ys) None x y p q = absurd q
 appends_both (Some xs) (Some ys) (Some zs) x y p q = q ∙ ap (λ w. w ++ y) p ∙ append_assoc xs x y
-
--- a writer that nothing was written to
-pub wrote_nothing : (now : Option (List ℕ)) (text : List ℕ) → Wrote now now text text
-wrote_nothing None text = record { front = []; whole = refl; appended = tt }
-wrote_nothing (Some xs) text = record { front = []; whole = refl; appended = sym (append-nil xs) }
 
 pub wrote_more : (old mid new : Option (List ℕ)) (text x left : List ℕ) → Wrote old mid text (x ++ left) → Appends mid new x → Wrote old new text left
 wrote_more old mid new text x left w p = record {
@@ -38,20 +28,9 @@ wrote_front old mid new text x left w f = record {
   wrote = record {
     front = w.front ++ f.wrote.front;
     whole = w.whole ∙ ap (λ r. w.front ++ (r ++ left)) f.wrote.whole
-      ∙ ap (λ r. w.front ++ r) (append_assoc f.wrote.front f.left left)
-      ∙ sym (append_assoc w.front f.wrote.front (f.left ++ left));
+        ∙ ap (λ r. w.front ++ r) (append_assoc f.wrote.front f.left left)
+        ∙ sym (append_assoc w.front f.wrote.front (f.left ++ left));
     appended = appends_both old mid new w.front f.wrote.front w.appended f.wrote.appended;
-  };
-}
-
--- a writer that refused changed nothing
-pub wrote_stays : (old mid new : Option (List ℕ)) (text left : List ℕ) → Wrote old mid text left → Keeps mid new → AppendsFront old new text
-wrote_stays old mid new text left w k = record {
-  left = left;
-  wrote = record {
-    front = w.front;
-    whole = w.whole;
-    appended = rw (← append-nil w.front) (appends_both old mid new w.front [] w.appended (appends_nothing mid new k));
   };
 }
 
@@ -59,7 +38,7 @@ wrote_stays old mid new text left w k = record {
 pub wrote_some : (old mid new : Option (List ℕ)) (text rest : List ℕ) (n : ℕ) → Wrote old mid text rest → Appends mid new (take n rest) → Wrote old new text (take (length rest - n) (drop n rest))
 wrote_some old mid new text rest n w p =
     let all : take (length rest - n) (drop n rest) ≡ drop n rest =
-        ap (λ k. take k (drop n rest)) (sym (length-drop n rest)) ∙ take-length (drop n rest)
+    ap (λ k. take k (drop n rest)) (sym (length-drop n rest)) ∙ take-length (drop n rest)
     in rw all (wrote_more old mid new text (take n rest) (drop n rest) (rw (take-append-drop n rest) w) p)
 
 -- Calls in a row: the first one fails, a later one fails, and the last one ends either way.

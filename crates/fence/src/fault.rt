@@ -131,8 +131,24 @@ pub fn put_fault<W: Write>(errors: &mut W, fault: &Fault) -> Result<(), WriteFau
     match fault {
         Fault::Usage => put_told(errors, &[Word::Text(b"usage")]),
         Fault::File => put_told(errors, &[Word::Text(b"file")]),
-        Fault::Syntax(line) => put_told(errors, &[Word::Text(b"input"), Word::Text(b"4"), Word::Text(b"Syntax"), Word::Text(b"line"), Word::Number(u64::from(*line))]),
-        Fault::ReadFault => put_told(errors, &[Word::Text(b"input"), Word::Text(b"10"), Word::Text(b"ReadFault")]),
+        Fault::Syntax(line) => put_told(
+            errors,
+            &[
+                Word::Text(b"input"),
+                Word::Text(b"4"),
+                Word::Text(b"Syntax"),
+                Word::Text(b"line"),
+                Word::Number(u64::from(*line)),
+            ],
+        ),
+        Fault::ReadFault => put_told(
+            errors,
+            &[
+                Word::Text(b"input"),
+                Word::Text(b"10"),
+                Word::Text(b"ReadFault"),
+            ],
+        ),
         Fault::Memory => put_told(errors, &[Word::Text(b"memory")]),
         Fault::Output => put_told(errors, &[Word::Text(b"output")]),
     }

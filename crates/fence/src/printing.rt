@@ -35,7 +35,11 @@ pub enum Word<'a> {
 }
 
 /// Writes a line: its words with one space between them, and a line feed.
-pub fn put_line<W: Write>(writer: &mut W, first: Word<'_>, others: &[Word<'_>]) -> Result<(), WriteFault>
+pub fn put_line<W: Write>(
+    writer: &mut W,
+    first: Word<'_>,
+    others: &[Word<'_>],
+) -> Result<(), WriteFault>
     ensures { Puts (W.contents writer.old) (W.contents writer.new) (line (printed first.entry) (map printed others.now)) result }
 {
     put_word(writer, first)?;
@@ -113,7 +117,11 @@ fn put_kind<W: Write>(writer: &mut W, kind: Kind) -> Result<(), WriteFault>
     put_number(writer, u64::from(kind.code()))
 }
 
-fn put_registration<W: Write>(writer: &mut W, name: &[u8], key: Option<u64>) -> Result<(), WriteFault>
+fn put_registration<W: Write>(
+    writer: &mut W,
+    name: &[u8],
+    key: Option<u64>,
+) -> Result<(), WriteFault>
     ensures { Puts (W.contents writer.old) (W.contents writer.new) (registration_word name.now key) result }
 {
     put(writer, name)?;
@@ -152,5 +160,9 @@ fn glyph(value: u8) -> u8
     requires { value < 16 }
     ensures { result ≡ digit_glyph false value }
 {
-    if value < 10 { b'0' + value } else { b'a' - 10 + value }
+    if value < 10 {
+        b'0' + value
+    } else {
+        b'a' - 10 + value
+    }
 }

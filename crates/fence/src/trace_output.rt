@@ -10,7 +10,7 @@ ghost use Rattle.fence.specs.PrintedLines.{line, spaced};
 ghost use Rattle.fence.specs.TraceText.{ending_line, ending_lines, entry_line, entry_lines, held_word, name_of, registration_words, sense_data, status_word, texts, trace_text, unit_line};
 
 use crate::output::{WriteFault, put};
-use crate::printing::{Word, put_after_space, put_line, put_word, put_spaced};
+use crate::printing::{Word, put_after_space, put_line, put_spaced, put_word};
 use arrayvec::{ArrayString, ArrayVec};
 use pr_cdb::{Reply, Sense, Status, Wire, encode_sense};
 use pr_registry::{Held, Registry};
@@ -66,7 +66,13 @@ pub struct Ended {
 /// Writes a trace. On a fault, what went out is a front of it.
 ///
 /// The names and the ends are those of the hosts and guests in the order of their numbers.
-pub fn write_trace<W: Write>(writer: &mut W, names: &[ArrayString<16>], entries: &[Entry], unit: &Registry, ends: &[Ended]) -> Result<(), WriteFault>
+pub fn write_trace<W: Write>(
+    writer: &mut W,
+    names: &[ArrayString<16>],
+    entries: &[Entry],
+    unit: &Registry,
+    ends: &[Ended],
+) -> Result<(), WriteFault>
     ensures { Puts (W.contents writer.old) (W.contents writer.new) (trace_text (texts names.now) entries.now unit.now ends.now) result }
 {
     put_line(writer, Word::Text(b"fence-trace"), &[Word::Text(b"1")])?;
@@ -75,7 +81,11 @@ pub fn write_trace<W: Write>(writer: &mut W, names: &[ArrayString<16>], entries:
     put_ends(writer, names, ends)
 }
 
-fn put_entries<W: Write>(writer: &mut W, names: &[ArrayString<16>], entries: &[Entry]) -> Result<(), WriteFault>
+fn put_entries<W: Write>(
+    writer: &mut W,
+    names: &[ArrayString<16>],
+    entries: &[Entry],
+) -> Result<(), WriteFault>
     ensures { Puts (W.contents writer.old) (W.contents writer.new) (entry_lines 0 (texts names.now) entries.now) result }
 {
     for (others, entry) in entries.iter().enumerate() {
@@ -85,7 +95,12 @@ fn put_entries<W: Write>(writer: &mut W, names: &[ArrayString<16>], entries: &[E
 }
 
 #[tactic(auto, unfolding(crate::specs::TraceText::entry_line, crate::specs::Printed::printed))]
-fn put_entry<W: Write>(writer: &mut W, index: u64, names: &[ArrayString<16>], entry: &Entry) -> Result<(), WriteFault>
+fn put_entry<W: Write>(
+    writer: &mut W,
+    index: u64,
+    names: &[ArrayString<16>],
+    entry: &Entry,
+) -> Result<(), WriteFault>
     ensures { Puts (W.contents writer.old) (W.contents writer.new) (entry_line index (texts names.now) entry.now) result }
 {
     let sense = sense_data(entry.reply.sense);
@@ -128,21 +143,38 @@ fn sense_data(sense: Option<Sense>) -> ArrayVec<u8, 18>
     }
 }
 
-fn put_unit<W: Write>(writer: &mut W, names: &[ArrayString<16>], unit: &Registry) -> Result<(), WriteFault>
+fn put_unit<W: Write>(
+    writer: &mut W,
+    names: &[ArrayString<16>],
+    unit: &Registry,
+) -> Result<(), WriteFault>
     ensures { Puts (W.contents writer.old) (W.contents writer.new) (unit_line (texts names.now) unit.now) result }
 {
     put_word(writer, Word::Text(b"unit"))?;
-    put_spaced(writer, &[Word::Generation(unit.generation()), held_word(names, unit.held())])?;
+    put_spaced(
+        writer,
+        &[
+            Word::Generation(unit.generation()),
+            held_word(names, unit.held()),
+        ],
+    )?;
     put_registrations(writer, names, unit)?;
     put(writer, b"\n")
 }
 
 #[tactic(auto, unfolding(crate::specs::Printed::printed))]
-fn put_registrations<W: Write>(writer: &mut W, names: &[ArrayString<16>], unit: &Registry) -> Result<(), WriteFault>
+fn put_registrations<W: Write>(
+    writer: &mut W,
+    names: &[ArrayString<16>],
+    unit: &Registry,
+) -> Result<(), WriteFault>
     ensures { Puts (W.contents writer.old) (W.contents writer.new) (spaced (registration_words unit.now 0 (texts names.now))) result }
 {
     for (host, name) in names.iter().enumerate() {
-        put_after_space(writer, Word::Registration(name.as_str().as_bytes(), key_of(unit, host)))?;
+        put_after_space(
+            writer,
+            Word::Registration(name.as_str().as_bytes(), key_of(unit, host)),
+        )?;
     }
     Ok(())
 }
@@ -169,7 +201,11 @@ fn held_word(names: &[ArrayString<16>], held: Option<Held>) -> Word<'_>
     }
 }
 
-fn put_ends<W: Write>(writer: &mut W, names: &[ArrayString<16>], ends: &[Ended]) -> Result<(), WriteFault>
+fn put_ends<W: Write>(
+    writer: &mut W,
+    names: &[ArrayString<16>],
+    ends: &[Ended],
+) -> Result<(), WriteFault>
     ensures { Puts (W.contents writer.old) (W.contents writer.new) (ending_lines 0 (texts names.now) ends.now) result }
 {
     for (host, ended) in ends.iter().enumerate() {
@@ -183,16 +219,45 @@ fn put_end<W: Write>(writer: &mut W, name: &[u8], end: End, sent: u32) -> Result
     ensures { Puts (W.contents writer.old) (W.contents writer.new) (ending_line name.now end sent) result }
 {
     match end {
-        End::Stopped(word) => put_ending(writer, b"host", name, b"stopped", Word::Text(word.as_str().as_bytes()), sent),
-        End::Ready(line) => put_ending(writer, b"host", name, b"ready", Word::Number(u64::from(line)), sent),
-        End::Trapped(line) => put_ending(writer, b"host", name, b"trapped", Word::Number(u64::from(line)), sent),
-        End::Left(planned) => put_ending(writer, b"guest", name, b"left", Word::Number(u64::from(planned)), sent),
+        End::Stopped(word) => {
+            let word = Word::Text(word.as_str().as_bytes());
+            put_ending(writer, b"host", name, b"stopped", word, sent)
+        }
+        End::Ready(line) => {
+            let line = Word::Number(u64::from(line));
+            put_ending(writer, b"host", name, b"ready", line, sent)
+        }
+        End::Trapped(line) => {
+            let line = Word::Number(u64::from(line));
+            put_ending(writer, b"host", name, b"trapped", line, sent)
+        }
+        End::Left(planned) => {
+            let planned = Word::Number(u64::from(planned));
+            put_ending(writer, b"guest", name, b"left", planned, sent)
+        }
     }
 }
 
 #[tactic(auto, unfolding(crate::specs::Printed::printed))]
-fn put_ending<'a, W: Write>(writer: &mut W, role: &'a [u8], name: &'a [u8], how: &'a [u8], what: Word<'a>, sent: u32) -> Result<(), WriteFault>
+fn put_ending<'a, W: Write>(
+    writer: &mut W,
+    role: &'a [u8],
+    name: &'a [u8],
+    how: &'a [u8],
+    what: Word<'a>,
+    sent: u32,
+) -> Result<(), WriteFault>
     ensures { Puts (W.contents writer.old) (W.contents writer.new) (line role.now (name.now ∷ how.now ∷ printed what.entry ∷ codes "sent" ∷ decimal sent ∷ [])) result }
 {
-    put_line(writer, Word::Text(role), &[Word::Text(name), Word::Text(how), what, Word::Text(b"sent"), Word::Number(u64::from(sent))])
+    put_line(
+        writer,
+        Word::Text(role),
+        &[
+            Word::Text(name),
+            Word::Text(how),
+            what,
+            Word::Text(b"sent"),
+            Word::Number(u64::from(sent)),
+        ],
+    )
 }

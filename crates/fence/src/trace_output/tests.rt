@@ -15,11 +15,12 @@ struct OneByte {
 
 impl Write for OneByte {
     fn write(&mut self, buf: &[u8]) -> std::io::Result<usize> {
-        if self.fill == 0 || self.taken.try_extend_from_slice(&buf[..1]).is_err() {
+        let count = buf.len().min(1);
+        if self.fill == 0 || self.taken.try_extend_from_slice(&buf[..count]).is_err() {
             return Err(Error::from(ErrorKind::Other));
         }
         self.fill -= 1;
-        Ok(1)
+        Ok(count)
     }
 
     fn flush(&mut self) -> std::io::Result<()> {
@@ -111,7 +112,12 @@ fn first_trace<W: Write>(writer: &mut W) -> Result<Result<(), WriteFault>, Fail>
     params[13] = 0x12;
     params[14] = 0x3a;
     params[15] = 0xbc;
-    let sent = entry(0, &[0x5f, 0, 0, 0, 0, 0, 0, 0, 0x18, 0], &params, bare(Status::Good))?;
+    let sent = entry(
+        0,
+        &[0x5f, 0, 0, 0, 0, 0, 0, 0, 0x18, 0],
+        &params,
+        bare(Status::Good),
+    )?;
     let unit = unit_of(&[Some(0x123abc)], None, 1)?;
     let names = [ArrayString::from("a")?];
     Ok(write_trace(writer, &names, &[sent], &unit, &[stopped("ok", 1)?]))
@@ -128,17 +134,46 @@ fn first_registration(rt: HostRuntime) -> Result<(), Fail> {
 #[test]
 fn preempted_host_ends_in_conflict(rt: HostRuntime) -> Result<(), Fail> {
     let entries = [
-        entry(0, &[0x5f, 6, 0, 0, 0, 0, 0, 0, 0x18, 0], &keys(0, 0xa1), bare(Status::Good))?,
-        entry(0, &[0x5f, 1, 5, 0, 0, 0, 0, 0, 0x18, 0], &keys(0xa1, 0), bare(Status::Good))?,
-        entry(1, &[0x5f, 4, 5, 0, 0, 0, 0, 0, 0x18, 0], &keys(0xb2, 0xa1), bare(Status::Good))?,
-        entry(0, &[0x2a, 0, 0, 0, 0, 0, 0, 0, 8, 0], &[], bare(Status::Conflict))?,
+        entry(
+            0,
+            &[0x5f, 6, 0, 0, 0, 0, 0, 0, 0x18, 0],
+            &keys(0, 0xa1),
+            bare(Status::Good),
+        )?,
+        entry(
+            0,
+            &[0x5f, 1, 5, 0, 0, 0, 0, 0, 0x18, 0],
+            &keys(0xa1, 0),
+            bare(Status::Good),
+        )?,
+        entry(
+            1,
+            &[0x5f, 4, 5, 0, 0, 0, 0, 0, 0x18, 0],
+            &keys(0xb2, 0xa1),
+            bare(Status::Good),
+        )?,
+        entry(
+            0,
+            &[0x2a, 0, 0, 0, 0, 0, 0, 0, 8, 0],
+            &[],
+            bare(Status::Conflict),
+        )?,
     ];
     let held = Held::One(Kind::WriteExclusiveRegistrantsOnly, 1);
     let unit = unit_of(&[None, Some(0xb2)], Some(held), 2)?;
-    let ends = [stopped("lost", 3)?, Ended { end: End::Left(0), sent: 1 }];
+    let ends = [
+        stopped("lost", 3)?,
+        Ended {
+            end: End::Left(0),
+            sent: 1,
+        },
+    ];
     let names = [ArrayString::from("a")?, ArrayString::from("b")?];
     let mut page = Page::new();
-    assert_eq!(rt; write_trace(&mut page, &names, &entries, &unit, &ends), Ok(()));
+    assert_eq!(rt;
+        write_trace(&mut page, &names, &entries, &unit, &ends),
+        Ok(())
+    );
     assert_eq!(rt; page.as_slice(), PREEMPTED);
     Ok(())
 }
@@ -146,11 +181,17 @@ fn preempted_host_ends_in_conflict(rt: HostRuntime) -> Result<(), Fail> {
 #[test]
 fn each_other_form(rt: HostRuntime) -> Result<(), Fail> {
     let told = Reply {
-        sense: Some(Sense { key: 6, asc: 0x29, ascq: 0 }),
+        sense: Some(Sense {
+            key: 6,
+            asc: 0x29,
+            ascq: 0,
+        }),
         ..bare(Status::CheckCondition)
     };
     let mut answered = bare(Status::Good);
-    answered.bytes.try_extend_from_slice(&[0, 0, 0, 0, 0, 0, 0, 0x10, 0x0f, 0xff])?;
+    answered
+        .bytes
+        .try_extend_from_slice(&[0, 0, 0, 0, 0, 0, 0, 0x10, 0x0f, 0xff])?;
     let entries = [
         entry(1, &[0], &[], told)?,
         entry(0, &[0x5e, 0, 0, 0, 0, 0, 0, 0, 0x0c, 0], &[], answered)?,
@@ -158,12 +199,21 @@ fn each_other_form(rt: HostRuntime) -> Result<(), Fail> {
     let held = Held::All(Kind::WriteExclusiveAllRegistrants);
     let unit = unit_of(&[Some(u64::MAX), Some(16)], Some(held), 0xfedc_ba98)?;
     let ends = [
-        Ended { end: End::Ready(u32::MAX), sent: u32::MAX },
-        Ended { end: End::Trapped(23), sent: 0 },
+        Ended {
+            end: End::Ready(u32::MAX),
+            sent: u32::MAX,
+        },
+        Ended {
+            end: End::Trapped(23),
+            sent: 0,
+        },
     ];
     let names = [ArrayString::from("a")?, ArrayString::from("host-2")?];
     let mut page = Page::new();
-    assert_eq!(rt; write_trace(&mut page, &names, &entries, &unit, &ends), Ok(()));
+    assert_eq!(rt;
+        write_trace(&mut page, &names, &entries, &unit, &ends),
+        Ok(())
+    );
     assert_eq!(rt; page.as_slice(), EACH_FORM);
     Ok(())
 }
@@ -171,7 +221,10 @@ fn each_other_form(rt: HostRuntime) -> Result<(), Fail> {
 #[test]
 fn a_failing_writer_has_what_came_before(rt: HostRuntime) -> Result<(), Fail> {
     for fill in 0..=FIRST.len() {
-        let mut writer = OneByte { taken: Page::new(), fill };
+        let mut writer = OneByte {
+            taken: Page::new(),
+            fill,
+        };
         let written = first_trace(&mut writer)?;
         assert_eq!(rt; written.is_ok(), fill == FIRST.len(), "at {fill}");
         assert_eq!(rt; writer.taken.as_slice(), &FIRST[..fill], "at {fill}");
