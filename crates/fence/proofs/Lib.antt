@@ -1,0 +1,2 @@
+pub mod LineCuts
+pub mod ReadBytes

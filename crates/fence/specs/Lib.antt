@@ -1,0 +1,4 @@
+pub mod Chain
+pub mod BytesRead
+pub mod TextLines
+pub mod WordTerms

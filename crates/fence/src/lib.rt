@@ -1,0 +1,5 @@
+//! The program `fence`.
+#![tactic(auto)]
+
+mod cutting;
+mod source;
