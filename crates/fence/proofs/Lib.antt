@@ -1,2 +1,4 @@
 pub mod LineCuts
 pub mod ReadBytes
+pub mod NumberRoom
+pub mod NameText

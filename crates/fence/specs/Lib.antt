@@ -2,3 +2,4 @@ pub mod Chain
 pub mod BytesRead
 pub mod TextLines
 pub mod WordTerms
+pub mod CommandOptions

@@ -1,6 +1,6 @@
 -- The terms that words are: names, keys and numbers.
-use Rattle.std.specs.Prelude.{ℕ, Bool, ◌+◌, ◌-◌, ◌*◌, ◌==◌, ◌||◌, ◌&&◌, nat_lt, nat_le, nat_eq, if◌then◌else◌, List, [], ◌∷◌, length, drop, slice_index, codes, Option, Some, None, fold}
-use Rattle.std.specs.List.{list_all, starts_with}
+use Rattle.std.specs.Prelude.{ℕ, Bool, ◌+◌, ◌-◌, ◌*◌, ◌==◌, ◌||◌, ◌&&◌, nat_lt, nat_le, if◌then◌else◌, List, [], ◌∷◌, length, take, drop, slice_index, codes, Option, Some, None, unwrap_or, fold, bytes_eq}
+use Rattle.std.specs.List.{list_all}
 use Rattle.pr_cdb.specs.declared.command.Kind.{Kind}
 use Rattle.pr_cdb.specs.Kinds.{kind_of_code}
 
@@ -34,9 +34,13 @@ unfoldable pub number : ℕ → List ℕ → Option ℕ
 number base digits =
     if list_all (λ b. nat_lt (worth b) base) digits then Some (fold (λ n b. base * n + worth b) 0 digits) else None
 
+-- what follows this in the word, where the word begins with it
+abbrev pub value_after : List ℕ → List ℕ → Option (List ℕ)
+value_after name word = if bytes_eq (take (length name) word) name then Some (drop (length name) word) else None
+
 -- the word without the `0x` that it may begin with
 abbrev pub without_prefix : List ℕ → List ℕ
-without_prefix word = if starts_with nat_eq word (codes "0x") then drop 2 word else word
+without_prefix word = unwrap_or (value_after (codes "0x") word) word
 
 -- the key that a word is: 1 to 16 hexadecimal digits, after an optional `0x`
 unfoldable pub key_of : List ℕ → Option ℕ

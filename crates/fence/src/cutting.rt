@@ -1,6 +1,6 @@
 //! Cutting a text into lines, and a line into words.
 
-ghost use Rattle.std.specs.Prelude.{◌≡◌, ◌+◌, ◌<◌, ◌≤◌, [], ◌∷◌, length, MatchOption, IfSome, position, option_map, option_copied, if◌then◌else◌, ◌==◌};
+ghost use Rattle.std.specs.Prelude.{◌≡◌, ◌+◌, ◌<◌, ◌≤◌, [], ◌∷◌, length, MatchOption, IfSome, position, option_map, option_copied, bytes_eq, if◌then◌else◌, ◌==◌};
 ghost use Rattle.std.specs.List.{before_first, after_first};
 ghost use Rattle.std.specs.Str.Lines.{lines, strip_carriage_return};
 ghost use Rattle.fence.specs.TextLines.{whole_lines, is_text, is_text_byte, is_blank, words, after, only, is_end};
@@ -98,12 +98,19 @@ fn blank_in(line: &[u8]) -> Option<usize>
     line.iter().position(|byte| is_blank(*byte))
 }
 
+/// Whether the word is this one.
+pub fn is(word: &[u8], text: &str) -> bool
+    ensures { result ≡ bytes_eq word.now text.now }
+{
+    word == text.as_bytes()
+}
+
 /// What stands after the line's first word, where that is `word`.
-pub fn after<'a>(word: &[u8], line: &'a [u8]) -> Option<&'a [u8]>
+pub fn after<'a>(word: &str, line: &'a [u8]) -> Option<&'a [u8]>
     ensures { option_map (λ rest. words rest.now) result ≡ after word.now (words line.now) }
 {
     let (first, rest) = next_word(line)?;
-    if first == word { Some(rest) } else { None }
+    if is(first, word) { Some(rest) } else { None }
 }
 
 /// The line's one word, where it has just one.

@@ -2,4 +2,6 @@
 #![tactic(auto)]
 
 mod cutting;
+mod options;
 mod source;
+mod terms;
