@@ -3,3 +3,4 @@ pub mod BytesRead
 pub mod TextLines
 pub mod WordTerms
 pub mod CommandOptions
+pub mod ThinText

@@ -1,7 +1,9 @@
 -- How a text is cut into lines, and a line into words.
-use Rattle.std.specs.Prelude.{ℕ, Bool, ◌==◌, ◌||◌, ◌&&◌, not, nat_le, if◌then◌else◌, List, [], ◌∷◌, length, slice_index, Option, Some, None, bytes_eq, filter, take_while}
+use Rattle.std.specs.Prelude.{ℕ, Bool, false, ◌==◌, ◌||◌, ◌&&◌, not, nat_le, if◌then◌else◌, List, [], ◌∷◌, length, slice_index, Option, Some, None, bytes_eq, filter, take_while}
 use Rattle.std.specs.List.{slice_split, list_all}
+use Rattle.std.specs.Option.{option_map_or}
 use Rattle.std.specs.Str.Lines.{strip_carriage_return}
+use Rattle.fence.specs.Chain.{◌>>=◌}
 
 -- the parts that a line end follows, without that end: a line feed, or a carriage return and a line feed
 abbrev pub whole_parts : List (List ℕ) → List (List ℕ)
@@ -46,3 +48,12 @@ only (w ∷ x ∷ ws) = None
 -- no word is left
 abbrev pub is_end : List (List ℕ) → Bool
 is_end ws = length ws == 0
+
+-- the words after these first ones
+abbrev pub after_all : List (List ℕ) → List (List ℕ) → Option (List (List ℕ))
+after_all [] ws = Some ws
+after_all (x ∷ xs) ws = after x ws >>= after_all xs
+
+-- the words are these and no more
+abbrev pub says : List (List ℕ) → List (List ℕ) → Bool
+says xs ws = option_map_or is_end (after_all xs ws) false

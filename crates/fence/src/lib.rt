@@ -5,3 +5,4 @@ mod cutting;
 mod options;
 mod source;
 mod terms;
+mod thin;
