@@ -4,3 +4,5 @@ pub mod TextLines
 pub mod WordTerms
 pub mod CommandOptions
 pub mod ThinText
+pub mod InputErrors
+pub mod ThinReading
