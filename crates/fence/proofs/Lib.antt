@@ -2,3 +2,4 @@ pub mod LineCuts
 pub mod ReadBytes
 pub mod NumberRoom
 pub mod NameText
+pub mod FrontOfText

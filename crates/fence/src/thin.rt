@@ -6,7 +6,7 @@ ghost use Rattle.std.specs.Result.{result_map_both};
 ghost use Rattle.fence.specs.BytesRead.{LosesUpTo};
 ghost use Rattle.fence.specs.InputErrors.{input_error};
 ghost use Rattle.fence.specs.ThinReading.{IsRead, AreRead, IsFaultAt};
-ghost use Rattle.fence.specs.ThinText.{seen, seen_draft, thin_of, has_key, with_keys, some_keys, keys_line, host_line, declared_key, role_line, budget_of, script_line, may_write, is_thin, sent_command, send_line, stop_line};
+ghost use Rattle.fence.specs.ThinText.{seen, seen_draft, thin_of, nothing_said, read_lines, too_long, has_key, with_keys, some_keys, keys_line, host_line, declared_key, role_line, budget_of, script_line, may_write, is_thin, sent_command, send_line, stop_line};
 
 use crate::cutting::{after, first_line, is_end, is_text, next_word, only};
 use crate::options::{Written, options_of};
@@ -117,17 +117,27 @@ pub fn thin_of_text(text: &[u8]) -> Result<Thin, InputError>
 fn thin_or_line(text: &[u8]) -> Result<Thin, u32>
     ensures { result_map_both seen (λ line. line) result ≡ thin_of text.now }
 {
-    let kept = &text[..text.len().min(MOST_BYTES)];
-    let (number, draft, rest) = whole_lines_read(kept)?;
     if text.len() > MOST_BYTES {
-        return Err(number + 1);
+        return Err(line_of_fault(&text[..MOST_BYTES]));
     }
+    let (number, draft, rest) = whole_lines_read(text)?;
     if rest.is_empty() {
         return draft.finished(number);
     }
     match draft.with_line(number + 1, rest) {
         Some(last) => last.finished(number + 1),
         None => Err(number + 1),
+    }
+}
+
+// The line of the fault of a text that begins with these bytes and goes on past the limit.
+fn line_of_fault(kept: &[u8]) -> u32
+    requires { length kept.now ≤ 65536 }
+    ensures { read_lines too_long 0 nothing_said (whole_lines kept.now) ≡ Err result }
+{
+    match whole_lines_read(kept) {
+        Ok((number, _, _)) => number + 1,
+        Err(line) => line,
     }
 }
 
