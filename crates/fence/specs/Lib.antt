@@ -3,3 +3,11 @@ pub mod PrintedLines
 pub mod Printed
 pub mod TraceText
 pub mod FaultText
+pub mod Chain
+pub mod BytesRead
+pub mod TextLines
+pub mod WordTerms
+pub mod CommandOptions
+pub mod ThinText
+pub mod InputErrors
+pub mod ThinReading
