@@ -6,3 +6,6 @@ pub mod ReadBytes
 pub mod NumberRoom
 pub mod NameText
 pub mod FrontOfText
+pub mod ThinRuns
+pub mod Steps
+pub mod Plans

@@ -8,6 +8,15 @@ pub mod BytesRead
 pub mod TextLines
 pub mod WordTerms
 pub mod CommandOptions
+pub mod ThinCommands
 pub mod ThinText
 pub mod InputErrors
 pub mod ThinReading
+pub mod Scripts
+pub mod Takes
+pub mod Worlds
+pub mod ThinScripts
+pub mod Replays
+pub mod Replayed
+pub mod InputFaults
+pub mod Commands

@@ -8,15 +8,16 @@ use Rattle.std.specs.List.{list_any}
 use Rattle.std.specs.Option.{option_or, option_map_or}
 use Rattle.std.specs.Str.Lines.{lines}
 use Rattle.pr_cdb.specs.declared.command.Command.{Command}
-use Rattle.pr_cdb.specs.declared.command.Command.TheVariants.{TestUnitReady, ReadKeys, Register, RegisterIgnore}
+use Rattle.pr_cdb.specs.declared.command.Command.TheVariants.{ReadKeys}
 use Rattle.fence.specs.declared.thin.Awaited.{Awaited}
 use Rattle.fence.specs.declared.thin.Awaited.TheVariants.{Fence, Keys, Host, RoleOrScript, Script, Send, OnGood, StopOrDone, Done, End, Nothing}
-use Rattle.fence.specs.declared.thin.Thin.{Thin}
+use Rattle.fence.specs.declared.thin_scenario.Thin.{Thin}
 use Rattle.fence.specs.declared.thin.Draft.{Draft}
 use Rattle.fence.specs.declared.options.Written.{Written}
 use Rattle.fence.specs.Chain.{◌>>=◌}
 use Rattle.fence.specs.TextLines.{is_text, words, after_all, only, says, whole_lines}
 use Rattle.fence.specs.WordTerms.{key_of, decimal_of, name_of}
+use Rattle.fence.specs.ThinCommands.{is_thin}
 use Rattle.fence.specs.CommandOptions.{unwritten, with_options, command_of}
 
 -- what a thin text says: the declared keys, the host, the key that its role lets it register, the budget of
@@ -32,7 +33,7 @@ pub record ThinScenario : Type 0 where
 
 -- nothing is said yet: each line writes its own part over this
 abbrev pub blank : ThinScenario
-blank = record { keys = []; host = []; role = None; budget = 0; line = 0; command = TestUnitReady; stop = None }
+blank = record { keys = []; host = []; role = None; budget = 0; line = 0; command = ReadKeys 0; stop = None }
 
 abbrev pub has_key : List ℕ → ℕ → Bool
 has_key keys key = list_any (λ k. k == key) keys
@@ -74,13 +75,6 @@ script_line host ws = after_all (codes "script" ∷ host ∷ codes "budget" ∷ 
 -- a key that an option writes is declared, or zero
 abbrev pub may_write : List ℕ → Option ℕ → Bool
 may_write keys key = option_map_or (λ k. k == 0 || has_key keys k) key true
-
--- the three commands that a thin text may send
-abbrev pub is_thin : Command → Bool
-is_thin (Register rk sark) = true
-is_thin (RegisterIgnore sark) = true
-is_thin (ReadKeys alloc) = true
-is_thin _ = false
 
 unfoldable pub sent_command : List ℕ → Written → Option Command
 sent_command keys w =

@@ -1,17 +1,19 @@
 //! The private reader of thin texts: one host, one script, one command.
 
-ghost use Rattle.std.specs.Prelude.{◌≡◌, [], ◌∷◌, ◌+◌, ◌≤◌, ◌<◌, ◌^◌, ℕ, codes, length, option_map, OnErr, IfOk, IfErr, IfSome};
+ghost use Rattle.std.specs.Prelude.{◌≡◌, [], ◌∷◌, ◌+◌, ◌≤◌, ◌<◌, ◌^◌, ℕ, codes, length, option_map, OnErr, IsTrue, IfOk, IfErr, IfSome};
 ghost use Rattle.fence.specs.TextLines.{words, says, whole_lines};
 ghost use Rattle.std.specs.Result.{result_map_both};
 ghost use Rattle.fence.specs.BytesRead.{LosesUpTo};
 ghost use Rattle.fence.specs.InputErrors.{input_error};
 ghost use Rattle.fence.specs.ThinReading.{IsRead, AreRead, IsFaultAt};
-ghost use Rattle.fence.specs.ThinText.{seen, seen_draft, thin_of, nothing_said, read_lines, too_long, has_key, with_keys, some_keys, keys_line, host_line, declared_key, role_line, budget_of, script_line, may_write, is_thin, sent_command, send_line, stop_line};
+ghost use Rattle.fence.specs.ThinCommands.{is_thin};
+ghost use Rattle.fence.specs.ThinText.{seen, seen_draft, thin_of, nothing_said, read_lines, too_long, has_key, with_keys, some_keys, keys_line, host_line, declared_key, role_line, budget_of, script_line, may_write, sent_command, send_line, stop_line};
 
 use crate::cutting::{after, first_line, is_end, is_text, next_word, only};
 use crate::options::{Written, options_of};
 use crate::source::{SourceFault, all_bytes};
 use crate::terms::{Word, decimal_of, key_of, name_of};
+use crate::thin_scenario::Thin;
 use arrayvec::ArrayVec;
 use pr_cdb::Command;
 use std::alloc::Global;
@@ -25,25 +27,6 @@ const MOST_LINE_BYTES: usize = 256;
 const MOST_KEYS: usize = 12;
 
 const MOST_BUDGET: u64 = 4_096;
-
-/// What a thin text says.
-#[derive(Drop)]
-pub struct Thin {
-    /// The declared keys, none of them zero.
-    pub keys: ArrayVec<u64, 12>,
-    /// The name of the host.
-    pub host: Word,
-    /// The key that the host's role lets it register.
-    pub role: Option<u64>,
-    /// The most commands that the script may send, as it says itself.
-    pub budget: u32,
-    /// The line of the `send`.
-    pub line: u32,
-    /// The command that is sent.
-    pub command: Command,
-    /// The word with which the script stops after GOOD.
-    pub stop: Option<Word>,
-}
 
 // What the next line with words may be.
 #[derive(Clone, Copy, Debug, PartialEq, Eq)]
@@ -180,7 +163,7 @@ impl Draft {
                 role: None,
                 budget: 0,
                 line: 0,
-                command: Command::TestUnitReady,
+                command: Command::ReadKeys { alloc: 0 },
                 stop: None,
             },
         }
@@ -427,7 +410,8 @@ fn budget_of(word: &[u8]) -> Option<u32>
 // The command of the line `send COMMAND`.
 #[tactic(auto, unfolding(crate::specs::ThinText::send_line))]
 fn send_line(keys: &[u64], line: &[u8]) -> Option<Command>
-    ensures { result ≡ send_line keys.now (words line.now) }
+    ensures read { result ≡ send_line keys.now (words line.now) }
+    ensures served { IfSome result (λ c. IsTrue (is_thin c)) }
 {
     let rest = after("send", line)?;
     sent_command(keys, &options_of(rest)?)
@@ -436,7 +420,8 @@ fn send_line(keys: &[u64], line: &[u8]) -> Option<Command>
 // The command that the options spell, where a thin text may send it.
 #[tactic(auto, unfolding(crate::specs::ThinText::sent_command))]
 fn sent_command(keys: &[u64], written: &Written) -> Option<Command>
-    ensures { result ≡ sent_command keys.now written.now }
+    ensures read { result ≡ sent_command keys.now written.now }
+    ensures served { IfSome result (λ c. IsTrue (is_thin c)) }
 {
     let command = written.command()?;
     if is_thin(command) && may_write(keys, written.rk) && may_write(keys, written.sark) {

@@ -4,6 +4,7 @@ use Rattle.std.specs.FinSet as set
 use Rattle.std.proofs.lemmas.Bool.Decides.{nat_tests}
 use Rattle.pr_cdb.specs.declared.command.Command.{Command}
 use Rattle.pr_cdb.specs.declared.reply.Sense.{Sense}
+use Rattle.pr_cdb.specs.declared.reply.Reply.{Reply}
 use Rattle.pr_cdb.specs.declared.wire.Request.{Request}
 use Rattle.pr_cdb.specs.declared.wire.Request.TheVariants.{Plain}
 use Rattle.pr_registry.specs.Hosts.{nobody, just}
@@ -12,11 +13,11 @@ use Rattle.pr_registry.specs.Changes.{no_change, is_told_of_loss, change_on_unre
 use Rattle.pr_registry.specs.Effects.{after, change_on_register, change}
 use Rattle.pr_registry.proofs.Sets.{contains-nobody}
 use Rattle.pr_unit.specs.Attentions.{Pairs, each_with, power_on, reservations_preempted, reservations_released, registrations_preempted}
-use Rattle.pr_unit.specs.UnitStates.{quiet, is_pending, is_any_pending, told}
+use Rattle.pr_unit.specs.UnitStates.{UnitState, quiet, is_pending, is_any_pending, told}
 use Rattle.pr_unit.specs.Conflicts.{conflicts, is_wrong_key}
 use Rattle.pr_unit.specs.Faults.{fault}
 use Rattle.pr_unit.specs.Replies.{good, check, conflict, data_of}
-use Rattle.pr_unit.specs.Steps.{PowerOn, Conflicting, Attention, last_line, line, StepBy, Step}
+use Rattle.pr_unit.specs.Steps.{PowerOn, Conflicting, Attention, last_line, line, StepBy, Step, LowestBy, TakenStep}
 use Rattle.pr_unit.proofs.Pairs.{same_pairs, contains-none, contains-union-pairs, contains-each_with}
 
 none_pending : (u : State) (h code : ℕ) → is_pending (quiet u) h code ≡ false
@@ -29,14 +30,27 @@ line-quiet u h q =
     if none_pending u h power_on i || (none_pending u h reservations_preempted i || (none_pending u h reservations_released i || (none_pending u h registrations_preempted i || false)))
     then Attention else last_line (fault u h q)))
 
-pub step_conflict : (u : State) (h : ℕ) (q : Request) → conflicts u h q ≡ true → Step (quiet u) h q conflict (quiet u)
-step_conflict u h q is =
-    subst (λ l. StepBy l (quiet u) h q conflict (quiet u)) (sym (line-quiet u h q ∙ ap (λ b. if b then Conflicting else last_line (fault u h q)) is)) (refl, refl)
+-- nothing is pending that could be reported
+lowest_of_none : (u : State) (h : ℕ) (q : Request) (r : Reply) → LowestBy (line (quiet u) h q) (quiet u) h q r
+lowest_of_none u h q r =
+    subst (λ l. LowestBy l (quiet u) h q r) (sym (line-quiet u h q)) (at (conflicts u h q) (fault u h q))
+  where
+    at : (b : Bool) (o : Option Sense) → LowestBy (if b then Conflicting else last_line o) (quiet u) h q r
+    at true o = tt
+    at false None = tt
+    at false (Some sense) = tt
 
-pub step_fault : (u : State) (h : ℕ) (q : Request) (sense : Sense) → conflicts u h q ≡ false → fault u h q ≡ Some sense → Step (quiet u) h q (check sense) (quiet u)
-step_fault u h q sense free is =
+taken : (u : State) (h : ℕ) (q : Request) (r : Reply) (v : UnitState) → Step (quiet u) h q r v → TakenStep (quiet u) h q r v
+taken u h q r v step = record { step = step; lowest = lowest_of_none u h q r }
+
+pub step_conflict : (u : State) (h : ℕ) (q : Request) → conflicts u h q ≡ true → TakenStep (quiet u) h q conflict (quiet u)
+step_conflict u h q is = taken u h q conflict (quiet u) (
+    subst (λ l. StepBy l (quiet u) h q conflict (quiet u)) (sym (line-quiet u h q ∙ ap (λ b. if b then Conflicting else last_line (fault u h q)) is)) (refl, refl))
+
+pub step_fault : (u : State) (h : ℕ) (q : Request) (sense : Sense) → conflicts u h q ≡ false → fault u h q ≡ Some sense → TakenStep (quiet u) h q (check sense) (quiet u)
+step_fault u h q sense free is = taken u h q (check sense) (quiet u) (
     subst (λ l. StepBy l (quiet u) h q (check sense) (quiet u))
-    (sym (line-quiet u h q ∙ ap (λ b. if b then Conflicting else last_line (fault u h q)) free ∙ ap last_line is)) (refl, refl)
+    (sym (line-quiet u h q ∙ ap (λ b. if b then Conflicting else last_line (fault u h q)) free ∙ ap last_line is)) (refl, refl))
 
 -- whom nobody is told, nothing is pending for
 each_with-nobody : (code : ℕ) → each_with nobody code ≡ set.empty
@@ -70,11 +84,11 @@ told-change_on_register u h key pending free = at (key == 0 && is_registered u h
     at false = told-no_change pending
 
 pub step_done : (u v : State) (h : ℕ) (c : Command) → conflicts u h (Plain c) ≡ false → fault u h (Plain c) ≡ None → told set.empty (change u h c) ≡ set.empty → v ≡ after u h c
-    → Step (quiet u) h (Plain c) (good (data_of u c)) (quiet v)
-step_done u v h c free whole silent is =
+    → TakenStep (quiet u) h (Plain c) (good (data_of u c)) (quiet v)
+step_done u v h c free whole silent is = taken u h (Plain c) (good (data_of u c)) (quiet v) (
     subst (λ l. StepBy l (quiet u) h (Plain c) (good (data_of u c)) (quiet v))
     (sym (line-quiet u h (Plain c) ∙ ap (λ b. if b then Conflicting else last_line (fault u h (Plain c))) free ∙ ap last_line whole))
-    (refl, (λ i. record { registry = is i; pending = sym silent i }))
+    (refl, (λ i. record { registry = is i; pending = sym silent i })))
 
 -- the key that REGISTER needs is the registered one, or zero
 pub wrong_key : (o : Option ℕ) (rk : ℕ) → is_wrong_key o rk ≡ not (unwrap_or o 0 == rk)

@@ -1,5 +1,5 @@
 -- What the logical unit may answer to a request, and the state that it is in then.
-use Rattle.std.specs.Prelude.{◌≡◌, ℕ, IsTrue, if◌then◌else◌, Option, Some, None, Result, Ok, Err}
+use Rattle.std.specs.Prelude.{◌≡◌, ℕ, ◌≤◌, true, IsTrue, if◌then◌else◌, Option, Some, None, Result, Ok, Err}
 use Rattle.pr_cdb.specs.declared.command.Command.TheVariants.{Register, RegisterIgnore, ReadKeys}
 use Rattle.pr_cdb.specs.declared.reply.Sense.{Sense}
 use Rattle.pr_cdb.specs.declared.reply.Reply.{Reply}
@@ -60,10 +60,25 @@ StepBy Done u h q r u' = IsDone u h q r u'
 abbrev pub Step : UnitState → ℕ → Request → Reply → UnitState → Type 0
 Step u h q r u' = StepBy (line u h q) u h q r u'
 
--- In state u, the bytes of a command of host h may be answered so, and then the state is u'. Bytes that
+-- of the attentions that are pending, the reply reports the lowest
+pub record ReportsLowest (u : UnitState) (h : ℕ) (q : Request) (r : Reply) : Type 0 where
+  pub code : ℕ
+  pub reply : r ≡ report q code
+  pub least : (other : ℕ) → is_pending u h other ≡ true → code ≤ other
+
+abbrev pub LowestBy : Line → UnitState → ℕ → Request → Reply → Type 0
+LowestBy Attention u h q r = ReportsLowest u h q r
+LowestBy _ u h q r = Unit {0}
+
+-- The step that this unit takes: where it may choose, it reports the lowest code.
+pub record TakenStep (u : UnitState) (h : ℕ) (q : Request) (r : Reply) (u' : UnitState) : Type 0 where
+  pub step : Step u h q r u'
+  pub lowest : LowestBy (line u h q) u h q r
+
+-- In state u, this unit answers the bytes of a command of host h so, and then the state is u'. Bytes that
 -- are no request change nothing.
 abbrev pub Executes : UnitState → ℕ → Result Request Bad → Result Reply Bad → UnitState → Type 0
-Executes u h (Ok q) (Ok r) u' = Step u h q r u'
+Executes u h (Ok q) (Ok r) u' = TakenStep u h q r u'
 Executes u h (Err bad) (Err b) u' = (b ≡ bad) × (u' ≡ u)
 Executes u h _ _ u' = ⊥
 

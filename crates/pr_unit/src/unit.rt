@@ -34,7 +34,7 @@ impl Unit {
     ghost use Rattle.pr_cdb.specs.declared.wire.Request.TheVariants.{Plain, Faulty};
     ghost use Rattle.pr_cdb.specs.declared.command.Command.TheVariants.{Register, RegisterIgnore, ReadKeys};
     ghost use Rattle.pr_unit.specs.UnitStates.{quiet};
-    ghost use Rattle.pr_unit.specs.Steps.{Executes, Step, IsRegisteringOrReadingKeys};
+    ghost use Rattle.pr_unit.specs.Steps.{Executes, TakenStep, IsRegisteringOrReadingKeys};
 
     /// A unit of so many hosts with nothing registered, reserved or pending, and generation 0.
     pub fn new(hosts: u8) -> Self
@@ -86,7 +86,7 @@ impl Unit {
     fn register(&mut self, host: u8, rk: u64, sark: u64) -> Reply
         requires there { host < self.old.registry.hosts }
         requires unreserved { self.old.registry.held ≡ None }
-        ensures { Step self.old host (Plain (Register rk sark)) result self.new }
+        ensures { TakenStep self.old host (Plain (Register rk sark)) result self.new }
     {
         let key = self.registry.key(host).unwrap_or(0);
         if key != rk {
@@ -100,7 +100,7 @@ impl Unit {
     fn register_ignore(&mut self, host: u8, sark: u64) -> Reply
         requires there { host < self.old.registry.hosts }
         requires unreserved { self.old.registry.held ≡ None }
-        ensures { Step self.old host (Plain (RegisterIgnore sark)) result self.new }
+        ensures { TakenStep self.old host (Plain (RegisterIgnore sark)) result self.new }
     {
         let _ = &self.registry;
         self.set_key(host, sark);
@@ -122,7 +122,7 @@ impl Unit {
     // READ KEYS, whose data is cut at the allocation length.
     fn read_keys(&self, host: u8, alloc: u16) -> Reply
         requires { self.now.registry.held ≡ None }
-        ensures { Step self.now host (Plain (ReadKeys alloc)) result self.now }
+        ensures { TakenStep self.now host (Plain (ReadKeys alloc)) result self.now }
     {
         let keys = self.registry.keys();
         reply::good(reply::cut(keys_data(self.registry.generation(), &keys), alloc))
@@ -130,7 +130,7 @@ impl Unit {
 
     // Bytes at fault never conflict.
     fn at_fault(&self, host: u8, sense: Sense) -> Reply
-        ensures { Step self.now host (Faulty sense) result self.now }
+        ensures { TakenStep self.now host (Faulty sense) result self.now }
     {
         let _ = &self.registry;
         reply::check(sense)
