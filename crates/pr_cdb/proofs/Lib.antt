@@ -1,2 +1,3 @@
 pub mod ReadsInRange
 pub mod ReadsWritten
+pub mod ReadsData

@@ -1,5 +1,5 @@
 -- The data that replies carry.
-use Rattle.std.specs.Prelude.{ℕ, zero, suc, ◌+◌, ◌-◌, ◌*◌, ◌/◌, ◌%◌, ◌==◌, ◌||◌, nat_lt, min, if◌then◌else◌, List, [], ◌∷◌, ◌++◌, length, take, slice_index, Option, Some, None}
+use Rattle.std.specs.Prelude.{ℕ, zero, suc, ◌+◌, ◌-◌, ◌*◌, ◌/◌, ◌%◌, ◌<◌, ◌^◌, ◌==◌, ◌||◌, not, nat_lt, min, if◌then◌else◌, List, [], ◌∷◌, ◌++◌, length, take, slice_index, Option, Some, None}
 use Rattle.std.specs.Int.{w32, w64, to_be_bytes}
 use Rattle.std.specs.List.{flat_map}
 use Rattle.pr_cdb.specs.declared.command.Kind.{Kind}
@@ -11,6 +11,13 @@ use Rattle.pr_cdb.specs.Bytes.{be32, be64}
 unfoldable pub sense_bytes : Sense → List ℕ
 sense_bytes s =
     0x70 ∷ 0 ∷ s.key % 16 ∷ 0 ∷ 0 ∷ 0 ∷ 0 ∷ 0x0a ∷ 0 ∷ 0 ∷ 0 ∷ 0 ∷ s.asc ∷ s.ascq ∷ 0 ∷ 0 ∷ 0 ∷ 0 ∷ []
+
+-- What sense data in fixed format reports: at least 14 bytes are there, and the low seven bits of the
+-- first are 70h.
+unfoldable pub sense_in : List ℕ → Option Sense
+sense_in bytes =
+    if nat_lt (length bytes) 14 || not (slice_index bytes 0 % 128 == 0x70) then None else
+    Some (record { key = slice_index bytes 2 % 16; asc = slice_index bytes 12; ascq = slice_index bytes 13 })
 
 -- READ KEYS: the generation, the additional length, and each registered nexus's key, equal ones repeated
 -- (SPC-4, 'READ KEYS service action')
@@ -25,6 +32,16 @@ reservation_bytes generation None = to_be_bytes w32 generation ++ to_be_bytes w3
 reservation_bytes generation (Some r) =
     to_be_bytes w32 generation ++ to_be_bytes w32 16 ++ to_be_bytes w64 r.0
     ++ (0 ∷ 0 ∷ 0 ∷ 0 ∷ 0 ∷ code_of r.1 ∷ 0 ∷ 0 ∷ [])
+
+-- the key of a reservation has 64 bits
+abbrev pub HasKey : Option (ℕ × Kind) → Type 0
+HasKey None = Unit {0}
+HasKey (Some r) = r.0 < 2 ^ 64
+
+-- what the data of READ RESERVATION says of a reservation: its key and its type, under scope 0
+abbrev pub holder : Option (ℕ × Kind) → Option (ℕ × ℕ)
+holder None = None
+holder (Some r) = Some (r.0, code_of r.1)
 
 -- REPORT CAPABILITIES of this unit: 8 bytes, of which the type mask is valid and has all six types
 -- (SPC-4, 'REPORT CAPABILITIES service action')

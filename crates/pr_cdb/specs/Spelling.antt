@@ -1,7 +1,7 @@
 -- The bytes of each command, with zero in every field that the command does not name (SPC-4, 'TEST UNIT
 -- READY', 'REQUEST SENSE', 'PERSISTENT RESERVE IN' and 'PERSISTENT RESERVE OUT command'; SBC-3, 'READ
 -- (10)' and 'WRITE (10) command').
-use Rattle.std.specs.Prelude.{ℕ, List, [], ◌∷◌, ◌++◌, Option, Some, None}
+use Rattle.std.specs.Prelude.{ℕ, List, [], ◌∷◌, ◌++◌, Option}
 use Rattle.std.specs.Option.{option_map_or}
 use Rattle.std.specs.Int.{w16, w32, w64, to_be_bytes}
 use Rattle.pr_cdb.specs.declared.command.Kind.{Kind}

@@ -17,9 +17,12 @@ mod wire;
 mod writing;
 
 pub use command::{Command, Kind};
-pub use parameter_data::{keys_data, keys_of};
+pub use parameter_data::{capabilities, holder_of, keys_data, keys_of, reservation_data};
 pub use reading::{decode, reads_in_range};
 pub use reply::{Reply, Sense, Status};
-pub use sense_data::encode_sense;
+pub use sense_data::{decode_sense, encode_sense};
 pub use wire::{Bad, Request, Wire};
 pub use writing::{encode, reads_what_is_written};
+
+#[cfg(test)]
+mod tests;

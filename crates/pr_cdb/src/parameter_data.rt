@@ -1,15 +1,25 @@
 //! The data that PERSISTENT RESERVE IN returns.
 
-ghost use Rattle.std.specs.Prelude.{◌≡◌, ◌≤◌, length};
-ghost use Rattle.pr_cdb.specs.ReplyData.{keys_bytes, keys_in};
+ghost use Rattle.std.specs.Prelude.{◌≡◌, ◌≤◌, Some, length};
+ghost use Rattle.pr_cdb.specs.ReplyData.{keys_bytes, keys_in, reservation_bytes, capabilities_bytes, holder, HasKey, holder_in};
 
+use crate::command::Kind;
+use crate::wire::copied;
 use arrayvec::ArrayVec;
 use byteorder::{BigEndian, ByteOrder};
 
 /// The data of READ KEYS, whole: the generation, the additional length in bytes, and then each key in 8
 /// bytes (SPC-4, 'READ KEYS service action').
-#[tactic(auto, unfolding(crate::specs::ReplyData::keys_bytes))]
 pub fn keys_data(generation: u32, keys: &[u64]) -> ArrayVec<u8, 72>
+    requires { length keys.now ≤ 8 }
+    ensures bytes { result.items ≡ keys_bytes generation keys.now }
+    ensures read_again { keys_in result.items ≡ keys.now }
+{
+    keys_written(generation, keys)
+}
+
+#[tactic(auto, unfolding(crate::specs::ReplyData::keys_bytes))]
+fn keys_written(generation: u32, keys: &[u64]) -> ArrayVec<u8, 72>
     requires { length keys.now ≤ 8 }
     ensures { result.items ≡ keys_bytes generation keys.now }
 {
@@ -41,4 +51,58 @@ pub fn keys_of(bytes: &[u8]) -> ArrayVec<u64, 8>
         keys.push(BigEndian::read_u64(&bytes[8 + 8 * place..]));
     }
     keys
+}
+
+/// The data of READ RESERVATION, whole: the generation, the additional length in bytes, and for a
+/// reservation its key and its type, under the scope of the logical unit (SPC-4, 'READ RESERVATION service
+/// action').
+pub fn reservation_data(generation: u32, held: Option<(u64, Kind)>) -> ArrayVec<u8, 24>
+    ensures bytes { result.items ≡ reservation_bytes generation held }
+    ensures read_again { holder_in result.items ≡ Some (holder held) }
+{
+    reservation_written(generation, held)
+}
+
+#[tactic(auto, unfolding(crate::specs::ReplyData::reservation_bytes))]
+fn reservation_written(generation: u32, held: Option<(u64, Kind)>) -> ArrayVec<u8, 24>
+    ensures bytes { result.items ≡ reservation_bytes generation held }
+    ensures fits { HasKey held }
+{
+    let mut data = [0; 24];
+    BigEndian::write_u32(&mut data, generation);
+    let Some((key, kind)) = held else {
+        return copied(&data[..8]);
+    };
+    data[7] = 16;
+    BigEndian::write_u64(&mut data[8..], key);
+    data[21] = kind.code();
+    copied(&data)
+}
+
+/// The data of REPORT CAPABILITIES, whole: all six types, and no other capability (SPC-4, 'REPORT
+/// CAPABILITIES service action').
+#[tactic(auto, unfolding(crate::specs::ReplyData::capabilities_bytes))]
+pub fn capabilities() -> [u8; 8]
+    ensures { result ≡ capabilities_bytes }
+{
+    [0x00, 0x08, 0x00, 0x80, 0xea, 0x01, 0x00, 0x00]
+}
+
+/// What the data of READ RESERVATION says, of which the end may be cut off: `Some(None)` where nothing is
+/// reserved, else the key and the byte of scope and type; `None` where these bytes don't tell.
+#[tactic(auto, unfolding(crate::specs::ReplyData::holder_in, crate::specs::Bytes::be32, crate::specs::Bytes::be64))]
+pub fn holder_of(bytes: &[u8]) -> Option<Option<(u64, u8)>>
+    ensures { result ≡ holder_in bytes.now }
+{
+    if bytes.len() < 8 {
+        return None;
+    }
+    let length = BigEndian::read_u32(&bytes[4..]);
+    if length == 0 {
+        return Some(None);
+    }
+    if bytes.len() < 22 || length < 14 {
+        return None;
+    }
+    Some(Some((BigEndian::read_u64(&bytes[8..]), bytes[21])))
 }

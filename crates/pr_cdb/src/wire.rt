@@ -45,7 +45,7 @@ pub enum Bad {
     Short,
 
     /// This operation code is one that the unit does not model.
-    #[error("2 NotModelled {0:02x}")]
+    #[error("2 NotModelled({0:02x}h)")]
     NotModelled(u8),
 }
 
