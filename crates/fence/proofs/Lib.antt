@@ -1,3 +1,11 @@
 pub mod Fronts
 pub mod KeyDigits
 pub mod TraceSteps
+pub mod LineCuts
+pub mod ReadBytes
+pub mod NumberRoom
+pub mod NameText
+pub mod FrontOfText
+pub mod ThinRuns
+pub mod Steps
+pub mod Plans

@@ -1,5 +1,5 @@
 -- The data that replies carry.
-use Rattle.std.specs.Prelude.{ℕ, zero, suc, ◌+◌, ◌-◌, ◌*◌, ◌/◌, ◌%◌, nat_lt, min, if◌then◌else◌, List, [], ◌∷◌, ◌++◌, length, take, Option, Some, None}
+use Rattle.std.specs.Prelude.{ℕ, zero, suc, ◌+◌, ◌-◌, ◌*◌, ◌/◌, ◌%◌, ◌==◌, ◌||◌, nat_lt, min, if◌then◌else◌, List, [], ◌∷◌, ◌++◌, length, take, slice_index, Option, Some, None}
 use Rattle.std.specs.Int.{w32, w64, to_be_bytes}
 use Rattle.std.specs.List.{flat_map}
 use Rattle.pr_cdb.specs.declared.command.Kind.{Kind}
@@ -43,6 +43,15 @@ key_count bytes = min 8 (min ((length bytes - 8) / 8) (be32 bytes 4 / 8))
 -- the keys that the data of READ KEYS has, of which the end may be cut off
 unfoldable pub keys_in : List ℕ → List ℕ
 keys_in bytes = if nat_lt (length bytes) 8 then [] else first_keys (key_count bytes) bytes
+
+-- What the data of READ RESERVATION says, of which the end may be cut off: nothing where the additional
+-- length is cut off, no reservation, or the key and the byte of scope and type where that byte is there.
+unfoldable pub holder_in : List ℕ → Option (Option (ℕ × ℕ))
+holder_in bytes =
+    if nat_lt (length bytes) 8 then None else (
+    if be32 bytes 4 == 0 then Some None else (
+    if nat_lt (length bytes) 22 || nat_lt (be32 bytes 4) 14 then None else
+    Some (Some (be64 bytes 8, slice_index bytes 21))))
 
 -- data cut at the allocation length (SPC-4, 'Allocation length')
 abbrev pub cut : ℕ → List ℕ → List ℕ

@@ -2,3 +2,5 @@ pub mod Sets
 pub mod Bits
 pub mod Tables
 pub mod States
+pub mod Told
+pub mod Values

@@ -1,11 +1,13 @@
 //! The registrations, the reservation and the generation.
 
 ghost use Rattle.std.specs.Prelude.{◌≡◌, ◌<◌, ◌≤◌, ◌↔◌, IsTrue, IsSome, IfSome, None, length};
+ghost use Rattle.std.specs.FinMap as map;
 
 use crate::change::Change;
 use crate::held::Held;
 use crate::table;
 use crate::table::MOST_HOSTS;
+use arrayvec::ArrayVec;
 use std::marker::Model;
 
 /// Who is registered with which key, the reservation, and PRGENERATION (SPC-4, 'Persistent
@@ -95,6 +97,13 @@ impl Registry {
         ensures { result ≡ key_of self.now host }
     {
         self.slots[usize::from(host)]
+    }
+
+    /// The key of each registered host, in the order of their numbers; equal keys are repeated.
+    pub fn keys(&self) -> ArrayVec<u64, 8>
+        ensures { result.items ≡ map.values self.now.keys }
+    {
+        table::keys(&self.slots)
     }
 
     /// The reservation.

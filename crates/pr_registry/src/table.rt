@@ -11,6 +11,7 @@ ghost use Rattle.pr_registry.specs.Effects.{held_by_rest};
 
 use crate::held::Held;
 use crate::host_set::HostSet;
+use arrayvec::ArrayVec;
 use pr_cdb::Kind;
 
 /// How many hosts a logical unit serves at most.
@@ -181,4 +182,18 @@ pub(crate) fn remove(slots: &mut [Option<u64>; 8], host: u8)
     ensures { table_keys 8 slots.new ≡ without (table_keys 8 slots.old) (just host) }
 {
     slots[usize::from(host)] = None;
+}
+
+/// The keys, in the order of the hosts.
+pub(crate) fn keys(slots: &[Option<u64>; 8]) -> ArrayVec<u64, 8>
+    ensures { result.items ≡ map.values (table_keys 8 slots.now) }
+{
+    let mut keys = ArrayVec::new();
+    for slot in slots {
+        match *slot {
+            Some(key) => keys.push(key),
+            None => {}
+        }
+    }
+    keys
 }

@@ -1,0 +1,99 @@
+//! The program `fence`: it runs SCSI fencing scripts against one logical unit that behaves as SPC-4 says,
+//! and writes a trace of the commands and replies.
+#![tactic(auto)]
+
+mod command_line;
+mod commands;
+mod cutting;
+mod fault;
+mod options;
+mod output;
+mod printing;
+mod replay;
+mod source;
+mod terms;
+mod thin;
+mod thin_scenario;
+mod trace_output;
+
+use crate::command_line::matches_of;
+use crate::commands::do_replay;
+use crate::fault::{Fault, Status, tell};
+use clap::ArgMatches;
+use clap::error::ErrorKind;
+use std::alloc::{AllocError, Global};
+use std::fs::File;
+use std::io;
+use std::process::ExitCode;
+use std::{env, fs};
+
+fn main(rt: HostRuntime) -> ExitCode {
+    ExitCode::from(run(&rt).exit_status())
+}
+
+// Reads the command line and does what it says.
+fn run(rt: &HostRuntime) -> Status {
+    let Ok(words) = words(rt) else {
+        return fail(rt, Fault::Memory);
+    };
+    match matches_of(rt.alloc(), &words) {
+        Ok(matches) => run_matches(rt, &matches),
+        Err(error) => refuse(rt, &error),
+    }
+}
+
+// The words of the command line, the program's own name the first.
+fn words(rt: &HostRuntime) -> io::Result<Vec<String>> {
+    let mut words = Vec::new(rt.alloc());
+    for word in env::args(rt)? {
+        words.push(word)?;
+    }
+    Ok(words)
+}
+
+fn run_matches(rt: &HostRuntime, matches: &ArgMatches<'_>) -> Status {
+    let Some(("replay", arguments)) = matches.subcommand() else {
+        return fail(rt, Fault::Usage);
+    };
+    let (Some(path), Some(steps)) = (arguments.get_str("FILE"), arguments.get_strs("STEP")) else {
+        return fail(rt, Fault::Usage);
+    };
+    replay_path(rt, path, steps)
+}
+
+// `fence replay FILE STEP..`, where `-` is standard input.
+fn replay_path(rt: &HostRuntime, path: &str, steps: &[&str]) -> Status {
+    let mut output = rt.stdout();
+    let mut errors = rt.stderr();
+    if path == "-" {
+        return do_replay(rt.alloc(), steps, &mut rt.stdin(), &mut output, &mut errors);
+    }
+    match fs::open(rt, path) {
+        Ok(mut file) => do_replay(rt.alloc(), steps, &mut file, &mut output, &mut errors),
+        Err(error) => fail(rt, file_fault(&error)),
+    }
+}
+
+// Why a path was not opened.
+fn file_fault(error: &io::Error) -> Fault {
+    if error.kind() == io::ErrorKind::OutOfMemory {
+        Fault::Memory
+    } else {
+        Fault::File
+    }
+}
+
+// Tells a fault that comes before any text is read.
+fn fail(rt: &HostRuntime, fault: Fault) -> Status {
+    tell(&mut rt.stderr(), &fault);
+    fault.status()
+}
+
+// Tells why the command line is none; help is told so too.
+fn refuse(rt: &HostRuntime, error: &clap::Error) -> Status {
+    if error.kind() == ErrorKind::OutOfMemory {
+        return fail(rt, Fault::Memory);
+    }
+    let _ = rt.eprint(error);
+    Status::Usage
+}

@@ -1,0 +1,4 @@
+pub mod Pairs
+pub mod WellFormed
+pub mod GoodFixed
+pub mod Quiet

@@ -1,0 +1,5 @@
+use Rattle.pr_unit.proofs.WellFormed.{effects_are_well_formed}
+use Rattle.pr_unit.proofs.laws.effects_are_well_formed.Goals as goal
+
+pub returns : goal.returns
+returns c = effects_are_well_formed

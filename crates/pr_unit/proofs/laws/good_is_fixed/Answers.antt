@@ -1,0 +1,5 @@
+use Rattle.pr_unit.proofs.GoodFixed.{good_is_fixed}
+use Rattle.pr_unit.proofs.laws.good_is_fixed.Goals as goal
+
+pub returns : goal.returns
+returns c = good_is_fixed

@@ -1,0 +1,83 @@
+-- Which commands end in RESERVATION CONFLICT (SPC-4, 'Reservations': the tables of commands, and of
+-- PERSISTENT RESERVE OUT service actions, that are allowed in the presence of reservations).
+use Rattle.std.specs.Prelude.{ℕ, Bool, false, not, ◌==◌, ◌&&◌, ◌||◌, Option, Some, None}
+use Rattle.std.specs.FinSet as set
+use Rattle.pr_cdb.specs.declared.command.Kind.{Kind}
+use Rattle.pr_cdb.specs.declared.command.Kind.TheVariants.{WriteExclusive, ExclusiveAccess, WriteExclusiveRegistrantsOnly, ExclusiveAccessRegistrantsOnly, WriteExclusiveAllRegistrants, ExclusiveAccessAllRegistrants}
+use Rattle.pr_cdb.specs.declared.command.Command.{Command}
+use Rattle.pr_cdb.specs.declared.command.Command.TheVariants.{Read, Write, Register, Reserve, Release, Clear, Preempt, PreemptAbort}
+use Rattle.pr_cdb.specs.declared.wire.Request.{Request}
+use Rattle.pr_cdb.specs.declared.wire.Request.TheVariants.{Plain, Faulty}
+use Rattle.pr_registry.specs.declared.held.Held.{Held}
+use Rattle.pr_registry.specs.Hosts.{Keys, is_key, hosts_with}
+use Rattle.pr_registry.specs.Registrations.{State, key_of, is_registered, is_holder, kind_of}
+use Rattle.pr_registry.specs.Changes.{is_held_as}
+
+-- REGISTER needs the sender's key, or zero where it has none
+abbrev pub is_wrong_key : Option ℕ → ℕ → Bool
+is_wrong_key None rk = not (rk == 0)
+is_wrong_key (Some k) rk = not (k == rk)
+
+-- every service action but the two that register needs the key of a registered sender
+abbrev pub lacks_key : State → ℕ → ℕ → Bool
+lacks_key u h rk = not (is_key (key_of u h) rk)
+
+-- a reservation that keeps h from reserving: one that h does not hold, or of another type
+abbrev pub is_in_the_way : State → ℕ → Option Held → Kind → Bool
+is_in_the_way u h None kind = false
+is_in_the_way u h (Some v) kind = not (is_holder u h && is_held_as (Some v) kind)
+
+-- no host is registered with this key
+abbrev pub is_nobodys : Keys → ℕ → Bool
+is_nobodys keys k = set.len (hosts_with keys k) == 0
+
+abbrev pub preempt_conflicts : State → ℕ → ℕ → ℕ → Bool
+preempt_conflicts u h rk sark = lacks_key u h rk || (not (sark == 0) && is_nobodys u.keys sark)
+
+-- to whom a reservation leaves an access
+pub data Access : Type 0 where
+  Everybody : Access
+  Registrants : Access
+  Holder : Access
+
+abbrev pub reading : Kind → Access
+reading WriteExclusive = Everybody
+reading ExclusiveAccess = Holder
+reading WriteExclusiveRegistrantsOnly = Everybody
+reading ExclusiveAccessRegistrantsOnly = Registrants
+reading WriteExclusiveAllRegistrants = Everybody
+reading ExclusiveAccessAllRegistrants = Registrants
+
+abbrev pub writing : Kind → Access
+writing WriteExclusive = Holder
+writing ExclusiveAccess = Holder
+writing WriteExclusiveRegistrantsOnly = Registrants
+writing ExclusiveAccessRegistrantsOnly = Registrants
+writing WriteExclusiveAllRegistrants = Registrants
+writing ExclusiveAccessAllRegistrants = Registrants
+
+abbrev pub is_shut_out : State → ℕ → Access → Bool
+is_shut_out u h Everybody = false
+is_shut_out u h Registrants = not (is_registered u h)
+is_shut_out u h Holder = not (is_holder u h)
+
+abbrev pub access_conflicts : State → ℕ → Option Held → (Kind → Access) → Bool
+access_conflicts u h None access = false
+access_conflicts u h (Some v) access = is_shut_out u h (access (kind_of v))
+
+-- PERSISTENT RESERVE IN, REQUEST SENSE and TEST UNIT READY never conflict
+abbrev pub command_conflicts : State → ℕ → Command → Bool
+command_conflicts u h (Register rk sark) = is_wrong_key (key_of u h) rk
+command_conflicts u h (Reserve rk kind) = lacks_key u h rk || is_in_the_way u h u.held kind
+command_conflicts u h (Release rk kind) = lacks_key u h rk
+command_conflicts u h (Clear rk) = lacks_key u h rk
+command_conflicts u h (Preempt rk sark kind) = preempt_conflicts u h rk sark
+command_conflicts u h (PreemptAbort rk sark kind) = preempt_conflicts u h rk sark
+command_conflicts u h (Read lba blocks) = access_conflicts u h u.held reading
+command_conflicts u h (Write lba blocks) = access_conflicts u h u.held writing
+command_conflicts u h _ = false
+
+-- bytes at fault never conflict
+abbrev pub conflicts : State → ℕ → Request → Bool
+conflicts u h (Plain c) = command_conflicts u h c
+conflicts u h (Faulty sense) = false

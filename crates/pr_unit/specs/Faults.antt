@@ -1,0 +1,58 @@
+-- Which requests that do not conflict end in CHECK CONDITION for a fault of their own, and with which
+-- sense (SPC-4, 'Releasing', 'Preempting'; SBC-3, 'READ (10)' and 'WRITE (10) command').
+use Rattle.std.specs.Prelude.{ℕ, ◌+◌, Bool, true, false, not, ◌==◌, ◌&&◌, nat_lt, if◌then◌else◌, Option, Some, None, is_none}
+use Rattle.pr_cdb.specs.declared.command.Kind.{Kind}
+use Rattle.pr_cdb.specs.declared.command.Command.{Command}
+use Rattle.pr_cdb.specs.declared.command.Command.TheVariants.{Read, Write, Release, Preempt, PreemptAbort}
+use Rattle.pr_cdb.specs.declared.reply.Sense.{Sense}
+use Rattle.pr_cdb.specs.declared.wire.Request.{Request}
+use Rattle.pr_cdb.specs.declared.wire.Request.TheVariants.{Plain, Faulty}
+use Rattle.pr_registry.specs.declared.held.Held.{Held}
+use Rattle.pr_registry.specs.declared.held.Held.TheVariants.{One, All}
+use Rattle.pr_registry.specs.Registrations.{State, is_holder}
+use Rattle.pr_registry.specs.Changes.{Case, ReplacesAll, ReplacesHolder, RemovesKey, is_held_as, preempt_case}
+
+-- ILLEGAL REQUEST (5h)
+abbrev pub illegal : ℕ → ℕ → Sense
+illegal asc ascq = record { key = 0x05; asc = asc; ascq = ascq }
+
+-- how many blocks the unit has
+abbrev pub capacity : ℕ
+capacity = 1048576
+
+abbrev pub is_held_by_all : Option Held → Bool
+is_held_by_all None = false
+is_held_by_all (Some (One t g)) = false
+is_held_by_all (Some (All t)) = true
+
+abbrev pub is_replacing : Case → Bool
+is_replacing ReplacesAll = true
+is_replacing (ReplacesHolder t) = true
+is_replacing RemovesKey = false
+
+-- invalid release of persistent reservation: a holder names another type
+abbrev pub release_fault : State → ℕ → Kind → Option Sense
+release_fault u h kind = if is_holder u h && not (is_held_as u.held kind) then Some (illegal 0x26 0x04) else None
+
+-- A key of zero is for a reservation of all registrants alone, and a reservation is replaced by one of a
+-- type.
+abbrev pub preempt_fault : State → ℕ → Option Kind → Option Sense
+preempt_fault u sark kind =
+    if sark == 0 && not (is_held_by_all u.held) then Some (illegal 0x26 0x00) else (
+    if is_none kind && is_replacing (preempt_case u.keys u.held sark) then Some (illegal 0x24 0x00) else None)
+
+-- logical block address out of range
+abbrev pub range_fault : ℕ → ℕ → Option Sense
+range_fault lba blocks = if nat_lt capacity (lba + blocks) then Some (illegal 0x21 0x00) else None
+
+abbrev pub command_fault : State → ℕ → Command → Option Sense
+command_fault u h (Release rk kind) = release_fault u h kind
+command_fault u h (Preempt rk sark kind) = preempt_fault u sark kind
+command_fault u h (PreemptAbort rk sark kind) = preempt_fault u sark kind
+command_fault u h (Read lba blocks) = range_fault lba blocks
+command_fault u h (Write lba blocks) = range_fault lba blocks
+command_fault u h _ = None
+
+abbrev pub fault : State → ℕ → Request → Option Sense
+fault u h (Plain c) = command_fault u h c
+fault u h (Faulty sense) = Some sense

@@ -1,0 +1,7 @@
+pub mod Attentions
+pub mod UnitStates
+pub mod Conflicts
+pub mod Faults
+pub mod Replies
+pub mod Steps
+pub mod Laws

@@ -1,0 +1,60 @@
+-- What the logical unit answers (SAM-5, 'Status').
+use Rattle.std.specs.Prelude.{ℕ, Bool, true, false, if◌then◌else◌, List, [], Option, Some, None, unwrap_or}
+use Rattle.std.specs.FinMap as map
+use Rattle.pr_cdb.specs.declared.command.Kind.{Kind}
+use Rattle.pr_cdb.specs.declared.command.Command.{Command}
+use Rattle.pr_cdb.specs.declared.command.Command.TheVariants.{RequestSense, ReadKeys, ReadReservation, ReportCapabilities}
+use Rattle.pr_cdb.specs.declared.reply.Sense.{Sense}
+use Rattle.pr_cdb.specs.declared.reply.Status.{Status}
+use Rattle.pr_cdb.specs.declared.reply.Status.TheVariants.{Good, CheckCondition, Conflict}
+use Rattle.pr_cdb.specs.declared.reply.Reply.{Reply}
+use Rattle.pr_cdb.specs.declared.wire.Request.{Request}
+use Rattle.pr_cdb.specs.declared.wire.Request.TheVariants.{Plain}
+use Rattle.pr_cdb.specs.ReplyData.{sense_bytes, keys_bytes, reservation_bytes, capabilities_bytes, cut}
+use Rattle.pr_registry.specs.declared.held.Held.{Held}
+use Rattle.pr_registry.specs.declared.held.Held.TheVariants.{One, All}
+use Rattle.pr_registry.specs.Hosts.{Keys}
+use Rattle.pr_registry.specs.Registrations.{State}
+use Rattle.pr_unit.specs.Attentions.{attention_sense}
+
+abbrev pub reply_of : Status → Option Sense → List ℕ → Reply
+reply_of status sense bytes = record { status = status; sense = sense; bytes = record { items = bytes } }
+
+abbrev pub good : List ℕ → Reply
+good bytes = reply_of Good None bytes
+
+abbrev pub check : Sense → Reply
+check sense = reply_of CheckCondition (Some sense) []
+
+abbrev pub conflict : Reply
+conflict = reply_of Conflict None []
+
+abbrev pub is_good_status : Status → Bool
+is_good_status Good = true
+is_good_status _ = false
+
+abbrev pub is_good : Reply → Bool
+is_good r = is_good_status r.status
+
+-- REQUEST SENSE reports as data, and ends GOOD
+abbrev pub is_request_sense : Request → Bool
+is_request_sense (Plain RequestSense) = true
+is_request_sense _ = false
+
+-- the reply that reports this attention
+abbrev pub report : Request → ℕ → Reply
+report q code = if is_request_sense q then good (sense_bytes (attention_sense code)) else check (attention_sense code)
+
+-- the key and the type of the reservation: the holder's key, or zero where all registrants hold
+abbrev pub reservation : Keys → Option Held → Option (ℕ × Kind)
+reservation keys None = None
+reservation keys (Some (One t g)) = Some (unwrap_or (map.get keys g) 0, t)
+reservation keys (Some (All t)) = Some (0, t)
+
+-- the data of a command that ends GOOD: of the keys in the order of the hosts
+abbrev pub data_of : State → Command → List ℕ
+data_of u (ReadKeys alloc) = cut alloc (keys_bytes u.generation (map.values u.keys))
+data_of u (ReadReservation alloc) = cut alloc (reservation_bytes u.generation (reservation u.keys u.held))
+data_of u (ReportCapabilities alloc) = cut alloc capabilities_bytes
+data_of u RequestSense = sense_bytes (record { key = 0x00; asc = 0x00; ascq = 0x00 })
+data_of u _ = []

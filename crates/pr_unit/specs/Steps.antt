@@ -1,0 +1,92 @@
+-- What the logical unit may answer to a request, and the state that it is in then.
+use Rattle.std.specs.Prelude.{◌≡◌, ℕ, ◌≤◌, true, IsTrue, if◌then◌else◌, Option, Some, None, Result, Ok, Err}
+use Rattle.pr_cdb.specs.declared.command.Command.TheVariants.{Register, RegisterIgnore, ReadKeys}
+use Rattle.pr_cdb.specs.declared.reply.Sense.{Sense}
+use Rattle.pr_cdb.specs.declared.reply.Reply.{Reply}
+use Rattle.pr_cdb.specs.declared.wire.Request.{Request}
+use Rattle.pr_cdb.specs.declared.wire.Request.TheVariants.{Plain, Faulty}
+use Rattle.pr_cdb.specs.declared.wire.Bad.{Bad}
+use Rattle.pr_unit.specs.Attentions.{power_on}
+use Rattle.pr_unit.specs.UnitStates.{UnitState, is_pending, is_any_pending, effect, reported}
+use Rattle.pr_unit.specs.Conflicts.{conflicts}
+use Rattle.pr_unit.specs.Faults.{fault}
+use Rattle.pr_unit.specs.Replies.{good, check, conflict, report, data_of}
+
+-- what decides how a request ends
+pub data Line : Type 0 where
+  -- a power on or reset that is still to be reported
+  PowerOn : Line
+  -- a reservation conflict
+  Conflicting : Line
+  -- another attention that is still to be reported
+  Attention : Line
+  -- a fault of the request
+  AtFault : Sense → Line
+  -- nothing: it ends GOOD
+  Done : Line
+
+abbrev pub last_line : Option Sense → Line
+last_line None = Done
+last_line (Some sense) = AtFault sense
+
+-- The first that applies decides. The standards leave this order to the device server; it is our own.
+abbrev pub line : UnitState → ℕ → Request → Line
+line u h q =
+    if is_pending u h power_on then PowerOn else (
+    if conflicts u.registry h q then Conflicting else (
+    if is_any_pending u h then Attention else
+    last_line (fault u.registry h q)))
+
+-- GOOD, with the command's data and its effect. Bytes at fault do not come here.
+abbrev pub IsDone : UnitState → ℕ → Request → Reply → UnitState → Type 0
+IsDone u h (Plain c) r u' = (r ≡ good (data_of u.registry c)) × (u' ≡ effect u h c)
+IsDone u h (Faulty sense) r u' = ⊥
+
+-- some attention that is pending is reported, and it alone is pending no more
+pub record Reports (u : UnitState) (h : ℕ) (q : Request) (r : Reply) (u' : UnitState) : Type 0 where
+  pub code : ℕ
+  pub pending : IsTrue (is_pending u h code)
+  pub reply : r ≡ report q code
+  pub after : u' ≡ reported u h code
+
+abbrev pub StepBy : Line → UnitState → ℕ → Request → Reply → UnitState → Type 0
+StepBy PowerOn u h q r u' = (r ≡ report q power_on) × (u' ≡ reported u h power_on)
+StepBy Conflicting u h q r u' = (r ≡ conflict) × (u' ≡ u)
+StepBy Attention u h q r u' = Reports u h q r u'
+StepBy (AtFault sense) u h q r u' = (r ≡ check sense) × (u' ≡ u)
+StepBy Done u h q r u' = IsDone u h q r u'
+
+-- In state u, the request q of host h may be answered with r, and then the state is u'.
+abbrev pub Step : UnitState → ℕ → Request → Reply → UnitState → Type 0
+Step u h q r u' = StepBy (line u h q) u h q r u'
+
+-- of the attentions that are pending, the reply reports the lowest
+pub record ReportsLowest (u : UnitState) (h : ℕ) (q : Request) (r : Reply) : Type 0 where
+  pub code : ℕ
+  pub reply : r ≡ report q code
+  pub least : (other : ℕ) → is_pending u h other ≡ true → code ≤ other
+
+abbrev pub LowestBy : Line → UnitState → ℕ → Request → Reply → Type 0
+LowestBy Attention u h q r = ReportsLowest u h q r
+LowestBy _ u h q r = Unit {0}
+
+-- The step that this unit takes: where it may choose, it reports the lowest code.
+pub record TakenStep (u : UnitState) (h : ℕ) (q : Request) (r : Reply) (u' : UnitState) : Type 0 where
+  pub step : Step u h q r u'
+  pub lowest : LowestBy (line u h q) u h q r
+
+-- In state u, this unit answers the bytes of a command of host h so, and then the state is u'. Bytes that
+-- are no request change nothing.
+abbrev pub Executes : UnitState → ℕ → Result Request Bad → Result Reply Bad → UnitState → Type 0
+Executes u h (Ok q) (Ok r) u' = TakenStep u h q r u'
+Executes u h (Err bad) (Err b) u' = (b ≡ bad) × (u' ≡ u)
+Executes u h _ _ u' = ⊥
+
+-- REGISTER, REGISTER AND IGNORE EXISTING KEY and READ KEYS, and bytes that are at fault or no request
+abbrev pub IsRegisteringOrReadingKeys : Result Request Bad → Type 0
+IsRegisteringOrReadingKeys (Ok (Plain (Register rk sark))) = Unit {0}
+IsRegisteringOrReadingKeys (Ok (Plain (RegisterIgnore sark))) = Unit {0}
+IsRegisteringOrReadingKeys (Ok (Plain (ReadKeys alloc))) = Unit {0}
+IsRegisteringOrReadingKeys (Ok (Plain c)) = ⊥
+IsRegisteringOrReadingKeys (Ok (Faulty sense)) = Unit {0}
+IsRegisteringOrReadingKeys (Err bad) = Unit {0}

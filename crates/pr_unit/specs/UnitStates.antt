@@ -1,0 +1,47 @@
+-- The state of a logical unit: its registrations, reservation and generation, and the pending
+-- attentions of each host.
+use Rattle.std.specs.Prelude.{◌≡◌, ℕ, ◌<◌, Bool, true, IsTrue, refl}
+use Rattle.std.specs.FinSet as set
+use Rattle.std.specs.Coded.{Coded, code_by, coded×, coded_ℕ}
+use Rattle.std.specs.List.{list_any}
+use Rattle.pr_cdb.specs.declared.command.Command.{Command}
+use Rattle.pr_registry.specs.declared.change.Change.{Change}
+use Rattle.pr_registry.specs.Registrations.{State, IsWellFormed as IsWellFormedRegistry}
+use Rattle.pr_registry.specs.Effects.{after, change}
+use Rattle.pr_unit.specs.Attentions.{Pairs, attentions, is_attention, each_with, reservations_preempted, reservations_released, registrations_preempted}
+
+pub record UnitState : Type 0 where
+  pub registry : State
+  pub pending : Pairs
+
+abbrev pub unit_code : Coded State → Coded UnitState
+unit_code registry =
+    code_by (State × Pairs) (coded× registry (set.code (coded× coded_ℕ coded_ℕ))) (λ u. (u.registry, u.pending)) (λ t. record { registry = t.0; pending = t.1 }) (λ _. refl)
+
+abbrev pub is_pending : UnitState → ℕ → ℕ → Bool
+is_pending u h code = set.contains u.pending (h, code)
+
+abbrev pub is_any_pending : UnitState → ℕ → Bool
+is_any_pending u h = list_any (is_pending u h) attentions
+
+-- the registry is well formed, and what is pending is one of the four attentions of a host that is there
+pub record IsWellFormed (u : UnitState) : Type 0 where
+  pub registry : IsWellFormedRegistry u.registry
+  pub pending : (h code : ℕ) → is_pending u h code ≡ true → (h < u.registry.hosts) × IsTrue (is_attention code)
+
+-- nothing is pending
+abbrev pub quiet : State → UnitState
+quiet registry = record { registry = registry; pending = set.empty }
+
+-- what is pending once a service action has told whom it tells
+abbrev pub told : Pairs → Change → Pairs
+told pending c =
+    set.union (set.union (set.union pending (each_with c.told_03 reservations_preempted)) (each_with c.told_04 reservations_released)) (each_with c.told_05 registrations_preempted)
+
+-- the state after a command of h that ends GOOD
+abbrev pub effect : UnitState → ℕ → Command → UnitState
+effect u h c = record { registry = after u.registry h c; pending = told u.pending (change u.registry h c) }
+
+-- the state once this code of h has been reported
+abbrev pub reported : UnitState → ℕ → ℕ → UnitState
+reported u h code = record u { pending = set.remove u.pending (h, code) }

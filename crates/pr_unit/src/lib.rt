@@ -1,0 +1,9 @@
+//! A logical unit that executes one command at a time.
+#![tactic(auto)]
+
+mod laws;
+mod reply;
+mod unit;
+
+pub use laws::{effects_are_well_formed, good_is_fixed};
+pub use unit::Unit;
