@@ -1,10 +1,14 @@
 -- How pieces of a text go out one after another.
-use Rattle.std.proofs.Common.{◌≡◌, ℕ, List, [], ◌++◌, Option, None, Some, refl, sym, ap, ◌∙◌, append_assoc, append-nil, Result, Ok, Err, IsErr, take, drop, take-append-drop, length, length-drop, ◌-◌, ◌+◌, ◌<◌, ◌≤◌, get_or, drop-cons, add-one}
+use Rattle.std.proofs.Common.{◌≡◌, ◌≢◌, ℕ, List, [], ◌∷◌, ◌++◌, Option, None, Some, refl, sym, ap, ◌∙◌, append_assoc, append-nil, Result, Ok, Err, IsErr, take, drop, take-append-drop, length, length-drop, ◌-◌, ◌+◌, ◌<◌, ◌≤◌, get_or, drop-cons, add-one}
 use Rattle.std.specs.List.{flat_map}
 use Rattle.std.proofs.Math.ListN.{drop_of_length-le}
 use Rattle.std.proofs.Math.Seq.{take-length}
 use Rattle.std.specs.Io.KnownBytes.{Appends}
-use Rattle.fence.specs.Written.{Wrote, AppendsFront, Puts}
+use Rattle.fence.specs.Written.{Wrote, FallsShort, Puts}
+
+append_some : (x y : List ℕ) → x ≢ [] → x ++ y ≢ []
+append_some [] y h = absurd (h refl)
+append_some (b ∷ x) y h = λ e. cc
 
 pub appends_both : (old mid new : Option (List ℕ)) (x y : List ℕ) → Appends old mid x → Appends mid new y → Appends old new (x ++ y)
 appends_both None mid new x y p q = tt
@@ -22,9 +26,10 @@ wrote_more old mid new text x left w p = record {
 pub wrote_all : (old new : Option (List ℕ)) (text : List ℕ) → Wrote old new text [] → Appends old new text
 wrote_all old new text w = rw (w.whole, append-nil w.front) w.appended
 
-pub wrote_front : (old mid new : Option (List ℕ)) (text x left : List ℕ) → Wrote old mid text (x ++ left) → AppendsFront mid new x → AppendsFront old new text
+pub wrote_front : (old mid new : Option (List ℕ)) (text x left : List ℕ) → Wrote old mid text (x ++ left) → FallsShort mid new x → FallsShort old new text
 wrote_front old mid new text x left w f = record {
   left = f.left ++ left;
+  some_left = append_some f.left left f.some_left;
   wrote = record {
     front = w.front ++ f.wrote.front;
     whole = w.whole ∙ ap (λ r. w.front ++ (r ++ left)) f.wrote.whole
@@ -43,9 +48,10 @@ wrote_some old mid new text rest n w p =
 
 -- Calls in a row: the first one fails, a later one fails, and the last one ends either way.
 
-pub front_first : (old new : Option (List ℕ)) (x y : List ℕ) → AppendsFront old new x → AppendsFront old new (x ++ y)
+pub front_first : (old new : Option (List ℕ)) (x y : List ℕ) → FallsShort old new x → FallsShort old new (x ++ y)
 front_first old new x y f = record {
   left = f.left ++ y;
+  some_left = append_some f.left y f.some_left;
   wrote = record {
     front = f.wrote.front;
     whole = ap (λ r. r ++ y) f.wrote.whole ∙ append_assoc f.wrote.front f.left y;
@@ -53,9 +59,10 @@ front_first old new x y f = record {
   };
 }
 
-pub front_then : (old mid new : Option (List ℕ)) (x y : List ℕ) → Appends old mid x → AppendsFront mid new y → AppendsFront old new (x ++ y)
+pub front_then : (old mid new : Option (List ℕ)) (x y : List ℕ) → Appends old mid x → FallsShort mid new y → FallsShort old new (x ++ y)
 front_then old mid new x y p f = record {
   left = f.left;
+  some_left = f.some_left;
   wrote = record {
     front = x ++ f.wrote.front;
     whole = ap (λ r. x ++ r) f.wrote.whole ∙ sym (append_assoc x f.wrote.front f.left);
@@ -63,7 +70,7 @@ front_then old mid new x y p f = record {
   };
 }
 
-pub puts_err : {E : Type 0} (old new : Option (List ℕ)) (x : List ℕ) (r : Result (Unit {0}) E) → AppendsFront old new x → IsErr r → Puts old new x r
+pub puts_err : {E : Type 0} (old new : Option (List ℕ)) (x : List ℕ) (r : Result (Unit {0}) E) → FallsShort old new x → IsErr r → Puts old new x r
 puts_err old new x (Ok done) f h = cc
 puts_err old new x (Err fault) f h = f
 

@@ -3,7 +3,7 @@ use Rattle.std.proofs.Common.{◌≡◌, ℕ, suc, ◌+◌, ◌<◌, ◌≤◌, 
 use Rattle.std.proofs.Math.ListN.{drop_of_length-le}
 use Rattle.std.specs.Io.KnownBytes.{Appends}
 use Rattle.arrayvec.specs.ArrayString.{ArrayString}
-use Rattle.fence.specs.Written.{Wrote, AppendsFront}
+use Rattle.fence.specs.Written.{Wrote, FallsShort}
 use Rattle.fence.specs.PrintedLines.{line, spaced, generation_word, registration_word}
 use Rattle.fence.specs.TraceText.{entry_line, entry_lines, ending_line, ending_lines, held_word, name_of, registration_words, texts, unit_line}
 use Rattle.fence.specs.declared.trace_output.Entry.{Entry}
@@ -25,7 +25,7 @@ pub entry_lines_end : (names : List (List ℕ)) (es : List Entry) (i : ℕ) → 
 entry_lines_end names es i h = rw (drop_of_length-le es {i = i} h) refl
 
 pub entries_front : (old mid new : Option (List ℕ)) (text : List ℕ) (names : List (List ℕ)) (es : List Entry) (i : ℕ) (e : Entry) → i < length es → e ≡ get_or es i e
-    → Wrote old mid text (entry_lines i names (drop i es)) → AppendsFront mid new (entry_line (i + 1) names e) → AppendsFront old new text
+    → Wrote old mid text (entry_lines i names (drop i es)) → FallsShort mid new (entry_line (i + 1) names e) → FallsShort old new text
 entries_front old mid new text names es i e h is w f = wrote_front _ _ _ _ _ _ (rw (entry_lines_from names es i e h is) at w) f
 
 pub entries_more : (old mid new : Option (List ℕ)) (text : List ℕ) (names : List (List ℕ)) (es : List Entry) (i : ℕ) (e : Entry) → i < length es → e ≡ get_or es i e
@@ -47,7 +47,7 @@ unfolding spaced
 registrations_end unit names i h = rw (drop_of_length-le names {i = i} h) refl
 
 pub registrations_front : (old mid new : Option (List ℕ)) (text : List ℕ) (unit : State) (names : List ArrayString) (i : ℕ) (name : ArrayString) → i < length names → name ≡ get_or names i name
-    → Wrote old mid text (registrations unit i (drop i names)) → AppendsFront mid new (32 ∷ registration_word name.bytes (key_of unit i)) → AppendsFront old new text
+    → Wrote old mid text (registrations unit i (drop i names)) → FallsShort mid new (32 ∷ registration_word name.bytes (key_of unit i)) → FallsShort old new text
 registrations_front old mid new text unit names i name h is w f = wrote_front _ _ _ _ _ _ (rw (registrations_from unit names i name h is) at w) f
 
 pub registrations_more : (old mid new : Option (List ℕ)) (text : List ℕ) (unit : State) (names : List ArrayString) (i : ℕ) (name : ArrayString) → i < length names → name ≡ get_or names i name
@@ -75,7 +75,7 @@ pub ending_lines_end : (names : List (List ℕ)) (es : List Ended) (i : ℕ) →
 ending_lines_end names es i h = rw (drop_of_length-le es {i = i} h) refl
 
 pub ends_front : (old mid new : Option (List ℕ)) (text : List ℕ) (names : List (List ℕ)) (es : List Ended) (i : ℕ) (e : Ended) → i < length es → e ≡ get_or es i e
-    → Wrote old mid text (ending_lines i names (drop i es)) → AppendsFront mid new (ending_line (name_of names i) e.end e.sent) → AppendsFront old new text
+    → Wrote old mid text (ending_lines i names (drop i es)) → FallsShort mid new (ending_line (name_of names i) e.end e.sent) → FallsShort old new text
 ends_front old mid new text names es i e h is w f = wrote_front _ _ _ _ _ _ (rw (ending_lines_from names es i e h is) at w) f
 
 pub ends_more : (old mid new : Option (List ℕ)) (text : List ℕ) (names : List (List ℕ)) (es : List Ended) (i : ℕ) (e : Ended) → i < length es → e ≡ get_or es i e

@@ -10,7 +10,7 @@ use thiserror::Error;
 #[error("the output took no more")]
 pub struct WriteFault;
 
-/// Writes these bytes. On a fault, what went out is a front of them.
+/// Writes these bytes. On a fault, what went out is a front of them, and not all.
 ///
 /// Every error ends it, one that a second call might not meet among them.
 pub fn put<W: Write>(writer: &mut W, text: &[u8]) -> Result<(), WriteFault>

@@ -1,6 +1,6 @@
 //! Lines of words to a writer, with no text in between that takes memory.
 
-ghost use Rattle.std.specs.Prelude.{◌∷◌, ◌<◌, ◌≡◌, false, map};
+ghost use Rattle.std.specs.Prelude.{◌++◌, ◌<◌, ◌≡◌, codes, false, map};
 ghost use Rattle.std.specs.Fmt.{decimal, digits, digit_glyph};
 ghost use Rattle.pr_cdb.specs.Kinds.{code_of};
 ghost use Rattle.fence.specs.Written.{Puts};
@@ -58,7 +58,7 @@ pub fn put_spaced<W: Write>(writer: &mut W, words: &[Word<'_>]) -> Result<(), Wr
 }
 
 pub(crate) fn put_after_space<W: Write>(writer: &mut W, word: Word<'_>) -> Result<(), WriteFault>
-    ensures { Puts (W.contents writer.old) (W.contents writer.new) (32 ∷ printed word.entry) result }
+    ensures { Puts (W.contents writer.old) (W.contents writer.new) (codes " " ++ printed word.entry) result }
 {
     put(writer, b" ")?;
     put_word(writer, word)

@@ -63,7 +63,7 @@ pub struct Ended {
     pub sent: u32,
 }
 
-/// Writes a trace. On a fault, what went out is a front of it.
+/// Writes a trace. On a fault, what went out is a front of it, and not all.
 ///
 /// The names and the ends are those of the hosts and guests in the order of their numbers.
 pub fn write_trace<W: Write>(

@@ -1,7 +1,7 @@
 use Rattle.std.proofs.Common.{◌≡◌, ℕ, ◌+◌, ◌<◌, ◌≤◌, List, [], ◌∷◌, ◌++◌, Option, map, length, drop, get_or, refl, drop-cons, add-one}
 use Rattle.std.proofs.Math.ListN.{drop_of_length-le}
 use Rattle.std.specs.Io.KnownBytes.{Appends}
-use Rattle.fence.specs.Written.{Wrote, AppendsFront}
+use Rattle.fence.specs.Written.{Wrote, FallsShort}
 use Rattle.fence.specs.PrintedLines.{spaced}
 use Rattle.fence.specs.Printed.{printed}
 use Rattle.fence.specs.declared.printing.Word.{Word}
@@ -17,7 +17,7 @@ unfolding spaced
 spaced_end words i h = rw (drop_of_length-le words {i = i} h) refl
 
 spaced_front : (old mid new : Option (List ℕ)) (text : List ℕ) (words : List Word) (i : ℕ) (d : Word) → i < length words
-    → Wrote old mid text (spaced (map printed (drop i words))) → AppendsFront mid new (32 ∷ printed (get_or words i d)) → AppendsFront old new text
+    → Wrote old mid text (spaced (map printed (drop i words))) → FallsShort mid new (32 ∷ printed (get_or words i d)) → FallsShort old new text
 spaced_front old mid new text words i d h w f = wrote_front _ _ _ _ _ _ (rw (spaced_from words i d h) at w) f
 
 spaced_more : (old mid new : Option (List ℕ)) (text : List ℕ) (words : List Word) (i : ℕ) (d : Word) → i < length words
