@@ -494,3 +494,6 @@ fn says_both(first: &str, second: &str, line: &[u8]) -> bool
         None => false,
     }
 }
+
+#[cfg(test)]
+mod tests;
