@@ -1,4 +1,4 @@
-//! The program `fence`.
+//! The program `fence`: the reader of its texts.
 #![tactic(auto)]
 
 mod cutting;
@@ -6,3 +6,5 @@ mod options;
 mod source;
 mod terms;
 mod thin;
+
+pub use thin::{InputError, Thin, read_thin, thin_of_text};

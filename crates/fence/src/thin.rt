@@ -421,7 +421,11 @@ fn budget_of(word: &[u8]) -> Option<u32>
     ensures { result ≡ budget_of word.now }
 {
     let budget = decimal_of(word)?;
-    if budget >= 1 && budget <= MOST_BUDGET { Some(budget as u32) } else { None }
+    if budget >= 1 && budget <= MOST_BUDGET {
+        Some(budget as u32)
+    } else {
+        None
+    }
 }
 
 // The command of the line `send COMMAND`.
@@ -451,7 +455,8 @@ fn is_thin(command: Command) -> bool
     ensures { result ≡ is_thin command }
 {
     match command {
-        Command::Register { .. } | Command::RegisterIgnore { .. } | Command::ReadKeys { .. } => true,
+        Command::Register { .. } | Command::RegisterIgnore { .. } | Command::ReadKeys { .. } =>
+            true,
         _ => false,
     }
 }

@@ -5,7 +5,8 @@ use std::io::Read;
 use std::process::Abort;
 use std::test::Fail;
 
-const FIRST: &str = "fence 1\nkeys 123abc\nhost a\nrole a register 123abc\nscript a budget 1\nsend --out --register --param-sark=123abc\non good\nstop ok\ndone\nend\n";
+const FIRST: &str =
+    "fence 1\nkeys 123abc\nhost a\nrole a register 123abc\nscript a budget 1\nsend --out --register --param-sark=123abc\non good\nstop ok\ndone\nend\n";
 
 const KEY: u64 = 0x123abc;
 
@@ -34,16 +35,19 @@ fn is_first(rt: &impl Abort, thin: &Thin, line: u32) {
 #[test]
 fn first_registration(rt: HostRuntime) -> Result<(), Fail> {
     is_first(&rt, &thin_of_text(FIRST.as_bytes())?, 6);
-    let with_returns = "fence 1\r\nkeys 123abc\r\nhost a\r\nrole a register 123abc\r\nscript a budget 1\r\nsend --out --register --param-sark=123abc\r\non good\r\nstop ok\r\ndone\r\nend\r\n";
+    let with_returns =
+        "fence 1\r\nkeys 123abc\r\nhost a\r\nrole a register 123abc\r\nscript a budget 1\r\nsend --out --register --param-sark=123abc\r\non good\r\nstop ok\r\ndone\r\nend\r\n";
     is_first(&rt, &thin_of_text(with_returns.as_bytes())?, 6);
-    let with_comments = "# a scenario\n\n\tfence  1 # version\nkeys 0x123ABC\n \nhost a\nrole a register 0123aBc #\nscript a budget 0001\nsend --param-sark=0x123abc --register --out #x\non good\n# \nstop ok\ndone\nend";
+    let with_comments =
+        "# a scenario\n\n\tfence  1 # version\nkeys 0x123ABC\n \nhost a\nrole a register 0123aBc #\nscript a budget 0001\nsend --param-sark=0x123abc --register --out #x\non good\n# \nstop ok\ndone\nend";
     is_first(&rt, &thin_of_text(with_comments.as_bytes())?, 9);
     Ok(())
 }
 
 #[test]
 fn other_commands(rt: HostRuntime) -> Result<(), Fail> {
-    let ignore = "fence 1\nkeys a1 b2\nhost long-name-of-16c\nscript long-name-of-16c budget 4096\nsend --prout-type=8 --out --param-rk=b2 --register-ignore --param-sark=a1\non good\ndone\nend\n";
+    let ignore =
+        "fence 1\nkeys a1 b2\nhost long-name-of-16c\nscript long-name-of-16c budget 4096\nsend --prout-type=8 --out --param-rk=b2 --register-ignore --param-sark=a1\non good\ndone\nend\n";
     let thin = thin_of_text(ignore.as_bytes())?;
     assert_eq!(rt; thin.keys.as_slice(), [0xa1, 0xb2].as_slice());
     assert_eq!(rt; thin.host.as_str(), "long-name-of-16c");
@@ -52,7 +56,8 @@ fn other_commands(rt: HostRuntime) -> Result<(), Fail> {
     assert_eq!(rt; thin.line, 5);
     assert_eq!(rt; thin.command, Command::RegisterIgnore { sark: 0xa1 });
     assert!(rt; thin.stop.is_none());
-    let keys = "fence 1\nkeys ffffffffffffffff\nhost b\nscript b budget 1\nsend --read-keys --in\non good\ndone\nend\n";
+    let keys =
+        "fence 1\nkeys ffffffffffffffff\nhost b\nscript b budget 1\nsend --read-keys --in\non good\ndone\nend\n";
     let thin = thin_of_text(keys.as_bytes())?;
     assert_eq!(rt; thin.keys.as_slice(), [0xffff_ffff_ffff_ffff].as_slice());
     assert_eq!(rt; thin.command, Command::ReadKeys { alloc: 8192 });
@@ -104,25 +109,73 @@ fn first_line_that_does_not_fit(rt: HostRuntime) {
         ("fence 1\nkeys a1\nhost a b\n", 3),
         ("fence 1\nkeys a1\nhost a\nrole b register a1\n", 4),
         ("fence 1\nkeys a1\nhost a\nrole a register a2\n", 4),
-        ("fence 1\nkeys a1\nhost a\nrole a register a1\nrole a register a1\n", 5),
+        (
+            "fence 1\nkeys a1\nhost a\nrole a register a1\nrole a register a1\n",
+            5,
+        ),
         ("fence 1\nkeys a1\nhost a\nscript a budget 0\n", 4),
         ("fence 1\nkeys a1\nhost a\nscript a budget 4097\n", 4),
         ("fence 1\nkeys a1\nhost a\nscript a budget 00000000001\n", 4),
-        ("fence 1\nkeys a1\nhost a\nscript a budget 1\nsend test-unit-ready\n", 5),
-        ("fence 1\nkeys a1\nhost a\nscript a budget 1\nsend --out --clear --param-rk=a1\n", 5),
-        ("fence 1\nkeys a1\nhost a\nscript a budget 1\nsend --in --out --register\n", 5),
-        ("fence 1\nkeys a1\nhost a\nscript a budget 1\nsend --register\n", 5),
-        ("fence 1\nkeys a1\nhost a\nscript a budget 1\nsend --out\n", 5),
-        ("fence 1\nkeys a1\nhost a\nscript a budget 1\nsend --in --register\n", 5),
-        ("fence 1\nkeys a1\nhost a\nscript a budget 1\nsend --out --read-keys\n", 5),
-        ("fence 1\nkeys a1\nhost a\nscript a budget 1\nsend --in --read-keys --param-rk=0\n", 5),
-        ("fence 1\nkeys a1\nhost a\nscript a budget 1\nsend --in --read-keys --prout-type=1\n", 5),
-        ("fence 1\nkeys a1\nhost a\nscript a budget 1\nsend --out --register-ignore --param-rk=b2\n", 5),
-        ("fence 1\nkeys a1\nhost a\nscript a budget 1\nsend --out --register --prout-type=2\n", 5),
-        ("fence 1\nkeys a1\nhost a\nscript a budget 1\nsend --out --register --param-rk=0 --param-rk=0\n", 5),
-        ("fence 1\nkeys a1\nhost a\nscript a budget 1\nsend --out --register\non conflict\n", 6),
-        ("fence 1\nkeys a1\nhost a\nscript a budget 1\nsend --out --register\non good\nstop a\nstop a\n", 8),
-        ("fence 1\nkeys a1\nhost a\nscript a budget 1\nsend --out --register\non good\ndone\nend\nend\n", 9),
+        (
+            "fence 1\nkeys a1\nhost a\nscript a budget 1\nsend test-unit-ready\n",
+            5,
+        ),
+        (
+            "fence 1\nkeys a1\nhost a\nscript a budget 1\nsend --out --clear --param-rk=a1\n",
+            5,
+        ),
+        (
+            "fence 1\nkeys a1\nhost a\nscript a budget 1\nsend --in --out --register\n",
+            5,
+        ),
+        (
+            "fence 1\nkeys a1\nhost a\nscript a budget 1\nsend --register\n",
+            5,
+        ),
+        (
+            "fence 1\nkeys a1\nhost a\nscript a budget 1\nsend --out\n",
+            5,
+        ),
+        (
+            "fence 1\nkeys a1\nhost a\nscript a budget 1\nsend --in --register\n",
+            5,
+        ),
+        (
+            "fence 1\nkeys a1\nhost a\nscript a budget 1\nsend --out --read-keys\n",
+            5,
+        ),
+        (
+            "fence 1\nkeys a1\nhost a\nscript a budget 1\nsend --in --read-keys --param-rk=0\n",
+            5,
+        ),
+        (
+            "fence 1\nkeys a1\nhost a\nscript a budget 1\nsend --in --read-keys --prout-type=1\n",
+            5,
+        ),
+        (
+            "fence 1\nkeys a1\nhost a\nscript a budget 1\nsend --out --register-ignore --param-rk=b2\n",
+            5,
+        ),
+        (
+            "fence 1\nkeys a1\nhost a\nscript a budget 1\nsend --out --register --prout-type=2\n",
+            5,
+        ),
+        (
+            "fence 1\nkeys a1\nhost a\nscript a budget 1\nsend --out --register --param-rk=0 --param-rk=0\n",
+            5,
+        ),
+        (
+            "fence 1\nkeys a1\nhost a\nscript a budget 1\nsend --out --register\non conflict\n",
+            6,
+        ),
+        (
+            "fence 1\nkeys a1\nhost a\nscript a budget 1\nsend --out --register\non good\nstop a\nstop a\n",
+            8,
+        ),
+        (
+            "fence 1\nkeys a1\nhost a\nscript a budget 1\nsend --out --register\non good\ndone\nend\nend\n",
+            9,
+        ),
     ];
     for (text, line) in cases {
         assert_eq!(rt; fault_of(text.as_bytes()), Some(line), "{text}");
