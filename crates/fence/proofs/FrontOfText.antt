@@ -3,7 +3,7 @@ use Rattle.std.proofs.Common.{◌≡◌, ℕ, ◌<◌, true, List, [], ◌++◌,
 use Rattle.std.proofs.lemmas.Bool.{cases_lt}
 use Rattle.std.proofs.lemmas.Bool.Decides.{nat_tests}
 use Rattle.std.proofs.lemmas.List.{take-append-le}
-use Rattle.fence.specs.declared.thin.Thin.{Thin}
+use Rattle.fence.specs.declared.thin_scenario.Thin.{Thin}
 use Rattle.fence.specs.declared.thin.InputError.{InputError}
 use Rattle.fence.specs.declared.thin.InputError.TheVariants.{Syntax, ReadFault, Memory}
 use Rattle.fence.specs.BytesRead.{ReadsUpTo}

@@ -1,7 +1,7 @@
 -- What the reader of thin texts answers, by the definition of what a text says.
 use Rattle.std.specs.Prelude.{◌≡◌, ℕ, ◌+◌, ◌==◌, ◌≤◌, if◌then◌else◌, List, [], ◌∷◌, length, Result, Ok, Err}
 use Rattle.std.specs.Str.Lines.{lines}
-use Rattle.fence.specs.declared.thin.Thin.{Thin}
+use Rattle.fence.specs.declared.thin_scenario.Thin.{Thin}
 use Rattle.fence.specs.declared.thin.InputError.{InputError}
 use Rattle.fence.specs.declared.thin.InputError.TheVariants.{Syntax, ReadFault, Memory}
 use Rattle.fence.specs.TextLines.{whole_lines}

@@ -6,5 +6,8 @@ mod options;
 mod source;
 mod terms;
 mod thin;
+mod thin_lines;
+mod thin_scenario;
 
-pub use thin::{InputError, Thin, read_thin, thin_of_text};
+pub use thin::{InputError, read_thin, thin_of_text};
+pub use thin_scenario::Thin;

@@ -1,4 +1,5 @@
-use super::{InputError, Thin, read_thin, thin_of_text};
+use super::{InputError, read_thin, thin_of_text};
+use crate::thin_scenario::Thin;
 use pr_cdb::Command;
 use std::io;
 use std::io::Read;
