@@ -24,5 +24,6 @@ pub struct Thin {
     pub command: Command,
     /// The word with which the script stops after GOOD.
     pub stop: Option<Word>,
+    // It is one of the three commands that a thin text may send.
     ghost sendable: { IsTrue (is_thin command) },
 }
