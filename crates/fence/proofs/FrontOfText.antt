@@ -1,5 +1,5 @@
 -- What a text says is settled by its first 65537 bytes.
-use Rattle.std.proofs.Common.{◌≡◌, ℕ, ◌+◌, ◌<◌, ◌≤◌, true, List, [], ◌++◌, length, take, Option, Some, None, Result, Ok, Err, IfSome, refl, sym, ap, ◌∙◌, inl, inr, arith, length-append, append-nil, nat_lt}
+use Rattle.std.proofs.Common.{◌≡◌, ℕ, ◌<◌, true, List, [], ◌++◌, length, take, Option, Some, None, Result, Ok, Err, IfSome, refl, sym, ap, ◌∙◌, inl, inr, arith, length-append, append-nil, nat_lt}
 use Rattle.std.proofs.lemmas.Bool.{cases_lt}
 use Rattle.std.proofs.lemmas.Bool.Decides.{nat_tests}
 use Rattle.std.proofs.lemmas.List.{take-append-le}
@@ -8,7 +8,7 @@ use Rattle.fence.specs.declared.thin.InputError.{InputError}
 use Rattle.fence.specs.declared.thin.InputError.TheVariants.{Syntax, ReadFault, Memory}
 use Rattle.fence.specs.BytesRead.{ReadsUpTo}
 use Rattle.fence.specs.TextLines.{whole_lines}
-use Rattle.fence.specs.ThinText.{ThinScenario, nothing_said, read_lines, too_long, thin_of}
+use Rattle.fence.specs.ThinText.{nothing_said, read_lines, too_long, thin_of}
 use Rattle.fence.specs.ThinReading.{IsRead}
 
 is_long : (n : ℕ) → 65536 < n → nat_lt 65536 n ≡ true
@@ -21,11 +21,11 @@ thin_of_long text h = rw (is_long (length text) h) refl
 thin_of_front : (bytes rest : List ℕ) → (length bytes < 65537 → rest ≡ []) → thin_of (bytes ++ rest) ≡ thin_of bytes
 thin_of_front bytes rest ended =
     elim (cases_lt (length bytes) 65537) [
-    inl h ↦ ap (λ xs. thin_of (bytes ++ xs)) (ended h) ∙ ap thin_of (append-nil bytes)
-    | inr h ↦
-      let front : take 65536 (bytes ++ rest) ≡ take 65536 bytes = take-append-le 65536 bytes rest (omega arith) in
-      thin_of_long (bytes ++ rest) (omega (arith, length-append bytes rest))
-      ∙ (ap (λ xs. read_lines too_long 0 nothing_said (whole_lines xs)) front ∙ sym (thin_of_long bytes (omega arith)))
+      | inl h ↦ ap (λ xs. thin_of (bytes ++ xs)) (ended h) ∙ ap thin_of (append-nil bytes)
+      | inr h ↦
+          let front : take 65536 (bytes ++ rest) ≡ take 65536 bytes = take-append-le 65536 bytes rest (omega arith) in
+          thin_of_long (bytes ++ rest) (omega (arith, length-append bytes rest))
+          ∙ (ap (λ xs. read_lines too_long 0 nothing_said (whole_lines xs)) front ∙ sym (thin_of_long bytes (omega arith)))
     ]
 
 read_along : (text bytes : List ℕ) (r : Result Thin InputError) → thin_of text ≡ thin_of bytes → IsRead bytes r → IsRead text r

@@ -1,5 +1,5 @@
 -- Where a text's first line and a line's first word end.
-use Rattle.std.proofs.Common.{◌≡◌, ℕ, ◌+◌, ◌<◌, ◌≤◌, Bool, true, false, cond, not, slice_index, ◌≢◌, inl, inr, subst, List, [], ◌∷◌, length, take, drop, Option, Some, None, refl, sym, ap, ◌∙◌, arith, rules, eqb, ltb}
+use Rattle.std.proofs.Common.{◌≡◌, ℕ, ◌+◌, ◌<◌, ◌≤◌, Bool, true, false, cond, not, slice_index, ◌≢◌, inl, inr, subst, List, [], ◌∷◌, length, take, drop, Some, None, refl, ap, ◌∙◌, arith, ltb}
 use Rattle.std.specs.Prelude.{◌==◌, if◌then◌else◌, position, filter, take_while}
 use Rattle.std.specs.List.{All, slice_split, before_first, after_first, position_or_len}
 use Rattle.std.specs.Str.Lines.{lines, lines_of_parts, strip_carriage_return}
@@ -35,9 +35,9 @@ is_line_feed b = b == 10
 module _ (text : List ℕ) (i : ℕ) (found : position is_line_feed text ≡ Some i) where
   cut_first : (position_or_len is_line_feed text ≡ i) × (slice_split is_line_feed text ≡ take i text ∷ slice_split is_line_feed (drop (i + 1) text))
   cut_first =
-    let at = found_at _ _ _ found in
-    let e = slice_split_first is_line_feed text 0 at.1 in
-    (at.0, subst (λ n. slice_split is_line_feed text ≡ take n text ∷ slice_split is_line_feed (drop (n + 1) text)) at.0 e)
+      let at = found_at _ _ _ found in
+      let e = slice_split_first is_line_feed text 0 at.1 in
+      (at.0, subst (λ n. slice_split is_line_feed text ≡ take n text ∷ slice_split is_line_feed (drop (n + 1) text)) at.0 e)
 
   more_parts : 0 < length (slice_split is_line_feed (drop (i + 1) text))
   more_parts = omega (arith, length-slice_split is_line_feed (drop (i + 1) text))
@@ -87,11 +87,11 @@ is_no_hash b h = grind (arith, nat_tests)
 kept_first : (line : List ℕ) → kept (slice_split is_blank line) ≡ kept (before_first is_blank line ∷ slice_split is_blank (after_first is_blank line))
 kept_first line =
     elim (cases_lt (position_or_len is_blank line) (length line)) [
-    inl h ↦ ap kept (slice_split_first is_blank line 0 h)
-    | inr h ↦
-      let whole : take (position_or_len is_blank line) line ≡ line = take_all _ line h in
-      let nothing : drop (position_or_len is_blank line + 1) line ≡ [] = drop_all _ line (omega arith) in
-      rw (slice_split_none is_blank line (none_passes is_blank line h), whole, nothing) refl
+      | inl h ↦ ap kept (slice_split_first is_blank line 0 h)
+      | inr h ↦
+          let whole : take (position_or_len is_blank line) line ≡ line = take_all _ line h in
+          let nothing : drop (position_or_len is_blank line + 1) line ≡ [] = drop_all _ line (omega arith) in
+          rw (slice_split_none is_blank line (none_passes is_blank line h), whole, nothing) refl
     ]
 
 module _ (line : List ℕ) where

@@ -1,7 +1,7 @@
 -- A name is ASCII text.
-use Rattle.std.proofs.Common.{◌≡◌, ℕ, ◌+◌, ◌<◌, ◌≤◌, Bool, true, false, ◌&&◌, List, length, get_or, slice_index, inl, inr, lit<, arith, rules}
-use Rattle.std.specs.Str.{IsAscii, IsUtf8}
-use Rattle.std.specs.List.{list_all, AllPass}
+use Rattle.std.proofs.Common.{◌≡◌, ℕ, ◌<◌, ◌≤◌, true, List, length, inl, inr, lit<, arith}
+use Rattle.std.specs.Str.{IsUtf8}
+use Rattle.std.specs.List.{list_all}
 use Rattle.std.proofs.lemmas.Bool.{cases_lt}
 use Rattle.std.proofs.lemmas.List.{get_or_past}
 use Rattle.std.proofs.lemmas.Bool.Decides.{nat_tests}
@@ -23,6 +23,6 @@ name_has_name_bytes word e = grind (arith, nat_tests)
 pub name_is_text : (word : List ℕ) → is_name word ≡ true → IsUtf8 word
 name_is_text word e = IsUtf8-from_ascii word (λ i.
     elim (cases_lt i (length word)) [
-    inl h ↦ name_byte_below _ (AllPass-from_list_all is_name_byte word (name_has_name_bytes word e) i 0 h)
-    | inr h ↦ rw (get_or_past word i 0 h) (lit< tt)
+      | inl h ↦ name_byte_below _ (AllPass-from_list_all is_name_byte word (name_has_name_bytes word e) i 0 h)
+      | inr h ↦ rw (get_or_past word i 0 h) (lit< tt)
     ])

@@ -1,5 +1,5 @@
 -- Reading bytes in parts.
-use Rattle.std.proofs.Common.{◌≡◌, ℕ, ◌+◌, ◌≤◌, List, ◌++◌, length, Option, Some, None, Ok, Err, Result, OnErr, arith, rules, length-append, append_assoc, ◌∙◌, ap, sym}
+use Rattle.std.proofs.Common.{ℕ, ◌+◌, ◌≤◌, List, ◌++◌, length, Option, Some, None, Ok, Err, Result, OnErr, arith, length-append, append_assoc, ◌∙◌, ap, sym}
 use Rattle.std.specs.Io.KnownBytes.{Consumes}
 use Rattle.fence.specs.BytesRead.{LosesUpTo}
 

@@ -9,6 +9,7 @@ pub mod TextLines
 pub mod WordTerms
 pub mod CommandOptions
 pub mod ThinCommands
+pub mod ThinLines
 pub mod ThinText
 pub mod InputErrors
 pub mod ThinReading

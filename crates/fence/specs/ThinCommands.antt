@@ -1,7 +1,7 @@
--- The three commands that a thin text may send.
+-- The commands that a thin text may send.
 use Rattle.std.specs.Prelude.{Bool, true, false}
 use Rattle.pr_cdb.specs.declared.command.Command.{Command}
-use Rattle.pr_cdb.specs.declared.command.Command.TheVariants.{Register, RegisterIgnore, ReadKeys}
+use Rattle.pr_cdb.specs.declared.command.Command.TheVariants.{ReadKeys, Register, RegisterIgnore}
 
 abbrev pub is_thin : Command → Bool
 is_thin (Register rk sark) = true

@@ -3,22 +3,17 @@
 -- The lines with words are, in this order: `fence 1`; `keys KEY..`; `host NAME`; `role NAME register KEY`,
 -- which may lack; `script NAME budget N`; `send COMMAND`; `on good`; `stop WORD`, which may lack; `done`;
 -- `end`.
-use Rattle.std.specs.Prelude.{ℕ, Bool, true, false, ◌+◌, ◌==◌, ◌||◌, ◌&&◌, not, nat_lt, nat_le, if◌then◌else◌, List, [], ◌∷◌, ◌++◌, length, take, codes, Option, Some, None, option_map, unwrap_or, Result, Ok, Err}
-use Rattle.std.specs.List.{list_any}
+use Rattle.std.specs.Prelude.{ℕ, ◌+◌, ◌&&◌, nat_lt, nat_le, if◌then◌else◌, List, [], ◌∷◌, length, take, codes, Option, Some, None, option_map, Result, Ok, Err}
 use Rattle.std.specs.Option.{option_or, option_map_or}
 use Rattle.std.specs.Str.Lines.{lines}
 use Rattle.pr_cdb.specs.declared.command.Command.{Command}
 use Rattle.pr_cdb.specs.declared.command.Command.TheVariants.{ReadKeys}
 use Rattle.fence.specs.declared.thin.Awaited.{Awaited}
 use Rattle.fence.specs.declared.thin.Awaited.TheVariants.{Fence, Keys, Host, RoleOrScript, Script, Send, OnGood, StopOrDone, Done, End, Nothing}
-use Rattle.fence.specs.declared.thin_scenario.Thin.{Thin}
 use Rattle.fence.specs.declared.thin.Draft.{Draft}
-use Rattle.fence.specs.declared.options.Written.{Written}
-use Rattle.fence.specs.Chain.{◌>>=◌}
-use Rattle.fence.specs.TextLines.{is_text, words, after_all, only, says, whole_lines}
-use Rattle.fence.specs.WordTerms.{key_of, decimal_of, name_of}
-use Rattle.fence.specs.ThinCommands.{is_thin}
-use Rattle.fence.specs.CommandOptions.{unwritten, with_options, command_of}
+use Rattle.fence.specs.declared.thin_scenario.Thin.{Thin}
+use Rattle.fence.specs.TextLines.{is_text, words, says, whole_lines}
+use Rattle.fence.specs.ThinLines.{keys_line, host_line, role_line, script_line, send_line, stop_line}
 
 -- what a thin text says: the declared keys, the host, the key that its role lets it register, the budget of
 -- its script, the line of the send and its command, and the word with which the script stops
@@ -33,59 +28,7 @@ pub record ThinScenario : Type 0 where
 
 -- nothing is said yet: each line writes its own part over this
 abbrev pub blank : ThinScenario
-blank = record { keys = []; host = []; role = None; budget = 0; line = 0; command = ReadKeys 0; stop = None }
-
-abbrev pub has_key : List ℕ → ℕ → Bool
-has_key keys key = list_any (λ k. k == key) keys
-
--- 1 to 12 keys, none zero and none twice
-abbrev pub may_join : List ℕ → ℕ → Bool
-may_join keys key = not (key == 0) && (not (has_key keys key) && nat_lt (length keys) 12)
-
--- these keys, and those that the words are
-abbrev pub with_keys : List ℕ → List (List ℕ) → Option (List ℕ)
-with_keys keys [] = Some keys
-with_keys keys (w ∷ ws) = key_of w >>= λ key. if may_join keys key then with_keys (keys ++ key ∷ []) ws else None
-
-abbrev pub some_keys : List (List ℕ) → Option (List ℕ)
-some_keys [] = None
-some_keys (w ∷ ws) = with_keys [] (w ∷ ws)
-
-unfoldable pub keys_line : List (List ℕ) → Option (List ℕ)
-keys_line ws = after_all (codes "keys" ∷ []) ws >>= some_keys
-
-unfoldable pub host_line : List (List ℕ) → Option (List ℕ)
-host_line ws = after_all (codes "host" ∷ []) ws >>= only >>= name_of
-
--- a declared key is none that is zero
-unfoldable pub declared_key : List ℕ → List ℕ → Option ℕ
-declared_key keys word = key_of word >>= λ key. if has_key keys key then Some key else None
-
-unfoldable pub role_line : List ℕ → List ℕ → List (List ℕ) → Option ℕ
-role_line keys host ws =
-    after_all (codes "role" ∷ host ∷ codes "register" ∷ []) ws >>= only >>= declared_key keys
-
--- from 1 to 4096
-unfoldable pub budget_of : List ℕ → Option ℕ
-budget_of word = decimal_of word >>= λ n. if nat_le 1 n && nat_le n 4096 then Some n else None
-
-unfoldable pub script_line : List ℕ → List (List ℕ) → Option ℕ
-script_line host ws = after_all (codes "script" ∷ host ∷ codes "budget" ∷ []) ws >>= only >>= budget_of
-
--- a key that an option writes is declared, or zero
-abbrev pub may_write : List ℕ → Option ℕ → Bool
-may_write keys key = option_map_or (λ k. k == 0 || has_key keys k) key true
-
-unfoldable pub sent_command : List ℕ → Written → Option Command
-sent_command keys w =
-    command_of w >>= λ command.
-    if is_thin command && (may_write keys w.rk && may_write keys w.sark) then Some command else None
-
-unfoldable pub send_line : List ℕ → List (List ℕ) → Option Command
-send_line keys ws = after_all (codes "send" ∷ []) ws >>= with_options unwritten >>= sent_command keys
-
-unfoldable pub stop_line : List (List ℕ) → Option (List ℕ)
-stop_line ws = after_all (codes "stop" ∷ []) ws >>= only >>= name_of
+blank = record { keys = []; host = []; role = None; budget = 0; line = 0; command = ReadKeys 8192; stop = None }
 
 -- what the lines so far say, and what the next line with words may be
 pub record Sofar : Type 0 where

@@ -19,7 +19,7 @@ pub fn first_line(text: &[u8]) -> Option<(&[u8], &[u8])>
     ensures any { MatchOption result
         (lines text.now ≡ (if length text.now == 0 then [] else text.now ∷ []))
         (λ r. lines text.now ≡ r.0.now ∷ lines r.1.now) }
-    ensures shorter { MatchOption result (length text.now ≡ length text.now) (λ r. length r.1.now < length text.now) }
+    ensures shorter { IfSome result (λ r. length r.1.now < length text.now) }
 {
     let end = line_feed_in(text)?;
     Some((without_carriage_return(&text[..end]), &text[end + 1..]))

@@ -13,6 +13,7 @@ mod replay;
 mod source;
 mod terms;
 mod thin;
+mod thin_lines;
 mod thin_scenario;
 mod trace_output;
 

@@ -105,7 +105,12 @@ impl Written {
         match way {
             Way::In if self.is_bare() => command_in(action),
             Way::In => None,
-            Way::Out => command_out(action, self.rk.unwrap_or(0), self.sark.unwrap_or(0), self.kind),
+            Way::Out => command_out(
+                action,
+                self.rk.unwrap_or(0),
+                self.sark.unwrap_or(0),
+                self.kind,
+            ),
         }
     }
 }

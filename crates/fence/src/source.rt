@@ -30,7 +30,11 @@ impl From<AllocError> for SourceFault {
 /// The bytes that `reader` has left, or the first `limit` of them.
 ///
 /// It never asks for more than `limit` bytes in all, and asks nothing again after an error.
-pub fn all_bytes<R: Read>(alloc: Global, reader: &mut R, limit: usize) -> Result<Vec<u8>, SourceFault>
+pub fn all_bytes<R: Read>(
+    alloc: Global,
+    reader: &mut R,
+    limit: usize,
+) -> Result<Vec<u8>, SourceFault>
     ensures ok { IfOk result (λ bytes. ReadsUpTo limit (R.remaining reader.old) (R.remaining reader.new) bytes.items) }
     ensures err { OnErr result (LosesUpTo limit (R.remaining reader.old) (R.remaining reader.new)) }
 {

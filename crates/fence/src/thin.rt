@@ -1,18 +1,20 @@
 //! The private reader of thin texts: one host, one script, one command.
 
-ghost use Rattle.std.specs.Prelude.{◌≡◌, [], ◌∷◌, ◌+◌, ◌≤◌, ◌<◌, ◌^◌, ℕ, codes, length, option_map, OnErr, IsTrue, IfOk, IfErr, IfSome};
-ghost use Rattle.fence.specs.TextLines.{words, says, whole_lines};
+ghost use Rattle.std.specs.Prelude.{◌≡◌, ◌≤◌, ℕ, length, IfErr, IfOk, IfSome, IsTrue};
 ghost use Rattle.std.specs.Result.{result_map_both};
 ghost use Rattle.fence.specs.BytesRead.{LosesUpTo};
 ghost use Rattle.fence.specs.InputErrors.{input_error};
-ghost use Rattle.fence.specs.ThinReading.{IsRead, AreRead, IsFaultAt};
+ghost use Rattle.fence.specs.TextLines.{whole_lines};
 ghost use Rattle.fence.specs.ThinCommands.{is_thin};
-ghost use Rattle.fence.specs.ThinText.{seen, seen_draft, thin_of, nothing_said, read_lines, too_long, has_key, with_keys, some_keys, keys_line, host_line, declared_key, role_line, budget_of, script_line, may_write, sent_command, send_line, stop_line};
+ghost use Rattle.fence.specs.ThinReading.{IsRead, AreRead, IsFaultAt};
+ghost use Rattle.fence.specs.ThinText.{seen, seen_draft, thin_of, nothing_said, read_lines, too_long};
 
-use crate::cutting::{after, first_line, is_end, is_text, next_word, only};
-use crate::options::{Written, options_of};
+use crate::cutting::{first_line, is_end, is_text};
 use crate::source::{SourceFault, all_bytes};
-use crate::terms::{Word, decimal_of, key_of, name_of};
+use crate::terms::Word;
+use crate::thin_lines::{
+    host_line, keys_line, role_line, says, says_both, script_line, send_line, stop_line,
+};
 use crate::thin_scenario::Thin;
 use arrayvec::ArrayVec;
 use pr_cdb::Command;
@@ -23,10 +25,6 @@ use thiserror::Error;
 const MOST_BYTES: usize = 65_536;
 
 const MOST_LINE_BYTES: usize = 256;
-
-const MOST_KEYS: usize = 12;
-
-const MOST_BUDGET: u64 = 4_096;
 
 // What the next line with words may be.
 #[derive(Clone, Copy, Debug, PartialEq, Eq)]
@@ -81,6 +79,7 @@ impl From<SourceFault> for InputError {
 /// It asks for at most 65,537 bytes, and asks nothing again after an error.
 pub fn read_thin<R: Read>(alloc: Global, reader: &mut R) -> Result<Thin, InputError>
     ensures read { IfSome (R.remaining reader.old) (λ text. IsRead text result) }
+    ensures sendable { IfOk result (λ thin. IsTrue (is_thin thin.command)) }
     ensures limited { LosesUpTo 65537 (R.remaining reader.old) (R.remaining reader.new) }
 {
     let text = all_bytes(alloc, reader, MOST_BYTES + 1)?;
@@ -90,6 +89,7 @@ pub fn read_thin<R: Read>(alloc: Global, reader: &mut R) -> Result<Thin, InputEr
 /// What the text says, or its fault. It takes no memory.
 pub fn thin_of_text(text: &[u8]) -> Result<Thin, InputError>
     ensures read { IsRead text.now result }
+    ensures sendable { IfOk result (λ thin. IsTrue (is_thin thin.command)) }
     ensures syntax { IfErr result (λ e. (line : ℕ) × (e ≡ InputError.Syntax line)) }
 {
     thin_or_line(text).map_err(InputError::Syntax)
@@ -163,7 +163,7 @@ impl Draft {
                 role: None,
                 budget: 0,
                 line: 0,
-                command: Command::ReadKeys { alloc: 0 },
+                command: Command::ReadKeys { alloc: 8192 },
                 stop: None,
             },
         }
@@ -328,154 +328,5 @@ impl Draft {
     }
 }
 
-// The keys of the line `keys KEY..`.
-#[tactic(auto, unfolding(crate::specs::ThinText::keys_line))]
-fn keys_line(line: &[u8]) -> Option<ArrayVec<u64, 12>>
-    ensures { option_map (λ keys. keys.items) result ≡ keys_line (words line.now) }
-{
-    let rest = after("keys", line)?;
-    if is_end(rest) { None } else { keys_of(rest) }
-}
-
-// The keys that the words are: none zero, and none twice.
-fn keys_of(line: &[u8]) -> Option<ArrayVec<u64, 12>>
-    ensures { option_map (λ keys. keys.items) result ≡ with_keys [] (words line.now) }
-{
-    let mut keys = ArrayVec::new();
-    let mut rest = line;
-    while let Some((word, others)) = next_word(rest) {
-        let key = key_of(word)?;
-        if key == 0 || has_key(&keys, key) || keys.len() == MOST_KEYS {
-            return None;
-        }
-        keys.push(key);
-        rest = others;
-    }
-    Some(keys)
-}
-
-fn has_key(keys: &[u64], key: u64) -> bool
-    ensures { result ≡ has_key keys.now key }
-{
-    keys.contains(&key)
-}
-
-// The name of the line `host NAME`.
-#[tactic(auto, unfolding(crate::specs::ThinText::host_line))]
-fn host_line(line: &[u8]) -> Option<Word>
-    ensures { option_map (λ name. name.bytes) result ≡ host_line (words line.now) }
-{
-    let rest = after("host", line)?;
-    name_of(only(rest)?)
-}
-
-// The key of the line `role NAME register KEY`.
-#[tactic(auto, unfolding(crate::specs::ThinText::role_line))]
-fn role_line(keys: &[u64], host: &str, line: &[u8]) -> Option<u64>
-    ensures { result ≡ role_line keys.now host.now (words line.now) }
-{
-    let rest = after("role", line)?;
-    let rest = after(host, rest)?;
-    let rest = after("register", rest)?;
-    declared_key(keys, only(rest)?)
-}
-
-#[tactic(auto, unfolding(crate::specs::ThinText::declared_key))]
-fn declared_key(keys: &[u64], word: &[u8]) -> Option<u64>
-    ensures { result ≡ declared_key keys.now word.now }
-{
-    let key = key_of(word)?;
-    if has_key(keys, key) { Some(key) } else { None }
-}
-
-// The budget of the line `script NAME budget N`.
-#[tactic(auto, unfolding(crate::specs::ThinText::script_line))]
-fn script_line(host: &str, line: &[u8]) -> Option<u32>
-    ensures { result ≡ script_line host.now (words line.now) }
-{
-    let rest = after("script", line)?;
-    let rest = after(host, rest)?;
-    let rest = after("budget", rest)?;
-    budget_of(only(rest)?)
-}
-
-#[tactic(auto, unfolding(crate::specs::ThinText::budget_of))]
-fn budget_of(word: &[u8]) -> Option<u32>
-    ensures { result ≡ budget_of word.now }
-{
-    let budget = decimal_of(word)?;
-    if budget >= 1 && budget <= MOST_BUDGET { Some(budget as u32) } else { None }
-}
-
-// The command of the line `send COMMAND`.
-#[tactic(auto, unfolding(crate::specs::ThinText::send_line))]
-fn send_line(keys: &[u64], line: &[u8]) -> Option<Command>
-    ensures read { result ≡ send_line keys.now (words line.now) }
-    ensures served { IfSome result (λ c. IsTrue (is_thin c)) }
-{
-    let rest = after("send", line)?;
-    sent_command(keys, &options_of(rest)?)
-}
-
-// The command that the options spell, where a thin text may send it.
-#[tactic(auto, unfolding(crate::specs::ThinText::sent_command))]
-fn sent_command(keys: &[u64], written: &Written) -> Option<Command>
-    ensures read { result ≡ sent_command keys.now written.now }
-    ensures served { IfSome result (λ c. IsTrue (is_thin c)) }
-{
-    let command = written.command()?;
-    if is_thin(command) && may_write(keys, written.rk) && may_write(keys, written.sark) {
-        Some(command)
-    } else {
-        None
-    }
-}
-
-// Whether a thin text may send it.
-fn is_thin(command: Command) -> bool
-    ensures { result ≡ is_thin command }
-{
-    match command {
-        Command::Register { .. } | Command::RegisterIgnore { .. } | Command::ReadKeys { .. } => true,
-        _ => false,
-    }
-}
-
-// A key that is written is declared, or zero.
-fn may_write(keys: &[u64], key: Option<u64>) -> bool
-    ensures { result ≡ may_write keys.now key }
-{
-    match key {
-        Some(key) => key == 0 || has_key(keys, key),
-        None => true,
-    }
-}
-
-// The word of the line `stop WORD`.
-#[tactic(auto, unfolding(crate::specs::ThinText::stop_line))]
-fn stop_line(line: &[u8]) -> Option<Word>
-    ensures { option_map (λ name. name.bytes) result ≡ stop_line (words line.now) }
-{
-    let rest = after("stop", line)?;
-    name_of(only(rest)?)
-}
-
-// Whether the line is this one word.
-fn says(word: &str, line: &[u8]) -> bool
-    ensures { result ≡ says (word.now ∷ []) (words line.now) }
-{
-    match after(word, line) {
-        Some(rest) => is_end(rest),
-        None => false,
-    }
-}
-
-// Whether the line is these two words.
-fn says_both(first: &str, second: &str, line: &[u8]) -> bool
-    ensures { result ≡ says (first.now ∷ second.now ∷ []) (words line.now) }
-{
-    match after(first, line) {
-        Some(rest) => says(second, rest),
-        None => false,
-    }
-}
+#[cfg(test)]
+mod tests;

@@ -1,4 +1,4 @@
-//! The scenario of a thin text.
+//! What a thin text says.
 
 ghost use Rattle.std.specs.Prelude.{IsTrue};
 ghost use Rattle.fence.specs.ThinCommands.{is_thin};
@@ -24,5 +24,6 @@ pub struct Thin {
     pub command: Command,
     /// The word with which the script stops after GOOD.
     pub stop: Option<Word>,
-    ghost served: { IsTrue (is_thin command) },
+    // It is one of the three commands that a thin text may send.
+    ghost sendable: { IsTrue (is_thin command) },
 }

@@ -1,4 +1,4 @@
-use Rattle.std.proofs.Common.{◌∙◌, ap, sym, length, rules}
+use Rattle.std.proofs.Common.{◌∙◌, sym}
 use Rattle.std.proofs.lemmas.List.{take_rest}
 use Rattle.fence.proofs.LineCuts.{lines_first, whole_lines_first, lines_last, whole_lines_last}
 use Rattle.fence.proofs.cutting.first_line.Goals as goal

@@ -1,5 +1,3 @@
-use Rattle.std.proofs.Common.{◌≡◌, subst}
-use Rattle.fence.specs.ThinReading.{IsRead}
 use Rattle.fence.proofs.FrontOfText.{read_front}
 use Rattle.fence.proofs.thin.read_thin.Goals as goal
 

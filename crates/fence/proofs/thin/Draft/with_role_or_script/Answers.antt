@@ -1,6 +1,7 @@
 use Rattle.std.proofs.Common.{◌≡◌, None}
 use Rattle.fence.specs.TextLines.{words}
-use Rattle.fence.specs.ThinText.{role_line, with_words}
+use Rattle.fence.specs.ThinLines.{role_line}
+use Rattle.fence.specs.ThinText.{with_words}
 use Rattle.fence.proofs.thin.Draft.with_role_or_script.Goals as goal
 
 -- Where there is no role line, what is left of the definition is the script line.

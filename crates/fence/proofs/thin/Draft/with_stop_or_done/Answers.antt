@@ -1,6 +1,7 @@
 use Rattle.std.proofs.Common.{◌≡◌, None, sym}
 use Rattle.fence.specs.TextLines.{words}
-use Rattle.fence.specs.ThinText.{stop_line, with_words}
+use Rattle.fence.specs.ThinLines.{stop_line}
+use Rattle.fence.specs.ThinText.{with_words}
 use Rattle.fence.proofs.thin.Draft.with_stop_or_done.Goals as goal
 
 -- Where there is no stop line, what is left of the definition is the line `done`.
