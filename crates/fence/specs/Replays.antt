@@ -8,7 +8,7 @@ use Rattle.fence.specs.declared.fault.Status.{Status}
 use Rattle.fence.specs.declared.fault.Status.TheVariants as status
 use Rattle.fence.specs.declared.trace_output.Ended.{Ended}
 use Rattle.fence.specs.Chain.{◌>>=◌}
-use Rattle.fence.specs.Written.{AppendsFront}
+use Rattle.fence.specs.Written.{FallsShort}
 use Rattle.fence.specs.FaultText.{fault_text, status_of}
 use Rattle.fence.specs.TraceText.{trace_text}
 use Rattle.fence.specs.ThinText.{ThinScenario, thin_of}
@@ -57,7 +57,7 @@ abbrev pub Outputs : List (List ℕ) → Option (List ℕ) → Option (List ℕ)
 Outputs steps known old new (Ok refused) =
     IfSome known (λ text. (trace : List ℕ) × IsTraceOf steps text trace refused × Appends old new trace)
 Outputs steps known old new (Err fault.Output) =
-    IfSome known (λ text. (trace : List ℕ) × (refused : Bool) × IsTraceOf steps text trace refused × AppendsFront old new trace)
+    IfSome known (λ text. (trace : List ℕ) × (refused : Bool) × IsTraceOf steps text trace refused × FallsShort old new trace)
 Outputs steps known old new (Err fault.Memory) = Keeps old new
 Outputs steps known old new (Err fault.ReadFault) = Keeps old new
 Outputs steps known old new (Err fault.Usage) = IfSome known (λ text. first_fault steps text ≡ Some fault.Usage) × Keeps old new

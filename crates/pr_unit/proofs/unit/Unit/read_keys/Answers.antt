@@ -13,7 +13,7 @@ returns c =
     let u = c.self.inside.registry in
     let q = Plain (ReadKeys c.args.alloc) in
     let keys = c.deref.ensures.0 ∙ c.keys-keys.ensures in
-    let bytes = c.cut.ensures ∙ ap (cut c.args.alloc) (c.keys_data.ensures ∙ (λ i. keys_bytes (c.generation.ensures i) (keys i))) in
+    let bytes = c.cut.ensures ∙ ap (cut c.args.alloc) (c.keys_data.ensures.bytes ∙ (λ i. keys_bytes (c.generation.ensures i) (keys i))) in
     rw (c.good.ensures, bytes) (
     subst (λ s. TakenStep s c.args.host q (good (data_of u (ReadKeys c.args.alloc))) s) c.self.view_is
     (step_done u u c.args.host (ReadKeys c.args.alloc) refl refl (told-no_change set.empty) refl)
