@@ -25,8 +25,8 @@ named_from name steps some = at (list_all (bytes_eq name) steps) (named_by_all n
     at false is = absurd (false≢true (sym (ap is_some is) ∙ some))
 
 planned_trace : (steps : List (List ℕ)) (text : List ℕ) (thin : Thin) (r : Replayed) → thin_of text ≡ Ok (seen thin)
-  → is_some (hosts_of (thin.host.bytes ∷ []) steps) ≡ true → IsReplayed (seen thin) (length steps) r
-  → IsTraceOf steps text (planned_text (record { host = thin.host; replayed = r })) (is_trapped_end r.ended.end)
+    → is_some (hosts_of (thin.host.bytes ∷ []) steps) ≡ true → IsReplayed (seen thin) (length steps) r
+    → IsTraceOf steps text (planned_text (record { host = thin.host; replayed = r })) (is_trapped_end r.ended.end)
 planned_trace steps text thin r read named is = record {
   scenario = seen thin;
   read = read;
@@ -41,15 +41,15 @@ planned_trace steps text thin r read named is = record {
 }
 
 pub planned : (steps : List (List ℕ)) (known : Option (List ℕ)) (thin : Thin) (r : Replayed) → (has_wrong_count steps ≡ false)
-  → IfSome known (λ text. IsRead text (Ok thin)) → is_some (hosts_of (thin.host.bytes ∷ []) steps) ≡ true → IsReplayed (seen thin) (length steps) r
-  → IsPlanned steps known (Ok (record { host = thin.host; replayed = r }))
+    → IfSome known (λ text. IsRead text (Ok thin)) → is_some (hosts_of (thin.host.bytes ∷ []) steps) ≡ true → IsReplayed (seen thin) (length steps) r
+    → IsPlanned steps known (Ok (record { host = thin.host; replayed = r }))
 planned steps known thin r counted read named is = record {
   plans = at known read;
   counted = λ wrong. absurd (false≢true (sym counted ∙ wrong));
 }
   where
     at : (known : Option (List ℕ)) → IfSome known (λ text. IsRead text (Ok thin))
-      → IfSome known (λ text. IsTraceOf steps text (planned_text (record { host = thin.host; replayed = r })) (is_trapped_end r.ended.end))
+        → IfSome known (λ text. IsTraceOf steps text (planned_text (record { host = thin.host; replayed = r })) (is_trapped_end r.ended.end))
     at None read = tt
     at (Some text) read = planned_trace steps text thin r read named is
 

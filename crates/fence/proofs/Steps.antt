@@ -15,7 +15,7 @@ number_of_one name word true is = rw is refl
 number_of_one name word false is = rw is refl
 
 first_named : (name w : List ℕ) (ws : List (List ℕ)) (b : Bool) → bytes_eq name w ≡ b
-  → hosts_of (name ∷ []) (w ∷ ws) ≡ (if b then option_map (λ hs. 0 ∷ hs) (hosts_of (name ∷ []) ws) else None)
+    → hosts_of (name ∷ []) (w ∷ ws) ≡ (if b then option_map (λ hs. 0 ∷ hs) (hosts_of (name ∷ []) ws) else None)
 first_named name w ws true is = ap (λ o. o >>= λ h. option_map (λ hs. h ∷ hs) (hosts_of (name ∷ []) ws)) (number_of_one name w true is)
 first_named name w ws false is = ap (λ o. o >>= λ h. option_map (λ hs. h ∷ hs) (hosts_of (name ∷ []) ws)) (number_of_one name w false is)
 
@@ -24,7 +24,7 @@ named_by_all name [] = refl
 named_by_all name (w ∷ ws) = at (bytes_eq name w) (list_all (bytes_eq name) ws) refl (named_by_all name ws)
   where
     at : (b c : Bool) → bytes_eq name w ≡ b → hosts_of (name ∷ []) ws ≡ (if c then Some (replicate (length ws) 0) else None)
-      → hosts_of (name ∷ []) (w ∷ ws) ≡ (if b && c then Some (replicate (suc (length ws)) 0) else None)
+        → hosts_of (name ∷ []) (w ∷ ws) ≡ (if b && c then Some (replicate (suc (length ws)) 0) else None)
     at true true is rest = first_named name w ws true is ∙ ap (option_map (λ hs. 0 ∷ hs)) rest
     at true false is rest = first_named name w ws true is ∙ ap (option_map (λ hs. 0 ∷ hs)) rest
     at false c is rest = first_named name w ws false is

@@ -23,7 +23,7 @@ after_reply true (Some word) line = Going (todo (stops word) ∷ [])
 after_reply false stop line = Trapped line
 
 taken_by : (b : Bool) (stop : Option (List ℕ)) (line : ℕ)
-  → going_or line (option_map (λ body. settled (before body [])) (if b then Some (stop_or_none stop) else None)) ≡ after_reply b stop line
+    → going_or line (option_map (λ body. settled (before body [])) (if b then Some (stop_or_none stop) else None)) ≡ after_reply b stop line
 unfolding settled after_reply
 taken_by true None line = refl
 taken_by true (Some word) line = refl
@@ -33,7 +33,7 @@ world_after : ThinScenario → UnitState → Entry → World
 world_after s v e = record { unit = v; controls = after_reply (is_good_status e.reply.status) s.stop s.line ∷ []; entries = e ∷ [] }
 
 first_turn : (s : ThinScenario) (e : Entry) (v : UnitState) → IsSent (quiet (fresh 1)) s.command e v
-  → TurnBy (standing_of (control (start_of s) 0)) (start_of s) 0 (world_after s v e)
+    → TurnBy (standing_of (control (start_of s) 0)) (start_of s) 0 (world_after s v e)
 unfolding settled world_after
 first_turn s e v is = record {
   reply = e.reply;
@@ -92,8 +92,8 @@ one_sent : (u v : UnitState) (s : ThinScenario) (e : Entry) → IsSent u s.comma
 one_sent u v s e is = ap (λ (x : Entry). sent (x ∷ []) 0) (sym is.entry)
 
 pub replayed_by : (s : ThinScenario) (turns : ℕ) (e : Entry) (v : UnitState) (x : End) (r : Replayed) → 1 ≤ turns
-  → IsSent (quiet (fresh 1)) s.command e v → IsEndAfter s e.reply x → r.entries.items ≡ e ∷ [] → r.unit ≡ v → r.ended ≡ record { end = x; sent = 1 }
-  → IsReplayed s turns r
+    → IsSent (quiet (fresh 1)) s.command e v → IsEndAfter s e.reply x → r.entries.items ≡ e ∷ [] → r.unit ≡ v → r.ended ≡ record { end = x; sent = 1 }
+    → IsReplayed s turns r
 unfolding world_after
 replayed_by s turns e v x r some is ends entries unit ended =
     let b = is_good_status e.reply.status in

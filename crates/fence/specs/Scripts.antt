@@ -21,9 +21,11 @@ mutual
     repeats : ℕ → Stmts → Stmt
     breaks : Stmt
     stops : List ℕ → Stmt
+
   pub data Stmts : Type 0 where
     none : Stmts
     more : Stmt → Stmts → Stmts
+
   pub data Arms : Type 0 where
     no_arm : Arms
     arm : Test → Stmts → Arms → Arms
@@ -67,6 +69,7 @@ abbrev mutual
   work_of (repeats n b) = n * (work_of_all b + 2) + 1
   work_of breaks = 1
   work_of (stops w) = 1
+
   pub work_of_all : Stmts → ℕ
   work_of_all none = 0
   work_of_all (more s ss) = work_of s + work_of_all ss

@@ -138,3 +138,6 @@ impl From<InputError> for Fault {
         }
     }
 }
+
+#[cfg(test)]
+mod tests;
