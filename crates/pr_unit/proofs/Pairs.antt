@@ -56,6 +56,9 @@ contains-union-pairs s t p = set.contains-union pair_cmp_total s t p
 pub contains-remove-pair : (s : Pairs) (q p : ℕ × ℕ) → set.contains (set.remove s q) p ≡ (not (p.0 == q.0 && p.1 == q.1) && set.contains s p)
 contains-remove-pair s q p = set.contains-remove pair_cmp_total s q p ∙ ap (λ b. not b && set.contains s p) (pair_tied p q)
 
+pub contains-insert-pair : (s : Pairs) (q p : ℕ × ℕ) → set.contains (set.insert s q) p ≡ ((p.0 == q.0 && p.1 == q.1) || set.contains s p)
+contains-insert-pair s q p = set.contains-insert pair_cmp_total s q p ∙ ap (λ b. b || set.contains s p) (pair_tied p q)
+
 or_and : (a b c : Bool) → ((a && c) || (b && c)) ≡ ((a || b) && c)
 or_and true true true = refl
 or_and true true false = refl

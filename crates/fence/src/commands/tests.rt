@@ -132,6 +132,7 @@ fn assert_replayed(
 
 #[test]
 fn first_registration_is_replayed(rt: HostRuntime) {
+    let steps = ["a"; 4097];
     assert_replayed(
         &rt,
         rt.alloc(),
@@ -145,7 +146,7 @@ fn first_registration_is_replayed(rt: HostRuntime) {
         &rt,
         rt.alloc(),
         FIRST,
-        &["a"; 4096],
+        &steps[..4096],
         Status::Done,
         FIRST_TRACE,
         b"",
@@ -176,6 +177,7 @@ fn wrong_key_traps_the_script(rt: HostRuntime) {
 
 #[test]
 fn first_fault_is_told(rt: HostRuntime) {
+    let steps = ["a"; 4097];
     assert_replayed(
         &rt,
         rt.alloc(),
@@ -189,7 +191,7 @@ fn first_fault_is_told(rt: HostRuntime) {
         &rt,
         rt.alloc(),
         b"",
-        &["a"; 4097],
+        &steps,
         Status::Usage,
         b"",
         b"fence: usage\n",
