@@ -1,13 +1,15 @@
 //! The registrations, the reservation and the generation.
 
-ghost use Rattle.std.specs.Prelude.{◌≡◌, ◌<◌, ◌≤◌, ◌↔◌, IsTrue, IsSome, IfSome, None, length};
+ghost use Rattle.std.specs.Prelude.{◌≡◌, ◌<◌, ◌≤◌, ◌↔◌, IsTrue, IsSome, IfSome, None, false, length};
 ghost use Rattle.std.specs.FinMap as map;
 
 use crate::change::Change;
 use crate::held::Held;
-use crate::table;
+use crate::preempt::Case;
 use crate::table::MOST_HOSTS;
+use crate::{preempt, table};
 use arrayvec::ArrayVec;
+use pr_cdb::Kind;
 use std::marker::Model;
 
 /// Who is registered with which key, the reservation, and PRGENERATION (SPC-4, 'Persistent
@@ -37,9 +39,9 @@ impl Model for Registry {
 }
 
 impl Registry {
-    ghost use Rattle.pr_registry.specs.Registrations.{IsWellFormed, fresh, state_from, key_of, is_registered};
-    ghost use Rattle.pr_registry.specs.Changes.{no_change, change_on_unregister};
-    ghost use Rattle.pr_registry.specs.Effects.{registered, unregistered};
+    ghost use Rattle.pr_registry.specs.Registrations.{IsWellFormed, Holds, fresh, state_from, key_of, is_registered};
+    ghost use Rattle.pr_registry.specs.Changes.{no_change, is_in_the_way, is_held_as, is_released, preempt_case, HasKindIfReplacing, change_on_unregister, change_on_release, change_on_clear, change_on_preempt};
+    ghost use Rattle.pr_registry.specs.Effects.{registered, unregistered, reserved, released, cleared, preempted};
 
     /// Nothing is registered or reserved, and the generation is 0.
     pub fn new(hosts: u8) -> Self
@@ -148,6 +150,67 @@ impl Registry {
         change
     }
 
+    /// RESERVE, by a registrant: it holds the reservation from now on, or all registrants do. One that
+    /// holds a reservation of this type already changes nothing.
+    pub fn reserve(&mut self, host: u8, kind: Kind) -> Change
+        requires there { IsTrue (is_registered self.old host) }
+        requires free { is_in_the_way self.old host self.old.held kind ≡ false }
+        ensures state { self.new ≡ reserved self.old host kind }
+        ensures change { result ≡ no_change }
+    {
+        if self.held.is_none() {
+            self.held = Some(table::established(kind, host));
+        }
+        Change::none()
+    }
+
+    /// RELEASE, by a registrant: where it holds, it names the type that stands, and the reservation ends;
+    /// under types 5 to 8 the other registrants are told so. One that does not hold changes nothing.
+    pub fn release(&mut self, host: u8, kind: Kind) -> Change
+        requires there { IsTrue (is_registered self.old host) }
+        requires named { Holds self.old host → IsTrue (is_held_as self.old.held kind) }
+        ensures state { self.new ≡ released self.old host kind }
+        ensures change { result ≡ change_on_release self.old host kind }
+    {
+        let change = self.change_on_release(host, kind);
+        if self.is_released(host, kind) {
+            self.held = None;
+        }
+        change
+    }
+
+    /// CLEAR, by a registrant: all registrations and the reservation end, and the other registrants are
+    /// told so.
+    pub fn clear(&mut self, host: u8) -> Change
+        requires { IsTrue (is_registered self.old host) }
+        ensures state { self.new ≡ cleared self.old }
+        ensures change { result ≡ change_on_clear self.old host }
+    {
+        let change = self.change_on_clear(host);
+        self.slots = [None; 8];
+        self.held = None;
+        self.generation = self.generation.wrapping_add(1);
+        change
+    }
+
+    /// PREEMPT, or PREEMPT AND ABORT, by a registrant: registrations end and those who had them are told
+    /// so. Where the key is that of the reservation's single holder, or is zero and all registrants hold,
+    /// the sender stays registered and the reservation is replaced by one of this type; registrants who
+    /// stay are told where a single holder's had another type.
+    pub fn preempt(&mut self, host: u8, sark: u64, kind: Option<Kind>) -> Change
+        requires there { IsTrue (is_registered self.old host) }
+        requires typed { HasKindIfReplacing kind (preempt_case self.old.keys self.old.held sark) }
+        ensures state { self.new ≡ preempted self.old host sark kind }
+        ensures change { result ≡ change_on_preempt self.old host sark kind }
+    {
+        let case = preempt::preempt_case(&self.slots, self.held, sark);
+        let change = self.change_on_preempt(host, sark, kind, case);
+        table::remove_all(&mut self.slots, &change.removed);
+        self.held = preempt::held_after_preempt(&self.slots, self.held, host, kind, case);
+        self.generation = self.generation.wrapping_add(1);
+        change
+    }
+
     fn change_on_unregister(&self, host: u8) -> Change
         requires { host < 8 }
         ensures { result ≡ change_on_unregister self.now host }
@@ -155,7 +218,50 @@ impl Registry {
         let mut change = Change::none();
         change.removed.insert(host);
         if table::holds_alone(self.held, host) && table::is_told_of_loss(self.held) {
-            change.told_04 = table::others(&self.slots, host);
+            change.told_04 = table::registrants(&self.slots).without(host);
+        }
+        change
+    }
+
+    // Whether a RELEASE of this type by the host ends the reservation.
+    fn is_released(&self, host: u8, kind: Kind) -> bool
+        ensures { result ≡ is_released self.now host kind }
+    {
+        table::is_holder(&self.slots, self.held, host) && table::is_held_as(self.held, kind)
+    }
+
+    fn change_on_release(&self, host: u8, kind: Kind) -> Change
+        requires { host < 8 }
+        ensures { result ≡ change_on_release self.now host kind }
+    {
+        let mut change = Change::none();
+        if self.is_released(host, kind) && table::is_told_of_loss(self.held) {
+            change.told_04 = table::registrants(&self.slots).without(host);
+        }
+        change
+    }
+
+    fn change_on_clear(&self, host: u8) -> Change
+        requires { host < 8 }
+        ensures { result ≡ change_on_clear self.now host }
+    {
+        let mut change = Change::none();
+        change.removed = table::registrants(&self.slots);
+        change.told_03 = change.removed.without(host);
+        change
+    }
+
+    fn change_on_preempt(&self, host: u8, sark: u64, kind: Option<Kind>, case: Case) -> Change
+        requires there { host < 8 }
+        requires case { case ≡ preempt_case self.now.keys self.now.held sark }
+        ensures { result ≡ change_on_preempt self.now host sark kind }
+    {
+        let mut change = Change::none();
+        change.removed = preempt::removed_by_preempt(&self.slots, host, sark, case);
+        change.told_05 = change.removed.without(host);
+        if preempt::is_new_type(kind, case) {
+            let others = table::registrants(&self.slots).without(host);
+            change.told_04 = others.difference(&change.removed);
         }
         change
     }
