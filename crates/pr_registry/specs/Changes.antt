@@ -10,8 +10,6 @@ use Rattle.pr_cdb.specs.Kinds.{code_of}
 use Rattle.pr_registry.specs.declared.held.Held.{Held}
 use Rattle.pr_registry.specs.declared.held.Held.TheVariants.{One, All}
 use Rattle.pr_registry.specs.declared.change.Change.{Change}
-pub use Rattle.pr_registry.specs.declared.preempt.Case.{Case}
-pub use Rattle.pr_registry.specs.declared.preempt.Case.TheVariants.{ReplacesAll, ReplacesHolder, RemovesKey}
 use Rattle.pr_registry.specs.Hosts.{Hosts, Keys, nobody, just, is_key, hosts_in, hosts_with}
 use Rattle.pr_registry.specs.Registrations.{State, registrants, others, is_holder, holds_alone, is_for_registrants, kind_of}
 
@@ -62,7 +60,16 @@ is_held_by_all None = false
 is_held_by_all (Some (One t g)) = false
 is_held_by_all (Some (All t)) = true
 
--- which of its three successful cases a PREEMPT of this key is
+-- the three successful cases of PREEMPT
+pub data Case : Type 0 where
+  -- service action reservation key zero where all registrants hold: all other registrations
+  ReplacesAll : Case
+  -- the key of the single holder of a reservation of this type
+  ReplacesHolder : Kind → Case
+  -- any other key
+  RemovesKey : Case
+
+-- which of them a PREEMPT of this key is
 abbrev pub preempt_case : Keys → Option Held → ℕ → Case
 preempt_case keys None sark = RemovesKey
 preempt_case keys (Some (One t g)) sark = if is_key (map.get keys g) sark then ReplacesHolder t else RemovesKey

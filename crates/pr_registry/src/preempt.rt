@@ -3,6 +3,7 @@
 ghost use Rattle.std.specs.Prelude.{◌≡◌, ◌<◌, option_map};
 ghost use Rattle.pr_registry.specs.Registrations.{table_keys, established};
 ghost use Rattle.pr_registry.specs.Changes.{preempt_case, is_replacing, removed_by_preempt, is_new_type};
+ghost use Rattle.pr_registry.specs.Cases.{case_of};
 ghost use Rattle.pr_registry.specs.Effects.{held_after_preempt};
 
 use crate::held::Held;
@@ -27,7 +28,7 @@ pub(crate) enum Case {
 
 /// Which case a PREEMPT with this key is.
 pub(crate) fn preempt_case(slots: &[Option<u64>; 8], held: Option<Held>, sark: u64) -> Case
-    ensures { result ≡ preempt_case (table_keys 8 slots.now) held sark }
+    ensures { case_of result ≡ preempt_case (table_keys 8 slots.now) held sark }
 {
     match held {
         None => Case::RemovesKey,
@@ -50,7 +51,7 @@ pub(crate) fn preempt_case(slots: &[Option<u64>; 8], held: Option<Held>, sark: u
 
 /// Whether the reservation is replaced.
 pub(crate) fn is_replacing(case: Case) -> bool
-    ensures { result ≡ is_replacing case }
+    ensures { result ≡ is_replacing (case_of case) }
 {
     match case {
         Case::ReplacesAll => true,
@@ -67,7 +68,7 @@ pub(crate) fn removed_by_preempt(
     case: Case,
 ) -> HostSet
     requires { host < 8 }
-    ensures { result ≡ removed_by_preempt (table_keys 8 slots.now) host sark case }
+    ensures { result ≡ removed_by_preempt (table_keys 8 slots.now) host sark (case_of case) }
 {
     match case {
         Case::ReplacesAll => table::registrants(slots).without(host),
@@ -78,7 +79,7 @@ pub(crate) fn removed_by_preempt(
 
 /// Whether the holder's reservation is replaced by one of another type.
 pub(crate) fn is_new_type(kind: Option<Kind>, case: Case) -> bool
-    ensures { result ≡ is_new_type kind case }
+    ensures { result ≡ is_new_type kind (case_of case) }
 {
     match (kind, case) {
         (Some(new), Case::ReplacesHolder(old)) => !table::is_kind(old, new),
@@ -94,7 +95,7 @@ pub(crate) fn held_after_preempt(
     kind: Option<Kind>,
     case: Case,
 ) -> Option<Held>
-    ensures { result ≡ held_after_preempt (table_keys 8 rest.now) held host kind case }
+    ensures { result ≡ held_after_preempt (table_keys 8 rest.now) held host kind (case_of case) }
 {
     match case {
         Case::ReplacesAll => established_if(kind, host),

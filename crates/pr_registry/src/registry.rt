@@ -41,6 +41,7 @@ impl Model for Registry {
 impl Registry {
     ghost use Rattle.pr_registry.specs.Registrations.{IsWellFormed, Holds, fresh, state_from, key_of, is_registered};
     ghost use Rattle.pr_registry.specs.Changes.{no_change, is_in_the_way, is_held_as, is_released, preempt_case, HasKindIfReplacing, change_on_unregister, change_on_release, change_on_clear, change_on_preempt};
+    ghost use Rattle.pr_registry.specs.Cases.{case_of};
     ghost use Rattle.pr_registry.specs.Effects.{registered, unregistered, reserved, released, cleared, preempted};
 
     /// Nothing is registered or reserved, and the generation is 0.
@@ -253,7 +254,7 @@ impl Registry {
 
     fn change_on_preempt(&self, host: u8, sark: u64, kind: Option<Kind>, case: Case) -> Change
         requires there { host < 8 }
-        requires case { case ≡ preempt_case self.now.keys self.now.held sark }
+        requires case { case_of case ≡ preempt_case self.now.keys self.now.held sark }
         ensures { result ≡ change_on_preempt self.now host sark kind }
     {
         let mut change = Change::none();

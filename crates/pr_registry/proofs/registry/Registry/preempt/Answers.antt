@@ -2,6 +2,7 @@ use Rattle.std.proofs.Common.{IsTrue, sym, ap, subst, ◌∙◌}
 use Rattle.pr_registry.specs.declared.change.Change.{Change}
 use Rattle.pr_registry.specs.Registrations.{IsWellFormed, is_registered, state_of}
 use Rattle.pr_registry.specs.Changes.{preempt_case, removed_by_preempt, HasKindIfReplacing}
+use Rattle.pr_registry.specs.Cases.{case_of}
 use Rattle.pr_registry.proofs.States.{state_of-preempted, well_formed-preempted}
 use Rattle.pr_registry.proofs.registry.Registry.preempt.Goals as goal
 
@@ -12,7 +13,7 @@ invariant_of-self c =
     ∙ ap (λ u. removed_by_preempt u.keys c.args.host c.args.sark (preempt_case u.keys u.held c.args.sark)) (sym c.self.view_is) in
     let is =
     state_of-preempted s.hosts s.slots c.remove_all.new.slots s.held c.held_after_preempt-self-inside.result s.generation c.args.host c.args.sark c.args.kind
-    c.preempt_case-case.result c.change_on_preempt-change.result.removed c.preempt_case-case.ensures removed c.remove_all.ensures
+    (case_of c.preempt_case-case.result) c.change_on_preempt-change.result.removed c.preempt_case-case.ensures removed c.remove_all.ensures
     c.held_after_preempt-self-inside.ensures in
     let there = subst (λ u. IsTrue (is_registered u c.args.host)) (sym c.self.view_is) c.requires.there in
     let typed = subst (λ u. HasKindIfReplacing c.args.kind (preempt_case u.keys u.held c.args.sark)) (sym c.self.view_is) c.requires.typed in
