@@ -39,8 +39,9 @@ impl Model for Registry {
 }
 
 impl Registry {
-    ghost use Rattle.pr_registry.specs.Registrations.{IsWellFormed, Holds, fresh, state_from, key_of, is_registered};
-    ghost use Rattle.pr_registry.specs.Changes.{no_change, is_in_the_way, is_held_as, is_released, preempt_case, HasKindIfReplacing, change_on_unregister, change_on_release, change_on_clear, change_on_preempt};
+    ghost use Rattle.pr_registry.specs.Registrations.{IsWellFormed, Holds, fresh, state_from, key_of, is_registered, is_holder};
+    ghost use Rattle.pr_registry.specs.Hosts.{is_nobodys};
+    ghost use Rattle.pr_registry.specs.Changes.{no_change, is_in_the_way, is_held_as, is_held_by_all, is_released, preempt_case, is_replacing, HasKindIfReplacing, change_on_unregister, change_on_release, change_on_clear, change_on_preempt};
     ghost use Rattle.pr_registry.specs.Cases.{case_of};
     ghost use Rattle.pr_registry.specs.Effects.{registered, unregistered, reserved, released, cleared, preempted};
 
@@ -114,6 +115,58 @@ impl Registry {
         ensures { result ≡ self.now.held }
     {
         self.held
+    }
+
+    /// Whether the host is registered.
+    pub fn is_registered(&self, host: u8) -> bool
+        requires { host < self.now.hosts }
+        ensures { result ≡ is_registered self.now host }
+    {
+        table::is_registered(&self.slots, host)
+    }
+
+    /// Whether no host is registered with this key.
+    pub fn is_nobodys(&self, key: u64) -> bool
+        ensures { result ≡ is_nobodys self.now.keys key }
+    {
+        table::is_nobodys(&self.slots, key)
+    }
+
+    /// Whether the host holds the reservation: the single holder, or each registrant under types 7 and 8.
+    pub fn is_holder(&self, host: u8) -> bool
+        requires { host < self.now.hosts }
+        ensures { result ≡ is_holder self.now host }
+    {
+        table::is_holder(&self.slots, self.held, host)
+    }
+
+    /// Whether the reservation is of this type.
+    pub fn is_held_as(&self, kind: Kind) -> bool
+        ensures { result ≡ is_held_as self.now.held kind }
+    {
+        table::is_held_as(self.held, kind)
+    }
+
+    /// Whether all registrants hold the reservation.
+    pub fn is_held_by_all(&self) -> bool
+        ensures { result ≡ is_held_by_all self.now.held }
+    {
+        table::is_held_by_all(self.held)
+    }
+
+    /// Whether the reservation keeps the host from reserving with this type.
+    pub fn is_in_the_way(&self, host: u8, kind: Kind) -> bool
+        requires { host < self.now.hosts }
+        ensures { result ≡ is_in_the_way self.now host self.now.held kind }
+    {
+        self.held.is_some() && !self.is_released(host, kind)
+    }
+
+    /// Whether a PREEMPT with this key replaces the reservation, and so needs a type.
+    pub fn is_replaced_by(&self, sark: u64) -> bool
+        ensures { result ≡ is_replacing (preempt_case self.now.keys self.now.held sark) }
+    {
+        preempt::is_replacing(preempt::preempt_case(&self.slots, self.held, sark))
     }
 
     /// PRGENERATION.
