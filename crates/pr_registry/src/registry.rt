@@ -12,6 +12,9 @@ use arrayvec::ArrayVec;
 use pr_cdb::Kind;
 use std::marker::Model;
 
+#[cfg(test)]
+mod tests;
+
 /// Who is registered with which key, the reservation, and PRGENERATION (SPC-4, 'Persistent
 /// reservations').
 ///
