@@ -51,34 +51,34 @@ pub table_keys-none : table_keys 8 (None ∷ None ∷ None ∷ None ∷ None ∷
 unfolding map_where
 table_keys-none = refl
 
-pub state_of-registered : (hosts : ℕ) (old new : List (Option ℕ)) (held : Option Held) (g h k : ℕ) → table_keys 8 new ≡ map.insert (table_keys 8 old) h k
-    → state_of hosts new held (next g) ≡ registered (state_of hosts old held g) h k
-state_of-registered hosts old new held g h k keys = λ x. record { hosts = hosts; keys = keys x; held = held; generation = next g }
+pub state_of-registered : (hosts : ℕ) (old new : List (Option ℕ)) (held : Option Held) (g after_g h k : ℕ) → table_keys 8 new ≡ map.insert (table_keys 8 old) h k → after_g ≡ next g
+    → state_of hosts new held after_g ≡ registered (state_of hosts old held g) h k
+state_of-registered hosts old new held g after_g h k keys more = λ x. record { hosts = hosts; keys = keys x; held = held; generation = more x }
 
-pub state_of-unregistered : (hosts : ℕ) (old new : List (Option ℕ)) (held after : Option Held) (g h : ℕ) → table_keys 8 new ≡ without (table_keys 8 old) (just h)
-    → after ≡ (if holds_alone held h then None else held_by_rest (table_keys 8 new) held)
-    → state_of hosts new after (next g) ≡ unregistered (state_of hosts old held g) h
-state_of-unregistered hosts old new held after g h keys is =
+pub state_of-unregistered : (hosts : ℕ) (old new : List (Option ℕ)) (held after : Option Held) (g after_g h : ℕ) → table_keys 8 new ≡ without (table_keys 8 old) (just h)
+    → after ≡ (if holds_alone held h then None else held_by_rest (table_keys 8 new) held) → after_g ≡ next g
+    → state_of hosts new after after_g ≡ unregistered (state_of hosts old held g) h
+state_of-unregistered hosts old new held after g after_g h keys is more =
     let left = is ∙ ap (λ rest. if holds_alone held h then None else held_by_rest rest held) keys in
-    λ x. record { hosts = hosts; keys = keys x; held = left x; generation = next g }
+    λ x. record { hosts = hosts; keys = keys x; held = left x; generation = more x }
 
 pub state_of-reserved : (hosts : ℕ) (slots : List (Option ℕ)) (held : Option Held) (new : Held) (g h : ℕ) (t : Kind) → is_some held ≡ false → new ≡ established t h
     → state_of hosts slots (Some new) g ≡ reserved (state_of hosts slots held g) h t
 state_of-reserved hosts slots None new g h t free is = λ x. record { hosts = hosts; keys = table_keys 8 slots; held = Some (is x); generation = g }
 state_of-reserved hosts slots (Some v) new g h t free is = absurd (false≢true (sym free))
 
-pub state_of-cleared : (hosts : ℕ) (slots : List (Option ℕ)) (held : Option Held) (g : ℕ)
-    → state_of hosts (None ∷ None ∷ None ∷ None ∷ None ∷ None ∷ None ∷ None ∷ []) None (next g) ≡ cleared (state_of hosts slots held g)
-state_of-cleared hosts slots held g = λ x. record { hosts = hosts; keys = table_keys-none x; held = None; generation = next g }
+pub state_of-cleared : (hosts : ℕ) (slots : List (Option ℕ)) (held : Option Held) (g after_g : ℕ) → after_g ≡ next g
+    → state_of hosts (None ∷ None ∷ None ∷ None ∷ None ∷ None ∷ None ∷ None ∷ []) None after_g ≡ cleared (state_of hosts slots held g)
+state_of-cleared hosts slots held g after_g more = λ x. record { hosts = hosts; keys = table_keys-none x; held = None; generation = more x }
 
-pub state_of-preempted : (hosts : ℕ) (old new : List (Option ℕ)) (held after : Option Held) (g h sark : ℕ) (kind : Option Kind) (case : Case) (removed : Hosts)
+pub state_of-preempted : (hosts : ℕ) (old new : List (Option ℕ)) (held after : Option Held) (g after_g h sark : ℕ) (kind : Option Kind) (case : Case) (removed : Hosts)
     → case ≡ preempt_case (table_keys 8 old) held sark → removed ≡ removed_by_preempt (table_keys 8 old) h sark (preempt_case (table_keys 8 old) held sark)
-    → table_keys 8 new ≡ without (table_keys 8 old) removed → after ≡ held_after_preempt (table_keys 8 new) held h kind case
-    → state_of hosts new after (next g) ≡ preempted (state_of hosts old held g) h sark kind
-state_of-preempted hosts old new held after g h sark kind case removed case_is removed_is keys is =
+    → table_keys 8 new ≡ without (table_keys 8 old) removed → after ≡ held_after_preempt (table_keys 8 new) held h kind case → after_g ≡ next g
+    → state_of hosts new after after_g ≡ preempted (state_of hosts old held g) h sark kind
+state_of-preempted hosts old new held after g after_g h sark kind case removed case_is removed_is keys is more =
     let rest = keys ∙ ap (without (table_keys 8 old)) removed_is in
     let left = is ∙ (λ x. held_after_preempt (rest x) held h kind (case_is x)) in
-    λ x. record { hosts = hosts; keys = rest x; held = left x; generation = next g }
+    λ x. record { hosts = hosts; keys = rest x; held = left x; generation = more x }
 
 -- ---- well formed states
 

@@ -2,9 +2,11 @@
 
 ghost use Rattle.std.specs.Prelude.{◌≡◌, ◌<◌, ◌≤◌, ◌↔◌, IsTrue, IsSome, IfSome, None, false, length};
 ghost use Rattle.std.specs.FinMap as map;
+ghost use Rattle.pr_registry.specs.Effects.{next};
 
 use crate::change::Change;
 use crate::held::Held;
+use crate::host_set::HostSet;
 use crate::preempt::Case;
 use crate::table::MOST_HOSTS;
 use crate::{preempt, table};
@@ -42,7 +44,7 @@ impl Model for Registry {
 }
 
 impl Registry {
-    ghost use Rattle.pr_registry.specs.Registrations.{IsWellFormed, Holds, fresh, state_from, key_of, is_registered, is_holder};
+    ghost use Rattle.pr_registry.specs.Registrations.{IsWellFormed, Holds, fresh, state_from, key_of, is_registered, others, is_holder};
     ghost use Rattle.pr_registry.specs.Hosts.{is_nobodys};
     ghost use Rattle.pr_registry.specs.Changes.{no_change, is_in_the_way, is_held_as, is_held_by_all, is_released, preempt_case, is_replacing, HasKindIfReplacing, change_on_unregister, change_on_release, change_on_clear, change_on_preempt};
     ghost use Rattle.pr_registry.specs.Cases.{case_of};
@@ -188,7 +190,7 @@ impl Registry {
         ensures change { result ≡ no_change }
     {
         table::insert(&mut self.slots, host, key);
-        self.generation = self.generation.wrapping_add(1);
+        self.generation = next(self.generation);
         Change::none()
     }
 
@@ -203,7 +205,7 @@ impl Registry {
         let change = self.change_on_unregister(host);
         table::remove(&mut self.slots, host);
         self.held = table::held_after_unregister(&self.slots, self.held, host);
-        self.generation = self.generation.wrapping_add(1);
+        self.generation = next(self.generation);
         change
     }
 
@@ -246,7 +248,7 @@ impl Registry {
         let change = self.change_on_clear(host);
         self.slots = [None; 8];
         self.held = None;
-        self.generation = self.generation.wrapping_add(1);
+        self.generation = next(self.generation);
         change
     }
 
@@ -264,8 +266,16 @@ impl Registry {
         let change = self.change_on_preempt(host, sark, kind, case);
         table::remove_all(&mut self.slots, &change.removed);
         self.held = preempt::held_after_preempt(&self.slots, self.held, host, kind, case);
-        self.generation = self.generation.wrapping_add(1);
+        self.generation = next(self.generation);
         change
+    }
+
+    // The registrants but one.
+    fn others(&self, host: u8) -> HostSet
+        requires { host < 8 }
+        ensures { result ≡ others self.now host }
+    {
+        table::registrants(&self.slots).without(host)
     }
 
     fn change_on_unregister(&self, host: u8) -> Change
@@ -275,7 +285,7 @@ impl Registry {
         let mut change = Change::none();
         change.removed.insert(host);
         if table::holds_alone(self.held, host) && table::is_told_of_loss(self.held) {
-            change.told_04 = table::registrants(&self.slots).without(host);
+            change.told_04 = self.others(host);
         }
         change
     }
@@ -293,7 +303,7 @@ impl Registry {
     {
         let mut change = Change::none();
         if self.is_released(host, kind) && table::is_told_of_loss(self.held) {
-            change.told_04 = table::registrants(&self.slots).without(host);
+            change.told_04 = self.others(host);
         }
         change
     }
@@ -304,7 +314,7 @@ impl Registry {
     {
         let mut change = Change::none();
         change.removed = table::registrants(&self.slots);
-        change.told_03 = change.removed.without(host);
+        change.told_03 = self.others(host);
         change
     }
 
@@ -317,9 +327,15 @@ impl Registry {
         change.removed = preempt::removed_by_preempt(&self.slots, host, sark, case);
         change.told_05 = change.removed.without(host);
         if preempt::is_new_type(kind, case) {
-            let others = table::registrants(&self.slots).without(host);
-            change.told_04 = others.difference(&change.removed);
+            change.told_04 = self.others(host).difference(&change.removed);
         }
         change
     }
+}
+
+// The generation after this one.
+fn next(generation: u32) -> u32
+    ensures { result ≡ next generation }
+{
+    generation.wrapping_add(1)
 }

@@ -1,7 +1,6 @@
 ghost use Rattle.std.specs.Prelude.{◌≡◌};
 
 use super::*;
-use crate::host_set::HostSet;
 use pr_cdb::Kind::{
     ExclusiveAccess, ExclusiveAccessRegistrantsOnly, WriteExclusiveAllRegistrants,
     WriteExclusiveRegistrantsOnly,

@@ -7,10 +7,10 @@ use Rattle.pr_registry.proofs.registry.Registry.clear.Goals as goal
 pub invariant_of-self : goal.invariant_of-self
 invariant_of-self c =
     let s = c.self.inside in
-    subst IsWellFormed (sym (state_of-cleared s.hosts s.slots s.held s.generation))
+    subst IsWellFormed (sym (state_of-cleared s.hosts s.slots s.held s.generation c.next-self-inside.result c.next-self-inside.ensures))
     (well_formed-cleared (state_of s.hosts s.slots s.held s.generation) c.self.invariant)
 
 pub returns-clause-state : goal.returns-clause-state
 returns-clause-state c =
     let s = c.self.inside in
-    state_of-cleared s.hosts s.slots s.held s.generation ∙ ap cleared c.self.view_is
+    state_of-cleared s.hosts s.slots s.held s.generation c.next-self-inside.result c.next-self-inside.ensures ∙ ap cleared c.self.view_is
