@@ -1,5 +1,5 @@
 -- What sets of hosts and registrations contain, and that these are equal where they contain the same.
-use Rattle.std.proofs.Common.{◌≡◌, ℕ, zero, suc, ◌+◌, Bool, true, false, ◌==◌, ◌&&◌, ◌||◌, not, nat_lt, cond, if◌then◌else◌, Option, Some, None, is_some, refl, sym, ap, ◌∙◌, arith, add-one}
+use Rattle.std.proofs.Common.{◌≡◌, ◌↔◌, IsTrue, ℕ, zero, suc, ◌+◌, Bool, true, false, ◌==◌, ◌&&◌, ◌||◌, not, nat_lt, cond, if◌then◌else◌, Option, Some, None, is_some, refl, sym, ap, ◌∙◌, arith, add-one}
 use Rattle.std.specs.Ordering.{nat_cmp}
 use Rattle.std.specs.Cmp.{nat_cmp_total, unsigned_tied}
 use Rattle.std.specs.FinSet as set
@@ -149,3 +149,17 @@ not_empty_from_some keys q k some =
       | true ↦ λ is. let none : None ≡ Some k = sym (get-empty q) ∙ ap (λ m. map.get m q) (sym (map.empty_of_len keys (same_at (map.len keys) 0 is))) ∙ some in cc
       | false ↦ λ _. refl
     ] refl
+
+-- a test that a set is empty counts nobody in it
+pub len-is_nobody : (b : Bool) (s : Hosts) → (IsTrue b ↔ (s ≡ nobody)) → b ≡ (set.len s == 0)
+len-is_nobody true s tells = sym (ap (λ t. set.len t == 0) (tells.0 refl) ∙ ap (λ n. n == 0) (set.len-empty nat_cmp))
+len-is_nobody false s tells = at (set.len s == 0) refl
+  where
+    at : (b : Bool) → (set.len s == 0) ≡ b → false ≡ b
+    at true none = tells.1 (set.empty_of_len s (same_at (set.len s) 0 none))
+    at false some = refl
+
+-- ---- for the crates above
+
+-- what sets of hosts contain and registrations give, by what they were made of
+pub ruleset reads = (contains-nobody, contains-just, contains-insert, contains-remove, contains-difference, contains-union, contains-hosts_where, contains-hosts_in, contains-hosts_with, get-empty, get-insert, get-without, get-map_where)

@@ -10,7 +10,7 @@ use Rattle.pr_registry.specs.declared.held.Held.TheVariants.{One, All}
 use Rattle.pr_registry.specs.Hosts.{Hosts, Keys, just, is_key, hosts_in, hosts_with, is_empty, without, map_where}
 use Rattle.pr_registry.specs.Registrations.{State, IsKey, IsWellFormed, HasHolder, IsKeyOrNone, table_keys, state_of, state_from, is_registered, holds_alone, is_all, established, fresh}
 use Rattle.pr_registry.specs.Effects.{next, held_by_rest, held_or, held_after_preempt, registered, unregistered, reserved, released, cleared, preempted}
-use Rattle.pr_registry.specs.Changes.{Case, ReplacesAll, ReplacesHolder, RemovesKey, preempt_case, removed_by_preempt, is_released}
+use Rattle.pr_registry.specs.Changes.{Case, ReplacesAll, ReplacesHolder, RemovesKey, preempt_case, HasKindIfReplacing, removed_by_preempt, is_released}
 use Rattle.pr_registry.proofs.Sets.{same_keys, get-insert, get-empty, get-without, contains-just, contains-remove, contains-hosts_with, not_empty_from_some}
 use Rattle.std.proofs.lemmas.Bool.{false≢true}
 use Rattle.pr_registry.proofs.Tables.{slot, get-table_keys, get-table_keys_in, lt_true, eq_itself, same_number}
@@ -51,16 +51,34 @@ pub table_keys-none : table_keys 8 (None ∷ None ∷ None ∷ None ∷ None ∷
 unfolding map_where
 table_keys-none = refl
 
-pub state_of-registered : (hosts : ℕ) (old new : List (Option ℕ)) (held : Option Held) (g h k : ℕ) → table_keys 8 new ≡ map.insert (table_keys 8 old) h k
-    → state_of hosts new held (next g) ≡ registered (state_of hosts old held g) h k
-state_of-registered hosts old new held g h k keys = λ x. record { hosts = hosts; keys = keys x; held = held; generation = next g }
+pub state_of-registered : (hosts : ℕ) (old new : List (Option ℕ)) (held : Option Held) (g after_g h k : ℕ) → table_keys 8 new ≡ map.insert (table_keys 8 old) h k → after_g ≡ next g
+    → state_of hosts new held after_g ≡ registered (state_of hosts old held g) h k
+state_of-registered hosts old new held g after_g h k keys more = λ x. record { hosts = hosts; keys = keys x; held = held; generation = more x }
 
-pub state_of-unregistered : (hosts : ℕ) (old new : List (Option ℕ)) (held after : Option Held) (g h : ℕ) → table_keys 8 new ≡ without (table_keys 8 old) (just h)
-    → after ≡ (if holds_alone held h then None else held_by_rest (table_keys 8 new) held)
-    → state_of hosts new after (next g) ≡ unregistered (state_of hosts old held g) h
-state_of-unregistered hosts old new held after g h keys is =
+pub state_of-unregistered : (hosts : ℕ) (old new : List (Option ℕ)) (held after : Option Held) (g after_g h : ℕ) → table_keys 8 new ≡ without (table_keys 8 old) (just h)
+    → after ≡ (if holds_alone held h then None else held_by_rest (table_keys 8 new) held) → after_g ≡ next g
+    → state_of hosts new after after_g ≡ unregistered (state_of hosts old held g) h
+state_of-unregistered hosts old new held after g after_g h keys is more =
     let left = is ∙ ap (λ rest. if holds_alone held h then None else held_by_rest rest held) keys in
-    λ x. record { hosts = hosts; keys = keys x; held = left x; generation = next g }
+    λ x. record { hosts = hosts; keys = keys x; held = left x; generation = more x }
+
+pub state_of-reserved : (hosts : ℕ) (slots : List (Option ℕ)) (held : Option Held) (new : Held) (g h : ℕ) (t : Kind) → is_some held ≡ false → new ≡ established t h
+    → state_of hosts slots (Some new) g ≡ reserved (state_of hosts slots held g) h t
+state_of-reserved hosts slots None new g h t free is = λ x. record { hosts = hosts; keys = table_keys 8 slots; held = Some (is x); generation = g }
+state_of-reserved hosts slots (Some v) new g h t free is = absurd (false≢true (sym free))
+
+pub state_of-cleared : (hosts : ℕ) (slots : List (Option ℕ)) (held : Option Held) (g after_g : ℕ) → after_g ≡ next g
+    → state_of hosts (None ∷ None ∷ None ∷ None ∷ None ∷ None ∷ None ∷ None ∷ []) None after_g ≡ cleared (state_of hosts slots held g)
+state_of-cleared hosts slots held g after_g more = λ x. record { hosts = hosts; keys = table_keys-none x; held = None; generation = more x }
+
+pub state_of-preempted : (hosts : ℕ) (old new : List (Option ℕ)) (held after : Option Held) (g after_g h sark : ℕ) (kind : Option Kind) (case : Case) (removed : Hosts)
+    → case ≡ preempt_case (table_keys 8 old) held sark → removed ≡ removed_by_preempt (table_keys 8 old) h sark (preempt_case (table_keys 8 old) held sark)
+    → table_keys 8 new ≡ without (table_keys 8 old) removed → after ≡ held_after_preempt (table_keys 8 new) held h kind case → after_g ≡ next g
+    → state_of hosts new after after_g ≡ preempted (state_of hosts old held g) h sark kind
+state_of-preempted hosts old new held after g after_g h sark kind case removed case_is removed_is keys is more =
+    let rest = keys ∙ ap (without (table_keys 8 old)) removed_is in
+    let left = is ∙ (λ x. held_after_preempt (rest x) held h kind (case_is x)) in
+    λ x. record { hosts = hosts; keys = rest x; held = left x; generation = more x }
 
 -- ---- well formed states
 
@@ -189,12 +207,6 @@ well_formed-cleared u w = record {
   generation = next-lt u.generation;
 }
 
--- A PREEMPT that replaces a reservation has a type: without one it is at fault.
-abbrev pub HasKindWhereReplaced : Option Kind → Case → Type 0
-HasKindWhereReplaced kind ReplacesAll = IsTrue (is_some kind)
-HasKindWhereReplaced kind (ReplacesHolder s) = IsTrue (is_some kind)
-HasKindWhereReplaced kind RemovesKey = Unit {0}
-
 HasHolder-replaced : (keys : Keys) (removed : Hosts) (h : ℕ) (kind : Option Kind) → IsTrue (map.contains_key keys h) → IsTrue (is_some kind) → set.contains removed h ≡ false
     → HasHolder (without keys removed) (option_map (λ t. established t h) kind)
 HasHolder-replaced keys removed h None there typed kept = absurd (false≢true typed)
@@ -215,16 +227,16 @@ IsKept-removed keys (Some (One t g)) h sark case is removes =
     at true replaces = let bad : ReplacesHolder t ≡ RemovesKey = replaces in cc
     at false replaces = refl
 
-HasHolder-preempted : (u : State) (h sark : ℕ) (kind : Option Kind) (case : Case) → preempt_case u.keys u.held sark ≡ case → HasHolder u.keys u.held → IsTrue (is_registered u h) → HasKindWhereReplaced kind case
+HasHolder-preempted : (u : State) (h sark : ℕ) (kind : Option Kind) (case : Case) → preempt_case u.keys u.held sark ≡ case → HasHolder u.keys u.held → IsTrue (is_registered u h) → HasKindIfReplacing kind case
     → HasHolder (without u.keys (removed_by_preempt u.keys h sark case)) (held_after_preempt (without u.keys (removed_by_preempt u.keys h sark case)) u.held h kind case)
 HasHolder-preempted u h sark kind ReplacesAll is has there typed =
-    HasHolder-replaced u.keys (set.remove (hosts_in u.keys) h) h kind there typed (contains-remove_itself (hosts_in u.keys) h)
+    HasHolder-replaced u.keys (set.remove (hosts_in u.keys) h) h kind there (typed refl) (contains-remove_itself (hosts_in u.keys) h)
 HasHolder-preempted u h sark kind (ReplacesHolder s) is has there typed =
-    HasHolder-replaced u.keys (set.remove (hosts_with u.keys sark) h) h kind there typed (contains-remove_itself (hosts_with u.keys sark) h)
+    HasHolder-replaced u.keys (set.remove (hosts_with u.keys sark) h) h kind there (typed refl) (contains-remove_itself (hosts_with u.keys sark) h)
 HasHolder-preempted u h sark kind RemovesKey is has there typed =
     HasHolder-rest u.keys (hosts_with u.keys sark) u.held has (IsKept-removed u.keys u.held h sark RemovesKey is refl)
 
-pub well_formed-preempted : (u : State) (h sark : ℕ) (kind : Option Kind) → IsWellFormed u → IsTrue (is_registered u h) → HasKindWhereReplaced kind (preempt_case u.keys u.held sark) → IsWellFormed (preempted u h sark kind)
+pub well_formed-preempted : (u : State) (h sark : ℕ) (kind : Option Kind) → IsWellFormed u → IsTrue (is_registered u h) → HasKindIfReplacing kind (preempt_case u.keys u.held sark) → IsWellFormed (preempted u h sark kind)
 well_formed-preempted u h sark kind w there typed = record {
   hosts = w.hosts;
   keys = keys-without u (removed_by_preempt u.keys h sark (preempt_case u.keys u.held sark)) w;

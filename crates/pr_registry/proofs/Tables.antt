@@ -1,11 +1,11 @@
 -- What a table of keys says of the registrations.
-use Rattle.std.proofs.Common.{◌≡◌, ℕ, ◌<◌, ◌≤◌, Bool, true, false, ◌==◌, ◌&&◌, not, nat_lt, cond, if◌then◌else◌, List, Option, Some, None, is_some, slice_index_or, refl, sym, ap, ◌∙◌, arith}
+use Rattle.std.proofs.Common.{◌≡◌, ℕ, ◌+◌, ◌<◌, ◌≤◌, Bool, true, false, ◌==◌, ◌&&◌, ◌||◌, nat_lt, cond, if◌then◌else◌, List, Option, Some, None, is_some, slice_index_or, refl, sym, ap, ◌∙◌, arith}
 use Rattle.std.specs.FinSet as set
 use Rattle.std.specs.FinMap as map
 use Rattle.std.proofs.lemmas.Bool.Decides.{nat_tests}
-use Rattle.pr_registry.specs.Hosts.{hosts_in, is_empty, hosts_where}
+use Rattle.pr_registry.specs.Hosts.{Hosts, is_key, hosts_in, hosts_with, is_empty, hosts_where}
 use Rattle.pr_registry.specs.Registrations.{table_keys}
-use Rattle.pr_registry.proofs.Sets.{same_hosts, same_keys, contains-hosts_where, contains-remove, contains-hosts_in, get-map_where, is_empty_from_none, not_empty_from_some}
+use Rattle.pr_registry.proofs.Sets.{same_hosts, same_keys, contains-hosts_where, contains-hosts_in, contains-hosts_with, get-map_where, is_empty_from_none, not_empty_from_some}
 
 -- the place of a host
 abbrev pub slot : List (Option ℕ) → ℕ → Option ℕ
@@ -29,30 +29,38 @@ get-table_keys n slots q = get-map_where n (slot slots) q
 pub get-table_keys_in : (n : ℕ) (slots : List (Option ℕ)) (q : ℕ) → q < n → map.get (table_keys n slots) q ≡ slot slots q
 get-table_keys_in n slots q small = get-table_keys n slots q ∙ ap (λ b. cond b (slot slots q) None) (lt_true q n small)
 
--- the test of a host that is registered and is not this one
-abbrev pub is_other : List (Option ℕ) → ℕ → ℕ → Bool
-is_other slots host q = not (q == host) && map.contains_key (table_keys 8 slots) q
+pub get-table_keys_past : (slots : List (Option ℕ)) (q : ℕ) → 8 ≤ q → map.get (table_keys 8 slots) q ≡ None
+get-table_keys_past slots q large = get-table_keys 8 slots q ∙ ap (λ b. cond b (slot slots q) None) (lt_false q 8 large)
 
 pub contains_key-table_keys : (slots : List (Option ℕ)) (q : ℕ) → q < 8 → map.contains_key (table_keys 8 slots) q ≡ is_some (slot slots q)
 contains_key-table_keys slots q small = ap is_some (get-table_keys_in 8 slots q small)
 
 pub contains_key-table_keys_past : (slots : List (Option ℕ)) (q : ℕ) → 8 ≤ q → map.contains_key (table_keys 8 slots) q ≡ false
 contains_key-table_keys_past slots q large =
-    ap is_some (get-table_keys 8 slots q ∙ ap (λ b. cond b (slot slots q) None) (lt_false q 8 large))
+    ap is_some (get-table_keys_past slots q large)
 
-pub hosts_where-is_other : (slots : List (Option ℕ)) (host : ℕ) → hosts_where 8 (is_other slots host) ≡ set.remove (hosts_in (table_keys 8 slots)) host
-hosts_where-is_other slots host =
-    same_hosts _ _ (λ q. contains-hosts_where 8 (is_other slots host) q
-    ∙ ap (λ o. nat_lt q 8 && (not (q == host) && is_some o)) (get-table_keys 8 slots q)
-    ∙ both (nat_lt q 8) (q == host) (slot slots q)
-    ∙ ap (λ o. not (q == host) && is_some o) (sym (get-table_keys 8 slots q))
-    ∙ ap (λ b. not (q == host) && b) (sym (contains-hosts_in (table_keys 8 slots) q))
-    ∙ sym (contains-remove (hosts_in (table_keys 8 slots)) host q))
+-- a set whose members are all below 8 is what its test collects there
+hosts_where-of : (s : Hosts) (p : ℕ → Bool) → ((q : ℕ) → p q ≡ set.contains s q) → ((q : ℕ) → 8 ≤ q → set.contains s q ≡ false) → hosts_where 8 p ≡ s
+hosts_where-of s p tests past =
+    same_hosts _ _ (λ q. contains-hosts_where 8 p q ∙ at q (nat_lt q 8) refl)
   where
-    both : (l e : Bool) (o : Option ℕ) → (l && (not e && is_some (cond l o None))) ≡ (not e && is_some (cond l o None))
-    both true e o = refl
-    both false true o = refl
-    both false false o = refl
+    at : (q : ℕ) (b : Bool) → nat_lt q 8 ≡ b → (b && p q) ≡ set.contains s q
+    at q true inside = tests q
+    at q false outside = sym (past q (grind (arith, nat_tests)))
+
+pub hosts_where-is_registered : (slots : List (Option ℕ)) → hosts_where 8 (map.contains_key (table_keys 8 slots)) ≡ hosts_in (table_keys 8 slots)
+hosts_where-is_registered slots =
+    hosts_where-of (hosts_in (table_keys 8 slots)) (map.contains_key (table_keys 8 slots)) (λ q. sym (contains-hosts_in (table_keys 8 slots) q))
+    (λ q large. contains-hosts_in (table_keys 8 slots) q ∙ contains_key-table_keys_past slots q large)
+
+-- the test of a host that is registered with this key
+abbrev pub has_key : List (Option ℕ) → ℕ → ℕ → Bool
+has_key slots k q = is_key (map.get (table_keys 8 slots) q) k
+
+pub hosts_where-has_key : (slots : List (Option ℕ)) (k : ℕ) → hosts_where 8 (has_key slots k) ≡ hosts_with (table_keys 8 slots) k
+hosts_where-has_key slots k =
+    hosts_where-of (hosts_with (table_keys 8 slots) k) (has_key slots k) (λ q. sym (contains-hosts_with (table_keys 8 slots) k q))
+    (λ q large. contains-hosts_with (table_keys 8 slots) k q ∙ ap (λ o. is_key o k) (get-table_keys_past slots q large))
 
 pub is_empty-table_keys : (n : ℕ) (slots : List (Option ℕ)) → ((i : ℕ) → i < n → slot slots i ≡ None) → is_empty (table_keys n slots) ≡ true
 is_empty-table_keys n slots none =
@@ -79,3 +87,45 @@ same_table_keys n m xs ys fewer same past =
     at q true false in_m out = past q (grind (arith, nat_tests)) (grind (arith, nat_tests))
     at q false true out in_n = absurd (grind (arith, nat_tests))
     at q false false out_m out_n = refl
+
+-- ---- hosts removed in turn
+
+-- the removed hosts below n
+abbrev pub is_removed_below : Hosts → ℕ → ℕ → Bool
+is_removed_below removed n q = nat_lt q n && set.contains removed q
+
+pub none_below_zero : (removed : Hosts) (q : ℕ) → is_removed_below removed 0 q ≡ false
+none_below_zero removed q = ap (λ b. b && set.contains removed q) (lt_false q 0 (omega arith))
+
+pub all_below : (slots : List (Option ℕ)) (removed : Hosts) (q : ℕ)
+    → (if is_removed_below removed 8 q then None else map.get (table_keys 8 slots) q) ≡ (if set.contains removed q then None else map.get (table_keys 8 slots) q)
+all_below slots removed q = at (nat_lt q 8) (set.contains removed q) refl
+  where
+    at : (l b : Bool) → nat_lt q 8 ≡ l → (if l && b then None else map.get (table_keys 8 slots) q) ≡ (if b then None else map.get (table_keys 8 slots) q)
+    at true b inside = refl
+    at false true outside = get-table_keys_past slots q (grind (arith, nat_tests))
+    at false false outside = refl
+
+less_more : (q n : ℕ) → nat_lt q (n + 1) ≡ (q == n || nat_lt q n)
+less_more q n = grind (arith, nat_tests)
+
+pub removes_more : (removed : Hosts) (n q : ℕ) (o : Option ℕ) → set.contains removed n ≡ true
+    → (if q == n then None else (if is_removed_below removed n q then None else o)) ≡ (if is_removed_below removed (n + 1) q then None else o)
+removes_more removed n q o is =
+    at (q == n) (nat_lt q n) (set.contains removed q) (λ e. ap (set.contains removed) (same_number q n e) ∙ is)
+    ∙ ap (λ b. if b && set.contains removed q then None else o) (sym (less_more q n))
+  where
+    at : (e l b : Bool) → (e ≡ true → b ≡ true) → (if e then None else (if l && b then None else o)) ≡ (if (e || l) && b then None else o)
+    at true l b there = rw (there refl) refl
+    at false l b there = refl
+
+pub keeps_more : (removed : Hosts) (n q : ℕ) (o : Option ℕ) → set.contains removed n ≡ false
+    → (if is_removed_below removed n q then None else o) ≡ (if is_removed_below removed (n + 1) q then None else o)
+keeps_more removed n q o is =
+    at (q == n) (nat_lt q n) (set.contains removed q) (λ e. ap (set.contains removed) (same_number q n e) ∙ is)
+    ∙ ap (λ b. if b && set.contains removed q then None else o) (sym (less_more q n))
+  where
+    at : (e l b : Bool) → (e ≡ true → b ≡ false) → (if l && b then None else o) ≡ (if (e || l) && b then None else o)
+    at true true b there = refl
+    at true false b there = rw (there refl) refl
+    at false l b there = refl

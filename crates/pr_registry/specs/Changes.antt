@@ -2,7 +2,7 @@
 -- 'Unregistering', 'Releasing', 'Preempting' and 'Clearing'). The attentions are named by their
 -- qualifier under the additional sense code 2Ah: 03h reservations preempted, 04h reservations released,
 -- 05h registrations preempted.
-use Rattle.std.specs.Prelude.{ℕ, ◌==◌, ◌&&◌, not, Bool, false, if◌then◌else◌, Option, Some, None}
+use Rattle.std.specs.Prelude.{ℕ, ◌==◌, ◌&&◌, not, Bool, true, false, IsTrue, if◌then◌else◌, Option, Some, None, is_some}
 use Rattle.std.specs.FinSet as set
 use Rattle.std.specs.FinMap as map
 use Rattle.pr_cdb.specs.declared.command.Kind.{Kind}
@@ -37,6 +37,11 @@ abbrev pub is_held_as : Option Held → Kind → Bool
 is_held_as None t = false
 is_held_as (Some v) t = is_kind (kind_of v) t
 
+-- a reservation that keeps h from reserving: one that h does not hold, or of another type
+abbrev pub is_in_the_way : State → ℕ → Option Held → Kind → Bool
+is_in_the_way u h None t = false
+is_in_the_way u h (Some v) t = not (is_holder u h && is_held_as (Some v) t)
+
 -- RELEASE by a holder of the type that stands ends the reservation
 abbrev pub is_released : State → ℕ → Kind → Bool
 is_released u h t = is_holder u h && is_held_as u.held t
@@ -49,6 +54,12 @@ change_on_release u h t = record no_change {
 abbrev pub change_on_clear : State → ℕ → Change
 change_on_clear u h = record no_change { removed = registrants u; told_03 = others u h }
 
+-- the reservation is of all registrants
+abbrev pub is_held_by_all : Option Held → Bool
+is_held_by_all None = false
+is_held_by_all (Some (One t g)) = false
+is_held_by_all (Some (All t)) = true
+
 -- the three successful cases of PREEMPT
 pub data Case : Type 0 where
   -- service action reservation key zero where all registrants hold: all other registrations
@@ -58,10 +69,21 @@ pub data Case : Type 0 where
   -- any other key
   RemovesKey : Case
 
+-- which of them a PREEMPT of this key is
 abbrev pub preempt_case : Keys → Option Held → ℕ → Case
 preempt_case keys None sark = RemovesKey
 preempt_case keys (Some (One t g)) sark = if is_key (map.get keys g) sark then ReplacesHolder t else RemovesKey
 preempt_case keys (Some (All t)) sark = if sark == 0 then ReplacesAll else RemovesKey
+
+-- the reservation is replaced
+abbrev pub is_replacing : Case → Bool
+is_replacing ReplacesAll = true
+is_replacing (ReplacesHolder t) = true
+is_replacing RemovesKey = false
+
+-- A PREEMPT that replaces a reservation has a type: without one it is at fault.
+abbrev pub HasKindIfReplacing : Option Kind → Case → Type 0
+HasKindIfReplacing kind case = IsTrue (is_replacing case) → IsTrue (is_some kind)
 
 -- The sender stays where its own reservation is replaced, and goes where its key is merely removed.
 abbrev pub removed_by_preempt : Keys → ℕ → ℕ → Case → Hosts

@@ -43,6 +43,25 @@ impl HostSet {
         self.bits |= 1 << host;
     }
 
+    /// The hosts of this set but one.
+    pub(crate) fn without(&self, host: u8) -> HostSet
+        requires { host < 8 }
+        ensures { result ≡ set.remove self.now host }
+    {
+        HostSet {
+            bits: self.bits & !(1 << host),
+        }
+    }
+
+    /// The hosts of this set that are not in the other.
+    pub(crate) fn difference(&self, other: &HostSet) -> HostSet
+        ensures { result ≡ set.difference self.now other.now }
+    {
+        HostSet {
+            bits: self.bits & !other.bits,
+        }
+    }
+
     /// Whether the host is in the set.
     pub fn has(&self, host: u8) -> bool
         ensures { result ≡ set.contains self.now host }

@@ -8,6 +8,7 @@
 mod change;
 mod held;
 mod host_set;
+mod preempt;
 mod registry;
 mod table;
 

@@ -1,14 +1,21 @@
 //! The registrations, the reservation and the generation.
 
-ghost use Rattle.std.specs.Prelude.{◌≡◌, ◌<◌, ◌≤◌, ◌↔◌, IsTrue, IsSome, IfSome, None, length};
+ghost use Rattle.std.specs.Prelude.{◌≡◌, ◌<◌, ◌≤◌, ◌↔◌, IsTrue, IsSome, IfSome, None, false, length};
 ghost use Rattle.std.specs.FinMap as map;
+ghost use Rattle.pr_registry.specs.Effects.{next};
 
 use crate::change::Change;
 use crate::held::Held;
-use crate::table;
+use crate::host_set::HostSet;
+use crate::preempt::Case;
 use crate::table::MOST_HOSTS;
+use crate::{preempt, table};
 use arrayvec::ArrayVec;
+use pr_cdb::Kind;
 use std::marker::Model;
+
+#[cfg(test)]
+mod tests;
 
 /// Who is registered with which key, the reservation, and PRGENERATION (SPC-4, 'Persistent
 /// reservations').
@@ -37,9 +44,11 @@ impl Model for Registry {
 }
 
 impl Registry {
-    ghost use Rattle.pr_registry.specs.Registrations.{IsWellFormed, fresh, state_from, key_of, is_registered};
-    ghost use Rattle.pr_registry.specs.Changes.{no_change, change_on_unregister};
-    ghost use Rattle.pr_registry.specs.Effects.{registered, unregistered};
+    ghost use Rattle.pr_registry.specs.Registrations.{IsWellFormed, Holds, fresh, state_from, key_of, is_registered, others, is_holder};
+    ghost use Rattle.pr_registry.specs.Hosts.{is_nobodys};
+    ghost use Rattle.pr_registry.specs.Changes.{no_change, is_in_the_way, is_held_as, is_held_by_all, is_released, preempt_case, is_replacing, HasKindIfReplacing, change_on_unregister, change_on_release, change_on_clear, change_on_preempt};
+    ghost use Rattle.pr_registry.specs.Cases.{case_of};
+    ghost use Rattle.pr_registry.specs.Effects.{registered, unregistered, reserved, released, cleared, preempted};
 
     /// Nothing is registered or reserved, and the generation is 0.
     pub fn new(hosts: u8) -> Self
@@ -113,6 +122,58 @@ impl Registry {
         self.held
     }
 
+    /// Whether the host is registered.
+    pub fn is_registered(&self, host: u8) -> bool
+        requires { host < self.now.hosts }
+        ensures { result ≡ is_registered self.now host }
+    {
+        table::is_registered(&self.slots, host)
+    }
+
+    /// Whether no host is registered with this key.
+    pub fn is_nobodys(&self, key: u64) -> bool
+        ensures { result ≡ is_nobodys self.now.keys key }
+    {
+        table::is_nobodys(&self.slots, key)
+    }
+
+    /// Whether the host holds the reservation: the single holder, or each registrant under types 7 and 8.
+    pub fn is_holder(&self, host: u8) -> bool
+        requires { host < self.now.hosts }
+        ensures { result ≡ is_holder self.now host }
+    {
+        table::is_holder(&self.slots, self.held, host)
+    }
+
+    /// Whether the reservation is of this type.
+    pub fn is_held_as(&self, kind: Kind) -> bool
+        ensures { result ≡ is_held_as self.now.held kind }
+    {
+        table::is_held_as(self.held, kind)
+    }
+
+    /// Whether all registrants hold the reservation.
+    pub fn is_held_by_all(&self) -> bool
+        ensures { result ≡ is_held_by_all self.now.held }
+    {
+        table::is_held_by_all(self.held)
+    }
+
+    /// Whether the reservation keeps the host from reserving with this type.
+    pub fn is_in_the_way(&self, host: u8, kind: Kind) -> bool
+        requires { host < self.now.hosts }
+        ensures { result ≡ is_in_the_way self.now host self.now.held kind }
+    {
+        self.held.is_some() && !self.is_released(host, kind)
+    }
+
+    /// Whether a PREEMPT with this key replaces the reservation, and so needs a type.
+    pub fn is_replaced_by(&self, sark: u64) -> bool
+        ensures { result ≡ is_replacing (preempt_case self.now.keys self.now.held sark) }
+    {
+        preempt::is_replacing(preempt::preempt_case(&self.slots, self.held, sark))
+    }
+
     /// PRGENERATION.
     pub fn generation(&self) -> u32
         ensures { result ≡ self.now.generation }
@@ -129,7 +190,7 @@ impl Registry {
         ensures change { result ≡ no_change }
     {
         table::insert(&mut self.slots, host, key);
-        self.generation = self.generation.wrapping_add(1);
+        self.generation = next(self.generation);
         Change::none()
     }
 
@@ -144,8 +205,77 @@ impl Registry {
         let change = self.change_on_unregister(host);
         table::remove(&mut self.slots, host);
         self.held = table::held_after_unregister(&self.slots, self.held, host);
-        self.generation = self.generation.wrapping_add(1);
+        self.generation = next(self.generation);
         change
+    }
+
+    /// RESERVE, by a registrant: it holds the reservation from now on, or all registrants do. One that
+    /// holds a reservation of this type already changes nothing.
+    pub fn reserve(&mut self, host: u8, kind: Kind) -> Change
+        requires there { IsTrue (is_registered self.old host) }
+        requires free { is_in_the_way self.old host self.old.held kind ≡ false }
+        ensures state { self.new ≡ reserved self.old host kind }
+        ensures change { result ≡ no_change }
+    {
+        if self.held.is_none() {
+            self.held = Some(table::established(kind, host));
+        }
+        Change::none()
+    }
+
+    /// RELEASE, by a registrant: where it holds, it names the type that stands, and the reservation ends;
+    /// under types 5 to 8 the other registrants are told so. One that does not hold changes nothing.
+    pub fn release(&mut self, host: u8, kind: Kind) -> Change
+        requires there { IsTrue (is_registered self.old host) }
+        requires named { Holds self.old host → IsTrue (is_held_as self.old.held kind) }
+        ensures state { self.new ≡ released self.old host kind }
+        ensures change { result ≡ change_on_release self.old host kind }
+    {
+        let change = self.change_on_release(host, kind);
+        if self.is_released(host, kind) {
+            self.held = None;
+        }
+        change
+    }
+
+    /// CLEAR, by a registrant: all registrations and the reservation end, and the other registrants are
+    /// told so.
+    pub fn clear(&mut self, host: u8) -> Change
+        requires { IsTrue (is_registered self.old host) }
+        ensures state { self.new ≡ cleared self.old }
+        ensures change { result ≡ change_on_clear self.old host }
+    {
+        let change = self.change_on_clear(host);
+        self.slots = [None; 8];
+        self.held = None;
+        self.generation = next(self.generation);
+        change
+    }
+
+    /// PREEMPT, or PREEMPT AND ABORT, by a registrant: registrations end and those who had them are told
+    /// so. Where the key is that of the reservation's single holder, or is zero and all registrants hold,
+    /// the sender stays registered and the reservation is replaced by one of this type; registrants who
+    /// stay are told where a single holder's had another type.
+    pub fn preempt(&mut self, host: u8, sark: u64, kind: Option<Kind>) -> Change
+        requires there { IsTrue (is_registered self.old host) }
+        requires typed { HasKindIfReplacing kind (preempt_case self.old.keys self.old.held sark) }
+        ensures state { self.new ≡ preempted self.old host sark kind }
+        ensures change { result ≡ change_on_preempt self.old host sark kind }
+    {
+        let case = preempt::preempt_case(&self.slots, self.held, sark);
+        let change = self.change_on_preempt(host, sark, kind, case);
+        table::remove_all(&mut self.slots, &change.removed);
+        self.held = preempt::held_after_preempt(&self.slots, self.held, host, kind, case);
+        self.generation = next(self.generation);
+        change
+    }
+
+    // The registrants but one.
+    fn others(&self, host: u8) -> HostSet
+        requires { host < 8 }
+        ensures { result ≡ others self.now host }
+    {
+        table::registrants(&self.slots).without(host)
     }
 
     fn change_on_unregister(&self, host: u8) -> Change
@@ -155,8 +285,57 @@ impl Registry {
         let mut change = Change::none();
         change.removed.insert(host);
         if table::holds_alone(self.held, host) && table::is_told_of_loss(self.held) {
-            change.told_04 = table::others(&self.slots, host);
+            change.told_04 = self.others(host);
         }
         change
     }
+
+    // Whether a RELEASE of this type by the host ends the reservation.
+    fn is_released(&self, host: u8, kind: Kind) -> bool
+        ensures { result ≡ is_released self.now host kind }
+    {
+        table::is_holder(&self.slots, self.held, host) && table::is_held_as(self.held, kind)
+    }
+
+    fn change_on_release(&self, host: u8, kind: Kind) -> Change
+        requires { host < 8 }
+        ensures { result ≡ change_on_release self.now host kind }
+    {
+        let mut change = Change::none();
+        if self.is_released(host, kind) && table::is_told_of_loss(self.held) {
+            change.told_04 = self.others(host);
+        }
+        change
+    }
+
+    fn change_on_clear(&self, host: u8) -> Change
+        requires { host < 8 }
+        ensures { result ≡ change_on_clear self.now host }
+    {
+        let mut change = Change::none();
+        change.removed = table::registrants(&self.slots);
+        change.told_03 = self.others(host);
+        change
+    }
+
+    fn change_on_preempt(&self, host: u8, sark: u64, kind: Option<Kind>, case: Case) -> Change
+        requires there { host < 8 }
+        requires case { case_of case ≡ preempt_case self.now.keys self.now.held sark }
+        ensures { result ≡ change_on_preempt self.now host sark kind }
+    {
+        let mut change = Change::none();
+        change.removed = preempt::removed_by_preempt(&self.slots, host, sark, case);
+        change.told_05 = change.removed.without(host);
+        if preempt::is_new_type(kind, case) {
+            change.told_04 = self.others(host).difference(&change.removed);
+        }
+        change
+    }
+}
+
+// The generation after this one.
+fn next(generation: u32) -> u32
+    ensures { result ≡ next generation }
+{
+    generation.wrapping_add(1)
 }

@@ -1,12 +1,11 @@
 //! The registrations as a table with a place for each host, and the questions that service actions ask
 //! of it.
 
-ghost use Rattle.std.specs.Prelude.{◌≡◌, ◌<◌, ◌≤◌, ◌↔◌, ◌==◌, ◌&&◌, not, ℕ, IsTrue, if◌then◌else◌, None, length, slice_index_or};
-ghost use Rattle.std.specs.FinSet as set;
+ghost use Rattle.std.specs.Prelude.{◌≡◌, ◌<◌, ◌≤◌, ◌↔◌, ℕ, IsTrue, if◌then◌else◌, None, length, slice_index_or};
 ghost use Rattle.std.specs.FinMap as map;
-ghost use Rattle.pr_registry.specs.Hosts.{just, hosts_in, is_empty, without};
-ghost use Rattle.pr_registry.specs.Registrations.{table_keys, is_all, is_for_registrants, holds_alone, HasHolder, IsKeyOrNone};
-ghost use Rattle.pr_registry.specs.Changes.{is_told_of_loss};
+ghost use Rattle.pr_registry.specs.Hosts.{just, is_key, hosts_in, hosts_with, is_nobodys, is_empty, without};
+ghost use Rattle.pr_registry.specs.Registrations.{table_keys, is_all, is_for_registrants, established, holds_alone, is_holder_of, HasHolder, IsKeyOrNone};
+ghost use Rattle.pr_registry.specs.Changes.{is_kind, is_told_of_loss, is_held_as, is_held_by_all};
 ghost use Rattle.pr_registry.specs.Effects.{held_by_rest};
 
 use crate::held::Held;
@@ -17,24 +16,51 @@ use pr_cdb::Kind;
 /// How many hosts a logical unit serves at most.
 pub(crate) const MOST_HOSTS: usize = 8;
 
-/// The registered hosts but one.
-pub(crate) fn others(slots: &[Option<u64>; 8], host: u8) -> HostSet
-    ensures { result ≡ set.remove (hosts_in (table_keys 8 slots.now)) host }
+/// The registered hosts.
+pub(crate) fn registrants(slots: &[Option<u64>; 8]) -> HostSet
+    ensures { result ≡ hosts_in (table_keys 8 slots.now) }
 {
     let mut hosts = HostSet::new();
-    for other in 0..8u8 {
-        if is_other(slots, host, other) {
-            hosts.insert(other);
+    for host in 0..8u8 {
+        if is_registered(slots, host) {
+            hosts.insert(host);
         }
     }
     hosts
 }
 
-// Whether `other` is a registered host, and not `host`.
-fn is_other(slots: &[Option<u64>; 8], host: u8, other: u8) -> bool
-    ensures { result ≡ (not (other == host) && map.contains_key (table_keys 8 slots.now) other) }
+/// The hosts that are registered with this key.
+pub(crate) fn hosts_with(slots: &[Option<u64>; 8], key: u64) -> HostSet
+    ensures { result ≡ hosts_with (table_keys 8 slots.now) key }
 {
-    other != host && is_registered(slots, other)
+    let mut hosts = HostSet::new();
+    for host in 0..8u8 {
+        if has_key(slots, host, key) {
+            hosts.insert(host);
+        }
+    }
+    hosts
+}
+
+/// Whether no host is registered with this key.
+pub(crate) fn is_nobodys(slots: &[Option<u64>; 8], key: u64) -> bool
+    ensures { result ≡ is_nobodys (table_keys 8 slots.now) key }
+{
+    hosts_with(slots, key).is_empty()
+}
+
+/// Whether the host is registered with this key.
+pub(crate) fn has_key(slots: &[Option<u64>; 8], host: u8, key: u64) -> bool
+    ensures { result ≡ is_key (map.get (table_keys 8 slots.now) host) key }
+{
+    let place = usize::from(host);
+    if place >= MOST_HOSTS {
+        return false;
+    }
+    match slots[place] {
+        Some(own) => own == key,
+        None => false,
+    }
 }
 
 /// Whether the host is registered.
@@ -72,6 +98,13 @@ pub(crate) fn are_keys(slots: &[Option<u64>]) -> bool
     true
 }
 
+/// Whether the two types are one.
+pub(crate) fn is_kind(old: Kind, new: Kind) -> bool
+    ensures { result ≡ is_kind old new }
+{
+    old.code() == new.code()
+}
+
 /// Whether types 7 and 8 are meant, under which every registrant holds the reservation.
 pub(crate) fn is_all(kind: Kind) -> bool
     ensures { result ≡ is_all kind }
@@ -104,6 +137,46 @@ pub(crate) fn slots_of(keys: &[Option<u64>]) -> [Option<u64>; 8]
         slots[host] = *key;
     }
     slots
+}
+
+/// A reservation of this type that the host establishes: its own, or one of all registrants.
+pub(crate) fn established(kind: Kind, host: u8) -> Held
+    ensures { result ≡ established kind host }
+{
+    if is_all(kind) {
+        Held::All(kind)
+    } else {
+        Held::One(kind, host)
+    }
+}
+
+/// Whether the host holds the reservation: the single holder, or each registrant.
+pub(crate) fn is_holder(slots: &[Option<u64>; 8], held: Option<Held>, host: u8) -> bool
+    ensures { result ≡ is_holder_of (table_keys 8 slots.now) held host }
+{
+    match held {
+        Some(Held::One(_, holder)) => holder == host,
+        Some(Held::All(_)) => is_registered(slots, host),
+        None => false,
+    }
+}
+
+/// Whether the reservation is of this type.
+pub(crate) fn is_held_as(held: Option<Held>, kind: Kind) -> bool
+    ensures { result ≡ is_held_as held kind }
+{
+    match held {
+        Some(Held::One(standing, _)) => is_kind(standing, kind),
+        Some(Held::All(standing)) => is_kind(standing, kind),
+        None => false,
+    }
+}
+
+/// Whether the reservation is of all registrants.
+pub(crate) fn is_held_by_all(held: Option<Held>) -> bool
+    ensures { result ≡ is_held_by_all held }
+{
+    matches!(held, Some(Held::All(_)))
 }
 
 /// Whether the host is the single holder.
@@ -182,6 +255,17 @@ pub(crate) fn remove(slots: &mut [Option<u64>; 8], host: u8)
     ensures { table_keys 8 slots.new ≡ without (table_keys 8 slots.old) (just host) }
 {
     slots[usize::from(host)] = None;
+}
+
+/// Takes the keys of these hosts away.
+pub(crate) fn remove_all(slots: &mut [Option<u64>; 8], removed: &HostSet)
+    ensures { table_keys 8 slots.new ≡ without (table_keys 8 slots.old) removed.now }
+{
+    for host in 0..8u8 {
+        if removed.has(host) {
+            remove(slots, host);
+        }
+    }
 }
 
 /// The keys, in the order of the hosts.

@@ -8,16 +8,16 @@ use Rattle.pr_cdb.specs.declared.command.Command.{Command}
 use Rattle.pr_cdb.specs.declared.command.Command.TheVariants.{TestUnitReady, RequestSense, Read, Write, ReadKeys, ReadReservation, ReportCapabilities, Register, RegisterIgnore, Reserve, Release, Clear, Preempt, PreemptAbort}
 use Rattle.pr_cdb.specs.Requests.{Fits}
 use Rattle.pr_registry.specs.declared.change.Change.{Change}
-use Rattle.pr_registry.specs.Hosts.{Hosts, is_key}
+use Rattle.pr_registry.specs.Hosts.{Hosts, is_key, is_nobodys}
 use Rattle.pr_registry.specs.Registrations.{State, key_of, is_registered, IsKey, IsWellFormed as IsWellFormedRegistry}
-use Rattle.pr_registry.specs.Changes.{Case, ReplacesAll, ReplacesHolder, RemovesKey, preempt_case}
+use Rattle.pr_registry.specs.Changes.{Case, ReplacesAll, ReplacesHolder, RemovesKey, is_in_the_way, is_held_by_all, preempt_case, is_replacing, HasKindIfReplacing}
 use Rattle.pr_registry.specs.Effects.{after, after_register, change, registered, unregistered}
-use Rattle.pr_registry.proofs.States.{HasKindWhereReplaced, well_formed-registered, well_formed-unregistered, well_formed-reserved, well_formed-released, well_formed-cleared, well_formed-preempted}
+use Rattle.pr_registry.proofs.States.{well_formed-registered, well_formed-unregistered, well_formed-reserved, well_formed-released, well_formed-cleared, well_formed-preempted}
 use Rattle.pr_registry.proofs.Told.{AreRegistered, tells_registrants}
 use Rattle.pr_unit.specs.Attentions.{Pairs, is_attention, each_with, reservations_preempted, reservations_released, registrations_preempted}
 use Rattle.pr_unit.specs.UnitStates.{UnitState, IsWellFormed, told}
-use Rattle.pr_unit.specs.Conflicts.{lacks_key, is_in_the_way, is_nobodys, command_conflicts}
-use Rattle.pr_unit.specs.Faults.{illegal, is_held_by_all, is_replacing, preempt_fault, command_fault}
+use Rattle.pr_unit.specs.Conflicts.{lacks_key, command_conflicts}
+use Rattle.pr_unit.specs.Faults.{illegal, preempt_fault, command_fault}
 use Rattle.pr_unit.specs.Laws.{EffectsAreWellFormed}
 use Rattle.pr_unit.proofs.Pairs.{contains-union-pairs, contains-each_with}
 
@@ -34,17 +34,16 @@ registered_by_key u h rk has = at (key_of u h) has
     at (Some k) is = refl
 
 -- a PREEMPT without a fault has a type where it replaces
-has_kind : (u : State) (sark : ℕ) (kind : Option Kind) → preempt_fault u sark kind ≡ None → HasKindWhereReplaced kind (preempt_case u.keys u.held sark)
+has_kind : (u : State) (sark : ℕ) (kind : Option Kind) → preempt_fault u sark kind ≡ None → HasKindIfReplacing kind (preempt_case u.keys u.held sark)
 has_kind u sark kind none = at (sark == 0 && not (is_held_by_all u.held)) kind (preempt_case u.keys u.held sark) none
   where
     at : (b : Bool) (kind : Option Kind) (case : Case) → (if b then Some (illegal 0x26 0x00) else (if is_none kind && is_replacing case then Some (illegal 0x24 0x00) else None)) ≡ None
-        → HasKindWhereReplaced kind case
+        → HasKindIfReplacing kind case
     at true kind case is = let bad : Some (illegal 0x26 0x00) ≡ None = is in cc
-    at false (Some t) ReplacesAll is = refl
-    at false (Some t) (ReplacesHolder s) is = refl
+    at false (Some t) case is = λ _. refl
     at false None ReplacesAll is = let bad : Some (illegal 0x24 0x00) ≡ None = is in cc
     at false None (ReplacesHolder s) is = let bad : Some (illegal 0x24 0x00) ≡ None = is in cc
-    at false kind RemovesKey is = tt
+    at false None RemovesKey is = λ replaces. absurd (false≢true replaces)
 
 well_formed-after_register : (u : State) (h key : ℕ) → IsWellFormedRegistry u → h < u.hosts → key < 2 ^ 64 → IsWellFormedRegistry (after_register u h key)
 well_formed-after_register u h key w there fits = at (key == 0) (is_registered u h) refl

@@ -1,7 +1,6 @@
 -- Which commands end in RESERVATION CONFLICT (SPC-4, 'Reservations': the tables of commands, and of
 -- PERSISTENT RESERVE OUT service actions, that are allowed in the presence of reservations).
 use Rattle.std.specs.Prelude.{ℕ, Bool, false, not, ◌==◌, ◌&&◌, ◌||◌, Option, Some, None}
-use Rattle.std.specs.FinSet as set
 use Rattle.pr_cdb.specs.declared.command.Kind.{Kind}
 use Rattle.pr_cdb.specs.declared.command.Kind.TheVariants.{WriteExclusive, ExclusiveAccess, WriteExclusiveRegistrantsOnly, ExclusiveAccessRegistrantsOnly, WriteExclusiveAllRegistrants, ExclusiveAccessAllRegistrants}
 use Rattle.pr_cdb.specs.declared.command.Command.{Command}
@@ -9,9 +8,9 @@ use Rattle.pr_cdb.specs.declared.command.Command.TheVariants.{Read, Write, Regis
 use Rattle.pr_cdb.specs.declared.wire.Request.{Request}
 use Rattle.pr_cdb.specs.declared.wire.Request.TheVariants.{Plain, Faulty}
 use Rattle.pr_registry.specs.declared.held.Held.{Held}
-use Rattle.pr_registry.specs.Hosts.{Keys, is_key, hosts_with}
+use Rattle.pr_registry.specs.Hosts.{is_key, is_nobodys}
 use Rattle.pr_registry.specs.Registrations.{State, key_of, is_registered, is_holder, kind_of}
-use Rattle.pr_registry.specs.Changes.{is_held_as}
+use Rattle.pr_registry.specs.Changes.{is_in_the_way}
 
 -- REGISTER needs the sender's key, or zero where it has none
 abbrev pub is_wrong_key : Option ℕ → ℕ → Bool
@@ -21,15 +20,6 @@ is_wrong_key (Some k) rk = not (k == rk)
 -- every service action but the two that register needs the key of a registered sender
 abbrev pub lacks_key : State → ℕ → ℕ → Bool
 lacks_key u h rk = not (is_key (key_of u h) rk)
-
--- a reservation that keeps h from reserving: one that h does not hold, or of another type
-abbrev pub is_in_the_way : State → ℕ → Option Held → Kind → Bool
-is_in_the_way u h None kind = false
-is_in_the_way u h (Some v) kind = not (is_holder u h && is_held_as (Some v) kind)
-
--- no host is registered with this key
-abbrev pub is_nobodys : Keys → ℕ → Bool
-is_nobodys keys k = set.len (hosts_with keys k) == 0
 
 abbrev pub preempt_conflicts : State → ℕ → ℕ → ℕ → Bool
 preempt_conflicts u h rk sark = lacks_key u h rk || (not (sark == 0) && is_nobodys u.keys sark)

@@ -1,16 +1,14 @@
 -- Which requests that do not conflict end in CHECK CONDITION for a fault of their own, and with which
 -- sense (SPC-4, 'Releasing', 'Preempting'; SBC-3, 'READ (10)' and 'WRITE (10) command').
-use Rattle.std.specs.Prelude.{ℕ, ◌+◌, Bool, true, false, not, ◌==◌, ◌&&◌, nat_lt, if◌then◌else◌, Option, Some, None, is_none}
+use Rattle.std.specs.Prelude.{ℕ, ◌+◌, not, ◌==◌, ◌&&◌, nat_lt, if◌then◌else◌, Option, Some, None, is_none}
 use Rattle.pr_cdb.specs.declared.command.Kind.{Kind}
 use Rattle.pr_cdb.specs.declared.command.Command.{Command}
 use Rattle.pr_cdb.specs.declared.command.Command.TheVariants.{Read, Write, Release, Preempt, PreemptAbort}
 use Rattle.pr_cdb.specs.declared.reply.Sense.{Sense}
 use Rattle.pr_cdb.specs.declared.wire.Request.{Request}
 use Rattle.pr_cdb.specs.declared.wire.Request.TheVariants.{Plain, Faulty}
-use Rattle.pr_registry.specs.declared.held.Held.{Held}
-use Rattle.pr_registry.specs.declared.held.Held.TheVariants.{One, All}
 use Rattle.pr_registry.specs.Registrations.{State, is_holder}
-use Rattle.pr_registry.specs.Changes.{Case, ReplacesAll, ReplacesHolder, RemovesKey, is_held_as, preempt_case}
+use Rattle.pr_registry.specs.Changes.{is_held_as, is_held_by_all, preempt_case, is_replacing}
 
 -- ILLEGAL REQUEST (5h)
 abbrev pub illegal : ℕ → ℕ → Sense
@@ -19,16 +17,6 @@ illegal asc ascq = record { key = 0x05; asc = asc; ascq = ascq }
 -- how many blocks the unit has
 abbrev pub capacity : ℕ
 capacity = 1048576
-
-abbrev pub is_held_by_all : Option Held → Bool
-is_held_by_all None = false
-is_held_by_all (Some (One t g)) = false
-is_held_by_all (Some (All t)) = true
-
-abbrev pub is_replacing : Case → Bool
-is_replacing ReplacesAll = true
-is_replacing (ReplacesHolder t) = true
-is_replacing RemovesKey = false
 
 -- invalid release of persistent reservation: a holder names another type
 abbrev pub release_fault : State → ℕ → Kind → Option Sense

@@ -16,9 +16,11 @@ loop-slot-preserved c =
       | in-Some w ↦
           let is = ap (λ (v : ArrayVec ℕ). v.items) w.keys-is ∙ w.push.ensures.items in
           let len = ap (λ (v : ArrayVec ℕ). length v.items) w.keys-is ∙ w.push.ensures.len in
-          let most = c.loop-slot.invariant.1 in
-          (is ∙ ap (λ (l : List ℕ). l ++ w.in-Some.key ∷ []) c.loop-slot.invariant.0
-            ∙ sym (values-map_where-some c.loop-slot.slot-index w.in-Some.key (slot c.args.slots.now) w.in-Some.is), omega arith)
+          let most = c.loop-slot.invariant.1 in (
+            is ∙ ap (λ (l : List ℕ). l ++ w.in-Some.key ∷ []) c.loop-slot.invariant.0
+                ∙ sym (values-map_where-some c.loop-slot.slot-index w.in-Some.key (slot c.args.slots.now) w.in-Some.is),
+            omega arith,
+          )
       | in-None w ↦
           let is = ap (λ (v : ArrayVec ℕ). v.items) w.keys-is in
           let len = ap length is in

@@ -1,0 +1,7 @@
+use Rattle.std.proofs.Common.{ap, ◌∙◌}
+use Rattle.std.specs.FinSet as set
+use Rattle.pr_registry.proofs.Bits.{of_bits-without}
+use Rattle.pr_registry.proofs.host_set.HostSet.without.Goals as goal
+
+pub returns : goal.returns
+returns c = of_bits-without c.self.inside.bits c.args.host c.requires ∙ ap (λ s. set.remove s c.args.host) c.self.view_is
