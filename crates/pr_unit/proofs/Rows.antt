@@ -34,8 +34,8 @@ after_all u (c ∷ cs) = after_all (effect u c.0 c.1) cs
 with_three : Kind → UnitState
 with_three kind =
     after_all (quiet (fresh 3)) (
-      (0, Register 0 0xa1) ∷ (0, Reserve 0xa1 WriteExclusiveRegistrantsOnly) ∷ (1, Register 0 0xb2) ∷ (2, Register 0 0xc3)
-      ∷ (1, Preempt 0xb2 0xa1 (Some kind)) ∷ []
+    (0, Register 0 0xa1) ∷ (0, Reserve 0xa1 WriteExclusiveRegistrantsOnly) ∷ (1, Register 0 0xb2) ∷ (2, Register 0 0xc3)
+    ∷ (1, Preempt 0xb2 0xa1 (Some kind)) ∷ []
     )
 
 same_type : UnitState
@@ -110,7 +110,6 @@ sender_may_not_reserve : line shared 0 (Plain (Reserve 0xa1 WriteExclusiveRegist
 unfolding shared after_all
 sender_may_not_reserve = simp reads refl
 
-
 -- ---- a holds type 5, and b is registered
 
 held : UnitState
@@ -131,7 +130,6 @@ replacing_without_a_type_is_at_fault = simp reads refl
 reservation_is_told : data_of held.registry (ReadReservation 8192) ≡ 0 ∷ 0 ∷ 0 ∷ 3 ∷ 0 ∷ 0 ∷ 0 ∷ 0x10 ∷ 0 ∷ 0 ∷ 0 ∷ 0 ∷ 0 ∷ 0 ∷ 0 ∷ 0xa1 ∷ 0 ∷ 0 ∷ 0 ∷ 0 ∷ 0 ∷ 5 ∷ 0 ∷ 0 ∷ []
 unfolding held reservation_bytes after_all
 reservation_is_told = simp reads refl
-
 
 -- b clears
 cleared_by_b : UnitState
@@ -157,7 +155,6 @@ a_clear_counts : cleared_by_b.registry.generation ≡ 4
 unfolding cleared_by_b held after_all
 a_clear_counts = refl
 
-
 -- ---- a holds type 5, b has its key too, and a preempts the key
 
 own_key : UnitState
@@ -179,7 +176,6 @@ its_namesake_is_removed = simp reads refl
 its_namesake_is_told : is_pending own_key 1 registrations_preempted ≡ true
 unfolding own_key after_all
 its_namesake_is_told = simp reads refl
-
 
 -- ---- all registrants hold type 7: a, b and c
 
@@ -205,7 +201,6 @@ c_stays_registered : key_of (key_removed None).registry 2 ≡ Some 0xc3
 unfolding key_removed all_hold after_all
 c_stays_registered = simp reads refl
 
-
 -- b replaces the reservation by one of its own
 replaced : UnitState
 replaced = effect all_hold 1 (Preempt 0xb2 0 (Some WriteExclusiveRegistrantsOnly))
@@ -222,7 +217,6 @@ all_others_are_told : is_pending replaced 2 registrations_preempted ≡ true
 unfolding replaced all_hold after_all
 all_others_are_told = simp reads refl
 
-
 -- ---- a holds type 3 and unregisters
 
 left : UnitState
@@ -236,7 +230,6 @@ nobody_is_told_of_its_end : line left 1 (Plain TestUnitReady) ≡ Done
 unfolding left after_all
 nobody_is_told_of_its_end = simp reads refl
 
-
 -- ---- PRGENERATION wraps
 
 wrapped : UnitState
@@ -246,13 +239,12 @@ generation_wraps_and_a_reserve_leaves_it : wrapped.registry.generation ≡ 0
 unfolding wrapped after_all
 generation_wraps_and_a_reserve_leaves_it = refl
 
-
 -- ---- b holds type 3, and a, which is not registered, has a power on and a preempted registration to hear of
 
 waiting : UnitState
 waiting =
     record (after_all (quiet (fresh 2)) ((1, Register 0 0xb2) ∷ (1, Reserve 0xb2 ExclusiveAccess) ∷ [])) {
-      pending = set.insert (set.insert set.empty (0, power_on)) (0, registrations_preempted)
+      pending = set.insert (set.insert set.empty (0, power_on)) (0, registrations_preempted);
     }
 
 heard : UnitState

@@ -7,3 +7,6 @@ mod unit;
 
 pub use laws::{effects_are_well_formed, good_is_fixed};
 pub use unit::Unit;
+
+#[cfg(test)]
+mod tests;
