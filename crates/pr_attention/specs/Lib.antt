@@ -1,0 +1,2 @@
+pub mod Attentions
+pub mod Flagged
