@@ -17,6 +17,14 @@ pub enum Attention {
 }
 
 impl Attention {
+    /// All of them, the lowest code first.
+    pub const ALL: [Attention; 4] = [
+        Attention::PowerOn,
+        Attention::ReservationsPreempted,
+        Attention::ReservationsReleased,
+        Attention::RegistrationsPreempted,
+    ];
+
     /// The additional sense code times 256, and its qualifier.
     pub fn code(self) -> u16
         ensures { result ≡ code_of self }

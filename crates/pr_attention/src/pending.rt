@@ -78,4 +78,28 @@ impl Pending {
     {
         self.flags.is_empty()
     }
+
+    /// The attention with the lowest code of those that are pending.
+    pub fn lowest(&self) -> Option<Attention>
+        ensures some { IfSome result (λ attention. IsLowest self.now (code_of attention)) }
+        ensures none { IsNone result ↔ (self.now ≡ no_code) }
+        ensures members { AreAttentions self.now }
+    {
+        let _ = &self.flags;
+        Attention::ALL
+            .iter()
+            .copied()
+            .find(|attention| self.has(*attention))
+    }
+
+    /// Reports the attention with the lowest code, which alone is pending no more.
+    pub fn report(&mut self) -> Option<Sense>
+        ensures some { IfSome result (λ sense. ReportsLowest self.old sense self.new) }
+        ensures none { IsNone result ↔ (self.old ≡ no_code) }
+        ensures unchanged { IfNone result (self.new ≡ self.old) }
+    {
+        let attention = self.lowest()?;
+        self.remove(attention);
+        Some(attention.sense())
+    }
 }
