@@ -2,7 +2,7 @@
 use Rattle.std.proofs.Common.{◌≡◌, ◌≢◌, ℕ, zero, suc, ◌+◌, ◌-◌, ◌*◌, ◌%◌, ◌^◌, ◌<◌, ◌≤◌, max, min, Bool, true, false, ◌==◌, ◌&&◌, ◌||◌, not, IsTrue, w8, refl, sym, ap, ◌∙◌, inl, inr, ◌⊎◌, get_or, lit<, lit≤, arith, bit_or, bit_and}
 use Rattle.std.specs.Int.{bit_at, bit_not}
 use Rattle.std.specs.Ordering.{nat_cmp, eq_by_cmp}
-use Rattle.std.specs.Cmp.{nat_cmp_total, unsigned_tied}
+use Rattle.std.specs.Cmp.{nat_cmp_total, unsigned_tied, both_ways}
 use Rattle.std.specs.FinSet as set
 use Rattle.std.specs.FinSet.{nat_cmp-IsAntisymmetric}
 use Rattle.std.specs.List.{list_any}
@@ -14,6 +14,7 @@ use Rattle.bitflags.specs.Sets.{without}
 use Rattle.pr_attention.specs.declared.attention.Attention.{Attention}
 use Rattle.pr_attention.specs.declared.attention.Attention.TheVariants.{PowerOn, ReservationsPreempted, ReservationsReleased, RegistrationsPreempted}
 use Rattle.pr_attention.specs.Attentions.{attentions, is_attention, code_of, Codes, no_code, AreAttentions}
+use Rattle.pr_attention.specs.SameCodes.{is_same, is_same-tells}
 use Rattle.pr_attention.specs.Flagged.{place_of, codes_of}
 use Rattle.pr_attention.proofs.Sets.{same_codes, contains-no_code, contains-insert_code, contains-remove_code, is_attention-code_of}
 
@@ -157,3 +158,9 @@ same_bits m n few_m few_n same =
     at (suc (suc zero)) small = from 2 (bit ReservationsReleased)
     at (suc (suc (suc zero))) small = from 3 (bit RegistrationsPreempted)
     at (suc (suc (suc (suc i)))) small = absurd (omega arith)
+
+pub is_same-codes_of : (m n : ℕ) → m < 16 → n < 16 → (m == n) ≡ is_same (codes_of m) (codes_of n)
+is_same-codes_of m n few_m few_n =
+    both_ways (m == n) (is_same (codes_of m) (codes_of n))
+      (λ same. let equal : m ≡ n = grind (arith, nat_tests) in (is_same-tells (codes_of m) (codes_of n)).1 (ap codes_of equal))
+      (λ same. let equal : m ≡ n = same_bits m n few_m few_n ((is_same-tells (codes_of m) (codes_of n)).0 same) in grind (arith, nat_tests))

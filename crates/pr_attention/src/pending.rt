@@ -103,3 +103,26 @@ impl Pending {
         Some(attention.sense())
     }
 }
+
+impl PartialEq for Pending {
+    ghost use Rattle.std.specs.Prelude.{◌≡◌, ◌↔◌, IsTrue};
+    ghost use Rattle.std.specs.Cmp.{partial_equiv_from_equiv};
+    ghost use Rattle.pr_attention.specs.SameCodes.{is_same, is_same-IsEquivalence};
+
+    ghost eq = { is_same };
+
+    ghost laws = { partial_equiv_from_equiv is_same-IsEquivalence };
+
+    fn eq(&self, other: &Self) -> bool
+        ensures value { result ≡ is_same self.now other.now }
+        ensures same { IsTrue result ↔ (self.now ≡ other.now) }
+    {
+        self.flags == other.flags
+    }
+}
+
+impl Eq for Pending {
+    ghost use Rattle.pr_attention.specs.SameCodes.{is_same-IsEquivalence};
+
+    ghost laws = { is_same-IsEquivalence };
+}
