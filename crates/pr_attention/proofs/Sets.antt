@@ -1,0 +1,56 @@
+-- What sets of codes contain, and that they are equal where they contain the same.
+use Rattle.std.proofs.Common.{◌≡◌, ℕ, Bool, true, false, ◌==◌, ◌&&◌, ◌||◌, not, IsTrue, refl, sym, ap, ◌∙◌, arith}
+use Rattle.std.specs.Ordering.{nat_cmp}
+use Rattle.std.specs.Cmp.{nat_cmp_total, unsigned_tied}
+use Rattle.std.specs.FinSet as set
+use Rattle.std.specs.FinSet.{nat_cmp-IsAntisymmetric}
+use Rattle.std.proofs.lemmas.Bool.Decides.{nat_tests}
+use Rattle.pr_attention.specs.declared.attention.Attention.{Attention}
+use Rattle.pr_attention.specs.declared.attention.Attention.TheVariants.{PowerOn, ReservationsPreempted, ReservationsReleased, RegistrationsPreempted}
+use Rattle.pr_attention.specs.Attentions.{is_attention, code_of, Codes, no_code, AreAttentions}
+
+pub same_codes : (s t : Codes) → ((q : ℕ) → set.contains s q ≡ set.contains t q) → s ≡ t
+same_codes s t same = set.same_set nat_cmp_total nat_cmp-IsAntisymmetric s t same
+
+pub contains-no_code : (q : ℕ) → set.contains no_code q ≡ false
+contains-no_code q = set.contains-empty nat_cmp q
+
+pub contains-insert_code : (s : Codes) (code q : ℕ) → set.contains (set.insert s code) q ≡ (q == code || set.contains s q)
+contains-insert_code s code q = set.contains-insert nat_cmp_total s code q ∙ ap (λ b. b || set.contains s q) (unsigned_tied q code)
+
+pub contains-remove_code : (s : Codes) (code q : ℕ) → set.contains (set.remove s code) q ≡ (not (q == code) && set.contains s q)
+contains-remove_code s code q = set.contains-remove nat_cmp_total s code q ∙ ap (λ b. not b && set.contains s q) (unsigned_tied q code)
+
+-- what a set of codes contains after a change
+pub ruleset code_reads = (contains-no_code, contains-insert_code, contains-remove_code)
+
+-- ---- the members stay among the four codes
+
+pub is_attention-code_of : (a : Attention) → IsTrue (is_attention (code_of a))
+is_attention-code_of PowerOn = refl
+is_attention-code_of ReservationsPreempted = refl
+is_attention-code_of ReservationsReleased = refl
+is_attention-code_of RegistrationsPreempted = refl
+
+pub AreAttentions-no_code : AreAttentions no_code
+AreAttentions-no_code q there = let none = contains-no_code q in cc
+
+pub AreAttentions-insert : (s : Codes) (a : Attention) → AreAttentions s → AreAttentions (set.insert s (code_of a))
+AreAttentions-insert s a are q there =
+    at (q == code_of a) refl
+  where
+    known : (q == code_of a || set.contains s q) ≡ true
+    known = sym (contains-insert_code s (code_of a) q) ∙ there
+
+    at : (b : Bool) → (q == code_of a) ≡ b → IsTrue (is_attention q)
+    at true is = let same : q ≡ code_of a = grind (arith, nat_tests) in rw same (is_attention-code_of a)
+    at false is = are q (sym (ap (λ b. b || set.contains s q) is) ∙ known)
+
+pub AreAttentions-remove : (s : Codes) (code : ℕ) → AreAttentions s → AreAttentions (set.remove s code)
+AreAttentions-remove s code are q there =
+    at (not (q == code)) (set.contains s q) refl (sym (contains-remove_code s code q) ∙ there)
+  where
+    at : (b c : Bool) → set.contains s q ≡ c → (b && c) ≡ true → IsTrue (is_attention q)
+    at true true is _ = are q is
+    at true false is both = cc
+    at false c is both = cc

@@ -1,0 +1,3 @@
+pub mod Attentions
+pub mod SameCodes
+pub mod Flagged

@@ -1,0 +1,55 @@
+//! The attentions as flags.
+
+ghost use Rattle.std.specs.Prelude.{⊤, ◌≡◌, ◌^◌, [], ◌∷◌, codes};
+ghost use Rattle.pr_attention.specs.Attentions.{code_of};
+ghost use Rattle.pr_attention.specs.Flagged.{place_of};
+
+use crate::Attention;
+use bitflags::{Flag, Flags, bitflag_items};
+
+/// A set of attentions, with a bit for each.
+#[derive(Clone, Copy, Debug, PartialEq, Eq)]
+pub(crate) struct AttentionFlags(u8);
+
+bitflag_items! {
+    impl AttentionFlags: u8 {
+        const POWER_ON = 1;
+        const RESERVATIONS_PREEMPTED = 2;
+        const RESERVATIONS_RELEASED = 4;
+        const REGISTRATIONS_PREEMPTED = 8;
+    }
+}
+
+impl Flags for AttentionFlags {
+    type Bits = u8;
+
+    ghost exact = { ⊤ };
+
+    ghost table = { (codes "POWER_ON", 1) ∷ (codes "RESERVATIONS_PREEMPTED", 2) ∷ (codes "RESERVATIONS_RELEASED", 4) ∷ (codes "REGISTRATIONS_PREEMPTED", 8) ∷ [] };
+
+    ghost set_of = { λ flags. flags.0 };
+
+    fn flags<'a>() -> &'a [Flag<AttentionFlags>] {
+        AttentionFlags::FLAGS
+    }
+
+    fn bits(&self) -> u8 {
+        self.0
+    }
+
+    fn from_bits_retain(bits: u8) -> AttentionFlags {
+        AttentionFlags(bits)
+    }
+}
+
+/// The flag of an attention.
+pub(crate) fn flag(attention: Attention) -> AttentionFlags
+    ensures { result.0 ≡ 2 ^ place_of (code_of attention) }
+{
+    match attention {
+        Attention::PowerOn => AttentionFlags::POWER_ON,
+        Attention::ReservationsPreempted => AttentionFlags::RESERVATIONS_PREEMPTED,
+        Attention::ReservationsReleased => AttentionFlags::RESERVATIONS_RELEASED,
+        Attention::RegistrationsPreempted => AttentionFlags::REGISTRATIONS_PREEMPTED,
+    }
+}
