@@ -19,7 +19,7 @@ impl Change {
     ghost use Rattle.pr_registry.specs.Changes.{no_change};
 
     /// Nobody is removed or told.
-    pub(crate) fn none() -> Self
+    pub fn none() -> Self
         ensures { result ≡ no_change }
     {
         Change {

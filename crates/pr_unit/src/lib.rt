@@ -2,6 +2,7 @@
 #![tactic(auto)]
 
 mod laws;
+mod pending_table;
 mod reply;
 mod unit;
 

@@ -1,0 +1,35 @@
+use Rattle.std.proofs.Common.{◌<◌, ◌≡◌, ℕ, Option, Some, None, true, false, ap, sym, ◌∙◌, subst, length, get_or, arith}
+use Rattle.std.specs.Prelude.{IfSome}
+use Rattle.std.specs.FinSet as set
+use Rattle.std.proofs.lemmas.Option.{IfSome_then}
+use Rattle.pr_attention.specs.declared.attention.Attention.{Attention}
+use Rattle.pr_attention.specs.Attentions.{Codes, no_code, code_of, IsLowest}
+use Rattle.pr_attention.proofs.Sets.{same_codes, contains-no_code}
+use Rattle.pr_unit.specs.Attentions.{table_pairs}
+use Rattle.pr_unit.specs.Told.{IsLowestOf, HasNone}
+use Rattle.pr_unit.proofs.Pairs.{place_read, contains-table_pairs_in}
+use Rattle.pr_unit.proofs.pending_table.lowest.Goals as goal
+
+-- what the host has at its place is what is pending for it
+at_place : (c : goal.After-lowest) (code : ℕ)
+  → set.contains (table_pairs c.args.pendings.now) (c.args.host, code) ≡ set.contains (get_or c.args.pendings.now c.from.result c.index-pendings-from.result) code
+at_place c code =
+    let table = c.args.pendings.now in
+    let whole = c.type_inv.pendings in
+    let small : c.from.result < 8 = omega arith in
+    let there : c.from.result < length table = omega arith in
+    ap (λ h. set.contains (table_pairs table) (h, code)) (sym c.from.ensures) ∙ contains-table_pairs_in table c.from.result code small
+    ∙ ap (λ s. set.contains s code) (sym (place_read table c.from.result c.index-pendings-from.result there))
+
+pub returns-clause-some : goal.returns-clause-some
+returns-clause-some c =
+    IfSome_then c.lowest.result c.lowest.ensures.some (λ attention lowest. record {
+      there = at_place c (code_of attention) ∙ lowest.pending;
+      least = λ other is. lowest.least other (sym (at_place c other) ∙ is);
+    })
+
+pub returns-clause-none : goal.returns-clause-none
+returns-clause-none c = (
+  λ none code. at_place c code ∙ ap (λ s. set.contains s code) (c.lowest.ensures.none.0 none) ∙ contains-no_code code,
+  λ none. c.lowest.ensures.none.1 (same_codes _ _ (λ code. sym (at_place c code) ∙ none code ∙ sym (contains-no_code code))),
+)

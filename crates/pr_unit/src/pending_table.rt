@@ -1,0 +1,70 @@
+//! The pending attentions of all hosts, as a table with a place for each.
+
+ghost use Rattle.std.specs.Prelude.{◌≡◌, ◌<◌, ◌≤◌, ℕ, true, IsNone, IfSome, ◌↔◌};
+ghost use Rattle.std.specs.FinSet as set;
+ghost use Rattle.pr_attention.specs.Attentions.{code_of};
+ghost use Rattle.pr_unit.specs.Attentions.{each_with, table_pairs};
+ghost use Rattle.pr_unit.specs.UnitStates.{told};
+ghost use Rattle.pr_unit.specs.Told.{AreBelow, TellsBelow, IsLowestOf, HasNone};
+
+use pr_attention::{Attention, Pending};
+use pr_registry::{Change, HostSet};
+
+/// Whether the attention is pending for the host.
+pub(crate) fn has(pendings: &[Pending; 8], host: u8, attention: Attention) -> bool
+    requires { host < 8 }
+    ensures { result ≡ set.contains (table_pairs pendings.now) (host, code_of attention) }
+{
+    let pending = &pendings[usize::from(host)];
+    pending.has(attention)
+}
+
+/// The attention with the lowest code of those that are pending for the host.
+pub(crate) fn lowest(pendings: &[Pending; 8], host: u8) -> Option<Attention>
+    requires { host < 8 }
+    ensures some { IfSome result (λ attention. IsLowestOf (table_pairs pendings.now) host (code_of attention)) }
+    ensures none { IsNone result ↔ HasNone (table_pairs pendings.now) host }
+{
+    let pending = &pendings[usize::from(host)];
+    pending.lowest()
+}
+
+/// Makes the attention pending for the host.
+pub(crate) fn add(pendings: &mut [Pending; 8], host: u8, attention: Attention)
+    requires { host < 8 }
+    ensures { table_pairs pendings.new ≡ set.insert (table_pairs pendings.old) (host, code_of attention) }
+{
+    let pending = &mut pendings[usize::from(host)];
+    pending.add(attention);
+}
+
+/// Takes the attention away from the host.
+pub(crate) fn remove(pendings: &mut [Pending; 8], host: u8, attention: Attention)
+    requires { host < 8 }
+    ensures { table_pairs pendings.new ≡ set.remove (table_pairs pendings.old) (host, code_of attention) }
+{
+    let pending = &mut pendings[usize::from(host)];
+    pending.remove(attention);
+}
+
+/// Makes the attention pending for each of the hosts.
+pub(crate) fn tell(pendings: &mut [Pending; 8], hosts: &HostSet, attention: Attention)
+    requires { AreBelow 8 hosts.now }
+    ensures { table_pairs pendings.new ≡ set.union (table_pairs pendings.old) (each_with hosts.now (code_of attention)) }
+{
+    for host in 0..8u8 {
+        if hosts.has(host) {
+            add(pendings, host, attention);
+        }
+    }
+}
+
+/// Makes pending what a change tells.
+pub(crate) fn tell_change(pendings: &mut [Pending; 8], change: &Change)
+    requires { TellsBelow 8 change.now }
+    ensures { table_pairs pendings.new ≡ told (table_pairs pendings.old) change.now }
+{
+    tell(pendings, &change.told_03, Attention::ReservationsPreempted);
+    tell(pendings, &change.told_04, Attention::ReservationsReleased);
+    tell(pendings, &change.told_05, Attention::RegistrationsPreempted);
+}
