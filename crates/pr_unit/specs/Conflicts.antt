@@ -8,6 +8,8 @@ use Rattle.pr_cdb.specs.declared.command.Command.TheVariants.{Read, Write, Regis
 use Rattle.pr_cdb.specs.declared.wire.Request.{Request}
 use Rattle.pr_cdb.specs.declared.wire.Request.TheVariants.{Plain, Faulty}
 use Rattle.pr_registry.specs.declared.held.Held.{Held}
+use Rattle.pr_unit.specs.declared.access.Access.{Access}
+use Rattle.pr_unit.specs.declared.access.Access.TheVariants.{Everybody, Registrants, Holder}
 use Rattle.pr_registry.specs.Hosts.{is_key, is_nobodys}
 use Rattle.pr_registry.specs.Registrations.{State, key_of, is_registered, is_holder, kind_of}
 use Rattle.pr_registry.specs.Changes.{is_in_the_way}
@@ -25,11 +27,6 @@ abbrev pub preempt_conflicts : State → ℕ → ℕ → ℕ → Bool
 preempt_conflicts u h rk sark = lacks_key u h rk || (not (sark == 0) && is_nobodys u.keys sark)
 
 -- to whom a reservation leaves an access
-pub data Access : Type 0 where
-  Everybody : Access
-  Registrants : Access
-  Holder : Access
-
 abbrev pub reading : Kind → Access
 reading WriteExclusive = Everybody
 reading ExclusiveAccess = Holder

@@ -1,6 +1,8 @@
 //! A logical unit that executes one command at a time.
 #![tactic(auto)]
 
+mod access;
+mod decisions;
 mod laws;
 mod pending_table;
 mod reply;

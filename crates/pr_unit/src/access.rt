@@ -1,0 +1,84 @@
+//! To whom a reservation leaves an access.
+
+ghost use Rattle.std.specs.Prelude.{◌≡◌, ◌<◌};
+ghost use Rattle.pr_unit.specs.Conflicts.{reading, writing, is_shut_out, access_conflicts};
+ghost use Rattle.pr_registry.specs.Registrations.{kind_of};
+
+use pr_cdb::Kind;
+use pr_registry::{Held, Registry};
+
+/// To whom a reservation leaves an access to the medium (SPC-4, 'Reservations').
+#[derive(Clone, Copy, Debug, PartialEq, Eq)]
+pub(crate) enum Access {
+    Everybody,
+    Registrants,
+    Holder,
+}
+
+/// Who may read the medium under a reservation of this type.
+fn reading(kind: Kind) -> Access
+    ensures { result ≡ reading kind }
+{
+    match kind {
+        Kind::WriteExclusive => Access::Everybody,
+        Kind::ExclusiveAccess => Access::Holder,
+        Kind::WriteExclusiveRegistrantsOnly => Access::Everybody,
+        Kind::ExclusiveAccessRegistrantsOnly => Access::Registrants,
+        Kind::WriteExclusiveAllRegistrants => Access::Everybody,
+        Kind::ExclusiveAccessAllRegistrants => Access::Registrants,
+    }
+}
+
+/// Who may write it.
+fn writing(kind: Kind) -> Access
+    ensures { result ≡ writing kind }
+{
+    match kind {
+        Kind::WriteExclusive | Kind::ExclusiveAccess => Access::Holder,
+        Kind::WriteExclusiveRegistrantsOnly
+        | Kind::ExclusiveAccessRegistrantsOnly
+        | Kind::WriteExclusiveAllRegistrants
+        | Kind::ExclusiveAccessAllRegistrants => Access::Registrants,
+    }
+}
+
+fn kind_of(held: Held) -> Kind
+    ensures { result ≡ kind_of held }
+{
+    match held {
+        Held::One(kind, _) | Held::All(kind) => kind,
+    }
+}
+
+fn is_shut_out(registry: &Registry, host: u8, access: Access) -> bool
+    requires { host < registry.now.hosts }
+    ensures { result ≡ is_shut_out registry.now host access }
+{
+    match access {
+        Access::Everybody => false,
+        Access::Registrants => !registry.is_registered(host),
+        Access::Holder => !registry.is_holder(host),
+    }
+}
+
+/// Whether the reservation keeps the host from reading the medium.
+pub(crate) fn reading_conflicts(registry: &Registry, host: u8) -> bool
+    requires { host < registry.now.hosts }
+    ensures { result ≡ access_conflicts registry.now host registry.now.held reading }
+{
+    match registry.held() {
+        None => false,
+        Some(held) => is_shut_out(registry, host, reading(kind_of(held))),
+    }
+}
+
+/// Whether the reservation keeps the host from writing it.
+pub(crate) fn writing_conflicts(registry: &Registry, host: u8) -> bool
+    requires { host < registry.now.hosts }
+    ensures { result ≡ access_conflicts registry.now host registry.now.held writing }
+{
+    match registry.held() {
+        None => false,
+        Some(held) => is_shut_out(registry, host, writing(kind_of(held))),
+    }
+}

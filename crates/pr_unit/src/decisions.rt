@@ -1,0 +1,128 @@
+//! What decides how a command ends: a conflict, or a fault of its own.
+
+ghost use Rattle.std.specs.Prelude.{◌≡◌, ◌<◌};
+ghost use Rattle.pr_unit.specs.Conflicts.{is_wrong_key, lacks_key, preempt_conflicts, command_conflicts};
+ghost use Rattle.pr_unit.specs.Faults.{illegal, release_fault, preempt_fault, range_fault, command_fault};
+
+use crate::access::{reading_conflicts, writing_conflicts};
+use pr_cdb::{Command, Kind, Sense};
+use pr_registry::Registry;
+
+/// How many blocks the unit has.
+const CAPACITY: u64 = 1_048_576;
+
+/// Whether the command of the host ends in RESERVATION CONFLICT.
+pub(crate) fn conflicts(registry: &Registry, host: u8, command: Command) -> bool
+    requires { host < registry.now.hosts }
+    ensures { result ≡ command_conflicts registry.now host command }
+{
+    match command {
+        Command::Register { rk, .. } => is_wrong_key(registry.key(host), rk),
+        Command::Reserve { rk, kind } => {
+            lacks_key(registry, host, rk) || registry.is_in_the_way(host, kind)
+        }
+        Command::Release { rk, .. } => lacks_key(registry, host, rk),
+        Command::Clear { rk } => lacks_key(registry, host, rk),
+        Command::Preempt { rk, sark, .. } => preempt_conflicts(registry, host, rk, sark),
+        Command::PreemptAbort { rk, sark, .. } => preempt_conflicts(registry, host, rk, sark),
+        Command::Read { .. } => reading_conflicts(registry, host),
+        Command::Write { .. } => writing_conflicts(registry, host),
+        Command::TestUnitReady
+        | Command::RequestSense
+        | Command::ReadKeys { .. }
+        | Command::ReadReservation { .. }
+        | Command::ReportCapabilities { .. }
+        | Command::RegisterIgnore { .. } => false,
+    }
+}
+
+// REGISTER needs the key that the host has, or zero where it has none.
+fn is_wrong_key(key: Option<u64>, rk: u64) -> bool
+    ensures { result ≡ is_wrong_key key rk }
+{
+    match key {
+        None => rk != 0,
+        Some(key) => key != rk,
+    }
+}
+
+// Every service action but the two that register needs the key of a registered sender.
+fn lacks_key(registry: &Registry, host: u8, rk: u64) -> bool
+    requires { host < registry.now.hosts }
+    ensures { result ≡ lacks_key registry.now host rk }
+{
+    match registry.key(host) {
+        None => true,
+        Some(key) => key != rk,
+    }
+}
+
+fn preempt_conflicts(registry: &Registry, host: u8, rk: u64, sark: u64) -> bool
+    requires { host < registry.now.hosts }
+    ensures { result ≡ preempt_conflicts registry.now host rk sark }
+{
+    lacks_key(registry, host, rk) || (sark != 0 && registry.is_nobodys(sark))
+}
+
+/// The fault of a command of the host that does not conflict.
+pub(crate) fn fault(registry: &Registry, host: u8, command: Command) -> Option<Sense>
+    requires { host < registry.now.hosts }
+    ensures { result ≡ command_fault registry.now host command }
+{
+    match command {
+        Command::Release { kind, .. } => release_fault(registry, host, kind),
+        Command::Preempt { sark, kind, .. } => preempt_fault(registry, sark, kind),
+        Command::PreemptAbort { sark, kind, .. } => preempt_fault(registry, sark, kind),
+        Command::Read { lba, blocks } => range_fault(lba, blocks),
+        Command::Write { lba, blocks } => range_fault(lba, blocks),
+        Command::TestUnitReady
+        | Command::RequestSense
+        | Command::ReadKeys { .. }
+        | Command::ReadReservation { .. }
+        | Command::ReportCapabilities { .. }
+        | Command::Register { .. }
+        | Command::RegisterIgnore { .. }
+        | Command::Reserve { .. }
+        | Command::Clear { .. } => None,
+    }
+}
+
+// ILLEGAL REQUEST.
+fn illegal(asc: u8, ascq: u8) -> Sense
+    ensures { result ≡ illegal asc ascq }
+{
+    Sense { key: 5, asc, ascq }
+}
+
+fn release_fault(registry: &Registry, host: u8, kind: Kind) -> Option<Sense>
+    requires { host < registry.now.hosts }
+    ensures { result ≡ release_fault registry.now host kind }
+{
+    if registry.is_holder(host) && !registry.is_held_as(kind) {
+        Some(illegal(0x26, 0x04))
+    } else {
+        None
+    }
+}
+
+fn preempt_fault(registry: &Registry, sark: u64, kind: Option<Kind>) -> Option<Sense>
+    ensures { result ≡ preempt_fault registry.now sark kind }
+{
+    if sark == 0 && !registry.is_held_by_all() {
+        return Some(illegal(0x26, 0x00));
+    }
+    if kind.is_none() && registry.is_replaced_by(sark) {
+        return Some(illegal(0x24, 0x00));
+    }
+    None
+}
+
+fn range_fault(lba: u32, blocks: u16) -> Option<Sense>
+    ensures { result ≡ range_fault lba blocks }
+{
+    if CAPACITY < u64::from(lba) + u64::from(blocks) {
+        Some(illegal(0x21, 0x00))
+    } else {
+        None
+    }
+}
