@@ -121,7 +121,7 @@ codes_of-without_flag bits a =
     at q false is (inr other) = rw other.0 (rw is refl)
     at q true is (inr other) =
         let kept : bit_at left (place_of q) ≡ bit_at bits (place_of q) =
-            bit_at_clear_other w8 bits (place_of (code_of a)) few (place_of q) (omega (arith, few_places q)) (other_place q (code_of a) is (is_attention-code_of a) other.1) in
+        bit_at_clear_other w8 bits (place_of (code_of a)) few (place_of q) (omega (arith, few_places q)) (other_place q (code_of a) is (is_attention-code_of a) other.1) in
         rw other.0 (rw kept refl)
 
 pub codes_of-zero : codes_of 0 ≡ no_code
@@ -162,5 +162,5 @@ same_bits m n few_m few_n same =
 pub is_same-codes_of : (m n : ℕ) → m < 16 → n < 16 → (m == n) ≡ is_same (codes_of m) (codes_of n)
 is_same-codes_of m n few_m few_n =
     both_ways (m == n) (is_same (codes_of m) (codes_of n))
-      (λ same. let equal : m ≡ n = grind (arith, nat_tests) in (is_same-tells (codes_of m) (codes_of n)).1 (ap codes_of equal))
-      (λ same. let equal : m ≡ n = same_bits m n few_m few_n ((is_same-tells (codes_of m) (codes_of n)).0 same) in grind (arith, nat_tests))
+    (λ same. let equal : m ≡ n = grind (arith, nat_tests) in (is_same-tells (codes_of m) (codes_of n)).1 (ap codes_of equal))
+    (λ same. let equal : m ≡ n = same_bits m n few_m few_n ((is_same-tells (codes_of m) (codes_of n)).0 same) in grind (arith, nat_tests))

@@ -50,9 +50,10 @@ module _ (s : Codes) (are : AreAttentions s) where
       at false false false false p_is q_is r_is t_is = tt
 
   pub no_code-first_in : IsNone (first_in s) ↔ (s ≡ no_code)
-  no_code-first_in =
-      (at (set.contains s power_on) (set.contains s reservations_preempted) (set.contains s reservations_released) (set.contains s registrations_preempted) refl refl refl refl,
-       λ none. rw (none_at none power_on, none_at none reservations_preempted, none_at none reservations_released, none_at none registrations_preempted) refl)
+  no_code-first_in = (
+    at (set.contains s power_on) (set.contains s reservations_preempted) (set.contains s reservations_released) (set.contains s registrations_preempted) refl refl refl refl,
+    λ none. rw (none_at none power_on, none_at none reservations_preempted, none_at none reservations_released, none_at none registrations_preempted) refl,
+  )
     where
       none_at : s ≡ no_code → (q : ℕ) → set.contains s q ≡ false
       none_at none q = ap (λ u. set.contains u q) none ∙ contains-no_code q
@@ -69,5 +70,5 @@ module _ (s : Codes) (are : AreAttentions s) where
       at false false false true p_is q_is r_is t_is wrong = cc
       at false false false false p_is q_is r_is t_is _ =
           same_codes s no_code (λ x. none_there x (set.contains s x) refl (λ there. beyond x there
-            (another x power_on there p_is) (another x reservations_preempted there q_is) (another x reservations_released there r_is) (another x registrations_preempted there t_is))
+          (another x power_on there p_is) (another x reservations_preempted there q_is) (another x reservations_released there r_is) (another x registrations_preempted there t_is))
           ∙ sym (contains-no_code x))

@@ -16,7 +16,7 @@ pub is_same-tells : (codes others : Codes) → (is_same codes others ≡ true) �
 is_same-tells codes others = (
   λ both. let parts = and_parts (set.is_subset codes others) (set.is_subset others codes) both in
       set.same_set nat_cmp_total nat_cmp-IsAntisymmetric codes others (λ q. both_ways (set.contains codes q) (set.contains others q)
-        (set.is_subset-contains nat_cmp_total codes others parts.0 q) (set.is_subset-contains nat_cmp_total others codes parts.1 q)),
+      (set.is_subset-contains nat_cmp_total codes others parts.0 q) (set.is_subset-contains nat_cmp_total others codes parts.1 q)),
   λ same. sym (ap (is_same codes) same) ∙ ap (λ b. b && b) (set.contains-is_subset nat_cmp_total codes codes (λ q there. there)),
 )
 

@@ -11,3 +11,6 @@ mod pending;
 
 pub use attention::Attention;
 pub use pending::Pending;
+
+#[cfg(test)]
+mod tests;

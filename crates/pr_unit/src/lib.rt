@@ -6,6 +6,7 @@ mod decisions;
 mod laws;
 mod pending_table;
 mod reply;
+mod services;
 mod unit;
 
 pub use laws::{effects_are_well_formed, good_is_fixed};
