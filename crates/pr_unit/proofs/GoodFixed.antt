@@ -7,7 +7,9 @@ use Rattle.pr_cdb.specs.ReplyData.{sense_bytes}
 use Rattle.pr_unit.specs.Attentions.{attention_sense}
 use Rattle.pr_unit.specs.UnitStates.{UnitState}
 use Rattle.pr_unit.specs.Replies.{is_good, good, check, report, is_request_sense}
-use Rattle.pr_unit.specs.Steps.{Line, PowerOn, Conflicting, Attention, AtFault, Done, StepBy, IsDone, line}
+use Rattle.pr_unit.specs.declared.line.Line.{Line}
+use Rattle.pr_unit.specs.declared.line.Line.TheVariants.{PowerOn, Conflicting, Attention, AtFault, Done}
+use Rattle.pr_unit.specs.Steps.{StepBy, IsDone, line}
 use Rattle.pr_unit.specs.Laws.{GoodIsFixed}
 
 -- every report of an attention ends alike

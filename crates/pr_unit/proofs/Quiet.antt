@@ -17,7 +17,8 @@ use Rattle.pr_unit.specs.UnitStates.{UnitState, quiet, is_pending, is_any_pendin
 use Rattle.pr_unit.specs.Conflicts.{conflicts, is_wrong_key}
 use Rattle.pr_unit.specs.Faults.{fault}
 use Rattle.pr_unit.specs.Replies.{good, check, conflict, data_of}
-use Rattle.pr_unit.specs.Steps.{PowerOn, Conflicting, Attention, last_line, line, StepBy, Step, LowestBy, TakenStep}
+use Rattle.pr_unit.specs.declared.line.Line.TheVariants.{PowerOn, Conflicting, Attention}
+use Rattle.pr_unit.specs.Steps.{last_line, line, StepBy, Step, LowestBy, TakenStep}
 use Rattle.pr_unit.proofs.Pairs.{same_pairs, contains-none, contains-union-pairs, contains-each_with}
 
 none_pending : (u : State) (h code : ℕ) → is_pending (quiet u) h code ≡ false

@@ -19,7 +19,9 @@ use Rattle.pr_unit.specs.UnitStates.{UnitState, quiet, effect, reported, is_pend
 use Rattle.pr_unit.specs.Conflicts.{command_conflicts}
 use Rattle.pr_unit.specs.Faults.{command_fault, illegal}
 use Rattle.pr_unit.specs.Replies.{data_of}
-use Rattle.pr_unit.specs.Steps.{Line, PowerOn, Conflicting, Attention, AtFault, Done, line}
+use Rattle.pr_unit.specs.declared.line.Line.{Line}
+use Rattle.pr_unit.specs.declared.line.Line.TheVariants.{PowerOn, Conflicting, Attention, AtFault, Done}
+use Rattle.pr_unit.specs.Steps.{line}
 use Rattle.pr_unit.proofs.Pairs.{contains-none, contains-union-pairs, contains-insert-pair, contains-remove-pair, contains-each_with}
 
 ruleset reads = (contains-nobody, contains-insert, contains-remove, contains-just, contains-difference, get-insert, get-empty, get-without, contains-hosts_in, contains-hosts_with, contains-none, contains-union-pairs, contains-insert-pair, contains-remove-pair, contains-each_with)

@@ -19,6 +19,7 @@ use Rattle.pr_unit.specs.UnitStates.{UnitState, IsWellFormed, told}
 use Rattle.pr_unit.specs.Conflicts.{lacks_key, command_conflicts}
 use Rattle.pr_unit.specs.Faults.{illegal, preempt_fault, command_fault}
 use Rattle.pr_unit.specs.Laws.{EffectsAreWellFormed}
+use Rattle.pr_unit.specs.Told.{AreBelow, TellsBelow}
 use Rattle.pr_unit.proofs.Pairs.{contains-union-pairs, contains-each_with}
 
 first_false : (a b : Bool) → (a || b) ≡ false → a ≡ false
@@ -152,3 +153,16 @@ effects_are_well_formed u h c w there fits free whole =
       pending = λ q code is. let of_host = told_is_of_host u (change u.registry h c) q code w tells.told_03 tells.told_04 tells.told_05 is in
           (rw (hosts-after u.registry h c) of_host.0, of_host.1);
     }
+
+-- a command tells hosts that have a place
+pub tells_below : (u : State) (h : ℕ) (c : Command) → IsWellFormedRegistry u → TellsBelow 8 (change u h c)
+tells_below u h c w =
+    let tells = tells_registrants u h c in
+    let c = change u h c in
+    record { told_03 = below c.told_03 tells.told_03; told_04 = below c.told_04 tells.told_04; told_05 = below c.told_05 tells.told_05 }
+  where
+    below : (s : Hosts) → AreRegistered u s → AreBelow 8 s
+    below s are q is =
+        let there = in_range u q w (are q is) in
+        let most = w.hosts.1 in
+        omega arith

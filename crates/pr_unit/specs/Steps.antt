@@ -6,25 +6,15 @@ use Rattle.pr_cdb.specs.declared.reply.Reply.{Reply}
 use Rattle.pr_cdb.specs.declared.wire.Request.{Request}
 use Rattle.pr_cdb.specs.declared.wire.Request.TheVariants.{Plain, Faulty}
 use Rattle.pr_cdb.specs.declared.wire.Bad.{Bad}
+use Rattle.pr_unit.specs.declared.line.Line.{Line}
+use Rattle.pr_unit.specs.declared.line.Line.TheVariants.{PowerOn, Conflicting, Attention, AtFault, Done}
 use Rattle.pr_unit.specs.Attentions.{power_on}
 use Rattle.pr_unit.specs.UnitStates.{UnitState, is_pending, is_any_pending, effect, reported}
 use Rattle.pr_unit.specs.Conflicts.{conflicts}
 use Rattle.pr_unit.specs.Faults.{fault}
 use Rattle.pr_unit.specs.Replies.{good, check, conflict, report, data_of}
 
--- what decides how a request ends
-pub data Line : Type 0 where
-  -- a power on or reset that is still to be reported
-  PowerOn : Line
-  -- a reservation conflict
-  Conflicting : Line
-  -- another attention that is still to be reported
-  Attention : Line
-  -- a fault of the request
-  AtFault : Sense → Line
-  -- nothing: it ends GOOD
-  Done : Line
-
+-- what decides how a request ends: a fault of its own, or nothing
 abbrev pub last_line : Option Sense → Line
 last_line None = Done
 last_line (Some sense) = AtFault sense

@@ -1,6 +1,6 @@
 -- The state of a logical unit: its registrations, reservation and generation, and the pending
 -- attentions of each host.
-use Rattle.std.specs.Prelude.{◌≡◌, ℕ, ◌<◌, Bool, true, IsTrue, refl}
+use Rattle.std.specs.Prelude.{◌≡◌, ℕ, ◌<◌, Bool, true, IsTrue, List, refl}
 use Rattle.std.specs.FinSet as set
 use Rattle.std.specs.Coded.{Coded, code_by, coded×, coded_ℕ}
 use Rattle.std.specs.List.{list_any}
@@ -8,11 +8,16 @@ use Rattle.pr_cdb.specs.declared.command.Command.{Command}
 use Rattle.pr_registry.specs.declared.change.Change.{Change}
 use Rattle.pr_registry.specs.Registrations.{State, IsWellFormed as IsWellFormedRegistry}
 use Rattle.pr_registry.specs.Effects.{after, change}
-use Rattle.pr_unit.specs.Attentions.{Pairs, attentions, is_attention, each_with, reservations_preempted, reservations_released, registrations_preempted}
+use Rattle.pr_attention.specs.Attentions.{Codes}
+use Rattle.pr_unit.specs.Attentions.{Pairs, table_pairs, attentions, is_attention, each_with, reservations_preempted, reservations_released, registrations_preempted}
 
 pub record UnitState : Type 0 where
   pub registry : State
   pub pending : Pairs
+
+-- the state of a registry and a table of pending attentions
+abbrev pub unit_of : State → List Codes → UnitState
+unit_of registry table = record { registry = registry; pending = table_pairs table }
 
 abbrev pub unit_code : Coded State → Coded UnitState
 unit_code registry =
@@ -21,8 +26,12 @@ unit_code registry =
 abbrev pub is_pending : UnitState → ℕ → ℕ → Bool
 is_pending u h code = set.contains u.pending (h, code)
 
+-- one of the four attentions is pending for the host
+abbrev pub has_any : Pairs → ℕ → Bool
+has_any pending h = list_any (λ code. set.contains pending (h, code)) attentions
+
 abbrev pub is_any_pending : UnitState → ℕ → Bool
-is_any_pending u h = list_any (is_pending u h) attentions
+is_any_pending u h = has_any u.pending h
 
 -- the registry is well formed, and what is pending is one of the four attentions of a host that is there
 pub record IsWellFormed (u : UnitState) : Type 0 where

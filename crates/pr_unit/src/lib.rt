@@ -2,8 +2,10 @@
 #![tactic(auto)]
 
 mod access;
+mod answers;
 mod decisions;
 mod laws;
+mod line;
 mod pending_table;
 mod reply;
 mod services;

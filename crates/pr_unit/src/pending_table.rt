@@ -4,7 +4,7 @@ ghost use Rattle.std.specs.Prelude.{◌≡◌, ◌<◌, ◌≤◌, ℕ, true, Is
 ghost use Rattle.std.specs.FinSet as set;
 ghost use Rattle.pr_attention.specs.Attentions.{code_of};
 ghost use Rattle.pr_unit.specs.Attentions.{each_with, table_pairs};
-ghost use Rattle.pr_unit.specs.UnitStates.{told};
+ghost use Rattle.pr_unit.specs.UnitStates.{has_any, told};
 ghost use Rattle.pr_unit.specs.Told.{AreBelow, TellsBelow, IsLowestOf, HasNone};
 
 use pr_attention::{Attention, Pending};
@@ -27,6 +27,17 @@ pub(crate) fn lowest(pendings: &[Pending; 8], host: u8) -> Option<Attention>
 {
     let pending = &pendings[usize::from(host)];
     pending.lowest()
+}
+
+/// Whether any attention is pending for the host.
+pub(crate) fn has_any(pendings: &[Pending; 8], host: u8) -> bool
+    requires { host < 8 }
+    ensures { result ≡ has_any (table_pairs pendings.now) host }
+{
+    has(pendings, host, Attention::PowerOn)
+        || has(pendings, host, Attention::ReservationsPreempted)
+        || has(pendings, host, Attention::ReservationsReleased)
+        || has(pendings, host, Attention::RegistrationsPreempted)
 }
 
 /// Makes the attention pending for the host.

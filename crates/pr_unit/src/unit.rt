@@ -1,40 +1,44 @@
 //! The logical unit.
 
-ghost use Rattle.std.specs.Prelude.{◌≡◌, ◌<◌, ◌≤◌, None};
+ghost use Rattle.std.specs.Prelude.{◌≡◌, ◌<◌, ◌≤◌, ◌↔◌, IsTrue, IfSome, IsSome, length};
+ghost use Rattle.std.specs.FinSet as set;
 ghost use Rattle.pr_cdb.specs.Requests.{requested};
+ghost use Rattle.pr_unit.specs.Attentions.{table_pairs};
 
-use crate::reply;
-use arrayvec::ArrayVec;
-use pr_cdb::{Bad, Command, Reply, Request, Sense, Wire, decode, keys_data};
+use crate::answers::answer;
+use crate::decisions;
+use crate::line::{Line, deciding_line};
+use pr_attention::Pending;
+use pr_cdb::{Bad, Command, Reply, Request, Wire, decode};
 use pr_registry::Registry;
 use std::marker::Model;
 
 /// A logical unit: its registry, and the pending attentions of each host.
-///
-/// For now it serves the commands that tell nobody, so that nothing is ever pending.
 #[derive(Debug, Drop)]
 pub struct Unit {
     registry: Registry,
+    pending: [Pending; 8],
 }
 
 impl Model for Unit {
     ghost use Rattle.pr_registry.specs.contracts.registry.Registry as registry_code;
-    ghost use Rattle.pr_unit.specs.UnitStates.{UnitState, unit_code, quiet};
+    ghost use Rattle.pr_unit.specs.UnitStates.{UnitState, IsWellFormed, unit_code, unit_of};
 
     ghost Value = { UnitState };
 
     ghost coded = { unit_code registry_code.the_row.coded };
 
-    ghost view = { λ u. quiet u.registry };
+    ghost view = { λ u. unit_of u.registry u.pending };
+
+    ghost invariant = { λ u. IsWellFormed (unit_of u.registry u.pending) };
 }
 
 impl Unit {
     ghost use Rattle.pr_registry.specs.Registrations.{fresh};
-    ghost use Rattle.pr_registry.specs.Effects.{after_register};
-    ghost use Rattle.pr_cdb.specs.declared.wire.Request.TheVariants.{Plain, Faulty};
-    ghost use Rattle.pr_cdb.specs.declared.command.Command.TheVariants.{Register, RegisterIgnore, ReadKeys};
+    ghost use Rattle.pr_cdb.specs.declared.wire.Request.TheVariants.{Plain};
     ghost use Rattle.pr_unit.specs.UnitStates.{quiet};
-    ghost use Rattle.pr_unit.specs.Steps.{Executes, TakenStep, IsRegisteringOrReadingKeys};
+    ghost use Rattle.pr_unit.specs.Conflicts.{command_conflicts};
+    ghost use Rattle.pr_unit.specs.Steps.{Executes};
 
     /// A unit of so many hosts with nothing registered, reserved or pending, and generation 0.
     pub fn new(hosts: u8) -> Self
@@ -42,16 +46,19 @@ impl Unit {
         requires most { hosts ≤ 8 }
         ensures { result ≡ quiet (fresh hosts) }
     {
-        Unit {
-            registry: Registry::new(hosts),
-        }
+        Unit::of(Registry::new(hosts))
     }
 
     /// A unit with this registry and nothing pending.
     pub fn of(registry: Registry) -> Self
         ensures { result ≡ quiet registry }
     {
-        Unit { registry }
+        // A registry says with its size that it is well formed.
+        let _ = registry.hosts();
+        Unit {
+            registry,
+            pending: nothing_pending(),
+        }
     }
 
     /// The registry.
@@ -61,78 +68,37 @@ impl Unit {
         &self.registry
     }
 
+    /// Whether the command of the host would end in RESERVATION CONFLICT, were no power on to be
+    /// reported.
+    pub fn conflicts(&self, host: u8, command: &Command) -> bool
+        requires { host < self.now.registry.hosts }
+        ensures { result ≡ command_conflicts self.now.registry host command.now }
+    {
+        decisions::conflicts(&self.registry, host, *command)
+    }
+
     /// Executes a command of a host, and answers it. Where the bytes are no request, nothing changes.
-    ///
-    /// For now the command is REGISTER, REGISTER AND IGNORE EXISTING KEY or READ KEYS, or its bytes are
-    /// at fault, and nothing is reserved.
     pub fn execute(&mut self, host: u8, wire: &Wire) -> Result<Reply, Bad>
-        requires there { host < self.old.registry.hosts }
-        requires unreserved { self.old.registry.held ≡ None }
-        requires served { IsRegisteringOrReadingKeys (requested wire.now) }
+        requires { host < self.old.registry.hosts }
         ensures { Executes self.old host (requested wire.now) result self.new }
     {
-        match decode(&wire.cdb, &wire.params)? {
-            Request::Plain(Command::Register { rk, sark }) => Ok(self.register(host, rk, sark)),
-            Request::Plain(Command::RegisterIgnore { sark }) => {
-                Ok(self.register_ignore(host, sark))
-            }
-            Request::Plain(Command::ReadKeys { alloc }) => Ok(self.read_keys(host, alloc)),
-            Request::Faulty(sense) => Ok(self.at_fault(host, sense)),
-            _ => unreachable!(),
-        }
+        let request = decode(&wire.cdb, &wire.params)?;
+        Ok(answer(&mut self.registry, &mut self.pending, host, request))
     }
+}
 
-    // REGISTER: the reservation key has to be the sender's, or zero where it has none.
-    fn register(&mut self, host: u8, rk: u64, sark: u64) -> Reply
-        requires there { host < self.old.registry.hosts }
-        requires unreserved { self.old.registry.held ≡ None }
-        ensures { TakenStep self.old host (Plain (Register rk sark)) result self.new }
-    {
-        let key = self.registry.key(host).unwrap_or(0);
-        if key != rk {
-            return reply::conflict();
-        }
-        self.set_key(host, sark);
-        reply::good(ArrayVec::new())
-    }
-
-    // REGISTER AND IGNORE EXISTING KEY.
-    fn register_ignore(&mut self, host: u8, sark: u64) -> Reply
-        requires there { host < self.old.registry.hosts }
-        requires unreserved { self.old.registry.held ≡ None }
-        ensures { TakenStep self.old host (Plain (RegisterIgnore sark)) result self.new }
-    {
-        let _ = &self.registry;
-        self.set_key(host, sark);
-        reply::good(ArrayVec::new())
-    }
-
-    // The registration that both REGISTERs make: a key of zero ends one, where there is one.
-    fn set_key(&mut self, host: u8, key: u64)
-        requires there { host < self.old.registry.hosts }
-        ensures { self.new ≡ quiet (after_register self.old.registry host key) }
-    {
-        if key != 0 {
-            let _ = self.registry.register(host, key);
-        } else if self.registry.key(host).is_some() {
-            let _ = self.registry.unregister(host);
-        }
-    }
-
-    // READ KEYS, whose data is cut at the allocation length.
-    fn read_keys(&self, host: u8, alloc: u16) -> Reply
-        requires { self.now.registry.held ≡ None }
-        ensures { TakenStep self.now host (Plain (ReadKeys alloc)) result self.now }
-    {
-        let keys = self.registry.keys();
-        reply::good(reply::cut(keys_data(self.registry.generation(), &keys), alloc))
-    }
-
-    // Bytes at fault never conflict.
-    fn at_fault(&self, host: u8, sense: Sense) -> Reply
-        ensures { TakenStep self.now host (Faulty sense) result self.now }
-    {
-        let _ = &self.registry;
-        reply::check(sense)
-    }
+// Nothing is pending for any host.
+fn nothing_pending() -> [Pending; 8]
+    ensures { table_pairs result ≡ set.empty }
+{
+    [
+        Pending::new(),
+        Pending::new(),
+        Pending::new(),
+        Pending::new(),
+        Pending::new(),
+        Pending::new(),
+        Pending::new(),
+        Pending::new(),
+    ]
 }

@@ -1,0 +1,6 @@
+use Rattle.pr_unit.specs.Told.{TellsBelow}
+use Rattle.pr_unit.proofs.WellFormed.{tells_below}
+use Rattle.pr_unit.proofs.answers.perform.Goals as goal
+
+pub tell_change-requires : goal.tell_change-requires
+tell_change-requires c = rw c.serve-change.ensures.change (tells_below c.args.registry.now c.args.host c.args.command c.requires.well_formed)

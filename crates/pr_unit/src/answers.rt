@@ -1,0 +1,92 @@
+//! The answer to a request.
+
+ghost use Rattle.std.specs.Prelude.{◌≡◌, ◌<◌, false, None};
+ghost use Rattle.std.specs.FinSet as set;
+ghost use Rattle.pr_attention.specs.Attentions.{code_of};
+ghost use Rattle.pr_registry.specs.Registrations.{IsWellFormed};
+ghost use Rattle.pr_registry.specs.Effects.{after};
+ghost use Rattle.pr_unit.specs.Attentions.{table_pairs};
+ghost use Rattle.pr_unit.specs.UnitStates.{unit_of, effect};
+ghost use Rattle.pr_unit.specs.Conflicts.{command_conflicts};
+ghost use Rattle.pr_unit.specs.Faults.{command_fault};
+ghost use Rattle.pr_unit.specs.Replies.{good, report, data_of};
+ghost use Rattle.pr_unit.specs.Steps.{TakenStep};
+
+use crate::line::{Line, deciding_line};
+use crate::services::{buffer, data, serve};
+use crate::{pending_table, reply};
+use pr_attention::{Attention, Pending};
+use pr_cdb::{Command, Reply, Request, encode_sense};
+use pr_registry::Registry;
+
+/// Answers the request of the host, and makes the unit's parts what they are then.
+pub(crate) fn answer(
+    registry: &mut Registry,
+    pendings: &mut [Pending; 8],
+    host: u8,
+    request: Request,
+) -> Reply
+    requires there { host < registry.old.hosts }
+    requires well_formed { IsWellFormed registry.old }
+    ensures { TakenStep (unit_of registry.old pendings.old) host request result (unit_of registry.new pendings.new) }
+{
+    match deciding_line(registry, pendings, host, request) {
+        Line::PowerOn => report(pendings, host, request, Attention::PowerOn),
+        Line::Conflicting => reply::conflict(),
+        Line::Attention => match pending_table::lowest(pendings, host) {
+            Some(attention) => report(pendings, host, request, attention),
+            None => unreachable!(),
+        },
+        Line::AtFault(sense) => reply::check(sense),
+        Line::Done => match request {
+            Request::Plain(command) => perform(registry, pendings, host, command),
+            Request::Faulty(_) => unreachable!(),
+        },
+    }
+}
+
+/// Reports the attention, which alone is pending for the host no more.
+pub(crate) fn report(
+    pendings: &mut [Pending; 8],
+    host: u8,
+    request: Request,
+    attention: Attention,
+) -> Reply
+    requires { host < 8 }
+    ensures reply { result ≡ report request (code_of attention) }
+    ensures table { table_pairs pendings.new ≡ set.remove (table_pairs pendings.old) (host, code_of attention) }
+{
+    pending_table::remove(pendings, host, attention);
+    report_of(request, attention)
+}
+
+/// The reply that reports the attention: REQUEST SENSE reports it as data.
+pub(crate) fn report_of(request: Request, attention: Attention) -> Reply
+    ensures { result ≡ report request (code_of attention) }
+{
+    let sense = attention.sense();
+    match request {
+        Request::Plain(Command::RequestSense) => reply::good(buffer(&encode_sense(&sense))),
+        _ => reply::check(sense),
+    }
+}
+
+/// Ends a command GOOD: its data is of the registry before it.
+pub(crate) fn perform(
+    registry: &mut Registry,
+    pendings: &mut [Pending; 8],
+    host: u8,
+    command: Command,
+) -> Reply
+    requires there { host < registry.old.hosts }
+    requires well_formed { IsWellFormed registry.old }
+    requires free { command_conflicts registry.old host command ≡ false }
+    requires whole { command_fault registry.old host command ≡ None }
+    ensures reply { result ≡ good (data_of registry.old command) }
+    ensures state { unit_of registry.new pendings.new ≡ effect (unit_of registry.old pendings.old) host command }
+{
+    let bytes = data(registry, command);
+    let change = serve(registry, host, command);
+    pending_table::tell_change(pendings, &change);
+    reply::good(bytes)
+}

@@ -1,0 +1,74 @@
+//! What decides how a request ends.
+
+ghost use Rattle.std.specs.Prelude.{◌≡◌, ◌<◌};
+ghost use Rattle.pr_unit.specs.UnitStates.{unit_of};
+ghost use Rattle.pr_unit.specs.Steps.{line};
+ghost use Rattle.pr_unit.specs.Conflicts.{conflicts};
+ghost use Rattle.pr_unit.specs.Faults.{fault};
+
+use crate::{decisions, pending_table};
+use pr_attention::{Attention, Pending};
+use pr_cdb::{Request, Sense};
+use pr_registry::Registry;
+
+/// What decides how a request ends.
+#[derive(Clone, Copy, Debug, PartialEq, Eq)]
+pub(crate) enum Line {
+    /// A power on or reset that is still to be reported.
+    PowerOn,
+    /// A reservation conflict.
+    Conflicting,
+    /// Another attention that is still to be reported.
+    Attention,
+    /// A fault of the request.
+    AtFault(Sense),
+    /// Nothing: it ends GOOD.
+    Done,
+}
+
+/// What decides how the request of the host ends.
+pub(crate) fn deciding_line(
+    registry: &Registry,
+    pendings: &[Pending; 8],
+    host: u8,
+    request: Request,
+) -> Line
+    requires there { host < registry.now.hosts }
+    requires place { host < 8 }
+    ensures { result ≡ line (unit_of registry.now pendings.now) host request }
+{
+    if pending_table::has(pendings, host, Attention::PowerOn) {
+        return Line::PowerOn;
+    }
+    if conflicts(registry, host, request) {
+        return Line::Conflicting;
+    }
+    if pending_table::has_any(pendings, host) {
+        return Line::Attention;
+    }
+    match fault(registry, host, request) {
+        None => Line::Done,
+        Some(sense) => Line::AtFault(sense),
+    }
+}
+
+// Bytes at fault never conflict.
+fn conflicts(registry: &Registry, host: u8, request: Request) -> bool
+    requires { host < registry.now.hosts }
+    ensures { result ≡ conflicts registry.now host request }
+{
+    match request {
+        Request::Plain(command) => decisions::conflicts(registry, host, command),
+        Request::Faulty(_) => false,
+    }
+}
+
+fn fault(registry: &Registry, host: u8, request: Request) -> Option<Sense>
+    requires { host < registry.now.hosts }
+    ensures { result ≡ fault registry.now host request }
+{
+    match request {
+        Request::Plain(command) => decisions::fault(registry, host, command),
+        Request::Faulty(sense) => Some(sense),
+    }
+}
