@@ -41,7 +41,8 @@ const INVALID_FIELD_IN_PARAMETER_LIST: u8 = 0x26;
 /// Bytes past a command's length, and parameters past the 24th byte, are ignored.
 #[tactic(auto, unfolding(crate::specs::Requests::request_of, crate::specs::Requests::named, crate::specs::Requests::length_of))]
 pub fn decode(cdb: &[u8], params: &[u8]) -> Result<Request, Bad>
-    ensures { result ≡ request_of cdb.now params.now }
+    ensures value { result ≡ request_of cdb.now params.now }
+    ensures in_range { FitsWhereRead result }
 {
     if cdb.is_empty() {
         return Err(Bad::Short);

@@ -3,3 +3,4 @@ pub mod WellFormed
 pub mod GoodFixed
 pub mod Quiet
 pub mod Rows
+mod Steps

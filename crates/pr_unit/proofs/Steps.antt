@@ -1,0 +1,56 @@
+-- A step leaves a well formed state well formed.
+use Rattle.std.proofs.Common.{◌≡◌, ℕ, ◌<◌, Bool, true, false, ◌==◌, ◌&&◌, not, if◌then◌else◌, Option, Some, None, refl, sym, ◌∙◌, subst}
+use Rattle.std.specs.Prelude.{Ok}
+use Rattle.std.specs.FinSet as set
+use Rattle.std.proofs.lemmas.Bool.{false≢true}
+use Rattle.pr_cdb.specs.declared.reply.Sense.{Sense}
+use Rattle.pr_cdb.specs.declared.reply.Reply.{Reply}
+use Rattle.pr_cdb.specs.declared.wire.Request.{Request}
+use Rattle.pr_cdb.specs.declared.wire.Request.TheVariants.{Plain, Faulty}
+use Rattle.pr_cdb.specs.Requests.{FitsWhereRead}
+use Rattle.pr_unit.specs.declared.line.Line.{Line}
+use Rattle.pr_unit.specs.declared.line.Line.TheVariants.{PowerOn, Conflicting, Attention, AtFault, Done}
+use Rattle.pr_unit.specs.Attentions.{power_on}
+use Rattle.pr_unit.specs.UnitStates.{UnitState, IsWellFormed, is_pending, is_any_pending, reported}
+use Rattle.pr_unit.specs.Conflicts.{conflicts}
+use Rattle.pr_unit.specs.Faults.{fault}
+use Rattle.pr_unit.specs.Steps.{last_line, line, StepBy, Step}
+use Rattle.pr_unit.proofs.Pairs.{contains-remove-pair}
+use Rattle.pr_unit.proofs.WellFormed.{effects_are_well_formed}
+
+-- where nothing else decides, there is neither conflict nor fault
+done_parts : (a b c : Bool) (f : Option Sense) → (if a then PowerOn else (if b then Conflicting else (if c then Attention else last_line f))) ≡ Done → (b ≡ false) × (f ≡ None)
+done_parts true b c f is = let bad : PowerOn ≡ Done = is in cc
+done_parts false true c f is = let bad : Conflicting ≡ Done = is in cc
+done_parts false false true f is = let bad : Attention ≡ Done = is in cc
+done_parts false false false None is = (refl, refl)
+done_parts false false false (Some sense) is = let bad : AtFault sense ≡ Done = is in cc
+
+pub done_is_free : (u : UnitState) (h : ℕ) (q : Request) → line u h q ≡ Done → (conflicts u.registry h q ≡ false) × (fault u.registry h q ≡ None)
+done_is_free u h q is = done_parts (is_pending u h power_on) (conflicts u.registry h q) (is_any_pending u h) (fault u.registry h q) is
+
+second : (a b : Bool) → (a && b) ≡ true → b ≡ true
+second true b is = is
+second false b is = absurd (false≢true is)
+
+well_formed-reported : (u : UnitState) (h code : ℕ) → IsWellFormed u → IsWellFormed (reported u h code)
+well_formed-reported u h code w = record {
+  registry = w.registry;
+  pending = λ q x is. w.pending q x (second (not (q == h && x == code)) (set.contains u.pending (q, x)) (sym (contains-remove-pair u.pending (h, code) (q, x)) ∙ is));
+}
+
+pub well_formed-step : (u : UnitState) (h : ℕ) (q : Request) (r : Reply) (v : UnitState) → IsWellFormed u → h < u.registry.hosts → FitsWhereRead (Ok q) → Step u h q r v → IsWellFormed v
+well_formed-step u h q r v w there fits step = by_line (line u h q) refl step
+  where
+    by_request : (q : Request) → FitsWhereRead (Ok q) → line u h q ≡ Done → StepBy Done u h q r v → IsWellFormed v
+    by_request (Plain c) fits is step =
+        let parts = done_is_free u h (Plain c) is in
+        subst IsWellFormed (sym step.1) (effects_are_well_formed u h c w there fits parts.0 parts.1)
+    by_request (Faulty sense) fits is step = absurd step
+
+    by_line : (l : Line) → line u h q ≡ l → StepBy l u h q r v → IsWellFormed v
+    by_line PowerOn is step = subst IsWellFormed (sym step.1) (well_formed-reported u h power_on w)
+    by_line Conflicting is step = subst IsWellFormed (sym step.1) w
+    by_line Attention is step = subst IsWellFormed (sym step.after) (well_formed-reported u h step.code w)
+    by_line (AtFault sense) is step = subst IsWellFormed (sym step.1) w
+    by_line Done is step = by_request q fits is step

@@ -1,0 +1,16 @@
+use Rattle.std.proofs.Common.{◌≡◌, ◌<◌, arith, sym, ap, ◌∙◌, subst}
+use Rattle.std.specs.Prelude.{Ok}
+use Rattle.std.proofs.lemmas.Bool.Decides.{nat_tests}
+use Rattle.pr_cdb.specs.Requests.{FitsWhereRead, request_of, AreBytes}
+use Rattle.pr_cdb.proofs.ReadsInRange.{reads_fit}
+use Rattle.pr_unit.specs.UnitStates.{UnitState, unit_of}
+use Rattle.pr_unit.proofs.Steps.{well_formed-step}
+use Rattle.pr_unit.proofs.unit.Unit.execute.Goals as goal
+
+pub invariant_of-self : goal.invariant_of-self
+invariant_of-self c =
+    let u = unit_of c.self.inside.registry c.self.inside.pending in
+    let v = unit_of c.answer.new.registry c.answer.new.pendings in
+    let there : c.args.host < u.registry.hosts = subst (λ (s : UnitState). c.args.host < s.registry.hosts) (sym c.self.view_is) c.requires in
+    let fits : FitsWhereRead (Ok c.in_ok-request.request) = c.in_ok-request.ensures.in_range in
+    well_formed-step u c.args.host c.in_ok-request.request c.answer.result v c.self.invariant there fits c.answer.ensures.step
