@@ -51,9 +51,7 @@ pub fn replay_turns(alloc: Global, thin: &Thin, turns: usize) -> Result<Replayed
 
 // The command of host 0 goes to the unit, and comes back with its reply.
 fn sent(unit: &mut Unit, command: Command) -> Entry
-    requires served { IsTrue (is_thin command) }
-    requires there { 0 < unit.old.registry.hosts }
-    requires unreserved { unit.old.registry.held ≡ None }
+    requires { 0 < unit.old.registry.hosts }
     ensures { IsSent unit.old command result unit.new }
 {
     let wire = encode(&command);

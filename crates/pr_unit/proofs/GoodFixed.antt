@@ -4,12 +4,12 @@ use Rattle.pr_cdb.specs.declared.reply.Reply.{Reply}
 use Rattle.pr_cdb.specs.declared.wire.Request.{Request}
 use Rattle.pr_cdb.specs.declared.wire.Request.TheVariants.{Plain, Faulty}
 use Rattle.pr_cdb.specs.ReplyData.{sense_bytes}
-use Rattle.pr_unit.specs.Attentions.{attention_sense}
+use Rattle.pr_unit.specs.Attentions.{power_on, attention_sense}
 use Rattle.pr_unit.specs.UnitStates.{UnitState}
 use Rattle.pr_unit.specs.Replies.{is_good, good, check, report, is_request_sense}
 use Rattle.pr_unit.specs.declared.line.Line.{Line}
 use Rattle.pr_unit.specs.declared.line.Line.TheVariants.{PowerOn, Conflicting, Attention, AtFault, Done}
-use Rattle.pr_unit.specs.Steps.{StepBy, IsDone, line}
+use Rattle.pr_unit.specs.Steps.{StepBy, IsDone, Step, line, ends_good}
 use Rattle.pr_unit.specs.Laws.{GoodIsFixed}
 
 -- every report of an attention ends alike
@@ -20,20 +20,19 @@ good-report q code = at (is_request_sense q)
     at true = refl
     at false = refl
 
-both : (r s t : Reply) → r ≡ t → s ≡ t → is_good r ≡ is_good s
-both r s t is also = ap is_good is ∙ sym (ap is_good also)
+done : (u : UnitState) (h : ℕ) (q : Request) (r : Reply) (v : UnitState) → IsDone u h q r v → is_good r ≡ true
+done u h (Plain c) r v step = ap is_good step.0
+done u h (Faulty sense) r v step = absurd step
 
-done : (u : UnitState) (h : ℕ) (q : Request) (r s : Reply) (v w : UnitState) → IsDone u h q r v → IsDone u h q s w → is_good r ≡ is_good s
-done u h (Plain c) r s v w one other = both r s _ one.0 other.0
-done u h (Faulty sense) r s v w one other = absurd one
+by_line : (l : Line) (u : UnitState) (h : ℕ) (q : Request) (r : Reply) (v : UnitState) → StepBy l u h q r v → is_good r ≡ ends_good l q
+by_line PowerOn u h q r v step = ap is_good step.0 ∙ good-report q power_on
+by_line Conflicting u h q r v step = ap is_good step.0
+by_line Attention u h q r v step = ap is_good step.reply ∙ good-report q step.code
+by_line (AtFault sense) u h q r v step = ap is_good step.0
+by_line Done u h q r v step = done u h q r v step
 
-by_line : (l : Line) (u : UnitState) (h : ℕ) (q : Request) (r s : Reply) (v w : UnitState) → StepBy l u h q r v → StepBy l u h q s w → is_good r ≡ is_good s
-by_line PowerOn u h q r s v w one other = both r s _ one.0 other.0
-by_line Conflicting u h q r s v w one other = both r s _ one.0 other.0
-by_line Attention u h q r s v w one other =
-    ap is_good one.reply ∙ good-report q one.code ∙ sym (ap is_good other.reply ∙ good-report q other.code)
-by_line (AtFault sense) u h q r s v w one other = both r s _ one.0 other.0
-by_line Done u h q r s v w one other = done u h q r s v w one other
+pub good_by_line : (u : UnitState) (h : ℕ) (q : Request) (r : Reply) (v : UnitState) → Step u h q r v → is_good r ≡ ends_good (line u h q) q
+good_by_line u h q r v step = by_line (line u h q) u h q r v step
 
 pub good_is_fixed : GoodIsFixed
-good_is_fixed u h q r s v w one other = by_line (line u h q) u h q r s v w one other
+good_is_fixed u h q r s v w one other = good_by_line u h q r v one ∙ sym (good_by_line u h q s w other)

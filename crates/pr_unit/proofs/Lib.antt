@@ -1,6 +1,5 @@
 pub mod Pairs
 pub mod WellFormed
 pub mod GoodFixed
-pub mod Quiet
 pub mod Rows
-mod Steps
+pub mod Steps

@@ -1,6 +1,5 @@
 -- What the logical unit may answer to a request, and the state that it is in then.
-use Rattle.std.specs.Prelude.{◌≡◌, ℕ, ◌≤◌, true, IsTrue, if◌then◌else◌, Option, Some, None, Result, Ok, Err}
-use Rattle.pr_cdb.specs.declared.command.Command.TheVariants.{Register, RegisterIgnore, ReadKeys}
+use Rattle.std.specs.Prelude.{◌≡◌, ℕ, ◌≤◌, Bool, true, false, IsTrue, if◌then◌else◌, Option, Some, None, Result, Ok, Err}
 use Rattle.pr_cdb.specs.declared.reply.Sense.{Sense}
 use Rattle.pr_cdb.specs.declared.reply.Reply.{Reply}
 use Rattle.pr_cdb.specs.declared.wire.Request.{Request}
@@ -12,7 +11,7 @@ use Rattle.pr_unit.specs.Attentions.{power_on}
 use Rattle.pr_unit.specs.UnitStates.{UnitState, is_pending, is_any_pending, effect, reported}
 use Rattle.pr_unit.specs.Conflicts.{conflicts}
 use Rattle.pr_unit.specs.Faults.{fault}
-use Rattle.pr_unit.specs.Replies.{good, check, conflict, report, data_of}
+use Rattle.pr_unit.specs.Replies.{good, check, conflict, report, is_request_sense, data_of}
 
 -- what decides how a request ends: a fault of its own, or nothing
 abbrev pub last_line : Option Sense → Line
@@ -50,6 +49,14 @@ StepBy Done u h q r u' = IsDone u h q r u'
 abbrev pub Step : UnitState → ℕ → Request → Reply → UnitState → Type 0
 Step u h q r u' = StepBy (line u h q) u h q r u'
 
+-- whether a request that is decided so ends GOOD
+abbrev pub ends_good : Line → Request → Bool
+ends_good PowerOn q = is_request_sense q
+ends_good Conflicting q = false
+ends_good Attention q = is_request_sense q
+ends_good (AtFault sense) q = false
+ends_good Done q = true
+
 -- of the attentions that are pending, the reply reports the lowest
 pub record ReportsLowest (u : UnitState) (h : ℕ) (q : Request) (r : Reply) : Type 0 where
   pub code : ℕ
@@ -71,12 +78,3 @@ abbrev pub Executes : UnitState → ℕ → Result Request Bad → Result Reply 
 Executes u h (Ok q) (Ok r) u' = TakenStep u h q r u'
 Executes u h (Err bad) (Err b) u' = (b ≡ bad) × (u' ≡ u)
 Executes u h _ _ u' = ⊥
-
--- REGISTER, REGISTER AND IGNORE EXISTING KEY and READ KEYS, and bytes that are at fault or no request
-abbrev pub IsRegisteringOrReadingKeys : Result Request Bad → Type 0
-IsRegisteringOrReadingKeys (Ok (Plain (Register rk sark))) = Unit {0}
-IsRegisteringOrReadingKeys (Ok (Plain (RegisterIgnore sark))) = Unit {0}
-IsRegisteringOrReadingKeys (Ok (Plain (ReadKeys alloc))) = Unit {0}
-IsRegisteringOrReadingKeys (Ok (Plain c)) = ⊥
-IsRegisteringOrReadingKeys (Ok (Faulty sense)) = Unit {0}
-IsRegisteringOrReadingKeys (Err bad) = Unit {0}

@@ -2,13 +2,13 @@
 
 ghost use Rattle.std.specs.Prelude.{◌≡◌, ◌<◌};
 ghost use Rattle.pr_unit.specs.UnitStates.{unit_of};
-ghost use Rattle.pr_unit.specs.Steps.{line};
+ghost use Rattle.pr_unit.specs.Steps.{line, ends_good};
 ghost use Rattle.pr_unit.specs.Conflicts.{conflicts};
 ghost use Rattle.pr_unit.specs.Faults.{fault};
 
 use crate::{decisions, pending_table};
 use pr_attention::{Attention, Pending};
-use pr_cdb::{Request, Sense};
+use pr_cdb::{Command, Request, Sense};
 use pr_registry::Registry;
 
 /// What decides how a request ends.
@@ -70,5 +70,18 @@ fn fault(registry: &Registry, host: u8, request: Request) -> Option<Sense>
     match request {
         Request::Plain(command) => decisions::fault(registry, host, command),
         Request::Faulty(sense) => Some(sense),
+    }
+}
+
+/// Whether a request that is decided so ends GOOD.
+pub(crate) fn ends_good(line: Line, request: Request) -> bool
+    ensures { result ≡ ends_good line request }
+{
+    match line {
+        Line::PowerOn | Line::Attention => {
+            matches!(request, Request::Plain(Command::RequestSense))
+        }
+        Line::Conflicting | Line::AtFault(_) => false,
+        Line::Done => true,
     }
 }

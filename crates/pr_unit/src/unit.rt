@@ -1,13 +1,13 @@
 //! The logical unit.
 
-ghost use Rattle.std.specs.Prelude.{◌≡◌, ◌<◌, ◌≤◌, ◌↔◌, IsTrue, IfSome, IsSome, length};
+ghost use Rattle.std.specs.Prelude.{◌≡◌, ◌<◌, ◌≤◌};
 ghost use Rattle.std.specs.FinSet as set;
 ghost use Rattle.pr_cdb.specs.Requests.{requested};
 ghost use Rattle.pr_unit.specs.Attentions.{table_pairs};
 
 use crate::answers::answer;
 use crate::decisions;
-use crate::line::{Line, deciding_line};
+use crate::line::{deciding_line, ends_good};
 use pr_attention::Pending;
 use pr_cdb::{Bad, Command, Reply, Request, Wire, decode};
 use pr_registry::Registry;
@@ -36,9 +36,11 @@ impl Model for Unit {
 impl Unit {
     ghost use Rattle.pr_registry.specs.Registrations.{fresh};
     ghost use Rattle.pr_cdb.specs.declared.wire.Request.TheVariants.{Plain};
-    ghost use Rattle.pr_unit.specs.UnitStates.{quiet};
+    ghost use Rattle.pr_cdb.specs.declared.reply.Reply.{Reply};
+    ghost use Rattle.pr_unit.specs.UnitStates.{UnitState, quiet};
+    ghost use Rattle.pr_unit.specs.Replies.{is_good};
     ghost use Rattle.pr_unit.specs.Conflicts.{command_conflicts};
-    ghost use Rattle.pr_unit.specs.Steps.{Executes};
+    ghost use Rattle.pr_unit.specs.Steps.{Step, Executes};
 
     /// A unit of so many hosts with nothing registered, reserved or pending, and generation 0.
     pub fn new(hosts: u8) -> Self
@@ -75,6 +77,16 @@ impl Unit {
         ensures { result ≡ command_conflicts self.now.registry host command.now }
     {
         decisions::conflicts(&self.registry, host, *command)
+    }
+
+    /// Whether the command of the host would end GOOD now.
+    pub fn would_end_good(&self, host: u8, command: &Command) -> bool
+        requires { host < self.now.registry.hosts }
+        ensures { (reply : Reply) (after : UnitState) → Step self.now host (Plain command.now) reply after → is_good reply ≡ result }
+    {
+        let request = Request::Plain(*command);
+        let line = deciding_line(&self.registry, &self.pending, host, request);
+        ends_good(line, request)
     }
 
     /// Executes a command of a host, and answers it. Where the bytes are no request, nothing changes.
