@@ -164,7 +164,7 @@ place-set table h codes q small = at (eqb_tells q h)
     at (inr other) = rw other.0 (get_or-set_other table h q codes no_code other.1)
 
 contains-table_pairs-set : (table : List Codes) (h : ℕ) (codes : Codes) (q x : ℕ) → length table ≡ 8 → h < 8
-  → set.contains (table_pairs (slice_set table h codes)) (q, x) ≡ (if q == h then set.contains codes x else set.contains (table_pairs table) (q, x))
+    → set.contains (table_pairs (slice_set table h codes)) (q, x) ≡ (if q == h then set.contains codes x else set.contains (table_pairs table) (q, x))
 contains-table_pairs-set table h codes q x whole small =
     contains-table_pairs (slice_set table h codes) q x
     ∙ ap (λ (s : Codes). nat_lt q 8 && set.contains s x) (place-set table h codes q (omega arith))
@@ -177,7 +177,7 @@ contains-table_pairs-set table h codes q x whole small =
     swapped false l h = refl
 
 pub table_pairs-insert : (table : List Codes) (h : ℕ) (codes : Codes) (code : ℕ) → length table ≡ 8 → h < 8 → codes ≡ set.insert (place table h) code
-  → table_pairs (slice_set table h codes) ≡ set.insert (table_pairs table) (h, code)
+    → table_pairs (slice_set table h codes) ≡ set.insert (table_pairs table) (h, code)
 table_pairs-insert table h codes code whole small is =
     same_pairs _ _ (λ p. contains-table_pairs-set table h codes p.0 p.1 whole small
     ∙ ap (λ s. if p.0 == h then set.contains s p.1 else set.contains (table_pairs table) p) is
@@ -192,7 +192,7 @@ table_pairs-insert table h codes code whole small is =
     at p false e = refl
 
 pub table_pairs-remove : (table : List Codes) (h : ℕ) (codes : Codes) (code : ℕ) → length table ≡ 8 → h < 8 → codes ≡ set.remove (place table h) code
-  → table_pairs (slice_set table h codes) ≡ set.remove (table_pairs table) (h, code)
+    → table_pairs (slice_set table h codes) ≡ set.remove (table_pairs table) (h, code)
 table_pairs-remove table h codes code whole small is =
     same_pairs _ _ (λ p. contains-table_pairs-set table h codes p.0 p.1 whole small
     ∙ ap (λ s. if p.0 == h then set.contains s p.1 else set.contains (table_pairs table) p) is
@@ -219,7 +219,7 @@ told_none old hosts code q x =
 
 -- one host more
 pub told_more : (old new : Pairs) (hosts : Hosts) (code i : ℕ) → set.contains hosts i ≡ true → IsToldBelow old new hosts code i
-  → IsToldBelow old (set.insert new (i, code)) hosts code (i + 1)
+    → IsToldBelow old (set.insert new (i, code)) hosts code (i + 1)
 told_more old new hosts code i member told q x =
     contains-insert-pair new (i, code) (q, x) ∙ ap (λ b. (q == i && x == code) || b) (told q x)
     ∙ at (q == i) (nat_lt q i) (set.contains hosts q) (x == code) (set.contains old (q, x)) (λ e. ap (set.contains hosts) (same_number q i e) ∙ member)

@@ -1,3 +1,5 @@
+mod rows;
+
 use crate::{Unit, effects_are_well_formed, good_is_fixed};
 use pr_cdb::{Bad, Command, Reply, Status, encode};
 use pr_registry::Registry;

@@ -12,7 +12,7 @@ use Rattle.pr_unit.proofs.pending_table.lowest.Goals as goal
 
 -- what the host has at its place is what is pending for it
 at_place : (c : goal.After-lowest) (code : ℕ)
-  → set.contains (table_pairs c.args.pendings.now) (c.args.host, code) ≡ set.contains (get_or c.args.pendings.now c.from.result c.index-pendings-from.result) code
+    → set.contains (table_pairs c.args.pendings.now) (c.args.host, code) ≡ set.contains (get_or c.args.pendings.now c.from.result c.index-pendings-from.result) code
 at_place c code =
     let table = c.args.pendings.now in
     let whole = c.type_inv.pendings in

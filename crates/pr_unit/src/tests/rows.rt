@@ -1,0 +1,305 @@
+//! Whole exchanges, each taken from the worked examples that the unit is specified by.
+
+use crate::Unit;
+use arrayvec::ArrayVec;
+use pr_cdb::{Command, Kind, Sense, Status, Wire, encode};
+use pr_registry::{Held, Registry};
+use std::test::Fail;
+
+/// How a command ended.
+#[derive(Clone, Copy, Debug, PartialEq, Eq)]
+enum End {
+    Good,
+    Conflict,
+    Check(Sense),
+    NoReply,
+}
+
+const TEST_UNIT_READY: Command = Command::TestUnitReady;
+
+const WRITE: Command = Command::Write { lba: 0, blocks: 1 };
+
+const REMOVED: End = End::Check(Sense {
+    key: 6,
+    asc: 0x2a,
+    ascq: 5,
+});
+
+fn attention(ascq: u8) -> End {
+    End::Check(Sense {
+        key: 6,
+        asc: 0x2a,
+        ascq,
+    })
+}
+
+fn illegal(asc: u8, ascq: u8) -> End {
+    End::Check(Sense { key: 5, asc, ascq })
+}
+
+fn register(rk: u64, sark: u64) -> Command {
+    Command::Register { rk, sark }
+}
+
+fn preempt(rk: u64, sark: u64, kind: Option<Kind>) -> Command {
+    Command::Preempt { rk, sark, kind }
+}
+
+fn sent(unit: &mut Unit, host: u8, wire: &Wire) -> End {
+    if host >= unit.registry().hosts() {
+        return End::NoReply;
+    }
+    match unit.execute(host, wire) {
+        Err(_) => End::NoReply,
+        Ok(reply) => match reply.sense {
+            Some(sense) => End::Check(sense),
+            None if reply.status == Status::Good => End::Good,
+            None => End::Conflict,
+        },
+    }
+}
+
+fn end_of(unit: &mut Unit, host: u8, command: Command) -> End {
+    sent(unit, host, &encode(&command))
+}
+
+fn data_of(unit: &mut Unit, host: u8, command: Command) -> ArrayVec<u8, 72> {
+    if host >= unit.registry().hosts() {
+        return ArrayVec::new();
+    }
+    match unit.execute(host, &encode(&command)) {
+        Err(_) => ArrayVec::new(),
+        Ok(reply) => reply.bytes,
+    }
+}
+
+fn unit(keys: &[Option<u64>], held: Option<Held>, generation: u32) -> Result<Unit, Fail> {
+    let registry = Registry::from_parts(keys, held, generation).ok_or("well formed")?;
+    Ok(Unit::of(registry))
+}
+
+const ABC: [Option<u64>; 3] = [Some(0xa1), Some(0xb2), Some(0xc3)];
+
+const TYPE_5: Kind = Kind::WriteExclusiveRegistrantsOnly;
+
+const TYPE_6: Kind = Kind::ExclusiveAccessRegistrantsOnly;
+
+const TYPE_7: Kind = Kind::WriteExclusiveAllRegistrants;
+
+#[test]
+fn a_preempted_holder_is_shut_out_and_told(rt: HostRuntime) {
+    let mut unit = Unit::new(2);
+    assert_eq!(rt; end_of(&mut unit, 0, register(0, 0xa1)), End::Good);
+    let reserve = Command::Reserve {
+        rk: 0xa1,
+        kind: TYPE_5,
+    };
+    assert_eq!(rt; end_of(&mut unit, 0, reserve), End::Good);
+    assert_eq!(rt; end_of(&mut unit, 1, register(0, 0xb2)), End::Good);
+    assert_eq!(rt;
+        end_of(&mut unit, 1, preempt(0xb2, 0xa1, Some(TYPE_5))),
+        End::Good
+    );
+    assert_eq!(rt; end_of(&mut unit, 0, WRITE), End::Conflict);
+    assert_eq!(rt; end_of(&mut unit, 0, TEST_UNIT_READY), REMOVED);
+    assert_eq!(rt; end_of(&mut unit, 0, TEST_UNIT_READY), End::Good);
+    assert_eq!(rt; unit.registry().generation(), 3);
+}
+
+#[test]
+fn a_registrant_is_told_of_a_new_type(rt: HostRuntime) -> Result<(), Fail> {
+    let held = Some(Held::One(TYPE_5, 0));
+    let mut other = unit(&ABC, held, 3)?;
+    assert_eq!(rt;
+        end_of(&mut other, 1, preempt(0xb2, 0xa1, Some(TYPE_6))),
+        End::Good
+    );
+    assert_eq!(rt; end_of(&mut other, 2, TEST_UNIT_READY), attention(4));
+    let mut same = unit(&ABC, held, 3)?;
+    assert_eq!(rt;
+        end_of(&mut same, 1, preempt(0xb2, 0xa1, Some(TYPE_5))),
+        End::Good
+    );
+    assert_eq!(rt; end_of(&mut same, 2, TEST_UNIT_READY), End::Good);
+    Ok(())
+}
+
+#[test]
+fn a_preempt_of_the_own_key_removes_the_sender(rt: HostRuntime) -> Result<(), Fail> {
+    let mut unit = unit(&[Some(0xa1), Some(0xa1)], None, 2)?;
+    assert_eq!(rt;
+        end_of(&mut unit, 0, preempt(0xa1, 0xa1, Some(TYPE_5))),
+        End::Good
+    );
+    assert!(rt; unit.registry().keys().is_empty());
+    assert_eq!(rt; end_of(&mut unit, 1, TEST_UNIT_READY), REMOVED);
+    assert_eq!(rt; end_of(&mut unit, 0, TEST_UNIT_READY), End::Good);
+    let reserve = Command::Reserve {
+        rk: 0xa1,
+        kind: TYPE_5,
+    };
+    assert_eq!(rt; end_of(&mut unit, 0, reserve), End::Conflict);
+    Ok(())
+}
+
+#[test]
+fn a_release_names_the_type_that_stands(rt: HostRuntime) -> Result<(), Fail> {
+    let held = Some(Held::One(TYPE_5, 0));
+    let mut unit = unit(&ABC, held, 3)?;
+    let wrong = Command::Release {
+        rk: 0xa1,
+        kind: TYPE_6,
+    };
+    assert!(rt; !unit.would_end_good(0, &wrong));
+    assert_eq!(rt; end_of(&mut unit, 0, wrong), illegal(0x26, 0x04));
+    assert_eq!(rt; unit.registry().held(), held);
+    Ok(())
+}
+
+#[test]
+fn all_registrants_hold_until_the_last_leaves(rt: HostRuntime) -> Result<(), Fail> {
+    let keys = [Some(0xa1), Some(0xb2)];
+    let held = Some(Held::All(TYPE_7));
+    let mut left = unit(&keys, held, 2)?;
+    assert_eq!(rt; end_of(&mut left, 1, register(0xb2, 0)), End::Good);
+    assert_eq!(rt; left.registry().held(), held);
+    assert_eq!(rt; end_of(&mut left, 0, TEST_UNIT_READY), End::Good);
+    assert_eq!(rt; end_of(&mut left, 0, register(0xa1, 0)), End::Good);
+    assert_eq!(rt; left.registry().held(), None);
+    let mut taken = unit(&keys, held, 2)?;
+    assert_eq!(rt;
+        end_of(&mut taken, 1, preempt(0xb2, 0, Some(TYPE_5))),
+        End::Good
+    );
+    assert_eq!(rt; end_of(&mut taken, 0, TEST_UNIT_READY), REMOVED);
+    assert_eq!(rt; taken.registry().held(), Some(Held::One(TYPE_5, 1)));
+    Ok(())
+}
+
+#[test]
+fn a_generation_wraps_and_a_reserve_leaves_it(rt: HostRuntime) -> Result<(), Fail> {
+    let mut unit = unit(&[None], None, 0xffff_ffff)?;
+    assert_eq!(rt; end_of(&mut unit, 0, register(0, 0xa1)), End::Good);
+    assert_eq!(rt; unit.registry().generation(), 0);
+    let reserve = Command::Reserve {
+        rk: 0xa1,
+        kind: TYPE_5,
+    };
+    assert_eq!(rt; end_of(&mut unit, 0, reserve), End::Good);
+    assert_eq!(rt; unit.registry().generation(), 0);
+    Ok(())
+}
+
+#[test]
+fn a_reservation_is_read(rt: HostRuntime) -> Result<(), Fail> {
+    let read = Command::ReadReservation { alloc: 8192 };
+    let mut one = unit(&[Some(0xa1)], Some(Held::One(TYPE_5, 0)), 1)?;
+    let whole = [
+        0, 0, 0, 1, 0, 0, 0, 0x10, 0, 0, 0, 0, 0, 0, 0, 0xa1, 0, 0, 0, 0, 0, 5, 0, 0,
+    ];
+    assert_eq!(rt; data_of(&mut one, 0, read).as_slice(), whole.as_slice());
+    let mut all = unit(&[Some(0xa1)], Some(Held::All(TYPE_7)), 1)?;
+    let shared = [
+        0, 0, 0, 1, 0, 0, 0, 0x10, 0, 0, 0, 0, 0, 0, 0, 0, 0, 0, 0, 0, 0, 7, 0, 0,
+    ];
+    assert_eq!(rt; data_of(&mut all, 0, read).as_slice(), shared.as_slice());
+    Ok(())
+}
+
+#[test]
+fn request_sense_reports_what_is_pending(rt: HostRuntime) -> Result<(), Fail> {
+    let mut unit = unit(&ABC, Some(Held::One(TYPE_5, 0)), 3)?;
+    assert_eq!(rt;
+        end_of(&mut unit, 1, preempt(0xb2, 0xa1, Some(TYPE_5))),
+        End::Good
+    );
+    let told = [
+        0x70, 0, 6, 0, 0, 0, 0, 0x0a, 0, 0, 0, 0, 0x2a, 5, 0, 0, 0, 0,
+    ];
+    assert_eq!(rt;
+        data_of(&mut unit, 0, Command::RequestSense).as_slice(),
+        told.as_slice()
+    );
+    let nothing = [0x70, 0, 0, 0, 0, 0, 0, 0x0a, 0, 0, 0, 0, 0, 0, 0, 0, 0, 0];
+    assert_eq!(rt;
+        data_of(&mut unit, 0, Command::RequestSense).as_slice(),
+        nothing.as_slice()
+    );
+    Ok(())
+}
+
+#[test]
+fn blocks_past_the_end_are_out_of_range(rt: HostRuntime) {
+    let mut unit = Unit::new(1);
+    let last = Command::Read {
+        lba: 0x000f_ffff,
+        blocks: 1,
+    };
+    assert_eq!(rt; end_of(&mut unit, 0, last), End::Good);
+    let past = Command::Read {
+        lba: 0x000f_ffff,
+        blocks: 2,
+    };
+    assert_eq!(rt; end_of(&mut unit, 0, past), illegal(0x21, 0x00));
+}
+
+#[test]
+fn a_clear_tells_the_others(rt: HostRuntime) -> Result<(), Fail> {
+    let mut unit = unit(&ABC, Some(Held::One(TYPE_5, 0)), 3)?;
+    assert_eq!(rt;
+        end_of(&mut unit, 1, Command::Clear { rk: 0xb2 }),
+        End::Good
+    );
+    assert!(rt; unit.registry().keys().is_empty());
+    assert_eq!(rt; unit.registry().generation(), 4);
+    assert_eq!(rt; end_of(&mut unit, 0, TEST_UNIT_READY), attention(3));
+    assert_eq!(rt; end_of(&mut unit, 1, TEST_UNIT_READY), End::Good);
+    assert_eq!(rt; end_of(&mut unit, 2, TEST_UNIT_READY), attention(3));
+    Ok(())
+}
+
+#[test]
+fn a_preempt_without_a_type_cannot_replace(rt: HostRuntime) -> Result<(), Fail> {
+    let mut all = unit(&ABC, Some(Held::All(TYPE_7)), 3)?;
+    assert_eq!(rt; end_of(&mut all, 1, preempt(0xb2, 0xa1, None)), End::Good);
+    assert_eq!(rt; all.registry().held(), Some(Held::All(TYPE_7)));
+    assert_eq!(rt; end_of(&mut all, 0, TEST_UNIT_READY), REMOVED);
+    assert_eq!(rt; end_of(&mut all, 2, TEST_UNIT_READY), End::Good);
+    let mut one = unit(&ABC, Some(Held::One(TYPE_5, 0)), 3)?;
+    assert_eq!(rt;
+        end_of(&mut one, 1, preempt(0xb2, 0xa1, None)),
+        illegal(0x24, 0x00)
+    );
+    assert_eq!(rt;
+        end_of(&mut one, 1, preempt(0xb2, 0, Some(TYPE_5))),
+        illegal(0x26, 0x00)
+    );
+    assert_eq!(rt; one.registry().generation(), 3);
+    assert_eq!(rt; one.registry().held(), Some(Held::One(TYPE_5, 0)));
+    Ok(())
+}
+
+#[test]
+fn a_holder_of_type_3_leaves_without_a_word(rt: HostRuntime) -> Result<(), Fail> {
+    let mut unit = unit(&ABC, Some(Held::One(Kind::ExclusiveAccess, 0)), 3)?;
+    assert!(rt; unit.conflicts(1, &WRITE));
+    assert_eq!(rt; end_of(&mut unit, 0, register(0xa1, 0)), End::Good);
+    assert_eq!(rt; unit.registry().held(), None);
+    assert_eq!(rt; end_of(&mut unit, 1, TEST_UNIT_READY), End::Good);
+    Ok(())
+}
+
+#[test]
+fn activation_through_power_loss_is_refused(rt: HostRuntime) -> Result<(), Fail> {
+    let mut unit = unit(&ABC, None, 3)?;
+    let mut wire = encode(&register(0xa1, 0xa1));
+    wire.params[20] = 1;
+    assert_eq!(rt; sent(&mut unit, 0, &wire), illegal(0x26, 0x00));
+    let mut ignored = encode(&Command::Release {
+        rk: 0xa1,
+        kind: TYPE_5,
+    });
+    ignored.params[20] = 1;
+    assert_eq!(rt; sent(&mut unit, 0, &ignored), End::Good);
+    Ok(())
+}
