@@ -1,5 +1,5 @@
 -- A set of codes as the bits of a number.
-use Rattle.std.proofs.Common.{◌≡◌, ◌≢◌, ℕ, zero, suc, ◌+◌, ◌-◌, ◌*◌, ◌%◌, ◌^◌, ◌<◌, ◌≤◌, max, min, Bool, true, false, ◌==◌, ◌&&◌, ◌||◌, not, IsTrue, w8, refl, sym, ap, ◌∙◌, inl, inr, ◌⊎◌, get_or, lit<, lit≤, arith, bit_or, bit_and}
+use Rattle.std.proofs.Common.{◌≡◌, ◌≢◌, ℕ, zero, suc, ◌-◌, ◌*◌, ◌%◌, ◌^◌, ◌<◌, Bool, true, false, ◌==◌, ◌&&◌, ◌||◌, not, w8, refl, sym, ap, ◌∙◌, inl, inr, ◌⊎◌, get_or, lit<, arith, bit_or, bit_and}
 use Rattle.std.specs.Int.{bit_at, bit_not}
 use Rattle.std.specs.Ordering.{nat_cmp, eq_by_cmp}
 use Rattle.std.specs.Cmp.{nat_cmp_total, unsigned_tied, both_ways}
@@ -13,7 +13,7 @@ use Rattle.std.proofs.lemmas.Nat.Bits.{bit_at_or, bit_at-pow_same, bit_at-pow_ot
 use Rattle.bitflags.specs.Sets.{without}
 use Rattle.pr_attention.specs.declared.attention.Attention.{Attention}
 use Rattle.pr_attention.specs.declared.attention.Attention.TheVariants.{PowerOn, ReservationsPreempted, ReservationsReleased, RegistrationsPreempted}
-use Rattle.pr_attention.specs.Attentions.{attentions, is_attention, code_of, Codes, no_code, AreAttentions}
+use Rattle.pr_attention.specs.Attentions.{attentions, is_attention, code_of, no_code, AreAttentions}
 use Rattle.pr_attention.specs.SameCodes.{is_same, is_same-tells}
 use Rattle.pr_attention.specs.Flagged.{place_of, codes_of}
 use Rattle.pr_attention.proofs.Sets.{same_codes, contains-no_code, contains-insert_code, contains-remove_code, is_attention-code_of}

@@ -4,10 +4,11 @@ use Rattle.std.specs.Ordering.{nat_cmp}
 use Rattle.std.specs.Cmp.{nat_cmp_total, unsigned_tied}
 use Rattle.std.specs.FinSet as set
 use Rattle.std.specs.FinSet.{nat_cmp-IsAntisymmetric}
+use Rattle.std.specs.List.{list_any}
 use Rattle.std.proofs.lemmas.Bool.Decides.{nat_tests}
 use Rattle.pr_attention.specs.declared.attention.Attention.{Attention}
 use Rattle.pr_attention.specs.declared.attention.Attention.TheVariants.{PowerOn, ReservationsPreempted, ReservationsReleased, RegistrationsPreempted}
-use Rattle.pr_attention.specs.Attentions.{is_attention, code_of, Codes, no_code, AreAttentions}
+use Rattle.pr_attention.specs.Attentions.{power_on, reservations_preempted, reservations_released, registrations_preempted, attentions, is_attention, code_of, Codes, no_code, AreAttentions}
 
 pub same_codes : (s t : Codes) → ((q : ℕ) → set.contains s q ≡ set.contains t q) → s ≡ t
 same_codes s t same = set.same_set nat_cmp_total nat_cmp-IsAntisymmetric s t same
@@ -23,6 +24,15 @@ contains-remove_code s code q = set.contains-remove nat_cmp_total s code q ∙ a
 
 -- what a set of codes contains after a change
 pub ruleset code_reads = (contains-no_code, contains-insert_code, contains-remove_code)
+
+-- ---- whether any of the four codes is there
+
+pub any-no_code : list_any (set.contains no_code) attentions ≡ false
+any-no_code =
+    rw (contains-no_code power_on, contains-no_code reservations_preempted, contains-no_code reservations_released, contains-no_code registrations_preempted) refl
+
+pub any-from_member : (s : Codes) (code : ℕ) → AreAttentions s → set.contains s code ≡ true → list_any (set.contains s) attentions ≡ true
+any-from_member s code are there = let known = are code there in grind (arith, nat_tests)
 
 -- ---- the members stay among the four codes
 

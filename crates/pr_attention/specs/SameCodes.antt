@@ -1,5 +1,5 @@
 -- The test whether two sets of codes are equal.
-use Rattle.std.specs.Prelude.{◌≡◌, ◌↔◌, ◌&&◌, Bool, true, refl}
+use Rattle.std.specs.Prelude.{◌≡◌, ◌↔◌, ◌&&◌, Bool, true}
 use Rattle.std.specs.Cmp.{IsEquivalence, decided, both_ways, nat_cmp_total}
 use Rattle.std.specs.FinSet as set
 use Rattle.std.specs.FinSet.{nat_cmp-IsAntisymmetric}

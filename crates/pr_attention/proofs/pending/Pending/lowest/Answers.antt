@@ -1,5 +1,5 @@
-use Rattle.std.proofs.Common.{◌≡◌, IsNone, IfSome, ◌↔◌, rules}
-use Rattle.pr_attention.specs.Attentions.{code_of, no_code, AreAttentions, IsLowest}
+use Rattle.std.proofs.Common.{◌≡◌, rules}
+use Rattle.pr_attention.specs.Attentions.{AreAttentions}
 use Rattle.pr_attention.proofs.Bits.{AreAttentions-codes_of}
 use Rattle.pr_attention.proofs.Lowest.{first_in, IsLowest-first_in, no_code-first_in}
 use Rattle.pr_attention.proofs.pending.Pending.lowest.Goals as goal

@@ -1,4 +1,4 @@
-use Rattle.std.proofs.Common.{◌≡◌, ap, ◌∙◌}
+use Rattle.std.proofs.Common.{◌≡◌, ◌∙◌}
 use Rattle.pr_attention.specs.SameCodes.{is_same, is_same-tells}
 use Rattle.pr_attention.proofs.Bits.{is_same-codes_of}
 use Rattle.pr_attention.proofs.pending.PendingPartialEq.eq.Goals as goal
