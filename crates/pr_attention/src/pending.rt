@@ -44,7 +44,8 @@ impl Pending {
 
     /// An equal one.
     pub fn copy(&self) -> Self
-        ensures { result ≡ self.now }
+        ensures value { result ≡ self.now }
+        ensures members { AreAttentions self.now }
     {
         Pending { flags: self.flags }
     }

@@ -15,7 +15,7 @@ use Rattle.std.proofs.lemmas.List.{get_or-set_same, get_or-set_other}
 use Rattle.pr_attention.specs.Attentions.{Codes, no_code}
 use Rattle.pr_attention.proofs.Sets.{contains-insert_code, contains-remove_code}
 use Rattle.pr_unit.specs.Told.{AreBelow}
-use Rattle.pr_unit.specs.Attentions.{pair_cmp, Pairs, each_with, of_host, pairs_where, table_pairs}
+use Rattle.pr_unit.specs.Attentions.{pair_cmp, Pairs, each_with, of_host, pairs_where, table_pairs, place}
 
 pub pair_cmp_total : IsTotalOrder pair_cmp
 pair_cmp_total = record {
@@ -142,9 +142,6 @@ lt_true : (a b : ℕ) → a < b → nat_lt a b ≡ true
 lt_true a b h = grind (arith, nat_tests)
 
 -- the codes at a place of a table
-abbrev pub place : List Codes → ℕ → Codes
-place table h = slice_index_or table h no_code
-
 pub place_read : (table : List Codes) (h : ℕ) (d : Codes) → h < length table → slice_index_or table h d ≡ place table h
 place_read [] h d small = absurd (omega arith)
 place_read (codes ∷ table) zero d small = refl

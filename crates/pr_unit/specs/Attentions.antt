@@ -29,6 +29,10 @@ unfoldable pub pairs_where : ℕ → (ℕ → Codes) → Pairs
 pairs_where zero f = set.empty
 pairs_where (suc n) f = set.union (pairs_where n f) (of_host n (f n))
 
--- the pairs of a table with a place for each of 8 hosts
+-- what a table has at the place of a host, and nothing where it has no such place
+abbrev pub place : List Codes → ℕ → Codes
+place table h = slice_index_or table h no_code
+
+-- the pairs of a table with a place for each of at most 8 hosts
 abbrev pub table_pairs : List Codes → Pairs
-table_pairs table = pairs_where 8 (λ h. slice_index_or table h no_code)
+table_pairs table = pairs_where 8 (place table)

@@ -1,9 +1,10 @@
 //! The logical unit.
 
-ghost use Rattle.std.specs.Prelude.{◌≡◌, ◌<◌, ◌≤◌};
+ghost use Rattle.std.specs.Prelude.{◌≡◌, ◌<◌, ◌≤◌, ◌↔◌, ℕ, true, IsTrue, IsSome, IfSome, length};
 ghost use Rattle.std.specs.FinSet as set;
 ghost use Rattle.pr_cdb.specs.Requests.{requested};
-ghost use Rattle.pr_unit.specs.Attentions.{table_pairs};
+ghost use Rattle.pr_attention.specs.Attentions.{AreAttentions, is_attention};
+ghost use Rattle.pr_unit.specs.Attentions.{place, table_pairs};
 
 use crate::answers::answer;
 use crate::decisions;
@@ -37,7 +38,7 @@ impl Unit {
     ghost use Rattle.pr_registry.specs.Registrations.{fresh};
     ghost use Rattle.pr_cdb.specs.declared.wire.Request.TheVariants.{Plain};
     ghost use Rattle.pr_cdb.specs.declared.reply.Reply.{Reply};
-    ghost use Rattle.pr_unit.specs.UnitStates.{UnitState, quiet};
+    ghost use Rattle.pr_unit.specs.UnitStates.{UnitState, unit_of, is_pending, quiet};
     ghost use Rattle.pr_unit.specs.Replies.{is_good};
     ghost use Rattle.pr_unit.specs.Conflicts.{command_conflicts};
     ghost use Rattle.pr_unit.specs.Steps.{Step, Executes};
@@ -61,6 +62,29 @@ impl Unit {
             registry,
             pending: nothing_pending(),
         }
+    }
+
+    /// A unit with this registry and these attentions pending: `None` where there is not one set for each
+    /// host.
+    pub fn with(registry: Registry, pendings: &[Pending]) -> Option<Self>
+        ensures value { IfSome result (λ u. u ≡ unit_of registry pendings.now) }
+        ensures exactly { IsSome result ↔ length pendings.now ≡ registry.hosts }
+    {
+        if pendings.len() != usize::from(registry.hosts()) {
+            return None;
+        }
+        Some(Unit {
+            registry,
+            pending: table_of(pendings),
+        })
+    }
+
+    /// What is pending for the host.
+    pub fn pending(&self, host: u8) -> &Pending
+        requires { host < self.now.registry.hosts }
+        ensures { (code : ℕ) → set.contains result.now code ≡ is_pending self.now host code }
+    {
+        &self.pending[usize::from(host)]
     }
 
     /// The registry.
@@ -96,6 +120,34 @@ impl Unit {
     {
         let request = decode(&wire.cdb, &wire.params)?;
         Ok(answer(&mut self.registry, &mut self.pending, host, request))
+    }
+}
+
+// A place for each of 8 hosts, with nothing pending for those that are not there.
+fn table_of(pendings: &[Pending]) -> [Pending; 8]
+    ensures value { table_pairs result ≡ table_pairs pendings.now }
+    ensures members { (host code : ℕ) → set.contains (table_pairs result) (host, code) ≡ true → (host < length pendings.now) × IsTrue (is_attention code) }
+{
+    [
+        place_of(pendings, 0),
+        place_of(pendings, 1),
+        place_of(pendings, 2),
+        place_of(pendings, 3),
+        place_of(pendings, 4),
+        place_of(pendings, 5),
+        place_of(pendings, 6),
+        place_of(pendings, 7),
+    ]
+}
+
+// What is pending for the host, and nothing where there is no place for it.
+fn place_of(pendings: &[Pending], host: usize) -> Pending
+    ensures value { result ≡ place pendings.now host }
+    ensures members { AreAttentions result }
+{
+    match pendings.get(host) {
+        Some(pending) => pending.copy(),
+        None => Pending::new(),
     }
 }
 

@@ -2,8 +2,8 @@ use Rattle.std.proofs.Common.{◌≡◌, ℕ, zero, suc, ◌&&◌, nat_lt, Bool,
 use Rattle.std.specs.FinSet as set
 use Rattle.pr_attention.specs.Attentions.{Codes, no_code}
 use Rattle.pr_attention.proofs.Sets.{contains-no_code}
-use Rattle.pr_unit.specs.Attentions.{table_pairs}
-use Rattle.pr_unit.proofs.Pairs.{place, same_pairs, contains-none, contains-table_pairs}
+use Rattle.pr_unit.specs.Attentions.{place, table_pairs}
+use Rattle.pr_unit.proofs.Pairs.{same_pairs, contains-none, contains-table_pairs}
 use Rattle.pr_unit.proofs.unit.nothing_pending.Goals as goal
 
 abbrev nones : ℕ → List Codes
