@@ -1,25 +1,20 @@
 -- Worked examples of the unit's rules, over the definitions alone. The hosts are a, b and c, numbered 0, 1
 -- and 2, and their keys a1, b2 and c3.
-use Rattle.std.proofs.Common.{◌≡◌, ℕ, Bool, true, false, List, [], ◌∷◌, Option, Some, None, refl}
+use Rattle.std.proofs.Common.{◌≡◌, ℕ, true, false, List, [], ◌∷◌, Option, Some, None, refl}
 use Rattle.std.specs.FinSet as set
-use Rattle.std.specs.FinMap as map
 use Rattle.pr_cdb.specs.declared.command.Kind.{Kind}
 use Rattle.pr_cdb.specs.declared.command.Kind.TheVariants.{WriteExclusive, ExclusiveAccess, WriteExclusiveRegistrantsOnly, ExclusiveAccessRegistrantsOnly, WriteExclusiveAllRegistrants}
 use Rattle.pr_cdb.specs.declared.command.Command.{Command}
 use Rattle.pr_cdb.specs.declared.command.Command.TheVariants.{TestUnitReady, RequestSense, Register, Reserve, Release, Clear, Preempt, Write, ReadReservation}
 use Rattle.pr_cdb.specs.declared.wire.Request.TheVariants.{Plain}
 use Rattle.pr_cdb.specs.ReplyData.{reservation_bytes}
-use Rattle.pr_registry.specs.declared.held.Held.{Held}
-use Rattle.pr_registry.specs.declared.held.Held.TheVariants.{One, All}
-use Rattle.pr_registry.specs.Hosts.{is_empty}
-use Rattle.pr_registry.specs.Registrations.{State, fresh, key_of}
+use Rattle.pr_registry.specs.declared.held.Held.TheVariants.{One}
+use Rattle.pr_registry.specs.Registrations.{fresh, key_of}
 use Rattle.pr_registry.proofs.Sets.{contains-nobody, contains-insert, contains-remove, contains-just, contains-difference, get-insert, get-empty, get-without, contains-hosts_in, contains-hosts_with}
 use Rattle.pr_unit.specs.Attentions.{power_on, reservations_preempted, reservations_released, registrations_preempted}
 use Rattle.pr_unit.specs.UnitStates.{UnitState, quiet, effect, reported, is_pending}
-use Rattle.pr_unit.specs.Conflicts.{command_conflicts}
 use Rattle.pr_unit.specs.Faults.{command_fault, illegal}
 use Rattle.pr_unit.specs.Replies.{data_of}
-use Rattle.pr_unit.specs.declared.line.Line.{Line}
 use Rattle.pr_unit.specs.declared.line.Line.TheVariants.{PowerOn, Conflicting, Attention, AtFault, Done}
 use Rattle.pr_unit.specs.Steps.{line}
 use Rattle.pr_unit.proofs.Pairs.{contains-none, contains-union-pairs, contains-insert-pair, contains-remove-pair, contains-each_with}

@@ -15,6 +15,7 @@ use Rattle.pr_unit.specs.UnitStates.{UnitState, IsWellFormed, is_pending, is_any
 use Rattle.pr_unit.specs.Conflicts.{conflicts}
 use Rattle.pr_unit.specs.Faults.{fault}
 use Rattle.pr_unit.specs.Steps.{last_line, line, StepBy, Step}
+use Rattle.pr_unit.specs.Follows.{IsFollowed}
 use Rattle.pr_unit.proofs.Pairs.{contains-remove-pair}
 use Rattle.pr_unit.proofs.WellFormed.{effects_are_well_formed}
 
@@ -54,3 +55,8 @@ well_formed-step u h q r v w there fits step = by_line (line u h q) refl step
     by_line Attention is step = subst IsWellFormed (sym step.after) (well_formed-reported u h step.code w)
     by_line (AtFault sense) is step = subst IsWellFormed (sym step.1) w
     by_line Done is step = by_request q fits is step
+
+pub well_formed-followed : (u : UnitState) (h : ℕ) (q : Request) (r : Reply) (follows : Bool) (v : UnitState) → IsWellFormed u → h < u.registry.hosts → FitsWhereRead (Ok q)
+    → IsFollowed u h q r follows v → IsWellFormed v
+well_formed-followed u h q r true v w there fits step = well_formed-step u h q r v w there fits step
+well_formed-followed u h q r false v w there fits same = subst IsWellFormed (sym same.0) w

@@ -5,4 +5,5 @@ pub mod Conflicts
 pub mod Faults
 pub mod Replies
 pub mod Steps
+pub mod Follows
 pub mod Laws

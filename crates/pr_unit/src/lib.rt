@@ -4,6 +4,7 @@
 mod access;
 mod answers;
 mod decisions;
+mod follows;
 mod laws;
 mod line;
 mod pending_table;

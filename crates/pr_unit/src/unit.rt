@@ -8,6 +8,7 @@ ghost use Rattle.pr_unit.specs.Attentions.{place, table_pairs};
 
 use crate::answers::answer;
 use crate::decisions;
+use crate::follows::follow;
 use crate::line::{deciding_line, ends_good};
 use pr_attention::Pending;
 use pr_cdb::{Bad, Command, Reply, Request, Wire, decode};
@@ -42,6 +43,7 @@ impl Unit {
     ghost use Rattle.pr_unit.specs.Replies.{is_good};
     ghost use Rattle.pr_unit.specs.Conflicts.{command_conflicts};
     ghost use Rattle.pr_unit.specs.Steps.{Step, Executes};
+    ghost use Rattle.pr_unit.specs.Follows.{Follows};
 
     /// A unit of so many hosts with nothing registered, reserved or pending, and generation 0.
     pub fn new(hosts: u8) -> Self
@@ -120,6 +122,18 @@ impl Unit {
     {
         let request = decode(&wire.cdb, &wire.params)?;
         Ok(answer(&mut self.registry, &mut self.pending, host, request))
+    }
+
+    /// Whether the unit may answer the command of the host with just this reply, whichever attention it
+    /// chooses to report. Where it may, it is in the state after that answer; else nothing changes.
+    pub fn follow(&mut self, host: u8, wire: &Wire, reply: &Reply) -> bool
+        requires { host < self.old.registry.hosts }
+        ensures { Follows self.old host (requested wire.now) reply.now result self.new }
+    {
+        match decode(&wire.cdb, &wire.params) {
+            Ok(request) => follow(&mut self.registry, &mut self.pending, host, request, reply),
+            Err(_) => false,
+        }
     }
 }
 

@@ -2,7 +2,8 @@
 
 use crate::Unit;
 use arrayvec::ArrayVec;
-use pr_cdb::{Command, Kind, Sense, Status, Wire, encode};
+use pr_attention::{Attention, Pending};
+use pr_cdb::{Command, Kind, Reply, Sense, Status, Wire, encode};
 use pr_registry::{Held, Registry};
 use std::test::Fail;
 
@@ -282,24 +283,91 @@ fn a_preempt_without_a_type_cannot_replace(rt: HostRuntime) -> Result<(), Fail> 
 #[test]
 fn a_holder_of_type_3_leaves_without_a_word(rt: HostRuntime) -> Result<(), Fail> {
     let mut unit = unit(&ABC, Some(Held::One(Kind::ExclusiveAccess, 0)), 3)?;
-    assert!(rt; unit.conflicts(1, &WRITE));
+    assert!(rt; 1 < unit.registry().hosts() && unit.conflicts(1, &WRITE));
     assert_eq!(rt; end_of(&mut unit, 0, register(0xa1, 0)), End::Good);
     assert_eq!(rt; unit.registry().held(), None);
     assert_eq!(rt; end_of(&mut unit, 1, TEST_UNIT_READY), End::Good);
     Ok(())
 }
 
+// Sets the bit that asks for activation through power loss.
+fn set_activation(wire: &mut Wire) {
+    if let Some(byte) = wire.params.as_mut_slice().get_mut(20) {
+        *byte = 1;
+    }
+}
+
 #[test]
 fn activation_through_power_loss_is_refused(rt: HostRuntime) -> Result<(), Fail> {
     let mut unit = unit(&ABC, None, 3)?;
     let mut wire = encode(&register(0xa1, 0xa1));
-    wire.params[20] = 1;
+    set_activation(&mut wire);
     assert_eq!(rt; sent(&mut unit, 0, &wire), illegal(0x26, 0x00));
     let mut ignored = encode(&Command::Release {
         rk: 0xa1,
         kind: TYPE_5,
     });
-    ignored.params[20] = 1;
+    set_activation(&mut ignored);
     assert_eq!(rt; sent(&mut unit, 0, &ignored), End::Good);
     Ok(())
+}
+
+#[test]
+fn a_power_on_comes_before_a_conflict(rt: HostRuntime) -> Result<(), Fail> {
+    let held = Some(Held::One(Kind::ExclusiveAccess, 1));
+    let registry = Registry::from_parts(&[None, Some(0xb2)], held, 1).ok_or("well formed")?;
+    let mut told = Pending::new();
+    told.add(Attention::PowerOn);
+    told.add(Attention::RegistrationsPreempted);
+    let mut unit = Unit::with(registry, &[told, Pending::new()]).ok_or("one for each host")?;
+    let power_on = Sense {
+        key: 6,
+        asc: 0x29,
+        ascq: 0,
+    };
+    assert_eq!(rt; end_of(&mut unit, 0, WRITE), End::Check(power_on));
+    assert_eq!(rt; end_of(&mut unit, 0, WRITE), End::Conflict);
+    assert_eq!(rt; end_of(&mut unit, 0, TEST_UNIT_READY), REMOVED);
+    assert_eq!(rt; end_of(&mut unit, 0, TEST_UNIT_READY), End::Good);
+    Ok(())
+}
+
+#[test]
+fn a_unit_has_one_set_for_each_host(rt: HostRuntime) {
+    assert!(rt; Unit::with(Registry::new(2), &[Pending::new()]).is_none());
+    match Unit::with(Registry::new(1), &[Pending::new()]) {
+        Some(unit) => assert!(rt; unit.pending(0).is_empty()),
+        None => assert!(rt; false),
+    }
+}
+
+#[test]
+fn any_pending_attention_may_be_followed(rt: HostRuntime) {
+    let mut told = Pending::new();
+    told.add(Attention::ReservationsReleased);
+    told.add(Attention::RegistrationsPreempted);
+    let Some(mut unit) = Unit::with(Registry::new(1), &[told]) else {
+        assert!(rt; false);
+        return;
+    };
+    let wire = encode(&TEST_UNIT_READY);
+    let good = Reply {
+        status: Status::Good,
+        sense: None,
+        bytes: ArrayVec::new(),
+    };
+    let removed = Reply {
+        status: Status::CheckCondition,
+        sense: Some(Attention::RegistrationsPreempted.sense()),
+        bytes: ArrayVec::new(),
+    };
+    assert!(rt; !followed(&mut unit, 0, &wire, &good));
+    assert!(rt; followed(&mut unit, 0, &wire, &removed));
+    assert!(rt; !followed(&mut unit, 0, &wire, &removed));
+    assert_eq!(rt; end_of(&mut unit, 0, TEST_UNIT_READY), attention(4));
+    assert!(rt; followed(&mut unit, 0, &wire, &good));
+}
+
+fn followed(unit: &mut Unit, host: u8, wire: &Wire, reply: &Reply) -> bool {
+    host < unit.registry().hosts() && unit.follow(host, wire, reply)
 }

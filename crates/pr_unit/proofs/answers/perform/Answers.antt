@@ -1,4 +1,3 @@
-use Rattle.pr_unit.specs.Told.{TellsBelow}
 use Rattle.pr_unit.proofs.WellFormed.{tells_below}
 use Rattle.pr_unit.proofs.answers.perform.Goals as goal
 

@@ -1,4 +1,4 @@
-use Rattle.std.proofs.Common.{◌<◌, ◌≡◌, ap, sym, ◌∙◌, length, arith}
+use Rattle.std.proofs.Common.{◌<◌, ap, sym, ◌∙◌, length, arith}
 use Rattle.std.specs.FinSet as set
 use Rattle.pr_attention.specs.Attentions.{code_of}
 use Rattle.pr_unit.specs.Attentions.{table_pairs}

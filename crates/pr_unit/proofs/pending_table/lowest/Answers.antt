@@ -1,12 +1,9 @@
-use Rattle.std.proofs.Common.{◌<◌, ◌≡◌, ℕ, Option, Some, None, true, false, ap, sym, ◌∙◌, subst, length, get_or, arith}
-use Rattle.std.specs.Prelude.{IfSome}
+use Rattle.std.proofs.Common.{◌<◌, ◌≡◌, ℕ, ap, sym, ◌∙◌, length, get_or, arith}
 use Rattle.std.specs.FinSet as set
 use Rattle.std.proofs.lemmas.Option.{IfSome_then}
-use Rattle.pr_attention.specs.declared.attention.Attention.{Attention}
-use Rattle.pr_attention.specs.Attentions.{Codes, no_code, code_of, IsLowest}
+use Rattle.pr_attention.specs.Attentions.{code_of}
 use Rattle.pr_attention.proofs.Sets.{same_codes, contains-no_code}
 use Rattle.pr_unit.specs.Attentions.{table_pairs}
-use Rattle.pr_unit.specs.Told.{IsLowestOf, HasNone}
 use Rattle.pr_unit.proofs.Pairs.{place_read, contains-table_pairs_in}
 use Rattle.pr_unit.proofs.pending_table.lowest.Goals as goal
 

@@ -1,8 +1,8 @@
-use Rattle.std.proofs.Common.{◌≡◌, ◌<◌, ℕ, zero, suc, Bool, ◌&&◌, nat_lt, true, false, IsTrue, List, [], ◌∷◌, length, refl, sym, ap, ◌∙◌, subst, arith}
+use Rattle.std.proofs.Common.{◌≡◌, ◌<◌, ℕ, zero, suc, Bool, ◌&&◌, nat_lt, true, false, List, [], ◌∷◌, length, refl, sym, ap, ◌∙◌, subst, arith}
 use Rattle.std.specs.FinSet as set
 use Rattle.std.proofs.lemmas.Bool.{false≢true}
 use Rattle.std.proofs.lemmas.Bool.Decides.{nat_tests}
-use Rattle.pr_attention.specs.Attentions.{Codes, no_code, is_attention, AreAttentions}
+use Rattle.pr_attention.specs.Attentions.{Codes, AreAttentions}
 use Rattle.pr_attention.proofs.Sets.{contains-no_code}
 use Rattle.pr_unit.specs.Attentions.{place, of_host, pairs_where, table_pairs}
 use Rattle.pr_unit.proofs.Pairs.{contains-table_pairs}

@@ -1,8 +1,6 @@
-use Rattle.std.proofs.Common.{◌≡◌, ◌<◌, arith, sym, ap, ◌∙◌, subst}
+use Rattle.std.proofs.Common.{◌<◌, sym, subst}
 use Rattle.std.specs.Prelude.{Ok}
-use Rattle.std.proofs.lemmas.Bool.Decides.{nat_tests}
-use Rattle.pr_cdb.specs.Requests.{FitsWhereRead, request_of, AreBytes}
-use Rattle.pr_cdb.proofs.ReadsInRange.{reads_fit}
+use Rattle.pr_cdb.specs.Requests.{FitsWhereRead}
 use Rattle.pr_unit.specs.UnitStates.{UnitState, unit_of}
 use Rattle.pr_unit.proofs.Steps.{well_formed-step}
 use Rattle.pr_unit.proofs.unit.Unit.execute.Goals as goal

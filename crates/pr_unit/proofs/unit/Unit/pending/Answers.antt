@@ -1,4 +1,4 @@
-use Rattle.std.proofs.Common.{◌<◌, ◌≡◌, ap, sym, ◌∙◌, length, subst, arith}
+use Rattle.std.proofs.Common.{◌<◌, ap, sym, ◌∙◌, length, subst, arith}
 use Rattle.std.specs.FinSet as set
 use Rattle.pr_unit.specs.Attentions.{table_pairs}
 use Rattle.pr_unit.specs.UnitStates.{UnitState, unit_of, is_pending}

@@ -1,0 +1,123 @@
+//! Whether a unit may answer just so, and what it is then.
+
+ghost use Rattle.std.specs.Prelude.{◌≡◌, ◌<◌, false, None};
+ghost use Rattle.pr_attention.specs.Attentions.{code_of};
+ghost use Rattle.pr_unit.specs.UnitStates.{IsWellFormed, unit_of};
+ghost use Rattle.pr_unit.specs.Conflicts.{command_conflicts};
+ghost use Rattle.pr_unit.specs.Faults.{command_fault};
+ghost use Rattle.pr_unit.specs.Follows.{IsFollowed, IsReported, IsAnyReported, IsDoneSo};
+
+use crate::answers::{perform, report_of};
+use crate::line::{Line, deciding_line};
+use crate::services::data;
+use crate::{pending_table, reply};
+use pr_attention::{Attention, Pending};
+use pr_cdb::{Command, Reply, Request};
+use pr_registry::Registry;
+
+/// Whether the unit may answer the request of the host with this reply. Where it may, its parts become
+/// what they are then; else nothing changes.
+pub(crate) fn follow(
+    registry: &mut Registry,
+    pendings: &mut [Pending; 8],
+    host: u8,
+    request: Request,
+    reply: &Reply,
+) -> bool
+    requires there { host < registry.old.hosts }
+    requires well_formed { IsWellFormed (unit_of registry.old pendings.old) }
+    ensures { IsFollowed (unit_of registry.old pendings.old) host request reply.now result (unit_of registry.new pendings.new) }
+{
+    match deciding_line(registry, pendings, host, request) {
+        Line::PowerOn => {
+            follow_report(registry, pendings, host, request, reply, Attention::PowerOn)
+        }
+        Line::Conflicting => *reply == reply::conflict(),
+        Line::Attention => follow_any_report(registry, pendings, host, request, reply),
+        Line::AtFault(sense) => *reply == reply::check(sense),
+        Line::Done => match request {
+            Request::Plain(command) => follow_good(registry, pendings, host, command, reply),
+            Request::Faulty(_) => unreachable!(),
+        },
+    }
+}
+
+// Follows a reply that reports one of the attentions.
+fn follow_any_report(
+    registry: &Registry,
+    pendings: &mut [Pending; 8],
+    host: u8,
+    request: Request,
+    reply: &Reply,
+) -> bool
+    requires { host < 8 }
+    ensures { IsAnyReported (unit_of registry.now pendings.old) host request reply.now result (unit_of registry.now pendings.new) }
+{
+    follow_report(registry, pendings, host, request, reply, Attention::PowerOn)
+        || follow_report(
+            registry,
+            pendings,
+            host,
+            request,
+            reply,
+            Attention::ReservationsPreempted,
+        )
+        || follow_report(
+            registry,
+            pendings,
+            host,
+            request,
+            reply,
+            Attention::ReservationsReleased,
+        )
+        || follow_report(
+            registry,
+            pendings,
+            host,
+            request,
+            reply,
+            Attention::RegistrationsPreempted,
+        )
+}
+
+// Follows a reply that reports this attention.
+fn follow_report(
+    registry: &Registry,
+    pendings: &mut [Pending; 8],
+    host: u8,
+    request: Request,
+    reply: &Reply,
+    attention: Attention,
+) -> bool
+    requires { host < 8 }
+    ensures { IsReported (unit_of registry.now pendings.old) host request reply.now (code_of attention) result (unit_of registry.now pendings.new) }
+{
+    let _ = registry;
+    let follows = pending_table::has(pendings, host, attention)
+        && *reply == report_of(request, attention);
+    if follows {
+        pending_table::remove(pendings, host, attention);
+    }
+    follows
+}
+
+// Follows a reply of a command that ends GOOD.
+fn follow_good(
+    registry: &mut Registry,
+    pendings: &mut [Pending; 8],
+    host: u8,
+    command: Command,
+    reply: &Reply,
+) -> bool
+    requires there { host < registry.old.hosts }
+    requires well_formed { IsWellFormed (unit_of registry.old pendings.old) }
+    requires free { command_conflicts registry.old host command ≡ false }
+    requires whole { command_fault registry.old host command ≡ None }
+    ensures { IsDoneSo (unit_of registry.old pendings.old) host command reply.now result (unit_of registry.new pendings.new) }
+{
+    let follows = *reply == reply::good(data(registry, command));
+    if follows {
+        let _ = perform(registry, pendings, host, command);
+    }
+    follows
+}
