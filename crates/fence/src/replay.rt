@@ -1,7 +1,6 @@
 //! Driving the one script of a thin text against the unit.
 
-ghost use Rattle.std.specs.Prelude.{◌≡◌, ◌<◌, ◌≤◌, IfOk, IsTrue, None, codes};
-ghost use Rattle.fence.specs.ThinCommands.{is_thin};
+ghost use Rattle.std.specs.Prelude.{◌≡◌, ◌<◌, ◌≤◌, IfOk, codes};
 ghost use Rattle.fence.specs.ThinText.{seen};
 ghost use Rattle.fence.specs.Replayed.{is_trapped_end, IsSent, IsReplayed, IsEndAfter};
 
