@@ -3,7 +3,7 @@
 use crate::Unit;
 use arrayvec::ArrayVec;
 use pr_attention::{Attention, Pending};
-use pr_cdb::{Command, Kind, Reply, Sense, Status, Wire, encode};
+use pr_cdb::{Command, Kind, Reply, Sense, Status, Wire, encode, encode_sense};
 use pr_registry::{Held, Registry};
 use std::test::Fail;
 
@@ -25,6 +25,12 @@ const REMOVED: End = End::Check(Sense {
     asc: 0x2a,
     ascq: 5,
 });
+
+const POWER_ON: Sense = Sense {
+    key: 6,
+    asc: 0x29,
+    ascq: 0,
+};
 
 fn attention(ascq: u8) -> End {
     End::Check(Sense {
@@ -64,13 +70,22 @@ fn end_of(unit: &mut Unit, host: u8, command: Command) -> End {
     sent(unit, host, &encode(&command))
 }
 
+// The data of a command that ends GOOD, and no bytes where it ends otherwise.
 fn data_of(unit: &mut Unit, host: u8, command: Command) -> ArrayVec<u8, 72> {
     if host >= unit.registry().hosts() {
         return ArrayVec::new();
     }
     match unit.execute(host, &encode(&command)) {
-        Err(_) => ArrayVec::new(),
-        Ok(reply) => reply.bytes,
+        Ok(reply) if reply.status == Status::Good => reply.bytes,
+        _ => ArrayVec::new(),
+    }
+}
+
+// The sense data of a command that ends in CHECK CONDITION.
+fn sense_of(unit: &mut Unit, host: u8, wire: &Wire) -> Option<[u8; 18]> {
+    match sent(unit, host, wire) {
+        End::Check(sense) => Some(encode_sense(&sense)),
+        _ => None,
     }
 }
 
@@ -192,6 +207,45 @@ fn a_generation_wraps_and_a_reserve_leaves_it(rt: HostRuntime) -> Result<(), Fai
 }
 
 #[test]
+fn the_keys_of_eight_hosts_are_read_in_their_order(rt: HostRuntime) {
+    let mut unit = Unit::new(8);
+    assert_eq!(rt; end_of(&mut unit, 0, register(0, 0xa1)), End::Good);
+    assert_eq!(rt; end_of(&mut unit, 1, register(0, 0xa1)), End::Good);
+    assert_eq!(rt; end_of(&mut unit, 2, register(0, 0xb1)), End::Good);
+    assert_eq!(rt; end_of(&mut unit, 3, register(0, 0xb2)), End::Good);
+    assert_eq!(rt; end_of(&mut unit, 4, register(0, 0xb3)), End::Good);
+    assert_eq!(rt; end_of(&mut unit, 5, register(0, 0xb4)), End::Good);
+    assert_eq!(rt; end_of(&mut unit, 6, register(0, 0xb5)), End::Good);
+    assert_eq!(rt; end_of(&mut unit, 7, register(0, 0xb6)), End::Good);
+    let read = Command::ReadKeys { alloc: 8192 };
+    let whole = [
+        0, 0, 0, 8, 0, 0, 0, 0x40, // the generation, and how many bytes follow
+        0, 0, 0, 0, 0, 0, 0, 0xa1, 0, 0, 0, 0, 0, 0, 0, 0xa1, // the first two share a key
+        0, 0, 0, 0, 0, 0, 0, 0xb1, 0, 0, 0, 0, 0, 0, 0, 0xb2, // and the others have their own
+        0, 0, 0, 0, 0, 0, 0, 0xb3, 0, 0, 0, 0, 0, 0, 0, 0xb4, //
+        0, 0, 0, 0, 0, 0, 0, 0xb5, 0, 0, 0, 0, 0, 0, 0, 0xb6,
+    ];
+    assert_eq!(rt; data_of(&mut unit, 0, read).as_slice(), whole.as_slice());
+}
+
+#[test]
+fn a_parameter_list_of_another_length_is_at_fault(rt: HostRuntime) {
+    let mut unit = Unit::new(1);
+    let mut wire = encode(&register(0, 0xa1));
+    // The length in the command descriptor block, whose last byte is the control byte.
+    if let Some(byte) = wire.cdb.as_mut_slice().get_mut(8) {
+        *byte = 23;
+    }
+    wire.params.truncate(23);
+    let length_error = [
+        0x70, 0, 5, 0, 0, 0, 0, 0x0a, 0, 0, 0, 0, 0x1a, 0, 0, 0, 0, 0,
+    ];
+    assert_eq!(rt; sense_of(&mut unit, 0, &wire), Some(length_error));
+    assert!(rt; unit.registry().keys().is_empty());
+    assert_eq!(rt; unit.registry().generation(), 0);
+}
+
+#[test]
 fn a_reservation_is_read(rt: HostRuntime) -> Result<(), Fail> {
     let read = Command::ReadReservation { alloc: 8192 };
     let mut one = unit(&[Some(0xa1)], Some(Held::One(TYPE_5, 0)), 1)?;
@@ -281,6 +335,45 @@ fn a_preempt_without_a_type_cannot_replace(rt: HostRuntime) -> Result<(), Fail> 
 }
 
 #[test]
+fn a_preempt_of_a_registrant_leaves_all_registrants_their_type(
+    rt: HostRuntime,
+) -> Result<(), Fail> {
+    let held = Some(Held::All(TYPE_7));
+    let mut unit = unit(&ABC, held, 3)?;
+    assert_eq!(rt;
+        end_of(&mut unit, 1, preempt(0xb2, 0xa1, Some(TYPE_5))),
+        End::Good
+    );
+    assert_eq!(rt; unit.registry().keys().as_slice(), [0xb2, 0xc3].as_slice());
+    assert_eq!(rt; unit.registry().held(), held);
+    assert_eq!(rt; end_of(&mut unit, 0, TEST_UNIT_READY), REMOVED);
+    assert_eq!(rt; end_of(&mut unit, 0, TEST_UNIT_READY), End::Good);
+    assert_eq!(rt; end_of(&mut unit, 1, TEST_UNIT_READY), End::Good);
+    assert_eq!(rt; end_of(&mut unit, 2, TEST_UNIT_READY), End::Good);
+    Ok(())
+}
+
+#[test]
+fn a_holder_that_preempts_its_own_key_removes_the_others_that_have_it(
+    rt: HostRuntime,
+) -> Result<(), Fail> {
+    let held = Some(Held::One(TYPE_5, 0));
+    let mut unit = unit(&[Some(0xa1), Some(0xa1)], held, 2)?;
+    assert_eq!(rt;
+        end_of(&mut unit, 0, preempt(0xa1, 0xa1, Some(TYPE_5))),
+        End::Good
+    );
+    assert_eq!(rt; unit.registry().keys().as_slice(), [0xa1].as_slice());
+    assert_eq!(rt; unit.registry().held(), held);
+    assert_eq!(rt; unit.registry().generation(), 3);
+    assert_eq!(rt; end_of(&mut unit, 1, TEST_UNIT_READY), REMOVED);
+    assert_eq!(rt; end_of(&mut unit, 1, WRITE), End::Conflict);
+    assert_eq!(rt; end_of(&mut unit, 0, TEST_UNIT_READY), End::Good);
+    assert_eq!(rt; end_of(&mut unit, 0, WRITE), End::Good);
+    Ok(())
+}
+
+#[test]
 fn a_holder_of_type_3_leaves_without_a_word(rt: HostRuntime) -> Result<(), Fail> {
     let mut unit = unit(&ABC, Some(Held::One(Kind::ExclusiveAccess, 0)), 3)?;
     assert!(rt; 1 < unit.registry().hosts() && unit.conflicts(1, &WRITE));
@@ -312,23 +405,45 @@ fn activation_through_power_loss_is_refused(rt: HostRuntime) -> Result<(), Fail>
     Ok(())
 }
 
-#[test]
-fn a_power_on_comes_before_a_conflict(rt: HostRuntime) -> Result<(), Fail> {
+// The second host holds type 3, and the first, which is not registered, has still to be told of a power on
+// and of its removal.
+fn shut_out_with_a_power_on() -> Result<Unit, Fail> {
     let held = Some(Held::One(Kind::ExclusiveAccess, 1));
     let registry = Registry::from_parts(&[None, Some(0xb2)], held, 1).ok_or("well formed")?;
     let mut told = Pending::new();
     told.add(Attention::PowerOn);
     told.add(Attention::RegistrationsPreempted);
-    let mut unit = Unit::with(registry, &[told, Pending::new()]).ok_or("one for each host")?;
-    let power_on = Sense {
-        key: 6,
-        asc: 0x29,
-        ascq: 0,
-    };
-    assert_eq!(rt; end_of(&mut unit, 0, WRITE), End::Check(power_on));
+    let unit = Unit::with(registry, &[told, Pending::new()]).ok_or("one for each host")?;
+    Ok(unit)
+}
+
+#[test]
+fn a_power_on_comes_before_a_conflict(rt: HostRuntime) -> Result<(), Fail> {
+    let mut unit = shut_out_with_a_power_on()?;
+    assert_eq!(rt; end_of(&mut unit, 0, WRITE), End::Check(POWER_ON));
     assert_eq!(rt; end_of(&mut unit, 0, WRITE), End::Conflict);
     assert_eq!(rt; end_of(&mut unit, 0, TEST_UNIT_READY), REMOVED);
     assert_eq!(rt; end_of(&mut unit, 0, TEST_UNIT_READY), End::Good);
+    Ok(())
+}
+
+#[test]
+fn request_sense_tells_what_a_conflict_left_pending(rt: HostRuntime) -> Result<(), Fail> {
+    let mut unit = shut_out_with_a_power_on()?;
+    assert_eq!(rt; end_of(&mut unit, 0, WRITE), End::Check(POWER_ON));
+    assert_eq!(rt; end_of(&mut unit, 0, WRITE), End::Conflict);
+    let removed = [
+        0x70, 0, 6, 0, 0, 0, 0, 0x0a, 0, 0, 0, 0, 0x2a, 5, 0, 0, 0, 0,
+    ];
+    assert_eq!(rt;
+        data_of(&mut unit, 0, Command::RequestSense).as_slice(),
+        removed.as_slice()
+    );
+    let nothing = [0x70, 0, 0, 0, 0, 0, 0, 0x0a, 0, 0, 0, 0, 0, 0, 0, 0, 0, 0];
+    assert_eq!(rt;
+        data_of(&mut unit, 0, Command::RequestSense).as_slice(),
+        nothing.as_slice()
+    );
     Ok(())
 }
 
