@@ -1,0 +1,13 @@
+pub mod Settling
+pub mod Spending
+pub mod Equations
+pub mod Taken
+pub mod Products
+pub mod Written
+pub mod Shallow
+pub mod Places
+pub mod Walking
+pub mod Leading
+pub mod Laid
+pub mod Answering
+pub mod Sameness

@@ -1,0 +1,9 @@
+-- The repeat that is opened names places of the table.
+use Rattle.std.proofs.Common.{sym, subst}
+use Rattle.pr_script.specs.Tables.{AreOpens}
+use Rattle.pr_script.proofs.Walking.{opens_more}
+use Rattle.pr_script.proofs.walk.enter.Goals as goal
+
+pub returns-clause-within : goal.returns-clause-within
+returns-clause-within c = λ top body next old.
+    (body, subst (AreOpens top) (sym c.push.ensures.items) (opens_more top _ _ old body next))

@@ -1,0 +1,11 @@
+-- Where the walk ends, what is still to do rests.
+use Rattle.std.proofs.Common.{ap, sym, ◌∙◌}
+use Rattle.pr_script.specs.Tables.{meanings, configuration}
+use Rattle.pr_script.proofs.Settling.{settled-rest}
+use Rattle.pr_script.proofs.walk.settle.Goals as goal
+
+pub returns-clause-reached : goal.returns-clause-reached
+returns-clause-reached c =
+    ap (λ opens. configuration (meanings c.args.rows.now) c.loop-to.at opens.items) c.in_default.ensures.same
+    ∙ sym (settled-rest _ c.in_default.ensures.rests)
+    ∙ c.loop-to.invariant.settles

@@ -1,0 +1,14 @@
+-- The place and the open repeats settle as those at the start; each step leaves less to unfold.
+use Rattle.std.proofs.Common.{◌≡◌}
+use Rattle.pr_script.specs.Scripts.{work, settled}
+use Rattle.pr_script.specs.Tables.{meanings, configuration, IsPlaced}
+use Rattle.pr_script.proofs.walk.settle.Given as goal
+
+abbrev pub invariant-loop-to : goal.invariant-loop-to
+invariant-loop-to l = record {
+  placed : IsPlaced l.rows l.at l.opens.items;
+  settles : settled (configuration (meanings l.rows) l.at l.opens.items) ≡ settled (configuration (meanings l.fn.rows) l.fn.from l.fn.opens.items);
+}
+
+abbrev pub decreases-loop-to : goal.decreases-loop-to
+decreases-loop-to l = work (configuration (meanings l.rows) l.at l.opens.items)

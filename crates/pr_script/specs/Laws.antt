@@ -1,0 +1,19 @@
+-- Laws of the language.
+use Rattle.std.specs.Prelude.{◌≡◌, ◌≤◌, ℕ, IsTrue, List}
+use Rattle.pr_cdb.specs.declared.reply.Reply.{Reply}
+use Rattle.pr_script.specs.Scripts.{Stmts, Configuration, becomes, settled, begun}
+use Rattle.pr_script.specs.Costs.{cost_of_all, sent}
+use Rattle.pr_script.specs.Depths.{depth_of_all}
+use Rattle.pr_script.specs.Grammar.{script_fits}
+
+-- What is settled stays: it becomes nothing else.
+abbrev pub Settles : Type 0
+Settles = (l : Configuration) → becomes (settled l) ≡ settled l
+
+-- Whatever the replies are, and however many, a script sends at most as many commands as it costs.
+abbrev pub CostBoundsSends : Type 0
+CostBoundsSends = (b : Stmts) (rs : List Reply) → sent rs (begun b) ≤ cost_of_all b
+
+-- A script that may stand in a text has at most 8 repeats open at once.
+abbrev pub FittingIsShallow : Type 0
+FittingIsShallow = (keys : List ℕ) (b : Stmts) → IsTrue (script_fits keys b) → depth_of_all b ≤ 8

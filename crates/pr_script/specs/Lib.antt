@@ -1,0 +1,14 @@
+pub mod Scripts
+pub mod Trees
+pub mod Takes
+pub mod Costs
+pub mod Depths
+pub mod Seen
+pub mod Names
+pub mod Grammar
+pub mod Climbs
+pub mod Tokens
+pub mod Tables
+pub mod Walks
+pub mod Laying
+pub mod Laws

@@ -1,0 +1,61 @@
+-- Which replies an arm matches, and what a script goes on with after a reply.
+use Rattle.std.specs.Prelude.{◌≡◌, ℕ, Bool, true, false, ◌==◌, ◌&&◌, ◌∷◌, Option, Some, None, option_map, if◌then◌else◌}
+use Rattle.std.specs.List.{list_any}
+use Rattle.pr_cdb.specs.declared.reply.Sense.{Sense}
+use Rattle.pr_cdb.specs.declared.reply.Status.{Status}
+use Rattle.pr_cdb.specs.declared.reply.Status.TheVariants as status
+use Rattle.pr_cdb.specs.declared.reply.Reply.{Reply}
+use Rattle.pr_cdb.specs.ReplyData.{keys_in, holder_in}
+use Rattle.pr_script.specs.declared.script.Test.{Test}
+use Rattle.pr_script.specs.declared.script.Test.TheVariants as test
+use Rattle.pr_script.specs.Scripts.{Stmts, Arms, sends, no_arm, arm, statement, Configuration, before, settled, IsReady}
+
+abbrev pub is_good_status : Status → Bool
+is_good_status status.Good = true
+is_good_status _ = false
+
+abbrev pub is_conflict_status : Status → Bool
+is_conflict_status status.Conflict = true
+is_conflict_status _ = false
+
+-- the data of READ RESERVATION has a reservation with this key
+abbrev pub is_held_by : Option (Option (ℕ × ℕ)) → ℕ → Bool
+is_held_by (Some (Some held)) key = held.0 == key
+is_held_by _ key = false
+
+-- the data of READ RESERVATION has none
+abbrev pub is_unheld : Option (Option (ℕ × ℕ)) → Bool
+is_unheld (Some None) = true
+is_unheld _ = false
+
+abbrev pub is_attention : Option Sense → Bool
+is_attention None = false
+is_attention (Some sense) = sense.key == 0x06
+
+abbrev pub is_sense : Option Sense → Sense → Bool
+is_sense None wanted = false
+is_sense (Some sense) wanted = sense.key == wanted.key && (sense.asc == wanted.asc && sense.ascq == wanted.ascq)
+
+abbrev pub matches : Test → Reply → Bool
+matches test.Good r = is_good_status r.status
+matches (test.GoodHas key) r = is_good_status r.status && list_any (λ k. k == key) (keys_in r.bytes.items)
+matches (test.GoodHeld key) r = is_good_status r.status && is_held_by (holder_in r.bytes.items) key
+matches test.GoodUnheld r = is_good_status r.status && is_unheld (holder_in r.bytes.items)
+matches test.Conflict r = is_conflict_status r.status
+matches test.Attention r = is_attention r.sense
+matches (test.Sense wanted) r = is_sense r.sense wanted
+
+-- the body of the first arm that matches, from the top
+abbrev pub first_match : Arms → Reply → Option Stmts
+first_match no_arm r = None
+first_match (arm test body more) r = if matches test r then Some body else first_match more r
+
+-- What is still to do once the first item's send has been answered; none where no arm matches, and then
+-- the script is trapped.
+abbrev pub take : Configuration → Reply → Option Configuration
+take ((statement (sends n c a)) ∷ l) r = option_map (λ body. settled (before body l)) (first_match a r)
+take _ r = None
+
+-- a script that is ready and has no arm for the reply
+abbrev pub Traps : Configuration → Reply → Type 0
+Traps l r = IsReady l × (take l r ≡ None)

@@ -1,0 +1,186 @@
+//! Which scripts may be written.
+
+ghost use Rattle.std.specs.Prelude.{◌≡◌, ◌≤◌, ◌<◌, ◌+◌, ◌&&◌, nat_lt, is_some};
+ghost use Rattle.pr_script.specs.Trees.{script_of, statement_of, arms_in};
+ghost use Rattle.pr_script.specs.Grammar.{is_declared, is_written_key, is_written, test_fits, begins_body, is_send_written, is_repeat_written, statement_fits, statements_fit, arms_fit, script_fits};
+
+use crate::counts::{is_short, lines_rise};
+use crate::names::is_name;
+use crate::script::{Arm, Script, Statement, Test};
+use pr_cdb::{Command, Kind};
+
+const MOST_OPEN: u32 = 8;
+
+const MOST_ARMS: usize = 16;
+
+const MOST_TURNS: u32 = 1000;
+
+/// The allocation length of every PERSISTENT RESERVE IN in a script or plan: more than any data of this
+/// unit.
+pub const WRITTEN_LENGTH: u16 = 8192;
+
+impl Script {
+    /// Whether the script may stand in a text that declares these keys: its statements follow the grammar
+    /// and keep its limits, there are at most 512 of them, and the lines of its sends, which are counted
+    /// from 1, rise in the order in which they are written.
+    pub fn fits(&self, keys: &[u64]) -> bool
+        ensures { result ≡ script_fits keys.now (script_of self.now) }
+    {
+        statements_fit(keys, 0, 0, self) && is_short(self) && lines_rise(self)
+    }
+}
+
+// The statements stand in so many open repeats and open sends.
+#[cycle(fitting)]
+fn statements_fit(keys: &[u64], repeated: u32, sent: u32, script: &Script) -> bool
+    requires repeats { repeated ≤ 8 }
+    requires sends { sent ≤ 8 }
+    ensures { result ≡ statements_fit keys.now repeated sent (script_of script.now) }
+{
+    let mut fit = true;
+    for statement in &script.statements {
+        fit = fit && statement_fits(keys, repeated, sent, statement);
+    }
+    fit
+}
+
+#[cycle(fitting)]
+fn statement_fits(keys: &[u64], repeated: u32, sent: u32, statement: &Statement) -> bool
+    requires repeats { repeated ≤ 8 }
+    requires sends { sent ≤ 8 }
+    ensures { result ≡ statement_fits keys.now repeated sent (statement_of statement.now) }
+{
+    match statement {
+        Statement::Send { command, arms, .. } => send_fits(keys, repeated, sent, *command, arms),
+        Statement::Repeat { count, body } => repeat_fits(keys, repeated, sent, *count, body),
+        Statement::Break => repeated > 0,
+        Statement::Stop(word) => is_name(word.as_str().as_bytes()),
+    }
+}
+
+#[cycle(fitting)]
+fn send_fits(keys: &[u64], repeated: u32, sent: u32, command: Command, arms: &[Arm]) -> bool
+    requires repeats { repeated ≤ 8 }
+    requires sends { sent ≤ 8 }
+    ensures { result ≡ (is_send_written keys.now command (arms_in arms.now) && (nat_lt sent 8 && arms_fit keys.now repeated (sent + 1) command (arms_in arms.now))) }
+{
+    is_send_written(keys, command, arms)
+        && sent < MOST_OPEN
+        && arms_fit(keys, repeated, sent + 1, command, arms)
+}
+
+#[cycle(fitting)]
+fn repeat_fits(keys: &[u64], repeated: u32, sent: u32, count: u32, body: &Script) -> bool
+    requires repeats { repeated ≤ 8 }
+    requires sends { sent ≤ 8 }
+    ensures { result ≡ (is_repeat_written count (script_of body.now) && (nat_lt repeated 8 && statements_fit keys.now (repeated + 1) sent (script_of body.now))) }
+{
+    is_repeat_written(count, body)
+        && repeated < MOST_OPEN
+        && statements_fit(keys, repeated + 1, sent, body)
+}
+
+#[cycle(fitting)]
+fn arms_fit(keys: &[u64], repeated: u32, sent: u32, command: Command, arms: &[Arm]) -> bool
+    requires repeats { repeated ≤ 8 }
+    requires sends { sent ≤ 8 }
+    ensures { result ≡ arms_fit keys.now repeated sent command (arms_in arms.now) }
+{
+    let mut fit = true;
+    for arm in arms {
+        fit = fit && arm_fits(keys, repeated, sent, command, arm);
+    }
+    fit
+}
+
+#[cycle(fitting)]
+fn arm_fits(keys: &[u64], repeated: u32, sent: u32, command: Command, arm: &Arm) -> bool
+    requires repeats { repeated ≤ 8 }
+    requires sends { sent ≤ 8 }
+    ensures { result ≡ (test_fits keys.now command arm.now.test && statements_fit keys.now repeated sent (script_of arm.now.body)) }
+{
+    test_fits(keys, command, arm.test) && statements_fit(keys, repeated, sent, &arm.body)
+}
+
+#[tactic(auto, using(crate::proofs::Written::arms_counted))]
+fn is_send_written(keys: &[u64], command: Command, arms: &[Arm]) -> bool
+    ensures { result ≡ is_send_written keys.now command (arms_in arms.now) }
+{
+    is_written(keys, command) && arms.len() <= MOST_ARMS
+}
+
+fn is_repeat_written(count: u32, body: &Script) -> bool
+    ensures { result ≡ is_repeat_written count (script_of body.now) }
+{
+    count >= 1 && count <= MOST_TURNS && begins_body(body)
+}
+
+// The first statement of a repeat's body is a send or a repeat.
+fn begins_body(body: &Script) -> bool
+    ensures { result ≡ begins_body (script_of body.now) }
+{
+    match body.statements.first() {
+        Some(Statement::Send { .. }) => true,
+        Some(Statement::Repeat { .. }) => true,
+        _ => false,
+    }
+}
+
+// Whether an arm with this test may stand under the command.
+fn test_fits(keys: &[u64], command: Command, test: Test) -> bool
+    ensures { result ≡ test_fits keys.now command test }
+{
+    match test {
+        Test::GoodHas(key) => matches!(command, Command::ReadKeys { .. }) && is_declared(keys, key),
+        Test::GoodHeld(key) => {
+            matches!(command, Command::ReadReservation { .. }) && is_written_key(keys, key)
+        }
+        Test::GoodUnheld => matches!(command, Command::ReadReservation { .. }),
+        Test::Sense(sense) => sense.key < 16,
+        Test::Good | Test::Conflict | Test::Attention => true,
+    }
+}
+
+/// Whether a script or plan can have this command under these declared keys.
+///
+/// Its keys are zero or declared, its PREEMPTs have a type, and its PERSISTENT RESERVE INs have the
+/// allocation length [`WRITTEN_LENGTH`].
+pub fn is_written(keys: &[u64], command: Command) -> bool
+    ensures { result ≡ is_written keys.now command }
+{
+    match command {
+        Command::TestUnitReady | Command::RequestSense => true,
+        Command::Read { .. } | Command::Write { .. } => true,
+        Command::ReadKeys { alloc }
+        | Command::ReadReservation { alloc }
+        | Command::ReportCapabilities { alloc } => alloc == WRITTEN_LENGTH,
+        Command::Register { rk, sark } => is_written_key(keys, rk) && is_written_key(keys, sark),
+        Command::RegisterIgnore { sark } => is_written_key(keys, sark),
+        Command::Reserve { rk, .. } | Command::Release { rk, .. } | Command::Clear { rk } => {
+            is_written_key(keys, rk)
+        }
+        Command::Preempt { rk, sark, kind } | Command::PreemptAbort { rk, sark, kind } => {
+            is_preempt_written(keys, rk, sark, kind)
+        }
+    }
+}
+
+fn is_preempt_written(keys: &[u64], rk: u64, sark: u64, kind: Option<Kind>) -> bool
+    ensures { result ≡ (is_written_key keys.now rk && (is_written_key keys.now sark && is_some kind)) }
+{
+    is_written_key(keys, rk) && is_written_key(keys, sark) && kind.is_some()
+}
+
+/// Whether the key is zero, or one of the declared keys.
+pub fn is_written_key(keys: &[u64], key: u64) -> bool
+    ensures { result ≡ is_written_key keys.now key }
+{
+    key == 0 || is_declared(keys, key)
+}
+
+/// Whether the key is one of the declared keys.
+pub fn is_declared(keys: &[u64], key: u64) -> bool
+    ensures { result ≡ is_declared keys.now key }
+{
+    keys.iter().any(|declared| *declared == key)
+}

@@ -1,0 +1,32 @@
+//! Scripts, and the machine that runs one: which command it sends next, and what it goes on with after a
+//! reply.
+//!
+//! Contracts see a [`Script`] as the tree of its statements, and a [`Machine`] as its configuration: the
+//! list of what is still to do.
+#![tactic(auto)]
+
+mod counts;
+mod depth;
+mod grammar;
+mod laws;
+mod lay;
+mod machine;
+mod matching;
+mod names;
+mod next;
+mod rows;
+mod script;
+mod sizes;
+mod walk;
+
+pub use depth::repeat_depth;
+pub use grammar::{WRITTEN_LENGTH, is_declared, is_written, is_written_key};
+pub use laws::{cost_bounds_sends, fitting_is_shallow, settles};
+pub use machine::Machine;
+pub use names::is_name;
+pub use next::{Next, NoArm};
+pub use script::{Arm, Script, Statement, Test, Word};
+pub use sizes::cost;
+
+#[cfg(test)]
+mod tests;

@@ -1,0 +1,53 @@
+//! How many commands a script may send.
+
+ghost use Rattle.std.specs.Prelude.{◌≡◌, min};
+ghost use Rattle.pr_script.specs.Trees.{script_of, statement_of, arms_in};
+ghost use Rattle.pr_script.specs.Costs.{cost_of, cost_of_all, greatest};
+
+use crate::script::{Arm, Script, Statement};
+
+// One more than the most commands that a script may send.
+const OVER: u64 = 4097;
+
+/// The most commands that the script may send, whatever the replies are. Past 4,096 they are not
+/// counted on, and the answer is 4,097.
+#[cycle(cost)]
+pub fn cost(script: &Script) -> u64
+    ensures { result ≡ min 4097 (cost_of_all (script_of script.now)) }
+{
+    let mut total = 0;
+    for statement in &script.statements {
+        total = (total + statement_cost(statement)).min(OVER);
+    }
+    total
+}
+
+#[cycle(cost)]
+fn statement_cost(statement: &Statement) -> u64
+    ensures { result ≡ min 4097 (cost_of (statement_of statement.now)) }
+{
+    match statement {
+        Statement::Send { arms, .. } => (1 + greatest_cost(arms)).min(OVER),
+        Statement::Repeat { count, body } => (u64::from(*count) * cost(body)).min(OVER),
+        Statement::Break => 0,
+        Statement::Stop(_) => 0,
+    }
+}
+
+#[cycle(cost)]
+fn greatest_cost(arms: &[Arm]) -> u64
+    ensures { result ≡ min 4097 (greatest (arms_in arms.now)) }
+{
+    let mut most = 0;
+    for arm in arms {
+        most = arm_cost(arm).max(most);
+    }
+    most
+}
+
+#[cycle(cost)]
+fn arm_cost(arm: &Arm) -> u64
+    ensures { result ≡ min 4097 (cost_of_all (script_of arm.now.body)) }
+{
+    cost(&arm.body)
+}

@@ -1,0 +1,97 @@
+//! How a place leads to the next send or stop.
+
+ghost use Rattle.std.specs.Prelude.{◌≡◌, ℕ, ◌<◌, ◌≤◌, List, IfSome, IfNone};
+ghost use Rattle.arrayvec.specs.ArrayVec.{array_vec_len};
+ghost use Rattle.pr_script.specs.Scripts.{Stmts, none, before, turn, past_mark, becomes, settled};
+ghost use Rattle.pr_script.specs.Tables.{place, meanings, opened, configuration, AreOpens, IsPlaced, IsMachine};
+ghost use Rattle.pr_script.specs.Walks.{Leads};
+
+use crate::rows::{Row, Step};
+use arrayvec::ArrayVec;
+
+/// The repeats that are open, the innermost last.
+pub(crate) type Opens = ArrayVec<Open, 8>;
+
+/// A repeat that is open: how often its body is still to run after this time, where the body begins, and
+/// what follows the repeat.
+#[derive(Clone, Copy, Debug, Default)]
+pub(crate) struct Open {
+    pub left: u32,
+    pub body: usize,
+    pub next: usize,
+}
+
+/// The place at which a send, a stop or the script's end comes, from this one on.
+pub(crate) fn settle(rows: &[Row], from: usize, opens: &mut Opens) -> usize
+    requires { IsPlaced rows.now from opens.old.items }
+    ensures machine { IsMachine rows.now result opens.new.items }
+    ensures reached { configuration (meanings rows.now) result opens.new.items
+        ≡ settled (configuration (meanings rows.now) from opens.old.items) }
+{
+    let mut at = from;
+    while let Some(to) = walk(rows, at, opens) {
+        at = to;
+    }
+    at
+}
+
+// Where the place leads, if it is no send, no stop and not the script's end.
+fn walk(rows: &[Row], at: usize, opens: &mut Opens) -> Option<usize>
+    requires { IsPlaced rows.now at opens.old.items }
+    ensures placed { IfSome result (λ to. IsPlaced rows.now to opens.new.items) }
+    ensures leads { IfSome result (λ to. Leads (configuration (meanings rows.now) at opens.old.items)
+        (configuration (meanings rows.now) to opens.new.items)) }
+    ensures rests { IfNone result (becomes (configuration (meanings rows.now) at opens.old.items)
+        ≡ configuration (meanings rows.now) at opens.old.items) }
+    ensures same { IfNone result (opens.new ≡ opens.old) }
+{
+    if at == 0 {
+        let again = opens.pop()?;
+        return Some(enter(again, opens));
+    }
+    let row = &rows[at - 1];
+    match &row.step {
+        Step::Send { .. } => None,
+        Step::Stop(_) => None,
+        Step::Repeat { count, body } => {
+            let again = Open {
+                left: *count,
+                body: *body,
+                next: row.next,
+            };
+            Some(enter(again, opens))
+        }
+        Step::Break => Some(leave(opens)),
+    }
+}
+
+// Runs the body once more where it is still to run, and else goes on after the repeat.
+fn enter(again: Open, opens: &mut Opens) -> usize
+    requires { 0 < again.left → array_vec_len opens.old < 8 }
+    ensures to { (ms : List Stmts) → configuration ms result opens.new.items
+        ≡ turn again.left (place ms again.body) (before (place ms again.next) (opened ms opens.old.items)) }
+    ensures within { (top : ℕ) → again.body ≤ top → again.next ≤ top → AreOpens top opens.old.items
+        → (result ≤ top) × AreOpens top opens.new.items }
+{
+    if again.left == 0 {
+        return again.next;
+    }
+    opens.push(Open {
+        left: again.left - 1,
+        body: again.body,
+        next: again.next,
+    });
+    again.body
+}
+
+// Goes on after the innermost repeat.
+fn leave(opens: &mut Opens) -> usize
+    ensures to { (ms : List Stmts) → place ms 0 ≡ none
+        → configuration ms result opens.new.items ≡ past_mark (opened ms opens.old.items) }
+    ensures within { (top : ℕ) → AreOpens top opens.old.items → (result ≤ top) × AreOpens top opens.new.items }
+{
+    match opens.pop() {
+        Some(left) => left.next,
+        None => 0,
+    }
+}
