@@ -1,0 +1,54 @@
+-- Lists without repetition, and lists of parts.
+use Rattle.std.specs.Prelude.{◌≡◌, ℕ, ◌<◌, Bool, true, false, ◌&&◌, ◌||◌, not, List, [], ◌∷◌, length, map, bytes_eq, slice_index_or}
+use Rattle.std.specs.List.{list_any, list_all}
+use Rattle.std.proofs.Common.{refl, ap, sym, ◌∙◌, arith}
+use Rattle.std.proofs.lemmas.List.{get_or-map}
+use Rattle.pr_roles.specs.declared.parts.Nexus.{Nexus as NexusPart}
+use Rattle.pr_roles.specs.Scenarios.{Nexus, nexus_of}
+use Rattle.pr_roles.specs.Fitting.{are_distinct}
+
+any_same : {X : Type 0} (f g : X → Bool) → ((x : X) → f x ≡ g x) → (xs : List X) → list_any f xs ≡ list_any g xs
+any_same f g same [] = refl
+any_same f g same (x ∷ xs) = ap (λ b. b || list_any f xs) (same x) ∙ ap (λ b. g x || b) (any_same f g same xs)
+
+-- by tests that agree
+pub distinct_same : {X : Type 0} (e f : X → X → Bool) → ((x y : X) → e x y ≡ f x y) → (xs : List X) → are_distinct e xs ≡ are_distinct f xs
+distinct_same e f same [] = refl
+distinct_same e f same (x ∷ xs) =
+    ap (λ b. not b && are_distinct e xs) (any_same (λ y. e y x) (λ y. f y x) (λ y. same y x) xs)
+    ∙ ap (λ b. not (list_any (λ y. f y x) xs) && b) (distinct_same e f same xs)
+
+pub all_of_parts : (p : Nexus → Bool) (ns : List NexusPart) → list_all p (map nexus_of ns) ≡ list_all (λ n. p (nexus_of n)) ns
+all_of_parts p [] = refl
+all_of_parts p (n ∷ ns) = ap (λ b. p (nexus_of n) && b) (all_of_parts p ns)
+
+pub names_of_parts : (ns : List NexusPart) → map (λ n. n.name) (map nexus_of ns) ≡ map (λ n. n.name.bytes) ns
+names_of_parts [] = refl
+names_of_parts (n ∷ ns) = ap (λ l. n.name.bytes ∷ l) (names_of_parts ns)
+
+pub length_of_parts : (ns : List NexusPart) → length (map nexus_of ns) ≡ length ns
+length_of_parts [] = refl
+length_of_parts (n ∷ ns) = omega (arith, length_of_parts ns)
+
+-- ---- names
+
+any_named : (x : NexusPart) (ns : List NexusPart)
+    → list_any (λ y. bytes_eq y x.name.bytes) (map (λ n. n.name.bytes) ns) ≡ list_any (λ o. bytes_eq o.name.bytes x.name.bytes) ns
+any_named x [] = refl
+any_named x (n ∷ ns) = ap (λ b. bytes_eq n.name.bytes x.name.bytes || b) (any_named x ns)
+
+-- one of the others has the name of the first
+pub named_again : (x : NexusPart) (ns : List NexusPart) → list_any (λ o. bytes_eq o.name.bytes x.name.bytes) ns ≡ true
+    → are_distinct bytes_eq (map (λ n. n.name.bytes) (x ∷ ns)) ≡ false
+named_again x ns again = ap (λ b. not b && are_distinct bytes_eq (map (λ n. n.name.bytes) ns)) (any_named x ns ∙ again)
+
+-- none has
+pub named_once : (x : NexusPart) (ns : List NexusPart) → list_any (λ o. bytes_eq o.name.bytes x.name.bytes) ns ≡ false
+    → are_distinct bytes_eq (map (λ n. n.name.bytes) (x ∷ ns)) ≡ are_distinct bytes_eq (map (λ n. n.name.bytes) ns)
+named_once x ns once = ap (λ b. not b && are_distinct bytes_eq (map (λ n. n.name.bytes) ns)) (any_named x ns ∙ once)
+
+-- equal parts are equal place by place
+pub part_at : (ns ms : List NexusPart) (i : ℕ) (d e : NexusPart) → i < length ns → i < length ms → map nexus_of ns ≡ map nexus_of ms
+    → nexus_of (slice_index_or ns i d) ≡ nexus_of (slice_index_or ms i e)
+part_at ns ms i d e here there same =
+    sym (get_or-map nexus_of ns i d (nexus_of d) here) ∙ (ap (λ l. slice_index_or l i (nexus_of d)) same ∙ get_or-map nexus_of ms i e (nexus_of d) there)

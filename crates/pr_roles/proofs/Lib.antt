@@ -1,0 +1,4 @@
+pub mod Apart
+pub mod Starting
+pub mod Reserving
+pub mod Allowed

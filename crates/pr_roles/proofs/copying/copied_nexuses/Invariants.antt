@@ -1,0 +1,8 @@
+use Rattle.std.proofs.Common.{◌≡◌, take}
+use Rattle.std.specs.Prelude.{map}
+use Rattle.pr_roles.specs.Scenarios.{nexus_of}
+use Rattle.pr_roles.proofs.copying.copied_nexuses.Given as goal
+
+-- what was copied so far is equal
+abbrev pub invariant-loop-nexus : goal.invariant-loop-nexus
+invariant-loop-nexus l = map nexus_of l.copies.items ≡ map nexus_of (take l.nexus-index l.nexuses)

@@ -1,0 +1,6 @@
+use Rattle.std.proofs.Common.{◌≡◌, take}
+use Rattle.pr_roles.proofs.copying.same_commands.Given as goal
+
+-- those before this one are equal
+abbrev pub invariant-loop-i : goal.invariant-loop-i
+invariant-loop-i l = take l.i l.commands ≡ take l.i l.others

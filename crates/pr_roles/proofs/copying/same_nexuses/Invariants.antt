@@ -1,0 +1,8 @@
+use Rattle.std.proofs.Common.{◌≡◌, take}
+use Rattle.std.specs.Prelude.{map}
+use Rattle.pr_roles.specs.Scenarios.{nexus_of}
+use Rattle.pr_roles.proofs.copying.same_nexuses.Given as goal
+
+-- those before this one are equal
+abbrev pub invariant-loop-i : goal.invariant-loop-i
+invariant-loop-i l = map nexus_of (take l.i l.nexuses) ≡ map nexus_of (take l.i l.others)

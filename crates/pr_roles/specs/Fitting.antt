@@ -1,0 +1,86 @@
+-- Which parts make a scenario: the limits, and the conditions of its text.
+use Rattle.std.specs.Prelude.{ℕ, Bool, true, false, ◌==◌, ◌&&◌, not, nat_lt, nat_le, IsTrue, List, [], ◌∷◌, Option, Some, None, length, map, bytes_eq}
+use Rattle.std.specs.List.{All, list_any, list_all}
+use Rattle.pr_registry.specs.declared.held.Held.{Held}
+use Rattle.pr_registry.specs.declared.held.Held.TheVariants.{One, All as Everybody}
+use Rattle.pr_registry.specs.Registrations.{IsKey, is_all}
+use Rattle.pr_registry.specs.Changes.{is_kind}
+use Rattle.pr_script.specs.Names.{is_name}
+use Rattle.pr_script.specs.Grammar.{is_declared, is_written_key, is_written, script_fits}
+use Rattle.pr_roles.specs.declared.role.Action.{Action}
+use Rattle.pr_roles.specs.declared.role.Action.TheVariants as action
+use Rattle.pr_roles.specs.declared.role.Clause.{Clause}
+use Rattle.pr_roles.specs.Scenarios.{Scenario, Nexus, Task, Scripted, Planned}
+
+-- no two are equal
+abbrev pub are_distinct : {X : Type 0} → (X → X → Bool) → List X → Bool
+are_distinct same [] = true
+are_distinct same (x ∷ xs) = not (list_any (λ y. same y x) xs) && are_distinct same xs
+
+-- ---- the parts of a nexus
+
+-- a key that a clause names is declared, and a PREEMPT's may be zero
+abbrev pub is_action : List ℕ → Action → Bool
+is_action keys (action.Register key) = is_declared keys key
+is_action keys (action.Preempt key kind) = is_written_key keys key
+is_action keys a = true
+
+abbrev pub is_role : List ℕ → List Clause → Bool
+is_role keys clauses = nat_le (length clauses) 32 && list_all (λ clause. is_action keys clause.action) clauses
+
+-- free, or a declared key
+abbrev pub is_alternative : List ℕ → Option ℕ → Bool
+is_alternative keys None = true
+is_alternative keys (Some key) = is_declared keys key
+
+abbrev pub is_same_alternative : Option ℕ → Option ℕ → Bool
+is_same_alternative None None = true
+is_same_alternative (Some j) (Some k) = j == k
+is_same_alternative _ _ = false
+
+abbrev pub is_start : List ℕ → List (Option ℕ) → Bool
+is_start keys alternatives =
+    not (length alternatives == 0) && (list_all (is_alternative keys) alternatives && are_distinct is_same_alternative alternatives)
+
+abbrev pub is_task : List ℕ → Task → Bool
+is_task keys (Scripted script budget) = script_fits keys script && (nat_le 1 budget && nat_le budget 4096)
+is_task keys (Planned commands) = nat_le (length commands) 256 && list_all (is_written keys) commands
+
+abbrev pub is_nexus : List ℕ → Nexus → Bool
+is_nexus keys n = is_name n.name && (is_role keys n.role && (is_start keys n.start && is_task keys n.task))
+
+-- ---- the reservations
+
+-- none, or one whose type belongs to its holders; a single holder is one of so many hosts and guests
+abbrev pub is_reservation : ℕ → Option Held → Bool
+is_reservation hosts None = true
+is_reservation hosts (Some (One kind h)) = not (is_all kind) && nat_lt h hosts
+is_reservation hosts (Some (Everybody kind)) = is_all kind
+
+abbrev pub is_same_reservation : Option Held → Option Held → Bool
+is_same_reservation None None = true
+is_same_reservation (Some (One s g)) (Some (One t h)) = is_kind s t && g == h
+is_same_reservation (Some (Everybody s)) (Some (Everybody t)) = is_kind s t
+is_same_reservation _ _ = false
+
+abbrev pub are_reservations : ℕ → List (Option Held) → Bool
+are_reservations hosts vs = not (length vs == 0) && (list_all (is_reservation hosts) vs && are_distinct is_same_reservation vs)
+
+-- ---- the whole
+
+-- at most 12 keys, none of them zero, each declared once
+pub record AreDeclared (keys : List ℕ) : Type 0 where
+  pub each : All IsKey keys
+  pub once : IsTrue (nat_le (length keys) 12 && are_distinct (λ j k. j == k) keys)
+
+-- 1 to 8 hosts and guests, each with a name of its own
+abbrev pub are_nexuses : List ℕ → List Nexus → Bool
+are_nexuses keys nexuses =
+    not (length nexuses == 0) && (nat_le (length nexuses) 8
+    && (are_distinct bytes_eq (map (λ n. n.name) nexuses) && list_all (is_nexus keys) nexuses))
+
+-- The parts can be those of a text: each limit is kept, and each key that is written is declared.
+pub record Fits (s : Scenario) : Type 0 where
+  pub keys : AreDeclared s.keys
+  pub reservations : IsTrue (are_reservations (length s.nexuses) s.reservations)
+  pub nexuses : IsTrue (are_nexuses s.keys s.nexuses)

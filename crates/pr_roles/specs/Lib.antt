@@ -1,0 +1,7 @@
+pub mod Permits
+pub mod Scenarios
+pub mod Starts
+pub mod Fitting
+pub mod Worlds
+pub mod Schedules
+pub mod Safety

@@ -1,0 +1,129 @@
+-- A logical unit with the scripts that drive it, and what may happen to them. One event is one command of one
+-- host or guest: it is executed and answered, and a host's script takes the reply.
+use Rattle.std.specs.Prelude.{◌≡◌, ℕ, ◌==◌, Bool, true, false, IsTrue, List, [], ◌∷◌, ◌++◌, Option, Some, None, map, slice_set, Ok}
+use Rattle.std.specs.List.{slice_get, count_by}
+use Rattle.std.specs.Option.{option_map_or}
+use Rattle.pr_cdb.specs.declared.command.Command.{Command}
+use Rattle.pr_cdb.specs.declared.reply.Reply.{Reply}
+use Rattle.pr_cdb.specs.declared.wire.Wire.{Wire}
+use Rattle.pr_cdb.specs.declared.wire.Request.{Request}
+use Rattle.pr_cdb.specs.declared.wire.Request.TheVariants.{Plain}
+use Rattle.pr_cdb.specs.Requests.{requested, AreBytes}
+use Rattle.pr_cdb.specs.Spelling.{spelling}
+use Rattle.pr_unit.specs.UnitStates.{UnitState}
+use Rattle.pr_unit.specs.Replies.{is_good}
+use Rattle.pr_unit.specs.Steps.{Step}
+use Rattle.pr_script.specs.Scripts.{Configuration, Standing, ready, standing, begun}
+use Rattle.pr_script.specs.Takes.{take}
+use Rattle.pr_roles.specs.declared.entry.Entry.{Entry}
+use Rattle.pr_roles.specs.Permits.{is_permitted}
+use Rattle.pr_roles.specs.Scenarios.{Scenario, Task, Scripted, Planned, role, task}
+
+-- What a host or guest does: a host's script goes on, or it met a reply without an arm at the send of this
+-- line; a guest sends what it likes.
+pub data Control : Type 0 where
+  Going : Configuration → Control
+  Trapped : ℕ → Control
+  Free : Control
+
+-- what comes next of a script
+abbrev pub standing_of : Control → Option Standing
+standing_of (Going l) = standing l
+standing_of (Trapped line) = None
+standing_of Free = None
+
+abbrev pub going_or_trapped : ℕ → Option Configuration → Control
+going_or_trapped line None = Trapped line
+going_or_trapped line (Some l) = Going l
+
+-- after a reply to the send of this line
+abbrev pub taken : ℕ → Control → Reply → Control
+taken line (Going l) r = going_or_trapped line (take l r)
+taken line (Trapped at) r = Trapped at
+taken line Free r = Free
+
+pub record World : Type 0 where
+  pub unit : UnitState
+  pub controls : List Control
+  pub entries : List Entry
+
+-- one that is not there does nothing
+abbrev pub control : World → ℕ → Control
+control w h = option_map_or (λ c. c) (slice_get w.controls h) Free
+
+abbrev pub entry_of : ℕ → Wire → Reply → Entry
+entry_of h wire r = record { host = h; wire = wire; reply = r }
+
+-- the world once h has sent these bytes: the unit's state is another, the reply is taken, and the entry stands
+-- last in the history
+abbrev pub after : World → ℕ → ℕ → Wire → Reply → UnitState → World
+after w h line wire r unit = record {
+  unit = unit;
+  controls = slice_set w.controls h (taken line (control w h) r);
+  entries = w.entries ++ entry_of h wire r ∷ [];
+}
+
+-- ---- events
+
+-- a host's script sends, or a guest sends these bytes
+pub data Event : Type 0 where
+  Host : ℕ → Event
+  Guest : ℕ → Wire → Event
+
+-- The command that host h is ready to send is executed, and its script takes the reply.
+pub record HostSends (w : World) (h : ℕ) (v : World) : Type 0 where
+  pub line : ℕ
+  pub command : Command
+  pub ready : standing_of (control w h) ≡ Some (ready line command)
+  pub reply : Reply
+  pub unit : UnitState
+  pub step : Step w.unit h (Plain command) reply unit
+  pub world : v ≡ after w h line (spelling command) reply unit
+
+abbrev pub is_guest_task : Option Task → Bool
+is_guest_task None = false
+is_guest_task (Some (Scripted script budget)) = false
+is_guest_task (Some (Planned commands)) = true
+
+abbrev pub is_guest : Scenario → ℕ → Bool
+is_guest s g = is_guest_task (task s g)
+
+-- Any bytes that are a request may come from a guest at any time; where they end GOOD, its role permits that.
+pub record GuestSends (s : Scenario) (w : World) (g : ℕ) (wire : Wire) (v : World) : Type 0 where
+  pub guest : IsTrue (is_guest s g)
+  pub bytes : AreBytes wire.cdb.items × AreBytes wire.params.items
+  pub request : Request
+  pub read : requested wire ≡ Ok request
+  pub reply : Reply
+  pub unit : UnitState
+  pub step : Step w.unit g request reply unit
+  pub permitted : is_good reply ≡ true → IsTrue (is_permitted (role s g) w.unit.registry g request)
+  pub world : v ≡ after w g 0 wire reply unit
+
+abbrev pub Happens : Scenario → World → Event → World → Type 0
+Happens s w (Host h) v = HostSends w h v
+Happens s w (Guest g wire) v = GuestSends s w g wire v
+
+-- these events, one after another, lead from w to v
+abbrev pub Run : Scenario → World → List Event → World → Type 0
+Run s w [] v = v ≡ w
+Run s w (e ∷ es) v = (mid : World) × Happens s w e mid × Run s mid es v
+
+-- ---- the beginning
+
+abbrev pub control_of : Task → Control
+control_of (Scripted script budget) = Going (begun script)
+control_of (Planned commands) = Free
+
+-- each script at its beginning over this unit, and no command sent
+abbrev pub world_from : Scenario → UnitState → World
+world_from s unit = record { unit = unit; controls = map (λ n. control_of n.task) s.nexuses; entries = [] }
+
+-- how many commands of h reached the unit
+abbrev pub sent : List Entry → ℕ → ℕ
+sent entries h = count_by (λ e. e.host == h) entries
+
+abbrev pub is_trapped : Control → Bool
+is_trapped (Going l) = false
+is_trapped (Trapped line) = true
+is_trapped Free = false

@@ -1,0 +1,187 @@
+//! Equal parts, and whether parts are equal.
+
+ghost use Rattle.std.specs.Prelude.{◌≡◌, ◌↔◌, IsTrue, IfOk, map};
+ghost use Rattle.pr_roles.specs.Scenarios.{scenario_of, nexus_of, task_of};
+
+use crate::parts::{Nexus, Parts, Start, Task};
+use crate::role::{Clause, Role};
+use pr_cdb::Command;
+use pr_registry::Held;
+use pr_script::Word;
+use std::alloc::{AllocError, Global};
+
+impl Parts {
+    /// Equal ones.
+    #[tactic(auto, unfolding(crate::specs::Scenarios::scenario_of))]
+    pub fn copy(&self, alloc: Global) -> Result<Parts, AllocError>
+        ensures { IfOk result (λ copy. scenario_of copy ≡ scenario_of self.now) }
+    {
+        Ok(Parts {
+            keys: Vec::from_slice(alloc, &self.keys)?,
+            reservations: Vec::from_slice(alloc, &self.reservations)?,
+            generation: self.generation,
+            nexuses: copied_nexuses(alloc, &self.nexuses)?,
+        })
+    }
+
+    /// Whether the other parts are equal.
+    #[tactic(auto, unfolding(crate::specs::Scenarios::scenario_of))]
+    pub fn same(&self, other: &Parts) -> bool
+        ensures { IsTrue result ↔ (scenario_of self.now ≡ scenario_of other.now) }
+    {
+        same_keys(&self.keys, &other.keys)
+            && same_reservations(&self.reservations, &other.reservations)
+            && self.generation == other.generation
+            && same_nexuses(&self.nexuses, &other.nexuses)
+    }
+}
+
+fn same_keys(keys: &[u64], others: &[u64]) -> bool
+    ensures { IsTrue result ↔ (keys.now ≡ others.now) }
+{
+    keys == others
+}
+
+fn same_reservations(reservations: &[Option<Held>], others: &[Option<Held>]) -> bool
+    ensures { IsTrue result ↔ (reservations.now ≡ others.now) }
+{
+    reservations == others
+}
+
+fn same_name(name: &Word, other: &Word) -> bool
+    ensures { IsTrue result ↔ (name.now.bytes ≡ other.now.bytes) }
+{
+    name == other
+}
+
+fn same_clauses(clauses: &[Clause], others: &[Clause]) -> bool
+    ensures { IsTrue result ↔ (clauses.now ≡ others.now) }
+{
+    if clauses.len() != others.len() {
+        return false;
+    }
+    for (i, clause) in clauses.iter().enumerate() {
+        if !same_clause(*clause, others[i]) {
+            return false;
+        }
+    }
+    true
+}
+
+fn same_clause(clause: Clause, other: Clause) -> bool
+    ensures { IsTrue result ↔ (clause ≡ other) }
+{
+    clause == other
+}
+
+fn same_alternatives(alternatives: &[Option<u64>], others: &[Option<u64>]) -> bool
+    ensures { IsTrue result ↔ (alternatives.now ≡ others.now) }
+{
+    alternatives == others
+}
+
+fn same_commands(commands: &[Command], others: &[Command]) -> bool
+    ensures { IsTrue result ↔ (commands.now ≡ others.now) }
+{
+    if commands.len() != others.len() {
+        return false;
+    }
+    for (i, command) in commands.iter().enumerate() {
+        if !same_command(*command, others[i]) {
+            return false;
+        }
+    }
+    true
+}
+
+fn same_command(command: Command, other: Command) -> bool
+    ensures { IsTrue result ↔ (command ≡ other) }
+{
+    command == other
+}
+
+fn copied_nexuses(alloc: Global, nexuses: &[Nexus]) -> Result<Vec<Nexus>, AllocError>
+    ensures { IfOk result (λ copies. map nexus_of copies.items ≡ map nexus_of nexuses.now) }
+{
+    let mut copies = Vec::with_capacity(alloc, nexuses.len())?;
+    for nexus in nexuses {
+        copies.push(nexus.copy(alloc)?)?;
+    }
+    Ok(copies)
+}
+
+fn same_nexuses(nexuses: &[Nexus], others: &[Nexus]) -> bool
+    ensures { IsTrue result ↔ (map nexus_of nexuses.now ≡ map nexus_of others.now) }
+{
+    if nexuses.len() != others.len() {
+        return false;
+    }
+    for (i, nexus) in nexuses.iter().enumerate() {
+        if !nexus.same(&others[i]) {
+            return false;
+        }
+    }
+    true
+}
+
+impl Nexus {
+    /// An equal one.
+    fn copy(&self, alloc: Global) -> Result<Nexus, AllocError>
+        ensures { IfOk result (λ copy. nexus_of copy ≡ nexus_of self.now) }
+    {
+        Ok(Nexus {
+            name: self.name,
+            role: Role {
+                clauses: Vec::from_slice(alloc, &self.role.clauses)?,
+            },
+            start: Start {
+                alternatives: Vec::from_slice(alloc, &self.start.alternatives)?,
+            },
+            pending: self.pending.copy(),
+            task: self.task.copy(alloc)?,
+        })
+    }
+
+    /// Whether the other is equal.
+    fn same(&self, other: &Nexus) -> bool
+        ensures { IsTrue result ↔ (nexus_of self.now ≡ nexus_of other.now) }
+    {
+        same_name(&self.name, &other.name)
+            && same_clauses(&self.role.clauses, &other.role.clauses)
+            && same_alternatives(&self.start.alternatives, &other.start.alternatives)
+            && self.pending == other.pending
+            && self.task.same(&other.task)
+    }
+}
+
+impl Task {
+    /// An equal one.
+    fn copy(&self, alloc: Global) -> Result<Task, AllocError>
+        ensures { IfOk result (λ copy. task_of copy ≡ task_of self.now) }
+    {
+        match self {
+            Task::Scripted { script, budget } => Ok(Task::Scripted {
+                script: script.copy(alloc)?,
+                budget: *budget,
+            }),
+            Task::Planned(commands) => Ok(Task::Planned(Vec::from_slice(alloc, commands)?)),
+        }
+    }
+
+    /// Whether the other is equal.
+    fn same(&self, other: &Task) -> bool
+        ensures { IsTrue result ↔ (task_of self.now ≡ task_of other.now) }
+    {
+        match (self, other) {
+            (
+                Task::Scripted { script, budget },
+                Task::Scripted {
+                    script: other_script,
+                    budget: other_budget,
+                },
+            ) => budget == other_budget && script.same(other_script),
+            (Task::Planned(commands), Task::Planned(others)) => same_commands(commands, others),
+            _ => false,
+        }
+    }
+}

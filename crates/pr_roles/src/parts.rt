@@ -1,0 +1,47 @@
+//! The parts of a scenario.
+
+use crate::role::Role;
+use pr_attention::Pending;
+use pr_cdb::Command;
+use pr_registry::Held;
+use pr_script::{Script, Word};
+
+/// What a host or guest may be registered with at the start: one of these keys, or none.
+#[derive(Debug, Drop, PartialEq, Eq)]
+pub struct Start {
+    pub alternatives: Vec<Option<u64>>,
+}
+
+/// What a nexus does: a host runs a script, and a guest sends what it likes. Its plan is what it sends
+/// where a scenario is run.
+#[derive(Debug, Drop)]
+pub enum Task {
+    Scripted {
+        script: Script,
+        /// The most commands that the script may send, as it says itself.
+        budget: u32,
+    },
+    Planned(Vec<Command>),
+}
+
+/// A host or guest (SAM-5, 'I_T nexus').
+#[derive(Debug, Drop)]
+pub struct Nexus {
+    pub name: Word,
+    pub role: Role,
+    pub start: Start,
+    /// The attentions that may be pending for it at the start.
+    pub pending: Pending,
+    pub task: Task,
+}
+
+/// What a scenario declares. Hosts and guests are numbered from 0 in the order of their declaration.
+#[derive(Debug, Drop)]
+pub struct Parts {
+    pub keys: Vec<u64>,
+    /// The reservations that there may be at the start, or none.
+    pub reservations: Vec<Option<Held>>,
+    /// The generation of the first start.
+    pub generation: u32,
+    pub nexuses: Vec<Nexus>,
+}
