@@ -1,0 +1,78 @@
+-- What is declared fits.
+use Rattle.std.specs.Prelude.{◌≡◌, ℕ, ◌≤◌, Bool, true, false, cond, ◌&&◌, ◌==◌, not, nat_le, List, [], ◌∷◌, length, map, Option, Some, None, bytes_eq, unwrap_or, IsTrue}
+use Rattle.std.specs.List.{list_all}
+use Rattle.std.proofs.Common.{refl, sym, subst, ap, ◌∙◌, arith}
+use Rattle.std.proofs.lemmas.List.{length-map}
+use Rattle.std.proofs.lemmas.Bool.{and_parts}
+use Rattle.std.proofs.lemmas.Bool.Decides.{nat_tests}
+use Rattle.std.proofs.lemmas.Simd.{map-map}
+use Rattle.pr_cdb.specs.declared.command.Command.{Command}
+use Rattle.pr_roles.specs.Scenarios.{Scenario, Nexus, Task, Scripted, Planned}
+use Rattle.pr_roles.specs.Fitting.{Fits, AreDeclared, are_reservations, are_nexuses, are_distinct, is_nexus, is_role, is_start, is_task}
+use Rattle.pr_script.specs.Names.{is_name}
+use Rattle.pr_text.specs.ScriptLines.{body_lines}
+use Rattle.pr_text.specs.Declarations.{WrittenTask, scripted, planned, Declaration, Declared, Place, before_all, outside, in_script, in_plan}
+use Rattle.pr_text.specs.Declaring.{declared_keys}
+use Rattle.pr_text.specs.Texts.{start_of, end_fault, end_fault_at, first_unscripted}
+use Rattle.pr_text.specs.Readings.{WrittenNexus, task_written, nexus_written, nexus_declared, IsDeclaredBy}
+use Rattle.pr_text.specs.Sound.{AreWhole, IsTask, IsDeclaration, AreDeclarations, IsSound, is_plan}
+use Rattle.pr_text.proofs.Trees.{both, whole_fits}
+
+-- ---- one host or guest
+
+task_known : (keys : List ℕ) (t : Task) (w : WrittenTask) → task_written t ≡ w → IsTask keys (Some w) → is_task keys t ≡ true
+task_known keys (Scripted b budget) w e h =
+    let known : IsTask keys (Some (scripted (body_lines b) budget)) = subst (λ v. IsTask keys (Some v)) (sym e) h in
+    both _ _ (whole_fits keys b known.0) known.1
+task_known keys (Planned commands) w e h = subst (λ v. IsTask keys (Some v)) (sym e) h
+
+task_fits : (keys : List ℕ) (t : Task) (o : Option WrittenTask) → task_written t ≡ unwrap_or o (planned []) → IsTask keys o → is_task keys t ≡ true
+task_fits keys t None e h = task_known keys t (planned []) e refl
+task_fits keys t (Some w) e h = task_known keys t w e h
+
+nexus_fits : (keys : List ℕ) (n : Nexus) (x : Declaration) → nexus_written n ≡ nexus_declared x → IsDeclaration keys x → is_nexus keys n ≡ true
+nexus_fits keys n x e h =
+    let described = and_parts (is_name x.name) _ h.described in
+    let rest = and_parts (is_role keys x.role) _ described.1 in
+    both _ _ (ap (λ w. is_name w.name) e ∙ described.0) (
+    both _ _ (ap (λ w. is_role keys w.role) e ∙ rest.0) (
+    both _ _ (ap (λ w. is_start keys w.start) e ∙ rest.1) (task_fits keys n.task x.task (ap (λ w. w.task) e) h.task)))
+
+head_same : (a b : WrittenNexus) (more bs : List WrittenNexus) → a ∷ more ≡ b ∷ bs → a ≡ b
+head_same a b more bs e = cc
+
+tail_same : (a b : WrittenNexus) (more bs : List WrittenNexus) → a ∷ more ≡ b ∷ bs → more ≡ bs
+tail_same a b more bs e = cc
+
+each_fits : (keys : List ℕ) (ns : List Nexus) (xs : List Declaration) → map nexus_written ns ≡ map nexus_declared xs → AreDeclarations keys xs → list_all (is_nexus keys) ns ≡ true
+each_fits keys [] xs e h = refl
+each_fits keys (n ∷ ns) [] e h = cc
+each_fits keys (n ∷ ns) (x ∷ xs) e h =
+    both _ _ (nexus_fits keys n x (head_same _ _ _ _ e) h.0) (each_fits keys ns xs (tail_same _ _ _ _ e) h.1)
+
+-- ---- the whole
+
+some_left : {A : Type 0} (b : Bool) (x : A) (o : Option A) → cond b (Some x) o ≡ None → not b ≡ true
+some_left true x o e = cc
+some_left false x o e = refl
+
+some_nexus : (n : ℕ) (d : Declared) (p : Place) → end_fault_at n d p ≡ None → not (length d.nexuses == 0) ≡ true
+some_nexus n d before_all e = cc
+some_nexus n d outside e = some_left (length d.nexuses == 0) _ _ e
+some_nexus n d (in_script o) e = cc
+some_nexus n d (in_plan h commands) e = cc
+
+pub declared_fits : (n : ℕ) (d : Declared) (s : Scenario) → IsSound n d → end_fault n d ≡ None → IsDeclaredBy d s → Fits s
+declared_fits n d s sound faultless kept =
+    let long : length s.nexuses ≡ length d.nexuses = sym (length-map s.nexuses nexus_written) ∙ (ap length kept.nexuses ∙ length-map d.nexuses nexus_declared) in
+    let named : map (λ x. x.name) s.nexuses ≡ map (λ x. x.name) d.nexuses =
+    sym (map-map (λ w. w.name) nexus_written s.nexuses) ∙ (ap (map (λ w. w.name)) kept.nexuses ∙ map-map (λ w. w.name) nexus_declared d.nexuses) in
+    let keys : s.keys ≡ declared_keys d = kept.keys in
+    record {
+      keys = rw keys sound.keys;
+      reservations = rw (kept.reservations, long) sound.reservations;
+      nexuses = rw (long, named, keys) (
+          both _ _ (some_nexus n d d.place faultless) (
+          both _ _ sound.few (
+          both _ _ sound.apart (each_fits (declared_keys d) s.nexuses d.nexuses kept.nexuses sound.each))));
+    }

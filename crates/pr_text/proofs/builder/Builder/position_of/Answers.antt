@@ -1,0 +1,6 @@
+use Rattle.std.proofs.Common.{sym, ◌∙◌}
+use Rattle.pr_text.proofs.Drafts.{position_of}
+use Rattle.pr_text.proofs.builder.Builder.position_of.Goals as goal
+
+pub returns-clause-value : goal.returns-clause-value
+returns-clause-value c = rw (position_of c.args.self.now.nexuses.items c.args.name.now.bytes) (cc)

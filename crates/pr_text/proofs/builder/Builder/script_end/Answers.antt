@@ -1,0 +1,11 @@
+use Rattle.std.proofs.Common.{◌≡◌, true, Ok, sym, ap, ◌∙◌, length}
+use Rattle.std.specs.Prelude.{◌==◌}
+use Rattle.pr_text.specs.OpenScripts.{open_seen}
+use Rattle.pr_text.proofs.OpenLines.{closed_lines}
+use Rattle.pr_text.proofs.builder.Builder.script_end.Goals as goal
+
+pub returns : goal.returns
+returns c =
+    let closed : (length (open_seen c.args.script).blocks == 0) ≡ true = sym c.is_closed.ensures ∙ c.if-not-is_closed.false in
+    let lines = closed_lines c.args.script.armless c.args.script.outer.items c.args.script.body.items closed in
+    rw (closed, lines) (ap (λ d. Ok d) (sym c.set_task.ensures))

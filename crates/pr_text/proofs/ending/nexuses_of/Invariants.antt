@@ -1,0 +1,8 @@
+use Rattle.std.proofs.Common.{◌≡◌, map}
+use Rattle.pr_roles.specs.Scenarios.{nexus_of}
+use Rattle.pr_text.specs.Drafts.{draft_seen}
+use Rattle.pr_text.specs.Readings.{nexus_written, nexus_declared}
+use Rattle.pr_text.proofs.ending.nexuses_of.Given as goal
+
+abbrev pub invariant-loop-draft : goal.invariant-loop-draft
+invariant-loop-draft l = map nexus_written (map nexus_of l.nexuses.items) ≡ map nexus_declared (map draft_seen l.yielded)

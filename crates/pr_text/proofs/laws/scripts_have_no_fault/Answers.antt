@@ -1,0 +1,5 @@
+use Rattle.pr_text.proofs.Rereading.{reread}
+use Rattle.pr_text.proofs.laws.scripts_have_no_fault.Goals as goal
+
+pub returns : goal.returns
+returns c = reread

@@ -1,0 +1,5 @@
+use Rattle.pr_text.proofs.OneReading.{written_once}
+use Rattle.pr_text.proofs.laws.texts_are_written_once.Goals as goal
+
+pub returns : goal.returns
+returns c = written_once

@@ -1,0 +1,95 @@
+-- The options that spell a PERSISTENT RESERVE command, as in the manual of `sg_persist`.
+use Rattle.std.specs.Prelude.{ℕ, Bool, ◌&&◌, if◌then◌else◌, List, [], ◌∷◌, codes, bytes_eq, Option, Some, None, is_none, unwrap_or, option_map}
+use Rattle.std.specs.Option.{option_or}
+use Rattle.pr_cdb.specs.declared.command.Kind.{Kind}
+use Rattle.pr_cdb.specs.declared.command.Command.{Command}
+use Rattle.pr_cdb.specs.declared.command.Command.TheVariants.{ReadKeys, ReadReservation, ReportCapabilities, Register, RegisterIgnore, Reserve, Release, Clear, Preempt, PreemptAbort}
+use Rattle.pr_text.specs.declared.options.Way.{Way}
+use Rattle.pr_text.specs.declared.options.Way.TheVariants.{In, Out}
+use Rattle.pr_text.specs.declared.options.Action.{Action}
+use Rattle.pr_text.specs.declared.options.Action.TheVariants as action
+use Rattle.pr_text.specs.declared.options.CommandOption.{CommandOption}
+use Rattle.pr_text.specs.declared.options.CommandOption.TheVariants.{Toward, Doing, Rk, Sark, OfKind}
+use Rattle.pr_text.specs.declared.options.Written.{Written}
+use Rattle.pr_text.specs.Chain.{◌>>=◌}
+use Rattle.pr_text.specs.WordTerms.{value_after, key_or_zero, kind_of}
+
+-- the way of the data, of which each command names one
+unfoldable pub way_of : List ℕ → Option Way
+way_of word =
+    if bytes_eq word (codes "--in") then Some In else (
+    if bytes_eq word (codes "--out") then Some Out else None)
+
+-- the service action that a word names
+unfoldable pub action_of : List ℕ → Option Action
+action_of word =
+    if bytes_eq word (codes "--read-keys") then Some action.ReadKeys else (
+    if bytes_eq word (codes "--read-reservation") then Some action.ReadReservation else (
+    if bytes_eq word (codes "--report-capabilities") then Some action.ReportCapabilities else (
+    if bytes_eq word (codes "--register") then Some action.Register else (
+    if bytes_eq word (codes "--register-ignore") then Some action.RegisterIgnore else (
+    if bytes_eq word (codes "--reserve") then Some action.Reserve else (
+    if bytes_eq word (codes "--release") then Some action.Release else (
+    if bytes_eq word (codes "--clear") then Some action.Clear else (
+    if bytes_eq word (codes "--preempt") then Some action.Preempt else (
+    if bytes_eq word (codes "--preempt-abort") then Some action.PreemptAbort else None)))))))))
+
+-- the key that follows this in the word
+abbrev pub key_after : List ℕ → List ℕ → Option ℕ
+key_after name word = value_after name word >>= key_or_zero
+
+-- the one option that a word is
+unfoldable pub option_of : List ℕ → Option CommandOption
+option_of word =
+    option_or (option_map (λ x. Toward x) (way_of word)) (
+    option_or (option_map (λ x. Doing x) (action_of word)) (
+    option_or (option_map (λ x. Rk x) (key_after (codes "--param-rk=") word)) (
+    option_or (option_map (λ x. Sark x) (key_after (codes "--param-sark=") word)) (
+    option_map (λ x. OfKind x) (value_after (codes "--prout-type=") word >>= kind_of)))))
+
+-- nothing is written yet
+abbrev pub unwritten : Written
+unwritten = record { way = None; action = None; rk = None; sark = None; kind = None }
+
+-- what is written with one option more, of which each may be written once
+unfoldable pub with_option : Written → CommandOption → Option Written
+with_option w (Toward x) = if is_none w.way then Some (record w { way = Some x }) else None
+with_option w (Doing x) = if is_none w.action then Some (record w { action = Some x }) else None
+with_option w (Rk x) = if is_none w.rk then Some (record w { rk = Some x }) else None
+with_option w (Sark x) = if is_none w.sark then Some (record w { sark = Some x }) else None
+with_option w (OfKind x) = if is_none w.kind then Some (record w { kind = Some x }) else None
+
+-- what is written with these words more
+abbrev pub with_options : Written → List (List ℕ) → Option Written
+with_options w [] = Some w
+with_options w (word ∷ ws) = option_of word >>= λ o. with_option w o >>= λ v. with_options v ws
+
+-- the commands of `--in`, for which 8192 bytes of data are asked. They have no key and no type.
+unfoldable pub command_in : Action → Option Command
+command_in action.ReadKeys = Some (ReadKeys 8192)
+command_in action.ReadReservation = Some (ReadReservation 8192)
+command_in action.ReportCapabilities = Some (ReportCapabilities 8192)
+command_in _ = None
+
+-- the commands of `--out`. A key that is not written is 0, and a key or type that is not used is dropped.
+unfoldable pub command_out : Action → ℕ → ℕ → Option Kind → Option Command
+command_out action.Register rk sark kind = Some (Register rk sark)
+command_out action.RegisterIgnore rk sark kind = Some (RegisterIgnore sark)
+command_out action.Reserve rk sark kind = option_map (λ k. Reserve rk k) kind
+command_out action.Release rk sark kind = option_map (λ k. Release rk k) kind
+command_out action.Clear rk sark kind = Some (Clear rk)
+command_out action.Preempt rk sark kind = option_map (λ k. Preempt rk sark (Some k)) kind
+command_out action.PreemptAbort rk sark kind = option_map (λ k. PreemptAbort rk sark (Some k)) kind
+command_out _ rk sark kind = None
+
+-- neither a key nor a type is written
+abbrev pub is_bare : Written → Bool
+is_bare w = is_none w.rk && (is_none w.sark && is_none w.kind)
+
+abbrev pub commanded : Way → Action → Written → Option Command
+commanded In action w = if is_bare w then command_in action else None
+commanded Out action w = command_out action (unwrap_or w.rk 0) (unwrap_or w.sark 0) w.kind
+
+-- the command that the options spell
+unfoldable pub command_of : Written → Option Command
+command_of w = w.way >>= λ way. w.action >>= λ action. commanded way action w

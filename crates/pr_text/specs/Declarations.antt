@@ -1,0 +1,64 @@
+-- What the lines so far declare.
+use Rattle.std.specs.Prelude.{ℕ, Bool, true, false, ◌+◌, ◌==◌, ◌&&◌, ◌||◌, not, nat_lt, nat_le, if◌then◌else◌, List, [], ◌∷◌, ◌++◌, length, Option, Some, None, is_some, is_none, position, bytes_eq, fold, count_by}
+use Rattle.std.specs.FinSet as set
+use Rattle.std.specs.List.{slice_get, list_all, list_any}
+use Rattle.std.specs.Option.{option_map_or}
+use Rattle.pr_cdb.specs.declared.command.Command.{Command}
+use Rattle.pr_registry.specs.declared.held.Held.{Held}
+use Rattle.pr_attention.specs.Attentions.{Codes}
+use Rattle.pr_roles.specs.declared.role.Clause.{Clause}
+use Rattle.pr_text.specs.ScriptLines.{ScriptLine}
+
+-- ---- hosts and guests
+
+-- what a host or guest is given to do: the lines of a script and its budget, or the commands of a plan
+pub data WrittenTask : Type 0 where
+  scripted : List ScriptLine → ℕ → WrittenTask
+  planned : List Command → WrittenTask
+
+-- a host or guest, the line that declares it, and what other lines have said of it so far
+pub record Declaration : Type 0 where
+  pub name : List ℕ
+  pub line : ℕ
+  pub is_guest : Bool
+  pub start : Option (List (Option ℕ))
+  pub pending : Option Codes
+  pub role : List Clause
+  pub task : Option WrittenTask
+
+-- ---- blocks
+
+-- a block that is open: a repeat, or a send with its command and the number of its arms so far
+pub data Opening : Type 0 where
+  repeating : Opening
+  sending : Command → ℕ → Opening
+
+-- A script that is open: whose it is, its budget, its lines and how many statements they begin, the blocks
+-- that are open, the innermost first, and whether the innermost has a statement yet.
+pub record OpenLines : Type 0 where
+  pub host : ℕ
+  pub budget : ℕ
+  pub lines : List ScriptLine
+  pub statements : ℕ
+  pub blocks : List Opening
+  pub begun : Bool
+
+-- ---- the whole
+
+-- where the next line stands: before the version, outside, in a script, or in a guest's plan
+pub data Place : Type 0 where
+  before_all : Place
+  outside : Place
+  in_script : OpenLines → Place
+  in_plan : ℕ → List Command → Place
+
+pub record Declared : Type 0 where
+  pub keys : Option (List ℕ)
+  pub reservations : Option (List (Option Held))
+  pub generation : Option ℕ
+  pub nexuses : List Declaration
+  pub place : Place
+
+-- nothing is declared yet
+abbrev pub nothing : Declared
+nothing = record { keys = None; reservations = None; generation = None; nexuses = []; place = before_all }

@@ -1,0 +1,33 @@
+-- The values of lines, as what the lines say.
+use Rattle.std.specs.Prelude.{map}
+use Rattle.pr_text.specs.declared.item.Item.{Item as ItemValue}
+use Rattle.pr_text.specs.declared.item.Item.TheVariants as value
+use Rattle.pr_text.specs.declared.item.Wanted.{Wanted as WantedValue}
+use Rattle.pr_text.specs.declared.item.Wanted.TheVariants as wanted
+use Rattle.pr_text.specs.Items.{Wanted, nobody, single, everybody, Item, fence_line, keys_line, host_line, guest_line, start_line, pending_line, reservation_line, generation_line, role_line, script_line, plan_line, end_line, send_line, on_line, done_line, repeat_line, break_line, stop_line, command_line}
+
+abbrev pub wanted_seen : WantedValue → Wanted
+wanted_seen wanted.Nobody = nobody
+wanted_seen (wanted.Single kind name) = single kind name.bytes
+wanted_seen (wanted.Everybody kind) = everybody kind
+
+abbrev pub seen : ItemValue → Item
+seen value.Fence = fence_line
+seen (value.Keys keys) = keys_line keys.items
+seen (value.Host name) = host_line name.bytes
+seen (value.Guest name) = guest_line name.bytes
+seen (value.Start name xs) = start_line name.bytes xs.items
+seen (value.Pending name xs) = pending_line name.bytes xs.items
+seen (value.Reservation xs) = reservation_line (map wanted_seen xs.items)
+seen (value.Generation n) = generation_line n
+seen (value.Role name clause) = role_line name.bytes clause
+seen (value.Script name budget) = script_line name.bytes budget
+seen (value.Plan name) = plan_line name.bytes
+seen value.End = end_line
+seen (value.Send s) = send_line s
+seen (value.On t) = on_line t
+seen value.Done = done_line
+seen (value.Repeat n) = repeat_line n
+seen value.Break = break_line
+seen (value.Stop word) = stop_line word.bytes
+seen (value.Command s) = command_line s

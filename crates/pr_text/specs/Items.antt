@@ -1,0 +1,148 @@
+-- What one line of a text says.
+use Rattle.std.specs.Prelude.{ℕ, ◌==◌, Bool, if◌then◌else◌, List, [], ◌∷◌, ◌++◌, length, take, drop, slice_index, codes, bytes_eq, Option, Some, None, option_map}
+use Rattle.pr_cdb.specs.declared.command.Kind.{Kind}
+use Rattle.pr_attention.specs.declared.attention.Attention.{Attention}
+use Rattle.pr_registry.specs.Registrations.{is_all}
+use Rattle.pr_script.specs.declared.script.Test.{Test}
+use Rattle.pr_roles.specs.declared.role.Clause.{Clause}
+use Rattle.pr_text.specs.declared.keyword.Keyword.{Keyword}
+use Rattle.pr_text.specs.declared.keyword.Keyword.TheVariants as keyword
+use Rattle.pr_text.specs.declared.spelling.Spelled.{Spelled}
+use Rattle.pr_text.specs.Chain.{◌>>=◌}
+use Rattle.pr_text.specs.TextLines.{only, is_end}
+use Rattle.pr_text.specs.WordTerms.{name_of, key_of, generation_of, count_of, kind_of, code_of}
+use Rattle.pr_text.specs.CommandWords.{spelled_of, spelled_in}
+use Rattle.pr_text.specs.Clauses.{clause_of, test_of}
+use Rattle.pr_text.specs.Keywords.{keyword_of}
+
+-- a reservation that there may be at the start: none, of a single host or guest with this name, or of all
+-- registrants
+pub data Wanted : Type 0 where
+  nobody : Wanted
+  single : Kind → List ℕ → Wanted
+  everybody : Kind → Wanted
+
+-- A line that keeps its shape, with the terms on it. A key, a count or a name need not be one that the text
+-- may have there.
+pub data Item : Type 0 where
+  fence_line : Item
+  keys_line : List ℕ → Item
+  host_line : List ℕ → Item
+  guest_line : List ℕ → Item
+  start_line : List ℕ → List (Option ℕ) → Item
+  pending_line : List ℕ → List Attention → Item
+  reservation_line : List Wanted → Item
+  generation_line : ℕ → Item
+  role_line : List ℕ → Clause → Item
+  script_line : List ℕ → ℕ → Item
+  plan_line : List ℕ → Item
+  end_line : Item
+  send_line : Spelled → Item
+  on_line : Test → Item
+  done_line : Item
+  repeat_line : ℕ → Item
+  break_line : Item
+  stop_line : List ℕ → Item
+  command_line : Spelled → Item
+
+-- ---- lists
+
+-- what each word is, behind what came before
+abbrev pub each_onto : {A : Type 0} → (List ℕ → Option A) → List A → List (List ℕ) → Option (List A)
+each_onto f xs [] = Some xs
+each_onto f xs (w ∷ ws) = f w >>= λ x. each_onto f (xs ++ x ∷ []) ws
+
+-- what each word is, of at least one
+abbrev pub listed : {A : Type 0} → (List ℕ → Option A) → List (List ℕ) → Option (List A)
+listed f ws = if is_end ws then None else each_onto f [] ws
+
+-- a registration: `free`, or a key
+abbrev pub alternative_of : List ℕ → Option (Option ℕ)
+alternative_of word = if bytes_eq word (codes "free") then Some None else option_map (λ key. Some key) (key_of word)
+
+-- the type of all registrants
+abbrev pub everybody_of : List ℕ → Option Wanted
+everybody_of word = kind_of word >>= λ kind. if is_all kind then Some (everybody kind) else None
+
+-- the type of a single holder, a colon, and its name
+abbrev pub single_of : List ℕ → Option Wanted
+single_of word =
+    if slice_index word 1 == 58 then
+    (kind_of (take 1 word) >>= λ kind. if is_all kind then None else option_map (λ name. single kind name) (name_of (drop 2 word)))
+    else None
+
+-- a reservation
+unfoldable pub wanted_of : List ℕ → Option Wanted
+wanted_of word =
+    if bytes_eq word (codes "none") then Some nobody else (
+    if length word == 1 then everybody_of word else single_of word)
+
+-- ---- lines
+
+-- a name, and the words behind it
+abbrev pub name_in : List (List ℕ) → Option (List ℕ × List (List ℕ))
+name_in [] = None
+name_in (w ∷ ws) = option_map (λ name. (name, ws)) (name_of w)
+
+-- a name and nothing else
+abbrev pub only_name : List (List ℕ) → Option (List ℕ)
+only_name ws = only ws >>= name_of
+
+-- `budget` and a count
+abbrev pub budget_in : List (List ℕ) → Option ℕ
+budget_in [] = None
+budget_in (w ∷ ws) = if bytes_eq w (codes "budget") then (only ws >>= count_of) else None
+
+-- the version: 1
+abbrev pub fence_said : List (List ℕ) → Option Item
+fence_said ws = only ws >>= λ word. if bytes_eq word (codes "1") then Some fence_line else None
+
+abbrev pub start_said : List (List ℕ) → Option Item
+start_said ws = name_in ws >>= λ r. option_map (λ xs. start_line r.0 xs) (listed alternative_of r.1)
+
+abbrev pub pending_said : List (List ℕ) → Option Item
+pending_said ws = name_in ws >>= λ r. option_map (λ xs. pending_line r.0 xs) (listed code_of r.1)
+
+abbrev pub role_said : List (List ℕ) → Option Item
+role_said ws = name_in ws >>= λ r. option_map (λ clause. role_line r.0 clause) (clause_of r.1)
+
+abbrev pub script_said : List (List ℕ) → Option Item
+script_said ws = name_in ws >>= λ r. option_map (λ budget. script_line r.0 budget) (budget_in r.1)
+
+-- a line of just its keyword
+abbrev pub bare_said : Item → List (List ℕ) → Option Item
+bare_said item ws = if is_end ws then Some item else None
+
+-- what the words behind a keyword say that takes no list
+abbrev pub said_simply : Keyword → List (List ℕ) → Option Item
+said_simply keyword.Fence ws = fence_said ws
+said_simply keyword.Host ws = option_map (λ name. host_line name) (only_name ws)
+said_simply keyword.Guest ws = option_map (λ name. guest_line name) (only_name ws)
+said_simply keyword.Generation ws = option_map (λ n. generation_line n) (only ws >>= generation_of)
+said_simply keyword.Role ws = role_said ws
+said_simply keyword.Script ws = script_said ws
+said_simply keyword.Plan ws = option_map (λ name. plan_line name) (only_name ws)
+said_simply keyword.End ws = bare_said end_line ws
+said_simply keyword.Send ws = option_map (λ s. send_line s) (spelled_in ws)
+said_simply keyword.On ws = option_map (λ t. on_line t) (test_of ws)
+said_simply keyword.Done ws = bare_said done_line ws
+said_simply keyword.Repeat ws = option_map (λ n. repeat_line n) (only ws >>= count_of)
+said_simply keyword.Break ws = bare_said break_line ws
+said_simply keyword.Stop ws = option_map (λ word. stop_line word) (only_name ws)
+said_simply _ ws = None
+
+-- what the words behind a keyword say
+abbrev pub said_after : Keyword → List (List ℕ) → Option Item
+said_after keyword.Keys ws = option_map (λ keys. keys_line keys) (listed key_of ws)
+said_after keyword.Start ws = start_said ws
+said_after keyword.Pending ws = pending_said ws
+said_after keyword.Reservation ws = option_map (λ xs. reservation_line xs) (listed wanted_of ws)
+said_after k ws = said_simply k ws
+
+-- what a line says that begins with this word; one without a keyword is a command of a plan
+abbrev pub said_with : Option Keyword → List ℕ → List (List ℕ) → Option Item
+said_with (Some k) word ws = said_after k ws
+said_with None word ws = option_map (λ s. command_line s) (spelled_of word ws)
+
+unfoldable pub item_of : List ℕ → List (List ℕ) → Option Item
+item_of word ws = said_with (keyword_of word) word ws

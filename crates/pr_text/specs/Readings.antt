@@ -1,0 +1,64 @@
+-- The scenario that a text is.
+use Rattle.std.specs.Prelude.{◌≡◌, ℕ, List, [], ◌∷◌, map, Option, Some, None, unwrap_or, Result, Ok, Err}
+use Rattle.pr_cdb.specs.declared.command.Command.{Command}
+use Rattle.pr_attention.specs.Attentions.{Codes, no_code}
+use Rattle.pr_roles.specs.declared.role.Clause.{Clause}
+use Rattle.pr_roles.specs.Scenarios.{Scenario, Nexus, Task, Scripted, Planned, scenario_of}
+use Rattle.pr_roles.specs.declared.parts.Parts.{Parts}
+use Rattle.pr_text.specs.declared.fault.ReadError.{ReadError}
+use Rattle.pr_text.specs.declared.fault.ReadError.TheVariants.{ReadFault, Memory}
+use Rattle.pr_text.specs.declared.source.SourceFault.{SourceFault}
+use Rattle.pr_text.specs.declared.source.SourceFault.TheVariants as source
+use Rattle.pr_text.specs.Faults.{Fails}
+use Rattle.pr_text.specs.ScriptLines.{ScriptLine, body_lines}
+use Rattle.pr_text.specs.Declarations.{Declaration, WrittenTask, scripted, planned, Declared}
+use Rattle.pr_text.specs.Texts.{start_of, reservations_of, ended, answer_of}
+
+-- a host or guest, with its script as the lines that it is written as
+pub record WrittenNexus : Type 0 where
+  pub name : List ℕ
+  pub role : List Clause
+  pub start : List (Option ℕ)
+  pub pending : Codes
+  pub task : WrittenTask
+
+abbrev pub task_written : Task → WrittenTask
+task_written (Scripted script budget) = scripted (body_lines script) budget
+task_written (Planned commands) = planned commands
+
+abbrev pub nexus_written : Nexus → WrittenNexus
+nexus_written n = record { name = n.name; role = n.role; start = n.start; pending = n.pending; task = task_written n.task }
+
+-- what is declared of a host or guest, where nothing pending, no registration and no command of a plan need
+-- be written
+abbrev pub nexus_declared : Declaration → WrittenNexus
+nexus_declared x = record { name = x.name; role = x.role; start = start_of x; pending = unwrap_or x.pending no_code; task = unwrap_or x.task (planned []) }
+
+-- The scenario is just what is declared: its scripts are written as the lines that were read.
+pub record IsDeclaredBy (d : Declared) (s : Scenario) : Type 0 where
+  pub keys : s.keys ≡ unwrap_or d.keys []
+  pub reservations : s.reservations ≡ reservations_of d
+  pub generation : s.generation ≡ unwrap_or d.generation 0
+  pub nexuses : map nexus_written s.nexuses ≡ map nexus_declared d.nexuses
+
+-- The text has no fault, and the scenario is what it declares.
+pub record IsWrittenAs (text : List ℕ) (s : Scenario) : Type 0 where
+  pub declared : Declared
+  pub faultless : answer_of text ≡ Ok declared
+  pub kept : IsDeclaredBy declared s
+
+-- What is declared is whole where the last line has this number, and the scenario is just that.
+pub record IsWhole (number : ℕ) (d : Declared) (s : Scenario) : Type 0 where
+  pub faultless : ended number d ≡ Ok d
+  pub kept : IsDeclaredBy d s
+
+-- What a reader's text was read as; a reader may fail on any text.
+abbrev pub IsRead : List ℕ → Result Parts ReadError → Type 0
+IsRead text (Ok parts) = IsWrittenAs text (scenario_of parts)
+IsRead text (Err ReadFault) = Unit {0}
+IsRead text (Err e) = Fails e (answer_of text)
+
+-- what a reader's fault is as a fault of its text
+abbrev pub read_error : SourceFault → ReadError
+read_error source.ReadFault = ReadFault
+read_error source.Memory = Memory

@@ -1,0 +1,32 @@
+-- How a line is cut into words.
+use Rattle.std.specs.Prelude.{ℕ, Bool, ◌==◌, ◌||◌, ◌&&◌, not, nat_le, List, [], ◌∷◌, length, slice_index, Option, Some, None, filter, take_while}
+use Rattle.std.specs.List.{slice_split, list_all}
+
+-- a tab, or an ASCII character that prints, the space among them
+abbrev pub is_text_byte : ℕ → Bool
+is_text_byte b = b == 9 || (nat_le 32 b && nat_le b 126)
+
+-- these bytes may stand on a line
+unfoldable pub is_text : List ℕ → Bool
+is_text line = list_all is_text_byte line
+
+abbrev pub is_blank : ℕ → Bool
+is_blank b = b == 9 || b == 32
+
+-- a comment begins with `#`
+abbrev pub is_comment : List ℕ → Bool
+is_comment word = slice_index word 0 == 35
+
+-- a line's words: its parts between tabs and spaces, up to the first that begins a comment
+unfoldable pub words : List ℕ → List (List ℕ)
+words line = take_while (λ w. not (is_comment w)) (filter (λ w. not (length w == 0)) (slice_split is_blank line))
+
+-- the one word that is left
+abbrev pub only : List (List ℕ) → Option (List ℕ)
+only [] = None
+only (w ∷ []) = Some w
+only (w ∷ x ∷ ws) = None
+
+-- no word is left
+abbrev pub is_end : List (List ℕ) → Bool
+is_end ws = length ws == 0

@@ -1,0 +1,514 @@
+//! What the lines so far declare.
+
+ghost use Rattle.std.specs.Prelude.{◌≡◌, ◌<◌, IfSome, length, position, bytes_eq};
+ghost use Rattle.std.specs.List.{list_all};
+ghost use Rattle.pr_roles.specs.Fitting.{is_alternative, is_action};
+ghost use Rattle.pr_text.specs.Faults.{Gives};
+ghost use Rattle.pr_text.specs.Declaring.{start_fault, script_fault};
+ghost use Rattle.pr_text.specs.Drafts.{draft_seen};
+ghost use Rattle.pr_text.specs.Placing.{planned_step};
+
+use crate::draft::{Draft, pending_of};
+use crate::fault::{ReadError, Which};
+use crate::item::{Item, Wanted};
+use crate::open_script::{OpenScript, is_spelled};
+use crate::spelling::Spelled;
+use crate::uniqueness::{are_codes_distinct, are_distinct, are_held_apart};
+use pr_attention::Attention;
+use pr_cdb::Command;
+use pr_registry::Held;
+use pr_roles::{Action, Clause, Task, Word};
+use pr_script::{Script, is_declared, is_written_key};
+use std::alloc::{AllocError, Global};
+use std::mem;
+
+const MOST_KEYS: usize = 12;
+
+const MOST_NEXUSES: usize = 8;
+
+const MOST_CLAUSES: usize = 32;
+
+const MOST_BUDGET: u32 = 4096;
+
+const MOST_PLANNED: usize = 256;
+
+/// Where the next line stands.
+#[derive(Debug, Drop)]
+pub enum Place {
+    /// Before the version.
+    BeforeAll,
+    /// Outside scripts and plans.
+    Outside,
+    InScript(OpenScript),
+    /// In the plan of the guest with this number, behind these commands.
+    InPlan(usize, Vec<Command>),
+}
+
+/// What the lines so far declare.
+#[derive(Debug, Drop)]
+pub struct Builder {
+    pub keys: Option<Vec<u64>>,
+    pub reservations: Option<Vec<Option<Held>>>,
+    pub generation: Option<u32>,
+    pub nexuses: Vec<Draft>,
+    pub place: Place,
+}
+
+impl Builder {
+    ghost use Rattle.std.specs.Prelude.{◌≡◌, ◌<◌, IfOk, IfSome, [], length, map, option_map, position, bytes_eq};
+    ghost use Rattle.pr_text.specs.declared.builder.Place.TheVariants.{Outside};
+    ghost use Rattle.pr_text.specs.Faults.{Gives};
+    ghost use Rattle.pr_text.specs.ItemValues.{seen, wanted_seen};
+    ghost use Rattle.pr_text.specs.Declarations.{nothing};
+    ghost use Rattle.pr_text.specs.Declaring.{declared_keys, number_of, held_of, helds_onto, keys_placed, nexus_placed, start_placed, pending_placed, reservation_placed, generation_placed, role_placed, script_placed, plan_placed};
+    ghost use Rattle.pr_text.specs.Drafts.{draft_seen, task_seen, declared_by};
+    ghost use Rattle.pr_text.specs.OpenScripts.{open_seen};
+    ghost use Rattle.pr_text.specs.Placing.{placed_first, placed_outside, placed_in_script, placed_in_plan, script_ended, with_task, item_placed};
+
+    /// Nothing is declared yet.
+    pub fn new(alloc: Global) -> Self
+        ensures { declared_by result ≡ nothing }
+    {
+        Builder {
+            keys: None,
+            reservations: None,
+            generation: None,
+            nexuses: Vec::new(alloc),
+            place: Place::BeforeAll,
+        }
+    }
+
+    /// What is declared with one line more.
+    #[tactic(auto, unfolding(crate::specs::Placing::item_placed))]
+    pub fn with_item(mut self, alloc: Global, line: u32, item: Item) -> Result<Self, ReadError>
+        ensures { Gives declared_by result (item_placed line (seen item) (declared_by self)) }
+    {
+        match mem::replace(&mut self.place, Place::Outside) {
+            Place::BeforeAll => self.first_line(line, item),
+            Place::Outside => self.line_outside(alloc, line, item),
+            Place::InScript(script) => self.line_in_script(alloc, line, script, item),
+            Place::InPlan(guest, commands) => self.line_in_plan(line, guest, commands, item),
+        }
+    }
+
+    fn first_line(self, line: u32, item: Item) -> Result<Self, ReadError>
+        requires { self.place ≡ Outside }
+        ensures { Gives declared_by result (placed_first line (seen item) (declared_by self)) }
+    {
+        match item {
+            Item::Fence => Ok(self),
+            _ => Err(ReadError::Syntax { line }),
+        }
+    }
+
+    fn line_outside(self, alloc: Global, line: u32, item: Item) -> Result<Self, ReadError>
+        ensures { Gives declared_by result (placed_outside line (seen item) (declared_by self)) }
+    {
+        match item {
+            Item::Keys(keys) => self.keys_line(line, keys),
+            Item::Host(name) => self.nexus_line(alloc, line, false, name),
+            Item::Guest(name) => self.nexus_line(alloc, line, true, name),
+            Item::Start(name, alternatives) => self.start_line(line, name, alternatives),
+            Item::Pending(name, attentions) => self.pending_line(line, name, &attentions),
+            Item::Reservation(wanted) => self.reservation_line(alloc, line, &wanted),
+            Item::Generation(generation) => self.generation_line(line, generation),
+            Item::Role(name, clause) => self.role_line(line, name, clause),
+            Item::Script(name, budget) => self.script_line(alloc, line, name, budget),
+            Item::Plan(name) => self.plan_line(alloc, line, name),
+            _ => Err(ReadError::Syntax { line }),
+        }
+    }
+
+    #[tactic(auto, unfolding(crate::specs::Declaring::keys_placed))]
+    fn keys_line(mut self, line: u32, keys: Vec<u64>) -> Result<Self, ReadError>
+        ensures { Gives declared_by result (keys_placed line keys.items (declared_by self)) }
+    {
+        if self.keys.is_some() || !are_distinct(keys.as_slice()) {
+            return Err(ReadError::Repeated { line });
+        }
+        if keys.len() > MOST_KEYS {
+            let which = Which::Keys;
+            return Err(ReadError::Limit { which, line });
+        }
+        self.keys = Some(keys);
+        Ok(self)
+    }
+
+    #[tactic(auto, unfolding(crate::specs::Declaring::nexus_placed))]
+    fn nexus_line(
+        mut self,
+        alloc: Global,
+        line: u32,
+        is_guest: bool,
+        name: Word,
+    ) -> Result<Self, ReadError>
+        ensures { Gives declared_by result (nexus_placed line is_guest name.bytes (declared_by self)) }
+    {
+        if self.number_of(&name).is_some() {
+            return Err(ReadError::Repeated { line });
+        }
+        if self.nexuses.len() >= MOST_NEXUSES {
+            let which = Which::Hosts;
+            return Err(ReadError::Limit { which, line });
+        }
+        self.nexuses.push(Draft::new(alloc, name, line, is_guest))?;
+        Ok(self)
+    }
+
+    #[tactic(auto, unfolding(crate::specs::Declaring::start_placed), using(crate::proofs::Steps::fails_same, crate::proofs::Drafts::found, crate::proofs::Drafts::changed))]
+    fn start_line(
+        mut self,
+        line: u32,
+        name: Word,
+        alternatives: Vec<Option<u64>>,
+    ) -> Result<Self, ReadError>
+        ensures { Gives declared_by result (start_placed line name.bytes alternatives.items (declared_by self)) }
+    {
+        let Some(number) = self.number_of(&name) else {
+            return Err(ReadError::UnknownName { line });
+        };
+        let number = usize::from(number);
+        let keys = self.declared_keys();
+        if let Some(fault) = start_fault(line, keys, &self.nexuses[number], &alternatives) {
+            return Err(fault);
+        }
+        self.nexuses[number].start = Some(alternatives);
+        Ok(self)
+    }
+
+    #[tactic(auto, unfolding(crate::specs::Declaring::pending_placed), using(crate::proofs::Drafts::found, crate::proofs::Drafts::changed))]
+    fn pending_line(
+        mut self,
+        line: u32,
+        name: Word,
+        attentions: &[Attention],
+    ) -> Result<Self, ReadError>
+        ensures { Gives declared_by result (pending_placed line name.bytes attentions.now (declared_by self)) }
+    {
+        let Some(number) = self.number_of(&name) else {
+            return Err(ReadError::UnknownName { line });
+        };
+        let nexus = &mut self.nexuses[usize::from(number)];
+        if nexus.pending.is_some() || !are_codes_distinct(attentions) {
+            return Err(ReadError::Repeated { line });
+        }
+        nexus.pending = Some(pending_of(attentions));
+        Ok(self)
+    }
+
+    #[tactic(auto, unfolding(crate::specs::Declaring::reservation_placed))]
+    fn reservation_line(
+        mut self,
+        alloc: Global,
+        line: u32,
+        wanted: &[Wanted],
+    ) -> Result<Self, ReadError>
+        ensures { Gives declared_by result (reservation_placed line (map wanted_seen wanted.now) (declared_by self)) }
+    {
+        let Some(reservations) = self.reservations_of(alloc, wanted)? else {
+            return Err(ReadError::UnknownName { line });
+        };
+        if self.reservations.is_some() || !are_held_apart(&reservations) {
+            return Err(ReadError::Repeated { line });
+        }
+        self.reservations = Some(reservations);
+        Ok(self)
+    }
+
+    #[tactic(auto, unfolding(crate::specs::Declaring::generation_placed))]
+    fn generation_line(mut self, line: u32, generation: u32) -> Result<Self, ReadError>
+        ensures { Gives declared_by result (generation_placed line generation (declared_by self)) }
+    {
+        if self.generation.is_some() {
+            return Err(ReadError::Repeated { line });
+        }
+        self.generation = Some(generation);
+        Ok(self)
+    }
+
+    #[tactic(auto, unfolding(crate::specs::Declaring::role_placed), using(crate::proofs::Drafts::found, crate::proofs::Drafts::changed))]
+    fn role_line(mut self, line: u32, name: Word, clause: Clause) -> Result<Self, ReadError>
+        ensures { Gives declared_by result (role_placed line name.bytes clause (declared_by self)) }
+    {
+        let Some(number) = self.number_of(&name) else {
+            return Err(ReadError::UnknownName { line });
+        };
+        if !is_action(self.declared_keys(), clause.action) {
+            return Err(ReadError::UndeclaredKey { line });
+        }
+        let nexus = &mut self.nexuses[usize::from(number)];
+        if nexus.role.len() >= MOST_CLAUSES {
+            let which = Which::Roles;
+            return Err(ReadError::Limit { which, line });
+        }
+        nexus.role.push(clause)?;
+        Ok(self)
+    }
+
+    #[tactic(auto, unfolding(crate::specs::Declaring::script_placed), using(crate::proofs::Steps::fails_same, crate::proofs::Drafts::found))]
+    fn script_line(
+        mut self,
+        alloc: Global,
+        line: u32,
+        name: Word,
+        budget: u32,
+    ) -> Result<Self, ReadError>
+        ensures { Gives declared_by result (script_placed line name.bytes budget (declared_by self)) }
+    {
+        let Some(number) = self.number_of(&name) else {
+            return Err(ReadError::UnknownName { line });
+        };
+        let host = usize::from(number);
+        if let Some(fault) = script_fault(line, &self.nexuses[host], budget) {
+            return Err(fault);
+        }
+        self.place = Place::InScript(OpenScript::new(alloc, host, budget));
+        Ok(self)
+    }
+
+    #[tactic(auto, unfolding(crate::specs::Declaring::plan_placed), using(crate::proofs::Drafts::found))]
+    fn plan_line(mut self, alloc: Global, line: u32, name: Word) -> Result<Self, ReadError>
+        ensures { Gives declared_by result (plan_placed line name.bytes (declared_by self)) }
+    {
+        let Some(number) = self.number_of(&name) else {
+            return Err(ReadError::UnknownName { line });
+        };
+        let guest = usize::from(number);
+        let nexus = &self.nexuses[guest];
+        if !nexus.is_guest {
+            return Err(ReadError::UnknownName { line });
+        }
+        if nexus.task.is_some() {
+            return Err(ReadError::Repeated { line });
+        }
+        self.place = Place::InPlan(guest, Vec::new(alloc));
+        Ok(self)
+    }
+
+    #[tactic(auto, using(crate::proofs::Steps::fails_first))]
+    fn line_in_script(
+        mut self,
+        alloc: Global,
+        line: u32,
+        script: OpenScript,
+        item: Item,
+    ) -> Result<Self, ReadError>
+        requires { self.place ≡ Outside }
+        ensures { Gives declared_by result (placed_in_script line (open_seen script) (seen item) (declared_by self)) }
+    {
+        if let Item::End = item {
+            return self.script_end(line, script);
+        }
+        let script = script.with_item(alloc, line, self.declared_keys(), item)?;
+        self.place = Place::InScript(script);
+        Ok(self)
+    }
+
+    #[tactic(auto, using(crate::proofs::OpenLines::closed_lines))]
+    fn script_end(mut self, line: u32, script: OpenScript) -> Result<Self, ReadError>
+        requires { self.place ≡ Outside }
+        ensures { Gives declared_by result (script_ended line (open_seen script) (declared_by self)) }
+    {
+        if !script.is_closed() {
+            return Err(ReadError::Syntax { line });
+        }
+        let OpenScript {
+            host,
+            budget,
+            body,
+            ..
+        } = script;
+        let script = Script { statements: body };
+        self.set_task(host, Task::Scripted { script, budget });
+        Ok(self)
+    }
+
+    #[tactic(auto, using(crate::proofs::Steps::fails_first))]
+    fn line_in_plan(
+        mut self,
+        line: u32,
+        guest: usize,
+        commands: Vec<Command>,
+        item: Item,
+    ) -> Result<Self, ReadError>
+        requires { self.place ≡ Outside }
+        ensures { Gives declared_by result (placed_in_plan line guest commands.items (seen item) (declared_by self)) }
+    {
+        match item {
+            Item::Command(spelled) => {
+                let commands = planned(line, self.declared_keys(), commands, spelled)?;
+                self.place = Place::InPlan(guest, commands);
+                Ok(self)
+            }
+            Item::End => {
+                self.set_task(guest, Task::Planned(commands));
+                Ok(self)
+            }
+            _ => Err(ReadError::Syntax { line }),
+        }
+    }
+
+    // The host or guest with this number has its task.
+    #[tactic(auto, using(crate::proofs::Drafts::found, crate::proofs::Drafts::changed))]
+    fn set_task(&mut self, number: usize, task: Task)
+        requires { self.old.place ≡ Outside }
+        ensures { declared_by self.new ≡ with_task (declared_by self.old) number (task_seen task) }
+    {
+        if number < self.nexuses.len() {
+            self.nexuses[number].task = Some(task);
+        }
+    }
+
+    fn declared_keys(&self) -> &[u64]
+        ensures { result.now ≡ declared_keys (declared_by self.now) }
+    {
+        match &self.keys {
+            Some(keys) => keys,
+            None => &[],
+        }
+    }
+
+    // The number of the host or guest with this name.
+    #[tactic(auto, unfolding(crate::specs::Declaring::number_of))]
+    fn number_of(&self, name: &Word) -> Option<u8>
+        ensures value { result ≡ number_of (map draft_seen self.now.nexuses.items) name.now.bytes }
+        ensures within { IfSome result (λ h. h < length self.now.nexuses.items) }
+    {
+        let number = self.position_of(name)?;
+        if number < 256 {
+            Some(number as u8)
+        } else {
+            None
+        }
+    }
+
+    fn position_of(&self, name: &Word) -> Option<usize>
+        ensures value { result ≡ position (λ x. bytes_eq x.name name.now.bytes) (map draft_seen self.now.nexuses.items) }
+        ensures within { IfSome result (λ h. h < length self.now.nexuses.items) }
+    {
+        position_in(&self.nexuses, name)
+    }
+
+    // The reservations, if the holders are declared.
+    fn reservations_of(
+        &self,
+        alloc: Global,
+        wanted: &[Wanted],
+    ) -> Result<Option<Vec<Option<Held>>>, AllocError>
+        ensures { IfOk result (λ vs. option_map (λ v. v.items) vs ≡ helds_onto (map draft_seen self.now.nexuses.items) [] (map wanted_seen wanted.now)) }
+    {
+        let mut reservations = Vec::new(alloc);
+        let mut rest = wanted;
+        while let Some((first, others)) = rest.split_first() {
+            let Some(held) = self.held_of(first) else {
+                return Ok(None);
+            };
+            reservations.push(held)?;
+            rest = others;
+        }
+        Ok(Some(reservations))
+    }
+
+    fn held_of(&self, wanted: &Wanted) -> Option<Option<Held>>
+        ensures { result ≡ held_of (map draft_seen self.now.nexuses.items) (wanted_seen wanted.now) }
+    {
+        match wanted {
+            Wanted::Nobody => Some(None),
+            Wanted::Single(kind, name) => {
+                let number = self.number_of(name)?;
+                Some(Some(Held::One(*kind, number)))
+            }
+            Wanted::Everybody(kind) => Some(Some(Held::All(*kind))),
+        }
+    }
+}
+
+fn position_in(nexuses: &[Draft], name: &Word) -> Option<usize>
+    ensures value { result ≡ position (λ x. bytes_eq x.name.bytes name.now.bytes) nexuses.now }
+    ensures within { IfSome result (λ h. h < length nexuses.now) }
+{
+    nexuses.iter().position(|nexus| nexus.name == *name)
+}
+
+// Why these may not be the alternatives of the host or guest.
+fn start_fault(
+    line: u32,
+    keys: &[u64],
+    nexus: &Draft,
+    alternatives: &[Option<u64>],
+) -> Option<ReadError>
+    ensures { result ≡ start_fault line keys.now (draft_seen nexus.now) alternatives.now }
+{
+    if !are_alternatives(keys, alternatives) {
+        return Some(ReadError::UndeclaredKey { line });
+    }
+    if nexus.start.is_some() || !are_distinct(alternatives) {
+        return Some(ReadError::Repeated { line });
+    }
+    None
+}
+
+// Why the nexus may not have a script with this budget.
+fn script_fault(line: u32, nexus: &Draft, budget: u32) -> Option<ReadError>
+    ensures { result ≡ script_fault line budget (draft_seen nexus.now) }
+{
+    if nexus.is_guest {
+        return Some(ReadError::UnknownName { line });
+    }
+    if nexus.task.is_some() {
+        return Some(ReadError::Repeated { line });
+    }
+    if budget < 1 || budget > MOST_BUDGET {
+        let which = Which::Budget;
+        return Some(ReadError::Limit { which, line });
+    }
+    None
+}
+
+// The commands with one more.
+#[tactic(auto, unfolding(crate::specs::Placing::planned_step))]
+fn planned(
+    line: u32,
+    keys: &[u64],
+    mut commands: Vec<Command>,
+    spelled: Spelled,
+) -> Result<Vec<Command>, ReadError>
+    ensures { Gives (λ v. v.items) result (planned_step line keys.now spelled commands.items) }
+{
+    if !is_spelled(keys, spelled) {
+        return Err(ReadError::UndeclaredKey { line });
+    }
+    if commands.len() >= MOST_PLANNED {
+        let which = Which::Plan;
+        return Err(ReadError::Limit { which, line });
+    }
+    commands.push(spelled.command)?;
+    Ok(commands)
+}
+
+fn are_alternatives(keys: &[u64], alternatives: &[Option<u64>]) -> bool
+    ensures { result ≡ list_all (is_alternative keys.now) alternatives.now }
+{
+    alternatives.iter().all(|key| is_alternative(keys, *key))
+}
+
+// Free, or a declared key.
+fn is_alternative(keys: &[u64], key: Option<u64>) -> bool
+    ensures { result ≡ is_alternative keys.now key }
+{
+    match key {
+        None => true,
+        Some(key) => is_declared(keys, key),
+    }
+}
+
+// The keys that the action names are declared, or zero where that may be.
+fn is_action(keys: &[u64], action: Action) -> bool
+    ensures { result ≡ is_action keys.now action }
+{
+    match action {
+        Action::Register(key) => is_declared(keys, key),
+        Action::Preempt(key, _) => is_written_key(keys, key),
+        _ => true,
+    }
+}

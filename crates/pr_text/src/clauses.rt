@@ -1,0 +1,168 @@
+//! The clauses of roles, and the arms of sends.
+
+ghost use Rattle.std.specs.Prelude.{◌≡◌, option_map};
+ghost use Rattle.pr_text.specs.TextLines.{words};
+ghost use Rattle.pr_text.specs.Clauses.{registering, reserving, preempting, preempting_with, action_named, action_in, condition_of, condition_in, clause_of, alone, good_of, test_of};
+
+use crate::cutting::{is, is_end, next_word, only};
+use crate::terms::{key_of, key_or_zero, kind_of, sense_of};
+use pr_roles::{Action, Clause, Condition};
+use pr_script::Test;
+
+/// The clause that the line's words are.
+pub fn clause_of(line: &[u8]) -> Option<Clause>
+    ensures { result ≡ clause_of (words line.now) }
+{
+    let (action, rest) = action_in(line)?;
+    let condition = condition_in(rest)?;
+    Some(Clause { action, condition })
+}
+
+// The action that the line begins with, and what stands behind it.
+fn action_in(line: &[u8]) -> Option<(Action, &[u8])>
+    ensures { option_map (λ r. (r.0, words r.1.now)) result ≡ action_in (words line.now) }
+{
+    let (word, rest) = next_word(line)?;
+    action_named(word, rest)
+}
+
+#[tactic(auto, unfolding(crate::specs::Clauses::action_named))]
+fn action_named<'a>(word: &[u8], rest: &'a [u8]) -> Option<(Action, &'a [u8])>
+    ensures { option_map (λ r. (r.0, words r.1.now)) result ≡ action_named word.now (words rest.now) }
+{
+    if is(word, "register") {
+        return registering(rest);
+    }
+    if is(word, "unregister") {
+        return Some((Action::Unregister, rest));
+    }
+    if is(word, "reserve") {
+        return reserving(rest);
+    }
+    if is(word, "release") {
+        return Some((Action::Release, rest));
+    }
+    if is(word, "clear") {
+        return Some((Action::Clear, rest));
+    }
+    if is(word, "preempt") {
+        return preempting(rest);
+    }
+    if is(word, "read") {
+        return Some((Action::Read, rest));
+    }
+    if is(word, "write") {
+        return Some((Action::Write, rest));
+    }
+    None
+}
+
+fn registering(line: &[u8]) -> Option<(Action, &[u8])>
+    ensures { option_map (λ r. (r.0, words r.1.now)) result ≡ registering (words line.now) }
+{
+    let (word, rest) = next_word(line)?;
+    let key = key_of(word)?;
+    Some((Action::Register(key), rest))
+}
+
+fn reserving(line: &[u8]) -> Option<(Action, &[u8])>
+    ensures { option_map (λ r. (r.0, words r.1.now)) result ≡ reserving (words line.now) }
+{
+    let (word, rest) = next_word(line)?;
+    let kind = kind_of(word)?;
+    Some((Action::Reserve(kind), rest))
+}
+
+fn preempting(line: &[u8]) -> Option<(Action, &[u8])>
+    ensures { option_map (λ r. (r.0, words r.1.now)) result ≡ preempting (words line.now) }
+{
+    let (word, rest) = next_word(line)?;
+    let key = key_or_zero(word)?;
+    preempting_with(key, rest)
+}
+
+fn preempting_with(key: u64, line: &[u8]) -> Option<(Action, &[u8])>
+    ensures { option_map (λ r. (r.0, words r.1.now)) result ≡ preempting_with key (words line.now) }
+{
+    let (word, rest) = next_word(line)?;
+    let kind = kind_of(word)?;
+    Some((Action::Preempt(key, kind), rest))
+}
+
+// The condition that the line's words are, if there are any.
+fn condition_in(line: &[u8]) -> Option<Option<Condition>>
+    ensures { result ≡ condition_in (words line.now) }
+{
+    let Some((word, rest)) = next_word(line) else {
+        return Some(None);
+    };
+    if !is(word, "if") {
+        return None;
+    }
+    let condition = condition_of(only(rest)?)?;
+    Some(Some(condition))
+}
+
+#[tactic(auto, unfolding(crate::specs::Clauses::condition_of))]
+fn condition_of(word: &[u8]) -> Option<Condition>
+    ensures { result ≡ condition_of word.now }
+{
+    if is(word, "registered") {
+        return Some(Condition::Registered);
+    }
+    if is(word, "holder") {
+        return Some(Condition::Holder);
+    }
+    if is(word, "reserved") {
+        return Some(Condition::Reserved);
+    }
+    None
+}
+
+/// What the arm asks that the line's words are.
+pub fn test_of(line: &[u8]) -> Option<Test>
+    ensures { result ≡ test_of (words line.now) }
+{
+    let (word, rest) = next_word(line)?;
+    if is(word, "good") {
+        return good_of(rest);
+    }
+    if is(word, "conflict") {
+        return alone(Test::Conflict, rest);
+    }
+    if is(word, "attention") {
+        return alone(Test::Attention, rest);
+    }
+    if is(word, "sense") {
+        let sense = sense_of(only(rest)?)?;
+        return Some(Test::Sense(sense));
+    }
+    None
+}
+
+fn good_of(line: &[u8]) -> Option<Test>
+    ensures { result ≡ good_of (words line.now) }
+{
+    let Some((word, rest)) = next_word(line) else {
+        return Some(Test::Good);
+    };
+    if is(word, "has") {
+        let key = key_of(only(rest)?)?;
+        return Some(Test::GoodHas(key));
+    }
+    if is(word, "held") {
+        let key = key_or_zero(only(rest)?)?;
+        return Some(Test::GoodHeld(key));
+    }
+    if is(word, "unheld") {
+        return alone(Test::GoodUnheld, rest);
+    }
+    None
+}
+
+// The test, if no word follows it.
+fn alone(test: Test, rest: &[u8]) -> Option<Test>
+    ensures { result ≡ alone test (words rest.now) }
+{
+    if is_end(rest) { Some(test) } else { None }
+}

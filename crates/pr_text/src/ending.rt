@@ -1,0 +1,148 @@
+//! The end of a text: what is missing, and the scenario that was declared.
+
+ghost use Rattle.std.specs.Prelude.{◌≡◌, [], ◌∷◌, IfOk, map, option_map, unwrap_or};
+ghost use Rattle.pr_roles.specs.Scenarios.{nexus_of};
+ghost use Rattle.pr_text.specs.Drafts.{draft_seen};
+ghost use Rattle.pr_text.specs.Texts.{first_unscripted, whole_fault};
+ghost use Rattle.pr_text.specs.Readings.{nexus_written, nexus_declared};
+
+use crate::builder::{Builder, Place};
+use crate::draft::Draft;
+use crate::fault::{ReadError, Which};
+use pr_attention::Pending;
+use pr_roles::{Nexus, Parts, Role, Scenario, Start, Task};
+use std::alloc::{AllocError, Global};
+
+impl Builder {
+    ghost use Rattle.std.specs.Prelude.{◌≡◌, ◌<◌, ◌^◌, IfOk, IfErr};
+    ghost use Rattle.pr_roles.specs.Scenarios.{scenario_of};
+    ghost use Rattle.pr_text.specs.Faults.{Fails};
+    ghost use Rattle.pr_text.specs.Drafts.{declared_by};
+    ghost use Rattle.pr_text.specs.Sound.{IsSound};
+    ghost use Rattle.pr_text.specs.Texts.{end_fault, ended};
+    ghost use Rattle.pr_text.specs.Readings.{IsDeclaredBy, IsWhole};
+
+    /// The scenario that is declared, where the text ends on the line of this number.
+    pub fn finished(self, alloc: Global, number: u32) -> Result<Scenario, ReadError>
+        requires { IsSound number (declared_by self) }
+        ensures found { IfOk result (λ scenario. IsWhole number (declared_by self) (scenario_of scenario)) }
+        ensures fault { IfErr result (λ e. Fails e (ended number (declared_by self))) }
+    {
+        if let Some(fault) = self.end_fault(number) {
+            return Err(fault);
+        }
+        let parts = self.parts(alloc)?;
+        match Scenario::make(parts) {
+            Ok(scenario) => Ok(scenario),
+            Err(_) => Err(ReadError::EmptyStart),
+        }
+    }
+
+    // What is missing where the text ends on the line of this number.
+    fn end_fault(&self, number: u32) -> Option<ReadError>
+        ensures { result ≡ end_fault number (declared_by self.now) }
+    {
+        match self.place {
+            Place::BeforeAll => Some(ReadError::Syntax { line: 1 }),
+            Place::Outside => whole_fault(number, &self.nexuses),
+            Place::InScript(_) | Place::InPlan(..) => Some(ReadError::Unclosed { line: number }),
+        }
+    }
+
+    // The parts that are declared.
+    #[tactic(auto, unfolding(pr_roles::specs::Scenarios::scenario_of))]
+    fn parts(self, alloc: Global) -> Result<Parts, AllocError>
+        ensures declared { IfOk result (λ parts. IsDeclaredBy (declared_by self) (scenario_of parts)) }
+        ensures room { IfOk result (λ parts. parts.generation < 2 ^ 32) }
+    {
+        let Builder {
+            keys,
+            reservations,
+            generation,
+            nexuses,
+            place: _,
+        } = self;
+        Ok(Parts {
+            keys: keys.unwrap_or(Vec::new(alloc)),
+            reservations: or_none(alloc, reservations)?,
+            generation: generation.unwrap_or(0),
+            nexuses: nexuses_of(alloc, nexuses)?,
+        })
+    }
+}
+
+// What is wrong with a text that ends on the line of this number, outside scripts and plans.
+fn whole_fault(line: u32, nexuses: &[Draft]) -> Option<ReadError>
+    ensures { result ≡ whole_fault line (map draft_seen nexuses.now) }
+{
+    if nexuses.is_empty() {
+        let which = Which::Hosts;
+        return Some(ReadError::Limit { which, line });
+    }
+    let line = first_unscripted(nexuses)?;
+    Some(ReadError::Syntax { line })
+}
+
+// The line of the first host that has no script.
+fn first_unscripted(nexuses: &[Draft]) -> Option<u32>
+    ensures { result ≡ first_unscripted (map draft_seen nexuses.now) }
+{
+    let mut rest = nexuses;
+    while let Some((first, others)) = rest.split_first() {
+        if !first.is_guest && first.task.is_none() {
+            return Some(first.line);
+        }
+        rest = others;
+    }
+    None
+}
+
+// The alternatives, or nothing alone where none are written.
+fn or_none<T: Drop>(
+    alloc: Global,
+    alternatives: Option<Vec<Option<T>>>,
+) -> Result<Vec<Option<T>>, AllocError>
+    ensures { IfOk result (λ v. v.items ≡ unwrap_or (option_map (λ xs. xs.items) alternatives) (None ∷ [])) }
+{
+    match alternatives {
+        Some(alternatives) => Ok(alternatives),
+        None => {
+            let mut nothing = Vec::new(alloc);
+            nothing.push(None)?;
+            Ok(nothing)
+        }
+    }
+}
+
+fn nexuses_of(alloc: Global, drafts: Vec<Draft>) -> Result<Vec<Nexus>, AllocError>
+    ensures { IfOk result (λ v. map nexus_written (map nexus_of v.items) ≡ map nexus_declared (map draft_seen drafts.items)) }
+{
+    let mut nexuses = Vec::new(alloc);
+    for draft in drafts {
+        nexuses.push(nexus_of(alloc, draft)?)?;
+    }
+    Ok(nexuses)
+}
+
+fn nexus_of(alloc: Global, draft: Draft) -> Result<Nexus, AllocError>
+    ensures { IfOk result (λ nexus. nexus_written (nexus_of nexus) ≡ nexus_declared (draft_seen draft)) }
+{
+    let Draft {
+        name,
+        line: _,
+        is_guest: _,
+        start,
+        pending,
+        role,
+        task,
+    } = draft;
+    Ok(Nexus {
+        name,
+        role: Role { clauses: role },
+        start: Start {
+            alternatives: or_none(alloc, start)?,
+        },
+        pending: pending.unwrap_or(Pending::new()),
+        task: task.unwrap_or(Task::Planned(Vec::new(alloc))),
+    })
+}

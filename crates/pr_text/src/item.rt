@@ -1,0 +1,332 @@
+//! What one line of a text says.
+
+ghost use Rattle.std.specs.Prelude.{◌≡◌, map, option_map, IfOk};
+ghost use Rattle.pr_registry.specs.Registrations.{is_all};
+ghost use Rattle.pr_text.specs.TextLines.{words};
+ghost use Rattle.pr_text.specs.WordTerms.{key_of, code_of};
+ghost use Rattle.pr_text.specs.Items.{listed, alternative_of, everybody_of, single_of, wanted_of, name_in, only_name, budget_in, fence_said, start_said, pending_said, role_said, script_said, said_simply, said_after, item_of, bare_said, keys_line, reservation_line};
+ghost use Rattle.pr_text.specs.ItemValues.{wanted_seen, seen};
+
+use crate::clauses::{clause_of, test_of};
+use crate::cutting::{is, is_end, next_word, only};
+use crate::keyword::{Keyword, keyword_of};
+use crate::spelling::{Spelled, spelled_in, spelled_of};
+use crate::terms::{code_of, count_of, generation_of, key_of, kind_of, name_of};
+use pr_attention::Attention;
+use pr_cdb::Kind;
+use pr_roles::{Clause, Word};
+use pr_script::Test;
+use std::alloc::{AllocError, Global};
+
+/// A reservation that there may be at the start.
+#[derive(Clone, Copy, Debug)]
+pub enum Wanted {
+    /// There is none.
+    Nobody,
+    /// It has one holder, with this name.
+    Single(Kind, Word),
+    /// All registrants hold it.
+    Everybody(Kind),
+}
+
+/// A line that keeps its shape, with the terms on it.
+#[derive(Debug, Drop)]
+pub enum Item {
+    Fence,
+    Keys(Vec<u64>),
+    Host(Word),
+    Guest(Word),
+    Start(Word, Vec<Option<u64>>),
+    Pending(Word, Vec<Attention>),
+    Reservation(Vec<Wanted>),
+    Generation(u32),
+    Role(Word, Clause),
+    Script(Word, u32),
+    Plan(Word),
+    End,
+    Send(Spelled),
+    On(Test),
+    Done,
+    Repeat(u32),
+    Break,
+    Stop(Word),
+    /// A command of a plan.
+    Command(Spelled),
+}
+
+/// What the line says that begins with the word, or nothing where it does not keep its shape.
+#[tactic(auto, unfolding(crate::specs::Items::item_of))]
+pub fn item_of(alloc: Global, word: &[u8], rest: &[u8]) -> Result<Option<Item>, AllocError>
+    ensures { IfOk result (λ item. option_map seen item ≡ item_of word.now (words rest.now)) }
+{
+    match keyword_of(word) {
+        Some(keyword) => said_after(alloc, keyword, rest),
+        None => Ok(spelled_of(word, rest).map(Item::Command)),
+    }
+}
+
+// What the words behind the keyword say.
+fn said_after(alloc: Global, keyword: Keyword, rest: &[u8]) -> Result<Option<Item>, AllocError>
+    ensures { IfOk result (λ item. option_map seen item ≡ said_after keyword (words rest.now)) }
+{
+    match keyword {
+        Keyword::Keys => keys_said(alloc, rest),
+        Keyword::Start => start_said(alloc, rest),
+        Keyword::Pending => pending_said(alloc, rest),
+        Keyword::Reservation => reservation_said(alloc, rest),
+        other => Ok(said_simply(other, rest)),
+    }
+}
+
+// What the words behind a keyword say that takes no list.
+fn said_simply(keyword: Keyword, rest: &[u8]) -> Option<Item>
+    ensures { option_map seen result ≡ said_simply keyword (words rest.now) }
+{
+    match keyword {
+        Keyword::Fence => fence_said(rest),
+        Keyword::Host => Some(Item::Host(only_name(rest)?)),
+        Keyword::Guest => Some(Item::Guest(only_name(rest)?)),
+        Keyword::Generation => Some(Item::Generation(generation_of(only(rest)?)?)),
+        Keyword::Role => role_said(rest),
+        Keyword::Script => script_said(rest),
+        Keyword::Plan => Some(Item::Plan(only_name(rest)?)),
+        Keyword::End => bare_said(Item::End, rest),
+        Keyword::Send => Some(Item::Send(spelled_in(rest)?)),
+        Keyword::On => Some(Item::On(test_of(rest)?)),
+        Keyword::Done => bare_said(Item::Done, rest),
+        Keyword::Repeat => Some(Item::Repeat(count_of(only(rest)?)?)),
+        Keyword::Break => bare_said(Item::Break, rest),
+        Keyword::Stop => Some(Item::Stop(only_name(rest)?)),
+        Keyword::Keys | Keyword::Start | Keyword::Pending | Keyword::Reservation => None,
+    }
+}
+
+// The item, if no word follows it.
+fn bare_said(item: Item, rest: &[u8]) -> Option<Item>
+    ensures { option_map seen result ≡ bare_said (seen item) (words rest.now) }
+{
+    if is_end(rest) { Some(item) } else { None }
+}
+
+fn fence_said(rest: &[u8]) -> Option<Item>
+    ensures { option_map seen result ≡ fence_said (words rest.now) }
+{
+    if is(only(rest)?, "1") {
+        Some(Item::Fence)
+    } else {
+        None
+    }
+}
+
+fn role_said(rest: &[u8]) -> Option<Item>
+    ensures { option_map seen result ≡ role_said (words rest.now) }
+{
+    let Some((name, others)) = name_in(rest) else {
+        return None;
+    };
+    let clause = clause_of(others)?;
+    Some(Item::Role(name, clause))
+}
+
+fn script_said(rest: &[u8]) -> Option<Item>
+    ensures { option_map seen result ≡ script_said (words rest.now) }
+{
+    let Some((name, others)) = name_in(rest) else {
+        return None;
+    };
+    let budget = budget_in(others)?;
+    Some(Item::Script(name, budget))
+}
+
+fn budget_in(line: &[u8]) -> Option<u32>
+    ensures { result ≡ budget_in (words line.now) }
+{
+    let (word, rest) = next_word(line)?;
+    if is(word, "budget") {
+        count_of(only(rest)?)
+    } else {
+        None
+    }
+}
+
+// The name that the line begins with, and what stands behind it.
+fn name_in(line: &[u8]) -> Option<(Word, &[u8])>
+    ensures { option_map (λ r. (r.0.bytes, words r.1.now)) result ≡ name_in (words line.now) }
+{
+    let (word, rest) = next_word(line)?;
+    let name = name_of(word)?;
+    Some((name, rest))
+}
+
+// The name that is the line's one word.
+fn only_name(line: &[u8]) -> Option<Word>
+    ensures { option_map (λ name. name.bytes) result ≡ only_name (words line.now) }
+{
+    name_of(only(line)?)
+}
+
+fn keys_said(alloc: Global, rest: &[u8]) -> Result<Option<Item>, AllocError>
+    ensures { IfOk result (λ item. option_map seen item ≡ option_map (λ keys. keys_line keys) (listed key_of (words rest.now))) }
+{
+    let keys = keys_in(alloc, rest)?;
+    Ok(keys.map(Item::Keys))
+}
+
+fn start_said(alloc: Global, rest: &[u8]) -> Result<Option<Item>, AllocError>
+    ensures { IfOk result (λ item. option_map seen item ≡ start_said (words rest.now)) }
+{
+    let Some((name, others)) = name_in(rest) else {
+        return Ok(None);
+    };
+    let alternatives = alternatives_in(alloc, others)?;
+    Ok(alternatives.map(|alternatives| Item::Start(name, alternatives)))
+}
+
+fn pending_said(alloc: Global, rest: &[u8]) -> Result<Option<Item>, AllocError>
+    ensures { IfOk result (λ item. option_map seen item ≡ pending_said (words rest.now)) }
+{
+    let Some((name, others)) = name_in(rest) else {
+        return Ok(None);
+    };
+    let attentions = attentions_in(alloc, others)?;
+    Ok(attentions.map(|attentions| Item::Pending(name, attentions)))
+}
+
+fn reservation_said(alloc: Global, rest: &[u8]) -> Result<Option<Item>, AllocError>
+    ensures { IfOk result (λ item. option_map seen item ≡ option_map (λ xs. reservation_line xs) (listed wanted_of (words rest.now))) }
+{
+    let wanted = wanted_in(alloc, rest)?;
+    Ok(wanted.map(Item::Reservation))
+}
+
+fn keys_in(alloc: Global, line: &[u8]) -> Result<Option<Vec<u64>>, AllocError>
+    ensures { IfOk result (λ keys. option_map (λ v. v.items) keys ≡ listed key_of (words line.now)) }
+{
+    if is_end(line) {
+        return Ok(None);
+    }
+    let mut keys = Vec::new(alloc);
+    let mut rest = line;
+    while let Some((word, others)) = next_word(rest) {
+        let Some(key) = key_of(word) else {
+            return Ok(None);
+        };
+        keys.push(key)?;
+        rest = others;
+    }
+    Ok(Some(keys))
+}
+
+fn alternatives_in(alloc: Global, line: &[u8]) -> Result<Option<Vec<Option<u64>>>, AllocError>
+    ensures { IfOk result (λ xs. option_map (λ v. v.items) xs ≡ listed alternative_of (words line.now)) }
+{
+    if is_end(line) {
+        return Ok(None);
+    }
+    let mut alternatives = Vec::new(alloc);
+    let mut rest = line;
+    while let Some((word, others)) = next_word(rest) {
+        let Some(alternative) = alternative_of(word) else {
+            return Ok(None);
+        };
+        alternatives.push(alternative)?;
+        rest = others;
+    }
+    Ok(Some(alternatives))
+}
+
+fn alternative_of(word: &[u8]) -> Option<Option<u64>>
+    ensures { result ≡ alternative_of word.now }
+{
+    if is(word, "free") {
+        return Some(None);
+    }
+    let key = key_of(word)?;
+    Some(Some(key))
+}
+
+fn attentions_in(alloc: Global, line: &[u8]) -> Result<Option<Vec<Attention>>, AllocError>
+    ensures { IfOk result (λ xs. option_map (λ v. v.items) xs ≡ listed code_of (words line.now)) }
+{
+    if is_end(line) {
+        return Ok(None);
+    }
+    let mut attentions = Vec::new(alloc);
+    let mut rest = line;
+    while let Some((word, others)) = next_word(rest) {
+        let Some(attention) = code_of(word) else {
+            return Ok(None);
+        };
+        attentions.push(attention)?;
+        rest = others;
+    }
+    Ok(Some(attentions))
+}
+
+fn wanted_in(alloc: Global, line: &[u8]) -> Result<Option<Vec<Wanted>>, AllocError>
+    ensures { IfOk result (λ xs. option_map (λ v. map wanted_seen v.items) xs ≡ listed wanted_of (words line.now)) }
+{
+    if is_end(line) {
+        return Ok(None);
+    }
+    let mut all = Vec::new(alloc);
+    let mut rest = line;
+    while let Some((word, others)) = next_word(rest) {
+        let Some(wanted) = wanted_of(word) else {
+            return Ok(None);
+        };
+        all.push(wanted)?;
+        rest = others;
+    }
+    Ok(Some(all))
+}
+
+// The reservation that the word is.
+#[tactic(auto, unfolding(crate::specs::Items::wanted_of))]
+fn wanted_of(word: &[u8]) -> Option<Wanted>
+    ensures { option_map wanted_seen result ≡ wanted_of word.now }
+{
+    if is(word, "none") {
+        return Some(Wanted::Nobody);
+    }
+    if word.len() == 1 {
+        return everybody_of(word);
+    }
+    single_of(word)
+}
+
+fn everybody_of(word: &[u8]) -> Option<Wanted>
+    ensures { option_map wanted_seen result ≡ everybody_of word.now }
+{
+    let kind = kind_of(word)?;
+    if is_all(kind) {
+        Some(Wanted::Everybody(kind))
+    } else {
+        None
+    }
+}
+
+// A type, a colon and a name.
+fn single_of(word: &[u8]) -> Option<Wanted>
+    ensures { option_map wanted_seen result ≡ single_of word.now }
+{
+    if word.len() < 2 || word[1] != b':' {
+        return None;
+    }
+    let kind = kind_of(&word[..1])?;
+    if is_all(kind) {
+        return None;
+    }
+    let name = name_of(&word[2..])?;
+    Some(Wanted::Single(kind, name))
+}
+
+// Whether all registrants hold a reservation of this type.
+fn is_all(kind: Kind) -> bool
+    ensures { result ≡ is_all kind }
+{
+    matches!(
+        kind,
+        Kind::WriteExclusiveAllRegistrants | Kind::ExclusiveAccessAllRegistrants
+    )
+}

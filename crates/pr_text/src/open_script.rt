@@ -1,0 +1,470 @@
+//! A script that is open: its statements so far, and the blocks that are open in it.
+
+ghost use Rattle.std.specs.Prelude.{◌≡◌, [], ◌∷◌, ◌++◌, IfOk};
+ghost use Rattle.pr_text.specs.ScriptSteps.{stands_under, is_test_declared, is_spelled, is_repeating, arm_fault};
+ghost use Rattle.pr_script.specs.Trees.{statement_of};
+ghost use Rattle.pr_text.specs.ScriptLines.{statement_lines, block_done};
+ghost use Rattle.pr_text.specs.OpenScripts.{block_by, opener_lines, lines_in};
+
+use crate::fault::{ReadError, Which};
+use crate::item::Item;
+use crate::spelling::Spelled;
+use pr_cdb::Command;
+use pr_roles::Word;
+use pr_script::{Arm, Script, Statement, Test, is_declared, is_written, is_written_key};
+use std::alloc::{AllocError, Global};
+use std::mem;
+
+const MOST_STATEMENTS: u32 = 512;
+
+const MOST_ARMS: usize = 16;
+
+const MOST_OPEN: usize = 8;
+
+const MOST_TURNS: u32 = 1000;
+
+/// A send that has no arm yet.
+#[derive(Clone, Copy, Debug, PartialEq, Eq)]
+pub struct Armless {
+    pub line: u32,
+    pub command: Command,
+}
+
+/// What begins a body: a repeat, or an arm of a send, behind the arms before it.
+#[derive(Debug, Drop)]
+pub enum Opener {
+    Repeat {
+        count: u32,
+    },
+    Arm {
+        line: u32,
+        command: Command,
+        arms: Vec<Arm>,
+        test: Test,
+    },
+}
+
+/// An open body: the statements before it, in the body round it, and what begins it.
+#[derive(Debug, Drop)]
+pub struct Frame {
+    pub body: Vec<Statement>,
+    pub opener: Opener,
+}
+
+/// A script that is open.
+#[derive(Debug, Drop)]
+pub struct OpenScript {
+    /// The number of its host.
+    pub host: usize,
+    pub budget: u32,
+    /// How many statements have begun.
+    pub statements: u32,
+    /// The open bodies, the innermost last.
+    pub outer: Vec<Frame>,
+    /// The statements of the innermost body.
+    pub body: Vec<Statement>,
+    /// The send that has no arm yet, behind these statements.
+    pub armless: Option<Armless>,
+}
+
+impl OpenScript {
+    ghost use Rattle.std.specs.Prelude.{◌≡◌, ◌==◌, false, IfOk, None, Some, [], length, count_by};
+    ghost use Rattle.pr_text.specs.Faults.{Gives};
+    ghost use Rattle.pr_text.specs.ItemValues.{seen};
+    ghost use Rattle.pr_text.specs.OpenScripts.{open_seen, opened_in};
+    ghost use Rattle.pr_text.specs.ScriptSteps.{awaits_arm, awaits_more, is_full, is_repeating, is_sending, send_step, repeat_step, break_step, stop_step, on_step, done_step, script_step, is_in_repeat};
+
+    /// A script without statements.
+    pub fn new(alloc: Global, host: usize, budget: u32) -> Self
+        ensures { open_seen result ≡ record { host = host; budget = budget; lines = []; statements = 0; blocks = []; begun = false } }
+    {
+        OpenScript {
+            host,
+            budget,
+            statements: 0,
+            outer: Vec::new(alloc),
+            body: Vec::new(alloc),
+            armless: None,
+        }
+    }
+
+    /// The script with one line more.
+    pub fn with_item(
+        self,
+        alloc: Global,
+        line: u32,
+        keys: &[u64],
+        item: Item,
+    ) -> Result<Self, ReadError>
+        ensures { Gives open_seen result (script_step line keys.now (seen item) (open_seen self)) }
+    {
+        match item {
+            Item::Send(spelled) => self.send(line, keys, spelled),
+            Item::On(test) => self.on(alloc, line, keys, test),
+            Item::Done => self.done(alloc, line),
+            Item::Repeat(count) => self.repeat(alloc, line, count),
+            Item::Break => self.break_out(line),
+            Item::Stop(word) => self.stop(line, word),
+            _ => Err(ReadError::Syntax { line }),
+        }
+    }
+
+    /// Whether no block is open.
+    #[tactic(auto, using(crate::proofs::OpenLines::length_blocks))]
+    pub fn is_closed(&self) -> bool
+        ensures { result ≡ (length (open_seen self.now).blocks == 0) }
+    {
+        self.armless.is_none() && self.outer.is_empty()
+    }
+
+    #[tactic(auto, using(crate::proofs::OpenLines::armed))]
+    fn awaits_arm(&self) -> bool
+        ensures { result ≡ awaits_arm (open_seen self.now).blocks }
+    {
+        self.armless.is_some()
+    }
+
+    // The innermost block is a repeat.
+    fn is_in_repeat(&self) -> bool
+        ensures { result ≡ is_in_repeat (open_seen self.now).blocks }
+    {
+        match self.outer.last() {
+            Some(frame) => self.armless.is_none() && is_repeat(&frame.opener),
+            None => false,
+        }
+    }
+
+    // Neither a break nor a stop may stand here.
+    fn awaits_more(&self) -> bool
+        ensures { result ≡ awaits_more (open_seen self.now) }
+    {
+        self.awaits_arm() || (self.is_in_repeat() && self.body.is_empty())
+    }
+
+    fn is_full(&self) -> bool
+        ensures { result ≡ is_full (open_seen self.now) }
+    {
+        self.statements >= MOST_STATEMENTS
+    }
+
+    // How many repeats are open.
+    #[tactic(auto, using(crate::proofs::OpenLines::count_repeats))]
+    fn open_repeats(&self) -> usize
+        ensures { result ≡ count_by is_repeating (open_seen self.now).blocks }
+    {
+        self.outer
+            .iter()
+            .filter(|frame| is_repeat(&frame.opener))
+            .count()
+    }
+
+    // How many sends are open, where each has an arm.
+    #[tactic(auto, using(crate::proofs::OpenLines::count_sends))]
+    fn open_sends(&self) -> usize
+        requires { self.now.armless ≡ None }
+        ensures { result ≡ count_by is_sending (open_seen self.now).blocks }
+    {
+        self.outer
+            .iter()
+            .filter(|frame| !is_repeat(&frame.opener))
+            .count()
+    }
+
+    #[tactic(auto, unfolding(crate::specs::ScriptSteps::send_step))]
+    fn send(mut self, line: u32, keys: &[u64], spelled: Spelled) -> Result<Self, ReadError>
+        ensures { Gives open_seen result (send_step line keys.now spelled (open_seen self)) }
+    {
+        if self.awaits_arm() {
+            return Err(ReadError::Syntax { line });
+        }
+        if !is_spelled(keys, spelled) {
+            return Err(ReadError::UndeclaredKey { line });
+        }
+        if self.is_full() {
+            let which = Which::Statements;
+            return Err(ReadError::Limit { which, line });
+        }
+        if self.open_sends() >= MOST_OPEN {
+            let which = Which::Nesting;
+            return Err(ReadError::Limit { which, line });
+        }
+        self.statements += 1;
+        self.armless = Some(Armless {
+            line,
+            command: spelled.command,
+        });
+        Ok(self)
+    }
+
+    #[tactic(auto, unfolding(crate::specs::ScriptSteps::repeat_step))]
+    fn repeat(self, alloc: Global, line: u32, count: u32) -> Result<Self, ReadError>
+        ensures { Gives open_seen result (repeat_step line count (open_seen self)) }
+    {
+        if self.awaits_arm() {
+            return Err(ReadError::Syntax { line });
+        }
+        if self.is_full() {
+            let which = Which::Statements;
+            return Err(ReadError::Limit { which, line });
+        }
+        if self.open_repeats() >= MOST_OPEN {
+            let which = Which::Nesting;
+            return Err(ReadError::Limit { which, line });
+        }
+        if count < 1 || count > MOST_TURNS {
+            let which = Which::Repeat;
+            return Err(ReadError::Limit { which, line });
+        }
+        let mut open = self.opened(alloc, Opener::Repeat { count })?;
+        open.statements += 1;
+        Ok(open)
+    }
+
+    // The script in which a body is open too.
+    #[tactic(auto, using(crate::proofs::OpenLines::more_blocks, crate::proofs::OpenLines::more_lines))]
+    fn opened(mut self, alloc: Global, opener: Opener) -> Result<Self, AllocError>
+        requires { self.armless ≡ None }
+        ensures { IfOk result (λ after. open_seen after ≡ opened_in opener (open_seen self)) }
+    {
+        let body = mem::replace(&mut self.body, Vec::new(alloc));
+        self.outer.push(Frame { body, opener })?;
+        Ok(self)
+    }
+
+    fn on(self, alloc: Global, line: u32, keys: &[u64], test: Test) -> Result<Self, ReadError>
+        ensures { Gives open_seen result (on_step line keys.now test (open_seen self)) }
+    {
+        match self.armless {
+            Some(send) => self.first_arm(alloc, line, keys, send, test),
+            None => self.next_arm(alloc, line, keys, test),
+        }
+    }
+
+    #[tactic(auto, unfolding(crate::specs::ScriptSteps::on_step), using(crate::proofs::Steps::fails_same, crate::proofs::OpenLines::first_arm))]
+    fn first_arm(
+        mut self,
+        alloc: Global,
+        line: u32,
+        keys: &[u64],
+        send: Armless,
+        test: Test,
+    ) -> Result<Self, ReadError>
+        requires { self.armless ≡ Some send }
+        ensures { Gives open_seen result (on_step line keys.now test (open_seen self)) }
+    {
+        if let Some(fault) = arm_fault(line, keys, send.command, 0, test) {
+            return Err(fault);
+        }
+        self.armless = None;
+        let opener = Opener::Arm {
+            line: send.line,
+            command: send.command,
+            arms: Vec::new(alloc),
+            test,
+        };
+        Ok(self.opened(alloc, opener)?)
+    }
+
+    #[tactic(auto, unfolding(crate::specs::ScriptSteps::on_step), using(crate::proofs::Steps::fails_same))]
+    fn next_arm(
+        mut self,
+        alloc: Global,
+        line: u32,
+        keys: &[u64],
+        test: Test,
+    ) -> Result<Self, ReadError>
+        requires { self.armless ≡ None }
+        ensures { Gives open_seen result (on_step line keys.now test (open_seen self)) }
+    {
+        let Some(Frame { body, opener }) = self.outer.pop() else {
+            return Err(ReadError::Syntax { line });
+        };
+        let Opener::Arm {
+            line: begun,
+            command,
+            mut arms,
+            test: last,
+        } = opener
+        else {
+            return Err(ReadError::Syntax { line });
+        };
+        if let Some(fault) = arm_fault(line, keys, command, arms.len() + 1, test) {
+            return Err(fault);
+        }
+        let statements = mem::replace(&mut self.body, Vec::new(alloc));
+        arms.push(Arm {
+            test: last,
+            body: Script { statements },
+        })?;
+        let opener = Opener::Arm {
+            line: begun,
+            command,
+            arms,
+            test,
+        };
+        self.outer.push(Frame { body, opener })?;
+        Ok(self)
+    }
+
+    fn done(self, alloc: Global, line: u32) -> Result<Self, ReadError>
+        ensures { Gives open_seen result (done_step line (open_seen self)) }
+    {
+        match self.armless {
+            Some(send) => self.armless_done(alloc, line, send),
+            None => self.body_done(line),
+        }
+    }
+
+    // The end of a send without arms.
+    #[tactic(auto, unfolding(crate::specs::ScriptSteps::done_step), using(crate::proofs::OpenLines::armless_closes))]
+    fn armless_done(mut self, alloc: Global, line: u32, send: Armless) -> Result<Self, ReadError>
+        requires { self.armless ≡ Some send }
+        ensures { Gives open_seen result (done_step line (open_seen self)) }
+    {
+        self.armless = None;
+        let statement = Statement::Send {
+            line: send.line,
+            command: send.command,
+            arms: Vec::new(alloc),
+        };
+        self.body.push(statement)?;
+        Ok(self)
+    }
+
+    // The end of the innermost body.
+    #[tactic(auto, unfolding(crate::specs::ScriptSteps::done_step))]
+    fn body_done(mut self, line: u32) -> Result<Self, ReadError>
+        requires { self.armless ≡ None }
+        ensures { Gives open_seen result (done_step line (open_seen self)) }
+    {
+        let Some(Frame { body, opener }) = self.outer.pop() else {
+            return Err(ReadError::Syntax { line });
+        };
+        if is_repeat(&opener) && self.body.is_empty() {
+            return Err(ReadError::Syntax { line });
+        }
+        let statements = mem::replace(&mut self.body, body);
+        let statement = closed(opener, Script { statements })?;
+        self.body.push(statement)?;
+        Ok(self)
+    }
+
+    #[tactic(auto, unfolding(crate::specs::ScriptSteps::break_step))]
+    fn break_out(mut self, line: u32) -> Result<Self, ReadError>
+        ensures { Gives open_seen result (break_step line (open_seen self)) }
+    {
+        if self.awaits_more() || self.open_repeats() == 0 {
+            return Err(ReadError::Syntax { line });
+        }
+        if self.is_full() {
+            let which = Which::Statements;
+            return Err(ReadError::Limit { which, line });
+        }
+        self.statements += 1;
+        self.body.push(Statement::Break)?;
+        Ok(self)
+    }
+
+    #[tactic(auto, unfolding(crate::specs::ScriptSteps::stop_step))]
+    fn stop(mut self, line: u32, word: Word) -> Result<Self, ReadError>
+        ensures { Gives open_seen result (stop_step line word.bytes (open_seen self)) }
+    {
+        if self.awaits_more() {
+            return Err(ReadError::Syntax { line });
+        }
+        if self.is_full() {
+            let which = Which::Statements;
+            return Err(ReadError::Limit { which, line });
+        }
+        self.statements += 1;
+        self.body.push(Statement::Stop(word))?;
+        Ok(self)
+    }
+}
+
+// Whether the opener is a repeat.
+fn is_repeat(opener: &Opener) -> bool
+    ensures { result ≡ is_repeating (block_by opener.now) }
+{
+    match opener {
+        Opener::Repeat { .. } => true,
+        Opener::Arm { .. } => false,
+    }
+}
+
+// The statement that the opener and its body are.
+#[tactic(auto, using(crate::proofs::OpenLines::closed_repeat, crate::proofs::OpenLines::closed_send))]
+fn closed(opener: Opener, body: Script) -> Result<Statement, AllocError>
+    ensures { IfOk result (λ s. statement_lines (statement_of s) ≡ opener_lines opener ++ (lines_in body.statements.items ++ block_done ∷ [])) }
+{
+    match opener {
+        Opener::Repeat { count } => Ok(Statement::Repeat { count, body }),
+        Opener::Arm {
+            line,
+            command,
+            mut arms,
+            test,
+        } => {
+            arms.push(Arm { test, body })?;
+            Ok(Statement::Send {
+                line,
+                command,
+                arms,
+            })
+        }
+    }
+}
+
+// Why an arm with this test may not be the next of a send that has so many.
+fn arm_fault(
+    line: u32,
+    keys: &[u64],
+    command: Command,
+    arms: usize,
+    test: Test,
+) -> Option<ReadError>
+    ensures { result ≡ arm_fault line keys.now test command arms }
+{
+    if !stands_under(command, test) {
+        return Some(ReadError::Syntax { line });
+    }
+    if !is_test_declared(keys, test) {
+        return Some(ReadError::UndeclaredKey { line });
+    }
+    if arms >= MOST_ARMS {
+        let which = Which::Arms;
+        return Some(ReadError::Limit { which, line });
+    }
+    None
+}
+
+// Whether an arm with this test stands under the command.
+fn stands_under(command: Command, test: Test) -> bool
+    ensures { result ≡ stands_under command test }
+{
+    match test {
+        Test::GoodHas(_) => matches!(command, Command::ReadKeys { .. }),
+        Test::GoodHeld(_) | Test::GoodUnheld => matches!(command, Command::ReadReservation { .. }),
+        Test::Good | Test::Conflict | Test::Attention | Test::Sense(_) => true,
+    }
+}
+
+fn is_test_declared(keys: &[u64], test: Test) -> bool
+    ensures { result ≡ is_test_declared keys.now test }
+{
+    match test {
+        Test::GoodHas(key) => is_declared(keys, key),
+        Test::GoodHeld(key) => is_written_key(keys, key),
+        _ => true,
+    }
+}
+
+/// Whether the command may stand in a script or plan under these declared keys, which have the keys that
+/// it drops, too.
+pub fn is_spelled(keys: &[u64], spelled: Spelled) -> bool
+    ensures { result ≡ is_spelled keys.now spelled }
+{
+    is_written(keys, spelled.command)
+        && is_written_key(keys, spelled.rk)
+        && is_written_key(keys, spelled.sark)
+}

@@ -1,0 +1,237 @@
+//! The options that spell a PERSISTENT RESERVE command.
+
+ghost use Rattle.std.specs.Prelude.{◌≡◌, ◌∷◌};
+ghost use Rattle.pr_text.specs.TextLines.{words};
+ghost use Rattle.pr_text.specs.CommandOptions.{way_of, action_of, key_after, option_of, with_option, with_options, unwritten, command_in, command_out, command_of};
+
+use crate::cutting::{is, next_word};
+use crate::terms::{key_or_zero, kind_of, value_after};
+use pr_cdb::{Command, Kind};
+
+// How many bytes of data a command asks for.
+const ALLOCATION_LENGTH: u16 = 8192;
+
+/// The way of a command's data: `--in` or `--out`.
+#[derive(Clone, Copy, Debug, PartialEq, Eq)]
+pub enum Way {
+    In,
+    Out,
+}
+
+/// A service action.
+#[derive(Clone, Copy, Debug, PartialEq, Eq)]
+pub enum Action {
+    ReadKeys,
+    ReadReservation,
+    ReportCapabilities,
+    Register,
+    RegisterIgnore,
+    Reserve,
+    Release,
+    Clear,
+    Preempt,
+    PreemptAbort,
+}
+
+/// One option of a command.
+#[derive(Clone, Copy, Debug, PartialEq, Eq)]
+pub enum CommandOption {
+    Toward(Way),
+    Doing(Action),
+    Rk(u64),
+    Sark(u64),
+    OfKind(Kind),
+}
+
+/// The options that are written, each at most once.
+#[derive(Clone, Copy, Debug, PartialEq, Eq)]
+pub struct Written {
+    pub way: Option<Way>,
+    pub action: Option<Action>,
+    pub rk: Option<u64>,
+    pub sark: Option<u64>,
+    pub kind: Option<Kind>,
+}
+
+impl Written {
+    ghost use Rattle.std.specs.Prelude.{◌≡◌};
+    ghost use Rattle.pr_text.specs.TextLines.{words};
+    ghost use Rattle.pr_text.specs.CommandOptions.{unwritten, with_option, with_options, is_bare, command_of};
+
+    /// Nothing is written.
+    pub fn new() -> Self
+        ensures { result ≡ unwritten }
+    {
+        Written {
+            way: None,
+            action: None,
+            rk: None,
+            sark: None,
+            kind: None,
+        }
+    }
+
+    /// What is written with one option more, if that was not written before.
+    #[tactic(auto, unfolding(crate::specs::CommandOptions::with_option))]
+    pub fn with(self, option: CommandOption) -> Option<Self>
+        ensures { result ≡ with_option self option }
+    {
+        let mut written = self;
+        match option {
+            CommandOption::Toward(way) if self.way.is_none() => written.way = Some(way),
+            CommandOption::Doing(action) if self.action.is_none() => written.action = Some(action),
+            CommandOption::Rk(rk) if self.rk.is_none() => written.rk = Some(rk),
+            CommandOption::Sark(sark) if self.sark.is_none() => written.sark = Some(sark),
+            CommandOption::OfKind(kind) if self.kind.is_none() => written.kind = Some(kind),
+            _ => return None,
+        }
+        Some(written)
+    }
+
+    // Whether neither a key nor a type is written.
+    fn is_bare(&self) -> bool
+        ensures { result ≡ is_bare self.now }
+    {
+        self.rk.is_none() && self.sark.is_none() && self.kind.is_none()
+    }
+
+    /// The command that the options spell.
+    #[tactic(auto, unfolding(crate::specs::CommandOptions::command_of))]
+    pub fn command(&self) -> Option<Command>
+        ensures { result ≡ command_of self.now }
+    {
+        let way = self.way?;
+        let action = self.action?;
+        match way {
+            Way::In if self.is_bare() => command_in(action),
+            Way::In => None,
+            Way::Out => command_out(
+                action,
+                self.rk.unwrap_or(0),
+                self.sark.unwrap_or(0),
+                self.kind,
+            ),
+        }
+    }
+}
+
+/// The options that the word and the line's words are.
+pub fn options_of(first: &[u8], line: &[u8]) -> Option<Written>
+    ensures { result ≡ with_options unwritten (first.now ∷ words line.now) }
+{
+    let mut written = Written::new().with(option_of(first)?)?;
+    let mut rest = line;
+    while let Some((word, others)) = next_word(rest) {
+        written = written.with(option_of(word)?)?;
+        rest = others;
+    }
+    Some(written)
+}
+
+// The one option that the word is.
+#[tactic(auto, unfolding(crate::specs::CommandOptions::option_of))]
+fn option_of(word: &[u8]) -> Option<CommandOption>
+    ensures { result ≡ option_of word.now }
+{
+    if let Some(way) = way_of(word) {
+        return Some(CommandOption::Toward(way));
+    }
+    if let Some(action) = action_of(word) {
+        return Some(CommandOption::Doing(action));
+    }
+    if let Some(rk) = key_after("--param-rk=", word) {
+        return Some(CommandOption::Rk(rk));
+    }
+    if let Some(sark) = key_after("--param-sark=", word) {
+        return Some(CommandOption::Sark(sark));
+    }
+    let kind = kind_of(value_after("--prout-type=", word)?)?;
+    Some(CommandOption::OfKind(kind))
+}
+
+fn key_after(name: &str, word: &[u8]) -> Option<u64>
+    ensures { result ≡ key_after name.now word.now }
+{
+    key_or_zero(value_after(name, word)?)
+}
+
+#[tactic(auto, unfolding(crate::specs::CommandOptions::way_of))]
+fn way_of(word: &[u8]) -> Option<Way>
+    ensures { result ≡ way_of word.now }
+{
+    if is(word, "--in") {
+        return Some(Way::In);
+    }
+    if is(word, "--out") {
+        return Some(Way::Out);
+    }
+    None
+}
+
+#[tactic(auto, unfolding(crate::specs::CommandOptions::action_of))]
+fn action_of(word: &[u8]) -> Option<Action>
+    ensures { result ≡ action_of word.now }
+{
+    if is(word, "--read-keys") {
+        return Some(Action::ReadKeys);
+    }
+    if is(word, "--read-reservation") {
+        return Some(Action::ReadReservation);
+    }
+    if is(word, "--report-capabilities") {
+        return Some(Action::ReportCapabilities);
+    }
+    if is(word, "--register") {
+        return Some(Action::Register);
+    }
+    if is(word, "--register-ignore") {
+        return Some(Action::RegisterIgnore);
+    }
+    if is(word, "--reserve") {
+        return Some(Action::Reserve);
+    }
+    if is(word, "--release") {
+        return Some(Action::Release);
+    }
+    if is(word, "--clear") {
+        return Some(Action::Clear);
+    }
+    if is(word, "--preempt") {
+        return Some(Action::Preempt);
+    }
+    if is(word, "--preempt-abort") {
+        return Some(Action::PreemptAbort);
+    }
+    None
+}
+
+// The commands of `--in`.
+#[tactic(auto, unfolding(crate::specs::CommandOptions::command_in))]
+fn command_in(action: Action) -> Option<Command>
+    ensures { result ≡ command_in action }
+{
+    let alloc = ALLOCATION_LENGTH;
+    match action {
+        Action::ReadKeys => Some(Command::ReadKeys { alloc }),
+        Action::ReadReservation => Some(Command::ReadReservation { alloc }),
+        Action::ReportCapabilities => Some(Command::ReportCapabilities { alloc }),
+        _ => None,
+    }
+}
+
+// The commands of `--out`.
+#[tactic(auto, unfolding(crate::specs::CommandOptions::command_out))]
+fn command_out(action: Action, rk: u64, sark: u64, kind: Option<Kind>) -> Option<Command>
+    ensures { result ≡ command_out action rk sark kind }
+{
+    match action {
+        Action::Register => Some(Command::Register { rk, sark }),
+        Action::RegisterIgnore => Some(Command::RegisterIgnore { sark }),
+        Action::Reserve => kind.map(|kind| Command::Reserve { rk, kind }),
+        Action::Release => kind.map(|kind| Command::Release { rk, kind }),
+        Action::Clear => Some(Command::Clear { rk }),
+        Action::Preempt if kind.is_some() => Some(Command::Preempt { rk, sark, kind }),
+        Action::PreemptAbort if kind.is_some() => Some(Command::PreemptAbort { rk, sark, kind }),
+        _ => None,
+    }
+}

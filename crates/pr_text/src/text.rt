@@ -1,0 +1,84 @@
+//! Scenarios from their texts.
+
+ghost use Rattle.std.specs.Prelude.{◌≡◌, ◌≤◌, length, IfOk, IfErr, IfSome};
+ghost use Rattle.std.specs.Str.Lines.{lines};
+ghost use Rattle.pr_roles.specs.Scenarios.{scenario_of};
+ghost use Rattle.pr_text.specs.Faults.{Gives, Fails};
+ghost use Rattle.pr_text.specs.Declarations.{nothing};
+ghost use Rattle.pr_text.specs.Drafts.{declared_by};
+ghost use Rattle.pr_text.specs.Texts.{AreRead, line_placed, all_placed, answer_of};
+ghost use Rattle.pr_text.specs.BytesRead.{LosesUpTo};
+ghost use Rattle.pr_text.specs.Readings.{IsWrittenAs, IsRead};
+
+use crate::builder::Builder;
+use crate::cutting::{is_text, next_line, next_word};
+use crate::fault::ReadError;
+use crate::item::item_of;
+use crate::source::all_bytes;
+use pr_roles::Scenario;
+use std::alloc::Global;
+use std::io::Read;
+
+const MOST_BYTES: usize = 65_536;
+
+const MOST_LINE_BYTES: usize = 256;
+
+/// The scenario that the text is which `reader` has left, or the text's one fault.
+///
+/// It asks for at most 65,537 bytes, and asks nothing again after an error.
+pub fn read<R: Read>(alloc: Global, reader: &mut R) -> Result<Scenario, ReadError>
+    ensures read { IfSome (R.remaining reader.old) (λ text. IsRead text result) }
+    ensures limited { LosesUpTo 65537 (R.remaining reader.old) (R.remaining reader.new) }
+{
+    let text = all_bytes(alloc, reader, MOST_BYTES + 1)?;
+    of_text(alloc, &text)
+}
+
+/// The scenario that the text is, or the text's one fault.
+pub fn of_text(alloc: Global, text: &[u8]) -> Result<Scenario, ReadError>
+    ensures found { IfOk result (λ scenario. IsWrittenAs text.now (scenario_of scenario)) }
+    ensures fault { IfErr result (λ e. Fails e (answer_of text.now)) }
+{
+    if text.len() > MOST_BYTES {
+        return Err(ReadError::TooLarge);
+    }
+    let (number, builder) = declared_in(alloc, text)?;
+    builder.finished(alloc, number)
+}
+
+// How many lines the text has, and what they declare.
+fn declared_in(alloc: Global, text: &[u8]) -> Result<(u32, Builder), ReadError>
+    requires { length text.now ≤ 65536 }
+    ensures ok { IfOk result (λ r. AreRead text.now r.0 (declared_by r.1)) }
+    ensures fault { IfErr result (λ e. Fails e (all_placed 0 (lines text.now) nothing)) }
+{
+    let mut number = 0;
+    let mut builder = Builder::new(alloc);
+    let mut rest = text;
+    while let Some((line, others)) = next_line(rest) {
+        number += 1;
+        builder = with_line(alloc, builder, number, line)?;
+        rest = others;
+    }
+    Ok((number, builder))
+}
+
+// What is declared with one line more.
+#[tactic(auto, unfolding(crate::specs::Texts::line_placed))]
+fn with_line(alloc: Global, builder: Builder, line: u32, text: &[u8]) -> Result<Builder, ReadError>
+    ensures { Gives declared_by result (line_placed line text.now (declared_by builder)) }
+{
+    if !is_text(text) {
+        return Err(ReadError::NotAscii { line });
+    }
+    if text.len() > MOST_LINE_BYTES {
+        return Err(ReadError::LineTooLong { line });
+    }
+    let Some((word, rest)) = next_word(text) else {
+        return Ok(builder);
+    };
+    let Some(item) = item_of(alloc, word, rest)? else {
+        return Err(ReadError::Syntax { line });
+    };
+    builder.with_item(alloc, line, item)
+}

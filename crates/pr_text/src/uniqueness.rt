@@ -1,0 +1,51 @@
+//! Lists without repetition.
+
+ghost use Rattle.std.specs.Prelude.{◌≡◌, ◌==◌};
+ghost use Rattle.std.specs.List.{list_any};
+ghost use Rattle.pr_attention.specs.Attentions.{code_of};
+ghost use Rattle.pr_roles.specs.Fitting.{are_distinct, is_same_reservation};
+ghost use Rattle.pr_text.specs.Declaring.{are_codes_distinct};
+
+use pr_attention::Attention;
+use pr_registry::Held;
+
+/// Whether no two items are equal.
+pub fn are_distinct<T: PartialEq>(items: &[T]) -> bool
+    ensures { result ≡ are_distinct T.eq items.now }
+{
+    let mut rest = items;
+    while let Some((first, others)) = rest.split_first() {
+        if others.contains(first) {
+            return false;
+        }
+        rest = others;
+    }
+    true
+}
+
+/// Whether no two reservations are equal.
+pub fn are_held_apart(reservations: &[Option<Held>]) -> bool
+    ensures { result ≡ are_distinct is_same_reservation reservations.now }
+{
+    are_distinct(reservations)
+}
+
+/// Whether no two attentions are equal.
+pub fn are_codes_distinct(attentions: &[Attention]) -> bool
+    ensures { result ≡ are_codes_distinct attentions.now }
+{
+    let mut rest = attentions;
+    while let Some((first, others)) = rest.split_first() {
+        if is_among(others, *first) {
+            return false;
+        }
+        rest = others;
+    }
+    true
+}
+
+fn is_among(others: &[Attention], attention: Attention) -> bool
+    ensures { result ≡ list_any (λ other. code_of other == code_of attention) others.now }
+{
+    others.iter().any(|other| other.code() == attention.code())
+}
