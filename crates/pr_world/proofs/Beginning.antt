@@ -1,0 +1,80 @@
+-- A scenario at its first start.
+use Rattle.std.proofs.Common.{◌≡◌, ℕ, zero, suc, ◌<◌, ◌&&◌, ◌==◌, not, Bool, true, false, nat_le, List, [], ◌∷◌, length, Some, refl, sym, ap, ◌∙◌, subst, get_or, arith}
+use Rattle.std.specs.Prelude.{map, bytes_eq}
+use Rattle.std.specs.List.{list_all}
+use Rattle.std.proofs.lemmas.Bool.Decides.{nat_tests}
+use Rattle.pr_script.proofs.Shallow.{shallow}
+use Rattle.pr_roles.specs.declared.parts.Nexus.{Nexus as NexusPart}
+use Rattle.pr_roles.specs.declared.parts.Parts.{Parts}
+use Rattle.pr_roles.specs.Scenarios.{Scenario, Nexus, Task, Scripted, Planned, nexus_of, task_of, scenario_of}
+use Rattle.pr_script.specs.Names.{is_name}
+use Rattle.pr_roles.specs.Fitting.{Fits, are_distinct, is_nexus, is_role, is_start, is_task, are_nexuses}
+use Rattle.pr_roles.specs.Starts.{IsAllowedStart, first_state}
+use Rattle.pr_roles.specs.Worlds.{control_of}
+use Rattle.pr_roles.specs.Schedules.{plan_of}
+use Rattle.pr_world.specs.declared.course.Course.{Course}
+use Rattle.pr_world.specs.Courses.{IsShort, IsBegun, seat_of, seat_from, is_free, is_planned}
+
+-- ---- what fits is short
+
+right : (a b : Bool) → (a && b) ≡ true → b ≡ true
+right true b is = is
+right false b is = let bad : false ≡ true = is in cc
+
+left : (a b : Bool) → (a && b) ≡ true → a ≡ true
+left true b is = refl
+left false b is = is
+
+short_task : (keys : List ℕ) (t : Task) → is_task keys t ≡ true → IsShort t
+short_task keys (Scripted script budget) is = shallow keys script (left _ _ is)
+short_task keys (Planned commands) is = let fits : nat_le (length commands) 256 ≡ true = left _ _ is in grind (arith, nat_tests)
+
+short_nexus : (keys : List ℕ) (n : Nexus) → is_nexus keys n ≡ true → IsShort n.task
+short_nexus keys n is = short_task keys n.task (right (is_start keys n.start) _ (right (is_role keys n.role) _ (right (is_name n.name) _ is)))
+
+short_each : (keys : List ℕ) (ns : List NexusPart) (i : ℕ) (d : NexusPart) → list_all (is_nexus keys) (map nexus_of ns) ≡ true → i < length ns → IsShort (task_of (get_or ns i d).task)
+short_each keys [] i d all there = absurd (omega arith)
+short_each keys (n ∷ ns) zero d all there = short_nexus keys (nexus_of n) (left _ _ all)
+short_each keys (n ∷ ns) (suc i) d all there = short_each keys ns i d (right _ _ all) (omega arith)
+
+pub short_part : (p : Parts) (i : ℕ) (d : NexusPart) → Fits (scenario_of p) → i < length p.nexuses.items → IsShort (task_of (get_or p.nexuses.items i d).task)
+unfolding scenario_of
+short_part p i d fits there = short_each p.keys.items p.nexuses.items i d (each p.keys.items (map nexus_of p.nexuses.items) fits.nexuses) there
+  where
+    each : (keys : List ℕ) (ns : List Nexus) → are_nexuses keys ns ≡ true → list_all (is_nexus keys) ns ≡ true
+    each keys ns is = right (are_distinct bytes_eq (map (λ n. n.name) ns)) _ (right (nat_le (length ns) 8) _ (right (not (length ns == 0)) _ is))
+
+pub short_at : (p q : Parts) (ns : List NexusPart) (i : ℕ) (n : NexusPart) → Fits (scenario_of p) → q ≡ p → ns ≡ q.nexuses.items → i < length ns → n ≡ get_or ns i n → IsShort (task_of n.task)
+short_at p q ns i n fits same items there is =
+    let whole : ns ≡ p.nexuses.items = items ∙ ap (λ r. r.nexuses.items) same in
+    let there : i < length p.nexuses.items = rw (← whole) there in
+    subst (λ m. IsShort (task_of m.task)) (sym (is ∙ ap (λ xs. get_or xs i n) whole)) (short_part p i n fits there)
+
+-- ---- each at its beginning
+
+controls_from : (ns : List Nexus) → map (λ x. x.control) (map (λ n. seat_from n.task) ns) ≡ map (λ n. control_of n.task) ns
+controls_from [] = refl
+controls_from (n ∷ ns) = ap (λ ks. control_of n.task ∷ ks) (controls_from ns)
+
+plans_from : (ns : List Nexus) → map (λ x. x.plan) (map (λ n. seat_from n.task) ns) ≡ map (λ n. plan_of n.task) ns
+plans_from [] = refl
+plans_from (n ∷ ns) = ap (λ ps. plan_of n.task ∷ ps) (plans_from ns)
+
+free_from : (t : Task) → is_free (control_of t) ≡ is_planned t
+free_from (Scripted script budget) = refl
+free_from (Planned commands) = refl
+
+tasks_from : (ns : List Nexus) → map (λ x. is_free x.control) (map (λ n. seat_from n.task) ns) ≡ map (λ n. is_planned n.task) ns
+tasks_from [] = refl
+tasks_from (n ∷ ns) = λ i. free_from n.task i ∷ tasks_from ns i
+
+pub begun : (s : Scenario) (c : Course) → Some c.unit ≡ first_state s → IsAllowedStart s c.unit → map seat_of c.players.items ≡ map (λ n. seat_from n.task) s.nexuses → c.entries.items ≡ [] → IsBegun s c
+begun s c first allowed seats none = record {
+  start = c.unit;
+  first = sym first;
+  schedule =
+      let controls = ap (map (λ x. x.control)) seats ∙ controls_from s.nexuses in
+      let plans = ap (map (λ x. x.plan)) seats ∙ plans_from s.nexuses in
+      λ i. record { world = record { unit = c.unit; controls = controls i; entries = none i }; plans = plans i };
+  stands = record { hosts = allowed.hosts; tasks = ap (map (λ x. is_free x.control)) seats ∙ tasks_from s.nexuses };
+}

@@ -1,0 +1,9 @@
+pub mod Steps
+pub mod Acting
+pub mod Spelled
+pub mod Seats
+pub mod Happening
+pub mod Turning
+pub mod Beginning
+pub mod Trapping
+pub mod Running

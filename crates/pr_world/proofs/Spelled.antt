@@ -1,0 +1,92 @@
+-- What a command is spelled as are bytes.
+use Rattle.std.proofs.Common.{◌≡◌, ℕ, zero, suc, ◌/◌, ◌%◌, ◌^◌, ◌<◌, ◌&&◌, nat_lt, Bool, true, false, ◌++◌, List, [], ◌∷◌, Option, Some, None, refl, arith}
+use Rattle.std.specs.List.{list_all}
+use Rattle.std.proofs.lemmas.Bool.Decides.{nat_tests}
+use Rattle.std.specs.Int.{w16, w32, w64, byte_at, bytes_high_first, to_be_bytes}
+use Rattle.pr_cdb.specs.declared.command.Kind.{Kind}
+use Rattle.pr_cdb.specs.declared.command.Kind.TheVariants.{WriteExclusive, ExclusiveAccess, WriteExclusiveRegistrantsOnly, ExclusiveAccessRegistrantsOnly, WriteExclusiveAllRegistrants, ExclusiveAccessAllRegistrants}
+use Rattle.pr_cdb.specs.declared.command.Command.{Command}
+use Rattle.pr_cdb.specs.declared.command.Command.TheVariants.{TestUnitReady, RequestSense, Read, Write, ReadKeys, ReadReservation, ReportCapabilities, Register, RegisterIgnore, Reserve, Release, Clear, Preempt, PreemptAbort}
+use Rattle.pr_cdb.specs.Kinds.{code_of}
+use Rattle.pr_cdb.specs.Requests.{AreBytes}
+use Rattle.pr_cdb.specs.Spelling.{spelling, kind_byte, transfer, reserve_in, reserve_out}
+
+none : AreBytes []
+none i = omega arith
+
+more : (b : ℕ) (bs : List ℕ) → b < 256 → AreBytes bs → AreBytes (b ∷ bs)
+more b bs small rest zero = small
+more b bs small rest (suc i) = rest i
+
+both : (bs cs : List ℕ) → AreBytes bs → AreBytes cs → AreBytes (bs ++ cs)
+both [] cs first rest = rest
+both (b ∷ bs) cs first rest = more b (bs ++ cs) (first 0) (both bs cs (λ i. first (suc i)) rest)
+
+remainder_small : (x : ℕ) → x % 256 < 256
+remainder_small x = omega arith
+
+byte_small : (i n : ℕ) → byte_at i n < 256
+byte_small zero n = remainder_small n
+byte_small (suc i) n = remainder_small (n / 256 ^ suc i)
+
+number : (k n : ℕ) → AreBytes (bytes_high_first k n)
+number zero n = none
+number (suc k) n = more (byte_at k n) (bytes_high_first k n) (byte_small k n) (number k n)
+
+literal : (bs : List ℕ) → list_all (λ b. nat_lt b 256) bs ≡ true → AreBytes bs
+literal [] is = none
+literal (b ∷ bs) is = at (nat_lt b 256) (list_all (λ x. nat_lt x 256) bs) refl is (literal bs)
+  where
+    at : (here rest : Bool) → nat_lt b 256 ≡ here → (here && rest) ≡ true → (rest ≡ true → AreBytes bs) → AreBytes (b ∷ bs)
+    at true rest first is later = more b bs (grind (arith, nat_tests)) (later is)
+    at false rest first is later = let bad : false ≡ true = is in cc
+
+code_small : (kind : Kind) → code_of kind < 256
+code_small WriteExclusive = omega arith
+code_small ExclusiveAccess = omega arith
+code_small WriteExclusiveRegistrantsOnly = omega arith
+code_small ExclusiveAccessRegistrantsOnly = omega arith
+code_small WriteExclusiveAllRegistrants = omega arith
+code_small ExclusiveAccessAllRegistrants = omega arith
+
+kind_small : (kind : Option Kind) → kind_byte kind < 256
+kind_small None = omega arith
+kind_small (Some kind) = code_small kind
+
+transferred : (opcode lba blocks : ℕ) → opcode < 256 → AreBytes (transfer opcode lba blocks).cdb.items × AreBytes (transfer opcode lba blocks).params.items
+transferred opcode lba blocks small =
+    let head = more opcode (0 ∷ []) small (literal (0 ∷ []) refl) in
+    let address = both (opcode ∷ 0 ∷ []) (to_be_bytes w32 lba) head (number 4 lba) in
+    let group = both ((opcode ∷ 0 ∷ []) ++ to_be_bytes w32 lba) (0 ∷ []) address (literal (0 ∷ []) refl) in
+    let count = both ((opcode ∷ 0 ∷ []) ++ to_be_bytes w32 lba ++ (0 ∷ [])) (to_be_bytes w16 blocks) group (number 2 blocks) in
+    (both ((opcode ∷ 0 ∷ []) ++ to_be_bytes w32 lba ++ (0 ∷ []) ++ to_be_bytes w16 blocks) (0 ∷ []) count (literal (0 ∷ []) refl), none)
+
+asked : (action alloc : ℕ) → action < 256 → AreBytes (reserve_in action alloc).cdb.items × AreBytes (reserve_in action alloc).params.items
+asked action alloc small =
+    let head = more 0x5e (action ∷ 0 ∷ 0 ∷ 0 ∷ 0 ∷ 0 ∷ []) (omega arith) (more action (0 ∷ 0 ∷ 0 ∷ 0 ∷ 0 ∷ []) small (literal (0 ∷ 0 ∷ 0 ∷ 0 ∷ 0 ∷ []) refl)) in
+    let length = both (0x5e ∷ action ∷ 0 ∷ 0 ∷ 0 ∷ 0 ∷ 0 ∷ []) (to_be_bytes w16 alloc) head (number 2 alloc) in
+    (both ((0x5e ∷ action ∷ 0 ∷ 0 ∷ 0 ∷ 0 ∷ 0 ∷ []) ++ to_be_bytes w16 alloc) (0 ∷ []) length (literal (0 ∷ []) refl), none)
+
+told : (action kind rk sark : ℕ) → action < 256 → kind < 256 → AreBytes (reserve_out action kind rk sark).cdb.items × AreBytes (reserve_out action kind rk sark).params.items
+told action kind rk sark small also =
+    let rest = literal (0 ∷ 0 ∷ 0 ∷ 0 ∷ 0 ∷ 24 ∷ 0 ∷ []) refl in
+    let cdb = more 0x5f (action ∷ kind ∷ 0 ∷ 0 ∷ 0 ∷ 0 ∷ 0 ∷ 24 ∷ 0 ∷ []) (omega arith) (more action (kind ∷ 0 ∷ 0 ∷ 0 ∷ 0 ∷ 0 ∷ 24 ∷ 0 ∷ []) small (more kind (0 ∷ 0 ∷ 0 ∷ 0 ∷ 0 ∷ 24 ∷ 0 ∷ []) also rest)) in
+    let keys = both (to_be_bytes w64 rk) (to_be_bytes w64 sark) (number 8 rk) (number 8 sark) in
+    (cdb, both (to_be_bytes w64 rk ++ to_be_bytes w64 sark) (0 ∷ 0 ∷ 0 ∷ 0 ∷ 0 ∷ 0 ∷ 0 ∷ 0 ∷ []) keys (literal (0 ∷ 0 ∷ 0 ∷ 0 ∷ 0 ∷ 0 ∷ 0 ∷ 0 ∷ []) refl))
+
+pub are_bytes : (c : Command) → AreBytes (spelling c).cdb.items × AreBytes (spelling c).params.items
+unfolding spelling
+are_bytes TestUnitReady = (literal (0 ∷ 0 ∷ 0 ∷ 0 ∷ 0 ∷ 0 ∷ []) refl, none)
+are_bytes RequestSense = (literal (3 ∷ 0 ∷ 0 ∷ 0 ∷ 18 ∷ 0 ∷ []) refl, none)
+are_bytes (Read lba blocks) = transferred 0x28 lba blocks (omega arith)
+are_bytes (Write lba blocks) = transferred 0x2a lba blocks (omega arith)
+are_bytes (ReadKeys alloc) = asked 0x00 alloc (omega arith)
+are_bytes (ReadReservation alloc) = asked 0x01 alloc (omega arith)
+are_bytes (ReportCapabilities alloc) = asked 0x02 alloc (omega arith)
+are_bytes (Register rk sark) = told 0x00 0 rk sark (omega arith) (omega arith)
+are_bytes (Reserve rk kind) = told 0x01 (code_of kind) rk 0 (omega arith) (code_small kind)
+are_bytes (Release rk kind) = told 0x02 (code_of kind) rk 0 (omega arith) (code_small kind)
+are_bytes (Clear rk) = told 0x03 0 rk 0 (omega arith) (omega arith)
+are_bytes (Preempt rk sark kind) = told 0x04 (kind_byte kind) rk sark (omega arith) (kind_small kind)
+are_bytes (PreemptAbort rk sark kind) = told 0x05 (kind_byte kind) rk sark (omega arith) (kind_small kind)
+are_bytes (RegisterIgnore sark) = told 0x06 0 0 sark (omega arith) (omega arith)

@@ -1,0 +1,193 @@
+-- What one host or guest does makes the turn of the schedule.
+use Rattle.std.proofs.Common.{◌≡◌, ℕ, ◌<◌, Bool, true, false, List, [], ◌∷◌, ◌++◌, length, Option, Some, None, refl, sym, ap, ◌∙◌, subst, get_or, vec_len, Vec, Global, arith}
+use Rattle.std.specs.Prelude.{map, slice_set, option_map}
+use Rattle.std.specs.Option.{option_map_or, option_to_list}
+use Rattle.std.proofs.lemmas.List.{map-set, append-nil, length-map}
+use Rattle.std.proofs.lemmas.Option.{slice_get-map, slice_get-get_or}
+use Rattle.std.proofs.Math.ListN.{get_or-map}
+use Rattle.std.proofs.Math.Seq.{map-set_same}
+use Rattle.pr_cdb.specs.declared.command.Command.{Command}
+use Rattle.pr_cdb.specs.declared.reply.Reply.{Reply}
+use Rattle.pr_unit.specs.UnitStates.{UnitState}
+use Rattle.pr_script.specs.Scripts.{Configuration, Standing, ready, stopped}
+use Rattle.pr_script.specs.Takes.{take}
+use Rattle.pr_roles.specs.declared.role.Clause.{Clause}
+use Rattle.pr_roles.specs.declared.entry.Entry.{Entry}
+use Rattle.pr_roles.specs.declared.parts.Nexus.{Nexus as NexusPart}
+use Rattle.pr_roles.specs.declared.parts.Parts.{Parts}
+use Rattle.pr_roles.specs.Scenarios.{Scenario, Task, Scripted, Planned, nexus, role, nexus_of, scenario_of}
+use Rattle.pr_roles.specs.Worlds.{Control, Going, Trapped, Free, standing_of, going_or_trapped, taken}
+use Rattle.pr_roles.specs.Schedules.{HostTurn, SendsUnless, GuestTurn, TurnBy, Turn, is_held_back}
+use Rattle.pr_world.specs.declared.player.Player.{Player}
+use Rattle.pr_world.specs.Courses.{Seat, seat, seat_of, schedule_by, StandsFor, HasHappened, is_free, is_planned}
+use Rattle.pr_world.proofs.Seats.{at_seat, control_at, has_task, plan_at, rests, sends, with_seat, world_by}
+use Rattle.pr_world.proofs.Happening.{happens_at_seat}
+use Rattle.pr_world.specs.Turns.{Acts, ActsAs, GuestActs, HostActs, SendsOr}
+
+-- ---- hosts
+
+host_turn : (o : Option Standing) (u v : UnitState) (xs : List Seat) (es : List Entry) (h : ℕ) (e : Option Entry) (x y : Seat) → h < length xs → get_or xs h x ≡ x
+    → HostActs o h x u e y v → HostTurn o (world_by u xs es) h (world_by v (with_seat xs h y) (es ++ option_to_list e)) × (map (λ s. s.plan) (with_seat xs h y) ≡ map (λ s. s.plan) xs)
+host_turn (Some (ready line c)) u v xs es h (Some e) x y there at acts = (
+  sends u v xs es h line c e x y (at_seat xs h x there at) acts.0 (ap (λ s. s.control) acts.1),
+  map-set_same (λ s. s.plan) xs h y x (ap (λ s. s.plan) acts.1 ∙ ap (λ s. s.plan) (sym at)),
+)
+host_turn (Some (ready line c)) u v xs es h None x y there at acts = absurd acts
+host_turn (Some (stopped w)) u v xs es h (Some e) x y there at acts = absurd acts
+host_turn (Some (stopped w)) u v xs es h None x y there at acts =
+    (rests u v xs es h x y at (ap (λ s. s.control) acts.0) acts.1, map-set_same (λ s. s.plan) xs h y x (ap (λ s. s.plan) (acts.0 ∙ sym at)))
+host_turn None u v xs es h (Some e) x y there at acts = absurd acts
+host_turn None u v xs es h None x y there at acts =
+    (rests u v xs es h x y at (ap (λ s. s.control) acts.0) acts.1, map-set_same (λ s. s.plan) xs h y x (ap (λ s. s.plan) (acts.0 ∙ sym at)))
+
+-- ---- guests
+
+sends_unless : (b : Bool) (u v : UnitState) (xs : List Seat) (es : List Entry) (h : ℕ) (c : Command) (e : Option Entry) (x y : Seat) → h < length xs → get_or xs h x ≡ x
+    → x.control ≡ Free → y.control ≡ Free → SendsOr b h u c e v → SendsUnless b (world_by u xs es) h c (world_by v (with_seat xs h y) (es ++ option_to_list e))
+sends_unless true u v xs es h c (Some e) x y there at free still acts = absurd acts
+sends_unless true u v xs es h c None x y there at free still acts = rests u v xs es h x y at (still ∙ sym free) acts
+sends_unless false u v xs es h c (Some e) x y there at free still acts =
+    sends u v xs es h 0 c e x y (at_seat xs h x there at) acts (still ∙ ap (λ k. taken 0 k e.reply) (sym free))
+sends_unless false u v xs es h c None x y there at free still acts = absurd acts
+
+guest_turn : (clauses : List Clause) (planned : List Command) (u v : UnitState) (xs : List Seat) (es : List Entry) (h : ℕ) (e : Option Entry) (x y : Seat) → h < length xs
+    → get_or xs h x ≡ x → x.control ≡ Free → GuestActs clauses h planned u e y v
+    → GuestTurn clauses planned (world_by u xs es) h (world_by v (with_seat xs h y) (es ++ option_to_list e)) y.plan
+guest_turn clauses [] u v xs es h (Some e) x y there at free acts = absurd acts
+guest_turn clauses [] u v xs es h None x y there at free acts =
+    (rests u v xs es h x y at (ap (λ s. s.control) acts.0 ∙ sym free) acts.1, ap (λ s. s.plan) acts.0)
+guest_turn clauses (c ∷ cs) u v xs es h e x y there at free acts =
+    (sends_unless (is_held_back clauses u h c) u v xs es h c e x y there at free (ap (λ s. s.control) acts.1) acts.0, ap (λ s. s.plan) acts.1)
+
+-- ---- the turn
+
+turn_by : (t : Task) (k : Control) (s : Scenario) (u v : UnitState) (xs : List Seat) (es : List Entry) (h : ℕ) (e : Option Entry) (p : List Command) (y : Seat) → h < length xs
+    → get_or xs h (seat k p) ≡ seat k p → is_planned t ≡ is_free k → ActsAs k (role s h) h (seat k p) u e y v
+    → TurnBy (Some t) s (schedule_by u xs es) h (schedule_by v (with_seat xs h y) (es ++ option_to_list e))
+turn_by (Scripted script budget) Free s u v xs es h e p y there at fits acts = let bad : false ≡ true = fits in cc
+turn_by (Scripted script budget) (Going l) s u v xs es h e p y there at fits acts =
+    let x = seat (Going l) p in
+    subst (λ k. HostTurn (standing_of k) (world_by u xs es) h (world_by v (with_seat xs h y) (es ++ option_to_list e)) × (map (λ s. s.plan) (with_seat xs h y) ≡ map (λ s. s.plan) xs))
+    (sym (control_at u xs es h x (at_seat xs h x there at))) (host_turn (standing_of (Going l)) u v xs es h e x y there at acts)
+turn_by (Scripted script budget) (Trapped line) s u v xs es h e p y there at fits acts =
+    let x = seat (Trapped line) p in
+    subst (λ k. HostTurn (standing_of k) (world_by u xs es) h (world_by v (with_seat xs h y) (es ++ option_to_list e)) × (map (λ s. s.plan) (with_seat xs h y) ≡ map (λ s. s.plan) xs))
+    (sym (control_at u xs es h x (at_seat xs h x there at))) (host_turn None u v xs es h e x y there at acts)
+turn_by (Planned commands) (Going l) s u v xs es h e p y there at fits acts = let bad : true ≡ false = fits in cc
+turn_by (Planned commands) (Trapped line) s u v xs es h e p y there at fits acts = let bad : true ≡ false = fits in cc
+turn_by (Planned commands) Free s u v xs es h e p y there at fits acts =
+    let x = seat Free p in
+    let turn = subst (λ cs. GuestTurn (role s h) cs (world_by u xs es) h (world_by v (with_seat xs h y) (es ++ option_to_list e)) y.plan)
+    (sym (plan_at u xs es h x (at_seat xs h x there at))) (guest_turn (role s h) p u v xs es h e x y there at refl acts) in
+    (y.plan, turn, map-set (λ s. s.plan) xs h y)
+
+pub turn_of_seats : (s : Scenario) (u v : UnitState) (xs : List Seat) (es : List Entry) (h : ℕ) (e : Option Entry) (x y : Seat) → StandsFor s u xs → h < length xs
+    → get_or xs h x ≡ x → Acts (role s h) h x u e y v → Turn s (schedule_by u xs es) h (schedule_by v (with_seat xs h y) (es ++ option_to_list e))
+turn_of_seats s u v xs es h e x y stands there at acts =
+    let has = has_task s u xs h x stands (at_seat xs h x there at) in
+    subst (λ o. TurnBy (option_map_or (λ n. Some n.task) o None) s (schedule_by u xs es) h (schedule_by v (with_seat xs h y) (es ++ option_to_list e))) (sym has.is)
+    (turn_by has.nexus.task x.control s u v xs es h e x.plan y there at has.planned acts)
+
+-- ---- who is a guest stays one
+
+free_taken : (line : ℕ) (l : Configuration) (r : Reply) → is_free (taken line (Going l) r) ≡ false
+free_taken line l r = at (take l r)
+  where
+    at : (o : Option Configuration) → is_free (going_or_trapped line o) ≡ false
+    at None = refl
+    at (Some m) = refl
+
+free_host : (o : Option Standing) (h : ℕ) (x : Seat) (u : UnitState) (e : Option Entry) (y : Seat) (v : UnitState) → ((line : ℕ) (r : Reply) → is_free (taken line x.control r) ≡ is_free x.control)
+    → HostActs o h x u e y v → is_free y.control ≡ is_free x.control
+free_host (Some (ready line c)) h x u (Some e) y v same acts = ap (λ s. is_free s.control) acts.1 ∙ same line e.reply
+free_host (Some (ready line c)) h x u None y v same acts = absurd acts
+free_host (Some (stopped w)) h x u (Some e) y v same acts = absurd acts
+free_host (Some (stopped w)) h x u None y v same acts = ap (λ s. is_free s.control) acts.0
+free_host None h x u (Some e) y v same acts = absurd acts
+free_host None h x u None y v same acts = ap (λ s. is_free s.control) acts.0
+
+free_guest : (clauses : List Clause) (h : ℕ) (planned : List Command) (u : UnitState) (e : Option Entry) (y : Seat) (v : UnitState) → GuestActs clauses h planned u e y v → is_free y.control ≡ true
+free_guest clauses h [] u (Some e) y v acts = absurd acts
+free_guest clauses h [] u None y v acts = ap (λ s. is_free s.control) acts.0
+free_guest clauses h (c ∷ cs) u e y v acts = ap (λ s. is_free s.control) acts.1
+
+free_kept : (clauses : List Clause) (h : ℕ) (k : Control) (p : List Command) (u : UnitState) (e : Option Entry) (y : Seat) (v : UnitState) → ActsAs k clauses h (seat k p) u e y v → is_free y.control ≡ is_free k
+free_kept clauses h (Going l) p u e y v acts = free_host (standing_of (Going l)) h (seat (Going l) p) u e y v (λ line r. free_taken line l r) acts
+free_kept clauses h (Trapped at) p u e y v acts = free_host None h (seat (Trapped at) p) u e y v (λ line r. refl) acts
+free_kept clauses h Free p u e y v acts = free_guest clauses h p u e y v acts
+
+-- ---- players
+
+-- after the turn of one among these players
+pub record IsTurned (s : Scenario) (u : UnitState) (ps : List Player) (es : List Entry) (h : ℕ) (v : UnitState) (qs : List Player) (fs : List Entry) : Type 0 where
+  pub turn : Turn s (schedule_by u (map seat_of ps) es) h (schedule_by v (map seat_of qs) fs)
+  pub happens : HasHappened s (world_by u (map seat_of ps) es) (world_by v (map seat_of qs) fs)
+  pub stands : StandsFor s v (map seat_of qs)
+
+length-tasks : (s : Scenario) (u : UnitState) (xs : List Seat) → StandsFor s u xs → length xs ≡ length s.nexuses
+length-tasks s u xs stands = sym (length-map xs (λ x. is_free x.control)) ∙ (ap length stands.tasks ∙ length-map s.nexuses (λ n. is_planned n.task))
+
+pub length-players : (s : Scenario) (u : UnitState) (ps : List Player) → StandsFor s u (map seat_of ps) → length ps ≡ length s.nexuses
+length-players s u ps stands = sym (length-map ps seat_of) ∙ length-tasks s u (map seat_of ps) stands
+
+turned : (s : Scenario) (u v : UnitState) (ps : List Player) (es : List Entry) (h : ℕ) (e : Option Entry) (p q : Player) → StandsFor s u (map seat_of ps) → h < length s.nexuses
+    → get_or ps h p ≡ p → Acts (role s h) h (seat_of p) u e (seat_of q) v → v.registry.hosts ≡ u.registry.hosts → IsTurned s u ps es h v (slice_set ps h q) (es ++ option_to_list e)
+turned s u v ps es h e p q stands there at acts hosts =
+    let xs = map seat_of ps in
+    let among : h < length xs = rw (length-tasks s u xs stands) there in
+    let seated : get_or xs h (seat_of p) ≡ seat_of p = get_or-map seat_of ps h p ∙ ap seat_of at in
+    let seats : map seat_of (slice_set ps h q) ≡ slice_set xs h (seat_of q) = map-set seat_of ps h q in
+    let free = free_kept (role s h) h (seat_of p).control (seat_of p).plan u e (seat_of q) v acts in
+    record {
+      turn = subst (λ ys. Turn s (schedule_by u xs es) h (schedule_by v ys (es ++ option_to_list e))) (sym seats)
+          (turn_of_seats s u v xs es h e (seat_of p) (seat_of q) stands among seated acts);
+      happens = subst (λ ys. HasHappened s (world_by u xs es) (world_by v ys (es ++ option_to_list e))) (sym seats) (happens_at_seat s u v xs es h e (seat_of p) (seat_of q) stands among seated acts);
+      stands = record {
+        hosts = hosts ∙ stands.hosts;
+        tasks = ap (map (λ x. is_free x.control)) seats
+            ∙ (map-set_same (λ x. is_free x.control) xs h (seat_of q) (seat_of p) (free ∙ ap (λ x. is_free x.control) (sym seated)) ∙ stands.tasks);
+      };
+    }
+
+-- ---- the parts of a scenario
+
+-- the role of the nexus at this place
+role_at : (p : Parts) (h : ℕ) (n : NexusPart) → h < length (scenario_of p).nexuses → n ≡ get_or p.nexuses.items h n → n.role.clauses.items ≡ role (scenario_of p) h
+unfolding scenario_of
+role_at p h n there is =
+    let among : h < length p.nexuses.items = rw (← length-map p.nexuses.items nexus_of) there in
+    sym (ap (λ o. option_map_or (λ m. m.role) o []) (slice_get-map nexus_of p.nexuses.items h ∙ ap (option_map nexus_of) (slice_get-get_or p.nexuses.items h n among ∙ ap Some (sym is))))
+
+pub length-parts : (p : Parts) → length (scenario_of p).nexuses ≡ length p.nexuses.items
+unfolding scenario_of
+length-parts p = length-map p.nexuses.items nexus_of
+
+pub turn_made : (p q : Parts) (u v : UnitState) (ps : List Player) (es fs : List Entry) (h i : ℕ) (e : Option Entry) (n : NexusPart) (x y : Player)
+    → StandsFor (scenario_of p) u (map seat_of ps) → h < length (scenario_of p).nexuses → q ≡ p → i ≡ h → n ≡ get_or q.nexuses.items i n → x ≡ get_or ps i x
+    → Acts n.role.clauses.items h (seat_of x) u e (seat_of y) v → v.registry.hosts ≡ u.registry.hosts → fs ≡ es ++ option_to_list e
+    → IsTurned (scenario_of p) u ps es h v (slice_set ps i y) fs
+turn_made p q u v ps es fs h i e n x y stands there same at nexus seat acts hosts added =
+    let named = nexus ∙ (ap (λ r. get_or r.nexuses.items i n) same ∙ ap (λ j. get_or p.nexuses.items j n) at) in
+    let acting = subst (λ clauses. Acts clauses h (seat_of x) u e (seat_of y) v) (role_at p h n there named) acts in
+    subst (λ j. IsTurned (scenario_of p) u ps es h v (slice_set ps j y) fs) (sym at)
+    (subst (λ gs. IsTurned (scenario_of p) u ps es h v (slice_set ps h y) gs) (sym added)
+    (turned (scenario_of p) u v ps es h e x y stands there (sym (seat ∙ ap (λ j. get_or ps j x) at)) acting hosts))
+
+pub nexus_within : (p q : Parts) (h i : ℕ) → h < length (scenario_of p).nexuses → q ≡ p → i ≡ h → i < vec_len q.nexuses
+nexus_within p q h i there same at =
+    let parts = length-parts p in
+    let items = ap (λ r. length r.nexuses.items) same in
+    let len = q.nexuses.ok.0 in
+    omega arith
+
+pub player_within : (s : Scenario) (u : UnitState) (ps : Vec Player Global) (h i : ℕ) → StandsFor s u (map seat_of ps.items) → h < length s.nexuses → i ≡ h → i < vec_len ps
+player_within s u ps h i stands there at =
+    let players = length-players s u ps.items stands in
+    let len = ps.ok.0 in
+    omega arith
+
+pub nothing_added : (es : List Entry) (e : Option Entry) → e ≡ None → es ≡ es ++ option_to_list e
+nothing_added es e none = sym (append-nil es) ∙ ap (λ o. es ++ option_to_list o) (sym none)
+
+pub entry_added : (es fs : List Entry) (x : Entry) (e : Option Entry) → fs ≡ es ++ x ∷ [] → e ≡ Some x → fs ≡ es ++ option_to_list e
+entry_added es fs x e added is = added ∙ ap (λ o. es ++ option_to_list o) (sym is)

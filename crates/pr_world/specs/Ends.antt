@@ -1,0 +1,41 @@
+-- How hosts and guests stand at the end of a run.
+use Rattle.std.specs.Prelude.{ℕ, Bool, true, false, List, [], ◌∷◌, length, Option, Some, None}
+use Rattle.pr_cdb.specs.declared.command.Command.{Command}
+use Rattle.pr_script.specs.Scripts.{Standing, ready, stopped, standing}
+use Rattle.pr_roles.specs.Worlds.{Control, Going, Trapped, Free}
+use Rattle.pr_world.specs.declared.end.End.{End}
+use Rattle.pr_world.specs.declared.end.End.TheVariants as end
+
+-- stopped with a word, ready at a line, trapped at a line, or with so many planned commands left
+pub data Ending : Type 0 where
+  stops : List ℕ → Ending
+  waits : ℕ → Ending
+  traps : ℕ → Ending
+  leaves : ℕ → Ending
+
+abbrev pub seen : End → Ending
+seen (end.Stopped word) = stops word.bytes
+seen (end.Ready line) = waits line
+seen (end.Trapped line) = traps line
+seen (end.Left planned) = leaves planned
+
+abbrev pub ending_by : Option Standing → Option Ending
+ending_by None = None
+ending_by (Some (ready line command)) = Some (waits line)
+ending_by (Some (stopped word)) = Some (stops word)
+
+-- A script that is neither ready nor stopped has no end: no machine stands so.
+abbrev pub ending : Control → List Command → Option Ending
+ending (Going l) plan = ending_by (standing l)
+ending (Trapped line) plan = Some (traps line)
+ending Free plan = Some (leaves (length plan))
+
+-- the ends of hosts and guests, each with what is left of its plan
+abbrev pub endings : List Control → List (List Command) → List (Option Ending)
+endings [] plans = []
+endings (k ∷ ks) [] = []
+endings (k ∷ ks) (plan ∷ plans) = ending k plan ∷ endings ks plans
+
+abbrev pub is_trapped_end : End → Bool
+is_trapped_end (end.Trapped line) = true
+is_trapped_end _ = false

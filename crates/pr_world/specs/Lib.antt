@@ -1,0 +1,4 @@
+pub mod Ends
+pub mod Courses
+pub mod Turns
+pub mod Replays

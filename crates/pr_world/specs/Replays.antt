@@ -1,0 +1,34 @@
+-- What a replay comes to.
+use Rattle.std.specs.Prelude.{◌≡◌, ℕ, List, Some, length, map}
+use Rattle.std.specs.List.{list_any, range_with_len}
+use Rattle.pr_unit.specs.UnitStates.{UnitState}
+use Rattle.pr_roles.specs.Scenarios.{Scenario}
+use Rattle.pr_roles.specs.Starts.{first_state}
+use Rattle.pr_roles.specs.Safety.{IsLegal}
+use Rattle.pr_roles.specs.Worlds.{is_trapped, sent}
+use Rattle.pr_roles.specs.Schedules.{Schedule, ScheduledRun, schedule_from}
+use Rattle.pr_world.specs.declared.replaying.Replayed.{Replayed}
+use Rattle.pr_world.specs.Ends.{seen, endings, is_trapped_end}
+
+-- how many commands of each host and guest reached the unit
+abbrev pub counts_in : Schedule → List ℕ
+counts_in y = map (λ h. sent y.world.entries h) (range_with_len 0 (length y.plans))
+
+-- what a schedule holds at last: the entries, the unit, the end of each host and guest, and how many of its
+-- commands reached the unit. Some end is a trapped one just where some host is trapped.
+pub record IsEndOf (y : Schedule) (r : Replayed) : Type 0 where
+  pub entries : r.entries.items ≡ y.world.entries
+  pub unit : r.unit ≡ y.world.unit
+  pub ends : map (λ e. Some (seen e)) r.ends.items ≡ endings y.world.controls y.plans
+  pub counts : r.counts.items ≡ counts_in y
+  pub trapped : list_any is_trapped_end r.ends.items ≡ list_any is_trapped y.world.controls
+
+-- The scheduled run of these steps from the first start came to this. What was sent is the history of a run, so
+-- that what holds of every run holds of it.
+pub record IsReplayed (s : Scenario) (steps : List ℕ) (r : Replayed) : Type 0 where
+  pub start : UnitState
+  pub first : first_state s ≡ Some start
+  pub last : Schedule
+  pub run : ScheduledRun s (schedule_from s start) steps last
+  pub outcome : IsEndOf last r
+  pub legal : IsLegal s start r.entries.items

@@ -1,0 +1,129 @@
+//! A scenario at work: its unit, its hosts and guests, and what was sent so far.
+
+ghost use Rattle.std.specs.Prelude.{◌≡◌, ◌<◌, ◌≤◌, ◌+◌, ◌^◌, Some, length, map, IfOk, vec_len, vec_capacity};
+ghost use Rattle.std.specs.List.{range_with_len};
+ghost use Rattle.pr_roles.specs.Scenarios.{scenario_of};
+ghost use Rattle.pr_roles.specs.Schedules.{Turn};
+ghost use Rattle.pr_roles.specs.Worlds.{sent};
+ghost use Rattle.pr_world.specs.Courses.{seat_of, seat_from, schedule_of, HasHappened, IsBegun, StandsFor};
+ghost use Rattle.pr_world.specs.Ends.{seen, ending};
+ghost use Rattle.pr_world.specs.Replays.{IsEndOf};
+
+use crate::end::End;
+use crate::player::Player;
+use crate::replaying::Replayed;
+use pr_roles::{Entry, Scenario, first_start};
+use pr_unit::Unit;
+use std::alloc::{AllocError, Global};
+
+/// A scenario at work.
+#[derive(Debug, Drop)]
+pub(crate) struct Course {
+    unit: Unit,
+    players: Vec<Player>,
+    entries: Vec<Entry>,
+}
+
+impl Course {
+    /// The scenario at its first start, with room for so many entries.
+    pub(crate) fn begin(
+        alloc: Global,
+        scenario: &Scenario,
+        room: usize,
+    ) -> Result<Course, AllocError>
+        ensures begun { IfOk result (λ course. IsBegun (scenario_of scenario.now) course) }
+        ensures room { IfOk result (λ course.
+            (vec_len course.entries ≡ 0) × (vec_capacity course.entries ≡ room)) }
+    {
+        Ok(Course {
+            unit: first_start(scenario),
+            players: players_of(alloc, scenario)?,
+            entries: Vec::with_capacity(alloc, room)?,
+        })
+    }
+
+    /// The turn of this host or guest. It takes no memory.
+    pub(crate) fn turn(&mut self, scenario: &Scenario, host: u8)
+        requires there { host < length (scenario_of scenario.now).nexuses }
+        requires stands { StandsFor (scenario_of scenario.now) self.old.unit
+            (map seat_of self.old.players.items) }
+        requires room { vec_len self.old.entries < vec_capacity self.old.entries }
+        ensures turn { Turn (scenario_of scenario.now) (schedule_of self.old) host (schedule_of self.new) }
+        ensures happens { HasHappened (scenario_of scenario.now)
+            (schedule_of self.old).world (schedule_of self.new).world }
+        ensures stands { StandsFor (scenario_of scenario.now) self.new.unit
+            (map seat_of self.new.players.items) }
+        ensures length { vec_len self.new.entries ≤ vec_len self.old.entries + 1 }
+        ensures room { vec_capacity self.new.entries ≡ vec_capacity self.old.entries }
+    {
+        let index = usize::from(host);
+        let role = &scenario.parts().nexuses[index].role;
+        if let Some(entry) = self.players[index].act(&mut self.unit, role, host) {
+            self.entries.push_reserved(entry);
+        }
+    }
+
+    /// What it came to.
+    pub(crate) fn outcome(self, alloc: Global) -> Result<Replayed, AllocError>
+        requires { vec_len self.entries < 2 ^ 32 }
+        ensures { IfOk result (IsEndOf (schedule_of self)) }
+    {
+        let ends = ends_of(alloc, &self.players)?;
+        let counts = counts_of(alloc, &self.entries, self.players.len())?;
+        Ok(Replayed {
+            entries: self.entries,
+            unit: self.unit,
+            ends,
+            counts,
+        })
+    }
+}
+
+// Each host and guest at its beginning.
+#[tactic(auto, unfolding(pr_roles::specs::Scenarios::scenario_of))]
+fn players_of(alloc: Global, scenario: &Scenario) -> Result<Vec<Player>, AllocError>
+    ensures { IfOk result (λ players.
+        map seat_of players.items ≡ map (λ n. seat_from n.task) (scenario_of scenario.now).nexuses) }
+{
+    let nexuses = &scenario.parts().nexuses;
+    let mut players = Vec::with_capacity(alloc, nexuses.len())?;
+    for nexus in nexuses {
+        players.push(Player::new(alloc, nexus)?)?;
+    }
+    Ok(players)
+}
+
+// How each stands.
+fn ends_of(alloc: Global, players: &[Player]) -> Result<Vec<End>, AllocError>
+    ensures { IfOk result (λ ends. map (λ e. Some (seen e)) ends.items
+        ≡ map (λ p. ending (seat_of p).control (seat_of p).plan) players.now) }
+{
+    let mut ends = Vec::with_capacity(alloc, players.len())?;
+    for player in players {
+        ends.push(player.end())?;
+    }
+    Ok(ends)
+}
+
+// How many commands of each reached the unit.
+fn counts_of(alloc: Global, entries: &[Entry], players: usize) -> Result<Vec<u32>, AllocError>
+    requires { length entries.now < 2 ^ 32 }
+    ensures { IfOk result (λ counts.
+        counts.items ≡ map (λ h. sent entries.now h) (range_with_len 0 players)) }
+{
+    let mut counts = Vec::with_capacity(alloc, players)?;
+    for host in 0..players {
+        counts.push(sent(entries, host))?;
+    }
+    Ok(counts)
+}
+
+fn sent(entries: &[Entry], host: usize) -> u32
+    requires { length entries.now < 2 ^ 32 }
+    ensures { result ≡ sent entries.now host }
+{
+    entries
+        .iter()
+        .filter(|entry| usize::from(entry.host) == host)
+        .count() as u32
+}

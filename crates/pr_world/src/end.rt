@@ -1,0 +1,19 @@
+//! How a host or guest ends.
+
+use pr_script::Word;
+
+/// How a host or guest stands at the end of a run.
+#[derive(Clone, Copy, Debug, PartialEq, Eq)]
+pub enum End {
+    /// The host's script is stopped with this word.
+    Stopped(Word),
+
+    /// The host's script is ready to send the command on this line.
+    Ready(u32),
+
+    /// No arm of the send on this line matched the reply.
+    Trapped(u32),
+
+    /// The guest has not reached so many of its planned commands.
+    Left(u32),
+}

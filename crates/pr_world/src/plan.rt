@@ -1,0 +1,41 @@
+//! What is left of a guest's plan.
+
+ghost use Rattle.std.specs.Prelude.{◌≡◌, ◌≤◌, [], ◌∷◌, length, IfOk, MatchOption};
+
+use pr_cdb::Command;
+use std::alloc::{AllocError, Global};
+use std::collections::VecDeque;
+
+/// The commands that a guest has still to send, in order.
+#[derive(Debug, Drop)]
+pub(crate) struct Plan {
+    commands: VecDeque<Command>,
+    ghost short: { length commands.items ≤ 256 },
+}
+
+impl Plan {
+    pub(crate) fn new(alloc: Global, commands: &[Command]) -> Result<Plan, AllocError>
+        requires { length commands.now ≤ 256 }
+        ensures { IfOk result (λ plan. plan.commands.items ≡ commands.now) }
+    {
+        Ok(Plan {
+            commands: VecDeque::from_vec(Vec::from_slice(alloc, commands)?),
+        })
+    }
+
+    /// The next command, which is then left no more.
+    pub(crate) fn next(&mut self) -> Option<Command>
+        ensures { MatchOption result
+            ((self.old.commands.items ≡ []) × (self.new.commands.items ≡ []))
+            (λ command. self.old.commands.items ≡ command ∷ self.new.commands.items) }
+    {
+        self.commands.pop_front()
+    }
+
+    /// How many commands are left.
+    pub(crate) fn left(&self) -> u32
+        ensures { result ≡ length self.now.commands.items }
+    {
+        self.commands.len() as u32
+    }
+}

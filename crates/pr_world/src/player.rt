@@ -1,0 +1,106 @@
+//! The hosts and guests of a scenario at work.
+
+ghost use Rattle.std.specs.Prelude.{◌≡◌, ◌<◌, Some, IfOk};
+ghost use Rattle.pr_roles.specs.Scenarios.{task_of};
+ghost use Rattle.pr_world.specs.Courses.{seat_of, seat_from, IsShort, IsSent};
+ghost use Rattle.pr_world.specs.Ends.{ending, seen};
+ghost use Rattle.pr_roles.specs.Schedules.{is_held_back};
+ghost use Rattle.pr_world.specs.Turns.{Acts};
+
+use crate::end::End;
+use crate::plan::Plan;
+use pr_cdb::{Command, encode};
+use pr_roles::{Entry, Nexus, Role, Task, permits};
+use pr_script::{Machine, Next};
+use pr_unit::Unit;
+use std::alloc::{AllocError, Global};
+
+/// A host or guest at work.
+#[derive(Debug, Drop)]
+pub(crate) enum Player {
+    /// The host's script goes on.
+    Host(Machine),
+
+    /// The host's script met a reply without an arm, at the send of this line.
+    Trapped(u32),
+
+    /// The guest has a plan.
+    Guest(Plan),
+}
+
+impl Player {
+    /// The host or guest at its beginning.
+    pub(crate) fn new(alloc: Global, nexus: &Nexus) -> Result<Player, AllocError>
+        requires { IsShort (task_of nexus.now.task) }
+        ensures { IfOk result (λ player. seat_of player ≡ seat_from (task_of nexus.now.task)) }
+    {
+        match &nexus.task {
+            Task::Scripted { script, .. } => Ok(Player::Host(Machine::new(alloc, script)?)),
+            Task::Planned(commands) => Ok(Player::Guest(Plan::new(alloc, commands)?)),
+        }
+    }
+
+    /// Takes its turn, and answers its command, if it sends one.
+    pub(crate) fn act(&mut self, unit: &mut Unit, role: &Role, host: u8) -> Option<Entry>
+        requires { host < unit.old.registry.hosts }
+        ensures acts { Acts role.now.clauses.items host
+            (seat_of self.old) unit.old result (seat_of self.new) unit.new }
+        ensures hosts { unit.new.registry.hosts ≡ unit.old.registry.hosts }
+    {
+        match self {
+            Player::Host(machine) => {
+                let Next::Send { line, command } = machine.next() else {
+                    return None;
+                };
+                let entry = sent(unit, host, command);
+                if machine.take(&entry.reply).is_err() {
+                    *self = Player::Trapped(line);
+                }
+                Some(entry)
+            }
+            Player::Trapped(_) => None,
+            Player::Guest(plan) => {
+                let command = plan.next()?;
+                if is_held_back(unit, role, host, command) {
+                    return None;
+                }
+                Some(sent(unit, host, command))
+            }
+        }
+    }
+
+    /// How it stands.
+    pub(crate) fn end(&self) -> End
+        ensures { ending (seat_of self.now).control (seat_of self.now).plan ≡ Some (seen result) }
+    {
+        match self {
+            Player::Host(machine) => match machine.next() {
+                Next::Send { line, .. } => End::Ready(line),
+                Next::Stopped(word) => End::Stopped(word),
+            },
+            Player::Trapped(line) => End::Trapped(*line),
+            Player::Guest(plan) => End::Left(plan.left()),
+        }
+    }
+}
+
+// The command would end GOOD, and the role does not permit that.
+fn is_held_back(unit: &Unit, role: &Role, host: u8, command: Command) -> bool
+    requires { host < unit.now.registry.hosts }
+    ensures { result ≡ is_held_back role.now.clauses.items unit.now host command }
+{
+    unit.would_end_good(host, &command) && !permits(role, unit, host, &command)
+}
+
+// The command goes to the unit, and comes back with its reply.
+fn sent(unit: &mut Unit, host: u8, command: Command) -> Entry
+    requires { host < unit.old.registry.hosts }
+    ensures sent { IsSent unit.old host command result unit.new }
+    ensures hosts { unit.new.registry.hosts ≡ unit.old.registry.hosts }
+{
+    let wire = encode(&command);
+    match unit.execute(host, &wire) {
+        Ok(reply) => Entry { host, wire, reply },
+        Err(_) => unreachable!(),
+    }
+}

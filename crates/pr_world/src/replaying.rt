@@ -1,0 +1,55 @@
+//! Replays: turns in an order that is given.
+
+ghost use Rattle.std.specs.Prelude.{◌≡◌, ◌<◌, ◌^◌, length, IfOk};
+ghost use Rattle.std.specs.List.{All, list_any};
+ghost use Rattle.pr_roles.specs.Scenarios.{scenario_of};
+ghost use Rattle.pr_world.specs.Ends.{is_trapped_end};
+ghost use Rattle.pr_world.specs.Replays.{IsReplayed};
+
+use crate::course::Course;
+use crate::end::End;
+use pr_roles::{Entry, Scenario};
+use pr_unit::Unit;
+use std::alloc::{AllocError, Global};
+
+/// What a replay came to.
+#[derive(Debug, Drop)]
+pub struct Replayed {
+    /// The commands that reached the unit, in order.
+    pub entries: Vec<Entry>,
+
+    pub unit: Unit,
+
+    /// How each host or guest stands, by its number.
+    pub ends: Vec<End>,
+
+    /// How many commands of each host or guest reached the unit, by its number.
+    pub counts: Vec<u32>,
+}
+
+impl Replayed {
+    /// Whether a host is trapped.
+    pub fn is_trapped(&self) -> bool
+        ensures { result ≡ list_any is_trapped_end self.now.ends.items }
+    {
+        self.ends.iter().any(|end| matches!(end, End::Trapped(_)))
+    }
+}
+
+/// Runs the scenario from its first start, with a turn for each step: the number of a host or guest.
+///
+/// In its turn a host sends its command, if its script is ready, and takes the reply. A guest sends the
+/// next command of its plan; where that would end GOOD and its role does not permit it, the command is
+/// passed over. Where the unit could report one of several attentions, it reports the lowest. The scenario
+/// need not be safe. Where memory runs out there is no answer.
+pub fn replay(alloc: Global, scenario: &Scenario, steps: &[u8]) -> Result<Replayed, AllocError>
+    requires there { All (λ host. host < length (scenario_of scenario.now).nexuses) steps.now }
+    requires few { length steps.now < 2 ^ 32 }
+    ensures { IfOk result (IsReplayed (scenario_of scenario.now) steps.now) }
+{
+    let mut course = Course::begin(alloc, scenario, steps.len())?;
+    for host in steps {
+        course.turn(scenario, *host);
+    }
+    course.outcome(alloc)
+}
