@@ -1,0 +1,4 @@
+pub mod Fronts
+pub mod KeyDigits
+pub mod TraceSteps
+pub mod Tracing

@@ -1,0 +1,105 @@
+-- A trace goes out one line after another.
+use Rattle.std.proofs.Common.{◌≡◌, ℕ, suc, ◌+◌, ◌<◌, ◌≤◌, List, [], ◌∷◌, ◌++◌, Option, codes, length, drop, get_or, refl, sym, ◌∙◌, ap, subst, Result, append_assoc, append-nil, drop-cons, add-one}
+use Rattle.std.proofs.Math.ListN.{drop_of_length-le}
+use Rattle.std.specs.Io.KnownBytes.{Appends}
+use Rattle.pr_report.specs.Written.{Wrote, FallsShort, Puts}
+use Rattle.pr_report.specs.PrintedLines.{line, spaced, generation_word, registration_word}
+use Rattle.pr_report.specs.TraceText.{entry_line, entry_lines, ending_line, ending_lines, held_word, name_of, names_in, names_of, registration_words, trace_text, unit_line}
+use Rattle.std.specs.Prelude.{map, slice_index}
+use Rattle.pr_roles.specs.declared.entry.Entry.{Entry}
+use Rattle.pr_roles.specs.declared.parts.Nexus.{Nexus as NexusPart}
+use Rattle.pr_roles.specs.declared.parts.Parts.{Parts}
+use Rattle.pr_roles.specs.Scenarios.{scenario_of, nexus_of}
+use Rattle.pr_registry.specs.Registrations.{State, key_of}
+use Rattle.pr_world.specs.declared.end.End.{End}
+use Rattle.pr_world.specs.Ends.{seen}
+use Rattle.pr_report.proofs.Fronts.{wrote_front, wrote_more}
+
+-- the element that a loop is at, and what comes after it
+drop_here : {X : Type 0} (xs : List X) (i : ℕ) (x : X) → i < length xs → x ≡ get_or xs i x → drop i xs ≡ x ∷ drop (i + 1) xs
+drop_here xs i x h e = rw add-one (drop-cons xs i x h ∙ ap (λ y. y ∷ drop (suc i) xs) (sym e))
+
+-- Entries.
+
+entry_lines_from : (names : List (List ℕ)) (es : List Entry) (i : ℕ) (e : Entry) → i < length es → e ≡ get_or es i e
+    → entry_lines i names (drop i es) ≡ entry_line (i + 1) names e ++ entry_lines (i + 1) names (drop (i + 1) es)
+entry_lines_from names es i e h is = rw (drop_here es i e h is) refl
+
+pub entry_lines_end : (names : List (List ℕ)) (es : List Entry) (i : ℕ) → length es ≤ i → entry_lines i names (drop i es) ≡ []
+entry_lines_end names es i h = rw (drop_of_length-le es {i = i} h) refl
+
+pub entries_front : (old mid new : Option (List ℕ)) (text : List ℕ) (names : List (List ℕ)) (es : List Entry) (i : ℕ) (e : Entry) → i < length es → e ≡ get_or es i e
+    → Wrote old mid text (entry_lines i names (drop i es)) → FallsShort mid new (entry_line (i + 1) names e) → FallsShort old new text
+entries_front old mid new text names es i e h is w f = wrote_front _ _ _ _ _ _ (rw (entry_lines_from names es i e h is) at w) f
+
+pub entries_more : (old mid new : Option (List ℕ)) (text : List ℕ) (names : List (List ℕ)) (es : List Entry) (i : ℕ) (e : Entry) → i < length es → e ≡ get_or es i e
+    → Wrote old mid text (entry_lines i names (drop i es)) → Appends mid new (entry_line (i + 1) names e) → Wrote old new text (entry_lines (i + 1) names (drop (i + 1) es))
+entries_more old mid new text names es i e h is w p = wrote_more _ _ _ _ _ _ (rw (entry_lines_from names es i e h is) at w) p
+
+-- Registrations.
+
+abbrev pub registrations : State → ℕ → List NexusPart → List ℕ
+registrations unit host nexuses = spaced (registration_words unit host (names_of nexuses))
+
+registrations_from : (unit : State) (nexuses : List NexusPart) (i : ℕ) (n : NexusPart) → i < length nexuses → n ≡ get_or nexuses i n
+    → registrations unit i (drop i nexuses) ≡ (32 ∷ registration_word n.name.bytes (key_of unit i)) ++ registrations unit (i + 1) (drop (i + 1) nexuses)
+unfolding spaced
+registrations_from unit nexuses i n h is = rw (drop_here nexuses i n h is) refl
+
+pub registrations_end : (unit : State) (nexuses : List NexusPart) (i : ℕ) → length nexuses ≤ i → registrations unit i (drop i nexuses) ≡ []
+unfolding spaced
+registrations_end unit nexuses i h = rw (drop_of_length-le nexuses {i = i} h) refl
+
+pub registrations_front : (old mid new : Option (List ℕ)) (text : List ℕ) (unit : State) (nexuses : List NexusPart) (i : ℕ) (n : NexusPart) → i < length nexuses → n ≡ get_or nexuses i n
+    → Wrote old mid text (registrations unit i (drop i nexuses)) → FallsShort mid new (32 ∷ registration_word n.name.bytes (key_of unit i)) → FallsShort old new text
+registrations_front old mid new text unit nexuses i n h is w f = wrote_front _ _ _ _ _ _ (rw (registrations_from unit nexuses i n h is) at w) f
+
+pub registrations_more : (old mid new : Option (List ℕ)) (text : List ℕ) (unit : State) (nexuses : List NexusPart) (i : ℕ) (n : NexusPart) → i < length nexuses → n ≡ get_or nexuses i n
+    → Wrote old mid text (registrations unit i (drop i nexuses)) → Appends mid new (32 ∷ registration_word n.name.bytes (key_of unit i)) → Wrote old new text (registrations unit (i + 1) (drop (i + 1) nexuses))
+registrations_more old mid new text unit nexuses i n h is w p = wrote_more _ _ _ _ _ _ (rw (registrations_from unit nexuses i n h is) at w) p
+
+regrouped : (a b c d : List ℕ) → (a ++ (b ++ c)) ++ d ≡ (a ++ (b ++ [])) ++ (c ++ d)
+regrouped a b c d = simp (append_assoc, append-nil)
+
+-- the four pieces in which the line of the unit goes out
+pub unit_pieces : (names : List (List ℕ)) (unit : State)
+    → unit_line names unit
+    ≡ codes "unit" ++ (spaced (generation_word unit.generation ∷ held_word names unit.held ∷ []) ++ (spaced (registration_words unit 0 names) ++ (10 ∷ [])))
+unfolding unit_line line spaced
+unit_pieces names unit =
+    ap (λ w. codes "unit" ++ (32 ∷ w)) (regrouped (generation_word unit.generation) (32 ∷ held_word names unit.held) (spaced (registration_words unit 0 names)) (10 ∷ []))
+
+-- Ends.
+
+ending_lines_from : (names : List (List ℕ)) (counts : List ℕ) (es : List End) (i : ℕ) (e : End) → i < length es → e ≡ get_or es i e
+    → ending_lines i names counts (map seen (drop i es)) ≡ ending_line (name_of names i) (seen e) (slice_index counts i) ++ ending_lines (i + 1) names counts (map seen (drop (i + 1) es))
+ending_lines_from names counts es i e h is = rw (drop_here es i e h is) refl
+
+pub ending_lines_end : (names : List (List ℕ)) (counts : List ℕ) (es : List End) (i : ℕ) → length es ≤ i → ending_lines i names counts (map seen (drop i es)) ≡ []
+ending_lines_end names counts es i h = rw (drop_of_length-le es {i = i} h) refl
+
+pub ends_front : (old mid new : Option (List ℕ)) (text : List ℕ) (names : List (List ℕ)) (counts : List ℕ) (es : List End) (i : ℕ) (e : End) → i < length es → e ≡ get_or es i e
+    → Wrote old mid text (ending_lines i names counts (map seen (drop i es))) → FallsShort mid new (ending_line (name_of names i) (seen e) (slice_index counts i)) → FallsShort old new text
+ends_front old mid new text names counts es i e h is w f = wrote_front _ _ _ _ _ _ (rw (ending_lines_from names counts es i e h is) at w) f
+
+pub ends_more : (old mid new : Option (List ℕ)) (text : List ℕ) (names : List (List ℕ)) (counts : List ℕ) (es : List End) (i : ℕ) (e : End) → i < length es → e ≡ get_or es i e
+    → Wrote old mid text (ending_lines i names counts (map seen (drop i es))) → Appends mid new (ending_line (name_of names i) (seen e) (slice_index counts i)) → Wrote old new text (ending_lines (i + 1) names counts (map seen (drop (i + 1) es)))
+ends_more old mid new text names counts es i e h is w p = wrote_more _ _ _ _ _ _ (rw (ending_lines_from names counts es i e h is) at w) p
+
+-- Names.
+
+names_of_nexuses : (ns : List NexusPart) → names_of ns ≡ map (λ n. n.name) (map nexus_of ns)
+names_of_nexuses [] = refl
+names_of_nexuses (n ∷ ns) = ap (λ l. n.name.bytes ∷ l) (names_of_nexuses ns)
+
+pub names_of_scenario : (p : Parts) → names_of p.nexuses.items ≡ names_in (scenario_of p)
+unfolding scenario_of
+names_of_scenario p = names_of_nexuses p.nexuses.items
+
+-- the trace of a scenario, whose names and registry were read out
+pub trace_of_parts : {E : Type 0} (old new : Option (List ℕ)) (p q : Parts) (nexuses : List NexusPart) (entries : List Entry) (u v : State) (ends : List End) (counts : List ℕ) (r : Result (Unit {0}) E)
+    → q ≡ p → nexuses ≡ q.nexuses.items → u ≡ v → Puts old new (trace_text (names_of nexuses) entries u (map seen ends) counts) r
+    → Puts old new (trace_text (names_in (scenario_of p)) entries v (map seen ends) counts) r
+trace_of_parts old new p q nexuses entries u v ends counts r same items unit puts =
+    subst (λ w. Puts old new (trace_text (names_in (scenario_of p)) entries w (map seen ends) counts) r) unit
+    (subst (λ ns. Puts old new (trace_text ns entries u (map seen ends) counts) r) (ap names_of (items ∙ ap (λ o. o.nexuses.items) same) ∙ names_of_scenario p) puts)

@@ -1,0 +1,7 @@
+use Rattle.std.proofs.Common.{drop}
+use Rattle.pr_report.specs.Written.{Wrote}
+use Rattle.pr_report.specs.PrintedLines.{pairs}
+use Rattle.pr_report.proofs.printing.put_pairs.Given as goal
+
+abbrev pub invariant-loop-byte : goal.invariant-loop-byte
+invariant-loop-byte g l = Wrote (g.W.Write.contents l.fn.writer) (g.W.Write.contents l.writer) (pairs l.bytes) (pairs (drop l.byte-index l.bytes))

@@ -1,0 +1,5 @@
+pub mod Written
+pub mod PrintedLines
+pub mod Printed
+pub mod TraceText
+pub mod Traces

@@ -1,0 +1,48 @@
+-- The words and lines of what is printed. A line is its words with one space between them, and a line feed.
+use Rattle.std.specs.Prelude.{ℕ, ◌/◌, ◌%◌, false, List, [], ◌∷◌, ◌++◌, Option, None, Some, codes, decimal}
+use Rattle.std.specs.List.{flat_map}
+use Rattle.std.specs.Fmt.{digits, digit_glyph}
+use Rattle.std.specs.Int.{w32, to_be_bytes}
+use Rattle.pr_cdb.specs.declared.command.Kind.{Kind}
+use Rattle.pr_cdb.specs.declared.reply.Sense.{Sense}
+use Rattle.pr_cdb.specs.Kinds.{code_of}
+
+-- each word after a space
+unfoldable pub spaced : List (List ℕ) → List ℕ
+spaced others = flat_map (λ word. codes " " ++ word) others
+
+unfoldable pub line : List ℕ → List (List ℕ) → List ℕ
+line first others = first ++ (spaced others ++ codes "\n")
+
+-- a byte in two hexadecimal digits
+abbrev pub pair : ℕ → List ℕ
+pair byte = digit_glyph false (byte / 16) ∷ digit_glyph false (byte % 16) ∷ []
+
+unfoldable pub pairs : List ℕ → List ℕ
+pairs bytes = flat_map pair bytes
+
+-- bytes in pairs of digits, or `-` where there is none
+abbrev pub pairs_or_dash : List ℕ → List ℕ
+pairs_or_dash [] = codes "-"
+pairs_or_dash (b ∷ bs) = pairs (b ∷ bs)
+
+-- eight digits
+abbrev pub generation_word : ℕ → List ℕ
+generation_word generation = pairs (to_be_bytes w32 generation)
+
+-- a key without leading zeros, or `-` where there is none
+abbrev pub key_or_dash : Option ℕ → List ℕ
+key_or_dash None = codes "-"
+key_or_dash (Some key) = digits 16 false key
+
+-- as `a=a1`
+abbrev pub registration_word : List ℕ → Option ℕ → List ℕ
+registration_word name key = name ++ (codes "=" ++ key_or_dash key)
+
+-- as `5:a`
+abbrev pub holder_word : Kind → List ℕ → List ℕ
+holder_word kind name = decimal (code_of kind) ++ (codes ":" ++ name)
+
+-- as `6/2a/05`
+abbrev pub sense_word : Sense → List ℕ
+sense_word sense = digits 16 false sense.key ++ ((codes "/" ++ pair sense.asc) ++ (codes "/" ++ pair sense.ascq))

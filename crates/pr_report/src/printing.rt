@@ -1,0 +1,187 @@
+//! Lines of words to a writer, with no text in between that takes memory.
+
+ghost use Rattle.std.specs.Prelude.{◌++◌, ◌<◌, ◌≡◌, codes, false, map};
+ghost use Rattle.std.specs.Fmt.{decimal, digits, digit_glyph};
+ghost use Rattle.pr_cdb.specs.Kinds.{code_of};
+ghost use Rattle.pr_report.specs.Written.{Puts};
+ghost use Rattle.pr_report.specs.PrintedLines.{holder_word, key_or_dash, line, pair, pairs, pairs_or_dash, registration_word, sense_word, spaced};
+ghost use Rattle.pr_report.specs.Printed.{printed};
+
+use crate::output::{WriteFault, put};
+use itoa::Buffer;
+use pr_cdb::{Kind, Sense};
+use std::io::Write;
+
+/// What a word of a line can be.
+#[derive(Clone, Copy)]
+pub enum Word<'a> {
+    /// This very text.
+    Text(&'a [u8]),
+
+    /// A number in decimal digits.
+    Number(u64),
+
+    /// Each byte in two hexadecimal digits, or `-` where there is none.
+    Bytes(&'a [u8]),
+
+    /// A generation, in eight hexadecimal digits.
+    Generation(u32),
+
+    /// The type of a reservation and its holder, as `5:a`.
+    Holder(Kind, &'a [u8]),
+
+    /// A name and its key, as `a=a1`, or `a=-` where there is none.
+    Registration(&'a [u8], Option<u64>),
+
+    /// The key, the additional sense code and its qualifier, as `6/2a/05`.
+    Sense(Sense),
+}
+
+/// Writes a line: its words with one space between them, and a line feed.
+pub fn put_line<W: Write>(
+    writer: &mut W,
+    first: Word<'_>,
+    others: &[Word<'_>],
+) -> Result<(), WriteFault>
+    ensures { Puts (W.contents writer.old) (W.contents writer.new) (line (printed first.entry) (map printed others.now)) result }
+{
+    put_word(writer, first)?;
+    put_spaced(writer, others)?;
+    put(writer, b"\n")
+}
+
+/// Writes each word after a space.
+pub fn put_spaced<W: Write>(writer: &mut W, words: &[Word<'_>]) -> Result<(), WriteFault>
+    ensures { Puts (W.contents writer.old) (W.contents writer.new) (spaced (map printed words.now)) result }
+{
+    for word in words {
+        put_after_space(writer, *word)?;
+    }
+    Ok(())
+}
+
+pub(crate) fn put_after_space<W: Write>(writer: &mut W, word: Word<'_>) -> Result<(), WriteFault>
+    ensures { Puts (W.contents writer.old) (W.contents writer.new) (codes " " ++ printed word.entry) result }
+{
+    put(writer, b" ")?;
+    put_word(writer, word)
+}
+
+#[tactic(auto, unfolding(crate::specs::Printed::printed))]
+pub(crate) fn put_word<W: Write>(writer: &mut W, word: Word<'_>) -> Result<(), WriteFault>
+    ensures { Puts (W.contents writer.old) (W.contents writer.new) (printed word.entry) result }
+{
+    match word {
+        Word::Text(text) => put(writer, text),
+        Word::Number(number) => put_number(writer, number),
+        Word::Bytes(bytes) => put_pairs_or_dash(writer, bytes),
+        Word::Generation(generation) => put_pairs(writer, &generation.to_be_bytes()),
+        Word::Holder(kind, name) => put_holder(writer, kind, name),
+        Word::Registration(name, key) => put_registration(writer, name, key),
+        Word::Sense(sense) => put_sense(writer, sense),
+    }
+}
+
+fn put_number<W: Write>(writer: &mut W, number: u64) -> Result<(), WriteFault>
+    ensures { Puts (W.contents writer.old) (W.contents writer.new) (decimal number) result }
+{
+    put(writer, Buffer::new().format(number).as_bytes())
+}
+
+fn put_pairs_or_dash<W: Write>(writer: &mut W, bytes: &[u8]) -> Result<(), WriteFault>
+    ensures { Puts (W.contents writer.old) (W.contents writer.new) (pairs_or_dash bytes.now) result }
+{
+    if bytes.is_empty() {
+        put(writer, b"-")
+    } else {
+        put_pairs(writer, bytes)
+    }
+}
+
+fn put_pairs<W: Write>(writer: &mut W, bytes: &[u8]) -> Result<(), WriteFault>
+    ensures { Puts (W.contents writer.old) (W.contents writer.new) (pairs bytes.now) result }
+{
+    for byte in bytes {
+        put(writer, &pair(*byte))?;
+    }
+    Ok(())
+}
+
+fn put_holder<W: Write>(writer: &mut W, kind: Kind, name: &[u8]) -> Result<(), WriteFault>
+    ensures { Puts (W.contents writer.old) (W.contents writer.new) (holder_word kind name.now) result }
+{
+    put_kind(writer, kind)?;
+    put(writer, b":")?;
+    put(writer, name)
+}
+
+fn put_kind<W: Write>(writer: &mut W, kind: Kind) -> Result<(), WriteFault>
+    ensures { Puts (W.contents writer.old) (W.contents writer.new) (decimal (code_of kind)) result }
+{
+    put_number(writer, u64::from(kind.code()))
+}
+
+fn put_registration<W: Write>(
+    writer: &mut W,
+    name: &[u8],
+    key: Option<u64>,
+) -> Result<(), WriteFault>
+    ensures { Puts (W.contents writer.old) (W.contents writer.new) (registration_word name.now key) result }
+{
+    put(writer, name)?;
+    put(writer, b"=")?;
+    put_key_or_dash(writer, key)
+}
+
+fn put_key_or_dash<W: Write>(writer: &mut W, key: Option<u64>) -> Result<(), WriteFault>
+    ensures { Puts (W.contents writer.old) (W.contents writer.new) (key_or_dash key) result }
+{
+    match key {
+        Some(key) => put_digits(writer, key),
+        None => put(writer, b"-"),
+    }
+}
+
+fn put_sense<W: Write>(writer: &mut W, sense: Sense) -> Result<(), WriteFault>
+    ensures { Puts (W.contents writer.old) (W.contents writer.new) (sense_word sense) result }
+{
+    put_digits(writer, u64::from(sense.key))?;
+    put_after_slash(writer, sense.asc)?;
+    put_after_slash(writer, sense.ascq)
+}
+
+fn put_after_slash<W: Write>(writer: &mut W, byte: u8) -> Result<(), WriteFault>
+    ensures { Puts (W.contents writer.old) (W.contents writer.new) (codes "/" ++ pair byte) result }
+{
+    put(writer, b"/")?;
+    put(writer, &pair(byte))
+}
+
+// In hexadecimal digits, without leading zeros.
+fn put_digits<W: Write>(writer: &mut W, number: u64) -> Result<(), WriteFault>
+    ensures { Puts (W.contents writer.old) (W.contents writer.new) (digits 16 false number) result }
+{
+    if number < 16 {
+        return put(writer, &[glyph(number as u8)]);
+    }
+    put_digits(writer, number / 16)?;
+    put(writer, &[glyph((number % 16) as u8)])
+}
+
+fn pair(byte: u8) -> [u8; 2]
+    ensures { result ≡ pair byte }
+{
+    [glyph(byte / 16), glyph(byte % 16)]
+}
+
+// The hexadecimal digit of a number below 16.
+fn glyph(value: u8) -> u8
+    requires { value < 16 }
+    ensures { result ≡ digit_glyph false value }
+{
+    if value < 10 {
+        b'0' + value
+    } else {
+        b'a' - 10 + value
+    }
+}

@@ -1,0 +1,243 @@
+//! The text of a trace.
+
+ghost use Rattle.std.specs.Prelude.{◌≡◌, ◌+◌, ◌∷◌, [], codes, map, slice_index};
+ghost use Rattle.pr_registry.specs.Registrations.{key_of};
+ghost use Rattle.pr_roles.specs.Scenarios.{scenario_of};
+ghost use Rattle.pr_world.specs.Ends.{seen};
+ghost use Rattle.pr_report.specs.Written.{Puts};
+ghost use Rattle.std.specs.Fmt.{decimal};
+ghost use Rattle.pr_report.specs.Printed.{printed};
+ghost use Rattle.pr_report.specs.PrintedLines.{line, spaced};
+ghost use Rattle.pr_report.specs.TraceText.{ending_line, ending_lines, entry_line, entry_lines, held_word, name_of, names_in, names_of, registration_words, sense_data, status_word, trace_text, unit_line};
+
+use crate::output::{WriteFault, put};
+use crate::printing::{Word, put_after_space, put_line, put_spaced, put_word};
+use arrayvec::ArrayVec;
+use pr_cdb::{Sense, Status, encode_sense};
+use pr_registry::{Held, Registry};
+use pr_roles::{Nexus, Scenario};
+use pr_unit::Unit;
+use pr_world::{End, Entry};
+use std::io::Write;
+
+/// Writes the trace of a scenario: what was sent, the unit as it is at last, how each host or guest stands,
+/// and how many commands of each reached the unit. On a fault, what went out is a front of it, and not all.
+///
+/// The ends and the counts stand in the order of the hosts' and guests' numbers.
+pub fn write_trace<W: Write>(
+    writer: &mut W,
+    scenario: &Scenario,
+    entries: &[Entry],
+    unit: &Unit,
+    ends: &[End],
+    counts: &[u32],
+) -> Result<(), WriteFault>
+    ensures { Puts (W.contents writer.old) (W.contents writer.new) (trace_text (names_in (scenario_of scenario.now)) entries.now unit.now.registry (map seen ends.now) counts.now) result }
+{
+    let nexuses = &scenario.parts().nexuses;
+    put_trace(writer, nexuses, entries, unit.registry(), ends, counts)
+}
+
+fn put_trace<W: Write>(
+    writer: &mut W,
+    nexuses: &[Nexus],
+    entries: &[Entry],
+    unit: &Registry,
+    ends: &[End],
+    counts: &[u32],
+) -> Result<(), WriteFault>
+    ensures { Puts (W.contents writer.old) (W.contents writer.new) (trace_text (names_of nexuses.now) entries.now unit.now (map seen ends.now) counts.now) result }
+{
+    put_line(writer, Word::Text(b"fence-trace"), &[Word::Text(b"1")])?;
+    put_entries(writer, nexuses, entries)?;
+    put_unit(writer, nexuses, unit)?;
+    put_ends(writer, nexuses, ends, counts)
+}
+
+fn put_entries<W: Write>(
+    writer: &mut W,
+    nexuses: &[Nexus],
+    entries: &[Entry],
+) -> Result<(), WriteFault>
+    ensures { Puts (W.contents writer.old) (W.contents writer.new) (entry_lines 0 (names_of nexuses.now) entries.now) result }
+{
+    for (others, entry) in entries.iter().enumerate() {
+        put_entry(writer, others as u64 + 1, nexuses, entry)?;
+    }
+    Ok(())
+}
+
+#[tactic(auto, unfolding(crate::specs::TraceText::entry_line, crate::specs::Printed::printed))]
+fn put_entry<W: Write>(
+    writer: &mut W,
+    index: u64,
+    nexuses: &[Nexus],
+    entry: &Entry,
+) -> Result<(), WriteFault>
+    ensures { Puts (W.contents writer.old) (W.contents writer.new) (entry_line index (names_of nexuses.now) entry.now) result }
+{
+    let sense = sense_data(entry.reply.sense);
+    let words = [
+        Word::Text(name_of(nexuses, usize::from(entry.host))),
+        Word::Bytes(entry.wire.cdb.as_slice()),
+        Word::Bytes(entry.wire.params.as_slice()),
+        Word::Text(status_word(entry.reply.status)),
+        Word::Bytes(sense.as_slice()),
+        Word::Bytes(entry.reply.bytes.as_slice()),
+    ];
+    put_line(writer, Word::Number(index), &words)
+}
+
+fn name_of(nexuses: &[Nexus], host: usize) -> &[u8]
+    ensures { result.now ≡ name_of (names_of nexuses.now) host }
+{
+    match nexuses.get(host) {
+        Some(nexus) => nexus.name.as_str().as_bytes(),
+        None => b"",
+    }
+}
+
+fn status_word(status: Status) -> &'static [u8]
+    ensures { result.now ≡ status_word status }
+{
+    match status {
+        Status::Good => b"00",
+        Status::CheckCondition => b"02",
+        Status::Conflict => b"18",
+    }
+}
+
+fn sense_data(sense: Option<Sense>) -> ArrayVec<u8, 18>
+    ensures { result.items ≡ sense_data sense }
+{
+    match sense {
+        Some(sense) => ArrayVec::from(encode_sense(&sense)),
+        None => ArrayVec::new(),
+    }
+}
+
+fn put_unit<W: Write>(writer: &mut W, nexuses: &[Nexus], unit: &Registry) -> Result<(), WriteFault>
+    ensures { Puts (W.contents writer.old) (W.contents writer.new) (unit_line (names_of nexuses.now) unit.now) result }
+{
+    put_word(writer, Word::Text(b"unit"))?;
+    put_spaced(
+        writer,
+        &[
+            Word::Generation(unit.generation()),
+            held_word(nexuses, unit.held()),
+        ],
+    )?;
+    put_registrations(writer, nexuses, unit)?;
+    put(writer, b"\n")
+}
+
+#[tactic(auto, unfolding(crate::specs::Printed::printed))]
+fn put_registrations<W: Write>(
+    writer: &mut W,
+    nexuses: &[Nexus],
+    unit: &Registry,
+) -> Result<(), WriteFault>
+    ensures { Puts (W.contents writer.old) (W.contents writer.new) (spaced (registration_words unit.now 0 (names_of nexuses.now))) result }
+{
+    for (host, nexus) in nexuses.iter().enumerate() {
+        put_after_space(
+            writer,
+            Word::Registration(nexus.name.as_str().as_bytes(), key_of(unit, host)),
+        )?;
+    }
+    Ok(())
+}
+
+// A host that the unit does not have has no key.
+fn key_of(unit: &Registry, host: usize) -> Option<u64>
+    ensures { result ≡ key_of unit.now host }
+{
+    if host < usize::from(unit.hosts()) {
+        unit.key(host as u8)
+    } else {
+        None
+    }
+}
+
+#[tactic(auto, unfolding(crate::specs::Printed::printed))]
+fn held_word(nexuses: &[Nexus], held: Option<Held>) -> Word<'_>
+    ensures { printed result ≡ held_word (names_of nexuses.now) held }
+{
+    match held {
+        None => Word::Text(b"none"),
+        Some(Held::One(kind, host)) => Word::Holder(kind, name_of(nexuses, usize::from(host))),
+        Some(Held::All(kind)) => Word::Number(u64::from(kind.code())),
+    }
+}
+
+fn put_ends<W: Write>(
+    writer: &mut W,
+    nexuses: &[Nexus],
+    ends: &[End],
+    counts: &[u32],
+) -> Result<(), WriteFault>
+    ensures { Puts (W.contents writer.old) (W.contents writer.new) (ending_lines 0 (names_of nexuses.now) counts.now (map seen ends.now)) result }
+{
+    for (host, end) in ends.iter().enumerate() {
+        put_end(writer, name_of(nexuses, host), *end, count_of(counts, host))?;
+    }
+    Ok(())
+}
+
+// A host or guest that has no count sent nothing.
+fn count_of(counts: &[u32], host: usize) -> u32
+    ensures { result ≡ slice_index counts.now host }
+{
+    match counts.get(host) {
+        Some(count) => *count,
+        None => 0,
+    }
+}
+
+#[tactic(auto, unfolding(crate::specs::TraceText::ending_line, crate::specs::Printed::printed))]
+fn put_end<W: Write>(writer: &mut W, name: &[u8], end: End, sent: u32) -> Result<(), WriteFault>
+    ensures { Puts (W.contents writer.old) (W.contents writer.new) (ending_line name.now (seen end) sent) result }
+{
+    match end {
+        End::Stopped(word) => {
+            let word = Word::Text(word.as_str().as_bytes());
+            put_ending(writer, b"host", name, b"stopped", word, sent)
+        }
+        End::Ready(line) => {
+            let line = Word::Number(u64::from(line));
+            put_ending(writer, b"host", name, b"ready", line, sent)
+        }
+        End::Trapped(line) => {
+            let line = Word::Number(u64::from(line));
+            put_ending(writer, b"host", name, b"trapped", line, sent)
+        }
+        End::Left(planned) => {
+            let planned = Word::Number(u64::from(planned));
+            put_ending(writer, b"guest", name, b"left", planned, sent)
+        }
+    }
+}
+
+#[tactic(auto, unfolding(crate::specs::Printed::printed))]
+fn put_ending<'a, W: Write>(
+    writer: &mut W,
+    role: &'a [u8],
+    name: &'a [u8],
+    how: &'a [u8],
+    what: Word<'a>,
+    sent: u32,
+) -> Result<(), WriteFault>
+    ensures { Puts (W.contents writer.old) (W.contents writer.new) (line role.now (name.now ∷ how.now ∷ printed what.entry ∷ codes "sent" ∷ decimal sent ∷ [])) result }
+{
+    put_line(
+        writer,
+        Word::Text(role),
+        &[
+            Word::Text(name),
+            Word::Text(how),
+            what,
+            Word::Text(b"sent"),
+            Word::Number(u64::from(sent)),
+        ],
+    )
+}
