@@ -1,11 +1,2 @@
-pub mod Fronts
-pub mod KeyDigits
-pub mod TraceSteps
-pub mod LineCuts
-pub mod ReadBytes
-pub mod NumberRoom
-pub mod NameText
-pub mod FrontOfText
-pub mod ThinRuns
-pub mod Steps
+pub mod Naming
 pub mod Plans

@@ -1,57 +1,93 @@
 -- What is planned is the trace of the text's scheduled run.
-use Rattle.std.proofs.Common.{◌≡◌, ℕ, ◌==◌, ◌||◌, Bool, true, false, if◌then◌else◌, nat_lt, List, [], ◌∷◌, length, Option, Some, None, is_some, IsTrue, Result, Ok, Err, ◌≤◌, refl, sym, ap, ◌∙◌, arith}
-use Rattle.std.specs.Prelude.{bytes_eq, replicate, IfSome}
-use Rattle.std.specs.List.{list_all}
+use Rattle.std.specs.Prelude.{◌≡◌, ℕ, suc, ◌+◌, ◌<◌, ◌≤◌, ◌==◌, ◌||◌, Bool, true, false, nat_lt, IsTrue, List, [], ◌∷◌, length, map, Option, Some, None, option_map, option_and_then, IfSome, Result, Ok, Err}
+use Rattle.std.specs.List.{All, list_any}
+use Rattle.std.proofs.Common.{refl, sym, ap, ◌∙◌, subst, arith}
 use Rattle.std.proofs.lemmas.Bool.{false≢true}
 use Rattle.std.proofs.lemmas.Bool.Decides.{nat_tests}
-use Rattle.fence.specs.declared.thin_scenario.Thin.{Thin}
-use Rattle.fence.specs.declared.replay.Replayed.{Replayed}
+use Rattle.std.proofs.lemmas.Option.{none-some, same_Some}
+use Rattle.pr_roles.specs.declared.parts.Parts.{Parts}
+use Rattle.pr_roles.specs.Scenarios.{Scenario, scenario_of}
+use Rattle.pr_roles.proofs.Apart.{names_of_parts, length_of_parts}
+use Rattle.pr_text.specs.Readings.{IsWrittenAs}
+use Rattle.pr_world.specs.declared.end.End.{End}
+use Rattle.pr_world.specs.declared.end.End.TheVariants as end
+use Rattle.pr_world.specs.declared.replaying.Replayed.{Replayed}
+use Rattle.pr_world.specs.Ends.{Ending, seen, is_trapped_end}
+use Rattle.pr_world.specs.Replays.{IsReplayed}
+use Rattle.pr_report.specs.TraceText.{names_in, names_of, trace_text}
 use Rattle.fence.specs.declared.commands.Planned.{Planned}
-use Rattle.fence.specs.declared.fault.Fault.{Fault}
 use Rattle.fence.specs.declared.fault.Fault.TheVariants as fault
-use Rattle.fence.specs.TraceText.{trace_text}
-use Rattle.fence.specs.ThinText.{thin_of, seen}
-use Rattle.fence.specs.ThinReading.{IsRead}
-use Rattle.fence.specs.Replayed.{is_trapped_end, IsReplayed}
-use Rattle.fence.specs.Replays.{hosts_of, has_wrong_count, IsTraceOf}
-use Rattle.fence.specs.Commands.{planned_text, IsPlanned}
-use Rattle.fence.proofs.Steps.{named_by_all}
+use Rattle.fence.specs.Steps.{number_of, hosts_of, has_wrong_count}
+use Rattle.fence.specs.Replays.{IsTraceOf, IsUsageFault}
+use Rattle.fence.specs.Commands.{planned_text, is_refused, IsPlanned}
 
-named_from : (name : List ℕ) (steps : List (List ℕ)) → is_some (hosts_of (name ∷ []) steps) ≡ true → hosts_of (name ∷ []) steps ≡ Some (replicate (length steps) 0)
-named_from name steps some = at (list_all (bytes_eq name) steps) (named_by_all name steps)
+-- the names of a scenario are those of its parts
+pub names_of_scenario : (p : Parts) → names_of p.nexuses.items ≡ names_in (scenario_of p)
+unfolding scenario_of
+names_of_scenario p = sym (names_of_parts p.nexuses.items)
+
+pub nexuses_in : (p : Parts) → length (scenario_of p).nexuses ≡ length p.nexuses.items
+unfolding scenario_of
+nexuses_in p = length_of_parts p.nexuses.items
+
+-- as many hosts are named as there are steps
+pub named_length : (ns words : List (List ℕ)) (hosts : List ℕ) → hosts_of ns words ≡ Some hosts → length hosts ≡ length words
+named_length ns [] hosts is = ap length (sym (same_Some _ _ is))
+named_length ns (w ∷ ws) hosts is = first (number_of ns w) is (named_length ns ws)
   where
-    at : (b : Bool) → hosts_of (name ∷ []) steps ≡ (if b then Some (replicate (length steps) 0) else None) → hosts_of (name ∷ []) steps ≡ Some (replicate (length steps) 0)
-    at true is = is
-    at false is = absurd (false≢true (sym (ap is_some is) ∙ some))
+    rest : (h : ℕ) (o : Option (List ℕ)) → option_map (λ hs. h ∷ hs) o ≡ Some hosts → ((hs : List ℕ) → o ≡ Some hs → length hs ≡ length ws) → length hosts ≡ length (w ∷ ws)
+    rest h None is later = absurd (none-some hosts is)
+    rest h (Some hs) is later = omega (arith, ap length (same_Some _ _ is), later hs refl)
 
-planned_trace : (steps : List (List ℕ)) (text : List ℕ) (thin : Thin) (r : Replayed) → thin_of text ≡ Ok (seen thin)
-    → is_some (hosts_of (thin.host.bytes ∷ []) steps) ≡ true → IsReplayed (seen thin) (length steps) r
-    → IsTraceOf steps text (planned_text (record { host = thin.host; replayed = r })) (is_trapped_end r.ended.end)
-planned_trace steps text thin r read named is = record {
-  scenario = seen thin;
-  read = read;
-  hosts = replicate (length steps) 0;
-  named = named_from thin.host.bytes steps named;
-  world = is.world;
+    first : (o : Option ℕ) → option_and_then (λ h. option_map (λ hs. h ∷ hs) (hosts_of ns ws)) o ≡ Some hosts
+        → ((hs : List ℕ) → hosts_of ns ws ≡ Some hs → length hs ≡ length ws) → length hosts ≡ length (w ∷ ws)
+    first None is later = absurd (none-some hosts is)
+    first (Some h) is later = rest h (hosts_of ns ws) is later
+
+some_seen : (ends : List End) → map (λ e. Some e) (map seen ends) ≡ map (λ e. Some (seen e)) ends
+some_seen [] = refl
+some_seen (e ∷ es) = ap (λ l. Some (seen e) ∷ l) (some_seen es)
+
+planned_trace : (steps : List (List ℕ)) (text : List ℕ) (p : Parts) (r : Replayed) (hosts : List ℕ) → IsWrittenAs text (scenario_of p)
+    → hosts_of (names_in (scenario_of p)) steps ≡ Some hosts → IsReplayed (scenario_of p) hosts r
+    → IsTraceOf steps text (planned_text (record { scenario = p; replayed = r })) (is_refused (record { scenario = p; replayed = r }))
+planned_trace steps text p r hosts written named is = record {
+  scenario = scenario_of p;
+  read = written;
+  hosts = hosts;
+  named = named;
+  start = is.start;
+  first = is.first;
+  last = is.last;
   run = is.run;
-  ends = r.ended ∷ [];
-  ended = is.ended;
-  trace_is = λ i. trace_text (thin.host.bytes ∷ []) (is.entries i) ((is.unit i).registry) (r.ended ∷ []);
-  refused_is = is.trapped;
+  ends = map seen r.ends.items;
+  ended = some_seen r.ends.items ∙ is.outcome.ends;
+  trace_is = λ i. trace_text (names_in (scenario_of p)) (is.outcome.entries i) ((is.outcome.unit i).registry) (map seen r.ends.items) (is.outcome.counts i);
+  refused_is = is.outcome.trapped;
 }
 
-pub planned : (steps : List (List ℕ)) (known : Option (List ℕ)) (thin : Thin) (r : Replayed) → (has_wrong_count steps ≡ false)
-    → IfSome known (λ text. IsRead text (Ok thin)) → is_some (hosts_of (thin.host.bytes ∷ []) steps) ≡ true → IsReplayed (seen thin) (length steps) r
-    → IsPlanned steps known (Ok (record { host = thin.host; replayed = r }))
-planned steps known thin r counted read named is = record {
+pub planned : (steps : List (List ℕ)) (known : Option (List ℕ)) (p : Parts) (r : Replayed) (hosts : List ℕ) → has_wrong_count steps ≡ false
+    → IfSome known (λ text. IsWrittenAs text (scenario_of p)) → hosts_of (names_in (scenario_of p)) steps ≡ Some hosts → IsReplayed (scenario_of p) hosts r
+    → IsPlanned steps known (Ok (record { scenario = p; replayed = r }))
+planned steps known p r hosts counted read named is = record {
   plans = at known read;
   counted = λ wrong. absurd (false≢true (sym counted ∙ wrong));
 }
   where
-    at : (known : Option (List ℕ)) → IfSome known (λ text. IsRead text (Ok thin))
-        → IfSome known (λ text. IsTraceOf steps text (planned_text (record { host = thin.host; replayed = r })) (is_trapped_end r.ended.end))
+    at : (known : Option (List ℕ)) → IfSome known (λ text. IsWrittenAs text (scenario_of p))
+        → IfSome known (λ text. IsTraceOf steps text (planned_text (record { scenario = p; replayed = r })) (is_refused (record { scenario = p; replayed = r })))
     at None read = tt
-    at (Some text) read = planned_trace steps text thin r read named is
+    at (Some text) read = planned_trace steps text p r hosts read named is
+
+-- a step is no name of the scenario
+pub unnamed : (steps : List (List ℕ)) (known : Option (List ℕ)) (p : Parts) → has_wrong_count steps ≡ false
+    → IfSome known (λ text. IsWrittenAs text (scenario_of p)) → hosts_of (names_in (scenario_of p)) steps ≡ None
+    → IsPlanned steps known (Err fault.Usage)
+unnamed steps known p counted read none = record { plans = at known read; counted = λ wrong. refl }
+  where
+    at : (known : Option (List ℕ)) → IfSome known (λ text. IsWrittenAs text (scenario_of p)) → IfSome known (λ text. IsUsageFault steps text (has_wrong_count steps))
+    at None read = tt
+    at (Some text) read = subst (IsUsageFault steps text) (sym counted) (scenario_of p, read, none)
 
 pub right_count : (steps : List (List ℕ)) (n : ℕ) → length steps ≡ n → (n == 0) ≡ false → n ≤ 4096 → has_wrong_count steps ≡ false
 right_count steps n len some most = rw len (at (n == 0) (nat_lt 4096 n) some (grind (arith, nat_tests)))

@@ -1,25 +1,34 @@
 -- How the commands of the program end.
-use Rattle.std.specs.Prelude.{◌≡◌, ℕ, Bool, true, IsTrue, List, [], ◌∷◌, length, Option, Some, None, IfSome, Result, Ok, Err}
+use Rattle.std.specs.Prelude.{◌≡◌, ℕ, Bool, IsTrue, List, map, Option, Some, IfSome, Result, Ok, Err}
+use Rattle.std.specs.List.{list_any}
+use Rattle.pr_roles.specs.Scenarios.{scenario_of}
+use Rattle.pr_text.specs.declared.fault.ReadError.TheVariants as input
+use Rattle.pr_text.specs.Texts.{answer_of}
+use Rattle.pr_world.specs.Ends.{seen, is_trapped_end}
+use Rattle.pr_report.specs.Written.{AppendsFront}
+use Rattle.pr_report.specs.TraceText.{names_in, trace_text}
 use Rattle.fence.specs.declared.commands.Planned.{Planned}
 use Rattle.fence.specs.declared.fault.Fault.{Fault}
 use Rattle.fence.specs.declared.fault.Fault.TheVariants as fault
 use Rattle.fence.specs.declared.fault.Status.{Status}
-use Rattle.fence.specs.Written.{AppendsFront}
-use Rattle.fence.specs.TraceText.{trace_text}
-use Rattle.fence.specs.Replayed.{is_trapped_end}
-use Rattle.fence.specs.Replays.{first_fault, has_wrong_count, IsTraceOf, Outputs, status_of_end, told_of_end}
+use Rattle.fence.specs.Steps.{has_wrong_count}
+use Rattle.fence.specs.Replays.{IsTraceOf, IsUsageFault, Outputs, status_of_end, told_of_end}
 
--- the text of the trace of what is planned
+-- the text of the trace of what is planned, and whether a host is trapped
 abbrev pub planned_text : Planned → List ℕ
-planned_text p = trace_text (p.host.bytes ∷ []) p.replayed.entries.items p.replayed.unit.registry (p.replayed.ended ∷ [])
+planned_text p =
+    trace_text (names_in (scenario_of p.scenario)) p.replayed.entries.items p.replayed.unit.registry (map seen p.replayed.ends.items) p.replayed.counts.items
+
+abbrev pub is_refused : Planned → Bool
+is_refused p = list_any is_trapped_end p.replayed.ends.items
 
 -- Over a text that is known: the trace of its replay, or its first fault. A wrong number of steps is found
 -- before the text is read.
 abbrev pub Plans : List (List ℕ) → Option (List ℕ) → Result Planned Fault → Type 0
-Plans steps known (Ok p) = IfSome known (λ text. IsTraceOf steps text (planned_text p) (is_trapped_end p.replayed.ended.end))
-Plans steps known (Err fault.Usage) = IfSome known (λ text. first_fault steps text ≡ Some fault.Usage)
-Plans steps known (Err (fault.Syntax line)) = IfSome known (λ text. first_fault steps text ≡ Some (fault.Syntax line))
-Plans steps known (Err fault.ReadFault) = Unit {0}
+Plans steps known (Ok p) = IfSome known (λ text. IsTraceOf steps text (planned_text p) (is_refused p))
+Plans steps known (Err fault.Usage) = IfSome known (λ text. IsUsageFault steps text (has_wrong_count steps))
+Plans steps known (Err (fault.Input input.ReadFault)) = Unit {0}
+Plans steps known (Err (fault.Input e)) = IfSome known (λ text. answer_of text ≡ Err e)
 Plans steps known (Err fault.Memory) = Unit {0}
 Plans steps known (Err fault.Output) = ⊥
 Plans steps known (Err fault.File) = ⊥

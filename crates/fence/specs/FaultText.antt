@@ -1,23 +1,79 @@
 -- The one line for a fault, the class of a fault, and the exit status of a class.
 use Rattle.std.specs.Prelude.{ℕ, List, [], ◌∷◌, codes}
 use Rattle.std.specs.Fmt.{decimal}
+use Rattle.std.specs.declared.io.ErrorKind.{ErrorKind}
+use Rattle.std.specs.declared.io.ErrorKind.TheVariants as kind
+use Rattle.pr_text.specs.declared.fault.Which.{Which}
+use Rattle.pr_text.specs.declared.fault.Which.TheVariants as which
+use Rattle.pr_text.specs.declared.fault.ReadError.{ReadError}
+use Rattle.pr_text.specs.declared.fault.ReadError.TheVariants as input
+use Rattle.pr_report.specs.PrintedLines.{line}
 use Rattle.fence.specs.declared.fault.Fault.{Fault}
 use Rattle.fence.specs.declared.fault.Fault.TheVariants as fault
 use Rattle.fence.specs.declared.fault.Status.{Status}
 use Rattle.fence.specs.declared.fault.Status.TheVariants as status
-use Rattle.fence.specs.PrintedLines.{line}
+
+abbrev pub which_word : Which → List ℕ
+which_word which.Hosts = codes "Hosts"
+which_word which.Keys = codes "Keys"
+which_word which.Statements = codes "Statements"
+which_word which.Arms = codes "Arms"
+which_word which.Nesting = codes "Nesting"
+which_word which.Repeat = codes "Repeat"
+which_word which.Budget = codes "Budget"
+which_word which.Roles = codes "Roles"
+which_word which.Plan = codes "Plan"
+
+-- a fault of the whole text, and one of a line, by number and name
+abbrev pub of_text : List ℕ → List ℕ → List (List ℕ)
+of_text number name = codes "input" ∷ number ∷ name ∷ []
+
+abbrev pub of_line : List ℕ → List ℕ → ℕ → List (List ℕ)
+of_line number name at = codes "input" ∷ number ∷ name ∷ codes "line" ∷ decimal at ∷ []
+
+abbrev pub input_words : ReadError → List (List ℕ)
+input_words input.TooLarge = of_text (codes "1") (codes "TooLarge")
+input_words (input.NotAscii at) = of_line (codes "2") (codes "NotAscii") at
+input_words (input.LineTooLong at) = of_line (codes "3") (codes "LineTooLong") at
+input_words (input.Syntax at) = of_line (codes "4") (codes "Syntax") at
+input_words (input.UnknownName at) = of_line (codes "5") (codes "UnknownName") at
+input_words (input.Limit limit at) =
+    codes "input" ∷ codes "6" ∷ codes "Limit" ∷ which_word limit ∷ codes "line" ∷ decimal at ∷ []
+input_words (input.UndeclaredKey at) = of_line (codes "7") (codes "UndeclaredKey") at
+input_words (input.Repeated at) = of_line (codes "8") (codes "Repeated") at
+input_words (input.Unclosed at) = of_line (codes "9") (codes "Unclosed") at
+input_words input.ReadFault = of_text (codes "10") (codes "ReadFault")
+input_words input.Memory = codes "memory" ∷ []
+input_words input.EmptyStart = of_text (codes "12") (codes "EmptyStart")
+
+-- the words after the program's name
+abbrev pub told_words : Fault → List (List ℕ)
+told_words fault.Usage = codes "usage" ∷ []
+told_words fault.File = codes "file" ∷ []
+told_words (fault.Input error) = input_words error
+told_words fault.Memory = codes "memory" ∷ []
+told_words fault.Output = codes "output" ∷ []
+
+-- the line with these words after the program's name
+abbrev pub told_line : List (List ℕ) → List ℕ
+told_line words = line (codes "fence:") words
 
 unfoldable pub fault_text : Fault → List ℕ
-fault_text fault.Usage = line (codes "fence:") (codes "usage" ∷ [])
-fault_text fault.File = line (codes "fence:") (codes "file" ∷ [])
-fault_text (fault.Syntax number) =
-    line (codes "fence:") (codes "input" ∷ codes "4" ∷ codes "Syntax" ∷ codes "line" ∷ decimal number ∷ [])
-fault_text fault.ReadFault = line (codes "fence:") (codes "input" ∷ codes "10" ∷ codes "ReadFault" ∷ [])
-fault_text fault.Memory = line (codes "fence:") (codes "memory" ∷ [])
-fault_text fault.Output = line (codes "fence:") (codes "output" ∷ [])
+fault_text f = told_line (told_words f)
+
+-- a fault of the input; want of memory is none
+abbrev pub input_fault : ReadError → Fault
+input_fault input.Memory = fault.Memory
+input_fault error = fault.Input error
+
+-- why a path was not opened
+abbrev pub open_fault : ErrorKind → Fault
+open_fault kind.OutOfMemory = fault.Memory
+open_fault _ = fault.File
 
 abbrev pub status_of : Fault → Status
 status_of fault.Usage = status.Usage
+status_of (fault.Input input.Memory) = status.Memory
 status_of fault.Memory = status.Memory
 status_of _ = status.Fault
 

@@ -1,18 +1,16 @@
 //! What the commands of the program do, over any reader, writer and error writer.
 
-ghost use Rattle.std.specs.Prelude.{◌≡◌, IfOk, IsTrue, length, map, is_some, bytes_eq, [], ◌∷◌};
-ghost use Rattle.std.specs.List.{list_all};
-ghost use Rattle.fence.specs.Written.{AppendsFront, Puts};
-ghost use Rattle.fence.specs.ThinText.{seen};
-ghost use Rattle.fence.specs.Replays.{hosts_of, has_wrong_count, status_of_end, told_of_end, Outputs};
+ghost use Rattle.std.specs.Prelude.{◌≡◌, map};
+ghost use Rattle.pr_report.specs.Written.{Puts};
+ghost use Rattle.fence.specs.Replays.{status_of_end, told_of_end};
 ghost use Rattle.fence.specs.Commands.{IsPlanned, EndsReplay, IsReplayCommand};
 
 use crate::fault::{Fault, Status, put_fault};
-use crate::output::WriteFault;
-use crate::replay::{Replayed, replay_turns};
-use crate::terms::Word;
-use crate::thin::{InputError, read_thin};
-use crate::trace_output::write_trace;
+use crate::steps::hosts_of;
+use pr_report::{WriteFault, write_trace};
+use pr_roles::Scenario;
+use pr_text::read;
+use pr_world::{Replayed, replay};
 use std::alloc::Global;
 use std::io::{Read, Write};
 
@@ -47,7 +45,7 @@ fn replay_and_tell<R: Read, W: Write, E: Write>(
     ensures ends { EndsReplay (map (λ s. s.now) steps.now) (R.remaining reader.old) (W.contents writer.old) (W.contents writer.new) result.0 }
     ensures tells { Puts (E.contents errors.old) (E.contents errors.new) (told_of_end result.0) result.1 }
 {
-    match replay(alloc, steps, reader, writer) {
+    match replay_text(alloc, steps, reader, writer) {
         Ok(refused) => (Ok(refused), Ok(())),
         Err(fault) => {
             let told = put_fault(errors, &fault);
@@ -67,7 +65,7 @@ fn status_of(end: Result<bool, Fault>) -> Status
 }
 
 // Plans, and then writes: whether a host is trapped.
-fn replay<R: Read, W: Write>(
+fn replay_text<R: Read, W: Write>(
     alloc: Global,
     steps: &[&str],
     reader: &mut R,
@@ -78,18 +76,19 @@ fn replay<R: Read, W: Write>(
     let plan = plan(alloc, steps, reader)?;
     write_trace(
         writer,
-        &[plan.host],
+        &plan.scenario,
         &plan.replayed.entries,
-        plan.replayed.unit.registry(),
-        &[plan.replayed.ended],
+        &plan.replayed.unit,
+        &plan.replayed.ends,
+        &plan.replayed.counts,
     )?;
     Ok(plan.replayed.is_trapped())
 }
 
-/// A replay that is done and not written: the host's name, and what it came to.
+/// A replay that is done and not written.
 #[derive(Drop)]
 struct Planned {
-    host: Word,
+    scenario: Scenario,
     replayed: Replayed,
 }
 
@@ -100,43 +99,12 @@ fn plan<R: Read>(alloc: Global, steps: &[&str], reader: &mut R) -> Result<Planne
     if steps.is_empty() || steps.len() > MOST_STEPS {
         return Err(Fault::Usage);
     }
-    let thin = read_thin(alloc, reader)?;
-    if !are_host(steps, thin.host.as_str()) {
+    let scenario = read(alloc, reader)?;
+    let Some(hosts) = hosts_of(alloc, steps, &scenario.parts().nexuses)? else {
         return Err(Fault::Usage);
-    }
-    let replayed = replay_turns(alloc, &thin, steps.len())?;
-    Ok(Planned {
-        host: thin.host,
-        replayed,
-    })
-}
-
-// Whether each step is the host's name.
-fn are_host(steps: &[&str], host: &str) -> bool
-    ensures { result ≡ is_some (hosts_of (host.now ∷ []) (map (λ s. s.now) steps.now)) }
-{
-    each_is(steps, host)
-}
-
-fn each_is(words: &[&str], name: &str) -> bool
-    ensures { result ≡ list_all (λ w. bytes_eq name.now w.now) words.now }
-{
-    words.iter().all(|word| name == *word)
-}
-
-impl From<InputError> for Fault {
-    ghost use Rattle.std.specs.Prelude.{◌≡◌};
-    ghost use Rattle.fence.specs.InputFaults.{fault_of};
-
-    ghost from_gives = { λ error fault. fault ≡ fault_of error };
-
-    fn from(error: InputError) -> Self {
-        match error {
-            InputError::Syntax(line) => Fault::Syntax(line),
-            InputError::ReadFault => Fault::ReadFault,
-            InputError::Memory => Fault::Memory,
-        }
-    }
+    };
+    let replayed = replay(alloc, &scenario, &hosts)?;
+    Ok(Planned { scenario, replayed })
 }
 
 #[cfg(test)]

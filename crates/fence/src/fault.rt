@@ -1,13 +1,14 @@
 //! What a command of the program can end in, and the one line that says so.
 
-ghost use Rattle.std.specs.Prelude.{◌≡◌, codes, map};
-ghost use Rattle.fence.specs.Written.{AppendsFront, Puts};
-ghost use Rattle.fence.specs.PrintedLines.{line};
-ghost use Rattle.fence.specs.Printed.{printed};
-ghost use Rattle.fence.specs.FaultText.{exit_status_of, fault_text, status_of};
+ghost use Rattle.std.specs.Prelude.{◌≡◌, ◌∷◌, [], codes, map};
+ghost use Rattle.std.specs.Fmt.{decimal};
+ghost use Rattle.pr_report.specs.Written.{AppendsFront, Puts};
+ghost use Rattle.pr_report.specs.Printed.{printed};
+ghost use Rattle.pr_report.specs.PrintedLines.{line};
+ghost use Rattle.fence.specs.FaultText.{exit_status_of, fault_text, status_of, told_line, input_words, of_text, of_line, which_word};
 
-use crate::output::WriteFault;
-use crate::printing::{Word, put_line};
+use pr_report::{Word, WriteFault, put_line};
+use pr_text::{ReadError, Which};
 use std::alloc::{AllocError, AllocFailed};
 use std::io::Write;
 
@@ -23,11 +24,8 @@ pub enum Fault {
     /// A path that can't be opened.
     File,
 
-    /// This line is the first that does not fit the text.
-    Syntax(u32),
-
-    /// The reader answered an error.
-    ReadFault,
+    /// The text is no scenario, or can't be read to its end.
+    Input(ReadError),
 
     /// An allocation failed.
     Memory,
@@ -77,8 +75,22 @@ impl Fault {
     {
         match self {
             Fault::Usage => Status::Usage,
-            Fault::Memory => Status::Memory,
-            Fault::File | Fault::Syntax(_) | Fault::ReadFault | Fault::Output => Status::Fault,
+            Fault::Memory | Fault::Input(ReadError::Memory) => Status::Memory,
+            Fault::File | Fault::Input(_) | Fault::Output => Status::Fault,
+        }
+    }
+}
+
+impl From<ReadError> for Fault {
+    ghost use Rattle.std.specs.Prelude.{◌≡◌};
+    ghost use Rattle.fence.specs.FaultText.{input_fault};
+
+    ghost from_gives = { λ error fault. fault ≡ input_fault error };
+
+    fn from(error: ReadError) -> Self {
+        match error {
+            ReadError::Memory => Fault::Memory,
+            other => Fault::Input(other),
         }
     }
 }
@@ -124,40 +136,119 @@ pub fn tell<W: Write>(errors: &mut W, fault: &Fault)
 }
 
 /// Writes the one line for a fault.
-#[tactic(auto, unfolding(crate::specs::FaultText::fault_text, crate::specs::Printed::printed))]
+#[tactic(auto, unfolding(crate::specs::FaultText::fault_text, pr_report::specs::Printed::printed))]
 pub fn put_fault<W: Write>(errors: &mut W, fault: &Fault) -> Result<(), WriteFault>
     ensures { Puts (W.contents errors.old) (W.contents errors.new) (fault_text fault.now) result }
 {
     match fault {
         Fault::Usage => put_told(errors, &[Word::Text(b"usage")]),
         Fault::File => put_told(errors, &[Word::Text(b"file")]),
-        Fault::Syntax(line) => put_told(
-            errors,
-            &[
-                Word::Text(b"input"),
-                Word::Text(b"4"),
-                Word::Text(b"Syntax"),
-                Word::Text(b"line"),
-                Word::Number(u64::from(*line)),
-            ],
-        ),
-        Fault::ReadFault => put_told(
-            errors,
-            &[
-                Word::Text(b"input"),
-                Word::Text(b"10"),
-                Word::Text(b"ReadFault"),
-            ],
-        ),
+        Fault::Input(error) => put_input(errors, *error),
         Fault::Memory => put_told(errors, &[Word::Text(b"memory")]),
         Fault::Output => put_told(errors, &[Word::Text(b"output")]),
     }
 }
 
+fn put_input<W: Write>(errors: &mut W, error: ReadError) -> Result<(), WriteFault>
+    ensures { Puts (W.contents errors.old) (W.contents errors.new) (told_line (input_words error)) result }
+{
+    match error {
+        ReadError::TooLarge => put_of_text(errors, b"1", b"TooLarge"),
+        ReadError::NotAscii { line } => put_of_line(errors, b"2", b"NotAscii", line),
+        ReadError::LineTooLong { line } => put_of_line(errors, b"3", b"LineTooLong", line),
+        ReadError::Syntax { line } => put_of_line(errors, b"4", b"Syntax", line),
+        ReadError::UnknownName { line } => put_of_line(errors, b"5", b"UnknownName", line),
+        ReadError::Limit { which, line } => put_limit(errors, which, line),
+        ReadError::UndeclaredKey { line } => put_of_line(errors, b"7", b"UndeclaredKey", line),
+        ReadError::Repeated { line } => put_of_line(errors, b"8", b"Repeated", line),
+        ReadError::Unclosed { line } => put_of_line(errors, b"9", b"Unclosed", line),
+        ReadError::ReadFault => put_of_text(errors, b"10", b"ReadFault"),
+        ReadError::Memory => put_memory(errors),
+        ReadError::EmptyStart => put_of_text(errors, b"12", b"EmptyStart"),
+    }
+}
+
+#[tactic(auto, unfolding(pr_report::specs::Printed::printed))]
+fn put_memory<W: Write>(errors: &mut W) -> Result<(), WriteFault>
+    ensures { Puts (W.contents errors.old) (W.contents errors.new) (told_line (codes "memory" ∷ [])) result }
+{
+    put_told(errors, &[Word::Text(b"memory")])
+}
+
+// A fault of the whole text.
+#[tactic(auto, unfolding(pr_report::specs::Printed::printed))]
+fn put_of_text<'a, W: Write>(
+    errors: &mut W,
+    number: &'a [u8],
+    name: &'a [u8],
+) -> Result<(), WriteFault>
+    ensures { Puts (W.contents errors.old) (W.contents errors.new) (told_line (of_text number.now name.now)) result }
+{
+    put_told(
+        errors,
+        &[Word::Text(b"input"), Word::Text(number), Word::Text(name)],
+    )
+}
+
+// A fault of a line.
+#[tactic(auto, unfolding(pr_report::specs::Printed::printed))]
+fn put_of_line<'a, W: Write>(
+    errors: &mut W,
+    number: &'a [u8],
+    name: &'a [u8],
+    line: u32,
+) -> Result<(), WriteFault>
+    ensures { Puts (W.contents errors.old) (W.contents errors.new) (told_line (of_line number.now name.now line)) result }
+{
+    put_told(
+        errors,
+        &[
+            Word::Text(b"input"),
+            Word::Text(number),
+            Word::Text(name),
+            Word::Text(b"line"),
+            Word::Number(u64::from(line)),
+        ],
+    )
+}
+
+#[tactic(auto, unfolding(pr_report::specs::Printed::printed))]
+fn put_limit<W: Write>(errors: &mut W, which: Which, line: u32) -> Result<(), WriteFault>
+    ensures { Puts (W.contents errors.old) (W.contents errors.new) (told_line (codes "input" ∷ codes "6" ∷ codes "Limit" ∷ which_word which ∷ codes "line" ∷ decimal line ∷ [])) result }
+{
+    put_told(
+        errors,
+        &[
+            Word::Text(b"input"),
+            Word::Text(b"6"),
+            Word::Text(b"Limit"),
+            Word::Text(which_word(which)),
+            Word::Text(b"line"),
+            Word::Number(u64::from(line)),
+        ],
+    )
+}
+
+fn which_word(which: Which) -> &'static [u8]
+    ensures { result.now ≡ which_word which }
+{
+    match which {
+        Which::Hosts => b"Hosts",
+        Which::Keys => b"Keys",
+        Which::Statements => b"Statements",
+        Which::Arms => b"Arms",
+        Which::Nesting => b"Nesting",
+        Which::Repeat => b"Repeat",
+        Which::Budget => b"Budget",
+        Which::Roles => b"Roles",
+        Which::Plan => b"Plan",
+    }
+}
+
 // The line with these words after the program's name.
-#[tactic(auto, unfolding(crate::specs::Printed::printed))]
+#[tactic(auto, unfolding(pr_report::specs::Printed::printed))]
 fn put_told<W: Write>(errors: &mut W, words: &[Word<'_>]) -> Result<(), WriteFault>
-    ensures { Puts (W.contents errors.old) (W.contents errors.new) (line (codes "fence:") (map printed words.now)) result }
+    ensures { Puts (W.contents errors.old) (W.contents errors.new) (told_line (map printed words.now)) result }
 {
     put_line(errors, Word::Text(b"fence:"), words)
 }

@@ -2,20 +2,14 @@
 //! and writes a trace of the commands and replies.
 #![tactic(auto)]
 
+ghost use Rattle.std.specs.Prelude.{◌≡◌};
+ghost use Rattle.std.specs.IoError.{error_kind};
+ghost use Rattle.fence.specs.FaultText.{open_fault, status_of};
+
 mod command_line;
 mod commands;
-mod cutting;
 mod fault;
-mod options;
-mod output;
-mod printing;
-mod replay;
-mod source;
-mod terms;
-mod thin;
-mod thin_lines;
-mod thin_scenario;
-mod trace_output;
+mod steps;
 
 use crate::command_line::matches_of;
 use crate::commands::do_replay;
@@ -75,7 +69,9 @@ fn replay_path(rt: &HostRuntime, path: &str, steps: &[&str]) -> Status {
 }
 
 // Why a path was not opened.
-fn file_fault(error: &io::Error) -> Fault {
+fn file_fault(error: &io::Error) -> Fault
+    ensures { result ≡ open_fault (error_kind error.now) }
+{
     if error.kind() == io::ErrorKind::OutOfMemory {
         Fault::Memory
     } else {
@@ -84,7 +80,9 @@ fn file_fault(error: &io::Error) -> Fault {
 }
 
 // Tells a fault that comes before any text is read.
-fn fail(rt: &HostRuntime, fault: Fault) -> Status {
+fn fail(rt: &HostRuntime, fault: Fault) -> Status
+    ensures { result ≡ status_of fault }
+{
     tell(&mut rt.stderr(), &fault);
     fault.status()
 }

@@ -1,7 +1,0 @@
-use Rattle.std.proofs.Common.{drop}
-use Rattle.fence.specs.Written.{Wrote}
-use Rattle.fence.specs.PrintedLines.{pairs}
-use Rattle.fence.proofs.printing.put_pairs.Given as goal
-
-abbrev pub invariant-loop-byte : goal.invariant-loop-byte
-invariant-loop-byte g l = Wrote (g.W.Write.contents l.fn.writer) (g.W.Write.contents l.writer) (pairs l.bytes) (pairs (drop l.byte-index l.bytes))

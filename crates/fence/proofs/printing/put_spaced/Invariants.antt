@@ -1,8 +1,0 @@
-use Rattle.std.proofs.Common.{drop, map}
-use Rattle.fence.specs.Written.{Wrote}
-use Rattle.fence.specs.PrintedLines.{spaced}
-use Rattle.fence.specs.Printed.{printed}
-use Rattle.fence.proofs.printing.put_spaced.Given as goal
-
-abbrev pub invariant-loop-word : goal.invariant-loop-word
-invariant-loop-word g l = Wrote (g.W.Write.contents l.fn.writer) (g.W.Write.contents l.writer) (spaced (map printed l.words)) (spaced (map printed (drop l.word-index l.words)))

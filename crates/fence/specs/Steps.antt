@@ -1,0 +1,15 @@
+-- The hosts and guests that the steps of a replay name.
+use Rattle.std.specs.Prelude.{ℕ, ◌==◌, ◌||◌, Bool, nat_lt, List, [], ◌∷◌, length, position, bytes_eq, Option, Some, option_map, option_and_then}
+
+-- the number of the host or guest with this name
+abbrev pub number_of : List (List ℕ) → List ℕ → Option ℕ
+number_of names word = position (λ name. bytes_eq name word) names
+
+-- the numbers of those that these words name
+abbrev pub hosts_of : List (List ℕ) → List (List ℕ) → Option (List ℕ)
+hosts_of names [] = Some []
+hosts_of names (word ∷ words) = option_and_then (λ h. option_map (λ hs. h ∷ hs) (hosts_of names words)) (number_of names word)
+
+-- no step, or more than 4096
+abbrev pub has_wrong_count : List (List ℕ) → Bool
+has_wrong_count steps = length steps == 0 || nat_lt 4096 (length steps)
