@@ -1,0 +1,94 @@
+//! Times replays of the proved program: texts of three sizes, with as many steps, and `cat` of the same output.
+
+use std::fs;
+use std::process::{Command, Stdio};
+use std::time::{Duration, Instant};
+
+const ROUNDS: u32 = 15;
+
+#[repr(C)]
+#[derive(Default)]
+struct Usage {
+    times: [i64; 4],
+    most_memory: i64,
+    others: [i64; 13],
+}
+
+unsafe extern "C" {
+    fn getrusage(who: i32, usage: *mut Usage) -> i32;
+}
+
+// The most memory that any child had, in bytes.
+fn most_memory() -> i64 {
+    let mut usage = Usage::default();
+    // -1 stands for the children.
+    unsafe { getrusage(-1, &mut usage) };
+    usage.most_memory * 1024
+}
+
+// A scenario of just so many bytes: host a sends 4,096 times, and the other hosts' scripts fill the text.
+fn scenario(bytes: usize) -> String {
+    let names = ["b", "c", "d", "e"];
+    let mut text = String::from("fence 1\nkeys a1\nhost a\n");
+    for name in names {
+        text += &format!("host {name}\n");
+    }
+    text += "script a budget 4096\nrepeat 64\nrepeat 64\nsend test-unit-ready\non good\ndone\ndone\ndone\nend\n";
+    for (others, name) in names.iter().enumerate() {
+        text += &format!("script {name} budget 4096\n");
+        let rest = (names.len() - others - 1) * 32 + 16;
+        for _ in 0..512 {
+            if text.len() + rest + 64 > bytes {
+                break;
+            }
+            text += "send test-unit-ready\non good\ndone\n";
+        }
+        text += "end\n";
+    }
+    while text.len() < bytes {
+        let left = (bytes - text.len()).min(200);
+        text += &"#".repeat(left - 1);
+        text += "\n";
+    }
+    text
+}
+
+// The least time of some runs, and the most that one child of this run wrote.
+fn least(mut run: impl FnMut()) -> Duration {
+    let mut least = Duration::MAX;
+    for _ in 0..ROUNDS {
+        let start = Instant::now();
+        run();
+        least = least.min(start.elapsed());
+    }
+    least
+}
+
+fn main() {
+    let words: Vec<String> = std::env::args().collect();
+    let (fence, room) = (&words[1], &words[2]);
+    let (text, trace) = (format!("{room}/scenario"), format!("{room}/trace"));
+    for (bytes, steps) in [(16_384, 1_024), (32_768, 2_048), (65_536, 4_096)] {
+        fs::write(&text, scenario(bytes)).expect("a scenario");
+        let steps = vec!["a"; steps];
+        let replay = least(|| {
+            let out = fs::File::create(&trace).expect("a trace");
+            let status = Command::new(fence).arg("replay").arg(&text).args(&steps).stdout(out).status();
+            assert!(status.expect("fence").success());
+        });
+        let cat = least(|| {
+            let status = Command::new("cat").arg(&trace).stdout(Stdio::null()).status();
+            assert!(status.expect("cat").success());
+        });
+        println!(
+            "{} bytes, {} steps, {} bytes of trace: {:.1} ms; cat of the trace {:.1} ms, ratio {:.1}; most memory {:.1} MB",
+            fs::metadata(&text).expect("the scenario").len(),
+            steps.len(),
+            fs::metadata(&trace).expect("the trace").len(),
+            replay.as_secs_f64() * 1e3,
+            cat.as_secs_f64() * 1e3,
+            replay.as_secs_f64() / cat.as_secs_f64(),
+            most_memory() as f64 / 1e6,
+        );
+    }
+}
