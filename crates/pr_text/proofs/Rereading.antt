@@ -217,7 +217,7 @@ mutual
       (send_goes m keys c host budget ls k bs g stands.free written.0 (short_now k _ few) (shallow _ s stands.sends_are q.0))
       ∙ (ap (λ v. all_stepped n keys v (open_at host budget (ls ++ send_at m c ∷ []) (k + 1) (sending c 0 ∷ bs) false)) (append_assoc (arms_lines a) (block_done ∷ []) u)
       ∙ (arms_goes n keys host budget c a r s (block_done ∷ u) (ls ++ send_at m c ∷ []) (k + 1) 0 bs false q.1 stands.repeats_are stands.sends_are
-          (from_none (count_of_arms a) 16 (true_le (count_of_arms a) 16 written.1)) (sum_rest k 1 (count_in_arms a) few)
+      (from_none (count_of_arms a) 16 (true_le (count_of_arms a) 16 written.1)) (sum_rest k 1 (count_in_arms a) few)
       ∙ (goes _ _ (all_stepped n keys u) (done_goes n host budget _ _ (sending c (0 + count_of_arms a)) bs _ refl)
       ∙ ap (all_stepped n keys u) (same_at host budget _ _ _ _ bs bs true true (block_joined ls (send_at m c) (arms_lines a)) (sum_joined k 1 (count_in_arms a)) refl refl))))
   statement_goes n keys host budget (repeats count b) r s u ls k bs g fits stands begins few =
@@ -229,7 +229,7 @@ mutual
       (repeat_goes n keys count host budget ls k bs g stands.free (short_now k _ few) (shallow _ r stands.repeats_are q.0) (both _ _ written.0 body.0))
       ∙ (ap (λ v. all_stepped n keys v (open_at host budget (ls ++ repeat_of count ∷ []) (k + 1) (repeating ∷ bs) false)) (append_assoc (body_lines b) (block_done ∷ []) u)
       ∙ (body_goes n keys host budget b (r + 1) s (block_done ∷ u) (ls ++ repeat_of count ∷ []) (k + 1) (repeating ∷ bs) false q.1 (stands_repeated r s bs stands)
-          (follows_repeat b (repeating ∷ bs) false body.1) (sum_rest k 1 (count_of_all b) few)
+      (follows_repeat b (repeating ∷ bs) false body.1) (sum_rest k 1 (count_of_all b) few)
       ∙ (goes _ _ (all_stepped n keys u) (done_goes n host budget _ _ repeating bs _ (begun_by b false body.1))
       ∙ ap (all_stepped n keys u) (same_at host budget _ _ _ _ bs bs true true (block_joined ls (repeat_of count) (body_lines b)) (sum_joined k 1 (count_of_all b)) refl refl))))
   statement_goes n keys host budget breaks r s u ls k bs g fits stands begins few =
@@ -265,11 +265,11 @@ mutual
       (arm_goes n keys t c j host budget ls k bs g known.0 known.1 (few_arms j (count_of_arms rest) arms))
       ∙ (ap (λ v. all_stepped n keys v (open_at host budget (ls ++ arm_on t ∷ []) k (sending c (j + 1) ∷ bs) false)) (append_assoc (body_lines b) (arms_lines rest) u)
       ∙ (body_goes n keys host budget b r (s + 1) (arms_lines rest ++ u) (ls ++ arm_on t ∷ []) k (sending c (j + 1) ∷ bs) false q.1 (stands_armed r s c j bs repeated sent)
-          (follows_in_arm b c (j + 1) bs false) (sum_least k (count_of_all b) (count_in_arms rest) few)
+      (follows_in_arm b c (j + 1) bs false) (sum_least k (count_of_all b) (count_in_arms rest) few)
       ∙ (arms_goes n keys host budget c rest r s u ((ls ++ arm_on t ∷ []) ++ body_lines b) (k + count_of_all b) (j + 1) bs (begun_after b false) p.1 repeated sent
-          (arms_rest j (count_of_arms rest) arms) (sum_rest k (count_of_all b) (count_in_arms rest) few)
+      (arms_rest j (count_of_arms rest) arms) (sum_rest k (count_of_all b) (count_in_arms rest) few)
       ∙ ap (all_stepped n keys u) (same_at host budget _ _ _ _ _ _ _ _ (arms_joined ls (arm_on t) (body_lines b) (arms_lines rest)) (sum_joined k (count_of_all b) (count_in_arms rest))
-          (same_arms c _ _ bs (sum_joined j 1 (count_of_arms rest))) refl))))
+      (same_arms c _ _ bs (sum_joined j 1 (count_of_arms rest))) refl))))
 
 -- ---- a whole script
 
