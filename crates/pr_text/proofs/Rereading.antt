@@ -14,8 +14,8 @@ use Rattle.pr_text.specs.CommandWords.{keyless}
 use Rattle.pr_text.specs.ScriptLines.{ScriptLine, send_at, arm_on, block_done, repeat_of, break_out, stop_with, statement_lines, body_lines, arms_lines}
 use Rattle.pr_text.specs.Declarations.{Opening, repeating, sending, OpenLines}
 use Rattle.pr_text.specs.ScriptSteps.{is_repeating, is_sending, awaits_arm, is_in_repeat, send_step, repeat_step, break_step, stop_step, stands_under, is_test_declared, on_step, done_step, may_close}
-use Rattle.pr_text.specs.Respoken.{said_by, numbered, all_stepped, IsReread, ScriptsHaveNoFault}
-use Rattle.pr_text.proofs.Trees.{both, le_true, true_le, true_lt, count-cons}
+use Rattle.pr_text.specs.SaidLines.{said_by, numbered, all_stepped, IsReread, ScriptsHaveNoFault}
+use Rattle.pr_text.proofs.Trees.{both, le_true, true_le, true_lt, one_more, as_many}
 
 -- an open script by its parts
 abbrev open_at : ℕ → ℕ → List ScriptLine → ℕ → List Opening → Bool → OpenLines
@@ -157,23 +157,11 @@ few_arms j n h = grind (arith, nat_tests)
 some_arm : (j : ℕ) → (j + 1 == 0) ≡ false
 some_arm j = grind (arith, nat_tests)
 
-sent_more : (c : Command) (j : ℕ) (bs : List Opening) (n : ℕ) → count_by is_sending bs ≡ n → count_by is_sending (sending c j ∷ bs) ≡ n + 1
-sent_more c j bs n e = let k = count-cons is_sending (sending c j) bs in omega (arith, e, k)
-
-sent_kept : (bs : List Opening) (n : ℕ) → count_by is_sending bs ≡ n → count_by is_sending (repeating ∷ bs) ≡ n
-sent_kept bs n e = let k = count-cons is_sending repeating bs in omega (arith, e, k)
-
-repeated_more : (bs : List Opening) (n : ℕ) → count_by is_repeating bs ≡ n → count_by is_repeating (repeating ∷ bs) ≡ n + 1
-repeated_more bs n e = let k = count-cons is_repeating repeating bs in omega (arith, e, k)
-
-repeated_kept : (c : Command) (j : ℕ) (bs : List Opening) (n : ℕ) → count_by is_repeating bs ≡ n → count_by is_repeating (sending c j ∷ bs) ≡ n
-repeated_kept c j bs n e = let k = count-cons is_repeating (sending c j) bs in omega (arith, e, k)
-
 stands_armed : (r s : ℕ) (c : Command) (j : ℕ) (bs : List Opening) → count_by is_repeating bs ≡ r → count_by is_sending bs ≡ s → Stands r (s + 1) (sending c (j + 1) ∷ bs)
-stands_armed r s c j bs a b = record { repeats_are = repeated_kept c (j + 1) bs r a; sends_are = sent_more c (j + 1) bs s b; free = some_arm j }
+stands_armed r s c j bs a b = record { repeats_are = as_many is_repeating (sending c (j + 1)) bs r refl a; sends_are = one_more is_sending (sending c (j + 1)) bs s refl b; free = some_arm j }
 
 stands_repeated : (r s : ℕ) (bs : List Opening) → Stands r s bs → Stands (r + 1) s (repeating ∷ bs)
-stands_repeated r s bs h = record { repeats_are = repeated_more bs r h.repeats_are; sends_are = sent_kept bs s h.sends_are; free = refl }
+stands_repeated r s bs h = record { repeats_are = one_more is_repeating repeating bs r refl h.repeats_are; sends_are = as_many is_sending repeating bs s refl h.sends_are; free = refl }
 
 same_at : (host budget : ℕ) (ls ks : List ScriptLine) (j k : ℕ) (bs cs : List Opening) (f g : Bool) → ls ≡ ks → j ≡ k → bs ≡ cs → f ≡ g
     → open_at host budget ls j bs f ≡ open_at host budget ks k cs g

@@ -31,10 +31,10 @@ true_lt n m h = grind (arith, nat_tests)
 pub count-cons : {X : Type 0} (p : X → Bool) (x : X) (xs : List X) → count_by p (x ∷ xs) ≡ cond (p x) 1 0 + count_by p xs
 count-cons p x xs = sum_by-cons (λ y. cond (p y) 1 0) x xs
 
-one_more : (p : Opening → Bool) (b : Opening) (bs : List Opening) (n : ℕ) → p b ≡ true → count_by p bs ≡ n → count_by p (b ∷ bs) ≡ n + 1
+pub one_more : (p : Opening → Bool) (b : Opening) (bs : List Opening) (n : ℕ) → p b ≡ true → count_by p bs ≡ n → count_by p (b ∷ bs) ≡ n + 1
 one_more p b bs n it e = let c = count-cons p b bs in let one : cond (p b) 1 0 ≡ suc 0 = ap (λ t. cond t 1 0) it in omega arith
 
-as_many : (p : Opening → Bool) (b : Opening) (bs : List Opening) (n : ℕ) → p b ≡ false → count_by p bs ≡ n → count_by p (b ∷ bs) ≡ n
+pub as_many : (p : Opening → Bool) (b : Opening) (bs : List Opening) (n : ℕ) → p b ≡ false → count_by p bs ≡ n → count_by p (b ∷ bs) ≡ n
 as_many p b bs n it e = let c = count-cons p b bs in let nil : ◌≡◌ {A = ℕ} (cond (p b) 1 0) 0 = ap (λ t. cond t 1 0) it in omega arith
 
 abbrev state : List Opening → Bool → Reached

@@ -18,6 +18,6 @@ pub mod Drafts
 pub mod Placing
 pub mod Texts
 pub mod Readings
-pub mod Respoken
+pub mod SaidLines
 pub mod Sound
 pub mod Laws

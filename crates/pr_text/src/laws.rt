@@ -1,7 +1,7 @@
 //! Laws of the language, each the contract of a function with nothing to do.
 
 ghost use Rattle.pr_text.specs.Laws.{TextsAreWrittenOnce};
-ghost use Rattle.pr_text.specs.Respoken.{ScriptsHaveNoFault};
+ghost use Rattle.pr_text.specs.SaidLines.{ScriptsHaveNoFault};
 
 /// A text is written as one scenario at most: its scripts are the only ones that are written as its lines.
 pub fn texts_are_written_once()

@@ -39,16 +39,17 @@ running_more s start steps i c d there running turn happens stands room few = re
 
 pub replayed : (s : Scenario) (steps : List ℕ) (i : ℕ) (b c : Course) (r : Result Replayed AllocError) → IsBegun s b → IsRunning s (schedule_of b) steps i c → length steps ≤ i
     → IfOk r (IsEndOf (schedule_of c)) → IfOk r (IsReplayed s steps)
-replayed s steps i b c (Ok r) begun running done outcome = record {
-  start = begun.start;
-  first = begun.first;
-  last = schedule_of c;
-  run = subst (λ x. ScheduledRun s x steps (schedule_of c)) begun.schedule (running.goes (schedule_of c) (rw (drop_of_length-le steps {i = i} done) refl));
-  outcome = outcome;
-  legal =
-      let all = subst (λ x. HasHappened s x.world (schedule_of c).world) begun.schedule running.happened in
-      (all.events, (schedule_of c).world, all.run, sym outcome.entries);
-}
+replayed s steps i b c (Ok r) begun running done outcome =
+    let all = subst (λ x. HasHappened s x.world (schedule_of c).world) begun.schedule running.happened in
+    record {
+      start = begun.start;
+      first = begun.first;
+      last = schedule_of c;
+      run = subst (λ x. ScheduledRun s x steps (schedule_of c)) begun.schedule (running.goes (schedule_of c) (rw (drop_of_length-le steps {i = i} done) refl));
+      outcome = outcome;
+      events = all.events;
+      reached = all.run;
+    }
 replayed s steps i b c (Err e) begun running done outcome = outcome
 
 -- ---- how they stand
