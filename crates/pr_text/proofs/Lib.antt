@@ -16,3 +16,6 @@ pub mod SoundPlaces
 pub mod SoundLists
 pub mod OneReading
 pub mod Rereading
+pub mod NamesApart
+pub mod DetailLines
+pub mod WholeLines

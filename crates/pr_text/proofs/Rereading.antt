@@ -15,7 +15,7 @@ use Rattle.pr_text.specs.ScriptLines.{ScriptLine, send_at, arm_on, block_done, r
 use Rattle.pr_text.specs.Declarations.{Opening, repeating, sending, OpenLines}
 use Rattle.pr_text.specs.ScriptSteps.{is_repeating, is_sending, awaits_arm, is_in_repeat, send_step, repeat_step, break_step, stop_step, stands_under, is_test_declared, on_step, done_step, may_close}
 use Rattle.pr_text.specs.SaidLines.{said_by, numbered, all_stepped, IsReread, ScriptsHaveNoFault}
-use Rattle.pr_text.proofs.Trees.{both, le_true, true_le, true_lt, one_more, as_many}
+use Rattle.pr_text.proofs.Trees.{both, no_not, le_true, true_le, true_lt, one_more, as_many}
 
 -- an open script by its parts
 abbrev open_at : ℕ → ℕ → List ScriptLine → ℕ → List Opening → Bool → OpenLines
@@ -23,7 +23,7 @@ open_at host budget ls k bs g = record { host = host; budget = budget; lines = l
 
 -- ---- single lines
 
-goes : {A : Type 0} (step : Result A ReadError) (a : A) (f : A → Result A ReadError) → step ≡ Ok a → and_then step f ≡ f a
+pub goes : {A B : Type 0} (step : Result A ReadError) (a : A) (f : A → Result B ReadError) → step ≡ Ok a → and_then step f ≡ f a
 goes step a f e = rw e refl
 
 send_goes : (m : ℕ) (keys : List ℕ) (c : Command) (host budget : ℕ) (ls : List ScriptLine) (k : ℕ) (bs : List Opening) (g : Bool)
@@ -95,10 +95,6 @@ begun_after (more x rest) g = true
 abbrev begun_arms : Arms → Bool → Bool
 begun_arms no_arm g = g
 begun_arms (arm t b rest) g = begun_arms rest (begun_after b false)
-
-no_not : (b : Bool) → not b ≡ true → b ≡ false
-no_not true h = cc
-no_not false h = refl
 
 after_one : (b : Bool) → not (b && false) ≡ true
 after_one true = refl

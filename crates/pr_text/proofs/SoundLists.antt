@@ -228,7 +228,7 @@ number_none xs name few e =
 
 -- ---- hosts and guests
 
-other_way : (xs ys : List ℕ) → bytes_eq xs ys ≡ false → bytes_eq ys xs ≡ false
+pub other_way : (xs ys : List ℕ) → bytes_eq xs ys ≡ false → bytes_eq ys xs ≡ false
 other_way xs ys e = not_true (bytes_eq ys xs) (λ h. false≢true (sym e ∙ (bytes_eq-Decides xs ys).1 (sym ((bytes_eq-Decides ys xs).0 h))))
 
 no_other : (xs : List Declaration) (x y : Declaration) → list_any (λ z. bytes_eq z y.name) (map (λ w. w.name) xs) ≡ false → bytes_eq x.name y.name ≡ false

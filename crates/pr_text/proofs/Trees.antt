@@ -17,6 +17,10 @@ use Rattle.pr_text.specs.Sound.{Reached, may, may_state, may_all, is_statement, 
 pub both : (a b : Bool) → a ≡ true → b ≡ true → (a && b) ≡ true
 both a b p q = rw (p, q) refl
 
+pub no_not : (b : Bool) → not b ≡ true → b ≡ false
+no_not true h = cc
+no_not false h = refl
+
 pub le_true : (n m : ℕ) → n ≤ m → nat_le n m ≡ true
 le_true n m h = grind (arith, nat_tests)
 

@@ -19,5 +19,6 @@ pub mod Placing
 pub mod Texts
 pub mod Readings
 pub mod SaidLines
+pub mod SaidScenarios
 pub mod Sound
 pub mod Laws

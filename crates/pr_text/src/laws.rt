@@ -2,6 +2,7 @@
 
 ghost use Rattle.pr_text.specs.Laws.{TextsAreWrittenOnce};
 ghost use Rattle.pr_text.specs.SaidLines.{ScriptsHaveNoFault};
+ghost use Rattle.pr_text.specs.SaidScenarios.{ScenariosHaveNoFault};
 
 /// A text is written as one scenario at most: its scripts are the only ones that are written as its lines.
 pub fn texts_are_written_once()
@@ -11,4 +12,9 @@ pub fn texts_are_written_once()
 /// The lines that a script is written as have no fault, if it fits.
 pub fn scripts_have_no_fault()
     ensures { ScriptsHaveNoFault }
+{}
+
+/// The lines that a scenario is written as have no fault, if its parts fit and it can start.
+pub fn scenarios_have_no_fault()
+    ensures { ScenariosHaveNoFault }
 {}

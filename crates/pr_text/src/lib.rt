@@ -23,7 +23,7 @@ mod text;
 mod uniqueness;
 
 pub use fault::{ReadError, Which};
-pub use laws::{scripts_have_no_fault, texts_are_written_once};
+pub use laws::{scenarios_have_no_fault, scripts_have_no_fault, texts_are_written_once};
 pub use text::{of_text, read};
 
 #[cfg(test)]

@@ -9,6 +9,8 @@ ghost use Rattle.pr_text.specs.Drafts.{declared_by};
 ghost use Rattle.pr_text.specs.Texts.{AreRead, line_placed, all_placed, answer_of};
 ghost use Rattle.pr_text.specs.BytesRead.{LosesUpTo};
 ghost use Rattle.pr_text.specs.Readings.{IsWrittenAs, IsRead};
+ghost use Rattle.pr_text.specs.SaidScenarios.{ScenariosHaveNoFault};
+ghost use Rattle.pr_text.specs.Laws.{TextsAreWrittenOnce};
 
 use crate::builder::Builder;
 use crate::cutting::{is_text, next_line, next_word};
@@ -25,10 +27,13 @@ const MOST_LINE_BYTES: usize = 256;
 
 /// The scenario that the text is which `reader` has left, or the text's one fault.
 ///
-/// It asks for at most 65,537 bytes, and asks nothing again after an error.
+/// It asks for at most 65,537 bytes, and asks nothing again after an error. What is a fault is not too much: the
+/// lines that a scenario is written as have none. And a text is written as one scenario at most.
 pub fn read<R: Read>(alloc: Global, reader: &mut R) -> Result<Scenario, ReadError>
     ensures read { IfSome (R.remaining reader.old) (λ text. IsRead text result) }
     ensures limited { LosesUpTo 65537 (R.remaining reader.old) (R.remaining reader.new) }
+    ensures each { ScenariosHaveNoFault }
+    ensures once { TextsAreWrittenOnce }
 {
     let text = all_bytes(alloc, reader, MOST_BYTES + 1)?;
     of_text(alloc, &text)

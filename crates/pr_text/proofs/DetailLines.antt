@@ -1,0 +1,324 @@
+-- The lines of one host or guest have no fault.
+use Rattle.std.specs.Prelude.{◌≡◌, ℕ, zero, suc, ◌+◌, ◌<◌, ◌≤◌, ◌==◌, Bool, true, false, cond, ◌&&◌, ◌||◌, not, IsTrue, nat_lt, nat_le, List, [], ◌∷◌, ◌++◌, length, map, filter, fold, Option, Some, None, is_some, unwrap_or, bytes_eq, Result, Ok, Err}
+use Rattle.std.specs.FinSet as set
+use Rattle.std.specs.List.{list_all, list_any}
+use Rattle.std.proofs.Common.{refl, sym, subst, ap, ◌∙◌, arith, append_assoc, append-nil, length-append}
+use Rattle.std.proofs.Math.Seq.{set-append_seam}
+use Rattle.std.proofs.lemmas.Bool.{and_parts}
+use Rattle.std.proofs.lemmas.Bool.Decides.{nat_tests}
+use Rattle.pr_cdb.specs.declared.command.Command.{Command}
+use Rattle.pr_registry.specs.declared.held.Held.{Held}
+use Rattle.pr_attention.specs.declared.attention.Attention.{Attention}
+use Rattle.pr_attention.specs.declared.attention.Attention.TheVariants.{PowerOn, ReservationsPreempted, ReservationsReleased, RegistrationsPreempted}
+use Rattle.pr_attention.specs.Attentions.{Codes, no_code, code_of, is_attention, AreAttentions}
+use Rattle.pr_attention.proofs.Sets.{same_codes, contains-no_code, contains-insert_code}
+use Rattle.pr_script.specs.Names.{is_name}
+use Rattle.pr_script.specs.Grammar.{is_written, script_fits}
+use Rattle.pr_roles.specs.declared.role.Clause.{Clause}
+use Rattle.pr_roles.specs.Scenarios.{Nexus, Task, Scripted, Planned}
+use Rattle.pr_roles.specs.Fitting.{are_distinct, is_action, is_role, is_alternative, is_same_alternative, is_start, is_task, is_nexus}
+use Rattle.pr_text.specs.declared.fault.ReadError.{ReadError}
+use Rattle.pr_text.specs.Faults.{and_then, unless}
+use Rattle.pr_text.specs.CommandWords.{keyless}
+use Rattle.pr_text.specs.Items.{Item, start_line, pending_line, role_line, script_line, plan_line, end_line, command_line}
+use Rattle.pr_text.specs.ScriptLines.{ScriptLine, send_at, arm_on, block_done, repeat_of, break_out, stop_with, body_lines}
+use Rattle.pr_text.specs.ScriptSteps.{script_step}
+use Rattle.pr_text.specs.Declarations.{Declaration, WrittenTask, scripted, planned, OpenLines, Place, outside, in_script, in_plan, Declared}
+use Rattle.pr_text.specs.Declaring.{at_name, start_at, start_placed, codes_of, are_codes_distinct, pending_at, pending_placed, role_at, role_placed, begun_script, script_at, script_placed, plan_at, plan_placed}
+use Rattle.pr_text.specs.Placing.{with_task, item_placed, planned_step}
+use Rattle.pr_text.specs.Readings.{task_written}
+use Rattle.pr_text.specs.SaidLines.{said_by, numbered, all_stepped}
+use Rattle.pr_text.specs.SaidScenarios.{Line, line, all_said, attentions_in, pending_said, script_said, task_said, details_said}
+use Rattle.pr_text.proofs.Trees.{both, no_not, true_le}
+use Rattle.pr_text.proofs.SoundScripts.{or_no, no_true}
+use Rattle.pr_text.proofs.Rereading.{goes, reread}
+use Rattle.pr_text.proofs.NamesApart.{is_taken, neither, itself, number_there, element_there}
+
+-- ---- lines one after another
+
+on_after : (x : Result Declared ReadError) (f g : Declared → Result Declared ReadError) (e : Declared) (r : Result Declared ReadError) → and_then x f ≡ Ok e → ((d : Declared) → f d ≡ Ok e → g d ≡ r) → and_then x g ≡ r
+on_after (Ok d) f g e r h each = each d h
+on_after (Err y) f g e r h each = cc
+
+pub said_on : (ls ks : List Line) (d e : Declared) (r : Result Declared ReadError) → all_said ls d ≡ Ok e → all_said ks e ≡ r → all_said (ls ++ ks) d ≡ r
+said_on [] ks d e r first rest = ap (λ x. and_then x (all_said ks)) first ∙ rest
+said_on (l ∷ ls) ks d e r first rest = on_after (item_placed l.number l.item d) (all_said ls) (all_said (ls ++ ks)) e r first (λ f h. said_on ls ks f e r h rest)
+
+pub said_first : (n : ℕ) (i : Item) (ls : List Line) (d e : Declared) (r : Result Declared ReadError) → item_placed n i d ≡ Ok e → all_said ls e ≡ r → all_said (line n i ∷ ls) d ≡ r
+said_first n i ls d e r first rest = goes (item_placed n i d) e (all_said ls) first ∙ rest
+
+-- ---- pending attentions
+
+contains-codes : (xs : List Attention) (codes : Codes) (q : ℕ)
+    → set.contains (fold (λ s x. set.insert s (code_of x)) codes xs) q ≡ (list_any (λ x. q == code_of x) xs || set.contains codes q)
+contains-codes [] codes q = refl
+contains-codes (x ∷ xs) codes q =
+    contains-codes xs (set.insert codes (code_of x)) q
+    ∙ (ap (λ b. list_any (λ y. q == code_of y) xs || b) (contains-insert_code codes (code_of x) q) ∙ swapped (q == code_of x) (list_any (λ y. q == code_of y) xs) (set.contains codes q))
+  where
+    swapped : (a b c : Bool) → (b || (a || c)) ≡ ((a || b) || c)
+    swapped true true c = refl
+    swapped true false c = refl
+    swapped false true c = refl
+    swapped false false c = refl
+
+no_more : (a b : Bool) → (a && false) ≡ (b && false)
+no_more true true = refl
+no_more true false = refl
+no_more false true = refl
+no_more false false = refl
+
+-- with one attention more, of which we know whether it is kept and whether it is the one that is looked for
+one_kept : (codes : Codes) (q : ℕ) (x : Attention) (xs : List Attention) (b c : Bool) → set.contains codes (code_of x) ≡ b → (q == code_of x) ≡ c
+    → list_any (λ y. q == code_of y) (filter (λ y. set.contains codes (code_of y)) xs) ≡ (list_any (λ y. q == code_of y) xs && set.contains codes q)
+    → list_any (λ y. q == code_of y) (filter (λ y. set.contains codes (code_of y)) (x ∷ xs)) ≡ ((q == code_of x || list_any (λ y. q == code_of y) xs) && set.contains codes q)
+one_kept codes q x xs true true there same rest =
+    let is : q ≡ code_of x = grind (arith, nat_tests) in
+    rw (there, same) (sym (ap (set.contains codes) is ∙ there))
+one_kept codes q x xs true false there same rest = rw (there, same) rest
+one_kept codes q x xs false true there same rest =
+    let is : q ≡ code_of x = grind (arith, nat_tests) in
+    let none : set.contains codes q ≡ false = ap (set.contains codes) is ∙ there in
+    rw (there, same) (rest ∙ rw none (no_more (list_any (λ y. q == code_of y) xs) true))
+one_kept codes q x xs false false there same rest = rw (there, same) rest
+
+any-kept : (codes : Codes) (q : ℕ) (xs : List Attention)
+    → list_any (λ x. q == code_of x) (filter (λ x. set.contains codes (code_of x)) xs) ≡ (list_any (λ x. q == code_of x) xs && set.contains codes q)
+any-kept codes q [] = refl
+any-kept codes q (x ∷ xs) = one_kept codes q x xs (set.contains codes (code_of x)) (q == code_of x) refl refl (any-kept codes q xs)
+
+attentions_are : (codes : Codes) → AreAttentions codes → codes_of (attentions_in codes) ≡ codes
+attentions_are codes are = same_codes (codes_of (attentions_in codes)) codes each
+  where
+    known : (q : ℕ) (b : Bool) → set.contains codes q ≡ b → (is_attention q && b) ≡ b
+    known q true there = rw (are q there) refl
+    known q false there = none (is_attention q)
+      where
+        none : (a : Bool) → (a && false) ≡ false
+        none true = refl
+        none false = refl
+
+    nothing_else : (b : Bool) (q : ℕ) → (b || set.contains no_code q) ≡ b
+    nothing_else true q = refl
+    nothing_else false q = contains-no_code q
+
+    each : (q : ℕ) → set.contains (codes_of (attentions_in codes)) q ≡ set.contains codes q
+    each q =
+        contains-codes (attentions_in codes) no_code q
+        ∙ (nothing_else (list_any (λ x. q == code_of x) (attentions_in codes)) q
+        ∙ (any-kept codes q (PowerOn ∷ ReservationsPreempted ∷ ReservationsReleased ∷ RegistrationsPreempted ∷ []) ∙ known q (set.contains codes q) refl))
+
+any_in : {A : Type 0} (b : Bool) (q : A → Bool) (x : A) (xs : List A) → q x ≡ false → list_any q xs ≡ false → list_any q (cond b (x ∷ xs) xs) ≡ false
+any_in true q x xs first rest = neither (q x) (list_any q xs) first rest
+any_in false q x xs first rest = rest
+
+any_fewer : {A : Type 0} (p q : A → Bool) (xs : List A) → list_any q xs ≡ false → list_any q (filter p xs) ≡ false
+any_fewer p q [] h = refl
+any_fewer p q (x ∷ xs) h = let parts = or_no (q x) _ h in any_in (p x) q x (filter p xs) parts.0 (any_fewer p q xs parts.1)
+
+apart_in : {A : Type 0} (b : Bool) (same : A → A → Bool) (x : A) (xs : List A) → list_any (λ y. same y x) xs ≡ false → are_distinct same xs ≡ true → are_distinct same (cond b (x ∷ xs) xs) ≡ true
+apart_in true same x xs first rest = both (not (list_any (λ y. same y x) xs)) _ (no_true (list_any (λ y. same y x) xs) first) rest
+apart_in false same x xs first rest = rest
+
+apart_still : {A : Type 0} (same : A → A → Bool) (p : A → Bool) (xs : List A) → are_distinct same xs ≡ true → are_distinct same (filter p xs) ≡ true
+apart_still same p [] h = refl
+apart_still same p (x ∷ xs) h =
+    let parts = and_parts (not (list_any (λ y. same y x) xs)) _ h in
+    apart_in (p x) same x (filter p xs) (any_fewer p (λ y. same y x) xs (no_not _ parts.0)) (apart_still same p xs parts.1)
+
+attentions_apart : (codes : Codes) → are_codes_distinct (attentions_in codes) ≡ true
+attentions_apart codes = apart_still (λ x y. code_of x == code_of y) (λ x. set.contains codes (code_of x)) (PowerOn ∷ ReservationsPreempted ∷ ReservationsReleased ∷ RegistrationsPreempted ∷ []) refl
+
+-- what is kept of attentions that are written, if any are
+abbrev pub pending_kept : List Attention → Codes → Option Codes
+pending_kept [] codes = None
+pending_kept (x ∷ xs) codes = Some codes
+
+pub pending_same : (codes : Codes) → AreAttentions codes → unwrap_or (pending_kept (attentions_in codes) codes) no_code ≡ codes
+pending_same codes are = at (attentions_in codes) (attentions_are codes are)
+  where
+    at : (xs : List Attention) → codes_of xs ≡ codes → unwrap_or (pending_kept xs codes) no_code ≡ codes
+    at [] h = h
+    at (x ∷ xs) h = refl
+
+-- ---- one host or guest among others
+
+abbrev pub is_planned : Task → Bool
+is_planned (Scripted script budget) = false
+is_planned (Planned commands) = true
+
+abbrev pub placed : Option (List ℕ) → Option (List (Option Held)) → Option ℕ → List Declaration → Place → Declared
+placed keys vs g xs p = record { keys = keys; reservations = vs; generation = g; nexuses = xs; place = p }
+
+abbrev pub staged : ℕ → List ℕ → Bool → Option (List (Option ℕ)) → Option Codes → List Clause → Option WrittenTask → Declaration
+staged n name guest s p r t = record { name = name; line = n; is_guest = guest; start = s; pending = p; role = r; task = t }
+
+short_role : (k m : ℕ) → k + suc m ≤ 32 → nat_le 32 k ≡ false
+short_role k m h = grind (arith, nat_tests)
+
+short_plan : (k m : ℕ) → k + suc m ≤ 256 → nat_le 256 k ≡ false
+short_plan k m h = grind (arith, nat_tests)
+
+one_longer : {A : Type 0} (xs : List A) (x : A) (m top : ℕ) → length xs + suc m ≤ top → length (xs ++ x ∷ []) + m ≤ top
+one_longer xs x m top h = omega (arith, length-append xs (x ∷ []))
+
+module _ (n : ℕ) (keys : Option (List ℕ)) (vs : Option (List (Option Held))) (g : Option ℕ) (before after : List Declaration) (name : List ℕ) (free : is_taken name before ≡ false) (few : length before ≤ 8) where
+  abbrev with : Declaration → Place → Declared
+  with x p = placed keys vs g (before ++ x ∷ after) p
+
+  found : (x : Declaration) (p : Place) (step : ℕ → Declaration → Result Declared ReadError) → bytes_eq x.name name ≡ true → at_name n (with x p) name step ≡ step (length before) x
+  found x p step it = rw (number_there before x after name free it few, element_there before x after) refl
+
+  start_goes : (guest : Bool) (xs : List (Option ℕ)) → list_all (is_alternative (unwrap_or keys [])) xs ≡ true → are_distinct is_same_alternative xs ≡ true
+      → item_placed n (start_line name xs) (with (staged n name guest None None [] None) outside) ≡ Ok (with (staged n name guest (Some xs) None [] None) outside)
+  unfolding item_placed start_placed
+  start_goes guest xs known once =
+      let x = staged n name guest None None [] None in
+      found x outside (start_at n xs (with x outside)) (itself name)
+      ∙ rw (known, once, set-append_seam before x after (staged n name guest (Some xs) None [] None)) refl
+
+  pending_line_goes : (guest : Bool) (s : Option (List (Option ℕ))) (xs : List Attention) (codes : Codes) → are_codes_distinct xs ≡ true → codes_of xs ≡ codes
+      → item_placed n (pending_line name xs) (with (staged n name guest s None [] None) outside) ≡ Ok (with (staged n name guest s (Some codes) [] None) outside)
+  unfolding item_placed pending_placed
+  pending_line_goes guest s xs codes once same =
+      let x = staged n name guest s None [] None in
+      found x outside (pending_at n xs (with x outside)) (itself name)
+      ∙ rw (once, same, set-append_seam before x after (staged n name guest s (Some codes) [] None)) refl
+
+  pending_goes : (guest : Bool) (s : Option (List (Option ℕ))) (xs : List Attention) (codes : Codes) → are_codes_distinct xs ≡ true → codes_of xs ≡ codes
+      → all_said (pending_said n name xs) (with (staged n name guest s None [] None) outside) ≡ Ok (with (staged n name guest s (pending_kept xs codes) [] None) outside)
+  pending_goes guest s [] codes once same = refl
+  pending_goes guest s (a ∷ xs) codes once same =
+      said_first n (pending_line name (a ∷ xs)) [] _ (with (staged n name guest s (Some codes) [] None) outside) _ (pending_line_goes guest s (a ∷ xs) codes once same) refl
+
+  role_goes : (guest : Bool) (s : Option (List (Option ℕ))) (p : Option Codes) (done : List Clause) (c : Clause) → is_action (unwrap_or keys []) c.action ≡ true → nat_le 32 (length done) ≡ false
+      → item_placed n (role_line name c) (with (staged n name guest s p done None) outside) ≡ Ok (with (staged n name guest s p (done ++ c ∷ []) None) outside)
+  unfolding item_placed role_placed
+  role_goes guest s p done c known short =
+      let x = staged n name guest s p done None in
+      found x outside (role_at n c (with x outside)) (itself name)
+      ∙ rw (known, short, set-append_seam before x after (staged n name guest s p (done ++ c ∷ []) None)) refl
+
+  roles_go : (guest : Bool) (s : Option (List (Option ℕ))) (p : Option Codes) (done cs : List Clause) → list_all (λ c. is_action (unwrap_or keys []) c.action) cs ≡ true → length done + length cs ≤ 32
+      → all_said (map (λ c. line n (role_line name c)) cs) (with (staged n name guest s p done None) outside) ≡ Ok (with (staged n name guest s p (done ++ cs) None) outside)
+  roles_go guest s p done [] known short = ap (λ l. Ok (with (staged n name guest s p l None) outside)) (sym (append-nil done))
+  roles_go guest s p done (c ∷ cs) known short =
+      let parts = and_parts (is_action (unwrap_or keys []) c.action) _ known in
+      said_first n (role_line name c) (map (λ d. line n (role_line name d)) cs) _ _ _ (role_goes guest s p done c parts.0 (short_role (length done) (length cs) short))
+      (roles_go guest s p (done ++ c ∷ []) cs parts.1 (one_longer done c (length cs) 32 short)
+      ∙ ap (λ l. Ok (with (staged n name guest s p l None) outside)) (append_assoc done (c ∷ []) cs))
+
+  -- the last line of a task
+  abbrev tasked_as : WrittenTask → Declaration → Declaration
+  tasked_as t x = record x { task = Some t }
+
+  task_ends : (x : Declaration) (t : WrittenTask) (p : Place) → with_task (with x p) (length before) t ≡ with (tasked_as t x) outside
+  task_ends x t p = rw (element_there before x after, set-append_seam before x after (tasked_as t x)) refl
+
+  -- ---- a script
+
+  script_begins : (s : Option (List (Option ℕ))) (p : Option Codes) (r : List Clause) (budget : ℕ) → (nat_le 1 budget && nat_le budget 4096) ≡ true
+      → item_placed n (script_line name budget) (with (staged n name false s p r None) outside) ≡ Ok (with (staged n name false s p r None) (in_script (begun_script (length before) budget)))
+  unfolding item_placed script_placed
+  script_begins s p r budget fits =
+      let x = staged n name false s p r None in
+      found x outside (script_at n budget (with x outside)) (itself name) ∙ rw fits refl
+
+  stepped : (x : Declaration) (l : ScriptLine) (o : OpenLines)
+      → item_placed (numbered n l) (said_by l) (with x (in_script o)) ≡ and_then (script_step (numbered n l) (unwrap_or keys []) (said_by l) o) (λ q. Ok (with x (in_script q)))
+  unfolding item_placed
+  stepped x (send_at m c) o = refl
+  stepped x (arm_on t) o = refl
+  stepped x block_done o = refl
+  stepped x (repeat_of count) o = refl
+  stepped x break_out o = refl
+  stepped x (stop_with word) o = refl
+
+  step_then : (x : Declaration) (r : Result OpenLines ReadError) (ls : List ScriptLine)
+      → ((o : OpenLines) → all_said (script_said n ls) (with x (in_script o)) ≡ and_then (all_stepped n (unwrap_or keys []) ls o) (λ q. Ok (with x (in_script q))))
+      → and_then (and_then r (λ q. Ok (with x (in_script q)))) (all_said (script_said n ls)) ≡ and_then (and_then r (all_stepped n (unwrap_or keys []) ls)) (λ q. Ok (with x (in_script q)))
+  step_then x (Ok q) ls rest = rest q
+  step_then x (Err e) ls rest = refl
+
+  all_step : (x : Declaration) (ls : List ScriptLine) (o : OpenLines)
+      → all_said (script_said n ls) (with x (in_script o)) ≡ and_then (all_stepped n (unwrap_or keys []) ls o) (λ q. Ok (with x (in_script q)))
+  all_step x [] o = refl
+  all_step x (l ∷ ls) o =
+      ap (λ r. and_then r (all_said (script_said n ls))) (stepped x l o)
+      ∙ step_then x (script_step (numbered n l) (unwrap_or keys []) (said_by l) o) ls (λ q. all_step x ls q)
+
+  script_ends : (x : Declaration) (o : OpenLines) → o.blocks ≡ [] → o.host ≡ length before → item_placed n end_line (with x (in_script o)) ≡ Ok (with (tasked_as (scripted o.lines o.budget) x) outside)
+  unfolding item_placed
+  script_ends x o closed own = rw (closed, own) (ap (λ d. Ok d) (task_ends x (scripted o.lines o.budget) (in_script o)))
+
+  -- ---- a plan
+
+  plan_begins : (s : Option (List (Option ℕ))) (p : Option Codes) (r : List Clause)
+      → item_placed n (plan_line name) (with (staged n name true s p r None) outside) ≡ Ok (with (staged n name true s p r None) (in_plan (length before) []))
+  unfolding item_placed plan_placed
+  plan_begins s p r =
+      let x = staged n name true s p r None in
+      found x outside (plan_at n (with x outside)) (itself name)
+
+  command_goes : (x : Declaration) (h : ℕ) (done : List Command) (c : Command) → is_written (unwrap_or keys []) c ≡ true → nat_le 256 (length done) ≡ false
+      → item_placed n (command_line (keyless c)) (with x (in_plan h done)) ≡ Ok (with x (in_plan h (done ++ c ∷ [])))
+  unfolding item_placed planned_step
+  command_goes x h done c written short = rw (written, short) refl
+
+  commands_go : (x : Declaration) (h : ℕ) (done cs : List Command) → list_all (is_written (unwrap_or keys [])) cs ≡ true → length done + length cs ≤ 256
+      → all_said (map (λ c. line n (command_line (keyless c))) cs) (with x (in_plan h done)) ≡ Ok (with x (in_plan h (done ++ cs)))
+  commands_go x h done [] written short = ap (λ l. Ok (with x (in_plan h l))) (sym (append-nil done))
+  commands_go x h done (c ∷ cs) written short =
+      let parts = and_parts (is_written (unwrap_or keys []) c) _ written in
+      said_first n (command_line (keyless c)) (map (λ d. line n (command_line (keyless d))) cs) _ _ _ (command_goes x h done c parts.0 (short_plan (length done) (length cs) short))
+      (commands_go x h (done ++ c ∷ []) cs parts.1 (one_longer done c (length cs) 256 short) ∙ ap (λ l. Ok (with x (in_plan h l))) (append_assoc done (c ∷ []) cs))
+
+  plan_ends : (x : Declaration) (cs : List Command) → item_placed n end_line (with x (in_plan (length before) cs)) ≡ Ok (with (tasked_as (planned cs) x) outside)
+  unfolding item_placed
+  plan_ends x cs = ap (λ d. Ok d) (task_ends x (planned cs) (in_plan (length before) cs))
+
+  -- ---- a task
+
+  task_goes : (t : Task) (s : Option (List (Option ℕ))) (p : Option Codes) (r : List Clause) → is_task (unwrap_or keys []) t ≡ true
+      → all_said (task_said n name t) (with (staged n name (is_planned t) s p r None) outside) ≡ Ok (with (staged n name (is_planned t) s p r (Some (task_written t))) outside)
+  task_goes (Scripted script budget) s p r h =
+      let x = staged n name false s p r None in
+      let parts = and_parts (script_fits (unwrap_or keys []) script) _ h in
+      let read = reread n (unwrap_or keys []) (length before) budget script parts.0 in
+      said_first n (script_line name budget) (script_said n (body_lines script) ++ line n end_line ∷ []) _ _ _ (script_begins s p r budget parts.1)
+      (said_on (script_said n (body_lines script)) (line n end_line ∷ []) _ (with x (in_script read.script)) _
+      (all_step x (body_lines script) (begun_script (length before) budget) ∙ goes _ read.script (λ q. Ok (with x (in_script q))) read.stepped)
+      (said_first n end_line [] _ _ _ (script_ends x read.script read.closed read.host_is)
+      (ap (λ t. Ok (with (tasked_as t x) outside)) (ap (λ ls. scripted ls read.script.budget) read.lines_are ∙ ap (λ m. scripted (body_lines script) m) read.budget_is))))
+  task_goes (Planned commands) s p r h =
+      let x = staged n name true s p r None in
+      let parts = and_parts (nat_le (length commands) 256) _ h in
+      said_first n (plan_line name) (map (λ c. line n (command_line (keyless c))) commands ++ line n end_line ∷ []) _ _ _ (plan_begins s p r)
+      (said_on (map (λ c. line n (command_line (keyless c))) commands) (line n end_line ∷ []) _ (with x (in_plan (length before) commands)) _
+      (commands_go x (length before) [] commands parts.1 (let few_commands = true_le (length commands) 256 parts.0 in omega arith))
+      (said_first n end_line [] _ _ _ (plan_ends x commands) refl))
+
+-- ---- all of them
+
+abbrev pub bare : ℕ → Nexus → Declaration
+bare n x = staged n x.name (is_planned x.task) None None [] None
+
+abbrev pub full : ℕ → Nexus → Declaration
+full n x = staged n x.name (is_planned x.task) (Some x.start) (pending_kept (attentions_in x.pending) x.pending) x.role (Some (task_written x.task))
+
+pub details_go : (n : ℕ) (keys : Option (List ℕ)) (vs : Option (List (Option Held))) (g : Option ℕ) (before after : List Declaration) (x : Nexus)
+    → is_taken x.name before ≡ false → length before ≤ 8 → is_nexus (unwrap_or keys []) x ≡ true → AreAttentions x.pending
+    → all_said (details_said n x) (placed keys vs g (before ++ bare n x ∷ after) outside) ≡ Ok (placed keys vs g (before ++ full n x ∷ after) outside)
+details_go n keys vs g before after x free few fits are =
+    let guest = is_planned x.task in
+    let pending = pending_kept (attentions_in x.pending) x.pending in
+    let parts = and_parts (is_role (unwrap_or keys []) x.role) _ (and_parts (is_name x.name) _ fits).1 in
+    let roles = and_parts (nat_le (length x.role) 32) _ parts.0 in
+    let rest = and_parts (is_start (unwrap_or keys []) x.start) _ parts.1 in
+    let start = and_parts (list_all (is_alternative (unwrap_or keys [])) x.start) _ (and_parts (not (length x.start == 0)) _ rest.0).1 in
+    said_first n (start_line x.name x.start) _ _ _ _ (start_goes n keys vs g before after x.name free few guest x.start start.0 start.1)
+    (said_on (pending_said n x.name (attentions_in x.pending)) _ _ _ _
+    (pending_goes n keys vs g before after x.name free few guest (Some x.start) (attentions_in x.pending) x.pending (attentions_apart x.pending) (attentions_are x.pending are))
+    (said_on (map (λ c. line n (role_line x.name c)) x.role) _ _ _ _
+    (roles_go n keys vs g before after x.name free few guest (Some x.start) pending [] x.role roles.1 (let few_roles = true_le (length x.role) 32 roles.0 in omega arith))
+    (task_goes n keys vs g before after x.name free few x.task (Some x.start) pending x.role rest.1)))

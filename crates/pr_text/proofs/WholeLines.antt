@@ -1,0 +1,210 @@
+-- The lines of a whole scenario have no fault.
+use Rattle.std.specs.Prelude.{◌≡◌, ℕ, zero, suc, ◌+◌, ◌<◌, ◌≤◌, ◌==◌, Bool, true, false, cond, ◌&&◌, not, IsTrue, nat_lt, nat_le, List, [], ◌∷◌, ◌++◌, length, map, Option, Some, None, is_some, option_map, unwrap_or, bytes_eq, Result, Ok, Err}
+use Rattle.std.specs.List.{All, list_all, flat_map, slice_get}
+use Rattle.std.specs.Option.{option_map_or}
+use Rattle.std.proofs.Common.{refl, sym, subst, ap, ◌∙◌, arith, append_assoc, append-nil, length-append}
+use Rattle.std.proofs.lemmas.Bool.{and_parts}
+use Rattle.std.proofs.lemmas.Bool.Decides.{nat_tests}
+use Rattle.pr_registry.specs.declared.held.Held.{Held}
+use Rattle.pr_registry.specs.declared.held.Held.TheVariants.{One, All as Everybody}
+use Rattle.pr_registry.specs.Registrations.{is_all}
+use Rattle.pr_attention.specs.Attentions.{AreAttentions}
+use Rattle.pr_roles.specs.Scenarios.{Scenario, Nexus, Task, Scripted, Planned}
+use Rattle.pr_roles.specs.Starts.{CanStart, first_under, starts}
+use Rattle.pr_roles.specs.Fitting.{AreDeclared, are_distinct, is_nexus, is_reservation, is_same_reservation, Fits}
+use Rattle.pr_roles.proofs.Allowed.{start_found}
+use Rattle.pr_text.specs.declared.fault.ReadError.{ReadError}
+use Rattle.pr_text.specs.Chain.{◌>>=◌}
+use Rattle.pr_text.specs.Faults.{and_then}
+use Rattle.pr_text.specs.Items.{fence_line, keys_line, generation_line, reservation_line}
+use Rattle.pr_text.specs.Declarations.{Declaration, outside, Declared, nothing}
+use Rattle.pr_text.specs.Declaring.{number_of, keys_placed, nexus_placed, held_of, helds_onto, reservation_placed, generation_placed}
+use Rattle.pr_text.specs.Placing.{item_placed}
+use Rattle.pr_text.specs.Texts.{start_of, first_unscripted, ended}
+use Rattle.pr_text.specs.Readings.{nexus_written, nexus_declared}
+use Rattle.pr_text.specs.SaidScenarios.{line, all_said, declaring, details_said, keys_said, wanted_by, IsSaid, ScenariosHaveNoFault}
+use Rattle.pr_text.proofs.Trees.{true_le, true_lt}
+use Rattle.pr_text.proofs.NamesApart.{names, is_taken, free_of, names_moved, itself, number_nowhere, number_there}
+use Rattle.pr_text.proofs.DetailLines.{said_on, said_first, pending_same, is_planned, placed, bare, full, details_go}
+
+all_first : {A : Type 0} (P : A → Type 0) (x : A) (xs : List A) → All P (x ∷ xs) → P x
+all_first P x xs all = all 0 x (omega arith)
+
+all_rest : {A : Type 0} (P : A → Type 0) (x : A) (xs : List A) → All P (x ∷ xs) → All P xs
+all_rest P x xs all = λ k d below. all (suc k) d (omega arith)
+
+-- ---- the version, the keys, and the generation
+
+fence_goes : (n : ℕ) → item_placed n fence_line nothing ≡ Ok (placed None None None [] outside)
+unfolding item_placed
+fence_goes n = refl
+
+abbrev keys_kept : List ℕ → Option (List ℕ)
+keys_kept [] = None
+keys_kept (k ∷ ks) = Some (k ∷ ks)
+
+keys_same : (keys : List ℕ) → unwrap_or (keys_kept keys) [] ≡ keys
+keys_same [] = refl
+keys_same (k ∷ ks) = refl
+
+not_over : (n m : ℕ) → nat_le n m ≡ true → nat_lt m n ≡ false
+not_over n m h = grind (arith, nat_tests)
+
+keys_go : (n : ℕ) (keys : List ℕ) → are_distinct (λ j k. j == k) keys ≡ true → nat_lt 12 (length keys) ≡ false
+    → item_placed n (keys_line keys) (placed None None None [] outside) ≡ Ok (placed (Some keys) None None [] outside)
+unfolding item_placed keys_placed
+keys_go n keys once few = rw (once, few) refl
+
+keys_lines_go : (n : ℕ) (keys : List ℕ) → AreDeclared keys → all_said (keys_said n keys) (placed None None None [] outside) ≡ Ok (placed (keys_kept keys) None None [] outside)
+keys_lines_go n [] h = refl
+keys_lines_go n (k ∷ ks) h =
+    let parts = and_parts (nat_le (length (k ∷ ks)) 12) _ h.once in
+    said_first n (keys_line (k ∷ ks)) [] _ _ _ (keys_go n (k ∷ ks) parts.1 (not_over (length (k ∷ ks)) 12 parts.0)) refl
+
+generation_goes : (n generation : ℕ) (keys : Option (List ℕ)) (xs : List Declaration)
+    → item_placed n (generation_line generation) (placed keys None None xs outside) ≡ Ok (placed keys None (Some generation) xs outside)
+unfolding item_placed generation_placed
+generation_goes n generation keys xs = refl
+
+-- ---- hosts and guests
+
+abbrev named : List Nexus → List (List ℕ)
+named ns = map (λ x. x.name) ns
+
+nexus_goes : (n : ℕ) (keys : Option (List ℕ)) (before : List Declaration) (x : Nexus) → is_taken x.name before ≡ false → nat_le 8 (length before) ≡ false
+    → item_placed n (declaring x.name x.task) (placed keys None None before outside) ≡ Ok (placed keys None None (before ++ bare n x ∷ []) outside)
+unfolding item_placed nexus_placed
+nexus_goes n keys before x free few =
+    by_task x.task refl
+  where
+    by_task : (t : Task) → x.task ≡ t → item_placed n (declaring x.name x.task) (placed keys None None before outside) ≡ Ok (placed keys None None (before ++ bare n x ∷ []) outside)
+    by_task (Scripted script budget) is = rw (is, number_nowhere before x.name free, few) refl
+    by_task (Planned commands) is = rw (is, number_nowhere before x.name free, few) refl
+
+room : (k m : ℕ) → k + suc m ≤ 8 → nat_le 8 k ≡ false
+room k m h = grind (arith, nat_tests)
+
+room_kept : (k m : ℕ) → k + suc m ≤ 8 → k ≤ 8
+room_kept k m h = omega arith
+
+room_left : {A : Type 0} (xs : List A) (x : A) (m : ℕ) → length xs + suc m ≤ 8 → length (xs ++ x ∷ []) + m ≤ 8
+room_left xs x m h = omega (arith, length-append xs (x ∷ []))
+
+-- the names stay apart when one more of them is declared
+still_apart : (before : List Declaration) (d : Declaration) (rest : List (List ℕ)) → are_distinct bytes_eq (names before ++ d.name ∷ rest) ≡ true
+    → are_distinct bytes_eq (names (before ++ d ∷ []) ++ rest) ≡ true
+still_apart before d rest h = ap (are_distinct bytes_eq) (names_moved before d rest) ∙ h
+
+nexuses_go : (n : ℕ) (keys : Option (List ℕ)) (before : List Declaration) (ns : List Nexus) → are_distinct bytes_eq (names before ++ named ns) ≡ true → length before + length ns ≤ 8
+    → all_said (map (λ x. line n (declaring x.name x.task)) ns) (placed keys None None before outside) ≡ Ok (placed keys None None (before ++ map (bare n) ns) outside)
+nexuses_go n keys before [] apart few = ap (λ l. Ok (placed keys None None l outside)) (sym (append-nil before))
+nexuses_go n keys before (x ∷ ns) apart few =
+    said_first n (declaring x.name x.task) (map (λ y. line n (declaring y.name y.task)) ns) _ _ _
+    (nexus_goes n keys before x (free_of before x.name (named ns) apart) (room (length before) (length ns) few))
+    (nexuses_go n keys (before ++ bare n x ∷ []) ns (still_apart before (bare n x) (named ns) apart) (room_left before (bare n x) (length ns) few)
+    ∙ ap (λ l. Ok (placed keys None None l outside)) (append_assoc before (bare n x ∷ []) (map (bare n) ns)))
+
+details_all : (n : ℕ) (keys : Option (List ℕ)) (vs : Option (List (Option Held))) (g : Option ℕ) (before : List Declaration) (ns : List Nexus)
+    → are_distinct bytes_eq (names before ++ named ns) ≡ true → length before + length ns ≤ 8 → list_all (is_nexus (unwrap_or keys [])) ns ≡ true → All (λ x. AreAttentions x.pending) ns
+    → all_said (flat_map (details_said n) ns) (placed keys vs g (before ++ map (bare n) ns) outside) ≡ Ok (placed keys vs g (before ++ map (full n) ns) outside)
+details_all n keys vs g before [] apart few fits are = refl
+details_all n keys vs g before (x ∷ ns) apart few fits are =
+    let parts = and_parts (is_nexus (unwrap_or keys []) x) _ fits in
+    said_on (details_said n x) (flat_map (details_said n) ns) _ (placed keys vs g (before ++ full n x ∷ map (bare n) ns) outside) _
+    (details_go n keys vs g before (map (bare n) ns) x (free_of before x.name (named ns) apart) (room_kept (length before) (length ns) few) parts.0 (all_first (λ y. AreAttentions y.pending) x ns are))
+    (ap (λ l. all_said (flat_map (details_said n) ns) (placed keys vs g l outside)) (sym (append_assoc before (full n x ∷ []) (map (bare n) ns)))
+    ∙ (details_all n keys vs g (before ++ full n x ∷ []) ns (still_apart before (full n x) (named ns) apart) (room_left before (full n x) (length ns) few) parts.1 (all_rest (λ y. AreAttentions y.pending) x ns are)
+    ∙ ap (λ l. Ok (placed keys vs g l outside)) (append_assoc before (full n x ∷ []) (map (full n) ns))))
+
+-- ---- reservations
+
+-- the name of the h-th leads to its number
+number_at : (n : ℕ) (before : List Declaration) (ns : List Nexus) (h : ℕ) → are_distinct bytes_eq (names before ++ named ns) ≡ true → length before + length ns ≤ 8 → h < length ns
+    → number_of (before ++ map (bare n) ns) (option_map_or (λ x. x.name) (slice_get ns h) []) ≡ Some (length before + h)
+number_at n before [] h apart few below = absurd (omega arith)
+number_at n before (x ∷ ns) zero apart few below =
+    number_there before (bare n x) (map (bare n) ns) x.name (free_of before x.name (named ns) apart) (itself x.name) (room_kept (length before) (length ns) few)
+    ∙ ap (λ m. Some m) (omega arith)
+number_at n before (x ∷ ns) (suc h) apart few below =
+    ap (λ l. number_of l (option_map_or (λ y. y.name) (slice_get ns h) [])) (sym (append_assoc before (bare n x ∷ []) (map (bare n) ns)))
+    ∙ (number_at n (before ++ bare n x ∷ []) ns h (still_apart before (bare n x) (named ns) apart) (room_left before (bare n x) (length ns) few) (omega arith)
+    ∙ ap (λ m. Some m) (omega (arith, length-append before (bare n x ∷ []))))
+
+held_goes : (n : ℕ) (ns : List Nexus) (v : Option Held) → are_distinct bytes_eq (named ns) ≡ true → length ns ≤ 8 → is_reservation (length ns) v ≡ true
+    → held_of (map (bare n) ns) (wanted_by ns v) ≡ Some v
+held_goes n ns None apart few h = refl
+held_goes n ns (Some (One kind h)) apart few fits =
+    let below = true_lt h (length ns) (and_parts (not (is_all kind)) _ fits).1 in
+    ap (λ o. option_map (λ m. Some (One kind m)) o) (number_at n [] ns h apart (omega arith) below) ∙ ap (λ m. Some (Some (One kind m))) (omega arith)
+held_goes n ns (Some (Everybody kind)) apart few h = refl
+
+helds_go : (n : ℕ) (ns : List Nexus) (done vs : List (Option Held)) → are_distinct bytes_eq (named ns) ≡ true → length ns ≤ 8 → list_all (is_reservation (length ns)) vs ≡ true
+    → helds_onto (map (bare n) ns) done (map (wanted_by ns) vs) ≡ Some (done ++ vs)
+helds_go n ns done [] apart few fits = ap (λ l. Some l) (sym (append-nil done))
+helds_go n ns done (v ∷ vs) apart few fits =
+    let parts = and_parts (is_reservation (length ns) v) _ fits in
+    ap (λ o. o >>= (λ w. helds_onto (map (bare n) ns) (done ++ w ∷ []) (map (wanted_by ns) vs))) (held_goes n ns v apart few parts.0)
+    ∙ (helds_go n ns (done ++ v ∷ []) vs apart few parts.1 ∙ ap (λ l. Some l) (append_assoc done (v ∷ []) vs))
+
+reservation_goes : (n : ℕ) (keys : Option (List ℕ)) (g : Option ℕ) (ns : List Nexus) (vs : List (Option Held)) → are_distinct bytes_eq (named ns) ≡ true → length ns ≤ 8
+    → list_all (is_reservation (length ns)) vs ≡ true → are_distinct is_same_reservation vs ≡ true
+    → item_placed n (reservation_line (map (wanted_by ns) vs)) (placed keys None g (map (bare n) ns) outside) ≡ Ok (placed keys (Some vs) g (map (bare n) ns) outside)
+unfolding item_placed reservation_placed
+reservation_goes n keys g ns vs apart few fits once = rw (helds_go n ns [] vs apart few fits, once) refl
+
+-- ---- the end
+
+tasks_there : (n : ℕ) (ns : List Nexus) → first_unscripted (map (full n) ns) ≡ None
+tasks_there n [] = refl
+tasks_there n (x ∷ ns) = rw (never (not (is_planned x.task))) (tasks_there n ns)
+  where
+    never : (b : Bool) → (b && false) ≡ false
+    never true = refl
+    never false = refl
+
+starts_same : (n : ℕ) (ns : List Nexus) → map start_of (map (full n) ns) ≡ map (λ x. x.start) ns
+starts_same n [] = refl
+starts_same n (x ∷ ns) = ap (λ l. x.start ∷ l) (starts_same n ns)
+
+some_there : {A B : Type 0} (f : A → B) (xs : List A) → not (length xs == 0) ≡ true → (length (map f xs) == 0) ≡ false
+some_there f [] h = cc
+some_there f (x ∷ xs) h = grind (arith, nat_tests)
+
+ends : (n : ℕ) (keys : Option (List ℕ)) (g : Option ℕ) (ns : List Nexus) (vs : List (Option Held)) → not (length ns == 0) ≡ true → is_some (first_under (map (λ x. x.start) ns) vs) ≡ true
+    → ended n (placed keys (Some vs) g (map (full n) ns) outside) ≡ Ok (placed keys (Some vs) g (map (full n) ns) outside)
+unfolding ended
+ends n keys g ns vs some startable = rw (some_there (full n) ns some, tasks_there n ns, starts_same n ns, startable) refl
+
+written_same : (n : ℕ) (ns : List Nexus) → All (λ x. AreAttentions x.pending) ns → map nexus_written ns ≡ map nexus_declared (map (full n) ns)
+written_same n [] are = refl
+written_same n (x ∷ ns) are =
+    ap (λ l. nexus_written x ∷ l) (written_same n ns (all_rest (λ y. AreAttentions y.pending) x ns are))
+    ∙ ap (λ p. record (nexus_written x) { pending = p } ∷ map nexus_declared (map (full n) ns)) (sym (pending_same x.pending (all_first (λ y. AreAttentions y.pending) x ns are)))
+
+-- ---- the whole
+
+pub said : ScenariosHaveNoFault
+said n s fits can are =
+    let keys = keys_kept s.keys in
+    let parts = and_parts (not (length s.nexuses == 0)) _ fits.nexuses in
+    let few = and_parts (nat_le (length s.nexuses) 8) _ parts.1 in
+    let apart = and_parts (are_distinct bytes_eq (named s.nexuses)) _ few.1 in
+    let at_most = true_le (length s.nexuses) 8 few.0 in
+    let reserved = and_parts (list_all (is_reservation (length s.nexuses)) s.reservations) _ (and_parts (not (length s.reservations == 0)) _ fits.reservations).1 in
+    let behind = line n (reservation_line (map (wanted_by s.nexuses) s.reservations)) ∷ flat_map (details_said n) s.nexuses in
+    let each : list_all (is_nexus (unwrap_or keys [])) s.nexuses ≡ true = rw (keys_same s.keys) apart.1 in
+    record {
+      declared = placed keys (Some s.reservations) (Some s.generation) (map (full n) s.nexuses) outside;
+      faultless =
+          said_first n fence_line _ nothing _ _ (fence_goes n)
+          (said_on (keys_said n s.keys) _ _ _ _ (keys_lines_go n s.keys fits.keys)
+          (said_on (map (λ x. line n (declaring x.name x.task)) s.nexuses) _ _ _ _ (nexuses_go n keys [] s.nexuses apart.0 (omega arith))
+          (said_first n (generation_line s.generation) behind _ _ _ (generation_goes n s.generation keys (map (bare n) s.nexuses))
+          (said_first n (reservation_line (map (wanted_by s.nexuses) s.reservations)) _ _ _ _
+          (reservation_goes n keys (Some s.generation) s.nexuses s.reservations apart.0 at_most reserved.0 reserved.1)
+          (details_all n keys (Some s.reservations) (Some s.generation) [] s.nexuses apart.0 (omega arith) each are)))));
+      whole = record {
+        faultless = ends n keys (Some s.generation) s.nexuses s.reservations parts.0 (start_found s can);
+        kept = record { keys = sym (keys_same s.keys); reservations = refl; generation = refl; nexuses = written_same n s.nexuses are };
+      };
+    }

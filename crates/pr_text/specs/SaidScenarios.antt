@@ -1,0 +1,97 @@
+-- The lines that a scenario is written as, and what the reader makes of them.
+use Rattle.std.specs.Prelude.{◌≡◌, ℕ, List, [], ◌∷◌, ◌++◌, map, filter, Option, Some, None, Result, Ok, Err}
+use Rattle.std.specs.FinSet as set
+use Rattle.std.specs.List.{All, flat_map, slice_get}
+use Rattle.std.specs.Option.{option_map_or}
+use Rattle.pr_registry.specs.declared.held.Held.{Held}
+use Rattle.pr_registry.specs.declared.held.Held.TheVariants.{One, All as Everybody}
+use Rattle.pr_attention.specs.declared.attention.Attention.{Attention}
+use Rattle.pr_attention.specs.declared.attention.Attention.TheVariants.{PowerOn, ReservationsPreempted, ReservationsReleased, RegistrationsPreempted}
+use Rattle.pr_attention.specs.Attentions.{Codes, code_of, AreAttentions}
+use Rattle.pr_roles.specs.Scenarios.{Scenario, Nexus, Task, Scripted, Planned}
+use Rattle.pr_roles.specs.Starts.{CanStart}
+use Rattle.pr_roles.specs.Fitting.{Fits}
+use Rattle.pr_text.specs.declared.fault.ReadError.{ReadError}
+use Rattle.pr_text.specs.Faults.{and_then}
+use Rattle.pr_text.specs.CommandWords.{keyless}
+use Rattle.pr_text.specs.Items.{Wanted, nobody, single, everybody, Item, fence_line, keys_line, host_line, guest_line, start_line, pending_line, reservation_line, generation_line, role_line, script_line, plan_line, end_line, command_line}
+use Rattle.pr_text.specs.ScriptLines.{ScriptLine, body_lines}
+use Rattle.pr_text.specs.SaidLines.{said_by, numbered}
+use Rattle.pr_text.specs.Declarations.{Declared, nothing}
+use Rattle.pr_text.specs.Placing.{item_placed}
+use Rattle.pr_text.specs.Readings.{IsWhole}
+
+-- a line by its number and what it says
+pub record Line : Type 0 where
+  pub number : ℕ
+  pub item : Item
+
+abbrev pub line : ℕ → Item → Line
+line n item = record { number = n; item = item }
+
+-- what lines make of what is declared, one after another
+abbrev pub all_said : List Line → Declared → Result Declared ReadError
+all_said [] d = Ok d
+all_said (l ∷ ls) d = and_then (item_placed l.number l.item d) (all_said ls)
+
+-- ---- a host or guest, with this number on each line but those of sends, which have their own
+
+-- a host has a script, a guest a plan
+abbrev pub declaring : List ℕ → Task → Item
+declaring name (Scripted script budget) = host_line name
+declaring name (Planned commands) = guest_line name
+
+abbrev pub attentions_in : Codes → List Attention
+attentions_in codes = filter (λ a. set.contains codes (code_of a)) (PowerOn ∷ ReservationsPreempted ∷ ReservationsReleased ∷ RegistrationsPreempted ∷ [])
+
+-- where nothing is pending, nothing is written
+abbrev pub pending_said : ℕ → List ℕ → List Attention → List Line
+pending_said n name [] = []
+pending_said n name (x ∷ xs) = line n (pending_line name (x ∷ xs)) ∷ []
+
+abbrev pub script_said : ℕ → List ScriptLine → List Line
+script_said n ls = map (λ l. line (numbered n l) (said_by l)) ls
+
+-- the lines of a task, the last of them included
+abbrev pub task_said : ℕ → List ℕ → Task → List Line
+task_said n name (Scripted script budget) = line n (script_line name budget) ∷ (script_said n (body_lines script) ++ line n end_line ∷ [])
+task_said n name (Planned commands) = line n (plan_line name) ∷ (map (λ c. line n (command_line (keyless c))) commands ++ line n end_line ∷ [])
+
+-- a host's or guest's start, what is pending for it, its role and its task
+abbrev pub details_said : ℕ → Nexus → List Line
+details_said n x =
+    line n (start_line x.name x.start)
+    ∷ (pending_said n x.name (attentions_in x.pending) ++ (map (λ c. line n (role_line x.name c)) x.role ++ task_said n x.name x.task))
+
+-- ---- the whole
+
+-- where no key is declared, nothing is written
+abbrev pub keys_said : ℕ → List ℕ → List Line
+keys_said n [] = []
+keys_said n (k ∷ ks) = line n (keys_line (k ∷ ks)) ∷ []
+
+-- a reservation, whose single holder is named
+abbrev pub wanted_by : List Nexus → Option Held → Wanted
+wanted_by nexuses None = nobody
+wanted_by nexuses (Some (One kind h)) = single kind (option_map_or (λ x. x.name) (slice_get nexuses h) [])
+wanted_by nexuses (Some (Everybody kind)) = everybody kind
+
+abbrev pub lines_said : ℕ → Scenario → List Line
+lines_said n s =
+    line n fence_line
+    ∷ (keys_said n s.keys
+    ++ (map (λ x. line n (declaring x.name x.task)) s.nexuses
+    ++ (line n (generation_line s.generation)
+    ∷ line n (reservation_line (map (wanted_by s.nexuses) s.reservations))
+    ∷ flat_map (details_said n) s.nexuses)))
+
+-- the lines have no fault, and what they declare is just this scenario
+pub record IsSaid (n : ℕ) (s : Scenario) : Type 0 where
+  pub declared : Declared
+  pub faultless : all_said (lines_said n s) nothing ≡ Ok declared
+  pub whole : IsWhole n declared s
+
+-- The lines of a scenario have no fault, if its parts fit, some state is allowed to start from, and what may be
+-- pending are attentions.
+abbrev pub ScenariosHaveNoFault : Type 0
+ScenariosHaveNoFault = (n : ℕ) (s : Scenario) → Fits s → CanStart s → All (λ x. AreAttentions x.pending) s.nexuses → IsSaid n s
