@@ -1,20 +1,20 @@
 -- What a text answers, from what its lines declare.
-use Rattle.std.specs.Prelude.{◌≡◌, ℕ, ◌+◌, ◌<◌, ◌≤◌, ◌^◌, Bool, true, false, cond, nat_lt, List, [], ◌∷◌, length, map, Option, Some, None, is_some, Result, Ok, Err, IfOk, IfErr}
+use Rattle.std.specs.Prelude.{◌≡◌, ℕ, ◌<◌, ◌≤◌, ◌^◌, true, false, nat_lt, List, length, map, Option, Some, None, is_some, Result, Ok, Err, IfOk, IfErr}
 use Rattle.std.specs.Str.Lines.{lines}
 use Rattle.std.proofs.Common.{refl, sym, ap, ◌∙◌, arith}
 use Rattle.std.proofs.lemmas.Bool.Decides.{nat_tests}
 use Rattle.std.proofs.lemmas.Simd.{map-map}
 use Rattle.pr_registry.specs.declared.held.Held.{Held}
-use Rattle.pr_roles.specs.Scenarios.{Scenario, Nexus}
+use Rattle.pr_roles.specs.Scenarios.{Scenario}
 use Rattle.pr_roles.specs.Fitting.{Fits}
 use Rattle.pr_roles.specs.Starts.{CanStart, starts, first_under}
 use Rattle.pr_roles.proofs.Allowed.{start_found, first_allowed}
 use Rattle.pr_text.specs.declared.fault.ReadError.{ReadError}
 use Rattle.pr_text.specs.declared.fault.ReadError.TheVariants.{TooLarge, EmptyStart}
 use Rattle.pr_text.specs.Faults.{and_then, Fails}
-use Rattle.pr_text.specs.Declarations.{Declaration, Declared, nothing}
+use Rattle.pr_text.specs.Declarations.{Declared, nothing}
 use Rattle.pr_text.specs.Texts.{all_placed, end_fault, ended, AreRead, finished, answer_of, start_of, reservations_of, starts_somewhere}
-use Rattle.pr_text.specs.Readings.{WrittenNexus, nexus_written, nexus_declared, IsDeclaredBy, IsWhole, IsWrittenAs}
+use Rattle.pr_text.specs.Readings.{nexus_written, nexus_declared, IsDeclaredBy, IsWhole, IsWrittenAs}
 use Rattle.pr_text.proofs.Steps.{fails_same, fails_first}
 
 -- ---- the whole text

@@ -1,21 +1,19 @@
 -- What is declared fits.
-use Rattle.std.specs.Prelude.{◌≡◌, ℕ, ◌≤◌, Bool, true, false, cond, ◌&&◌, ◌==◌, not, nat_le, List, [], ◌∷◌, length, map, Option, Some, None, bytes_eq, unwrap_or, IsTrue}
+use Rattle.std.specs.Prelude.{◌≡◌, ℕ, Bool, true, false, cond, ◌==◌, not, List, [], ◌∷◌, length, map, Option, Some, None, unwrap_or}
 use Rattle.std.specs.List.{list_all}
-use Rattle.std.proofs.Common.{refl, sym, subst, ap, ◌∙◌, arith}
+use Rattle.std.proofs.Common.{refl, sym, subst, ap, ◌∙◌}
 use Rattle.std.proofs.lemmas.List.{length-map}
 use Rattle.std.proofs.lemmas.Bool.{and_parts}
-use Rattle.std.proofs.lemmas.Bool.Decides.{nat_tests}
 use Rattle.std.proofs.lemmas.Simd.{map-map}
-use Rattle.pr_cdb.specs.declared.command.Command.{Command}
 use Rattle.pr_roles.specs.Scenarios.{Scenario, Nexus, Task, Scripted, Planned}
-use Rattle.pr_roles.specs.Fitting.{Fits, AreDeclared, are_reservations, are_nexuses, are_distinct, is_nexus, is_role, is_start, is_task}
+use Rattle.pr_roles.specs.Fitting.{Fits, is_nexus, is_role, is_start, is_task}
 use Rattle.pr_script.specs.Names.{is_name}
 use Rattle.pr_text.specs.ScriptLines.{body_lines}
 use Rattle.pr_text.specs.Declarations.{WrittenTask, scripted, planned, Declaration, Declared, Place, before_all, outside, in_script, in_plan}
 use Rattle.pr_text.specs.Declaring.{declared_keys}
-use Rattle.pr_text.specs.Texts.{start_of, end_fault, end_fault_at, first_unscripted}
+use Rattle.pr_text.specs.Texts.{end_fault, end_fault_at}
 use Rattle.pr_text.specs.Readings.{WrittenNexus, task_written, nexus_written, nexus_declared, IsDeclaredBy}
-use Rattle.pr_text.specs.Sound.{AreWhole, IsTask, IsDeclaration, AreDeclarations, IsSound, is_plan}
+use Rattle.pr_text.specs.Sound.{IsTask, IsDeclaration, AreDeclarations, IsSound}
 use Rattle.pr_text.proofs.Trees.{both, whole_fits}
 
 -- ---- one host or guest

@@ -1,7 +1,7 @@
 -- The terms of a line are what they are meant to be: names are names, and keys are not zero.
-use Rattle.std.specs.Prelude.{◌≡◌, ℕ, ◌+◌, ◌*◌, ◌<◌, ◌≤◌, ◌^◌, ◌==◌, Bool, true, false, cond, ◌&&◌, not, nat_lt, nat_le, List, [], ◌∷◌, ◌++◌, length, take, drop, slice_index, fold, Option, Some, None, option_map, option_and_then, IfSome, unwrap_or, codes, bytes_eq}
+use Rattle.std.specs.Prelude.{◌≡◌, ℕ, ◌+◌, ◌*◌, ◌<◌, ◌^◌, ◌==◌, Bool, true, false, cond, ◌&&◌, not, nat_lt, nat_le, List, [], ◌∷◌, ◌++◌, length, take, drop, slice_index, fold, Option, Some, None, option_map, option_and_then, IfSome, codes, bytes_eq}
 use Rattle.std.specs.List.{list_all}
-use Rattle.std.proofs.Common.{refl, sym, ap, ◌∙◌, arith, lit<, length-append, add-zero, zero-add}
+use Rattle.std.proofs.Common.{refl, ap, ◌∙◌, arith, lit<, length-append, add-zero, zero-add}
 use Rattle.std.proofs.lemmas.Bool.{and_parts}
 use Rattle.std.proofs.lemmas.Bool.Decides.{nat_tests}
 use Rattle.std.proofs.lemmas.List.Folds.{list_all-append}
@@ -16,7 +16,7 @@ use Rattle.pr_text.specs.TextLines.{only, is_end}
 use Rattle.pr_text.specs.WordTerms.{worth, number, digit_of, byte_of, without_prefix, hexadecimal, name_of, key_or_zero, key_of, kind_of, code_of, count_of, generation_of, sense_of}
 use Rattle.pr_text.specs.CommandWords.{spelled_of, spelled_in}
 use Rattle.pr_text.specs.Clauses.{clause_of, alone, good_of, test_of}
-use Rattle.pr_text.specs.Items.{Wanted, nobody, single, everybody, Item, keys_line, host_line, guest_line, start_line, pending_line, reservation_line, generation_line, role_line, script_line, plan_line, end_line, send_line, on_line, done_line, repeat_line, break_line, stop_line, command_line, fence_line, each_onto, listed, alternative_of, everybody_of, single_of, wanted_of, name_in, only_name, budget_in, fence_said, start_said, pending_said, role_said, script_said, bare_said, said_simply, said_after, said_with, item_of}
+use Rattle.pr_text.specs.Items.{Wanted, nobody, single, everybody, Item, keys_line, host_line, guest_line, start_line, pending_line, reservation_line, generation_line, role_line, script_line, plan_line, end_line, send_line, on_line, done_line, repeat_line, break_line, stop_line, command_line, fence_line, each_onto, listed, alternative_of, everybody_of, single_of, wanted_of, name_in, only_name, budget_in, start_said, pending_said, said_simply, said_after, said_with, item_of}
 use Rattle.pr_text.specs.Keywords.{keyword_of}
 use Rattle.pr_text.proofs.NumberRoom.{digit_more, hex_some}
 use Rattle.pr_text.proofs.Trees.{both, true_le, true_lt}

@@ -1,9 +1,8 @@
 -- Where a name that is declared once is found.
-use Rattle.std.specs.Prelude.{◌≡◌, ℕ, zero, suc, ◌+◌, ◌<◌, ◌≤◌, Bool, true, false, cond, ◌&&◌, ◌||◌, not, nat_lt, nat_le, List, [], ◌∷◌, ◌++◌, length, map, Option, Some, None, is_some, position, bytes_eq}
+use Rattle.std.specs.Prelude.{◌≡◌, ℕ, ◌+◌, ◌≤◌, Bool, true, false, cond, ◌||◌, not, List, [], ◌∷◌, ◌++◌, length, map, Some, None, is_some, position, bytes_eq}
 use Rattle.std.specs.List.{slice_get, list_any, position_from}
-use Rattle.std.proofs.Common.{refl, sym, subst, ap, ◌∙◌, arith, append_assoc}
+use Rattle.std.proofs.Common.{refl, sym, ap, ◌∙◌, arith, append_assoc}
 use Rattle.std.proofs.lemmas.Bool.{and_parts}
-use Rattle.std.proofs.lemmas.Bool.Decides.{nat_tests}
 use Rattle.std.proofs.lemmas.List.{map-append}
 use Rattle.std.proofs.lemmas.List.Folds.{list_any-append}
 use Rattle.std.proofs.lemmas.Iterator.Adapters.{position_from-zero}
@@ -69,7 +68,7 @@ pub number_there : (xs : List Declaration) (y : Declaration) (ys : List Declarat
 unfolding number_of
 number_there xs y ys name h it few =
     let found : position (λ x. bytes_eq x.name name) (xs ++ y ∷ ys) ≡ Some (length xs) =
-        position_from-zero (λ x. bytes_eq x.name name) (xs ++ y ∷ ys) ∙ (there_at (λ x. bytes_eq x.name name) xs y ys 0 h it ∙ ap (λ m. Some m) (omega arith)) in
+    position_from-zero (λ x. bytes_eq x.name name) (xs ++ y ∷ ys) ∙ (there_at (λ x. bytes_eq x.name name) xs y ys 0 h it ∙ ap (λ m. Some m) (omega arith)) in
     let small = lt_true (length xs) 256 (omega arith) in
     rw (found, small) refl
 

@@ -1,5 +1,5 @@
 -- The lines and blocks of a script that is open.
-use Rattle.std.proofs.Common.{◌≡◌, ℕ, suc, ◌+◌, Bool, true, false, cond, not, List, [], ◌∷◌, ◌++◌, length, refl, sym, ap, ◌∙◌, append_assoc, append-nil, zero-add, Vec, Global, arith, add-one}
+use Rattle.std.proofs.Common.{◌≡◌, ℕ, suc, ◌+◌, Bool, true, false, cond, not, List, [], ◌∷◌, ◌++◌, length, refl, sym, ap, ◌∙◌, append_assoc, append-nil, zero-add, Vec, Global, arith}
 use Rattle.std.specs.Prelude.{◌==◌, count_by, fold, Option, Some, None}
 use Rattle.std.specs.List.{flat_map}
 use Rattle.std.proofs.lemmas.List.Concat.{flat_map-append}
@@ -10,9 +10,7 @@ use Rattle.pr_script.specs.declared.script.Script.{Script}
 use Rattle.pr_script.specs.declared.script.Statement.{Statement}
 use Rattle.pr_script.specs.declared.script.Statement.TheVariants.{Send, Repeat}
 use Rattle.pr_script.specs.declared.script.Arm.{Arm}
-use Rattle.pr_script.specs.declared.script.Test.{Test}
-use Rattle.pr_script.specs.Scripts.{sends, repeats}
-use Rattle.pr_script.specs.Trees.{statement_of, statements_in, arms_in, script_of}
+use Rattle.pr_script.specs.Trees.{statement_of, statements_in, arms_in}
 use Rattle.pr_script.proofs.Equations.{tree_repeat, tree_send}
 use Rattle.pr_text.specs.declared.open_script.Armless.{Armless}
 use Rattle.pr_text.specs.declared.open_script.Frame.{Frame}

@@ -1,21 +1,21 @@
 -- The lines of a script that fits have no fault.
-use Rattle.std.specs.Prelude.{◌≡◌, ℕ, zero, suc, ◌+◌, ◌<◌, ◌≤◌, ◌==◌, Bool, true, false, cond, ◌&&◌, ◌||◌, not, nat_lt, nat_le, List, [], ◌∷◌, ◌++◌, drop, count_by, Option, Some, None, Result, Ok, Err}
-use Rattle.std.proofs.Common.{refl, sym, subst, ap, ◌∙◌, arith, append_assoc, append-nil}
-use Rattle.std.proofs.lemmas.Bool.{and_parts, false≢true}
+use Rattle.std.specs.Prelude.{◌≡◌, ℕ, ◌+◌, ◌≤◌, ◌==◌, Bool, true, false, ◌&&◌, not, nat_lt, nat_le, List, [], ◌∷◌, ◌++◌, count_by, Result, Ok}
+use Rattle.std.proofs.Common.{refl, sym, ap, ◌∙◌, arith, append_assoc, append-nil}
+use Rattle.std.proofs.lemmas.Bool.{and_parts}
 use Rattle.std.proofs.lemmas.Bool.Decides.{nat_tests}
 use Rattle.pr_cdb.specs.declared.command.Command.{Command}
 use Rattle.pr_script.specs.declared.script.Test.{Test}
 use Rattle.pr_script.specs.declared.script.Test.TheVariants as test
 use Rattle.pr_script.specs.Scripts.{Stmt, Stmts, Arms, sends, repeats, breaks, stops, none, more, no_arm, arm}
-use Rattle.pr_script.specs.Grammar.{is_written, is_read_keys, is_read_reservation, test_fits, count_of_arms, begins_body, is_send_written, is_repeat_written, statement_fits, statements_fit, arms_fit, count_of, count_of_all, count_in_arms, script_fits}
+use Rattle.pr_script.specs.Grammar.{is_written, is_read_keys, is_read_reservation, test_fits, count_of_arms, begins_body, is_send_written, is_repeat_written, statement_fits, statements_fit, arms_fit, count_of, count_of_all, count_in_arms}
 use Rattle.pr_text.specs.declared.fault.ReadError.{ReadError}
 use Rattle.pr_text.specs.Faults.{and_then}
 use Rattle.pr_text.specs.CommandWords.{keyless}
 use Rattle.pr_text.specs.ScriptLines.{ScriptLine, send_at, arm_on, block_done, repeat_of, break_out, stop_with, statement_lines, body_lines, arms_lines}
 use Rattle.pr_text.specs.Declarations.{Opening, repeating, sending, OpenLines}
 use Rattle.pr_text.specs.ScriptSteps.{is_repeating, is_sending, awaits_arm, is_in_repeat, send_step, repeat_step, break_step, stop_step, stands_under, is_test_declared, on_step, done_step, may_close}
-use Rattle.pr_text.specs.SaidLines.{said_by, numbered, all_stepped, IsReread, ScriptsHaveNoFault}
-use Rattle.pr_text.proofs.Trees.{both, no_not, le_true, true_le, true_lt, one_more, as_many}
+use Rattle.pr_text.specs.SaidLines.{all_stepped, ScriptsHaveNoFault}
+use Rattle.pr_text.proofs.Trees.{both, no_not, true_le, one_more, as_many}
 
 -- an open script by its parts
 abbrev open_at : ℕ → ℕ → List ScriptLine → ℕ → List Opening → Bool → OpenLines

@@ -1,5 +1,5 @@
 -- Keys, hosts and guests, and reservations stay sound with one line more.
-use Rattle.std.specs.Prelude.{◌≡◌, ℕ, zero, suc, ◌+◌, ◌<◌, ◌≤◌, ◌^◌, ◌==◌, Bool, true, false, cond, ◌&&◌, ◌||◌, not, nat_lt, nat_le, List, [], ◌∷◌, ◌++◌, length, map, Option, Some, None, is_some, option_map, option_and_then, unwrap_or, position, bytes_eq, Result, Ok, Err}
+use Rattle.std.specs.Prelude.{◌≡◌, ℕ, suc, ◌+◌, ◌<◌, ◌≤◌, ◌==◌, Bool, true, false, cond, ◌&&◌, ◌||◌, not, nat_lt, nat_le, List, [], ◌∷◌, ◌++◌, length, map, Option, Some, None, is_some, option_map, option_and_then, unwrap_or, position, bytes_eq, Ok}
 use Rattle.std.specs.List.{list_all, list_any, position_from}
 use Rattle.std.proofs.Common.{refl, sym, subst, ap, ◌∙◌, arith, length-append}
 use Rattle.std.proofs.lemmas.List.Folds.{list_all-append}
@@ -21,17 +21,16 @@ use Rattle.pr_script.specs.Grammar.{is_written, is_written_key, is_declared, is_
 use Rattle.pr_roles.specs.declared.role.Action.{Action}
 use Rattle.pr_roles.specs.declared.role.Action.TheVariants as action
 use Rattle.pr_roles.specs.declared.role.Clause.{Clause}
-use Rattle.pr_roles.specs.Fitting.{AreDeclared, are_distinct, are_reservations, is_reservation, is_same_reservation, is_action, is_role, is_alternative, is_start}
-use Rattle.pr_text.specs.declared.fault.ReadError.{ReadError}
+use Rattle.pr_roles.specs.Fitting.{are_distinct, are_reservations, is_reservation, is_action, is_role, is_alternative, is_start}
 use Rattle.pr_text.specs.ScriptLines.{ScriptLine, send_at, arm_on, block_done, repeat_of, break_out, stop_with}
-use Rattle.pr_text.specs.ScriptSteps.{awaits_arm, is_sending}
-use Rattle.pr_text.specs.Declarations.{Opening, repeating, sending, WrittenTask, scripted, planned, Declaration, Place, outside, Declared}
+use Rattle.pr_text.specs.ScriptSteps.{awaits_arm}
+use Rattle.pr_text.specs.Declarations.{Opening, repeating, sending, WrittenTask, scripted, planned, Declaration, outside, Declared}
 use Rattle.pr_text.specs.Items.{Wanted, nobody, single, everybody}
 use Rattle.pr_text.specs.Declaring.{declared_keys, number_of, keys_placed, nexus_placed, held_of, helds_onto, reservations_at, reservation_placed}
 use Rattle.pr_text.specs.Texts.{start_of, reservations_of}
-use Rattle.pr_text.specs.Sound.{Reached, at_first, may, may_arm, may_all, next, AreWhole, is_plan, IsTask, is_described, IsDeclaration, AreDeclarations, IsPlace, IsSound}
+use Rattle.pr_text.specs.Sound.{Reached, at_first, may, may_arm, may_all, next, IsTask, IsDeclaration, AreDeclarations, IsPlace, IsSound}
 use Rattle.pr_text.proofs.ItemTerms.{is_key, is_wanted}
-use Rattle.pr_text.proofs.Trees.{both, le_true, true_le}
+use Rattle.pr_text.proofs.Trees.{both, true_le}
 use Rattle.pr_text.proofs.SoundScripts.{ok_same, past, not_no, or_no, lt_true}
 
 all_more : {A : Type 0} (p q : A → Bool) → ((x : A) → p x ≡ true → q x ≡ true) → (xs : List A) → list_all p xs ≡ true → list_all q xs ≡ true

@@ -1,32 +1,29 @@
 -- What is declared stays sound with one line more.
-use Rattle.std.specs.Prelude.{◌≡◌, ℕ, zero, suc, ◌+◌, ◌<◌, ◌≤◌, ◌==◌, Bool, true, false, cond, ◌&&◌, ◌||◌, not, nat_lt, nat_le, List, [], ◌∷◌, ◌++◌, length, map, Option, Some, None, is_some, option_map, option_and_then, unwrap_or, position, bytes_eq, slice_set, Result, Ok, Err}
-use Rattle.std.specs.List.{slice_get, list_all, list_any, position_from}
+use Rattle.std.specs.Prelude.{◌≡◌, ℕ, zero, suc, ◌+◌, ◌≤◌, ◌==◌, true, false, ◌&&◌, not, nat_le, List, [], ◌∷◌, ◌++◌, length, map, Option, Some, None, is_some, slice_set, Result, Ok, Err}
+use Rattle.std.specs.List.{slice_get}
 use Rattle.std.proofs.Common.{refl, sym, subst, ap, ◌∙◌, arith, length-append}
 use Rattle.std.proofs.lemmas.List.{length-set}
 use Rattle.std.proofs.lemmas.List.Folds.{list_all-append}
-use Rattle.std.proofs.lemmas.Iterator.Adapters.{position_from-zero}
 use Rattle.std.proofs.lemmas.Bool.{and_parts}
 use Rattle.std.proofs.lemmas.Bool.Decides.{nat_tests}
 use Rattle.pr_cdb.specs.declared.command.Command.{Command}
 use Rattle.pr_attention.specs.declared.attention.Attention.{Attention}
-use Rattle.pr_registry.specs.declared.held.Held.{Held}
 use Rattle.pr_script.specs.Names.{is_name}
 use Rattle.pr_script.specs.Grammar.{is_written}
 use Rattle.pr_roles.specs.declared.role.Clause.{Clause}
-use Rattle.pr_roles.specs.Fitting.{are_distinct, is_action, is_role, is_alternative, is_same_alternative, is_start}
+use Rattle.pr_roles.specs.Fitting.{is_action, is_role}
 use Rattle.pr_text.specs.declared.fault.ReadError.{ReadError}
 use Rattle.pr_text.specs.declared.spelling.Spelled.{Spelled}
-use Rattle.pr_text.specs.Faults.{and_then, unless}
+use Rattle.pr_text.specs.Faults.{and_then}
 use Rattle.pr_text.specs.Declarations.{OpenLines, WrittenTask, scripted, planned, Declaration, Place, before_all, outside, in_script, in_plan, Declared}
-use Rattle.pr_text.specs.Items.{Item, Wanted, keys_line, host_line, guest_line, start_line, pending_line, reservation_line, generation_line, role_line, script_line, plan_line, end_line, send_line, on_line, done_line, repeat_line, break_line, stop_line, command_line, fence_line}
-use Rattle.pr_text.specs.ScriptSteps.{is_spelled, script_step}
-use Rattle.pr_text.specs.Declaring.{declared_keys, number_of, with_nexus, on_nexus, at_number, at_name, keys_placed, nexus_placed, start_fault, start_at, start_placed, codes_of, are_codes_distinct, pending_at, pending_placed, reservation_placed, generation_placed, role_at, role_placed, script_fault, begun_script, script_at, script_placed, plan_at, plan_placed}
+use Rattle.pr_text.specs.Items.{Item, keys_line, host_line, guest_line, start_line, pending_line, reservation_line, generation_line, role_line, script_line, plan_line, end_line, command_line, fence_line}
+use Rattle.pr_text.specs.ScriptSteps.{script_step}
+use Rattle.pr_text.specs.Declaring.{declared_keys, number_of, with_nexus, on_nexus, at_number, at_name, start_fault, start_at, start_placed, codes_of, pending_at, pending_placed, generation_placed, role_at, role_placed, script_fault, begun_script, script_at, script_placed, plan_at, plan_placed}
 use Rattle.pr_text.specs.Placing.{placed_first, placed_outside, tasked, with_task, script_ended, placed_in_script, planned_step, placed_in_plan, placed_at, item_placed}
-use Rattle.pr_text.specs.Texts.{start_of}
-use Rattle.pr_text.specs.Sound.{AreWhole, AreBegun, is_plan, IsTask, is_described, IsDeclaration, AreDeclarations, IsPlace, IsSound}
-use Rattle.pr_text.proofs.ItemTerms.{is_key, is_wanted, is_item}
-use Rattle.pr_text.proofs.Trees.{both, le_true, true_le}
-use Rattle.pr_text.proofs.SoundScripts.{ok_same, past, not_no, no_true, or_no, kept, passes, skips, script_sound}
+use Rattle.pr_text.specs.Sound.{AreBegun, is_plan, IsTask, IsDeclaration, AreDeclarations, IsPlace, IsSound}
+use Rattle.pr_text.proofs.ItemTerms.{is_item}
+use Rattle.pr_text.proofs.Trees.{both, le_true}
+use Rattle.pr_text.proofs.SoundScripts.{ok_same, past, not_no, or_no, kept, passes, skips, script_sound}
 use Rattle.pr_text.proofs.SoundLists.{keys_sound, nexus_sound, reservation_sound}
 
 -- ---- the same, at another place

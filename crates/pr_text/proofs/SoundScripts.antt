@@ -1,26 +1,26 @@
 -- The lines of an open script may stand where they do, with one line more.
-use Rattle.std.specs.Prelude.{◌≡◌, ℕ, zero, suc, ◌+◌, ◌<◌, ◌≤◌, ◌==◌, Bool, true, false, cond, ◌&&◌, ◌||◌, not, nat_lt, nat_le, List, [], ◌∷◌, ◌++◌, drop, length, fold, Option, Some, None, count_by, Result, Ok, Err}
+use Rattle.std.specs.Prelude.{◌≡◌, ℕ, ◌+◌, ◌<◌, ◌≤◌, ◌==◌, Bool, true, false, cond, ◌&&◌, ◌||◌, not, nat_lt, nat_le, List, [], ◌∷◌, ◌++◌, drop, Option, Some, None, count_by, Result, Ok, Err}
 use Rattle.std.specs.List.{list_all}
 use Rattle.std.proofs.Common.{refl, sym, subst, ap, ◌∙◌, arith, append-nil}
 use Rattle.std.proofs.lemmas.List.Folds.{list_all-append}
 use Rattle.std.proofs.lemmas.List.Sums.{fold-append, sum_by-append}
-use Rattle.std.proofs.lemmas.Bool.{and_parts, false≢true}
+use Rattle.std.proofs.lemmas.Bool.{and_parts}
 use Rattle.std.proofs.lemmas.Bool.Decides.{nat_tests}
 use Rattle.pr_cdb.specs.declared.command.Command.{Command}
 use Rattle.pr_script.specs.declared.script.Test.{Test}
 use Rattle.pr_script.specs.declared.script.Test.TheVariants as test
 use Rattle.pr_script.specs.Names.{is_name}
-use Rattle.pr_script.specs.Grammar.{is_written, is_written_key, is_declared, is_read_keys, is_read_reservation, test_fits, rise_above}
+use Rattle.pr_script.specs.Grammar.{is_written, test_fits, rise_above}
 use Rattle.pr_text.specs.declared.fault.ReadError.{ReadError}
 use Rattle.pr_text.specs.declared.spelling.Spelled.{Spelled}
 use Rattle.pr_text.specs.Faults.{unless}
 use Rattle.pr_text.specs.ScriptLines.{ScriptLine, send_at, arm_on, block_done, repeat_of, break_out, stop_with}
 use Rattle.pr_text.specs.Declarations.{Opening, repeating, sending, OpenLines}
-use Rattle.pr_text.specs.Items.{Item, keys_line, host_line, guest_line, start_line, pending_line, reservation_line, generation_line, role_line, script_line, plan_line, end_line, send_line, on_line, done_line, repeat_line, break_line, stop_line, command_line, fence_line}
-use Rattle.pr_text.specs.ScriptSteps.{is_spelled, is_repeating, is_sending, awaits_arm, awaits_more, is_full, opening, stating, send_step, repeat_step, break_step, stop_step, stands_under, is_test_declared, arm_fault, on_step, on_step_in, may_close, done_step, script_step}
-use Rattle.pr_text.specs.Sound.{Reached, at_first, may, may_state, may_arm, may_all, next, with_arm, reached, is_statement, sends_in, AreWhole, AreBegun}
+use Rattle.pr_text.specs.Items.{Item, send_line, on_line, done_line, repeat_line, break_line, stop_line}
+use Rattle.pr_text.specs.ScriptSteps.{is_repeating, is_sending, awaits_arm, awaits_more, opening, stating, send_step, repeat_step, break_step, stop_step, stands_under, is_test_declared, arm_fault, on_step, on_step_in, may_close, done_step, script_step}
+use Rattle.pr_text.specs.Sound.{Reached, at_first, may, may_state, may_all, next, reached, is_statement, sends_in, AreBegun}
 use Rattle.pr_text.proofs.ItemTerms.{is_item, is_test}
-use Rattle.pr_text.proofs.Trees.{both, le_true, true_le, true_lt, count-cons, sends-append}
+use Rattle.pr_text.proofs.Trees.{both, le_true, true_le, count-cons, sends-append}
 
 -- ---- one line more
 

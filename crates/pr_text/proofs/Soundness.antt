@@ -1,40 +1,17 @@
 -- What lines declare is sound.
-use Rattle.std.specs.Prelude.{◌≡◌, ℕ, zero, suc, ◌+◌, ◌<◌, ◌≤◌, ◌^◌, ◌==◌, Bool, true, false, cond, ◌&&◌, ◌||◌, not, nat_lt, nat_le, List, [], ◌∷◌, ◌++◌, drop, length, map, fold, Option, Some, None, is_some, IfSome, option_map, unwrap_or, position, bytes_eq, slice_set, count_by, Result, Ok, Err}
-use Rattle.std.specs.List.{slice_get, list_all, list_any, position_from, All}
+use Rattle.std.specs.Prelude.{◌≡◌, ℕ, ◌+◌, Bool, true, false, cond, not, nat_lt, List, [], ◌∷◌, length, Option, Some, None, IfSome, Result, Ok, Err}
 use Rattle.std.specs.Str.Lines.{lines}
-use Rattle.std.proofs.Common.{refl, sym, subst, ap, ◌∙◌, arith, inl, inr, length-append}
-use Rattle.std.proofs.lemmas.List.{length-map, length-set, map-set}
-use Rattle.std.proofs.lemmas.List.Folds.{list_all-append}
-use Rattle.std.proofs.lemmas.List.Sums.{AllPass-from_list_all, fold-append, sum_by-append}
-use Rattle.std.proofs.lemmas.Bool.{and_parts, false≢true}
-use Rattle.std.proofs.lemmas.Bool.Decides.{nat_tests}
-use Rattle.std.proofs.lemmas.Slice.Eq.{bytes_eq-Decides}
-use Rattle.pr_cdb.specs.declared.command.Command.{Command}
-use Rattle.pr_cdb.specs.declared.command.Command.TheVariants as command
-use Rattle.pr_registry.specs.declared.held.Held.{Held}
-use Rattle.pr_registry.specs.declared.held.Held.TheVariants.{One, All as Everybody}
-use Rattle.pr_registry.specs.Registrations.{IsKey}
-use Rattle.pr_script.specs.declared.script.Test.{Test}
-use Rattle.pr_script.specs.declared.script.Test.TheVariants as test
-use Rattle.pr_script.specs.Names.{is_name}
-use Rattle.pr_script.specs.Grammar.{is_written, is_written_key, is_declared, test_fits, rise_above}
-use Rattle.pr_roles.specs.declared.role.Action.{Action}
-use Rattle.pr_roles.specs.declared.role.Action.TheVariants as action
-use Rattle.pr_roles.specs.declared.role.Clause.{Clause}
-use Rattle.pr_roles.specs.Fitting.{AreDeclared, are_distinct, are_reservations, is_reservation, is_same_reservation, is_action, is_role, is_alternative, is_start}
+use Rattle.std.proofs.Common.{refl, sym, subst, arith}
 use Rattle.pr_text.specs.declared.fault.ReadError.{ReadError}
 use Rattle.pr_text.specs.declared.fault.ReadError.TheVariants.{NotAscii, LineTooLong}
-use Rattle.pr_text.specs.Faults.{and_then, unless}
+use Rattle.pr_text.specs.Faults.{and_then}
 use Rattle.pr_text.specs.TextLines.{is_text, words}
-use Rattle.pr_text.specs.ScriptLines.{ScriptLine, send_at, arm_on, block_done, repeat_of, break_out, stop_with}
-use Rattle.pr_text.specs.Declarations.{Opening, repeating, sending, OpenLines, WrittenTask, scripted, planned, Declaration, Place, before_all, outside, in_script, in_plan, Declared, nothing}
-use Rattle.pr_text.specs.Items.{Item, Wanted, nobody, single, everybody, keys_line, host_line, guest_line, start_line, pending_line, reservation_line, generation_line, role_line, script_line, plan_line, end_line, send_line, on_line, done_line, repeat_line, break_line, stop_line, command_line, fence_line, item_of}
-use Rattle.pr_text.specs.Declaring.{declared_keys, number_of, with_nexus, on_nexus, at_number, at_name}
-use Rattle.pr_text.specs.Placing.{item_placed, placed_at}
-use Rattle.pr_text.specs.Texts.{line_placed, worded, said_placed, all_placed, AreRead, start_of, reservations_of}
-use Rattle.pr_text.specs.Sound.{Reached, at_first, may, may_all, next, reached, is_statement, sends_in, AreWhole, AreBegun, is_plan, IsTask, is_described, IsDeclaration, AreDeclarations, IsPlace, IsSound}
-use Rattle.pr_text.proofs.ItemTerms.{is_key, is_item, item_sound}
-use Rattle.pr_text.proofs.Trees.{both, le_true, true_le, true_lt, count-cons, sends-append}
+use Rattle.pr_text.specs.Declarations.{Place, before_all, outside, in_script, in_plan, Declared, nothing}
+use Rattle.pr_text.specs.Items.{Item, item_of}
+use Rattle.pr_text.specs.Declaring.{declared_keys}
+use Rattle.pr_text.specs.Texts.{line_placed, worded, said_placed, all_placed, AreRead}
+use Rattle.pr_text.specs.Sound.{IsPlace, IsSound}
+use Rattle.pr_text.proofs.ItemTerms.{is_item, item_sound}
 use Rattle.pr_text.proofs.SoundScripts.{later_begun}
 use Rattle.pr_text.proofs.SoundPlaces.{placed_sound}
 

@@ -1,5 +1,5 @@
 -- What a call answers where a step of it fails.
-use Rattle.std.proofs.Common.{◌≡◌, Result, Ok, Err, refl, ap, ◌∙◌}
+use Rattle.std.proofs.Common.{Result, Err, refl, ap}
 use Rattle.pr_text.specs.declared.fault.ReadError.{ReadError}
 use Rattle.pr_text.specs.declared.fault.ReadError.TheVariants.{TooLarge, NotAscii, LineTooLong, Syntax, UnknownName, Limit, UndeclaredKey, Repeated, Unclosed, ReadFault, Memory, EmptyStart}
 use Rattle.pr_text.specs.Faults.{and_then, Fails}

@@ -1,28 +1,26 @@
 -- The lines of a whole scenario have no fault.
-use Rattle.std.specs.Prelude.{◌≡◌, ℕ, zero, suc, ◌+◌, ◌<◌, ◌≤◌, ◌==◌, Bool, true, false, cond, ◌&&◌, not, IsTrue, nat_lt, nat_le, List, [], ◌∷◌, ◌++◌, length, map, Option, Some, None, is_some, option_map, unwrap_or, bytes_eq, Result, Ok, Err}
+use Rattle.std.specs.Prelude.{◌≡◌, ℕ, zero, suc, ◌+◌, ◌<◌, ◌≤◌, ◌==◌, Bool, true, false, ◌&&◌, not, nat_lt, nat_le, List, [], ◌∷◌, ◌++◌, length, map, Option, Some, None, is_some, option_map, unwrap_or, bytes_eq, Ok}
 use Rattle.std.specs.List.{All, list_all, flat_map, slice_get}
 use Rattle.std.specs.Option.{option_map_or}
-use Rattle.std.proofs.Common.{refl, sym, subst, ap, ◌∙◌, arith, append_assoc, append-nil, length-append}
+use Rattle.std.proofs.Common.{refl, sym, ap, ◌∙◌, arith, append_assoc, append-nil, length-append}
 use Rattle.std.proofs.lemmas.Bool.{and_parts}
 use Rattle.std.proofs.lemmas.Bool.Decides.{nat_tests}
 use Rattle.pr_registry.specs.declared.held.Held.{Held}
 use Rattle.pr_registry.specs.declared.held.Held.TheVariants.{One, All as Everybody}
 use Rattle.pr_registry.specs.Registrations.{is_all}
 use Rattle.pr_attention.specs.Attentions.{AreAttentions}
-use Rattle.pr_roles.specs.Scenarios.{Scenario, Nexus, Task, Scripted, Planned}
-use Rattle.pr_roles.specs.Starts.{CanStart, first_under, starts}
-use Rattle.pr_roles.specs.Fitting.{AreDeclared, are_distinct, is_nexus, is_reservation, is_same_reservation, Fits}
+use Rattle.pr_roles.specs.Scenarios.{Nexus, Task, Scripted, Planned}
+use Rattle.pr_roles.specs.Starts.{first_under}
+use Rattle.pr_roles.specs.Fitting.{AreDeclared, are_distinct, is_nexus, is_reservation, is_same_reservation}
 use Rattle.pr_roles.proofs.Allowed.{start_found}
-use Rattle.pr_text.specs.declared.fault.ReadError.{ReadError}
 use Rattle.pr_text.specs.Chain.{◌>>=◌}
-use Rattle.pr_text.specs.Faults.{and_then}
 use Rattle.pr_text.specs.Items.{fence_line, keys_line, generation_line, reservation_line}
-use Rattle.pr_text.specs.Declarations.{Declaration, outside, Declared, nothing}
+use Rattle.pr_text.specs.Declarations.{Declaration, outside, nothing}
 use Rattle.pr_text.specs.Declaring.{number_of, keys_placed, nexus_placed, held_of, helds_onto, reservation_placed, generation_placed}
 use Rattle.pr_text.specs.Placing.{item_placed}
 use Rattle.pr_text.specs.Texts.{start_of, first_unscripted, ended}
 use Rattle.pr_text.specs.Readings.{nexus_written, nexus_declared}
-use Rattle.pr_text.specs.SaidScenarios.{line, all_said, declaring, details_said, keys_said, wanted_by, IsSaid, ScenariosHaveNoFault}
+use Rattle.pr_text.specs.SaidScenarios.{line, all_said, declaring, details_said, keys_said, wanted_by, ScenariosHaveNoFault}
 use Rattle.pr_text.proofs.Trees.{true_le, true_lt}
 use Rattle.pr_text.proofs.NamesApart.{names, is_taken, free_of, names_moved, itself, number_nowhere, number_there}
 use Rattle.pr_text.proofs.DetailLines.{said_on, said_first, pending_same, is_planned, placed, bare, full, details_go}

@@ -1,5 +1,5 @@
 -- What a builder holds, as what is declared so far.
-use Rattle.std.specs.Prelude.{map, option_map, Option, List, ℕ}
+use Rattle.std.specs.Prelude.{map, option_map}
 use Rattle.pr_script.specs.Trees.{script_of}
 use Rattle.pr_roles.specs.declared.parts.Task.{Task}
 use Rattle.pr_roles.specs.declared.parts.Task.TheVariants as part

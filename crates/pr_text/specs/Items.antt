@@ -1,5 +1,5 @@
 -- What one line of a text says.
-use Rattle.std.specs.Prelude.{ℕ, ◌==◌, Bool, if◌then◌else◌, List, [], ◌∷◌, ◌++◌, length, take, drop, slice_index, codes, bytes_eq, Option, Some, None, option_map}
+use Rattle.std.specs.Prelude.{ℕ, ◌==◌, if◌then◌else◌, List, [], ◌∷◌, ◌++◌, length, take, drop, slice_index, codes, bytes_eq, Option, Some, None, option_map}
 use Rattle.pr_cdb.specs.declared.command.Kind.{Kind}
 use Rattle.pr_attention.specs.declared.attention.Attention.{Attention}
 use Rattle.pr_registry.specs.Registrations.{is_all}

@@ -1,5 +1,5 @@
 -- A script that is open, as its lines and blocks.
-use Rattle.std.specs.Prelude.{ℕ, Bool, true, false, ◌+◌, ◌==◌, not, if◌then◌else◌, List, [], ◌∷◌, ◌++◌, length, Option, Some, None, fold}
+use Rattle.std.specs.Prelude.{Bool, false, ◌+◌, ◌==◌, not, List, [], ◌∷◌, ◌++◌, length, Option, Some, None, fold}
 use Rattle.std.specs.List.{flat_map}
 use Rattle.pr_script.specs.declared.script.Statement.{Statement}
 use Rattle.pr_script.specs.declared.script.Arm.{Arm}

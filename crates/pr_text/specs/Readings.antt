@@ -1,6 +1,5 @@
 -- The scenario that a text is.
-use Rattle.std.specs.Prelude.{◌≡◌, ℕ, List, [], ◌∷◌, map, Option, Some, None, unwrap_or, Result, Ok, Err}
-use Rattle.pr_cdb.specs.declared.command.Command.{Command}
+use Rattle.std.specs.Prelude.{◌≡◌, ℕ, List, [], map, Option, unwrap_or, Result, Ok, Err}
 use Rattle.pr_attention.specs.Attentions.{Codes, no_code}
 use Rattle.pr_roles.specs.declared.role.Clause.{Clause}
 use Rattle.pr_roles.specs.Scenarios.{Scenario, Nexus, Task, Scripted, Planned, scenario_of}
@@ -10,7 +9,7 @@ use Rattle.pr_text.specs.declared.fault.ReadError.TheVariants.{ReadFault, Memory
 use Rattle.pr_text.specs.declared.source.SourceFault.{SourceFault}
 use Rattle.pr_text.specs.declared.source.SourceFault.TheVariants as source
 use Rattle.pr_text.specs.Faults.{Fails}
-use Rattle.pr_text.specs.ScriptLines.{ScriptLine, body_lines}
+use Rattle.pr_text.specs.ScriptLines.{body_lines}
 use Rattle.pr_text.specs.Declarations.{Declaration, WrittenTask, scripted, planned, Declared}
 use Rattle.pr_text.specs.Texts.{start_of, reservations_of, ended, answer_of}
 

@@ -1,5 +1,5 @@
 -- What is declared so far keeps the limits, and the conditions of a scenario.
-use Rattle.std.specs.Prelude.{◌≡◌, ℕ, Bool, true, false, ◌+◌, ◌==◌, ◌&&◌, not, nat_lt, nat_le, List, [], ◌∷◌, ◌++◌, drop, length, map, Option, Some, None, bytes_eq, count_by, fold}
+use Rattle.std.specs.Prelude.{◌≡◌, ℕ, Bool, true, false, ◌+◌, ◌&&◌, not, nat_lt, nat_le, List, [], ◌∷◌, drop, length, map, Option, Some, None, bytes_eq, count_by, fold}
 use Rattle.std.specs.List.{list_all}
 use Rattle.pr_cdb.specs.declared.command.Command.{Command}
 use Rattle.pr_script.specs.declared.script.Test.{Test}

@@ -1,4 +1,3 @@
-use Rattle.std.proofs.Common.{sym, ◌∙◌}
 use Rattle.pr_text.proofs.Drafts.{position_of}
 use Rattle.pr_text.proofs.builder.Builder.position_of.Goals as goal
 
