@@ -2,7 +2,7 @@
 use Rattle.std.proofs.Common.{◌≡◌, ℕ, Bool, true, false, ◌==◌, ◌&&◌, not, if◌then◌else◌, Option, Some, None, is_some, refl, sym, ◌∙◌}
 use Rattle.std.specs.FinSet as set
 use Rattle.std.specs.FinMap as map
-use Rattle.std.proofs.lemmas.Bool.{false≢true}
+use Rattle.std.proofs.lemmas.Bool.{and_parts, false≢true}
 use Rattle.pr_cdb.specs.declared.command.Kind.{Kind}
 use Rattle.pr_cdb.specs.declared.command.Command.{Command}
 use Rattle.pr_cdb.specs.declared.command.Command.TheVariants.{TestUnitReady, RequestSense, Read, Write, ReadKeys, ReadReservation, ReportCapabilities, Register, RegisterIgnore, Reserve, Release, Clear, Preempt, PreemptAbort}
@@ -22,22 +22,14 @@ pub record TellsRegistrants (u : State) (c : Change) : Type 0 where
   pub told_04 : AreRegistered u c.told_04
   pub told_05 : AreRegistered u c.told_05
 
-second : (a b : Bool) → (a && b) ≡ true → b ≡ true
-second true b is = is
-second false b is = absurd (false≢true is)
-
-first : (a b : Bool) → (a && b) ≡ true → a ≡ true
-first true b is = refl
-first false b is = absurd (false≢true is)
-
 AreRegistered-nobody : (u : State) → AreRegistered u nobody
 AreRegistered-nobody u q is = absurd (false≢true (sym (contains-nobody q) ∙ is))
 
 AreRegistered-remove : (u : State) (s : Hosts) (h : ℕ) → AreRegistered u s → AreRegistered u (set.remove s h)
-AreRegistered-remove u s h are q is = are q (second (not (q == h)) (set.contains s q) (sym (contains-remove s h q) ∙ is))
+AreRegistered-remove u s h are q is = are q (and_parts (not (q == h)) (set.contains s q) (sym (contains-remove s h q) ∙ is)).1
 
 AreRegistered-difference : (u : State) (s t : Hosts) → AreRegistered u s → AreRegistered u (set.difference s t)
-AreRegistered-difference u s t are q is = are q (first (set.contains s q) (not (set.contains t q)) (sym (contains-difference s t q) ∙ is))
+AreRegistered-difference u s t are q is = are q (and_parts (set.contains s q) (not (set.contains t q)) (sym (contains-difference s t q) ∙ is)).0
 
 AreRegistered-hosts_in : (u : State) → AreRegistered u (hosts_in u.keys)
 AreRegistered-hosts_in u q is = sym (contains-hosts_in u.keys q) ∙ is

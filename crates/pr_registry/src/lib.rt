@@ -16,3 +16,4 @@ pub use change::Change;
 pub use held::Held;
 pub use host_set::HostSet;
 pub use registry::Registry;
+pub use table::is_all;

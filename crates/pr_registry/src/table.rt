@@ -105,8 +105,9 @@ pub(crate) fn is_kind(old: Kind, new: Kind) -> bool
     old.code() == new.code()
 }
 
-/// Whether types 7 and 8 are meant, under which every registrant holds the reservation.
-pub(crate) fn is_all(kind: Kind) -> bool
+/// Whether the type is 7 or 8, under which every registrant holds the reservation (SPC-4, 'Persistent
+/// reservations').
+pub fn is_all(kind: Kind) -> bool
     ensures { result ≡ is_all kind }
 {
     matches!(

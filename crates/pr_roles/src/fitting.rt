@@ -2,16 +2,16 @@
 
 ghost use Rattle.std.specs.Prelude.{◌≡◌, ◌↔◌, ◌<◌, ◌≤◌, IsTrue, length, map, bytes_eq};
 ghost use Rattle.std.specs.List.{All, list_all, list_any};
-ghost use Rattle.pr_registry.specs.Registrations.{IsKey, is_all};
+ghost use Rattle.pr_registry.specs.Registrations.{IsKey};
 ghost use Rattle.pr_script.specs.Grammar.{is_written};
 ghost use Rattle.pr_roles.specs.Scenarios.{scenario_of, nexus_of, task_of};
-ghost use Rattle.pr_roles.specs.Fitting.{AreDeclared, Fits, are_distinct, is_action, is_role, is_alternative, is_same_alternative, is_start, is_task, is_nexus, is_reservation, is_same_reservation, are_reservations, are_nexuses};
+ghost use Rattle.pr_roles.specs.Fitting.{AreDeclared, Fits, are_distinct, is_action, is_role, is_alternative, is_same_alternative, is_start, is_task, is_nexus, is_reservation, are_reservations, are_nexuses};
 
 use crate::parts::{Nexus, Parts, Start, Task};
 use crate::role::{Action, Clause, Role};
-use crate::uniqueness::are_distinct;
-use pr_cdb::{Command, Kind};
-use pr_registry::Held;
+use crate::uniqueness::{are_distinct, are_held_apart};
+use pr_cdb::Command;
+use pr_registry::{Held, is_all};
 use pr_script::{is_declared, is_name, is_written, is_written_key};
 
 const MOST_NEXUSES: usize = 8;
@@ -62,13 +62,6 @@ fn are_reservations(hosts: usize, reservations: &[Option<Held>]) -> bool
     !reservations.is_empty() && are_all_held(hosts, reservations) && are_held_apart(reservations)
 }
 
-// No two are equal.
-fn are_held_apart(reservations: &[Option<Held>]) -> bool
-    ensures { result ≡ are_distinct is_same_reservation reservations.now }
-{
-    are_distinct(reservations)
-}
-
 fn are_all_held(hosts: usize, reservations: &[Option<Held>]) -> bool
     ensures { result ≡ list_all (is_reservation hosts) reservations.now }
 {
@@ -84,16 +77,6 @@ fn is_reservation(hosts: usize, held: Option<Held>) -> bool
         Some(Held::One(kind, host)) => !is_all(kind) && usize::from(host) < hosts,
         Some(Held::All(kind)) => is_all(kind),
     }
-}
-
-// Types 7 and 8, under which every registrant holds.
-fn is_all(kind: Kind) -> bool
-    ensures { result ≡ is_all kind }
-{
-    matches!(
-        kind,
-        Kind::WriteExclusiveAllRegistrants | Kind::ExclusiveAccessAllRegistrants
-    )
 }
 
 #[tactic(auto, using(crate::proofs::Apart::all_of_parts, crate::proofs::Apart::names_of_parts, crate::proofs::Apart::length_of_parts))]
@@ -154,7 +137,8 @@ fn are_actions(keys: &[u64], clauses: &[Clause]) -> bool
     clauses.iter().all(|clause| is_action(keys, clause.action))
 }
 
-fn is_action(keys: &[u64], action: Action) -> bool
+/// Whether the key that the action names is one of the declared `keys`; a PREEMPT's may also be zero.
+pub fn is_action(keys: &[u64], action: Action) -> bool
     ensures { result ≡ is_action keys.now action }
 {
     match action {
@@ -171,7 +155,8 @@ fn is_start(keys: &[u64], start: &Start) -> bool
     !alternatives.is_empty() && are_alternatives(keys, alternatives) && are_distinct(alternatives)
 }
 
-fn are_alternatives(keys: &[u64], alternatives: &[Option<u64>]) -> bool
+/// Whether each alternative of a start is free (`None`), or one of the declared `keys`.
+pub fn are_alternatives(keys: &[u64], alternatives: &[Option<u64>]) -> bool
     ensures { result ≡ list_all (is_alternative keys.now) alternatives.now }
 {
     alternatives.iter().all(|key| is_alternative(keys, *key))

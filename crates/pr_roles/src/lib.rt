@@ -1,4 +1,6 @@
-//! Roles.
+//! Roles, starts and scenarios as values, and the tests of which parts a text may write.
+//!
+//! A [`Scenario`] has parts that fit and some state to start from, by its type.
 #![tactic(auto)]
 
 mod copying;
@@ -14,8 +16,10 @@ mod tests;
 mod uniqueness;
 
 pub use entry::Entry;
+pub use fitting::{are_alternatives, is_action};
 pub use parts::{Nexus, Parts, Start, Task};
 pub use permitting::permits;
 pub use pr_script::Word;
 pub use role::{Action, Clause, Condition, Role};
 pub use scenario::{Scenario, first_start};
+pub use uniqueness::{are_distinct, are_held_apart};

@@ -1,8 +1,6 @@
 //! What the lines so far declare.
 
 ghost use Rattle.std.specs.Prelude.{◌≡◌, ◌<◌, IfSome, length, position, bytes_eq};
-ghost use Rattle.std.specs.List.{list_all};
-ghost use Rattle.pr_roles.specs.Fitting.{is_alternative, is_action};
 ghost use Rattle.pr_text.specs.Faults.{Gives};
 ghost use Rattle.pr_text.specs.Declaring.{start_fault, script_fault};
 ghost use Rattle.pr_text.specs.Drafts.{draft_seen};
@@ -13,12 +11,12 @@ use crate::fault::{ReadError, Which};
 use crate::item::{Item, Wanted};
 use crate::open_script::{OpenScript, is_spelled};
 use crate::spelling::Spelled;
-use crate::uniqueness::{are_codes_distinct, are_distinct, are_held_apart};
+use crate::uniqueness::are_codes_distinct;
 use pr_attention::Attention;
 use pr_cdb::Command;
 use pr_registry::Held;
-use pr_roles::{Action, Clause, Task, Word};
-use pr_script::{Script, is_declared, is_written_key};
+use pr_roles::{Clause, Task, Word, are_alternatives, are_distinct, are_held_apart, is_action};
+use pr_script::Script;
 use std::alloc::{AllocError, Global};
 use std::mem;
 
@@ -484,31 +482,4 @@ fn planned(
     }
     commands.push(spelled.command)?;
     Ok(commands)
-}
-
-fn are_alternatives(keys: &[u64], alternatives: &[Option<u64>]) -> bool
-    ensures { result ≡ list_all (is_alternative keys.now) alternatives.now }
-{
-    alternatives.iter().all(|key| is_alternative(keys, *key))
-}
-
-// Free, or a declared key.
-fn is_alternative(keys: &[u64], key: Option<u64>) -> bool
-    ensures { result ≡ is_alternative keys.now key }
-{
-    match key {
-        None => true,
-        Some(key) => is_declared(keys, key),
-    }
-}
-
-// The keys that the action names are declared, or zero where that may be.
-fn is_action(keys: &[u64], action: Action) -> bool
-    ensures { result ≡ is_action keys.now action }
-{
-    match action {
-        Action::Register(key) => is_declared(keys, key),
-        Action::Preempt(key, _) => is_written_key(keys, key),
-        _ => true,
-    }
 }

@@ -1,7 +1,6 @@
 //! What one line of a text says.
 
 ghost use Rattle.std.specs.Prelude.{◌≡◌, map, option_map, IfOk};
-ghost use Rattle.pr_registry.specs.Registrations.{is_all};
 ghost use Rattle.pr_text.specs.TextLines.{words};
 ghost use Rattle.pr_text.specs.WordTerms.{key_of, code_of};
 ghost use Rattle.pr_text.specs.Items.{listed, alternative_of, everybody_of, single_of, wanted_of, name_in, only_name, budget_in, fence_said, start_said, pending_said, role_said, script_said, said_simply, said_after, item_of, bare_said, keys_line, reservation_line};
@@ -14,6 +13,7 @@ use crate::spelling::{Spelled, spelled_in, spelled_of};
 use crate::terms::{code_of, count_of, generation_of, key_of, kind_of, name_of};
 use pr_attention::Attention;
 use pr_cdb::Kind;
+use pr_registry::is_all;
 use pr_roles::{Clause, Word};
 use pr_script::Test;
 use std::alloc::{AllocError, Global};
@@ -319,14 +319,4 @@ fn single_of(word: &[u8]) -> Option<Wanted>
     }
     let name = name_of(&word[2..])?;
     Some(Wanted::Single(kind, name))
-}
-
-// Whether all registrants hold a reservation of this type.
-fn is_all(kind: Kind) -> bool
-    ensures { result ≡ is_all kind }
-{
-    matches!(
-        kind,
-        Kind::WriteExclusiveAllRegistrants | Kind::ExclusiveAccessAllRegistrants
-    )
 }

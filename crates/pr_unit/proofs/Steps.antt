@@ -2,7 +2,7 @@
 use Rattle.std.proofs.Common.{◌≡◌, ℕ, ◌<◌, Bool, true, false, ◌==◌, ◌&&◌, not, if◌then◌else◌, Option, Some, None, refl, sym, ◌∙◌, subst}
 use Rattle.std.specs.Prelude.{Ok}
 use Rattle.std.specs.FinSet as set
-use Rattle.std.proofs.lemmas.Bool.{false≢true}
+use Rattle.std.proofs.lemmas.Bool.{and_parts}
 use Rattle.pr_cdb.specs.declared.reply.Sense.{Sense}
 use Rattle.pr_cdb.specs.declared.reply.Reply.{Reply}
 use Rattle.pr_cdb.specs.declared.wire.Request.{Request}
@@ -30,14 +30,10 @@ done_parts false false false (Some sense) is = let bad : AtFault sense ≡ Done 
 pub done_is_free : (u : UnitState) (h : ℕ) (q : Request) → line u h q ≡ Done → (conflicts u.registry h q ≡ false) × (fault u.registry h q ≡ None)
 done_is_free u h q is = done_parts (is_pending u h power_on) (conflicts u.registry h q) (is_any_pending u h) (fault u.registry h q) is
 
-second : (a b : Bool) → (a && b) ≡ true → b ≡ true
-second true b is = is
-second false b is = absurd (false≢true is)
-
 well_formed-reported : (u : UnitState) (h code : ℕ) → IsWellFormed u → IsWellFormed (reported u h code)
 well_formed-reported u h code w = record {
   registry = w.registry;
-  pending = λ q x is. w.pending q x (second (not (q == h && x == code)) (set.contains u.pending (q, x)) (sym (contains-remove-pair u.pending (h, code) (q, x)) ∙ is));
+  pending = λ q x is. w.pending q x (and_parts (not (q == h && x == code)) (set.contains u.pending (q, x)) (sym (contains-remove-pair u.pending (h, code) (q, x)) ∙ is)).1;
 }
 
 pub well_formed-step : (u : UnitState) (h : ℕ) (q : Request) (r : Reply) (v : UnitState) → IsWellFormed u → h < u.registry.hosts → FitsWhereRead (Ok q) → Step u h q r v → IsWellFormed v

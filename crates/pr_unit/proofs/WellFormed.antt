@@ -83,7 +83,7 @@ hosts-after_register u h key = at (key == 0) (is_registered u h)
     at true false = refl
     at false c = refl
 
-hosts-after : (u : State) (h : ℕ) (c : Command) → (after u h c).hosts ≡ u.hosts
+pub hosts-after : (u : State) (h : ℕ) (c : Command) → (after u h c).hosts ≡ u.hosts
 hosts-after u h (Register rk sark) = hosts-after_register u h sark
 hosts-after u h (RegisterIgnore sark) = hosts-after_register u h sark
 hosts-after u h (Reserve rk kind) = refl

@@ -17,32 +17,9 @@ use Rattle.pr_unit.specs.Faults.{fault}
 use Rattle.pr_unit.specs.Replies.{is_good, good, check, conflict, report, data_of}
 use Rattle.pr_unit.specs.Steps.{Step, TakenStep, Executes, line, ends_good}
 use Rattle.pr_unit.proofs.GoodFixed.{good_by_line}
+use Rattle.pr_unit.proofs.WellFormed.{hosts-after}
 
 -- ---- the number of hosts
-
-hosts-after_register : (u : State) (h key : ℕ) → (after_register u h key).hosts ≡ u.hosts
-hosts-after_register u h key = at (key == 0) (is_registered u h)
-  where
-    at : (b c : Bool) → (if b then (if c then unregistered u h else u) else registered u h key).hosts ≡ u.hosts
-    at true true = refl
-    at true false = refl
-    at false c = refl
-
-hosts-after : (u : State) (h : ℕ) (c : Command) → (after u h c).hosts ≡ u.hosts
-hosts-after u h (Register rk sark) = hosts-after_register u h sark
-hosts-after u h (RegisterIgnore sark) = hosts-after_register u h sark
-hosts-after u h (Reserve rk kind) = refl
-hosts-after u h (Release rk kind) = refl
-hosts-after u h (Clear rk) = refl
-hosts-after u h (Preempt rk sark kind) = refl
-hosts-after u h (PreemptAbort rk sark kind) = refl
-hosts-after u h TestUnitReady = refl
-hosts-after u h RequestSense = refl
-hosts-after u h (Read lba blocks) = refl
-hosts-after u h (Write lba blocks) = refl
-hosts-after u h (ReadKeys alloc) = refl
-hosts-after u h (ReadReservation alloc) = refl
-hosts-after u h (ReportCapabilities alloc) = refl
 
 same_hosts : (v w : UnitState) → v ≡ w → v.registry.hosts ≡ w.registry.hosts
 same_hosts v w is = ap (λ x. x.registry.hosts) is

@@ -309,3 +309,11 @@ fn what_a_service_action_asks_of_the_registry(rt: HostRuntime) {
     assert!(rt; all.is_replaced_by(0) && !all.is_replaced_by(0xa1));
     assert!(rt; all.is_held_by_all());
 }
+
+#[test]
+fn types_7_and_8_are_held_by_all(rt: HostRuntime) {
+    assert!(rt; crate::is_all(WriteExclusiveAllRegistrants));
+    assert!(rt; crate::is_all(Kind::ExclusiveAccessAllRegistrants));
+    assert!(rt; !crate::is_all(WriteExclusiveRegistrantsOnly));
+    assert!(rt; !crate::is_all(ExclusiveAccess));
+}

@@ -1,7 +1,9 @@
 //! Which parts fit.
 
 use super::{always, guest, parts, scripted, stop};
-use crate::{Action, Nexus, Parts, Role, Task};
+use crate::{
+    Action, Nexus, Parts, Role, Task, are_alternatives, are_distinct, are_held_apart, is_action,
+};
 use pr_cdb::{Command, Kind};
 use pr_registry::Held;
 use pr_script::Statement;
@@ -154,4 +156,25 @@ fn scripts_with_a_budget_of_1_to_4096(rt: HostRuntime) -> Result<(), Fail> {
     };
     assert!(rt; !fits(alloc, nexus)?);
     Ok(())
+}
+
+#[test]
+fn keys_of_actions_and_alternatives_are_declared(rt: HostRuntime) {
+    let kind = Kind::WriteExclusiveRegistrantsOnly;
+    assert!(rt; is_action(&[0xa1], Action::Register(0xa1)));
+    assert!(rt; !is_action(&[0xa1], Action::Register(0)));
+    assert!(rt; is_action(&[0xa1], Action::Preempt(0, kind)));
+    assert!(rt; !is_action(&[0xa1], Action::Preempt(0xb2, kind)));
+    assert!(rt; are_alternatives(&[0xa1], &[None, Some(0xa1)]));
+    assert!(rt; !are_alternatives(&[0xa1], &[None, Some(0xb2)]));
+}
+
+#[test]
+fn repetition_is_found_at_any_distance(rt: HostRuntime) {
+    let kind = Kind::WriteExclusiveRegistrantsOnly;
+    let (first, second) = (Some(Held::One(kind, 0)), Some(Held::One(kind, 1)));
+    assert!(rt; are_distinct(&[1, 2, 3]));
+    assert!(rt; !are_distinct(&[1, 2, 1]));
+    assert!(rt; are_held_apart(&[None, first, second]));
+    assert!(rt; !are_held_apart(&[first, None, first]));
 }

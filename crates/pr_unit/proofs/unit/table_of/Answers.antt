@@ -1,6 +1,6 @@
 use Rattle.std.proofs.Common.{◌≡◌, ◌<◌, ℕ, zero, suc, Bool, ◌&&◌, nat_lt, true, false, List, [], ◌∷◌, length, refl, sym, ap, ◌∙◌, subst, arith}
 use Rattle.std.specs.FinSet as set
-use Rattle.std.proofs.lemmas.Bool.{false≢true}
+use Rattle.std.proofs.lemmas.Bool.{and_parts, false≢true}
 use Rattle.std.proofs.lemmas.Bool.Decides.{nat_tests}
 use Rattle.pr_attention.specs.Attentions.{Codes, AreAttentions}
 use Rattle.pr_attention.proofs.Sets.{contains-no_code}
@@ -13,14 +13,6 @@ has_place : (table : List Codes) (h code : ℕ) → set.contains (place table h)
 has_place [] h code is = absurd (false≢true (sym (contains-no_code code) ∙ is))
 has_place (codes ∷ table) zero code is = omega arith
 has_place (codes ∷ table) (suc h) code is = let there = has_place table h code is in omega arith
-
-second : (a b : Bool) → (a && b) ≡ true → b ≡ true
-second true b is = is
-second false b is = absurd (false≢true is)
-
-first : (a b : Bool) → (a && b) ≡ true → a ≡ true
-first true b is = refl
-first false b is = is
 
 is_below : (a b : ℕ) → nat_lt a b ≡ true → a < b
 is_below a b is = grind (arith, nat_tests)
@@ -70,6 +62,5 @@ returns-clause-members c = λ host code is.
     let table = c.args.pendings.now in
     let both : (nat_lt host 8 && set.contains (place table host) code) ≡ true =
     sym (contains-table_pairs table host code) ∙ ap (λ s. set.contains s (host, code)) (sym (same_table c)) ∙ is in
-    let at = second (nat_lt host 8) (set.contains (place table host) code) both in
-    let below = is_below host 8 (first (nat_lt host 8) (set.contains (place table host) code) both) in
-    (has_place table host code at, are_attentions c host below code at)
+    let parts = and_parts (nat_lt host 8) (set.contains (place table host) code) both in
+    (has_place table host code parts.1, are_attentions c host (is_below host 8 parts.0) code parts.1)

@@ -1,9 +1,0 @@
-use Rattle.std.proofs.Common.{◌≡◌, length}
-use Rattle.pr_roles.specs.Fitting.{are_distinct}
-use Rattle.pr_text.proofs.uniqueness.are_distinct.Given as goal
-
-abbrev pub invariant-loop-first : goal.invariant-loop-first
-invariant-loop-first g l = are_distinct g.T.PartialEq.eq l.items ≡ are_distinct g.T.PartialEq.eq l.rest
-
-abbrev pub decreases-loop-first : goal.decreases-loop-first
-decreases-loop-first g l = length l.rest
