@@ -1,7 +1,8 @@
 -- A scenario at its first start.
-use Rattle.std.proofs.Common.{◌≡◌, ℕ, zero, suc, ◌<◌, ◌&&◌, ◌==◌, not, Bool, true, false, nat_le, List, [], ◌∷◌, length, Some, refl, sym, ap, ◌∙◌, subst, get_or, arith}
+use Rattle.std.proofs.Common.{◌≡◌, ℕ, zero, suc, ◌<◌, ◌==◌, not, true, nat_le, List, [], ◌∷◌, length, Some, refl, sym, ap, ◌∙◌, subst, get_or, arith}
 use Rattle.std.specs.Prelude.{map, bytes_eq}
 use Rattle.std.specs.List.{list_all}
+use Rattle.std.proofs.lemmas.Bool.{and_parts}
 use Rattle.std.proofs.lemmas.Bool.Decides.{nat_tests}
 use Rattle.pr_script.proofs.Shallow.{shallow}
 use Rattle.pr_roles.specs.declared.parts.Nexus.{Nexus as NexusPart}
@@ -17,32 +18,24 @@ use Rattle.pr_world.specs.Courses.{IsShort, IsBegun, seat_of, seat_from, is_free
 
 -- ---- what fits is short
 
-right : (a b : Bool) → (a && b) ≡ true → b ≡ true
-right true b is = is
-right false b is = let bad : false ≡ true = is in cc
-
-left : (a b : Bool) → (a && b) ≡ true → a ≡ true
-left true b is = refl
-left false b is = is
-
 short_task : (keys : List ℕ) (t : Task) → is_task keys t ≡ true → IsShort t
-short_task keys (Scripted script budget) is = shallow keys script (left _ _ is)
-short_task keys (Planned commands) is = let fits : nat_le (length commands) 256 ≡ true = left _ _ is in grind (arith, nat_tests)
+short_task keys (Scripted script budget) is = shallow keys script (and_parts _ _ is).0
+short_task keys (Planned commands) is = let fits : nat_le (length commands) 256 ≡ true = (and_parts _ _ is).0 in grind (arith, nat_tests)
 
 short_nexus : (keys : List ℕ) (n : Nexus) → is_nexus keys n ≡ true → IsShort n.task
-short_nexus keys n is = short_task keys n.task (right (is_start keys n.start) _ (right (is_role keys n.role) _ (right (is_name n.name) _ is)))
+short_nexus keys n is = short_task keys n.task (and_parts (is_start keys n.start) _ (and_parts (is_role keys n.role) _ (and_parts (is_name n.name) _ is).1).1).1
 
 short_each : (keys : List ℕ) (ns : List NexusPart) (i : ℕ) (d : NexusPart) → list_all (is_nexus keys) (map nexus_of ns) ≡ true → i < length ns → IsShort (task_of (get_or ns i d).task)
 short_each keys [] i d all there = absurd (omega arith)
-short_each keys (n ∷ ns) zero d all there = short_nexus keys (nexus_of n) (left _ _ all)
-short_each keys (n ∷ ns) (suc i) d all there = short_each keys ns i d (right _ _ all) (omega arith)
+short_each keys (n ∷ ns) zero d all there = short_nexus keys (nexus_of n) (and_parts _ _ all).0
+short_each keys (n ∷ ns) (suc i) d all there = short_each keys ns i d (and_parts _ _ all).1 (omega arith)
 
 pub short_part : (p : Parts) (i : ℕ) (d : NexusPart) → Fits (scenario_of p) → i < length p.nexuses.items → IsShort (task_of (get_or p.nexuses.items i d).task)
 unfolding scenario_of
 short_part p i d fits there = short_each p.keys.items p.nexuses.items i d (each p.keys.items (map nexus_of p.nexuses.items) fits.nexuses) there
   where
     each : (keys : List ℕ) (ns : List Nexus) → are_nexuses keys ns ≡ true → list_all (is_nexus keys) ns ≡ true
-    each keys ns is = right (are_distinct bytes_eq (map (λ n. n.name) ns)) _ (right (nat_le (length ns) 8) _ (right (not (length ns == 0)) _ is))
+    each keys ns is = (and_parts (are_distinct bytes_eq (map (λ n. n.name) ns)) _ (and_parts (nat_le (length ns) 8) _ (and_parts (not (length ns == 0)) _ is).1).1).1
 
 pub short_at : (p q : Parts) (ns : List NexusPart) (i : ℕ) (n : NexusPart) → Fits (scenario_of p) → q ≡ p → ns ≡ q.nexuses.items → i < length ns → n ≡ get_or ns i n → IsShort (task_of n.task)
 short_at p q ns i n fits same items there is =

@@ -7,3 +7,4 @@ pub mod Turning
 pub mod Beginning
 pub mod Trapping
 pub mod Running
+pub mod Progressing

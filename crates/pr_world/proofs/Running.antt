@@ -5,52 +5,58 @@ use Rattle.std.specs.List.{range_with_len}
 use Rattle.std.specs.declared.alloc.AllocError.{AllocError}
 use Rattle.std.proofs.Math.ListN.{drop_of_length-le}
 use Rattle.std.proofs.lemmas.List.{length-map}
-use Rattle.pr_roles.specs.Scenarios.{Scenario}
-use Rattle.pr_roles.specs.Worlds.{sent}
+use Rattle.pr_unit.specs.UnitStates.{UnitState}
+use Rattle.pr_roles.specs.Scenarios.{Scenario, scenario_of}
+use Rattle.pr_roles.specs.Worlds.{Run, sent, world_from}
 use Rattle.pr_roles.specs.Schedules.{Schedule, Turn, ScheduledRun}
 use Rattle.pr_roles.specs.declared.entry.Entry.{Entry}
 use Rattle.pr_world.specs.declared.course.Course.{Course}
 use Rattle.pr_world.specs.declared.player.Player.{Player}
 use Rattle.pr_world.specs.declared.replaying.Replayed.{Replayed}
-use Rattle.pr_world.specs.Courses.{seat_of, schedule_of, IsBegun, HasHappened, StandsFor}
+use Rattle.pr_world.specs.Courses.{seat_of, schedule_of, IsBegun}
+use Rattle.pr_world.specs.Progresses.{Played, IsReached}
 use Rattle.pr_world.specs.Ends.{seen, ending, endings}
-use Rattle.pr_world.proofs.Happening.{happened_then}
 use Rattle.pr_world.proofs.Trapping.{trapped_ends}
 use Rattle.pr_world.specs.Replays.{IsEndOf, IsReplayed}
 
+some_same : (u v : UnitState) → Some u ≡ Some v → u ≡ v
+some_same u v is = cc
+
 -- the turns before step i have led here from a start, with room for one entry more at each step
-pub record IsRunning (s : Scenario) (start : Schedule) (steps : List ℕ) (i : ℕ) (c : Course) : Type 0 where
-  pub goes : (y : Schedule) → ScheduledRun s (schedule_of c) (drop i steps) y → ScheduledRun s start steps y
-  pub stands : StandsFor s c.unit (map seat_of c.players.items)
-  pub happened : HasHappened s start.world (schedule_of c).world
-  pub room : vec_capacity c.entries ≡ length steps
-  pub few : vec_len c.entries ≤ i
+pub record IsRunning (s : Scenario) (start : Schedule) (steps : List ℕ) (i : ℕ) (p : Played) : Type 0 where
+  pub scenario : scenario_of p.scenario ≡ s
+  pub goes : (y : Schedule) → ScheduledRun s (schedule_of p.course) (drop i steps) y → ScheduledRun s start steps y
+  pub room : vec_capacity p.course.entries ≡ length steps
+  pub few : vec_len p.course.entries ≤ i
 
-pub running_more : (s : Scenario) (start : Schedule) (steps : List ℕ) (i : ℕ) (c d : Course) → i < length steps → IsRunning s start steps i c
-    → Turn s (schedule_of c) (get_or steps i 0) (schedule_of d) → HasHappened s (schedule_of c).world (schedule_of d).world → StandsFor s d.unit (map seat_of d.players.items)
-    → vec_capacity d.entries ≡ vec_capacity c.entries → vec_len d.entries ≤ vec_len c.entries + 1 → IsRunning s start steps (i + 1) d
-running_more s start steps i c d there running turn happens stands room few = record {
-  goes = λ y rest. running.goes y ((rw (drop-cons steps i 0) (schedule_of d, turn, (rw add-one at rest))));
-  stands = stands;
-  happened = happened_then s start.world (schedule_of c).world (schedule_of d).world running.happened happens;
-  room = room ∙ running.room;
-  few = let before : vec_len c.entries ≤ i = running.few in omega arith;
-}
+pub running_more : (s : Scenario) (start : Schedule) (steps : List ℕ) (i : ℕ) (p q : Played) → i < length steps → IsRunning s start steps i p → q.scenario ≡ p.scenario
+    → Turn (scenario_of p.scenario) (schedule_of p.course) (get_or steps i 0) (schedule_of q.course)
+    → vec_capacity q.course.entries ≡ vec_capacity p.course.entries → vec_len q.course.entries ≤ vec_len p.course.entries + 1 → IsRunning s start steps (i + 1) q
+running_more s start steps i p q there running same turn room few =
+    let turn : Turn s (schedule_of p.course) (get_or steps i 0) (schedule_of q.course) =
+    subst (λ t. Turn t (schedule_of p.course) (get_or steps i 0) (schedule_of q.course)) running.scenario turn in
+    record {
+      scenario = ap scenario_of same ∙ running.scenario;
+      goes = λ y rest. running.goes y ((rw (drop-cons steps i 0) (schedule_of q.course, turn, (rw add-one at rest))));
+      room = room ∙ running.room;
+      few = let before : vec_len p.course.entries ≤ i = running.few in omega arith;
+    }
 
-pub replayed : (s : Scenario) (steps : List ℕ) (i : ℕ) (b c : Course) (r : Result Replayed AllocError) → IsBegun s b → IsRunning s (schedule_of b) steps i c → length steps ≤ i
-    → IfOk r (IsEndOf (schedule_of c)) → IfOk r (IsReplayed s steps)
-replayed s steps i b c (Ok r) begun running done outcome =
-    let all = subst (λ x. HasHappened s x.world (schedule_of c).world) begun.schedule running.happened in
+pub replayed : (s : Scenario) (steps : List ℕ) (i : ℕ) (b : Course) (p : Played) (r : Result Replayed AllocError) → IsBegun s b → IsRunning s (schedule_of b) steps i p → length steps ≤ i
+    → IsReached (scenario_of p.scenario) p.course → IfOk r (IsEndOf (schedule_of p.course)) → IfOk r (IsReplayed s steps)
+replayed s steps i b p (Ok r) begun running done reached outcome =
+    let here : IsReached s p.course = subst (λ t. IsReached t p.course) running.scenario reached in
+    let same : here.start ≡ begun.start = some_same _ _ (sym here.first ∙ begun.first) in
     record {
       start = begun.start;
       first = begun.first;
-      last = schedule_of c;
-      run = subst (λ x. ScheduledRun s x steps (schedule_of c)) begun.schedule (running.goes (schedule_of c) (rw (drop_of_length-le steps {i = i} done) refl));
+      last = schedule_of p.course;
+      run = subst (λ x. ScheduledRun s x steps (schedule_of p.course)) begun.schedule (running.goes (schedule_of p.course) (rw (drop_of_length-le steps {i = i} done) refl));
       outcome = outcome;
-      events = all.events;
-      reached = all.run;
+      events = here.events;
+      reached = subst (λ u. Run s (world_from s u) here.events (schedule_of p.course).world) same here.run;
     }
-replayed s steps i b c (Err e) begun running done outcome = outcome
+replayed s steps i b p (Err e) begun running done reached outcome = outcome
 
 -- ---- how they stand
 

@@ -4,7 +4,7 @@ use Rattle.std.specs.List.{list_any, range_with_len}
 use Rattle.pr_unit.specs.UnitStates.{UnitState}
 use Rattle.pr_roles.specs.Scenarios.{Scenario}
 use Rattle.pr_roles.specs.Starts.{first_state}
-use Rattle.pr_roles.specs.Worlds.{World, Event, Run, is_trapped, sent, world_from}
+use Rattle.pr_roles.specs.Worlds.{Event, Run, is_trapped, sent, world_from}
 use Rattle.pr_roles.specs.Schedules.{Schedule, ScheduledRun, schedule_from}
 use Rattle.pr_world.specs.declared.replaying.Replayed.{Replayed}
 use Rattle.pr_world.specs.Ends.{seen, endings, is_trapped_end}

@@ -5,6 +5,7 @@ mod course;
 mod end;
 mod plan;
 mod player;
+mod progress;
 mod replaying;
 
 pub use end::End;

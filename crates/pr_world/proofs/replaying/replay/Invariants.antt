@@ -5,4 +5,4 @@ use Rattle.pr_world.proofs.replaying.replay.Given as goal
 
 -- the turns so far
 abbrev pub invariant-loop-host : goal.invariant-loop-host
-invariant-loop-host l = IsRunning (scenario_of l.scenario) (schedule_of l.initial.course) l.steps l.host-index l.course
+invariant-loop-host l = IsRunning (scenario_of l.scenario) (schedule_of l.initial.progress.course) l.steps l.host-index l.progress
