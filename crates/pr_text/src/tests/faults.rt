@@ -158,6 +158,11 @@ fn ends_and_bytes(rt: HostRuntime) -> Result<(), Fail> {
         fault_behind(alloc, SCRIPT, begun)?,
         Some(ReadError::Unclosed { line: 8 })
     );
+    let unclosed = b"fence 1\nkeys a1\nhost a\nscript a budget 1\nsend test-unit-ready\non good\n";
+    assert_eq!(rt;
+        fault_of(alloc, unclosed),
+        Some(ReadError::Unclosed { line: 6 })
+    );
     assert_eq!(rt;
         fault_behind(alloc, BEGUN, "plan b")?,
         Some(ReadError::Unclosed { line: 5 })
