@@ -14,7 +14,8 @@ pub fn scripts_have_no_fault()
     ensures { ScriptsHaveNoFault }
 {}
 
-/// The lines that a scenario is written as have no fault, if its parts fit and it can start.
+/// What the lines of a scenario say has no fault, if its parts fit, it can start, and what may be pending are
+/// attentions.
 pub fn scenarios_have_no_fault()
     ensures { ScenariosHaveNoFault }
 {}

@@ -27,8 +27,8 @@ const MOST_LINE_BYTES: usize = 256;
 
 /// The scenario that the text is which `reader` has left, or the text's one fault.
 ///
-/// It asks for at most 65,537 bytes, and asks nothing again after an error. No fault is one too many: the lines
-/// that a scenario is written as have none. A text is written as one scenario at most.
+/// It asks for at most 65,537 bytes, and asks nothing again after an error. What the lines of a scenario say has
+/// no fault, and a text is written as one scenario at most.
 pub fn read<R: Read>(alloc: Global, reader: &mut R) -> Result<Scenario, ReadError>
     ensures read { IfSome (R.remaining reader.old) (λ text. IsRead text result) }
     ensures limited { LosesUpTo 65537 (R.remaining reader.old) (R.remaining reader.new) }
