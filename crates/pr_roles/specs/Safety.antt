@@ -28,7 +28,7 @@ KeepsBudgetBy (Some (Planned commands)) w h = Unit {0}
 
 -- From every allowed start and under every list of events: no host is trapped, none has sent more commands
 -- than its budget, and each command of a host that ended GOOD is one that its role permits.
-abbrev pub IsSafe : Scenario → Type 0
+unfoldable pub IsSafe : Scenario → Type 0
 IsSafe s =
     (u : UnitState) → IsAllowedStart s u → (es : List Event) (w : World) (run : Run s (world_from s u) es w)
     → ((h : ℕ) → (is_trapped (control w h) ≡ false) × KeepsBudgetBy (task s h) w h) × KeepsRoles s (world_from s u) es w run

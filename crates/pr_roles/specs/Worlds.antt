@@ -1,6 +1,6 @@
 -- A logical unit with the scripts that drive it, and what may happen to them. One event is one command of one
 -- host or guest: it is executed and answered, and a host's script takes the reply.
-use Rattle.std.specs.Prelude.{◌≡◌, ℕ, ◌==◌, Bool, true, false, IsTrue, List, [], ◌∷◌, ◌++◌, Option, Some, None, map, slice_set, Ok}
+use Rattle.std.specs.Prelude.{◌≡◌, ℕ, ◌≤◌, ◌==◌, Bool, true, false, IsTrue, List, [], ◌∷◌, ◌++◌, length, Option, Some, None, map, slice_set, Ok}
 use Rattle.std.specs.List.{slice_get, count_by}
 use Rattle.std.specs.Option.{option_map_or}
 use Rattle.pr_cdb.specs.declared.command.Command.{Command}
@@ -88,10 +88,12 @@ is_guest_task (Some (Planned commands)) = true
 abbrev pub is_guest : Scenario → ℕ → Bool
 is_guest s g = is_guest_task (task s g)
 
--- Any bytes that are a request may come from a guest at any time; where they end GOOD, its role permits that.
+-- Any bytes that are a request may come from a guest at any time, as many as a wire holds; where they end GOOD,
+-- its role permits that.
 pub record GuestSends (s : Scenario) (w : World) (g : ℕ) (wire : Wire) (v : World) : Type 0 where
   pub guest : IsTrue (is_guest s g)
   pub bytes : AreBytes wire.cdb.items × AreBytes wire.params.items
+  pub lengths : (length wire.cdb.items ≤ 16) × (length wire.params.items ≤ 24)
   pub request : Request
   pub read : requested wire ≡ Ok request
   pub reply : Reply

@@ -14,7 +14,7 @@ use Rattle.pr_roles.specs.Starts.{IsAllowedStart, first_state}
 use Rattle.pr_roles.specs.Worlds.{control_of}
 use Rattle.pr_roles.specs.Schedules.{plan_of}
 use Rattle.pr_world.specs.declared.course.Course.{Course}
-use Rattle.pr_world.specs.Courses.{IsShort, IsBegun, seat_of, seat_from, is_free, is_planned}
+use Rattle.pr_world.specs.Courses.{IsShort, IsReached, seat_of, seat_from, is_free, is_planned}
 
 -- ---- what fits is short
 
@@ -61,13 +61,16 @@ tasks_from : (ns : List Nexus) → map (λ x. is_free x.control) (map (λ n. sea
 tasks_from [] = refl
 tasks_from (n ∷ ns) = λ i. free_from n.task i ∷ tasks_from ns i
 
-pub begun : (s : Scenario) (c : Course) → Some c.unit ≡ first_state s → IsAllowedStart s c.unit → map seat_of c.players.items ≡ map (λ n. seat_from n.task) s.nexuses → c.entries.items ≡ [] → IsBegun s c
-begun s c first allowed seats none = record {
-  start = c.unit;
-  first = sym first;
-  schedule =
-      let controls = ap (map (λ x. x.control)) seats ∙ controls_from s.nexuses in
-      let plans = ap (map (λ x. x.plan)) seats ∙ plans_from s.nexuses in
-      λ i. record { world = record { unit = c.unit; controls = controls i; entries = none i }; plans = plans i };
-  stands = record { hosts = allowed.hosts; tasks = ap (map (λ x. is_free x.control)) seats ∙ tasks_from s.nexuses };
-}
+pub begun : (s : Scenario) (c : Course) → Some c.unit ≡ first_state s → IsAllowedStart s c.unit → map seat_of c.players.items ≡ map (λ n. seat_from n.task) s.nexuses → c.entries.items ≡ [] → IsReached s [] c
+begun s c first allowed seats none =
+    let controls = ap (map (λ x. x.control)) seats ∙ controls_from s.nexuses in
+    let plans = ap (map (λ x. x.plan)) seats ∙ plans_from s.nexuses in
+    record {
+      start = c.unit;
+      first = sym first;
+      allowed = allowed;
+      scheduled = λ i. record { world = record { unit = c.unit; controls = controls i; entries = none i }; plans = plans i };
+      events = [];
+      run = λ i. record { unit = c.unit; controls = controls i; entries = none i };
+      stands = record { hosts = allowed.hosts; tasks = ap (map (λ x. is_free x.control)) seats ∙ tasks_from s.nexuses };
+    }

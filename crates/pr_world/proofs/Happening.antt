@@ -1,4 +1,4 @@
--- Events that lead from one world to another, and those of a turn.
+-- The event that a turn is, if it sends.
 use Rattle.std.proofs.Common.{◌≡◌, ℕ, ◌<◌, Bool, true, false, ◌&&◌, not, List, [], ◌∷◌, ◌++◌, length, get_or, Option, Some, None, refl, sym, ap, ◌∙◌, subst}
 use Rattle.std.specs.Option.{option_map_or, option_to_list}
 use Rattle.pr_cdb.specs.declared.command.Command.{Command}
@@ -12,46 +12,38 @@ use Rattle.pr_roles.specs.declared.entry.Entry.{Entry}
 use Rattle.pr_roles.specs.Scenarios.{Scenario, Task, Scripted, Planned, role}
 use Rattle.pr_roles.specs.Worlds.{World, Control, Going, Trapped, Free, Event, Host, Guest, Happens, Run, is_guest, is_guest_task, standing_of, taken}
 use Rattle.pr_roles.specs.Schedules.{is_held_back}
-use Rattle.pr_world.specs.Courses.{HasHappened, Seat, StandsFor, is_free, is_planned, seat}
+use Rattle.pr_world.specs.Courses.{HappensBy, Seat, StandsFor, is_free, is_planned, seat}
 use Rattle.pr_world.specs.Turns.{Acts, ActsAs, GuestActs, HostActs, SendsOr}
-use Rattle.pr_world.proofs.Spelled.{are_bytes}
+use Rattle.pr_world.proofs.Spelled.{are_bytes, are_short}
 use Rattle.pr_world.proofs.Seats.{at_seat, control_at, has_task, rests, with_seat, world_after, world_by}
-
-run_then : (s : Scenario) (w v x : World) (es fs : List Event) → Run s w es v → Run s v fs x → Run s w (es ++ fs) x
-run_then s w v x [] fs first rest = subst (λ u. Run s u fs x) first rest
-run_then s w v x (e ∷ es) fs first rest = (first.0, first.1, run_then s first.0 v x es fs first.2 rest)
-
-pub happened_then : (s : Scenario) (w v x : World) → HasHappened s w v → HasHappened s v x → HasHappened s w x
-happened_then s w v x first rest = record { events = first.events ++ rest.events; run = run_then s w v x first.events rest.events first.run rest.run }
-
-pub nothing_happened : (s : Scenario) (w v : World) → v ≡ w → HasHappened s w v
-nothing_happened s w v same = record { events = []; run = same }
-
-pub one_happened : (s : Scenario) (w v : World) (e : Event) → Happens s w e v → HasHappened s w v
-one_happened s w v e happens = record { events = e ∷ []; run = (v, happens, refl) }
 
 -- ---- hosts
 
 hosts_happen : (s : Scenario) (o : Option Standing) (u v : UnitState) (xs : List Seat) (es : List Entry) (h : ℕ) (e : Option Entry) (x y : Seat) → h < length xs → get_or xs h x ≡ x
-    → o ≡ standing_of x.control → HostActs o h x u e y v → HasHappened s (world_by u xs es) (world_by v (with_seat xs h y) (es ++ option_to_list e))
+    → o ≡ standing_of x.control → HostActs o h x u e y v → HappensBy s h e (world_by u xs es) (world_by v (with_seat xs h y) (es ++ option_to_list e))
 hosts_happen s (Some (ready at c)) u v xs es h (Some e) x y there seated is acts =
     let here = at_seat xs h x there seated in
-    one_happened s _ _ (Host h) (record {
-      line = at;
-      command = c;
-      ready = ap standing_of (control_at u xs es h x here) ∙ sym is;
-      reply = e.reply;
-      unit = v;
-      step = acts.0.step.step;
-      world = world_after u v xs es h at c e x y here acts.0 (ap (λ t. t.control) acts.1);
-    })
+    record {
+      event = Host h;
+      happens = record {
+        line = at;
+        command = c;
+        ready = ap standing_of (control_at u xs es h x here) ∙ sym is;
+        reply = e.reply;
+        unit = v;
+        step = acts.0.sent.step;
+        world = world_after u v xs es h at c e x y here acts.0.sent (ap (λ t. t.control) acts.1);
+      };
+      sender = ap (λ f. f.host) acts.0.sent.entry;
+      added = refl;
+    }
 hosts_happen s (Some (ready at c)) u v xs es h None x y there seated is acts = absurd acts
 hosts_happen s (Some (stopped w)) u v xs es h (Some e) x y there seated is acts = absurd acts
 hosts_happen s (Some (stopped w)) u v xs es h None x y there seated is acts =
-    nothing_happened s _ _ (rests u v xs es h x y seated (ap (λ t. t.control) acts.0) acts.1)
+    (rests u v xs es h x y seated (ap (λ t. t.control) acts.0) acts.1)
 hosts_happen s None u v xs es h (Some e) x y there seated is acts = absurd acts
 hosts_happen s None u v xs es h None x y there seated is acts =
-    nothing_happened s _ _ (rests u v xs es h x y seated (ap (λ t. t.control) acts.0) acts.1)
+    (rests u v xs es h x y seated (ap (λ t. t.control) acts.0) acts.1)
 
 -- ---- guests
 
@@ -62,30 +54,36 @@ permitted_if_good false permitted held is = let bad : false ≡ true = is in cc
 
 guest_sends : (s : Scenario) (b : Bool) (u v : UnitState) (xs : List Seat) (es : List Entry) (h : ℕ) (c : Command) (e : Option Entry) (x y : Seat) → h < length xs → get_or xs h x ≡ x
     → is_guest s h ≡ true → x.control ≡ Free → y.control ≡ Free → is_held_back (role s h) u h c ≡ b → SendsOr b h u c e v
-    → HasHappened s (world_by u xs es) (world_by v (with_seat xs h y) (es ++ option_to_list e))
+    → HappensBy s h e (world_by u xs es) (world_by v (with_seat xs h y) (es ++ option_to_list e))
 guest_sends s true u v xs es h c (Some e) x y there seated guest free still held acts = absurd acts
 guest_sends s true u v xs es h c None x y there seated guest free still held acts =
-    nothing_happened s _ _ (rests u v xs es h x y seated (still ∙ sym free) acts)
+    (rests u v xs es h x y seated (still ∙ sym free) acts)
 guest_sends s false u v xs es h c None x y there seated guest free still held acts = absurd acts
 guest_sends s false u v xs es h c (Some e) x y there seated guest free still held acts =
-    let wire : e.wire ≡ spelling c = ap (λ f. f.wire) acts.entry in
-    one_happened s _ _ (Guest h (spelling c)) (record {
-      guest = guest;
-      bytes = are_bytes c;
-      request = Plain c;
-      read = subst (λ w. requested w ≡ plain c) wire acts.read;
-      reply = e.reply;
-      unit = v;
-      step = acts.step.step;
-      permitted = λ good. permitted_if_good _ _ held (sym (good_by_line u h (Plain c) e.reply v acts.step.step) ∙ good);
-      world = world_after u v xs es h 0 c e x y (at_seat xs h x there seated) acts (still ∙ ap (λ k. taken 0 k e.reply) (sym free));
-    })
+    let wire : e.wire ≡ spelling c = ap (λ f. f.wire) acts.sent.entry in
+    record {
+      event = Guest h (spelling c);
+      happens = record {
+        guest = guest;
+        bytes = are_bytes c;
+        lengths = are_short c;
+        request = Plain c;
+        read = subst (λ w. requested w ≡ plain c) wire acts.sent.read;
+        reply = e.reply;
+        unit = v;
+        step = acts.sent.step;
+        permitted = λ good. permitted_if_good _ _ held (sym (good_by_line u h (Plain c) e.reply v acts.sent.step) ∙ good);
+        world = world_after u v xs es h 0 c e x y (at_seat xs h x there seated) acts.sent (still ∙ ap (λ k. taken 0 k e.reply) (sym free));
+      };
+      sender = ap (λ f. f.host) acts.sent.entry;
+      added = refl;
+    }
 
 guests_happen : (s : Scenario) (planned : List Command) (u v : UnitState) (xs : List Seat) (es : List Entry) (h : ℕ) (e : Option Entry) (x y : Seat) → h < length xs → get_or xs h x ≡ x
-    → is_guest s h ≡ true → x.control ≡ Free → GuestActs (role s h) h planned u e y v → HasHappened s (world_by u xs es) (world_by v (with_seat xs h y) (es ++ option_to_list e))
+    → is_guest s h ≡ true → x.control ≡ Free → GuestActs (role s h) h planned u e y v → HappensBy s h e (world_by u xs es) (world_by v (with_seat xs h y) (es ++ option_to_list e))
 guests_happen s [] u v xs es h (Some e) x y there seated guest free acts = absurd acts
 guests_happen s [] u v xs es h None x y there seated guest free acts =
-    nothing_happened s _ _ (rests u v xs es h x y seated (ap (λ t. t.control) acts.0 ∙ sym free) acts.1)
+    (rests u v xs es h x y seated (ap (λ t. t.control) acts.0 ∙ sym free) acts.1)
 guests_happen s (c ∷ cs) u v xs es h e x y there seated guest free acts =
     guest_sends s (is_held_back (role s h) u h c) u v xs es h c e x y there seated guest free (ap (λ t. t.control) acts.1) refl acts.0
 
@@ -93,7 +91,7 @@ guests_happen s (c ∷ cs) u v xs es h e x y there seated guest free acts =
 
 acts_happen : (s : Scenario) (k : Control) (p : List Command) (u v : UnitState) (xs : List Seat) (es : List Entry) (h : ℕ) (e : Option Entry) (y : Seat) → h < length xs
     → get_or xs h (seat k p) ≡ seat k p → (is_free k ≡ true → is_guest s h ≡ true) → ActsAs k (role s h) h (seat k p) u e y v
-    → HasHappened s (world_by u xs es) (world_by v (with_seat xs h y) (es ++ option_to_list e))
+    → HappensBy s h e (world_by u xs es) (world_by v (with_seat xs h y) (es ++ option_to_list e))
 acts_happen s (Going l) p u v xs es h e y there seated guest acts = hosts_happen s (standing_of (Going l)) u v xs es h e (seat (Going l) p) y there seated refl acts
 acts_happen s (Trapped at) p u v xs es h e y there seated guest acts = hosts_happen s None u v xs es h e (seat (Trapped at) p) y there seated refl acts
 acts_happen s Free p u v xs es h e y there seated guest acts = guests_happen s p u v xs es h e (seat Free p) y there seated (guest refl) refl acts
@@ -103,7 +101,7 @@ guest_task (Scripted script budget) is = is
 guest_task (Planned commands) is = refl
 
 pub happens_at_seat : (s : Scenario) (u v : UnitState) (xs : List Seat) (es : List Entry) (h : ℕ) (e : Option Entry) (x y : Seat) → StandsFor s u xs → h < length xs
-    → get_or xs h x ≡ x → Acts (role s h) h x u e y v → HasHappened s (world_by u xs es) (world_by v (with_seat xs h y) (es ++ option_to_list e))
+    → get_or xs h x ≡ x → Acts (role s h) h x u e y v → HappensBy s h e (world_by u xs es) (world_by v (with_seat xs h y) (es ++ option_to_list e))
 happens_at_seat s u v xs es h e x y stands there seated acts =
     let has = has_task s u xs h x stands (at_seat xs h x there seated) in
     let guest = λ (free : is_free x.control ≡ true). ap (λ o. is_guest_task (option_map_or (λ n. Some n.task) o None)) has.is ∙ guest_task has.nexus.task (has.planned ∙ free) in

@@ -1,5 +1,4 @@
 pub mod Steps
-pub mod Acting
 pub mod Spelled
 pub mod Seats
 pub mod Happening
@@ -7,4 +6,4 @@ pub mod Turning
 pub mod Beginning
 pub mod Trapping
 pub mod Running
-pub mod Progressing
+pub mod SafeReplays

@@ -1,62 +1,82 @@
 -- Turns one after another, and what they come to.
-use Rattle.std.proofs.Common.{◌≡◌, ℕ, ◌+◌, ◌<◌, ◌≤◌, List, [], ◌∷◌, length, Some, Result, Ok, Err, refl, sym, ap, ◌∙◌, subst, drop, get_or, drop-cons, add-one, arith}
+use Rattle.std.proofs.Common.{◌≡◌, ℕ, ◌+◌, ◌<◌, ◌≤◌, List, [], ◌∷◌, ◌++◌, length, take, Option, Some, None, Result, Ok, Err, refl, sym, ap, ◌∙◌, subst, get_or, arith}
 use Rattle.std.specs.Prelude.{map, vec_len, vec_capacity, IfOk}
 use Rattle.std.specs.List.{range_with_len}
 use Rattle.std.specs.declared.alloc.AllocError.{AllocError}
-use Rattle.std.proofs.Math.ListN.{drop_of_length-le}
-use Rattle.std.proofs.lemmas.List.{length-map}
-use Rattle.pr_unit.specs.UnitStates.{UnitState}
-use Rattle.pr_roles.specs.Scenarios.{Scenario, scenario_of}
-use Rattle.pr_roles.specs.Worlds.{Run, sent, world_from}
+use Rattle.std.proofs.lemmas.List.{length-map, take_all, take_more}
+use Rattle.pr_roles.specs.Scenarios.{Scenario}
+use Rattle.pr_roles.specs.Worlds.{World, Event, Happens, Run, sent, world_from}
 use Rattle.pr_roles.specs.Schedules.{Schedule, Turn, ScheduledRun}
 use Rattle.pr_roles.specs.declared.entry.Entry.{Entry}
 use Rattle.pr_world.specs.declared.course.Course.{Course}
 use Rattle.pr_world.specs.declared.player.Player.{Player}
 use Rattle.pr_world.specs.declared.replaying.Replayed.{Replayed}
-use Rattle.pr_world.specs.Courses.{seat_of, schedule_of, IsBegun}
-use Rattle.pr_world.specs.Progresses.{Played, IsReached}
+use Rattle.pr_world.specs.Courses.{seat_of, schedule_of, HappensBy, IsReached, StandsFor}
 use Rattle.pr_world.specs.Ends.{seen, ending, endings}
 use Rattle.pr_world.proofs.Trapping.{trapped_ends}
 use Rattle.pr_world.specs.Replays.{IsEndOf, IsReplayed}
 
-some_same : (u v : UnitState) → Some u ≡ Some v → u ≡ v
-some_same u v is = cc
+-- ---- one turn more
 
--- the turns before step i have led here from a start, with room for one entry more at each step
-pub record IsRunning (s : Scenario) (start : Schedule) (steps : List ℕ) (i : ℕ) (p : Played) : Type 0 where
-  pub scenario : scenario_of p.scenario ≡ s
-  pub goes : (y : Schedule) → ScheduledRun s (schedule_of p.course) (drop i steps) y → ScheduledRun s start steps y
-  pub room : vec_capacity p.course.entries ≡ length steps
-  pub few : vec_len p.course.entries ≤ i
+scheduled_then : (s : Scenario) (x y z : Schedule) (hs : List ℕ) (h : ℕ) → ScheduledRun s x hs y → Turn s y h z → ScheduledRun s x (hs ++ h ∷ []) z
+scheduled_then s x y z [] h run turn = (z, subst (λ w. Turn s w h z) run turn, refl)
+scheduled_then s x y z (g ∷ hs) h run turn = (run.0, run.1, scheduled_then s run.0 y z hs h run.2 turn)
 
-pub running_more : (s : Scenario) (start : Schedule) (steps : List ℕ) (i : ℕ) (p q : Played) → i < length steps → IsRunning s start steps i p → q.scenario ≡ p.scenario
-    → Turn (scenario_of p.scenario) (schedule_of p.course) (get_or steps i 0) (schedule_of q.course)
-    → vec_capacity q.course.entries ≡ vec_capacity p.course.entries → vec_len q.course.entries ≤ vec_len p.course.entries + 1 → IsRunning s start steps (i + 1) q
-running_more s start steps i p q there running same turn room few =
-    let turn : Turn s (schedule_of p.course) (get_or steps i 0) (schedule_of q.course) =
-    subst (λ t. Turn t (schedule_of p.course) (get_or steps i 0) (schedule_of q.course)) running.scenario turn in
+run_then : (s : Scenario) (w v x : World) (es : List Event) (e : Event) → Run s w es v → Happens s v e x → Run s w (es ++ e ∷ []) x
+run_then s w v x [] e run happens = (x, subst (λ u. Happens s u e x) run happens, refl)
+run_then s w v x (f ∷ fs) e run happens = (run.0, run.1, run_then s run.0 v x fs e run.2 happens)
+
+pub reached_more : (s : Scenario) (steps : List ℕ) (c d : Course) (h : ℕ) (o : Option Entry) → Turn s (schedule_of c) h (schedule_of d)
+    → HappensBy s h o (schedule_of c).world (schedule_of d).world → StandsFor s d.unit (map seat_of d.players.items) → IsReached s steps c → IsReached s (steps ++ h ∷ []) d
+reached_more s steps c d h None turn same stands reached = record {
+  start = reached.start;
+  first = reached.first;
+  allowed = reached.allowed;
+  scheduled = scheduled_then s _ _ _ steps h reached.scheduled turn;
+  events = reached.events;
+  run = subst (λ w. Run s (world_from s reached.start) reached.events w) (sym same) reached.run;
+  stands = stands;
+}
+reached_more s steps c d h (Some e) turn one stands reached = record {
+  start = reached.start;
+  first = reached.first;
+  allowed = reached.allowed;
+  scheduled = scheduled_then s _ _ _ steps h reached.scheduled turn;
+  events = reached.events ++ one.event ∷ [];
+  run = run_then s _ _ _ reached.events one.event reached.run one.happens;
+  stands = stands;
+}
+
+-- the turns before step i have led here, with room for one entry more at each step
+pub record IsRunning (s : Scenario) (steps : List ℕ) (i : ℕ) (c : Course) : Type 0 where
+  pub reached : IsReached s (take i steps) c
+  pub room : vec_capacity c.entries ≡ length steps
+  pub few : vec_len c.entries ≤ i
+
+pub running_more : (s : Scenario) (steps : List ℕ) (i : ℕ) (c d : Course) → i < length steps → IsRunning s steps i c
+    → ((hs : List ℕ) → IsReached s hs c → IsReached s (hs ++ get_or steps i 0 ∷ []) d)
+    → vec_capacity d.entries ≡ vec_capacity c.entries → vec_len d.entries ≤ vec_len c.entries + 1 → IsRunning s steps (i + 1) d
+running_more s steps i c d there running more room few = record {
+  reached = subst (λ hs. IsReached s hs d) (sym (take_more steps i 0 there)) (more (take i steps) running.reached);
+  room = room ∙ running.room;
+  few = let before : vec_len c.entries ≤ i = running.few in omega arith;
+}
+
+pub replayed : (s : Scenario) (steps : List ℕ) (i : ℕ) (c : Course) (r : Result Replayed AllocError) → IsRunning s steps i c → length steps ≤ i
+    → IfOk r (IsEndOf (schedule_of c)) → IfOk r (IsReplayed s steps)
+replayed s steps i c (Ok r) running done outcome =
+    let here : IsReached s steps c = subst (λ hs. IsReached s hs c) (take_all i steps done) running.reached in
     record {
-      scenario = ap scenario_of same ∙ running.scenario;
-      goes = λ y rest. running.goes y ((rw (drop-cons steps i 0) (schedule_of q.course, turn, (rw add-one at rest))));
-      room = room ∙ running.room;
-      few = let before : vec_len p.course.entries ≤ i = running.few in omega arith;
-    }
-
-pub replayed : (s : Scenario) (steps : List ℕ) (i : ℕ) (b : Course) (p : Played) (r : Result Replayed AllocError) → IsBegun s b → IsRunning s (schedule_of b) steps i p → length steps ≤ i
-    → IsReached (scenario_of p.scenario) p.course → IfOk r (IsEndOf (schedule_of p.course)) → IfOk r (IsReplayed s steps)
-replayed s steps i b p (Ok r) begun running done reached outcome =
-    let here : IsReached s p.course = subst (λ t. IsReached t p.course) running.scenario reached in
-    let same : here.start ≡ begun.start = some_same _ _ (sym here.first ∙ begun.first) in
-    record {
-      start = begun.start;
-      first = begun.first;
-      last = schedule_of p.course;
-      run = subst (λ x. ScheduledRun s x steps (schedule_of p.course)) begun.schedule (running.goes (schedule_of p.course) (rw (drop_of_length-le steps {i = i} done) refl));
+      start = here.start;
+      first = here.first;
+      allowed = here.allowed;
+      last = schedule_of c;
+      run = here.scheduled;
       outcome = outcome;
       events = here.events;
-      reached = subst (λ u. Run s (world_from s u) here.events (schedule_of p.course).world) same here.run;
+      reached = here.run;
     }
-replayed s steps i b p (Err e) begun running done reached outcome = outcome
+replayed s steps i c (Err e) running done outcome = outcome
 
 -- ---- how they stand
 

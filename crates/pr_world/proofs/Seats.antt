@@ -13,7 +13,7 @@ use Rattle.pr_roles.specs.declared.entry.Entry.{Entry}
 use Rattle.pr_roles.specs.Scenarios.{Scenario, Nexus}
 use Rattle.pr_roles.specs.Worlds.{World, Free, taken, control, after}
 use Rattle.pr_roles.specs.Schedules.{plan, Sends}
-use Rattle.pr_world.specs.Courses.{Seat, schedule_by, IsSent, StandsFor, is_free, is_planned}
+use Rattle.pr_world.specs.Courses.{Seat, schedule_by, IsSent, IsSentHere, StandsFor, is_free, is_planned}
 
 -- ---- a seat among the seats
 
@@ -47,12 +47,12 @@ world_after u v xs es h line c e x y at sent takes =
     λ i. record { unit = v; controls = controls i; entries = es ++ sent.entry i ∷ [] }
 
 pub sends : (u v : UnitState) (xs : List Seat) (es : List Entry) (h line : ℕ) (c : Command) (e : Entry) (x y : Seat) → slice_get xs h ≡ Some x
-    → IsSent u h c e v → y.control ≡ taken line x.control e.reply → Sends (world_by u xs es) h line c (world_by v (with_seat xs h y) (es ++ e ∷ []))
+    → IsSentHere u h c e v → y.control ≡ taken line x.control e.reply → Sends (world_by u xs es) h line c (world_by v (with_seat xs h y) (es ++ e ∷ []))
 sends u v xs es h line c e x y at sent takes = record {
   reply = e.reply;
   unit = v;
-  step = sent.step;
-  world = world_after u v xs es h line c e x y at sent takes;
+  step = record { step = sent.sent.step; lowest = sent.lowest };
+  world = world_after u v xs es h line c e x y at sent.sent takes;
 }
 
 -- ---- the task at a seat

@@ -1,5 +1,5 @@
--- What a command is spelled as are bytes.
-use Rattle.std.proofs.Common.{◌≡◌, ℕ, zero, suc, ◌/◌, ◌%◌, ◌^◌, ◌<◌, ◌&&◌, nat_lt, Bool, true, false, ◌++◌, List, [], ◌∷◌, Option, Some, None, refl, arith}
+-- What a command is spelled as are bytes, as many as a wire holds.
+use Rattle.std.proofs.Common.{◌≡◌, ℕ, zero, suc, ◌/◌, ◌%◌, ◌^◌, ◌<◌, ◌≤◌, ◌&&◌, nat_lt, Bool, true, false, ◌++◌, List, [], ◌∷◌, length, Option, Some, None, refl, arith}
 use Rattle.std.specs.List.{list_all}
 use Rattle.std.proofs.lemmas.Bool.Decides.{nat_tests}
 use Rattle.std.specs.Int.{w16, w32, w64, byte_at, bytes_high_first, to_be_bytes}
@@ -90,3 +90,20 @@ are_bytes (Clear rk) = told 0x03 0 rk 0 (omega arith) (omega arith)
 are_bytes (Preempt rk sark kind) = told 0x04 (kind_byte kind) rk sark (omega arith) (kind_small kind)
 are_bytes (PreemptAbort rk sark kind) = told 0x05 (kind_byte kind) rk sark (omega arith) (kind_small kind)
 are_bytes (RegisterIgnore sark) = told 0x06 0 0 sark (omega arith) (omega arith)
+
+pub are_short : (c : Command) → (length (spelling c).cdb.items ≤ 16) × (length (spelling c).params.items ≤ 24)
+unfolding spelling
+are_short TestUnitReady = (omega arith, omega arith)
+are_short RequestSense = (omega arith, omega arith)
+are_short (Read lba blocks) = (omega arith, omega arith)
+are_short (Write lba blocks) = (omega arith, omega arith)
+are_short (ReadKeys alloc) = (omega arith, omega arith)
+are_short (ReadReservation alloc) = (omega arith, omega arith)
+are_short (ReportCapabilities alloc) = (omega arith, omega arith)
+are_short (Register rk sark) = (omega arith, omega arith)
+are_short (Reserve rk kind) = (omega arith, omega arith)
+are_short (Release rk kind) = (omega arith, omega arith)
+are_short (Clear rk) = (omega arith, omega arith)
+are_short (Preempt rk sark kind) = (omega arith, omega arith)
+are_short (PreemptAbort rk sark kind) = (omega arith, omega arith)
+are_short (RegisterIgnore sark) = (omega arith, omega arith)

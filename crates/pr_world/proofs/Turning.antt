@@ -19,10 +19,12 @@ use Rattle.pr_roles.specs.Scenarios.{Scenario, Task, Scripted, Planned, nexus, r
 use Rattle.pr_roles.specs.Worlds.{Control, Going, Trapped, Free, standing_of, going_or_trapped, taken}
 use Rattle.pr_roles.specs.Schedules.{HostTurn, SendsUnless, GuestTurn, TurnBy, Turn, is_held_back}
 use Rattle.pr_world.specs.declared.player.Player.{Player}
-use Rattle.pr_world.specs.Courses.{Seat, seat, seat_of, schedule_by, StandsFor, HasHappened, is_free, is_planned}
+use Rattle.pr_world.specs.Courses.{Seat, seat, seat_of, schedule_by, StandsFor, HappensBy, is_free, is_planned}
 use Rattle.pr_world.proofs.Seats.{at_seat, control_at, has_task, plan_at, rests, sends, with_seat, world_by}
 use Rattle.pr_world.proofs.Happening.{happens_at_seat}
-use Rattle.pr_world.specs.Turns.{Acts, ActsAs, GuestActs, HostActs, SendsOr}
+use Rattle.pr_world.specs.declared.act.Act.{Act}
+use Rattle.pr_world.specs.declared.act.Act.TheVariants as act
+use Rattle.pr_world.specs.Turns.{Acts, ActsAs, GuestActs, HostActs, SendsOr, Doing, sends as sending, seen, entry_in, does, does_as}
 
 -- ---- hosts
 
@@ -119,9 +121,9 @@ free_kept clauses h Free p u e y v acts = free_guest clauses h p u e y v acts
 -- ---- players
 
 -- after the turn of one among these players
-pub record IsTurned (s : Scenario) (u : UnitState) (ps : List Player) (es : List Entry) (h : ℕ) (v : UnitState) (qs : List Player) (fs : List Entry) : Type 0 where
+pub record IsTurned (s : Scenario) (u : UnitState) (ps : List Player) (es : List Entry) (h : ℕ) (e : Option Entry) (v : UnitState) (qs : List Player) (fs : List Entry) : Type 0 where
   pub turn : Turn s (schedule_by u (map seat_of ps) es) h (schedule_by v (map seat_of qs) fs)
-  pub happens : HasHappened s (world_by u (map seat_of ps) es) (world_by v (map seat_of qs) fs)
+  pub happens : HappensBy s h e (world_by u (map seat_of ps) es) (world_by v (map seat_of qs) fs)
   pub stands : StandsFor s v (map seat_of qs)
 
 length-tasks : (s : Scenario) (u : UnitState) (xs : List Seat) → StandsFor s u xs → length xs ≡ length s.nexuses
@@ -131,7 +133,8 @@ pub length-players : (s : Scenario) (u : UnitState) (ps : List Player) → Stand
 length-players s u ps stands = sym (length-map ps seat_of) ∙ length-tasks s u (map seat_of ps) stands
 
 turned : (s : Scenario) (u v : UnitState) (ps : List Player) (es : List Entry) (h : ℕ) (e : Option Entry) (p q : Player) → StandsFor s u (map seat_of ps) → h < length s.nexuses
-    → get_or ps h p ≡ p → Acts (role s h) h (seat_of p) u e (seat_of q) v → v.registry.hosts ≡ u.registry.hosts → IsTurned s u ps es h v (slice_set ps h q) (es ++ option_to_list e)
+    → get_or ps h p ≡ p → Acts (role s h) h (seat_of p) u e (seat_of q) v → v.registry.hosts ≡ u.registry.hosts
+    → IsTurned s u ps es h e v (slice_set ps h q) (es ++ option_to_list e)
 turned s u v ps es h e p q stands there at acts hosts =
     let xs = map seat_of ps in
     let among : h < length xs = rw (length-tasks s u xs stands) there in
@@ -141,7 +144,7 @@ turned s u v ps es h e p q stands there at acts hosts =
     record {
       turn = subst (λ ys. Turn s (schedule_by u xs es) h (schedule_by v ys (es ++ option_to_list e))) (sym seats)
           (turn_of_seats s u v xs es h e (seat_of p) (seat_of q) stands among seated acts);
-      happens = subst (λ ys. HasHappened s (world_by u xs es) (world_by v ys (es ++ option_to_list e))) (sym seats) (happens_at_seat s u v xs es h e (seat_of p) (seat_of q) stands among seated acts);
+      happens = subst (λ ys. HappensBy s h e (world_by u xs es) (world_by v ys (es ++ option_to_list e))) (sym seats) (happens_at_seat s u v xs es h e (seat_of p) (seat_of q) stands among seated acts);
       stands = record {
         hosts = hosts ∙ stands.hosts;
         tasks = ap (map (λ x. is_free x.control)) seats
@@ -165,12 +168,12 @@ length-parts p = length-map p.nexuses.items nexus_of
 pub turn_made : (p q : Parts) (u v : UnitState) (ps : List Player) (es fs : List Entry) (h i : ℕ) (e : Option Entry) (n : NexusPart) (x y : Player)
     → StandsFor (scenario_of p) u (map seat_of ps) → h < length (scenario_of p).nexuses → q ≡ p → i ≡ h → n ≡ get_or q.nexuses.items i n → x ≡ get_or ps i x
     → Acts n.role.clauses.items h (seat_of x) u e (seat_of y) v → v.registry.hosts ≡ u.registry.hosts → fs ≡ es ++ option_to_list e
-    → IsTurned (scenario_of p) u ps es h v (slice_set ps i y) fs
+    → IsTurned (scenario_of p) u ps es h e v (slice_set ps i y) fs
 turn_made p q u v ps es fs h i e n x y stands there same at nexus seat acts hosts added =
     let named = nexus ∙ (ap (λ r. get_or r.nexuses.items i n) same ∙ ap (λ j. get_or p.nexuses.items j n) at) in
     let acting = subst (λ clauses. Acts clauses h (seat_of x) u e (seat_of y) v) (role_at p h n there named) acts in
-    subst (λ j. IsTurned (scenario_of p) u ps es h v (slice_set ps j y) fs) (sym at)
-    (subst (λ gs. IsTurned (scenario_of p) u ps es h v (slice_set ps h y) gs) (sym added)
+    subst (λ j. IsTurned (scenario_of p) u ps es h e v (slice_set ps j y) fs) (sym at)
+    (subst (λ gs. IsTurned (scenario_of p) u ps es h e v (slice_set ps h y) gs) (sym added)
     (turned (scenario_of p) u v ps es h e x y stands there (sym (seat ∙ ap (λ j. get_or ps j x) at)) acting hosts))
 
 pub nexus_within : (p q : Parts) (h i : ℕ) → h < length (scenario_of p).nexuses → q ≡ p → i ≡ h → i < vec_len q.nexuses
@@ -186,8 +189,30 @@ player_within s u ps h i stands there at =
     let len = ps.ok.0 in
     omega arith
 
-pub nothing_added : (es : List Entry) (e : Option Entry) → e ≡ None → es ≡ es ++ option_to_list e
-nothing_added es e none = sym (append-nil es) ∙ ap (λ o. es ++ option_to_list o) (sym none)
+pub nothing_added : (es : List Entry) (e : Option Entry) → None ≡ e → es ≡ es ++ option_to_list e
+nothing_added es e none = sym (append-nil es) ∙ ap (λ o. es ++ option_to_list o) none
 
-pub entry_added : (es fs : List Entry) (x : Entry) (e : Option Entry) → fs ≡ es ++ x ∷ [] → e ≡ Some x → fs ≡ es ++ option_to_list e
-entry_added es fs x e added is = added ∙ ap (λ o. es ++ option_to_list o) (sym is)
+pub entry_added : (es fs : List Entry) (x : Entry) (e : Option Entry) → fs ≡ es ++ x ∷ [] → Some x ≡ e → fs ≡ es ++ option_to_list e
+entry_added es fs x e added is = added ∙ ap (λ o. es ++ option_to_list o) is
+
+-- a turn that sends an entry is one that sends
+pub sends_entry : (a : Act) (e : Entry) → Some e ≡ entry_in a → seen a ≡ sending
+sends_entry (act.Sent x) e is = refl
+sends_entry (act.Stopped word) e is = let bad : Some e ≡ None = is in cc
+sends_entry act.Trapped e is = let bad : Some e ≡ None = is in cc
+sends_entry act.Finished e is = let bad : Some e ≡ None = is in cc
+sends_entry act.Held e is = let bad : Some e ≡ None = is in cc
+
+-- what h would do is found at its seat, before its turn
+pub doing_at : (p q : Parts) (u : UnitState) (ps : List Player) (es : List Entry) (h i : ℕ) (d : Doing) (n : NexusPart) (x : Player)
+    → StandsFor (scenario_of p) u (map seat_of ps) → h < length (scenario_of p).nexuses → q ≡ p → i ≡ h → n ≡ get_or q.nexuses.items i n → x ≡ get_or ps i x
+    → d ≡ does_as (seat_of x).control n.role.clauses.items u h (seat_of x).plan → d ≡ does (scenario_of p) (schedule_by u (map seat_of ps) es) h
+doing_at p q u ps es h i d n x stands there same at nexus seat does_so =
+    let s = scenario_of p in
+    let xs = map seat_of ps in
+    let among : h < length xs = rw (length-tasks s u xs stands) there in
+    let seated : get_or xs h (seat_of x) ≡ seat_of x = get_or-map seat_of ps h x ∙ ap seat_of (sym (seat ∙ ap (λ j. get_or ps j x) at)) in
+    let found = at_seat xs h (seat_of x) among seated in
+    let named = nexus ∙ (ap (λ r. get_or r.nexuses.items i n) same ∙ ap (λ j. get_or p.nexuses.items j n) at) in
+    subst (λ clauses. d ≡ does_as (seat_of x).control clauses u h (seat_of x).plan) (role_at p h n there named) does_so
+    ∙ sym (λ i. does_as (control_at u xs es h (seat_of x) found i) (role s h) u h (plan_at u xs es h (seat_of x) found i))

@@ -1,17 +1,17 @@
--- What a course is seen as: a world, and what is left of each guest's plan.
-use Rattle.std.specs.Prelude.{◌≡◌, ℕ, ◌≤◌, Bool, true, false, List, [], Some, length, map}
+-- A scenario at work: a world, and what is left of each guest's plan.
+use Rattle.std.specs.Prelude.{◌≡◌, ℕ, ◌≤◌, Bool, true, false, List, [], ◌∷◌, ◌++◌, Option, Some, None, length, map}
 use Rattle.pr_cdb.specs.declared.command.Command.{Command}
 use Rattle.pr_cdb.specs.declared.wire.Request.TheVariants.{Plain}
 use Rattle.pr_cdb.specs.Requests.{plain, requested}
 use Rattle.pr_cdb.specs.Spelling.{spelling}
 use Rattle.pr_unit.specs.UnitStates.{UnitState}
-use Rattle.pr_unit.specs.Steps.{TakenStep}
+use Rattle.pr_unit.specs.Steps.{Step, LowestBy, line}
 use Rattle.pr_script.specs.Depths.{depth_of_all}
 use Rattle.pr_roles.specs.declared.entry.Entry.{Entry}
 use Rattle.pr_roles.specs.Scenarios.{Scenario, Task, Scripted, Planned}
-use Rattle.pr_roles.specs.Worlds.{World, Event, Run, Control, Going, Trapped, Free, control_of, entry_of}
-use Rattle.pr_roles.specs.Starts.{first_state}
-use Rattle.pr_roles.specs.Schedules.{Schedule, schedule_from, plan_of}
+use Rattle.pr_roles.specs.Worlds.{World, Event, Happens, Run, Control, Going, Trapped, Free, control_of, entry_of, world_from}
+use Rattle.pr_roles.specs.Starts.{IsAllowedStart, first_state}
+use Rattle.pr_roles.specs.Schedules.{Schedule, ScheduledRun, schedule_from, plan_of}
 use Rattle.pr_world.specs.declared.course.Course.{Course}
 use Rattle.pr_world.specs.declared.player.Player.{Player}
 use Rattle.pr_world.specs.declared.player.Player.TheVariants as player
@@ -44,11 +44,17 @@ schedule_by unit seats entries = record {
   plans = map (λ s. s.plan) seats;
 }
 
--- the command of h was spelled, executed and answered; what was spelled is read as the command
+-- The command of h was spelled, executed and answered, by whichever of the attentions that may be reported; what was
+-- spelled is read as the command.
 pub record IsSent (u : UnitState) (h : ℕ) (c : Command) (e : Entry) (v : UnitState) : Type 0 where
-  pub step : TakenStep u h (Plain c) e.reply v
+  pub step : Step u h (Plain c) e.reply v
   pub entry : e ≡ entry_of h (spelling c) e.reply
   pub read : requested e.wire ≡ plain c
+
+-- the same by this unit, which reports the lowest code where it may choose
+pub record IsSentHere (u : UnitState) (h : ℕ) (c : Command) (e : Entry) (v : UnitState) : Type 0 where
+  pub sent : IsSent u h c e v
+  pub lowest : LowestBy (line u h (Plain c)) u h (Plain c) e.reply
 
 abbrev pub is_free : Control → Bool
 is_free (Going l) = false
@@ -59,10 +65,17 @@ abbrev pub is_planned : Task → Bool
 is_planned (Scripted script budget) = false
 is_planned (Planned commands) = true
 
--- some events lead from one world to the other
-pub record HasHappened (s : Scenario) (w v : World) : Type 0 where
-  pub events : List Event
-  pub run : Run s w events v
+-- One event, the command of h, leads from one world to the other. The entry of h stands last in the history.
+pub record IsOneEvent (s : Scenario) (h : ℕ) (e : Entry) (w v : World) : Type 0 where
+  pub event : Event
+  pub happens : Happens s w event v
+  pub sender : e.host ≡ h
+  pub added : v.entries ≡ w.entries ++ e ∷ []
+
+-- where an entry was sent, that is one event; else the world is as it was
+abbrev pub HappensBy : Scenario → ℕ → Option Entry → World → World → Type 0
+HappensBy s h None w v = v ≡ w
+HappensBy s h (Some e) w v = IsOneEvent s h e w v
 
 -- there is one host or guest for each that the scenario declares, and just the guests have plans
 pub record StandsFor (s : Scenario) (u : UnitState) (seats : List Seat) : Type 0 where
@@ -72,9 +85,13 @@ pub record StandsFor (s : Scenario) (u : UnitState) (seats : List Seat) : Type 0
 abbrev pub schedule_of : Course → Schedule
 schedule_of c = schedule_by c.unit (map seat_of c.players.items) c.entries.items
 
--- the scenario at its first start, before any turn
-pub record IsBegun (s : Scenario) (c : Course) : Type 0 where
+-- The turns of these steps led here from the first start, which the scenario allows. The history is that of a run,
+-- which leads from that start to the present world. There is one host or guest for each that the scenario declares.
+pub record IsReached (s : Scenario) (steps : List ℕ) (c : Course) : Type 0 where
   pub start : UnitState
   pub first : first_state s ≡ Some start
-  pub schedule : schedule_of c ≡ schedule_from s start
+  pub allowed : IsAllowedStart s start
+  pub scheduled : ScheduledRun s (schedule_from s start) steps (schedule_of c)
+  pub events : List Event
+  pub run : Run s (world_from s start) events (schedule_of c).world
   pub stands : StandsFor s c.unit (map seat_of c.players.items)

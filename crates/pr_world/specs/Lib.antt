@@ -2,4 +2,4 @@ pub mod Ends
 pub mod Courses
 pub mod Turns
 pub mod Replays
-pub mod Progresses
+pub mod Laws

@@ -3,7 +3,7 @@ use Rattle.std.specs.Prelude.{◌≡◌, ℕ, List, Some, length, map}
 use Rattle.std.specs.List.{list_any, range_with_len}
 use Rattle.pr_unit.specs.UnitStates.{UnitState}
 use Rattle.pr_roles.specs.Scenarios.{Scenario}
-use Rattle.pr_roles.specs.Starts.{first_state}
+use Rattle.pr_roles.specs.Starts.{IsAllowedStart, first_state}
 use Rattle.pr_roles.specs.Worlds.{Event, Run, is_trapped, sent, world_from}
 use Rattle.pr_roles.specs.Schedules.{Schedule, ScheduledRun, schedule_from}
 use Rattle.pr_world.specs.declared.replaying.Replayed.{Replayed}
@@ -22,11 +22,12 @@ pub record IsEndOf (y : Schedule) (r : Replayed) : Type 0 where
   pub counts : r.counts.items ≡ counts_in y
   pub trapped : list_any is_trapped_end r.ends.items ≡ list_any is_trapped y.world.controls
 
--- The scheduled run of these steps from the first start came to this. A run of the scenario leads from that start
--- to the same world, so that what holds of every run holds of it.
+-- The scheduled run of these steps from the first start, which the scenario allows, came to this. A run of the
+-- scenario leads from that start to the same world, so that what holds of every run holds of it.
 pub record IsReplayed (s : Scenario) (steps : List ℕ) (r : Replayed) : Type 0 where
   pub start : UnitState
   pub first : first_state s ≡ Some start
+  pub allowed : IsAllowedStart s start
   pub last : Schedule
   pub run : ScheduledRun s (schedule_from s start) steps last
   pub outcome : IsEndOf last r

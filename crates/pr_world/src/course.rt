@@ -1,14 +1,16 @@
 //! A scenario at work: its unit, its hosts and guests, and what was sent so far.
 
-ghost use Rattle.std.specs.Prelude.{◌≡◌, ◌<◌, ◌≤◌, ◌+◌, ◌^◌, Some, length, map, IfOk, vec_len, vec_capacity};
+ghost use Rattle.std.specs.Prelude.{◌≡◌, ◌<◌, ◌≤◌, ◌+◌, ◌^◌, ℕ, List, [], ◌∷◌, ◌++◌, Some, length, map, IfOk, vec_len, vec_capacity};
 ghost use Rattle.std.specs.List.{range_with_len};
 ghost use Rattle.pr_roles.specs.Scenarios.{scenario_of};
 ghost use Rattle.pr_roles.specs.Schedules.{Turn};
 ghost use Rattle.pr_roles.specs.Worlds.{sent};
-ghost use Rattle.pr_world.specs.Courses.{seat_of, seat_from, schedule_of, HasHappened, IsBegun, StandsFor};
+ghost use Rattle.pr_world.specs.Courses.{seat_of, seat_from, schedule_of, HappensBy, IsReached, StandsFor};
+ghost use Rattle.pr_world.specs.Turns.{seen as act_seen, sends, does, entry_in};
 ghost use Rattle.pr_world.specs.Ends.{seen, ending};
 ghost use Rattle.pr_world.specs.Replays.{IsEndOf};
 
+use crate::act::Act;
 use crate::end::End;
 use crate::player::Player;
 use crate::replaying::Replayed;
@@ -31,7 +33,7 @@ impl Course {
         scenario: &Scenario,
         room: usize,
     ) -> Result<Course, AllocError>
-        ensures begun { IfOk result (λ course. IsBegun (scenario_of scenario.now) course) }
+        ensures reached { IfOk result (IsReached (scenario_of scenario.now) []) }
         ensures room { IfOk result (λ course.
             (vec_len course.entries ≡ 0) × (vec_capacity course.entries ≡ room)) }
     {
@@ -42,15 +44,20 @@ impl Course {
         })
     }
 
-    /// The turn of this host or guest. It takes no memory.
-    pub(crate) fn turn(&mut self, scenario: &Scenario, host: u8)
+    /// The turn of this host or guest. It takes no memory, and room for an entry only where it sends.
+    pub(crate) fn turn(&mut self, scenario: &Scenario, host: u8) -> Act
         requires there { host < length (scenario_of scenario.now).nexuses }
         requires stands { StandsFor (scenario_of scenario.now) self.old.unit
             (map seat_of self.old.players.items) }
-        requires room { vec_len self.old.entries < vec_capacity self.old.entries }
+        requires room { does (scenario_of scenario.now) (schedule_of self.old) host ≡ sends
+            → vec_len self.old.entries < vec_capacity self.old.entries }
+        ensures does { act_seen result
+            ≡ does (scenario_of scenario.now) (schedule_of self.old) host }
         ensures turn { Turn (scenario_of scenario.now) (schedule_of self.old) host (schedule_of self.new) }
-        ensures happens { HasHappened (scenario_of scenario.now)
+        ensures happens { HappensBy (scenario_of scenario.now) host (entry_in result)
             (schedule_of self.old).world (schedule_of self.new).world }
+        ensures reached { (steps : List ℕ) → IsReached (scenario_of scenario.now) steps self.old
+            → IsReached (scenario_of scenario.now) (steps ++ host ∷ []) self.new }
         ensures stands { StandsFor (scenario_of scenario.now) self.new.unit
             (map seat_of self.new.players.items) }
         ensures length { vec_len self.new.entries ≤ vec_len self.old.entries + 1 }
@@ -58,9 +65,11 @@ impl Course {
     {
         let index = usize::from(host);
         let role = &scenario.parts().nexuses[index].role;
-        if let Some(entry) = self.players[index].act(&mut self.unit, role, host) {
-            self.entries.push_reserved(entry);
+        let act = self.players[index].act(&mut self.unit, role, host);
+        if let Some(entry) = act.entry() {
+            self.entries.push_reserved(entry.copy());
         }
+        act
     }
 
     /// What it came to.

@@ -1,16 +1,18 @@
 //! Scenarios at work: the logical unit, and the scripts and plans that drive it, one turn after another.
 #![tactic(auto)]
 
+mod act;
 mod course;
 mod end;
+mod laws;
 mod plan;
 mod player;
-mod progress;
 mod replaying;
 
 pub use end::End;
+pub use laws::{
+    replays_are_legal, safe_replays_end_untrapped, safe_replays_keep_budgets,
+    safe_replays_keep_roles,
+};
 pub use pr_roles::Entry;
 pub use replaying::{Replayed, replay};
-
-#[cfg(test)]
-mod tests;

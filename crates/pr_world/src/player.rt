@@ -2,11 +2,12 @@
 
 ghost use Rattle.std.specs.Prelude.{◌≡◌, ◌<◌, Some, IfOk};
 ghost use Rattle.pr_roles.specs.Scenarios.{task_of};
-ghost use Rattle.pr_world.specs.Courses.{seat_of, seat_from, IsShort, IsSent};
+ghost use Rattle.pr_world.specs.Courses.{seat_of, seat_from, IsShort, IsSentHere};
 ghost use Rattle.pr_world.specs.Ends.{ending, seen};
 ghost use Rattle.pr_roles.specs.Schedules.{is_held_back};
-ghost use Rattle.pr_world.specs.Turns.{Acts};
+ghost use Rattle.pr_world.specs.Turns.{Acts, entry_in, seen as act_seen, does_as};
 
+use crate::act::Act;
 use crate::end::End;
 use crate::plan::Plan;
 use pr_cdb::{Command, encode};
@@ -40,31 +41,36 @@ impl Player {
         }
     }
 
-    /// Takes its turn, and answers its command, if it sends one.
-    pub(crate) fn act(&mut self, unit: &mut Unit, role: &Role, host: u8) -> Option<Entry>
+    /// Takes its turn, and answers what it did.
+    pub(crate) fn act(&mut self, unit: &mut Unit, role: &Role, host: u8) -> Act
         requires { host < unit.old.registry.hosts }
+        ensures does { act_seen result ≡ does_as (seat_of self.old).control
+            role.now.clauses.items unit.old host (seat_of self.old).plan }
         ensures acts { Acts role.now.clauses.items host
-            (seat_of self.old) unit.old result (seat_of self.new) unit.new }
+            (seat_of self.old) unit.old (entry_in result) (seat_of self.new) unit.new }
         ensures hosts { unit.new.registry.hosts ≡ unit.old.registry.hosts }
     {
         match self {
             Player::Host(machine) => {
-                let Next::Send { line, command } = machine.next() else {
-                    return None;
+                let (line, command) = match machine.next() {
+                    Next::Send { line, command } => (line, command),
+                    Next::Stopped(word) => return Act::Stopped(word),
                 };
                 let entry = sent(unit, host, command);
                 if machine.take(&entry.reply).is_err() {
                     *self = Player::Trapped(line);
                 }
-                Some(entry)
+                Act::Sent(entry)
             }
-            Player::Trapped(_) => None,
+            Player::Trapped(_) => Act::Trapped,
             Player::Guest(plan) => {
-                let command = plan.next()?;
+                let Some(command) = plan.next() else {
+                    return Act::Finished;
+                };
                 if is_held_back(unit, role, host, command) {
-                    return None;
+                    return Act::Held;
                 }
-                Some(sent(unit, host, command))
+                Act::Sent(sent(unit, host, command))
             }
         }
     }
@@ -95,7 +101,7 @@ fn is_held_back(unit: &Unit, role: &Role, host: u8, command: Command) -> bool
 // The command goes to the unit, and comes back with its reply.
 fn sent(unit: &mut Unit, host: u8, command: Command) -> Entry
     requires { host < unit.old.registry.hosts }
-    ensures sent { IsSent unit.old host command result unit.new }
+    ensures sent { IsSentHere unit.old host command result unit.new }
     ensures hosts { unit.new.registry.hosts ≡ unit.old.registry.hosts }
 {
     let wire = encode(&command);

@@ -6,8 +6,8 @@ ghost use Rattle.pr_roles.specs.Scenarios.{scenario_of};
 ghost use Rattle.pr_world.specs.Ends.{is_trapped_end};
 ghost use Rattle.pr_world.specs.Replays.{IsReplayed};
 
+use crate::course::Course;
 use crate::end::End;
-use crate::progress::Progress;
 use pr_roles::{Entry, Scenario};
 use pr_unit::Unit;
 use std::alloc::{AllocError, Global};
@@ -47,9 +47,9 @@ pub fn replay(alloc: Global, scenario: &Scenario, steps: &[u8]) -> Result<Replay
     requires few { length steps.now < 2 ^ 32 }
     ensures { IfOk result (IsReplayed (scenario_of scenario.now) steps.now) }
 {
-    let mut progress = Progress::begin(alloc, scenario, steps.len())?;
+    let mut course = Course::begin(alloc, scenario, steps.len())?;
     for host in steps {
-        progress.turn(*host);
+        course.turn(scenario, *host);
     }
-    progress.outcome(alloc)
+    course.outcome(alloc)
 }

@@ -1,0 +1,5 @@
+use Rattle.pr_world.proofs.SafeReplays.{safe_untrapped}
+use Rattle.pr_world.proofs.laws.safe_replays_end_untrapped.Goals as goal
+
+pub returns : goal.returns
+returns c = safe_untrapped

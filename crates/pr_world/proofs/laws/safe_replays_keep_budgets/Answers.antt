@@ -1,0 +1,5 @@
+use Rattle.pr_world.proofs.SafeReplays.{safe_budgets}
+use Rattle.pr_world.proofs.laws.safe_replays_keep_budgets.Goals as goal
+
+pub returns : goal.returns
+returns c = safe_budgets

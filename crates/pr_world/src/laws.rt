@@ -1,0 +1,23 @@
+//! Laws of replays: what safety and legality, as they are defined, say of each of them.
+
+ghost use Rattle.pr_world.specs.Laws.{ReplaysAreLegal, SafeReplaysEndUntrapped, SafeReplaysKeepBudgets, SafeReplaysKeepRoles};
+
+/// The entries of a replay are a legal history from the first start.
+pub fn replays_are_legal()
+    ensures { ReplaysAreLegal }
+{}
+
+/// In a replay of a safe scenario no script meets a reply without an arm.
+pub fn safe_replays_end_untrapped()
+    ensures { SafeReplaysEndUntrapped }
+{}
+
+/// In a replay of a safe scenario no host sends more commands than its budget.
+pub fn safe_replays_keep_budgets()
+    ensures { SafeReplaysKeepBudgets }
+{}
+
+/// In a replay of a safe scenario each command of a host that ends GOOD is one that its role permits.
+pub fn safe_replays_keep_roles()
+    ensures { SafeReplaysKeepRoles }
+{}
