@@ -10,7 +10,7 @@ use Rattle.pr_cdb.specs.Kinds.{code_of}
 use Rattle.pr_registry.specs.declared.held.Held.{Held}
 use Rattle.pr_registry.specs.declared.held.Held.TheVariants.{One, All}
 use Rattle.pr_registry.specs.declared.change.Change.{Change}
-use Rattle.pr_registry.specs.Hosts.{Hosts, Keys, nobody, just, is_key, hosts_in, hosts_with}
+use Rattle.pr_registry.specs.Hosts.{Hosts, Keys, nobody, just, is_key, is_nobodys, hosts_in, hosts_with}
 use Rattle.pr_registry.specs.Registrations.{State, registrants, others, is_holder, holds_alone, is_for_registrants, kind_of}
 
 abbrev pub no_change : Change
@@ -81,6 +81,11 @@ is_replacing ReplacesAll = true
 is_replacing (ReplacesHolder t) = true
 is_replacing RemovesKey = false
 
+-- The key picks out registrations: it is some host's, or zero where all registrants hold. A PREEMPT with
+-- any other key does not end GOOD.
+abbrev pub picks_registrations : Keys → Option Held → ℕ → Bool
+picks_registrations keys held sark = if sark == 0 then is_held_by_all held else not (is_nobodys keys sark)
+
 -- A PREEMPT that replaces a reservation has a type: without one it is at fault.
 abbrev pub HasKindIfReplacing : Option Kind → Case → Type 0
 HasKindIfReplacing kind case = IsTrue (is_replacing case) → IsTrue (is_some kind)
@@ -93,8 +98,10 @@ removed_by_preempt keys h sark RemovesKey = hosts_with keys sark
 
 -- the holder's reservation is replaced by one of another type
 abbrev pub is_new_type : Option Kind → Case → Bool
+is_new_type None case = false
+is_new_type (Some t) ReplacesAll = false
 is_new_type (Some t) (ReplacesHolder s) = not (is_kind s t)
-is_new_type _ _ = false
+is_new_type (Some t) RemovesKey = false
 
 abbrev pub change_on_preempt : State → ℕ → ℕ → Option Kind → Change
 change_on_preempt u h sark kind =

@@ -4,7 +4,7 @@ use Rattle.std.specs.Prelude.{ℕ, ◌+◌, ◌%◌, ◌^◌, ◌==◌, ◌&&◌
 use Rattle.std.specs.FinMap as map
 use Rattle.pr_cdb.specs.declared.command.Kind.{Kind}
 use Rattle.pr_cdb.specs.declared.command.Command.{Command}
-use Rattle.pr_cdb.specs.declared.command.Command.TheVariants.{Register, RegisterIgnore, Reserve, Release, Clear, Preempt, PreemptAbort}
+use Rattle.pr_cdb.specs.declared.command.Command.TheVariants.{TestUnitReady, RequestSense, Read, Write, ReadKeys, ReadReservation, ReportCapabilities, Register, RegisterIgnore, Reserve, Release, Clear, Preempt, PreemptAbort}
 use Rattle.pr_registry.specs.declared.held.Held.{Held}
 use Rattle.pr_registry.specs.declared.held.Held.TheVariants.{One, All}
 use Rattle.pr_registry.specs.declared.change.Change.{Change}
@@ -80,14 +80,27 @@ after u h (Release rk kind) = released u h kind
 after u h (Clear rk) = cleared u
 after u h (Preempt rk sark kind) = preempted u h sark kind
 after u h (PreemptAbort rk sark kind) = preempted u h sark kind
-after u h _ = u
+after u h TestUnitReady = u
+after u h RequestSense = u
+after u h (Read lba blocks) = u
+after u h (Write lba blocks) = u
+after u h (ReadKeys alloc) = u
+after u h (ReadReservation alloc) = u
+after u h (ReportCapabilities alloc) = u
 
 -- whom it removes and tells
 abbrev pub change : State → ℕ → Command → Change
 change u h (Register rk sark) = change_on_register u h sark
 change u h (RegisterIgnore sark) = change_on_register u h sark
+change u h (Reserve rk kind) = no_change
 change u h (Release rk kind) = change_on_release u h kind
 change u h (Clear rk) = change_on_clear u h
 change u h (Preempt rk sark kind) = change_on_preempt u h sark kind
 change u h (PreemptAbort rk sark kind) = change_on_preempt u h sark kind
-change u h _ = no_change
+change u h TestUnitReady = no_change
+change u h RequestSense = no_change
+change u h (Read lba blocks) = no_change
+change u h (Write lba blocks) = no_change
+change u h (ReadKeys alloc) = no_change
+change u h (ReadReservation alloc) = no_change
+change u h (ReportCapabilities alloc) = no_change

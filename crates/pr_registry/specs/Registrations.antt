@@ -5,7 +5,7 @@ use Rattle.std.specs.FinSet as set
 use Rattle.std.specs.FinMap as map
 use Rattle.std.specs.Coded.{Coded, code_by, coded×, coded_ℕ, coded_option}
 use Rattle.pr_cdb.specs.declared.command.Kind.{Kind}
-use Rattle.pr_cdb.specs.declared.command.Kind.TheVariants.{WriteExclusive, ExclusiveAccess, WriteExclusiveAllRegistrants, ExclusiveAccessAllRegistrants}
+use Rattle.pr_cdb.specs.declared.command.Kind.TheVariants.{WriteExclusive, ExclusiveAccess, WriteExclusiveRegistrantsOnly, ExclusiveAccessRegistrantsOnly, WriteExclusiveAllRegistrants, ExclusiveAccessAllRegistrants}
 use Rattle.pr_registry.specs.declared.held.Held.{Held}
 use Rattle.pr_registry.specs.declared.held.Held.TheVariants.{One, All}
 use Rattle.pr_registry.specs.Hosts.{Hosts, Keys, hosts_in, is_empty, map_where}
@@ -38,15 +38,21 @@ others u h = set.remove (registrants u) h
 
 -- types 7 and 8, under which every registrant holds the reservation
 abbrev pub is_all : Kind → Bool
+is_all WriteExclusive = false
+is_all ExclusiveAccess = false
+is_all WriteExclusiveRegistrantsOnly = false
+is_all ExclusiveAccessRegistrantsOnly = false
 is_all WriteExclusiveAllRegistrants = true
 is_all ExclusiveAccessAllRegistrants = true
-is_all _ = false
 
 -- types 5 to 8, under which every registrant has access
 abbrev pub is_for_registrants : Kind → Bool
 is_for_registrants WriteExclusive = false
 is_for_registrants ExclusiveAccess = false
-is_for_registrants _ = true
+is_for_registrants WriteExclusiveRegistrantsOnly = true
+is_for_registrants ExclusiveAccessRegistrantsOnly = true
+is_for_registrants WriteExclusiveAllRegistrants = true
+is_for_registrants ExclusiveAccessAllRegistrants = true
 
 abbrev pub kind_of : Held → Kind
 kind_of (One t g) = t

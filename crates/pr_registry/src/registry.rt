@@ -46,7 +46,7 @@ impl Model for Registry {
 impl Registry {
     ghost use Rattle.pr_registry.specs.Registrations.{IsWellFormed, Holds, fresh, state_from, key_of, is_registered, others, is_holder};
     ghost use Rattle.pr_registry.specs.Hosts.{is_nobodys};
-    ghost use Rattle.pr_registry.specs.Changes.{no_change, is_in_the_way, is_held_as, is_held_by_all, is_released, preempt_case, is_replacing, HasKindIfReplacing, change_on_unregister, change_on_release, change_on_clear, change_on_preempt};
+    ghost use Rattle.pr_registry.specs.Changes.{no_change, is_in_the_way, is_held_as, is_held_by_all, is_released, preempt_case, is_replacing, HasKindIfReplacing, change_on_unregister, change_on_release, change_on_clear, change_on_preempt, picks_registrations};
     ghost use Rattle.pr_registry.specs.Cases.{case_of};
     ghost use Rattle.pr_registry.specs.Effects.{registered, unregistered, reserved, released, cleared, preempted};
 
@@ -258,6 +258,7 @@ impl Registry {
     /// stay are told where a single holder's had another type.
     pub fn preempt(&mut self, host: u8, sark: u64, kind: Option<Kind>) -> Change
         requires there { IsTrue (is_registered self.old host) }
+        requires picks { IsTrue (picks_registrations self.old.keys self.old.held sark) }
         requires typed { HasKindIfReplacing kind (preempt_case self.old.keys self.old.held sark) }
         ensures state { self.new ≡ preempted self.old host sark kind }
         ensures change { result ≡ change_on_preempt self.old host sark kind }

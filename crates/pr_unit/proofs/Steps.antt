@@ -1,5 +1,5 @@
--- A step leaves a well formed state well formed.
-use Rattle.std.proofs.Common.{◌≡◌, ℕ, ◌<◌, Bool, true, false, ◌==◌, ◌&&◌, not, if◌then◌else◌, Option, Some, None, refl, sym, ◌∙◌, subst}
+-- A step leaves a well formed state well formed, and keeps the number of hosts.
+use Rattle.std.proofs.Common.{◌≡◌, ℕ, ◌<◌, Bool, true, false, ◌==◌, ◌&&◌, not, if◌then◌else◌, Option, Some, None, refl, sym, ap, ◌∙◌, subst}
 use Rattle.std.specs.Prelude.{Ok}
 use Rattle.std.specs.FinSet as set
 use Rattle.std.proofs.lemmas.Bool.{and_parts}
@@ -11,13 +11,13 @@ use Rattle.pr_cdb.specs.Requests.{FitsWhereRead}
 use Rattle.pr_unit.specs.declared.line.Line.{Line}
 use Rattle.pr_unit.specs.declared.line.Line.TheVariants.{PowerOn, Conflicting, Attention, AtFault, Done}
 use Rattle.pr_unit.specs.Attentions.{power_on}
-use Rattle.pr_unit.specs.UnitStates.{UnitState, IsWellFormed, is_pending, is_any_pending, reported}
+use Rattle.pr_unit.specs.UnitStates.{UnitState, IsWellFormed, is_pending, is_any_pending, effect, reported}
 use Rattle.pr_unit.specs.Conflicts.{conflicts}
 use Rattle.pr_unit.specs.Faults.{fault}
 use Rattle.pr_unit.specs.Steps.{last_line, line, StepBy, Step}
 use Rattle.pr_unit.specs.Follows.{IsFollowed}
 use Rattle.pr_unit.proofs.Pairs.{contains-remove-pair}
-use Rattle.pr_unit.proofs.WellFormed.{effects_are_well_formed}
+use Rattle.pr_unit.proofs.WellFormed.{effects_are_well_formed, hosts-after}
 
 -- where nothing else decides, there is neither conflict nor fault
 done_parts : (a b c : Bool) (f : Option Sense) → (if a then PowerOn else (if b then Conflicting else (if c then Attention else last_line f))) ≡ Done → (b ≡ false) × (f ≡ None)
@@ -56,3 +56,20 @@ pub well_formed-followed : (u : UnitState) (h : ℕ) (q : Request) (r : Reply) (
     → IsFollowed u h q r follows v → IsWellFormed v
 well_formed-followed u h q r true v w there fits step = well_formed-step u h q r v w there fits step
 well_formed-followed u h q r false v w there fits same = subst IsWellFormed (sym same.0) w
+
+pub hosts-step : (u : UnitState) (h : ℕ) (q : Request) (r : Reply) (v : UnitState) → Step u h q r v → v.registry.hosts ≡ u.registry.hosts
+hosts-step u h q r v step = by_line (line u h q) step
+  where
+    same : (w : UnitState) → v ≡ w → v.registry.hosts ≡ w.registry.hosts
+    same w is = ap (λ (x : UnitState). x.registry.hosts) is
+
+    by_request : (q : Request) → StepBy Done u h q r v → v.registry.hosts ≡ u.registry.hosts
+    by_request (Plain c) step = same (effect u h c) step.1 ∙ hosts-after u.registry h c
+    by_request (Faulty sense) step = absurd step
+
+    by_line : (l : Line) → StepBy l u h q r v → v.registry.hosts ≡ u.registry.hosts
+    by_line PowerOn step = same (reported u h power_on) step.1
+    by_line Conflicting step = same u step.1
+    by_line Attention step = same (reported u h step.code) step.after
+    by_line (AtFault sense) step = same u step.1
+    by_line Done step = by_request q step

@@ -4,7 +4,7 @@ use Rattle.std.specs.Prelude.{ℕ, Bool, false, not, ◌==◌, ◌&&◌, ◌||�
 use Rattle.pr_cdb.specs.declared.command.Kind.{Kind}
 use Rattle.pr_cdb.specs.declared.command.Kind.TheVariants.{WriteExclusive, ExclusiveAccess, WriteExclusiveRegistrantsOnly, ExclusiveAccessRegistrantsOnly, WriteExclusiveAllRegistrants, ExclusiveAccessAllRegistrants}
 use Rattle.pr_cdb.specs.declared.command.Command.{Command}
-use Rattle.pr_cdb.specs.declared.command.Command.TheVariants.{Read, Write, Register, Reserve, Release, Clear, Preempt, PreemptAbort}
+use Rattle.pr_cdb.specs.declared.command.Command.TheVariants.{TestUnitReady, RequestSense, Read, Write, ReadKeys, ReadReservation, ReportCapabilities, Register, RegisterIgnore, Reserve, Release, Clear, Preempt, PreemptAbort}
 use Rattle.pr_cdb.specs.declared.wire.Request.{Request}
 use Rattle.pr_cdb.specs.declared.wire.Request.TheVariants.{Plain, Faulty}
 use Rattle.pr_registry.specs.declared.held.Held.{Held}
@@ -52,17 +52,23 @@ abbrev pub access_conflicts : State → ℕ → Option Held → (Kind → Access
 access_conflicts u h None access = false
 access_conflicts u h (Some v) access = is_shut_out u h (access (kind_of v))
 
--- PERSISTENT RESERVE IN, REQUEST SENSE and TEST UNIT READY never conflict
+-- PERSISTENT RESERVE IN, REQUEST SENSE, TEST UNIT READY and REGISTER AND IGNORE EXISTING KEY never
+-- conflict
 abbrev pub command_conflicts : State → ℕ → Command → Bool
+command_conflicts u h TestUnitReady = false
+command_conflicts u h RequestSense = false
+command_conflicts u h (Read lba blocks) = access_conflicts u h u.held reading
+command_conflicts u h (Write lba blocks) = access_conflicts u h u.held writing
+command_conflicts u h (ReadKeys alloc) = false
+command_conflicts u h (ReadReservation alloc) = false
+command_conflicts u h (ReportCapabilities alloc) = false
 command_conflicts u h (Register rk sark) = is_wrong_key (key_of u h) rk
+command_conflicts u h (RegisterIgnore sark) = false
 command_conflicts u h (Reserve rk kind) = lacks_key u h rk || is_in_the_way u h u.held kind
 command_conflicts u h (Release rk kind) = lacks_key u h rk
 command_conflicts u h (Clear rk) = lacks_key u h rk
 command_conflicts u h (Preempt rk sark kind) = preempt_conflicts u h rk sark
 command_conflicts u h (PreemptAbort rk sark kind) = preempt_conflicts u h rk sark
-command_conflicts u h (Read lba blocks) = access_conflicts u h u.held reading
-command_conflicts u h (Write lba blocks) = access_conflicts u h u.held writing
-command_conflicts u h _ = false
 
 -- bytes at fault never conflict
 abbrev pub conflicts : State → ℕ → Request → Bool

@@ -3,7 +3,7 @@
 use Rattle.std.specs.Prelude.{ℕ, ◌+◌, not, ◌==◌, ◌&&◌, nat_lt, if◌then◌else◌, Option, Some, None, is_none}
 use Rattle.pr_cdb.specs.declared.command.Kind.{Kind}
 use Rattle.pr_cdb.specs.declared.command.Command.{Command}
-use Rattle.pr_cdb.specs.declared.command.Command.TheVariants.{Read, Write, Release, Preempt, PreemptAbort}
+use Rattle.pr_cdb.specs.declared.command.Command.TheVariants.{TestUnitReady, RequestSense, Read, Write, ReadKeys, ReadReservation, ReportCapabilities, Register, RegisterIgnore, Reserve, Release, Clear, Preempt, PreemptAbort}
 use Rattle.pr_cdb.specs.declared.reply.Sense.{Sense}
 use Rattle.pr_cdb.specs.declared.wire.Request.{Request}
 use Rattle.pr_cdb.specs.declared.wire.Request.TheVariants.{Plain, Faulty}
@@ -34,12 +34,20 @@ abbrev pub range_fault : ℕ → ℕ → Option Sense
 range_fault lba blocks = if nat_lt capacity (lba + blocks) then Some (illegal 0x21 0x00) else None
 
 abbrev pub command_fault : State → ℕ → Command → Option Sense
-command_fault u h (Release rk kind) = release_fault u h kind
-command_fault u h (Preempt rk sark kind) = preempt_fault u sark kind
-command_fault u h (PreemptAbort rk sark kind) = preempt_fault u sark kind
+command_fault u h TestUnitReady = None
+command_fault u h RequestSense = None
 command_fault u h (Read lba blocks) = range_fault lba blocks
 command_fault u h (Write lba blocks) = range_fault lba blocks
-command_fault u h _ = None
+command_fault u h (ReadKeys alloc) = None
+command_fault u h (ReadReservation alloc) = None
+command_fault u h (ReportCapabilities alloc) = None
+command_fault u h (Register rk sark) = None
+command_fault u h (RegisterIgnore sark) = None
+command_fault u h (Reserve rk kind) = None
+command_fault u h (Release rk kind) = release_fault u h kind
+command_fault u h (Clear rk) = None
+command_fault u h (Preempt rk sark kind) = preempt_fault u sark kind
+command_fault u h (PreemptAbort rk sark kind) = preempt_fault u sark kind
 
 abbrev pub fault : State → ℕ → Request → Option Sense
 fault u h (Plain c) = command_fault u h c

@@ -3,13 +3,13 @@ use Rattle.std.specs.Prelude.{ℕ, Bool, true, false, if◌then◌else◌, List,
 use Rattle.std.specs.FinMap as map
 use Rattle.pr_cdb.specs.declared.command.Kind.{Kind}
 use Rattle.pr_cdb.specs.declared.command.Command.{Command}
-use Rattle.pr_cdb.specs.declared.command.Command.TheVariants.{RequestSense, ReadKeys, ReadReservation, ReportCapabilities}
+use Rattle.pr_cdb.specs.declared.command.Command.TheVariants.{TestUnitReady, RequestSense, Read, Write, ReadKeys, ReadReservation, ReportCapabilities, Register, RegisterIgnore, Reserve, Release, Clear, Preempt, PreemptAbort}
 use Rattle.pr_cdb.specs.declared.reply.Sense.{Sense}
 use Rattle.pr_cdb.specs.declared.reply.Status.{Status}
 use Rattle.pr_cdb.specs.declared.reply.Status.TheVariants.{Good, CheckCondition, Conflict}
 use Rattle.pr_cdb.specs.declared.reply.Reply.{Reply}
 use Rattle.pr_cdb.specs.declared.wire.Request.{Request}
-use Rattle.pr_cdb.specs.declared.wire.Request.TheVariants.{Plain}
+use Rattle.pr_cdb.specs.declared.wire.Request.TheVariants.{Plain, Faulty}
 use Rattle.pr_cdb.specs.ReplyData.{sense_bytes, keys_bytes, reservation_bytes, capabilities_bytes, cut}
 use Rattle.pr_registry.specs.declared.held.Held.{Held}
 use Rattle.pr_registry.specs.declared.held.Held.TheVariants.{One, All}
@@ -31,15 +31,29 @@ conflict = reply_of Conflict None []
 
 abbrev pub is_good_status : Status → Bool
 is_good_status Good = true
-is_good_status _ = false
+is_good_status CheckCondition = false
+is_good_status Conflict = false
 
 abbrev pub is_good : Reply → Bool
 is_good r = is_good_status r.status
 
 -- REQUEST SENSE reports as data, and ends GOOD
 abbrev pub is_request_sense : Request → Bool
+is_request_sense (Plain TestUnitReady) = false
 is_request_sense (Plain RequestSense) = true
-is_request_sense _ = false
+is_request_sense (Plain (Read lba blocks)) = false
+is_request_sense (Plain (Write lba blocks)) = false
+is_request_sense (Plain (ReadKeys alloc)) = false
+is_request_sense (Plain (ReadReservation alloc)) = false
+is_request_sense (Plain (ReportCapabilities alloc)) = false
+is_request_sense (Plain (Register rk sark)) = false
+is_request_sense (Plain (RegisterIgnore sark)) = false
+is_request_sense (Plain (Reserve rk kind)) = false
+is_request_sense (Plain (Release rk kind)) = false
+is_request_sense (Plain (Clear rk)) = false
+is_request_sense (Plain (Preempt rk sark kind)) = false
+is_request_sense (Plain (PreemptAbort rk sark kind)) = false
+is_request_sense (Faulty sense) = false
 
 -- the reply that reports this attention
 abbrev pub report : Request → ℕ → Reply
@@ -53,8 +67,17 @@ reservation keys (Some (All t)) = Some (0, t)
 
 -- the data of a command that ends GOOD: of the keys in the order of the hosts
 abbrev pub data_of : State → Command → List ℕ
+data_of u TestUnitReady = []
+data_of u RequestSense = sense_bytes (record { key = 0x00; asc = 0x00; ascq = 0x00 })
+data_of u (Read lba blocks) = []
+data_of u (Write lba blocks) = []
 data_of u (ReadKeys alloc) = cut alloc (keys_bytes u.generation (map.values u.keys))
 data_of u (ReadReservation alloc) = cut alloc (reservation_bytes u.generation (reservation u.keys u.held))
 data_of u (ReportCapabilities alloc) = cut alloc capabilities_bytes
-data_of u RequestSense = sense_bytes (record { key = 0x00; asc = 0x00; ascq = 0x00 })
-data_of u _ = []
+data_of u (Register rk sark) = []
+data_of u (RegisterIgnore sark) = []
+data_of u (Reserve rk kind) = []
+data_of u (Release rk kind) = []
+data_of u (Clear rk) = []
+data_of u (Preempt rk sark kind) = []
+data_of u (PreemptAbort rk sark kind) = []

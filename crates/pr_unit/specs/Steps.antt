@@ -60,12 +60,16 @@ ends_good Done q = true
 -- of the attentions that are pending, the reply reports the lowest
 pub record ReportsLowest (u : UnitState) (h : ℕ) (q : Request) (r : Reply) : Type 0 where
   pub code : ℕ
+  pub pending : IsTrue (is_pending u h code)
   pub reply : r ≡ report q code
   pub least : (other : ℕ) → is_pending u h other ≡ true → code ≤ other
 
 abbrev pub LowestBy : Line → UnitState → ℕ → Request → Reply → Type 0
+LowestBy PowerOn u h q r = Unit {0}
+LowestBy Conflicting u h q r = Unit {0}
 LowestBy Attention u h q r = ReportsLowest u h q r
-LowestBy _ u h q r = Unit {0}
+LowestBy (AtFault sense) u h q r = Unit {0}
+LowestBy Done u h q r = Unit {0}
 
 -- The step that this unit takes: where it may choose, it reports the lowest code.
 pub record TakenStep (u : UnitState) (h : ℕ) (q : Request) (r : Reply) (u' : UnitState) : Type 0 where
@@ -77,4 +81,5 @@ pub record TakenStep (u : UnitState) (h : ℕ) (q : Request) (r : Reply) (u' : U
 abbrev pub Executes : UnitState → ℕ → Result Request Bad → Result Reply Bad → UnitState → Type 0
 Executes u h (Ok q) (Ok r) u' = TakenStep u h q r u'
 Executes u h (Err bad) (Err b) u' = (b ≡ bad) × (u' ≡ u)
-Executes u h _ _ u' = ⊥
+Executes u h (Ok q) (Err bad) u' = ⊥
+Executes u h (Err bad) (Ok r) u' = ⊥

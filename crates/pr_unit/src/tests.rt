@@ -1,6 +1,9 @@
 mod rows;
 
-use crate::{Unit, effects_are_well_formed, good_is_fixed};
+use crate::{
+    Unit, effects_are_well_formed, every_request_has_a_step, free_commands_end_good, good_is_fixed,
+    good_steps_take_effect, quiet_steps, steps_are_well_formed, steps_keep_hosts,
+};
 use pr_cdb::{Bad, Command, Reply, Status, encode};
 use pr_registry::Registry;
 use std::process::Abort;
@@ -54,5 +57,11 @@ fn a_wrong_key_conflicts(rt: HostRuntime) {
     assert_answered(&rt, ignored, Status::Good, &[]);
     assert_eq!(rt; unit.registry().keys().as_slice(), [0xb2].as_slice());
     effects_are_well_formed();
+    steps_are_well_formed();
+    steps_keep_hosts();
+    every_request_has_a_step();
     good_is_fixed();
+    good_steps_take_effect();
+    free_commands_end_good();
+    quiet_steps();
 }

@@ -39,10 +39,10 @@ impl Unit {
     ghost use Rattle.pr_registry.specs.Registrations.{fresh};
     ghost use Rattle.pr_cdb.specs.declared.wire.Request.TheVariants.{Plain};
     ghost use Rattle.pr_cdb.specs.declared.reply.Reply.{Reply};
-    ghost use Rattle.pr_unit.specs.UnitStates.{UnitState, unit_of, is_pending, quiet};
+    ghost use Rattle.pr_unit.specs.UnitStates.{UnitState, IsWellFormed, unit_of, is_pending, quiet};
     ghost use Rattle.pr_unit.specs.Replies.{is_good};
     ghost use Rattle.pr_unit.specs.Conflicts.{command_conflicts};
-    ghost use Rattle.pr_unit.specs.Steps.{Step, Executes};
+    ghost use Rattle.pr_unit.specs.Steps.{Step, Executes, line, ends_good};
     ghost use Rattle.pr_unit.specs.Follows.{Follows};
 
     /// A unit of so many hosts with nothing registered, reserved or pending, and generation 0.
@@ -84,14 +84,16 @@ impl Unit {
     /// What is pending for the host.
     pub fn pending(&self, host: u8) -> &Pending
         requires { host < self.now.registry.hosts }
-        ensures { (code : ℕ) → set.contains result.now code ≡ is_pending self.now host code }
+        ensures value { (code : ℕ) → set.contains result.now code ≡ is_pending self.now host code }
+        ensures well_formed { IsWellFormed self.now }
     {
         &self.pending[usize::from(host)]
     }
 
     /// The registry.
     pub fn registry(&self) -> &Registry
-        ensures { result.now ≡ self.now.registry }
+        ensures value { result.now ≡ self.now.registry }
+        ensures well_formed { IsWellFormed self.now }
     {
         &self.registry
     }
@@ -108,7 +110,8 @@ impl Unit {
     /// Whether the command of the host would end GOOD now.
     pub fn would_end_good(&self, host: u8, command: &Command) -> bool
         requires { host < self.now.registry.hosts }
-        ensures { (reply : Reply) (after : UnitState) → Step self.now host (Plain command.now) reply after → is_good reply ≡ result }
+        ensures value { result ≡ ends_good (line self.now host (Plain command.now)) (Plain command.now) }
+        ensures steps { (reply : Reply) (after : UnitState) → Step self.now host (Plain command.now) reply after → is_good reply ≡ result }
     {
         let request = Request::Plain(*command);
         let line = deciding_line(&self.registry, &self.pending, host, request);

@@ -92,6 +92,11 @@ fn assert_preempts(
     assert!(rt; host < 3);
     assert!(rt; registry.is_registered(host));
     assert!(rt; kind.is_some() || !registry.is_replaced_by(sark));
+    if sark == 0 {
+        assert!(rt; registry.is_held_by_all());
+    } else {
+        assert!(rt; !registry.is_nobodys(sark));
+    }
     let changed = registry.preempt(host, sark, kind);
     assert_eq!(rt; sets(&changed), change);
     assert_eq!(rt; stand_of(&registry), after);

@@ -5,8 +5,8 @@ use Rattle.pr_unit.specs.UnitStates.{UnitState, unit_of, is_pending}
 use Rattle.pr_unit.proofs.Pairs.{place_read, contains-table_pairs_in}
 use Rattle.pr_unit.proofs.unit.Unit.pending.Goals as goal
 
-pub returns : goal.returns
-returns c = λ code.
+pub returns-clause-value : goal.returns-clause-value
+returns-clause-value c = λ code.
     let table = c.self.inside.pending in
     let u = unit_of c.self.inside.registry table in
     let below : c.args.host < u.registry.hosts = subst (λ (s : UnitState). c.args.host < s.registry.hosts) (sym c.self.view_is) c.requires in

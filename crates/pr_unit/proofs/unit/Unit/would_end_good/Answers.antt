@@ -5,8 +5,8 @@ use Rattle.pr_unit.specs.Steps.{Step, ends_good}
 use Rattle.pr_unit.proofs.GoodFixed.{good_by_line}
 use Rattle.pr_unit.proofs.unit.Unit.would_end_good.Goals as goal
 
-pub returns : goal.returns
-returns c = λ reply after step.
+pub returns-clause-steps : goal.returns-clause-steps
+returns-clause-steps c = λ reply after step.
     let q = Plain c.args.command.now in
     let u = unit_of c.self.inside.registry c.self.inside.pending in
     let here : Step u c.args.host q reply after = subst (λ (s : UnitState). Step s c.args.host q reply after) (sym c.self.view_is) step in

@@ -1,0 +1,5 @@
+use Rattle.pr_unit.proofs.Answered.{every_request_has_a_step}
+use Rattle.pr_unit.proofs.laws.every_request_has_a_step.Goals as goal
+
+pub returns : goal.returns
+returns c = every_request_has_a_step

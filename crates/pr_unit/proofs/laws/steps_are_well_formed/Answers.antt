@@ -1,0 +1,5 @@
+use Rattle.pr_unit.proofs.Steps.{well_formed-step}
+use Rattle.pr_unit.proofs.laws.steps_are_well_formed.Goals as goal
+
+pub returns : goal.returns
+returns c = well_formed-step

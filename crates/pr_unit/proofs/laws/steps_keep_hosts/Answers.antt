@@ -1,0 +1,5 @@
+use Rattle.pr_unit.proofs.Steps.{hosts-step}
+use Rattle.pr_unit.proofs.laws.steps_keep_hosts.Goals as goal
+
+pub returns : goal.returns
+returns c = hosts-step
