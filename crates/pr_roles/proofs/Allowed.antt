@@ -180,7 +180,8 @@ some_key : (o : Option ℕ) → is_some o ≡ true → (k : ℕ) × (o ≡ Some 
 some_key None some = absurd (false≢true some)
 some_key (Some k) some = (k, refl)
 
-found_under : (s : Scenario) (u : UnitState) (held : Option Held) → IsAllowedStart s u → HasHolder u.registry.keys held
+-- an allowed state's reservation has registrations under it
+pub found_under : (s : Scenario) (u : UnitState) (held : Option Held) → IsAllowedStart s u → HasHolder u.registry.keys held
     → is_some (keys_under (starts s) held) ≡ true
 found_under s u None allowed holder = refl
 found_under s u (Some (One t h)) allowed holder =

@@ -2,3 +2,5 @@ pub mod Apart
 pub mod Starting
 pub mod Reserving
 pub mod Allowed
+pub mod Earliest
+pub mod Controls

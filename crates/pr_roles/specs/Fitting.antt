@@ -22,8 +22,13 @@ are_distinct same (x ∷ xs) = not (list_any (λ y. same y x) xs) && are_distinc
 -- a key that a clause names is declared, and a PREEMPT's may be zero
 abbrev pub is_action : List ℕ → Action → Bool
 is_action keys (action.Register key) = is_declared keys key
+is_action keys action.Unregister = true
+is_action keys (action.Reserve kind) = true
+is_action keys action.Release = true
+is_action keys action.Clear = true
 is_action keys (action.Preempt key kind) = is_written_key keys key
-is_action keys a = true
+is_action keys action.Read = true
+is_action keys action.Write = true
 
 abbrev pub is_role : List ℕ → List Clause → Bool
 is_role keys clauses = nat_le (length clauses) 32 && list_all (λ clause. is_action keys clause.action) clauses
@@ -35,8 +40,9 @@ is_alternative keys (Some key) = is_declared keys key
 
 abbrev pub is_same_alternative : Option ℕ → Option ℕ → Bool
 is_same_alternative None None = true
+is_same_alternative None (Some k) = false
+is_same_alternative (Some j) None = false
 is_same_alternative (Some j) (Some k) = j == k
-is_same_alternative _ _ = false
 
 abbrev pub is_start : List ℕ → List (Option ℕ) → Bool
 is_start keys alternatives =
@@ -59,9 +65,12 @@ is_reservation hosts (Some (Everybody kind)) = is_all kind
 
 abbrev pub is_same_reservation : Option Held → Option Held → Bool
 is_same_reservation None None = true
+is_same_reservation None (Some held) = false
+is_same_reservation (Some held) None = false
 is_same_reservation (Some (One s g)) (Some (One t h)) = is_kind s t && g == h
+is_same_reservation (Some (One s g)) (Some (Everybody t)) = false
+is_same_reservation (Some (Everybody s)) (Some (One t h)) = false
 is_same_reservation (Some (Everybody s)) (Some (Everybody t)) = is_kind s t
-is_same_reservation _ _ = false
 
 abbrev pub are_reservations : ℕ → List (Option Held) → Bool
 are_reservations hosts vs = not (length vs == 0) && (list_all (is_reservation hosts) vs && are_distinct is_same_reservation vs)

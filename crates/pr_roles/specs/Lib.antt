@@ -5,3 +5,4 @@ pub mod Fitting
 pub mod Worlds
 pub mod Schedules
 pub mod Safety
+pub mod Laws

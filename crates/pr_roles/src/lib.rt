@@ -7,6 +7,7 @@ mod copying;
 mod entry;
 mod first;
 mod fitting;
+mod laws;
 mod parts;
 mod permitting;
 mod role;
@@ -17,6 +18,7 @@ mod uniqueness;
 
 pub use entry::Entry;
 pub use fitting::{are_alternatives, is_action};
+pub use laws::{first_starts_are_earliest, starts_are_found};
 pub use parts::{Nexus, Parts, Start, Task};
 pub use permitting::permits;
 pub use pr_script::Word;

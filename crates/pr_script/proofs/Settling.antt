@@ -1,7 +1,7 @@
 -- What is still to do comes to rest.
-use Rattle.std.specs.Prelude.{◌≡◌, ℕ, zero, suc, ◌+◌, ◌<◌, ◌≤◌, ◌⊎◌, [], ◌∷◌, drop}
+use Rattle.std.specs.Prelude.{◌≡◌, ℕ, zero, suc, ◌+◌, ◌<◌, ◌≤◌, ◌⊎◌, true, [], ◌∷◌, drop, is_some}
 use Rattle.std.proofs.Common.{refl, sym, ap, subst, ◌∙◌, inl, inr, arith}
-use Rattle.pr_script.specs.Scripts.{Stmts, sends, repeats, breaks, stops, none, more, statement, mark, Configuration, before, turn, past_mark, becomes, work_of_all, work, becomes_often, settled}
+use Rattle.pr_script.specs.Scripts.{Stmts, sends, repeats, breaks, stops, none, more, statement, mark, Configuration, before, turn, past_mark, becomes, work_of_all, work, becomes_often, settled, standing}
 use Rattle.pr_script.specs.Laws.{Settles}
 
 pub work-before : (b : Stmts) (l : Configuration) → work (before b l) ≡ work_of_all b + work l
@@ -41,9 +41,9 @@ settles_within (suc n) l h = elim (rests l) [
   | inr less ↦ settles_within n (becomes l) (omega arith)
 ]
 
-pub settles : Settles
+settled_rests : (l : Configuration) → becomes (settled l) ≡ settled l
 unfolding settled
-settles l = settles_within (work l) l (omega arith)
+settled_rests l = settles_within (work l) l (omega arith)
 
 -- more unfoldings change nothing
 enough : (n m : ℕ) (l : Configuration) → work l ≤ n → work l ≤ m → becomes_often n l ≡ becomes_often m l
@@ -94,3 +94,15 @@ no_break_rests l m e is = moves (statement breaks ∷ m) (subst (λ k. becomes k
 
 pub no_mark_rests : (l : Configuration) (m : Configuration) → becomes l ≡ l → l ≡ mark ∷ m → ⊥
 no_mark_rests l m e is = moves (mark ∷ m) (subst (λ k. becomes k ≡ k) is e) (omega arith)
+
+-- what rests is ready or stopped
+rest_stands : (l : Configuration) → becomes l ≡ l → is_some (standing l) ≡ true
+rest_stands [] e = refl
+rest_stands (mark ∷ m) e = absurd (no_mark_rests (mark ∷ m) m e refl)
+rest_stands ((statement (sends n c a)) ∷ m) e = refl
+rest_stands ((statement (repeats n b)) ∷ m) e = absurd (no_repeat_rests (statement (repeats n b) ∷ m) n b m e refl)
+rest_stands ((statement breaks) ∷ m) e = absurd (no_break_rests (statement breaks ∷ m) m e refl)
+rest_stands ((statement (stops w)) ∷ m) e = refl
+
+pub settles : Settles
+settles l = (settled_rests l, rest_stands (settled l) (settled_rests l))

@@ -1,7 +1,7 @@
 -- How many commands a script sends: at most its cost.
 use Rattle.std.specs.Prelude.{ℕ, ◌+◌, ◌*◌, List, [], ◌∷◌, Option, Some, None, max}
 use Rattle.pr_cdb.specs.declared.reply.Reply.{Reply}
-use Rattle.pr_script.specs.Scripts.{Stmt, Stmts, Arms, sends, repeats, breaks, stops, none, more, no_arm, arm, statement, Configuration}
+use Rattle.pr_script.specs.Scripts.{Stmt, Stmts, Arms, sends, repeats, breaks, stops, none, more, no_arm, arm, statement, mark, Configuration}
 use Rattle.pr_script.specs.Takes.{take}
 
 -- A list of statements costs the sum of them: a send 1 and the most that one of its arms costs, a repeat its
@@ -23,8 +23,12 @@ abbrev mutual
 
 -- the commands that are sent on one reply: one where a send comes first
 abbrev pub commands : Configuration → ℕ
+commands [] = 0
+commands (mark ∷ l) = 0
 commands ((statement (sends n c a)) ∷ l) = 1
-commands _ = 0
+commands ((statement (repeats n b)) ∷ l) = 0
+commands ((statement breaks) ∷ l) = 0
+commands ((statement (stops w)) ∷ l) = 0
 
 abbrev pub count_in : (Configuration → ℕ) → Option Configuration → ℕ
 count_in count None = 0

@@ -18,20 +18,3 @@ abbrev mutual
   pub depth_of_arms : Arms → ℕ
   depth_of_arms no_arm = 0
   depth_of_arms (arm test body rest) = max (depth_of_all body) (depth_of_arms rest)
-
--- ---- the most sends that are open at once, each in an arm of the one before
-
-abbrev mutual
-  pub send_depth_of : Stmt → ℕ
-  send_depth_of (sends n c a) = 1 + send_depth_of_arms a
-  send_depth_of (repeats n b) = send_depth_of_all b
-  send_depth_of breaks = 0
-  send_depth_of (stops w) = 0
-
-  pub send_depth_of_all : Stmts → ℕ
-  send_depth_of_all none = 0
-  send_depth_of_all (more s ss) = max (send_depth_of s) (send_depth_of_all ss)
-
-  pub send_depth_of_arms : Arms → ℕ
-  send_depth_of_arms no_arm = 0
-  send_depth_of_arms (arm test body rest) = max (send_depth_of_all body) (send_depth_of_arms rest)

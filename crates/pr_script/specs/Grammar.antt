@@ -23,6 +23,10 @@ written_length = 8192
 
 -- a command as a text can write it
 abbrev pub is_written : List ℕ → Command → Bool
+is_written keys command.TestUnitReady = true
+is_written keys command.RequestSense = true
+is_written keys (command.Read lba blocks) = true
+is_written keys (command.Write lba blocks) = true
 is_written keys (command.ReadKeys alloc) = alloc == written_length
 is_written keys (command.ReadReservation alloc) = alloc == written_length
 is_written keys (command.ReportCapabilities alloc) = alloc == written_length
@@ -33,26 +37,51 @@ is_written keys (command.Release rk kind) = is_written_key keys rk
 is_written keys (command.Clear rk) = is_written_key keys rk
 is_written keys (command.Preempt rk sark kind) = is_written_key keys rk && (is_written_key keys sark && is_some kind)
 is_written keys (command.PreemptAbort rk sark kind) = is_written_key keys rk && (is_written_key keys sark && is_some kind)
-is_written keys c = true
 
 -- ---- statements
 
 abbrev pub is_read_keys : Command → Bool
+is_read_keys command.TestUnitReady = false
+is_read_keys command.RequestSense = false
+is_read_keys (command.Read lba blocks) = false
+is_read_keys (command.Write lba blocks) = false
 is_read_keys (command.ReadKeys alloc) = true
-is_read_keys c = false
+is_read_keys (command.ReadReservation alloc) = false
+is_read_keys (command.ReportCapabilities alloc) = false
+is_read_keys (command.Register rk sark) = false
+is_read_keys (command.RegisterIgnore sark) = false
+is_read_keys (command.Reserve rk kind) = false
+is_read_keys (command.Release rk kind) = false
+is_read_keys (command.Clear rk) = false
+is_read_keys (command.Preempt rk sark kind) = false
+is_read_keys (command.PreemptAbort rk sark kind) = false
 
 abbrev pub is_read_reservation : Command → Bool
+is_read_reservation command.TestUnitReady = false
+is_read_reservation command.RequestSense = false
+is_read_reservation (command.Read lba blocks) = false
+is_read_reservation (command.Write lba blocks) = false
+is_read_reservation (command.ReadKeys alloc) = false
 is_read_reservation (command.ReadReservation alloc) = true
-is_read_reservation c = false
+is_read_reservation (command.ReportCapabilities alloc) = false
+is_read_reservation (command.Register rk sark) = false
+is_read_reservation (command.RegisterIgnore sark) = false
+is_read_reservation (command.Reserve rk kind) = false
+is_read_reservation (command.Release rk kind) = false
+is_read_reservation (command.Clear rk) = false
+is_read_reservation (command.Preempt rk sark kind) = false
+is_read_reservation (command.PreemptAbort rk sark kind) = false
 
 -- an arm of a send with this command: one that looks at data stands only under the command that returns it,
 -- and a sense key has one hexadecimal digit
 abbrev pub test_fits : List ℕ → Command → Test → Bool
+test_fits keys c test.Good = true
 test_fits keys c (test.GoodHas key) = is_read_keys c && is_declared keys key
 test_fits keys c (test.GoodHeld key) = is_read_reservation c && is_written_key keys key
 test_fits keys c test.GoodUnheld = is_read_reservation c
+test_fits keys c test.Conflict = true
+test_fits keys c test.Attention = true
 test_fits keys c (test.Sense sense) = nat_lt sense.key 16
-test_fits keys c t = true
 
 abbrev pub count_of_arms : Arms → ℕ
 count_of_arms no_arm = 0
@@ -60,9 +89,11 @@ count_of_arms (arm t body rest) = 1 + count_of_arms rest
 
 -- the first statement of a repeat's body is a send or a repeat
 abbrev pub begins_body : Stmts → Bool
+begins_body none = false
 begins_body (more (sends n c a) rest) = true
 begins_body (more (repeats n b) rest) = true
-begins_body s = false
+begins_body (more breaks rest) = false
+begins_body (more (stops w) rest) = false
 
 -- a send has at most 16 arms
 abbrev pub is_send_written : List ℕ → Command → Arms → Bool

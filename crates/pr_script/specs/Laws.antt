@@ -1,14 +1,14 @@
 -- Laws of the language.
-use Rattle.std.specs.Prelude.{◌≡◌, ◌≤◌, ℕ, IsTrue, List}
+use Rattle.std.specs.Prelude.{◌≡◌, ◌≤◌, ℕ, true, IsTrue, List, is_some}
 use Rattle.pr_cdb.specs.declared.reply.Reply.{Reply}
-use Rattle.pr_script.specs.Scripts.{Stmts, Configuration, becomes, settled, begun}
+use Rattle.pr_script.specs.Scripts.{Stmts, Configuration, becomes, settled, standing, begun}
 use Rattle.pr_script.specs.Costs.{cost_of_all, sent}
 use Rattle.pr_script.specs.Depths.{depth_of_all}
 use Rattle.pr_script.specs.Grammar.{script_fits}
 
--- What is settled stays: it becomes nothing else.
+-- What is settled stays: it becomes nothing else. And it stands: it is ready to send, or stopped.
 abbrev pub Settles : Type 0
-Settles = (l : Configuration) → becomes (settled l) ≡ settled l
+Settles = (l : Configuration) → (becomes (settled l) ≡ settled l) × (is_some (standing (settled l)) ≡ true)
 
 -- Whatever the replies are, and however many, a script sends at most as many commands as it costs.
 abbrev pub CostBoundsSends : Type 0

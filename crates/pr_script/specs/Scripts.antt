@@ -93,8 +93,12 @@ standing ((statement (stops w)) ∷ l) = Some (stopped w)
 
 -- a send comes first
 abbrev pub is_ready : Configuration → Bool
+is_ready [] = false
+is_ready (mark ∷ l) = false
 is_ready ((statement (sends n c a)) ∷ l) = true
-is_ready _ = false
+is_ready ((statement (repeats n b)) ∷ l) = false
+is_ready ((statement breaks) ∷ l) = false
+is_ready ((statement (stops w)) ∷ l) = false
 
 abbrev pub IsReady : Configuration → Type 0
 IsReady l = IsTrue (is_ready l)

@@ -1,5 +1,5 @@
 -- Which replies an arm matches, and what a script goes on with after a reply.
-use Rattle.std.specs.Prelude.{◌≡◌, ℕ, Bool, true, false, ◌==◌, ◌&&◌, ◌∷◌, Option, Some, None, option_map, if◌then◌else◌}
+use Rattle.std.specs.Prelude.{◌≡◌, ℕ, Bool, true, false, ◌==◌, ◌&&◌, [], ◌∷◌, Option, Some, None, option_map, if◌then◌else◌}
 use Rattle.std.specs.List.{list_any}
 use Rattle.pr_cdb.specs.declared.reply.Sense.{Sense}
 use Rattle.pr_cdb.specs.declared.reply.Status.{Status}
@@ -8,25 +8,34 @@ use Rattle.pr_cdb.specs.declared.reply.Reply.{Reply}
 use Rattle.pr_cdb.specs.ReplyData.{keys_in, holder_in}
 use Rattle.pr_script.specs.declared.script.Test.{Test}
 use Rattle.pr_script.specs.declared.script.Test.TheVariants as test
-use Rattle.pr_script.specs.Scripts.{Stmts, Arms, sends, no_arm, arm, statement, Configuration, before, settled, IsReady}
+use Rattle.pr_script.specs.Scripts.{Stmts, Arms, sends, repeats, breaks, stops, no_arm, arm, statement, mark, Configuration, before, settled, IsReady}
 
 abbrev pub is_good_status : Status → Bool
 is_good_status status.Good = true
-is_good_status _ = false
+is_good_status status.CheckCondition = false
+is_good_status status.Conflict = false
 
 abbrev pub is_conflict_status : Status → Bool
+is_conflict_status status.Good = false
+is_conflict_status status.CheckCondition = false
 is_conflict_status status.Conflict = true
-is_conflict_status _ = false
+
+abbrev pub is_check_status : Status → Bool
+is_check_status status.Good = false
+is_check_status status.CheckCondition = true
+is_check_status status.Conflict = false
 
 -- the data of READ RESERVATION has a reservation with this key
 abbrev pub is_held_by : Option (Option (ℕ × ℕ)) → ℕ → Bool
+is_held_by None key = false
+is_held_by (Some None) key = false
 is_held_by (Some (Some held)) key = held.0 == key
-is_held_by _ key = false
 
 -- the data of READ RESERVATION has none
 abbrev pub is_unheld : Option (Option (ℕ × ℕ)) → Bool
+is_unheld None = false
 is_unheld (Some None) = true
-is_unheld _ = false
+is_unheld (Some (Some held)) = false
 
 abbrev pub is_attention : Option Sense → Bool
 is_attention None = false
@@ -42,8 +51,8 @@ matches (test.GoodHas key) r = is_good_status r.status && list_any (λ k. k == k
 matches (test.GoodHeld key) r = is_good_status r.status && is_held_by (holder_in r.bytes.items) key
 matches test.GoodUnheld r = is_good_status r.status && is_unheld (holder_in r.bytes.items)
 matches test.Conflict r = is_conflict_status r.status
-matches test.Attention r = is_attention r.sense
-matches (test.Sense wanted) r = is_sense r.sense wanted
+matches test.Attention r = is_check_status r.status && is_attention r.sense
+matches (test.Sense wanted) r = is_check_status r.status && is_sense r.sense wanted
 
 -- the body of the first arm that matches, from the top
 abbrev pub first_match : Arms → Reply → Option Stmts
@@ -53,8 +62,12 @@ first_match (arm test body more) r = if matches test r then Some body else first
 -- What is still to do once the first item's send has been answered; none where no arm matches, and then
 -- the script is trapped.
 abbrev pub take : Configuration → Reply → Option Configuration
+take [] r = None
+take (mark ∷ l) r = None
 take ((statement (sends n c a)) ∷ l) r = option_map (λ body. settled (before body l)) (first_match a r)
-take _ r = None
+take ((statement (repeats n b)) ∷ l) r = None
+take ((statement breaks) ∷ l) r = None
+take ((statement (stops w)) ∷ l) r = None
 
 -- a script that is ready and has no arm for the reply
 abbrev pub Traps : Configuration → Reply → Type 0

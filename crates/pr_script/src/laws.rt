@@ -3,7 +3,6 @@
 ghost use Rattle.pr_script.specs.Laws.{Settles, CostBoundsSends, FittingIsShallow};
 
 /// What a script has still to do comes to rest: at a send, at a stop, or at its end.
-#[tactic(auto, using(crate::proofs::Settling::settles))]
 pub fn settles()
     ensures { Settles }
 {}

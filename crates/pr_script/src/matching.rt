@@ -11,6 +11,7 @@ impl Test {
         ensures { result ≡ matches self reply.now }
     {
         let is_good = reply.status == Status::Good;
+        let is_check = reply.status == Status::CheckCondition;
         let bytes = reply.bytes.as_slice();
         match self {
             Test::Good => is_good,
@@ -18,8 +19,9 @@ impl Test {
             Test::GoodHeld(key) => is_good && is_held_by(holder_of(bytes), key),
             Test::GoodUnheld => is_good && holder_of(bytes) == Some(None),
             Test::Conflict => reply.status == Status::Conflict,
-            Test::Attention => reply.sense.is_some_and(|sense| sense.key == UNIT_ATTENTION),
-            Test::Sense(sense) => reply.sense == Some(sense),
+            Test::Attention => is_check
+                && reply.sense.is_some_and(|sense| sense.key == UNIT_ATTENTION),
+            Test::Sense(sense) => is_check && reply.sense == Some(sense),
         }
     }
 }

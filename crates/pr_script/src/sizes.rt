@@ -1,4 +1,4 @@
-//! How many commands a script may send.
+//! A bound on the commands that a script sends.
 
 ghost use Rattle.std.specs.Prelude.{◌≡◌, min};
 ghost use Rattle.pr_script.specs.Trees.{script_of, statement_of, arms_in};
@@ -6,11 +6,11 @@ ghost use Rattle.pr_script.specs.Costs.{cost_of, cost_of_all, greatest};
 
 use crate::script::{Arm, Script, Statement};
 
-// One more than the most commands that a script may send.
+// One more than the greatest budget.
 const OVER: u64 = 4097;
 
-/// The most commands that the script may send, whatever the replies are. Past 4,096 they are not
-/// counted on, and the answer is 4,097.
+/// A bound on the commands that the script sends, whatever the replies are. Past 4,096 it is not counted
+/// on, and the answer is 4,097.
 #[cycle(cost)]
 pub fn cost(script: &Script) -> u64
     ensures { result ≡ min 4097 (cost_of_all (script_of script.now)) }

@@ -1,0 +1,5 @@
+use Rattle.pr_roles.proofs.Earliest
+use Rattle.pr_roles.proofs.laws.first_starts_are_earliest.Goals as goal
+
+pub returns : goal.returns
+returns c = Earliest.first_starts_are_earliest

@@ -1,0 +1,5 @@
+use Rattle.pr_roles.proofs.Earliest
+use Rattle.pr_roles.proofs.laws.starts_are_found.Goals as goal
+
+pub returns : goal.returns
+returns c = Earliest.starts_are_found

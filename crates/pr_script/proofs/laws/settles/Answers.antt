@@ -1,0 +1,5 @@
+use Rattle.pr_script.proofs.Settling
+use Rattle.pr_script.proofs.laws.settles.Goals as goal
+
+pub returns : goal.returns
+returns c = Settling.settles
