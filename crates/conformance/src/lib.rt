@@ -1,5 +1,5 @@
-//! Worked scenarios from their texts to their traces, over all the libraries. There is nothing here but tests.
+//! What crosses the libraries, and vectors from the standards and the formats. There is nothing here but tests.
 #![tactic(auto)]
 
 #[cfg(test)]
-mod tests;
+mod replays;

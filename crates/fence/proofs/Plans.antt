@@ -3,6 +3,7 @@ use Rattle.std.specs.Prelude.{◌≡◌, ℕ, suc, ◌+◌, ◌<◌, ◌≤◌, 
 use Rattle.std.specs.List.{All, list_any}
 use Rattle.std.proofs.Common.{refl, sym, ap, ◌∙◌, subst, arith}
 use Rattle.std.proofs.lemmas.Bool.{false≢true}
+use Rattle.std.proofs.lemmas.List.{length-map}
 use Rattle.std.proofs.lemmas.Bool.Decides.{nat_tests}
 use Rattle.std.proofs.lemmas.Option.{none-some, same_Some}
 use Rattle.pr_roles.specs.declared.parts.Parts.{Parts}
@@ -89,9 +90,14 @@ unnamed steps known p counted read none = record { plans = at known read; counte
     at None read = tt
     at (Some text) read = subst (IsUsageFault steps text) (sym counted) (scenario_of p, read, none)
 
-pub right_count : (steps : List (List ℕ)) (n : ℕ) → length steps ≡ n → (n == 0) ≡ false → n ≤ 4096 → has_wrong_count steps ≡ false
-right_count steps n len some most = rw len (at (n == 0) (nat_lt 4096 n) some (grind (arith, nat_tests)))
+-- so many steps are too few or too many
+pub wrong_count : {X : Type 0} (f : X → List ℕ) (xs : List X) → has_wrong_count (map f xs) ≡ (length xs == 0 || nat_lt 4096 (length xs))
+wrong_count f xs = rw (length-map xs f) refl
+
+-- as many as one, or more, and not too many
+pub few_steps : (steps : List (List ℕ)) → has_wrong_count steps ≡ false → length steps ≤ 4096
+few_steps steps counted = at (length steps == 0) (nat_lt 4096 (length steps)) refl counted
   where
-    at : (a b : Bool) → a ≡ false → b ≡ false → (a || b) ≡ false
-    at true b is also = is
-    at false b is also = also
+    at : (a b : Bool) → nat_lt 4096 (length steps) ≡ b → (a || b) ≡ false → length steps ≤ 4096
+    at true b is none = let bad : true ≡ false = none in cc
+    at false b is none = grind (arith, nat_tests)

@@ -66,6 +66,11 @@ abbrev pub input_fault : ReadError → Fault
 input_fault input.Memory = fault.Memory
 input_fault error = fault.Input error
 
+-- why the words of the command line were not to be had: one of them is no text
+abbrev pub args_fault : ErrorKind → Fault
+args_fault kind.OutOfMemory = fault.Memory
+args_fault _ = fault.Usage
+
 -- why a path was not opened
 abbrev pub open_fault : ErrorKind → Fault
 open_fault kind.OutOfMemory = fault.Memory
@@ -73,9 +78,11 @@ open_fault _ = fault.File
 
 abbrev pub status_of : Fault → Status
 status_of fault.Usage = status.Usage
-status_of (fault.Input input.Memory) = status.Memory
 status_of fault.Memory = status.Memory
-status_of _ = status.Fault
+status_of (fault.Input input.Memory) = status.Memory
+status_of (fault.Input error) = status.Fault
+status_of fault.File = status.Fault
+status_of fault.Output = status.Fault
 
 abbrev pub exit_status_of : Status → ℕ
 exit_status_of status.Done = 0

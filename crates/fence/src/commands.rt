@@ -1,8 +1,11 @@
 //! What the commands of the program do, over any reader, writer and error writer.
 
-ghost use Rattle.std.specs.Prelude.{◌≡◌, map};
+ghost use Rattle.std.specs.Prelude.{◌≡◌, IsTrue, map};
+ghost use Rattle.std.specs.Io.KnownBytes.{Keeps};
+ghost use Rattle.pr_text.specs.BytesRead.{LosesUpTo};
 ghost use Rattle.pr_report.specs.Written.{Puts};
 ghost use Rattle.fence.specs.Replays.{status_of_end, told_of_end};
+ghost use Rattle.fence.specs.Steps.{has_wrong_count};
 ghost use Rattle.fence.specs.Commands.{IsPlanned, EndsReplay, IsReplayCommand};
 
 use crate::fault::{Fault, Status, put_fault};
@@ -20,7 +23,7 @@ const MOST_STEPS: usize = 4_096;
 /// writes the trace.
 ///
 /// No step, or more than 4,096, is a usage fault before the text is read; a step that names no host is
-/// one after it. A fault is told in one line on `errors`, whose own faults change nothing.
+/// one after it. Of the text at most 65,537 bytes are taken. A fault is told in one line on `errors`, whose own faults change nothing.
 pub fn do_replay<R: Read, W: Write, E: Write>(
     alloc: Global,
     steps: &[&str],
@@ -28,7 +31,9 @@ pub fn do_replay<R: Read, W: Write, E: Write>(
     writer: &mut W,
     errors: &mut E,
 ) -> Status
-    ensures { IsReplayCommand (map (λ s. s.now) steps.now) (R.remaining reader.old) (W.contents writer.old) (W.contents writer.new) (E.contents errors.old) (E.contents errors.new) result }
+    ensures command { IsReplayCommand (map (λ s. s.now) steps.now) (R.remaining reader.old) (W.contents writer.old) (W.contents writer.new) (E.contents errors.old) (E.contents errors.new) result }
+    ensures limited { LosesUpTo 65537 (R.remaining reader.old) (R.remaining reader.new) }
+    ensures unread { IsTrue (has_wrong_count (map (λ s. s.now) steps.now)) → Keeps (R.remaining reader.old) (R.remaining reader.new) }
 {
     let (end, _) = replay_and_tell(alloc, steps, reader, writer, errors);
     status_of(end)
@@ -44,6 +49,8 @@ fn replay_and_tell<R: Read, W: Write, E: Write>(
 ) -> (Result<bool, Fault>, Result<(), WriteFault>)
     ensures ends { EndsReplay (map (λ s. s.now) steps.now) (R.remaining reader.old) (W.contents writer.old) (W.contents writer.new) result.0 }
     ensures tells { Puts (E.contents errors.old) (E.contents errors.new) (told_of_end result.0) result.1 }
+    ensures limited { LosesUpTo 65537 (R.remaining reader.old) (R.remaining reader.new) }
+    ensures unread { IsTrue (has_wrong_count (map (λ s. s.now) steps.now)) → Keeps (R.remaining reader.old) (R.remaining reader.new) }
 {
     match replay_text(alloc, steps, reader, writer) {
         Ok(refused) => (Ok(refused), Ok(())),
@@ -71,7 +78,9 @@ fn replay_text<R: Read, W: Write>(
     reader: &mut R,
     writer: &mut W,
 ) -> Result<bool, Fault>
-    ensures { EndsReplay (map (λ s. s.now) steps.now) (R.remaining reader.old) (W.contents writer.old) (W.contents writer.new) result }
+    ensures ends { EndsReplay (map (λ s. s.now) steps.now) (R.remaining reader.old) (W.contents writer.old) (W.contents writer.new) result }
+    ensures limited { LosesUpTo 65537 (R.remaining reader.old) (R.remaining reader.new) }
+    ensures unread { IsTrue (has_wrong_count (map (λ s. s.now) steps.now)) → Keeps (R.remaining reader.old) (R.remaining reader.new) }
 {
     let plan = plan(alloc, steps, reader)?;
     write_trace(
@@ -94,9 +103,11 @@ struct Planned {
 
 // Reads the text and replays the steps, or answers their first fault.
 fn plan<R: Read>(alloc: Global, steps: &[&str], reader: &mut R) -> Result<Planned, Fault>
-    ensures { IsPlanned (map (λ s. s.now) steps.now) (R.remaining reader.old) result }
+    ensures planned { IsPlanned (map (λ s. s.now) steps.now) (R.remaining reader.old) result }
+    ensures limited { LosesUpTo 65537 (R.remaining reader.old) (R.remaining reader.new) }
+    ensures unread { IsTrue (has_wrong_count (map (λ s. s.now) steps.now)) → Keeps (R.remaining reader.old) (R.remaining reader.new) }
 {
-    if steps.is_empty() || steps.len() > MOST_STEPS {
+    if has_wrong_count(steps) {
         return Err(Fault::Usage);
     }
     let scenario = read(alloc, reader)?;
@@ -105,6 +116,14 @@ fn plan<R: Read>(alloc: Global, steps: &[&str], reader: &mut R) -> Result<Planne
     };
     let replayed = replay(alloc, &scenario, &hosts)?;
     Ok(Planned { scenario, replayed })
+}
+
+// No step, or more than 4,096.
+#[tactic(auto, using(crate::proofs::Plans::wrong_count))]
+fn has_wrong_count(steps: &[&str]) -> bool
+    ensures { result ≡ has_wrong_count (map (λ s. s.now) steps.now) }
+{
+    steps.is_empty() || steps.len() > MOST_STEPS
 }
 
 #[cfg(test)]

@@ -3,8 +3,9 @@
 #![tactic(auto)]
 
 ghost use Rattle.std.specs.Prelude.{◌≡◌};
+ghost use Rattle.pr_report.specs.Written.{AppendsFront};
 ghost use Rattle.std.specs.IoError.{error_kind};
-ghost use Rattle.fence.specs.FaultText.{open_fault, status_of};
+ghost use Rattle.fence.specs.FaultText.{args_fault, fault_text, open_fault, status_of};
 
 mod command_line;
 mod commands;
@@ -18,6 +19,7 @@ use clap::ArgMatches;
 use clap::error::ErrorKind;
 use std::alloc::{AllocError, Global};
 use std::fs::File;
+use std::io::Write;
 use std::process::ExitCode;
 use std::{env, fs, io};
 
@@ -27,8 +29,9 @@ fn main(rt: HostRuntime) -> ExitCode {
 
 // Reads the command line and does what it says.
 fn run(rt: &HostRuntime) -> Status {
-    let Ok(words) = words(rt) else {
-        return fail(rt, Fault::Memory);
+    let words = match words(rt) {
+        Ok(words) => words,
+        Err(error) => return fail(&mut rt.stderr(), args_fault(&error)),
     };
     match matches_of(rt.alloc(), &words) {
         Ok(matches) => run_matches(rt, &matches),
@@ -47,10 +50,10 @@ fn words(rt: &HostRuntime) -> io::Result<Vec<String>> {
 
 fn run_matches(rt: &HostRuntime, matches: &ArgMatches<'_>) -> Status {
     let Some(("replay", arguments)) = matches.subcommand() else {
-        return fail(rt, Fault::Usage);
+        return fail(&mut rt.stderr(), Fault::Usage);
     };
     let (Some(path), Some(steps)) = (arguments.get_str("FILE"), arguments.get_strs("STEP")) else {
-        return fail(rt, Fault::Usage);
+        return fail(&mut rt.stderr(), Fault::Usage);
     };
     replay_path(rt, path, steps)
 }
@@ -64,7 +67,18 @@ fn replay_path(rt: &HostRuntime, path: &str, steps: &[&str]) -> Status {
     }
     match fs::open(rt, path) {
         Ok(mut file) => do_replay(rt.alloc(), steps, &mut file, &mut output, &mut errors),
-        Err(error) => fail(rt, file_fault(&error)),
+        Err(error) => fail(&mut errors, file_fault(&error)),
+    }
+}
+
+// Why the words of the command line were not to be had: one that is not text is a wrong argument.
+fn args_fault(error: &io::Error) -> Fault
+    ensures { result ≡ args_fault (error_kind error.now) }
+{
+    if error.kind() == io::ErrorKind::OutOfMemory {
+        Fault::Memory
+    } else {
+        Fault::Usage
     }
 }
 
@@ -80,17 +94,18 @@ fn file_fault(error: &io::Error) -> Fault
 }
 
 // Tells a fault that comes before any text is read.
-fn fail(rt: &HostRuntime, fault: Fault) -> Status
-    ensures { result ≡ status_of fault }
+fn fail<E: Write>(errors: &mut E, fault: Fault) -> Status
+    ensures status { result ≡ status_of fault }
+    ensures tells { AppendsFront (E.contents errors.old) (E.contents errors.new) (fault_text fault) }
 {
-    tell(&mut rt.stderr(), &fault);
+    tell(errors, &fault);
     fault.status()
 }
 
-// Tells why the command line is none; help is told so too.
+// Prints clap's text for a command line that it refuses; help and the version come here too.
 fn refuse(rt: &HostRuntime, error: &clap::Error) -> Status {
     if error.kind() == ErrorKind::OutOfMemory {
-        return fail(rt, Fault::Memory);
+        return fail(&mut rt.stderr(), Fault::Memory);
     }
     let _ = rt.eprint(error);
     Status::Usage

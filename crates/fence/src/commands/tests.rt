@@ -4,8 +4,10 @@ use std::alloc::Global;
 use std::io::{Error, ErrorKind, Read, Write};
 use std::process::Abort;
 
+mod rows;
+
 // A text longer than any here.
-type Page = ArrayVec<u8, 512>;
+type Page = ArrayVec<u8, 1024>;
 
 const FIRST: &[u8] = b"fence 1
 keys 123abc
@@ -207,6 +209,40 @@ fn first_fault_is_told(rt: HostRuntime) {
     );
     let syntax = b"fence: input 4 Syntax line 1\n";
     assert_replayed(&rt, rt.alloc(), b"", &["b"], Status::Fault, b"", syntax);
+}
+
+/// A reader that counts its calls.
+#[derive(Drop)]
+struct Counting<'a> {
+    rest: &'a [u8],
+    calls: usize,
+}
+
+impl<'a> Read for Counting<'a> {
+    fn read(&mut self, buf: &mut [u8]) -> std::io::Result<usize> {
+        self.calls = self.calls.saturating_add(1);
+        let count = buf.len().min(self.rest.len());
+        buf[..count].copy_from_slice(&self.rest[..count]);
+        self.rest = &self.rest[count..];
+        Ok(count)
+    }
+}
+
+#[test]
+fn a_wrong_number_of_steps_asks_for_no_byte(rt: HostRuntime) {
+    let many = ["a"; 4097];
+    let wrong: [&[&str]; 2] = [&[], &many];
+    for steps in wrong {
+        let mut reader = Counting {
+            rest: FIRST,
+            calls: 0,
+        };
+        let mut out = Page::new();
+        let mut errors = Page::new();
+        let status = do_replay(rt.alloc(), steps, &mut reader, &mut out, &mut errors);
+        assert_eq!(rt; status, Status::Usage);
+        assert_eq!(rt; reader.calls, 0);
+    }
 }
 
 #[test]

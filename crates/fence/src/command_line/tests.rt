@@ -1,0 +1,93 @@
+use super::matches_of;
+use std::test::Fail;
+
+const HELP: &str = "Runs SCSI fencing scripts against one logical unit
+
+Usage: fence <COMMAND>
+
+Commands:
+  replay  Lets hosts and guests take their turns in this order, and writes the trace
+  help    Print this message or the help of the given subcommand(s)
+
+Options:
+  -h, --help     Print help
+  -V, --version  Print version
+
+Exit status: 0 done; 1 a script is trapped; 2 the command line is at fault, or this help; 3 input or output is at fault; 4 memory ran out. A fault is told in one line on standard error.
+";
+
+const REPLAY_HELP: &str =
+    "Lets hosts and guests take their turns in this order, and writes the trace
+
+Usage: fence replay <FILE> <STEP>...
+
+Arguments:
+  <FILE>     The scenario; - is standard input
+  <STEP>...  The name of the host or guest whose turn is next, one word for each turn
+
+Options:
+  -h, --help  Print help
+
+For example: fence replay preempted-writer.fence a a b a
+";
+
+const NO_STEP: &str = "error: the following required arguments were not provided:
+  <STEP>...
+
+Usage: fence replay <FILE> <STEP>...
+
+For more information, try '--help'.
+";
+
+const NO_SUCH_COMMAND: &str = "error: unrecognized subcommand 'verify'
+
+Usage: fence <COMMAND>
+
+For more information, try '--help'.
+";
+
+const VERSION: &str = "fence 0.1.0 (language fence 1, proved with rattle-kit-13b)\n";
+
+#[test]
+fn a_refused_command_line_is_told_why(rt: HostRuntime) -> Result<(), Fail> {
+    let rows: [(&[&str], &str); 6] = [
+        (&["fence"], HELP),
+        (&["fence", "--help"], HELP),
+        (&["fence", "replay", "--help"], REPLAY_HELP),
+        (&["fence", "replay", "a.fence"], NO_STEP),
+        (&["fence", "verify", "a.fence"], NO_SUCH_COMMAND),
+        (&["fence", "--version"], VERSION),
+    ];
+    for (words, told) in rows {
+        let mut line = Vec::new(rt.alloc());
+        for word in words {
+            line.push(String::from_str(rt.alloc(), word)?)?;
+        }
+        match matches_of(rt.alloc(), &line) {
+            Ok(_) => assert!(rt; false, "taken: {told}"),
+            Err(error) => {
+                let text = error.to_string(rt.alloc())?;
+                assert_eq!(rt; text.as_str(), told);
+            }
+        }
+    }
+    Ok(())
+}
+
+#[test]
+fn a_replay_has_a_file_and_steps(rt: HostRuntime) -> Result<(), Fail> {
+    let mut line = Vec::new(rt.alloc());
+    for word in ["fence", "replay", "-", "a", "b"] {
+        line.push(String::from_str(rt.alloc(), word)?)?;
+    }
+    let Ok(matches) = matches_of(rt.alloc(), &line) else {
+        return Err(Fail::from("refused"));
+    };
+    let Some((name, arguments)) = matches.subcommand() else {
+        return Err(Fail::from("no subcommand"));
+    };
+    assert_eq!(rt; name, "replay");
+    assert_eq!(rt; arguments.get_str("FILE"), Some("-"));
+    assert_eq!(rt; arguments.get_strs("STEP"), Some(["a", "b"].as_slice()));
+    Ok(())
+}
