@@ -20,7 +20,7 @@ abbrev pub KeepsRoles : (s : Scenario) (w : World) (es : List Event) (v : World)
 KeepsRoles s w [] v run = Unit {0}
 KeepsRoles s w (e ∷ es) v run = KeepsRole s w e run.0 run.1 × KeepsRoles s run.0 es v run.2
 
--- no script met a reply without an arm, and none sent more than its budget
+-- a script sent no more commands than its budget
 abbrev pub KeepsBudgetBy : Option Task → World → ℕ → Type 0
 KeepsBudgetBy None w h = Unit {0}
 KeepsBudgetBy (Some (Scripted script budget)) w h = sent w.entries h ≤ budget
