@@ -18,12 +18,23 @@ unsafe extern "C" {
     fn getrusage(who: i32, usage: *mut Usage) -> i32;
 }
 
-// The most memory that any child had, in bytes.
-fn most_memory() -> i64 {
+// What the children used so far.
+fn used_by_children() -> Usage {
     let mut usage = Usage::default();
     // -1 stands for the children.
     unsafe { getrusage(-1, &mut usage) };
-    usage.most_memory * 1024
+    usage
+}
+
+// The most memory that any child had, in bytes.
+fn most_memory() -> i64 {
+    used_by_children().most_memory * 1024
+}
+
+// The children's time in user mode and in the system, in seconds.
+fn processor_times() -> [f64; 2] {
+    let [user, user_micros, system, system_micros] = used_by_children().times;
+    [user as f64 + user_micros as f64 / 1e6, system as f64 + system_micros as f64 / 1e6]
 }
 
 // A scenario of just so many bytes: host a sends 4,096 times, and the other hosts' scripts fill the text.
@@ -53,13 +64,25 @@ fn scenario(bytes: usize) -> String {
     text
 }
 
-// The least time of some runs, and the most that one child of this run wrote.
-fn least(mut run: impl FnMut()) -> Duration {
-    let mut least = Duration::MAX;
+/// How long a run took, and how much of it a processor worked for it.
+struct Cost {
+    elapsed: Duration,
+    user: f64,
+    system: f64,
+}
+
+// The cost of the run that took the least time of some.
+fn least(mut run: impl FnMut()) -> Cost {
+    let mut least = Cost { elapsed: Duration::MAX, user: 0.0, system: 0.0 };
     for _ in 0..ROUNDS {
+        let [user, system] = processor_times();
         let start = Instant::now();
         run();
-        least = least.min(start.elapsed());
+        let elapsed = start.elapsed();
+        let [user_then, system_then] = processor_times();
+        if elapsed < least.elapsed {
+            least = Cost { elapsed, user: user_then - user, system: system_then - system };
+        }
     }
     least
 }
@@ -81,13 +104,15 @@ fn main() {
             assert!(status.expect("cat").success());
         });
         println!(
-            "{} bytes, {} steps, {} bytes of trace: {:.1} ms; cat of the trace {:.1} ms, ratio {:.1}; most memory {:.1} MB",
+            "{} bytes, {} steps, {} bytes of trace: {:.1} ms (user {:.1}, system {:.1}); cat of the trace {:.1} ms, ratio {:.1}; most memory {:.1} MB",
             fs::metadata(&text).expect("the scenario").len(),
             steps.len(),
             fs::metadata(&trace).expect("the trace").len(),
-            replay.as_secs_f64() * 1e3,
-            cat.as_secs_f64() * 1e3,
-            replay.as_secs_f64() / cat.as_secs_f64(),
+            replay.elapsed.as_secs_f64() * 1e3,
+            replay.user * 1e3,
+            replay.system * 1e3,
+            cat.elapsed.as_secs_f64() * 1e3,
+            replay.elapsed.as_secs_f64() / cat.elapsed.as_secs_f64(),
             most_memory() as f64 / 1e6,
         );
     }

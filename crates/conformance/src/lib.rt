@@ -3,3 +3,7 @@
 
 #[cfg(test)]
 mod replays;
+#[cfg(test)]
+mod texts;
+#[cfg(test)]
+mod traces;

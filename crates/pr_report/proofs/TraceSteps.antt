@@ -13,7 +13,7 @@ use Rattle.pr_roles.specs.Scenarios.{scenario_of, nexus_of}
 use Rattle.pr_registry.specs.Registrations.{State, key_of}
 use Rattle.pr_world.specs.declared.end.End.{End}
 use Rattle.pr_world.specs.Ends.{seen}
-use Rattle.pr_report.proofs.Fronts.{wrote_front, wrote_more}
+use Rattle.pr_report.proofs.Fronts.{held_first, held_front, held_more, wrote_front, wrote_more}
 
 -- the element that a loop is at, and what comes after it
 drop_here : {X : Type 0} (xs : List X) (i : ℕ) (x : X) → i < length xs → x ≡ get_or xs i x → drop i xs ≡ x ∷ drop (i + 1) xs
@@ -25,16 +25,20 @@ entry_lines_from : (names : List (List ℕ)) (es : List Entry) (i : ℕ) (e : En
     → entry_lines i names (drop i es) ≡ entry_line (i + 1) names e ++ entry_lines (i + 1) names (drop (i + 1) es)
 entry_lines_from names es i e h is = rw (drop_here es i e h is) refl
 
-pub entry_lines_end : (names : List (List ℕ)) (es : List Entry) (i : ℕ) → length es ≤ i → entry_lines i names (drop i es) ≡ []
+entry_lines_end : (names : List (List ℕ)) (es : List Entry) (i : ℕ) → length es ≤ i → entry_lines i names (drop i es) ≡ []
 entry_lines_end names es i h = rw (drop_of_length-le es {i = i} h) refl
 
-pub entries_front : (old mid new : Option (List ℕ)) (text : List ℕ) (names : List (List ℕ)) (es : List Entry) (i : ℕ) (e : Entry) → i < length es → e ≡ get_or es i e
-    → Wrote old mid text (entry_lines i names (drop i es)) → FallsShort mid new (entry_line (i + 1) names e) → FallsShort old new text
-entries_front old mid new text names es i e h is w f = wrote_front _ _ _ _ _ _ (rw (entry_lines_from names es i e h is) at w) f
+pub entries_front : (old mid new : Option (List ℕ)) (text held : List ℕ) (names : List (List ℕ)) (es : List Entry) (i : ℕ) (e : Entry) → i < length es → e ≡ get_or es i e
+    → Wrote old mid text (held ++ entry_lines i names (drop i es)) → FallsShort mid new (held ++ entry_line (i + 1) names e) → FallsShort old new text
+entries_front old mid new text held names es i e h is w f = held_front _ _ _ _ held _ _ (rw (entry_lines_from names es i e h is) at w) f
 
-pub entries_more : (old mid new : Option (List ℕ)) (text : List ℕ) (names : List (List ℕ)) (es : List Entry) (i : ℕ) (e : Entry) → i < length es → e ≡ get_or es i e
-    → Wrote old mid text (entry_lines i names (drop i es)) → Appends mid new (entry_line (i + 1) names e) → Wrote old new text (entry_lines (i + 1) names (drop (i + 1) es))
-entries_more old mid new text names es i e h is w p = wrote_more _ _ _ _ _ _ (rw (entry_lines_from names es i e h is) at w) p
+pub entries_more : (old mid new : Option (List ℕ)) (text held left : List ℕ) (names : List (List ℕ)) (es : List Entry) (i : ℕ) (e : Entry) → i < length es → e ≡ get_or es i e
+    → Wrote old mid text (held ++ entry_lines i names (drop i es)) → Wrote mid new (held ++ entry_line (i + 1) names e) left → Wrote old new text (left ++ entry_lines (i + 1) names (drop (i + 1) es))
+entries_more old mid new text held left names es i e h is w v = held_more _ _ _ _ held _ _ _ (rw (entry_lines_from names es i e h is) at w) v
+
+pub entries_end : (old new : Option (List ℕ)) (text held : List ℕ) (names : List (List ℕ)) (es : List Entry) (i : ℕ) → length es ≤ i
+    → Wrote old new text (held ++ entry_lines i names (drop i es)) → Wrote old new text held
+entries_end old new text held names es i h w = rw append-nil at (rw (entry_lines_end names es i h) at w)
 
 -- Registrations.
 
@@ -75,16 +79,31 @@ ending_lines_from : (names : List (List ℕ)) (counts : List ℕ) (es : List End
     → ending_lines i names counts (map seen (drop i es)) ≡ ending_line (name_of names i) (seen e) (slice_index counts i) ++ ending_lines (i + 1) names counts (map seen (drop (i + 1) es))
 ending_lines_from names counts es i e h is = rw (drop_here es i e h is) refl
 
-pub ending_lines_end : (names : List (List ℕ)) (counts : List ℕ) (es : List End) (i : ℕ) → length es ≤ i → ending_lines i names counts (map seen (drop i es)) ≡ []
+ending_lines_end : (names : List (List ℕ)) (counts : List ℕ) (es : List End) (i : ℕ) → length es ≤ i → ending_lines i names counts (map seen (drop i es)) ≡ []
 ending_lines_end names counts es i h = rw (drop_of_length-le es {i = i} h) refl
 
-pub ends_front : (old mid new : Option (List ℕ)) (text : List ℕ) (names : List (List ℕ)) (counts : List ℕ) (es : List End) (i : ℕ) (e : End) → i < length es → e ≡ get_or es i e
-    → Wrote old mid text (ending_lines i names counts (map seen (drop i es))) → FallsShort mid new (ending_line (name_of names i) (seen e) (slice_index counts i)) → FallsShort old new text
-ends_front old mid new text names counts es i e h is w f = wrote_front _ _ _ _ _ _ (rw (ending_lines_from names counts es i e h is) at w) f
+pub ends_front : (old mid new : Option (List ℕ)) (text held : List ℕ) (names : List (List ℕ)) (counts : List ℕ) (es : List End) (i : ℕ) (e : End) → i < length es → e ≡ get_or es i e
+    → Wrote old mid text (held ++ ending_lines i names counts (map seen (drop i es))) → FallsShort mid new (held ++ ending_line (name_of names i) (seen e) (slice_index counts i)) → FallsShort old new text
+ends_front old mid new text held names counts es i e h is w f = held_front _ _ _ _ held _ _ (rw (ending_lines_from names counts es i e h is) at w) f
 
-pub ends_more : (old mid new : Option (List ℕ)) (text : List ℕ) (names : List (List ℕ)) (counts : List ℕ) (es : List End) (i : ℕ) (e : End) → i < length es → e ≡ get_or es i e
-    → Wrote old mid text (ending_lines i names counts (map seen (drop i es))) → Appends mid new (ending_line (name_of names i) (seen e) (slice_index counts i)) → Wrote old new text (ending_lines (i + 1) names counts (map seen (drop (i + 1) es)))
-ends_more old mid new text names counts es i e h is w p = wrote_more _ _ _ _ _ _ (rw (ending_lines_from names counts es i e h is) at w) p
+pub ends_more : (old mid new : Option (List ℕ)) (text held left : List ℕ) (names : List (List ℕ)) (counts : List ℕ) (es : List End) (i : ℕ) (e : End) → i < length es → e ≡ get_or es i e
+    → Wrote old mid text (held ++ ending_lines i names counts (map seen (drop i es))) → Wrote mid new (held ++ ending_line (name_of names i) (seen e) (slice_index counts i)) left → Wrote old new text (left ++ ending_lines (i + 1) names counts (map seen (drop (i + 1) es)))
+ends_more old mid new text held left names counts es i e h is w v = held_more _ _ _ _ held _ _ _ (rw (ending_lines_from names counts es i e h is) at w) v
+
+pub ends_end : (old new : Option (List ℕ)) (text held : List ℕ) (names : List (List ℕ)) (counts : List ℕ) (es : List End) (i : ℕ) → length es ≤ i
+    → Wrote old new text (held ++ ending_lines i names counts (map seen (drop i es))) → Wrote old new text held
+ends_end old new text held names counts es i h w = rw append-nil at (rw (ending_lines_end names counts es i h) at w)
+
+-- The whole, in four parts.
+
+abbrev pub first_line : List ℕ
+first_line = line (codes "fence-trace") (codes "1" ∷ [])
+
+pub first_front : (old new : Option (List ℕ)) (held rest : List ℕ) → held ≡ [] → FallsShort old new (held ++ first_line) → FallsShort old new (first_line ++ rest)
+first_front old new held rest e f = held_front old old new (first_line ++ rest) held first_line rest (held_first old (first_line ++ rest) held e) f
+
+pub first_put : (old new : Option (List ℕ)) (held left rest : List ℕ) → held ≡ [] → Wrote old new (held ++ first_line) left → Wrote old new (first_line ++ rest) (left ++ rest)
+first_put old new held left rest e w = held_more old old new (first_line ++ rest) held first_line rest left (held_first old (first_line ++ rest) held e) w
 
 -- Names.
 

@@ -1,6 +1,6 @@
 //! What is reported of a scenario at work, as lines of text to any writer.
 //!
-//! Nothing here takes memory: a text goes out word by word.
+//! Nothing here takes memory: a trace is put together on a page of fixed size, and goes out a page at a time.
 #![tactic(auto)]
 
 mod laws;
@@ -12,6 +12,3 @@ pub use laws::replays_are_traced;
 pub use output::{WriteFault, put};
 pub use printing::{Word, put_line, put_spaced};
 pub use trace::write_trace;
-
-#[cfg(test)]
-mod tests;

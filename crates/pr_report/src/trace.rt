@@ -1,10 +1,12 @@
 //! The text of a trace.
 
-ghost use Rattle.std.specs.Prelude.{◌≡◌, ◌+◌, ◌∷◌, [], codes, map, slice_index};
+ghost use Rattle.std.specs.Prelude.{◌≡◌, ◌+◌, ◌++◌, ◌∷◌, [], codes, map, slice_index};
 ghost use Rattle.pr_registry.specs.Registrations.{key_of};
 ghost use Rattle.pr_roles.specs.Scenarios.{scenario_of};
 ghost use Rattle.pr_world.specs.Ends.{seen};
-ghost use Rattle.pr_report.specs.Written.{Puts};
+ghost use Rattle.pr_report.specs.Written.{Puts, PutsAllBut};
+ghost use Rattle.pr_report.specs.TraceLines.{line_text};
+ghost use Rattle.std.specs.Bool.{OnTrue, OnFalse};
 ghost use Rattle.std.specs.Fmt.{decimal};
 ghost use Rattle.pr_report.specs.Printed.{printed};
 ghost use Rattle.pr_report.specs.PrintedLines.{line, spaced};
@@ -20,10 +22,30 @@ use pr_unit::Unit;
 use pr_world::{End, Entry};
 use std::io::Write;
 
+// Lines that are put together, and have not gone out yet.
+type Page = ArrayVec<u8, 8192>;
+
+/// A line of a trace.
+#[derive(Clone, Copy)]
+pub(crate) enum TraceLine<'a> {
+    /// The one above all others.
+    First,
+
+    /// The entry that has this index.
+    Entry(u64, &'a Entry),
+
+    /// The unit as it is at last.
+    Unit(&'a Registry),
+
+    /// How the host or guest of this name ended, and how many of its commands reached the unit.
+    End(&'a [u8], End, u32),
+}
+
 /// Writes the trace of a scenario: what was sent, the unit as it is at last, how each host or guest stands,
 /// and how many commands of each reached the unit. On a fault, what went out is a front of it, and not all.
 ///
-/// The ends and the counts stand in the order of the hosts' and guests' numbers.
+/// The ends and the counts stand in the order of the hosts' and guests' numbers. The writer is handed as many
+/// lines a call as a page holds, and is not called again once it has failed.
 pub fn write_trace<W: Write>(
     writer: &mut W,
     scenario: &Scenario,
@@ -48,23 +70,98 @@ fn put_trace<W: Write>(
 ) -> Result<(), WriteFault>
     ensures { Puts (W.contents writer.old) (W.contents writer.new) (trace_text (names_of nexuses.now) entries.now unit.now (map seen ends.now) counts.now) result }
 {
-    put_line(writer, Word::Text(b"fence-trace"), &[Word::Text(b"1")])?;
-    put_entries(writer, nexuses, entries)?;
-    put_unit(writer, nexuses, unit)?;
-    put_ends(writer, nexuses, ends, counts)
+    let mut page = Page::new();
+    add_line(writer, &mut page, nexuses, &TraceLine::First)?;
+    add_entries(writer, &mut page, nexuses, entries)?;
+    add_line(writer, &mut page, nexuses, &TraceLine::Unit(unit))?;
+    add_ends(writer, &mut page, nexuses, ends, counts)?;
+    put(writer, page.as_slice())
 }
 
-fn put_entries<W: Write>(
+fn add_entries<W: Write>(
     writer: &mut W,
+    page: &mut Page,
     nexuses: &[Nexus],
     entries: &[Entry],
 ) -> Result<(), WriteFault>
-    ensures { Puts (W.contents writer.old) (W.contents writer.new) (entry_lines 0 (names_of nexuses.now) entries.now) result }
+    ensures { PutsAllBut (W.contents writer.old) (W.contents writer.new) (page.old.items ++ entry_lines 0 (names_of nexuses.now) entries.now) page.new.items result }
 {
     for (others, entry) in entries.iter().enumerate() {
-        put_entry(writer, others as u64 + 1, nexuses, entry)?;
+        let line = TraceLine::Entry(others as u64 + 1, entry);
+        add_line(writer, page, nexuses, &line)?;
     }
     Ok(())
+}
+
+fn add_ends<W: Write>(
+    writer: &mut W,
+    page: &mut Page,
+    nexuses: &[Nexus],
+    ends: &[End],
+    counts: &[u32],
+) -> Result<(), WriteFault>
+    ensures { PutsAllBut (W.contents writer.old) (W.contents writer.new) (page.old.items ++ ending_lines 0 (names_of nexuses.now) counts.now (map seen ends.now)) page.new.items result }
+{
+    for (host, end) in ends.iter().enumerate() {
+        let line = TraceLine::End(name_of(nexuses, host), *end, count_of(counts, host));
+        add_line(writer, page, nexuses, &line)?;
+    }
+    Ok(())
+}
+
+// Puts the line on the page. A page that has no room for it goes out first.
+fn add_line<W: Write>(
+    writer: &mut W,
+    page: &mut Page,
+    nexuses: &[Nexus],
+    line: &TraceLine<'_>,
+) -> Result<(), WriteFault>
+    ensures { PutsAllBut (W.contents writer.old) (W.contents writer.new) (page.old.items ++ line_text (names_of nexuses.now) line.now) page.new.items result }
+{
+    if has_added(page, nexuses, line) {
+        return Ok(());
+    }
+    put(writer, page.as_slice())?;
+    page.clear();
+    if has_added(page, nexuses, line) {
+        return Ok(());
+    }
+    put_trace_line(writer, nexuses, line)
+}
+
+// Whether the page had room for the line, which is on it then.
+fn has_added(page: &mut Page, nexuses: &[Nexus], line: &TraceLine<'_>) -> bool
+    ensures added { OnTrue result (page.new.items ≡ page.old.items ++ line_text (names_of nexuses.now) line.now) }
+    ensures full { OnFalse result (page.new.items ≡ page.old.items) }
+{
+    let before = page.len();
+    let is_added = put_trace_line(page, nexuses, line).is_ok();
+    if !is_added {
+        page.truncate(before);
+    }
+    is_added
+}
+
+fn put_trace_line<W: Write>(
+    writer: &mut W,
+    nexuses: &[Nexus],
+    line: &TraceLine<'_>,
+) -> Result<(), WriteFault>
+    ensures { Puts (W.contents writer.old) (W.contents writer.new) (line_text (names_of nexuses.now) line.now) result }
+{
+    match line {
+        TraceLine::First => put_first(writer),
+        TraceLine::Entry(index, entry) => put_entry(writer, *index, nexuses, entry),
+        TraceLine::Unit(unit) => put_unit(writer, nexuses, unit),
+        TraceLine::End(name, end, sent) => put_end(writer, name, *end, *sent),
+    }
+}
+
+#[tactic(auto, unfolding(crate::specs::Printed::printed))]
+fn put_first<W: Write>(writer: &mut W) -> Result<(), WriteFault>
+    ensures { Puts (W.contents writer.old) (W.contents writer.new) (line (codes "fence-trace") (codes "1" ∷ [])) result }
+{
+    put_line(writer, Word::Text(b"fence-trace"), &[Word::Text(b"1")])
 }
 
 #[tactic(auto, unfolding(crate::specs::TraceText::entry_line, crate::specs::Printed::printed))]
@@ -168,20 +265,6 @@ fn held_word(nexuses: &[Nexus], held: Option<Held>) -> Word<'_>
         Some(Held::One(kind, host)) => Word::Holder(kind, name_of(nexuses, usize::from(host))),
         Some(Held::All(kind)) => Word::Number(u64::from(kind.code())),
     }
-}
-
-fn put_ends<W: Write>(
-    writer: &mut W,
-    nexuses: &[Nexus],
-    ends: &[End],
-    counts: &[u32],
-) -> Result<(), WriteFault>
-    ensures { Puts (W.contents writer.old) (W.contents writer.new) (ending_lines 0 (names_of nexuses.now) counts.now (map seen ends.now)) result }
-{
-    for (host, end) in ends.iter().enumerate() {
-        put_end(writer, name_of(nexuses, host), *end, count_of(counts, host))?;
-    }
-    Ok(())
 }
 
 // A host or guest that has no count sent nothing.

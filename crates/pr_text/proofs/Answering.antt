@@ -64,7 +64,7 @@ starts_declared d s kept =
     sym (map-map (λ w. w.start) nexus_written s.nexuses)
     ∙ (ap (map (λ w. w.start)) kept.nexuses ∙ map-map (λ w. w.start) nexus_declared d.nexuses)
 
-start_same : (d : Declared) (s : Scenario) → IsDeclaredBy d s → first_under (starts s) s.reservations ≡ first_under (map start_of d.nexuses) (reservations_of d)
+pub start_same : (d : Declared) (s : Scenario) → IsDeclaredBy d s → first_under (starts s) s.reservations ≡ first_under (map start_of d.nexuses) (reservations_of d)
 start_same d s kept = ap (λ xs. first_under xs s.reservations) (starts_declared d s kept) ∙ ap (first_under (map start_of d.nexuses)) kept.reservations
 
 start_there : (d : Declared) (s : Scenario) → IsDeclaredBy d s → CanStart s → starts_somewhere d ≡ true

@@ -19,3 +19,4 @@ pub mod Rereading
 pub mod NamesApart
 pub mod DetailLines
 pub mod WholeLines
+pub mod WrittenFits

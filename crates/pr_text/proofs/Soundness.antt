@@ -33,7 +33,7 @@ later n d h = record {
   place = later_place (declared_keys d) n d.place h.place;
 }
 
-passed : {A : Type 0} (b : Bool) (e : ReadError) (r : Result A ReadError) (a : A) → cond b (Err e) r ≡ Ok a → r ≡ Ok a
+pub passed : {A : Type 0} (b : Bool) (e : ReadError) (r : Result A ReadError) (a : A) → cond b (Err e) r ≡ Ok a → r ≡ Ok a
 passed true e r a h = cc
 passed false e r a h = h
 

@@ -69,7 +69,13 @@ unfoldable pub command_in : Action → Option Command
 command_in action.ReadKeys = Some (ReadKeys 8192)
 command_in action.ReadReservation = Some (ReadReservation 8192)
 command_in action.ReportCapabilities = Some (ReportCapabilities 8192)
-command_in _ = None
+command_in action.Register = None
+command_in action.RegisterIgnore = None
+command_in action.Reserve = None
+command_in action.Release = None
+command_in action.Clear = None
+command_in action.Preempt = None
+command_in action.PreemptAbort = None
 
 -- the commands of `--out`. A key that is not written is 0, and a key or type that is not used is dropped.
 unfoldable pub command_out : Action → ℕ → ℕ → Option Kind → Option Command
@@ -80,7 +86,9 @@ command_out action.Release rk sark kind = option_map (λ k. Release rk k) kind
 command_out action.Clear rk sark kind = Some (Clear rk)
 command_out action.Preempt rk sark kind = option_map (λ k. Preempt rk sark (Some k)) kind
 command_out action.PreemptAbort rk sark kind = option_map (λ k. PreemptAbort rk sark (Some k)) kind
-command_out _ rk sark kind = None
+command_out action.ReadKeys rk sark kind = None
+command_out action.ReadReservation rk sark kind = None
+command_out action.ReportCapabilities rk sark kind = None
 
 -- neither a key nor a type is written
 abbrev pub is_bare : Written → Bool

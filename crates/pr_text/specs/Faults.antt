@@ -1,7 +1,7 @@
 -- Steps of which each may have a fault, and what a call answers that may also lack memory.
 use Rattle.std.specs.Prelude.{◌≡◌, Option, Some, None, Result, Ok, Err}
 use Rattle.pr_text.specs.declared.fault.ReadError.{ReadError}
-use Rattle.pr_text.specs.declared.fault.ReadError.TheVariants.{Memory}
+use Rattle.pr_text.specs.declared.fault.ReadError.TheVariants.{TooLarge, NotAscii, LineTooLong, Syntax, UnknownName, Limit, UndeclaredKey, Repeated, Unclosed, ReadFault, Memory, EmptyStart}
 
 -- the second step, on what the first gave
 abbrev pub and_then : {A B : Type 0} → Result A ReadError → (A → Result B ReadError) → Result B ReadError
@@ -15,8 +15,18 @@ unless (Some e) a = Err e
 
 -- this is the fault; memory may fail at any step
 abbrev pub Fails : {A : Type 0} → ReadError → Result A ReadError → Type 0
+Fails TooLarge step = step ≡ Err TooLarge
+Fails (NotAscii n) step = step ≡ Err (NotAscii n)
+Fails (LineTooLong n) step = step ≡ Err (LineTooLong n)
+Fails (Syntax n) step = step ≡ Err (Syntax n)
+Fails (UnknownName n) step = step ≡ Err (UnknownName n)
+Fails (Limit which n) step = step ≡ Err (Limit which n)
+Fails (UndeclaredKey n) step = step ≡ Err (UndeclaredKey n)
+Fails (Repeated n) step = step ≡ Err (Repeated n)
+Fails (Unclosed n) step = step ≡ Err (Unclosed n)
+Fails ReadFault step = step ≡ Err ReadFault
 Fails Memory step = Unit {0}
-Fails e step = step ≡ Err e
+Fails EmptyStart step = step ≡ Err EmptyStart
 
 -- what the call answers is what the step gives
 abbrev pub Gives : {A B : Type 0} → (A → B) → Result A ReadError → Result B ReadError → Type 0

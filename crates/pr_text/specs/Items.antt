@@ -129,7 +129,10 @@ said_simply keyword.Done ws = bare_said done_line ws
 said_simply keyword.Repeat ws = option_map (λ n. repeat_line n) (only ws >>= count_of)
 said_simply keyword.Break ws = bare_said break_line ws
 said_simply keyword.Stop ws = option_map (λ word. stop_line word) (only_name ws)
-said_simply _ ws = None
+said_simply keyword.Keys ws = None
+said_simply keyword.Start ws = None
+said_simply keyword.Pending ws = None
+said_simply keyword.Reservation ws = None
 
 -- what the words behind a keyword say
 abbrev pub said_after : Keyword → List (List ℕ) → Option Item

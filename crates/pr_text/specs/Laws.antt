@@ -1,8 +1,21 @@
 -- Laws of the language.
-use Rattle.std.specs.Prelude.{◌≡◌, ℕ, List}
+use Rattle.std.specs.Prelude.{◌≡◌, ℕ, List, ◌++◌, Err}
 use Rattle.pr_roles.specs.Scenarios.{Scenario}
+use Rattle.pr_roles.specs.Starts.{CanStart}
+use Rattle.pr_roles.specs.Fitting.{Fits}
+use Rattle.pr_text.specs.declared.fault.ReadError.{ReadError}
+use Rattle.pr_text.specs.Declarations.{nothing}
+use Rattle.pr_text.specs.Texts.{all_placed, finished}
 use Rattle.pr_text.specs.Readings.{IsWrittenAs}
 
 -- A text is written as one scenario at most.
 abbrev pub TextsAreWrittenOnce : Type 0
 TextsAreWrittenOnce = (text : List ℕ) (s t : Scenario) → IsWrittenAs text s → IsWrittenAs text t → s ≡ t
+
+-- What a text is written as keeps the limits, has each key declared that it names, and can start.
+abbrev pub WhatIsWrittenFits : Type 0
+WhatIsWrittenFits = (text : List ℕ) (s : Scenario) → IsWrittenAs text s → Fits s × CanStart s
+
+-- The first line with a fault decides, whatever lines follow.
+abbrev pub FirstFaultDecides : Type 0
+FirstFaultDecides = (ls more : List (List ℕ)) (e : ReadError) → all_placed 0 ls nothing ≡ Err e → finished (ls ++ more) ≡ Err e

@@ -8,7 +8,7 @@ use Rattle.pr_text.specs.declared.fault.ReadError.{ReadError}
 use Rattle.pr_text.specs.declared.fault.ReadError.TheVariants as fault
 use Rattle.pr_text.specs.declared.spelling.Spelled.{Spelled}
 use Rattle.pr_text.specs.Faults.{and_then}
-use Rattle.pr_text.specs.Items.{Item, fence_line, keys_line, host_line, guest_line, start_line, pending_line, reservation_line, generation_line, role_line, script_line, plan_line, end_line, command_line}
+use Rattle.pr_text.specs.Items.{Item, fence_line, keys_line, host_line, guest_line, start_line, pending_line, reservation_line, generation_line, role_line, script_line, plan_line, end_line, send_line, on_line, done_line, repeat_line, break_line, stop_line, command_line}
 use Rattle.pr_text.specs.Declarations.{Declaration, WrittenTask, scripted, planned, OpenLines, Place, before_all, outside, in_script, in_plan, Declared}
 use Rattle.pr_text.specs.Declaring.{declared_keys, keys_placed, nexus_placed, start_placed, pending_placed, reservation_placed, generation_placed, role_placed, script_placed, plan_placed}
 use Rattle.pr_text.specs.ScriptSteps.{is_spelled, script_step}
@@ -30,7 +30,15 @@ placed_outside n (generation_line generation) d = generation_placed n generation
 placed_outside n (role_line name clause) d = role_placed n name clause d
 placed_outside n (script_line name budget) d = script_placed n name budget d
 placed_outside n (plan_line name) d = plan_placed n name d
-placed_outside n item d = Err (fault.Syntax n)
+placed_outside n fence_line d = Err (fault.Syntax n)
+placed_outside n end_line d = Err (fault.Syntax n)
+placed_outside n (send_line s) d = Err (fault.Syntax n)
+placed_outside n (on_line t) d = Err (fault.Syntax n)
+placed_outside n done_line d = Err (fault.Syntax n)
+placed_outside n (repeat_line count) d = Err (fault.Syntax n)
+placed_outside n break_line d = Err (fault.Syntax n)
+placed_outside n (stop_line word) d = Err (fault.Syntax n)
+placed_outside n (command_line s) d = Err (fault.Syntax n)
 
 -- this host or guest has its task
 abbrev pub tasked : List Declaration → ℕ → WrittenTask → List Declaration

@@ -23,7 +23,11 @@ said_by (stop_with word) = stop_line word
 -- a send has the number of its own line, and any other line may have any number, here this one
 abbrev pub numbered : ℕ → ScriptLine → ℕ
 numbered n (send_at line command) = line
-numbered n l = n
+numbered n (arm_on test) = n
+numbered n block_done = n
+numbered n (repeat_of count) = n
+numbered n break_out = n
+numbered n (stop_with word) = n
 
 -- what the lines make of an open script, one after another, under these declared keys
 abbrev pub all_stepped : ℕ → List ℕ → List ScriptLine → OpenLines → Result OpenLines ReadError

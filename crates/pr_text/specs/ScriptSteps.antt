@@ -9,7 +9,7 @@ use Rattle.pr_text.specs.declared.fault.ReadError.{ReadError}
 use Rattle.pr_text.specs.declared.fault.ReadError.TheVariants as fault
 use Rattle.pr_text.specs.declared.spelling.Spelled.{Spelled}
 use Rattle.pr_text.specs.Faults.{unless}
-use Rattle.pr_text.specs.Items.{Item, send_line, on_line, done_line, repeat_line, break_line, stop_line}
+use Rattle.pr_text.specs.Items.{Item, fence_line, keys_line, host_line, guest_line, start_line, pending_line, reservation_line, generation_line, role_line, script_line, plan_line, end_line, send_line, on_line, done_line, repeat_line, break_line, stop_line, command_line}
 use Rattle.pr_text.specs.ScriptLines.{ScriptLine, send_at, arm_on, block_done, repeat_of, break_out, stop_with}
 use Rattle.pr_text.specs.Declarations.{Opening, repeating, sending, OpenLines}
 
@@ -89,12 +89,19 @@ abbrev pub stands_under : Command → Test → Bool
 stands_under c (test.GoodHas key) = is_read_keys c
 stands_under c (test.GoodHeld key) = is_read_reservation c
 stands_under c test.GoodUnheld = is_read_reservation c
-stands_under c t = true
+stands_under c test.Good = true
+stands_under c test.Conflict = true
+stands_under c test.Attention = true
+stands_under c (test.Sense s) = true
 
 abbrev pub is_test_declared : List ℕ → Test → Bool
 is_test_declared keys (test.GoodHas key) = is_declared keys key
 is_test_declared keys (test.GoodHeld key) = is_written_key keys key
-is_test_declared keys t = true
+is_test_declared keys test.Good = true
+is_test_declared keys test.GoodUnheld = true
+is_test_declared keys test.Conflict = true
+is_test_declared keys test.Attention = true
+is_test_declared keys (test.Sense s) = true
 
 -- why an arm may not be the next of a send that has so many
 abbrev pub arm_fault : ℕ → List ℕ → Test → Command → ℕ → Option ReadError
@@ -132,4 +139,16 @@ script_step n keys done_line o = done_step n o
 script_step n keys (repeat_line count) o = repeat_step n count o
 script_step n keys break_line o = break_step n o
 script_step n keys (stop_line word) o = stop_step n word o
-script_step n keys item o = Err (fault.Syntax n)
+script_step n keys fence_line o = Err (fault.Syntax n)
+script_step n keys (keys_line ks) o = Err (fault.Syntax n)
+script_step n keys (host_line name) o = Err (fault.Syntax n)
+script_step n keys (guest_line name) o = Err (fault.Syntax n)
+script_step n keys (start_line name xs) o = Err (fault.Syntax n)
+script_step n keys (pending_line name xs) o = Err (fault.Syntax n)
+script_step n keys (reservation_line ws) o = Err (fault.Syntax n)
+script_step n keys (generation_line generation) o = Err (fault.Syntax n)
+script_step n keys (role_line name clause) o = Err (fault.Syntax n)
+script_step n keys (script_line name budget) o = Err (fault.Syntax n)
+script_step n keys (plan_line name) o = Err (fault.Syntax n)
+script_step n keys end_line o = Err (fault.Syntax n)
+script_step n keys (command_line s) o = Err (fault.Syntax n)

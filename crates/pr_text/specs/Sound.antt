@@ -63,15 +63,22 @@ abbrev pub reached : Reached → List ScriptLine → Reached
 reached s ls = fold next s ls
 
 abbrev pub is_statement : ScriptLine → Bool
+is_statement (send_at n c) = true
 is_statement (arm_on t) = false
 is_statement block_done = false
-is_statement l = true
+is_statement (repeat_of n) = true
+is_statement break_out = true
+is_statement (stop_with word) = true
 
 -- the numbers of the lines of the sends
 abbrev pub sends_in : List ScriptLine → List ℕ
 sends_in [] = []
 sends_in ((send_at n c) ∷ ls) = n ∷ sends_in ls
-sends_in (l ∷ ls) = sends_in ls
+sends_in (arm_on t ∷ ls) = sends_in ls
+sends_in (block_done ∷ ls) = sends_in ls
+sends_in (repeat_of n ∷ ls) = sends_in ls
+sends_in (break_out ∷ ls) = sends_in ls
+sends_in (stop_with word ∷ ls) = sends_in ls
 
 -- the lines are those of a whole script
 pub record AreWhole (keys : List ℕ) (ls : List ScriptLine) : Type 0 where

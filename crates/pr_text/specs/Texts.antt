@@ -48,7 +48,9 @@ start_of x = unwrap_or x.start (None ∷ [])
 abbrev pub reservations_of : Declared → List (Option Held)
 reservations_of d = unwrap_or d.reservations (None ∷ [])
 
--- some state is allowed to start from
+-- There is a first start: of the reservations, one has registrations under which it is well formed, each of
+-- them the first of its alternatives but where the reservation wants a key. There is one just where some state
+-- is allowed to start from, which pr_roles proves as a law of its own.
 abbrev pub starts_somewhere : Declared → Bool
 starts_somewhere d = is_some (first_under (map start_of d.nexuses) (reservations_of d))
 

@@ -1,12 +1,22 @@
 //! Laws of the language, each the contract of a function with nothing to do.
 
-ghost use Rattle.pr_text.specs.Laws.{TextsAreWrittenOnce};
+ghost use Rattle.pr_text.specs.Laws.{FirstFaultDecides, TextsAreWrittenOnce, WhatIsWrittenFits};
 ghost use Rattle.pr_text.specs.SaidLines.{ScriptsHaveNoFault};
 ghost use Rattle.pr_text.specs.SaidScenarios.{ScenariosHaveNoFault};
 
 /// A text is written as one scenario at most: its scripts are the only ones that are written as its lines.
 pub fn texts_are_written_once()
     ensures { TextsAreWrittenOnce }
+{}
+
+/// What a text is written as keeps the limits, has each key declared that it names, and can start.
+pub fn what_is_written_fits()
+    ensures { WhatIsWrittenFits }
+{}
+
+/// The first line with a fault decides: what follows it does not matter.
+pub fn the_first_fault_decides()
+    ensures { FirstFaultDecides }
 {}
 
 /// The lines that a script is written as have no fault, if it fits.

@@ -23,8 +23,8 @@ mod text;
 mod uniqueness;
 
 pub use fault::{ReadError, Which};
-pub use laws::{scenarios_have_no_fault, scripts_have_no_fault, texts_are_written_once};
+pub use laws::{
+    scenarios_have_no_fault, scripts_have_no_fault, texts_are_written_once,
+    the_first_fault_decides, what_is_written_fits,
+};
 pub use text::{of_text, read};
-
-#[cfg(test)]
-mod tests;

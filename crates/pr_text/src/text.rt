@@ -27,8 +27,10 @@ const MOST_LINE_BYTES: usize = 256;
 
 /// The scenario that the text is which `reader` has left, or the text's one fault.
 ///
-/// It asks for at most 65,537 bytes, and asks nothing again after an error. What the lines of a scenario say has
-/// no fault, and a text is written as one scenario at most.
+/// Where it is known what the reader has left, a scenario or a fault is that of this text, but for a failed read
+/// and for want of memory, which may come with any text. The reader loses at most 65,537 bytes, and is not asked
+/// again once it has failed. What the lines of a scenario say has no fault, and a text is written as one
+/// scenario at most.
 pub fn read<R: Read>(alloc: Global, reader: &mut R) -> Result<Scenario, ReadError>
     ensures read { IfSome (R.remaining reader.old) (λ text. IsRead text result) }
     ensures limited { LosesUpTo 65537 (R.remaining reader.old) (R.remaining reader.new) }

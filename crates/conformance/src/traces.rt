@@ -1,10 +1,10 @@
 //! Traces as they are written, and what goes out to a writer that fails.
 
-use crate::{Word as Printed, WriteFault, put_line, write_trace};
 use arrayvec::ArrayVec;
 use pr_attention::Pending;
 use pr_cdb::{Kind, Reply, Sense, Status, Wire};
 use pr_registry::{Held, Registry};
+use pr_report::{Word as Printed, WriteFault, put_line, write_trace};
 use pr_roles::{Nexus, Parts, Role, Scenario, Start, Task, Word};
 use pr_unit::Unit;
 use pr_world::{End, Entry};
@@ -16,21 +16,57 @@ use std::test::Fail;
 // A text longer than any here.
 type Page = ArrayVec<u8, 1024>;
 
-/// A writer that takes one byte a call, and answers an error once it has taken its fill.
+/// A writer that takes one byte a call. It fails once, at the call before which so many were made, and takes
+/// more behind it.
 #[derive(Drop)]
-struct OneByte {
+struct FailsOnce {
     taken: Page,
-    fill: usize,
+    before_error: usize,
+    calls: usize,
+    errors: usize,
 }
 
-impl Write for OneByte {
+impl FailsOnce {
+    fn at(before_error: usize) -> Self {
+        FailsOnce {
+            taken: Page::new(),
+            before_error,
+            calls: 0,
+            errors: 0,
+        }
+    }
+}
+
+impl Write for FailsOnce {
     fn write(&mut self, buf: &[u8]) -> std::io::Result<usize> {
+        let call = self.calls;
+        self.calls = self.calls.saturating_add(1);
         let count = buf.len().min(1);
-        if self.fill == 0 || self.taken.try_extend_from_slice(&buf[..count]).is_err() {
+        let fails = call == self.before_error;
+        if fails || self.taken.try_extend_from_slice(&buf[..count]).is_err() {
+            self.errors = self.errors.saturating_add(1);
             return Err(Error::from(ErrorKind::Other));
         }
-        self.fill -= 1;
         Ok(count)
+    }
+
+    fn flush(&mut self) -> std::io::Result<()> {
+        Ok(())
+    }
+}
+
+/// A writer that takes all, and counts its calls and the bytes.
+#[derive(Drop)]
+struct Counting {
+    calls: usize,
+    bytes: usize,
+}
+
+impl Write for Counting {
+    fn write(&mut self, buf: &[u8]) -> std::io::Result<usize> {
+        self.calls = self.calls.saturating_add(1);
+        self.bytes = self.bytes.saturating_add(buf.len());
+        Ok(buf.len())
     }
 
     fn flush(&mut self) -> std::io::Result<()> {
@@ -246,19 +282,48 @@ fn each_other_form(rt: HostRuntime) -> Result<(), Fail> {
     Ok(())
 }
 
+// An error of the writer at any call ends it, and the writer is not called again, though it would take more.
 #[test]
 fn a_failing_writer_has_what_came_before(rt: HostRuntime) -> Result<(), Fail> {
     let scenario = named(&rt, rt.alloc(), &["a"])?;
-    for fill in 0..=FIRST.len() {
-        let mut writer = OneByte {
-            taken: Page::new(),
-            fill,
-        };
+    for count in 0..FIRST.len() {
+        let mut writer = FailsOnce::at(count);
         let written = first_trace(&scenario, &mut writer)?;
-        assert_eq!(rt; written.is_ok(), fill == FIRST.len(), "at {fill}");
-        assert_eq!(rt; writer.taken.as_slice(), &FIRST[..fill], "at {fill}");
+        assert_eq!(rt; written, Err(WriteFault), "at {count}");
+        assert_eq!(rt; writer.errors, 1, "at {count}");
+        assert_eq!(rt; writer.calls, count + 1, "at {count}");
+        assert_eq!(rt; writer.taken.as_slice(), &FIRST[..count], "at {count}");
     }
+    let mut writer = FailsOnce::at(FIRST.len());
+    assert_eq!(rt; first_trace(&scenario, &mut writer)?, Ok(()));
+    assert_eq!(rt; writer.taken.as_slice(), FIRST);
     assert_eq!(rt; first_trace(&scenario, &mut Closed)?, Err(WriteFault));
+    Ok(())
+}
+
+// Lines go out together: far fewer calls than lines.
+#[test]
+fn lines_go_out_together(rt: HostRuntime) -> Result<(), Fail> {
+    let scenario = named(&rt, rt.alloc(), &["a"])?;
+    let mut entries = Vec::new(rt.alloc());
+    for _ in 0..1000 {
+        entries.push(entry(0, &[0; 6], &[], bare(Status::Good))?)?;
+    }
+    let unit = unit_of(&[None], None, 0)?;
+    let mut writer = Counting { calls: 0, bytes: 0 };
+    let written = write_trace(
+        &mut writer,
+        &scenario,
+        &entries,
+        &unit,
+        &[stopped("ok")?],
+        &[1000],
+    );
+    assert_eq!(rt; written, Ok(()));
+    // An entry has 26 bytes where its index has one digit; the other lines have 14, 23 and 28.
+    let entries = 9 * 26 + 90 * 27 + 900 * 28 + 29;
+    assert_eq!(rt; writer.bytes, entries + 14 + 23 + 28);
+    assert!(rt; writer.calls < 10, "{} calls", writer.calls);
     Ok(())
 }
 
@@ -276,5 +341,15 @@ fn a_sense_is_its_key_and_its_codes(rt: HostRuntime) -> Result<(), Fail> {
         Ok(())
     );
     assert_eq!(rt; page.as_slice(), b"reply sense 6/2a/05\n".as_slice());
+    Ok(())
+}
+
+// What is said of the fault.
+#[test]
+fn the_fault_has_its_text(rt: HostRuntime) -> Result<(), Fail> {
+    assert_eq!(rt;
+        WriteFault.to_string(rt.alloc())?.as_str(),
+        "the output took no more"
+    );
     Ok(())
 }

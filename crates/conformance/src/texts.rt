@@ -1,9 +1,14 @@
-use crate::{ReadError, of_text};
+//! Texts of scenarios: what is read of them, and their faults.
+
+use pr_text::{ReadError, Which, of_text};
 use std::alloc::{AllocError, Global};
 
+mod errors;
 mod faults;
 mod limits;
+mod orders;
 mod readers;
+mod values;
 mod whole;
 
 // A host that registers and writes, and a guest that preempts it.
@@ -12,6 +17,12 @@ const PREEMPTED_HOLDER: &str =
 
 // Four lines before the one in question.
 const BEGUN: &str = "fence 1\nkeys a1 b2\nhost a\nguest b\n";
+
+// A script of a, from line 5 on.
+const SCRIPT: &str = "fence 1\nkeys a1 b2\nhost a\nguest b\nscript a budget 5\n";
+
+// A plan of b, from line 4 on.
+const PLAN: &str = "fence 1\nkeys a1 b2\nguest b\nplan b\n";
 
 fn fault_of(alloc: Global, text: &[u8]) -> Option<ReadError> {
     of_text(alloc, text).err()
@@ -22,4 +33,40 @@ fn fault_behind(alloc: Global, first: &str, more: &str) -> Result<Option<ReadErr
     let mut text = String::from_str(alloc, first)?;
     text.push_str(more)?;
     Ok(fault_of(alloc, text.as_bytes()))
+}
+
+// The text that has the part so many times between its first and its last lines.
+fn text_with(
+    alloc: Global,
+    first: &str,
+    part: &str,
+    times: usize,
+    last: &str,
+) -> Result<String, AllocError> {
+    let mut text = String::from_str(alloc, first)?;
+    for _ in 0..times {
+        text.push_str(part)?;
+    }
+    text.push_str(last)?;
+    Ok(text)
+}
+
+fn past(which: Which, line: u32) -> Option<ReadError> {
+    Some(ReadError::Limit { which, line })
+}
+
+fn syntax(line: u32) -> Option<ReadError> {
+    Some(ReadError::Syntax { line })
+}
+
+fn unknown_name(line: u32) -> Option<ReadError> {
+    Some(ReadError::UnknownName { line })
+}
+
+fn undeclared_key(line: u32) -> Option<ReadError> {
+    Some(ReadError::UndeclaredKey { line })
+}
+
+fn repeated(line: u32) -> Option<ReadError> {
+    Some(ReadError::Repeated { line })
 }

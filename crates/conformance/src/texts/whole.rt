@@ -1,9 +1,9 @@
 use super::{PREEMPTED_HOLDER, fault_of};
-use crate::{ReadError, of_text};
 use pr_cdb::{Command, Kind};
 use pr_registry::Held;
 use pr_roles::{Nexus, Task};
 use pr_script::Statement;
+use pr_text::{ReadError, of_text};
 use std::process::Abort;
 use std::test::Fail;
 

@@ -1,24 +1,26 @@
 use super::PREEMPTED_HOLDER;
-use crate::{ReadError, read};
+use pr_text::{ReadError, read};
 use std::io;
 use std::io::Read;
 use std::test::Fail;
 
-// Gives one byte a call, and answers an error where that many calls were made.
+// Gives one byte a call, and answers an error at one call, before which so many were made.
 #[derive(Drop)]
 struct ByteByByte {
     left: &'static [u8],
     before_error: Option<usize>,
+    calls: usize,
     errors: usize,
 }
 
 impl Read for ByteByByte {
     fn read(&mut self, buf: &mut [u8]) -> io::Result<usize> {
-        if self.before_error == Some(0) {
+        let call = self.calls;
+        self.calls = self.calls.saturating_add(1);
+        if self.before_error == Some(call) {
             self.errors = self.errors.saturating_add(1);
             return Err(io::ErrorKind::Interrupted.into());
         }
-        self.before_error = self.before_error.map(|count| count.saturating_sub(1));
         if self.left.is_empty() || buf.is_empty() {
             return Ok(0);
         }
@@ -28,32 +30,37 @@ impl Read for ByteByByte {
     }
 }
 
+fn reader_failing(before_error: Option<usize>) -> ByteByByte {
+    ByteByByte {
+        left: PREEMPTED_HOLDER.as_bytes(),
+        before_error,
+        calls: 0,
+        errors: 0,
+    }
+}
+
 #[test]
 fn any_portions(rt: HostRuntime) -> Result<(), Fail> {
     let mut whole = PREEMPTED_HOLDER.as_bytes();
     let first = read(rt.alloc(), &mut whole)?;
-    let mut reader = ByteByByte {
-        left: PREEMPTED_HOLDER.as_bytes(),
-        before_error: None,
-        errors: 0,
-    };
+    let mut reader = reader_failing(None);
     let second = read(rt.alloc(), &mut reader)?;
     assert!(rt; first.same(&second));
+    // One call for each byte, and one that meets the end.
+    assert_eq!(rt; reader.calls, PREEMPTED_HOLDER.len() + 1);
     Ok(())
 }
 
-// An error of the reader at its k-th call is the answer, for each k, and it is not asked again.
+// An error of the reader at its k-th call is the answer, for each k, and it is not asked again, though it would
+// answer then.
 #[test]
 fn each_error_of_a_reader(rt: HostRuntime) {
     for count in 0..=PREEMPTED_HOLDER.len() {
-        let mut reader = ByteByByte {
-            left: PREEMPTED_HOLDER.as_bytes(),
-            before_error: Some(count),
-            errors: 0,
-        };
+        let mut reader = reader_failing(Some(count));
         let fault = read(rt.alloc(), &mut reader).err();
         assert_eq!(rt; fault, Some(ReadError::ReadFault), "at {count}");
-        assert_eq!(rt; reader.errors, 1);
+        assert_eq!(rt; reader.errors, 1, "at {count}");
+        assert_eq!(rt; reader.calls, count + 1, "at {count}");
     }
 }
 

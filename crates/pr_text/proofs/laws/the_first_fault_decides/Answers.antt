@@ -1,0 +1,5 @@
+use Rattle.pr_text.proofs.WrittenFits.{first_fault_decides}
+use Rattle.pr_text.proofs.laws.the_first_fault_decides.Goals as goal
+
+pub returns : goal.returns
+returns c = first_fault_decides

@@ -1,0 +1,5 @@
+use Rattle.pr_text.proofs.WrittenFits.{what_is_written_fits}
+use Rattle.pr_text.proofs.laws.what_is_written_fits.Goals as goal
+
+pub returns : goal.returns
+returns c = what_is_written_fits
