@@ -7,3 +7,5 @@ mod replays;
 mod texts;
 #[cfg(test)]
 mod traces;
+#[cfg(test)]
+mod unit;

@@ -14,9 +14,6 @@ use arrayvec::ArrayVec;
 use pr_cdb::Kind;
 use std::marker::Model;
 
-#[cfg(test)]
-mod tests;
-
 /// Who is registered with which key, the reservation, and PRGENERATION (SPC-4, 'Persistent
 /// reservations').
 ///
@@ -252,10 +249,11 @@ impl Registry {
         change
     }
 
-    /// PREEMPT, or PREEMPT AND ABORT, by a registrant: registrations end and those who had them are told
-    /// so. Where the key is that of the reservation's single holder, or is zero and all registrants hold,
-    /// the sender stays registered and the reservation is replaced by one of this type; registrants who
-    /// stay are told where a single holder's had another type.
+    /// PREEMPT, or PREEMPT AND ABORT, by a registrant, with a key that some host has, or with zero where
+    /// all registrants hold: registrations end and those who had them are told so. Where the key is zero
+    /// or that of the reservation's single holder, the sender stays registered and the reservation is
+    /// replaced by one of this type; registrants who stay are told where a single holder's had another
+    /// type.
     pub fn preempt(&mut self, host: u8, sark: u64, kind: Option<Kind>) -> Change
         requires there { IsTrue (is_registered self.old host) }
         requires picks { IsTrue (picks_registrations self.old.keys self.old.held sark) }

@@ -18,7 +18,8 @@ abbrev pub last_line : Option Sense → Line
 last_line None = Done
 last_line (Some sense) = AtFault sense
 
--- The first that applies decides. The standards leave this order to the device server; it is our own.
+-- The first that applies decides. That the first three come in this order is the standard's (SAM-5, 'Status
+-- precedence'); that a fault of the request comes after them is our own choice.
 abbrev pub line : UnitState → ℕ → Request → Line
 line u h q =
     if is_pending u h power_on then PowerOn else (

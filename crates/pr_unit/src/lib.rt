@@ -17,6 +17,3 @@ pub use laws::{
     good_steps_take_effect, quiet_steps, steps_are_well_formed, steps_keep_hosts,
 };
 pub use unit::Unit;
-
-#[cfg(test)]
-mod tests;
