@@ -4,6 +4,10 @@
 #[cfg(test)]
 mod replays;
 #[cfg(test)]
+mod roles;
+#[cfg(test)]
+mod scripts;
+#[cfg(test)]
 mod texts;
 #[cfg(test)]
 mod traces;

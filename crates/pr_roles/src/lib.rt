@@ -1,6 +1,8 @@
 //! Roles, starts and scenarios as values, and the tests of which parts a text may write.
 //!
 //! A [`Scenario`] has parts that fit and some state to start from, by its type.
+//!
+//! Worked examples stand in the crate `conformance`.
 #![tactic(auto)]
 
 mod copying;
@@ -12,8 +14,6 @@ mod parts;
 mod permitting;
 mod role;
 mod scenario;
-#[cfg(test)]
-mod tests;
 mod uniqueness;
 
 pub use entry::Entry;

@@ -3,6 +3,8 @@
 //!
 //! Contracts see a [`Script`] as the tree of its statements, and a [`Machine`] as its configuration: the
 //! list of what is still to do.
+//!
+//! Worked examples stand in the crate `conformance`.
 #![tactic(auto)]
 
 mod counts;
@@ -27,6 +29,3 @@ pub use names::is_name;
 pub use next::{Next, NoArm};
 pub use script::{Arm, Script, Statement, Test, Word};
 pub use sizes::cost;
-
-#[cfg(test)]
-mod tests;

@@ -1,7 +1,7 @@
 //! What is still to do of a script, kept as a list of items whose last comes first.
 
-use crate::{Arm, Script, Statement, Test};
 use pr_cdb::Status;
+use pr_script::{Arm, Script, Statement, Test};
 use std::alloc::{AllocError, Global};
 
 /// A statement; a repeat that is to run this many times more; or the end of one turn of a repeat.
