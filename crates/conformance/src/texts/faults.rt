@@ -205,6 +205,16 @@ fn names_and_keys(rt: HostRuntime) -> Result<(), Fail> {
         ),
         (
             SCRIPT,
+            undeclared_key(6),
+            "send --out --register-ignore --param-rk=c3 --param-sark=a1",
+        ),
+        (
+            SCRIPT,
+            undeclared_key(6),
+            "send --out --clear --param-rk=a1 --param-sark=c3",
+        ),
+        (
+            SCRIPT,
             undeclared_key(7),
             "send --in --read-keys\non good has c3",
         ),
@@ -299,6 +309,13 @@ fn ends_and_bytes(rt: HostRuntime) -> Result<(), Fail> {
         ("", syntax(1), "fence\n"),
         ("", syntax(1), "fence 1 2\n"),
         ("", syntax(2), "fence 1\nguest b#\n"),
+        (
+            SCRIPT,
+            None,
+            "repeat 2\nsend request-sense\non good\nbreak\ndone\ndone\nend",
+        ),
+        (PLAN, None, "end"),
+        ("", syntax(2), "fence 1\nkeys 1 2#\nguest b\n"),
         (
             "",
             syntax(3),
