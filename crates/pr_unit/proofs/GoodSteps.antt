@@ -1,10 +1,9 @@
 -- The steps that end GOOD: such a step of a command other than REQUEST SENSE has the command's effect, and
 -- where nothing is in its way there is one.
-use Rattle.std.proofs.Common.{◌≡◌, ℕ, Bool, true, false, ◌||◌, if◌then◌else◌, None, Option, refl, sym, ap, ◌∙◌, subst}
+use Rattle.std.proofs.Common.{◌≡◌, ℕ, Bool, true, false, ◌||◌, if◌then◌else◌, None, Option, refl, sym, ◌∙◌, subst}
 use Rattle.std.proofs.lemmas.Bool.{false≢true}
 use Rattle.pr_cdb.specs.declared.command.Command.{Command}
 use Rattle.pr_cdb.specs.declared.reply.Sense.{Sense}
-use Rattle.pr_cdb.specs.declared.reply.Reply.{Reply}
 use Rattle.pr_cdb.specs.declared.wire.Request.TheVariants.{Plain}
 use Rattle.pr_unit.specs.declared.line.Line.{Line}
 use Rattle.pr_unit.specs.declared.line.Line.TheVariants.{PowerOn, Conflicting, Attention, AtFault, Done}
@@ -12,8 +11,8 @@ use Rattle.pr_unit.specs.Attentions.{power_on}
 use Rattle.pr_unit.specs.UnitStates.{UnitState, is_pending, is_any_pending, effect}
 use Rattle.pr_unit.specs.Conflicts.{command_conflicts}
 use Rattle.pr_unit.specs.Faults.{command_fault}
-use Rattle.pr_unit.specs.Replies.{good, is_good, is_request_sense, data_of}
-use Rattle.pr_unit.specs.Steps.{Step, StepBy, line, last_line, ends_good}
+use Rattle.pr_unit.specs.Replies.{good, data_of}
+use Rattle.pr_unit.specs.Steps.{StepBy, line, last_line, ends_good}
 use Rattle.pr_unit.specs.Laws.{TakesEffect, GoodStepsTakeEffect, FreeCommandsEndGood}
 use Rattle.pr_unit.proofs.GoodFixed.{good_by_line}
 use Rattle.pr_unit.proofs.Steps.{done_is_free}

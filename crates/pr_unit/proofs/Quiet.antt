@@ -5,19 +5,16 @@ use Rattle.std.proofs.lemmas.Bool.{false≢true, and_parts}
 use Rattle.std.proofs.lemmas.Bool.Decides.{nat_tests}
 use Rattle.pr_cdb.specs.declared.command.Command.{Command}
 use Rattle.pr_cdb.specs.declared.command.Command.TheVariants.{TestUnitReady, RequestSense, Read, Write, ReadKeys, ReadReservation, ReportCapabilities, Register, RegisterIgnore, Reserve, Release, Clear, Preempt, PreemptAbort}
-use Rattle.pr_cdb.specs.declared.reply.Reply.{Reply}
 use Rattle.pr_cdb.specs.declared.wire.Request.{Request}
 use Rattle.pr_cdb.specs.declared.wire.Request.TheVariants.{Plain, Faulty}
-use Rattle.pr_registry.specs.declared.change.Change.{Change}
-use Rattle.pr_registry.specs.Hosts.{Hosts, nobody}
-use Rattle.pr_registry.specs.Registrations.{State}
+use Rattle.pr_registry.specs.Hosts.{nobody}
 use Rattle.pr_registry.specs.Changes.{no_change}
 use Rattle.pr_unit.specs.declared.line.Line.{Line}
 use Rattle.pr_unit.specs.declared.line.Line.TheVariants.{PowerOn, Conflicting, Attention, AtFault, Done}
 use Rattle.pr_unit.specs.Attentions.{Pairs, power_on, each_with, reservations_preempted, reservations_released, registrations_preempted}
-use Rattle.pr_unit.specs.UnitStates.{UnitState, is_pending, effect, reported, told}
+use Rattle.pr_unit.specs.UnitStates.{UnitState, effect, reported, told}
 use Rattle.pr_unit.specs.Replies.{is_good}
-use Rattle.pr_unit.specs.Steps.{Step, StepBy, line}
+use Rattle.pr_unit.specs.Steps.{StepBy, line}
 use Rattle.pr_unit.specs.Laws.{IsQuiet, request_looks, QuietSteps}
 use Rattle.pr_unit.proofs.Pairs.{same_pairs, contains-union-pairs, contains-each_with, contains-remove-pair}
 
