@@ -218,11 +218,11 @@ fn assert_holds(
     assert!(rt; permitted(rt, alloc, always(Action::Read), unit, host, read)?);
     for (condition, holds) in CONDITIONS.iter().zip(expected) {
         let clause = under(Action::Read, *condition);
-        let permitted = permitted(rt, alloc, clause, unit, host, read)?;
-        assert_eq!(rt; permitted, holds, "{condition:?} of {host}");
+        let answer = permitted(rt, alloc, clause, unit, host, read)?;
+        assert_eq!(rt; answer, holds, "{condition:?} of {host}");
         // The condition permits nothing that the action does not name.
         let other = under(Action::Write, *condition);
-        assert!(rt; !self::permitted(rt, alloc, other, unit, host, read)?);
+        assert!(rt; !permitted(rt, alloc, other, unit, host, read)?);
     }
     Ok(())
 }
