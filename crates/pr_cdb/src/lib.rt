@@ -23,6 +23,3 @@ pub use reply::{Reply, Sense, Status};
 pub use sense_data::{decode_sense, encode_sense};
 pub use wire::{Bad, Request, Wire};
 pub use writing::{encode, reads_what_is_written};
-
-#[cfg(test)]
-mod tests;
