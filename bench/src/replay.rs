@@ -4,7 +4,7 @@ use std::fs;
 use std::process::{Command, Stdio};
 use std::time::{Duration, Instant};
 
-const ROUNDS: u32 = 15;
+const ROUNDS: u32 = 100;
 
 #[repr(C)]
 #[derive(Default)]
@@ -71,17 +71,25 @@ struct Cost {
     system: f64,
 }
 
-// The cost of the run that took the least time of some.
-fn least(mut run: impl FnMut()) -> Cost {
-    let mut least = Cost { elapsed: Duration::MAX, user: 0.0, system: 0.0 };
-    for _ in 0..ROUNDS {
-        let [user, system] = processor_times();
-        let start = Instant::now();
-        run();
-        let elapsed = start.elapsed();
-        let [user_then, system_then] = processor_times();
-        if elapsed < least.elapsed {
-            least = Cost { elapsed, user: user_then - user, system: system_then - system };
+// What one run costs.
+fn cost(run: impl FnOnce()) -> Cost {
+    let [user, system] = processor_times();
+    let start = Instant::now();
+    run();
+    let elapsed = start.elapsed();
+    let [user_then, system_then] = processor_times();
+    Cost { elapsed, user: user_then - user, system: system_then - system }
+}
+
+// The costs of the two runs, of each the one that took the least time. They take turns, so that a machine that is
+// slow for a while is slow for both.
+fn least(first: impl Fn(), second: impl Fn()) -> [Cost; 2] {
+    let mut least = [cost(&first), cost(&second)];
+    for _ in 1..ROUNDS {
+        for (least, now) in least.iter_mut().zip([cost(&first), cost(&second)]) {
+            if now.elapsed < least.elapsed {
+                *least = now;
+            }
         }
     }
     least
@@ -100,11 +108,11 @@ fn main() {
         };
         replay_to(fs::File::create(&trace).expect("a trace").into());
         // Both write to a device that takes all, so that no disk is timed.
-        let replay = least(|| replay_to(Stdio::null()));
-        let cat = least(|| {
+        let cat = || {
             let status = Command::new("cat").arg(&trace).stdout(Stdio::null()).status();
             assert!(status.expect("cat").success());
-        });
+        };
+        let [replay, cat] = least(|| replay_to(Stdio::null()), cat);
         println!(
             "{} bytes, {} steps, {} bytes of trace: {:.1} ms (user {:.1}, system {:.1}); cat of the trace {:.1} ms, ratio {:.1}; most memory {:.1} MB",
             fs::metadata(&text).expect("the scenario").len(),

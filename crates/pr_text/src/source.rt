@@ -39,7 +39,7 @@ pub fn all_bytes<R: Read>(
     ensures err { OnErr result (LosesUpTo limit (R.remaining reader.old) (R.remaining reader.new)) }
 {
     let mut bytes = Vec::new(alloc);
-    let mut buffer = [0; 512];
+    let mut buffer = [0; 8_192];
     while bytes.len() < limit {
         let room = buffer.len().min(limit - bytes.len());
         let Ok(count) = reader.read(&mut buffer[..room]) else {
