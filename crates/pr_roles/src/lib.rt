@@ -2,7 +2,7 @@
 //!
 //! A [`Scenario`] has parts that fit and some state to start from, by its type.
 //!
-//! Worked examples stand in the crate `conformance`.
+//! Worked examples stand in `tests/vectors`.
 #![tactic(auto)]
 
 mod copying;

@@ -4,7 +4,7 @@
 //! Contracts see a [`Script`] as the tree of its statements, and a [`Machine`] as its configuration: the
 //! list of what is still to do.
 //!
-//! Worked examples stand in the crate `conformance`.
+//! Worked examples stand in `tests/vectors`.
 #![tactic(auto)]
 
 mod counts;
