@@ -1,0 +1,13 @@
+-- A set of numbers below 64 as the bits of a word.
+use Rattle.std.specs.Prelude.{◌≡◌, ℕ, ◌≤◌, Bool, true, ◌==◌}
+use Rattle.std.specs.Int.{bit_at}
+use Rattle.pr_sets.specs.declared.word.Word.{Word}
+
+-- n is in the set
+abbrev pub has : Word → ℕ → Bool
+has w n = bit_at w.bits n == 1
+
+-- n is the least number in the set
+pub record IsLeast (w : Word) (n : ℕ) : Type 0 where
+  pub there : has w n ≡ true
+  pub least : (m : ℕ) → has w m ≡ true → n ≤ m

@@ -1,0 +1,115 @@
+//! A set of numbers below 64, as the bits of a word.
+
+ghost use Rattle.std.specs.Prelude.{◌≡◌, ◌<◌, ◌≤◌, ℕ, false, ◌==◌, ◌&&◌, ◌||◌, not, nat_lt, IfSome, IsNone, IfNone, IsTrue};
+ghost use Rattle.pr_sets.specs.Numbers.{most};
+ghost use Rattle.pr_sets.specs.Words.{has, IsLeast};
+
+/// A set of numbers below 64, for reckoning with whole sets at a time.
+#[derive(Clone, Copy, Debug, PartialEq, Eq)]
+pub struct Word {
+    bits: u64,
+}
+
+impl Word {
+    /// No number.
+    pub fn none() -> Self
+        ensures { (n : ℕ) → has result n ≡ false }
+    {
+        Word { bits: 0 }
+    }
+
+    /// Every number below the size.
+    pub fn below(size: u8) -> Self
+        requires { size ≤ most }
+        ensures { (n : ℕ) → has result n ≡ nat_lt n size }
+    {
+        if size == 0 {
+            return Word { bits: 0 };
+        }
+        Word {
+            bits: u64::MAX >> (64 - size),
+        }
+    }
+
+    /// This number alone.
+    pub fn only(n: u8) -> Self
+        requires { n < most }
+        ensures { (m : ℕ) → has result m ≡ (m == n) }
+    {
+        Word { bits: 1 << n }
+    }
+
+    /// The set and this number.
+    pub fn with(self, n: u8) -> Self
+        requires { n < most }
+        ensures { (m : ℕ) → has result m ≡ (m == n || has self m) }
+    {
+        Word {
+            bits: self.bits | 1 << n,
+        }
+    }
+
+    /// The set without this number.
+    pub fn without(self, n: u8) -> Self
+        requires { n < most }
+        ensures { (m : ℕ) → has result m ≡ (not (m == n) && has self m) }
+    {
+        Word {
+            bits: self.bits & !(1 << n),
+        }
+    }
+
+    /// What both sets have.
+    pub fn and(self, other: Word) -> Self
+        ensures { (m : ℕ) → has result m ≡ (has self m && has other m) }
+    {
+        Word {
+            bits: self.bits & other.bits,
+        }
+    }
+
+    /// What either set has.
+    pub fn or(self, other: Word) -> Self
+        ensures { (m : ℕ) → has result m ≡ (has self m || has other m) }
+    {
+        Word {
+            bits: self.bits | other.bits,
+        }
+    }
+
+    /// What the other set does not have.
+    pub fn except(self, other: Word) -> Self
+        ensures { (m : ℕ) → has result m ≡ (has self m && not (has other m)) }
+    {
+        Word {
+            bits: self.bits & !other.bits,
+        }
+    }
+
+    /// Whether the number is in the set.
+    pub fn has(self, n: u8) -> bool
+        requires { n < most }
+        ensures { result ≡ has self n }
+    {
+        self.bits >> n & 1 == 1
+    }
+
+    /// Whether the set has no number.
+    pub fn is_empty(self) -> bool
+        ensures empty { IsTrue result → (m : ℕ) → has self m ≡ false }
+        ensures filled { result ≡ false → (m : ℕ) × IsTrue (has self m) }
+    {
+        self.bits == 0
+    }
+
+    /// The least number in the set.
+    pub fn least(self) -> Option<u8>
+        ensures some { IfSome result (IsLeast self) }
+        ensures none { IfNone result ((m : ℕ) → has self m ≡ false) }
+    {
+        if self.bits == 0 {
+            return None;
+        }
+        Some(self.bits.trailing_zeros() as u8)
+    }
+}
