@@ -1,0 +1,3 @@
+pub mod Purposes
+pub mod Regions
+pub mod Readings

@@ -1,0 +1,61 @@
+-- What a command asks for once its reservation key is accepted.
+use Rattle.std.specs.Prelude.{◌≡◌, ℕ, suc, ◌+◌, Bool, true, false, not, ◌==◌, nat_le, if◌then◌else◌, List, Option, Some, None, option_map, position}
+use Rattle.std.specs.Option.{option_map_or}
+use Rattle.pr_cdb.specs.declared.command.Kind.{Kind}
+use Rattle.pr_cdb.specs.declared.command.Command.{Command}
+use Rattle.pr_cdb.specs.declared.command.Command.TheVariants as command
+use Rattle.pr_registry.specs.Hosts.{is_key}
+use Rattle.pr_unit.specs.Conflicts.{is_wrong_key}
+use Rattle.pr_unit.specs.Faults.{capacity}
+use Rattle.pr_regions.specs.declared.purpose.Purpose.{Purpose}
+use Rattle.pr_regions.specs.declared.purpose.Purpose.TheVariants.{Look, Read, Write, Register, Unregister, Reserve, Release, Clear, PreemptAll, Preempt}
+
+-- the number of a declared key, from 1
+abbrev pub number_in : List ℕ → ℕ → ℕ
+number_in keys k = option_map_or suc (position (λ key. key == k) keys) 0
+
+-- the blocks are among those of the unit
+abbrev pub is_in_range : ℕ → ℕ → Bool
+is_in_range lba blocks = nat_le (lba + blocks) capacity
+
+-- REGISTER of the key zero unregisters
+abbrev pub registering : List ℕ → ℕ → Purpose
+registering keys sark = if sark == 0 then Unregister else Register (number_in keys sark)
+
+-- PREEMPT of the key zero is of all other registrations
+abbrev pub preempting : List ℕ → ℕ → Kind → Purpose
+preempting keys sark kind = if sark == 0 then PreemptAll kind else Preempt (number_in keys sark) kind
+
+-- A PREEMPT without a type has none: no role permits it, and no text writes it.
+abbrev pub purpose_of : List ℕ → Command → Option Purpose
+purpose_of keys command.TestUnitReady = Some Look
+purpose_of keys command.RequestSense = Some Look
+purpose_of keys (command.Read lba blocks) = Some (Read (is_in_range lba blocks))
+purpose_of keys (command.Write lba blocks) = Some (Write (is_in_range lba blocks))
+purpose_of keys (command.ReadKeys alloc) = Some Look
+purpose_of keys (command.ReadReservation alloc) = Some Look
+purpose_of keys (command.ReportCapabilities alloc) = Some Look
+purpose_of keys (command.Register rk sark) = Some (registering keys sark)
+purpose_of keys (command.RegisterIgnore sark) = Some (registering keys sark)
+purpose_of keys (command.Reserve rk kind) = Some (Reserve kind)
+purpose_of keys (command.Release rk kind) = Some (Release kind)
+purpose_of keys (command.Clear rk) = Some Clear
+purpose_of keys (command.Preempt rk sark kind) = option_map (λ t. preempting keys sark t) kind
+purpose_of keys (command.PreemptAbort rk sark kind) = option_map (λ t. preempting keys sark t) kind
+
+-- the reservation key of the command is not accepted from a sender with this key, if it has one
+abbrev pub is_refused : Option ℕ → Command → Bool
+is_refused key command.TestUnitReady = false
+is_refused key command.RequestSense = false
+is_refused key (command.Read lba blocks) = false
+is_refused key (command.Write lba blocks) = false
+is_refused key (command.ReadKeys alloc) = false
+is_refused key (command.ReadReservation alloc) = false
+is_refused key (command.ReportCapabilities alloc) = false
+is_refused key (command.Register rk sark) = is_wrong_key key rk
+is_refused key (command.RegisterIgnore sark) = false
+is_refused key (command.Reserve rk kind) = not (is_key key rk)
+is_refused key (command.Release rk kind) = not (is_key key rk)
+is_refused key (command.Clear rk) = not (is_key key rk)
+is_refused key (command.Preempt rk sark kind) = not (is_key key rk)
+is_refused key (command.PreemptAbort rk sark kind) = not (is_key key rk)

@@ -1,0 +1,57 @@
+//! The states in which a command ends alike.
+
+use pr_cdb::Sense;
+use pr_sets::Word;
+
+/// States with one reservation and one standing of the sender, told apart by the registrations of the others.
+#[derive(Clone, Copy, Debug, PartialEq, Eq)]
+pub struct Region {
+    /// The registrations that the single holder may have, where it is not the sender.
+    pub holder: Word,
+    /// The registrations that each of the others may have.
+    pub others: Word,
+    /// The registrations of which one other than the sender must have one. That of none is not among them.
+    pub somebody: Option<Word>,
+}
+
+/// What a command that ends GOOD changes.
+#[derive(Clone, Copy, Debug, PartialEq, Eq)]
+pub struct Change {
+    /// The sender's registration after it, where it changes.
+    pub sender: Option<u8>,
+    /// The registrations that others lose.
+    pub removed: Word,
+    /// The reservation after it, by its number.
+    pub reservation: u8,
+    /// With which registrations others are told that reservations were preempted.
+    pub told_03: Word,
+    /// With which registrations others are told that reservations were released.
+    pub told_04: Word,
+    /// With which registrations others are told that registrations were preempted.
+    pub told_05: Word,
+}
+
+/// How a command ends once no attention is pending for its sender.
+#[derive(Clone, Copy, Debug, PartialEq, Eq)]
+pub enum Ending {
+    /// RESERVATION CONFLICT.
+    Conflict,
+    /// CHECK CONDITION with this sense.
+    Fault(Sense),
+    /// GOOD.
+    Good(Change),
+}
+
+/// A region with the command's ending there.
+#[derive(Clone, Copy, Debug, PartialEq, Eq)]
+pub struct Branch {
+    pub region: Region,
+    pub ending: Ending,
+}
+
+/// A region with the arm that takes the data which the command returns there, if one does.
+#[derive(Clone, Copy, Debug, PartialEq, Eq)]
+pub struct Reading {
+    pub region: Region,
+    pub arm: Option<usize>,
+}

@@ -1,0 +1,3 @@
+pub mod Possibilities
+pub mod Views
+pub mod Boxes
