@@ -11,7 +11,7 @@ use Rattle.pr_unit.specs.Faults.{command_fault}
 use Rattle.pr_sets.specs.declared.word.Word.{Word}
 use Rattle.pr_sets.specs.Words.{has}
 use Rattle.pr_views.specs.Possibilities.{Scope, IsScope, Item, Registration, Reservation, Attentions, IsSo}
-use Rattle.pr_views.specs.Boxes.{HasSomebody}
+use Rattle.pr_views.specs.Portions.{HasSomebody}
 use Rattle.pr_regions.specs.declared.region.Region.{Region}
 use Rattle.pr_regions.specs.declared.region.Change.{Change}
 use Rattle.pr_regions.specs.declared.region.Ending.{Ending}
