@@ -1,8 +1,9 @@
 -- The bits of a word, as the set of numbers that it stands for.
-use Rattle.std.proofs.Common.{◌≡◌, ◌≢◌, ℕ, ◌-◌, ◌*◌, ◌/◌, ◌%◌, ◌^◌, ◌<◌, ◌≤◌, Bool, true, false, ◌==◌, ◌&&◌, ◌||◌, not, nat_lt, nat_le, min, max, w64, refl, sym, ap, ◌∙◌, inl, inr, ◌⊎◌, arith, bit_or, bit_and}
+use Rattle.std.proofs.Common.{◌≡◌, ◌≢◌, ℕ, ◌-◌, ◌*◌, ◌/◌, ◌%◌, ◌^◌, ◌<◌, ◌≤◌, true, false, ◌==◌, ◌&&◌, ◌||◌, not, nat_lt, nat_le, min, max, w64, refl, sym, ap, ◌∙◌, inl, inr, ◌⊎◌, arith, bit_or, bit_and}
 use Rattle.std.specs.Int.{bit_at, trailing_zeros}
 use Rattle.std.proofs.lemmas.Bool.Decides.{nat_tests, eqb_tells, leb_tells}
 use Rattle.std.proofs.lemmas.Nat.Bits.{bit_at_set_same, bit_at_set_other, bit_at_and, bit_at_or, bit_at_not, bit_at-zero, bit_at-lt, bit_at_above, bit_at_ones, bit_at_ones_above, bit_at-trailing_zeros, ones_shr, same_from_bits_below}
+use Rattle.std.proofs.Math.Bool.{and_comm, or_comm}
 use Rattle.pr_sets.specs.declared.word.Word.{Word}
 use Rattle.pr_sets.specs.Words.{has, IsLeast}
 
@@ -96,26 +97,14 @@ has-only k n small =
 
 pub has-with : (a k n : ℕ) → k < 64 → (bit_at (bit_or a (1 * 2 ^ k % 2 ^ 64)) n == 1) ≡ ((n == k) || (bit_at a n == 1))
 has-with a k n small =
-    has-or a (1 * 2 ^ k % 2 ^ 64) n ∙ ap (λ c. (bit_at a n == 1) || c) (has-only k n small) ∙ turned (bit_at a n == 1) (n == k)
-  where
-    turned : (c d : Bool) → (c || d) ≡ (d || c)
-    turned true true = refl
-    turned true false = refl
-    turned false true = refl
-    turned false false = refl
+    has-or a (1 * 2 ^ k % 2 ^ 64) n ∙ ap (λ c. (bit_at a n == 1) || c) (has-only k n small) ∙ or_comm (bit_at a n == 1) (n == k)
 
 pub has-without : (a k n : ℕ) → a < 2 ^ 64 → k < 64 → (bit_at (bit_and a (2 ^ 64 - 1 - 1 * 2 ^ k % 2 ^ 64)) n == 1) ≡ (not (n == k) && (bit_at a n == 1))
 has-without a k n fits small =
-    has-except a (1 * 2 ^ k % 2 ^ 64) n fits one_fits ∙ ap (λ c. (bit_at a n == 1) && not c) (has-only k n small) ∙ turned (bit_at a n == 1) (not (n == k))
+    has-except a (1 * 2 ^ k % 2 ^ 64) n fits one_fits ∙ ap (λ c. (bit_at a n == 1) && not c) (has-only k n small) ∙ and_comm (bit_at a n == 1) (not (n == k))
   where
     one_fits : 1 * 2 ^ k % 2 ^ 64 < 2 ^ 64
     one_fits = omega arith
-
-    turned : (c d : Bool) → (c && d) ≡ (d && c)
-    turned true true = refl
-    turned true false = refl
-    turned false true = refl
-    turned false false = refl
 
 pub has-below : (size n : ℕ) → size ≤ 64 → (bit_at ((2 ^ 64 - 1) / 2 ^ (64 - size)) n == 1) ≡ nat_lt n size
 has-below size n small =

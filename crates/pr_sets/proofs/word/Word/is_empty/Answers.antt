@@ -1,6 +1,5 @@
-use Rattle.std.proofs.Common.{◌<◌, arith}
+use Rattle.std.proofs.Common.{◌<◌, w64, arith}
 use Rattle.std.specs.Int.{trailing_zeros}
-use Rattle.std.proofs.Common.{w64}
 use Rattle.std.proofs.lemmas.Bool.Decides.{nat_tests}
 use Rattle.pr_sets.proofs.Words.{least_there}
 use Rattle.pr_sets.proofs.word.Word.is_empty.Goals as goal
