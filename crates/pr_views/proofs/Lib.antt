@@ -2,3 +2,4 @@ pub mod Numbering
 pub mod Showing
 pub mod Places
 pub mod Projecting
+pub mod Fronts
