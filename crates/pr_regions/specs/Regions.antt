@@ -51,9 +51,9 @@ pub record Meets (s : Scope) (purpose : Purpose) (held : Option Held) (sender : 
   pub formed : IsWellFormed u
   pub hosts : u.registry.hosts ≡ s.hosts
   pub numbered : (g : ℕ) → g < s.hosts → (r : ℕ) × IsSo s u (Registration g r)
-  pub held : u.registry.held ≡ held
-  pub standing : (r : ℕ) → IsSo s u (Registration sender r) → standing_of purpose r ≡ standing
-  pub purpose : purpose_of s.keys c ≡ Some purpose
+  pub reserved : u.registry.held ≡ held
+  pub stands : (r : ℕ) → IsSo s u (Registration sender r) → standing_of purpose r ≡ standing
+  pub asks : purpose_of s.keys c ≡ Some purpose
   pub accepted : is_refused (key_of u.registry sender) c ≡ false
 
 -- ---- which states are in a region
@@ -82,7 +82,7 @@ told_number c r q = bit_or q (flag (has c.told_03 r) 2 + (flag (has c.told_04 r)
 -- What becomes of the sender's registration, of the others', of the reservation, and of what is pending for
 -- the owner of the view: each by itself.
 pub record Changes (s : Scope) (sender : ℕ) (c : Change) (u v : UnitState) : Type 0 where
-  pub sender : (r : ℕ) → IsSo s u (Registration sender r) → IsSo s v (Registration sender (unwrap_or c.sender r))
+  pub sent : (r : ℕ) → IsSo s u (Registration sender r) → IsSo s v (Registration sender (unwrap_or c.sender r))
   pub others : (g r : ℕ) → g ≢ sender → IsSo s u (Registration g r) → IsSo s v (Registration g (if has c.removed r then 0 else r))
   pub reservation : IsSo s v (Reservation c.reservation)
   pub told : (r q : ℕ) → s.own ≢ sender → IsSo s u (Registration s.own r) → IsSo s u (Attentions q) → IsSo s v (Attentions (told_number c r q))
