@@ -1,0 +1,3 @@
+pub mod Landings
+pub mod Outcomes
+pub mod Interference

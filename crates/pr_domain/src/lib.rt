@@ -1,0 +1,7 @@
+//! What a host can know of the logical unit, and what becomes of it: by its own command, and by the commands of
+//! others.
+#![tactic(auto)]
+
+mod landing;
+
+pub use landing::{Class, Landing};
