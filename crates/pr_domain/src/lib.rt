@@ -3,5 +3,6 @@
 #![tactic(auto)]
 
 mod landing;
+mod place;
 
 pub use landing::{Class, Landing};
