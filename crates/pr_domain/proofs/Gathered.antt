@@ -1,11 +1,13 @@
 -- The portion of a view that stands for a region: it has the states of the region, and no other.
 use Rattle.std.proofs.Common.{◌≡◌, ◌≢◌, ℕ, zero, suc, ◌+◌, ◌<◌, ◌≤◌, Bool, true, false, not, ◌==◌, ◌&&◌, ◌||◌, nat_lt, if◌then◌else◌, IsTrue, List, length, Option, Some, None, option_map, refl, sym, ap, ◌∙◌, subst, inl, inr, ◌⊎◌, arith}
 use Rattle.std.specs.FinMap as map
-use Rattle.std.proofs.lemmas.Bool.{and_parts, and_from, false≢true, not-true}
+use Rattle.std.proofs.lemmas.Bool.{and_parts, and_from, false≢true, not-true, ltb-true}
 use Rattle.std.proofs.lemmas.Bool.Decides.{nat_tests, eqb_tells}
 use Rattle.pr_registry.specs.declared.held.Held.{Held}
 use Rattle.pr_registry.specs.declared.held.Held.TheVariants.{One, All}
-use Rattle.pr_registry.specs.Registrations.{holds_alone, key_of, HasHolder, is_empty}
+use Rattle.pr_registry.specs.Registrations.{holds_alone, key_of, HasHolder, is_all}
+use Rattle.pr_registry.specs.Hosts.{Keys, is_empty}
+use Rattle.pr_registry.proofs.Sets.{is_empty_from_none}
 use Rattle.pr_registry.specs.Changes.{is_held_by_all}
 use Rattle.pr_unit.specs.UnitStates.{UnitState, IsWellFormed}
 use Rattle.pr_roles.specs.Fitting.{is_reservation}
@@ -22,6 +24,10 @@ use Rattle.pr_regions.specs.Regions.{IsInRegion, filter_of}
 use Rattle.pr_domain.specs.declared.place.Place.{Place}
 use Rattle.pr_domain.specs.inside.Gathering.{IsPlace, IsUniform, IsProper, IsAt, passes, IsLeftTo, tested}
 
+and_false : (b : Bool) → (b && false) ≡ false
+and_false true = refl
+and_false false = refl
+
 passed_sender : (place : Place) (senders : Word) (region : Region) (r : ℕ) → passes place senders region place.sender r ≡ true → has senders r ≡ true
 passed_sender place senders region r is =
     let same : (place.sender == place.sender) ≡ true = grind (arith, nat_tests) in
@@ -37,3 +43,116 @@ passed_other place senders region g r other is =
 -- a single holder is left no registration of none
 holder_passes : (place : Place) (senders : Word) (region : Region) (h : ℕ) → holds_alone place.held h ≡ true → passes place senders region h 0 ≡ false
 holder_passes place senders region h alone = rw alone (grind (arith, nat_tests))
+
+-- ---- somebody is registered
+
+search_below : (keys : Keys) (n : ℕ) → ((q : ℕ) × (k : ℕ) × (q < n) × (map.get keys q ≡ Some k)) ⊎ ((q : ℕ) → q < n → map.get keys q ≡ None)
+search_below keys zero = inr (λ q small. absurd (omega arith))
+search_below keys (suc n) = at (search_below keys n) (map.get keys n) refl
+  where
+    at : (((q : ℕ) × (k : ℕ) × (q < n) × (map.get keys q ≡ Some k)) ⊎ ((q : ℕ) → q < n → map.get keys q ≡ None))
+        → (o : Option ℕ) → map.get keys n ≡ o
+        → ((q : ℕ) × (k : ℕ) × (q < suc n) × (map.get keys q ≡ Some k)) ⊎ ((q : ℕ) → q < suc n → map.get keys q ≡ None)
+    at (inl found) o is = inl (found.0, found.1, omega arith, found.3)
+    at (inr none) (Some k) is = inl (n, k, omega arith, is)
+    at (inr none) None is = inr (λ q small. last q small (eqb_tells q n))
+      where
+        last : (q : ℕ) → q < suc n → (((q == n) ≡ true) × (q ≡ n)) ⊎ (((q == n) ≡ false) × (q ≢ n)) → map.get keys q ≡ None
+        last q small (inl same) = subst (λ m. map.get keys m ≡ None) (sym same.1) is
+        last q small (inr other) = none q (let differs = other.1 in omega arith)
+
+-- where somebody is registered, there is one
+pub someone : (keys : Keys) (n : ℕ) → ((q k : ℕ) → map.get keys q ≡ Some k → q < n) → is_empty keys ≡ false → (q : ℕ) × (k : ℕ) × (map.get keys q ≡ Some k)
+someone keys n below filled = at (search_below keys n)
+  where
+    at : (((q : ℕ) × (k : ℕ) × (q < n) × (map.get keys q ≡ Some k)) ⊎ ((q : ℕ) → q < n → map.get keys q ≡ None)) → (q : ℕ) × (k : ℕ) × (map.get keys q ≡ Some k)
+    at (inl found) = (found.0, found.1, found.3)
+    at (inr none) = absurd (false≢true (sym filled ∙ is_empty_from_none keys (λ q. all q (map.get keys q) refl)))
+      where
+        all : (q : ℕ) (o : Option ℕ) → map.get keys q ≡ o → map.get keys q ≡ None
+        all q None is = is
+        all q (Some k) is = none q (below q k is)
+
+-- ---- the portion
+
+pub record IsPortionOf (view : Possibilities) (place : Place) (senders : Word) (region : Region) (p : Portion) : Type 0 where
+  pub sender : p.sender ≡ place.sender
+  pub reservation : p.reservation ≡ place.reservation
+  pub left : IsLeftTo view place senders region p
+  pub tested : tested place senders region.somebody p.somebody
+
+gives : (s : Scope) (view : Possibilities) (place : Place) (senders : Word) (region : Region) (p : Portion) → IsPlace s view place → IsProper region
+    → IsPortionOf view place senders region p → (held : Option Held) → place.held ≡ held → is_reservation s.hosts held ≡ true → GivesHolder p held
+gives s view place senders region p is proper of None held fits = tt
+gives s view place senders region p is proper of (Some (One kind h)) held fits =
+    let parts = and_parts (not (is_all kind)) (nat_lt h s.hosts) fits in
+    let below : h < place.hosts = subst (λ n. h < n) is.hosts (ltb-true h s.hosts parts.1) in
+    let alone : holds_alone place.held h ≡ true = subst (λ v. holds_alone v h ≡ true) (sym held) (grind (arith, nat_tests)) in
+    of.left h 0 below ∙ ap (λ b. has_at view.registrations h 0 && b) (holder_passes place senders region h alone) ∙ and_false (has_at view.registrations h 0)
+gives s view place senders region p is proper of (Some (All kind)) held fits = at (has senders 0) refl
+  where
+    by_all : is_held_by_all place.held ≡ true
+    by_all = subst (λ v. is_held_by_all v ≡ true) (sym held) refl
+
+    at : (b : Bool) → has senders 0 ≡ b → (has_at p.registrations p.sender 0 ≡ false) ⊎ TestsRegistered p.somebody
+    at false none = inl (subst (λ n. has_at p.registrations n 0 ≡ false) (sym of.sender)
+        (of.left place.sender 0 is.sender ∙ ap (λ b. has_at view.registrations place.sender 0 && b) (unsent none) ∙ and_false (has_at view.registrations place.sender 0)))
+      where
+        unsent : has senders 0 ≡ false → passes place senders region place.sender 0 ≡ false
+        unsent none =
+            let same : (place.sender == place.sender) ≡ true = grind (arith, nat_tests) in
+            subst (λ b. (has (if b then senders else filter_of region place.held place.sender) 0 && not (holds_alone place.held place.sender && 0 == 0)) ≡ false) (sym same)
+            (ap (λ b. b && not (holds_alone place.held place.sender && 0 == 0)) none)
+    at true some = inr (tests region.somebody p.somebody of.tested proper)
+      where
+        tests : (a b : Option Word) → tested place senders a b → TestsRegistered a → TestsRegistered b
+        tests None None none proper = absurd (false≢true (sym none ∙ ap (λ b. b && has senders 0) by_all ∙ some))
+        tests None (Some w) another proper = another.2
+        tests (Some w) None none proper = absurd none
+        tests (Some w) (Some x) same proper = subst (λ y. has y 0 ≡ false) (sym same) proper
+
+pub is_portion : (s : Scope) (view : Possibilities) (place : Place) (senders : Word) (region : Region) (p : Portion) → IsPlace s view place → IsProper region
+    → IsPortionOf view place senders region p → IsPortion (view_in s view) p
+is_portion s view place senders region p is proper of = record {
+  sender = subst (λ n. n < s.hosts) (sym of.sender) (subst (λ n. place.sender < n) (sym is.hosts) is.sender);
+  registrations = λ g r below has. (and_parts (has_at view.registrations g r) _ (sym (of.left g r (subst (λ n. g < n) is.hosts below)) ∙ has)).0;
+  reservation = subst (λ n. has view.reservations n ≡ true) (sym of.reservation) is.possible;
+  holder = λ held fits number.
+      let same = same_held s.hosts place.held held is.held fits (sym is.number ∙ sym of.reservation ∙ number) in
+      gives s view place senders region p is proper of held same fits;
+}
+
+-- ---- its states
+
+-- the reservation of the place is that of the state
+same_reservation : (s : Scope) (view : Possibilities) (place : Place) (u : UnitState) → IsPlace s view place → Shows (view_in s view) u → IsSo s u (Reservation place.reservation)
+    → u.registry.held ≡ place.held
+same_reservation s view place u is shown so =
+    let fits = subst (λ n. is_reservation n u.registry.held ≡ true) shown.hosts (reservation_of u.registry shown.formed.registry) in
+    same_held s.hosts u.registry.held place.held fits is.held (sym so ∙ is.number)
+
+pub at_from_in : (s : Scope) (view : Possibilities) (place : Place) (senders : Word) (region : Region) (p : Portion) → IsPlace s view place
+    → IsPortionOf view place senders region p → (u : UnitState) → IsIn (view_in s view) p u → IsAt (view_in s view) place senders region u
+at_from_in s view place senders region p is of u inside =
+    let so = subst (λ x. IsSo s u (Reservation x)) of.reservation inside.reservation in
+    let held = same_reservation s view place u is inside.shown so in
+    record {
+      shown = inside.shown;
+      reservation = so;
+      sender = λ r it. passed_sender place senders region r (passed place.sender r it);
+      inside = record {
+        registrations = λ g r other it. subst (λ v. has (filter_of region v g) r ≡ true) (sym held) (passed_other place senders region g r other (passed g r it));
+        somebody = somebody region.somebody p.somebody of.tested (subst (λ n. HasSomebody s u n (option_map has p.somebody)) of.sender inside.somebody);
+      };
+    }
+  where
+    passed : (g r : ℕ) → IsSo s u (Registration g r) → passes place senders region g r ≡ true
+    passed g r it =
+        (and_parts (has_at view.registrations g r) (passes place senders region g r)
+        (sym (of.left g r (subst (λ n. g < n) is.hosts it.0)) ∙ inside.registrations g r it)).1
+
+    somebody : (a b : Option Word) → tested place senders a b → HasSomebody s u place.sender (option_map has b) → HasSomebody s u place.sender (option_map has a)
+    somebody None None none some = tt
+    somebody None (Some w) another some = tt
+    somebody (Some w) None none some = absurd none
+    somebody (Some w) (Some x) same some = subst (λ y. HasSomebody s u place.sender (Some (has y))) same some

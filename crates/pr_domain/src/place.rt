@@ -1,6 +1,6 @@
 //! The states that a view shows, one part after another.
 
-ghost use Rattle.std.specs.Prelude.{◌≡◌, ◌<◌, ◌≤◌, ℕ, Bool, true, ◌&&◌, IfSome, IfNone};
+ghost use Rattle.std.specs.Prelude.{◌≡◌, ◌<◌, ◌≤◌, ℕ, Bool, true, false, ◌&&◌, IfSome, IfNone};
 ghost use Rattle.pr_registry.specs.Changes.{is_held_by_all};
 ghost use Rattle.pr_sets.specs.Words.{has};
 ghost use Rattle.pr_views.specs.Possibilities.{Scope};
@@ -43,11 +43,11 @@ impl Place {
         requires hosts { (1 ≤ self.now.hosts) × (self.now.hosts ≤ 8) }
         ensures { (g r : ℕ) → g < self.now.hosts → has_at result g r ≡ (has_at view.now.registrations g r && passes self.now senders region.now g r) }
     {
-        let mut words = view.registrations;
+        let mut words = [Word::none(); 8];
         let mut g = 0;
         while g < self.hosts {
             let i = usize::from(g);
-            words[i] = self.left_to(g, words[i], senders, region);
+            words[i] = self.left_to(g, view.registrations[i], senders, region);
             g += 1;
         }
         words
