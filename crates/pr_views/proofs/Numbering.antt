@@ -1,11 +1,10 @@
 -- Each registration, reservation and set of attentions has one number, and each number below the bound is one's.
-use Rattle.std.proofs.Common.{◌≡◌, ◌≢◌, ℕ, zero, suc, ◌+◌, ◌-◌, ◌*◌, ◌/◌, ◌%◌, ◌<◌, ◌≤◌, Bool, true, false, ◌==◌, ◌&&◌, ◌||◌, not, nat_lt, nat_le, cond, if◌then◌else◌, IsTrue, List, [], ◌∷◌, length, Option, Some, None, is_some, refl, sym, ap, ◌∙◌, subst, inl, inr, ◌⊎◌, arith, one-add}
-use Rattle.std.specs.FinSet as set
+use Rattle.std.proofs.Common.{◌≡◌, ℕ, zero, suc, ◌+◌, ◌-◌, ◌*◌, ◌/◌, ◌%◌, ◌<◌, ◌≤◌, Bool, true, false, ◌==◌, ◌||◌, not, nat_lt, nat_le, IsTrue, List, [], ◌∷◌, length, Option, Some, None, is_some, refl, sym, ap, ◌∙◌, arith, one-add}
 use Rattle.std.specs.FinMap as map
 use Rattle.std.specs.List.{slice_get, list_any}
 use Rattle.std.proofs.lemmas.Bool.{and_parts, and_from, false≢true, not-true, or_right, ltb-true, ltb-false, lt-ltb, le-ltb}
-use Rattle.std.proofs.lemmas.Bool.Decides.{nat_tests, leb_tells}
-use Rattle.std.proofs.lemmas.Option.{same_Some, slice_get-get_or, slice_get_within}
+use Rattle.std.proofs.lemmas.Bool.Decides.{nat_tests}
+use Rattle.std.proofs.lemmas.Option.{same_Some}
 use Rattle.std.proofs.lemmas.Nat.{div-mul-add, mod-mul-add, div-add-mod', div_below, mod_below, row_fits}
 use Rattle.std.proofs.Math.Nat.{mul_comm}
 use Rattle.pr_cdb.specs.declared.command.Kind.{Kind}
@@ -16,7 +15,7 @@ use Rattle.pr_attention.proofs.Bits.{same_bits}
 use Rattle.pr_registry.specs.declared.held.Held.{Held}
 use Rattle.pr_registry.specs.declared.held.Held.TheVariants.{One, All}
 use Rattle.pr_registry.specs.Registrations.{State, IsWellFormed, HasHolder, is_all}
-use Rattle.pr_unit.specs.UnitStates.{UnitState, is_pending}
+use Rattle.pr_unit.specs.UnitStates.{UnitState}
 use Rattle.pr_roles.specs.Fitting.{AreDeclared, are_distinct, is_reservation}
 use Rattle.pr_views.specs.Possibilities.{Scope, IsScope, key_at, place_of, number_of, count_of_reservations, Registration, Reservation, Attentions, IsSo}
 
@@ -169,9 +168,10 @@ number_of-held_at hosts (suc n) some small = at (nat_lt n (hosts * 4)) refl
     at true is =
         let below = ltb-true n (hosts * 4) is in
         let turned = mul_comm hosts 4 in
-        let placed = place_single (n / hosts) (div_below n hosts 4 some (omega arith)) in
-        (and_from (not (is_all (single_at (n / hosts)))) (nat_lt (n % hosts) hosts) (ap not placed.1) (lt-ltb (n % hosts) hosts (mod_below n hosts some)),
-        sym (ap (λ p. 1 + (hosts * p + n % hosts)) placed.0 ∙ ap (λ m. 1 + m) (whole_of hosts n) ∙ one-add n))
+        let placed = place_single (n / hosts) (div_below n hosts 4 some (omega arith)) in (
+          and_from (not (is_all (single_at (n / hosts)))) (nat_lt (n % hosts) hosts) (ap not placed.1) (lt-ltb (n % hosts) hosts (mod_below n hosts some)),
+          sym (ap (λ p. 1 + (hosts * p + n % hosts)) placed.0 ∙ ap (λ m. 1 + m) (whole_of hosts n) ∙ one-add n),
+        )
     at false is =
         let past = ltb-false n (hosts * 4) is in
         let placed = place_shared (n - hosts * 4) (omega arith) in

@@ -1,9 +1,7 @@
 -- A state that a view shows, from what is chosen for each host or guest, a reservation and the owner's attentions.
-use Rattle.std.proofs.Common.{◌≡◌, ◌≢◌, ℕ, zero, suc, ◌+◌, ◌^◌, ◌<◌, ◌≤◌, Bool, true, false, ◌==◌, ◌&&◌, not, nat_lt, cond, IsTrue, List, length, Option, Some, None, is_some, refl, sym, ap, ◌∙◌, subst, inl, inr, ◌⊎◌, lit<, arith}
+use Rattle.std.proofs.Common.{◌≡◌, ◌≢◌, ℕ, zero, suc, ◌<◌, ◌≤◌, Bool, true, false, ◌==◌, ◌&&◌, not, nat_lt, cond, IsTrue, List, length, Option, Some, None, is_some, refl, sym, ap, ◌∙◌, subst, lit<}
 use Rattle.std.specs.FinSet as set
-use Rattle.std.specs.FinMap as map
-use Rattle.std.specs.List.{slice_get, slice_index_or}
-use Rattle.std.proofs.lemmas.Bool.{and_parts, not-true, ltb-true, lt-ltb, false≢true}
+use Rattle.std.proofs.lemmas.Bool.{and_parts, not-true, ltb-true, lt-ltb}
 use Rattle.std.proofs.lemmas.Option.{slice_get_within, get_or_from_slice_get}
 use Rattle.pr_attention.specs.Attentions.{is_attention}
 use Rattle.pr_attention.specs.Flagged.{codes_of}
@@ -15,7 +13,7 @@ use Rattle.pr_registry.specs.Registrations.{HasHolder, IsKey, key_of, is_all}
 use Rattle.pr_registry.proofs.Sets.{get-map_where, not_empty_from_some}
 use Rattle.pr_registry.proofs.Tables.{eq_itself, same_number}
 use Rattle.pr_unit.specs.Attentions.{of_host}
-use Rattle.pr_unit.specs.UnitStates.{UnitState, IsWellFormed, is_pending}
+use Rattle.pr_unit.specs.UnitStates.{UnitState, IsWellFormed}
 use Rattle.pr_unit.proofs.Pairs.{contains-of_host}
 use Rattle.pr_roles.specs.Fitting.{AreDeclared, is_reservation}
 use Rattle.pr_views.specs.Possibilities.{Scope, IsScope, key_at, number_of, count_of_attentions, Registration, Reservation, Attentions, IsSo}

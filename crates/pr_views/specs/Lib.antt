@@ -2,3 +2,4 @@ pub mod Possibilities
 pub mod Views
 pub mod Portions
 pub mod Rooms
+pub mod inside

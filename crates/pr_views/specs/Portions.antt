@@ -11,7 +11,7 @@ use Rattle.pr_sets.specs.Words.{has}
 use Rattle.pr_views.specs.declared.portion.Portion.{Portion}
 use Rattle.pr_views.specs.declared.possibilities.Possibilities.{Possibilities}
 use Rattle.pr_views.specs.Possibilities.{Scope, Item, Registration, Reservation, Attentions, IsSo, number_of}
-use Rattle.pr_views.specs.Views.{View, Shows, IsPossible, Fits}
+use Rattle.pr_views.specs.Views.{View, Shows}
 
 -- n is in the word at this place of the list
 abbrev pub has_at : List Word → ℕ → ℕ → Bool
@@ -58,6 +58,14 @@ pub record IsPortion (v : View) (p : Portion) : Type 0 where
   pub registrations : (g r : ℕ) → g < v.scope.hosts → has_at p.registrations g r ≡ true → v.registrations g r ≡ true
   pub reservation : v.reservations p.reservation ≡ true
   pub holder : (held : Option Held) → is_reservation v.scope.hosts held ≡ true → p.reservation ≡ number_of v.scope.hosts held → GivesHolder p held
+
+-- each host or guest that is there has some number
+abbrev pub AreFilled : ℕ → List Word → Type 0
+AreFilled hosts words = (g : ℕ) → g < hosts → (n : ℕ) × (has_at words g n ≡ true)
+
+-- the numbers that each has here it has there
+abbrev pub AreWithin : List Word → List Word → Type 0
+AreWithin words others = (g n : ℕ) → has_at words g n ≡ true → has_at others g n ≡ true
 
 -- What the states of a portion have: of each host or guest just these registrations, each beside any attentions of
 -- the owner that the view has.

@@ -1,6 +1,6 @@
 -- What is possible of a logical unit, as numbers: a nexus's registration, the reservation, and the unit
 -- attentions that are pending for the host whose view it is.
-use Rattle.std.specs.Prelude.{◌≡◌, ◌≢◌, ℕ, zero, suc, ◌+◌, ◌*◌, ◌<◌, ◌≤◌, List, length, Option, Some, None}
+use Rattle.std.specs.Prelude.{◌≡◌, ℕ, zero, suc, ◌+◌, ◌*◌, ◌<◌, ◌≤◌, List, length, Option, Some, None}
 use Rattle.std.specs.FinSet as set
 use Rattle.std.specs.List.{slice_get}
 use Rattle.pr_cdb.specs.declared.command.Kind.{Kind}

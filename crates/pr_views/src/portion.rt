@@ -1,5 +1,12 @@
 //! Portions of the states that a view shows.
 
+ghost use Rattle.std.specs.Prelude.{◌≡◌, ◌≢◌, ℕ, ◌<◌, ◌≤◌, ◌&&◌, true, false, IsTrue, IfSome, IfNone};
+ghost use Rattle.pr_unit.specs.UnitStates.{UnitState};
+ghost use Rattle.pr_sets.specs.Words.{has};
+ghost use Rattle.pr_views.specs.Views.{View, Fits};
+ghost use Rattle.pr_views.specs.Portions.{has_at, IsIn, IsPortion, AreFilled, AreWithin, IsProjected};
+ghost use Rattle.pr_views.specs.inside.Passing.{LacksOne, CanPass, CannotPass, NonePasses, IsFirstPassing};
+
 use pr_sets::Word;
 
 /// Of the states that a view shows, those with one reservation, in which each host or guest has one of some
@@ -14,4 +21,77 @@ pub struct Portion {
     pub registrations: [Word; 8],
     /// The registrations of which one other than the sender must have one.
     pub somebody: Option<Word>,
+}
+
+impl Portion {
+    /// What each host or guest has in the states of the portion, of so many that are there. None where the portion
+    /// has no state.
+    pub fn projected(&self, hosts: u8) -> Option<[Word; 8]>
+        requires few { (1 ≤ hosts) × (hosts ≤ 8) }
+        requires sender { self.now.sender < hosts }
+        ensures some { IfSome result (λ words. (v : View) → v.scope.hosts ≡ hosts → Fits v → IsPortion v self.now → IsProjected v self.now words) }
+        ensures none { IfNone result ((v : View) → v.scope.hosts ≡ hosts → Fits v → IsPortion v self.now → (u : UnitState) → IsIn v self.now u → ⊥) }
+        ensures within { IfSome result (λ words. AreWithin words self.now.registrations) }
+        ensures filled { IfSome result (AreFilled hosts) }
+    {
+        if !self.is_filled(hosts) {
+            return None;
+        }
+        let Some(test) = self.somebody else {
+            return Some(self.registrations);
+        };
+        let first = self.first_passing(test, 0, hosts)?;
+        if self.first_passing(test, first + 1, hosts).is_some() {
+            return Some(self.registrations);
+        }
+        Some(self.passed_by(test, first))
+    }
+
+    // Whether each host or guest that is there has a registration left.
+    fn is_filled(&self, hosts: u8) -> bool
+        requires { hosts ≤ 8 }
+        ensures filled { IsTrue result → AreFilled hosts self.now.registrations }
+        ensures lacks { result ≡ false → LacksOne hosts self.now.registrations }
+    {
+        for host in 0..hosts {
+            if self.registrations[usize::from(host)].is_empty() {
+                return false;
+            }
+        }
+        true
+    }
+
+    // Of the hosts and guests from a number on, the first that can pass the test.
+    fn first_passing(&self, test: Word, from: u8, hosts: u8) -> Option<u8>
+        requires { hosts ≤ 8 }
+        ensures some { IfSome result (IsFirstPassing self.now test from hosts) }
+        ensures none { IfNone result (NonePasses self.now test from hosts) }
+    {
+        for host in from..hosts {
+            if self.can_pass(test, host) {
+                return Some(host);
+            }
+        }
+        None
+    }
+
+    // Whether one other than the sender has a registration left that passes the test.
+    fn can_pass(&self, test: Word, host: u8) -> bool
+        requires { host < 8 }
+        ensures passes { IsTrue result → CanPass self.now test host }
+        ensures fails { result ≡ false → CannotPass self.now test host }
+    {
+        host != self.sender && !self.registrations[usize::from(host)].and(test).is_empty()
+    }
+
+    // What each has left where this one must pass the test.
+    fn passed_by(&self, test: Word, host: u8) -> [Word; 8]
+        requires { host < 8 }
+        ensures here { (r : ℕ) → has_at result host r ≡ (has_at self.now.registrations host r && has test r) }
+        ensures others { (g r : ℕ) → g ≢ host → has_at result g r ≡ has_at self.now.registrations g r }
+    {
+        let mut words = self.registrations;
+        words[usize::from(host)] = words[usize::from(host)].and(test);
+        words
+    }
 }
