@@ -1,5 +1,5 @@
 -- Where a script goes on after a reply: in an arm of the send, or nowhere.
-use Rattle.std.specs.Prelude.{◌≡◌, ℕ, List, Option, Some, None, position}
+use Rattle.std.specs.Prelude.{◌≡◌, List, Some, None}
 use Rattle.pr_cdb.specs.declared.reply.Reply.{Reply}
 use Rattle.pr_cdb.specs.declared.reply.Status.TheVariants as status
 use Rattle.pr_script.specs.declared.script.Test.{Test}

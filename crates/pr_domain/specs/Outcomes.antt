@@ -1,5 +1,5 @@
 -- What a host's own command may come to.
-use Rattle.std.specs.Prelude.{◌≡◌, ℕ, Bool, true, IsTrue, List}
+use Rattle.std.specs.Prelude.{◌≡◌, true, IsTrue, List}
 use Rattle.std.specs.List.{Contains}
 use Rattle.pr_cdb.specs.declared.command.Command.{Command}
 use Rattle.pr_cdb.specs.declared.reply.Reply.{Reply}

@@ -3,6 +3,7 @@
 ghost use Rattle.std.specs.Prelude.{◌≡◌, ◌<◌, ◌≤◌, ℕ, Bool, true, false, ◌&&◌, IfSome, IfNone};
 ghost use Rattle.pr_registry.specs.Changes.{is_held_by_all};
 ghost use Rattle.pr_sets.specs.Words.{has};
+ghost use Rattle.pr_unit.specs.UnitStates.{UnitState};
 ghost use Rattle.pr_views.specs.Possibilities.{Scope};
 ghost use Rattle.pr_views.specs.Portions.{has_at, view_in};
 ghost use Rattle.pr_domain.specs.inside.Gathering.{IsPlace, IsUniform, IsProper, IsAt, IsGathered, passes, IsLeftTo, tested};
@@ -23,6 +24,17 @@ pub(crate) struct Place {
 }
 
 impl Place {
+    /// What each host and guest has in the states of this region in which the sender has one of these
+    /// registrations; none where the view shows no such state.
+    pub(crate) fn gather(&self, view: &Possibilities, senders: Word, region: &Region) -> Option<[Word; 8]>
+        requires hosts { (1 ≤ self.now.hosts) × (self.now.hosts ≤ 8) }
+        requires sender { self.now.sender < self.now.hosts }
+        ensures some { IfSome result (λ words. (s : Scope) → IsPlace s view.now self.now → IsUniform senders → IsProper region.now → IsGathered (view_in s view.now) self.now senders region.now words) }
+        ensures none { IfNone result ((s : Scope) → IsPlace s view.now self.now → IsUniform senders → IsProper region.now → (u : UnitState) → IsAt (view_in s view.now) self.now senders region.now u → ⊥) }
+    {
+        self.portion(view, senders, region).projected(self.hosts)
+    }
+
     fn portion(&self, view: &Possibilities, senders: Word, region: &Region) -> Portion
         requires hosts { (1 ≤ self.now.hosts) × (self.now.hosts ≤ 8) }
         ensures sender { result.sender ≡ self.now.sender }

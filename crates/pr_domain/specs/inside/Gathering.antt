@@ -1,6 +1,5 @@
 -- The states of a view that are looked at one part after another, and what each host or guest has in such a part.
-use Rattle.std.specs.Prelude.{◌≡◌, ◌≢◌, ℕ, ◌<◌, ◌≤◌, Bool, true, false, not, ◌==◌, ◌&&◌, if◌then◌else◌, List, Option, Some, None}
-use Rattle.pr_registry.specs.declared.held.Held.{Held}
+use Rattle.std.specs.Prelude.{◌≡◌, ℕ, ◌<◌, ◌≤◌, Bool, true, false, not, ◌==◌, ◌&&◌, if◌then◌else◌, List, Option, Some, None}
 use Rattle.pr_registry.specs.Registrations.{holds_alone}
 use Rattle.pr_registry.specs.Changes.{is_held_by_all}
 use Rattle.pr_unit.specs.UnitStates.{UnitState}
