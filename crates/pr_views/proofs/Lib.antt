@@ -1,3 +1,5 @@
 pub mod Numbering
 pub mod Showing
+pub mod Places
 pub mod Projecting
+pub mod Fronts

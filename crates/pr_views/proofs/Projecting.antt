@@ -19,19 +19,6 @@ use Rattle.pr_views.specs.inside.Passing.{LacksOne, CanPass, CannotPass, NonePas
 use Rattle.pr_views.proofs.Numbering.{held_at, number_of-held_at, one_registration}
 use Rattle.pr_views.proofs.Showing.{state_of, registration-state_of, attentions-state_of, IsHeldBy, shown}
 
--- ---- places
-
-pub has_at-get_or : (words : List Word) (i n : ℕ) (d : Word) → i < length words → has_at words i n ≡ has (slice_index_or words i d) n
-has_at-get_or words i n d there = ap (λ o. option_map_or (λ w. has w n) o false) (slice_get-get_or words i d there)
-
--- one more has some number
-pub filled_more : (words : List Word) (i j : ℕ) (d : Word) → AreFilled i words → j ≡ i → j < length words → (n : ℕ) × IsTrue (has (slice_index_or words j d) n) → AreFilled (i + 1) words
-filled_more words i j d filled same small one g there = at (cases_eq g j)
-  where
-    at : (g ≡ j) ⊎ (g ≡ j → ⊥) → (n : ℕ) × (has_at words g n ≡ true)
-    at (inl e) = (one.0, ap (λ h. has_at words h one.0) e ∙ has_at-get_or words j one.0 d small ∙ one.1)
-    at (inr differs) = filled g (omega (arith, cases_order g j))
-
 -- ---- choices
 
 -- the choice, but r at g

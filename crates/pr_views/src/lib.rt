@@ -3,6 +3,7 @@
 
 mod portion;
 mod possibilities;
+mod sets;
 mod view;
 
 pub use portion::Portion;

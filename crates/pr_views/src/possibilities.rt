@@ -1,5 +1,9 @@
 //! What is possible, as words.
 
+ghost use Rattle.std.specs.Prelude.{◌≡◌, ℕ, ◌||◌, false};
+ghost use Rattle.pr_sets.specs.Words.{has};
+ghost use Rattle.pr_views.specs.Portions.{has_at};
+
 use pr_sets::Word;
 
 /// The possibilities of a view as words, for reckoning: those of the first hosts and guests that are there, in
@@ -9,4 +13,32 @@ pub struct Possibilities {
     pub registrations: [Word; 8],
     pub reservations: Word,
     pub pending: Word,
+}
+
+impl Possibilities {
+    /// Nothing is possible.
+    pub fn none() -> Self
+        ensures registrations { (g r : ℕ) → has_at result.registrations g r ≡ false }
+        ensures reservations { (x : ℕ) → has result.reservations x ≡ false }
+        ensures pending { (q : ℕ) → has result.pending q ≡ false }
+    {
+        Possibilities {
+            registrations: [Word::none(); 8],
+            reservations: Word::none(),
+            pending: Word::none(),
+        }
+    }
+
+    /// Adds what is possible in the other.
+    pub fn join(&mut self, other: &Possibilities)
+        ensures registrations { (g r : ℕ) → has_at self.new.registrations g r ≡ (has_at self.old.registrations g r || has_at other.now.registrations g r) }
+        ensures reservations { (x : ℕ) → has self.new.reservations x ≡ (has self.old.reservations x || has other.now.reservations x) }
+        ensures pending { (q : ℕ) → has self.new.pending q ≡ (has self.old.pending q || has other.now.pending q) }
+    {
+        for host in 0..8 {
+            self.registrations[host] = self.registrations[host].or(other.registrations[host]);
+        }
+        self.reservations = self.reservations.or(other.reservations);
+        self.pending = self.pending.or(other.pending);
+    }
 }
