@@ -1,6 +1,6 @@
 //! A set of numbers below 64, as the bits of a word.
 
-ghost use Rattle.std.specs.Prelude.{◌≡◌, ◌<◌, ◌≤◌, ℕ, false, ◌==◌, ◌&&◌, ◌||◌, not, nat_lt, IfSome, IsNone, IfNone, IsTrue};
+ghost use Rattle.std.specs.Prelude.{◌≡◌, ◌<◌, ◌≤◌, ℕ, false, ◌==◌, ◌&&◌, ◌||◌, not, nat_lt, IfSome, IfNone, IsTrue};
 ghost use Rattle.pr_sets.specs.Numbers.{most};
 ghost use Rattle.pr_sets.specs.Words.{has, IsLeast};
 
