@@ -1,3 +1,4 @@
 pub mod Possibilities
 pub mod Views
-pub mod Boxes
+pub mod Portions
+pub mod Rooms

@@ -1,6 +1,10 @@
 //! What a host can know of the logical unit.
 #![tactic(auto)]
 
+mod portion;
+mod possibilities;
 mod view;
 
+pub use portion::Portion;
+pub use possibilities::Possibilities;
 pub use view::ViewOf;
