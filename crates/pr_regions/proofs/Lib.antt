@@ -1,3 +1,4 @@
 pub mod Numbers
 pub mod Asking
-
+pub mod Telling
+pub mod Acting
