@@ -57,16 +57,14 @@ changes s from c u v t acts = record {
       (so.0, new.0, new.1);
   reservation = acts.reservation;
   told = λ r q other so pending.
-      let is : Is s.keys u.registry s.own r = record { known = so.1; key = so.2 } in
-      (
+      let is : Is s.keys u.registry s.own r = record { known = so.1; key = so.2 } in (
         told-lt q (has c.told_03 r) (has c.told_04 r) (has c.told_05 r) pending.0,
         λ code. pending_told u v t s.own q (has c.told_03 r) (has c.told_04 r) (has c.told_05 r) (acts.told_03 s.own r other is) (acts.told_04 s.own r other is) (acts.told_05 s.own r other is) pending.1 code
-        ∙ sym (contains-codes_told q (has c.told_03 r) (has c.told_04 r) (has c.told_05 r) code)
+            ∙ sym (contains-codes_told q (has c.told_03 r) (has c.told_04 r) (has c.told_05 r) code),
       );
-  untold = λ q same pending.
-      (
-        pending.0,
-        λ code. pending_told u v t s.own q false false false (ap (set.contains t.told_03) same ∙ acts.untold_03) (ap (set.contains t.told_04) same ∙ acts.untold_04) (ap (set.contains t.told_05) same ∙ acts.untold_05) pending.1 code
-        ∙ nothing_more (set.contains (codes_of q) code) code
-      );
+  untold = λ q same pending. (
+    pending.0,
+    λ code. pending_told u v t s.own q false false false (ap (set.contains t.told_03) same ∙ acts.untold_03) (ap (set.contains t.told_04) same ∙ acts.untold_04) (ap (set.contains t.told_05) same ∙ acts.untold_05) pending.1 code
+        ∙ nothing_more (set.contains (codes_of q) code) code,
+  );
 }

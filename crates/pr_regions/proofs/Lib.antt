@@ -1,4 +1,4 @@
-pub mod Numbers
+pub mod Unique
 pub mod Asking
 pub mod Telling
 pub mod Acting
