@@ -2,3 +2,5 @@ pub mod Unique
 pub mod Asking
 pub mod Telling
 pub mod Acting
+pub mod Becoming
+pub mod Meeting
