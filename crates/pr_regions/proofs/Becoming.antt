@@ -14,7 +14,7 @@ use Rattle.pr_registry.proofs.Sets.{contains-nobody, contains-just, contains-rem
 use Rattle.pr_sets.specs.Words.{has}
 use Rattle.pr_views.specs.Possibilities.{key_at, number_of}
 use Rattle.pr_regions.specs.declared.region.Change.{Change}
-use Rattle.pr_regions.specs.inside.Parts.{HasThose, Does, never, registered, another}
+use Rattle.pr_regions.specs.inside.Parts.{HasThose, Does, never, registered, told_if}
 use Rattle.pr_regions.proofs.Unique.{AreDistinct, is_some-key_at, same_number_at}
 use Rattle.pr_regions.proofs.Acting.{Is, Acts}
 
@@ -85,10 +85,6 @@ is_key-number keys u g r j k once fits named is = ap (λ o. is_key o k) is.key �
     at : (((r == j) ≡ true) × (r ≡ j)) ⊎ (((r == j) ≡ false) × (r ≢ j)) → is_key (key_at keys r) k ≡ (r == j)
     at (inl same) = ap (λ n. is_key (key_at keys n) k) same.1 ∙ ap (λ o. is_key o k) named ∙ same_host k ∙ sym same.0
     at (inr other) = differs (key_at keys r) (λ there. same_number_at keys r j once is.known fits (there ∙ sym named)) other.1 ∙ sym other.0
-
--- those who are told if this holds
-abbrev pub told_if : Bool → ℕ → Bool
-told_if b r = b && registered r
 
 contains-others_if : (keys : List ℕ) (u : State) (from g r : ℕ) (b : Bool) → g ≢ from → Is keys u g r → set.contains (if b then others u from else nobody) g ≡ told_if b r
 contains-others_if keys u from g r true other is = contains-others keys u from g r other is

@@ -4,3 +4,5 @@ pub mod Telling
 pub mod Acting
 pub mod Becoming
 pub mod Meeting
+pub mod Accesses
+pub mod Services

@@ -35,6 +35,10 @@ never r = false
 abbrev pub registered : ℕ → Bool
 registered r = not (r == 0)
 
+-- the registrants, if this holds
+abbrev pub told_if : Bool → ℕ → Bool
+told_if b r = b && registered r
+
 -- each but this one
 abbrev pub but : ℕ → ℕ → Bool
 but j r = not (r == j)
