@@ -49,7 +49,7 @@ acts keys hosts from to out left t3 t4 t5 u v t c few does b = record {
 
 -- ---- who is told
 
-other_host : (g from : ℕ) → g ≢ from → (g == from) ≡ false
+pub other_host : (g from : ℕ) → g ≢ from → (g == from) ≡ false
 other_host g from other = grind (arith, nat_tests)
 
 same_host : (g : ℕ) → (g == g) ≡ true
@@ -64,10 +64,10 @@ contains-others keys u from g r other is =
     contains-remove (registrants u) from g ∙ ap (λ b. not b && set.contains (registrants u) g) (other_host g from other)
     ∙ contains-hosts_in u.keys g ∙ is_registered-number keys u g r is
 
-not_itself : (s : Hosts) (h : ℕ) → set.contains (set.remove s h) h ≡ false
+pub not_itself : (s : Hosts) (h : ℕ) → set.contains (set.remove s h) h ≡ false
 not_itself s h = contains-remove s h h ∙ ap (λ b. not b && set.contains s h) (same_host h)
 
-contains-others_itself : (u : State) (from : ℕ) → set.contains (others u from) from ≡ false
+pub contains-others_itself : (u : State) (from : ℕ) → set.contains (others u from) from ≡ false
 contains-others_itself u from = not_itself (registrants u) from
 
 -- the hosts with a key are those whose registration has its number

@@ -5,4 +5,5 @@ pub mod Acting
 pub mod Becoming
 pub mod Meeting
 pub mod Accesses
+pub mod Preempting
 pub mod Services

@@ -14,7 +14,7 @@ use Rattle.pr_registry.specs.Effects.{after, change}
 use Rattle.pr_unit.specs.UnitStates.{UnitState}
 use Rattle.pr_unit.specs.Conflicts.{command_conflicts, access_conflicts, reading, writing}
 use Rattle.pr_unit.specs.Faults.{command_fault, illegal}
-use Rattle.pr_views.specs.Possibilities.{Scope, IsScope, Registration, IsSo, key_at, number_of}
+use Rattle.pr_views.specs.Possibilities.{Scope, IsScope, Registration, IsSo, key_at, number_of, count_of_reservations}
 use Rattle.pr_regions.specs.declared.region.Change.{Change}
 use Rattle.pr_regions.specs.declared.region.Ending.TheVariants.{Conflict, Fault, Good}
 use Rattle.pr_regions.specs.declared.purpose.Purpose.{Purpose}
@@ -22,7 +22,7 @@ use Rattle.pr_regions.specs.declared.purpose.Purpose.TheVariants.{Look, Read, Wr
 use Rattle.pr_regions.specs.declared.purpose.Standing.{Standing}
 use Rattle.pr_regions.specs.declared.purpose.Standing.TheVariants.{Unregistered, Named, Other}
 use Rattle.pr_regions.specs.Purposes.{HasNumber}
-use Rattle.pr_regions.specs.Regions.{names, standing_of, Meets, Ends}
+use Rattle.pr_regions.specs.Regions.{names, standing_of, Meets, Ends, HasRoom}
 use Rattle.pr_regions.specs.inside.Parts.{Does, never, registered, is_unregistered, holds, keeps_from_reading, keeps_from_writing, is_kept_from}
 use Rattle.pr_regions.proofs.Unique.{few_keys}
 use Rattle.pr_regions.proofs.Asking.{conflicts_for, fault_for, after_for, change_for, IsAsked, asked}
@@ -100,8 +100,8 @@ good_ends s p held sender standing u c to out left t3 t4 t5 b has m free whole d
     let asked = asks s p held sender standing u c has m in
     let known = acts s.keys s.hosts sender to out left t3 t4 t5 u.registry (after_for s.keys u.registry sender p) (change_for s.keys u.registry sender p) b (few_keys s.keys m.scope.keys) does becomes in
     let so : Acts s.keys s.hosts sender b u.registry (after u.registry sender c) (change u.registry sender c) =
-        subst (λ (v : State). Acts s.keys s.hosts sender b u.registry v (change u.registry sender c)) (sym asked.after)
-        (subst (λ (t : Told). Acts s.keys s.hosts sender b u.registry (after_for s.keys u.registry sender p) t) (sym asked.change) known) in
+    subst (λ (v : State). Acts s.keys s.hosts sender b u.registry v (change u.registry sender c)) (sym asked.after)
+    (subst (λ (t : Told). Acts s.keys s.hosts sender b u.registry (after_for s.keys u.registry sender p) t) (sym asked.change) known) in
     (asked.conflicting ∙ free, asked.faulty ∙ whole, changes s sender b u (after u.registry sender c) (change u.registry sender c) so)
 
 -- a number that is left, by another name
@@ -115,6 +115,12 @@ leaves b to out x y t3 t4 t5 same does = record {
   told_05 = does.told_05;
 }
 
+-- the numbers of a change fit where those that it is to have do
+pub has_room : (hosts : ℕ) (b : Change) (to : Option ℕ) (out : ℕ → Bool) (left : ℕ) (t3 t4 t5 : ℕ → Bool) → Does b to out left t3 t4 t5
+    → unwrap_or to 0 ≤ 12 → left < count_of_reservations hosts → HasRoom hosts (Good b)
+has_room hosts b to out left t3 t4 t5 does small below =
+    (subst (λ (o : Option ℕ). unwrap_or o 0 ≤ 12) (sym does.sender) small, subst (λ n. n < count_of_reservations hosts) (sym does.reservation) below)
+
 -- the command changes nothing
 pub same_ends : (s : Scope) (p : Purpose) (held : Option Held) (sender : ℕ) (standing : Standing) (u : UnitState) (c : Command) (hosts : ℕ) (b : Change) → HasNumber p
     → Meets s p held sender standing u c → s.hosts ≡ hosts → conflicts_for s.keys u.registry sender p ≡ false → fault_for u.registry sender p ≡ None
@@ -125,6 +131,6 @@ same_ends s p held sender standing u c hosts b has m alike free whole stays tell
     let known = still s.keys s.hosts sender u.registry u.registry (λ g. refl) in
     let now = number_of s.hosts u.registry.held in
     let so : Becomes s.keys s.hosts sender None never now never never never u.registry (after_for s.keys u.registry sender p) (change_for s.keys u.registry sender p) =
-        subst (λ (v : State). Becomes s.keys s.hosts sender None never now never never never u.registry v (change_for s.keys u.registry sender p)) (sym stays)
-        (subst (λ (t : Told). Becomes s.keys s.hosts sender None never now never never never u.registry u.registry t) (sym tells) known) in
+    subst (λ (v : State). Becomes s.keys s.hosts sender None never now never never never u.registry v (change_for s.keys u.registry sender p)) (sym stays)
+    (subst (λ (t : Told). Becomes s.keys s.hosts sender None never now never never never u.registry u.registry t) (sym tells) known) in
     good_ends s p held sender standing u c None never now never never never b has m free whole (leaves b None never (number_of hosts held) now never never never left does) so

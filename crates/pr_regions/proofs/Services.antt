@@ -1,12 +1,14 @@
 -- How the service actions that do not depend on who else is registered end.
 use Rattle.std.proofs.Common.{◌≡◌, ℕ, ◌<◌, ◌≤◌, Bool, true, false, ◌==◌, ◌&&◌, not, if◌then◌else◌, Option, Some, None, option_map, refl, sym, ap, ◌∙◌, subst, arith}
+use Rattle.std.proofs.lemmas.Bool.{false≢true}
 use Rattle.pr_cdb.specs.declared.command.Kind.{Kind}
 use Rattle.pr_cdb.specs.declared.command.Command.{Command}
 use Rattle.pr_registry.specs.declared.held.Held.{Held}
 use Rattle.pr_registry.specs.declared.held.Held.TheVariants.{One, All}
 use Rattle.pr_registry.specs.declared.change.Change.{Change as Told}
+use Rattle.pr_registry.specs.Hosts.{Keys}
 use Rattle.pr_registry.specs.Registrations.{State, is_registered, is_holder, is_holder_of, kind_of, established, is_for_registrants}
-use Rattle.pr_registry.specs.Changes.{is_kind, is_held_as, is_in_the_way, is_released, is_told_of_loss, is_held_by_all, no_change, change_on_release}
+use Rattle.pr_registry.specs.Changes.{ReplacesAll, preempt_case, is_kind, is_held_as, is_in_the_way, is_released, is_told_of_loss, is_held_by_all, no_change, change_on_release}
 use Rattle.pr_registry.specs.Effects.{held_or, reserved, released}
 use Rattle.pr_unit.specs.UnitStates.{UnitState}
 use Rattle.pr_unit.specs.Faults.{illegal, release_fault}
@@ -21,6 +23,7 @@ use Rattle.pr_regions.specs.Regions.{Meets, Ends, HasRoom}
 use Rattle.pr_regions.specs.inside.Parts.{Does, AlwaysEnds, never, registered, told_if, holds}
 use Rattle.pr_regions.proofs.Asking.{key_named, IsNamed}
 use Rattle.pr_regions.proofs.Becoming.{Becomes, still, on_register, on_release, on_clear}
+use Rattle.pr_regions.proofs.Preempting.{in_case, on_preempt_all}
 use Rattle.pr_regions.proofs.Meeting.{is_holder-standing, asks, conflict_ends, fault_ends, good_ends, leaves}
 
 -- ---- REGISTER
@@ -173,5 +176,35 @@ pub clear_good : (hosts : ℕ) (held : Option Held) (sender : ℕ) (standing : S
     → AlwaysEnds hosts Clear held sender standing (Good change)
 clear_good hosts held sender standing change does room = record {
   ends = λ s u c alike m. good_ends s Clear held sender standing u c (Some 0) registered 0 registered never never change tt m refl refl does (on_clear s.keys s.hosts sender u.registry);
+  fits = room;
+}
+
+-- ---- PREEMPT of all others
+
+pub preempt_all_fault : (hosts : ℕ) (t : Kind) (held : Option Held) (sender : ℕ) (standing : Standing) → is_held_by_all held ≡ false
+    → AlwaysEnds hosts (PreemptAll t) held sender standing (Fault (illegal 0x26 0x00))
+preempt_all_fault hosts t held sender standing other = record {
+  ends = λ s u c alike m. fault_ends s (PreemptAll t) held sender standing u c (illegal 0x26 0x00) tt m refl
+      (ap (λ v. if not (is_held_by_all v) then Some (illegal 0x26 0x00) else None) m.held ∙ ap (λ b. if not b then Some (illegal 0x26 0x00) else None) other);
+  fits = tt;
+}
+
+-- then the reservation is replaced
+replaces_all : (keys : Keys) (held : Option Held) → is_held_by_all held ≡ true → preempt_case keys held 0 ≡ ReplacesAll
+replaces_all keys None is = absurd (false≢true is)
+replaces_all keys (Some (One t g)) is = absurd (false≢true is)
+replaces_all keys (Some (All t)) is = refl
+
+pub preempt_all_good : (hosts : ℕ) (t : Kind) (held : Option Held) (sender : ℕ) (standing : Standing) (change : Change) → is_held_by_all held ≡ true
+    → Does change None registered (number_of hosts (Some (established t sender))) never never registered → HasRoom hosts (Good change) → AlwaysEnds hosts (PreemptAll t) held sender standing (Good change)
+preempt_all_good hosts t held sender standing change is does room = record {
+  ends = λ s u c alike m.
+      let stands : is_held_by_all u.registry.held ≡ true = ap is_held_by_all m.held ∙ is in
+      let left : number_of hosts (Some (established t sender)) ≡ number_of s.hosts (Some (established t sender)) = ap (λ n. number_of n (Some (established t sender))) (sym alike) in
+      good_ends s (PreemptAll t) held sender standing u c None registered (number_of s.hosts (Some (established t sender))) never never registered change tt m refl
+      (ap (λ b. if not b then Some (illegal 0x26 0x00) else None) stands)
+      (leaves change None registered (number_of hosts (Some (established t sender))) (number_of s.hosts (Some (established t sender))) never never registered left does)
+      (in_case s.keys s.hosts sender None registered (number_of s.hosts (Some (established t sender))) never never registered u.registry 0 t ReplacesAll
+      (replaces_all u.registry.keys u.registry.held stands) (on_preempt_all s.keys s.hosts sender t u.registry));
   fits = room;
 }

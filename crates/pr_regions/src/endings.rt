@@ -3,7 +3,7 @@
 ghost use Rattle.std.specs.Prelude.{◌≡◌, ◌≤◌, ◌<◌, ℕ, IsTrue, None, Option};
 ghost use Rattle.pr_registry.specs.declared.held.Held.{Held as HeldOf};
 ghost use Rattle.pr_registry.specs.Registrations.{kind_of, is_for_registrants};
-ghost use Rattle.pr_registry.specs.Changes.{is_kind};
+ghost use Rattle.pr_registry.specs.Changes.{is_kind, is_held_by_all};
 ghost use Rattle.pr_roles.specs.Fitting.{is_reservation};
 ghost use Rattle.pr_unit.specs.Faults.{illegal};
 ghost use Rattle.pr_views.specs.Possibilities.{number_of, count_of_reservations};
@@ -48,6 +48,13 @@ pub(crate) fn is_kind(standing: Kind, kind: Kind) -> bool
     ensures { result ≡ is_kind standing kind }
 {
     standing == kind
+}
+
+// Whether the reservation is of all registrants.
+fn is_held_by_all(held: Option<Held>) -> bool
+    ensures { result ≡ is_held_by_all held }
+{
+    matches!(held, Some(Held::All(_)))
 }
 
 // Whether a sender that stands so holds the reservation.
@@ -257,9 +264,9 @@ pub(crate) fn preempting_all(hosts: u8, kind: Kind, held: Option<Held>, sender: 
     requires there { sender < hosts }
     ensures { (standing : Standing) → AlwaysEnds hosts (Purpose.PreemptAll kind) held sender standing result }
 {
-    let Some(Held::All(_)) = held else {
+    if !is_held_by_all(held) {
         return Ending::Fault(illegal(0x26, 0x00));
-    };
+    }
     Ending::Good(Change {
         removed: registered(),
         told_05: registered(),
