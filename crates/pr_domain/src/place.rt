@@ -30,6 +30,7 @@ impl Place {
         requires hosts { (1 ≤ self.now.hosts) × (self.now.hosts ≤ 8) }
         requires sender { self.now.sender < self.now.hosts }
         ensures some { IfSome result (λ words. (s : Scope) → IsPlace s view.now self.now → IsUniform senders → IsProper region.now → IsGathered (view_in s view.now) self.now senders region.now words) }
+        ensures beyond { IfSome result (λ words. (g r : ℕ) → self.now.hosts ≤ g → has_at words g r ≡ false) }
         ensures none { IfNone result ((s : Scope) → IsPlace s view.now self.now → IsUniform senders → IsProper region.now → (u : UnitState) → IsAt (view_in s view.now) self.now senders region.now u → ⊥) }
     {
         self.portion(view, senders, region).projected(self.hosts)
@@ -40,6 +41,7 @@ impl Place {
         ensures sender { result.sender ≡ self.now.sender }
         ensures reservation { result.reservation ≡ self.now.reservation }
         ensures left { IsLeftTo view.now self.now senders region.now result }
+        ensures beyond { (g r : ℕ) → self.now.hosts ≤ g → has_at result.registrations g r ≡ false }
         ensures tested { tested self.now senders region.now.somebody result.somebody }
     {
         Portion {
@@ -53,7 +55,8 @@ impl Place {
     // What the portion leaves to each.
     fn left(&self, view: &Possibilities, senders: Word, region: &Region) -> [Word; 8]
         requires hosts { (1 ≤ self.now.hosts) × (self.now.hosts ≤ 8) }
-        ensures { (g r : ℕ) → g < self.now.hosts → has_at result g r ≡ (has_at view.now.registrations g r && passes self.now senders region.now g r) }
+        ensures left { (g r : ℕ) → g < self.now.hosts → has_at result g r ≡ (has_at view.now.registrations g r && passes self.now senders region.now g r) }
+        ensures beyond { (g r : ℕ) → self.now.hosts ≤ g → has_at result g r ≡ false }
     {
         let mut words = [Word::none(); 8];
         let mut g = 0;

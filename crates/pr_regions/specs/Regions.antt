@@ -10,7 +10,7 @@ use Rattle.pr_unit.specs.Conflicts.{command_conflicts}
 use Rattle.pr_unit.specs.Faults.{command_fault}
 use Rattle.pr_sets.specs.declared.word.Word.{Word}
 use Rattle.pr_sets.specs.Words.{has}
-use Rattle.pr_views.specs.Possibilities.{Scope, IsScope, Item, Registration, Reservation, Attentions, IsSo}
+use Rattle.pr_views.specs.Possibilities.{Scope, IsScope, Item, Registration, Reservation, Attentions, IsSo, count_of_reservations}
 use Rattle.pr_views.specs.Portions.{HasSomebody}
 use Rattle.pr_regions.specs.declared.region.Region.{Region}
 use Rattle.pr_regions.specs.declared.region.Change.{Change}
@@ -111,3 +111,19 @@ abbrev pub AreBranches : ℕ → Purpose → Option Held → ℕ → Standing �
 AreBranches hosts purpose held sender standing branches =
     (s : Scope) (u : UnitState) (c : Command) → s.hosts ≡ hosts → Meets s purpose held sender standing u c
     → IsDecided s sender branches u c
+
+-- ---- limits that branches keep
+
+-- that a host or guest is not registered passes no test
+abbrev pub IsUntestedOrRegistered : Option Word → Type 0
+IsUntestedOrRegistered None = Unit {0}
+IsUntestedOrRegistered (Some w) = has w 0 ≡ false
+
+abbrev pub IsProper : Branch → Type 0
+IsProper b = IsUntestedOrRegistered b.region.somebody
+
+-- the numbers after it are those of a registration and of a reservation
+abbrev pub HasRoom : ℕ → Ending → Type 0
+HasRoom hosts Conflict = Unit {0}
+HasRoom hosts (Fault sense) = Unit {0}
+HasRoom hosts (Good change) = (unwrap_or change.sender 0 ≤ 12) × (change.reservation < count_of_reservations hosts)

@@ -47,10 +47,17 @@ pub record IsMet (v : View) (place : Place) (senders : Word) (region : Region) (
   pub is : IsSo v.scope unit (Registration g r)
   pub pending : IsSo v.scope unit (Attentions q)
 
+-- there is such a state in which these attentions are pending for the owner
+pub record IsThere (v : View) (place : Place) (senders : Word) (region : Region) (q : ℕ) : Type 0 where
+  pub unit : UnitState
+  pub at : IsAt v place senders region unit
+  pub pending : IsSo v.scope unit (Attentions q)
+
 -- What each has in those states: just these registrations, each beside any attentions of the owner.
 pub record IsGathered (v : View) (place : Place) (senders : Word) (region : Region) (words : List Word) : Type 0 where
   pub all : (u : UnitState) (g r : ℕ) → IsAt v place senders region u → IsSo v.scope u (Registration g r) → has_at words g r ≡ true
   pub only : (g r q : ℕ) → g < v.scope.hosts → has_at words g r ≡ true → v.pending q ≡ true → IsMet v place senders region g r q
+  pub some : (q : ℕ) → v.pending q ≡ true → IsThere v place senders region q
 
 -- ---- the portion of a view that they are
 

@@ -20,6 +20,13 @@ returns-clause-some c = IfSome_then c.projected.result c.projected.ensures.some 
             is = met.is;
             pending = met.pending;
           };
+      some = λ q pending.
+          let together = is.some q pending in
+          record {
+            unit = together.unit;
+            at = at_from_in s c.args.view.now c.args.self.now c.args.senders c.args.region.now c.portion.result place of together.unit together.inside;
+            pending = together.pending;
+          };
     })
 
 pub returns-clause-none : goal.returns-clause-none

@@ -17,6 +17,7 @@ loop-g-preserved c =
       (one_more c.loop-g.words c.loop-g.g c.left_to.result (record { bits = 0 }) is there c.loop-g.invariant.0
       (λ r. subst (λ i. has c.left_to.result r ≡ (has (slice_index_or c.args.view.now.registrations i (record { bits = 0 })) r && passes c.args.self.now c.args.senders c.args.region.now c.loop-g.g r)) c.from-i.ensures (c.left_to.ensures r)
       ∙ ap (λ b. b && passes c.args.self.now c.args.senders c.args.region.now c.loop-g.g r) (sym (has_at-get_or c.args.view.now.registrations c.loop-g.g r (record { bits = 0 }) within)))),
+      λ g r above. ?,
       omega arith,
-      length-set c.loop-g.words c.from-i.result c.left_to.result ∙ c.loop-g.invariant.2,
+      length-set c.loop-g.words c.from-i.result c.left_to.result ∙ c.loop-g.invariant.3,
     )
