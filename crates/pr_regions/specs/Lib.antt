@@ -1,3 +1,4 @@
 pub mod Purposes
 pub mod Regions
 pub mod Readings
+pub mod inside

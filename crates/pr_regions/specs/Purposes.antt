@@ -1,5 +1,5 @@
 -- What a command asks for once its reservation key is accepted.
-use Rattle.std.specs.Prelude.{◌≡◌, ℕ, suc, ◌+◌, Bool, true, false, not, ◌==◌, nat_le, if◌then◌else◌, List, Option, Some, None, option_map, position}
+use Rattle.std.specs.Prelude.{◌≡◌, ℕ, suc, ◌≤◌, ◌+◌, Bool, true, false, not, ◌==◌, nat_le, if◌then◌else◌, List, Option, Some, None, option_map, position}
 use Rattle.std.specs.Option.{option_map_or}
 use Rattle.pr_cdb.specs.declared.command.Kind.{Kind}
 use Rattle.pr_cdb.specs.declared.command.Command.{Command}
@@ -13,6 +13,19 @@ use Rattle.pr_regions.specs.declared.purpose.Purpose.TheVariants.{Look, Read, Wr
 -- the number of a declared key, from 1
 abbrev pub number_in : List ℕ → ℕ → ℕ
 number_in keys k = option_map_or suc (position (λ key. key == k) keys) 0
+
+-- the key that it names, if it names one, has a number: there are at most 12
+abbrev pub HasNumber : Purpose → Type 0
+HasNumber Look = Unit {0}
+HasNumber (Read ranges) = Unit {0}
+HasNumber (Write ranges) = Unit {0}
+HasNumber (Register j) = (1 ≤ j) × (j ≤ 12)
+HasNumber Unregister = Unit {0}
+HasNumber (Reserve kind) = Unit {0}
+HasNumber (Release kind) = Unit {0}
+HasNumber Clear = Unit {0}
+HasNumber (PreemptAll kind) = Unit {0}
+HasNumber (Preempt j kind) = (1 ≤ j) × (j ≤ 12)
 
 -- the blocks are among those of the unit
 abbrev pub is_in_range : ℕ → ℕ → Bool

@@ -1,5 +1,5 @@
 -- Which arm takes the data that READ KEYS and READ RESERVATION return, region by region.
-use Rattle.std.specs.Prelude.{◌≡◌, ℕ, List, Option, position}
+use Rattle.std.specs.Prelude.{◌≡◌, ℕ, ◌<◌, List, Option, position}
 use Rattle.std.specs.List.{Contains}
 use Rattle.pr_cdb.specs.declared.command.Command.{Command}
 use Rattle.pr_cdb.specs.declared.reply.Reply.{Reply}

@@ -10,7 +10,7 @@ use Rattle.pr_unit.specs.Conflicts.{command_conflicts}
 use Rattle.pr_unit.specs.Faults.{command_fault}
 use Rattle.pr_sets.specs.declared.word.Word.{Word}
 use Rattle.pr_sets.specs.Words.{has}
-use Rattle.pr_views.specs.Possibilities.{Scope, IsScope, Item, Registration, Reservation, Attentions, IsSo}
+use Rattle.pr_views.specs.Possibilities.{Scope, IsScope, Item, Registration, Reservation, Attentions, IsSo, count_of_reservations}
 use Rattle.pr_views.specs.Portions.{HasSomebody}
 use Rattle.pr_regions.specs.declared.region.Region.{Region}
 use Rattle.pr_regions.specs.declared.region.Change.{Change}
@@ -45,15 +45,15 @@ standing_of purpose (suc i) = if names purpose (suc i) then Named else Other
 
 -- A command of the sender in a state: its purpose is this one and its reservation key is accepted. Whatever is
 -- registered is a declared key, the reservation is this one, and the sender stands so.
-pub record Meets (s : Scope) (purpose : Purpose) (held : Option Held) (sender : ℕ) (standing : Standing) (u : UnitState) (c : Command) : Type 0 where
+pub record Meets (s : Scope) (asked : Purpose) (reserved : Option Held) (sender : ℕ) (stands : Standing) (u : UnitState) (c : Command) : Type 0 where
   pub scope : IsScope s
   pub below : sender < s.hosts
   pub formed : IsWellFormed u
   pub hosts : u.registry.hosts ≡ s.hosts
   pub numbered : (g : ℕ) → g < s.hosts → (r : ℕ) × IsSo s u (Registration g r)
-  pub held : u.registry.held ≡ held
-  pub standing : (r : ℕ) → IsSo s u (Registration sender r) → standing_of purpose r ≡ standing
-  pub purpose : purpose_of s.keys c ≡ Some purpose
+  pub held : u.registry.held ≡ reserved
+  pub standing : (r : ℕ) → IsSo s u (Registration sender r) → standing_of asked r ≡ stands
+  pub purpose : purpose_of s.keys c ≡ Some asked
   pub accepted : is_refused (key_of u.registry sender) c ≡ false
 
 -- ---- which states are in a region
@@ -81,12 +81,12 @@ told_number c r q = bit_or q (flag (has c.told_03 r) 2 + (flag (has c.told_04 r)
 
 -- What becomes of the sender's registration, of the others', of the reservation, and of what is pending for
 -- the owner of the view: each by itself.
-pub record Changes (s : Scope) (sender : ℕ) (c : Change) (u v : UnitState) : Type 0 where
-  pub sender : (r : ℕ) → IsSo s u (Registration sender r) → IsSo s v (Registration sender (unwrap_or c.sender r))
-  pub others : (g r : ℕ) → g ≢ sender → IsSo s u (Registration g r) → IsSo s v (Registration g (if has c.removed r then 0 else r))
+pub record Changes (s : Scope) (from : ℕ) (c : Change) (u v : UnitState) : Type 0 where
+  pub sender : (r : ℕ) → IsSo s u (Registration from r) → IsSo s v (Registration from (unwrap_or c.sender r))
+  pub others : (g r : ℕ) → g ≢ from → IsSo s u (Registration g r) → IsSo s v (Registration g (if has c.removed r then 0 else r))
   pub reservation : IsSo s v (Reservation c.reservation)
-  pub told : (r q : ℕ) → s.own ≢ sender → IsSo s u (Registration s.own r) → IsSo s u (Attentions q) → IsSo s v (Attentions (told_number c r q))
-  pub untold : (q : ℕ) → s.own ≡ sender → IsSo s u (Attentions q) → IsSo s v (Attentions q)
+  pub told : (r q : ℕ) → s.own ≢ from → IsSo s u (Registration s.own r) → IsSo s u (Attentions q) → IsSo s v (Attentions (told_number c r q))
+  pub untold : (q : ℕ) → s.own ≡ from → IsSo s u (Attentions q) → IsSo s v (Attentions q)
 
 -- once nothing is pending for the sender, it ends so
 abbrev pub Ends : Scope → ℕ → Ending → UnitState → Command → Type 0
@@ -111,3 +111,19 @@ abbrev pub AreBranches : ℕ → Purpose → Option Held → ℕ → Standing �
 AreBranches hosts purpose held sender standing branches =
     (s : Scope) (u : UnitState) (c : Command) → s.hosts ≡ hosts → Meets s purpose held sender standing u c
     → IsDecided s sender branches u c
+
+-- ---- limits that branches keep
+
+-- that a host or guest is not registered passes no test
+abbrev pub IsUntestedOrRegistered : Option Word → Type 0
+IsUntestedOrRegistered None = Unit {0}
+IsUntestedOrRegistered (Some w) = has w 0 ≡ false
+
+abbrev pub IsProper : Branch → Type 0
+IsProper b = IsUntestedOrRegistered b.region.somebody
+
+-- the numbers after it are those of a registration and of a reservation
+abbrev pub HasRoom : ℕ → Ending → Type 0
+HasRoom hosts Conflict = Unit {0}
+HasRoom hosts (Fault sense) = Unit {0}
+HasRoom hosts (Good change) = (unwrap_or change.sender 0 ≤ 12) × (change.reservation < count_of_reservations hosts)

@@ -1,0 +1,4 @@
+pub mod Landings
+pub mod Outcomes
+pub mod Interference
+pub mod inside

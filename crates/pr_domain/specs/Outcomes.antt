@@ -1,0 +1,51 @@
+-- What a host's own command may come to.
+use Rattle.std.specs.Prelude.{◌≡◌, true, IsTrue, List}
+use Rattle.std.specs.List.{Contains}
+use Rattle.pr_cdb.specs.declared.command.Command.{Command}
+use Rattle.pr_cdb.specs.declared.reply.Reply.{Reply}
+use Rattle.pr_cdb.specs.declared.wire.Request.TheVariants.{Plain}
+use Rattle.pr_unit.specs.UnitStates.{UnitState}
+use Rattle.pr_unit.specs.Replies.{is_good}
+use Rattle.pr_unit.specs.Steps.{Step}
+use Rattle.pr_script.specs.declared.script.Test.{Test}
+use Rattle.pr_roles.specs.declared.role.Clause.{Clause}
+use Rattle.pr_roles.specs.Permits.{command_permitted}
+use Rattle.pr_views.specs.Possibilities.{Item, IsSo}
+use Rattle.pr_views.specs.Views.{View, IsPossible, Shows}
+use Rattle.pr_domain.specs.declared.landing.Landing.{Landing}
+use Rattle.pr_domain.specs.Landings.{IsLanding}
+
+-- From a shown state the owner's command ends with this landing, and this is so after it.
+pub record Lands (v : View) (c : Command) (tests : List Test) (l : Landing) (i : Item) : Type 0 where
+  pub from : UnitState
+  pub shown : Shows v from
+  pub reply : Reply
+  pub after : UnitState
+  pub step : Step from v.scope.own (Plain c) reply after
+  pub landing : IsLanding tests reply l
+  pub is : IsSo v.scope after i
+
+-- a landing with the view of the states that it leaves
+abbrev pub Outcome : Type 0
+Outcome = Landing × View
+
+-- some outcome has the landing of the reply, and its view shows the state after it
+pub record IsExpected (outcomes : List Outcome) (tests : List Test) (r : Reply) (u : UnitState) : Type 0 where
+  pub outcome : Outcome
+  pub listed : Contains outcomes outcome
+  pub landing : IsLanding tests r outcome.0
+  pub shown : Shows outcome.1 u
+
+-- The outcomes cover each step of the command from a shown state, and have nothing more: each landing and each
+-- possibility of its view come from some such step.
+pub record AreOutcomes (v : View) (c : Command) (tests : List Test) (outcomes : List Outcome) : Type 0 where
+  pub cover : (u : UnitState) (r : Reply) (w : UnitState) → Shows v u → Step u v.scope.own (Plain c) r w → IsExpected outcomes tests r w
+  pub only : (o : Outcome) (i : Item) → Contains outcomes o → IsPossible o.1 i → Lands v c tests o.0 i
+  pub come : (o : Outcome) → Contains outcomes o → (i : Item) × IsPossible o.1 i
+  pub once : (l : Landing) (w x : View) → Contains outcomes (l, w) → Contains outcomes (l, x) → w ≡ x
+
+-- in each shown state in which the owner's command ends GOOD, the role permits it
+abbrev pub IsPermittedIn : View → List Clause → Command → Type 0
+IsPermittedIn v role c =
+    (u : UnitState) (r : Reply) (w : UnitState) → Shows v u → Step u v.scope.own (Plain c) r w → is_good r ≡ true
+    → IsTrue (command_permitted role u.registry v.scope.own c)

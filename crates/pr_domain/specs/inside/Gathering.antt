@@ -1,0 +1,79 @@
+-- The states of a view that are looked at one part after another, and what each host or guest has in such a part.
+use Rattle.std.specs.Prelude.{◌≡◌, ℕ, ◌<◌, ◌≤◌, Bool, true, false, not, ◌==◌, ◌&&◌, if◌then◌else◌, List, Option, Some, None}
+use Rattle.pr_registry.specs.Registrations.{holds_alone}
+use Rattle.pr_registry.specs.Changes.{is_held_by_all}
+use Rattle.pr_unit.specs.UnitStates.{UnitState}
+use Rattle.pr_roles.specs.Fitting.{is_reservation}
+use Rattle.pr_sets.specs.declared.word.Word.{Word}
+use Rattle.pr_sets.specs.Words.{has}
+use Rattle.pr_views.specs.declared.portion.Portion.{Portion}
+use Rattle.pr_views.specs.declared.possibilities.Possibilities.{Possibilities}
+use Rattle.pr_views.specs.Possibilities.{Scope, Registration, Reservation, Attentions, IsSo, number_of}
+use Rattle.pr_views.specs.Views.{View, Shows, Fits}
+use Rattle.pr_views.specs.Portions.{has_at, view_in, TestsRegistered}
+use Rattle.pr_regions.specs.declared.region.Region.{Region}
+use Rattle.pr_regions.specs.Regions.{IsInRegion, filter_of}
+use Rattle.pr_domain.specs.declared.place.Place.{Place}
+
+-- the place is one of this view: its reservation is possible, and it is the one of that number
+pub record IsPlace (s : Scope) (view : Possibilities) (place : Place) : Type 0 where
+  pub hosts : s.hosts ≡ place.hosts
+  pub fits : Fits (view_in s view)
+  pub sender : place.sender < place.hosts
+  pub possible : has view.reservations place.reservation ≡ true
+  pub number : place.reservation ≡ number_of s.hosts place.held
+  pub held : is_reservation s.hosts place.held ≡ true
+
+-- a sender that may be unregistered here is nothing else
+abbrev pub IsUniform : Word → Type 0
+IsUniform senders = has senders 0 ≡ true → (r : ℕ) → has senders r ≡ true → r ≡ 0
+
+-- the region's test, if there is one, is passed by registered hosts and guests alone
+abbrev pub IsProper : Region → Type 0
+IsProper region = TestsRegistered region.somebody
+
+-- a shown state with the reservation of this place, in which the sender has one of these registrations and the
+-- others are as the region says
+pub record IsAt (v : View) (place : Place) (senders : Word) (region : Region) (u : UnitState) : Type 0 where
+  pub shown : Shows v u
+  pub reservation : IsSo v.scope u (Reservation place.reservation)
+  pub sender : (r : ℕ) → IsSo v.scope u (Registration place.sender r) → has senders r ≡ true
+  pub inside : IsInRegion v.scope place.sender region u
+
+-- in such a state g has this registration, and the owner these attentions
+pub record IsMet (v : View) (place : Place) (senders : Word) (region : Region) (g r q : ℕ) : Type 0 where
+  pub unit : UnitState
+  pub at : IsAt v place senders region unit
+  pub is : IsSo v.scope unit (Registration g r)
+  pub pending : IsSo v.scope unit (Attentions q)
+
+-- there is such a state in which these attentions are pending for the owner
+pub record IsThere (v : View) (place : Place) (senders : Word) (region : Region) (q : ℕ) : Type 0 where
+  pub unit : UnitState
+  pub at : IsAt v place senders region unit
+  pub pending : IsSo v.scope unit (Attentions q)
+
+-- What each has in those states: just these registrations, each beside any attentions of the owner.
+pub record IsGathered (v : View) (place : Place) (senders : Word) (region : Region) (words : List Word) : Type 0 where
+  pub all : (u : UnitState) (g r : ℕ) → IsAt v place senders region u → IsSo v.scope u (Registration g r) → has_at words g r ≡ true
+  pub only : (g r q : ℕ) → g < v.scope.hosts → has_at words g r ≡ true → v.pending q ≡ true → IsMet v place senders region g r q
+  pub some : (q : ℕ) → v.pending q ≡ true → IsThere v place senders region q
+
+-- ---- the portion of a view that they are
+
+-- g may have this registration
+abbrev pub passes : Place → Word → Region → ℕ → ℕ → Bool
+passes place senders region g r =
+    has (if g == place.sender then senders else filter_of region place.held g) r && not (holds_alone place.held g && r == 0)
+
+-- the registrations that the portion leaves to each
+abbrev pub IsLeftTo : Possibilities → Place → Word → Region → Portion → Type 0
+IsLeftTo view place senders region p =
+    (g r : ℕ) → g < place.hosts → has_at p.registrations g r ≡ (has_at view.registrations g r && passes place senders region g r)
+
+-- where all registrants hold and the sender is none, another one must be registered
+abbrev pub tested : Place → Word → Option Word → Option Word → Type 0
+tested place senders None None = (is_held_by_all place.held && has senders 0) ≡ false
+tested place senders None (Some w) = ((is_held_by_all place.held && has senders 0) ≡ true) × ((r : ℕ) → 1 ≤ r → r ≤ 12 → has w r ≡ true) × (has w 0 ≡ false)
+tested place senders (Some w) None = ⊥
+tested place senders (Some w) (Some x) = x ≡ w

@@ -1,0 +1,8 @@
+//! What a host can know of the logical unit, and what becomes of it: by its own command, and by the commands of
+//! others.
+#![tactic(auto)]
+
+mod landing;
+mod place;
+
+pub use landing::{Class, Landing};

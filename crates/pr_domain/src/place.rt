@@ -1,0 +1,111 @@
+//! The states that a view shows, one part after another.
+
+ghost use Rattle.std.specs.Prelude.{◌≡◌, ◌<◌, ◌≤◌, ℕ, Bool, true, false, ◌&&◌, IfSome, IfNone};
+ghost use Rattle.pr_registry.specs.Changes.{is_held_by_all};
+ghost use Rattle.pr_sets.specs.Words.{has};
+ghost use Rattle.pr_unit.specs.UnitStates.{UnitState};
+ghost use Rattle.pr_views.specs.Possibilities.{Scope};
+ghost use Rattle.pr_views.specs.Portions.{has_at, view_in};
+ghost use Rattle.pr_domain.specs.inside.Gathering.{IsPlace, IsUniform, IsProper, IsAt, IsGathered, passes, IsLeftTo, tested};
+
+use pr_registry::Held;
+use pr_regions::Region;
+use pr_sets::Word;
+use pr_views::{Portion, Possibilities};
+
+/// One reservation of a view, and who sends a command under it.
+#[derive(Clone, Copy, Debug, PartialEq, Eq)]
+pub(crate) struct Place {
+    pub(crate) hosts: u8,
+    pub(crate) sender: u8,
+    /// The reservation, by its number.
+    pub(crate) reservation: u8,
+    pub(crate) held: Option<Held>,
+}
+
+impl Place {
+    /// What each host and guest has in the states of this region in which the sender has one of these
+    /// registrations; none where the view shows no such state.
+    pub(crate) fn gather(&self, view: &Possibilities, senders: Word, region: &Region) -> Option<[Word; 8]>
+        requires hosts { (1 ≤ self.now.hosts) × (self.now.hosts ≤ 8) }
+        requires sender { self.now.sender < self.now.hosts }
+        ensures some { IfSome result (λ words. (s : Scope) → IsPlace s view.now self.now → IsUniform senders → IsProper region.now → IsGathered (view_in s view.now) self.now senders region.now words) }
+        ensures beyond { IfSome result (λ words. (g r : ℕ) → self.now.hosts ≤ g → has_at words g r ≡ false) }
+        ensures none { IfNone result ((s : Scope) → IsPlace s view.now self.now → IsUniform senders → IsProper region.now → (u : UnitState) → IsAt (view_in s view.now) self.now senders region.now u → ⊥) }
+    {
+        self.portion(view, senders, region).projected(self.hosts)
+    }
+
+    fn portion(&self, view: &Possibilities, senders: Word, region: &Region) -> Portion
+        requires hosts { (1 ≤ self.now.hosts) × (self.now.hosts ≤ 8) }
+        ensures sender { result.sender ≡ self.now.sender }
+        ensures reservation { result.reservation ≡ self.now.reservation }
+        ensures left { IsLeftTo view.now self.now senders region.now result }
+        ensures beyond { (g r : ℕ) → self.now.hosts ≤ g → has_at result.registrations g r ≡ false }
+        ensures tested { tested self.now senders region.now.somebody result.somebody }
+    {
+        Portion {
+            sender: self.sender,
+            reservation: self.reservation,
+            registrations: self.left(view, senders, region),
+            somebody: self.somebody(senders, region.somebody),
+        }
+    }
+
+    // What the portion leaves to each.
+    fn left(&self, view: &Possibilities, senders: Word, region: &Region) -> [Word; 8]
+        requires hosts { (1 ≤ self.now.hosts) × (self.now.hosts ≤ 8) }
+        ensures left { (g r : ℕ) → g < self.now.hosts → has_at result g r ≡ (has_at view.now.registrations g r && passes self.now senders region.now g r) }
+        ensures beyond { (g r : ℕ) → self.now.hosts ≤ g → has_at result g r ≡ false }
+    {
+        let mut words = [Word::none(); 8];
+        let mut g = 0;
+        while g < self.hosts {
+            let i = usize::from(g);
+            words[i] = self.left_to(g, view.registrations[i], senders, region);
+            g += 1;
+        }
+        words
+    }
+
+    // What it leaves to one of them.
+    fn left_to(&self, g: u8, word: Word, senders: Word, region: &Region) -> Word
+        ensures { (r : ℕ) → has result r ≡ (has word r && passes self.now senders region.now g r) }
+    {
+        let alone = matches!(self.held, Some(Held::One(_, holder)) if holder == g);
+        let passing = if g == self.sender {
+            senders
+        } else if alone {
+            region.holder
+        } else {
+            region.others
+        };
+        let left = word.and(passing);
+        if alone { left.without(0) } else { left }
+    }
+
+    // Where all registrants hold and the sender is none, somebody else must be registered.
+    fn somebody(&self, senders: Word, somebody: Option<Word>) -> Option<Word>
+        ensures { tested self.now senders somebody result }
+    {
+        match somebody {
+            Some(passing) => Some(passing),
+            None if self.needs_another(senders) => Some(registered()),
+            None => None,
+        }
+    }
+
+    fn needs_another(&self, senders: Word) -> bool
+        ensures { result ≡ (is_held_by_all self.now.held && has senders 0) }
+    {
+        matches!(self.held, Some(Held::All(_))) && senders.has(0)
+    }
+}
+
+/// The registrations by a key.
+pub(crate) fn registered() -> Word
+    ensures keys { (r : ℕ) → 1 ≤ r → r ≤ 12 → has result r ≡ true }
+    ensures none { has result 0 ≡ false }
+{
+    Word::below(13).without(0)
+}

@@ -1,0 +1,256 @@
+-- What each purpose does in a state, whichever command asks for it.
+use Rattle.std.proofs.Common.{◌≡◌, ◌≢◌, ℕ, zero, suc, ◌+◌, ◌<◌, ◌≤◌, Bool, true, false, ◌==◌, ◌&&◌, ◌||◌, not, nat_lt, nat_le, cond, if◌then◌else◌, List, [], ◌∷◌, length, Option, Some, None, option_map, unwrap_or, get_or, refl, sym, ap, ◌∙◌, subst, inl, inr, ◌⊎◌, arith}
+use Rattle.std.specs.List.{position}
+use Rattle.std.specs.Option.{option_map_or}
+use Rattle.std.specs.List.{slice_get}
+use Rattle.std.proofs.lemmas.Bool.{false≢true}
+use Rattle.std.proofs.lemmas.Bool.Decides.{nat_tests}
+use Rattle.std.proofs.lemmas.List.Quantifiers.{position-Some}
+use Rattle.std.proofs.lemmas.Option.{slice_get-get_or}
+use Rattle.pr_cdb.specs.declared.command.Kind.{Kind}
+use Rattle.pr_cdb.specs.declared.command.Command.{Command}
+use Rattle.pr_cdb.specs.declared.command.Command.TheVariants as command
+use Rattle.pr_cdb.specs.declared.reply.Sense.{Sense}
+use Rattle.pr_registry.specs.declared.change.Change.{Change}
+use Rattle.pr_registry.specs.Hosts.{is_nobodys, is_key}
+use Rattle.pr_registry.specs.Registrations.{State, key_of, is_registered}
+use Rattle.pr_registry.specs.Changes.{no_change, is_in_the_way, is_held_by_all, preempt_case, is_replacing, change_on_unregister, change_on_release, change_on_clear, change_on_preempt}
+use Rattle.pr_registry.specs.Effects.{registered, unregistered, reserved, released, cleared, preempted, after, change, after_register, change_on_register}
+use Rattle.pr_unit.specs.Conflicts.{access_conflicts, reading, writing, is_wrong_key, preempt_conflicts, command_conflicts}
+use Rattle.pr_unit.specs.Faults.{illegal, release_fault, capacity, range_fault, preempt_fault, command_fault}
+use Rattle.pr_views.specs.Possibilities.{key_at}
+use Rattle.pr_regions.specs.declared.purpose.Purpose.{Purpose}
+use Rattle.pr_regions.specs.declared.purpose.Purpose.TheVariants.{Look, Read, Write, Register, Unregister, Reserve, Release, Clear, PreemptAll, Preempt}
+use Rattle.pr_regions.specs.Purposes.{number_in, is_in_range, registering, preempting, HasNumber, purpose_of, is_refused}
+
+-- the key of this number, if there is one
+abbrev pub key_named : List ℕ → ℕ → ℕ
+key_named keys j = unwrap_or (key_at keys j) 0
+
+-- an accepted command of this purpose ends in RESERVATION CONFLICT
+abbrev pub conflicts_for : List ℕ → State → ℕ → Purpose → Bool
+conflicts_for keys u h Look = false
+conflicts_for keys u h (Read ranges) = access_conflicts u h u.held reading
+conflicts_for keys u h (Write ranges) = access_conflicts u h u.held writing
+conflicts_for keys u h (Register j) = false
+conflicts_for keys u h Unregister = false
+conflicts_for keys u h (Reserve t) = is_in_the_way u h u.held t
+conflicts_for keys u h (Release t) = false
+conflicts_for keys u h Clear = false
+conflicts_for keys u h (PreemptAll t) = false
+conflicts_for keys u h (Preempt j t) = is_nobodys u.keys (key_named keys j)
+
+-- its own fault
+abbrev pub fault_for : State → ℕ → Purpose → Option Sense
+fault_for u h Look = None
+fault_for u h (Read ranges) = if ranges then None else Some (illegal 0x21 0x00)
+fault_for u h (Write ranges) = if ranges then None else Some (illegal 0x21 0x00)
+fault_for u h (Register j) = None
+fault_for u h Unregister = None
+fault_for u h (Reserve t) = None
+fault_for u h (Release t) = release_fault u h t
+fault_for u h Clear = None
+fault_for u h (PreemptAll t) = if not (is_held_by_all u.held) then Some (illegal 0x26 0x00) else None
+fault_for u h (Preempt j t) = None
+
+-- the registry once it has ended GOOD
+abbrev pub after_for : List ℕ → State → ℕ → Purpose → State
+after_for keys u h Look = u
+after_for keys u h (Read ranges) = u
+after_for keys u h (Write ranges) = u
+after_for keys u h (Register j) = registered u h (key_named keys j)
+after_for keys u h Unregister = if is_registered u h then unregistered u h else u
+after_for keys u h (Reserve t) = reserved u h t
+after_for keys u h (Release t) = released u h t
+after_for keys u h Clear = cleared u
+after_for keys u h (PreemptAll t) = preempted u h 0 (Some t)
+after_for keys u h (Preempt j t) = preempted u h (key_named keys j) (Some t)
+
+-- whom it then removes and tells
+abbrev pub change_for : List ℕ → State → ℕ → Purpose → Change
+change_for keys u h Look = no_change
+change_for keys u h (Read ranges) = no_change
+change_for keys u h (Write ranges) = no_change
+change_for keys u h (Register j) = no_change
+change_for keys u h Unregister = if is_registered u h then change_on_unregister u h else no_change
+change_for keys u h (Reserve t) = no_change
+change_for keys u h (Release t) = change_on_release u h t
+change_for keys u h Clear = change_on_clear u h
+change_for keys u h (PreemptAll t) = change_on_preempt u h 0 (Some t)
+change_for keys u h (Preempt j t) = change_on_preempt u h (key_named keys j) (Some t)
+
+-- the number that the purpose names is a key's
+abbrev pub IsNamed : List ℕ → Purpose → Type 0
+IsNamed keys Look = Unit {0}
+IsNamed keys (Read ranges) = Unit {0}
+IsNamed keys (Write ranges) = Unit {0}
+IsNamed keys (Register j) = (j ≤ length keys) × (key_at keys j ≡ Some (key_named keys j))
+IsNamed keys Unregister = Unit {0}
+IsNamed keys (Reserve t) = Unit {0}
+IsNamed keys (Release t) = Unit {0}
+IsNamed keys Clear = Unit {0}
+IsNamed keys (PreemptAll t) = Unit {0}
+IsNamed keys (Preempt j t) = (j ≤ length keys) × (key_at keys j ≡ Some (key_named keys j))
+
+-- an accepted command that ends so is of this purpose
+pub record IsAsked (keys : List ℕ) (u : State) (h : ℕ) (p : Purpose) (conflicts : Bool) (fault : Option Sense) (v : State) (told : Change) : Type 0 where
+  pub named : IsNamed keys p
+  pub conflicting : conflicts ≡ conflicts_for keys u h p
+  pub faulty : fault ≡ fault_for u h p
+  pub after : v ≡ after_for keys u h p
+  pub change : told ≡ change_for keys u h p
+
+-- ---- numbers of keys
+
+number_named : (keys : List ℕ) (k n : ℕ) → number_in keys k ≡ n → 1 ≤ n → (n ≤ length keys) × (key_at keys n ≡ Some k)
+number_named keys k n is some = at (position (λ key. key == k) keys) n refl is some
+  where
+    at : (place : Option ℕ) (n : ℕ) → position (λ key. key == k) keys ≡ place → option_map_or suc place 0 ≡ n → 1 ≤ n → (n ≤ length keys) × (key_at keys n ≡ Some k)
+    at None n at_place is some = absurd (omega arith)
+    at (Some i) n at_place is some =
+        let found = position-Some (λ key. key == k) keys i 0 at_place in
+        let same : get_or keys i 0 ≡ k = let test = found.1 in grind (arith, nat_tests) in
+        let there : slice_get keys i ≡ Some k = slice_get-get_or keys i 0 found.0 ∙ ap Some same in
+        let P : ℕ → Type 0 = λ m. (m ≤ length keys) × (key_at keys m ≡ Some k) in
+        let inside : suc i ≤ length keys = let small = found.0 in omega arith in
+        subst P is (inside, there)
+
+named_as : (keys : List ℕ) (k n : ℕ) → key_at keys n ≡ Some k → key_named keys n ≡ k
+named_as keys k n there = ap (λ o. unwrap_or o 0) there
+
+-- ---- by the commands
+
+purpose_in : (p q : Purpose) → Some p ≡ Some q → p ≡ q
+purpose_in p q same = cc
+
+range : (lba blocks : ℕ) → range_fault lba blocks ≡ (if is_in_range lba blocks then None else Some (illegal 0x21 0x00))
+range lba blocks = at (nat_le (lba + blocks) capacity) (nat_lt capacity (lba + blocks)) (turned (lba + blocks) capacity)
+  where
+    turned : (a b : ℕ) → nat_lt b a ≡ not (nat_le a b)
+    turned a b = grind (arith, nat_tests)
+
+    at : (within beyond : Bool) → beyond ≡ not within → (if beyond then Some (illegal 0x21 0x00) else None) ≡ (if within then None else Some (illegal 0x21 0x00))
+    at true beyond is = rw is refl
+    at false beyond is = rw is refl
+
+looks : (keys : List ℕ) (u : State) (h : ℕ) (p : Purpose) → Some Look ≡ Some p → IsAsked keys u h p false None u no_change
+looks keys u h p same =
+    subst (λ (q : Purpose). IsAsked keys u h q false None u no_change) (purpose_in Look p same)
+    (record { named = tt; conflicting = refl; faulty = refl; after = refl; change = refl })
+
+reads : (keys : List ℕ) (u : State) (h lba blocks : ℕ) (p : Purpose) → Some (Read (is_in_range lba blocks)) ≡ Some p
+    → IsAsked keys u h p (access_conflicts u h u.held reading) (range_fault lba blocks) u no_change
+reads keys u h lba blocks p same =
+    subst (λ (q : Purpose). IsAsked keys u h q (access_conflicts u h u.held reading) (range_fault lba blocks) u no_change) (purpose_in (Read (is_in_range lba blocks)) p same)
+    (record { named = tt; conflicting = refl; faulty = range lba blocks; after = refl; change = refl })
+
+writes : (keys : List ℕ) (u : State) (h lba blocks : ℕ) (p : Purpose) → Some (Write (is_in_range lba blocks)) ≡ Some p
+    → IsAsked keys u h p (access_conflicts u h u.held writing) (range_fault lba blocks) u no_change
+writes keys u h lba blocks p same =
+    subst (λ (q : Purpose). IsAsked keys u h q (access_conflicts u h u.held writing) (range_fault lba blocks) u no_change) (purpose_in (Write (is_in_range lba blocks)) p same)
+    (record { named = tt; conflicting = refl; faulty = range lba blocks; after = refl; change = refl })
+
+registers : (keys : List ℕ) (u : State) (h sark : ℕ) (p : Purpose) (conflicts : Bool) → HasNumber p → Some (registering keys sark) ≡ Some p → conflicts ≡ false
+    → IsAsked keys u h p conflicts None (after_register u h sark) (change_on_register u h sark)
+registers keys u h sark p conflicts has same free = at (sark == 0) refl p has (purpose_in (registering keys sark) p same)
+  where
+    at : (b : Bool) → (sark == 0) ≡ b → (p : Purpose) → HasNumber p → (if b then Unregister else Register (number_in keys sark)) ≡ p
+        → IsAsked keys u h p conflicts None (after_register u h sark) (change_on_register u h sark)
+    at true zeroed p has same =
+        subst (λ (q : Purpose). IsAsked keys u h q conflicts None (after_register u h sark) (change_on_register u h sark)) same
+        (record {
+          named = tt;
+          conflicting = free;
+          faulty = refl;
+          after = ap (λ b. if b then (if is_registered u h then unregistered u h else u) else registered u h sark) zeroed;
+          change = ap (λ b. if b && is_registered u h then change_on_unregister u h else no_change) zeroed;
+        })
+    at false other p has same =
+        let n = number_in keys sark in
+        let P : Purpose → Type 0 = λ q. IsAsked keys u h q conflicts None (after_register u h sark) (change_on_register u h sark) in
+        let has_it : HasNumber (Register n) = subst (λ (q : Purpose). HasNumber q) (sym same) has in
+        let there = number_named keys sark n refl has_it.0 in
+        let key = named_as keys sark n there.1 in
+        subst P same (record {
+          named = (there.0, there.1 ∙ ap Some (sym key));
+          conflicting = free;
+          faulty = refl;
+          after = ap (λ b. if b then (if is_registered u h then unregistered u h else u) else registered u h sark) other ∙ ap (registered u h) (sym key);
+          change = ap (λ b. if b && is_registered u h then change_on_unregister u h else no_change) other;
+        })
+
+accepts : (u : State) (h rk : ℕ) (rest : Bool) → not (is_key (key_of u h) rk) ≡ false → (not (is_key (key_of u h) rk) || rest) ≡ rest
+accepts u h rk rest accepted = ap (λ b. b || rest) accepted
+
+reserves : (keys : List ℕ) (u : State) (h rk : ℕ) (t : Kind) (p : Purpose) → Some (Reserve t) ≡ Some p → not (is_key (key_of u h) rk) ≡ false
+    → IsAsked keys u h p (not (is_key (key_of u h) rk) || is_in_the_way u h u.held t) None (reserved u h t) no_change
+reserves keys u h rk t p same accepted =
+    subst (λ (q : Purpose). IsAsked keys u h q (not (is_key (key_of u h) rk) || is_in_the_way u h u.held t) None (reserved u h t) no_change) (purpose_in (Reserve t) p same)
+    (record { named = tt; conflicting = accepts u h rk (is_in_the_way u h u.held t) accepted; faulty = refl; after = refl; change = refl })
+
+releases : (keys : List ℕ) (u : State) (h : ℕ) (t : Kind) (p : Purpose) (conflicts : Bool) → Some (Release t) ≡ Some p → conflicts ≡ false
+    → IsAsked keys u h p conflicts (release_fault u h t) (released u h t) (change_on_release u h t)
+releases keys u h t p conflicts same free =
+    subst (λ (q : Purpose). IsAsked keys u h q conflicts (release_fault u h t) (released u h t) (change_on_release u h t)) (purpose_in (Release t) p same)
+    (record { named = tt; conflicting = free; faulty = refl; after = refl; change = refl })
+
+clears : (keys : List ℕ) (u : State) (h : ℕ) (p : Purpose) (conflicts : Bool) → Some Clear ≡ Some p → conflicts ≡ false
+    → IsAsked keys u h p conflicts None (cleared u) (change_on_clear u h)
+clears keys u h p conflicts same free =
+    subst (λ (q : Purpose). IsAsked keys u h q conflicts None (cleared u) (change_on_clear u h)) (purpose_in Clear p same)
+    (record { named = tt; conflicting = free; faulty = refl; after = refl; change = refl })
+
+preempts : (keys : List ℕ) (u : State) (h rk sark : ℕ) (t : Kind) (p : Purpose) → HasNumber p → Some (preempting keys sark t) ≡ Some p → not (is_key (key_of u h) rk) ≡ false
+    → IsAsked keys u h p (not (is_key (key_of u h) rk) || (not (sark == 0) && is_nobodys u.keys sark)) (preempt_fault u sark (Some t)) (preempted u h sark (Some t)) (change_on_preempt u h sark (Some t))
+preempts keys u h rk sark t p has same accepted = at (sark == 0) refl p has (purpose_in (preempting keys sark t) p same)
+  where
+    free : preempt_conflicts u h rk sark ≡ (not (sark == 0) && is_nobodys u.keys sark)
+    free = accepts u h rk (not (sark == 0) && is_nobodys u.keys sark) accepted
+
+    faults : (b : Bool) → (sark == 0) ≡ b → preempt_fault u sark (Some t) ≡ (if b && not (is_held_by_all u.held) then Some (illegal 0x26 0x00) else None)
+    faults b is = ap (λ z. if z && not (is_held_by_all u.held) then Some (illegal 0x26 0x00) else None) is
+
+    at : (b : Bool) → (sark == 0) ≡ b → (p : Purpose) → HasNumber p → (if b then PreemptAll t else Preempt (number_in keys sark) t) ≡ p
+        → IsAsked keys u h p (preempt_conflicts u h rk sark) (preempt_fault u sark (Some t)) (preempted u h sark (Some t)) (change_on_preempt u h sark (Some t))
+    at true zeroed p has same =
+        let zero_is : sark ≡ 0 = grind (arith, nat_tests) in
+        subst (λ (q : Purpose). IsAsked keys u h q (preempt_conflicts u h rk sark) (preempt_fault u sark (Some t)) (preempted u h sark (Some t)) (change_on_preempt u h sark (Some t))) same
+        (record {
+          named = tt;
+          conflicting = free ∙ ap (λ b. not b && is_nobodys u.keys sark) zeroed;
+          faulty = faults true zeroed;
+          after = ap (λ k. preempted u h k (Some t)) zero_is;
+          change = ap (λ k. change_on_preempt u h k (Some t)) zero_is;
+        })
+    at false other p has same =
+        let n = number_in keys sark in
+        let P : Purpose → Type 0 = λ q. IsAsked keys u h q (preempt_conflicts u h rk sark) (preempt_fault u sark (Some t)) (preempted u h sark (Some t)) (change_on_preempt u h sark (Some t)) in
+        let has_it : HasNumber (Preempt n t) = subst (λ (q : Purpose). HasNumber q) (sym same) has in
+        let there = number_named keys sark n refl has_it.0 in
+        let key = named_as keys sark n there.1 in
+        subst P same (record {
+          named = (there.0, there.1 ∙ ap Some (sym key));
+          conflicting = free ∙ ap (λ b. not b && is_nobodys u.keys sark) other ∙ ap (is_nobodys u.keys) (sym key);
+          faulty = faults false other;
+          after = ap (λ k. preempted u h k (Some t)) (sym key);
+          change = ap (λ k. change_on_preempt u h k (Some t)) (sym key);
+        })
+
+pub asked : (keys : List ℕ) (u : State) (h : ℕ) (p : Purpose) (c : Command) → HasNumber p → purpose_of keys c ≡ Some p → is_refused (key_of u h) c ≡ false
+    → IsAsked keys u h p (command_conflicts u h c) (command_fault u h c) (after u h c) (change u h c)
+asked keys u h p command.TestUnitReady has same accepted = looks keys u h p same
+asked keys u h p command.RequestSense has same accepted = looks keys u h p same
+asked keys u h p (command.Read lba blocks) has same accepted = reads keys u h lba blocks p same
+asked keys u h p (command.Write lba blocks) has same accepted = writes keys u h lba blocks p same
+asked keys u h p (command.ReadKeys alloc) has same accepted = looks keys u h p same
+asked keys u h p (command.ReadReservation alloc) has same accepted = looks keys u h p same
+asked keys u h p (command.ReportCapabilities alloc) has same accepted = looks keys u h p same
+asked keys u h p (command.Register rk sark) has same accepted = registers keys u h sark p (is_wrong_key (key_of u h) rk) has same accepted
+asked keys u h p (command.RegisterIgnore sark) has same accepted = registers keys u h sark p false has same refl
+asked keys u h p (command.Reserve rk kind) has same accepted = reserves keys u h rk kind p same accepted
+asked keys u h p (command.Release rk kind) has same accepted = releases keys u h kind p (not (is_key (key_of u h) rk)) same accepted
+asked keys u h p (command.Clear rk) has same accepted = clears keys u h p (not (is_key (key_of u h) rk)) same accepted
+asked keys u h p (command.Preempt rk sark (Some kind)) has same accepted = preempts keys u h rk sark kind p has same accepted
+asked keys u h p (command.PreemptAbort rk sark (Some kind)) has same accepted = preempts keys u h rk sark kind p has same accepted
+asked keys u h p (command.Preempt rk sark None) has same accepted = let bad : None ≡ Some p = same in cc
+asked keys u h p (command.PreemptAbort rk sark None) has same accepted = let bad : None ≡ Some p = same in cc

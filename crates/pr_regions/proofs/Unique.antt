@@ -1,0 +1,93 @@
+-- A registration, a reservation and a set of attentions each have one number.
+use Rattle.std.proofs.Common.{◌≡◌, ◌≢◌, ℕ, zero, suc, ◌+◌, ◌*◌, ◌<◌, ◌≤◌, Bool, true, false, ◌==◌, ◌&&◌, ◌||◌, not, nat_lt, nat_le, IsTrue, List, [], ◌∷◌, length, Option, Some, None, is_some, refl, sym, ap, ◌∙◌, arith}
+use Rattle.std.specs.FinSet as set
+use Rattle.std.specs.List.{slice_get, list_any, All}
+use Rattle.std.proofs.lemmas.Bool.{and_parts, false≢true}
+use Rattle.std.proofs.lemmas.Bool.Decides.{nat_tests}
+use Rattle.std.proofs.lemmas.Option.{slice_get_within, slice_get-get_or}
+use Rattle.pr_registry.specs.Registrations.{State, key_of}
+use Rattle.pr_attention.specs.Flagged.{codes_of}
+use Rattle.pr_attention.proofs.Sets.{same_codes}
+use Rattle.pr_attention.proofs.Bits.{same_bits}
+use Rattle.pr_unit.specs.UnitStates.{UnitState}
+use Rattle.pr_roles.specs.Fitting.{are_distinct, AreDeclared}
+use Rattle.pr_views.specs.Possibilities.{Scope, IsScope, Registration, Reservation, Attentions, IsSo, key_at, number_of}
+
+-- ---- the places of keys that are declared once
+
+abbrev pub AreDistinct : List ℕ → Type 0
+AreDistinct keys = are_distinct (λ j k. j == k) keys ≡ true
+
+any_of_place : (p : ℕ → Bool) (xs : List ℕ) (i x : ℕ) → slice_get xs i ≡ Some x → p x ≡ true → list_any p xs ≡ true
+any_of_place p [] i x there passes = cc
+any_of_place p (y ∷ xs) zero x there passes =
+    let same : y ≡ x = cc in
+    ap (λ b. b || list_any p xs) (ap p same ∙ passes)
+any_of_place p (y ∷ xs) (suc i) x there passes =
+    ap (λ b. p y || b) (any_of_place p xs i x there passes) ∙ or_true (p y)
+  where
+    or_true : (b : Bool) → (b || true) ≡ true
+    or_true true = refl
+    or_true false = refl
+
+same_itself : (k : ℕ) → (k == k) ≡ true
+same_itself k = grind (arith, nat_tests)
+
+not_there_again : (x : ℕ) (xs : List ℕ) (i : ℕ) → AreDistinct (x ∷ xs) → slice_get xs i ≡ Some x → zero ≡ suc i
+not_there_again x xs i once there =
+    let parts = and_parts (not (list_any (λ y. y == x) xs)) (are_distinct (λ j k. j == k) xs) once in
+    let any = any_of_place (λ y. y == x) xs i x there (same_itself x) in
+    absurd (false≢true (ap not (sym any) ∙ parts.0))
+
+pub same_place : (keys : List ℕ) (i j k : ℕ) → AreDistinct keys → slice_get keys i ≡ Some k → slice_get keys j ≡ Some k → i ≡ j
+same_place [] i j k once first second = cc
+same_place (x ∷ xs) zero zero k once first second = refl
+same_place (x ∷ xs) zero (suc j) k once first second =
+    let same : k ≡ x = cc in not_there_again x xs j once (second ∙ ap Some same)
+same_place (x ∷ xs) (suc i) zero k once first second =
+    let same : k ≡ x = cc in sym (not_there_again x xs i once (first ∙ ap Some same))
+same_place (x ∷ xs) (suc i) (suc j) k once first second =
+    ap suc (same_place xs i j k (and_parts (not (list_any (λ y. y == x) xs)) (are_distinct (λ j k. j == k) xs) once).1 first second)
+
+-- ---- registrations
+
+pub key_there : (keys : List ℕ) (i : ℕ) → suc i ≤ length keys → (k : ℕ) × (key_at keys (suc i) ≡ Some k)
+key_there [] i small = absurd (omega arith)
+key_there (x ∷ xs) zero small = (x, refl)
+key_there (x ∷ xs) (suc i) small = key_there xs i (omega arith)
+
+-- a number stands for a key where it is not 0
+pub is_some-key_at : (keys : List ℕ) (r : ℕ) → r ≤ length keys → is_some (key_at keys r) ≡ not (r == 0)
+is_some-key_at keys zero small = refl
+is_some-key_at keys (suc i) small = let there = key_there keys i small in ap is_some there.1 ∙ sym (not_zero i)
+  where
+    not_zero : (i : ℕ) → not (suc i == 0) ≡ true
+    not_zero i = grind (arith, nat_tests)
+
+pub same_number_at : (keys : List ℕ) (r q : ℕ) → AreDistinct keys → r ≤ length keys → q ≤ length keys → key_at keys r ≡ key_at keys q → r ≡ q
+same_number_at keys zero zero once small fits same = refl
+same_number_at keys zero (suc j) once small fits same = let there = key_there keys j fits in let bad : None ≡ Some there.0 = same ∙ there.1 in cc
+same_number_at keys (suc i) zero once small fits same = let there = key_there keys i small in let bad : None ≡ Some there.0 = sym same ∙ there.1 in cc
+same_number_at keys (suc i) (suc j) once small fits same =
+    let there = key_there keys j fits in ap suc (same_place keys i j there.0 once (same ∙ there.1) there.1)
+
+pub are_distinct_keys : (keys : List ℕ) → AreDeclared keys → AreDistinct keys
+are_distinct_keys keys declared = (and_parts (nat_le (length keys) 12) (are_distinct (λ j k. j == k) keys) declared.once).1
+
+pub few_keys : (keys : List ℕ) → AreDeclared keys → length keys ≤ 12
+few_keys keys declared =
+    let few = (and_parts (nat_le (length keys) 12) (are_distinct (λ j k. j == k) keys) declared.once).0 in
+    grind (arith, nat_tests)
+
+pub one_registration : (s : Scope) (u : UnitState) (g r q : ℕ) → IsScope s → IsSo s u (Registration g r) → IsSo s u (Registration g q) → r ≡ q
+one_registration s u g r q scope first second =
+    same_number_at s.keys r q (are_distinct_keys s.keys scope.keys) first.1 second.1 (sym first.2 ∙ second.2)
+
+-- ---- reservations and attentions
+
+pub one_reservation : (s : Scope) (u : UnitState) (x y : ℕ) → IsSo s u (Reservation x) → IsSo s u (Reservation y) → x ≡ y
+one_reservation s u x y first second = first ∙ sym second
+
+pub one_attentions : (s : Scope) (u : UnitState) (p q : ℕ) → IsSo s u (Attentions p) → IsSo s u (Attentions q) → p ≡ q
+one_attentions s u p q first second =
+    same_bits p q first.0 second.0 (same_codes (codes_of p) (codes_of q) (λ code. sym (first.1 code) ∙ second.1 code))

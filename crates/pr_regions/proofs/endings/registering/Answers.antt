@@ -1,0 +1,11 @@
+use Rattle.std.proofs.Common.{Some, refl}
+use Rattle.pr_regions.specs.inside.Parts.{Does}
+use Rattle.pr_regions.proofs.Services.{register_good}
+use Rattle.pr_regions.proofs.endings.registering.Goals as goal
+
+pub returns : goal.returns
+returns c sender standing =
+    let change = c.unchanged.ensures.change in
+    register_good c.args.hosts c.args.key c.args.held sender standing _ c.requires.key
+    (record { sender = refl; removed = change.removed; reservation = change.reservation; told_03 = change.told_03; told_04 = change.told_04; told_05 = change.told_05 })
+    (c.requires.key.1, c.unchanged.ensures.room.1)

@@ -1,0 +1,23 @@
+use Rattle.std.proofs.Common.{◌≡◌, true, Some, None, sym, ap, ◌∙◌, refl, arith}
+use Rattle.pr_registry.specs.Registrations.{kind_of}
+use Rattle.pr_registry.specs.Changes.{is_kind}
+use Rattle.pr_regions.specs.inside.Parts.{never}
+use Rattle.pr_regions.proofs.Meeting.{has_room}
+use Rattle.pr_regions.proofs.Services.{release_none, release_others, release_good, release_fault_ends}
+use Rattle.pr_regions.proofs.endings.releasing.Goals as goal
+
+pub returns-in_default : goal.returns-in_default
+returns-in_default c =
+    release_none c.args.hosts c.args.kind c.args.held c.args.sender c.args.standing c.unchanged.result c.in_default.is c.unchanged.ensures.change c.unchanged.ensures.room
+
+pub returns-then-not-holds : goal.returns-then-not-holds
+returns-then-not-holds c =
+    release_others c.args.hosts c.args.kind c.args.held c.in-Some.held c.args.sender c.args.standing c.unchanged-then-not-holds.result c.in-Some.is (sym c.holds.ensures ∙ c.if-not-holds.true)
+    c.unchanged-then-not-holds.ensures.change c.unchanged-then-not-holds.ensures.room
+
+pub returns-then-is_kind : goal.returns-then-is_kind
+returns-then-is_kind c =
+    release_good c.args.hosts c.args.kind c.args.held c.in-Some.held c.args.sender c.args.standing c.released.result c.in-Some.is (sym c.holds.ensures ∙ c.if-not-holds.false)
+    (ap (λ t. is_kind t c.args.kind) (sym c.kind_of.ensures) ∙ sym c.is_kind.ensures ∙ c.if-is_kind.true)
+    (rw (← c.kind_of-then-is_kind.ensures) c.released.ensures)
+    (has_room c.args.hosts c.released.result None never 0 never _ never c.released.ensures (omega arith) (omega arith))

@@ -1,0 +1,31 @@
+use Rattle.std.proofs.Common.{◌≡◌, Bool, true, false, ◌&&◌, Some, sym, ap, ◌∙◌, refl}
+use Rattle.pr_registry.specs.Registrations.{kind_of}
+use Rattle.pr_registry.specs.Changes.{is_kind}
+use Rattle.pr_regions.specs.inside.Parts.{holds}
+use Rattle.pr_regions.proofs.Services.{reserve_new, reserve_same, reserve_conflict}
+use Rattle.pr_regions.proofs.endings.reserving.Goals as goal
+use Rattle.pr_regions.proofs.endings.reserving.Goals.{else-holds-via-then-holds+else-is_kind, else-holds-via-else-holds}
+
+pub returns-in_default : goal.returns-in_default
+returns-in_default c =
+    reserve_new c.args.hosts c.args.kind c.args.held c.args.sender c.args.standing c.unchanged.result c.in_default.is (rw (← c.established.ensures) c.unchanged.ensures.change) c.unchanged.ensures.room
+
+pub returns-then-is_kind : goal.returns-then-is_kind
+returns-then-is_kind c =
+    reserve_same c.args.hosts c.args.kind c.args.held c.in-Some.held c.args.sender c.args.standing c.unchanged-then-is_kind.result c.in-Some.is
+    (sym c.holds.ensures ∙ c.if-holds.true) (ap (λ t. is_kind t c.args.kind) (sym c.kind_of.ensures) ∙ sym c.is_kind.ensures ∙ c.if-is_kind.true)
+    c.unchanged-then-is_kind.ensures.change c.unchanged-then-is_kind.ensures.room
+
+pub returns-else-holds : goal.returns-else-holds
+returns-else-holds c =
+    let holder = holds c.in-Some.held c.args.sender c.args.standing in
+    let same = is_kind (kind_of c.in-Some.held) c.args.kind in
+    reserve_conflict c.args.hosts c.args.kind c.args.held c.in-Some.held c.args.sender c.args.standing c.in-Some.is
+    (elim c.else-holds.branch [
+      | else-holds-via-then-holds+else-is_kind w ↦ and_false holder same (ap (λ t. is_kind t c.args.kind) (sym w.kind_of.ensures) ∙ sym w.is_kind.ensures ∙ w.if-is_kind.false)
+      | else-holds-via-else-holds w ↦ ap (λ b. b && same) (sym c.holds.ensures ∙ w.if-holds.false)
+    ])
+  where
+    and_false : (a b : Bool) → b ≡ false → (a && b) ≡ false
+    and_false true b is = is
+    and_false false b is = refl

@@ -1,0 +1,122 @@
+-- What the functions that make branches say of their parts.
+use Rattle.std.specs.Prelude.{◌≡◌, ℕ, zero, suc, ◌≤◌, ◌<◌, Bool, true, false, not, ◌==◌, ◌&&◌, List, Option, Some, None, unwrap_or}
+use Rattle.std.specs.List.{All}
+use Rattle.pr_cdb.specs.declared.command.Kind.{Kind}
+use Rattle.pr_cdb.specs.declared.command.Kind.TheVariants.{WriteExclusive, ExclusiveAccess, WriteExclusiveRegistrantsOnly, ExclusiveAccessRegistrantsOnly, WriteExclusiveAllRegistrants, ExclusiveAccessAllRegistrants}
+use Rattle.pr_cdb.specs.declared.command.Command.{Command}
+use Rattle.pr_registry.specs.declared.held.Held.{Held}
+use Rattle.pr_registry.specs.declared.held.Held.TheVariants.{One, All as Everybody}
+use Rattle.pr_registry.specs.Registrations.{kind_of}
+use Rattle.pr_unit.specs.UnitStates.{UnitState}
+use Rattle.pr_sets.specs.declared.word.Word.{Word}
+use Rattle.pr_sets.specs.Words.{has}
+use Rattle.pr_views.specs.Possibilities.{Scope, number_of}
+use Rattle.pr_regions.specs.declared.region.Region.{Region}
+use Rattle.pr_regions.specs.declared.region.Change.{Change}
+use Rattle.pr_regions.specs.declared.region.Ending.{Ending}
+use Rattle.pr_regions.specs.declared.region.Branch.{Branch}
+use Rattle.pr_regions.specs.declared.purpose.Purpose.{Purpose}
+use Rattle.pr_regions.specs.declared.purpose.Standing.{Standing}
+use Rattle.pr_regions.specs.declared.purpose.Standing.TheVariants.{Unregistered, Named, Other}
+use Rattle.pr_regions.specs.Regions.{Meets, IsInRegion, Ends, AreBranches, IsProper, HasRoom}
+
+-- ---- words
+
+-- of the registrations that there can be, the word has those that pass
+abbrev pub HasThose : Word → (ℕ → Bool) → Type 0
+HasThose w passes = (r : ℕ) → r ≤ 12 → has w r ≡ passes r
+
+abbrev pub any : ℕ → Bool
+any r = true
+
+abbrev pub never : ℕ → Bool
+never r = false
+
+abbrev pub registered : ℕ → Bool
+registered r = not (r == 0)
+
+-- the registrants, if this holds
+abbrev pub told_if : Bool → ℕ → Bool
+told_if b r = b && registered r
+
+-- each but this one
+abbrev pub but : ℕ → ℕ → Bool
+but j r = not (r == j)
+
+-- each key but the one of this number
+abbrev pub another : ℕ → ℕ → Bool
+another j r = not (r == 0) && not (r == j)
+
+-- ---- regions and changes
+
+-- the region leaves these registrations to a holder and to the others, and has no test
+pub record Leaves (region : Region) (holder others : ℕ → Bool) : Type 0 where
+  pub to_holder : HasThose region.holder holder
+  pub to_others : HasThose region.others others
+  pub untested : region.somebody ≡ None
+
+-- the region leaves every registration to everybody, and asks for one that passes
+pub record Asks (region : Region) (passes : ℕ → Bool) : Type 0 where
+  pub word : Word
+  pub to_holder : HasThose region.holder any
+  pub to_others : HasThose region.others any
+  pub tested : region.somebody ≡ Some word
+  pub passing : HasThose word passes
+
+-- the change gives the sender this registration, where it gives one, removes and tells these others, and leaves
+-- this reservation
+pub record Does (c : Change) (to : Option ℕ) (out : ℕ → Bool) (left : ℕ) (tells_03 tells_04 tells_05 : ℕ → Bool) : Type 0 where
+  pub sender : c.sender ≡ to
+  pub removed : HasThose c.removed out
+  pub reservation : c.reservation ≡ left
+  pub told_03 : HasThose c.told_03 tells_03
+  pub told_04 : HasThose c.told_04 tells_04
+  pub told_05 : HasThose c.told_05 tells_05
+
+-- ---- what is known of the sender
+
+abbrev pub is_unregistered : Standing → Bool
+is_unregistered Unregistered = true
+is_unregistered Named = false
+is_unregistered Other = false
+
+-- a sender that stands so holds the reservation
+abbrev pub holds : Held → ℕ → Standing → Bool
+holds (One kind h) sender standing = h == sender
+holds (Everybody kind) sender standing = not (is_unregistered standing)
+
+-- under this type the sender may not read
+abbrev pub keeps_from_reading : Kind → Held → ℕ → Standing → Bool
+keeps_from_reading WriteExclusive held sender standing = false
+keeps_from_reading ExclusiveAccess held sender standing = not (holds held sender standing)
+keeps_from_reading WriteExclusiveRegistrantsOnly held sender standing = false
+keeps_from_reading ExclusiveAccessRegistrantsOnly held sender standing = is_unregistered standing
+keeps_from_reading WriteExclusiveAllRegistrants held sender standing = false
+keeps_from_reading ExclusiveAccessAllRegistrants held sender standing = is_unregistered standing
+
+-- under this type the sender may not write
+abbrev pub keeps_from_writing : Kind → Held → ℕ → Standing → Bool
+keeps_from_writing WriteExclusive held sender standing = not (holds held sender standing)
+keeps_from_writing ExclusiveAccess held sender standing = not (holds held sender standing)
+keeps_from_writing WriteExclusiveRegistrantsOnly held sender standing = is_unregistered standing
+keeps_from_writing ExclusiveAccessRegistrantsOnly held sender standing = is_unregistered standing
+keeps_from_writing WriteExclusiveAllRegistrants held sender standing = is_unregistered standing
+keeps_from_writing ExclusiveAccessAllRegistrants held sender standing = is_unregistered standing
+
+-- the reservation, if there is one, keeps the sender from it
+abbrev pub is_kept_from : (Kind → Held → ℕ → Standing → Bool) → Option Held → ℕ → Standing → Bool
+is_kept_from keeps None sender standing = false
+is_kept_from keeps (Some v) sender standing = keeps (kind_of v) v sender standing
+
+-- ---- how it ends
+
+-- in every state that meets what is known it ends so
+pub record AlwaysEnds (hosts : ℕ) (purpose : Purpose) (held : Option Held) (sender : ℕ) (standing : Standing) (ending : Ending) : Type 0 where
+  pub ends : (s : Scope) (u : UnitState) (c : Command) → s.hosts ≡ hosts → Meets s purpose held sender standing u c → Ends s sender ending u c
+  pub fits : HasRoom hosts ending
+
+-- the branches tell how it ends, and their numbers fit
+pub record Tell (hosts : ℕ) (purpose : Purpose) (held : Option Held) (sender : ℕ) (standing : Standing) (branches : List Branch) : Type 0 where
+  pub right : AreBranches hosts purpose held sender standing branches
+  pub proper : All IsProper branches
+  pub fits : All (λ b. HasRoom hosts b.ending) branches

@@ -1,0 +1,275 @@
+//! How the commands end whose ending does not depend on who else is registered.
+
+ghost use Rattle.std.specs.Prelude.{◌≡◌, ◌≤◌, ◌<◌, ℕ, IsTrue, None, Option};
+ghost use Rattle.pr_registry.specs.declared.held.Held.{Held as HeldOf};
+ghost use Rattle.pr_registry.specs.Registrations.{kind_of, is_for_registrants};
+ghost use Rattle.pr_registry.specs.Changes.{is_kind, is_held_by_all};
+ghost use Rattle.pr_roles.specs.Fitting.{is_reservation};
+ghost use Rattle.pr_unit.specs.Faults.{illegal};
+ghost use Rattle.pr_views.specs.Possibilities.{number_of, count_of_reservations};
+ghost use Rattle.pr_regions.specs.Purposes.{HasNumber};
+ghost use Rattle.pr_regions.specs.Regions.{HasRoom};
+ghost use Rattle.pr_regions.specs.inside.Parts.{Does, AlwaysEnds, never, told_if, holds, keeps_from_reading, keeps_from_writing, is_kept_from};
+
+use crate::numbers::{established, reservation_number};
+use crate::purpose::{Purpose, Standing};
+use crate::region::{Change, Ending};
+use crate::words::registered;
+use pr_cdb::{Kind, Sense};
+use pr_registry::Held;
+use pr_sets::Word;
+
+// ILLEGAL REQUEST.
+fn illegal(asc: u8, ascq: u8) -> Sense
+    ensures { result ≡ illegal asc ascq }
+{
+    Sense { key: 5, asc, ascq }
+}
+
+// The type of a reservation.
+pub(crate) fn kind_of(held: Held) -> Kind
+    ensures { result ≡ kind_of held }
+{
+    match held {
+        Held::One(kind, _) => kind,
+        Held::All(kind) => kind,
+    }
+}
+
+// Whether registrants that lose their access under this type are told.
+pub(crate) fn is_for_registrants(kind: Kind) -> bool
+    ensures { result ≡ is_for_registrants kind }
+{
+    !matches!(kind, Kind::WriteExclusive | Kind::ExclusiveAccess)
+}
+
+// Whether the types are one.
+pub(crate) fn is_kind(standing: Kind, kind: Kind) -> bool
+    ensures { result ≡ is_kind standing kind }
+{
+    standing == kind
+}
+
+// Whether the reservation is of all registrants.
+fn is_held_by_all(held: Option<Held>) -> bool
+    ensures { result ≡ is_held_by_all held }
+{
+    matches!(held, Some(Held::All(_)))
+}
+
+// Whether a sender that stands so holds the reservation.
+fn holds(held: Held, sender: u8, standing: Standing) -> bool
+    ensures { result ≡ holds held sender standing }
+{
+    match held {
+        Held::One(_, holder) => holder == sender,
+        Held::All(_) => standing != Standing::Unregistered,
+    }
+}
+
+// A change that leaves everything, and this reservation.
+pub(crate) fn leaving(reservation: u8) -> Change
+    ensures { Does result None never reservation never never never }
+{
+    let none = Word::none();
+    Change {
+        sender: None,
+        removed: none,
+        reservation,
+        told_03: none,
+        told_04: none,
+        told_05: none,
+    }
+}
+
+// No change while this reservation stands.
+pub(crate) fn unchanged(hosts: u8, held: Option<Held>) -> Change
+    requires few { hosts ≤ 8 }
+    requires fits { IsTrue (is_reservation hosts held) }
+    ensures change { Does result None never (number_of hosts held) never never never }
+    ensures room { HasRoom hosts (Ending.Good result) }
+{
+    leaving(reservation_number(hosts, held))
+}
+
+/// To look.
+pub(crate) fn looking(hosts: u8, held: Option<Held>) -> Ending
+    requires few { hosts ≤ 8 }
+    requires fits { IsTrue (is_reservation hosts held) }
+    ensures { (sender : ℕ) (standing : Standing) → AlwaysEnds hosts Purpose.Look held sender standing result }
+{
+    Ending::Good(unchanged(hosts, held))
+}
+
+// Whether the reservation keeps the sender from reading.
+fn keeps_from_reading(held: Option<Held>, sender: u8, standing: Standing) -> bool
+    ensures { result ≡ is_kept_from keeps_from_reading held sender standing }
+{
+    let Some(held) = held else {
+        return false;
+    };
+    match kind_of(held) {
+        Kind::WriteExclusive
+        | Kind::WriteExclusiveRegistrantsOnly
+        | Kind::WriteExclusiveAllRegistrants => false,
+        Kind::ExclusiveAccess => !holds(held, sender, standing),
+        Kind::ExclusiveAccessRegistrantsOnly | Kind::ExclusiveAccessAllRegistrants => {
+            standing == Standing::Unregistered
+        }
+    }
+}
+
+// Whether the reservation keeps the sender from writing.
+fn keeps_from_writing(held: Option<Held>, sender: u8, standing: Standing) -> bool
+    ensures { result ≡ is_kept_from keeps_from_writing held sender standing }
+{
+    let Some(held) = held else {
+        return false;
+    };
+    if is_for_registrants(kind_of(held)) {
+        standing == Standing::Unregistered
+    } else {
+        !holds(held, sender, standing)
+    }
+}
+
+/// To read blocks.
+pub(crate) fn reading(
+    hosts: u8,
+    in_range: bool,
+    held: Option<Held>,
+    sender: u8,
+    standing: Standing,
+) -> Ending
+    requires few { hosts ≤ 8 }
+    requires fits { IsTrue (is_reservation hosts held) }
+    ensures { AlwaysEnds hosts (Purpose.Read in_range) held sender standing result }
+{
+    if keeps_from_reading(held, sender, standing) {
+        Ending::Conflict
+    } else if in_range {
+        Ending::Good(unchanged(hosts, held))
+    } else {
+        Ending::Fault(illegal(0x21, 0x00))
+    }
+}
+
+/// To write blocks.
+pub(crate) fn writing(
+    hosts: u8,
+    in_range: bool,
+    held: Option<Held>,
+    sender: u8,
+    standing: Standing,
+) -> Ending
+    requires few { hosts ≤ 8 }
+    requires fits { IsTrue (is_reservation hosts held) }
+    ensures { AlwaysEnds hosts (Purpose.Write in_range) held sender standing result }
+{
+    if keeps_from_writing(held, sender, standing) {
+        Ending::Conflict
+    } else if in_range {
+        Ending::Good(unchanged(hosts, held))
+    } else {
+        Ending::Fault(illegal(0x21, 0x00))
+    }
+}
+
+/// To be registered with the key of this number.
+pub(crate) fn registering(hosts: u8, key: u8, held: Option<Held>) -> Ending
+    requires few { hosts ≤ 8 }
+    requires fits { IsTrue (is_reservation hosts held) }
+    requires key { HasNumber (Purpose.Register key) }
+    ensures { (sender : ℕ) (standing : Standing) → AlwaysEnds hosts (Purpose.Register key) held sender standing result }
+{
+    Ending::Good(Change {
+        sender: Some(key),
+        ..unchanged(hosts, held)
+    })
+}
+
+/// To establish a reservation of this type.
+pub(crate) fn reserving(
+    hosts: u8,
+    kind: Kind,
+    held: Option<Held>,
+    sender: u8,
+    standing: Standing,
+) -> Ending
+    requires few { hosts ≤ 8 }
+    requires there { sender < hosts }
+    requires fits { IsTrue (is_reservation hosts held) }
+    ensures { AlwaysEnds hosts (Purpose.Reserve kind) held sender standing result }
+{
+    let Some(held) = held else {
+        return Ending::Good(unchanged(hosts, Some(established(kind, sender))));
+    };
+    if holds(held, sender, standing) && is_kind(kind_of(held), kind) {
+        Ending::Good(unchanged(hosts, Some(held)))
+    } else {
+        Ending::Conflict
+    }
+}
+
+// What ending a reservation of this type changes: registrants who lose their access are told.
+pub(crate) fn released(kind: Kind) -> Change
+    ensures { Does result None never 0 never (told_if (is_for_registrants kind)) never }
+{
+    let mut change = leaving(0);
+    if is_for_registrants(kind) {
+        change.told_04 = registered();
+    }
+    change
+}
+
+/// To release a reservation of this type.
+pub(crate) fn releasing(
+    hosts: u8,
+    kind: Kind,
+    held: Option<Held>,
+    sender: u8,
+    standing: Standing,
+) -> Ending
+    requires few { hosts ≤ 8 }
+    requires fits { IsTrue (is_reservation hosts held) }
+    ensures { AlwaysEnds hosts (Purpose.Release kind) held sender standing result }
+{
+    let Some(held) = held else {
+        return Ending::Good(unchanged(hosts, None));
+    };
+    if !holds(held, sender, standing) {
+        Ending::Good(unchanged(hosts, Some(held)))
+    } else if is_kind(kind_of(held), kind) {
+        Ending::Good(released(kind_of(held)))
+    } else {
+        Ending::Fault(illegal(0x26, 0x04))
+    }
+}
+
+/// To remove the reservation and every registration.
+pub(crate) fn clearing() -> Ending
+    ensures { (hosts : ℕ) (held : Option HeldOf) (sender : ℕ) (standing : Standing) → AlwaysEnds hosts Purpose.Clear held sender standing result }
+{
+    Ending::Good(Change {
+        sender: Some(0),
+        removed: registered(),
+        told_03: registered(),
+        ..leaving(0)
+    })
+}
+
+/// To preempt all other registrations.
+pub(crate) fn preempting_all(hosts: u8, kind: Kind, held: Option<Held>, sender: u8) -> Ending
+    requires few { hosts ≤ 8 }
+    requires there { sender < hosts }
+    ensures { (standing : Standing) → AlwaysEnds hosts (Purpose.PreemptAll kind) held sender standing result }
+{
+    if !is_held_by_all(held) {
+        return Ending::Fault(illegal(0x26, 0x00));
+    }
+    Ending::Good(Change {
+        removed: registered(),
+        told_05: registered(),
+        ..unchanged(hosts, Some(established(kind, sender)))
+    })
+}

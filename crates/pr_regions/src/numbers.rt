@@ -1,0 +1,47 @@
+//! The numbers of reservations.
+
+ghost use Rattle.std.specs.Prelude.{◌≡◌, ◌≤◌, ◌<◌, ◌+◌, ◌*◌, IsTrue, IfSome, Some, None};
+ghost use Rattle.pr_registry.specs.Registrations.{established};
+ghost use Rattle.pr_roles.specs.Fitting.{is_reservation};
+ghost use Rattle.pr_views.specs.Possibilities.{place_of, number_of, count_of_reservations};
+
+use pr_cdb::Kind;
+use pr_registry::{Held, is_all};
+
+// The place of a type among those with one holder (1, 3, 5, 6), and among those of all registrants (7, 8).
+fn place_of(kind: Kind) -> u8
+    ensures place { result ≡ place_of kind }
+    ensures few { result ≤ 3 }
+{
+    match kind {
+        Kind::WriteExclusive | Kind::WriteExclusiveAllRegistrants => 0,
+        Kind::ExclusiveAccess | Kind::ExclusiveAccessAllRegistrants => 1,
+        Kind::WriteExclusiveRegistrantsOnly => 2,
+        Kind::ExclusiveAccessRegistrantsOnly => 3,
+    }
+}
+
+/// The number of a reservation: 0 for none, then types 1, 3, 5 and 6, each by its holder, then 7 and 8.
+pub fn reservation_number(hosts: u8, held: Option<Held>) -> u8
+    requires few { hosts ≤ 8 }
+    requires fits { IsTrue (is_reservation hosts held) }
+    ensures number { result ≡ number_of hosts held }
+    ensures below { result < count_of_reservations hosts }
+{
+    match held {
+        None => 0,
+        Some(Held::One(kind, holder)) => 1 + (hosts * place_of(kind) + holder),
+        Some(Held::All(kind)) => 1 + (hosts * 4 + place_of(kind)),
+    }
+}
+
+/// The reservation of this type that a host or guest establishes.
+pub(crate) fn established(kind: Kind, host: u8) -> Held
+    ensures { result ≡ established kind host }
+{
+    if is_all(kind) {
+        Held::All(kind)
+    } else {
+        Held::One(kind, host)
+    }
+}

@@ -1,0 +1,39 @@
+//! Words of registrations: 0 for none, and 1 to 12 for the declared keys.
+
+ghost use Rattle.std.specs.Prelude.{◌≡◌, ◌≤◌, ◌==◌, ◌&&◌, ℕ, true, not};
+ghost use Rattle.pr_regions.specs.inside.Parts.{HasThose, any, never, registered, but, another};
+
+use pr_sets::Word;
+
+// None, and each of 12 keys.
+const REGISTRATIONS: u8 = 13;
+
+// Every registration.
+pub(crate) fn anything() -> Word
+    ensures { HasThose result any }
+{
+    Word::below(REGISTRATIONS)
+}
+
+// Every key.
+pub(crate) fn registered() -> Word
+    ensures { HasThose result registered }
+{
+    Word::below(REGISTRATIONS).without(0)
+}
+
+// Every registration but this one.
+pub(crate) fn anything_but(registration: u8) -> Word
+    requires { registration ≤ 12 }
+    ensures { HasThose result (but registration) }
+{
+    Word::below(REGISTRATIONS).without(registration)
+}
+
+// Every key but the one of this number.
+pub(crate) fn another_than(key: u8) -> Word
+    requires { key ≤ 12 }
+    ensures { HasThose result (another key) }
+{
+    registered().without(key)
+}
