@@ -3,3 +3,4 @@ pub mod Showing
 pub mod Places
 pub mod Projecting
 pub mod Fronts
+pub mod Members
