@@ -4,3 +4,4 @@ pub mod Places
 pub mod Projecting
 pub mod Fronts
 pub mod Members
+pub mod Viewing

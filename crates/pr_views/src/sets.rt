@@ -1,6 +1,6 @@
 //! Sets of possibilities, and the words that have the same members.
 
-ghost use Rattle.std.specs.Prelude.{◌≡◌, ◌<◌, ◌≤◌, ◌↔◌, ℕ, true, false, length, IsTrue, IfOk};
+ghost use Rattle.std.specs.Prelude.{◌≡◌, ◌<◌, ◌≤◌, ◌↔◌, ℕ, true, false, length, slice_index_or, IsTrue, IfOk};
 ghost use Rattle.std.specs.List.{All};
 ghost use Rattle.std.specs.FinSet as set;
 ghost use Rattle.pr_sets.specs.Numbers.{most};
@@ -94,7 +94,7 @@ pub(crate) fn words_of<S: ViewSet>(sets: &[S; 8], count: u8) -> [Word; 8]
 /// Whether each of the first sets is within the other of its place.
 pub(crate) fn are_within<S: ViewSet>(sets: &[S; 8], others: &[S; 8], count: u8) -> bool
     requires count { count ≤ 8 }
-    requires alike { (size : ℕ) × All (λ s. S.room s ≡ size) sets.now × All (λ s. S.room s ≡ size) others.now }
+    requires alike { (k : ℕ) (d : S) → k < length sets.now → k < length others.now → S.room (slice_index_or others.now k d) ≡ S.room (slice_index_or sets.now k d) }
     ensures { IsTrue result ↔ ((g n : ℕ) → g < count → contains_at S.members sets.now g n ≡ true → contains_at S.members others.now g n ≡ true) }
 {
     for host in 0..count {
