@@ -8,20 +8,9 @@ use Rattle.pr_sets.specs.Words.{has}
 use Rattle.pr_views.specs.declared.possibilities.Possibilities.{Possibilities}
 use Rattle.pr_views.specs.Possibilities.{Item, Registration, Reservation, Attentions}
 use Rattle.pr_views.specs.Portions.{has_at}
+use Rattle.pr_views.proofs.Places.{holds_at_written, holds_at_kept}
 use Rattle.pr_domain.specs.declared.tally.Tally.{Tally}
 use Rattle.pr_domain.specs.inside.Tallies.{has_part, tallied}
-
-get_same : {X : Type 0} (xs : List X) (i : ℕ) (x : X) → i < length xs → slice_get (slice_set xs i x) i ≡ Some x
-get_same [] i x there = absurd (omega arith)
-get_same (y ∷ ys) zero x there = refl
-get_same (y ∷ ys) (suc i) x there = get_same ys i x (omega arith)
-
-get_other : {X : Type 0} (xs : List X) (i g : ℕ) (x : X) → g ≢ i → slice_get (slice_set xs i x) g ≡ slice_get xs g
-get_other [] i g x differs = refl
-get_other (y ∷ ys) zero zero x differs = absurd (differs refl)
-get_other (y ∷ ys) zero (suc g) x differs = refl
-get_other (y ∷ ys) (suc i) zero x differs = refl
-get_other (y ∷ ys) (suc i) (suc g) x differs = get_other ys i g x (λ e. differs (ap suc e))
 
 pub way_added : (ways : List Possibilities) (way : ℕ) (old joined found : Possibilities) → way < length ways → slice_get ways way ≡ Some old
     → ((g r : ℕ) → has_at joined.registrations g r ≡ (has_at old.registrations g r || has_at found.registrations g r))
@@ -43,8 +32,8 @@ way_added ways way old joined found there is registrations reservations w i = at
     at (inl same) =
         subst (λ n. tallied (record { ways = slice_set ways way joined }) n i ≡ (tallied (record { ways = ways }) n i || (w == way && has_part found i))) (sym same.1)
         (subst (λ b. tallied (record { ways = slice_set ways way joined }) way i ≡ (tallied (record { ways = ways }) way i || (b && has_part found i))) (sym same.0)
-        (ap (λ o. option_map_or (λ p. has_part p i) o false) (get_same ways way joined there) ∙ parts i
+        (holds_at_written (λ p. has_part p i) ways way joined there ∙ parts i
         ∙ ap (λ o. option_map_or (λ p. has_part p i) o false || has_part found i) (sym is)))
     at (inr other) =
-        ap (λ o. option_map_or (λ p. has_part p i) o false) (get_other ways way w joined other.1) ∙ or_false (tallied (record { ways = ways }) w i)
+        holds_at_kept (λ p. has_part p i) ways way w joined other.1 ∙ or_false (tallied (record { ways = ways }) w i)
         ∙ ap (λ b. tallied (record { ways = ways }) w i || (b && has_part found i)) (sym other.0)
