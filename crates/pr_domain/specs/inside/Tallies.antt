@@ -13,9 +13,14 @@ use Rattle.pr_sets.specs.Words.{has}
 use Rattle.pr_views.specs.declared.possibilities.Possibilities.{Possibilities}
 use Rattle.pr_views.specs.Possibilities.{Scope, Item, Registration, Reservation, Attentions, IsSo}
 use Rattle.pr_views.specs.Views.{View, Shows}
-use Rattle.pr_views.specs.Portions.{has_at}
+use Rattle.pr_views.specs.Portions.{has_at, view_in}
 use Rattle.pr_regions.specs.Readings.{first_test}
+use Rattle.pr_sets.specs.declared.word.Word.{Word}
+use Rattle.pr_regions.specs.declared.region.Branch.{Branch}
+use Rattle.pr_regions.specs.Regions.{Ends}
+use Rattle.pr_domain.specs.declared.place.Place.{Place}
 use Rattle.pr_domain.specs.declared.tally.Tally.{Tally}
+use Rattle.pr_domain.specs.inside.Gathering.{IsPlace, IsUniform, IsProper, IsAt}
 
 -- it is so of the registrations and the reservation
 abbrev pub IsRegistered : Scope → UnitState → Item → Type 0
@@ -64,3 +69,20 @@ pub record Grows (v : View) (c : Command) (tests : List Test) (old new : Tally) 
   pub kept : (way : ℕ) (i : Item) → tallied old way i ≡ true → tallied new way i ≡ true
   pub all : (u : UnitState) (way : ℕ) (i : Item) → Shows v u → Among u → Leaves v.scope c tests way u i → tallied new way i ≡ true
   pub only : (way : ℕ) (i : Item) (q : ℕ) → tallied new way i ≡ true → v.pending q ≡ true → (tallied old way i ≡ true) ⊎ IsFound v c tests Among way i q
+
+-- ---- one branch
+
+-- What is known of a branch at a place: it says how the command ends in the states of its region, and this is the
+-- way of the arm that takes the data.
+pub record IsRight (s : Scope) (c : Command) (tests : List Test) (view : Possibilities) (place : Place) (senders : Word) (b : Branch) (arm : ℕ) : Type 0 where
+  pub own : place.sender ≡ s.own
+  pub is : IsPlace s view place
+  pub uniform : IsUniform senders
+  pub proper : IsProper b.region
+  pub ends : (u : UnitState) → IsAt (view_in s view) place senders b.region u → Ends s s.own b.ending u c
+  pub taken : (u : UnitState) → IsAt (view_in s view) place senders b.region u → first_test tests (good (data_of u.registry c)) ≡ arm_of arm
+
+-- the tally of all states that the view shows
+pub record IsTally (v : View) (c : Command) (tests : List Test) (t : Tally) : Type 0 where
+  pub all : (u : UnitState) (way : ℕ) (i : Item) → Shows v u → Leaves v.scope c tests way u i → tallied t way i ≡ true
+  pub only : (way : ℕ) (i : Item) (q : ℕ) → tallied t way i ≡ true → v.pending q ≡ true → IsFound v c tests (λ u. Unit {0}) way i q
