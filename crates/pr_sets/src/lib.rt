@@ -4,5 +4,7 @@
 #![tactic(auto)]
 
 mod view_set;
+mod word_set;
 
 pub use view_set::{MOST, ViewSet};
+pub use word_set::WordSet;
