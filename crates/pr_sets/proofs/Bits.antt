@@ -8,7 +8,7 @@ use Rattle.std.proofs.lemmas.Nat.{pow-add}
 use Rattle.std.proofs.lemmas.Nat.Bits.{bit_at_or, bit_at_and, bit_at_not, bit_at_set_same, bit_at_set_other, bit_at-zero, bit_at-lt, bit_at_above, bit_at-trailing_zeros, same_from_bits_below, shr_and_one}
 use Rattle.std.proofs.Math.Nat.{div-div-eq-div-mul}
 use Rattle.pr_sets.specs.Numbers.{Has, Within, IsNext, HasNoneFrom}
-use Rattle.pr_sets.specs.Words.{numbers_of_bits}
+use Rattle.pr_sets.specs.Kept.{numbers_of_bits}
 use Rattle.pr_sets.proofs.Members.{same_numbers, contains-empty, contains-insert, contains-union, contains-numbers_where}
 
 contains-bits : (bits q : ℕ) → set.contains (numbers_of_bits bits) q ≡ (nat_lt q 64 && (bit_at bits q == 1))

@@ -1,2 +1,4 @@
 pub mod Members
 pub mod Bits
+pub mod Lists
+pub mod Lattice

@@ -6,7 +6,7 @@ use Rattle.std.specs.FinSet as set
 use Rattle.std.specs.FinSet.{nat_cmp-IsAntisymmetric}
 use Rattle.std.proofs.lemmas.Bool.Decides.{nat_tests, eqb_tells}
 use Rattle.pr_sets.specs.Numbers.{Numbers, Has, AllBelow, Within}
-use Rattle.pr_sets.specs.Words.{numbers_where}
+use Rattle.pr_sets.specs.Kept.{numbers_where}
 
 pub same_numbers : (s t : Numbers) → ((q : ℕ) → set.contains s q ≡ set.contains t q) → s ≡ t
 same_numbers s t same = set.same_set nat_cmp_total nat_cmp-IsAntisymmetric s t same
@@ -56,6 +56,17 @@ of_insert s n q there =
     at : (((q == n) ≡ true) × (q ≡ n)) ⊎ (((q == n) ≡ false) × (q ≢ n)) → (q ≡ n) ⊎ Has s q
     at (inl same) = inl same.1
     at (inr other) = inr (ap (λ b. b || set.contains s q) (sym other.0) ∙ sym (contains-insert s n q) ∙ there)
+
+pub Has-insert_same : (s : Numbers) (n : ℕ) → Has (set.insert s n) n
+Has-insert_same s n = let test : (n == n) ≡ true = grind (arith, nat_tests) in contains-insert s n n ∙ ap (λ b. b || set.contains s n) test
+
+pub Has-insert_other : (s : Numbers) (n q : ℕ) → Has s q → Has (set.insert s n) q
+Has-insert_other s n q there =
+    contains-insert s n q ∙ ap (λ b. q == n || b) there ∙ at (q == n)
+  where
+    at : (b : Bool) → (b || true) ≡ true
+    at true = refl
+    at false = refl
 
 -- ---- below a bound
 

@@ -3,7 +3,7 @@
 ghost use Rattle.std.specs.Prelude.{◌≡◌, ◌<◌, ◌≤◌, IsTrue, ◌↔◌, IsOk, IfSome, IfNone};
 ghost use Rattle.std.specs.FinSet as set;
 ghost use Rattle.pr_sets.specs.Numbers.{most, AllBelow, Within, IsNext, HasNoneFrom};
-ghost use Rattle.pr_sets.specs.Words.{numbers_of_bits};
+ghost use Rattle.pr_sets.specs.Kept.{numbers_of_bits};
 
 use crate::view_set::{MOST, ViewSet};
 use std::alloc::{AllocError, Global};

@@ -1,6 +1,6 @@
 use Rattle.std.proofs.Common.{◌≡◌, ◌<◌, ◌^◌, ap, ◌∙◌, arith}
 use Rattle.std.proofs.lemmas.Bool.Decides.{nat_tests}
-use Rattle.pr_sets.specs.Words.{numbers_of_bits}
+use Rattle.pr_sets.specs.Kept.{numbers_of_bits}
 use Rattle.pr_sets.proofs.Bits.{bits-zero, zero_from_empty}
 use Rattle.pr_sets.proofs.word_set.WordSetViewSet.is_empty.Goals as goal
 

@@ -1,6 +1,6 @@
 use Rattle.std.proofs.Common.{ℕ, subst}
 use Rattle.pr_sets.specs.Numbers.{AllBelow}
-use Rattle.pr_sets.specs.Words.{numbers_of_bits}
+use Rattle.pr_sets.specs.Kept.{numbers_of_bits}
 use Rattle.pr_sets.proofs.Members.{AllBelow-union}
 use Rattle.pr_sets.proofs.Bits.{bits-union}
 use Rattle.pr_sets.proofs.word_set.WordSetViewSet.join.Goals as goal
