@@ -1,6 +1,10 @@
 //! Laws of the sets of numbers, each the contract of a function with nothing to do.
 
+ghost use Rattle.std.specs.Prelude.{◌≡◌};
+ghost use Rattle.pr_sets.specs.Numbers.{most};
 ghost use Rattle.pr_sets.specs.Laws.{InclusionIsAnOrder, UnionIsTheLeastAbove, UnionKeepsWhatHasIt, EmptyIsTheLeast, InsertAddsOne};
+
+use crate::MOST;
 
 /// Inclusion is reflexive and transitive, and sets within each other are equal.
 pub fn inclusion_is_an_order()
@@ -25,4 +29,9 @@ pub fn empty_is_the_least()
 /// After an insert the new number is a member, and besides it just those from before.
 pub fn insert_adds_one()
     ensures { InsertAddsOne }
+{}
+
+/// The code's bound of a set is the one that the definitions name.
+pub fn bounds_agree()
+    ensures { MOST ≡ most }
 {}

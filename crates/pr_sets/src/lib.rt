@@ -10,8 +10,8 @@ mod view_set;
 mod word_set;
 
 pub use laws::{
-    empty_is_the_least, inclusion_is_an_order, insert_adds_one, union_is_the_least_above,
-    union_keeps_what_has_it,
+    bounds_agree, empty_is_the_least, inclusion_is_an_order, insert_adds_one,
+    union_is_the_least_above, union_keeps_what_has_it,
 };
 pub use list_set::ListSet;
 pub use view_set::{MOST, ViewSet};
