@@ -23,7 +23,7 @@ contains-insert s n q = set.contains-insert nat_cmp_total s n q ∙ ap (λ b. b 
 pub contains-union : (s t : Numbers) (q : ℕ) → set.contains (set.union s t) q ≡ (set.contains s q || set.contains t q)
 contains-union s t q = set.contains-union nat_cmp_total s t q
 
--- what a set of numbers contains, by what it was made of
+-- for the crates above: what a set of numbers contains, by what it was made of
 pub ruleset reads = (contains-empty, contains-insert, contains-union)
 
 -- ---- by members

@@ -31,6 +31,7 @@ impl ListSet {
         ensures capacity { vec_capacity self.new.numbers ≡ vec_capacity self.old.numbers }
     {
         if let Err(at) = self.numbers.binary_search(&n) {
+            // There is room, so this is not refused.
             self.numbers.insert(at, n).unwrap();
         }
     }
@@ -63,6 +64,7 @@ impl ViewSet for ListSet {
     }
 
     fn join(&mut self, other: &Self) -> Result<(), AllocError> {
+        // Room for all comes first, so that no refusal leaves some of them added.
         self.numbers.reserve(other.numbers.len())?;
         for n in &other.numbers {
             self.put(*n);

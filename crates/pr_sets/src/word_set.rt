@@ -8,7 +8,7 @@ ghost use Rattle.pr_sets.specs.Kept.{numbers_of_bits};
 use crate::view_set::{MOST, ViewSet};
 use std::alloc::{AllocError, Global};
 
-/// A set that has a bit of one word for each number. It takes no memory, so a call that may be refused memory never is.
+/// A set that has a bit of one word for each number. It takes no memory, so that `add` and `join` always answer `Ok`.
 #[derive(Debug, Drop)]
 pub struct WordSet {
     bits: u64,

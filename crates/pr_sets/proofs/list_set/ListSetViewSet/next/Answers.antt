@@ -1,6 +1,6 @@
 use Rattle.std.proofs.Common.{◌≡◌, ◌∙◌, ℕ, List, nat_lt, slice_get, subst, sym, rules, of_calls}
 use Rattle.std.specs.List.Sorted.{IsStrictlyIncreasing}
-use Rattle.std.proofs.lemmas.Fn.{always_returns_same}
+use Rattle.std.proofs.lemmas.List.Sorted.{IsPartitionPoint-from_clause}
 use Rattle.pr_sets.proofs.Lists.{IsStart, tests_fall, got, answers_some, answers_none}
 use Rattle.pr_sets.proofs.list_set.ListSetViewSet.next.Goals as goal
 
@@ -10,9 +10,10 @@ found c = c.copied.ensures ∙ got _ _ c.partition_point-at.result c.get.result 
 start : (c : goal.After-copied) → IsStart c.args.self.now.numbers.items c.args.from c.partition_point-at.result
 start c =
     let same : c.deref.result.now ≡ c.args.self.now.numbers.items = c.deref.ensures.value in
+    let falls = tests_fall c.deref.result.now c.args.from (subst IsStrictlyIncreasing (sym same) c.args.self.now.sorted) in
     subst (λ (l : List ℕ). IsStart l c.args.from c.partition_point-at.result) same
-    (c.partition_point-at.ensures.partitioned (λ n. nat_lt n c.args.from) (always_returns_same _ _ _ (λ a r f k. search (rules, of_calls)))
-    (tests_fall c.deref.result.now c.args.from (subst IsStrictlyIncreasing (sym same) c.args.self.now.sorted)))
+    (IsPartitionPoint-from_clause (λ n. nat_lt n c.args.from) c.deref.result.now c.partition_point-at.result c.partition_point-at.ensures.partitioned falls
+    (λ a r f k. search (rules, of_calls)))
 
 pub returns-clause-some : goal.returns-clause-some
 returns-clause-some c =
