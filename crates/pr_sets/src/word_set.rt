@@ -1,8 +1,8 @@
 //! Sets in one word.
 
-ghost use Rattle.std.specs.Prelude.{◌≡◌, ◌<◌, ◌≤◌, IsTrue, ◌↔◌, IsOk, IfSome, IfNone};
+ghost use Rattle.std.specs.Prelude.{◌≡◌, ◌<◌, ◌≤◌, IsOk};
 ghost use Rattle.std.specs.FinSet as set;
-ghost use Rattle.pr_sets.specs.Numbers.{most, AllBelow, Within, IsNext, HasNoneFrom};
+ghost use Rattle.pr_sets.specs.Numbers.{most, AllBelow};
 ghost use Rattle.pr_sets.specs.Kept.{numbers_of_bits};
 
 use crate::view_set::{MOST, ViewSet};
