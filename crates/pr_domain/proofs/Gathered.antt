@@ -20,7 +20,7 @@ use Rattle.pr_views.specs.Views.{IsSeen, Shows}
 use Rattle.pr_views.specs.Portions.{has_at, view_in, TestsRegistered, IsPortion, IsIn, GivesHolder, HasSomebody}
 use Rattle.pr_views.proofs.Numbering.{same_held, reservation_of, one_registration}
 use Rattle.pr_regions.specs.declared.region.Region.{Region}
-use Rattle.pr_regions.specs.Regions.{filter_of}
+use Rattle.pr_regions.specs.Regions.{IsUntestedOrRegistered, filter_of}
 use Rattle.pr_domain.specs.declared.place.Place.{Place}
 use Rattle.pr_domain.specs.inside.Gathering.{IsPlace, IsUniform, IsProper, IsAt, passes, IsLeftTo, tested}
 
@@ -105,7 +105,7 @@ gives s view place senders region p is proper of (Some (All kind)) held fits = a
             (ap (λ b. b && not (holds_alone place.held place.sender && 0 == 0)) none)
     at true some = inr (tests region.somebody p.somebody of.tested proper)
       where
-        tests : (a b : Option Word) → tested place senders a b → TestsRegistered a → TestsRegistered b
+        tests : (a b : Option Word) → tested place senders a b → IsUntestedOrRegistered a → TestsRegistered b
         tests None None none proper = absurd (false≢true (sym none ∙ ap (λ b. b && has senders 0) by_all ∙ some))
         tests None (Some w) another proper = another.2
         tests (Some w) None none proper = absurd none

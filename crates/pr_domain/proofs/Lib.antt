@@ -1,2 +1,4 @@
 pub mod Places
 pub mod Gathered
+pub mod Tallying
+pub mod Leaving

@@ -1,1 +1,3 @@
 pub mod Gathering
+pub mod Tallies
+pub mod Images

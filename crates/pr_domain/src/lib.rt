@@ -4,5 +4,6 @@
 
 mod landing;
 mod place;
+mod tally;
 
 pub use landing::{Class, Landing};

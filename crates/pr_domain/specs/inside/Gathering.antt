@@ -10,9 +10,9 @@ use Rattle.pr_views.specs.declared.portion.Portion.{Portion}
 use Rattle.pr_views.specs.declared.possibilities.Possibilities.{Possibilities}
 use Rattle.pr_views.specs.Possibilities.{Scope, Registration, Reservation, Attentions, IsSo, number_of}
 use Rattle.pr_views.specs.Views.{View, Shows, Fits}
-use Rattle.pr_views.specs.Portions.{has_at, view_in, TestsRegistered}
+use Rattle.pr_views.specs.Portions.{has_at, view_in}
 use Rattle.pr_regions.specs.declared.region.Region.{Region}
-use Rattle.pr_regions.specs.Regions.{IsInRegion, filter_of}
+use Rattle.pr_regions.specs.Regions.{IsInRegion, IsUntestedOrRegistered, filter_of}
 use Rattle.pr_domain.specs.declared.place.Place.{Place}
 
 -- the place is one of this view: its reservation is possible, and it is the one of that number
@@ -30,7 +30,7 @@ IsUniform senders = has senders 0 ≡ true → (r : ℕ) → has senders r ≡ t
 
 -- the region's test, if there is one, is passed by registered hosts and guests alone
 abbrev pub IsProper : Region → Type 0
-IsProper region = TestsRegistered region.somebody
+IsProper region = IsUntestedOrRegistered region.somebody
 
 -- a shown state with the reservation of this place, in which the sender has one of these registrations and the
 -- others are as the region says
