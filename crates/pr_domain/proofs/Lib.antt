@@ -2,3 +2,5 @@ pub mod Places
 pub mod Gathered
 pub mod Tallying
 pub mod Leaving
+pub mod Matching
+pub mod Reported

@@ -2,6 +2,8 @@
 //! others.
 #![tactic(auto)]
 
+mod arms;
+mod attentions;
 mod landing;
 mod place;
 mod tally;
