@@ -4,3 +4,4 @@ pub mod Tallying
 pub mod Leaving
 pub mod Matching
 pub mod Reported
+pub mod Ending
