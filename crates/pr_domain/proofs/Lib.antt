@@ -5,3 +5,4 @@ pub mod Leaving
 pub mod Matching
 pub mod Reported
 pub mod Ending
+pub mod Owner
