@@ -6,3 +6,4 @@ pub mod Matching
 pub mod Reported
 pub mod Ending
 pub mod Owner
+pub mod Landed
