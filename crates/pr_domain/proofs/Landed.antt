@@ -74,12 +74,12 @@ lands_somewhere tests r class is = at (first_test tests r) refl
 
 -- ---- what is so after the command
 
-so_from_registered : (s : Scope) (u : UnitState) (j : Item) → IsRegistered s u j → IsSo s u j
+pub so_from_registered : (s : Scope) (u : UnitState) (j : Item) → IsRegistered s u j → IsSo s u j
 so_from_registered s u (Registration g r) is = is
 so_from_registered s u (Reservation x) is = is
 so_from_registered s u (Attentions q) is = absurd is
 
-still_registered : (s : Scope) (u w : UnitState) (j : Item) → w.registry ≡ u.registry → IsRegistered s w j → IsRegistered s u j
+pub still_registered : (s : Scope) (u w : UnitState) (j : Item) → w.registry ≡ u.registry → IsRegistered s w j → IsRegistered s u j
 still_registered s u w (Registration g r) same is = (is.0, is.1, ap (λ (x : State). key_of x g) (sym same) ∙ is.2)
 still_registered s u w (Reservation x) same is = is ∙ ap (λ (x : State). number_of s.hosts x.held) same
 still_registered s u w (Attentions q) same is = absurd is

@@ -7,3 +7,4 @@ pub mod Reported
 pub mod Ending
 pub mod Owner
 pub mod Landed
+pub mod EachWay

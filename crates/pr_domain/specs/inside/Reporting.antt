@@ -1,5 +1,5 @@
 -- What is found of each landing, and where the possibilities of a landing come from.
-use Rattle.std.specs.Prelude.{◌≡◌, ◌↔◌, ◌⊎◌, ℕ, ◌<◌, Bool, true, false, ◌==◌, List, Option, Some, None}
+use Rattle.std.specs.Prelude.{◌≡◌, ◌↔◌, ◌⊎◌, ℕ, zero, suc, ◌<◌, Bool, true, false, ◌==◌, List, Option, Some, None}
 use Rattle.std.specs.FinSet as set
 use Rattle.std.specs.List.{All, slice_get}
 use Rattle.pr_cdb.specs.declared.command.Command.{Command}
@@ -27,6 +27,7 @@ use Rattle.pr_views.specs.Views.{View, IsPossible, Shows}
 use Rattle.pr_views.specs.Portions.{view_in}
 use Rattle.pr_views.specs.Rooms.{view_of, IsMade}
 use Rattle.pr_domain.specs.declared.landing.Landing.{Landing}
+use Rattle.pr_domain.specs.declared.landing.Landing.TheVariants.{Arm, NoArm}
 use Rattle.pr_domain.specs.declared.landing.Class.{Class}
 use Rattle.pr_domain.specs.declared.landing.Class.TheVariants.{Good, Conflict, Sense as WithSense}
 use Rattle.pr_domain.specs.Landings.{IsLanding}
@@ -131,6 +132,11 @@ Ends (Reports a) c h u r w = MayReport c h u a × IsReport c h u a r w
 Ends Conflicts c h u r w = (is_pending u h power_on ≡ false) × (command_conflicts u.registry h c ≡ true) × (r ≡ conflict) × (w ≡ u)
 Ends Fails c h u r w = (is_any_pending u h ≡ false) × (command_conflicts u.registry h c ≡ false) × (s : Sense) × (command_fault u.registry h c ≡ Some s) × (r ≡ check s) × (w ≡ u)
 Ends EndsGood c h u r w = (is_any_pending u h ≡ false) × (command_conflicts u.registry h c ≡ false) × (command_fault u.registry h c ≡ None) × (r ≡ good (data_of u.registry c)) × (w ≡ effect u h c)
+
+-- where GOOD lands by the arm that takes the data, from 1, if one does
+abbrev pub landing_at : ℕ → Landing
+landing_at zero = NoArm Good
+landing_at (suc n) = Arm n
 
 -- from a shown state the owner's command ends so, with this landing, and this is so after it
 pub record LandsBy (v : View) (c : Command) (tests : List Test) (how : How) (l : Landing) (i : Item) : Type 0 where
