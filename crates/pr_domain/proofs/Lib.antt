@@ -8,3 +8,4 @@ pub mod Ending
 pub mod Owner
 pub mod Landed
 pub mod EachWay
+pub mod Listing

@@ -4,8 +4,10 @@
 
 mod arms;
 mod attentions;
+mod collecting;
 mod landing;
 mod place;
+mod reporting;
 mod tally;
 
 pub use landing::{Class, Landing};

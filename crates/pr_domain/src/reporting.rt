@@ -1,0 +1,105 @@
+//! The outcomes of a command, from the tally of its ways to end.
+
+ghost use Rattle.std.specs.Prelude.{◌≡◌, ◌<◌, ◌≤◌, ℕ, true, List, OnOk, Some};
+ghost use Rattle.std.specs.List.{All};
+ghost use Rattle.pr_cdb.specs.declared.reply.Sense.{Sense};
+ghost use Rattle.pr_attention.specs.Attentions.{code_of};
+ghost use Rattle.pr_cdb.specs.declared.wire.Request.TheVariants.{Plain};
+ghost use Rattle.pr_registry.specs.Registrations.{State};
+ghost use Rattle.pr_script.specs.declared.script.Test.{Test};
+ghost use Rattle.pr_script.specs.Grammar.{is_written, test_fits};
+ghost use Rattle.pr_unit.specs.Faults.{illegal, command_fault};
+ghost use Rattle.pr_unit.specs.Replies.{report};
+ghost use Rattle.pr_sets.specs.Words.{has};
+ghost use Rattle.pr_views.specs.Rooms.{AreInRange};
+ghost use Rattle.pr_views.specs.Possibilities.{IsScope};
+ghost use Rattle.pr_domain.specs.Landings.{IsClass};
+ghost use Rattle.pr_domain.specs.inside.Reporting.{AreBlind, AreMore, IsOfWay, LandsBy};
+ghost use Rattle.pr_domain.specs.inside.Sendings.{scope_of_sending, view_of_sending, AreKeptFor, IsAsked};
+
+use crate::arms::landing_of;
+use crate::attentions::{after_report, those_without};
+use crate::collecting::put;
+use crate::landing::{Class, Landing};
+use crate::tally::Tally;
+use pr_attention::Attention;
+use pr_cdb::{Command, Sense};
+use pr_script::Test;
+use pr_sets::{ViewSet, Word};
+use pr_views::{Possibilities, ViewOf};
+use std::alloc::{AllocError, Global};
+
+// How the report of an attention ends.
+fn class_of_report(command: &Command, attention: Attention) -> Class
+    ensures class { IsClass (report (Plain command.now) (code_of attention)) result }
+    ensures blind { (keys : List ℕ) (tests : List Test) → All (λ t. test_fits keys command.now t ≡ true) tests → AreBlind tests result }
+{
+    match command {
+        Command::RequestSense => Class::Good,
+        _ => Class::Sense(attention.sense()),
+    }
+}
+
+// ILLEGAL REQUEST.
+fn illegal(asc: u8, ascq: u8) -> Sense
+    ensures { result ≡ illegal asc ascq }
+{
+    Sense { key: 5, asc, ascq }
+}
+
+// The sense of the command's fault, where it can be at fault.
+fn fault_of(command: &Command) -> Option<Sense>
+    ensures { (keys : List ℕ) (u : State) (h : ℕ) (x : Sense) → is_written keys command.now ≡ true → command_fault u h command.now ≡ Some x → result ≡ Some x }
+{
+    match command {
+        Command::Read { .. } | Command::Write { .. } => Some(illegal(0x21, 0x00)),
+        Command::Release { .. } => Some(illegal(0x26, 0x04)),
+        Command::Preempt { .. } | Command::PreemptAbort { .. } => Some(illegal(0x26, 0x00)),
+        Command::TestUnitReady
+        | Command::RequestSense
+        | Command::ReadKeys { .. }
+        | Command::ReadReservation { .. }
+        | Command::ReportCapabilities { .. }
+        | Command::Register { .. }
+        | Command::RegisterIgnore { .. }
+        | Command::Reserve { .. }
+        | Command::Clear { .. } => None,
+    }
+}
+
+/// A command whose outcomes are to be found, and what is known of the states from which it is sent.
+#[derive(Clone, Copy, Debug)]
+pub(crate) struct Sending<'a> {
+    pub(crate) keys: &'a [u64],
+    pub(crate) hosts: u8,
+    pub(crate) sender: u8,
+    pub(crate) known: Possibilities,
+    pub(crate) tally: &'a Tally,
+    pub(crate) command: Command,
+    pub(crate) tests: &'a [Test],
+}
+
+impl Sending<'_> {
+    // Adds what one way to end leaves, beside these attentions.
+    fn add<S: ViewSet>(
+        &self,
+        alloc: Global,
+        outcomes: &mut Vec<(Landing, ViewOf<S>)>,
+        landing: Landing,
+        way: &Possibilities,
+        pending: Word,
+    ) -> Result<(), AllocError>
+        requires scope { IsScope (scope_of_sending self.now) }
+        requires range { (x q : ℕ) → has way.now.reservations x ≡ true → has pending q ≡ true → AreInRange self.now.hosts self.now.keys.now (record way.now { pending = pending }) }
+        requires kept { AreKeptFor S.members S.room self.now outcomes.old.items }
+        ensures kept { OnOk result (AreKeptFor S.members S.room self.now outcomes.new.items) }
+        ensures more { OnOk result (AreMore S.members self.now.sender outcomes.old.items (λ l i. (l ≡ landing) × IsOfWay (scope_of_sending self.now) way.now pending i) outcomes.new.items) }
+    {
+        if way.reservations.is_empty() || pending.is_empty() {
+            return Ok(());
+        }
+        let found = Possibilities { pending, ..*way };
+        let view = ViewOf::of(alloc, self.keys, self.hosts, &found)?;
+        put(alloc, outcomes, landing, view)
+    }
+}
