@@ -33,7 +33,7 @@ use Rattle.pr_domain.specs.declared.landing.Class.TheVariants.{Good}
 use Rattle.pr_domain.specs.declared.tally.Tally.{Tally}
 use Rattle.pr_domain.specs.Landings.{IsLanding}
 use Rattle.pr_domain.specs.inside.Tallies.{IsRegistered, has_part, tallied, arm_of, Leaves, IsTally}
-use Rattle.pr_domain.specs.inside.Reporting.{IsAfter, AreReported, Reports, Conflicts, Fails, EndsGood, MayReport, landing_at}
+use Rattle.pr_domain.specs.inside.Reporting.{IsAfter, AreReported, AreCalm, AreQuiet, Reports, Conflicts, Fails, EndsGood, MayReport, landing_at}
 use Rattle.pr_domain.proofs.Ending.{calm_from_quiet}
 use Rattle.pr_domain.proofs.Owner.{after_reported, reported_after, quiet_number, number_quiet, untold_pending}
 use Rattle.pr_domain.proofs.Landed.{so_from_registered, still_registered, IsWay, Leads, IsTold}
@@ -94,22 +94,18 @@ module _ (s : Scope) (known : Possibilities) (c : Command) (tests : List Test) (
         });
   }
 
-  -- the possible attentions without power on
-  abbrev pub AreCalm : Word → Type 0
-  AreCalm calm = (q : ℕ) → has calm q ≡ ((has known.pending q && not (set.contains (codes_of q) power_on)) && nat_lt q 16)
-
-  calm_from : (calm : Word) → AreCalm calm → (u : UnitState) (q : ℕ) → has known.pending q ≡ true → IsSo s u (Attentions q) → is_pending u s.own power_on ≡ false → has calm q ≡ true
+  calm_from : (calm : Word) → AreCalm known calm → (u : UnitState) (q : ℕ) → has known.pending q ≡ true → IsSo s u (Attentions q) → is_pending u s.own power_on ≡ false → has calm q ≡ true
   calm_from calm are u q possible so none =
       are q ∙ and_from _ _ (and_from (has known.pending q) _ possible (ap not (sym (so.1 power_on) ∙ none))) (lt-ltb q 16 so.0)
 
-  calm_is : (calm : Word) → AreCalm calm → (q : ℕ) → has calm q ≡ true → (has known.pending q ≡ true) × (set.contains (codes_of q) power_on ≡ false)
+  calm_is : (calm : Word) → AreCalm known calm → (q : ℕ) → has calm q ≡ true → (has known.pending q ≡ true) × (set.contains (codes_of q) power_on ≡ false)
   calm_is calm are q is =
       let parts = and_parts (has known.pending q && not (set.contains (codes_of q) power_on)) (nat_lt q 16) (sym (are q) ∙ is) in
       let both = and_parts (has known.pending q) (not (set.contains (codes_of q) power_on)) parts.0 in
       (both.0, not-true _ both.1)
 
   pub told_later : (a : Attention) (calm left : Word) → ((u : UnitState) → MayReport c s.own u a ↔ ((is_pending u s.own power_on ≡ false) × (command_conflicts u.registry s.own c ≡ false)))
-      → AreCalm calm → AreReported 16 calm a left → IsLanding tests (report (Plain c) (code_of a)) l
+      → AreCalm known calm → AreReported 16 calm a left → IsLanding tests (report (Plain c) (code_of a)) l
       → IsTold (view_in s known) c tests (Reports a) l (Leaves s c tests 1) left
   told_later a calm left may calms are landing = record {
     forth = λ u r w j shown ends landed so. (((may u).0 ends.0).1, still_registered s u w j (ap (λ (x : UnitState). x.registry) ends.1.2) so);
@@ -129,7 +125,7 @@ module _ (s : Scope) (known : Possibilities) (c : Command) (tests : List Test) (
 
   -- ---- a conflict
 
-  pub told_conflict : (calm : Word) → AreCalm calm → IsLanding tests conflict l → IsTold (view_in s known) c tests Conflicts l (Leaves s c tests 0) calm
+  pub told_conflict : (calm : Word) → AreCalm known calm → IsLanding tests conflict l → IsTold (view_in s known) c tests Conflicts l (Leaves s c tests 0) calm
   told_conflict calm calms landing = record {
     forth = λ u r w j shown ends landed so. (ends.1, still_registered s u w j (ap (λ (x : UnitState). x.registry) ends.3) so);
     pends = λ u r w q n ends possible so left.
@@ -148,11 +144,7 @@ module _ (s : Scope) (known : Possibilities) (c : Command) (tests : List Test) (
 
   -- ---- where nothing is pending
 
-  -- nothing, if that is possible
-  abbrev pub AreQuiet : Word → Type 0
-  AreQuiet quiet = (q : ℕ) → has quiet q ≡ (has known.pending q && q == 0)
-
-  quiet_from : (quiet : Word) → AreQuiet quiet → (u : UnitState) (q n : ℕ) → has known.pending q ≡ true → IsSo s u (Attentions q) → IsSo s u (Attentions n) → is_any_pending u s.own ≡ false
+  quiet_from : (quiet : Word) → AreQuiet known quiet → (u : UnitState) (q n : ℕ) → has known.pending q ≡ true → IsSo s u (Attentions q) → IsSo s u (Attentions n) → is_any_pending u s.own ≡ false
       → has quiet n ≡ true
   quiet_from quiet are u q n possible so also none =
       let zero_is : q ≡ 0 = quiet_number s u q so none in
@@ -160,13 +152,13 @@ module _ (s : Scope) (known : Possibilities) (c : Command) (tests : List Test) (
       let tells : (n == 0) ≡ true = grind (arith, nat_tests) in
       are n ∙ and_from _ _ (ap (has known.pending) (same ∙ sym zero_is) ∙ possible) tells
 
-  quiet_is : (quiet : Word) → AreQuiet quiet → (n : ℕ) → has quiet n ≡ true → (has known.pending n ≡ true) × (n ≡ 0)
+  quiet_is : (quiet : Word) → AreQuiet known quiet → (n : ℕ) → has quiet n ≡ true → (has known.pending n ≡ true) × (n ≡ 0)
   quiet_is quiet are n is =
       let parts = and_parts (has known.pending n) (n == 0) (sym (are n) ∙ is) in
       let tells = parts.1 in
       (parts.0, grind (arith, nat_tests))
 
-  pub told_fault : (quiet : Word) (sense : Sense) → AreQuiet quiet → ((u : UnitState) (x : Sense) → command_fault u.registry s.own c ≡ Some x → x ≡ sense)
+  pub told_fault : (quiet : Word) (sense : Sense) → AreQuiet known quiet → ((u : UnitState) (x : Sense) → command_fault u.registry s.own c ≡ Some x → x ≡ sense)
       → IsLanding tests (check sense) l → IsTold (view_in s known) c tests Fails l (Leaves s c tests 2) quiet
   told_fault quiet sense quiets fixed landing = record {
     forth = λ u r w j shown ends landed so. (ends.1, ap is_some ends.3, still_registered s u w j (ap (λ (x : UnitState). x.registry) ends.5) so);
@@ -189,7 +181,7 @@ module _ (s : Scope) (known : Possibilities) (c : Command) (tests : List Test) (
       is_there (Some x) some = (x, refl)
 
   -- the landing of GOOD by the arm that takes the data
-  pub told_good : (quiet : Word) (arm : ℕ) → AreQuiet quiet → l ≡ landing_at arm → IsTold (view_in s known) c tests EndsGood l (Leaves s c tests (suc (suc (suc arm)))) quiet
+  pub told_good : (quiet : Word) (arm : ℕ) → AreQuiet known quiet → l ≡ landing_at arm → IsTold (view_in s known) c tests EndsGood l (Leaves s c tests (suc (suc (suc arm)))) quiet
   told_good quiet arm quiets is_landing = record {
     forth = λ u r w j shown ends landed so.
         (ends.1, ends.2, taken arm r (good (data_of u.registry c)) ends.3 (subst (IsLanding tests r) is_landing landed), registered_at u w j ends.4 so);

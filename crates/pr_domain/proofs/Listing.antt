@@ -5,11 +5,15 @@ use Rattle.std.proofs.lemmas.Bool.Decides.{eqb_tells}
 use Rattle.std.proofs.lemmas.Option.{same_Some, get_or_from_slice_get}
 use Rattle.pr_sets.specs.Numbers.{Numbers}
 use Rattle.pr_views.specs.declared.view.ViewOf.{ViewOf}
-use Rattle.pr_views.specs.Possibilities.{Item}
+use Rattle.pr_sets.specs.declared.word.Word.{Word}
+use Rattle.pr_sets.specs.Words.{has}
+use Rattle.pr_views.specs.declared.possibilities.Possibilities.{Possibilities}
+use Rattle.pr_views.specs.Possibilities.{Scope, Item, Registration, Reservation, Attentions}
 use Rattle.pr_views.specs.Views.{IsPossible}
-use Rattle.pr_views.specs.Rooms.{view_of, IsMade}
+use Rattle.pr_views.specs.Rooms.{scope_of, view_of, IsMade}
+use Rattle.pr_views.specs.Portions.{view_in}
 use Rattle.pr_domain.specs.declared.landing.Landing.{Landing}
-use Rattle.pr_domain.specs.inside.Reporting.{HasOutcome, AreKept, AreMore}
+use Rattle.pr_domain.specs.inside.Reporting.{HasOutcome, AreKept, AreMore, IsOfWay}
 
 -- ---- what is read after a write
 
@@ -186,3 +190,37 @@ read_there {S = S} xs ys k l v x same found read =
     let there : slice_get xs k ≡ Some (l, v) = ap (λ (zs : List (Landing × ViewOf S)). slice_get zs k) (sym same) ∙ found in
     let is : Same x (l, v) = read ∙ get_or_from_slice_get xs k (l, v) x there in
     (there ∙ ap (λ y. Some y) (sym is), ap (λ (y : Landing × ViewOf S). y.0) is)
+
+-- ---- what is more, in other words
+
+pub more_by : {S : Type 0} (members : S → Numbers) (own : ℕ) (old new : List (Landing × ViewOf S)) (This That : Landing → Item → Type 0)
+    → ((l : Landing) (i : Item) → This l i ↔ That l i) → AreMore members own old This new → AreMore members own old That new
+more_by members own old new This That same more l i = (λ has. forth ((more l i).0 has), back)
+  where
+    forth : HasOutcome members own old l i ⊎ This l i → HasOutcome members own old l i ⊎ That l i
+    forth (inl before) = inl before
+    forth (inr this) = inr ((same l i).0 this)
+
+    back : HasOutcome members own old l i ⊎ That l i → HasOutcome members own new l i
+    back (inl before) = (more l i).1 (inl before)
+    back (inr that) = (more l i).1 (inr ((same l i).1 that))
+
+pub possible_scope : (s t : Scope) (p : Possibilities) → s.hosts ≡ t.hosts → (i : Item) → IsPossible (view_in s p) i → IsPossible (view_in t p) i
+possible_scope s t p same (Registration g r) is = (subst (λ n. g < n) same is.0, is.1)
+possible_scope s t p same (Reservation x) is = is
+possible_scope s t p same (Attentions q) is = is
+
+-- the view that is added is of the way
+pub added_way : {S : Type 0} (members : S → Numbers) (s : Scope) (way : Possibilities) (pending : Word) (landing : Landing) (v : ViewOf S) (x q : ℕ) → v.hosts ≡ s.hosts
+    → has way.reservations x ≡ true → has pending q ≡ true
+    → ((own : ℕ) (i : Item) → IsPossible (view_of members own v) i ↔ IsPossible (view_in (scope_of own v) (record way { pending = pending })) i)
+    → (l : Landing) (i : Item) → ((l ≡ landing) × IsPossible (view_of members s.own v) i) ↔ ((l ≡ landing) × IsOfWay s way pending i)
+added_way members s way pending landing v x q hosts reserved pends same l i = (
+  λ is. (is.0, record { reserved = (x, reserved); pends = (q, pends); possible = possible_scope (scope_of s.own v) s (record way { pending = pending }) hosts i ((same s.own i).0 is.1) }),
+  λ is. (is.0, (same s.own i).1 (possible_scope s (scope_of s.own v) (record way { pending = pending }) (sym hosts) i is.1.possible)),
+)
+
+pub kept_for : {S : Type 0} (members : S → Numbers) (room : S → ℕ) (hosts n : ℕ) (keys ks : List ℕ) (outcomes : List (Landing × ViewOf S)) → hosts ≡ n → keys ≡ ks
+    → AreKept members room hosts keys outcomes → AreKept members room n ks outcomes
+kept_for {S = S} members room hosts n keys ks outcomes same alike kept =
+    subst (λ (m : ℕ). AreKept members room m ks outcomes) same (subst (λ (xs : List ℕ). AreKept members room hosts xs outcomes) alike kept)

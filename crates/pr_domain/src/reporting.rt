@@ -4,6 +4,7 @@ ghost use Rattle.std.specs.Prelude.{◌≡◌, ◌<◌, ◌≤◌, ℕ, true, Li
 ghost use Rattle.std.specs.List.{All};
 ghost use Rattle.pr_cdb.specs.declared.reply.Sense.{Sense};
 ghost use Rattle.pr_attention.specs.Attentions.{code_of};
+ghost use Rattle.pr_attention.specs.declared.attention.Attention.{Attention as AttentionOf};
 ghost use Rattle.pr_cdb.specs.declared.wire.Request.TheVariants.{Plain};
 ghost use Rattle.pr_registry.specs.Registrations.{State};
 ghost use Rattle.pr_script.specs.declared.script.Test.{Test};
@@ -14,7 +15,7 @@ ghost use Rattle.pr_sets.specs.Words.{has};
 ghost use Rattle.pr_views.specs.Rooms.{AreInRange};
 ghost use Rattle.pr_views.specs.Possibilities.{IsScope};
 ghost use Rattle.pr_domain.specs.Landings.{IsClass};
-ghost use Rattle.pr_domain.specs.inside.Reporting.{AreBlind, AreMore, IsOfWay, LandsBy};
+ghost use Rattle.pr_domain.specs.inside.Reporting.{AreBlind, AreMore, IsOfWay, AreCalm, AreQuiet, LandsBy, Reports, Conflicts, Fails, EndsGood, IsLater, LandsGood};
 ghost use Rattle.pr_domain.specs.inside.Sendings.{scope_of_sending, view_of_sending, AreKeptFor, IsAsked};
 
 use crate::arms::landing_of;
@@ -100,6 +101,142 @@ impl Sending<'_> {
         }
         let found = Possibilities { pending, ..*way };
         let view = ViewOf::of(alloc, self.keys, self.hosts, &found)?;
-        put(alloc, outcomes, landing, view)
+        put(alloc, outcomes, landing, view)?;
+        Ok(())
+    }
+
+    // Adds where the report of a power on lands.
+    fn add_power_on<S: ViewSet>(
+        &self,
+        alloc: Global,
+        outcomes: &mut Vec<(Landing, ViewOf<S>)>,
+    ) -> Result<(), AllocError>
+        requires asked { IsAsked self.now }
+        requires kept { AreKeptFor S.members S.room self.now outcomes.old.items }
+        ensures kept { OnOk result (AreKeptFor S.members S.room self.now outcomes.new.items) }
+        ensures more { OnOk result (AreMore S.members self.now.sender outcomes.old.items (LandsBy (view_of_sending self.now) self.now.command self.now.tests.now (Reports Attention.PowerOn)) outcomes.new.items) }
+    {
+        let class = class_of_report(&self.command, Attention::PowerOn);
+        let landing = landing_of(self.tests, class);
+        // It comes before a conflict, and so whether there is one or not.
+        let mut way = self.tally.ways[0];
+        way.join(&self.tally.ways[1]);
+        let pending = after_report(self.known.pending, Attention::PowerOn);
+        self.add(alloc, outcomes, landing, &way, pending)?;
+        Ok(())
+    }
+
+    // Adds where the report of another attention lands.
+    fn add_report<S: ViewSet>(
+        &self,
+        alloc: Global,
+        outcomes: &mut Vec<(Landing, ViewOf<S>)>,
+        attention: Attention,
+    ) -> Result<(), AllocError>
+        requires asked { IsAsked self.now }
+        requires later { IsLater attention }
+        requires kept { AreKeptFor S.members S.room self.now outcomes.old.items }
+        ensures kept { OnOk result (AreKeptFor S.members S.room self.now outcomes.new.items) }
+        ensures more { OnOk result (AreMore S.members self.now.sender outcomes.old.items (LandsBy (view_of_sending self.now) self.now.command self.now.tests.now (Reports attention)) outcomes.new.items) }
+    {
+        let class = class_of_report(&self.command, attention);
+        let landing = landing_of(self.tests, class);
+        let pending = after_report(self.calm(), attention);
+        self.add(alloc, outcomes, landing, &self.tally.ways[1], pending)?;
+        Ok(())
+    }
+
+    // Adds where a conflict lands.
+    fn add_conflict<S: ViewSet>(
+        &self,
+        alloc: Global,
+        outcomes: &mut Vec<(Landing, ViewOf<S>)>,
+    ) -> Result<(), AllocError>
+        requires asked { IsAsked self.now }
+        requires kept { AreKeptFor S.members S.room self.now outcomes.old.items }
+        ensures kept { OnOk result (AreKeptFor S.members S.room self.now outcomes.new.items) }
+        ensures more { OnOk result (AreMore S.members self.now.sender outcomes.old.items (LandsBy (view_of_sending self.now) self.now.command self.now.tests.now Conflicts) outcomes.new.items) }
+    {
+        let landing = landing_of(self.tests, Class::Conflict);
+        self.add(alloc, outcomes, landing, &self.tally.ways[0], self.calm())?;
+        Ok(())
+    }
+
+    // Adds where a fault lands.
+    fn add_fault<S: ViewSet>(
+        &self,
+        alloc: Global,
+        outcomes: &mut Vec<(Landing, ViewOf<S>)>,
+    ) -> Result<(), AllocError>
+        requires asked { IsAsked self.now }
+        requires kept { AreKeptFor S.members S.room self.now outcomes.old.items }
+        ensures kept { OnOk result (AreKeptFor S.members S.room self.now outcomes.new.items) }
+        ensures more { OnOk result (AreMore S.members self.now.sender outcomes.old.items (LandsBy (view_of_sending self.now) self.now.command self.now.tests.now Fails) outcomes.new.items) }
+    {
+        let Some(sense) = fault_of(&self.command) else {
+            return Ok(());
+        };
+        let landing = landing_of(self.tests, Class::Sense(sense));
+        self.add(alloc, outcomes, landing, &self.tally.ways[2], self.quiet())?;
+        Ok(())
+    }
+
+    // Adds where GOOD lands whose data this arm takes, counted from 1, or no arm.
+    fn add_good<S: ViewSet>(
+        &self,
+        alloc: Global,
+        outcomes: &mut Vec<(Landing, ViewOf<S>)>,
+        arm: usize,
+    ) -> Result<(), AllocError>
+        requires asked { IsAsked self.now }
+        requires there { arm < 17 }
+        requires kept { AreKeptFor S.members S.room self.now outcomes.old.items }
+        ensures kept { OnOk result (AreKeptFor S.members S.room self.now outcomes.new.items) }
+        ensures more { OnOk result (AreMore S.members self.now.sender outcomes.old.items (LandsGood (view_of_sending self.now) self.now.command self.now.tests.now arm) outcomes.new.items) }
+    {
+        let landing = if arm == 0 {
+            Landing::NoArm(Class::Good)
+        } else {
+            Landing::Arm(arm - 1)
+        };
+        self.add(
+            alloc,
+            outcomes,
+            landing,
+            &self.tally.ways[3 + arm],
+            self.quiet(),
+        )?;
+        Ok(())
+    }
+
+    // Adds where GOOD lands.
+    fn add_all_good<S: ViewSet>(
+        &self,
+        alloc: Global,
+        outcomes: &mut Vec<(Landing, ViewOf<S>)>,
+    ) -> Result<(), AllocError>
+        requires asked { IsAsked self.now }
+        requires kept { AreKeptFor S.members S.room self.now outcomes.old.items }
+        ensures kept { OnOk result (AreKeptFor S.members S.room self.now outcomes.new.items) }
+        ensures more { OnOk result (AreMore S.members self.now.sender outcomes.old.items (LandsBy (view_of_sending self.now) self.now.command self.now.tests.now EndsGood) outcomes.new.items) }
+    {
+        for arm in 0..17 {
+            self.add_good(alloc, outcomes, arm)?;
+        }
+        Ok(())
+    }
+
+    // The possible attentions among which there is no power on.
+    fn calm(&self) -> Word
+        ensures { AreCalm self.now.known result }
+    {
+        those_without(self.known.pending, Attention::PowerOn)
+    }
+
+    // No attention, where that is possible.
+    fn quiet(&self) -> Word
+        ensures { AreQuiet self.now.known result }
+    {
+        self.known.pending.and(Word::only(0))
     }
 }
