@@ -158,7 +158,7 @@ pub record IsTold (v : View) (c : Command) (tests : List Test) (how : How) (l : 
 
 module _ (v : View) (c : Command) (tests : List Test) (how : How) (l : Landing) (Left : UnitState → Item → Type 0) (p : Possibilities) (pending : Word)
     (way : IsWay v Left p) (told : IsTold v c tests how l Left pending) where
-  from_part : (j : Item) (n : ℕ) → has_part p j ≡ true → has pending n ≡ true → (u : UnitState) × Shows v u × Leads v c tests how l u j n
+  pub from_part : (j : Item) (n : ℕ) → has_part p j ≡ true → has pending n ≡ true → (u : UnitState) × Shows v u × Leads v c tests how l u j n
   from_part j n has left =
       let q = told.back n left in
       let found = way.only j q.0 has q.1 in

@@ -9,3 +9,4 @@ pub mod Owner
 pub mod Landed
 pub mod EachWay
 pub mod Listing
+pub mod Adding
