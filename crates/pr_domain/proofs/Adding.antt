@@ -1,5 +1,5 @@
 -- What is added for each way in which a command can end.
-use Rattle.std.proofs.Common.{◌≡◌, ◌⊎◌, ◌↔◌, ℕ, zero, suc, ◌+◌, ◌*◌, ◌<◌, ◌≤◌, Bool, true, false, ◌==◌, ◌&&◌, ◌||◌, not, nat_lt, List, length, Option, Some, None, refl, sym, ap, ◌∙◌, subst, inl, inr, lit<, arith}
+use Rattle.std.proofs.Common.{◌≡◌, ◌⊎◌, ◌↔◌, ℕ, zero, suc, ◌+◌, ◌-◌, ◌*◌, ◌<◌, ◌≤◌, Bool, true, false, ◌==◌, ◌&&◌, ◌||◌, not, nat_lt, List, length, Option, Some, None, refl, sym, ap, ◌∙◌, subst, inl, inr, lit<, arith}
 use Rattle.std.specs.List.{slice_get}
 use Rattle.std.proofs.lemmas.Bool.{and_parts, false≢true, ltb-true}
 use Rattle.std.proofs.lemmas.Nat.{row_fits}
@@ -33,6 +33,7 @@ use Rattle.pr_views.specs.Portions.{has_at, view_in}
 use Rattle.pr_views.specs.Rooms.{AreInRange}
 use Rattle.pr_views.proofs.Numbering.{reservation_of}
 use Rattle.pr_domain.specs.declared.landing.Landing.{Landing}
+use Rattle.pr_domain.specs.declared.landing.Landing.TheVariants.{Arm}
 use Rattle.pr_domain.specs.declared.reporting.Sending.{Sending}
 use Rattle.pr_domain.specs.Landings.{IsLanding}
 use Rattle.pr_domain.specs.inside.Tallies.{IsRegistered, has_part, Leaves}
@@ -163,3 +164,18 @@ module _ (q : Sending) (asked : IsAsked q) where
             let both = way_lands v q.command q.tests.now EndsGood l Left p quiet way told asked.written asked.whole asked.fits.scope.own m i in
             (λ is. let so = both.0 is in (so.0 ∙ is_landing, so.1), λ is. both.1 (is.0 ∙ sym is_landing, is.1));
       }
+
+-- ---- what the code reads
+
+pub part_joined : (p free either : Possibilities) → ((g r : ℕ) → has_at either.registrations g r ≡ (has_at p.registrations g r || has_at free.registrations g r))
+    → ((x : ℕ) → has either.reservations x ≡ (has p.reservations x || has free.reservations x)) → (j : Item) → has_part either j ≡ (has_part p j || has_part free j)
+part_joined p free either registrations reservations (Registration g r) = registrations g r
+part_joined p free either registrations reservations (Reservation x) = reservations x
+part_joined p free either registrations reservations (Attentions q) = refl
+
+pub three_more : (n : ℕ) → suc (suc (suc n)) ≡ 3 + n
+three_more n = omega arith
+
+pub at_arm : (n : ℕ) → (n ≡ 0 → ⊥) → Arm (n - 1) ≡ landing_at n
+at_arm zero some = absurd (some refl)
+at_arm (suc n) some = refl

@@ -1,7 +1,7 @@
 //! The outcomes of a command, from the tally of its ways to end.
 
 ghost use Rattle.std.specs.Prelude.{◌≡◌, ◌<◌, ◌≤◌, ℕ, true, List, OnOk, Some};
-ghost use Rattle.std.specs.List.{All};
+ghost use Rattle.std.specs.List.{All, slice_get};
 ghost use Rattle.pr_cdb.specs.declared.reply.Sense.{Sense};
 ghost use Rattle.pr_attention.specs.Attentions.{code_of};
 ghost use Rattle.pr_attention.specs.declared.attention.Attention.{Attention as AttentionOf};
@@ -119,8 +119,8 @@ impl Sending<'_> {
         let class = class_of_report(&self.command, Attention::PowerOn);
         let landing = landing_of(self.tests, class);
         // It comes before a conflict, and so whether there is one or not.
-        let mut way = self.tally.ways[0];
-        way.join(&self.tally.ways[1]);
+        let mut way = self.way(0);
+        way.join(&self.way(1));
         let pending = after_report(self.known.pending, Attention::PowerOn);
         self.add(alloc, outcomes, landing, &way, pending)?;
         Ok(())
@@ -142,7 +142,7 @@ impl Sending<'_> {
         let class = class_of_report(&self.command, attention);
         let landing = landing_of(self.tests, class);
         let pending = after_report(self.calm(), attention);
-        self.add(alloc, outcomes, landing, &self.tally.ways[1], pending)?;
+        self.add(alloc, outcomes, landing, &self.way(1), pending)?;
         Ok(())
     }
 
@@ -158,7 +158,7 @@ impl Sending<'_> {
         ensures more { OnOk result (AreMore S.members self.now.sender outcomes.old.items (LandsBy (view_of_sending self.now) self.now.command self.now.tests.now Conflicts) outcomes.new.items) }
     {
         let landing = landing_of(self.tests, Class::Conflict);
-        self.add(alloc, outcomes, landing, &self.tally.ways[0], self.calm())?;
+        self.add(alloc, outcomes, landing, &self.way(0), self.calm())?;
         Ok(())
     }
 
@@ -177,7 +177,7 @@ impl Sending<'_> {
             return Ok(());
         };
         let landing = landing_of(self.tests, Class::Sense(sense));
-        self.add(alloc, outcomes, landing, &self.tally.ways[2], self.quiet())?;
+        self.add(alloc, outcomes, landing, &self.way(2), self.quiet())?;
         Ok(())
     }
 
@@ -199,13 +199,7 @@ impl Sending<'_> {
         } else {
             Landing::Arm(arm - 1)
         };
-        self.add(
-            alloc,
-            outcomes,
-            landing,
-            &self.tally.ways[3 + arm],
-            self.quiet(),
-        )?;
+        self.add(alloc, outcomes, landing, &self.way(3 + arm), self.quiet())?;
         Ok(())
     }
 
@@ -224,6 +218,14 @@ impl Sending<'_> {
             self.add_good(alloc, outcomes, arm)?;
         }
         Ok(())
+    }
+
+    // What is so of registrations and reservation where it ends in this way.
+    fn way(&self, way: usize) -> Possibilities
+        requires { way < 20 }
+        ensures { slice_get self.now.tally.now.ways way ≡ Some result }
+    {
+        self.tally.ways[way]
     }
 
     // The possible attentions among which there is no power on.
