@@ -1,7 +1,9 @@
 -- What is added for each way in which a command can end.
-use Rattle.std.proofs.Common.{◌≡◌, ◌⊎◌, ◌↔◌, ℕ, zero, suc, ◌+◌, ◌-◌, ◌*◌, ◌<◌, ◌≤◌, Bool, true, false, ◌==◌, ◌&&◌, ◌||◌, not, nat_lt, List, length, Option, Some, None, refl, sym, ap, ◌∙◌, subst, inl, inr, lit<, arith}
+use Rattle.std.proofs.Common.{◌≡◌, ◌≢◌, ◌⊎◌, ◌↔◌, ℕ, zero, suc, ◌+◌, ◌-◌, ◌<◌, ◌≤◌, true, false, ◌==◌, ◌||◌, not, nat_lt, List, length, Option, Some, None, refl, sym, ap, ◌∙◌, subst, inl, inr, lit<, arith}
 use Rattle.std.specs.List.{slice_get}
 use Rattle.std.proofs.lemmas.Bool.{and_parts, false≢true, ltb-true}
+use Rattle.std.proofs.lemmas.Bool.Decides.{eqb_tells}
+use Rattle.std.proofs.lemmas.List.Quantifiers.{position-Some}
 use Rattle.std.proofs.lemmas.Nat.{row_fits}
 use Rattle.std.proofs.Math.Nat.{mul_comm}
 use Rattle.pr_cdb.specs.declared.command.Kind.{Kind}
@@ -16,30 +18,35 @@ use Rattle.pr_attention.specs.declared.attention.Attention.TheVariants.{PowerOn,
 use Rattle.pr_attention.specs.Attentions.{power_on, code_of}
 use Rattle.pr_registry.specs.declared.held.Held.{Held}
 use Rattle.pr_registry.specs.declared.held.Held.TheVariants.{One, All}
-use Rattle.pr_registry.specs.Registrations.{State, is_all}
+use Rattle.pr_registry.specs.Registrations.{is_all}
 use Rattle.pr_unit.specs.UnitStates.{UnitState, is_pending}
 use Rattle.pr_unit.specs.Conflicts.{command_conflicts}
 use Rattle.pr_unit.specs.Faults.{command_fault}
-use Rattle.pr_unit.specs.Replies.{good, check, conflict, report, data_of}
+use Rattle.pr_unit.specs.Replies.{good, check, conflict, report}
 use Rattle.pr_script.specs.declared.script.Test.{Test}
+use Rattle.pr_script.specs.declared.script.Test.TheVariants as test
 use Rattle.pr_script.specs.Grammar.{is_written}
 use Rattle.pr_roles.specs.Fitting.{is_reservation}
 use Rattle.pr_sets.specs.declared.word.Word.{Word}
+use Rattle.pr_sets.specs.Numbers.{Numbers}
+use Rattle.pr_views.specs.declared.view.ViewOf.{ViewOf}
 use Rattle.pr_sets.specs.Words.{has}
 use Rattle.pr_views.specs.declared.possibilities.Possibilities.{Possibilities}
-use Rattle.pr_views.specs.Possibilities.{Scope, Item, Registration, Reservation, Attentions, IsSo, place_of, number_of, count_of_reservations}
-use Rattle.pr_views.specs.Views.{View, Shows}
-use Rattle.pr_views.specs.Portions.{has_at, view_in}
+use Rattle.pr_views.specs.Possibilities.{Item, Registration, Reservation, Attentions, place_of, number_of, count_of_reservations}
+use Rattle.pr_views.specs.Views.{View}
+use Rattle.pr_views.specs.Portions.{has_at}
 use Rattle.pr_views.specs.Rooms.{AreInRange}
 use Rattle.pr_views.proofs.Numbering.{reservation_of}
 use Rattle.pr_domain.specs.declared.landing.Landing.{Landing}
-use Rattle.pr_domain.specs.declared.landing.Landing.TheVariants.{Arm}
+use Rattle.pr_domain.specs.declared.landing.Landing.TheVariants.{Arm, NoArm}
+use Rattle.pr_domain.specs.declared.landing.Class.TheVariants.{Good}
+use Rattle.pr_script.specs.Takes.{matches}
 use Rattle.pr_domain.specs.declared.reporting.Sending.{Sending}
-use Rattle.pr_domain.specs.Landings.{IsLanding}
+use Rattle.pr_domain.specs.Landings.{IsClass, IsLanding}
 use Rattle.pr_domain.specs.inside.Tallies.{IsRegistered, has_part, Leaves}
-use Rattle.pr_domain.specs.inside.Reporting.{AreReported, AreCalm, AreQuiet, How, Reports, Conflicts, Fails, EndsGood, MayReport, Ends, LandsBy, LandsGood, IsLater, IsOfWay, landing_at}
+use Rattle.pr_domain.specs.inside.Reporting.{AreReported, AreCalm, AreQuiet, How, Reports, Conflicts, Fails, EndsGood, MayReport, Ends, LandsBy, LandsGood, IsLater, IsOfWay, LandsGoodBelow, AreMore, HasOutcome, landing_at}
 use Rattle.pr_domain.specs.inside.Sendings.{scope_of_sending, view_of_sending, IsAsked}
-use Rattle.pr_domain.proofs.Landed.{one_landing, settled, IsWay, IsTold, from_part, way_lands}
+use Rattle.pr_domain.proofs.Landed.{one_class, one_landing, settled, IsWay, IsTold, from_part, way_lands}
 use Rattle.pr_domain.proofs.EachWay.{way_of_tally, either_way, told_power_on, told_later, told_conflict, told_fault, told_good}
 
 -- ---- the numbers of reservations
@@ -178,4 +185,40 @@ three_more n = omega arith
 
 pub at_arm : (n : ℕ) → (n ≡ 0 → ⊥) → Arm (n - 1) ≡ landing_at n
 at_arm zero some = absurd (some refl)
-at_arm (suc n) some = refl
+at_arm (suc n) some = ap Arm (omega arith)
+
+-- ---- GOOD with the data taken by each arm
+
+pub good_more : {S : Type 0} (members : S → Numbers) (own : ℕ) (old mid new : List (Landing × ViewOf S)) (v : View) (c : Command) (tests : List Test) (arm : ℕ)
+    → AreMore members own old (LandsGoodBelow v c tests arm) mid → AreMore members own mid (LandsGood v c tests arm) new → AreMore members own old (LandsGoodBelow v c tests (arm + 1)) new
+good_more members own old mid new v c tests arm first second l i = (λ has. late ((second l i).0 has), back)
+  where
+    early : HasOutcome members own old l i ⊎ LandsGoodBelow v c tests arm l i → HasOutcome members own old l i ⊎ LandsGoodBelow v c tests (arm + 1) l i
+    early (inl before) = inl before
+    early (inr lands) = inr (lands.0, (let small = lands.1 in omega arith), lands.2)
+
+    late : HasOutcome members own mid l i ⊎ LandsGood v c tests arm l i → HasOutcome members own old l i ⊎ LandsGoodBelow v c tests (arm + 1) l i
+    late (inl before) = early ((first l i).0 before)
+    late (inr lands) = inr (arm, omega arith, lands)
+
+    back : HasOutcome members own old l i ⊎ LandsGoodBelow v c tests (arm + 1) l i → HasOutcome members own new l i
+    back (inl before) = (second l i).1 (inl ((first l i).1 (inl before)))
+    back (inr lands) = at (eqb_tells lands.0 arm)
+      where
+        at : (((lands.0 == arm) ≡ true) × (lands.0 ≡ arm)) ⊎ (((lands.0 == arm) ≡ false) × (lands.0 ≢ arm)) → HasOutcome members own new l i
+        at (inl same) = (second l i).1 (inr (subst (λ n. LandsGood v c tests n l i) same.1 lands.2))
+        at (inr other) = (second l i).1 (inl ((first l i).1 (inr (lands.0, (let small = lands.1 in let differs = other.1 in omega arith), lands.2))))
+
+arm_of_landing : (tests : List Test) (r : Reply) (l : Landing) → length tests ≤ 16 → IsClass r Good → IsLanding tests r l → (arm : ℕ) × (arm < 17) × (l ≡ landing_at arm)
+arm_of_landing tests r (Arm n) few good is =
+    let small = (position-Some (λ t. matches t r) tests n test.Good is).0 in
+    (suc n, omega arith, refl)
+arm_of_landing tests r (NoArm class) few good is = (0, lit< tt, ap NoArm (one_class r class Good is.1 good))
+
+pub good_all : (v : View) (c : Command) (tests : List Test) (bound : ℕ) → length tests ≤ 16 → 17 ≤ bound → (l : Landing) (i : Item) → LandsGoodBelow v c tests bound l i ↔ LandsBy v c tests EndsGood l i
+good_all v c tests bound few all l i = (
+  λ lands. lands.2.1,
+  λ by.
+      let arm = arm_of_landing tests by.reply l few (ap (λ (r : Reply). r.status) by.ends.3) by.landing in
+      (arm.0, (let small = arm.1 in omega arith), (arm.2, by)),
+)

@@ -1,5 +1,5 @@
 -- The possibilities of a tally, and the attentions beside them, are those of each way to end.
-use Rattle.std.proofs.Common.{◌≡◌, ◌⊎◌, ◌↔◌, ℕ, zero, suc, ◌<◌, Bool, true, false, ◌==◌, ◌&&◌, ◌||◌, not, nat_lt, List, Option, Some, None, is_some, refl, sym, ap, ◌∙◌, subst, inl, inr, lit<, arith}
+use Rattle.std.proofs.Common.{◌≡◌, ◌⊎◌, ◌↔◌, ℕ, zero, suc, Bool, true, false, ◌==◌, ◌&&◌, ◌||◌, not, nat_lt, List, Option, Some, None, is_some, refl, sym, ap, ◌∙◌, subst, inl, inr, arith}
 use Rattle.std.specs.FinSet as set
 use Rattle.std.specs.List.{slice_get}
 use Rattle.std.specs.Option.{option_map_or}
@@ -13,7 +13,6 @@ use Rattle.pr_attention.specs.declared.attention.Attention.{Attention}
 use Rattle.pr_attention.specs.declared.attention.Attention.TheVariants.{PowerOn}
 use Rattle.pr_attention.specs.Attentions.{power_on, code_of}
 use Rattle.pr_attention.specs.Flagged.{codes_of}
-use Rattle.pr_registry.specs.Registrations.{State}
 use Rattle.pr_unit.specs.UnitStates.{UnitState, is_pending, is_any_pending, effect, reported}
 use Rattle.pr_unit.specs.Conflicts.{command_conflicts}
 use Rattle.pr_unit.specs.Faults.{command_fault}
@@ -28,15 +27,12 @@ use Rattle.pr_views.proofs.Numbering.{one_attentions}
 use Rattle.pr_views.specs.Portions.{view_in}
 use Rattle.pr_regions.specs.Readings.{first_test}
 use Rattle.pr_domain.specs.declared.landing.Landing.{Landing}
-use Rattle.pr_domain.specs.declared.landing.Landing.TheVariants.{Arm, NoArm}
-use Rattle.pr_domain.specs.declared.landing.Class.TheVariants.{Good}
 use Rattle.pr_domain.specs.declared.tally.Tally.{Tally}
 use Rattle.pr_domain.specs.Landings.{IsLanding}
 use Rattle.pr_domain.specs.inside.Tallies.{IsRegistered, has_part, tallied, arm_of, Leaves, IsTally}
-use Rattle.pr_domain.specs.inside.Reporting.{IsAfter, AreReported, AreCalm, AreQuiet, Reports, Conflicts, Fails, EndsGood, MayReport, landing_at}
-use Rattle.pr_domain.proofs.Ending.{calm_from_quiet}
+use Rattle.pr_domain.specs.inside.Reporting.{AreReported, AreCalm, AreQuiet, Reports, Conflicts, Fails, EndsGood, MayReport, landing_at}
 use Rattle.pr_domain.proofs.Owner.{after_reported, reported_after, quiet_number, number_quiet, untold_pending}
-use Rattle.pr_domain.proofs.Landed.{so_from_registered, still_registered, IsWay, Leads, IsTold}
+use Rattle.pr_domain.proofs.Landed.{so_from_registered, still_registered, IsWay, IsTold}
 
 -- ---- what a tally has
 
@@ -84,14 +80,18 @@ module _ (s : Scope) (known : Possibilities) (c : Command) (tests : List Test) (
     pends = λ u r w q n ends possible so left.
         are.all q n so.0 possible (reported_after s u PowerOn q n so ends.1.0 (subst (λ x. IsSo s x (Attentions n)) ends.1.2 left));
     back = λ n has.
-        let found = are.only n has in
-        (found.0, found.2, λ u j shown so pending. record {
-          reply = report (Plain c) power_on; after = reported u s.own power_on;
-          ends = (tt, (pending.1 power_on ∙ found.3.1, refl, refl));
-          landing = landing;
-          is = so_from_registered s (reported u s.own power_on) j (still_registered s (reported u s.own power_on) u j refl so);
-          left = after_reported s u PowerOn found.0 n pending found.3;
-        });
+        let found = are.only n has in (
+          found.0,
+          found.2,
+          λ u j shown so pending. record {
+            reply = report (Plain c) power_on;
+            after = reported u s.own power_on;
+            ends = (tt, (pending.1 power_on ∙ found.3.1, refl, refl));
+            landing = landing;
+            is = so_from_registered s (reported u s.own power_on) j (still_registered s (reported u s.own power_on) u j refl so);
+            left = after_reported s u PowerOn found.0 n pending found.3;
+          },
+        );
   }
 
   calm_from : (calm : Word) → AreCalm known calm → (u : UnitState) (q : ℕ) → has known.pending q ≡ true → IsSo s u (Attentions q) → is_pending u s.own power_on ≡ false → has calm q ≡ true
@@ -113,14 +113,18 @@ module _ (s : Scope) (known : Possibilities) (c : Command) (tests : List Test) (
         are.all q n so.0 (calm_from calm calms u q possible so ((may u).0 ends.0).0) (reported_after s u a q n so ends.1.0 (subst (λ x. IsSo s x (Attentions n)) ends.1.2 left));
     back = λ n has.
         let found = are.only n has in
-        let known = calm_is calm calms found.0 found.2 in
-        (found.0, known.0, λ u j shown so pending. record {
-          reply = report (Plain c) (code_of a); after = reported u s.own (code_of a);
-          ends = ((may u).1 (pending.1 power_on ∙ known.1, so.0), (pending.1 (code_of a) ∙ found.3.1, refl, refl));
-          landing = landing;
-          is = so_from_registered s (reported u s.own (code_of a)) j (still_registered s (reported u s.own (code_of a)) u j refl so.1);
-          left = after_reported s u a found.0 n pending found.3;
-        });
+        let known = calm_is calm calms found.0 found.2 in (
+          found.0,
+          known.0,
+          λ u j shown so pending. record {
+            reply = report (Plain c) (code_of a);
+            after = reported u s.own (code_of a);
+            ends = ((may u).1 (pending.1 power_on ∙ known.1, so.0), (pending.1 (code_of a) ∙ found.3.1, refl, refl));
+            landing = landing;
+            is = so_from_registered s (reported u s.own (code_of a)) j (still_registered s (reported u s.own (code_of a)) u j refl so.1);
+            left = after_reported s u a found.0 n pending found.3;
+          },
+        );
   }
 
   -- ---- a conflict
@@ -132,14 +136,18 @@ module _ (s : Scope) (known : Possibilities) (c : Command) (tests : List Test) (
         let same = one_attentions s u q n so (subst (λ x. IsSo s x (Attentions n)) ends.3 left) in
         subst (λ m. has calm m ≡ true) same (calm_from calm calms u q possible so ends.0);
     back = λ n has.
-        let known = calm_is calm calms n has in
-        (n, known.0, λ u j shown so pending. record {
-          reply = conflict; after = u;
-          ends = (pending.1 power_on ∙ known.1, so.0, refl, refl);
-          landing = landing;
-          is = so_from_registered s u j so.1;
-          left = pending;
-        });
+        let known = calm_is calm calms n has in (
+          n,
+          known.0,
+          λ u j shown so pending. record {
+            reply = conflict;
+            after = u;
+            ends = (pending.1 power_on ∙ known.1, so.0, refl, refl);
+            landing = landing;
+            is = so_from_registered s u j so.1;
+            left = pending;
+          },
+        );
   }
 
   -- ---- where nothing is pending
@@ -164,16 +172,20 @@ module _ (s : Scope) (known : Possibilities) (c : Command) (tests : List Test) (
     forth = λ u r w j shown ends landed so. (ends.1, ap is_some ends.3, still_registered s u w j (ap (λ (x : UnitState). x.registry) ends.5) so);
     pends = λ u r w q n ends possible so left. quiet_from quiet quiets u q n possible so (subst (λ x. IsSo s x (Attentions n)) ends.5 left) ends.0;
     back = λ n has.
-        let known = quiet_is quiet quiets n has in
-        (n, known.0, λ u j shown so pending.
-          let some = is_there (command_fault u.registry s.own c) so.1 in
-          record {
-            reply = check sense; after = u;
-            ends = (number_quiet s u (subst (λ m. IsSo s u (Attentions m)) known.1 pending), so.0, sense, some.1 ∙ ap (λ x. Some x) (fixed u some.0 some.1), refl, refl);
-            landing = landing;
-            is = so_from_registered s u j so.2;
-            left = pending;
-          });
+        let known = quiet_is quiet quiets n has in (
+          n,
+          known.0,
+          λ u j shown so pending.
+              let some = is_there (command_fault u.registry s.own c) so.1 in
+              record {
+                reply = check sense;
+                after = u;
+                ends = (number_quiet s u (subst (λ m. IsSo s u (Attentions m)) known.1 pending), so.0, sense, some.1 ∙ ap (λ x. Some x) (fixed u some.0 some.1), refl, refl);
+                landing = landing;
+                is = so_from_registered s u j so.2;
+                left = pending;
+              },
+        );
   }
     where
       is_there : (o : Option Sense) → is_some o ≡ true → (x : Sense) × (o ≡ Some x)
@@ -189,14 +201,18 @@ module _ (s : Scope) (known : Possibilities) (c : Command) (tests : List Test) (
         let before = subst (λ m. IsSo s u (Attentions m)) (one_attentions s (effect u s.own c) q n (untold_pending s u c q so) (subst (λ x. IsSo s x (Attentions n)) ends.4 left)) so in
         quiet_from quiet quiets u q n possible so before ends.0;
     back = λ n has.
-        let known = quiet_is quiet quiets n has in
-        (n, known.0, λ u j shown so pending. record {
-          reply = good (data_of u.registry c); after = effect u s.own c;
-          ends = (number_quiet s u (subst (λ m. IsSo s u (Attentions m)) known.1 pending), so.0, so.1, refl, refl);
-          landing = subst (IsLanding tests (good (data_of u.registry c))) (sym is_landing) (lands_at arm u so.2);
-          is = so_from_registered s (effect u s.own c) j so.3;
-          left = untold_pending s u c n pending;
-        });
+        let known = quiet_is quiet quiets n has in (
+          n,
+          known.0,
+          λ u j shown so pending. record {
+            reply = good (data_of u.registry c);
+            after = effect u s.own c;
+            ends = (number_quiet s u (subst (λ m. IsSo s u (Attentions m)) known.1 pending), so.0, so.1, refl, refl);
+            landing = subst (IsLanding tests (good (data_of u.registry c))) (sym is_landing) (lands_at arm u so.2);
+            is = so_from_registered s (effect u s.own c) j so.3;
+            left = untold_pending s u c n pending;
+          },
+        );
   }
     where
       taken : (arm : ℕ) (r d : Reply) → r ≡ d → IsLanding tests r (landing_at arm) → first_test tests d ≡ arm_of arm

@@ -1,30 +1,16 @@
 -- Where the possibilities of each landing come from.
-use Rattle.std.proofs.Common.{◌≡◌, ◌⊎◌, ◌↔◌, ℕ, zero, suc, ◌+◌, ◌-◌, ◌^◌, ◌<◌, Bool, true, false, ◌==◌, ◌&&◌, ◌||◌, not, nat_lt, List, Option, Some, None, is_some, refl, sym, ap, ◌∙◌, subst, inl, inr, lit<, arith, bit_and}
-use Rattle.std.specs.Prelude.{Ok}
-use Rattle.std.specs.FinSet as set
-use Rattle.std.specs.List.{slice_get}
-use Rattle.std.specs.Option.{option_map_or}
-use Rattle.std.proofs.lemmas.Bool.{and_parts, and_from, false≢true, lt-ltb}
-use Rattle.std.proofs.lemmas.Bool.Decides.{nat_tests}
+use Rattle.std.proofs.Common.{◌≡◌, ◌⊎◌, ◌↔◌, ℕ, ◌-◌, ◌^◌, ◌<◌, true, List, Option, Some, None, refl, sym, ap, ◌∙◌, subst, inl, inr, bit_and}
 use Rattle.std.proofs.lemmas.Option.{same_Some}
 use Rattle.pr_cdb.specs.declared.command.Command.{Command}
 use Rattle.pr_cdb.specs.declared.reply.Reply.{Reply}
-use Rattle.pr_cdb.specs.declared.reply.Sense.{Sense}
-use Rattle.pr_cdb.specs.declared.reply.Status.{Status}
 use Rattle.pr_cdb.specs.declared.reply.Status.TheVariants as status
 use Rattle.pr_cdb.specs.declared.wire.Request.TheVariants.{Plain}
 use Rattle.pr_cdb.specs.Requests.{Fits as FitsCommand}
 use Rattle.pr_attention.specs.declared.attention.Attention.{Attention}
-use Rattle.pr_attention.specs.declared.attention.Attention.TheVariants.{PowerOn, ReservationsPreempted, ReservationsReleased, RegistrationsPreempted}
-use Rattle.pr_attention.specs.Attentions.{power_on, code_of}
+use Rattle.pr_attention.specs.Attentions.{code_of}
 use Rattle.pr_registry.specs.Registrations.{State, key_of}
-use Rattle.pr_attention.specs.Flagged.{codes_of}
-use Rattle.pr_attention.proofs.Bits.{flag_of, codes_of-without_flag, without_flag-lt, has_flag}
-use Rattle.pr_unit.specs.UnitStates.{UnitState, IsWellFormed, is_pending, is_any_pending, effect, reported}
-use Rattle.pr_unit.specs.Conflicts.{command_conflicts}
-use Rattle.pr_unit.specs.Faults.{command_fault}
-use Rattle.pr_unit.specs.Replies.{good, check, conflict, report, data_of}
-use Rattle.pr_unit.specs.Steps.{Step}
+use Rattle.pr_attention.proofs.Bits.{flag_of, codes_of-without_flag, without_flag-lt}
+use Rattle.pr_unit.specs.UnitStates.{UnitState, IsWellFormed, effect}
 use Rattle.pr_unit.proofs.Steps.{well_formed-step, hosts-step}
 use Rattle.pr_script.specs.declared.script.Test.{Test}
 use Rattle.pr_script.specs.Grammar.{is_written}
@@ -33,22 +19,21 @@ use Rattle.pr_sets.specs.Words.{has}
 use Rattle.pr_views.specs.declared.possibilities.Possibilities.{Possibilities}
 use Rattle.pr_views.specs.Possibilities.{Scope, Item, Registration, Reservation, Attentions, IsSo, number_of}
 use Rattle.pr_views.specs.Views.{View, IsPossible, Shows}
-use Rattle.pr_views.specs.Portions.{has_at, view_in}
+use Rattle.pr_views.specs.Portions.{view_in}
 use Rattle.pr_regions.specs.Readings.{first_test}
 use Rattle.pr_domain.specs.declared.landing.Landing.{Landing}
 use Rattle.pr_domain.specs.declared.landing.Landing.TheVariants.{Arm, NoArm}
 use Rattle.pr_domain.specs.declared.landing.Class.{Class}
 use Rattle.pr_domain.specs.declared.landing.Class.TheVariants.{Good, Conflict, Sense as WithSense}
-use Rattle.pr_domain.specs.declared.tally.Tally.{Tally}
 use Rattle.pr_domain.specs.Landings.{IsClass, IsLanding}
-use Rattle.pr_domain.specs.inside.Tallies.{IsRegistered, has_part, tallied, arm_of, Leaves, IsFound, IsTally}
-use Rattle.pr_domain.specs.inside.Reporting.{IsAfter, AreReported, How, Reports, Conflicts, Fails, EndsGood, MayReport, Ends, LandsBy, IsOfWay}
-use Rattle.pr_domain.proofs.Ending.{ends_step, calm_from_quiet}
-use Rattle.pr_domain.proofs.Owner.{after_reported, reported_after, quiet_number, number_quiet, untold_pending, IsNumbered, numbered_after}
+use Rattle.pr_domain.specs.inside.Tallies.{IsRegistered, has_part}
+use Rattle.pr_domain.specs.inside.Reporting.{How, Reports, Conflicts, Fails, EndsGood, Ends, LandsBy, IsOfWay}
+use Rattle.pr_domain.proofs.Ending.{ends_step}
+use Rattle.pr_domain.proofs.Owner.{after_reported, untold_pending, IsNumbered, numbered_after}
 
 -- ---- a reply lands in one place
 
-one_class : (r : Reply) (a b : Class) → IsClass r a → IsClass r b → a ≡ b
+pub one_class : (r : Reply) (a b : Class) → IsClass r a → IsClass r b → a ≡ b
 one_class r Good Good is also = refl
 one_class r Good Conflict is also = let bad : status.Good ≡ status.Conflict = sym is ∙ also in cc
 one_class r Good (WithSense s) is also = let bad : status.Good ≡ status.CheckCondition = sym is ∙ also.0 in cc
@@ -103,9 +88,11 @@ module _ (v : View) (c : Command) (written : is_written v.scope.keys c ≡ true)
   registry_after EndsGood u r w ends = inr ends.4
 
   pending_after : (how : How) (u : UnitState) (r : Reply) (w : UnitState) (q : ℕ) → IsSo v.scope u (Attentions q) → Ends how c v.scope.own u r w → (n : ℕ) × IsSo v.scope w (Attentions n)
-  pending_after (Reports a) u r w q so ends =
-      (without q a, subst (λ x. IsSo v.scope x (Attentions (without q a))) (sym ends.1.2)
-      (after_reported v.scope u a q _ so (without_flag-lt q a so.0, sym (so.1 (code_of a)) ∙ ends.1.0, codes_of-without_flag q a)))
+  pending_after (Reports a) u r w q so ends = (
+    without q a,
+    subst (λ x. IsSo v.scope x (Attentions (without q a))) (sym ends.1.2)
+        (after_reported v.scope u a q _ so (without_flag-lt q a so.0, sym (so.1 (code_of a)) ∙ ends.1.0, codes_of-without_flag q a)),
+  )
   pending_after Conflicts u r w q so ends = (q, subst (λ x. IsSo v.scope x (Attentions q)) (sym ends.3) so)
   pending_after Fails u r w q so ends = (q, subst (λ x. IsSo v.scope x (Attentions q)) (sym ends.5) so)
   pending_after EndsGood u r w q so ends = (q, subst (λ x. IsSo v.scope x (Attentions q)) (sym ends.4) (untold_pending v.scope u c q so))

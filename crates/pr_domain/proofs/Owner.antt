@@ -1,5 +1,5 @@
 -- What is pending for the owner, and who is registered, after a command of the owner's.
-use Rattle.std.proofs.Common.{◌≡◌, ℕ, zero, suc, ◌+◌, ◌<◌, ◌≤◌, Bool, true, false, ◌==◌, ◌&&◌, ◌||◌, not, if◌then◌else◌, List, [], ◌∷◌, length, Option, Some, None, refl, sym, ap, ◌∙◌, subst, lit<, arith, inl, inr, ◌⊎◌}
+use Rattle.std.proofs.Common.{◌≡◌, ℕ, suc, ◌≤◌, Bool, true, false, ◌==◌, ◌&&◌, ◌||◌, not, if◌then◌else◌, List, [], ◌∷◌, length, Option, Some, None, refl, sym, ap, ◌∙◌, subst, lit<, arith, inl, inr, ◌⊎◌}
 use Rattle.std.specs.FinSet as set
 use Rattle.std.specs.FinMap as map
 use Rattle.std.specs.List.{slice_get, list_any}
@@ -10,7 +10,7 @@ use Rattle.pr_cdb.specs.declared.command.Kind.{Kind}
 use Rattle.pr_cdb.specs.declared.command.Command.{Command}
 use Rattle.pr_cdb.specs.declared.command.Command.TheVariants.{TestUnitReady, RequestSense, Read, Write, ReadKeys, ReadReservation, ReportCapabilities, Register, RegisterIgnore, Reserve, Release, Clear, Preempt, PreemptAbort}
 use Rattle.pr_attention.specs.declared.attention.Attention.{Attention}
-use Rattle.pr_attention.specs.Attentions.{power_on, reservations_preempted, reservations_released, registrations_preempted, code_of, no_code}
+use Rattle.pr_attention.specs.Attentions.{power_on, reservations_preempted, reservations_released, registrations_preempted, code_of}
 use Rattle.pr_attention.specs.Flagged.{codes_of}
 use Rattle.pr_attention.proofs.Sets.{same_codes, contains-no_code, contains-remove_code}
 use Rattle.pr_attention.proofs.Bits.{same_bits, codes_of-zero, AreAttentions-codes_of}
@@ -24,7 +24,7 @@ use Rattle.pr_registry.proofs.Tables.{eq_itself}
 use Rattle.pr_unit.specs.UnitStates.{UnitState, is_pending, is_any_pending, effect, reported}
 use Rattle.pr_unit.proofs.Pairs.{contains-remove-pair}
 use Rattle.pr_script.specs.Grammar.{is_declared, is_written_key, is_written}
-use Rattle.pr_views.specs.Possibilities.{Scope, key_at, Registration, Attentions, IsSo}
+use Rattle.pr_views.specs.Possibilities.{Scope, key_at, Attentions, IsSo}
 use Rattle.pr_regions.proofs.Becoming.{not_itself, contains-others_itself}
 use Rattle.pr_regions.proofs.Telling.{is_pending_after, contains-told}
 use Rattle.pr_domain.specs.inside.Reporting.{IsAfter}
@@ -120,10 +120,12 @@ untold u h (PreemptAbort rk sark kind) = preempting u h sark kind
 
 pub untold_pending : (s : Scope) (u : UnitState) (c : Command) (q : ℕ) → IsSo s u (Attentions q) → IsSo s (effect u s.own c) (Attentions q)
 untold_pending s u c q so =
-    let none = untold u.registry s.own c in
-    (so.0, λ code. contains-told u.pending (change u.registry s.own c) s.own code
-        ∙ (λ i. is_pending_after (so.1 code i) (none.untold_03 i) (none.untold_04 i) (none.untold_05 i) code)
-        ∙ nothing_more (set.contains (codes_of q) code) code)
+    let none = untold u.registry s.own c in (
+      so.0,
+      λ code. contains-told u.pending (change u.registry s.own c) s.own code
+          ∙ (λ i. is_pending_after (so.1 code i) (none.untold_03 i) (none.untold_04 i) (none.untold_05 i) code)
+          ∙ nothing_more (set.contains (codes_of q) code) code,
+    )
   where
     nothing_more : (x : Bool) (code : ℕ) → is_pending_after x false false false code ≡ x
     nothing_more true code = refl

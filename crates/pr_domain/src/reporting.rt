@@ -68,6 +68,16 @@ fn fault_of(command: &Command) -> Option<Sense>
     }
 }
 
+impl Tally {
+    // What is so of registrations and reservation where the command ends in this way.
+    fn way(&self, way: usize) -> Possibilities
+        requires { way < 20 }
+        ensures { slice_get self.now.ways way ≡ Some result }
+    {
+        self.ways[way]
+    }
+}
+
 /// A command whose outcomes are to be found, and what is known of the states from which it is sent.
 #[derive(Clone, Copy, Debug)]
 pub(crate) struct Sending<'a> {
@@ -119,8 +129,8 @@ impl Sending<'_> {
         let class = class_of_report(&self.command, Attention::PowerOn);
         let landing = landing_of(self.tests, class);
         // It comes before a conflict, and so whether there is one or not.
-        let mut way = self.way(0);
-        way.join(&self.way(1));
+        let mut way = self.tally.way(0);
+        way.join(&self.tally.way(1));
         let pending = after_report(self.known.pending, Attention::PowerOn);
         self.add(alloc, outcomes, landing, &way, pending)?;
         Ok(())
@@ -142,7 +152,7 @@ impl Sending<'_> {
         let class = class_of_report(&self.command, attention);
         let landing = landing_of(self.tests, class);
         let pending = after_report(self.calm(), attention);
-        self.add(alloc, outcomes, landing, &self.way(1), pending)?;
+        self.add(alloc, outcomes, landing, &self.tally.way(1), pending)?;
         Ok(())
     }
 
@@ -158,7 +168,7 @@ impl Sending<'_> {
         ensures more { OnOk result (AreMore S.members self.now.sender outcomes.old.items (LandsBy (view_of_sending self.now) self.now.command self.now.tests.now Conflicts) outcomes.new.items) }
     {
         let landing = landing_of(self.tests, Class::Conflict);
-        self.add(alloc, outcomes, landing, &self.way(0), self.calm())?;
+        self.add(alloc, outcomes, landing, &self.tally.way(0), self.calm())?;
         Ok(())
     }
 
@@ -177,7 +187,7 @@ impl Sending<'_> {
             return Ok(());
         };
         let landing = landing_of(self.tests, Class::Sense(sense));
-        self.add(alloc, outcomes, landing, &self.way(2), self.quiet())?;
+        self.add(alloc, outcomes, landing, &self.tally.way(2), self.quiet())?;
         Ok(())
     }
 
@@ -199,7 +209,13 @@ impl Sending<'_> {
         } else {
             Landing::Arm(arm - 1)
         };
-        self.add(alloc, outcomes, landing, &self.way(3 + arm), self.quiet())?;
+        self.add(
+            alloc,
+            outcomes,
+            landing,
+            &self.tally.way(3 + arm),
+            self.quiet(),
+        )?;
         Ok(())
     }
 
@@ -218,14 +234,6 @@ impl Sending<'_> {
             self.add_good(alloc, outcomes, arm)?;
         }
         Ok(())
-    }
-
-    // What is so of registrations and reservation where it ends in this way.
-    fn way(&self, way: usize) -> Possibilities
-        requires { way < 20 }
-        ensures { slice_get self.now.tally.now.ways way ≡ Some result }
-    {
-        self.tally.ways[way]
     }
 
     // The possible attentions among which there is no power on.

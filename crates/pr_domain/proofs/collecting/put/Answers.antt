@@ -1,11 +1,9 @@
-use Rattle.std.proofs.Common.{◌≡◌, ◌≢◌, ◌⊎◌, ℕ, length, Some, slice_set, rules, refl, sym, ap, ◌∙◌, subst}
+use Rattle.std.proofs.Common.{◌≡◌, slice_set, rules, refl, sym, ap, ◌∙◌, subst}
 use Rattle.std.specs.List.{slice_get}
-use Rattle.pr_views.specs.declared.view.ViewOf.{ViewOf}
 use Rattle.pr_views.specs.Views.{IsPossible}
-use Rattle.pr_views.specs.Possibilities.{Item}
 use Rattle.pr_views.specs.Rooms.{view_of}
 use Rattle.pr_domain.specs.declared.landing.Landing.{Landing}
-use Rattle.pr_domain.specs.inside.Reporting.{AreKept, AreMore}
+use Rattle.pr_domain.specs.inside.Reporting.{AreMore}
 use Rattle.pr_domain.proofs.Listing.{read_there, kept_pushed, more_pushed, kept_joined, more_joined}
 use Rattle.pr_domain.proofs.collecting.put.Goals as goal
 

@@ -1,5 +1,5 @@
-use Rattle.std.proofs.Common.{◌≡◌, ℕ, rules, refl, sym, ap, ◌∙◌}
-use Rattle.pr_views.specs.Possibilities.{Item, Reservation}
+use Rattle.std.proofs.Common.{◌≡◌, rules, sym}
+use Rattle.pr_views.specs.Possibilities.{Reservation}
 use Rattle.pr_views.specs.Views.{IsPossible}
 use Rattle.pr_views.specs.Rooms.{view_of}
 use Rattle.pr_domain.specs.inside.Reporting.{IsOfWay}
@@ -9,10 +9,17 @@ use Rattle.pr_domain.proofs.reporting.Sending.add.Goals as goal
 
 pub put-requires : goal.put-requires
 put-requires g c =
-    let reserved = c.is_empty.ensures.filled c.if-is_empty.false in
-    (search rules, (c.in_ok-view.ensures.made, ((λ own. (Reservation reserved.0, (c.in_ok-view.ensures.same own (Reservation reserved.0)).1 reserved.1)),
-    kept_for g.S.ViewSet.members g.S.ViewSet.room c.args.self.now.hosts c.in_ok-view.view.hosts c.args.self.now.keys.now c.in_ok-view.view.keys.items c.args.outcomes.now.items
-    (sym c.in_ok-view.ensures.hosts) (sym c.in_ok-view.ensures.keys) c.requires.kept)))
+    let reserved = c.is_empty.ensures.filled c.if-is_empty.false in (
+      search rules,
+      (
+        c.in_ok-view.ensures.made,
+        (
+          (λ own. (Reservation reserved.0, (c.in_ok-view.ensures.same own (Reservation reserved.0)).1 reserved.1)),
+          kept_for g.S.ViewSet.members g.S.ViewSet.room c.args.self.now.hosts c.in_ok-view.view.hosts c.args.self.now.keys.now c.in_ok-view.view.keys.items c.args.outcomes.now.items
+              (sym c.in_ok-view.ensures.hosts) (sym c.in_ok-view.ensures.keys) c.requires.kept,
+        ),
+      ),
+    )
 
 pub returns-clause-more : goal.returns-clause-more
 returns-clause-more g c =
