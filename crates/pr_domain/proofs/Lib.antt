@@ -10,3 +10,4 @@ pub mod Landed
 pub mod EachWay
 pub mod Listing
 pub mod Adding
+pub mod Found

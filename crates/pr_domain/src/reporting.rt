@@ -1,6 +1,6 @@
 //! The outcomes of a command, from the tally of its ways to end.
 
-ghost use Rattle.std.specs.Prelude.{◌≡◌, ◌<◌, ◌≤◌, ℕ, true, List, OnOk, Some};
+ghost use Rattle.std.specs.Prelude.{◌≡◌, ◌<◌, ◌≤◌, ℕ, true, List, map, IfOk, OnOk, Some};
 ghost use Rattle.std.specs.List.{All, slice_get};
 ghost use Rattle.pr_cdb.specs.declared.reply.Sense.{Sense};
 ghost use Rattle.pr_attention.specs.Attentions.{code_of};
@@ -12,9 +12,10 @@ ghost use Rattle.pr_script.specs.Grammar.{is_written, test_fits};
 ghost use Rattle.pr_unit.specs.Faults.{illegal, command_fault};
 ghost use Rattle.pr_unit.specs.Replies.{report};
 ghost use Rattle.pr_sets.specs.Words.{has};
-ghost use Rattle.pr_views.specs.Rooms.{AreInRange};
+ghost use Rattle.pr_views.specs.Rooms.{view_of, AreInRange};
 ghost use Rattle.pr_views.specs.Possibilities.{IsScope};
 ghost use Rattle.pr_domain.specs.Landings.{IsClass};
+ghost use Rattle.pr_domain.specs.Outcomes.{AreOutcomes};
 ghost use Rattle.pr_domain.specs.inside.Reporting.{AreBlind, AreMore, IsOfWay, AreCalm, AreQuiet, LandsBy, Reports, Conflicts, Fails, EndsGood, IsLater, LandsGood};
 ghost use Rattle.pr_domain.specs.inside.Sendings.{scope_of_sending, view_of_sending, AreKeptFor, IsAsked};
 
@@ -234,6 +235,26 @@ impl Sending<'_> {
             self.add_good(alloc, outcomes, arm)?;
         }
         Ok(())
+    }
+
+    /// The outcomes.
+    pub(crate) fn outcomes<S: ViewSet>(
+        &self,
+        alloc: Global,
+    ) -> Result<Vec<(Landing, ViewOf<S>)>, AllocError>
+        requires { IsAsked self.now }
+        ensures outcomes { IfOk result (λ outcomes. AreOutcomes (view_of_sending self.now) self.now.command self.now.tests.now (map (λ o. (o.0, view_of S.members self.now.sender o.1)) outcomes.items)) }
+        ensures kept { IfOk result (λ outcomes. AreKeptFor S.members S.room self.now outcomes.items) }
+    {
+        let mut outcomes = Vec::new(alloc);
+        self.add_all_good(alloc, &mut outcomes)?;
+        self.add_conflict(alloc, &mut outcomes)?;
+        self.add_power_on(alloc, &mut outcomes)?;
+        self.add_report(alloc, &mut outcomes, Attention::ReservationsPreempted)?;
+        self.add_report(alloc, &mut outcomes, Attention::ReservationsReleased)?;
+        self.add_report(alloc, &mut outcomes, Attention::RegistrationsPreempted)?;
+        self.add_fault(alloc, &mut outcomes)?;
+        Ok(outcomes)
     }
 
     // The possible attentions among which there is no power on.
