@@ -1,0 +1,37 @@
+-- What a change makes of sets of registrations, and of sets of attentions.
+use Rattle.std.specs.Prelude.{◌≡◌, ℕ, ◌+◌, Bool, true, ◌==◌, ◌&&◌, nat_lt, if◌then◌else◌, unwrap_or, bit_or}
+use Rattle.pr_sets.specs.declared.word.Word.{Word}
+use Rattle.pr_sets.specs.Words.{has}
+use Rattle.pr_regions.specs.declared.region.Change.{Change}
+use Rattle.pr_regions.specs.Regions.{flag}
+
+-- these numbers are what the others become
+pub record IsImage (from : ℕ → Bool) (becomes : ℕ → ℕ) (to : ℕ → Bool) : Type 0 where
+  pub all : (n : ℕ) → from n ≡ true → to (becomes n) ≡ true
+  pub only : (m : ℕ) → to m ≡ true → (n : ℕ) × (from n ≡ true) × (m ≡ becomes n)
+
+-- those numbers of the word that are below the bound
+abbrev pub first : ℕ → Word → ℕ → Bool
+first bound w n = nat_lt n bound && has w n
+
+-- the registration of another once those are removed
+abbrev pub left : Word → ℕ → ℕ
+left removed r = if has removed r then 0 else r
+
+-- what becomes of g's registration by a change of this sender
+abbrev pub becomes : ℕ → Change → ℕ → ℕ → ℕ
+becomes sender c g r = if g == sender then unwrap_or c.sender r else left c.removed r
+
+-- the bits of what a host with registration r is told
+abbrev pub mark : Change → ℕ → ℕ
+mark c r = flag (has c.told_03 r) 2 + (flag (has c.told_04 r) 4 + flag (has c.told_05 r) 8)
+
+-- of the attentions below 16, what they are with each of the first marks
+pub record AreMarked (bound : ℕ) (marks pending told : Word) : Type 0 where
+  pub all : (m q : ℕ) → first bound marks m ≡ true → first 16 pending q ≡ true → has told (bit_or q m) ≡ true
+  pub only : (n : ℕ) → has told n ≡ true → (m : ℕ) × (q : ℕ) × (first bound marks m ≡ true) × (first 16 pending q ≡ true) × (n ≡ bit_or q m)
+
+-- of the attentions below 16, what they are for an owner with one of the registrations below 13
+pub record AreTold (c : Change) (owners pending told : Word) : Type 0 where
+  pub all : (r q : ℕ) → first 13 owners r ≡ true → first 16 pending q ≡ true → has told (bit_or q (mark c r)) ≡ true
+  pub only : (n : ℕ) → has told n ≡ true → (r : ℕ) × (q : ℕ) × (first 13 owners r ≡ true) × (first 16 pending q ≡ true) × (n ≡ bit_or q (mark c r))
