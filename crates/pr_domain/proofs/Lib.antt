@@ -1,4 +1,5 @@
-pub mod Places
 pub mod Gathered
-pub mod Tallying
+pub mod Images
 pub mod Leaving
+pub mod Places
+pub mod Tallying

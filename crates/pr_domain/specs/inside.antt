@@ -1,3 +1,3 @@
 pub mod Gathering
-pub mod Tallies
 pub mod Images
+pub mod Tallies

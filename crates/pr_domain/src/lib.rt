@@ -2,6 +2,7 @@
 //! others.
 #![tactic(auto)]
 
+mod changed;
 mod landing;
 mod place;
 mod tally;

@@ -8,8 +8,8 @@ ghost use Rattle.pr_views.specs.Possibilities.{Scope};
 ghost use Rattle.pr_views.specs.Portions.{has_at, view_in};
 ghost use Rattle.pr_domain.specs.inside.Gathering.{IsPlace, IsUniform, IsProper, IsAt, IsGathered, passes, IsLeftTo, tested};
 
-use pr_registry::Held;
 use pr_regions::Region;
+use pr_registry::Held;
 use pr_sets::Word;
 use pr_views::{Portion, Possibilities};
 
@@ -26,7 +26,12 @@ pub(crate) struct Place {
 impl Place {
     /// What each host and guest has in the states of this region in which the sender has one of these
     /// registrations; none where the view shows no such state.
-    pub(crate) fn gather(&self, view: &Possibilities, senders: Word, region: &Region) -> Option<[Word; 8]>
+    pub(crate) fn gather(
+        &self,
+        view: &Possibilities,
+        senders: Word,
+        region: &Region,
+    ) -> Option<[Word; 8]>
         requires hosts { (1 ≤ self.now.hosts) × (self.now.hosts ≤ 8) }
         requires sender { self.now.sender < self.now.hosts }
         ensures some { IfSome result (λ words. (s : Scope) → IsPlace s view.now self.now → IsUniform senders → IsProper region.now → IsGathered (view_in s view.now) self.now senders region.now words) }
