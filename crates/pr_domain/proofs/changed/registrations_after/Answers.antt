@@ -1,11 +1,12 @@
-use Rattle.std.proofs.Common.{ℕ, ◌≡◌, ◌≢◌, ◌<◌, ◌==◌, Bool, true, false, List, refl, unwrap_or, length, slice_index_or, subst, sym, ◌∙◌, arith}
+use Rattle.std.proofs.Common.{ℕ, ◌≡◌, ◌≢◌, ◌<◌, ◌==◌, Bool, true, false, List, refl, unwrap_or, length, slice_index_or, subst, sym, ap, ◌⊎◌, inl, inr, ◌≤◌, ◌∙◌, arith}
+use Rattle.std.proofs.lemmas.Bool.{cases_lt, false≢true}
 use Rattle.std.proofs.lemmas.Bool.Decides.{nat_tests}
 use Rattle.std.proofs.lemmas.List.{length-set}
 use Rattle.pr_sets.specs.declared.word.Word.{Word}
 use Rattle.pr_sets.specs.Words.{has}
 use Rattle.pr_regions.specs.declared.region.Change.{Change}
 use Rattle.pr_views.specs.Portions.{has_at}
-use Rattle.pr_views.proofs.Places.{has_at-get_or}
+use Rattle.pr_views.proofs.Places.{holds_at-get_or, holds_at_past}
 use Rattle.pr_domain.specs.inside.Images.{IsImage, left, becomes}
 use Rattle.pr_domain.proofs.Images.{images_more}
 use Rattle.pr_domain.proofs.changed.registrations_after.Goals.{then-host-from, else-host-from}
@@ -13,8 +14,8 @@ use Rattle.pr_domain.proofs.changed.registrations_after.Goals as goal
 
 image_at : (words : List Word) (i : ℕ) (w d : Word) (f : ℕ → ℕ) → i < length words → IsImage (has (slice_index_or words i d)) f (has w) → IsImage (has_at words i) f (has w)
 image_at words i w d f there image = record {
-  all = λ n is. image.all n (sym (has_at-get_or words i n d there) ∙ is);
-  only = λ m is. let found = image.only m is in (found.0, has_at-get_or words i found.0 d there ∙ found.1, found.2);
+  all = λ n is. image.all n (sym (holds_at-get_or (λ x. has x n) words i d there) ∙ is);
+  only = λ m is. let found = image.only m is in (found.0, holds_at-get_or (λ x. has x found.0) words i d there ∙ found.1, found.2);
 }
 
 same_image : (p q : ℕ → Bool) (f g : ℕ → ℕ) → ((n : ℕ) → f n ≡ g n) → IsImage p f q → IsImage p g q
@@ -46,3 +47,16 @@ loop-host-preserved c =
       done = images_more words c.loop-host.after c.loop-host.host c.if-host-from.after (becomes c.from-from.result c.args.change.now) (omega arith) image c.loop-host.invariant.done;
       size = length-set c.loop-host.after c.loop-host.host c.if-host-from.after ∙ c.loop-host.invariant.size;
     }
+
+past_image : (words after : List Word) (g : ℕ) (f : ℕ → ℕ) → length words ≤ g → length after ≤ g → IsImage (has_at words g) f (has_at after g)
+past_image words after g f beyond also = record {
+  all = λ n is. absurd (false≢true (sym (holds_at_past (λ x. has x n) words g beyond) ∙ is));
+  only = λ m is. absurd (false≢true (sym (holds_at_past (λ x. has x m) after g also) ∙ is));
+}
+
+pub returns : goal.returns
+returns c g = at (cases_lt g 8)
+  where
+    at : (g < 8) ⊎ (8 ≤ g) → IsImage (has_at c.args.words.now g) (becomes c.args.sender c.args.change.now g) (has_at c.loop-host.after g)
+    at (inl small) = subst (λ n. IsImage (has_at c.args.words.now g) (becomes n c.args.change.now g) (has_at c.loop-host.after g)) c.from-from.ensures (c.loop-host.invariant.done g (omega arith))
+    at (inr beyond) = past_image c.args.words.now c.loop-host.after g (becomes c.args.sender c.args.change.now g) (omega arith) (let e = c.loop-host.invariant.size in omega arith)
