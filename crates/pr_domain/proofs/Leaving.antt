@@ -1,6 +1,6 @@
 -- What a tally has once the states of one region are added.
 use Rattle.std.proofs.Common.{◌≡◌, ◌≢◌, ◌⊎◌, ℕ, zero, suc, ◌+◌, ◌<◌, ◌≤◌, Bool, true, false, ◌==◌, ◌&&◌, ◌||◌, if◌then◌else◌, List, Option, Some, None, is_some, unwrap_or, refl, sym, ap, ◌∙◌, subst, inl, inr, arith}
-use Rattle.std.proofs.lemmas.Bool.{and_parts, and_from, or_cases, or_left, or_right, false≢true}
+use Rattle.std.proofs.lemmas.Bool.{and_parts, and_from, or_cases, or_left, or_right, false≢true, cases_lt}
 use Rattle.std.proofs.lemmas.Bool.Decides.{nat_tests, eqb_tells}
 use Rattle.pr_cdb.specs.declared.command.Command.{Command}
 use Rattle.pr_cdb.specs.declared.reply.Sense.{Sense}
@@ -185,3 +185,85 @@ grows_good v c tests arm At old mid new p after shows done is then_is first seco
           leaves = ((done met.0 met.1).0, (done met.0 met.1).1, (done met.0 met.1).2 ∙ ap arm_of same, met.2);
           pending = met.3;
         })
+
+-- ---- what the words of a region are part of
+
+pub part_here : (s : Scope) (view : Possibilities) (place : Place) (senders : Word) (region : Region) (words : List Word) (p : Possibilities) → IsPlace s view place
+    → IsGathered (view_in s view) place senders region words → ((g r : ℕ) → place.hosts ≤ g → has_at words g r ≡ false)
+    → p.registrations ≡ words → ((x : ℕ) → has p.reservations x ≡ (x == place.reservation))
+    → IsPart (view_in s view) (IsAt (view_in s view) place senders region) (λ u. u) p
+part_here s view place senders region words p is gathered beyond registrations reservations = record { all = all; only = only }
+  where
+    all : (u : UnitState) (i : Item) → IsAt (view_in s view) place senders region u → IsRegistered s u i → has_part p i ≡ true
+    all u (Registration g r) at so = subst (λ w. has_at w g r ≡ true) (sym registrations) (gathered.all u g r at so)
+    all u (Reservation x) at so =
+        let same : x ≡ place.reservation = so ∙ sym at.reservation in
+        reservations x ∙ grind (arith, nat_tests)
+    all u (Attentions q) at so = absurd so
+
+    only : (i : Item) (q : ℕ) → has_part p i ≡ true → has view.pending q ≡ true
+        → (u : UnitState) × IsAt (view_in s view) place senders region u × IsRegistered s u i × IsSo s u (Attentions q)
+    only (Registration g r) q there pending =
+        let has = subst (λ w. has_at w g r ≡ true) registrations there in
+        let met = gathered.only g r q (below g r has (cases_lt g place.hosts)) has pending in
+        (met.unit, met.at, met.is, met.pending)
+      where
+        below : (g r : ℕ) → has_at words g r ≡ true → (g < place.hosts) ⊎ (place.hosts ≤ g) → g < s.hosts
+        below g r has (inl small) = subst (λ n. g < n) (sym is.hosts) small
+        below g r has (inr large) = absurd (false≢true (sym (beyond g r large) ∙ has))
+    only (Reservation x) q there pending =
+        let met = gathered.some q pending in
+        let same : x ≡ place.reservation = (let tells = sym (reservations x) ∙ there in grind (arith, nat_tests)) in
+        (met.unit, met.at, subst (λ y. IsSo s met.unit (Reservation y)) (sym same) met.at.reservation, met.pending)
+    only (Attentions q) p there pending = absurd (false≢true there)
+
+pub part_after : (s : Scope) (c : Command) (change : Change) (view : Possibilities) (place : Place) (senders : Word) (region : Region) (words after : List Word) (p : Possibilities)
+    → IsPlace s view place → place.sender ≡ s.own
+    → IsGathered (view_in s view) place senders region words → ((g r : ℕ) → place.hosts ≤ g → has_at words g r ≡ false)
+    → ((g : ℕ) → IsImage (has_at words g) (becomes place.sender change g) (has_at after g))
+    → ((u : UnitState) → IsAt (view_in s view) place senders region u → Changes s s.own change u (effect u s.own c))
+    → p.registrations ≡ after → ((x : ℕ) → has p.reservations x ≡ (x == change.reservation))
+    → IsPart (view_in s view) (IsAt (view_in s view) place senders region) (λ u. effect u s.own c) p
+part_after s c change view place senders region words after p is own gathered beyond images changes registrations reservations = record { all = all; only = only }
+  where
+    -- what becomes of one registration
+    moved : (u : UnitState) (g r : ℕ) → IsAt (view_in s view) place senders region u → IsSo s u (Registration g r)
+        → IsSo s (effect u s.own c) (Registration g (becomes place.sender change g r))
+    moved u g r at so = pick (eqb_tells g place.sender)
+      where
+        pick : (((g == place.sender) ≡ true) × (g ≡ place.sender)) ⊎ (((g == place.sender) ≡ false) × (g ≢ place.sender))
+            → IsSo s (effect u s.own c) (Registration g (becomes place.sender change g r))
+        pick (inl same) =
+            let mine : g ≡ s.own = same.1 ∙ own in
+            subst (λ b. IsSo s (effect u s.own c) (Registration g (if b then unwrap_or change.sender r else left change.removed r))) (sym same.0)
+            (subst (λ n. IsSo s (effect u s.own c) (Registration n (unwrap_or change.sender r))) (sym mine)
+            ((changes u at).sender r (subst (λ n. IsSo s u (Registration n r)) mine so)))
+        pick (inr other) =
+            subst (λ b. IsSo s (effect u s.own c) (Registration g (if b then unwrap_or change.sender r else left change.removed r))) (sym other.0)
+            ((changes u at).others g r (λ same. other.1 (same ∙ sym own)) so)
+
+    all : (u : UnitState) (i : Item) → IsAt (view_in s view) place senders region u → IsRegistered s (effect u s.own c) i → has_part p i ≡ true
+    all u (Registration g r) at so =
+        let seen = at.shown.registrations g so.0 in
+        let same = one_registration s (effect u s.own c) g (becomes place.sender change g seen.0) r is.fits.scope (moved u g seen.0 at seen.1.1) so in
+        subst (λ w. has_at w g r ≡ true) (sym registrations) (subst (λ n. has_at after g n ≡ true) same ((images g).all seen.0 (gathered.all u g seen.0 at seen.1.1)))
+    all u (Reservation x) at so =
+        let same : x ≡ change.reservation = so ∙ sym (changes u at).reservation in
+        reservations x ∙ grind (arith, nat_tests)
+    all u (Attentions q) at so = absurd so
+
+    only : (i : Item) (q : ℕ) → has_part p i ≡ true → has view.pending q ≡ true
+        → (u : UnitState) × IsAt (view_in s view) place senders region u × IsRegistered s (effect u s.own c) i × IsSo s u (Attentions q)
+    only (Registration g r) q there pending =
+        let from = (images g).only r (subst (λ w. has_at w g r ≡ true) registrations there) in
+        let met = gathered.only g from.0 q (below g from.0 from.1 (cases_lt g place.hosts)) from.1 pending in
+        (met.unit, met.at, subst (λ n. IsSo s (effect met.unit s.own c) (Registration g n)) (sym from.2) (moved met.unit g from.0 met.at met.is), met.pending)
+      where
+        below : (g r : ℕ) → has_at words g r ≡ true → (g < place.hosts) ⊎ (place.hosts ≤ g) → g < s.hosts
+        below g r has (inl small) = subst (λ n. g < n) (sym is.hosts) small
+        below g r has (inr large) = absurd (false≢true (sym (beyond g r large) ∙ has))
+    only (Reservation x) q there pending =
+        let met = gathered.some q pending in
+        let same : x ≡ change.reservation = (let tells = sym (reservations x) ∙ there in grind (arith, nat_tests)) in
+        (met.unit, met.at, subst (λ y. IsSo s (effect met.unit s.own c) (Reservation y)) (sym same) (changes met.unit met.at).reservation, met.pending)
+    only (Attentions q) p there pending = absurd (false≢true there)

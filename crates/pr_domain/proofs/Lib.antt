@@ -2,4 +2,4 @@ pub mod Gathered
 pub mod Images
 pub mod Leaving
 pub mod Places
-pub mod Tallying
+pub mod Ways

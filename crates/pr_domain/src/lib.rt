@@ -6,5 +6,6 @@ mod changed;
 mod landing;
 mod place;
 mod tally;
+mod tallying;
 
 pub use landing::{Class, Landing};
