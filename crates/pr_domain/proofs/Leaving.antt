@@ -267,3 +267,41 @@ part_after s c change view place senders region words after p is own gathered be
         let same : x ≡ change.reservation = (let tells = sym (reservations x) ∙ there in grind (arith, nat_tests)) in
         (met.unit, met.at, subst (λ y. IsSo s (effect met.unit s.own c) (Reservation y)) (sym same) (changes met.unit met.at).reservation, met.pending)
     only (Attentions q) p there pending = absurd (false≢true there)
+
+-- ---- one branch
+
+pub leaf_conflict : (s : Scope) (c : Command) (tests : List Test) (view : Possibilities) (place : Place) (senders : Word) (b : Branch) (arm : ℕ) (words : List Word) (here : Possibilities) (old new : Tally)
+    → IsRight s c tests view place senders b arm → b.ending ≡ ending.Conflict → IsGathered (view_in s view) place senders b.region words → ((g r : ℕ) → place.hosts ≤ g → has_at words g r ≡ false)
+    → here.registrations ≡ words → ((x : ℕ) → has here.reservations x ≡ (x == place.reservation)) → IsAdded old 0 here new
+    → Grows (view_in s view) c tests old new (IsAt (view_in s view) place senders b.region)
+leaf_conflict s c tests view place senders b arm words here old new right ended gathered beyond registrations reservations added =
+    grows_conflict (view_in s view) c tests (IsAt (view_in s view) place senders b.region) old new here (λ u at. at.shown)
+    (λ u at. subst (λ e. Ends s s.own e u c) ended (right.ends u at))
+    (part_here s view place senders b.region words here right.is gathered beyond registrations reservations) added
+
+pub leaf_fault : (s : Scope) (c : Command) (tests : List Test) (view : Possibilities) (place : Place) (senders : Word) (b : Branch) (arm : ℕ) (sense : Sense) (words : List Word) (here : Possibilities) (old mid new : Tally)
+    → IsRight s c tests view place senders b arm → b.ending ≡ ending.Fault sense → IsGathered (view_in s view) place senders b.region words → ((g r : ℕ) → place.hosts ≤ g → has_at words g r ≡ false)
+    → here.registrations ≡ words → ((x : ℕ) → has here.reservations x ≡ (x == place.reservation)) → IsAdded old 1 here mid → IsAdded mid 2 here new
+    → Grows (view_in s view) c tests old new (IsAt (view_in s view) place senders b.region)
+leaf_fault s c tests view place senders b arm sense words here old mid new right ended gathered beyond registrations reservations first second =
+    grows_fault (view_in s view) c tests sense (IsAt (view_in s view) place senders b.region) old mid new here (λ u at. at.shown)
+    (λ u at. subst (λ e. Ends s s.own e u c) ended (right.ends u at))
+    (part_here s view place senders b.region words here right.is gathered beyond registrations reservations) first second
+
+pub leaf_good : (s : Scope) (c : Command) (tests : List Test) (view : Possibilities) (place : Place) (senders : Word) (b : Branch) (arm way : ℕ) (change : Change) (words changed : List Word) (here after : Possibilities) (old mid new : Tally)
+    → IsRight s c tests view place senders b arm → b.ending ≡ ending.Good change → way ≡ suc (suc (suc arm))
+    → IsGathered (view_in s view) place senders b.region words → ((g r : ℕ) → place.hosts ≤ g → has_at words g r ≡ false)
+    → here.registrations ≡ words → ((x : ℕ) → has here.reservations x ≡ (x == place.reservation))
+    → ((g : ℕ) → IsImage (has_at words g) (becomes place.sender change g) (has_at changed g))
+    → after.registrations ≡ changed → ((x : ℕ) → has after.reservations x ≡ (x == change.reservation))
+    → IsAdded old 1 here mid → IsAdded mid way after new
+    → Grows (view_in s view) c tests old new (IsAt (view_in s view) place senders b.region)
+leaf_good s c tests view place senders b arm way change words changed here after old mid new right ended is_way gathered beyond registrations reservations images then_registrations then_reservations first second =
+    grows_good (view_in s view) c tests arm (IsAt (view_in s view) place senders b.region) old mid new here after (λ u at. at.shown)
+    (λ u at. ((done u at).0, (done u at).1, right.taken u at))
+    (part_here s view place senders b.region words here right.is gathered beyond registrations reservations)
+    (part_after s c change view place senders b.region words changed after right.is right.own gathered beyond images (λ u at. (done u at).2) then_registrations then_reservations)
+    first (subst (λ w. IsAdded mid w after new) is_way second)
+  where
+    done : (u : UnitState) → IsAt (view_in s view) place senders b.region u → Ends s s.own (ending.Good change) u c
+    done u at = subst (λ e. Ends s s.own e u c) ended (right.ends u at)
