@@ -4,8 +4,10 @@
 mod branching;
 mod endings;
 mod numbers;
+mod preempting;
 mod purpose;
 mod region;
+mod unregistering;
 mod words;
 
 pub use numbers::reservation_number;
