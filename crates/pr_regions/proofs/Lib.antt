@@ -9,3 +9,4 @@ pub mod Preempted
 pub mod Services
 pub mod Covering
 pub mod Leaving
+pub mod Keyed
