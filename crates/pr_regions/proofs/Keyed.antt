@@ -126,7 +126,7 @@ some_left u g k other there differs =
     not_empty_from_some (without u.keys (hosts_with u.keys k)) g other
     (get-without u.keys (hosts_with u.keys k) g ∙ ap (λ b. if b then None else map.get u.keys g) (contains-hosts_with u.keys k g ∙ differs) ∙ there)
 
-none_left : (u : State) (k : ℕ) → ((g : ℕ) → (key_of u g ≡ None) ⊎ (is_key (key_of u g) k ≡ true)) → is_empty (without u.keys (hosts_with u.keys k)) ≡ true
+pub none_left : (u : State) (k : ℕ) → ((g : ℕ) → (key_of u g ≡ None) ⊎ (is_key (key_of u g) k ≡ true)) → is_empty (without u.keys (hosts_with u.keys k)) ≡ true
 none_left u k each = is_empty_from_none (without u.keys (hosts_with u.keys k)) (λ g. at g (each g))
   where
     -- who is not removed has none
@@ -144,7 +144,7 @@ rest_stays rest (Some (One t h)) some = refl
 rest_stays rest (Some (All t)) some = ap (λ b. if b then None else Some (All t)) some
 
 -- a key that is left by a number
-number_left : (s : Scope) (j : ℕ) (sender : ℕ) (standing : Standing) (u : UnitState) (g r : ℕ) → HasKeys s j sender standing u → IsSo s u (Registration g r) → is_registered u.registry g ≡ true
+pub number_left : (s : Scope) (j : ℕ) (sender : ℕ) (standing : Standing) (u : UnitState) (g r : ℕ) → HasKeys s j sender standing u → IsSo s u (Registration g r) → is_registered u.registry g ≡ true
     → only j r ≡ false → is_empty (without u.registry.keys (hosts_with u.registry.keys (key_named s.keys j))) ≡ false
 number_left s j sender standing u g r keys so there other = at (key_of u.registry g) refl there
   where

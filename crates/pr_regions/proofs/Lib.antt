@@ -10,3 +10,5 @@ pub mod Services
 pub mod Covering
 pub mod Leaving
 pub mod Keyed
+pub mod Choosing
+pub mod Holding
