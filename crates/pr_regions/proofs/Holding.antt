@@ -101,7 +101,7 @@ not_holders : (s : Scope) (j : ℕ) (t old : Kind) (h sender : ℕ) (standing : 
 not_holders s j t old h sender standing u c b others test apart m keys leaves inside =
     let it = holder_number s j t old h sender standing u c m in
     let differs : is_key (map.get u.registry.keys h) (key_named s.keys j) ≡ false =
-        has_key s j sender standing u h it.number keys it.so ∙ another_is_not j it.number (holder_is s j t old h sender standing u c b (another j) others test apart m leaves inside it.number it.so) in
+    has_key s j sender standing u h it.number keys it.so ∙ another_is_not j it.number (holder_is s j t old h sender standing u c b (another j) others test apart m leaves inside it.number it.so) in
     subst (λ (v : Option Held). IsNotHolders u.registry.keys v (key_named s.keys j)) (sym m.held) differs
 
 -- it stays
@@ -160,8 +160,8 @@ open_to_others : (s : Scope) (j : ℕ) (t old : Kind) (h sender : ℕ) (standing
 open_to_others s j t old h sender standing u c holder n m so is g r apart at_g =
     ap (λ v. left_to holder any v g r) m.held ∙ left_to_each holder any old h g r
     (λ same.
-        let equal : g ≡ h = grind (arith, nat_tests) in
-        ap holder (one_registration s u h r n m.scope (subst (λ x. IsSo s u (Registration x r)) equal at_g) so) ∙ is)
+    let equal : g ≡ h = grind (arith, nat_tests) in
+    ap holder (one_registration s u h r n m.scope (subst (λ x. IsSo s u (Registration x r)) equal at_g) so) ∙ is)
     (λ differs. refl)
 
 pub tell_own_single : (hosts j : ℕ) (t old : Kind) (h sender : ℕ) (standing : Standing) (a b : Branch) → HasNumber (Preempt j t) → h ≢ sender
@@ -171,8 +171,8 @@ pub tell_own_single : (hosts j : ℕ) (t old : Kind) (h sender : ℕ) (standing 
 tell_own_single hosts j t old h sender standing a b has apart leaves_a ends_a leaves_b ends_b =
     tell hosts (Preempt j t) (held_by old h) sender standing (a ∷ b ∷ []) (each_of_two (EndsIn hosts (Preempt j t) (held_by old h) sender standing) a b ends_a ends_b)
     (λ s u c alike m.
-        let it = holder_number s j t old h sender standing u c m in
-        covers s u c m it.number it.so it.some (only j it.number) refl)
+    let it = holder_number s j t old h sender standing u c m in
+    covers s u c m it.number it.so it.some (only j it.number) refl)
   where
     covers : (s : Scope) (u : UnitState) (c : Command) → Meets s (Preempt j t) (held_by old h) sender standing u c → (n : ℕ) → IsSo s u (Registration h n) → registered n ≡ true
         → (x : Bool) → only j n ≡ x → IsCovered s sender (a ∷ b ∷ []) u
@@ -197,8 +197,8 @@ pub tell_other_single : (hosts j : ℕ) (t old : Kind) (h sender : ℕ) (standin
 tell_other_single hosts j t old h sender standing a b d has apart leaves_a ends_a leaves_b ends_b leaves_d ends_d =
     tell hosts (Preempt j t) (held_by old h) sender standing (a ∷ b ∷ d ∷ []) (each_of_three (EndsIn hosts (Preempt j t) (held_by old h) sender standing) a b d ends_a ends_b ends_d)
     (λ s u c alike m.
-        let it = holder_number s j t old h sender standing u c m in
-        covers s u c m it.number it.so it.some (only j it.number) refl (somebody_or_nobody s (Preempt j t) (held_by old h) sender standing u c (only j) m))
+    let it = holder_number s j t old h sender standing u c m in
+    covers s u c m it.number it.so it.some (only j it.number) refl (somebody_or_nobody s (Preempt j t) (held_by old h) sender standing u c (only j) m))
   where
     covers : (s : Scope) (u : UnitState) (c : Command) → Meets s (Preempt j t) (held_by old h) sender standing u c → (n : ℕ) → IsSo s u (Registration h n) → registered n ≡ true
         → (x : Bool) → only j n ≡ x → HasSomebody s u sender (Some (only j)) ⊎ HasNobody s u sender (only j) → IsCovered s sender (a ∷ b ∷ d ∷ []) u
@@ -221,9 +221,9 @@ tell_other_single hosts j t old h sender standing a b d has apart leaves_a ends_
           (record {
             registrations = λ g r away at_g. ap (λ v. left_to (another j) (but j) v g r) m.held ∙ left_to_each (another j) (but j) old h g r
                 (λ same.
-                    let equal : g ≡ h = grind (arith, nat_tests) in
-                    let number = one_registration s u h r n m.scope (subst (λ x. IsSo s u (Registration x r)) equal at_g) so in
-                    ap (another j) number ∙ is_another j n some is)
+                let equal : g ≡ h = grind (arith, nat_tests) in
+                let number = one_registration s u h r n m.scope (subst (λ x. IsSo s u (Registration x r)) equal at_g) so in
+                ap (another j) number ∙ is_another j n some is)
                 (λ differs. ap not (nobody g r away at_g));
             somebody = tt;
           });

@@ -184,7 +184,7 @@ replaced_ends s hosts j t old h held sender standing u c change has m alike is k
     let now = number_of s.hosts (Some (established t sender)) in
     let tells = told_but (not (is_kind old t)) j in
     let case : preempt_case u.registry.keys u.registry.held k ≡ ReplacesHolder old =
-        ap (λ v. preempt_case u.registry.keys v k) (m.held ∙ is) ∙ ap (λ b. if b then ReplacesHolder old else RemovesKey) (ap (λ o. is_key o k) key ∙ same_itself k) in
+    ap (λ v. preempt_case u.registry.keys v k) (m.held ∙ is) ∙ ap (λ b. if b then ReplacesHolder old else RemovesKey) (ap (λ o. is_key o k) key ∙ same_itself k) in
     good_ends s (Preempt j t) held sender standing u c None (only j) now never tells (only j) change has m (somebodys u.registry.keys h k key) refl
     (leaves change None (only j) (number_of hosts (Some (established t sender))) now never tells (only j) (ap (λ n. number_of n (Some (established t sender))) (sym alike)) does)
     (in_case s.keys s.hosts sender None (only j) now never tells (only j) u.registry k t (ReplacesHolder old) case
