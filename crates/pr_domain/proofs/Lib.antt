@@ -3,3 +3,4 @@ pub mod Images
 pub mod Leaving
 pub mod Places
 pub mod Ways
+pub mod Growing

@@ -1,7 +1,7 @@
 -- What is found of each way in which a command can end once nothing is pending for its sender, before the
 -- attentions of the owner are looked at.
 use Rattle.std.specs.Prelude.{◌≡◌, ◌≢◌, ◌⊎◌, ℕ, zero, suc, ◌+◌, ◌<◌, Bool, true, false, ◌==◌, ◌&&◌, ◌||◌, List, Option, Some, None, is_some}
-use Rattle.std.specs.List.{slice_get}
+use Rattle.std.specs.List.{slice_get, Contains}
 use Rattle.std.specs.Option.{option_map_or}
 use Rattle.pr_cdb.specs.declared.command.Command.{Command}
 use Rattle.pr_unit.specs.UnitStates.{UnitState, effect}
@@ -86,3 +86,35 @@ pub record IsRight (s : Scope) (c : Command) (tests : List Test) (view : Possibi
 pub record IsTally (v : View) (c : Command) (tests : List Test) (t : Tally) : Type 0 where
   pub all : (u : UnitState) (way : ℕ) (i : Item) → Shows v u → Leaves v.scope c tests way u i → tallied t way i ≡ true
   pub only : (way : ℕ) (i : Item) (q : ℕ) → tallied t way i ≡ true → v.pending q ≡ true → IsFound v c tests (λ u. Unit {0}) way i q
+
+-- ---- the branches of a sender, and its registrations
+
+-- what is known of each branch
+abbrev pub AreRight : Scope → Command → List Test → Possibilities → Place → Word → List Branch → ℕ → Type 0
+AreRight s c tests view place senders branches arm = (b : Branch) → Contains branches b → IsRight s c tests view place senders b arm
+
+-- the state is in the region of one of the first n branches
+pub record IsInOne (v : View) (place : Place) (senders : Word) (branches : List Branch) (n : ℕ) (u : UnitState) : Type 0 where
+  pub index : ℕ
+  pub below : index < n
+  pub branch : Branch
+  pub listed : slice_get branches index ≡ Some branch
+  pub at : IsAt v place senders branch.region u
+
+-- the reservation of the place stands, and its sender has one of the first n registrations
+pub record HasFirst (s : Scope) (place : Place) (n : ℕ) (u : UnitState) : Type 0 where
+  pub registration : ℕ
+  pub below : registration < n
+  pub reserved : IsSo s u (Reservation place.reservation)
+  pub registered : IsSo s u (Registration place.sender registration)
+
+-- the reservation of the place stands, and its sender has this registration
+pub record HasBoth (s : Scope) (place : Place) (r : ℕ) (u : UnitState) : Type 0 where
+  pub reserved : IsSo s u (Reservation place.reservation)
+  pub registered : IsSo s u (Registration place.sender r)
+
+-- one of the first n reservations stands
+pub record IsReserved (s : Scope) (n : ℕ) (u : UnitState) : Type 0 where
+  pub reservation : ℕ
+  pub below : reservation < n
+  pub reserved : IsSo s u (Reservation reservation)
