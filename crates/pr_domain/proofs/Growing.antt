@@ -1,7 +1,7 @@
 -- Tallies that grow step by step.
 use Rattle.std.proofs.Common.{◌≡◌, ◌≢◌, ◌⊎◌, ℕ, zero, suc, ◌+◌, ◌<◌, ◌≤◌, Bool, true, false, ◌==◌, List, length, Option, Some, None, refl, sym, ap, ◌∙◌, subst, inl, inr, arith}
 use Rattle.std.specs.List.{slice_get, Contains}
-use Rattle.std.proofs.lemmas.Option.{same_Some}
+use Rattle.std.proofs.lemmas.Option.{same_Some, slice_get_within, get_or_from_slice_get}
 use Rattle.std.proofs.lemmas.Bool.{cases_eq, cases_order}
 use Rattle.pr_cdb.specs.declared.command.Command.{Command}
 use Rattle.pr_unit.specs.UnitStates.{UnitState}
@@ -87,3 +87,6 @@ branches_more s c tests view place senders branches n b old mid new is first sec
         inr (subst (λ x. IsAt (view_in s view) place senders x.region u) branch one.at)
     either u one (inr other) =
         inl (record { index = one.index; below = (let e = one.below in let o : one.index < n = omega (arith, cases_order one.index n) in o); branch = one.branch; listed = one.listed; at = one.at })
+
+pub listed_there : (branches : List Branch) (n : ℕ) (b : Branch) → slice_get branches n ≡ Some b → Contains branches b
+listed_there branches n b is = (n, slice_get_within branches n b is, get_or_from_slice_get branches n b b is)

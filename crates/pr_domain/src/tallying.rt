@@ -1,6 +1,8 @@
 //! The tally of a view: how a command of its owner ends in each of the states that it shows, and what is so then.
 
-ghost use Rattle.std.specs.Prelude.{◌≡◌, ◌<◌, ◌≤◌, ◌+◌, ℕ, List, ◌==◌};
+ghost use Rattle.std.specs.Prelude.{◌≡◌, ◌<◌, ◌≤◌, ◌+◌, ℕ, List, ◌==◌, length};
+ghost use Rattle.std.specs.List.{All};
+ghost use Rattle.pr_regions.specs.declared.region.Branch.{Branch as BranchOf};
 ghost use Rattle.pr_sets.specs.Words.{has};
 ghost use Rattle.pr_cdb.specs.declared.command.Command.{Command as CommandOf};
 ghost use Rattle.pr_script.specs.declared.script.Test.{Test as TestOf};
@@ -8,7 +10,7 @@ ghost use Rattle.pr_views.specs.Possibilities.{Scope, count_of_reservations};
 ghost use Rattle.pr_views.specs.Portions.{view_in};
 ghost use Rattle.pr_regions.specs.Regions.{HasRoom};
 ghost use Rattle.pr_domain.specs.inside.Gathering.{IsAt};
-ghost use Rattle.pr_domain.specs.inside.Tallies.{Grows, IsRight};
+ghost use Rattle.pr_domain.specs.inside.Tallies.{Grows, IsRight, AreRight, IsInOne};
 
 use crate::changed::registrations_after;
 use crate::place::Place;
@@ -54,5 +56,21 @@ fn add_branch(tally: &mut Tally, view: &Possibilities, place: Place, senders: Wo
             tally.add(1, &here);
             tally.add(3 + arm, &part(after, change.reservation));
         }
+    }
+}
+
+// Adds the states of the regions of all branches.
+fn add_branches(tally: &mut Tally, view: &Possibilities, place: Place, senders: Word, branches: &[Branch], arm: usize)
+    requires hosts { (1 ≤ place.hosts) × (place.hosts ≤ 8) }
+    requires sender { place.sender < place.hosts }
+    requires reservation { place.reservation < count_of_reservations place.hosts }
+    requires room { All (λ b. HasRoom place.hosts b.ending) branches.now }
+    requires arm { arm ≤ 16 }
+    ensures { (s : Scope) (c : CommandOf) (tests : List TestOf) → AreRight s c tests view.now place senders branches.now arm → Grows (view_in s view.now) c tests tally.old tally.new (IsInOne (view_in s view.now) place senders branches.now (length branches.now)) }
+{
+    let mut i = 0;
+    while i < branches.len() {
+        add_branch(tally, view, place, senders, &branches[i], arm);
+        i += 1;
     }
 }
