@@ -2,6 +2,7 @@
 #![tactic(auto)]
 
 mod branching;
+mod commands;
 mod dispatch;
 mod endings;
 mod numbers;
@@ -11,7 +12,8 @@ mod region;
 mod unregistering;
 mod words;
 
+pub use commands::{is_refused, purpose_of, standing_of};
 pub use dispatch::branches;
-pub use numbers::reservation_number;
+pub use numbers::{reservation_at, reservation_number};
 pub use purpose::{Purpose, Standing};
 pub use region::{Branch, Change, Ending, Reading, Region};
