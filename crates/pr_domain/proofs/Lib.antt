@@ -4,3 +4,4 @@ pub mod Leaving
 pub mod Places
 pub mod Ways
 pub mod Growing
+pub mod Asked

@@ -1,6 +1,8 @@
 //! The tally of a view: how a command of its owner ends in each of the states that it shows, and what is so then.
 
-ghost use Rattle.std.specs.Prelude.{◌≡◌, ◌<◌, ◌≤◌, ◌+◌, ℕ, List, ◌==◌, length};
+ghost use Rattle.std.specs.Prelude.{◌≡◌, ◌<◌, ◌≤◌, ◌+◌, ℕ, List, ◌==◌, length, IsTrue};
+ghost use Rattle.pr_roles.specs.Fitting.{is_reservation};
+ghost use Rattle.pr_regions.specs.Purposes.{HasNumber};
 ghost use Rattle.std.specs.List.{All};
 ghost use Rattle.pr_regions.specs.declared.region.Branch.{Branch as BranchOf};
 ghost use Rattle.pr_sets.specs.Words.{has};
@@ -10,12 +12,12 @@ ghost use Rattle.pr_views.specs.Possibilities.{Scope, count_of_reservations};
 ghost use Rattle.pr_views.specs.Portions.{view_in};
 ghost use Rattle.pr_regions.specs.Regions.{HasRoom};
 ghost use Rattle.pr_domain.specs.inside.Gathering.{IsAt};
-ghost use Rattle.pr_domain.specs.inside.Tallies.{Grows, IsRight, AreRight, IsInOne};
+ghost use Rattle.pr_domain.specs.inside.Tallies.{Grows, IsRight, AreRight, IsInOne, HasBoth, IsAsked, IsRefusedAt};
 
 use crate::changed::registrations_after;
 use crate::place::Place;
 use crate::tally::Tally;
-use pr_regions::{Branch, Ending};
+use pr_regions::{Branch, Ending, Purpose, Region, branches, standing_of};
 use pr_sets::Word;
 use pr_views::Possibilities;
 
@@ -73,4 +75,41 @@ fn add_branches(tally: &mut Tally, view: &Possibilities, place: Place, senders: 
         add_branch(tally, view, place, senders, &branches[i], arm);
         i += 1;
     }
+}
+
+// Adds the states in which the sender has this registration and the command's reservation key is accepted from it.
+fn add_accepted(tally: &mut Tally, view: &Possibilities, place: Place, purpose: Purpose, arm: usize, registration: u8)
+    requires hosts { (1 ≤ place.hosts) × (place.hosts ≤ 8) }
+    requires sender { place.sender < place.hosts }
+    requires reservation { place.reservation < count_of_reservations place.hosts }
+    requires held { IsTrue (is_reservation place.hosts place.held) }
+    requires number { HasNumber purpose }
+    requires arm { arm ≤ 16 }
+    requires registration { registration ≤ 12 }
+    ensures { (s : Scope) (c : CommandOf) (tests : List TestOf) → IsAsked s c tests view.now place purpose arm registration → Grows (view_in s view.now) c tests tally.old tally.new (HasBoth s place registration) }
+{
+    let standing = standing_of(purpose, registration);
+    let branches = branches(place.hosts, purpose, place.held, place.sender, standing);
+    add_branches(tally, view, place, Word::only(registration), &branches, arm);
+}
+
+// Adds those in which its reservation key is not accepted.
+fn add_refused(tally: &mut Tally, view: &Possibilities, place: Place, registration: u8)
+    requires hosts { (1 ≤ place.hosts) × (place.hosts ≤ 8) }
+    requires sender { place.sender < place.hosts }
+    requires reservation { place.reservation < count_of_reservations place.hosts }
+    requires registration { registration ≤ 12 }
+    ensures { (s : Scope) (c : CommandOf) (tests : List TestOf) → IsRefusedAt s c view.now place registration → Grows (view_in s view.now) c tests tally.old tally.new (HasBoth s place registration) }
+{
+    let anything = Word::below(13);
+    let region = Region {
+        holder: anything,
+        others: anything,
+        somebody: None,
+    };
+    let branch = Branch {
+        region,
+        ending: Ending::Conflict,
+    };
+    add_branch(tally, view, place, Word::only(registration), &branch, 0);
 }

@@ -11,12 +11,15 @@ use Rattle.pr_unit.specs.Replies.{good, data_of}
 use Rattle.pr_script.specs.declared.script.Test.{Test}
 use Rattle.pr_sets.specs.Words.{has}
 use Rattle.pr_views.specs.declared.possibilities.Possibilities.{Possibilities}
-use Rattle.pr_views.specs.Possibilities.{Scope, Item, Registration, Reservation, Attentions, IsSo}
+use Rattle.pr_views.specs.Possibilities.{key_at, Scope, Item, Registration, Reservation, Attentions, IsSo}
 use Rattle.pr_views.specs.Views.{View, Shows}
 use Rattle.pr_views.specs.Portions.{has_at, view_in}
 use Rattle.pr_regions.specs.Readings.{first_test}
 use Rattle.pr_sets.specs.declared.word.Word.{Word}
 use Rattle.pr_regions.specs.declared.region.Branch.{Branch}
+use Rattle.pr_registry.specs.Registrations.{State}
+use Rattle.pr_regions.specs.declared.purpose.Purpose.{Purpose}
+use Rattle.pr_regions.specs.Purposes.{purpose_of, is_refused}
 use Rattle.pr_regions.specs.Regions.{Ends}
 use Rattle.pr_domain.specs.declared.place.Place.{Place}
 use Rattle.pr_domain.specs.declared.tally.Tally.{Tally}
@@ -118,3 +121,20 @@ pub record IsReserved (s : Scope) (n : ℕ) (u : UnitState) : Type 0 where
   pub reservation : ℕ
   pub below : reservation < n
   pub reserved : IsSo s u (Reservation reservation)
+
+-- ---- one registration of the sender
+
+-- What is known of the command at a place where the sender has registration r, and its reservation key is accepted:
+-- its purpose, and the arm that takes the data where it ends GOOD.
+pub record IsAsked (s : Scope) (c : Command) (tests : List Test) (view : Possibilities) (place : Place) (purpose : Purpose) (arm r : ℕ) : Type 0 where
+  pub own : place.sender ≡ s.own
+  pub is : IsPlace s view place
+  pub asks : purpose_of s.keys c ≡ Some purpose
+  pub accepted : is_refused (key_at s.keys r) c ≡ false
+  pub taken : (u : State) → first_test tests (good (data_of u c)) ≡ arm_of arm
+
+-- The reservation key of the command is not accepted from a sender with registration r.
+pub record IsRefusedAt (s : Scope) (c : Command) (view : Possibilities) (place : Place) (r : ℕ) : Type 0 where
+  pub own : place.sender ≡ s.own
+  pub is : IsPlace s view place
+  pub refused : is_refused (key_at s.keys r) c ≡ true
