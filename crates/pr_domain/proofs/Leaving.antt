@@ -298,7 +298,7 @@ pub leaf_good : (s : Scope) (c : Command) (tests : List Test) (view : Possibilit
     → Grows (view_in s view) c tests old new (IsAt (view_in s view) place senders b.region)
 leaf_good s c tests view place senders b arm way change words changed here after old mid new right ended is_way gathered beyond registrations reservations images then_registrations then_reservations first second =
     grows_good (view_in s view) c tests arm (IsAt (view_in s view) place senders b.region) old mid new here after (λ u at. at.shown)
-    (λ u at. ((done u at).0, (done u at).1, right.taken u at))
+    (λ u at. ((done u at).0, (done u at).1, right.taken u at (done u at).0))
     (part_here s view place senders b.region words here right.is gathered beyond registrations reservations)
     (part_after s c change view place senders b.region words changed after right.is right.own gathered beyond images (λ u at. (done u at).2) then_registrations then_reservations)
     first (subst (λ w. IsAdded mid w after new) is_way second)

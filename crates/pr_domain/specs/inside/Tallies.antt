@@ -83,7 +83,7 @@ pub record IsRight (s : Scope) (c : Command) (tests : List Test) (view : Possibi
   pub uniform : IsUniform senders
   pub proper : IsProper b.region
   pub ends : (u : UnitState) → IsAt (view_in s view) place senders b.region u → Ends s s.own b.ending u c
-  pub taken : (u : UnitState) → IsAt (view_in s view) place senders b.region u → first_test tests (good (data_of u.registry c)) ≡ arm_of arm
+  pub taken : (u : UnitState) → IsAt (view_in s view) place senders b.region u → command_conflicts u.registry s.own c ≡ false → first_test tests (good (data_of u.registry c)) ≡ arm_of arm
 
 -- the tally of all states that the view shows
 pub record IsTally (v : View) (c : Command) (tests : List Test) (t : Tally) : Type 0 where
