@@ -137,7 +137,7 @@ grows_fault v c tests sense At old mid new p shows faults is first second = reco
 pub grows_good : (v : View) (c : Command) (tests : List Test) (arm : ℕ) (At : UnitState → Type 0) (old mid new : Tally) (p after : Possibilities)
     → ((u : UnitState) → At u → Shows v u)
     → ((u : UnitState) → At u → (command_conflicts u.registry v.scope.own c ≡ false) × (command_fault u.registry v.scope.own c ≡ None)
-        × (first_test tests (good (data_of u.registry c)) ≡ arm_of arm))
+    × (first_test tests (good (data_of u.registry c)) ≡ arm_of arm))
     → IsPart v At (λ u. u) p → IsPart v At (λ u. effect u v.scope.own c) after → IsAdded old 1 p mid → IsAdded mid (suc (suc (suc arm))) after new → Grows v c tests old new At
 grows_good v c tests arm At old mid new p after shows done is then_is first second = record {
   kept = λ way i has. added_kept mid new (suc (suc (suc arm))) after second way i (added_kept old mid 1 p first way i has);
@@ -181,7 +181,9 @@ grows_good v c tests arm At old mid new p after shows done is then_is first seco
         let met = then_is.only i q here.1 pending in
         let same : arm ≡ n = omega (arith, here.0) in
         record {
-          unit = met.0; shown = shows met.0 met.1; among = met.1;
+          unit = met.0;
+          shown = shows met.0 met.1;
+          among = met.1;
           leaves = ((done met.0 met.1).0, (done met.0 met.1).1, (done met.0 met.1).2 ∙ ap arm_of same, met.2);
           pending = met.3;
         })

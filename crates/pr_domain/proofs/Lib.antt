@@ -1,7 +1,10 @@
+pub mod Asked
+pub mod Ending
 pub mod Gathered
+pub mod Growing
 pub mod Images
 pub mod Leaving
+pub mod Matching
 pub mod Places
+pub mod Reported
 pub mod Ways
-pub mod Growing
-pub mod Asked

@@ -3,6 +3,8 @@
 #![tactic(auto)]
 
 mod changed;
+mod arms;
+mod attentions;
 mod landing;
 mod place;
 mod tally;

@@ -1,0 +1,83 @@
+-- A step of a command is one of the ways in which it ends.
+use Rattle.std.proofs.Common.{◌≡◌, ℕ, Bool, true, false, ◌==◌, ◌||◌, Option, Some, None, refl, sym, ap, ◌∙◌, arith}
+use Rattle.std.proofs.lemmas.Bool.{or_left, or_right}
+use Rattle.std.proofs.lemmas.Bool.Decides.{nat_tests}
+use Rattle.pr_cdb.specs.declared.command.Command.{Command}
+use Rattle.pr_cdb.specs.declared.reply.Reply.{Reply}
+use Rattle.pr_cdb.specs.declared.reply.Sense.{Sense}
+use Rattle.pr_cdb.specs.declared.wire.Request.TheVariants.{Plain}
+use Rattle.pr_attention.specs.declared.attention.Attention.{Attention}
+use Rattle.pr_attention.specs.declared.attention.Attention.TheVariants.{PowerOn, ReservationsPreempted, ReservationsReleased, RegistrationsPreempted}
+use Rattle.pr_attention.specs.Attentions.{power_on, reservations_preempted, reservations_released, registrations_preempted, is_attention, code_of}
+use Rattle.pr_unit.specs.UnitStates.{UnitState, IsWellFormed, is_pending, is_any_pending, reported}
+use Rattle.pr_unit.specs.Conflicts.{command_conflicts}
+use Rattle.pr_unit.specs.Faults.{command_fault}
+use Rattle.pr_unit.specs.Replies.{report}
+use Rattle.pr_unit.specs.Steps.{Step, Reports as ReportsSome}
+use Rattle.pr_domain.specs.inside.Reporting.{How, Reports, Conflicts, Fails, EndsGood, IsReport, Ends}
+
+-- a code that is pending is one of the four
+which : (code : ℕ) → is_attention code ≡ true → (a : Attention) × (code ≡ code_of a)
+which code is = at (code == power_on) (code == reservations_preempted) (code == reservations_released) (code == registrations_preempted) refl refl refl refl is
+  where
+    at : (p q r t : Bool) → (code == power_on) ≡ p → (code == reservations_preempted) ≡ q → (code == reservations_released) ≡ r → (code == registrations_preempted) ≡ t
+        → is_attention code ≡ true → (a : Attention) × (code ≡ code_of a)
+    at true q r t p_is q_is r_is t_is is = (PowerOn, grind (arith, nat_tests))
+    at false true r t p_is q_is r_is t_is is = (ReservationsPreempted, grind (arith, nat_tests))
+    at false false true t p_is q_is r_is t_is is = (ReservationsReleased, grind (arith, nat_tests))
+    at false false false true p_is q_is r_is t_is is = (RegistrationsPreempted, grind (arith, nat_tests))
+    at false false false false p_is q_is r_is t_is is = absurd (grind (arith, nat_tests))
+
+report_ends : (u : UnitState) (h : ℕ) (c : Command) (r : Reply) (w : UnitState) → IsWellFormed u → is_pending u h power_on ≡ false → command_conflicts u.registry h c ≡ false
+    → ReportsSome u h (Plain c) r w → (how : How) × Ends how c h u r w
+report_ends u h c r w formed calm free step = by (which step.code (formed.pending h step.code step.pending).1)
+  where
+    by : (a : Attention) × (step.code ≡ code_of a) → (how : How) × Ends how c h u r w
+    by (PowerOn, same) = let wrong = ap (is_pending u h) same in let there = step.pending in cc
+    by (ReservationsPreempted, same) =
+        (Reports ReservationsPreempted, ((calm, free), (ap (is_pending u h) (sym same) ∙ step.pending, step.reply ∙ ap (report (Plain c)) same, step.after ∙ ap (reported u h) same)))
+    by (ReservationsReleased, same) =
+        (Reports ReservationsReleased, ((calm, free), (ap (is_pending u h) (sym same) ∙ step.pending, step.reply ∙ ap (report (Plain c)) same, step.after ∙ ap (reported u h) same)))
+    by (RegistrationsPreempted, same) =
+        (Reports RegistrationsPreempted, ((calm, free), (ap (is_pending u h) (sym same) ∙ step.pending, step.reply ∙ ap (report (Plain c)) same, step.after ∙ ap (reported u h) same)))
+
+pub step_ends : (u : UnitState) (h : ℕ) (c : Command) (r : Reply) (w : UnitState) → IsWellFormed u → Step u h (Plain c) r w → (how : How) × Ends how c h u r w
+step_ends u h c r w formed step = at (is_pending u h power_on) (command_conflicts u.registry h c) (is_any_pending u h) (command_fault u.registry h c) refl refl refl refl
+  where
+    at : (p q any : Bool) (f : Option Sense) → is_pending u h power_on ≡ p → command_conflicts u.registry h c ≡ q → is_any_pending u h ≡ any → command_fault u.registry h c ≡ f
+        → (how : How) × Ends how c h u r w
+    at true q any f p_is q_is any_is f_is = let s = rw p_is at step in (Reports PowerOn, (tt, (p_is, s.0, s.1)))
+    at false true any f p_is q_is any_is f_is = let s = rw (p_is, q_is) at step in (Conflicts, (p_is, q_is, s.0, s.1))
+    at false false true f p_is q_is any_is f_is = let s = rw (any_is, q_is, p_is) at step in report_ends u h c r w formed p_is q_is s
+    at false false false (Some sense) p_is q_is any_is f_is = let s = rw (any_is, f_is, q_is, p_is) at step in (Fails, (any_is, q_is, sense, f_is, s.0, s.1))
+    at false false false None p_is q_is any_is f_is = let s = rw (any_is, f_is, q_is, p_is) at step in (EndsGood, (any_is, q_is, f_is, s.0, s.1))
+
+-- one that is pending is any
+any_pending : (u : UnitState) (h : ℕ) (a : Attention) → is_pending u h (code_of a) ≡ true → is_any_pending u h ≡ true
+any_pending u h PowerOn is = or_left _ _ is
+any_pending u h ReservationsPreempted is = or_right (is_pending u h power_on) _ (or_left _ _ is)
+any_pending u h ReservationsReleased is = or_right (is_pending u h power_on) _ (or_right (is_pending u h reservations_preempted) _ (or_left _ _ is))
+any_pending u h RegistrationsPreempted is =
+    or_right (is_pending u h power_on) _ (or_right (is_pending u h reservations_preempted) _ (or_right (is_pending u h reservations_released) _ (or_left _ _ is)))
+
+-- where nothing is pending, no power on is
+pub calm_from_quiet : (u : UnitState) (h : ℕ) → is_any_pending u h ≡ false → is_pending u h power_on ≡ false
+calm_from_quiet u h quiet = at (is_pending u h power_on) refl
+  where
+    at : (b : Bool) → is_pending u h power_on ≡ b → is_pending u h power_on ≡ false
+    at true is = let wrong = any_pending u h PowerOn is in cc
+    at false is = is
+
+later_step : (u : UnitState) (h : ℕ) (c : Command) (a : Attention) (r : Reply) (w : UnitState) → is_pending u h power_on ≡ false → command_conflicts u.registry h c ≡ false
+    → IsReport c h u a r w → Step u h (Plain c) r w
+later_step u h c a r w calm free (there, reply, after) =
+    rw (any_pending u h a there, free, calm) (record { code = code_of a; pending = there; reply = reply; after = after })
+
+pub ends_step : (how : How) (u : UnitState) (h : ℕ) (c : Command) (r : Reply) (w : UnitState) → Ends how c h u r w → Step u h (Plain c) r w
+ends_step (Reports PowerOn) u h c r w ends = rw ends.1.0 (ends.1.1, ends.1.2)
+ends_step (Reports ReservationsPreempted) u h c r w ends = later_step u h c ReservationsPreempted r w ends.0.0 ends.0.1 ends.1
+ends_step (Reports ReservationsReleased) u h c r w ends = later_step u h c ReservationsReleased r w ends.0.0 ends.0.1 ends.1
+ends_step (Reports RegistrationsPreempted) u h c r w ends = later_step u h c RegistrationsPreempted r w ends.0.0 ends.0.1 ends.1
+ends_step Conflicts u h c r w ends = rw (ends.0, ends.1) (ends.2, ends.3)
+ends_step Fails u h c r w ends = rw (ends.0, ends.3, ends.1, calm_from_quiet u h ends.0) (ends.4, ends.5)
+ends_step EndsGood u h c r w ends = rw (ends.0, ends.2, ends.1, calm_from_quiet u h ends.0) (ends.3, ends.4)

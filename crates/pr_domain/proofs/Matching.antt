@@ -1,0 +1,58 @@
+-- Which test is the first that matches a reply, by the class of the reply.
+use Rattle.std.proofs.Common.{◌≡◌, ℕ, zero, suc, ◌<◌, Bool, true, false, ◌&&◌, List, [], ◌∷◌, length, get_or, refl, sym, ap, ◌∙◌, arith}
+use Rattle.std.specs.List.{All, position, position_or_len}
+use Rattle.std.proofs.lemmas.Bool.{false≢true}
+use Rattle.pr_cdb.specs.declared.reply.Sense.{Sense}
+use Rattle.pr_cdb.specs.declared.reply.Reply.{Reply}
+use Rattle.pr_script.specs.declared.script.Test.{Test}
+use Rattle.pr_script.specs.declared.script.Test.TheVariants as test
+use Rattle.pr_script.specs.Takes.{matches, is_good_status, is_conflict_status, is_check_status, is_attention, is_sense}
+use Rattle.pr_regions.specs.Readings.{first_test}
+use Rattle.pr_domain.specs.declared.landing.Class.{Class}
+use Rattle.pr_domain.specs.declared.landing.Class.TheVariants.{Good, Conflict, Sense as WithSense}
+use Rattle.pr_domain.specs.Landings.{IsClass}
+use Rattle.pr_domain.specs.inside.Reporting.{looks, takes, AreBlind}
+
+and_false : (b : Bool) → (b && false) ≡ false
+and_false true = refl
+and_false false = refl
+
+matches_good : (t : Test) (r : Reply) → IsClass r Good → looks t ≡ false → matches t r ≡ takes t Good
+matches_good test.Good r is blind = ap is_good_status is
+matches_good (test.GoodHas key) r is blind = absurd (false≢true (sym blind))
+matches_good (test.GoodHeld key) r is blind = absurd (false≢true (sym blind))
+matches_good test.GoodUnheld r is blind = absurd (false≢true (sym blind))
+matches_good test.Conflict r is blind = ap is_conflict_status is
+matches_good test.Attention r is blind = ap (λ s. is_check_status s && is_attention r.sense) is
+matches_good (test.Sense wanted) r is blind = ap (λ s. is_check_status s && is_sense r.sense wanted) is
+
+matches_conflict : (t : Test) (r : Reply) → IsClass r Conflict → matches t r ≡ takes t Conflict
+matches_conflict test.Good r is = ap is_good_status is
+matches_conflict (test.GoodHas key) r is = rw is refl
+matches_conflict (test.GoodHeld key) r is = rw is refl
+matches_conflict test.GoodUnheld r is = rw is refl
+matches_conflict test.Conflict r is = ap is_conflict_status is
+matches_conflict test.Attention r is = rw is refl
+matches_conflict (test.Sense wanted) r is = rw is refl
+
+matches_sense : (t : Test) (r : Reply) (s : Sense) → IsClass r (WithSense s) → matches t r ≡ takes t (WithSense s)
+matches_sense test.Good r s is = ap is_good_status is.0
+matches_sense (test.GoodHas key) r s is = rw is.0 refl
+matches_sense (test.GoodHeld key) r s is = rw is.0 refl
+matches_sense test.GoodUnheld r s is = rw is.0 refl
+matches_sense test.Conflict r s is = ap is_conflict_status is.0
+matches_sense test.Attention r s is = (λ i. is_check_status (is.0 i) && is_attention (is.1 i))
+matches_sense (test.Sense wanted) r s is = (λ i. is_check_status (is.0 i) && is_sense (is.1 i) wanted)
+
+-- tests that say the same of each element find the same first one
+same_count : {X : Type 0} (p q : X → Bool) (xs : List X) → ((i : ℕ) (d : X) → i < length xs → p (get_or xs i d) ≡ q (get_or xs i d)) → position_or_len p xs ≡ position_or_len q xs
+same_count p q [] same = refl
+same_count p q (x ∷ xs) same = rw (same 0 x (omega arith), same_count p q xs (λ i d there. same (suc i) d (omega arith))) refl
+
+same_first : {X : Type 0} (p q : X → Bool) (xs : List X) → All (λ x. p x ≡ q x) xs → position p xs ≡ position q xs
+same_first p q xs same = rw (same_count p q xs same) refl
+
+pub first_of_class : (tests : List Test) (class : Class) (r : Reply) → IsClass r class → AreBlind tests class → first_test tests r ≡ position (λ t. takes t class) tests
+first_of_class tests Good r is blind = same_first (λ t. matches t r) (λ t. takes t Good) tests (λ i d there. matches_good _ r is (blind i d there))
+first_of_class tests Conflict r is blind = same_first (λ t. matches t r) (λ t. takes t Conflict) tests (λ i d there. matches_conflict _ r is)
+first_of_class tests (WithSense s) r is blind = same_first (λ t. matches t r) (λ t. takes t (WithSense s)) tests (λ i d there. matches_sense _ r s is)

@@ -1,0 +1,22 @@
+use Rattle.std.proofs.Common.{◌&&◌, false, ap, sym, ◌∙◌}
+use Rattle.std.specs.FinSet as set
+use Rattle.pr_attention.specs.Attentions.{code_of}
+use Rattle.pr_attention.specs.Flagged.{codes_of}
+use Rattle.pr_sets.specs.Words.{has}
+use Rattle.pr_domain.proofs.Reported.{reported_more, reported_skips, neither_first, neither_second}
+use Rattle.pr_domain.proofs.attentions.after_report.Goals.{then-has+then-is_among, else-has, else-has-via-then-has+else-is_among, else-has-via-else-has}
+use Rattle.pr_domain.proofs.attentions.after_report.Goals as goal
+
+pub loop-attentions-preserved : goal.loop-attentions-preserved
+loop-attentions-preserved c =
+    elim c.if-has.branch [
+      | then-has+then-is_among w ↦ reported_more c.loop-attentions.attentions c.args.pending c.args.attention c.loop-attentions.left c.if-has.left w.without.result
+          c.loop-attentions.invariant (sym c.has.ensures ∙ w.if-has.true)
+          (w.without.ensures.few, sym w.is_among.ensures ∙ w.if-is_among.true, w.without.ensures.codes)
+          (λ n. ap (λ x. has x n) w.left-is ∙ w.with-left.ensures n)
+      | else-has w ↦ reported_skips c.loop-attentions.attentions c.args.pending c.args.attention c.if-has.left (rw w.left-is c.loop-attentions.invariant)
+          (elim w.else-has.branch [
+            | else-has-via-then-has+else-is_among w' ↦ neither_second (has c.args.pending c.loop-attentions.attentions) _ (sym w'.is_among.ensures ∙ w'.if-is_among.false)
+            | else-has-via-else-has w' ↦ neither_first _ _ (sym c.has.ensures ∙ w'.if-has.false)
+          ])
+    ]

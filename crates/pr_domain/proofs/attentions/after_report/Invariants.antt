@@ -1,0 +1,5 @@
+use Rattle.pr_domain.specs.inside.Reporting.{AreReported}
+use Rattle.pr_domain.proofs.attentions.after_report.Given as goal
+
+abbrev pub invariant-loop-attentions : goal.invariant-loop-attentions
+invariant-loop-attentions l = AreReported l.attentions l.pending l.attention l.left

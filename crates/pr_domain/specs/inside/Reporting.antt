@@ -1,0 +1,150 @@
+-- What is found of each landing, and where the possibilities of a landing come from.
+use Rattle.std.specs.Prelude.{◌≡◌, ◌↔◌, ◌⊎◌, ℕ, ◌<◌, Bool, true, false, ◌==◌, List, Option, Some, None}
+use Rattle.std.specs.FinSet as set
+use Rattle.std.specs.List.{All, slice_get}
+use Rattle.pr_cdb.specs.declared.command.Command.{Command}
+use Rattle.pr_cdb.specs.declared.reply.Reply.{Reply}
+use Rattle.pr_cdb.specs.declared.reply.Sense.{Sense}
+use Rattle.pr_cdb.specs.declared.wire.Request.TheVariants.{Plain}
+use Rattle.pr_attention.specs.declared.attention.Attention.{Attention}
+use Rattle.pr_attention.specs.Attentions.{power_on, code_of}
+use Rattle.pr_attention.specs.Flagged.{codes_of}
+use Rattle.pr_attention.specs.declared.attention.Attention.TheVariants.{PowerOn, ReservationsPreempted, ReservationsReleased, RegistrationsPreempted}
+use Rattle.pr_unit.specs.UnitStates.{UnitState, is_pending, is_any_pending, effect, reported}
+use Rattle.pr_unit.specs.Conflicts.{command_conflicts}
+use Rattle.pr_unit.specs.Faults.{command_fault}
+use Rattle.pr_unit.specs.Replies.{good, check, conflict, report, data_of}
+use Rattle.pr_script.specs.declared.script.Test.{Test}
+use Rattle.pr_script.specs.declared.script.Test.TheVariants as test
+use Rattle.pr_script.specs.Takes.{is_attention, is_sense}
+use Rattle.pr_sets.specs.declared.word.Word.{Word}
+use Rattle.pr_sets.specs.Numbers.{Numbers}
+use Rattle.pr_sets.specs.Words.{has}
+use Rattle.pr_views.specs.declared.possibilities.Possibilities.{Possibilities}
+use Rattle.pr_views.specs.declared.view.ViewOf.{ViewOf}
+use Rattle.pr_views.specs.Possibilities.{Scope, Item, IsSo, count_of_attentions}
+use Rattle.pr_views.specs.Views.{View, IsPossible, Shows}
+use Rattle.pr_views.specs.Portions.{view_in}
+use Rattle.pr_views.specs.Rooms.{view_of, IsMade}
+use Rattle.pr_domain.specs.declared.landing.Landing.{Landing}
+use Rattle.pr_domain.specs.declared.landing.Class.{Class}
+use Rattle.pr_domain.specs.declared.landing.Class.TheVariants.{Good, Conflict, Sense as WithSense}
+use Rattle.pr_domain.specs.Landings.{IsLanding}
+
+-- ---- the arm for a reply whose data no test looks at
+
+-- the test looks at the data of a reply
+abbrev pub looks : Test → Bool
+looks test.Good = false
+looks (test.GoodHas key) = true
+looks (test.GoodHeld key) = true
+looks test.GoodUnheld = true
+looks test.Conflict = false
+looks test.Attention = false
+looks (test.Sense wanted) = false
+
+abbrev pub is_good_class : Class → Bool
+is_good_class Good = true
+is_good_class Conflict = false
+is_good_class (WithSense sense) = false
+
+abbrev pub is_conflict_class : Class → Bool
+is_conflict_class Good = false
+is_conflict_class Conflict = true
+is_conflict_class (WithSense sense) = false
+
+abbrev pub sense_of : Class → Option Sense
+sense_of Good = None
+sense_of Conflict = None
+sense_of (WithSense sense) = Some sense
+
+-- whether the test matches the replies of the class, where it does not look at their data
+abbrev pub takes : Test → Class → Bool
+takes test.Good class = is_good_class class
+takes (test.GoodHas key) class = false
+takes (test.GoodHeld key) class = false
+takes test.GoodUnheld class = false
+takes test.Conflict class = is_conflict_class class
+takes test.Attention class = is_attention (sense_of class)
+takes (test.Sense wanted) class = is_sense (sense_of class) wanted
+
+-- none of the tests looks at the data of a reply of the class
+abbrev pub AreBlind : List Test → Class → Type 0
+AreBlind tests Good = All (λ t. looks t ≡ false) tests
+AreBlind tests Conflict = Unit {0}
+AreBlind tests (WithSense sense) = Unit {0}
+
+-- ---- attentions after a report
+
+-- once this attention of them was reported, those are left
+abbrev pub IsAfter : ℕ → Attention → ℕ → Type 0
+IsAfter q a n = (n < count_of_attentions) × (set.contains (codes_of q) (code_of a) ≡ true) × (codes_of n ≡ set.remove (codes_of q) (code_of a))
+
+-- what is left of those below the bound of which it is one
+pub record AreReported (bound : ℕ) (pending : Word) (a : Attention) (left : Word) : Type 0 where
+  pub all : (q n : ℕ) → q < bound → has pending q ≡ true → IsAfter q a n → has left n ≡ true
+  pub only : (n : ℕ) → has left n ≡ true → (q : ℕ) × (q < bound) × (has pending q ≡ true) × IsAfter q a n
+
+-- ---- outcomes
+
+-- some outcome has this landing and this possibility
+abbrev pub HasOutcome : {S : Type 0} → (S → Numbers) → ℕ → List (Landing × ViewOf S) → Landing → Item → Type 0
+HasOutcome {S = S} members own outcomes l i =
+    (k : ℕ) × (v : ViewOf S) × (slice_get outcomes k ≡ Some (l, v)) × IsPossible (view_of members own v) i
+
+-- Each view is made, is of these keys and so many hosts and guests, and has some possibility; each landing stands
+-- once.
+pub record AreKept {S : Type 0} (members : S → Numbers) (room : S → ℕ) (hosts : ℕ) (keys : List ℕ) (outcomes : List (Landing × ViewOf S)) : Type 0 where
+  pub made : (k : ℕ) (l : Landing) (v : ViewOf S) → slice_get outcomes k ≡ Some (l, v) → IsMade room v
+  pub alike : (k : ℕ) (l : Landing) (v : ViewOf S) → slice_get outcomes k ≡ Some (l, v) → (v.keys.items ≡ keys) × (v.hosts ≡ hosts)
+  pub come : (own k : ℕ) (l : Landing) (v : ViewOf S) → slice_get outcomes k ≡ Some (l, v) → (i : Item) × IsPossible (view_of members own v) i
+  pub once : (j k : ℕ) (l : Landing) (v w : ViewOf S) → slice_get outcomes j ≡ Some (l, v) → slice_get outcomes k ≡ Some (l, w) → j ≡ k
+
+-- the new outcomes have what the old ones have, and this
+abbrev pub AreMore : {S : Type 0} → (S → Numbers) → ℕ → List (Landing × ViewOf S) → (Landing → Item → Type 0) → List (Landing × ViewOf S) → Type 0
+AreMore members own old This new =
+    (l : Landing) (i : Item) → HasOutcome members own new l i ↔ (HasOutcome members own old l i ⊎ This l i)
+
+-- ---- where they come from
+
+-- how a command ends: by the report of an attention, in a conflict, at fault, or GOOD with its effect
+pub data How : Type 0 where
+  Reports : Attention → How
+  Conflicts : How
+  Fails : How
+  EndsGood : How
+
+-- the attention is reported, and is pending no more
+abbrev pub IsReport : Command → ℕ → UnitState → Attention → Reply → UnitState → Type 0
+IsReport c h u a r w = (is_pending u h (code_of a) ≡ true) × (r ≡ report (Plain c) (code_of a)) × (w ≡ reported u h (code_of a))
+
+-- it is so after power on, and else where there is no conflict
+abbrev pub MayReport : Command → ℕ → UnitState → Attention → Type 0
+MayReport c h u PowerOn = Unit {0}
+MayReport c h u ReservationsPreempted = (is_pending u h power_on ≡ false) × (command_conflicts u.registry h c ≡ false)
+MayReport c h u ReservationsReleased = (is_pending u h power_on ≡ false) × (command_conflicts u.registry h c ≡ false)
+MayReport c h u RegistrationsPreempted = (is_pending u h power_on ≡ false) × (command_conflicts u.registry h c ≡ false)
+
+-- in state u the command of h ends so, with this reply, and then the state is w
+abbrev pub Ends : How → Command → ℕ → UnitState → Reply → UnitState → Type 0
+Ends (Reports a) c h u r w = MayReport c h u a × IsReport c h u a r w
+Ends Conflicts c h u r w = (is_pending u h power_on ≡ false) × (command_conflicts u.registry h c ≡ true) × (r ≡ conflict) × (w ≡ u)
+Ends Fails c h u r w = (is_any_pending u h ≡ false) × (command_conflicts u.registry h c ≡ false) × (s : Sense) × (command_fault u.registry h c ≡ Some s) × (r ≡ check s) × (w ≡ u)
+Ends EndsGood c h u r w = (is_any_pending u h ≡ false) × (command_conflicts u.registry h c ≡ false) × (command_fault u.registry h c ≡ None) × (r ≡ good (data_of u.registry c)) × (w ≡ effect u h c)
+
+-- from a shown state the owner's command ends so, with this landing, and this is so after it
+pub record LandsBy (v : View) (c : Command) (tests : List Test) (how : How) (l : Landing) (i : Item) : Type 0 where
+  pub from : UnitState
+  pub shown : Shows v from
+  pub reply : Reply
+  pub after : UnitState
+  pub ends : Ends how c v.scope.own from reply after
+  pub landing : IsLanding tests reply l
+  pub is : IsSo v.scope after i
+
+-- a possibility of registrations and reservation as one way to end leaves them, and of these attentions, where
+-- there is some of each
+pub record IsOfWay (s : Scope) (way : Possibilities) (pending : Word) (i : Item) : Type 0 where
+  pub reserved : (x : ℕ) × (has way.reservations x ≡ true)
+  pub pends : (q : ℕ) × (has pending q ≡ true)
+  pub possible : IsPossible (view_in s (record way { pending = pending })) i
