@@ -8,3 +8,4 @@ pub mod Matching
 pub mod Places
 pub mod Reported
 pub mod Ways
+pub mod Walking

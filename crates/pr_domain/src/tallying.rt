@@ -1,6 +1,9 @@
 //! The tally of a view: how a command of its owner ends in each of the states that it shows, and what is so then.
 
-ghost use Rattle.std.specs.Prelude.{◌≡◌, ◌<◌, ◌≤◌, ◌+◌, ℕ, List, ◌==◌, length, IsTrue};
+ghost use Rattle.std.specs.Prelude.{◌≡◌, ◌<◌, ◌≤◌, ◌+◌, ℕ, List, ◌==◌, length, IsTrue, true};
+ghost use Rattle.pr_script.specs.Grammar.{is_written, test_fits};
+ghost use Rattle.pr_views.specs.Possibilities.{key_at};
+ghost use Rattle.pr_roles.specs.Fitting.{AreDeclared};
 ghost use Rattle.pr_roles.specs.Fitting.{is_reservation};
 ghost use Rattle.pr_regions.specs.Purposes.{HasNumber};
 ghost use Rattle.std.specs.List.{All};
@@ -12,12 +15,18 @@ ghost use Rattle.pr_views.specs.Possibilities.{Scope, count_of_reservations};
 ghost use Rattle.pr_views.specs.Portions.{view_in};
 ghost use Rattle.pr_regions.specs.Regions.{HasRoom};
 ghost use Rattle.pr_domain.specs.inside.Gathering.{IsAt};
-ghost use Rattle.pr_domain.specs.inside.Tallies.{Grows, IsRight, AreRight, IsInOne, HasBoth, IsAsked, IsRefusedAt};
+ghost use Rattle.pr_domain.specs.inside.Tallies.{Grows, IsRight, AreRight, IsInOne, HasBoth, HasFirst, IsReserved, IsAsked, IsRefusedAt, IsOwners, IsOfScope, IsTally};
 
+use crate::arms::first_arm;
 use crate::changed::registrations_after;
+use crate::landing::Class;
 use crate::place::Place;
 use crate::tally::Tally;
-use pr_regions::{Branch, Ending, Purpose, Region, branches, standing_of};
+use pr_cdb::Command;
+use pr_regions::{
+    Branch, Ending, Purpose, Region, branches, is_refused, purpose_of, reservation_at, standing_of,
+};
+use pr_script::Test;
 use pr_sets::Word;
 use pr_views::Possibilities;
 
@@ -112,4 +121,87 @@ fn add_refused(tally: &mut Tally, view: &Possibilities, place: Place, registrati
         ending: Ending::Conflict,
     };
     add_branch(tally, view, place, Word::only(registration), &branch, 0);
+}
+
+// The key of a registration.
+fn key_at(keys: &[u64], registration: u8) -> Option<u64>
+    ensures { result ≡ key_at keys.now registration }
+{
+    if registration == 0 {
+        return None;
+    }
+    keys.get(usize::from(registration - 1)).copied()
+}
+
+// Adds the states in which the sender has this registration.
+fn add_registration(tally: &mut Tally, view: &Possibilities, place: Place, keys: &[u64], command: Command, tests: &[Test], registration: u8)
+    requires hosts { (1 ≤ place.hosts) × (place.hosts ≤ 8) }
+    requires sender { place.sender < place.hosts }
+    requires reservation { place.reservation < count_of_reservations place.hosts }
+    requires held { IsTrue (is_reservation place.hosts place.held) }
+    requires keys { AreDeclared keys.now }
+    requires written { IsTrue (is_written keys.now command) }
+    requires tests { All (λ t. test_fits keys.now command t ≡ true) tests.now }
+    requires few { length tests.now ≤ 16 }
+    requires registration { registration ≤ length keys.now }
+    ensures { (s : Scope) → IsOwners s keys.now view.now place → Grows (view_in s view.now) command tests.now tally.old tally.new (HasBoth s place registration) }
+{
+    if is_refused(key_at(keys, registration), command) {
+        add_refused(tally, view, place, registration);
+    } else {
+        let arm = first_arm(tests, Class::Good).map_or(0, |arm| arm + 1);
+        add_accepted(tally, view, place, purpose_of(command, keys), arm, registration);
+    }
+}
+
+// Adds the states under one reservation.
+fn add_place(tally: &mut Tally, view: &Possibilities, place: Place, keys: &[u64], command: Command, tests: &[Test])
+    requires hosts { (1 ≤ place.hosts) × (place.hosts ≤ 8) }
+    requires sender { place.sender < place.hosts }
+    requires reservation { place.reservation < count_of_reservations place.hosts }
+    requires held { IsTrue (is_reservation place.hosts place.held) }
+    requires keys { AreDeclared keys.now }
+    requires few_keys { length keys.now ≤ 12 }
+    requires written { IsTrue (is_written keys.now command) }
+    requires tests { All (λ t. test_fits keys.now command t ≡ true) tests.now }
+    requires few { length tests.now ≤ 16 }
+    ensures { (s : Scope) → IsOwners s keys.now view.now place → Grows (view_in s view.now) command tests.now tally.old tally.new (HasFirst s place (length keys.now + 1)) }
+{
+    let registrations = keys.len() as u8 + 1;
+    let possible = view.registrations[usize::from(place.sender)];
+    let mut registration = 0;
+    while registration < registrations {
+        if possible.has(registration) {
+            add_registration(tally, view, place, keys, command, tests, registration);
+        }
+        registration += 1;
+    }
+}
+
+/// How the owner's command ends in each of the states that the view shows, and what is so then.
+pub(crate) fn tally(view: &Possibilities, keys: &[u64], hosts: u8, own: u8, command: Command, tests: &[Test]) -> Tally
+    requires hosts { (1 ≤ hosts) × (hosts ≤ 8) }
+    requires own { own < hosts }
+    requires keys { AreDeclared keys.now }
+    requires few_keys { length keys.now ≤ 12 }
+    requires written { IsTrue (is_written keys.now command) }
+    requires tests { All (λ t. test_fits keys.now command t ≡ true) tests.now }
+    requires few { length tests.now ≤ 16 }
+    ensures { (s : Scope) → IsOfScope s hosts own keys.now view.now → IsTally (view_in s view.now) command tests.now result }
+{
+    let mut tally = Tally::none();
+    let mut reservation = 0;
+    while reservation < hosts * 4 + 3 {
+        if view.reservations.has(reservation) {
+            let place = Place {
+                hosts,
+                sender: own,
+                reservation,
+                held: reservation_at(hosts, reservation),
+            };
+            add_place(&mut tally, view, place, keys, command, tests);
+        }
+        reservation += 1;
+    }
+    tally
 }

@@ -12,7 +12,7 @@ use Rattle.pr_script.specs.declared.script.Test.{Test}
 use Rattle.pr_sets.specs.Words.{has}
 use Rattle.pr_views.specs.declared.possibilities.Possibilities.{Possibilities}
 use Rattle.pr_views.specs.Possibilities.{key_at, Scope, Item, Registration, Reservation, Attentions, IsSo}
-use Rattle.pr_views.specs.Views.{View, Shows}
+use Rattle.pr_views.specs.Views.{View, Shows, Fits}
 use Rattle.pr_views.specs.Portions.{has_at, view_in}
 use Rattle.pr_regions.specs.Readings.{first_test}
 use Rattle.pr_sets.specs.declared.word.Word.{Word}
@@ -138,3 +138,18 @@ pub record IsRefusedAt (s : Scope) (c : Command) (view : Possibilities) (place :
   pub own : place.sender ≡ s.own
   pub is : IsPlace s view place
   pub refused : is_refused (key_at s.keys r) c ≡ true
+
+-- ---- one reservation
+
+-- the place is one of this scope's owner, who sends the command, and the keys are the scope's
+pub record IsOwners (s : Scope) (keys : List ℕ) (view : Possibilities) (place : Place) : Type 0 where
+  pub own : place.sender ≡ s.own
+  pub same_keys : s.keys ≡ keys
+  pub is : IsPlace s view place
+
+-- the possibilities are a view of this scope, of these hosts and guests and keys
+pub record IsOfScope (s : Scope) (hosts own : ℕ) (keys : List ℕ) (view : Possibilities) : Type 0 where
+  pub same_hosts : s.hosts ≡ hosts
+  pub same_own : s.own ≡ own
+  pub same_keys : s.keys ≡ keys
+  pub fits : Fits (view_in s view)
