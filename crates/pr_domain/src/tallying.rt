@@ -1,6 +1,6 @@
 //! The tally of a view: how a command of its owner ends in each of the states that it shows, and what is so then.
 
-ghost use Rattle.std.specs.Prelude.{◌≡◌, ◌<◌, ◌≤◌, ◌+◌, ℕ, List, ◌==◌, length, IsTrue, true};
+ghost use Rattle.std.specs.Prelude.{◌≡◌, ◌<◌, ◌≤◌, ◌+◌, ℕ, List, ◌==◌, length, IsTrue, true, IfSome, IfNone};
 ghost use Rattle.pr_script.specs.Grammar.{is_written, test_fits};
 ghost use Rattle.pr_views.specs.Possibilities.{key_at};
 ghost use Rattle.pr_roles.specs.Fitting.{AreDeclared};
@@ -15,7 +15,7 @@ ghost use Rattle.pr_views.specs.Possibilities.{Scope, count_of_reservations};
 ghost use Rattle.pr_views.specs.Portions.{view_in};
 ghost use Rattle.pr_regions.specs.Regions.{HasRoom};
 ghost use Rattle.pr_domain.specs.inside.Gathering.{IsAt};
-ghost use Rattle.pr_domain.specs.inside.Tallies.{Grows, IsRight, AreRight, IsInOne, HasBoth, HasFirst, IsReserved, IsAsked, IsRefusedAt, IsOwners, IsOfScope, IsTally};
+ghost use Rattle.pr_domain.specs.inside.Tallies.{Grows, IsRight, AreRight, IsInOne, HasBoth, HasFirst, IsReserved, IsAsked, IsRefusedAt, IsOwners, IsOfScope, IsTally, IsRightReading, AreRightReadings, IsReadAt, IsReadFirst, way_of};
 
 use crate::arms::first_arm;
 use crate::changed::registrations_after;
@@ -24,7 +24,8 @@ use crate::place::Place;
 use crate::tally::Tally;
 use pr_cdb::Command;
 use pr_regions::{
-    Branch, Ending, Purpose, Region, branches, is_refused, purpose_of, reservation_at, standing_of,
+    Branch, Change, Ending, Purpose, Reading, Region, branches, is_refused, purpose_of, readings,
+    reservation_at, standing_of,
 };
 use pr_script::Test;
 use pr_sets::Word;
@@ -123,6 +124,57 @@ fn add_refused(tally: &mut Tally, view: &Possibilities, place: Place, registrati
     add_branch(tally, view, place, Word::only(registration), &branch, 0);
 }
 
+// The way of GOOD with the data taken by this arm, of at most 16.
+fn way_of(arm: Option<usize>) -> usize
+    ensures few { result ≤ 16 }
+    ensures way { IfSome arm (λ n. n < 16) → result ≡ way_of arm }
+    ensures none { IfNone arm (result ≡ 0) }
+{
+    match arm {
+        Some(n) if n < 16 => n + 1,
+        _ => 0,
+    }
+}
+
+// Adds the states in which this arm takes the data, in which nothing changes.
+fn add_reading(tally: &mut Tally, view: &Possibilities, place: Place, registration: u8, reading: &Reading)
+    requires hosts { (1 ≤ place.hosts) × (place.hosts ≤ 8) }
+    requires sender { place.sender < place.hosts }
+    requires reservation { place.reservation < count_of_reservations place.hosts }
+    requires registration { registration ≤ 12 }
+    ensures { (s : Scope) (c : CommandOf) (tests : List TestOf) → IsRightReading s c tests view.now place registration reading.now → Grows (view_in s view.now) c tests tally.old tally.new (IsReadAt s view.now place registration reading.now) }
+{
+    let none = Word::none();
+    let change = Change {
+        sender: None,
+        removed: none,
+        reservation: place.reservation,
+        told_03: none,
+        told_04: none,
+        told_05: none,
+    };
+    let branch = Branch {
+        region: reading.region,
+        ending: Ending::Good(change),
+    };
+    add_branch(tally, view, place, Word::only(registration), &branch, way_of(reading.arm));
+}
+
+// Adds those of all readings.
+fn add_readings(tally: &mut Tally, view: &Possibilities, place: Place, registration: u8, readings: &[Reading])
+    requires hosts { (1 ≤ place.hosts) × (place.hosts ≤ 8) }
+    requires sender { place.sender < place.hosts }
+    requires reservation { place.reservation < count_of_reservations place.hosts }
+    requires registration { registration ≤ 12 }
+    ensures { (s : Scope) (c : CommandOf) (tests : List TestOf) → AreRightReadings s c tests view.now place registration readings.now → Grows (view_in s view.now) c tests tally.old tally.new (IsReadFirst s view.now place registration readings.now (length readings.now)) }
+{
+    let mut i = 0;
+    while i < readings.len() {
+        add_reading(tally, view, place, registration, &readings[i]);
+        i += 1;
+    }
+}
+
 // The key of a registration.
 fn key_at(keys: &[u64], registration: u8) -> Option<u64>
     ensures { result ≡ key_at keys.now registration }
@@ -148,8 +200,11 @@ fn add_registration(tally: &mut Tally, view: &Possibilities, place: Place, keys:
 {
     if is_refused(key_at(keys, registration), command) {
         add_refused(tally, view, place, registration);
+    } else if matches!(command, Command::ReadKeys { .. } | Command::ReadReservation { .. }) {
+        let readings = readings(tests, command, keys, place.held, place.hosts, place.sender, registration);
+        add_readings(tally, view, place, registration, &readings);
     } else {
-        let arm = first_arm(tests, Class::Good).map_or(0, |arm| arm + 1);
+        let arm = way_of(first_arm(tests, Class::Good));
         add_accepted(tally, view, place, purpose_of(command, keys), arm, registration);
     }
 }

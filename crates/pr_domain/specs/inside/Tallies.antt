@@ -1,6 +1,6 @@
 -- What is found of each way in which a command can end once nothing is pending for its sender, before the
 -- attentions of the owner are looked at.
-use Rattle.std.specs.Prelude.{◌≡◌, ◌≢◌, ◌⊎◌, ℕ, zero, suc, ◌+◌, ◌<◌, Bool, true, false, ◌==◌, ◌&&◌, ◌||◌, List, Option, Some, None, is_some}
+use Rattle.std.specs.Prelude.{◌≡◌, ◌≢◌, ◌⊎◌, ℕ, zero, suc, ◌+◌, ◌<◌, ◌≤◌, length, Bool, true, false, ◌==◌, ◌&&◌, ◌||◌, List, Option, Some, None, is_some}
 use Rattle.std.specs.List.{slice_get, Contains}
 use Rattle.std.specs.Option.{option_map_or}
 use Rattle.pr_cdb.specs.declared.command.Command.{Command}
@@ -17,10 +17,11 @@ use Rattle.pr_views.specs.Portions.{has_at, view_in}
 use Rattle.pr_regions.specs.Readings.{first_test}
 use Rattle.pr_sets.specs.declared.word.Word.{Word}
 use Rattle.pr_regions.specs.declared.region.Branch.{Branch}
+use Rattle.pr_regions.specs.declared.region.Reading.{Reading}
 use Rattle.pr_registry.specs.Registrations.{State}
 use Rattle.pr_regions.specs.declared.purpose.Purpose.{Purpose}
 use Rattle.pr_regions.specs.Purposes.{purpose_of, is_refused}
-use Rattle.pr_regions.specs.Regions.{Ends}
+use Rattle.pr_regions.specs.Regions.{Ends, IsInRegion, IsUntestedOrRegistered}
 use Rattle.pr_domain.specs.declared.place.Place.{Place}
 use Rattle.pr_domain.specs.declared.tally.Tally.{Tally}
 use Rattle.pr_domain.specs.inside.Gathering.{IsPlace, IsUniform, IsProper, IsAt}
@@ -72,6 +73,10 @@ pub record Grows (v : View) (c : Command) (tests : List Test) (old new : Tally) 
   pub kept : (way : ℕ) (i : Item) → tallied old way i ≡ true → tallied new way i ≡ true
   pub all : (u : UnitState) (way : ℕ) (i : Item) → Shows v u → Among u → Leaves v.scope c tests way u i → tallied new way i ≡ true
   pub only : (way : ℕ) (i : Item) (q : ℕ) → tallied new way i ≡ true → v.pending q ≡ true → (tallied old way i ≡ true) ⊎ IsFound v c tests Among way i q
+
+-- what is so before is so after
+abbrev pub LeavesAll : Scope → UnitState → UnitState → Type 0
+LeavesAll s u v = (i : Item) → IsSo s u i → IsSo s v i
 
 -- ---- one branch
 
@@ -153,3 +158,31 @@ pub record IsOfScope (s : Scope) (hosts own : ℕ) (keys : List ℕ) (view : Pos
   pub same_own : s.own ≡ own
   pub same_keys : s.keys ≡ keys
   pub fits : Fits (view_in s view)
+
+-- ---- the arms that take the data of READ KEYS and READ RESERVATION
+
+-- the state is in the reading's region, and its sender has registration r
+abbrev pub IsReadAt : Scope → Possibilities → Place → ℕ → Reading → UnitState → Type 0
+IsReadAt s view place r reading u = HasBoth s place r u × IsInRegion s place.sender reading.region u
+
+-- the state is so of one of the first n readings
+pub record IsReadFirst (s : Scope) (view : Possibilities) (place : Place) (r : ℕ) (readings : List Reading) (n : ℕ) (u : UnitState) : Type 0 where
+  pub index : ℕ
+  pub below : index < n
+  pub reading : Reading
+  pub listed : slice_get readings index ≡ Some reading
+  pub at : IsReadAt s view place r reading u
+
+-- What is known of a reading: the command only looks, and where the sender has registration r its data is taken by
+-- the arm that the reading names.
+pub record IsRightReading (s : Scope) (c : Command) (tests : List Test) (view : Possibilities) (place : Place) (r : ℕ) (b : Reading) : Type 0 where
+  pub own : place.sender ≡ s.own
+  pub is : IsPlace s view place
+  pub few : length tests ≤ 16
+  pub proper : IsUntestedOrRegistered b.region.somebody
+  pub looks : (u : UnitState) → Shows (view_in s view) u → HasBoth s place r u
+      → (command_conflicts u.registry s.own c ≡ false) × (command_fault u.registry s.own c ≡ None) × LeavesAll s u (effect u s.own c)
+  pub taken : (u : UnitState) → Shows (view_in s view) u → IsReadAt s view place r b u → first_test tests (good (data_of u.registry c)) ≡ b.arm
+
+abbrev pub AreRightReadings : Scope → Command → List Test → Possibilities → Place → ℕ → List Reading → Type 0
+AreRightReadings s c tests view place r readings = (b : Reading) → Contains readings b → IsRightReading s c tests view place r b
