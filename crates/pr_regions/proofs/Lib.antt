@@ -12,3 +12,4 @@ pub mod Leaving
 pub mod Keyed
 pub mod Choosing
 pub mod Holding
+pub mod Contents

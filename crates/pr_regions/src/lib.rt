@@ -5,6 +5,7 @@ mod branching;
 mod commands;
 mod dispatch;
 mod endings;
+mod key_reads;
 mod numbers;
 mod preempting;
 mod purpose;
