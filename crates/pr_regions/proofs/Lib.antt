@@ -13,3 +13,4 @@ pub mod Keyed
 pub mod Choosing
 pub mod Holding
 pub mod Contents
+pub mod Asked
