@@ -14,3 +14,4 @@ pub mod Choosing
 pub mod Holding
 pub mod Contents
 pub mod Asked
+pub mod Arms

@@ -15,8 +15,8 @@ use Rattle.pr_views.specs.Possibilities.{Scope, IsScope, Registration, IsSo}
 use Rattle.pr_views.specs.Portions.{HasSomebody}
 use Rattle.pr_regions.specs.declared.region.Region.{Region}
 use Rattle.pr_regions.specs.declared.region.Reading.{Reading}
-use Rattle.pr_regions.specs.declared.key_reads.Asked.{Asked}
-use Rattle.pr_regions.specs.declared.key_reads.Asked.TheVariants.{Always, Never, Somebody}
+use Rattle.pr_regions.specs.declared.key_reads.Ask.{Ask}
+use Rattle.pr_regions.specs.declared.key_reads.Ask.TheVariants.{Always, Never, Somebody}
 use Rattle.pr_regions.specs.Regions.{IsInRegion}
 use Rattle.pr_regions.specs.Readings.{first_test, IsRead}
 use Rattle.pr_regions.specs.inside.Parts.{only}
@@ -43,12 +43,18 @@ HasNobody s u sender passes = (g r : ℕ) → g ≢ sender → IsSo s u (Registr
 -- ---- READ KEYS
 
 -- it matches in every known state; in none; or in those in which another has the key of this number
-abbrev pub IsAsked : List ℕ → ℕ → Option Held → ℕ → ℕ → Command → Test → Asked → Type 0
+abbrev pub IsAsked : List ℕ → ℕ → Option Held → ℕ → ℕ → Command → Test → Ask → Type 0
 IsAsked keys hosts held sender own c t Always = (s : Scope) (u : UnitState) → IsKnown keys hosts held sender own s u → matches t (answer u c) ≡ true
 IsAsked keys hosts held sender own c t Never = (s : Scope) (u : UnitState) → IsKnown keys hosts held sender own s u → matches t (answer u c) ≡ false
 IsAsked keys hosts held sender own c t (Somebody j) =
     ((s : Scope) (u : UnitState) → IsKnown keys hosts held sender own s u → HasSomebody s u sender (Some (only j)) → matches t (answer u c) ≡ true)
     × ((s : Scope) (u : UnitState) → IsKnown keys hosts held sender own s u → HasNobody s u sender (only j) → matches t (answer u c) ≡ false)
+
+-- the number that it asks for is one of a key
+abbrev pub HasFewer : Ask → Type 0
+HasFewer Always = Unit {0}
+HasFewer Never = Unit {0}
+HasFewer (Somebody j) = j ≤ 12
 
 -- the region in which all others have one of these registrations
 abbrev pub open_to : Word → Region
