@@ -15,3 +15,4 @@ pub mod Holding
 pub mod Contents
 pub mod Asked
 pub mod Arms
+pub mod Reserved

@@ -98,7 +98,7 @@ pub fn purpose_of(command: Command, keys: &[u64]) -> Purpose
 }
 
 // Whether this is the key.
-fn is_key(key: Option<u64>, rk: u64) -> bool
+pub(crate) fn is_key(key: Option<u64>, rk: u64) -> bool
     ensures { result ≡ is_key key rk }
 {
     match key {

@@ -10,6 +10,7 @@ mod numbers;
 mod preempting;
 mod purpose;
 mod region;
+mod reservation_reads;
 mod unregistering;
 mod words;
 

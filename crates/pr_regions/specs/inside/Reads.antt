@@ -1,9 +1,11 @@
 -- What the functions that say which arm takes data keep.
 use Rattle.std.specs.Prelude.{◌≡◌, ◌≢◌, ◌⊎◌, ℕ, ◌<◌, ◌≤◌, Bool, true, false, ◌==◌, List, length, Option, Some, None, is_none, slice_index_or}
 use Rattle.std.specs.List.{Contains}
+use Rattle.pr_cdb.specs.declared.command.Kind.{Kind}
 use Rattle.pr_cdb.specs.declared.command.Command.{Command}
 use Rattle.pr_cdb.specs.declared.reply.Reply.{Reply}
 use Rattle.pr_registry.specs.declared.held.Held.{Held}
+use Rattle.pr_registry.specs.declared.held.Held.TheVariants.{One}
 use Rattle.pr_registry.specs.Hosts.{is_key}
 use Rattle.pr_unit.specs.UnitStates.{UnitState, IsWellFormed}
 use Rattle.pr_unit.specs.Replies.{good, data_of}
@@ -79,3 +81,11 @@ passes_held key test.GoodUnheld = is_none key
 passes_held key test.Conflict = false
 passes_held key test.Attention = false
 passes_held key (test.Sense sense) = false
+
+-- Of the first keys each reading is of the states in which the holder has one, and names the arm that takes the
+-- data.
+pub record AreHeldSoFar (keys : List ℕ) (hosts : ℕ) (kind : Kind) (holder sender own : ℕ) (c : Command) (tests : List Test) (count : ℕ) (readings : List Reading) : Type 0 where
+  pub covered : (s : Scope) (u : UnitState) (n : ℕ) → IsKnown keys hosts (Some (One kind holder)) sender own s u → IsSo s u (Registration holder n) → 1 ≤ n → n ≤ count
+      → IsRead s sender readings u
+  pub right : (s : Scope) (u : UnitState) (b : Reading) → IsKnown keys hosts (Some (One kind holder)) sender own s u → Contains readings b → IsInRegion s sender b.region u
+      → first_test tests (answer u c) ≡ b.arm
