@@ -106,7 +106,7 @@ read_everywhere keys hosts held sender own tests key b fit leaves arm is =
       inside = in_region s u sender b.region any any None (few_keys s.keys known.scope.keys) leaves (record { registrations = λ g r apart so. everyone u.registry.held g r; somebody = tt });
     })
     (λ s u x known there inside.
-        first_found keys u tests key known.formed.registry fit (is s u known) ∙ sym arm ∙ ap (λ (y : Reading). y.arm) (alone x there))
+    first_found keys u tests key known.formed.registry fit (is s u known) ∙ sym arm ∙ ap (λ (y : Reading). y.arm) (alone x there))
   where
     alone : (x : Reading) → Contains (b ∷ []) x → b ≡ x
     alone x (zero, small, same) = same
@@ -126,3 +126,107 @@ key_of_sender keys hosts held kind h sender own is same s u known =
     ap (λ v. option_map (λ r. r.0) (reservation u.registry.keys v)) (known.held ∙ is)
     ∙ ap (λ g. Some (unwrap_or (key_of u.registry g) 0)) same
     ∙ ap (λ o. Some (unwrap_or o 0)) (known.sender.2 ∙ ap (λ l. key_at l own) known.keys)
+
+-- ---- by the holder's key
+
+-- another host holds it alone
+abbrev pub held_by : Kind → ℕ → Option Held
+held_by kind h = Some (One kind h)
+
+-- the holder's registration is a key's
+pub record HasHeld (s : Scope) (h : ℕ) (u : UnitState) : Type 0 where
+  pub number : ℕ
+  pub so : IsSo s u (Registration h number)
+  pub some : 1 ≤ number
+
+held_number : (keys : List ℕ) (hosts : ℕ) (kind : Kind) (h sender own : ℕ) (s : Scope) (u : UnitState) → IsKnown keys hosts (held_by kind h) sender own s u → HasHeld s h u
+held_number keys hosts kind h sender own s u known =
+    at (key_of u.registry h) refl (subst (λ (v : Option Held). HasHolder u.registry.keys v) known.held known.formed.registry.held).1
+  where
+    positive : (n : ℕ) → registered n ≡ true → 1 ≤ n
+    positive zero is = absurd (false≢true is)
+    positive (suc i) is = omega arith
+
+    at : (o : Option ℕ) → key_of u.registry h ≡ o → IsTrue (is_some (key_of u.registry h)) → HasHeld s h u
+    at None is there = absurd (false≢true (sym (ap is_some is) ∙ there))
+    at (Some k) is there =
+        let it = known.numbered h (subst (λ n. h < n) known.registry (known.formed.registry.keys h k is).0) in
+        record { number = it.0; so = it.1; some = positive it.0 (sym (is_registered-number s.keys u.registry h it.0 (record { known = it.1.1; key = it.1.2 })) ∙ there) }
+
+same_itself : (h : ℕ) → (h == h) ≡ true
+same_itself h = grind (arith, nat_tests)
+
+-- where the holder has the number n, whoever is left n to it is in the region
+holder_in_region : (keys : List ℕ) (hosts : ℕ) (kind : Kind) (h sender own : ℕ) (s : Scope) (u : UnitState) (n : ℕ) → IsKnown keys hosts (held_by kind h) sender own s u → IsSo s u (Registration h n)
+    → (g r : ℕ) → g ≢ sender → IsSo s u (Registration g r) → left_to (only n) any u.registry.held g r ≡ true
+holder_in_region keys hosts kind h sender own s u n known so g r apart at_g =
+    ap (λ v. left_to (only n) any v g r) known.held ∙ by_place (h == g) refl
+  where
+    by_place : (b : Bool) → (h == g) ≡ b → (if h == g then only n r else any r) ≡ true
+    by_place true is =
+        let same : g ≡ h = grind (arith, nat_tests) in
+        let number : r ≡ n = one_registration s u h r n known.scope (subst (λ x. IsSo s u (Registration x r)) same at_g) so in
+        ap (λ b. if b then only n r else any r) is ∙ ap (only n) number ∙ same_itself n
+    by_place false is = ap (λ b. if b then only n r else any r) is
+
+pub held_start : (keys : List ℕ) (hosts : ℕ) (kind : Kind) (h sender own : ℕ) (c : Command) (tests : List Test) → AreHeldSoFar keys hosts kind h sender own c tests 0 []
+held_start keys hosts kind h sender own c tests = record {
+  covered = λ s u n known so some none. absurd (omega arith);
+  right = λ s u b known there inside. let none = there.1 in absurd (omega arith);
+}
+
+-- the arm of a state in which the holder has the key at i
+held_arm : (keys : List ℕ) (hosts : ℕ) (kind : Kind) (h sender own : ℕ) (tests : List Test) (i key : ℕ) (s : Scope) (u : UnitState) → Fit keys tests → i < length keys → key ≡ get_or keys i key
+    → IsKnown keys hosts (held_by kind h) sender own s u → IsSo s u (Registration h (suc i)) → first_test tests (answer u (ReadReservation written_length)) ≡ position (passes_held (Some key)) tests
+held_arm keys hosts kind h sender own tests i key s u fit small is known so =
+    let there : key_of u.registry h ≡ Some key = so.2 ∙ ap (λ l. key_at l (suc i)) known.keys ∙ slice_get-get_or keys i key small ∙ ap Some (sym is) in
+    first_found keys u tests (Some key) known.formed.registry fit
+    (ap (λ v. option_map (λ r. r.0) (reservation u.registry.keys v)) known.held ∙ ap (λ o. Some (unwrap_or o 0)) there)
+
+pub held_more : (keys : List ℕ) (hosts : ℕ) (kind : Kind) (h sender own : ℕ) (tests : List Test) (i key : ℕ) (readings : List Reading) (b : Reading) → Fit keys tests → i < length keys → key ≡ get_or keys i key → h ≢ sender
+    → Leaves b.region (only (i + 1)) any None → b.arm ≡ position (passes_held (Some key)) tests
+    → AreHeldSoFar keys hosts kind h sender own (ReadReservation written_length) tests i readings
+    → AreHeldSoFar keys hosts kind h sender own (ReadReservation written_length) tests (i + 1) (readings ++ b ∷ [])
+held_more keys hosts kind h sender own tests i key readings b fit small is apart leaves arm so_far = record {
+  covered = λ s u n known so some few. by_number s u n known so some few (eqb_tells n (i + 1));
+  right = λ s u x known there inside. by_place s u x known inside (last_or_before readings b x there);
+}
+  where
+    by_number : (s : Scope) (u : UnitState) (n : ℕ) → IsKnown keys hosts (held_by kind h) sender own s u → IsSo s u (Registration h n) → 1 ≤ n → n ≤ i + 1
+        → (((n == i + 1) ≡ true) × (n ≡ i + 1)) ⊎ (((n == i + 1) ≡ false) × (n ≢ i + 1)) → IsRead s sender (readings ++ b ∷ []) u
+    by_number s u n known so some few (inl same) = record {
+      reading = b;
+      listed = Contains-push readings b;
+      inside = in_region s u sender b.region (only (i + 1)) any None (few_keys s.keys known.scope.keys) leaves (record {
+        registrations = holder_in_region keys hosts kind h sender own s u (i + 1) known (subst (λ m. IsSo s u (Registration h m)) same.1 so);
+        somebody = tt;
+      });
+    }
+    by_number s u n known so some few (inr other) =
+        let differs = other.1 in
+        let old = so_far.covered s u n known so some (omega arith) in
+        record { reading = old.reading; listed = still_there readings b old.reading old.listed; inside = old.inside }
+
+    by_place : (s : Scope) (u : UnitState) (x : Reading) → IsKnown keys hosts (held_by kind h) sender own s u → IsInRegion s sender x.region u → Contains readings x ⊎ (b ≡ x)
+        → first_test tests (answer u (ReadReservation written_length)) ≡ x.arm
+    by_place s u x known inside (inl there) = so_far.right s u x known there inside
+    by_place s u x known inside (inr same) =
+        let here : IsInRegion s sender b.region u = subst (λ (y : Reading). IsInRegion s sender y.region u) (sym same) inside in
+        let it = held_number keys hosts kind h sender own s u known in
+        let there = from_region s u sender b.region (only (i + 1)) any None (few_keys s.keys known.scope.keys) leaves here in
+        let fits : only (i + 1) it.number ≡ true =
+        sym (ap (λ b. if b then only (i + 1) it.number else any it.number) (same_itself h)) ∙ sym (ap (λ v. left_to (only (i + 1)) any v h it.number) known.held) ∙ there.registrations h it.number apart it.so in
+        let number : it.number ≡ suc i = grind (arith, nat_tests) in
+        held_arm keys hosts kind h sender own tests i key s u fit small is known (subst (λ m. IsSo s u (Registration h m)) number it.so) ∙ sym arm ∙ ap (λ (y : Reading). y.arm) same
+
+pub held_all : (keys : List ℕ) (hosts : ℕ) (kind : Kind) (h sender own : ℕ) (tests : List Test) (count : ℕ) (readings : List Reading) → count ≡ length keys
+    → AreHeldSoFar keys hosts kind h sender own (ReadReservation written_length) tests count readings
+    → AreReadings keys hosts tests (ReadReservation written_length) (held_by kind h) sender own readings
+held_all keys hosts kind h sender own tests count readings all so_far =
+    are_readings keys hosts (held_by kind h) sender own (ReadReservation written_length) tests readings
+    (λ s u known.
+    let it = held_number keys hosts kind h sender own s u known in
+    let few = it.so.1 in
+    let same = ap length known.keys in
+    so_far.covered s u it.number known it.so it.some (omega arith))
+    (λ s u b known there inside. so_far.right s u b known there inside)

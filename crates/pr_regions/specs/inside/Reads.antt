@@ -1,5 +1,5 @@
 -- What the functions that say which arm takes data keep.
-use Rattle.std.specs.Prelude.{◌≡◌, ◌≢◌, ◌⊎◌, ℕ, ◌<◌, ◌≤◌, Bool, true, false, ◌==◌, List, length, Option, Some, None, is_none, slice_index_or}
+use Rattle.std.specs.Prelude.{◌≡◌, ◌≢◌, ◌⊎◌, ℕ, ◌<◌, ◌≤◌, Bool, true, false, ◌==◌, List, [], ◌∷◌, length, Option, Some, None, is_none, slice_index_or}
 use Rattle.std.specs.List.{Contains}
 use Rattle.pr_cdb.specs.declared.command.Kind.{Kind}
 use Rattle.pr_cdb.specs.declared.command.Command.{Command}
@@ -21,7 +21,7 @@ use Rattle.pr_regions.specs.declared.key_reads.Ask.{Ask}
 use Rattle.pr_regions.specs.declared.key_reads.Ask.TheVariants.{Always, Never, Somebody}
 use Rattle.pr_regions.specs.Regions.{IsInRegion}
 use Rattle.pr_regions.specs.Readings.{first_test, IsRead}
-use Rattle.pr_regions.specs.inside.Parts.{only}
+use Rattle.pr_regions.specs.inside.Parts.{any, only, Leaves}
 
 -- what is known of the states whose data is read
 pub record IsKnown (declared : List ℕ) (count : ℕ) (reserved : Option Held) (from own : ℕ) (s : Scope) (u : UnitState) : Type 0 where
@@ -89,3 +89,10 @@ pub record AreHeldSoFar (keys : List ℕ) (hosts : ℕ) (kind : Kind) (holder se
       → IsRead s sender readings u
   pub right : (s : Scope) (u : UnitState) (b : Reading) → IsKnown keys hosts (Some (One kind holder)) sender own s u → Contains readings b → IsInRegion s sender b.region u
       → first_test tests (answer u c) ≡ b.arm
+
+-- the only reading is of all states, and has this arm
+pub record IsEverywhere (taken : Option ℕ) (readings : List Reading) : Type 0 where
+  pub reading : Reading
+  pub alone : readings ≡ reading ∷ []
+  pub whole : Leaves reading.region any any None
+  pub arm : reading.arm ≡ taken
