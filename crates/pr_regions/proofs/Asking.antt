@@ -117,7 +117,7 @@ pub record IsAsked (keys : List ℕ) (u : State) (h : ℕ) (p : Purpose) (confli
 
 -- ---- numbers of keys
 
-number_named : (keys : List ℕ) (k n : ℕ) → number_in keys k ≡ n → 1 ≤ n → (n ≤ length keys) × (key_at keys n ≡ Some k)
+pub number_named : (keys : List ℕ) (k n : ℕ) → number_in keys k ≡ n → 1 ≤ n → (n ≤ length keys) × (key_at keys n ≡ Some k)
 number_named keys k n is some = at (position (λ key. key == k) keys) n refl is some
   where
     at : (place : Option ℕ) (n : ℕ) → position (λ key. key == k) keys ≡ place → option_map_or suc place 0 ≡ n → 1 ≤ n → (n ≤ length keys) × (key_at keys n ≡ Some k)

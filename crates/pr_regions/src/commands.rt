@@ -21,7 +21,7 @@ fn place_in(keys: &[u64], key: u64) -> Option<usize>
 }
 
 // The number of a declared key, from 1.
-fn number_in(keys: &[u64], key: u64) -> u8
+pub(crate) fn number_in(keys: &[u64], key: u64) -> u8
     requires { length keys.now ≤ 12 }
     ensures number { result ≡ number_in keys.now key }
     ensures most { result ≤ 12 }
@@ -98,7 +98,7 @@ pub fn purpose_of(command: Command, keys: &[u64]) -> Purpose
 }
 
 // Whether this is the key.
-fn is_key(key: Option<u64>, rk: u64) -> bool
+pub(crate) fn is_key(key: Option<u64>, rk: u64) -> bool
     ensures { result ≡ is_key key rk }
 {
     match key {

@@ -5,10 +5,12 @@ mod branching;
 mod commands;
 mod dispatch;
 mod endings;
+mod key_reads;
 mod numbers;
 mod preempting;
 mod purpose;
 mod region;
+mod reservation_reads;
 mod unregistering;
 mod words;
 
