@@ -24,7 +24,7 @@ use crate::place::Place;
 use crate::tally::Tally;
 use pr_cdb::Command;
 use pr_regions::{
-    Branch, Change, Ending, Purpose, Reading, Region, branches, is_refused, purpose_of, readings,
+    Branch, Change, Ending, Purpose, Reading, Region, branches, is_refused, purpose_of,
     reservation_at, standing_of,
 };
 use pr_script::Test;

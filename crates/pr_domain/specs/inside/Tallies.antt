@@ -18,6 +18,9 @@ use Rattle.pr_regions.specs.Readings.{first_test}
 use Rattle.pr_sets.specs.declared.word.Word.{Word}
 use Rattle.pr_regions.specs.declared.region.Branch.{Branch}
 use Rattle.pr_regions.specs.declared.region.Reading.{Reading}
+use Rattle.pr_regions.specs.declared.region.Change.{Change}
+use Rattle.pr_regions.specs.declared.region.Ending.TheVariants as ending
+use Rattle.pr_regions.specs.inside.Parts.{Does, never}
 use Rattle.pr_registry.specs.Registrations.{State}
 use Rattle.pr_regions.specs.declared.purpose.Purpose.{Purpose}
 use Rattle.pr_regions.specs.Purposes.{purpose_of, is_refused}
@@ -73,10 +76,6 @@ pub record Grows (v : View) (c : Command) (tests : List Test) (old new : Tally) 
   pub kept : (way : ℕ) (i : Item) → tallied old way i ≡ true → tallied new way i ≡ true
   pub all : (u : UnitState) (way : ℕ) (i : Item) → Shows v u → Among u → Leaves v.scope c tests way u i → tallied new way i ≡ true
   pub only : (way : ℕ) (i : Item) (q : ℕ) → tallied new way i ≡ true → v.pending q ≡ true → (tallied old way i ≡ true) ⊎ IsFound v c tests Among way i q
-
--- what is so before is so after
-abbrev pub LeavesAll : Scope → UnitState → UnitState → Type 0
-LeavesAll s u v = (i : Item) → IsSo s u i → IsSo s v i
 
 -- ---- one branch
 
@@ -180,8 +179,8 @@ pub record IsRightReading (s : Scope) (c : Command) (tests : List Test) (view : 
   pub is : IsPlace s view place
   pub few : length tests ≤ 16
   pub proper : IsUntestedOrRegistered b.region.somebody
-  pub looks : (u : UnitState) → Shows (view_in s view) u → HasBoth s place r u
-      → (command_conflicts u.registry s.own c ≡ false) × (command_fault u.registry s.own c ≡ None) × LeavesAll s u (effect u s.own c)
+  pub looks : (change : Change) → Does change None never place.reservation never never never → (u : UnitState) → Shows (view_in s view) u → HasBoth s place r u
+      → Ends s s.own (ending.Good change) u c
   pub taken : (u : UnitState) → Shows (view_in s view) u → IsReadAt s view place r b u → first_test tests (good (data_of u.registry c)) ≡ b.arm
 
 abbrev pub AreRightReadings : Scope → Command → List Test → Possibilities → Place → ℕ → List Reading → Type 0
