@@ -56,7 +56,7 @@ IsAsked keys hosts held sender own c t (Somebody j) =
 abbrev pub HasFewer : Ask → Type 0
 HasFewer Always = Unit {0}
 HasFewer Never = Unit {0}
-HasFewer (Somebody j) = j ≤ 12
+HasFewer (Somebody j) = (1 ≤ j) × (j ≤ 12)
 
 -- the region in which all others have one of these registrations
 abbrev pub open_to : Word → Region
