@@ -1,8 +1,4 @@
-use Rattle.std.proofs.Common.{◌≡◌, ◌≢◌, ◌≤◌, ap, sym, ◌∙◌, refl, arith, true, false, subst, Some}
-use Rattle.pr_cdb.specs.declared.command.Command.TheVariants.{ReadKeys}
-use Rattle.pr_script.specs.declared.script.Test.{Test}
-use Rattle.pr_script.specs.declared.script.Test.TheVariants.{GoodHas}
-use Rattle.pr_script.specs.Grammar.{test_fits, written_length}
+use Rattle.std.proofs.Common.{◌≡◌, ◌≢◌, ◌≤◌, sym, arith, subst}
 use Rattle.pr_regions.specs.Purposes.{number_in}
 use Rattle.pr_regions.proofs.Asking.{declared_number}
 use Rattle.pr_regions.proofs.Asked.{always_there, there_with_somebody, not_there_with_nobody}

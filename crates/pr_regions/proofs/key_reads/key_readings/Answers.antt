@@ -1,10 +1,10 @@
-use Rattle.std.proofs.Common.{ℕ, Option, ◌≡◌, ◌<◌, ◌+◌, length, ap, ◌∙◌, sym, [], ◌∷◌, ◌++◌, length-append, arith}
+use Rattle.std.proofs.Common.{◌<◌, length, ◌∙◌, length-append, arith}
 use Rattle.std.proofs.lemmas.List.Elements.{All-push}
 use Rattle.pr_cdb.specs.declared.command.Command.TheVariants.{ReadKeys}
 use Rattle.pr_script.specs.Grammar.{written_length}
 use Rattle.pr_regions.specs.Readings.{IsProperReading}
 use Rattle.pr_regions.proofs.Choosing.{none_is_not}
-use Rattle.pr_regions.proofs.Arms.{read_alike, so_far_start, so_far_skip, so_far_more, read_always, read_by_none}
+use Rattle.pr_regions.proofs.Arms.{read_alike, so_far_skip, so_far_more, read_always, read_by_none}
 use Rattle.pr_regions.proofs.key_reads.key_readings.Goals as goal
 use Rattle.pr_regions.proofs.key_reads.key_readings.Goals.{in-Never, in-Somebody}
 

@@ -1,4 +1,4 @@
-use Rattle.std.proofs.Common.{◌≡◌, ◌<◌, length, [], ◌∷◌, ◌++◌, length-append, refl, arith}
+use Rattle.std.proofs.Common.{◌<◌, length, length-append, arith}
 use Rattle.std.proofs.lemmas.List.Elements.{All-push}
 use Rattle.pr_regions.specs.Readings.{IsProperReading}
 use Rattle.pr_regions.proofs.Covering.{untested}
