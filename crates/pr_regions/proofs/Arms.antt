@@ -1,7 +1,7 @@
 -- Which arm takes the data of READ KEYS, one arm after another.
-use Rattle.std.proofs.Common.{◌≡◌, ◌≢◌, ℕ, zero, suc, ◌+◌, ◌≤◌, ◌<◌, Bool, true, false, ◌==◌, ◌&&◌, not, nat_lt, cond, if◌then◌else◌, List, [], ◌∷◌, ◌++◌, length, get_or, Option, Some, None, option_map, refl, sym, ap, ◌∙◌, subst, inl, inr, ◌⊎◌, arith, length-append}
-use Rattle.std.specs.List.{All, Contains, position, position_or_len}
-use Rattle.std.proofs.lemmas.Bool.{false≢true, and_parts}
+use Rattle.std.proofs.Common.{◌≡◌, ◌≢◌, ℕ, zero, suc, ◌+◌, ◌≤◌, ◌<◌, Bool, true, false, ◌==◌, ◌&&◌, not, nat_lt, cond, if◌then◌else◌, List, [], ◌∷◌, ◌++◌, length, get_or, Option, Some, None, refl, sym, ap, ◌∙◌, subst, inl, inr, ◌⊎◌, arith, length-append}
+use Rattle.std.specs.List.{Contains, position}
+use Rattle.std.proofs.lemmas.Bool.{and_parts}
 use Rattle.std.proofs.lemmas.Bool.Decides.{nat_tests, eqb_tells}
 use Rattle.std.proofs.lemmas.List.Sums.{position_or_len_is}
 use Rattle.std.proofs.lemmas.List.Elements.{Contains-push}
@@ -17,13 +17,12 @@ use Rattle.pr_views.specs.Possibilities.{Scope, IsScope, Registration, IsSo}
 use Rattle.pr_views.specs.Portions.{HasSomebody}
 use Rattle.pr_regions.specs.declared.region.Region.{Region}
 use Rattle.pr_regions.specs.declared.region.Reading.{Reading}
-use Rattle.pr_regions.specs.declared.key_reads.Ask.{Ask}
 use Rattle.pr_regions.specs.declared.key_reads.Ask.TheVariants.{Always, Never, Somebody}
 use Rattle.pr_regions.specs.Regions.{filter_of, IsInRegion}
 use Rattle.pr_regions.specs.Readings.{first_test, IsRead, AreReadings}
 use Rattle.pr_regions.specs.inside.Parts.{HasThose, any, only}
 use Rattle.pr_regions.specs.inside.Reads.{IsKnown, answer, HasNobody, IsAsked, open_to, AreReadSoFar}
-use Rattle.pr_regions.proofs.Unique.{few_keys, one_registration}
+use Rattle.pr_regions.proofs.Unique.{few_keys}
 use Rattle.pr_regions.proofs.Covering.{somebody_or_none}
 
 -- ---- lists

@@ -1,13 +1,13 @@
 -- What a test of READ KEYS asks of the others' registrations.
-use Rattle.std.proofs.Common.{◌≡◌, ◌≢◌, ℕ, ◌≤◌, ◌<◌, Bool, true, false, ◌==◌, ◌&&◌, List, length, Option, Some, None, refl, sym, ap, ◌∙◌, subst, inl, inr, ◌⊎◌, arith}
-use Rattle.std.proofs.lemmas.Bool.{false≢true, and_parts}
+use Rattle.std.proofs.Common.{◌≡◌, ◌≢◌, ℕ, ◌≤◌, ◌<◌, true, false, ◌==◌, List, length, Option, Some, refl, sym, ap, ◌∙◌, subst, inl, inr, ◌⊎◌, arith}
+use Rattle.std.proofs.lemmas.Bool.{false≢true}
 use Rattle.std.proofs.lemmas.Bool.Decides.{nat_tests, eqb_tells}
 use Rattle.pr_cdb.specs.declared.command.Command.TheVariants.{ReadKeys}
 use Rattle.pr_registry.specs.declared.held.Held.{Held}
 use Rattle.pr_registry.specs.Registrations.{key_of}
 use Rattle.pr_unit.specs.UnitStates.{UnitState}
 use Rattle.pr_script.specs.declared.script.Test.TheVariants.{GoodHas}
-use Rattle.pr_script.specs.Grammar.{is_declared, is_read_keys, test_fits, written_length}
+use Rattle.pr_script.specs.Grammar.{test_fits, written_length}
 use Rattle.pr_script.specs.Takes.{matches}
 use Rattle.pr_views.specs.Possibilities.{Scope, Registration, IsSo, key_at}
 use Rattle.pr_views.specs.Portions.{HasSomebody}

@@ -1,5 +1,5 @@
 -- What each purpose does in a state, whichever command asks for it.
-use Rattle.std.proofs.Common.{◌≡◌, ◌≢◌, ℕ, zero, suc, ◌+◌, ◌<◌, ◌≤◌, Bool, true, false, ◌==◌, ◌&&◌, ◌||◌, not, nat_lt, nat_le, cond, if◌then◌else◌, List, [], ◌∷◌, length, Option, Some, None, is_some, option_map, unwrap_or, get_or, refl, sym, ap, ◌∙◌, subst, inl, inr, ◌⊎◌, arith}
+use Rattle.std.proofs.Common.{◌≡◌, ℕ, suc, ◌+◌, ◌<◌, ◌≤◌, Bool, true, false, ◌==◌, ◌&&◌, ◌||◌, not, nat_lt, nat_le, cond, if◌then◌else◌, List, [], ◌∷◌, length, Option, Some, None, is_some, unwrap_or, get_or, refl, sym, ap, ◌∙◌, subst, arith}
 use Rattle.std.specs.List.{position, position_or_len, list_any}
 use Rattle.std.specs.Option.{option_map_or}
 use Rattle.std.specs.List.{slice_get}
@@ -15,7 +15,7 @@ use Rattle.pr_cdb.specs.declared.reply.Sense.{Sense}
 use Rattle.pr_registry.specs.declared.change.Change.{Change}
 use Rattle.pr_registry.specs.Hosts.{is_nobodys, is_key}
 use Rattle.pr_registry.specs.Registrations.{State, key_of, is_registered}
-use Rattle.pr_registry.specs.Changes.{no_change, is_in_the_way, is_held_by_all, preempt_case, is_replacing, change_on_unregister, change_on_release, change_on_clear, change_on_preempt}
+use Rattle.pr_registry.specs.Changes.{no_change, is_in_the_way, is_held_by_all, change_on_unregister, change_on_release, change_on_clear, change_on_preempt}
 use Rattle.pr_registry.specs.Effects.{registered, unregistered, reserved, released, cleared, preempted, after, change, after_register, change_on_register}
 use Rattle.pr_unit.specs.Conflicts.{access_conflicts, reading, writing, is_wrong_key, preempt_conflicts, command_conflicts}
 use Rattle.pr_unit.specs.Faults.{illegal, release_fault, capacity, range_fault, preempt_fault, command_fault}

@@ -1,5 +1,5 @@
 -- The branches of a command that preempts a key.
-use Rattle.std.proofs.Common.{◌≡◌, ◌≢◌, ℕ, zero, suc, ◌≤◌, ◌<◌, Bool, true, false, ◌==◌, ◌&&◌, ◌||◌, not, if◌then◌else◌, List, [], ◌∷◌, length, Option, Some, None, is_some, refl, sym, ap, ◌∙◌, subst, inl, inr, ◌⊎◌, arith}
+use Rattle.std.proofs.Common.{◌≡◌, ◌≢◌, ℕ, ◌≤◌, Bool, true, false, ◌==◌, ◌&&◌, ◌||◌, not, if◌then◌else◌, [], ◌∷◌, Option, Some, None, is_some, refl, sym, ap, ◌∙◌, subst, inl, inr, ◌⊎◌, arith}
 use Rattle.std.specs.FinMap as map
 use Rattle.std.proofs.lemmas.Bool.{false≢true}
 use Rattle.std.proofs.lemmas.Bool.Decides.{nat_tests, eqb_tells}
@@ -8,7 +8,7 @@ use Rattle.pr_cdb.specs.declared.command.Command.{Command}
 use Rattle.pr_registry.specs.declared.held.Held.{Held}
 use Rattle.pr_registry.specs.declared.held.Held.TheVariants.{One, All}
 use Rattle.pr_registry.specs.Hosts.{Keys, without, hosts_with, is_key, is_empty}
-use Rattle.pr_registry.specs.Registrations.{State, HasHolder, key_of, is_registered, established}
+use Rattle.pr_registry.specs.Registrations.{key_of, is_registered, established}
 use Rattle.pr_registry.specs.Changes.{is_kind, is_held_by_all}
 use Rattle.pr_registry.specs.Effects.{held_by_rest}
 use Rattle.pr_unit.specs.UnitStates.{UnitState}
@@ -20,13 +20,12 @@ use Rattle.pr_regions.specs.declared.region.Branch.{Branch}
 use Rattle.pr_regions.specs.declared.purpose.Purpose.TheVariants.{Preempt}
 use Rattle.pr_regions.specs.declared.purpose.Standing.{Standing}
 use Rattle.pr_regions.specs.Purposes.{HasNumber}
-use Rattle.pr_regions.specs.Regions.{Meets, IsInRegion, Ends, IsCovered, HasRoom}
-use Rattle.pr_regions.specs.inside.Parts.{any, never, registered, only, but, another, free_or, told_but, lost_if, is_named, IsNotAnothers, Leaves, Does, AlwaysEnds, EndsIn, Tell}
+use Rattle.pr_regions.specs.Regions.{Meets, IsCovered, HasRoom}
+use Rattle.pr_regions.specs.inside.Parts.{any, never, only, but, another, free_or, told_but, lost_if, is_named, IsNotAnothers, Leaves, Does, AlwaysEnds, EndsIn, Tell}
 use Rattle.pr_regions.proofs.Unique.{few_keys, is_some-key_at}
 use Rattle.pr_regions.proofs.Asking.{key_named}
-use Rattle.pr_regions.proofs.Acting.{Is}
 use Rattle.pr_regions.proofs.Meeting.{sender_of}
-use Rattle.pr_regions.proofs.Covering.{left_to, everyone, IsThere, in_region, from_region, HasNobody, somebody_or_nobody, each_of_two, each_of_three, untested, tested, tell}
+use Rattle.pr_regions.proofs.Covering.{left_to, everyone, in_region, from_region, HasNobody, somebody_or_nobody, each_of_two, untested, tested, tell}
 use Rattle.pr_regions.proofs.Keyed.{HasKeys, keys_of, has_key, key_is, number_or_none, none_left, number_left, sender_left, rest_stays, IsNotHolders, replaced_ends, removed_ends, nobody_ends}
 
 -- ---- tests

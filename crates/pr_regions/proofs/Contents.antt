@@ -1,5 +1,5 @@
 -- The data of READ KEYS and READ RESERVATION, read back.
-use Rattle.std.proofs.Common.{◌≡◌, ◌≢◌, ℕ, zero, suc, ◌+◌, ◌*◌, ◌≤◌, ◌<◌, ◌^◌, Bool, true, false, ◌==◌, ◌&&◌, ◌||◌, nat_lt, nat_le, if◌then◌else◌, List, [], ◌∷◌, ◌++◌, length, take, slice_index, Option, Some, None, unwrap_or, refl, sym, ap, ◌∙◌, subst, inl, inr, ◌⊎◌, arith, add-one, length-append, lit<}
+use Rattle.std.proofs.Common.{◌≡◌, ◌≢◌, ℕ, zero, suc, ◌+◌, ◌*◌, ◌≤◌, ◌<◌, ◌^◌, Bool, true, false, ◌==◌, ◌||◌, nat_lt, nat_le, if◌then◌else◌, List, [], ◌∷◌, ◌++◌, length, slice_index, Option, Some, None, refl, sym, ap, ◌∙◌, inl, inr, ◌⊎◌, arith, add-one, length-append, lit<}
 use Rattle.std.specs.Int.{w32, w64, to_be_bytes}
 use Rattle.std.specs.FinMap as map
 use Rattle.std.specs.List.{list_any, flat_map}
@@ -10,8 +10,8 @@ use Rattle.std.proofs.lemmas.List.Folds.{list_any-append}
 use Rattle.pr_cdb.specs.declared.command.Kind.{Kind}
 use Rattle.pr_cdb.specs.ReplyData.{keys_bytes, keys_in, reservation_bytes, holder, HasKey, holder_in, cut}
 use Rattle.pr_cdb.proofs.ReadsData.{keys_in-keys_bytes, holder_in-reservation_bytes}
-use Rattle.pr_registry.specs.Hosts.{Keys, map_where}
-use Rattle.pr_registry.specs.Registrations.{State, key_of, IsKey, IsWellFormed}
+use Rattle.pr_registry.specs.Hosts.{map_where}
+use Rattle.pr_registry.specs.Registrations.{State, key_of, IsWellFormed}
 use Rattle.pr_registry.proofs.Sets.{same_keys, get-map_where}
 use Rattle.pr_registry.proofs.Values.{values-map_where-some, values-map_where-none, values-map_where-zero}
 

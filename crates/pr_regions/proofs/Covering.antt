@@ -1,7 +1,7 @@
 -- Branches that tell how a command ends, by their regions.
-use Rattle.std.proofs.Common.{◌≡◌, ◌≢◌, ℕ, zero, suc, ◌+◌, ◌≤◌, ◌<◌, Bool, true, false, ◌==◌, if◌then◌else◌, List, [], ◌∷◌, length, Option, Some, None, option_map, slice_index_or, refl, sym, ap, ◌∙◌, subst, inl, inr, ◌⊎◌, arith}
+use Rattle.std.proofs.Common.{◌≡◌, ◌≢◌, ℕ, zero, suc, ◌≤◌, ◌<◌, Bool, true, false, ◌==◌, if◌then◌else◌, List, [], ◌∷◌, length, Option, Some, None, option_map, refl, sym, ap, ◌∙◌, subst, inl, inr, ◌⊎◌, arith}
 use Rattle.std.specs.List.{All as Each, Contains}
-use Rattle.std.proofs.lemmas.Bool.Decides.{nat_tests, eqb_tells}
+use Rattle.std.proofs.lemmas.Bool.Decides.{eqb_tells}
 use Rattle.pr_cdb.specs.declared.command.Command.{Command}
 use Rattle.pr_registry.specs.declared.held.Held.{Held}
 use Rattle.pr_registry.specs.declared.held.Held.TheVariants.{One, All}
@@ -11,12 +11,11 @@ use Rattle.pr_sets.specs.Words.{has}
 use Rattle.pr_views.specs.Possibilities.{Scope, IsScope, Registration, IsSo}
 use Rattle.pr_views.specs.Portions.{HasSomebody}
 use Rattle.pr_regions.specs.declared.region.Region.{Region}
-use Rattle.pr_regions.specs.declared.region.Ending.{Ending}
 use Rattle.pr_regions.specs.declared.region.Branch.{Branch}
 use Rattle.pr_regions.specs.declared.purpose.Purpose.{Purpose}
 use Rattle.pr_regions.specs.declared.purpose.Standing.{Standing}
-use Rattle.pr_regions.specs.Regions.{Meets, filter_of, IsInRegion, Ends, IsCovered, IsProper, IsUntestedOrRegistered, HasRoom}
-use Rattle.pr_regions.specs.inside.Parts.{HasThose, any, IsTest, Leaves, AlwaysEnds, EndsIn, Tell}
+use Rattle.pr_regions.specs.Regions.{Meets, filter_of, IsInRegion, IsCovered, IsUntestedOrRegistered}
+use Rattle.pr_regions.specs.inside.Parts.{any, IsTest, Leaves, AlwaysEnds, EndsIn, Tell}
 use Rattle.pr_regions.proofs.Unique.{few_keys, one_registration}
 
 -- ---- lists of one to three

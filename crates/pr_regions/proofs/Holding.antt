@@ -1,5 +1,5 @@
 -- The branches of a command that preempts a key while another host holds the reservation alone.
-use Rattle.std.proofs.Common.{◌≡◌, ◌≢◌, ℕ, zero, suc, ◌≤◌, ◌<◌, Bool, true, false, ◌==◌, ◌&&◌, not, if◌then◌else◌, IsTrue, List, [], ◌∷◌, Option, Some, None, is_some, refl, sym, ap, ◌∙◌, subst, inl, inr, ◌⊎◌, arith}
+use Rattle.std.proofs.Common.{◌≡◌, ◌≢◌, ℕ, ◌<◌, Bool, true, false, ◌==◌, not, if◌then◌else◌, IsTrue, [], ◌∷◌, Option, Some, None, is_some, refl, sym, ap, ◌∙◌, subst, inl, inr, ◌⊎◌, arith}
 use Rattle.std.specs.FinMap as map
 use Rattle.std.proofs.lemmas.Bool.{false≢true}
 use Rattle.std.proofs.lemmas.Bool.Decides.{nat_tests}
@@ -8,7 +8,7 @@ use Rattle.pr_cdb.specs.declared.command.Command.{Command}
 use Rattle.pr_registry.specs.declared.held.Held.{Held}
 use Rattle.pr_registry.specs.declared.held.Held.TheVariants.{One}
 use Rattle.pr_registry.specs.Hosts.{Keys, is_key}
-use Rattle.pr_registry.specs.Registrations.{HasHolder, key_of, is_registered, established}
+use Rattle.pr_registry.specs.Registrations.{HasHolder, key_of, established}
 use Rattle.pr_registry.specs.Changes.{is_kind}
 use Rattle.pr_registry.specs.Effects.{held_by_rest}
 use Rattle.pr_unit.specs.UnitStates.{UnitState}
@@ -20,13 +20,12 @@ use Rattle.pr_regions.specs.declared.region.Branch.{Branch}
 use Rattle.pr_regions.specs.declared.purpose.Purpose.TheVariants.{Preempt}
 use Rattle.pr_regions.specs.declared.purpose.Standing.{Standing}
 use Rattle.pr_regions.specs.Purposes.{HasNumber}
-use Rattle.pr_regions.specs.Regions.{Meets, IsInRegion, Ends, IsCovered, HasRoom}
+use Rattle.pr_regions.specs.Regions.{Meets, IsInRegion, IsCovered, HasRoom}
 use Rattle.pr_regions.specs.inside.Parts.{any, never, registered, only, but, another, told_but, lost_if, is_named, Leaves, Does, EndsIn, Tell}
 use Rattle.pr_regions.proofs.Unique.{few_keys, one_registration}
 use Rattle.pr_regions.proofs.Asking.{key_named}
-use Rattle.pr_regions.proofs.Acting.{Is}
 use Rattle.pr_regions.proofs.Becoming.{is_registered-number}
-use Rattle.pr_regions.proofs.Covering.{left_to, IsThere, in_region, from_region, HasNobody, somebody_or_nobody, each_of_two, each_of_three, untested, tested, tell}
+use Rattle.pr_regions.proofs.Covering.{left_to, in_region, from_region, HasNobody, somebody_or_nobody, each_of_two, each_of_three, untested, tested, tell}
 use Rattle.pr_regions.proofs.Keyed.{HasKeys, keys_of, has_key, key_is, IsNotHolders, replaced_ends, removed_ends, nobody_ends}
 use Rattle.pr_regions.proofs.Choosing.{both_not, not_either, not_true, none_is_not, same_place, own_key, does_so}
 

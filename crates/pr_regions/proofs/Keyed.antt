@@ -1,9 +1,9 @@
 -- Who has the key that a PREEMPT names, and what that makes of the command.
-use Rattle.std.proofs.Common.{◌≡◌, ◌≢◌, ℕ, zero, suc, ◌≤◌, ◌<◌, Bool, true, false, ◌==◌, ◌&&◌, ◌||◌, not, if◌then◌else◌, List, [], ◌∷◌, length, Option, Some, None, is_some, slice_index_or, get_or, refl, sym, ap, ◌∙◌, subst, inl, inr, ◌⊎◌, arith}
+use Rattle.std.proofs.Common.{◌≡◌, ◌≢◌, ℕ, zero, suc, ◌≤◌, ◌<◌, Bool, true, false, ◌==◌, not, if◌then◌else◌, List, length, Option, Some, None, is_some, get_or, refl, sym, ap, ◌∙◌, subst, inl, inr, ◌⊎◌, arith}
 use Rattle.std.specs.FinMap as map
 use Rattle.std.specs.FinSet as set
 use Rattle.std.specs.Ordering.{nat_cmp}
-use Rattle.std.specs.List.{slice_get, All as Each}
+use Rattle.std.specs.List.{All as Each}
 use Rattle.std.proofs.lemmas.Bool.{false≢true}
 use Rattle.std.proofs.lemmas.Bool.Decides.{nat_tests, eqb_tells}
 use Rattle.std.proofs.lemmas.Option.{slice_get_within, get_or_from_slice_get}
@@ -13,12 +13,11 @@ use Rattle.pr_registry.specs.declared.held.Held.{Held}
 use Rattle.pr_registry.specs.declared.held.Held.TheVariants.{One, All}
 use Rattle.pr_registry.specs.Hosts.{Keys, Hosts, nobody, without, hosts_with, is_key, is_nobodys, is_empty}
 use Rattle.pr_registry.specs.Registrations.{State, IsKey, key_of, is_registered, established}
-use Rattle.pr_registry.specs.Changes.{Case, ReplacesAll, ReplacesHolder, RemovesKey, preempt_case, is_kind}
+use Rattle.pr_registry.specs.Changes.{ReplacesAll, ReplacesHolder, RemovesKey, preempt_case, is_kind}
 use Rattle.pr_registry.specs.Effects.{held_by_rest}
 use Rattle.pr_registry.proofs.Sets.{same_hosts, contains-nobody, contains-hosts_with, get-without, is_empty_from_none, not_empty_from_some}
 use Rattle.pr_unit.specs.UnitStates.{UnitState}
 use Rattle.pr_views.specs.Possibilities.{Scope, Registration, IsSo, key_at, number_of}
-use Rattle.pr_views.specs.Portions.{HasSomebody}
 use Rattle.pr_regions.specs.declared.region.Change.{Change}
 use Rattle.pr_regions.specs.declared.region.Ending.TheVariants.{Good, Conflict}
 use Rattle.pr_regions.specs.declared.purpose.Purpose.TheVariants.{Preempt}

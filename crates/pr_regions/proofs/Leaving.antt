@@ -1,19 +1,18 @@
 -- How a command ends by which its sender is registered no more.
-use Rattle.std.proofs.Common.{◌≡◌, ◌≢◌, ℕ, zero, suc, ◌≤◌, ◌<◌, Bool, true, false, ◌==◌, ◌&&◌, not, if◌then◌else◌, List, [], ◌∷◌, length, Option, Some, None, is_some, refl, sym, ap, ◌∙◌, subst, inl, inr, ◌⊎◌, arith}
+use Rattle.std.proofs.Common.{◌≡◌, ◌≢◌, ℕ, zero, suc, ◌<◌, Bool, true, false, ◌==◌, ◌&&◌, not, if◌then◌else◌, [], ◌∷◌, Option, Some, None, is_some, refl, sym, ap, ◌∙◌, subst, inl, inr, ◌⊎◌, arith}
 use Rattle.std.specs.FinMap as map
-use Rattle.std.specs.FinSet as set
 use Rattle.std.proofs.lemmas.Bool.{false≢true}
-use Rattle.std.proofs.lemmas.Bool.Decides.{nat_tests, eqb_tells}
+use Rattle.std.proofs.lemmas.Bool.Decides.{eqb_tells}
 use Rattle.pr_cdb.specs.declared.command.Command.{Command}
 use Rattle.pr_registry.specs.declared.held.Held.{Held}
 use Rattle.pr_registry.specs.declared.held.Held.TheVariants.{One, All}
-use Rattle.pr_registry.specs.Hosts.{Keys, Hosts, just, without, is_empty}
+use Rattle.pr_registry.specs.Hosts.{just, without, is_empty}
 use Rattle.pr_registry.specs.Registrations.{State, key_of, is_registered, holds_alone}
 use Rattle.pr_registry.specs.Changes.{is_held_by_all, is_told_of_loss, no_change, change_on_unregister}
 use Rattle.pr_registry.specs.Effects.{held_by_rest, unregistered}
 use Rattle.pr_registry.proofs.Sets.{contains-just, get-without, is_empty_from_none, not_empty_from_some}
 use Rattle.pr_unit.specs.UnitStates.{UnitState}
-use Rattle.pr_views.specs.Possibilities.{Scope, Registration, IsSo, key_at, number_of}
+use Rattle.pr_views.specs.Possibilities.{Scope, Registration, IsSo, number_of}
 use Rattle.pr_views.specs.Portions.{HasSomebody}
 use Rattle.pr_regions.specs.declared.region.Change.{Change}
 use Rattle.pr_regions.specs.declared.region.Ending.TheVariants.{Good}
@@ -21,14 +20,13 @@ use Rattle.pr_regions.specs.declared.region.Branch.{Branch}
 use Rattle.pr_regions.specs.declared.purpose.Purpose.{Purpose}
 use Rattle.pr_regions.specs.declared.purpose.Purpose.TheVariants.{Unregister}
 use Rattle.pr_regions.specs.declared.purpose.Standing.{Standing}
-use Rattle.pr_regions.specs.Regions.{Meets, IsInRegion, Ends, IsCovered, IsUntestedOrRegistered, HasRoom}
-use Rattle.pr_regions.specs.inside.Parts.{any, never, registered, only, told_if, is_unregistered, IsTest, Leaves, Does, AlwaysEnds, EndsIn, Tell}
-use Rattle.pr_regions.proofs.Unique.{few_keys, key_there, is_some-key_at}
+use Rattle.pr_regions.specs.Regions.{Meets, Ends, IsCovered, HasRoom}
+use Rattle.pr_regions.specs.inside.Parts.{any, never, registered, only, told_if, is_unregistered, Leaves, Does, AlwaysEnds, EndsIn, Tell}
+use Rattle.pr_regions.proofs.Unique.{few_keys, key_there}
 use Rattle.pr_regions.proofs.Asking.{after_for, change_for}
-use Rattle.pr_regions.proofs.Acting.{Is}
 use Rattle.pr_regions.proofs.Becoming.{Becomes, on_unregister, other_host, is_registered-number}
-use Rattle.pr_regions.proofs.Meeting.{registered_or_not, good_ends, same_ends, leaves}
-use Rattle.pr_regions.proofs.Covering.{left_to, IsThere, in_region, from_region, HasNobody, somebody_or_nobody, each_of_two, everyone, untested, tested, tell}
+use Rattle.pr_regions.proofs.Meeting.{registered_or_not, good_ends, same_ends}
+use Rattle.pr_regions.proofs.Covering.{left_to, in_region, from_region, HasNobody, somebody_or_nobody, each_of_two, everyone, untested, tested, tell}
 
 -- ---- who has a key
 

@@ -1,21 +1,19 @@
 -- What PREEMPT makes of a registry, by its case.
-use Rattle.std.proofs.Common.{◌≡◌, ◌≢◌, ℕ, zero, suc, ◌≤◌, ◌<◌, Bool, true, false, ◌==◌, ◌&&◌, ◌||◌, not, if◌then◌else◌, List, length, Option, Some, None, is_some, unwrap_or, option_map, refl, sym, ap, ◌∙◌, subst, arith}
+use Rattle.std.proofs.Common.{◌≡◌, ◌≢◌, ℕ, ◌≤◌, Bool, true, false, ◌==◌, ◌&&◌, not, if◌then◌else◌, List, length, Option, Some, None, unwrap_or, refl, sym, ap, ◌∙◌, subst, arith}
 use Rattle.std.specs.FinSet as set
 use Rattle.std.specs.FinMap as map
-use Rattle.std.proofs.lemmas.Bool.Decides.{nat_tests}
 use Rattle.pr_cdb.specs.declared.command.Kind.{Kind}
-use Rattle.pr_registry.specs.declared.held.Held.{Held}
 use Rattle.pr_registry.specs.declared.change.Change.{Change as Told}
-use Rattle.pr_registry.specs.Hosts.{Hosts, Keys, nobody, is_key, hosts_in, hosts_with, without}
-use Rattle.pr_registry.specs.Registrations.{State, key_of, is_registered, others, registrants, established}
+use Rattle.pr_registry.specs.Hosts.{Hosts, nobody, hosts_in, hosts_with, without}
+use Rattle.pr_registry.specs.Registrations.{State, key_of, others, established}
 use Rattle.pr_registry.specs.Changes.{Case, ReplacesAll, ReplacesHolder, RemovesKey, no_change, is_kind, preempt_case, removed_by_preempt, is_new_type, change_on_preempt}
 use Rattle.pr_registry.specs.Effects.{next, held_by_rest, held_after_preempt, preempted}
-use Rattle.pr_registry.proofs.Sets.{contains-nobody, contains-remove, contains-difference, contains-hosts_in, contains-hosts_with, get-without}
+use Rattle.pr_registry.proofs.Sets.{contains-nobody, contains-remove, contains-difference, contains-hosts_with, get-without}
 use Rattle.pr_views.specs.Possibilities.{key_at, number_of}
-use Rattle.pr_regions.specs.inside.Parts.{never, registered, another, told_but, lost_if}
+use Rattle.pr_regions.specs.inside.Parts.{never, registered, told_but, lost_if}
 use Rattle.pr_regions.proofs.Unique.{AreDistinct}
 use Rattle.pr_regions.proofs.Acting.{Is}
-use Rattle.pr_regions.proofs.Becoming.{Becomes, contains-others, contains-others_itself, is_registered-number, is_key-number, other_host, not_itself}
+use Rattle.pr_regions.proofs.Becoming.{Becomes, contains-others, contains-others_itself, is_key-number, other_host, not_itself}
 
 -- what it makes of a registry in this case
 abbrev pub preempted_as : State → ℕ → ℕ → Kind → Case → State

@@ -1,7 +1,6 @@
 -- Which arm takes the data of READ RESERVATION.
-use Rattle.std.proofs.Common.{◌≡◌, ◌≢◌, ℕ, zero, suc, ◌+◌, ◌≤◌, ◌<◌, ◌^◌, Bool, true, false, ◌==◌, ◌&&◌, not, nat_lt, cond, if◌then◌else◌, IsTrue, List, [], ◌∷◌, ◌++◌, length, get_or, Option, Some, None, is_some, is_none, option_map, unwrap_or, refl, sym, ap, ◌∙◌, subst, inl, inr, ◌⊎◌, arith, lit<}
-use Rattle.std.specs.List.{All, Contains, position, position_or_len, prefix_len, slice_get}
-use Rattle.std.specs.FinMap as map
+use Rattle.std.proofs.Common.{◌≡◌, ◌≢◌, ℕ, zero, suc, ◌+◌, ◌≤◌, ◌<◌, ◌^◌, Bool, true, false, ◌==◌, not, nat_lt, cond, if◌then◌else◌, IsTrue, List, [], ◌∷◌, ◌++◌, length, get_or, Option, Some, None, is_some, is_none, option_map, unwrap_or, refl, sym, ap, ◌∙◌, subst, inl, inr, ◌⊎◌, arith, lit<}
+use Rattle.std.specs.List.{All, Contains, position, prefix_len}
 use Rattle.std.proofs.lemmas.Bool.{false≢true}
 use Rattle.std.proofs.lemmas.Bool.Decides.{nat_tests, eqb_tells}
 use Rattle.std.proofs.lemmas.Option.{slice_get-get_or}
@@ -9,20 +8,18 @@ use Rattle.std.proofs.lemmas.List.Elements.{Contains-push}
 use Rattle.pr_cdb.specs.declared.command.Kind.{Kind}
 use Rattle.pr_cdb.specs.declared.command.Command.{Command}
 use Rattle.pr_cdb.specs.declared.command.Command.TheVariants.{ReadReservation}
-use Rattle.pr_cdb.specs.ReplyData.{HasKey, holder, holder_in, cut, reservation_bytes}
+use Rattle.pr_cdb.specs.ReplyData.{HasKey, holder}
 use Rattle.pr_registry.specs.declared.held.Held.{Held}
 use Rattle.pr_registry.specs.declared.held.Held.TheVariants.{One, All as Everybody}
 use Rattle.pr_registry.specs.Hosts.{is_key}
-use Rattle.pr_registry.specs.Registrations.{State, HasHolder, key_of, IsKey, IsWellFormed}
+use Rattle.pr_registry.specs.Registrations.{State, HasHolder, key_of, IsWellFormed}
 use Rattle.pr_unit.specs.UnitStates.{UnitState}
 use Rattle.pr_unit.specs.Replies.{reservation}
 use Rattle.pr_script.specs.declared.script.Test.{Test}
 use Rattle.pr_script.specs.declared.script.Test.TheVariants as test
 use Rattle.pr_script.specs.Grammar.{test_fits, written_length}
 use Rattle.pr_script.specs.Takes.{matches, is_held_by, is_unheld}
-use Rattle.pr_sets.specs.declared.word.Word.{Word}
 use Rattle.pr_views.specs.Possibilities.{Scope, Registration, IsSo, key_at}
-use Rattle.pr_regions.specs.declared.region.Region.{Region}
 use Rattle.pr_regions.specs.declared.region.Reading.{Reading}
 use Rattle.pr_regions.specs.Regions.{IsInRegion}
 use Rattle.pr_regions.specs.Readings.{first_test, IsRead, AreReadings}
@@ -31,8 +28,8 @@ use Rattle.pr_regions.specs.inside.Reads.{IsKnown, answer, passes_held, AreHeldS
 use Rattle.pr_regions.proofs.Unique.{few_keys, one_registration}
 use Rattle.pr_regions.proofs.Becoming.{is_registered-number}
 use Rattle.pr_regions.proofs.Contents.{holder_read}
-use Rattle.pr_regions.proofs.Covering.{left_to, everyone, IsThere, in_region, from_region}
-use Rattle.pr_regions.proofs.Arms.{read_alike, last_or_before, still_there, are_readings}
+use Rattle.pr_regions.proofs.Covering.{left_to, everyone, in_region, from_region}
+use Rattle.pr_regions.proofs.Arms.{last_or_before, still_there, are_readings}
 
 -- ---- what a test finds in the data
 

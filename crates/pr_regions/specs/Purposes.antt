@@ -1,5 +1,5 @@
 -- What a command asks for once its reservation key is accepted.
-use Rattle.std.specs.Prelude.{◌≡◌, ℕ, suc, ◌≤◌, ◌+◌, Bool, true, false, not, ◌==◌, nat_le, if◌then◌else◌, List, Option, Some, None, option_map, position}
+use Rattle.std.specs.Prelude.{ℕ, suc, ◌≤◌, ◌+◌, Bool, true, false, not, ◌==◌, nat_le, if◌then◌else◌, List, Option, Some, option_map, position}
 use Rattle.std.specs.Option.{option_map_or}
 use Rattle.pr_cdb.specs.declared.command.Kind.{Kind}
 use Rattle.pr_cdb.specs.declared.command.Command.{Command}

@@ -5,7 +5,7 @@ ghost use Rattle.std.specs.List.{All};
 ghost use Rattle.pr_cdb.specs.declared.command.Command.{Command as CommandOf};
 ghost use Rattle.pr_registry.specs.declared.held.Held.{Held};
 ghost use Rattle.pr_script.specs.Grammar.{test_fits, written_length};
-ghost use Rattle.pr_regions.specs.Readings.{AreReadings};
+ghost use Rattle.pr_regions.specs.Readings.{AreReadings, IsProperReading};
 ghost use Rattle.pr_regions.specs.inside.Reads.{IsAsked, HasFewer, open_to};
 
 use crate::commands::number_in;
@@ -73,8 +73,9 @@ pub(crate) fn key_readings(tests: &[Test], keys: &[u64], registration: u8) -> Ar
     requires few { length keys.now ≤ 12 }
     requires arms { length tests.now ≤ 16 }
     requires fits { All (λ test. test_fits keys.now (Command.ReadKeys written_length) test ≡ true) tests.now }
-    ensures { (hosts : ℕ) (held : Option Held) (sender : ℕ)
+    ensures right { (hosts : ℕ) (held : Option Held) (sender : ℕ)
         → AreReadings keys.now hosts tests.now (Command.ReadKeys written_length) held sender registration result.items }
+    ensures proper { All IsProperReading result.items }
 {
     let mut readings = ArrayVec::new();
     let mut left = anything();

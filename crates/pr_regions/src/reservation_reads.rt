@@ -6,7 +6,7 @@ ghost use Rattle.pr_cdb.specs.declared.command.Kind.{Kind as KindOf};
 ghost use Rattle.pr_cdb.specs.declared.command.Command.{Command as CommandOf};
 ghost use Rattle.pr_script.specs.Grammar.{test_fits, written_length};
 ghost use Rattle.pr_views.specs.Possibilities.{key_at};
-ghost use Rattle.pr_regions.specs.Readings.{AreReadings};
+ghost use Rattle.pr_regions.specs.Readings.{AreReadings, IsProperReading};
 ghost use Rattle.pr_regions.specs.inside.Reads.{passes_held, IsEverywhere};
 
 use crate::commands::is_key;
@@ -49,7 +49,8 @@ fn key_at(keys: &[u64], number: u8) -> u64
 
 // The same arm in all states.
 fn everywhere(arm: Option<usize>) -> ArrayVec<Reading, 17>
-    ensures { IsEverywhere arm result.items }
+    ensures all { IsEverywhere arm result.items }
+    ensures proper { All IsProperReading result.items }
 {
     let mut readings = ArrayVec::new();
     readings.push(Reading {
@@ -63,8 +64,9 @@ fn everywhere(arm: Option<usize>) -> ArrayVec<Reading, 17>
 fn by_holder(tests: &[Test], keys: &[u64]) -> ArrayVec<Reading, 17>
     requires few { length keys.now ≤ 12 }
     requires fits { All (λ test. test_fits keys.now (Command.ReadReservation written_length) test ≡ true) tests.now }
-    ensures { (hosts : ℕ) (kind : KindOf) (holder sender own : ℕ) → holder ≢ sender
+    ensures right { (hosts : ℕ) (kind : KindOf) (holder sender own : ℕ) → holder ≢ sender
         → AreReadings keys.now hosts tests.now (Command.ReadReservation written_length) (Some (Held.One kind holder)) sender own result.items }
+    ensures proper { All IsProperReading result.items }
 {
     let mut readings = ArrayVec::new();
     for (place, key) in keys.iter().enumerate() {
@@ -90,7 +92,8 @@ fn held_readings(
     requires few { length keys.now ≤ 12 }
     requires fits { All (λ test. test_fits keys.now (Command.ReadReservation written_length) test ≡ true) tests.now }
     requires known { registration ≤ length keys.now }
-    ensures { (hosts : ℕ) → AreReadings keys.now hosts tests.now (Command.ReadReservation written_length) (Some held) sender registration result.items }
+    ensures right { (hosts : ℕ) → AreReadings keys.now hosts tests.now (Command.ReadReservation written_length) (Some held) sender registration result.items }
+    ensures proper { All IsProperReading result.items }
 {
     match held {
         Held::All(_) => everywhere(first_arm(tests, Some(0))),
@@ -115,7 +118,8 @@ pub(crate) fn reservation_readings(
     requires few { length keys.now ≤ 12 }
     requires fits { All (λ test. test_fits keys.now (Command.ReadReservation written_length) test ≡ true) tests.now }
     requires known { registration ≤ length keys.now }
-    ensures { (hosts : ℕ) → AreReadings keys.now hosts tests.now (Command.ReadReservation written_length) held sender registration result.items }
+    ensures right { (hosts : ℕ) → AreReadings keys.now hosts tests.now (Command.ReadReservation written_length) held sender registration result.items }
+    ensures proper { All IsProperReading result.items }
 {
     match held {
         None => everywhere(first_arm(tests, None)),

@@ -1,5 +1,5 @@
 -- What the functions that say which arm takes data keep.
-use Rattle.std.specs.Prelude.{◌≡◌, ◌≢◌, ◌⊎◌, ℕ, ◌<◌, ◌≤◌, Bool, true, false, ◌==◌, List, [], ◌∷◌, length, Option, Some, None, is_none, slice_index_or}
+use Rattle.std.specs.Prelude.{◌≡◌, ◌≢◌, ◌⊎◌, ℕ, ◌<◌, ◌≤◌, Bool, true, false, List, [], ◌∷◌, Option, Some, None, is_none, slice_index_or}
 use Rattle.std.specs.List.{Contains}
 use Rattle.pr_cdb.specs.declared.command.Kind.{Kind}
 use Rattle.pr_cdb.specs.declared.command.Command.{Command}
@@ -56,7 +56,7 @@ IsAsked keys hosts held sender own c t (Somebody j) =
 abbrev pub HasFewer : Ask → Type 0
 HasFewer Always = Unit {0}
 HasFewer Never = Unit {0}
-HasFewer (Somebody j) = j ≤ 12
+HasFewer (Somebody j) = (1 ≤ j) × (j ≤ 12)
 
 -- the region in which all others have one of these registrations
 abbrev pub open_to : Word → Region

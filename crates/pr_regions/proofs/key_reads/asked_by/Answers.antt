@@ -1,9 +1,6 @@
-use Rattle.std.proofs.Common.{◌≡◌, ◌≢◌, ap, sym, ◌∙◌, refl, arith, true, false, subst, Some}
-use Rattle.pr_cdb.specs.declared.command.Command.TheVariants.{ReadKeys}
-use Rattle.pr_script.specs.declared.script.Test.{Test}
-use Rattle.pr_script.specs.declared.script.Test.TheVariants.{GoodHas}
-use Rattle.pr_script.specs.Grammar.{test_fits, written_length}
+use Rattle.std.proofs.Common.{◌≡◌, ◌≢◌, ◌≤◌, sym, arith, subst}
 use Rattle.pr_regions.specs.Purposes.{number_in}
+use Rattle.pr_regions.proofs.Asking.{declared_number}
 use Rattle.pr_regions.proofs.Asked.{always_there, there_with_somebody, not_there_with_nobody}
 use Rattle.pr_regions.proofs.key_reads.asked_by.Goals as goal
 
@@ -24,3 +21,8 @@ returns-else-number-registration-clause-asked c hosts held sender =
       (λ s u known there. there_with_somebody keys hosts held sender own k s u known fits there),
       (λ s u known nobody. not_there_with_nobody keys hosts held sender own k s u known fits other nobody),
     ))
+
+pub returns-else-number-registration-clause-small : goal.returns-else-number-registration-clause-small
+returns-else-number-registration-clause-small c =
+    let declared = rw c.in-GoodHas.is at c.requires.fits in
+    (subst (λ n. 1 ≤ n) (sym c.number_in-number.ensures.number) (declared_number c.args.keys.now c.in-GoodHas.key declared), c.number_in-number.ensures.most)

@@ -1,4 +1,7 @@
-use Rattle.std.proofs.Common.{◌≡◌, ◌<◌, length, [], ◌∷◌, ◌++◌, length-append, refl, arith}
+use Rattle.std.proofs.Common.{◌<◌, length, length-append, arith}
+use Rattle.std.proofs.lemmas.List.Elements.{All-push}
+use Rattle.pr_regions.specs.Readings.{IsProperReading}
+use Rattle.pr_regions.proofs.Covering.{untested}
 use Rattle.pr_regions.proofs.Arms.{read_alike}
 use Rattle.pr_regions.proofs.Reserved.{held_more, held_all}
 use Rattle.pr_regions.proofs.reservation_reads.by_holder.Goals as goal
@@ -13,8 +16,9 @@ loop-place-preserved c =
           held_more c.args.keys.now hosts kind holder sender own c.args.tests.now c.loop-place.place _ c.loop-place.readings.items _ c.requires.fits small (read_alike c.args.keys.now c.loop-place.place _ _ small) apart
           (record { to_holder = λ r few. c.only.ensures r; to_others = c.whole.ensures.to_others; tested = c.whole.ensures.tested }) c.first_arm.ensures
           (c.loop-place.invariant.so_far hosts kind holder sender own apart));
+      proper = rw c.push.ensures.items (All-push IsProperReading c.loop-place.readings.items _ c.loop-place.invariant.proper (untested _ c.whole.ensures.tested));
     }
 
-pub returns : goal.returns
-returns c hosts kind holder sender own apart =
+pub returns-clause-right : goal.returns-clause-right
+returns-clause-right c hosts kind holder sender own apart =
     held_all c.args.keys.now hosts kind holder sender own c.args.tests.now c.loop-place.place c.loop-place.readings.items (omega arith) (c.loop-place.invariant.so_far hosts kind holder sender own apart)
