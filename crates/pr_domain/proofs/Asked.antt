@@ -44,7 +44,7 @@ only_uniform r w only none m there =
     m_is ∙ sym zero_is
 
 -- the sender's registration in a state where it is among those of the word
-sender_is : (s : Scope) (view : Possibilities) (place : Place) (r : ℕ) (w : Word) (region : Region) (u : UnitState) → IsPlace s view place → ((m : ℕ) → has w m ≡ (m == r))
+pub sender_is : (s : Scope) (view : Possibilities) (place : Place) (r : ℕ) (w : Word) (region : Region) (u : UnitState) → IsPlace s view place → ((m : ℕ) → has w m ≡ (m == r))
     → IsAt (view_in s view) place w region u → IsSo s u (Registration place.sender r)
 sender_is s view place r w region u is only at =
     let below : place.sender < s.hosts = subst (λ n. place.sender < n) (sym is.hosts) is.sender in

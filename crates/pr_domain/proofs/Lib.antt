@@ -9,4 +9,4 @@ pub mod Places
 pub mod Reported
 pub mod Ways
 pub mod Walking
-pub mod Reads
+pub mod DataTaken

@@ -1,7 +1,7 @@
 //! The tally of a view: how a command of its owner ends in each of the states that it shows, and what is so then.
 
-ghost use Rattle.std.specs.Prelude.{◌≡◌, ◌<◌, ◌≤◌, ◌+◌, ℕ, List, ◌==◌, length, IsTrue, true, IfSome, IfNone};
-ghost use Rattle.pr_script.specs.Grammar.{is_written, test_fits};
+ghost use Rattle.std.specs.Prelude.{◌≡◌, ◌<◌, ◌≤◌, ◌+◌, ℕ, List, ◌==◌, ◌||◌, length, IsTrue, true, IfSome, IfNone};
+ghost use Rattle.pr_script.specs.Grammar.{is_written, test_fits, is_read_keys, is_read_reservation};
 ghost use Rattle.pr_views.specs.Possibilities.{key_at};
 ghost use Rattle.pr_roles.specs.Fitting.{AreDeclared};
 ghost use Rattle.pr_roles.specs.Fitting.{is_reservation};
@@ -24,7 +24,7 @@ use crate::place::Place;
 use crate::tally::Tally;
 use pr_cdb::Command;
 use pr_regions::{
-    Branch, Change, Ending, Purpose, Reading, Region, branches, is_refused, purpose_of,
+    Branch, Change, Ending, Purpose, Reading, Region, branches, is_refused, purpose_of, readings,
     reservation_at, standing_of,
 };
 use pr_script::Test;
@@ -185,6 +185,16 @@ fn key_at(keys: &[u64], registration: u8) -> Option<u64>
     keys.get(usize::from(registration - 1)).copied()
 }
 
+// Whether the command returns data that tests look at.
+fn is_reading(command: Command) -> bool
+    ensures { result ≡ (is_read_keys command || is_read_reservation command) }
+{
+    matches!(
+        command,
+        Command::ReadKeys { .. } | Command::ReadReservation { .. }
+    )
+}
+
 // Adds the states in which the sender has this registration.
 fn add_registration(tally: &mut Tally, view: &Possibilities, place: Place, keys: &[u64], command: Command, tests: &[Test], registration: u8)
     requires hosts { (1 ≤ place.hosts) × (place.hosts ≤ 8) }
@@ -200,8 +210,8 @@ fn add_registration(tally: &mut Tally, view: &Possibilities, place: Place, keys:
 {
     if is_refused(key_at(keys, registration), command) {
         add_refused(tally, view, place, registration);
-    } else if matches!(command, Command::ReadKeys { .. } | Command::ReadReservation { .. }) {
-        let readings = readings(tests, command, keys, place.held, place.hosts, place.sender, registration);
+    } else if is_reading(command) {
+        let readings = readings(tests, command, keys, place.held, place.sender, registration);
         add_readings(tally, view, place, registration, &readings);
     } else {
         let arm = way_of(first_arm(tests, Class::Good));

@@ -1,19 +1,21 @@
 -- READ KEYS and READ RESERVATION: which arm takes their data.
 use Rattle.std.proofs.Common.{◌≡◌, ◌≢◌, ◌⊎◌, ℕ, zero, suc, ◌+◌, ◌<◌, ◌≤◌, Bool, true, false, ◌==◌, ◌&&◌, ◌||◌, IsTrue, IfSome, IfNone, List, length, position, Option, Some, None, refl, sym, ap, ◌∙◌, subst, inl, inr, arith}
-use Rattle.std.specs.List.{slice_get, Contains}
-use Rattle.std.proofs.lemmas.Bool.{cases_eq, cases_order, false≢true}
+use Rattle.std.specs.List.{slice_get, Contains, All}
+use Rattle.std.proofs.lemmas.List.Elements.{All-weaker}
+use Rattle.std.proofs.lemmas.Bool.{cases_eq, cases_order, false≢true, and_parts}
 use Rattle.std.proofs.lemmas.Bool.Decides.{nat_tests}
 use Rattle.std.proofs.lemmas.List.Quantifiers.{position-Some}
 use Rattle.std.proofs.lemmas.Option.{same_Some, slice_get-get_or}
 use Rattle.pr_cdb.specs.declared.command.Command.{Command}
 use Rattle.pr_cdb.specs.declared.command.Command.TheVariants as command
-use Rattle.pr_registry.specs.Registrations.{key_of}
+use Rattle.pr_registry.specs.Registrations.{State, key_of}
 use Rattle.pr_unit.specs.UnitStates.{UnitState}
 use Rattle.pr_unit.specs.Conflicts.{command_conflicts}
 use Rattle.pr_unit.specs.Replies.{good, data_of}
 use Rattle.pr_script.specs.declared.script.Test.{Test}
+use Rattle.pr_script.specs.declared.script.Test.TheVariants as test
 use Rattle.pr_script.specs.Takes.{matches}
-use Rattle.pr_script.specs.Grammar.{is_read_keys, is_read_reservation}
+use Rattle.pr_script.specs.Grammar.{is_read_keys, is_read_reservation, test_fits, is_declared, is_written_key}
 use Rattle.pr_sets.specs.declared.word.Word.{Word}
 use Rattle.pr_sets.specs.Words.{has}
 use Rattle.pr_views.specs.declared.possibilities.Possibilities.{Possibilities}
@@ -35,6 +37,9 @@ use Rattle.pr_domain.specs.declared.place.Place.{Place}
 use Rattle.pr_domain.specs.declared.tally.Tally.{Tally}
 use Rattle.pr_domain.specs.inside.Gathering.{IsPlace, IsUniform, IsProper, IsAt}
 use Rattle.pr_domain.specs.inside.Tallies.{arm_of, way_of, Grows, IsRight, HasBoth, IsOwners, IsReadAt, IsReadFirst, IsRightReading, AreRightReadings}
+use Rattle.pr_domain.specs.declared.landing.Class.TheVariants as class
+use Rattle.pr_domain.specs.inside.Reporting.{looks, takes, AreBlind}
+use Rattle.pr_domain.proofs.Matching.{first_of_class}
 use Rattle.pr_domain.proofs.Gathered.{same_reservation}
 use Rattle.pr_domain.proofs.Growing.{grows_then, grows_from_none}
 use Rattle.pr_domain.proofs.Asked.{only_uniform, sender_is}
@@ -44,7 +49,7 @@ arm_way : (tests : List Test) (u : UnitState) (c : Command) (arm : Option ℕ) (
     → first_test tests (good (data_of u.registry c)) ≡ arm → first_test tests (good (data_of u.registry c)) ≡ arm_of way
 arm_way tests u c None way few some none is = is ∙ ap arm_of (sym none)
 arm_way tests u c (Some n) way few some none is =
-    let found = position-Some (λ test. matches test (good (data_of u.registry c))) tests n _ is in
+    let found = position-Some (λ t. matches t (good (data_of u.registry c))) tests n test.Good is in
     let small : n < 16 = (let e = found.0 in omega arith) in
     is ∙ ap arm_of (sym (some small))
 
@@ -168,3 +173,39 @@ readings_cover s keys c tests view place r readings owners are u shown both =
       listed = slice_get-get_or readings read.listed.0 read.reading read.listed.1 ∙ ap (λ b. Some b) read.listed.2;
       at = (both, read.inside);
     }
+
+-- ---- the other commands
+
+or_neither : (a b : Bool) → (a || b) ≡ false → (a ≡ false) × (b ≡ false)
+or_neither false false is = (refl, refl)
+or_neither false true is = absurd (false≢true (sym is))
+or_neither true b is = absurd (false≢true (sym is))
+
+-- no test looks at the data of a command that returns none of it
+blind : (keys : List ℕ) (c : Command) (tests : List Test) → (is_read_keys c || is_read_reservation c) ≡ false → All (λ t. test_fits keys c t ≡ true) tests → AreBlind tests class.Good
+blind keys c tests none fit = All-weaker (λ t. test_fits keys c t ≡ true) (λ t. looks t ≡ false) each tests fit
+  where
+    neither : (is_read_keys c ≡ false) × (is_read_reservation c ≡ false)
+    neither = or_neither (is_read_keys c) (is_read_reservation c) none
+
+    each : (t : Test) → test_fits keys c t ≡ true → looks t ≡ false
+    each test.Good is = refl
+    each (test.GoodHas key) is = absurd (false≢true (sym neither.0 ∙ (and_parts (is_read_keys c) (is_declared keys key) is).0))
+    each (test.GoodHeld key) is = absurd (false≢true (sym neither.1 ∙ (and_parts (is_read_reservation c) (is_written_key keys key) is).0))
+    each test.GoodUnheld is = absurd (false≢true (sym neither.1 ∙ is))
+    each test.Conflict is = refl
+    each test.Attention is = refl
+    each (test.Sense wanted) is = refl
+
+pub arm_taken : (keys : List ℕ) (c : Command) (tests : List Test) (arm : Option ℕ) (way : ℕ) (u : State) → (is_read_keys c || is_read_reservation c) ≡ false → All (λ t. test_fits keys c t ≡ true) tests
+    → length tests ≤ 16 → arm ≡ position (λ t. takes t class.Good) tests → (IfSome arm (λ n. n < 16) → way ≡ way_of arm) → IfNone arm (way ≡ 0)
+    → first_test tests (good (data_of u c)) ≡ arm_of way
+arm_taken keys c tests arm way u none fit few is some nothing =
+    first_of_class tests class.Good (good (data_of u c)) refl (blind keys c tests none fit) ∙ at arm is some nothing
+  where
+    at : (arm : Option ℕ) → arm ≡ position (λ t. takes t class.Good) tests → (IfSome arm (λ n. n < 16) → way ≡ way_of arm) → IfNone arm (way ≡ 0) → position (λ t. takes t class.Good) tests ≡ arm_of way
+    at None is some nothing = sym is ∙ ap arm_of (sym nothing)
+    at (Some n) is some nothing =
+        let found = position-Some (λ t. takes t class.Good) tests n test.Good (sym is) in
+        let small : n < 16 = (let e = found.0 in omega arith) in
+        sym is ∙ ap arm_of (sym (some small))
