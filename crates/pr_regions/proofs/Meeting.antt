@@ -61,15 +61,15 @@ registered_or_not s p held sender standing u c m =
     is_registered-number s.keys u.registry sender it.number it.is
     ∙ sym (ap not (sym (ap is_unregistered it.stands) ∙ is_unregistered-number p it.number) ∙ twice (registered it.number))
 
-holds_or_not : (s : Scope) (p : Purpose) (held : Option Held) (v : Held) (sender : ℕ) (standing : Standing) (u : UnitState) (c : Command)
-    → u.registry.held ≡ Some v → is_registered u.registry sender ≡ not (is_unregistered standing) → is_holder u.registry sender ≡ holds v sender standing
-holds_or_not s p held (One t h) sender standing u c is there = rw is refl
-holds_or_not s p held (All t) sender standing u c is there = rw is there
+holds_or_not : (u : State) (v : Held) (sender : ℕ) (standing : Standing) → u.held ≡ Some v → is_registered u sender ≡ not (is_unregistered standing)
+    → is_holder u sender ≡ holds v sender standing
+holds_or_not u (One t h) sender standing is there = rw is refl
+holds_or_not u (All t) sender standing is there = rw is there
 
 pub is_holder-standing : (s : Scope) (p : Purpose) (held : Option Held) (v : Held) (sender : ℕ) (standing : Standing) (u : UnitState) (c : Command)
     → Meets s p held sender standing u c → held ≡ Some v → is_holder u.registry sender ≡ holds v sender standing
 is_holder-standing s p held v sender standing u c m is =
-    holds_or_not s p held v sender standing u c (m.held ∙ is) (registered_or_not s p held sender standing u c m)
+    holds_or_not u.registry v sender standing (m.held ∙ is) (registered_or_not s p held sender standing u c m)
 
 -- ---- how it ends
 

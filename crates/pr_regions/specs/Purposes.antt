@@ -15,6 +15,19 @@ use Rattle.pr_regions.specs.declared.purpose.Purpose.TheVariants.{Look, Read, Wr
 abbrev pub number_in : List ℕ → ℕ → ℕ
 number_in keys k = option_map_or suc (position (λ key. key == k) keys) 0
 
+-- the number of the key that it names, or 0
+abbrev pub named : Purpose → ℕ
+named Look = 0
+named (Read ranges) = 0
+named (Write ranges) = 0
+named (Register j) = j
+named Unregister = 0
+named (Reserve kind) = 0
+named (Release kind) = 0
+named Clear = 0
+named (PreemptAll kind) = 0
+named (Preempt j kind) = j
+
 -- the key that it names, if it names one, has a number: there are at most 12
 abbrev pub HasNumber : Purpose → Type 0
 HasNumber Look = Unit {0}

@@ -4,7 +4,7 @@ ghost use Rattle.std.specs.Prelude.{◌≡◌, ◌≤◌, ◌==◌, IsTrue, IsSo
 ghost use Rattle.pr_registry.specs.Hosts.{is_key};
 ghost use Rattle.pr_script.specs.Grammar.{is_written_key};
 ghost use Rattle.pr_unit.specs.Conflicts.{is_wrong_key};
-ghost use Rattle.pr_regions.specs.Purposes.{number_in, is_in_range, registering, preempting, purpose_of, HasNumber, names_written, is_refused};
+ghost use Rattle.pr_regions.specs.Purposes.{number_in, is_in_range, registering, preempting, purpose_of, named, HasNumber, names_written, is_refused};
 ghost use Rattle.pr_regions.specs.Regions.{names, standing_of};
 
 use crate::purpose::{Purpose, Standing};
@@ -24,6 +24,7 @@ fn place_in(keys: &[u64], key: u64) -> Option<usize>
 pub(crate) fn number_in(keys: &[u64], key: u64) -> u8
     requires { length keys.now ≤ 12 }
     ensures number { result ≡ number_in keys.now key }
+    ensures known { result ≤ length keys.now }
     ensures most { result ≤ 12 }
 {
     match place_in(keys, key) {
@@ -43,6 +44,7 @@ fn registering(keys: &[u64], sark: u64) -> Purpose
     requires { length keys.now ≤ 12 }
     ensures purpose { result ≡ registering keys.now sark }
     ensures number { IsTrue (is_written_key keys.now sark) → HasNumber result }
+    ensures known { named result ≤ length keys.now }
 {
     if sark == 0 {
         Purpose::Unregister
@@ -55,6 +57,7 @@ fn preempting(keys: &[u64], sark: u64, kind: Kind) -> Purpose
     requires { length keys.now ≤ 12 }
     ensures purpose { result ≡ preempting keys.now sark kind }
     ensures number { IsTrue (is_written_key keys.now sark) → HasNumber result }
+    ensures known { named result ≤ length keys.now }
 {
     if sark == 0 {
         Purpose::PreemptAll(kind)
@@ -69,6 +72,7 @@ pub fn purpose_of(command: Command, keys: &[u64]) -> Purpose
     requires typed { IsSome (purpose_of keys.now command) }
     ensures purpose { Some result ≡ purpose_of keys.now command }
     ensures number { IsTrue (names_written keys.now command) → HasNumber result }
+    ensures known { named result ≤ length keys.now }
 {
     match command {
         Command::TestUnitReady
