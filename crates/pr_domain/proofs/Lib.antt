@@ -5,3 +5,5 @@ pub mod Places
 pub mod Ways
 pub mod Growing
 pub mod Asked
+pub mod Permissions
+pub mod Idling

@@ -4,8 +4,10 @@
 
 mod changed;
 mod landing;
+mod permitting;
 mod place;
 mod tally;
 mod tallying;
 
 pub use landing::{Class, Landing};
+pub use permitting::permitted;
