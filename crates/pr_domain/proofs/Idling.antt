@@ -22,12 +22,15 @@ use Rattle.pr_unit.proofs.GoodFixed.{good_by_line}
 use Rattle.pr_unit.proofs.GoodSteps.{good_effect, good_step}
 use Rattle.pr_roles.specs.declared.role.Clause.{Clause}
 use Rattle.pr_roles.specs.Permits.{is_always_permitted, clause_permits, command_permitted}
-use Rattle.pr_views.specs.Possibilities.{Scope, Attentions, IsSo}
-use Rattle.pr_views.specs.Views.{View, Within, Shows}
+use Rattle.pr_sets.specs.Words.{has}
+use Rattle.pr_views.specs.declared.possibilities.Possibilities.{Possibilities}
+use Rattle.pr_views.specs.Possibilities.{Scope, Item, Attentions, IsSo}
+use Rattle.pr_views.specs.Views.{View, Within, Shows, IsPossible}
+use Rattle.pr_views.specs.Portions.{view_in}
 use Rattle.pr_views.proofs.Numbering.{one_attentions}
 use Rattle.pr_views.proofs.Showing.{shown_within}
 use Rattle.pr_domain.specs.Outcomes.{IsPermittedIn}
-use Rattle.pr_domain.specs.inside.Permitting.{EndsGood, ArePermitted}
+use Rattle.pr_domain.specs.inside.Permitting.{EndsGood, ArePermitted, scope_at}
 
 -- ---- nothing is pending
 
@@ -106,3 +109,26 @@ pub permitted_alike : (v w : View) (role : List Clause) (c : Command) → v.scop
 permitted_alike v w role c same within permitted u r after shown step good =
     subst (λ s. IsTrue (command_permitted role u.registry s.own c)) same
     (permitted u r after (shown_within w v u (sym same) within shown) (subst (λ s. Step u s.own (Plain c) r after) (sym same) step) good)
+
+-- ---- the view that a value of the program is
+
+module _ (own hosts : ℕ) (items : List ℕ) (p : Possibilities) (w : View) (role : List Clause) (c : Command) (scope : w.scope ≡ scope_at items hosts own)
+    (same : (i : Item) → IsPossible (view_in (scope_at items hosts own) p) i ↔ IsPossible w i) (looks : is_always_permitted c ≡ false) where
+  pub permitted_of_busy : (there : Bool) → there ≡ has p.pending 0 → there ≡ false → IsPermittedIn w role c
+  permitted_of_busy there tells none =
+      permitted_where_busy w role c looks (false_from_ne_true (w.pending 0) (λ is. false≢true (sym none ∙ tells ∙ (same (Attentions 0)).1 is)))
+
+  pub permitted_of_words : (keys : List ℕ) (clauses : List Clause) (result : Bool) → keys ≡ items → clauses ≡ role
+      → IsTrue result ↔ ArePermitted (view_in (scope_at keys hosts own) p) clauses c (λ u. Unit {0}) → IsTrue result ↔ IsPermittedIn w role c
+  permitted_of_words keys clauses result keyed listed decides =
+      (λ is. permitted_alike v w role c (sym scope) (λ i. (same i).1) (each.0 (here.0 is)), λ permitted. here.1 (each.1 (permitted_alike w v role c scope (λ i. (same i).0) permitted)))
+    where
+      v : View
+      v = view_in (scope_at items hosts own) p
+
+      each : ArePermitted (view_in (scope_at items hosts own) p) role c (λ u. Unit {0}) ↔ IsPermittedIn (view_in (scope_at items hosts own) p) role c
+      each = permitted_from_each v role c looks
+
+      here : IsTrue result ↔ ArePermitted (view_in (scope_at items hosts own) p) role c (λ u. Unit {0})
+      here = subst (λ l. IsTrue result ↔ ArePermitted (view_in (scope_at items hosts own) p) l c (λ u. Unit {0})) listed
+          (subst (λ k. IsTrue result ↔ ArePermitted (view_in (scope_at k hosts own) p) clauses c (λ u. Unit {0})) keyed decides)
