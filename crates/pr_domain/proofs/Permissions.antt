@@ -28,7 +28,7 @@ use Rattle.pr_views.specs.declared.possibilities.Possibilities.{Possibilities}
 use Rattle.pr_views.specs.Possibilities.{Scope, Registration, Reservation, IsSo, key_at, count_of_reservations}
 use Rattle.pr_views.specs.Views.{View, Shows}
 use Rattle.pr_views.specs.Portions.{has_at, view_in}
-use Rattle.pr_views.proofs.Numbering.{key_there, one_reservation}
+use Rattle.pr_views.proofs.Numbering.{key_there, one_registration, one_reservation}
 use Rattle.pr_regions.specs.declared.purpose.Purpose.{Purpose}
 use Rattle.pr_regions.specs.declared.purpose.Standing.{Standing}
 use Rattle.pr_regions.specs.declared.region.Branch.{Branch}
@@ -300,6 +300,14 @@ one_registration_more s view clauses c place n before here =
     at u first (inl same) = inr (record { reserved = first.reserved; registered = subst (λ r. IsSo s u (Registration place.sender r)) same first.registered })
     at u first (inr other) =
         inl (record { registration = first.registration; below = (let e = first.below in let o : first.registration < n = omega (arith, cases_order first.registration n) in o); reserved = first.reserved; registered = first.registered })
+
+-- a registration that the sender has not
+pub not_registered : (keys : List ℕ) (c : Command) (view : Possibilities) (place : Place) (clauses : List Clause) (r : ℕ) → IsThis keys c view place → has_at view.registrations place.sender r ≡ false
+    → ArePermitted (view_in (scope_at keys place.hosts place.sender) view) clauses c (HasBoth (scope_at keys place.hosts place.sender) place r)
+not_registered keys c view place clauses r this none u shown both ends =
+    let seen = shown.registrations place.sender this.is.sender in
+    let same = one_registration (scope_at keys place.hosts place.sender) u place.sender seen.0 r this.asking.fits.scope seen.1.1 both.registered in
+    absurd (false≢true (sym none ∙ subst (λ n. has_at view.registrations place.sender n ≡ true) same seen.1.0.1))
 
 pub each_registration : (keys : List ℕ) (c : Command) (view : Possibilities) (place : Place) (clauses : List Clause) → IsThis keys c view place
     → ArePermitted (view_in (scope_at keys place.hosts place.sender) view) clauses c (HasFirst (scope_at keys place.hosts place.sender) place 13)

@@ -125,6 +125,10 @@ fn is_permitted_with(
     requires registration { registration ≤ 12 }
     ensures { IsTrue result ↔ ArePermitted (view_in (scope_at keys.now place.hosts place.sender) view.now) clauses.now command (HasBoth (scope_at keys.now place.hosts place.sender) place registration) }
 {
+    let possible = view.registrations[usize::from(place.sender)];
+    if !possible.has(registration) {
+        return true;
+    }
     if is_refused(key_at(keys, registration), command) {
         return true;
     }

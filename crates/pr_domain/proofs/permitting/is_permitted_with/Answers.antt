@@ -1,7 +1,20 @@
-use Rattle.std.proofs.Common.{not, refl}
+use Rattle.std.proofs.Common.{◌≡◌, ◌<◌, not, length, slice_index_or, refl, sym, ◌∙◌, subst, arith}
+use Rattle.pr_sets.specs.Words.{has}
+use Rattle.pr_views.proofs.Places.{holds_at-get_or}
 use Rattle.pr_domain.specs.inside.Permitting.{scope_at}
-use Rattle.pr_domain.proofs.Permissions.{one_registration_permitted}
+use Rattle.pr_domain.proofs.Permissions.{not_registered, one_registration_permitted}
 use Rattle.pr_domain.proofs.permitting.is_permitted_with.Goals as goal
+
+pub returns-then-not-has : goal.returns-then-not-has
+returns-then-not-has c =
+    let words = c.args.view.now.registrations in
+    let within : c.args.place.sender < length words = (let below = c.requires.place.sender in let few = c.requires.asking.fits.scope.hosts in omega arith) in
+    let read = subst (λ i. c.has.result ≡ has (slice_index_or words i (record { bits = 0 })) c.args.registration) c.from.ensures c.has.ensures in
+    (
+      λ yes. not_registered c.args.keys.now c.args.command c.args.view.now c.args.place c.args.clauses.now c.args.registration (record { asking = c.requires.asking; is = c.requires.place })
+          (holds_at-get_or (λ w. has w c.args.registration) words c.args.place.sender (record { bits = 0 }) within ∙ sym read ∙ c.if-not-has.true),
+      λ permitted. refl,
+    )
 
 pub returns-then-not-is_one_reached : goal.returns-then-not-is_one_reached
 returns-then-not-is_one_reached c =
