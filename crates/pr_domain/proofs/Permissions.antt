@@ -203,7 +203,10 @@ reached_where_good keys c view place purpose r w branches this asks accepted onl
     by_ending (ending.Fault sense) is ended = absurd (none_some sense (sym ends.whole ∙ ended.1))
     by_ending (ending.Good change) is ended =
         record {
-          branch = one.branch; index = one.index; below = one.below; listed = one.listed;
+          branch = one.branch;
+          index = one.index;
+          below = one.below;
+          listed = one.listed;
           reached = record { change = change; good = is; there = record { unit = u; at = one.at; pending = ends.idle } };
         }
 

@@ -17,9 +17,7 @@ ghost use Rattle.pr_domain.specs.inside.Permitting.{ArePermitted, scope_at, IsAs
 
 use crate::place::Place;
 use pr_cdb::Command;
-use pr_regions::{
-    Branch, Ending, branches, is_refused, purpose_of, reservation_at, standing_of,
-};
+use pr_regions::{Branch, Ending, branches, is_refused, purpose_of, reservation_at, standing_of};
 use pr_registry::Held;
 use pr_roles::{Clause, Condition, Role, names};
 use pr_sets::{ViewSet, Word};
@@ -41,7 +39,14 @@ pub fn permitted<S: ViewSet>(view: &ViewOf<S>, role: &Role, host: u8, command: &
     if !possible.pending.has(0) {
         return true;
     }
-    is_permitted_under_each(&possible, &view.keys, view.hosts, host, &role.clauses, *command)
+    is_permitted_under_each(
+        &possible,
+        &view.keys,
+        view.hosts,
+        host,
+        &role.clauses,
+        *command,
+    )
 }
 
 // Whether the command is one that needs no clause.

@@ -7,8 +7,7 @@ use Rattle.pr_domain.proofs.permitting.is_one_reached.Goals as goal
 
 pub returns-then-is_reached : goal.returns-then-is_reached
 returns-then-is_reached c s is uniform idle proper =
-    let there = c.loop-i-test.true in
-    (
+    let there = c.loop-i-test.true in (
       λ yes. record {
         branch = _;
         index = c.loop-i.i;
@@ -21,8 +20,7 @@ returns-then-is_reached c s is uniform idle proper =
 
 pub loop-i-preserved : goal.loop-i-preserved
 loop-i-preserved c =
-    let there = c.loop-i-test.true in
-    (
+    let there = c.loop-i-test.true in (
       λ s is uniform idle proper.
           more_unreached (view_in s c.args.view.now) c.args.place c.args.senders c.args.branches.now c.loop-i.i _ (slice_get-get_or c.args.branches.now c.loop-i.i _ there)
           (c.loop-i.invariant.0 s is uniform idle proper)

@@ -11,7 +11,7 @@ use Rattle.pr_domain.proofs.permitting.is_one_reached.Given as goal
 abbrev pub invariant-loop-i : goal.invariant-loop-i
 invariant-loop-i l =
     ((s : Scope) → IsPlace s l.view l.place → IsUniform l.senders → has l.view.pending 0 ≡ true → All IsProperBranch l.branches
-        → IsOneReached (view_in s l.view) l.place l.senders l.branches l.i → ⊥)
+    → IsOneReached (view_in s l.view) l.place l.senders l.branches l.i → ⊥)
     × (l.i ≤ length l.branches)
 
 abbrev pub decreases-loop-i : goal.decreases-loop-i

@@ -9,8 +9,7 @@ pub returns-then-not-has : goal.returns-then-not-has
 returns-then-not-has c =
     let words = c.args.view.now.registrations in
     let within : c.args.place.sender < length words = (let below = c.requires.place.sender in let few = c.requires.asking.fits.scope.hosts in omega arith) in
-    let read = subst (λ i. c.has.result ≡ has (slice_index_or words i (record { bits = 0 })) c.args.registration) c.from.ensures c.has.ensures in
-    (
+    let read = subst (λ i. c.has.result ≡ has (slice_index_or words i (record { bits = 0 })) c.args.registration) c.from.ensures c.has.ensures in (
       λ yes. not_registered c.args.keys.now c.args.command c.args.view.now c.args.place c.args.clauses.now c.args.registration (record { asking = c.requires.asking; is = c.requires.place })
           (holds_at-get_or (λ w. has w c.args.registration) words c.args.place.sender (record { bits = 0 }) within ∙ sym read ∙ c.if-not-has.true),
       λ permitted. refl,
