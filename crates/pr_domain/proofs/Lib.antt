@@ -1,12 +1,14 @@
 pub mod Asked
+pub mod DataTaken
 pub mod Ending
 pub mod Gathered
 pub mod Growing
+pub mod Idling
 pub mod Images
 pub mod Leaving
 pub mod Matching
+pub mod Permissions
 pub mod Places
 pub mod Reported
-pub mod Ways
 pub mod Walking
-pub mod DataTaken
+pub mod Ways

@@ -6,8 +6,10 @@ mod changed;
 mod arms;
 mod attentions;
 mod landing;
+mod permitting;
 mod place;
 mod tally;
 mod tallying;
 
 pub use landing::{Class, Landing};
+pub use permitting::permitted;
