@@ -2,9 +2,9 @@
 //! others.
 #![tactic(auto)]
 
-mod changed;
 mod arms;
 mod attentions;
+mod changed;
 mod landing;
 mod permitting;
 mod place;
