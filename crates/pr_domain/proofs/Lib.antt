@@ -1,3 +1,4 @@
 pub mod Places
 pub mod Gathered
 pub mod Images
+pub mod Following

@@ -4,6 +4,7 @@
 
 mod changed;
 mod landing;
+mod onlooker;
 mod place;
 
 pub use landing::{Class, Landing};
