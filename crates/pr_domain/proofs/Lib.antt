@@ -2,3 +2,4 @@ pub mod Places
 pub mod Gathered
 pub mod Images
 pub mod Following
+pub mod Adding

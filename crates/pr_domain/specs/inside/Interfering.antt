@@ -1,5 +1,5 @@
 -- What the steps of another add to possibilities.
-use Rattle.std.specs.Prelude.{◌≡◌, ◌≢◌}
+use Rattle.std.specs.Prelude.{◌≡◌, ◌≢◌, ℕ, ◌<◌, ◌⊎◌, List, slice_index_or}
 use Rattle.pr_unit.specs.UnitStates.{UnitState}
 use Rattle.pr_sets.specs.declared.word.Word.{Word}
 use Rattle.pr_views.specs.declared.possibilities.Possibilities.{Possibilities}
@@ -8,10 +8,12 @@ use Rattle.pr_views.specs.Views.{IsPossible}
 use Rattle.pr_views.specs.Portions.{view_in}
 use Rattle.pr_regions.specs.declared.region.Region.{Region}
 use Rattle.pr_regions.specs.declared.region.Change.{Change}
-use Rattle.pr_regions.specs.Regions.{Changes}
+use Rattle.pr_regions.specs.declared.region.Ending.TheVariants as ending
+use Rattle.pr_regions.specs.declared.region.Branch.{Branch}
+use Rattle.pr_regions.specs.Regions.{Changes, HasRoom}
 use Rattle.pr_domain.specs.declared.place.Place.{Place}
 use Rattle.pr_domain.specs.declared.onlooker.Onlooker.{Onlooker}
-use Rattle.pr_domain.specs.inside.Gathering.{IsPlace, IsAt}
+use Rattle.pr_domain.specs.inside.Gathering.{IsPlace, IsProper, IsAt}
 
 -- it is a place of the onlooker's view, and its sender is another
 pub record IsWatched (s : Scope) (o : Onlooker) (place : Place) : Type 0 where
@@ -33,3 +35,39 @@ pub record IsChanged (s : Scope) (view : Possibilities) (place : Place) (senders
 pub record IsAfter (s : Scope) (view : Possibilities) (place : Place) (senders : Word) (region : Region) (change : Change) (after : Possibilities) : Type 0 where
   pub all : (u w : UnitState) → IsAt (view_in s view) place senders region u → Changes s place.sender change u w → Allows s after w
   pub only : (i : Item) → IsPossible (view_in s after) i → IsChanged s view place senders region change i
+
+-- The new possibilities are the old ones and those of the states that are led to: what is so there is possible, and
+-- whatever else is possible is left.
+pub record Adds (s : Scope) (old new : Possibilities) (leads : UnitState → UnitState → Type 0) (leaves : Item → Type 0) : Type 0 where
+  pub kept : (i : Item) → IsPossible (view_in s old) i → IsPossible (view_in s new) i
+  pub all : (u w : UnitState) → leads u w → Allows s new w
+  pub only : (i : Item) → IsPossible (view_in s new) i → IsPossible (view_in s old) i ⊎ leaves i
+
+-- it holds of one of the first elements
+pub record Among {X : Type 0} (n : ℕ) (xs : List X) (holds : X → Type 0) : Type 0 where
+  pub element : X
+  pub place : ℕ
+  pub below : place < n
+  pub there : slice_index_or xs place element ≡ element
+  pub is : holds element
+
+-- ---- branches
+
+-- a branch that ends GOOD leads so from a state of its region
+pub record IsLedBy (s : Scope) (view : Possibilities) (place : Place) (senders : Word) (branch : Branch) (u w : UnitState) : Type 0 where
+  pub change : Change
+  pub good : branch.ending ≡ ending.Good change
+  pub at : IsAt (view_in s view) place senders branch.region u
+  pub changes : Changes s place.sender change u w
+
+-- it leaves this behind in a state of its region
+pub record IsLeftBy (s : Scope) (view : Possibilities) (place : Place) (senders : Word) (branch : Branch) (i : Item) : Type 0 where
+  pub change : Change
+  pub good : branch.ending ≡ ending.Good change
+  pub changed : IsChanged s view place senders branch.region change i
+
+abbrev pub IsProperBranch : Branch → Type 0
+IsProperBranch branch = IsProper branch.region
+
+abbrev pub BranchHasRoom : ℕ → Branch → Type 0
+BranchHasRoom hosts branch = HasRoom hosts branch.ending
