@@ -1,10 +1,16 @@
 -- What the steps of another add to possibilities.
-use Rattle.std.specs.Prelude.{◌≡◌, ◌≢◌, ℕ, ◌<◌, ◌⊎◌, List, slice_index_or}
-use Rattle.pr_unit.specs.UnitStates.{UnitState}
+use Rattle.std.specs.Prelude.{◌≡◌, ◌≢◌, ℕ, ◌<◌, ◌⊎◌, true, false, None, List, slice_index_or}
+use Rattle.pr_cdb.specs.declared.command.Command.{Command}
+use Rattle.pr_cdb.specs.Requests.{Fits}
+use Rattle.pr_unit.specs.UnitStates.{UnitState, effect}
+use Rattle.pr_unit.specs.Conflicts.{command_conflicts}
+use Rattle.pr_unit.specs.Faults.{command_fault}
+use Rattle.pr_roles.specs.declared.role.Clause.{Clause}
+use Rattle.pr_roles.specs.Permits.{clause_permits}
 use Rattle.pr_sets.specs.declared.word.Word.{Word}
 use Rattle.pr_views.specs.declared.possibilities.Possibilities.{Possibilities}
 use Rattle.pr_views.specs.Possibilities.{Scope, Item, IsSo}
-use Rattle.pr_views.specs.Views.{IsPossible}
+use Rattle.pr_views.specs.Views.{View, IsPossible, Shows}
 use Rattle.pr_views.specs.Portions.{view_in}
 use Rattle.pr_regions.specs.declared.region.Region.{Region}
 use Rattle.pr_regions.specs.declared.region.Change.{Change}
@@ -71,3 +77,27 @@ IsProperBranch branch = IsProper branch.region
 
 abbrev pub BranchHasRoom : ℕ → Branch → Type 0
 BranchHasRoom hosts branch = HasRoom hosts branch.ending
+
+-- ---- clauses
+
+-- a command that the clause permits, and that ends GOOD once nothing is pending for its sender
+pub record IsFree (clause : Clause) (sender : ℕ) (u : UnitState) (c : Command) : Type 0 where
+  pub fits : Fits c
+  pub permitted : clause_permits clause u.registry sender c ≡ true
+  pub free : command_conflicts u.registry sender c ≡ false
+  pub whole : command_fault u.registry sender c ≡ None
+
+-- such a command leads so from a shown state
+pub record ClauseLeads (v : View) (clause : Clause) (sender : ℕ) (u w : UnitState) : Type 0 where
+  pub shown : Shows v u
+  pub command : Command
+  pub free : IsFree clause sender u command
+  pub after : w ≡ effect u sender command
+
+-- it leaves this behind
+pub record ClauseLeaves (v : View) (clause : Clause) (sender : ℕ) (i : Item) : Type 0 where
+  pub from : UnitState
+  pub shown : Shows v from
+  pub command : Command
+  pub free : IsFree clause sender from command
+  pub is : IsSo v.scope (effect from sender command) i
