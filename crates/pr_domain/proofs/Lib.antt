@@ -1,5 +1,7 @@
 pub mod Places
 pub mod Gathered
+pub mod Tallying
+pub mod Leaving
 pub mod Images
 pub mod Following
 pub mod Adding

@@ -1,3 +1,4 @@
 pub mod Gathering
+pub mod Tallies
 pub mod Images
 pub mod Interfering

@@ -6,5 +6,6 @@ mod changed;
 mod landing;
 mod onlooker;
 mod place;
+mod tally;
 
 pub use landing::{Class, Landing};

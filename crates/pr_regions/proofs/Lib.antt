@@ -7,3 +7,4 @@ pub mod Meeting
 pub mod Accesses
 pub mod Preempting
 pub mod Services
+pub mod Covering

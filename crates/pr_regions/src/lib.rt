@@ -1,6 +1,7 @@
 //! How each command ends, region by region of the states that a view shows.
 #![tactic(auto)]
 
+mod branching;
 mod endings;
 mod numbers;
 mod purpose;

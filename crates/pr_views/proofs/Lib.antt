@@ -3,3 +3,5 @@ pub mod Showing
 pub mod Places
 pub mod Projecting
 pub mod Fronts
+pub mod Members
+pub mod Viewing

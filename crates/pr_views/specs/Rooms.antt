@@ -1,5 +1,5 @@
 -- The view that a value of the program is.
-use Rattle.std.specs.Prelude.{◌≡◌, ℕ, ◌+◌, ◌<◌, ◌≤◌, true, false, List, length}
+use Rattle.std.specs.Prelude.{◌≡◌, ℕ, ◌+◌, ◌<◌, ◌≤◌, Bool, true, false, List, length}
 use Rattle.std.specs.FinSet as set
 use Rattle.std.specs.List.{slice_get, All}
 use Rattle.std.specs.Option.{option_map_or}
@@ -15,11 +15,15 @@ use Rattle.pr_views.specs.Portions.{has_at}
 abbrev pub scope_of : {S : Type 0} → ℕ → ViewOf S → Scope
 scope_of own v = record { own = own; hosts = v.hosts; keys = v.keys.items }
 
+-- n is a member of the set at this place of the list
+abbrev pub contains_at : {S : Type 0} → (S → Numbers) → List S → ℕ → ℕ → Bool
+contains_at members sets g n = option_map_or (λ s. set.contains (members s) n) (slice_get sets g) false
+
 -- the view of this owner, by what the members of each set are
 abbrev pub view_of : {S : Type 0} → (S → Numbers) → ℕ → ViewOf S → View
 view_of members own v = record {
   scope = scope_of own v;
-  registrations = λ g r. option_map_or (λ s. set.contains (members s) r) (slice_get v.registrations g) false;
+  registrations = contains_at members v.registrations;
   reservations = λ x. set.contains (members v.reservations) x;
   pending = λ q. set.contains (members v.pending) q;
 }

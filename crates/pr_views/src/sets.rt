@@ -1,10 +1,12 @@
 //! Sets of possibilities, and the words that have the same members.
 
-ghost use Rattle.std.specs.Prelude.{◌≡◌, ◌<◌, ◌≤◌, ℕ, true, length, IfOk};
+ghost use Rattle.std.specs.Prelude.{◌≡◌, ◌<◌, ◌≤◌, ◌↔◌, ℕ, true, false, length, slice_index_or, IsTrue, IfOk};
 ghost use Rattle.std.specs.List.{All};
 ghost use Rattle.std.specs.FinSet as set;
 ghost use Rattle.pr_sets.specs.Numbers.{most};
 ghost use Rattle.pr_sets.specs.Words.{has};
+ghost use Rattle.pr_views.specs.Portions.{has_at};
+ghost use Rattle.pr_views.specs.Rooms.{contains_at};
 
 use pr_sets::{ViewSet, Word};
 use std::alloc::{AllocError, Global};
@@ -16,11 +18,13 @@ pub(crate) fn empty_sets<S: ViewSet>(alloc: Global, size: u8) -> [S; 8]
     ensures room { All (λ s. S.room s ≡ size) result }
     ensures members { All (λ s. S.members s ≡ set.empty) result }
 {
-    array::from_fn(|_| -> S
-        requires { size ≤ most }
-        ensures room { S.room result ≡ size }
-        ensures members { S.members result ≡ set.empty }
-    { S::none(alloc, size) })
+    array::from_fn(
+        |_| -> S
+            requires { size ≤ most }
+            ensures room { S.room result ≡ size }
+            ensures members { S.members result ≡ set.empty }
+        { S::none(alloc, size) },
+    )
 }
 
 /// The set of a word's numbers, which are below the size.
@@ -39,6 +43,27 @@ pub(crate) fn set_of<S: ViewSet>(alloc: Global, size: u8, word: Word) -> Result<
     Ok(numbers)
 }
 
+/// Eight sets of numbers below a size: those of the first words, and empty ones.
+pub(crate) fn sets_of<S: ViewSet>(
+    alloc: Global,
+    size: u8,
+    count: u8,
+    words: &[Word; 8],
+) -> Result<[S; 8], AllocError>
+    requires few { size ≤ most }
+    requires count { count ≤ 8 }
+    requires below { (g n : ℕ) → g < count → has_at words.now g n ≡ true → n < size }
+    ensures room { IfOk result (All (λ s. S.room s ≡ size)) }
+    ensures members { IfOk result (λ sets. (g n : ℕ) → g < count → contains_at S.members sets g n ≡ has_at words.now g n) }
+{
+    let mut sets = empty_sets(alloc, size);
+    for host in 0..count {
+        let place = usize::from(host);
+        sets[place] = set_of(alloc, size, words[place])?;
+    }
+    Ok(sets)
+}
+
 /// The members of a set as a word.
 pub(crate) fn word_of<S: ViewSet>(numbers: &S) -> Word
     ensures { (n : ℕ) → has result n ≡ set.contains (S.members numbers.now) n }
@@ -50,4 +75,58 @@ pub(crate) fn word_of<S: ViewSet>(numbers: &S) -> Word
         }
     }
     word
+}
+
+/// The members of the first sets as words. The others are empty.
+pub(crate) fn words_of<S: ViewSet>(sets: &[S; 8], count: u8) -> [Word; 8]
+    requires { count ≤ 8 }
+    ensures there { (g n : ℕ) → g < count → has_at result g n ≡ contains_at S.members sets.now g n }
+    ensures past { (g n : ℕ) → count ≤ g → has_at result g n ≡ false }
+{
+    let mut words = [Word::none(); 8];
+    for host in 0..count {
+        let place = usize::from(host);
+        words[place] = word_of(&sets[place]);
+    }
+    words
+}
+
+/// Whether each of the first sets is within the other of its place.
+pub(crate) fn are_within<S: ViewSet>(sets: &[S; 8], others: &[S; 8], count: u8) -> bool
+    requires count { count ≤ 8 }
+    requires alike { (k : ℕ) (d : S) → k < length sets.now → k < length others.now → S.room (slice_index_or others.now k d) ≡ S.room (slice_index_or sets.now k d) }
+    ensures { IsTrue result ↔ ((g n : ℕ) → g < count → contains_at S.members sets.now g n ≡ true → contains_at S.members others.now g n ≡ true) }
+{
+    for host in 0..count {
+        let place = usize::from(host);
+        if !sets[place].within(&others[place]) {
+            return false;
+        }
+    }
+    true
+}
+
+/// Whether each of the first sets is empty.
+pub(crate) fn are_empty<S: ViewSet>(sets: &[S; 8], count: u8) -> bool
+    requires { count ≤ 8 }
+    ensures { IsTrue result ↔ ((g n : ℕ) → g < count → contains_at S.members sets.now g n ≡ false) }
+{
+    for host in 0..count {
+        if !sets[usize::from(host)].is_empty() {
+            return false;
+        }
+    }
+    true
+}
+
+/// Whether each set is of numbers below the size.
+pub(crate) fn have_room<S: ViewSet>(sets: &[S; 8], size: usize) -> bool
+    ensures { IsTrue result ↔ All (λ s. S.room s ≡ size) sets.now }
+{
+    for place in 0..8 {
+        if usize::from(sets[place].size()) != size {
+            return false;
+        }
+    }
+    true
 }

@@ -1,7 +1,21 @@
 //! Views.
 
+ghost use Rattle.std.specs.Prelude.{◌≡◌, ◌<◌, ◌≤◌, ◌+◌, ◌↔◌, ◌⊎◌, ℕ, true, false, length, IsTrue, IfOk, OnOk, OnErr};
+ghost use Rattle.pr_roles.specs.Fitting.{AreDeclared};
+ghost use Rattle.pr_views.specs.Possibilities.{Item, count_of_reservations};
+ghost use Rattle.pr_views.specs.Views.{IsPossible, Within};
+ghost use Rattle.pr_views.specs.Portions.{has_at, view_in};
+ghost use Rattle.pr_views.specs.Rooms.{scope_of, view_of, IsMade, AreAlike, AreInRange};
+ghost use Rattle.pr_views.specs.inside.Room.{HasRoom};
+
+use crate::possibilities::Possibilities;
+use crate::sets::{
+    are_empty, are_within, empty_sets, have_room, set_of, sets_of, word_of, words_of,
+};
 use arrayvec::ArrayVec;
+use pr_roles::are_distinct;
 use pr_sets::ViewSet;
+use std::alloc::{AllocError, Global};
 
 /// What a host can know of the logical unit: which registrations are possible for each host and guest, which
 /// reservations, and which attentions pending for itself.
@@ -18,4 +32,170 @@ pub struct ViewOf<S: ViewSet> {
     pub reservations: S,
     /// The attentions pending for the owner of the view, with a bit for each code, the lowest code lowest.
     pub pending: S,
+}
+
+/// How many sets of pending attentions there are.
+const ATTENTIONS: u8 = 16;
+
+/// How many keys a scenario declares at most.
+const MOST_KEYS: usize = 12;
+
+impl<S: ViewSet> ViewOf<S> {
+    /// The view in which nothing is possible, of so many hosts and guests. It takes no memory yet.
+    pub fn nothing(alloc: Global, keys: &[u64], hosts: u8) -> Self
+        requires hosts { (1 ≤ hosts) × (hosts ≤ 8) }
+        requires keys { AreDeclared keys.now }
+        ensures made { IsMade S.room result }
+        ensures keys { result.keys.items ≡ keys.now }
+        ensures hosts { result.hosts ≡ hosts }
+        ensures none { (own : ℕ) (i : Item) → ¬ IsPossible (view_of S.members own result) i }
+    {
+        ViewOf {
+            keys: copied(keys),
+            hosts,
+            registrations: empty_sets(alloc, count_of_registrations(keys)),
+            reservations: S::none(alloc, count_of_reservations(hosts)),
+            pending: S::none(alloc, ATTENTIONS),
+        }
+    }
+
+    /// The view in which this is possible. Where memory is refused, nothing is left behind.
+    pub fn of(
+        alloc: Global,
+        keys: &[u64],
+        hosts: u8,
+        possibilities: &Possibilities,
+    ) -> Result<Self, AllocError>
+        requires hosts { (1 ≤ hosts) × (hosts ≤ 8) }
+        requires keys { AreDeclared keys.now }
+        requires range { AreInRange hosts keys.now possibilities.now }
+        ensures made { IfOk result (IsMade S.room) }
+        ensures keys { IfOk result (λ v. v.keys.items ≡ keys.now) }
+        ensures hosts { IfOk result (λ v. v.hosts ≡ hosts) }
+        ensures same { IfOk result (λ v. (own : ℕ) (i : Item) → IsPossible (view_of S.members own v) i ↔ IsPossible (view_in (scope_of own v) possibilities.now) i) }
+    {
+        let registrations = sets_of(
+            alloc,
+            count_of_registrations(keys),
+            hosts,
+            &possibilities.registrations,
+        )?;
+        let reservations = set_of(
+            alloc,
+            count_of_reservations(hosts),
+            possibilities.reservations,
+        )?;
+        let pending = set_of(alloc, ATTENTIONS, possibilities.pending)?;
+        Ok(ViewOf {
+            keys: copied(keys),
+            hosts,
+            registrations,
+            reservations,
+            pending,
+        })
+    }
+
+    /// What is possible in the view, as words. Those past the hosts and guests that are there are empty.
+    pub fn possibilities(&self) -> Possibilities
+        requires { IsMade S.room self.now }
+        ensures same { (own : ℕ) (i : Item) → IsPossible (view_in (scope_of own self.now) result) i ↔ IsPossible (view_of S.members own self.now) i }
+        ensures past { (g r : ℕ) → self.now.hosts ≤ g → has_at result.registrations g r ≡ false }
+        ensures range { AreInRange self.now.hosts self.now.keys.items result }
+    {
+        Possibilities {
+            registrations: words_of(&self.registrations, self.hosts),
+            reservations: word_of(&self.reservations),
+            pending: word_of(&self.pending),
+        }
+    }
+
+    /// Adds what is possible in the other. Where memory is refused, the view stays as it was.
+    pub fn join(&mut self, alloc: Global, other: &Self) -> Result<(), AllocError>
+        requires made { IsMade S.room self.old }
+        requires other { IsMade S.room other.now }
+        requires alike { AreAlike self.old other.now }
+        ensures made { IsMade S.room self.new }
+        ensures alike { AreAlike self.old self.new }
+        ensures ok { OnOk result ((own : ℕ) (i : Item) → IsPossible (view_of S.members own self.new) i ↔ (IsPossible (view_of S.members own self.old) i ⊎ IsPossible (view_of S.members own other.now) i)) }
+        ensures err { OnErr result (self.new ≡ self.old) }
+    {
+        let mut either = self.possibilities();
+        either.join(&other.possibilities());
+        *self = Self::of(alloc, &self.keys, self.hosts, &either)?;
+        Ok(())
+    }
+
+    /// Whether everything that is possible in the view is possible in the other.
+    pub fn within(&self, other: &Self) -> bool
+        requires made { IsMade S.room self.now }
+        requires other { IsMade S.room other.now }
+        requires alike { AreAlike self.now other.now }
+        ensures { IsTrue result ↔ ((own : ℕ) → Within (view_of S.members own self.now) (view_of S.members own other.now)) }
+    {
+        are_within(&self.registrations, &other.registrations, self.hosts)
+            && self.reservations.within(&other.reservations)
+            && self.pending.within(&other.pending)
+    }
+
+    /// Whether nothing is possible in the view.
+    pub fn is_empty(&self) -> bool
+        requires { IsMade S.room self.now }
+        ensures { IsTrue result ↔ ((own : ℕ) (i : Item) → ¬ IsPossible (view_of S.members own self.now) i) }
+    {
+        are_empty(&self.registrations, self.hosts)
+            && self.reservations.is_empty()
+            && self.pending.is_empty()
+    }
+
+    /// Whether the view can be one: of 1 to 8 hosts and guests, with declared keys, and sets that have room for what
+    /// is possible of each.
+    pub fn fits(&self) -> bool
+        ensures { IsTrue result ↔ IsMade S.room self.now }
+    {
+        1 <= self.hosts && self.hosts <= 8 && are_declared(&self.keys) && self.has_room()
+    }
+
+    // Whether the sets have room for what is possible of each.
+    fn has_room(&self) -> bool
+        requires { self.now.hosts ≤ 8 }
+        ensures { IsTrue result ↔ HasRoom S.room self.now }
+    {
+        have_room(&self.registrations, self.keys.len() + 1)
+            && self.reservations.size() == count_of_reservations(self.hosts)
+            && self.pending.size() == ATTENTIONS
+    }
+}
+
+// How many registrations one can have: none, or one by each key.
+fn count_of_registrations(keys: &[u64]) -> u8
+    requires { length keys.now ≤ 12 }
+    ensures { result ≡ length keys.now + 1 }
+{
+    keys.len() as u8 + 1
+}
+
+// How many reservations there can be.
+fn count_of_reservations(hosts: u8) -> u8
+    requires { hosts ≤ 8 }
+    ensures { result ≡ count_of_reservations hosts }
+{
+    hosts * 4 + 3
+}
+
+fn copied(keys: &[u64]) -> ArrayVec<u64, 12>
+    requires { length keys.now ≤ 12 }
+    ensures { result.items ≡ keys.now }
+{
+    let mut all = ArrayVec::new();
+    for key in keys {
+        all.push(*key);
+    }
+    all
+}
+
+// Whether the keys can be those of a scenario.
+fn are_declared(keys: &[u64]) -> bool
+    ensures { IsTrue result ↔ AreDeclared keys.now }
+{
+    keys.len() <= MOST_KEYS && !keys.contains(&0) && are_distinct(keys)
 }

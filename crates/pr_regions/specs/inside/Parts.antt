@@ -49,19 +49,18 @@ another j r = not (r == 0) && not (r == j)
 
 -- ---- regions and changes
 
--- the region leaves these registrations to a holder and to the others, and has no test
-pub record Leaves (region : Region) (holder others : ℕ → Bool) : Type 0 where
+-- a region's test passes these registrations, if it has one
+abbrev pub IsTest : Option Word → Option (ℕ → Bool) → Type 0
+IsTest None None = Unit {0}
+IsTest None (Some passes) = ⊥
+IsTest (Some w) None = ⊥
+IsTest (Some w) (Some passes) = HasThose w passes
+
+-- the region leaves these registrations to a holder and to the others, and has this test, if any
+pub record Leaves (region : Region) (holder others : ℕ → Bool) (test : Option (ℕ → Bool)) : Type 0 where
   pub to_holder : HasThose region.holder holder
   pub to_others : HasThose region.others others
-  pub untested : region.somebody ≡ None
-
--- the region leaves every registration to everybody, and asks for one that passes
-pub record Asks (region : Region) (passes : ℕ → Bool) : Type 0 where
-  pub word : Word
-  pub to_holder : HasThose region.holder any
-  pub to_others : HasThose region.others any
-  pub tested : region.somebody ≡ Some word
-  pub passing : HasThose word passes
+  pub tested : IsTest region.somebody test
 
 -- the change gives the sender this registration, where it gives one, removes and tells these others, and leaves
 -- this reservation
@@ -114,6 +113,12 @@ is_kept_from keeps (Some v) sender standing = keeps (kind_of v) v sender standin
 pub record AlwaysEnds (hosts : ℕ) (purpose : Purpose) (held : Option Held) (sender : ℕ) (standing : Standing) (ending : Ending) : Type 0 where
   pub ends : (s : Scope) (u : UnitState) (c : Command) → s.hosts ≡ hosts → Meets s purpose held sender standing u c → Ends s sender ending u c
   pub fits : HasRoom hosts ending
+
+-- in a state of its region that meets what is known it ends as the branch says
+pub record EndsIn (hosts : ℕ) (purpose : Purpose) (held : Option Held) (sender : ℕ) (standing : Standing) (branch : Branch) : Type 0 where
+  pub ends : (s : Scope) (u : UnitState) (c : Command) → s.hosts ≡ hosts → Meets s purpose held sender standing u c → IsInRegion s sender branch.region u → Ends s sender branch.ending u c
+  pub proper : IsProper branch
+  pub fits : HasRoom hosts branch.ending
 
 -- the branches tell how it ends, and their numbers fit
 pub record Tell (hosts : ℕ) (purpose : Purpose) (held : Option Held) (sender : ℕ) (standing : Standing) (branches : List Branch) : Type 0 where

@@ -19,11 +19,11 @@ loop-n-preserved g c =
       | then-has+in_ok-add w ↦ record {
         room = ap g.S.ViewSet.room w.numbers-is ∙ w.add.ensures.room ∙ c.loop-n.invariant.room;
         members = added (members c.loop-n.numbers) (members c.if-has.numbers) c.args.word c.loop-n.n c.loop-n.invariant.members (sym c.has.ensures ∙ w.if-has.true)
-        (ap members w.numbers-is ∙ w.in_ok-add.ensures.ok);
+            (ap members w.numbers-is ∙ w.in_ok-add.ensures.ok);
       }
       | else-has w ↦ record {
         room = ap g.S.ViewSet.room w.numbers-is ∙ c.loop-n.invariant.room;
         members = front_skips (set.contains (members c.if-has.numbers)) (has c.args.word) c.loop-n.n
-        (λ m. ap (λ s. set.contains (members s) m) w.numbers-is ∙ c.loop-n.invariant.members m) (sym c.has.ensures ∙ w.if-has.false);
+            (λ m. ap (λ s. set.contains (members s) m) w.numbers-is ∙ c.loop-n.invariant.members m) (sym c.has.ensures ∙ w.if-has.false);
       }
     ]

@@ -1,0 +1,187 @@
+-- What a tally has once the states of one region are added.
+use Rattle.std.proofs.Common.{◌≡◌, ◌≢◌, ◌⊎◌, ℕ, zero, suc, ◌+◌, ◌<◌, ◌≤◌, Bool, true, false, ◌==◌, ◌&&◌, ◌||◌, if◌then◌else◌, List, Option, Some, None, is_some, unwrap_or, refl, sym, ap, ◌∙◌, subst, inl, inr, arith}
+use Rattle.std.proofs.lemmas.Bool.{and_parts, and_from, or_cases, or_left, or_right, false≢true}
+use Rattle.std.proofs.lemmas.Bool.Decides.{nat_tests, eqb_tells}
+use Rattle.pr_cdb.specs.declared.command.Command.{Command}
+use Rattle.pr_cdb.specs.declared.reply.Sense.{Sense}
+use Rattle.pr_unit.specs.UnitStates.{UnitState, effect}
+use Rattle.pr_unit.specs.Conflicts.{command_conflicts}
+use Rattle.pr_unit.specs.Faults.{command_fault}
+use Rattle.pr_unit.specs.Replies.{good, data_of}
+use Rattle.pr_script.specs.declared.script.Test.{Test}
+use Rattle.pr_sets.specs.declared.word.Word.{Word}
+use Rattle.pr_sets.specs.Words.{has}
+use Rattle.pr_views.specs.declared.possibilities.Possibilities.{Possibilities}
+use Rattle.pr_views.specs.Possibilities.{Scope, Item, Registration, Reservation, Attentions, IsSo}
+use Rattle.pr_views.specs.Views.{View, Shows}
+use Rattle.pr_views.specs.Portions.{has_at, view_in}
+use Rattle.pr_views.proofs.Numbering.{one_registration}
+use Rattle.pr_regions.specs.declared.region.Branch.{Branch}
+use Rattle.pr_regions.specs.declared.region.Change.{Change}
+use Rattle.pr_regions.specs.declared.region.Ending.{Ending}
+use Rattle.pr_regions.specs.declared.region.Ending.TheVariants as ending
+use Rattle.pr_regions.specs.declared.region.Region.{Region}
+use Rattle.pr_regions.specs.Readings.{first_test}
+use Rattle.pr_regions.specs.Regions.{Ends, Changes}
+use Rattle.pr_domain.specs.declared.place.Place.{Place}
+use Rattle.pr_domain.specs.declared.tally.Tally.{Tally}
+use Rattle.pr_domain.specs.inside.Gathering.{IsPlace, IsUniform, IsProper, IsAt, IsMet, IsThere, IsGathered}
+use Rattle.pr_domain.specs.inside.Images.{IsImage, becomes, left}
+use Rattle.pr_domain.specs.inside.Tallies.{IsRegistered, has_part, tallied, arm_of, Leaves, IsFound, Grows, IsRight}
+
+-- the possibilities are what is so, of registrations and reservation, after these states become others
+pub record IsPart (v : View) (At : UnitState → Type 0) (after : UnitState → UnitState) (p : Possibilities) : Type 0 where
+  pub all : (u : UnitState) (i : Item) → At u → IsRegistered v.scope (after u) i → has_part p i ≡ true
+  pub only : (i : Item) (q : ℕ) → has_part p i ≡ true → v.pending q ≡ true
+      → (u : UnitState) × At u × IsRegistered v.scope (after u) i × IsSo v.scope u (Attentions q)
+
+-- what a tally has to which this was added
+abbrev pub IsAdded : Tally → ℕ → Possibilities → Tally → Type 0
+IsAdded old way p new = (w : ℕ) (i : Item) → tallied new w i ≡ (tallied old w i || (w == way && has_part p i))
+
+added_cases : (old new : Tally) (way : ℕ) (p : Possibilities) → IsAdded old way p new → (w : ℕ) (i : Item) → tallied new w i ≡ true
+    → (tallied old w i ≡ true) ⊎ ((w ≡ way) × (has_part p i ≡ true))
+added_cases old new way p added w i has = at (or_cases (tallied old w i) (w == way && has_part p i) (sym (added w i) ∙ has))
+  where
+    at : (tallied old w i ≡ true) ⊎ ((w == way && has_part p i) ≡ true) → (tallied old w i ≡ true) ⊎ ((w ≡ way) × (has_part p i ≡ true))
+    at (inl before) = inl before
+    at (inr both) = let parts = and_parts (w == way) (has_part p i) both in inr (grind (arith, nat_tests), parts.1)
+
+added_here : (old new : Tally) (way : ℕ) (p : Possibilities) → IsAdded old way p new → (i : Item) → has_part p i ≡ true → tallied new way i ≡ true
+added_here old new way p added i has =
+    let same : (way == way) ≡ true = grind (arith, nat_tests) in
+    added way i ∙ or_right (tallied old way i) (way == way && has_part p i) (and_from _ _ same has)
+
+added_kept : (old new : Tally) (way : ℕ) (p : Possibilities) → IsAdded old way p new → (w : ℕ) (i : Item) → tallied old w i ≡ true → tallied new w i ≡ true
+added_kept old new way p added w i has = added w i ∙ or_left (tallied old w i) (w == way && has_part p i) has
+
+-- ---- nothing is added
+
+pub grows_nothing : (v : View) (c : Command) (tests : List Test) (t : Tally) (At : UnitState → Type 0) → ((u : UnitState) → At u → ⊥) → Grows v c tests t t At
+grows_nothing v c tests t At nobody = record {
+  kept = λ way i has. has;
+  all = λ u way i shown at leaves. absurd (nobody u at);
+  only = λ way i q has pending. inl has;
+}
+
+-- ---- a conflict
+
+pub grows_conflict : (v : View) (c : Command) (tests : List Test) (At : UnitState → Type 0) (old new : Tally) (p : Possibilities)
+    → ((u : UnitState) → At u → Shows v u) → ((u : UnitState) → At u → command_conflicts u.registry v.scope.own c ≡ true)
+    → IsPart v At (λ u. u) p → IsAdded old 0 p new → Grows v c tests old new At
+grows_conflict v c tests At old new p shows conflicts is added = record {
+  kept = added_kept old new 0 p added;
+  all = all;
+  only = λ way i q has pending. only way i q pending (added_cases old new 0 p added way i has);
+}
+  where
+    all : (u : UnitState) (way : ℕ) (i : Item) → Shows v u → At u → Leaves v.scope c tests way u i → tallied new way i ≡ true
+    all u zero i shown at leaves = added_here old new 0 p added i (is.all u i at leaves.1)
+    all u (suc zero) i shown at leaves = absurd (false≢true (sym leaves.0 ∙ conflicts u at))
+    all u (suc (suc zero)) i shown at leaves = absurd (false≢true (sym leaves.0 ∙ conflicts u at))
+    all u (suc (suc (suc n))) i shown at leaves = absurd (false≢true (sym leaves.0 ∙ conflicts u at))
+
+    only : (way : ℕ) (i : Item) (q : ℕ) → v.pending q ≡ true → (tallied old way i ≡ true) ⊎ ((way ≡ 0) × (has_part p i ≡ true))
+        → (tallied old way i ≡ true) ⊎ IsFound v c tests At way i q
+    only way i q pending (inl before) = inl before
+    only zero i q pending (inr here) = inr (
+        let met = is.only i q here.1 pending in
+        record { unit = met.0; shown = shows met.0 met.1; among = met.1; leaves = (conflicts met.0 met.1, met.2); pending = met.3 })
+    only (suc n) i q pending (inr here) = absurd (omega (arith, here.0))
+
+-- ---- a fault
+
+pub grows_fault : (v : View) (c : Command) (tests : List Test) (sense : Sense) (At : UnitState → Type 0) (old mid new : Tally) (p : Possibilities)
+    → ((u : UnitState) → At u → Shows v u)
+    → ((u : UnitState) → At u → (command_conflicts u.registry v.scope.own c ≡ false) × (command_fault u.registry v.scope.own c ≡ Some sense))
+    → IsPart v At (λ u. u) p → IsAdded old 1 p mid → IsAdded mid 2 p new → Grows v c tests old new At
+grows_fault v c tests sense At old mid new p shows faults is first second = record {
+  kept = λ way i has. added_kept mid new 2 p second way i (added_kept old mid 1 p first way i has);
+  all = all;
+  only = λ way i q has pending. late way i q pending (added_cases mid new 2 p second way i has);
+}
+  where
+    some : (u : UnitState) → At u → is_some (command_fault u.registry v.scope.own c) ≡ true
+    some u at = ap is_some (faults u at).1
+
+    none : (o : Option Sense) → o ≡ Some sense → o ≡ None → ⊥
+    none o is isnt = false≢true (ap is_some (sym isnt ∙ is))
+
+    all : (u : UnitState) (way : ℕ) (i : Item) → Shows v u → At u → Leaves v.scope c tests way u i → tallied new way i ≡ true
+    all u zero i shown at leaves = absurd (false≢true (sym (faults u at).0 ∙ leaves.0))
+    all u (suc zero) i shown at leaves = added_kept mid new 2 p second 1 i (added_here old mid 1 p first i (is.all u i at leaves.1))
+    all u (suc (suc zero)) i shown at leaves = added_here mid new 2 p second i (is.all u i at leaves.2)
+    all u (suc (suc (suc n))) i shown at leaves = absurd (none (command_fault u.registry v.scope.own c) (faults u at).1 leaves.1)
+
+    early : (way : ℕ) (i : Item) (q : ℕ) → v.pending q ≡ true → (tallied old way i ≡ true) ⊎ ((way ≡ 1) × (has_part p i ≡ true))
+        → (tallied old way i ≡ true) ⊎ IsFound v c tests At way i q
+    early way i q pending (inl before) = inl before
+    early zero i q pending (inr here) = absurd (omega (arith, here.0))
+    early (suc zero) i q pending (inr here) = inr (
+        let met = is.only i q here.1 pending in
+        record { unit = met.0; shown = shows met.0 met.1; among = met.1; leaves = ((faults met.0 met.1).0, met.2); pending = met.3 })
+    early (suc (suc n)) i q pending (inr here) = absurd (omega (arith, here.0))
+
+    late : (way : ℕ) (i : Item) (q : ℕ) → v.pending q ≡ true → (tallied mid way i ≡ true) ⊎ ((way ≡ 2) × (has_part p i ≡ true))
+        → (tallied old way i ≡ true) ⊎ IsFound v c tests At way i q
+    late way i q pending (inl before) = early way i q pending (added_cases old mid 1 p first way i before)
+    late zero i q pending (inr here) = absurd (omega (arith, here.0))
+    late (suc zero) i q pending (inr here) = absurd (omega (arith, here.0))
+    late (suc (suc zero)) i q pending (inr here) = inr (
+        let met = is.only i q here.1 pending in
+        record { unit = met.0; shown = shows met.0 met.1; among = met.1; leaves = ((faults met.0 met.1).0, some met.0 met.1, met.2); pending = met.3 })
+    late (suc (suc (suc n))) i q pending (inr here) = absurd (omega (arith, here.0))
+
+-- ---- GOOD
+
+pub grows_good : (v : View) (c : Command) (tests : List Test) (arm : ℕ) (At : UnitState → Type 0) (old mid new : Tally) (p after : Possibilities)
+    → ((u : UnitState) → At u → Shows v u)
+    → ((u : UnitState) → At u → (command_conflicts u.registry v.scope.own c ≡ false) × (command_fault u.registry v.scope.own c ≡ None)
+        × (first_test tests (good (data_of u.registry c)) ≡ arm_of arm))
+    → IsPart v At (λ u. u) p → IsPart v At (λ u. effect u v.scope.own c) after → IsAdded old 1 p mid → IsAdded mid (suc (suc (suc arm))) after new → Grows v c tests old new At
+grows_good v c tests arm At old mid new p after shows done is then_is first second = record {
+  kept = λ way i has. added_kept mid new (suc (suc (suc arm))) after second way i (added_kept old mid 1 p first way i has);
+  all = all;
+  only = λ way i q has pending. late way i q pending (added_cases mid new (suc (suc (suc arm))) after second way i has);
+}
+  where
+    none : (o : Option Sense) → o ≡ None → is_some o ≡ true → ⊥
+    none o is isnt = false≢true (ap is_some (sym is) ∙ isnt)
+
+    same_arm : (m n : ℕ) → arm_of m ≡ arm_of n → m ≡ n
+    same_arm zero zero is = refl
+    same_arm zero (suc n) is = let bad : None ≡ Some n = is in cc
+    same_arm (suc m) zero is = let bad : Some m ≡ None = is in cc
+    same_arm (suc m) (suc n) is = let good : Some m ≡ Some n = is in cc
+
+    all : (u : UnitState) (way : ℕ) (i : Item) → Shows v u → At u → Leaves v.scope c tests way u i → tallied new way i ≡ true
+    all u zero i shown at leaves = absurd (false≢true (sym (done u at).0 ∙ leaves.0))
+    all u (suc zero) i shown at leaves = added_kept mid new (suc (suc (suc arm))) after second 1 i (added_here old mid 1 p first i (is.all u i at leaves.1))
+    all u (suc (suc zero)) i shown at leaves = absurd (none (command_fault u.registry v.scope.own c) (done u at).1 leaves.1)
+    all u (suc (suc (suc n))) i shown at leaves =
+        let same = same_arm arm n (sym (done u at).2 ∙ leaves.2) in
+        subst (λ m. tallied new (suc (suc (suc m))) i ≡ true) same (added_here mid new (suc (suc (suc arm))) after second i (then_is.all u i at leaves.3))
+
+    early : (way : ℕ) (i : Item) (q : ℕ) → v.pending q ≡ true → (tallied old way i ≡ true) ⊎ ((way ≡ 1) × (has_part p i ≡ true))
+        → (tallied old way i ≡ true) ⊎ IsFound v c tests At way i q
+    early way i q pending (inl before) = inl before
+    early zero i q pending (inr here) = absurd (omega (arith, here.0))
+    early (suc zero) i q pending (inr here) = inr (
+        let met = is.only i q here.1 pending in
+        record { unit = met.0; shown = shows met.0 met.1; among = met.1; leaves = ((done met.0 met.1).0, met.2); pending = met.3 })
+    early (suc (suc n)) i q pending (inr here) = absurd (omega (arith, here.0))
+
+    late : (way : ℕ) (i : Item) (q : ℕ) → v.pending q ≡ true → (tallied mid way i ≡ true) ⊎ ((way ≡ suc (suc (suc arm))) × (has_part after i ≡ true))
+        → (tallied old way i ≡ true) ⊎ IsFound v c tests At way i q
+    late way i q pending (inl before) = early way i q pending (added_cases old mid 1 p first way i before)
+    late zero i q pending (inr here) = absurd (omega (arith, here.0))
+    late (suc zero) i q pending (inr here) = absurd (omega (arith, here.0))
+    late (suc (suc zero)) i q pending (inr here) = absurd (omega (arith, here.0))
+    late (suc (suc (suc n))) i q pending (inr here) = inr (
+        let met = then_is.only i q here.1 pending in
+        let same : arm ≡ n = omega (arith, here.0) in
+        record {
+          unit = met.0; shown = shows met.0 met.1; among = met.1;
+          leaves = ((done met.0 met.1).0, (done met.0 met.1).1, (done met.0 met.1).2 ∙ ap arm_of same, met.2);
+          pending = met.3;
+        })

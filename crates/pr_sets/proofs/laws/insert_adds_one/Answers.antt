@@ -1,0 +1,5 @@
+use Rattle.pr_sets.proofs.Lattice.{insert_adds_one}
+use Rattle.pr_sets.proofs.laws.insert_adds_one.Goals as goal
+
+pub returns : goal.returns
+returns c = insert_adds_one

@@ -1,0 +1,6 @@
+use Rattle.std.proofs.Common.{◌≡◌, ℕ, ◌<◌, false}
+use Rattle.pr_views.specs.Rooms.{contains_at}
+use Rattle.pr_views.proofs.sets.are_empty.Given as goal
+
+abbrev pub invariant-loop-host : goal.invariant-loop-host
+invariant-loop-host g l = (h n : ℕ) → h < l.host → contains_at g.S.ViewSet.members l.sets h n ≡ false

@@ -1,0 +1,17 @@
+use Rattle.std.proofs.Common.{◌≡◌, ◌∙◌, arith}
+use Rattle.std.proofs.lemmas.List.Elements.{All-set}
+use Rattle.pr_sets.specs.Words.{has}
+use Rattle.pr_views.proofs.Places.{holds_at-get_or}
+use Rattle.pr_views.proofs.Members.{sets_more}
+use Rattle.pr_views.proofs.sets.sets_of.Goals as goal
+
+pub set_of-requires-clause-below : goal.set_of-requires-clause-below
+set_of-requires-clause-below g c n there =
+    c.requires.below c.from-place.result n (omega arith) (holds_at-get_or (λ w. has w n) c.args.words.now c.from-place.result (record { bits = 0 }) (omega arith) ∙ there)
+
+pub loop-host-preserved : goal.loop-host-preserved
+loop-host-preserved g c = record {
+  room = All-set (λ s. g.S.ViewSet.room s ≡ c.args.size) c.loop-host.sets c.from-place.result c.in_ok-sets.field-0 c.in_ok-sets.ensures.room c.loop-host.invariant.room;
+  members = sets_more g.S.ViewSet.members c.loop-host.sets c.args.words.now c.loop-host.host c.from-place.result c.in_ok-sets.field-0 (record { bits = 0 }) c.loop-host.invariant.members
+      c.from-place.ensures (omega arith) (omega arith) c.in_ok-sets.ensures.members;
+}
