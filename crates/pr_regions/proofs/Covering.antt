@@ -152,6 +152,25 @@ somebody_or_nobody s p held sender standing u c passes m =
     all_hosts (inl there) = inl there
     all_hosts (inr none) = inr (λ g r other so. none g r so.0 other so)
 
+-- where every registration is left to everybody
+pub everyone : (held : Option Held) (g r : ℕ) → left_to any any held g r ≡ true
+everyone None g r = refl
+everyone (Some (All kind)) g r = refl
+everyone (Some (One kind h)) g r = at (h == g)
+  where
+    at : (b : Bool) → (if b then true else true) ≡ true
+    at true = refl
+    at false = refl
+
+-- a test that none does not pass is proper
+pub untested : (somebody : Option Word) → IsTest somebody None → IsUntestedOrRegistered somebody
+untested None tests = tt
+untested (Some w) tests = absurd tests
+
+pub tested : (somebody : Option Word) (passes : ℕ → Bool) → passes 0 ≡ false → IsTest somebody (Some passes) → IsUntestedOrRegistered somebody
+tested None passes fails tests = absurd tests
+tested (Some w) passes fails tests = tests 0 (omega arith) ∙ fails
+
 -- ---- branches
 
 pub tell : (hosts : ℕ) (p : Purpose) (held : Option Held) (sender : ℕ) (standing : Standing) (branches : List Branch) → Each (EndsIn hosts p held sender standing) branches
@@ -181,16 +200,3 @@ tell_alone hosts p held sender standing branch leaves always =
       listed = (0, omega arith, refl);
       inside = in_region s u sender branch.region any any None (few_keys s.keys m.scope.keys) leaves (record { registrations = λ g r other so. everyone u.registry.held g r; somebody = tt });
     })
-  where
-    everyone : (held : Option Held) (g r : ℕ) → left_to any any held g r ≡ true
-    everyone None g r = refl
-    everyone (Some (All kind)) g r = refl
-    everyone (Some (One kind h)) g r = at (h == g)
-      where
-        at : (b : Bool) → (if b then true else true) ≡ true
-        at true = refl
-        at false = refl
-
-    untested : (somebody : Option Word) → IsTest somebody None → IsUntestedOrRegistered somebody
-    untested None tests = tt
-    untested (Some w) tests = absurd tests

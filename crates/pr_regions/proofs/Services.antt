@@ -23,7 +23,7 @@ use Rattle.pr_regions.specs.Regions.{Meets, Ends, HasRoom}
 use Rattle.pr_regions.specs.inside.Parts.{Does, AlwaysEnds, never, registered, told_if, holds}
 use Rattle.pr_regions.proofs.Asking.{key_named, IsNamed}
 use Rattle.pr_regions.proofs.Becoming.{Becomes, still, on_register, on_release, on_clear}
-use Rattle.pr_regions.proofs.Preempting.{in_case, on_preempt_all}
+use Rattle.pr_regions.proofs.Preempted.{in_case, on_preempt_all}
 use Rattle.pr_regions.proofs.Meeting.{is_holder-standing, asks, conflict_ends, fault_ends, good_ends, leaves}
 
 -- ---- REGISTER

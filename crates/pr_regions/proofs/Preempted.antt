@@ -12,7 +12,7 @@ use Rattle.pr_registry.specs.Changes.{Case, ReplacesAll, ReplacesHolder, Removes
 use Rattle.pr_registry.specs.Effects.{next, held_by_rest, held_after_preempt, preempted}
 use Rattle.pr_registry.proofs.Sets.{contains-nobody, contains-remove, contains-difference, contains-hosts_in, contains-hosts_with, get-without}
 use Rattle.pr_views.specs.Possibilities.{key_at, number_of}
-use Rattle.pr_regions.specs.inside.Parts.{never, registered, another}
+use Rattle.pr_regions.specs.inside.Parts.{never, registered, another, told_but, lost_if}
 use Rattle.pr_regions.proofs.Unique.{AreDistinct}
 use Rattle.pr_regions.proofs.Acting.{Is}
 use Rattle.pr_regions.proofs.Becoming.{Becomes, contains-others, contains-others_itself, is_registered-number, is_key-number, other_host, not_itself}
@@ -70,10 +70,6 @@ on_preempt_all keys hosts from t u = record {
 
 -- ---- the holder
 
--- those who are told that the reservation was released, if it is replaced by one of another type
-abbrev pub told_but : Bool → ℕ → ℕ → Bool
-told_but b j r = b && another j r
-
 -- the others with this key
 abbrev others_with : State → ℕ → ℕ → Hosts
 others_with u k from = set.remove (hosts_with u.keys k) from
@@ -110,10 +106,6 @@ on_preempt_holder keys hosts from j k t held u once fits named = record {
 }
 
 -- ---- any other key
-
--- the sender's registration once its key is removed, if it has that key
-abbrev pub lost_if : Bool → Option ℕ
-lost_if own = if own then Some 0 else None
 
 pub on_preempt_key : (keys : List ℕ) (hosts from j k : ℕ) (t : Kind) (u : State) (own : Bool) → AreDistinct keys → j ≤ length keys → key_at keys j ≡ Some k
     → ((r : ℕ) → Is keys u from r → (r == j) ≡ own)
