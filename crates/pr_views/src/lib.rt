@@ -8,4 +8,4 @@ mod view;
 
 pub use portion::Portion;
 pub use possibilities::Possibilities;
-pub use view::ViewOf;
+pub use view::{View, ViewOf};

@@ -14,7 +14,7 @@ use crate::sets::{
 };
 use arrayvec::ArrayVec;
 use pr_roles::are_distinct;
-use pr_sets::ViewSet;
+use pr_sets::{ViewSet, WordSet};
 use std::alloc::{AllocError, Global};
 
 /// What a host can know of the logical unit: which registrations are possible for each host and guest, which
@@ -33,6 +33,9 @@ pub struct ViewOf<S: ViewSet> {
     /// The attentions pending for the owner of the view, with a bit for each code, the lowest code lowest.
     pub pending: S,
 }
+
+/// A view whose sets take no memory.
+pub type View = ViewOf<WordSet>;
 
 /// How many sets of pending attentions there are.
 const ATTENTIONS: u8 = 16;
