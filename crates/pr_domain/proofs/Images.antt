@@ -5,7 +5,7 @@ use Rattle.std.proofs.lemmas.Bool.Decides.{nat_tests, eqb_tells}
 use Rattle.pr_sets.specs.declared.word.Word.{Word}
 use Rattle.pr_sets.specs.Words.{has}
 use Rattle.pr_views.specs.Portions.{has_at}
-use Rattle.pr_views.proofs.Places.{has_at_written, has_at_kept}
+use Rattle.pr_views.proofs.Places.{holds_at_written, holds_at_kept}
 use Rattle.pr_regions.specs.declared.region.Change.{Change}
 use Rattle.pr_regions.specs.Regions.{flag}
 use Rattle.pr_domain.specs.inside.Images.{IsImage, first, mark, AreMarked, AreTold}
@@ -152,11 +152,11 @@ images_more words after i w f there here before g small = at (eqb_tells g i)
   where
     at : (((g == i) ≡ true) × (g ≡ i)) ⊎ (((g == i) ≡ false) × (g ≢ i)) → IsImage (has_at words g) (f g) (has_at (slice_set after i w) g)
     at (inl same) = subst (λ h. IsImage (has_at words h) (f h) (has_at (slice_set after i w) h)) (sym same.1) (record {
-      all = λ n is. has_at_written after i (f i n) w there ∙ here.all n is;
-      only = λ m is. here.only m (sym (has_at_written after i m w there) ∙ is);
+      all = λ n is. holds_at_written (λ x. has x (f i n)) after i w there ∙ here.all n is;
+      only = λ m is. here.only m (sym (holds_at_written (λ x. has x m) after i w there) ∙ is);
     })
     at (inr other) =
         let old = before g (let differs = other.1 in omega arith) in record {
-          all = λ n is. has_at_kept after i g (f g n) w other.1 ∙ old.all n is;
-          only = λ m is. old.only m (sym (has_at_kept after i g m w other.1) ∙ is);
+          all = λ n is. holds_at_kept (λ x. has x (f g n)) after i g w other.1 ∙ old.all n is;
+          only = λ m is. old.only m (sym (holds_at_kept (λ x. has x m) after i g w other.1) ∙ is);
         }

@@ -1,7 +1,7 @@
 -- What a tally has once the states of one region are added.
-use Rattle.std.proofs.Common.{◌≡◌, ◌≢◌, ◌⊎◌, ℕ, zero, suc, ◌+◌, ◌<◌, ◌≤◌, Bool, true, false, ◌==◌, ◌&&◌, ◌||◌, if◌then◌else◌, List, Option, Some, None, is_some, unwrap_or, refl, sym, ap, ◌∙◌, subst, inl, inr, arith}
+use Rattle.std.proofs.Common.{◌≡◌, ◌⊎◌, ℕ, zero, suc, true, false, ◌==◌, ◌&&◌, ◌||◌, List, Option, Some, None, is_some, refl, sym, ap, ◌∙◌, subst, inl, inr, arith}
 use Rattle.std.proofs.lemmas.Bool.{and_parts, and_from, or_cases, or_left, or_right, false≢true}
-use Rattle.std.proofs.lemmas.Bool.Decides.{nat_tests, eqb_tells}
+use Rattle.std.proofs.lemmas.Bool.Decides.{nat_tests}
 use Rattle.pr_cdb.specs.declared.command.Command.{Command}
 use Rattle.pr_cdb.specs.declared.reply.Sense.{Sense}
 use Rattle.pr_unit.specs.UnitStates.{UnitState, effect}
@@ -9,25 +9,13 @@ use Rattle.pr_unit.specs.Conflicts.{command_conflicts}
 use Rattle.pr_unit.specs.Faults.{command_fault}
 use Rattle.pr_unit.specs.Replies.{good, data_of}
 use Rattle.pr_script.specs.declared.script.Test.{Test}
-use Rattle.pr_sets.specs.declared.word.Word.{Word}
 use Rattle.pr_sets.specs.Words.{has}
 use Rattle.pr_views.specs.declared.possibilities.Possibilities.{Possibilities}
-use Rattle.pr_views.specs.Possibilities.{Scope, Item, Registration, Reservation, Attentions, IsSo}
+use Rattle.pr_views.specs.Possibilities.{Item, Attentions, IsSo}
 use Rattle.pr_views.specs.Views.{View, Shows}
-use Rattle.pr_views.specs.Portions.{has_at, view_in}
-use Rattle.pr_views.proofs.Numbering.{one_registration}
-use Rattle.pr_regions.specs.declared.region.Branch.{Branch}
-use Rattle.pr_regions.specs.declared.region.Change.{Change}
-use Rattle.pr_regions.specs.declared.region.Ending.{Ending}
-use Rattle.pr_regions.specs.declared.region.Ending.TheVariants as ending
-use Rattle.pr_regions.specs.declared.region.Region.{Region}
 use Rattle.pr_regions.specs.Readings.{first_test}
-use Rattle.pr_regions.specs.Regions.{Ends, Changes}
-use Rattle.pr_domain.specs.declared.place.Place.{Place}
 use Rattle.pr_domain.specs.declared.tally.Tally.{Tally}
-use Rattle.pr_domain.specs.inside.Gathering.{IsPlace, IsUniform, IsProper, IsAt, IsMet, IsThere, IsGathered}
-use Rattle.pr_domain.specs.inside.Images.{IsImage, becomes, left}
-use Rattle.pr_domain.specs.inside.Tallies.{IsRegistered, has_part, tallied, arm_of, Leaves, IsFound, Grows, IsRight}
+use Rattle.pr_domain.specs.inside.Tallies.{IsRegistered, has_part, tallied, arm_of, Leaves, IsFound, Grows}
 
 -- the possibilities are what is so, of registrations and reservation, after these states become others
 pub record IsPart (v : View) (At : UnitState → Type 0) (after : UnitState → UnitState) (p : Possibilities) : Type 0 where
@@ -137,7 +125,7 @@ grows_fault v c tests sense At old mid new p shows faults is first second = reco
 pub grows_good : (v : View) (c : Command) (tests : List Test) (arm : ℕ) (At : UnitState → Type 0) (old mid new : Tally) (p after : Possibilities)
     → ((u : UnitState) → At u → Shows v u)
     → ((u : UnitState) → At u → (command_conflicts u.registry v.scope.own c ≡ false) × (command_fault u.registry v.scope.own c ≡ None)
-        × (first_test tests (good (data_of u.registry c)) ≡ arm_of arm))
+    × (first_test tests (good (data_of u.registry c)) ≡ arm_of arm))
     → IsPart v At (λ u. u) p → IsPart v At (λ u. effect u v.scope.own c) after → IsAdded old 1 p mid → IsAdded mid (suc (suc (suc arm))) after new → Grows v c tests old new At
 grows_good v c tests arm At old mid new p after shows done is then_is first second = record {
   kept = λ way i has. added_kept mid new (suc (suc (suc arm))) after second way i (added_kept old mid 1 p first way i has);
@@ -181,7 +169,9 @@ grows_good v c tests arm At old mid new p after shows done is then_is first seco
         let met = then_is.only i q here.1 pending in
         let same : arm ≡ n = omega (arith, here.0) in
         record {
-          unit = met.0; shown = shows met.0 met.1; among = met.1;
+          unit = met.0;
+          shown = shows met.0 met.1;
+          among = met.1;
           leaves = ((done met.0 met.1).0, (done met.0 met.1).1, (done met.0 met.1).2 ∙ ap arm_of same, met.2);
           pending = met.3;
         })

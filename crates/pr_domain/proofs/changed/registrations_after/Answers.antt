@@ -5,7 +5,7 @@ use Rattle.pr_sets.specs.declared.word.Word.{Word}
 use Rattle.pr_sets.specs.Words.{has}
 use Rattle.pr_regions.specs.declared.region.Change.{Change}
 use Rattle.pr_views.specs.Portions.{has_at}
-use Rattle.pr_views.proofs.Places.{has_at-get_or}
+use Rattle.pr_views.proofs.Places.{holds_at-get_or}
 use Rattle.pr_domain.specs.inside.Images.{IsImage, left, becomes}
 use Rattle.pr_domain.proofs.Images.{images_more}
 use Rattle.pr_domain.proofs.changed.registrations_after.Goals.{then-host-from, else-host-from}
@@ -13,8 +13,8 @@ use Rattle.pr_domain.proofs.changed.registrations_after.Goals as goal
 
 image_at : (words : List Word) (i : ℕ) (w d : Word) (f : ℕ → ℕ) → i < length words → IsImage (has (slice_index_or words i d)) f (has w) → IsImage (has_at words i) f (has w)
 image_at words i w d f there image = record {
-  all = λ n is. image.all n (sym (has_at-get_or words i n d there) ∙ is);
-  only = λ m is. let found = image.only m is in (found.0, has_at-get_or words i found.0 d there ∙ found.1, found.2);
+  all = λ n is. image.all n (sym (holds_at-get_or (λ x. has x n) words i d there) ∙ is);
+  only = λ m is. let found = image.only m is in (found.0, holds_at-get_or (λ x. has x found.0) words i d there ∙ found.1, found.2);
 }
 
 same_image : (p q : ℕ → Bool) (f g : ℕ → ℕ) → ((n : ℕ) → f n ≡ g n) → IsImage p f q → IsImage p g q

@@ -1,6 +1,6 @@
 use Rattle.std.proofs.Common.{◌≡◌, ◌<◌, length, slice_index_or, sym, ◌∙◌, ap, arith}
 use Rattle.pr_sets.specs.Words.{has}
-use Rattle.pr_views.proofs.Places.{has_at-get_or}
+use Rattle.pr_views.proofs.Places.{holds_at-get_or}
 use Rattle.pr_domain.proofs.Following.{is_after}
 use Rattle.pr_domain.proofs.onlooker.Onlooker.after.Goals as goal
 
@@ -18,6 +18,6 @@ returns-clause-some c s is uniform proper =
       registrations = c.registrations_after.ensures;
       reservation = c.only.ensures;
       owners = slice_index_or words c.from.result (record { bits = 0 });
-      are_own = λ r. has_at-get_or words s.own r (record { bits = 0 }) there ∙ ap (λ i. has (slice_index_or words i (record { bits = 0 })) r) (sym own);
+      are_own = λ r. holds_at-get_or (λ x. has x r) words s.own (record { bits = 0 }) there ∙ ap (λ i. has (slice_index_or words i (record { bits = 0 })) r) (sym own);
       told = c.attentions_after.ensures;
     })
