@@ -91,6 +91,7 @@ clause_left v role sender i other among =
 pub record Serves (c : Command) : Type 0 where
   pub clause : is_always_permitted c ≡ false
   pub acts : is_request_sense (Plain c) ≡ false
+  pub looks : request_looks (Plain c) ≡ false
 
 looks_or_serves : (c : Command) → IsTrue (request_looks (Plain c)) ⊎ Serves c
 looks_or_serves command.TestUnitReady = inl refl
@@ -100,13 +101,13 @@ looks_or_serves (command.Write lba blocks) = inl refl
 looks_or_serves (command.ReadKeys alloc) = inl refl
 looks_or_serves (command.ReadReservation alloc) = inl refl
 looks_or_serves (command.ReportCapabilities alloc) = inl refl
-looks_or_serves (command.Register rk sark) = inr (record { clause = refl; acts = refl })
-looks_or_serves (command.RegisterIgnore sark) = inr (record { clause = refl; acts = refl })
-looks_or_serves (command.Reserve rk kind) = inr (record { clause = refl; acts = refl })
-looks_or_serves (command.Release rk kind) = inr (record { clause = refl; acts = refl })
-looks_or_serves (command.Clear rk) = inr (record { clause = refl; acts = refl })
-looks_or_serves (command.Preempt rk sark kind) = inr (record { clause = refl; acts = refl })
-looks_or_serves (command.PreemptAbort rk sark kind) = inr (record { clause = refl; acts = refl })
+looks_or_serves (command.Register rk sark) = inr (record { clause = refl; acts = refl; looks = refl })
+looks_or_serves (command.RegisterIgnore sark) = inr (record { clause = refl; acts = refl; looks = refl })
+looks_or_serves (command.Reserve rk kind) = inr (record { clause = refl; acts = refl; looks = refl })
+looks_or_serves (command.Release rk kind) = inr (record { clause = refl; acts = refl; looks = refl })
+looks_or_serves (command.Clear rk) = inr (record { clause = refl; acts = refl; looks = refl })
+looks_or_serves (command.Preempt rk sark kind) = inr (record { clause = refl; acts = refl; looks = refl })
+looks_or_serves (command.PreemptAbort rk sark kind) = inr (record { clause = refl; acts = refl; looks = refl })
 
 pub done_leads : (v : View) (role : List Clause) (sender : ℕ) (u w : UnitState) → v.scope.own ≢ sender → Shows v u → IsDone role sender u w
     → IsLike v.scope.own u w ⊎ Among (length role) role (λ clause. ClauseLeads v clause sender u w)
@@ -132,7 +133,7 @@ done_leads v role sender u w other shown done = by_request done.request done.fit
               is = record {
                 shown = shown;
                 command = c;
-                free = record { fits = fits; permitted = found.is; free = takes.free; whole = takes.whole };
+                free = record { fits = fits; acts = serves.looks; permitted = found.is; free = takes.free; whole = takes.whole };
                 after = takes.after;
               };
             })

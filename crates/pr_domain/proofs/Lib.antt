@@ -7,3 +7,4 @@ pub mod Following
 pub mod Adding
 pub mod Unpending
 pub mod Doing
+pub mod Meaning

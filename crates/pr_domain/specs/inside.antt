@@ -2,3 +2,4 @@ pub mod Gathering
 pub mod Tallies
 pub mod Images
 pub mod Interfering
+pub mod Clauses

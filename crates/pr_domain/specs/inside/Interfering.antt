@@ -1,10 +1,12 @@
 -- What the steps of another add to possibilities.
 use Rattle.std.specs.Prelude.{◌≡◌, ◌≢◌, ℕ, ◌<◌, ◌⊎◌, true, false, None, List, slice_index_or}
 use Rattle.pr_cdb.specs.declared.command.Command.{Command}
+use Rattle.pr_cdb.specs.declared.wire.Request.TheVariants.{Plain}
 use Rattle.pr_cdb.specs.Requests.{Fits}
 use Rattle.pr_unit.specs.UnitStates.{UnitState, effect}
 use Rattle.pr_unit.specs.Conflicts.{command_conflicts}
 use Rattle.pr_unit.specs.Faults.{command_fault}
+use Rattle.pr_unit.specs.Laws.{request_looks}
 use Rattle.pr_roles.specs.declared.role.Clause.{Clause}
 use Rattle.pr_roles.specs.Permits.{clause_permits}
 use Rattle.pr_sets.specs.declared.word.Word.{Word}
@@ -80,9 +82,10 @@ BranchHasRoom hosts branch = HasRoom hosts branch.ending
 
 -- ---- clauses
 
--- a command that the clause permits, and that ends GOOD once nothing is pending for its sender
+-- a service action that the clause permits, and that ends GOOD once nothing is pending for its sender
 pub record IsFree (clause : Clause) (sender : ℕ) (u : UnitState) (c : Command) : Type 0 where
   pub fits : Fits c
+  pub acts : request_looks (Plain c) ≡ false
   pub permitted : clause_permits clause u.registry sender c ≡ true
   pub free : command_conflicts u.registry sender c ≡ false
   pub whole : command_fault u.registry sender c ≡ None
