@@ -125,7 +125,7 @@ is_portion s view place senders region p is proper of = record {
 -- ---- its states
 
 -- the reservation of the place is that of the state
-same_reservation : (s : Scope) (view : Possibilities) (place : Place) (u : UnitState) → IsPlace s view place → Shows (view_in s view) u → IsSo s u (Reservation place.reservation)
+pub same_reservation : (s : Scope) (view : Possibilities) (place : Place) (u : UnitState) → IsPlace s view place → Shows (view_in s view) u → IsSo s u (Reservation place.reservation)
     → u.registry.held ≡ place.held
 same_reservation s view place u is shown so =
     let fits = subst (λ n. is_reservation n u.registry.held ≡ true) shown.hosts (reservation_of u.registry shown.formed.registry) in

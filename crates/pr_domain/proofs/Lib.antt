@@ -8,3 +8,5 @@ pub mod Adding
 pub mod Unpending
 pub mod Doing
 pub mod Meaning
+pub mod Spelling
+pub mod Standings

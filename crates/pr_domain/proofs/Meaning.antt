@@ -105,7 +105,7 @@ releases keys u h rk kind (Some v) is = at (is_kind (kind_of v) kind) refl
     at true same = inl (record { purpose = Release (kind_of v); meant = refl; asked = ap (λ k. Some (Release k)) (sym (same_kind (kind_of v) kind same)) })
     at false other = inr (unreleased u h rk kind (ap (λ w. is_holder u.registry h && is_held_as w kind) is ∙ ap (λ b. is_holder u.registry h && b) other ∙ and_false (is_holder u.registry h)))
 
-registers_key : (keys : List ℕ) (sark key : ℕ) → AreDeclared keys → is_declared keys key ≡ true → (sark == key) ≡ true → Some (registering keys sark) ≡ Some (Register (number_in keys key))
+pub registers_key : (keys : List ℕ) (sark key : ℕ) → AreDeclared keys → is_declared keys key ≡ true → (sark == key) ≡ true → Some (registering keys sark) ≡ Some (Register (number_in keys key))
 registers_key keys sark key declared is same =
     ap (λ k. Some (registering keys k)) (same_number sark key same)
     ∙ ap (λ b. Some (if b then Unregister else Register (number_in keys key))) (not_zero key (declared_key keys key declared is))
