@@ -10,3 +10,4 @@ pub mod Doing
 pub mod Meaning
 pub mod Spelling
 pub mod Standings
+pub mod Placing

@@ -3,6 +3,8 @@
 #![tactic(auto)]
 
 mod changed;
+mod clauses;
+mod interference;
 mod landing;
 mod onlooker;
 mod place;
