@@ -1,12 +1,13 @@
 -- What each purpose does in a state, whichever command asks for it.
 use Rattle.std.proofs.Common.{◌≡◌, ◌≢◌, ℕ, zero, suc, ◌+◌, ◌<◌, ◌≤◌, Bool, true, false, ◌==◌, ◌&&◌, ◌||◌, not, nat_lt, nat_le, cond, if◌then◌else◌, List, [], ◌∷◌, length, Option, Some, None, is_some, option_map, unwrap_or, get_or, refl, sym, ap, ◌∙◌, subst, inl, inr, ◌⊎◌, arith}
-use Rattle.std.specs.List.{position}
+use Rattle.std.specs.List.{position, position_or_len, list_any}
 use Rattle.std.specs.Option.{option_map_or}
 use Rattle.std.specs.List.{slice_get}
 use Rattle.std.proofs.lemmas.Bool.{false≢true}
 use Rattle.std.proofs.lemmas.Bool.Decides.{nat_tests}
 use Rattle.std.proofs.lemmas.List.Quantifiers.{position-Some}
 use Rattle.std.proofs.lemmas.Option.{slice_get-get_or}
+use Rattle.pr_script.specs.Grammar.{is_declared, is_written_key}
 use Rattle.pr_cdb.specs.declared.command.Kind.{Kind}
 use Rattle.pr_cdb.specs.declared.command.Command.{Command}
 use Rattle.pr_cdb.specs.declared.command.Command.TheVariants as command
@@ -116,7 +117,7 @@ pub record IsAsked (keys : List ℕ) (u : State) (h : ℕ) (p : Purpose) (confli
 
 -- ---- numbers of keys
 
-number_named : (keys : List ℕ) (k n : ℕ) → number_in keys k ≡ n → 1 ≤ n → (n ≤ length keys) × (key_at keys n ≡ Some k)
+pub number_named : (keys : List ℕ) (k n : ℕ) → number_in keys k ≡ n → 1 ≤ n → (n ≤ length keys) × (key_at keys n ≡ Some k)
 number_named keys k n is some = at (position (λ key. key == k) keys) n refl is some
   where
     at : (place : Option ℕ) (n : ℕ) → position (λ key. key == k) keys ≡ place → option_map_or suc place 0 ≡ n → 1 ≤ n → (n ≤ length keys) × (key_at keys n ≡ Some k)
@@ -128,6 +129,24 @@ number_named keys k n is some = at (position (λ key. key == k) keys) n refl is 
         let P : ℕ → Type 0 = λ m. (m ≤ length keys) × (key_at keys m ≡ Some k) in
         let inside : suc i ≤ length keys = let small = found.0 in omega arith in
         subst P is (inside, there)
+
+-- a declared key has one
+place_below : (p : ℕ → Bool) (xs : List ℕ) → list_any p xs ≡ true → position_or_len p xs < length xs
+place_below p [] there = absurd (false≢true there)
+place_below p (x ∷ xs) there = at (p x) there (place_below p xs)
+  where
+    at : (b : Bool) → (b || list_any p xs) ≡ true → (list_any p xs ≡ true → position_or_len p xs < length xs) → cond (not b) (1 + position_or_len p xs) 0 < length (x ∷ xs)
+    at true there more = omega arith
+    at false there more = let below = more there in omega arith
+
+pub declared_number : (keys : List ℕ) (k : ℕ) → is_declared keys k ≡ true → 1 ≤ number_in keys k
+declared_number keys k there =
+    let below : nat_lt (position_or_len (λ key. key == k) keys) (length keys) ≡ true = let small = place_below (λ key. key == k) keys there in grind (arith, nat_tests) in
+    subst (λ (b : Bool). 1 ≤ option_map_or suc (cond b (Some (position_or_len (λ key. key == k) keys)) None) 0) (sym below) (omega arith)
+
+-- zero has none, and need not
+pub written_number : (keys : List ℕ) (k : ℕ) → is_written_key keys k ≡ true → (k == 0) ≡ false → 1 ≤ number_in keys k
+written_number keys k written other = declared_number keys k (sym (ap (λ b. b || is_declared keys k) other) ∙ written)
 
 named_as : (keys : List ℕ) (k n : ℕ) → key_at keys n ≡ Some k → key_named keys n ≡ k
 named_as keys k n there = ap (λ o. unwrap_or o 0) there

@@ -8,7 +8,7 @@ use Rattle.pr_registry.specs.declared.held.Held.TheVariants.{One, All}
 use Rattle.pr_unit.specs.UnitStates.{UnitState}
 use Rattle.pr_sets.specs.declared.word.Word.{Word}
 use Rattle.pr_sets.specs.Words.{has}
-use Rattle.pr_views.specs.Possibilities.{Scope, Registration, IsSo}
+use Rattle.pr_views.specs.Possibilities.{Scope, IsScope, Registration, IsSo}
 use Rattle.pr_views.specs.Portions.{HasSomebody}
 use Rattle.pr_regions.specs.declared.region.Region.{Region}
 use Rattle.pr_regions.specs.declared.region.Ending.{Ending}
@@ -143,14 +143,18 @@ somebody_below s u sender passes numbered once (suc n) small = more (somebody_be
         let it = numbered n (omega arith) in
         by_test it.0 it.1 other.1 none (passes it.0) refl
 
-pub somebody_or_nobody : (s : Scope) (p : Purpose) (held : Option Held) (sender : ℕ) (standing : Standing) (u : UnitState) (c : Command) (passes : ℕ → Bool)
-    → Meets s p held sender standing u c → HasSomebody s u sender (Some passes) ⊎ HasNobody s u sender passes
-somebody_or_nobody s p held sender standing u c passes m =
-    all_hosts (somebody_below s u sender passes m.numbered (λ g r q. one_registration s u g r q m.scope) s.hosts (omega arith))
+pub somebody_or_none : (s : Scope) (u : UnitState) (sender : ℕ) (passes : ℕ → Bool) → IsScope s → ((g : ℕ) → g < s.hosts → (r : ℕ) × IsSo s u (Registration g r))
+    → HasSomebody s u sender (Some passes) ⊎ HasNobody s u sender passes
+somebody_or_none s u sender passes scope numbered =
+    all_hosts (somebody_below s u sender passes numbered (λ g r q. one_registration s u g r q scope) s.hosts (omega arith))
   where
     all_hosts : HasSomebody s u sender (Some passes) ⊎ HasNobodyBelow s u sender passes s.hosts → HasSomebody s u sender (Some passes) ⊎ HasNobody s u sender passes
     all_hosts (inl there) = inl there
     all_hosts (inr none) = inr (λ g r other so. none g r so.0 other so)
+
+pub somebody_or_nobody : (s : Scope) (p : Purpose) (held : Option Held) (sender : ℕ) (standing : Standing) (u : UnitState) (c : Command) (passes : ℕ → Bool)
+    → Meets s p held sender standing u c → HasSomebody s u sender (Some passes) ⊎ HasNobody s u sender passes
+somebody_or_nobody s p held sender standing u c passes m = somebody_or_none s u sender passes m.scope m.numbered
 
 -- where every registration is left to everybody
 pub everyone : (held : Option Held) (g r : ℕ) → left_to any any held g r ≡ true

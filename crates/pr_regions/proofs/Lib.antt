@@ -12,3 +12,7 @@ pub mod Leaving
 pub mod Keyed
 pub mod Choosing
 pub mod Holding
+pub mod Contents
+pub mod Asked
+pub mod Arms
+pub mod Reserved

@@ -2,16 +2,20 @@
 #![tactic(auto)]
 
 mod branching;
+mod commands;
 mod dispatch;
 mod endings;
+mod key_reads;
 mod numbers;
 mod preempting;
 mod purpose;
 mod region;
+mod reservation_reads;
 mod unregistering;
 mod words;
 
+pub use commands::{is_refused, purpose_of, standing_of};
 pub use dispatch::branches;
-pub use numbers::reservation_number;
+pub use numbers::{reservation_at, reservation_number};
 pub use purpose::{Purpose, Standing};
 pub use region::{Branch, Change, Ending, Reading, Region};
