@@ -1,11 +1,10 @@
 -- What a clause leads to under one reservation, whatever its sender's standing.
-use Rattle.std.proofs.Common.{◌≡◌, ◌≢◌, ℕ, zero, suc, ◌+◌, ◌<◌, ◌≤◌, Bool, true, false, ◌==◌, ◌||◌, if◌then◌else◌, List, [], ◌∷◌, length, position, Option, Some, None, refl, sym, ap, ◌∙◌, subst, cond, inl, inr, ◌⊎◌, arith}
+use Rattle.std.proofs.Common.{◌≡◌, ℕ, suc, ◌+◌, ◌<◌, ◌≤◌, Bool, true, false, ◌==◌, ◌||◌, if◌then◌else◌, List, [], ◌∷◌, length, Option, Some, None, refl, sym, ap, ◌∙◌, subst, cond, inl, inr, ◌⊎◌, arith}
 use Rattle.std.specs.List.{list_any, position_from}
 use Rattle.std.specs.Option.{option_map_or}
 use Rattle.std.proofs.lemmas.Bool.{false≢true}
 use Rattle.std.proofs.lemmas.List.Quantifiers.{position-Some}
 use Rattle.std.proofs.lemmas.Iterator.Adapters.{position_from-zero}
-use Rattle.pr_cdb.specs.declared.command.Kind.{Kind}
 use Rattle.pr_registry.specs.declared.held.Held.{Held}
 use Rattle.pr_registry.specs.Registrations.{kind_of}
 use Rattle.pr_unit.specs.UnitStates.{UnitState}
@@ -13,7 +12,7 @@ use Rattle.pr_roles.specs.declared.role.Action.{Action}
 use Rattle.pr_roles.specs.declared.role.Action.TheVariants as action
 use Rattle.pr_roles.specs.declared.role.Clause.{Clause}
 use Rattle.pr_roles.specs.Fitting.{is_action}
-use Rattle.pr_script.specs.Grammar.{is_declared, is_written_key}
+use Rattle.pr_script.specs.Grammar.{is_declared}
 use Rattle.pr_views.specs.declared.possibilities.Possibilities.{Possibilities}
 use Rattle.pr_views.specs.Possibilities.{Scope, Item, Registration, IsSo}
 use Rattle.pr_views.specs.Portions.{view_in}
@@ -28,7 +27,7 @@ use Rattle.pr_domain.specs.declared.place.Place.{Place}
 use Rattle.pr_domain.specs.declared.onlooker.Onlooker.{Onlooker}
 use Rattle.pr_domain.specs.inside.Interfering.{IsWatched, Adds}
 use Rattle.pr_domain.specs.inside.Clauses.{purpose_for, PurposeLeads, StandingLeads, PlaceLeads}
-use Rattle.pr_domain.proofs.Adding.{adds_both, adds_so}
+use Rattle.pr_domain.proofs.Adding.{adds_both}
 use Rattle.pr_domain.proofs.Gathered.{same_reservation}
 
 -- ---- the numbers of declared keys

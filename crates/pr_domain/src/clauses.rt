@@ -8,8 +8,8 @@ ghost use Rattle.pr_regions.specs.Regions.{names};
 ghost use Rattle.pr_domain.specs.inside.Clauses.{purpose_for, holds_as, may_send as may_send_as, is_registered_as, refuses_strangers, AreSenders};
 
 use crate::place::{Place, registered};
-use pr_registry::Held;
 use pr_regions::{Purpose, Standing};
+use pr_registry::Held;
 use pr_roles::{Action, Condition};
 use pr_sets::Word;
 

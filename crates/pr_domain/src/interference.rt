@@ -18,13 +18,7 @@ use pr_views::Possibilities;
 
 impl Onlooker {
     /// Adds what is possible after a command of this clause, under one reservation.
-    fn add_place(
-        &self,
-        answer: &mut Possibilities,
-        place: &Place,
-        clause: &Clause,
-        keys: &[u64],
-    )
+    fn add_place(&self, answer: &mut Possibilities, place: &Place, clause: &Clause, keys: &[u64])
         requires own { self.now.own < 8 }
         requires hosts { (1 ≤ place.now.hosts) × (place.now.hosts ≤ 8) }
         requires sender { place.now.sender < place.now.hosts }

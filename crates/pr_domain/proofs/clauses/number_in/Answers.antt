@@ -1,4 +1,4 @@
-use Rattle.std.proofs.Common.{ℕ, suc, sym, ap, ◌∙◌, add-one}
+use Rattle.std.proofs.Common.{suc, sym, ap, ◌∙◌, add-one}
 use Rattle.std.specs.Option.{option_map_or}
 use Rattle.pr_domain.proofs.clauses.number_in.Goals as goal
 

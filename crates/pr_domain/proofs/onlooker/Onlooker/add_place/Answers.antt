@@ -1,10 +1,9 @@
-use Rattle.std.proofs.Common.{◌≡◌, Some, true, sym, ◌∙◌, ap, subst}
+use Rattle.std.proofs.Common.{◌≡◌, Some, true, sym, ◌∙◌, subst}
 use Rattle.pr_views.specs.Portions.{view_in}
 use Rattle.pr_roles.specs.Fitting.{is_action}
 use Rattle.pr_domain.specs.inside.Interfering.{ClauseLeaves}
-use Rattle.pr_domain.specs.inside.Clauses.{purpose_for, PlaceLeads}
-use Rattle.pr_domain.proofs.Adding.{adds_nothing}
-use Rattle.pr_domain.proofs.Placing.{has_number, none_meant, adds_standings}
+use Rattle.pr_domain.specs.inside.Clauses.{purpose_for}
+use Rattle.pr_domain.proofs.Placing.{has_number, adds_standings}
 use Rattle.pr_domain.proofs.onlooker.Onlooker.add_place.Goals as goal
 
 pub add_standing-requires-clause-number : goal.add_standing-requires-clause-number

@@ -1,4 +1,4 @@
-use Rattle.std.proofs.Common.{◌≡◌, length, sym, ◌∙◌, ap, subst}
+use Rattle.std.proofs.Common.{length, sym, ◌∙◌, subst}
 use Rattle.std.specs.List.{All}
 use Rattle.pr_views.specs.Portions.{view_in}
 use Rattle.pr_domain.specs.inside.Interfering.{Adds, Among, IsLedBy, IsLeftBy, IsProperBranch, ClauseLeaves}
@@ -15,7 +15,9 @@ returns-then-may_send c s is fits meant =
     let branches = c.branches-branches.result.items in
     let senders = c.senders.result in
     let added : Adds s c.args.answer.now c.add_branches.new.answer (λ u w. Among (length branches) branches (λ b. IsLedBy s o.view place senders b u w))
-        (λ i. Among (length branches) branches (λ b. IsLeftBy s o.view place senders b i)) = ? in
+    (λ i. Among (length branches) branches (λ b. IsLeftBy s o.view place senders b i)) =
+    subst (λ xs. Adds s c.args.answer.now c.add_branches.new.answer (λ u w. Among (length xs) xs (λ b. IsLedBy s o.view place senders b u w)) (λ i. Among (length xs) xs (λ b. IsLeftBy s o.view place senders b i))) c.deref.ensures.0
+    (c.add_branches.ensures s is (uniform c.args.purpose c.args.standing senders c.senders.ensures) (subst (All IsProperBranch) (sym c.deref.ensures.0) c.branches-branches.ensures.proper)) in
     adds_so s c.args.answer.now c.add_branches.new.answer (λ u w. Among (length branches) branches (λ b. IsLedBy s o.view place senders b u w))
     (StandingLeads (view_in s o.view) clause place.sender place.reservation c.args.purpose c.args.standing)
     (λ i. Among (length branches) branches (λ b. IsLeftBy s o.view place senders b i)) (ClauseLeaves (view_in s o.view) clause place.sender) added
