@@ -11,3 +11,4 @@ pub mod Meaning
 pub mod Spelling
 pub mod Standings
 pub mod Placing
+pub mod Shown

@@ -3,3 +3,4 @@ pub mod Tallies
 pub mod Images
 pub mod Interfering
 pub mod Clauses
+pub mod Keeping

@@ -5,6 +5,7 @@
 mod changed;
 mod clauses;
 mod interference;
+mod keeping;
 mod landing;
 mod onlooker;
 mod place;
