@@ -24,6 +24,9 @@ Leads = UnitState → UnitState → Type 0
 abbrev pub Leaves : Type 1
 Leaves = Item → Type 0
 
+pub grown : (s : Scope) (p q : Possibilities) (u : UnitState) → ((i : Item) → IsPossible (view_in s p) i → IsPossible (view_in s q) i) → Allows s p u → Allows s q u
+grown s p q u grows allows = record { items = λ i so. grows i (allows.items i so); numbered = allows.numbered; pending = allows.pending }
+
 -- nothing is added
 pub adds_nothing : (s : Scope) (p : Possibilities) (leads : UnitState → UnitState → Type 0) (leaves : Item → Type 0) → ((u w : UnitState) → leads u w → ⊥) → Adds s p p leads leaves
 adds_nothing s p leads leaves none = record {
@@ -42,8 +45,8 @@ adds_both s p q r L M N V W X before then_ splits left right = record {
 }
   where
     all : (u w : UnitState) → L u w ⊎ M u w → Allows s r w
-    all u w (inl led) i so = then_.kept i (before.all u w led i so)
-    all u w (inr led) i so = then_.all u w led i so
+    all u w (inl led) = grown s q r w then_.kept (before.all u w led)
+    all u w (inr led) = then_.all u w led
 
     first : (i : Item) → IsPossible (view_in s p) i ⊎ V i → IsPossible (view_in s p) i ⊎ X i
     first i (inl is) = inl is
@@ -109,7 +112,7 @@ pub adds_after : (s : Scope) (view old after new : Possibilities) (place : Place
     → Adds s old new (λ u w. IsAt (view_in s view) place senders region u × Changes s place.sender change u w) (IsChanged s view place senders region change)
 adds_after s view old after new place senders region change is joined = record {
   kept = λ i had. joined_old s old after new i joined had;
-  all = λ u w led i so. joined_other s old after new i joined (is.all u w led.0 led.1 i so);
+  all = λ u w led. grown s after new w (λ i so. joined_other s old after new i joined so) (is.all u w led.0 led.1);
   only = λ i got. only i (joined_either s old after new i joined got);
 }
   where

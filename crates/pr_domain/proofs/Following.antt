@@ -50,7 +50,7 @@ itself a = grind (arith, nat_tests)
 pub is_after : (s : Scope) (o : Onlooker) (place : Place) (senders : Word) (region : Region) (change : Change) (words : List Word) (p : Possibilities) (q : ℕ) → IsWatched s o place
     → s.hosts ≤ 8 → IsGathered (view_in s o.view) place senders region words → has o.view.pending q ≡ true → IsMadeOf o.view s.own place change words p
     → IsAfter s o.view place senders region change p
-is_after s o place senders region change words p q is most gathered some made = record { all = all; only = only }
+is_after s o place senders region change words p q is most gathered some made = record { all = allows; only = only }
   where
     few : (u : UnitState) (g r : ℕ) → IsSo s u (Registration g r) → r < 13
     few u g r so = let keys = few_keys s.keys is.known.fits.scope.keys in let small = so.1 in omega arith
@@ -58,7 +58,7 @@ is_after s o place senders region change words p q is most gathered some made = 
     small : (n : ℕ) → has o.view.pending n ≡ true → n < 16
     small n pends = is.known.fits.pending n pends
 
-    all : (u w : UnitState) → IsAt (view_in s o.view) place senders region u → Changes s place.sender change u w → Allows s p w
+    all : (u w : UnitState) → IsAt (view_in s o.view) place senders region u → Changes s place.sender change u w → (i : Item) → IsSo s w i → IsPossible (view_in s p) i
     all u w at changes (Registration g n) so =
         let seen = at.shown.registrations g so.0 in
         let after = becomes_so s place.sender change u w g seen.0 changes seen.1.1 in
@@ -75,6 +75,18 @@ is_after s o place senders region change words p q is most gathered some made = 
         subst (λ m. has p.pending m ≡ true) same
         (made.told.all owner.0 seen.0 (first_from 13 made.owners owner.0 (few u s.own owner.0 owner.1.1) (sym (made.are_own owner.0) ∙ gathered.all u s.own owner.0 at owner.1.1))
         (first_from 16 o.view.pending seen.0 (small seen.0 seen.1.0) seen.1.0))
+
+    allows : (u w : UnitState) → IsAt (view_in s o.view) place senders region u → Changes s place.sender change u w → Allows s p w
+    allows u w at changes = record {
+      items = all u w at changes;
+      numbered = λ g there.
+          let seen = at.shown.registrations g there in
+          (becomes place.sender change g seen.0, becomes_so s place.sender change u w g seen.0 changes seen.1.1);
+      pending =
+          let owner = at.shown.registrations s.own is.known.fits.scope.own in
+          let seen = at.shown.pending in
+          (told_number change owner.0 seen.0, changes.told owner.0 seen.0 is.other owner.1.1 seen.1.1);
+    }
 
     only : (i : Item) → IsPossible (view_in s p) i → IsChanged s o.view place senders region change i
     only (Registration g n) got =

@@ -12,3 +12,4 @@ pub mod Spelling
 pub mod Standings
 pub mod Placing
 pub mod Shown
+pub mod Leading

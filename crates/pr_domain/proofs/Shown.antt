@@ -19,7 +19,7 @@ use Rattle.pr_domain.specs.declared.place.Place.{Place}
 use Rattle.pr_domain.specs.inside.Gathering.{IsPlace, IsUniform, IsProper, IsAt, IsGathered}
 use Rattle.pr_domain.specs.inside.Interfering.{Allows, Adds}
 use Rattle.pr_domain.specs.inside.Keeping.{IsShownSo, IsShownAt, IsShown, IsShownBelow, IsKept}
-use Rattle.pr_domain.proofs.Adding.{adds_both, adds_nothing, IsJoined, joined_old, joined_other, joined_either}
+use Rattle.pr_domain.proofs.Adding.{grown, adds_both, adds_nothing, IsJoined, joined_old, joined_other, joined_either}
 use Rattle.pr_domain.proofs.Following.{few_keys}
 
 same_number : (a b : ℕ) → (a == b) ≡ true → a ≡ b
@@ -64,9 +64,9 @@ at_everything s view place senders region u is all at = record {
 pub is_shown : (s : Scope) (view : Possibilities) (place : Place) (senders : Word) (region : Region) (words : List Word) (x : Word) (q : ℕ) → IsPlace s view place → IsEverything region
     → IsGathered (view_in s view) place senders region words → has view.pending q ≡ true → ((n : ℕ) → has x n ≡ (n == place.reservation))
     → (p : Possibilities) → p.registrations ≡ words → p.reservations ≡ x → p.pending ≡ view.pending → IsShown s view place senders p
-is_shown s view place senders region words x q is everything gathered some only_x p are_words is_x is_pending = record { all = all; only = only }
+is_shown s view place senders region words x q is everything gathered some only_x p are_words is_x is_pending = record { all = allows; only = only }
   where
-    all : (u : UnitState) → IsShownAt (view_in s view) place senders u → Allows s p u
+    all : (u : UnitState) → IsShownAt (view_in s view) place senders u → (i : Item) → IsSo s u i → IsPossible (view_in s p) i
     all u at (Registration g r) so =
         (so.0, subst (λ w. has_at w g r ≡ true) (sym are_words) (gathered.all u g r (at_everything s view place senders region u is everything at) so))
     all u at (Reservation n) so =
@@ -74,6 +74,13 @@ is_shown s view place senders region words x q is everything gathered some only_
     all u at (Attentions n) so =
         let seen = at.shown.pending in
         subst (λ w. has w n ≡ true) (sym is_pending) (subst (λ m. has view.pending m ≡ true) (one_attentions s u seen.0 n seen.1.1 so) seen.1.0)
+
+    allows : (u : UnitState) → IsShownAt (view_in s view) place senders u → Allows s p u
+    allows u at = record {
+      items = all u at;
+      numbered = λ g there. let seen = at.shown.registrations g there in (seen.0, seen.1.1);
+      pending = (at.shown.pending.0, at.shown.pending.1.1);
+    }
 
     only : (i : Item) → IsPossible (view_in s p) i → IsShownSo (view_in s view) i
     only (Registration g r) got =
@@ -91,7 +98,7 @@ pub adds_shown : (s : Scope) (view old shown new : Possibilities) (place : Place
     → Adds s old new (λ _ u. IsShownAt (view_in s view) place senders u) (IsShownSo (view_in s view))
 adds_shown s view old shown new place senders is joined = record {
   kept = λ i had. joined_old s old shown new i joined had;
-  all = λ _ u at i so. joined_other s old shown new i joined (is.all u at i so);
+  all = λ _ u at. grown s shown new u (λ i so. joined_other s old shown new i joined so) (is.all u at);
   only = λ i got. only i (joined_either s old shown new i joined got);
 }
   where
@@ -158,7 +165,7 @@ pub is_kept : (s : Scope) (view none kept : Possibilities) (n : ℕ) → Fits (v
 is_kept s view none kept n fits nothing below adds = record {
   all = λ u i shown so.
       let seen = shown.reservation in
-      adds.all u u (record { shown = shown; reservation = seen.0; below = below seen.0 seen.1.0; is = seen.1.1 }) i so;
+      (adds.all u u (record { shown = shown; reservation = seen.0; below = below seen.0 seen.1.0; is = seen.1.1 })).items i so;
   only = λ i got. only i (adds.only i got);
 }
   where

@@ -2,7 +2,7 @@
 use Rattle.std.specs.Prelude.{◌≡◌, ◌≢◌, ℕ, ◌<◌, ◌⊎◌, true, false, None, List, slice_index_or}
 use Rattle.pr_cdb.specs.declared.command.Command.{Command}
 use Rattle.pr_cdb.specs.declared.wire.Request.TheVariants.{Plain}
-use Rattle.pr_cdb.specs.Requests.{Fits}
+use Rattle.pr_cdb.specs.Requests.{Fits as IsCommand}
 use Rattle.pr_unit.specs.UnitStates.{UnitState, effect}
 use Rattle.pr_unit.specs.Conflicts.{command_conflicts}
 use Rattle.pr_unit.specs.Faults.{command_fault}
@@ -11,8 +11,8 @@ use Rattle.pr_roles.specs.declared.role.Clause.{Clause}
 use Rattle.pr_roles.specs.Permits.{clause_permits}
 use Rattle.pr_sets.specs.declared.word.Word.{Word}
 use Rattle.pr_views.specs.declared.possibilities.Possibilities.{Possibilities}
-use Rattle.pr_views.specs.Possibilities.{Scope, Item, IsSo}
-use Rattle.pr_views.specs.Views.{View, IsPossible, Shows}
+use Rattle.pr_views.specs.Possibilities.{Scope, Item, Registration, Attentions, IsSo}
+use Rattle.pr_views.specs.Views.{View, IsPossible, Shows, Fits}
 use Rattle.pr_views.specs.Portions.{view_in}
 use Rattle.pr_regions.specs.declared.region.Region.{Region}
 use Rattle.pr_regions.specs.declared.region.Change.{Change}
@@ -29,9 +29,19 @@ pub record IsWatched (s : Scope) (o : Onlooker) (place : Place) : Type 0 where
   pub own : s.own ≡ o.own
   pub other : s.own ≢ place.sender
 
--- what is so in the state is possible
-abbrev pub Allows : Scope → Possibilities → UnitState → Type 0
-Allows s p u = (i : Item) → IsSo s u i → IsPossible (view_in s p) i
+-- it is a view of the onlooker's, and the other is one of those that are there
+pub record IsOnlooking (s : Scope) (o : Onlooker) : Type 0 where
+  pub hosts : s.hosts ≡ o.hosts
+  pub own : s.own ≡ o.own
+  pub other : s.own ≢ o.other
+  pub there : o.other < o.hosts
+  pub fits : Fits (view_in s o.view)
+
+-- what is so in the state is possible, and each of its parts has a number
+pub record Allows (s : Scope) (p : Possibilities) (u : UnitState) : Type 0 where
+  pub items : (i : Item) → IsSo s u i → IsPossible (view_in s p) i
+  pub numbered : (g : ℕ) → g < s.hosts → (r : ℕ) × IsSo s u (Registration g r)
+  pub pending : (q : ℕ) × IsSo s u (Attentions q)
 
 -- after the change in some state of the region, this is so
 pub record IsChanged (s : Scope) (view : Possibilities) (place : Place) (senders : Word) (region : Region) (change : Change) (i : Item) : Type 0 where
@@ -84,7 +94,7 @@ BranchHasRoom hosts branch = HasRoom hosts branch.ending
 
 -- a service action that the clause permits, and that ends GOOD once nothing is pending for its sender
 pub record IsFree (clause : Clause) (sender : ℕ) (u : UnitState) (c : Command) : Type 0 where
-  pub fits : Fits c
+  pub fits : IsCommand c
   pub acts : request_looks (Plain c) ≡ false
   pub permitted : clause_permits clause u.registry sender c ≡ true
   pub free : command_conflicts u.registry sender c ≡ false
