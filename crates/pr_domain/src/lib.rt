@@ -5,8 +5,12 @@
 mod arms;
 mod attentions;
 mod changed;
+mod clauses;
+mod interference;
+mod keeping;
 mod landing;
 mod permitting;
+mod onlooker;
 mod place;
 mod tally;
 mod tallying;
