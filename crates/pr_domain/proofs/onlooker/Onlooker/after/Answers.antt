@@ -15,7 +15,7 @@ returns-clause-some c s is uniform proper =
     (record { registrations = c.registrations_after.result; reservations = c.only.result; pending = c.attentions_after.result }) pends.0 is
     (let most = c.requires.hosts.1 in let same = is.known.hosts in omega arith) gathered pends.1
     (record {
-      registrations = c.registrations_after.ensures;
+      registrations = λ g small. c.registrations_after.ensures g;
       reservation = c.only.ensures;
       owners = slice_index_or words c.from.result (record { bits = 0 });
       are_own = λ r. holds_at-get_or (λ x. has x r) words s.own (record { bits = 0 }) there ∙ ap (λ i. has (slice_index_or words i (record { bits = 0 })) r) (sym own);
