@@ -13,3 +13,4 @@ pub mod Standings
 pub mod Placing
 pub mod Shown
 pub mod Leading
+pub mod Viewed

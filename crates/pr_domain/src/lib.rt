@@ -11,4 +11,5 @@ mod onlooker;
 mod place;
 mod tally;
 
+pub use interference::interfere;
 pub use landing::{Class, Landing};
