@@ -20,5 +20,6 @@ pub mod Shown
 pub mod Spelling
 pub mod Standings
 pub mod Unpending
+pub mod Viewed
 pub mod Walking
 pub mod Ways

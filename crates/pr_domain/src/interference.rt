@@ -1,10 +1,11 @@
 //! What others may make of the states that a view shows.
 
-ghost use Rattle.std.specs.Prelude.{◌≡◌, ◌<◌, ◌≤◌, ℕ, true, length, IsTrue, Some};
+ghost use Rattle.std.specs.Prelude.{◌≡◌, ◌≢◌, ◌<◌, ◌≤◌, ℕ, true, length, IsTrue, IfOk, Some};
 ghost use Rattle.std.specs.List.{All};
-ghost use Rattle.pr_roles.specs.Fitting.{is_action, is_reservation};
+ghost use Rattle.pr_roles.specs.Fitting.{is_action, is_reservation, is_role};
 ghost use Rattle.pr_views.specs.Possibilities.{Scope, count_of_reservations};
 ghost use Rattle.pr_views.specs.Portions.{view_in};
+ghost use Rattle.pr_views.specs.Rooms.{scope_of, view_of, IsMade, AreAlike, AreInRange};
 ghost use Rattle.pr_regions.specs.Purposes.{HasNumber};
 ghost use Rattle.pr_domain.specs.inside.Interfering.{IsOnlooking, IsWatched, Adds, Among, ClauseLeaves};
 ghost use Rattle.pr_domain.specs.Interference.{IsInterference};
@@ -15,8 +16,10 @@ use crate::keeping::{count_of_reservations, kept};
 use crate::onlooker::Onlooker;
 use crate::place::Place;
 use pr_regions::{Purpose, Standing, branches};
-use pr_roles::Clause;
-use pr_views::Possibilities;
+use pr_roles::{Clause, Role};
+use pr_sets::ViewSet;
+use pr_views::{Possibilities, ViewOf};
+use std::alloc::{AllocError, Global};
 
 impl Onlooker {
     /// What is possible after any request of the other that ends GOOD and that its role, these clauses, permits.
@@ -102,4 +105,45 @@ impl Onlooker {
             self.add_branches(answer, place, senders(purpose, standing), &branches);
         }
     }
+}
+
+/// The view of the states that a request of another leads to from a shown one, where it ends GOOD and the other's role
+/// permits it. What is pending for the other is unknown, and so such a request may always be one that changes nothing.
+pub fn interfere<S: ViewSet>(
+    alloc: Global,
+    view: &ViewOf<S>,
+    own: u8,
+    other: u8,
+    role: &Role,
+) -> Result<ViewOf<S>, AllocError>
+    requires made { IsMade S.room view.now }
+    requires own { own < view.now.hosts }
+    requires other { other < view.now.hosts }
+    requires apart { own ≢ other }
+    requires role { IsTrue (is_role view.now.keys.items role.now.clauses.items) }
+    ensures made { IfOk result (IsMade S.room) }
+    ensures alike { IfOk result (AreAlike view.now) }
+    ensures interference { IfOk result (λ w. IsInterference (view_of S.members own view.now) role.now.clauses.items other (view_of S.members own w)) }
+{
+    let left = left_by(view, own, other, role);
+    ViewOf::of(alloc, &view.keys, view.hosts, &left)
+}
+
+// What is possible after such a request.
+fn left_by<S: ViewSet>(view: &ViewOf<S>, own: u8, other: u8, role: &Role) -> Possibilities
+    requires made { IsMade S.room view.now }
+    requires own { own < view.now.hosts }
+    requires other { other < view.now.hosts }
+    requires apart { own ≢ other }
+    requires role { IsTrue (is_role view.now.keys.items role.now.clauses.items) }
+    ensures range { AreInRange view.now.hosts view.now.keys.items result }
+    ensures interference { IsInterference (view_of S.members own view.now) role.now.clauses.items other (view_in (scope_of own view.now) result) }
+{
+    let onlooker = Onlooker {
+        hosts: view.hosts,
+        own,
+        other,
+        view: view.possibilities(),
+    };
+    onlooker.interfered(&role.clauses, &view.keys)
 }

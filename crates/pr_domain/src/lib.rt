@@ -15,5 +15,6 @@ mod place;
 mod tally;
 mod tallying;
 
+pub use interference::interfere;
 pub use landing::{Class, Landing};
 pub use permitting::permitted;
