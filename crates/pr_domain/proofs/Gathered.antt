@@ -125,7 +125,7 @@ is_portion s view place senders region p is proper of = record {
 -- ---- its states
 
 -- the reservation of the place is that of the state
-same_reservation : (s : Scope) (view : Possibilities) (place : Place) (u : UnitState) → IsPlace s view place → Shows (view_in s view) u → IsSo s u (Reservation place.reservation)
+pub same_reservation : (s : Scope) (view : Possibilities) (place : Place) (u : UnitState) → IsPlace s view place → Shows (view_in s view) u → IsSo s u (Reservation place.reservation)
     → u.registry.held ≡ place.held
 same_reservation s view place u is shown so =
     let fits = subst (λ n. is_reservation n u.registry.held ≡ true) shown.hosts (reservation_of u.registry shown.formed.registry) in
@@ -172,7 +172,7 @@ holder_registered s u (Some (One kind h)) held formed g (suc i) so alone = grind
 none_some : (k : ℕ) → None ≡ Some k → ⊥
 none_some k same = let bad : None ≡ Some k = same in cc
 
-few_keys : (keys : List ℕ) → AreDeclared keys → length keys ≤ 12
+pub few_keys : (keys : List ℕ) → AreDeclared keys → length keys ≤ 12
 few_keys keys declared = leb-true (length keys) 12 (and_parts (nat_le (length keys) 12) (are_distinct (λ j k. j == k) keys) declared.once).0
 
 pub in_from_at : (s : Scope) (view : Possibilities) (place : Place) (senders : Word) (region : Region) (p : Portion) → IsPlace s view place → IsUniform senders

@@ -39,7 +39,7 @@ impl Class {
 }
 
 // The first arm that takes them.
-fn first_arm(tests: &[Test], class: Class) -> Option<usize>
+pub(crate) fn first_arm(tests: &[Test], class: Class) -> Option<usize>
     ensures { result ≡ position (λ t. takes t class) tests.now }
 {
     tests.iter().position(|test| class.is_taken_by(*test))

@@ -5,9 +5,18 @@
 mod arms;
 mod attentions;
 mod collecting;
+mod changed;
+mod clauses;
+mod interference;
+mod keeping;
 mod landing;
+mod permitting;
+mod onlooker;
 mod place;
 mod reporting;
 mod tally;
+mod tallying;
 
+pub use interference::interfere;
 pub use landing::{Class, Landing};
+pub use permitting::permitted;

@@ -1,14 +1,14 @@
 -- What becomes of a state, by what a change says, registration by registration.
-use Rattle.std.proofs.Common.{◌≡◌, ◌≢◌, ℕ, zero, suc, ◌≤◌, ◌<◌, Bool, true, false, ◌==◌, ◌&&◌, ◌||◌, if◌then◌else◌, List, length, Option, Some, None, unwrap_or, refl, sym, ap, ◌∙◌, subst, arith, bit_or}
+use Rattle.std.proofs.Common.{◌≡◌, ◌≢◌, ℕ, ◌≤◌, Bool, true, false, if◌then◌else◌, List, length, None, unwrap_or, refl, sym, ap, ◌∙◌, arith}
 use Rattle.std.specs.FinSet as set
 use Rattle.pr_registry.specs.declared.change.Change.{Change as Told}
 use Rattle.pr_registry.specs.Registrations.{State, key_of}
 use Rattle.pr_attention.specs.Flagged.{codes_of}
 use Rattle.pr_unit.specs.UnitStates.{UnitState, told, is_pending}
 use Rattle.pr_sets.specs.Words.{has}
-use Rattle.pr_views.specs.Possibilities.{Scope, Registration, Reservation, Attentions, IsSo, key_at, number_of}
+use Rattle.pr_views.specs.Possibilities.{Scope, key_at, number_of}
 use Rattle.pr_regions.specs.declared.region.Change.{Change}
-use Rattle.pr_regions.specs.Regions.{flag, told_number, Changes}
+use Rattle.pr_regions.specs.Regions.{Changes}
 use Rattle.pr_regions.proofs.Telling.{is_pending_after, contains-told, contains-codes_told, told-lt}
 
 -- this is its registration

@@ -1,12 +1,13 @@
 -- What each purpose does in a state, whichever command asks for it.
-use Rattle.std.proofs.Common.{◌≡◌, ◌≢◌, ℕ, zero, suc, ◌+◌, ◌<◌, ◌≤◌, Bool, true, false, ◌==◌, ◌&&◌, ◌||◌, not, nat_lt, nat_le, cond, if◌then◌else◌, List, [], ◌∷◌, length, Option, Some, None, option_map, unwrap_or, get_or, refl, sym, ap, ◌∙◌, subst, inl, inr, ◌⊎◌, arith}
-use Rattle.std.specs.List.{position}
+use Rattle.std.proofs.Common.{◌≡◌, ℕ, suc, ◌+◌, ◌<◌, ◌≤◌, Bool, true, false, ◌==◌, ◌&&◌, ◌||◌, not, nat_lt, nat_le, cond, if◌then◌else◌, List, [], ◌∷◌, length, Option, Some, None, is_some, unwrap_or, get_or, refl, sym, ap, ◌∙◌, subst, arith}
+use Rattle.std.specs.List.{position, position_or_len, list_any}
 use Rattle.std.specs.Option.{option_map_or}
 use Rattle.std.specs.List.{slice_get}
 use Rattle.std.proofs.lemmas.Bool.{false≢true}
 use Rattle.std.proofs.lemmas.Bool.Decides.{nat_tests}
 use Rattle.std.proofs.lemmas.List.Quantifiers.{position-Some}
 use Rattle.std.proofs.lemmas.Option.{slice_get-get_or}
+use Rattle.pr_script.specs.Grammar.{is_declared, is_written_key}
 use Rattle.pr_cdb.specs.declared.command.Kind.{Kind}
 use Rattle.pr_cdb.specs.declared.command.Command.{Command}
 use Rattle.pr_cdb.specs.declared.command.Command.TheVariants as command
@@ -14,7 +15,7 @@ use Rattle.pr_cdb.specs.declared.reply.Sense.{Sense}
 use Rattle.pr_registry.specs.declared.change.Change.{Change}
 use Rattle.pr_registry.specs.Hosts.{is_nobodys, is_key}
 use Rattle.pr_registry.specs.Registrations.{State, key_of, is_registered}
-use Rattle.pr_registry.specs.Changes.{no_change, is_in_the_way, is_held_by_all, preempt_case, is_replacing, change_on_unregister, change_on_release, change_on_clear, change_on_preempt}
+use Rattle.pr_registry.specs.Changes.{no_change, is_in_the_way, is_held_by_all, change_on_unregister, change_on_release, change_on_clear, change_on_preempt}
 use Rattle.pr_registry.specs.Effects.{registered, unregistered, reserved, released, cleared, preempted, after, change, after_register, change_on_register}
 use Rattle.pr_unit.specs.Conflicts.{access_conflicts, reading, writing, is_wrong_key, preempt_conflicts, command_conflicts}
 use Rattle.pr_unit.specs.Faults.{illegal, release_fault, capacity, range_fault, preempt_fault, command_fault}
@@ -92,9 +93,23 @@ IsNamed keys Clear = Unit {0}
 IsNamed keys (PreemptAll t) = Unit {0}
 IsNamed keys (Preempt j t) = (j ≤ length keys) × (key_at keys j ≡ Some (key_named keys j))
 
+-- what the purpose asks of the sender's registration
+abbrev pub IsOwned : State → ℕ → Purpose → Type 0
+IsOwned u h Look = Unit {0}
+IsOwned u h (Read ranges) = Unit {0}
+IsOwned u h (Write ranges) = Unit {0}
+IsOwned u h (Register j) = Unit {0}
+IsOwned u h Unregister = Unit {0}
+IsOwned u h (Reserve t) = is_registered u h ≡ true
+IsOwned u h (Release t) = is_registered u h ≡ true
+IsOwned u h Clear = is_registered u h ≡ true
+IsOwned u h (PreemptAll t) = is_registered u h ≡ true
+IsOwned u h (Preempt j t) = is_registered u h ≡ true
+
 -- an accepted command that ends so is of this purpose
 pub record IsAsked (keys : List ℕ) (u : State) (h : ℕ) (p : Purpose) (conflicts : Bool) (fault : Option Sense) (v : State) (told : Change) : Type 0 where
   pub named : IsNamed keys p
+  pub owned : IsOwned u h p
   pub conflicting : conflicts ≡ conflicts_for keys u h p
   pub faulty : fault ≡ fault_for u h p
   pub after : v ≡ after_for keys u h p
@@ -102,7 +117,7 @@ pub record IsAsked (keys : List ℕ) (u : State) (h : ℕ) (p : Purpose) (confli
 
 -- ---- numbers of keys
 
-number_named : (keys : List ℕ) (k n : ℕ) → number_in keys k ≡ n → 1 ≤ n → (n ≤ length keys) × (key_at keys n ≡ Some k)
+pub number_named : (keys : List ℕ) (k n : ℕ) → number_in keys k ≡ n → 1 ≤ n → (n ≤ length keys) × (key_at keys n ≡ Some k)
 number_named keys k n is some = at (position (λ key. key == k) keys) n refl is some
   where
     at : (place : Option ℕ) (n : ℕ) → position (λ key. key == k) keys ≡ place → option_map_or suc place 0 ≡ n → 1 ≤ n → (n ≤ length keys) × (key_at keys n ≡ Some k)
@@ -114,6 +129,24 @@ number_named keys k n is some = at (position (λ key. key == k) keys) n refl is 
         let P : ℕ → Type 0 = λ m. (m ≤ length keys) × (key_at keys m ≡ Some k) in
         let inside : suc i ≤ length keys = let small = found.0 in omega arith in
         subst P is (inside, there)
+
+-- a declared key has one
+place_below : (p : ℕ → Bool) (xs : List ℕ) → list_any p xs ≡ true → position_or_len p xs < length xs
+place_below p [] there = absurd (false≢true there)
+place_below p (x ∷ xs) there = at (p x) there (place_below p xs)
+  where
+    at : (b : Bool) → (b || list_any p xs) ≡ true → (list_any p xs ≡ true → position_or_len p xs < length xs) → cond (not b) (1 + position_or_len p xs) 0 < length (x ∷ xs)
+    at true there more = omega arith
+    at false there more = let below = more there in omega arith
+
+pub declared_number : (keys : List ℕ) (k : ℕ) → is_declared keys k ≡ true → 1 ≤ number_in keys k
+declared_number keys k there =
+    let below : nat_lt (position_or_len (λ key. key == k) keys) (length keys) ≡ true = let small = place_below (λ key. key == k) keys there in grind (arith, nat_tests) in
+    subst (λ (b : Bool). 1 ≤ option_map_or suc (cond b (Some (position_or_len (λ key. key == k) keys)) None) 0) (sym below) (omega arith)
+
+-- zero has none, and need not
+pub written_number : (keys : List ℕ) (k : ℕ) → is_written_key keys k ≡ true → (k == 0) ≡ false → 1 ≤ number_in keys k
+written_number keys k written other = declared_number keys k (sym (ap (λ b. b || is_declared keys k) other) ∙ written)
 
 named_as : (keys : List ℕ) (k n : ℕ) → key_at keys n ≡ Some k → key_named keys n ≡ k
 named_as keys k n there = ap (λ o. unwrap_or o 0) there
@@ -136,19 +169,19 @@ range lba blocks = at (nat_le (lba + blocks) capacity) (nat_lt capacity (lba + b
 looks : (keys : List ℕ) (u : State) (h : ℕ) (p : Purpose) → Some Look ≡ Some p → IsAsked keys u h p false None u no_change
 looks keys u h p same =
     subst (λ (q : Purpose). IsAsked keys u h q false None u no_change) (purpose_in Look p same)
-    (record { named = tt; conflicting = refl; faulty = refl; after = refl; change = refl })
+    (record { named = tt; owned = tt; conflicting = refl; faulty = refl; after = refl; change = refl })
 
 reads : (keys : List ℕ) (u : State) (h lba blocks : ℕ) (p : Purpose) → Some (Read (is_in_range lba blocks)) ≡ Some p
     → IsAsked keys u h p (access_conflicts u h u.held reading) (range_fault lba blocks) u no_change
 reads keys u h lba blocks p same =
     subst (λ (q : Purpose). IsAsked keys u h q (access_conflicts u h u.held reading) (range_fault lba blocks) u no_change) (purpose_in (Read (is_in_range lba blocks)) p same)
-    (record { named = tt; conflicting = refl; faulty = range lba blocks; after = refl; change = refl })
+    (record { named = tt; owned = tt; conflicting = refl; faulty = range lba blocks; after = refl; change = refl })
 
 writes : (keys : List ℕ) (u : State) (h lba blocks : ℕ) (p : Purpose) → Some (Write (is_in_range lba blocks)) ≡ Some p
     → IsAsked keys u h p (access_conflicts u h u.held writing) (range_fault lba blocks) u no_change
 writes keys u h lba blocks p same =
     subst (λ (q : Purpose). IsAsked keys u h q (access_conflicts u h u.held writing) (range_fault lba blocks) u no_change) (purpose_in (Write (is_in_range lba blocks)) p same)
-    (record { named = tt; conflicting = refl; faulty = range lba blocks; after = refl; change = refl })
+    (record { named = tt; owned = tt; conflicting = refl; faulty = range lba blocks; after = refl; change = refl })
 
 registers : (keys : List ℕ) (u : State) (h sark : ℕ) (p : Purpose) (conflicts : Bool) → HasNumber p → Some (registering keys sark) ≡ Some p → conflicts ≡ false
     → IsAsked keys u h p conflicts None (after_register u h sark) (change_on_register u h sark)
@@ -160,6 +193,7 @@ registers keys u h sark p conflicts has same free = at (sark == 0) refl p has (p
         subst (λ (q : Purpose). IsAsked keys u h q conflicts None (after_register u h sark) (change_on_register u h sark)) same
         (record {
           named = tt;
+          owned = tt;
           conflicting = free;
           faulty = refl;
           after = ap (λ b. if b then (if is_registered u h then unregistered u h else u) else registered u h sark) zeroed;
@@ -173,11 +207,20 @@ registers keys u h sark p conflicts has same free = at (sark == 0) refl p has (p
         let key = named_as keys sark n there.1 in
         subst P same (record {
           named = (there.0, there.1 ∙ ap Some (sym key));
+          owned = tt;
           conflicting = free;
           faulty = refl;
           after = ap (λ b. if b then (if is_registered u h then unregistered u h else u) else registered u h sark) other ∙ ap (registered u h) (sym key);
           change = ap (λ b. if b && is_registered u h then change_on_unregister u h else no_change) other;
         })
+
+-- who has the key is registered
+has_key : (u : State) (h rk : ℕ) → not (is_key (key_of u h) rk) ≡ false → is_registered u h ≡ true
+has_key u h rk accepted = at (key_of u h) accepted
+  where
+    at : (o : Option ℕ) → not (is_key o rk) ≡ false → is_some o ≡ true
+    at None is = absurd (false≢true (sym is))
+    at (Some k) is = refl
 
 accepts : (u : State) (h rk : ℕ) (rest : Bool) → not (is_key (key_of u h) rk) ≡ false → (not (is_key (key_of u h) rk) || rest) ≡ rest
 accepts u h rk rest accepted = ap (λ b. b || rest) accepted
@@ -186,19 +229,19 @@ reserves : (keys : List ℕ) (u : State) (h rk : ℕ) (t : Kind) (p : Purpose) �
     → IsAsked keys u h p (not (is_key (key_of u h) rk) || is_in_the_way u h u.held t) None (reserved u h t) no_change
 reserves keys u h rk t p same accepted =
     subst (λ (q : Purpose). IsAsked keys u h q (not (is_key (key_of u h) rk) || is_in_the_way u h u.held t) None (reserved u h t) no_change) (purpose_in (Reserve t) p same)
-    (record { named = tt; conflicting = accepts u h rk (is_in_the_way u h u.held t) accepted; faulty = refl; after = refl; change = refl })
+    (record { named = tt; owned = has_key u h rk accepted; conflicting = accepts u h rk (is_in_the_way u h u.held t) accepted; faulty = refl; after = refl; change = refl })
 
-releases : (keys : List ℕ) (u : State) (h : ℕ) (t : Kind) (p : Purpose) (conflicts : Bool) → Some (Release t) ≡ Some p → conflicts ≡ false
-    → IsAsked keys u h p conflicts (release_fault u h t) (released u h t) (change_on_release u h t)
-releases keys u h t p conflicts same free =
-    subst (λ (q : Purpose). IsAsked keys u h q conflicts (release_fault u h t) (released u h t) (change_on_release u h t)) (purpose_in (Release t) p same)
-    (record { named = tt; conflicting = free; faulty = refl; after = refl; change = refl })
+releases : (keys : List ℕ) (u : State) (h rk : ℕ) (t : Kind) (p : Purpose) → Some (Release t) ≡ Some p → not (is_key (key_of u h) rk) ≡ false
+    → IsAsked keys u h p (not (is_key (key_of u h) rk)) (release_fault u h t) (released u h t) (change_on_release u h t)
+releases keys u h rk t p same free =
+    subst (λ (q : Purpose). IsAsked keys u h q (not (is_key (key_of u h) rk)) (release_fault u h t) (released u h t) (change_on_release u h t)) (purpose_in (Release t) p same)
+    (record { named = tt; owned = has_key u h rk free; conflicting = free; faulty = refl; after = refl; change = refl })
 
-clears : (keys : List ℕ) (u : State) (h : ℕ) (p : Purpose) (conflicts : Bool) → Some Clear ≡ Some p → conflicts ≡ false
-    → IsAsked keys u h p conflicts None (cleared u) (change_on_clear u h)
-clears keys u h p conflicts same free =
-    subst (λ (q : Purpose). IsAsked keys u h q conflicts None (cleared u) (change_on_clear u h)) (purpose_in Clear p same)
-    (record { named = tt; conflicting = free; faulty = refl; after = refl; change = refl })
+clears : (keys : List ℕ) (u : State) (h rk : ℕ) (p : Purpose) → Some Clear ≡ Some p → not (is_key (key_of u h) rk) ≡ false
+    → IsAsked keys u h p (not (is_key (key_of u h) rk)) None (cleared u) (change_on_clear u h)
+clears keys u h rk p same free =
+    subst (λ (q : Purpose). IsAsked keys u h q (not (is_key (key_of u h) rk)) None (cleared u) (change_on_clear u h)) (purpose_in Clear p same)
+    (record { named = tt; owned = has_key u h rk free; conflicting = free; faulty = refl; after = refl; change = refl })
 
 preempts : (keys : List ℕ) (u : State) (h rk sark : ℕ) (t : Kind) (p : Purpose) → HasNumber p → Some (preempting keys sark t) ≡ Some p → not (is_key (key_of u h) rk) ≡ false
     → IsAsked keys u h p (not (is_key (key_of u h) rk) || (not (sark == 0) && is_nobodys u.keys sark)) (preempt_fault u sark (Some t)) (preempted u h sark (Some t)) (change_on_preempt u h sark (Some t))
@@ -217,6 +260,7 @@ preempts keys u h rk sark t p has same accepted = at (sark == 0) refl p has (pur
         subst (λ (q : Purpose). IsAsked keys u h q (preempt_conflicts u h rk sark) (preempt_fault u sark (Some t)) (preempted u h sark (Some t)) (change_on_preempt u h sark (Some t))) same
         (record {
           named = tt;
+          owned = has_key u h rk accepted;
           conflicting = free ∙ ap (λ b. not b && is_nobodys u.keys sark) zeroed;
           faulty = faults true zeroed;
           after = ap (λ k. preempted u h k (Some t)) zero_is;
@@ -230,6 +274,7 @@ preempts keys u h rk sark t p has same accepted = at (sark == 0) refl p has (pur
         let key = named_as keys sark n there.1 in
         subst P same (record {
           named = (there.0, there.1 ∙ ap Some (sym key));
+          owned = has_key u h rk accepted;
           conflicting = free ∙ ap (λ b. not b && is_nobodys u.keys sark) other ∙ ap (is_nobodys u.keys) (sym key);
           faulty = faults false other;
           after = ap (λ k. preempted u h k (Some t)) (sym key);
@@ -248,8 +293,8 @@ asked keys u h p (command.ReportCapabilities alloc) has same accepted = looks ke
 asked keys u h p (command.Register rk sark) has same accepted = registers keys u h sark p (is_wrong_key (key_of u h) rk) has same accepted
 asked keys u h p (command.RegisterIgnore sark) has same accepted = registers keys u h sark p false has same refl
 asked keys u h p (command.Reserve rk kind) has same accepted = reserves keys u h rk kind p same accepted
-asked keys u h p (command.Release rk kind) has same accepted = releases keys u h kind p (not (is_key (key_of u h) rk)) same accepted
-asked keys u h p (command.Clear rk) has same accepted = clears keys u h p (not (is_key (key_of u h) rk)) same accepted
+asked keys u h p (command.Release rk kind) has same accepted = releases keys u h rk kind p same accepted
+asked keys u h p (command.Clear rk) has same accepted = clears keys u h rk p same accepted
 asked keys u h p (command.Preempt rk sark (Some kind)) has same accepted = preempts keys u h rk sark kind p has same accepted
 asked keys u h p (command.PreemptAbort rk sark (Some kind)) has same accepted = preempts keys u h rk sark kind p has same accepted
 asked keys u h p (command.Preempt rk sark None) has same accepted = let bad : None ≡ Some p = same in cc

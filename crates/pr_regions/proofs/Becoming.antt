@@ -1,20 +1,18 @@
 -- What each service action makes of a registry, registration by registration.
-use Rattle.std.proofs.Common.{◌≡◌, ◌≢◌, ℕ, zero, suc, ◌≤◌, ◌<◌, Bool, true, false, ◌==◌, ◌&&◌, ◌||◌, not, cond, if◌then◌else◌, List, length, Option, Some, None, is_some, unwrap_or, option_map, refl, sym, ap, ◌∙◌, subst, inl, inr, ◌⊎◌, arith}
+use Rattle.std.proofs.Common.{◌≡◌, ◌≢◌, ℕ, zero, suc, ◌≤◌, Bool, true, false, ◌==◌, ◌&&◌, not, cond, if◌then◌else◌, List, length, Option, Some, None, is_some, unwrap_or, refl, sym, ap, ◌∙◌, subst, inl, inr, ◌⊎◌, arith}
 use Rattle.std.specs.FinSet as set
 use Rattle.std.specs.FinMap as map
 use Rattle.std.proofs.lemmas.Bool.Decides.{nat_tests, eqb_tells}
 use Rattle.pr_cdb.specs.declared.command.Kind.{Kind}
-use Rattle.pr_registry.specs.declared.held.Held.{Held}
 use Rattle.pr_registry.specs.declared.change.Change.{Change as Told}
-use Rattle.pr_registry.specs.Hosts.{Hosts, Keys, nobody, just, is_key, hosts_in, hosts_with, without, is_nobodys, is_empty}
-use Rattle.pr_registry.specs.Registrations.{State, key_of, is_registered, others, registrants, established, holds_alone}
-use Rattle.pr_registry.specs.Changes.{Case, ReplacesAll, ReplacesHolder, RemovesKey, no_change, is_kind, is_told_of_loss, is_released, preempt_case, removed_by_preempt, is_new_type, change_on_unregister, change_on_release, change_on_clear, change_on_preempt}
-use Rattle.pr_registry.specs.Effects.{next, held_or, held_after_preempt, registered as register, unregistered, reserved, released, cleared, preempted}
-use Rattle.pr_registry.proofs.Sets.{contains-nobody, contains-just, contains-remove, contains-difference, contains-hosts_in, contains-hosts_with, get-insert, get-empty, get-without}
-use Rattle.pr_sets.specs.Words.{has}
+use Rattle.pr_registry.specs.Hosts.{Hosts, nobody, just, is_key}
+use Rattle.pr_registry.specs.Registrations.{State, key_of, is_registered, others, registrants, holds_alone}
+use Rattle.pr_registry.specs.Changes.{no_change, is_told_of_loss, is_released, change_on_unregister, change_on_release, change_on_clear}
+use Rattle.pr_registry.specs.Effects.{registered as register, unregistered, released, cleared}
+use Rattle.pr_registry.proofs.Sets.{contains-nobody, contains-just, contains-remove, contains-hosts_in, get-insert, get-empty, get-without}
 use Rattle.pr_views.specs.Possibilities.{key_at, number_of}
 use Rattle.pr_regions.specs.declared.region.Change.{Change}
-use Rattle.pr_regions.specs.inside.Parts.{HasThose, Does, never, registered, told_if}
+use Rattle.pr_regions.specs.inside.Parts.{Does, never, registered, told_if}
 use Rattle.pr_regions.proofs.Unique.{AreDistinct, is_some-key_at, same_number_at}
 use Rattle.pr_regions.proofs.Acting.{Is, Acts}
 

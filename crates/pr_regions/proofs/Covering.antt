@@ -1,22 +1,21 @@
 -- Branches that tell how a command ends, by their regions.
-use Rattle.std.proofs.Common.{◌≡◌, ◌≢◌, ℕ, zero, suc, ◌+◌, ◌≤◌, ◌<◌, Bool, true, false, ◌==◌, if◌then◌else◌, List, [], ◌∷◌, length, Option, Some, None, option_map, slice_index_or, refl, sym, ap, ◌∙◌, subst, inl, inr, ◌⊎◌, arith}
+use Rattle.std.proofs.Common.{◌≡◌, ◌≢◌, ℕ, zero, suc, ◌≤◌, ◌<◌, Bool, true, false, ◌==◌, if◌then◌else◌, List, [], ◌∷◌, length, Option, Some, None, option_map, refl, sym, ap, ◌∙◌, subst, inl, inr, ◌⊎◌, arith}
 use Rattle.std.specs.List.{All as Each, Contains}
-use Rattle.std.proofs.lemmas.Bool.Decides.{nat_tests, eqb_tells}
+use Rattle.std.proofs.lemmas.Bool.Decides.{eqb_tells}
 use Rattle.pr_cdb.specs.declared.command.Command.{Command}
 use Rattle.pr_registry.specs.declared.held.Held.{Held}
 use Rattle.pr_registry.specs.declared.held.Held.TheVariants.{One, All}
 use Rattle.pr_unit.specs.UnitStates.{UnitState}
 use Rattle.pr_sets.specs.declared.word.Word.{Word}
 use Rattle.pr_sets.specs.Words.{has}
-use Rattle.pr_views.specs.Possibilities.{Scope, Registration, IsSo}
+use Rattle.pr_views.specs.Possibilities.{Scope, IsScope, Registration, IsSo}
 use Rattle.pr_views.specs.Portions.{HasSomebody}
 use Rattle.pr_regions.specs.declared.region.Region.{Region}
-use Rattle.pr_regions.specs.declared.region.Ending.{Ending}
 use Rattle.pr_regions.specs.declared.region.Branch.{Branch}
 use Rattle.pr_regions.specs.declared.purpose.Purpose.{Purpose}
 use Rattle.pr_regions.specs.declared.purpose.Standing.{Standing}
-use Rattle.pr_regions.specs.Regions.{Meets, filter_of, IsInRegion, Ends, IsCovered, IsProper, IsUntestedOrRegistered, HasRoom}
-use Rattle.pr_regions.specs.inside.Parts.{HasThose, any, IsTest, Leaves, AlwaysEnds, EndsIn, Tell}
+use Rattle.pr_regions.specs.Regions.{Meets, filter_of, IsInRegion, IsCovered, IsUntestedOrRegistered}
+use Rattle.pr_regions.specs.inside.Parts.{any, IsTest, Leaves, AlwaysEnds, EndsIn, Tell}
 use Rattle.pr_regions.proofs.Unique.{few_keys, one_registration}
 
 -- ---- lists of one to three
@@ -143,14 +142,37 @@ somebody_below s u sender passes numbered once (suc n) small = more (somebody_be
         let it = numbered n (omega arith) in
         by_test it.0 it.1 other.1 none (passes it.0) refl
 
-pub somebody_or_nobody : (s : Scope) (p : Purpose) (held : Option Held) (sender : ℕ) (standing : Standing) (u : UnitState) (c : Command) (passes : ℕ → Bool)
-    → Meets s p held sender standing u c → HasSomebody s u sender (Some passes) ⊎ HasNobody s u sender passes
-somebody_or_nobody s p held sender standing u c passes m =
-    all_hosts (somebody_below s u sender passes m.numbered (λ g r q. one_registration s u g r q m.scope) s.hosts (omega arith))
+pub somebody_or_none : (s : Scope) (u : UnitState) (sender : ℕ) (passes : ℕ → Bool) → IsScope s → ((g : ℕ) → g < s.hosts → (r : ℕ) × IsSo s u (Registration g r))
+    → HasSomebody s u sender (Some passes) ⊎ HasNobody s u sender passes
+somebody_or_none s u sender passes scope numbered =
+    all_hosts (somebody_below s u sender passes numbered (λ g r q. one_registration s u g r q scope) s.hosts (omega arith))
   where
     all_hosts : HasSomebody s u sender (Some passes) ⊎ HasNobodyBelow s u sender passes s.hosts → HasSomebody s u sender (Some passes) ⊎ HasNobody s u sender passes
     all_hosts (inl there) = inl there
     all_hosts (inr none) = inr (λ g r other so. none g r so.0 other so)
+
+pub somebody_or_nobody : (s : Scope) (p : Purpose) (held : Option Held) (sender : ℕ) (standing : Standing) (u : UnitState) (c : Command) (passes : ℕ → Bool)
+    → Meets s p held sender standing u c → HasSomebody s u sender (Some passes) ⊎ HasNobody s u sender passes
+somebody_or_nobody s p held sender standing u c passes m = somebody_or_none s u sender passes m.scope m.numbered
+
+-- where every registration is left to everybody
+pub everyone : (held : Option Held) (g r : ℕ) → left_to any any held g r ≡ true
+everyone None g r = refl
+everyone (Some (All kind)) g r = refl
+everyone (Some (One kind h)) g r = at (h == g)
+  where
+    at : (b : Bool) → (if b then true else true) ≡ true
+    at true = refl
+    at false = refl
+
+-- a test that none does not pass is proper
+pub untested : (somebody : Option Word) → IsTest somebody None → IsUntestedOrRegistered somebody
+untested None tests = tt
+untested (Some w) tests = absurd tests
+
+pub tested : (somebody : Option Word) (passes : ℕ → Bool) → passes 0 ≡ false → IsTest somebody (Some passes) → IsUntestedOrRegistered somebody
+tested None passes fails tests = absurd tests
+tested (Some w) passes fails tests = tests 0 (omega arith) ∙ fails
 
 -- ---- branches
 
@@ -181,16 +203,3 @@ tell_alone hosts p held sender standing branch leaves always =
       listed = (0, omega arith, refl);
       inside = in_region s u sender branch.region any any None (few_keys s.keys m.scope.keys) leaves (record { registrations = λ g r other so. everyone u.registry.held g r; somebody = tt });
     })
-  where
-    everyone : (held : Option Held) (g r : ℕ) → left_to any any held g r ≡ true
-    everyone None g r = refl
-    everyone (Some (All kind)) g r = refl
-    everyone (Some (One kind h)) g r = at (h == g)
-      where
-        at : (b : Bool) → (if b then true else true) ≡ true
-        at true = refl
-        at false = refl
-
-    untested : (somebody : Option Word) → IsTest somebody None → IsUntestedOrRegistered somebody
-    untested None tests = tt
-    untested (Some w) tests = absurd tests

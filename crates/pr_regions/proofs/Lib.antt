@@ -5,6 +5,14 @@ pub mod Acting
 pub mod Becoming
 pub mod Meeting
 pub mod Accesses
-pub mod Preempting
+pub mod Preempted
 pub mod Services
 pub mod Covering
+pub mod Leaving
+pub mod Keyed
+pub mod Choosing
+pub mod Holding
+pub mod Contents
+pub mod Asked
+pub mod Arms
+pub mod Reserved

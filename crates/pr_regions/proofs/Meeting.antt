@@ -1,29 +1,26 @@
 -- How a command ends in a state that meets what is known, by its purpose.
-use Rattle.std.proofs.Common.{◌≡◌, ◌≢◌, ℕ, zero, suc, ◌≤◌, ◌<◌, Bool, true, false, ◌==◌, ◌&&◌, ◌||◌, not, if◌then◌else◌, List, length, Option, Some, None, is_some, unwrap_or, refl, sym, ap, ◌∙◌, subst, arith}
+use Rattle.std.proofs.Common.{◌≡◌, ℕ, zero, suc, ◌≤◌, ◌<◌, Bool, true, false, not, if◌then◌else◌, Option, Some, None, unwrap_or, refl, sym, ap, ◌∙◌, subst, arith}
 use Rattle.std.proofs.lemmas.Bool.Decides.{nat_tests}
-use Rattle.pr_cdb.specs.declared.command.Kind.{Kind}
-use Rattle.pr_cdb.specs.declared.command.Kind.TheVariants.{WriteExclusive, ExclusiveAccess, WriteExclusiveRegistrantsOnly, ExclusiveAccessRegistrantsOnly, WriteExclusiveAllRegistrants, ExclusiveAccessAllRegistrants}
 use Rattle.pr_cdb.specs.declared.command.Command.{Command}
 use Rattle.pr_cdb.specs.declared.reply.Sense.{Sense}
 use Rattle.pr_registry.specs.declared.held.Held.{Held}
 use Rattle.pr_registry.specs.declared.held.Held.TheVariants.{One, All}
 use Rattle.pr_registry.specs.declared.change.Change.{Change as Told}
-use Rattle.pr_registry.specs.Registrations.{State, key_of, is_registered, is_holder, kind_of}
+use Rattle.pr_registry.specs.Registrations.{State, is_registered, is_holder}
 use Rattle.pr_registry.specs.Changes.{no_change}
 use Rattle.pr_registry.specs.Effects.{after, change}
 use Rattle.pr_unit.specs.UnitStates.{UnitState}
-use Rattle.pr_unit.specs.Conflicts.{command_conflicts, access_conflicts, reading, writing}
-use Rattle.pr_unit.specs.Faults.{command_fault, illegal}
-use Rattle.pr_views.specs.Possibilities.{Scope, IsScope, Registration, IsSo, key_at, number_of, count_of_reservations}
+use Rattle.pr_unit.specs.Conflicts.{command_conflicts}
+use Rattle.pr_unit.specs.Faults.{command_fault}
+use Rattle.pr_views.specs.Possibilities.{Scope, number_of, count_of_reservations}
 use Rattle.pr_regions.specs.declared.region.Change.{Change}
 use Rattle.pr_regions.specs.declared.region.Ending.TheVariants.{Conflict, Fault, Good}
 use Rattle.pr_regions.specs.declared.purpose.Purpose.{Purpose}
-use Rattle.pr_regions.specs.declared.purpose.Purpose.TheVariants.{Look, Read, Write, Register, Unregister, Reserve, Release, Clear, PreemptAll, Preempt}
 use Rattle.pr_regions.specs.declared.purpose.Standing.{Standing}
-use Rattle.pr_regions.specs.declared.purpose.Standing.TheVariants.{Unregistered, Named, Other}
+use Rattle.pr_regions.specs.declared.purpose.Standing.TheVariants.{Named, Other}
 use Rattle.pr_regions.specs.Purposes.{HasNumber}
 use Rattle.pr_regions.specs.Regions.{names, standing_of, Meets, Ends, HasRoom}
-use Rattle.pr_regions.specs.inside.Parts.{Does, never, registered, is_unregistered, holds, keeps_from_reading, keeps_from_writing, is_kept_from}
+use Rattle.pr_regions.specs.inside.Parts.{Does, never, registered, is_unregistered, holds}
 use Rattle.pr_regions.proofs.Unique.{few_keys}
 use Rattle.pr_regions.proofs.Asking.{conflicts_for, fault_for, after_for, change_for, IsAsked, asked}
 use Rattle.pr_regions.proofs.Acting.{Is, Acts, changes}
@@ -64,15 +61,15 @@ registered_or_not s p held sender standing u c m =
     is_registered-number s.keys u.registry sender it.number it.is
     ∙ sym (ap not (sym (ap is_unregistered it.stands) ∙ is_unregistered-number p it.number) ∙ twice (registered it.number))
 
-holds_or_not : (s : Scope) (p : Purpose) (held : Option Held) (v : Held) (sender : ℕ) (standing : Standing) (u : UnitState) (c : Command)
-    → u.registry.held ≡ Some v → is_registered u.registry sender ≡ not (is_unregistered standing) → is_holder u.registry sender ≡ holds v sender standing
-holds_or_not s p held (One t h) sender standing u c is there = rw is refl
-holds_or_not s p held (All t) sender standing u c is there = rw is there
+holds_or_not : (u : State) (v : Held) (sender : ℕ) (standing : Standing) → u.held ≡ Some v → is_registered u sender ≡ not (is_unregistered standing)
+    → is_holder u sender ≡ holds v sender standing
+holds_or_not u (One t h) sender standing is there = rw is refl
+holds_or_not u (All t) sender standing is there = rw is there
 
 pub is_holder-standing : (s : Scope) (p : Purpose) (held : Option Held) (v : Held) (sender : ℕ) (standing : Standing) (u : UnitState) (c : Command)
     → Meets s p held sender standing u c → held ≡ Some v → is_holder u.registry sender ≡ holds v sender standing
 is_holder-standing s p held v sender standing u c m is =
-    holds_or_not s p held v sender standing u c (m.held ∙ is) (registered_or_not s p held sender standing u c m)
+    holds_or_not u.registry v sender standing (m.held ∙ is) (registered_or_not s p held sender standing u c m)
 
 -- ---- how it ends
 

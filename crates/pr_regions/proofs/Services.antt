@@ -1,29 +1,27 @@
 -- How the service actions that do not depend on who else is registered end.
-use Rattle.std.proofs.Common.{◌≡◌, ℕ, ◌<◌, ◌≤◌, Bool, true, false, ◌==◌, ◌&&◌, not, if◌then◌else◌, Option, Some, None, option_map, refl, sym, ap, ◌∙◌, subst, arith}
+use Rattle.std.proofs.Common.{◌≡◌, ℕ, true, false, ◌&&◌, not, if◌then◌else◌, Option, Some, None, refl, sym, ap, ◌∙◌}
 use Rattle.std.proofs.lemmas.Bool.{false≢true}
 use Rattle.pr_cdb.specs.declared.command.Kind.{Kind}
 use Rattle.pr_cdb.specs.declared.command.Command.{Command}
 use Rattle.pr_registry.specs.declared.held.Held.{Held}
 use Rattle.pr_registry.specs.declared.held.Held.TheVariants.{One, All}
-use Rattle.pr_registry.specs.declared.change.Change.{Change as Told}
 use Rattle.pr_registry.specs.Hosts.{Keys}
-use Rattle.pr_registry.specs.Registrations.{State, is_registered, is_holder, is_holder_of, kind_of, established, is_for_registrants}
-use Rattle.pr_registry.specs.Changes.{ReplacesAll, preempt_case, is_kind, is_held_as, is_in_the_way, is_released, is_told_of_loss, is_held_by_all, no_change, change_on_release}
+use Rattle.pr_registry.specs.Registrations.{is_holder_of, kind_of, established, is_for_registrants}
+use Rattle.pr_registry.specs.Changes.{ReplacesAll, preempt_case, is_kind, is_held_as, is_in_the_way, is_released, is_told_of_loss, is_held_by_all}
 use Rattle.pr_registry.specs.Effects.{held_or, reserved, released}
 use Rattle.pr_unit.specs.UnitStates.{UnitState}
 use Rattle.pr_unit.specs.Faults.{illegal, release_fault}
-use Rattle.pr_views.specs.Possibilities.{Scope, number_of, key_at}
+use Rattle.pr_views.specs.Possibilities.{Scope, number_of}
 use Rattle.pr_regions.specs.declared.region.Change.{Change}
 use Rattle.pr_regions.specs.declared.region.Ending.TheVariants.{Conflict, Fault, Good}
-use Rattle.pr_regions.specs.declared.purpose.Purpose.{Purpose}
 use Rattle.pr_regions.specs.declared.purpose.Purpose.TheVariants.{Register, Reserve, Release, Clear, PreemptAll}
 use Rattle.pr_regions.specs.declared.purpose.Standing.{Standing}
 use Rattle.pr_regions.specs.Purposes.{HasNumber}
 use Rattle.pr_regions.specs.Regions.{Meets, Ends, HasRoom}
 use Rattle.pr_regions.specs.inside.Parts.{Does, AlwaysEnds, never, registered, told_if, holds}
-use Rattle.pr_regions.proofs.Asking.{key_named, IsNamed}
-use Rattle.pr_regions.proofs.Becoming.{Becomes, still, on_register, on_release, on_clear}
-use Rattle.pr_regions.proofs.Preempting.{in_case, on_preempt_all}
+use Rattle.pr_regions.proofs.Asking.{key_named}
+use Rattle.pr_regions.proofs.Becoming.{still, on_register, on_release, on_clear}
+use Rattle.pr_regions.proofs.Preempted.{in_case, on_preempt_all}
 use Rattle.pr_regions.proofs.Meeting.{is_holder-standing, asks, conflict_ends, fault_ends, good_ends, leaves}
 
 -- ---- REGISTER

@@ -1,17 +1,20 @@
 -- A registration, a reservation and a set of attentions each have one number.
-use Rattle.std.proofs.Common.{◌≡◌, ◌≢◌, ℕ, zero, suc, ◌+◌, ◌*◌, ◌<◌, ◌≤◌, Bool, true, false, ◌==◌, ◌&&◌, ◌||◌, not, nat_lt, nat_le, IsTrue, List, [], ◌∷◌, length, Option, Some, None, is_some, refl, sym, ap, ◌∙◌, arith}
-use Rattle.std.specs.FinSet as set
-use Rattle.std.specs.List.{slice_get, list_any, All}
+use Rattle.std.proofs.Common.{◌≡◌, ℕ, zero, suc, ◌+◌, ◌*◌, ◌<◌, ◌≤◌, Bool, true, false, ◌==◌, ◌||◌, not, nat_lt, nat_le, IsTrue, List, [], ◌∷◌, length, Option, Some, None, is_some, refl, sym, ap, ◌∙◌, inl, inr, ◌⊎◌, arith}
+use Rattle.std.specs.List.{slice_get, list_any}
 use Rattle.std.proofs.lemmas.Bool.{and_parts, false≢true}
-use Rattle.std.proofs.lemmas.Bool.Decides.{nat_tests}
-use Rattle.std.proofs.lemmas.Option.{slice_get_within, slice_get-get_or}
-use Rattle.pr_registry.specs.Registrations.{State, key_of}
+use Rattle.std.proofs.lemmas.Bool.Decides.{nat_tests, leb_tells}
+use Rattle.std.proofs.Math.Nat.{mul-le-mul_left}
+use Rattle.pr_cdb.specs.declared.command.Kind.{Kind}
+use Rattle.pr_cdb.specs.declared.command.Kind.TheVariants.{WriteExclusive, ExclusiveAccess, WriteExclusiveRegistrantsOnly, ExclusiveAccessRegistrantsOnly, WriteExclusiveAllRegistrants, ExclusiveAccessAllRegistrants}
+use Rattle.pr_registry.specs.declared.held.Held.{Held}
+use Rattle.pr_registry.specs.declared.held.Held.TheVariants.{One, All as Everybody}
+use Rattle.pr_registry.specs.Registrations.{is_all}
 use Rattle.pr_attention.specs.Flagged.{codes_of}
 use Rattle.pr_attention.proofs.Sets.{same_codes}
 use Rattle.pr_attention.proofs.Bits.{same_bits}
 use Rattle.pr_unit.specs.UnitStates.{UnitState}
-use Rattle.pr_roles.specs.Fitting.{are_distinct, AreDeclared}
-use Rattle.pr_views.specs.Possibilities.{Scope, IsScope, Registration, Reservation, Attentions, IsSo, key_at, number_of}
+use Rattle.pr_roles.specs.Fitting.{are_distinct, AreDeclared, is_reservation}
+use Rattle.pr_views.specs.Possibilities.{Scope, IsScope, Registration, Reservation, Attentions, IsSo, key_at, number_of, place_of}
 
 -- ---- the places of keys that are declared once
 
@@ -87,6 +90,92 @@ one_registration s u g r q scope first second =
 
 pub one_reservation : (s : Scope) (u : UnitState) (x y : ℕ) → IsSo s u (Reservation x) → IsSo s u (Reservation y) → x ≡ y
 one_reservation s u x y first second = first ∙ sym second
+
+-- two places of holders with one number are one
+same_places : (hosts p q h g : ℕ) → h < hosts → g < hosts → hosts * p + h ≡ hosts * q + g → (p ≡ q) × (h ≡ g)
+same_places hosts p q h g small few same = at (leb_tells p q) (leb_tells q p)
+  where
+    equal : p ≡ q → (p ≡ q) × (h ≡ g)
+    equal is = let there = ap (λ n. hosts * n) is in (is, omega (arith, there))
+
+    at : ((nat_le p q ≡ true) × (p ≤ q)) ⊎ ((nat_le p q ≡ false) × (q < p)) → ((nat_le q p ≡ true) × (q ≤ p)) ⊎ ((nat_le q p ≡ false) × (p < q)) → (p ≡ q) × (h ≡ g)
+    at (inl most) (inl least) = let one = most.1 in let other = least.1 in equal (omega arith)
+    at (inr more) other = let above = more.1 in let far = mul-le-mul_left {m = q + 1} {n = p} hosts (omega arith) in absurd (omega (arith, far))
+    at (inl most) (inr less) = let below = less.1 in let far = mul-le-mul_left {m = p + 1} {n = q} hosts (omega arith) in absurd (omega (arith, far))
+
+-- the types at a place
+single_at : ℕ → Kind
+single_at zero = WriteExclusive
+single_at (suc zero) = ExclusiveAccess
+single_at (suc (suc zero)) = WriteExclusiveRegistrantsOnly
+single_at (suc (suc (suc n))) = ExclusiveAccessRegistrantsOnly
+
+shared_at : ℕ → Kind
+shared_at zero = WriteExclusiveAllRegistrants
+shared_at (suc n) = ExclusiveAccessAllRegistrants
+
+single_there : (kind : Kind) → is_all kind ≡ false → single_at (place_of kind) ≡ kind
+unfolding single_at
+single_there WriteExclusive is = refl
+single_there ExclusiveAccess is = refl
+single_there WriteExclusiveRegistrantsOnly is = refl
+single_there ExclusiveAccessRegistrantsOnly is = refl
+single_there WriteExclusiveAllRegistrants is = absurd (false≢true (sym is))
+single_there ExclusiveAccessAllRegistrants is = absurd (false≢true (sym is))
+
+shared_there : (kind : Kind) → is_all kind ≡ true → shared_at (place_of kind) ≡ kind
+unfolding shared_at
+shared_there WriteExclusive is = absurd (false≢true is)
+shared_there ExclusiveAccess is = absurd (false≢true is)
+shared_there WriteExclusiveRegistrantsOnly is = absurd (false≢true is)
+shared_there ExclusiveAccessRegistrantsOnly is = absurd (false≢true is)
+shared_there WriteExclusiveAllRegistrants is = refl
+shared_there ExclusiveAccessAllRegistrants is = refl
+
+few_places : (kind : Kind) → place_of kind ≤ 3
+few_places WriteExclusive = omega arith
+few_places ExclusiveAccess = omega arith
+few_places WriteExclusiveRegistrantsOnly = omega arith
+few_places ExclusiveAccessRegistrantsOnly = omega arith
+few_places WriteExclusiveAllRegistrants = omega arith
+few_places ExclusiveAccessAllRegistrants = omega arith
+
+-- a single holder is one of the hosts
+holder_fits : (hosts : ℕ) (kind : Kind) (h : ℕ) → IsTrue (is_reservation hosts (Some (One kind h))) → (is_all kind ≡ false) × (h < hosts)
+holder_fits hosts kind h fits =
+    let parts = and_parts (not (is_all kind)) (nat_lt h hosts) fits in
+    let there = parts.1 in
+    (turned (is_all kind) parts.0, grind (arith, nat_tests))
+  where
+    turned : (b : Bool) → not b ≡ true → b ≡ false
+    turned true is = sym is
+    turned false is = refl
+
+-- no single holder's number is one of all registrants
+apart : (hosts p h q : ℕ) → h < hosts → p ≤ 3 → 1 + (hosts * p + h) ≡ 1 + (hosts * 4 + q) → ⊥
+apart hosts p h q small few same = let far = mul-le-mul_left {m = p + 1} {n = 4} hosts (omega arith) in omega (arith, far)
+
+-- of the reservations that fit, two with one number are one
+pub same_reservation : (hosts : ℕ) (v w : Option Held) → IsTrue (is_reservation hosts v) → IsTrue (is_reservation hosts w) → number_of hosts v ≡ number_of hosts w → v ≡ w
+same_reservation hosts None None fits also same = refl
+same_reservation hosts None (Some (One kind h)) fits also same = absurd (omega arith)
+same_reservation hosts None (Some (Everybody kind)) fits also same = absurd (omega arith)
+same_reservation hosts (Some (One kind h)) None fits also same = absurd (omega arith)
+same_reservation hosts (Some (Everybody kind)) None fits also same = absurd (omega arith)
+same_reservation hosts (Some (One s h)) (Some (Everybody t)) fits also same =
+    absurd (apart hosts (place_of s) h (place_of t) (holder_fits hosts s h fits).1 (few_places s) same)
+same_reservation hosts (Some (Everybody s)) (Some (One t g)) fits also same =
+    absurd (apart hosts (place_of t) g (place_of s) (holder_fits hosts t g also).1 (few_places t) (sym same))
+same_reservation hosts (Some (Everybody s)) (Some (Everybody t)) fits also same =
+    let place : place_of s ≡ place_of t = omega arith in
+    let kind : s ≡ t = sym (shared_there s fits) ∙ ap shared_at place ∙ shared_there t also in
+    ap (λ k. Some (Everybody k)) kind
+same_reservation hosts (Some (One s h)) (Some (One t g)) fits also same =
+    let one = holder_fits hosts s h fits in
+    let other = holder_fits hosts t g also in
+    let places = same_places hosts (place_of s) (place_of t) h g one.1 other.1 (omega arith) in
+    let kind : s ≡ t = sym (single_there s one.0) ∙ ap single_at places.0 ∙ single_there t other.0 in
+    λ i. Some (One (kind i) (places.1 i))
 
 pub one_attentions : (s : Scope) (u : UnitState) (p q : ℕ) → IsSo s u (Attentions p) → IsSo s u (Attentions q) → p ≡ q
 one_attentions s u p q first second =

@@ -1,10 +1,11 @@
 -- What a command asks for once its reservation key is accepted.
-use Rattle.std.specs.Prelude.{◌≡◌, ℕ, suc, ◌≤◌, ◌+◌, Bool, true, false, not, ◌==◌, nat_le, if◌then◌else◌, List, Option, Some, None, option_map, position}
+use Rattle.std.specs.Prelude.{ℕ, suc, ◌≤◌, ◌+◌, Bool, true, false, not, ◌==◌, nat_le, if◌then◌else◌, List, Option, Some, option_map, position}
 use Rattle.std.specs.Option.{option_map_or}
 use Rattle.pr_cdb.specs.declared.command.Kind.{Kind}
 use Rattle.pr_cdb.specs.declared.command.Command.{Command}
 use Rattle.pr_cdb.specs.declared.command.Command.TheVariants as command
 use Rattle.pr_registry.specs.Hosts.{is_key}
+use Rattle.pr_script.specs.Grammar.{is_written_key}
 use Rattle.pr_unit.specs.Conflicts.{is_wrong_key}
 use Rattle.pr_unit.specs.Faults.{capacity}
 use Rattle.pr_regions.specs.declared.purpose.Purpose.{Purpose}
@@ -13,6 +14,19 @@ use Rattle.pr_regions.specs.declared.purpose.Purpose.TheVariants.{Look, Read, Wr
 -- the number of a declared key, from 1
 abbrev pub number_in : List ℕ → ℕ → ℕ
 number_in keys k = option_map_or suc (position (λ key. key == k) keys) 0
+
+-- the number of the key that it names, or 0
+abbrev pub named : Purpose → ℕ
+named Look = 0
+named (Read ranges) = 0
+named (Write ranges) = 0
+named (Register j) = j
+named Unregister = 0
+named (Reserve kind) = 0
+named (Release kind) = 0
+named Clear = 0
+named (PreemptAll kind) = 0
+named (Preempt j kind) = j
 
 -- the key that it names, if it names one, has a number: there are at most 12
 abbrev pub HasNumber : Purpose → Type 0
@@ -55,6 +69,23 @@ purpose_of keys (command.Release rk kind) = Some (Release kind)
 purpose_of keys (command.Clear rk) = Some Clear
 purpose_of keys (command.Preempt rk sark kind) = option_map (λ t. preempting keys sark t) kind
 purpose_of keys (command.PreemptAbort rk sark kind) = option_map (λ t. preempting keys sark t) kind
+
+-- the key that it registers or preempts is zero or declared
+abbrev pub names_written : List ℕ → Command → Bool
+names_written keys command.TestUnitReady = true
+names_written keys command.RequestSense = true
+names_written keys (command.Read lba blocks) = true
+names_written keys (command.Write lba blocks) = true
+names_written keys (command.ReadKeys alloc) = true
+names_written keys (command.ReadReservation alloc) = true
+names_written keys (command.ReportCapabilities alloc) = true
+names_written keys (command.Register rk sark) = is_written_key keys sark
+names_written keys (command.RegisterIgnore sark) = is_written_key keys sark
+names_written keys (command.Reserve rk kind) = true
+names_written keys (command.Release rk kind) = true
+names_written keys (command.Clear rk) = true
+names_written keys (command.Preempt rk sark kind) = is_written_key keys sark
+names_written keys (command.PreemptAbort rk sark kind) = is_written_key keys sark
 
 -- the reservation key of the command is not accepted from a sender with this key, if it has one
 abbrev pub is_refused : Option ℕ → Command → Bool

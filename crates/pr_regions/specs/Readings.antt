@@ -10,7 +10,7 @@ use Rattle.pr_script.specs.declared.script.Test.{Test}
 use Rattle.pr_script.specs.Takes.{matches}
 use Rattle.pr_views.specs.Possibilities.{Scope, IsScope, Registration, IsSo}
 use Rattle.pr_regions.specs.declared.region.Reading.{Reading}
-use Rattle.pr_regions.specs.Regions.{IsInRegion}
+use Rattle.pr_regions.specs.Regions.{IsInRegion, IsUntestedOrRegistered}
 
 -- the first of the tests that the reply passes
 abbrev pub first_test : List Test → Reply → Option ℕ
@@ -32,3 +32,7 @@ pub record AreReadings (keys : List ℕ) (hosts : ℕ) (tests : List Test) (c : 
       → ((g : ℕ) → g < s.hosts → (r : ℕ) × IsSo s u (Registration g r)) → u.registry.held ≡ held
       → IsSo s u (Registration sender registration) → Contains readings b → IsInRegion s sender b.region u
       → first_test tests (good (data_of u.registry c)) ≡ b.arm
+
+-- that a host or guest is not registered passes no test
+abbrev pub IsProperReading : Reading → Type 0
+IsProperReading b = IsUntestedOrRegistered b.region.somebody

@@ -51,7 +51,7 @@ pub(crate) fn is_kind(standing: Kind, kind: Kind) -> bool
 }
 
 // Whether the reservation is of all registrants.
-fn is_held_by_all(held: Option<Held>) -> bool
+pub(crate) fn is_held_by_all(held: Option<Held>) -> bool
     ensures { result ≡ is_held_by_all held }
 {
     matches!(held, Some(Held::All(_)))

@@ -2,12 +2,22 @@
 #![tactic(auto)]
 
 mod branching;
+mod commands;
+mod dispatch;
 mod endings;
+mod key_reads;
 mod numbers;
+mod preempting;
 mod purpose;
+mod reads;
 mod region;
+mod reservation_reads;
+mod unregistering;
 mod words;
 
-pub use numbers::reservation_number;
+pub use commands::{is_refused, purpose_of, standing_of};
+pub use dispatch::branches;
+pub use numbers::{reservation_at, reservation_number};
 pub use purpose::{Purpose, Standing};
+pub use reads::readings;
 pub use region::{Branch, Change, Ending, Reading, Region};

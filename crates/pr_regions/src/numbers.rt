@@ -1,7 +1,7 @@
 //! The numbers of reservations.
 
-ghost use Rattle.std.specs.Prelude.{◌≡◌, ◌≤◌, ◌<◌, ◌+◌, ◌*◌, IsTrue, IfSome, Some, None};
-ghost use Rattle.pr_registry.specs.Registrations.{established};
+ghost use Rattle.std.specs.Prelude.{true, false, ◌≡◌, ◌≤◌, ◌<◌, ◌+◌, ◌*◌, IsTrue, IfSome, Some, None};
+ghost use Rattle.pr_registry.specs.Registrations.{established, is_all};
 ghost use Rattle.pr_roles.specs.Fitting.{is_reservation};
 ghost use Rattle.pr_views.specs.Possibilities.{place_of, number_of, count_of_reservations};
 
@@ -43,5 +43,52 @@ pub(crate) fn established(kind: Kind, host: u8) -> Held
         Held::All(kind)
     } else {
         Held::One(kind, host)
+    }
+}
+
+// The type with one holder at this place.
+fn single_kind(place: u8) -> Kind
+    requires { place < 4 }
+    ensures place { place_of result ≡ place }
+    ensures single { is_all result ≡ false }
+{
+    match place {
+        0 => Kind::WriteExclusive,
+        1 => Kind::ExclusiveAccess,
+        2 => Kind::WriteExclusiveRegistrantsOnly,
+        _ => Kind::ExclusiveAccessRegistrantsOnly,
+    }
+}
+
+// The type of all registrants at this place.
+fn shared_kind(place: u8) -> Kind
+    requires { place < 2 }
+    ensures place { place_of result ≡ place }
+    ensures shared { is_all result ≡ true }
+{
+    if place == 0 {
+        Kind::WriteExclusiveAllRegistrants
+    } else {
+        Kind::ExclusiveAccessAllRegistrants
+    }
+}
+
+/// The reservation of this number.
+pub fn reservation_at(hosts: u8, number: u8) -> Option<Held>
+    requires some { 1 ≤ hosts }
+    requires few { hosts ≤ 8 }
+    requires below { number < count_of_reservations hosts }
+    ensures number { number ≡ number_of hosts result }
+    ensures fits { IsTrue (is_reservation hosts result) }
+{
+    if number == 0 {
+        return None;
+    }
+    let place = number - 1;
+    let first_shared = hosts * 4;
+    if place < first_shared {
+        Some(Held::One(single_kind(place / hosts), place % hosts))
+    } else {
+        Some(Held::All(shared_kind(place - first_shared)))
     }
 }

@@ -1,5 +1,8 @@
 //! What a command asks for.
 
+ghost use Rattle.std.specs.Prelude.{◌≡◌};
+ghost use Rattle.pr_regions.specs.inside.Parts.{is_unregistered, is_named};
+
 use pr_cdb::Kind;
 
 /// What a command asks for, once its reservation key is accepted. A key is named by its place among the declared
@@ -37,4 +40,18 @@ pub enum Standing {
     Named,
     /// It is registered with another key, or the command names none.
     Other,
+}
+
+impl Standing {
+    pub(crate) fn is_unregistered(self) -> bool
+        ensures { result ≡ is_unregistered self }
+    {
+        matches!(self, Standing::Unregistered)
+    }
+
+    pub(crate) fn is_named(self) -> bool
+        ensures { result ≡ is_named self }
+    {
+        matches!(self, Standing::Named)
+    }
 }

@@ -1,7 +1,7 @@
 //! Words of registrations: 0 for none, and 1 to 12 for the declared keys.
 
 ghost use Rattle.std.specs.Prelude.{◌≡◌, ◌≤◌, ◌==◌, ◌&&◌, ℕ, true, not};
-ghost use Rattle.pr_regions.specs.inside.Parts.{HasThose, any, never, registered, but, another};
+ghost use Rattle.pr_regions.specs.inside.Parts.{HasThose, any, never, registered, but, another, free_or};
 
 use pr_sets::Word;
 
@@ -36,4 +36,12 @@ pub(crate) fn another_than(key: u8) -> Word
     ensures { HasThose result (another key) }
 {
     registered().without(key)
+}
+
+// None, or the key of this number.
+pub(crate) fn free_or(key: u8) -> Word
+    requires { key ≤ 12 }
+    ensures { HasThose result (free_or key) }
+{
+    Word::only(0).with(key)
 }

@@ -60,8 +60,8 @@ fn holds(condition: Option<Condition>, registry: &Registry, host: u8) -> bool
     }
 }
 
-// Whether the clause's action names the command.
-fn names(action: Action, command: Command) -> bool
+/// Whether the clause's action names the command.
+pub fn names(action: Action, command: Command) -> bool
     ensures { result ≡ names action command }
 {
     match action {

@@ -17,7 +17,7 @@ use Rattle.pr_unit.specs.UnitStates.{UnitState, IsWellFormed}
 use Rattle.pr_unit.proofs.Pairs.{contains-of_host}
 use Rattle.pr_roles.specs.Fitting.{AreDeclared, is_reservation}
 use Rattle.pr_views.specs.Possibilities.{Scope, IsScope, key_at, number_of, count_of_attentions, Registration, Reservation, Attentions, IsSo}
-use Rattle.pr_views.specs.Views.{View, Shows, Fits}
+use Rattle.pr_views.specs.Views.{View, Shows, Fits, Within}
 use Rattle.pr_views.proofs.Numbering.{key_there}
 
 -- The state of these choices: of each host or guest the registration of this number, the reservation, and of the
@@ -107,3 +107,15 @@ shown v f held q fits possible kept reservation holder pending =
       reservation = (number_of v.scope.hosts held, (reservation, reservation-state_of v.scope f held q));
       pending = (q, (pending, attentions-state_of v.scope f held q (fits.pending q pending)));
     }
+
+-- a view of as many and the same keys in which more is possible shows the state too
+pub shown_within : (v w : View) (u : UnitState) → v.scope ≡ w.scope → Within v w → Shows v u → Shows w u
+shown_within v w u same within shows = record {
+  formed = shows.formed;
+  hosts = shows.hosts ∙ ap (λ s. s.hosts) same;
+  registrations = λ g there.
+      let one = shows.registrations g (subst (λ s. g < s.hosts) (sym same) there) in
+      (one.0, (within (Registration g one.0) one.1.0, subst (λ s. IsSo s u (Registration g one.0)) same one.1.1));
+  reservation = (shows.reservation.0, (within (Reservation shows.reservation.0) shows.reservation.1.0, subst (λ s. IsSo s u (Reservation shows.reservation.0)) same shows.reservation.1.1));
+  pending = (shows.pending.0, (within (Attentions shows.pending.0) shows.pending.1.0, subst (λ s. IsSo s u (Attentions shows.pending.0)) same shows.pending.1.1));
+}

@@ -1,38 +1,38 @@
 -- What is possible in the view that a value of the program is.
-use Rattle.std.proofs.Common.{◌≡◌, ◌↔◌, ℕ, ◌+◌, ◌<◌, ◌≤◌, true, false, ◌==◌, nat_le, List, length, Option, Some, None, refl, sym, ap, ◌∙◌, subst, arith}
+use Rattle.std.proofs.Common.{◌≡◌, ℕ, ◌+◌, ◌<◌, ◌≤◌, true, false, List, length, Option, Some, None, refl, sym, ap, ◌∙◌, subst, inl, inr, ◌⊎◌, arith}
 use Rattle.std.specs.FinSet as set
 use Rattle.std.specs.List.{slice_get, All}
 use Rattle.std.specs.Option.{option_map_or}
-use Rattle.std.proofs.lemmas.Bool.{false_from_ne_true, false≢true, leb-true, and_parts}
+use Rattle.std.proofs.lemmas.Bool.{false_from_ne_true, false≢true, cases_lt}
 use Rattle.std.proofs.lemmas.Option.{slice_get_within, get_or_from_slice_get}
 use Rattle.pr_registry.proofs.Sets.{same_hosts, contains-nobody}
-use Rattle.pr_roles.specs.Fitting.{AreDeclared, are_distinct}
+use Rattle.pr_roles.specs.Fitting.{AreDeclared}
 use Rattle.pr_sets.specs.Numbers.{Numbers, Within as WithinNumbers, AllBelow}
 use Rattle.pr_sets.specs.Words.{has}
 use Rattle.pr_views.specs.declared.view.ViewOf.{ViewOf}
+use Rattle.pr_views.specs.declared.possibilities.Possibilities.{Possibilities}
 use Rattle.pr_views.specs.Possibilities.{Item, Registration, Reservation, Attentions}
-use Rattle.pr_views.specs.Views.{View, IsPossible, Within, Fits}
-use Rattle.pr_views.specs.Rooms.{contains_at, view_of, IsMade}
-
--- at most 12 keys
-pub few_keys : (keys : List ℕ) → AreDeclared keys → length keys ≤ 12
-few_keys keys declared = leb-true (length keys) 12 (and_parts (nat_le (length keys) 12) (are_distinct (λ a b. a == b) keys) declared.once).0
+use Rattle.pr_views.specs.Views.{IsPossible, Within, Fits}
+use Rattle.pr_views.specs.Portions.{has_at, view_in}
+use Rattle.pr_views.specs.Rooms.{contains_at, view_of, IsMade, AreInRange}
 
 -- what holds of each element holds of one that is read
 read : {X : Type 0} (P : X → Type 0) (xs : List X) (i : ℕ) (x : X) → All P xs → slice_get xs i ≡ Some x → P x
 read P xs i x all is = subst P (get_or_from_slice_get xs i x x is) (all i x (slice_get_within xs i x is))
 
--- views whose tests say the same
-pub same_possible : (v w : View) → v.scope.hosts ≡ w.scope.hosts → ((g r : ℕ) → g < v.scope.hosts → v.registrations g r ≡ w.registrations g r)
-    → ((x : ℕ) → v.reservations x ≡ w.reservations x) → ((q : ℕ) → v.pending q ≡ w.pending q) → (i : Item) → IsPossible v i ↔ IsPossible w i
-same_possible v w hosts registrations reservations pending (Registration g r) = (
-  λ is. (subst (λ n. g < n) hosts is.0, sym (registrations g r is.0) ∙ is.1),
-  λ is. let small = subst (λ n. g < n) (sym hosts) is.0 in (small, registrations g r small ∙ is.1),
-)
-same_possible v w hosts registrations reservations pending (Reservation x) =
-    (λ is. sym (reservations x) ∙ is, λ is. reservations x ∙ is)
-same_possible v w hosts registrations reservations pending (Attentions q) =
-    (λ is. sym (pending q) ∙ is, λ is. pending q ∙ is)
+-- words in range are a view whose possibilities fit, where they have nothing past the hosts and guests that are there
+pub words_fit : (own hosts : ℕ) (keys : List ℕ) (p : Possibilities) → (1 ≤ hosts) × (hosts ≤ 8) → own < hosts → AreDeclared keys → AreInRange hosts keys p
+    → ((g r : ℕ) → hosts ≤ g → has_at p.registrations g r ≡ false) → Fits (view_in (record { own = own; hosts = hosts; keys = keys }) p)
+words_fit own hosts keys p counted small declared range past = record {
+  scope = record { hosts = counted; own = small; keys = declared };
+  registrations = λ g r is. at g r is (cases_lt g hosts);
+  reservations = range.reservations;
+  pending = range.pending;
+}
+  where
+    at : (g r : ℕ) → has_at p.registrations g r ≡ true → (g < hosts) ⊎ (hosts ≤ g) → r ≤ length keys
+    at g r is (inl there) = range.registrations g r there is
+    at g r is (inr late) = absurd (false≢true (sym (past g r late) ∙ is))
 
 module _ {S : Type 0} (members : S → Numbers) where
   -- ---- nothing is possible

@@ -1,7 +1,7 @@
 -- What is found of each way in which a command can end once nothing is pending for its sender, before the
 -- attentions of the owner are looked at.
-use Rattle.std.specs.Prelude.{◌≡◌, ◌⊎◌, ℕ, zero, suc, Bool, true, false, List, Option, Some, None, is_some}
-use Rattle.std.specs.List.{slice_get}
+use Rattle.std.specs.Prelude.{◌≡◌, ◌≢◌, ◌⊎◌, ℕ, zero, suc, ◌+◌, ◌<◌, ◌≤◌, length, Bool, true, false, ◌==◌, ◌&&◌, ◌||◌, List, Option, Some, None, is_some}
+use Rattle.std.specs.List.{slice_get, Contains}
 use Rattle.std.specs.Option.{option_map_or}
 use Rattle.pr_cdb.specs.declared.command.Command.{Command}
 use Rattle.pr_unit.specs.UnitStates.{UnitState, effect}
@@ -11,13 +11,20 @@ use Rattle.pr_unit.specs.Replies.{good, data_of}
 use Rattle.pr_script.specs.declared.script.Test.{Test}
 use Rattle.pr_sets.specs.Words.{has}
 use Rattle.pr_views.specs.declared.possibilities.Possibilities.{Possibilities}
-use Rattle.pr_views.specs.Possibilities.{Scope, Item, Registration, Reservation, Attentions, IsSo}
-use Rattle.pr_views.specs.Views.{View, Shows}
+use Rattle.pr_views.specs.Possibilities.{key_at, Scope, Item, Registration, Reservation, Attentions, IsSo}
+use Rattle.pr_views.specs.Views.{View, Shows, Fits}
 use Rattle.pr_views.specs.Portions.{has_at, view_in}
 use Rattle.pr_regions.specs.Readings.{first_test}
 use Rattle.pr_sets.specs.declared.word.Word.{Word}
 use Rattle.pr_regions.specs.declared.region.Branch.{Branch}
-use Rattle.pr_regions.specs.Regions.{Ends}
+use Rattle.pr_regions.specs.declared.region.Reading.{Reading}
+use Rattle.pr_regions.specs.declared.region.Change.{Change}
+use Rattle.pr_regions.specs.declared.region.Ending.TheVariants as ending
+use Rattle.pr_regions.specs.inside.Parts.{Does, never}
+use Rattle.pr_registry.specs.Registrations.{State}
+use Rattle.pr_regions.specs.declared.purpose.Purpose.{Purpose}
+use Rattle.pr_regions.specs.Purposes.{purpose_of, is_refused}
+use Rattle.pr_regions.specs.Regions.{Ends, IsInRegion, IsUntestedOrRegistered}
 use Rattle.pr_domain.specs.declared.place.Place.{Place}
 use Rattle.pr_domain.specs.declared.tally.Tally.{Tally}
 use Rattle.pr_domain.specs.inside.Gathering.{IsPlace, IsUniform, IsProper, IsAt}
@@ -80,9 +87,101 @@ pub record IsRight (s : Scope) (c : Command) (tests : List Test) (view : Possibi
   pub uniform : IsUniform senders
   pub proper : IsProper b.region
   pub ends : (u : UnitState) → IsAt (view_in s view) place senders b.region u → Ends s s.own b.ending u c
-  pub taken : (u : UnitState) → IsAt (view_in s view) place senders b.region u → first_test tests (good (data_of u.registry c)) ≡ arm_of arm
+  pub taken : (u : UnitState) → IsAt (view_in s view) place senders b.region u → command_conflicts u.registry s.own c ≡ false → first_test tests (good (data_of u.registry c)) ≡ arm_of arm
 
 -- the tally of all states that the view shows
 pub record IsTally (v : View) (c : Command) (tests : List Test) (t : Tally) : Type 0 where
   pub all : (u : UnitState) (way : ℕ) (i : Item) → Shows v u → Leaves v.scope c tests way u i → tallied t way i ≡ true
   pub only : (way : ℕ) (i : Item) (q : ℕ) → tallied t way i ≡ true → v.pending q ≡ true → IsFound v c tests (λ u. Unit {0}) way i q
+
+-- ---- the branches of a sender, and its registrations
+
+-- what is known of each branch
+abbrev pub AreRight : Scope → Command → List Test → Possibilities → Place → Word → List Branch → ℕ → Type 0
+AreRight s c tests view place senders branches arm = (b : Branch) → Contains branches b → IsRight s c tests view place senders b arm
+
+-- the state is in the region of one of the first n branches
+pub record IsInOne (v : View) (place : Place) (senders : Word) (branches : List Branch) (n : ℕ) (u : UnitState) : Type 0 where
+  pub index : ℕ
+  pub below : index < n
+  pub branch : Branch
+  pub listed : slice_get branches index ≡ Some branch
+  pub at : IsAt v place senders branch.region u
+
+-- the reservation of the place stands, and its sender has one of the first n registrations
+pub record HasFirst (s : Scope) (place : Place) (n : ℕ) (u : UnitState) : Type 0 where
+  pub registration : ℕ
+  pub below : registration < n
+  pub reserved : IsSo s u (Reservation place.reservation)
+  pub registered : IsSo s u (Registration place.sender registration)
+
+-- the reservation of the place stands, and its sender has this registration
+pub record HasBoth (s : Scope) (place : Place) (r : ℕ) (u : UnitState) : Type 0 where
+  pub reserved : IsSo s u (Reservation place.reservation)
+  pub registered : IsSo s u (Registration place.sender r)
+
+-- one of the first n reservations stands
+pub record IsReserved (s : Scope) (n : ℕ) (u : UnitState) : Type 0 where
+  pub reservation : ℕ
+  pub below : reservation < n
+  pub reserved : IsSo s u (Reservation reservation)
+
+-- ---- one registration of the sender
+
+-- What is known of the command at a place where the sender has registration r, and its reservation key is accepted:
+-- its purpose, and the arm that takes the data where it ends GOOD.
+pub record IsAsked (s : Scope) (c : Command) (tests : List Test) (view : Possibilities) (place : Place) (purpose : Purpose) (arm r : ℕ) : Type 0 where
+  pub own : place.sender ≡ s.own
+  pub is : IsPlace s view place
+  pub asks : purpose_of s.keys c ≡ Some purpose
+  pub accepted : is_refused (key_at s.keys r) c ≡ false
+  pub taken : (u : State) → first_test tests (good (data_of u c)) ≡ arm_of arm
+
+-- The reservation key of the command is not accepted from a sender with registration r.
+pub record IsRefusedAt (s : Scope) (c : Command) (view : Possibilities) (place : Place) (r : ℕ) : Type 0 where
+  pub own : place.sender ≡ s.own
+  pub is : IsPlace s view place
+  pub refused : is_refused (key_at s.keys r) c ≡ true
+
+-- ---- one reservation
+
+-- the place is one of this scope's owner, who sends the command, and the keys are the scope's
+pub record IsOwners (s : Scope) (keys : List ℕ) (view : Possibilities) (place : Place) : Type 0 where
+  pub own : place.sender ≡ s.own
+  pub same_keys : s.keys ≡ keys
+  pub is : IsPlace s view place
+
+-- the possibilities are a view of this scope, of these hosts and guests and keys
+pub record IsOfScope (s : Scope) (hosts own : ℕ) (keys : List ℕ) (view : Possibilities) : Type 0 where
+  pub same_hosts : s.hosts ≡ hosts
+  pub same_own : s.own ≡ own
+  pub same_keys : s.keys ≡ keys
+  pub fits : Fits (view_in s view)
+
+-- ---- the arms that take the data of READ KEYS and READ RESERVATION
+
+-- the state is in the reading's region, and its sender has registration r
+abbrev pub IsReadAt : Scope → Possibilities → Place → ℕ → Reading → UnitState → Type 0
+IsReadAt s view place r reading u = HasBoth s place r u × IsInRegion s place.sender reading.region u
+
+-- the state is so of one of the first n readings
+pub record IsReadFirst (s : Scope) (view : Possibilities) (place : Place) (r : ℕ) (readings : List Reading) (n : ℕ) (u : UnitState) : Type 0 where
+  pub index : ℕ
+  pub below : index < n
+  pub reading : Reading
+  pub listed : slice_get readings index ≡ Some reading
+  pub at : IsReadAt s view place r reading u
+
+-- What is known of a reading: the command only looks, and where the sender has registration r its data is taken by
+-- the arm that the reading names.
+pub record IsRightReading (s : Scope) (c : Command) (tests : List Test) (view : Possibilities) (place : Place) (r : ℕ) (b : Reading) : Type 0 where
+  pub own : place.sender ≡ s.own
+  pub is : IsPlace s view place
+  pub few : length tests ≤ 16
+  pub proper : IsUntestedOrRegistered b.region.somebody
+  pub looks : (change : Change) → Does change None never place.reservation never never never → (u : UnitState) → Shows (view_in s view) u → HasBoth s place r u
+      → Ends s s.own (ending.Good change) u c
+  pub taken : (u : UnitState) → Shows (view_in s view) u → IsReadAt s view place r b u → first_test tests (good (data_of u.registry c)) ≡ b.arm
+
+abbrev pub AreRightReadings : Scope → Command → List Test → Possibilities → Place → ℕ → List Reading → Type 0
+AreRightReadings s c tests view place r readings = (b : Reading) → Contains readings b → IsRightReading s c tests view place r b

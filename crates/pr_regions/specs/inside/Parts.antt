@@ -1,5 +1,5 @@
 -- What the functions that make branches say of their parts.
-use Rattle.std.specs.Prelude.{◌≡◌, ℕ, zero, suc, ◌≤◌, ◌<◌, Bool, true, false, not, ◌==◌, ◌&&◌, List, Option, Some, None, unwrap_or}
+use Rattle.std.specs.Prelude.{◌≡◌, ℕ, ◌≤◌, Bool, true, false, not, ◌==◌, ◌&&◌, ◌||◌, if◌then◌else◌, List, Option, Some, None}
 use Rattle.std.specs.List.{All}
 use Rattle.pr_cdb.specs.declared.command.Kind.{Kind}
 use Rattle.pr_cdb.specs.declared.command.Kind.TheVariants.{WriteExclusive, ExclusiveAccess, WriteExclusiveRegistrantsOnly, ExclusiveAccessRegistrantsOnly, WriteExclusiveAllRegistrants, ExclusiveAccessAllRegistrants}
@@ -10,7 +10,7 @@ use Rattle.pr_registry.specs.Registrations.{kind_of}
 use Rattle.pr_unit.specs.UnitStates.{UnitState}
 use Rattle.pr_sets.specs.declared.word.Word.{Word}
 use Rattle.pr_sets.specs.Words.{has}
-use Rattle.pr_views.specs.Possibilities.{Scope, number_of}
+use Rattle.pr_views.specs.Possibilities.{Scope}
 use Rattle.pr_regions.specs.declared.region.Region.{Region}
 use Rattle.pr_regions.specs.declared.region.Change.{Change}
 use Rattle.pr_regions.specs.declared.region.Ending.{Ending}
@@ -47,6 +47,22 @@ but j r = not (r == j)
 abbrev pub another : ℕ → ℕ → Bool
 another j r = not (r == 0) && not (r == j)
 
+-- this one
+abbrev pub only : ℕ → ℕ → Bool
+only j r = r == j
+
+-- none, or the key of this number
+abbrev pub free_or : ℕ → ℕ → Bool
+free_or j r = r == j || r == 0
+
+-- those who are told that the reservation was released, if it is replaced by one of another type
+abbrev pub told_but : Bool → ℕ → ℕ → Bool
+told_but b j r = b && another j r
+
+-- the sender's registration once its key is removed, if it has that key
+abbrev pub lost_if : Bool → Option ℕ
+lost_if own = if own then Some 0 else None
+
 -- ---- regions and changes
 
 -- a region's test passes these registrations, if it has one
@@ -78,6 +94,17 @@ abbrev pub is_unregistered : Standing → Bool
 is_unregistered Unregistered = true
 is_unregistered Named = false
 is_unregistered Other = false
+
+abbrev pub is_named : Standing → Bool
+is_named Unregistered = false
+is_named Named = true
+is_named Other = false
+
+-- no single holder but the sender holds it
+abbrev pub IsNotAnothers : Option Held → ℕ → Type 0
+IsNotAnothers None sender = Unit {0}
+IsNotAnothers (Some (One kind h)) sender = h ≡ sender
+IsNotAnothers (Some (Everybody kind)) sender = Unit {0}
 
 -- a sender that stands so holds the reservation
 abbrev pub holds : Held → ℕ → Standing → Bool

@@ -1,4 +1,4 @@
-use Rattle.std.proofs.Common.{Some, refl, sym, ◌∙◌, ap}
+use Rattle.std.proofs.Common.{Some, sym, ◌∙◌, ap}
 use Rattle.pr_registry.specs.declared.held.Held.{Held}
 use Rattle.pr_views.specs.Possibilities.{number_of}
 use Rattle.pr_regions.proofs.Services.{preempt_all_good, preempt_all_fault}

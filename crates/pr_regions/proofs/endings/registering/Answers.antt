@@ -1,5 +1,4 @@
-use Rattle.std.proofs.Common.{Some, refl}
-use Rattle.pr_regions.specs.inside.Parts.{Does}
+use Rattle.std.proofs.Common.{refl}
 use Rattle.pr_regions.proofs.Services.{register_good}
 use Rattle.pr_regions.proofs.endings.registering.Goals as goal
 

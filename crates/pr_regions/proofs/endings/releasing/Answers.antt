@@ -1,9 +1,8 @@
-use Rattle.std.proofs.Common.{◌≡◌, true, Some, None, sym, ap, ◌∙◌, refl, arith}
-use Rattle.pr_registry.specs.Registrations.{kind_of}
+use Rattle.std.proofs.Common.{None, sym, ap, ◌∙◌, arith}
 use Rattle.pr_registry.specs.Changes.{is_kind}
 use Rattle.pr_regions.specs.inside.Parts.{never}
 use Rattle.pr_regions.proofs.Meeting.{has_room}
-use Rattle.pr_regions.proofs.Services.{release_none, release_others, release_good, release_fault_ends}
+use Rattle.pr_regions.proofs.Services.{release_none, release_others, release_good}
 use Rattle.pr_regions.proofs.endings.releasing.Goals as goal
 
 pub returns-in_default : goal.returns-in_default

@@ -1,4 +1,4 @@
-use Rattle.std.proofs.Common.{◌≡◌, Bool, true, false, ◌&&◌, Some, sym, ap, ◌∙◌, refl}
+use Rattle.std.proofs.Common.{◌≡◌, Bool, true, false, ◌&&◌, sym, ap, ◌∙◌, refl}
 use Rattle.pr_registry.specs.Registrations.{kind_of}
 use Rattle.pr_registry.specs.Changes.{is_kind}
 use Rattle.pr_regions.specs.inside.Parts.{holds}

@@ -1,21 +1,19 @@
 -- What PREEMPT makes of a registry, by its case.
-use Rattle.std.proofs.Common.{◌≡◌, ◌≢◌, ℕ, zero, suc, ◌≤◌, ◌<◌, Bool, true, false, ◌==◌, ◌&&◌, ◌||◌, not, if◌then◌else◌, List, length, Option, Some, None, is_some, unwrap_or, option_map, refl, sym, ap, ◌∙◌, subst, arith}
+use Rattle.std.proofs.Common.{◌≡◌, ◌≢◌, ℕ, ◌≤◌, Bool, true, false, ◌==◌, ◌&&◌, not, if◌then◌else◌, List, length, Option, Some, None, unwrap_or, refl, sym, ap, ◌∙◌, subst, arith}
 use Rattle.std.specs.FinSet as set
 use Rattle.std.specs.FinMap as map
-use Rattle.std.proofs.lemmas.Bool.Decides.{nat_tests}
 use Rattle.pr_cdb.specs.declared.command.Kind.{Kind}
-use Rattle.pr_registry.specs.declared.held.Held.{Held}
 use Rattle.pr_registry.specs.declared.change.Change.{Change as Told}
-use Rattle.pr_registry.specs.Hosts.{Hosts, Keys, nobody, is_key, hosts_in, hosts_with, without}
-use Rattle.pr_registry.specs.Registrations.{State, key_of, is_registered, others, registrants, established}
+use Rattle.pr_registry.specs.Hosts.{Hosts, nobody, hosts_in, hosts_with, without}
+use Rattle.pr_registry.specs.Registrations.{State, key_of, others, established}
 use Rattle.pr_registry.specs.Changes.{Case, ReplacesAll, ReplacesHolder, RemovesKey, no_change, is_kind, preempt_case, removed_by_preempt, is_new_type, change_on_preempt}
 use Rattle.pr_registry.specs.Effects.{next, held_by_rest, held_after_preempt, preempted}
-use Rattle.pr_registry.proofs.Sets.{contains-nobody, contains-remove, contains-difference, contains-hosts_in, contains-hosts_with, get-without}
+use Rattle.pr_registry.proofs.Sets.{contains-nobody, contains-remove, contains-difference, contains-hosts_with, get-without}
 use Rattle.pr_views.specs.Possibilities.{key_at, number_of}
-use Rattle.pr_regions.specs.inside.Parts.{never, registered, another}
+use Rattle.pr_regions.specs.inside.Parts.{never, registered, told_but, lost_if}
 use Rattle.pr_regions.proofs.Unique.{AreDistinct}
 use Rattle.pr_regions.proofs.Acting.{Is}
-use Rattle.pr_regions.proofs.Becoming.{Becomes, contains-others, contains-others_itself, is_registered-number, is_key-number, other_host, not_itself}
+use Rattle.pr_regions.proofs.Becoming.{Becomes, contains-others, contains-others_itself, is_key-number, other_host, not_itself}
 
 -- what it makes of a registry in this case
 abbrev pub preempted_as : State → ℕ → ℕ → Kind → Case → State
@@ -70,10 +68,6 @@ on_preempt_all keys hosts from t u = record {
 
 -- ---- the holder
 
--- those who are told that the reservation was released, if it is replaced by one of another type
-abbrev pub told_but : Bool → ℕ → ℕ → Bool
-told_but b j r = b && another j r
-
 -- the others with this key
 abbrev others_with : State → ℕ → ℕ → Hosts
 others_with u k from = set.remove (hosts_with u.keys k) from
@@ -110,10 +104,6 @@ on_preempt_holder keys hosts from j k t held u once fits named = record {
 }
 
 -- ---- any other key
-
--- the sender's registration once its key is removed, if it has that key
-abbrev pub lost_if : Bool → Option ℕ
-lost_if own = if own then Some 0 else None
 
 pub on_preempt_key : (keys : List ℕ) (hosts from j k : ℕ) (t : Kind) (u : State) (own : Bool) → AreDistinct keys → j ≤ length keys → key_at keys j ≡ Some k
     → ((r : ℕ) → Is keys u from r → (r == j) ≡ own)

@@ -1,0 +1,18 @@
+use Rattle.std.proofs.Common.{length, ◌-◌, ◌≡◌, ◌≤◌, true}
+use Rattle.std.specs.List.{All}
+use Rattle.pr_sets.specs.Words.{has}
+use Rattle.pr_views.specs.Possibilities.{Scope}
+use Rattle.pr_views.specs.Portions.{view_in}
+use Rattle.pr_regions.specs.Regions.{IsProper as IsProperBranch}
+use Rattle.pr_domain.specs.inside.Gathering.{IsPlace, IsUniform}
+use Rattle.pr_domain.specs.inside.Permitting.{IsOneReached}
+use Rattle.pr_domain.proofs.permitting.is_one_reached.Given as goal
+
+abbrev pub invariant-loop-i : goal.invariant-loop-i
+invariant-loop-i l =
+    ((s : Scope) → IsPlace s l.view l.place → IsUniform l.senders → has l.view.pending 0 ≡ true → All IsProperBranch l.branches
+    → IsOneReached (view_in s l.view) l.place l.senders l.branches l.i → ⊥)
+    × (l.i ≤ length l.branches)
+
+abbrev pub decreases-loop-i : goal.decreases-loop-i
+decreases-loop-i l = length l.branches - l.i

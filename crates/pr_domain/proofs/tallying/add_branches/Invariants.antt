@@ -1,0 +1,16 @@
+use Rattle.std.proofs.Common.{◌-◌, ◌≡◌, ◌≤◌, ℕ, List, length}
+use Rattle.pr_cdb.specs.declared.command.Command.{Command}
+use Rattle.pr_script.specs.declared.script.Test.{Test}
+use Rattle.pr_views.specs.Possibilities.{Scope}
+use Rattle.pr_views.specs.Portions.{view_in}
+use Rattle.pr_domain.specs.inside.Tallies.{Grows, AreRight, IsInOne}
+use Rattle.pr_domain.proofs.tallying.add_branches.Given as goal
+
+abbrev pub invariant-loop-i : goal.invariant-loop-i
+invariant-loop-i l =
+    ((s : Scope) (c : Command) (tests : List Test) → AreRight s c tests l.view l.place l.senders l.branches l.arm
+    → Grows (view_in s l.view) c tests l.initial.tally l.tally (IsInOne (view_in s l.view) l.place l.senders l.branches l.i))
+    × (l.i ≤ length l.branches)
+
+abbrev pub decreases-loop-i : goal.decreases-loop-i
+decreases-loop-i l = length l.branches - l.i

@@ -1,0 +1,13 @@
+use Rattle.std.proofs.Common.{◌-◌, ◌+◌, ◌≤◌, length}
+use Rattle.pr_views.specs.Possibilities.{Scope}
+use Rattle.pr_views.specs.Portions.{view_in}
+use Rattle.pr_domain.specs.inside.Tallies.{Grows, HasFirst, IsOwners}
+use Rattle.pr_domain.proofs.tallying.add_place.Given as goal
+
+abbrev pub invariant-loop-registration : goal.invariant-loop-registration
+invariant-loop-registration l =
+    ((s : Scope) → IsOwners s l.keys l.view l.place → Grows (view_in s l.view) l.command l.tests l.initial.tally l.tally (HasFirst s l.place l.registration))
+    × (l.registration ≤ l.registrations)
+
+abbrev pub decreases-loop-registration : goal.decreases-loop-registration
+decreases-loop-registration l = l.registrations - l.registration

@@ -1,0 +1,37 @@
+use Rattle.std.proofs.Common.{◌≡◌, ℕ, refl, None}
+use Rattle.pr_views.specs.Portions.{view_in}
+use Rattle.pr_regions.specs.declared.region.Change.{Change}
+use Rattle.pr_regions.specs.inside.Parts.{Does, never}
+use Rattle.pr_domain.specs.inside.Gathering.{IsAt}
+use Rattle.pr_domain.specs.inside.Tallies.{IsReadAt}
+use Rattle.pr_domain.proofs.DataTaken.{reading_right, read_at, at_read}
+use Rattle.pr_domain.proofs.Growing.{grows_as}
+use Rattle.pr_domain.proofs.tallying.add_reading.Goals as goal
+
+abbrev kept : (c : goal.After-add_branch) → Change
+kept c = record {
+  sender = None;
+  removed = c.none-none.result;
+  reservation = c.args.place.reservation;
+  told_03 = c.none-none.result;
+  told_04 = c.none-none.result;
+  told_05 = c.none-none.result;
+}
+
+does : (c : goal.After-add_branch) → Does (kept c) None never c.args.place.reservation never never never
+does c = record {
+  sender = refl;
+  removed = λ r small. c.none-none.ensures r;
+  reservation = refl;
+  told_03 = λ r small. c.none-none.ensures r;
+  told_04 = λ r small. c.none-none.ensures r;
+  told_05 = λ r small. c.none-none.ensures r;
+}
+
+pub returns : goal.returns
+returns c s c' tests right =
+    grows_as (view_in s c.args.view.now) c' tests c.args.tally.now c.add_branch.new.tally (IsAt (view_in s c.args.view.now) c.args.place c.only.result c.args.reading.now.region)
+    (IsReadAt s c.args.view.now c.args.place c.args.registration c.args.reading.now)
+    (λ u shown at. read_at s c.args.view.now c.args.place c.args.registration c.only.result c.args.reading.now u right.is c.only.ensures at)
+    (λ u shown read. at_read s c.args.view.now c.args.place c.args.registration c.only.result c.args.reading.now u right.is c.only.ensures shown read)
+    (c.add_branch.ensures s c' tests (reading_right s c' tests c.args.view.now c.args.place c.args.registration c.only.result c.args.reading.now _ (kept c) c.way_of.result right c.only.ensures refl refl (does c) c.way_of.ensures.way c.way_of.ensures.none))

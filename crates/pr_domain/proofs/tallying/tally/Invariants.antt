@@ -1,0 +1,13 @@
+use Rattle.std.proofs.Common.{◌-◌, ◌+◌, ◌*◌, ◌≤◌}
+use Rattle.pr_views.specs.Possibilities.{Scope}
+use Rattle.pr_views.specs.Portions.{view_in}
+use Rattle.pr_domain.specs.inside.Tallies.{Grows, IsReserved, IsOfScope}
+use Rattle.pr_domain.proofs.tallying.tally.Given as goal
+
+abbrev pub invariant-loop-reservation : goal.invariant-loop-reservation
+invariant-loop-reservation l =
+    ((s : Scope) → IsOfScope s l.hosts l.own l.keys l.view → Grows (view_in s l.view) l.command l.tests l.initial.tally l.tally (IsReserved s l.reservation))
+    × (l.reservation ≤ l.hosts * 4 + 3)
+
+abbrev pub decreases-loop-reservation : goal.decreases-loop-reservation
+decreases-loop-reservation l = l.hosts * 4 + 3 - l.reservation

@@ -1,0 +1,83 @@
+-- Whether a role permits a host's command, wherever the command ends GOOD.
+use Rattle.std.specs.Prelude.{◌≡◌, ℕ, ◌<◌, Bool, true, false, not, ◌==◌, ◌&&◌, IsTrue, List, Option, Some, None, is_some}
+use Rattle.std.specs.List.{list_any, slice_get}
+use Rattle.pr_cdb.specs.declared.command.Command.{Command}
+use Rattle.pr_registry.specs.declared.held.Held.{Held}
+use Rattle.pr_registry.specs.declared.held.Held.TheVariants.{One, All}
+use Rattle.pr_unit.specs.UnitStates.{UnitState}
+use Rattle.pr_unit.specs.Conflicts.{command_conflicts}
+use Rattle.pr_unit.specs.Faults.{command_fault}
+use Rattle.pr_script.specs.Grammar.{is_written}
+use Rattle.pr_roles.specs.declared.role.Clause.{Clause}
+use Rattle.pr_roles.specs.declared.role.Condition.{Condition}
+use Rattle.pr_roles.specs.declared.role.Condition.TheVariants as condition
+use Rattle.pr_roles.specs.Permits.{names, clause_permits}
+use Rattle.pr_sets.specs.declared.word.Word.{Word}
+use Rattle.pr_sets.specs.Words.{has}
+use Rattle.pr_views.specs.declared.possibilities.Possibilities.{Possibilities}
+use Rattle.pr_views.specs.Possibilities.{Scope, Attentions, IsSo}
+use Rattle.pr_views.specs.Views.{View, Shows, Fits}
+use Rattle.pr_views.specs.Portions.{view_in}
+use Rattle.pr_regions.specs.declared.region.Branch.{Branch}
+use Rattle.pr_regions.specs.declared.region.Change.{Change}
+use Rattle.pr_regions.specs.declared.region.Ending.TheVariants.{Good}
+use Rattle.pr_domain.specs.declared.place.Place.{Place}
+use Rattle.pr_domain.specs.inside.Gathering.{IsThere}
+
+-- nothing is pending for the owner, and its command neither conflicts nor is at fault
+pub record EndsGood (s : Scope) (c : Command) (u : UnitState) : Type 0 where
+  pub idle : IsSo s u (Attentions 0)
+  pub free : command_conflicts u.registry s.own c ≡ false
+  pub whole : command_fault u.registry s.own c ≡ None
+
+-- among these shown states, some clause permits the command in each in which it ends GOOD
+abbrev pub ArePermitted : View → List Clause → Command → (UnitState → Type 0) → Type 0
+ArePermitted v clauses c Among =
+    (u : UnitState) → Shows v u → Among u → EndsGood v.scope c u
+    → IsTrue (list_any (λ clause. clause_permits clause u.registry v.scope.own c) clauses)
+
+-- ---- who asks
+
+-- the sender is the owner
+abbrev pub scope_at : List ℕ → ℕ → ℕ → Scope
+scope_at keys hosts sender = record { own = sender; hosts = hosts; keys = keys }
+
+-- What is known of a command and of the view of its sender: a text can have the command, and for the sender it is
+-- possible that nothing is pending.
+pub record IsAsking (keys : List ℕ) (hosts sender : ℕ) (c : Command) (view : Possibilities) : Type 0 where
+  pub fits : Fits (view_in (scope_at keys hosts sender) view)
+  pub written : is_written keys c ≡ true
+  pub idle : has view.pending 0 ≡ true
+
+-- ---- a sender by the number of its registration
+
+abbrev pub holds_reservation : Option Held → ℕ → ℕ → Bool
+holds_reservation None sender r = false
+holds_reservation (Some (One kind h)) sender r = h == sender
+holds_reservation (Some (All kind)) sender r = not (r == 0)
+
+-- the condition, if there is one, holds of the sender of the place where it has registration r
+abbrev pub holds_at : Option Condition → Place → ℕ → Bool
+holds_at None place r = true
+holds_at (Some condition.Registered) place r = not (r == 0)
+holds_at (Some condition.Holder) place r = holds_reservation place.held place.sender r
+holds_at (Some condition.Reserved) place r = is_some place.held
+
+abbrev pub permits_at : Clause → Command → Place → ℕ → Bool
+permits_at clause c place r = names clause.action c && holds_at clause.condition place r
+
+-- ---- where the command ends GOOD
+
+-- The branch ends GOOD, and its region has a shown state in which nothing is pending for the owner.
+pub record IsReached (v : View) (place : Place) (senders : Word) (b : Branch) : Type 0 where
+  pub change : Change
+  pub good : b.ending ≡ Good change
+  pub there : IsThere v place senders b.region 0
+
+-- so it is of one of the first n branches
+pub record IsOneReached (v : View) (place : Place) (senders : Word) (branches : List Branch) (n : ℕ) : Type 0 where
+  pub branch : Branch
+  pub index : ℕ
+  pub below : index < n
+  pub listed : slice_get branches index ≡ Some branch
+  pub reached : IsReached v place senders branch

@@ -1,0 +1,112 @@
+//! What a change makes of the registrations and the attentions of some states.
+
+ghost use Rattle.std.specs.Prelude.{◌≡◌, ◌≤◌, ◌<◌, ℕ, unwrap_or, bit_or};
+ghost use Rattle.pr_sets.specs.Words.{has};
+ghost use Rattle.pr_views.specs.Portions.{has_at};
+ghost use Rattle.pr_domain.specs.inside.Images.{IsImage, first, left, becomes, mark as mark_of, AreTold};
+
+use pr_regions::Change;
+use pr_sets::Word;
+
+/// What becomes of the registrations of each host and guest by a change of the sender's.
+pub(crate) fn registrations_after(words: &[Word; 8], sender: u8, change: &Change) -> [Word; 8]
+    requires { unwrap_or change.now.sender 0 ≤ 12 }
+    ensures { (g : ℕ) → IsImage (has_at words.now g) (becomes sender change.now g) (has_at result g) }
+{
+    let mut after = *words;
+    let from = usize::from(sender);
+    for host in 0..8 {
+        after[host] = if host == from {
+            given(words[host], change.sender)
+        } else {
+            stripped(words[host], change.removed)
+        };
+    }
+    after
+}
+
+// The sender's: another one where the change gives it.
+fn given(word: Word, to: Option<u8>) -> Word
+    requires { unwrap_or to 0 ≤ 12 }
+    ensures { IsImage (has word) (λ r. unwrap_or to r) (has result) }
+{
+    match to {
+        Some(registration) if !word.is_empty() => Word::only(registration),
+        _ => word,
+    }
+}
+
+// Another's: none in the place of those that are removed.
+fn stripped(word: Word, removed: Word) -> Word
+    ensures { IsImage (has word) (left removed) (has result) }
+{
+    if word.and(removed).is_empty() {
+        word
+    } else {
+        word.except(removed).with(0)
+    }
+}
+
+/// What becomes of the attentions pending for an owner that has one of these registrations.
+pub(crate) fn attentions_after(owners: Word, pending: Word, change: &Change) -> Word
+    ensures { AreTold change.now owners pending result }
+{
+    let marks = marks(owners, change);
+    let mut told = Word::none();
+    for mark in 0..16 {
+        if marks.has(mark) {
+            told = told.or(marked(pending, mark));
+        }
+    }
+    told
+}
+
+// The bits of what hosts with these registrations are told.
+fn marks(owners: Word, change: &Change) -> Word
+    ensures image { IsImage (first 13 owners) (mark_of change.now) (has result) }
+{
+    let mut marks = Word::none();
+    for registration in 0..13 {
+        if owners.has(registration) {
+            marks = marks.with(mark(registration, change));
+        }
+    }
+    marks
+}
+
+fn mark(registration: u8, change: &Change) -> u8
+    requires { registration < 13 }
+    ensures mark { result ≡ mark_of change.now registration }
+    ensures few { result < 16 }
+{
+    let preempted = if change.told_03.has(registration) {
+        2
+    } else {
+        0
+    };
+    let released = if change.told_04.has(registration) {
+        4
+    } else {
+        0
+    };
+    let removed = if change.told_05.has(registration) {
+        8
+    } else {
+        0
+    };
+    preempted + (released + removed)
+}
+
+// The attentions with these bits besides.
+fn marked(pending: Word, mark: u8) -> Word
+    requires { mark < 16 }
+    ensures { IsImage (first 16 pending) (λ q. bit_or q mark) (has result) }
+{
+    let mut marked = Word::none();
+    for attentions in 0..16 {
+        if pending.has(attentions) {
+            marked = marked.with(attentions | mark);
+        }
+    }
+    marked
+}

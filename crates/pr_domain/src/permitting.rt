@@ -1,0 +1,219 @@
+//! Whether a role permits a command of its host in each state of the host's view in which the command ends GOOD.
+
+ghost use Rattle.std.specs.Prelude.{◌≡◌, ◌<◌, ◌≤◌, ◌↔◌, IsTrue, length, true};
+ghost use Rattle.std.specs.List.{list_any, All};
+ghost use Rattle.pr_script.specs.Grammar.{is_written};
+ghost use Rattle.pr_sets.specs.Words.{has};
+ghost use Rattle.pr_roles.specs.Permits.{is_always_permitted};
+ghost use Rattle.pr_views.specs.Possibilities.{Scope, Reservation, IsSo, key_at};
+ghost use Rattle.pr_views.specs.Portions.{view_in};
+ghost use Rattle.pr_views.specs.Rooms.{view_of, IsMade};
+ghost use Rattle.pr_regions.specs.Regions.{IsProper as IsProperBranch};
+ghost use Rattle.pr_domain.specs.Outcomes.{IsPermittedIn};
+ghost use Rattle.pr_domain.specs.inside.Gathering.{IsPlace, IsUniform, IsProper};
+ghost use Rattle.pr_domain.specs.inside.Tallies.{HasBoth};
+ghost use Rattle.pr_domain.specs.inside.Permitting.{ArePermitted, scope_at, IsAsking, holds_reservation, holds_at, permits_at, IsReached, IsOneReached};
+
+use crate::place::Place;
+use pr_cdb::Command;
+use pr_regions::{Branch, Ending, branches, is_refused, purpose_of, reservation_at, standing_of};
+use pr_registry::Held;
+use pr_roles::{Clause, Condition, Role, names};
+use pr_sets::{ViewSet, Word};
+use pr_views::{Possibilities, ViewOf};
+
+/// Whether the role permits this command of the host in each state that the host's view shows and in which the
+/// command ends GOOD. It takes no memory.
+pub fn permitted<S: ViewSet>(view: &ViewOf<S>, role: &Role, host: u8, command: &Command) -> bool
+    requires made { IsMade S.room view.now }
+    requires host { host < view.now.hosts }
+    requires written { IsTrue (is_written view.now.keys.items command.now) }
+    ensures { IsTrue result ↔ IsPermittedIn (view_of S.members host view.now) role.now.clauses.items command.now }
+{
+    if only_looks(*command) {
+        return true;
+    }
+    let possible = view.possibilities();
+    // Where something is sure to be pending, no other command ends GOOD.
+    if !possible.pending.has(0) {
+        return true;
+    }
+    is_permitted_under_each(
+        &possible,
+        &view.keys,
+        view.hosts,
+        host,
+        &role.clauses,
+        *command,
+    )
+}
+
+// Whether the command is one that needs no clause.
+fn only_looks(command: Command) -> bool
+    ensures { result ≡ is_always_permitted command }
+{
+    matches!(
+        command,
+        Command::TestUnitReady
+            | Command::RequestSense
+            | Command::ReadKeys { .. }
+            | Command::ReadReservation { .. }
+            | Command::ReportCapabilities { .. }
+    )
+}
+
+// Whether some clause permits the command under each reservation under which it can end GOOD.
+fn is_permitted_under_each(
+    view: &Possibilities,
+    keys: &[u64],
+    hosts: u8,
+    sender: u8,
+    clauses: &[Clause],
+    command: Command,
+) -> bool
+    requires asking { IsAsking keys.now hosts sender command view.now }
+    ensures { IsTrue result ↔ ArePermitted (view_in (scope_at keys.now hosts sender) view.now) clauses.now command (λ u. Unit {0}) }
+{
+    let mut reservation = 0;
+    while reservation < hosts * 4 + 3 {
+        if view.reservations.has(reservation) {
+            let held = reservation_at(hosts, reservation);
+            let place = Place {
+                hosts,
+                sender,
+                reservation,
+                held,
+            };
+            if !is_permitted_at(view, place, keys, clauses, command) {
+                return false;
+            }
+        }
+        reservation += 1;
+    }
+    true
+}
+
+// Whether some clause permits it with each registration with which it can end GOOD at this place.
+fn is_permitted_at(
+    view: &Possibilities,
+    place: Place,
+    keys: &[u64],
+    clauses: &[Clause],
+    command: Command,
+) -> bool
+    requires asking { IsAsking keys.now place.hosts place.sender command view.now }
+    requires place { IsPlace (scope_at keys.now place.hosts place.sender) view.now place }
+    ensures { IsTrue result ↔ ArePermitted (view_in (scope_at keys.now place.hosts place.sender) view.now) clauses.now command (λ u. IsSo (scope_at keys.now place.hosts place.sender) u (Reservation place.reservation)) }
+{
+    let mut registration = 0;
+    while registration < 13 {
+        if !is_permitted_with(view, place, keys, clauses, command, registration) {
+            return false;
+        }
+        registration += 1;
+    }
+    true
+}
+
+// Whether some clause permits it with this registration, if it can end GOOD with it.
+fn is_permitted_with(
+    view: &Possibilities,
+    place: Place,
+    keys: &[u64],
+    clauses: &[Clause],
+    command: Command,
+    registration: u8,
+) -> bool
+    requires asking { IsAsking keys.now place.hosts place.sender command view.now }
+    requires place { IsPlace (scope_at keys.now place.hosts place.sender) view.now place }
+    requires registration { registration ≤ 12 }
+    ensures { IsTrue result ↔ ArePermitted (view_in (scope_at keys.now place.hosts place.sender) view.now) clauses.now command (HasBoth (scope_at keys.now place.hosts place.sender) place registration) }
+{
+    let possible = view.registrations[usize::from(place.sender)];
+    if !possible.has(registration) {
+        return true;
+    }
+    if is_refused(key_at(keys, registration), command) {
+        return true;
+    }
+    let purpose = purpose_of(command, keys);
+    let standing = standing_of(purpose, registration);
+    let branches = branches(place.hosts, purpose, place.held, place.sender, standing);
+    !is_one_reached(view, place, Word::only(registration), &branches)
+        || is_one_permitting(clauses, command, place, registration)
+}
+
+// The key of a registration, if it has one.
+fn key_at(keys: &[u64], registration: u8) -> Option<u64>
+    ensures { result ≡ key_at keys.now registration }
+{
+    if registration == 0 {
+        return None;
+    }
+    keys.get(usize::from(registration - 1)).copied()
+}
+
+// Whether one of the branches ends GOOD in some state of the view.
+fn is_one_reached(view: &Possibilities, place: Place, senders: Word, branches: &[Branch]) -> bool
+    requires hosts { (1 ≤ place.hosts) × (place.hosts ≤ 8) }
+    requires sender { place.sender < place.hosts }
+    ensures { (s : Scope) → IsPlace s view.now place → IsUniform senders → has view.now.pending 0 ≡ true → All IsProperBranch branches.now → (IsTrue result ↔ IsOneReached (view_in s view.now) place senders branches.now (length branches.now)) }
+{
+    let mut i = 0;
+    while i < branches.len() {
+        if is_reached(view, place, senders, &branches[i]) {
+            return true;
+        }
+        i += 1;
+    }
+    false
+}
+
+// Whether the branch ends GOOD in some state of the view, in which nothing is pending for its owner.
+fn is_reached(view: &Possibilities, place: Place, senders: Word, branch: &Branch) -> bool
+    requires hosts { (1 ≤ place.hosts) × (place.hosts ≤ 8) }
+    requires sender { place.sender < place.hosts }
+    ensures { (s : Scope) → IsPlace s view.now place → IsUniform senders → has view.now.pending 0 ≡ true → IsProper branch.now.region → (IsTrue result ↔ IsReached (view_in s view.now) place senders branch.now) }
+{
+    match branch.ending {
+        Ending::Conflict | Ending::Fault(_) => false,
+        Ending::Good(_) => place.gather(view, senders, &branch.region).is_some(),
+    }
+}
+
+// Whether some clause permits the command to the sender of the place, with this registration.
+fn is_one_permitting(clauses: &[Clause], command: Command, place: Place, registration: u8) -> bool
+    ensures { result ≡ list_any (λ clause. permits_at clause command place registration) clauses.now }
+{
+    clauses
+        .iter()
+        .any(|clause| permits_at(*clause, command, place, registration))
+}
+
+fn permits_at(clause: Clause, command: Command, place: Place, registration: u8) -> bool
+    ensures { result ≡ permits_at clause command place registration }
+{
+    names(clause.action, command) && holds_at(clause.condition, place, registration)
+}
+
+// Whether the condition holds of it.
+fn holds_at(condition: Option<Condition>, place: Place, registration: u8) -> bool
+    ensures { result ≡ holds_at condition place registration }
+{
+    match condition {
+        None => true,
+        Some(Condition::Registered) => registration != 0,
+        Some(Condition::Holder) => holds_reservation(place.held, place.sender, registration),
+        Some(Condition::Reserved) => place.held.is_some(),
+    }
+}
+
+fn holds_reservation(held: Option<Held>, sender: u8, registration: u8) -> bool
+    ensures { result ≡ holds_reservation held sender registration }
+{
+    match held {
+        None => false,
+        Some(Held::One(_, holder)) => holder == sender,
+        Some(Held::All(_)) => registration != 0,
+    }
+}

@@ -1,0 +1,341 @@
+//! The tally of a view: how a command of its owner ends in each of the states that it shows, and what is so then.
+
+ghost use Rattle.std.specs.Prelude.{◌≡◌, ◌<◌, ◌≤◌, ◌+◌, ℕ, List, ◌==◌, ◌||◌, length, IsTrue, true, IfSome, IfNone};
+ghost use Rattle.pr_script.specs.Grammar.{is_written, test_fits, is_read_keys, is_read_reservation};
+ghost use Rattle.pr_views.specs.Possibilities.{key_at};
+ghost use Rattle.pr_roles.specs.Fitting.{AreDeclared};
+ghost use Rattle.pr_roles.specs.Fitting.{is_reservation};
+ghost use Rattle.pr_regions.specs.Purposes.{HasNumber};
+ghost use Rattle.std.specs.List.{All};
+ghost use Rattle.pr_regions.specs.declared.region.Branch.{Branch as BranchOf};
+ghost use Rattle.pr_sets.specs.Words.{has};
+ghost use Rattle.pr_cdb.specs.declared.command.Command.{Command as CommandOf};
+ghost use Rattle.pr_script.specs.declared.script.Test.{Test as TestOf};
+ghost use Rattle.pr_views.specs.Possibilities.{Scope, count_of_reservations};
+ghost use Rattle.pr_views.specs.Portions.{view_in};
+ghost use Rattle.pr_regions.specs.Regions.{HasRoom};
+ghost use Rattle.pr_domain.specs.inside.Gathering.{IsAt};
+ghost use Rattle.pr_domain.specs.inside.Tallies.{Grows, IsRight, AreRight, IsInOne, HasBoth, HasFirst, IsReserved, IsAsked, IsRefusedAt, IsOwners, IsOfScope, IsTally, IsRightReading, AreRightReadings, IsReadAt, IsReadFirst, way_of};
+
+use crate::arms::first_arm;
+use crate::changed::registrations_after;
+use crate::landing::Class;
+use crate::place::Place;
+use crate::tally::Tally;
+use pr_cdb::Command;
+use pr_regions::{
+    Branch, Change, Ending, Purpose, Reading, Region, branches, is_refused, purpose_of, readings,
+    reservation_at, standing_of,
+};
+use pr_script::Test;
+use pr_sets::Word;
+use pr_views::Possibilities;
+
+// These registrations under this reservation.
+fn part(registrations: [Word; 8], reservation: u8) -> Possibilities
+    requires { reservation < 64 }
+    ensures registrations { result.registrations ≡ registrations }
+    ensures reservations { (x : ℕ) → has result.reservations x ≡ (x == reservation) }
+{
+    Possibilities {
+        registrations,
+        reservations: Word::only(reservation),
+        pending: Word::none(),
+    }
+}
+
+// Adds the states of one branch's region, in which the sender has one of these registrations.
+fn add_branch(
+    tally: &mut Tally,
+    view: &Possibilities,
+    place: Place,
+    senders: Word,
+    branch: &Branch,
+    arm: usize,
+)
+    requires hosts { (1 ≤ place.hosts) × (place.hosts ≤ 8) }
+    requires sender { place.sender < place.hosts }
+    requires reservation { place.reservation < count_of_reservations place.hosts }
+    requires room { HasRoom place.hosts branch.now.ending }
+    requires arm { arm ≤ 16 }
+    ensures { (s : Scope) (c : CommandOf) (tests : List TestOf) → IsRight s c tests view.now place senders branch.now arm → Grows (view_in s view.now) c tests tally.old tally.new (IsAt (view_in s view.now) place senders branch.now.region) }
+{
+    let Some(registrations) = place.gather(view, senders, &branch.region) else {
+        return;
+    };
+    let here = part(registrations, place.reservation);
+    match branch.ending {
+        Ending::Conflict => tally.add(0, &here),
+        Ending::Fault(_) => {
+            tally.add(1, &here);
+            tally.add(2, &here);
+        }
+        Ending::Good(change) => {
+            let after = registrations_after(&registrations, place.sender, &change);
+            tally.add(1, &here);
+            tally.add(3 + arm, &part(after, change.reservation));
+        }
+    }
+}
+
+// Adds the states of the regions of all branches.
+fn add_branches(
+    tally: &mut Tally,
+    view: &Possibilities,
+    place: Place,
+    senders: Word,
+    branches: &[Branch],
+    arm: usize,
+)
+    requires hosts { (1 ≤ place.hosts) × (place.hosts ≤ 8) }
+    requires sender { place.sender < place.hosts }
+    requires reservation { place.reservation < count_of_reservations place.hosts }
+    requires room { All (λ b. HasRoom place.hosts b.ending) branches.now }
+    requires arm { arm ≤ 16 }
+    ensures { (s : Scope) (c : CommandOf) (tests : List TestOf) → AreRight s c tests view.now place senders branches.now arm → Grows (view_in s view.now) c tests tally.old tally.new (IsInOne (view_in s view.now) place senders branches.now (length branches.now)) }
+{
+    let mut i = 0;
+    while i < branches.len() {
+        add_branch(tally, view, place, senders, &branches[i], arm);
+        i += 1;
+    }
+}
+
+// Adds the states in which the sender has this registration and the command's reservation key is accepted from it.
+fn add_accepted(
+    tally: &mut Tally,
+    view: &Possibilities,
+    place: Place,
+    purpose: Purpose,
+    arm: usize,
+    registration: u8,
+)
+    requires hosts { (1 ≤ place.hosts) × (place.hosts ≤ 8) }
+    requires sender { place.sender < place.hosts }
+    requires reservation { place.reservation < count_of_reservations place.hosts }
+    requires held { IsTrue (is_reservation place.hosts place.held) }
+    requires number { HasNumber purpose }
+    requires arm { arm ≤ 16 }
+    requires registration { registration ≤ 12 }
+    ensures { (s : Scope) (c : CommandOf) (tests : List TestOf) → IsAsked s c tests view.now place purpose arm registration → Grows (view_in s view.now) c tests tally.old tally.new (HasBoth s place registration) }
+{
+    let standing = standing_of(purpose, registration);
+    let branches = branches(place.hosts, purpose, place.held, place.sender, standing);
+    add_branches(tally, view, place, Word::only(registration), &branches, arm);
+}
+
+// Adds those in which its reservation key is not accepted.
+fn add_refused(tally: &mut Tally, view: &Possibilities, place: Place, registration: u8)
+    requires hosts { (1 ≤ place.hosts) × (place.hosts ≤ 8) }
+    requires sender { place.sender < place.hosts }
+    requires reservation { place.reservation < count_of_reservations place.hosts }
+    requires registration { registration ≤ 12 }
+    ensures { (s : Scope) (c : CommandOf) (tests : List TestOf) → IsRefusedAt s c view.now place registration → Grows (view_in s view.now) c tests tally.old tally.new (HasBoth s place registration) }
+{
+    let anything = Word::below(13);
+    let region = Region {
+        holder: anything,
+        others: anything,
+        somebody: None,
+    };
+    let branch = Branch {
+        region,
+        ending: Ending::Conflict,
+    };
+    add_branch(tally, view, place, Word::only(registration), &branch, 0);
+}
+
+// The way of GOOD with the data taken by this arm, of at most 16.
+fn way_of(arm: Option<usize>) -> usize
+    ensures few { result ≤ 16 }
+    ensures way { IfSome arm (λ n. n < 16) → result ≡ way_of arm }
+    ensures none { IfNone arm (result ≡ 0) }
+{
+    match arm {
+        Some(n) if n < 16 => n + 1,
+        _ => 0,
+    }
+}
+
+// Adds the states in which this arm takes the data, in which nothing changes.
+fn add_reading(
+    tally: &mut Tally,
+    view: &Possibilities,
+    place: Place,
+    registration: u8,
+    reading: &Reading,
+)
+    requires hosts { (1 ≤ place.hosts) × (place.hosts ≤ 8) }
+    requires sender { place.sender < place.hosts }
+    requires reservation { place.reservation < count_of_reservations place.hosts }
+    requires registration { registration ≤ 12 }
+    ensures { (s : Scope) (c : CommandOf) (tests : List TestOf) → IsRightReading s c tests view.now place registration reading.now → Grows (view_in s view.now) c tests tally.old tally.new (IsReadAt s view.now place registration reading.now) }
+{
+    let none = Word::none();
+    let change = Change {
+        sender: None,
+        removed: none,
+        reservation: place.reservation,
+        told_03: none,
+        told_04: none,
+        told_05: none,
+    };
+    let branch = Branch {
+        region: reading.region,
+        ending: Ending::Good(change),
+    };
+    add_branch(
+        tally,
+        view,
+        place,
+        Word::only(registration),
+        &branch,
+        way_of(reading.arm),
+    );
+}
+
+// Adds those of all readings.
+fn add_readings(
+    tally: &mut Tally,
+    view: &Possibilities,
+    place: Place,
+    registration: u8,
+    readings: &[Reading],
+)
+    requires hosts { (1 ≤ place.hosts) × (place.hosts ≤ 8) }
+    requires sender { place.sender < place.hosts }
+    requires reservation { place.reservation < count_of_reservations place.hosts }
+    requires registration { registration ≤ 12 }
+    ensures { (s : Scope) (c : CommandOf) (tests : List TestOf) → AreRightReadings s c tests view.now place registration readings.now → Grows (view_in s view.now) c tests tally.old tally.new (IsReadFirst s view.now place registration readings.now (length readings.now)) }
+{
+    let mut i = 0;
+    while i < readings.len() {
+        add_reading(tally, view, place, registration, &readings[i]);
+        i += 1;
+    }
+}
+
+// The key of a registration.
+fn key_at(keys: &[u64], registration: u8) -> Option<u64>
+    ensures { result ≡ key_at keys.now registration }
+{
+    if registration == 0 {
+        return None;
+    }
+    keys.get(usize::from(registration - 1)).copied()
+}
+
+// Whether the command returns data that tests look at.
+fn is_reading(command: Command) -> bool
+    ensures { result ≡ (is_read_keys command || is_read_reservation command) }
+{
+    matches!(
+        command,
+        Command::ReadKeys { .. } | Command::ReadReservation { .. }
+    )
+}
+
+// Adds the states in which the sender has this registration.
+fn add_registration(
+    tally: &mut Tally,
+    view: &Possibilities,
+    place: Place,
+    keys: &[u64],
+    command: Command,
+    tests: &[Test],
+    registration: u8,
+)
+    requires hosts { (1 ≤ place.hosts) × (place.hosts ≤ 8) }
+    requires sender { place.sender < place.hosts }
+    requires reservation { place.reservation < count_of_reservations place.hosts }
+    requires held { IsTrue (is_reservation place.hosts place.held) }
+    requires keys { AreDeclared keys.now }
+    requires written { IsTrue (is_written keys.now command) }
+    requires tests { All (λ t. test_fits keys.now command t ≡ true) tests.now }
+    requires few { length tests.now ≤ 16 }
+    requires registration { registration ≤ length keys.now }
+    ensures { (s : Scope) → IsOwners s keys.now view.now place → Grows (view_in s view.now) command tests.now tally.old tally.new (HasBoth s place registration) }
+{
+    if is_refused(key_at(keys, registration), command) {
+        add_refused(tally, view, place, registration);
+    } else if is_reading(command) {
+        let readings = readings(tests, command, keys, place.held, place.sender, registration);
+        add_readings(tally, view, place, registration, &readings);
+    } else {
+        let arm = way_of(first_arm(tests, Class::Good));
+        add_accepted(
+            tally,
+            view,
+            place,
+            purpose_of(command, keys),
+            arm,
+            registration,
+        );
+    }
+}
+
+// Adds the states under one reservation.
+fn add_place(
+    tally: &mut Tally,
+    view: &Possibilities,
+    place: Place,
+    keys: &[u64],
+    command: Command,
+    tests: &[Test],
+)
+    requires hosts { (1 ≤ place.hosts) × (place.hosts ≤ 8) }
+    requires sender { place.sender < place.hosts }
+    requires reservation { place.reservation < count_of_reservations place.hosts }
+    requires held { IsTrue (is_reservation place.hosts place.held) }
+    requires keys { AreDeclared keys.now }
+    requires few_keys { length keys.now ≤ 12 }
+    requires written { IsTrue (is_written keys.now command) }
+    requires tests { All (λ t. test_fits keys.now command t ≡ true) tests.now }
+    requires few { length tests.now ≤ 16 }
+    ensures { (s : Scope) → IsOwners s keys.now view.now place → Grows (view_in s view.now) command tests.now tally.old tally.new (HasFirst s place (length keys.now + 1)) }
+{
+    let registrations = keys.len() as u8 + 1;
+    let possible = view.registrations[usize::from(place.sender)];
+    let mut registration = 0;
+    while registration < registrations {
+        if possible.has(registration) {
+            add_registration(tally, view, place, keys, command, tests, registration);
+        }
+        registration += 1;
+    }
+}
+
+/// How the owner's command ends in each of the states that the view shows, and what is so then.
+pub(crate) fn tally(
+    view: &Possibilities,
+    keys: &[u64],
+    hosts: u8,
+    own: u8,
+    command: Command,
+    tests: &[Test],
+) -> Tally
+    requires hosts { (1 ≤ hosts) × (hosts ≤ 8) }
+    requires own { own < hosts }
+    requires keys { AreDeclared keys.now }
+    requires few_keys { length keys.now ≤ 12 }
+    requires written { IsTrue (is_written keys.now command) }
+    requires tests { All (λ t. test_fits keys.now command t ≡ true) tests.now }
+    requires few { length tests.now ≤ 16 }
+    ensures { (s : Scope) → IsOfScope s hosts own keys.now view.now → IsTally (view_in s view.now) command tests.now result }
+{
+    let mut tally = Tally::none();
+    let mut reservation = 0;
+    while reservation < hosts * 4 + 3 {
+        if view.reservations.has(reservation) {
+            let place = Place {
+                hosts,
+                sender: own,
+                reservation,
+                held: reservation_at(hosts, reservation),
+            };
+            add_place(&mut tally, view, place, keys, command, tests);
+        }
+        reservation += 1;
+    }
+    tally
+}

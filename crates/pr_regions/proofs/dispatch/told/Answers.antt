@@ -1,0 +1,26 @@
+use Rattle.pr_regions.specs.declared.purpose.Purpose.TheVariants.{Look, Read, Write, Register, Reserve, Release, Clear, PreemptAll}
+use Rattle.pr_regions.proofs.dispatch.told.Goals as goal
+
+pub returns-in-Look : goal.returns-in-Look
+returns-in-Look c = rw c.in-Look.is (c.alone.ensures c.args.hosts Look c.args.held c.args.sender c.args.standing (c.looking.ensures c.args.sender c.args.standing))
+
+pub returns-in-Read : goal.returns-in-Read
+returns-in-Read c = rw c.in-Read.is (c.alone-in-Read.ensures c.args.hosts (Read c.in-Read.in_range) c.args.held c.args.sender c.args.standing c.reading.ensures)
+
+pub returns-in-Write : goal.returns-in-Write
+returns-in-Write c = rw c.in-Write.is (c.alone-in-Write.ensures c.args.hosts (Write c.in-Write.in_range) c.args.held c.args.sender c.args.standing c.writing.ensures)
+
+pub returns-in-Register : goal.returns-in-Register
+returns-in-Register c = rw c.in-Register.is (c.alone-in-Register.ensures c.args.hosts (Register c.in-Register.key) c.args.held c.args.sender c.args.standing (c.registering.ensures c.args.sender c.args.standing))
+
+pub returns-in-Reserve : goal.returns-in-Reserve
+returns-in-Reserve c = rw c.in-Reserve.is (c.alone-in-Reserve.ensures c.args.hosts (Reserve c.in-Reserve.kind) c.args.held c.args.sender c.args.standing c.reserving.ensures)
+
+pub returns-in-Release : goal.returns-in-Release
+returns-in-Release c = rw c.in-Release.is (c.alone-in-Release.ensures c.args.hosts (Release c.in-Release.kind) c.args.held c.args.sender c.args.standing c.releasing.ensures)
+
+pub returns-in-Clear : goal.returns-in-Clear
+returns-in-Clear c = rw c.in-Clear.is (c.alone-in-Clear.ensures c.args.hosts Clear c.args.held c.args.sender c.args.standing (c.clearing.ensures c.args.hosts c.args.held c.args.sender c.args.standing))
+
+pub returns-in-PreemptAll : goal.returns-in-PreemptAll
+returns-in-PreemptAll c = rw c.in-PreemptAll.is (c.alone-in-PreemptAll.ensures c.args.hosts (PreemptAll c.in-PreemptAll.kind) c.args.held c.args.sender c.args.standing (c.preempting_all.ensures c.args.standing))

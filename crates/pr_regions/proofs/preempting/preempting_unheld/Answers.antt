@@ -1,0 +1,16 @@
+use Rattle.std.proofs.Common.{None, Some, sym, ◌∙◌, arith}
+use Rattle.pr_regions.specs.declared.purpose.Purpose.TheVariants.{Preempt}
+use Rattle.pr_regions.specs.inside.Parts.{never, only}
+use Rattle.pr_regions.proofs.Meeting.{has_room}
+use Rattle.pr_regions.proofs.Choosing.{own_unheld}
+use Rattle.pr_regions.proofs.preempting.preempting_unheld.Goals as goal
+
+pub returns-then-is_named : goal.returns-then-is_named
+returns-then-is_named c kind sender =
+    let j = c.args.key in
+    c.alone.ensures c.args.hosts (Preempt j kind) None sender c.args.standing
+    (own_unheld c.args.hosts j kind sender c.args.standing c.removed.result c.requires.key (sym c.is_named.ensures ∙ c.if-is_named.true) c.removed.ensures
+    (has_room c.args.hosts c.removed.result (Some 0) (only j) 0 never never (only j) c.removed.ensures (omega arith) (omega arith)))
+
+pub returns-else-is_named : goal.returns-else-is_named
+returns-else-is_named c kind sender = c.preempting_others.ensures kind sender c.args.standing (sym c.is_named.ensures ∙ c.if-is_named.false) tt

@@ -1,0 +1,109 @@
+//! Which arm takes the data of READ KEYS.
+
+ghost use Rattle.std.specs.Prelude.{◌≡◌, ◌≤◌, ℕ, Option, length, true};
+ghost use Rattle.std.specs.List.{All};
+ghost use Rattle.pr_cdb.specs.declared.command.Command.{Command as CommandOf};
+ghost use Rattle.pr_registry.specs.declared.held.Held.{Held};
+ghost use Rattle.pr_script.specs.Grammar.{test_fits, written_length};
+ghost use Rattle.pr_regions.specs.Readings.{AreReadings, IsProperReading};
+ghost use Rattle.pr_regions.specs.inside.Reads.{IsAsked, HasFewer, open_to};
+
+use crate::commands::number_in;
+use crate::region::{Reading, Region};
+use crate::words::anything;
+use arrayvec::ArrayVec;
+use pr_cdb::Command;
+use pr_script::Test;
+use pr_sets::Word;
+
+// What a test asks of the keys that are read.
+#[derive(Clone, Copy)]
+enum Ask {
+    // Nothing more.
+    Always,
+    // What is never so.
+    Never,
+    // That another has the key of this number.
+    Somebody(u8),
+}
+
+impl Default for Reading {
+    fn default() -> Reading {
+        Reading {
+            region: Region::whole(),
+            arm: None,
+        }
+    }
+}
+
+fn asked_by(test: Test, keys: &[u64], registration: u8) -> Ask
+    requires few { length keys.now ≤ 12 }
+    requires fits { test_fits keys.now (Command.ReadKeys written_length) test ≡ true }
+    ensures asked { (hosts : ℕ) (held : Option Held) (sender : ℕ) → IsAsked keys.now hosts held sender registration (Command.ReadKeys written_length) test result }
+    ensures small { HasFewer result }
+{
+    match test {
+        Test::Good => Ask::Always,
+        Test::GoodHas(key) => {
+            let number = number_in(keys, key);
+            if number == registration {
+                Ask::Always
+            } else {
+                Ask::Somebody(number)
+            }
+        }
+        Test::GoodHeld(_) | Test::GoodUnheld | Test::Conflict | Test::Attention | Test::Sense(_) =>
+            Ask::Never,
+    }
+}
+
+// The region in which all others have one of these registrations.
+fn open_to(left: Word) -> Region
+    ensures { result ≡ open_to left }
+{
+    Region {
+        holder: left,
+        others: left,
+        somebody: None,
+    }
+}
+
+/// Which arm takes the data of READ KEYS, region by region.
+pub(crate) fn key_readings(tests: &[Test], keys: &[u64], registration: u8) -> ArrayVec<Reading, 17>
+    requires few { length keys.now ≤ 12 }
+    requires arms { length tests.now ≤ 16 }
+    requires fits { All (λ test. test_fits keys.now (Command.ReadKeys written_length) test ≡ true) tests.now }
+    ensures right { (hosts : ℕ) (held : Option Held) (sender : ℕ)
+        → AreReadings keys.now hosts tests.now (Command.ReadKeys written_length) held sender registration result.items }
+    ensures proper { All IsProperReading result.items }
+{
+    let mut readings = ArrayVec::new();
+    let mut left = anything();
+    for (arm, test) in tests.iter().enumerate() {
+        match asked_by(*test, keys, registration) {
+            Ask::Never => {}
+            Ask::Always => {
+                readings.push(Reading {
+                    region: open_to(left),
+                    arm: Some(arm),
+                });
+                return readings;
+            }
+            Ask::Somebody(key) => {
+                readings.push(Reading {
+                    region: Region {
+                        somebody: Some(Word::only(key)),
+                        ..open_to(left)
+                    },
+                    arm: Some(arm),
+                });
+                left = left.without(key);
+            }
+        }
+    }
+    readings.push(Reading {
+        region: open_to(left),
+        arm: None,
+    });
+    readings
+}

@@ -1,0 +1,128 @@
+//! Which arm takes the data of READ RESERVATION.
+
+ghost use Rattle.std.specs.Prelude.{◌≡◌, ◌≢◌, ◌≤◌, ℕ, Some, length, true, unwrap_or, position};
+ghost use Rattle.std.specs.List.{All};
+ghost use Rattle.pr_cdb.specs.declared.command.Kind.{Kind as KindOf};
+ghost use Rattle.pr_cdb.specs.declared.command.Command.{Command as CommandOf};
+ghost use Rattle.pr_script.specs.Grammar.{test_fits, written_length};
+ghost use Rattle.pr_views.specs.Possibilities.{key_at};
+ghost use Rattle.pr_regions.specs.Readings.{AreReadings, IsProperReading};
+ghost use Rattle.pr_regions.specs.inside.Reads.{passes_held, IsEverywhere};
+
+use crate::commands::is_key;
+use crate::region::{Reading, Region};
+use arrayvec::ArrayVec;
+use pr_cdb::Command;
+use pr_registry::Held;
+use pr_script::Test;
+use pr_sets::Word;
+
+// Whether the test matches data with a reservation of this key, or with none.
+fn passes(key: Option<u64>, test: Test) -> bool
+    ensures { result ≡ passes_held key test }
+{
+    match test {
+        Test::Good => true,
+        Test::GoodHeld(held) => is_key(key, held),
+        Test::GoodUnheld => key.is_none(),
+        Test::GoodHas(_) | Test::Conflict | Test::Attention | Test::Sense(_) => false,
+    }
+}
+
+// The first arm that takes data with a reservation of this key, or with none.
+fn first_arm(tests: &[Test], key: Option<u64>) -> Option<usize>
+    ensures { result ≡ position (passes_held key) tests.now }
+{
+    tests.iter().position(|test| passes(key, *test))
+}
+
+// The key of this number, or 0.
+fn key_at(keys: &[u64], number: u8) -> u64
+    requires { number ≤ length keys.now }
+    ensures { result ≡ unwrap_or (key_at keys.now number) 0 }
+{
+    if number == 0 {
+        return 0;
+    }
+    keys[usize::from(number) - 1]
+}
+
+// The same arm in all states.
+fn everywhere(arm: Option<usize>) -> ArrayVec<Reading, 17>
+    ensures all { IsEverywhere arm result.items }
+    ensures proper { All IsProperReading result.items }
+{
+    let mut readings = ArrayVec::new();
+    readings.push(Reading {
+        region: Region::whole(),
+        arm,
+    });
+    readings
+}
+
+// By the key of another host that holds the reservation alone.
+fn by_holder(tests: &[Test], keys: &[u64]) -> ArrayVec<Reading, 17>
+    requires few { length keys.now ≤ 12 }
+    requires fits { All (λ test. test_fits keys.now (Command.ReadReservation written_length) test ≡ true) tests.now }
+    ensures right { (hosts : ℕ) (kind : KindOf) (holder sender own : ℕ) → holder ≢ sender
+        → AreReadings keys.now hosts tests.now (Command.ReadReservation written_length) (Some (Held.One kind holder)) sender own result.items }
+    ensures proper { All IsProperReading result.items }
+{
+    let mut readings = ArrayVec::new();
+    for (place, key) in keys.iter().enumerate() {
+        readings.push(Reading {
+            region: Region {
+                holder: Word::only(place as u8 + 1),
+                ..Region::whole()
+            },
+            arm: first_arm(tests, Some(*key)),
+        });
+    }
+    readings
+}
+
+// By the key of the reservation that stands.
+fn held_readings(
+    tests: &[Test],
+    keys: &[u64],
+    held: Held,
+    sender: u8,
+    registration: u8,
+) -> ArrayVec<Reading, 17>
+    requires few { length keys.now ≤ 12 }
+    requires fits { All (λ test. test_fits keys.now (Command.ReadReservation written_length) test ≡ true) tests.now }
+    requires known { registration ≤ length keys.now }
+    ensures right { (hosts : ℕ) → AreReadings keys.now hosts tests.now (Command.ReadReservation written_length) (Some held) sender registration result.items }
+    ensures proper { All IsProperReading result.items }
+{
+    match held {
+        Held::All(_) => everywhere(first_arm(tests, Some(0))),
+        Held::One(_, holder) => {
+            if holder == sender {
+                everywhere(first_arm(tests, Some(key_at(keys, registration))))
+            } else {
+                by_holder(tests, keys)
+            }
+        }
+    }
+}
+
+/// Which arm takes the data of READ RESERVATION, region by region.
+pub(crate) fn reservation_readings(
+    tests: &[Test],
+    keys: &[u64],
+    held: Option<Held>,
+    sender: u8,
+    registration: u8,
+) -> ArrayVec<Reading, 17>
+    requires few { length keys.now ≤ 12 }
+    requires fits { All (λ test. test_fits keys.now (Command.ReadReservation written_length) test ≡ true) tests.now }
+    requires known { registration ≤ length keys.now }
+    ensures right { (hosts : ℕ) → AreReadings keys.now hosts tests.now (Command.ReadReservation written_length) held sender registration result.items }
+    ensures proper { All IsProperReading result.items }
+{
+    match held {
+        None => everywhere(first_arm(tests, None)),
+        Some(held) => held_readings(tests, keys, held, sender, registration),
+    }
+}

@@ -1,0 +1,86 @@
+//! How a command ends by which its sender is registered no more.
+
+ghost use Rattle.std.specs.Prelude.{◌≡◌, ◌≤◌, ◌&&◌, ℕ, IsTrue, Some, None, false, true, if◌then◌else◌};
+ghost use Rattle.pr_registry.specs.Registrations.{holds_alone};
+ghost use Rattle.pr_registry.specs.Changes.{is_held_by_all, is_told_of_loss};
+ghost use Rattle.pr_roles.specs.Fitting.{is_reservation};
+ghost use Rattle.pr_views.specs.Possibilities.{number_of};
+ghost use Rattle.pr_regions.specs.Regions.{HasRoom};
+ghost use Rattle.pr_regions.specs.inside.Parts.{Does, Tell, never, told_if, is_unregistered};
+
+use crate::branching::{alone, two};
+use crate::endings::{is_held_by_all, leaving, released, unchanged};
+use crate::purpose::{Purpose, Standing};
+use crate::region::{Branch, Change, Ending, Region};
+use crate::words::registered;
+use arrayvec::ArrayVec;
+use pr_registry::Held;
+use pr_sets::Word;
+
+// What unregistering changes where not all registrants hold: a single holder's reservation ends.
+fn unregistered(hosts: u8, held: Option<Held>, sender: u8) -> Change
+    requires few { hosts ≤ 8 }
+    requires fits { IsTrue (is_reservation hosts held) }
+    ensures change { Does result (Some 0) never (number_of hosts (if holds_alone held sender then None else held))
+        never (told_if (holds_alone held sender && is_told_of_loss held)) never }
+    ensures room { HasRoom hosts (Ending.Good result) }
+{
+    let left = match held {
+        Some(Held::One(kind, holder)) if holder == sender => released(kind),
+        _ => unchanged(hosts, held),
+    };
+    Change {
+        sender: Some(0),
+        ..left
+    }
+}
+
+// Where all registrants hold, the reservation ends with the last of them.
+fn unregistering_registrant(hosts: u8, held: Option<Held>) -> ArrayVec<Branch, 3>
+    requires few { hosts ≤ 8 }
+    requires fits { IsTrue (is_reservation hosts held) }
+    requires all { is_held_by_all held ≡ true }
+    ensures { (sender : ℕ) (standing : Standing) → is_unregistered standing ≡ false → Tell hosts Purpose.Unregister held sender standing result.items }
+{
+    let others_stay = Branch {
+        region: Region {
+            somebody: Some(registered()),
+            ..Region::whole()
+        },
+        ending: Ending::Good(Change {
+            sender: Some(0),
+            ..unchanged(hosts, held)
+        }),
+    };
+    let nobody_stays = Branch {
+        region: Region {
+            others: Word::only(0),
+            ..Region::whole()
+        },
+        ending: Ending::Good(Change {
+            sender: Some(0),
+            ..leaving(0)
+        }),
+    };
+    two(others_stay, nobody_stays)
+}
+
+/// To be registered no more.
+pub(crate) fn unregistering(
+    hosts: u8,
+    held: Option<Held>,
+    sender: u8,
+    standing: Standing,
+) -> ArrayVec<Branch, 3>
+    requires few { hosts ≤ 8 }
+    requires fits { IsTrue (is_reservation hosts held) }
+    ensures { Tell hosts Purpose.Unregister held sender standing result.items }
+{
+    if standing.is_unregistered() {
+        alone(Ending::Good(unchanged(hosts, held)))
+    } else if is_held_by_all(held) {
+        unregistering_registrant(hosts, held)
+    } else {
+        alone(Ending::Good(unregistered(hosts, held, sender)))
+    }
+}
