@@ -12,6 +12,7 @@ mod keeping;
 mod landing;
 mod permitting;
 mod onlooker;
+mod outcome;
 mod place;
 mod reporting;
 mod tally;
@@ -19,4 +20,5 @@ mod tallying;
 
 pub use interference::interfere;
 pub use landing::{Class, Landing};
+pub use outcome::outcomes;
 pub use permitting::permitted;

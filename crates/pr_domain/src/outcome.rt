@@ -1,0 +1,47 @@
+//! What a host's own command may come to.
+
+ghost use Rattle.std.specs.Prelude.{◌≡◌, ◌<◌, ◌≤◌, true, length, map, IfOk, IsTrue};
+ghost use Rattle.std.specs.List.{All};
+ghost use Rattle.pr_script.specs.Grammar.{is_written, test_fits};
+ghost use Rattle.pr_views.specs.Rooms.{view_of, IsMade, AreAlike};
+ghost use Rattle.pr_domain.specs.Outcomes.{AreOutcomes};
+
+use crate::landing::Landing;
+use crate::reporting::Sending;
+use crate::tallying::tally;
+use pr_cdb::Command;
+use pr_script::Test;
+use pr_sets::ViewSet;
+use pr_views::ViewOf;
+use std::alloc::{AllocError, Global};
+
+/// What a host's own command may come to in the states that its view shows: each landing with the view of the states
+/// that it leaves, and each landing once.
+pub fn outcomes<S: ViewSet>(
+    alloc: Global,
+    view: &ViewOf<S>,
+    host: u8,
+    command: &Command,
+    tests: &[Test],
+) -> Result<Vec<(Landing, ViewOf<S>)>, AllocError>
+    requires made { IsMade S.room view.now }
+    requires host { host < view.now.hosts }
+    requires written { IsTrue (is_written view.now.keys.items command.now) }
+    requires tests { All (λ t. test_fits view.now.keys.items command.now t ≡ true) tests.now }
+    requires few { length tests.now ≤ 16 }
+    ensures outcomes { IfOk result (λ outcomes. AreOutcomes (view_of S.members host view.now) command.now tests.now (map (λ o. (o.0, view_of S.members host o.1)) outcomes.items)) }
+    ensures made { IfOk result (λ outcomes. All (λ o. IsMade S.room o.1 × AreAlike view.now o.1) outcomes.items) }
+{
+    let known = view.possibilities();
+    let tally = tally(&known, &view.keys, view.hosts, host, *command, tests);
+    let sending = Sending {
+        keys: &view.keys,
+        hosts: view.hosts,
+        sender: host,
+        known,
+        tally: &tally,
+        command: *command,
+        tests,
+    };
+    sending.outcomes(alloc)
+}
