@@ -29,3 +29,4 @@ pub mod Unpending
 pub mod Viewed
 pub mod Walking
 pub mod Ways
+pub mod Coming
