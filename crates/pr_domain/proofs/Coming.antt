@@ -1,14 +1,12 @@
 -- The outcomes that are found in words are those of the view.
-use Rattle.std.proofs.Common.{◌≡◌, ◌⊎◌, ◌↔◌, ℕ, ◌<◌, ◌≤◌, true, false, List, length, Some, get_or, sym, ap, ◌∙◌, subst, inl, inr}
-use Rattle.std.specs.List.{All, slice_get}
+use Rattle.std.proofs.Common.{◌≡◌, ◌⊎◌, ℕ, ◌<◌, ◌≤◌, true, false, List, length, get_or, sym, ◌∙◌, subst, inl, inr}
+use Rattle.std.specs.List.{All}
 use Rattle.std.proofs.lemmas.Bool.{false≢true, cases_lt}
 use Rattle.std.proofs.lemmas.Option.{slice_get-get_or}
 use Rattle.pr_cdb.specs.declared.command.Command.{Command}
 use Rattle.pr_cdb.specs.declared.wire.Request.TheVariants.{Plain}
-use Rattle.pr_unit.specs.UnitStates.{UnitState}
 use Rattle.pr_unit.specs.Steps.{Step}
 use Rattle.pr_script.specs.declared.script.Test.{Test}
-use Rattle.pr_roles.specs.Fitting.{AreDeclared}
 use Rattle.pr_sets.specs.Numbers.{Numbers}
 use Rattle.pr_views.specs.declared.possibilities.Possibilities.{Possibilities}
 use Rattle.pr_views.specs.declared.view.ViewOf.{ViewOf}
@@ -18,7 +16,7 @@ use Rattle.pr_views.specs.Portions.{has_at, view_in}
 use Rattle.pr_views.specs.Rooms.{IsMade, AreAlike, AreInRange}
 use Rattle.pr_views.proofs.Showing.{shown_within}
 use Rattle.pr_domain.specs.declared.landing.Landing.{Landing}
-use Rattle.pr_domain.specs.Outcomes.{Outcome, Lands, AreOutcomes}
+use Rattle.pr_domain.specs.Outcomes.{Outcome, AreOutcomes}
 use Rattle.pr_domain.specs.inside.Reporting.{AreKept}
 
 -- they are also those of another view with the same possibilities

@@ -4,15 +4,15 @@
 
 mod arms;
 mod attentions;
-mod collecting;
 mod changed;
 mod clauses;
+mod collecting;
 mod interference;
 mod keeping;
 mod landing;
-mod permitting;
 mod onlooker;
 mod outcome;
+mod permitting;
 mod place;
 mod reporting;
 mod tally;
