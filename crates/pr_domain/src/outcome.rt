@@ -21,20 +21,26 @@ fn is_whole(command: Command)
     ensures { Fits command }
 {
     match command {
-        Command::TestUnitReady => {}
-        Command::RequestSense => {}
-        Command::Read { lba, blocks } => drop((lba, blocks)),
-        Command::Write { lba, blocks } => drop((lba, blocks)),
-        Command::ReadKeys { alloc } => drop(alloc),
-        Command::ReadReservation { alloc } => drop(alloc),
-        Command::ReportCapabilities { alloc } => drop(alloc),
-        Command::Register { rk, sark } => drop((rk, sark)),
-        Command::RegisterIgnore { sark } => drop(sark),
-        Command::Reserve { rk, .. } => drop(rk),
-        Command::Release { rk, .. } => drop(rk),
-        Command::Clear { rk } => drop(rk),
-        Command::Preempt { rk, sark, .. } => drop((rk, sark)),
-        Command::PreemptAbort { rk, sark, .. } => drop((rk, sark)),
+        Command::TestUnitReady | Command::RequestSense => {}
+        Command::Read { lba, blocks } | Command::Write { lba, blocks } => {
+            let _ = (lba, blocks);
+        }
+        Command::ReadKeys { alloc }
+        | Command::ReadReservation { alloc }
+        | Command::ReportCapabilities { alloc } => {
+            let _ = alloc;
+        }
+        Command::Register { rk, sark }
+        | Command::Preempt { rk, sark, .. }
+        | Command::PreemptAbort { rk, sark, .. } => {
+            let _ = (rk, sark);
+        }
+        Command::RegisterIgnore { sark } => {
+            let _ = sark;
+        }
+        Command::Reserve { rk, .. } | Command::Release { rk, .. } | Command::Clear { rk } => {
+            let _ = rk;
+        }
     }
 }
 
