@@ -2,16 +2,21 @@ pub mod Adding
 pub mod Asked
 pub mod DataTaken
 pub mod Doing
+pub mod EachWay
 pub mod Ending
 pub mod Following
+pub mod Found
 pub mod Gathered
 pub mod Growing
 pub mod Idling
 pub mod Images
+pub mod Landed
 pub mod Leading
 pub mod Leaving
+pub mod Listing
 pub mod Matching
 pub mod Meaning
+pub mod Owner
 pub mod Permissions
 pub mod Places
 pub mod Placing
@@ -23,3 +28,4 @@ pub mod Unpending
 pub mod Viewed
 pub mod Walking
 pub mod Ways
+pub mod Amounting

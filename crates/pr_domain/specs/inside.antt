@@ -5,4 +5,5 @@ pub mod Interfering
 pub mod Keeping
 pub mod Permitting
 pub mod Reporting
+pub mod Sendings
 pub mod Tallies

@@ -8,10 +8,12 @@ mod changed;
 mod clauses;
 mod interference;
 mod keeping;
+mod collecting;
 mod landing;
 mod permitting;
 mod onlooker;
 mod place;
+mod reporting;
 mod tally;
 mod tallying;
 
