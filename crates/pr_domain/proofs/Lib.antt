@@ -14,3 +14,6 @@ pub mod Placing
 pub mod Shown
 pub mod Leading
 pub mod Viewed
+pub mod Closed
+pub mod Roles
+pub mod Rounds

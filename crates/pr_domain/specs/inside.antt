@@ -4,3 +4,4 @@ pub mod Images
 pub mod Interfering
 pub mod Clauses
 pub mod Keeping
+pub mod Closing

@@ -4,6 +4,7 @@
 
 mod changed;
 mod clauses;
+mod closing;
 mod interference;
 mod keeping;
 mod landing;
