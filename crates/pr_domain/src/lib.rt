@@ -12,5 +12,6 @@ mod onlooker;
 mod place;
 mod tally;
 
+pub use closing::close;
 pub use interference::interfere;
 pub use landing::{Class, Landing};
