@@ -17,3 +17,4 @@ pub mod Viewed
 pub mod Closed
 pub mod Roles
 pub mod Rounds
+pub mod Beginning
