@@ -1,6 +1,7 @@
 pub mod Adding
 pub mod Arriving
 pub mod Asked
+pub mod Beginning
 pub mod Closed
 pub mod Coming
 pub mod DataTaken
