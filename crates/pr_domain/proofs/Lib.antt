@@ -1,6 +1,9 @@
 pub mod Adding
 pub mod Arriving
 pub mod Asked
+pub mod Beginning
+pub mod Closed
+pub mod Coming
 pub mod DataTaken
 pub mod Doing
 pub mod EachWay
@@ -22,6 +25,8 @@ pub mod Permissions
 pub mod Places
 pub mod Placing
 pub mod Reported
+pub mod Roles
+pub mod Rounds
 pub mod Shown
 pub mod Spelling
 pub mod Standings
@@ -29,4 +34,3 @@ pub mod Unpending
 pub mod Viewed
 pub mod Walking
 pub mod Ways
-pub mod Coming

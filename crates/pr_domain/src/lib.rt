@@ -6,6 +6,7 @@ mod arms;
 mod attentions;
 mod changed;
 mod clauses;
+mod closing;
 mod collecting;
 mod interference;
 mod keeping;
@@ -18,6 +19,7 @@ mod reporting;
 mod tally;
 mod tallying;
 
+pub use closing::close;
 pub use interference::interfere;
 pub use landing::{Class, Landing};
 pub use outcome::outcomes;
