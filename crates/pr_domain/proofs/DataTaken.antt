@@ -99,7 +99,9 @@ readings_more s c tests view place r readings n b old mid new is =
     either u first (inr other) = inl (record {
       index = first.index;
       below = (let e = first.below in let o : first.index < n = omega (arith, cases_order first.index n) in o);
-      reading = first.reading; listed = first.listed; at = first.at;
+      reading = first.reading;
+      listed = first.listed;
+      at = first.at;
     })
 
 pub readings_none : (s : Scope) (c : Command) (tests : List Test) (view : Possibilities) (place : Place) (r : ℕ) (readings : List Reading) (t : Tally)
@@ -165,7 +167,7 @@ pub readings_cover : (s : Scope) (keys : List ℕ) (c : Command) (tests : List T
     → (u : UnitState) → Shows (view_in s view) u → HasBoth s place r u → IsReadFirst s view place r readings (length readings) u
 readings_cover s keys c tests view place r readings owners are u shown both =
     let read = (are s.hosts).covered s u owners.same_keys refl owners.is.fits.scope shown.formed shown.hosts (λ g below. let seen = shown.registrations g below in (seen.0, seen.1.1))
-        (same_reservation s view place u owners.is shown both.reserved) both.registered in
+    (same_reservation s view place u owners.is shown both.reserved) both.registered in
     record {
       index = read.listed.0;
       below = read.listed.1;

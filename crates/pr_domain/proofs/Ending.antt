@@ -1,5 +1,5 @@
 -- A step of a command is one of the ways in which it ends.
-use Rattle.std.proofs.Common.{◌≡◌, ℕ, Bool, true, false, ◌==◌, ◌||◌, Option, Some, None, refl, sym, ap, ◌∙◌, arith}
+use Rattle.std.proofs.Common.{◌≡◌, ℕ, Bool, true, false, ◌==◌, Option, Some, None, refl, sym, ap, ◌∙◌, arith}
 use Rattle.std.proofs.lemmas.Bool.{or_left, or_right}
 use Rattle.std.proofs.lemmas.Bool.Decides.{nat_tests}
 use Rattle.pr_cdb.specs.declared.command.Command.{Command}
@@ -17,7 +17,7 @@ use Rattle.pr_unit.specs.Steps.{Step, Reports as ReportsSome}
 use Rattle.pr_domain.specs.inside.Reporting.{How, Reports, Conflicts, Fails, EndsGood, IsReport, Ends}
 
 -- a code that is pending is one of the four
-which : (code : ℕ) → is_attention code ≡ true → (a : Attention) × (code ≡ code_of a)
+pub which : (code : ℕ) → is_attention code ≡ true → (a : Attention) × (code ≡ code_of a)
 which code is = at (code == power_on) (code == reservations_preempted) (code == reservations_released) (code == registrations_preempted) refl refl refl refl is
   where
     at : (p q r t : Bool) → (code == power_on) ≡ p → (code == reservations_preempted) ≡ q → (code == reservations_released) ≡ r → (code == registrations_preempted) ≡ t
@@ -53,7 +53,7 @@ step_ends u h c r w formed step = at (is_pending u h power_on) (command_conflict
     at false false false None p_is q_is any_is f_is = let s = rw (any_is, f_is, q_is, p_is) at step in (EndsGood, (any_is, q_is, f_is, s.0, s.1))
 
 -- one that is pending is any
-any_pending : (u : UnitState) (h : ℕ) (a : Attention) → is_pending u h (code_of a) ≡ true → is_any_pending u h ≡ true
+pub any_pending : (u : UnitState) (h : ℕ) (a : Attention) → is_pending u h (code_of a) ≡ true → is_any_pending u h ≡ true
 any_pending u h PowerOn is = or_left _ _ is
 any_pending u h ReservationsPreempted is = or_right (is_pending u h power_on) _ (or_left _ _ is)
 any_pending u h ReservationsReleased is = or_right (is_pending u h power_on) _ (or_right (is_pending u h reservations_preempted) _ (or_left _ _ is))

@@ -1,5 +1,5 @@
 -- Where a command ends GOOD that does more than look: nothing is pending for its sender then, and it neither conflicts nor is at fault.
-use Rattle.std.proofs.Common.{◌≡◌, ◌↔◌, ℕ, ◌<◌, Bool, true, false, ◌||◌, ◌==◌, if◌then◌else◌, IsTrue, List, Option, Some, None, refl, sym, ap, ◌∙◌, subst, arith}
+use Rattle.std.proofs.Common.{◌≡◌, ◌↔◌, ℕ, Bool, true, false, ◌||◌, IsTrue, List, refl, sym, ap, ◌∙◌, subst, arith}
 use Rattle.std.specs.FinSet as set
 use Rattle.std.specs.List.{list_any}
 use Rattle.std.proofs.lemmas.Bool.{false≢true, or_right, false_from_ne_true}
@@ -7,16 +7,14 @@ use Rattle.std.proofs.lemmas.Bool.Decides.{nat_tests}
 use Rattle.pr_cdb.specs.declared.command.Command.{Command}
 use Rattle.pr_cdb.specs.declared.command.Command.TheVariants as command
 use Rattle.pr_cdb.specs.declared.reply.Reply.{Reply}
-use Rattle.pr_cdb.specs.declared.reply.Sense.{Sense}
 use Rattle.pr_cdb.specs.declared.wire.Request.TheVariants.{Plain}
 use Rattle.pr_attention.specs.Flagged.{codes_of}
-use Rattle.pr_attention.specs.Attentions.{attentions, power_on, reservations_preempted, reservations_released, registrations_preempted, no_code}
+use Rattle.pr_attention.specs.Attentions.{power_on, reservations_preempted, reservations_released, registrations_preempted}
 use Rattle.pr_attention.proofs.Bits.{codes_of-zero}
 use Rattle.pr_attention.proofs.Sets.{contains-no_code}
-use Rattle.pr_unit.specs.UnitStates.{UnitState, IsWellFormed, is_pending, is_any_pending, effect}
+use Rattle.pr_unit.specs.UnitStates.{UnitState, IsWellFormed, is_pending, is_any_pending}
 use Rattle.pr_unit.specs.Conflicts.{command_conflicts}
-use Rattle.pr_unit.specs.Faults.{command_fault}
-use Rattle.pr_unit.specs.Replies.{good, is_good, data_of, is_request_sense}
+use Rattle.pr_unit.specs.Replies.{good, is_good, is_request_sense}
 use Rattle.pr_unit.specs.Steps.{Step, line, ends_good}
 use Rattle.pr_unit.proofs.GoodFixed.{good_by_line}
 use Rattle.pr_unit.proofs.GoodSteps.{good_effect, good_step}
@@ -25,7 +23,7 @@ use Rattle.pr_roles.specs.Permits.{is_always_permitted, clause_permits, command_
 use Rattle.pr_sets.specs.Words.{has}
 use Rattle.pr_views.specs.declared.possibilities.Possibilities.{Possibilities}
 use Rattle.pr_views.specs.Possibilities.{Scope, Item, Attentions, IsSo}
-use Rattle.pr_views.specs.Views.{View, Within, Shows, IsPossible}
+use Rattle.pr_views.specs.Views.{View, Within, IsPossible}
 use Rattle.pr_views.specs.Portions.{view_in}
 use Rattle.pr_views.proofs.Numbering.{one_attentions}
 use Rattle.pr_views.proofs.Showing.{shown_within}

@@ -1,22 +1,19 @@
 -- Where a command ends GOOD, and what a role says of it there.
-use Rattle.std.proofs.Common.{◌≡◌, ◌≢◌, ◌⊎◌, ◌↔◌, ℕ, zero, suc, ◌+◌, ◌<◌, ◌≤◌, Bool, true, false, ◌==◌, ◌&&◌, ◌||◌, not, IsTrue, List, [], ◌∷◌, length, Option, Some, None, is_some, IfSome, IfNone, refl, sym, ap, ◌∙◌, subst, inl, inr, arith}
-use Rattle.std.specs.FinMap as map
+use Rattle.std.proofs.Common.{◌≡◌, ◌⊎◌, ◌↔◌, ℕ, zero, suc, ◌+◌, ◌<◌, ◌≤◌, Bool, true, false, ◌==◌, ◌&&◌, ◌||◌, not, IsTrue, List, [], ◌∷◌, length, Option, Some, None, is_some, IfSome, IfNone, refl, sym, ap, ◌∙◌, subst, inl, inr, arith}
 use Rattle.std.specs.List.{slice_get, list_any, All, Contains}
 use Rattle.std.proofs.lemmas.Bool.{and_parts, cases_eq, cases_order, false≢true, or_left}
 use Rattle.std.proofs.lemmas.Option.{same_Some}
 use Rattle.std.proofs.lemmas.Bool.Decides.{nat_tests}
 use Rattle.pr_cdb.specs.declared.command.Command.{Command}
 use Rattle.pr_cdb.specs.declared.command.Command.TheVariants as command
-use Rattle.pr_cdb.specs.declared.command.Kind.{Kind}
 use Rattle.pr_cdb.specs.declared.reply.Sense.{Sense}
 use Rattle.pr_registry.specs.declared.held.Held.{Held}
 use Rattle.pr_registry.specs.declared.held.Held.TheVariants.{One, All as Everybody}
 use Rattle.pr_registry.specs.Hosts.{is_nobodys}
 use Rattle.pr_registry.specs.Changes.{is_in_the_way}
-use Rattle.pr_registry.specs.Registrations.{State, key_of, is_registered, is_holder, is_holder_of}
-use Rattle.pr_unit.specs.UnitStates.{UnitState, effect}
+use Rattle.pr_registry.specs.Registrations.{State, key_of, is_registered, is_holder_of}
+use Rattle.pr_unit.specs.UnitStates.{UnitState}
 use Rattle.pr_unit.specs.Conflicts.{command_conflicts, lacks_key}
-use Rattle.pr_unit.specs.Faults.{command_fault}
 use Rattle.pr_script.specs.Grammar.{is_written, is_written_key}
 use Rattle.pr_roles.specs.declared.role.Clause.{Clause}
 use Rattle.pr_roles.specs.declared.role.Condition.{Condition}
@@ -36,10 +33,10 @@ use Rattle.pr_regions.specs.declared.region.Change.{Change}
 use Rattle.pr_regions.specs.declared.region.Ending.{Ending}
 use Rattle.pr_regions.specs.declared.region.Ending.TheVariants as ending
 use Rattle.pr_regions.specs.Purposes.{is_refused, purpose_of, names_written}
-use Rattle.pr_regions.specs.Regions.{AreBranches, standing_of, Ends, Changes, IsProper as IsProperBranch}
+use Rattle.pr_regions.specs.Regions.{AreBranches, standing_of, Ends, IsProper as IsProperBranch}
 use Rattle.pr_domain.specs.declared.place.Place.{Place}
 use Rattle.pr_domain.specs.inside.Gathering.{IsPlace, IsUniform, IsProper, IsAt, IsGathered}
-use Rattle.pr_domain.specs.inside.Tallies.{IsRight, AreRight, IsInOne, HasFirst, HasBoth, IsReserved, IsAsked}
+use Rattle.pr_domain.specs.inside.Tallies.{IsRight, IsInOne, HasFirst, HasBoth, IsReserved, IsAsked}
 use Rattle.pr_domain.specs.inside.Permitting.{EndsGood, ArePermitted, scope_at, IsAsking, holds_reservation, holds_at, permits_at, IsReached, IsOneReached}
 use Rattle.pr_domain.proofs.Gathered.{few_keys, same_reservation}
 use Rattle.pr_domain.proofs.Growing.{listed_there}

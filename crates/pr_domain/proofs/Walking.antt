@@ -28,7 +28,8 @@ first_or_this s place n u first = at (cases_eq first.registration n)
     at (inr other) = inl (record {
       registration = first.registration;
       below = (let e = first.below in let o : first.registration < n = omega (arith, cases_order first.registration n) in o);
-      reserved = first.reserved; registered = first.registered;
+      reserved = first.reserved;
+      registered = first.registered;
     })
 
 pub registration_more : (v : View) (s : Scope) (c : Command) (tests : List Test) (place : Place) (n : ℕ) (old mid new : Tally)

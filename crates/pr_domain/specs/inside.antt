@@ -1,5 +1,9 @@
+pub mod Clauses
 pub mod Gathering
 pub mod Images
-pub mod Reporting
-pub mod Tallies
+pub mod Interfering
+pub mod Keeping
 pub mod Permitting
+pub mod Reporting
+pub mod Sendings
+pub mod Tallies

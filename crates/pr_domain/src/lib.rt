@@ -2,14 +2,21 @@
 //! others.
 #![tactic(auto)]
 
-mod changed;
 mod arms;
 mod attentions;
+mod changed;
+mod clauses;
+mod collecting;
+mod interference;
+mod keeping;
 mod landing;
+mod onlooker;
 mod permitting;
 mod place;
+mod reporting;
 mod tally;
 mod tallying;
 
+pub use interference::interfere;
 pub use landing::{Class, Landing};
 pub use permitting::permitted;

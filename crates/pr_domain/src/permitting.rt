@@ -1,10 +1,9 @@
 //! Whether a role permits a command of its host in each state of the host's view in which the command ends GOOD.
 
-ghost use Rattle.std.specs.Prelude.{◌≡◌, ◌<◌, ◌≤◌, ◌↔◌, ℕ, IsTrue, length, true};
+ghost use Rattle.std.specs.Prelude.{◌≡◌, ◌<◌, ◌≤◌, ◌↔◌, IsTrue, length, true};
 ghost use Rattle.std.specs.List.{list_any, All};
 ghost use Rattle.pr_script.specs.Grammar.{is_written};
 ghost use Rattle.pr_sets.specs.Words.{has};
-ghost use Rattle.pr_roles.specs.Fitting.{is_reservation};
 ghost use Rattle.pr_roles.specs.Permits.{is_always_permitted};
 ghost use Rattle.pr_views.specs.Possibilities.{Scope, Reservation, IsSo, key_at};
 ghost use Rattle.pr_views.specs.Portions.{view_in};

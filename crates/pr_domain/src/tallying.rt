@@ -45,7 +45,14 @@ fn part(registrations: [Word; 8], reservation: u8) -> Possibilities
 }
 
 // Adds the states of one branch's region, in which the sender has one of these registrations.
-fn add_branch(tally: &mut Tally, view: &Possibilities, place: Place, senders: Word, branch: &Branch, arm: usize)
+fn add_branch(
+    tally: &mut Tally,
+    view: &Possibilities,
+    place: Place,
+    senders: Word,
+    branch: &Branch,
+    arm: usize,
+)
     requires hosts { (1 ≤ place.hosts) × (place.hosts ≤ 8) }
     requires sender { place.sender < place.hosts }
     requires reservation { place.reservation < count_of_reservations place.hosts }
@@ -72,7 +79,14 @@ fn add_branch(tally: &mut Tally, view: &Possibilities, place: Place, senders: Wo
 }
 
 // Adds the states of the regions of all branches.
-fn add_branches(tally: &mut Tally, view: &Possibilities, place: Place, senders: Word, branches: &[Branch], arm: usize)
+fn add_branches(
+    tally: &mut Tally,
+    view: &Possibilities,
+    place: Place,
+    senders: Word,
+    branches: &[Branch],
+    arm: usize,
+)
     requires hosts { (1 ≤ place.hosts) × (place.hosts ≤ 8) }
     requires sender { place.sender < place.hosts }
     requires reservation { place.reservation < count_of_reservations place.hosts }
@@ -88,7 +102,14 @@ fn add_branches(tally: &mut Tally, view: &Possibilities, place: Place, senders: 
 }
 
 // Adds the states in which the sender has this registration and the command's reservation key is accepted from it.
-fn add_accepted(tally: &mut Tally, view: &Possibilities, place: Place, purpose: Purpose, arm: usize, registration: u8)
+fn add_accepted(
+    tally: &mut Tally,
+    view: &Possibilities,
+    place: Place,
+    purpose: Purpose,
+    arm: usize,
+    registration: u8,
+)
     requires hosts { (1 ≤ place.hosts) × (place.hosts ≤ 8) }
     requires sender { place.sender < place.hosts }
     requires reservation { place.reservation < count_of_reservations place.hosts }
@@ -137,7 +158,13 @@ fn way_of(arm: Option<usize>) -> usize
 }
 
 // Adds the states in which this arm takes the data, in which nothing changes.
-fn add_reading(tally: &mut Tally, view: &Possibilities, place: Place, registration: u8, reading: &Reading)
+fn add_reading(
+    tally: &mut Tally,
+    view: &Possibilities,
+    place: Place,
+    registration: u8,
+    reading: &Reading,
+)
     requires hosts { (1 ≤ place.hosts) × (place.hosts ≤ 8) }
     requires sender { place.sender < place.hosts }
     requires reservation { place.reservation < count_of_reservations place.hosts }
@@ -157,11 +184,24 @@ fn add_reading(tally: &mut Tally, view: &Possibilities, place: Place, registrati
         region: reading.region,
         ending: Ending::Good(change),
     };
-    add_branch(tally, view, place, Word::only(registration), &branch, way_of(reading.arm));
+    add_branch(
+        tally,
+        view,
+        place,
+        Word::only(registration),
+        &branch,
+        way_of(reading.arm),
+    );
 }
 
 // Adds those of all readings.
-fn add_readings(tally: &mut Tally, view: &Possibilities, place: Place, registration: u8, readings: &[Reading])
+fn add_readings(
+    tally: &mut Tally,
+    view: &Possibilities,
+    place: Place,
+    registration: u8,
+    readings: &[Reading],
+)
     requires hosts { (1 ≤ place.hosts) × (place.hosts ≤ 8) }
     requires sender { place.sender < place.hosts }
     requires reservation { place.reservation < count_of_reservations place.hosts }
@@ -196,7 +236,15 @@ fn is_reading(command: Command) -> bool
 }
 
 // Adds the states in which the sender has this registration.
-fn add_registration(tally: &mut Tally, view: &Possibilities, place: Place, keys: &[u64], command: Command, tests: &[Test], registration: u8)
+fn add_registration(
+    tally: &mut Tally,
+    view: &Possibilities,
+    place: Place,
+    keys: &[u64],
+    command: Command,
+    tests: &[Test],
+    registration: u8,
+)
     requires hosts { (1 ≤ place.hosts) × (place.hosts ≤ 8) }
     requires sender { place.sender < place.hosts }
     requires reservation { place.reservation < count_of_reservations place.hosts }
@@ -215,12 +263,26 @@ fn add_registration(tally: &mut Tally, view: &Possibilities, place: Place, keys:
         add_readings(tally, view, place, registration, &readings);
     } else {
         let arm = way_of(first_arm(tests, Class::Good));
-        add_accepted(tally, view, place, purpose_of(command, keys), arm, registration);
+        add_accepted(
+            tally,
+            view,
+            place,
+            purpose_of(command, keys),
+            arm,
+            registration,
+        );
     }
 }
 
 // Adds the states under one reservation.
-fn add_place(tally: &mut Tally, view: &Possibilities, place: Place, keys: &[u64], command: Command, tests: &[Test])
+fn add_place(
+    tally: &mut Tally,
+    view: &Possibilities,
+    place: Place,
+    keys: &[u64],
+    command: Command,
+    tests: &[Test],
+)
     requires hosts { (1 ≤ place.hosts) × (place.hosts ≤ 8) }
     requires sender { place.sender < place.hosts }
     requires reservation { place.reservation < count_of_reservations place.hosts }
@@ -244,7 +306,14 @@ fn add_place(tally: &mut Tally, view: &Possibilities, place: Place, keys: &[u64]
 }
 
 /// How the owner's command ends in each of the states that the view shows, and what is so then.
-pub(crate) fn tally(view: &Possibilities, keys: &[u64], hosts: u8, own: u8, command: Command, tests: &[Test]) -> Tally
+pub(crate) fn tally(
+    view: &Possibilities,
+    keys: &[u64],
+    hosts: u8,
+    own: u8,
+    command: Command,
+    tests: &[Test],
+) -> Tally
     requires hosts { (1 ≤ hosts) × (hosts ≤ 8) }
     requires own { own < hosts }
     requires keys { AreDeclared keys.now }

@@ -1,5 +1,5 @@
 -- What is found of each landing, and where the possibilities of a landing come from.
-use Rattle.std.specs.Prelude.{◌≡◌, ◌↔◌, ◌⊎◌, ℕ, ◌<◌, Bool, true, false, ◌==◌, List, Option, Some, None}
+use Rattle.std.specs.Prelude.{◌≡◌, ◌↔◌, ◌⊎◌, ℕ, zero, suc, ◌<◌, Bool, true, false, ◌==◌, ◌&&◌, not, nat_lt, List, Option, Some, None}
 use Rattle.std.specs.FinSet as set
 use Rattle.std.specs.List.{All, slice_get}
 use Rattle.pr_cdb.specs.declared.command.Command.{Command}
@@ -27,6 +27,7 @@ use Rattle.pr_views.specs.Views.{View, IsPossible, Shows}
 use Rattle.pr_views.specs.Portions.{view_in}
 use Rattle.pr_views.specs.Rooms.{view_of, IsMade}
 use Rattle.pr_domain.specs.declared.landing.Landing.{Landing}
+use Rattle.pr_domain.specs.declared.landing.Landing.TheVariants.{Arm, NoArm}
 use Rattle.pr_domain.specs.declared.landing.Class.{Class}
 use Rattle.pr_domain.specs.declared.landing.Class.TheVariants.{Good, Conflict, Sense as WithSense}
 use Rattle.pr_domain.specs.Landings.{IsLanding}
@@ -85,6 +86,14 @@ pub record AreReported (bound : ℕ) (pending : Word) (a : Attention) (left : Wo
   pub all : (q n : ℕ) → q < bound → has pending q ≡ true → IsAfter q a n → has left n ≡ true
   pub only : (n : ℕ) → has left n ≡ true → (q : ℕ) × (q < bound) × (has pending q ≡ true) × IsAfter q a n
 
+-- the possible attentions among which there is no power on
+abbrev pub AreCalm : Possibilities → Word → Type 0
+AreCalm known calm = (q : ℕ) → has calm q ≡ ((has known.pending q && not (set.contains (codes_of q) power_on)) && nat_lt q count_of_attentions)
+
+-- nothing, if that is possible
+abbrev pub AreQuiet : Possibilities → Word → Type 0
+AreQuiet known quiet = (q : ℕ) → has quiet q ≡ (has known.pending q && q == 0)
+
 -- ---- outcomes
 
 -- some outcome has this landing and this possibility
@@ -132,6 +141,11 @@ Ends Conflicts c h u r w = (is_pending u h power_on ≡ false) × (command_confl
 Ends Fails c h u r w = (is_any_pending u h ≡ false) × (command_conflicts u.registry h c ≡ false) × (s : Sense) × (command_fault u.registry h c ≡ Some s) × (r ≡ check s) × (w ≡ u)
 Ends EndsGood c h u r w = (is_any_pending u h ≡ false) × (command_conflicts u.registry h c ≡ false) × (command_fault u.registry h c ≡ None) × (r ≡ good (data_of u.registry c)) × (w ≡ effect u h c)
 
+-- where GOOD lands by the arm that takes the data, from 1, if one does
+abbrev pub landing_at : ℕ → Landing
+landing_at zero = NoArm Good
+landing_at (suc n) = Arm n
+
 -- from a shown state the owner's command ends so, with this landing, and this is so after it
 pub record LandsBy (v : View) (c : Command) (tests : List Test) (how : How) (l : Landing) (i : Item) : Type 0 where
   pub from : UnitState
@@ -141,6 +155,21 @@ pub record LandsBy (v : View) (c : Command) (tests : List Test) (how : How) (l :
   pub ends : Ends how c v.scope.own from reply after
   pub landing : IsLanding tests reply l
   pub is : IsSo v.scope after i
+
+-- it is not that of power on
+abbrev pub IsLater : Attention → Type 0
+IsLater PowerOn = ⊥
+IsLater ReservationsPreempted = Unit {0}
+IsLater ReservationsReleased = Unit {0}
+IsLater RegistrationsPreempted = Unit {0}
+
+-- GOOD with the data taken by this arm
+abbrev pub LandsGood : View → Command → List Test → ℕ → Landing → Item → Type 0
+LandsGood v c tests arm l i = (l ≡ landing_at arm) × LandsBy v c tests EndsGood l i
+
+-- GOOD with the data taken by one of the first arms
+abbrev pub LandsGoodBelow : View → Command → List Test → ℕ → Landing → Item → Type 0
+LandsGoodBelow v c tests bound l i = (arm : ℕ) × (arm < bound) × LandsGood v c tests arm l i
 
 -- a possibility of registrations and reservation as one way to end leaves them, and of these attentions, where
 -- there is some of each

@@ -1,7 +1,4 @@
-use Rattle.std.proofs.Common.{◌&&◌, false, ap, sym, ◌∙◌}
-use Rattle.std.specs.FinSet as set
-use Rattle.pr_attention.specs.Attentions.{code_of}
-use Rattle.pr_attention.specs.Flagged.{codes_of}
+use Rattle.std.proofs.Common.{ap, sym, ◌∙◌}
 use Rattle.pr_sets.specs.Words.{has}
 use Rattle.pr_domain.proofs.Reported.{reported_more, reported_skips, neither_first, neither_second}
 use Rattle.pr_domain.proofs.attentions.after_report.Goals.{then-has+then-is_among, else-has, else-has-via-then-has+else-is_among, else-has-via-else-has}

@@ -1,4 +1,4 @@
-use Rattle.std.proofs.Common.{length, ◌-◌, ◌≡◌, ◌≤◌, ℕ, true}
+use Rattle.std.proofs.Common.{length, ◌-◌, ◌≡◌, ◌≤◌, true}
 use Rattle.std.specs.List.{All}
 use Rattle.pr_sets.specs.Words.{has}
 use Rattle.pr_views.specs.Possibilities.{Scope}

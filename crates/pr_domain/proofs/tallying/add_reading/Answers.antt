@@ -10,14 +10,22 @@ use Rattle.pr_domain.proofs.tallying.add_reading.Goals as goal
 
 abbrev kept : (c : goal.After-add_branch) → Change
 kept c = record {
-  sender = None; removed = c.none-none.result; reservation = c.args.place.reservation;
-  told_03 = c.none-none.result; told_04 = c.none-none.result; told_05 = c.none-none.result;
+  sender = None;
+  removed = c.none-none.result;
+  reservation = c.args.place.reservation;
+  told_03 = c.none-none.result;
+  told_04 = c.none-none.result;
+  told_05 = c.none-none.result;
 }
 
 does : (c : goal.After-add_branch) → Does (kept c) None never c.args.place.reservation never never never
 does c = record {
-  sender = refl; removed = λ r small. c.none-none.ensures r; reservation = refl;
-  told_03 = λ r small. c.none-none.ensures r; told_04 = λ r small. c.none-none.ensures r; told_05 = λ r small. c.none-none.ensures r;
+  sender = refl;
+  removed = λ r small. c.none-none.ensures r;
+  reservation = refl;
+  told_03 = λ r small. c.none-none.ensures r;
+  told_04 = λ r small. c.none-none.ensures r;
+  told_05 = λ r small. c.none-none.ensures r;
 }
 
 pub returns : goal.returns

@@ -1,0 +1,8 @@
+use Rattle.std.proofs.Common.{◌≢◌, ℕ, ◌<◌, Some}
+use Rattle.std.specs.List.{slice_get}
+use Rattle.pr_views.specs.declared.view.ViewOf.{ViewOf}
+use Rattle.pr_domain.proofs.collecting.place_of.Given as goal
+
+-- no outcome before this one has the landing
+abbrev pub invariant-loop-place : goal.invariant-loop-place
+invariant-loop-place g l = (k : ℕ) (v : ViewOf g.row.S.Denot) → k < l.place → slice_get l.outcomes k ≢ Some (l.landing, v)

@@ -1,0 +1,21 @@
+use Rattle.std.proofs.Common.{arith}
+use Rattle.pr_domain.specs.inside.Reporting.{LandsBy, LandsGoodBelow, EndsGood}
+use Rattle.pr_domain.specs.inside.Sendings.{view_of_sending}
+use Rattle.pr_domain.proofs.Listing.{more_by}
+use Rattle.pr_domain.proofs.Amounting.{good_more, good_all}
+use Rattle.pr_domain.proofs.reporting.Sending.add_all_good.Goals as goal
+
+pub loop-arm-preserved : goal.loop-arm-preserved
+loop-arm-preserved g c =
+    let q = c.args.self.now in
+    record {
+      kept = c.in_ok-add_good.ensures.kept;
+      more = good_more g.S.ViewSet.members q.sender c.args.outcomes.now.items c.loop-arm.outcomes.items c.add_good.new.outcomes.items (view_of_sending q) q.command q.tests.now c.loop-arm.arm
+          c.loop-arm.invariant.more c.in_ok-add_good.ensures.more;
+    }
+
+pub returns-clause-more : goal.returns-clause-more
+returns-clause-more g c =
+    let q = c.args.self.now in
+    more_by g.S.ViewSet.members q.sender c.args.outcomes.now.items c.loop-arm.outcomes.items (LandsGoodBelow (view_of_sending q) q.command q.tests.now c.loop-arm.arm) (LandsBy (view_of_sending q) q.command q.tests.now EndsGood)
+    (good_all (view_of_sending q) q.command q.tests.now c.loop-arm.arm c.requires.asked.few (omega arith)) c.loop-arm.invariant.more

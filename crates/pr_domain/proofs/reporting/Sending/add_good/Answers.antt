@@ -1,0 +1,30 @@
+use Rattle.std.proofs.Common.{◌≡◌, suc, Some, rules, sym, ap, ◌∙◌}
+use Rattle.std.specs.List.{slice_get}
+use Rattle.pr_domain.specs.inside.Reporting.{IsOfWay, LandsGood, landing_at}
+use Rattle.pr_domain.specs.inside.Sendings.{scope_of_sending, view_of_sending}
+use Rattle.pr_domain.proofs.Listing.{more_by}
+use Rattle.pr_domain.proofs.Amounting.{adds_good, three_more, at_arm}
+use Rattle.pr_domain.proofs.reporting.Sending.add_good.Goals.{then-arm-eq0, else-arm-eq0}
+use Rattle.pr_domain.proofs.reporting.Sending.add_good.Goals as goal
+
+pub add-requires : goal.add-requires
+add-requires g c =
+    let q = c.args.self.now in
+    let there : slice_get q.tally.now.ways (suc (suc (suc c.args.arm))) ≡ Some c.way.result = ap (slice_get q.tally.now.ways) (three_more c.args.arm) ∙ c.way.ensures in
+    let landing : c.if-arm-eq0.landing ≡ landing_at c.args.arm = elim c.if-arm-eq0.branch [
+      | then-arm-eq0 w ↦ w.landing-is ∙ ap landing_at (sym w.if-arm-eq0.true)
+      | else-arm-eq0 w ↦ w.landing-is ∙ at_arm c.args.arm w.if-arm-eq0.false
+    ] in
+    (search rules, (c.requires.asked.fits.scope, ((adds_good q c.requires.asked c.if-arm-eq0.landing c.way.result c.quiet.result c.args.arm there c.quiet.ensures landing).range, c.requires.kept)))
+
+pub returns-clause-more : goal.returns-clause-more
+returns-clause-more g c =
+    let q = c.args.self.now in
+    let there : slice_get q.tally.now.ways (suc (suc (suc c.args.arm))) ≡ Some c.way.result = ap (slice_get q.tally.now.ways) (three_more c.args.arm) ∙ c.way.ensures in
+    let landing : c.if-arm-eq0.landing ≡ landing_at c.args.arm = elim c.if-arm-eq0.branch [
+      | then-arm-eq0 w ↦ w.landing-is ∙ ap landing_at (sym w.if-arm-eq0.true)
+      | else-arm-eq0 w ↦ w.landing-is ∙ at_arm c.args.arm w.if-arm-eq0.false
+    ] in
+    more_by g.S.ViewSet.members q.sender c.args.outcomes.now.items c.add.new.outcomes.items
+    (λ l i. (l ≡ c.if-arm-eq0.landing) × IsOfWay (scope_of_sending q) c.way.result c.quiet.result i) (LandsGood (view_of_sending q) q.command q.tests.now c.args.arm)
+    (adds_good q c.requires.asked c.if-arm-eq0.landing c.way.result c.quiet.result c.args.arm there c.quiet.ensures landing).lands c.in_ok-add.ensures.more

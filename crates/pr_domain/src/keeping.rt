@@ -1,0 +1,108 @@
+//! What of a view's possibilities is so in some state that it shows.
+
+ghost use Rattle.std.specs.Prelude.{◌≡◌, ◌≤◌, ◌<◌, ◌+◌, ◌*◌, ℕ, true, None, IfSome, IfNone, IsTrue};
+ghost use Rattle.pr_unit.specs.UnitStates.{UnitState};
+ghost use Rattle.pr_roles.specs.Fitting.{is_reservation};
+ghost use Rattle.pr_sets.specs.Words.{has};
+ghost use Rattle.pr_views.specs.Possibilities.{Scope, number_of, count_of_reservations};
+ghost use Rattle.pr_views.specs.Views.{Fits};
+ghost use Rattle.pr_views.specs.Portions.{view_in};
+ghost use Rattle.pr_domain.specs.inside.Gathering.{IsPlace, IsUniform};
+ghost use Rattle.pr_domain.specs.inside.Interfering.{Adds};
+ghost use Rattle.pr_domain.specs.inside.Keeping.{IsShownSo, IsShownAt, IsShown, IsKept};
+
+use crate::place::{Place, registered};
+use pr_regions::{Region, reservation_at};
+use pr_sets::Word;
+use pr_views::Possibilities;
+
+/// What is so in some state that the view shows, of so many hosts and guests.
+pub(crate) fn kept(hosts: u8, view: &Possibilities) -> Possibilities
+    requires hosts { (1 ≤ hosts) × (hosts ≤ 8) }
+    ensures { (s : Scope) → s.hosts ≡ hosts → Fits (view_in s view.now) → IsKept (view_in s view.now) (view_in s result) }
+{
+    let mut kept = Possibilities::none();
+    for reservation in 0..count_of_reservations(hosts) {
+        if view.reservations.has(reservation) {
+            let place = Place::of(hosts, 0, reservation);
+            place.add_kept(&mut kept, view, Word::only(0));
+            place.add_kept(&mut kept, view, registered());
+        }
+    }
+    kept
+}
+
+/// How many reservations there can be.
+pub(crate) fn count_of_reservations(hosts: u8) -> u8
+    requires { hosts ≤ 8 }
+    ensures { result ≡ count_of_reservations hosts }
+{
+    hosts * 4 + 3
+}
+
+impl Place {
+    /// The place of this reservation.
+    pub(crate) fn of(hosts: u8, sender: u8, reservation: u8) -> Place
+        requires hosts { (1 ≤ hosts) × (hosts ≤ 8) }
+        requires below { reservation < count_of_reservations hosts }
+        ensures hosts { result.hosts ≡ hosts }
+        ensures sender { result.sender ≡ sender }
+        ensures reservation { result.reservation ≡ reservation }
+        ensures number { reservation ≡ number_of hosts result.held }
+        ensures held { IsTrue (is_reservation hosts result.held) }
+    {
+        Place {
+            hosts,
+            sender,
+            reservation,
+            held: reservation_at(hosts, reservation),
+        }
+    }
+
+    // Adds what is so in some state of the place in which the sender has one of these registrations.
+    fn add_kept(&self, kept: &mut Possibilities, view: &Possibilities, senders: Word)
+        requires hosts { (1 ≤ self.now.hosts) × (self.now.hosts ≤ 8) }
+        requires sender { self.now.sender < self.now.hosts }
+        requires reservation { self.now.reservation < 64 }
+        ensures { (s : Scope) → IsPlace s view.now self.now → IsUniform senders → Adds s kept.old kept.new (λ _ u. IsShownAt (view_in s view.now) self.now senders u) (IsShownSo (view_in s view.now)) }
+    {
+        if let Some(shown) = self.shown(view, senders) {
+            kept.join(&shown);
+        }
+    }
+
+    // What is so in those states, if there are any.
+    fn shown(&self, view: &Possibilities, senders: Word) -> Option<Possibilities>
+        requires hosts { (1 ≤ self.now.hosts) × (self.now.hosts ≤ 8) }
+        requires sender { self.now.sender < self.now.hosts }
+        requires reservation { self.now.reservation < 64 }
+        ensures some { IfSome result (λ p. (s : Scope) → IsPlace s view.now self.now → IsUniform senders → IsShown s view.now self.now senders p) }
+        ensures none { IfNone result ((s : Scope) → IsPlace s view.now self.now → IsUniform senders → (u : UnitState) → IsShownAt (view_in s view.now) self.now senders u → ⊥) }
+    {
+        if view.pending.is_empty() {
+            return None;
+        }
+        let Some(registrations) = self.gather(view, senders, &everything()) else {
+            return None;
+        };
+        Some(Possibilities {
+            registrations,
+            reservations: Word::only(self.reservation),
+            pending: view.pending,
+        })
+    }
+}
+
+// The region of every state.
+fn everything() -> Region
+    ensures holder { (r : ℕ) → r ≤ 12 → has result.holder r ≡ true }
+    ensures others { (r : ℕ) → r ≤ 12 → has result.others r ≡ true }
+    ensures somebody { result.somebody ≡ None }
+{
+    let all = Word::below(13);
+    Region {
+        holder: all,
+        others: all,
+        somebody: None,
+    }
+}

@@ -1,0 +1,92 @@
+//! What becomes of a view while another sends commands.
+
+ghost use Rattle.std.specs.Prelude.{◌≡◌, ◌≢◌, ◌<◌, ◌≤◌, ℕ, length, IfSome, IfNone};
+ghost use Rattle.std.specs.List.{All};
+ghost use Rattle.pr_unit.specs.UnitStates.{UnitState};
+ghost use Rattle.pr_views.specs.Possibilities.{Scope};
+ghost use Rattle.pr_views.specs.Portions.{view_in};
+ghost use Rattle.pr_regions.specs.Regions.{HasRoom};
+ghost use Rattle.pr_regions.specs.declared.region.Ending.TheVariants as ending;
+ghost use Rattle.pr_domain.specs.inside.Gathering.{IsUniform, IsProper, IsAt};
+ghost use Rattle.pr_domain.specs.inside.Interfering.{IsWatched, IsAfter, Adds, Among, IsLedBy, IsLeftBy, IsProperBranch, BranchHasRoom};
+
+use crate::changed::{attentions_after, registrations_after};
+use crate::place::Place;
+use pr_regions::{Branch, Change, Ending, Region};
+use pr_sets::Word;
+use pr_views::Possibilities;
+
+/// The owner of a view, who looks on while another sends commands.
+#[derive(Clone, Copy, Debug, PartialEq, Eq)]
+pub(crate) struct Onlooker {
+    /// How many hosts and guests there are.
+    pub(crate) hosts: u8,
+    pub(crate) own: u8,
+    /// Who sends commands.
+    pub(crate) other: u8,
+    pub(crate) view: Possibilities,
+}
+
+impl Onlooker {
+    /// What is possible once a command has this effect in the states of the region in which its sender has one of
+    /// these registrations; none where the view shows no such state.
+    pub(crate) fn after(
+        &self,
+        place: &Place,
+        senders: Word,
+        region: &Region,
+        change: &Change,
+    ) -> Option<Possibilities>
+        requires own { self.now.own < 8 }
+        requires hosts { (1 ≤ place.now.hosts) × (place.now.hosts ≤ 8) }
+        requires sender { place.now.sender < place.now.hosts }
+        requires room { HasRoom place.now.hosts (ending.Good change.now) }
+        ensures some { IfSome result (λ p. (s : Scope) → IsWatched s self.now place.now → IsUniform senders → IsProper region.now → IsAfter s self.now.view place.now senders region.now change.now p) }
+        ensures none { IfNone result ((s : Scope) → IsWatched s self.now place.now → IsUniform senders → IsProper region.now → (u : UnitState) → IsAt (view_in s self.now.view) place.now senders region.now u → ⊥) }
+    {
+        if self.view.pending.is_empty() {
+            return None;
+        }
+        let words = place.gather(&self.view, senders, region)?;
+        let owners = words[usize::from(self.own)];
+        Some(Possibilities {
+            registrations: registrations_after(&words, place.sender, change),
+            reservations: Word::only(change.reservation),
+            pending: attentions_after(owners, self.view.pending, change),
+        })
+    }
+
+    /// Adds what is possible after the branches that end GOOD, of those in which the sender has one of these
+    /// registrations.
+    pub(crate) fn add_branches(
+        &self,
+        answer: &mut Possibilities,
+        place: &Place,
+        senders: Word,
+        branches: &[Branch],
+    )
+        requires own { self.now.own < 8 }
+        requires hosts { (1 ≤ place.now.hosts) × (place.now.hosts ≤ 8) }
+        requires sender { place.now.sender < place.now.hosts }
+        requires room { All (BranchHasRoom place.now.hosts) branches.now }
+        ensures { (s : Scope) → IsWatched s self.now place.now → IsUniform senders → All IsProperBranch branches.now → Adds s answer.old answer.new (λ u w. Among (length branches.now) branches.now (λ b. IsLedBy s self.now.view place.now senders b u w)) (λ i. Among (length branches.now) branches.now (λ b. IsLeftBy s self.now.view place.now senders b i)) }
+    {
+        for branch in branches {
+            self.add_branch(answer, place, senders, branch);
+        }
+    }
+
+    fn add_branch(&self, answer: &mut Possibilities, place: &Place, senders: Word, branch: &Branch)
+        requires own { self.now.own < 8 }
+        requires hosts { (1 ≤ place.now.hosts) × (place.now.hosts ≤ 8) }
+        requires sender { place.now.sender < place.now.hosts }
+        requires room { BranchHasRoom place.now.hosts branch.now }
+        ensures { (s : Scope) → IsWatched s self.now place.now → IsUniform senders → IsProperBranch branch.now → Adds s answer.old answer.new (IsLedBy s self.now.view place.now senders branch.now) (IsLeftBy s self.now.view place.now senders branch.now) }
+    {
+        if let Ending::Good(change) = branch.ending {
+            if let Some(after) = self.after(place, senders, &branch.region, &change) {
+                answer.join(&after);
+            }
+        }
+    }
+}

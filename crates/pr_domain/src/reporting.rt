@@ -1,0 +1,273 @@
+//! The outcomes of a command, from the tally of its ways to end.
+
+ghost use Rattle.std.specs.Prelude.{◌≡◌, ◌<◌, ◌≤◌, ℕ, true, List, map, IfOk, OnOk, Some};
+ghost use Rattle.std.specs.List.{All, slice_get};
+ghost use Rattle.pr_cdb.specs.declared.reply.Sense.{Sense};
+ghost use Rattle.pr_attention.specs.Attentions.{code_of};
+ghost use Rattle.pr_attention.specs.declared.attention.Attention.{Attention as AttentionOf};
+ghost use Rattle.pr_cdb.specs.declared.wire.Request.TheVariants.{Plain};
+ghost use Rattle.pr_registry.specs.Registrations.{State};
+ghost use Rattle.pr_script.specs.declared.script.Test.{Test};
+ghost use Rattle.pr_script.specs.Grammar.{is_written, test_fits};
+ghost use Rattle.pr_unit.specs.Faults.{illegal, command_fault};
+ghost use Rattle.pr_unit.specs.Replies.{report};
+ghost use Rattle.pr_sets.specs.Words.{has};
+ghost use Rattle.pr_views.specs.Rooms.{view_of, AreInRange};
+ghost use Rattle.pr_views.specs.Possibilities.{IsScope};
+ghost use Rattle.pr_domain.specs.Landings.{IsClass};
+ghost use Rattle.pr_domain.specs.Outcomes.{AreOutcomes};
+ghost use Rattle.pr_domain.specs.inside.Reporting.{AreBlind, AreMore, IsOfWay, AreCalm, AreQuiet, LandsBy, Reports, Conflicts, Fails, EndsGood, IsLater, LandsGood};
+ghost use Rattle.pr_domain.specs.inside.Sendings.{scope_of_sending, view_of_sending, AreKeptFor, IsAsked};
+
+use crate::arms::landing_of;
+use crate::attentions::{after_report, those_without};
+use crate::collecting::put;
+use crate::landing::{Class, Landing};
+use crate::tally::Tally;
+use pr_attention::Attention;
+use pr_cdb::{Command, Sense};
+use pr_script::Test;
+use pr_sets::{ViewSet, Word};
+use pr_views::{Possibilities, ViewOf};
+use std::alloc::{AllocError, Global};
+
+// How the report of an attention ends.
+fn class_of_report(command: &Command, attention: Attention) -> Class
+    ensures class { IsClass (report (Plain command.now) (code_of attention)) result }
+    ensures blind { (keys : List ℕ) (tests : List Test) → All (λ t. test_fits keys command.now t ≡ true) tests → AreBlind tests result }
+{
+    match command {
+        Command::RequestSense => Class::Good,
+        _ => Class::Sense(attention.sense()),
+    }
+}
+
+// ILLEGAL REQUEST.
+fn illegal(asc: u8, ascq: u8) -> Sense
+    ensures { result ≡ illegal asc ascq }
+{
+    Sense { key: 5, asc, ascq }
+}
+
+// The sense of the command's fault, where it can be at fault.
+fn fault_of(command: &Command) -> Option<Sense>
+    ensures { (keys : List ℕ) (u : State) (h : ℕ) (x : Sense) → is_written keys command.now ≡ true → command_fault u h command.now ≡ Some x → result ≡ Some x }
+{
+    match command {
+        Command::Read { .. } | Command::Write { .. } => Some(illegal(0x21, 0x00)),
+        Command::Release { .. } => Some(illegal(0x26, 0x04)),
+        Command::Preempt { .. } | Command::PreemptAbort { .. } => Some(illegal(0x26, 0x00)),
+        Command::TestUnitReady
+        | Command::RequestSense
+        | Command::ReadKeys { .. }
+        | Command::ReadReservation { .. }
+        | Command::ReportCapabilities { .. }
+        | Command::Register { .. }
+        | Command::RegisterIgnore { .. }
+        | Command::Reserve { .. }
+        | Command::Clear { .. } => None,
+    }
+}
+
+impl Tally {
+    // What is so of registrations and reservation where the command ends in this way.
+    fn way(&self, way: usize) -> Possibilities
+        requires { way < 20 }
+        ensures { slice_get self.now.ways way ≡ Some result }
+    {
+        self.ways[way]
+    }
+}
+
+/// A command whose outcomes are to be found, and what is known of the states from which it is sent.
+#[derive(Clone, Copy, Debug)]
+pub(crate) struct Sending<'a> {
+    pub(crate) keys: &'a [u64],
+    pub(crate) hosts: u8,
+    pub(crate) sender: u8,
+    pub(crate) known: Possibilities,
+    pub(crate) tally: &'a Tally,
+    pub(crate) command: Command,
+    pub(crate) tests: &'a [Test],
+}
+
+impl Sending<'_> {
+    // Adds what one way to end leaves, beside these attentions.
+    fn add<S: ViewSet>(
+        &self,
+        alloc: Global,
+        outcomes: &mut Vec<(Landing, ViewOf<S>)>,
+        landing: Landing,
+        way: &Possibilities,
+        pending: Word,
+    ) -> Result<(), AllocError>
+        requires scope { IsScope (scope_of_sending self.now) }
+        requires range { (x q : ℕ) → has way.now.reservations x ≡ true → has pending q ≡ true → AreInRange self.now.hosts self.now.keys.now (record way.now { pending = pending }) }
+        requires kept { AreKeptFor S.members S.room self.now outcomes.old.items }
+        ensures kept { OnOk result (AreKeptFor S.members S.room self.now outcomes.new.items) }
+        ensures more { OnOk result (AreMore S.members self.now.sender outcomes.old.items (λ l i. (l ≡ landing) × IsOfWay (scope_of_sending self.now) way.now pending i) outcomes.new.items) }
+    {
+        if way.reservations.is_empty() || pending.is_empty() {
+            return Ok(());
+        }
+        let found = Possibilities { pending, ..*way };
+        let view = ViewOf::of(alloc, self.keys, self.hosts, &found)?;
+        put(alloc, outcomes, landing, view)?;
+        Ok(())
+    }
+
+    // Adds where the report of a power on lands.
+    fn add_power_on<S: ViewSet>(
+        &self,
+        alloc: Global,
+        outcomes: &mut Vec<(Landing, ViewOf<S>)>,
+    ) -> Result<(), AllocError>
+        requires asked { IsAsked self.now }
+        requires kept { AreKeptFor S.members S.room self.now outcomes.old.items }
+        ensures kept { OnOk result (AreKeptFor S.members S.room self.now outcomes.new.items) }
+        ensures more { OnOk result (AreMore S.members self.now.sender outcomes.old.items (LandsBy (view_of_sending self.now) self.now.command self.now.tests.now (Reports Attention.PowerOn)) outcomes.new.items) }
+    {
+        let class = class_of_report(&self.command, Attention::PowerOn);
+        let landing = landing_of(self.tests, class);
+        // It comes before a conflict, and so whether there is one or not.
+        let mut way = self.tally.way(0);
+        way.join(&self.tally.way(1));
+        let pending = after_report(self.known.pending, Attention::PowerOn);
+        self.add(alloc, outcomes, landing, &way, pending)?;
+        Ok(())
+    }
+
+    // Adds where the report of another attention lands.
+    fn add_report<S: ViewSet>(
+        &self,
+        alloc: Global,
+        outcomes: &mut Vec<(Landing, ViewOf<S>)>,
+        attention: Attention,
+    ) -> Result<(), AllocError>
+        requires asked { IsAsked self.now }
+        requires later { IsLater attention }
+        requires kept { AreKeptFor S.members S.room self.now outcomes.old.items }
+        ensures kept { OnOk result (AreKeptFor S.members S.room self.now outcomes.new.items) }
+        ensures more { OnOk result (AreMore S.members self.now.sender outcomes.old.items (LandsBy (view_of_sending self.now) self.now.command self.now.tests.now (Reports attention)) outcomes.new.items) }
+    {
+        let class = class_of_report(&self.command, attention);
+        let landing = landing_of(self.tests, class);
+        let pending = after_report(self.calm(), attention);
+        self.add(alloc, outcomes, landing, &self.tally.way(1), pending)?;
+        Ok(())
+    }
+
+    // Adds where a conflict lands.
+    fn add_conflict<S: ViewSet>(
+        &self,
+        alloc: Global,
+        outcomes: &mut Vec<(Landing, ViewOf<S>)>,
+    ) -> Result<(), AllocError>
+        requires asked { IsAsked self.now }
+        requires kept { AreKeptFor S.members S.room self.now outcomes.old.items }
+        ensures kept { OnOk result (AreKeptFor S.members S.room self.now outcomes.new.items) }
+        ensures more { OnOk result (AreMore S.members self.now.sender outcomes.old.items (LandsBy (view_of_sending self.now) self.now.command self.now.tests.now Conflicts) outcomes.new.items) }
+    {
+        let landing = landing_of(self.tests, Class::Conflict);
+        self.add(alloc, outcomes, landing, &self.tally.way(0), self.calm())?;
+        Ok(())
+    }
+
+    // Adds where a fault lands.
+    fn add_fault<S: ViewSet>(
+        &self,
+        alloc: Global,
+        outcomes: &mut Vec<(Landing, ViewOf<S>)>,
+    ) -> Result<(), AllocError>
+        requires asked { IsAsked self.now }
+        requires kept { AreKeptFor S.members S.room self.now outcomes.old.items }
+        ensures kept { OnOk result (AreKeptFor S.members S.room self.now outcomes.new.items) }
+        ensures more { OnOk result (AreMore S.members self.now.sender outcomes.old.items (LandsBy (view_of_sending self.now) self.now.command self.now.tests.now Fails) outcomes.new.items) }
+    {
+        let Some(sense) = fault_of(&self.command) else {
+            return Ok(());
+        };
+        let landing = landing_of(self.tests, Class::Sense(sense));
+        self.add(alloc, outcomes, landing, &self.tally.way(2), self.quiet())?;
+        Ok(())
+    }
+
+    // Adds where GOOD lands whose data this arm takes, counted from 1, or no arm.
+    fn add_good<S: ViewSet>(
+        &self,
+        alloc: Global,
+        outcomes: &mut Vec<(Landing, ViewOf<S>)>,
+        arm: usize,
+    ) -> Result<(), AllocError>
+        requires asked { IsAsked self.now }
+        requires there { arm < 17 }
+        requires kept { AreKeptFor S.members S.room self.now outcomes.old.items }
+        ensures kept { OnOk result (AreKeptFor S.members S.room self.now outcomes.new.items) }
+        ensures more { OnOk result (AreMore S.members self.now.sender outcomes.old.items (LandsGood (view_of_sending self.now) self.now.command self.now.tests.now arm) outcomes.new.items) }
+    {
+        let landing = if arm == 0 {
+            Landing::NoArm(Class::Good)
+        } else {
+            Landing::Arm(arm - 1)
+        };
+        self.add(
+            alloc,
+            outcomes,
+            landing,
+            &self.tally.way(3 + arm),
+            self.quiet(),
+        )?;
+        Ok(())
+    }
+
+    // Adds where GOOD lands.
+    fn add_all_good<S: ViewSet>(
+        &self,
+        alloc: Global,
+        outcomes: &mut Vec<(Landing, ViewOf<S>)>,
+    ) -> Result<(), AllocError>
+        requires asked { IsAsked self.now }
+        requires kept { AreKeptFor S.members S.room self.now outcomes.old.items }
+        ensures kept { OnOk result (AreKeptFor S.members S.room self.now outcomes.new.items) }
+        ensures more { OnOk result (AreMore S.members self.now.sender outcomes.old.items (LandsBy (view_of_sending self.now) self.now.command self.now.tests.now EndsGood) outcomes.new.items) }
+    {
+        for arm in 0..17 {
+            self.add_good(alloc, outcomes, arm)?;
+        }
+        Ok(())
+    }
+
+    /// The outcomes.
+    pub(crate) fn outcomes<S: ViewSet>(
+        &self,
+        alloc: Global,
+    ) -> Result<Vec<(Landing, ViewOf<S>)>, AllocError>
+        requires { IsAsked self.now }
+        ensures outcomes { IfOk result (λ outcomes. AreOutcomes (view_of_sending self.now) self.now.command self.now.tests.now (map (λ o. (o.0, view_of S.members self.now.sender o.1)) outcomes.items)) }
+        ensures kept { IfOk result (λ outcomes. AreKeptFor S.members S.room self.now outcomes.items) }
+    {
+        let mut outcomes = Vec::new(alloc);
+        self.add_all_good(alloc, &mut outcomes)?;
+        self.add_conflict(alloc, &mut outcomes)?;
+        self.add_power_on(alloc, &mut outcomes)?;
+        self.add_report(alloc, &mut outcomes, Attention::ReservationsPreempted)?;
+        self.add_report(alloc, &mut outcomes, Attention::ReservationsReleased)?;
+        self.add_report(alloc, &mut outcomes, Attention::RegistrationsPreempted)?;
+        self.add_fault(alloc, &mut outcomes)?;
+        Ok(outcomes)
+    }
+
+    // The possible attentions among which there is no power on.
+    fn calm(&self) -> Word
+        ensures { AreCalm self.now.known result }
+    {
+        those_without(self.known.pending, Attention::PowerOn)
+    }
+
+    // No attention, where that is possible.
+    fn quiet(&self) -> Word
+        ensures { AreQuiet self.now.known result }
+    {
+        self.known.pending.and(Word::only(0))
+    }
+}
