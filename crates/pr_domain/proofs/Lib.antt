@@ -1,5 +1,7 @@
 pub mod Adding
+pub mod Amounting
 pub mod Asked
+pub mod Closed
 pub mod DataTaken
 pub mod Doing
 pub mod EachWay
@@ -21,6 +23,8 @@ pub mod Permissions
 pub mod Places
 pub mod Placing
 pub mod Reported
+pub mod Roles
+pub mod Rounds
 pub mod Shown
 pub mod Spelling
 pub mod Standings
@@ -28,4 +32,3 @@ pub mod Unpending
 pub mod Viewed
 pub mod Walking
 pub mod Ways
-pub mod Amounting

@@ -1,4 +1,5 @@
 pub mod Clauses
+pub mod Closing
 pub mod Gathering
 pub mod Images
 pub mod Interfering

@@ -7,6 +7,7 @@ mod attentions;
 mod changed;
 mod clauses;
 mod collecting;
+mod closing;
 mod interference;
 mod keeping;
 mod landing;
@@ -17,6 +18,7 @@ mod reporting;
 mod tally;
 mod tallying;
 
+pub use closing::close;
 pub use interference::interfere;
 pub use landing::{Class, Landing};
 pub use permitting::permitted;
