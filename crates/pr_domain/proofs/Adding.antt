@@ -18,12 +18,6 @@ use Rattle.pr_domain.specs.declared.place.Place.{Place}
 use Rattle.pr_domain.specs.inside.Gathering.{IsAt}
 use Rattle.pr_domain.specs.inside.Interfering.{Allows, Adds, Among, IsAfter, IsChanged, IsLedBy, IsLeftBy}
 
-abbrev pub Leads : Type 1
-Leads = UnitState → UnitState → Type 0
-
-abbrev pub Leaves : Type 1
-Leaves = Item → Type 0
-
 pub grown : (s : Scope) (p q : Possibilities) (u : UnitState) → ((i : Item) → IsPossible (view_in s p) i → IsPossible (view_in s q) i) → Allows s p u → Allows s q u
 grown s p q u grows allows = record { items = λ i so. grows i (allows.items i so); numbered = allows.numbered; pending = allows.pending }
 
@@ -121,9 +115,6 @@ adds_after s view old after new place senders region change is joined = record {
     only i (inr got) = inr (is.only i got)
 
 -- ---- the elements of a list, one after another
-
-pub among_none : {X : Type 0} (xs : List X) (holds : X → Type 0) → Among 0 xs holds → ⊥
-among_none xs holds among = let below = among.below in omega arith
 
 pub among_wider : {X : Type 0} (n : ℕ) (xs : List X) (holds : X → Type 0) → Among n xs holds → Among (n + 1) xs holds
 among_wider n xs holds among = record {

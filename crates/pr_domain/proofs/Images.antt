@@ -51,15 +51,6 @@ itself a = grind (arith, nat_tests)
 
 -- ---- images
 
-pub image_none : (w to : Word) (f : ℕ → ℕ) → ((n : ℕ) → has to n ≡ false) → IsImage (first 0 w) f (has to)
-image_none w to f none = record {
-  all = λ n is. absurd (nothing (first_parts 0 w n is).0);
-  only = λ m is. absurd (false≢true (sym (none m) ∙ is));
-}
-  where
-    nothing : {n : ℕ} → n < 0 → ⊥
-    nothing small = omega arith
-
 pub image_more : (i m : ℕ) (w to more : Word) (f : ℕ → ℕ) → has w i ≡ true → m ≡ f i → ((n : ℕ) → has more n ≡ (n == m || has to n)) → IsImage (first i w) f (has to)
     → IsImage (first (i + 1) w) f (has more)
 image_more i m w to more f there is with_m image = record {
@@ -86,15 +77,6 @@ image_skips i w to f missing image = record {
     all n below (inr before) = image.all n before
 
 -- ---- marks
-
-pub marked_none : (marks pending told : Word) → ((n : ℕ) → has told n ≡ false) → AreMarked 0 marks pending told
-marked_none marks pending told none = record {
-  all = λ m q is pends. absurd (nothing (first_parts 0 marks m is).0);
-  only = λ n is. absurd (false≢true (sym (none n) ∙ is));
-}
-  where
-    nothing : {n : ℕ} → n < 0 → ⊥
-    nothing small = omega arith
 
 pub marked_more : (i : ℕ) (marks pending told new more : Word) → has marks i ≡ true → ((n : ℕ) → has more n ≡ (has told n || has new n))
     → IsImage (first 16 pending) (λ q. bit_or q i) (has new) → AreMarked i marks pending told → AreMarked (i + 1) marks pending more

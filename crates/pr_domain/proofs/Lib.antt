@@ -1,7 +1,9 @@
 pub mod Adding
-pub mod Amounting
+pub mod Arriving
 pub mod Asked
+pub mod Beginning
 pub mod Closed
+pub mod Coming
 pub mod DataTaken
 pub mod Doing
 pub mod EachWay

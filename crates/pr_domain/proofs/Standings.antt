@@ -84,9 +84,6 @@ uniform p standing word senders none r is = at r (senders.only r is)
 
 -- ---- who may not send
 
-either_true : (a b : Bool) → a ≡ true → (a || b) ≡ true
-either_true a b is = rw is refl
-
 pub none_send : (s : Scope) (o : Onlooker) (place : Place) (clause : Clause) (p : Purpose) (standing : Standing) (u w : UnitState) → IsWatched s o place
     → may_send clause.condition p place.held place.sender standing ≡ false
     → StandingLeads (view_in s o.view) clause place.sender place.reservation p standing u w → ⊥

@@ -49,8 +49,8 @@ fn illegal(asc: u8, ascq: u8) -> Sense
     Sense { key: 5, asc, ascq }
 }
 
-// The sense of the command's fault, where it can be at fault.
-fn fault_of(command: &Command) -> Option<Sense>
+/// The sense of the command's fault, where it can be at fault.
+pub(crate) fn fault_of(command: &Command) -> Option<Sense>
     ensures { (keys : List ℕ) (u : State) (h : ℕ) (x : Sense) → is_written keys command.now ≡ true → command_fault u h command.now ≡ Some x → result ≡ Some x }
 {
     match command {
@@ -88,6 +88,7 @@ pub(crate) struct Sending<'a> {
     pub(crate) known: Possibilities,
     pub(crate) tally: &'a Tally,
     pub(crate) command: Command,
+    pub(crate) fault: Option<Sense>,
     pub(crate) tests: &'a [Test],
 }
 
@@ -184,7 +185,7 @@ impl Sending<'_> {
         ensures kept { OnOk result (AreKeptFor S.members S.room self.now outcomes.new.items) }
         ensures more { OnOk result (AreMore S.members self.now.sender outcomes.old.items (LandsBy (view_of_sending self.now) self.now.command self.now.tests.now Fails) outcomes.new.items) }
     {
-        let Some(sense) = fault_of(&self.command) else {
+        let Some(sense) = self.fault else {
             return Ok(());
         };
         let landing = landing_of(self.tests, Class::Sense(sense));

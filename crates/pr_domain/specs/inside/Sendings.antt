@@ -1,7 +1,10 @@
 -- What is known of a command whose outcomes are to be found.
-use Rattle.std.specs.Prelude.{◌≡◌, ℕ, ◌≤◌, true, List, length}
+use Rattle.std.specs.Prelude.{◌≡◌, ℕ, ◌≤◌, true, List, length, Some}
 use Rattle.std.specs.List.{All}
 use Rattle.pr_cdb.specs.Requests.{Fits as FitsCommand}
+use Rattle.pr_cdb.specs.declared.reply.Sense.{Sense}
+use Rattle.pr_registry.specs.Registrations.{State}
+use Rattle.pr_unit.specs.Faults.{command_fault}
 use Rattle.pr_script.specs.Grammar.{is_written, test_fits}
 use Rattle.pr_sets.specs.Numbers.{Numbers}
 use Rattle.pr_views.specs.declared.view.ViewOf.{ViewOf}
@@ -29,6 +32,7 @@ pub record IsAsked (q : Sending) : Type 0 where
   pub fits : Fits (view_of_sending q)
   pub written : is_written q.keys.now q.command ≡ true
   pub whole : FitsCommand q.command
+  pub fault : (u : State) (h : ℕ) (x : Sense) → command_fault u h q.command ≡ Some x → q.fault ≡ Some x
   pub tests : All (λ t. test_fits q.keys.now q.command t ≡ true) q.tests.now
   pub few : length q.tests.now ≤ 16
   pub tally : IsTally (view_of_sending q) q.command q.tests.now q.tally.now

@@ -5,7 +5,7 @@ use Rattle.pr_unit.specs.Replies.{report}
 use Rattle.pr_domain.specs.inside.Reporting.{IsOfWay, LandsBy, Reports}
 use Rattle.pr_domain.specs.inside.Sendings.{scope_of_sending, view_of_sending}
 use Rattle.pr_domain.proofs.Listing.{more_by}
-use Rattle.pr_domain.proofs.Amounting.{adds_report}
+use Rattle.pr_domain.proofs.Arriving.{adds_report}
 use Rattle.pr_domain.proofs.reporting.Sending.add_report.Goals as goal
 
 pub add-requires : goal.add-requires

@@ -1,0 +1,74 @@
+//! What a host's own command may come to.
+
+ghost use Rattle.std.specs.Prelude.{◌≡◌, ◌<◌, ◌≤◌, true, length, map, IfOk, IsTrue};
+ghost use Rattle.std.specs.List.{All};
+ghost use Rattle.pr_cdb.specs.Requests.{Fits};
+ghost use Rattle.pr_script.specs.Grammar.{is_written, test_fits};
+ghost use Rattle.pr_views.specs.Rooms.{view_of, IsMade, AreAlike};
+ghost use Rattle.pr_domain.specs.Outcomes.{AreOutcomes};
+
+use crate::landing::Landing;
+use crate::reporting::{Sending, fault_of};
+use crate::tallying::tally;
+use pr_cdb::Command;
+use pr_script::Test;
+use pr_sets::ViewSet;
+use pr_views::ViewOf;
+use std::alloc::{AllocError, Global};
+
+// A command has its fields in the ranges of their types, as each arm knows.
+fn is_whole(command: Command)
+    ensures { Fits command }
+{
+    match command {
+        Command::TestUnitReady => {}
+        Command::RequestSense => {}
+        Command::Read { lba, blocks } => drop((lba, blocks)),
+        Command::Write { lba, blocks } => drop((lba, blocks)),
+        Command::ReadKeys { alloc } => drop(alloc),
+        Command::ReadReservation { alloc } => drop(alloc),
+        Command::ReportCapabilities { alloc } => drop(alloc),
+        Command::Register { rk, sark } => drop((rk, sark)),
+        Command::RegisterIgnore { sark } => drop(sark),
+        Command::Reserve { rk, .. } => drop(rk),
+        Command::Release { rk, .. } => drop(rk),
+        Command::Clear { rk } => drop(rk),
+        Command::Preempt { rk, sark, .. } => drop((rk, sark)),
+        Command::PreemptAbort { rk, sark, .. } => drop((rk, sark)),
+    }
+}
+
+/// What a host's own command may come to in the states that its view shows: each landing with the view of the states
+/// that it leaves, and each landing once.
+pub fn outcomes<S: ViewSet>(
+    alloc: Global,
+    view: &ViewOf<S>,
+    host: u8,
+    command: &Command,
+    tests: &[Test],
+) -> Result<Vec<(Landing, ViewOf<S>)>, AllocError>
+    requires made { IsMade S.room view.now }
+    requires host { host < view.now.hosts }
+    requires written { IsTrue (is_written view.now.keys.items command.now) }
+    requires tests { All (λ t. test_fits view.now.keys.items command.now t ≡ true) tests.now }
+    requires few { length tests.now ≤ 16 }
+    ensures outcomes { IfOk result (λ outcomes. AreOutcomes (view_of S.members host view.now) command.now tests.now (map (λ o. (o.0, view_of S.members host o.1)) outcomes.items)) }
+    ensures made { IfOk result (λ outcomes. All (λ o. IsMade S.room o.1 × AreAlike view.now o.1) outcomes.items) }
+{
+    let keys: &[u64] = &view.keys;
+    let known = view.possibilities();
+    let tally = tally(&known, keys, view.hosts, host, *command, tests);
+    is_whole(*command);
+    let sending = Sending {
+        keys,
+        hosts: view.hosts,
+        sender: host,
+        known,
+        tally: &tally,
+        command: *command,
+        fault: fault_of(command),
+        tests,
+    };
+    let outcomes = sending.outcomes(alloc)?;
+    Ok(outcomes)
+}
