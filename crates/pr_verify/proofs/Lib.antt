@@ -1,3 +1,5 @@
 pub mod Listed
 pub mod PlacesWritten
 pub mod PlacesLines
+pub mod Growth
+pub mod Sketches

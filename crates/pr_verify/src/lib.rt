@@ -8,11 +8,12 @@ mod laws;
 mod outline;
 mod places;
 mod refusal;
+mod sketch;
 mod verifying;
 
 pub use checking::check_outline;
 pub use inferring::{infer, infer_of};
 pub use laws::outlines_make_safe;
-pub use outline::{Outline, OutlineOf};
+pub use outline::{Outline, OutlineBy, OutlineOf};
 pub use refusal::Refusal;
 pub use verifying::{Refused, Verified, verify};
