@@ -3,3 +3,4 @@ pub mod PlacesWritten
 pub mod PlacesLines
 pub mod Growth
 pub mod Sketches
+pub mod Recalled
