@@ -5,3 +5,5 @@ pub mod Unnoticed
 pub mod Controls
 pub mod Kept
 pub mod Safe
+pub mod Going
+pub mod Examples
