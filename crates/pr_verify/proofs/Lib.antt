@@ -8,3 +8,4 @@ pub mod Safe
 pub mod Going
 pub mod Examples
 pub mod Listed
+pub mod Waiting
