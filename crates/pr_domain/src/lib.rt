@@ -25,4 +25,6 @@ pub use interference::interfere;
 pub use landing::{Class, Landing};
 pub use outcome::outcomes;
 pub use permitting::permitted;
+pub use pr_sets::{ListSet, ViewSet, WordSet};
+pub use pr_views::{View, ViewOf};
 pub use starting::of_start;
