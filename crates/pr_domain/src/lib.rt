@@ -16,6 +16,7 @@ mod outcome;
 mod permitting;
 mod place;
 mod reporting;
+mod starting;
 mod tally;
 mod tallying;
 
@@ -24,3 +25,6 @@ pub use interference::interfere;
 pub use landing::{Class, Landing};
 pub use outcome::outcomes;
 pub use permitting::permitted;
+pub use pr_sets::{ListSet, ViewSet, WordSet};
+pub use pr_views::{View, ViewOf};
+pub use starting::of_start;
