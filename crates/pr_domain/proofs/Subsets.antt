@@ -1,10 +1,9 @@
 -- Sets of codes by their numbers: which are within another, and which one a test tells.
-use Rattle.std.proofs.Common.{◌≡◌, ◌≢◌, ◌↔◌, ◌⊎◌, ℕ, ◌+◌, ◌<◌, Bool, true, false, ◌==◌, ◌&&◌, ◌||◌, not, if◌then◌else◌, IsTrue, List, [], ◌∷◌, refl, sym, ap, ◌∙◌, subst, inl, inr, lit<, arith}
+use Rattle.std.proofs.Common.{◌≡◌, ◌↔◌, ℕ, ◌+◌, ◌<◌, Bool, true, false, ◌==◌, ◌&&◌, ◌||◌, not, if◌then◌else◌, IsTrue, List, [], ◌∷◌, refl, sym, ap, ◌∙◌, lit<}
 use Rattle.std.specs.FinSet as set
 use Rattle.std.specs.Int.{bit_at}
 use Rattle.std.specs.List.{list_all}
-use Rattle.std.proofs.lemmas.Bool.{and_parts, or_cases, or_left, false≢true}
-use Rattle.std.proofs.lemmas.Bool.Decides.{nat_tests, eqb_tells}
+use Rattle.std.proofs.lemmas.Bool.{and_parts, false≢true}
 use Rattle.pr_attention.specs.declared.attention.Attention.{Attention}
 use Rattle.pr_attention.specs.declared.attention.Attention.TheVariants.{PowerOn, ReservationsPreempted, ReservationsReleased, RegistrationsPreempted}
 use Rattle.pr_attention.specs.Attentions.{power_on, reservations_preempted, reservations_released, registrations_preempted, is_attention, code_of, Codes}
@@ -129,40 +128,3 @@ numbered test known = (q, bits.few, λ code. at code (is_attention code) refl)
 pub record AreWithin (n : ℕ) (codes : Codes) (sets : Word) : Type 0 where
   pub few : (q : ℕ) → has sets q ≡ true → q < n
   pub within : (q : ℕ) → q < n → (has sets q ≡ true) ↔ AreAmong (codes_of q) codes
-
-pub within_none : (codes : Codes) (sets : Word) → ((q : ℕ) → has sets q ≡ false) → AreWithin 0 codes sets
-within_none codes sets none = record {
-  few = λ q is. absurd (false≢true (sym (none q) ∙ is));
-  within = λ q small. absurd (omega arith);
-}
-
-pub within_more : (n : ℕ) (codes : Codes) (sets new : Word) → AreWithin n codes sets → AreAmong (codes_of n) codes → ((q : ℕ) → has new q ≡ (q == n || has sets q)) → AreWithin (n + 1) codes new
-within_more n codes sets new are among is = record {
-  few = λ q got. few q (or_cases (q == n) (has sets q) (sym (is q) ∙ got));
-  within = λ q small. at q small (eqb_tells q n);
-}
-  where
-    few : (q : ℕ) → ((q == n) ≡ true) ⊎ (has sets q ≡ true) → q < n + 1
-    few q (inl same) = grind (arith, nat_tests)
-    few q (inr old) = let below = are.few q old in omega arith
-
-    at : (q : ℕ) → q < n + 1 → (((q == n) ≡ true) × (q ≡ n)) ⊎ (((q == n) ≡ false) × (q ≢ n)) → (has new q ≡ true) ↔ AreAmong (codes_of q) codes
-    at q small (inl same) =
-        (λ got. subst (λ m. AreAmong (codes_of m) codes) (sym same.1) among, λ those. is q ∙ or_left (q == n) (has sets q) same.0)
-    at q small (inr other) =
-        let tells = are.within q (let differs = other.1 in omega arith) in
-        let old : has new q ≡ has sets q = is q ∙ ap (λ b. b || has sets q) other.0 in
-        (λ got. tells.0 (sym old ∙ got), λ those. old ∙ tells.1 those)
-
-pub within_skips : (n : ℕ) (codes : Codes) (sets : Word) → AreWithin n codes sets → (AreAmong (codes_of n) codes → ⊥) → AreWithin (n + 1) codes sets
-within_skips n codes sets are none = record {
-  few = λ q got. (let below = are.few q got in omega arith);
-  within = λ q small. at q small (eqb_tells q n);
-}
-  where
-    at : (q : ℕ) → q < n + 1 → (((q == n) ≡ true) × (q ≡ n)) ⊎ (((q == n) ≡ false) × (q ≢ n)) → (has sets q ≡ true) ↔ AreAmong (codes_of q) codes
-    at q small (inl same) = (
-      λ got. absurd (let below = are.few q got in let here = same.1 in omega arith),
-      λ those. absurd (none (subst (λ m. AreAmong (codes_of m) codes) same.1 those)),
-    )
-    at q small (inr other) = are.within q (let differs = other.1 in omega arith)
