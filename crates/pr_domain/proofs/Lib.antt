@@ -24,6 +24,7 @@ pub mod Owner
 pub mod Permissions
 pub mod Places
 pub mod Placing
+pub mod Reached
 pub mod Reported
 pub mod Roles
 pub mod Rounds
@@ -34,3 +35,4 @@ pub mod Unpending
 pub mod Viewed
 pub mod Walking
 pub mod Ways
+pub mod Within
