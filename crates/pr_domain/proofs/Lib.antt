@@ -25,6 +25,7 @@ pub mod Owner
 pub mod Permissions
 pub mod Places
 pub mod Placing
+pub mod Reached
 pub mod Reported
 pub mod Roles
 pub mod Rounds
@@ -37,3 +38,4 @@ pub mod Viewed
 pub mod Walking
 pub mod Ways
 pub mod Written
+pub mod Within

@@ -15,6 +15,7 @@ mod onlooker;
 mod outcome;
 mod permitting;
 mod place;
+mod reaching;
 mod reporting;
 mod starting;
 mod tally;
