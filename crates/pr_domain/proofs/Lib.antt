@@ -37,5 +37,5 @@ pub mod Unpending
 pub mod Viewed
 pub mod Walking
 pub mod Ways
-pub mod Written
 pub mod Within
+pub mod Written
