@@ -19,6 +19,7 @@ mod reaching;
 mod reporting;
 mod tally;
 mod tallying;
+mod twins;
 
 pub use closing::close;
 pub use interference::interfere;
