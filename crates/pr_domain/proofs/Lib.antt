@@ -27,6 +27,7 @@ pub mod Places
 pub mod Placing
 pub mod Reached
 pub mod Reported
+pub mod Retyped
 pub mod Roles
 pub mod Rounds
 pub mod Shown

@@ -10,3 +10,4 @@ pub mod Reaching
 pub mod Reporting
 pub mod Sendings
 pub mod Tallies
+pub mod Twins

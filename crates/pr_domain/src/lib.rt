@@ -20,6 +20,7 @@ mod reporting;
 mod starting;
 mod tally;
 mod tallying;
+mod twins;
 
 pub use closing::close;
 pub use interference::interfere;
