@@ -15,10 +15,12 @@ mod onlooker;
 mod outcome;
 mod permitting;
 mod place;
+mod reaching;
 mod reporting;
 mod starting;
 mod tally;
 mod tallying;
+mod twins;
 
 pub use closing::close;
 pub use interference::interfere;
