@@ -9,3 +9,7 @@ pub mod Going
 pub mod Examples
 pub mod Listed
 pub mod Waiting
+pub mod PlacesWritten
+pub mod PlacesLines
+pub mod Growth
+pub mod Sketches
