@@ -7,3 +7,9 @@ pub mod Beginning
 pub mod Trapping
 pub mod Running
 pub mod SafeReplays
+pub mod Fixed
+pub mod Judging
+pub mod Adding
+pub mod Admitting
+pub mod Histories
+pub mod Knowing

@@ -3,3 +3,5 @@ pub mod Courses
 pub mod Turns
 pub mod Replays
 pub mod Laws
+pub mod Audits
+pub mod inside
