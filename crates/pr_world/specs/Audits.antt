@@ -14,13 +14,13 @@ pub record IsLegalFromFirst (s : Scenario) (history : List Entry) : Type 0 where
   pub first : first_state s ≡ Some start
   pub legal : IsLegal s start history
 
--- The entry at this place, counted from 1, is the first that isn't legal: just the beginnings of the history that end
--- before it are legal.
+-- The entry at this place, counted from 1, is the first that isn't legal: the first n entries are legal just where n is
+-- less.
 pub record IsFirstIllegal (s : Scenario) (history : List Entry) (place : ℕ) : Type 0 where
   pub within : (1 ≤ place) × (place ≤ length history)
   pub exactly : (n : ℕ) → IsLegalFromFirst s (take n history) ↔ (n < place)
 
--- why an audit accepts no history
+-- what an audit's answer says of a history that it doesn't accept: where memory ran out, nothing
 abbrev pub Refuses : Scenario → List Entry → AuditError → Type 0
 Refuses s history (Illegal place) = IsFirstIllegal s history place
 Refuses s history Memory = Unit {0}
