@@ -1,6 +1,0 @@
-pub mod Places
-pub mod Outlines
-pub mod Refusals
-pub mod Rooms
-pub mod Laws
-pub mod inside
