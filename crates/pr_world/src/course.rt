@@ -33,7 +33,9 @@ impl Course {
         scenario: &Scenario,
         room: usize,
     ) -> Result<Course, AllocError>
-        ensures reached { IfOk result (IsReached (scenario_of scenario.now) []) }
+        ensures reached { IfOk result (λ course. IsReached (scenario_of scenario.now) [] (schedule_of course)) }
+        ensures stands { IfOk result (λ course.
+            StandsFor (scenario_of scenario.now) course.unit (map seat_of course.players.items)) }
         ensures room { IfOk result (λ course.
             (vec_len course.entries ≡ 0) × (vec_capacity course.entries ≡ room)) }
     {
@@ -56,8 +58,8 @@ impl Course {
         ensures turn { Turn (scenario_of scenario.now) (schedule_of self.old) host (schedule_of self.new) }
         ensures happens { HappensBy (scenario_of scenario.now) host (entry_in result)
             (schedule_of self.old).world (schedule_of self.new).world }
-        ensures reached { (steps : List ℕ) → IsReached (scenario_of scenario.now) steps self.old
-            → IsReached (scenario_of scenario.now) (steps ++ host ∷ []) self.new }
+        ensures reached { (steps : List ℕ) → IsReached (scenario_of scenario.now) steps (schedule_of self.old)
+            → IsReached (scenario_of scenario.now) (steps ++ host ∷ []) (schedule_of self.new) }
         ensures stands { StandsFor (scenario_of scenario.now) self.new.unit
             (map seat_of self.new.players.items) }
         ensures length { vec_len self.new.entries ≤ vec_len self.old.entries + 1 }
