@@ -1,0 +1,2 @@
+pub mod ProgressCodes
+pub mod Workings
