@@ -2,3 +2,4 @@ pub mod Fronts
 pub mod KeyDigits
 pub mod TraceSteps
 pub mod Tracing
+pub mod Refusing

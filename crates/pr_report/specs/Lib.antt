@@ -4,3 +4,4 @@ pub mod Printed
 pub mod TraceText
 pub mod TraceLines
 pub mod Traces
+pub mod Verdicts

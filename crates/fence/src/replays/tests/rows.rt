@@ -1,6 +1,8 @@
 //! Worked scenarios from their texts to their traces and statuses.
 
-use super::{Page, Status, assert_replayed};
+use super::assert_replayed;
+use crate::fakes::Page;
+use crate::fault::Status;
 
 // A host that registers, reserves and writes, up to the arms of its last send that stop as lost.
 const WRITER: &[u8] = b"fence 1

@@ -1,13 +1,11 @@
-use super::{Status, do_replay};
-use arrayvec::ArrayVec;
+use super::do_replay;
+use crate::fakes::{Failing, OneByte, Page};
+use crate::fault::Status;
 use std::alloc::Global;
-use std::io::{Error, ErrorKind, Read, Write};
+use std::io::Read;
 use std::process::Abort;
 
 mod rows;
-
-// A text longer than any here.
-type Page = ArrayVec<u8, 1024>;
 
 const FIRST: &[u8] = b"fence 1
 keys 123abc
@@ -60,59 +58,6 @@ const NO_KEYS_TRACE: &[u8] = b"fence-trace 1
 unit 00000000 none reader=-
 host reader stopped end sent 1
 ";
-
-/// A writer that takes one byte a call, and answers an error once it has taken its fill.
-#[derive(Drop)]
-struct OneByte {
-    taken: Page,
-    fill: usize,
-}
-
-impl OneByte {
-    fn new(fill: usize) -> Self {
-        OneByte {
-            taken: Page::new(),
-            fill,
-        }
-    }
-}
-
-impl Write for OneByte {
-    fn write(&mut self, buf: &[u8]) -> std::io::Result<usize> {
-        let count = buf.len().min(1);
-        if self.fill == 0 || self.taken.try_extend_from_slice(&buf[..count]).is_err() {
-            return Err(Error::from(ErrorKind::Other));
-        }
-        self.fill -= 1;
-        Ok(count)
-    }
-
-    fn flush(&mut self) -> std::io::Result<()> {
-        Ok(())
-    }
-}
-
-/// A reader that gives one byte a call, and answers an error once it has given its fill.
-#[derive(Drop)]
-struct Failing<'a> {
-    rest: &'a [u8],
-    fill: usize,
-}
-
-impl<'a> Read for Failing<'a> {
-    fn read(&mut self, buf: &mut [u8]) -> std::io::Result<usize> {
-        if self.fill == 0 {
-            return Err(Error::from(ErrorKind::Other));
-        }
-        self.fill -= 1;
-        if self.rest.is_empty() || buf.is_empty() {
-            return Ok(0);
-        }
-        buf[0] = self.rest[0];
-        self.rest = &self.rest[1..];
-        Ok(1)
-    }
-}
 
 fn assert_replayed(
     rt: &impl Abort,

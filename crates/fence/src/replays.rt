@@ -1,14 +1,16 @@
-//! What the commands of the program do, over any reader, writer and error writer.
+//! `fence replay`, over any reader, writer and error writer.
 
 ghost use Rattle.std.specs.Prelude.{◌≡◌, IsTrue, map};
 ghost use Rattle.std.specs.Io.KnownBytes.{Keeps};
 ghost use Rattle.pr_text.specs.BytesRead.{LosesUpTo};
 ghost use Rattle.pr_report.specs.Written.{Puts};
-ghost use Rattle.fence.specs.Replays.{status_of_end, told_of_end};
+ghost use Rattle.fence.specs.Endings.{IsCommand, told_of_end};
 ghost use Rattle.fence.specs.Steps.{has_wrong_count};
-ghost use Rattle.fence.specs.Commands.{IsPlanned, EndsReplay, IsReplayCommand};
+ghost use Rattle.fence.specs.Replays.{EndsReplay};
+ghost use Rattle.fence.specs.inside.PlannedReplays.{IsPlanned};
 
-use crate::fault::{Fault, Status, put_fault};
+use crate::ending::{status_of, tell_end};
+use crate::fault::{Fault, Status};
 use crate::steps::hosts_of;
 use pr_report::{WriteFault, write_trace};
 use pr_roles::Scenario;
@@ -31,7 +33,7 @@ pub fn do_replay<R: Read, W: Write, E: Write>(
     writer: &mut W,
     errors: &mut E,
 ) -> Status
-    ensures command { IsReplayCommand (map (λ s. s.now) steps.now) (R.remaining reader.old) (W.contents writer.old) (W.contents writer.new) (E.contents errors.old) (E.contents errors.new) result }
+    ensures command { IsCommand (EndsReplay (map (λ s. s.now) steps.now) (R.remaining reader.old) (W.contents writer.old) (W.contents writer.new)) (E.contents errors.old) (E.contents errors.new) result }
     ensures limited { LosesUpTo 65537 (R.remaining reader.old) (R.remaining reader.new) }
     ensures unread { IsTrue (has_wrong_count (map (λ s. s.now) steps.now)) → Keeps (R.remaining reader.old) (R.remaining reader.new) }
 {
@@ -52,23 +54,9 @@ fn replay_and_tell<R: Read, W: Write, E: Write>(
     ensures limited { LosesUpTo 65537 (R.remaining reader.old) (R.remaining reader.new) }
     ensures unread { IsTrue (has_wrong_count (map (λ s. s.now) steps.now)) → Keeps (R.remaining reader.old) (R.remaining reader.new) }
 {
-    match replay_text(alloc, steps, reader, writer) {
-        Ok(refused) => (Ok(refused), Ok(())),
-        Err(fault) => {
-            let told = put_fault(errors, &fault);
-            (Err(fault), told)
-        }
-    }
-}
-
-fn status_of(end: Result<bool, Fault>) -> Status
-    ensures { result ≡ status_of_end end }
-{
-    match end {
-        Ok(false) => Status::Done,
-        Ok(true) => Status::Refused,
-        Err(fault) => fault.status(),
-    }
+    let end = replay_text(alloc, steps, reader, writer);
+    let told = tell_end(errors, &end);
+    (end, told)
 }
 
 // Plans, and then writes: whether a host is trapped.

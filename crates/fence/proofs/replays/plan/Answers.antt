@@ -1,5 +1,5 @@
 -- The scenario that was read, its steps, and its replay.
-use Rattle.std.proofs.Common.{◌≡◌, ◌≤◌, ◌<◌, List, ℕ, length, Some, None, sym, ap, ◌∙◌, subst, arith}
+use Rattle.std.proofs.Common.{◌≡◌, ◌<◌, List, ℕ, length, Some, sym, ap, ◌∙◌, subst, arith}
 use Rattle.std.specs.Prelude.{map, option_map, IfSome}
 use Rattle.std.specs.List.{All}
 use Rattle.pr_roles.specs.Scenarios.{scenario_of}
@@ -7,7 +7,7 @@ use Rattle.pr_report.specs.TraceText.{names_in, names_of}
 use Rattle.fence.specs.Steps.{hosts_of}
 use Rattle.fence.proofs.Naming.{few_nexuses}
 use Rattle.fence.proofs.Plans.{names_of_scenario, nexuses_in, named_length, planned, unnamed, few_steps}
-use Rattle.fence.proofs.commands.plan.Goals as goal
+use Rattle.fence.proofs.replays.plan.Goals as goal
 
 pub hosts_of-requires : goal.hosts_of-requires
 hosts_of-requires g c =

@@ -1,18 +1,16 @@
--- How the commands of the program end.
-use Rattle.std.specs.Prelude.{◌≡◌, ℕ, Bool, IsTrue, List, map, Option, Some, IfSome, Result, Ok, Err}
+-- A replay that is done, and not written yet.
+use Rattle.std.specs.Prelude.{◌≡◌, ℕ, Bool, IsTrue, List, map, Option, IfSome, Result, Ok, Err}
 use Rattle.std.specs.List.{list_any}
 use Rattle.pr_roles.specs.Scenarios.{scenario_of}
 use Rattle.pr_text.specs.declared.fault.ReadError.TheVariants as input
 use Rattle.pr_text.specs.Texts.{answer_of}
 use Rattle.pr_world.specs.Ends.{seen, is_trapped_end}
-use Rattle.pr_report.specs.Written.{AppendsFront}
 use Rattle.pr_report.specs.TraceText.{names_in, trace_text}
-use Rattle.fence.specs.declared.commands.Planned.{Planned}
+use Rattle.fence.specs.declared.replays.Planned.{Planned}
 use Rattle.fence.specs.declared.fault.Fault.{Fault}
 use Rattle.fence.specs.declared.fault.Fault.TheVariants as fault
-use Rattle.fence.specs.declared.fault.Status.{Status}
 use Rattle.fence.specs.Steps.{has_wrong_count}
-use Rattle.fence.specs.Replays.{IsTraceOf, IsUsageFault, Outputs, status_of_end, told_of_end}
+use Rattle.fence.specs.Replays.{IsTraceOf, IsUsageFault}
 
 -- the text of the trace of what is planned, and whether a host is trapped
 abbrev pub planned_text : Planned → List ℕ
@@ -36,15 +34,3 @@ Plans steps known (Err fault.File) = ⊥
 pub record IsPlanned (steps : List (List ℕ)) (known : Option (List ℕ)) (r : Result Planned Fault) : Type 0 where
   pub plans : Plans steps known r
   pub counted : IsTrue (has_wrong_count steps) → r ≡ Err fault.Usage
-
--- what goes to the output, and that a wrong number of steps is a usage fault whatever the reader has
-pub record EndsReplay (steps : List (List ℕ)) (known old new : Option (List ℕ)) (r : Result Bool Fault) : Type 0 where
-  pub outputs : Outputs steps known old new r
-  pub counted : IsTrue (has_wrong_count steps) → r ≡ Err fault.Usage
-
--- the command's output, the line on its error output, of which the end may be missing, and its status
-pub record IsReplayCommand (steps : List (List ℕ)) (known old new old_errors new_errors : Option (List ℕ)) (answer : Status) : Type 0 where
-  pub end : Result Bool Fault
-  pub ends : EndsReplay steps known old new end
-  pub tells : AppendsFront old_errors new_errors (told_of_end end)
-  pub answers : answer ≡ status_of_end end
