@@ -13,3 +13,4 @@ pub mod PlacesWritten
 pub mod PlacesLines
 pub mod Growth
 pub mod Sketches
+pub mod Recalled

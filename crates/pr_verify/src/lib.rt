@@ -4,6 +4,7 @@
 mod checking;
 mod head;
 mod inferring;
+mod known;
 mod laws;
 mod outline;
 mod places;
