@@ -4,3 +4,7 @@ pub mod Printed
 pub mod TraceText
 pub mod TraceLines
 pub mod Traces
+pub mod Chain
+pub mod EntryWords
+pub mod TraceReadings
+pub mod inside
