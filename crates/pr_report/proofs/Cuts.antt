@@ -13,10 +13,10 @@ use Rattle.pr_report.specs.inside.SevenWords.{words_left}
 found_at : (n m i : ℕ) → cond (ltb n m) (Some n) None ≡ Some i → (n ≡ i) × (n < m)
 found_at n m i e = grind (arith, nat_tests)
 
-missing_at : (n m : ℕ) → cond (ltb n m) (Some n) None ≡ None → m ≤ n
+pub missing_at : (n m : ℕ) → cond (ltb n m) (Some n) None ≡ None → m ≤ n
 missing_at n m e = grind (arith, nat_tests)
 
-none_passes : (p : ℕ → Bool) (xs : List ℕ) → length xs ≤ position_or_len p xs → All (λ x. p x ≡ false) xs
+pub none_passes : (p : ℕ → Bool) (xs : List ℕ) → length xs ≤ position_or_len p xs → All (λ x. p x ≡ false) xs
 none_passes p xs h k d below = fails_before_first p xs k d (omega arith)
 
 -- the first place that passes is within the text

@@ -6,3 +6,4 @@ pub mod EntryNames
 pub mod Cuts
 pub mod PairBytes
 pub mod EntryLines
+pub mod LinesInFront

@@ -14,11 +14,6 @@ abbrev pub and_then : {A B : Type 0} → Result A TraceError → (A → Result B
 and_then (Ok a) f = f a
 and_then (Err e) f = Err e
 
--- this, unless there is a fault
-abbrev pub unless : {A : Type 0} → Option TraceError → A → Result A TraceError
-unless None a = Ok a
-unless (Some e) a = Err e
-
 -- ---- lines and words
 
 -- what stands behind the last line feed is a line only if there is something
@@ -63,18 +58,18 @@ unfoldable pub is_later : List ℕ → Bool
 is_later line =
     starts_with nat_eq line (codes "unit") || (starts_with nat_eq line (codes "host") || starts_with nat_eq line (codes "guest"))
 
--- the first fault of the lines behind so many entries and so many other later lines
-abbrev pub later_fault : ℕ → ℕ → List (List ℕ) → Option TraceError
-later_fault entries others [] = None
-later_fault entries others (l ∷ ls) =
-    if nat_le 64 others then Some TooLong else (
-    if is_later l && nat_le (length l) 1024 then later_fault entries (others + 1) ls else Some (Syntax (entries + others + 2)))
+-- the lines behind so many entries and so many other later lines
+abbrev pub later_lines : ℕ → ℕ → List (List ℕ) → Result (Unit {0}) TraceError
+later_lines entries others [] = Ok tt
+later_lines entries others (l ∷ ls) =
+    if nat_le 64 others then Err TooLong else (
+    if is_later l && nat_le (length l) 1024 then later_lines entries (others + 1) ls else Err (Syntax (entries + others + 2)))
 
 -- the entries of the lines behind the first and so many other entries
 abbrev pub entries_of : List (List ℕ) → ℕ → List (List ℕ) → Result (List Entry) TraceError
 entries_of names others [] = Ok []
 entries_of names others (l ∷ ls) =
-    if is_later l then unless (later_fault others 0 (l ∷ ls)) [] else
+    if is_later l then and_then (later_lines others 0 (l ∷ ls)) (λ _. Ok []) else
     and_then (entry_on names (others + 1) l) (λ e. and_then (entries_of names (others + 1) ls) (λ es. Ok (e ∷ es)))
 
 abbrev pub trace_in : List (List ℕ) → List (List ℕ) → Result (List Entry) TraceError

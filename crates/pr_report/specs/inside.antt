@@ -1,1 +1,2 @@
 pub mod SevenWords
+pub mod LinesAhead

@@ -6,6 +6,7 @@ ghost use Rattle.pr_report.specs.EntryWords.{byte_in, bytes_in, exchange_in, rep
 ghost use Rattle.pr_report.specs.TraceReadings.{entry_on, number_of, words};
 ghost use Rattle.pr_report.specs.inside.SevenWords.{listed, words_left};
 
+use crate::ahead::MOST_LINE_BYTES;
 use crate::trace_error::TraceError;
 use arrayvec::ArrayVec;
 use itoa::Buffer;
@@ -15,9 +16,6 @@ use pr_script::is_name;
 use pr_world::Entry;
 
 const MOST_ENTRIES: u32 = 32_768;
-
-/// How many bytes a line of a trace may have, without its end.
-pub(crate) const MOST_LINE_BYTES: usize = 1_024;
 
 // The words of an entry's line.
 #[derive(Clone, Copy)]

@@ -4,6 +4,7 @@
 //! time. Of a trace that is read the entries take memory, and nothing else.
 #![tactic(auto)]
 
+mod ahead;
 mod entry_reading;
 mod laws;
 mod output;
