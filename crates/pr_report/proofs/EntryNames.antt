@@ -1,5 +1,5 @@
 -- Hosts and guests by their names.
-use Rattle.std.specs.Prelude.{◌≡◌, ℕ, ◌+◌, List, [], ◌∷◌, position, bytes_eq, cond, Option, Some}
+use Rattle.std.specs.Prelude.{◌≡◌, ℕ, ◌+◌, List, [], ◌∷◌, position, bytes_eq, cond, Some}
 use Rattle.std.specs.List.{position_from}
 use Rattle.std.proofs.Common.{refl, sym, ap, ◌∙◌}
 use Rattle.std.proofs.lemmas.Iterator.Adapters.{position_from-zero}

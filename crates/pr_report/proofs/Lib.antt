@@ -7,3 +7,5 @@ pub mod Cuts
 pub mod PairBytes
 pub mod EntryLines
 pub mod LinesInFront
+pub mod FrontLines
+pub mod WholeTraces

@@ -3,14 +3,14 @@ use Rattle.std.proofs.Common.{◌≡◌, ℕ, ◌+◌, ◌<◌, ◌≤◌, Bool,
 use Rattle.std.specs.Prelude.{◌==◌, nat_lt, if◌then◌else◌, position, Option, Some, None, IfSome}
 use Rattle.std.specs.Option.{option_or}
 use Rattle.std.specs.List.{All, onto_first, slice_split}
-use Rattle.std.specs.Io.KnownBytes.{IsAtEnd}
+use Rattle.std.specs.Io.KnownBytes.{IsAtEnd, Keeps, prepend_known}
 use Rattle.std.proofs.lemmas.Bool.{ne_eqb}
 use Rattle.std.proofs.lemmas.Bool.Decides.{nat_tests}
 use Rattle.std.proofs.lemmas.List.{take_all, take_at, drop_all, drop_more}
 use Rattle.std.proofs.lemmas.List.Quantifiers.{position-Some}
 use Rattle.std.proofs.lemmas.List.Splits.{length-slice_split, slice_split_at, slice_split-cons_no}
 use Rattle.pr_report.specs.TraceReadings.{lines, lines_of_parts}
-use Rattle.pr_report.specs.inside.LinesAhead.{IsFront, StandsInFront, line_end}
+use Rattle.pr_report.specs.inside.LinesAhead.{FindsLine, IsFront, StandsInFront, line_end}
 use Rattle.pr_report.proofs.Cuts.{none_passes, missing_at}
 
 abbrev is_end : ℕ → Bool
@@ -132,8 +132,7 @@ end_by held more n None missing e =
     let at = grown (length held) n e in
     subst (λ k. IsFront held more k) at.0 (front_long held more missing at.1)
 
--- the line's end, or more than a line may have, is at hand
-pub front_at_hand : (held : List ℕ) (known : Option (List ℕ)) (n : ℕ) → line_end held ≡ Some n → IfSome known (λ more. StandsInFront held more (Some n))
+front_at_hand : (held : List ℕ) (known : Option (List ℕ)) (n : ℕ) → line_end held ≡ Some n → IfSome known (λ more. StandsInFront held more (Some n))
 front_at_hand held None n e = tt
 front_at_hand held (Some more) n e = end_by held more n (position is_end held) refl e
 
@@ -157,10 +156,24 @@ front_last held missing h = record {
   whole = λ short. (sym (take_all (length held) held (omega arith)), ap (λ l. lines (l ++ [])) (drop_all (length held + 1) held (omega arith)));
 }
 
--- nothing comes after what is at hand
-pub front_at_end : (old held : List ℕ) (known : Option (List ℕ)) → line_end old ≡ None → held ≡ old → IsAtEnd known → 0 < length held
+front_at_end : (old held : List ℕ) (known : Option (List ℕ)) → line_end old ≡ None → held ≡ old → IsAtEnd known → 0 < length held
     → IfSome known (λ more. StandsInFront held more (Some (length held)))
 front_at_end old held None e same end h = tt
 front_at_end old held (Some more) e same end h =
     let missing : position is_end held ≡ None = ap (position is_end) same ∙ no_end_at_hand old (position is_end old) refl e in
     subst (λ m. IsFront held m (length held)) (sym end) (front_last held missing h)
+
+within : (held : List ℕ) (n : ℕ) (o : Option ℕ) → position is_end held ≡ o → option_or o (if nat_lt 1024 (length held) then Some (length held) else None) ≡ Some n → n ≤ length held
+within held n (Some i) found e =
+    let same : i ≡ n = cc in
+    let at = (position-Some is_end held i 0 found).0 in omega arith
+within held n None missing e = let at = (grown (length held) n e).0 in omega arith
+
+-- the line's end, or more than a line may have, is at hand
+pub finds_at_hand : {start known : Option (List ℕ)} {held : List ℕ} (n : ℕ) → Keeps start (prepend_known held known) → line_end held ≡ Some n → FindsLine start held known (Some n)
+finds_at_hand {start} {known} {held} n kept e = record { kept = kept; within = within held n (position is_end held) refl e; front = front_at_hand held known n e }
+
+-- nothing comes after what is at hand
+pub finds_at_end : {start known : Option (List ℕ)} {old held : List ℕ} → Keeps start (prepend_known held known) → line_end old ≡ None → held ≡ old → IsAtEnd known → 0 < length held
+    → FindsLine start held known (Some (length held))
+finds_at_end {start} {known} {old} {held} kept e same end h = record { kept = kept; within = omega arith; front = front_at_end old held known e same end h }

@@ -13,6 +13,7 @@ pub(crate) const MOST_LINE_BYTES: usize = 1_024;
 const CHUNK: usize = 4_096;
 
 /// Bytes that were read and not looked at yet.
+#[derive(Drop)]
 pub(crate) struct Ahead {
     bytes: ArrayVec<u8, 8_192>,
     // The bytes before this place were looked at.
@@ -21,9 +22,9 @@ pub(crate) struct Ahead {
 }
 
 impl Ahead {
-    ghost use Rattle.std.specs.Prelude.{◌≡◌, ◌+◌, ◌<◌, ◌≤◌, ◌++◌, [], length, drop, MatchBool, OnOk, IfOk, IfSome};
+    ghost use Rattle.std.specs.Prelude.{◌≡◌, ◌+◌, ◌<◌, ◌≤◌, ◌++◌, [], length, drop, MatchBool, OnOk, IfErr, IfOk};
     ghost use Rattle.std.specs.Io.KnownBytes.{IsAtEnd, Keeps};
-    ghost use Rattle.pr_report.specs.inside.LinesAhead.{StandsInFront, held, left, line_end};
+    ghost use Rattle.pr_report.specs.inside.LinesAhead.{FindsLine, held, left, line_end};
 
     pub(crate) fn new() -> Ahead
         ensures { held result ≡ [] }
@@ -43,9 +44,8 @@ impl Ahead {
     /// How many bytes the line in front has without its end, or how many of them are at hand where they are more
     /// than a line may have; none where the reader has nothing left.
     pub(crate) fn next_line<R: Read>(&mut self, reader: &mut R) -> Result<Option<usize>, TraceError>
-        ensures kept { OnOk result (Keeps (left self.old (R.remaining reader.old)) (left self.new (R.remaining reader.new))) }
-        ensures within { IfOk result (λ found. IfSome found (λ n. n ≤ length (held self.new))) }
-        ensures front { IfOk result (λ found. IfSome (R.remaining reader.new) (λ more. StandsInFront (held self.new) more found)) }
+        ensures found { IfOk result (λ found. FindsLine (left self.old (R.remaining reader.old)) (held self.new) (R.remaining reader.new) found) }
+        ensures fault { IfErr result (λ e. e ≡ TraceError.ReadFault) }
     {
         loop {
             if let Some(end) = self.line_end() {
@@ -87,6 +87,7 @@ impl Ahead {
     fn read_more<R: Read>(&mut self, reader: &mut R) -> Result<bool, TraceError>
         requires { length (held self.old) ≤ 1024 }
         ensures kept { OnOk result (Keeps (left self.old (R.remaining reader.old)) (left self.new (R.remaining reader.new))) }
+        ensures fault { IfErr result (λ e. e ≡ TraceError.ReadFault) }
         ensures grown { IfOk result (λ more. MatchBool more (length (held self.old) < length (held self.new)) ((held self.new ≡ held self.old) × IsAtEnd (R.remaining reader.new))) }
     {
         let mut chunk = [0; CHUNK];

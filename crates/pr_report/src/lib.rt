@@ -11,9 +11,11 @@ mod output;
 mod printing;
 mod trace;
 mod trace_error;
+mod trace_reading;
 
 pub use laws::replays_are_traced;
 pub use output::{WriteFault, put};
 pub use printing::{Word, put_line, put_spaced};
 pub use trace::write_trace;
 pub use trace_error::TraceError;
+pub use trace_reading::read_trace;

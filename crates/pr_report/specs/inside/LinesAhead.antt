@@ -1,7 +1,7 @@
 -- Bytes that were read and not looked at yet, and the lines in them.
-use Rattle.std.specs.Prelude.{◌≡◌, ℕ, ◌+◌, ◌≤◌, ◌==◌, nat_lt, if◌then◌else◌, List, [], ◌∷◌, ◌++◌, length, take, drop, position, Option, Some, None}
+use Rattle.std.specs.Prelude.{◌≡◌, ℕ, ◌+◌, ◌≤◌, ◌==◌, nat_lt, if◌then◌else◌, List, [], ◌∷◌, ◌++◌, length, take, drop, position, Option, Some, None, IfSome}
 use Rattle.std.specs.Option.{option_or}
-use Rattle.std.specs.Io.KnownBytes.{prepend_known}
+use Rattle.std.specs.Io.KnownBytes.{Keeps, prepend_known}
 use Rattle.pr_report.specs.declared.ahead.Ahead.{Ahead}
 use Rattle.pr_report.specs.TraceReadings.{lines}
 
@@ -31,8 +31,17 @@ abbrev pub line_end : List ℕ → Option ℕ
 line_end held =
     option_or (position (λ b. b == 10) held) (if nat_lt 1024 (length held) then Some (length held) else None)
 
--- how what was left and what is left now belong together, where both are known
-abbrev pub Leads : (List ℕ → List ℕ → Type 0) → Option (List ℕ) → Option (List ℕ) → Type 0
-Leads P None new = Unit {0}
-Leads P (Some xs) None = ⊥
-Leads P (Some xs) (Some ys) = P xs ys
+-- Nothing of what was left at the start is lost, and this stands in front of it now.
+pub record FindsLine (start : Option (List ℕ)) (held : List ℕ) (known : Option (List ℕ)) (found : Option ℕ) : Type 0 where
+  pub kept : Keeps start (prepend_known held known)
+  pub within : IfSome found (λ n. n ≤ length held)
+  pub front : IfSome known (λ more. StandsInFront held more found)
+
+abbrev pub Between : (List ℕ → List ℕ → Type 0) → Option (List ℕ) → Option (List ℕ) → Type 0
+Between P None new = Unit {0}
+Between P (Some xs) None = ⊥
+Between P (Some xs) (Some ys) = P xs ys
+
+-- this holds of what was left and what is left now, where both are known
+pub record Leads (P : List ℕ → List ℕ → Type 0) (old new : Option (List ℕ)) : Type 0 where
+  pub holds : Between P old new

@@ -1,4 +1,4 @@
-use Rattle.std.proofs.Common.{sym, ◌∙◌, arith}
+use Rattle.std.proofs.Common.{sym, ◌∙◌}
 use Rattle.pr_report.proofs.PairBytes.{is_full, is_open, pairs_full, pairs_preserved}
 use Rattle.pr_report.proofs.entry_reading.bytes_in.Goals as goal
 
