@@ -9,3 +9,7 @@ pub mod EntryLines
 pub mod LinesInFront
 pub mod FrontLines
 pub mod WholeTraces
+pub mod SolidWords
+pub mod WordsBack
+pub mod TraceNames
+pub mod EntriesBack

@@ -7,4 +7,5 @@ pub mod Traces
 pub mod Chain
 pub mod EntryWords
 pub mod TraceReadings
+pub mod TraceLaws
 pub mod inside
