@@ -1,6 +1,6 @@
 -- Entries that were written are read back.
-use Rattle.std.proofs.Common.{◌≡◌, ℕ, zero, suc, ◌+◌, ◌<◌, ◌≤◌, ◌/◌, ◌%◌, eqb, add-zero, Bool, true, false, cond, List, [], ◌∷◌, ◌++◌, length, refl, sym, ap, ◌∙◌, arith, append_assoc, length-append}
-use Rattle.std.specs.Prelude.{◌==◌, nat_lt, codes, Option, Some, None, Result, Ok, Err}
+use Rattle.std.proofs.Common.{◌≡◌, ℕ, zero, suc, ◌+◌, ◌<◌, ◌≤◌, ◌/◌, ◌%◌, eqb, add-zero, true, false, cond, List, [], ◌∷◌, ◌++◌, length, refl, ap, ◌∙◌, arith, append_assoc, length-append}
+use Rattle.std.specs.Prelude.{nat_lt, Some, Ok}
 use Rattle.std.specs.Fmt.{decimal, digits, digits_onto, digit_glyph}
 use Rattle.std.proofs.lemmas.Bool.{ne_eqb}
 use Rattle.std.proofs.lemmas.Bool.Decides.{nat_tests}
@@ -10,13 +10,12 @@ use Rattle.pr_cdb.specs.declared.reply.Status.TheVariants.{Good, CheckCondition,
 use Rattle.pr_cdb.specs.declared.wire.Wire.{Wire}
 use Rattle.pr_cdb.specs.Requests.{AreBytes}
 use Rattle.pr_roles.specs.declared.entry.Entry.{Entry}
-use Rattle.pr_report.specs.declared.trace_error.TraceError.{TraceError}
 use Rattle.pr_report.specs.PrintedLines.{pairs_or_dash, spaced}
 use Rattle.pr_report.specs.TraceText.{entry_line, entry_lines, name_of, sense_data, status_word}
 use Rattle.pr_report.specs.TraceLaws.{HasSense, IsEntry}
 use Rattle.pr_report.specs.EntryWords.{exchange_in, reply_in, wire_in}
 use Rattle.pr_report.specs.TraceReadings.{and_then, entries_of, entry_on, is_later, lines, words}
-use Rattle.pr_report.proofs.SolidWords.{AreSolid, IsSolid, IsWord, bare, bytes_word, digits_word, line_back, spaced_none, spaced_word, words_back}
+use Rattle.pr_report.proofs.SolidWords.{AreSolid, IsWord, bare, bytes_word, digits_word, line_back, spaced_none, spaced_word, words_back}
 use Rattle.pr_report.proofs.WordsBack.{bytes_back, data_are_bytes, data_short, same_bytes, sense_back, status_back}
 use Rattle.pr_report.proofs.TraceNames.{AreNames, name_of_word, number_back}
 

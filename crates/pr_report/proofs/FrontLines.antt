@@ -180,7 +180,7 @@ onto_entry es e (Ok more) = ap (λ l. Ok l) (sym (append_assoc es (e ∷ []) mor
 onto_entry es e (Err f) = refl
 
 module _ (names : List (List ℕ)) (others : ℕ) (l : List ℕ) (ls : List (List ℕ)) where
-  entries_later : is_later l ≡ true → entries_of names others (l ∷ ls) ≡ and_then (later_lines others 0 (l ∷ ls)) (λ _. Ok [])
+  pub entries_later : is_later l ≡ true → entries_of names others (l ∷ ls) ≡ and_then (later_lines others 0 (l ∷ ls)) (λ _. Ok [])
   entries_later h = rw h refl
 
   entries_bad : (e : TraceError) → is_later l ≡ false → entry_on names (others + 1) l ≡ Err e → entries_of names others (l ∷ ls) ≡ Err e

@@ -13,3 +13,4 @@ pub mod SolidWords
 pub mod WordsBack
 pub mod TraceNames
 pub mod EntriesBack
+pub mod TracesBack

@@ -1,13 +1,13 @@
 -- The words of a trace: no byte of one is a space or a line feed, and none is long.
-use Rattle.std.proofs.Common.{◌≡◌, ℕ, zero, suc, ◌+◌, ◌*◌, ◌<◌, ◌≤◌, ◌/◌, ◌%◌, Bool, true, false, cond, List, [], ◌∷◌, ◌++◌, length, refl, sym, ap, ◌∙◌, arith, eqb, append_assoc, append-nil, length-append}
-use Rattle.std.specs.Prelude.{◌==◌, nat_lt, nat_le, codes, Option, Some, None}
-use Rattle.std.specs.Fmt.{decimal, digits, digits_onto, digit_glyph}
-use Rattle.std.specs.List.{All, flat_map, slice_split}
+use Rattle.std.proofs.Common.{◌≡◌, ℕ, zero, suc, ◌+◌, ◌*◌, ◌<◌, ◌≤◌, ◌/◌, ◌%◌, true, false, cond, List, [], ◌∷◌, ◌++◌, length, refl, sym, ap, ◌∙◌, arith, eqb, append_assoc, append-nil, length-append}
+use Rattle.std.specs.Prelude.{◌==◌}
+use Rattle.std.specs.Fmt.{digits, digits_onto, digit_glyph}
+use Rattle.std.specs.List.{All, slice_split}
 use Rattle.std.proofs.lemmas.Bool.{ne_eqb}
 use Rattle.std.proofs.lemmas.Bool.Decides.{nat_tests}
 use Rattle.std.proofs.lemmas.List.Elements.{All-cons, All-nil}
 use Rattle.std.proofs.lemmas.List.Splits.{slice_split_at, slice_split_none, length-slice_split}
-use Rattle.pr_report.specs.PrintedLines.{line, pair, pairs, pairs_or_dash, spaced}
+use Rattle.pr_report.specs.PrintedLines.{line, pairs, pairs_or_dash, spaced}
 use Rattle.pr_report.specs.TraceReadings.{lines, lines_of_parts, words}
 
 -- no byte is a space, or before it among the characters

@@ -1,6 +1,6 @@
 -- Words that were written are read back.
-use Rattle.std.proofs.Common.{◌≡◌, ℕ, zero, suc, ◌+◌, ◌*◌, ◌<◌, ◌≤◌, ◌/◌, ◌%◌, Bool, true, false, cond, List, [], ◌∷◌, ◌++◌, length, refl, sym, ap, ◌∙◌, arith, ◌-◌, inl, inr}
-use Rattle.std.specs.Prelude.{◌==◌, nat_lt, nat_le, ◌&&◌, codes, bytes_eq, slice_index, Option, Some, None}
+use Rattle.std.proofs.Common.{◌≡◌, ℕ, zero, suc, ◌+◌, ◌<◌, ◌≤◌, ◌/◌, ◌%◌, true, false, List, [], ◌∷◌, length, refl, ap, arith, inl, inr}
+use Rattle.std.specs.Prelude.{nat_le, codes, bytes_eq, slice_index, Option, Some, None}
 use Rattle.std.specs.Fmt.{digit_glyph}
 use Rattle.std.proofs.lemmas.Bool.{cases_lt, ne_eqb}
 use Rattle.std.proofs.lemmas.Bool.Decides.{nat_tests}
@@ -10,12 +10,10 @@ use Rattle.pr_cdb.specs.declared.reply.Status.{Status}
 use Rattle.pr_cdb.specs.declared.reply.Status.TheVariants.{Good, CheckCondition, Conflict}
 use Rattle.pr_cdb.specs.Requests.{AreBytes}
 use Rattle.pr_cdb.specs.ReplyData.{sense_bytes, sense_in}
-use Rattle.pr_report.specs.PrintedLines.{pair, pairs, pairs_or_dash}
+use Rattle.pr_report.specs.PrintedLines.{pairs, pairs_or_dash}
 use Rattle.pr_report.specs.TraceText.{sense_data, status_word}
 use Rattle.pr_report.specs.TraceLaws.{HasSense}
-use Rattle.pr_report.specs.Chain.{◌>>=◌}
-use Rattle.pr_report.specs.EntryWords.{byte_in, bytes_in, pairs_in, sense_of, sense_under, status_in, worth}
-use Rattle.pr_report.proofs.SolidWords.{pairs_length}
+use Rattle.pr_report.specs.EntryWords.{byte_in, bytes_in, pairs_in, sense_under, status_in, worth}
 use Rattle.pr_report.proofs.PairBytes.{bytes_all, bytes_dash}
 
 pub same_bytes : (w : List ℕ) → bytes_eq w w ≡ true

@@ -13,7 +13,7 @@ mod trace;
 mod trace_error;
 mod trace_reading;
 
-pub use laws::replays_are_traced;
+pub use laws::{replays_are_traced, written_traces_are_read};
 pub use output::{WriteFault, put};
 pub use printing::{Word, put_line, put_spaced};
 pub use trace::write_trace;
