@@ -1,4 +1,5 @@
 pub mod Adding
+pub mod Allowed
 pub mod Arriving
 pub mod Asked
 pub mod Beginning
@@ -24,13 +25,18 @@ pub mod Owner
 pub mod Permissions
 pub mod Places
 pub mod Placing
+pub mod Reached
 pub mod Reported
+pub mod Retyped
 pub mod Roles
 pub mod Rounds
 pub mod Shown
 pub mod Spelling
 pub mod Standings
+pub mod Subsets
 pub mod Unpending
 pub mod Viewed
 pub mod Walking
 pub mod Ways
+pub mod Within
+pub mod Written

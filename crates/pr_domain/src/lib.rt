@@ -15,12 +15,18 @@ mod onlooker;
 mod outcome;
 mod permitting;
 mod place;
+mod reaching;
 mod reporting;
+mod starting;
 mod tally;
 mod tallying;
+mod twins;
 
 pub use closing::close;
 pub use interference::interfere;
 pub use landing::{Class, Landing};
 pub use outcome::outcomes;
 pub use permitting::permitted;
+pub use pr_sets::{ListSet, ViewSet, WordSet};
+pub use pr_views::{View, ViewOf};
+pub use starting::of_start;

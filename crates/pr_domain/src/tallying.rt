@@ -14,8 +14,9 @@ ghost use Rattle.pr_script.specs.declared.script.Test.{Test as TestOf};
 ghost use Rattle.pr_views.specs.Possibilities.{Scope, count_of_reservations};
 ghost use Rattle.pr_views.specs.Portions.{view_in};
 ghost use Rattle.pr_regions.specs.Regions.{HasRoom};
+ghost use Rattle.pr_domain.specs.declared.tally.Tally.{Tally as TallyOf};
 ghost use Rattle.pr_domain.specs.inside.Gathering.{IsAt};
-ghost use Rattle.pr_domain.specs.inside.Tallies.{Grows, IsRight, AreRight, IsInOne, HasBoth, HasFirst, IsReserved, IsAsked, IsRefusedAt, IsOwners, IsOfScope, IsTally, IsRightReading, AreRightReadings, IsReadAt, IsReadFirst, way_of};
+ghost use Rattle.pr_domain.specs.inside.Tallies.{Grows, IsRight, AreRight, IsInOne, HasBoth, HasFirst, IsReserved, IsAsked, IsRefusedAt, IsOwners, IsOfScope, IsNothing, IsTally, IsRightReading, AreRightReadings, IsReadAt, IsReadFirst, way_of};
 
 use crate::arms::first_arm;
 use crate::changed::registrations_after;
@@ -305,6 +306,36 @@ fn add_place(
     }
 }
 
+// Adds the states under one reservation to those under all that come before it. Commands that read end alike under
+// reservations with the same holders.
+fn add_reservation(
+    tally: &mut Tally,
+    view: &Possibilities,
+    place: Place,
+    keys: &[u64],
+    command: Command,
+    tests: &[Test],
+)
+    requires hosts { (1 ≤ place.hosts) × (place.hosts ≤ 8) }
+    requires sender { place.sender < place.hosts }
+    requires reservation { place.reservation < count_of_reservations place.hosts }
+    requires held { IsTrue (is_reservation place.hosts place.held) }
+    requires keys { AreDeclared keys.now }
+    requires few_keys { length keys.now ≤ 12 }
+    requires written { IsTrue (is_written keys.now command) }
+    requires tests { All (λ t. test_fits keys.now command t ≡ true) tests.now }
+    requires few { length tests.now ≤ 16 }
+    ensures { (s : Scope) (none : TallyOf) → IsOwners s keys.now view.now place → IsNothing none → Grows (view_in s view.now) command tests.now none tally.old (IsReserved s place.reservation) → Grows (view_in s view.now) command tests.now none tally.new (IsReserved s (place.reservation + 1)) }
+{
+    if is_reading(command) {
+        if let Some(twin) = place.twin(view) {
+            tally.add_twin(twin, place.reservation);
+            return;
+        }
+    }
+    add_place(tally, view, place, keys, command, tests);
+}
+
 /// How the owner's command ends in each of the states that the view shows, and what is so then.
 pub(crate) fn tally(
     view: &Possibilities,
@@ -333,7 +364,7 @@ pub(crate) fn tally(
                 reservation,
                 held: reservation_at(hosts, reservation),
             };
-            add_place(&mut tally, view, place, keys, command, tests);
+            add_reservation(&mut tally, view, place, keys, command, tests);
         }
         reservation += 1;
     }

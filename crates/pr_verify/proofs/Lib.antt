@@ -1,4 +1,14 @@
+pub mod Leading
+pub mod Taking
+pub mod Spent
+pub mod Unnoticed
+pub mod Controls
+pub mod Kept
+pub mod Safe
+pub mod Going
+pub mod Examples
 pub mod Listed
+pub mod Waiting
 pub mod PlacesWritten
 pub mod PlacesLines
 pub mod Growth

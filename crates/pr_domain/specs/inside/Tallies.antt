@@ -1,6 +1,6 @@
 -- What is found of each way in which a command can end once nothing is pending for its sender, before the
 -- attentions of the owner are looked at.
-use Rattle.std.specs.Prelude.{◌≡◌, ◌≢◌, ◌⊎◌, ℕ, zero, suc, ◌+◌, ◌<◌, ◌≤◌, length, Bool, true, false, ◌==◌, ◌&&◌, ◌||◌, List, Option, Some, None, is_some}
+use Rattle.std.specs.Prelude.{◌≡◌, ◌⊎◌, ℕ, zero, suc, ◌<◌, ◌≤◌, length, Bool, true, false, List, Option, Some, None, is_some}
 use Rattle.std.specs.List.{slice_get, Contains}
 use Rattle.std.specs.Option.{option_map_or}
 use Rattle.pr_cdb.specs.declared.command.Command.{Command}
@@ -43,6 +43,10 @@ has_part p (Attentions q) = false
 
 abbrev pub tallied : Tally → ℕ → Item → Bool
 tallied t way i = option_map_or (λ p. has_part p i) (slice_get t.ways way) false
+
+-- the tally has nothing
+abbrev pub IsNothing : Tally → Type 0
+IsNothing t = (way : ℕ) (i : Item) → tallied t way i ≡ false
 
 -- GOOD is told apart by the arm that takes the data, if one does
 abbrev pub arm_of : ℕ → Option ℕ

@@ -1,0 +1,39 @@
+use Rattle.std.proofs.Common.{◌≡◌, ◌+◌, ◌≤◌, false, Ok, length, take, sym, ◌∙◌, subst}
+use Rattle.std.proofs.lemmas.Result.{err_from_is_err_and}
+use Rattle.pr_report.specs.TraceText.{names_of}
+use Rattle.pr_report.specs.TraceReadings.{entry_on, is_later}
+use Rattle.pr_report.specs.inside.LinesAhead.{held}
+use Rattle.pr_report.proofs.FrontLines.{entries_end, entries_fault, entries_fewer, entries_more, entries_stop, entry_few, one_longer}
+use Rattle.pr_report.proofs.trace_reading.read_entries.Given.{Over}
+use Rattle.pr_report.proofs.trace_reading.read_entries.Goals as goal
+use Rattle.pr_report.proofs.trace_reading.read_entries.Goals.{in-Some+then-is_later, in_default}
+
+-- the line in front is that of the next entry
+good : (g : Over) (c : goal.After-drop_line g) → entry_on (names_of c.args.nexuses.now) (length c.loop-entries.entries.items + 1) (take c.in-Some.end (held c.next_line.new.self)) ≡ Ok c.in_ok-entry.entry
+good g c = sym (rw (c.len.ensures, c.loop-entries.entries.ok.0, c.as_slice.ensures) at c.in_ok-entry.ensures)
+
+pub returns-in_err-entry-clause-fault : goal.returns-in_err-entry-clause-fault
+returns-in_err-entry-clause-fault g c =
+    let found = rw c.in-Some.is at c.in_ok-end.ensures.found in
+    let entry : is_later (take c.in-Some.end (held c.next_line.new.self)) ≡ false = rw c.as_slice.ensures at (sym c.is_later.ensures ∙ c.if-is_later.false) in
+    let p = err_from_is_err_and c.from_residual-in_err-entry.result c.from_residual-in_err-entry.ensures.1 in
+    let bad = sym (rw (c.len.ensures, c.loop-entries.entries.ok.0, c.as_slice.ensures) at c.in_err-entry.ensures) in
+    rw (p.1, p.2) (entries_fault (names_of c.args.nexuses.now) c.loop-entries.entries.items c.loop-entries.invariant.0 found c.in_err-entry.field-0.0 entry bad)
+
+pub loop-entries-smaller : goal.loop-entries-smaller
+loop-entries-smaller g c = entries_fewer (length c.loop-entries.entries.items) (length c.push.new.self.items) (entry_few _ _ _ _ (good g c)) (one_longer _ _ _ c.in_ok-push.ensures.items)
+
+pub loop-entries-preserved : goal.loop-entries-preserved
+loop-entries-preserved g c =
+    let found = rw c.in-Some.is at c.in_ok-end.ensures.found in
+    let entry : is_later (take c.in-Some.end (held c.next_line.new.self)) ≡ false = rw c.as_slice.ensures at (sym c.is_later.ensures ∙ c.if-is_later.false) in (
+      entries_more (names_of c.args.nexuses.now) c.loop-entries.entries.items c.loop-entries.invariant.0 found c.in_ok-entry.entry entry (good g c) c.drop_line.ensures c.in_ok-push.ensures.items,
+      subst (λ n. n ≤ 32768) (sym (one_longer _ _ _ c.in_ok-push.ensures.items)) (entry_few _ _ _ _ (good g c)),
+    )
+
+pub returns-clause-ok : goal.returns-clause-ok
+returns-clause-ok g c = elim c.match-branch-2.branch [
+  | in-Some+then-is_later w ↦
+      entries_stop (names_of c.args.nexuses.now) c.loop-entries.entries.items c.loop-entries.invariant.0 (rw w.in-Some.is at c.in_ok-end.ensures.found) (rw w.as_slice.ensures at (sym w.is_later.ensures ∙ w.if-is_later.true))
+  | in_default w ↦ entries_end (names_of c.args.nexuses.now) c.loop-entries.entries.items c.loop-entries.invariant.0 (rw w.in_default.is at c.in_ok-end.ensures.found)
+]
