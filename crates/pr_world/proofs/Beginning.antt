@@ -53,7 +53,7 @@ plans_from : (ns : List Nexus) → map (λ x. x.plan) (map (λ n. seat_from n.ta
 plans_from [] = refl
 plans_from (n ∷ ns) = ap (λ ps. plan_of n.task ∷ ps) (plans_from ns)
 
-free_from : (t : Task) → is_free (control_of t) ≡ is_planned t
+pub free_from : (t : Task) → is_free (control_of t) ≡ is_planned t
 free_from (Scripted script budget) = refl
 free_from (Planned commands) = refl
 

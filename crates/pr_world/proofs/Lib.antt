@@ -1,4 +1,10 @@
 pub mod Steps
+pub mod Fixed
+pub mod Judging
+pub mod Adding
+pub mod Admitting
+pub mod Histories
+pub mod Knowing
 pub mod Spelled
 pub mod Seats
 pub mod Happening

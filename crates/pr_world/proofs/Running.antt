@@ -22,7 +22,7 @@ scheduled_then : (s : Scenario) (x y z : Schedule) (hs : List ℕ) (h : ℕ) →
 scheduled_then s x y z [] h run turn = (z, subst (λ w. Turn s w h z) run turn, refl)
 scheduled_then s x y z (g ∷ hs) h run turn = (run.0, run.1, scheduled_then s run.0 y z hs h run.2 turn)
 
-run_then : (s : Scenario) (w v x : World) (es : List Event) (e : Event) → Run s w es v → Happens s v e x → Run s w (es ++ e ∷ []) x
+pub run_then : (s : Scenario) (w v x : World) (es : List Event) (e : Event) → Run s w es v → Happens s v e x → Run s w (es ++ e ∷ []) x
 run_then s w v x [] e run happens = (x, subst (λ u. Happens s u e x) run happens, refl)
 run_then s w v x (f ∷ fs) e run happens = (run.0, run.1, run_then s run.0 v x fs e run.2 happens)
 

@@ -92,7 +92,7 @@ turn_of_seats s u v xs es h e x y stands there at acts =
 
 -- ---- who is a guest stays one
 
-free_taken : (line : ℕ) (l : Configuration) (r : Reply) → is_free (taken line (Going l) r) ≡ false
+pub free_taken : (line : ℕ) (l : Configuration) (r : Reply) → is_free (taken line (Going l) r) ≡ false
 free_taken line l r = at (take l r)
   where
     at : (o : Option Configuration) → is_free (going_or_trapped line o) ≡ false
@@ -155,7 +155,7 @@ turned s u v ps es h e p q stands there at acts hosts =
 -- ---- the parts of a scenario
 
 -- the role of the nexus at this place
-role_at : (p : Parts) (h : ℕ) (n : NexusPart) → h < length (scenario_of p).nexuses → n ≡ get_or p.nexuses.items h n → n.role.clauses.items ≡ role (scenario_of p) h
+pub role_at : (p : Parts) (h : ℕ) (n : NexusPart) → h < length (scenario_of p).nexuses → n ≡ get_or p.nexuses.items h n → n.role.clauses.items ≡ role (scenario_of p) h
 unfolding scenario_of
 role_at p h n there is =
     let among : h < length p.nexuses.items = rw (← length-map p.nexuses.items nexus_of) there in

@@ -2,13 +2,17 @@
 #![tactic(auto)]
 
 mod act;
+mod auditing;
+mod auditor;
 mod course;
 mod end;
 mod laws;
 mod plan;
 mod player;
 mod replaying;
+mod sender;
 
+pub use auditing::{AuditError, audit};
 pub use end::End;
 pub use laws::{
     replays_are_legal, safe_replays_end_untrapped, safe_replays_keep_budgets,
