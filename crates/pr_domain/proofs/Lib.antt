@@ -25,6 +25,7 @@ pub mod Owner
 pub mod Permissions
 pub mod Places
 pub mod Placing
+pub mod Present
 pub mod Reached
 pub mod Reported
 pub mod Retyped

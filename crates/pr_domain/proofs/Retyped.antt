@@ -78,12 +78,12 @@ shown_retyped s view u w shown same fits possible = record {
 -- ---- a command that reads ends alike
 
 -- it ends GOOD and changes nothing
-record OnlyReads (s : Scope) (c : Command) (u : UnitState) : Type 0 where
-  free : command_conflicts u.registry s.own c ≡ false
-  whole : command_fault u.registry s.own c ≡ None
-  still : (effect u s.own c).registry ≡ u.registry
+pub record OnlyReads (s : Scope) (c : Command) (u : UnitState) : Type 0 where
+  pub free : command_conflicts u.registry s.own c ≡ false
+  pub whole : command_fault u.registry s.own c ≡ None
+  pub still : (effect u s.own c).registry ≡ u.registry
 
-only_reads : (s : Scope) (c : Command) (u : UnitState) → (is_read_keys c || is_read_reservation c) ≡ true → OnlyReads s c u
+pub only_reads : (s : Scope) (c : Command) (u : UnitState) → (is_read_keys c || is_read_reservation c) ≡ true → OnlyReads s c u
 only_reads s command.TestUnitReady u reads = absurd (false≢true reads)
 only_reads s command.RequestSense u reads = absurd (false≢true reads)
 only_reads s (command.Read lba blocks) u reads = absurd (false≢true reads)
@@ -98,6 +98,13 @@ only_reads s (command.Release rk kind) u reads = absurd (false≢true reads)
 only_reads s (command.Clear rk) u reads = absurd (false≢true reads)
 only_reads s (command.Preempt rk sark kind) u reads = absurd (false≢true reads)
 only_reads s (command.PreemptAbort rk sark kind) u reads = absurd (false≢true reads)
+
+-- what is left is what is there
+pub left_there : (s : Scope) (c : Command) (tests : List Test) → (is_read_keys c || is_read_reservation c) ≡ true → (u : UnitState) (way : ℕ) (i : Item) → Leaves s c tests way u i → IsRegistered s u i
+left_there s c tests reads u zero i leaves = leaves.1
+left_there s c tests reads u (suc zero) i leaves = leaves.1
+left_there s c tests reads u (suc (suc zero)) i leaves = leaves.2
+left_there s c tests reads u (suc (suc (suc n))) i leaves = still_registered s u (effect u s.own c) i (only_reads s c u reads).still leaves.3
 
 -- the key of the reservation that is read
 same_key : (keys : Keys) (v w : Option Held) → AreTwins v w → option_map (λ r. r.0) (reservation keys w) ≡ option_map (λ r. r.0) (reservation keys v)
@@ -136,13 +143,6 @@ module _ (s : Scope) (view : Possibilities) (c : Command) (tests : List Test) (r
       at (command.Clear rk) reads written fit = absurd (false≢true reads)
       at (command.Preempt rk sark kind) reads written fit = absurd (false≢true reads)
       at (command.PreemptAbort rk sark kind) reads written fit = absurd (false≢true reads)
-
-  -- what is left is what is there
-  left_there : (u : UnitState) (way : ℕ) (i : Item) → Leaves s c tests way u i → IsRegistered s u i
-  left_there u zero i leaves = leaves.1
-  left_there u (suc zero) i leaves = leaves.1
-  left_there u (suc (suc zero)) i leaves = leaves.2
-  left_there u (suc (suc (suc n))) i leaves = still_registered s u (effect u s.own c) i (only_reads s c u reads).still leaves.3
 
   -- it goes the same way, and leaves what is there
   leaves_alike : (u : UnitState) (w : Option Held) (way : ℕ) (i j : Item) → Shows (view_in s view) u → Shows (view_in s view) (retyped u w) → AreTwins u.registry.held w
@@ -209,15 +209,15 @@ module _ (s : Scope) (view : Possibilities) (c : Command) (tests : List Test) (r
       here u way (Registration g r) shown so leaves =
           let also = shown_twin u shown so in
           kept way (Registration g r) (grows.all (retyped u twin.twin) way (Registration g r) also (record { reservation = x; below = twin.below; reserved = is_other.number })
-          (leaves_alike u twin.twin way (Registration g r) (Registration g r) shown also (under_twin u shown so) leaves (left_there u way (Registration g r) leaves)))
+          (leaves_alike u twin.twin way (Registration g r) (Registration g r) shown also (under_twin u shown so) leaves (left_there s c tests reads u way (Registration g r) leaves)))
       here u way (Reservation y) shown so leaves =
           let also = shown_twin u shown so in
           let had = grows.all (retyped u twin.twin) way (Reservation x) also (record { reservation = x; below = twin.below; reserved = is_other.number })
           (leaves_alike u twin.twin way (Reservation y) (Reservation x) shown also (under_twin u shown so) leaves is_other.number) in
-          let same : y ≡ n = left_there u way (Reservation y) leaves ∙ sym so in
+          let same : y ≡ n = left_there s c tests reads u way (Reservation y) leaves ∙ sym so in
           joined way (Reservation y)
           ∙ or_right (tallied old way (Reservation y)) (y == n && tallied old way (Reservation x)) (and_from (y == n) (tallied old way (Reservation x)) (subst (λ z. (y == z) ≡ true) same (itself y)) had)
-      here u way (Attentions q) shown so leaves = absurd (left_there u way (Attentions q) leaves)
+      here u way (Attentions q) shown so leaves = absurd (left_there s c tests reads u way (Attentions q) leaves)
 
       all : (u : UnitState) (way : ℕ) (i : Item) → Shows (view_in s view) u → Leaves s c tests way u i → (among : IsReserved s (n + 1) u) → (among.reservation ≡ n) ⊎ (among.reservation ≡ n → ⊥) → tallied new way i ≡ true
       all u way i shown leaves among (inl same) = here u way i shown (subst (λ y. IsSo s u (Reservation y)) same among.reserved) leaves
@@ -244,7 +244,7 @@ module _ (s : Scope) (view : Possibilities) (c : Command) (tests : List Test) (r
       back way q (inl had) = absurd (false≢true (sym (nothing way (Reservation x)) ∙ had))
       back way q (inr found) =
           let u = found.unit in
-          let so : IsSo s u (Reservation x) = left_there u way (Reservation x) found.leaves in
+          let so : IsSo s u (Reservation x) = left_there s c tests reads u way (Reservation x) found.leaves in
           let also = shown_place u found.shown so in
           inr (record {
             unit = retyped u place.held;

@@ -13,7 +13,7 @@ ghost use Rattle.pr_domain.specs.inside.Reaching.{HasShown};
 ghost use Rattle.pr_domain.specs.inside.Clauses.{purpose_for, IsClause, StandingLeads, PlaceLeads, FirstLeads};
 
 use crate::clauses::{may_send, purpose_for, senders};
-use crate::closing::gains;
+use crate::comparing::gains;
 use crate::keeping::{count_of_reservations, kept};
 use crate::onlooker::Onlooker;
 use crate::place::Place;

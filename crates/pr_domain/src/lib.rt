@@ -8,6 +8,7 @@ mod changed;
 mod clauses;
 mod closing;
 mod collecting;
+mod comparing;
 mod interference;
 mod keeping;
 mod landing;

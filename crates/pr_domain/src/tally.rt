@@ -1,12 +1,13 @@
 //! What is found of each way in which a command can end.
 
-ghost use Rattle.std.specs.Prelude.{◌≡◌, ◌<◌, ℕ, false, ◌==◌, ◌&&◌, ◌||◌};
+ghost use Rattle.std.specs.Prelude.{◌≡◌, ◌<◌, ◌≤◌, ℕ, false, IsTrue, ◌==◌, ◌&&◌, ◌||◌};
 ghost use Rattle.pr_sets.specs.Numbers.{most};
 ghost use Rattle.pr_sets.specs.Words.{has};
 ghost use Rattle.pr_views.specs.Possibilities.{Item};
-ghost use Rattle.pr_domain.specs.inside.Tallies.{has_part, tallied};
+ghost use Rattle.pr_domain.specs.inside.Tallies.{has_part, tallied, HasFound};
 ghost use Rattle.pr_domain.specs.inside.Twins.{twinned};
 
+use crate::comparing::gains;
 use pr_views::Possibilities;
 
 /// For each way in which a command can end, what is so of the registrations and the reservation then: in a
@@ -34,6 +35,15 @@ impl Tally {
         let mut joined = self.ways[way];
         joined.join(found);
         self.ways[way] = joined;
+    }
+
+    /// Whether all that is found of this way, of so many hosts and guests, was added before.
+    pub(crate) fn has(&self, way: usize, hosts: u8, found: &Possibilities) -> bool
+        requires way { way < 20 }
+        requires hosts { hosts ≤ 8 }
+        ensures { IsTrue result → HasFound self.now way hosts found.now }
+    {
+        !gains(hosts, &self.ways[way], found)
     }
 
     /// Adds a reservation to each way that has this other one.
