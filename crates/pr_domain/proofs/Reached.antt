@@ -39,7 +39,7 @@ use Rattle.pr_domain.specs.declared.onlooker.Onlooker.{Onlooker}
 use Rattle.pr_domain.specs.declared.reach.Reach.{Reach}
 use Rattle.pr_domain.specs.inside.Interfering.{IsOnlooking, IsWatched, Allows, Adds, ClauseLeaves}
 use Rattle.pr_domain.specs.inside.Clauses.{purpose_for, holds_as, PlaceLeads, FirstLeads}
-use Rattle.pr_domain.specs.inside.Reaching.{IsTold, IsWithin, IsAtMost, IsReach, IsReachAt, IsWider, IsMost, HasShown}
+use Rattle.pr_domain.specs.inside.Reaching.{IsTold, IsWithin, IsAtMost, IsReach, IsReachAt, IsWider, MayAllGo, IsMost, HasShown}
 use Rattle.pr_domain.proofs.Following.{few_keys}
 use Rattle.pr_domain.proofs.Gathered.{same_reservation}
 use Rattle.pr_domain.proofs.Placing.{has_number}
@@ -142,7 +142,7 @@ module _ (s : Scope) (o : Onlooker) (place : Place) (clause : Clause) (reach : R
 
   pub preempt_key_reach : (key : ℕ) (t : Kind) → clause.action ≡ action.Preempt key t → key ≢ 0
       → (has_at o.view.registrations place.sender (number_in s.keys key) ≡ true → has reach.given 0 ≡ true)
-      → (is_held_by_all place.held ≡ true → has_at o.view.registrations place.sender (number_in s.keys key) ≡ true → has reach.reservations 0 ≡ true) → has reach.removed (number_in s.keys key) ≡ true
+      → (is_held_by_all place.held ≡ true → has_at o.view.registrations place.sender (number_in s.keys key) ≡ true → MayAllGo o.view place (number_in s.keys key) → has reach.reservations 0 ≡ true) → has reach.removed (number_in s.keys key) ≡ true
       → ((old : Kind) (g : ℕ) → place.held ≡ Some (One old g) → has_at o.view.registrations g (number_in s.keys key) ≡ true → has reach.reservations (number_of place.hosts (Some (established t place.sender))) ≡ true)
       → ((old : Kind) (g : ℕ) → place.held ≡ Some (One old g) → has_at o.view.registrations g (number_in s.keys key) ≡ true → is_kind old t ≡ false
       → (r : ℕ) → 1 ≤ r → r ≤ 12 → r ≢ number_in s.keys key → has reach.told_04 r ≡ true)
@@ -152,7 +152,7 @@ module _ (s : Scope) (o : Onlooker) (place : Place) (clause : Clause) (reach : R
       let named = known.named in
       within u w (Preempt j t) known
       (preempt_key_within s place.sender reach u few is.other j k seen.0 t once named.0 named.1 (nonzero s.keys j k is.known.fits.scope.keys.each named.1) seen.1.1 known.owned
-      (λ same. gives (mine same)) (λ all same. ends (ap is_held_by_all (sym held) ∙ all) (mine same)) removes
+      (λ same. gives (mine same)) (λ all same go. ends (ap is_held_by_all (sym held) ∙ all) (mine same) (may_go go)) removes
       (λ old g holds has. here (takes old g (sym held ∙ holds) (holder named.0 named.1 g has)))
       (λ old g holds has. released old g (sym held ∙ holds) (holder named.0 named.1 g has)) removed)
     where
@@ -179,6 +179,16 @@ module _ (s : Scope) (o : Onlooker) (place : Place) (clause : Clause) (reach : R
 
       mine : seen.0 ≡ j → has_at o.view.registrations place.sender j ≡ true
       mine same = subst (λ r. has_at o.view.registrations place.sender r ≡ true) same seen.1.0.1
+
+      -- what all others are they may be
+      may_go : ((g n : ℕ) → g ≢ place.sender → IsSo s u (Registration g n) → (n ≡ 0) ⊎ (n ≡ j)) → MayAllGo o.view place j
+      may_go go g below other =
+          let it = shown.registrations g (subst (λ n. g < n) (sym is.known.hosts) below) in
+          by it.0 it.1.0.1 (go g it.0 other it.1.1)
+        where
+          by : (n : ℕ) → has_at o.view.registrations g n ≡ true → (n ≡ 0) ⊎ (n ≡ j) → (has_at o.view.registrations g 0 || has_at o.view.registrations g j) ≡ true
+          by n has (inl free) = or_left (has_at o.view.registrations g 0) (has_at o.view.registrations g j) (subst (λ m. has_at o.view.registrations g m ≡ true) free has)
+          by n has (inr keyed) = or_right (has_at o.view.registrations g 0) (has_at o.view.registrations g j) (subst (λ m. has_at o.view.registrations g m ≡ true) keyed has)
 
       -- a holder with the key may have its number
       holder : j ≤ length s.keys → key_at s.keys j ≡ Some k → (g : ℕ) → key_of u.registry g ≡ Some k → has_at o.view.registrations g j ≡ true

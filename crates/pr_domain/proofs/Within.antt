@@ -23,7 +23,7 @@ use Rattle.pr_regions.proofs.Unique.{AreDistinct, same_number_at}
 use Rattle.pr_regions.proofs.Asking.{after_for, change_for}
 use Rattle.pr_regions.proofs.Acting.{Is, then_in}
 use Rattle.pr_regions.proofs.Telling.{is_pending_after, contains-told, contains-codes_told, told-lt, flags}
-use Rattle.pr_regions.proofs.Becoming.{Becomes, still, on_register, on_unregister, on_release, on_clear, is_key-number}
+use Rattle.pr_regions.proofs.Becoming.{Becomes, still, on_register, on_unregister, on_release, on_clear, is_key-number, is_registered-number}
 use Rattle.pr_regions.proofs.Preempted.{in_case, on_preempt_all, on_preempt_holder, on_preempt_key}
 use Rattle.pr_domain.specs.declared.reach.Reach.{Reach}
 use Rattle.pr_domain.specs.inside.Reaching.{IsTold, IsWithin}
@@ -255,9 +255,13 @@ module _ (s : Scope) (from : ℕ) (reach : Reach) (u : UnitState) where
         replaces (Some (One t g)) is = absurd (false≢true is)
         replaces (Some (All t)) is = refl
 
+    -- each but the sender is free or has the key j
+    abbrev AllGo : ℕ → Type 0
+    AllGo j = (g n : ℕ) → g ≢ from → IsSo s u (Registration g n) → (n ≡ 0) ⊎ (n ≡ j)
+
     -- whoever has the key j, which the sender may have itself, goes
     pub preempt_key_within : (j k r : ℕ) (t : Kind) → AreDistinct s.keys → j ≤ length s.keys → key_at s.keys j ≡ Some k → (k == 0) ≡ false → IsSo s u (Registration from r) → is_registered u.registry from ≡ true
-        → (r ≡ j → has reach.given 0 ≡ true) → (is_held_by_all u.registry.held ≡ true → r ≡ j → has reach.reservations 0 ≡ true) → has reach.removed j ≡ true
+        → (r ≡ j → has reach.given 0 ≡ true) → (is_held_by_all u.registry.held ≡ true → r ≡ j → AllGo j → has reach.reservations 0 ≡ true) → has reach.removed j ≡ true
         → ((old : Kind) (g : ℕ) → u.registry.held ≡ Some (One old g) → key_of u.registry g ≡ Some k → has reach.reservations (number_of s.hosts (Some (established t from))) ≡ true)
         → ((old : Kind) (g : ℕ) → u.registry.held ≡ Some (One old g) → key_of u.registry g ≡ Some k → is_kind old t ≡ false → (n : ℕ) → 1 ≤ n → n ≤ 12 → n ≢ j → has reach.told_04 n ≡ true)
         → has reach.told_05 j ≡ true
@@ -345,15 +349,37 @@ module _ (s : Scope) (from : ℕ) (reach : Reach) (u : UnitState) where
             by None is = absurd (false≢true (sym (ap is_some is) ∙ present))
             by (Some n) is = not_empty_from_some rest from n (get-without u.registry.keys (hosts_with u.registry.keys k) from ∙ ap (λ b. if b then None else map.get u.registry.keys from) kept ∙ is)
 
-        left_rest : (v : Option Held) → (is_held_by_all v ≡ true → r ≡ j → has reach.reservations 0 ≡ true) → (own ≡ true) ⊎ (own ≡ false) → (number_of s.hosts (held_by_rest rest v) ≡ number_of s.hosts v) ⊎ (has reach.reservations (number_of s.hosts (held_by_rest rest v)) ≡ true)
+        -- where nobody is left, all others were free or had the key
+        all_go : is_empty rest ≡ true → AllGo j
+        all_go empty g n other so = by (key_of u.registry g) refl (eqb_tells n j)
+          where
+            at : Is s.keys u.registry g n
+            at = record { known = so.1; key = so.2 }
+
+            free : registered n ≡ false → n ≡ 0
+            free is = zero_if n is
+              where
+                zero_if : (m : ℕ) → registered m ≡ false → m ≡ 0
+                zero_if zero is = refl
+                zero_if (suc i) is = let positive : registered (suc i) ≡ true = grind (arith, nat_tests) in absurd (false≢true (sym is ∙ positive))
+
+            by : (o : Option ℕ) → key_of u.registry g ≡ o → (((n == j) ≡ true) × (n ≡ j)) ⊎ (((n == j) ≡ false) × (n ≢ j)) → (n ≡ 0) ⊎ (n ≡ j)
+            by o is (inl same) = inr same.1
+            by None is (inr differs) = inl (free (sym (is_registered-number s.keys u.registry g n at) ∙ ap is_some is))
+            by (Some m) is (inr differs) =
+                let kept = contains-hosts_with u.registry.keys k g ∙ is_key-number s.keys u.registry g n j k once small named at ∙ differs.0 in
+                let there = get-without u.registry.keys (hosts_with u.registry.keys k) g ∙ ap (λ b. if b then None else map.get u.registry.keys g) kept ∙ is in
+                absurd (false≢true (sym (not_empty_from_some rest g m there) ∙ empty))
+
+        left_rest : (v : Option Held) → (is_held_by_all v ≡ true → r ≡ j → AllGo j → has reach.reservations 0 ≡ true) → (own ≡ true) ⊎ (own ≡ false) → (number_of s.hosts (held_by_rest rest v) ≡ number_of s.hosts v) ⊎ (has reach.reservations (number_of s.hosts (held_by_rest rest v)) ≡ true)
         left_rest None ends mine_or_not = inl refl
         left_rest (Some (One t g)) ends mine_or_not = inl refl
         left_rest (Some (All t)) ends (inr other) = inl (ap (λ b. number_of s.hosts (if b then None else Some (All t))) (stays other))
-        left_rest (Some (All t)) ends (inl same) = by (is_empty rest)
+        left_rest (Some (All t)) ends (inl same) = by (is_empty rest) refl
           where
-            by : (b : Bool) → (number_of s.hosts (if b then None else Some (All t)) ≡ number_of s.hosts (Some (All t))) ⊎ (has reach.reservations (number_of s.hosts (if b then None else Some (All t))) ≡ true)
-            by true = let is : r ≡ j = grind (arith, nat_tests) in inr (ends refl is)
-            by false = inl refl
+            by : (b : Bool) → is_empty rest ≡ b → (number_of s.hosts (if b then None else Some (All t)) ≡ number_of s.hosts (Some (All t))) ⊎ (has reach.reservations (number_of s.hosts (if b then None else Some (All t))) ≡ true)
+            by true empty = let is : r ≡ j = grind (arith, nat_tests) in inr (ends refl is (all_go empty))
+            by false some = inl refl
 
         gives : (b : Bool) → own ≡ b → (i : ℕ) → lost_if b ≡ Some i → has reach.given i ≡ true
         gives true same i is = let e : 0 ≡ i = cc in let equal : r ≡ j = grind (arith, nat_tests) in subst (λ n. has reach.given n ≡ true) e (mine equal)

@@ -12,7 +12,7 @@ ghost use Rattle.pr_views.specs.Portions.{has_at};
 ghost use Rattle.pr_regions.specs.Purposes.{number_in};
 ghost use Rattle.pr_domain.specs.inside.Clauses.{IsClause};
 ghost use Rattle.pr_domain.specs.inside.Interfering.{IsOnlooking, IsWatched};
-ghost use Rattle.pr_domain.specs.inside.Reaching.{IsReach, IsReachAt, IsMost, IsTold, number_named};
+ghost use Rattle.pr_domain.specs.inside.Reaching.{IsReach, IsReachAt, IsMost, IsTold, MayAllGo, number_named};
 
 use crate::changed::marked;
 use crate::clauses::{holds, number_in};
@@ -91,14 +91,15 @@ impl Onlooker {
         }
     }
 
-    // To preempt the key of this number: whoever has it goes, and the reservation of a holder that has it is replaced.
+    // To preempt the key of this number: whoever has it goes, the reservation of a holder that has it is replaced, and
+    // that of all registrants ends where nobody is left.
     fn reach_of_preempting(&self, place: &Place, key: u8, kind: Kind) -> Reach
         requires hosts { place.now.hosts ≤ 8 }
         requires sender { place.now.sender < place.now.hosts }
         requires held { IsTrue (is_reservation place.now.hosts place.now.held) }
         requires key { key ≤ 12 }
         ensures given { has_at self.now.view.registrations place.now.sender key ≡ true → has result.given 0 ≡ true }
-        ensures ended { is_held_by_all place.now.held ≡ true → has_at self.now.view.registrations place.now.sender key ≡ true → has result.reservations 0 ≡ true }
+        ensures ended { is_held_by_all place.now.held ≡ true → has_at self.now.view.registrations place.now.sender key ≡ true → MayAllGo self.now.view place.now key → has result.reservations 0 ≡ true }
         ensures removed { has result.removed key ≡ true }
         ensures replaced { (old : KindOf) (holder : ℕ) → place.now.held ≡ Some (One old holder) → has_at self.now.view.registrations holder key ≡ true → has result.reservations (number_of place.now.hosts (Some (established kind place.now.sender))) ≡ true }
         ensures told_04 { (old : KindOf) (holder : ℕ) → place.now.held ≡ Some (One old holder) → has_at self.now.view.registrations holder key ≡ true → is_kind old kind ≡ false → (r : ℕ) → 1 ≤ r → r ≤ 12 → r ≢ key → has result.told_04 r ≡ true }
@@ -118,12 +119,35 @@ impl Onlooker {
                 told_04: told_of_another(old, kind, key),
                 ..removing
             },
-            Some(Held::All(_)) => Reach {
-                reservations: none_if(is_own),
+            Some(Held::All(_)) if is_own => Reach {
+                reservations: none_if(self.may_all_go(place, key)),
                 ..removing
             },
             _ => removing,
         }
+    }
+
+    // Whether each but the sender may be free or have the key of this number.
+    fn may_all_go(&self, place: &Place, key: u8) -> bool
+        requires hosts { place.now.hosts ≤ 8 }
+        requires key { key ≤ 12 }
+        ensures { MayAllGo self.now.view place.now key → IsTrue result }
+    {
+        for host in 0..place.hosts {
+            if host != place.sender && !self.may_go(host, key) {
+                return false;
+            }
+        }
+        true
+    }
+
+    // Whether this one may.
+    fn may_go(&self, host: u8, key: u8) -> bool
+        requires host { host < 8 }
+        requires key { key ≤ 12 }
+        ensures { result ≡ (has_at self.now.view.registrations host 0 || has_at self.now.view.registrations host key) }
+    {
+        self.may_have(host, 0) || self.may_have(host, key)
     }
 
     // Whether a host or guest may have this registration.

@@ -1,5 +1,5 @@
 -- What a command of a clause can leave at most, beside what was so before it.
-use Rattle.std.specs.Prelude.{◌≡◌, ◌≢◌, ◌⊎◌, ℕ, ◌<◌, true, List, bit_or}
+use Rattle.std.specs.Prelude.{◌≡◌, ◌≢◌, ◌⊎◌, ◌||◌, ℕ, ◌<◌, true, List, bit_or}
 use Rattle.pr_unit.specs.UnitStates.{UnitState}
 use Rattle.pr_roles.specs.declared.role.Action.{Action}
 use Rattle.pr_roles.specs.declared.role.Action.TheVariants as action
@@ -8,7 +8,7 @@ use Rattle.pr_sets.specs.Words.{has}
 use Rattle.pr_views.specs.declared.possibilities.Possibilities.{Possibilities}
 use Rattle.pr_views.specs.Possibilities.{Scope, Item, Registration, Reservation, Attentions, IsSo}
 use Rattle.pr_views.specs.Views.{IsPossible, Shows}
-use Rattle.pr_views.specs.Portions.{view_in}
+use Rattle.pr_views.specs.Portions.{has_at, view_in}
 use Rattle.pr_regions.specs.Purposes.{number_in}
 use Rattle.pr_domain.specs.declared.place.Place.{Place}
 use Rattle.pr_domain.specs.declared.reach.Reach.{Reach}
@@ -48,6 +48,10 @@ pub record IsWider (narrow wide : Reach) : Type 0 where
   pub told_03 : (n : ℕ) → has narrow.told_03 n ≡ true → has wide.told_03 n ≡ true
   pub told_04 : (n : ℕ) → has narrow.told_04 n ≡ true → has wide.told_04 n ≡ true
   pub told_05 : (n : ℕ) → has narrow.told_05 n ≡ true → has wide.told_05 n ≡ true
+
+-- each but the sender may be free or have the key of this number
+abbrev pub MayAllGo : Possibilities → Place → ℕ → Type 0
+MayAllGo view place j = (g : ℕ) → g < place.hosts → g ≢ place.sender → (has_at view.registrations g 0 || has_at view.registrations g j) ≡ true
 
 -- the number of the key that an action registers or preempts
 abbrev pub number_named : List ℕ → Action → ℕ

@@ -7,7 +7,7 @@ use Rattle.pr_sets.specs.Words.{has}
 use Rattle.pr_views.specs.Possibilities.{number_of}
 use Rattle.pr_views.specs.Portions.{has_at}
 use Rattle.pr_regions.specs.Purposes.{number_in}
-use Rattle.pr_domain.specs.inside.Reaching.{number_named}
+use Rattle.pr_domain.specs.inside.Reaching.{MayAllGo, number_named}
 use Rattle.pr_domain.proofs.Reached.{register_reach, unregister_reach, reserve_reach, release_reach, clear_reach, preempt_all_reach, preempt_key_reach, forbidden_reach}
 use Rattle.pr_domain.proofs.onlooker.Onlooker.reach_at.Goals as goal
 
@@ -52,7 +52,7 @@ returns-else-key-eq0 c s is fits number =
     let same : c.args.number ≡ number_in s.keys key = sym number ∙ ap (number_named s.keys) c.in-Preempt.is in
     preempt_key_reach s o place c.args.clause.now reach is fits key kind c.in-Preempt.is c.if-key-eq0.false
     (subst (λ j. has_at o.view.registrations place.sender j ≡ true → has reach.given 0 ≡ true) same facts.given)
-    (subst (λ j. is_held_by_all place.held ≡ true → has_at o.view.registrations place.sender j ≡ true → has reach.reservations 0 ≡ true) same facts.ended)
+    (subst (λ j. is_held_by_all place.held ≡ true → has_at o.view.registrations place.sender j ≡ true → MayAllGo o.view place j → has reach.reservations 0 ≡ true) same facts.ended)
     (subst (λ j. has reach.removed j ≡ true) same facts.removed)
     (subst (λ j. (old : Kind) (g : ℕ) → place.held ≡ Some (One old g) → has_at o.view.registrations g j ≡ true → has reach.reservations (number_of place.hosts (Some (established kind place.sender))) ≡ true)
     same facts.replaced)
