@@ -72,9 +72,8 @@ impl View {
     /// Each may be registered with its own key or not, hold with type 5, and be preempted by any other.
     fn fenced(hosts: u64) -> Self {
         let held = bits(hosts) << (1 + hosts * 2);
-        // Told of nothing, of a reservation or of a registration that was preempted, or of both.
-        let pending = 1 | 1 << 4 | 1 << 8 | 1 << 12;
-        View::new(hosts, |host| 1 | own(host), 1 | held, pending)
+        // It is told of nothing, or that its registration was preempted.
+        View::new(hosts, |host| 1 | own(host), 1 | held, 1 | 1 << 8)
     }
 
     /// Nobody is registered.
