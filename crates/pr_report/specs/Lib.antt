@@ -6,6 +6,7 @@ pub mod TraceLines
 pub mod Traces
 pub mod Chain
 pub mod EntryWords
+pub mod BytesTaken
 pub mod TraceReadings
 pub mod TraceLaws
 pub mod inside
