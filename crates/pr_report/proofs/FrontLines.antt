@@ -197,7 +197,7 @@ no_entry names index l e h k = elim (nat_lt 32768 index) as (λ b. nat_lt 32768 
 ] refl
 
 -- an entry's line is not too long
-entry_short : (names : List (List ℕ)) (index : ℕ) (l : List ℕ) (e : Entry) → entry_on names index l ≡ Ok e → length l ≤ 1024
+pub entry_short : (names : List (List ℕ)) (index : ℕ) (l : List ℕ) (e : Entry) → entry_on names index l ≡ Ok e → length l ≤ 1024
 entry_short names index l e k = elim (cases_lt 1024 (length l)) [
   | inl h ↦ absurd (no_entry names index l e h k)
   | inr h ↦ h

@@ -15,3 +15,4 @@ pub mod WordsBack
 pub mod TraceNames
 pub mod EntriesBack
 pub mod TracesBack
+pub mod Taking

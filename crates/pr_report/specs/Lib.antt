@@ -7,6 +7,7 @@ pub mod Traces
 pub mod Verdicts
 pub mod Chain
 pub mod EntryWords
+pub mod BytesTaken
 pub mod TraceReadings
 pub mod TraceLaws
 pub mod inside

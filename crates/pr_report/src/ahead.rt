@@ -19,12 +19,13 @@ pub(crate) struct Ahead {
     // The bytes before this place were looked at.
     start: usize,
     ghost in_range: { start ≤ length bytes.items },
+    ghost few: { length bytes.items ≤ 8192 },
 }
 
 impl Ahead {
     ghost use Rattle.std.specs.Prelude.{◌≡◌, ◌+◌, ◌<◌, ◌≤◌, ◌++◌, [], length, drop, MatchBool, OnOk, IfErr, IfOk};
     ghost use Rattle.std.specs.Io.KnownBytes.{IsAtEnd, Keeps};
-    ghost use Rattle.pr_report.specs.inside.LinesAhead.{FindsLine, held, left, line_end};
+    ghost use Rattle.pr_report.specs.inside.LinesAhead.{FindsLine, Takes, held, left, line_end};
 
     pub(crate) fn new() -> Ahead
         ensures { held result ≡ [] }
@@ -45,6 +46,7 @@ impl Ahead {
     /// than a line may have; none where the reader has nothing left.
     pub(crate) fn next_line<R: Read>(&mut self, reader: &mut R) -> Result<Option<usize>, TraceError>
         ensures found { IfOk result (λ found. FindsLine (left self.old (R.remaining reader.old)) (held self.new) (R.remaining reader.new) found) }
+        ensures taken { Takes 0 (R.remaining reader.old) (R.remaining reader.new) (length (held self.old)) (length (held self.new)) }
         ensures fault { IfErr result (λ e. e ≡ TraceError.ReadFault) }
     {
         loop {
@@ -87,6 +89,7 @@ impl Ahead {
     fn read_more<R: Read>(&mut self, reader: &mut R) -> Result<bool, TraceError>
         requires { length (held self.old) ≤ 1024 }
         ensures kept { OnOk result (Keeps (left self.old (R.remaining reader.old)) (left self.new (R.remaining reader.new))) }
+        ensures taken { Takes 0 (R.remaining reader.old) (R.remaining reader.new) (length (held self.old)) (length (held self.new)) }
         ensures fault { IfErr result (λ e. e ≡ TraceError.ReadFault) }
         ensures grown { IfOk result (λ more. MatchBool more (length (held self.old) < length (held self.new)) ((held self.new ≡ held self.old) × IsAtEnd (R.remaining reader.new))) }
     {

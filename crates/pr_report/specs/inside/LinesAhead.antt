@@ -1,7 +1,7 @@
 -- Bytes that were read and not looked at yet, and the lines in them.
 use Rattle.std.specs.Prelude.{◌≡◌, ℕ, ◌+◌, ◌≤◌, ◌==◌, nat_lt, if◌then◌else◌, List, [], ◌∷◌, ◌++◌, length, take, drop, position, Option, Some, None, IfSome}
 use Rattle.std.specs.Option.{option_or}
-use Rattle.std.specs.Io.KnownBytes.{Keeps, prepend_known}
+use Rattle.std.specs.Io.KnownBytes.{Consumes, Keeps, prepend_known}
 use Rattle.pr_report.specs.declared.ahead.Ahead.{Ahead}
 use Rattle.pr_report.specs.TraceReadings.{lines}
 
@@ -11,6 +11,12 @@ held a = drop a.start a.bytes.items
 -- what is left, of which some was read
 abbrev pub left : Ahead → Option (List ℕ) → Option (List ℕ)
 left a known = prepend_known (held a) known
+
+-- The reader has lost some bytes. They are at hand, as those of before are, but for so many at most.
+pub record Takes (dropped : ℕ) (old new : Option (List ℕ)) (before after : ℕ) : Type 0 where
+  pub lost : List ℕ
+  pub taken : Consumes old new lost
+  pub counted : length lost + before ≤ after + dropped
 
 -- Of what is left, which is `held` and then `more`, the first n bytes are a line, or the front of one that is
 -- longer than a line may be.

@@ -1,9 +1,10 @@
-use Rattle.std.proofs.Common.{◌≡◌, ◌+◌, ◌≤◌, false, Ok, length, take, sym, ◌∙◌, subst}
+use Rattle.std.proofs.Common.{◌≡◌, ◌+◌, ◌*◌, ◌≤◌, false, Ok, length, take, length-take, sym, ◌∙◌, subst, arith}
 use Rattle.std.proofs.lemmas.Result.{err_from_is_err_and}
 use Rattle.pr_report.specs.TraceText.{names_of}
 use Rattle.pr_report.specs.TraceReadings.{entry_on, is_later}
 use Rattle.pr_report.specs.inside.LinesAhead.{held}
-use Rattle.pr_report.proofs.FrontLines.{entries_end, entries_fault, entries_fewer, entries_more, entries_stop, entry_few, one_longer}
+use Rattle.pr_report.proofs.FrontLines.{entries_end, entries_fault, entries_fewer, entries_more, entries_stop, entry_few, entry_short, one_longer}
+use Rattle.pr_report.proofs.Taking.{takes_both, takes_drop}
 use Rattle.pr_report.proofs.trace_reading.read_entries.Given.{Over}
 use Rattle.pr_report.proofs.trace_reading.read_entries.Goals as goal
 use Rattle.pr_report.proofs.trace_reading.read_entries.Goals.{in-Some+then-is_later, in_default}
@@ -26,10 +27,26 @@ loop-entries-smaller g c = entries_fewer (length c.loop-entries.entries.items) (
 pub loop-entries-preserved : goal.loop-entries-preserved
 loop-entries-preserved g c =
     let found = rw c.in-Some.is at c.in_ok-end.ensures.found in
-    let entry : is_later (take c.in-Some.end (held c.next_line.new.self)) ≡ false = rw c.as_slice.ensures at (sym c.is_later.ensures ∙ c.if-is_later.false) in (
+    let entry : is_later (take c.in-Some.end (held c.next_line.new.self)) ≡ false = rw c.as_slice.ensures at (sym c.is_later.ensures ∙ c.if-is_later.false) in
+    let longer = one_longer _ _ _ c.in_ok-push.ensures.items in
+    let taken = takes_both (1025 * length c.loop-entries.entries.items) c.loop-entries.invariant.2 c.in_ok-end.ensures.taken (omega arith) in
+    let short : c.in-Some.end ≤ 1024 = omega (arith, entry_short _ _ _ _ (good g c), length-take c.in-Some.end (held c.next_line.new.self), found.within) in (
       entries_more (names_of c.args.nexuses.now) c.loop-entries.entries.items c.loop-entries.invariant.0 found c.in_ok-entry.entry entry (good g c) c.drop_line.ensures c.in_ok-push.ensures.items,
-      subst (λ n. n ≤ 32768) (sym (one_longer _ _ _ c.in_ok-push.ensures.items)) (entry_few _ _ _ _ (good g c)),
+      subst (λ n. n ≤ 32768) (sym longer) (entry_few _ _ _ _ (good g c)),
+      takes_drop (held c.next_line.new.self) (held c.drop_line.new.self) (1025 * length c.push.new.self.items) (c.in-Some.end + 1) taken c.drop_line.ensures (omega (arith, longer, short)),
     )
+
+pub returns-in_err-end-clause-taken : goal.returns-in_err-end-clause-taken
+returns-in_err-end-clause-taken g c = takes_both 33587200 c.loop-entries.invariant.2 c.in_err-end.ensures.taken (omega arith)
+
+pub returns-in_err-entry-clause-taken : goal.returns-in_err-entry-clause-taken
+returns-in_err-entry-clause-taken g c = takes_both 33587200 c.loop-entries.invariant.2 c.in_ok-end.ensures.taken (omega arith)
+
+pub returns-in_err-push-clause-taken : goal.returns-in_err-push-clause-taken
+returns-in_err-push-clause-taken g c = takes_both 33587200 c.loop-entries.invariant.2 c.in_ok-end.ensures.taken (omega arith)
+
+pub returns-clause-taken : goal.returns-clause-taken
+returns-clause-taken g c = takes_both 33587200 c.loop-entries.invariant.2 c.in_ok-end.ensures.taken (omega arith)
 
 pub returns-clause-ok : goal.returns-clause-ok
 returns-clause-ok g c = elim c.match-branch-2.branch [
