@@ -27,8 +27,8 @@ use Rattle.pr_views.specs.Views.{View, Within, IsPossible}
 use Rattle.pr_views.specs.Portions.{view_in}
 use Rattle.pr_views.proofs.Numbering.{one_attentions}
 use Rattle.pr_views.proofs.Showing.{shown_within}
-use Rattle.pr_domain.specs.Outcomes.{IsPermittedIn}
-use Rattle.pr_domain.specs.inside.Permitting.{EndsGood, ArePermitted, scope_at}
+use Rattle.pr_domain.specs.Outcomes.{IsPermittedIn, IsRefusedIn}
+use Rattle.pr_domain.specs.inside.Permitting.{EndsGood, ArePermitted, IsOneRefused, scope_at}
 
 -- ---- nothing is pending
 
@@ -93,20 +93,37 @@ permitted_where_busy v role c looks busy u r w shown step good =
     let seen = shown.pending in
     absurd (false≢true (sym busy ∙ subst (λ q. v.pending q ≡ true) (one_attentions v.scope u seen.0 0 seen.1.1 ends.idle) seen.1.0))
 
-pub permitted_from_each : (v : View) (role : List Clause) (c : Command) → is_always_permitted c ≡ false
-    → ArePermitted v role c (λ u. Unit {0}) ↔ IsPermittedIn v role c
-permitted_from_each v role c looks = (
-  λ permitted u r w shown step good.
-      or_right (is_always_permitted c) _ (permitted u shown tt (good_ends v.scope u c r w shown.formed step good looks)),
-  λ permitted u shown among ends.
-      let step = good_step u v.scope.own c (idle_from_zero v.scope u ends.idle) ends.free ends.whole in
-      subst (λ b. IsTrue (b || list_any (λ clause. clause_permits clause u.registry v.scope.own c) role)) looks (permitted u _ _ shown step refl),
-)
+pub permitted_from_each : (v : View) (role : List Clause) (c : Command) → is_always_permitted c ≡ false → ArePermitted v role c (λ u. Unit {0}) → IsPermittedIn v role c
+permitted_from_each v role c looks permitted u r w shown step good =
+    or_right (is_always_permitted c) _ (permitted u shown tt (good_ends v.scope u c r w shown.formed step good looks))
+
+-- a state in which it ends GOOD, with the step
+pub refused_from_one : (v : View) (role : List Clause) (c : Command) → is_always_permitted c ≡ false → IsOneRefused v role c (λ u. Unit {0}) → IsRefusedIn v role c
+refused_from_one v role c looks one = record {
+  from = one.unit;
+  shown = one.shown;
+  reply = _;
+  after = _;
+  step = good_step one.unit v.scope.own c (idle_from_zero v.scope one.unit one.ends.idle) one.ends.free one.ends.whole;
+  good = refl;
+  refused = ap (λ b. b || list_any (λ clause. clause_permits clause one.unit.registry v.scope.own c) role) looks ∙ one.refused;
+}
 
 pub permitted_alike : (v w : View) (role : List Clause) (c : Command) → v.scope ≡ w.scope → Within w v → IsPermittedIn v role c → IsPermittedIn w role c
 permitted_alike v w role c same within permitted u r after shown step good =
     subst (λ s. IsTrue (command_permitted role u.registry s.own c)) same
     (permitted u r after (shown_within w v u (sym same) within shown) (subst (λ s. Step u s.own (Plain c) r after) (sym same) step) good)
+
+pub refused_alike : (v w : View) (role : List Clause) (c : Command) → v.scope ≡ w.scope → Within v w → IsRefusedIn v role c → IsRefusedIn w role c
+refused_alike v w role c same within one = record {
+  from = one.from;
+  shown = shown_within v w one.from same within one.shown;
+  reply = one.reply;
+  after = one.after;
+  step = subst (λ s. Step one.from s.own (Plain c) one.reply one.after) same one.step;
+  good = one.good;
+  refused = subst (λ s. command_permitted role one.from.registry s.own c ≡ false) same one.refused;
+}
 
 -- ---- the view that a value of the program is
 
@@ -116,17 +133,22 @@ module _ (own hosts : ℕ) (items : List ℕ) (p : Possibilities) (w : View) (ro
   permitted_of_busy there tells none =
       permitted_where_busy w role c looks (false_from_ne_true (w.pending 0) (λ is. false≢true (sym none ∙ tells ∙ (same (Attentions 0)).1 is)))
 
-  pub permitted_of_words : (keys : List ℕ) (clauses : List Clause) (result : Bool) → keys ≡ items → clauses ≡ role
-      → IsTrue result ↔ ArePermitted (view_in (scope_at keys hosts own) p) clauses c (λ u. Unit {0}) → IsTrue result ↔ IsPermittedIn w role c
-  permitted_of_words keys clauses result keyed listed decides =
-      (λ is. permitted_alike v w role c (sym scope) (λ i. (same i).1) (each.0 (here.0 is)), λ permitted. here.1 (each.1 (permitted_alike w v role c scope (λ i. (same i).0) permitted)))
+  pub permitted_of_words : (keys : List ℕ) (clauses : List Clause) → keys ≡ items → clauses ≡ role
+      → ArePermitted (view_in (scope_at keys hosts own) p) clauses c (λ u. Unit {0}) → IsPermittedIn w role c
+  permitted_of_words keys clauses keyed listed permitted =
+      permitted_alike v w role c (sym scope) (λ i. (same i).1)
+      (permitted_from_each v role c looks
+      (subst (λ l. ArePermitted v l c (λ u. Unit {0})) listed (subst (λ k. ArePermitted (view_in (scope_at k hosts own) p) clauses c (λ u. Unit {0})) keyed permitted)))
     where
       v : View
       v = view_in (scope_at items hosts own) p
 
-      each : ArePermitted (view_in (scope_at items hosts own) p) role c (λ u. Unit {0}) ↔ IsPermittedIn (view_in (scope_at items hosts own) p) role c
-      each = permitted_from_each v role c looks
-
-      here : IsTrue result ↔ ArePermitted (view_in (scope_at items hosts own) p) role c (λ u. Unit {0})
-      here = subst (λ l. IsTrue result ↔ ArePermitted (view_in (scope_at items hosts own) p) l c (λ u. Unit {0})) listed
-          (subst (λ k. IsTrue result ↔ ArePermitted (view_in (scope_at k hosts own) p) clauses c (λ u. Unit {0})) keyed decides)
+  pub refused_of_words : (keys : List ℕ) (clauses : List Clause) → keys ≡ items → clauses ≡ role
+      → IsOneRefused (view_in (scope_at keys hosts own) p) clauses c (λ u. Unit {0}) → IsRefusedIn w role c
+  refused_of_words keys clauses keyed listed one =
+      refused_alike v w role c (sym scope) (λ i. (same i).0)
+      (refused_from_one v role c looks
+      (subst (λ l. IsOneRefused v l c (λ u. Unit {0})) listed (subst (λ k. IsOneRefused (view_in (scope_at k hosts own) p) clauses c (λ u. Unit {0})) keyed one)))
+    where
+      v : View
+      v = view_in (scope_at items hosts own) p

@@ -37,7 +37,7 @@ use Rattle.pr_regions.specs.Regions.{AreBranches, standing_of, Ends, IsProper as
 use Rattle.pr_domain.specs.declared.place.Place.{Place}
 use Rattle.pr_domain.specs.inside.Gathering.{IsPlace, IsUniform, IsProper, IsAt, IsGathered}
 use Rattle.pr_domain.specs.inside.Tallies.{IsRight, IsInOne, HasFirst, HasBoth, IsReserved, IsAsked}
-use Rattle.pr_domain.specs.inside.Permitting.{EndsGood, ArePermitted, scope_at, IsAsking, holds_reservation, holds_at, permits_at, IsReached, IsOneReached}
+use Rattle.pr_domain.specs.inside.Permitting.{EndsGood, ArePermitted, scope_at, IsAsking, holds_reservation, holds_at, permits_at, IsReached, IsOneReached, IsOneRefused}
 use Rattle.pr_domain.proofs.Gathered.{few_keys, same_reservation}
 use Rattle.pr_domain.proofs.Growing.{listed_there}
 use Rattle.pr_domain.proofs.Asked.{only_uniform, asked_right, asked_covers, asked_back}
@@ -243,7 +243,8 @@ pub one_registration_permitted : (keys : List ℕ) (c : Command) (view : Possibi
     → standing ≡ standing_of purpose r → AreBranches place.hosts purpose place.held place.sender standing listed → All IsProperBranch listed → branches ≡ listed
     → (IsUniform w → All IsProperBranch branches → IsTrue reached ↔ IsOneReached (view_in (scope_at keys place.hosts place.sender) view) place w branches (length branches))
     → result ≡ (not reached || list_any (λ clause. permits_at clause c place r) clauses)
-    → IsTrue result ↔ ArePermitted (view_in (scope_at keys place.hosts place.sender) view) clauses c (HasBoth (scope_at keys place.hosts place.sender) place r)
+    → (IsTrue result → ArePermitted (view_in (scope_at keys place.hosts place.sender) view) clauses c (HasBoth (scope_at keys place.hosts place.sender) place r))
+    × (result ≡ false → IsOneRefused (view_in (scope_at keys place.hosts place.sender) view) clauses c (HasBoth (scope_at keys place.hosts place.sender) place r))
 one_registration_permitted keys c view place purpose r w branches listed clauses standing key refused reached result this asks keyed tells accepted only stands are proper same reaches says =
     at reached (reaches (only_uniform r w only) all) says
   where
@@ -262,19 +263,29 @@ one_registration_permitted keys c view place purpose r w branches listed clauses
 
     at : (b : Bool) → IsTrue b ↔ IsOneReached (view_in (scope_at keys place.hosts place.sender) view) place w branches (length branches)
         → result ≡ (not b || list_any (λ clause. permits_at clause c place r) clauses)
-        → IsTrue result ↔ ArePermitted (view_in (scope_at keys place.hosts place.sender) view) clauses c (HasBoth (scope_at keys place.hosts place.sender) place r)
+        → (IsTrue result → ArePermitted (view_in (scope_at keys place.hosts place.sender) view) clauses c (HasBoth (scope_at keys place.hosts place.sender) place r))
+        × (result ≡ false → IsOneRefused (view_in (scope_at keys place.hosts place.sender) view) clauses c (HasBoth (scope_at keys place.hosts place.sender) place r))
     at false reaches says = (
       λ is u shown both ends. absurd (false≢true (reaches.1 (reached_where_good keys c view place purpose r w branches this (sym asks) taken only right each u shown both ends))),
-      λ permitted. says,
+      λ denied. absurd (false≢true (sym denied ∙ says)),
     )
     at true reaches says = (
       λ is u shown both ends. by_numbers keys c view place r clauses u this shown both ∙ sym says ∙ is,
-      λ permitted.
+      λ denied.
           let good = good_where_reached keys c view place purpose r w branches this (sym asks) taken only right each (reaches.0 refl) in
-          says ∙ sym (by_numbers keys c view place r clauses good.unit this good.shown good.both) ∙ permitted good.unit good.shown good.both good.ends,
+          record {
+            unit = good.unit;
+            shown = good.shown;
+            among = good.both;
+            ends = good.ends;
+            refused = by_numbers keys c view place r clauses good.unit this good.shown good.both ∙ sym says ∙ denied;
+          },
     )
 
 -- ---- one registration after another, and one reservation after another
+
+pub refused_as : (v : View) (clauses : List Clause) (c : Command) (A B : UnitState → Type 0) → ((u : UnitState) → A u → B u) → IsOneRefused v clauses c A → IsOneRefused v clauses c B
+refused_as v clauses c A B from one = record { unit = one.unit; shown = one.shown; among = from one.unit one.among; ends = one.ends; refused = one.refused }
 
 pub permitted_as : (v : View) (clauses : List Clause) (c : Command) (A B : UnitState → Type 0) → ((u : UnitState) → Shows v u → B u → A u)
     → ArePermitted v clauses c A → ArePermitted v clauses c B

@@ -1,5 +1,5 @@
 -- What a host's own command may come to.
-use Rattle.std.specs.Prelude.{◌≡◌, true, IsTrue, List}
+use Rattle.std.specs.Prelude.{◌≡◌, true, false, IsTrue, List}
 use Rattle.std.specs.List.{Contains}
 use Rattle.pr_cdb.specs.declared.command.Command.{Command}
 use Rattle.pr_cdb.specs.declared.reply.Reply.{Reply}
@@ -49,3 +49,13 @@ abbrev pub IsPermittedIn : View → List Clause → Command → Type 0
 IsPermittedIn v role c =
     (u : UnitState) (r : Reply) (w : UnitState) → Shows v u → Step u v.scope.own (Plain c) r w → is_good r ≡ true
     → IsTrue (command_permitted role u.registry v.scope.own c)
+
+-- in some shown state the owner's command ends GOOD, and the role does not permit it
+pub record IsRefusedIn (v : View) (role : List Clause) (c : Command) : Type 0 where
+  pub from : UnitState
+  pub shown : Shows v from
+  pub reply : Reply
+  pub after : UnitState
+  pub step : Step from v.scope.own (Plain c) reply after
+  pub good : is_good reply ≡ true
+  pub refused : command_permitted role from.registry v.scope.own c ≡ false

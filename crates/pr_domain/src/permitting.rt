@@ -1,6 +1,6 @@
 //! Whether a role permits a command of its host in each state of the host's view in which the command ends GOOD.
 
-ghost use Rattle.std.specs.Prelude.{◌≡◌, ◌<◌, ◌≤◌, ◌↔◌, IsTrue, length, true};
+ghost use Rattle.std.specs.Prelude.{◌≡◌, ◌<◌, ◌≤◌, ◌↔◌, IsTrue, length, true, false};
 ghost use Rattle.std.specs.List.{list_any, All};
 ghost use Rattle.pr_script.specs.Grammar.{is_written};
 ghost use Rattle.pr_sets.specs.Words.{has};
@@ -9,10 +9,10 @@ ghost use Rattle.pr_views.specs.Possibilities.{Scope, Reservation, IsSo, key_at}
 ghost use Rattle.pr_views.specs.Portions.{view_in};
 ghost use Rattle.pr_views.specs.Rooms.{view_of, IsMade};
 ghost use Rattle.pr_regions.specs.Regions.{IsProper as IsProperBranch};
-ghost use Rattle.pr_domain.specs.Outcomes.{IsPermittedIn};
+ghost use Rattle.pr_domain.specs.Outcomes.{IsPermittedIn, IsRefusedIn};
 ghost use Rattle.pr_domain.specs.inside.Gathering.{IsPlace, IsUniform, IsProper};
 ghost use Rattle.pr_domain.specs.inside.Tallies.{HasBoth};
-ghost use Rattle.pr_domain.specs.inside.Permitting.{ArePermitted, scope_at, IsAsking, holds_reservation, holds_at, permits_at, IsReached, IsOneReached};
+ghost use Rattle.pr_domain.specs.inside.Permitting.{ArePermitted, IsOneRefused, scope_at, IsAsking, holds_reservation, holds_at, permits_at, IsReached, IsOneReached};
 
 use crate::place::Place;
 use pr_cdb::Command;
@@ -28,7 +28,8 @@ pub fn permitted<S: ViewSet>(view: &ViewOf<S>, role: &Role, host: u8, command: &
     requires made { IsMade S.room view.now }
     requires host { host < view.now.hosts }
     requires written { IsTrue (is_written view.now.keys.items command.now) }
-    ensures { IsTrue result ↔ IsPermittedIn (view_of S.members host view.now) role.now.clauses.items command.now }
+    ensures permitted { IsTrue result → IsPermittedIn (view_of S.members host view.now) role.now.clauses.items command.now }
+    ensures refused { result ≡ false → IsRefusedIn (view_of S.members host view.now) role.now.clauses.items command.now }
 {
     if only_looks(*command) {
         return true;
@@ -72,7 +73,8 @@ fn is_permitted_under_each(
     command: Command,
 ) -> bool
     requires asking { IsAsking keys.now hosts sender command view.now }
-    ensures { IsTrue result ↔ ArePermitted (view_in (scope_at keys.now hosts sender) view.now) clauses.now command (λ u. Unit {0}) }
+    ensures permitted { IsTrue result → ArePermitted (view_in (scope_at keys.now hosts sender) view.now) clauses.now command (λ u. Unit {0}) }
+    ensures refused { result ≡ false → IsOneRefused (view_in (scope_at keys.now hosts sender) view.now) clauses.now command (λ u. Unit {0}) }
 {
     let mut reservation = 0;
     while reservation < hosts * 4 + 3 {
@@ -103,7 +105,8 @@ fn is_permitted_at(
 ) -> bool
     requires asking { IsAsking keys.now place.hosts place.sender command view.now }
     requires place { IsPlace (scope_at keys.now place.hosts place.sender) view.now place }
-    ensures { IsTrue result ↔ ArePermitted (view_in (scope_at keys.now place.hosts place.sender) view.now) clauses.now command (λ u. IsSo (scope_at keys.now place.hosts place.sender) u (Reservation place.reservation)) }
+    ensures permitted { IsTrue result → ArePermitted (view_in (scope_at keys.now place.hosts place.sender) view.now) clauses.now command (λ u. IsSo (scope_at keys.now place.hosts place.sender) u (Reservation place.reservation)) }
+    ensures refused { result ≡ false → IsOneRefused (view_in (scope_at keys.now place.hosts place.sender) view.now) clauses.now command (λ u. IsSo (scope_at keys.now place.hosts place.sender) u (Reservation place.reservation)) }
 {
     let mut registration = 0;
     while registration < 13 {
@@ -127,7 +130,8 @@ fn is_permitted_with(
     requires asking { IsAsking keys.now place.hosts place.sender command view.now }
     requires place { IsPlace (scope_at keys.now place.hosts place.sender) view.now place }
     requires registration { registration ≤ 12 }
-    ensures { IsTrue result ↔ ArePermitted (view_in (scope_at keys.now place.hosts place.sender) view.now) clauses.now command (HasBoth (scope_at keys.now place.hosts place.sender) place registration) }
+    ensures permitted { IsTrue result → ArePermitted (view_in (scope_at keys.now place.hosts place.sender) view.now) clauses.now command (HasBoth (scope_at keys.now place.hosts place.sender) place registration) }
+    ensures refused { result ≡ false → IsOneRefused (view_in (scope_at keys.now place.hosts place.sender) view.now) clauses.now command (HasBoth (scope_at keys.now place.hosts place.sender) place registration) }
 {
     let possible = view.registrations[usize::from(place.sender)];
     if !possible.has(registration) {

@@ -36,6 +36,14 @@ ArePermitted v clauses c Among =
     (u : UnitState) → Shows v u → Among u → EndsGood v.scope c u
     → IsTrue (list_any (λ clause. clause_permits clause u.registry v.scope.own c) clauses)
 
+-- among these shown states there is one in which it ends GOOD and no clause permits it
+pub record IsOneRefused (v : View) (clauses : List Clause) (c : Command) (Among : UnitState → Type 0) : Type 0 where
+  pub unit : UnitState
+  pub shown : Shows v unit
+  pub among : Among unit
+  pub ends : EndsGood v.scope c unit
+  pub refused : list_any (λ clause. clause_permits clause unit.registry v.scope.own c) clauses ≡ false
+
 -- ---- who asks
 
 -- the sender is the owner

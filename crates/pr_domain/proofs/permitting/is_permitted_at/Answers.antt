@@ -1,15 +1,20 @@
-use Rattle.std.proofs.Common.{◌≡◌, refl, subst, arith}
+use Rattle.std.proofs.Common.{◌≡◌, subst, arith}
 use Rattle.pr_views.specs.Portions.{view_in}
-use Rattle.pr_domain.specs.inside.Tallies.{HasFirst}
+use Rattle.pr_views.specs.Possibilities.{Reservation, IsSo}
+use Rattle.pr_domain.specs.inside.Tallies.{HasFirst, HasBoth}
 use Rattle.pr_domain.specs.inside.Permitting.{ArePermitted, scope_at}
-use Rattle.pr_domain.proofs.Permissions.{each_registration}
+use Rattle.pr_domain.proofs.Permissions.{each_registration, refused_as}
 use Rattle.pr_domain.proofs.permitting.is_permitted_at.Goals as goal
 
-pub returns : goal.returns
-returns c =
+pub returns-then-not-is_permitted_with-clause-refused : goal.returns-then-not-is_permitted_with-clause-refused
+returns-then-not-is_permitted_with-clause-refused c denied =
     let s = scope_at c.args.keys.now c.args.place.hosts c.args.place.sender in
-    let all : c.loop-registration.registration ≡ 13 = (let e = c.loop-registration.invariant.1 in omega arith) in (
-      λ yes. each_registration c.args.keys.now c.args.command c.args.view.now c.args.place c.args.clauses.now (record { asking = c.requires.asking; is = c.requires.place })
-          (subst (λ n. ArePermitted (view_in s c.args.view.now) c.args.clauses.now c.args.command (HasFirst s c.args.place n)) all c.loop-registration.invariant.0),
-      λ permitted. refl,
-    )
+    refused_as (view_in s c.args.view.now) c.args.clauses.now c.args.command (HasBoth s c.args.place c.loop-registration.registration) (λ u. IsSo s u (Reservation c.args.place.reservation)) (λ u both. both.reserved)
+    (c.is_permitted_with.ensures.refused c.if-not-is_permitted_with.true)
+
+pub returns-clause-permitted : goal.returns-clause-permitted
+returns-clause-permitted c is =
+    let s = scope_at c.args.keys.now c.args.place.hosts c.args.place.sender in
+    let all : c.loop-registration.registration ≡ 13 = (let e = c.loop-registration.invariant.1 in omega arith) in
+    each_registration c.args.keys.now c.args.command c.args.view.now c.args.place c.args.clauses.now (record { asking = c.requires.asking; is = c.requires.place })
+    (subst (λ n. ArePermitted (view_in s c.args.view.now) c.args.clauses.now c.args.command (HasFirst s c.args.place n)) all c.loop-registration.invariant.0)
