@@ -1,6 +1,6 @@
 -- Outlines: what a host can know of the unit at each place of its script. A sound outline is an inductive invariant, and
 -- one that fits shows what safety asks of the host.
-use Rattle.std.specs.Prelude.{⊥, ◌≡◌, ◌≢◌, ◌×◌, ℕ, ◌<◌, ◌≤◌, ◌==◌, true, if◌then◌else◌, List, [], ◌∷◌, length, map, Option, Some, None, IsSome, IsTrue}
+use Rattle.std.specs.Prelude.{◌≡◌, ◌≢◌, ℕ, ◌<◌, ◌≤◌, ◌==◌, true, if◌then◌else◌, List, [], ◌∷◌, length, map, Option, Some, None, IsSome, IsTrue}
 use Rattle.std.specs.List.{Contains}
 use Rattle.pr_cdb.specs.declared.reply.Reply.{Reply}
 use Rattle.pr_cdb.specs.declared.wire.Request.TheVariants.{Plain}
