@@ -7,3 +7,4 @@ pub mod Kept
 pub mod Safe
 pub mod Going
 pub mod Examples
+pub mod Listed
