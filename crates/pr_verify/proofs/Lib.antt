@@ -8,3 +8,12 @@ pub mod Safe
 pub mod Going
 pub mod Examples
 pub mod Listed
+pub mod Leasts
+pub mod Missing
+pub mod Lookups
+pub mod Lacked
+pub mod Begun
+pub mod Mapped
+pub mod Rising
+pub mod Nexuses
+pub mod Disturbed

@@ -1,1 +1,5 @@
 pub mod Listing
+pub mod Least
+pub mod Lacking
+pub mod Reviewing
+pub mod Sizes

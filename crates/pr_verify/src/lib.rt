@@ -4,10 +4,13 @@
 mod checking;
 mod head;
 mod inferring;
+mod lacking;
 mod laws;
+mod others;
 mod outline;
 mod places;
 mod refusal;
+mod reviewing;
 mod verifying;
 
 pub use checking::check_outline;
