@@ -83,6 +83,13 @@ module _ {S : Type 0} (members : S → Numbers) (room : S → ℕ) where
   alike_before s o xs i v same made is =
       All-take (λ e. IsMade room e.1 × AreAlike v e.1) i xs (subst (All (λ e. IsMade room e.1 × AreAlike v e.1)) (sym same) (alike s o v made is.keys is.hosts))
 
+  -- views that are alike to one of the scenario are alike to each
+  pub each_alike : {X : Type 0} (s : Scenario) (o : OutlineOf S) (v : ViewOf S) (xs : List (X × ViewOf S)) → IsMadeFor room s o → IsMadeAs room s v → All (λ x. IsMade room x.1 × AreAlike v x.1) xs
+      → All (λ x. All (λ e. IsMade room e.1 × AreAlike x.1 e.1) o.views.items) xs
+  each_alike s o v xs made is =
+      All-weaker (λ x. IsMade room x.1 × AreAlike v x.1) (λ x. All (λ e. IsMade room e.1 × AreAlike x.1 e.1) o.views.items)
+      (λ x same. alike s o x.1 made (sym same.1.keys ∙ is.keys) (sym same.1.hosts ∙ is.hosts)) xs
+
   -- whose views they are does not matter
   pub any_own : (v w : ViewOf S) (own : ℕ) → Within (view_of members own v) (view_of members own w) → (other : ℕ) → Within (view_of members other v) (view_of members other w)
   any_own v w own within other (Registration g r) is = within (Registration g r) is

@@ -43,26 +43,28 @@ least-none (Some line) = refl
 
 -- ---- of the first elements
 
-module _ {X : Type 0} (P : X → ℕ → Type 0) (xs : List X) where
-  -- of one more element
-  among_there : (n : ℕ) (x : X) (line : ℕ) → n < length xs → x ≡ slice_index_or xs n x → Among n xs (λ e. P e line) ⊎ P x line → Among (n + 1) xs (λ e. P e line)
-  among_there n x line small read (inl before) =
+module _ {X : Type 0} (P : X → Type 0) (xs : List X) where
+  -- one more element
+  pub among_there : (n : ℕ) (x : X) → n < length xs → x ≡ slice_index_or xs n x → Among n xs P ⊎ P x → Among (n + 1) xs P
+  among_there n x small read (inl before) =
       record { element = before.element; place = before.place; below = (let e = before.below in let o : before.place < n + 1 = omega arith in o); there = before.there; is = before.is }
-  among_there n x line small read (inr here) = record { element = x; place = n; below = omega arith; there = sym read; is = here }
+  among_there n x small read (inr here) = record { element = x; place = n; below = omega arith; there = sym read; is = here }
 
-  among_back : (n : ℕ) (x : X) (line : ℕ) → n < length xs → x ≡ slice_index_or xs n x → Among (n + 1) xs (λ e. P e line) → Among n xs (λ e. P e line) ⊎ P x line
-  among_back n x line small read one = at (cases_eq one.place n)
+  pub among_back : (n : ℕ) (x : X) → n < length xs → x ≡ slice_index_or xs n x → Among (n + 1) xs P → Among n xs P ⊎ P x
+  among_back n x small read one = at (cases_eq one.place n)
     where
-      at : (one.place ≡ n) ⊎ (one.place ≡ n → ⊥) → Among n xs (λ e. P e line) ⊎ P x line
+      at : (one.place ≡ n) ⊎ (one.place ≡ n → ⊥) → Among n xs P ⊎ P x
       at (inl same) =
-          inr (subst (λ e. P e line) (sym (read ∙ ap (λ k. slice_index_or xs k x) (sym same) ∙ get_or_default xs one.place x one.element (let e = one.below in omega arith) ∙ one.there)) one.is)
+          inr (subst P (sym (read ∙ ap (λ k. slice_index_or xs k x) (sym same) ∙ get_or_default xs one.place x one.element (let e = one.below in omega arith) ∙ one.there)) one.is)
       at (inr other) =
           inl (record { element = one.element; place = one.place; below = (let e = one.below in let o : one.place < n = omega (arith, cases_order one.place n) in o); there = one.there; is = one.is })
 
+module _ {X : Type 0} (P : X → ℕ → Type 0) (xs : List X) where
   pub among_more : (n : ℕ) (x : X) (a b : Option ℕ) → n < length xs → x ≡ slice_index_or xs n x → IsLeast (λ line. Among n xs (λ e. P e line)) a → IsLeast (P x) b
       → IsLeast (λ line. Among (n + 1) xs (λ e. P e line)) (least a b)
   among_more n x a b small read before here =
-      least_as (λ line. Among n xs (λ e. P e line) ⊎ P x line) (λ line. Among (n + 1) xs (λ e. P e line)) (least a b) (λ line. among_there n x line small read) (λ line. among_back n x line small read)
+      least_as (λ line. Among n xs (λ e. P e line) ⊎ P x line) (λ line. Among (n + 1) xs (λ e. P e line)) (least a b)
+      (λ line. among_there (λ e. P e line) xs n x small read) (λ line. among_back (λ e. P e line) xs n x small read)
       (least_either (λ line. Among n xs (λ e. P e line)) (P x) a b before here)
 
   -- of one more of which it holds nowhere

@@ -14,6 +14,10 @@ pub mod Lookups
 pub mod Lacked
 pub mod Begun
 pub mod Mapped
+pub mod Classes
+pub mod Fitted
+pub mod Stepped
+pub mod Misfits
 pub mod Rising
 pub mod Nexuses
 pub mod Disturbed

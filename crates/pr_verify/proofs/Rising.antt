@@ -52,3 +52,20 @@ pub view_here : {A : Type 0} (f : A → View) (n : ℕ) (xs : List (ℕ × A)) (
     → view_at (entries f xs) (slice_index_or xs i d).0 ≡ Some (f (slice_index_or xs i d).1)
 view_here f n xs i d rise small =
     view_at_found f xs (slice_index_or xs i d).0 i d small (λ k e below is. let less = lines_rise (λ x. x.0) n xs k i e d rise below small in omega arith) refl
+
+-- of entries whose lines are those of other elements
+module _ {A X : Type 0} (line : X → ℕ) (xs : List (ℕ × A)) (ys : List X) (same : map (λ e. e.0) xs ≡ map line ys) where
+  pub as_many : length xs ≡ length ys
+  as_many = sym (length-map xs (λ e. e.0)) ∙ ap length same ∙ length-map ys line
+
+  pub same_line : (i : ℕ) (x : ℕ × A) (y : X) → i < length ys → x ≡ slice_index_or xs i x → y ≡ slice_index_or ys i y → x.0 ≡ line y
+  same_line i x y small read also =
+      ap (λ (e : ℕ × A). e.0) read ∙ sym (get_or-map (λ e. e.0) xs i x 0 (let many = as_many in omega arith)) ∙ ap (λ l. slice_index_or l i 0) same ∙ get_or-map line ys i y 0 small ∙ ap line (sym also)
+
+  -- the view at the line of an element is that of the entry at its place
+  pub view_at_same : (f : A → View) (n i : ℕ) (x : ℕ × A) (y : X) → rise_above n (map (λ e. e.0) xs) ≡ true → i < length ys → x ≡ slice_index_or xs i x → y ≡ slice_index_or ys i y
+      → view_at (entries f xs) (line y) ≡ Some (f x.1)
+  view_at_same f n i x y rise small read also =
+      let here = view_here f n xs i x rise (let many = as_many in omega arith) in
+      let at = subst (λ (e : ℕ × A). view_at (entries f xs) e.0 ≡ Some (f e.1)) (sym read) here in
+      subst (λ l. view_at (entries f xs) l ≡ Some (f x.1)) (same_line i x y small read also) at

@@ -12,6 +12,7 @@ ghost use Rattle.pr_verify.specs.Rooms.{outline_of, IsMadeFor};
 ghost use Rattle.pr_verify.specs.inside.Listing.{place_of, IsPlaceWritten};
 ghost use Rattle.pr_verify.specs.inside.Least.{IsLeast, Among};
 ghost use Rattle.pr_verify.specs.inside.Lacking.{lines_after, Lacks, LacksNext};
+ghost use Rattle.pr_verify.specs.inside.Sizes.{ViewFits};
 ghost use Rattle.pr_verify.specs.inside.Reviewing.{IsMadeAs, IsMisfit, IsFirstMisfit, IsFirstUnarmed, earlier};
 
 use crate::lacking::{first_lacking, least};
@@ -40,6 +41,7 @@ pub(crate) fn review<S: ViewSet>(
     outline: &OutlineOf<S>,
     spots: &[Spot],
 ) -> Result<Findings, AllocError>
+    requires fits { ViewFits S.row }
     requires host { outline.now.host < length (scenario_of scenario.now).nexuses }
     requires made { IsMadeFor S.room (scenario_of scenario.now) outline.now }
     requires written { All (λ p. IsPlaceWritten (scenario_of scenario.now).keys (place_of p)) spots.now }
@@ -48,18 +50,14 @@ pub(crate) fn review<S: ViewSet>(
     ensures lacking { IfOk result (λ review. IsLeast (λ line. Among (length spots.now) spots.now (λ p. Lacks (outline_of S.members outline.now) (ComesTo (outline_of S.members outline.now) (place_of p)) line)) review.lacking) }
     ensures misfit { IfOk result (λ review. IsFirstMisfit (scenario_of scenario.now) (outline_of S.members outline.now) (length spots.now) spots.now review.misfit) }
 {
-    let mut review = Findings {
-        lacking: None,
-        misfit: None,
-    };
+    let mut lacking = None;
+    let mut misfit = None;
     for (i, spot) in spots.iter().enumerate() {
         let here = review_spot(alloc, scenario, outline, &outline.views[i].1, spot)?;
-        review = Findings {
-            lacking: least(review.lacking, here.lacking),
-            misfit: review.misfit.or(here.misfit),
-        };
+        lacking = least(lacking, here.lacking);
+        misfit = misfit.or(here.misfit);
     }
-    Ok(review)
+    Ok(Findings { lacking, misfit })
 }
 
 // Of one send, by the view of its line.
@@ -141,7 +139,7 @@ fn misfit<S: ViewSet>(
 
 // Of the classes of replies without an arm, the first.
 fn first_unarmed<S: ViewSet>(outcomes: &[(Landing, ViewOf<S>)]) -> Option<Class>
-    ensures { IsFirstUnarmed (length outcomes.now) (map (λ o. o.0) outcomes.now) result }
+    ensures { IsFirstUnarmed (length outcomes.now) outcomes.now result }
 {
     let mut first = None;
     for (landing, _) in outcomes {

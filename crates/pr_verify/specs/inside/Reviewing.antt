@@ -52,18 +52,18 @@ IsFirstMisfit s o n spots (Some refusal) = HasMisfit s o n spots refusal
 
 -- ---- classes without an arm
 
--- one of the first n landings is of this class
-abbrev pub IsUnarmed : ℕ → List Landing → Class → Type 0
-IsUnarmed n landings class = Among n landings (λ l. l ≡ landing.NoArm class)
+-- one of the first n outcomes lands in no arm, with a reply of this class
+abbrev pub IsUnarmed : {S : Type 0} → ℕ → List (Landing × ViewOf S) → Class → Type 0
+IsUnarmed n outcomes class = Among n outcomes (λ o. o.0 ≡ landing.NoArm class)
 
-pub record IsFirstClass (n : ℕ) (landings : List Landing) (class : Class) : Type 0 where
-  pub is : IsUnarmed n landings class
-  pub first : (other : Class) → IsUnarmed n landings other → class_number class ≤ class_number other
+pub record IsFirstClass {S : Type 0} (n : ℕ) (outcomes : List (Landing × ViewOf S)) (class : Class) : Type 0 where
+  pub is : IsUnarmed n outcomes class
+  pub first : (other : Class) → IsUnarmed n outcomes other → class_number class ≤ class_number other
 
--- the first class by number that lands in no arm, if there is one
-abbrev pub IsFirstUnarmed : ℕ → List Landing → Option Class → Type 0
-IsFirstUnarmed n landings None = (class : Class) → IsUnarmed n landings class → ⊥
-IsFirstUnarmed n landings (Some class) = IsFirstClass n landings class
+-- the first class by number with which one lands in no arm, if there is one
+abbrev pub IsFirstUnarmed : {S : Type 0} → ℕ → List (Landing × ViewOf S) → Option Class → Type 0
+IsFirstUnarmed n outcomes None = (class : Class) → IsUnarmed n outcomes class → ⊥
+IsFirstUnarmed n outcomes (Some class) = IsFirstClass n outcomes class
 
 -- the one that comes first of two classes, where both are there
 abbrev pub earlier : Option Class → Class → Class
