@@ -1,23 +1,23 @@
 -- Starts that a view of the alternatives shows: with nothing pending for the others they are allowed.
-use Rattle.std.proofs.Common.{◌≡◌, ◌↔◌, ℕ, ◌<◌, ◌≤◌, true, ◌==◌, ◌&&◌, length, Option, Some, refl, sym, ap, ◌∙◌, subst, arith}
+use Rattle.std.proofs.Common.{◌≡◌, ℕ, ◌<◌, true, ◌==◌, ◌&&◌, Some, refl, sym, ap, ◌∙◌, subst, arith}
 use Rattle.std.specs.FinSet as set
 use Rattle.std.specs.List.{Contains}
 use Rattle.std.proofs.lemmas.Bool.{and_parts}
 use Rattle.std.proofs.lemmas.Bool.Decides.{nat_tests}
 use Rattle.pr_attention.specs.Flagged.{codes_of}
-use Rattle.pr_registry.specs.declared.held.Held.{Held}
 use Rattle.pr_unit.specs.Attentions.{of_host}
 use Rattle.pr_unit.specs.UnitStates.{UnitState, IsWellFormed, is_pending}
 use Rattle.pr_unit.proofs.Pairs.{contains-of_host}
 use Rattle.pr_roles.specs.Fitting.{is_reservation}
-use Rattle.pr_roles.specs.Scenarios.{Scenario, Nexus, nexus}
+use Rattle.pr_roles.specs.Scenarios.{Scenario, nexus}
 use Rattle.pr_sets.specs.Words.{has}
 use Rattle.pr_views.specs.declared.possibilities.Possibilities.{Possibilities}
-use Rattle.pr_views.specs.Possibilities.{Scope, Item, Attentions, IsSo, key_at, number_of, count_of_attentions}
+use Rattle.pr_views.specs.Possibilities.{Scope, Item, Attentions, IsSo}
 use Rattle.pr_views.specs.Views.{Shows}
-use Rattle.pr_views.specs.Portions.{has_at, view_in}
+use Rattle.pr_views.specs.Portions.{view_in}
 use Rattle.pr_views.proofs.Numbering.{reservation_of}
 use Rattle.pr_domain.specs.Interference.{StartsSo}
+use Rattle.pr_domain.specs.inside.Beginning.{AreAlternatives}
 use Rattle.pr_domain.proofs.Unpending.{IsLike, so_like}
 
 -- the same state, with nothing pending for any but the owner
@@ -50,14 +50,6 @@ formed_alone s u q so formed = record {
       let was = formed.pending s.own code (so.1 code ∙ parts.1) in
       (subst (λ n. n < u.registry.hosts) (sym parts.0) was.0, was.1);
 }
-
--- the possibilities are the written alternatives
-pub record AreAlternatives (sc : Scenario) (s : Scope) (p : Possibilities) : Type 0 where
-  pub hosts : s.hosts ≡ length sc.nexuses
-  pub there : (g : ℕ) (n : Nexus) → nexus sc g ≡ Some n → g < s.hosts
-  pub registrations : (g r : ℕ) (n : Nexus) → nexus sc g ≡ Some n → r ≤ length s.keys → (has_at p.registrations g r ≡ true) ↔ Contains n.start (key_at s.keys r)
-  pub reservations : (held : Option Held) → is_reservation s.hosts held ≡ true → (has p.reservations (number_of s.hosts held) ≡ true) ↔ Contains sc.reservations held
-  pub pending : (q : ℕ) (n : Nexus) → q < count_of_attentions → nexus sc s.own ≡ Some n → (has p.pending q ≡ true) ↔ ((code : ℕ) → set.contains (codes_of q) code ≡ true → set.contains n.pending code ≡ true)
 
 -- what is so in a shown state is so in an allowed start
 pub starts_so : (sc : Scenario) (s : Scope) (p : Possibilities) (u : UnitState) (i : Item) → AreAlternatives sc s p → Shows (view_in s p) u → IsSo s u i → StartsSo sc (view_in s p) i

@@ -1,4 +1,5 @@
 pub mod Adding
+pub mod Allowed
 pub mod Arriving
 pub mod Asked
 pub mod Beginning
@@ -30,7 +31,9 @@ pub mod Rounds
 pub mod Shown
 pub mod Spelling
 pub mod Standings
+pub mod Subsets
 pub mod Unpending
 pub mod Viewed
 pub mod Walking
 pub mod Ways
+pub mod Written

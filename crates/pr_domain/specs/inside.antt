@@ -1,3 +1,4 @@
+pub mod Beginning
 pub mod Clauses
 pub mod Closing
 pub mod Gathering

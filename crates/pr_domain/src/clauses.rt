@@ -33,8 +33,8 @@ pub(crate) fn purpose_for(action: Action, keys: &[u64], held: Option<Held>) -> O
     }
 }
 
-// The number of a declared key, from 1.
-fn number_in(keys: &[u64], key: u64) -> u8
+/// The number of a declared key, from 1.
+pub(crate) fn number_in(keys: &[u64], key: u64) -> u8
     requires { length keys.now ≤ 12 }
     ensures { result ≡ number_in keys.now key }
 {

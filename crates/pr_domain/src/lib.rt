@@ -16,6 +16,7 @@ mod outcome;
 mod permitting;
 mod place;
 mod reporting;
+mod starting;
 mod tally;
 mod tallying;
 
@@ -24,3 +25,4 @@ pub use interference::interfere;
 pub use landing::{Class, Landing};
 pub use outcome::outcomes;
 pub use permitting::permitted;
+pub use starting::of_start;

@@ -1,0 +1,152 @@
+//! The states that a scenario may start from.
+
+ghost use Rattle.std.specs.Prelude.{◌≡◌, ◌↔◌, ◌<◌, ◌≤◌, ℕ, true, length, IsTrue, IfOk};
+ghost use Rattle.std.specs.List.{list_all};
+ghost use Rattle.pr_attention.specs.Flagged.{codes_of};
+ghost use Rattle.pr_roles.specs.Fitting.{Fits as FitsAll, is_reservation};
+ghost use Rattle.pr_roles.specs.Scenarios.{scenario_of};
+ghost use Rattle.pr_sets.specs.Words.{has};
+ghost use Rattle.pr_views.specs.Views.{Fits};
+ghost use Rattle.pr_views.specs.Portions.{has_at, view_in};
+ghost use Rattle.pr_views.specs.Rooms.{view_of, IsMade, AreInRange};
+ghost use Rattle.pr_domain.specs.Interference.{IsOfStart};
+ghost use Rattle.pr_domain.specs.inside.Beginning.{AreAlternatives, AreAmong, stays, registration_in, has_alternative, may_have, has_reservation};
+ghost use Rattle.pr_domain.specs.inside.Closing.{scope_in};
+
+use crate::attentions::is_among;
+use crate::clauses::number_in;
+use crate::keeping::kept;
+use pr_attention::{Attention, Pending};
+use pr_regions::reservation_number;
+use pr_registry::Held;
+use pr_roles::{Nexus, Parts, Scenario};
+use pr_sets::{ViewSet, Word};
+use pr_views::{Possibilities, ViewOf};
+use std::alloc::{AllocError, Global};
+
+/// The view of the states that the scenario may start from: it shows each of them, and has nothing that is so in none.
+pub fn of_start<S: ViewSet>(
+    alloc: Global,
+    scenario: &Scenario,
+    own: u8,
+) -> Result<ViewOf<S>, AllocError>
+    requires own { own < length (scenario_of scenario.now).nexuses }
+    ensures made { IfOk result (IsMade S.room) }
+    ensures keys { IfOk result (λ v. v.keys.items ≡ (scenario_of scenario.now).keys) }
+    ensures hosts { IfOk result (λ v. v.hosts ≡ length (scenario_of scenario.now).nexuses) }
+    ensures start { IfOk result (λ v. IsOfStart (scenario_of scenario.now) (view_of S.members own v)) }
+{
+    let parts = scenario.parts();
+    let hosts = parts.nexuses.len() as u8;
+    let words = starts(hosts, own, parts);
+    ViewOf::of(alloc, &parts.keys, hosts, &words)
+}
+
+// What is so in some state that they may start from.
+fn starts(hosts: u8, own: u8, parts: &Parts) -> Possibilities
+    requires own { own < hosts }
+    requires nexuses { length parts.now.nexuses.items ≡ hosts }
+    requires parts { FitsAll (scenario_of parts.now) }
+    ensures range { AreInRange hosts parts.now.keys.items result }
+    ensures start { IsOfStart (scenario_of parts.now) (view_in (scope_in own hosts parts.now) result) }
+{
+    // With some of them no state is well formed, as where a holder has no key.
+    kept(hosts, &alternatives(hosts, own, parts))
+}
+
+// Everything that is written of the start.
+fn alternatives(hosts: u8, own: u8, parts: &Parts) -> Possibilities
+    requires own { own < hosts }
+    requires nexuses { length parts.now.nexuses.items ≡ hosts }
+    requires parts { FitsAll (scenario_of parts.now) }
+    ensures alternatives { AreAlternatives (scenario_of parts.now) (scope_in own hosts parts.now) result }
+    ensures fits { Fits (view_in (scope_in own hosts parts.now) result) }
+{
+    Possibilities {
+        registrations: registrations(&parts.keys, &parts.nexuses),
+        reservations: reservations(hosts, &parts.reservations),
+        pending: sets_within(&parts.nexuses[usize::from(own)].pending),
+    }
+}
+
+// The registrations with which each may start.
+fn registrations(keys: &[u64], nexuses: &[Nexus]) -> [Word; 8]
+    requires keys { length keys.now ≤ 12 }
+    requires nexuses { length nexuses.now ≤ 8 }
+    ensures { (g r : ℕ) → has_at result g r ≡ may_have keys.now nexuses.now g r }
+{
+    let mut words = [Word::none(); 8];
+    for (host, nexus) in nexuses.iter().enumerate() {
+        words[host] = registrations_of(keys, &nexus.start.alternatives);
+    }
+    words
+}
+
+// The numbers of these registrations.
+fn registrations_of(keys: &[u64], alternatives: &[Option<u64>]) -> Word
+    requires { length keys.now ≤ 12 }
+    ensures { (r : ℕ) → has result r ≡ has_alternative keys.now alternatives.now r }
+{
+    let mut numbers = Word::none();
+    for key in alternatives {
+        numbers = numbers.with(registration_in(keys, *key));
+    }
+    numbers
+}
+
+fn registration_in(keys: &[u64], key: Option<u64>) -> u8
+    requires { length keys.now ≤ 12 }
+    ensures number { result ≡ registration_in keys.now key }
+    ensures few { result ≤ 12 }
+{
+    match key {
+        Some(key) => number_in(keys, key),
+        None => 0,
+    }
+}
+
+// The numbers of these reservations.
+fn reservations(hosts: u8, reservations: &[Option<Held>]) -> Word
+    requires hosts { hosts ≤ 8 }
+    requires fit { IsTrue (list_all (is_reservation hosts) reservations.now) }
+    ensures { (x : ℕ) → has result x ≡ has_reservation hosts reservations.now x }
+{
+    let mut numbers = Word::none();
+    for held in reservations {
+        numbers = numbers.with(reservation_number(hosts, *held));
+    }
+    numbers
+}
+
+// The sets of attentions that are within the written one.
+fn sets_within(written: &Pending) -> Word
+    ensures few { (q : ℕ) → has result q ≡ true → q < 16 }
+    ensures within { (q : ℕ) → q < 16 → (has result q ≡ true) ↔ AreAmong (codes_of q) written.now }
+{
+    let mut sets = Word::none();
+    for attentions in 0..16 {
+        if is_within(attentions, written) {
+            sets = sets.with(attentions);
+        }
+    }
+    sets
+}
+
+// Whether each of these attentions is a written one.
+fn is_within(attentions: u8, written: &Pending) -> bool
+    ensures { IsTrue result ↔ AreAmong (codes_of attentions) written.now }
+{
+    for attention in Attention::ALL {
+        if !stays(attention, attentions, written) {
+            return false;
+        }
+    }
+    true
+}
+
+// Whether the attention is a written one, if it is one of these.
+fn stays(attention: Attention, attentions: u8, written: &Pending) -> bool
+    ensures { result ≡ stays attentions written.now attention }
+{
+    !is_among(attention, attentions) || written.has(attention)
+}
