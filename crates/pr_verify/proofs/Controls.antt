@@ -1,6 +1,6 @@
 -- What the hosts and guests do at the beginning, and after a command of one of them.
-use Rattle.std.proofs.Common.{◌≡◌, ◌≢◌, ℕ, zero, suc, List, [], ◌∷◌, Option, Some, None, refl, sym, ap, ◌∙◌}
-use Rattle.std.specs.Prelude.{map, option_map, slice_set}
+use Rattle.std.proofs.Common.{◌≡◌, ◌≢◌, ℕ, zero, suc, List, [], ◌∷◌, Option, Some, None, refl, ap, ◌∙◌}
+use Rattle.std.specs.Prelude.{option_map, slice_set}
 use Rattle.std.specs.List.{slice_get}
 use Rattle.std.specs.Option.{option_map_or}
 use Rattle.std.proofs.lemmas.Option.{slice_get-map}
@@ -9,7 +9,7 @@ use Rattle.pr_cdb.specs.declared.wire.Wire.{Wire}
 use Rattle.pr_unit.specs.UnitStates.{UnitState}
 use Rattle.pr_script.specs.Scripts.{Configuration}
 use Rattle.pr_roles.specs.Scenarios.{Scenario, Nexus, nexus, task}
-use Rattle.pr_roles.specs.Worlds.{World, Control, Going, Trapped, Free, taken, control, control_of, after, world_from}
+use Rattle.pr_roles.specs.Worlds.{World, Control, Going, Free, taken, control, control_of, after, world_from}
 
 -- one that is not there does nothing
 pub nobody_at_start : (s : Scenario) (u : UnitState) (h : ℕ) → task s h ≡ None → control (world_from s u) h ≡ Free

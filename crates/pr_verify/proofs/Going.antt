@@ -1,6 +1,5 @@
 -- A run and one event more.
-use Rattle.std.proofs.Common.{◌≡◌, ℕ, List, [], ◌∷◌, ◌++◌, refl, sym, subst}
-use Rattle.pr_unit.specs.UnitStates.{UnitState}
+use Rattle.std.proofs.Common.{List, [], ◌∷◌, ◌++◌, refl, subst}
 use Rattle.pr_roles.specs.Scenarios.{Scenario}
 use Rattle.pr_roles.specs.Worlds.{World, Event, Host, Happens, Run, world_from}
 use Rattle.pr_roles.specs.Safety.{IsSafe, KeepsRole, KeepsRoles}

@@ -1,7 +1,7 @@
 -- What every event keeps: each script stands at places of its outline, whose views show the unit, and what it sent and may
 -- still send is within its cost.
-use Rattle.std.proofs.Common.{◌≡◌, ◌≢◌, ℕ, ◌+◌, ◌<◌, ◌≤◌, ◌==◌, Bool, true, false, IsTrue, List, [], ◌∷◌, length, Option, Some, None, refl, sym, ap, ◌∙◌, subst, inl, inr, ◌⊎◌, arith}
-use Rattle.std.specs.Prelude.{Ok, IsSome}
+use Rattle.std.proofs.Common.{◌≡◌, ◌≢◌, ℕ, ◌<◌, ◌==◌, true, false, IsTrue, List, [], ◌∷◌, length, Option, Some, None, refl, sym, ap, ◌∙◌, subst, inl, inr, ◌⊎◌, arith}
+use Rattle.std.specs.Prelude.{IsSome}
 use Rattle.std.specs.List.{Contains}
 use Rattle.std.proofs.lemmas.Bool.{false≢true}
 use Rattle.std.proofs.lemmas.Bool.Decides.{eqb_tells}
@@ -16,14 +16,14 @@ use Rattle.pr_cdb.proofs.ReadsInRange.{reads_fit}
 use Rattle.pr_unit.specs.UnitStates.{UnitState}
 use Rattle.pr_unit.specs.Replies.{is_good}
 use Rattle.pr_unit.specs.Steps.{Step}
-use Rattle.pr_script.specs.Scripts.{Stmts, Configuration, standing, ready, begun}
+use Rattle.pr_script.specs.Scripts.{Stmts, Configuration, ready, begun}
 use Rattle.pr_script.specs.Takes.{take}
 use Rattle.pr_script.specs.Costs.{cost_of_all}
 use Rattle.pr_script.proofs.Spending.{cost_bounds_sends}
 use Rattle.pr_roles.specs.Permits.{command_permitted}
 use Rattle.pr_roles.specs.Scenarios.{Scenario, Task, Scripted, Planned, role, task}
 use Rattle.pr_roles.specs.Starts.{IsAllowedStart}
-use Rattle.pr_roles.specs.Worlds.{World, Control, Going, Free, Event, Host, Guest, HostSends, GuestSends, Happens, Run, after, control, going_or_trapped, is_guest_task, sent, standing_of, taken, world_from}
+use Rattle.pr_roles.specs.Worlds.{World, Going, Free, Event, Host, Guest, HostSends, GuestSends, Happens, Run, after, control, going_or_trapped, is_guest_task, sent, standing_of, taken, world_from}
 use Rattle.pr_roles.specs.Safety.{KeepsRole, KeepsRoles}
 use Rattle.pr_roles.proofs.Controls.{there, at_start as begins}
 use Rattle.pr_domain.specs.Interference.{IsDone}

@@ -21,3 +21,4 @@ pub mod Misfits
 pub mod Rising
 pub mod Nexuses
 pub mod Disturbed
+pub mod Waiting

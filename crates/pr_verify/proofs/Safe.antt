@@ -1,5 +1,5 @@
 -- Outlines make a scenario safe.
-use Rattle.std.proofs.Common.{◌≡◌, ℕ, ◌≤◌, [], Option, Some, None, false, ap, arith}
+use Rattle.std.proofs.Common.{◌≡◌, ℕ, [], Option, Some, None, false, ap, arith}
 use Rattle.pr_roles.specs.Scenarios.{Scenario, Task, Scripted, Planned, task}
 use Rattle.pr_roles.specs.Worlds.{World, control, is_trapped, world_from}
 use Rattle.pr_roles.specs.Safety.{IsSafe, KeepsBudgetBy}

@@ -1,9 +1,7 @@
 -- A script that is ready stands at one of its places, and a reply leads from there to the lines of the arm that takes it.
-use Rattle.std.proofs.Common.{◌≡◌, ℕ, zero, suc, ◌<◌, Bool, true, false, if◌then◌else◌, List, [], ◌∷◌, Option, Some, None, get_or, refl, sym, ap, ◌∙◌, subst, arith}
+use Rattle.std.proofs.Common.{◌≡◌, ℕ, zero, suc, ◌<◌, true, false, if◌then◌else◌, List, [], ◌∷◌, Option, Some, None, get_or, refl, sym, subst, arith}
 use Rattle.std.specs.Prelude.{codes, option_map}
 use Rattle.std.specs.List.{Contains, slice_get}
-use Rattle.std.specs.Option.{option_and_then}
-use Rattle.std.proofs.lemmas.Bool.{false≢true}
 use Rattle.std.proofs.lemmas.List.Elements.{Contains-append_left, Contains-append_right}
 use Rattle.std.proofs.lemmas.List.Quantifiers.{position-Some}
 use Rattle.std.proofs.lemmas.Option.{none-some, option_and_then_some, same_Some}
@@ -11,10 +9,10 @@ use Rattle.pr_cdb.specs.declared.command.Command.{Command}
 use Rattle.pr_cdb.specs.declared.reply.Reply.{Reply}
 use Rattle.pr_script.specs.declared.script.Test.{Test}
 use Rattle.pr_script.specs.declared.script.Test.TheVariants as test
-use Rattle.pr_script.specs.Scripts.{Stmts, Arms, sends, repeats, breaks, stops, no_arm, arm, statement, mark, Configuration, Standing, ready, stopped, before, settled, standing}
+use Rattle.pr_script.specs.Scripts.{Stmts, Arms, sends, repeats, breaks, stops, no_arm, arm, statement, mark, Configuration, ready, stopped, before, settled, standing}
 use Rattle.pr_script.specs.Takes.{matches, first_match, take}
 use Rattle.pr_script.specs.Costs.{commands}
-use Rattle.pr_verify.specs.Places.{Place, first_of, tests_of, next_of, place, places_in, places, places_of_arms, follows}
+use Rattle.pr_verify.specs.Places.{Place, first_of, tests_of, next_of, place, places, places_of_arms, follows}
 use Rattle.pr_verify.proofs.Leading.{IsWithin, here, Goes, Leads, goes_before, leads_settled}
 
 -- there is something still to do, and it leads to these lines
