@@ -12,7 +12,7 @@ use Rattle.pr_views.specs.Possibilities.{Scope, Registration, Reservation, Atten
 use Rattle.pr_views.specs.Views.{View, Fits, Within}
 use Rattle.pr_views.specs.Rooms.{scope_of, view_of, IsMade, AreAlike}
 use Rattle.pr_domain.specs.Interference.{IsOfStart}
-use Rattle.pr_verify.specs.declared.outline.OutlineOf.{OutlineOf}
+use Rattle.pr_verify.specs.declared.outline.OutlineBy.{OutlineBy}
 use Rattle.pr_verify.specs.Places.{first_lines}
 use Rattle.pr_verify.specs.Outlines.{Outline, view_at, StartsAt}
 use Rattle.pr_verify.specs.Rooms.{outline_of, IsMadeFor}
@@ -53,18 +53,18 @@ module _ {S : Type 0} (members : S → Numbers) (room : S → ℕ) where
           ap (λ (w : View). w.scope) (sym e) ∙ scope_same s own x.1 made.1 made.2
       at false other there rest = rest there
 
-  pub scoped : (s : Scenario) (o : OutlineOf S) → IsMadeFor room s o → AreScoped (outline_of members o) (scope_in s o.host)
+  pub scoped : (s : Scenario) (o : OutlineBy (ViewOf S)) → IsMadeFor room s o → AreScoped (outline_of members o) (scope_in s o.host)
   scoped s o made = scoped_in s o.host o.views.items made
 
   -- a view of the scenario is alike to each
-  pub alike : (s : Scenario) (o : OutlineOf S) (v : ViewOf S) → IsMadeFor room s o → v.keys.items ≡ s.keys → v.hosts ≡ length s.nexuses
+  pub alike : (s : Scenario) (o : OutlineBy (ViewOf S)) (v : ViewOf S) → IsMadeFor room s o → v.keys.items ≡ s.keys → v.hosts ≡ length s.nexuses
       → All (λ e. IsMade room e.1 × AreAlike v e.1) o.views.items
   alike s o v made keys hosts =
       All-weaker (λ e. IsMade room e.1 × (e.1.keys.items ≡ s.keys) × (e.1.hosts ≡ length s.nexuses)) (λ e. IsMade room e.1 × AreAlike v e.1)
       (λ e is. (is.0, record { keys = keys ∙ sym is.1; hosts = hosts ∙ sym is.2 })) o.views.items made
 
   -- an entry that is read
-  pub entry_made : (s : Scenario) (o : OutlineOf S) (xs : List (ℕ × ViewOf S)) (i : ℕ) (x : ℕ × ViewOf S) → xs ≡ o.views.items → IsMadeFor room s o → i < length xs → x ≡ slice_index_or xs i x
+  pub entry_made : (s : Scenario) (o : OutlineBy (ViewOf S)) (xs : List (ℕ × ViewOf S)) (i : ℕ) (x : ℕ × ViewOf S) → xs ≡ o.views.items → IsMadeFor room s o → i < length xs → x ≡ slice_index_or xs i x
       → IsMadeAs room s x.1
   entry_made s o xs i x same made small read =
       let at = subst (λ (e : ℕ × ViewOf S). IsMade room e.1 × (e.1.keys.items ≡ s.keys) × (e.1.hosts ≡ length s.nexuses)) (ap (λ ys. slice_index_or ys i x) (sym same) ∙ sym read)
@@ -72,19 +72,19 @@ module _ {S : Type 0} (members : S → Numbers) (room : S → ℕ) where
       record { made = at.0; keys = at.1; hosts = at.2 }
 
   -- the scope of a listed one
-  pub listed_scope : (s : Scenario) (o : OutlineOf S) (x : ℕ × ViewOf S) → IsMadeFor room s o → Contains o.views.items x → scope_of o.host x.1 ≡ scope_in s o.host
+  pub listed_scope : (s : Scenario) (o : OutlineBy (ViewOf S)) (x : ℕ × ViewOf S) → IsMadeFor room s o → Contains o.views.items x → scope_of o.host x.1 ≡ scope_in s o.host
   listed_scope s o x made there =
       let is = All-contains (λ e. IsMade room e.1 × (e.1.keys.items ≡ s.keys) × (e.1.hosts ≡ length s.nexuses)) o.views.items x made there in
       scope_same s o.host x.1 is.1 is.2
 
   -- those before it are alike
-  pub alike_before : (s : Scenario) (o : OutlineOf S) (xs : List (ℕ × ViewOf S)) (i : ℕ) (v : ViewOf S) → xs ≡ o.views.items → IsMadeFor room s o → IsMadeAs room s v
+  pub alike_before : (s : Scenario) (o : OutlineBy (ViewOf S)) (xs : List (ℕ × ViewOf S)) (i : ℕ) (v : ViewOf S) → xs ≡ o.views.items → IsMadeFor room s o → IsMadeAs room s v
       → All (λ e. IsMade room e.1 × AreAlike v e.1) (take i xs)
   alike_before s o xs i v same made is =
       All-take (λ e. IsMade room e.1 × AreAlike v e.1) i xs (subst (All (λ e. IsMade room e.1 × AreAlike v e.1)) (sym same) (alike s o v made is.keys is.hosts))
 
   -- views that are alike to one of the scenario are alike to each
-  pub each_alike : {X : Type 0} (s : Scenario) (o : OutlineOf S) (v : ViewOf S) (xs : List (X × ViewOf S)) → IsMadeFor room s o → IsMadeAs room s v → All (λ x. IsMade room x.1 × AreAlike v x.1) xs
+  pub each_alike : {X : Type 0} (s : Scenario) (o : OutlineBy (ViewOf S)) (v : ViewOf S) (xs : List (X × ViewOf S)) → IsMadeFor room s o → IsMadeAs room s v → All (λ x. IsMade room x.1 × AreAlike v x.1) xs
       → All (λ x. All (λ e. IsMade room e.1 × AreAlike x.1 e.1) o.views.items) xs
   each_alike s o v xs made is =
       All-weaker (λ x. IsMade room x.1 × AreAlike v x.1) (λ x. All (λ e. IsMade room e.1 × AreAlike x.1 e.1) o.views.items)

@@ -22,3 +22,8 @@ pub mod Rising
 pub mod Nexuses
 pub mod Disturbed
 pub mod Waiting
+pub mod PlacesWritten
+pub mod PlacesLines
+pub mod Growth
+pub mod Sketches
+pub mod Recalled

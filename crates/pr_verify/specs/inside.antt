@@ -2,4 +2,5 @@ pub mod Listing
 pub mod Least
 pub mod Lacking
 pub mod Reviewing
-pub mod Sizes
+pub mod Inferring
+pub mod Known

@@ -11,7 +11,6 @@ ghost use Rattle.pr_verify.specs.Outlines.{view_at, StartsAt};
 ghost use Rattle.pr_verify.specs.Rooms.{outline_of, IsMadeFor};
 ghost use Rattle.pr_verify.specs.inside.Least.{IsLeast, least};
 ghost use Rattle.pr_verify.specs.inside.Lacking.{IsWithinIn, LacksView, Lacks};
-ghost use Rattle.pr_verify.specs.inside.Sizes.{ViewFits};
 
 use crate::outline::OutlineOf;
 use pr_domain::of_start;
@@ -19,7 +18,6 @@ use pr_roles::Scenario;
 use pr_sets::ViewSet;
 use pr_views::ViewOf;
 use std::alloc::{AllocError, Global};
-use std::mem::size_of_val;
 
 /// The smaller of two lines, where they are there.
 pub(crate) fn least(line: Option<u32>, other: Option<u32>) -> Option<u32>
@@ -84,7 +82,6 @@ pub(crate) fn lacking_at_start<S: ViewSet>(
     outline: &OutlineOf<S>,
     lines: &[u32],
 ) -> Result<Option<u32>, AllocError>
-    requires fits { ViewFits S.row }
     requires starts { CanStart (scenario_of scenario.now) }
     requires host { outline.now.host < length (scenario_of scenario.now).nexuses }
     requires made { IsMadeFor S.room (scenario_of scenario.now) outline.now }
@@ -92,12 +89,4 @@ pub(crate) fn lacking_at_start<S: ViewSet>(
 {
     let start = of_start(alloc, scenario, outline.host)?;
     Ok(first_lacking(outline, &start, lines))
-}
-
-/// Whether a view fits in memory, as each type does. It is known when the program is built, and tells the proof so.
-pub(crate) fn view_fits<S: ViewSet>() -> bool
-    ensures { IsTrue result → ViewFits S.row }
-{
-    let view: Option<ViewOf<S>> = None;
-    size_of_val(&view) <= isize::MAX as usize
 }

@@ -11,7 +11,6 @@ ghost use Rattle.pr_verify.specs.Outlines.{IsLeftAt};
 ghost use Rattle.pr_verify.specs.Rooms.{outline_of, IsMadeFor};
 ghost use Rattle.pr_verify.specs.inside.Least.{IsLeast};
 ghost use Rattle.pr_verify.specs.inside.Lacking.{Lacks, IsOpen, IsSameAsOne};
-ghost use Rattle.pr_verify.specs.inside.Sizes.{ViewFits};
 
 use crate::outline::OutlineOf;
 use pr_domain::interfere;
@@ -26,7 +25,6 @@ pub(crate) fn lacking_by_others<S: ViewSet>(
     scenario: &Scenario,
     outline: &OutlineOf<S>,
 ) -> Result<Option<u32>, AllocError>
-    requires fits { ViewFits S.row }
     requires host { outline.now.host < length (scenario_of scenario.now).nexuses }
     requires made { IsMadeFor S.room (scenario_of scenario.now) outline.now }
     requires rise { rise_above 0 (map (λ e. e.0) outline.now.views.items) ≡ true }

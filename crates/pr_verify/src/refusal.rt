@@ -8,30 +8,17 @@ use thiserror::Error;
 pub enum Refusal {
     /// A reply of this class may come to the send on this line, and no arm matches it.
     #[error("NoArm host {host} line {line}")]
-    NoArm {
-        host: u8,
-        line: u32,
-        class: Class,
-    },
+    NoArm { host: u8, line: u32, class: Class },
     /// The send on this line may end GOOD where the host's role does not permit it.
     #[error("OutOfRole host {host} line {line}")]
-    OutOfRole {
-        host: u8,
-        line: u32,
-    },
+    OutOfRole { host: u8, line: u32 },
     /// The script may send so many commands, which is more than its budget; 4,097 stands for that many and more.
     #[error("OverBudget host {host} cost {cost}")]
-    OverBudget {
-        host: u8,
-        cost: u64,
-    },
+    OverBudget { host: u8, cost: u64 },
     /// Memory was refused.
     #[error("memory")]
     Memory,
     /// The view on this line lacks a state that it has to show.
     #[error("NotSound host {host} line {line}")]
-    NotSound {
-        host: u8,
-        line: u32,
-    },
+    NotSound { host: u8, line: u32 },
 }

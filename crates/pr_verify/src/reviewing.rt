@@ -12,7 +12,6 @@ ghost use Rattle.pr_verify.specs.Rooms.{outline_of, IsMadeFor};
 ghost use Rattle.pr_verify.specs.inside.Listing.{place_of, IsPlaceWritten};
 ghost use Rattle.pr_verify.specs.inside.Least.{IsLeast, Among};
 ghost use Rattle.pr_verify.specs.inside.Lacking.{lines_after, Lacks, LacksNext};
-ghost use Rattle.pr_verify.specs.inside.Sizes.{ViewFits};
 ghost use Rattle.pr_verify.specs.inside.Reviewing.{IsMadeAs, IsMisfit, IsFirstMisfit, IsFirstUnarmed, earlier};
 
 use crate::lacking::{first_lacking, least};
@@ -41,7 +40,6 @@ pub(crate) fn review<S: ViewSet>(
     outline: &OutlineOf<S>,
     spots: &[Spot],
 ) -> Result<Findings, AllocError>
-    requires fits { ViewFits S.row }
     requires host { outline.now.host < length (scenario_of scenario.now).nexuses }
     requires made { IsMadeFor S.room (scenario_of scenario.now) outline.now }
     requires written { All (λ p. IsPlaceWritten (scenario_of scenario.now).keys (place_of p)) spots.now }
