@@ -17,10 +17,10 @@ use Rattle.pr_verify.specs.Places.{first_lines}
 use Rattle.pr_verify.specs.Outlines.{Outline, view_at, StartsAt}
 use Rattle.pr_verify.specs.Rooms.{outline_of, IsMadeFor}
 use Rattle.pr_verify.specs.inside.Least.{IsLeast}
-use Rattle.pr_verify.specs.inside.Lacking.{LacksView, Lacks}
+use Rattle.pr_verify.specs.inside.Lacking.{HasAll, Lacks, IsFirstLacking, HasView, LacksView}
 use Rattle.pr_verify.specs.inside.Reviewing.{IsMadeAs}
 use Rattle.pr_verify.proofs.Leasts.{least_as}
-use Rattle.pr_verify.proofs.Missing.{IsExact, lacks_from_missing, missing_from_lacks}
+use Rattle.pr_verify.proofs.Missing.{IsExact, lacks_from_missing, shown_by_within}
 
 -- ---- views of one scenario
 
@@ -108,19 +108,17 @@ module _ (s : Scenario) (script : Stmts) (o : Outline) (w : View) where
   }
 
   pub lacks_start : (lines : List ℕ) (found : Option ℕ) → IsOfStart s w → Fits w → CanStart s → AreScoped o w.scope → first_lines script ≡ lines
-      → IsLeast (LacksView o lines w) found → IsLeast (Lacks o (StartsAt s script)) found
-  lacks_start lines found start fits can scopes same = least_as (LacksView o lines w) (Lacks o (StartsAt s script)) found there back
+      → IsLeast (HasView o lines w) (LacksView o lines w) found → IsFirstLacking o (StartsAt s script) found
+  lacks_start lines found start fits can scopes same = least_as (HasView o lines w) (LacksView o lines w) (HasAll o (StartsAt s script)) (Lacks o (StartsAt s script)) found has lacks
     where
       exact : IsExact (IsAllowedStart s) w
       exact = exact_start start fits can
 
-      there : (line : ℕ) → LacksView o lines w line → Lacks o (StartsAt s script) line
-      there line lacks =
-          let one = lacks_from_missing (IsAllowedStart s) w (view_at o.views line) exact (scopes line) lacks.missing in
-          record { unit = one.0; asks = record { allowed = one.1; first = subst (λ l. Contains l line) (sym same) lacks.listed }; missing = one.2 }
+      has : (line : ℕ) → HasView o lines w line → HasAll o (StartsAt s script) line
+      has line within u asks =
+          shown_by_within (IsAllowedStart s) w (view_at o.views line) u exact (scopes line) asks.allowed (within (subst (λ l. Contains l line) same asks.first))
 
-      back : (line : ℕ) → Lacks o (StartsAt s script) line → LacksView o lines w line
-      back line lacks = record {
-        listed = subst (λ l. Contains l line) same lacks.asks.first;
-        missing = missing_from_lacks (IsAllowedStart s) w (view_at o.views line) lacks.unit exact (scopes line) lacks.asks.allowed lacks.missing;
-      }
+      lacks : (line : ℕ) → LacksView o lines w line → Lacks o (StartsAt s script) line
+      lacks line missing =
+          let one = lacks_from_missing (IsAllowedStart s) w (view_at o.views line) exact (scopes line) missing.missing in
+          record { unit = one.0; asks = record { allowed = one.1; first = subst (λ l. Contains l line) (sym same) missing.listed }; missing = one.2 }

@@ -135,8 +135,6 @@ lacks_from_missing Asked w (Some v) exact scope missing = at (within_or_missing 
         let is = exact.only one.0 one.1.there in
         (is.0, is.1, not_shown v is.0 one.0 (subst IsScope (sym same) exact.fits.scope) (subst (λ s. IsSo s is.0 one.0) (sym same) is.2) one.1.missing)
 
-pub missing_from_lacks : (Asked : UnitState → Type 0) (w : View) (o : Option View) (u : UnitState) → IsExact Asked w → ((v : View) → o ≡ Some v → v.scope ≡ w.scope) → Asked u → (ShowsIn o u → ⊥)
-    → IsWithinIn w o → ⊥
-missing_from_lacks Asked w None u exact scope asked lacks within = within
-missing_from_lacks Asked w (Some v) u exact scope asked lacks within =
-    lacks (shown_within w v u (sym (scope v refl)) within (exact.cover u asked))
+pub shown_by_within : (Asked : UnitState → Type 0) (w : View) (o : Option View) (u : UnitState) → IsExact Asked w → ((v : View) → o ≡ Some v → v.scope ≡ w.scope) → Asked u → IsWithinIn w o → ShowsIn o u
+shown_by_within Asked w None u exact scope asked within = within
+shown_by_within Asked w (Some v) u exact scope asked within = shown_within w v u (sym (scope v refl)) within (exact.cover u asked)

@@ -21,12 +21,12 @@ use Rattle.pr_domain.specs.declared.landing.Landing.TheVariants.{Arm, NoArm}
 use Rattle.pr_domain.specs.Landings.{IsLanding}
 use Rattle.pr_domain.specs.Outcomes.{Outcome, IsExpected, AreOutcomes}
 use Rattle.pr_verify.specs.Places.{Place, follows}
-use Rattle.pr_verify.specs.Outlines.{Outline, view_at, ComesTo}
-use Rattle.pr_verify.specs.inside.Least.{IsLeast, Among}
-use Rattle.pr_verify.specs.inside.Lacking.{lines_after, LacksNext, LacksView, Lacks}
-use Rattle.pr_verify.proofs.Leasts.{least_as, among_listed, listed_among}
+use Rattle.pr_verify.specs.Outlines.{Outline, view_at, IsShownAt, ComesTo}
+use Rattle.pr_verify.specs.inside.Least.{Among, EachOf, IsLeastAmong}
+use Rattle.pr_verify.specs.inside.Lacking.{HasAll, Lacks, IsFirstLacking, HasView, lines_after, HasNext, LacksNext}
+use Rattle.pr_verify.proofs.Leasts.{least_as, each_listed, listed_among}
 use Rattle.pr_verify.proofs.Mapped.{mapped, unmapped}
-use Rattle.pr_verify.proofs.Missing.{IsExact, lacks_from_missing, missing_from_lacks}
+use Rattle.pr_verify.proofs.Missing.{IsExact, lacks_from_missing, shown_by_within}
 use Rattle.pr_verify.proofs.Begun.{AreScoped}
 use Rattle.pr_verify.proofs.Classes.{one_class}
 use Rattle.pr_verify.proofs.Fitted.{IsHere, shown_here, shown_there, step_own, step_host}
@@ -49,7 +49,10 @@ record LeadsTo (v : View) (p : Place) (l : Landing) (after : UnitState) : Type 0
 module _ (s : Scenario) (o : Outline) (p : Place) (v : View) (here : IsHere o p v) (scopes : AreScoped o v.scope)
     {S : Type 0} (members : S → Numbers) (own : ℕ) (xs : List (Landing × ViewOf S)) (are : AreOutcomes v p.command p.tests (map (λ x. (x.0, view_of members own x.1)) xs))
     (fits : (x : Landing × ViewOf S) → Contains xs x → Fits (view_of members own x.1) × ((view_of members own x.1).scope ≡ v.scope)) where
-  -- something of the outcome is lacking at the line
+  -- the outcome's view is within that at the line, if it leads there; or it is not
+  abbrev pub HasOf : Landing × ViewOf S → ℕ → Type 0
+  HasOf x line = HasNext o (lines_after p.next x.0) (view_of members own x.1) line
+
   abbrev pub LacksOf : Landing × ViewOf S → ℕ → Type 0
   LacksOf x line = LacksNext o (lines_after p.next x.0) (view_of members own x.1) line
 
@@ -95,37 +98,31 @@ module _ (s : Scenario) (o : Outline) (p : Place) (v : View) (here : IsHere o p 
         missing = one.2;
       }
 
-  back_of : (line : ℕ) → Lacks o (ComesTo o p) line → Among (length xs) xs (λ x. LacksOf x line)
-  back_of line lacks = at one.outcome.0 refl one.landing
+  -- each state to which the command leads is one of an outcome
+  all_shown : (line : ℕ) → EachOf (length xs) xs (λ x. HasOf x line) → HasAll o (ComesTo o p) line
+  all_shown line each u asks = at one.outcome.0 refl one.landing
     where
-      from : UnitState
-      from = lacks.asks.from
+      one : IsExpected (map (λ y. (y.0, view_of members own y.1)) xs) p.tests asks.reply u
+      one = are.cover asks.from asks.reply u (shown_here s o p v here asks.from asks.shown) (step_own s o p v here asks.from asks.reply u asks.step)
 
-      one : IsExpected (map (λ y. (y.0, view_of members own y.1)) xs) p.tests lacks.asks.reply lacks.unit
-      one = are.cover from lacks.asks.reply lacks.unit (shown_here s o p v here from lacks.asks.shown) (step_own s o p v here from lacks.asks.reply lacks.unit lacks.asks.step)
-
-      at : (l : Landing) → one.outcome.0 ≡ l → IsLanding p.tests lacks.asks.reply l → Among (length xs) xs (λ x. LacksOf x line)
-      at (NoArm class) is ends = let bad : None ≡ Some lacks.asks.next = ap (option_and_then (slice_get p.next)) (sym ends.0) ∙ lacks.asks.follows in cc
+      at : (l : Landing) → one.outcome.0 ≡ l → IsLanding p.tests asks.reply l → IsShownAt o line u
+      at (NoArm class) is ends = let bad : None ≡ Some asks.next = ap (option_and_then (slice_get p.next)) (sym ends.0) ∙ asks.follows in cc
       at (Arm n) is first =
           let listed = unmapped (λ y. (y.0, view_of members own y.1)) xs one.outcome one.listed in
           let x = listed.0 in
           let same : x.0 ≡ Arm n = ap (λ (y : Outcome). y.0) listed.2 ∙ is in
-          let lines : lines_after p.next x.0 ≡ Some lacks.asks.next = ap (lines_after p.next) same ∙ ap (option_and_then (slice_get p.next)) (sym first) ∙ lacks.asks.follows in
-          let leads : LeadsTo v p x.0 lacks.unit = record {
-            from = from;
-            shown = shown_here s o p v here from lacks.asks.shown;
-            reply = lacks.asks.reply;
-            step = step_own s o p v here from lacks.asks.reply lacks.unit lacks.asks.step;
-            landing = subst (IsLanding p.tests lacks.asks.reply) (sym same) first;
+          let lines : lines_after p.next x.0 ≡ Some asks.next = ap (lines_after p.next) same ∙ ap (option_and_then (slice_get p.next)) (sym first) ∙ asks.follows in
+          let leads : LeadsTo v p x.0 u = record {
+            from = asks.from;
+            shown = shown_here s o p v here asks.from asks.shown;
+            reply = asks.reply;
+            step = step_own s o p v here asks.from asks.reply u asks.step;
+            landing = subst (IsLanding p.tests asks.reply) (sym same) first;
           } in
-          let view : LacksView o lacks.asks.next (view_of members own x.1) line = record {
-            listed = lacks.asks.there;
-            missing = missing_from_lacks (LeadsTo v p x.0) (view_of members own x.1) (view_at o.views line) lacks.unit (exact x listed.1) (λ w at. scopes line w at ∙ sym (fits x listed.1).1) leads lacks.missing;
-          } in
-          among_listed (λ y. LacksOf y line) xs x listed.1 (subst (λ next. LacksNext o next (view_of members own x.1) line) (sym lines) view)
+          let has : HasView o asks.next (view_of members own x.1) line = subst (λ next. HasNext o next (view_of members own x.1) line) lines (each_listed (λ y. HasOf y line) xs each x listed.1) in
+          shown_by_within (LeadsTo v p x.0) (view_of members own x.1) (view_at o.views line) u (exact x listed.1) (λ w at. scopes line w at ∙ sym (fits x listed.1).1) leads (has asks.there)
 
-  pub lacks_next : (first : Option ℕ) → IsLeast (λ line. Among (length xs) xs (λ x. LacksOf x line)) first → IsLeast (Lacks o (ComesTo o p)) first
+  pub lacks_next : (first : Option ℕ) → IsLeastAmong (length xs) xs HasOf LacksOf first → IsFirstLacking o (ComesTo o p) first
   lacks_next first =
-      least_as (λ line. Among (length xs) xs (λ x. LacksOf x line)) (Lacks o (ComesTo o p)) first
-      (λ line one. there_next one.element line one.element.0 (lines_after p.next one.element.0) (listed_among (λ x. LacksOf x line) xs one) refl refl one.is)
-      back_of
+      least_as (λ line. EachOf (length xs) xs (λ x. HasOf x line)) (λ line. Among (length xs) xs (λ x. LacksOf x line)) (HasAll o (ComesTo o p)) (Lacks o (ComesTo o p)) first
+      all_shown (λ line one. there_next one.element line one.element.0 (lines_after p.next one.element.0) (listed_among (λ x. LacksOf x line) xs one) refl refl one.is)

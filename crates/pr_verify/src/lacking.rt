@@ -10,7 +10,7 @@ ghost use Rattle.pr_verify.specs.Places.{first_lines};
 ghost use Rattle.pr_verify.specs.Outlines.{view_at, StartsAt};
 ghost use Rattle.pr_verify.specs.Rooms.{outline_of, IsMadeFor};
 ghost use Rattle.pr_verify.specs.inside.Least.{IsLeast, least};
-ghost use Rattle.pr_verify.specs.inside.Lacking.{IsWithinIn, LacksView, Lacks};
+ghost use Rattle.pr_verify.specs.inside.Lacking.{IsFirstLacking, IsWithinIn, HasView, LacksView};
 
 use crate::outline::OutlineOf;
 use pr_domain::of_start;
@@ -38,7 +38,7 @@ pub(crate) fn first_lacking<S: ViewSet>(
 ) -> Option<u32>
     requires made { IsMade S.room known.now }
     requires alike { All (λ e. IsMade S.room e.1 × AreAlike known.now e.1) outline.now.views.items }
-    ensures { IsLeast (LacksView (outline_of S.members outline.now) lines.now (view_of S.members outline.now.host known.now)) result }
+    ensures { IsLeast (HasView (outline_of S.members outline.now) lines.now (view_of S.members outline.now.host known.now)) (LacksView (outline_of S.members outline.now) lines.now (view_of S.members outline.now.host known.now)) result }
 {
     let mut first = None;
     for line in lines {
@@ -85,7 +85,7 @@ pub(crate) fn lacking_at_start<S: ViewSet>(
     requires starts { CanStart (scenario_of scenario.now) }
     requires host { outline.now.host < length (scenario_of scenario.now).nexuses }
     requires made { IsMadeFor S.room (scenario_of scenario.now) outline.now }
-    ensures { IfOk result (λ first. (script : Stmts) → first_lines script ≡ lines.now → IsLeast (Lacks (outline_of S.members outline.now) (StartsAt (scenario_of scenario.now) script)) first) }
+    ensures { IfOk result (λ first. (script : Stmts) → first_lines script ≡ lines.now → IsFirstLacking (outline_of S.members outline.now) (StartsAt (scenario_of scenario.now) script) first) }
 {
     let start = of_start(alloc, scenario, outline.host)?;
     Ok(first_lacking(outline, &start, lines))

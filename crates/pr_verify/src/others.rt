@@ -9,8 +9,7 @@ ghost use Rattle.pr_views.specs.Rooms.{view_of, IsMade, AreAlike};
 ghost use Rattle.pr_domain.specs.Interference.{IsClosed};
 ghost use Rattle.pr_verify.specs.Outlines.{IsLeftAt};
 ghost use Rattle.pr_verify.specs.Rooms.{outline_of, IsMadeFor};
-ghost use Rattle.pr_verify.specs.inside.Least.{IsLeast};
-ghost use Rattle.pr_verify.specs.inside.Lacking.{Lacks, IsOpen, IsSameAsOne};
+ghost use Rattle.pr_verify.specs.inside.Lacking.{IsFirstLacking, IsOpen, IsSameAsOne};
 
 use crate::outline::OutlineOf;
 use pr_domain::interfere;
@@ -28,7 +27,7 @@ pub(crate) fn lacking_by_others<S: ViewSet>(
     requires host { outline.now.host < length (scenario_of scenario.now).nexuses }
     requires made { IsMadeFor S.room (scenario_of scenario.now) outline.now }
     requires rise { rise_above 0 (map (λ e. e.0) outline.now.views.items) ≡ true }
-    ensures { IfOk result (IsLeast (Lacks (outline_of S.members outline.now) (IsLeftAt (scenario_of scenario.now) (outline_of S.members outline.now)))) }
+    ensures { IfOk result (IsFirstLacking (outline_of S.members outline.now) (IsLeftAt (scenario_of scenario.now) (outline_of S.members outline.now))) }
 {
     for (i, entry) in outline.views.iter().enumerate() {
         // What was found of an equal view before holds of this one.

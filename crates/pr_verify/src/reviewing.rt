@@ -10,9 +10,9 @@ ghost use Rattle.pr_verify.specs.Outlines.{view_at, ComesTo};
 ghost use Rattle.pr_verify.specs.Refusals.{class_number};
 ghost use Rattle.pr_verify.specs.Rooms.{outline_of, IsMadeFor};
 ghost use Rattle.pr_verify.specs.inside.Listing.{place_of, IsPlaceWritten};
-ghost use Rattle.pr_verify.specs.inside.Least.{IsLeast, Among};
-ghost use Rattle.pr_verify.specs.inside.Lacking.{lines_after, Lacks, LacksNext};
-ghost use Rattle.pr_verify.specs.inside.Reviewing.{IsMadeAs, IsMisfit, IsFirstMisfit, IsFirstUnarmed, earlier};
+ghost use Rattle.pr_verify.specs.inside.Least.{IsLeastAmong};
+ghost use Rattle.pr_verify.specs.inside.Lacking.{IsFirstLacking, lines_after, HasNext, LacksNext};
+ghost use Rattle.pr_verify.specs.inside.Reviewing.{IsMadeAs, IsLackingOfSends, IsMisfit, IsFirstMisfit, IsFirstUnarmed, earlier};
 
 use crate::lacking::{first_lacking, least};
 use crate::outline::OutlineOf;
@@ -45,7 +45,7 @@ pub(crate) fn review<S: ViewSet>(
     requires written { All (λ p. IsPlaceWritten (scenario_of scenario.now).keys (place_of p)) spots.now }
     requires listed { map (λ e. e.0) outline.now.views.items ≡ map (λ p. p.line) spots.now }
     requires rise { rise_above 0 (map (λ e. e.0) outline.now.views.items) ≡ true }
-    ensures lacking { IfOk result (λ review. IsLeast (λ line. Among (length spots.now) spots.now (λ p. Lacks (outline_of S.members outline.now) (ComesTo (outline_of S.members outline.now) (place_of p)) line)) review.lacking) }
+    ensures lacking { IfOk result (λ review. IsLackingOfSends (outline_of S.members outline.now) (length spots.now) spots.now review.lacking) }
     ensures misfit { IfOk result (λ review. IsFirstMisfit (scenario_of scenario.now) (outline_of S.members outline.now) (length spots.now) spots.now review.misfit) }
 {
     let mut lacking = None;
@@ -71,7 +71,7 @@ fn review_spot<S: ViewSet>(
     requires written { IsPlaceWritten (scenario_of scenario.now).keys (place_of spot.now) }
     requires view { IsMadeAs S.room (scenario_of scenario.now) view.now }
     requires here { view_at (outline_of S.members outline.now).views spot.now.line ≡ Some (view_of S.members outline.now.host view.now) }
-    ensures lacking { IfOk result (λ review. IsLeast (Lacks (outline_of S.members outline.now) (ComesTo (outline_of S.members outline.now) (place_of spot.now))) review.lacking) }
+    ensures lacking { IfOk result (λ review. IsFirstLacking (outline_of S.members outline.now) (ComesTo (outline_of S.members outline.now) (place_of spot.now)) review.lacking) }
     ensures misfit { IfOk result (λ review. IsMisfit (scenario_of scenario.now) (outline_of S.members outline.now) (place_of spot.now) review.misfit) }
 {
     let outcomes = outcomes(alloc, view, outline.host, &spot.command, &spot.tests)?;
@@ -89,7 +89,7 @@ fn lacking_after<S: ViewSet>(
 ) -> Option<u32>
     requires made { All (λ o. IsMade S.room o.1) outcomes.now }
     requires alike { All (λ o. All (λ e. IsMade S.room e.1 × AreAlike o.1 e.1) outline.now.views.items) outcomes.now }
-    ensures { IsLeast (λ line. Among (length outcomes.now) outcomes.now (λ o. LacksNext (outline_of S.members outline.now) (lines_after (map (λ lines. lines.items) next.now) o.0) (view_of S.members outline.now.host o.1) line)) result }
+    ensures { IsLeastAmong (length outcomes.now) outcomes.now (λ o. HasNext (outline_of S.members outline.now) (lines_after (map (λ lines. lines.items) next.now) o.0) (view_of S.members outline.now.host o.1)) (λ o. LacksNext (outline_of S.members outline.now) (lines_after (map (λ lines. lines.items) next.now) o.0) (view_of S.members outline.now.host o.1)) result }
 {
     let mut first = None;
     for (landing, left) in outcomes {

@@ -10,9 +10,10 @@ use Rattle.pr_verify.specs.declared.places.Spot.{Spot}
 use Rattle.pr_verify.specs.declared.refusal.Refusal.{Refusal}
 use Rattle.pr_verify.specs.declared.refusal.Refusal.TheVariants.{NoArm, OutOfRole, OverBudget, Memory, NotSound}
 use Rattle.pr_verify.specs.Places.{Place}
-use Rattle.pr_verify.specs.Outlines.{Outline, KeepsToRole}
+use Rattle.pr_verify.specs.Outlines.{Outline, ComesTo, KeepsToRole}
 use Rattle.pr_verify.specs.Refusals.{class_number, FitsAt, BreaksRole, LacksArmFirst}
-use Rattle.pr_verify.specs.inside.Least.{Among}
+use Rattle.pr_verify.specs.inside.Least.{Among, EachOf, IsLeastAmong}
+use Rattle.pr_verify.specs.inside.Lacking.{HasAll, Lacks}
 use Rattle.pr_verify.specs.inside.Listing.{place_of}
 
 -- the view can be one of this scenario
@@ -20,6 +21,12 @@ pub record IsMadeAs {S : Type 0} (room : S → ℕ) (s : Scenario) (v : ViewOf S
   pub made : IsMade room v
   pub keys : v.keys.items ≡ s.keys
   pub hosts : v.hosts ≡ length s.nexuses
+
+-- ---- what the views lack
+
+-- the first line at which a view lacks a state to which one of the first n sends leads
+abbrev pub IsLackingOfSends : Outline → ℕ → List Spot → Option ℕ → Type 0
+IsLackingOfSends o n spots = IsLeastAmong n spots (λ p. HasAll o (ComesTo o (place_of p))) (λ p. Lacks o (ComesTo o (place_of p)))
 
 -- ---- a place that does not fit
 
@@ -43,11 +50,11 @@ pub record HasMisfit (s : Scenario) (o : Outline) (n : ℕ) (spots : List Spot) 
   pub below : index < n
   pub there : slice_index_or spots index spot ≡ spot
   pub reason : IsReason s o (place_of spot) refusal
-  pub first : (k : ℕ) (d : Spot) → k < index → FitsAt s o (place_of (slice_index_or spots k d))
+  pub first : EachOf index spots (λ p. FitsAt s o (place_of p))
 
 -- of the first n sends
 abbrev pub IsFirstMisfit : Scenario → Outline → ℕ → List Spot → Option Refusal → Type 0
-IsFirstMisfit s o n spots None = (k : ℕ) (d : Spot) → k < n → FitsAt s o (place_of (slice_index_or spots k d))
+IsFirstMisfit s o n spots None = EachOf n spots (λ p. FitsAt s o (place_of p))
 IsFirstMisfit s o n spots (Some refusal) = HasMisfit s o n spots refusal
 
 -- ---- classes without an arm

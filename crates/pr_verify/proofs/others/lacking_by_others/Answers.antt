@@ -1,9 +1,11 @@
 use Rattle.std.proofs.Common.{◌≡◌, ◌+◌, ◌<◌, ◌≤◌, length, map, slice_index_or, take, true, rules, sym, ap, ◌∙◌, subst, arith}
 use Rattle.pr_roles.specs.Scenarios.{scenario_of}
 use Rattle.pr_views.specs.Rooms.{view_of}
+use Rattle.pr_domain.specs.Interference.{IsClosed}
 use Rattle.pr_verify.specs.inside.Lacking.{IsSameAsOne}
 use Rattle.pr_verify.proofs.Begun.{scoped, entry_made, alike_before, scope_same, listed_scope}
-use Rattle.pr_verify.proofs.Disturbed.{all_closed, open_first, closed_entry, closed_as}
+use Rattle.pr_verify.proofs.Disturbed.{all_closed, open_first, closed_as}
+use Rattle.pr_verify.proofs.Leasts.{each_more}
 use Rattle.pr_verify.proofs.others.lacking_by_others.Goals.{else-not-known-via-then-not-known+in_ok-is_closed+else-not-branch, else-not-known-via-else-not-known}
 use Rattle.pr_verify.proofs.others.lacking_by_others.Goals as goal
 
@@ -48,7 +50,7 @@ loop-i-preserved g c =
     let small = subst (λ ys. n < length ys) c.deref-entry-items.ensures.value c.loop-i-test.true in
     let read = c.entry-item.is ∙ ap (λ ys. slice_index_or ys n x) c.deref-entry-items.ensures.value in
     let is = entry_made members room s o c.deref-entry-items.result.now n x c.deref-entry-items.ensures.value c.requires.made c.loop-i-test.true c.entry-item.is in
-    closed_entry s o.host f xs scopes c.requires.rise n x small read
+    each_more (λ e. IsClosed s (f e.1)) xs n x small read c.loop-i.invariant
     (elim c.else-not-known.branch [
       | else-not-known-via-then-not-known+in_ok-is_closed+else-not-branch w ↦ w.in_ok-is_closed.ensures.closed w.if-not-branch.false
       | else-not-known-via-else-not-known w ↦
@@ -56,7 +58,6 @@ loop-i-preserved g c =
           (λ e there. scope_same s o.host x.1 is.keys is.hosts ∙ sym (listed_scope members room s o e c.requires.made there))
           (subst (λ ys. IsSameAsOne (f x.1) (map (λ e. f e.1) (take n ys))) c.deref.ensures.value (c.is_one_of-known.ensures w.if-not-known.false o.host)) c.loop-i.invariant
     ])
-    c.loop-i.invariant
 
 pub returns : goal.returns
 returns g c =

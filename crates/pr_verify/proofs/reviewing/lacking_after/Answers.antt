@@ -4,17 +4,19 @@ use Rattle.pr_views.specs.declared.view.ViewOf.{ViewOf}
 use Rattle.pr_views.specs.Rooms.{view_of, IsMade, AreAlike}
 use Rattle.pr_domain.specs.declared.landing.Landing.{Landing}
 use Rattle.pr_verify.specs.Rooms.{outline_of}
-use Rattle.pr_verify.specs.inside.Least.{IsLeast, Among}
-use Rattle.pr_verify.specs.inside.Lacking.{lines_after, LacksNext}
-use Rattle.pr_verify.proofs.Leasts.{among_none, among_more, among_same}
+use Rattle.pr_verify.specs.inside.Least.{IsLeast, IsLeastAmong}
+use Rattle.pr_verify.specs.inside.Lacking.{lines_after, HasNext, LacksNext}
+use Rattle.pr_verify.proofs.Leasts.{least_none, least_more, least_same}
 use Rattle.pr_verify.proofs.reviewing.lacking_after.Goals.{in-Some, in_default}
-use Rattle.pr_verify.proofs.reviewing.lacking_after.Given as given
 use Rattle.pr_verify.proofs.reviewing.lacking_after.Goals as goal
 
 pub loop-landing-init : goal.loop-landing-init
 loop-landing-init g c =
-    among_none (λ (o : Landing × ViewOf g.row.S.Denot) (line : ℕ). LacksNext (outline_of g.S.ViewSet.members c.args.outline.now) (lines_after (map (λ lines. lines.items) c.args.next.now) o.0)
-        (view_of g.S.ViewSet.members c.args.outline.now.host o.1) line) c.args.outcomes.now
+    let members = g.S.ViewSet.members in
+    let o = outline_of members c.args.outline.now in
+    let own = c.args.outline.now.host in
+    let next = map (λ lines. lines.items) c.args.next.now in
+    least_none (λ (x : Landing × ViewOf g.row.S.Denot). HasNext o (lines_after next x.0) (view_of members own x.1)) (λ x. LacksNext o (lines_after next x.0) (view_of members own x.1)) c.args.outcomes.now
 
 pub first_lacking-requires : goal.first_lacking-requires
 first_lacking-requires g c =
@@ -33,14 +35,15 @@ loop-landing-preserved g c =
     let xs = c.args.outcomes.now in
     let n = c.loop-landing.landing-index in
     let x = c.loop-landing-item.result in
-    let P = λ (y : Landing × ViewOf g.row.S.Denot) (line : ℕ). LacksNext o (lines_after next y.0) (view_of members own y.1) line in
+    let Has = λ (y : Landing × ViewOf g.row.S.Denot). HasNext o (lines_after next y.0) (view_of members own y.1) in
+    let Lacks = λ (y : Landing × ViewOf g.row.S.Denot). LacksNext o (lines_after next y.0) (view_of members own y.1) in
     elim c.match-lines_after.branch [
-      | in-Some w ↦ subst (IsLeast (λ line. Among (n + 1) xs (λ y. P y line))) (sym w.least-first.ensures ∙ sym w.first-is)
-          (among_more P xs n x c.loop-landing.first w.first_lacking.result c.loop-landing-test.true c.loop-landing-item.is c.loop-landing.invariant
-          (subst (λ lines. IsLeast (LacksNext o lines (view_of members own x.1)) w.first_lacking.result) w.in-Some.ensures w.first_lacking.ensures))
-      | in_default w ↦ subst (IsLeast (λ line. Among (n + 1) xs (λ y. P y line))) (sym w.first-is)
-          (among_same P xs n x c.loop-landing.first c.loop-landing-test.true c.loop-landing-item.is c.loop-landing.invariant
-          (λ line lacks. subst (λ lines. LacksNext o lines (view_of members own x.1) line) (sym w.in_default.ensures) lacks))
+      | in-Some w ↦ subst (IsLeastAmong (n + 1) xs Has Lacks) (sym w.least-first.ensures ∙ sym w.first-is)
+          (least_more Has Lacks xs n x c.loop-landing.first w.first_lacking.result c.loop-landing-test.true c.loop-landing-item.is c.loop-landing.invariant
+          (subst (λ lines. IsLeast (HasNext o lines (view_of members own x.1)) (LacksNext o lines (view_of members own x.1)) w.first_lacking.result) w.in-Some.ensures w.first_lacking.ensures))
+      | in_default w ↦ subst (IsLeastAmong (n + 1) xs Has Lacks) (sym w.first-is)
+          (least_same Has Lacks xs n x c.loop-landing.first c.loop-landing-test.true c.loop-landing-item.is c.loop-landing.invariant
+          (λ line. subst (λ lines. HasNext o lines (view_of members own x.1) line) w.in_default.ensures tt))
     ]
 
 pub returns : goal.returns
@@ -50,4 +53,4 @@ returns g c =
     let own = c.args.outline.now.host in
     let next = map (λ lines. lines.items) c.args.next.now in
     let whole : c.loop-landing.landing-index ≡ length c.args.outcomes.now = omega arith in
-    subst (λ n. IsLeast (λ line. Among n c.args.outcomes.now (λ y. LacksNext o (lines_after next y.0) (view_of members own y.1) line)) c.loop-landing.first) whole c.loop-landing.invariant
+    subst (λ n. IsLeastAmong n c.args.outcomes.now (λ y. HasNext o (lines_after next y.0) (view_of members own y.1)) (λ y. LacksNext o (lines_after next y.0) (view_of members own y.1)) c.loop-landing.first) whole c.loop-landing.invariant

@@ -5,10 +5,9 @@ use Rattle.pr_verify.specs.Outlines.{ComesTo}
 use Rattle.pr_verify.specs.Rooms.{outline_of}
 use Rattle.pr_verify.specs.declared.places.Spot.{Spot}
 use Rattle.pr_verify.specs.inside.Listing.{place_of, IsPlaceWritten}
-use Rattle.pr_verify.specs.inside.Least.{IsLeast, Among}
-use Rattle.pr_verify.specs.inside.Lacking.{Lacks}
-use Rattle.pr_verify.specs.inside.Reviewing.{IsFirstMisfit}
-use Rattle.pr_verify.proofs.Leasts.{among_none, among_more}
+use Rattle.pr_verify.specs.inside.Lacking.{HasAll, Lacks}
+use Rattle.pr_verify.specs.inside.Reviewing.{IsLackingOfSends, IsFirstMisfit}
+use Rattle.pr_verify.proofs.Leasts.{least_none, least_more}
 use Rattle.pr_verify.proofs.Begun.{entry_made}
 use Rattle.pr_verify.proofs.Rising.{as_many, view_at_same}
 use Rattle.pr_verify.proofs.Misfits.{misfit_none, misfit_more}
@@ -18,7 +17,7 @@ pub loop-i-init : goal.loop-i-init
 loop-i-init g c =
     let o = outline_of g.S.ViewSet.members c.args.outline.now in
     record {
-      lacking = among_none (λ (p : Spot) (line : ℕ). Lacks o (ComesTo o (place_of p)) line) c.args.spots.now;
+      lacking = least_none (λ (p : Spot). HasAll o (ComesTo o (place_of p))) (λ p. Lacks o (ComesTo o (place_of p))) c.args.spots.now;
       misfit = misfit_none (scenario_of c.args.scenario.now) o c.args.spots.now;
     }
 
@@ -54,8 +53,8 @@ loop-i-preserved g c =
     let y = c.index-spots-i.result in
     let n = c.loop-i.i in
     record {
-      lacking = subst (IsLeast (λ line. Among (n + 1) ys (λ p. Lacks o (ComesTo o (place_of p)) line))) (sym c.least-lacking.ensures)
-          (among_more (λ (p : Spot) (line : ℕ). Lacks o (ComesTo o (place_of p)) line) ys n y c.loop-i.lacking c.in_ok-here.here.lacking c.loop-i-test.true c.index-spots-i.is c.loop-i.invariant.lacking
+      lacking = subst (IsLackingOfSends o (n + 1) ys) (sym c.least-lacking.ensures)
+          (least_more (λ (p : Spot). HasAll o (ComesTo o (place_of p))) (λ p. Lacks o (ComesTo o (place_of p))) ys n y c.loop-i.lacking c.in_ok-here.here.lacking c.loop-i-test.true c.index-spots-i.is c.loop-i.invariant.lacking
           c.in_ok-here.ensures.lacking);
       misfit = subst (IsFirstMisfit s o (n + 1) ys) (sym c.or-misfit.ensures)
           (misfit_more s o ys n y c.loop-i.misfit c.in_ok-here.here.misfit c.loop-i-test.true c.index-spots-i.is c.loop-i.invariant.misfit c.in_ok-here.ensures.misfit);
@@ -65,7 +64,7 @@ pub returns-clause-lacking : goal.returns-clause-lacking
 returns-clause-lacking g c =
     let o = outline_of g.S.ViewSet.members c.args.outline.now in
     let whole : c.loop-i.i ≡ length c.args.spots.now = omega arith in
-    subst (λ n. IsLeast (λ line. Among n c.args.spots.now (λ p. Lacks o (ComesTo o (place_of p)) line)) c.loop-i.lacking) whole c.loop-i.invariant.lacking
+    subst (λ n. IsLackingOfSends o n c.args.spots.now c.loop-i.lacking) whole c.loop-i.invariant.lacking
 
 pub returns-clause-misfit : goal.returns-clause-misfit
 returns-clause-misfit g c =

@@ -10,8 +10,8 @@ use Rattle.pr_domain.specs.declared.landing.Landing.{Landing}
 use Rattle.pr_domain.specs.Outcomes.{AreOutcomes}
 use Rattle.pr_verify.specs.Rooms.{outline_of}
 use Rattle.pr_verify.specs.inside.Listing.{place_of}
-use Rattle.pr_verify.specs.inside.Least.{IsLeast, Among}
-use Rattle.pr_verify.specs.inside.Lacking.{lines_after, LacksNext}
+use Rattle.pr_verify.specs.inside.Least.{IsLeastAmong}
+use Rattle.pr_verify.specs.inside.Lacking.{lines_after, HasNext, LacksNext}
 use Rattle.pr_verify.proofs.Begun.{AreScoped, scope_same, scope_alike, scoped, each_alike}
 use Rattle.pr_verify.proofs.Stepped.{lacks_next}
 use Rattle.pr_verify.proofs.reviewing.review_spot.Goals as goal
@@ -44,8 +44,10 @@ returns-clause-lacking g c =
     λ x there.
         let is = All-contains (λ (y : Landing × ViewOf g.row.S.Denot). IsMade room y.1 × AreAlike view y.1) xs x c.in_ok-outcomes.ensures.made there in
         (fits members room g.met.S.ViewSet.below x.1 own is.0 (subst (λ n. own < n) (sym c.requires.view.hosts ∙ is.1.hosts) c.requires.host), scope_alike own view x.1 is.1) in
-    let least = subst (λ (next : List _). IsLeast (λ line. Among (length xs) xs (λ y. LacksNext o (lines_after (map (λ lines. lines.items) next) y.0) (view_of members own y.1) line)) c.lacking_after.result) c.deref-3.ensures.value
-    (subst (λ (ys : List (Landing × ViewOf g.row.S.Denot)). IsLeast (λ line. Among (length ys) ys (λ y. LacksNext o (lines_after (map (λ lines. lines.items) c.deref-3.result.now) y.0) (view_of members own y.1) line)) c.lacking_after.result)
+    let least = subst (λ (next : List _). IsLeastAmong (length xs) xs (λ y. HasNext o (lines_after (map (λ lines. lines.items) next) y.0) (view_of members own y.1)) (λ y. LacksNext o (lines_after (map (λ lines. lines.items) next) y.0) (view_of members own y.1)) c.lacking_after.result)
+    c.deref-3.ensures.value
+    (subst (λ (ys : List (Landing × ViewOf g.row.S.Denot)). IsLeastAmong (length ys) ys (λ y. HasNext o (lines_after (map (λ lines. lines.items) c.deref-3.result.now) y.0) (view_of members own y.1))
+        (λ y. LacksNext o (lines_after (map (λ lines. lines.items) c.deref-3.result.now) y.0) (view_of members own y.1)) c.lacking_after.result)
     c.deref-2.ensures.value c.lacking_after.ensures) in
     lacks_next s o p v (record { at = c.requires.here; own = refl }) (subst (AreScoped o) (sym scope) (scoped members room s c.args.outline.now c.requires.made)) members own xs
     (subst (λ tests. AreOutcomes v p.command tests (map (λ x. (x.0, view_of members own x.1)) xs)) c.deref.ensures.value c.in_ok-outcomes.ensures.outcomes) known c.lacking_after.result least
