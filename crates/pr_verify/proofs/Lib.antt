@@ -18,6 +18,8 @@ pub mod Classes
 pub mod Fitted
 pub mod Stepped
 pub mod Misfits
+pub mod Checked
+pub mod Differing
 pub mod Rising
 pub mod Nexuses
 pub mod Disturbed
