@@ -1,3 +1,6 @@
 pub mod Listing
+pub mod Least
+pub mod Lacking
+pub mod Reviewing
 pub mod Inferring
 pub mod Known

@@ -5,10 +5,13 @@ mod checking;
 mod head;
 mod inferring;
 mod known;
+mod lacking;
 mod laws;
+mod others;
 mod outline;
 mod places;
 mod refusal;
+mod reviewing;
 mod sketch;
 mod verifying;
 

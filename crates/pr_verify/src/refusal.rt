@@ -1,6 +1,9 @@
 //! Why a script is refused.
 
+ghost use Rattle.pr_verify.specs.declared.refusal.Refusal.TheVariants.{Memory};
+
 use pr_domain::Class;
+use std::alloc::AllocError;
 use thiserror::Error;
 
 /// Why a script is refused.
@@ -21,4 +24,14 @@ pub enum Refusal {
     /// The view on this line lacks a state that it has to show.
     #[error("NotSound host {host} line {line}")]
     NotSound { host: u8, line: u32 },
+}
+
+impl From<AllocError> for Refusal {
+    ghost from_gives = { λ _ e. e ≡ Memory };
+
+    ghost use Rattle.std.specs.Prelude.{◌≡◌};
+
+    fn from(_e: AllocError) -> Refusal {
+        Refusal::Memory
+    }
 }
