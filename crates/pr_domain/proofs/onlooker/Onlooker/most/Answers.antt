@@ -1,4 +1,4 @@
-use Rattle.std.proofs.Common.{◌≡◌, true, sym, subst}
+use Rattle.std.proofs.Common.{◌≡◌, true, subst}
 use Rattle.pr_views.specs.Portions.{has_at}
 use Rattle.pr_domain.proofs.Reached.{most_of_reach}
 use Rattle.pr_domain.proofs.onlooker.Onlooker.most.Goals as goal

@@ -1,4 +1,4 @@
-use Rattle.std.proofs.Common.{◌≡◌, ◌<◌, ◌+◌, true, sym, ap, ◌∙◌, subst, arith}
+use Rattle.std.proofs.Common.{◌≡◌, ◌+◌, true, sym, ap, ◌∙◌, subst, arith}
 use Rattle.pr_roles.specs.Fitting.{is_action}
 use Rattle.pr_domain.specs.inside.Interfering.{IsWatched}
 use Rattle.pr_domain.specs.inside.Reaching.{number_named}
