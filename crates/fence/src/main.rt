@@ -1,5 +1,5 @@
-//! The program `fence`: it runs SCSI fencing scripts against one logical unit that behaves as SPC-4 says,
-//! and writes a trace of the commands and replies.
+//! The program `fence`: it verifies SCSI fencing scripts against one logical unit that behaves as SPC-4 says, and runs
+//! them, with a trace of the commands and replies.
 #![tactic(auto)]
 
 ghost use Rattle.std.specs.Prelude.{◌≡◌};
@@ -7,14 +7,19 @@ ghost use Rattle.pr_report.specs.Written.{AppendsFront};
 ghost use Rattle.std.specs.IoError.{error_kind};
 ghost use Rattle.fence.specs.FaultText.{args_fault, fault_text, open_fault, status_of};
 
+mod checks;
 mod command_line;
-mod commands;
+mod ending;
+#[cfg(test)]
+mod fakes;
 mod fault;
+mod replays;
 mod steps;
 
+use crate::checks::do_check;
 use crate::command_line::matches_of;
-use crate::commands::do_replay;
 use crate::fault::{Fault, Status, tell};
+use crate::replays::do_replay;
 use clap::ArgMatches;
 use clap::error::ErrorKind;
 use std::alloc::{AllocError, Global};
@@ -49,13 +54,38 @@ fn words(rt: &HostRuntime) -> io::Result<Vec<String>> {
 }
 
 fn run_matches(rt: &HostRuntime, matches: &ArgMatches<'_>) -> Status {
-    let Some(("replay", arguments)) = matches.subcommand() else {
+    match matches.subcommand() {
+        Some(("check", arguments)) => run_check(rt, arguments),
+        Some(("replay", arguments)) => run_replay(rt, arguments),
+        _ => fail(&mut rt.stderr(), Fault::Usage),
+    }
+}
+
+fn run_check(rt: &HostRuntime, arguments: &ArgMatches<'_>) -> Status {
+    let Some(path) = arguments.get_str("FILE") else {
         return fail(&mut rt.stderr(), Fault::Usage);
     };
+    check_path(rt, path)
+}
+
+fn run_replay(rt: &HostRuntime, arguments: &ArgMatches<'_>) -> Status {
     let (Some(path), Some(steps)) = (arguments.get_str("FILE"), arguments.get_strs("STEP")) else {
         return fail(&mut rt.stderr(), Fault::Usage);
     };
     replay_path(rt, path, steps)
+}
+
+// `fence check FILE`, where `-` is standard input.
+fn check_path(rt: &HostRuntime, path: &str) -> Status {
+    let mut output = rt.stdout();
+    let mut errors = rt.stderr();
+    if path == "-" {
+        return do_check(rt.alloc(), &mut rt.stdin(), &mut output, &mut errors);
+    }
+    match fs::open(rt, path) {
+        Ok(mut file) => do_check(rt.alloc(), &mut file, &mut output, &mut errors),
+        Err(error) => fail(&mut errors, file_fault(&error)),
+    }
 }
 
 // `fence replay FILE STEP..`, where `-` is standard input.

@@ -1,5 +1,5 @@
 -- READ KEYS and READ RESERVATION: which arm takes their data.
-use Rattle.std.proofs.Common.{◌≡◌, ◌≢◌, ◌⊎◌, ℕ, zero, suc, ◌+◌, ◌<◌, ◌≤◌, Bool, true, false, ◌==◌, ◌&&◌, ◌||◌, IsTrue, IfSome, IfNone, List, length, position, Option, Some, None, refl, sym, ap, ◌∙◌, subst, inl, inr, arith}
+use Rattle.std.proofs.Common.{◌≡◌, ◌⊎◌, ℕ, ◌+◌, ◌<◌, ◌≤◌, Bool, true, false, ◌==◌, ◌||◌, IfSome, IfNone, List, length, position, Option, Some, None, refl, sym, ap, ◌∙◌, subst, inl, inr, arith}
 use Rattle.std.specs.List.{slice_get, Contains, All}
 use Rattle.std.proofs.lemmas.List.Elements.{All-weaker}
 use Rattle.std.proofs.lemmas.Bool.{cases_eq, cases_order, false≢true, and_parts}
@@ -10,7 +10,6 @@ use Rattle.pr_cdb.specs.declared.command.Command.{Command}
 use Rattle.pr_cdb.specs.declared.command.Command.TheVariants as command
 use Rattle.pr_registry.specs.Registrations.{State, key_of}
 use Rattle.pr_unit.specs.UnitStates.{UnitState}
-use Rattle.pr_unit.specs.Conflicts.{command_conflicts}
 use Rattle.pr_unit.specs.Replies.{good, data_of}
 use Rattle.pr_script.specs.declared.script.Test.{Test}
 use Rattle.pr_script.specs.declared.script.Test.TheVariants as test
@@ -19,8 +18,8 @@ use Rattle.pr_script.specs.Grammar.{is_read_keys, is_read_reservation, test_fits
 use Rattle.pr_sets.specs.declared.word.Word.{Word}
 use Rattle.pr_sets.specs.Words.{has}
 use Rattle.pr_views.specs.declared.possibilities.Possibilities.{Possibilities}
-use Rattle.pr_views.specs.Possibilities.{Scope, Registration, Reservation, IsSo, number_of}
-use Rattle.pr_views.specs.Views.{View, Shows}
+use Rattle.pr_views.specs.Possibilities.{Scope}
+use Rattle.pr_views.specs.Views.{Shows}
 use Rattle.pr_views.specs.Portions.{view_in}
 use Rattle.pr_views.proofs.Numbering.{one_registration}
 use Rattle.pr_regions.specs.declared.purpose.Purpose.TheVariants.{Look}
@@ -31,11 +30,11 @@ use Rattle.pr_regions.specs.declared.region.Ending.TheVariants as ending
 use Rattle.pr_regions.specs.inside.Parts.{Does, never}
 use Rattle.pr_regions.specs.Purposes.{is_refused, purpose_of}
 use Rattle.pr_regions.specs.Readings.{first_test, AreReadings, IsProperReading}
-use Rattle.pr_regions.specs.Regions.{Ends, Meets, IsInRegion, IsUntestedOrRegistered, standing_of}
+use Rattle.pr_regions.specs.Regions.{Ends, Meets, IsInRegion, standing_of}
 use Rattle.pr_regions.proofs.Meeting.{same_ends}
 use Rattle.pr_domain.specs.declared.place.Place.{Place}
 use Rattle.pr_domain.specs.declared.tally.Tally.{Tally}
-use Rattle.pr_domain.specs.inside.Gathering.{IsPlace, IsUniform, IsProper, IsAt}
+use Rattle.pr_domain.specs.inside.Gathering.{IsPlace, IsProper, IsAt}
 use Rattle.pr_domain.specs.inside.Tallies.{arm_of, way_of, Grows, IsRight, HasBoth, IsOwners, IsReadAt, IsReadFirst, IsRightReading, AreRightReadings}
 use Rattle.pr_domain.specs.declared.landing.Class.TheVariants as class
 use Rattle.pr_domain.specs.inside.Reporting.{looks, takes, AreBlind}
@@ -45,7 +44,7 @@ use Rattle.pr_domain.proofs.Growing.{grows_then, grows_from_none}
 use Rattle.pr_domain.proofs.Asked.{only_uniform, sender_is}
 
 -- the way is that of the arm
-arm_way : (tests : List Test) (u : UnitState) (c : Command) (arm : Option ℕ) (way : ℕ) → length tests ≤ 16 → (IfSome arm (λ n. n < 16) → way ≡ way_of arm) → IfNone arm (way ≡ 0)
+pub arm_way : (tests : List Test) (u : UnitState) (c : Command) (arm : Option ℕ) (way : ℕ) → length tests ≤ 16 → (IfSome arm (λ n. n < 16) → way ≡ way_of arm) → IfNone arm (way ≡ 0)
     → first_test tests (good (data_of u.registry c)) ≡ arm → first_test tests (good (data_of u.registry c)) ≡ arm_of way
 arm_way tests u c None way few some none is = is ∙ ap arm_of (sym none)
 arm_way tests u c (Some n) way few some none is =
@@ -155,6 +154,7 @@ right_readings s keys c tests view place r readings owners reads few are proper 
   own = owners.own;
   is = owners.is;
   few = few;
+  reads = reads;
   proper = proper b listed;
   looks = look_ends s view place r c reads owners.own owners.is;
   taken = λ u shown at.

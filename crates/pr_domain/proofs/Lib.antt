@@ -25,7 +25,10 @@ pub mod Owner
 pub mod Permissions
 pub mod Places
 pub mod Placing
+pub mod Present
+pub mod Reached
 pub mod Reported
+pub mod Retyped
 pub mod Roles
 pub mod Rounds
 pub mod Shown
@@ -36,4 +39,5 @@ pub mod Unpending
 pub mod Viewed
 pub mod Walking
 pub mod Ways
+pub mod Within
 pub mod Written

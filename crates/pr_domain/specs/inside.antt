@@ -6,6 +6,8 @@ pub mod Images
 pub mod Interfering
 pub mod Keeping
 pub mod Permitting
+pub mod Reaching
 pub mod Reporting
 pub mod Sendings
 pub mod Tallies
+pub mod Twins

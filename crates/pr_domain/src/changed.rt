@@ -97,8 +97,8 @@ fn mark(registration: u8, change: &Change) -> u8
     preempted + (released + removed)
 }
 
-// The attentions with these bits besides.
-fn marked(pending: Word, mark: u8) -> Word
+/// The attentions with these bits besides.
+pub(crate) fn marked(pending: Word, mark: u8) -> Word
     requires { mark < 16 }
     ensures { IsImage (first 16 pending) (λ q. bit_or q mark) (has result) }
 {

@@ -9,9 +9,11 @@ ghost use Rattle.pr_views.specs.Rooms.{scope_of, view_of, IsMade, AreAlike, AreI
 ghost use Rattle.pr_regions.specs.Purposes.{HasNumber};
 ghost use Rattle.pr_domain.specs.inside.Interfering.{IsOnlooking, IsWatched, Adds, Among, ClauseLeaves};
 ghost use Rattle.pr_domain.specs.Interference.{IsInterference};
+ghost use Rattle.pr_domain.specs.inside.Reaching.{HasShown};
 ghost use Rattle.pr_domain.specs.inside.Clauses.{purpose_for, IsClause, StandingLeads, PlaceLeads, FirstLeads};
 
 use crate::clauses::{may_send, purpose_for, senders};
+use crate::comparing::gains;
 use crate::keeping::{count_of_reservations, kept};
 use crate::onlooker::Onlooker;
 use crate::place::Place;
@@ -36,8 +38,9 @@ impl Onlooker {
         answer
     }
 
-    // Adds what is possible after a command of one of the clauses.
+    // Adds what is possible after a command of one of the clauses, where the answer has what is shown.
     fn add_role(&self, answer: &mut Possibilities, clauses: &[Clause], keys: &[u64])
+        requires shown { (s : Scope) → IsOnlooking s self.now → s.keys ≡ keys.now → HasShown s self.now.view answer.old }
         requires hosts { (1 ≤ self.now.hosts) × (self.now.hosts ≤ 8) }
         requires own { self.now.own < self.now.hosts }
         requires other { self.now.other < self.now.hosts }
@@ -50,8 +53,9 @@ impl Onlooker {
         }
     }
 
-    // Adds what is possible after a command of this clause.
+    // Adds what is possible after a command of this clause, until the answer has the most that it can leave.
     fn add_clause(&self, answer: &mut Possibilities, clause: &Clause, keys: &[u64])
+        requires shown { (s : Scope) → IsOnlooking s self.now → s.keys ≡ keys.now → HasShown s self.now.view answer.old }
         requires hosts { (1 ≤ self.now.hosts) × (self.now.hosts ≤ 8) }
         requires own { self.now.own < self.now.hosts }
         requires other { self.now.other < self.now.hosts }
@@ -59,7 +63,11 @@ impl Onlooker {
         requires action { IsClause keys.now clause.now }
         ensures { (s : Scope) → IsOnlooking s self.now → s.keys ≡ keys.now → Adds s answer.old answer.new (FirstLeads (count_of_reservations self.now.hosts) (view_in s self.now.view) clause.now self.now.other) (ClauseLeaves (view_in s self.now.view) clause.now self.now.other) }
     {
+        let most = self.most(clause, keys);
         for reservation in 0..count_of_reservations(self.hosts) {
+            if !gains(self.hosts, answer, &most) {
+                return;
+            }
             if self.view.reservations.has(reservation) {
                 let place = Place::of(self.hosts, self.other, reservation);
                 self.add_place(answer, &place, clause, keys);

@@ -41,7 +41,8 @@ impl Place {
         self.portion(view, senders, region).projected(self.hosts)
     }
 
-    fn portion(&self, view: &Possibilities, senders: Word, region: &Region) -> Portion
+    /// The portion of the view that those states are.
+    pub(crate) fn portion(&self, view: &Possibilities, senders: Word, region: &Region) -> Portion
         requires hosts { (1 ≤ self.now.hosts) × (self.now.hosts ≤ 8) }
         ensures sender { result.sender ≡ self.now.sender }
         ensures reservation { result.reservation ≡ self.now.reservation }

@@ -1,9 +1,13 @@
 //! What is found of each way in which a command can end.
 
-ghost use Rattle.std.specs.Prelude.{◌≡◌, ◌<◌, ℕ, false, ◌==◌, ◌&&◌, ◌||◌};
+ghost use Rattle.std.specs.Prelude.{◌≡◌, ◌<◌, ◌≤◌, ℕ, false, IsTrue, ◌==◌, ◌&&◌, ◌||◌};
+ghost use Rattle.pr_sets.specs.Numbers.{most};
+ghost use Rattle.pr_sets.specs.Words.{has};
 ghost use Rattle.pr_views.specs.Possibilities.{Item};
-ghost use Rattle.pr_domain.specs.inside.Tallies.{has_part, tallied};
+ghost use Rattle.pr_domain.specs.inside.Tallies.{has_part, tallied, HasFound};
+ghost use Rattle.pr_domain.specs.inside.Twins.{twinned};
 
+use crate::comparing::gains;
 use pr_views::Possibilities;
 
 /// For each way in which a command can end, what is so of the registrations and the reservation then: in a
@@ -32,4 +36,38 @@ impl Tally {
         joined.join(found);
         self.ways[way] = joined;
     }
+
+    /// Whether all that is found of this way, of so many hosts and guests, was added before.
+    pub(crate) fn has(&self, way: usize, hosts: u8, found: &Possibilities) -> bool
+        requires way { way < 20 }
+        requires hosts { hosts ≤ 8 }
+        ensures { IsTrue result → HasFound self.now way hosts found.now }
+    {
+        !gains(hosts, &self.ways[way], found)
+    }
+
+    /// Adds a reservation to each way that has this other one.
+    pub(crate) fn add_twin(&mut self, twin: u8, reservation: u8)
+        requires twin { twin < most }
+        requires reservation { reservation < most }
+        ensures { (way : ℕ) (i : Item) → tallied self.new way i ≡ twinned self.old twin reservation way i }
+    {
+        for way in 0..20 {
+            self.ways[way] = with_twin(&self.ways[way], twin, reservation);
+        }
+    }
+}
+
+// The same, and this reservation where the other one is.
+fn with_twin(found: &Possibilities, twin: u8, reservation: u8) -> Possibilities
+    requires twin { twin < most }
+    requires reservation { reservation < most }
+    ensures registrations { result.registrations ≡ found.now.registrations }
+    ensures reservations { (x : ℕ) → has result.reservations x ≡ (has found.now.reservations x || (x == reservation && has found.now.reservations twin)) }
+{
+    let mut joined = *found;
+    if found.reservations.has(twin) {
+        joined.reservations = found.reservations.with(reservation);
+    }
+    joined
 }

@@ -11,11 +11,13 @@ ghost use Rattle.pr_regions.specs.declared.region.Branch.{Branch as BranchOf};
 ghost use Rattle.pr_sets.specs.Words.{has};
 ghost use Rattle.pr_cdb.specs.declared.command.Command.{Command as CommandOf};
 ghost use Rattle.pr_script.specs.declared.script.Test.{Test as TestOf};
-ghost use Rattle.pr_views.specs.Possibilities.{Scope, count_of_reservations};
+ghost use Rattle.pr_unit.specs.UnitStates.{UnitState};
+ghost use Rattle.pr_views.specs.Possibilities.{Scope, Item, count_of_reservations};
 ghost use Rattle.pr_views.specs.Portions.{view_in};
 ghost use Rattle.pr_regions.specs.Regions.{HasRoom};
-ghost use Rattle.pr_domain.specs.inside.Gathering.{IsAt};
-ghost use Rattle.pr_domain.specs.inside.Tallies.{Grows, IsRight, AreRight, IsInOne, HasBoth, HasFirst, IsReserved, IsAsked, IsRefusedAt, IsOwners, IsOfScope, IsTally, IsRightReading, AreRightReadings, IsReadAt, IsReadFirst, way_of};
+ghost use Rattle.pr_domain.specs.declared.tally.Tally.{Tally as TallyOf};
+ghost use Rattle.pr_domain.specs.inside.Gathering.{IsPlace, IsUniform, IsAt};
+ghost use Rattle.pr_domain.specs.inside.Tallies.{IsRegistered, tallied, Grows, IsRight, AreRight, IsInOne, HasBoth, HasFirst, IsReserved, IsAsked, IsRefusedAt, IsOwners, IsOfScope, IsNothing, IsTally, IsRightReading, AreRightReadings, IsReadAt, IsReadFirst, way_of};
 
 use crate::arms::first_arm;
 use crate::changed::registrations_after;
@@ -157,6 +159,26 @@ fn way_of(arm: Option<usize>) -> usize
     }
 }
 
+// Whether all that may be so in the states of this region was added before, of the ways of GOOD and of this arm.
+fn is_tallied(
+    tally: &Tally,
+    view: &Possibilities,
+    place: Place,
+    senders: Word,
+    region: &Region,
+    arm: usize,
+) -> bool
+    requires hosts { (1 ≤ place.hosts) × (place.hosts ≤ 8) }
+    requires sender { place.sender < place.hosts }
+    requires reservation { place.reservation < count_of_reservations place.hosts }
+    requires arm { arm ≤ 16 }
+    ensures { IsTrue result → (s : Scope) → IsPlace s view.now place → IsUniform senders → (u : UnitState) (i : Item) → IsAt (view_in s view.now) place senders region.now u → IsRegistered s u i → (tallied tally.now 1 i ≡ true) × (tallied tally.now (3 + arm) i ≡ true) }
+{
+    let portion = place.portion(view, senders, region);
+    let found = part(portion.registrations, place.reservation);
+    tally.has(1, place.hosts, &found) && tally.has(3 + arm, place.hosts, &found)
+}
+
 // Adds the states in which this arm takes the data, in which nothing changes.
 fn add_reading(
     tally: &mut Tally,
@@ -171,6 +193,11 @@ fn add_reading(
     requires registration { registration ≤ 12 }
     ensures { (s : Scope) (c : CommandOf) (tests : List TestOf) → IsRightReading s c tests view.now place registration reading.now → Grows (view_in s view.now) c tests tally.old tally.new (IsReadAt s view.now place registration reading.now) }
 {
+    let senders = Word::only(registration);
+    let way = way_of(reading.arm);
+    if is_tallied(tally, view, place, senders, &reading.region, way) {
+        return;
+    }
     let none = Word::none();
     let change = Change {
         sender: None,
@@ -184,14 +211,7 @@ fn add_reading(
         region: reading.region,
         ending: Ending::Good(change),
     };
-    add_branch(
-        tally,
-        view,
-        place,
-        Word::only(registration),
-        &branch,
-        way_of(reading.arm),
-    );
+    add_branch(tally, view, place, senders, &branch, way);
 }
 
 // Adds those of all readings.
@@ -305,6 +325,36 @@ fn add_place(
     }
 }
 
+// Adds the states under one reservation to those under all that come before it. Commands that read end alike under
+// reservations with the same holders.
+fn add_reservation(
+    tally: &mut Tally,
+    view: &Possibilities,
+    place: Place,
+    keys: &[u64],
+    command: Command,
+    tests: &[Test],
+)
+    requires hosts { (1 ≤ place.hosts) × (place.hosts ≤ 8) }
+    requires sender { place.sender < place.hosts }
+    requires reservation { place.reservation < count_of_reservations place.hosts }
+    requires held { IsTrue (is_reservation place.hosts place.held) }
+    requires keys { AreDeclared keys.now }
+    requires few_keys { length keys.now ≤ 12 }
+    requires written { IsTrue (is_written keys.now command) }
+    requires tests { All (λ t. test_fits keys.now command t ≡ true) tests.now }
+    requires few { length tests.now ≤ 16 }
+    ensures { (s : Scope) (none : TallyOf) → IsOwners s keys.now view.now place → IsNothing none → Grows (view_in s view.now) command tests.now none tally.old (IsReserved s place.reservation) → Grows (view_in s view.now) command tests.now none tally.new (IsReserved s (place.reservation + 1)) }
+{
+    if is_reading(command) {
+        if let Some(twin) = place.twin(view) {
+            tally.add_twin(twin, place.reservation);
+            return;
+        }
+    }
+    add_place(tally, view, place, keys, command, tests);
+}
+
 /// How the owner's command ends in each of the states that the view shows, and what is so then.
 pub(crate) fn tally(
     view: &Possibilities,
@@ -333,7 +383,7 @@ pub(crate) fn tally(
                 reservation,
                 held: reservation_at(hosts, reservation),
             };
-            add_place(&mut tally, view, place, keys, command, tests);
+            add_reservation(&mut tally, view, place, keys, command, tests);
         }
         reservation += 1;
     }

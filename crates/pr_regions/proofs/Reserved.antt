@@ -34,10 +34,10 @@ use Rattle.pr_regions.proofs.Arms.{last_or_before, still_there, are_readings}
 -- ---- what a test finds in the data
 
 -- the tests that may stand under READ RESERVATION
-abbrev Fit : List ℕ → List Test → Type 0
+abbrev pub Fit : List ℕ → List Test → Type 0
 Fit keys tests = All (λ t. test_fits keys (ReadReservation written_length) t ≡ true) tests
 
-abbrev key_in : State → Option ℕ
+abbrev pub key_in : State → Option ℕ
 key_in u = option_map (λ r. r.0) (reservation u.keys u.held)
 
 -- the key of a reservation has 64 bits
@@ -82,7 +82,7 @@ prefix_alike p q (x ∷ xs) same =
 position_alike : {X : Type 0} (p q : X → Bool) (xs : List X) → All (λ x. p x ≡ q x) xs → position p xs ≡ position q xs
 position_alike p q xs same = ap (λ n. cond (nat_lt n (length xs)) (Some n) None) (prefix_alike p q xs same)
 
-first_found : (keys : List ℕ) (u : UnitState) (tests : List Test) (key : Option ℕ) → IsWellFormed u.registry → Fit keys tests → key_in u.registry ≡ key
+pub first_found : (keys : List ℕ) (u : UnitState) (tests : List Test) (key : Option ℕ) → IsWellFormed u.registry → Fit keys tests → key_in u.registry ≡ key
     → first_test tests (answer u (ReadReservation written_length)) ≡ position (passes_held key) tests
 first_found keys u tests key w fit is =
     position_alike (λ t. matches t (answer u (ReadReservation written_length))) (passes_held key) tests

@@ -2,3 +2,17 @@ pub mod Fronts
 pub mod KeyDigits
 pub mod TraceSteps
 pub mod Tracing
+pub mod Refusing
+pub mod EntryNames
+pub mod Cuts
+pub mod PairBytes
+pub mod EntryLines
+pub mod LinesInFront
+pub mod FrontLines
+pub mod WholeTraces
+pub mod SolidWords
+pub mod WordsBack
+pub mod TraceNames
+pub mod EntriesBack
+pub mod TracesBack
+pub mod Taking

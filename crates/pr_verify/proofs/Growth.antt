@@ -1,8 +1,8 @@
 -- A view lacks less once something is joined to it, and fewer possibilities where it was without one of them.
-use Rattle.std.proofs.Common.{◌≡◌, ℕ, zero, suc, ◌+◌, ◌<◌, ◌≤◌, Bool, true, false, ◌&&◌, nat_lt, List, length, refl, sym, ap, subst, ◌∙◌, inl, inr, ◌⊎◌, arith}
+use Rattle.std.proofs.Common.{◌≡◌, ℕ, ◌+◌, ◌<◌, ◌≤◌, Bool, true, false, ◌&&◌, nat_lt, refl, ap, subst, inl, inr, ◌⊎◌, arith}
 use Rattle.std.proofs.lemmas.Bool.{and_parts, ltb-true, lt-ltb, cases_lt}
-use Rattle.pr_views.specs.Possibilities.{Item, Registration, Reservation, Attentions, count_of_reservations, count_of_attentions}
-use Rattle.pr_views.specs.Views.{View, IsPossible, Within, Fits}
+use Rattle.pr_views.specs.Possibilities.{Registration, Reservation, Attentions}
+use Rattle.pr_views.specs.Views.{View, Within, Fits}
 use Rattle.pr_domain.specs.inside.Closing.{lacking, lacking_all}
 use Rattle.pr_domain.proofs.Closed.{Passes, lacking_less, lacking_fewer, lacking_all_less, lacking_all_fewer}
 use Rattle.pr_domain.proofs.Following.{few_keys}

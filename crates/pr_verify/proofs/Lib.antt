@@ -29,3 +29,4 @@ pub mod PlacesLines
 pub mod Growth
 pub mod Sketches
 pub mod Recalled
+pub mod Tasked

@@ -1,14 +1,13 @@
 -- What comes first of a repeat, and the places of a statement by its kind.
 use Rattle.std.specs.Prelude.{◌≡◌, ℕ, zero, suc, List, [], ◌∷◌, ◌++◌, map}
-use Rattle.std.proofs.Common.{refl, sym, ap, ◌∙◌, append_assoc}
+use Rattle.std.proofs.Common.{refl, ap, ◌∙◌, append_assoc}
 use Rattle.std.proofs.lemmas.List.{map_push}
-use Rattle.std.specs.List.{All, Contains}
+use Rattle.std.specs.List.{Contains}
 use Rattle.std.proofs.lemmas.List.Elements.{All-nil, All-cons, All-append, All-map, All-contains}
 use Rattle.pr_cdb.specs.Requests.{Fits}
 use Rattle.pr_cdb.specs.declared.command.Command.{Command}
 use Rattle.pr_script.specs.declared.script.Test.{Test}
 use Rattle.pr_script.specs.Scripts.{Stmts, Arms, sends, repeats}
-use Rattle.pr_verify.specs.declared.head.Head.{Head}
 use Rattle.pr_verify.specs.declared.places.Spot.{Spot}
 use Rattle.pr_verify.specs.Places.{Place, out_of, head_of, head_of_all, places, places_in, places_of_arms, round, tests_of, next_of, place}
 use Rattle.pr_verify.specs.inside.Listing.{place_of, AreInRange}

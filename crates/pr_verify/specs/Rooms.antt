@@ -1,5 +1,5 @@
 -- The place and the outline that values of the program are.
-use Rattle.std.specs.Prelude.{◌≡◌, ℕ, List, length, map, Option, Some, None}
+use Rattle.std.specs.Prelude.{◌≡◌, ℕ, length, map, Option, Some, None}
 use Rattle.std.specs.List.{All}
 use Rattle.pr_sets.specs.Numbers.{Numbers}
 use Rattle.pr_views.specs.declared.view.ViewOf.{ViewOf}

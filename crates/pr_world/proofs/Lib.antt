@@ -1,4 +1,10 @@
 pub mod Steps
+pub mod Fixed
+pub mod Judging
+pub mod Adding
+pub mod Admitting
+pub mod Histories
+pub mod Knowing
 pub mod Spelled
 pub mod Seats
 pub mod Happening
@@ -7,3 +13,8 @@ pub mod Beginning
 pub mod Trapping
 pub mod Running
 pub mod SafeReplays
+pub mod Counting
+pub mod Meaning
+pub mod Keeping
+pub mod Reserving
+pub mod Stepping

@@ -1,5 +1,10 @@
+pub mod Audits
 pub mod Ends
 pub mod Courses
 pub mod Turns
 pub mod Replays
 pub mod Laws
+pub mod Rooms
+pub mod Progress
+pub mod StepAnswers
+pub mod inside

@@ -1,11 +1,12 @@
 use super::matches_of;
 use std::test::Fail;
 
-const HELP: &str = "Runs SCSI fencing scripts against one logical unit
+const HELP: &str = "Verifies SCSI fencing scripts, and runs them against one logical unit
 
 Usage: fence <COMMAND>
 
 Commands:
+  check   Verifies the scripts, and writes the verdict
   replay  Lets hosts and guests take their turns in this order, and writes the trace
   help    Print this message or the help of the given subcommand(s)
 
@@ -13,7 +14,20 @@ Options:
   -h, --help     Print help
   -V, --version  Print version
 
-Exit status: 0 done; 1 a script is trapped; 2 the command line is at fault, or this help; 3 input or output is at fault; 4 memory ran out. A fault is told in one line on standard error.
+Exit status: 0 done or accepted; 1 a script is refused or trapped; 2 the command line is at fault, or this help; 3 input or output is at fault; 4 memory ran out. A fault is told in one line on standard error.
+";
+
+const CHECK_HELP: &str = "Verifies the scripts, and writes the verdict
+
+Usage: fence check <FILE>
+
+Arguments:
+  <FILE>  The scenario; - is standard input
+
+Options:
+  -h, --help  Print help
+
+For example: fence check preempted-writer.fence
 ";
 
 const REPLAY_HELP: &str =
@@ -29,6 +43,14 @@ Options:
   -h, --help  Print help
 
 For example: fence replay preempted-writer.fence a a b a
+";
+
+const NO_FILE: &str = "error: the following required arguments were not provided:
+  <FILE>
+
+Usage: fence check <FILE>
+
+For more information, try '--help'.
 ";
 
 const NO_STEP: &str = "error: the following required arguments were not provided:
@@ -50,9 +72,11 @@ const VERSION: &str = "fence 0.1.0 (language fence 1, proved with rattle-kit-13b
 
 #[test]
 fn a_refused_command_line_is_told_why(rt: HostRuntime) -> Result<(), Fail> {
-    let rows: [(&[&str], &str); 6] = [
+    let rows: [(&[&str], &str); 8] = [
         (&["fence"], HELP),
         (&["fence", "--help"], HELP),
+        (&["fence", "check", "--help"], CHECK_HELP),
+        (&["fence", "check"], NO_FILE),
         (&["fence", "replay", "--help"], REPLAY_HELP),
         (&["fence", "replay", "a.fence"], NO_STEP),
         (&["fence", "verify", "a.fence"], NO_SUCH_COMMAND),
@@ -71,6 +95,23 @@ fn a_refused_command_line_is_told_why(rt: HostRuntime) -> Result<(), Fail> {
             }
         }
     }
+    Ok(())
+}
+
+#[test]
+fn a_check_has_a_file(rt: HostRuntime) -> Result<(), Fail> {
+    let mut line = Vec::new(rt.alloc());
+    for word in ["fence", "check", "a.fence"] {
+        line.push(String::from_str(rt.alloc(), word)?)?;
+    }
+    let Ok(matches) = matches_of(rt.alloc(), &line) else {
+        return Err(Fail::from("refused"));
+    };
+    let Some((name, arguments)) = matches.subcommand() else {
+        return Err(Fail::from("no subcommand"));
+    };
+    assert_eq!(rt; name, "check");
+    assert_eq!(rt; arguments.get_str("FILE"), Some("a.fence"));
     Ok(())
 }
 

@@ -1,6 +1,6 @@
 -- What is found of each way in which a command can end once nothing is pending for its sender, before the
 -- attentions of the owner are looked at.
-use Rattle.std.specs.Prelude.{◌≡◌, ◌≢◌, ◌⊎◌, ℕ, zero, suc, ◌+◌, ◌<◌, ◌≤◌, length, Bool, true, false, ◌==◌, ◌&&◌, ◌||◌, List, Option, Some, None, is_some}
+use Rattle.std.specs.Prelude.{◌≡◌, ◌⊎◌, ℕ, zero, suc, ◌<◌, ◌≤◌, length, Bool, true, false, ◌||◌, List, Option, Some, None, is_some}
 use Rattle.std.specs.List.{slice_get, Contains}
 use Rattle.std.specs.Option.{option_map_or}
 use Rattle.pr_cdb.specs.declared.command.Command.{Command}
@@ -9,6 +9,7 @@ use Rattle.pr_unit.specs.Conflicts.{command_conflicts}
 use Rattle.pr_unit.specs.Faults.{command_fault}
 use Rattle.pr_unit.specs.Replies.{good, data_of}
 use Rattle.pr_script.specs.declared.script.Test.{Test}
+use Rattle.pr_script.specs.Grammar.{is_read_keys, is_read_reservation}
 use Rattle.pr_sets.specs.Words.{has}
 use Rattle.pr_views.specs.declared.possibilities.Possibilities.{Possibilities}
 use Rattle.pr_views.specs.Possibilities.{key_at, Scope, Item, Registration, Reservation, Attentions, IsSo}
@@ -43,6 +44,15 @@ has_part p (Attentions q) = false
 
 abbrev pub tallied : Tally → ℕ → Item → Bool
 tallied t way i = option_map_or (λ p. has_part p i) (slice_get t.ways way) false
+
+-- the tally has nothing
+abbrev pub IsNothing : Tally → Type 0
+IsNothing t = (way : ℕ) (i : Item) → tallied t way i ≡ false
+
+-- it has these registrations and reservations of the way
+pub record HasFound (t : Tally) (way hosts : ℕ) (found : Possibilities) : Type 0 where
+  pub registrations : (g r : ℕ) → g < hosts → has_at found.registrations g r ≡ true → tallied t way (Registration g r) ≡ true
+  pub reservations : (x : ℕ) → has found.reservations x ≡ true → tallied t way (Reservation x) ≡ true
 
 -- GOOD is told apart by the arm that takes the data, if one does
 abbrev pub arm_of : ℕ → Option ℕ
@@ -178,6 +188,7 @@ pub record IsRightReading (s : Scope) (c : Command) (tests : List Test) (view : 
   pub own : place.sender ≡ s.own
   pub is : IsPlace s view place
   pub few : length tests ≤ 16
+  pub reads : (is_read_keys c || is_read_reservation c) ≡ true
   pub proper : IsUntestedOrRegistered b.region.somebody
   pub looks : (change : Change) → Does change None never place.reservation never never never → (u : UnitState) → Shows (view_in s view) u → HasBoth s place r u
       → Ends s s.own (ending.Good change) u c

@@ -1,11 +1,13 @@
-use Rattle.std.proofs.Common.{◌≡◌, ℕ, refl, None}
+use Rattle.std.proofs.Common.{refl, None}
 use Rattle.pr_views.specs.Portions.{view_in}
 use Rattle.pr_regions.specs.declared.region.Change.{Change}
 use Rattle.pr_regions.specs.inside.Parts.{Does, never}
 use Rattle.pr_domain.specs.inside.Gathering.{IsAt}
 use Rattle.pr_domain.specs.inside.Tallies.{IsReadAt}
 use Rattle.pr_domain.proofs.DataTaken.{reading_right, read_at, at_read}
+use Rattle.pr_domain.proofs.Asked.{only_uniform}
 use Rattle.pr_domain.proofs.Growing.{grows_as}
+use Rattle.pr_domain.proofs.Present.{reading_there}
 use Rattle.pr_domain.proofs.tallying.add_reading.Goals as goal
 
 abbrev kept : (c : goal.After-add_branch) → Change
@@ -30,8 +32,13 @@ does c = record {
 
 pub returns : goal.returns
 returns c s c' tests right =
-    grows_as (view_in s c.args.view.now) c' tests c.args.tally.now c.add_branch.new.tally (IsAt (view_in s c.args.view.now) c.args.place c.only.result c.args.reading.now.region)
+    grows_as (view_in s c.args.view.now) c' tests c.args.tally.now c.add_branch.new.tally (IsAt (view_in s c.args.view.now) c.args.place c.only-senders.result c.args.reading.now.region)
     (IsReadAt s c.args.view.now c.args.place c.args.registration c.args.reading.now)
-    (λ u shown at. read_at s c.args.view.now c.args.place c.args.registration c.only.result c.args.reading.now u right.is c.only.ensures at)
-    (λ u shown read. at_read s c.args.view.now c.args.place c.args.registration c.only.result c.args.reading.now u right.is c.only.ensures shown read)
-    (c.add_branch.ensures s c' tests (reading_right s c' tests c.args.view.now c.args.place c.args.registration c.only.result c.args.reading.now _ (kept c) c.way_of.result right c.only.ensures refl refl (does c) c.way_of.ensures.way c.way_of.ensures.none))
+    (λ u shown at. read_at s c.args.view.now c.args.place c.args.registration c.only-senders.result c.args.reading.now u right.is c.only-senders.ensures at)
+    (λ u shown read. at_read s c.args.view.now c.args.place c.args.registration c.only-senders.result c.args.reading.now u right.is c.only-senders.ensures shown read)
+    (c.add_branch.ensures s c' tests (reading_right s c' tests c.args.view.now c.args.place c.args.registration c.only-senders.result c.args.reading.now _ (kept c) c.way_of-way.result right c.only-senders.ensures refl refl (does c) c.way_of-way.ensures.way c.way_of-way.ensures.none))
+
+pub returns-then-is_tallied : goal.returns-then-is_tallied
+returns-then-is_tallied c s c' tests right =
+    reading_there s c' tests c.args.view.now c.args.place c.args.registration c.only-senders.result c.args.reading.now c.way_of-way.result c.args.tally.now right c.only-senders.ensures c.way_of-way.ensures.way
+    c.way_of-way.ensures.none (c.is_tallied.ensures c.if-is_tallied.true s right.is (only_uniform c.args.registration c.only-senders.result c.only-senders.ensures))

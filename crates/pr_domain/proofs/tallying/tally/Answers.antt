@@ -1,8 +1,7 @@
-use Rattle.std.proofs.Common.{◌≡◌, ◌+◌, ◌*◌, length, refl, sym, ap, ◌∙◌, subst, arith}
+use Rattle.std.proofs.Common.{◌≡◌, ◌+◌, ◌*◌, sym, ◌∙◌, subst, arith}
 use Rattle.pr_views.specs.Portions.{view_in}
-use Rattle.pr_domain.specs.declared.place.Place.{Place}
-use Rattle.pr_domain.specs.inside.Tallies.{Grows, HasFirst, IsReserved}
-use Rattle.pr_domain.proofs.Walking.{reservation_more, reservation_skipped, place_of_number, tally_of_all}
+use Rattle.pr_domain.specs.inside.Tallies.{Grows, IsReserved}
+use Rattle.pr_domain.proofs.Walking.{reservation_skipped, place_of_number, tally_of_all}
 use Rattle.pr_domain.proofs.tallying.tally.Goals as goal
 use Rattle.pr_domain.proofs.tallying.tally.Goals.{then-has, else-has}
 
@@ -14,10 +13,8 @@ loop-reservation-preserved c = (
       elim c.if-has.branch [
         | then-has w ↦
             let owners = place_of_number s c.args.hosts c.args.own c.args.keys.now c.args.view.now n w.reservation_at.result of c.requires.own (sym c.has.ensures ∙ w.if-has.true) w.reservation_at.ensures.number w.reservation_at.ensures.fits in
-            let place : Place = record { hosts = c.args.hosts; sender = c.args.own; reservation = n; held = w.reservation_at.result } in
             subst (λ t. Grows (view_in s c.args.view.now) c.args.command c.args.tests.now c.none-tally.result t (IsReserved s (n + 1))) (sym w.tally-is)
-            (reservation_more s c.args.command c.args.tests.now c.args.view.now place n c.none-tally.result c.loop-reservation.tally w.add_place.new.tally owners.is refl before
-            (subst (λ k. Grows (view_in s c.args.view.now) c.args.command c.args.tests.now c.loop-reservation.tally w.add_place.new.tally (HasFirst s place (length k + 1))) (sym of.same_keys) (w.add_place.ensures s owners)))
+            (w.add_reservation.ensures s c.none-tally.result owners c.none-tally.ensures before)
         | else-has w ↦ subst (λ t. Grows (view_in s c.args.view.now) c.args.command c.args.tests.now c.none-tally.result t (IsReserved s (n + 1))) (sym w.tally-is)
             (reservation_skipped s c.args.command c.args.tests.now c.args.view.now n c.none-tally.result c.loop-reservation.tally (sym c.has.ensures ∙ w.if-has.false) before)
       ],

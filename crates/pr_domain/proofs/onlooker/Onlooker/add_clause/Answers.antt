@@ -1,10 +1,11 @@
-use Rattle.std.proofs.Common.{◌≡◌, ◌+◌, sym, ◌∙◌, subst, arith}
+use Rattle.std.proofs.Common.{◌≡◌, ◌+◌, refl, sym, ◌∙◌, subst, arith}
 use Rattle.pr_views.specs.Possibilities.{count_of_reservations}
 use Rattle.pr_views.specs.Portions.{view_in}
 use Rattle.pr_domain.specs.inside.Interfering.{IsWatched, Adds, ClauseLeaves}
 use Rattle.pr_domain.specs.inside.Clauses.{PlaceLeads, FirstLeads}
 use Rattle.pr_domain.proofs.Leading.{first_none, first_more, first_skips}
 use Rattle.pr_domain.proofs.Shown.{is_place}
+use Rattle.pr_domain.proofs.Reached.{adds_most}
 use Rattle.pr_domain.proofs.onlooker.Onlooker.add_clause.Goals.{then-has, else-has}
 use Rattle.pr_domain.proofs.onlooker.Onlooker.add_clause.Goals as goal
 
@@ -39,3 +40,8 @@ returns c s is same =
     let whole : c.loop-reservation.reservation ≡ count_of_reservations c.args.self.now.hosts = omega arith in
     subst (λ n. Adds s c.args.answer.now c.loop-reservation.answer (FirstLeads n (view_in s c.args.self.now.view) c.args.clause.now c.args.self.now.other)
     (ClauseLeaves (view_in s c.args.self.now.view) c.args.clause.now c.args.self.now.other)) whole (c.loop-reservation.invariant s is same)
+
+pub returns-then-not-gains : goal.returns-then-not-gains
+returns-then-not-gains c s is same =
+    adds_most s c.args.self.now c.args.clause.now c.args.answer.now c.loop-reservation.answer c.most-most.result c.loop-reservation.reservation (count_of_reservations c.args.self.now.hosts)
+    (c.requires.shown s is same) (c.most-most.ensures s is same) (c.if-not-gains.ensures.none refl s is.hosts) (c.loop-reservation.invariant s is same)

@@ -24,3 +24,6 @@ returns c s is same =
     let whole : c.loop-clause.clause-index ≡ length clauses = omega arith in
     subst (λ n. Adds s c.args.answer.now c.loop-clause.answer (λ u w. Among n clauses (λ clause. FirstLeads (count_of_reservations o.hosts) (view_in s o.view) clause o.other u w))
     (λ i. Among n clauses (λ clause. ClauseLeaves (view_in s o.view) clause o.other i))) whole (c.loop-clause.invariant s is same)
+
+pub add_clause-requires-clause-shown : goal.add_clause-requires-clause-shown
+add_clause-requires-clause-shown c s is same u i shown so = (c.loop-clause.invariant s is same).kept i (c.requires.shown s is same u i shown so)

@@ -1,0 +1,7 @@
+use Rattle.std.proofs.Common.{arith}
+use Rattle.std.proofs.lemmas.Bool.{not-true}
+use Rattle.pr_domain.proofs.Present.{has_found}
+use Rattle.pr_domain.proofs.tally.Tally.has.Goals as goal
+
+pub returns : goal.returns
+returns c tells = has_found c.args.self.now c.args.way c.args.hosts _ c.args.found.now (omega arith) (c.gains.ensures.none (not-true c.gains.result tells))

@@ -1,0 +1,33 @@
+//! Which possibilities are new beside others.
+
+ghost use Rattle.std.specs.Prelude.{◌≡◌, ◌≤◌, ℕ, true, false, IsTrue};
+ghost use Rattle.pr_sets.specs.Words.{has};
+ghost use Rattle.pr_views.specs.Possibilities.{Scope};
+ghost use Rattle.pr_views.specs.Views.{Within};
+ghost use Rattle.pr_views.specs.Portions.{view_in};
+ghost use Rattle.pr_domain.specs.inside.Closing.{IsNew};
+
+use pr_sets::Word;
+use pr_views::Possibilities;
+
+/// Whether the new possibilities have one that the old ones are without.
+pub(crate) fn gains(hosts: u8, old: &Possibilities, new: &Possibilities) -> bool
+    requires { hosts ≤ 8 }
+    ensures gained { IsTrue result → (s : Scope) → s.hosts ≡ hosts → IsNew s old.now new.now }
+    ensures none { result ≡ false → (s : Scope) → s.hosts ≡ hosts → Within (view_in s new.now) (view_in s old.now) }
+{
+    for host in 0..usize::from(hosts) {
+        if exceeds(new.registrations[host], old.registrations[host]) {
+            return true;
+        }
+    }
+    exceeds(new.reservations, old.reservations) || exceeds(new.pending, old.pending)
+}
+
+// Whether the one set has a number that the other has not.
+fn exceeds(new: Word, old: Word) -> bool
+    ensures gained { IsTrue result → (n : ℕ) × (has new n ≡ true) × (has old n ≡ false) }
+    ensures none { result ≡ false → (n : ℕ) → has new n ≡ true → has old n ≡ true }
+{
+    !new.except(old).is_empty()
+}

@@ -1,0 +1,40 @@
+//! Reservations that have the same holders, and differ in type alone.
+
+ghost use Rattle.std.specs.Prelude.{◌≡◌, ◌<◌, ◌≤◌, IsTrue, IfSome};
+ghost use Rattle.pr_views.specs.Possibilities.{count_of_reservations};
+ghost use Rattle.pr_domain.specs.inside.Twins.{AreTwins, IsTwin};
+
+use crate::place::Place;
+use pr_regions::reservation_at;
+use pr_registry::Held;
+use pr_views::Possibilities;
+
+impl Place {
+    /// The first reservation of the view that has the same holders as this one, if it comes before it.
+    pub(crate) fn twin(&self, view: &Possibilities) -> Option<u8>
+        requires hosts { (1 ≤ self.now.hosts) × (self.now.hosts ≤ 8) }
+        requires reservation { self.now.reservation < count_of_reservations self.now.hosts }
+        ensures { IfSome result (IsTwin view.now self.now) }
+    {
+        for reservation in 0..self.reservation {
+            if view.reservations.has(reservation) {
+                let held = reservation_at(self.hosts, reservation);
+                if have_same_holders(held, self.held) {
+                    return Some(reservation);
+                }
+            }
+        }
+        None
+    }
+}
+
+// Whether the same host holds both alone, or all registrants hold both.
+fn have_same_holders(held: Option<Held>, other: Option<Held>) -> bool
+    ensures { IsTrue result → AreTwins held other }
+{
+    match (held, other) {
+        (Some(Held::One(_, holder)), Some(Held::One(_, other))) => holder == other,
+        (Some(Held::All(_)), Some(Held::All(_))) => true,
+        _ => false,
+    }
+}

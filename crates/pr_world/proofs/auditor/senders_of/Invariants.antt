@@ -1,0 +1,10 @@
+use Rattle.std.proofs.Common.{◌≡◌, take}
+use Rattle.std.specs.Prelude.{map}
+use Rattle.pr_roles.specs.Scenarios.{nexus_of}
+use Rattle.pr_roles.specs.Worlds.{control_of}
+use Rattle.pr_world.specs.inside.Auditing.{control_by}
+use Rattle.pr_world.proofs.auditor.senders_of.Given as goal
+
+-- those before this one are at their beginning
+abbrev pub invariant-loop-nexus : goal.invariant-loop-nexus
+invariant-loop-nexus l = map control_by l.senders.items ≡ map (λ n. control_of n.task) (map nexus_of (take l.nexus-index l.nexus-items))

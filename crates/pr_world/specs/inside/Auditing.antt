@@ -1,0 +1,84 @@
+-- The entries that may come next in an audit.
+use Rattle.std.specs.Prelude.{◌≡◌, ℕ, ◌≤◌, Bool, true, false, IsTrue, List, [], ◌∷◌, ◌++◌, Some, Ok, length, map}
+use Rattle.pr_cdb.specs.declared.command.Command.{Command}
+use Rattle.pr_cdb.specs.declared.wire.Request.{Request}
+use Rattle.pr_cdb.specs.declared.wire.Request.TheVariants.{Plain}
+use Rattle.pr_cdb.specs.Requests.{requested, AreBytes}
+use Rattle.pr_cdb.specs.Spelling.{spelling}
+use Rattle.pr_unit.specs.UnitStates.{UnitState}
+use Rattle.pr_unit.specs.Replies.{is_good}
+use Rattle.pr_unit.specs.Steps.{Step}
+use Rattle.pr_script.specs.Scripts.{ready}
+use Rattle.pr_roles.specs.declared.role.Clause.{Clause}
+use Rattle.pr_roles.specs.declared.entry.Entry.{Entry}
+use Rattle.pr_roles.specs.Permits.{is_permitted}
+use Rattle.pr_roles.specs.Scenarios.{Scenario}
+use Rattle.pr_roles.specs.Worlds.{World, Event, Happens, Control, Going, Trapped, Free, standing_of, taken}
+use Rattle.pr_world.specs.declared.auditor.Auditor.{Auditor}
+use Rattle.pr_world.specs.declared.sender.Sender.{Sender}
+use Rattle.pr_world.specs.declared.sender.Sender.TheVariants as sender
+use Rattle.pr_world.specs.Courses.{is_free, is_planned}
+
+-- ---- one host or guest
+
+-- the script's next command is spelled so, the unit may answer it so, and the script takes the reply
+pub record ScriptSends (k : Control) (u : UnitState) (e : Entry) (after : Control) (v : UnitState) : Type 0 where
+  pub line : ℕ
+  pub command : Command
+  pub ready : standing_of k ≡ Some (ready line command)
+  pub wire : e.wire ≡ spelling command
+  pub step : Step u e.host (Plain command) e.reply v
+  pub takes : after ≡ taken line k e.reply
+
+-- the bytes are a request, the unit may answer it so, and where that is GOOD the role permits it
+pub record GuestSendsSo (clauses : List Clause) (u : UnitState) (e : Entry) (v : UnitState) : Type 0 where
+  pub bytes : AreBytes e.wire.cdb.items × AreBytes e.wire.params.items
+  pub lengths : (length e.wire.cdb.items ≤ 16) × (length e.wire.params.items ≤ 24)
+  pub request : Request
+  pub read : requested e.wire ≡ Ok request
+  pub step : Step u e.host request e.reply v
+  pub permitted : is_good e.reply ≡ true → IsTrue (is_permitted clauses u.registry e.host request)
+
+-- The entry may come next, of one that acts so under this role. Then it acts otherwise, and the unit is in another state.
+abbrev pub MayCome : Control → List Clause → UnitState → Entry → Control → UnitState → Type 0
+MayCome (Going l) clauses u e after v = ScriptSends (Going l) u e after v
+MayCome (Trapped line) clauses u e after v = ⊥
+MayCome Free clauses u e after v = GuestSendsSo clauses u e v × (after ≡ Free)
+
+-- True: it may come next, and this comes of it. False: it may not, whatever would come of it, and nothing changes.
+abbrev pub IsJudged : Control → List Clause → UnitState → Entry → Bool → Control → UnitState → Type 0
+IsJudged k clauses u e true after v = MayCome k clauses u e after v
+IsJudged k clauses u e false after v =
+    (after ≡ k) × (v ≡ u) × ((other : Control) (w : UnitState) → MayCome k clauses u e other w → ⊥)
+
+abbrev pub control_by : Sender → Control
+control_by (sender.Host l) = Going l
+control_by (sender.Trapped line) = Trapped line
+control_by sender.Guest = Free
+
+-- the same of a guest
+abbrev pub IsGuestJudged : List Clause → UnitState → Entry → Bool → UnitState → Type 0
+IsGuestJudged clauses u e true v = GuestSendsSo clauses u e v
+IsGuestJudged clauses u e false v = (v ≡ u) × ((w : UnitState) → GuestSendsSo clauses u e w → ⊥)
+
+-- ---- all of them
+
+-- the world of an audit after these entries
+abbrev pub world_at : Auditor → List Entry → World
+world_at a entries = record { unit = a.unit; controls = map control_by a.senders.items; entries = entries }
+
+-- some event adds the entry
+pub record Adds (s : Scenario) (w : World) (e : Entry) (v : World) : Type 0 where
+  pub event : Event
+  pub happens : Happens s w event v
+  pub added : v.entries ≡ w.entries ++ e ∷ []
+
+-- true: some event adds it, and whatever event does leads here; false: none does
+abbrev pub IsTried : Scenario → World → Entry → Bool → World → Type 0
+IsTried s w e true v = Adds s w e v × ((x : World) → Adds s w e x → x ≡ v)
+IsTried s w e false v = (x : World) → Adds s w e x → ⊥
+
+-- there is one host or guest for each that the scenario declares, and just the guests send what they like
+pub record ActFor (s : Scenario) (w : World) : Type 0 where
+  pub hosts : w.unit.registry.hosts ≡ length s.nexuses
+  pub tasks : map is_free w.controls ≡ map (λ n. is_planned n.task) s.nexuses

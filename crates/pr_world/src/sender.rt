@@ -1,0 +1,107 @@
+//! The hosts and guests of an audit.
+
+ghost use Rattle.std.specs.Prelude.{◌≡◌, ◌<◌, ℕ, slice_index, IfOk};
+ghost use Rattle.pr_cdb.specs.Requests.{AreBytes};
+ghost use Rattle.pr_roles.specs.Permits.{is_permitted};
+ghost use Rattle.pr_roles.specs.Scenarios.{task_of};
+ghost use Rattle.pr_roles.specs.Worlds.{control_of};
+ghost use Rattle.pr_world.specs.Courses.{IsShort};
+ghost use Rattle.pr_world.specs.inside.Auditing.{IsGuestJudged, IsJudged, control_by};
+
+use pr_cdb::{Request, Status, decode, encode};
+use pr_roles::{Entry, Nexus, Role, Task, permits};
+use pr_script::{Machine, Next};
+use pr_unit::Unit;
+use std::alloc::{AllocError, Global};
+
+/// A host or guest of an audit. Of a guest's plan an audit knows nothing.
+#[derive(Debug, Drop)]
+pub(crate) enum Sender {
+    /// The host's script goes on.
+    Host(Machine),
+
+    /// The host's script met a reply without an arm, at the send of this line.
+    Trapped(u32),
+
+    Guest,
+}
+
+impl Sender {
+    /// The host or guest at its beginning.
+    pub(crate) fn new(alloc: Global, nexus: &Nexus) -> Result<Sender, AllocError>
+        requires { IsShort (task_of nexus.now.task) }
+        ensures { IfOk result (λ sender. control_by sender ≡ control_of (task_of nexus.now.task)) }
+    {
+        match &nexus.task {
+            Task::Scripted { script, .. } => Ok(Sender::Host(Machine::new(alloc, script)?)),
+            Task::Planned(_) => Ok(Sender::Guest),
+        }
+    }
+
+    /// Whether it may have sent this entry, and the unit may have answered so. Where they may, they go past
+    /// it; else nothing changes.
+    pub(crate) fn sends(&mut self, unit: &mut Unit, role: &Role, entry: &Entry) -> bool
+        requires { entry.now.host < unit.old.registry.hosts }
+        ensures judged { IsJudged (control_by self.old) role.now.clauses.items unit.old entry.now result
+            (control_by self.new) unit.new }
+    {
+        match self {
+            Sender::Host(machine) => {
+                let (line, command) = match machine.next() {
+                    Next::Send { line, command } => (line, command),
+                    Next::Stopped(_) => return false,
+                };
+                if entry.wire != encode(&command) {
+                    return false;
+                }
+                if !unit.follow(entry.host, &entry.wire, &entry.reply) {
+                    return false;
+                }
+                if machine.take(&entry.reply).is_err() {
+                    *self = Sender::Trapped(line);
+                }
+                true
+            }
+            Sender::Trapped(_) => false,
+            Sender::Guest => guest_sends(unit, role, entry),
+        }
+    }
+}
+
+// Whether a guest with this role may have sent the entry, and the unit may have answered so.
+fn guest_sends(unit: &mut Unit, role: &Role, entry: &Entry) -> bool
+    requires { entry.now.host < unit.old.registry.hosts }
+    ensures { IsGuestJudged role.now.clauses.items unit.old entry.now result unit.new }
+{
+    let cdb = entry.wire.cdb.as_slice();
+    let params = entry.wire.params.as_slice();
+    look_at(cdb);
+    look_at(params);
+    let Ok(request) = decode(cdb, params) else {
+        return false;
+    };
+    if entry.reply.status == Status::Good && !is_permitted(role, unit, entry.host, request) {
+        return false;
+    }
+    unit.follow(entry.host, &entry.wire, &entry.reply)
+}
+
+// Whether the role permits the request to end GOOD.
+fn is_permitted(role: &Role, unit: &Unit, host: u8, request: Request) -> bool
+    requires { host < unit.now.registry.hosts }
+    ensures { result ≡ is_permitted role.now.clauses.items unit.now.registry host request }
+{
+    match request {
+        Request::Plain(command) => permits(role, unit, host, &command),
+        Request::Faulty(_) => false,
+    }
+}
+
+// Looks at each byte, by which a proof knows that it is one.
+fn look_at(bytes: &[u8])
+    ensures { AreBytes bytes.now }
+{
+    for byte in bytes {
+        let _ = *byte;
+    }
+}
