@@ -1,14 +1,21 @@
 -- The hosts and guests of a scenario, as they are kept.
-use Rattle.std.proofs.Common.{◌≡◌, ℕ, zero, suc, ◌<◌, ◌≤◌, Bool, true, not, ◌==◌, ◌&&◌, nat_le, IsTrue, List, [], ◌∷◌, length, map, bytes_eq, slice_index_or, Option, Some, None, refl, sym, ap, ◌∙◌, subst, arith}
+use Rattle.std.proofs.Common.{◌≡◌, ℕ, zero, suc, ◌<◌, ◌≤◌, Bool, true, not, ◌==◌, ◌&&◌, nat_le, IsTrue, List, [], ◌∷◌, length, map, bytes_eq, slice_index_or, Option, Some, None, Vec, Global, refl, sym, ap, ◌∙◌, subst, arith}
 use Rattle.std.specs.List.{list_all, slice_get}
 use Rattle.std.specs.Option.{option_map_or}
-use Rattle.std.proofs.lemmas.Bool.{and_parts}
+use Rattle.std.proofs.lemmas.Bool.{and_parts, leb-true}
+use Rattle.std.proofs.lemmas.Option.{slice_get_within}
 use Rattle.pr_roles.specs.declared.parts.Nexus.{Nexus as NexusPart}
 use Rattle.pr_roles.specs.declared.parts.Parts.{Parts}
-use Rattle.pr_roles.specs.Scenarios.{Scenario, Nexus, nexus_of, task_of, scenario_of, role, task}
+use Rattle.pr_roles.specs.declared.parts.Task.TheVariants as part
+use Rattle.pr_roles.specs.Scenarios.{Scenario, Nexus, Scripted, nexus_of, task_of, scenario_of, role, task}
 use Rattle.pr_roles.specs.Fitting.{Fits, are_distinct, is_role, is_start, is_task, is_nexus, are_nexuses}
+use Rattle.pr_cdb.specs.declared.command.Command.{Command}
+use Rattle.pr_script.specs.declared.script.Script.{Script}
 use Rattle.pr_script.specs.Names.{is_name}
+use Rattle.pr_script.specs.Grammar.{script_fits}
+use Rattle.pr_script.specs.Trees.{script_of}
 use Rattle.pr_domain.proofs.Roles.{role_at, count_of_parts}
+use Rattle.pr_verify.specs.Rooms.{IsScripted}
 
 -- ---- each fits
 
@@ -76,3 +83,27 @@ task_fits p q k j n is =
 pub is_kept : (p q : Parts) (k j : ℕ) → q ≡ p → k ≡ j → j < length (scenario_of p).nexuses → k < length q.nexuses.items
 is_kept p q k j same place there =
     subst (λ m. m < length q.nexuses.items) (sym place) (subst (λ (r : Parts). j < length r.nexuses.items) (sym same) (subst (λ m. j < m) (count_of_parts p) there))
+
+-- ---- its task
+
+-- a host that is scripted is there
+pub scripted_there : (s : Scenario) (h : ℕ) → IsScripted (task s h) → h < length s.nexuses
+scripted_there s h scripted = at (slice_get s.nexuses h) refl scripted
+  where
+    at : (o : Option Nexus) → slice_get s.nexuses h ≡ o → IsScripted (option_map_or (λ (n : Nexus). Some n.task) o None) → h < length s.nexuses
+    at None is none = absurd none
+    at (Some n) is some = slice_get_within s.nexuses h n is
+
+module _ (p q : Parts) (k j : ℕ) (n : NexusPart) (read : IsRead p q k j n) where
+  pub scripted_task : (script : Script) (budget : ℕ) → n.task ≡ part.Scripted script budget → task (scenario_of p) j ≡ Some (Scripted (script_of script) budget)
+  scripted_task script budget is = task_read p q k j n read ∙ ap (λ t. Some (task_of t)) is
+
+  pub scripted_fits : (script : Script) (budget : ℕ) → n.task ≡ part.Scripted script budget → (script_fits (scenario_of p).keys (script_of script) ≡ true) × (budget ≤ 4096)
+  scripted_fits script budget is =
+      let keys = (scenario_of p).keys in
+      let fits = subst (λ t. is_task keys (task_of t) ≡ true) is (task_fits p q k j n read) in
+      let both = and_parts (script_fits keys (script_of script)) (nat_le 1 budget && nat_le budget 4096) fits in
+      (both.0, leb-true budget 4096 (and_parts (nat_le 1 budget) (nat_le budget 4096) both.1).1)
+
+  pub planned_not : (commands : Vec Command Global) → n.task ≡ part.Planned commands → IsScripted (task (scenario_of p) j) → ⊥
+  planned_not commands is scripted = subst IsScripted (task_read p q k j n read ∙ ap (λ t. Some (task_of t)) is) scripted

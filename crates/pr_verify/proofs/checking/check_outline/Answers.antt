@@ -1,0 +1,79 @@
+use Rattle.std.proofs.Common.{◌≡◌, ◌<◌, length, rules, sym, subst, arith}
+use Rattle.std.proofs.lemmas.Result.{IfOk-weaker, IfErr-weaker}
+use Rattle.pr_script.specs.Trees.{script_of}
+use Rattle.pr_roles.specs.Scenarios.{scenario_of, task}
+use Rattle.pr_verify.specs.Outlines.{OnScripted, IsSound, IsFitting}
+use Rattle.pr_verify.specs.Refusals.{IsRefusal}
+use Rattle.pr_verify.specs.Rooms.{outline_of}
+use Rattle.pr_verify.proofs.Nexuses.{IsRead, is_kept, scripted_there, scripted_task, scripted_fits, planned_not}
+use Rattle.pr_verify.proofs.checking.check_outline.Goals as goal
+
+pub index-requires : goal.index-requires
+index-requires g c =
+    let s = scenario_of c.args.scenario.now in
+    let host = c.args.outline.now.host in
+    let all = is_kept c.args.scenario.now c.parts.result.now c.from.result host c.parts.ensures.value c.from.ensures (scripted_there s host c.requires.scripted) in
+    omega (arith, c.parts.result.now.nexuses.ok.0)
+
+pub check_script-requires : goal.check_script-requires
+check_script-requires g c =
+    let host = c.args.outline.now.host in
+    let there = scripted_there (scenario_of c.args.scenario.now) host c.requires.scripted in
+    let read : IsRead c.args.scenario.now c.parts.result.now c.from.result host c.index.result.now = record { same = c.parts.ensures.value; fits = c.parts.ensures.fits; place = c.from.ensures; there = there; read = c.index.ensures } in
+    let fits = scripted_fits c.args.scenario.now c.parts.result.now c.from.result host c.index.result.now read c.in-Scripted.script c.in-Scripted.budget c.in-Scripted.is in
+    (search rules, (there, (fits.0, (fits.1, (c.parts.ensures.starts, c.requires.made)))))
+
+pub unreachable-requires : goal.unreachable-requires
+unreachable-requires g c =
+    let host = c.args.outline.now.host in
+    let there = scripted_there (scenario_of c.args.scenario.now) host c.requires.scripted in
+    let read : IsRead c.args.scenario.now c.parts.result.now c.from.result host c.index.result.now = record { same = c.parts.ensures.value; fits = c.parts.ensures.fits; place = c.from.ensures; there = there; read = c.index.ensures } in
+    planned_not c.args.scenario.now c.parts.result.now c.from.result host c.index.result.now read c.in-Planned.field-0 c.in-Planned.is c.requires.scripted
+
+pub returns-clause-sound : goal.returns-clause-sound
+returns-clause-sound g c =
+    let s = scenario_of c.args.scenario.now in
+    let o = outline_of g.S.ViewSet.members c.args.outline.now in
+    let host = c.args.outline.now.host in
+    let read : IsRead c.args.scenario.now c.parts.result.now c.from.result host c.index.result.now = record {
+      same = c.parts.ensures.value;
+      fits = c.parts.ensures.fits;
+      place = c.from.ensures;
+      there = scripted_there s host c.requires.scripted;
+      read = c.index.ensures;
+    } in
+    let is = scripted_task c.args.scenario.now c.parts.result.now c.from.result host c.index.result.now read c.in-Scripted.script c.in-Scripted.budget c.in-Scripted.is in
+    IfOk-weaker c.check_script.result (λ _. IsSound s (script_of c.in-Scripted.script) o) (λ _. OnScripted (task s host) (λ script budget. IsSound s script o))
+    (λ _ sound. subst (λ t. OnScripted t (λ script budget. IsSound s script o)) (sym is) sound) c.check_script.ensures.sound
+
+pub returns-clause-fitting : goal.returns-clause-fitting
+returns-clause-fitting g c =
+    let s = scenario_of c.args.scenario.now in
+    let o = outline_of g.S.ViewSet.members c.args.outline.now in
+    let host = c.args.outline.now.host in
+    let read : IsRead c.args.scenario.now c.parts.result.now c.from.result host c.index.result.now = record {
+      same = c.parts.ensures.value;
+      fits = c.parts.ensures.fits;
+      place = c.from.ensures;
+      there = scripted_there s host c.requires.scripted;
+      read = c.index.ensures;
+    } in
+    let is = scripted_task c.args.scenario.now c.parts.result.now c.from.result host c.index.result.now read c.in-Scripted.script c.in-Scripted.budget c.in-Scripted.is in
+    IfOk-weaker c.check_script.result (λ _. IsFitting s (script_of c.in-Scripted.script) c.in-Scripted.budget o) (λ _. OnScripted (task s host) (λ script budget. IsFitting s script budget o))
+    (λ _ fits. subst (λ t. OnScripted t (λ script budget. IsFitting s script budget o)) (sym is) fits) c.check_script.ensures.fitting
+
+pub returns-clause-refusal : goal.returns-clause-refusal
+returns-clause-refusal g c =
+    let s = scenario_of c.args.scenario.now in
+    let o = outline_of g.S.ViewSet.members c.args.outline.now in
+    let host = c.args.outline.now.host in
+    let read : IsRead c.args.scenario.now c.parts.result.now c.from.result host c.index.result.now = record {
+      same = c.parts.ensures.value;
+      fits = c.parts.ensures.fits;
+      place = c.from.ensures;
+      there = scripted_there s host c.requires.scripted;
+      read = c.index.ensures;
+    } in
+    let is = scripted_task c.args.scenario.now c.parts.result.now c.from.result host c.index.result.now read c.in-Scripted.script c.in-Scripted.budget c.in-Scripted.is in
+    IfErr-weaker c.check_script.result (IsRefusal s (script_of c.in-Scripted.script) c.in-Scripted.budget o) (λ refusal. OnScripted (task s host) (λ script budget. IsRefusal s script budget o refusal))
+    (λ refusal refused. subst (λ t. OnScripted t (λ script budget. IsRefusal s script budget o refusal)) (sym is) refused) c.check_script.ensures.refusal
