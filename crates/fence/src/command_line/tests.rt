@@ -1,4 +1,6 @@
 use super::matches_of;
+use std::alloc::Global;
+use std::process::Abort;
 use std::test::Fail;
 
 const HELP: &str = "Verifies SCSI fencing scripts, and runs them against one logical unit
@@ -70,30 +72,45 @@ For more information, try '--help'.
 
 const VERSION: &str = "fence 0.1.0 (language fence 1, proved with rattle-kit-13b)\n";
 
+fn assert_told(rt: &impl Abort, alloc: Global, words: &[&str], told: &str) -> Result<(), Fail> {
+    let mut line = Vec::new(alloc);
+    for word in words {
+        line.push(String::from_str(alloc, word)?)?;
+    }
+    match matches_of(alloc, &line) {
+        Ok(_) => assert!(rt; false, "taken: {told}"),
+        Err(error) => {
+            let text = error.to_string(alloc)?;
+            assert_eq!(rt; text.as_str(), told);
+        }
+    }
+    Ok(())
+}
+
 #[test]
 fn a_refused_command_line_is_told_why(rt: HostRuntime) -> Result<(), Fail> {
-    let rows: [(&[&str], &str); 8] = [
+    let rows: [(&[&str], &str); 4] = [
         (&["fence"], HELP),
         (&["fence", "--help"], HELP),
-        (&["fence", "check", "--help"], CHECK_HELP),
-        (&["fence", "check"], NO_FILE),
-        (&["fence", "replay", "--help"], REPLAY_HELP),
-        (&["fence", "replay", "a.fence"], NO_STEP),
         (&["fence", "verify", "a.fence"], NO_SUCH_COMMAND),
         (&["fence", "--version"], VERSION),
     ];
     for (words, told) in rows {
-        let mut line = Vec::new(rt.alloc());
-        for word in words {
-            line.push(String::from_str(rt.alloc(), word)?)?;
-        }
-        match matches_of(rt.alloc(), &line) {
-            Ok(_) => assert!(rt; false, "taken: {told}"),
-            Err(error) => {
-                let text = error.to_string(rt.alloc())?;
-                assert_eq!(rt; text.as_str(), told);
-            }
-        }
+        assert_told(&rt, rt.alloc(), words, told)?;
+    }
+    Ok(())
+}
+
+#[test]
+fn a_refused_command_is_told_why(rt: HostRuntime) -> Result<(), Fail> {
+    let rows: [(&[&str], &str); 4] = [
+        (&["fence", "check", "--help"], CHECK_HELP),
+        (&["fence", "check"], NO_FILE),
+        (&["fence", "replay", "--help"], REPLAY_HELP),
+        (&["fence", "replay", "a.fence"], NO_STEP),
+    ];
+    for (words, told) in rows {
+        assert_told(&rt, rt.alloc(), words, told)?;
     }
     Ok(())
 }
