@@ -64,7 +64,7 @@ same_lines read views also spots found same alike is none =
 
 -- ---- what was found
 
-module _ (s : Scenario) (script : Stmts) (budget : ℕ) (o : Outline) (spots : List Spot) (places : map place_of spots ≡ places_of script) where
+module _ (s : Scenario) (script : Stmts) (o : Outline) (spots : List Spot) (places : map place_of spots ≡ places_of script) where
   -- a place of the script is one of the sends
   spot_at : (p : Place) → Contains (places_of script) p → (x : Spot) × Contains spots x × (place_of x ≡ p)
   spot_at p there = unmapped place_of spots p (subst (λ ps. Contains ps p) (sym places) there)
@@ -117,8 +117,8 @@ module _ (s : Scenario) (script : Stmts) (budget : ℕ) (o : Outline) (spots : L
 
   -- ---- what does not fit
 
-  pub is_fitting : cost_of_all script ≤ budget → IsFirstMisfit s o (length spots) spots None → IsFitting s script budget o
-  is_fitting cost all = record {
+  pub is_fitting : (budget : ℕ) → cost_of_all script ≤ budget → IsFirstMisfit s o (length spots) spots None → IsFitting s script budget o
+  is_fitting budget cost all = record {
     arms = λ p there. (fits p there).0;
     role = λ p there. (fits p there).1;
     cost = cost;
@@ -138,9 +138,9 @@ module _ (s : Scenario) (script : Stmts) (budget : ℕ) (o : Outline) (spots : L
       let before = comes_before (λ (y : Spot). y.line) 0 spots x.1.0 one.index x.0 one.spot rise x.1.1 (omega arith) in
       subst (FitsAt s o) x.2 (subst (λ y. FitsAt s o (place_of y)) x.1.2 (one.first x.1.0 x.0 before))
 
-  pub is_refusal : (refusal : Refusal) → rise_above 0 (map (λ (p : Spot). p.line) spots) ≡ true → cost_of_all script ≤ budget → IsSound s script o → IsFirstMisfit s o (length spots) spots (Some refusal)
+  pub is_refusal : (budget : ℕ) (refusal : Refusal) → rise_above 0 (map (λ (p : Spot). p.line) spots) ≡ true → cost_of_all script ≤ budget → IsSound s script o → IsFirstMisfit s o (length spots) spots (Some refusal)
       → IsRefusal s script budget o refusal
-  is_refusal refusal rise cost sound one = at refusal refl one.reason
+  is_refusal budget refusal rise cost sound one = at refusal refl one.reason
     where
       unfit : (Unfit : Place → Type 0) (line : ℕ) → line ≡ one.spot.line → Unfit (place_of one.spot) → IsUnfitAt s script budget o Unfit line
       unfit Unfit line same is = record {

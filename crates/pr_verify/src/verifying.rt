@@ -1,11 +1,15 @@
 //! The verdict on a scenario.
 
-ghost use Rattle.std.specs.Prelude.{◌≡◌, IfOk, IfErr};
-ghost use Rattle.pr_roles.specs.Scenarios.{scenario_of};
+ghost use Rattle.std.specs.Prelude.{◌≡◌, ℕ, ◌<◌, length, IfOk, IfErr, OnOk};
+ghost use Rattle.pr_roles.specs.Scenarios.{scenario_of, task};
 ghost use Rattle.pr_roles.specs.Safety.{IsSafe};
+ghost use Rattle.pr_verify.specs.Outlines.{OnScripted, HasOutline, HaveOutlines};
 
+use crate::checking::{check_cost, check_script};
+use crate::inferring::infer;
+use crate::laws::outlines_make_safe;
 use crate::refusal::Refusal;
-use pr_roles::Scenario;
+use pr_roles::{Scenario, Task};
 use std::alloc::Global;
 use std::marker::Model;
 
@@ -56,5 +60,38 @@ pub fn verify(alloc: Global, scenario: Scenario) -> Result<Verified, Refused>
     ensures safe { IfOk result (λ verified. IsSafe (scenario_of verified)) }
     ensures back { IfErr result (λ refused. refused.scenario ≡ scenario) }
 {
-    unreachable!()
+    match check_hosts(alloc, &scenario) {
+        Ok(()) => {
+            outlines_make_safe();
+            Ok(Verified { scenario })
+        }
+        Err(refusal) => Err(Refused { scenario, refusal }),
+    }
+}
+
+// Whether each scripted host has an outline that is sound and fits; else the first reason against one.
+fn check_hosts(alloc: Global, scenario: &Scenario) -> Result<(), Refusal>
+    ensures { OnOk result (HaveOutlines (scenario_of scenario.now)) }
+{
+    let hosts = scenario.parts().nexuses.len() as u8;
+    for host in 0..hosts {
+        check_host(alloc, scenario, host)?;
+    }
+    Ok(())
+}
+
+// Whether the host has one, if it is scripted. A script that costs more than its budget is refused before anything is
+// inferred of it.
+fn check_host(alloc: Global, scenario: &Scenario, host: u8) -> Result<(), Refusal>
+    requires { host < length (scenario_of scenario.now).nexuses }
+    ensures { OnOk result (OnScripted (task (scenario_of scenario.now) host) (HasOutline (scenario_of scenario.now) host)) }
+{
+    match &scenario.parts().nexuses[usize::from(host)].task {
+        Task::Scripted { script, budget } => {
+            check_cost(script, *budget, host)?;
+            let outline = infer(alloc, scenario, host)?;
+            check_script(alloc, scenario, script, &outline)
+        }
+        Task::Planned(_) => Ok(()),
+    }
 }

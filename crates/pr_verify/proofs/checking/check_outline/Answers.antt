@@ -1,5 +1,6 @@
-use Rattle.std.proofs.Common.{◌≡◌, ◌<◌, length, rules, sym, subst, arith}
+use Rattle.std.proofs.Common.{◌≡◌, ℕ, ◌<◌, ◌≤◌, length, rules, sym, subst, arith}
 use Rattle.std.proofs.lemmas.Result.{IfOk-weaker, IfErr-weaker}
+use Rattle.pr_script.specs.Costs.{cost_of_all}
 use Rattle.pr_script.specs.Trees.{script_of}
 use Rattle.pr_roles.specs.Scenarios.{scenario_of, task}
 use Rattle.pr_verify.specs.Outlines.{OnScripted, IsSound, IsFitting}
@@ -15,13 +16,16 @@ index-requires g c =
     let all = is_kept c.args.scenario.now c.parts.result.now c.from.result host c.parts.ensures.value c.from.ensures (scripted_there s host c.requires.scripted) in
     omega (arith, c.parts.result.now.nexuses.ok.0)
 
+pub check_cost-requires : goal.check_cost-requires
+check_cost-requires g c = ?
+
 pub check_script-requires : goal.check_script-requires
 check_script-requires g c =
     let host = c.args.outline.now.host in
     let there = scripted_there (scenario_of c.args.scenario.now) host c.requires.scripted in
     let read : IsRead c.args.scenario.now c.parts.result.now c.from.result host c.index.result.now = record { same = c.parts.ensures.value; fits = c.parts.ensures.fits; place = c.from.ensures; there = there; read = c.index.ensures } in
     let fits = scripted_fits c.args.scenario.now c.parts.result.now c.from.result host c.index.result.now read c.in-Scripted.script c.in-Scripted.budget c.in-Scripted.is in
-    (search rules, (there, (fits.0, (fits.1, (c.parts.ensures.starts, c.requires.made)))))
+    (search rules, (there, (fits.0, (c.parts.ensures.starts, c.requires.made))))
 
 pub unreachable-requires : goal.unreachable-requires
 unreachable-requires g c =
@@ -59,8 +63,9 @@ returns-clause-fitting g c =
       read = c.index.ensures;
     } in
     let is = scripted_task c.args.scenario.now c.parts.result.now c.from.result host c.index.result.now read c.in-Scripted.script c.in-Scripted.budget c.in-Scripted.is in
-    IfOk-weaker c.check_script.result (λ _. IsFitting s (script_of c.in-Scripted.script) c.in-Scripted.budget o) (λ _. OnScripted (task s host) (λ script budget. IsFitting s script budget o))
-    (λ _ fits. subst (λ t. OnScripted t (λ script budget. IsFitting s script budget o)) (sym is) fits) c.check_script.ensures.fitting
+    IfOk-weaker c.check_script.result (λ _. (budget : ℕ) → cost_of_all (script_of c.in-Scripted.script) ≤ budget → IsFitting s (script_of c.in-Scripted.script) budget o)
+    (λ _. OnScripted (task s host) (λ script budget. IsFitting s script budget o))
+    (λ _ fits. subst (λ t. OnScripted t (λ script budget. IsFitting s script budget o)) (sym is) (fits c.in-Scripted.budget c.in_ok-check_cost.ensures.within)) c.check_script.ensures.fitting
 
 pub returns-clause-refusal : goal.returns-clause-refusal
 returns-clause-refusal g c =
@@ -75,5 +80,6 @@ returns-clause-refusal g c =
       read = c.index.ensures;
     } in
     let is = scripted_task c.args.scenario.now c.parts.result.now c.from.result host c.index.result.now read c.in-Scripted.script c.in-Scripted.budget c.in-Scripted.is in
-    IfErr-weaker c.check_script.result (IsRefusal s (script_of c.in-Scripted.script) c.in-Scripted.budget o) (λ refusal. OnScripted (task s host) (λ script budget. IsRefusal s script budget o refusal))
-    (λ refusal refused. subst (λ t. OnScripted t (λ script budget. IsRefusal s script budget o refusal)) (sym is) refused) c.check_script.ensures.refusal
+    IfErr-weaker c.check_script.result (λ refusal. (budget : ℕ) → cost_of_all (script_of c.in-Scripted.script) ≤ budget → IsRefusal s (script_of c.in-Scripted.script) budget o refusal)
+    (λ refusal. OnScripted (task s host) (λ script budget. IsRefusal s script budget o refusal))
+    (λ refusal refused. subst (λ t. OnScripted t (λ script budget. IsRefusal s script budget o refusal)) (sym is) (refused c.in-Scripted.budget c.in_ok-check_cost.ensures.within)) c.check_script.ensures.refusal

@@ -1,7 +1,6 @@
 use Rattle.std.proofs.Common.{◌≡◌, ℕ, ◌≤◌, ◌+◌, true, List, length, map, Option, Some, None, rules, refl, sym, ap, ◌∙◌, subst, inl, inr, arith}
 use Rattle.std.specs.List.{All}
 use Rattle.pr_script.specs.Trees.{script_of}
-use Rattle.pr_script.specs.Costs.{cost_of_all}
 use Rattle.pr_script.specs.Grammar.{rise_above}
 use Rattle.pr_roles.specs.Scenarios.{scenario_of}
 use Rattle.pr_views.specs.declared.view.ViewOf.{ViewOf}
@@ -16,12 +15,12 @@ use Rattle.pr_verify.proofs.Checked.{spots_rise, spots_written, is_listed, diffe
 use Rattle.pr_verify.proofs.checking.check_script.Goals as goal
 
 pub returns-in-Some-clause-refusal : goal.returns-in-Some-clause-refusal
-returns-in-Some-clause-refusal g c =
-    let same = differing_read c.deref.result.now c.args.outline.now.views.items c.deref-2.result.now c.in_ok-spots.spots.items (Some c.in-Some.line) c.deref.ensures.value c.deref-2.ensures.value c.in-Some.ensures in (
-      refl,
-      (let cost = c.cost-cost.ensures in let wide = c.from.ensures in let small = c.requires.budget in let less = c.if-cost-from.false in omega arith),
-      inl (differs_at (script_of c.args.script.now) c.in_ok-spots.spots.items c.in_ok-spots.ensures.places (view_of g.S.ViewSet.members c.args.outline.now.host) c.args.outline.now.views.items c.args.outline.now.host c.in-Some.line same),
-    )
+returns-in-Some-clause-refusal g c budget cost =
+    let host = c.args.outline.now.host in
+    let views = c.args.outline.now.views.items in
+    let spots = c.in_ok-spots.spots.items in
+    let is = differing_read c.deref.result.now views c.deref-2.result.now spots (Some c.in-Some.line) c.deref.ensures.value c.deref-2.ensures.value c.in-Some.ensures in
+    (refl, cost, inl (differs_at (script_of c.args.script.now) spots c.in_ok-spots.ensures.places (view_of g.S.ViewSet.members host) views host c.in-Some.line is))
 
 pub review-requires : goal.review-requires
 review-requires g c =
@@ -43,7 +42,7 @@ lacking_by_others-requires g c =
     (search rules, (c.requires.host, (c.requires.made, ap (rise_above 0) same ∙ spots_rise script spots c.in_ok-spots.ensures.places s.keys c.requires.written)))
 
 pub returns-in-Some-least-clause-refusal : goal.returns-in-Some-least-clause-refusal
-returns-in-Some-least-clause-refusal g c =
+returns-in-Some-least-clause-refusal g c budget cost =
     let s = scenario_of c.args.scenario.now in
     let script = script_of c.args.script.now in
     let o = outline_of g.S.ViewSet.members c.args.outline.now in
@@ -53,10 +52,9 @@ returns-in-Some-least-clause-refusal g c =
     let places = c.in_ok-spots.ensures.places in
     let same = same_lines c.deref.result.now views c.deref-2.result.now spots c.differing.result c.deref.ensures.value c.deref-2.ensures.value c.differing.ensures c.in_default.is in
     let listed = is_listed script spots places (view_of g.S.ViewSet.members host) views host same in
-    let found = found_lacking s script c.args.budget o spots places c.deref-4.result.now c.in_ok-start.start c.in_ok-own.own.lacking c.in_ok-others.others c.least.result c.least-2.result c.deref-4.ensures.value
+    let found = found_lacking s script o spots places c.deref-4.result.now c.in_ok-start.start c.in_ok-own.own.lacking c.in_ok-others.others c.least.result c.least-2.result c.deref-4.ensures.value
     (c.in_ok-start.ensures script (sym (c.deref-3.ensures.value ∙ c.in_ok-firsts.ensures))) c.in_ok-own.ensures.lacking c.in_ok-others.ensures c.least.ensures c.least-2.ensures in
-    let cost : cost_of_all script ≤ c.args.budget = (let cost = c.cost-cost.ensures in let wide = c.from.ensures in let small = c.requires.budget in let less = c.if-cost-from.false in omega arith) in
-    (refl, cost, inr (lacks_first s script c.args.budget o spots places c.in-Some-least.line listed (subst (IsFirstLacking o (IsAsked s script o)) c.in-Some-least.is found)))
+    (refl, cost, inr (lacks_first s script o spots places c.in-Some-least.line listed (subst (IsFirstLacking o (IsAsked s script o)) c.in-Some-least.is found)))
 
 pub returns-in-None-clause-sound : goal.returns-in-None-clause-sound
 returns-in-None-clause-sound g c =
@@ -69,22 +67,21 @@ returns-in-None-clause-sound g c =
     let places = c.in_ok-spots.ensures.places in
     let same = same_lines c.deref.result.now views c.deref-2.result.now spots c.differing.result c.deref.ensures.value c.deref-2.ensures.value c.differing.ensures c.in_default.is in
     let listed = is_listed script spots places (view_of g.S.ViewSet.members host) views host same in
-    let found = found_lacking s script c.args.budget o spots places c.deref-4.result.now c.in_ok-start.start c.in_ok-own.own.lacking c.in_ok-others.others c.least.result c.least-2.result c.deref-4.ensures.value
+    let found = found_lacking s script o spots places c.deref-4.result.now c.in_ok-start.start c.in_ok-own.own.lacking c.in_ok-others.others c.least.result c.least-2.result c.deref-4.ensures.value
     (c.in_ok-start.ensures script (sym (c.deref-3.ensures.value ∙ c.in_ok-firsts.ensures))) c.in_ok-own.ensures.lacking c.in_ok-others.ensures c.least.ensures c.least-2.ensures in
-    is_sound s script c.args.budget o spots places listed (subst (IsFirstLacking o (IsAsked s script o)) c.in_default-least.is found)
+    is_sound s script o spots places listed (subst (IsFirstLacking o (IsAsked s script o)) c.in_default-least.is found)
 
 pub returns-in-None-clause-fitting : goal.returns-in-None-clause-fitting
-returns-in-None-clause-fitting g c =
+returns-in-None-clause-fitting g c budget cost =
     let s = scenario_of c.args.scenario.now in
     let script = script_of c.args.script.now in
     let o = outline_of g.S.ViewSet.members c.args.outline.now in
     let spots = c.in_ok-spots.spots.items in
-    let cost : cost_of_all script ≤ c.args.budget = (let cost = c.cost-cost.ensures in let wide = c.from.ensures in let small = c.requires.budget in let less = c.if-cost-from.false in omega arith) in
     let misfit = subst (λ xs. IsFirstMisfit s o (length xs) xs c.in_ok-own.own.misfit) c.deref-4.ensures.value c.in_ok-own.ensures.misfit in
-    is_fitting s script c.args.budget o spots c.in_ok-spots.ensures.places cost (subst (IsFirstMisfit s o (length spots) spots) c.in-None.is misfit)
+    is_fitting s script o spots c.in_ok-spots.ensures.places budget cost (subst (IsFirstMisfit s o (length spots) spots) c.in-None.is misfit)
 
 pub returns-clause-refusal : goal.returns-clause-refusal
-returns-clause-refusal g c =
+returns-clause-refusal g c budget cost =
     let s = scenario_of c.args.scenario.now in
     let script = script_of c.args.script.now in
     let o = outline_of g.S.ViewSet.members c.args.outline.now in
@@ -94,10 +91,9 @@ returns-clause-refusal g c =
     let places = c.in_ok-spots.ensures.places in
     let same = same_lines c.deref.result.now views c.deref-2.result.now spots c.differing.result c.deref.ensures.value c.deref-2.ensures.value c.differing.ensures c.in_default.is in
     let listed = is_listed script spots places (view_of g.S.ViewSet.members host) views host same in
-    let found = found_lacking s script c.args.budget o spots places c.deref-4.result.now c.in_ok-start.start c.in_ok-own.own.lacking c.in_ok-others.others c.least.result c.least-2.result c.deref-4.ensures.value
+    let found = found_lacking s script o spots places c.deref-4.result.now c.in_ok-start.start c.in_ok-own.own.lacking c.in_ok-others.others c.least.result c.least-2.result c.deref-4.ensures.value
     (c.in_ok-start.ensures script (sym (c.deref-3.ensures.value ∙ c.in_ok-firsts.ensures))) c.in_ok-own.ensures.lacking c.in_ok-others.ensures c.least.ensures c.least-2.ensures in
-    let cost : cost_of_all script ≤ c.args.budget = (let cost = c.cost-cost.ensures in let wide = c.from.ensures in let small = c.requires.budget in let less = c.if-cost-from.false in omega arith) in
     let misfit = subst (λ xs. IsFirstMisfit s o (length xs) xs c.in_ok-own.own.misfit) c.deref-4.ensures.value c.in_ok-own.ensures.misfit in
-    let sound : IsSound s script o = is_sound s script c.args.budget o spots places listed (subst (IsFirstLacking o (IsAsked s script o)) c.in_default-least.is found) in
-    is_refusal s script c.args.budget o spots places c.in-Some-misfit.refusal (spots_rise script spots places s.keys c.requires.written) cost sound
+    let sound : IsSound s script o = is_sound s script o spots places listed (subst (IsFirstLacking o (IsAsked s script o)) c.in_default-least.is found) in
+    is_refusal s script o spots places budget c.in-Some-misfit.refusal (spots_rise script spots places s.keys c.requires.written) cost sound
     (subst (IsFirstMisfit s o (length spots) spots) c.in-Some-misfit.is misfit)
