@@ -17,7 +17,11 @@ index-requires g c =
     omega (arith, c.parts.result.now.nexuses.ok.0)
 
 pub check_cost-requires : goal.check_cost-requires
-check_cost-requires g c = ?
+check_cost-requires g c =
+    let host = c.args.outline.now.host in
+    let there = scripted_there (scenario_of c.args.scenario.now) host c.requires.scripted in
+    let read : IsRead c.args.scenario.now c.parts.result.now c.from.result host c.index.result.now = record { same = c.parts.ensures.value; fits = c.parts.ensures.fits; place = c.from.ensures; there = there; read = c.index.ensures } in
+    (scripted_fits c.args.scenario.now c.parts.result.now c.from.result host c.index.result.now read c.in-Scripted.script c.in-Scripted.budget c.in-Scripted.is).1
 
 pub check_script-requires : goal.check_script-requires
 check_script-requires g c =
@@ -65,7 +69,7 @@ returns-clause-fitting g c =
     let is = scripted_task c.args.scenario.now c.parts.result.now c.from.result host c.index.result.now read c.in-Scripted.script c.in-Scripted.budget c.in-Scripted.is in
     IfOk-weaker c.check_script.result (λ _. (budget : ℕ) → cost_of_all (script_of c.in-Scripted.script) ≤ budget → IsFitting s (script_of c.in-Scripted.script) budget o)
     (λ _. OnScripted (task s host) (λ script budget. IsFitting s script budget o))
-    (λ _ fits. subst (λ t. OnScripted t (λ script budget. IsFitting s script budget o)) (sym is) (fits c.in-Scripted.budget c.in_ok-check_cost.ensures.within)) c.check_script.ensures.fitting
+    (λ _ fits. subst (λ t. OnScripted t (λ script budget. IsFitting s script budget o)) (sym is) (fits c.in-Scripted.budget c.in_ok-check_cost-in-Scripted.ensures.within)) c.check_script.ensures.fitting
 
 pub returns-clause-refusal : goal.returns-clause-refusal
 returns-clause-refusal g c =
@@ -82,4 +86,4 @@ returns-clause-refusal g c =
     let is = scripted_task c.args.scenario.now c.parts.result.now c.from.result host c.index.result.now read c.in-Scripted.script c.in-Scripted.budget c.in-Scripted.is in
     IfErr-weaker c.check_script.result (λ refusal. (budget : ℕ) → cost_of_all (script_of c.in-Scripted.script) ≤ budget → IsRefusal s (script_of c.in-Scripted.script) budget o refusal)
     (λ refusal. OnScripted (task s host) (λ script budget. IsRefusal s script budget o refusal))
-    (λ refusal refused. subst (λ t. OnScripted t (λ script budget. IsRefusal s script budget o refusal)) (sym is) (refused c.in-Scripted.budget c.in_ok-check_cost.ensures.within)) c.check_script.ensures.refusal
+    (λ refusal refused. subst (λ t. OnScripted t (λ script budget. IsRefusal s script budget o refusal)) (sym is) (refused c.in-Scripted.budget c.in_ok-check_cost-in-Scripted.ensures.within)) c.check_script.ensures.refusal
