@@ -16,3 +16,5 @@ pub mod TraceNames
 pub mod EntriesBack
 pub mod TracesBack
 pub mod Taking
+pub mod RunScripts
+pub mod RunReplies

@@ -90,18 +90,18 @@ sense_back Conflict None h = refl
 sense_back Conflict (Some s) h = absurd h
 
 -- each is a byte
-abbrev EachByte : List ℕ → Type 0
+abbrev pub EachByte : List ℕ → Type 0
 EachByte [] = Unit {0}
 EachByte (b ∷ bs) = (b < 256) × EachByte bs
 
-are_bytes : (bs : List ℕ) → EachByte bs → AreBytes bs
+pub are_bytes : (bs : List ℕ) → EachByte bs → AreBytes bs
 are_bytes [] h = λ i. omega arith
 are_bytes (b ∷ bs) h = λ i. elim i as (λ j. slice_index (b ∷ bs) j < 256) [ zero ↦ h.0 | suc j ↦ are_bytes bs h.1 j ]
 
 four_zeros : (bs : List ℕ) → EachByte bs → EachByte (0 ∷ 0 ∷ 0 ∷ 0 ∷ bs)
 four_zeros bs h = (omega arith, (omega arith, (omega arith, (omega arith, h))))
 
-sense_are_bytes : (s : Sense) → s.asc < 256 → s.ascq < 256 → AreBytes (sense_bytes s)
+pub sense_are_bytes : (s : Sense) → s.asc < 256 → s.ascq < 256 → AreBytes (sense_bytes s)
 unfolding sense_bytes
 sense_are_bytes s h k =
     let codes_on = s.asc ∷ s.ascq ∷ 0 ∷ 0 ∷ 0 ∷ 0 ∷ [] in
