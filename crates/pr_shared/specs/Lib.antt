@@ -1,0 +1,4 @@
+pub mod Guests
+pub mod Histories
+pub mod Outcomes
+pub mod TurnAnswers

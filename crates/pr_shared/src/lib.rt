@@ -1,0 +1,19 @@
+//! A verified scenario over threads: its world stands under a lock, and each host and guest has a seat, by which some thread
+//! takes its turns.
+#![tactic(auto)]
+
+mod closing;
+mod gathering;
+mod kept;
+mod locked;
+mod outcome;
+mod round;
+mod seat;
+mod seating;
+mod shared;
+
+pub use outcome::{Differs, Outcome};
+pub use pr_world::{End, Entry, Turn, World};
+pub use round::Round;
+pub use seat::Seat;
+pub use shared::SharedWorld;
