@@ -101,20 +101,18 @@ are_bytes (b ∷ bs) h = λ i. elim i as (λ j. slice_index (b ∷ bs) j < 256) 
 four_zeros : (bs : List ℕ) → EachByte bs → EachByte (0 ∷ 0 ∷ 0 ∷ 0 ∷ bs)
 four_zeros bs h = (omega arith, (omega arith, (omega arith, (omega arith, h))))
 
-pub sense_are_bytes : (s : Sense) → s.asc < 256 → s.ascq < 256 → AreBytes (sense_bytes s)
+pub sense_each : (s : Sense) → s.asc < 256 → s.ascq < 256 → EachByte (sense_bytes s)
 unfolding sense_bytes
-sense_are_bytes s h k =
+sense_each s h k =
     let codes_on = s.asc ∷ s.ascq ∷ 0 ∷ 0 ∷ 0 ∷ 0 ∷ [] in
     let key : s.key % 16 < 256 = omega arith in
-    are_bytes
-    (0x70 ∷ 0 ∷ s.key % 16 ∷ 0 ∷ 0 ∷ 0 ∷ 0 ∷ 0x0a ∷ 0 ∷ 0 ∷ 0 ∷ 0 ∷ codes_on)
     (omega arith, (omega arith, (key, four_zeros (0x0a ∷ 0 ∷ 0 ∷ 0 ∷ 0 ∷ codes_on) (omega arith, four_zeros codes_on (h, (k, four_zeros [] tt))))))
 
 pub data_are_bytes : (t : Status) (s : Option Sense) → HasSense t s → AreBytes (sense_data s)
 data_are_bytes Good None h = are_bytes [] tt
 data_are_bytes Good (Some s) h = absurd h
 data_are_bytes CheckCondition None h = absurd h
-data_are_bytes CheckCondition (Some s) h = sense_are_bytes s h.1 h.2
+data_are_bytes CheckCondition (Some s) h = are_bytes (sense_bytes s) (sense_each s h.1 h.2)
 data_are_bytes Conflict None h = are_bytes [] tt
 data_are_bytes Conflict (Some s) h = absurd h
 
