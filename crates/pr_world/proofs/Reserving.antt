@@ -25,7 +25,7 @@ room_of_task keys (Planned commands) fits =
     let most : nat_le (length commands) 256 ≡ true = (and_parts (nat_le (length commands) 256) _ fits).0 in
     grind (arith, nat_tests)
 
-room_of_nexus : (keys : List ℕ) (n : Nexus) → is_nexus keys n ≡ true → room_of n.task ≤ 4096
+pub room_of_nexus : (keys : List ℕ) (n : Nexus) → is_nexus keys n ≡ true → room_of n.task ≤ 4096
 room_of_nexus keys n fits =
     room_of_task keys n.task (and_parts (is_start keys n.start) _ (and_parts (is_role keys n.role) _ (and_parts (is_name n.name) _ fits).1).1).1
 

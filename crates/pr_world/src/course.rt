@@ -85,6 +85,14 @@ impl Course {
         self.players[usize::from(host)].end()
     }
 
+    /// The commands that were sent, in order, and the unit.
+    pub(crate) fn into_parts(self) -> (Vec<Entry>, Unit)
+        ensures entries { result.0 ≡ self.entries }
+        ensures unit { result.1 ≡ self.unit }
+    {
+        (self.entries, self.unit)
+    }
+
     /// What it came to.
     pub(crate) fn outcome(self, alloc: Global) -> Result<Replayed, AllocError>
         requires { vec_len self.entries < 2 ^ 32 }

@@ -122,6 +122,14 @@ impl World {
     {
         self.course.end(host)
     }
+
+    /// Its history and its unit, when it has no more turns to take.
+    pub fn into_parts(self) -> (Vec<Entry>, Unit)
+        ensures history { result.0.items ≡ self.schedule.world.entries }
+        ensures unit { result.1 ≡ self.schedule.world.unit }
+    {
+        self.course.into_parts()
+    }
 }
 
 // The room for all commands that can reach the unit.
