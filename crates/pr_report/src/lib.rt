@@ -1,5 +1,5 @@
-//! What is reported of a scenario, as lines of text to any writer: the trace of a scenario at work, and the verdict on one.
-//! What is reported of a scenario at work, as lines of text to any writer, and traces read back from any reader.
+//! What is reported of a scenario, as lines of text to any writer: the trace of a scenario at work, and the verdict on
+//! one; and traces read back from any reader.
 //!
 //! Nothing that is written takes memory: a trace is put together on a page of fixed size, and goes out a page at a
 //! time. Of a trace that is read the entries take memory, and nothing else.
@@ -11,14 +11,14 @@ mod laws;
 mod output;
 mod printing;
 mod trace;
-mod verdict;
 mod trace_error;
 mod trace_reading;
+mod verdict;
 
 pub use laws::{replays_are_traced, written_traces_are_read};
 pub use output::{WriteFault, put};
 pub use printing::{Word, put_line, put_spaced};
 pub use trace::write_trace;
-pub use verdict::{Verdict, write_verdict};
 pub use trace_error::TraceError;
 pub use trace_reading::read_trace;
+pub use verdict::{Verdict, write_verdict};
