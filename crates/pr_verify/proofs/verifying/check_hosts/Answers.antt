@@ -1,7 +1,4 @@
-use Rattle.std.proofs.Common.{rules, ◌≡◌, ℕ, ◌<◌, length, IfOk, IfErr, OnOk, ◌+◌, ◌-◌, ◌*◌, ◌≤◌, ◌/◌, ◌%◌, Bool, true, false, nat_eq, nat_lt, List, [], ◌∷◌, ◌++◌, slice_index_or, slice_set, bit_and, bit_or, Fits, w8, w32, w64, Bor, MutBor}
-use Rattle.pr_roles.specs.Scenarios.{scenario_of, task}
-use Rattle.pr_roles.specs.Safety.{IsSafe}
-use Rattle.pr_verify.specs.Outlines.{OnScripted, HasOutline, HaveOutlines}
+use Rattle.std.proofs.Common.{ℕ, ◌<◌}
 use Rattle.pr_verify.proofs.verifying.check_hosts.Goals as goal
 
 -- src/verifying.rt:76:17
