@@ -1,4 +1,4 @@
-use Rattle.std.proofs.Common.{rules, ◌≡◌, ℕ, ◌<◌, ◌≤◌, Some, sym, ap, ◌∙◌, subst, arith}
+use Rattle.std.proofs.Common.{rules, Some, sym, ap, ◌∙◌, subst, arith}
 use Rattle.pr_roles.specs.Scenarios.{scenario_of, task, task_of}
 use Rattle.pr_script.specs.Trees.{script_of}
 use Rattle.pr_verify.specs.Outlines.{OnScripted, HasOutline}
@@ -41,7 +41,7 @@ returns-in_ok-outline-in-Scripted c =
     let is = scripted_task c.args.scenario.now c.parts.result.now c.from.result host c.index.result.now read c.in-Scripted.script budget c.in-Scripted.is in
     all_ok c.check_script.result
     (λ fields sound fitting. on_script (task s host) script budget (HasOutline s host) is
-        (has_outline s host script budget fields c.in_ok-outline-in-Scripted.ensures.host sound (fitting budget c.in_ok-check_cost-in-Scripted.ensures.within)))
+    (has_outline s host script budget fields c.in_ok-outline-in-Scripted.ensures.host sound (fitting budget c.in_ok-check_cost-in-Scripted.ensures.within)))
     c.check_script.ensures.fields c.check_script.ensures.sound c.check_script.ensures.fitting
 
 pub returns-in-Planned : goal.returns-in-Planned
