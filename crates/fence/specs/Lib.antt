@@ -3,4 +3,5 @@ pub mod Endings
 pub mod Steps
 pub mod Replays
 pub mod Checks
+pub mod Audits
 pub mod inside

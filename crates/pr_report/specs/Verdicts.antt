@@ -1,10 +1,10 @@
--- The line of a verdict.
-use Rattle.std.specs.Prelude.{ℕ, List, [], ◌∷◌, ◌++◌, codes}
+-- The line of a verdict: what a check says of a scenario, and an audit of a history.
+use Rattle.std.specs.Prelude.{ℕ, Bool, true, false, List, [], ◌∷◌, ◌++◌, codes}
 use Rattle.std.specs.Fmt.{decimal}
 use Rattle.pr_verify.specs.declared.refusal.Refusal.{Refusal}
 use Rattle.pr_verify.specs.declared.refusal.Refusal.TheVariants.{NoArm, OutOfRole, OverBudget, Memory, NotSound}
 use Rattle.pr_report.specs.declared.verdict.Verdict.{Verdict}
-use Rattle.pr_report.specs.declared.verdict.Verdict.TheVariants.{Accepted, Refused}
+use Rattle.pr_report.specs.declared.verdict.Verdict.TheVariants.{Accepted, Refused, Legal, Illegal}
 use Rattle.pr_report.specs.PrintedLines.{line, class_word}
 use Rattle.pr_report.specs.TraceText.{name_of}
 
@@ -19,6 +19,15 @@ IsReason (NotSound host at) = Unit {0}
 abbrev pub IsVerdict : Verdict → Type 0
 IsVerdict Accepted = Unit {0}
 IsVerdict (Refused refusal) = IsReason refusal
+IsVerdict (Legal entries) = Unit {0}
+IsVerdict (Illegal place) = Unit {0}
+
+-- it answers no
+abbrev pub is_refusal : Verdict → Bool
+is_refusal Accepted = false
+is_refusal (Refused refusal) = true
+is_refusal (Legal entries) = false
+is_refusal (Illegal place) = true
 
 -- a reason, the host of this name, and the line of its send
 abbrev pub place_words : List ℕ → List ℕ → ℕ → List (List ℕ)
@@ -45,3 +54,5 @@ refused_line words = line (codes "refused") words
 abbrev pub verdict_text : List (List ℕ) → Verdict → List ℕ
 verdict_text names Accepted = line (codes "accepted") []
 verdict_text names (Refused refusal) = refused_line (reason_words names refusal)
+verdict_text names (Legal entries) = line (codes "legal") (decimal entries ∷ [])
+verdict_text names (Illegal place) = line (codes "illegal") (decimal place ∷ [])

@@ -1,12 +1,13 @@
 //! The text of a verdict.
 
-ghost use Rattle.std.specs.Prelude.{map};
+ghost use Rattle.std.specs.Prelude.{◌≡◌, ◌∷◌, [], codes, map};
+ghost use Rattle.std.specs.Fmt.{decimal};
 ghost use Rattle.pr_roles.specs.Scenarios.{scenario_of};
 ghost use Rattle.pr_report.specs.Written.{Puts};
 ghost use Rattle.pr_report.specs.Printed.{printed};
-ghost use Rattle.pr_report.specs.PrintedLines.{class_word};
+ghost use Rattle.pr_report.specs.PrintedLines.{class_word, line};
 ghost use Rattle.pr_report.specs.TraceText.{names_in, names_of};
-ghost use Rattle.pr_report.specs.Verdicts.{IsReason, IsVerdict, no_arm_words, over_budget_words, place_words, reason_words, refused_line, verdict_text};
+ghost use Rattle.pr_report.specs.Verdicts.{IsReason, IsVerdict, is_refusal, no_arm_words, over_budget_words, place_words, reason_words, refused_line, verdict_text};
 
 use crate::output::WriteFault;
 use crate::printing::{Word, put_line};
@@ -16,7 +17,7 @@ use pr_roles::{Nexus, Scenario};
 use pr_verify::Refusal;
 use std::io::Write;
 
-/// What a check of a scenario comes to.
+/// What a check of a scenario comes to, or an audit of a history of it.
 #[derive(Clone, Copy, Debug, PartialEq, Eq)]
 pub enum Verdict {
     /// The scenario is safe.
@@ -24,6 +25,24 @@ pub enum Verdict {
 
     /// A script is refused, for this reason.
     Refused(Refusal),
+
+    /// The history is legal, and has so many entries.
+    Legal { entries: usize },
+
+    /// The entry at this place, counted from 1, is the first that isn't legal.
+    Illegal { place: usize },
+}
+
+impl Verdict {
+    /// Whether it answers no: a script is refused, or a history is illegal.
+    pub fn is_refusal(&self) -> bool
+        ensures { result ≡ is_refusal self.now }
+    {
+        match self {
+            Verdict::Accepted | Verdict::Legal { .. } => false,
+            Verdict::Refused(_) | Verdict::Illegal { .. } => true,
+        }
+    }
 }
 
 /// Writes the line of a verdict; that memory was refused is none. On a fault, what went out is a front of the line, and
@@ -39,7 +58,17 @@ pub fn write_verdict<W: Write>(
     match verdict {
         Verdict::Accepted => put_line(writer, Word::Text(b"accepted"), &[]),
         Verdict::Refused(refusal) => put_reason(writer, &scenario.parts().nexuses, *refusal),
+        Verdict::Legal { entries } => put_counted(writer, b"legal", *entries),
+        Verdict::Illegal { place } => put_counted(writer, b"illegal", *place),
     }
+}
+
+// The line of a word and a number.
+#[tactic(auto, unfolding(crate::specs::Printed::printed))]
+fn put_counted<W: Write>(writer: &mut W, word: &[u8], number: usize) -> Result<(), WriteFault>
+    ensures { Puts (W.contents writer.old) (W.contents writer.new) (line word.now (decimal number ∷ [])) result }
+{
+    put_line(writer, Word::Text(word), &[Word::Number(number as u64)])
 }
 
 fn put_reason<W: Write>(

@@ -37,5 +37,6 @@ IsJudged known (Err fault.Usage) = ⊥
 IsJudged known (Err fault.File) = ⊥
 IsJudged known (Err (fault.Input input.ReadFault)) = Unit {0}
 IsJudged known (Err (fault.Input e)) = IfSome known (λ text. answer_of text ≡ Err e)
+IsJudged known (Err (fault.Trace e)) = ⊥
 IsJudged known (Err fault.Memory) = Unit {0}
 IsJudged known (Err fault.Output) = ⊥

@@ -27,6 +27,7 @@ Plans steps known (Ok p) = IfSome known (λ text. IsTraceOf steps text (planned_
 Plans steps known (Err fault.Usage) = IfSome known (λ text. IsUsageFault steps text (has_wrong_count steps))
 Plans steps known (Err (fault.Input input.ReadFault)) = Unit {0}
 Plans steps known (Err (fault.Input e)) = IfSome known (λ text. answer_of text ≡ Err e)
+Plans steps known (Err (fault.Trace e)) = ⊥
 Plans steps known (Err fault.Memory) = Unit {0}
 Plans steps known (Err fault.Output) = ⊥
 Plans steps known (Err fault.File) = ⊥

@@ -3,20 +3,22 @@ use std::alloc::Global;
 use std::process::Abort;
 use std::test::Fail;
 
-const HELP: &str = "Verifies SCSI fencing scripts, and runs them against one logical unit
+const HELP: &str =
+    "Verifies SCSI fencing scripts, runs them against one logical unit, and audits traces
 
 Usage: fence <COMMAND>
 
 Commands:
   check   Verifies the scripts, and writes the verdict
   replay  Lets hosts and guests take their turns in this order, and writes the trace
+  audit   Says whether the commands and replies of a trace may have happened, or which is the first that may not
   help    Print this message or the help of the given subcommand(s)
 
 Options:
   -h, --help     Print help
   -V, --version  Print version
 
-Exit status: 0 done or accepted; 1 a script is refused or trapped; 2 the command line is at fault, or this help; 3 input or output is at fault; 4 memory ran out. A fault is told in one line on standard error.
+Exit status: 0 done, accepted or legal; 1 a script is refused or trapped, or a trace is illegal; 2 the command line is at fault, or this help; 3 input or output is at fault; 4 memory ran out. A fault is told in one line on standard error.
 ";
 
 const CHECK_HELP: &str = "Verifies the scripts, and writes the verdict
@@ -45,6 +47,29 @@ Options:
   -h, --help  Print help
 
 For example: fence replay preempted-writer.fence a a b a
+";
+
+const AUDIT_HELP: &str =
+    "Says whether the commands and replies of a trace may have happened, or which is the first that may not
+
+Usage: fence audit <FILE> <TRACE>
+
+Arguments:
+  <FILE>   The scenario; - is standard input
+  <TRACE>  The trace
+
+Options:
+  -h, --help  Print help
+
+For example: fence audit preempted-writer.fence preempted-writer.1.trace
+";
+
+const NO_TRACE: &str = "error: the following required arguments were not provided:
+  <TRACE>
+
+Usage: fence audit <FILE> <TRACE>
+
+For more information, try '--help'.
 ";
 
 const NO_FILE: &str = "error: the following required arguments were not provided:
@@ -103,7 +128,9 @@ fn a_refused_command_line_is_told_why(rt: HostRuntime) -> Result<(), Fail> {
 
 #[test]
 fn a_refused_command_is_told_why(rt: HostRuntime) -> Result<(), Fail> {
-    let rows: [(&[&str], &str); 4] = [
+    let rows: [(&[&str], &str); 6] = [
+        (&["fence", "audit", "--help"], AUDIT_HELP),
+        (&["fence", "audit", "a.fence"], NO_TRACE),
         (&["fence", "check", "--help"], CHECK_HELP),
         (&["fence", "check"], NO_FILE),
         (&["fence", "replay", "--help"], REPLAY_HELP),
@@ -147,5 +174,23 @@ fn a_replay_has_a_file_and_steps(rt: HostRuntime) -> Result<(), Fail> {
     assert_eq!(rt; name, "replay");
     assert_eq!(rt; arguments.get_str("FILE"), Some("-"));
     assert_eq!(rt; arguments.get_strs("STEP"), Some(["a", "b"].as_slice()));
+    Ok(())
+}
+
+#[test]
+fn an_audit_has_a_file_and_a_trace(rt: HostRuntime) -> Result<(), Fail> {
+    let mut line = Vec::new(rt.alloc());
+    for word in ["fence", "audit", "-", "a.trace"] {
+        line.push(String::from_str(rt.alloc(), word)?)?;
+    }
+    let Ok(matches) = matches_of(rt.alloc(), &line) else {
+        return Err(Fail::from("refused"));
+    };
+    let Some((name, arguments)) = matches.subcommand() else {
+        return Err(Fail::from("no subcommand"));
+    };
+    assert_eq!(rt; name, "audit");
+    assert_eq!(rt; arguments.get_str("FILE"), Some("-"));
+    assert_eq!(rt; arguments.get_str("TRACE"), Some("a.trace"));
     Ok(())
 }
