@@ -29,5 +29,6 @@ pub mod PlacesLines
 pub mod Growth
 pub mod Sketches
 pub mod Recalled
+pub mod Answering
 pub mod Tasked
 pub mod Outlined

@@ -4,3 +4,4 @@ pub mod Lacking
 pub mod Reviewing
 pub mod Inferring
 pub mod Known
+pub mod Asked

@@ -1,6 +1,7 @@
 //! Whether the scripts of a scenario keep its promises, whatever its hosts and guests do.
 #![tactic(auto)]
 
+mod answers;
 mod checking;
 mod head;
 mod inferring;

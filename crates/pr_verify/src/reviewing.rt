@@ -14,11 +14,12 @@ ghost use Rattle.pr_verify.specs.inside.Least.{IsLeastAmong};
 ghost use Rattle.pr_verify.specs.inside.Lacking.{IsFirstLacking, lines_after, HasNext, LacksNext};
 ghost use Rattle.pr_verify.specs.inside.Reviewing.{IsMadeAs, IsLackingOfSends, IsMisfit, IsFirstMisfit, IsFirstUnarmed, earlier};
 
+use crate::answers::Questions;
 use crate::lacking::{first_lacking, least};
 use crate::outline::OutlineOf;
 use crate::places::Spot;
 use crate::refusal::Refusal;
-use pr_domain::{Class, Landing, outcomes, permitted};
+use pr_domain::{Class, Landing, permitted};
 use pr_roles::Scenario;
 use pr_sets::ViewSet;
 use pr_views::ViewOf;
@@ -48,37 +49,42 @@ pub(crate) fn review<S: ViewSet>(
     ensures lacking { IfOk result (λ review. IsLackingOfSends (outline_of S.members outline.now) (length spots.now) spots.now review.lacking) }
     ensures misfit { IfOk result (λ review. IsFirstMisfit (scenario_of scenario.now) (outline_of S.members outline.now) (length spots.now) spots.now review.misfit) }
 {
+    let questions = Questions { outline, spots };
+    let mut known = Vec::new(alloc);
     let mut lacking = None;
     let mut misfit = None;
     for (i, spot) in spots.iter().enumerate() {
-        let here = review_spot(alloc, scenario, outline, &outline.views[i].1, spot)?;
+        let answer = questions.answer(alloc, &mut known, i)?;
+        let outcomes = &known[answer].outcomes;
+        let here = review_spot(scenario, outline, &outline.views[i].1, spot, outcomes);
         lacking = least(lacking, here.lacking);
         misfit = misfit.or(here.misfit);
     }
     Ok(Findings { lacking, misfit })
 }
 
-// Of one send, by the view of its line.
+// Of one send, by the view of its line and what its command comes to there.
 fn review_spot<S: ViewSet>(
-    alloc: Global,
     scenario: &Scenario,
     outline: &OutlineOf<S>,
     view: &ViewOf<S>,
     spot: &Spot,
-) -> Result<Findings, AllocError>
+    outcomes: &[(Landing, ViewOf<S>)],
+) -> Findings
     requires host { outline.now.host < length (scenario_of scenario.now).nexuses }
     requires made { IsMadeFor S.room (scenario_of scenario.now) outline.now }
     requires written { IsPlaceWritten (scenario_of scenario.now).keys (place_of spot.now) }
     requires view { IsMadeAs S.room (scenario_of scenario.now) view.now }
     requires here { view_at (outline_of S.members outline.now).views spot.now.line ≡ Some (view_of S.members outline.now.host view.now) }
-    ensures lacking { IfOk result (λ review. IsFirstLacking (outline_of S.members outline.now) (ComesTo (outline_of S.members outline.now) (place_of spot.now)) review.lacking) }
-    ensures misfit { IfOk result (λ review. IsMisfit (scenario_of scenario.now) (outline_of S.members outline.now) (place_of spot.now) review.misfit) }
+    requires kind { All (λ o. IsMade S.room o.1 × AreAlike view.now o.1) outcomes.now }
+    requires outcomes { AreOutcomes (view_of S.members outline.now.host view.now) spot.now.command spot.now.tests.items (map (λ o. (o.0, view_of S.members outline.now.host o.1)) outcomes.now) }
+    ensures lacking { IsFirstLacking (outline_of S.members outline.now) (ComesTo (outline_of S.members outline.now) (place_of spot.now)) result.lacking }
+    ensures misfit { IsMisfit (scenario_of scenario.now) (outline_of S.members outline.now) (place_of spot.now) result.misfit }
 {
-    let outcomes = outcomes(alloc, view, outline.host, &spot.command, &spot.tests)?;
-    Ok(Findings {
-        lacking: lacking_after(outline, &outcomes, &spot.next),
-        misfit: misfit(scenario, outline, view, spot, &outcomes),
-    })
+    Findings {
+        lacking: lacking_after(outline, outcomes, &spot.next),
+        misfit: misfit(scenario, outline, view, spot, outcomes),
+    }
 }
 
 // The first line to which an outcome leads, and whose view lacks something of the outcome's.
