@@ -5,10 +5,17 @@
 mod plain;
 mod workload;
 
+use workload::Draw;
+
 use std::process::ExitCode;
 use std::time::Instant;
 
 const COMMANDS: usize = 20_000;
+
+/// How many views and roles are drawn, of which the call that takes most time is printed.
+const DRAWN: usize = 1_000;
+
+const SEED: u64 = 0x00f3_9ce5;
 
 /// Each call is timed so often, over many calls, in turn with a pass over the commands; its least time counts.
 const PASSES: usize = 40;
@@ -72,9 +79,8 @@ impl View {
     /// Each may be registered with its own key or not, hold with type 5, and be preempted by any other.
     fn fenced(hosts: u64) -> Self {
         let held = bits(hosts) << (1 + hosts * 2);
-        // Told of nothing, of a reservation or of a registration that was preempted, or of both.
-        let pending = 1 | 1 << 4 | 1 << 8 | 1 << 12;
-        View::new(hosts, |host| 1 | own(host), 1 | held, pending)
+        // It is told of nothing, or that its registration was preempted.
+        View::new(hosts, |host| 1 | own(host), 1 | held, 1 | 1 << 8)
     }
 
     /// Nobody is registered.
@@ -92,10 +98,42 @@ impl View {
         View::new(hosts, |_| bits(13) - 1, bits(hosts * 4 + 3) - 1, 1)
     }
 
+    /// Some registrations for each, some reservations and some attentions, many or few, as they are drawn.
+    fn drawn(hosts: u64, draw: &mut Draw) -> Self {
+        let mut registrations = [0; 8];
+        for words in &mut registrations {
+            *words = drawn_set(draw, 13);
+        }
+        let reservations = drawn_set(draw, hosts * 4 + 3);
+        let pending = drawn_set(draw, 16);
+        View::new(
+            hosts,
+            |host| registrations[host as usize],
+            reservations,
+            pending,
+        )
+    }
+
     /// Whoever is registered, one of the others but the host 1 holds alone, with type 3, and nothing is pending.
     fn held(hosts: u64) -> Self {
         let others = bits(hosts) & !2;
         View::new(hosts, |_| bits(13), others << (1 + hosts), 1)
+    }
+}
+
+// A set that is not empty: all, most, half or few of so many numbers.
+fn drawn_set(draw: &mut Draw, count: u64) -> u64 {
+    let some = match draw.below(4) {
+        0 => !0,
+        1 => draw.word() | draw.word(),
+        2 => draw.word(),
+        _ => draw.word() & draw.word() & draw.word(),
+    };
+    let set = some & bits(count);
+    if set == 0 {
+        1 << draw.below(count as usize)
+    } else {
+        set
     }
 }
 
@@ -114,28 +152,49 @@ const KINDS: [u8; 6] = [1, 3, 5, 6, 7, 8];
 fn whole_role() -> Vec<u8> {
     let mut clauses = Vec::new();
     for key in 1..13 {
-        clauses.extend([0, key, 0]);
+        clauses.extend([0, key, 0, 0]);
     }
     for kind in KINDS {
-        clauses.extend([1, 0, kind]);
+        clauses.extend([1, 0, kind, 0]);
     }
     for action in [2, 3, 5, 6, 7] {
-        clauses.extend([action, 0, 0]);
+        clauses.extend([action, 0, 0, 0]);
     }
-    clauses.extend([4, 0, 5]);
+    clauses.extend([4, 0, 5, 0]);
     for key in 1..9 {
-        clauses.extend([4, key, KINDS[usize::from(key) % 6]]);
+        clauses.extend([4, key, KINDS[usize::from(key) % 6], 0]);
     }
     clauses
 }
 
 /// The host 1 registers its own key, reserves, and preempts any other.
 fn fencing_role(hosts: u64) -> Vec<u8> {
-    let mut clauses = vec![0, 2, 0, 1, 0, 5, 6, 0, 0, 7, 0, 0];
+    let mut clauses = vec![0, 2, 0, 0, 1, 0, 5, 0, 6, 0, 0, 0, 7, 0, 0, 0];
     for host in 0..hosts {
         if host != 1 {
-            clauses.extend([4, host as u8 + 1, 5]);
+            clauses.extend([4, host as u8 + 1, 5, 0]);
         }
+    }
+    clauses
+}
+
+/// 32 clauses as they are drawn: half of them preempts or all, half of them with a condition or none.
+fn drawn_role(draw: &mut Draw) -> Vec<u8> {
+    let preempts_alone = draw.one_in(3);
+    let has_conditions = draw.one_in(2);
+    let mut clauses = Vec::new();
+    for _ in 0..32 {
+        let action = if preempts_alone || draw.one_in(2) {
+            4
+        } else {
+            draw.below(8) as u8
+        };
+        let condition = if has_conditions && draw.one_in(2) {
+            draw.below(4) as u8
+        } else {
+            0
+        };
+        clauses.extend([action, draw.below(13) as u8, draw.one_of(&KINDS), condition]);
     }
     clauses
 }
@@ -290,6 +349,27 @@ impl Bench {
         });
     }
 
+    /// The call that takes most time of those on views and roles that are drawn.
+    fn interfere_drawn(&mut self, hosts: u64) {
+        let mut draw = Draw::new(SEED);
+        let mut most: f64 = 0.0;
+        for _ in 0..DRAWN {
+            let view = View::drawn(hosts, &mut draw);
+            let clauses = drawn_role(&mut draw);
+            let mut least = f64::INFINITY;
+            for _ in 0..PASSES {
+                least = least.min(seconds(|| interfered(&view, &clauses, 2)) / 2.0);
+            }
+            most = most.max(least);
+        }
+        self.calls.push(Timed {
+            hosts,
+            name: format!("interfere, the most of {DRAWN} drawn roles and views"),
+            seconds: most,
+            goal: GAINED,
+        });
+    }
+
     fn outcomes(&mut self, sending: &Sending, states: &str, view: &View) {
         let seconds = self.time(|times| landed(view, sending, times));
         self.calls.push(Timed {
@@ -340,6 +420,7 @@ fn measure(bench: &mut Bench, hosts: u64) {
     for (states, view) in &views {
         bench.interfere("32 clauses", &whole, states, view);
     }
+    bench.interfere_drawn(hosts);
     for sending in &sendings() {
         for (states, view) in [&views[0], &views[2]] {
             bench.outcomes(sending, states, view);

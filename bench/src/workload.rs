@@ -11,10 +11,14 @@ const SEED: u64 = 0x00f3_9ce5;
 const KINDS: [u8; 6] = [1, 3, 5, 6, 7, 8];
 
 /// Numbers that look random, the same at each run.
-struct Draw(u64);
+pub struct Draw(u64);
 
 impl Draw {
-    fn word(&mut self) -> u64 {
+    pub fn new(seed: u64) -> Self {
+        Draw(seed)
+    }
+
+    pub fn word(&mut self) -> u64 {
         self.0 = self.0.wrapping_add(0x9e37_79b9_7f4a_7c15);
         let mut word = self.0;
         word = (word ^ (word >> 30)).wrapping_mul(0xbf58_476d_1ce4_e5b9);
@@ -22,15 +26,15 @@ impl Draw {
         word ^ (word >> 31)
     }
 
-    fn below(&mut self, end: usize) -> usize {
+    pub fn below(&mut self, end: usize) -> usize {
         (self.word() % end as u64) as usize
     }
 
-    fn one_in(&mut self, count: usize) -> bool {
+    pub fn one_in(&mut self, count: usize) -> bool {
         self.below(count) == 0
     }
 
-    fn one_of<T: Copy>(&mut self, values: &[T]) -> T {
+    pub fn one_of<T: Copy>(&mut self, values: &[T]) -> T {
         values[self.below(values.len())]
     }
 
@@ -44,7 +48,7 @@ impl Draw {
 ///
 /// A unit runs along, so that most commands name the key that their sender has at that time.
 pub fn records(count: usize) -> Vec<u8> {
-    let mut draw = Draw(SEED);
+    let mut draw = Draw::new(SEED);
     let mut unit = Unit::powered_on();
     let mut records = Vec::with_capacity(count * RECORD);
     for _ in 0..count {

@@ -1,2 +1,4 @@
 pub mod Naming
 pub mod Plans
+pub mod Judging
+pub mod Auditing

@@ -1,7 +1,7 @@
 -- Steps, and the hosts and guests that they name.
-use Rattle.std.specs.Prelude.{◌≡◌, ℕ, ◌+◌, ◌<◌, ◌≤◌, Bool, List, [], ◌∷◌, ◌++◌, length, map, take, drop, position, bytes_eq, cond, Option, Some, None, option_map, option_and_then}
+use Rattle.std.specs.Prelude.{◌≡◌, ℕ, ◌+◌, ◌<◌, ◌≤◌, List, [], ◌∷◌, ◌++◌, length, position, bytes_eq, cond, Option, Some, None, option_map, option_and_then}
 use Rattle.std.specs.List.{position_from}
-use Rattle.std.proofs.Common.{refl, sym, ap, ◌∙◌, get_or, zero, suc, arith}
+use Rattle.std.proofs.Common.{refl, sym, ap, ◌∙◌, zero, suc, arith}
 use Rattle.std.proofs.lemmas.Iterator.Adapters.{position_from-zero}
 use Rattle.std.proofs.lemmas.List.Elements.{All-append}
 use Rattle.std.specs.List.{All}

@@ -1,26 +1,23 @@
 -- What is planned is the trace of the text's scheduled run.
-use Rattle.std.specs.Prelude.{◌≡◌, ℕ, suc, ◌+◌, ◌<◌, ◌≤◌, ◌==◌, ◌||◌, Bool, true, false, nat_lt, IsTrue, List, [], ◌∷◌, length, map, Option, Some, None, option_map, option_and_then, IfSome, Result, Ok, Err}
-use Rattle.std.specs.List.{All, list_any}
+use Rattle.std.specs.Prelude.{◌≡◌, ℕ, ◌≤◌, ◌==◌, ◌||◌, Bool, true, false, nat_lt, List, [], ◌∷◌, length, map, Option, Some, None, option_map, option_and_then, IfSome, Ok, Err}
 use Rattle.std.proofs.Common.{refl, sym, ap, ◌∙◌, subst, arith}
 use Rattle.std.proofs.lemmas.Bool.{false≢true}
 use Rattle.std.proofs.lemmas.List.{length-map}
 use Rattle.std.proofs.lemmas.Bool.Decides.{nat_tests}
 use Rattle.std.proofs.lemmas.Option.{none-some, same_Some}
 use Rattle.pr_roles.specs.declared.parts.Parts.{Parts}
-use Rattle.pr_roles.specs.Scenarios.{Scenario, scenario_of}
+use Rattle.pr_roles.specs.Scenarios.{scenario_of}
 use Rattle.pr_roles.proofs.Apart.{names_of_parts, length_of_parts}
 use Rattle.pr_text.specs.Readings.{IsWrittenAs}
 use Rattle.pr_world.specs.declared.end.End.{End}
-use Rattle.pr_world.specs.declared.end.End.TheVariants as end
 use Rattle.pr_world.specs.declared.replaying.Replayed.{Replayed}
-use Rattle.pr_world.specs.Ends.{Ending, seen, is_trapped_end}
+use Rattle.pr_world.specs.Ends.{seen}
 use Rattle.pr_world.specs.Replays.{IsReplayed}
 use Rattle.pr_report.specs.TraceText.{names_in, names_of, trace_text}
-use Rattle.fence.specs.declared.commands.Planned.{Planned}
 use Rattle.fence.specs.declared.fault.Fault.TheVariants as fault
 use Rattle.fence.specs.Steps.{number_of, hosts_of, has_wrong_count}
 use Rattle.fence.specs.Replays.{IsTraceOf, IsUsageFault}
-use Rattle.fence.specs.Commands.{planned_text, is_refused, IsPlanned}
+use Rattle.fence.specs.inside.PlannedReplays.{planned_text, is_refused, IsPlanned}
 
 -- the names of a scenario are those of its parts
 pub names_of_scenario : (p : Parts) → names_of p.nexuses.items ≡ names_in (scenario_of p)

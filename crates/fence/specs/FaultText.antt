@@ -8,6 +8,8 @@ use Rattle.pr_text.specs.declared.fault.Which.TheVariants as which
 use Rattle.pr_text.specs.declared.fault.ReadError.{ReadError}
 use Rattle.pr_text.specs.declared.fault.ReadError.TheVariants as input
 use Rattle.pr_report.specs.PrintedLines.{line}
+use Rattle.pr_report.specs.declared.trace_error.TraceError.{TraceError}
+use Rattle.pr_report.specs.declared.trace_error.TraceError.TheVariants as trace
 use Rattle.fence.specs.declared.fault.Fault.{Fault}
 use Rattle.fence.specs.declared.fault.Fault.TheVariants as fault
 use Rattle.fence.specs.declared.fault.Status.{Status}
@@ -24,12 +26,19 @@ which_word which.Budget = codes "Budget"
 which_word which.Roles = codes "Roles"
 which_word which.Plan = codes "Plan"
 
--- a fault of the whole text, and one of a line, by number and name
+-- a fault of a whole text, and one of a line, by number and name; the first word tells which text
+abbrev pub of_whole : List ℕ → List ℕ → List ℕ → List (List ℕ)
+of_whole which number name = which ∷ number ∷ name ∷ []
+
+abbrev pub at_line : List ℕ → List ℕ → List ℕ → ℕ → List (List ℕ)
+at_line which number name at = which ∷ number ∷ name ∷ codes "line" ∷ decimal at ∷ []
+
+-- of the scenario's text
 abbrev pub of_text : List ℕ → List ℕ → List (List ℕ)
-of_text number name = codes "input" ∷ number ∷ name ∷ []
+of_text number name = of_whole (codes "input") number name
 
 abbrev pub of_line : List ℕ → List ℕ → ℕ → List (List ℕ)
-of_line number name at = codes "input" ∷ number ∷ name ∷ codes "line" ∷ decimal at ∷ []
+of_line number name at = at_line (codes "input") number name at
 
 abbrev pub input_words : ReadError → List (List ℕ)
 input_words input.TooLarge = of_text (codes "1") (codes "TooLarge")
@@ -46,11 +55,19 @@ input_words input.ReadFault = of_text (codes "10") (codes "ReadFault")
 input_words input.Memory = codes "memory" ∷ []
 input_words input.EmptyStart = of_text (codes "12") (codes "EmptyStart")
 
+abbrev pub trace_words : TraceError → List (List ℕ)
+trace_words (trace.Syntax at) = at_line (codes "trace") (codes "1") (codes "Syntax") at
+trace_words (trace.UnknownName at) = at_line (codes "trace") (codes "2") (codes "UnknownName") at
+trace_words trace.TooLong = of_whole (codes "trace") (codes "3") (codes "TooLong")
+trace_words trace.ReadFault = of_whole (codes "trace") (codes "4") (codes "ReadFault")
+trace_words trace.Memory = codes "memory" ∷ []
+
 -- the words after the program's name
 abbrev pub told_words : Fault → List (List ℕ)
 told_words fault.Usage = codes "usage" ∷ []
 told_words fault.File = codes "file" ∷ []
 told_words (fault.Input error) = input_words error
+told_words (fault.Trace error) = trace_words error
 told_words fault.Memory = codes "memory" ∷ []
 told_words fault.Output = codes "output" ∷ []
 
@@ -65,6 +82,11 @@ fault_text f = told_line (told_words f)
 abbrev pub input_fault : ReadError → Fault
 input_fault input.Memory = fault.Memory
 input_fault error = fault.Input error
+
+-- a fault of the trace; want of memory is none
+abbrev pub trace_fault : TraceError → Fault
+trace_fault trace.Memory = fault.Memory
+trace_fault error = fault.Trace error
 
 -- why the words of the command line were not to be had: one of them is no text
 abbrev pub args_fault : ErrorKind → Fault
@@ -81,6 +103,8 @@ status_of fault.Usage = status.Usage
 status_of fault.Memory = status.Memory
 status_of (fault.Input input.Memory) = status.Memory
 status_of (fault.Input error) = status.Fault
+status_of (fault.Trace trace.Memory) = status.Memory
+status_of (fault.Trace error) = status.Fault
 status_of fault.File = status.Fault
 status_of fault.Output = status.Fault
 

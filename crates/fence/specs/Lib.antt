@@ -1,4 +1,7 @@
 pub mod FaultText
+pub mod Endings
 pub mod Steps
 pub mod Replays
-pub mod Commands
+pub mod Checks
+pub mod Audits
+pub mod inside

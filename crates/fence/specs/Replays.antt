@@ -1,24 +1,18 @@
 -- What `fence replay` writes.
-use Rattle.std.specs.Prelude.{◌≡◌, ℕ, Bool, true, false, IsTrue, if◌then◌else◌, List, [], ◌∷◌, map, Option, Some, None, IfSome, Result, Ok, Err}
+use Rattle.std.specs.Prelude.{◌≡◌, ℕ, Bool, true, false, IsTrue, List, map, Option, Some, None, IfSome, Result, Err}
 use Rattle.std.specs.List.{list_any}
-use Rattle.std.specs.Io.KnownBytes.{Appends, Keeps}
 use Rattle.pr_unit.specs.UnitStates.{UnitState}
 use Rattle.pr_roles.specs.Scenarios.{Scenario}
 use Rattle.pr_roles.specs.Starts.{first_state}
 use Rattle.pr_roles.specs.Worlds.{is_trapped}
 use Rattle.pr_roles.specs.Schedules.{Schedule, ScheduledRun, schedule_from}
-use Rattle.pr_text.specs.declared.fault.ReadError.TheVariants as input
-use Rattle.pr_text.specs.Texts.{answer_of}
 use Rattle.pr_text.specs.Readings.{IsWrittenAs}
 use Rattle.pr_world.specs.Ends.{Ending, endings}
 use Rattle.pr_world.specs.Replays.{counts_in}
-use Rattle.pr_report.specs.Written.{FallsShort}
 use Rattle.pr_report.specs.TraceText.{names_in, trace_text}
 use Rattle.fence.specs.declared.fault.Fault.{Fault}
 use Rattle.fence.specs.declared.fault.Fault.TheVariants as fault
-use Rattle.fence.specs.declared.fault.Status.{Status}
-use Rattle.fence.specs.declared.fault.Status.TheVariants as status
-use Rattle.fence.specs.FaultText.{fault_text, status_of}
+use Rattle.fence.specs.Endings.{Outputs}
 use Rattle.fence.specs.Steps.{hosts_of, has_wrong_count}
 
 -- The text is a scenario, the steps are names of its hosts and guests, and this is the trace of their scheduled
@@ -43,24 +37,7 @@ abbrev pub IsUsageFault : List (List ℕ) → List ℕ → Bool → Type 0
 IsUsageFault steps text true = Unit {0}
 IsUsageFault steps text false = (s : Scenario) × IsWrittenAs text s × (hosts_of (names_in s) steps ≡ None)
 
--- What goes to the output, by how the command ends: over a text that is known, the whole trace and nothing
--- else, or a front of it, or nothing. A reader or memory may fail on any text.
-abbrev pub Outputs : List (List ℕ) → Option (List ℕ) → Option (List ℕ) → Option (List ℕ) → Result Bool Fault → Type 0
-Outputs steps known old new (Ok refused) =
-    IfSome known (λ text. (trace : List ℕ) × IsTraceOf steps text trace refused × Appends old new trace)
-Outputs steps known old new (Err fault.Output) =
-    IfSome known (λ text. (trace : List ℕ) × (refused : Bool) × IsTraceOf steps text trace refused × FallsShort old new trace)
-Outputs steps known old new (Err fault.Memory) = Keeps old new
-Outputs steps known old new (Err fault.Usage) = IfSome known (λ text. IsUsageFault steps text (has_wrong_count steps)) × Keeps old new
-Outputs steps known old new (Err (fault.Input input.ReadFault)) = Keeps old new
-Outputs steps known old new (Err (fault.Input e)) = IfSome known (λ text. answer_of text ≡ Err e) × Keeps old new
-Outputs steps known old new (Err fault.File) = ⊥
-
-abbrev pub status_of_end : Result Bool Fault → Status
-status_of_end (Ok refused) = if refused then status.Refused else status.Done
-status_of_end (Err f) = status_of f
-
--- what is told of a fault
-abbrev pub told_of_end : Result Bool Fault → List ℕ
-told_of_end (Ok refused) = []
-told_of_end (Err f) = fault_text f
+-- what goes to the output, and that a wrong number of steps is a usage fault whatever the reader has
+pub record EndsReplay (steps : List (List ℕ)) (known old new : Option (List ℕ)) (r : Result Bool Fault) : Type 0 where
+  pub outputs : Outputs (IsTraceOf steps) (IfSome known (λ text. IsUsageFault steps text (has_wrong_count steps))) (λ e. ⊥) known old new r
+  pub counted : IsTrue (has_wrong_count steps) → r ≡ Err fault.Usage

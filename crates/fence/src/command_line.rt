@@ -7,30 +7,43 @@ use std::alloc::{AllocError, Global};
 const VERSION: &str = "0.1.0 (language fence 1, proved with rattle-kit-13b)";
 
 const STATUSES: &str =
-    "Exit status: 0 done; 1 a script is trapped; 2 the command line is at fault, or this help; \
+    "Exit status: 0 done, accepted or legal; 1 a script is refused or trapped, or a trace is illegal; 2 the command line is at fault, or this help; \
 3 input or output is at fault; 4 memory ran out. A fault is told in one line on standard error.";
 
-const CALL: &str = "For example: fence replay preempted-writer.fence a a b a";
+const CHECK_CALL: &str = "For example: fence check preempted-writer.fence";
 
-/// What the words of a command line say: the subcommand `replay` with its `FILE`, and one `STEP` or more.
+const REPLAY_CALL: &str = "For example: fence replay preempted-writer.fence a a b a";
+
+const AUDIT_CALL: &str = "For example: fence audit preempted-writer.fence preempted-writer.1.trace";
+
+/// What the words of a command line say: the subcommand `check` with its `FILE`, `replay` with its `FILE` and one `STEP`
+/// or more, or `audit` with its `FILE` and its `TRACE`.
 pub fn matches_of<'a>(alloc: Global, words: &'a [String]) -> Result<ArgMatches<'a>, Error> {
     command(alloc)?.try_get_matches_from(words)
 }
 
 fn command<'a>(alloc: Global) -> Result<Command<'a>, AllocError> {
     Command::new(alloc, "fence")
-        .about("Runs SCSI fencing scripts against one logical unit")
+        .about(
+            "Verifies SCSI fencing scripts, runs them against one logical unit, and audits traces",
+        )
         .version(VERSION)
         .after_help(STATUSES)
         .subcommand_required(true)
         .arg_required_else_help(true)
-        .subcommand(replay(alloc)?)
+        .subcommand(check(alloc)?)?
+        .subcommand(replay(alloc)?)?
+        .subcommand(audit(alloc)?)
+}
+
+fn check<'a>(alloc: Global) -> Result<Command<'a>, AllocError> {
+    Command::new(alloc, "check")
+        .about("Verifies the scripts, and writes the verdict")
+        .after_help(CHECK_CALL)
+        .arg(file(alloc))
 }
 
 fn replay<'a>(alloc: Global) -> Result<Command<'a>, AllocError> {
-    let file = Arg::new(alloc, "FILE")
-        .help("The scenario; - is standard input")
-        .required(true);
     let steps = Arg::new(alloc, "STEP")
         .help("The name of the host or guest whose turn is next, one word for each turn")
         .action(ArgAction::Append)
@@ -38,9 +51,26 @@ fn replay<'a>(alloc: Global) -> Result<Command<'a>, AllocError> {
         .required(true);
     Command::new(alloc, "replay")
         .about("Lets hosts and guests take their turns in this order, and writes the trace")
-        .after_help(CALL)
-        .arg(file)?
+        .after_help(REPLAY_CALL)
+        .arg(file(alloc))?
         .arg(steps)
+}
+
+fn audit<'a>(alloc: Global) -> Result<Command<'a>, AllocError> {
+    let trace = Arg::new(alloc, "TRACE").help("The trace").required(true);
+    Command::new(alloc, "audit")
+        .about(
+            "Says whether the commands and replies of a trace may have happened, or which is the first that may not",
+        )
+        .after_help(AUDIT_CALL)
+        .arg(file(alloc))?
+        .arg(trace)
+}
+
+fn file<'a>(alloc: Global) -> Arg<'a> {
+    Arg::new(alloc, "FILE")
+        .help("The scenario; - is standard input")
+        .required(true)
 }
 
 #[cfg(test)]

@@ -5,9 +5,9 @@ ghost use Rattle.std.specs.Fmt.{decimal};
 ghost use Rattle.pr_report.specs.Written.{AppendsFront, Puts};
 ghost use Rattle.pr_report.specs.Printed.{printed};
 ghost use Rattle.pr_report.specs.PrintedLines.{line};
-ghost use Rattle.fence.specs.FaultText.{exit_status_of, fault_text, status_of, told_line, input_words, of_text, of_line, which_word};
+ghost use Rattle.fence.specs.FaultText.{exit_status_of, fault_text, status_of, told_line, input_words, trace_words, of_whole, at_line, of_text, of_line, which_word};
 
-use pr_report::{Word, WriteFault, put_line};
+use pr_report::{TraceError, Word, WriteFault, put_line};
 use pr_text::{ReadError, Which};
 use std::alloc::{AllocError, AllocFailed};
 use std::io::Write;
@@ -26,6 +26,9 @@ pub enum Fault {
 
     /// The text is no scenario, or can't be read to its end.
     Input(ReadError),
+
+    /// The trace is none of the scenario's, or can't be read to its end.
+    Trace(TraceError),
 
     /// An allocation failed.
     Memory,
@@ -75,8 +78,9 @@ impl Fault {
     {
         match self {
             Fault::Usage => Status::Usage,
-            Fault::Memory | Fault::Input(ReadError::Memory) => Status::Memory,
-            Fault::File | Fault::Input(_) | Fault::Output => Status::Fault,
+            Fault::Memory | Fault::Input(ReadError::Memory) | Fault::Trace(TraceError::Memory) =>
+                Status::Memory,
+            Fault::File | Fault::Input(_) | Fault::Trace(_) | Fault::Output => Status::Fault,
         }
     }
 }
@@ -91,6 +95,20 @@ impl From<ReadError> for Fault {
         match error {
             ReadError::Memory => Fault::Memory,
             other => Fault::Input(other),
+        }
+    }
+}
+
+impl From<TraceError> for Fault {
+    ghost use Rattle.std.specs.Prelude.{◌≡◌};
+    ghost use Rattle.fence.specs.FaultText.{trace_fault};
+
+    ghost from_gives = { λ error fault. fault ≡ trace_fault error };
+
+    fn from(error: TraceError) -> Self {
+        match error {
+            TraceError::Memory => Fault::Memory,
+            other => Fault::Trace(other),
         }
     }
 }
@@ -144,6 +162,7 @@ pub fn put_fault<W: Write>(errors: &mut W, fault: &Fault) -> Result<(), WriteFau
         Fault::Usage => put_told(errors, &[Word::Text(b"usage")]),
         Fault::File => put_told(errors, &[Word::Text(b"file")]),
         Fault::Input(error) => put_input(errors, *error),
+        Fault::Trace(error) => put_trace(errors, *error),
         Fault::Memory => put_told(errors, &[Word::Text(b"memory")]),
         Fault::Output => put_told(errors, &[Word::Text(b"output")]),
     }
@@ -175,8 +194,7 @@ fn put_memory<W: Write>(errors: &mut W) -> Result<(), WriteFault>
     put_told(errors, &[Word::Text(b"memory")])
 }
 
-// A fault of the whole text.
-#[tactic(auto, unfolding(pr_report::specs::Printed::printed))]
+// A fault of the whole text of a scenario.
 fn put_of_text<'a, W: Write>(
     errors: &mut W,
     number: &'a [u8],
@@ -184,14 +202,10 @@ fn put_of_text<'a, W: Write>(
 ) -> Result<(), WriteFault>
     ensures { Puts (W.contents errors.old) (W.contents errors.new) (told_line (of_text number.now name.now)) result }
 {
-    put_told(
-        errors,
-        &[Word::Text(b"input"), Word::Text(number), Word::Text(name)],
-    )
+    put_of_whole(errors, b"input", number, name)
 }
 
-// A fault of a line.
-#[tactic(auto, unfolding(pr_report::specs::Printed::printed))]
+// A fault of a line of it.
 fn put_of_line<'a, W: Write>(
     errors: &mut W,
     number: &'a [u8],
@@ -200,10 +214,54 @@ fn put_of_line<'a, W: Write>(
 ) -> Result<(), WriteFault>
     ensures { Puts (W.contents errors.old) (W.contents errors.new) (told_line (of_line number.now name.now line)) result }
 {
+    put_at_line(errors, b"input", number, name, line)
+}
+
+fn put_trace<W: Write>(errors: &mut W, error: TraceError) -> Result<(), WriteFault>
+    ensures { Puts (W.contents errors.old) (W.contents errors.new) (told_line (trace_words error)) result }
+{
+    match error {
+        TraceError::Syntax { line } => put_at_line(errors, b"trace", b"1", b"Syntax", line),
+        TraceError::UnknownName { line } => {
+            put_at_line(errors, b"trace", b"2", b"UnknownName", line)
+        }
+        TraceError::TooLong => put_of_whole(errors, b"trace", b"3", b"TooLong"),
+        TraceError::ReadFault => put_of_whole(errors, b"trace", b"4", b"ReadFault"),
+        TraceError::Memory => put_memory(errors),
+    }
+}
+
+// A fault of a whole text, which is the input or the trace.
+#[tactic(auto, unfolding(pr_report::specs::Printed::printed))]
+fn put_of_whole<'a, W: Write>(
+    errors: &mut W,
+    which: &'a [u8],
+    number: &'a [u8],
+    name: &'a [u8],
+) -> Result<(), WriteFault>
+    ensures { Puts (W.contents errors.old) (W.contents errors.new) (told_line (of_whole which.now number.now name.now)) result }
+{
+    put_told(
+        errors,
+        &[Word::Text(which), Word::Text(number), Word::Text(name)],
+    )
+}
+
+// A fault of a line.
+#[tactic(auto, unfolding(pr_report::specs::Printed::printed))]
+fn put_at_line<'a, W: Write>(
+    errors: &mut W,
+    which: &'a [u8],
+    number: &'a [u8],
+    name: &'a [u8],
+    line: u32,
+) -> Result<(), WriteFault>
+    ensures { Puts (W.contents errors.old) (W.contents errors.new) (told_line (at_line which.now number.now name.now line)) result }
+{
     put_told(
         errors,
         &[
-            Word::Text(b"input"),
+            Word::Text(which),
             Word::Text(number),
             Word::Text(name),
             Word::Text(b"line"),

@@ -1,5 +1,5 @@
-//! The program `fence`: it runs SCSI fencing scripts against one logical unit that behaves as SPC-4 says,
-//! and writes a trace of the commands and replies.
+//! The program `fence`: it verifies SCSI fencing scripts against one logical unit that behaves as SPC-4 says, runs them,
+//! with a trace of the commands and replies, and audits such traces, its own or another target's.
 #![tactic(auto)]
 
 ghost use Rattle.std.specs.Prelude.{◌≡◌};
@@ -7,19 +7,26 @@ ghost use Rattle.pr_report.specs.Written.{AppendsFront};
 ghost use Rattle.std.specs.IoError.{error_kind};
 ghost use Rattle.fence.specs.FaultText.{args_fault, fault_text, open_fault, status_of};
 
+mod audits;
+mod checks;
 mod command_line;
-mod commands;
+mod ending;
+#[cfg(test)]
+mod fakes;
 mod fault;
+mod replays;
 mod steps;
 
+use crate::audits::do_audit;
+use crate::checks::do_check;
 use crate::command_line::matches_of;
-use crate::commands::do_replay;
 use crate::fault::{Fault, Status, tell};
+use crate::replays::do_replay;
 use clap::ArgMatches;
 use clap::error::ErrorKind;
 use std::alloc::{AllocError, Global};
 use std::fs::File;
-use std::io::Write;
+use std::io::{Read, Write};
 use std::process::ExitCode;
 use std::{env, fs, io};
 
@@ -49,13 +56,46 @@ fn words(rt: &HostRuntime) -> io::Result<Vec<String>> {
 }
 
 fn run_matches(rt: &HostRuntime, matches: &ArgMatches<'_>) -> Status {
-    let Some(("replay", arguments)) = matches.subcommand() else {
+    match matches.subcommand() {
+        Some(("check", arguments)) => run_check(rt, arguments),
+        Some(("replay", arguments)) => run_replay(rt, arguments),
+        Some(("audit", arguments)) => run_audit(rt, arguments),
+        _ => fail(&mut rt.stderr(), Fault::Usage),
+    }
+}
+
+fn run_check(rt: &HostRuntime, arguments: &ArgMatches<'_>) -> Status {
+    let Some(path) = arguments.get_str("FILE") else {
         return fail(&mut rt.stderr(), Fault::Usage);
     };
+    check_path(rt, path)
+}
+
+fn run_replay(rt: &HostRuntime, arguments: &ArgMatches<'_>) -> Status {
     let (Some(path), Some(steps)) = (arguments.get_str("FILE"), arguments.get_strs("STEP")) else {
         return fail(&mut rt.stderr(), Fault::Usage);
     };
     replay_path(rt, path, steps)
+}
+
+fn run_audit(rt: &HostRuntime, arguments: &ArgMatches<'_>) -> Status {
+    let (Some(path), Some(trace)) = (arguments.get_str("FILE"), arguments.get_str("TRACE")) else {
+        return fail(&mut rt.stderr(), Fault::Usage);
+    };
+    audit_paths(rt, path, trace)
+}
+
+// `fence check FILE`, where `-` is standard input.
+fn check_path(rt: &HostRuntime, path: &str) -> Status {
+    let mut output = rt.stdout();
+    let mut errors = rt.stderr();
+    if path == "-" {
+        return do_check(rt.alloc(), &mut rt.stdin(), &mut output, &mut errors);
+    }
+    match fs::open(rt, path) {
+        Ok(mut file) => do_check(rt.alloc(), &mut file, &mut output, &mut errors),
+        Err(error) => fail(&mut errors, file_fault(&error)),
+    }
 }
 
 // `fence replay FILE STEP..`, where `-` is standard input.
@@ -68,6 +108,33 @@ fn replay_path(rt: &HostRuntime, path: &str, steps: &[&str]) -> Status {
     match fs::open(rt, path) {
         Ok(mut file) => do_replay(rt.alloc(), steps, &mut file, &mut output, &mut errors),
         Err(error) => fail(&mut errors, file_fault(&error)),
+    }
+}
+
+// `fence audit FILE TRACE`, where `-` is standard input for the first. Both are opened before either is read.
+fn audit_paths(rt: &HostRuntime, path: &str, trace: &str) -> Status {
+    let mut output = rt.stdout();
+    let mut errors = rt.stderr();
+    if path == "-" {
+        return audit_trace(rt, &mut rt.stdin(), trace, &mut output, &mut errors);
+    }
+    match fs::open(rt, path) {
+        Ok(mut file) => audit_trace(rt, &mut file, trace, &mut output, &mut errors),
+        Err(error) => fail(&mut errors, file_fault(&error)),
+    }
+}
+
+// The same, once the scenario's text can be read.
+fn audit_trace<R: Read, W: Write, E: Write>(
+    rt: &HostRuntime,
+    reader: &mut R,
+    trace: &str,
+    output: &mut W,
+    errors: &mut E,
+) -> Status {
+    match fs::open(rt, trace) {
+        Ok(mut file) => do_audit(rt.alloc(), reader, &mut file, output, errors),
+        Err(error) => fail(errors, file_fault(&error)),
     }
 }
 

@@ -1,5 +1,5 @@
 -- What a clause leads to under one reservation, by how its sender stands to what it asks for.
-use Rattle.std.proofs.Common.{◌≡◌, ℕ, zero, suc, ◌<◌, Bool, true, false, ◌||◌, not, if◌then◌else◌, List, length, Option, Some, None, is_some, refl, sym, ap, ◌∙◌, subst, arith}
+use Rattle.std.proofs.Common.{◌≡◌, ℕ, zero, suc, ◌<◌, ◌≤◌, Bool, true, false, ◌||◌, not, if◌then◌else◌, List, length, Option, Some, None, is_some, refl, sym, ap, ◌∙◌, subst, arith}
 use Rattle.std.proofs.lemmas.Bool.{and_parts, and_from, false≢true}
 use Rattle.pr_cdb.specs.declared.command.Command.{Command}
 use Rattle.pr_registry.specs.declared.held.Held.{Held}
@@ -14,9 +14,10 @@ use Rattle.pr_roles.specs.declared.role.Clause.{Clause}
 use Rattle.pr_roles.specs.Permits.{names, holds}
 use Rattle.pr_roles.specs.Fitting.{AreDeclared, is_action}
 use Rattle.pr_sets.specs.declared.word.Word.{Word}
+use Rattle.pr_sets.specs.Words.{has}
 use Rattle.pr_views.specs.Possibilities.{Scope, Item, Registration, Reservation, IsSo}
 use Rattle.pr_views.specs.Views.{Shows}
-use Rattle.pr_views.specs.Portions.{view_in}
+use Rattle.pr_views.specs.Portions.{has_at, view_in}
 use Rattle.pr_views.proofs.Numbering.{key_there}
 use Rattle.pr_regions.specs.declared.region.Change.{Change}
 use Rattle.pr_regions.specs.declared.region.Ending.{Ending}
@@ -117,6 +118,14 @@ none_send s o place clause p standing u w is none leads = false≢true (sym none
     may : may_send clause.condition p place.held place.sender standing ≡ true
     may = and_from (holds_as clause.condition place.held place.sender (is_registered_as standing)) (is_registered_as standing || not (refuses_strangers p)) holding
         (ap (λ b. b || not (refuses_strangers p)) key.registered ∙ admitted (refuses_strangers p) refl key.key key.is)
+
+-- nobody stands so that the view does not have among those who do
+pub none_among : (s : Scope) (o : Onlooker) (place : Place) (clause : Clause) (p : Purpose) (standing : Standing) (senders : Word) (u w : UnitState) → IsWatched s o place → AreSenders p standing senders
+    → ((r : ℕ) → has_at o.view.registrations place.sender r ≡ true → has senders r ≡ false) → StandingLeads (view_in s o.view) clause place.sender place.reservation p standing u w → ⊥
+none_among s o place clause p standing senders u w is are none leads =
+    let seen = leads.leads.shown.registrations place.sender (subst (λ n. place.sender < n) (sym is.known.hosts) is.known.sender) in
+    let few : seen.0 ≤ 12 = (let few = few_keys s.keys is.known.fits.scope.keys in let small = seen.1.1.1 in omega arith) in
+    false≢true (sym (none seen.0 seen.1.0.1) ∙ are.all seen.0 few (leads.stands seen.0 seen.1.1))
 
 -- ---- what branches lead to
 

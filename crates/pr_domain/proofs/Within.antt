@@ -1,17 +1,17 @@
 -- Whatever becomes another by a service action is in its reach.
-use Rattle.std.proofs.Common.{◌≡◌, ◌≢◌, ◌⊎◌, ℕ, zero, suc, ◌≤◌, Bool, true, false, ◌==◌, ◌&&◌, not, if◌then◌else◌, length, Option, Some, None, is_some, unwrap_or, bit_or, refl, sym, ap, ◌∙◌, subst, inl, inr, arith}
+use Rattle.std.proofs.Common.{◌≡◌, ◌≢◌, ◌⊎◌, ℕ, zero, suc, ◌≤◌, Bool, true, false, ◌==◌, ◌&&◌, ◌||◌, not, if◌then◌else◌, length, Option, Some, None, is_some, unwrap_or, bit_or, refl, sym, ap, ◌∙◌, subst, inl, inr, arith}
 use Rattle.std.specs.Int.Bits.{or_zero_r}
 use Rattle.std.specs.FinSet as set
 use Rattle.std.specs.FinMap as map
-use Rattle.std.proofs.lemmas.Bool.{false≢true}
+use Rattle.std.proofs.lemmas.Bool.{and_parts, and_from, or_left, false≢true, not-true}
 use Rattle.std.proofs.lemmas.Bool.Decides.{nat_tests, eqb_tells}
 use Rattle.pr_cdb.specs.declared.command.Kind.{Kind}
 use Rattle.pr_registry.specs.declared.held.Held.{Held}
 use Rattle.pr_registry.specs.declared.held.Held.TheVariants.{One, All}
 use Rattle.pr_registry.specs.declared.change.Change.{Change as Told}
 use Rattle.pr_registry.specs.Hosts.{Keys, just, without, hosts_with, is_key, is_empty}
-use Rattle.pr_registry.specs.Registrations.{State, key_of, is_registered, established, holds_alone}
-use Rattle.pr_registry.specs.Changes.{Case, ReplacesAll, ReplacesHolder, RemovesKey, no_change, is_kind, is_told_of_loss, is_held_by_all, is_released, preempt_case, change_on_unregister, change_on_release, change_on_clear, change_on_preempt}
+use Rattle.pr_registry.specs.Registrations.{State, key_of, is_registered, established, holds_alone, is_holder_of}
+use Rattle.pr_registry.specs.Changes.{Case, ReplacesAll, ReplacesHolder, RemovesKey, no_change, is_kind, is_told_of_loss, is_held_by_all, is_held_as, is_released, preempt_case, change_on_unregister, change_on_release, change_on_clear, change_on_preempt}
 use Rattle.pr_registry.specs.Effects.{registered as register, held_by_rest, held_or, reserved, released, unregistered, cleared, preempted}
 use Rattle.pr_registry.proofs.Sets.{get-without, contains-hosts_with, not_empty_from_some}
 use Rattle.pr_unit.specs.UnitStates.{UnitState}
@@ -23,9 +23,9 @@ use Rattle.pr_regions.proofs.Unique.{AreDistinct, same_number_at}
 use Rattle.pr_regions.proofs.Asking.{after_for, change_for}
 use Rattle.pr_regions.proofs.Acting.{Is, then_in}
 use Rattle.pr_regions.proofs.Telling.{is_pending_after, contains-told, contains-codes_told, told-lt, flags}
-use Rattle.pr_regions.proofs.Becoming.{Becomes, still, on_register, on_unregister, on_release, on_clear, is_key-number}
+use Rattle.pr_regions.proofs.Becoming.{Becomes, still, on_register, on_unregister, on_release, on_clear, is_key-number, is_registered-number}
 use Rattle.pr_regions.proofs.Preempted.{in_case, on_preempt_all, on_preempt_holder, on_preempt_key}
-use Rattle.pr_domain.specs.declared.reaching.Reach.{Reach}
+use Rattle.pr_domain.specs.declared.reach.Reach.{Reach}
 use Rattle.pr_domain.specs.inside.Reaching.{IsTold, IsWithin}
 
 -- ---- what a registry becomes
@@ -107,15 +107,15 @@ module _ (s : Scope) (from : ℕ) (reach : Reach) (u : UnitState) where
   told_registered_05 tells zero few = tt
   told_registered_05 tells (suc i) few = let is : registered (suc i) ≡ true = grind (arith, nat_tests) in subst (λ b. Tells reach (suc i) false false b) (sym is) (tells (suc i) (omega arith) few)
 
-  told_if_04 : (b : Bool) → ((r : ℕ) → 1 ≤ r → r ≤ 12 → has reach.told_04 r ≡ true) → (r : ℕ) → r ≤ 12 → Tells reach r false (told_if b r) false
+  told_if_04 : (b : Bool) → (b ≡ true → (r : ℕ) → 1 ≤ r → r ≤ 12 → has reach.told_04 r ≡ true) → (r : ℕ) → r ≤ 12 → Tells reach r false (told_if b r) false
   told_if_04 false tells r few = tt
   told_if_04 true tells zero few = tt
-  told_if_04 true tells (suc i) few = let is : registered (suc i) ≡ true = grind (arith, nat_tests) in subst (λ b. Tells reach (suc i) false b false) (sym is) (tells (suc i) (omega arith) few)
+  told_if_04 true tells (suc i) few = let is : registered (suc i) ≡ true = grind (arith, nat_tests) in subst (λ b. Tells reach (suc i) false b false) (sym is) (tells refl (suc i) (omega arith) few)
 
-  -- the reservation that is left is the one from before, or none
-  left_or_none : (o : Option Held) → (o ≡ u.registry.held) ⊎ (o ≡ None) → has reach.reservations 0 ≡ true → Stays (number_of s.hosts o)
-  left_or_none o (inl same) none = inl (ap (number_of s.hosts) same)
-  left_or_none o (inr ended) none = inr (ap (λ v. has reach.reservations (number_of s.hosts v)) ended ∙ none)
+  -- the reservation that is left is the one from before, or none where that is in reach
+  left_or_none : (o : Option Held) → (o ≡ u.registry.held) ⊎ ((o ≡ None) × (has reach.reservations 0 ≡ true)) → Stays (number_of s.hosts o)
+  left_or_none o (inl same) = inl (ap (number_of s.hosts) same)
+  left_or_none o (inr ended) = inr (ap (λ v. has reach.reservations (number_of s.hosts v)) ended.0 ∙ ended.1)
 
   -- nothing is removed or given
   keeps : (left : ℕ) (t4 : ℕ → Bool) → Stays left → ((r : ℕ) → r ≤ 12 → Tells reach r false (t4 r) false) → IsInReach s.hosts reach u.registry None never left never t4 never
@@ -137,65 +137,88 @@ module _ (s : Scope) (from : ℕ) (reach : Reach) (u : UnitState) where
           told = told_none;
         })
 
+    -- what a registrant's unregistering ends and tells
+    abbrev Ends : Type 0
+    Ends = (holds_alone u.registry.held from || is_held_by_all u.registry.held) ≡ true → has reach.reservations 0 ≡ true
+
+    abbrev Releases : Type 0
+    Releases = (holds_alone u.registry.held from && is_told_of_loss u.registry.held) ≡ true → (r : ℕ) → 1 ≤ r → r ≤ 12 → has reach.told_04 r ≡ true
+
     -- a registrant unregisters
-    unregistered_within : has reach.given 0 ≡ true → has reach.reservations 0 ≡ true → ((r : ℕ) → 1 ≤ r → r ≤ 12 → has reach.told_04 r ≡ true)
-        → IsWithin s from reach u (then_in u (unregistered u.registry from) (change_on_unregister u.registry from))
-    unregistered_within gives none tells =
+    unregistered_within : has reach.given 0 ≡ true → Ends → Releases → IsWithin s from reach u (then_in u (unregistered u.registry from) (change_on_unregister u.registry from))
+    unregistered_within gives ends tells =
         let b = holds_alone u.registry.held from && is_told_of_loss u.registry.held in
         within_becomes s from reach u (unregistered u.registry from) (change_on_unregister u.registry from) (Some 0) never (number_of s.hosts (unregistered u.registry from).held) never (told_if b) never few apart
         (on_unregister s.keys s.hosts from u.registry)
         (record {
           given = λ i is. let same : 0 ≡ i = cc in subst (λ n. has reach.given n ≡ true) same gives;
           removed = λ r few goes. absurd (false≢true goes);
-          reservation = left_or_none (unregistered u.registry from).held (left u.registry.held (holds_alone u.registry.held from)) none;
+          reservation = left_or_none (unregistered u.registry from).held (left u.registry.held (holds_alone u.registry.held from) ends);
           told = told_if_04 b tells;
         })
       where
-        rest : (v : Option Held) → (held_by_rest (without u.registry.keys (just from)) v ≡ v) ⊎ (held_by_rest (without u.registry.keys (just from)) v ≡ None)
-        rest None = inl refl
-        rest (Some (One t g)) = inl refl
-        rest (Some (All t)) = at (is_empty (without u.registry.keys (just from)))
+        Left : Option Held → Option Held → Type 0
+        Left o v = (o ≡ v) ⊎ ((o ≡ None) × (has reach.reservations 0 ≡ true))
+
+        rest : (v : Option Held) → (is_held_by_all v ≡ true → has reach.reservations 0 ≡ true) → Left (held_by_rest (without u.registry.keys (just from)) v) v
+        rest None ends = inl refl
+        rest (Some (One t g)) ends = inl refl
+        rest (Some (All t)) ends = at (is_empty (without u.registry.keys (just from)))
           where
-            at : (b : Bool) → ((if b then None else Some (All t)) ≡ Some (All t)) ⊎ ((if b then None else Some (All t)) ≡ None)
-            at true = inr refl
+            at : (b : Bool) → Left (if b then None else Some (All t)) (Some (All t))
+            at true = inr (refl, ends refl)
             at false = inl refl
 
-        left : (v : Option Held) (b : Bool)
-            → ((if b then None else held_by_rest (without u.registry.keys (just from)) v) ≡ v) ⊎ ((if b then None else held_by_rest (without u.registry.keys (just from)) v) ≡ None)
-        left v true = inr refl
-        left v false = rest v
+        left : (v : Option Held) (b : Bool) → ((b || is_held_by_all v) ≡ true → has reach.reservations 0 ≡ true) → Left (if b then None else held_by_rest (without u.registry.keys (just from)) v) v
+        left v true ends = inr (refl, ends refl)
+        left v false ends = rest v ends
 
-    pub unregister_within : has reach.given 0 ≡ true → has reach.reservations 0 ≡ true → ((r : ℕ) → 1 ≤ r → r ≤ 12 → has reach.told_04 r ≡ true)
+    pub unregister_within : has reach.given 0 ≡ true → Ends → Releases
         → IsWithin s from reach u (then_in u (after_for s.keys u.registry from Unregister) (change_for s.keys u.registry from Unregister))
-    unregister_within gives none tells = at (is_registered u.registry from)
+    unregister_within gives ends tells = at (is_registered u.registry from)
       where
         at : (b : Bool) → IsWithin s from reach u (then_in u (if b then unregistered u.registry from else u.registry) (if b then change_on_unregister u.registry from else no_change))
-        at true = unregistered_within gives none tells
+        at true = unregistered_within gives ends tells
         at false =
             let now = number_of s.hosts u.registry.held in
             within_becomes s from reach u u.registry no_change None never now never never never few apart (still s.keys s.hosts from u.registry u.registry (λ g. refl)) (keeps now never (inl refl) told_none)
 
-    pub reserve_within : (t : Kind) → has reach.reservations (number_of s.hosts (Some (established t from))) ≡ true → IsWithin s from reach u (then_in u (reserved u.registry from t) no_change)
+    pub reserve_within : (t : Kind) → (u.registry.held ≡ None → has reach.reservations (number_of s.hosts (Some (established t from))) ≡ true) → IsWithin s from reach u (then_in u (reserved u.registry from t) no_change)
     reserve_within t takes =
         let now = number_of s.hosts (reserved u.registry from t).held in
         within_becomes s from reach u (reserved u.registry from t) no_change None never now never never never few apart (still s.keys s.hosts from u.registry (reserved u.registry from t) (λ g. refl))
-        (keeps now never (at u.registry.held) told_none)
+        (keeps now never (at u.registry.held takes) told_none)
       where
-        at : (v : Option Held) → (number_of s.hosts (held_or v (established t from)) ≡ number_of s.hosts v) ⊎ (has reach.reservations (number_of s.hosts (held_or v (established t from))) ≡ true)
-        at None = inr takes
-        at (Some v) = inl refl
+        at : (v : Option Held) → (v ≡ None → has reach.reservations (number_of s.hosts (Some (established t from))) ≡ true)
+            → (number_of s.hosts (held_or v (established t from)) ≡ number_of s.hosts v) ⊎ (has reach.reservations (number_of s.hosts (held_or v (established t from))) ≡ true)
+        at None takes = inr (takes refl)
+        at (Some v) takes = inl refl
 
-    pub release_within : (t : Kind) → has reach.reservations 0 ≡ true → ((r : ℕ) → 1 ≤ r → r ≤ 12 → has reach.told_04 r ≡ true)
+    pub release_within : (t : Kind) → Ends → (((holds_alone u.registry.held from || is_held_by_all u.registry.held) && is_told_of_loss u.registry.held) ≡ true → (r : ℕ) → 1 ≤ r → r ≤ 12 → has reach.told_04 r ≡ true)
         → IsWithin s from reach u (then_in u (released u.registry from t) (change_on_release u.registry from t))
-    release_within t none tells =
+    release_within t ends tells =
         let now = number_of s.hosts (released u.registry from t).held in
         let b = is_released u.registry from t && is_told_of_loss u.registry.held in
         within_becomes s from reach u (released u.registry from t) (change_on_release u.registry from t) None never now never (told_if b) never few apart (on_release s.keys s.hosts from t u.registry)
-        (keeps now (told_if b) (left_or_none (released u.registry from t).held (at (is_released u.registry from t)) none) (told_if_04 b tells))
+        (keeps now (told_if b) (left_or_none (released u.registry from t).held (at (is_released u.registry from t) refl)) (told_if_04 b (λ is. tells (both is))))
       where
-        at : (b : Bool) → ((if b then None else u.registry.held) ≡ u.registry.held) ⊎ ((if b then None else u.registry.held) ≡ None)
-        at true = inr refl
-        at false = inl refl
+        -- who releases it holds it
+        holds : (v : Option Held) → is_holder_of u.registry.keys v from ≡ true → (holds_alone v from || is_held_by_all v) ≡ true
+        holds None is = absurd (false≢true is)
+        holds (Some (One k g)) is = or_left (g == from) false is
+        holds (Some (All k)) is = refl
+
+        holder : is_released u.registry from t ≡ true → (holds_alone u.registry.held from || is_held_by_all u.registry.held) ≡ true
+        holder is = holds u.registry.held (and_parts (is_holder_of u.registry.keys u.registry.held from) (is_held_as u.registry.held t) is).0
+
+        both : (is_released u.registry from t && is_told_of_loss u.registry.held) ≡ true → ((holds_alone u.registry.held from || is_held_by_all u.registry.held) && is_told_of_loss u.registry.held) ≡ true
+        both is =
+            let parts = and_parts (is_released u.registry from t) (is_told_of_loss u.registry.held) is in
+            and_from (holds_alone u.registry.held from || is_held_by_all u.registry.held) (is_told_of_loss u.registry.held) (holder parts.0) parts.1
+
+        at : (b : Bool) → is_released u.registry from t ≡ b → ((if b then None else u.registry.held) ≡ u.registry.held) ⊎ (((if b then None else u.registry.held) ≡ None) × (has reach.reservations 0 ≡ true))
+        at true is = inr (refl, ends (holder is))
+        at false is = inl refl
 
     -- whoever is registered may go
     goes : ((r : ℕ) → 1 ≤ r → r ≤ 12 → has reach.removed r ≡ true) → (r : ℕ) → r ≤ 12 → registered r ≡ true → has reach.removed r ≡ true
@@ -232,12 +255,18 @@ module _ (s : Scope) (from : ℕ) (reach : Reach) (u : UnitState) where
         replaces (Some (One t g)) is = absurd (false≢true is)
         replaces (Some (All t)) is = refl
 
+    -- each but the sender is free or has the key j
+    abbrev AllGo : ℕ → Type 0
+    AllGo j = (g n : ℕ) → g ≢ from → IsSo s u (Registration g n) → (n ≡ 0) ⊎ (n ≡ j)
+
     -- whoever has the key j, which the sender may have itself, goes
     pub preempt_key_within : (j k r : ℕ) (t : Kind) → AreDistinct s.keys → j ≤ length s.keys → key_at s.keys j ≡ Some k → (k == 0) ≡ false → IsSo s u (Registration from r) → is_registered u.registry from ≡ true
-        → (r ≡ j → (has reach.given 0 ≡ true) × (has reach.reservations 0 ≡ true)) → has reach.removed j ≡ true → has reach.reservations (number_of s.hosts (Some (established t from))) ≡ true
-        → ((n : ℕ) → 1 ≤ n → n ≤ 12 → n ≢ j → has reach.told_04 n ≡ true) → has reach.told_05 j ≡ true
+        → (r ≡ j → has reach.given 0 ≡ true) → (is_held_by_all u.registry.held ≡ true → r ≡ j → AllGo j → has reach.reservations 0 ≡ true) → has reach.removed j ≡ true
+        → ((old : Kind) (g : ℕ) → u.registry.held ≡ Some (One old g) → key_of u.registry g ≡ Some k → has reach.reservations (number_of s.hosts (Some (established t from))) ≡ true)
+        → ((old : Kind) (g : ℕ) → u.registry.held ≡ Some (One old g) → key_of u.registry g ≡ Some k → is_kind old t ≡ false → (n : ℕ) → 1 ≤ n → n ≤ 12 → n ≢ j → has reach.told_04 n ≡ true)
+        → has reach.told_05 j ≡ true
         → IsWithin s from reach u (then_in u (preempted u.registry from k (Some t)) (change_on_preempt u.registry from k (Some t)))
-    preempt_key_within j k r t once small named nonzero so present mine removes takes released removed = at (preempt_case u.registry.keys u.registry.held k) refl
+    preempt_key_within j k r t once small named nonzero so present mine ends removes takes frees removed = at (preempt_case u.registry.keys u.registry.held k) refl
       where
         out : ℕ → Bool
         out n = n == j
@@ -255,32 +284,51 @@ module _ (s : Scope) (from : ℕ) (reach : Reach) (u : UnitState) where
         never_all (Some (All t)) is = let bad : RemovesKey ≡ ReplacesAll = sym (ap (λ b. if b then ReplacesAll else RemovesKey) nonzero) ∙ is in cc
 
         -- the holder's reservation is replaced
-        told_rest : (b : Bool) (n : ℕ) → n ≤ 12 → (((n == j) ≡ true) × (n ≡ j)) ⊎ (((n == j) ≡ false) × (n ≢ j)) → Tells reach n false (told_but b j n) (n == j)
-        told_rest b n few (inl same) =
+        told_rest : (b : Bool) (n : ℕ) → n ≤ 12 → (b ≡ true → (m : ℕ) → 1 ≤ m → m ≤ 12 → m ≢ j → has reach.told_04 m ≡ true) → (((n == j) ≡ true) × (n ≡ j)) ⊎ (((n == j) ≡ false) × (n ≢ j))
+            → Tells reach n false (told_but b j n) (n == j)
+        told_rest b n few tells (inl same) =
             subst (λ x. Tells reach n false (b && (not (n == 0) && not x)) x) (sym same.0) (subst (λ x. Tells reach n false x true) (sym (nobody b (not (n == 0)))) (subst (λ m. has reach.told_05 m ≡ true) (sym same.1) removed))
           where
             nobody : (x y : Bool) → (x && (y && false)) ≡ false
             nobody true true = refl
             nobody true false = refl
             nobody false y = refl
-        told_rest false n few (inr other) = subst (λ x. Tells reach n false false x) (sym other.0) tt
-        told_rest true zero few (inr other) = subst (λ x. Tells reach 0 false false x) (sym other.0) tt
-        told_rest true (suc i) few (inr other) =
+        told_rest false n few tells (inr other) = subst (λ x. Tells reach n false false x) (sym other.0) tt
+        told_rest true zero few tells (inr other) = subst (λ x. Tells reach 0 false false x) (sym other.0) tt
+        told_rest true (suc i) few tells (inr other) =
             let some : not (suc i == 0) ≡ true = grind (arith, nat_tests) in
-            subst (λ x. Tells reach (suc i) false (not (suc i == 0) && not x) x) (sym other.0) (subst (λ x. Tells reach (suc i) false (x && true) false) (sym some) (released (suc i) (omega arith) few other.1))
+            subst (λ x. Tells reach (suc i) false (not (suc i == 0) && not x) x) (sym other.0) (subst (λ x. Tells reach (suc i) false (x && true) false) (sym some) (tells refl (suc i) (omega arith) few other.1))
+
+        -- whose reservation it is
+        HasHolder : Kind → Type 0
+        HasHolder held = (g : ℕ) × (u.registry.held ≡ Some (One held g)) × (key_of u.registry g ≡ Some k)
+
+        holder_of : (held : Kind) (v : Option Held) → u.registry.held ≡ v → preempt_case u.registry.keys v k ≡ ReplacesHolder held → HasHolder held
+        holder_of held None stands is = let bad : RemovesKey ≡ ReplacesHolder held = is in cc
+        holder_of held (Some (One old g)) stands is = by (is_key (map.get u.registry.keys g) k) refl is
+          where
+            keyed : (o : Option ℕ) → is_key o k ≡ true → o ≡ Some k
+            keyed None is = absurd (false≢true is)
+            keyed (Some m) is = let same : m ≡ k = grind (arith, nat_tests) in ap (λ n. Some n) same
+
+            by : (b : Bool) → is_key (map.get u.registry.keys g) k ≡ b → (if b then ReplacesHolder old else RemovesKey) ≡ ReplacesHolder held → HasHolder held
+            by true keys is = let same : old ≡ held = cc in (g, stands ∙ ap (λ x. Some (One x g)) same, keyed (map.get u.registry.keys g) keys)
+            by false keys is = let bad : RemovesKey ≡ ReplacesHolder held = is in cc
+        holder_of held (Some (All old)) stands is = let bad : RemovesKey ≡ ReplacesHolder held = sym (ap (λ b. if b then ReplacesAll else RemovesKey) nonzero) ∙ is in cc
 
         replaces : (held : Kind) → preempt_case u.registry.keys u.registry.held k ≡ ReplacesHolder held
             → IsWithin s from reach u (then_in u (preempted u.registry from k (Some t)) (change_on_preempt u.registry from k (Some t)))
         replaces held is =
             let left = number_of s.hosts (Some (established t from)) in
             let b = not (is_kind held t) in
+            let holder = holder_of held u.registry.held refl is in
             within_becomes s from reach u (preempted u.registry from k (Some t)) (change_on_preempt u.registry from k (Some t)) None out left never (told_but b j) out few apart
             (in_case s.keys s.hosts from None out left never (told_but b j) out u.registry k t (ReplacesHolder held) is (on_preempt_holder s.keys s.hosts from j k t held u.registry once small named))
             (record {
               given = λ i is. let bad : None ≡ Some i = is in cc;
               removed = gone;
-              reservation = inr takes;
-              told = λ n few. told_rest b n few (eqb_tells n j);
+              reservation = inr (takes held holder.0 holder.1 holder.2);
+              told = λ n few. told_rest b n few (λ new. frees held holder.0 holder.1 holder.2 (not-true (is_kind held t) new)) (eqb_tells n j);
             })
 
         -- the key is merely removed
@@ -301,18 +349,40 @@ module _ (s : Scope) (from : ℕ) (reach : Reach) (u : UnitState) where
             by None is = absurd (false≢true (sym (ap is_some is) ∙ present))
             by (Some n) is = not_empty_from_some rest from n (get-without u.registry.keys (hosts_with u.registry.keys k) from ∙ ap (λ b. if b then None else map.get u.registry.keys from) kept ∙ is)
 
-        left_rest : (v : Option Held) → (own ≡ true) ⊎ (own ≡ false) → (number_of s.hosts (held_by_rest rest v) ≡ number_of s.hosts v) ⊎ (has reach.reservations (number_of s.hosts (held_by_rest rest v)) ≡ true)
-        left_rest None mine_or_not = inl refl
-        left_rest (Some (One t g)) mine_or_not = inl refl
-        left_rest (Some (All t)) (inr other) = inl (ap (λ b. number_of s.hosts (if b then None else Some (All t))) (stays other))
-        left_rest (Some (All t)) (inl same) = by (is_empty rest)
+        -- where nobody is left, all others were free or had the key
+        all_go : is_empty rest ≡ true → AllGo j
+        all_go empty g n other so = by (key_of u.registry g) refl (eqb_tells n j)
           where
-            by : (b : Bool) → (number_of s.hosts (if b then None else Some (All t)) ≡ number_of s.hosts (Some (All t))) ⊎ (has reach.reservations (number_of s.hosts (if b then None else Some (All t))) ≡ true)
-            by true = let is : r ≡ j = grind (arith, nat_tests) in inr (mine is).1
-            by false = inl refl
+            at : Is s.keys u.registry g n
+            at = record { known = so.1; key = so.2 }
+
+            free : registered n ≡ false → n ≡ 0
+            free is = zero_if n is
+              where
+                zero_if : (m : ℕ) → registered m ≡ false → m ≡ 0
+                zero_if zero is = refl
+                zero_if (suc i) is = let positive : registered (suc i) ≡ true = grind (arith, nat_tests) in absurd (false≢true (sym is ∙ positive))
+
+            by : (o : Option ℕ) → key_of u.registry g ≡ o → (((n == j) ≡ true) × (n ≡ j)) ⊎ (((n == j) ≡ false) × (n ≢ j)) → (n ≡ 0) ⊎ (n ≡ j)
+            by o is (inl same) = inr same.1
+            by None is (inr differs) = inl (free (sym (is_registered-number s.keys u.registry g n at) ∙ ap is_some is))
+            by (Some m) is (inr differs) =
+                let kept = contains-hosts_with u.registry.keys k g ∙ is_key-number s.keys u.registry g n j k once small named at ∙ differs.0 in
+                let there = get-without u.registry.keys (hosts_with u.registry.keys k) g ∙ ap (λ b. if b then None else map.get u.registry.keys g) kept ∙ is in
+                absurd (false≢true (sym (not_empty_from_some rest g m there) ∙ empty))
+
+        left_rest : (v : Option Held) → (is_held_by_all v ≡ true → r ≡ j → AllGo j → has reach.reservations 0 ≡ true) → (own ≡ true) ⊎ (own ≡ false) → (number_of s.hosts (held_by_rest rest v) ≡ number_of s.hosts v) ⊎ (has reach.reservations (number_of s.hosts (held_by_rest rest v)) ≡ true)
+        left_rest None ends mine_or_not = inl refl
+        left_rest (Some (One t g)) ends mine_or_not = inl refl
+        left_rest (Some (All t)) ends (inr other) = inl (ap (λ b. number_of s.hosts (if b then None else Some (All t))) (stays other))
+        left_rest (Some (All t)) ends (inl same) = by (is_empty rest) refl
+          where
+            by : (b : Bool) → is_empty rest ≡ b → (number_of s.hosts (if b then None else Some (All t)) ≡ number_of s.hosts (Some (All t))) ⊎ (has reach.reservations (number_of s.hosts (if b then None else Some (All t))) ≡ true)
+            by true empty = let is : r ≡ j = grind (arith, nat_tests) in inr (ends refl is (all_go empty))
+            by false some = inl refl
 
         gives : (b : Bool) → own ≡ b → (i : ℕ) → lost_if b ≡ Some i → has reach.given i ≡ true
-        gives true same i is = let e : 0 ≡ i = cc in let equal : r ≡ j = grind (arith, nat_tests) in subst (λ n. has reach.given n ≡ true) e (mine equal).0
+        gives true same i is = let e : 0 ≡ i = cc in let equal : r ≡ j = grind (arith, nat_tests) in subst (λ n. has reach.given n ≡ true) e (mine equal)
         gives false other i is = let bad : None ≡ Some i = is in cc
 
         told_gone : (n : ℕ) (b : Bool) → (n == j) ≡ b → Tells reach n false false b
@@ -334,7 +404,7 @@ module _ (s : Scope) (from : ℕ) (reach : Reach) (u : UnitState) where
             (record {
               given = gives own refl;
               removed = gone;
-              reservation = left_rest u.registry.held (mine_or_not own refl);
+              reservation = left_rest u.registry.held ends (mine_or_not own refl);
               told = λ n few. told_gone n (n == j) refl;
             })
 

@@ -73,7 +73,8 @@ fn is_registered(standing: Standing) -> bool
     }
 }
 
-fn holds(condition: Option<Condition>, place: &Place, is_registered: bool) -> bool
+/// Whether a sender meets the condition, by whether it is registered.
+pub(crate) fn holds(condition: Option<Condition>, place: &Place, is_registered: bool) -> bool
     ensures { result ≡ holds_as condition place.now.held place.now.sender is_registered }
 {
     match condition {

@@ -1,10 +1,11 @@
 //! What others may make of the states that a view shows.
 
-ghost use Rattle.std.specs.Prelude.{◌≡◌, ◌≢◌, ◌<◌, ◌≤◌, ℕ, true, length, IsTrue, IfOk, Some};
+ghost use Rattle.std.specs.Prelude.{◌≡◌, ◌≢◌, ◌<◌, ◌≤◌, ℕ, true, false, length, IsTrue, IfOk, Some};
 ghost use Rattle.std.specs.List.{All};
 ghost use Rattle.pr_roles.specs.Fitting.{is_action, is_reservation, is_role};
+ghost use Rattle.pr_sets.specs.Words.{has};
 ghost use Rattle.pr_views.specs.Possibilities.{Scope, count_of_reservations};
-ghost use Rattle.pr_views.specs.Portions.{view_in};
+ghost use Rattle.pr_views.specs.Portions.{has_at, view_in};
 ghost use Rattle.pr_views.specs.Rooms.{scope_of, view_of, IsMade, AreAlike, AreInRange};
 ghost use Rattle.pr_regions.specs.Purposes.{HasNumber};
 ghost use Rattle.pr_domain.specs.inside.Interfering.{IsOnlooking, IsWatched, Adds, Among, ClauseLeaves};
@@ -19,7 +20,7 @@ use crate::onlooker::Onlooker;
 use crate::place::Place;
 use pr_regions::{Purpose, Standing, branches};
 use pr_roles::{Clause, Role};
-use pr_sets::ViewSet;
+use pr_sets::{ViewSet, Word};
 use pr_views::{Possibilities, ViewOf};
 use std::alloc::{AllocError, Global};
 
@@ -108,10 +109,24 @@ impl Onlooker {
         requires number { HasNumber purpose }
         ensures { (s : Scope) → IsWatched s self.now place.now → is_action s.keys clause.now.action ≡ true → purpose_for s.keys clause.now.action place.now.held ≡ Some purpose → Adds s answer.old answer.new (StandingLeads (view_in s self.now.view) clause.now place.now.sender place.now.reservation purpose standing) (ClauseLeaves (view_in s self.now.view) clause.now place.now.sender) }
     {
+        let senders = senders(purpose, standing);
+        if !self.may_be_among(place.sender, senders) {
+            return;
+        }
         if may_send(clause.condition, purpose, place, standing) {
             let branches = branches(place.hosts, purpose, place.held, place.sender, standing);
-            self.add_branches(answer, place, senders(purpose, standing), &branches);
+            self.add_branches(answer, place, senders, &branches);
         }
+    }
+
+    // Whether a host or guest may have one of these registrations.
+    fn may_be_among(&self, host: u8, registrations: Word) -> bool
+        requires { host < 8 }
+        ensures { result ≡ false → (r : ℕ) → has_at self.now.view.registrations host r ≡ true → has registrations r ≡ false }
+    {
+        !self.view.registrations[usize::from(host)]
+            .and(registrations)
+            .is_empty()
     }
 }
 

@@ -16,6 +16,7 @@ mod onlooker;
 mod outcome;
 mod permitting;
 mod place;
+mod reach;
 mod reaching;
 mod reporting;
 mod starting;

@@ -1,57 +1,30 @@
 //! What a command can leave at most.
 
-ghost use Rattle.std.specs.Prelude.{◌≡◌, ◌≢◌, ◌⊎◌, ◌<◌, ◌≤◌, ◌==◌, ◌&&◌, ◌||◌, ℕ, Some, true, false, not, length, bit_or};
+ghost use Rattle.std.specs.Prelude.{◌≡◌, ◌≢◌, ◌⊎◌, ◌<◌, ◌≤◌, ◌==◌, ◌&&◌, ◌||◌, ℕ, Some, true, false, not, length, bit_or, IsTrue};
+ghost use Rattle.pr_cdb.specs.declared.command.Kind.{Kind as KindOf};
+ghost use Rattle.pr_registry.specs.declared.held.Held.TheVariants.{One};
 ghost use Rattle.pr_registry.specs.Registrations.{established};
+ghost use Rattle.pr_registry.specs.Changes.{is_kind, is_held_by_all};
+ghost use Rattle.pr_roles.specs.Fitting.{is_action, is_reservation};
 ghost use Rattle.pr_sets.specs.Words.{has};
 ghost use Rattle.pr_views.specs.Possibilities.{Scope, number_of};
 ghost use Rattle.pr_views.specs.Portions.{has_at};
 ghost use Rattle.pr_regions.specs.Purposes.{number_in};
 ghost use Rattle.pr_domain.specs.inside.Clauses.{IsClause};
-ghost use Rattle.pr_domain.specs.inside.Interfering.{IsOnlooking};
-ghost use Rattle.pr_domain.specs.inside.Reaching.{IsReach, IsMost, IsTold};
+ghost use Rattle.pr_domain.specs.inside.Interfering.{IsOnlooking, IsWatched};
+ghost use Rattle.pr_domain.specs.inside.Reaching.{IsReach, IsReachAt, IsMost, IsTold, MayAllGo, number_named};
 
 use crate::changed::marked;
-use crate::clauses::number_in;
+use crate::clauses::{holds, number_in};
+use crate::keeping::count_of_reservations;
 use crate::onlooker::Onlooker;
-use crate::place::registered;
+use crate::place::{Place, registered};
+use crate::reach::{Reach, none_alone};
 use pr_cdb::Kind;
-use pr_regions::reservation_number;
-use pr_registry::{Held, is_all};
+use pr_registry::Held;
 use pr_roles::{Action, Clause};
 use pr_sets::Word;
 use pr_views::Possibilities;
-
-/// What a command gives, removes and tells at most.
-#[derive(Clone, Copy, Debug)]
-pub(crate) struct Reach {
-    /// The registrations that its sender may get.
-    given: Word,
-    /// The registrations that others may lose.
-    removed: Word,
-    /// The reservations that may come of it.
-    reservations: Word,
-    /// With which registrations others may be told that reservations were preempted.
-    told_03: Word,
-    /// With which registrations others may be told that reservations were released.
-    told_04: Word,
-    /// With which registrations others may be told that registrations were preempted.
-    told_05: Word,
-}
-
-impl Reach {
-    // Nothing.
-    fn none() -> Reach {
-        let none = Word::none();
-        Reach {
-            given: none,
-            removed: none,
-            reservations: none,
-            told_03: none,
-            told_04: none,
-            told_05: none,
-        }
-    }
-}
 
 impl Onlooker {
     /// What a command of this clause can leave at most, beside what was so before it.
@@ -71,6 +44,7 @@ impl Onlooker {
         }
     }
 
+    // What it reaches under the reservations that are possible.
     fn reach(&self, clause: &Clause, keys: &[u64]) -> Reach
         requires hosts { (1 ≤ self.now.hosts) × (self.now.hosts ≤ 8) }
         requires other { self.now.other < self.now.hosts }
@@ -78,104 +52,111 @@ impl Onlooker {
         requires action { IsClause keys.now clause.now }
         ensures { (s : Scope) → IsOnlooking s self.now → s.keys ≡ keys.now → IsReach s self.now.view clause.now self.now.other result }
     {
-        let none = Reach::none();
-        let nobody = Word::only(0);
+        let number = number_named(clause.action, keys);
+        let mut reach = Reach::none();
+        for reservation in 0..count_of_reservations(self.hosts) {
+            if self.view.reservations.has(reservation) {
+                let place = Place::of(self.hosts, self.other, reservation);
+                reach = reach.or(&self.reach_at(&place, clause, number));
+            }
+        }
+        reach
+    }
+
+    // Under one reservation, where its key has this number.
+    fn reach_at(&self, place: &Place, clause: &Clause, number: u8) -> Reach
+        requires hosts { (1 ≤ place.now.hosts) × (place.now.hosts ≤ 8) }
+        requires sender { place.now.sender < place.now.hosts }
+        requires held { IsTrue (is_reservation place.now.hosts place.now.held) }
+        requires number { number ≤ 12 }
+        ensures { (s : Scope) → IsWatched s self.now place.now → is_action s.keys clause.now.action ≡ true → number_named s.keys clause.now.action ≡ number → IsReachAt s self.now.view clause.now place.now result }
+    {
+        if !holds(clause.condition, place, true) {
+            return Reach::none();
+        }
         match clause.action {
-            Action::Register(key) => Reach {
-                given: Word::only(number_in(keys, key)),
-                ..none
-            },
-            Action::Unregister => Reach {
-                given: nobody,
-                reservations: nobody,
-                told_04: registered(),
-                ..none
-            },
-            Action::Reserve(kind) => Reach {
-                reservations: self.established(kind),
-                ..none
-            },
-            Action::Release => Reach {
-                reservations: nobody,
-                told_04: registered(),
-                ..none
-            },
-            Action::Clear => Reach {
-                given: nobody,
-                removed: registered(),
-                reservations: nobody,
-                told_03: registered(),
-                ..none
-            },
+            Action::Register(_) => Reach::of_registering(number),
+            Action::Unregister => Reach::of_unregistering(place),
+            Action::Reserve(kind) => Reach::of_reserving(place, kind),
+            Action::Release => Reach::of_releasing(place),
+            Action::Clear => Reach::of_clearing(),
             Action::Preempt(key, kind) => {
                 if key == 0 {
-                    self.reach_of_all(kind)
+                    Reach::of_preempting_all(place, kind)
                 } else {
-                    self.reach_of_key(number_in(keys, key), kind)
+                    self.reach_of_preempting(place, number, kind)
                 }
             }
-            Action::Read | Action::Write => none,
+            Action::Read | Action::Write => Reach::none(),
         }
     }
 
-    // Where all others are preempted.
-    fn reach_of_all(&self, kind: Kind) -> Reach
-        requires hosts { (1 ≤ self.now.hosts) × (self.now.hosts ≤ 8) }
-        requires other { self.now.other < self.now.hosts }
-        ensures removed { (r : ℕ) → 1 ≤ r → r ≤ 12 → has result.removed r ≡ true }
-        ensures reservations { has result.reservations (number_of self.now.hosts (Some (established kind self.now.other))) ≡ true }
-        ensures told_05 { (r : ℕ) → 1 ≤ r → r ≤ 12 → has result.told_05 r ≡ true }
-    {
-        Reach {
-            removed: registered(),
-            reservations: self.established(kind),
-            told_05: registered(),
-            ..Reach::none()
-        }
-    }
-
-    // Where the key of this number is preempted: the sender goes too where it has that key.
-    fn reach_of_key(&self, key: u8, kind: Kind) -> Reach
-        requires hosts { (1 ≤ self.now.hosts) × (self.now.hosts ≤ 8) }
-        requires other { self.now.other < self.now.hosts }
+    // To preempt the key of this number: whoever has it goes, the reservation of a holder that has it is replaced, and
+    // that of all registrants ends where nobody is left.
+    fn reach_of_preempting(&self, place: &Place, key: u8, kind: Kind) -> Reach
+        requires hosts { place.now.hosts ≤ 8 }
+        requires sender { place.now.sender < place.now.hosts }
+        requires held { IsTrue (is_reservation place.now.hosts place.now.held) }
         requires key { key ≤ 12 }
-        ensures given { has_at self.now.view.registrations self.now.other key ≡ true → (has result.given 0 ≡ true) × (has result.reservations 0 ≡ true) }
+        ensures given { has_at self.now.view.registrations place.now.sender key ≡ true → has result.given 0 ≡ true }
+        ensures ended { is_held_by_all place.now.held ≡ true → has_at self.now.view.registrations place.now.sender key ≡ true → MayAllGo self.now.view place.now key → has result.reservations 0 ≡ true }
         ensures removed { has result.removed key ≡ true }
-        ensures reservations { has result.reservations (number_of self.now.hosts (Some (established kind self.now.other))) ≡ true }
-        ensures told_04 { (r : ℕ) → 1 ≤ r → r ≤ 12 → r ≢ key → has result.told_04 r ≡ true }
+        ensures replaced { (old : KindOf) (holder : ℕ) → place.now.held ≡ Some (One old holder) → has_at self.now.view.registrations holder key ≡ true → has result.reservations (number_of place.now.hosts (Some (established kind place.now.sender))) ≡ true }
+        ensures told_04 { (old : KindOf) (holder : ℕ) → place.now.held ≡ Some (One old holder) → has_at self.now.view.registrations holder key ≡ true → is_kind old kind ≡ false → (r : ℕ) → 1 ≤ r → r ≤ 12 → r ≢ key → has result.told_04 r ≡ true }
         ensures told_05 { has result.told_05 key ≡ true }
     {
         let named = Word::only(key);
-        let replacing = Reach {
+        let is_own = self.may_have(place.sender, key);
+        let removing = Reach {
+            given: none_if(is_own),
             removed: named,
-            reservations: self.established(kind),
-            told_04: registered().without(key),
             told_05: named,
             ..Reach::none()
         };
-        if self.view.registrations[usize::from(self.other)].has(key) {
-            Reach {
-                given: Word::only(0),
-                reservations: replacing.reservations.with(0),
-                ..replacing
-            }
-        } else {
-            replacing
+        match place.held {
+            Some(Held::One(old, holder)) if self.may_have(holder, key) => Reach {
+                reservations: place.established(kind),
+                told_04: told_of_another(old, kind, key),
+                ..removing
+            },
+            Some(Held::All(_)) if is_own => Reach {
+                reservations: none_if(self.may_all_go(place, key)),
+                ..removing
+            },
+            _ => removing,
         }
     }
 
-    // The reservation of this type that the sender establishes.
-    fn established(&self, kind: Kind) -> Word
-        requires hosts { (1 ≤ self.now.hosts) × (self.now.hosts ≤ 8) }
-        requires other { self.now.other < self.now.hosts }
-        ensures { has result (number_of self.now.hosts (Some (established kind self.now.other))) ≡ true }
+    // Whether each but the sender may be free or have the key of this number.
+    fn may_all_go(&self, place: &Place, key: u8) -> bool
+        requires hosts { place.now.hosts ≤ 8 }
+        requires key { key ≤ 12 }
+        ensures { MayAllGo self.now.view place.now key → IsTrue result }
     {
-        let held = if is_all(kind) {
-            Held::All(kind)
-        } else {
-            Held::One(kind, self.other)
-        };
-        Word::only(reservation_number(self.hosts, Some(held)))
+        for host in 0..place.hosts {
+            if host != place.sender && !self.may_go(host, key) {
+                return false;
+            }
+        }
+        true
+    }
+
+    // Whether this one may.
+    fn may_go(&self, host: u8, key: u8) -> bool
+        requires host { host < 8 }
+        requires key { key ≤ 12 }
+        ensures { result ≡ (has_at self.now.view.registrations host 0 || has_at self.now.view.registrations host key) }
+    {
+        self.may_have(host, 0) || self.may_have(host, key)
+    }
+
+    // Whether a host or guest may have this registration.
+    fn may_have(&self, host: u8, registration: u8) -> bool
+        requires host { host < 8 }
+        requires registration { registration ≤ 12 }
+        ensures { result ≡ has_at self.now.view.registrations host registration }
+    {
+        self.view.registrations[usize::from(host)].has(registration)
     }
 
     // The registrations that are in reach.
@@ -206,6 +187,42 @@ impl Onlooker {
         let released = told(owners, reach.told_04, self.view.pending, 4);
         let removed = told(owners, reach.told_05, self.view.pending, 8);
         preempted.or(released.or(removed))
+    }
+}
+
+// The number of the key that an action registers or preempts.
+fn number_named(action: Action, keys: &[u64]) -> u8
+    requires { length keys.now ≤ 12 }
+    ensures number { result ≡ number_named keys.now action }
+    ensures few { result ≤ 12 }
+{
+    match action {
+        Action::Register(key) | Action::Preempt(key, _) => number_in(keys, key),
+        Action::Unregister
+        | Action::Reserve(_)
+        | Action::Release
+        | Action::Clear
+        | Action::Read
+        | Action::Write => 0,
+    }
+}
+
+// That number, if this is so.
+fn none_if(is: bool) -> Word
+    ensures { IsTrue is → has result 0 ≡ true }
+{
+    if is { none_alone() } else { Word::none() }
+}
+
+// With which registrations others are told that a reservation was released which one of another type replaced.
+fn told_of_another(old: Kind, kind: Kind, key: u8) -> Word
+    requires { key ≤ 12 }
+    ensures { is_kind old kind ≡ false → (r : ℕ) → 1 ≤ r → r ≤ 12 → r ≢ key → has result r ≡ true }
+{
+    if old == kind {
+        Word::none()
+    } else {
+        registered().without(key)
     }
 }
 

@@ -4,3 +4,10 @@ pub mod Printed
 pub mod TraceText
 pub mod TraceLines
 pub mod Traces
+pub mod Verdicts
+pub mod Chain
+pub mod EntryWords
+pub mod BytesTaken
+pub mod TraceReadings
+pub mod TraceLaws
+pub mod inside

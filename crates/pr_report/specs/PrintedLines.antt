@@ -6,6 +6,8 @@ use Rattle.std.specs.Int.{w32, to_be_bytes}
 use Rattle.pr_cdb.specs.declared.command.Kind.{Kind}
 use Rattle.pr_cdb.specs.declared.reply.Sense.{Sense}
 use Rattle.pr_cdb.specs.Kinds.{code_of}
+use Rattle.pr_domain.specs.declared.landing.Class.{Class}
+use Rattle.pr_domain.specs.declared.landing.Class.TheVariants as class
 
 -- each word after a space
 unfoldable pub spaced : List (List ℕ) → List ℕ
@@ -46,3 +48,9 @@ holder_word kind name = decimal (code_of kind) ++ (codes ":" ++ name)
 -- as `6/2a/05`
 abbrev pub sense_word : Sense → List ℕ
 sense_word sense = digits 16 false sense.key ++ ((codes "/" ++ pair sense.asc) ++ (codes "/" ++ pair sense.ascq))
+
+-- how a reply ended, as `good` or `sense 6/2a/05`
+abbrev pub class_word : Class → List ℕ
+class_word class.Good = codes "good"
+class_word class.Conflict = codes "conflict"
+class_word (class.Sense sense) = codes "sense " ++ sense_word sense

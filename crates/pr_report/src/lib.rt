@@ -1,14 +1,24 @@
-//! What is reported of a scenario at work, as lines of text to any writer.
+//! What is reported of a scenario, as lines of text to any writer: the trace of a scenario at work, and the verdict on
+//! one; and traces read back from any reader.
 //!
-//! Nothing here takes memory: a trace is put together on a page of fixed size, and goes out a page at a time.
+//! Nothing that is written takes memory: a trace is put together on a page of fixed size, and goes out a page at a
+//! time. Of a trace that is read the entries take memory, and nothing else.
 #![tactic(auto)]
 
+mod ahead;
+mod entry_reading;
 mod laws;
 mod output;
 mod printing;
 mod trace;
+mod trace_error;
+mod trace_reading;
+mod verdict;
 
-pub use laws::replays_are_traced;
+pub use laws::{replays_are_traced, written_traces_are_read};
 pub use output::{WriteFault, put};
 pub use printing::{Word, put_line, put_spaced};
 pub use trace::write_trace;
+pub use trace_error::TraceError;
+pub use trace_reading::read_trace;
+pub use verdict::{Verdict, write_verdict};

@@ -4,12 +4,13 @@ ghost use Rattle.std.specs.Prelude.{◌++◌, ◌<◌, ◌≡◌, codes, false, 
 ghost use Rattle.std.specs.Fmt.{decimal, digits, digit_glyph};
 ghost use Rattle.pr_cdb.specs.Kinds.{code_of};
 ghost use Rattle.pr_report.specs.Written.{Puts};
-ghost use Rattle.pr_report.specs.PrintedLines.{holder_word, key_or_dash, line, pair, pairs, pairs_or_dash, registration_word, sense_word, spaced};
+ghost use Rattle.pr_report.specs.PrintedLines.{class_word, holder_word, key_or_dash, line, pair, pairs, pairs_or_dash, registration_word, sense_word, spaced};
 ghost use Rattle.pr_report.specs.Printed.{printed};
 
 use crate::output::{WriteFault, put};
 use itoa::Buffer;
 use pr_cdb::{Kind, Sense};
+use pr_domain::Class;
 use std::io::Write;
 
 /// What a word of a line can be.
@@ -35,6 +36,9 @@ pub enum Word<'a> {
 
     /// The key, the additional sense code and its qualifier, as `6/2a/05`.
     Sense(Sense),
+
+    /// How a reply ended, as `good`, `conflict` or `sense 6/2a/05`.
+    Class(Class),
 }
 
 /// Writes a line: its words with one space between them, and a line feed.
@@ -79,6 +83,7 @@ pub(crate) fn put_word<W: Write>(writer: &mut W, word: Word<'_>) -> Result<(), W
         Word::Holder(kind, name) => put_holder(writer, kind, name),
         Word::Registration(name, key) => put_registration(writer, name, key),
         Word::Sense(sense) => put_sense(writer, sense),
+        Word::Class(class) => put_class(writer, class),
     }
 }
 
@@ -148,6 +153,23 @@ fn put_sense<W: Write>(writer: &mut W, sense: Sense) -> Result<(), WriteFault>
     put_digits(writer, u64::from(sense.key))?;
     put_after_slash(writer, sense.asc)?;
     put_after_slash(writer, sense.ascq)
+}
+
+fn put_class<W: Write>(writer: &mut W, class: Class) -> Result<(), WriteFault>
+    ensures { Puts (W.contents writer.old) (W.contents writer.new) (class_word class) result }
+{
+    match class {
+        Class::Good => put(writer, b"good"),
+        Class::Conflict => put(writer, b"conflict"),
+        Class::Sense(sense) => put_named_sense(writer, sense),
+    }
+}
+
+fn put_named_sense<W: Write>(writer: &mut W, sense: Sense) -> Result<(), WriteFault>
+    ensures { Puts (W.contents writer.old) (W.contents writer.new) (codes "sense " ++ sense_word sense) result }
+{
+    put(writer, b"sense ")?;
+    put_sense(writer, sense)
 }
 
 fn put_after_slash<W: Write>(writer: &mut W, byte: u8) -> Result<(), WriteFault>

@@ -185,7 +185,8 @@ fn put_entry<W: Write>(
     put_line(writer, Word::Number(index), &words)
 }
 
-fn name_of(nexuses: &[Nexus], host: usize) -> &[u8]
+// The name of a host or guest, by its number.
+pub(crate) fn name_of(nexuses: &[Nexus], host: usize) -> &[u8]
     ensures { result.now ≡ name_of (names_of nexuses.now) host }
 {
     match nexuses.get(host) {

@@ -13,8 +13,9 @@ use Rattle.pr_roles.specs.Fitting.{Fits, are_distinct, is_nexus, is_role, is_sta
 use Rattle.pr_roles.specs.Starts.{IsAllowedStart, first_state}
 use Rattle.pr_roles.specs.Worlds.{control_of}
 use Rattle.pr_roles.specs.Schedules.{plan_of}
-use Rattle.pr_world.specs.declared.course.Course.{Course}
-use Rattle.pr_world.specs.Courses.{IsShort, IsReached, seat_of, seat_from, is_free, is_planned}
+use Rattle.pr_unit.specs.UnitStates.{UnitState}
+use Rattle.pr_roles.specs.declared.entry.Entry.{Entry}
+use Rattle.pr_world.specs.Courses.{IsShort, IsReached, Seat, StandsFor, schedule_by, seat_from, is_free, is_planned}
 
 -- ---- what fits is short
 
@@ -61,16 +62,22 @@ tasks_from : (ns : List Nexus) → map (λ x. is_free x.control) (map (λ n. sea
 tasks_from [] = refl
 tasks_from (n ∷ ns) = λ i. free_from n.task i ∷ tasks_from ns i
 
-pub begun : (s : Scenario) (c : Course) → Some c.unit ≡ first_state s → IsAllowedStart s c.unit → map seat_of c.players.items ≡ map (λ n. seat_from n.task) s.nexuses → c.entries.items ≡ [] → IsReached s [] c
-begun s c first allowed seats none =
+pub begun : (s : Scenario) (u : UnitState) (xs : List Seat) (es : List Entry) → Some u ≡ first_state s → IsAllowedStart s u → xs ≡ map (λ n. seat_from n.task) s.nexuses → es ≡ []
+    → IsReached s [] (schedule_by u xs es)
+begun s u xs es first allowed seats none =
     let controls = ap (map (λ x. x.control)) seats ∙ controls_from s.nexuses in
     let plans = ap (map (λ x. x.plan)) seats ∙ plans_from s.nexuses in
     record {
-      start = c.unit;
+      start = u;
       first = sym first;
       allowed = allowed;
-      scheduled = λ i. record { world = record { unit = c.unit; controls = controls i; entries = none i }; plans = plans i };
+      scheduled = λ i. record { world = record { unit = u; controls = controls i; entries = none i }; plans = plans i };
       events = [];
-      run = λ i. record { unit = c.unit; controls = controls i; entries = none i };
-      stands = record { hosts = allowed.hosts; tasks = ap (map (λ x. is_free x.control)) seats ∙ tasks_from s.nexuses };
+      run = λ i. record { unit = u; controls = controls i; entries = none i };
     }
+
+pub stands_at_first : (s : Scenario) (u : UnitState) (xs : List Seat) → IsAllowedStart s u → xs ≡ map (λ n. seat_from n.task) s.nexuses → StandsFor s u xs
+stands_at_first s u xs allowed seats = record {
+  hosts = allowed.hosts;
+  tasks = ap (map (λ x. is_free x.control)) seats ∙ tasks_from s.nexuses;
+}

@@ -10,7 +10,7 @@ use Rattle.pr_unit.proofs.GoodFixed.{good_by_line}
 use Rattle.pr_script.specs.Scripts.{Standing, ready, stopped}
 use Rattle.pr_roles.specs.declared.entry.Entry.{Entry}
 use Rattle.pr_roles.specs.Scenarios.{Scenario, Task, Scripted, Planned, role}
-use Rattle.pr_roles.specs.Worlds.{World, Control, Going, Trapped, Free, Event, Host, Guest, Happens, Run, is_guest, is_guest_task, standing_of, taken}
+use Rattle.pr_roles.specs.Worlds.{Control, Going, Trapped, Free, Host, Guest, is_guest, is_guest_task, standing_of, taken}
 use Rattle.pr_roles.specs.Schedules.{is_held_back}
 use Rattle.pr_world.specs.Courses.{HappensBy, Seat, StandsFor, is_free, is_planned, seat}
 use Rattle.pr_world.specs.Turns.{Acts, ActsAs, GuestActs, HostActs, SendsOr}

@@ -13,3 +13,8 @@ pub mod Beginning
 pub mod Trapping
 pub mod Running
 pub mod SafeReplays
+pub mod Counting
+pub mod Meaning
+pub mod Keeping
+pub mod Reserving
+pub mod Stepping

@@ -18,7 +18,7 @@ use Rattle.pr_world.specs.Replays.{IsEndOf, IsReplayed}
 
 -- ---- one turn more
 
-scheduled_then : (s : Scenario) (x y z : Schedule) (hs : List ℕ) (h : ℕ) → ScheduledRun s x hs y → Turn s y h z → ScheduledRun s x (hs ++ h ∷ []) z
+pub scheduled_then : (s : Scenario) (x y z : Schedule) (hs : List ℕ) (h : ℕ) → ScheduledRun s x hs y → Turn s y h z → ScheduledRun s x (hs ++ h ∷ []) z
 scheduled_then s x y z [] h run turn = (z, subst (λ w. Turn s w h z) run turn, refl)
 scheduled_then s x y z (g ∷ hs) h run turn = (run.0, run.1, scheduled_then s run.0 y z hs h run.2 turn)
 
@@ -26,38 +26,39 @@ pub run_then : (s : Scenario) (w v x : World) (es : List Event) (e : Event) → 
 run_then s w v x [] e run happens = (x, subst (λ u. Happens s u e x) run happens, refl)
 run_then s w v x (f ∷ fs) e run happens = (run.0, run.1, run_then s run.0 v x fs e run.2 happens)
 
-pub reached_more : (s : Scenario) (steps : List ℕ) (c d : Course) (h : ℕ) (o : Option Entry) → Turn s (schedule_of c) h (schedule_of d)
-    → HappensBy s h o (schedule_of c).world (schedule_of d).world → StandsFor s d.unit (map seat_of d.players.items) → IsReached s steps c → IsReached s (steps ++ h ∷ []) d
-reached_more s steps c d h None turn same stands reached = record {
+pub reached_more : (s : Scenario) (steps : List ℕ) (x y : Schedule) (h : ℕ) (o : Option Entry) → Turn s x h y → HappensBy s h o x.world y.world → IsReached s steps x
+    → IsReached s (steps ++ h ∷ []) y
+reached_more s steps x y h None turn same reached = record {
   start = reached.start;
   first = reached.first;
   allowed = reached.allowed;
   scheduled = scheduled_then s _ _ _ steps h reached.scheduled turn;
   events = reached.events;
   run = subst (λ w. Run s (world_from s reached.start) reached.events w) (sym same) reached.run;
-  stands = stands;
 }
-reached_more s steps c d h (Some e) turn one stands reached = record {
+reached_more s steps x y h (Some e) turn one reached = record {
   start = reached.start;
   first = reached.first;
   allowed = reached.allowed;
   scheduled = scheduled_then s _ _ _ steps h reached.scheduled turn;
   events = reached.events ++ one.event ∷ [];
   run = run_then s _ _ _ reached.events one.event reached.run one.happens;
-  stands = stands;
 }
 
 -- the turns before step i have led here, with room for one entry more at each step
 pub record IsRunning (s : Scenario) (steps : List ℕ) (i : ℕ) (c : Course) : Type 0 where
-  pub reached : IsReached s (take i steps) c
+  pub reached : IsReached s (take i steps) (schedule_of c)
+  pub stands : StandsFor s c.unit (map seat_of c.players.items)
   pub room : vec_capacity c.entries ≡ length steps
   pub few : vec_len c.entries ≤ i
 
 pub running_more : (s : Scenario) (steps : List ℕ) (i : ℕ) (c d : Course) → i < length steps → IsRunning s steps i c
-    → ((hs : List ℕ) → IsReached s hs c → IsReached s (hs ++ get_or steps i 0 ∷ []) d)
+    → ((hs : List ℕ) → IsReached s hs (schedule_of c) → IsReached s (hs ++ get_or steps i 0 ∷ []) (schedule_of d))
+    → StandsFor s d.unit (map seat_of d.players.items)
     → vec_capacity d.entries ≡ vec_capacity c.entries → vec_len d.entries ≤ vec_len c.entries + 1 → IsRunning s steps (i + 1) d
-running_more s steps i c d there running more room few = record {
-  reached = subst (λ hs. IsReached s hs d) (sym (take_more steps i 0 there)) (more (take i steps) running.reached);
+running_more s steps i c d there running more stands room few = record {
+  reached = subst (λ hs. IsReached s hs (schedule_of d)) (sym (take_more steps i 0 there)) (more (take i steps) running.reached);
+  stands = stands;
   room = room ∙ running.room;
   few = let before : vec_len c.entries ≤ i = running.few in omega arith;
 }
@@ -65,7 +66,7 @@ running_more s steps i c d there running more room few = record {
 pub replayed : (s : Scenario) (steps : List ℕ) (i : ℕ) (c : Course) (r : Result Replayed AllocError) → IsRunning s steps i c → length steps ≤ i
     → IfOk r (IsEndOf (schedule_of c)) → IfOk r (IsReplayed s steps)
 replayed s steps i c (Ok r) running done outcome =
-    let here : IsReached s steps c = subst (λ hs. IsReached s hs c) (take_all i steps done) running.reached in
+    let here : IsReached s steps (schedule_of c) = subst (λ hs. IsReached s hs (schedule_of c)) (take_all i steps done) running.reached in
     record {
       start = here.start;
       first = here.first;

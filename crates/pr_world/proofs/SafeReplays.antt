@@ -1,5 +1,5 @@
 -- What safety and legality say of a replay.
-use Rattle.std.proofs.Common.{◌≡◌, ℕ, zero, suc, ◌<◌, ◌≤◌, Bool, true, false, ◌||◌, List, [], ◌∷◌, length, get_or, Option, Some, None, refl, sym, ap, ◌∙◌, subst, zero-add, arith}
+use Rattle.std.proofs.Common.{◌≡◌, ℕ, zero, suc, ◌<◌, ◌≤◌, false, ◌||◌, List, [], ◌∷◌, length, Some, refl, sym, ◌∙◌, subst, zero-add, arith}
 use Rattle.std.specs.Prelude.{map, slice_index}
 use Rattle.std.specs.List.{list_any, range_with_len, slice_get}
 use Rattle.std.specs.Option.{option_map_or}
@@ -8,12 +8,12 @@ use Rattle.std.proofs.lemmas.List.FromFn.{get_or-map-range_with_len, length-map-
 use Rattle.std.proofs.lemmas.Bool.Decides.{nat_tests}
 use Rattle.pr_script.specs.Scripts.{Stmts}
 use Rattle.pr_roles.specs.Scenarios.{Scenario, Scripted, task}
-use Rattle.pr_roles.specs.Worlds.{World, Control, Free, control, is_trapped, sent, world_from}
+use Rattle.pr_roles.specs.Worlds.{Control, Free, is_trapped, sent, world_from}
 use Rattle.pr_roles.specs.Safety.{IsSafe, IsLegal, KeepsBudgetBy, KeepsRoles}
 use Rattle.pr_roles.specs.declared.entry.Entry.{Entry}
 use Rattle.pr_world.specs.declared.replaying.Replayed.{Replayed}
 use Rattle.pr_world.specs.Ends.{is_trapped_end}
-use Rattle.pr_world.specs.Replays.{IsReplayed, counts_in}
+use Rattle.pr_world.specs.Replays.{IsReplayed}
 
 pub replay_is_legal : (s : Scenario) (steps : List ℕ) (r : Replayed) (x : IsReplayed s steps r) → IsLegal s x.start r.entries.items
 replay_is_legal s steps r x = (x.events, x.last.world, x.reached, sym x.outcome.entries)

@@ -1,6 +1,7 @@
 -- What one host or guest does makes the turn of the schedule.
 use Rattle.std.proofs.Common.{◌≡◌, ℕ, ◌<◌, Bool, true, false, List, [], ◌∷◌, ◌++◌, length, Option, Some, None, refl, sym, ap, ◌∙◌, subst, get_or, vec_len, Vec, Global, arith}
-use Rattle.std.specs.Prelude.{map, slice_set, option_map}
+use Rattle.std.specs.Prelude.{map, slice_set, option_map, IsTrue}
+use Rattle.std.specs.List.{slice_get}
 use Rattle.std.specs.Option.{option_map_or, option_to_list}
 use Rattle.std.proofs.lemmas.List.{map-set, append-nil, length-map}
 use Rattle.std.proofs.lemmas.Option.{slice_get-map, slice_get-get_or}
@@ -16,10 +17,11 @@ use Rattle.pr_roles.specs.declared.entry.Entry.{Entry}
 use Rattle.pr_roles.specs.declared.parts.Nexus.{Nexus as NexusPart}
 use Rattle.pr_roles.specs.declared.parts.Parts.{Parts}
 use Rattle.pr_roles.specs.Scenarios.{Scenario, Task, Scripted, Planned, nexus, role, nexus_of, scenario_of}
-use Rattle.pr_roles.specs.Worlds.{Control, Going, Trapped, Free, standing_of, going_or_trapped, taken}
-use Rattle.pr_roles.specs.Schedules.{HostTurn, SendsUnless, GuestTurn, TurnBy, Turn, is_held_back}
+use Rattle.pr_roles.specs.Worlds.{Control, Going, Trapped, Free, control, is_trapped, standing_of, going_or_trapped, taken}
+use Rattle.pr_roles.specs.Schedules.{HostTurn, SendsUnless, GuestTurn, TurnBy, Turn, is_held_back, plan}
 use Rattle.pr_world.specs.declared.player.Player.{Player}
 use Rattle.pr_world.specs.Courses.{Seat, seat, seat_of, schedule_by, StandsFor, HappensBy, is_free, is_planned}
+use Rattle.pr_world.specs.Ends.{Ending, ending}
 use Rattle.pr_world.proofs.Seats.{at_seat, control_at, has_task, plan_at, rests, sends, with_seat, world_by}
 use Rattle.pr_world.proofs.Happening.{happens_at_seat}
 use Rattle.pr_world.specs.declared.act.Act.{Act}
@@ -126,7 +128,7 @@ pub record IsTurned (s : Scenario) (u : UnitState) (ps : List Player) (es : List
   pub happens : HappensBy s h e (world_by u (map seat_of ps) es) (world_by v (map seat_of qs) fs)
   pub stands : StandsFor s v (map seat_of qs)
 
-length-tasks : (s : Scenario) (u : UnitState) (xs : List Seat) → StandsFor s u xs → length xs ≡ length s.nexuses
+pub length-tasks : (s : Scenario) (u : UnitState) (xs : List Seat) → StandsFor s u xs → length xs ≡ length s.nexuses
 length-tasks s u xs stands = sym (length-map xs (λ x. is_free x.control)) ∙ (ap length stands.tasks ∙ length-map s.nexuses (λ n. is_planned n.task))
 
 pub length-players : (s : Scenario) (u : UnitState) (ps : List Player) → StandsFor s u (map seat_of ps) → length ps ≡ length s.nexuses
@@ -216,3 +218,24 @@ doing_at p q u ps es h i d n x stands there same at nexus seat does_so =
     let named = nexus ∙ (ap (λ r. get_or r.nexuses.items i n) same ∙ ap (λ j. get_or p.nexuses.items j n) at) in
     subst (λ clauses. d ≡ does_as (seat_of x).control clauses u h (seat_of x).plan) (role_at p h n there named) does_so
     ∙ sym (λ i. does_as (control_at u xs es h (seat_of x) found i) (role s h) u h (plan_at u xs es h (seat_of x) found i))
+
+-- ---- who is in a seat, as the schedule has it
+
+pub seat_here : (ps : List Player) (h i : ℕ) (x : Player) → h < length ps → i ≡ h → x ≡ get_or ps i x → slice_get (map seat_of ps) h ≡ Some (seat_of x)
+seat_here ps h i x there at seat =
+    slice_get-map seat_of ps h ∙ ap (option_map seat_of) (slice_get-get_or ps h x there ∙ ap Some (sym (seat ∙ ap (λ j. get_or ps j x) at)))
+
+-- one that is trapped there is trapped in the schedule
+pub trapped_here : (s : Scenario) (u : UnitState) (ps : List Player) (es : List Entry) (h i : ℕ) (x : Player) → StandsFor s u (map seat_of ps) → h < length s.nexuses → i ≡ h
+    → x ≡ get_or ps i x → IsTrue (is_trapped (seat_of x).control) → IsTrue (is_trapped (control (world_by u (map seat_of ps) es) h))
+trapped_here s u ps es h i x stands there at seat trapped =
+    let found = seat_here ps h i x (rw (length-players s u ps stands) there) at seat in
+    subst (λ k. IsTrue (is_trapped k)) (sym (control_at u (map seat_of ps) es h (seat_of x) found)) trapped
+
+-- its end is that of what the schedule has
+pub end_here : (u : UnitState) (ps : List Player) (es : List Entry) (h i : ℕ) (x : Player) (e : Option Ending) → h < length ps → i ≡ h → x ≡ get_or ps i x
+    → ending (seat_of x).control (seat_of x).plan ≡ e → ending (control (world_by u (map seat_of ps) es) h) (plan (schedule_by u (map seat_of ps) es) h) ≡ e
+end_here u ps es h i x e there at seat is =
+    let xs = map seat_of ps in
+    let found = seat_here ps h i x there at seat in
+    (λ j. ending (control_at u xs es h (seat_of x) found j) (plan_at u xs es h (seat_of x) found j)) ∙ is

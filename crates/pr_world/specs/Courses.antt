@@ -86,12 +86,11 @@ abbrev pub schedule_of : Course → Schedule
 schedule_of c = schedule_by c.unit (map seat_of c.players.items) c.entries.items
 
 -- The turns of these steps led here from the first start, which the scenario allows. The history is that of a run,
--- which leads from that start to the present world. There is one host or guest for each that the scenario declares.
-pub record IsReached (s : Scenario) (steps : List ℕ) (c : Course) : Type 0 where
+-- which leads from that start to the present world.
+pub record IsReached (s : Scenario) (steps : List ℕ) (y : Schedule) : Type 0 where
   pub start : UnitState
   pub first : first_state s ≡ Some start
   pub allowed : IsAllowedStart s start
-  pub scheduled : ScheduledRun s (schedule_from s start) steps (schedule_of c)
+  pub scheduled : ScheduledRun s (schedule_from s start) steps y
   pub events : List Event
-  pub run : Run s (world_from s start) events (schedule_of c).world
-  pub stands : StandsFor s c.unit (map seat_of c.players.items)
+  pub run : Run s (world_from s start) events y.world

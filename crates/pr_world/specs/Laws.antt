@@ -1,13 +1,17 @@
--- What holds of every replay: its history is legal, and of a safe scenario it keeps what safety says.
+-- What holds of every replay and of every schedule: the history of a replay is legal, and of a safe scenario they keep what
+-- safety says.
 use Rattle.std.specs.Prelude.{◌≡◌, ℕ, ◌≤◌, false, List, Some, slice_index}
 use Rattle.std.specs.List.{list_any}
 use Rattle.pr_script.specs.Scripts.{Stmts}
 use Rattle.pr_roles.specs.Scenarios.{Scenario, Scripted, task}
-use Rattle.pr_roles.specs.Worlds.{world_from}
+use Rattle.pr_roles.specs.Worlds.{sent, world_from}
+use Rattle.pr_roles.specs.Schedules.{Schedule}
 use Rattle.pr_roles.specs.Safety.{IsSafe, IsLegal, KeepsRoles}
 use Rattle.pr_world.specs.declared.replaying.Replayed.{Replayed}
+use Rattle.pr_world.specs.Courses.{IsReached}
 use Rattle.pr_world.specs.Ends.{is_trapped_end}
 use Rattle.pr_world.specs.Replays.{IsReplayed}
+use Rattle.pr_world.specs.Rooms.{room_by}
 
 -- the entries of a replay are a legal history from its start
 abbrev pub ReplaysAreLegal : Type 0
@@ -29,3 +33,8 @@ abbrev pub SafeReplaysKeepRoles : Type 0
 SafeReplaysKeepRoles =
     (s : Scenario) (steps : List ℕ) (r : Replayed) → IsSafe s → (x : IsReplayed s steps r)
     → KeepsRoles s (world_from s x.start) x.events x.last.world x.reached
+
+-- where turns led in a safe scenario, no host has sent more than its budget, and no guest more than its plan has
+abbrev pub SafeSchedulesKeepToRooms : Type 0
+SafeSchedulesKeepToRooms =
+    (s : Scenario) (steps : List ℕ) (y : Schedule) → IsSafe s → IsReached s steps y → (h : ℕ) → sent y.world.entries h ≤ room_by (task s h)

@@ -4,4 +4,7 @@ pub mod Courses
 pub mod Turns
 pub mod Replays
 pub mod Laws
+pub mod Rooms
+pub mod Progress
+pub mod StepAnswers
 pub mod inside

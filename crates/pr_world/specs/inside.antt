@@ -1,1 +1,3 @@
 pub mod Auditing
+pub mod ProgressCodes
+pub mod Workings

@@ -1,10 +1,10 @@
 //! A scenario at work: its unit, its hosts and guests, and what was sent so far.
 
-ghost use Rattle.std.specs.Prelude.{◌≡◌, ◌<◌, ◌≤◌, ◌+◌, ◌^◌, ℕ, List, [], ◌∷◌, ◌++◌, Some, length, map, IfOk, vec_len, vec_capacity};
+ghost use Rattle.std.specs.Prelude.{◌≡◌, ◌<◌, ◌≤◌, ◌+◌, ◌^◌, ℕ, List, [], ◌∷◌, ◌++◌, Some, length, map, IfOk, vec_len, vec_capacity, IsTrue};
 ghost use Rattle.std.specs.List.{range_with_len};
 ghost use Rattle.pr_roles.specs.Scenarios.{scenario_of};
-ghost use Rattle.pr_roles.specs.Schedules.{Turn};
-ghost use Rattle.pr_roles.specs.Worlds.{sent};
+ghost use Rattle.pr_roles.specs.Schedules.{Turn, plan};
+ghost use Rattle.pr_roles.specs.Worlds.{control, is_trapped, sent};
 ghost use Rattle.pr_world.specs.Courses.{seat_of, seat_from, schedule_of, HappensBy, IsReached, StandsFor};
 ghost use Rattle.pr_world.specs.Turns.{seen as act_seen, sends, does, entry_in};
 ghost use Rattle.pr_world.specs.Ends.{seen, ending};
@@ -21,9 +21,9 @@ use std::alloc::{AllocError, Global};
 /// A scenario at work.
 #[derive(Debug, Drop)]
 pub(crate) struct Course {
-    unit: Unit,
+    pub(crate) unit: Unit,
     players: Vec<Player>,
-    entries: Vec<Entry>,
+    pub(crate) entries: Vec<Entry>,
 }
 
 impl Course {
@@ -33,7 +33,9 @@ impl Course {
         scenario: &Scenario,
         room: usize,
     ) -> Result<Course, AllocError>
-        ensures reached { IfOk result (IsReached (scenario_of scenario.now) []) }
+        ensures reached { IfOk result (λ course. IsReached (scenario_of scenario.now) [] (schedule_of course)) }
+        ensures stands { IfOk result (λ course.
+            StandsFor (scenario_of scenario.now) course.unit (map seat_of course.players.items)) }
         ensures room { IfOk result (λ course.
             (vec_len course.entries ≡ 0) × (vec_capacity course.entries ≡ room)) }
     {
@@ -53,11 +55,13 @@ impl Course {
             → vec_len self.old.entries < vec_capacity self.old.entries }
         ensures does { act_seen result
             ≡ does (scenario_of scenario.now) (schedule_of self.old) host }
+        ensures trapped { result ≡ Act.Trapped
+            → IsTrue (is_trapped (control (schedule_of self.old).world host)) }
         ensures turn { Turn (scenario_of scenario.now) (schedule_of self.old) host (schedule_of self.new) }
         ensures happens { HappensBy (scenario_of scenario.now) host (entry_in result)
             (schedule_of self.old).world (schedule_of self.new).world }
-        ensures reached { (steps : List ℕ) → IsReached (scenario_of scenario.now) steps self.old
-            → IsReached (scenario_of scenario.now) (steps ++ host ∷ []) self.new }
+        ensures reached { (steps : List ℕ) → IsReached (scenario_of scenario.now) steps (schedule_of self.old)
+            → IsReached (scenario_of scenario.now) (steps ++ host ∷ []) (schedule_of self.new) }
         ensures stands { StandsFor (scenario_of scenario.now) self.new.unit
             (map seat_of self.new.players.items) }
         ensures length { vec_len self.new.entries ≤ vec_len self.old.entries + 1 }
@@ -70,6 +74,23 @@ impl Course {
             self.entries.push_reserved(entry.copy());
         }
         act
+    }
+
+    /// How the host or guest stands.
+    pub(crate) fn end(&self, host: u8) -> End
+        requires { host < vec_len self.now.players }
+        ensures { ending (control (schedule_of self.now).world host) (plan (schedule_of self.now) host)
+            ≡ Some (seen result) }
+    {
+        self.players[usize::from(host)].end()
+    }
+
+    /// The commands that were sent, in order, and the unit.
+    pub(crate) fn into_parts(self) -> (Vec<Entry>, Unit)
+        ensures entries { result.0 ≡ self.entries }
+        ensures unit { result.1 ≡ self.unit }
+    {
+        (self.entries, self.unit)
     }
 
     /// What it came to.

@@ -1,6 +1,6 @@
-//! Laws of replays: what safety and legality, as they are defined, say of each of them.
+//! Laws of replays and schedules: what safety and legality, as they are defined, say of each of them.
 
-ghost use Rattle.pr_world.specs.Laws.{ReplaysAreLegal, SafeReplaysEndUntrapped, SafeReplaysKeepBudgets, SafeReplaysKeepRoles};
+ghost use Rattle.pr_world.specs.Laws.{ReplaysAreLegal, SafeReplaysEndUntrapped, SafeReplaysKeepBudgets, SafeReplaysKeepRoles, SafeSchedulesKeepToRooms};
 
 /// The entries of a replay are a legal history from the first start.
 pub fn replays_are_legal()
@@ -20,4 +20,9 @@ pub fn safe_replays_keep_budgets()
 /// In a replay of a safe scenario each command of a host that ends GOOD is one that its role permits.
 pub fn safe_replays_keep_roles()
     ensures { SafeReplaysKeepRoles }
+{}
+
+/// Where turns led in a safe scenario, no host has sent more commands than its budget, and no guest more than its plan has.
+pub fn safe_schedules_keep_to_rooms()
+    ensures { SafeSchedulesKeepToRooms }
 {}

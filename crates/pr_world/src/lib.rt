@@ -11,12 +11,16 @@ mod plan;
 mod player;
 mod replaying;
 mod sender;
+mod turn;
+mod world;
 
 pub use auditing::{AuditError, audit};
 pub use end::End;
 pub use laws::{
     replays_are_legal, safe_replays_end_untrapped, safe_replays_keep_budgets,
-    safe_replays_keep_roles,
+    safe_replays_keep_roles, safe_schedules_keep_to_rooms,
 };
 pub use pr_roles::Entry;
 pub use replaying::{Replayed, replay};
+pub use turn::Turn;
+pub use world::World;

@@ -1,9 +1,10 @@
 //! The hosts and guests of a scenario at work.
 
-ghost use Rattle.std.specs.Prelude.{◌≡◌, ◌<◌, Some, IfOk};
+ghost use Rattle.std.specs.Prelude.{◌≡◌, ◌<◌, Some, IfOk, IsTrue};
 ghost use Rattle.pr_roles.specs.Scenarios.{task_of};
 ghost use Rattle.pr_world.specs.Courses.{seat_of, seat_from, IsShort, IsSentHere};
 ghost use Rattle.pr_world.specs.Ends.{ending, seen};
+ghost use Rattle.pr_roles.specs.Worlds.{is_trapped};
 ghost use Rattle.pr_roles.specs.Schedules.{is_held_back};
 ghost use Rattle.pr_world.specs.Turns.{Acts, entry_in, seen as act_seen, does_as};
 
@@ -48,6 +49,7 @@ impl Player {
             role.now.clauses.items unit.old host (seat_of self.old).plan }
         ensures acts { Acts role.now.clauses.items host
             (seat_of self.old) unit.old (entry_in result) (seat_of self.new) unit.new }
+        ensures trapped { result ≡ Act.Trapped → IsTrue (is_trapped (seat_of self.old).control) }
         ensures hosts { unit.new.registry.hosts ≡ unit.old.registry.hosts }
     {
         match self {

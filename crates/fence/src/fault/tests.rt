@@ -3,11 +3,12 @@ use arrayvec::ArrayVec;
 
 #[test]
 fn each_fault_has_its_line_and_its_exit_status(rt: HostRuntime) {
-    let lines: [(Fault, &[u8], u8); 5] = [
+    let lines: [(Fault, &[u8], u8); 6] = [
         (Fault::Usage, b"fence: usage\n", 2),
         (Fault::File, b"fence: file\n", 3),
         (Fault::Memory, b"fence: memory\n", 4),
         (Fault::Input(ReadError::Memory), b"fence: memory\n", 4),
+        (Fault::Trace(TraceError::Memory), b"fence: memory\n", 4),
         (Fault::Output, b"fence: output\n", 3),
     ];
     for (fault, text, exit_status) in lines {
@@ -61,6 +62,33 @@ fn each_fault_of_a_text_has_its_line(rt: HostRuntime) {
         let mut told = ArrayVec::<u8, 64>::new();
         tell(&mut told, &Fault::from(error));
         assert_eq!(rt; told.as_slice(), text);
+    }
+}
+
+#[test]
+fn each_fault_of_a_trace_has_its_line(rt: HostRuntime) {
+    let line = 7;
+    let lines: [(TraceError, &[u8], u8); 5] = [
+        (
+            TraceError::Syntax { line },
+            b"fence: trace 1 Syntax line 7\n",
+            3,
+        ),
+        (
+            TraceError::UnknownName { line },
+            b"fence: trace 2 UnknownName line 7\n",
+            3,
+        ),
+        (TraceError::TooLong, b"fence: trace 3 TooLong\n", 3),
+        (TraceError::ReadFault, b"fence: trace 4 ReadFault\n", 3),
+        (TraceError::Memory, b"fence: memory\n", 4),
+    ];
+    for (error, text, exit_status) in lines {
+        let mut told = ArrayVec::<u8, 64>::new();
+        let fault = Fault::from(error);
+        tell(&mut told, &fault);
+        assert_eq!(rt; told.as_slice(), text);
+        assert_eq!(rt; fault.status().exit_status(), exit_status);
     }
 }
 

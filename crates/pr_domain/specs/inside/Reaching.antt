@@ -1,13 +1,17 @@
 -- What a command of a clause can leave at most, beside what was so before it.
-use Rattle.std.specs.Prelude.{◌≡◌, ◌≢◌, ◌⊎◌, ℕ, ◌<◌, true, bit_or}
+use Rattle.std.specs.Prelude.{◌≡◌, ◌≢◌, ◌⊎◌, ◌||◌, ℕ, ◌<◌, true, List, bit_or}
 use Rattle.pr_unit.specs.UnitStates.{UnitState}
+use Rattle.pr_roles.specs.declared.role.Action.{Action}
+use Rattle.pr_roles.specs.declared.role.Action.TheVariants as action
 use Rattle.pr_roles.specs.declared.role.Clause.{Clause}
 use Rattle.pr_sets.specs.Words.{has}
 use Rattle.pr_views.specs.declared.possibilities.Possibilities.{Possibilities}
 use Rattle.pr_views.specs.Possibilities.{Scope, Item, Registration, Reservation, Attentions, IsSo}
 use Rattle.pr_views.specs.Views.{IsPossible, Shows}
-use Rattle.pr_views.specs.Portions.{view_in}
-use Rattle.pr_domain.specs.declared.reaching.Reach.{Reach}
+use Rattle.pr_views.specs.Portions.{has_at, view_in}
+use Rattle.pr_regions.specs.Purposes.{number_in}
+use Rattle.pr_domain.specs.declared.place.Place.{Place}
+use Rattle.pr_domain.specs.declared.reach.Reach.{Reach}
 use Rattle.pr_domain.specs.inside.Clauses.{PlaceLeads}
 
 -- with registration r the owner can be told, and q becomes n by it
@@ -31,6 +35,34 @@ pub record IsAtMost (s : Scope) (most : Possibilities) (u w : UnitState) : Type 
 -- whatever a command of the clause leads to from a shown state is in reach
 abbrev pub IsReach : Scope → Possibilities → Clause → ℕ → Reach → Type 0
 IsReach s view clause sender reach = (x : ℕ) (u w : UnitState) → PlaceLeads (view_in s view) clause sender x u w → IsWithin s sender reach u w
+
+-- the same under the reservation of a place, by its sender
+abbrev pub IsReachAt : Scope → Possibilities → Clause → Place → Reach → Type 0
+IsReachAt s view clause place reach = (u w : UnitState) → PlaceLeads (view_in s view) clause place.sender place.reservation u w → IsWithin s place.sender reach u w
+
+-- the second reaches whatever the first does
+pub record IsWider (narrow wide : Reach) : Type 0 where
+  pub given : (n : ℕ) → has narrow.given n ≡ true → has wide.given n ≡ true
+  pub removed : (n : ℕ) → has narrow.removed n ≡ true → has wide.removed n ≡ true
+  pub reservations : (n : ℕ) → has narrow.reservations n ≡ true → has wide.reservations n ≡ true
+  pub told_03 : (n : ℕ) → has narrow.told_03 n ≡ true → has wide.told_03 n ≡ true
+  pub told_04 : (n : ℕ) → has narrow.told_04 n ≡ true → has wide.told_04 n ≡ true
+  pub told_05 : (n : ℕ) → has narrow.told_05 n ≡ true → has wide.told_05 n ≡ true
+
+-- each but the sender may be free or have the key of this number
+abbrev pub MayAllGo : Possibilities → Place → ℕ → Type 0
+MayAllGo view place j = (g : ℕ) → g < place.hosts → g ≢ place.sender → (has_at view.registrations g 0 || has_at view.registrations g j) ≡ true
+
+-- the number of the key that an action registers or preempts
+abbrev pub number_named : List ℕ → Action → ℕ
+number_named keys (action.Register key) = number_in keys key
+number_named keys action.Unregister = 0
+number_named keys (action.Reserve kind) = 0
+number_named keys action.Release = 0
+number_named keys action.Clear = 0
+number_named keys (action.Preempt key kind) = number_in keys key
+number_named keys action.Read = 0
+number_named keys action.Write = 0
 
 -- such a command leaves no more
 abbrev pub IsMost : Scope → Possibilities → Clause → ℕ → Possibilities → Type 0

@@ -1,5 +1,4 @@
-use Rattle.std.proofs.Common.{◌≡◌, true, sym, subst}
-use Rattle.pr_roles.specs.Fitting.{is_action}
+use Rattle.std.proofs.Common.{◌≡◌, true, subst}
 use Rattle.pr_views.specs.Portions.{has_at}
 use Rattle.pr_domain.proofs.Reached.{most_of_reach}
 use Rattle.pr_domain.proofs.onlooker.Onlooker.most.Goals as goal
@@ -7,8 +6,7 @@ use Rattle.pr_domain.proofs.onlooker.Onlooker.most.Goals as goal
 pub returns : goal.returns
 returns c s is same =
     let o = c.args.self.now in
-    let fits : is_action s.keys c.args.clause.now.action ≡ true = subst (λ k. is_action k c.args.clause.now.action ≡ true) (sym same) c.requires.action in
-    most_of_reach s o c.args.clause.now c.reach-reach.result is fits _ (c.reach-reach.ensures s is same)
+    most_of_reach s o c.args.clause.now c.reach-reach.result is _ (c.reach-reach.ensures s is same)
     (record {
       given = c.registrations_within.ensures.given;
       freed = c.registrations_within.ensures.freed;

@@ -1,66 +1,36 @@
-use Rattle.std.proofs.Common.{◌≡◌, ◌≢◌, ◌≤◌, ◌==◌, ℕ, true, Some, sym, ap, ◌∙◌, subst, arith}
-use Rattle.std.proofs.lemmas.Bool.Decides.{nat_tests}
-use Rattle.pr_registry.specs.Registrations.{established}
-use Rattle.pr_sets.specs.Words.{has}
+use Rattle.std.proofs.Common.{◌≡◌, ◌+◌, true, sym, ap, ◌∙◌, subst, arith}
 use Rattle.pr_roles.specs.Fitting.{is_action}
-use Rattle.pr_views.specs.Possibilities.{number_of}
-use Rattle.pr_views.specs.Portions.{has_at}
-use Rattle.pr_regions.specs.Purposes.{number_in}
-use Rattle.pr_domain.proofs.Reached.{register_reach, unregister_reach, reserve_reach, release_reach, clear_reach, preempt_all_reach, preempt_key_reach}
+use Rattle.pr_domain.specs.inside.Interfering.{IsWatched}
+use Rattle.pr_domain.specs.inside.Reaching.{number_named}
+use Rattle.pr_domain.proofs.Shown.{is_place}
+use Rattle.pr_domain.proofs.Reached.{IsReachBelow, reach_more, reach_skips, reach_all}
+use Rattle.pr_domain.proofs.onlooker.Onlooker.reach.Goals.{then-has, else-has}
 use Rattle.pr_domain.proofs.onlooker.Onlooker.reach.Goals as goal
 
-itself : (a : ℕ) → (a == a) ≡ true
-itself a = grind (arith, nat_tests)
+pub loop-reservation-init : goal.loop-reservation-init
+loop-reservation-init c s is same x u w small led = absurd (omega arith)
 
-pub returns-in-Register : goal.returns-in-Register
-returns-in-Register c s is same =
-    let action = c.args.clause.now.action in
-    let fits : is_action s.keys action ≡ true = subst (λ k. is_action k action ≡ true) (sym same) c.requires.action in
-    let number : number_in s.keys c.in-Register.key ≡ c.number_in.result = ap (λ k. number_in k c.in-Register.key) same ∙ sym c.number_in.ensures in
-    let gives : has c.only.result (number_in s.keys c.in-Register.key) ≡ true = subst (λ n. has c.only.result n ≡ true) (sym number) (c.only.ensures c.number_in.result ∙ itself c.number_in.result) in
-    register_reach s c.args.self.now c.args.clause.now _ is fits c.in-Register.key c.in-Register.is gives
-
-pub returns-in-Unregister : goal.returns-in-Unregister
-returns-in-Unregister c s is same =
-    let fits : is_action s.keys c.args.clause.now.action ≡ true = subst (λ k. is_action k c.args.clause.now.action ≡ true) (sym same) c.requires.action in
-    unregister_reach s c.args.self.now c.args.clause.now _ is fits c.in-Unregister.is (c.only-nobody.ensures 0) (c.only-nobody.ensures 0) c.registered.ensures.keys
-
-pub returns-in-Reserve : goal.returns-in-Reserve
-returns-in-Reserve c s is same =
-    let fits : is_action s.keys c.args.clause.now.action ≡ true = subst (λ k. is_action k c.args.clause.now.action ≡ true) (sym same) c.requires.action in
-    let takes : has c.established.result (number_of s.hosts (Some (established c.in-Reserve.kind c.args.self.now.other))) ≡ true =
-    subst (λ n. has c.established.result (number_of n (Some (established c.in-Reserve.kind c.args.self.now.other))) ≡ true) (sym is.hosts) c.established.ensures in
-    reserve_reach s c.args.self.now c.args.clause.now _ is fits c.in-Reserve.kind c.in-Reserve.is takes
-
-pub returns-in-Release : goal.returns-in-Release
-returns-in-Release c s is same =
-    let fits : is_action s.keys c.args.clause.now.action ≡ true = subst (λ k. is_action k c.args.clause.now.action ≡ true) (sym same) c.requires.action in
-    release_reach s c.args.self.now c.args.clause.now _ is fits c.in-Release.is (c.only-nobody.ensures 0) c.registered-in-Release.ensures.keys
-
-pub returns-in-Clear : goal.returns-in-Clear
-returns-in-Clear c s is same =
-    let fits : is_action s.keys c.args.clause.now.action ≡ true = subst (λ k. is_action k c.args.clause.now.action ≡ true) (sym same) c.requires.action in
-    clear_reach s c.args.self.now c.args.clause.now _ is fits c.in-Clear.is (c.only-nobody.ensures 0) c.registered-in-Clear.ensures.keys (c.only-nobody.ensures 0) c.registered-in-Clear-2.ensures.keys
-
-pub returns-then-key-eq0 : goal.returns-then-key-eq0
-returns-then-key-eq0 c s is same =
-    let fits : is_action s.keys c.args.clause.now.action ≡ true = subst (λ k. is_action k c.args.clause.now.action ≡ true) (sym same) c.requires.action in
-    let reach = c.reach_of_all.result in
-    let kind = c.in-Preempt.kind in
-    let takes : has reach.reservations (number_of s.hosts (Some (established kind c.args.self.now.other))) ≡ true =
-    subst (λ n. has reach.reservations (number_of n (Some (established kind c.args.self.now.other))) ≡ true) (sym is.hosts) c.reach_of_all.ensures.reservations in
-    preempt_all_reach s c.args.self.now c.args.clause.now reach is fits c.in-Preempt.key kind c.in-Preempt.is c.if-key-eq0.true c.reach_of_all.ensures.removed takes c.reach_of_all.ensures.told_05
-
-pub returns-else-key-eq0 : goal.returns-else-key-eq0
-returns-else-key-eq0 c s is same =
-    let fits : is_action s.keys c.args.clause.now.action ≡ true = subst (λ k. is_action k c.args.clause.now.action ≡ true) (sym same) c.requires.action in
+pub loop-reservation-preserved : goal.loop-reservation-preserved
+loop-reservation-preserved c s is same =
     let o = c.args.self.now in
-    let reach = c.reach_of_key.result in
-    let kind = c.in-Preempt.kind in
-    let number : c.number_in-else-key-eq0.result ≡ number_in s.keys c.in-Preempt.key = c.number_in-else-key-eq0.ensures ∙ ap (λ k. number_in k c.in-Preempt.key) (sym same) in
-    let takes : has reach.reservations (number_of s.hosts (Some (established kind o.other))) ≡ true =
-    subst (λ n. has reach.reservations (number_of n (Some (established kind o.other))) ≡ true) (sym is.hosts) c.reach_of_key.ensures.reservations in
-    preempt_key_reach s o c.args.clause.now reach is fits c.in-Preempt.key kind c.in-Preempt.is c.if-key-eq0.false
-    (subst (λ j. has_at o.view.registrations o.other j ≡ true → (has reach.given 0 ≡ true) × (has reach.reservations 0 ≡ true)) number c.reach_of_key.ensures.given)
-    (subst (λ j. has reach.removed j ≡ true) number c.reach_of_key.ensures.removed) takes
-    (subst (λ j. (r : ℕ) → 1 ≤ r → r ≤ 12 → r ≢ j → has reach.told_04 r ≡ true) number c.reach_of_key.ensures.told_04) (subst (λ j. has reach.told_05 j ≡ true) number c.reach_of_key.ensures.told_05)
+    let clause = c.args.clause.now in
+    let n = c.loop-reservation.reservation in
+    elim c.if-has.branch [
+      | then-has w ↦
+          let place = w.of-place.result in
+          let here = is_place s o.view place o.hosts o.other n is.hosts is.fits is.there (sym c.has.ensures ∙ w.if-has.true) w.of-place.ensures.hosts w.of-place.ensures.sender w.of-place.ensures.reservation
+          w.of-place.ensures.number w.of-place.ensures.held in
+          let watched : IsWatched s o place = record { known = here; own = is.own; other = λ equal. is.other (equal ∙ w.of-place.ensures.sender) } in
+          let fits : is_action s.keys clause.action ≡ true = subst (λ k. is_action k clause.action ≡ true) (sym same) c.requires.action in
+          let number : number_named s.keys clause.action ≡ c.number_named-number.result = ap (λ k. number_named k clause.action) same ∙ sym c.number_named-number.ensures.number in
+          let before = subst (λ g. IsReachBelow s o.view clause g n c.loop-reservation.reach) (sym w.of-place.ensures.sender) (c.loop-reservation.invariant s is same) in
+          subst (λ r. IsReachBelow s o.view clause o.other (n + 1) r) (sym w.reach-is)
+          (subst (λ g. IsReachBelow s o.view clause g (n + 1) w.or-reach.result) w.of-place.ensures.sender
+          (reach_more s o.view clause place n c.loop-reservation.reach w.reach_at.result w.or-reach.result w.of-place.ensures.reservation w.or-reach.ensures.first w.or-reach.ensures.second before
+          (w.reach_at.ensures s watched fits number)))
+      | else-has w ↦ subst (λ r. IsReachBelow s o.view clause o.other (n + 1) r) (sym w.reach-is)
+          (reach_skips s o.view clause o.other n c.loop-reservation.reach (sym c.has.ensures ∙ w.if-has.false) (c.loop-reservation.invariant s is same))
+    ]
+
+pub returns : goal.returns
+returns c s is same = reach_all s c.args.self.now c.args.clause.now c.loop-reservation.reservation c.loop-reservation.reach is (omega arith) (c.loop-reservation.invariant s is same)

@@ -1,5 +1,5 @@
 use Rattle.std.proofs.Common.{Some, sym, ◌∙◌, ap, rules}
-use Rattle.pr_world.proofs.Turning.{nexus_within, turn_made, doing_at, sends_entry, nothing_added, entry_added}
+use Rattle.pr_world.proofs.Turning.{nexus_within, turn_made, doing_at, sends_entry, nothing_added, entry_added, trapped_here}
 use Rattle.pr_world.proofs.Running.{reached_more}
 use Rattle.pr_world.proofs.course.Course.turn.Goals as goal
 
@@ -20,9 +20,10 @@ returns-in-Some c =
     in
     record {
       does = doing_at _ _ _ _ c.args.self.now.entries.items _ _ _ _ _ c.requires.stands c.requires.there c.parts.ensures.value c.from-index.ensures c.index.ensures c.index_mut.ensures.value c.act-act.ensures.does;
+      trapped = λ is. trapped_here _ _ _ c.args.self.now.entries.items _ _ _ c.requires.stands c.requires.there c.from-index.ensures c.index_mut.ensures.value (c.act-act.ensures.trapped is);
       turn = made.turn;
       happens = made.happens;
-      reached = λ steps. reached_more _ steps c.args.self.now _ _ _ made.turn made.happens made.stands;
+      reached = λ steps. reached_more _ steps _ _ _ _ made.turn made.happens;
       stands = made.stands;
       length = search rules;
       room = search rules;
@@ -36,9 +37,10 @@ returns-in_default c =
     in
     record {
       does = doing_at _ _ _ _ c.args.self.now.entries.items _ _ _ _ _ c.requires.stands c.requires.there c.parts.ensures.value c.from-index.ensures c.index.ensures c.index_mut.ensures.value c.act-act.ensures.does;
+      trapped = λ is. trapped_here _ _ _ c.args.self.now.entries.items _ _ _ c.requires.stands c.requires.there c.from-index.ensures c.index_mut.ensures.value (c.act-act.ensures.trapped is);
       turn = made.turn;
       happens = made.happens;
-      reached = λ steps. reached_more _ steps c.args.self.now _ _ _ made.turn made.happens made.stands;
+      reached = λ steps. reached_more _ steps _ _ _ _ made.turn made.happens;
       stands = made.stands;
       length = search rules;
       room = search rules;

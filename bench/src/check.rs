@@ -1,0 +1,180 @@
+//! Times verdicts of the proved program beside a replay of one step of the same text, which reads the text and makes the
+//! scenario: a family of clusters of 2 to 8 nodes, and scenarios at the limits of the language.
+
+use std::fs;
+use std::process::{Command, Stdio};
+use std::time::{Duration, Instant};
+
+const ROUNDS: u32 = 5;
+const NAMES: [&str; 8] = ["a", "b", "c", "d", "e", "f", "g", "h"];
+const ARMS: &str = "on good\non conflict\non attention\ndone\n";
+
+#[repr(C)]
+#[derive(Default)]
+struct Usage {
+    times: [i64; 4],
+    most_memory: i64,
+    others: [i64; 13],
+}
+
+unsafe extern "C" {
+    fn wait4(child: i32, status: *mut i32, options: i32, usage: *mut Usage) -> i32;
+}
+
+/// A cluster of so many nodes: each registers its own key, reserves, and writes, and may be preempted by every other one.
+fn cluster(nodes: usize) -> String {
+    let mut text = String::from("fence 1\nkeys");
+    for node in 0..nodes {
+        text += &format!(" {}", key(node));
+    }
+    text += "\n";
+    for name in &NAMES[..nodes] {
+        text += &format!("host {name}\n");
+    }
+    for (node, name) in NAMES[..nodes].iter().enumerate() {
+        text += &format!("start {name} free {}\n", key(node));
+        text += &format!("role {name} register {}\nrole {name} reserve 5\nrole {name} write\n", key(node));
+        for other in (0..nodes).filter(|other| *other != node) {
+            text += &format!("role {name} preempt {} 5\n", key(other));
+        }
+    }
+    for (node, name) in NAMES[..nodes].iter().enumerate() {
+        text += &format!("script {name} budget 3\n");
+        text += &format!("send --out --register-ignore --param-sark={}\n{ARMS}", key(node));
+        text += &format!("send --out --reserve --param-rk={} --prout-type=5\n{ARMS}", key(node));
+        text += &format!("send write 0 8\n{ARMS}end\n");
+    }
+    text
+}
+
+/// The key of a node.
+fn key(node: usize) -> String {
+    format!("{:x}1", node + 10)
+}
+
+/// A key of the scenarios at the limits, of which there are twelve.
+fn twelfth(place: usize) -> String {
+    format!("{:x}", place % 12 + 1)
+}
+
+/// A scenario at the limits: 8 hosts, 12 keys, 32 clauses a role, and scripts of as many sends as the bytes hold.
+fn limits(bytes: usize, alternatives: bool) -> (String, usize) {
+    let mut head = String::from("fence 1\nkeys 1 2 3 4 5 6 7 8 9 a b c\n");
+    for name in NAMES {
+        head += &format!("host {name}\n");
+    }
+    for name in NAMES {
+        if alternatives {
+            head += &format!("start {name} free 1 2 3 4 5 6 7 8 9 a b c\n");
+            head += &format!("pending {name} 29/00 2a/03 2a/04 2a/05\n");
+        }
+        for place in 0..12 {
+            head += &format!("role {name} register {}\n", twelfth(place));
+        }
+        for action in ["unregister", "release", "clear", "read", "write"] {
+            head += &format!("role {name} {action}\n");
+        }
+        for kind in [1, 3, 5, 6, 7, 8] {
+            head += &format!("role {name} reserve {kind}\n");
+        }
+        for place in 0..9 {
+            head += &format!("role {name} preempt {} 5\n", twelfth(place));
+        }
+    }
+    if alternatives {
+        head += "reservation none";
+        for kind in [1, 3, 5, 6] {
+            for name in NAMES {
+                head += &format!(" {kind}:{name}");
+            }
+        }
+        head += " 7 8\n";
+    }
+    let mut scripts = NAMES.map(|name| format!("script {name} budget 4096\n"));
+    let (mut taken, mut sends) = (head.len() + 8 * 26, 0);
+    loop {
+        let (host, round) = (sends % 8, sends / 8);
+        let send = format!("send {}\n{ARMS}", command(host, round));
+        if taken + send.len() > bytes {
+            break;
+        }
+        taken += send.len();
+        scripts[host] += &send;
+        sends += 1;
+    }
+    for script in scripts {
+        head += &format!("{script}end\n");
+    }
+    (head, sends)
+}
+
+/// What a host sends in its turn of this number: commands of which none is ever at fault.
+fn command(host: usize, round: usize) -> String {
+    let (own, other) = (twelfth(host), twelfth((host + round) % 9));
+    match round % 8 {
+        0 => format!("--out --register-ignore --param-sark={own}"),
+        1 => format!("--out --reserve --param-rk={own} --prout-type={}", [1, 3, 5, 6, 7, 8][round / 8 % 6]),
+        2 => String::from("write 0 8"),
+        3 => String::from("--in --read-keys"),
+        4 => String::from("read 0 8"),
+        5 => format!("--out --preempt --param-rk={own} --param-sark={other} --prout-type=5"),
+        6 => String::from("--in --read-reservation"),
+        _ => String::from("test-unit-ready"),
+    }
+}
+
+/// What the least of some runs took, and the most memory of any.
+struct Cost {
+    least: Duration,
+    most_memory: i64,
+}
+
+impl Cost {
+    // One more run with these words.
+    fn run(&mut self, fence: &str, words: &[&str]) {
+        let start = Instant::now();
+        let child = Command::new(fence).args(words).stdout(Stdio::null()).stderr(Stdio::null()).spawn().expect("fence");
+        let (mut status, mut usage) = (0, Usage::default());
+        // SAFETY: both are places of their own for the answer, and the child is waited for nowhere else.
+        unsafe { wait4(child.id() as i32, &mut status, 0, &mut usage) };
+        assert!(status == 0 || status == 256, "fence {words:?} ended with {status}");
+        self.least = self.least.min(start.elapsed());
+        self.most_memory = self.most_memory.max(usage.most_memory * 1024);
+    }
+}
+
+// Times the verdict on a text beside its replay of one step. They take turns, so that a machine that is slow for a while is
+// slow for both.
+fn compare(fence: &str, file: &str, what: &str, text: &str) {
+    fs::write(file, text).expect("a scenario");
+    let verdict = Command::new(fence).args(["check", file]).output().expect("fence").stdout;
+    let mut check = Cost { least: Duration::MAX, most_memory: 0 };
+    let mut replay = Cost { least: Duration::MAX, most_memory: 0 };
+    for _ in 0..ROUNDS {
+        check.run(fence, &["check", file]);
+        replay.run(fence, &["replay", file, "a"]);
+    }
+    println!(
+        "{what}, {} bytes: {} in {:.1} ms, {:.1} times a replay of one step ({:.1} ms); most memory {:.1} MB",
+        text.len(),
+        String::from_utf8_lossy(&verdict).trim_end(),
+        check.least.as_secs_f64() * 1e3,
+        check.least.as_secs_f64() / replay.least.as_secs_f64(),
+        replay.least.as_secs_f64() * 1e3,
+        check.most_memory as f64 / 1e6,
+    );
+}
+
+fn main() {
+    let words: Vec<String> = std::env::args().collect();
+    let (fence, file) = (&words[1], format!("{}/scenario", words[2]));
+    for nodes in 2..=8 {
+        compare(fence, &file, &format!("{nodes} nodes"), &cluster(nodes));
+    }
+    for bytes in [16_250, 32_500, 65_000] {
+        for (alternatives, start) in [(false, "free"), (true, "with every alternative")] {
+            let (text, sends) = limits(bytes, alternatives);
+            compare(fence, &file, &format!("8 hosts that start {start}, {sends} sends"), &text);
+        }
+    }
+}

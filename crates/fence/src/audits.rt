@@ -1,0 +1,113 @@
+//! `fence audit`, over any two readers, writer and error writer.
+
+ghost use Rattle.std.specs.Prelude.{◌≡◌, Err, IfErr, IfOk};
+ghost use Rattle.std.specs.Io.KnownBytes.{Keeps};
+ghost use Rattle.pr_roles.specs.Scenarios.{scenario_of};
+ghost use Rattle.pr_text.specs.declared.fault.ReadError.{ReadError};
+ghost use Rattle.pr_text.specs.BytesRead.{LosesUpTo};
+ghost use Rattle.pr_report.specs.BytesTaken.{LosesUpTo as TakesUpTo};
+ghost use Rattle.pr_report.specs.Written.{Puts};
+ghost use Rattle.fence.specs.declared.fault.Fault.TheVariants.{Input, Memory};
+ghost use Rattle.fence.specs.Audits.{EndsAudit, Holds};
+ghost use Rattle.fence.specs.Endings.{IsCommand, told_of_end};
+ghost use Rattle.fence.specs.inside.Audited.{IsAudited};
+
+use crate::ending::{status_of, tell_end};
+use crate::fault::{Fault, Status};
+use pr_report::{Verdict, WriteFault, read_trace, write_verdict};
+use pr_roles::Scenario;
+use pr_text::read;
+use pr_world::{AuditError, Entry, audit};
+use std::alloc::Global;
+use std::io::{Read, Write};
+
+/// `fence audit`: reads a scenario and then a trace, and writes whether the entries of the trace are a legal history of
+/// the scenario from its first start, or which of them is the first that is not.
+///
+/// Of the text at most 65,537 bytes are taken, and of the trace at most 33,662,017; none of the trace where the text is at
+/// fault. A fault is told in one line on `errors`, whose own faults change nothing.
+pub fn do_audit<R: Read, T: Read, W: Write, E: Write>(
+    alloc: Global,
+    reader: &mut R,
+    trace: &mut T,
+    writer: &mut W,
+    errors: &mut E,
+) -> Status
+    ensures command { IsCommand (EndsAudit (R.remaining reader.old) (T.remaining trace.old) (T.remaining trace.new) (W.contents writer.old) (W.contents writer.new)) (E.contents errors.old) (E.contents errors.new) result }
+    ensures limited { LosesUpTo 65537 (R.remaining reader.old) (R.remaining reader.new) }
+    ensures limited_trace { TakesUpTo 33662017 (T.remaining trace.old) (T.remaining trace.new) }
+{
+    let (end, _) = audit_and_tell(alloc, reader, trace, writer, errors);
+    status_of(end)
+}
+
+// The audit, and what became of the line that tells its fault.
+fn audit_and_tell<R: Read, T: Read, W: Write, E: Write>(
+    alloc: Global,
+    reader: &mut R,
+    trace: &mut T,
+    writer: &mut W,
+    errors: &mut E,
+) -> (Result<bool, Fault>, Result<(), WriteFault>)
+    ensures ends { EndsAudit (R.remaining reader.old) (T.remaining trace.old) (T.remaining trace.new) (W.contents writer.old) (W.contents writer.new) result.0 }
+    ensures tells { Puts (E.contents errors.old) (E.contents errors.new) (told_of_end result.0) result.1 }
+    ensures limited { LosesUpTo 65537 (R.remaining reader.old) (R.remaining reader.new) }
+    ensures limited_trace { TakesUpTo 33662017 (T.remaining trace.old) (T.remaining trace.new) }
+{
+    let end = audit_texts(alloc, reader, trace, writer);
+    let told = tell_end(errors, &end);
+    (end, told)
+}
+
+// Audits, and then writes: whether the history is illegal.
+fn audit_texts<R: Read, T: Read, W: Write>(
+    alloc: Global,
+    reader: &mut R,
+    trace: &mut T,
+    writer: &mut W,
+) -> Result<bool, Fault>
+    ensures ends { EndsAudit (R.remaining reader.old) (T.remaining trace.old) (T.remaining trace.new) (W.contents writer.old) (W.contents writer.new) result }
+    ensures limited { LosesUpTo 65537 (R.remaining reader.old) (R.remaining reader.new) }
+    ensures limited_trace { TakesUpTo 33662017 (T.remaining trace.old) (T.remaining trace.new) }
+{
+    let audited = examine(alloc, reader, trace)?;
+    write_verdict(writer, &audited.scenario, &audited.verdict)?;
+    Ok(audited.verdict.is_refusal())
+}
+
+/// A history that was audited, and its verdict not written.
+#[derive(Drop)]
+struct Audited {
+    scenario: Scenario,
+    verdict: Verdict,
+}
+
+// Reads the scenario and the trace, and audits its entries.
+fn examine<R: Read, T: Read>(alloc: Global, reader: &mut R, trace: &mut T) -> Result<Audited, Fault>
+    ensures audited { IsAudited (R.remaining reader.old) (T.remaining trace.old) result }
+    ensures unread { (e : ReadError) → result ≡ Err (Input e) → Keeps (T.remaining trace.old) (T.remaining trace.new) }
+    ensures limited { LosesUpTo 65537 (R.remaining reader.old) (R.remaining reader.new) }
+    ensures limited_trace { TakesUpTo 33662017 (T.remaining trace.old) (T.remaining trace.new) }
+{
+    let scenario = read(alloc, reader)?;
+    let entries = read_trace(alloc, &scenario, trace)?;
+    let verdict = verdict_on(alloc, &scenario, &entries)?;
+    Ok(Audited { scenario, verdict })
+}
+
+// That memory was refused is a fault, and no verdict.
+fn verdict_on(alloc: Global, scenario: &Scenario, entries: &[Entry]) -> Result<Verdict, Fault>
+    ensures holds { IfOk result (λ verdict. Holds verdict (scenario_of scenario.now) entries.now) }
+    ensures fault { IfErr result (λ fault. fault ≡ Memory) }
+{
+    match audit(alloc, scenario, entries) {
+        Ok(()) => Ok(Verdict::Legal {
+            entries: entries.len(),
+        }),
+        Err(AuditError::Illegal { place }) => Ok(Verdict::Illegal { place }),
+        Err(AuditError::Memory) => Err(Fault::Memory),
+    }
+}
+
+#[cfg(test)]
+mod tests;

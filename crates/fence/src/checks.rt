@@ -1,0 +1,97 @@
+//! `fence check`, over any reader, writer and error writer.
+
+ghost use Rattle.pr_text.specs.BytesRead.{LosesUpTo};
+ghost use Rattle.pr_report.specs.Written.{Puts};
+ghost use Rattle.fence.specs.Endings.{IsCommand, told_of_end};
+ghost use Rattle.fence.specs.Checks.{EndsCheck};
+ghost use Rattle.fence.specs.inside.Judgements.{IsJudged, Stands, judgement_text};
+
+use crate::ending::{status_of, tell_end};
+use crate::fault::{Fault, Status};
+use pr_report::{Verdict, WriteFault, write_verdict};
+use pr_text::read;
+use pr_verify::{Refusal, Refused, Verified, verify};
+use std::alloc::Global;
+use std::io::{Read, Write};
+
+/// `fence check`: reads a scenario, and writes the verdict on its scripts. It is accepted only where it is safe.
+///
+/// Of the text at most 65,537 bytes are taken. A fault is told in one line on `errors`, whose own faults change nothing.
+pub fn do_check<R: Read, W: Write, E: Write>(
+    alloc: Global,
+    reader: &mut R,
+    writer: &mut W,
+    errors: &mut E,
+) -> Status
+    ensures command { IsCommand (EndsCheck (R.remaining reader.old) (W.contents writer.old) (W.contents writer.new)) (E.contents errors.old) (E.contents errors.new) result }
+    ensures limited { LosesUpTo 65537 (R.remaining reader.old) (R.remaining reader.new) }
+{
+    let (end, _) = check_and_tell(alloc, reader, writer, errors);
+    status_of(end)
+}
+
+// The check, and what became of the line that tells its fault.
+fn check_and_tell<R: Read, W: Write, E: Write>(
+    alloc: Global,
+    reader: &mut R,
+    writer: &mut W,
+    errors: &mut E,
+) -> (Result<bool, Fault>, Result<(), WriteFault>)
+    ensures ends { EndsCheck (R.remaining reader.old) (W.contents writer.old) (W.contents writer.new) result.0 }
+    ensures tells { Puts (E.contents errors.old) (E.contents errors.new) (told_of_end result.0) result.1 }
+    ensures limited { LosesUpTo 65537 (R.remaining reader.old) (R.remaining reader.new) }
+{
+    let end = check_text(alloc, reader, writer);
+    let told = tell_end(errors, &end);
+    (end, told)
+}
+
+// Judges, and then writes: whether the scenario is refused.
+fn check_text<R: Read, W: Write>(
+    alloc: Global,
+    reader: &mut R,
+    writer: &mut W,
+) -> Result<bool, Fault>
+    ensures ends { EndsCheck (R.remaining reader.old) (W.contents writer.old) (W.contents writer.new) result }
+    ensures limited { LosesUpTo 65537 (R.remaining reader.old) (R.remaining reader.new) }
+{
+    let judgement = judge(alloc, reader)?;
+    put_judgement(writer, &judgement)?;
+    Ok(judgement.is_err())
+}
+
+// Reads the text and verifies its scenario. That memory was refused is a fault, and no refusal of a script.
+fn judge<R: Read>(alloc: Global, reader: &mut R) -> Result<Result<Verified, Refused>, Fault>
+    ensures judged { IsJudged (R.remaining reader.old) result }
+    ensures limited { LosesUpTo 65537 (R.remaining reader.old) (R.remaining reader.new) }
+{
+    let scenario = read(alloc, reader)?;
+    match verify(alloc, scenario) {
+        Err(
+            Refused {
+                refusal: Refusal::Memory,
+                ..
+            },
+        ) => Err(Fault::Memory),
+        judgement => Ok(judgement),
+    }
+}
+
+fn put_judgement<W: Write>(
+    writer: &mut W,
+    judgement: &Result<Verified, Refused>,
+) -> Result<(), WriteFault>
+    requires { Stands judgement.now }
+    ensures { Puts (W.contents writer.old) (W.contents writer.new) (judgement_text judgement.now) result }
+{
+    match judgement {
+        Ok(verified) => write_verdict(writer, verified.scenario(), &Verdict::Accepted),
+        Err(refused) => {
+            let verdict = Verdict::Refused(refused.refusal);
+            write_verdict(writer, &refused.scenario, &verdict)
+        }
+    }
+}
+
+#[cfg(test)]
+mod tests;

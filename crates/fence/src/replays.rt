@@ -1,0 +1,118 @@
+//! `fence replay`, over any reader, writer and error writer.
+
+ghost use Rattle.std.specs.Prelude.{◌≡◌, IsTrue, map};
+ghost use Rattle.std.specs.Io.KnownBytes.{Keeps};
+ghost use Rattle.pr_text.specs.BytesRead.{LosesUpTo};
+ghost use Rattle.pr_report.specs.Written.{Puts};
+ghost use Rattle.fence.specs.Endings.{IsCommand, told_of_end};
+ghost use Rattle.fence.specs.Steps.{has_wrong_count};
+ghost use Rattle.fence.specs.Replays.{EndsReplay};
+ghost use Rattle.fence.specs.inside.PlannedReplays.{IsPlanned};
+
+use crate::ending::{status_of, tell_end};
+use crate::fault::{Fault, Status};
+use crate::steps::hosts_of;
+use pr_report::{WriteFault, write_trace};
+use pr_roles::Scenario;
+use pr_text::read;
+use pr_world::{Replayed, replay};
+use std::alloc::Global;
+use std::io::{Read, Write};
+
+const MOST_STEPS: usize = 4_096;
+
+/// `fence replay`: reads a scenario, lets the named hosts take their turns in the order of the steps, and
+/// writes the trace.
+///
+/// No step, or more than 4,096, is a usage fault before the text is read; a step that names no host is
+/// one after it. Of the text at most 65,537 bytes are taken. A fault is told in one line on `errors`, whose own faults change nothing.
+pub fn do_replay<R: Read, W: Write, E: Write>(
+    alloc: Global,
+    steps: &[&str],
+    reader: &mut R,
+    writer: &mut W,
+    errors: &mut E,
+) -> Status
+    ensures command { IsCommand (EndsReplay (map (λ s. s.now) steps.now) (R.remaining reader.old) (W.contents writer.old) (W.contents writer.new)) (E.contents errors.old) (E.contents errors.new) result }
+    ensures limited { LosesUpTo 65537 (R.remaining reader.old) (R.remaining reader.new) }
+    ensures unread { IsTrue (has_wrong_count (map (λ s. s.now) steps.now)) → Keeps (R.remaining reader.old) (R.remaining reader.new) }
+{
+    let (end, _) = replay_and_tell(alloc, steps, reader, writer, errors);
+    status_of(end)
+}
+
+// The replay, and what became of the line that tells its fault.
+fn replay_and_tell<R: Read, W: Write, E: Write>(
+    alloc: Global,
+    steps: &[&str],
+    reader: &mut R,
+    writer: &mut W,
+    errors: &mut E,
+) -> (Result<bool, Fault>, Result<(), WriteFault>)
+    ensures ends { EndsReplay (map (λ s. s.now) steps.now) (R.remaining reader.old) (W.contents writer.old) (W.contents writer.new) result.0 }
+    ensures tells { Puts (E.contents errors.old) (E.contents errors.new) (told_of_end result.0) result.1 }
+    ensures limited { LosesUpTo 65537 (R.remaining reader.old) (R.remaining reader.new) }
+    ensures unread { IsTrue (has_wrong_count (map (λ s. s.now) steps.now)) → Keeps (R.remaining reader.old) (R.remaining reader.new) }
+{
+    let end = replay_text(alloc, steps, reader, writer);
+    let told = tell_end(errors, &end);
+    (end, told)
+}
+
+// Plans, and then writes: whether a host is trapped.
+fn replay_text<R: Read, W: Write>(
+    alloc: Global,
+    steps: &[&str],
+    reader: &mut R,
+    writer: &mut W,
+) -> Result<bool, Fault>
+    ensures ends { EndsReplay (map (λ s. s.now) steps.now) (R.remaining reader.old) (W.contents writer.old) (W.contents writer.new) result }
+    ensures limited { LosesUpTo 65537 (R.remaining reader.old) (R.remaining reader.new) }
+    ensures unread { IsTrue (has_wrong_count (map (λ s. s.now) steps.now)) → Keeps (R.remaining reader.old) (R.remaining reader.new) }
+{
+    let plan = plan(alloc, steps, reader)?;
+    write_trace(
+        writer,
+        &plan.scenario,
+        &plan.replayed.entries,
+        &plan.replayed.unit,
+        &plan.replayed.ends,
+        &plan.replayed.counts,
+    )?;
+    Ok(plan.replayed.is_trapped())
+}
+
+/// A replay that is done and not written.
+#[derive(Drop)]
+struct Planned {
+    scenario: Scenario,
+    replayed: Replayed,
+}
+
+// Reads the text and replays the steps, or answers their first fault.
+fn plan<R: Read>(alloc: Global, steps: &[&str], reader: &mut R) -> Result<Planned, Fault>
+    ensures planned { IsPlanned (map (λ s. s.now) steps.now) (R.remaining reader.old) result }
+    ensures limited { LosesUpTo 65537 (R.remaining reader.old) (R.remaining reader.new) }
+    ensures unread { IsTrue (has_wrong_count (map (λ s. s.now) steps.now)) → Keeps (R.remaining reader.old) (R.remaining reader.new) }
+{
+    if has_wrong_count(steps) {
+        return Err(Fault::Usage);
+    }
+    let scenario = read(alloc, reader)?;
+    let Some(hosts) = hosts_of(alloc, steps, &scenario.parts().nexuses)? else {
+        return Err(Fault::Usage);
+    };
+    let replayed = replay(alloc, &scenario, &hosts)?;
+    Ok(Planned { scenario, replayed })
+}
+
+// No step, or more than 4,096.
+#[tactic(auto, using(crate::proofs::Plans::wrong_count))]
+fn has_wrong_count(steps: &[&str]) -> bool
+    ensures { result ≡ has_wrong_count (map (λ s. s.now) steps.now) }
+{
+    steps.is_empty() || steps.len() > MOST_STEPS
+}
+
+#[cfg(test)]
+mod tests;

@@ -1,0 +1,273 @@
+-- What is read of the line in front, of which the end may not be at hand.
+use Rattle.std.proofs.Common.{◌≡◌, ℕ, ◌+◌, ◌-◌, ◌<◌, ◌≤◌, Bool, true, false, List, [], ◌∷◌, ◌++◌, length, take, drop, refl, sym, ap, ◌∙◌, arith, append_assoc, append-nil, length-append, length-take, inl, inr, subst}
+use Rattle.std.specs.Prelude.{◌&&◌, nat_lt, nat_le, bytes_eq, codes, Option, Some, None, Result, Ok, Err, IfSome}
+use Rattle.std.specs.Io.KnownBytes.{Keeps, prepend_known}
+use Rattle.std.proofs.lemmas.Bool.{cases_lt}
+use Rattle.std.proofs.lemmas.Bool.Decides.{nat_tests}
+use Rattle.std.proofs.lemmas.List.{take-take}
+use Rattle.std.proofs.lemmas.Slice.Eq.{bytes_eq-Decides}
+use Rattle.pr_roles.specs.declared.entry.Entry.{Entry}
+use Rattle.pr_report.specs.declared.trace_error.TraceError.{TraceError}
+use Rattle.pr_report.specs.declared.trace_error.TraceError.TheVariants.{Syntax, UnknownName, TooLong, ReadFault, Memory}
+use Rattle.pr_report.specs.TraceReadings.{Faults, and_then, entries_of, entry_on, is_later, later_lines, lines, trace_in}
+use Rattle.pr_report.specs.inside.LinesAhead.{Between, FindsLine, IsFront, Leads, StandsInFront}
+
+-- ---- faults
+
+pub faults_same : {A : Type 0} (e : TraceError) (r : Result A TraceError) → r ≡ Err e → Faults e r
+faults_same (Syntax n) r h = h
+faults_same (UnknownName n) r h = h
+faults_same TooLong r h = h
+faults_same ReadFault r h = tt
+faults_same Memory r h = tt
+
+-- this fault may come with any text
+pub faults_any : {A : Type 0} (e : TraceError) (known : Option (List ℕ)) (f : List ℕ → Result A TraceError) → e ≡ ReadFault → IfSome known (λ text. Faults e (f text))
+faults_any e None f h = tt
+faults_any e (Some text) f h = rw h tt
+
+pub faults_memory : {A : Type 0} (e : TraceError) (known : Option (List ℕ)) (f : List ℕ → Result A TraceError) → e ≡ Memory → IfSome known (λ text. Faults e (f text))
+faults_memory e None f h = tt
+faults_memory e (Some text) f h = rw h tt
+
+-- ---- what the front of a line shows
+
+-- what is read of a line depends on its front alone, where it is longer than a line may be
+abbrev pub ByFront : {X : Type 0} → (List ℕ → X) → Type 0
+ByFront P = (l m : List ℕ) → 1024 < length l → 1024 < length m → take 5 l ≡ take 5 m → P l ≡ P m
+
+module _ (held more : List ℕ) (n : ℕ) (front : IsFront held more n) (within : n ≤ length held) where
+  five : 1024 < n → take 5 front.line ≡ take 5 (take n held)
+  five h = sym (take-take 5 n front.line (omega arith)) ∙ ap (take 5) (sym front.shown)
+
+  long_line : 1024 < n → 1024 < length front.line
+  long_line h = omega (arith, ap length front.shown, length-take n held, length-take n front.line)
+
+  long_shown : 1024 < n → 1024 < length (take n held)
+  long_shown h = omega (arith, length-take n held)
+
+  pub by_front : {X : Type 0} (P : List ℕ → X) → ByFront P → P front.line ≡ P (take n held)
+  by_front P same = elim (cases_lt 1024 n) [
+    | inl h ↦ same front.line (take n held) (long_line h) (long_shown h) (five h)
+    | inr h ↦ ap P (front.whole h).0
+  ]
+
+many : (m n : ℕ) → m < n → nat_lt m n ≡ true
+many m n h = grind (arith, nat_tests)
+
+at_most : (n : ℕ) → n ≡ 64 → nat_le 64 n ≡ true
+at_most n h = grind (arith, nat_tests)
+
+nat_le_false : (m n : ℕ) → n < m → nat_le m n ≡ false
+nat_le_false m n h = grind (arith, nat_tests)
+
+below : (n : ℕ) → n ≤ 64 → (n ≡ 64 → ⊥) → nat_le 64 n ≡ false
+below n h k = nat_le_false 64 n (omega arith)
+
+too_long : (n : ℕ) → 1024 < n → nat_le n 1024 ≡ false
+too_long n h = grind (arith, nat_tests)
+
+fits : (n : ℕ) → n ≤ 1024 → nat_le n 1024 ≡ true
+fits n h = grind (arith, nat_tests)
+
+and_false : (b : Bool) → (b && false) ≡ false
+and_false true = refl
+and_false false = refl
+
+-- ---- the first line
+
+unequal : (l word : List ℕ) → length word < length l → bytes_eq l word ≡ false
+unequal l word h = elim (bytes_eq l word) as (λ b. bytes_eq l word ≡ b → bytes_eq l word ≡ false) [
+  | true ↦ λ e. absurd (omega (arith, ap length ((bytes_eq-Decides l word).0 e)))
+  | false ↦ λ e. e
+] refl
+
+first_by_front : ByFront (λ l. bytes_eq l (codes "fence-trace 1"))
+first_by_front l m h k same = unequal l (codes "fence-trace 1") (omega arith) ∙ sym (unequal m (codes "fence-trace 1") (omega arith))
+
+-- ---- what is left
+
+lines_none : lines [] ≡ []
+unfolding lines
+lines_none = refl
+
+-- what holds of what is left, of which the front is at hand
+between_by : (P : List ℕ → List ℕ → Type 0) (start mid : Option (List ℕ)) (held : List ℕ) (known : Option (List ℕ)) (found : Option ℕ) (R : Type 0)
+    → (start ≡ None → R) → ((old more : List ℕ) → start ≡ Some old → known ≡ Some more → P old (held ++ more) → StandsInFront held more found → R)
+    → Between P start mid → Keeps mid (prepend_known held known) → IfSome known (λ more. StandsInFront held more found) → R
+between_by P None mid held known found R none step h k f = none refl
+between_by P (Some old) None held known found R none step h k f = absurd h
+between_by P (Some old) (Some new) held None found R none step h k f = absurd k
+between_by P (Some old) (Some new) held (Some more) found R none step h k f = step old more refl refl (subst (P old) (sym k) h) f
+
+module _ {P : List ℕ → List ℕ → Type 0} {start mid : Option (List ℕ)} {held : List ℕ} {known : Option (List ℕ)} {found : Option ℕ} where
+  -- more holds of what is left then
+  leads_on : (Q : List ℕ → List ℕ → Type 0) (next : List ℕ) → ((old more : List ℕ) → P old (held ++ more) → StandsInFront held more found → Q old (next ++ more))
+      → Leads P start mid → FindsLine mid held known found → Leads Q start (prepend_known next known)
+  leads_on Q next step h f = record {
+    holds = between_by P start mid held known found (Between Q start (prepend_known next known))
+        (λ e. subst (λ o. Between Q o (prepend_known next known)) (sym e) tt)
+        (λ old more e d here front. subst (λ o. Between Q o (prepend_known next known)) (sym e) (subst (λ k. Between Q (Some old) (prepend_known next k)) (sym d) (step old more here front)))
+        h.holds f.kept f.front;
+  }
+
+  -- this holds of what was left
+  leads_back : (Q : List ℕ → Type 0) → ((old more : List ℕ) → P old (held ++ more) → StandsInFront held more found → Q old)
+      → Leads P start mid → FindsLine mid held known found → IfSome start Q
+  leads_back Q step h f =
+      between_by P start mid held known found (IfSome start Q) (λ e. subst (λ o. IfSome o Q) (sym e) tt)
+      (λ old more e d here front. subst (λ o. IfSome o Q) (sym e) (step old more here front)) h.holds f.kept f.front
+
+  leads_fault : {A : Type 0} (of : List ℕ → Result A TraceError) (e : TraceError) → ((old more : List ℕ) → P old (held ++ more) → StandsInFront held more found → of old ≡ Err e)
+      → Leads P start mid → FindsLine mid held known found → IfSome start (λ text. Faults e (of text))
+  leads_fault of e step h f = leads_back (λ text. Faults e (of text)) (λ old more here front. faults_same e (of old) (step old more here front)) h f
+
+-- ---- later lines
+
+later_by_front : ByFront is_later
+unfolding is_later
+later_by_front l m h k same = rw (← take-take 4 5 l (omega arith), ← take-take 4 5 m (omega arith), same) refl
+
+-- what is said of the later lines that are left, behind so many others
+abbrev pub LaterLeft : ℕ → ℕ → List ℕ → List ℕ → Type 0
+LaterLeft entries others old new = later_lines entries 0 (lines old) ≡ later_lines entries others (lines new)
+
+abbrev laters : ℕ → List ℕ → Result (Unit {0}) TraceError
+laters entries text = later_lines entries 0 (lines text)
+
+module _ (entries others : ℕ) {start mid : Option (List ℕ)} {held : List ℕ} {known : Option (List ℕ)} where
+  pub later_done : Leads (LaterLeft entries others) start mid → FindsLine mid held known None → IfSome start (λ text. later_lines entries 0 (lines text) ≡ Ok tt)
+  later_done h f =
+      leads_back (λ text. laters entries text ≡ Ok tt)
+      (λ old more here none. here ∙ (ap (λ l. later_lines entries others (lines l)) none ∙ ap (later_lines entries others) lines_none)) h f
+
+-- ---- the first line
+
+leads_same : (a : Option (List ℕ)) → Leads (λ old new. old ≡ new) a a
+leads_same None = record { holds = tt }
+leads_same (Some text) = record { holds = refl }
+
+-- there is no line at all
+pub first_missing : (names : List (List ℕ)) {start : Option (List ℕ)} {held : List ℕ} {known : Option (List ℕ)} → FindsLine start held known None
+    → IfSome start (λ text. Faults (Syntax 1) (trace_in names (lines text)))
+first_missing names {start} f =
+    leads_fault (λ text. trace_in names (lines text)) (Syntax 1) (λ old more here none. ap (λ l. trace_in names (lines l)) (here ∙ none) ∙ ap (trace_in names) lines_none) (leads_same start) f
+
+-- ---- entries
+
+entry_by_front : (names : List (List ℕ)) (index : ℕ) → ByFront (entry_on names index)
+unfolding entry_on
+entry_by_front names index l m h k same = rw (many 1024 (length l) h, many 1024 (length m) k) refl
+
+-- what is said of the entries that are left, behind these
+abbrev pub EntriesLeft : List (List ℕ) → List Entry → List ℕ → List ℕ → Type 0
+EntriesLeft names es old new = entries_of names 0 (lines old) ≡ and_then (entries_of names (length es) (lines new)) (λ more. Ok (es ++ more))
+
+-- these are all entries, and what is left are later lines
+abbrev pub EntriesAll : List (List ℕ) → List Entry → List ℕ → List ℕ → Type 0
+EntriesAll names es old new = entries_of names 0 (lines old) ≡ and_then (later_lines (length es) 0 (lines new)) (λ _. Ok es)
+
+-- these entries stand in front
+abbrev onto : List Entry → Result (List Entry) TraceError → Result (List Entry) TraceError
+onto es r = and_then r (λ more. Ok (es ++ more))
+
+onto_later : (es : List Entry) (r : Result (Unit {0}) TraceError) → onto es (and_then r (λ _. Ok [])) ≡ and_then r (λ _. Ok es)
+onto_later es (Ok done) = ap (λ l. Ok l) (append-nil es)
+onto_later es (Err e) = refl
+
+onto_entry : (es : List Entry) (e : Entry) (r : Result (List Entry) TraceError) → onto es (and_then r (λ more. Ok (e ∷ more))) ≡ onto (es ++ e ∷ []) r
+onto_entry es e (Ok more) = ap (λ l. Ok l) (sym (append_assoc es (e ∷ []) more))
+onto_entry es e (Err f) = refl
+
+module _ (names : List (List ℕ)) (others : ℕ) (l : List ℕ) (ls : List (List ℕ)) where
+  pub entries_later : is_later l ≡ true → entries_of names others (l ∷ ls) ≡ and_then (later_lines others 0 (l ∷ ls)) (λ _. Ok [])
+  entries_later h = rw h refl
+
+  entries_bad : (e : TraceError) → is_later l ≡ false → entry_on names (others + 1) l ≡ Err e → entries_of names others (l ∷ ls) ≡ Err e
+  entries_bad e h k = rw (h, k) refl
+
+  entries_good : (e : Entry) → is_later l ≡ false → entry_on names (others + 1) l ≡ Ok e → entries_of names others (l ∷ ls) ≡ and_then (entries_of names (others + 1) ls) (λ es. Ok (e ∷ es))
+  entries_good e h k = rw (h, k) refl
+
+no_entry : (names : List (List ℕ)) (index : ℕ) (l : List ℕ) (e : Entry) → 1024 < length l → entry_on names index l ≡ Ok e → ⊥
+unfolding entry_on
+no_entry names index l e h k = elim (nat_lt 32768 index) as (λ b. nat_lt 32768 index ≡ b → ⊥) [
+  | true ↦ λ over. let bad : Err TooLong ≡ Ok e = sym (rw over refl) ∙ k in cc
+  | false ↦ λ within. let bad : Err (Syntax (index + 1)) ≡ Ok e = sym (rw (within, many 1024 (length l) h) refl) ∙ k in cc
+] refl
+
+-- an entry's line is not too long
+pub entry_short : (names : List (List ℕ)) (index : ℕ) (l : List ℕ) (e : Entry) → entry_on names index l ≡ Ok e → length l ≤ 1024
+entry_short names index l e k = elim (cases_lt 1024 (length l)) [
+  | inl h ↦ absurd (no_entry names index l e h k)
+  | inr h ↦ h
+]
+
+module _ (names : List (List ℕ)) (es : List Entry) {start mid : Option (List ℕ)} {held : List ℕ} {known : Option (List ℕ)} (behind : Leads (EntriesLeft names es) start mid) where
+  -- nothing is left
+  pub entries_end : FindsLine mid held known None → Leads (EntriesAll names es) start (prepend_known held known)
+  entries_end f =
+      leads_on (EntriesAll names es) held
+      (λ old more here none.
+      let is : lines (held ++ more) ≡ [] = ap lines none ∙ lines_none in
+      here ∙ (rw (is, append-nil es) refl))
+      behind f
+
+  module _ {n : ℕ} (found : FindsLine mid held known (Some n)) where
+    later_same : (more : List ℕ) (f : IsFront held more n) → is_later f.line ≡ is_later (take n held)
+    later_same more f = by_front held more n f found.within is_later later_by_front
+
+    -- a later line is left
+    pub entries_stop : is_later (take n held) ≡ true → Leads (EntriesAll names es) start (prepend_known held known)
+    entries_stop h =
+        leads_on (EntriesAll names es) held
+        (λ old more here f.
+        here ∙ (ap (λ ls. onto es (entries_of names (length es) ls)) f.cut ∙ (ap (onto es) (entries_later names (length es) f.line f.others (later_same more f ∙ h))
+        ∙ (onto_later es (later_lines (length es) 0 (f.line ∷ f.others)) ∙ ap (λ ls. and_then (later_lines (length es) 0 ls) (λ _. Ok es)) (sym f.cut)))))
+        behind found
+
+    -- a line has a fault
+    pub entries_fault : (e : TraceError) → is_later (take n held) ≡ false → entry_on names (length es + 1) (take n held) ≡ Err e → IfSome start (λ text. Faults e (entries_of names 0 (lines text)))
+    entries_fault e h k =
+        leads_fault (λ text. entries_of names 0 (lines text)) e
+        (λ old more here f.
+        let same = by_front held more n f found.within (entry_on names (length es + 1)) (entry_by_front names (length es + 1)) in
+        here ∙ (ap (λ ls. onto es (entries_of names (length es) ls)) f.cut ∙ ap (onto es) (entries_bad names (length es) f.line f.others e (later_same more f ∙ h) (same ∙ k))))
+        behind found
+
+    module _ (e : Entry) (h : is_later (take n held) ≡ false) (k : entry_on names (length es + 1) (take n held) ≡ Ok e) where
+      short : n ≤ 1024
+      short = omega (arith, entry_short names (length es + 1) (take n held) e k, length-take n held, found.within)
+
+      one_more : (more : List ℕ) (f : IsFront held more n) → onto es (entries_of names (length es) (lines (held ++ more))) ≡ onto (es ++ e ∷ []) (entries_of names (length (es ++ e ∷ [])) (lines (drop (n + 1) held ++ more)))
+      one_more more f =
+          let whole = f.whole short in
+          ap (λ ls. onto es (entries_of names (length es) ls)) (f.cut ∙ ap (λ l. l ∷ f.others) whole.0)
+          ∙ (ap (onto es) (entries_good names (length es) (take n held) f.others e h k)
+          ∙ (onto_entry es e (entries_of names (length es + 1) f.others)
+          ∙ (ap (λ m. onto (es ++ e ∷ []) (entries_of names m f.others)) (sym (length-append es (e ∷ [])))
+          ∙ ap (λ ls. onto (es ++ e ∷ []) (entries_of names (length (es ++ e ∷ [])) ls)) (sym whole.1))))
+
+      -- one entry more
+      pub entries_more : {next : List ℕ} {all : List Entry} → next ≡ drop (n + 1) held → all ≡ es ++ e ∷ [] → Leads (EntriesLeft names all) start (prepend_known next known)
+      entries_more {next} {all} is those =
+          leads_on (EntriesLeft names all) next
+          (λ old more here f.
+          here ∙ (one_more more f ∙ (ap (λ l. onto (es ++ e ∷ []) (entries_of names (length (es ++ e ∷ [])) (lines (l ++ more)))) (sym is)
+          ∙ ap (λ xs. onto xs (entries_of names (length xs) (lines (next ++ more)))) (sym those))))
+          behind found
+
+-- ---- how many
+
+pub entry_few : (names : List (List ℕ)) (index : ℕ) (l : List ℕ) (e : Entry) → entry_on names index l ≡ Ok e → index ≤ 32768
+unfolding entry_on
+entry_few names index l e k = elim (cases_lt 32768 index) [
+  | inl h ↦ let bad : Err TooLong ≡ Ok e = sym (rw (many 32768 index h) refl) ∙ k in cc
+  | inr h ↦ h
+]
+
+pub one_longer : (es all : List Entry) (e : Entry) → all ≡ es ++ e ∷ [] → length all ≡ length es + 1
+one_longer es all e h = ap length h ∙ length-append es (e ∷ [])
+
+pub entries_fewer : (n m : ℕ) → n + 1 ≤ 32768 → m ≡ n + 1 → 32768 - m < 32768 - n
+entries_fewer n m h k = omega arith

@@ -1,0 +1,11 @@
+-- A place among the hosts and guests is one among their names.
+use Rattle.std.proofs.Common.{sym, ◌∙◌}
+use Rattle.pr_report.proofs.EntryNames.{place_in_names}
+use Rattle.pr_report.proofs.entry_reading.number_of.Goals as goal
+
+pub returns-in_err-host : goal.returns-in_err-host
+returns-in_err-host c =
+    c.from_residual.ensures ∙ (sym c.in_err-host.was ∙ (c.place_of.ensures.place ∙ place_in_names c.args.nexuses.now c.args.name.now))
+
+pub returns : goal.returns
+returns c = sym c.in_ok-host.was ∙ (c.place_of.ensures.place ∙ place_in_names c.args.nexuses.now c.args.name.now)

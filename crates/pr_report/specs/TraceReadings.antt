@@ -1,0 +1,91 @@
+-- What a trace text is read as: its entries, or its one fault.
+use Rattle.std.specs.Prelude.{◌≡◌, ℕ, Bool, ◌+◌, ◌==◌, ◌||◌, ◌&&◌, nat_eq, nat_lt, nat_le, if◌then◌else◌, List, [], ◌∷◌, length, position, codes, bytes_eq, Option, Some, None, Result, Ok, Err}
+use Rattle.std.specs.List.{slice_split, starts_with}
+use Rattle.pr_cdb.specs.declared.reply.Reply.{Reply}
+use Rattle.pr_cdb.specs.declared.wire.Wire.{Wire}
+use Rattle.pr_roles.specs.declared.entry.Entry.{Entry}
+use Rattle.pr_roles.specs.Worlds.{entry_of}
+use Rattle.pr_report.specs.declared.trace_error.TraceError.{TraceError}
+use Rattle.pr_report.specs.declared.trace_error.TraceError.TheVariants.{Syntax, UnknownName, TooLong, ReadFault, Memory}
+use Rattle.pr_report.specs.EntryWords.{word_at, exchange_in}
+
+-- the second step, on what the first gave
+abbrev pub and_then : {A B : Type 0} → Result A TraceError → (A → Result B TraceError) → Result B TraceError
+and_then (Ok a) f = f a
+and_then (Err e) f = Err e
+
+-- ---- lines and words
+
+-- what stands behind the last line feed is a line only if there is something
+abbrev pub lines_of_parts : List (List ℕ) → List (List ℕ)
+lines_of_parts [] = []
+lines_of_parts (part ∷ []) = if length part == 0 then [] else part ∷ []
+lines_of_parts (part ∷ next ∷ parts) = part ∷ lines_of_parts (next ∷ parts)
+
+-- the parts of the text between line feeds
+unfoldable pub lines : List ℕ → List (List ℕ)
+lines text = lines_of_parts (slice_split (λ b. b == 10) text)
+
+-- the parts of the line between spaces
+unfoldable pub words : List ℕ → List (List ℕ)
+words line = slice_split (λ b. b == 32) line
+
+-- ---- an entry's line
+
+-- the number of the host or guest with this name
+abbrev pub number_of : List (List ℕ) → List ℕ → Option ℕ
+number_of names word = position (λ name. bytes_eq name word) names
+
+abbrev pub entry_from : ℕ → Option ℕ → Wire × Reply → Result Entry TraceError
+entry_from line None x = Err (UnknownName line)
+entry_from line (Some host) x = Ok (entry_of host x.0 x.1)
+
+abbrev pub entry_said : List (List ℕ) → ℕ → List ℕ → Option (Wire × Reply) → Result Entry TraceError
+entry_said names line name None = Err (Syntax line)
+entry_said names line name (Some x) = entry_from line (number_of names name) x
+
+-- the entry with this index: the first stands on line 2
+unfoldable pub entry_on : List (List ℕ) → ℕ → List ℕ → Result Entry TraceError
+entry_on names index line =
+    if nat_lt 32768 index then Err TooLong else (
+    if nat_lt 1024 (length line) then Err (Syntax (index + 1)) else
+    entry_said names (index + 1) (word_at (words line) 1) (exchange_in index (words line)))
+
+-- ---- all lines
+
+-- this is no entry, and no line behind it is
+unfoldable pub is_later : List ℕ → Bool
+is_later line =
+    starts_with nat_eq line (codes "unit") || (starts_with nat_eq line (codes "host") || starts_with nat_eq line (codes "guest"))
+
+-- the lines behind so many entries and so many other later lines
+abbrev pub later_lines : ℕ → ℕ → List (List ℕ) → Result (Unit {0}) TraceError
+later_lines entries others [] = Ok tt
+later_lines entries others (l ∷ ls) =
+    if nat_le 64 others then Err TooLong else (
+    if is_later l && nat_le (length l) 1024 then later_lines entries (others + 1) ls else Err (Syntax (entries + others + 2)))
+
+-- the entries of the lines behind the first and so many other entries
+abbrev pub entries_of : List (List ℕ) → ℕ → List (List ℕ) → Result (List Entry) TraceError
+entries_of names others [] = Ok []
+entries_of names others (l ∷ ls) =
+    if is_later l then and_then (later_lines others 0 (l ∷ ls)) (λ _. Ok []) else
+    and_then (entry_on names (others + 1) l) (λ e. and_then (entries_of names (others + 1) ls) (λ es. Ok (e ∷ es)))
+
+abbrev pub trace_in : List (List ℕ) → List (List ℕ) → Result (List Entry) TraceError
+trace_in names [] = Err (Syntax 1)
+trace_in names (l ∷ ls) = if bytes_eq l (codes "fence-trace 1") then entries_of names 0 ls else Err (Syntax 1)
+
+-- the entries of a trace text under these names, or its one fault
+unfoldable pub trace_of : List (List ℕ) → List ℕ → Result (List Entry) TraceError
+trace_of names text = trace_in names (lines text)
+
+-- ---- the answer
+
+-- This fault is the text's. A reader may fail on any text, and memory may run out on any.
+abbrev pub Faults : {A : Type 0} → TraceError → Result A TraceError → Type 0
+Faults (Syntax n) answer = answer ≡ Err (Syntax n)
+Faults (UnknownName n) answer = answer ≡ Err (UnknownName n)
+Faults TooLong answer = answer ≡ Err TooLong
+Faults ReadFault answer = Unit {0}
+Faults Memory answer = Unit {0}

@@ -1,0 +1,2 @@
+pub mod SevenWords
+pub mod LinesAhead

@@ -1,0 +1,14 @@
+-- The words of an entry's line, as the code keeps them.
+use Rattle.std.specs.Prelude.{ℕ, List, [], ◌∷◌, Option, Some, None}
+use Rattle.std.specs.Borrow.{Bor}
+use Rattle.pr_report.specs.declared.entry_reading.EntryWords.{EntryWords}
+use Rattle.pr_report.specs.TraceReadings.{words}
+
+-- the words that are left, where there may be no more
+abbrev pub words_left : Option (Bor (List ℕ)) → List (List ℕ)
+words_left None = []
+words_left (Some rest) = words rest.now
+
+-- in their order
+abbrev pub listed : EntryWords → List (List ℕ)
+listed w = w.index.now ∷ w.name.now ∷ w.cdb.now ∷ w.params.now ∷ w.status.now ∷ w.sense.now ∷ w.bytes.now ∷ []

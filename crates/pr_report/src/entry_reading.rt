@@ -1,0 +1,248 @@
+//! The entry that a line of a trace says.
+
+ghost use Rattle.std.specs.Prelude.{◌≡◌, ◌==◌, ◌∷◌, ◌≤◌, ◌<◌, [], false, length, map, option_map, position, bytes_eq, MatchOption, IfSome};
+ghost use Rattle.pr_report.specs.TraceText.{names_of};
+ghost use Rattle.pr_report.specs.EntryWords.{byte_in, bytes_in, exchange_in, reply_in, sense_of, sense_under, senseless, status_in, wire_in, worth};
+ghost use Rattle.pr_report.specs.TraceReadings.{entry_on, number_of, words};
+ghost use Rattle.pr_report.specs.inside.SevenWords.{listed, words_left};
+
+use crate::ahead::MOST_LINE_BYTES;
+use crate::trace_error::TraceError;
+use arrayvec::ArrayVec;
+use itoa::Buffer;
+use pr_cdb::{Reply, Sense, Status, Wire, decode_sense, encode_sense};
+use pr_roles::Nexus;
+use pr_script::is_name;
+use pr_world::Entry;
+
+const MOST_ENTRIES: u32 = 32_768;
+
+// The words of an entry's line.
+#[derive(Clone, Copy)]
+pub(crate) struct EntryWords<'a> {
+    index: &'a [u8],
+    name: &'a [u8],
+    cdb: &'a [u8],
+    params: &'a [u8],
+    status: &'a [u8],
+    sense: &'a [u8],
+    bytes: &'a [u8],
+}
+
+/// The entry with this index, which counts from 1, or what is wrong with its line.
+#[tactic(auto, unfolding(crate::specs::TraceReadings::entry_on))]
+pub(crate) fn entry_on(nexuses: &[Nexus], index: u32, line: &[u8]) -> Result<Entry, TraceError>
+    requires { length nexuses.now ≤ 8 }
+    ensures { result ≡ entry_on (names_of nexuses.now) index line.now }
+{
+    if index > MOST_ENTRIES {
+        return Err(TraceError::TooLong);
+    }
+    let number = index + 1;
+    if line.len() > MOST_LINE_BYTES {
+        return Err(TraceError::Syntax { line: number });
+    }
+    let Some(words) = seven_words(line) else {
+        return Err(TraceError::Syntax { line: number });
+    };
+    let Some((wire, reply)) = exchange_in(index, &words) else {
+        return Err(TraceError::Syntax { line: number });
+    };
+    match number_of(nexuses, words.name) {
+        Some(host) => Ok(Entry { host, wire, reply }),
+        None => Err(TraceError::UnknownName { line: number }),
+    }
+}
+
+// The line's words, if there are just seven.
+fn seven_words(line: &[u8]) -> Option<EntryWords<'_>>
+    ensures { MatchOption result ((length (words line.now) == 7) ≡ false) (λ w. words line.now ≡ listed w) }
+{
+    let (index, rest) = next_word(Some(line))?;
+    let (name, rest) = next_word(rest)?;
+    let (cdb, rest) = next_word(rest)?;
+    let (params, rest) = next_word(rest)?;
+    let (status, rest) = next_word(rest)?;
+    let (sense, rest) = next_word(rest)?;
+    let (bytes, rest) = next_word(rest)?;
+    if rest.is_some() {
+        return None;
+    }
+    Some(EntryWords {
+        index,
+        name,
+        cdb,
+        params,
+        status,
+        sense,
+        bytes,
+    })
+}
+
+// The first word of what is left, and what stands behind the space after it.
+fn next_word(rest: Option<&[u8]>) -> Option<(&[u8], Option<&[u8]>)>
+    ensures { MatchOption result (words_left rest.entry ≡ []) (λ r. words_left rest.entry ≡ r.0.now ∷ words_left r.1) }
+{
+    let line = rest?;
+    match space_in(line) {
+        Some(end) => Some((&line[..end], Some(&line[end + 1..]))),
+        None => Some((line, None)),
+    }
+}
+
+fn space_in(line: &[u8]) -> Option<usize>
+    ensures { result ≡ position (λ b. b == 32) line.now }
+{
+    line.iter().position(|byte| *byte == b' ')
+}
+
+// The command and its answer, where the words have the form of an entry's with this index.
+#[tactic(auto, unfolding(crate::specs::EntryWords::exchange_in))]
+fn exchange_in(index: u32, words: &EntryWords<'_>) -> Option<(Wire, Reply)>
+    ensures { result ≡ exchange_in index (listed words.now) }
+{
+    if words.index != Buffer::new().format(index).as_bytes() {
+        return None;
+    }
+    if !is_name(words.name) {
+        return None;
+    }
+    let wire = wire_in(words.cdb, words.params)?;
+    let reply = reply_in(words.status, words.sense, words.bytes)?;
+    Some((wire, reply))
+}
+
+fn wire_in(cdb: &[u8], params: &[u8]) -> Option<Wire>
+    ensures { result ≡ wire_in cdb.now params.now }
+{
+    let cdb = bytes_in(cdb)?;
+    let params = bytes_in(params)?;
+    if cdb.is_empty() {
+        return None;
+    }
+    Some(Wire { cdb, params })
+}
+
+fn reply_in(status: &[u8], sense: &[u8], bytes: &[u8]) -> Option<Reply>
+    ensures { result ≡ reply_in status.now sense.now bytes.now }
+{
+    let status = status_in(status)?;
+    let sense = bytes_in::<18>(sense)?;
+    let sense = sense_under(status, sense.as_slice())?;
+    let bytes = bytes_in(bytes)?;
+    Some(Reply {
+        status,
+        sense,
+        bytes,
+    })
+}
+
+fn status_in(word: &[u8]) -> Option<Status>
+    ensures { result ≡ status_in word.now }
+{
+    if is(word, "00") {
+        return Some(Status::Good);
+    }
+    if is(word, "02") {
+        return Some(Status::CheckCondition);
+    }
+    if is(word, "18") {
+        return Some(Status::Conflict);
+    }
+    None
+}
+
+fn is(word: &[u8], text: &str) -> bool
+    ensures { result ≡ bytes_eq word.now text.now }
+{
+    word == text.as_bytes()
+}
+
+// With CHECK CONDITION a sense is there, and with no other status.
+fn sense_under(status: Status, bytes: &[u8]) -> Option<Option<Sense>>
+    ensures { result ≡ sense_under status bytes.now }
+{
+    match status {
+        Status::CheckCondition => Some(Some(sense_of(bytes)?)),
+        Status::Good | Status::Conflict => senseless(bytes),
+    }
+}
+
+fn senseless(bytes: &[u8]) -> Option<Option<Sense>>
+    ensures { result ≡ senseless bytes.now }
+{
+    if bytes.is_empty() { Some(None) } else { None }
+}
+
+// The sense that is written as just these bytes.
+fn sense_of(bytes: &[u8]) -> Option<Sense>
+    ensures { result ≡ sense_of bytes.now }
+{
+    let sense = decode_sense(bytes)?;
+    if bytes == encode_sense(&sense).as_slice() {
+        Some(sense)
+    } else {
+        None
+    }
+}
+
+// The bytes that the word writes, at most as many as there is room for.
+#[tactic(auto, unfolding(crate::specs::EntryWords::bytes_in))]
+fn bytes_in<const N: usize>(word: &[u8]) -> Option<ArrayVec<u8, N>>
+    ensures { option_map (λ bytes. bytes.items) result ≡ bytes_in N word.now }
+{
+    let mut bytes = ArrayVec::new();
+    if is(word, "-") {
+        return Some(bytes);
+    }
+    let mut rest = word;
+    while rest.len() >= 2 {
+        let byte = byte_in(rest[0], rest[1])?;
+        if bytes.is_full() {
+            return None;
+        }
+        bytes.push(byte);
+        rest = &rest[2..];
+    }
+    if bytes.is_empty() || !rest.is_empty() {
+        return None;
+    }
+    Some(bytes)
+}
+
+fn byte_in(high: u8, low: u8) -> Option<u8>
+    ensures { result ≡ byte_in high low }
+{
+    Some(16 * worth(high)? + worth(low)?)
+}
+
+// What a hexadecimal digit is worth, in either case of its letters.
+fn worth(digit: u8) -> Option<u8>
+    ensures value { result ≡ worth digit }
+    ensures below { IfSome result (λ n. n < 16) }
+{
+    match digit {
+        b'0'..=b'9' => Some(digit - b'0'),
+        b'a'..=b'f' => Some(digit - b'a' + 10),
+        b'A'..=b'F' => Some(digit - b'A' + 10),
+        _ => None,
+    }
+}
+
+// The number of the host or guest with this name.
+fn number_of(nexuses: &[Nexus], name: &[u8]) -> Option<u8>
+    requires { length nexuses.now ≤ 8 }
+    ensures { result ≡ number_of (names_of nexuses.now) name.now }
+{
+    let host = place_of(nexuses, name)?;
+    Some(host as u8)
+}
+
+fn place_of(nexuses: &[Nexus], name: &[u8]) -> Option<usize>
+    ensures place { result ≡ position (λ nexus. bytes_eq nexus.name.bytes name.now) nexuses.now }
+    ensures there { IfSome result (λ place. place < length nexuses.now) }
+{
+    nexuses
+        .iter()
+        .position(|nexus| nexus.name.as_str().as_bytes() == name)
+}

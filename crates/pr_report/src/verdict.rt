@@ -1,0 +1,175 @@
+//! The text of a verdict.
+
+ghost use Rattle.std.specs.Prelude.{◌≡◌, ◌∷◌, [], codes, map};
+ghost use Rattle.std.specs.Fmt.{decimal};
+ghost use Rattle.pr_roles.specs.Scenarios.{scenario_of};
+ghost use Rattle.pr_report.specs.Written.{Puts};
+ghost use Rattle.pr_report.specs.Printed.{printed};
+ghost use Rattle.pr_report.specs.PrintedLines.{class_word, line};
+ghost use Rattle.pr_report.specs.TraceText.{names_in, names_of};
+ghost use Rattle.pr_report.specs.Verdicts.{IsReason, IsVerdict, is_refusal, no_arm_words, over_budget_words, place_words, reason_words, refused_line, verdict_text};
+
+use crate::output::WriteFault;
+use crate::printing::{Word, put_line};
+use crate::trace::name_of;
+use pr_domain::Class;
+use pr_roles::{Nexus, Scenario};
+use pr_verify::Refusal;
+use std::io::Write;
+
+/// What a check of a scenario comes to, or an audit of a history of it.
+#[derive(Clone, Copy, Debug, PartialEq, Eq)]
+pub enum Verdict {
+    /// The scenario is safe.
+    Accepted,
+
+    /// A script is refused, for this reason.
+    Refused(Refusal),
+
+    /// The history is legal, and has so many entries.
+    Legal { entries: usize },
+
+    /// The entry at this place, counted from 1, is the first that isn't legal.
+    Illegal { place: usize },
+}
+
+impl Verdict {
+    /// Whether it answers no: a script is refused, or a history is illegal.
+    pub fn is_refusal(&self) -> bool
+        ensures { result ≡ is_refusal self.now }
+    {
+        match self {
+            Verdict::Accepted | Verdict::Legal { .. } => false,
+            Verdict::Refused(_) | Verdict::Illegal { .. } => true,
+        }
+    }
+}
+
+/// Writes the line of a verdict; that memory was refused is none. On a fault, what went out is a front of the line, and
+/// not all.
+pub fn write_verdict<W: Write>(
+    writer: &mut W,
+    scenario: &Scenario,
+    verdict: &Verdict,
+) -> Result<(), WriteFault>
+    requires { IsVerdict verdict.now }
+    ensures { Puts (W.contents writer.old) (W.contents writer.new) (verdict_text (names_in (scenario_of scenario.now)) verdict.now) result }
+{
+    match verdict {
+        Verdict::Accepted => put_line(writer, Word::Text(b"accepted"), &[]),
+        Verdict::Refused(refusal) => put_reason(writer, &scenario.parts().nexuses, *refusal),
+        Verdict::Legal { entries } => put_counted(writer, b"legal", *entries),
+        Verdict::Illegal { place } => put_counted(writer, b"illegal", *place),
+    }
+}
+
+// The line of a word and a number.
+#[tactic(auto, unfolding(crate::specs::Printed::printed))]
+fn put_counted<W: Write>(writer: &mut W, word: &[u8], number: usize) -> Result<(), WriteFault>
+    ensures { Puts (W.contents writer.old) (W.contents writer.new) (line word.now (decimal number ∷ [])) result }
+{
+    put_line(writer, Word::Text(word), &[Word::Number(number as u64)])
+}
+
+fn put_reason<W: Write>(
+    writer: &mut W,
+    nexuses: &[Nexus],
+    refusal: Refusal,
+) -> Result<(), WriteFault>
+    requires { IsReason refusal }
+    ensures { Puts (W.contents writer.old) (W.contents writer.new) (refused_line (reason_words (names_of nexuses.now) refusal)) result }
+{
+    match refusal {
+        Refusal::NoArm { host, line, class } => {
+            put_no_arm(writer, name_of(nexuses, usize::from(host)), line, class)
+        }
+        Refusal::OutOfRole { host, line } => {
+            put_place(
+                writer,
+                b"OutOfRole",
+                name_of(nexuses, usize::from(host)),
+                line,
+            )
+        }
+        Refusal::OverBudget { host, cost } => {
+            put_over_budget(writer, name_of(nexuses, usize::from(host)), cost)
+        }
+        Refusal::NotSound { host, line } => {
+            put_place(
+                writer,
+                b"NotSound",
+                name_of(nexuses, usize::from(host)),
+                line,
+            )
+        }
+        Refusal::Memory => unreachable!(),
+    }
+}
+
+#[tactic(auto, unfolding(crate::specs::Printed::printed))]
+fn put_no_arm<W: Write>(
+    writer: &mut W,
+    name: &[u8],
+    line: u32,
+    class: Class,
+) -> Result<(), WriteFault>
+    ensures { Puts (W.contents writer.old) (W.contents writer.new) (refused_line (no_arm_words name.now line (class_word class))) result }
+{
+    put_refused(
+        writer,
+        &[
+            Word::Text(b"NoArm"),
+            Word::Text(b"host"),
+            Word::Text(name),
+            Word::Text(b"line"),
+            Word::Number(u64::from(line)),
+            Word::Text(b"reply"),
+            Word::Class(class),
+        ],
+    )
+}
+
+#[tactic(auto, unfolding(crate::specs::Printed::printed))]
+fn put_place<'a, W: Write>(
+    writer: &mut W,
+    reason: &'a [u8],
+    name: &'a [u8],
+    line: u32,
+) -> Result<(), WriteFault>
+    ensures { Puts (W.contents writer.old) (W.contents writer.new) (refused_line (place_words reason.now name.now line)) result }
+{
+    put_refused(
+        writer,
+        &[
+            Word::Text(reason),
+            Word::Text(b"host"),
+            Word::Text(name),
+            Word::Text(b"line"),
+            Word::Number(u64::from(line)),
+        ],
+    )
+}
+
+#[tactic(auto, unfolding(crate::specs::Printed::printed))]
+fn put_over_budget<W: Write>(writer: &mut W, name: &[u8], cost: u64) -> Result<(), WriteFault>
+    ensures { Puts (W.contents writer.old) (W.contents writer.new) (refused_line (over_budget_words name.now cost)) result }
+{
+    put_refused(
+        writer,
+        &[
+            Word::Text(b"OverBudget"),
+            Word::Text(b"host"),
+            Word::Text(name),
+            Word::Text(b"cost"),
+            Word::Number(cost),
+        ],
+    )
+}
+
+// The line with these words after the first.
+#[tactic(auto, unfolding(crate::specs::Printed::printed))]
+fn put_refused<W: Write>(writer: &mut W, words: &[Word<'_>]) -> Result<(), WriteFault>
+    ensures { Puts (W.contents writer.old) (W.contents writer.new) (refused_line (map printed words.now)) result }
+{
+    put_line(writer, Word::Text(b"refused"), words)
+}

@@ -1,0 +1,128 @@
+-- What the views lack of the states to which a host's own command leads, by the outcomes of the command.
+use Rattle.std.proofs.Common.{◌≡◌, ℕ, List, length, map, Option, Some, None, refl, sym, ap, ◌∙◌, subst}
+use Rattle.std.specs.List.{slice_get, Contains}
+use Rattle.std.specs.Option.{option_and_then}
+use Rattle.std.proofs.lemmas.Option.{same_Some}
+use Rattle.pr_cdb.specs.declared.reply.Reply.{Reply}
+use Rattle.pr_cdb.specs.declared.wire.Request.TheVariants.{Plain}
+use Rattle.pr_unit.specs.UnitStates.{UnitState}
+use Rattle.pr_unit.specs.Steps.{Step}
+use Rattle.pr_script.specs.declared.script.Test.{Test}
+use Rattle.pr_roles.specs.Scenarios.{Scenario}
+use Rattle.pr_sets.specs.Numbers.{Numbers}
+use Rattle.pr_views.specs.declared.view.ViewOf.{ViewOf}
+use Rattle.pr_views.specs.Possibilities.{IsSo}
+use Rattle.pr_views.specs.Views.{View, Shows, Fits}
+use Rattle.pr_views.specs.Rooms.{view_of}
+use Rattle.pr_domain.specs.declared.landing.Landing.{Landing}
+use Rattle.pr_domain.specs.declared.landing.Landing.TheVariants.{Arm, NoArm}
+use Rattle.pr_domain.specs.Landings.{IsLanding}
+use Rattle.pr_domain.specs.Outcomes.{Outcome, IsExpected, AreOutcomes}
+use Rattle.pr_verify.specs.Places.{Place}
+use Rattle.pr_verify.specs.Outlines.{Outline, view_at, IsShownAt, ComesTo}
+use Rattle.pr_verify.specs.inside.Least.{Among, EachOf, IsLeastAmong}
+use Rattle.pr_verify.specs.inside.Lacking.{HasAll, Lacks, IsFirstLacking, HasView, lines_after, HasNext, LacksNext}
+use Rattle.pr_verify.proofs.Leasts.{least_as, each_listed, listed_among}
+use Rattle.pr_verify.proofs.Mapped.{mapped, unmapped}
+use Rattle.pr_verify.proofs.Missing.{IsExact, lacks_from_missing, shown_by_within}
+use Rattle.pr_verify.proofs.Begun.{AreScoped}
+use Rattle.pr_verify.proofs.Classes.{one_class}
+use Rattle.pr_verify.proofs.Fitted.{IsHere, shown_here, shown_there, step_own, step_host}
+
+-- a reply lands in one way
+one_landing : (tests : List Test) (r : Reply) (a b : Landing) → IsLanding tests r a → IsLanding tests r b → a ≡ b
+one_landing tests r (Arm m) (Arm n) is also = ap (λ k. Arm k) (same_Some m n (sym is ∙ also))
+one_landing tests r (Arm m) (NoArm c) is also = let bad : Some m ≡ None = sym is ∙ also.0 in cc
+one_landing tests r (NoArm c) (Arm n) is also = let bad : None ≡ Some n = sym is.0 ∙ also in cc
+one_landing tests r (NoArm c) (NoArm d) is also = ap (λ k. NoArm k) (one_class r c d is.1 also.1)
+
+-- the owner's command leads to this state from one that the view shows, and its reply lands so
+record LeadsTo (v : View) (p : Place) (l : Landing) (after : UnitState) : Type 0 where
+  from : UnitState
+  shown : Shows v from
+  reply : Reply
+  step : Step from v.scope.own (Plain p.command) reply after
+  landing : IsLanding p.tests reply l
+
+module _ (s : Scenario) (o : Outline) (p : Place) (v : View) (here : IsHere o p v) (scopes : AreScoped o v.scope)
+    {S : Type 0} (members : S → Numbers) (own : ℕ) (xs : List (Landing × ViewOf S)) (are : AreOutcomes v p.command p.tests (map (λ x. (x.0, view_of members own x.1)) xs))
+    (fits : (x : Landing × ViewOf S) → Contains xs x → Fits (view_of members own x.1) × ((view_of members own x.1).scope ≡ v.scope)) where
+  -- the outcome's view is within that at the line, if it leads there; or it is not
+  abbrev pub HasOf : Landing × ViewOf S → ℕ → Type 0
+  HasOf x line = HasNext o (lines_after p.next x.0) (view_of members own x.1) line
+
+  abbrev pub LacksOf : Landing × ViewOf S → ℕ → Type 0
+  LacksOf x line = LacksNext o (lines_after p.next x.0) (view_of members own x.1) line
+
+  found : (x : Landing × ViewOf S) → Contains xs x → Contains {X = Outcome} (map (λ y. (y.0, view_of members own y.1)) xs) (x.0, view_of members own x.1)
+  found x there = mapped (λ y. (y.0, view_of members own y.1)) xs x there
+
+  exact : (x : Landing × ViewOf S) → Contains xs x → IsExact (LeadsTo v p x.0) (view_of members own x.1)
+  exact x there = record {
+    fits = (fits x there).0;
+    cover = cover;
+    only = λ i is. let lands = are.only (x.0, view_of members own x.1) i (found x there) is in (
+      lands.after,
+      record { from = lands.from; shown = lands.shown; reply = lands.reply; step = lands.step; landing = lands.landing },
+      subst (λ t. IsSo t lands.after i) (sym (fits x there).1) lands.is,
+    );
+    some = let come = are.come (x.0, view_of members own x.1) (found x there) in
+        let lands = are.only (x.0, view_of members own x.1) come.0 (found x there) come.1 in
+        (lands.after, record { from = lands.from; shown = lands.shown; reply = lands.reply; step = lands.step; landing = lands.landing });
+  }
+    where
+      cover : (u : UnitState) → LeadsTo v p x.0 u → Shows (view_of members own x.1) u
+      cover u leads =
+          let one = are.cover leads.from leads.reply u leads.shown leads.step in
+          let same = one_landing p.tests leads.reply one.outcome.0 x.0 one.landing leads.landing in
+          let listed = subst (λ l. Contains {X = Outcome} (map (λ y. (y.0, view_of members own y.1)) xs) (l, one.outcome.1)) same one.listed in
+          subst (λ w. Shows w u) (are.once x.0 one.outcome.1 (view_of members own x.1) listed (found x there)) one.shown
+
+  there_next : (x : Landing × ViewOf S) (line : ℕ) (l : Landing) (next : Option (List ℕ)) → Contains xs x → x.0 ≡ l → lines_after p.next l ≡ next → LacksNext o next (view_of members own x.1) line → Lacks o (ComesTo o p) line
+  there_next x line l None there is lines lacks = absurd lacks
+  there_next x line (NoArm class) (Some next) there is lines lacks = let bad : None ≡ Some next = lines in cc
+  there_next x line (Arm n) (Some next) there is lines lacks =
+      let one = lacks_from_missing (LeadsTo v p x.0) (view_of members own x.1) (view_at o.views line) (exact x there) (λ w at. scopes line w at ∙ sym (fits x there).1) lacks.missing in
+      let first = subst (IsLanding p.tests one.1.reply) is one.1.landing in
+      record {
+        unit = one.0;
+        asks = record {
+          from = one.1.from;
+          shown = shown_there s o p v here one.1.from one.1.shown;
+          reply = one.1.reply;
+          step = step_host s o p v here one.1.from one.1.reply one.0 one.1.step;
+          next = next;
+          follows = ap (option_and_then (slice_get p.next)) first ∙ lines;
+          there = lacks.listed;
+        };
+        missing = one.2;
+      }
+
+  -- each state to which the command leads is one of an outcome
+  all_shown : (line : ℕ) → EachOf (length xs) xs (λ x. HasOf x line) → HasAll o (ComesTo o p) line
+  all_shown line each u asks = at one.outcome.0 refl one.landing
+    where
+      one : IsExpected (map (λ y. (y.0, view_of members own y.1)) xs) p.tests asks.reply u
+      one = are.cover asks.from asks.reply u (shown_here s o p v here asks.from asks.shown) (step_own s o p v here asks.from asks.reply u asks.step)
+
+      at : (l : Landing) → one.outcome.0 ≡ l → IsLanding p.tests asks.reply l → IsShownAt o line u
+      at (NoArm class) is ends = let bad : None ≡ Some asks.next = ap (option_and_then (slice_get p.next)) (sym ends.0) ∙ asks.follows in cc
+      at (Arm n) is first =
+          let listed = unmapped (λ y. (y.0, view_of members own y.1)) xs one.outcome one.listed in
+          let x = listed.0 in
+          let same : x.0 ≡ Arm n = ap (λ (y : Outcome). y.0) listed.2 ∙ is in
+          let lines : lines_after p.next x.0 ≡ Some asks.next = ap (lines_after p.next) same ∙ ap (option_and_then (slice_get p.next)) (sym first) ∙ asks.follows in
+          let leads : LeadsTo v p x.0 u = record {
+            from = asks.from;
+            shown = shown_here s o p v here asks.from asks.shown;
+            reply = asks.reply;
+            step = step_own s o p v here asks.from asks.reply u asks.step;
+            landing = subst (IsLanding p.tests asks.reply) (sym same) first;
+          } in
+          let has : HasView o asks.next (view_of members own x.1) line = subst (λ next. HasNext o next (view_of members own x.1) line) lines (each_listed (λ y. HasOf y line) xs each x listed.1) in
+          shown_by_within (LeadsTo v p x.0) (view_of members own x.1) (view_at o.views line) u (exact x listed.1) (λ w at. scopes line w at ∙ sym (fits x listed.1).1) leads (has asks.there)
+
+  pub lacks_next : (first : Option ℕ) → IsLeastAmong (length xs) xs HasOf LacksOf first → IsFirstLacking o (ComesTo o p) first
+  lacks_next first =
+      least_as (λ line. EachOf (length xs) xs (λ x. HasOf x line)) (λ line. Among (length xs) xs (λ x. LacksOf x line)) (HasAll o (ComesTo o p)) (Lacks o (ComesTo o p)) first
+      all_shown (λ line one. there_next one.element line one.element.0 (lines_after p.next one.element.0) (listed_among (λ x. LacksOf x line) xs one) refl refl one.is)

@@ -1,0 +1,10 @@
+use Rattle.std.proofs.Common.{length, refl}
+use Rattle.std.proofs.lemmas.Option.{slice_get_read}
+use Rattle.pr_verify.proofs.answers.Questions+ViewOf+S.place_of.Goals as goal
+
+pub returns-then-are_same : goal.returns-then-are_same
+returns-then-are_same g c = record {
+  answer = c.index-known-number.result;
+  there = slice_get_read c.args.known.now (length c.args.known.now) c.loop-number.number c.index-known-number.result refl c.loop-number-test.true c.index-known-number.is;
+  same = c.are_same.ensures c.if-are_same.true;
+}

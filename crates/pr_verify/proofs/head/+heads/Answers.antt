@@ -1,0 +1,13 @@
+-- What comes first of a repeat that is run.
+use Rattle.std.proofs.Common.{◌∙◌, ap, sym}
+use Rattle.pr_script.specs.Trees.{statement_of, statements_in, script_of}
+use Rattle.pr_script.proofs.Equations.{tree_repeat}
+use Rattle.pr_verify.specs.Places.{out_of, head_of, head_of_all}
+use Rattle.pr_verify.proofs.Listed.{head_of-repeats}
+use Rattle.pr_verify.proofs.head.+heads.Goals as goal
+
+pub head_at-returns-else-count-eq0 : goal.head_at-returns-else-count-eq0
+head_at-returns-else-count-eq0 t c =
+    let is = ap statement_of c.in-Repeat.is ∙ tree_repeat c.in-Repeat.count c.in-Repeat.body in
+    c.out_of_repeat.ensures ∙ ap out_of (c.head_in.ensures ∙ ap (λ b. head_of_all (statements_in b)) c.deref.ensures.value)
+    ∙ sym (ap head_of is ∙ head_of-repeats c.in-Repeat.count (script_of c.in-Repeat.body) c.if-count-eq0.false)

@@ -1,0 +1,34 @@
+use Rattle.std.proofs.Common.{◌≡◌, ◌+◌, length, refl, sym, ◌∙◌, subst, arith}
+use Rattle.pr_views.specs.Rooms.{view_of}
+use Rattle.pr_verify.specs.Rooms.{outline_of}
+use Rattle.pr_verify.specs.inside.Least.{IsLeastAmong}
+use Rattle.pr_verify.proofs.Leasts.{least_none}
+use Rattle.pr_verify.proofs.Lacked.{HasAt, LacksAt, missing_more, missing_same, missing_all}
+use Rattle.pr_verify.proofs.lacking.first_lacking.Goals.{then-not-has_within, else-not-has_within}
+use Rattle.pr_verify.proofs.lacking.first_lacking.Goals as goal
+
+pub loop-line-init : goal.loop-line-init
+loop-line-init g c =
+    let members = g.S.ViewSet.members in
+    let o = outline_of members c.args.outline.now in
+    let w = view_of members c.args.outline.now.host c.args.known.now in
+    least_none (HasAt o w c.args.lines.now) (LacksAt o w c.args.lines.now) c.args.lines.now
+
+pub loop-line-preserved : goal.loop-line-preserved
+loop-line-preserved g c =
+    let members = g.S.ViewSet.members in
+    let o = outline_of members c.args.outline.now in
+    let v = view_of members c.args.outline.now.host c.args.known.now in
+    let n = c.loop-line.line-index in
+    elim c.if-not-has_within.branch [
+      | then-not-has_within w ↦ subst (IsLeastAmong (n + 1) c.args.lines.now (HasAt o v c.args.lines.now) (LacksAt o v c.args.lines.now)) (sym w.least-first.ensures ∙ sym w.first-is)
+          (missing_more o v c.args.lines.now n _ c.loop-line.first c.has_within.result c.loop-line-test.true refl c.has_within.ensures w.if-not-has_within.true c.loop-line.invariant)
+      | else-not-has_within w ↦ subst (IsLeastAmong (n + 1) c.args.lines.now (HasAt o v c.args.lines.now) (LacksAt o v c.args.lines.now)) (sym w.first-is)
+          (missing_same o v c.args.lines.now n _ c.loop-line.first c.has_within.result c.loop-line-test.true refl c.has_within.ensures w.if-not-has_within.false c.loop-line.invariant)
+    ]
+
+pub returns : goal.returns
+returns g c =
+    let members = g.S.ViewSet.members in
+    let whole : c.loop-line.line-index ≡ length c.args.lines.now = omega arith in
+    missing_all (outline_of members c.args.outline.now) (view_of members c.args.outline.now.host c.args.known.now) c.args.lines.now c.loop-line.line-index c.loop-line.first whole c.loop-line.invariant

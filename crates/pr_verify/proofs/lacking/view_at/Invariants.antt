@@ -1,0 +1,6 @@
+use Rattle.pr_views.specs.Rooms.{view_of}
+use Rattle.pr_verify.proofs.Lookups.{AreOther}
+use Rattle.pr_verify.proofs.lacking.view_at.Given as goal
+
+abbrev pub invariant-loop-at : goal.invariant-loop-at
+invariant-loop-at g l = AreOther (view_of g.S.ViewSet.members l.outline.host) l.at-items l.line l.at-index

@@ -1,0 +1,9 @@
+use Rattle.pr_roles.specs.Scenarios.{scenario_of}
+use Rattle.pr_views.specs.Rooms.{view_of}
+use Rattle.pr_domain.specs.Interference.{IsClosed}
+use Rattle.pr_verify.specs.inside.Least.{EachOf}
+use Rattle.pr_verify.proofs.others.lacking_by_others.Given as goal
+
+abbrev pub invariant-loop-i : goal.invariant-loop-i
+invariant-loop-i g l =
+    EachOf l.i l.outline.views.items (λ e. IsClosed (scenario_of l.scenario) (view_of g.S.ViewSet.members l.outline.host e.1))

@@ -1,0 +1,15 @@
+-- The fields of what the listed places send.
+use Rattle.std.proofs.Common.{◌∙◌, ◌++◌, [], ap, sym, subst, map}
+use Rattle.pr_script.specs.Trees.{script_of, statements_in}
+use Rattle.pr_verify.specs.Places.{places, places_of}
+use Rattle.pr_verify.specs.inside.Listing.{place_of, AreInRange}
+use Rattle.pr_verify.proofs.Listed.{none_in_range, fields_of}
+use Rattle.pr_verify.proofs.places.spots.Goals as goal
+
+pub returns-clause-fields : goal.returns-clause-fields
+returns-clause-fields c =
+    let listed = c.in_ok-list.ensures.listed
+    ∙ ap (λ spots. map place_of spots ++ places (statements_in c.deref.result.now) [] []) c.new-spots.ensures.items
+    ∙ ap (λ b. places (statements_in b) [] []) c.deref.ensures.value in
+    fields_of c.list.new.spots.items (places_of (script_of c.args.script.now)) listed
+    (c.in_ok-list.ensures.fields (subst AreInRange (sym c.new-spots.ensures.items) none_in_range))

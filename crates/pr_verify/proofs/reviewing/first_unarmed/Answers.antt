@@ -1,0 +1,24 @@
+use Rattle.std.proofs.Common.{◌≡◌, ◌+◌, length, Some, sym, ap, ◌∙◌, subst, arith}
+use Rattle.pr_verify.specs.inside.Reviewing.{IsFirstUnarmed}
+use Rattle.pr_verify.proofs.Classes.{unarmed_none, unarmed_same, unarmed_more}
+use Rattle.pr_verify.proofs.reviewing.first_unarmed.Goals.{in-NoArm, in_default}
+use Rattle.pr_verify.proofs.reviewing.first_unarmed.Goals as goal
+
+pub loop-landing-init : goal.loop-landing-init
+loop-landing-init g c = unarmed_none c.args.outcomes.now
+
+pub loop-landing-preserved : goal.loop-landing-preserved
+loop-landing-preserved g c =
+    let xs = c.args.outcomes.now in
+    let n = c.loop-landing.landing-index in
+    let x = c.loop-landing-item.result in
+    elim c.match-landing.branch [
+      | in-NoArm w ↦ subst (IsFirstUnarmed (n + 1) xs) (ap (λ k. Some k) (sym w.earlier.ensures) ∙ sym w.first-is)
+          (unarmed_more xs n x c.loop-landing.first w.in-NoArm.class c.loop-landing-test.true c.loop-landing-item.is w.in-NoArm.is c.loop-landing.invariant)
+      | in_default w ↦ subst (IsFirstUnarmed (n + 1) xs) (sym w.first-is) (unarmed_same xs n x c.loop-landing.first c.loop-landing-test.true c.loop-landing-item.is w.in_default.not-NoArm c.loop-landing.invariant)
+    ]
+
+pub returns : goal.returns
+returns g c =
+    let whole : c.loop-landing.landing-index ≡ length c.args.outcomes.now = omega arith in
+    subst (λ n. IsFirstUnarmed n c.args.outcomes.now c.loop-landing.first) whole c.loop-landing.invariant

@@ -1,0 +1,5 @@
+use Rattle.pr_verify.specs.inside.Reviewing.{IsFirstUnarmed}
+use Rattle.pr_verify.proofs.reviewing.first_unarmed.Given as goal
+
+abbrev pub invariant-loop-landing : goal.invariant-loop-landing
+invariant-loop-landing g l = IsFirstUnarmed l.landing-index l.outcomes l.first

@@ -1,0 +1,12 @@
+use Rattle.std.proofs.Common.{map}
+use Rattle.pr_views.specs.Rooms.{view_of}
+use Rattle.pr_verify.specs.Rooms.{outline_of}
+use Rattle.pr_verify.specs.inside.Least.{IsLeastAmong}
+use Rattle.pr_verify.specs.inside.Lacking.{lines_after, HasNext, LacksNext}
+use Rattle.pr_verify.proofs.reviewing.lacking_after.Given as goal
+
+abbrev pub invariant-loop-landing : goal.invariant-loop-landing
+invariant-loop-landing g l =
+    let o = outline_of g.S.ViewSet.members l.outline in
+    let next = map (λ lines. lines.items) l.next in
+    IsLeastAmong l.landing-index l.outcomes (λ x. HasNext o (lines_after next x.0) (view_of g.S.ViewSet.members l.outline.host x.1)) (λ x. LacksNext o (lines_after next x.0) (view_of g.S.ViewSet.members l.outline.host x.1)) l.first

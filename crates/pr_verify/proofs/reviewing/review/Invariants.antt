@@ -1,0 +1,12 @@
+use Rattle.pr_roles.specs.Scenarios.{scenario_of}
+use Rattle.pr_verify.specs.Rooms.{outline_of}
+use Rattle.pr_verify.specs.inside.Asked.{AreAnswersTo}
+use Rattle.pr_verify.specs.inside.Reviewing.{IsLackingOfSends, IsFirstMisfit}
+use Rattle.pr_verify.proofs.reviewing.review.Given as goal
+
+abbrev pub invariant-loop-i : goal.invariant-loop-i
+invariant-loop-i g l = record {
+  lacking : IsLackingOfSends (outline_of g.S.ViewSet.members l.outline) l.i l.spots l.lacking;
+  misfit : IsFirstMisfit (scenario_of l.scenario) (outline_of g.S.ViewSet.members l.outline) l.i l.spots l.misfit;
+  known : AreAnswersTo g.S.ViewSet.members g.S.ViewSet.room l.questions l.known.items;
+}

@@ -1,0 +1,6 @@
+pub mod Places
+pub mod Outlines
+pub mod Refusals
+pub mod Rooms
+pub mod Laws
+pub mod inside

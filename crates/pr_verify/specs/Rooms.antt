@@ -1,0 +1,23 @@
+-- The place and the outline that values of the program are.
+use Rattle.std.specs.Prelude.{◌≡◌, ℕ, length, map, Option, Some, None}
+use Rattle.std.specs.List.{All}
+use Rattle.pr_sets.specs.Numbers.{Numbers}
+use Rattle.pr_views.specs.declared.view.ViewOf.{ViewOf}
+use Rattle.pr_views.specs.Rooms.{view_of, IsMade}
+use Rattle.pr_roles.specs.Scenarios.{Scenario, Task, Scripted, Planned}
+use Rattle.pr_verify.specs.declared.outline.OutlineBy.{OutlineBy}
+use Rattle.pr_verify.specs.Outlines.{Outline}
+
+-- the outline, by what the members of each set are
+abbrev pub outline_of : {S : Type 0} → (S → Numbers) → OutlineBy (ViewOf S) → Outline
+outline_of members o = record { host = o.host; views = map (λ e. (e.0, view_of members o.host e.1)) o.views.items }
+
+-- the views can be ones of this scenario: they have its keys, and speak of as many hosts and guests
+abbrev pub IsMadeFor : {S : Type 0} → (S → ℕ) → Scenario → OutlineBy (ViewOf S) → Type 0
+IsMadeFor room s o = All (λ e. IsMade room e.1 × (e.1.keys.items ≡ s.keys) × (e.1.hosts ≡ length s.nexuses)) o.views.items
+
+-- there is a script
+abbrev pub IsScripted : Option Task → Type 0
+IsScripted None = ⊥
+IsScripted (Some (Scripted script budget)) = Unit {0}
+IsScripted (Some (Planned commands)) = ⊥

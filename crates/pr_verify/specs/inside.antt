@@ -1,0 +1,7 @@
+pub mod Listing
+pub mod Least
+pub mod Lacking
+pub mod Reviewing
+pub mod Inferring
+pub mod Known
+pub mod Asked

@@ -1,0 +1,76 @@
+-- What the views of an outline have and lack, by where it comes from.
+use Rattle.std.specs.Prelude.{◌≢◌, ℕ, ◌<◌, List, length, Option, Some, None}
+use Rattle.std.specs.List.{slice_get, Contains}
+use Rattle.pr_unit.specs.UnitStates.{UnitState}
+use Rattle.pr_roles.specs.Scenarios.{Scenario, role}
+use Rattle.pr_views.specs.Views.{View, Shows, Within}
+use Rattle.pr_domain.specs.declared.landing.Landing.{Landing}
+use Rattle.pr_domain.specs.declared.landing.Landing.TheVariants.{Arm, NoArm}
+use Rattle.pr_domain.specs.Interference.{IsDone}
+use Rattle.pr_verify.specs.Outlines.{Outline, view_at, IsShownAt}
+use Rattle.pr_verify.specs.inside.Least.{IsLeast}
+
+-- ---- states
+
+-- the view at the line shows each state of this kind
+abbrev pub HasAll : Outline → (ℕ → UnitState → Type 0) → ℕ → Type 0
+HasAll o asked line = (u : UnitState) → asked line u → IsShownAt o line u
+
+-- it lacks one
+pub record Lacks (o : Outline) (asked : ℕ → UnitState → Type 0) (line : ℕ) : Type 0 where
+  pub unit : UnitState
+  pub asks : asked line unit
+  pub missing : ¬ IsShownAt o line unit
+
+abbrev pub IsFirstLacking : Outline → (ℕ → UnitState → Type 0) → Option ℕ → Type 0
+IsFirstLacking o asked = IsLeast (HasAll o asked) (Lacks o asked)
+
+-- ---- views
+
+-- there is a view, and what is possible in the first is possible in it
+abbrev pub IsWithinIn : View → Option View → Type 0
+IsWithinIn w None = ⊥
+IsWithinIn w (Some v) = Within w v
+
+-- if it is one of these lines, then what is possible in w is so in the view there
+abbrev pub HasView : Outline → List ℕ → View → ℕ → Type 0
+HasView o lines w line = Contains lines line → IsWithinIn w (view_at o.views line)
+
+-- it is one of them, and there is no such view
+pub record LacksView (o : Outline) (lines : List ℕ) (w : View) (line : ℕ) : Type 0 where
+  pub listed : Contains lines line
+  pub missing : ¬ IsWithinIn w (view_at o.views line)
+
+-- the lines at which the script may be ready after a landing
+abbrev pub lines_after : List (List ℕ) → Landing → Option (List ℕ)
+lines_after next (Arm n) = slice_get next n
+lines_after next (NoArm class) = None
+
+-- of these lines, if there are any
+abbrev pub HasNext : Outline → Option (List ℕ) → View → ℕ → Type 0
+HasNext o None w line = Unit {0}
+HasNext o (Some lines) w line = HasView o lines w line
+
+abbrev pub LacksNext : Outline → Option (List ℕ) → View → ℕ → Type 0
+LacksNext o None w line = ⊥
+LacksNext o (Some lines) w line = LacksView o lines w line
+
+-- ---- others
+
+-- from a state that the view shows, a command of another that ends GOOD and is permitted leads to one that it does not show
+pub record IsOpen (s : Scenario) (v : View) : Type 0 where
+  pub from : UnitState
+  pub shown : Shows v from
+  pub other : ℕ
+  pub there : other < length s.nexuses
+  pub another : other ≢ v.scope.own
+  pub after : UnitState
+  pub done : IsDone (role s other) other from after
+  pub missing : ¬ Shows v after
+
+-- the same is possible in the view as in one of these
+pub record IsSameAsOne (v : View) (views : List View) : Type 0 where
+  pub view : View
+  pub listed : Contains views view
+  pub there : Within v view
+  pub back : Within view v

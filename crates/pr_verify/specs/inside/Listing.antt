@@ -1,0 +1,26 @@
+-- The places of a script, as the code lists them.
+use Rattle.std.specs.Prelude.{◌≡◌, ℕ, ◌≤◌, true, IsTrue, List, length, map}
+use Rattle.std.specs.List.{All, Contains}
+use Rattle.pr_cdb.specs.Requests.{Fits}
+use Rattle.pr_script.specs.Grammar.{is_written, test_fits}
+use Rattle.pr_verify.specs.declared.places.Spot.{Spot}
+use Rattle.pr_verify.specs.Places.{Place}
+
+abbrev pub place_of : Spot → Place
+place_of p = record { line = p.line; command = p.command; tests = p.tests.items; next = map (λ lines. lines.items) p.next.items }
+
+-- the fields of what they send are in the ranges of their types
+unfoldable pub AreInRange : List Spot → Type 0
+AreInRange spots = All (λ s. Fits s.command) spots
+
+-- It can stand in a text with these keys: its command and the tests of its arms can be written, there are at most 16 of
+-- them, and each has its lines.
+pub record IsPlaceWritten (keys : List ℕ) (p : Place) : Type 0 where
+  pub command : IsTrue (is_written keys p.command)
+  pub tests : All (λ t. test_fits keys p.command t ≡ true) p.tests
+  pub few : length p.tests ≤ 16
+  pub next : length p.next ≡ length p.tests
+
+-- each of these lines is one of those
+abbrev pub AreAmong : List ℕ → List ℕ → Type 0
+AreAmong lines all = (n : ℕ) → Contains lines n → Contains all n

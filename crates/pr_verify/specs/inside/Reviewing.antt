@@ -1,0 +1,78 @@
+-- What is found at the sends of a script, one after another.
+use Rattle.std.specs.Prelude.{◌≡◌, ℕ, ◌<◌, ◌≤◌, nat_le, if◌then◌else◌, List, length, Option, Some, None, slice_index_or}
+use Rattle.pr_roles.specs.Scenarios.{Scenario}
+use Rattle.pr_views.specs.declared.view.ViewOf.{ViewOf}
+use Rattle.pr_views.specs.Rooms.{IsMade}
+use Rattle.pr_domain.specs.declared.landing.Landing.{Landing}
+use Rattle.pr_domain.specs.declared.landing.Landing.TheVariants as landing
+use Rattle.pr_domain.specs.declared.landing.Class.{Class}
+use Rattle.pr_verify.specs.declared.places.Spot.{Spot}
+use Rattle.pr_verify.specs.declared.refusal.Refusal.{Refusal}
+use Rattle.pr_verify.specs.declared.refusal.Refusal.TheVariants.{NoArm, OutOfRole, OverBudget, Memory, NotSound}
+use Rattle.pr_verify.specs.Places.{Place}
+use Rattle.pr_verify.specs.Outlines.{Outline, ComesTo, KeepsToRole}
+use Rattle.pr_verify.specs.Refusals.{class_number, FitsAt, BreaksRole, LacksArmFirst}
+use Rattle.pr_verify.specs.inside.Least.{Among, EachOf, IsLeastAmong}
+use Rattle.pr_verify.specs.inside.Lacking.{HasAll, Lacks}
+use Rattle.pr_verify.specs.inside.Listing.{place_of}
+
+-- the view can be one of this scenario
+pub record IsMadeAs {S : Type 0} (room : S → ℕ) (s : Scenario) (v : ViewOf S) : Type 0 where
+  pub made : IsMade room v
+  pub keys : v.keys.items ≡ s.keys
+  pub hosts : v.hosts ≡ length s.nexuses
+
+-- ---- what the views lack
+
+-- the first line at which a view lacks a state to which one of the first n sends leads
+abbrev pub IsLackingOfSends : Outline → ℕ → List Spot → Option ℕ → Type 0
+IsLackingOfSends o n spots = IsLeastAmong n spots (λ p. HasAll o (ComesTo o (place_of p))) (λ p. Lacks o (ComesTo o (place_of p)))
+
+-- ---- a place that does not fit
+
+-- the place does not fit in the way that the refusal says
+abbrev pub IsReason : Scenario → Outline → Place → Refusal → Type 0
+IsReason s o p (NoArm host line class) = (host ≡ o.host) × (line ≡ p.line) × KeepsToRole s o p × LacksArmFirst o p class
+IsReason s o p (OutOfRole host line) = (host ≡ o.host) × (line ≡ p.line) × BreaksRole s o p
+IsReason s o p (OverBudget host cost) = ⊥
+IsReason s o p Memory = ⊥
+IsReason s o p (NotSound host line) = ⊥
+
+-- the place fits, or this is how it does not
+abbrev pub IsMisfit : Scenario → Outline → Place → Option Refusal → Type 0
+IsMisfit s o p None = FitsAt s o p
+IsMisfit s o p (Some refusal) = IsReason s o p refusal
+
+-- the first of the sends that does not fit, and how it does not
+pub record HasMisfit (s : Scenario) (o : Outline) (n : ℕ) (spots : List Spot) (refusal : Refusal) : Type 0 where
+  pub spot : Spot
+  pub index : ℕ
+  pub below : index < n
+  pub there : slice_index_or spots index spot ≡ spot
+  pub reason : IsReason s o (place_of spot) refusal
+  pub first : EachOf index spots (λ p. FitsAt s o (place_of p))
+
+-- of the first n sends
+abbrev pub IsFirstMisfit : Scenario → Outline → ℕ → List Spot → Option Refusal → Type 0
+IsFirstMisfit s o n spots None = EachOf n spots (λ p. FitsAt s o (place_of p))
+IsFirstMisfit s o n spots (Some refusal) = HasMisfit s o n spots refusal
+
+-- ---- classes without an arm
+
+-- one of the first n outcomes lands in no arm, with a reply of this class
+abbrev pub IsUnarmed : {S : Type 0} → ℕ → List (Landing × ViewOf S) → Class → Type 0
+IsUnarmed n outcomes class = Among n outcomes (λ o. o.0 ≡ landing.NoArm class)
+
+pub record IsFirstClass {S : Type 0} (n : ℕ) (outcomes : List (Landing × ViewOf S)) (class : Class) : Type 0 where
+  pub is : IsUnarmed n outcomes class
+  pub first : (other : Class) → IsUnarmed n outcomes other → class_number class ≤ class_number other
+
+-- the first class by number with which one lands in no arm, if there is one
+abbrev pub IsFirstUnarmed : {S : Type 0} → ℕ → List (Landing × ViewOf S) → Option Class → Type 0
+IsFirstUnarmed n outcomes None = (class : Class) → IsUnarmed n outcomes class → ⊥
+IsFirstUnarmed n outcomes (Some class) = IsFirstClass n outcomes class
+
+-- the one that comes first of two classes, where both are there
+abbrev pub earlier : Option Class → Class → Class
+earlier None class = class
+earlier (Some first) class = if nat_le (class_number first) (class_number class) then first else class

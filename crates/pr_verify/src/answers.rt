@@ -1,0 +1,80 @@
+//! What the sends of a script come to in the views of an outline, where equal questions are asked once.
+
+ghost use Rattle.std.specs.Prelude.{◌≡◌, ◌<◌, length, IsTrue, IfOk, IfSome, OnOk};
+ghost use Rattle.std.specs.List.{All};
+ghost use Rattle.pr_verify.specs.inside.Asked.{AreAsked, IsSameQuestion, AreAnswersTo, IsAskedBefore, IsAnsweredAt};
+
+use crate::known::{Answer, ask_the_same};
+use crate::outline::OutlineBy;
+use crate::places::Spot;
+use pr_domain::outcomes;
+use pr_sets::ViewSet;
+use pr_views::ViewOf;
+use std::alloc::{AllocError, Global};
+
+/// The sends of a script, and the outline that has a view for each.
+#[derive(Drop)]
+pub(crate) struct Questions<'a, V> {
+    pub(crate) outline: &'a OutlineBy<V>,
+    pub(crate) spots: &'a [Spot],
+}
+
+impl<S: ViewSet> Questions<'_, ViewOf<S>> {
+    // Whether the two places ask the same in views with the same possibilities. Few sends are of one command, so commands
+    // are compared first.
+    fn are_same(&self, place: usize, other: usize) -> bool
+        requires asked { AreAsked S.room self.now }
+        requires place { place < length self.now.spots.now }
+        requires other { other < length self.now.spots.now }
+        ensures { IsTrue result → IsSameQuestion S.members self.now place other }
+    {
+        if !ask_the_same(&self.spots[place], &self.spots[other]) {
+            return false;
+        }
+        let view = &self.outline.views[place].1;
+        let another = &self.outline.views[other].1;
+        view.within(another) && another.within(view)
+    }
+
+    // Where an equal question was answered.
+    fn place_of(&self, known: &[Answer<ViewOf<S>>], place: usize) -> Option<usize>
+        requires asked { AreAsked S.room self.now }
+        requires there { place < length self.now.spots.now }
+        requires known { All (λ a. a.spot < length self.now.spots.now) known.now }
+        ensures { IfSome result (IsAskedBefore S.members self.now place known.now) }
+    {
+        for (number, answer) in known.iter().enumerate() {
+            if self.are_same(answer.spot, place) {
+                return Some(number);
+            }
+        }
+        None
+    }
+
+    /// What the send of this place comes to in the view there: where the answer stands.
+    pub(crate) fn answer(
+        &self,
+        alloc: Global,
+        known: &mut Vec<Answer<ViewOf<S>>>,
+        place: usize,
+    ) -> Result<usize, AllocError>
+        requires asked { AreAsked S.room self.now }
+        requires there { place < length self.now.spots.now }
+        requires known { AreAnswersTo S.members S.room self.now known.old.items }
+        ensures known { OnOk result (AreAnswersTo S.members S.room self.now known.new.items) }
+        ensures answer { IfOk result (IsAnsweredAt S.members S.room self.now place known.new.items) }
+    {
+        if let Some(number) = self.place_of(known, place) {
+            return Ok(number);
+        }
+        let spot = &self.spots[place];
+        let view = &self.outline.views[place].1;
+        let outcomes = outcomes(alloc, view, self.outline.host, &spot.command, &spot.tests)?;
+        let number = known.len();
+        known.push(Answer {
+            spot: place,
+            outcomes,
+        })?;
+        Ok(number)
+    }
+}

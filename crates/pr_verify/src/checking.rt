@@ -1,0 +1,113 @@
+//! Whether an outline carries the script of its host.
+
+ghost use Rattle.std.specs.Prelude.{◌≡◌, ℕ, ◌<◌, ◌≤◌, true, min, length, map, OnOk, IfErr};
+ghost use Rattle.std.specs.List.{Contains};
+ghost use Rattle.pr_cdb.specs.Requests.{Fits};
+ghost use Rattle.pr_script.specs.Costs.{cost_of_all};
+ghost use Rattle.pr_script.specs.Grammar.{script_fits};
+ghost use Rattle.pr_script.specs.Trees.{script_of};
+ghost use Rattle.pr_roles.specs.Scenarios.{scenario_of, task};
+ghost use Rattle.pr_roles.specs.Starts.{CanStart};
+ghost use Rattle.pr_verify.specs.Places.{Place, places_of};
+ghost use Rattle.pr_verify.specs.Outlines.{OnScripted, IsSound, IsFitting};
+ghost use Rattle.pr_verify.specs.Refusals.{IsRefusal, past_budgets, differing};
+ghost use Rattle.pr_verify.specs.Rooms.{outline_of, IsMadeFor, IsScripted};
+
+use crate::lacking::{lacking_at_start, least};
+use crate::others::lacking_by_others;
+use crate::outline::OutlineOf;
+use crate::places::{Spot, first_lines, spots};
+use crate::refusal::Refusal;
+use crate::reviewing::review;
+use pr_roles::{Scenario, Task};
+use pr_script::{Script, cost};
+use pr_sets::ViewSet;
+use pr_views::ViewOf;
+use std::alloc::Global;
+
+/// Whether the outline is sound and fits, so that the host's script keeps what safety asks of it; else the first reason
+/// against it.
+pub fn check_outline<S: ViewSet>(
+    alloc: Global,
+    scenario: &Scenario,
+    outline: &OutlineOf<S>,
+) -> Result<(), Refusal>
+    requires scripted { IsScripted (task (scenario_of scenario.now) outline.now.host) }
+    requires made { IsMadeFor S.room (scenario_of scenario.now) outline.now }
+    ensures sound { OnOk result (OnScripted (task (scenario_of scenario.now) outline.now.host) (λ script budget. IsSound (scenario_of scenario.now) script (outline_of S.members outline.now))) }
+    ensures fitting { OnOk result (OnScripted (task (scenario_of scenario.now) outline.now.host) (λ script budget. IsFitting (scenario_of scenario.now) script budget (outline_of S.members outline.now))) }
+    ensures refusal { IfErr result (λ refusal. OnScripted (task (scenario_of scenario.now) outline.now.host) (λ script budget. IsRefusal (scenario_of scenario.now) script budget (outline_of S.members outline.now) refusal)) }
+{
+    match &scenario.parts().nexuses[usize::from(outline.host)].task {
+        Task::Scripted { script, budget } => {
+            check_cost(script, *budget, outline.host)?;
+            check_script(alloc, scenario, script, outline)
+        }
+        Task::Planned(_) => unreachable!(),
+    }
+}
+
+/// Whether the script is within the budget.
+pub(crate) fn check_cost(script: &Script, budget: u32, host: u8) -> Result<(), Refusal>
+    requires { budget ≤ 4096 }
+    ensures within { OnOk result (cost_of_all (script_of script.now) ≤ budget) }
+    ensures over { IfErr result (λ refusal. (budget < cost_of_all (script_of script.now)) × (refusal ≡ Refusal.OverBudget host (min past_budgets (cost_of_all (script_of script.now))))) }
+{
+    let cost = cost(script);
+    if cost > u64::from(budget) {
+        return Err(Refusal::OverBudget { host, cost });
+    }
+    Ok(())
+}
+
+/// Whether the outline is sound and fits, by the script of its host, which is within its budget.
+pub(crate) fn check_script<S: ViewSet>(
+    alloc: Global,
+    scenario: &Scenario,
+    script: &Script,
+    outline: &OutlineOf<S>,
+) -> Result<(), Refusal>
+    requires host { outline.now.host < length (scenario_of scenario.now).nexuses }
+    requires written { script_fits (scenario_of scenario.now).keys (script_of script.now) ≡ true }
+    requires starts { CanStart (scenario_of scenario.now) }
+    requires made { IsMadeFor S.room (scenario_of scenario.now) outline.now }
+    ensures fields { OnOk result ((p : Place) → Contains (places_of (script_of script.now)) p → Fits p.command) }
+    ensures sound { OnOk result (IsSound (scenario_of scenario.now) (script_of script.now) (outline_of S.members outline.now)) }
+    ensures fitting { OnOk result ((budget : ℕ) → cost_of_all (script_of script.now) ≤ budget → IsFitting (scenario_of scenario.now) (script_of script.now) budget (outline_of S.members outline.now)) }
+    ensures refusal { IfErr result (λ refusal. (budget : ℕ) → cost_of_all (script_of script.now) ≤ budget → IsRefusal (scenario_of scenario.now) (script_of script.now) budget (outline_of S.members outline.now) refusal) }
+{
+    let host = outline.host;
+    let spots = spots(alloc, script)?;
+    if let Some(line) = differing(&outline.views, &spots) {
+        return Err(Refusal::NotSound { host, line });
+    }
+    let firsts = first_lines(alloc, script)?;
+    let start = lacking_at_start(alloc, scenario, outline, &firsts)?;
+    let own = review(alloc, scenario, outline, &spots)?;
+    let others = lacking_by_others(alloc, scenario, outline)?;
+    if let Some(line) = least(least(start, own.lacking), others) {
+        return Err(Refusal::NotSound { host, line });
+    }
+    match own.misfit {
+        None => Ok(()),
+        Some(refusal) => Err(refusal),
+    }
+}
+
+// The smaller of two lines, where first a view's line is not that of its send; where one of them ends, the other's.
+fn differing<S: ViewSet>(views: &[(u32, ViewOf<S>)], spots: &[Spot]) -> Option<u32>
+    ensures { result ≡ differing (map (λ e. e.0) views.now) (map (λ p. p.line) spots.now) }
+{
+    for (i, entry) in views.iter().enumerate() {
+        if i >= spots.len() {
+            return Some(entry.0);
+        }
+        if entry.0 != spots[i].line {
+            return Some(entry.0.min(spots[i].line));
+        }
+    }
+    if views.len() < spots.len() {
+        return Some(spots[views.len()].line);
+    }
+    None
+}

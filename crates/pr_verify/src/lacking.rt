@@ -1,0 +1,92 @@
+//! Which view of an outline is the first that lacks a possibility.
+
+ghost use Rattle.std.specs.Prelude.{◌≡◌, ◌<◌, ◌↔◌, length, map, option_map, IsTrue, IfOk, IfSome};
+ghost use Rattle.std.specs.List.{All, Contains};
+ghost use Rattle.pr_script.specs.Scripts.{Stmts};
+ghost use Rattle.pr_roles.specs.Scenarios.{scenario_of};
+ghost use Rattle.pr_roles.specs.Starts.{CanStart};
+ghost use Rattle.pr_views.specs.Rooms.{view_of, IsMade, AreAlike};
+ghost use Rattle.pr_verify.specs.Places.{first_lines};
+ghost use Rattle.pr_verify.specs.Outlines.{view_at, StartsAt};
+ghost use Rattle.pr_verify.specs.Rooms.{outline_of, IsMadeFor};
+ghost use Rattle.pr_verify.specs.inside.Least.{IsLeast, least};
+ghost use Rattle.pr_verify.specs.inside.Lacking.{IsFirstLacking, IsWithinIn, HasView, LacksView};
+
+use crate::outline::OutlineOf;
+use pr_domain::of_start;
+use pr_roles::Scenario;
+use pr_sets::ViewSet;
+use pr_views::ViewOf;
+use std::alloc::{AllocError, Global};
+
+/// The smaller of two lines, where they are there.
+pub(crate) fn least(line: Option<u32>, other: Option<u32>) -> Option<u32>
+    ensures { result ≡ least line other }
+{
+    match (line, other) {
+        (Some(line), Some(other)) => Some(line.min(other)),
+        (Some(line), None) => Some(line),
+        (None, other) => other,
+    }
+}
+
+/// The first of the lines, by number, at which the outline has no view with everything that is possible in this one.
+pub(crate) fn first_lacking<S: ViewSet>(
+    outline: &OutlineOf<S>,
+    known: &ViewOf<S>,
+    lines: &[u32],
+) -> Option<u32>
+    requires made { IsMade S.room known.now }
+    requires alike { All (λ e. IsMade S.room e.1 × AreAlike known.now e.1) outline.now.views.items }
+    ensures { IsLeast (HasView (outline_of S.members outline.now) lines.now (view_of S.members outline.now.host known.now)) (LacksView (outline_of S.members outline.now) lines.now (view_of S.members outline.now.host known.now)) result }
+{
+    let mut first = None;
+    for line in lines {
+        if !has_within(outline, *line, known) {
+            first = least(first, Some(*line));
+        }
+    }
+    first
+}
+
+// Whether the outline has a view at this line in which everything is possible that is possible in this one.
+fn has_within<S: ViewSet>(outline: &OutlineOf<S>, line: u32, known: &ViewOf<S>) -> bool
+    requires made { IsMade S.room known.now }
+    requires alike { All (λ e. IsMade S.room e.1 × AreAlike known.now e.1) outline.now.views.items }
+    ensures { IsTrue result ↔ IsWithinIn (view_of S.members outline.now.host known.now) (view_at (outline_of S.members outline.now).views line) }
+{
+    match view_at(outline, line) {
+        None => false,
+        Some(view) => known.within(view),
+    }
+}
+
+// The view at this line.
+fn view_at<S: ViewSet>(outline: &OutlineOf<S>, line: u32) -> Option<&ViewOf<S>>
+    ensures value { view_at (outline_of S.members outline.now).views line ≡ option_map (λ v. view_of S.members outline.now.host v.now) result }
+    ensures listed { IfSome result (λ v. Contains (map (λ e. e.1) outline.now.views.items) v.now) }
+{
+    for (at, view) in &outline.views {
+        if *at == line {
+            return Some(view);
+        }
+    }
+    None
+}
+
+/// The first of these lines, at which the script may be ready first, whose view lacks a state that the scenario may
+/// start from.
+pub(crate) fn lacking_at_start<S: ViewSet>(
+    alloc: Global,
+    scenario: &Scenario,
+    outline: &OutlineOf<S>,
+    lines: &[u32],
+) -> Result<Option<u32>, AllocError>
+    requires starts { CanStart (scenario_of scenario.now) }
+    requires host { outline.now.host < length (scenario_of scenario.now).nexuses }
+    requires made { IsMadeFor S.room (scenario_of scenario.now) outline.now }
+    ensures { IfOk result (λ first. (script : Stmts) → first_lines script ≡ lines.now → IsFirstLacking (outline_of S.members outline.now) (StartsAt (scenario_of scenario.now) script) first) }
+{
+    let start = of_start(alloc, scenario, outline.host)?;
+    Ok(first_lacking(outline, &start, lines))
+}

@@ -1,0 +1,24 @@
+//! Whether the scripts of a scenario keep its promises, whatever its hosts and guests do.
+#![tactic(auto)]
+
+mod answers;
+mod checking;
+mod head;
+mod inferring;
+mod known;
+mod lacking;
+mod laws;
+mod others;
+mod outline;
+mod places;
+mod refusal;
+mod reviewing;
+mod sketch;
+mod verifying;
+
+pub use checking::check_outline;
+pub use inferring::{infer, infer_of};
+pub use laws::{outlines_make_safe, runs_go_on, safe_sends_are_fine};
+pub use outline::{Outline, OutlineBy, OutlineOf};
+pub use refusal::Refusal;
+pub use verifying::{Refused, Verified, verify};

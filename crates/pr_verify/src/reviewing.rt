@@ -1,0 +1,186 @@
+//! What the own commands of a host show of its outline.
+
+ghost use Rattle.std.specs.Prelude.{◌≡◌, ◌<◌, true, length, map, option_map, IsTrue, IfOk, Some};
+ghost use Rattle.std.specs.List.{All};
+ghost use Rattle.pr_script.specs.Grammar.{rise_above};
+ghost use Rattle.pr_roles.specs.Scenarios.{scenario_of};
+ghost use Rattle.pr_views.specs.Rooms.{view_of, IsMade, AreAlike};
+ghost use Rattle.pr_domain.specs.Outcomes.{AreOutcomes};
+ghost use Rattle.pr_verify.specs.Outlines.{view_at, ComesTo};
+ghost use Rattle.pr_verify.specs.Refusals.{class_number};
+ghost use Rattle.pr_verify.specs.Rooms.{outline_of, IsMadeFor};
+ghost use Rattle.pr_verify.specs.inside.Listing.{place_of, IsPlaceWritten};
+ghost use Rattle.pr_verify.specs.inside.Least.{IsLeastAmong};
+ghost use Rattle.pr_verify.specs.inside.Lacking.{IsFirstLacking, lines_after, HasNext, LacksNext};
+ghost use Rattle.pr_verify.specs.inside.Reviewing.{IsMadeAs, IsLackingOfSends, IsMisfit, IsFirstMisfit, IsFirstUnarmed, earlier};
+
+use crate::answers::Questions;
+use crate::lacking::{first_lacking, least};
+use crate::outline::OutlineOf;
+use crate::places::Spot;
+use crate::refusal::Refusal;
+use pr_domain::{Class, Landing, permitted};
+use pr_roles::Scenario;
+use pr_sets::ViewSet;
+use pr_views::ViewOf;
+use std::alloc::{AllocError, Global};
+
+/// What the sends of a script show of an outline.
+#[derive(Clone, Copy, Debug, PartialEq, Eq)]
+pub(crate) struct Findings {
+    /// The first line whose view lacks a state to which a send leads.
+    pub(crate) lacking: Option<u32>,
+    /// Of the first send that does not fit, how it does not.
+    pub(crate) misfit: Option<Refusal>,
+}
+
+/// Reviews the sends one after another.
+pub(crate) fn review<S: ViewSet>(
+    alloc: Global,
+    scenario: &Scenario,
+    outline: &OutlineOf<S>,
+    spots: &[Spot],
+) -> Result<Findings, AllocError>
+    requires host { outline.now.host < length (scenario_of scenario.now).nexuses }
+    requires made { IsMadeFor S.room (scenario_of scenario.now) outline.now }
+    requires written { All (λ p. IsPlaceWritten (scenario_of scenario.now).keys (place_of p)) spots.now }
+    requires listed { map (λ e. e.0) outline.now.views.items ≡ map (λ p. p.line) spots.now }
+    requires rise { rise_above 0 (map (λ e. e.0) outline.now.views.items) ≡ true }
+    ensures lacking { IfOk result (λ review. IsLackingOfSends (outline_of S.members outline.now) (length spots.now) spots.now review.lacking) }
+    ensures misfit { IfOk result (λ review. IsFirstMisfit (scenario_of scenario.now) (outline_of S.members outline.now) (length spots.now) spots.now review.misfit) }
+{
+    let questions = Questions { outline, spots };
+    let mut known = Vec::new(alloc);
+    let mut lacking = None;
+    let mut misfit = None;
+    for (i, spot) in spots.iter().enumerate() {
+        let answer = questions.answer(alloc, &mut known, i)?;
+        let outcomes = &known[answer].outcomes;
+        let here = review_spot(scenario, outline, &outline.views[i].1, spot, outcomes);
+        lacking = least(lacking, here.lacking);
+        misfit = misfit.or(here.misfit);
+    }
+    Ok(Findings { lacking, misfit })
+}
+
+// Of one send, by the view of its line and what its command comes to there.
+fn review_spot<S: ViewSet>(
+    scenario: &Scenario,
+    outline: &OutlineOf<S>,
+    view: &ViewOf<S>,
+    spot: &Spot,
+    outcomes: &[(Landing, ViewOf<S>)],
+) -> Findings
+    requires host { outline.now.host < length (scenario_of scenario.now).nexuses }
+    requires made { IsMadeFor S.room (scenario_of scenario.now) outline.now }
+    requires written { IsPlaceWritten (scenario_of scenario.now).keys (place_of spot.now) }
+    requires view { IsMadeAs S.room (scenario_of scenario.now) view.now }
+    requires here { view_at (outline_of S.members outline.now).views spot.now.line ≡ Some (view_of S.members outline.now.host view.now) }
+    requires kind { All (λ o. IsMade S.room o.1 × AreAlike view.now o.1) outcomes.now }
+    requires outcomes { AreOutcomes (view_of S.members outline.now.host view.now) spot.now.command spot.now.tests.items (map (λ o. (o.0, view_of S.members outline.now.host o.1)) outcomes.now) }
+    ensures lacking { IsFirstLacking (outline_of S.members outline.now) (ComesTo (outline_of S.members outline.now) (place_of spot.now)) result.lacking }
+    ensures misfit { IsMisfit (scenario_of scenario.now) (outline_of S.members outline.now) (place_of spot.now) result.misfit }
+{
+    Findings {
+        lacking: lacking_after(outline, outcomes, &spot.next),
+        misfit: misfit(scenario, outline, view, spot, outcomes),
+    }
+}
+
+// The first line to which an outcome leads, and whose view lacks something of the outcome's.
+fn lacking_after<S: ViewSet>(
+    outline: &OutlineOf<S>,
+    outcomes: &[(Landing, ViewOf<S>)],
+    next: &[Vec<u32>],
+) -> Option<u32>
+    requires made { All (λ o. IsMade S.room o.1) outcomes.now }
+    requires alike { All (λ o. All (λ e. IsMade S.room e.1 × AreAlike o.1 e.1) outline.now.views.items) outcomes.now }
+    ensures { IsLeastAmong (length outcomes.now) outcomes.now (λ o. HasNext (outline_of S.members outline.now) (lines_after (map (λ lines. lines.items) next.now) o.0) (view_of S.members outline.now.host o.1)) (λ o. LacksNext (outline_of S.members outline.now) (lines_after (map (λ lines. lines.items) next.now) o.0) (view_of S.members outline.now.host o.1)) result }
+{
+    let mut first = None;
+    for (landing, left) in outcomes {
+        if let Some(lines) = lines_after(*landing, next) {
+            first = least(first, first_lacking(outline, left, lines));
+        }
+    }
+    first
+}
+
+// The lines at which the script may be ready after this landing.
+fn lines_after(landing: Landing, next: &[Vec<u32>]) -> Option<&[u32]>
+    ensures { option_map (λ lines. lines.now) result ≡ lines_after (map (λ lines. lines.items) next.now) landing }
+{
+    match landing {
+        Landing::Arm(arm) => next.get(arm).map(|lines| lines.as_slice()),
+        Landing::NoArm(_) => None,
+    }
+}
+
+// How the send does not fit, if it does not: its role comes first, then the first class of replies without an arm.
+fn misfit<S: ViewSet>(
+    scenario: &Scenario,
+    outline: &OutlineOf<S>,
+    view: &ViewOf<S>,
+    spot: &Spot,
+    outcomes: &[(Landing, ViewOf<S>)],
+) -> Option<Refusal>
+    requires host { outline.now.host < length (scenario_of scenario.now).nexuses }
+    requires written { IsPlaceWritten (scenario_of scenario.now).keys (place_of spot.now) }
+    requires view { IsMadeAs S.room (scenario_of scenario.now) view.now }
+    requires here { view_at (outline_of S.members outline.now).views spot.now.line ≡ Some (view_of S.members outline.now.host view.now) }
+    requires outcomes { AreOutcomes (view_of S.members outline.now.host view.now) spot.now.command spot.now.tests.items (map (λ o. (o.0, view_of S.members outline.now.host o.1)) outcomes.now) }
+    ensures { IsMisfit (scenario_of scenario.now) (outline_of S.members outline.now) (place_of spot.now) result }
+{
+    let host = outline.host;
+    let line = spot.line;
+    let role = &scenario.parts().nexuses[usize::from(host)].role;
+    if !permitted(view, role, host, &spot.command) {
+        return Some(Refusal::OutOfRole { host, line });
+    }
+    let class = first_unarmed(outcomes)?;
+    Some(Refusal::NoArm { host, line, class })
+}
+
+// Of the classes of replies without an arm, the first.
+fn first_unarmed<S: ViewSet>(outcomes: &[(Landing, ViewOf<S>)]) -> Option<Class>
+    ensures { IsFirstUnarmed (length outcomes.now) outcomes.now result }
+{
+    let mut first = None;
+    for (landing, _) in outcomes {
+        if let Landing::NoArm(class) = landing {
+            first = Some(earlier(first, *class));
+        }
+    }
+    first
+}
+
+// The one that comes first of two classes, where both are there.
+fn earlier(first: Option<Class>, class: Class) -> Class
+    ensures { result ≡ earlier first class }
+{
+    match first {
+        None => class,
+        Some(first) => {
+            if number_of(first) <= number_of(class) {
+                first
+            } else {
+                class
+            }
+        }
+    }
+}
+
+// The number by which classes come one after another.
+fn number_of(class: Class) -> u32
+    ensures { result ≡ class_number class }
+{
+    match class {
+        Class::Good => 0,
+        Class::Conflict => 1,
+        Class::Sense(sense) => {
+            let key = u32::from(sense.key);
+            let asc = u32::from(sense.asc);
+            2 + ((key * 256 + asc) * 256 + u32::from(sense.ascq))
+        }
+    }
+}

@@ -1,0 +1,97 @@
+//! The verdict on a scenario.
+
+ghost use Rattle.std.specs.Prelude.{◌≡◌, ℕ, ◌<◌, length, IfOk, IfErr, OnOk};
+ghost use Rattle.pr_roles.specs.Scenarios.{scenario_of, task};
+ghost use Rattle.pr_roles.specs.Safety.{IsSafe};
+ghost use Rattle.pr_verify.specs.Outlines.{OnScripted, HasOutline, HaveOutlines};
+
+use crate::checking::{check_cost, check_script};
+use crate::inferring::infer;
+use crate::laws::outlines_make_safe;
+use crate::refusal::Refusal;
+use pr_roles::{Scenario, Task};
+use std::alloc::Global;
+use std::marker::Model;
+
+/// A scenario that was verified: it is safe.
+#[derive(Debug, Drop)]
+pub struct Verified {
+    scenario: Scenario,
+}
+
+impl Model for Verified {
+    ghost use Rattle.pr_roles.specs.contracts.scenario.Scenario as scenario_code;
+    ghost use Rattle.pr_roles.specs.declared.parts.Parts.{Parts};
+    ghost use Rattle.pr_roles.specs.Scenarios.{scenario_of};
+    ghost use Rattle.pr_roles.specs.Safety.{IsSafe};
+
+    ghost Value = { Parts };
+
+    ghost coded = { scenario_code.the_row.coded };
+
+    ghost view = { λ v. v.scenario };
+
+    ghost invariant = { λ v. IsSafe (scenario_of v.scenario) };
+}
+
+impl Verified {
+    /// The very scenario that was verified.
+    pub fn scenario(&self) -> &Scenario
+        ensures value { result.now ≡ self.now }
+        ensures safe { IsSafe (scenario_of self.now) }
+    {
+        &self.scenario
+    }
+}
+
+/// A scenario that was refused, and why.
+#[derive(Debug, Drop)]
+pub struct Refused {
+    pub scenario: Scenario,
+    pub refusal: Refusal,
+}
+
+/// Verifies the scenario. When it is accepted, then from every start that it declares and under every interleaving of the
+/// scripted hosts' commands with any permitted commands of the guests, no script meets a reply for which it has no arm,
+/// none sends more commands than its budget, and each of its commands that ends GOOD is one that its role permits at that
+/// moment. When it is refused, it is handed back.
+pub fn verify(alloc: Global, scenario: Scenario) -> Result<Verified, Refused>
+    ensures same { IfOk result (λ verified. verified ≡ scenario) }
+    ensures safe { IfOk result (λ verified. IsSafe (scenario_of verified)) }
+    ensures back { IfErr result (λ refused. refused.scenario ≡ scenario) }
+{
+    match check_hosts(alloc, &scenario) {
+        Ok(()) => {
+            outlines_make_safe();
+            Ok(Verified { scenario })
+        }
+        Err(refusal) => Err(Refused { scenario, refusal }),
+    }
+}
+
+// Whether each scripted host has an outline that is sound and fits; else the first reason against one.
+fn check_hosts(alloc: Global, scenario: &Scenario) -> Result<(), Refusal>
+    ensures { OnOk result (HaveOutlines (scenario_of scenario.now)) }
+{
+    let hosts = scenario.parts().nexuses.len() as u8;
+    for host in 0..hosts {
+        check_host(alloc, scenario, host)?;
+    }
+    Ok(())
+}
+
+// Whether the host has one, if it is scripted. A script that costs more than its budget is refused before anything is
+// inferred of it.
+fn check_host(alloc: Global, scenario: &Scenario, host: u8) -> Result<(), Refusal>
+    requires { host < length (scenario_of scenario.now).nexuses }
+    ensures { OnOk result (OnScripted (task (scenario_of scenario.now) host) (HasOutline (scenario_of scenario.now) host)) }
+{
+    match &scenario.parts().nexuses[usize::from(host)].task {
+        Task::Scripted { script, budget } => {
+            check_cost(script, *budget, host)?;
+            let outline = infer(alloc, scenario, host)?;
+            check_script(alloc, scenario, script, &outline)
+        }
+        Task::Planned(_) => Ok(()),
+    }
+}

@@ -1,0 +1,5 @@
+use Rattle.pr_world.proofs.Keeping.{sent_within}
+use Rattle.pr_world.proofs.laws.safe_schedules_keep_to_rooms.Goals as goal
+
+pub returns : goal.returns
+returns c = sent_within

@@ -1,0 +1,160 @@
+//! A verified scenario at work.
+
+ghost use Rattle.std.specs.Prelude.{◌≡◌, ◌<◌, ◌^◌, ◌++◌, ◌∷◌, ℕ, List, [], Some, length, map, sum, codes, IfOk, IfErr};
+ghost use Rattle.pr_roles.specs.Scenarios.{scenario_of, task_of};
+ghost use Rattle.pr_roles.specs.Safety.{IsSafe};
+ghost use Rattle.pr_world.specs.Courses.{IsReached};
+ghost use Rattle.pr_world.specs.Rooms.{room_of};
+
+use crate::act::Act;
+use crate::course::Course;
+use crate::end::End;
+use crate::turn::Turn;
+use pr_roles::{Entry, Nexus, Scenario, Task};
+use pr_script::Word;
+use pr_unit::Unit;
+use pr_verify::Verified;
+use std::alloc::{AllocError, Global};
+use std::marker::Model;
+
+/// A verified scenario at work: what turns have led to from its first start. It has room for every command that can
+/// reach its unit, so that no turn takes memory.
+#[derive(Debug, Drop)]
+pub struct World {
+    verified: Verified,
+    course: Course,
+}
+
+impl Model for World {
+    ghost use Rattle.pr_cdb.specs.contracts.command.Command as command_code;
+    ghost use Rattle.pr_unit.specs.contracts.unit.Unit as unit_code;
+    ghost use Rattle.pr_script.specs.contracts.machine.Machine as machine_code;
+    ghost use Rattle.pr_roles.specs.contracts.parts.Parts as parts_code;
+    ghost use Rattle.pr_roles.specs.contracts.entry.Entry as entry_code;
+    ghost use Rattle.pr_world.specs.Progress.{Progress};
+    ghost use Rattle.pr_world.specs.inside.ProgressCodes.{progress_code};
+
+    ghost Value = { Progress };
+
+    ghost coded = { progress_code parts_code.the_row.coded unit_code.the_row.coded machine_code.the_row.coded entry_code.the_row.coded command_code.the_row.coded };
+
+    ghost use Rattle.pr_roles.specs.Scenarios.{scenario_of};
+    ghost use Rattle.pr_world.specs.Courses.{schedule_of};
+    ghost use Rattle.pr_world.specs.inside.Workings.{IsAtWork};
+
+    ghost view = { λ w. record { scenario = w.verified; schedule = schedule_of w.course } };
+
+    ghost invariant = { λ w. IsAtWork (scenario_of w.verified) w.course };
+}
+
+impl World {
+    ghost use Rattle.pr_roles.specs.Schedules.{Turn as IsTurn, plan};
+    ghost use Rattle.pr_roles.specs.Worlds.{control};
+    ghost use Rattle.pr_world.specs.Courses.{IsOneEvent};
+    ghost use Rattle.pr_world.specs.Ends.{ending, seen};
+    ghost use Rattle.pr_world.specs.StepAnswers.{IfSent, IfStopped, IfHeld, IsStopped, PassesOver};
+
+    /// The scenario at its first start, with room for its whole history. Where memory is refused it is handed back.
+    pub fn begin(alloc: Global, verified: Verified) -> Result<World, (Verified, AllocError)>
+        ensures scenario { IfOk result (λ world. world.scenario ≡ verified) }
+        ensures first { IfOk result (λ world. IsReached (scenario_of verified) [] world.schedule) }
+        ensures back { IfErr result (λ refused. refused.0 ≡ verified) }
+    {
+        let room = room_for(&verified.scenario().parts().nexuses);
+        match Course::begin(alloc, verified.scenario(), room) {
+            Ok(course) => Ok(World { verified, course }),
+            Err(refused) => Err((verified, refused)),
+        }
+    }
+
+    /// The turn of this host or guest. It takes no memory.
+    ///
+    /// Where the unit could report one of several attentions, it reports the lowest.
+    pub fn step(&mut self, host: u8) -> Turn
+        requires { host < length (scenario_of self.old.scenario).nexuses }
+        ensures scenario { self.new.scenario ≡ self.old.scenario }
+        ensures turn { IsTurn (scenario_of self.old.scenario) self.old.schedule host self.new.schedule }
+        ensures reached { (steps : List ℕ) → IsReached (scenario_of self.old.scenario) steps self.old.schedule
+            → IsReached (scenario_of self.old.scenario) (steps ++ host ∷ []) self.new.schedule }
+        ensures sent { IfSent result (λ entry.
+            IsOneEvent (scenario_of self.old.scenario) host entry self.old.schedule.world self.new.schedule.world) }
+        ensures stopped { IfStopped result (λ word.
+            IsStopped (scenario_of self.old.scenario) self.old.schedule host word) }
+        ensures rests { IfStopped result (λ word. self.new.schedule ≡ self.old.schedule) }
+        ensures held { IfHeld result (PassesOver (scenario_of self.old.scenario) self.old.schedule host self.new.schedule) }
+    {
+        match self.course.turn(self.verified.scenario(), host) {
+            Act::Sent(entry) => Turn::Sent(entry),
+            Act::Stopped(word) => Turn::Stopped(word),
+            Act::Finished => Turn::Stopped(end_word()),
+            Act::Held => Turn::Held,
+            Act::Trapped => unreachable!(),
+        }
+    }
+
+    /// The verified scenario.
+    pub fn scenario(&self) -> &Scenario
+        ensures value { result.now ≡ self.now.scenario }
+        ensures safe { IsSafe (scenario_of self.now.scenario) }
+    {
+        self.verified.scenario()
+    }
+
+    /// The commands that reached the unit, in order.
+    pub fn entries(&self) -> &[Entry]
+        ensures value { result.now ≡ self.now.schedule.world.entries }
+        ensures reached { (steps : List ℕ) × IsReached (scenario_of self.now.scenario) steps self.now.schedule }
+    {
+        &self.course.entries
+    }
+
+    /// The unit as it is.
+    pub fn unit(&self) -> &Unit
+        ensures { result.now ≡ self.now.schedule.world.unit }
+    {
+        &self.course.unit
+    }
+
+    /// How the host or guest stands.
+    pub fn end(&self, host: u8) -> End
+        requires { host < length (scenario_of self.now.scenario).nexuses }
+        ensures { ending (control self.now.schedule.world host) (plan self.now.schedule host) ≡ Some (seen result) }
+    {
+        self.course.end(host)
+    }
+
+    /// Its history and its unit, when it has no more turns to take.
+    pub fn into_parts(self) -> (Vec<Entry>, Unit)
+        ensures history { result.0.items ≡ self.schedule.world.entries }
+        ensures unit { result.1 ≡ self.schedule.world.unit }
+    {
+        self.course.into_parts()
+    }
+}
+
+// The room for all commands that can reach the unit.
+fn room_for(nexuses: &[Nexus]) -> usize
+    requires { sum (map (λ n. room_of (task_of n.task)) nexuses.now) < 2 ^ 64 }
+    ensures { result ≡ sum (map (λ n. room_of (task_of n.task)) nexuses.now) }
+{
+    nexuses.iter().map(|nexus| room_of(&nexus.task)).sum()
+}
+
+// A host's script sends no more than its budget, and a guest no more than its plan has.
+fn room_of(task: &Task) -> usize
+    ensures { result ≡ room_of (task_of task.now) }
+{
+    match task {
+        Task::Scripted { budget, .. } => *budget as usize,
+        Task::Planned(commands) => commands.len(),
+    }
+}
+
+// The word of a plan that is done.
+fn end_word() -> Word
+    ensures { result.bytes ≡ codes "end" }
+{
+    let mut word = Word::new();
+    word.push_str("end");
+    word
+}
