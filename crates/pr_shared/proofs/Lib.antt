@@ -1,0 +1,5 @@
+pub mod Comparing
+pub mod Fitted
+pub mod Furnishing
+pub mod Matching
+pub mod TakenTurns
