@@ -2,4 +2,5 @@ pub mod Comparing
 pub mod Fitted
 pub mod Furnishing
 pub mod Matching
+pub mod Starting
 pub mod TakenTurns
