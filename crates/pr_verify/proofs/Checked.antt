@@ -1,9 +1,8 @@
 -- What was found of an outline's views and of a script's sends, put together.
-use Rattle.std.proofs.Common.{◌≡◌, ℕ, ◌<◌, ◌≤◌, true, min, List, [], ◌∷◌, length, map, slice_index_or, Option, Some, None, refl, sym, ap, ◌∙◌, subst, inl, inr, ◌⊎◌, arith}
+use Rattle.std.proofs.Common.{◌≡◌, ℕ, ◌<◌, ◌≤◌, true, List, length, map, slice_index_or, Option, Some, None, refl, sym, ap, ◌∙◌, subst, inl, inr, ◌⊎◌, arith}
 use Rattle.std.specs.List.{All, Contains}
 use Rattle.std.proofs.lemmas.List.Elements.{Contains-get_or}
 use Rattle.std.proofs.lemmas.Simd.{map-map}
-use Rattle.pr_unit.specs.UnitStates.{UnitState}
 use Rattle.pr_script.specs.Scripts.{Stmts}
 use Rattle.pr_script.specs.Costs.{cost_of_all}
 use Rattle.pr_script.specs.Grammar.{rise_above, script_fits}
@@ -13,10 +12,10 @@ use Rattle.pr_verify.specs.declared.places.Spot.{Spot}
 use Rattle.pr_verify.specs.declared.refusal.Refusal.{Refusal}
 use Rattle.pr_verify.specs.declared.refusal.Refusal.TheVariants.{NoArm, OutOfRole, OverBudget, Memory, NotSound}
 use Rattle.pr_verify.specs.Places.{Place, places_of}
-use Rattle.pr_verify.specs.Outlines.{Outline, IsShownAt, StartsAt, ComesTo, IsLeftAt, IsAsked, at_start, by_itself, by_another, IsListed, IsSound, IsFitting, KeepsToRole}
-use Rattle.pr_verify.specs.Refusals.{differing, DiffersAt, LacksAt, LacksFirst, BreaksRole, LacksArmFirst, FitsAt, IsUnfitAt, IsRefusal}
+use Rattle.pr_verify.specs.Outlines.{Outline, StartsAt, ComesTo, IsLeftAt, IsAsked, at_start, by_itself, by_another, IsListed, IsSound, IsFitting, KeepsToRole}
+use Rattle.pr_verify.specs.Refusals.{differing, DiffersAt, LacksFirst, BreaksRole, LacksArmFirst, FitsAt, IsUnfitAt, IsRefusal}
 use Rattle.pr_verify.specs.inside.Listing.{place_of, IsPlaceWritten}
-use Rattle.pr_verify.specs.inside.Least.{IsLeast, least, Among, EachOf}
+use Rattle.pr_verify.specs.inside.Least.{least, Among, EachOf}
 use Rattle.pr_verify.specs.inside.Lacking.{HasAll, Lacks, IsFirstLacking}
 use Rattle.pr_verify.specs.inside.Reviewing.{IsLackingOfSends, IsReason, HasMisfit, IsFirstMisfit}
 use Rattle.pr_verify.proofs.Leasts.{least_as, least_either, each_listed, listed_among}

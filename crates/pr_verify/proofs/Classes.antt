@@ -1,13 +1,12 @@
 -- Classes of replies, one after another.
 use Rattle.std.proofs.Common.{◌≡◌, ℕ, ◌+◌, ◌<◌, ◌≤◌, Bool, true, false, nat_le, if◌then◌else◌, List, length, slice_index_or, Option, Some, None, refl, sym, ap, ◌∙◌, subst, inl, inr, ◌⊎◌, arith}
-use Rattle.std.proofs.lemmas.Bool.{cases_lt, leb-true, leb-false}
+use Rattle.std.proofs.lemmas.Bool.{leb-true, leb-false}
 use Rattle.pr_cdb.specs.declared.reply.Reply.{Reply}
-use Rattle.pr_cdb.specs.declared.reply.Status.{Status}
 use Rattle.pr_cdb.specs.declared.reply.Status.TheVariants as status
 use Rattle.pr_views.specs.declared.view.ViewOf.{ViewOf}
 use Rattle.pr_domain.specs.Landings.{IsClass}
 use Rattle.pr_domain.specs.declared.landing.Landing.{Landing}
-use Rattle.pr_domain.specs.declared.landing.Landing.TheVariants.{Arm, NoArm}
+use Rattle.pr_domain.specs.declared.landing.Landing.TheVariants.{NoArm}
 use Rattle.pr_domain.specs.declared.landing.Class.{Class}
 use Rattle.pr_domain.specs.declared.landing.Class.TheVariants.{Good, Conflict, Sense}
 use Rattle.pr_verify.specs.Refusals.{class_number}

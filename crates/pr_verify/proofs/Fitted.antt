@@ -1,5 +1,5 @@
 -- Whether a place fits, by the outcomes of its command.
-use Rattle.std.proofs.Common.{◌≡◌, ℕ, ◌+◌, ◌<◌, ◌≤◌, true, false, IsTrue, List, [], length, map, Option, Some, None, is_some, refl, sym, ap, ◌∙◌, subst, arith}
+use Rattle.std.proofs.Common.{◌≡◌, ℕ, ◌≤◌, true, false, IsTrue, List, [], length, map, Some, None, is_some, refl, sym, ap, ◌∙◌, subst, arith}
 use Rattle.std.specs.List.{slice_get, Contains}
 use Rattle.std.specs.Option.{option_and_then}
 use Rattle.std.proofs.lemmas.List.Quantifiers.{position-Some}
@@ -8,7 +8,6 @@ use Rattle.pr_cdb.specs.declared.reply.Reply.{Reply}
 use Rattle.pr_cdb.specs.declared.wire.Request.TheVariants.{Plain}
 use Rattle.pr_unit.specs.UnitStates.{UnitState}
 use Rattle.pr_unit.specs.Steps.{Step}
-use Rattle.pr_script.specs.declared.script.Test.{Test}
 use Rattle.pr_script.specs.declared.script.Test.TheVariants as test
 use Rattle.pr_script.specs.Takes.{matches}
 use Rattle.pr_roles.specs.Permits.{command_permitted}
@@ -21,13 +20,12 @@ use Rattle.pr_regions.specs.Readings.{first_test}
 use Rattle.pr_domain.specs.declared.landing.Landing.{Landing}
 use Rattle.pr_domain.specs.declared.landing.Landing.TheVariants.{Arm, NoArm}
 use Rattle.pr_domain.specs.declared.landing.Class.{Class}
-use Rattle.pr_domain.specs.Landings.{IsClass, IsLanding}
+use Rattle.pr_domain.specs.Landings.{IsLanding}
 use Rattle.pr_domain.specs.Outcomes.{Outcome, IsExpected, AreOutcomes, IsPermittedIn, IsRefusedIn}
 use Rattle.pr_verify.specs.Places.{Place, follows}
 use Rattle.pr_verify.specs.Outlines.{Outline, view_at, ShowsIn, IsShownAt, HasArms, KeepsToRole}
-use Rattle.pr_verify.specs.Refusals.{class_number, FitsAt, BreaksRole, LacksArm, LacksArmFirst}
-use Rattle.pr_verify.specs.inside.Least.{Among}
-use Rattle.pr_verify.specs.inside.Reviewing.{IsUnarmed, IsFirstUnarmed}
+use Rattle.pr_verify.specs.Refusals.{class_number, BreaksRole, LacksArm, LacksArmFirst}
+use Rattle.pr_verify.specs.inside.Reviewing.{IsUnarmed}
 use Rattle.pr_verify.proofs.Leasts.{among_listed, listed_among}
 use Rattle.pr_verify.proofs.Mapped.{mapped, unmapped}
 use Rattle.pr_verify.proofs.Classes.{one_class}

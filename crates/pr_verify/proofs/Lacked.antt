@@ -1,12 +1,11 @@
 -- The first line at which a view is missing.
-use Rattle.std.proofs.Common.{◌≡◌, ℕ, ◌+◌, ◌<◌, ◌≤◌, Bool, true, false, IsTrue, ◌↔◌, List, length, map, slice_index_or, Option, Some, None, refl, sym, ap, ◌∙◌, subst, arith}
+use Rattle.std.proofs.Common.{◌≡◌, ℕ, ◌+◌, ◌<◌, Bool, true, false, IsTrue, ◌↔◌, List, length, map, slice_index_or, Option, Some, refl, sym, ◌∙◌, subst, arith}
 use Rattle.std.specs.List.{All, Contains}
 use Rattle.std.proofs.lemmas.Bool.{false≢true}
 use Rattle.std.proofs.lemmas.List.{get_or_default}
 use Rattle.std.proofs.lemmas.List.Elements.{All-map, All-contains}
 use Rattle.pr_views.specs.declared.view.ViewOf.{ViewOf}
 use Rattle.pr_views.specs.Views.{View}
-use Rattle.pr_views.specs.Rooms.{IsMade, AreAlike}
 use Rattle.pr_verify.specs.Outlines.{Outline, view_at}
 use Rattle.pr_verify.specs.inside.Least.{IsFirst, IsLeast, least, Among, EachOf, IsLeastAmong}
 use Rattle.pr_verify.specs.inside.Lacking.{IsWithinIn, HasView, LacksView}

@@ -30,3 +30,4 @@ pub mod Growth
 pub mod Sketches
 pub mod Recalled
 pub mod Tasked
+pub mod Outlined

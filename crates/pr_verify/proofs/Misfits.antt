@@ -1,5 +1,5 @@
 -- The first send that does not fit.
-use Rattle.std.proofs.Common.{◌≡◌, ℕ, ◌+◌, ◌<◌, ◌≤◌, List, length, slice_index_or, Option, Some, None, sym, ap, ◌∙◌, subst, inl, inr, ◌⊎◌, arith}
+use Rattle.std.proofs.Common.{◌≡◌, ℕ, ◌+◌, ◌<◌, List, length, slice_index_or, Option, Some, None, sym, arith}
 use Rattle.std.specs.Option.{option_or}
 use Rattle.pr_roles.specs.Scenarios.{Scenario}
 use Rattle.pr_verify.specs.declared.places.Spot.{Spot}

@@ -1,5 +1,5 @@
 -- The hosts and guests of a scenario, as they are kept.
-use Rattle.std.proofs.Common.{◌≡◌, ℕ, zero, suc, ◌<◌, ◌≤◌, Bool, true, not, ◌==◌, ◌&&◌, nat_le, IsTrue, List, [], ◌∷◌, length, map, bytes_eq, slice_index_or, Option, Some, None, Vec, Global, refl, sym, ap, ◌∙◌, subst, arith}
+use Rattle.std.proofs.Common.{◌≡◌, ℕ, zero, suc, ◌<◌, ◌≤◌, Bool, true, not, ◌==◌, ◌&&◌, nat_le, List, [], ◌∷◌, length, map, bytes_eq, slice_index_or, Option, Some, None, Vec, Global, refl, sym, ap, ◌∙◌, subst, arith}
 use Rattle.std.specs.List.{list_all, slice_get}
 use Rattle.std.specs.Option.{option_map_or}
 use Rattle.std.proofs.lemmas.Bool.{and_parts, leb-true}
@@ -8,7 +8,7 @@ use Rattle.pr_roles.specs.declared.parts.Nexus.{Nexus as NexusPart}
 use Rattle.pr_roles.specs.declared.parts.Parts.{Parts}
 use Rattle.pr_roles.specs.declared.parts.Task.TheVariants as part
 use Rattle.pr_roles.specs.Scenarios.{Scenario, Nexus, Scripted, nexus_of, task_of, scenario_of, role, task}
-use Rattle.pr_roles.specs.Fitting.{Fits, are_distinct, is_role, is_start, is_task, is_nexus, are_nexuses}
+use Rattle.pr_roles.specs.Fitting.{Fits, are_distinct, is_role, is_start, is_task, is_nexus}
 use Rattle.pr_cdb.specs.declared.command.Command.{Command}
 use Rattle.pr_script.specs.declared.script.Script.{Script}
 use Rattle.pr_script.specs.Names.{is_name}

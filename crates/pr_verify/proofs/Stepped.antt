@@ -1,9 +1,8 @@
 -- What the views lack of the states to which a host's own command leads, by the outcomes of the command.
-use Rattle.std.proofs.Common.{◌≡◌, ℕ, ◌<◌, List, length, map, Option, Some, None, refl, sym, ap, ◌∙◌, subst}
-use Rattle.std.specs.List.{slice_get, Contains, All}
+use Rattle.std.proofs.Common.{◌≡◌, ℕ, List, length, map, Option, Some, None, refl, sym, ap, ◌∙◌, subst}
+use Rattle.std.specs.List.{slice_get, Contains}
 use Rattle.std.specs.Option.{option_and_then}
 use Rattle.std.proofs.lemmas.Option.{same_Some}
-use Rattle.std.proofs.lemmas.List.Elements.{All-contains}
 use Rattle.pr_cdb.specs.declared.reply.Reply.{Reply}
 use Rattle.pr_cdb.specs.declared.wire.Request.TheVariants.{Plain}
 use Rattle.pr_unit.specs.UnitStates.{UnitState}
@@ -12,15 +11,14 @@ use Rattle.pr_script.specs.declared.script.Test.{Test}
 use Rattle.pr_roles.specs.Scenarios.{Scenario}
 use Rattle.pr_sets.specs.Numbers.{Numbers}
 use Rattle.pr_views.specs.declared.view.ViewOf.{ViewOf}
-use Rattle.pr_views.specs.Possibilities.{Item, IsSo}
-use Rattle.pr_views.specs.Views.{View, IsPossible, Shows, Fits}
+use Rattle.pr_views.specs.Possibilities.{IsSo}
+use Rattle.pr_views.specs.Views.{View, Shows, Fits}
 use Rattle.pr_views.specs.Rooms.{view_of}
-use Rattle.pr_regions.specs.Readings.{first_test}
 use Rattle.pr_domain.specs.declared.landing.Landing.{Landing}
 use Rattle.pr_domain.specs.declared.landing.Landing.TheVariants.{Arm, NoArm}
 use Rattle.pr_domain.specs.Landings.{IsLanding}
 use Rattle.pr_domain.specs.Outcomes.{Outcome, IsExpected, AreOutcomes}
-use Rattle.pr_verify.specs.Places.{Place, follows}
+use Rattle.pr_verify.specs.Places.{Place}
 use Rattle.pr_verify.specs.Outlines.{Outline, view_at, IsShownAt, ComesTo}
 use Rattle.pr_verify.specs.inside.Least.{Among, EachOf, IsLeastAmong}
 use Rattle.pr_verify.specs.inside.Lacking.{HasAll, Lacks, IsFirstLacking, HasView, lines_after, HasNext, LacksNext}
@@ -63,9 +61,11 @@ module _ (s : Scenario) (o : Outline) (p : Place) (v : View) (here : IsHere o p 
   exact x there = record {
     fits = (fits x there).0;
     cover = cover;
-    only = λ i is. let lands = are.only (x.0, view_of members own x.1) i (found x there) is in
-        (lands.after, record { from = lands.from; shown = lands.shown; reply = lands.reply; step = lands.step; landing = lands.landing },
-        subst (λ t. IsSo t lands.after i) (sym (fits x there).1) lands.is);
+    only = λ i is. let lands = are.only (x.0, view_of members own x.1) i (found x there) is in (
+      lands.after,
+      record { from = lands.from; shown = lands.shown; reply = lands.reply; step = lands.step; landing = lands.landing },
+      subst (λ t. IsSo t lands.after i) (sym (fits x there).1) lands.is,
+    );
     some = let come = are.come (x.0, view_of members own x.1) (found x there) in
         let lands = are.only (x.0, view_of members own x.1) come.0 (found x there) come.1 in
         (lands.after, record { from = lands.from; shown = lands.shown; reply = lands.reply; step = lands.step; landing = lands.landing });

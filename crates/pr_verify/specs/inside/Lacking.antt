@@ -1,5 +1,5 @@
 -- What the views of an outline have and lack, by where it comes from.
-use Rattle.std.specs.Prelude.{◌≡◌, ◌≢◌, ℕ, ◌<◌, List, length, Option, Some, None}
+use Rattle.std.specs.Prelude.{◌≢◌, ℕ, ◌<◌, List, length, Option, Some, None}
 use Rattle.std.specs.List.{slice_get, Contains}
 use Rattle.pr_unit.specs.UnitStates.{UnitState}
 use Rattle.pr_roles.specs.Scenarios.{Scenario, role}

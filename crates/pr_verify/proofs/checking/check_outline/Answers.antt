@@ -1,4 +1,4 @@
-use Rattle.std.proofs.Common.{◌≡◌, ℕ, ◌<◌, ◌≤◌, length, min, refl, rules, sym, ◌∙◌, subst, arith}
+use Rattle.std.proofs.Common.{ℕ, ◌≤◌, min, refl, rules, sym, ◌∙◌, subst, arith}
 use Rattle.std.proofs.lemmas.Result.{IfOk-weaker, IfErr-weaker, err_from_is_err_and}
 use Rattle.pr_script.specs.Costs.{cost_of_all}
 use Rattle.pr_script.specs.Trees.{script_of}
@@ -108,4 +108,4 @@ returns-in_err-check_cost-in-Scripted-clause-refusal g c =
     let over = c.in_err-check_cost-in-Scripted.ensures.over in
     let p = err_from_is_err_and c.from_residual.result c.from_residual.ensures.1 in
     subst (λ r. IfErr r Q) (sym p.1) (subst Q (sym (p.2 ∙ over.1))
-        (subst (λ t. OnScripted t (λ script budget. IsRefusal s script budget o (OverBudget host (min past_budgets (cost_of_all (script_of c.in-Scripted.script)))))) (sym is) (refl, over.0, refl)))
+    (subst (λ t. OnScripted t (λ script budget. IsRefusal s script budget o (OverBudget host (min past_budgets (cost_of_all (script_of c.in-Scripted.script)))))) (sym is) (refl, over.0, refl)))

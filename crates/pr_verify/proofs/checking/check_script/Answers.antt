@@ -1,4 +1,4 @@
-use Rattle.std.proofs.Common.{◌≡◌, ℕ, ◌≤◌, ◌+◌, true, List, length, map, Option, Some, None, rules, refl, sym, ap, ◌∙◌, subst, inl, inr, arith}
+use Rattle.std.proofs.Common.{◌≡◌, ℕ, List, length, map, Some, rules, refl, sym, ap, ◌∙◌, subst, inl, inr}
 use Rattle.std.specs.List.{All}
 use Rattle.pr_script.specs.Trees.{script_of}
 use Rattle.pr_script.specs.Grammar.{rise_above}
@@ -6,11 +6,11 @@ use Rattle.pr_roles.specs.Scenarios.{scenario_of}
 use Rattle.pr_views.specs.declared.view.ViewOf.{ViewOf}
 use Rattle.pr_views.specs.Rooms.{view_of}
 use Rattle.pr_verify.specs.declared.places.Spot.{Spot}
-use Rattle.pr_verify.specs.Outlines.{IsAsked, IsListed, IsSound}
+use Rattle.pr_verify.specs.Outlines.{IsAsked, IsSound}
 use Rattle.pr_verify.specs.Rooms.{outline_of}
 use Rattle.pr_verify.specs.inside.Listing.{place_of, IsPlaceWritten}
 use Rattle.pr_verify.specs.inside.Lacking.{IsFirstLacking}
-use Rattle.pr_verify.specs.inside.Reviewing.{IsLackingOfSends, IsFirstMisfit}
+use Rattle.pr_verify.specs.inside.Reviewing.{IsFirstMisfit}
 use Rattle.pr_verify.proofs.Checked.{spots_rise, spots_written, is_listed, differs_at, differing_read, same_lines, found_lacking, is_sound, lacks_first, is_fitting, is_refusal}
 use Rattle.pr_verify.proofs.checking.check_script.Goals as goal
 
@@ -29,9 +29,19 @@ review-requires g c =
     let spots = c.in_ok-spots.spots.items in
     let places = c.in_ok-spots.ensures.places in
     let same = same_lines c.deref.result.now c.args.outline.now.views.items c.deref-2.result.now spots c.differing.result c.deref.ensures.value c.deref-2.ensures.value c.differing.ensures c.in_default.is in
-    let rise = ap (rise_above 0) same ∙ spots_rise script spots places s.keys c.requires.written in
-    (search rules, (c.requires.host, (c.requires.made, (subst (All (λ x. IsPlaceWritten s.keys (place_of x))) (sym c.deref-4.ensures.value) (spots_written script spots places s.keys c.requires.written),
-        (subst (λ (xs : List Spot). map (λ (e : ℕ × ViewOf g.row.S.Denot). e.0) c.args.outline.now.views.items ≡ map (λ x. x.line) xs) (sym c.deref-4.ensures.value) same, rise)))))
+    let rise = ap (rise_above 0) same ∙ spots_rise script spots places s.keys c.requires.written in (
+      search rules,
+      (
+        c.requires.host,
+        (
+          c.requires.made,
+          (
+            subst (All (λ x. IsPlaceWritten s.keys (place_of x))) (sym c.deref-4.ensures.value) (spots_written script spots places s.keys c.requires.written),
+            (subst (λ (xs : List Spot). map (λ (e : ℕ × ViewOf g.row.S.Denot). e.0) c.args.outline.now.views.items ≡ map (λ x. x.line) xs) (sym c.deref-4.ensures.value) same, rise),
+          ),
+        ),
+      ),
+    )
 
 pub lacking_by_others-requires : goal.lacking_by_others-requires
 lacking_by_others-requires g c =

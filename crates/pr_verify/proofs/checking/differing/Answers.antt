@@ -1,4 +1,4 @@
-use Rattle.std.proofs.Common.{◌≡◌, ℕ, ◌+◌, ◌<◌, min, length, slice_index_or, Some, refl, sym, ap, ◌∙◌, arith}
+use Rattle.std.proofs.Common.{ℕ, min, length, Some, refl, sym, ap, ◌∙◌, arith}
 use Rattle.std.proofs.lemmas.List.{get_or_default}
 use Rattle.pr_views.specs.declared.view.ViewOf.{ViewOf}
 use Rattle.pr_verify.specs.declared.places.Spot.{Spot}
@@ -12,7 +12,7 @@ pub returns-then-i-spots : goal.returns-then-i-spots
 returns-then-i-spots g c =
     ap (λ (e : ℕ × ViewOf g.row.S.Denot). Some e.0) c.index-views-i.is
     ∙ sym (first_longer (λ (e : ℕ × ViewOf g.row.S.Denot). e.0) (λ (p : Spot). p.line) c.loop-i.i c.args.views.now c.args.spots.now c.index-views-i.result c.loop-i-test.true c.if-i-spots.true c.loop-i.invariant.agree
-        c.loop-i.invariant.within)
+    c.loop-i.invariant.within)
 
 pub returns-then-entry-spots : goal.returns-then-entry-spots
 returns-then-entry-spots g c =
@@ -34,9 +34,9 @@ loop-i-preserved g c = record {
 pub returns-then-views-spots : goal.returns-then-views-spots
 returns-then-views-spots g c =
     sym (second_longer (λ (e : ℕ × ViewOf g.row.S.Denot). e.0) (λ (p : Spot). p.line) (length c.args.views.now) c.args.views.now c.args.spots.now c.index-spots-views.result refl c.if-views-spots.true
-        (λ k d e small. c.loop-i.invariant.agree k d e (omega arith)))
+    (λ k d e small. c.loop-i.invariant.agree k d e (omega arith)))
 
 pub returns : goal.returns
 returns g c =
     sym (as_long (λ (e : ℕ × ViewOf g.row.S.Denot). e.0) (λ (p : Spot). p.line) (length c.args.views.now) c.args.views.now c.args.spots.now refl (let e = c.loop-i.invariant.within in omega arith)
-        (λ k d e small. c.loop-i.invariant.agree k d e (omega arith)))
+    (λ k d e small. c.loop-i.invariant.agree k d e (omega arith)))

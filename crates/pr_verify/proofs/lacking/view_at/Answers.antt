@@ -1,4 +1,4 @@
-use Rattle.std.proofs.Common.{◌≡◌, Some, None, ap, ◌∙◌, sym, subst, arith}
+use Rattle.std.proofs.Common.{Some, ap, ◌∙◌, sym, arith}
 use Rattle.pr_views.specs.Rooms.{view_of}
 use Rattle.pr_verify.specs.Outlines.{view_at}
 use Rattle.pr_verify.proofs.Lookups.{entries, view_at_found, view_at_none, other_more}

@@ -1,13 +1,12 @@
-use Rattle.std.proofs.Common.{◌≡◌, ◌+◌, ◌<◌, true, length, rules, sym, ap, ◌∙◌, subst, arith}
+use Rattle.std.proofs.Common.{◌≡◌, ◌<◌, true, length, rules, sym, ◌∙◌, subst, arith}
 use Rattle.std.proofs.lemmas.Bool.{false≢true}
 use Rattle.pr_roles.specs.Fitting.{is_role}
 use Rattle.pr_roles.specs.Scenarios.{scenario_of}
-use Rattle.pr_views.specs.Views.{Within}
-use Rattle.pr_views.specs.Rooms.{scope_of, view_of}
+use Rattle.pr_views.specs.Rooms.{view_of}
 use Rattle.pr_views.proofs.Viewing.{fits}
 use Rattle.pr_verify.proofs.Begun.{any_own, scope_alike}
 use Rattle.pr_verify.proofs.Nexuses.{IsRead, role_read, role_fits, is_kept}
-use Rattle.pr_verify.proofs.Disturbed.{IsClosedTo, closed_to_none, closed_own, closed_one, open_by}
+use Rattle.pr_verify.proofs.Disturbed.{closed_to_none, closed_own, closed_one, open_by}
 use Rattle.pr_verify.proofs.others.is_closed.Given as given
 use Rattle.pr_verify.proofs.others.is_closed.Goals.{then-other-own+in_ok-left+else-not-within, else-other-own}
 use Rattle.pr_verify.proofs.others.is_closed.Goals as goal
@@ -42,7 +41,7 @@ interfere-requires g c = (
         (
           λ same. c.if-other-own.true (sym same),
           subst (λ keys. is_role keys c.index.result.now.role.clauses.items ≡ true) (sym c.requires.keys)
-          (role_fits c.args.scenario.now c.parts.result.now c.from.result c.loop-other.other c.index.result.now (read g c)),
+              (role_fits c.args.scenario.now c.parts.result.now c.from.result c.loop-other.other c.index.result.now (read g c)),
         ),
       ),
     ),

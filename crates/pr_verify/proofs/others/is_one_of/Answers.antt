@@ -1,4 +1,4 @@
-use Rattle.std.proofs.Common.{◌≡◌, rules, sym, ap, ◌∙◌, subst, arith}
+use Rattle.std.proofs.Common.{rules, sym, subst}
 use Rattle.pr_verify.proofs.Mapped.{mapped, read_there}
 use Rattle.pr_views.specs.Rooms.{view_of, IsMade, AreAlike}
 use Rattle.pr_verify.proofs.others.is_one_of.Goals as goal

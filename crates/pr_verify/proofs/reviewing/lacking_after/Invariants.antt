@@ -1,7 +1,5 @@
-use Rattle.std.proofs.Common.{ℕ, map}
-use Rattle.pr_views.specs.declared.view.ViewOf.{ViewOf}
+use Rattle.std.proofs.Common.{map}
 use Rattle.pr_views.specs.Rooms.{view_of}
-use Rattle.pr_domain.specs.declared.landing.Landing.{Landing}
 use Rattle.pr_verify.specs.Rooms.{outline_of}
 use Rattle.pr_verify.specs.inside.Least.{IsLeastAmong}
 use Rattle.pr_verify.specs.inside.Lacking.{lines_after, HasNext, LacksNext}

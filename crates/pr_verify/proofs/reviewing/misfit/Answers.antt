@@ -1,5 +1,5 @@
-use Rattle.std.proofs.Common.{◌≡◌, ◌<◌, length, map, refl, sym, ap, ◌∙◌, subst, arith}
-use Rattle.pr_roles.specs.Scenarios.{scenario_of, role}
+use Rattle.std.proofs.Common.{refl, sym, subst, arith}
+use Rattle.pr_roles.specs.Scenarios.{scenario_of}
 use Rattle.pr_views.specs.Rooms.{view_of}
 use Rattle.pr_domain.specs.Outcomes.{IsPermittedIn, IsRefusedIn}
 use Rattle.pr_verify.specs.Rooms.{outline_of}

@@ -1,4 +1,4 @@
-use Rattle.std.proofs.Common.{◌≡◌, ◌<◌, ℕ, List, length, map, refl, rules, sym, ap, ◌∙◌, subst}
+use Rattle.std.proofs.Common.{◌≡◌, ◌<◌, List, length, map, refl, rules, sym, ◌∙◌, subst}
 use Rattle.std.specs.List.{All, Contains}
 use Rattle.std.proofs.lemmas.List.Elements.{All-weaker, All-contains}
 use Rattle.pr_roles.specs.Scenarios.{scenario_of}
@@ -42,12 +42,12 @@ returns-clause-lacking g c =
     let scope = scope_same s own view c.requires.view.keys c.requires.view.hosts in
     let known : (x : Landing × ViewOf g.row.S.Denot) → Contains xs x → Fits (view_of members own x.1) × ((view_of members own x.1).scope ≡ v.scope) =
     λ x there.
-        let is = All-contains (λ (y : Landing × ViewOf g.row.S.Denot). IsMade room y.1 × AreAlike view y.1) xs x c.in_ok-outcomes.ensures.made there in
-        (fits members room g.met.S.ViewSet.below x.1 own is.0 (subst (λ n. own < n) (sym c.requires.view.hosts ∙ is.1.hosts) c.requires.host), scope_alike own view x.1 is.1) in
+    let is = All-contains (λ (y : Landing × ViewOf g.row.S.Denot). IsMade room y.1 × AreAlike view y.1) xs x c.in_ok-outcomes.ensures.made there in
+    (fits members room g.met.S.ViewSet.below x.1 own is.0 (subst (λ n. own < n) (sym c.requires.view.hosts ∙ is.1.hosts) c.requires.host), scope_alike own view x.1 is.1) in
     let least = subst (λ (next : List _). IsLeastAmong (length xs) xs (λ y. HasNext o (lines_after (map (λ lines. lines.items) next) y.0) (view_of members own y.1)) (λ y. LacksNext o (lines_after (map (λ lines. lines.items) next) y.0) (view_of members own y.1)) c.lacking_after.result)
     c.deref-3.ensures.value
     (subst (λ (ys : List (Landing × ViewOf g.row.S.Denot)). IsLeastAmong (length ys) ys (λ y. HasNext o (lines_after (map (λ lines. lines.items) c.deref-3.result.now) y.0) (view_of members own y.1))
-        (λ y. LacksNext o (lines_after (map (λ lines. lines.items) c.deref-3.result.now) y.0) (view_of members own y.1)) c.lacking_after.result)
+    (λ y. LacksNext o (lines_after (map (λ lines. lines.items) c.deref-3.result.now) y.0) (view_of members own y.1)) c.lacking_after.result)
     c.deref-2.ensures.value c.lacking_after.ensures) in
     lacks_next s o p v (record { at = c.requires.here; own = refl }) (subst (AreScoped o) (sym scope) (scoped members room s c.args.outline.now c.requires.made)) members own xs
     (subst (λ tests. AreOutcomes v p.command tests (map (λ x. (x.0, view_of members own x.1)) xs)) c.deref.ensures.value c.in_ok-outcomes.ensures.outcomes) known c.lacking_after.result least

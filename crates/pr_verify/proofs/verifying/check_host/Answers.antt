@@ -1,29 +1,52 @@
-use Rattle.std.proofs.Common.{rules, ◌≡◌, ℕ, ◌<◌, length, IfOk, IfErr, OnOk, ◌+◌, ◌-◌, ◌*◌, ◌≤◌, ◌/◌, ◌%◌, Bool, true, false, nat_eq, nat_lt, List, [], ◌∷◌, ◌++◌, slice_index_or, slice_set, bit_and, bit_or, Fits, w8, w32, w64, Bor, MutBor}
-use Rattle.pr_roles.specs.Scenarios.{scenario_of, task}
-use Rattle.pr_roles.specs.Safety.{IsSafe}
-use Rattle.pr_verify.specs.Outlines.{OnScripted, HasOutline, HaveOutlines}
+use Rattle.std.proofs.Common.{rules, Some, sym, ap, ◌∙◌, subst, arith}
+use Rattle.pr_roles.specs.Scenarios.{scenario_of, task, task_of}
+use Rattle.pr_script.specs.Trees.{script_of}
+use Rattle.pr_verify.specs.Outlines.{OnScripted, HasOutline}
+use Rattle.pr_verify.specs.Rooms.{IsScripted}
+use Rattle.pr_verify.proofs.Nexuses.{IsRead, is_kept, scripted_task, scripted_fits, task_read}
+use Rattle.pr_verify.proofs.Tasked.{on_script}
+use Rattle.pr_verify.proofs.Outlined.{has_outline, all_ok}
 use Rattle.pr_verify.proofs.verifying.check_host.Goals as goal
 
--- src/verifying.rt:89:12
 pub index-requires : goal.index-requires
-index-requires c = ?
+index-requires c =
+    let all = is_kept c.args.scenario.now c.parts.result.now c.from.result c.args.host c.parts.ensures.value c.from.ensures c.requires in
+    omega (arith, c.parts.result.now.nexuses.ok.0)
 
--- src/verifying.rt:91:13
 pub check_cost-requires : goal.check_cost-requires
-check_cost-requires c = ?
+check_cost-requires c =
+    let read : IsRead c.args.scenario.now c.parts.result.now c.from.result c.args.host c.index.result.now = record { same = c.parts.ensures.value; fits = c.parts.ensures.fits; place = c.from.ensures; there = c.requires; read = c.index.ensures } in
+    (scripted_fits c.args.scenario.now c.parts.result.now c.from.result c.args.host c.index.result.now read c.in-Scripted.script c.in-Scripted.budget c.in-Scripted.is).1
 
--- src/verifying.rt:92:27
 pub infer-requires : goal.infer-requires
-infer-requires c = ?
+infer-requires c =
+    let read : IsRead c.args.scenario.now c.parts.result.now c.from.result c.args.host c.index.result.now = record { same = c.parts.ensures.value; fits = c.parts.ensures.fits; place = c.from.ensures; there = c.requires; read = c.index.ensures } in
+    let is = scripted_task c.args.scenario.now c.parts.result.now c.from.result c.args.host c.index.result.now read c.in-Scripted.script c.in-Scripted.budget c.in-Scripted.is in
+    record { scripted = subst IsScripted (sym is) tt }
 
--- src/verifying.rt:93:13
 pub check_script-requires : goal.check_script-requires
-check_script-requires c = ?
+check_script-requires c =
+    let read : IsRead c.args.scenario.now c.parts.result.now c.from.result c.args.host c.index.result.now = record { same = c.parts.ensures.value; fits = c.parts.ensures.fits; place = c.from.ensures; there = c.requires; read = c.index.ensures } in
+    let fits = scripted_fits c.args.scenario.now c.parts.result.now c.from.result c.args.host c.index.result.now read c.in-Scripted.script c.in-Scripted.budget c.in-Scripted.is in
+    let same = c.in_ok-outline-in-Scripted.ensures.host in
+    (search rules, (omega (arith, c.requires), (fits.0, (c.parts.ensures.starts, c.in_ok-outline-in-Scripted.ensures.made))))
 
--- src/verifying.rt:85:1
 pub returns-in_ok-outline-in-Scripted : goal.returns-in_ok-outline-in-Scripted
-returns-in_ok-outline-in-Scripted c = ?
+returns-in_ok-outline-in-Scripted c =
+    let s = scenario_of c.args.scenario.now in
+    let host = c.args.host in
+    let script = script_of c.in-Scripted.script in
+    let budget = c.in-Scripted.budget in
+    let read : IsRead c.args.scenario.now c.parts.result.now c.from.result c.args.host c.index.result.now = record { same = c.parts.ensures.value; fits = c.parts.ensures.fits; place = c.from.ensures; there = c.requires; read = c.index.ensures } in
+    let is = scripted_task c.args.scenario.now c.parts.result.now c.from.result host c.index.result.now read c.in-Scripted.script budget c.in-Scripted.is in
+    all_ok c.check_script.result
+    (λ fields sound fitting. on_script (task s host) script budget (HasOutline s host) is
+    (has_outline s host script budget fields c.in_ok-outline-in-Scripted.ensures.host sound (fitting budget c.in_ok-check_cost-in-Scripted.ensures.within)))
+    c.check_script.ensures.fields c.check_script.ensures.sound c.check_script.ensures.fitting
 
--- src/verifying.rt:85:1
 pub returns-in-Planned : goal.returns-in-Planned
-returns-in-Planned c = ?
+returns-in-Planned c =
+    let s = scenario_of c.args.scenario.now in
+    let read : IsRead c.args.scenario.now c.parts.result.now c.from.result c.args.host c.index.result.now = record { same = c.parts.ensures.value; fits = c.parts.ensures.fits; place = c.from.ensures; there = c.requires; read = c.index.ensures } in
+    let is = task_read c.args.scenario.now c.parts.result.now c.from.result c.args.host c.index.result.now read ∙ ap (λ t. Some (task_of t)) c.in-Planned.is in
+    subst (λ t. OnScripted t (HasOutline s c.args.host)) (sym is) tt

@@ -1,25 +1,25 @@
-use Rattle.std.proofs.Common.{rules, ◌≡◌, ℕ, ◌<◌, length, IfOk, IfErr, OnOk, ◌+◌, ◌-◌, ◌*◌, ◌≤◌, ◌/◌, ◌%◌, Bool, true, false, nat_eq, nat_lt, List, [], ◌∷◌, ◌++◌, slice_index_or, slice_set, bit_and, bit_or, Fits, w8, w32, w64, Bor, MutBor}
+use Rattle.std.proofs.Common.{arith}
 use Rattle.pr_roles.specs.Scenarios.{scenario_of, task}
-use Rattle.pr_roles.specs.Safety.{IsSafe}
-use Rattle.pr_verify.specs.Outlines.{OnScripted, HasOutline, HaveOutlines}
+use Rattle.pr_verify.specs.Outlines.{OnScripted, HasOutline}
+use Rattle.pr_domain.proofs.Written.{are_counted}
+use Rattle.pr_verify.proofs.Outlined.{below_next}
 use Rattle.pr_verify.proofs.verifying.check_hosts.Goals as goal
 
--- src/verifying.rt:76:17
 pub overflow_cast-hosts : goal.overflow_cast-hosts
-overflow_cast-hosts c = ?
+overflow_cast-hosts c = let few = (are_counted c.args.scenario.now c.parts.result.now c.len-hosts.result c.parts.ensures.value c.parts.ensures.fits c.len-hosts.ensures).few.1 in omega arith
 
--- src/verifying.rt:77:5
 pub loop-host-init : goal.loop-host-init
-loop-host-init c = ?
+loop-host-init c h small = absurd (omega arith)
 
--- src/verifying.rt:78:9
 pub check_host-requires : goal.check_host-requires
-check_host-requires c = ?
+check_host-requires c = let all = (are_counted c.args.scenario.now c.parts.result.now c.len-hosts.result c.parts.ensures.value c.parts.ensures.fits c.len-hosts.ensures).nexuses in let small = c.loop-host-test.true in omega arith
 
--- src/verifying.rt:77:5
 pub loop-host-preserved : goal.loop-host-preserved
-loop-host-preserved c = ?
+loop-host-preserved c =
+    let s = scenario_of c.args.scenario.now in
+    below_next (λ h. OnScripted (task s h) (HasOutline s h)) c.loop-host.host c.loop-host.invariant c.in_ok-check_host.ensures
 
--- src/verifying.rt:73:1
 pub returns : goal.returns
-returns c = ?
+returns c h small =
+    let all = (are_counted c.args.scenario.now c.parts.result.now c.len-hosts.result c.parts.ensures.value c.parts.ensures.fits c.len-hosts.ensures).nexuses in
+    c.loop-host.invariant h (let last = c.loop-host-test.false in omega arith)
