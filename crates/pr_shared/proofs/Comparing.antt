@@ -1,7 +1,7 @@
 -- What a comparison of a world with the seats' lists says.
-use Rattle.std.proofs.Common.{◌≡◌, ℕ, zero, suc, ◌+◌, ◌<◌, ◌≤◌, ◌==◌, Bool, true, false, IsTrue, List, [], ◌∷◌, ◌++◌, length, take, get_or, Option, Some, refl, sym, ap, ◌∙◌, subst, cond, arith}
+use Rattle.std.proofs.Common.{◌≡◌, ℕ, suc, ◌+◌, ◌<◌, ◌≤◌, ◌==◌, Bool, true, false, IsTrue, List, [], ◌∷◌, ◌++◌, length, take, get_or, Option, Some, refl, sym, ap, ◌∙◌, subst, cond, arith}
 use Rattle.std.specs.Prelude.{◌↔◌, map}
-use Rattle.std.specs.List.{All, filter, list_all, range_with_len}
+use Rattle.std.specs.List.{All, list_all, range_with_len}
 use Rattle.std.proofs.lemmas.Bool.{false≢true}
 use Rattle.std.proofs.lemmas.Bool.Decides.{nat_tests}
 use Rattle.std.proofs.lemmas.List.{get_or-map, length-map, map-append, map_more, take_all}
@@ -18,7 +18,7 @@ use Rattle.pr_world.specs.Ends.{Ending, ending, seen}
 use Rattle.pr_world.specs.Progress.{Progress}
 use Rattle.pr_shared.specs.Guests.{guests_of}
 use Rattle.pr_shared.specs.Histories.{IsLegalWorld, entries_by, entries_of}
-use Rattle.pr_shared.specs.Outcomes.{AreOver, IsClosed, IsHalted, endings_in, is_over}
+use Rattle.pr_shared.specs.Outcomes.{IsClosed, IsHalted, endings_in, is_over}
 
 -- ---- list by list
 

@@ -51,6 +51,9 @@ unfolding scenario_of
 known_nexuses p q ns guests are same items =
     ap length (whole p q ns same items) ∙ (sym (length-map (map nexus_of p.nexuses.items) (λ n. is_planned n.task) ∙ length-map p.nexuses.items nexus_of) ∙ ap length are)
 
+pub number_of_guests : (p q : Parts) (n : ℕ) (guests : List Bool) → guests_of (scenario_of p) ≡ guests → q ≡ p → n ≡ vec_len q.nexuses → n ≡ length guests
+number_of_guests p q n guests are same is = is ∙ (q.nexuses.ok.0 ∙ known_nexuses p q q.nexuses.items guests are same refl)
+
 pub rooms_of_parts : (ns : List NexusPart) → map (λ n. room_of (task_of n.task) + 1) ns ≡ map (λ n. room_of n.task + 1) (map nexus_of ns)
 rooms_of_parts [] = refl
 rooms_of_parts (n ∷ ns) = ap (λ rs. (room_of (task_of n.task) + 1) ∷ rs) (rooms_of_parts ns)

@@ -13,10 +13,7 @@ pub enum RunError {
     /// The thread of this host or guest could not be started, and for those after it none was tried. Those before it ran
     /// to their end, and this is their history.
     #[error("no thread for host {host}")]
-    Spawn {
-        host: u8,
-        history: Vec<Entry>,
-    },
+    Spawn { host: u8, history: Vec<Entry> },
     /// The world and the seats don't belong together, or one of them has not come to its end.
     #[error("the world differs from the seats")]
     Differs,

@@ -4,6 +4,7 @@ ghost use Rattle.std.specs.Prelude.{◌≡◌, ◌↔◌, ◌<◌, IsTrue, IfOk,
 ghost use Rattle.std.specs.List.{All, range_with_len};
 ghost use Rattle.pr_roles.specs.Scenarios.{scenario_of};
 ghost use Rattle.pr_shared.specs.Guests.{guests_of};
+ghost use Rattle.pr_shared.specs.Histories.{entries_by};
 ghost use Rattle.pr_shared.specs.Outcomes.{IsHalted, IsOutcome};
 ghost use Rattle.pr_shared.specs.RunAnswers.{IfSpawn};
 ghost use Rattle.pr_shared.specs.inside.Starting.{StartedBut};
@@ -76,8 +77,11 @@ fn settled<C: Round>(
     requires parts { C.parts ≡ length C.guests }
     requires started { StartedBut failed (map (λ s. s.host) seats.items) (range_with_len 0 (length C.guests)) }
     ensures outcome { IfOk result (IsOutcome (scenario_of shared.kept.scenario)) }
+    ensures own { IfOk result (λ outcome.
+        entries_by (length C.guests) outcome.history.items ≡ map (λ s. s.mine.items) seats.items) }
     ensures known { IfErr result (IfSpawn (λ host history. host < length C.guests)) }
     ensures halted { IfErr result (IfSpawn (IsHalted (scenario_of shared.kept.scenario))) }
+    ensures sent { IfErr result (IfSpawn (λ host history. entries_by host history ≡ map (λ s. s.mine.items) seats.items)) }
 {
     if let Some(host) = failed {
         return match shared.halt(seats) {

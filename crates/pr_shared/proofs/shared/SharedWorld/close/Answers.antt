@@ -1,4 +1,4 @@
-use Rattle.std.proofs.Common.{◌∙◌, sym, arith}
+use Rattle.std.proofs.Common.{◌∙◌, arith}
 use Rattle.pr_roles.specs.Scenarios.{scenario_of}
 use Rattle.pr_shared.proofs.Comparing.{closed_own, guests_length, ordered_length}
 use Rattle.pr_shared.proofs.shared.SharedWorld.close.Goals as goal
