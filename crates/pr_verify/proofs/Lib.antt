@@ -31,3 +31,9 @@ pub mod Sketches
 pub mod Recalled
 pub mod Tasked
 pub mod Outlined
+pub mod Gaining
+pub mod Drawn
+pub mod Bounded
+pub mod Settling
+pub mod Visiting
+pub mod Inferred

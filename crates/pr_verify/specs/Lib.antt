@@ -1,5 +1,6 @@
 pub mod Places
 pub mod Outlines
+pub mod LeastOutlines
 pub mod Refusals
 pub mod Rooms
 pub mod Laws
