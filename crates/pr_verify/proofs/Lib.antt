@@ -37,3 +37,4 @@ pub mod Bounded
 pub mod Settling
 pub mod Visiting
 pub mod Inferred
+pub mod Reasons

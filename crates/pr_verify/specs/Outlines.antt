@@ -81,9 +81,10 @@ pub data IsAsked (s : Scenario) (script : Stmts) (o : Outline) (line : ℕ) (u :
 abbrev pub IsListed : Stmts → Outline → Type 0
 IsListed script o = map (λ e. e.0) o.views ≡ map (λ p. p.line) (places_of script)
 
--- The outline has a view for each send, and each view shows every state that it has to.
+-- The outline has a view of the host for each send, and each view shows every state that it has to.
 pub record IsSound (s : Scenario) (script : Stmts) (o : Outline) : Type 0 where
   pub listed : IsListed script o
+  pub scenario : IsOfScenario s o
   pub shows : (line : ℕ) (u : UnitState) → IsAsked s script o line u → IsShownAt o line u
 
 -- ---- what safety asks
