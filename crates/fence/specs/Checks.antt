@@ -2,18 +2,21 @@
 use Rattle.std.specs.Prelude.{◌≡◌, ℕ, Bool, List, Option, Result}
 use Rattle.pr_roles.specs.Scenarios.{Scenario}
 use Rattle.pr_roles.specs.Safety.{IsSafe}
+use Rattle.pr_verify.specs.Outlines.{HaveOutlines}
+use Rattle.pr_verify.specs.Verdicts.{IsFirstReason}
 use Rattle.pr_text.specs.Readings.{IsWrittenAs}
 use Rattle.pr_report.specs.TraceText.{names_in}
-use Rattle.pr_report.specs.Verdicts.{IsReason, is_refusal, verdict_text}
+use Rattle.pr_report.specs.Verdicts.{is_refusal, verdict_text}
 use Rattle.pr_report.specs.declared.verdict.Verdict.{Verdict}
 use Rattle.pr_report.specs.declared.verdict.Verdict.TheVariants.{Accepted, Refused, Legal, Illegal}
 use Rattle.fence.specs.declared.fault.Fault.{Fault}
 use Rattle.fence.specs.Endings.{Outputs}
 
--- A scenario that is accepted is safe, and for one that is refused there is a reason. Of histories a check says nothing.
+-- A scenario that is accepted is safe, and its hosts have outlines that are sound and fit. One that is refused is so for the
+-- first reason that the least sound outlines show. Of histories a check says nothing.
 abbrev pub Holds : Verdict → Scenario → Type 0
-Holds Accepted s = IsSafe s
-Holds (Refused reason) s = IsReason reason
+Holds Accepted s = IsSafe s × HaveOutlines s
+Holds (Refused reason) s = IsFirstReason s reason
 Holds (Legal entries) s = ⊥
 Holds (Illegal place) s = ⊥
 

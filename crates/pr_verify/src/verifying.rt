@@ -55,11 +55,12 @@ pub struct Refused {
 /// Verifies the scenario. When it is accepted, then from every start that it declares and under every interleaving of the
 /// scripted hosts' commands with any permitted commands of the guests, no script meets a reply for which it has no arm,
 /// none sends more commands than its budget, and each of its commands that ends GOOD is one that its role permits at that
-/// moment. When it is refused, it is handed back with the first reason that its hosts' least sound outlines show, or since
+/// moment: each of them has an outline that is sound and fits. When it is refused, it is handed back with the first reason that its hosts' least sound outlines show, or since
 /// memory was refused; but for memory, no sound outlines of its hosts fit.
 pub fn verify(alloc: Global, scenario: Scenario) -> Result<Verified, Refused>
     ensures same { IfOk result (λ verified. verified ≡ scenario) }
     ensures safe { IfOk result (λ verified. IsSafe (scenario_of verified)) }
+    ensures outlines { IfOk result (λ verified. HaveOutlines (scenario_of verified)) }
     ensures back { IfErr result (λ refused. refused.scenario ≡ scenario) }
     ensures verdict { IfErr result (λ refused. IsVerdict (scenario_of scenario) refused.refusal) }
     ensures none { IfErr result (λ refused. refused.refusal ≢ Refusal.Memory → ¬ HaveOutlines (scenario_of scenario)) }
