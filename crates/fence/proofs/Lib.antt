@@ -2,3 +2,4 @@ pub mod Naming
 pub mod Plans
 pub mod Judging
 pub mod Auditing
+pub mod Performing
