@@ -1,7 +1,7 @@
 -- A scenario that was run or refused, and what is written of it.
-use Rattle.std.proofs.Common.{◌≡◌, ℕ, ◌^◌, ◌<◌, ◌≤◌, Bool, true, List, [], ◌∷◌, zero, suc, Option, Some, None, Result, Ok, Err, refl, sym, subst, arith}
+use Rattle.std.proofs.Common.{◌≡◌, ℕ, ◌^◌, ◌<◌, ◌≤◌, Bool, true, List, [], ◌∷◌, zero, suc, Option, Some, None, Result, Ok, Err, refl, sym, ap, ◌∙◌, subst, arith}
 use Rattle.std.specs.Prelude.{◌==◌, not, nat_le, IfSome, IsErrAnd, is_err, length, map, bytes_eq, slice_index_or}
-use Rattle.std.specs.List.{list_all, slice_get}
+use Rattle.std.specs.List.{list_all, range_with_len, slice_get}
 use Rattle.std.specs.Option.{option_map_or}
 use Rattle.std.specs.Io.KnownBytes.{Appends}
 use Rattle.std.proofs.lemmas.Bool.{and_parts}
@@ -13,16 +13,19 @@ use Rattle.pr_roles.specs.Safety.{IsSafe}
 use Rattle.pr_roles.specs.Fitting.{Fits, are_distinct, are_nexuses, is_nexus}
 use Rattle.pr_roles.specs.Worlds.{sent}
 use Rattle.pr_text.specs.Readings.{IsWrittenAs}
+use Rattle.pr_roles.specs.declared.entry.Entry.{Entry}
+use Rattle.pr_world.specs.declared.end.End.{End}
+use Rattle.pr_world.specs.Ends.{seen}
 use Rattle.pr_world.specs.Rooms.{room_by}
 use Rattle.pr_world.proofs.Keeping.{sent_within}
 use Rattle.pr_world.proofs.Reserving.{room_of_nexus}
 use Rattle.pr_shared.specs.declared.outcome.Outcome.{Outcome}
 use Rattle.pr_shared.specs.Outcomes.{IsOutcome}
-use Rattle.pr_report.specs.TraceText.{name_of, names_of}
+use Rattle.pr_report.specs.TraceText.{name_of, names_in, names_of, trace_text}
 use Rattle.pr_report.specs.Written.{FallsShort}
 use Rattle.fence.specs.declared.fault.Fault.{Fault}
 use Rattle.fence.specs.declared.fault.Fault.TheVariants as fault
-use Rattle.fence.specs.Runs.{EndsRun, IsRunOf}
+use Rattle.fence.specs.Runs.{EndsRun, IsRunOf, counts_in, outcome_text}
 use Rattle.fence.specs.inside.Performances.{Performed, IsPerformed, IsRunFault, Stands, performed_text, scenario_in}
 use Rattle.fence.specs.inside.Judgements.{Judgement, Stands as Judged, scenario_in as judged_in}
 use Rattle.fence.specs.declared.runs.Ran.{Ran}
@@ -86,6 +89,16 @@ few_sent s o h fits safe comes =
     let here : sent o.history.items h ≤ room_by (task s h) = subst (λ es. sent es h ≤ room_by (task s h)) (sym comes.history) kept in
     omega (arith, here, short_rooms s h fits)
 
+pub counts_at : (s : Scenario) (o : Outcome) (history : List Entry) (n : ℕ) (counts : List ℕ) → counts ≡ map (λ h. sent history h) (range_with_len 0 n)
+    → history ≡ o.history.items → n ≡ length s.nexuses → counts ≡ counts_in s o.history.items
+counts_at s o history n counts is same all =
+    is ∙ (ap (λ es. map (λ h. sent es h) (range_with_len 0 n)) same ∙ ap (λ n. map (λ h. sent o.history.items h) (range_with_len 0 n)) all)
+
+pub text_of_outcome : (s : Scenario) (o : Outcome) (history : List Entry) (ends : List End) (counts : List ℕ) → history ≡ o.history.items → ends ≡ o.ends.items
+    → counts ≡ counts_in s o.history.items → trace_text (names_in s) history o.unit.registry (map seen ends) counts ≡ outcome_text s o
+text_of_outcome s o history ends counts same ended counted =
+    λ i. trace_text (names_in s) (same i) o.unit.registry (map seen (ended i)) (counted i)
+
 -- ---- names
 
 pub named_there : (ns : List NexusPart) (h : ℕ) (d : NexusPart) → h < length ns → name_of (names_of ns) h ≡ (slice_index_or ns h d).name.bytes
@@ -119,7 +132,7 @@ fault_in known s (fault.Input e) read safe is = absurd is
 fault_in known s (fault.Trace e) read safe is = absurd is
 fault_in None s (fault.Thread name) read safe is = tt
 fault_in (Some text) s (fault.Thread name) read safe is =
-    record { scenario = s; read = read; safe = safe; host = is.0; there = is.1.0; name_is = is.1.1 }
+    record { scenario = s; read = read; safe = safe; host = is.0; there = is.1; name_is = is.2 }
 fault_in known s fault.History read safe is = tt
 fault_in known s fault.Memory read safe is = tt
 fault_in known s fault.Output read safe is = absurd is

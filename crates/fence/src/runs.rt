@@ -160,7 +160,7 @@ fn put_performed<W: Write>(
     }
 }
 
-#[tactic(auto, using(crate::proofs::Performing::few_sent, crate::proofs::Plans::nexuses_in, crate::proofs::Naming::few_nexuses))]
+#[tactic(auto, using(crate::proofs::Plans::nexuses_in, crate::proofs::Naming::few_nexuses))]
 fn put_outcome<W: Write>(
     writer: &mut W,
     scenario: &Scenario,

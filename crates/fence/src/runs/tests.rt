@@ -47,6 +47,7 @@ keys a1
 // What the run of a text writes and tells, and its status.
 fn assert_run<T: Threads + Wait + Sync + Abort, R: Read>(
     rt: &T,
+    alloc: Global,
     reader: &mut R,
     wanted: Status,
     output: &[u8],
@@ -54,7 +55,7 @@ fn assert_run<T: Threads + Wait + Sync + Abort, R: Read>(
 ) {
     let mut out = Page::new();
     let mut errors = Page::new();
-    let status = do_run(rt, Global, reader, &mut out, &mut errors);
+    let status = do_run(rt, alloc, reader, &mut out, &mut errors);
     assert_eq!(rt; status, wanted);
     assert_eq!(rt; out.as_slice(), output);
     assert_eq!(rt; errors.as_slice(), told);
@@ -63,13 +64,13 @@ fn assert_run<T: Threads + Wait + Sync + Abort, R: Read>(
 #[test]
 fn an_accepted_scenario_is_run(rt: HostRuntime) {
     let mut text = ALONE;
-    assert_run(&rt, &mut text, Status::Done, ALONE_TRACE, b"");
+    assert_run(&rt, rt.alloc(), &mut text, Status::Done, ALONE_TRACE, b"");
 }
 
 #[test]
 fn a_refused_scenario_has_its_verdict(rt: HostRuntime) {
     let mut text = NO_ARM;
-    assert_run(&rt, &mut text, Status::Refused, NO_ARM_VERDICT, b"");
+    assert_run(&rt, rt.alloc(), &mut text, Status::Refused, NO_ARM_VERDICT, b"");
 }
 
 #[test]
@@ -77,6 +78,7 @@ fn a_fault_of_the_text_is_told(rt: HostRuntime) {
     let mut text = NO_SCENARIO;
     assert_run(
         &rt,
+        rt.alloc(),
         &mut text,
         Status::Fault,
         b"",
@@ -89,7 +91,7 @@ fn a_failed_read_is_told(rt: HostRuntime) {
     for fill in [0, 1, ALONE.len() - 1] {
         let mut reader = Failing { rest: ALONE, fill };
         let told = b"fence: input 10 ReadFault\n";
-        assert_run(&rt, &mut reader, Status::Fault, b"", told);
+        assert_run(&rt, rt.alloc(), &mut reader, Status::Fault, b"", told);
     }
 }
 
@@ -100,7 +102,7 @@ fn a_failed_write_is_told(rt: HostRuntime) {
             let mut rest = text;
             let mut out = OneByte::new(fill);
             let mut errors = Page::new();
-            let status = do_run(&rt, Global, &mut rest, &mut out, &mut errors);
+            let status = do_run(&rt, rt.alloc(), &mut rest, &mut out, &mut errors);
             assert_eq!(rt; status, Status::Fault);
             assert_eq!(rt; out.taken.as_slice(), &output[..fill]);
             assert_eq!(rt; errors.as_slice(), b"fence: output\n".as_slice());
