@@ -61,7 +61,9 @@ fn replay<'a>(alloc: Global) -> Result<Command<'a>, AllocError> {
 
 fn run<'a>(alloc: Global) -> Result<Command<'a>, AllocError> {
     Command::new(alloc, "run")
-        .about("Verifies the scripts, runs the scenario with a thread for each host and guest, and writes the trace")
+        .about(
+            "Verifies the scripts, runs the scenario with a thread for each host and guest, and writes the trace",
+        )
         .after_help(RUN_CALL)
         .arg(file(alloc))
 }

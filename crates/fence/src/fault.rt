@@ -251,10 +251,7 @@ fn put_thread<W: Write>(errors: &mut W, name: &Name) -> Result<(), WriteFault>
 {
     put_told(
         errors,
-        &[
-            Word::Text(b"thread"),
-            Word::Text(name.as_str().as_bytes()),
-        ],
+        &[Word::Text(b"thread"), Word::Text(name.as_str().as_bytes())],
     )
 }
 

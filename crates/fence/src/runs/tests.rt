@@ -70,7 +70,14 @@ fn an_accepted_scenario_is_run(rt: HostRuntime) {
 #[test]
 fn a_refused_scenario_has_its_verdict(rt: HostRuntime) {
     let mut text = NO_ARM;
-    assert_run(&rt, rt.alloc(), &mut text, Status::Refused, NO_ARM_VERDICT, b"");
+    assert_run(
+        &rt,
+        rt.alloc(),
+        &mut text,
+        Status::Refused,
+        NO_ARM_VERDICT,
+        b"",
+    );
 }
 
 #[test]

@@ -18,5 +18,5 @@ returns g c =
     let all = number_of_nexuses p p c.parts.result.now c.len.result refl c.parts.ensures.value c.len.ensures in
     let counts = counts_at (scenario_of p) c.args.outcome.now c.deref.result.now c.len.result c.counts_of-counts.result.items c.counts_of-counts.ensures c.deref.ensures.value all in
     let text = text_of_outcome (scenario_of p) c.args.outcome.now c.deref-2.result.now c.deref-3.result.now c.deref-4.result.now c.deref-2.ensures.value c.deref-3.ensures.value
-    (c.deref-4.ensures ∙ counts) in
+    (c.deref-4.ensures.0 ∙ counts) in
     subst (λ t. Puts (g.W.Write.contents c.args.writer.now) (g.W.Write.contents c.write_trace.new.writer) t c.write_trace.result) text c.write_trace.ensures
