@@ -3,3 +3,4 @@ pub mod Plans
 pub mod Judging
 pub mod Auditing
 pub mod Reasons
+pub mod Performing

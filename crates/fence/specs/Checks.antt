@@ -29,6 +29,6 @@ pub record IsVerdictOf (text line : List ℕ) (refused : Bool) : Type 0 where
   pub line_is : line ≡ verdict_text (names_in scenario) verdict
   pub refused_is : refused ≡ is_refusal verdict
 
--- What goes to the output. There are no words after the command's name that could be at fault, and no trace.
+-- What goes to the output. There are no words after the command's name that could be at fault, no trace and no thread.
 abbrev pub EndsCheck : Option (List ℕ) → Option (List ℕ) → Option (List ℕ) → Result Bool Fault → Type 0
-EndsCheck known old new r = Outputs IsVerdictOf ⊥ (λ e. ⊥) known old new r
+EndsCheck known old new r = Outputs IsVerdictOf ⊥ (λ e. ⊥) (λ name. ⊥) ⊥ known old new r

@@ -40,5 +40,7 @@ IsJudged known (Err fault.File) = ⊥
 IsJudged known (Err (fault.Input input.ReadFault)) = Unit {0}
 IsJudged known (Err (fault.Input e)) = IfSome known (λ text. answer_of text ≡ Err e)
 IsJudged known (Err (fault.Trace e)) = ⊥
+IsJudged known (Err (fault.Thread name)) = ⊥
+IsJudged known (Err fault.History) = ⊥
 IsJudged known (Err fault.Memory) = Unit {0}
 IsJudged known (Err fault.Output) = ⊥
