@@ -20,6 +20,8 @@ static int is_refused(void)
         return 0;
     if (mark)
         close(open(mark, O_WRONLY | O_CREAT, 0644));
+    /* as the C library does it, which looks at this where it starts a thread */
+    errno = ENOMEM;
     return 1;
 }
 
