@@ -20,6 +20,8 @@ static int is_refused(void)
         return 0;
     if (mark)
         close(open(mark, O_WRONLY | O_CREAT, 0644));
+    /* The C library relies on it where it starts a thread. */
+    errno = ENOMEM;
     return 1;
 }
 
