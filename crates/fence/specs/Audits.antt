@@ -45,5 +45,5 @@ pub record IsTraceFault (text trace : List ℕ) (error : TraceError) : Type 0 wh
 -- could be at fault. Where the text is at fault, the trace is not read.
 pub record EndsAudit (text trace trace_left old new : Option (List ℕ)) (r : Result Bool Fault) : Type 0 where
   pub outputs : Outputs (λ known answer refused. IfSome trace (λ t. IsAuditOf t known answer refused)) ⊥
-      (λ e. IfSome text (λ known. IfSome trace (λ t. IsTraceFault known t e))) text old new r
+      (λ e. IfSome text (λ known. IfSome trace (λ t. IsTraceFault known t e))) (λ name. ⊥) ⊥ text old new r
   pub unread : (e : ReadError) → r ≡ Err (fault.Input e) → Keeps trace trace_left

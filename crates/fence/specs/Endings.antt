@@ -13,18 +13,21 @@ use Rattle.fence.specs.FaultText.{fault_text, status_of}
 
 -- What goes to the output, by how the command ends: over a text that is known, the whole answer and nothing else, or a
 -- front of it, or nothing. A reader or memory may fail on any text. `Answers` says which answer a text has, and whether
--- it is a refusal; `Misused`, that the words after the command's name are at fault; `Untraced`, that a trace has this fault.
-abbrev pub Outputs : (List ℕ → List ℕ → Bool → Type 0) → Type 0 → (TraceError → Type 0) → Option (List ℕ) → Option (List ℕ) → Option (List ℕ) → Result Bool Fault → Type 0
-Outputs Answers Misused Untraced known old new (Ok refused) =
+-- it is a refusal; `Misused`, that the words after the command's name are at fault; `Untraced`, that a trace has this fault;
+-- `Unstarted`, that this is the name of one whose thread was not started; `Differs`, that a run's history may be at fault.
+abbrev pub Outputs : (List ℕ → List ℕ → Bool → Type 0) → Type 0 → (TraceError → Type 0) → (List ℕ → Type 0) → Type 0 → Option (List ℕ) → Option (List ℕ) → Option (List ℕ) → Result Bool Fault → Type 0
+Outputs Answers Misused Untraced Unstarted Differs known old new (Ok refused) =
     IfSome known (λ text. (answer : List ℕ) × Answers text answer refused × Appends old new answer)
-Outputs Answers Misused Untraced known old new (Err fault.Output) =
+Outputs Answers Misused Untraced Unstarted Differs known old new (Err fault.Output) =
     IfSome known (λ text. (answer : List ℕ) × (refused : Bool) × Answers text answer refused × FallsShort old new answer)
-Outputs Answers Misused Untraced known old new (Err fault.Memory) = Keeps old new
-Outputs Answers Misused Untraced known old new (Err fault.Usage) = Misused × Keeps old new
-Outputs Answers Misused Untraced known old new (Err (fault.Input input.ReadFault)) = Keeps old new
-Outputs Answers Misused Untraced known old new (Err (fault.Input e)) = IfSome known (λ text. answer_of text ≡ Err e) × Keeps old new
-Outputs Answers Misused Untraced known old new (Err (fault.Trace e)) = Untraced e × Keeps old new
-Outputs Answers Misused Untraced known old new (Err fault.File) = ⊥
+Outputs Answers Misused Untraced Unstarted Differs known old new (Err fault.Memory) = Keeps old new
+Outputs Answers Misused Untraced Unstarted Differs known old new (Err fault.Usage) = Misused × Keeps old new
+Outputs Answers Misused Untraced Unstarted Differs known old new (Err (fault.Input input.ReadFault)) = Keeps old new
+Outputs Answers Misused Untraced Unstarted Differs known old new (Err (fault.Input e)) = IfSome known (λ text. answer_of text ≡ Err e) × Keeps old new
+Outputs Answers Misused Untraced Unstarted Differs known old new (Err (fault.Trace e)) = Untraced e × Keeps old new
+Outputs Answers Misused Untraced Unstarted Differs known old new (Err (fault.Thread name)) = Unstarted name.bytes × Keeps old new
+Outputs Answers Misused Untraced Unstarted Differs known old new (Err fault.History) = Differs × Keeps old new
+Outputs Answers Misused Untraced Unstarted Differs known old new (Err fault.File) = ⊥
 
 abbrev pub status_of_end : Result Bool Fault → Status
 status_of_end (Ok refused) = if refused then status.Refused else status.Done

@@ -68,6 +68,8 @@ told_words fault.Usage = codes "usage" ∷ []
 told_words fault.File = codes "file" ∷ []
 told_words (fault.Input error) = input_words error
 told_words (fault.Trace error) = trace_words error
+told_words (fault.Thread name) = codes "thread" ∷ name.bytes ∷ []
+told_words fault.History = codes "history" ∷ []
 told_words fault.Memory = codes "memory" ∷ []
 told_words fault.Output = codes "output" ∷ []
 
@@ -105,6 +107,8 @@ status_of (fault.Input input.Memory) = status.Memory
 status_of (fault.Input error) = status.Fault
 status_of (fault.Trace trace.Memory) = status.Memory
 status_of (fault.Trace error) = status.Fault
+status_of (fault.Thread name) = status.Memory
+status_of fault.History = status.Fault
 status_of fault.File = status.Fault
 status_of fault.Output = status.Fault
 

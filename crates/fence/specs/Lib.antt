@@ -4,4 +4,5 @@ pub mod Steps
 pub mod Replays
 pub mod Checks
 pub mod Audits
+pub mod Runs
 pub mod inside

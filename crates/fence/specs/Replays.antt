@@ -39,5 +39,5 @@ IsUsageFault steps text false = (s : Scenario) × IsWrittenAs text s × (hosts_o
 
 -- what goes to the output, and that a wrong number of steps is a usage fault whatever the reader has
 pub record EndsReplay (steps : List (List ℕ)) (known old new : Option (List ℕ)) (r : Result Bool Fault) : Type 0 where
-  pub outputs : Outputs (IsTraceOf steps) (IfSome known (λ text. IsUsageFault steps text (has_wrong_count steps))) (λ e. ⊥) known old new r
+  pub outputs : Outputs (IsTraceOf steps) (IfSome known (λ text. IsUsageFault steps text (has_wrong_count steps))) (λ e. ⊥) (λ name. ⊥) ⊥ known old new r
   pub counted : IsTrue (has_wrong_count steps) → r ≡ Err fault.Usage

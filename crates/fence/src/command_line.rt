@@ -8,16 +8,18 @@ const VERSION: &str = "0.1.0 (language fence 1, proved with rattle-kit-13b)";
 
 const STATUSES: &str =
     "Exit status: 0 done, accepted or legal; 1 a script is refused or trapped, or a trace is illegal; 2 the command line is at fault, or this help; \
-3 input or output is at fault; 4 memory ran out. A fault is told in one line on standard error.";
+3 input or output is at fault; 4 memory ran out, or a thread could not be started. A fault is told in one line on standard error.";
 
 const CHECK_CALL: &str = "For example: fence check preempted-writer.fence";
 
 const REPLAY_CALL: &str = "For example: fence replay preempted-writer.fence a a b a";
 
+const RUN_CALL: &str = "For example: fence run race.fence";
+
 const AUDIT_CALL: &str = "For example: fence audit preempted-writer.fence preempted-writer.1.trace";
 
 /// What the words of a command line say: the subcommand `check` with its `FILE`, `replay` with its `FILE` and one `STEP`
-/// or more, or `audit` with its `FILE` and its `TRACE`.
+/// or more, `run` with its `FILE`, or `audit` with its `FILE` and its `TRACE`.
 pub fn matches_of<'a>(alloc: Global, words: &'a [String]) -> Result<ArgMatches<'a>, Error> {
     command(alloc)?.try_get_matches_from(words)
 }
@@ -33,6 +35,7 @@ fn command<'a>(alloc: Global) -> Result<Command<'a>, AllocError> {
         .arg_required_else_help(true)
         .subcommand(check(alloc)?)?
         .subcommand(replay(alloc)?)?
+        .subcommand(run(alloc)?)?
         .subcommand(audit(alloc)?)
 }
 
@@ -54,6 +57,15 @@ fn replay<'a>(alloc: Global) -> Result<Command<'a>, AllocError> {
         .after_help(REPLAY_CALL)
         .arg(file(alloc))?
         .arg(steps)
+}
+
+fn run<'a>(alloc: Global) -> Result<Command<'a>, AllocError> {
+    Command::new(alloc, "run")
+        .about(
+            "Verifies the scripts, runs the scenario with a thread for each host and guest, and writes the trace",
+        )
+        .after_help(RUN_CALL)
+        .arg(file(alloc))
 }
 
 fn audit<'a>(alloc: Global) -> Result<Command<'a>, AllocError> {

@@ -8,6 +8,7 @@ ghost use Rattle.pr_report.specs.PrintedLines.{line};
 ghost use Rattle.fence.specs.FaultText.{exit_status_of, fault_text, status_of, told_line, input_words, trace_words, of_whole, at_line, of_text, of_line, which_word};
 
 use pr_report::{TraceError, Word, WriteFault, put_line};
+use pr_roles::Word as Name;
 use pr_text::{ReadError, Which};
 use std::alloc::{AllocError, AllocFailed};
 use std::io::Write;
@@ -30,6 +31,12 @@ pub enum Fault {
     /// The trace is none of the scenario's, or can't be read to its end.
     Trace(TraceError),
 
+    /// The thread of the host or guest of this name could not be started.
+    Thread(Name),
+
+    /// What stood under a run's lock is not what its threads hand back.
+    History,
+
     /// An allocation failed.
     Memory,
 
@@ -49,10 +56,10 @@ pub enum Status {
     /// The command line is no command.
     Usage,
 
-    /// The input or the output is at fault.
+    /// The input or the output is at fault, or the history of a run.
     Fault,
 
-    /// Memory ran out.
+    /// Memory ran out, or a thread could not be started.
     Memory,
 }
 
@@ -78,9 +85,13 @@ impl Fault {
     {
         match self {
             Fault::Usage => Status::Usage,
-            Fault::Memory | Fault::Input(ReadError::Memory) | Fault::Trace(TraceError::Memory) =>
-                Status::Memory,
-            Fault::File | Fault::Input(_) | Fault::Trace(_) | Fault::Output => Status::Fault,
+            Fault::Memory
+            | Fault::Input(ReadError::Memory)
+            | Fault::Trace(TraceError::Memory)
+            | Fault::Thread(_) => Status::Memory,
+            Fault::File | Fault::Input(_) | Fault::Trace(_) | Fault::History | Fault::Output => {
+                Status::Fault
+            }
         }
     }
 }
@@ -163,6 +174,8 @@ pub fn put_fault<W: Write>(errors: &mut W, fault: &Fault) -> Result<(), WriteFau
         Fault::File => put_told(errors, &[Word::Text(b"file")]),
         Fault::Input(error) => put_input(errors, *error),
         Fault::Trace(error) => put_trace(errors, *error),
+        Fault::Thread(name) => put_thread(errors, name),
+        Fault::History => put_told(errors, &[Word::Text(b"history")]),
         Fault::Memory => put_told(errors, &[Word::Text(b"memory")]),
         Fault::Output => put_told(errors, &[Word::Text(b"output")]),
     }
@@ -229,6 +242,17 @@ fn put_trace<W: Write>(errors: &mut W, error: TraceError) -> Result<(), WriteFau
         TraceError::ReadFault => put_of_whole(errors, b"trace", b"4", b"ReadFault"),
         TraceError::Memory => put_memory(errors),
     }
+}
+
+// Whose thread could not be started.
+#[tactic(auto, unfolding(pr_report::specs::Printed::printed))]
+fn put_thread<W: Write>(errors: &mut W, name: &Name) -> Result<(), WriteFault>
+    ensures { Puts (W.contents errors.old) (W.contents errors.new) (told_line (codes "thread" ∷ name.now.bytes ∷ [])) result }
+{
+    put_told(
+        errors,
+        &[Word::Text(b"thread"), Word::Text(name.as_str().as_bytes())],
+    )
 }
 
 // A fault of a whole text, which is the input or the trace.

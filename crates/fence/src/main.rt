@@ -15,6 +15,7 @@ mod ending;
 mod fakes;
 mod fault;
 mod replays;
+mod runs;
 mod steps;
 
 use crate::audits::do_audit;
@@ -22,26 +23,30 @@ use crate::checks::do_check;
 use crate::command_line::matches_of;
 use crate::fault::{Fault, Status, tell};
 use crate::replays::do_replay;
+use crate::runs::do_run;
 use clap::ArgMatches;
 use clap::error::ErrorKind;
 use std::alloc::{AllocError, Global};
 use std::fs::File;
 use std::io::{Read, Write};
 use std::process::ExitCode;
+use std::sync::Wait;
+use std::thread::Threads;
 use std::{env, fs, io};
 
 fn main(rt: HostRuntime) -> ExitCode {
-    ExitCode::from(run(&rt).exit_status())
+    ExitCode::from(run(&rt, &rt).exit_status())
 }
 
-// Reads the command line and does what it says.
-fn run(rt: &HostRuntime) -> Status {
+// Reads the command line and does what it says. `main` alone can name the system as what starts threads, and so hands it down
+// a second time.
+fn run<T: Threads + Wait + Sync>(rt: &HostRuntime, threads: &T) -> Status {
     let words = match words(rt) {
         Ok(words) => words,
         Err(error) => return fail(&mut rt.stderr(), args_fault(&error)),
     };
     match matches_of(rt.alloc(), &words) {
-        Ok(matches) => run_matches(rt, &matches),
+        Ok(matches) => run_matches(rt, threads, &matches),
         Err(error) => refuse(rt, &error),
     }
 }
@@ -55,10 +60,15 @@ fn words(rt: &HostRuntime) -> io::Result<Vec<String>> {
     Ok(words)
 }
 
-fn run_matches(rt: &HostRuntime, matches: &ArgMatches<'_>) -> Status {
+fn run_matches<T: Threads + Wait + Sync>(
+    rt: &HostRuntime,
+    threads: &T,
+    matches: &ArgMatches<'_>,
+) -> Status {
     match matches.subcommand() {
         Some(("check", arguments)) => run_check(rt, arguments),
         Some(("replay", arguments)) => run_replay(rt, arguments),
+        Some(("run", arguments)) => run_threads(rt, threads, arguments),
         Some(("audit", arguments)) => run_audit(rt, arguments),
         _ => fail(&mut rt.stderr(), Fault::Usage),
     }
@@ -76,6 +86,17 @@ fn run_replay(rt: &HostRuntime, arguments: &ArgMatches<'_>) -> Status {
         return fail(&mut rt.stderr(), Fault::Usage);
     };
     replay_path(rt, path, steps)
+}
+
+fn run_threads<T: Threads + Wait + Sync>(
+    rt: &HostRuntime,
+    threads: &T,
+    arguments: &ArgMatches<'_>,
+) -> Status {
+    let Some(path) = arguments.get_str("FILE") else {
+        return fail(&mut rt.stderr(), Fault::Usage);
+    };
+    run_path(rt, threads, path)
 }
 
 fn run_audit(rt: &HostRuntime, arguments: &ArgMatches<'_>) -> Status {
@@ -107,6 +128,25 @@ fn replay_path(rt: &HostRuntime, path: &str, steps: &[&str]) -> Status {
     }
     match fs::open(rt, path) {
         Ok(mut file) => do_replay(rt.alloc(), steps, &mut file, &mut output, &mut errors),
+        Err(error) => fail(&mut errors, file_fault(&error)),
+    }
+}
+
+// `fence run FILE`, where `-` is standard input.
+fn run_path<T: Threads + Wait + Sync>(rt: &HostRuntime, threads: &T, path: &str) -> Status {
+    let mut output = rt.stdout();
+    let mut errors = rt.stderr();
+    if path == "-" {
+        return do_run(
+            threads,
+            rt.alloc(),
+            &mut rt.stdin(),
+            &mut output,
+            &mut errors,
+        );
+    }
+    match fs::open(rt, path) {
+        Ok(mut file) => do_run(threads, rt.alloc(), &mut file, &mut output, &mut errors),
         Err(error) => fail(&mut errors, file_fault(&error)),
     }
 }

@@ -13,7 +13,7 @@ use Rattle.pr_views.specs.Rooms.{scope_of, view_of, IsMade, AreAlike}
 use Rattle.pr_domain.specs.Interference.{IsOfStart}
 use Rattle.pr_verify.specs.declared.outline.OutlineBy.{OutlineBy}
 use Rattle.pr_verify.specs.Places.{first_lines}
-use Rattle.pr_verify.specs.Outlines.{Outline, view_at, StartsAt}
+use Rattle.pr_verify.specs.Outlines.{Outline, view_at, scope_in, StartsAt}
 use Rattle.pr_verify.specs.Rooms.{outline_of, IsMadeFor}
 use Rattle.pr_verify.specs.inside.Least.{IsLeast}
 use Rattle.pr_verify.specs.inside.Lacking.{HasAll, Lacks, IsFirstLacking, HasView, LacksView}
@@ -22,10 +22,6 @@ use Rattle.pr_verify.proofs.Leasts.{least_as}
 use Rattle.pr_verify.proofs.Missing.{IsExact, lacks_from_missing, shown_by_within}
 
 -- ---- views of one scenario
-
--- the scope of the views that a host has in this scenario
-abbrev pub scope_in : Scenario → ℕ → Scope
-scope_in s own = record { own = own; hosts = length s.nexuses; keys = s.keys }
 
 pub scope_same : {S : Type 0} (s : Scenario) (own : ℕ) (v : ViewOf S) → v.keys.items ≡ s.keys → v.hosts ≡ length s.nexuses → scope_of own v ≡ scope_in s own
 scope_same s own v keys hosts = λ i. record { own = own; hosts = hosts i; keys = keys i }

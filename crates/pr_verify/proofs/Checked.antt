@@ -12,7 +12,7 @@ use Rattle.pr_verify.specs.declared.places.Spot.{Spot}
 use Rattle.pr_verify.specs.declared.refusal.Refusal.{Refusal}
 use Rattle.pr_verify.specs.declared.refusal.Refusal.TheVariants.{NoArm, OutOfRole, OverBudget, Memory, NotSound}
 use Rattle.pr_verify.specs.Places.{Place, places_of}
-use Rattle.pr_verify.specs.Outlines.{Outline, StartsAt, ComesTo, IsLeftAt, IsAsked, at_start, by_itself, by_another, IsListed, IsSound, IsFitting, KeepsToRole}
+use Rattle.pr_verify.specs.Outlines.{Outline, IsOfScenario, StartsAt, ComesTo, IsLeftAt, IsAsked, at_start, by_itself, by_another, IsListed, IsSound, IsFitting, KeepsToRole}
 use Rattle.pr_verify.specs.Refusals.{differing, DiffersAt, LacksFirst, BreaksRole, LacksArmFirst, FitsAt, IsUnfitAt, IsRefusal}
 use Rattle.pr_verify.specs.inside.Listing.{place_of, IsPlaceWritten}
 use Rattle.pr_verify.specs.inside.Least.{least, Among, EachOf}
@@ -104,8 +104,8 @@ module _ (s : Scenario) (script : Stmts) (o : Outline) (spots : List Spot) (plac
       subst (IsFirstLacking o (IsAsked s script o)) (ap (λ l. least l others) (sym is) ∙ sym also)
       (lacking start own others first (subst (λ xs. IsLackingOfSends o (length xs) xs own) same second) third)
 
-  pub is_sound : IsListed script o → IsFirstLacking o (IsAsked s script o) None → IsSound s script o
-  is_sound listed all = record { listed = listed; shows = all }
+  pub is_sound : IsListed script o → IsOfScenario s o → IsFirstLacking o (IsAsked s script o) None → IsSound s script o
+  is_sound listed scenario all = record { listed = listed; scenario = scenario; shows = all }
 
   pub lacks_first : (line : ℕ) → IsListed script o → IsFirstLacking o (IsAsked s script o) (Some line) → LacksFirst s script o line
   lacks_first line listed first = record {

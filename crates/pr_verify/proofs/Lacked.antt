@@ -8,7 +8,8 @@ use Rattle.pr_views.specs.declared.view.ViewOf.{ViewOf}
 use Rattle.pr_views.specs.Views.{View}
 use Rattle.pr_verify.specs.Outlines.{Outline, view_at}
 use Rattle.pr_verify.specs.inside.Least.{IsFirst, IsLeast, least, Among, EachOf, IsLeastAmong}
-use Rattle.pr_verify.specs.inside.Lacking.{IsWithinIn, HasView, LacksView}
+use Rattle.pr_verify.specs.LeastOutlines.{IsWithinIn}
+use Rattle.pr_verify.specs.inside.Lacking.{HasView, LacksView}
 use Rattle.pr_verify.proofs.Leasts.{least_as, least_more, least_same}
 
 -- what holds of the views of all entries holds of one of them

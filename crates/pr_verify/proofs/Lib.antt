@@ -32,3 +32,10 @@ pub mod Recalled
 pub mod Answering
 pub mod Tasked
 pub mod Outlined
+pub mod Gaining
+pub mod Drawn
+pub mod Bounded
+pub mod Settling
+pub mod Visiting
+pub mod Inferred
+pub mod Reasons

@@ -1,6 +1,6 @@
 -- A host's outline, put together from what its check promises.
 use Rattle.std.proofs.Common.{◌≡◌, ℕ, ◌+◌, ◌<◌, Ok, Err, Result, inl, inr, ◌⊎◌, sym, subst, arith}
-use Rattle.std.specs.Result.{OnOk}
+use Rattle.std.specs.Result.{IfOk, OnOk}
 use Rattle.std.proofs.lemmas.Bool.{cases_eq, cases_order}
 use Rattle.std.specs.List.{Contains}
 use Rattle.pr_cdb.specs.Requests.{Fits}
@@ -17,6 +17,11 @@ has_outline s h script budget {o} fields host sound fitting = record { fields = 
 pub all_ok : {T E P Q R X : Type 0} (r : Result T E) → (P → Q → R → X) → OnOk r P → OnOk r Q → OnOk r R → OnOk r X
 all_ok (Ok value) all p q r = all p q r
 all_ok (Err error) all p q r = p
+
+-- what holds of a value, and two facts more
+pub value_ok : {T E Q R X : Type 0} {P : T → Type 0} (r : Result T E) → ((value : T) → P value → Q → R → X) → IfOk r P → OnOk r Q → OnOk r R → OnOk r X
+value_ok (Ok value) all p q r = all value p q r
+value_ok (Err error) all p q r = q
 
 -- what holds of all numbers below n, and of n, holds of all below the next
 pub below_next : (P : ℕ → Type 0) (n : ℕ) → ((k : ℕ) → k < n → P k) → P n → (k : ℕ) → k < n + 1 → P k

@@ -43,7 +43,7 @@ use Rattle.pr_views.specs.Possibilities.{key_at, number_of}
 use Rattle.pr_views.specs.Views.{View, Shows}
 use Rattle.pr_domain.specs.Interference.{IsDone}
 use Rattle.pr_verify.specs.Places.{Place, follows}
-use Rattle.pr_verify.specs.Outlines.{Outline, IsShownAt, ShowsIn, ComesTo, IsLeftAt, IsAsked, at_start, by_itself, by_another, HasArms, KeepsToRole, HasOutline, HaveOutlines}
+use Rattle.pr_verify.specs.Outlines.{Outline, scope_in, IsOfScenario, IsShownAt, ShowsIn, ComesTo, IsLeftAt, IsAsked, at_start, by_itself, by_another, HasArms, KeepsToRole, HasOutline, HaveOutlines}
 use Rattle.pr_verify.proofs.Safe.{outlines_make_safe}
 
 -- ---- the scenario
@@ -246,12 +246,20 @@ has_arms u r v shown step = ap is_some (taken r (passes u r v step (at_line 1 u 
 keeps_to_role : KeepsToRole waiting outline test_place
 keeps_to_role u r v shown step ends = refl
 
+-- its view is the host's
+of_scenario : IsOfScenario waiting outline
+of_scenario line v is = at (1 == line) is
+  where
+    at : (b : Bool) → (if b then Some idle else None) ≡ Some v → v.scope ≡ scope_in waiting 0
+    at true same = ap (λ (w : View). w.scope) (sym (same_Some idle v same))
+    at false missing = absurd (none-some v missing)
+
 has_outline : HasOutline waiting 0 script 3
 has_outline = record {
   fields = λ p listed. subst (λ (q : Place). Fits q.command) (only test_place p listed) tt;
   outline = outline;
   host = refl;
-  sound = record { listed = refl; shows = asked };
+  sound = record { listed = refl; scenario = of_scenario; shows = asked };
   fitting = record {
     arms = λ p listed. subst (HasArms outline) (only test_place p listed) has_arms;
     role = λ p listed. subst (KeepsToRole waiting outline) (only test_place p listed) keeps_to_role;

@@ -5,7 +5,10 @@ use Rattle.pr_roles.specs.Scenarios.{Scenario, task}
 use Rattle.pr_roles.specs.Starts.{IsAllowedStart}
 use Rattle.pr_roles.specs.Worlds.{World, Event, Host, HostSends, Happens, Run, control, is_trapped, world_from}
 use Rattle.pr_roles.specs.Safety.{IsSafe, KeepsBudgetBy, KeepsRole}
-use Rattle.pr_verify.specs.Outlines.{HaveOutlines}
+use Rattle.pr_script.specs.Scripts.{Stmts}
+use Rattle.pr_verify.specs.declared.refusal.Refusal.{Refusal}
+use Rattle.pr_verify.specs.Outlines.{HasOutline, HaveOutlines}
+use Rattle.pr_verify.specs.Verdicts.{IsReasonAgainst}
 
 -- Outlines that are sound and fit, one for each scripted host, make a scenario safe.
 abbrev pub OutlinesMakeSafe : Type 0
@@ -27,3 +30,7 @@ abbrev pub SafeSendsAreFine : Type 0
 SafeSendsAreFine =
     (s : Scenario) (u : UnitState) (es : List Event) (w : World) (h : ℕ) (v : World) → IsSafe s → IsAllowedStart s u → Run s (world_from s u) es w
     → (sends : HostSends w h v) → IsFine s w h v sends
+
+-- A host with a reason against it has no outline that is sound and fits.
+abbrev pub ReasonsAreFinal : Type 0
+ReasonsAreFinal = (s : Scenario) (h : ℕ) (script : Stmts) (budget : ℕ) (refusal : Refusal) → IsReasonAgainst s h script budget refusal → ¬ HasOutline s h script budget

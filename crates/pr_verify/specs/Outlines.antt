@@ -13,6 +13,7 @@ use Rattle.pr_script.specs.Costs.{cost_of_all}
 use Rattle.pr_roles.specs.Permits.{command_permitted}
 use Rattle.pr_roles.specs.Scenarios.{Scenario, Task, Scripted, Planned, role, task}
 use Rattle.pr_roles.specs.Starts.{IsAllowedStart}
+use Rattle.pr_views.specs.Possibilities.{Scope}
 use Rattle.pr_views.specs.Views.{View, Shows}
 use Rattle.pr_domain.specs.Interference.{IsDone}
 use Rattle.pr_verify.specs.Places.{Place, places_of, first_lines, follows}
@@ -34,6 +35,14 @@ ShowsIn (Some v) u = Shows v u
 -- there is a view at this line, and it shows the state
 abbrev pub IsShownAt : Outline → ℕ → UnitState → Type 0
 IsShownAt o line u = ShowsIn (view_at o.views line) u
+
+-- what the views of a host speak of: the hosts and guests of the scenario, its declared keys, and what is pending for the host
+abbrev pub scope_in : Scenario → ℕ → Scope
+scope_in s own = record { own = own; hosts = length s.nexuses; keys = s.keys }
+
+-- such are the views of the outline
+abbrev pub IsOfScenario : Scenario → Outline → Type 0
+IsOfScenario s o = (line : ℕ) (v : View) → view_at o.views line ≡ Some v → v.scope ≡ scope_in s o.host
 
 -- ---- what a view has to show
 
@@ -72,9 +81,10 @@ pub data IsAsked (s : Scenario) (script : Stmts) (o : Outline) (line : ℕ) (u :
 abbrev pub IsListed : Stmts → Outline → Type 0
 IsListed script o = map (λ e. e.0) o.views ≡ map (λ p. p.line) (places_of script)
 
--- The outline has a view for each send, and each view shows every state that it has to.
+-- The outline has a view of the host for each send, and each view shows every state that it has to.
 pub record IsSound (s : Scenario) (script : Stmts) (o : Outline) : Type 0 where
   pub listed : IsListed script o
+  pub scenario : IsOfScenario s o
   pub shows : (line : ℕ) (u : UnitState) → IsAsked s script o line u → IsShownAt o line u
 
 -- ---- what safety asks

@@ -3,5 +3,7 @@ pub mod Least
 pub mod Lacking
 pub mod Reviewing
 pub mod Inferring
+pub mod Gaining
 pub mod Known
 pub mod Asked
+pub mod Underway

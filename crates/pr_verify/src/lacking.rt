@@ -10,7 +10,8 @@ ghost use Rattle.pr_verify.specs.Places.{first_lines};
 ghost use Rattle.pr_verify.specs.Outlines.{view_at, StartsAt};
 ghost use Rattle.pr_verify.specs.Rooms.{outline_of, IsMadeFor};
 ghost use Rattle.pr_verify.specs.inside.Least.{IsLeast, least};
-ghost use Rattle.pr_verify.specs.inside.Lacking.{IsFirstLacking, IsWithinIn, HasView, LacksView};
+ghost use Rattle.pr_verify.specs.LeastOutlines.{IsWithinIn};
+ghost use Rattle.pr_verify.specs.inside.Lacking.{IsFirstLacking, HasView, LacksView};
 
 use crate::outline::OutlineOf;
 use pr_domain::of_start;

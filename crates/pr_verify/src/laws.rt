@@ -1,11 +1,17 @@
 //! What outlines promise, and what safety promises of the next event, each the contract of a function with nothing to do.
 
-ghost use Rattle.pr_verify.specs.Laws.{OutlinesMakeSafe, RunsGoOn, SafeSendsAreFine};
+ghost use Rattle.pr_verify.specs.Laws.{OutlinesMakeSafe, ReasonsAreFinal, RunsGoOn, SafeSendsAreFine};
 
 /// Outlines that are sound and fit, one for each scripted host, make a scenario safe.
 #[tactic(auto, using(crate::proofs::Safe::outlines_make_safe))]
 pub fn outlines_make_safe()
     ensures { OutlinesMakeSafe }
+{}
+
+/// A host with a reason against it has no outline that is sound and fits.
+#[tactic(auto, using(crate::proofs::Reasons::reasons_are_final))]
+pub fn reasons_are_final()
+    ensures { ReasonsAreFinal }
 {}
 
 /// A run and one event more are a run.

@@ -18,7 +18,7 @@ mod verifying;
 
 pub use checking::check_outline;
 pub use inferring::{infer, infer_of};
-pub use laws::{outlines_make_safe, runs_go_on, safe_sends_are_fine};
+pub use laws::{outlines_make_safe, reasons_are_final, runs_go_on, safe_sends_are_fine};
 pub use outline::{Outline, OutlineBy, OutlineOf};
 pub use refusal::Refusal;
 pub use verifying::{Refused, Verified, verify};

@@ -1,9 +1,10 @@
 //! The verdict on a scenario.
 
-ghost use Rattle.std.specs.Prelude.{◌≡◌, ℕ, ◌<◌, length, IfOk, IfErr, OnOk};
+ghost use Rattle.std.specs.Prelude.{◌≡◌, ◌≢◌, ℕ, ◌<◌, length, IfOk, IfErr, OnOk};
 ghost use Rattle.pr_roles.specs.Scenarios.{scenario_of, task};
 ghost use Rattle.pr_roles.specs.Safety.{IsSafe};
 ghost use Rattle.pr_verify.specs.Outlines.{OnScripted, HasOutline, HaveOutlines};
+ghost use Rattle.pr_verify.specs.Verdicts.{HasReason, IsVerdict};
 
 use crate::checking::{check_cost, check_script};
 use crate::inferring::infer;
@@ -54,11 +55,15 @@ pub struct Refused {
 /// Verifies the scenario. When it is accepted, then from every start that it declares and under every interleaving of the
 /// scripted hosts' commands with any permitted commands of the guests, no script meets a reply for which it has no arm,
 /// none sends more commands than its budget, and each of its commands that ends GOOD is one that its role permits at that
-/// moment. When it is refused, it is handed back.
+/// moment: each of them has an outline that is sound and fits. When it is refused, it is handed back with the first reason that its hosts' least sound outlines show, or since
+/// memory was refused; but for memory, no sound outlines of its hosts fit.
 pub fn verify(alloc: Global, scenario: Scenario) -> Result<Verified, Refused>
     ensures same { IfOk result (λ verified. verified ≡ scenario) }
     ensures safe { IfOk result (λ verified. IsSafe (scenario_of verified)) }
+    ensures outlines { IfOk result (λ verified. HaveOutlines (scenario_of verified)) }
     ensures back { IfErr result (λ refused. refused.scenario ≡ scenario) }
+    ensures verdict { IfErr result (λ refused. IsVerdict (scenario_of scenario) refused.refusal) }
+    ensures none { IfErr result (λ refused. refused.refusal ≢ Refusal.Memory → ¬ HaveOutlines (scenario_of scenario)) }
 {
     match check_hosts(alloc, &scenario) {
         Ok(()) => {
@@ -71,7 +76,8 @@ pub fn verify(alloc: Global, scenario: Scenario) -> Result<Verified, Refused>
 
 // Whether each scripted host has an outline that is sound and fits; else the first reason against one.
 fn check_hosts(alloc: Global, scenario: &Scenario) -> Result<(), Refusal>
-    ensures { OnOk result (HaveOutlines (scenario_of scenario.now)) }
+    ensures outlines { OnOk result (HaveOutlines (scenario_of scenario.now)) }
+    ensures verdict { IfErr result (IsVerdict (scenario_of scenario.now)) }
 {
     let hosts = scenario.parts().nexuses.len() as u8;
     for host in 0..hosts {
@@ -84,7 +90,8 @@ fn check_hosts(alloc: Global, scenario: &Scenario) -> Result<(), Refusal>
 // inferred of it.
 fn check_host(alloc: Global, scenario: &Scenario, host: u8) -> Result<(), Refusal>
     requires { host < length (scenario_of scenario.now).nexuses }
-    ensures { OnOk result (OnScripted (task (scenario_of scenario.now) host) (HasOutline (scenario_of scenario.now) host)) }
+    ensures outline { OnOk result (OnScripted (task (scenario_of scenario.now) host) (HasOutline (scenario_of scenario.now) host)) }
+    ensures reason { IfErr result (λ refusal. refusal ≢ Refusal.Memory → HasReason (scenario_of scenario.now) host refusal) }
 {
     match &scenario.parts().nexuses[usize::from(host)].task {
         Task::Scripted { script, budget } => {

@@ -28,5 +28,7 @@ IsAudited known traced (Err fault.File) = ⊥
 IsAudited known traced (Err (fault.Input input.ReadFault)) = Unit {0}
 IsAudited known traced (Err (fault.Input e)) = IfSome known (λ text. answer_of text ≡ Err e)
 IsAudited known traced (Err (fault.Trace e)) = IfSome known (λ text. IfSome traced (λ trace. IsTraceFault text trace e))
+IsAudited known traced (Err (fault.Thread name)) = ⊥
+IsAudited known traced (Err fault.History) = ⊥
 IsAudited known traced (Err fault.Memory) = Unit {0}
 IsAudited known traced (Err fault.Output) = ⊥

@@ -7,8 +7,10 @@ use Rattle.pr_text.specs.declared.fault.ReadError.TheVariants as input
 use Rattle.pr_text.specs.Texts.{answer_of}
 use Rattle.pr_text.specs.Readings.{IsWrittenAs}
 use Rattle.pr_verify.specs.declared.verifying.Refused.{Refused}
+use Rattle.pr_verify.specs.Outlines.{HaveOutlines}
+use Rattle.pr_verify.specs.Verdicts.{IsFirstReason}
 use Rattle.pr_report.specs.TraceText.{names_in}
-use Rattle.pr_report.specs.Verdicts.{IsReason, verdict_text}
+use Rattle.pr_report.specs.Verdicts.{verdict_text}
 use Rattle.pr_report.specs.declared.verdict.Verdict.TheVariants as verdict
 use Rattle.fence.specs.declared.fault.Fault.{Fault}
 use Rattle.fence.specs.declared.fault.Fault.TheVariants as fault
@@ -21,10 +23,10 @@ abbrev pub scenario_in : Judgement → Parts
 scenario_in (Ok verified) = verified
 scenario_in (Err refused) = refused.scenario
 
--- what is verified is safe, and want of memory is no reason
+-- what is verified is safe and has outlines, and what is refused is so for its first reason
 abbrev pub Stands : Judgement → Type 0
-Stands (Ok verified) = IsSafe (scenario_of verified)
-Stands (Err refused) = IsReason refused.refusal
+Stands (Ok verified) = IsSafe (scenario_of verified) × HaveOutlines (scenario_of verified)
+Stands (Err refused) = IsFirstReason (scenario_of refused.scenario) refused.refusal
 
 abbrev pub judgement_text : Judgement → List ℕ
 judgement_text (Ok verified) = verdict_text (names_in (scenario_of verified)) verdict.Accepted
@@ -38,5 +40,7 @@ IsJudged known (Err fault.File) = ⊥
 IsJudged known (Err (fault.Input input.ReadFault)) = Unit {0}
 IsJudged known (Err (fault.Input e)) = IfSome known (λ text. answer_of text ≡ Err e)
 IsJudged known (Err (fault.Trace e)) = ⊥
+IsJudged known (Err (fault.Thread name)) = ⊥
+IsJudged known (Err fault.History) = ⊥
 IsJudged known (Err fault.Memory) = Unit {0}
 IsJudged known (Err fault.Output) = ⊥

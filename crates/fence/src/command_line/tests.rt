@@ -11,6 +11,7 @@ Usage: fence <COMMAND>
 Commands:
   check   Verifies the scripts, and writes the verdict
   replay  Lets hosts and guests take their turns in this order, and writes the trace
+  run     Verifies the scripts, runs the scenario with a thread for each host and guest, and writes the trace
   audit   Says whether the commands and replies of a trace may have happened, or which is the first that may not
   help    Print this message or the help of the given subcommand(s)
 
@@ -18,7 +19,7 @@ Options:
   -h, --help     Print help
   -V, --version  Print version
 
-Exit status: 0 done, accepted or legal; 1 a script is refused or trapped, or a trace is illegal; 2 the command line is at fault, or this help; 3 input or output is at fault; 4 memory ran out. A fault is told in one line on standard error.
+Exit status: 0 done, accepted or legal; 1 a script is refused or trapped, or a trace is illegal; 2 the command line is at fault, or this help; 3 input or output is at fault; 4 memory ran out, or a thread could not be started. A fault is told in one line on standard error.
 ";
 
 const CHECK_HELP: &str = "Verifies the scripts, and writes the verdict
@@ -47,6 +48,20 @@ Options:
   -h, --help  Print help
 
 For example: fence replay preempted-writer.fence a a b a
+";
+
+const RUN_HELP: &str =
+    "Verifies the scripts, runs the scenario with a thread for each host and guest, and writes the trace
+
+Usage: fence run <FILE>
+
+Arguments:
+  <FILE>  The scenario; - is standard input
+
+Options:
+  -h, --help  Print help
+
+For example: fence run race.fence
 ";
 
 const AUDIT_HELP: &str =
@@ -128,7 +143,8 @@ fn a_refused_command_line_is_told_why(rt: HostRuntime) -> Result<(), Fail> {
 
 #[test]
 fn a_refused_command_is_told_why(rt: HostRuntime) -> Result<(), Fail> {
-    let rows: [(&[&str], &str); 6] = [
+    let rows: [(&[&str], &str); 7] = [
+        (&["fence", "run", "--help"], RUN_HELP),
         (&["fence", "audit", "--help"], AUDIT_HELP),
         (&["fence", "audit", "a.fence"], NO_TRACE),
         (&["fence", "check", "--help"], CHECK_HELP),
@@ -156,6 +172,23 @@ fn a_check_has_a_file(rt: HostRuntime) -> Result<(), Fail> {
     };
     assert_eq!(rt; name, "check");
     assert_eq!(rt; arguments.get_str("FILE"), Some("a.fence"));
+    Ok(())
+}
+
+#[test]
+fn a_run_has_a_file(rt: HostRuntime) -> Result<(), Fail> {
+    let mut line = Vec::new(rt.alloc());
+    for word in ["fence", "run", "-"] {
+        line.push(String::from_str(rt.alloc(), word)?)?;
+    }
+    let Ok(matches) = matches_of(rt.alloc(), &line) else {
+        return Err(Fail::from("refused"));
+    };
+    let Some((name, arguments)) = matches.subcommand() else {
+        return Err(Fail::from("no subcommand"));
+    };
+    assert_eq!(rt; name, "run");
+    assert_eq!(rt; arguments.get_str("FILE"), Some("-"));
     Ok(())
 }
 

@@ -1,9 +1,17 @@
 use super::*;
 use arrayvec::ArrayVec;
+use std::process::Abort;
+
+// The name `node-1`.
+fn name(rt: &impl Abort) -> Name {
+    Name::from("node-1").expect(rt, "it has room")
+}
 
 #[test]
 fn each_fault_has_its_line_and_its_exit_status(rt: HostRuntime) {
-    let lines: [(Fault, &[u8], u8); 6] = [
+    let lines: [(Fault, &[u8], u8); 8] = [
+        (Fault::Thread(name(&rt)), b"fence: thread node-1\n", 4),
+        (Fault::History, b"fence: history\n", 3),
         (Fault::Usage, b"fence: usage\n", 2),
         (Fault::File, b"fence: file\n", 3),
         (Fault::Memory, b"fence: memory\n", 4),

@@ -8,6 +8,7 @@ use Rattle.pr_domain.specs.declared.landing.Landing.{Landing}
 use Rattle.pr_domain.specs.declared.landing.Landing.TheVariants.{Arm, NoArm}
 use Rattle.pr_domain.specs.Interference.{IsDone}
 use Rattle.pr_verify.specs.Outlines.{Outline, view_at, IsShownAt}
+use Rattle.pr_verify.specs.LeastOutlines.{IsWithinIn}
 use Rattle.pr_verify.specs.inside.Least.{IsLeast}
 
 -- ---- states
@@ -26,11 +27,6 @@ abbrev pub IsFirstLacking : Outline → (ℕ → UnitState → Type 0) → Optio
 IsFirstLacking o asked = IsLeast (HasAll o asked) (Lacks o asked)
 
 -- ---- views
-
--- there is a view, and what is possible in the first is possible in it
-abbrev pub IsWithinIn : View → Option View → Type 0
-IsWithinIn w None = ⊥
-IsWithinIn w (Some v) = Within w v
 
 -- if it is one of these lines, then what is possible in w is so in the view there
 abbrev pub HasView : Outline → List ℕ → View → ℕ → Type 0

@@ -12,6 +12,7 @@ use Rattle.pr_verify.specs.inside.Listing.{place_of, IsPlaceWritten}
 use Rattle.pr_verify.specs.inside.Lacking.{IsFirstLacking}
 use Rattle.pr_verify.specs.inside.Reviewing.{IsFirstMisfit}
 use Rattle.pr_verify.proofs.Checked.{spots_rise, spots_written, is_listed, differs_at, differing_read, same_lines, found_lacking, is_sound, lacks_first, is_fitting, is_refusal}
+use Rattle.pr_verify.proofs.Begun.{scoped}
 use Rattle.pr_verify.proofs.checking.check_script.Goals as goal
 
 pub returns-in-Some-clause-refusal : goal.returns-in-Some-clause-refusal
@@ -79,7 +80,7 @@ returns-in-None-clause-sound g c =
     let listed = is_listed script spots places (view_of g.S.ViewSet.members host) views host same in
     let found = found_lacking s script o spots places c.deref-4.result.now c.in_ok-start.start c.in_ok-own.own.lacking c.in_ok-others.others c.least.result c.least-2.result c.deref-4.ensures.value
     (c.in_ok-start.ensures script (sym (c.deref-3.ensures.value ∙ c.in_ok-firsts.ensures))) c.in_ok-own.ensures.lacking c.in_ok-others.ensures c.least.ensures c.least-2.ensures in
-    is_sound s script o spots places listed (subst (IsFirstLacking o (IsAsked s script o)) c.in_default-least.is found)
+    is_sound s script o spots places listed (scoped g.S.ViewSet.members g.S.ViewSet.room s c.args.outline.now c.requires.made) (subst (IsFirstLacking o (IsAsked s script o)) c.in_default-least.is found)
 
 pub returns-in-None-clause-fitting : goal.returns-in-None-clause-fitting
 returns-in-None-clause-fitting g c budget cost =
@@ -104,6 +105,6 @@ returns-clause-refusal g c budget cost =
     let found = found_lacking s script o spots places c.deref-4.result.now c.in_ok-start.start c.in_ok-own.own.lacking c.in_ok-others.others c.least.result c.least-2.result c.deref-4.ensures.value
     (c.in_ok-start.ensures script (sym (c.deref-3.ensures.value ∙ c.in_ok-firsts.ensures))) c.in_ok-own.ensures.lacking c.in_ok-others.ensures c.least.ensures c.least-2.ensures in
     let misfit = subst (λ xs. IsFirstMisfit s o (length xs) xs c.in_ok-own.own.misfit) c.deref-4.ensures.value c.in_ok-own.ensures.misfit in
-    let sound : IsSound s script o = is_sound s script o spots places listed (subst (IsFirstLacking o (IsAsked s script o)) c.in_default-least.is found) in
+    let sound : IsSound s script o = is_sound s script o spots places listed (scoped g.S.ViewSet.members g.S.ViewSet.room s c.args.outline.now c.requires.made) (subst (IsFirstLacking o (IsAsked s script o)) c.in_default-least.is found) in
     is_refusal s script o spots places budget c.in-Some-misfit.refusal (spots_rise script spots places s.keys c.requires.written) cost sound
     (subst (IsFirstMisfit s o (length spots) spots) c.in-Some-misfit.is misfit)

@@ -1,4 +1,14 @@
-use Rattle.std.proofs.Common.{rules, Some, sym, ap, ◌∙◌, subst, arith}
+use Rattle.std.proofs.Common.{◌≢◌, ℕ, ◌≤◌, rules, Some, refl, sym, ap, ◌∙◌, subst, arith}
+use Rattle.std.specs.Prelude.{IfErr}
+use Rattle.std.proofs.lemmas.Result.{IfErr-weaker, err_from_is_err_and}
+use Rattle.pr_script.specs.Costs.{cost_of_all}
+use Rattle.pr_verify.specs.declared.refusal.Refusal.{Refusal}
+use Rattle.pr_verify.specs.declared.refusal.Refusal.TheVariants.{Memory}
+use Rattle.pr_verify.specs.LeastOutlines.{IsLeastSound}
+use Rattle.pr_verify.specs.Refusals.{IsRefusal}
+use Rattle.pr_verify.specs.Verdicts.{HasReason}
+use Rattle.pr_verify.specs.Rooms.{outline_of}
+use Rattle.pr_verify.proofs.Reasons.{has_reason}
 use Rattle.pr_roles.specs.Scenarios.{scenario_of, task, task_of}
 use Rattle.pr_script.specs.Trees.{script_of}
 use Rattle.pr_verify.specs.Outlines.{OnScripted, HasOutline}
@@ -31,8 +41,8 @@ check_script-requires c =
     let same = c.in_ok-outline-in-Scripted.ensures.host in
     (search rules, (omega (arith, c.requires), (fits.0, (c.parts.ensures.starts, c.in_ok-outline-in-Scripted.ensures.made))))
 
-pub returns-in_ok-outline-in-Scripted : goal.returns-in_ok-outline-in-Scripted
-returns-in_ok-outline-in-Scripted c =
+pub returns-in_ok-outline-in-Scripted-clause-outline : goal.returns-in_ok-outline-in-Scripted-clause-outline
+returns-in_ok-outline-in-Scripted-clause-outline c =
     let s = scenario_of c.args.scenario.now in
     let host = c.args.host in
     let script = script_of c.in-Scripted.script in
@@ -44,9 +54,35 @@ returns-in_ok-outline-in-Scripted c =
     (has_outline s host script budget fields c.in_ok-outline-in-Scripted.ensures.host sound (fitting budget c.in_ok-check_cost-in-Scripted.ensures.within)))
     c.check_script.ensures.fields c.check_script.ensures.sound c.check_script.ensures.fitting
 
-pub returns-in-Planned : goal.returns-in-Planned
-returns-in-Planned c =
+pub returns-in-Planned-clause-outline : goal.returns-in-Planned-clause-outline
+returns-in-Planned-clause-outline c =
     let s = scenario_of c.args.scenario.now in
     let read : IsRead c.args.scenario.now c.parts.result.now c.from.result c.args.host c.index.result.now = record { same = c.parts.ensures.value; fits = c.parts.ensures.fits; place = c.from.ensures; there = c.requires; read = c.index.ensures } in
     let is = task_read c.args.scenario.now c.parts.result.now c.from.result c.args.host c.index.result.now read ∙ ap (λ t. Some (task_of t)) c.in-Planned.is in
     subst (λ t. OnScripted t (HasOutline s c.args.host)) (sym is) tt
+
+pub returns-in_ok-outline-in-Scripted-clause-reason : goal.returns-in_ok-outline-in-Scripted-clause-reason
+returns-in_ok-outline-in-Scripted-clause-reason c =
+    let s = scenario_of c.args.scenario.now in
+    let host = c.args.host in
+    let script = script_of c.in-Scripted.script in
+    let budget = c.in-Scripted.budget in
+    let o = outline_of _ c.in_ok-outline-in-Scripted.outline in
+    let read : IsRead c.args.scenario.now c.parts.result.now c.from.result c.args.host c.index.result.now = record { same = c.parts.ensures.value; fits = c.parts.ensures.fits; place = c.from.ensures; there = c.requires; read = c.index.ensures } in
+    let is = scripted_task c.args.scenario.now c.parts.result.now c.from.result host c.index.result.now read c.in-Scripted.script budget c.in-Scripted.is in
+    let least = subst (λ t. OnScripted t (λ b n. IsLeastSound s b o)) is c.in_ok-outline-in-Scripted.ensures.least in
+    IfErr-weaker c.check_script.result (λ refusal. (n : ℕ) → cost_of_all script ≤ n → IsRefusal s script n o refusal) (λ refusal. refusal ≢ Memory → HasReason s host refusal)
+    (λ refusal refused. has_reason s host script budget is o c.in_ok-outline-in-Scripted.ensures.host least refusal (refused budget c.in_ok-check_cost-in-Scripted.ensures.within)) c.check_script.ensures.refusal
+
+pub returns-in_err-check_cost-in-Scripted-clause-reason : goal.returns-in_err-check_cost-in-Scripted-clause-reason
+returns-in_err-check_cost-in-Scripted-clause-reason c =
+    let s = scenario_of c.args.scenario.now in
+    let host = c.args.host in
+    let script = script_of c.in-Scripted.script in
+    let budget = c.in-Scripted.budget in
+    let read : IsRead c.args.scenario.now c.parts.result.now c.from.result c.args.host c.index.result.now = record { same = c.parts.ensures.value; fits = c.parts.ensures.fits; place = c.from.ensures; there = c.requires; read = c.index.ensures } in
+    let is = scripted_task c.args.scenario.now c.parts.result.now c.from.result host c.index.result.now read c.in-Scripted.script budget c.in-Scripted.is in
+    let Q = λ (refusal : Refusal). refusal ≢ Memory → HasReason s host refusal in
+    let over = c.in_err-check_cost-in-Scripted.ensures.over in
+    let p = err_from_is_err_and c.from_residual.result c.from_residual.ensures.1 in
+    subst (λ r. IfErr r Q) (sym p.1) (subst Q (sym (p.2 ∙ over.1)) (λ real. record { script = script; budget = budget; is = is; reason = (refl, over.0, refl) }))

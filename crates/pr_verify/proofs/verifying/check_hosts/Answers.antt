@@ -1,8 +1,12 @@
-use Rattle.std.proofs.Common.{arith}
+use Rattle.std.proofs.Common.{sym, subst, arith}
+use Rattle.std.specs.Prelude.{IfErr}
+use Rattle.std.proofs.lemmas.Result.{err_from_is_err_and}
 use Rattle.pr_roles.specs.Scenarios.{scenario_of, task}
 use Rattle.pr_verify.specs.Outlines.{OnScripted, HasOutline}
 use Rattle.pr_domain.proofs.Written.{are_counted}
+use Rattle.pr_verify.specs.Verdicts.{IsVerdict}
 use Rattle.pr_verify.proofs.Outlined.{below_next}
+use Rattle.pr_verify.proofs.Reasons.{is_verdict}
 use Rattle.pr_verify.proofs.verifying.check_hosts.Goals as goal
 
 pub overflow_cast-hosts : goal.overflow_cast-hosts
@@ -17,9 +21,15 @@ check_host-requires c = let all = (are_counted c.args.scenario.now c.parts.resul
 pub loop-host-preserved : goal.loop-host-preserved
 loop-host-preserved c =
     let s = scenario_of c.args.scenario.now in
-    below_next (λ h. OnScripted (task s h) (HasOutline s h)) c.loop-host.host c.loop-host.invariant c.in_ok-check_host.ensures
+    below_next (λ h. OnScripted (task s h) (HasOutline s h)) c.loop-host.host c.loop-host.invariant c.in_ok-check_host.ensures.outline
 
-pub returns : goal.returns
-returns c h small =
+pub returns-clause-outlines : goal.returns-clause-outlines
+returns-clause-outlines c h small =
     let all = (are_counted c.args.scenario.now c.parts.result.now c.len-hosts.result c.parts.ensures.value c.parts.ensures.fits c.len-hosts.ensures).nexuses in
     c.loop-host.invariant h (let last = c.loop-host-test.false in omega arith)
+
+pub returns-in_err-check_host-clause-verdict : goal.returns-in_err-check_host-clause-verdict
+returns-in_err-check_host-clause-verdict c =
+    let s = scenario_of c.args.scenario.now in
+    let p = err_from_is_err_and c.from_residual.result c.from_residual.ensures.1 in
+    subst (λ r. IfErr r (IsVerdict s)) (sym p.1) (subst (IsVerdict s) (sym p.2) (is_verdict s c.loop-host.host _ c.in_err-check_host.ensures.reason c.loop-host.invariant))

@@ -1,0 +1,130 @@
+-- What a comparison of a world with the seats' lists says.
+use Rattle.std.proofs.Common.{◌≡◌, ℕ, suc, ◌+◌, ◌<◌, ◌≤◌, ◌==◌, Bool, true, false, IsTrue, List, [], ◌∷◌, ◌++◌, length, take, get_or, Option, Some, refl, sym, ap, ◌∙◌, subst, cond, arith}
+use Rattle.std.specs.Prelude.{◌↔◌, map}
+use Rattle.std.specs.List.{All, list_all, range_with_len}
+use Rattle.std.proofs.lemmas.Bool.{false≢true}
+use Rattle.std.proofs.lemmas.Bool.Decides.{nat_tests}
+use Rattle.std.proofs.lemmas.List.{get_or-map, length-map, map-append, map_more, take_all}
+use Rattle.std.proofs.lemmas.List.Folds.{list_all-map}
+use Rattle.std.proofs.lemmas.List.FromFn.{get_or-map-range_with_len, length-range_with_len, map-range_with_len_more}
+use Rattle.pr_roles.specs.declared.entry.Entry.{Entry}
+use Rattle.pr_roles.specs.declared.parts.Parts.{Parts}
+use Rattle.pr_roles.specs.Scenarios.{Scenario, scenario_of}
+use Rattle.pr_roles.specs.Schedules.{Schedule, plan}
+use Rattle.pr_roles.specs.Worlds.{control}
+use Rattle.pr_world.specs.declared.end.End.{End}
+use Rattle.pr_world.specs.Courses.{is_planned}
+use Rattle.pr_world.specs.Ends.{Ending, ending, seen}
+use Rattle.pr_world.specs.Progress.{Progress}
+use Rattle.pr_shared.specs.Guests.{guests_of}
+use Rattle.pr_shared.specs.Histories.{IsLegalWorld, entries_by, entries_of}
+use Rattle.pr_shared.specs.Outcomes.{IsClosed, IsHalted, endings_in, is_over}
+
+-- ---- list by list
+
+-- a list more of those that are compared
+pub own_more : {X : Type 0} (f : ℕ → List Entry) (g : X → List Entry) (xs : List X) (i : ℕ) (x : X) → i < length xs → x ≡ get_or xs i x → f i ≡ g x
+    → map f (range_with_len 0 i) ≡ map g (take i xs) → map f (range_with_len 0 (i + 1)) ≡ map g (take (i + 1) xs)
+own_more f g xs i x there at same before =
+    map-range_with_len_more f 0 i i (omega arith) ∙ (ap (λ ls. ls ++ f i ∷ []) before ∙ (ap (λ l. map g (take i xs) ++ l ∷ []) (same ∙ ap g at) ∙ sym (map_more g xs i x there)))
+
+-- where all are the same, so are those at one place
+pub own_at : {X : Type 0} (f : ℕ → List Entry) (g : X → List Entry) (xs : List X) (i : ℕ) (x : X) → i < length xs → x ≡ get_or xs i x
+    → map f (range_with_len 0 (length xs)) ≡ map g xs → f i ≡ g x
+own_at f g xs i x there at all =
+    sym (get_or-map-range_with_len f 0 (length xs) i i [] there (omega arith)) ∙ (ap (λ ls. get_or ls i []) all ∙ (get_or-map g xs i x [] there ∙ ap g (sym at)))
+
+pub all_own : {X : Type 0} (f : ℕ → List Entry) (g : X → List Entry) (xs : List X) (i : ℕ) → i ≤ length xs → length xs ≤ i → map f (range_with_len 0 i) ≡ map g (take i xs)
+    → map f (range_with_len 0 (length xs)) ≡ map g xs
+all_own f g xs i within past before =
+    let all : length xs ≡ i = omega arith in
+    ap (λ n. map f (range_with_len 0 n)) all ∙ (before ∙ ap (map g) (take_all i xs past))
+
+-- ---- the whole
+
+pub not_same : (s : Scenario) (mine : List (List Entry)) (w : Progress) (p : Parts) (b : Bool) → b ≡ false → p ≡ w.scenario → IsTrue b ↔ (scenario_of p ≡ s) → IsTrue false ↔ IsClosed s mine w
+not_same s mine w p b not is tells = (
+  λ no. absurd (false≢true no),
+  λ closed. absurd (false≢true (sym not ∙ tells.1 (ap scenario_of is ∙ closed.scenario))),
+)
+
+pub not_own : {X : Type 0} (s : Scenario) (w : Progress) (xs : List X) (g : X → List Entry) (history : List Entry) (b : Bool) → b ≡ false → history ≡ w.schedule.world.entries
+    → IsTrue b ↔ (entries_by (length xs) history ≡ map g xs) → IsTrue false ↔ IsClosed s (map g xs) w
+not_own s w xs g history b not is tells = (
+  λ no. absurd (false≢true no),
+  λ closed. absurd (false≢true (sym not ∙ tells.1 (ap (entries_by (length xs)) is ∙ (sym (ap (λ n. entries_by n w.schedule.world.entries) (length-map xs g)) ∙ closed.own)))),
+)
+
+over_is : (s : Scenario) (w : Progress) (ends : List End) → map (λ e. Some (seen e)) ends ≡ endings_in s w.schedule → list_all (λ e. is_over (Some (seen e))) ends ≡ list_all is_over (endings_in s w.schedule)
+over_is s w ends are = sym (list_all-map is_over (λ e. Some (seen e)) ends) ∙ ap (list_all is_over) are
+
+pub just_over : {X : Type 0} (s : Scenario) (w : Progress) (p : Parts) (xs : List X) (g : X → List Entry) (history : List Entry) (ends : List End) (a b r : Bool) → a ≡ true → p ≡ w.scenario
+    → IsTrue a ↔ (scenario_of p ≡ s) → b ≡ true → history ≡ w.schedule.world.entries → IsTrue b ↔ (entries_by (length xs) history ≡ map g xs)
+    → map (λ e. Some (seen e)) ends ≡ endings_in (scenario_of w.scenario) w.schedule → r ≡ list_all (λ e. is_over (Some (seen e))) ends → IsTrue r ↔ IsClosed s (map g xs) w
+just_over s w p xs g history ends a b r same is tells own is' tells' are over =
+    let all = over ∙ over_is (scenario_of w.scenario) w ends are in (
+      λ yes.
+          record {
+            scenario = sym (ap scenario_of is) ∙ tells.0 same;
+            own = ap (λ n. entries_by n w.schedule.world.entries) (length-map xs g) ∙ (sym (ap (entries_by (length xs)) is') ∙ tells'.0 own);
+            over = sym all ∙ yes;
+          },
+      λ closed. all ∙ closed.over,
+    )
+
+-- ---- who sent nothing
+
+pub none_past : (history : List Entry) (count h : ℕ) → All (λ e. e.host < count) history → count ≤ h → entries_of history h ≡ []
+none_past [] count h before past = refl
+none_past (e ∷ es) count h before past =
+    let less : e.host < count = before 0 e (omega arith) in
+    let other : (e.host == h) ≡ false = grind (arith, nat_tests) in
+    ap (λ b. cond b (e ∷ entries_of es h) (entries_of es h)) other ∙ none_past es count h (λ k d there. before (suc k) d (omega arith)) past
+
+-- ---- how each stands
+
+pub ends_more : {X Y : Type 0} (xs ys : List X) (x : X) (f : X → Y) (g : ℕ → Y) (n : ℕ) → ys ≡ xs ++ x ∷ [] → g n ≡ f x → map f xs ≡ map g (range_with_len 0 n) → map f ys ≡ map g (range_with_len 0 (n + 1))
+ends_more xs ys x f g n pushed same before =
+    ap (map f) pushed ∙ (map-append f xs (x ∷ []) ∙ (ap (λ zs. zs ++ f x ∷ []) before ∙ (ap (λ z. map g (range_with_len 0 n) ++ z ∷ []) (sym same) ∙ sym (map-range_with_len_more g 0 n n (omega arith)))))
+
+pub all_ends : (s : Scenario) (y : Schedule) (n : ℕ) (es : List (Option Ending)) → n ≡ length s.nexuses → es ≡ map (λ h. ending (control y.world h) (plan y h)) (range_with_len 0 n) → es ≡ endings_in s y
+all_ends s y n es all before = before ∙ ap (λ k. map (λ h. ending (control y.world h) (plan y h)) (range_with_len 0 k)) all
+
+-- ---- all the lists
+
+pub ordered_length : {X : Type 0} (xs : List X) (f : X → ℕ) (n : ℕ) → map f xs ≡ range_with_len 0 n → length xs ≡ n
+ordered_length xs f n order = sym (length-map xs f) ∙ (ap length order ∙ length-range_with_len 0 n)
+
+pub guests_length : (s : Scenario) (guests : List Bool) → guests_of s ≡ guests → length s.nexuses ≡ length guests
+guests_length s guests are = sym (length-map s.nexuses (λ n. is_planned n.task)) ∙ ap length are
+
+-- so many lists, which are those of the seats, are what was sent
+own_lists : {X Y : Type 0} (lists xs : List X) (g : X → List Entry) (seats : List Y) (f : Y → List Entry) (sent history : List Entry) (n : ℕ) → lists ≡ xs → map g xs ≡ map f seats → length seats ≡ n
+    → history ≡ sent → entries_by (length lists) sent ≡ map g lists → entries_by n history ≡ map f seats
+own_lists lists xs g seats f sent history n same mine long is own =
+    let all : length lists ≡ n = sym (length-map lists g) ∙ (ap length (ap (map g) same ∙ mine) ∙ (length-map seats f ∙ long)) in
+    ap (entries_by n) is ∙ (sym (ap (λ k. entries_by k sent) all) ∙ (own ∙ (ap (map g) same ∙ mine)))
+
+pub closed_own : {X Y : Type 0} (s : Scenario) (w : Progress) (lists xs : List X) (g : X → List Entry) (seats : List Y) (f : Y → List Entry) (history : List Entry) (n : ℕ) → IsClosed s (map g lists) w
+    → lists ≡ xs → map g xs ≡ map f seats → length seats ≡ n → history ≡ w.schedule.world.entries → entries_by n history ≡ map f seats
+closed_own s w lists xs g seats f history n closed same mine long is =
+    own_lists lists xs g seats f w.schedule.world.entries history n same mine long is (ap (λ k. entries_by k w.schedule.world.entries) (sym (length-map lists g)) ∙ closed.own)
+
+pub halted_own : {X Y : Type 0} (lists xs : List X) (g : X → List Entry) (seats : List Y) (f : Y → List Entry) (sent known history : List Entry) (n : ℕ) → lists ≡ xs → map g xs ≡ map f seats
+    → length seats ≡ n → known ≡ sent → history ≡ sent → entries_by (length lists) known ≡ map g lists → entries_by n history ≡ map f seats
+halted_own lists xs g seats f sent known history n same mine long is is' own =
+    own_lists lists xs g seats f sent history n same mine long is' (ap (entries_by (length lists)) (sym is) ∙ own)
+
+-- ---- a history that was halted
+
+pub halted : (s t : Scenario) (y : Schedule) (known history : List Entry) (count n : ℕ) → t ≡ s → IsLegalWorld t y → known ≡ y.world.entries → All (λ e. e.host < count) known → count ≡ n
+    → history ≡ y.world.entries → IsHalted s n history
+halted s t y known history count n same legal is before all is' =
+    let here : IsLegalWorld s y = subst (λ u. IsLegalWorld u y) same legal in
+    let less : All (λ e. e.host < n) history = subst (λ k. All (λ e. e.host < k) history) all (subst (All (λ e. e.host < count)) (is ∙ sym is') before) in
+    record {
+      start = here.1.start;
+      first = here.1.first;
+      legal = (here.1.events, y.world, here.1.run, sym is');
+      none = λ h past. none_past history n h less past;
+    }

@@ -1,0 +1,7 @@
+pub mod Comparing
+pub mod Fitted
+pub mod Furnishing
+pub mod Matching
+pub mod Sending
+pub mod Starting
+pub mod TakenTurns

@@ -1,0 +1,62 @@
+-- What a turn under the lock says of the entry that it answers, and of who takes it.
+use Rattle.std.proofs.Common.{◌≡◌, ℕ, zero, suc, Bool, true, List, [], ◌∷◌, length, Option, Some, None, refl, sym, ap, ◌∙◌, subst, arith}
+use Rattle.std.specs.Prelude.{slice_set, option_map}
+use Rattle.std.specs.List.{slice_get}
+use Rattle.std.specs.Option.{option_map_or}
+use Rattle.std.proofs.lemmas.Option.{slice_get-map}
+use Rattle.pr_cdb.specs.declared.command.Command.{Command}
+use Rattle.pr_roles.specs.Safety.{IsSafe}
+use Rattle.pr_roles.specs.Scenarios.{Scenario, Nexus, Task, Scripted, Planned, task}
+use Rattle.pr_roles.specs.Schedules.{Schedule, Turn as IsTurn, TurnBy}
+use Rattle.pr_world.specs.declared.turn.Turn.{Turn}
+use Rattle.pr_world.specs.declared.turn.Turn.TheVariants as turn
+use Rattle.pr_world.specs.Courses.{IsOneEvent, IsReached, is_planned}
+use Rattle.pr_world.specs.StepAnswers.{IfSent, IfHeld, PassesOver}
+use Rattle.pr_shared.specs.Guests.{guests_of}
+use Rattle.pr_shared.specs.Histories.{EndsLegally}
+
+-- what was sent ends the history that the turn leads to
+pub sent_legally : (guests : List Bool) (s t : Scenario) (h : ℕ) (x y : Schedule) (r : Turn) → guests_of s ≡ guests → t ≡ s → IsSafe t → (steps : List ℕ) × IsReached t steps y
+    → IfSent r (λ e. IsOneEvent s h e x.world y.world) → IfSent r (EndsLegally guests)
+sent_legally guests s t h x y (turn.Sent e) guests_are same safe reached one = record {
+  scenario = t;
+  guests_are = ap guests_of same ∙ guests_are;
+  safe = safe;
+  start = reached.1.start;
+  first = reached.1.first;
+  before = x.world.entries;
+  legal = (reached.1.events, y.world, reached.1.run, one.added);
+}
+sent_legally guests s t h x y (turn.Stopped word) guests_are same safe reached one = tt
+sent_legally guests s t h x y turn.Held guests_are same safe reached one = tt
+
+-- where a command is taken from a plan, the plans are others
+changes_plans : (plans : List (List Command)) (h : ℕ) (c : Command) (left : List Command) → option_map_or (λ p. p) (slice_get plans h) [] ≡ c ∷ left → slice_set plans h left ≡ plans → ⊥
+changes_plans [] h c left next same = let bad : [] ≡ c ∷ left = next in cc
+changes_plans (p ∷ ps) zero c left next same =
+    let here : left ≡ p = cc (same) in
+    let long : length left ≡ length (c ∷ left) = ap length (here ∙ next) in
+    absurd (omega (arith, long))
+changes_plans (p ∷ ps) (suc h) c left next same = changes_plans ps h c left next (cc (same))
+
+passes_plans : (s : Scenario) (x y : Schedule) (h : ℕ) → PassesOver s x h y → y.plans ≡ x.plans → ⊥
+passes_plans s x y h passes same = changes_plans x.plans h passes.command passes.left passes.next (sym (ap (λ z. z.plans) passes.after) ∙ same)
+
+guest_by : (s : Scenario) (h : ℕ) (commands : List Command) → task s h ≡ Some (Planned commands) → slice_get (guests_of s) h ≡ Some true
+guest_by s h commands is = slice_get-map (λ n. is_planned n.task) s.nexuses h ∙ by (slice_get s.nexuses h) is
+  where
+    by : (o : Option Nexus) → option_map_or (λ n. Some n.task) o None ≡ Some (Planned commands) → option_map (λ n. is_planned n.task) o ≡ Some true
+    by None same = let bad : None ≡ Some (Planned commands) = same in cc
+    by (Some n) same = let here : n.task ≡ Planned commands = cc (same) in ap (λ t. Some (is_planned t)) here
+
+held_by : (s : Scenario) (x y : Schedule) (h : ℕ) (t : Option Task) → task s h ≡ t → TurnBy t s x h y → PassesOver s x h y → slice_get (guests_of s) h ≡ Some true
+held_by s x y h None is turned passes = absurd (passes_plans s x y h passes (ap (λ z. z.plans) turned))
+held_by s x y h (Some (Scripted script budget)) is turned passes = absurd (passes_plans s x y h passes turned.1)
+held_by s x y h (Some (Planned commands)) is turned passes = guest_by s h commands is
+
+-- just a guest passes over a command
+pub held_guest : (guests : List Bool) (s : Scenario) (x y : Schedule) (h : ℕ) (r : Turn) → guests_of s ≡ guests → IsTurn s x h y → IfHeld r (PassesOver s x h y)
+    → IfHeld r (slice_get guests h ≡ Some true)
+held_guest guests s x y h (turn.Sent e) guests_are turned passes = tt
+held_guest guests s x y h (turn.Stopped word) guests_are turned passes = tt
+held_guest guests s x y h turn.Held guests_are turned passes = subst (λ gs. slice_get gs h ≡ Some true) guests_are (held_by s x y h (task s h) refl turned passes)

@@ -1,0 +1,37 @@
+-- What was sent, by all and by one, and what ends a legal history.
+use Rattle.std.specs.Prelude.{◌≡◌, ℕ, ◌==◌, Bool, List, [], ◌∷◌, ◌++◌, Some, length, map}
+use Rattle.std.specs.List.{filter, range_with_len}
+use Rattle.pr_unit.specs.UnitStates.{UnitState}
+use Rattle.pr_roles.specs.declared.entry.Entry.{Entry}
+use Rattle.pr_roles.specs.Scenarios.{Scenario}
+use Rattle.pr_roles.specs.Safety.{IsSafe, IsLegal}
+use Rattle.pr_roles.specs.Starts.{first_state}
+use Rattle.pr_roles.specs.Schedules.{Schedule}
+use Rattle.pr_world.specs.Courses.{IsReached}
+use Rattle.pr_shared.specs.Guests.{guests_of}
+
+-- how many commands of a history were sent
+abbrev pub sent_in : List Entry → ℕ
+sent_in history = length history
+
+-- the entries of h, in order
+abbrev pub entries_of : List Entry → ℕ → List Entry
+entries_of history h = filter (λ e. e.host == h) history
+
+-- those of each of so many, by their numbers
+abbrev pub entries_by : ℕ → List Entry → List (List Entry)
+entries_by n history = map (entries_of history) (range_with_len 0 n)
+
+-- The entry stands last in a history that is legal from the first start of a safe scenario with these guests.
+pub record EndsLegally (guests : List Bool) (e : Entry) : Type 0 where
+  pub scenario : Scenario
+  pub guests_are : guests_of scenario ≡ guests
+  pub safe : IsSafe scenario
+  pub start : UnitState
+  pub first : first_state scenario ≡ Some start
+  pub before : List Entry
+  pub legal : IsLegal scenario start (before ++ e ∷ [])
+
+-- Some turns led here, by a legal run, from the first start of the scenario.
+abbrev pub IsLegalWorld : Scenario → Schedule → Type 0
+IsLegalWorld s y = (steps : List ℕ) × IsReached s steps y

@@ -1,0 +1,6 @@
+pub mod Guests
+pub mod Histories
+pub mod Outcomes
+pub mod RunAnswers
+pub mod TurnAnswers
+pub mod inside

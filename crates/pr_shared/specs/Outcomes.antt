@@ -1,0 +1,54 @@
+-- What a run over threads comes to, and when a world is closed.
+use Rattle.std.specs.Prelude.{◌≡◌, ℕ, ◌≤◌, ◌==◌, Bool, true, false, IsTrue, List, [], Option, Some, None, length, map}
+use Rattle.std.specs.List.{list_all, range_with_len}
+use Rattle.pr_unit.specs.UnitStates.{UnitState}
+use Rattle.pr_roles.specs.declared.entry.Entry.{Entry}
+use Rattle.pr_roles.specs.Scenarios.{Scenario, scenario_of}
+use Rattle.pr_roles.specs.Safety.{IsLegal}
+use Rattle.pr_roles.specs.Schedules.{Schedule, plan}
+use Rattle.pr_roles.specs.Starts.{first_state}
+use Rattle.pr_roles.specs.Worlds.{control}
+use Rattle.pr_world.specs.Courses.{IsReached}
+use Rattle.pr_world.specs.Ends.{Ending, stops, waits, traps, leaves, ending, seen}
+use Rattle.pr_world.specs.Progress.{Progress}
+use Rattle.pr_shared.specs.declared.outcome.Outcome.{Outcome}
+use Rattle.pr_shared.specs.Histories.{entries_by, entries_of}
+
+-- a script is stopped, or nothing is left of a plan
+abbrev pub is_over : Option Ending → Bool
+is_over None = false
+is_over (Some (stops word)) = true
+is_over (Some (waits line)) = false
+is_over (Some (traps line)) = false
+is_over (Some (leaves planned)) = planned == 0
+
+-- how each host and guest of the scenario stands, by its number
+abbrev pub endings_in : Scenario → Schedule → List (Option Ending)
+endings_in s y = map (λ h. ending (control y.world h) (plan y h)) (range_with_len 0 (length s.nexuses))
+
+-- every script is stopped, and every plan is done
+abbrev pub AreOver : Scenario → Schedule → Type 0
+AreOver s y = IsTrue (list_all is_over (endings_in s y))
+
+-- Turns led from the first start, by a legal run, to just this history, this unit and these ends, and all are over.
+pub record IsOutcome (s : Scenario) (o : Outcome) : Type 0 where
+  pub steps : List ℕ
+  pub last : Schedule
+  pub reached : IsReached s steps last
+  pub history : o.history.items ≡ last.world.entries
+  pub unit : o.unit ≡ last.world.unit
+  pub ends : map (λ e. Some (seen e)) o.ends.items ≡ endings_in s last
+  pub over : AreOver s last
+
+-- The world is one of this scenario, each of these lists is what its host or guest sent, and all are over.
+pub record IsClosed (s : Scenario) (mine : List (List Entry)) (w : Progress) : Type 0 where
+  pub scenario : scenario_of w.scenario ≡ s
+  pub own : entries_by (length mine) w.schedule.world.entries ≡ mine
+  pub over : AreOver (scenario_of w.scenario) w.schedule
+
+-- A history that is legal from the first start, to which only those before this one have sent.
+pub record IsHalted (s : Scenario) (host : ℕ) (history : List Entry) : Type 0 where
+  pub start : UnitState
+  pub first : first_state s ≡ Some start
+  pub legal : IsLegal s start history
+  pub none : (h : ℕ) → host ≤ h → entries_of history h ≡ []

@@ -1,0 +1,125 @@
+//! Whether a world is closed: what it has is compared with what the seats have.
+
+ghost use Rattle.std.specs.Prelude.{◌≡◌, ◌↔◌, ◌<◌, ◌≤◌, Some, IsTrue, length, map, vec_len, vec_capacity};
+ghost use Rattle.std.specs.List.{All, list_all};
+ghost use Rattle.pr_roles.specs.Scenarios.{scenario_of};
+ghost use Rattle.pr_world.specs.Ends.{seen};
+ghost use Rattle.pr_shared.specs.Histories.{entries_of, entries_by};
+ghost use Rattle.pr_shared.specs.Outcomes.{AreOver, IsClosed, IsOutcome, endings_in, is_over};
+
+use crate::outcome::Outcome;
+use pr_roles::{Entry, Scenario};
+use pr_world::{End, World};
+
+/// Whether the world is one of this scenario, each list is what its host or guest sent, and all are over.
+pub(crate) fn is_closed(
+    scenario: &Scenario,
+    world: &World,
+    lists: &[Vec<Entry>],
+    ends: &[End],
+) -> bool
+    requires { map (λ e. Some (seen e)) ends.now ≡ endings_in (scenario_of world.now.scenario) world.now.schedule }
+    ensures { IsTrue result
+        ↔ IsClosed (scenario_of scenario.now) (map (λ l. l.items) lists.now) world.now }
+{
+    if !world.scenario().same(scenario) {
+        return false;
+    }
+    if !are_own(lists, world.entries()) {
+        return false;
+    }
+    are_over(ends)
+}
+
+/// Whether each list is what its host or guest sent.
+pub(crate) fn are_own(lists: &[Vec<Entry>], history: &[Entry]) -> bool
+    ensures { IsTrue result
+        ↔ (entries_by (length lists.now) history.now ≡ map (λ l. l.items) lists.now) }
+{
+    for (host, mine) in lists.iter().enumerate() {
+        if !is_own(host, mine, history) {
+            return false;
+        }
+    }
+    true
+}
+
+// Whether the list is what this host or guest sent.
+fn is_own(host: usize, mine: &[Entry], history: &[Entry]) -> bool
+    ensures { IsTrue result ↔ (entries_of history.now host ≡ mine.now) }
+{
+    let mut count = 0;
+    for entry in history {
+        if usize::from(entry.host) == host {
+            if count >= mine.len() {
+                return false;
+            }
+            if !is_same(entry, &mine[count]) {
+                return false;
+            }
+            count += 1;
+        }
+    }
+    count == mine.len()
+}
+
+fn is_same(entry: &Entry, other: &Entry) -> bool
+    ensures { IsTrue result ↔ (entry.now ≡ other.now) }
+{
+    entry == other
+}
+
+/// Whether only those before this one have sent anything.
+pub(crate) fn are_before(count: usize, history: &[Entry]) -> bool
+    ensures { IsTrue result ↔ All (λ e. e.host < count) history.now }
+{
+    history.iter().all(|entry| usize::from(entry.host) < count)
+}
+
+// Whether each script is stopped, and each plan is done.
+fn are_over(ends: &[End]) -> bool
+    ensures { result ≡ list_all (λ e. is_over (Some (seen e))) ends.now }
+{
+    ends.iter().all(|end| is_over(end))
+}
+
+fn is_over(end: &End) -> bool
+    ensures { result ≡ is_over (Some (seen end.now)) }
+{
+    match end {
+        End::Stopped(_) => true,
+        End::Ready(_) | End::Trapped(_) => false,
+        End::Left(planned) => *planned == 0,
+    }
+}
+
+/// How each host and guest stands. There is room in the list for all of them.
+pub(crate) fn ends_of(world: &World, mut ends: Vec<End>) -> Vec<End>
+    requires none { vec_len ends ≡ 0 }
+    requires room { length (scenario_of world.now.scenario).nexuses ≤ vec_capacity ends }
+    ensures { map (λ e. Some (seen e)) result.items
+        ≡ endings_in (scenario_of world.now.scenario) world.now.schedule }
+{
+    let nexuses = world.scenario().parts().nexuses.len();
+    for host in 0..nexuses {
+        ends.push_reserved(world.end(host as u8));
+    }
+    ends
+}
+
+/// What a world comes to in which all are over.
+pub(crate) fn outcome_of(world: World, ends: Vec<End>) -> Outcome
+    requires ends { map (λ e. Some (seen e)) ends.items ≡ endings_in (scenario_of world.scenario) world.schedule }
+    requires over { AreOver (scenario_of world.scenario) world.schedule }
+    ensures outcome { IsOutcome (scenario_of world.scenario) result }
+    ensures history { result.history.items ≡ world.schedule.world.entries }
+{
+    // By this reader a proof knows that the history is legal.
+    let _legal = world.entries();
+    let (history, unit) = world.into_parts();
+    Outcome {
+        history,
+        unit,
+        ends,
+    }
+}

@@ -1,0 +1,23 @@
+//! What is called round each turn of a run.
+
+use pr_world::Turn;
+
+/// What a run calls round each turn, in the thread that takes the turn. The turns of a host or guest are numbered from 1. A
+/// gate may wait, and so have threads meet.
+pub trait Gate: Sync {
+    /// Before turn `n` of this host or guest.
+    fn before(&self, host: u8, n: u32);
+
+    /// After turn `n` of this host or guest, with what it answered.
+    fn after(&self, host: u8, n: u32, turn: &Turn);
+}
+
+/// A gate that does nothing.
+#[derive(Clone, Copy, Debug)]
+pub struct NoGate;
+
+impl Gate for NoGate {
+    fn before(&self, _host: u8, _n: u32) {}
+
+    fn after(&self, _host: u8, _n: u32, _turn: &Turn) {}
+}

@@ -1,0 +1,27 @@
+//! What a run over threads comes to.
+
+use pr_roles::Entry;
+use pr_unit::Unit;
+use pr_world::{End, World};
+
+/// What a run came to: each host's script is stopped, and each guest's plan is done.
+#[derive(Debug, Drop)]
+pub struct Outcome {
+    /// The commands that reached the unit, in order.
+    pub history: Vec<Entry>,
+
+    pub unit: Unit,
+
+    /// How each host or guest stands, by its number.
+    pub ends: Vec<End>,
+}
+
+/// The world under the lock and the seats don't belong together, or some host or guest has not come to its end.
+#[derive(Debug, Drop)]
+pub struct Differs {
+    /// What stood under the lock.
+    pub world: World,
+
+    /// The entries that each seat's turns answered, by the numbers of their hosts and guests.
+    pub mine: Vec<Vec<Entry>>,
+}

@@ -1,0 +1,18 @@
+//! Which run over threads a lock and its seats are of.
+
+use std::marker::Brand;
+use std::sync::ledger::Ledger;
+
+/// Which run it is. A round names the ledger that counts the entries, and says of each host and guest, by its number,
+/// whether it is a guest. Contracts alone see it: a function over a round is called with [`Brand`], and that call picks it.
+pub trait Round: Ledger {
+    ghost use Rattle.std.specs.Prelude.{Bool, List};
+
+    ghost guests: { List Bool };
+}
+
+impl Round for Brand {
+    ghost use Rattle.std.specs.Prelude.{[]};
+
+    ghost guests = { [] };
+}

@@ -1,0 +1,31 @@
+//! Why a run came to no outcome.
+
+use pr_roles::Entry;
+use std::alloc::AllocError;
+use thiserror::Error;
+
+/// Why a run came to no outcome.
+#[derive(Debug, Drop, Error)]
+pub enum RunError {
+    /// Memory was refused before any turn.
+    #[error("memory")]
+    Memory,
+    /// The thread of this host or guest could not be started, and for those after it none was tried. Those before it ran
+    /// to their end, and this is their history.
+    #[error("no thread for host {host}")]
+    Spawn { host: u8, history: Vec<Entry> },
+    /// The world and the seats don't belong together, or one of them has not come to its end.
+    #[error("the world differs from the seats")]
+    Differs,
+}
+
+impl From<AllocError> for RunError {
+    ghost from_gives = { λ _ e. e ≡ Memory };
+
+    ghost use Rattle.std.specs.Prelude.{◌≡◌};
+    ghost use Rattle.pr_shared.specs.declared.run_error.RunError.TheVariants.{Memory};
+
+    fn from(_e: AllocError) -> RunError {
+        RunError::Memory
+    }
+}

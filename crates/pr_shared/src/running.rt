@@ -1,0 +1,105 @@
+//! Runs: the turns of a verified scenario, taken by a thread for each host and guest.
+
+ghost use Rattle.std.specs.Prelude.{◌≡◌, ◌↔◌, ◌<◌, IsTrue, IfOk, IfErr, true, length, map};
+ghost use Rattle.std.specs.List.{All, range_with_len};
+ghost use Rattle.pr_roles.specs.Scenarios.{scenario_of};
+ghost use Rattle.pr_shared.specs.Guests.{guests_of};
+ghost use Rattle.pr_shared.specs.Histories.{entries_by};
+ghost use Rattle.pr_shared.specs.Outcomes.{IsHalted, IsOutcome};
+ghost use Rattle.pr_shared.specs.RunAnswers.{IfSpawn};
+ghost use Rattle.pr_shared.specs.inside.Starting.{StartedBut};
+
+use crate::gate::Gate;
+use crate::outcome::Outcome;
+use crate::round::Round;
+use crate::run_error::RunError;
+use crate::seat::Seat;
+use crate::shared::SharedWorld;
+use crate::threads::in_threads;
+use pr_verify::Verified;
+use std::alloc::Global;
+use std::marker::Brand;
+use std::sync::Wait;
+use std::sync::ledger::Blank;
+use std::thread::Threads;
+
+/// Runs a verified scenario from its first start, with a thread for each host and guest, which takes its turns until its
+/// script is stopped or its plan is done. The threads share nothing but the world and the gate, which is called round each
+/// turn. All threads are joined.
+///
+/// It waits for the threads, and so may never return; no promise rests on a thread that runs.
+pub fn run<G: Gate, R: Threads + Wait + Sync>(
+    rt: &R,
+    alloc: Global,
+    verified: Verified,
+    gate: &G,
+) -> Result<Outcome, RunError>
+    ensures outcome { IfOk result (IsOutcome (scenario_of verified)) }
+    ensures known { IfErr result (IfSpawn (λ host history. host < length (scenario_of verified).nexuses)) }
+    ensures halted { IfErr result (IfSpawn (IsHalted (scenario_of verified))) }
+{
+    let nexuses = verified.scenario().parts().nexuses.len();
+    run_as::<Brand, G, R>(rt, alloc, verified, Blank::new(nexuses as u64), gate)
+}
+
+// The run over a round, which the caller names.
+fn run_as<C: Round + Send + Sync, G: Gate, R: Threads + Wait + Sync>(
+    rt: &R,
+    alloc: Global,
+    verified: Verified,
+    blank: Blank,
+    gate: &G,
+) -> Result<Outcome, RunError>
+    requires name { blank.name ≡ C.name }
+    requires parts { blank.parts ≡ C.parts }
+    requires guests { guests_of (scenario_of verified) ≡ C.guests }
+    requires one_each { blank.parts ≡ length C.guests }
+    ensures outcome { IfOk result (IsOutcome (scenario_of verified)) }
+    ensures known { IfErr result (IfSpawn (λ host history. host < length (scenario_of verified).nexuses)) }
+    ensures halted { IfErr result (IfSpawn (IsHalted (scenario_of verified))) }
+{
+    let nexuses = verified.scenario().parts().nexuses.len();
+    let started = Vec::with_capacity(alloc, nexuses)?;
+    let back = Vec::with_capacity(alloc, nexuses)?;
+    let Ok((shared, seats)) = SharedWorld::<C>::begin(alloc, verified, blank) else {
+        return Err(RunError::Memory);
+    };
+    let (seats, failed) = in_threads(rt, &shared, gate, seats, started, back);
+    settled(shared, seats, failed)
+}
+
+// What a run came to, from the seats that came back, and the first host or guest whose thread could not be started.
+fn settled<C: Round>(
+    shared: SharedWorld<C>,
+    seats: Vec<Seat<C>>,
+    failed: Option<u8>,
+) -> Result<Outcome, RunError>
+    requires parts { C.parts ≡ length C.guests }
+    requires started { StartedBut failed (map (λ s. s.host) seats.items) (range_with_len 0 (length C.guests)) }
+    ensures outcome { IfOk result (IsOutcome (scenario_of shared.kept.scenario)) }
+    ensures own { IfOk result (λ outcome.
+        entries_by (length C.guests) outcome.history.items ≡ map (λ s. s.mine.items) seats.items) }
+    ensures known { IfErr result (IfSpawn (λ host history. host < length C.guests)) }
+    ensures halted { IfErr result (IfSpawn (IsHalted (scenario_of shared.kept.scenario))) }
+    ensures sent { IfErr result (IfSpawn (λ host history. entries_by host history ≡ map (λ s. s.mine.items) seats.items)) }
+{
+    if let Some(host) = failed {
+        return match shared.halt(seats) {
+            Some(history) => Err(RunError::Spawn { host, history }),
+            None => Err(RunError::Differs),
+        };
+    }
+    if !have_ended(&seats) {
+        return Err(RunError::Differs);
+    }
+    match shared.close(seats) {
+        Ok(outcome) => Ok(outcome),
+        Err(_) => Err(RunError::Differs),
+    }
+}
+
+fn have_ended<C: Round>(seats: &[Seat<C>]) -> bool
+    ensures { IsTrue result ↔ All (λ s. s.ended ≡ true) seats.now }
+{
+    seats.iter().all(|seat| seat.ended())
+}

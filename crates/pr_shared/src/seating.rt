@@ -1,0 +1,39 @@
+//! A seat for each host and guest.
+
+ghost use Rattle.std.specs.Prelude.{◌≡◌, ◌+◌, ◌≤◌, [], length, map, IfOk, OnOk, false, vec_capacity};
+ghost use Rattle.std.specs.List.{All, range_with_len};
+ghost use Rattle.pr_roles.specs.Scenarios.{task_of};
+ghost use Rattle.pr_world.specs.Rooms.{room_of};
+
+use crate::round::Round;
+use crate::seat::Seat;
+use pr_roles::Nexus;
+use std::alloc::{AllocError, Global};
+use std::sync::ledger::Share;
+
+/// A seat for each host and guest, in order, with one part each of the share.
+pub(crate) fn seats_for<C: Round>(
+    alloc: Global,
+    nexuses: &[Nexus],
+    all: &mut Share<C>,
+) -> Result<Vec<Seat<C>>, AllocError>
+    requires few { length nexuses.now ≤ 8 }
+    requires short { All (λ n. room_of (task_of n.task) ≤ 4096) nexuses.now }
+    requires known { length nexuses.now ≡ length C.guests }
+    requires parts { all.old.parts ≡ length nexuses.now }
+    requires amount { all.old.amount ≡ 0 }
+    ensures in_order { IfOk result (λ seats. map (λ s. s.host) seats.items ≡ range_with_len 0 (length nexuses.now)) }
+    ensures going { IfOk result (λ seats. All (λ s. s.ended ≡ false) seats.items) }
+    ensures empty { IfOk result (λ seats. All (λ s. s.mine.items ≡ []) seats.items) }
+    ensures room { IfOk result (λ seats.
+        map (λ s. vec_capacity s.mine) seats.items ≡ map (λ n. room_of (task_of n.task) + 1) nexuses.now) }
+    ensures parts { OnOk result (all.new.parts ≡ 0) }
+    ensures amount { OnOk result (all.new.amount ≡ 0) }
+{
+    let mut seats = Vec::with_capacity(alloc, nexuses.len())?;
+    for (host, nexus) in nexuses.iter().enumerate() {
+        let share = all.split_off(1, 0);
+        seats.push(Seat::new(alloc, host as u8, &nexus.task, share)?)?;
+    }
+    Ok(seats)
+}
