@@ -1,12 +1,16 @@
--- The place and the outline that values of the program are.
+-- The outline and the table that values of the program are.
 use Rattle.std.specs.Prelude.{◌≡◌, ℕ, length, map, Option, Some, None}
 use Rattle.std.specs.List.{All}
 use Rattle.pr_sets.specs.Numbers.{Numbers}
+use Rattle.pr_sets.specs.declared.word_set.WordSet.{WordSet}
 use Rattle.pr_views.specs.declared.view.ViewOf.{ViewOf}
 use Rattle.pr_views.specs.Rooms.{view_of, IsMade}
 use Rattle.pr_roles.specs.Scenarios.{Scenario, Task, Scripted, Planned}
 use Rattle.pr_verify.specs.declared.outline.OutlineBy.{OutlineBy}
+use Rattle.pr_verify.specs.declared.table.Row.{Row as KeptRow}
+use Rattle.pr_verify.specs.declared.table.Table.{Table as KeptTable}
 use Rattle.pr_verify.specs.Outlines.{Outline}
+use Rattle.pr_verify.specs.Tables.{Row, Table}
 
 -- the outline, by what the members of each set are
 abbrev pub outline_of : {S : Type 0} → (S → Numbers) → OutlineBy (ViewOf S) → Outline
@@ -21,3 +25,10 @@ abbrev pub IsScripted : Option Task → Type 0
 IsScripted None = ⊥
 IsScripted (Some (Scripted script budget)) = Unit {0}
 IsScripted (Some (Planned commands)) = ⊥
+
+-- the row, and the table by what the members of each set are
+abbrev pub row_of : KeptRow → Row
+row_of r = record { command = r.command; tests = r.tests.items; permitted = r.permitted; arms = r.arms.items; unarmed = r.unarmed.items }
+
+abbrev pub table_of : (WordSet → Numbers) → KeptTable → Table
+table_of members t = record { outline = outline_of members t.outline; rows = map row_of t.rows.items }

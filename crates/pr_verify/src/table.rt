@@ -1,0 +1,27 @@
+//! What is known at the sends of scripts, as tables.
+
+use crate::outline::Outline;
+use pr_cdb::Command;
+use pr_domain::Class;
+use pr_script::Test;
+
+/// What is known at a send of a script.
+#[derive(Debug, Drop)]
+pub struct Row {
+    pub command: Command,
+    /// The test of each arm.
+    pub tests: Vec<Test>,
+    /// Whether the role permits the command in every state in which it may end GOOD.
+    pub permitted: bool,
+    /// The arms that some reply takes, by their numbers from 0, in order.
+    pub arms: Vec<usize>,
+    /// How replies may end that no arm takes: GOOD, RESERVATION CONFLICT, then senses by number.
+    pub unarmed: Vec<Class>,
+}
+
+/// The outline of a host, and a row for each of its views, in the order of the lines.
+#[derive(Drop)]
+pub struct Table {
+    pub outline: Outline,
+    pub rows: Vec<Row>,
+}
