@@ -12,14 +12,16 @@ const STATUSES: &str =
 
 const CHECK_CALL: &str = "For example: fence check preempted-writer.fence";
 
+const OUTLINE_CALL: &str = "For example: fence outline missing-arm.fence";
+
 const REPLAY_CALL: &str = "For example: fence replay preempted-writer.fence a a b a";
 
 const RUN_CALL: &str = "For example: fence run race.fence";
 
 const AUDIT_CALL: &str = "For example: fence audit preempted-writer.fence preempted-writer.1.trace";
 
-/// What the words of a command line say: the subcommand `check` with its `FILE`, `replay` with its `FILE` and one `STEP`
-/// or more, `run` with its `FILE`, or `audit` with its `FILE` and its `TRACE`.
+/// What the words of a command line say: the subcommand `check` or `outline` with its `FILE`, `replay` with its `FILE` and
+/// one `STEP` or more, `run` with its `FILE`, or `audit` with its `FILE` and its `TRACE`.
 pub fn matches_of<'a>(alloc: Global, words: &'a [String]) -> Result<ArgMatches<'a>, Error> {
     command(alloc)?.try_get_matches_from(words)
 }
@@ -34,6 +36,7 @@ fn command<'a>(alloc: Global) -> Result<Command<'a>, AllocError> {
         .subcommand_required(true)
         .arg_required_else_help(true)
         .subcommand(check(alloc)?)?
+        .subcommand(outline(alloc)?)?
         .subcommand(replay(alloc)?)?
         .subcommand(run(alloc)?)?
         .subcommand(audit(alloc)?)
@@ -43,6 +46,13 @@ fn check<'a>(alloc: Global) -> Result<Command<'a>, AllocError> {
     Command::new(alloc, "check")
         .about("Verifies the scripts, and writes the verdict")
         .after_help(CHECK_CALL)
+        .arg(file(alloc))
+}
+
+fn outline<'a>(alloc: Global) -> Result<Command<'a>, AllocError> {
+    Command::new(alloc, "outline")
+        .about("Writes what can be known of the unit at each send of the scripts, and which replies may come")
+        .after_help(OUTLINE_CALL)
         .arg(file(alloc))
 }
 

@@ -14,6 +14,7 @@ mod ending;
 #[cfg(test)]
 mod fakes;
 mod fault;
+mod outlines;
 mod replays;
 mod runs;
 mod steps;
@@ -22,6 +23,7 @@ use crate::audits::do_audit;
 use crate::checks::do_check;
 use crate::command_line::matches_of;
 use crate::fault::{Fault, Status, tell};
+use crate::outlines::do_outline;
 use crate::replays::do_replay;
 use crate::runs::do_run;
 use clap::ArgMatches;
@@ -67,6 +69,7 @@ fn run_matches<T: Threads + Wait + Sync>(
 ) -> Status {
     match matches.subcommand() {
         Some(("check", arguments)) => run_check(rt, arguments),
+        Some(("outline", arguments)) => run_outline(rt, arguments),
         Some(("replay", arguments)) => run_replay(rt, arguments),
         Some(("run", arguments)) => run_threads(rt, threads, arguments),
         Some(("audit", arguments)) => run_audit(rt, arguments),
@@ -79,6 +82,13 @@ fn run_check(rt: &HostRuntime, arguments: &ArgMatches<'_>) -> Status {
         return fail(&mut rt.stderr(), Fault::Usage);
     };
     check_path(rt, path)
+}
+
+fn run_outline(rt: &HostRuntime, arguments: &ArgMatches<'_>) -> Status {
+    let Some(path) = arguments.get_str("FILE") else {
+        return fail(&mut rt.stderr(), Fault::Usage);
+    };
+    outline_path(rt, path)
 }
 
 fn run_replay(rt: &HostRuntime, arguments: &ArgMatches<'_>) -> Status {
@@ -115,6 +125,19 @@ fn check_path(rt: &HostRuntime, path: &str) -> Status {
     }
     match fs::open(rt, path) {
         Ok(mut file) => do_check(rt.alloc(), &mut file, &mut output, &mut errors),
+        Err(error) => fail(&mut errors, file_fault(&error)),
+    }
+}
+
+// `fence outline FILE`, where `-` is standard input.
+fn outline_path(rt: &HostRuntime, path: &str) -> Status {
+    let mut output = rt.stdout();
+    let mut errors = rt.stderr();
+    if path == "-" {
+        return do_outline(rt.alloc(), &mut rt.stdin(), &mut output, &mut errors);
+    }
+    match fs::open(rt, path) {
+        Ok(mut file) => do_outline(rt.alloc(), &mut file, &mut output, &mut errors),
         Err(error) => fail(&mut errors, file_fault(&error)),
     }
 }

@@ -22,5 +22,5 @@ pub use inferring::{infer, infer_of};
 pub use laws::{outlines_make_safe, reasons_are_final, runs_go_on, safe_sends_are_fine};
 pub use outline::{Outline, OutlineBy, OutlineOf};
 pub use refusal::Refusal;
-pub use table::{Row, Table};
+pub use table::{Row, Table, tables};
 pub use verifying::{Refused, Verified, verify};

@@ -12,7 +12,7 @@ ghost use Rattle.pr_verify.specs.Rooms.{outline_of, IsMadeFor};
 ghost use Rattle.pr_verify.specs.inside.Listing.{place_of, IsPlaceWritten};
 ghost use Rattle.pr_verify.specs.inside.Least.{IsLeastAmong};
 ghost use Rattle.pr_verify.specs.inside.Lacking.{IsFirstLacking, lines_after, HasNext, LacksNext};
-ghost use Rattle.pr_verify.specs.inside.Reviewing.{IsMadeAs, IsLackingOfSends, IsMisfit, IsFirstMisfit, IsFirstUnarmed, earlier};
+ghost use Rattle.pr_verify.specs.inside.Reviewing.{IsMadeAs, IsLackingOfSends, IsMisfit, IsFirstMisfit, IsFirstUnarmed, earlier, earlier_from};
 
 use crate::answers::Questions;
 use crate::lacking::{first_lacking, least};
@@ -137,21 +137,35 @@ fn misfit<S: ViewSet>(
     if !permitted(view, role, host, &spot.command) {
         return Some(Refusal::OutOfRole { host, line });
     }
-    let class = first_unarmed(outcomes)?;
+    let class = first_unarmed(outcomes, 0)?;
     Some(Refusal::NoArm { host, line, class })
 }
 
-// Of the classes of replies without an arm, the first.
-fn first_unarmed<S: ViewSet>(outcomes: &[(Landing, ViewOf<S>)]) -> Option<Class>
-    ensures { IsFirstUnarmed (length outcomes.now) outcomes.now result }
+/// Of the classes of replies without an arm that have this number or a greater one, the first.
+pub(crate) fn first_unarmed<S: ViewSet>(
+    outcomes: &[(Landing, ViewOf<S>)],
+    from: u32,
+) -> Option<Class>
+    ensures { IsFirstUnarmed from (length outcomes.now) outcomes.now result }
 {
     let mut first = None;
     for (landing, _) in outcomes {
         if let Landing::NoArm(class) = landing {
-            first = Some(earlier(first, *class));
+            first = earlier_from(from, first, *class);
         }
     }
     first
+}
+
+// The one that comes first, where this class has the number or a greater one.
+fn earlier_from(from: u32, first: Option<Class>, class: Class) -> Option<Class>
+    ensures { result ≡ earlier_from from first class }
+{
+    if from <= number_of(class) {
+        Some(earlier(first, class))
+    } else {
+        first
+    }
 }
 
 // The one that comes first of two classes, where both are there.
@@ -170,8 +184,8 @@ fn earlier(first: Option<Class>, class: Class) -> Class
     }
 }
 
-// The number by which classes come one after another.
-fn number_of(class: Class) -> u32
+/// The number by which classes come one after another.
+pub(crate) fn number_of(class: Class) -> u32
     ensures { result ≡ class_number class }
 {
     match class {

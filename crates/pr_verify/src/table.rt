@@ -1,9 +1,31 @@
 //! What is known at the sends of scripts, as tables.
 
-use crate::outline::Outline;
+ghost use Rattle.std.specs.Prelude.{◌≡◌, ◌<◌, ◌↔◌, ℕ, true, length, map, IsTrue, IfOk, Some};
+ghost use Rattle.std.specs.List.{All, AllPairs, AllZip, Contains};
+ghost use Rattle.pr_domain.specs.declared.landing.Landing.TheVariants.{Arm};
+ghost use Rattle.pr_domain.specs.Outcomes.{AreOutcomes};
+ghost use Rattle.pr_script.specs.Grammar.{rise_above};
+ghost use Rattle.pr_roles.specs.Scenarios.{scenario_of, task};
+ghost use Rattle.pr_views.specs.Rooms.{view_of};
+ghost use Rattle.pr_verify.specs.Outlines.{OnScripted, view_at};
+ghost use Rattle.pr_verify.specs.Refusals.{class_number};
+ghost use Rattle.pr_verify.specs.Rooms.{IsMadeFor, IsScripted, outline_of, row_of, table_of};
+ghost use Rattle.pr_verify.specs.Tables.{AreTables, IsRow, IsTable, has_script};
+ghost use Rattle.pr_verify.specs.inside.Listing.{place_of, IsPlaceWritten};
+ghost use Rattle.pr_verify.specs.inside.Reviewing.{IsMadeAs, IsUnarmed};
+
+use crate::answers::Questions;
+use crate::inferring::{infer, script_in};
+use crate::outline::{Outline, OutlineOf};
+use crate::places::{Spot, spots};
+use crate::reviewing::{first_unarmed, number_of};
 use pr_cdb::Command;
-use pr_domain::Class;
+use pr_domain::{Class, Landing, permitted};
+use pr_roles::{Scenario, Task};
 use pr_script::Test;
+use pr_sets::{ViewSet, WordSet};
+use pr_views::ViewOf;
+use std::alloc::{AllocError, Global};
 
 /// What is known at a send of a script.
 #[derive(Debug, Drop)]
@@ -24,4 +46,147 @@ pub struct Row {
 pub struct Table {
     pub outline: Outline,
     pub rows: Vec<Row>,
+}
+
+/// For each host that has a script, in order: its least sound outline, and what its command may come to at each send.
+pub fn tables(alloc: Global, scenario: &Scenario) -> Result<Vec<Table>, AllocError>
+    ensures tables { IfOk result (λ tables. AreTables (scenario_of scenario.now) (map (table_of ⟦<WordSet as ViewSet>⟧.members) tables.items)) }
+    ensures made { IfOk result (λ tables. All (λ t. IsMadeFor ⟦<WordSet as ViewSet>⟧.room (scenario_of scenario.now) t.outline) tables.items) }
+    ensures rows { IfOk result (λ tables. All (λ t. length t.rows.items ≡ length t.outline.views.items) tables.items) }
+{
+    let mut tables = Vec::new(alloc);
+    let hosts = scenario.parts().nexuses.len() as u8;
+    for host in 0..hosts {
+        if has_script(scenario, host) {
+            tables.push(table(alloc, scenario, host)?)?;
+        }
+    }
+    Ok(tables)
+}
+
+fn has_script(scenario: &Scenario, host: u8) -> bool
+    requires { host < length (scenario_of scenario.now).nexuses }
+    ensures { result ≡ has_script (task (scenario_of scenario.now) host) }
+{
+    match &scenario.parts().nexuses[usize::from(host)].task {
+        Task::Scripted { .. } => true,
+        Task::Planned(_) => false,
+    }
+}
+
+// The table of a host that has a script.
+fn table(alloc: Global, scenario: &Scenario, host: u8) -> Result<Table, AllocError>
+    requires scripted { IsScripted (task (scenario_of scenario.now) host) }
+    ensures host { IfOk result (λ t. t.outline.host ≡ host) }
+    ensures table { IfOk result (λ t. OnScripted (task (scenario_of scenario.now) host) (λ script budget. IsTable (scenario_of scenario.now) script (table_of ⟦<WordSet as ViewSet>⟧.members t))) }
+    ensures made { IfOk result (λ t. IsMadeFor ⟦<WordSet as ViewSet>⟧.room (scenario_of scenario.now) t.outline) }
+    ensures rows { IfOk result (λ t. length t.rows.items ≡ length t.outline.views.items) }
+{
+    let script = script_in(scenario, host);
+    let spots = spots(alloc, script)?;
+    let outline = infer(alloc, scenario, host)?;
+    let rows = rows(alloc, scenario, &outline, &spots)?;
+    Ok(Table { outline, rows })
+}
+
+// A row for each send.
+fn rows<S: ViewSet>(
+    alloc: Global,
+    scenario: &Scenario,
+    outline: &OutlineOf<S>,
+    spots: &[Spot],
+) -> Result<Vec<Row>, AllocError>
+    requires host { outline.now.host < length (scenario_of scenario.now).nexuses }
+    requires made { IsMadeFor S.room (scenario_of scenario.now) outline.now }
+    requires written { All (λ p. IsPlaceWritten (scenario_of scenario.now).keys (place_of p)) spots.now }
+    requires listed { map (λ e. e.0) outline.now.views.items ≡ map (λ p. p.line) spots.now }
+    requires rise { rise_above 0 (map (λ e. e.0) outline.now.views.items) ≡ true }
+    ensures { IfOk result (λ rows. AllZip (λ p r. IsRow (scenario_of scenario.now) (outline_of S.members outline.now) (place_of p) (row_of r)) spots.now rows.items) }
+{
+    let questions = Questions { outline, spots };
+    let mut known = Vec::new(alloc);
+    let mut rows = Vec::new(alloc);
+    for (i, spot) in spots.iter().enumerate() {
+        let answer = questions.answer(alloc, &mut known, i)?;
+        let outcomes = &known[answer].outcomes;
+        let row = row(alloc, scenario, outline, &outline.views[i].1, spot, outcomes)?;
+        rows.push(row)?;
+    }
+    Ok(rows)
+}
+
+// Of one send, by the view of its line and what its command comes to there.
+fn row<S: ViewSet>(
+    alloc: Global,
+    scenario: &Scenario,
+    outline: &OutlineOf<S>,
+    view: &ViewOf<S>,
+    spot: &Spot,
+    outcomes: &[(Landing, ViewOf<S>)],
+) -> Result<Row, AllocError>
+    requires host { outline.now.host < length (scenario_of scenario.now).nexuses }
+    requires written { IsPlaceWritten (scenario_of scenario.now).keys (place_of spot.now) }
+    requires view { IsMadeAs S.room (scenario_of scenario.now) view.now }
+    requires here { view_at (outline_of S.members outline.now).views spot.now.line ≡ Some (view_of S.members outline.now.host view.now) }
+    requires outcomes { AreOutcomes (view_of S.members outline.now.host view.now) spot.now.command spot.now.tests.items (map (λ o. (o.0, view_of S.members outline.now.host o.1)) outcomes.now) }
+    ensures { IfOk result (λ row. IsRow (scenario_of scenario.now) (outline_of S.members outline.now) (place_of spot.now) (row_of row)) }
+{
+    let role = &scenario.parts().nexuses[usize::from(outline.host)].role;
+    let permitted = permitted(view, role, outline.host, &spot.command);
+    let tests = Vec::from_slice(alloc, &spot.tests)?;
+    let arms = arms_taken(alloc, outcomes, spot.tests.len())?;
+    let unarmed = unarmed(alloc, outcomes)?;
+    Ok(Row {
+        command: spot.command,
+        tests,
+        permitted,
+        arms,
+        unarmed,
+    })
+}
+
+// The arms, of so many, in which some outcome lands.
+fn arms_taken<S: ViewSet>(
+    alloc: Global,
+    outcomes: &[(Landing, ViewOf<S>)],
+    count: usize,
+) -> Result<Vec<usize>, AllocError>
+    ensures each { IfOk result (λ arms. (n : ℕ) → Contains arms.items n ↔ ((n < count) × Contains (map (λ o. o.0) outcomes.now) (Arm n))) }
+    ensures rise { IfOk result (λ arms. AllPairs (λ m n. m < n) arms.items) }
+{
+    let mut arms = Vec::new(alloc);
+    for arm in 0..count {
+        if lands_in(outcomes, Landing::Arm(arm)) {
+            arms.push(arm)?;
+        }
+    }
+    Ok(arms)
+}
+
+fn lands_in<S: ViewSet>(outcomes: &[(Landing, ViewOf<S>)], landing: Landing) -> bool
+    ensures { IsTrue result ↔ Contains (map (λ o. o.0) outcomes.now) landing }
+{
+    for (other, _) in outcomes {
+        if *other == landing {
+            return true;
+        }
+    }
+    false
+}
+
+// How the replies end with which some outcome lands in no arm.
+fn unarmed<S: ViewSet>(
+    alloc: Global,
+    outcomes: &[(Landing, ViewOf<S>)],
+) -> Result<Vec<Class>, AllocError>
+    ensures each { IfOk result (λ classes. (class : Class) → Contains classes.items class ↔ IsUnarmed (length outcomes.now) outcomes.now class) }
+    ensures rise { IfOk result (λ classes. AllPairs (λ c d. class_number c < class_number d) classes.items) }
+{
+    let mut classes = Vec::new(alloc);
+    let mut from = 0;
+    while let Some(class) = first_unarmed(outcomes, from) {
+        from = number_of(class) + 1;
+        classes.push(class)?;
+    }
+    Ok(classes)
 }

@@ -9,11 +9,12 @@ const HELP: &str =
 Usage: fence <COMMAND>
 
 Commands:
-  check   Verifies the scripts, and writes the verdict
-  replay  Lets hosts and guests take their turns in this order, and writes the trace
-  run     Verifies the scripts, runs the scenario with a thread for each host and guest, and writes the trace
-  audit   Says whether the commands and replies of a trace may have happened, or which is the first that may not
-  help    Print this message or the help of the given subcommand(s)
+  check    Verifies the scripts, and writes the verdict
+  outline  Writes what can be known of the unit at each send of the scripts, and which replies may come
+  replay   Lets hosts and guests take their turns in this order, and writes the trace
+  run      Verifies the scripts, runs the scenario with a thread for each host and guest, and writes the trace
+  audit    Says whether the commands and replies of a trace may have happened, or which is the first that may not
+  help     Print this message or the help of the given subcommand(s)
 
 Options:
   -h, --help     Print help
@@ -33,6 +34,20 @@ Options:
   -h, --help  Print help
 
 For example: fence check preempted-writer.fence
+";
+
+const OUTLINE_HELP: &str =
+    "Writes what can be known of the unit at each send of the scripts, and which replies may come
+
+Usage: fence outline <FILE>
+
+Arguments:
+  <FILE>  The scenario; - is standard input
+
+Options:
+  -h, --help  Print help
+
+For example: fence outline missing-arm.fence
 ";
 
 const REPLAY_HELP: &str =
@@ -143,8 +158,9 @@ fn a_refused_command_line_is_told_why(rt: HostRuntime) -> Result<(), Fail> {
 
 #[test]
 fn a_refused_command_is_told_why(rt: HostRuntime) -> Result<(), Fail> {
-    let rows: [(&[&str], &str); 7] = [
+    let rows: [(&[&str], &str); 8] = [
         (&["fence", "run", "--help"], RUN_HELP),
+        (&["fence", "outline", "--help"], OUTLINE_HELP),
         (&["fence", "audit", "--help"], AUDIT_HELP),
         (&["fence", "audit", "a.fence"], NO_TRACE),
         (&["fence", "check", "--help"], CHECK_HELP),
@@ -171,6 +187,23 @@ fn a_check_has_a_file(rt: HostRuntime) -> Result<(), Fail> {
         return Err(Fail::from("no subcommand"));
     };
     assert_eq!(rt; name, "check");
+    assert_eq!(rt; arguments.get_str("FILE"), Some("a.fence"));
+    Ok(())
+}
+
+#[test]
+fn an_outline_has_a_file(rt: HostRuntime) -> Result<(), Fail> {
+    let mut line = Vec::new(rt.alloc());
+    for word in ["fence", "outline", "a.fence"] {
+        line.push(String::from_str(rt.alloc(), word)?)?;
+    }
+    let Ok(matches) = matches_of(rt.alloc(), &line) else {
+        return Err(Fail::from("refused"));
+    };
+    let Some((name, arguments)) = matches.subcommand() else {
+        return Err(Fail::from("no subcommand"));
+    };
+    assert_eq!(rt; name, "outline");
     assert_eq!(rt; arguments.get_str("FILE"), Some("a.fence"));
     Ok(())
 }

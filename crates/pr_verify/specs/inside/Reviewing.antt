@@ -63,16 +63,21 @@ IsFirstMisfit s o n spots (Some refusal) = HasMisfit s o n spots refusal
 abbrev pub IsUnarmed : {S : Type 0} → ℕ → List (Landing × ViewOf S) → Class → Type 0
 IsUnarmed n outcomes class = Among n outcomes (λ o. o.0 ≡ landing.NoArm class)
 
-pub record IsFirstClass {S : Type 0} (n : ℕ) (outcomes : List (Landing × ViewOf S)) (class : Class) : Type 0 where
+pub record IsFirstClass {S : Type 0} (from n : ℕ) (outcomes : List (Landing × ViewOf S)) (class : Class) : Type 0 where
   pub is : IsUnarmed n outcomes class
-  pub first : (other : Class) → IsUnarmed n outcomes other → class_number class ≤ class_number other
+  pub late : from ≤ class_number class
+  pub first : (other : Class) → IsUnarmed n outcomes other → from ≤ class_number other → class_number class ≤ class_number other
 
--- the first class by number with which one lands in no arm, if there is one
-abbrev pub IsFirstUnarmed : {S : Type 0} → ℕ → List (Landing × ViewOf S) → Option Class → Type 0
-IsFirstUnarmed n outcomes None = (class : Class) → IsUnarmed n outcomes class → ⊥
-IsFirstUnarmed n outcomes (Some class) = IsFirstClass n outcomes class
+-- of the classes with which one lands in no arm, the first that has this number or a greater one, if there is one
+abbrev pub IsFirstUnarmed : {S : Type 0} → ℕ → ℕ → List (Landing × ViewOf S) → Option Class → Type 0
+IsFirstUnarmed from n outcomes None = (class : Class) → IsUnarmed n outcomes class → from ≤ class_number class → ⊥
+IsFirstUnarmed from n outcomes (Some class) = IsFirstClass from n outcomes class
 
 -- the one that comes first of two classes, where both are there
 abbrev pub earlier : Option Class → Class → Class
 earlier None class = class
 earlier (Some first) class = if nat_le (class_number first) (class_number class) then first else class
+
+-- where this class has the number or a greater one
+abbrev pub earlier_from : ℕ → Option Class → Class → Option Class
+earlier_from from first class = if nat_le from (class_number class) then Some (earlier first class) else first

@@ -36,7 +36,7 @@ returns-in_err-class g c =
     let permitted = subst (λ clauses. IsPermittedIn v clauses p.command) (role_read c.args.scenario.now c.parts.result.now c.from.result own c.index.result.now seen) (c.permitted.ensures.permitted c.if-not-permitted.false) in
     let here : IsHere o p v = record { at = c.requires.here; own = refl } in
     subst (IsMisfit s o p) (sym c.from_residual.ensures)
-    (has_arms s o p v here members own c.args.outcomes.now c.requires.outcomes c.requires.written.next c.in_err-class.ensures, keeps_role s o p v here permitted)
+    (has_arms s o p v here members own c.args.outcomes.now c.requires.outcomes c.requires.written.next (λ class one. c.in_err-class.ensures class one (omega arith)), keeps_role s o p v here permitted)
 
 pub returns : goal.returns
 returns g c =
@@ -49,4 +49,4 @@ returns g c =
     let seen : IsRead c.args.scenario.now c.parts.result.now c.from.result own c.index.result.now = record { same = c.parts.ensures.value; fits = c.parts.ensures.fits; place = c.from.ensures; there = c.requires.host; read = c.index.ensures } in
     let permitted = subst (λ clauses. IsPermittedIn v clauses p.command) (role_read c.args.scenario.now c.parts.result.now c.from.result own c.index.result.now seen) (c.permitted.ensures.permitted c.if-not-permitted.false) in
     let here : IsHere o p v = record { at = c.requires.here; own = refl } in
-    (refl, refl, keeps_role s o p v here permitted, lacks_arm_first s o p v here members own c.args.outcomes.now c.requires.outcomes c.in_ok-class.class c.in_ok-class.ensures.is c.in_ok-class.ensures.first)
+    (refl, refl, keeps_role s o p v here permitted, lacks_arm_first s o p v here members own c.args.outcomes.now c.requires.outcomes c.in_ok-class.class c.in_ok-class.ensures.is (λ other one. c.in_ok-class.ensures.first other one (omega arith)))

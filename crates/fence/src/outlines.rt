@@ -1,0 +1,64 @@
+//! `fence outline`, over any reader, writer and error writer.
+
+ghost use Rattle.pr_text.specs.BytesRead.{LosesUpTo};
+ghost use Rattle.pr_report.specs.Written.{Puts};
+ghost use Rattle.fence.specs.Endings.{IsCommand, told_of_end};
+ghost use Rattle.fence.specs.Outlines.{EndsOutline};
+
+use crate::ending::{status_of, tell_end};
+use crate::fault::{Fault, Status};
+use pr_report::{WriteFault, write_outlines};
+use pr_text::read;
+use pr_verify::tables;
+use std::alloc::Global;
+use std::io::{Read, Write};
+
+/// `fence outline`: reads a scenario, and writes what can be known at each send of its scripts, accepted or not.
+///
+/// Of the text at most 65,537 bytes are taken. A fault is told in one line on `errors`, whose own faults change nothing.
+pub fn do_outline<R: Read, W: Write, E: Write>(
+    alloc: Global,
+    reader: &mut R,
+    writer: &mut W,
+    errors: &mut E,
+) -> Status
+    ensures command { IsCommand (EndsOutline (R.remaining reader.old) (W.contents writer.old) (W.contents writer.new)) (E.contents errors.old) (E.contents errors.new) result }
+    ensures limited { LosesUpTo 65537 (R.remaining reader.old) (R.remaining reader.new) }
+{
+    let (end, _) = outline_and_tell(alloc, reader, writer, errors);
+    status_of(end)
+}
+
+// The outlines, and what became of the line that tells a fault.
+fn outline_and_tell<R: Read, W: Write, E: Write>(
+    alloc: Global,
+    reader: &mut R,
+    writer: &mut W,
+    errors: &mut E,
+) -> (Result<bool, Fault>, Result<(), WriteFault>)
+    ensures ends { EndsOutline (R.remaining reader.old) (W.contents writer.old) (W.contents writer.new) result.0 }
+    ensures tells { Puts (E.contents errors.old) (E.contents errors.new) (told_of_end result.0) result.1 }
+    ensures limited { LosesUpTo 65537 (R.remaining reader.old) (R.remaining reader.new) }
+{
+    let end = outline_text(alloc, reader, writer);
+    let told = tell_end(errors, &end);
+    (end, told)
+}
+
+// Infers all outlines, and then writes.
+fn outline_text<R: Read, W: Write>(
+    alloc: Global,
+    reader: &mut R,
+    writer: &mut W,
+) -> Result<bool, Fault>
+    ensures ends { EndsOutline (R.remaining reader.old) (W.contents writer.old) (W.contents writer.new) result }
+    ensures limited { LosesUpTo 65537 (R.remaining reader.old) (R.remaining reader.new) }
+{
+    let scenario = read(alloc, reader)?;
+    let tables = tables(alloc, &scenario)?;
+    write_outlines(writer, &scenario, &tables)?;
+    Ok(false)
+}
+
+#[cfg(test)]
+mod tests;
