@@ -51,7 +51,9 @@ fn check<'a>(alloc: Global) -> Result<Command<'a>, AllocError> {
 
 fn outline<'a>(alloc: Global) -> Result<Command<'a>, AllocError> {
     Command::new(alloc, "outline")
-        .about("Writes what can be known of the unit at each send of the scripts, and which replies may come")
+        .about(
+            "Writes what can be known of the unit at each send of the scripts, and which replies may come",
+        )
         .after_help(OUTLINE_CALL)
         .arg(file(alloc))
 }

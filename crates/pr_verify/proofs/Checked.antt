@@ -29,7 +29,7 @@ use Rattle.pr_verify.proofs.PlacesLines.{places_rise}
 -- ---- the lines of the views
 
 module _ (script : Stmts) (spots : List Spot) (places : map place_of spots ≡ places_of script) where
-  place_lines : map (λ (p : Place). p.line) (places_of script) ≡ map (λ (x : Spot). x.line) spots
+  pub place_lines : map (λ (p : Place). p.line) (places_of script) ≡ map (λ (x : Spot). x.line) spots
   place_lines = ap (map (λ (p : Place). p.line)) (sym places) ∙ map-map (λ (p : Place). p.line) place_of spots
 
   pub spots_rise : (keys : List ℕ) → script_fits keys script ≡ true → rise_above 0 (map (λ (x : Spot). x.line) spots) ≡ true

@@ -102,4 +102,4 @@ module _ {S : Type 0} (xs : List (Landing × ViewOf S)) (from : ℕ) where
       at : (b : Bool) → nat_le from (class_number class) ≡ b → IsFirstUnarmed from (n + 1) xs (if b then Some (earlier first class) else first)
       at true late = unarmed_counts n x first class small read is (leb-true from (class_number class) late) before
       at false early = unarmed_same n x first small read (λ other here late. (
-        let same : NoArm class ≡ NoArm other = sym is ∙ here in let e : class ≡ other = cc in let m = ap class_number e in let less = leb-false from (class_number class) early in let bad : ⊥ = absurd (omega arith) in bad)) before
+          let same : NoArm class ≡ NoArm other = sym is ∙ here in let e : class ≡ other = cc in let m = ap class_number e in let less = leb-false from (class_number class) early in let bad : ⊥ = absurd (omega arith) in bad)) before

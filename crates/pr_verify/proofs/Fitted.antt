@@ -92,7 +92,7 @@ module _ (s : Scenario) (o : Outline) (p : Place) (v : View) (here : IsHere o p 
         at (Arm n) is first = some_arm r n same first
         at (NoArm class) is ends = absurd (none class (unarmed_listed one.outcome class one.listed is))
 
-    lacks_arm : (class : Class) → IsUnarmed (length xs) xs class → LacksArm o p class
+    pub lacks_arm : (class : Class) → IsUnarmed (length xs) xs class → LacksArm o p class
     lacks_arm class one =
         let listed = mapped (λ x. (x.0, view_of members own x.1)) xs one.element (listed_among (λ x. x.0 ≡ NoArm class) xs one) in
         let come = are.come (one.element.0, view_of members own one.element.1) listed in
@@ -109,7 +109,7 @@ module _ (s : Scenario) (o : Outline) (p : Place) (v : View) (here : IsHere o p 
         }
 
     -- the class of a reply that finds no arm is listed
-    lacking_listed : (class : Class) → LacksArm o p class → IsUnarmed (length xs) xs class
+    pub lacking_listed : (class : Class) → LacksArm o p class → IsUnarmed (length xs) xs class
     lacking_listed class lacks = at one.outcome.0 refl one.landing
       where
         one : IsExpected (map (λ x. (x.0, view_of members own x.1)) xs) p.tests lacks.reply lacks.after

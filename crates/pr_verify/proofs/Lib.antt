@@ -1,3 +1,4 @@
+pub mod Tabled
 pub mod Leading
 pub mod Taking
 pub mod Spent

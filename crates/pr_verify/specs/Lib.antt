@@ -4,5 +4,6 @@ pub mod LeastOutlines
 pub mod Refusals
 pub mod Verdicts
 pub mod Rooms
+pub mod Tables
 pub mod Laws
 pub mod inside

@@ -2,6 +2,7 @@ pub mod Listing
 pub mod Least
 pub mod Lacking
 pub mod Reviewing
+pub mod Tabling
 pub mod Inferring
 pub mod Gaining
 pub mod Known

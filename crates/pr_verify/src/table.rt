@@ -2,6 +2,7 @@
 
 ghost use Rattle.std.specs.Prelude.{◌≡◌, ◌<◌, ◌↔◌, ℕ, true, length, map, IsTrue, IfOk, Some};
 ghost use Rattle.std.specs.List.{All, AllPairs, AllZip, Contains};
+ghost use Rattle.pr_domain.specs.declared.landing.Class.{Class};
 ghost use Rattle.pr_domain.specs.declared.landing.Landing.TheVariants.{Arm};
 ghost use Rattle.pr_domain.specs.Outcomes.{AreOutcomes};
 ghost use Rattle.pr_script.specs.Grammar.{rise_above};
@@ -13,6 +14,7 @@ ghost use Rattle.pr_verify.specs.Rooms.{IsMadeFor, IsScripted, outline_of, row_o
 ghost use Rattle.pr_verify.specs.Tables.{AreTables, IsRow, IsTable, has_script};
 ghost use Rattle.pr_verify.specs.inside.Listing.{place_of, IsPlaceWritten};
 ghost use Rattle.pr_verify.specs.inside.Reviewing.{IsMadeAs, IsUnarmed};
+ghost use Rattle.pr_verify.specs.inside.Tabling.{IsInRange};
 
 use crate::answers::Questions;
 use crate::inferring::{infer, script_in};
@@ -58,7 +60,7 @@ pub fn tables(alloc: Global, scenario: &Scenario) -> Result<Vec<Table>, AllocErr
     let hosts = scenario.parts().nexuses.len() as u8;
     for host in 0..hosts {
         if has_script(scenario, host) {
-            tables.push(table(alloc, scenario, host)?)?;
+            tables.push(table_of_host(alloc, scenario, host)?)?;
         }
     }
     Ok(tables)
@@ -75,7 +77,7 @@ fn has_script(scenario: &Scenario, host: u8) -> bool
 }
 
 // The table of a host that has a script.
-fn table(alloc: Global, scenario: &Scenario, host: u8) -> Result<Table, AllocError>
+fn table_of_host(alloc: Global, scenario: &Scenario, host: u8) -> Result<Table, AllocError>
     requires scripted { IsScripted (task (scenario_of scenario.now) host) }
     ensures host { IfOk result (λ t. t.outline.host ≡ host) }
     ensures table { IfOk result (λ t. OnScripted (task (scenario_of scenario.now) host) (λ script budget. IsTable (scenario_of scenario.now) script (table_of ⟦<WordSet as ViewSet>⟧.members t))) }
@@ -109,14 +111,21 @@ fn rows<S: ViewSet>(
     for (i, spot) in spots.iter().enumerate() {
         let answer = questions.answer(alloc, &mut known, i)?;
         let outcomes = &known[answer].outcomes;
-        let row = row(alloc, scenario, outline, &outline.views[i].1, spot, outcomes)?;
+        let row = row_of_spot(
+            alloc,
+            scenario,
+            outline,
+            &outline.views[i].1,
+            spot,
+            outcomes,
+        )?;
         rows.push(row)?;
     }
     Ok(rows)
 }
 
 // Of one send, by the view of its line and what its command comes to there.
-fn row<S: ViewSet>(
+fn row_of_spot<S: ViewSet>(
     alloc: Global,
     scenario: &Scenario,
     outline: &OutlineOf<S>,
@@ -182,6 +191,7 @@ fn unarmed<S: ViewSet>(
     ensures each { IfOk result (λ classes. (class : Class) → Contains classes.items class ↔ IsUnarmed (length outcomes.now) outcomes.now class) }
     ensures rise { IfOk result (λ classes. AllPairs (λ c d. class_number c < class_number d) classes.items) }
 {
+    are_in_range(outcomes);
     let mut classes = Vec::new(alloc);
     let mut from = 0;
     while let Some(class) = first_unarmed(outcomes, from) {
@@ -189,4 +199,26 @@ fn unarmed<S: ViewSet>(
         classes.push(class)?;
     }
     Ok(classes)
+}
+
+// The senses have their fields in the ranges of their types, as each match knows. So no two have one number.
+fn are_in_range<S: ViewSet>(outcomes: &[(Landing, ViewOf<S>)])
+    ensures { (class : Class) → IsUnarmed (length outcomes.now) outcomes.now class → IsInRange class }
+{
+    for (landing, _) in outcomes {
+        if let Landing::NoArm(class) = landing {
+            is_in_range(*class);
+        }
+    }
+}
+
+fn is_in_range(class: Class)
+    ensures { IsInRange class }
+{
+    match class {
+        Class::Good | Class::Conflict => {}
+        Class::Sense(sense) => {
+            let _ = (sense.key, sense.asc, sense.ascq);
+        }
+    }
 }

@@ -55,7 +55,10 @@ fn the_first_fault_is_told(rt: HostRuntime) {
     let status = do_outline(rt.alloc(), &mut text, &mut out, &mut errors);
     assert_eq!(rt; status, Status::Fault);
     assert_eq!(rt; out.len(), 0);
-    assert_eq!(rt; errors.as_slice(), b"fence: input 9 Unclosed line 6\n".as_slice());
+    assert_eq!(rt;
+        errors.as_slice(),
+        b"fence: input 9 Unclosed line 6\n".as_slice()
+    );
 }
 
 #[test]

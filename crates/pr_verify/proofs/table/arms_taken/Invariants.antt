@@ -1,0 +1,11 @@
+use Rattle.std.proofs.Common.{◌<◌, map}
+use Rattle.std.specs.List.{AllPairs, Contains}
+use Rattle.pr_domain.specs.declared.landing.Landing.TheVariants.{Arm}
+use Rattle.pr_verify.proofs.Tabled.{AreBelow}
+use Rattle.pr_verify.proofs.table.arms_taken.Given as goal
+
+abbrev pub invariant-loop-arm : goal.invariant-loop-arm
+invariant-loop-arm g l = record {
+  each : AreBelow (λ n. Contains (map (λ o. o.0) l.outcomes) (Arm n)) l.arm l.arms.items;
+  rise : AllPairs (λ m n. m < n) l.arms.items;
+}

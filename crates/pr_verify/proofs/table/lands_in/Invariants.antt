@@ -1,0 +1,7 @@
+use Rattle.std.proofs.Common.{◌≡◌}
+use Rattle.pr_verify.specs.inside.Least.{EachOf}
+use Rattle.pr_verify.proofs.table.lands_in.Given as goal
+
+-- none before this one
+abbrev pub invariant-loop-other : goal.invariant-loop-other
+invariant-loop-other g l = EachOf l.other-index l.outcomes (λ x. x.0 ≡ l.landing → ⊥)

@@ -1,0 +1,38 @@
+use Rattle.std.proofs.Common.{◌≡◌, ◌<◌, length, map, refl, sym, ap, ◌∙◌, subst, arith}
+use Rattle.std.specs.List.{Contains}
+use Rattle.pr_roles.specs.Scenarios.{scenario_of}
+use Rattle.pr_views.specs.Rooms.{view_of}
+use Rattle.pr_views.specs.declared.view.ViewOf.{ViewOf}
+use Rattle.pr_domain.specs.declared.landing.Landing.{Landing}
+use Rattle.pr_domain.specs.declared.landing.Landing.TheVariants.{Arm}
+use Rattle.pr_domain.specs.Outcomes.{IsPermittedIn, IsRefusedIn}
+use Rattle.pr_verify.specs.Rooms.{outline_of, row_of}
+use Rattle.pr_verify.specs.inside.Listing.{place_of}
+use Rattle.pr_verify.proofs.Nexuses.{IsRead, role_read, is_kept}
+use Rattle.pr_verify.proofs.Fitted.{IsHere}
+use Rattle.pr_verify.proofs.Tabled.{AreBelow, row_is}
+use Rattle.pr_verify.proofs.table.row_of_spot.Goals as goal
+
+pub index-requires : goal.index-requires
+index-requires g c =
+    let all = is_kept c.args.scenario.now c.parts.result.now c.from.result c.args.outline.now.host c.parts.ensures.value c.from.ensures c.requires.host in
+    omega (arith, c.parts.result.now.nexuses.ok.0)
+
+pub returns : goal.returns
+returns g c =
+    let members = g.S.ViewSet.members in
+    let s = scenario_of c.args.scenario.now in
+    let o = outline_of members c.args.outline.now in
+    let own = c.args.outline.now.host in
+    let v = view_of members own c.args.view.now in
+    let p = place_of c.args.spot.now in
+    let xs = c.args.outcomes.now in
+    let seen : IsRead c.args.scenario.now c.parts.result.now c.from.result own c.index.result.now = record { same = c.parts.ensures.value; fits = c.parts.ensures.fits; place = c.from.ensures; there = c.requires.host; read = c.index.ensures } in
+    let role = role_read c.args.scenario.now c.parts.result.now c.from.result own c.index.result.now seen in
+    let here : IsHere o p v = record { at = c.requires.here; own = refl } in
+    let count : c.len.result ≡ length c.args.spot.now.tests.items = omega (arith, c.len.ensures, c.args.spot.now.tests.ok) in
+    row_is s o p v here members own xs c.requires.outcomes _ refl (c.in_ok-tests.ensures.items ∙ c.deref.ensures.value)
+    (λ is. subst (λ clauses. IsPermittedIn v clauses p.command) role (c.permitted-permitted.ensures.permitted is))
+    (λ is. subst (λ clauses. IsRefusedIn v clauses p.command) role (c.permitted-permitted.ensures.refused is))
+    (subst (λ k. AreBelow (λ n. Contains (map (λ (x : Landing × ViewOf g.row.S.Denot). x.0) xs) (Arm n)) k c.in_ok-arms.arms.items) count c.in_ok-arms.ensures.each)
+    c.in_ok-arms.ensures.rise c.in_ok-unarmed.ensures.each c.in_ok-unarmed.ensures.rise

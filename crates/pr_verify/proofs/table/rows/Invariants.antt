@@ -1,0 +1,14 @@
+use Rattle.std.proofs.Common.{take}
+use Rattle.std.specs.List.{AllZip}
+use Rattle.pr_roles.specs.Scenarios.{scenario_of}
+use Rattle.pr_verify.specs.Rooms.{outline_of, row_of}
+use Rattle.pr_verify.specs.Tables.{IsRow}
+use Rattle.pr_verify.specs.inside.Asked.{AreAnswersTo}
+use Rattle.pr_verify.specs.inside.Listing.{place_of}
+use Rattle.pr_verify.proofs.table.rows.Given as goal
+
+abbrev pub invariant-loop-i : goal.invariant-loop-i
+invariant-loop-i g l = record {
+  rows : AllZip (λ p r. IsRow (scenario_of l.scenario) (outline_of g.S.ViewSet.members l.outline) (place_of p) (row_of r)) (take l.i l.spots) l.rows.items;
+  known : AreAnswersTo g.S.ViewSet.members g.S.ViewSet.room l.questions l.known.items;
+}

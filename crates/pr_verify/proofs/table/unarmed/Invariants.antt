@@ -1,0 +1,16 @@
+use Rattle.std.proofs.Common.{◌<◌, ◌-◌, length}
+use Rattle.std.specs.List.{AllPairs}
+use Rattle.pr_verify.specs.Refusals.{class_number}
+use Rattle.pr_verify.specs.inside.Reviewing.{IsUnarmed}
+use Rattle.pr_verify.proofs.Tabled.{AreBefore}
+use Rattle.pr_verify.proofs.table.unarmed.Given as goal
+
+abbrev pub invariant-loop-class : goal.invariant-loop-class
+invariant-loop-class g l = record {
+  each : AreBefore (IsUnarmed (length l.outcomes) l.outcomes) l.from l.classes.items;
+  rise : AllPairs (λ c d. class_number c < class_number d) l.classes.items;
+}
+
+-- a number has 32 bits
+abbrev pub decreases-loop-class : goal.decreases-loop-class
+decreases-loop-class g l = 4294967296 - l.from
