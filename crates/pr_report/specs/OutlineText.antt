@@ -25,16 +25,17 @@ indented words = line (codes " ") words
 
 -- ---- what is possible
 
--- the registrations of a host or guest
-abbrev pub registrations_of : View → ℕ → List (Option ℕ)
-registrations_of v g = map (key_at v.scope.keys) (filter (v.registrations g) (range_with_len 0 (length v.scope.keys + 1)))
+-- the registrations of a host or guest, by their numbers
+abbrev pub registrations_of : View → ℕ → List ℕ
+registrations_of v g = filter (v.registrations g) (range_with_len 0 (length v.scope.keys + 1))
 
 abbrev pub free_or_key : Option ℕ → List ℕ
 free_or_key None = codes "free"
 free_or_key (Some key) = key_word key
 
 unfoldable pub registration_line : List (List ℕ) → View → ℕ → List ℕ
-registration_line names v g = indented (codes "registration" ∷ name_of names g ∷ map free_or_key (registrations_of v g))
+registration_line names v g =
+    indented (codes "registration" ∷ name_of names g ∷ map (λ r. free_or_key (key_at v.scope.keys r)) (registrations_of v g))
 
 -- the types of which one host or guest is the holder
 abbrev pub kinds_of_one : List Kind

@@ -242,9 +242,8 @@ fn put_after_plus<W: Write>(writer: &mut W, code: u16) -> Result<(), WriteFault>
 fn put_attention<W: Write>(writer: &mut W, code: u16) -> Result<(), WriteFault>
     ensures { Puts (W.contents writer.old) (W.contents writer.new) (attention_word code) result }
 {
-    let [asc, ascq] = code.to_be_bytes();
-    put(writer, &pair(asc))?;
-    put_after_slash(writer, ascq)
+    put(writer, &pair((code / 256) as u8))?;
+    put_after_slash(writer, (code % 256) as u8)
 }
 
 fn put_after_slash<W: Write>(writer: &mut W, byte: u8) -> Result<(), WriteFault>
