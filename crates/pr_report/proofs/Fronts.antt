@@ -87,7 +87,7 @@ flat_map_end f xs i h = rw (drop_of_length-le xs {i = i} h) refl
 
 -- Lines that are held back for a while, and then go out together.
 
-appends_nothing : (old : Option (List ℕ)) → Appends old old []
+pub appends_nothing : (old : Option (List ℕ)) → Appends old old []
 appends_nothing None = tt
 appends_nothing (Some xs) = sym (append-nil xs)
 

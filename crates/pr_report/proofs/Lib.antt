@@ -3,6 +3,8 @@ pub mod KeyDigits
 pub mod TraceSteps
 pub mod Tracing
 pub mod Refusing
+pub mod Shown
+pub mod OutlineSteps
 pub mod EntryNames
 pub mod Cuts
 pub mod PairBytes

@@ -16,7 +16,7 @@ use Rattle.pr_world.specs.Ends.{seen}
 use Rattle.pr_report.proofs.Fronts.{held_first, held_front, held_more, wrote_front, wrote_more}
 
 -- the element that a loop is at, and what comes after it
-drop_here : {X : Type 0} (xs : List X) (i : ℕ) (x : X) → i < length xs → x ≡ get_or xs i x → drop i xs ≡ x ∷ drop (i + 1) xs
+pub drop_here : {X : Type 0} (xs : List X) (i : ℕ) (x : X) → i < length xs → x ≡ get_or xs i x → drop i xs ≡ x ∷ drop (i + 1) xs
 drop_here xs i x h e = rw add-one (drop-cons xs i x h ∙ ap (λ y. y ∷ drop (suc i) xs) (sym e))
 
 -- Entries.

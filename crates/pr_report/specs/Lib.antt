@@ -5,6 +5,8 @@ pub mod TraceText
 pub mod TraceLines
 pub mod Traces
 pub mod Verdicts
+pub mod ScenarioWords
+pub mod OutlineText
 pub mod Chain
 pub mod EntryWords
 pub mod BytesTaken

@@ -37,6 +37,10 @@ abbrev pub key_or_dash : Option ℕ → List ℕ
 key_or_dash None = codes "-"
 key_or_dash (Some key) = digits 16 false key
 
+-- a key without leading zeros
+abbrev pub key_word : ℕ → List ℕ
+key_word key = digits 16 false key
+
 -- as `a=a1`
 abbrev pub registration_word : List ℕ → Option ℕ → List ℕ
 registration_word name key = name ++ (codes "=" ++ key_or_dash key)
@@ -44,6 +48,16 @@ registration_word name key = name ++ (codes "=" ++ key_or_dash key)
 -- as `5:a`
 abbrev pub holder_word : Kind → List ℕ → List ℕ
 holder_word kind name = decimal (code_of kind) ++ (codes ":" ++ name)
+
+-- the options of a command, as `--param-rk=a1`, `--param-sark=b2` and `--prout-type=5`
+abbrev pub reservation_key_word : ℕ → List ℕ
+reservation_key_word key = codes "--param-rk=" ++ key_word key
+
+abbrev pub service_action_key_word : ℕ → List ℕ
+service_action_key_word key = codes "--param-sark=" ++ key_word key
+
+abbrev pub type_word : Kind → List ℕ
+type_word kind = codes "--prout-type=" ++ decimal (code_of kind)
 
 -- as `6/2a/05`
 abbrev pub sense_word : Sense → List ℕ
@@ -54,3 +68,16 @@ abbrev pub class_word : Class → List ℕ
 class_word class.Good = codes "good"
 class_word class.Conflict = codes "conflict"
 class_word (class.Sense sense) = codes "sense " ++ sense_word sense
+
+-- a code of an attention, as `2a/05`
+abbrev pub attention_word : ℕ → List ℕ
+attention_word code = pair (code / 256) ++ (codes "/" ++ pair (code % 256))
+
+-- each code behind a `+`
+abbrev pub more_attentions_word : List ℕ → List ℕ
+more_attentions_word others = flat_map (λ code. codes "+" ++ attention_word code) others
+
+-- codes of attentions, as `29/00+2a/05`, or `none` where there is none
+abbrev pub attentions_word : List ℕ → List ℕ
+attentions_word [] = codes "none"
+attentions_word (first ∷ others) = attention_word first ++ more_attentions_word others

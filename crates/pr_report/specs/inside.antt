@@ -1,2 +1,3 @@
 pub mod SevenWords
 pub mod LinesAhead
+pub mod Possible

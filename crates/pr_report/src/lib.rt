@@ -1,5 +1,5 @@
-//! What is reported of a scenario, as lines of text to any writer: the trace of a scenario at work, and the verdict on
-//! one; and traces read back from any reader.
+//! What is reported of a scenario, as lines of text to any writer: the trace of a scenario at work, the verdict on one,
+//! and what is known at the sends of its scripts; and traces read back from any reader.
 //!
 //! Nothing that is written takes memory: a trace is put together on a page of fixed size, and goes out a page at a
 //! time. Of a trace that is read the entries take memory, and nothing else.
@@ -8,6 +8,7 @@
 mod ahead;
 mod entry_reading;
 mod laws;
+mod outline;
 mod output;
 mod printing;
 mod trace;
@@ -16,6 +17,7 @@ mod trace_reading;
 mod verdict;
 
 pub use laws::{replays_are_traced, written_traces_are_read};
+pub use outline::write_outlines;
 pub use output::{WriteFault, put};
 pub use printing::{Word, put_line, put_spaced};
 pub use trace::write_trace;

@@ -4,7 +4,7 @@ ghost use Rattle.std.specs.Prelude.{◌++◌, ◌<◌, ◌≡◌, codes, false, 
 ghost use Rattle.std.specs.Fmt.{decimal, digits, digit_glyph};
 ghost use Rattle.pr_cdb.specs.Kinds.{code_of};
 ghost use Rattle.pr_report.specs.Written.{Puts};
-ghost use Rattle.pr_report.specs.PrintedLines.{class_word, holder_word, key_or_dash, line, pair, pairs, pairs_or_dash, registration_word, sense_word, spaced};
+ghost use Rattle.pr_report.specs.PrintedLines.{attention_word, attentions_word, class_word, holder_word, key_or_dash, key_word, line, more_attentions_word, pair, pairs, pairs_or_dash, registration_word, reservation_key_word, sense_word, service_action_key_word, spaced, type_word};
 ghost use Rattle.pr_report.specs.Printed.{printed};
 
 use crate::output::{WriteFault, put};
@@ -25,6 +25,9 @@ pub enum Word<'a> {
     /// Each byte in two hexadecimal digits, or `-` where there is none.
     Bytes(&'a [u8]),
 
+    /// A key in hexadecimal digits without leading zeros, as `a1`.
+    Key(u64),
+
     /// A generation, in eight hexadecimal digits.
     Generation(u32),
 
@@ -34,11 +37,23 @@ pub enum Word<'a> {
     /// A name and its key, as `a=a1`, or `a=-` where there is none.
     Registration(&'a [u8], Option<u64>),
 
+    /// The option of a command that gives a reservation key, as `--param-rk=a1`.
+    ReservationKey(u64),
+
+    /// The option of a command that gives a service action reservation key, as `--param-sark=b2`.
+    ServiceActionKey(u64),
+
+    /// The option of a command that gives the type of a reservation, as `--prout-type=5`.
+    ReservationType(Kind),
+
     /// The key, the additional sense code and its qualifier, as `6/2a/05`.
     Sense(Sense),
 
     /// How a reply ended, as `good`, `conflict` or `sense 6/2a/05`.
     Class(Class),
+
+    /// Attentions by their codes, as `29/00+2a/05`, or `none` where there is none.
+    Attentions(&'a [u16]),
 }
 
 /// Writes a line: its words with one space between them, and a line feed.
@@ -79,11 +94,16 @@ pub(crate) fn put_word<W: Write>(writer: &mut W, word: Word<'_>) -> Result<(), W
         Word::Text(text) => put(writer, text),
         Word::Number(number) => put_number(writer, number),
         Word::Bytes(bytes) => put_pairs_or_dash(writer, bytes),
+        Word::Key(key) => put_digits(writer, key),
         Word::Generation(generation) => put_pairs(writer, &generation.to_be_bytes()),
         Word::Holder(kind, name) => put_holder(writer, kind, name),
         Word::Registration(name, key) => put_registration(writer, name, key),
+        Word::ReservationKey(key) => put_reservation_key(writer, key),
+        Word::ServiceActionKey(key) => put_service_action_key(writer, key),
+        Word::ReservationType(kind) => put_type(writer, kind),
         Word::Sense(sense) => put_sense(writer, sense),
         Word::Class(class) => put_class(writer, class),
+        Word::Attentions(attentions) => put_attentions(writer, attentions),
     }
 }
 
@@ -147,6 +167,27 @@ fn put_key_or_dash<W: Write>(writer: &mut W, key: Option<u64>) -> Result<(), Wri
     }
 }
 
+fn put_reservation_key<W: Write>(writer: &mut W, key: u64) -> Result<(), WriteFault>
+    ensures { Puts (W.contents writer.old) (W.contents writer.new) (reservation_key_word key) result }
+{
+    put(writer, b"--param-rk=")?;
+    put_digits(writer, key)
+}
+
+fn put_service_action_key<W: Write>(writer: &mut W, key: u64) -> Result<(), WriteFault>
+    ensures { Puts (W.contents writer.old) (W.contents writer.new) (service_action_key_word key) result }
+{
+    put(writer, b"--param-sark=")?;
+    put_digits(writer, key)
+}
+
+fn put_type<W: Write>(writer: &mut W, kind: Kind) -> Result<(), WriteFault>
+    ensures { Puts (W.contents writer.old) (W.contents writer.new) (type_word kind) result }
+{
+    put(writer, b"--prout-type=")?;
+    put_kind(writer, kind)
+}
+
 fn put_sense<W: Write>(writer: &mut W, sense: Sense) -> Result<(), WriteFault>
     ensures { Puts (W.contents writer.old) (W.contents writer.new) (sense_word sense) result }
 {
@@ -170,6 +211,39 @@ fn put_named_sense<W: Write>(writer: &mut W, sense: Sense) -> Result<(), WriteFa
 {
     put(writer, b"sense ")?;
     put_sense(writer, sense)
+}
+
+fn put_attentions<W: Write>(writer: &mut W, codes: &[u16]) -> Result<(), WriteFault>
+    ensures { Puts (W.contents writer.old) (W.contents writer.new) (attentions_word codes.now) result }
+{
+    let Some((first, others)) = codes.split_first() else {
+        return put(writer, b"none");
+    };
+    put_attention(writer, *first)?;
+    put_more_attentions(writer, others)
+}
+
+fn put_more_attentions<W: Write>(writer: &mut W, codes: &[u16]) -> Result<(), WriteFault>
+    ensures { Puts (W.contents writer.old) (W.contents writer.new) (more_attentions_word codes.now) result }
+{
+    for code in codes {
+        put_after_plus(writer, *code)?;
+    }
+    Ok(())
+}
+
+fn put_after_plus<W: Write>(writer: &mut W, code: u16) -> Result<(), WriteFault>
+    ensures { Puts (W.contents writer.old) (W.contents writer.new) (codes "+" ++ attention_word code) result }
+{
+    put(writer, b"+")?;
+    put_attention(writer, code)
+}
+
+fn put_attention<W: Write>(writer: &mut W, code: u16) -> Result<(), WriteFault>
+    ensures { Puts (W.contents writer.old) (W.contents writer.new) (attention_word code) result }
+{
+    put(writer, &pair((code / 256) as u8))?;
+    put_after_slash(writer, (code % 256) as u8)
 }
 
 fn put_after_slash<W: Write>(writer: &mut W, byte: u8) -> Result<(), WriteFault>

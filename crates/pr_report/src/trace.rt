@@ -258,7 +258,7 @@ fn key_of(unit: &Registry, host: usize) -> Option<u64>
 }
 
 #[tactic(auto, unfolding(crate::specs::Printed::printed))]
-fn held_word(nexuses: &[Nexus], held: Option<Held>) -> Word<'_>
+pub(crate) fn held_word(nexuses: &[Nexus], held: Option<Held>) -> Word<'_>
     ensures { printed result ≡ held_word (names_of nexuses.now) held }
 {
     match held {

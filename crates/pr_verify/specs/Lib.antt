@@ -3,6 +3,7 @@ pub mod Outlines
 pub mod LeastOutlines
 pub mod Refusals
 pub mod Verdicts
+pub mod Tables
 pub mod Rooms
 pub mod Tables
 pub mod Laws

@@ -1,0 +1,11 @@
+use Rattle.std.proofs.Common.{◌≡◌, ◌==◌, sym, subst, bit_and}
+use Rattle.std.specs.FinSet as set
+use Rattle.pr_attention.specs.Attentions.{code_of}
+use Rattle.pr_attention.specs.Flagged.{codes_of}
+use Rattle.pr_attention.proofs.Bits.{has_flag}
+use Rattle.pr_report.proofs.outline.is_among.Goals as goal
+
+pub returns : goal.returns
+returns c =
+    subst (λ n. (bit_and c.args.number n == n) ≡ set.contains (codes_of c.args.number) (code_of c.args.attention)) (sym c.flag-flag.ensures)
+    (has_flag c.args.number c.args.attention)

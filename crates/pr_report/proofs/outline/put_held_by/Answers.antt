@@ -1,0 +1,34 @@
+use Rattle.std.proofs.Common.{ℕ, Some, map, ap}
+use Rattle.std.specs.Prelude.{Option}
+use Rattle.std.specs.FinSet as set
+use Rattle.pr_registry.specs.declared.held.Held.{Held}
+use Rattle.pr_registry.specs.declared.held.Held.TheVariants.{One}
+use Rattle.pr_sets.specs.Kept.{numbers_of_bits}
+use Rattle.pr_views.specs.Possibilities.{number_of}
+use Rattle.pr_report.specs.TraceText.{held_word, names_of}
+use Rattle.pr_report.proofs.Fronts.{puts_err}
+use Rattle.pr_report.proofs.Shown.{range_here, range_end, shown_end, shown_front, shown_more}
+use Rattle.pr_report.proofs.outline.put_held_by.Goals as goal
+
+pub returns-in_err-put_reservation : goal.returns-in_err-put_reservation
+returns-in_err-put_reservation g c = λ own.
+    let word = λ (held : Option Held). held_word (names_of c.args.nexuses.now) held in
+    let is_possible = λ (held : Option Held). set.contains (numbers_of_bits c.args.view.now.reservations.bits) (number_of c.args.view.now.hosts held) in
+    let by = λ (h : ℕ). Some (One c.args.kind h) in
+    puts_err _ _ _ _ (shown_front _ _ _ _ word is_possible (by c.loop-holder.holder) _ _ (ap (λ hs. map by hs) (range_here c.loop-holder.holder c.args.view.now.hosts c.loop-holder-test.true))
+    c.loop-holder.invariant (c.in_err-put_reservation.ensures own)) c.from_residual.ensures.0
+
+pub loop-holder-preserved : goal.loop-holder-preserved
+loop-holder-preserved g c =
+    let word = λ (held : Option Held). held_word (names_of c.args.nexuses.now) held in
+    let is_possible = λ (held : Option Held). set.contains (numbers_of_bits c.args.view.now.reservations.bits) (number_of c.args.view.now.hosts held) in
+    let by = λ (h : ℕ). Some (One c.args.kind h) in
+    shown_more _ _ _ _ word is_possible (by c.loop-holder.holder) _ _ (ap (λ hs. map by hs) (range_here c.loop-holder.holder c.args.view.now.hosts c.loop-holder-test.true))
+    c.loop-holder.invariant (c.in_ok-put_reservation.ensures 0)
+
+pub returns : goal.returns
+returns g c = λ own.
+    let word = λ (held : Option Held). held_word (names_of c.args.nexuses.now) held in
+    let is_possible = λ (held : Option Held). set.contains (numbers_of_bits c.args.view.now.reservations.bits) (number_of c.args.view.now.hosts held) in
+    let by = λ (h : ℕ). Some (One c.args.kind h) in
+    shown_end _ _ _ word is_possible _ (ap (λ hs. map by hs) (range_end c.loop-holder.holder c.args.view.now.hosts c.loop-holder-test.false)) c.loop-holder.invariant

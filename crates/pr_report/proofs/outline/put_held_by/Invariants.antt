@@ -1,0 +1,20 @@
+use Rattle.std.proofs.Common.{ℕ, ◌-◌, Some, map}
+use Rattle.std.specs.Prelude.{Option}
+use Rattle.std.specs.FinSet as set
+use Rattle.std.specs.List.{range_with_len}
+use Rattle.pr_registry.specs.declared.held.Held.{Held}
+use Rattle.pr_registry.specs.declared.held.Held.TheVariants.{One}
+use Rattle.pr_sets.specs.Kept.{numbers_of_bits}
+use Rattle.pr_views.specs.Possibilities.{number_of}
+use Rattle.pr_report.specs.Written.{Wrote}
+use Rattle.pr_report.specs.TraceText.{held_word, names_of}
+use Rattle.pr_report.proofs.Shown.{shown}
+use Rattle.pr_report.proofs.outline.put_held_by.Given as goal
+
+abbrev pub invariant-loop-holder : goal.invariant-loop-holder
+invariant-loop-holder g l =
+    let word = λ (held : Option Held). held_word (names_of l.nexuses) held in
+    let is_possible = λ (held : Option Held). set.contains (numbers_of_bits l.view.reservations.bits) (number_of l.view.hosts held) in
+    let by = λ (h : ℕ). Some (One l.kind h) in
+    Wrote (g.W.Write.contents l.fn.writer) (g.W.Write.contents l.writer)
+    (shown word is_possible (map by (range_with_len 0 l.view.hosts))) (shown word is_possible (map by (range_with_len l.holder (l.view.hosts - l.holder))))

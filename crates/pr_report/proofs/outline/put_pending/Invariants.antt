@@ -1,0 +1,17 @@
+use Rattle.std.proofs.Common.{ℕ, ◌-◌}
+use Rattle.std.specs.FinSet as set
+use Rattle.std.specs.List.{range_with_len}
+use Rattle.pr_sets.specs.Kept.{numbers_of_bits}
+use Rattle.pr_views.specs.Possibilities.{count_of_attentions}
+use Rattle.pr_report.specs.Written.{Wrote}
+use Rattle.pr_report.specs.PrintedLines.{attentions_word}
+use Rattle.pr_report.specs.OutlineText.{codes_in}
+use Rattle.pr_report.proofs.Shown.{shown}
+use Rattle.pr_report.proofs.outline.put_pending.Given as goal
+
+abbrev pub invariant-loop-number : goal.invariant-loop-number
+invariant-loop-number g l =
+    let word = λ (q : ℕ). attentions_word (codes_in q) in
+    let is_possible = λ (q : ℕ). set.contains (numbers_of_bits l.pending.bits) q in
+    Wrote (g.W.Write.contents l.fn.writer) (g.W.Write.contents l.writer)
+    (shown word is_possible (range_with_len 0 count_of_attentions)) (shown word is_possible (range_with_len l.number (count_of_attentions - l.number)))

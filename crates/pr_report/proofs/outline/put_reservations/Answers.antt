@@ -1,0 +1,47 @@
+use Rattle.std.proofs.Common.{None, Some}
+use Rattle.std.specs.Prelude.{Option}
+use Rattle.std.specs.FinSet as set
+use Rattle.std.specs.List.{flat_map}
+use Rattle.pr_cdb.specs.declared.command.Kind.{Kind}
+use Rattle.pr_cdb.specs.declared.command.Kind.TheVariants.{WriteExclusiveAllRegistrants, ExclusiveAccessAllRegistrants}
+use Rattle.pr_registry.specs.declared.held.Held.{Held}
+use Rattle.pr_registry.specs.declared.held.Held.TheVariants.{All}
+use Rattle.pr_sets.specs.Kept.{numbers_of_bits}
+use Rattle.pr_views.specs.Possibilities.{number_of}
+use Rattle.pr_report.specs.TraceText.{held_word, names_of}
+use Rattle.pr_report.specs.OutlineText.{held_by_one, kinds_of_one}
+use Rattle.pr_report.proofs.Fronts.{front_first, front_then, puts_err, puts_last}
+use Rattle.pr_report.proofs.Shown.{ends_pieces, puts_as}
+use Rattle.pr_report.proofs.outline.put_reservations.Goals as goal
+
+pub returns-in_err-put_reservation : goal.returns-in_err-put_reservation
+returns-in_err-put_reservation g c = λ own.
+    let word = λ (held : Option Held). held_word (names_of c.args.nexuses.now) held in
+    let is_possible = λ (held : Option Held). set.contains (numbers_of_bits c.args.view.now.reservations.bits) (number_of c.args.view.now.hosts held) in
+    let singles = flat_map (λ (kind : Kind). held_by_one c.args.view.now.hosts kind) kinds_of_one in
+    puts_as _ _ _ _ _ (ends_pieces word is_possible None singles (Some (All WriteExclusiveAllRegistrants)) (Some (All ExclusiveAccessAllRegistrants)))
+    (puts_err _ _ _ _ (front_first _ _ _ _ (c.in_err-put_reservation.ensures own)) c.from_residual.ensures.0)
+
+pub returns-in_err-put_held_by_one : goal.returns-in_err-put_held_by_one
+returns-in_err-put_held_by_one g c = λ own.
+    let word = λ (held : Option Held). held_word (names_of c.args.nexuses.now) held in
+    let is_possible = λ (held : Option Held). set.contains (numbers_of_bits c.args.view.now.reservations.bits) (number_of c.args.view.now.hosts held) in
+    let singles = flat_map (λ (kind : Kind). held_by_one c.args.view.now.hosts kind) kinds_of_one in
+    puts_as _ _ _ _ _ (ends_pieces word is_possible None singles (Some (All WriteExclusiveAllRegistrants)) (Some (All ExclusiveAccessAllRegistrants)))
+    (puts_err _ _ _ _ (front_then _ _ _ _ _ (c.in_ok-put_reservation.ensures own) (front_first _ _ _ _ (c.in_err-put_held_by_one.ensures own))) c.from_residual-in_err-put_held_by_one.ensures.0)
+
+pub returns-in_err-put_reservation-2 : goal.returns-in_err-put_reservation-2
+returns-in_err-put_reservation-2 g c = λ own.
+    let word = λ (held : Option Held). held_word (names_of c.args.nexuses.now) held in
+    let is_possible = λ (held : Option Held). set.contains (numbers_of_bits c.args.view.now.reservations.bits) (number_of c.args.view.now.hosts held) in
+    let singles = flat_map (λ (kind : Kind). held_by_one c.args.view.now.hosts kind) kinds_of_one in
+    puts_as _ _ _ _ _ (ends_pieces word is_possible None singles (Some (All WriteExclusiveAllRegistrants)) (Some (All ExclusiveAccessAllRegistrants)))
+    (puts_err _ _ _ _ (front_then _ _ _ _ _ (c.in_ok-put_reservation.ensures own) (front_then _ _ _ _ _ (c.in_ok-put_held_by_one.ensures own) (front_first _ _ _ _ (c.in_err-put_reservation-2.ensures own)))) c.from_residual-in_err-put_reservation-2.ensures.0)
+
+pub returns : goal.returns
+returns g c = λ own.
+    let word = λ (held : Option Held). held_word (names_of c.args.nexuses.now) held in
+    let is_possible = λ (held : Option Held). set.contains (numbers_of_bits c.args.view.now.reservations.bits) (number_of c.args.view.now.hosts held) in
+    let singles = flat_map (λ (kind : Kind). held_by_one c.args.view.now.hosts kind) kinds_of_one in
+    puts_as _ _ _ _ _ (ends_pieces word is_possible None singles (Some (All WriteExclusiveAllRegistrants)) (Some (All ExclusiveAccessAllRegistrants)))
+    (puts_last _ _ _ _ _ _ (c.in_ok-put_reservation.ensures own) (puts_last _ _ _ _ _ _ (c.in_ok-put_held_by_one.ensures own) (puts_last _ _ _ _ _ _ (c.in_ok-put_reservation-2.ensures own) (c.put_reservation-3.ensures own))))
