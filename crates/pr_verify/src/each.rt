@@ -1,11 +1,11 @@
 //! The verdict on a scenario whose hosts are checked side by side.
 
 ghost use Rattle.std.specs.Prelude.{◌≡◌, ◌≢◌, ℕ, ◌<◌, ◌≤◌, length, IfOk, IfErr, OnOk, vec_len, vec_capacity};
-ghost use Rattle.pr_roles.specs.Scenarios.{Scenario, scenario_of};
+ghost use Rattle.pr_roles.specs.Scenarios.{scenario_of};
 ghost use Rattle.pr_roles.specs.Safety.{IsSafe};
 ghost use Rattle.pr_verify.specs.Outlines.{HaveOutlines};
 ghost use Rattle.pr_verify.specs.Verdicts.{IsVerdict};
-ghost use Rattle.pr_verify.specs.inside.Checks.{EachFrom, IsAnswerBefore, IsAnswerFor, IsBegunFor, IsCheckFor};
+ghost use Rattle.pr_verify.specs.inside.Checks.{ComeTo, EachFrom, IsAnswerBefore, IsAnswerFor, IsBegunFor, IsCheckFor};
 
 use crate::check_gate::CheckGate;
 use crate::refusal::Refusal;
@@ -159,7 +159,14 @@ fn begin<'s, 'a: 's, G: CheckGate>(
         scenario: Snapshot::of(scenario),
         host,
     };
-    match scope.spawn_with(promise, move || check_gated(alloc, scenario, gate, host)) {
+    let spawned = scope.spawn_with(
+        promise,
+        move || -> Result<(), Refusal>
+            requires { host < length (scenario_of scenario.now).nexuses }
+            ensures { IsAnswerFor (scenario_of scenario.entry.now) host result }
+        { check_gated(alloc, scenario, gate, host) },
+    );
+    match spawned {
         Ok(handle) => Begun::InThread(handle),
         Err(_) => Begun::ToMake(host),
     }
@@ -190,7 +197,7 @@ fn make_rest<G: CheckGate>(
 
 // Joins the threads, in order. The first check that answers a refusal decides.
 fn join_all<R: Threads>(rt: &R, checks: Vec<Check>) -> Result<(), Refusal>
-    ensures { (s : Scenario) → EachFrom (IsCheckFor s) 0 checks.items → IsAnswerBefore s (vec_len checks) result }
+    ensures { ComeTo checks.items result }
 {
     let mut first = Ok(());
     for check in checks {

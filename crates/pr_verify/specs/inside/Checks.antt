@@ -40,3 +40,7 @@ EachFrom {X} P n xs = (i : ℕ) (d : X) → i < length xs → P (n + i) (slice_i
 -- Each scripted host before n has an outline that is sound and fits; else this is the first reason against one.
 abbrev pub IsAnswerBefore : Scenario → ℕ → Result (Unit {0}) Refusal → Type 0
 IsAnswerBefore s n answer = OnOk answer ((h : ℕ) → h < n → OnScripted (task s h) (HasOutline s h)) × IfErr answer (IsVerdict s)
+
+-- So do all of these checks together, of whichever scenario they are.
+abbrev pub ComeTo : List Check → Result (Unit {0}) Refusal → Type 0
+ComeTo checks answer = (s : Scenario) → EachFrom (IsCheckFor s) 0 checks → IsAnswerBefore s (length checks) answer
