@@ -1,5 +1,5 @@
 -- Checks that are made side by side: lists of them, and what they come to.
-use Rattle.std.proofs.Common.{◌≡◌, ℕ, zero, suc, ◌+◌, ◌<◌, List, [], ◌∷◌, ◌++◌, length, slice_index_or, Result, Ok, Err, sym, ap, ◌∙◌, subst, arith}
+use Rattle.std.proofs.Common.{◌≡◌, ℕ, zero, suc, ◌+◌, ◌<◌, List, [], ◌∷◌, ◌++◌, length, slice_index_or, Result, Ok, Err, sym, subst, arith}
 use Rattle.std.specs.Result.{result_and}
 use Rattle.pr_roles.specs.Scenarios.{Scenario, scenario_of, task}
 use Rattle.pr_verify.specs.declared.each.CheckOf.{CheckOf}
