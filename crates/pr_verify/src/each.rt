@@ -1,9 +1,10 @@
 //! The verdict on a scenario whose hosts are checked side by side.
 
-ghost use Rattle.std.specs.Prelude.{◌≡◌, ◌≢◌, ℕ, ◌<◌, ◌≤◌, length, IfOk, IfErr, OnOk, vec_len, vec_capacity};
-ghost use Rattle.pr_roles.specs.Scenarios.{scenario_of};
+ghost use Rattle.std.specs.Prelude.{◌≡◌, ◌≢◌, ◌↔◌, ℕ, ◌<◌, ◌≤◌, length, IfOk, IfErr, OnOk, IsTrue, vec_len, vec_capacity};
+ghost use Rattle.pr_roles.specs.Scenarios.{scenario_of, task};
 ghost use Rattle.pr_roles.specs.Safety.{IsSafe};
 ghost use Rattle.pr_verify.specs.Outlines.{HaveOutlines};
+ghost use Rattle.pr_verify.specs.Rooms.{IsScripted};
 ghost use Rattle.pr_verify.specs.Verdicts.{IsVerdict};
 ghost use Rattle.pr_verify.specs.inside.Checks.{ComeTo, EachFrom, IsAnswerBefore, IsAnswerFor, IsBegunFor, IsCheckFor};
 
@@ -186,8 +187,8 @@ fn make_rest<G: CheckGate>(
     ensures all { vec_len result ≡ vec_len begun }
     ensures each { EachFrom (IsCheckFor (scenario_of scenario.now)) 0 result.items }
 {
-    for one in begun {
-        checks.push_reserved(match one {
+    for check in begun {
+        checks.push_reserved(match check {
             Begun::InThread(handle) => Check::InThread(handle),
             Begun::ToMake(host) => Check::Made(check_gated(alloc, scenario, gate, host)),
         });
@@ -231,6 +232,7 @@ fn check_gated<G: CheckGate>(
 
 fn is_scripted(scenario: &Scenario, host: u8) -> bool
     requires { host < length (scenario_of scenario.now).nexuses }
+    ensures { IsTrue result ↔ IsScripted (task (scenario_of scenario.now) host) }
 {
     matches!(
         scenario.parts().nexuses[usize::from(host)].task,
