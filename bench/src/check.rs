@@ -1,11 +1,17 @@
 //! Times verdicts of the proved program beside a replay of one step of the same text, which reads the text and makes the
-//! scenario: a family of clusters of 2 to 8 nodes, and scenarios at the limits of the language.
+//! scenario: a family of clusters of 2 to 8 nodes, and scenarios at the limits of the language. Of the longest of these it
+//! times verdicts with one thread beside those with a thread for each host, by a program that repeats them.
 
-use std::fs;
+use std::fs::{self, File};
 use std::process::{Command, Stdio};
+use std::thread;
 use std::time::{Duration, Instant};
 
 const ROUNDS: u32 = 5;
+/// How many verdicts a run of the program that repeats them gives.
+const TIMES: u32 = 20;
+/// The bytes of the longest texts.
+const LONGEST: usize = 65_000;
 const NAMES: [&str; 8] = ["a", "b", "c", "d", "e", "f", "g", "h"];
 const ARMS: &str = "on good\non conflict\non attention\ndone\n";
 
@@ -165,16 +171,51 @@ fn compare(fence: &str, file: &str, what: &str, text: &str) {
     );
 }
 
+// A run of the program that repeats verdicts: what it printed, and how long each verdict took, but for the start of the
+// process and its reading, of which each has a share.
+fn repeated(program: &str, file: &str, how: &str) -> (String, Duration) {
+    let text = File::open(file).expect("a scenario");
+    let start = Instant::now();
+    let output = Command::new(program).args([how, &TIMES.to_string()]).stdin(text).output().expect("check_bench");
+    assert!(output.status.success(), "check_bench {how} ended with {}", output.status);
+    (String::from_utf8_lossy(&output.stdout).trim_end().to_string(), start.elapsed() / TIMES)
+}
+
+// Times verdicts with one thread and with one for each host. They take turns too, and have to say the same.
+fn side_by_side(program: &str, file: &str, what: &str, text: &str) {
+    fs::write(file, text).expect("a scenario");
+    let (mut one, mut each) = (Duration::MAX, Duration::MAX);
+    for _ in 0..ROUNDS {
+        let (by_one, elapsed) = repeated(program, file, "one");
+        one = one.min(elapsed);
+        let (by_each, elapsed) = repeated(program, file, "each");
+        each = each.min(elapsed);
+        assert_eq!(by_one, by_each);
+    }
+    println!(
+        "{what}, {} bytes, {} cores: verify {:.1} ms, verify_each {:.1} ms, {:.2} times as long",
+        text.len(),
+        thread::available_parallelism().map_or(1, |cores| cores.get()),
+        one.as_secs_f64() * 1e3,
+        each.as_secs_f64() * 1e3,
+        each.as_secs_f64() / one.as_secs_f64(),
+    );
+}
+
 fn main() {
     let words: Vec<String> = std::env::args().collect();
-    let (fence, file) = (&words[1], format!("{}/scenario", words[2]));
+    let (fence, file, repeating) = (&words[1], format!("{}/scenario", words[2]), &words[3]);
     for nodes in 2..=8 {
         compare(fence, &file, &format!("{nodes} nodes"), &cluster(nodes));
     }
-    for bytes in [16_250, 32_500, 65_000] {
+    for bytes in [16_250, 32_500, LONGEST] {
         for (alternatives, start) in [(false, "free"), (true, "with every alternative")] {
             let (text, sends) = limits(bytes, alternatives);
             compare(fence, &file, &format!("8 hosts that start {start}, {sends} sends"), &text);
         }
+    }
+    for (alternatives, start) in [(false, "free"), (true, "with every alternative")] {
+        let (text, sends) = limits(LONGEST, alternatives);
+        side_by_side(repeating, &file, &format!("8 hosts that start {start}, {sends} sends"), &text);
     }
 }

@@ -40,3 +40,4 @@ pub mod Settling
 pub mod Visiting
 pub mod Inferred
 pub mod Reasons
+pub mod Sides

@@ -8,3 +8,4 @@ pub mod Gaining
 pub mod Known
 pub mod Asked
 pub mod Underway
+pub mod Checks

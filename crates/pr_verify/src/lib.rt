@@ -2,7 +2,9 @@
 #![tactic(auto)]
 
 mod answers;
+mod check_gate;
 mod checking;
+mod each;
 mod head;
 mod inferring;
 mod known;
@@ -17,7 +19,9 @@ mod sketch;
 mod table;
 mod verifying;
 
+pub use check_gate::{CheckGate, NoCheckGate};
 pub use checking::check_outline;
+pub use each::verify_each;
 pub use inferring::{infer, infer_of};
 pub use laws::{outlines_make_safe, reasons_are_final, runs_go_on, safe_sends_are_fine};
 pub use outline::{Outline, OutlineBy, OutlineOf};

@@ -65,7 +65,25 @@ pub fn verify(alloc: Global, scenario: Scenario) -> Result<Verified, Refused>
     ensures verdict { IfErr result (λ refused. IsVerdict (scenario_of scenario) refused.refusal) }
     ensures none { IfErr result (λ refused. refused.refusal ≢ Refusal.Memory → ¬ HaveOutlines (scenario_of scenario)) }
 {
-    match check_hosts(alloc, &scenario) {
+    let checked = check_hosts(alloc, &scenario);
+    verdict_on(scenario, checked)
+}
+
+/// The verdict on a scenario whose hosts were checked.
+pub(crate) fn verdict_on(
+    scenario: Scenario,
+    checked: Result<(), Refusal>,
+) -> Result<Verified, Refused>
+    requires outlines { OnOk checked (HaveOutlines (scenario_of scenario)) }
+    requires verdict { IfErr checked (IsVerdict (scenario_of scenario)) }
+    ensures same { IfOk result (λ verified. verified ≡ scenario) }
+    ensures safe { IfOk result (λ verified. IsSafe (scenario_of verified)) }
+    ensures outlines { IfOk result (λ verified. HaveOutlines (scenario_of verified)) }
+    ensures back { IfErr result (λ refused. refused.scenario ≡ scenario) }
+    ensures verdict { IfErr result (λ refused. IsVerdict (scenario_of scenario) refused.refusal) }
+    ensures none { IfErr result (λ refused. refused.refusal ≢ Refusal.Memory → ¬ HaveOutlines (scenario_of scenario)) }
+{
+    match checked {
         Ok(()) => {
             outlines_make_safe();
             Ok(Verified { scenario })
@@ -86,9 +104,9 @@ fn check_hosts(alloc: Global, scenario: &Scenario) -> Result<(), Refusal>
     Ok(())
 }
 
-// Whether the host has one, if it is scripted. A script that costs more than its budget is refused before anything is
-// inferred of it.
-fn check_host(alloc: Global, scenario: &Scenario, host: u8) -> Result<(), Refusal>
+/// Whether the host has one, if it is scripted. A script that costs more than its budget is refused before anything is
+/// inferred of it.
+pub(crate) fn check_host(alloc: Global, scenario: &Scenario, host: u8) -> Result<(), Refusal>
     requires { host < length (scenario_of scenario.now).nexuses }
     ensures outline { OnOk result (OnScripted (task (scenario_of scenario.now) host) (HasOutline (scenario_of scenario.now) host)) }
     ensures reason { IfErr result (λ refusal. refusal ≢ Refusal.Memory → HasReason (scenario_of scenario.now) host refusal) }

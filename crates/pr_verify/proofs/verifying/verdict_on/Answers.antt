@@ -1,0 +1,8 @@
+use Rattle.pr_roles.specs.Scenarios.{scenario_of}
+use Rattle.std.proofs.lemmas.Result.{IfErr-at_err}
+use Rattle.pr_verify.specs.Verdicts.{IsVerdict}
+use Rattle.pr_verify.proofs.Reasons.{none_fit}
+use Rattle.pr_verify.proofs.verifying.verdict_on.Goals as goal
+
+pub returns-in-Err-clause-none : goal.returns-in-Err-clause-none
+returns-in-Err-clause-none c = none_fit (scenario_of c.args.scenario) c.in-Err.refusal (IfErr-at_err (IsVerdict (scenario_of c.args.scenario)) c.in-Err.is c.requires.verdict)
