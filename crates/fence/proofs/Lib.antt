@@ -2,5 +2,6 @@ pub mod Naming
 pub mod Plans
 pub mod Judging
 pub mod Auditing
+pub mod Outlining
 pub mod Reasons
 pub mod Performing

@@ -5,4 +5,5 @@ pub mod Replays
 pub mod Checks
 pub mod Audits
 pub mod Runs
+pub mod Outlines
 pub mod inside

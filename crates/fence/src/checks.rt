@@ -60,9 +60,9 @@ fn check_text<R: Read, W: Write>(
     Ok(judgement.is_err())
 }
 
-/// Reads the text and verifies its scenario. That memory was refused is a fault, and no refusal of a script.
+// Reads the text and verifies its scenario. That memory was refused is a fault, and no refusal of a script.
 #[tactic(auto, using(crate::proofs::Reasons::first_reason))]
-pub fn judge<R: Read>(alloc: Global, reader: &mut R) -> Result<Result<Verified, Refused>, Fault>
+fn judge<R: Read>(alloc: Global, reader: &mut R) -> Result<Result<Verified, Refused>, Fault>
     ensures judged { IsJudged (R.remaining reader.old) result }
     ensures limited { LosesUpTo 65537 (R.remaining reader.old) (R.remaining reader.new) }
 {

@@ -12,24 +12,25 @@ ghost use Rattle.pr_report.specs.TraceText.{name_of, names_of};
 ghost use Rattle.pr_report.specs.Written.{Puts};
 ghost use Rattle.fence.specs.Endings.{IsCommand, told_of_end};
 ghost use Rattle.fence.specs.Runs.{EndsRun, outcome_text};
+ghost use Rattle.fence.specs.inside.Judgements.{IsJudged};
 ghost use Rattle.fence.specs.inside.Performances.{IsFaultFor, IsPerformed, IsRunFault, Stands, performed_text};
 
-use crate::checks::judge;
 use crate::ending::{status_of, tell_end};
 use crate::fault::{Fault, Status};
 use arrayvec::ArrayVec;
 use pr_report::{Verdict, WriteFault, write_trace, write_verdict};
 use pr_roles::{Nexus, Scenario, Word as Name};
 use pr_shared::{Entry, NoGate, Outcome, RunError, run};
-use pr_verify::{Refused, Verified};
+use pr_text::read;
+use pr_verify::{NoCheckGate, Refusal, Refused, Verified, verify_each};
 use std::alloc::Global;
 use std::io::{Read, Write};
 use std::sync::Wait;
 use std::thread::Threads;
 
-/// `fence run`: reads a scenario, verifies it, and runs it in threads, one for each host and guest, until every script is
-/// stopped and every plan is done. Then it writes the trace. Of a scenario that is refused nothing is run, and the line of
-/// the verdict is written.
+/// `fence run`: reads a scenario, verifies it, with a thread for each host that has a script, and runs it in threads, one for
+/// each host and guest, until every script is stopped and every plan is done. Then it writes the trace. Of a scenario that is
+/// refused nothing is run, and the line of the verdict is written.
 ///
 /// Of the text at most 65,537 bytes are taken. A fault is told in one line on `errors`, whose own faults change nothing. It
 /// waits for the threads, and so may never return.
@@ -96,12 +97,35 @@ fn perform<T: Threads + Wait + Sync, R: Read>(
     ensures performed { IsPerformed (R.remaining reader.old) result }
     ensures limited { LosesUpTo 65537 (R.remaining reader.old) (R.remaining reader.new) }
 {
-    match judge(alloc, reader)? {
+    match judge_each(rt, alloc, reader)? {
         Ok(verified) => {
             let ran = run_verified(rt, alloc, verified)?;
             Ok(Ok(ran))
         }
         Err(refused) => Ok(Err(refused)),
+    }
+}
+
+// Reads the text and verifies its scenario, with a thread for each host. That memory was refused is a fault, and no refusal
+// of a script.
+#[tactic(auto, using(crate::proofs::Reasons::first_reason))]
+fn judge_each<T: Threads + Wait + Sync, R: Read>(
+    rt: &T,
+    alloc: Global,
+    reader: &mut R,
+) -> Result<Result<Verified, Refused>, Fault>
+    ensures judged { IsJudged (R.remaining reader.old) result }
+    ensures limited { LosesUpTo 65537 (R.remaining reader.old) (R.remaining reader.new) }
+{
+    let scenario = read(alloc, reader)?;
+    match verify_each(rt, alloc, scenario, &NoCheckGate) {
+        Err(
+            Refused {
+                refusal: Refusal::Memory,
+                ..
+            },
+        ) => Err(Fault::Memory),
+        judgement => Ok(judgement),
     }
 }
 

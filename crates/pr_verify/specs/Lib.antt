@@ -3,7 +3,6 @@ pub mod Outlines
 pub mod LeastOutlines
 pub mod Refusals
 pub mod Verdicts
-pub mod Tables
 pub mod Rooms
 pub mod Tables
 pub mod Laws
