@@ -1,6 +1,6 @@
-//! Times verdicts of the proved program beside a replay of one step of the same text, which reads the text and makes the
-//! scenario: a family of clusters of 2 to 8 nodes, and scenarios at the limits of the language. Of the longest of these it
-//! times verdicts with one thread beside those with a thread for each host, by a program that repeats them.
+//! Times verdicts of the proved program beside a replay of one step of the same text, which reads the text and makes
+//! the scenario: a family of clusters of 2 to 8 nodes, and scenarios at the limits of the language. Of the longest of
+//! these it times verdicts with one thread beside those with a thread for each host, by a program that repeats them.
 
 use std::fs::{self, File};
 use std::process::{Command, Stdio};
@@ -171,8 +171,8 @@ fn compare(fence: &str, file: &str, what: &str, text: &str) {
     );
 }
 
-// A run of the program that repeats verdicts: what it printed, and how long each verdict took, but for the start of the
-// process and its reading, of which each has a share.
+// A run of the program that repeats verdicts: what it printed, and how long each verdict took, with its share of the
+// start of the process and of its reading.
 fn repeated(program: &str, file: &str, how: &str) -> (String, Duration) {
     let text = File::open(file).expect("a scenario");
     let start = Instant::now();

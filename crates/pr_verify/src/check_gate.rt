@@ -1,7 +1,7 @@
 //! What is called round the check of each host.
 
-/// What `verify_each` calls round the check of each scripted host, in the thread that makes the check. A gate may wait, and
-/// so have threads meet.
+/// What `verify_each` calls round the check of each scripted host, in the thread that makes the check. A gate may wait,
+/// and so have threads meet.
 pub trait CheckGate: Sync {
     /// Before the check of this host.
     fn before(&self, host: u8);

@@ -18,12 +18,13 @@ use std::sync::Wait;
 use std::thread;
 use std::thread::{Promise, PromisedHandle, Scope, Threads};
 
-/// Verifies the scenario as `verify` does, with a thread for each scripted host. All threads are joined, in the order of
-/// the scenario. A host whose thread cannot be started is checked by the caller's thread, once all others are started. The
-/// gate is called round the check of each scripted host, in the thread that makes it.
+/// Verifies the scenario as `verify` does, with a thread for each scripted host. All threads are joined, in the order
+/// of the scenario. A host whose thread cannot be started is checked by the caller's thread, once all others are
+/// started. The gate is called round the check of each scripted host, in the thread that makes it.
 ///
-/// It waits for the threads, and so may never return; no promise rests on a thread that runs. When the scenario is refused,
-/// the first host, in order, that has a reason decides, be it that memory was refused there.
+/// It waits for the threads, and so may never return; no promise rests on a thread that runs. A refusal is that of the
+/// first host, in order, that has one, be it that memory was refused there. Where there is no memory for the lists of
+/// threads and answers, none is started, and the refusal is Memory.
 pub fn verify_each<G: CheckGate, R: Threads + Wait + Sync>(
     rt: &R,
     alloc: Global,

@@ -11,7 +11,8 @@ use Rattle.pr_verify.specs.declared.refusal.Refusal.TheVariants.{Memory}
 use Rattle.pr_verify.specs.Outlines.{OnScripted, HasOutline}
 use Rattle.pr_verify.specs.Verdicts.{HasReason, IsVerdict}
 
--- What the check of a host says: the host has an outline that is sound and fits, if it is scripted; else a reason against it.
+-- What the check of a host says: the host has an outline that is sound and fits, if it is scripted; else a reason
+-- against it, unless memory was refused.
 abbrev pub IsAnswerFor : Scenario → ℕ → Result (Unit {0}) Refusal → Type 0
 IsAnswerFor s h answer = OnOk answer (OnScripted (task s h) (HasOutline s h)) × IfErr answer (λ refusal. refusal ≢ Memory → HasReason s h refusal)
 
@@ -37,7 +38,8 @@ EachFrom {X} P n xs = (i : ℕ) (d : X) → i < length xs → P (n + i) (slice_i
 
 -- ---- what they come to
 
--- Each scripted host before n has an outline that is sound and fits; else this is the first reason against one.
+-- Each scripted host before n has an outline that is sound and fits; else this is the first reason against one, or memory
+-- was refused.
 abbrev pub IsAnswerBefore : Scenario → ℕ → Result (Unit {0}) Refusal → Type 0
 IsAnswerBefore s n answer = OnOk answer ((h : ℕ) → h < n → OnScripted (task s h) (HasOutline s h)) × IfErr answer (IsVerdict s)
 
