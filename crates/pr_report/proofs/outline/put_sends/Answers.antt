@@ -1,4 +1,4 @@
-use Rattle.std.proofs.Common.{◌≡◌, ◌<◌, ◌≤◌, ◌++◌, ◌∙◌, length, get_or, map, refl, ap, subst, arith}
+use Rattle.std.proofs.Common.{◌<◌, ◌≤◌, ◌∙◌, length, get_or, map, ap, subst, arith}
 use Rattle.pr_verify.specs.Rooms.{row_of}
 use Rattle.pr_report.specs.TraceText.{names_of}
 use Rattle.pr_report.specs.OutlineText.{sends_text}
