@@ -1,10 +1,12 @@
 -- Outlines go out one send after another.
-use Rattle.std.proofs.Common.{Bool, false, codes, Some, ◌≡◌, ℕ, ◌+◌, ◌<◌, ◌≤◌, List, [], ◌∷◌, ◌++◌, Option, Result, length, drop, get_or, map, refl, sym, ap, ◌∙◌, subst}
+use Rattle.std.proofs.Common.{Bool, false, codes, Some, ◌≡◌, ℕ, ◌+◌, ◌<◌, ◌≤◌, List, [], ◌∷◌, ◌++◌, Option, Result, Ok, Err, take, length, drop, get_or, map, refl, sym, ap, ◌∙◌, subst, append-nil}
+use Rattle.std.specs.Bool.{OnFalse, OnTrue}
+use Rattle.std.specs.Result.{is_ok}
 use Rattle.std.specs.FinSet as set
 use Rattle.std.specs.List.{filter, range_with_len, slice_get}
 use Rattle.std.specs.Option.{option_map_or}
+use Rattle.std.proofs.lemmas.List.{take_at}
 use Rattle.std.proofs.Math.ListN.{drop_of_length-le}
-use Rattle.std.specs.Io.KnownBytes.{Appends}
 use Rattle.pr_roles.specs.declared.parts.Nexus.{Nexus as NexusPart}
 use Rattle.pr_roles.specs.declared.parts.Parts.{Parts}
 use Rattle.pr_roles.specs.Scenarios.{scenario_of}
@@ -21,7 +23,7 @@ use Rattle.pr_report.specs.Written.{Wrote, FallsShort, Puts}
 use Rattle.pr_report.specs.PrintedLines.{spaced}
 use Rattle.pr_report.specs.TraceText.{name_of, names_in, names_of}
 use Rattle.pr_report.specs.OutlineText.{free_or_key, outlines_text, registration_line, send_text, sends_text}
-use Rattle.pr_report.proofs.Fronts.{wrote_all, wrote_front, wrote_more}
+use Rattle.pr_report.proofs.Fronts.{held_front, held_more}
 use Rattle.pr_report.proofs.Shown.{line_pieces, shown}
 use Rattle.pr_report.proofs.TraceSteps.{drop_here, names_of_scenario}
 
@@ -76,31 +78,48 @@ sends_here names host vs rs i v r h is k has =
     ap (λ l. sends_text names (map (line_and_view host) l) (map row_of (drop i rs))) (drop_here vs i v h is)
     ∙ ap (λ l. sends_text names (map (line_and_view host) (v ∷ drop (i + 1) vs)) (map row_of l)) (drop_here rs i r k has)
 
-pub sends_more : (old mid new : Option (List ℕ)) (text : List ℕ) (names : List (List ℕ)) (host : ℕ) (vs : List (ℕ × ViewOf WordSet)) (rs : List KeptRow) (i : ℕ) (v : ℕ × ViewOf WordSet) (r : KeptRow)
+-- each goes to the page behind what is held there
+pub sends_more : (old mid new : Option (List ℕ)) (text held left : List ℕ) (names : List (List ℕ)) (host : ℕ) (vs : List (ℕ × ViewOf WordSet)) (rs : List KeptRow) (i : ℕ) (v : ℕ × ViewOf WordSet) (r : KeptRow)
     → i < length vs → v ≡ get_or vs i v → i < length rs → r ≡ get_or rs i r
-    → Wrote old mid text (sends_text names (map (line_and_view host) (drop i vs)) (map row_of (drop i rs)))
-    → Appends mid new (send_text names v.0 (line_and_view host v).1 (row_of r))
-    → Wrote old new text (sends_text names (map (line_and_view host) (drop (i + 1) vs)) (map row_of (drop (i + 1) rs)))
-sends_more old mid new text names host vs rs i v r h is k has w p =
-    wrote_more old mid new text _ _ (subst (λ l. Wrote old mid text l) (sends_here names host vs rs i v r h is k has) w) p
+    → Wrote old mid text (held ++ sends_text names (map (line_and_view host) (drop i vs)) (map row_of (drop i rs)))
+    → Wrote mid new (held ++ send_text names v.0 (line_and_view host v).1 (row_of r)) left
+    → Wrote old new text (left ++ sends_text names (map (line_and_view host) (drop (i + 1) vs)) (map row_of (drop (i + 1) rs)))
+sends_more old mid new text held left names host vs rs i v r h is k has w p =
+    held_more old mid new text held _ _ left (subst (λ l. Wrote old mid text (held ++ l)) (sends_here names host vs rs i v r h is k has) w) p
 
-pub sends_front : (old mid new : Option (List ℕ)) (text : List ℕ) (names : List (List ℕ)) (host : ℕ) (vs : List (ℕ × ViewOf WordSet)) (rs : List KeptRow) (i : ℕ) (v : ℕ × ViewOf WordSet) (r : KeptRow)
+pub sends_front : (old mid new : Option (List ℕ)) (text held : List ℕ) (names : List (List ℕ)) (host : ℕ) (vs : List (ℕ × ViewOf WordSet)) (rs : List KeptRow) (i : ℕ) (v : ℕ × ViewOf WordSet) (r : KeptRow)
     → i < length vs → v ≡ get_or vs i v → i < length rs → r ≡ get_or rs i r
-    → Wrote old mid text (sends_text names (map (line_and_view host) (drop i vs)) (map row_of (drop i rs)))
-    → FallsShort mid new (send_text names v.0 (line_and_view host v).1 (row_of r))
+    → Wrote old mid text (held ++ sends_text names (map (line_and_view host) (drop i vs)) (map row_of (drop i rs)))
+    → FallsShort mid new (held ++ send_text names v.0 (line_and_view host v).1 (row_of r))
     → FallsShort old new text
-sends_front old mid new text names host vs rs i v r h is k has w p =
-    wrote_front old mid new text _ _ (subst (λ l. Wrote old mid text l) (sends_here names host vs rs i v r h is k has) w) p
+sends_front old mid new text held names host vs rs i v r h is k has w p =
+    held_front old mid new text held _ _ (subst (λ l. Wrote old mid text (held ++ l)) (sends_here names host vs rs i v r h is k has) w) p
 
 no_sends : (names : List (List ℕ)) (views : List (ℕ × View)) → sends_text names views [] ≡ []
 no_sends names [] = refl
 no_sends names (view ∷ views) = refl
 
-pub sends_end : (old new : Option (List ℕ)) (text : List ℕ) (names : List (List ℕ)) (host : ℕ) (vs : List (ℕ × ViewOf WordSet)) (rs : List KeptRow) (i : ℕ) → length rs ≤ i
-    → Wrote old new text (sends_text names (map (line_and_view host) (drop i vs)) (map row_of (drop i rs))) → Appends old new text
-sends_end old new text names host vs rs i h w =
-    wrote_all old new text
-    (subst (λ l. Wrote old new text l) (ap (λ l. sends_text names (map (line_and_view host) (drop i vs)) (map row_of l)) (drop_of_length-le rs {i = i} h) ∙ no_sends names (map (line_and_view host) (drop i vs))) w)
+pub sends_end : (old new : Option (List ℕ)) (text held : List ℕ) (names : List (List ℕ)) (host : ℕ) (vs : List (ℕ × ViewOf WordSet)) (rs : List KeptRow) (i : ℕ) → length rs ≤ i
+    → Wrote old new text (held ++ sends_text names (map (line_and_view host) (drop i vs)) (map row_of (drop i rs))) → Wrote old new text held
+sends_end old new text held names host vs rs i h w =
+    subst (λ l. Wrote old new text l)
+    (ap (λ l. held ++ sends_text names (map (line_and_view host) (drop i vs)) (map row_of l)) (drop_of_length-le rs {i = i} h)
+    ∙ (ap (λ l. held ++ l) (no_sends names (map (line_and_view host) (drop i vs))) ∙ append-nil held)) w
+
+-- ---- a page
+
+-- a text that found no room leaves the page as it was, once that is cut again
+pub page_kept : {E : Type 0} (old new cut text : List ℕ) (n : ℕ) (r : Result (Unit {0}) E) (b : Bool) → Puts (Some old) (Some new) text r → b ≡ is_ok r → n ≡ length old → cut ≡ take n new
+    → OnFalse b (cut ≡ old)
+page_kept old new cut text n (Ok done) b p e is at = subst (λ x. OnFalse x (cut ≡ old)) (sym e) tt
+page_kept old new cut text n (Err fault) b p e is at =
+    subst (λ x. OnFalse x (cut ≡ old)) (sym e)
+    (at ∙ (ap (λ k. take k new) is ∙ (ap (λ l. take (length old) l) p.wrote.appended ∙ take_at old p.wrote.front (length old) refl)))
+
+pub page_grown : {E : Type 0} (old new : List ℕ) (text : ℕ → List ℕ) (r : Result (Unit {0}) E) (b : Bool) → ((own : ℕ) → Puts (Some old) (Some new) (text own) r) → b ≡ is_ok r
+    → OnTrue b ((own : ℕ) → new ≡ old ++ text own)
+page_grown old new text (Ok done) b p e = subst (λ x. OnTrue x ((own : ℕ) → new ≡ old ++ text own)) (sym e) p
+page_grown old new text (Err fault) b p e = subst (λ x. OnTrue x ((own : ℕ) → new ≡ old ++ text own)) (sym e) tt
 
 -- ---- the whole
 

@@ -1,7 +1,7 @@
 -- What a unit answers can be said in a trace.
-use Rattle.std.proofs.Common.{◌≡◌, ℕ, zero, suc, ◌+◌, ◌*◌, ◌<◌, ◌≤◌, ◌/◌, ◌%◌, ◌^◌, Bool, true, false, cond, List, [], ◌∷◌, ◌++◌, length, take, Option, Some, None, Result, Ok, Err, arith, subst, length-append, length-take}
-use Rattle.std.specs.Prelude.{◌==◌, if◌then◌else◌, ◌&&◌, ◌||◌, not, nat_lt, slice_index, is_none}
-use Rattle.std.specs.List.{flat_map}
+use Rattle.std.proofs.Common.{◌≡◌, ℕ, zero, suc, ◌+◌, ◌*◌, ◌<◌, ◌≤◌, ◌/◌, ◌%◌, ◌^◌, Bool, true, false, cond, List, [], ◌∷◌, ◌++◌, length, map, take, Option, Some, None, Result, Ok, Err, refl, sym, ap, ◌∙◌, arith, subst, eqb, length-append, length-take, inl, inr}
+use Rattle.std.specs.Prelude.{◌==◌, if◌then◌else◌, ◌&&◌, ◌||◌, not, nat_lt, IsTrue, slice_index, is_some, is_none, unwrap_or}
+use Rattle.std.specs.List.{flat_map, list_any, IsDistinct}
 use Rattle.std.specs.Option.{option_map_or}
 use Rattle.std.specs.Int.{w32, w64, byte_at, bytes_high_first, to_be_bytes}
 use Rattle.std.specs.FinMap as finmap
@@ -23,7 +23,7 @@ use Rattle.pr_cdb.specs.Requests.{AreBytes, has_refused_flag, illegal, length_of
 use Rattle.pr_registry.specs.Registrations.{State}
 use Rattle.pr_unit.specs.Attentions.{attention_sense, is_attention}
 use Rattle.pr_unit.specs.Replies.{check, conflict, data_of, good, is_request_sense, report, reservation}
-use Rattle.pr_unit.specs.Faults.{command_fault}
+use Rattle.pr_unit.specs.Faults.{command_fault, fault, preempt_fault, range_fault, release_fault}
 use Rattle.pr_report.specs.TraceLaws.{HasSense}
 use Rattle.pr_report.proofs.WordsBack.{EachByte, are_bytes, sense_each}
 

@@ -1,12 +1,12 @@
 -- What a script that fits says, and goes on to say: commands that a text can write, and words that are names.
-use Rattle.std.proofs.Common.{◌≡◌, ℕ, zero, suc, ◌+◌, true, false, cond, List, [], ◌∷◌, Option, Some, None, refl, drop}
+use Rattle.std.proofs.Common.{◌≡◌, ℕ, zero, suc, ◌+◌, Bool, true, false, cond, List, [], ◌∷◌, Option, Some, None, refl, sym, ap, ◌∙◌, subst, drop}
 use Rattle.std.specs.Prelude.{◌&&◌, nat_lt, nat_le, IsTrue, codes, option_map}
 use Rattle.std.proofs.lemmas.Bool.{and_parts}
 use Rattle.pr_cdb.specs.declared.command.Command.{Command}
 use Rattle.pr_cdb.specs.declared.reply.Reply.{Reply}
 use Rattle.pr_script.specs.Names.{is_name}
 use Rattle.pr_script.specs.Scripts.{Stmt, Stmts, Arms, sends, repeats, breaks, stops, none, more, no_arm, arm, Item, statement, mark, Configuration, before, turn, past_mark, becomes, becomes_often, work, settled, begun, Standing, ready, stopped, standing}
-use Rattle.pr_script.specs.Takes.{first_match, matches}
+use Rattle.pr_script.specs.Takes.{first_match, matches, take}
 use Rattle.pr_script.specs.Grammar.{statement_fits, statements_fit, arms_fit, is_send_written, is_repeat_written, is_written, test_fits, script_fits, count_of_arms}
 use Rattle.pr_roles.specs.Worlds.{Control, Going, Trapped, Free, standing_of, taken}
 

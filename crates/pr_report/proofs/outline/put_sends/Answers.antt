@@ -1,19 +1,27 @@
-use Rattle.std.proofs.Common.{◌<◌, ◌≤◌, ◌∙◌, length, get_or, ap, subst, arith}
+use Rattle.std.proofs.Common.{◌<◌, ◌≤◌, ◌∙◌, length, get_or, map, ap, subst, arith}
+use Rattle.pr_verify.specs.Rooms.{row_of}
 use Rattle.pr_report.specs.TraceText.{names_of}
-use Rattle.pr_report.proofs.Fronts.{puts_err}
-use Rattle.pr_report.proofs.OutlineSteps.{sends_end, sends_front, sends_more}
+use Rattle.pr_report.specs.OutlineText.{sends_text}
+use Rattle.pr_report.proofs.Fronts.{held_first, held_last, puts_err}
+use Rattle.pr_report.proofs.OutlineSteps.{line_and_view, sends_end, sends_front, sends_more}
 use Rattle.pr_report.proofs.outline.put_sends.Goals as goal
 
-pub returns-in_err-put_send : goal.returns-in_err-put_send
-returns-in_err-put_send g c =
+pub loop-place-init : goal.loop-place-init
+loop-place-init g c =
+    let table = c.args.table.now in
+    let text = sends_text (names_of c.args.nexuses.now) (map (line_and_view table.outline.host) table.outline.views.items) (map row_of table.rows.items) in
+    held_first _ text c.new-page.result.items c.new-page.ensures
+
+pub returns-in_err-add_send : goal.returns-in_err-add_send
+returns-in_err-add_send g c =
     let table = c.args.table.now in
     let place = c.loop-place.place in
     let same = c.deref-row-items.ensures.value in
     let row_there : place < length table.rows.items = subst (λ rows. place < length rows) same c.loop-place-test.true in
     let row_is = c.row-item.is ∙ ap (λ rows. get_or rows place c.row-item.result) same in
     let view_there : place < length table.outline.views.items = omega (arith, row_there, c.requires.rows) in
-    puts_err _ _ _ _ (sends_front _ _ _ _ (names_of c.args.nexuses.now) table.outline.host table.outline.views.items table.rows.items place c.index.result.now c.row-item.result view_there c.index.ensures row_there row_is
-    c.loop-place.invariant (c.in_err-put_send.ensures table.outline.host)) c.from_residual.ensures.0
+    puts_err _ _ _ _ (sends_front _ _ _ _ _ (names_of c.args.nexuses.now) table.outline.host table.outline.views.items table.rows.items place c.index.result.now c.row-item.result view_there c.index.ensures row_there row_is
+    c.loop-place.invariant (c.in_err-add_send.ensures table.outline.host)) c.from_residual.ensures.0
 
 pub loop-place-preserved : goal.loop-place-preserved
 loop-place-preserved g c =
@@ -23,10 +31,11 @@ loop-place-preserved g c =
     let row_there : place < length table.rows.items = subst (λ rows. place < length rows) same c.loop-place-test.true in
     let row_is = c.row-item.is ∙ ap (λ rows. get_or rows place c.row-item.result) same in
     let view_there : place < length table.outline.views.items = omega (arith, row_there, c.requires.rows) in
-    sends_more _ _ _ _ (names_of c.args.nexuses.now) table.outline.host table.outline.views.items table.rows.items place c.index.result.now c.row-item.result view_there c.index.ensures row_there row_is
-    c.loop-place.invariant (c.in_ok-put_send.ensures table.outline.host)
+    sends_more _ _ _ _ _ _ (names_of c.args.nexuses.now) table.outline.host table.outline.views.items table.rows.items place c.index.result.now c.row-item.result view_there c.index.ensures row_there row_is
+    c.loop-place.invariant (c.in_ok-add_send.ensures table.outline.host)
 
 pub returns : goal.returns
 returns g c =
     let past : length c.args.table.now.rows.items ≤ c.loop-place.place = subst (λ rows. length rows ≤ c.loop-place.place) c.deref-row-items.ensures.value c.loop-place-test.false in
-    sends_end _ _ _ (names_of c.args.nexuses.now) c.args.table.now.outline.host c.args.table.now.outline.views.items c.args.table.now.rows.items c.loop-place.place past c.loop-place.invariant
+    let held = sends_end _ _ _ c.loop-place.page.items (names_of c.args.nexuses.now) c.args.table.now.outline.host c.args.table.now.outline.views.items c.args.table.now.rows.items c.loop-place.place past c.loop-place.invariant in
+    held_last _ _ _ _ _ _ held (rw c.as_slice.ensures.value at c.put.ensures)

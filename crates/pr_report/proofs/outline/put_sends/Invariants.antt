@@ -1,4 +1,4 @@
-use Rattle.std.proofs.Common.{drop, map}
+use Rattle.std.proofs.Common.{◌++◌, drop, map}
 use Rattle.pr_verify.specs.Rooms.{row_of}
 use Rattle.pr_report.specs.Written.{Wrote}
 use Rattle.pr_report.specs.TraceText.{names_of}
@@ -11,4 +11,4 @@ invariant-loop-place g l =
     let view_at = line_and_view l.table.outline.host in
     Wrote (g.W.Write.contents l.fn.writer) (g.W.Write.contents l.writer)
     (sends_text (names_of l.nexuses) (map view_at l.table.outline.views.items) (map row_of l.table.rows.items))
-    (sends_text (names_of l.nexuses) (map view_at (drop l.place l.table.outline.views.items)) (map row_of (drop l.place l.table.rows.items)))
+    (l.page.items ++ sends_text (names_of l.nexuses) (map view_at (drop l.place l.table.outline.views.items)) (map row_of (drop l.place l.table.rows.items)))
