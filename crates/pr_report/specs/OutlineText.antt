@@ -1,5 +1,5 @@
--- The text of outlines: for each host that has a script a line, and for each send of the script its line and command, what
--- is possible when it is sent, and what becomes of the replies. What is possible stands in the order of its numbers.
+-- The text of outlines: for each host that has a script a line, and for each send of the script its line and command,
+-- what is possible when it is sent, and what becomes of the replies. What is possible stands in the order of its numbers.
 use Rattle.std.specs.Prelude.{ℕ, ◌+◌, Bool, true, false, List, [], ◌∷◌, ◌++◌, length, map, codes, decimal, Option, None, Some}
 use Rattle.std.specs.FinSet as set
 use Rattle.std.specs.List.{filter, flat_map, range_with_len, slice_get}

@@ -2,7 +2,7 @@
 //! and what is known at the sends of its scripts; and traces read back from any reader.
 //!
 //! Nothing that is written takes memory: a trace is put together on a page of fixed size, and goes out a page at a
-//! time. Of a trace that is read the entries take memory, and nothing else.
+//! time, and so do the sends of an outline. Of a trace that is read the entries take memory, and nothing else.
 #![tactic(auto)]
 
 mod ahead;
