@@ -2,6 +2,5 @@ pub mod Naming
 pub mod Plans
 pub mod Judging
 pub mod Auditing
-pub mod Outlining
 pub mod Reasons
 pub mod Performing
