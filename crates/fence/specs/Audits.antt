@@ -1,3 +1,4 @@
+-- Agrees with docs/FORMATS.md, 'Auditing'.
 -- What `fence audit` writes.
 use Rattle.std.specs.Prelude.{◌≡◌, ℕ, Bool, List, length, Option, IfSome, Result, Ok, Err}
 use Rattle.std.specs.Io.KnownBytes.{Keeps}

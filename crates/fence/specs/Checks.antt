@@ -1,3 +1,4 @@
+-- Agrees with docs/FORMATS.md, 'Checking'.
 -- What `fence check` writes.
 use Rattle.std.specs.Prelude.{◌≡◌, ℕ, Bool, List, Option, Result}
 use Rattle.pr_roles.specs.Scenarios.{Scenario}

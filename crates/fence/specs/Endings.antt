@@ -1,3 +1,4 @@
+-- Agrees with docs/FORMATS.md, 'Fault lines and exit statuses'.
 -- How a command of the program ends that answers a text: with its answer, which may be a refusal, or with a fault.
 use Rattle.std.specs.Prelude.{◌≡◌, ℕ, Bool, if◌then◌else◌, List, [], Option, IfSome, Result, Ok, Err}
 use Rattle.std.specs.Io.KnownBytes.{Appends, Keeps}

@@ -1,3 +1,4 @@
+-- Agrees with docs/FORMATS.md, 'Fault lines and exit statuses'.
 -- The one line for a fault, the class of a fault, and the exit status of a class.
 use Rattle.std.specs.Prelude.{ℕ, List, [], ◌∷◌, codes}
 use Rattle.std.specs.Fmt.{decimal}

@@ -1,3 +1,4 @@
+-- Agrees with docs/FORMATS.md, 'Outlines'.
 -- What `fence outline` writes.
 use Rattle.std.specs.Prelude.{◌≡◌, ℕ, Bool, false, List, Option, Result}
 use Rattle.pr_roles.specs.Scenarios.{Scenario}

@@ -1,3 +1,4 @@
+-- Agrees with docs/FORMATS.md, 'Replaying'.
 -- What `fence replay` writes.
 use Rattle.std.specs.Prelude.{◌≡◌, ℕ, Bool, true, false, IsTrue, List, map, Option, Some, None, IfSome, Result, Err}
 use Rattle.std.specs.List.{list_any}

@@ -1,3 +1,4 @@
+-- Agrees with docs/FORMATS.md, 'Running'.
 -- What `fence run` writes.
 use Rattle.std.specs.Prelude.{◌≡◌, ℕ, ◌<◌, Bool, true, false, List, length, map, Option, IfSome, Result}
 use Rattle.std.specs.List.{range_with_len}

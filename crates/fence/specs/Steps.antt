@@ -1,3 +1,4 @@
+-- Agrees with docs/FORMATS.md, 'Replaying'.
 -- The hosts and guests that the steps of a replay name.
 use Rattle.std.specs.Prelude.{ℕ, ◌==◌, ◌||◌, Bool, nat_lt, List, [], ◌∷◌, length, position, bytes_eq, Option, Some, option_map, option_and_then}
 

@@ -1,3 +1,4 @@
+-- Agrees with SAM-5, 'Unit attention conditions'; docs/MODEL.md, 'Attentions'.
 -- Unit attentions (SAM-5, 'Unit attention conditions'), and sets of them that are pending.
 -- A code is the additional sense code times 256, and its qualifier.
 use Rattle.std.specs.Prelude.{◌≡◌, ℕ, ◌/◌, ◌%◌, ◌≤◌, ◌==◌, Bool, true, IsTrue, List, [], ◌∷◌}

@@ -1,3 +1,4 @@
+-- Agrees with docs/MODEL.md, 'Attentions'.
 -- A set of attentions as a number, with a bit for each code.
 use Rattle.std.specs.Prelude.{ℕ, ◌==◌, if◌then◌else◌}
 use Rattle.std.specs.Int.{bit_at}

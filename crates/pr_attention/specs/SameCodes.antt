@@ -1,3 +1,4 @@
+-- Agrees with docs/MODEL.md, 'Attentions'.
 -- The test whether two sets of codes are equal.
 use Rattle.std.specs.Prelude.{◌≡◌, ◌↔◌, ◌&&◌, Bool, true}
 use Rattle.std.specs.Cmp.{IsEquivalence, decided, both_ways, nat_cmp_total}

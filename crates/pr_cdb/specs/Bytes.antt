@@ -1,3 +1,4 @@
+-- Agrees with SPC-4, 'Bit and byte ordering'; docs/FORMATS.md, 'Command bytes'.
 -- The fields of commands and of data. A number of more than one byte has its highest byte first
 -- (SPC-4, 'Bit and byte ordering').
 use Rattle.std.specs.Prelude.{ℕ, ◌+◌, ◌==◌, Bool, not, List, [], ◌∷◌, slice_index, bit_and}

@@ -1,3 +1,4 @@
+-- Agrees with SPC-4, 'Persistent reservations type'; docs/MODEL.md, 'The reservation and its types'.
 -- The types of a persistent reservation, and the numbers that stand for them
 -- (SPC-4, 'Persistent reservations type').
 use Rattle.std.specs.Prelude.{ℕ, Option, Some, None, ◌==◌, if◌then◌else◌}

@@ -1,3 +1,4 @@
+-- Agrees with SPC-4, 'PERSISTENT RESERVE IN command'; docs/FORMATS.md, 'Reply bytes'.
 -- The data that replies carry.
 use Rattle.std.specs.Prelude.{ℕ, zero, suc, ◌+◌, ◌-◌, ◌*◌, ◌/◌, ◌%◌, ◌<◌, ◌^◌, ◌==◌, ◌||◌, not, nat_lt, min, if◌then◌else◌, List, [], ◌∷◌, ◌++◌, length, take, slice_index, Option, Some, None}
 use Rattle.std.specs.Int.{w32, w64, to_be_bytes}

@@ -1,3 +1,4 @@
+-- Agrees with SPC-4, 'PERSISTENT RESERVE OUT command'; docs/FORMATS.md, 'How bytes are written'.
 -- The bytes of each command, with zero in every field that the command does not name (SPC-4, 'TEST UNIT
 -- READY', 'REQUEST SENSE', 'PERSISTENT RESERVE IN' and 'PERSISTENT RESERVE OUT command'; SBC-3, 'READ
 -- (10)' and 'WRITE (10) command').

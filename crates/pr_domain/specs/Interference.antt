@@ -1,3 +1,4 @@
+-- Agrees with docs/VIEWS.md, 'What becomes of a view'.
 -- What others may make of the states that a view shows.
 use Rattle.std.specs.Prelude.{◌≡◌, ◌≢◌, ℕ, ◌<◌, true, IsTrue, List, Ok}
 use Rattle.pr_cdb.specs.declared.reply.Reply.{Reply}

@@ -1,3 +1,4 @@
+-- Agrees with docs/MODEL.md, 'Taking a reply'.
 -- Where a script goes on after a reply: in an arm of the send, or nowhere.
 use Rattle.std.specs.Prelude.{◌≡◌, List, Some, None}
 use Rattle.pr_cdb.specs.declared.reply.Reply.{Reply}

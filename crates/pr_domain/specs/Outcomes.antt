@@ -1,3 +1,4 @@
+-- Agrees with docs/VIEWS.md, 'What becomes of a view'.
 -- What a host's own command may come to.
 use Rattle.std.specs.Prelude.{◌≡◌, true, false, IsTrue, List}
 use Rattle.std.specs.List.{Contains}

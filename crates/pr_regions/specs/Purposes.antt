@@ -1,3 +1,4 @@
+-- Agrees with docs/MODEL.md, 'The order in which a request is answered'.
 -- What a command asks for once its reservation key is accepted.
 use Rattle.std.specs.Prelude.{ℕ, suc, ◌≤◌, ◌+◌, Bool, true, false, not, ◌==◌, nat_le, if◌then◌else◌, List, Option, Some, option_map, position}
 use Rattle.std.specs.Option.{option_map_or}

@@ -1,3 +1,4 @@
+-- Agrees with docs/MODEL.md, 'Taking a reply'.
 -- Which arm takes the data that READ KEYS and READ RESERVATION return, region by region.
 use Rattle.std.specs.Prelude.{◌≡◌, ℕ, ◌<◌, List, Option, position}
 use Rattle.std.specs.List.{Contains}

@@ -1,3 +1,4 @@
+-- Agrees with docs/MODEL.md, 'The order in which a request is answered'.
 -- How a command ends, region by region of the states with one reservation and one standing of the sender.
 use Rattle.std.specs.Prelude.{◌≡◌, ◌≢◌, ℕ, zero, suc, ◌+◌, ◌≤◌, ◌<◌, Bool, true, false, ◌==◌, if◌then◌else◌, List, Option, Some, None, option_map, unwrap_or, bit_or}
 use Rattle.std.specs.List.{Contains}

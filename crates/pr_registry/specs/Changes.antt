@@ -1,3 +1,4 @@
+-- Agrees with SPC-4, 'Unregistering', 'Releasing', 'Preempting', 'Clearing'; docs/MODEL.md, 'PREEMPT'.
 -- Whose registrations a service action removes, and whom it tells by a unit attention (SPC-4,
 -- 'Unregistering', 'Releasing', 'Preempting' and 'Clearing'). The attentions are named by their
 -- qualifier under the additional sense code 2Ah: 03h reservations preempted, 04h reservations released,

@@ -1,3 +1,4 @@
+-- Agrees with SPC-4, 'Registering', 'Unregistering', 'Reserving', 'Releasing', 'Preempting', 'Clearing'; docs/MODEL.md, 'PREEMPT'.
 -- What a service action that ends GOOD makes of the registrations, the reservation and PRGENERATION
 -- (SPC-4, 'Registering', 'Unregistering', 'Reserving', 'Releasing', 'Preempting', 'Clearing').
 use Rattle.std.specs.Prelude.{ℕ, ◌+◌, ◌%◌, ◌^◌, ◌==◌, ◌&&◌, if◌then◌else◌, Option, Some, None, option_map}

@@ -1,3 +1,4 @@
+-- Agrees with docs/MODEL.md, 'Nexuses and registrations'.
 -- Sets of hosts, and registrations as a set of pairs of a host and its key, at most one for a host.
 use Rattle.std.specs.Prelude.{ℕ, zero, suc, Bool, false, not, ◌==◌, Option, Some, None, if◌then◌else◌}
 use Rattle.std.specs.Ordering.{nat_cmp}

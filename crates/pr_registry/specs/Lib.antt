@@ -2,4 +2,4 @@ pub mod Hosts
 pub mod Registrations
 pub mod Changes
 pub mod Effects
-pub mod Cases
+pub mod inside

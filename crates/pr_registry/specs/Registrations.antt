@@ -1,3 +1,4 @@
+-- Agrees with SPC-4, 'Persistent reservations', 'Persistent reservation holder'; docs/MODEL.md, 'Well formed states'.
 -- What a logical unit keeps of persistent reservations (SPC-4, 'Reservations' and 'Persistent
 -- reservations'): who is registered with which key, the reservation, and PRGENERATION.
 use Rattle.std.specs.Prelude.{◌≡◌, ℕ, ◌<◌, ◌≤◌, ◌^◌, Bool, true, false, ◌==◌, IsTrue, List, length, Option, Some, None, slice_index_or, if◌then◌else◌, refl}

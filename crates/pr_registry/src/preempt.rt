@@ -3,7 +3,7 @@
 ghost use Rattle.std.specs.Prelude.{◌≡◌, ◌<◌, option_map};
 ghost use Rattle.pr_registry.specs.Registrations.{table_keys, established};
 ghost use Rattle.pr_registry.specs.Changes.{preempt_case, is_replacing, removed_by_preempt, is_new_type};
-ghost use Rattle.pr_registry.specs.Cases.{case_of};
+ghost use Rattle.pr_registry.specs.inside.Cases.{case_of};
 ghost use Rattle.pr_registry.specs.Effects.{held_after_preempt};
 
 use crate::held::Held;

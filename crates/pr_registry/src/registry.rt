@@ -44,7 +44,7 @@ impl Registry {
     ghost use Rattle.pr_registry.specs.Registrations.{IsWellFormed, Holds, fresh, state_from, key_of, is_registered, others, is_holder};
     ghost use Rattle.pr_registry.specs.Hosts.{is_nobodys};
     ghost use Rattle.pr_registry.specs.Changes.{no_change, is_in_the_way, is_held_as, is_held_by_all, is_released, preempt_case, is_replacing, HasKindIfReplacing, change_on_unregister, change_on_release, change_on_clear, change_on_preempt, picks_registrations};
-    ghost use Rattle.pr_registry.specs.Cases.{case_of};
+    ghost use Rattle.pr_registry.specs.inside.Cases.{case_of};
     ghost use Rattle.pr_registry.specs.Effects.{registered, unregistered, reserved, released, cleared, preempted};
 
     /// Nothing is registered or reserved, and the generation is 0.

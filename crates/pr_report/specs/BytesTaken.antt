@@ -1,3 +1,4 @@
+-- Agrees with docs/FORMATS.md, 'Reading a trace'.
 -- How many bytes are taken from a reader.
 use Rattle.std.specs.Prelude.{ℕ, ◌≤◌, List, length, Option}
 use Rattle.std.specs.Io.KnownBytes.{Consumes}

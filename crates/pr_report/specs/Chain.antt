@@ -1,3 +1,4 @@
+-- Agrees with docs/FORMATS.md, 'Reading a trace'.
 -- Steps of which each may fail.
 use Rattle.std.specs.Prelude.{Option, option_and_then}
 

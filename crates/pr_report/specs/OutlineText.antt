@@ -1,3 +1,4 @@
+-- Agrees with docs/FORMATS.md, 'Outline text'.
 -- The text of outlines: for each host that has a script a line, and for each send of the script its line and command,
 -- what is possible when it is sent, and what becomes of the replies. What is possible stands in the order of its numbers.
 use Rattle.std.specs.Prelude.{ℕ, ◌+◌, Bool, true, false, List, [], ◌∷◌, ◌++◌, length, map, codes, decimal, Option, None, Some}

@@ -1,3 +1,4 @@
+-- Agrees with docs/FORMATS.md, 'Trace text'.
 -- The text of a word.
 use Rattle.std.specs.Prelude.{ℕ, List}
 use Rattle.std.specs.Fmt.{decimal}

@@ -1,3 +1,4 @@
+-- Agrees with docs/FORMATS.md, 'Trace text'.
 -- The words and lines of what is printed. A line is its words with one space between them, and a line feed.
 use Rattle.std.specs.Prelude.{ℕ, ◌/◌, ◌%◌, false, List, [], ◌∷◌, ◌++◌, Option, None, Some, codes, decimal}
 use Rattle.std.specs.List.{flat_map}

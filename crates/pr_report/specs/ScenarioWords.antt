@@ -1,3 +1,4 @@
+-- Agrees with docs/FORMATS.md, 'COMMAND'.
 -- The words by which scenarios name a command, and what an arm asks of a reply.
 use Rattle.std.specs.Prelude.{ℕ, List, [], ◌∷◌, codes, decimal, Option, None, Some}
 use Rattle.pr_cdb.specs.declared.command.Command.{Command}

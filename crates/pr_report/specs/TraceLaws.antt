@@ -1,3 +1,4 @@
+-- Agrees with docs/FORMATS.md, 'Reading a trace'.
 -- Laws of traces that are read.
 use Rattle.std.specs.Prelude.{◌≡◌, ℕ, ◌<◌, ◌≤◌, IsTrue, List, length, Option, Some, None, Ok}
 use Rattle.std.specs.List.{All}

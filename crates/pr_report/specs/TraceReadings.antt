@@ -1,3 +1,4 @@
+-- Agrees with docs/FORMATS.md, 'Reading a trace'.
 -- What a trace text is read as: its entries, or its one fault.
 use Rattle.std.specs.Prelude.{◌≡◌, ℕ, Bool, ◌+◌, ◌==◌, ◌||◌, ◌&&◌, nat_eq, nat_lt, nat_le, if◌then◌else◌, List, [], ◌∷◌, length, position, codes, bytes_eq, Option, Some, None, Result, Ok, Err}
 use Rattle.std.specs.List.{slice_split, starts_with}

@@ -1,3 +1,4 @@
+-- Agrees with docs/FORMATS.md, 'Trace text'.
 -- The text of a trace: its first line, a line for each command that reached the unit, the unit as it ends, and
 -- how each host or guest ended.
 use Rattle.std.specs.Prelude.{ℕ, ◌+◌, List, [], ◌∷◌, ◌++◌, map, codes, Option, None, Some, slice_index, slice_index_or}

@@ -1,3 +1,4 @@
+-- Agrees with docs/FORMATS.md, 'Trace text'.
 -- The trace of a run.
 use Rattle.std.specs.Prelude.{◌≡◌, ℕ, List, Some, map}
 use Rattle.pr_roles.specs.Scenarios.{Scenario}

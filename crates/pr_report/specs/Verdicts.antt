@@ -1,3 +1,4 @@
+-- Agrees with docs/FORMATS.md, 'Verdict text'.
 -- The line of a verdict: what a check says of a scenario, and an audit of a history.
 use Rattle.std.specs.Prelude.{ℕ, Bool, true, false, List, [], ◌∷◌, ◌++◌, codes}
 use Rattle.std.specs.Fmt.{decimal}

@@ -1,3 +1,4 @@
+-- Agrees with docs/FORMATS.md, 'Fault lines and exit statuses'.
 -- What a writer has taken of a text, where the bytes that it holds are known.
 use Rattle.std.specs.Prelude.{◌≡◌, ◌≢◌, ℕ, List, [], ◌++◌, Option, Result, Ok, Err}
 use Rattle.std.specs.Io.KnownBytes.{Appends}

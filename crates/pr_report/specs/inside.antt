@@ -1,3 +1,4 @@
 pub mod SevenWords
 pub mod LinesAhead
 pub mod Possible
+pub mod TraceLines

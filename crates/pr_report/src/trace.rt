@@ -5,7 +5,7 @@ ghost use Rattle.pr_registry.specs.Registrations.{key_of};
 ghost use Rattle.pr_roles.specs.Scenarios.{scenario_of};
 ghost use Rattle.pr_world.specs.Ends.{seen};
 ghost use Rattle.pr_report.specs.Written.{Puts, PutsAllBut};
-ghost use Rattle.pr_report.specs.TraceLines.{line_text};
+ghost use Rattle.pr_report.specs.inside.TraceLines.{line_text};
 ghost use Rattle.std.specs.Bool.{OnTrue, OnFalse};
 ghost use Rattle.std.specs.Fmt.{decimal};
 ghost use Rattle.pr_report.specs.Printed.{printed};

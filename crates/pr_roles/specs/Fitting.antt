@@ -1,3 +1,4 @@
+-- Agrees with docs/MODEL.md, 'Which parts make a scenario'; docs/FORMATS.md, 'Limits'.
 -- Which parts make a scenario: the limits, and the conditions of its text.
 use Rattle.std.specs.Prelude.{ℕ, Bool, true, false, ◌==◌, ◌&&◌, not, nat_lt, nat_le, IsTrue, List, [], ◌∷◌, Option, Some, None, length, map, bytes_eq}
 use Rattle.std.specs.List.{All, list_any, list_all}

@@ -1,3 +1,4 @@
+-- Agrees with docs/MODEL.md, 'Starts'.
 -- Laws of starts.
 use Rattle.std.specs.Prelude.{◌≡◌, ◌≤◌, ◌↔◌, ℕ, Some, IsSome}
 use Rattle.std.specs.List.{slice_get}

@@ -1,3 +1,4 @@
+-- Agrees with docs/MODEL.md, 'Roles'.
 -- Which commands a role permits.
 use Rattle.std.specs.Prelude.{ℕ, Bool, true, false, ◌==◌, ◌&&◌, ◌||◌, List, Option, Some, None, is_some}
 use Rattle.std.specs.List.{list_any}

@@ -1,3 +1,4 @@
+-- Agrees with docs/MODEL.md, 'Safe scenarios and legal histories'.
 -- When a scenario is safe, and which histories are legal.
 use Rattle.std.specs.Prelude.{◌≡◌, ℕ, ◌≤◌, true, false, IsTrue, List, [], ◌∷◌, Option, Some, None}
 use Rattle.pr_cdb.specs.declared.wire.Request.TheVariants.{Plain}

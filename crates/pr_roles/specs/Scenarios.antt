@@ -1,3 +1,4 @@
+-- Agrees with docs/FORMATS.md, 'Scenario text'.
 -- What a scenario declares, and the scenario that its parts are.
 use Rattle.std.specs.Prelude.{ℕ, List, [], Option, Some, None, map}
 use Rattle.std.specs.List.{slice_get}

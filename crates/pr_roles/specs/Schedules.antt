@@ -1,3 +1,4 @@
+-- Agrees with docs/FORMATS.md, 'Replaying'.
 -- Runs in which each turn belongs to a named host or guest.
 use Rattle.std.specs.Prelude.{◌≡◌, ℕ, Bool, true, false, ◌&&◌, not, List, [], ◌∷◌, Option, Some, None, map, slice_set}
 use Rattle.std.specs.List.{slice_get}

@@ -1,3 +1,4 @@
+-- Agrees with docs/MODEL.md, 'Starts'.
 -- The states that a scenario may start from, and the first of them.
 use Rattle.std.specs.Prelude.{◌≡◌, ℕ, true, if◌then◌else◌, List, [], ◌∷◌, Option, Some, None, is_some, option_map, option_and_then, length, map, position, slice_set}
 use Rattle.std.specs.FinSet as set

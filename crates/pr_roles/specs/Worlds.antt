@@ -1,3 +1,4 @@
+-- Agrees with docs/MODEL.md, 'Worlds, events and runs'.
 -- A logical unit with the scripts that drive it, and what may happen to them. One event is one command of one
 -- host or guest: it is executed and answered, and a host's script takes the reply.
 use Rattle.std.specs.Prelude.{◌≡◌, ℕ, ◌≤◌, ◌==◌, Bool, true, false, IsTrue, List, [], ◌∷◌, ◌++◌, length, Option, Some, None, map, slice_set, Ok}

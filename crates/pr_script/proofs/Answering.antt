@@ -13,8 +13,8 @@ use Rattle.pr_script.specs.declared.walk.Open.{Open}
 use Rattle.pr_script.specs.Scripts.{Stmt, Stmts, Arms, sends, repeats, breaks, stops, none, more, no_arm, arm, Configuration, statement, before, settled, is_ready, IsReady}
 use Rattle.pr_script.specs.Takes.{matches, first_match, take}
 use Rattle.pr_script.specs.Depths.{depth_of_all, depth_of_arms}
-use Rattle.pr_script.specs.Tables.{joined, without_end, opened, place, arms_at, step_at, meanings, deepest, open_count, AreJumps, IsStep, IsTable}
-use Rattle.pr_script.specs.Walks.{TakesBody}
+use Rattle.pr_script.specs.inside.Tables.{joined, without_end, opened, place, arms_at, step_at, meanings, deepest, open_count, AreJumps, IsStep, IsTable}
+use Rattle.pr_script.specs.inside.Walks.{TakesBody}
 use Rattle.pr_script.proofs.Places.{place-zero, place-row, the_row, opened-unready}
 use Rattle.pr_script.proofs.Walking.{deepest-before}
 

@@ -15,8 +15,8 @@ use Rattle.pr_script.specs.declared.rows.Jump.{Jump}
 use Rattle.pr_script.specs.Scripts.{Stmt, Stmts, Arms, sends, repeats, none, more, no_arm, arm, before}
 use Rattle.pr_script.specs.Depths.{depth_of_all}
 use Rattle.pr_script.specs.Trees.{statement_of, statements_in, arms_in, script_of}
-use Rattle.pr_script.specs.Tables.{configuration, deepest, IsPlaced, joined, size, front, without_end, place, arms_at, step_at, row_at, meanings, AreJumps, IsStep, IsRow, IsTable}
-use Rattle.pr_script.specs.Laying.{Grows, IsLaid, IsStepLaid, AreArmsLaid}
+use Rattle.pr_script.specs.inside.Tables.{configuration, deepest, IsPlaced, joined, size, front, without_end, place, arms_at, step_at, row_at, meanings, AreJumps, IsStep, IsRow, IsTable}
+use Rattle.pr_script.specs.inside.Laying.{Grows, IsLaid, IsStepLaid, AreArmsLaid}
 use Rattle.pr_script.proofs.Places.{length-meanings, meanings-push, place-zero}
 use Rattle.pr_script.proofs.Walking.{deepest-before}
 use Rattle.pr_script.proofs.Taken.{taken, with_last_arm, arms_in-append}

@@ -5,8 +5,8 @@ use Rattle.pr_script.specs.declared.rows.Row.{Row}
 use Rattle.pr_script.specs.declared.rows.Step.TheVariants.{Repeat, Break}
 use Rattle.pr_script.specs.declared.walk.Open.{Open}
 use Rattle.pr_script.specs.Scripts.{statement, mark, repeats, Configuration, before, turn, past_mark, becomes}
-use Rattle.pr_script.specs.Tables.{place, meanings, opened, deepest, configuration, AreOpens, IsStep, IsPlaced}
-use Rattle.pr_script.specs.Walks.{Leads}
+use Rattle.pr_script.specs.inside.Tables.{place, meanings, opened, deepest, configuration, AreOpens, IsStep, IsPlaced}
+use Rattle.pr_script.specs.inside.Walks.{Leads}
 use Rattle.pr_script.proofs.Places.{the_row, configuration-step, configuration-zero, opened-push}
 use Rattle.pr_script.proofs.Walking.{opens_less, open_count-configuration, leads_turn, leads_mark, leads_break, past_mark-before}
 

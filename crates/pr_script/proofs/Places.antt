@@ -8,7 +8,7 @@ use Rattle.pr_script.specs.declared.rows.Row.{Row}
 use Rattle.pr_script.specs.declared.rows.Step.{Step}
 use Rattle.pr_script.specs.declared.walk.Open.{Open}
 use Rattle.pr_script.specs.Scripts.{Stmts, none, statement, mark, Configuration, before, becomes, is_ready}
-use Rattle.pr_script.specs.Tables.{place, row_at, step_at, with_row, meanings, IsRow, IsTable, opened_by, opened, configuration, IsPlaced, IsMachine}
+use Rattle.pr_script.specs.inside.Tables.{place, row_at, step_at, with_row, meanings, IsRow, IsTable, opened_by, opened, configuration, IsPlaced, IsMachine}
 use Rattle.pr_script.proofs.Settling.{no_mark_rests}
 
 -- ---- one row more

@@ -4,8 +4,8 @@ use Rattle.std.proofs.Common.{refl, ◌∙◌, arith}
 use Rattle.pr_script.specs.declared.walk.Open.{Open}
 use Rattle.pr_script.specs.Scripts.{Stmts, none, more, statement, mark, repeats, breaks, Configuration, before, turn, past_mark}
 use Rattle.pr_script.specs.Depths.{depth_of_all}
-use Rattle.pr_script.specs.Tables.{place, opened_by, opened, open_count, deepest, AreOpens}
-use Rattle.pr_script.specs.Walks.{Leads}
+use Rattle.pr_script.specs.inside.Tables.{place, opened_by, opened, open_count, deepest, AreOpens}
+use Rattle.pr_script.specs.inside.Walks.{Leads}
 use Rattle.pr_script.proofs.Settling.{settled-becomes, work-turn, work-past_mark}
 
 -- ---- the places that the open repeats name

@@ -1,3 +1,4 @@
+-- Agrees with docs/MODEL.md, 'Cost'.
 -- How many commands a script sends: at most its cost.
 use Rattle.std.specs.Prelude.{ℕ, ◌+◌, ◌*◌, List, [], ◌∷◌, Option, Some, None, max}
 use Rattle.pr_cdb.specs.declared.reply.Reply.{Reply}

@@ -1,3 +1,4 @@
+-- Agrees with docs/MODEL.md, 'Which scripts may be written'.
 -- How deep a script nests.
 use Rattle.std.specs.Prelude.{ℕ, ◌+◌, max}
 use Rattle.pr_script.specs.Scripts.{Stmt, Stmts, Arms, sends, repeats, breaks, stops, none, more, no_arm, arm}

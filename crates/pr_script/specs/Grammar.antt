@@ -1,3 +1,4 @@
+-- Agrees with docs/MODEL.md, 'Which scripts may be written'; docs/FORMATS.md, 'Limits'.
 -- Which scripts may be written: the grammar of statements, and its limits.
 use Rattle.std.specs.Prelude.{ℕ, Bool, true, false, ◌+◌, ◌==◌, ◌&&◌, ◌||◌, nat_lt, nat_le, List, [], ◌∷◌, ◌++◌, is_some}
 use Rattle.std.specs.List.{list_any}

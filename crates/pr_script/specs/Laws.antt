@@ -1,3 +1,4 @@
+-- Agrees with docs/MODEL.md, 'Scripts'.
 -- Laws of the language.
 use Rattle.std.specs.Prelude.{◌≡◌, ◌≤◌, ℕ, true, IsTrue, List, is_some}
 use Rattle.pr_cdb.specs.declared.reply.Reply.{Reply}

@@ -6,9 +6,5 @@ pub mod Depths
 pub mod Seen
 pub mod Names
 pub mod Grammar
-pub mod Climbs
-pub mod Tokens
-pub mod Tables
-pub mod Walks
-pub mod Laying
 pub mod Laws
+pub mod inside

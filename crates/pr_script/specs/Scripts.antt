@@ -1,3 +1,4 @@
+-- Agrees with docs/MODEL.md, 'Scripts'.
 -- Scripts as trees, and what is still to do of one.
 use Rattle.std.specs.Prelude.{ℕ, zero, suc, ◌+◌, ◌*◌, List, [], ◌∷◌, Option, Some, None, Bool, true, false, IsTrue, drop, codes}
 use Rattle.pr_cdb.specs.declared.command.Command.{Command}

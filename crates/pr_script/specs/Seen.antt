@@ -1,3 +1,4 @@
+-- Agrees with docs/MODEL.md, 'Scripts'.
 -- What the machine answers, as where its configuration stands.
 use Rattle.std.specs.Prelude.{Bool, true, false}
 use Rattle.pr_script.specs.declared.next.Next.{Next}

@@ -1,3 +1,4 @@
+-- Agrees with docs/MODEL.md, 'Taking a reply'.
 -- Which replies an arm matches, and what a script goes on with after a reply.
 use Rattle.std.specs.Prelude.{◌≡◌, ℕ, Bool, true, false, ◌==◌, ◌&&◌, [], ◌∷◌, Option, Some, None, option_map, if◌then◌else◌}
 use Rattle.std.specs.List.{list_any}

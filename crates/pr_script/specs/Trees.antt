@@ -1,3 +1,4 @@
+-- Agrees with docs/MODEL.md, 'Scripts'.
 -- A script's tree of values, as the statements that it has.
 use Rattle.std.specs.Prelude.{List, [], ◌∷◌}
 use Rattle.pr_script.specs.declared.script.Script.{Script}

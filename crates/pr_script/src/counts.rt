@@ -3,7 +3,7 @@
 ghost use Rattle.std.specs.Prelude.{◌≡◌, min, nat_le};
 ghost use Rattle.pr_script.specs.Trees.{script_of, statement_of, arms_in};
 ghost use Rattle.pr_script.specs.Grammar.{count_of, count_of_all, count_in_arms, lines_of, lines_of_all, lines_of_arms, rise_above};
-ghost use Rattle.pr_script.specs.Climbs.{climbed};
+ghost use Rattle.pr_script.specs.inside.Climbs.{climbed};
 
 use crate::script::{Arm, Script, Statement};
 

@@ -2,8 +2,8 @@
 
 ghost use Rattle.std.specs.Prelude.{◌≤◌, IfOk, length};
 ghost use Rattle.pr_script.specs.Trees.{statement_of, statements_in, arms_in};
-ghost use Rattle.pr_script.specs.Tables.{IsTable};
-ghost use Rattle.pr_script.specs.Laying.{IsLaid, IsStepLaid, AreArmsLaid};
+ghost use Rattle.pr_script.specs.inside.Tables.{IsTable};
+ghost use Rattle.pr_script.specs.inside.Laying.{IsLaid, IsStepLaid, AreArmsLaid};
 
 use crate::rows::{Jump, Row, Step};
 use crate::script::{Arm, Statement};

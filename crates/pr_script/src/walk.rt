@@ -3,8 +3,8 @@
 ghost use Rattle.std.specs.Prelude.{◌≡◌, ℕ, ◌<◌, ◌≤◌, List, IfSome, IfNone};
 ghost use Rattle.arrayvec.specs.ArrayVec.{array_vec_len};
 ghost use Rattle.pr_script.specs.Scripts.{Stmts, none, before, turn, past_mark, becomes, settled};
-ghost use Rattle.pr_script.specs.Tables.{place, meanings, opened, configuration, AreOpens, IsPlaced, IsMachine};
-ghost use Rattle.pr_script.specs.Walks.{Leads};
+ghost use Rattle.pr_script.specs.inside.Tables.{place, meanings, opened, configuration, AreOpens, IsPlaced, IsMachine};
+ghost use Rattle.pr_script.specs.inside.Walks.{Leads};
 
 use crate::rows::{Row, Step};
 use arrayvec::ArrayVec;

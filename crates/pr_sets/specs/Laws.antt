@@ -1,3 +1,4 @@
+-- Agrees with docs/VIEWS.md, 'What a view has'.
 -- What the sets of numbers are to one another: inclusion orders them, and a join is the least set that has both.
 use Rattle.std.specs.Prelude.{◌≡◌, ◌↔◌, ◌⊎◌, ℕ, false}
 use Rattle.std.specs.FinSet as set

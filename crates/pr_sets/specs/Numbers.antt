@@ -1,3 +1,4 @@
+-- Agrees with docs/VIEWS.md, 'What a view has'.
 -- Finite sets of small numbers.
 use Rattle.std.specs.Prelude.{◌≡◌, ℕ, ◌<◌, ◌≤◌, true, false}
 use Rattle.std.specs.Ordering.{nat_cmp}

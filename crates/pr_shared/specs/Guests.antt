@@ -1,3 +1,4 @@
+-- Agrees with docs/FORMATS.md, 'Running'.
 -- Who of a scenario is a guest.
 use Rattle.std.specs.Prelude.{Bool, List, map}
 use Rattle.pr_roles.specs.Scenarios.{Scenario}

@@ -1,3 +1,4 @@
+-- Agrees with docs/FORMATS.md, 'Running'.
 -- What was sent, by all and by one, and what ends a legal history.
 use Rattle.std.specs.Prelude.{◌≡◌, ℕ, ◌==◌, Bool, List, [], ◌∷◌, ◌++◌, Some, length, map}
 use Rattle.std.specs.List.{filter, range_with_len}

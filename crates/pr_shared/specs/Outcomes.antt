@@ -1,3 +1,4 @@
+-- Agrees with docs/FORMATS.md, 'Running'.
 -- What a run over threads comes to, and when a world is closed.
 use Rattle.std.specs.Prelude.{◌≡◌, ℕ, ◌≤◌, ◌==◌, Bool, true, false, IsTrue, List, [], Option, Some, None, length, map}
 use Rattle.std.specs.List.{list_all, range_with_len}

@@ -1,3 +1,4 @@
+-- Agrees with docs/FORMATS.md, 'Running'.
 -- What a run answers that came to no outcome.
 use Rattle.std.specs.Prelude.{ℕ, List}
 use Rattle.pr_roles.specs.declared.entry.Entry.{Entry}

@@ -1,3 +1,4 @@
+-- Agrees with docs/FORMATS.md, 'Running'.
 -- What a turn does to its seat.
 use Rattle.std.specs.Prelude.{Bool, true, false, List, [], ◌∷◌}
 use Rattle.pr_roles.specs.declared.entry.Entry.{Entry}

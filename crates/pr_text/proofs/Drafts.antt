@@ -11,7 +11,7 @@ use Rattle.pr_text.specs.Faults.{Fails}
 use Rattle.pr_text.specs.Declarations.{Declaration, Declared}
 use Rattle.pr_text.specs.Declaring.{declared_keys, number_of, start_fault, start_placed}
 use Rattle.pr_text.proofs.Steps.{fails_same}
-use Rattle.pr_text.specs.Drafts.{draft_seen}
+use Rattle.pr_text.specs.inside.Drafts.{draft_seen}
 
 pub found : (xs : List Draft) (h : ℕ) (d : Draft) → h < length xs → slice_get (map draft_seen xs) h ≡ Some (draft_seen (slice_index_or xs h d))
 found xs h d within = slice_get-map draft_seen xs h ∙ ap (λ o. option_map draft_seen o) (slice_get-get_or xs h d within)

@@ -13,7 +13,7 @@ use Rattle.pr_text.specs.Declarations.{WrittenTask, scripted, planned, Declarati
 use Rattle.pr_text.specs.Declaring.{declared_keys}
 use Rattle.pr_text.specs.Texts.{end_fault, end_fault_at}
 use Rattle.pr_text.specs.Readings.{WrittenNexus, task_written, nexus_written, nexus_declared, IsDeclaredBy}
-use Rattle.pr_text.specs.Sound.{IsTask, IsDeclaration, AreDeclarations, IsSound}
+use Rattle.pr_text.specs.inside.Sound.{IsTask, IsDeclaration, AreDeclarations, IsSound}
 use Rattle.pr_text.proofs.Trees.{both, whole_fits}
 
 -- ---- one host or guest

@@ -28,7 +28,7 @@ use Rattle.pr_text.specs.Declarations.{Opening, repeating, sending, WrittenTask,
 use Rattle.pr_text.specs.Items.{Wanted, nobody, single, everybody}
 use Rattle.pr_text.specs.Declaring.{declared_keys, number_of, keys_placed, nexus_placed, held_of, helds_onto, reservations_at, reservation_placed}
 use Rattle.pr_text.specs.Texts.{start_of, reservations_of}
-use Rattle.pr_text.specs.Sound.{Reached, at_first, may, may_arm, may_all, next, IsTask, IsDeclaration, AreDeclarations, IsPlace, IsSound}
+use Rattle.pr_text.specs.inside.Sound.{Reached, at_first, may, may_arm, may_all, next, IsTask, IsDeclaration, AreDeclarations, IsPlace, IsSound}
 use Rattle.pr_text.proofs.ItemTerms.{is_key, is_wanted}
 use Rattle.pr_text.proofs.Trees.{both, true_le}
 use Rattle.pr_text.proofs.SoundScripts.{ok_same, past, not_no, or_no, lt_true}

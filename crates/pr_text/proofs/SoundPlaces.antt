@@ -20,7 +20,7 @@ use Rattle.pr_text.specs.Items.{Item, keys_line, host_line, guest_line, start_li
 use Rattle.pr_text.specs.ScriptSteps.{script_step}
 use Rattle.pr_text.specs.Declaring.{declared_keys, number_of, with_nexus, on_nexus, at_number, at_name, start_fault, start_at, start_placed, codes_of, pending_at, pending_placed, generation_placed, role_at, role_placed, script_fault, begun_script, script_at, script_placed, plan_at, plan_placed}
 use Rattle.pr_text.specs.Placing.{placed_first, placed_outside, tasked, with_task, script_ended, placed_in_script, planned_step, placed_in_plan, placed_at, item_placed}
-use Rattle.pr_text.specs.Sound.{AreBegun, is_plan, IsTask, IsDeclaration, AreDeclarations, IsPlace, IsSound}
+use Rattle.pr_text.specs.inside.Sound.{AreBegun, is_plan, IsTask, IsDeclaration, AreDeclarations, IsPlace, IsSound}
 use Rattle.pr_text.proofs.ItemTerms.{is_item}
 use Rattle.pr_text.proofs.Trees.{both, le_true}
 use Rattle.pr_text.proofs.SoundScripts.{ok_same, past, not_no, or_no, kept, passes, skips, script_sound}

@@ -10,7 +10,7 @@ use Rattle.pr_text.specs.Declarations.{Place, before_all, outside, in_script, in
 use Rattle.pr_text.specs.Items.{Item, item_of}
 use Rattle.pr_text.specs.Declaring.{declared_keys}
 use Rattle.pr_text.specs.Texts.{line_placed, worded, said_placed, all_placed, AreRead}
-use Rattle.pr_text.specs.Sound.{IsPlace, IsSound}
+use Rattle.pr_text.specs.inside.Sound.{IsPlace, IsSound}
 use Rattle.pr_text.proofs.ItemTerms.{is_item, item_sound}
 use Rattle.pr_text.proofs.SoundScripts.{later_begun}
 use Rattle.pr_text.proofs.SoundPlaces.{placed_sound}

@@ -10,7 +10,7 @@ use Rattle.pr_script.specs.Grammar.{is_written, test_fits, count_of_arms, begins
 use Rattle.pr_text.specs.ScriptLines.{ScriptLine, send_at, arm_on, block_done, repeat_of, break_out, stop_with, statement_lines, body_lines, arms_lines}
 use Rattle.pr_text.specs.Declarations.{Opening, repeating, sending}
 use Rattle.pr_text.specs.ScriptSteps.{is_repeating, is_sending, awaits_arm}
-use Rattle.pr_text.specs.Sound.{Reached, may, may_state, may_all, is_statement, sends_in, AreWhole}
+use Rattle.pr_text.specs.inside.Sound.{Reached, may, may_state, may_all, is_statement, sends_in, AreWhole}
 
 pub both : (a b : Bool) → a ≡ true → b ≡ true → (a && b) ≡ true
 both a b p q = rw (p, q) refl

@@ -14,7 +14,7 @@ use Rattle.pr_text.specs.Faults.{and_then, unless}
 use Rattle.pr_text.specs.Declarations.{Declared, nothing}
 use Rattle.pr_text.specs.Texts.{line_placed, all_placed, end_fault, starts_somewhere, started, ended, finished, answer_of}
 use Rattle.pr_text.specs.Readings.{IsDeclaredBy, IsWrittenAs}
-use Rattle.pr_text.specs.Sound.{IsSound}
+use Rattle.pr_text.specs.inside.Sound.{IsSound}
 use Rattle.pr_text.specs.Laws.{WhatIsWrittenFits, FirstFaultDecides}
 use Rattle.pr_text.proofs.Answering.{start_same}
 use Rattle.pr_text.proofs.Fitting.{declared_fits}

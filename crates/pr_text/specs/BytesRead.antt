@@ -1,3 +1,4 @@
+-- Agrees with docs/FORMATS.md, 'Scenario text'.
 -- The bytes that are read from a reader, up to a limit.
 use Rattle.std.specs.Prelude.{ℕ, ◌≤◌, ◌<◌, List, length, Option}
 use Rattle.std.specs.Io.KnownBytes.{Consumes, IsAtEnd}

@@ -1,3 +1,4 @@
+-- Agrees with docs/FORMATS.md, 'The lines of a scenario'; docs/FORMATS.md, 'Statements'.
 -- The clauses of roles, and the arms of sends.
 use Rattle.std.specs.Prelude.{ℕ, if◌then◌else◌, List, [], ◌∷◌, codes, bytes_eq, Option, Some, None, option_map}
 use Rattle.pr_script.specs.declared.script.Test.{Test}

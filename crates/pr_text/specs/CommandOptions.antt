@@ -1,3 +1,4 @@
+-- Agrees with docs/FORMATS.md, 'COMMAND'.
 -- The options that spell a PERSISTENT RESERVE command, as in the manual of `sg_persist`.
 use Rattle.std.specs.Prelude.{ℕ, Bool, ◌&&◌, if◌then◌else◌, List, [], ◌∷◌, codes, bytes_eq, Option, Some, None, is_none, unwrap_or, option_map}
 use Rattle.std.specs.Option.{option_or}

@@ -1,3 +1,4 @@
+-- Agrees with docs/FORMATS.md, 'COMMAND'.
 -- The commands that words spell.
 use Rattle.std.specs.Prelude.{ℕ, if◌then◌else◌, List, [], ◌∷◌, codes, bytes_eq, Option, Some, None, unwrap_or, option_map}
 use Rattle.pr_cdb.specs.declared.command.Command.{Command}

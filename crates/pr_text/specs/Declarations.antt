@@ -1,3 +1,4 @@
+-- Agrees with docs/FORMATS.md, 'The lines of a scenario'.
 -- What the lines so far declare.
 use Rattle.std.specs.Prelude.{ℕ, Bool, List, [], Option, None}
 use Rattle.pr_cdb.specs.declared.command.Command.{Command}

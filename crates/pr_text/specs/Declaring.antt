@@ -1,3 +1,4 @@
+-- Agrees with docs/FORMATS.md, 'The lines of a scenario'.
 -- What a line outside scripts and plans declares.
 use Rattle.std.specs.Prelude.{ℕ, Bool, false, ◌==◌, ◌&&◌, ◌||◌, not, nat_lt, nat_le, if◌then◌else◌, List, [], ◌∷◌, ◌++◌, length, Option, Some, None, is_some, option_map, unwrap_or, position, bytes_eq, fold, slice_set, Result, Ok, Err}
 use Rattle.std.specs.FinSet as set

@@ -1,3 +1,4 @@
+-- Agrees with docs/FORMATS.md, 'Faults'.
 -- Steps of which each may have a fault, and what a call answers that may also lack memory.
 use Rattle.std.specs.Prelude.{◌≡◌, Option, Some, None, Result, Ok, Err}
 use Rattle.pr_text.specs.declared.fault.ReadError.{ReadError}

@@ -1,3 +1,4 @@
+-- Agrees with docs/FORMATS.md, 'The lines of a scenario'.
 -- What one line of a text says.
 use Rattle.std.specs.Prelude.{ℕ, ◌==◌, if◌then◌else◌, List, [], ◌∷◌, ◌++◌, length, take, drop, slice_index, codes, bytes_eq, Option, Some, None, option_map}
 use Rattle.pr_cdb.specs.declared.command.Kind.{Kind}

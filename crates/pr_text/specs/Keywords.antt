@@ -1,3 +1,4 @@
+-- Agrees with docs/FORMATS.md, 'The lines of a scenario'.
 -- The words that lines begin with.
 use Rattle.std.specs.Prelude.{ℕ, if◌then◌else◌, List, codes, bytes_eq, Option, Some, None}
 use Rattle.pr_text.specs.declared.keyword.Keyword.{Keyword}

@@ -1,3 +1,4 @@
+-- Agrees with docs/FORMATS.md, 'Scenario text'.
 -- Laws of the language.
 use Rattle.std.specs.Prelude.{◌≡◌, ℕ, List, ◌++◌, Err}
 use Rattle.pr_roles.specs.Scenarios.{Scenario}

@@ -1,3 +1,4 @@
+-- Agrees with docs/FORMATS.md, 'Faults'.
 -- What the next line makes of what is declared so far.
 use Rattle.std.specs.Prelude.{ℕ, true, false, ◌==◌, not, nat_le, if◌then◌else◌, List, [], ◌∷◌, ◌++◌, length, Some, slice_set, Result, Ok, Err}
 use Rattle.std.specs.List.{slice_get}

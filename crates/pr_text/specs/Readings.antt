@@ -1,3 +1,4 @@
+-- Agrees with docs/FORMATS.md, 'Scenario text'.
 -- The scenario that a text is.
 use Rattle.std.specs.Prelude.{◌≡◌, ℕ, List, [], map, Option, unwrap_or, Result, Ok, Err}
 use Rattle.pr_attention.specs.Attentions.{Codes, no_code}

@@ -1,3 +1,4 @@
+-- Agrees with docs/FORMATS.md, 'Statements'.
 -- The lines that a script is written as, and what the reader makes of them.
 use Rattle.std.specs.Prelude.{◌≡◌, ℕ, true, List, [], ◌∷◌, Result, Ok}
 use Rattle.pr_script.specs.Scripts.{Stmts}

@@ -1,3 +1,4 @@
+-- Agrees with docs/FORMATS.md, 'The lines of a scenario'.
 -- The lines that a scenario is written as, and what the reader makes of them.
 use Rattle.std.specs.Prelude.{◌≡◌, ℕ, List, [], ◌∷◌, ◌++◌, map, filter, Option, Some, None, Result, Ok}
 use Rattle.std.specs.FinSet as set

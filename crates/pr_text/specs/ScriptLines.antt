@@ -1,3 +1,4 @@
+-- Agrees with docs/FORMATS.md, 'Statements'.
 -- The lines of a script, and the statements that are written as them.
 use Rattle.std.specs.Prelude.{ℕ, List, [], ◌∷◌, ◌++◌}
 use Rattle.pr_cdb.specs.declared.command.Command.{Command}

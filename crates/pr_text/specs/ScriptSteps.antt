@@ -1,3 +1,4 @@
+-- Agrees with docs/FORMATS.md, 'Statements'.
 -- What the next line makes of a script that is open.
 use Rattle.std.specs.Prelude.{ℕ, Bool, true, false, ◌+◌, ◌==◌, ◌&&◌, ◌||◌, not, nat_le, if◌then◌else◌, List, [], ◌∷◌, ◌++◌, drop, count_by, Option, Some, None, Result, Ok, Err}
 use Rattle.pr_cdb.specs.declared.command.Command.{Command}

@@ -1,3 +1,4 @@
+-- Agrees with docs/FORMATS.md, 'Lines and words'.
 -- How a line is cut into words.
 use Rattle.std.specs.Prelude.{ℕ, Bool, ◌==◌, ◌||◌, ◌&&◌, not, nat_le, List, [], ◌∷◌, length, slice_index, Option, Some, None, filter, take_while}
 use Rattle.std.specs.List.{slice_split, list_all}

@@ -1,3 +1,4 @@
+-- Agrees with docs/FORMATS.md, 'Faults'.
 -- What a text declares, or its one fault.
 use Rattle.std.specs.Prelude.{◌≡◌, ℕ, Bool, ◌+◌, ◌==◌, ◌&&◌, not, nat_lt, if◌then◌else◌, List, [], ◌∷◌, length, map, Option, Some, None, is_some, is_none, option_map, unwrap_or, Result, Ok, Err}
 use Rattle.std.specs.Str.Lines.{lines}

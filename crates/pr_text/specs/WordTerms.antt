@@ -1,3 +1,4 @@
+-- Agrees with docs/FORMATS.md, 'Terms'.
 -- The terms that words are: names, keys, numbers, types and codes.
 use Rattle.std.specs.Prelude.{ℕ, ◌+◌, ◌-◌, ◌*◌, ◌==◌, ◌&&◌, nat_lt, nat_le, min, if◌then◌else◌, List, length, take, drop, slice_index, codes, Option, Some, None, unwrap_or, option_map, fold, bytes_eq}
 use Rattle.std.specs.List.{list_all}

@@ -3,7 +3,7 @@
 ghost use Rattle.std.specs.Prelude.{◌≡◌, ◌<◌, IfSome, length, position, bytes_eq};
 ghost use Rattle.pr_text.specs.Faults.{Gives};
 ghost use Rattle.pr_text.specs.Declaring.{start_fault, script_fault};
-ghost use Rattle.pr_text.specs.Drafts.{draft_seen};
+ghost use Rattle.pr_text.specs.inside.Drafts.{draft_seen};
 ghost use Rattle.pr_text.specs.Placing.{planned_step};
 
 use crate::draft::{Draft, pending_of};
@@ -56,11 +56,11 @@ impl Builder {
     ghost use Rattle.std.specs.Prelude.{◌≡◌, ◌<◌, IfOk, IfSome, [], length, map, option_map, position, bytes_eq};
     ghost use Rattle.pr_text.specs.declared.builder.Place.TheVariants.{Outside};
     ghost use Rattle.pr_text.specs.Faults.{Gives};
-    ghost use Rattle.pr_text.specs.ItemValues.{seen, wanted_seen};
+    ghost use Rattle.pr_text.specs.inside.ItemValues.{seen, wanted_seen};
     ghost use Rattle.pr_text.specs.Declarations.{nothing};
     ghost use Rattle.pr_text.specs.Declaring.{declared_keys, number_of, held_of, helds_onto, keys_placed, nexus_placed, start_placed, pending_placed, reservation_placed, generation_placed, role_placed, script_placed, plan_placed};
-    ghost use Rattle.pr_text.specs.Drafts.{draft_seen, task_seen, declared_by};
-    ghost use Rattle.pr_text.specs.OpenScripts.{open_seen};
+    ghost use Rattle.pr_text.specs.inside.Drafts.{draft_seen, task_seen, declared_by};
+    ghost use Rattle.pr_text.specs.inside.OpenScripts.{open_seen};
     ghost use Rattle.pr_text.specs.Placing.{placed_first, placed_outside, placed_in_script, placed_in_plan, script_ended, with_task, item_placed};
 
     /// Nothing is declared yet.

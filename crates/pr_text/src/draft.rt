@@ -22,7 +22,7 @@ pub struct Draft {
 
 impl Draft {
     ghost use Rattle.std.specs.Prelude.{◌≡◌, [], None};
-    ghost use Rattle.pr_text.specs.Drafts.{draft_seen};
+    ghost use Rattle.pr_text.specs.inside.Drafts.{draft_seen};
 
     /// A host or guest of which nothing more is said yet.
     pub fn new(alloc: Global, name: Word, line: u32, is_guest: bool) -> Self

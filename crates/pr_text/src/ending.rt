@@ -2,7 +2,7 @@
 
 ghost use Rattle.std.specs.Prelude.{◌≡◌, [], ◌∷◌, IfOk, map, option_map, unwrap_or};
 ghost use Rattle.pr_roles.specs.Scenarios.{nexus_of};
-ghost use Rattle.pr_text.specs.Drafts.{draft_seen};
+ghost use Rattle.pr_text.specs.inside.Drafts.{draft_seen};
 ghost use Rattle.pr_text.specs.Texts.{first_unscripted, whole_fault};
 ghost use Rattle.pr_text.specs.Readings.{nexus_written, nexus_declared};
 
@@ -17,8 +17,8 @@ impl Builder {
     ghost use Rattle.std.specs.Prelude.{◌≡◌, ◌<◌, ◌^◌, IfOk, IfErr};
     ghost use Rattle.pr_roles.specs.Scenarios.{scenario_of};
     ghost use Rattle.pr_text.specs.Faults.{Fails};
-    ghost use Rattle.pr_text.specs.Drafts.{declared_by};
-    ghost use Rattle.pr_text.specs.Sound.{IsSound};
+    ghost use Rattle.pr_text.specs.inside.Drafts.{declared_by};
+    ghost use Rattle.pr_text.specs.inside.Sound.{IsSound};
     ghost use Rattle.pr_text.specs.Texts.{end_fault, ended};
     ghost use Rattle.pr_text.specs.Readings.{IsDeclaredBy, IsWhole};
 

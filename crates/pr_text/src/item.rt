@@ -4,7 +4,7 @@ ghost use Rattle.std.specs.Prelude.{◌≡◌, map, option_map, IfOk};
 ghost use Rattle.pr_text.specs.TextLines.{words};
 ghost use Rattle.pr_text.specs.WordTerms.{key_of, code_of};
 ghost use Rattle.pr_text.specs.Items.{listed, alternative_of, everybody_of, single_of, wanted_of, name_in, only_name, budget_in, fence_said, start_said, pending_said, role_said, script_said, said_simply, said_after, item_of, bare_said, keys_line, reservation_line};
-ghost use Rattle.pr_text.specs.ItemValues.{wanted_seen, seen};
+ghost use Rattle.pr_text.specs.inside.ItemValues.{wanted_seen, seen};
 
 use crate::clauses::{clause_of, test_of};
 use crate::cutting::{is, is_end, next_word, only};

@@ -4,7 +4,7 @@ ghost use Rattle.std.specs.Prelude.{◌≡◌, [], ◌∷◌, ◌++◌, IfOk};
 ghost use Rattle.pr_text.specs.ScriptSteps.{stands_under, is_test_declared, is_spelled, is_repeating, arm_fault};
 ghost use Rattle.pr_script.specs.Trees.{statement_of};
 ghost use Rattle.pr_text.specs.ScriptLines.{statement_lines, block_done};
-ghost use Rattle.pr_text.specs.OpenScripts.{block_by, opener_lines, lines_in};
+ghost use Rattle.pr_text.specs.inside.OpenScripts.{block_by, opener_lines, lines_in};
 
 use crate::fault::{ReadError, Which};
 use crate::item::Item;
@@ -70,8 +70,8 @@ pub struct OpenScript {
 impl OpenScript {
     ghost use Rattle.std.specs.Prelude.{◌≡◌, ◌==◌, false, IfOk, None, Some, [], length, count_by};
     ghost use Rattle.pr_text.specs.Faults.{Gives};
-    ghost use Rattle.pr_text.specs.ItemValues.{seen};
-    ghost use Rattle.pr_text.specs.OpenScripts.{open_seen, opened_in};
+    ghost use Rattle.pr_text.specs.inside.ItemValues.{seen};
+    ghost use Rattle.pr_text.specs.inside.OpenScripts.{open_seen, opened_in};
     ghost use Rattle.pr_text.specs.ScriptSteps.{awaits_arm, awaits_more, is_full, is_repeating, is_sending, send_step, repeat_step, break_step, stop_step, on_step, done_step, script_step, is_in_repeat};
 
     /// A script without statements.

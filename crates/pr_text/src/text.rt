@@ -5,7 +5,7 @@ ghost use Rattle.std.specs.Str.Lines.{lines};
 ghost use Rattle.pr_roles.specs.Scenarios.{scenario_of};
 ghost use Rattle.pr_text.specs.Faults.{Gives, Fails};
 ghost use Rattle.pr_text.specs.Declarations.{nothing};
-ghost use Rattle.pr_text.specs.Drafts.{declared_by};
+ghost use Rattle.pr_text.specs.inside.Drafts.{declared_by};
 ghost use Rattle.pr_text.specs.Texts.{AreRead, line_placed, all_placed, answer_of};
 ghost use Rattle.pr_text.specs.BytesRead.{LosesUpTo};
 ghost use Rattle.pr_text.specs.Readings.{IsWrittenAs, IsRead};

@@ -14,7 +14,7 @@ use Rattle.std.proofs.lemmas.Bool.Decides.{nat_tests, eqb_tells}
 use Rattle.std.proofs.lemmas.List.{get_or-set_same, get_or-set_other}
 use Rattle.pr_attention.specs.Attentions.{Codes, no_code}
 use Rattle.pr_attention.proofs.Sets.{contains-insert_code, contains-remove_code}
-use Rattle.pr_unit.specs.Told.{AreBelow}
+use Rattle.pr_unit.specs.inside.Told.{AreBelow}
 use Rattle.pr_unit.specs.Attentions.{pair_cmp, Pairs, each_with, of_host, pairs_where, table_pairs, place}
 
 pub pair_cmp_total : IsTotalOrder pair_cmp

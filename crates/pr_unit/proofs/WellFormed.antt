@@ -19,7 +19,7 @@ use Rattle.pr_unit.specs.UnitStates.{UnitState, IsWellFormed, told}
 use Rattle.pr_unit.specs.Conflicts.{lacks_key, command_conflicts}
 use Rattle.pr_unit.specs.Faults.{illegal, preempt_fault, command_fault}
 use Rattle.pr_unit.specs.Laws.{EffectsAreWellFormed}
-use Rattle.pr_unit.specs.Told.{AreBelow, TellsBelow}
+use Rattle.pr_unit.specs.inside.Told.{AreBelow, TellsBelow}
 use Rattle.pr_unit.proofs.Pairs.{contains-union-pairs, contains-each_with}
 
 first_false : (a b : Bool) → (a || b) ≡ false → a ≡ false

@@ -1,3 +1,4 @@
+-- Agrees with SAM-5, 'Unit attention conditions'; docs/MODEL.md, 'Attentions'.
 -- Pending unit attentions, as a set of pairs of a host and a code (SAM-5, 'Unit attention conditions').
 -- A code is the additional sense code times 256, and its qualifier.
 use Rattle.std.specs.Prelude.{ℕ, zero, suc, List, [], ◌∷◌, map, slice_index_or}

@@ -1,3 +1,4 @@
+-- Agrees with SPC-4, 'Reservations'; docs/MODEL.md, 'READ and WRITE in conflict'.
 -- Which commands end in RESERVATION CONFLICT (SPC-4, 'Reservations': the tables of commands, and of
 -- PERSISTENT RESERVE OUT service actions, that are allowed in the presence of reservations).
 use Rattle.std.specs.Prelude.{ℕ, Bool, false, not, ◌==◌, ◌&&◌, ◌||◌, Option, Some, None}

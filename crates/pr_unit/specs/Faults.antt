@@ -1,3 +1,4 @@
+-- Agrees with SPC-4, 'Releasing', 'Preempting'; docs/MODEL.md, 'Faults of bytes'.
 -- Which requests that do not conflict end in CHECK CONDITION for a fault of their own, and with which
 -- sense (SPC-4, 'Releasing', 'Preempting'; SBC-3, 'READ (10)' and 'WRITE (10) command').
 use Rattle.std.specs.Prelude.{ℕ, ◌+◌, not, ◌==◌, ◌&&◌, nat_lt, if◌then◌else◌, Option, Some, None, is_none}

@@ -1,3 +1,4 @@
+-- Agrees with docs/FORMATS.md, 'Auditing'.
 -- Whether the unit may answer a request with a given reply, and the state that it is in then.
 use Rattle.std.specs.Prelude.{◌≡◌, ℕ, Bool, true, false, IsTrue, Result, Ok, Err}
 use Rattle.pr_cdb.specs.declared.command.Command.{Command}

@@ -1,3 +1,4 @@
+-- Agrees with docs/MODEL.md, 'What a failed command changes'.
 -- What holds of every step.
 use Rattle.std.specs.Prelude.{◌≡◌, ◌≢◌, ℕ, ◌<◌, ◌⊎◌, Bool, true, false, IsTrue, None, Ok}
 use Rattle.pr_cdb.specs.declared.command.Command.{Command}

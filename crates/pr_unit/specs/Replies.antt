@@ -1,3 +1,4 @@
+-- Agrees with SAM-5, 'Status'; docs/FORMATS.md, 'Reply bytes'.
 -- What the logical unit answers (SAM-5, 'Status').
 use Rattle.std.specs.Prelude.{ℕ, Bool, true, false, if◌then◌else◌, List, [], Option, Some, None, unwrap_or}
 use Rattle.std.specs.FinMap as map

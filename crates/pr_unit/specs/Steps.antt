@@ -1,3 +1,4 @@
+-- Agrees with SAM-5, 'Status precedence'; docs/MODEL.md, 'The order in which a request is answered'.
 -- What the logical unit may answer to a request, and the state that it is in then.
 use Rattle.std.specs.Prelude.{◌≡◌, ℕ, ◌≤◌, Bool, true, false, IsTrue, if◌then◌else◌, Option, Some, None, Result, Ok, Err}
 use Rattle.pr_cdb.specs.declared.reply.Sense.{Sense}

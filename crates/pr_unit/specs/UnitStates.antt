@@ -1,3 +1,4 @@
+-- Agrees with docs/MODEL.md, 'Well formed states'.
 -- The state of a logical unit: its registrations, reservation and generation, and the pending
 -- attentions of each host.
 use Rattle.std.specs.Prelude.{◌≡◌, ℕ, ◌<◌, Bool, true, IsTrue, List, refl}

@@ -5,7 +5,7 @@ ghost use Rattle.std.specs.FinSet as set;
 ghost use Rattle.pr_attention.specs.Attentions.{code_of};
 ghost use Rattle.pr_unit.specs.Attentions.{each_with, table_pairs};
 ghost use Rattle.pr_unit.specs.UnitStates.{has_any, told};
-ghost use Rattle.pr_unit.specs.Told.{AreBelow, TellsBelow, IsLowestOf, HasNone};
+ghost use Rattle.pr_unit.specs.inside.Told.{AreBelow, TellsBelow, IsLowestOf, HasNone};
 
 use pr_attention::{Attention, Pending};
 use pr_registry::{Change, HostSet};

@@ -1,3 +1,4 @@
+-- Agrees with docs/VERDICTS.md, '`accepted`'.
 -- What outlines promise, and what safety promises of the next event.
 use Rattle.std.specs.Prelude.{◌≡◌, ℕ, false, List, [], ◌∷◌, ◌++◌}
 use Rattle.pr_unit.specs.UnitStates.{UnitState}

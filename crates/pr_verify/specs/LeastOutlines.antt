@@ -1,3 +1,4 @@
+-- Agrees with docs/VERDICTS.md, 'What a refusal promises'.
 -- The least that a host has to reckon with: what each of its sound outlines has.
 use Rattle.std.specs.Prelude.{◌≡◌, ℕ, Option, Some, None}
 use Rattle.pr_script.specs.Scripts.{Stmts}

@@ -1,3 +1,4 @@
+-- Agrees with docs/VERDICTS.md, '`accepted`'.
 -- Outlines: what a host can know of the unit at each place of its script. A sound outline is an inductive invariant, and
 -- one that fits shows what safety asks of the host.
 use Rattle.std.specs.Prelude.{◌≡◌, ◌≢◌, ℕ, ◌<◌, ◌≤◌, ◌==◌, true, if◌then◌else◌, List, [], ◌∷◌, length, map, Option, Some, None, IsSome, IsTrue}

@@ -1,3 +1,4 @@
+-- Agrees with docs/VERDICTS.md, '`accepted`'.
 -- The places of a script: its sends, each with the lines at which the script may be ready once it took an arm. They carry
 -- no counts: the end of a repeat's body leads to its start and past it, and only past it where the repeat is run once.
 use Rattle.std.specs.Prelude.{ℕ, zero, suc, List, [], ◌∷◌, ◌++◌, Option}

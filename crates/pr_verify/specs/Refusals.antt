@@ -1,3 +1,4 @@
+-- Agrees with docs/VERDICTS.md, 'What a refusal promises'.
 -- Why an outline does not carry a host's script, and which of the reasons comes first.
 use Rattle.std.specs.Prelude.{◌≡◌, ◌⊎◌, ℕ, ◌+◌, ◌*◌, ◌<◌, ◌≤◌, ◌==◌, true, false, if◌then◌else◌, List, [], ◌∷◌, map, min, Option, Some, None}
 use Rattle.std.specs.List.{Contains}

@@ -1,3 +1,4 @@
+-- Agrees with docs/VERDICTS.md, 'Why: `fence outline`'.
 -- The outline and the table that values of the program are.
 use Rattle.std.specs.Prelude.{◌≡◌, ℕ, length, map, Option, Some, None}
 use Rattle.std.specs.List.{All}

@@ -1,3 +1,4 @@
+-- Agrees with docs/VERDICTS.md, 'Why: `fence outline`'.
 -- What is known at each send of a script, for whoever wants to see why its scenario is accepted or refused.
 use Rattle.std.specs.Prelude.{◌≡◌, ◌↔◌, ℕ, ◌<◌, Bool, true, false, IsTrue, List, length, map, Option, Some, None}
 use Rattle.std.specs.List.{All, AllPairs, AllZip, Contains, filter, range_with_len}

@@ -1,3 +1,4 @@
+-- Agrees with docs/VERDICTS.md, 'What a refusal promises'.
 -- Why a scenario is refused: the first reason that the least sound outlines show.
 use Rattle.std.specs.Prelude.{◌≡◌, ℕ, ◌<◌, min, Some}
 use Rattle.pr_script.specs.Scripts.{Stmts}

@@ -1,3 +1,4 @@
+-- Agrees with docs/VIEWS.md, 'What a view has'.
 -- What is possible of a logical unit, as numbers: a nexus's registration, the reservation, and the unit
 -- attentions that are pending for the host whose view it is.
 use Rattle.std.specs.Prelude.{◌≡◌, ℕ, zero, suc, ◌+◌, ◌*◌, ◌<◌, ◌≤◌, List, length, Option, Some, None}

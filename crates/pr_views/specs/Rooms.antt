@@ -1,3 +1,4 @@
+-- Agrees with docs/VIEWS.md, 'What a view has'.
 -- The view that a value of the program is.
 use Rattle.std.specs.Prelude.{◌≡◌, ℕ, ◌+◌, ◌<◌, ◌≤◌, Bool, true, false, List, length}
 use Rattle.std.specs.FinSet as set

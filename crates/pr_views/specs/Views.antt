@@ -1,3 +1,4 @@
+-- Agrees with docs/VIEWS.md, 'What a view has'.
 -- What a host can know of the logical unit. A view says what is possible of each registration, of the
 -- reservation and of the owner's attentions, each by itself, and so shows every well formed state whose fields
 -- are among its possibilities. Of PRGENERATION and of what is pending for others it says nothing.

@@ -13,7 +13,7 @@ use Rattle.pr_roles.specs.Scenarios.{Scenario, Task, Scripted, Planned, role}
 use Rattle.pr_roles.specs.Worlds.{Control, Going, Trapped, Free, Host, Guest, is_guest, is_guest_task, standing_of, taken}
 use Rattle.pr_roles.specs.Schedules.{is_held_back}
 use Rattle.pr_world.specs.Courses.{HappensBy, Seat, StandsFor, is_free, is_planned, seat}
-use Rattle.pr_world.specs.Turns.{Acts, ActsAs, GuestActs, HostActs, SendsOr}
+use Rattle.pr_world.specs.inside.Turns.{Acts, ActsAs, GuestActs, HostActs, SendsOr}
 use Rattle.pr_world.proofs.Spelled.{are_bytes, are_short}
 use Rattle.pr_world.proofs.Seats.{at_seat, control_at, has_task, rests, with_seat, world_after, world_by}
 

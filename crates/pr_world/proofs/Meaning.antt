@@ -14,7 +14,7 @@ use Rattle.pr_roles.specs.Worlds.{Control, Going, Trapped, Free, control, standi
 use Rattle.pr_roles.specs.Schedules.{Schedule, GuestTurn, TurnBy, Turn, is_held_back, plan}
 use Rattle.pr_world.specs.Courses.{Seat, StandsFor, is_free, is_planned, schedule_by}
 use Rattle.pr_world.specs.StepAnswers.{IsStopped, IsStoppedBy, PassesOver}
-use Rattle.pr_world.specs.Turns.{Doing, sends, stops, is_trapped, is_done, passes, host_does, does, does_as}
+use Rattle.pr_world.specs.inside.Turns.{Doing, sends, stops, is_trapped, is_done, passes, host_does, does, does_as}
 use Rattle.pr_world.proofs.Seats.{control_at, has_task}
 use Rattle.pr_world.proofs.Turning.{length-tasks}
 

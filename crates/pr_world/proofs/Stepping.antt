@@ -16,7 +16,7 @@ use Rattle.pr_world.specs.declared.turn.Turn.{Turn}
 use Rattle.pr_world.specs.declared.turn.Turn.TheVariants as turn
 use Rattle.pr_world.specs.Courses.{HappensBy, IsReached, StandsFor, schedule_of, seat_of}
 use Rattle.pr_world.specs.StepAnswers.{IfStopped, IfHeld, IsStopped, PassesOver}
-use Rattle.pr_world.specs.Turns.{does, entry_in, sends, stops, is_done, passes, seen}
+use Rattle.pr_world.specs.inside.Turns.{does, entry_in, sends, stops, is_done, passes, seen}
 use Rattle.pr_world.specs.inside.Workings.{IsAtWork}
 use Rattle.pr_world.proofs.Keeping.{turn_has_room}
 use Rattle.pr_world.proofs.Meaning.{HasItsTask, has_its_task, means, stopped_is, stopped_rests, done_is, done_rests, passed_over}

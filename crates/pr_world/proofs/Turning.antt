@@ -26,7 +26,7 @@ use Rattle.pr_world.proofs.Seats.{at_seat, control_at, has_task, plan_at, rests,
 use Rattle.pr_world.proofs.Happening.{happens_at_seat}
 use Rattle.pr_world.specs.declared.act.Act.{Act}
 use Rattle.pr_world.specs.declared.act.Act.TheVariants as act
-use Rattle.pr_world.specs.Turns.{Acts, ActsAs, GuestActs, HostActs, SendsOr, Doing, sends as sending, seen, entry_in, does, does_as}
+use Rattle.pr_world.specs.inside.Turns.{Acts, ActsAs, GuestActs, HostActs, SendsOr, Doing, sends as sending, seen, entry_in, does, does_as}
 
 -- ---- hosts
 

@@ -1,3 +1,4 @@
+-- Agrees with docs/FORMATS.md, 'Auditing'.
 -- What an audit says of a history.
 use Rattle.std.specs.Prelude.{◌≡◌, ◌↔◌, ℕ, ◌≤◌, ◌<◌, List, Some, length, take}
 use Rattle.pr_unit.specs.UnitStates.{UnitState}

@@ -1,3 +1,4 @@
+-- Agrees with docs/FORMATS.md, 'Replaying'.
 -- A scenario at work: a world, and what is left of each guest's plan.
 use Rattle.std.specs.Prelude.{◌≡◌, ℕ, ◌≤◌, Bool, true, false, List, [], ◌∷◌, ◌++◌, Option, Some, None, length, map}
 use Rattle.pr_cdb.specs.declared.command.Command.{Command}

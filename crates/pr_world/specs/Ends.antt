@@ -1,3 +1,4 @@
+-- Agrees with docs/FORMATS.md, 'Trace text'.
 -- How hosts and guests stand at the end of a run.
 use Rattle.std.specs.Prelude.{ℕ, Bool, true, false, List, [], ◌∷◌, length, Option, Some, None}
 use Rattle.pr_cdb.specs.declared.command.Command.{Command}

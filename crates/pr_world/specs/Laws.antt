@@ -1,3 +1,4 @@
+-- Agrees with docs/MODEL.md, 'Safe scenarios and legal histories'.
 -- What holds of every replay and of every schedule: the history of a replay is legal, and of a safe scenario they keep what
 -- safety says.
 use Rattle.std.specs.Prelude.{◌≡◌, ℕ, ◌≤◌, false, List, Some, slice_index}

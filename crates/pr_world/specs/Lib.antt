@@ -1,7 +1,6 @@
 pub mod Audits
 pub mod Ends
 pub mod Courses
-pub mod Turns
 pub mod Replays
 pub mod Laws
 pub mod Rooms

@@ -1,3 +1,4 @@
+-- Agrees with docs/MODEL.md, 'Worlds, events and runs'.
 -- How far a scenario has come.
 use Rattle.pr_roles.specs.declared.parts.Parts.{Parts}
 use Rattle.pr_roles.specs.Schedules.{Schedule}

@@ -1,3 +1,4 @@
+-- Agrees with docs/FORMATS.md, 'Replaying'.
 -- What a replay comes to.
 use Rattle.std.specs.Prelude.{◌≡◌, ℕ, List, Some, length, map}
 use Rattle.std.specs.List.{list_any, range_with_len}

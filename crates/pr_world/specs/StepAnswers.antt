@@ -1,3 +1,4 @@
+-- Agrees with docs/MODEL.md, 'Worlds, events and runs'.
 -- What a step answers, and what it says.
 use Rattle.std.specs.Prelude.{◌≡◌, ℕ, true, List, [], ◌∷◌, Option, Some, None, codes, slice_set}
 use Rattle.pr_cdb.specs.declared.command.Command.{Command}

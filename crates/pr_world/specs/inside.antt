@@ -1,3 +1,4 @@
 pub mod Auditing
 pub mod ProgressCodes
 pub mod Workings
+pub mod Turns

@@ -1,7 +1,7 @@
 //! What a host or guest does in its turn.
 
 ghost use Rattle.std.specs.Prelude.{◌≡◌, option_map};
-ghost use Rattle.pr_world.specs.Turns.{entry_in};
+ghost use Rattle.pr_world.specs.inside.Turns.{entry_in};
 
 use pr_roles::Entry;
 use pr_script::Word;

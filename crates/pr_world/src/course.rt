@@ -6,7 +6,7 @@ ghost use Rattle.pr_roles.specs.Scenarios.{scenario_of};
 ghost use Rattle.pr_roles.specs.Schedules.{Turn, plan};
 ghost use Rattle.pr_roles.specs.Worlds.{control, is_trapped, sent};
 ghost use Rattle.pr_world.specs.Courses.{seat_of, seat_from, schedule_of, HappensBy, IsReached, StandsFor};
-ghost use Rattle.pr_world.specs.Turns.{seen as act_seen, sends, does, entry_in};
+ghost use Rattle.pr_world.specs.inside.Turns.{seen as act_seen, sends, does, entry_in};
 ghost use Rattle.pr_world.specs.Ends.{seen, ending};
 ghost use Rattle.pr_world.specs.Replays.{IsEndOf};
 

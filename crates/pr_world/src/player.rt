@@ -6,7 +6,7 @@ ghost use Rattle.pr_world.specs.Courses.{seat_of, seat_from, IsShort, IsSentHere
 ghost use Rattle.pr_world.specs.Ends.{ending, seen};
 ghost use Rattle.pr_roles.specs.Worlds.{is_trapped};
 ghost use Rattle.pr_roles.specs.Schedules.{is_held_back};
-ghost use Rattle.pr_world.specs.Turns.{Acts, entry_in, seen as act_seen, does_as};
+ghost use Rattle.pr_world.specs.inside.Turns.{Acts, entry_in, seen as act_seen, does_as};
 
 use crate::act::Act;
 use crate::end::End;

@@ -2,7 +2,7 @@
 use Rattle.std.proofs.Common.{◌≡◌, Some, take}
 use Rattle.pr_script.specs.Trees.{statements_in, arms_in}
 use Rattle.pr_script.specs.Grammar.{lines_of_all, lines_of_arms}
-use Rattle.pr_script.specs.Climbs.{climbed}
+use Rattle.pr_script.specs.inside.Climbs.{climbed}
 use Rattle.pr_script.proofs.counts.+lines.Given as goal
 
 abbrev pub invariant-last_line-loop-statement : goal.invariant-last_line-loop-statement

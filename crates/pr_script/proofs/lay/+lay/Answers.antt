@@ -1,7 +1,7 @@
 -- A step of each kind, and one statement or arm more.
 use Rattle.std.proofs.Common.{◌≡◌, ◌+◌, ◌-◌, take, drop, ap, sym, ◌∙◌, subst, arith}
 use Rattle.pr_script.specs.Trees.{statement_of, statements_in, arms_in}
-use Rattle.pr_script.specs.Laying.{IsLaid, AreArmsLaid}
+use Rattle.pr_script.specs.inside.Laying.{IsLaid, AreArmsLaid}
 use Rattle.pr_script.proofs.Equations.{tree_send, tree_repeat}
 use Rattle.pr_script.proofs.Laid.{laid_more, arms_laid_more, send_laid, repeat_laid}
 use Rattle.pr_script.proofs.lay.+lay.Goals as goal

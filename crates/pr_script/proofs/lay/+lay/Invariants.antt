@@ -1,7 +1,7 @@
 -- The statements behind this one are laid, and the arms before this one.
 use Rattle.std.proofs.Common.{take, drop}
 use Rattle.pr_script.specs.Trees.{statements_in, arms_in}
-use Rattle.pr_script.specs.Laying.{IsLaid, AreArmsLaid}
+use Rattle.pr_script.specs.inside.Laying.{IsLaid, AreArmsLaid}
 use Rattle.pr_script.proofs.lay.+lay.Given as goal
 
 abbrev pub invariant-lay-loop-i : goal.invariant-lay-loop-i

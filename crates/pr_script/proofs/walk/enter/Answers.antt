@@ -1,6 +1,6 @@
 -- The repeat that is opened names places of the table.
 use Rattle.std.proofs.Common.{sym, subst}
-use Rattle.pr_script.specs.Tables.{AreOpens}
+use Rattle.pr_script.specs.inside.Tables.{AreOpens}
 use Rattle.pr_script.proofs.Walking.{opens_more}
 use Rattle.pr_script.proofs.walk.enter.Goals as goal
 

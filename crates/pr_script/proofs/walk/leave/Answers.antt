@@ -1,6 +1,6 @@
 -- The repeat that is left names places of the table.
 use Rattle.std.proofs.Common.{subst}
-use Rattle.pr_script.specs.Tables.{AreOpens}
+use Rattle.pr_script.specs.inside.Tables.{AreOpens}
 use Rattle.pr_script.proofs.Walking.{opens_less}
 use Rattle.pr_script.proofs.walk.leave.Goals as goal
 

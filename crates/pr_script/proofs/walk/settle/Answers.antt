@@ -1,6 +1,6 @@
 -- Where the walk ends, what is still to do rests.
 use Rattle.std.proofs.Common.{ap, sym, ◌∙◌}
-use Rattle.pr_script.specs.Tables.{meanings, configuration}
+use Rattle.pr_script.specs.inside.Tables.{meanings, configuration}
 use Rattle.pr_script.proofs.Settling.{settled-rest}
 use Rattle.pr_script.proofs.walk.settle.Goals as goal
 

@@ -1,6 +1,6 @@
 use Rattle.std.proofs.Common.{◌≡◌, length, map}
 use Rattle.pr_text.specs.Texts.{first_unscripted}
-use Rattle.pr_text.specs.Drafts.{draft_seen}
+use Rattle.pr_text.specs.inside.Drafts.{draft_seen}
 use Rattle.pr_text.proofs.ending.first_unscripted.Given as goal
 
 abbrev pub invariant-loop-first : goal.invariant-loop-first

@@ -1,7 +1,7 @@
 use Rattle.std.proofs.Common.{◌≡◌, [], length, map}
 use Rattle.pr_text.specs.TextLines.{words}
 use Rattle.pr_text.specs.Items.{each_onto, wanted_of}
-use Rattle.pr_text.specs.ItemValues.{wanted_seen}
+use Rattle.pr_text.specs.inside.ItemValues.{wanted_seen}
 use Rattle.pr_text.proofs.item.wanted_in.Given as goal
 
 -- the words that are left, behind what was read

@@ -1,7 +1,7 @@
 use Rattle.std.proofs.Common.{◌≡◌, ◌+◌, ◌≤◌, length}
 use Rattle.std.specs.Str.Lines.{lines}
 use Rattle.pr_text.specs.Declarations.{nothing}
-use Rattle.pr_text.specs.Drafts.{declared_by}
+use Rattle.pr_text.specs.inside.Drafts.{declared_by}
 use Rattle.pr_text.specs.Texts.{all_placed}
 use Rattle.pr_text.proofs.text.declared_in.Given as goal
 

@@ -2,7 +2,7 @@ use Rattle.std.proofs.Common.{◌≡◌, None, refl, sym, ◌∙◌}
 use Rattle.std.proofs.lemmas.Bool.{false≢true}
 use Rattle.pr_roles.specs.Scenarios.{scenario_of}
 use Rattle.pr_roles.specs.Fitting.{Fits}
-use Rattle.pr_text.specs.Drafts.{declared_by}
+use Rattle.pr_text.specs.inside.Drafts.{declared_by}
 use Rattle.pr_text.specs.Texts.{end_fault}
 use Rattle.pr_text.proofs.Answering.{whole, empty, fails_end}
 use Rattle.pr_text.proofs.Fitting.{declared_fits}

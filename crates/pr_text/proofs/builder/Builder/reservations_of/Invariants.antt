@@ -1,7 +1,7 @@
 use Rattle.std.proofs.Common.{◌≡◌, [], length, map}
 use Rattle.pr_text.specs.Declaring.{helds_onto}
-use Rattle.pr_text.specs.ItemValues.{wanted_seen}
-use Rattle.pr_text.specs.Drafts.{draft_seen}
+use Rattle.pr_text.specs.inside.ItemValues.{wanted_seen}
+use Rattle.pr_text.specs.inside.Drafts.{draft_seen}
 use Rattle.pr_text.proofs.builder.Builder.reservations_of.Given as goal
 
 -- the reservations that are left, behind those so far

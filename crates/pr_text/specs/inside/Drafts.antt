@@ -9,7 +9,7 @@ use Rattle.pr_text.specs.declared.builder.Place.TheVariants as place
 use Rattle.pr_text.specs.declared.builder.Builder.{Builder}
 use Rattle.pr_text.specs.ScriptLines.{body_lines}
 use Rattle.pr_text.specs.Declarations.{WrittenTask, scripted, planned, Declaration, Place, before_all, outside, in_script, in_plan, Declared}
-use Rattle.pr_text.specs.OpenScripts.{open_seen}
+use Rattle.pr_text.specs.inside.OpenScripts.{open_seen}
 
 abbrev pub task_seen : Task → WrittenTask
 task_seen (part.Scripted script budget) = scripted (body_lines (script_of script)) budget

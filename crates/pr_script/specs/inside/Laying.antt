@@ -4,7 +4,7 @@ use Rattle.pr_script.specs.declared.rows.Row.{Row}
 use Rattle.pr_script.specs.declared.rows.Step.{Step}
 use Rattle.pr_script.specs.declared.rows.Jump.{Jump}
 use Rattle.pr_script.specs.Scripts.{Stmt, Stmts, Arms}
-use Rattle.pr_script.specs.Tables.{joined, place, arms_at, step_at, meanings, AreJumps, IsStep, IsTable}
+use Rattle.pr_script.specs.inside.Tables.{joined, place, arms_at, step_at, meanings, AreJumps, IsStep, IsTable}
 
 -- A longer table, in which what was to do from each place on still is.
 pub record Grows (old new : List Row) : Type 0 where

@@ -1,0 +1,5 @@
+pub mod Climbs
+pub mod Laying
+pub mod Tables
+pub mod Tokens
+pub mod Walks

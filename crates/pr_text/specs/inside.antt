@@ -1,0 +1,4 @@
+pub mod Drafts
+pub mod ItemValues
+pub mod OpenScripts
+pub mod Sound
