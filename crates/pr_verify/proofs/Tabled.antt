@@ -260,11 +260,6 @@ module _ (p : ℕ → Bool) (n : ℕ) where
       append-nil [] = refl
       append-nil (x ∷ xs) = ap (λ ys. x ∷ ys) (append-nil xs)
 
-pub is_scripted : (t : Option Task) → has_script t ≡ true → IsScripted t
-is_scripted None is = let bad : false ≡ true = is in cc
-is_scripted (Some (Scripted b n)) is = tt
-is_scripted (Some (Planned commands)) is = let bad : false ≡ true = is in cc
-
 -- ---- one table more, or none
 
 module _ (s : Scenario) (members : WordSet → Numbers) (room : WordSet → ℕ) where

@@ -1,17 +1,17 @@
 //! The verdict on a scenario whose hosts are checked side by side.
 
-ghost use Rattle.std.specs.Prelude.{◌≡◌, ◌≢◌, ◌↔◌, ℕ, ◌<◌, ◌≤◌, length, IfOk, IfErr, OnOk, IsTrue, vec_len, vec_capacity};
-ghost use Rattle.pr_roles.specs.Scenarios.{scenario_of, task};
+ghost use Rattle.std.specs.Prelude.{◌≡◌, ◌≢◌, ℕ, ◌<◌, ◌≤◌, length, IfOk, IfErr, OnOk, vec_len, vec_capacity};
+ghost use Rattle.pr_roles.specs.Scenarios.{scenario_of};
 ghost use Rattle.pr_roles.specs.Safety.{IsSafe};
 ghost use Rattle.pr_verify.specs.Outlines.{HaveOutlines};
-ghost use Rattle.pr_verify.specs.Rooms.{IsScripted};
 ghost use Rattle.pr_verify.specs.Verdicts.{IsVerdict};
 ghost use Rattle.pr_verify.specs.inside.Checks.{ComeTo, EachFrom, IsAnswerBefore, IsAnswerFor, IsBegunFor, IsCheckFor};
 
 use crate::check_gate::CheckGate;
+use crate::inferring::has_script;
 use crate::refusal::Refusal;
 use crate::verifying::{Refused, Verified, check_host, verdict_on};
-use pr_roles::{Scenario, Task};
+use pr_roles::Scenario;
 use std::alloc::Global;
 use std::snapshot::Snapshot;
 use std::sync::Wait;
@@ -154,7 +154,7 @@ fn begin<'s, 'a: 's, G: CheckGate>(
     requires { host < length (scenario_of scenario.now).nexuses }
     ensures { IsBegunFor (scenario_of scenario.now) host result }
 {
-    if !is_scripted(scenario, host) {
+    if !has_script(scenario, host) {
         return Begun::ToMake(host);
     }
     let promise = CheckOf {
@@ -222,21 +222,11 @@ fn check_gated<G: CheckGate>(
     requires { host < length (scenario_of scenario.now).nexuses }
     ensures { IsAnswerFor (scenario_of scenario.now) host result }
 {
-    if !is_scripted(scenario, host) {
+    if !has_script(scenario, host) {
         return check_host(alloc, scenario, host);
     }
     gate.before(host);
     let answer = check_host(alloc, scenario, host);
     gate.after(host);
     answer
-}
-
-fn is_scripted(scenario: &Scenario, host: u8) -> bool
-    requires { host < length (scenario_of scenario.now).nexuses }
-    ensures { IsTrue result ↔ IsScripted (task (scenario_of scenario.now) host) }
-{
-    matches!(
-        scenario.parts().nexuses[usize::from(host)].task,
-        Task::Scripted { .. }
-    )
 }

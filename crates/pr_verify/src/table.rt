@@ -11,19 +11,19 @@ ghost use Rattle.pr_views.specs.Rooms.{view_of};
 ghost use Rattle.pr_verify.specs.Outlines.{OnScripted, view_at};
 ghost use Rattle.pr_verify.specs.Refusals.{class_number};
 ghost use Rattle.pr_verify.specs.Rooms.{IsMadeFor, IsScripted, outline_of, row_of, table_of};
-ghost use Rattle.pr_verify.specs.Tables.{AreTables, IsRow, IsTable, has_script};
+ghost use Rattle.pr_verify.specs.Tables.{AreTables, IsRow, IsTable};
 ghost use Rattle.pr_verify.specs.inside.Listing.{place_of, IsPlaceWritten};
 ghost use Rattle.pr_verify.specs.inside.Reviewing.{IsMadeAs, IsUnarmed};
 ghost use Rattle.pr_verify.specs.inside.Tabling.{IsInRange};
 
 use crate::answers::Questions;
-use crate::inferring::{infer, script_in};
+use crate::inferring::{has_script, infer, script_in};
 use crate::outline::{Outline, OutlineOf};
 use crate::places::{Spot, spots};
 use crate::reviewing::{first_unarmed, number_of};
 use pr_cdb::Command;
 use pr_domain::{Class, Landing, permitted};
-use pr_roles::{Scenario, Task};
+use pr_roles::Scenario;
 use pr_script::Test;
 use pr_sets::{ViewSet, WordSet};
 use pr_views::ViewOf;
@@ -64,16 +64,6 @@ pub fn tables(alloc: Global, scenario: &Scenario) -> Result<Vec<Table>, AllocErr
         }
     }
     Ok(tables)
-}
-
-fn has_script(scenario: &Scenario, host: u8) -> bool
-    requires { host < length (scenario_of scenario.now).nexuses }
-    ensures { result ≡ has_script (task (scenario_of scenario.now) host) }
-{
-    match &scenario.parts().nexuses[usize::from(host)].task {
-        Task::Scripted { .. } => true,
-        Task::Planned(_) => false,
-    }
 }
 
 // The table of a host that has a script.
