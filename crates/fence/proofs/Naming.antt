@@ -1,27 +1,14 @@
 -- Steps, and the hosts and guests that they name.
 use Rattle.std.specs.Prelude.{◌≡◌, ℕ, ◌+◌, ◌<◌, ◌≤◌, List, [], ◌∷◌, ◌++◌, length, position, bytes_eq, cond, Option, Some, None, option_map, option_and_then}
-use Rattle.std.specs.List.{position_from}
 use Rattle.std.proofs.Common.{refl, sym, ap, ◌∙◌, zero, suc, arith}
-use Rattle.std.proofs.lemmas.Iterator.Adapters.{position_from-zero}
 use Rattle.std.proofs.lemmas.List.Elements.{All-append}
 use Rattle.std.specs.List.{All}
-use Rattle.pr_roles.specs.declared.parts.Nexus.{Nexus}
 use Rattle.pr_roles.specs.declared.parts.Parts.{Parts}
 use Rattle.pr_roles.specs.Scenarios.{scenario_of}
 use Rattle.pr_roles.specs.Fitting.{Fits}
 use Rattle.pr_roles.proofs.Allowed.{few_parts}
-use Rattle.pr_report.specs.TraceText.{names_of}
-use Rattle.fence.specs.Steps.{hosts_of, number_of}
-
-from_names : (w : List ℕ) (n : ℕ) (ns : List Nexus)
-    → position_from (λ name. bytes_eq name w) n (names_of ns) ≡ position_from (λ x. bytes_eq x.name.bytes w) n ns
-from_names w n [] = refl
-from_names w n (x ∷ ns) = ap (λ o. cond (bytes_eq x.name.bytes w) (Some n) o) (from_names w (n + 1) ns)
-
-pub place_in_names : (ns : List Nexus) (w : List ℕ) → position (λ x. bytes_eq x.name.bytes w) ns ≡ number_of (names_of ns) w
-place_in_names ns w =
-    position_from-zero (λ (x : Nexus). bytes_eq x.name.bytes w) ns
-    ∙ (sym (from_names w 0 ns) ∙ sym (position_from-zero (λ name. bytes_eq name w) (names_of ns)))
+use Rattle.pr_report.specs.TraceReadings.{number_of}
+use Rattle.fence.specs.Steps.{hosts_of}
 
 -- what the first steps named stands in front of what the others name
 abbrev pub onto : List ℕ → Option (List ℕ) → Option (List ℕ)

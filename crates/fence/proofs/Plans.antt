@@ -15,7 +15,8 @@ use Rattle.pr_world.specs.Ends.{seen}
 use Rattle.pr_world.specs.Replays.{IsReplayed}
 use Rattle.pr_report.specs.TraceText.{names_in, names_of, trace_text}
 use Rattle.fence.specs.declared.fault.Fault.TheVariants as fault
-use Rattle.fence.specs.Steps.{number_of, hosts_of, has_wrong_count}
+use Rattle.pr_report.specs.TraceReadings.{number_of}
+use Rattle.fence.specs.Steps.{hosts_of, has_wrong_count}
 use Rattle.fence.specs.Replays.{IsTraceOf, IsUsageFault}
 use Rattle.fence.specs.inside.PlannedReplays.{planned_text, is_refused, IsPlanned}
 

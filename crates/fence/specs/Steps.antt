@@ -1,10 +1,7 @@
 -- Agrees with docs/FORMATS.md, 'Replaying'.
 -- The hosts and guests that the steps of a replay name.
-use Rattle.std.specs.Prelude.{ℕ, ◌==◌, ◌||◌, Bool, nat_lt, List, [], ◌∷◌, length, position, bytes_eq, Option, Some, option_map, option_and_then}
-
--- the number of the host or guest with this name
-abbrev pub number_of : List (List ℕ) → List ℕ → Option ℕ
-number_of names word = position (λ name. bytes_eq name word) names
+use Rattle.std.specs.Prelude.{ℕ, ◌==◌, ◌||◌, Bool, nat_lt, List, [], ◌∷◌, length, Option, Some, option_map, option_and_then}
+use Rattle.pr_report.specs.TraceReadings.{number_of}
 
 -- the numbers of those that these words name
 abbrev pub hosts_of : List (List ℕ) → List (List ℕ) → Option (List ℕ)

@@ -3,7 +3,8 @@
 ghost use Rattle.std.specs.Prelude.{◌≡◌, ◌<◌, ◌≤◌, IfOk, IfSome, length, map, option_map, position, bytes_eq};
 ghost use Rattle.std.specs.List.{All};
 ghost use Rattle.pr_report.specs.TraceText.{names_of};
-ghost use Rattle.fence.specs.Steps.{hosts_of, number_of};
+ghost use Rattle.pr_report.specs.TraceReadings.{number_of};
+ghost use Rattle.fence.specs.Steps.{hosts_of};
 
 use pr_roles::Nexus;
 use std::alloc::{AllocError, Global};
@@ -28,7 +29,6 @@ pub fn hosts_of(
     Ok(Some(hosts))
 }
 
-#[tactic(auto, using(crate::proofs::Naming::place_in_names))]
 fn number_of(step: &str, nexuses: &[Nexus]) -> Option<u8>
     requires { length nexuses.now ≤ 8 }
     ensures number { result ≡ number_of (names_of nexuses.now) step.now }

@@ -1,29 +1,13 @@
 -- Classes of replies, one after another.
 use Rattle.std.proofs.Common.{◌≡◌, ℕ, ◌+◌, ◌<◌, ◌≤◌, Bool, true, false, nat_le, if◌then◌else◌, List, length, slice_index_or, Option, Some, None, refl, sym, ap, ◌∙◌, subst, inl, inr, ◌⊎◌, arith}
 use Rattle.std.proofs.lemmas.Bool.{leb-true, leb-false}
-use Rattle.pr_cdb.specs.declared.reply.Reply.{Reply}
-use Rattle.pr_cdb.specs.declared.reply.Status.TheVariants as status
 use Rattle.pr_views.specs.declared.view.ViewOf.{ViewOf}
-use Rattle.pr_domain.specs.Landings.{IsClass}
 use Rattle.pr_domain.specs.declared.landing.Landing.{Landing}
 use Rattle.pr_domain.specs.declared.landing.Landing.TheVariants.{NoArm}
 use Rattle.pr_domain.specs.declared.landing.Class.{Class}
-use Rattle.pr_domain.specs.declared.landing.Class.TheVariants.{Good, Conflict, Sense}
 use Rattle.pr_verify.specs.Refusals.{class_number}
 use Rattle.pr_verify.specs.inside.Reviewing.{IsUnarmed, IsFirstClass, IsFirstUnarmed, earlier, earlier_from}
 use Rattle.pr_verify.proofs.Leasts.{among_there, among_back}
-
--- a reply is of one class
-pub one_class : (r : Reply) (a b : Class) → IsClass r a → IsClass r b → a ≡ b
-one_class r Good Good is also = refl
-one_class r Good Conflict is also = let bad : status.Good ≡ status.Conflict = sym is ∙ also in cc
-one_class r Good (Sense t) is also = let bad : status.Good ≡ status.CheckCondition = sym is ∙ also.0 in cc
-one_class r Conflict Good is also = let bad : status.Conflict ≡ status.Good = sym is ∙ also in cc
-one_class r Conflict Conflict is also = refl
-one_class r Conflict (Sense t) is also = let bad : status.Conflict ≡ status.CheckCondition = sym is ∙ also.0 in cc
-one_class r (Sense s) Good is also = let bad : status.CheckCondition ≡ status.Good = sym is.0 ∙ also in cc
-one_class r (Sense s) Conflict is also = let bad : status.CheckCondition ≡ status.Conflict = sym is.0 ∙ also in cc
-one_class r (Sense s) (Sense t) is also = let same : Some s ≡ Some t = sym is.1 ∙ also.1 in cc
 
 -- ---- the first by number
 

@@ -28,7 +28,7 @@ use Rattle.pr_verify.specs.Refusals.{class_number, BreaksRole, LacksArm, LacksAr
 use Rattle.pr_verify.specs.inside.Reviewing.{IsUnarmed}
 use Rattle.pr_verify.proofs.Leasts.{among_listed, listed_among}
 use Rattle.pr_verify.proofs.Mapped.{mapped, unmapped}
-use Rattle.pr_verify.proofs.Classes.{one_class}
+use Rattle.pr_domain.proofs.Landed.{one_class}
 
 -- the view at the line of the place is v, of the outline's host
 pub record IsHere (o : Outline) (p : Place) (v : View) : Type 0 where

@@ -6,7 +6,7 @@ use Rattle.pr_unit.specs.UnitStates.{UnitState}
 use Rattle.pr_views.specs.Possibilities.{Scope, IsScope, Item, Registration, Reservation, Attentions, IsSo, count_of_reservations, count_of_attentions}
 use Rattle.pr_views.specs.Views.{View, IsPossible, Shows, Fits, Within}
 use Rattle.pr_views.proofs.Showing.{shown_within}
-use Rattle.pr_views.proofs.Numbering.{one_registration, one_reservation, one_attentions}
+use Rattle.pr_domain.proofs.Closed.{shown_possible}
 use Rattle.pr_verify.specs.Outlines.{ShowsIn}
 use Rattle.pr_verify.specs.LeastOutlines.{IsWithinIn}
 
@@ -99,21 +99,9 @@ within_or_missing w v fits same =
 
 -- ---- states
 
--- what is so in a state that a view shows is possible in the view
-pub shown_possible : (v : View) (u : UnitState) (i : Item) → IsScope v.scope → IsSo v.scope u i → Shows v u → IsPossible v i
-shown_possible v u (Registration g r) scope is shown =
-    let seen = shown.registrations g is.0 in
-    subst (λ n. IsPossible v (Registration g n)) (one_registration v.scope u g seen.0 r scope seen.1.1 is) seen.1.0
-shown_possible v u (Reservation x) scope is shown =
-    let seen = shown.reservation in
-    subst (λ n. IsPossible v (Reservation n)) (one_reservation v.scope u seen.0 x seen.1.1 is) seen.1.0
-shown_possible v u (Attentions q) scope is shown =
-    let seen = shown.pending in
-    subst (λ n. IsPossible v (Attentions n)) (one_attentions v.scope u seen.0 q seen.1.1 is) seen.1.0
-
 -- so a view does not show a state in which something is so that is not possible in it
 pub not_shown : (v : View) (u : UnitState) (i : Item) → IsScope v.scope → IsSo v.scope u i → (IsPossible v i → ⊥) → Shows v u → ⊥
-not_shown v u i scope is missing shown = missing (shown_possible v u i scope is shown)
+not_shown v u i scope is missing shown = missing (shown_possible v u i scope shown is)
 
 -- ---- a view of just these states
 

@@ -26,15 +26,8 @@ use Rattle.pr_verify.proofs.Leasts.{least_as, each_listed, listed_among}
 use Rattle.pr_verify.proofs.Mapped.{mapped, unmapped}
 use Rattle.pr_verify.proofs.Missing.{IsExact, lacks_from_missing, shown_by_within}
 use Rattle.pr_verify.proofs.Begun.{AreScoped}
-use Rattle.pr_verify.proofs.Classes.{one_class}
+use Rattle.pr_domain.proofs.Landed.{one_landing}
 use Rattle.pr_verify.proofs.Fitted.{IsHere, shown_here, shown_there, step_own, step_host}
-
--- a reply lands in one way
-one_landing : (tests : List Test) (r : Reply) (a b : Landing) → IsLanding tests r a → IsLanding tests r b → a ≡ b
-one_landing tests r (Arm m) (Arm n) is also = ap (λ k. Arm k) (same_Some m n (sym is ∙ also))
-one_landing tests r (Arm m) (NoArm c) is also = let bad : Some m ≡ None = sym is ∙ also.0 in cc
-one_landing tests r (NoArm c) (Arm n) is also = let bad : None ≡ Some n = sym is.0 ∙ also in cc
-one_landing tests r (NoArm c) (NoArm d) is also = ap (λ k. NoArm k) (one_class r c d is.1 also.1)
 
 -- the owner's command leads to this state from one that the view shows, and its reply lands so
 record LeadsTo (v : View) (p : Place) (l : Landing) (after : UnitState) : Type 0 where

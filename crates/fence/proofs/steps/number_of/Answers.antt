@@ -1,6 +1,6 @@
 -- A place among the hosts and guests is one among their names.
 use Rattle.std.proofs.Common.{sym, ◌∙◌}
-use Rattle.fence.proofs.Naming.{place_in_names}
+use Rattle.pr_report.proofs.EntryNames.{place_in_names}
 use Rattle.fence.proofs.steps.number_of.Goals as goal
 
 pub returns-in_err-host-clause-number : goal.returns-in_err-host-clause-number
