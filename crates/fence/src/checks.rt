@@ -1,10 +1,12 @@
 //! `fence check`, over any reader, writer and error writer.
 
+ghost use Rattle.std.specs.Prelude.{◌≡◌, IfErr, IfOk};
 ghost use Rattle.pr_text.specs.BytesRead.{LosesUpTo};
 ghost use Rattle.pr_report.specs.Written.{Puts};
 ghost use Rattle.fence.specs.Endings.{IsCommand, told_of_end};
 ghost use Rattle.fence.specs.Checks.{EndsCheck};
-ghost use Rattle.fence.specs.inside.Judgements.{IsJudged, Stands, judgement_text};
+ghost use Rattle.fence.specs.declared.fault.Fault.TheVariants.{Memory};
+ghost use Rattle.fence.specs.inside.Judgements.{IsJudged, IsVerified, Stands, judgement_text};
 
 use crate::ending::{status_of, tell_end};
 use crate::fault::{Fault, Status};
@@ -60,14 +62,26 @@ fn check_text<R: Read, W: Write>(
     Ok(judgement.is_err())
 }
 
-// Reads the text and verifies its scenario. That memory was refused is a fault, and no refusal of a script.
-#[tactic(auto, using(crate::proofs::Reasons::first_reason))]
+// Reads the text and verifies its scenario.
 fn judge<R: Read>(alloc: Global, reader: &mut R) -> Result<Result<Verified, Refused>, Fault>
     ensures judged { IsJudged (R.remaining reader.old) result }
     ensures limited { LosesUpTo 65537 (R.remaining reader.old) (R.remaining reader.new) }
 {
     let scenario = read(alloc, reader)?;
-    match verify(alloc, scenario) {
+    settled(verify(alloc, scenario))
+}
+
+/// What a verification comes to. That memory was refused is a fault, and no refusal of a script.
+#[tactic(auto, using(crate::proofs::Reasons::first_reason))]
+pub fn settled(
+    judgement: Result<Verified, Refused>,
+) -> Result<Result<Verified, Refused>, Fault>
+    requires { IsVerified judgement }
+    ensures same { IfOk result (λ settled. settled ≡ judgement) }
+    ensures stands { IfOk result Stands }
+    ensures memory { IfErr result (λ fault. fault ≡ Memory) }
+{
+    match judgement {
         Err(
             Refused {
                 refusal: Refusal::Memory,

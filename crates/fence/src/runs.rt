@@ -15,6 +15,7 @@ ghost use Rattle.fence.specs.Runs.{EndsRun, outcome_text};
 ghost use Rattle.fence.specs.inside.Judgements.{IsJudged};
 ghost use Rattle.fence.specs.inside.Performances.{IsFaultFor, IsPerformed, IsRunFault, Stands, performed_text};
 
+use crate::checks::settled;
 use crate::ending::{status_of, tell_end};
 use crate::fault::{Fault, Status};
 use arrayvec::ArrayVec;
@@ -22,7 +23,7 @@ use pr_report::{Verdict, WriteFault, write_trace, write_verdict};
 use pr_roles::{Nexus, Scenario, Word as Name};
 use pr_shared::{Entry, NoGate, Outcome, RunError, run};
 use pr_text::read;
-use pr_verify::{NoCheckGate, Refusal, Refused, Verified, verify_each};
+use pr_verify::{NoCheckGate, Refused, Verified, verify_each};
 use std::alloc::Global;
 use std::io::{Read, Write};
 use std::sync::Wait;
@@ -106,9 +107,7 @@ fn perform<T: Threads + Wait + Sync, R: Read>(
     }
 }
 
-// Reads the text and verifies its scenario, with a thread for each host. That memory was refused is a fault, and no refusal
-// of a script.
-#[tactic(auto, using(crate::proofs::Reasons::first_reason))]
+// Reads the text and verifies its scenario, with a thread for each host.
 fn judge_each<T: Threads + Wait + Sync, R: Read>(
     rt: &T,
     alloc: Global,
@@ -118,15 +117,7 @@ fn judge_each<T: Threads + Wait + Sync, R: Read>(
     ensures limited { LosesUpTo 65537 (R.remaining reader.old) (R.remaining reader.new) }
 {
     let scenario = read(alloc, reader)?;
-    match verify_each(rt, alloc, scenario, &NoCheckGate) {
-        Err(
-            Refused {
-                refusal: Refusal::Memory,
-                ..
-            },
-        ) => Err(Fault::Memory),
-        judgement => Ok(judgement),
-    }
+    settled(verify_each(rt, alloc, scenario, &NoCheckGate))
 }
 
 // The copy of the scenario has the names for the trace.

@@ -8,7 +8,7 @@ use Rattle.pr_text.specs.Texts.{answer_of}
 use Rattle.pr_text.specs.Readings.{IsWrittenAs}
 use Rattle.pr_verify.specs.declared.verifying.Refused.{Refused}
 use Rattle.pr_verify.specs.Outlines.{HaveOutlines}
-use Rattle.pr_verify.specs.Verdicts.{IsFirstReason}
+use Rattle.pr_verify.specs.Verdicts.{IsFirstReason, IsVerdict}
 use Rattle.pr_report.specs.TraceText.{names_in}
 use Rattle.pr_report.specs.Verdicts.{verdict_text}
 use Rattle.pr_report.specs.declared.verdict.Verdict.TheVariants as verdict
@@ -27,6 +27,11 @@ scenario_in (Err refused) = refused.scenario
 abbrev pub Stands : Judgement → Type 0
 Stands (Ok verified) = IsSafe (scenario_of verified) × HaveOutlines (scenario_of verified)
 Stands (Err refused) = IsFirstReason (scenario_of refused.scenario) refused.refusal
+
+-- what a verification answers: what stands, or that memory was refused
+abbrev pub IsVerified : Judgement → Type 0
+IsVerified (Ok verified) = IsSafe (scenario_of verified) × HaveOutlines (scenario_of verified)
+IsVerified (Err refused) = IsVerdict (scenario_of refused.scenario) refused.refusal
 
 abbrev pub judgement_text : Judgement → List ℕ
 judgement_text (Ok verified) = verdict_text (names_in (scenario_of verified)) verdict.Accepted
