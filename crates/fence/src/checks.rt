@@ -73,7 +73,9 @@ fn judge<R: Read>(alloc: Global, reader: &mut R) -> Result<Result<Verified, Refu
 
 /// What a verification comes to. That memory was refused is a fault, and no refusal of a script.
 #[tactic(auto, using(crate::proofs::Reasons::first_reason))]
-pub fn settled(judgement: Result<Verified, Refused>) -> Result<Result<Verified, Refused>, Fault>
+pub(crate) fn settled(
+    judgement: Result<Verified, Refused>,
+) -> Result<Result<Verified, Refused>, Fault>
     requires { IsVerified judgement }
     ensures same { IfOk result (λ settled. settled ≡ judgement) }
     ensures stands { IfOk result Stands }
