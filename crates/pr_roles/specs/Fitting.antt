@@ -6,8 +6,10 @@ use Rattle.pr_registry.specs.declared.held.Held.{Held}
 use Rattle.pr_registry.specs.declared.held.Held.TheVariants.{One, All as Everybody}
 use Rattle.pr_registry.specs.Registrations.{IsKey, is_all}
 use Rattle.pr_registry.specs.Changes.{is_kind}
+use Rattle.pr_script.specs.declared.limits.TheConstants.{MOST_BUDGET}
 use Rattle.pr_script.specs.Names.{is_name}
 use Rattle.pr_script.specs.Grammar.{is_declared, is_written_key, is_written, script_fits}
+use Rattle.pr_roles.specs.declared.limits.TheConstants.{MOST_KEYS, MOST_CLAUSES, MOST_PLANNED}
 use Rattle.pr_roles.specs.declared.role.Action.{Action}
 use Rattle.pr_roles.specs.declared.role.Action.TheVariants as action
 use Rattle.pr_roles.specs.declared.role.Clause.{Clause}
@@ -32,7 +34,7 @@ is_action keys action.Read = true
 is_action keys action.Write = true
 
 abbrev pub is_role : List ℕ → List Clause → Bool
-is_role keys clauses = nat_le (length clauses) 32 && list_all (λ clause. is_action keys clause.action) clauses
+is_role keys clauses = nat_le (length clauses) MOST_CLAUSES && list_all (λ clause. is_action keys clause.action) clauses
 
 -- free, or a declared key
 abbrev pub is_alternative : List ℕ → Option ℕ → Bool
@@ -50,8 +52,8 @@ is_start keys alternatives =
     not (length alternatives == 0) && (list_all (is_alternative keys) alternatives && are_distinct is_same_alternative alternatives)
 
 abbrev pub is_task : List ℕ → Task → Bool
-is_task keys (Scripted script budget) = script_fits keys script && (nat_le 1 budget && nat_le budget 4096)
-is_task keys (Planned commands) = nat_le (length commands) 256 && list_all (is_written keys) commands
+is_task keys (Scripted script budget) = script_fits keys script && (nat_le 1 budget && nat_le budget MOST_BUDGET)
+is_task keys (Planned commands) = nat_le (length commands) MOST_PLANNED && list_all (is_written keys) commands
 
 abbrev pub is_nexus : List ℕ → Nexus → Bool
 is_nexus keys n = is_name n.name && (is_role keys n.role && (is_start keys n.start && is_task keys n.task))
@@ -78,10 +80,10 @@ are_reservations hosts vs = not (length vs == 0) && (list_all (is_reservation ho
 
 -- ---- the whole
 
--- at most 12 keys, none of them zero, each declared once
+-- not too many keys, none of them zero, each declared once
 pub record AreDeclared (keys : List ℕ) : Type 0 where
   pub each : All IsKey keys
-  pub once : IsTrue (nat_le (length keys) 12 && are_distinct (λ j k. j == k) keys)
+  pub once : IsTrue (nat_le (length keys) MOST_KEYS && are_distinct (λ j k. j == k) keys)
 
 -- 1 to 8 hosts and guests, each with a name of its own
 abbrev pub are_nexuses : List ℕ → List Nexus → Bool

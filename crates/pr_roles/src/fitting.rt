@@ -7,22 +7,16 @@ ghost use Rattle.pr_script.specs.Grammar.{is_written};
 ghost use Rattle.pr_roles.specs.Scenarios.{scenario_of, nexus_of, task_of};
 ghost use Rattle.pr_roles.specs.Fitting.{AreDeclared, Fits, are_distinct, is_action, is_role, is_alternative, is_same_alternative, is_start, is_task, is_nexus, is_reservation, are_reservations, are_nexuses};
 
+use crate::limits::{MOST_CLAUSES, MOST_KEYS, MOST_PLANNED};
 use crate::parts::{Nexus, Parts, Start, Task};
 use crate::role::{Action, Clause, Role};
 use crate::uniqueness::{are_distinct, are_held_apart};
 use pr_cdb::Command;
 use pr_registry::{Held, is_all};
+use pr_script::limits::MOST_BUDGET;
 use pr_script::{is_declared, is_name, is_written, is_written_key};
 
 const MOST_NEXUSES: usize = 8;
-
-const MOST_KEYS: usize = 12;
-
-const MOST_CLAUSES: usize = 32;
-
-const MOST_PLANNED: usize = 256;
-
-const MOST_BUDGET: u32 = 4096;
 
 impl Parts {
     /// Whether the parts can be those of a text: every limit is kept, keys are not zero and each that is

@@ -10,6 +10,7 @@ mod entry;
 mod first;
 mod fitting;
 mod laws;
+pub mod limits;
 mod parts;
 mod permitting;
 mod role;

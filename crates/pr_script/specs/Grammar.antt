@@ -4,8 +4,10 @@ use Rattle.std.specs.Prelude.{ℕ, Bool, true, false, ◌+◌, ◌==◌, ◌&&�
 use Rattle.std.specs.List.{list_any}
 use Rattle.pr_cdb.specs.declared.command.Command.{Command}
 use Rattle.pr_cdb.specs.declared.command.Command.TheVariants as command
+use Rattle.pr_script.specs.declared.grammar.TheConstants.{WRITTEN_LENGTH}
 use Rattle.pr_script.specs.declared.script.Test.{Test}
 use Rattle.pr_script.specs.declared.script.Test.TheVariants as test
+use Rattle.pr_script.specs.declared.limits.TheConstants.{MOST_STATEMENTS, MOST_ARMS, MOST_OPEN, MOST_TURNS}
 use Rattle.pr_script.specs.Scripts.{Stmt, Stmts, Arms, sends, repeats, breaks, stops, none, more, no_arm, arm}
 use Rattle.pr_script.specs.Names.{is_name}
 
@@ -18,19 +20,15 @@ is_declared keys k = list_any (λ key. key == k) keys
 abbrev pub is_written_key : List ℕ → ℕ → Bool
 is_written_key keys k = k == 0 || is_declared keys k
 
--- the allocation length of every PERSISTENT RESERVE IN: more than any data of this unit
-abbrev pub written_length : ℕ
-written_length = 8192
-
 -- a command as a text can write it
 abbrev pub is_written : List ℕ → Command → Bool
 is_written keys command.TestUnitReady = true
 is_written keys command.RequestSense = true
 is_written keys (command.Read lba blocks) = true
 is_written keys (command.Write lba blocks) = true
-is_written keys (command.ReadKeys alloc) = alloc == written_length
-is_written keys (command.ReadReservation alloc) = alloc == written_length
-is_written keys (command.ReportCapabilities alloc) = alloc == written_length
+is_written keys (command.ReadKeys alloc) = alloc == WRITTEN_LENGTH
+is_written keys (command.ReadReservation alloc) = alloc == WRITTEN_LENGTH
+is_written keys (command.ReportCapabilities alloc) = alloc == WRITTEN_LENGTH
 is_written keys (command.Register rk sark) = is_written_key keys rk && is_written_key keys sark
 is_written keys (command.RegisterIgnore sark) = is_written_key keys sark
 is_written keys (command.Reserve rk kind) = is_written_key keys rk
@@ -96,22 +94,21 @@ begins_body (more (repeats n b) rest) = true
 begins_body (more breaks rest) = false
 begins_body (more (stops w) rest) = false
 
--- a send has at most 16 arms
 abbrev pub is_send_written : List ℕ → Command → Arms → Bool
-is_send_written keys c a = is_written keys c && nat_le (count_of_arms a) 16
+is_send_written keys c a = is_written keys c && nat_le (count_of_arms a) MOST_ARMS
 
--- a repeat is run 1 to 1,000 times
+-- a repeat is run once at least, and begins with a send or a repeat
 abbrev pub is_repeat_written : ℕ → Stmts → Bool
-is_repeat_written n b = nat_le 1 n && (nat_le n 1000 && begins_body b)
+is_repeat_written n b = nat_le 1 n && (nat_le n MOST_TURNS && begins_body b)
 
--- A statement that stands in so many open repeats and open sends: at most 8 of each are open at once. A break
+-- A statement that stands in so many open repeats and open sends, with itself at most so many of each. A break
 -- stands inside a repeat.
 abbrev mutual
   pub statement_fits : List ℕ → ℕ → ℕ → Stmt → Bool
   statement_fits keys repeated sent (sends n c a) =
-      is_send_written keys c a && (nat_lt sent 8 && arms_fit keys repeated (sent + 1) c a)
+      is_send_written keys c a && (nat_lt sent MOST_OPEN && arms_fit keys repeated (sent + 1) c a)
   statement_fits keys repeated sent (repeats n b) =
-      is_repeat_written n b && (nat_lt repeated 8 && statements_fit keys (repeated + 1) sent b)
+      is_repeat_written n b && (nat_lt repeated MOST_OPEN && statements_fit keys (repeated + 1) sent b)
   statement_fits keys repeated sent breaks = nat_lt 0 repeated
   statement_fits keys repeated sent (stops w) = is_name w
 
@@ -163,7 +160,7 @@ abbrev pub rise_above : ℕ → List ℕ → Bool
 rise_above line [] = true
 rise_above line (next ∷ rest) = nat_lt line next && rise_above next rest
 
--- The script may stand in a text that declares these keys: its statements follow the grammar, there are at
--- most 512 of them, and the lines of its sends, which are counted from 1, rise.
+-- The script may stand in a text that declares these keys: its statements follow the grammar, there are
+-- not too many, and the lines of its sends, which are counted from 1, rise.
 abbrev pub script_fits : List ℕ → Stmts → Bool
-script_fits keys b = statements_fit keys 0 0 b && (nat_le (count_of_all b) 512 && rise_above 0 (lines_of_all b))
+script_fits keys b = statements_fit keys 0 0 b && (nat_le (count_of_all b) MOST_STATEMENTS && rise_above 0 (lines_of_all b))

@@ -2,6 +2,7 @@
 -- Names of hosts and guests, and the words with which scripts stop.
 use Rattle.std.specs.Prelude.{ℕ, Bool, ◌==◌, ◌||◌, ◌&&◌, nat_le, List, length, slice_index}
 use Rattle.std.specs.List.{list_all}
+use Rattle.pr_script.specs.declared.limits.TheConstants.{MOST_LETTERS}
 
 abbrev pub is_digit : ℕ → Bool
 is_digit b = nat_le 48 b && nat_le b 57
@@ -15,4 +16,4 @@ is_name_byte b = is_lower b || (is_digit b || b == 45)
 
 -- 1 to 16 of these, a letter first
 unfoldable pub is_name : List ℕ → Bool
-is_name word = is_lower (slice_index word 0) && (nat_le (length word) 16 && list_all is_name_byte word)
+is_name word = is_lower (slice_index word 0) && (nat_le (length word) MOST_LETTERS && list_all is_name_byte word)

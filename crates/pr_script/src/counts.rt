@@ -1,25 +1,25 @@
 //! How many statements a script has, and the order of its sends' lines.
 
-ghost use Rattle.std.specs.Prelude.{◌≡◌, min, nat_le};
+ghost use Rattle.std.specs.Prelude.{◌≡◌, ◌+◌, min, nat_le};
+ghost use Rattle.pr_script.specs.declared.limits.TheConstants.{MOST_STATEMENTS};
 ghost use Rattle.pr_script.specs.Trees.{script_of, statement_of, arms_in};
 ghost use Rattle.pr_script.specs.Grammar.{count_of, count_of_all, count_in_arms, lines_of, lines_of_all, lines_of_arms, rise_above};
 ghost use Rattle.pr_script.specs.inside.Climbs.{climbed};
 
+use crate::limits::MOST_STATEMENTS;
 use crate::script::{Arm, Script, Statement};
-
-const MOST_STATEMENTS: u64 = 512;
 
 /// Whether the script has at most 512 statements, those in arms and bodies among them.
 pub(crate) fn is_short(script: &Script) -> bool
-    ensures { result ≡ nat_le (count_of_all (script_of script.now)) 512 }
+    ensures { result ≡ nat_le (count_of_all (script_of script.now)) MOST_STATEMENTS }
 {
     count(script) <= MOST_STATEMENTS
 }
 
 // How many statements there are, or one more than the most where there are more.
 #[cycle(count)]
-fn count(script: &Script) -> u64
-    ensures { result ≡ min 513 (count_of_all (script_of script.now)) }
+fn count(script: &Script) -> u32
+    ensures { result ≡ min (MOST_STATEMENTS + 1) (count_of_all (script_of script.now)) }
 {
     let mut total = 0;
     for statement in &script.statements {
@@ -29,8 +29,8 @@ fn count(script: &Script) -> u64
 }
 
 #[cycle(count)]
-fn statement_count(statement: &Statement) -> u64
-    ensures { result ≡ min 513 (count_of (statement_of statement.now)) }
+fn statement_count(statement: &Statement) -> u32
+    ensures { result ≡ min (MOST_STATEMENTS + 1) (count_of (statement_of statement.now)) }
 {
     match statement {
         Statement::Send { arms, .. } => (1 + arms_count(arms)).min(MOST_STATEMENTS + 1),
@@ -41,8 +41,8 @@ fn statement_count(statement: &Statement) -> u64
 }
 
 #[cycle(count)]
-fn arms_count(arms: &[Arm]) -> u64
-    ensures { result ≡ min 513 (count_in_arms (arms_in arms.now)) }
+fn arms_count(arms: &[Arm]) -> u32
+    ensures { result ≡ min (MOST_STATEMENTS + 1) (count_in_arms (arms_in arms.now)) }
 {
     let mut total = 0;
     for arm in arms {
@@ -52,8 +52,8 @@ fn arms_count(arms: &[Arm]) -> u64
 }
 
 #[cycle(count)]
-fn arm_count(arm: &Arm) -> u64
-    ensures { result ≡ min 513 (count_of_all (script_of arm.now.body)) }
+fn arm_count(arm: &Arm) -> u32
+    ensures { result ≡ min (MOST_STATEMENTS + 1) (count_of_all (script_of arm.now.body)) }
 {
     count(&arm.body)
 }

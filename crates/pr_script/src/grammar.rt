@@ -5,15 +5,10 @@ ghost use Rattle.pr_script.specs.Trees.{script_of, statement_of, arms_in};
 ghost use Rattle.pr_script.specs.Grammar.{is_declared, is_written_key, is_written, test_fits, begins_body, is_send_written, is_repeat_written, statement_fits, statements_fit, arms_fit, script_fits};
 
 use crate::counts::{is_short, lines_rise};
+use crate::limits::{MOST_ARMS, MOST_OPEN, MOST_TURNS};
 use crate::names::is_name;
 use crate::script::{Arm, Script, Statement, Test};
 use pr_cdb::{Command, Kind};
-
-const MOST_OPEN: u32 = 8;
-
-const MOST_ARMS: usize = 16;
-
-const MOST_TURNS: u32 = 1000;
 
 /// The allocation length of every PERSISTENT RESERVE IN in a script or plan: more than any data of this
 /// unit.

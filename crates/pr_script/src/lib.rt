@@ -12,6 +12,7 @@ mod depth;
 mod grammar;
 mod laws;
 mod lay;
+pub mod limits;
 mod machine;
 mod matching;
 mod names;

@@ -14,6 +14,7 @@ use crate::sets::{
 };
 use arrayvec::ArrayVec;
 use pr_roles::are_distinct;
+use pr_roles::limits::MOST_KEYS;
 use pr_sets::{ViewSet, WordSet};
 use std::alloc::{AllocError, Global};
 
@@ -22,7 +23,7 @@ use std::alloc::{AllocError, Global};
 #[derive(Drop)]
 pub struct ViewOf<S: ViewSet> {
     /// The declared keys.
-    pub keys: ArrayVec<u64, 12>,
+    pub keys: ArrayVec<u64, MOST_KEYS>,
     /// How many hosts and guests there are.
     pub hosts: u8,
     /// For each host and guest, its registrations: 0 for none, or the place of a declared key, from 1. The sets past
@@ -39,9 +40,6 @@ pub type View = ViewOf<WordSet>;
 
 /// How many sets of pending attentions there are.
 const ATTENTIONS: u8 = 16;
-
-/// How many keys a scenario declares at most.
-const MOST_KEYS: usize = 12;
 
 impl<S: ViewSet> ViewOf<S> {
     /// The view in which nothing is possible, of so many hosts and guests. It takes no memory yet.
@@ -185,7 +183,7 @@ fn count_of_reservations(hosts: u8) -> u8
     hosts * 4 + 3
 }
 
-fn copied(keys: &[u64]) -> ArrayVec<u64, 12>
+fn copied(keys: &[u64]) -> ArrayVec<u64, MOST_KEYS>
     requires { length keys.now ≤ 12 }
     ensures { result.items ≡ keys.now }
 {
