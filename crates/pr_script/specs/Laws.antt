@@ -2,6 +2,7 @@
 -- Laws of the language.
 use Rattle.std.specs.Prelude.{◌≡◌, ◌≤◌, ℕ, true, IsTrue, List, is_some}
 use Rattle.pr_cdb.specs.declared.reply.Reply.{Reply}
+use Rattle.pr_script.specs.declared.limits.TheConstants.{MOST_OPEN}
 use Rattle.pr_script.specs.Scripts.{Stmts, Configuration, becomes, settled, standing, begun}
 use Rattle.pr_script.specs.Costs.{cost_of_all, sent}
 use Rattle.pr_script.specs.Depths.{depth_of_all}
@@ -15,6 +16,6 @@ Settles = (l : Configuration) → (becomes (settled l) ≡ settled l) × (is_som
 abbrev pub CostBoundsSends : Type 0
 CostBoundsSends = (b : Stmts) (rs : List Reply) → sent rs (begun b) ≤ cost_of_all b
 
--- A script that may stand in a text has at most 8 repeats open at once.
+-- A script that may stand in a text has no more repeats open at once than it may.
 abbrev pub FittingIsShallow : Type 0
-FittingIsShallow = (keys : List ℕ) (b : Stmts) → IsTrue (script_fits keys b) → depth_of_all b ≤ 8
+FittingIsShallow = (keys : List ℕ) (b : Stmts) → IsTrue (script_fits keys b) → depth_of_all b ≤ MOST_OPEN

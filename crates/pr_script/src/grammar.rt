@@ -1,6 +1,7 @@
 //! Which scripts may be written.
 
 ghost use Rattle.std.specs.Prelude.{◌≡◌, ◌≤◌, ◌<◌, ◌+◌, ◌&&◌, nat_lt, is_some};
+ghost use Rattle.pr_script.specs.declared.limits.TheConstants.{MOST_OPEN};
 ghost use Rattle.pr_script.specs.Trees.{script_of, statement_of, arms_in};
 ghost use Rattle.pr_script.specs.Grammar.{is_declared, is_written_key, is_written, test_fits, begins_body, is_send_written, is_repeat_written, statement_fits, statements_fit, arms_fit, script_fits};
 
@@ -28,8 +29,8 @@ impl Script {
 // The statements stand in so many open repeats and open sends.
 #[cycle(fitting)]
 fn statements_fit(keys: &[u64], repeated: u32, sent: u32, script: &Script) -> bool
-    requires repeats { repeated ≤ 8 }
-    requires sends { sent ≤ 8 }
+    requires repeats { repeated ≤ MOST_OPEN }
+    requires sends { sent ≤ MOST_OPEN }
     ensures { result ≡ statements_fit keys.now repeated sent (script_of script.now) }
 {
     let mut fit = true;
@@ -41,8 +42,8 @@ fn statements_fit(keys: &[u64], repeated: u32, sent: u32, script: &Script) -> bo
 
 #[cycle(fitting)]
 fn statement_fits(keys: &[u64], repeated: u32, sent: u32, statement: &Statement) -> bool
-    requires repeats { repeated ≤ 8 }
-    requires sends { sent ≤ 8 }
+    requires repeats { repeated ≤ MOST_OPEN }
+    requires sends { sent ≤ MOST_OPEN }
     ensures { result ≡ statement_fits keys.now repeated sent (statement_of statement.now) }
 {
     match statement {
@@ -55,9 +56,9 @@ fn statement_fits(keys: &[u64], repeated: u32, sent: u32, statement: &Statement)
 
 #[cycle(fitting)]
 fn send_fits(keys: &[u64], repeated: u32, sent: u32, command: Command, arms: &[Arm]) -> bool
-    requires repeats { repeated ≤ 8 }
-    requires sends { sent ≤ 8 }
-    ensures { result ≡ (is_send_written keys.now command (arms_in arms.now) && (nat_lt sent 8 && arms_fit keys.now repeated (sent + 1) command (arms_in arms.now))) }
+    requires repeats { repeated ≤ MOST_OPEN }
+    requires sends { sent ≤ MOST_OPEN }
+    ensures { result ≡ (is_send_written keys.now command (arms_in arms.now) && (nat_lt sent MOST_OPEN && arms_fit keys.now repeated (sent + 1) command (arms_in arms.now))) }
 {
     is_send_written(keys, command, arms)
         && sent < MOST_OPEN
@@ -66,9 +67,9 @@ fn send_fits(keys: &[u64], repeated: u32, sent: u32, command: Command, arms: &[A
 
 #[cycle(fitting)]
 fn repeat_fits(keys: &[u64], repeated: u32, sent: u32, count: u32, body: &Script) -> bool
-    requires repeats { repeated ≤ 8 }
-    requires sends { sent ≤ 8 }
-    ensures { result ≡ (is_repeat_written count (script_of body.now) && (nat_lt repeated 8 && statements_fit keys.now (repeated + 1) sent (script_of body.now))) }
+    requires repeats { repeated ≤ MOST_OPEN }
+    requires sends { sent ≤ MOST_OPEN }
+    ensures { result ≡ (is_repeat_written count (script_of body.now) && (nat_lt repeated MOST_OPEN && statements_fit keys.now (repeated + 1) sent (script_of body.now))) }
 {
     is_repeat_written(count, body)
         && repeated < MOST_OPEN
@@ -77,8 +78,8 @@ fn repeat_fits(keys: &[u64], repeated: u32, sent: u32, count: u32, body: &Script
 
 #[cycle(fitting)]
 fn arms_fit(keys: &[u64], repeated: u32, sent: u32, command: Command, arms: &[Arm]) -> bool
-    requires repeats { repeated ≤ 8 }
-    requires sends { sent ≤ 8 }
+    requires repeats { repeated ≤ MOST_OPEN }
+    requires sends { sent ≤ MOST_OPEN }
     ensures { result ≡ arms_fit keys.now repeated sent command (arms_in arms.now) }
 {
     let mut fit = true;
@@ -90,8 +91,8 @@ fn arms_fit(keys: &[u64], repeated: u32, sent: u32, command: Command, arms: &[Ar
 
 #[cycle(fitting)]
 fn arm_fits(keys: &[u64], repeated: u32, sent: u32, command: Command, arm: &Arm) -> bool
-    requires repeats { repeated ≤ 8 }
-    requires sends { sent ≤ 8 }
+    requires repeats { repeated ≤ MOST_OPEN }
+    requires sends { sent ≤ MOST_OPEN }
     ensures { result ≡ (test_fits keys.now command arm.now.test && statements_fit keys.now repeated sent (script_of arm.now.body)) }
 {
     test_fits(keys, command, arm.test) && statements_fit(keys, repeated, sent, &arm.body)

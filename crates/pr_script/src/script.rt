@@ -3,12 +3,13 @@
 ghost use Rattle.std.specs.Prelude.{◌≡◌, ◌↔◌, IsTrue, IfOk};
 ghost use Rattle.pr_script.specs.Trees.{script_of, statement_of, arms_in};
 
+use crate::limits::MOST_LETTERS;
 use arrayvec::ArrayString;
 use pr_cdb::{Command, Sense};
 use std::alloc::{AllocError, Global};
 
 /// The word with which a script stops, of at most 16 bytes.
-pub type Word = ArrayString<16>;
+pub type Word = ArrayString<MOST_LETTERS>;
 
 /// The statements of a script, or of a part of one, in order.
 ///
