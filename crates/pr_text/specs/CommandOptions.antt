@@ -1,39 +1,30 @@
 -- Agrees with docs/FORMATS.md, 'COMMAND'.
 -- The options that spell a PERSISTENT RESERVE command, as in the manual of `sg_persist`.
-use Rattle.std.specs.Prelude.{ℕ, Bool, ◌&&◌, if◌then◌else◌, List, [], ◌∷◌, codes, bytes_eq, Option, Some, None, is_none, unwrap_or, option_map}
+use Rattle.std.specs.Prelude.{ℕ, Bool, ◌&&◌, if◌then◌else◌, List, [], ◌∷◌, map, codes, Option, Some, None, is_none, unwrap_or, option_map}
 use Rattle.std.specs.Option.{option_or}
 use Rattle.pr_cdb.specs.declared.command.Kind.{Kind}
 use Rattle.pr_cdb.specs.declared.command.Command.{Command}
 use Rattle.pr_cdb.specs.declared.command.Command.TheVariants.{ReadKeys, ReadReservation, ReportCapabilities, Register, RegisterIgnore, Reserve, Release, Clear, Preempt, PreemptAbort}
+use Rattle.pr_script.specs.declared.grammar.TheConstants.{WRITTEN_LENGTH}
 use Rattle.pr_text.specs.declared.options.Way.{Way}
 use Rattle.pr_text.specs.declared.options.Way.TheVariants.{In, Out}
 use Rattle.pr_text.specs.declared.options.Action.{Action}
 use Rattle.pr_text.specs.declared.options.Action.TheVariants as action
 use Rattle.pr_text.specs.declared.options.CommandOption.{CommandOption}
 use Rattle.pr_text.specs.declared.options.CommandOption.TheVariants.{Toward, Doing, Rk, Sark, OfKind}
+use Rattle.pr_text.specs.declared.options.TheConstants.{WAYS, ACTIONS}
 use Rattle.pr_text.specs.declared.options.Written.{Written}
 use Rattle.pr_text.specs.Chain.{◌>>=◌}
+use Rattle.pr_text.specs.Lookups.{lookup}
 use Rattle.pr_text.specs.WordTerms.{value_after, key_or_zero, kind_of}
 
 -- the way of the data, of which each command names one
 unfoldable pub way_of : List ℕ → Option Way
-way_of word =
-    if bytes_eq word (codes "--in") then Some In else (
-    if bytes_eq word (codes "--out") then Some Out else None)
+way_of word = lookup (map (λ row. (row.0.now, row.1)) WAYS) word
 
 -- the service action that a word names
 unfoldable pub action_of : List ℕ → Option Action
-action_of word =
-    if bytes_eq word (codes "--read-keys") then Some action.ReadKeys else (
-    if bytes_eq word (codes "--read-reservation") then Some action.ReadReservation else (
-    if bytes_eq word (codes "--report-capabilities") then Some action.ReportCapabilities else (
-    if bytes_eq word (codes "--register") then Some action.Register else (
-    if bytes_eq word (codes "--register-ignore") then Some action.RegisterIgnore else (
-    if bytes_eq word (codes "--reserve") then Some action.Reserve else (
-    if bytes_eq word (codes "--release") then Some action.Release else (
-    if bytes_eq word (codes "--clear") then Some action.Clear else (
-    if bytes_eq word (codes "--preempt") then Some action.Preempt else (
-    if bytes_eq word (codes "--preempt-abort") then Some action.PreemptAbort else None)))))))))
+action_of word = lookup (map (λ row. (row.0.now, row.1)) ACTIONS) word
 
 -- the key that follows this in the word
 abbrev pub key_after : List ℕ → List ℕ → Option ℕ
@@ -65,11 +56,11 @@ abbrev pub with_options : Written → List (List ℕ) → Option Written
 with_options w [] = Some w
 with_options w (word ∷ ws) = option_of word >>= λ o. with_option w o >>= λ v. with_options v ws
 
--- the commands of `--in`, for which 8192 bytes of data are asked. They have no key and no type.
+-- the commands of `--in`. They have no key and no type.
 unfoldable pub command_in : Action → Option Command
-command_in action.ReadKeys = Some (ReadKeys 8192)
-command_in action.ReadReservation = Some (ReadReservation 8192)
-command_in action.ReportCapabilities = Some (ReportCapabilities 8192)
+command_in action.ReadKeys = Some (ReadKeys WRITTEN_LENGTH)
+command_in action.ReadReservation = Some (ReadReservation WRITTEN_LENGTH)
+command_in action.ReportCapabilities = Some (ReportCapabilities WRITTEN_LENGTH)
 command_in action.Register = None
 command_in action.RegisterIgnore = None
 command_in action.Reserve = None

@@ -3,7 +3,7 @@
 ghost use Rattle.std.specs.Prelude.{◌≡◌};
 ghost use Rattle.pr_text.specs.Keywords.{keyword_of};
 
-use crate::cutting::is;
+use crate::lookup::lookup;
 
 /// What the first word of a line says of it. A command of a plan has none of these.
 #[derive(Clone, Copy, Debug, PartialEq, Eq)]
@@ -28,64 +28,32 @@ pub enum Keyword {
     Stop,
 }
 
+/// The words that lines begin with (docs/FORMATS.md, 'The lines of a scenario').
+pub const KEYWORDS: [(&[u8], Keyword); 18] = [
+    (b"fence", Keyword::Fence),
+    (b"keys", Keyword::Keys),
+    (b"host", Keyword::Host),
+    (b"guest", Keyword::Guest),
+    (b"start", Keyword::Start),
+    (b"pending", Keyword::Pending),
+    (b"reservation", Keyword::Reservation),
+    (b"generation", Keyword::Generation),
+    (b"role", Keyword::Role),
+    (b"script", Keyword::Script),
+    (b"plan", Keyword::Plan),
+    (b"end", Keyword::End),
+    (b"send", Keyword::Send),
+    (b"on", Keyword::On),
+    (b"done", Keyword::Done),
+    (b"repeat", Keyword::Repeat),
+    (b"break", Keyword::Break),
+    (b"stop", Keyword::Stop),
+];
+
 /// The keyword that the word is.
 #[tactic(auto, unfolding(crate::specs::Keywords::keyword_of))]
 pub fn keyword_of(word: &[u8]) -> Option<Keyword>
     ensures { result ≡ keyword_of word.now }
 {
-    if is(word, "fence") {
-        return Some(Keyword::Fence);
-    }
-    if is(word, "keys") {
-        return Some(Keyword::Keys);
-    }
-    if is(word, "host") {
-        return Some(Keyword::Host);
-    }
-    if is(word, "guest") {
-        return Some(Keyword::Guest);
-    }
-    if is(word, "start") {
-        return Some(Keyword::Start);
-    }
-    if is(word, "pending") {
-        return Some(Keyword::Pending);
-    }
-    if is(word, "reservation") {
-        return Some(Keyword::Reservation);
-    }
-    if is(word, "generation") {
-        return Some(Keyword::Generation);
-    }
-    if is(word, "role") {
-        return Some(Keyword::Role);
-    }
-    if is(word, "script") {
-        return Some(Keyword::Script);
-    }
-    if is(word, "plan") {
-        return Some(Keyword::Plan);
-    }
-    if is(word, "end") {
-        return Some(Keyword::End);
-    }
-    if is(word, "send") {
-        return Some(Keyword::Send);
-    }
-    if is(word, "on") {
-        return Some(Keyword::On);
-    }
-    if is(word, "done") {
-        return Some(Keyword::Done);
-    }
-    if is(word, "repeat") {
-        return Some(Keyword::Repeat);
-    }
-    if is(word, "break") {
-        return Some(Keyword::Break);
-    }
-    if is(word, "stop") {
-        return Some(Keyword::Stop);
-    }
-    None
+    lookup(&KEYWORDS, word)
 }

@@ -14,6 +14,7 @@ mod fault;
 mod item;
 mod keyword;
 mod laws;
+mod lookup;
 mod open_script;
 mod options;
 mod source;

@@ -4,12 +4,11 @@ ghost use Rattle.std.specs.Prelude.{◌≡◌, ◌∷◌};
 ghost use Rattle.pr_text.specs.TextLines.{words};
 ghost use Rattle.pr_text.specs.CommandOptions.{way_of, action_of, key_after, option_of, with_option, with_options, unwritten, command_in, command_out, command_of};
 
-use crate::cutting::{is, next_word};
+use crate::cutting::next_word;
+use crate::lookup::lookup;
 use crate::terms::{key_or_zero, kind_of, value_after};
 use pr_cdb::{Command, Kind};
-
-// How many bytes of data a command asks for.
-const ALLOCATION_LENGTH: u16 = 8192;
+use pr_script::WRITTEN_LENGTH;
 
 /// The way of a command's data: `--in` or `--out`.
 #[derive(Clone, Copy, Debug, PartialEq, Eq)]
@@ -32,6 +31,23 @@ pub enum Action {
     Preempt,
     PreemptAbort,
 }
+
+/// The options for the way of the data, of which each command names one.
+pub const WAYS: [(&[u8], Way); 2] = [(b"--in", Way::In), (b"--out", Way::Out)];
+
+/// The options for the service actions.
+pub const ACTIONS: [(&[u8], Action); 10] = [
+    (b"--read-keys", Action::ReadKeys),
+    (b"--read-reservation", Action::ReadReservation),
+    (b"--report-capabilities", Action::ReportCapabilities),
+    (b"--register", Action::Register),
+    (b"--register-ignore", Action::RegisterIgnore),
+    (b"--reserve", Action::Reserve),
+    (b"--release", Action::Release),
+    (b"--clear", Action::Clear),
+    (b"--preempt", Action::Preempt),
+    (b"--preempt-abort", Action::PreemptAbort),
+];
 
 /// One option of a command.
 #[derive(Clone, Copy, Debug, PartialEq, Eq)]
@@ -159,50 +175,14 @@ fn key_after(name: &str, word: &[u8]) -> Option<u64>
 fn way_of(word: &[u8]) -> Option<Way>
     ensures { result ≡ way_of word.now }
 {
-    if is(word, "--in") {
-        return Some(Way::In);
-    }
-    if is(word, "--out") {
-        return Some(Way::Out);
-    }
-    None
+    lookup(&WAYS, word)
 }
 
 #[tactic(auto, unfolding(crate::specs::CommandOptions::action_of))]
 fn action_of(word: &[u8]) -> Option<Action>
     ensures { result ≡ action_of word.now }
 {
-    if is(word, "--read-keys") {
-        return Some(Action::ReadKeys);
-    }
-    if is(word, "--read-reservation") {
-        return Some(Action::ReadReservation);
-    }
-    if is(word, "--report-capabilities") {
-        return Some(Action::ReportCapabilities);
-    }
-    if is(word, "--register") {
-        return Some(Action::Register);
-    }
-    if is(word, "--register-ignore") {
-        return Some(Action::RegisterIgnore);
-    }
-    if is(word, "--reserve") {
-        return Some(Action::Reserve);
-    }
-    if is(word, "--release") {
-        return Some(Action::Release);
-    }
-    if is(word, "--clear") {
-        return Some(Action::Clear);
-    }
-    if is(word, "--preempt") {
-        return Some(Action::Preempt);
-    }
-    if is(word, "--preempt-abort") {
-        return Some(Action::PreemptAbort);
-    }
-    None
+    lookup(&ACTIONS, word)
 }
 
 // The commands of `--in`.
@@ -210,7 +190,7 @@ fn action_of(word: &[u8]) -> Option<Action>
 fn command_in(action: Action) -> Option<Command>
     ensures { result ≡ command_in action }
 {
-    let alloc = ALLOCATION_LENGTH;
+    let alloc = WRITTEN_LENGTH;
     match action {
         Action::ReadKeys => Some(Command::ReadKeys { alloc }),
         Action::ReadReservation => Some(Command::ReadReservation { alloc }),
