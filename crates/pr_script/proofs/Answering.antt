@@ -5,22 +5,22 @@ use Rattle.std.proofs.Common.{refl, sym, ap, subst, ◌∙◌, arith, rules, get
 use Rattle.pr_cdb.specs.declared.reply.Reply.{Reply}
 use Rattle.pr_cdb.specs.declared.command.Command.{Command}
 use Rattle.pr_script.specs.declared.next.NoArm.{NoArm}
-use Rattle.pr_script.specs.declared.rows.Row.{Row}
+use Rattle.pr_script.specs.declared.rows.Instruction.{Instruction}
 use Rattle.pr_script.specs.declared.rows.Step.{Step}
 use Rattle.pr_script.specs.declared.rows.Step.TheVariants.{Send}
-use Rattle.pr_script.specs.declared.rows.Jump.{Jump}
-use Rattle.pr_script.specs.declared.walk.Open.{Open}
+use Rattle.pr_script.specs.declared.rows.ArmTarget.{ArmTarget}
+use Rattle.pr_script.specs.declared.advance.LoopFrame.{LoopFrame}
 use Rattle.pr_script.specs.Scripts.{Stmt, Stmts, Arms, sends, repeats, breaks, stops, none, more, no_arm, arm, Configuration, statement, before, settled, is_ready, IsReady}
 use Rattle.pr_script.specs.Takes.{matches, first_match, take}
 use Rattle.pr_script.specs.Depths.{depth_of_all, depth_of_arms}
-use Rattle.pr_script.specs.inside.Tables.{joined, without_end, opened, place, arms_at, step_at, meanings, deepest, open_count, AreJumps, IsStep, IsTable}
-use Rattle.pr_script.specs.inside.Walks.{TakesBody}
+use Rattle.pr_script.specs.inside.Program.{joined, without_end, opened, place, arms_at, step_at, meanings, deepest, open_count, AreJumps, IsStep, IsTable}
+use Rattle.pr_script.specs.inside.Advances.{TakesBody}
 use Rattle.pr_script.proofs.Places.{place-zero, place-row, the_row, opened-unready}
 use Rattle.pr_script.proofs.Walking.{deepest-before}
 
 -- ---- a ready place is a send's
 
-pub ready_above : (rows : List Row) (at : ℕ) → IsReady (before (place (meanings rows) at) []) → at ≡ 0 → ⊥
+pub ready_above : (rows : List Instruction) (at : ℕ) → IsReady (before (place (meanings rows) at) []) → at ≡ 0 → ⊥
 ready_above rows at ready ends =
     let nothing : place (meanings rows) at ≡ none = ap (place (meanings rows)) ends ∙ place-zero rows in
     let h : false ≡ true = ap (λ b. is_ready (before b [])) (sym nothing) ∙ ready in cc
@@ -32,11 +32,11 @@ first_alone breaks l = refl
 first_alone (stops w) l = refl
 
 -- readiness is the first statement's alone
-pub ready_place : (b : Stmts) (ms : List Stmts) (opens : List Open) → IsReady (before b (opened ms opens)) → IsReady (before b [])
+pub ready_place : (b : Stmts) (ms : List Stmts) (opens : List LoopFrame) → IsReady (before b (opened ms opens)) → IsReady (before b [])
 ready_place none ms opens ready = absurd (cc (opened-unready ms opens, ready))
 ready_place (more s b) ms opens ready = first_alone s (before b []) ∙ sym (first_alone s (before b (opened ms opens))) ∙ ready
 
-pub ready_is : (rows : List Row) (at : ℕ) (row : Row) (step : Step) → IsTable rows → at ≤ length rows → IsReady (before (place (meanings rows) at) [])
+pub ready_is : (rows : List Instruction) (at : ℕ) (row : Instruction) (step : Step) → IsTable rows → at ≤ length rows → IsReady (before (place (meanings rows) at) [])
     → row ≡ get_or rows (at - 1) row → row.step ≡ step → is_ready (statement (step_at (meanings rows) row.next step) ∷ []) ≡ true
 ready_is rows at row step table within ready is same =
     sym (first_alone (step_at (meanings rows) row.next step) (before (place (meanings rows) row.next) []))
@@ -50,7 +50,7 @@ before-joined : (b e : Stmts) (l : Configuration) → before (joined b e) l ≡ 
 before-joined none e l = refl
 before-joined (more s b) e l = ap (λ k. statement s ∷ k) (before-joined b e l)
 
-first_match-arms_at : (ms : List Stmts) (next : ℕ) (r : Reply) (js : List Jump)
+first_match-arms_at : (ms : List Stmts) (next : ℕ) (r : Reply) (js : List ArmTarget)
     → first_match (arms_at ms next js) r ≡ option_map (λ j. without_end (place ms j.place) (place ms next)) (find (λ j. matches j.test r) js)
 first_match-arms_at ms next r [] = refl
 first_match-arms_at ms next r (j ∷ js) =
@@ -60,10 +60,10 @@ first_match-arms_at ms next r (j ∷ js) =
       | false ↦ first_match-arms_at ms next r js
     ]
 
-IsJump : List Stmts → ℕ → ℕ → Jump → Type 0
+IsJump : List Stmts → ℕ → ℕ → ArmTarget → Type 0
 IsJump ms top next j = (j.place ≤ top) × (joined (without_end (place ms j.place) (place ms next)) (place ms next) ≡ place ms j.place)
 
-jump_found : (ms : List Stmts) (top next : ℕ) (p : Jump → Bool) (js : List Jump) (j : Jump) → AreJumps ms top next js → find p js ≡ Some j → IsJump ms top next j
+jump_found : (ms : List Stmts) (top next : ℕ) (p : ArmTarget → Bool) (js : List ArmTarget) (j : ArmTarget) → AreJumps ms top next js → find p js ≡ Some j → IsJump ms top next j
 unfolding IsJump
 jump_found ms top next p [] j h = λ e. absurd (cc)
 jump_found ms top next p (i ∷ js) j h =
@@ -100,12 +100,12 @@ takes_nothing b n c a next r l is found =
 -- ---- the answer of the search
 
 -- what a found jump comes to, and what none does
-by_found : (P : ℕ → Type 0) (Q : NoArm → Type 0) (error : NoArm) (found : Option Jump) → ((j : Jump) → found ≡ Some j → P j.place) → (found ≡ None → Q error)
+by_found : (P : ℕ → Type 0) (Q : NoArm → Type 0) (error : NoArm) (found : Option ArmTarget) → ((j : ArmTarget) → found ≡ Some j → P j.place) → (found ≡ None → Q error)
     → MatchResult (ok_or (option_map (λ j. j.place) found) error) P Q
 by_found P Q error None where_some where_none = where_none refl
 by_found P Q error (Some j) where_some where_none = where_some j refl
 
-module _ (rows : List Row) (at : ℕ) (row : Row) (line : ℕ) (command : Command) (jumps : Vec Jump Global) (r : Reply)
+module _ (rows : List Instruction) (at : ℕ) (row : Instruction) (line : ℕ) (command : Command) (jumps : Vec ArmTarget Global) (r : Reply)
     (table : IsTable rows) (within : at ≤ length rows) (ready : IsReady (before (place (meanings rows) at) []))
     (is : row ≡ get_or rows (at - 1) row) (same : row.step ≡ Send line command jumps) where
   are_jumps : AreJumps (meanings rows) (at - 1) row.next jumps.items
@@ -115,7 +115,7 @@ module _ (rows : List Row) (at : ℕ) (row : Row) (line : ℕ) (command : Comman
   mean = place-row rows at row table (ready_above rows at ready) within is
       ∙ ap (λ s. more (step_at (meanings rows) row.next s) (place (meanings rows) row.next)) same
 
-  found_arm : (o : Option Jump) → find (λ j. matches j.test r) jumps.items ≡ o
+  found_arm : (o : Option ArmTarget) → find (λ j. matches j.test r) jumps.items ≡ o
       → first_match (arms_at (meanings rows) row.next jumps.items) r ≡ option_map (λ j. without_end (place (meanings rows) j.place) (place (meanings rows) row.next)) o
   found_arm o found = first_match-arms_at (meanings rows) row.next r jumps.items ∙ ap (option_map (λ j. without_end (place (meanings rows) j.place) (place (meanings rows) row.next))) found
 

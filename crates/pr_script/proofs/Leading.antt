@@ -1,12 +1,12 @@
--- Where the walk from a place leads.
+-- Where a place leads.
 use Rattle.std.specs.Prelude.{◌≡◌, ℕ, ◌-◌, ◌<◌, ◌≤◌, List, [], ◌∷◌, ◌++◌, length, Option, Some, None, IfNone}
 use Rattle.std.proofs.Common.{refl, sym, ap, subst, ◌∙◌, arith, rules, get_or}
-use Rattle.pr_script.specs.declared.rows.Row.{Row}
+use Rattle.pr_script.specs.declared.rows.Instruction.{Instruction}
 use Rattle.pr_script.specs.declared.rows.Step.TheVariants.{Repeat, Break}
-use Rattle.pr_script.specs.declared.walk.Open.{Open}
+use Rattle.pr_script.specs.declared.advance.LoopFrame.{LoopFrame}
 use Rattle.pr_script.specs.Scripts.{statement, mark, repeats, Configuration, before, turn, past_mark, becomes}
-use Rattle.pr_script.specs.inside.Tables.{place, meanings, opened, deepest, configuration, AreOpens, IsStep, IsPlaced}
-use Rattle.pr_script.specs.inside.Walks.{Leads}
+use Rattle.pr_script.specs.inside.Program.{place, meanings, opened, deepest, configuration, AreLoops, IsStep, IsPlaced}
+use Rattle.pr_script.specs.inside.Advances.{Leads}
 use Rattle.pr_script.proofs.Places.{the_row, configuration-step, configuration-zero, opened-push}
 use Rattle.pr_script.proofs.Walking.{opens_less, open_count-configuration, leads_turn, leads_mark, leads_break, past_mark-before}
 
@@ -21,9 +21,9 @@ no_items (x ∷ xs) h = absurd (h (omega arith))
 leads_alike : (l l' m m' : Configuration) → l' ≡ l → m' ≡ m → Leads l m → Leads l' m'
 leads_alike l l' m m' old new leads = subst (λ k. Leads k m') (sym old) (subst (Leads l) (sym new) leads)
 
-pub placed_on : (rows : List Row) (at to : ℕ) (opens next : List Open) → IsPlaced rows at opens
+pub placed_on : (rows : List Instruction) (at to : ℕ) (opens next : List LoopFrame) → IsPlaced rows at opens
     → Leads (configuration (meanings rows) at opens) (configuration (meanings rows) to next)
-    → (to ≤ length rows) × AreOpens (length rows) next → IsPlaced rows to next
+    → (to ≤ length rows) × AreLoops (length rows) next → IsPlaced rows to next
 placed_on rows at to opens next placed leads within = record {
   table = placed.table;
   within = within.0;
@@ -33,30 +33,30 @@ placed_on rows at to opens next placed leads within = record {
 
 -- ---- at place 0
 
-pub end_rests : (rows : List Row) (at : ℕ) (opens : List Open) → at ≡ 0 → (0 < length opens → ⊥)
+pub end_rests : (rows : List Instruction) (at : ℕ) (opens : List LoopFrame) → at ≡ 0 → (0 < length opens → ⊥)
     → becomes (configuration (meanings rows) at opens) ≡ configuration (meanings rows) at opens
 end_rests rows at opens ends empty =
     let nothing = configuration-zero rows at opens ends ∙ ap (opened (meanings rows)) (no_items opens empty) in
     subst (λ l. becomes l ≡ l) (sym nothing) refl
 
-popped : (rows : List Row) (at : ℕ) (opens os : List Open) (o : Open) → at ≡ 0 → opens ≡ os ++ o ∷ []
+popped : (rows : List Instruction) (at : ℕ) (opens os : List LoopFrame) (o : LoopFrame) → at ≡ 0 → opens ≡ os ++ o ∷ []
     → configuration (meanings rows) at opens
     ≡ mark ∷ statement (repeats o.left (place (meanings rows) o.body)) ∷ before (place (meanings rows) o.next) (opened (meanings rows) os)
 popped rows at opens os o ends were =
     configuration-zero rows at opens ends ∙ ap (opened (meanings rows)) were ∙ opened-push (meanings rows) os o
 
-pub room_again : (rows : List Row) (at : ℕ) (opens os : List Open) (o : Open) → IsPlaced rows at opens → at ≡ 0 → opens ≡ os ++ o ∷ []
+pub room_again : (rows : List Instruction) (at : ℕ) (opens os : List LoopFrame) (o : LoopFrame) → IsPlaced rows at opens → at ≡ 0 → opens ≡ os ++ o ∷ []
     → length os < 8
 room_again rows at opens os o placed ends were =
     let is = popped rows at opens os o ends were in
     let room = subst (λ l. deepest l ≤ 8) is placed.room in
     omega (arith, open_count-configuration (place (meanings rows) o.next) (meanings rows) os)
 
-pub places_again : (rows : List Row) (at : ℕ) (opens os : List Open) (o : Open) → IsPlaced rows at opens → opens ≡ os ++ o ∷ []
-    → AreOpens (length rows) os × (o.body ≤ length rows) × (o.next ≤ length rows)
-places_again rows at opens os o placed were = opens_less (length rows) os o (subst (AreOpens (length rows)) were placed.repeats)
+pub places_again : (rows : List Instruction) (at : ℕ) (opens os : List LoopFrame) (o : LoopFrame) → IsPlaced rows at opens → opens ≡ os ++ o ∷ []
+    → AreLoops (length rows) os × (o.body ≤ length rows) × (o.next ≤ length rows)
+places_again rows at opens os o placed were = opens_less (length rows) os o (subst (AreLoops (length rows)) were placed.repeats)
 
-pub leads_again : (rows : List Row) (at to : ℕ) (opens os next : List Open) (o : Open) → at ≡ 0 → opens ≡ os ++ o ∷ []
+pub leads_again : (rows : List Instruction) (at to : ℕ) (opens os next : List LoopFrame) (o : LoopFrame) → at ≡ 0 → opens ≡ os ++ o ∷ []
     → configuration (meanings rows) to next ≡ turn o.left (place (meanings rows) o.body) (before (place (meanings rows) o.next) (opened (meanings rows) os))
     → Leads (configuration (meanings rows) at opens) (configuration (meanings rows) to next)
 leads_again rows at to opens os next o ends were to_is =
@@ -65,7 +65,7 @@ leads_again rows at to opens os next o ends were to_is =
 
 -- ---- at a repeat
 
-module _ (rows : List Row) (at : ℕ) (opens : List Open) (row : Row) (placed : IsPlaced rows at opens) (some : at ≡ 0 → ⊥) (is : row ≡ get_or rows (at - 1) row) where
+module _ (rows : List Instruction) (at : ℕ) (opens : List LoopFrame) (row : Instruction) (placed : IsPlaced rows at opens) (some : at ≡ 0 → ⊥) (is : row ≡ get_or rows (at - 1) row) where
   pub next_within : row.next ≤ length rows
   next_within = omega (arith, (the_row rows at row placed.table some placed.within is).next, placed.within)
 
@@ -78,7 +78,7 @@ module _ (rows : List Row) (at : ℕ) (opens : List Open) (row : Row) (placed : 
         let room = subst (λ l. deepest l ≤ 8) (configuration-step rows at opens row (Repeat count body) placed some is same) placed.room in
         omega (arith, open_count-configuration (place (meanings rows) row.next) (meanings rows) opens)
 
-    pub leads_in : (to : ℕ) (next : List Open)
+    pub leads_in : (to : ℕ) (next : List LoopFrame)
         → configuration (meanings rows) to next ≡ turn count (place (meanings rows) body) (before (place (meanings rows) row.next) (opened (meanings rows) opens))
         → Leads (configuration (meanings rows) at opens) (configuration (meanings rows) to next)
     leads_in to next to_is = leads_alike _ _ _ _ (configuration-step rows at opens row (Repeat count body) placed some is same) to_is
@@ -86,7 +86,7 @@ module _ (rows : List Row) (at : ℕ) (opens : List Open) (row : Row) (placed : 
 
   -- ---- at a break
 
-  pub leads_out : (to : ℕ) (next : List Open) → row.step ≡ Break
+  pub leads_out : (to : ℕ) (next : List LoopFrame) → row.step ≡ Break
       → configuration (meanings rows) to next ≡ past_mark (opened (meanings rows) opens)
       → Leads (configuration (meanings rows) at opens) (configuration (meanings rows) to next)
   leads_out to next same to_is =

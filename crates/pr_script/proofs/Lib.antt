@@ -8,6 +8,6 @@ pub mod Shallow
 pub mod Places
 pub mod Walking
 pub mod Leading
-pub mod Laid
+pub mod Compiling
 pub mod Answering
 pub mod Sameness

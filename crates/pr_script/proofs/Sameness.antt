@@ -7,7 +7,7 @@ use Rattle.pr_script.specs.declared.script.Statement.{Statement}
 use Rattle.pr_script.specs.declared.script.Arm.{Arm}
 use Rattle.pr_script.specs.Scripts.{Stmt, Stmts, Arms, sends, repeats, none, more, no_arm, arm}
 use Rattle.pr_script.specs.Trees.{statement_of, statements_in, script_of, arms_in}
-use Rattle.pr_script.specs.inside.Tables.{size}
+use Rattle.pr_script.specs.inside.Program.{size}
 use Rattle.pr_script.proofs.Taken.{statements_taken, arms_taken, taken}
 
 pub refuted : {P : Type 0} → (P → ⊥) → (IsTrue false → P) × (P → IsTrue false)

@@ -1,20 +1,20 @@
 -- What the repeats that are open lead to.
 use Rattle.std.specs.Prelude.{◌≡◌, ℕ, zero, suc, ◌+◌, ◌≤◌, List, [], ◌∷◌, ◌++◌, length, fold, drop, max}
 use Rattle.std.proofs.Common.{refl, ◌∙◌, arith}
-use Rattle.pr_script.specs.declared.walk.Open.{Open}
+use Rattle.pr_script.specs.declared.advance.LoopFrame.{LoopFrame}
 use Rattle.pr_script.specs.Scripts.{Stmts, none, more, statement, mark, repeats, breaks, Configuration, before, turn, past_mark}
 use Rattle.pr_script.specs.Depths.{depth_of_all}
-use Rattle.pr_script.specs.inside.Tables.{place, opened_by, opened, open_count, deepest, AreOpens}
-use Rattle.pr_script.specs.inside.Walks.{Leads}
+use Rattle.pr_script.specs.inside.Program.{place, opened_by, opened, open_count, deepest, AreLoops}
+use Rattle.pr_script.specs.inside.Advances.{Leads}
 use Rattle.pr_script.proofs.Settling.{settled-becomes, work-turn, work-past_mark}
 
 -- ---- the places that the open repeats name
 
-pub opens_more : (top : ℕ) (os : List Open) (o : Open) → AreOpens top os → o.body ≤ top → o.next ≤ top → AreOpens top (os ++ o ∷ [])
+pub opens_more : (top : ℕ) (os : List LoopFrame) (o : LoopFrame) → AreLoops top os → o.body ≤ top → o.next ≤ top → AreLoops top (os ++ o ∷ [])
 opens_more top [] o h body next = (body, next, tt)
 opens_more top (p ∷ os) o h body next = (h.0, h.1, opens_more top os o h.2 body next)
 
-pub opens_less : (top : ℕ) (os : List Open) (o : Open) → AreOpens top (os ++ o ∷ []) → AreOpens top os × (o.body ≤ top) × (o.next ≤ top)
+pub opens_less : (top : ℕ) (os : List LoopFrame) (o : LoopFrame) → AreLoops top (os ++ o ∷ []) → AreLoops top os × (o.body ≤ top) × (o.next ≤ top)
 opens_less top [] o h = (tt, h.0, h.1)
 opens_less top (p ∷ os) o h = let rest = opens_less top os o h.2 in ((h.0, h.1, rest.0), rest.1, rest.2)
 
@@ -47,15 +47,15 @@ deepest-past_mark [] = omega arith
 deepest-past_mark ((statement s) ∷ l) = omega (arith, deepest-past_mark l)
 deepest-past_mark (mark ∷ l) = omega (arith, deepest-drop l)
 
-open_count-fold : (ms : List Stmts) (os : List Open) (l : Configuration) → open_count (fold (opened_by ms) l os) ≡ open_count l + length os
+open_count-fold : (ms : List Stmts) (os : List LoopFrame) (l : Configuration) → open_count (fold (opened_by ms) l os) ≡ open_count l + length os
 open_count-fold ms [] l = omega arith
 open_count-fold ms (o ∷ os) l = omega (arith, open_count-fold ms os (opened_by ms l o), open_count-before (place ms o.next) l)
 
 -- as many marks as there are open repeats
-pub open_count-opened : (ms : List Stmts) (os : List Open) → open_count (opened ms os) ≡ length os
+pub open_count-opened : (ms : List Stmts) (os : List LoopFrame) → open_count (opened ms os) ≡ length os
 open_count-opened ms os = omega (arith, open_count-fold ms os [])
 
-pub open_count-configuration : (b : Stmts) (ms : List Stmts) (os : List Open) → open_count (before b (opened ms os)) ≡ length os
+pub open_count-configuration : (b : Stmts) (ms : List Stmts) (os : List LoopFrame) → open_count (before b (opened ms os)) ≡ length os
 open_count-configuration b ms os = open_count-before b (opened ms os) ∙ open_count-opened ms os
 
 -- ---- what leads on

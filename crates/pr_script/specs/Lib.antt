@@ -3,7 +3,7 @@ pub mod Trees
 pub mod Takes
 pub mod Costs
 pub mod Depths
-pub mod Seen
+pub mod Next
 pub mod Names
 pub mod Grammar
 pub mod Laws

@@ -1,5 +1,5 @@
 pub mod Climbs
-pub mod Laying
-pub mod Tables
-pub mod Tokens
-pub mod Walks
+pub mod Compiled
+pub mod Program
+pub mod StoredForm
+pub mod Advances

@@ -7,11 +7,12 @@
 //! Worked examples stand in `tests/vectors`.
 #![tactic(auto)]
 
+mod advance;
+mod compile;
 mod counts;
 mod depth;
 mod grammar;
 mod laws;
-mod lay;
 pub mod limits;
 mod machine;
 mod matching;
@@ -20,7 +21,6 @@ mod next;
 mod rows;
 mod script;
 mod sizes;
-mod walk;
 
 pub use depth::repeat_depth;
 pub use grammar::{WRITTEN_LENGTH, is_declared, is_written, is_written_key};

@@ -1,6 +1,6 @@
-//! A script as a table of rows.
+//! A script as a table of instructions, its rows.
 //!
-//! A place is a number: 0 is the end, and any other names a row, the first of which is 1. Rows are laid from
+//! A place is a number: 0 is the end, and any other names a row, the first of which is 1. Rows are added from
 //! the end backwards, so that each names only places before it. A body of a repeat ends at place 0, and the
 //! body of an arm goes on with what follows its send.
 
@@ -9,7 +9,7 @@ use pr_cdb::Command;
 
 /// A statement, and the place that follows it.
 #[derive(Debug, Drop)]
-pub(crate) struct Row {
+pub(crate) struct Instruction {
     pub step: Step,
     pub next: usize,
 }
@@ -20,7 +20,7 @@ pub(crate) enum Step {
     Send {
         line: u32,
         command: Command,
-        arms: Vec<Jump>,
+        arms: Vec<ArmTarget>,
     },
     Repeat {
         count: u32,
@@ -32,7 +32,7 @@ pub(crate) enum Step {
 
 /// The place at which an arm's body begins.
 #[derive(Clone, Copy, Debug)]
-pub(crate) struct Jump {
+pub(crate) struct ArmTarget {
     pub test: Test,
     pub place: usize,
 }

@@ -8,15 +8,15 @@ use Rattle.std.proofs.Math.Nat.{eq-or-lt_of_le}
 use Rattle.pr_cdb.specs.declared.command.Command.{Command}
 use Rattle.pr_script.specs.declared.script.Statement.{Statement}
 use Rattle.pr_script.specs.declared.script.Arm.{Arm}
-use Rattle.pr_script.specs.declared.rows.Row.{Row}
+use Rattle.pr_script.specs.declared.rows.Instruction.{Instruction}
 use Rattle.pr_script.specs.declared.rows.Step.{Step}
 use Rattle.pr_script.specs.declared.rows.Step.TheVariants.{Send, Repeat, Break, Stop}
-use Rattle.pr_script.specs.declared.rows.Jump.{Jump}
+use Rattle.pr_script.specs.declared.rows.ArmTarget.{ArmTarget}
 use Rattle.pr_script.specs.Scripts.{Stmt, Stmts, Arms, sends, repeats, none, more, no_arm, arm, before}
 use Rattle.pr_script.specs.Depths.{depth_of_all}
 use Rattle.pr_script.specs.Trees.{statement_of, statements_in, arms_in, script_of}
-use Rattle.pr_script.specs.inside.Tables.{configuration, deepest, IsPlaced, joined, size, front, without_end, place, arms_at, step_at, row_at, meanings, AreJumps, IsStep, IsRow, IsTable}
-use Rattle.pr_script.specs.inside.Laying.{Grows, IsLaid, IsStepLaid, AreArmsLaid}
+use Rattle.pr_script.specs.inside.Program.{configuration, deepest, IsPlaced, joined, size, front, without_end, place, arms_at, step_at, row_at, meanings, AreJumps, IsStep, IsRow, IsTable}
+use Rattle.pr_script.specs.inside.Compiled.{Grows, IsCompiled, IsStepCompiled, AreArmsCompiled}
 use Rattle.pr_script.proofs.Places.{length-meanings, meanings-push, place-zero}
 use Rattle.pr_script.proofs.Walking.{deepest-before}
 use Rattle.pr_script.proofs.Taken.{taken, with_last_arm, arms_in-append}
@@ -46,7 +46,7 @@ without_end-joined b e =
 -- ---- two tables that agree up to a place
 
 module _ (ms ms' : List Stmts) (top wider next : ℕ) (agree : (k : ℕ) → k ≤ top → place ms' k ≡ place ms k) (bound : top ≤ wider) (within : next ≤ top) where
-  jumps_alike : (js : List Jump) → AreJumps ms top next js → AreJumps ms' wider next js
+  jumps_alike : (js : List ArmTarget) → AreJumps ms top next js → AreJumps ms' wider next js
   jumps_alike [] h = tt
   jumps_alike (j ∷ js) h =
       let whole = agree j.place h.0 in let end = agree next within in
@@ -54,7 +54,7 @@ module _ (ms ms' : List Stmts) (top wider next : ℕ) (agree : (k : ℕ) → k �
       (subst (λ e. joined (without_end (place ms j.place) e) e ≡ place ms j.place) (sym end) h.1) in
       (omega (arith, h.0), same, jumps_alike js h.2)
 
-  arms_alike : (js : List Jump) → AreJumps ms top next js → arms_at ms' next js ≡ arms_at ms next js
+  arms_alike : (js : List ArmTarget) → AreJumps ms top next js → arms_at ms' next js ≡ arms_at ms next js
   arms_alike [] h = refl
   arms_alike (j ∷ js) h =
       ap (λ w. arm j.test (without_end w (place ms' next)) (arms_at ms' next js)) (agree j.place h.0)
@@ -73,7 +73,7 @@ module _ (ms ms' : List Stmts) (top wider next : ℕ) (agree : (k : ℕ) → k �
   step_at_alike Break h = refl
   step_at_alike (Stop word) h = refl
 
-row_alike : (ms ms' : List Stmts) (top : ℕ) (row : Row) → ((k : ℕ) → k ≤ top + 1 → place ms' k ≡ place ms k) → IsRow ms top row → IsRow ms' top row
+row_alike : (ms ms' : List Stmts) (top : ℕ) (row : Instruction) → ((k : ℕ) → k ≤ top + 1 → place ms' k ≡ place ms k) → IsRow ms top row → IsRow ms' top row
 row_alike ms ms' top row agree is =
     let below : (k : ℕ) → k ≤ top → place ms' k ≡ place ms k = λ k h. agree k (omega arith) in
     record {
@@ -86,7 +86,7 @@ row_alike ms ms' top row agree is =
 
 -- ---- one row more
 
-module _ (rows : List Row) (row : Row) where
+module _ (rows : List Instruction) (row : Instruction) where
   place-push : (k : ℕ) → k ≤ length rows → place (meanings (rows ++ row ∷ [])) k ≡ place (meanings rows) k
   place-push k within =
       ap (λ ms. place ms k) (meanings-push rows row)
@@ -109,7 +109,7 @@ module _ (rows : List Row) (row : Row) where
       step = step_alike (meanings rows) (meanings (rows ++ row ∷ [])) (length rows) (length rows) row.next place-push (omega arith) next row.step step;
     }
 
-    each_row : (k : ℕ) (r : Row) → k < length (rows ++ row ∷ []) → r ≡ get_or (rows ++ row ∷ []) k r → IsRow (meanings (rows ++ row ∷ [])) k r
+    each_row : (k : ℕ) (r : Instruction) → k < length (rows ++ row ∷ []) → r ≡ get_or (rows ++ row ∷ []) k r → IsRow (meanings (rows ++ row ∷ [])) k r
     each_row k r within is =
         let most : k ≤ length rows = omega (arith, length-append rows (row ∷ [])) in
         elim (eq-or-lt_of_le most) [
@@ -128,14 +128,14 @@ module _ (rows : List Row) (row : Row) where
       keeps = place-push;
     }
 
-pub grows_on : (old mid new : List Row) → Grows old mid → Grows mid new → Grows old new
+pub grows_on : (old mid new : List Instruction) → Grows old mid → Grows mid new → Grows old new
 grows_on old mid new first then = record {
   table = then.table;
   longer = omega (arith, first.longer, then.longer);
   keeps = λ k within. then.keeps k (omega (arith, first.longer)) ∙ first.keeps k within;
 }
 
-pub laid_nothing : (rows : List Row) (next : ℕ) → IsTable rows → next ≤ length rows → IsLaid rows rows none next next
+pub laid_nothing : (rows : List Instruction) (next : ℕ) → IsTable rows → next ≤ length rows → IsCompiled rows rows none next next
 laid_nothing rows next table within = record {
   grows = record { table = table; longer = omega arith; keeps = λ k _. refl };
   within = within;
@@ -143,16 +143,16 @@ laid_nothing rows next table within = record {
 }
 
 -- one statement more, before those that are laid
-pub laid_more : (old mid rows : List Row) (xs : List Statement) (i next at : ℕ) (x : Statement) (step : Step) → i < length xs → x ≡ get_or xs i x
-    → IsLaid old mid (statements_in (drop (i + 1) xs)) next at
-    → IsStepLaid mid rows (statement_of x) at step
-    → (new : List Row) (first : ℕ) → new ≡ rows ++ record { step = step; next = at } ∷ [] → first ≡ length rows + 1
-    → IsLaid old new (statements_in (drop i xs)) next first
+pub laid_more : (old mid rows : List Instruction) (xs : List Statement) (i next at : ℕ) (x : Statement) (step : Step) → i < length xs → x ≡ get_or xs i x
+    → IsCompiled old mid (statements_in (drop (i + 1) xs)) next at
+    → IsStepCompiled mid rows (statement_of x) at step
+    → (new : List Instruction) (first : ℕ) → new ≡ rows ++ record { step = step; next = at } ∷ [] → first ≡ length rows + 1
+    → IsCompiled old new (statements_in (drop i xs)) next first
 laid_more old mid rows xs i next at x step within is laid stepped new first grown last =
-    let row : Row = record { step = step; next = at } in
+    let row : Instruction = record { step = step; next = at } in
     let at_within : at ≤ length rows = omega (arith, laid.within, stepped.grows.longer) in
     let behind : drop i xs ≡ x ∷ drop (i + 1) xs = drop-cons xs i x within ∙ ap (λ y. y ∷ drop (suc i) xs) (sym is) ∙ ap (λ n. x ∷ drop n xs) (sym (add-one i)) in
-    let whole : IsLaid old (rows ++ row ∷ []) (statements_in (drop i xs)) next (length rows + 1) = record {
+    let whole : IsCompiled old (rows ++ row ∷ []) (statements_in (drop i xs)) next (length rows + 1) = record {
       grows = grows_on old rows _ (grows_on old mid rows laid.grows stepped.grows) (grows_by_row rows row stepped.grows.table at_within stepped.within);
       within = omega (arith, length-append rows (row ∷ []));
       meaning = place-last rows row
@@ -160,34 +160,34 @@ laid_more old mid rows xs i next at x step within is laid stepped new first grow
           ∙ ap (more (statement_of x)) (stepped.grows.keeps at laid.within ∙ laid.meaning)
           ∙ sym (ap (λ ys. joined (statements_in ys) (place (meanings old) next)) behind);
     } in
-    subst (λ rs. IsLaid old rs (statements_in (drop i xs)) next first) (sym grown) (subst (IsLaid old (rows ++ row ∷ []) (statements_in (drop i xs)) next) (sym last) whole)
+    subst (λ rs. IsCompiled old rs (statements_in (drop i xs)) next first) (sym grown) (subst (IsCompiled old (rows ++ row ∷ []) (statements_in (drop i xs)) next) (sym last) whole)
 
 -- ---- arms
 
-jumps_more : (ms : List Stmts) (top next : ℕ) (js : List Jump) (j : Jump) → AreJumps ms top next js → j.place ≤ top
+jumps_more : (ms : List Stmts) (top next : ℕ) (js : List ArmTarget) (j : ArmTarget) → AreJumps ms top next js → j.place ≤ top
     → joined (without_end (place ms j.place) (place ms next)) (place ms next) ≡ place ms j.place → AreJumps ms top next (js ++ j ∷ [])
 jumps_more ms top next [] j h within is = (within, is, tt)
 jumps_more ms top next (i ∷ js) j h within is = (h.0, h.1, jumps_more ms top next js j h.2 within is)
 
-arms_at-append : (ms : List Stmts) (next : ℕ) (js : List Jump) (j : Jump)
+arms_at-append : (ms : List Stmts) (next : ℕ) (js : List ArmTarget) (j : ArmTarget)
     → arms_at ms next (js ++ j ∷ []) ≡ with_last_arm (arms_at ms next js) j.test (without_end (place ms j.place) (place ms next))
 arms_at-append ms next [] j = refl
 arms_at-append ms next (i ∷ js) j = ap (arm i.test (without_end (place ms i.place) (place ms next))) (arms_at-append ms next js j)
 
-pub no_arms_laid : (rows : List Row) (next : ℕ) → IsTable rows → AreArmsLaid rows rows no_arm next []
+pub no_arms_laid : (rows : List Instruction) (next : ℕ) → IsTable rows → AreArmsCompiled rows rows no_arm next []
 no_arms_laid rows next table = record {
   grows = record { table = table; longer = omega arith; keeps = λ k _. refl };
   within = tt;
   meaning = refl;
 }
 
-pub arms_laid_more : (old mid new : List Row) (xs : List Arm) (i next first : ℕ) (x : Arm) (js : List Jump) → next ≤ length old
+pub arms_laid_more : (old mid new : List Instruction) (xs : List Arm) (i next first : ℕ) (x : Arm) (js : List ArmTarget) → next ≤ length old
     → i < length xs → x ≡ get_or xs i x
-    → AreArmsLaid old mid (arms_in (take i xs)) next js
-    → IsLaid mid new (script_of x.body) next first
-    → AreArmsLaid old new (arms_in (take (i + 1) xs)) next (js ++ record { test = x.test; place = first } ∷ [])
+    → AreArmsCompiled old mid (arms_in (take i xs)) next js
+    → IsCompiled mid new (script_of x.body) next first
+    → AreArmsCompiled old new (arms_in (take (i + 1) xs)) next (js ++ record { test = x.test; place = first } ∷ [])
 arms_laid_more old mid new xs i next first x js next_within within is before laid =
-    let j : Jump = record { test = x.test; place = first } in
+    let j : ArmTarget = record { test = x.test; place = first } in
     let next_mid : next ≤ length mid = omega (arith, before.grows.longer) in
     let whole : place (meanings new) first ≡ joined (script_of x.body) (place (meanings new) next)
     = laid.meaning ∙ ap (joined (script_of x.body)) (sym (laid.grows.keeps next next_mid)) in
@@ -208,16 +208,16 @@ arms_laid_more old mid new xs i next first x js next_within within is before lai
 
 -- ---- steps
 
-pub send_laid : (old new : List Row) (s : Stmt) (line next : ℕ) (command : Command) (a : Arms) (jumps : Vec Jump Global)
-    → s ≡ sends line command a → AreArmsLaid old new a next jumps.items → IsStepLaid old new s next (Send line command jumps)
+pub send_laid : (old new : List Instruction) (s : Stmt) (line next : ℕ) (command : Command) (a : Arms) (jumps : Vec ArmTarget Global)
+    → s ≡ sends line command a → AreArmsCompiled old new a next jumps.items → IsStepCompiled old new s next (Send line command jumps)
 send_laid old new s line next command a jumps is laid = record {
   grows = laid.grows;
   within = laid.within;
   meaning = ap (sends line command) laid.meaning ∙ sym is;
 }
 
-pub repeat_laid : (old new : List Row) (s : Stmt) (count next first : ℕ) (b : Stmts)
-    → s ≡ repeats count b → IsLaid old new b 0 first → IsStepLaid old new s next (Repeat count first)
+pub repeat_laid : (old new : List Instruction) (s : Stmt) (count next first : ℕ) (b : Stmts)
+    → s ≡ repeats count b → IsCompiled old new b 0 first → IsStepCompiled old new s next (Repeat count first)
 repeat_laid old new s count next first b is laid = record {
   grows = laid.grows;
   within = laid.within;
@@ -226,17 +226,17 @@ repeat_laid old new s count next first b is laid = record {
 
 -- ---- the whole script
 
-pub laid_whole : (old rows rows' : List Row) (xs xs' : List Statement) (first : ℕ) → old ≡ [] → rows' ≡ rows → xs ≡ xs'
-    → IsLaid old rows (statements_in xs) 0 first → IsLaid [] rows' (statements_in xs') 0 first
+pub laid_whole : (old rows rows' : List Instruction) (xs xs' : List Statement) (first : ℕ) → old ≡ [] → rows' ≡ rows → xs ≡ xs'
+    → IsCompiled old rows (statements_in xs) 0 first → IsCompiled [] rows' (statements_in xs') 0 first
 laid_whole old rows rows' xs xs' first start same_rows same laid =
-    subst (λ rs. IsLaid [] rs (statements_in xs') 0 first) (sym same_rows)
-    (subst (λ ys. IsLaid [] rows (statements_in ys) 0 first) same
-    (subst (λ rs. IsLaid rs rows (statements_in xs) 0 first) start laid))
+    subst (λ rs. IsCompiled [] rs (statements_in xs') 0 first) (sym same_rows)
+    (subst (λ ys. IsCompiled [] rows (statements_in ys) 0 first) same
+    (subst (λ rs. IsCompiled rs rows (statements_in xs) 0 first) start laid))
 
-pub configuration-laid : (rows : List Row) (b : Stmts) (first : ℕ) → IsLaid [] rows b 0 first → configuration (meanings rows) first [] ≡ before b []
+pub configuration-laid : (rows : List Instruction) (b : Stmts) (first : ℕ) → IsCompiled [] rows b 0 first → configuration (meanings rows) first [] ≡ before b []
 configuration-laid rows b first laid = ap (λ s. before s []) (laid.meaning ∙ ap (joined b) (place-zero []) ∙ joined-none b)
 
-pub laid_placed : (rows : List Row) (b : Stmts) (first : ℕ) → IsLaid [] rows b 0 first → depth_of_all b ≤ 8 → IsPlaced rows first []
+pub laid_placed : (rows : List Instruction) (b : Stmts) (first : ℕ) → IsCompiled [] rows b 0 first → depth_of_all b ≤ 8 → IsPlaced rows first []
 laid_placed rows b first laid shallow = record {
   table = laid.grows.table;
   within = laid.within;

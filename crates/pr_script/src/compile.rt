@@ -1,45 +1,45 @@
-//! How a script is laid into rows.
+//! How a script is compiled into a table of instructions.
 
 ghost use Rattle.std.specs.Prelude.{◌≤◌, IfOk, length};
 ghost use Rattle.pr_script.specs.Trees.{statement_of, statements_in, arms_in};
-ghost use Rattle.pr_script.specs.inside.Tables.{IsTable};
-ghost use Rattle.pr_script.specs.inside.Laying.{IsLaid, IsStepLaid, AreArmsLaid};
+ghost use Rattle.pr_script.specs.inside.Program.{IsTable};
+ghost use Rattle.pr_script.specs.inside.Compiled.{IsCompiled, IsStepCompiled, AreArmsCompiled};
 
-use crate::rows::{Jump, Row, Step};
+use crate::rows::{ArmTarget, Instruction, Step};
 use crate::script::{Arm, Statement};
 use std::alloc::{AllocError, Global};
 
-/// Lays the statements, which go on with the place `next`, and answers the place of the first.
-#[cycle(lay)]
-pub(crate) fn lay(
+/// Compiles the statements, which go on with the place `next`, and answers the place of the first.
+#[cycle(compile)]
+pub(crate) fn compile(
     alloc: Global,
-    rows: &mut Vec<Row>,
+    rows: &mut Vec<Instruction>,
     statements: &[Statement],
     next: usize,
 ) -> Result<usize, AllocError>
     requires table { IsTable rows.old.items }
     requires within { next ≤ length rows.old.items }
-    ensures { IfOk result (λ first. IsLaid rows.old.items rows.new.items (statements_in statements.now) next first) }
+    ensures { IfOk result (λ first. IsCompiled rows.old.items rows.new.items (statements_in statements.now) next first) }
 {
     let mut place = next;
     for i in (0..statements.len()).rev() {
-        let step = lay_step(alloc, rows, &statements[i], place)?;
-        rows.push(Row { step, next: place })?;
+        let step = compile_step(alloc, rows, &statements[i], place)?;
+        rows.push(Instruction { step, next: place })?;
         place = rows.len();
     }
     Ok(place)
 }
 
-#[cycle(lay)]
-fn lay_step(
+#[cycle(compile)]
+fn compile_step(
     alloc: Global,
-    rows: &mut Vec<Row>,
+    rows: &mut Vec<Instruction>,
     statement: &Statement,
     next: usize,
 ) -> Result<Step, AllocError>
     requires table { IsTable rows.old.items }
     requires within { next ≤ length rows.old.items }
-    ensures { IfOk result (λ step. IsStepLaid rows.old.items rows.new.items (statement_of statement.now) next step) }
+    ensures { IfOk result (λ step. IsStepCompiled rows.old.items rows.new.items (statement_of statement.now) next step) }
 {
     match statement {
         Statement::Send {
@@ -47,7 +47,7 @@ fn lay_step(
             command,
             arms,
         } => {
-            let arms = lay_arms(alloc, rows, arms, next)?;
+            let arms = compile_arms(alloc, rows, arms, next)?;
             Ok(Step::Send {
                 line: *line,
                 command: *command,
@@ -55,7 +55,7 @@ fn lay_step(
             })
         }
         Statement::Repeat { count, body } => {
-            let body = lay(alloc, rows, &body.statements, 0)?;
+            let body = compile(alloc, rows, &body.statements, 0)?;
             Ok(Step::Repeat {
                 count: *count,
                 body,
@@ -66,21 +66,21 @@ fn lay_step(
     }
 }
 
-#[cycle(lay)]
-fn lay_arms(
+#[cycle(compile)]
+fn compile_arms(
     alloc: Global,
-    rows: &mut Vec<Row>,
+    rows: &mut Vec<Instruction>,
     arms: &[Arm],
     next: usize,
-) -> Result<Vec<Jump>, AllocError>
+) -> Result<Vec<ArmTarget>, AllocError>
     requires table { IsTable rows.old.items }
     requires within { next ≤ length rows.old.items }
-    ensures { IfOk result (λ jumps. AreArmsLaid rows.old.items rows.new.items (arms_in arms.now) next jumps.items) }
+    ensures { IfOk result (λ jumps. AreArmsCompiled rows.old.items rows.new.items (arms_in arms.now) next jumps.items) }
 {
     let mut jumps = Vec::with_capacity(alloc, arms.len())?;
     for arm in arms {
-        let place = lay(alloc, rows, &arm.body.statements, next)?;
-        jumps.push(Jump {
+        let place = compile(alloc, rows, &arm.body.statements, next)?;
+        jumps.push(ArmTarget {
             test: arm.test,
             place,
         })?;

@@ -1,10 +1,10 @@
 -- What the rows of a table mean, and what is still to do at a place of it.
 use Rattle.std.specs.Prelude.{◌≡◌, ℕ, zero, suc, ◌+◌, ◌-◌, ◌<◌, ◌≤◌, List, [], ◌∷◌, ◌++◌, length, fold, max, slice_index_or}
-use Rattle.pr_script.specs.declared.rows.Row.{Row}
+use Rattle.pr_script.specs.declared.rows.Instruction.{Instruction}
 use Rattle.pr_script.specs.declared.rows.Step.{Step}
 use Rattle.pr_script.specs.declared.rows.Step.TheVariants.{Send, Repeat, Break, Stop}
-use Rattle.pr_script.specs.declared.rows.Jump.{Jump}
-use Rattle.pr_script.specs.declared.walk.Open.{Open}
+use Rattle.pr_script.specs.declared.rows.ArmTarget.{ArmTarget}
+use Rattle.pr_script.specs.declared.advance.LoopFrame.{LoopFrame}
 use Rattle.pr_script.specs.Scripts.{Stmt, Stmts, Arms, sends, repeats, breaks, stops, none, more, no_arm, arm, statement, mark, Configuration, before, becomes}
 use Rattle.pr_script.specs.Depths.{depth_of}
 
@@ -32,7 +32,7 @@ without_end whole end = front (size whole - size end) whole
 abbrev pub place : List Stmts → ℕ → Stmts
 place ms k = slice_index_or ms k none
 
-abbrev pub arms_at : List Stmts → ℕ → List Jump → Arms
+abbrev pub arms_at : List Stmts → ℕ → List ArmTarget → Arms
 arms_at ms next [] = no_arm
 arms_at ms next (j ∷ js) = arm j.test (without_end (place ms j.place) (place ms next)) (arms_at ms next js)
 
@@ -42,20 +42,20 @@ step_at ms next (Repeat count body) = repeats count (place ms body)
 step_at ms next Break = breaks
 step_at ms next (Stop word) = stops word.bytes
 
-abbrev pub row_at : List Stmts → Row → Stmts
+abbrev pub row_at : List Stmts → Instruction → Stmts
 row_at ms row = more (step_at ms row.next row.step) (place ms row.next)
 
-abbrev pub with_row : List Stmts → Row → List Stmts
+abbrev pub with_row : List Stmts → Instruction → List Stmts
 with_row ms row = ms ++ row_at ms row ∷ []
 
 -- nothing from place 0 on, and from the place of a row on the row and what follows it
-unfoldable pub meanings : List Row → List Stmts
+unfoldable pub meanings : List Instruction → List Stmts
 meanings rows = fold with_row (none ∷ []) rows
 
 -- ---- what a table keeps
 
 -- Each jump names a place up to this, from which on an arm's body and then what follows the send is to do.
-abbrev pub AreJumps : List Stmts → ℕ → ℕ → List Jump → Type 0
+abbrev pub AreJumps : List Stmts → ℕ → ℕ → List ArmTarget → Type 0
 AreJumps ms top next [] = Unit {0}
 AreJumps ms top next (j ∷ js) =
     (j.place ≤ top) × (joined (without_end (place ms j.place) (place ms next)) (place ms next) ≡ place ms j.place) × AreJumps ms top next js
@@ -67,24 +67,24 @@ IsStep ms top next Break = Unit {0}
 IsStep ms top next (Stop word) = Unit {0}
 
 -- The row stands at place top + 1, and names places before it.
-pub record IsRow (ms : List Stmts) (top : ℕ) (row : Row) : Type 0 where
+pub record IsRow (ms : List Stmts) (top : ℕ) (row : Instruction) : Type 0 where
   pub meaning : place ms (top + 1) ≡ row_at ms row
   pub next : row.next ≤ top
   pub step : IsStep ms top row.next row.step
 
-pub record IsTable (rows : List Row) : Type 0 where
-  pub row : (k : ℕ) (row : Row) → k < length rows → row ≡ slice_index_or rows k row → IsRow (meanings rows) k row
+pub record IsTable (rows : List Instruction) : Type 0 where
+  pub row : (k : ℕ) (row : Instruction) → k < length rows → row ≡ slice_index_or rows k row → IsRow (meanings rows) k row
 
 -- ---- what is still to do
 
 -- what is to do once the body of the innermost open repeat has ended
-abbrev pub opened_by : List Stmts → Configuration → Open → Configuration
+abbrev pub opened_by : List Stmts → Configuration → LoopFrame → Configuration
 opened_by ms l o = mark ∷ statement (repeats o.left (place ms o.body)) ∷ before (place ms o.next) l
 
-abbrev pub opened : List Stmts → List Open → Configuration
+abbrev pub opened : List Stmts → List LoopFrame → Configuration
 opened ms opens = fold (opened_by ms) [] opens
 
-abbrev pub configuration : List Stmts → ℕ → List Open → Configuration
+abbrev pub configuration : List Stmts → ℕ → List LoopFrame → Configuration
 configuration ms at opens = before (place ms at) (opened ms opens)
 
 -- how many repeats are open
@@ -99,18 +99,18 @@ deepest [] = 0
 deepest ((statement s) ∷ l) = max (open_count l + depth_of s) (deepest l)
 deepest (mark ∷ l) = max (1 + open_count l) (deepest l)
 
-abbrev pub AreOpens : ℕ → List Open → Type 0
-AreOpens top [] = Unit {0}
-AreOpens top (o ∷ os) = (o.body ≤ top) × (o.next ≤ top) × AreOpens top os
+abbrev pub AreLoops : ℕ → List LoopFrame → Type 0
+AreLoops top [] = Unit {0}
+AreLoops top (o ∷ os) = (o.body ≤ top) × (o.next ≤ top) × AreLoops top os
 
 -- The place and the open repeats are of this table, and there is room for all that are still to be open.
-pub record IsPlaced (rows : List Row) (at : ℕ) (opens : List Open) : Type 0 where
+pub record IsPlaced (rows : List Instruction) (at : ℕ) (opens : List LoopFrame) : Type 0 where
   pub table : IsTable rows
   pub within : at ≤ length rows
-  pub repeats : AreOpens (length rows) opens
+  pub repeats : AreLoops (length rows) opens
   pub room : deepest (configuration (meanings rows) at opens) ≤ 8
 
 -- It stands at a send, at a stop or at the script's end.
-pub record IsMachine (rows : List Row) (at : ℕ) (opens : List Open) : Type 0 where
+pub record IsMachine (rows : List Instruction) (at : ℕ) (opens : List LoopFrame) : Type 0 where
   pub placed : IsPlaced rows at opens
   pub rests : becomes (configuration (meanings rows) at opens) ≡ configuration (meanings rows) at opens

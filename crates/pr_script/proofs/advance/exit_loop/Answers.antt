@@ -1,9 +1,9 @@
 -- The repeat that is left names places of the table.
 use Rattle.std.proofs.Common.{subst}
-use Rattle.pr_script.specs.inside.Tables.{AreOpens}
+use Rattle.pr_script.specs.inside.Program.{AreLoops}
 use Rattle.pr_script.proofs.Walking.{opens_less}
-use Rattle.pr_script.proofs.walk.leave.Goals as goal
+use Rattle.pr_script.proofs.advance.exit_loop.Goals as goal
 
 pub returns-in-Some-clause-within : goal.returns-in-Some-clause-within
 returns-in-Some-clause-within c = λ top old.
-    let places = opens_less top _ _ (subst (AreOpens top) c.in-Some.ensures.items old) in (places.2, places.0)
+    let places = opens_less top _ _ (subst (AreLoops top) c.in-Some.ensures.items old) in (places.2, places.0)

@@ -1,9 +1,9 @@
 -- The repeat that is opened names places of the table.
 use Rattle.std.proofs.Common.{sym, subst}
-use Rattle.pr_script.specs.inside.Tables.{AreOpens}
+use Rattle.pr_script.specs.inside.Program.{AreLoops}
 use Rattle.pr_script.proofs.Walking.{opens_more}
-use Rattle.pr_script.proofs.walk.enter.Goals as goal
+use Rattle.pr_script.proofs.advance.repeat_or_exit.Goals as goal
 
 pub returns-clause-within : goal.returns-clause-within
 returns-clause-within c = λ top body next old.
-    (body, subst (AreOpens top) (sym c.push.ensures.items) (opens_more top _ _ old body next))
+    (body, subst (AreLoops top) (sym c.push.ensures.items) (opens_more top _ _ old body next))

@@ -1,8 +1,8 @@
--- Where the walk ends, what is still to do rests.
+-- Where advancing ends, what is still to do rests.
 use Rattle.std.proofs.Common.{ap, sym, ◌∙◌}
-use Rattle.pr_script.specs.inside.Tables.{meanings, configuration}
+use Rattle.pr_script.specs.inside.Program.{meanings, configuration}
 use Rattle.pr_script.proofs.Settling.{settled-rest}
-use Rattle.pr_script.proofs.walk.settle.Goals as goal
+use Rattle.pr_script.proofs.advance.settle.Goals as goal
 
 pub returns-clause-reached : goal.returns-clause-reached
 returns-clause-reached c =

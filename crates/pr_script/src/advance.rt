@@ -3,40 +3,40 @@
 ghost use Rattle.std.specs.Prelude.{◌≡◌, ℕ, ◌<◌, ◌≤◌, List, IfSome, IfNone};
 ghost use Rattle.arrayvec.specs.ArrayVec.{array_vec_len};
 ghost use Rattle.pr_script.specs.Scripts.{Stmts, none, before, turn, past_mark, becomes, settled};
-ghost use Rattle.pr_script.specs.inside.Tables.{place, meanings, opened, configuration, AreOpens, IsPlaced, IsMachine};
-ghost use Rattle.pr_script.specs.inside.Walks.{Leads};
+ghost use Rattle.pr_script.specs.inside.Program.{place, meanings, opened, configuration, AreLoops, IsPlaced, IsMachine};
+ghost use Rattle.pr_script.specs.inside.Advances.{Leads};
 
-use crate::rows::{Row, Step};
+use crate::rows::{Instruction, Step};
 use arrayvec::ArrayVec;
 
 /// The repeats that are open, the innermost last.
-pub(crate) type Opens = ArrayVec<Open, 8>;
+pub(crate) type Loops = ArrayVec<LoopFrame, 8>;
 
 /// A repeat that is open: how often its body is still to run after this time, where the body begins, and
 /// what follows the repeat.
 #[derive(Clone, Copy, Debug, Default)]
-pub(crate) struct Open {
+pub(crate) struct LoopFrame {
     pub left: u32,
     pub body: usize,
     pub next: usize,
 }
 
 /// The place at which a send, a stop or the script's end comes, from this one on.
-pub(crate) fn settle(rows: &[Row], from: usize, opens: &mut Opens) -> usize
+pub(crate) fn settle(rows: &[Instruction], from: usize, opens: &mut Loops) -> usize
     requires { IsPlaced rows.now from opens.old.items }
     ensures machine { IsMachine rows.now result opens.new.items }
     ensures reached { configuration (meanings rows.now) result opens.new.items
         ≡ settled (configuration (meanings rows.now) from opens.old.items) }
 {
     let mut at = from;
-    while let Some(to) = walk(rows, at, opens) {
+    while let Some(to) = advance(rows, at, opens) {
         at = to;
     }
     at
 }
 
 // Where the place leads, if it is no send, no stop and not the script's end.
-fn walk(rows: &[Row], at: usize, opens: &mut Opens) -> Option<usize>
+fn advance(rows: &[Instruction], at: usize, opens: &mut Loops) -> Option<usize>
     requires { IsPlaced rows.now at opens.old.items }
     ensures placed { IfSome result (λ to. IsPlaced rows.now to opens.new.items) }
     ensures leads { IfSome result (λ to. Leads (configuration (meanings rows.now) at opens.old.items)
@@ -47,36 +47,36 @@ fn walk(rows: &[Row], at: usize, opens: &mut Opens) -> Option<usize>
 {
     if at == 0 {
         let again = opens.pop()?;
-        return Some(enter(again, opens));
+        return Some(repeat_or_exit(again, opens));
     }
     let row = &rows[at - 1];
     match &row.step {
         Step::Send { .. } => None,
         Step::Stop(_) => None,
         Step::Repeat { count, body } => {
-            let again = Open {
+            let again = LoopFrame {
                 left: *count,
                 body: *body,
                 next: row.next,
             };
-            Some(enter(again, opens))
+            Some(repeat_or_exit(again, opens))
         }
-        Step::Break => Some(leave(opens)),
+        Step::Break => Some(exit_loop(opens)),
     }
 }
 
 // Runs the body once more where it is still to run, and else goes on after the repeat.
-fn enter(again: Open, opens: &mut Opens) -> usize
+fn repeat_or_exit(again: LoopFrame, opens: &mut Loops) -> usize
     requires { 0 < again.left → array_vec_len opens.old < 8 }
     ensures to { (ms : List Stmts) → configuration ms result opens.new.items
         ≡ turn again.left (place ms again.body) (before (place ms again.next) (opened ms opens.old.items)) }
-    ensures within { (top : ℕ) → again.body ≤ top → again.next ≤ top → AreOpens top opens.old.items
-        → (result ≤ top) × AreOpens top opens.new.items }
+    ensures within { (top : ℕ) → again.body ≤ top → again.next ≤ top → AreLoops top opens.old.items
+        → (result ≤ top) × AreLoops top opens.new.items }
 {
     if again.left == 0 {
         return again.next;
     }
-    opens.push(Open {
+    opens.push(LoopFrame {
         left: again.left - 1,
         body: again.body,
         next: again.next,
@@ -85,10 +85,10 @@ fn enter(again: Open, opens: &mut Opens) -> usize
 }
 
 // Goes on after the innermost repeat.
-fn leave(opens: &mut Opens) -> usize
+fn exit_loop(opens: &mut Loops) -> usize
     ensures to { (ms : List Stmts) → place ms 0 ≡ none
         → configuration ms result opens.new.items ≡ past_mark (opened ms opens.old.items) }
-    ensures within { (top : ℕ) → AreOpens top opens.old.items → (result ≤ top) × AreOpens top opens.new.items }
+    ensures within { (top : ℕ) → AreLoops top opens.old.items → (result ≤ top) × AreLoops top opens.new.items }
 {
     match opens.pop() {
         Some(left) => left.next,

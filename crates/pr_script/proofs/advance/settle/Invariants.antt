@@ -1,8 +1,8 @@
 -- The place and the open repeats settle as those at the start; each step leaves less to unfold.
 use Rattle.std.proofs.Common.{◌≡◌}
 use Rattle.pr_script.specs.Scripts.{work, settled}
-use Rattle.pr_script.specs.inside.Tables.{meanings, configuration, IsPlaced}
-use Rattle.pr_script.proofs.walk.settle.Given as goal
+use Rattle.pr_script.specs.inside.Program.{meanings, configuration, IsPlaced}
+use Rattle.pr_script.proofs.advance.settle.Given as goal
 
 abbrev pub invariant-loop-to : goal.invariant-loop-to
 invariant-loop-to l = record {
