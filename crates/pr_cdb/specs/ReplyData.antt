@@ -71,7 +71,7 @@ holder_in bytes =
     if nat_lt (length bytes) HEADER_LENGTH then None else (
     if be32 bytes 4 == 0 then Some None else (
     if nat_lt (length bytes) 22 || nat_lt (be32 bytes 4) 14 then None else
-    Some (Some (be64 bytes 8, slice_index bytes 21))))
+    Some (Some (be64 bytes HEADER_LENGTH, slice_index bytes 21))))
 
 -- data cut at the allocation length (SPC-4, 'Allocation length')
 abbrev pub cut : ℕ → List ℕ → List ℕ

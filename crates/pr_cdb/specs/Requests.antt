@@ -20,7 +20,7 @@ plain c = Ok (Plain c)
 
 -- ILLEGAL REQUEST (5h) with this additional sense code
 abbrev pub illegal : ℕ → Result Request Bad
-illegal asc = Ok (Faulty (record { key = ILLEGAL_REQUEST; asc = asc; ascq = 0x00 }))
+illegal asc = Ok (Faulty (record { key = ILLEGAL_REQUEST; asc = asc; ascq = 0 }))
 
 -- how many bytes a command with this operation code has, and 0 where the unit has no such command
 -- (SPC-4, 'TEST UNIT READY', 'REQUEST SENSE', 'PERSISTENT RESERVE IN' and 'PERSISTENT RESERVE OUT

@@ -40,8 +40,8 @@ fn keys_written(generation: u32, keys: &[u64]) -> ArrayVec<u8, MOST_DATA_LENGTH>
     data
 }
 
-/// The keys in the data of READ KEYS, of which the end may be cut off: of the whole groups of 8 bytes
-/// that lie within the bytes and within the additional length, at most one for each nexus.
+/// The keys in the data of READ KEYS, of which the end may be cut off: the whole keys that lie
+/// within the bytes and within the additional length, at most one for each nexus.
 #[tactic(auto, unfolding(crate::specs::ReplyData::keys_in, crate::specs::ReplyData::first_keys, crate::specs::Bytes::be64, crate::specs::Bytes::be32))]
 pub fn keys_of(bytes: &[u8]) -> ArrayVec<u64, MOST_NEXUSES>
     ensures { result.items ≡ keys_in bytes.now }

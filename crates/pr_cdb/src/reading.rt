@@ -8,7 +8,7 @@ ghost use Rattle.pr_cdb.specs.Requests.{request_of, named, length_of, kind_of_by
 use crate::codes::{
     ALL_TG_PT, APTPL, CLEAR, DESC, FIXED_SENSE_LENGTH, ILLEGAL_REQUEST, INQUIRY,
     INVALID_COMMAND_OPERATION_CODE, INVALID_FIELD_IN_CDB, INVALID_FIELD_IN_PARAMETER_LIST,
-    PARAMETER_LIST_LENGTH, PARAMETER_LIST_LENGTH_ERROR, PERSISTENT_RESERVE_IN,
+    KEY_LENGTH, PARAMETER_LIST_LENGTH, PARAMETER_LIST_LENGTH_ERROR, PERSISTENT_RESERVE_IN,
     PERSISTENT_RESERVE_OUT, PREEMPT, PREEMPT_AND_ABORT, READ_10, READ_KEYS, READ_RESERVATION,
     REGISTER, REGISTER_AND_IGNORE_EXISTING_KEY, RELEASE, REPORT_CAPABILITIES, REPORT_LUNS,
     REQUEST_SENSE, RESERVE, SIX_BYTE_CDB, SPEC_I_PT, TEN_BYTE_CDB, TEST_UNIT_READY, WRITE_10,
@@ -74,7 +74,7 @@ fn illegal(asc: u8) -> Request
     Request::Faulty(Sense {
         key: ILLEGAL_REQUEST,
         asc,
-        ascq: 0x00,
+        ascq: 0,
     })
 }
 
@@ -165,10 +165,10 @@ fn named_out(cdb: &[u8], params: &[u8]) -> Option<Command>
     service_action(cdb[1] & 0x1f, kind_of_byte(cdb[2]), rk, sark)
 }
 
-// The key in the 8 bytes from `place`.
+// The key that begins at `place`.
 #[tactic(auto, unfolding(crate::specs::Bytes::be64))]
 fn key_at(params: &[u8], place: usize) -> u64
-    requires { place + 8 ≤ length params.now }
+    requires { place + KEY_LENGTH ≤ length params.now }
     ensures { result ≡ be64 params.now place }
 {
     BigEndian::read_u64(&params[place..])
