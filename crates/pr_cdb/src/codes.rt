@@ -1,9 +1,9 @@
-//! The numbers of the standards that the unit knows, each with its name there, and the sizes of what it
-//! reads and answers.
+//! The numbers of the standards, each under its name there, and the lengths of what is read and answered.
 //!
-//! The code and the definitions cite them from here.
+//! Code and definitions cite them, so a number has one place. The vectors have them as the standards do.
 
-// Operation codes (SPC-4, 'Commands for all device types'; SBC-3, 'READ (10)' and 'WRITE (10) command').
+// Operation codes (SPC-4, 'Commands for all device types'; SBC-3, 'READ (10)' and 'WRITE (10)
+// command').
 
 pub const TEST_UNIT_READY: u8 = 0x00;
 
@@ -65,7 +65,8 @@ pub const ILLEGAL_REQUEST: u8 = 0x05;
 
 pub const UNIT_ATTENTION: u8 = 0x06;
 
-// Additional sense codes, whose qualifier is zero (SPC-4, 'Sense key and additional sense code definitions').
+// Additional sense codes, with the qualifier zero (SPC-4, 'Sense key and additional sense code
+// definitions').
 
 pub const NO_ADDITIONAL_SENSE_INFORMATION: u8 = 0x00;
 
@@ -79,11 +80,12 @@ pub const INVALID_FIELD_IN_CDB: u8 = 0x24;
 
 pub const INVALID_FIELD_IN_PARAMETER_LIST: u8 = 0x26;
 
-/// The qualifier that makes INVALID FIELD IN PARAMETER LIST an INVALID RELEASE OF PERSISTENT RESERVATION.
+/// The qualifier with which INVALID FIELD IN PARAMETER LIST is INVALID RELEASE OF PERSISTENT
+/// RESERVATION.
 pub const INVALID_RELEASE_OF_PERSISTENT_RESERVATION: u8 = 0x04;
 
-// Additional sense codes of unit attentions, times 256, and their qualifiers (SPC-4, 'Sense key and additional
-// sense code definitions').
+// Unit attentions: the additional sense code times 256, and its qualifier (SPC-4, 'Sense key and
+// additional sense code definitions').
 
 pub const POWER_ON: u16 = 0x2900;
 
@@ -93,8 +95,11 @@ pub const RESERVATIONS_RELEASED: u16 = 0x2a04;
 
 pub const REGISTRATIONS_PREEMPTED: u16 = 0x2a05;
 
-/// The response code of sense data that tells of this command, in fixed format (SPC-4, 'Fixed format sense data').
+/// The response code of current sense data in fixed format (SPC-4, 'Fixed format sense data').
 pub const FIXED_FORMAT: u8 = 0x70;
+
+/// How many I_T nexuses a unit serves at most, each with a key.
+pub const MOST_NEXUSES: usize = 8;
 
 // Lengths in bytes.
 
@@ -111,10 +116,11 @@ pub const PARAMETER_LIST_LENGTH: usize = 24;
 /// Sense data in fixed format.
 pub const FIXED_SENSE_LENGTH: usize = 18;
 
-/// What of it comes after its additional sense length.
+/// What of it comes after the byte that says how much does.
 pub const ADDITIONAL_SENSE_LENGTH: u8 = 10;
 
-/// What the data of READ KEYS and of READ RESERVATION begins with: the generation and the additional length.
+/// The generation and the additional length, with which the data of READ KEYS and of READ RESERVATION
+/// begins.
 pub const HEADER_LENGTH: usize = 8;
 
 /// A reservation key.
@@ -128,6 +134,3 @@ pub const RESERVATION_DATA_LENGTH: usize = HEADER_LENGTH + RESERVATION_LENGTH;
 
 /// The data of READ KEYS, of as many keys as there may be. No reply has more.
 pub const MOST_DATA_LENGTH: usize = HEADER_LENGTH + KEY_LENGTH * MOST_NEXUSES;
-
-/// How many I_T nexuses a unit serves at most, each with a key.
-pub const MOST_NEXUSES: usize = 8;
