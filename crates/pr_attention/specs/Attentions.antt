@@ -5,6 +5,7 @@ use Rattle.std.specs.Prelude.{◌≡◌, ℕ, ◌/◌, ◌%◌, ◌≤◌, ◌==
 use Rattle.std.specs.Ordering.{nat_cmp}
 use Rattle.std.specs.FinSet as set
 use Rattle.std.specs.List.{list_any}
+use Rattle.pr_cdb.specs.declared.codes.TheConstants.{POWER_ON, RESERVATIONS_PREEMPTED, RESERVATIONS_RELEASED, REGISTRATIONS_PREEMPTED, UNIT_ATTENTION}
 use Rattle.pr_cdb.specs.declared.reply.Sense.{Sense}
 use Rattle.pr_attention.specs.declared.attention.Attention.{Attention}
 use Rattle.pr_attention.specs.declared.attention.Attention.TheVariants.{PowerOn, ReservationsPreempted, ReservationsReleased, RegistrationsPreempted}
@@ -13,16 +14,16 @@ use Rattle.pr_attention.specs.declared.attention.Attention.TheVariants.{PowerOn,
 
 -- power on, reset, or bus device reset occurred
 abbrev pub power_on : ℕ
-power_on = 0x2900
+power_on = POWER_ON
 
 abbrev pub reservations_preempted : ℕ
-reservations_preempted = 0x2a03
+reservations_preempted = RESERVATIONS_PREEMPTED
 
 abbrev pub reservations_released : ℕ
-reservations_released = 0x2a04
+reservations_released = RESERVATIONS_RELEASED
 
 abbrev pub registrations_preempted : ℕ
-registrations_preempted = 0x2a05
+registrations_preempted = REGISTRATIONS_PREEMPTED
 
 -- the four codes, the lowest first
 abbrev pub attentions : List ℕ
@@ -37,9 +38,9 @@ code_of ReservationsPreempted = reservations_preempted
 code_of ReservationsReleased = reservations_released
 code_of RegistrationsPreempted = registrations_preempted
 
--- UNIT ATTENTION (6h) with this code
+-- UNIT ATTENTION with this code
 abbrev pub attention_sense : ℕ → Sense
-attention_sense code = record { key = 0x06; asc = code / 256; ascq = code % 256 }
+attention_sense code = record { key = UNIT_ATTENTION; asc = code / 256; ascq = code % 256 }
 
 -- ---- sets of codes
 

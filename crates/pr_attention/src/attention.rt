@@ -4,16 +4,20 @@ ghost use Rattle.std.specs.Prelude.{◌≡◌};
 ghost use Rattle.pr_attention.specs.Attentions.{code_of, attention_sense};
 
 use pr_cdb::Sense;
+use pr_cdb::codes::{
+    POWER_ON, REGISTRATIONS_PREEMPTED, RESERVATIONS_PREEMPTED, RESERVATIONS_RELEASED,
+    UNIT_ATTENTION,
+};
 
 /// What a logical unit has yet to tell a host (SAM-5, 'Unit attention conditions').
 ///
 /// The number of each is its code: the additional sense code times 256, and its qualifier.
 #[derive(Clone, Copy, Debug, PartialEq, Eq)]
 pub enum Attention {
-    PowerOn = 0x2900,
-    ReservationsPreempted = 0x2a03,
-    ReservationsReleased = 0x2a04,
-    RegistrationsPreempted = 0x2a05,
+    PowerOn = POWER_ON as isize,
+    ReservationsPreempted = RESERVATIONS_PREEMPTED as isize,
+    ReservationsReleased = RESERVATIONS_RELEASED as isize,
+    RegistrationsPreempted = REGISTRATIONS_PREEMPTED as isize,
 }
 
 impl Attention {
@@ -37,6 +41,10 @@ impl Attention {
         ensures { result ≡ attention_sense (code_of self) }
     {
         let [asc, ascq] = self.code().to_be_bytes();
-        Sense { key: 6, asc, ascq }
+        Sense {
+            key: UNIT_ATTENTION,
+            asc,
+            ascq,
+        }
     }
 }

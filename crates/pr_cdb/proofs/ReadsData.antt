@@ -5,6 +5,7 @@ use Rattle.std.specs.List.{flat_map}
 use Rattle.std.proofs.lemmas.Nat.{from_be_bytes-to_be_bytes_4, from_be_bytes-to_be_bytes_8}
 use Rattle.std.proofs.lemmas.List.{get_or-append-add, take_more, take_all}
 use Rattle.std.proofs.lemmas.Bool.Decides.{nat_tests}
+use Rattle.pr_cdb.specs.declared.codes.TheConstants.{HEADER_LENGTH, KEY_LENGTH, MOST_NEXUSES}
 use Rattle.pr_cdb.specs.declared.command.Kind.{Kind}
 use Rattle.pr_cdb.specs.declared.reply.Sense.{Sense}
 use Rattle.pr_cdb.specs.Bytes.{be32, be64}
@@ -39,49 +40,49 @@ be64_past xs ys m = λ i.
 abbrev pub AreWords : List ℕ → Type 0
 AreWords ks = (i : ℕ) → slice_index ks i < 2 ^ 64
 
-key_at : (ks : List ℕ) (n : ℕ) → n < length ks → AreWords ks → be64 (flat_map (to_be_bytes w64) ks) (8 * n) ≡ slice_index ks n
+key_at : (ks : List ℕ) (n : ℕ) → n < length ks → AreWords ks → be64 (flat_map (to_be_bytes w64) ks) (KEY_LENGTH * n) ≡ slice_index ks n
 unfolding be64
 key_at [] n small fits = absurd (omega arith)
 key_at (k ∷ ks) zero small fits = from_be_bytes-to_be_bytes_8 k (fits 0)
 key_at (k ∷ ks) (suc n) small fits =
-    let e : 8 * suc n ≡ length (to_be_bytes w64 k) + 8 * n = omega arith in
-    ap (be64 (to_be_bytes w64 k ++ flat_map (to_be_bytes w64) ks)) e ∙ be64_past (to_be_bytes w64 k) (flat_map (to_be_bytes w64) ks) (8 * n)
+    let e : KEY_LENGTH * suc n ≡ length (to_be_bytes w64 k) + KEY_LENGTH * n = omega arith in
+    ap (be64 (to_be_bytes w64 k ++ flat_map (to_be_bytes w64) ks)) e ∙ be64_past (to_be_bytes w64 k) (flat_map (to_be_bytes w64) ks) (KEY_LENGTH * n)
     ∙ key_at ks n (omega arith) (λ i. fits (suc i))
 
-first_keys_of : (front : List ℕ) (ks : List ℕ) (n : ℕ) → length front ≡ 8 → n ≤ length ks → AreWords ks
+first_keys_of : (front : List ℕ) (ks : List ℕ) (n : ℕ) → length front ≡ HEADER_LENGTH → n ≤ length ks → AreWords ks
     → first_keys n (front ++ flat_map (to_be_bytes w64) ks) ≡ take n ks
 unfolding first_keys
 first_keys_of front ks zero eight most fits = refl
 first_keys_of front ks (suc n) eight most fits =
     let F = flat_map (to_be_bytes w64) ks in
-    let e : 8 + 8 * n ≡ length front + 8 * n = omega arith in
-    let key = ap (be64 (front ++ F)) e ∙ be64_past front F (8 * n) ∙ key_at ks n (omega arith) fits in
+    let e : HEADER_LENGTH + KEY_LENGTH * n ≡ length front + KEY_LENGTH * n = omega arith in
+    let key = ap (be64 (front ++ F)) e ∙ be64_past front F (KEY_LENGTH * n) ∙ key_at ks n (omega arith) fits in
     (λ i. first_keys_of front ks n eight (omega arith) fits i ++ key i ∷ []) ∙ sym (take_suc ks n (omega arith))
   where
     take_suc : (ks : List ℕ) (n : ℕ) → n < length ks → take (suc n) ks ≡ take n ks ++ slice_index ks n ∷ []
     take_suc ks n small = rw (← add-one) (take_more ks n 0 small)
 
-length-keys : (ks : List ℕ) → length (flat_map (to_be_bytes w64) ks) ≡ 8 * length ks
+length-keys : (ks : List ℕ) → length (flat_map (to_be_bytes w64) ks) ≡ KEY_LENGTH * length ks
 length-keys [] = refl
 length-keys (k ∷ ks) = omega (arith, length-append (to_be_bytes w64 k) (flat_map (to_be_bytes w64) ks), length-keys ks)
 
 -- every key is there, and no more is announced
-key_count_of : (ks : List ℕ) (bytes : List ℕ) → length ks ≤ 8 → length bytes ≡ 8 + 8 * length ks → be32 bytes 4 ≡ 8 * length ks → key_count bytes ≡ length ks
+key_count_of : (ks : List ℕ) (bytes : List ℕ) → length ks ≤ MOST_NEXUSES → length bytes ≡ HEADER_LENGTH + KEY_LENGTH * length ks → be32 bytes 4 ≡ KEY_LENGTH * length ks → key_count bytes ≡ length ks
 key_count_of ks bytes most len announced =
-    let a : (length bytes - 8) / 8 ≡ length ks = omega arith in
-    let b : be32 bytes 4 / 8 ≡ length ks = omega arith in
+    let a : (length bytes - HEADER_LENGTH) / KEY_LENGTH ≡ length ks = omega arith in
+    let b : be32 bytes 4 / KEY_LENGTH ≡ length ks = omega arith in
     rw (a, b) (omega arith)
 
-be32_there : (g : ℕ) (ks : List ℕ) → length ks ≤ 8 → be32 (to_be_bytes w32 g ++ to_be_bytes w32 (8 * length ks) ++ flat_map (to_be_bytes w64) ks) 4 ≡ 8 * length ks
+be32_there : (g : ℕ) (ks : List ℕ) → length ks ≤ MOST_NEXUSES → be32 (to_be_bytes w32 g ++ to_be_bytes w32 (KEY_LENGTH * length ks) ++ flat_map (to_be_bytes w64) ks) 4 ≡ KEY_LENGTH * length ks
 unfolding be32
-be32_there g ks most = from_be_bytes-to_be_bytes_4 (8 * length ks) (omega arith)
+be32_there g ks most = from_be_bytes-to_be_bytes_4 (KEY_LENGTH * length ks) (omega arith)
 
-pub keys_in-keys_bytes : (g : ℕ) (ks : List ℕ) → length ks ≤ 8 → AreWords ks → keys_in (keys_bytes g ks) ≡ ks
+pub keys_in-keys_bytes : (g : ℕ) (ks : List ℕ) → length ks ≤ MOST_NEXUSES → AreWords ks → keys_in (keys_bytes g ks) ≡ ks
 unfolding keys_in keys_bytes
 keys_in-keys_bytes g ks most fits =
-    let front = to_be_bytes w32 g ++ to_be_bytes w32 (8 * length ks) in
+    let front = to_be_bytes w32 g ++ to_be_bytes w32 (KEY_LENGTH * length ks) in
     let bytes = front ++ flat_map (to_be_bytes w64) ks in
-    let len : length bytes ≡ 8 + 8 * length ks = omega (arith, length-append front (flat_map (to_be_bytes w64) ks), length-keys ks) in
-    let long : nat_lt (length bytes) 8 ≡ false = grind (arith, nat_tests) in
+    let len : length bytes ≡ HEADER_LENGTH + KEY_LENGTH * length ks = omega (arith, length-append front (flat_map (to_be_bytes w64) ks), length-keys ks) in
+    let long : nat_lt (length bytes) HEADER_LENGTH ≡ false = grind (arith, nat_tests) in
     let count = key_count_of ks bytes most len (be32_there g ks most) in
     rw long (ap (λ n. first_keys n bytes) count ∙ first_keys_of front ks (length ks) refl (omega arith) fits ∙ take_all (length ks) ks (omega arith))

@@ -1,6 +1,7 @@
 -- What bytes are read as has its fields in range.
 use Rattle.std.proofs.Common.{ℕ, ◌+◌, ◌%◌, ◌<◌, ◌^◌, Bool, true, false, ◌==◌, ◌&&◌, ◌||◌, not, nat_lt, if◌then◌else◌, List, length, slice_index, Option, Some, None, is_none, Result, arith}
 use Rattle.std.specs.Option.{option_map_or}
+use Rattle.pr_cdb.specs.declared.codes.TheConstants.{TEST_UNIT_READY, REQUEST_SENSE, INQUIRY, READ_10, WRITE_10, PERSISTENT_RESERVE_IN, PERSISTENT_RESERVE_OUT, REPORT_LUNS, READ_KEYS, READ_RESERVATION, REPORT_CAPABILITIES, REGISTER, RESERVE, RELEASE, CLEAR, PREEMPT, PREEMPT_AND_ABORT, REGISTER_AND_IGNORE_EXISTING_KEY, DESC, INVALID_FIELD_IN_CDB, PARAMETER_LIST_LENGTH, FIXED_SENSE_LENGTH}
 use Rattle.pr_cdb.specs.declared.command.Kind.{Kind}
 use Rattle.pr_cdb.specs.declared.command.Command.{Command}
 use Rattle.pr_cdb.specs.declared.wire.Request.{Request}
@@ -43,11 +44,11 @@ either false p q = q
 Named-reserve_out : (action : ℕ) (kind : Option Kind) (rk sark : ℕ) → rk < 2 ^ 64 → sark < 2 ^ 64 → Named (reserve_out action kind rk sark)
 unfolding reserve_out
 Named-reserve_out action None rk sark r s =
-    one_of (action == 0x00) (record { fits = (r, s) }) (one_of (action == 0x01) (record { fits = tt }) (one_of (action == 0x02) (record { fits = tt }) (
-    one_of (action == 0x03) (record { fits = r }) (one_of (action == 0x04) (record { fits = (r, s) }) (one_of (action == 0x05) (record { fits = (r, s) }) (record { fits = s }))))))
+    one_of (action == REGISTER) (record { fits = (r, s) }) (one_of (action == RESERVE) (record { fits = tt }) (one_of (action == RELEASE) (record { fits = tt }) (
+    one_of (action == CLEAR) (record { fits = r }) (one_of (action == PREEMPT) (record { fits = (r, s) }) (one_of (action == PREEMPT_AND_ABORT) (record { fits = (r, s) }) (record { fits = s }))))))
 Named-reserve_out action (Some k) rk sark r s =
-    one_of (action == 0x00) (record { fits = (r, s) }) (one_of (action == 0x01) (record { fits = r }) (one_of (action == 0x02) (record { fits = r }) (
-    one_of (action == 0x03) (record { fits = r }) (one_of (action == 0x04) (record { fits = (r, s) }) (one_of (action == 0x05) (record { fits = (r, s) }) (record { fits = s }))))))
+    one_of (action == REGISTER) (record { fits = (r, s) }) (one_of (action == RESERVE) (record { fits = r }) (one_of (action == RELEASE) (record { fits = r }) (
+    one_of (action == CLEAR) (record { fits = r }) (one_of (action == PREEMPT) (record { fits = (r, s) }) (one_of (action == PREEMPT_AND_ABORT) (record { fits = (r, s) }) (record { fits = s }))))))
 
 Named-named : (cdb params : List ℕ) → AreBytes cdb → AreBytes params → Named (named cdb params)
 unfolding named
@@ -55,12 +56,12 @@ Named-named cdb params c p =
     let opcode = slice_index cdb 0 in
     let action = slice_index cdb 1 % 32 in
     let blocks = be16-lt cdb 7 c in
-    one_of (opcode == 0x00) (record { fits = tt }) (one_of (opcode == 0x03) (record { fits = tt }) (
-    one_of (opcode == 0x28) (record { fits = (be32-lt cdb 2 c, blocks) }) (one_of (opcode == 0x2a) (record { fits = (be32-lt cdb 2 c, blocks) }) (
-    one_of (opcode == 0x5e) (one_of (action == 0x00) (record { fits = blocks }) (one_of (action == 0x01) (record { fits = blocks }) (record { fits = blocks })))
+    one_of (opcode == TEST_UNIT_READY) (record { fits = tt }) (one_of (opcode == REQUEST_SENSE) (record { fits = tt }) (
+    one_of (opcode == READ_10) (record { fits = (be32-lt cdb 2 c, blocks) }) (one_of (opcode == WRITE_10) (record { fits = (be32-lt cdb 2 c, blocks) }) (
+    one_of (opcode == PERSISTENT_RESERVE_IN) (one_of (action == READ_KEYS) (record { fits = blocks }) (one_of (action == READ_RESERVATION) (record { fits = blocks }) (record { fits = blocks })))
     (Named-reserve_out action (kind_of_byte (slice_index cdb 2)) (be64 params 0) (be64 params 8) (be64-lt params 0 p) (be64-lt params 8 p))))))
 
-Read-named : (o : Option Command) → Named o → Read (option_map_or (λ c. plain c) o (illegal 0x24))
+Read-named : (o : Option Command) → Named o → Read (option_map_or (λ c. plain c) o (illegal INVALID_FIELD_IN_CDB))
 Read-named None n = record { fits = tt }
 Read-named (Some c) n = record { fits = n.fits }
 
@@ -69,18 +70,18 @@ unfolding request_of
 Read-request_of cdb params c p =
     let opcode = slice_index cdb 0 in
     let action = slice_index cdb 1 % 32 in
-    let is_sense = opcode == 0x03 in
-    let is_in = opcode == 0x5e in
-    let is_out = opcode == 0x5f in
+    let is_sense = opcode == REQUEST_SENSE in
+    let is_in = opcode == PERSISTENT_RESERVE_IN in
+    let is_out = opcode == PERSISTENT_RESERVE_OUT in
     either (length cdb == 0) (record { fits = tt }) (
-    either (opcode == 0x12 || opcode == 0xa0) (record { fits = tt }) (
+    either (opcode == INQUIRY || opcode == REPORT_LUNS) (record { fits = tt }) (
     either (length_of opcode == 0) (record { fits = tt }) (
     either (nat_lt (length cdb) (length_of opcode)) (record { fits = tt }) (
-    either (is_sense && has_flag (slice_index cdb 1) 0x01) (record { fits = tt }) (
-    either (is_sense && nat_lt (slice_index cdb 4) 18) (record { fits = tt }) (
-    either ((is_in && nat_lt 0x02 action) || (is_out && nat_lt 0x06 action)) (record { fits = tt }) (
-    either (is_out && not (be32 cdb 5 == 24)) (record { fits = tt }) (
-    either (is_out && nat_lt (length params) 24) (record { fits = tt }) (
+    either (is_sense && has_flag (slice_index cdb 1) DESC) (record { fits = tt }) (
+    either (is_sense && nat_lt (slice_index cdb 4) FIXED_SENSE_LENGTH) (record { fits = tt }) (
+    either ((is_in && nat_lt REPORT_CAPABILITIES action) || (is_out && nat_lt REGISTER_AND_IGNORE_EXISTING_KEY action)) (record { fits = tt }) (
+    either (is_out && not (be32 cdb 5 == PARAMETER_LIST_LENGTH)) (record { fits = tt }) (
+    either (is_out && nat_lt (length params) PARAMETER_LIST_LENGTH) (record { fits = tt }) (
     either (is_none (named cdb params)) (record { fits = tt }) (
     either (is_out && has_refused_flag action (slice_index params 20)) (record { fits = tt })
     (Read-named (named cdb params) (Named-named cdb params c p))))))))))))

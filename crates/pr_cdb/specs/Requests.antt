@@ -2,6 +2,7 @@
 -- What two byte lists, a command descriptor block and a parameter list, ask of the logical unit.
 use Rattle.std.specs.Prelude.{ℕ, ◌/◌, ◌%◌, ◌<◌, ◌^◌, Bool, ◌==◌, ◌&&◌, ◌||◌, not, nat_lt, if◌then◌else◌, List, length, slice_index, Option, Some, None, is_none, option_map, Result, Ok, Err}
 use Rattle.std.specs.Option.{option_map_or}
+use Rattle.pr_cdb.specs.declared.codes.TheConstants.{TEST_UNIT_READY, REQUEST_SENSE, INQUIRY, READ_10, WRITE_10, PERSISTENT_RESERVE_IN, PERSISTENT_RESERVE_OUT, REPORT_LUNS, READ_KEYS, READ_RESERVATION, REGISTER, RESERVE, RELEASE, CLEAR, PREEMPT, PREEMPT_AND_ABORT, REGISTER_AND_IGNORE_EXISTING_KEY, REPORT_CAPABILITIES, SPEC_I_PT, ALL_TG_PT, APTPL, DESC, ILLEGAL_REQUEST, PARAMETER_LIST_LENGTH_ERROR, INVALID_COMMAND_OPERATION_CODE, INVALID_FIELD_IN_CDB, INVALID_FIELD_IN_PARAMETER_LIST, SIX_BYTE_CDB, TEN_BYTE_CDB, PARAMETER_LIST_LENGTH, FIXED_SENSE_LENGTH}
 use Rattle.pr_cdb.specs.declared.command.Kind.{Kind}
 use Rattle.pr_cdb.specs.declared.command.Command.{Command}
 use Rattle.pr_cdb.specs.declared.command.Command.TheVariants.{TestUnitReady, RequestSense, Read, Write, ReadKeys, ReadReservation, ReportCapabilities, Register, RegisterIgnore, Reserve, Release, Clear, Preempt, PreemptAbort}
@@ -19,15 +20,15 @@ plain c = Ok (Plain c)
 
 -- ILLEGAL REQUEST (5h) with this additional sense code
 abbrev pub illegal : ℕ → Result Request Bad
-illegal asc = Ok (Faulty (record { key = 0x05; asc = asc; ascq = 0x00 }))
+illegal asc = Ok (Faulty (record { key = ILLEGAL_REQUEST; asc = asc; ascq = 0 }))
 
 -- how many bytes a command with this operation code has, and 0 where the unit has no such command
 -- (SPC-4, 'TEST UNIT READY', 'REQUEST SENSE', 'PERSISTENT RESERVE IN' and 'PERSISTENT RESERVE OUT
 -- command'; SBC-3, 'READ (10)' and 'WRITE (10) command')
 unfoldable pub length_of : ℕ → ℕ
 length_of opcode =
-    if opcode == 0x00 || opcode == 0x03 then 6 else (
-    if opcode == 0x28 || opcode == 0x2a || opcode == 0x5e || opcode == 0x5f then 10 else 0)
+    if opcode == TEST_UNIT_READY || opcode == REQUEST_SENSE then SIX_BYTE_CDB else (
+    if opcode == READ_10 || opcode == WRITE_10 || opcode == PERSISTENT_RESERVE_IN || opcode == PERSISTENT_RESERVE_OUT then TEN_BYTE_CDB else 0)
 
 -- the type in a byte that has the scope in its high four bits and the type in its low four: there is one
 -- under the scope of the logical unit alone, which is 0
@@ -38,25 +39,25 @@ kind_of_byte b = if b / 16 == 0 then kind_of_code (b % 16) else None
 -- in REGISTER and in REGISTER AND IGNORE EXISTING KEY
 unfoldable pub has_refused_flag : ℕ → ℕ → Bool
 has_refused_flag action flags =
-    has_flag flags 0x08 || ((action == 0x00 || action == 0x06) && (has_flag flags 0x04 || has_flag flags 0x01))
+    has_flag flags SPEC_I_PT || ((action == REGISTER || action == REGISTER_AND_IGNORE_EXISTING_KEY) && (has_flag flags ALL_TG_PT || has_flag flags APTPL))
 
 -- the service action of PERSISTENT RESERVE IN, over its allocation length
 abbrev pub reserve_in : ℕ → ℕ → Option Command
 reserve_in action alloc =
-    if action == 0x00 then Some (ReadKeys alloc) else (
-    if action == 0x01 then Some (ReadReservation alloc) else
+    if action == READ_KEYS then Some (ReadKeys alloc) else (
+    if action == READ_RESERVATION then Some (ReadReservation alloc) else
     Some (ReportCapabilities alloc))
 
 -- the service action of PERSISTENT RESERVE OUT, over its type and its two keys. RESERVE and RELEASE need
 -- a type.
 unfoldable pub reserve_out : ℕ → Option Kind → ℕ → ℕ → Option Command
 reserve_out action kind rk sark =
-    if action == 0x00 then Some (Register rk sark) else (
-    if action == 0x01 then option_map (λ k. Reserve rk k) kind else (
-    if action == 0x02 then option_map (λ k. Release rk k) kind else (
-    if action == 0x03 then Some (Clear rk) else (
-    if action == 0x04 then Some (Preempt rk sark kind) else (
-    if action == 0x05 then Some (PreemptAbort rk sark kind) else
+    if action == REGISTER then Some (Register rk sark) else (
+    if action == RESERVE then option_map (λ k. Reserve rk k) kind else (
+    if action == RELEASE then option_map (λ k. Release rk k) kind else (
+    if action == CLEAR then Some (Clear rk) else (
+    if action == PREEMPT then Some (Preempt rk sark kind) else (
+    if action == PREEMPT_AND_ABORT then Some (PreemptAbort rk sark kind) else
     Some (RegisterIgnore sark))))))
 
 -- the command of the named fields. All other bits, the control byte among them, are ignored.
@@ -64,11 +65,11 @@ unfoldable pub named : List ℕ → List ℕ → Option Command
 named cdb params =
     let opcode = slice_index cdb 0 in
     let action = slice_index cdb 1 % 32 in
-    if opcode == 0x00 then Some TestUnitReady else (
-    if opcode == 0x03 then Some RequestSense else (
-    if opcode == 0x28 then Some (Read (be32 cdb 2) (be16 cdb 7)) else (
-    if opcode == 0x2a then Some (Write (be32 cdb 2) (be16 cdb 7)) else (
-    if opcode == 0x5e then reserve_in action (be16 cdb 7) else
+    if opcode == TEST_UNIT_READY then Some TestUnitReady else (
+    if opcode == REQUEST_SENSE then Some RequestSense else (
+    if opcode == READ_10 then Some (Read (be32 cdb 2) (be16 cdb 7)) else (
+    if opcode == WRITE_10 then Some (Write (be32 cdb 2) (be16 cdb 7)) else (
+    if opcode == PERSISTENT_RESERVE_IN then reserve_in action (be16 cdb 7) else
     reserve_out action (kind_of_byte (slice_index cdb 2)) (be64 params 0) (be64 params 8)))))
 
 -- What the logical unit reads. The first line that applies decides (SPC-4 names the faults and leaves
@@ -77,21 +78,21 @@ unfoldable pub request_of : List ℕ → List ℕ → Result Request Bad
 request_of cdb params =
     let opcode = slice_index cdb 0 in
     let action = slice_index cdb 1 % 32 in
-    let is_sense = opcode == 0x03 in
-    let is_in = opcode == 0x5e in
-    let is_out = opcode == 0x5f in
+    let is_sense = opcode == REQUEST_SENSE in
+    let is_in = opcode == PERSISTENT_RESERVE_IN in
+    let is_out = opcode == PERSISTENT_RESERVE_OUT in
     if length cdb == 0 then Err Short else (
-    if opcode == 0x12 || opcode == 0xa0 then Err (NotModelled opcode) else (
-    if length_of opcode == 0 then illegal 0x20 else (
+    if opcode == INQUIRY || opcode == REPORT_LUNS then Err (NotModelled opcode) else (
+    if length_of opcode == 0 then illegal INVALID_COMMAND_OPERATION_CODE else (
     if nat_lt (length cdb) (length_of opcode) then Err Short else (
-    if is_sense && has_flag (slice_index cdb 1) 0x01 then illegal 0x24 else (
-    if is_sense && nat_lt (slice_index cdb 4) 18 then Err (NotModelled opcode) else (
-    if (is_in && nat_lt 0x02 action) || (is_out && nat_lt 0x06 action) then illegal 0x24 else (
-    if is_out && not (be32 cdb 5 == 24) then illegal 0x1a else (
-    if is_out && nat_lt (length params) 24 then Err Short else (
-    if is_none (named cdb params) then illegal 0x24 else (
-    if is_out && has_refused_flag action (slice_index params 20) then illegal 0x26 else
-    option_map_or (λ c. plain c) (named cdb params) (illegal 0x24)))))))))))
+    if is_sense && has_flag (slice_index cdb 1) DESC then illegal INVALID_FIELD_IN_CDB else (
+    if is_sense && nat_lt (slice_index cdb 4) FIXED_SENSE_LENGTH then Err (NotModelled opcode) else (
+    if (is_in && nat_lt REPORT_CAPABILITIES action) || (is_out && nat_lt REGISTER_AND_IGNORE_EXISTING_KEY action) then illegal INVALID_FIELD_IN_CDB else (
+    if is_out && not (be32 cdb 5 == PARAMETER_LIST_LENGTH) then illegal PARAMETER_LIST_LENGTH_ERROR else (
+    if is_out && nat_lt (length params) PARAMETER_LIST_LENGTH then Err Short else (
+    if is_none (named cdb params) then illegal INVALID_FIELD_IN_CDB else (
+    if is_out && has_refused_flag action (slice_index params 20) then illegal INVALID_FIELD_IN_PARAMETER_LIST else
+    option_map_or (λ c. plain c) (named cdb params) (illegal INVALID_FIELD_IN_CDB)))))))))))
 
 -- what a command as it travels asks for
 abbrev pub requested : Wire → Result Request Bad

@@ -5,6 +5,7 @@
 use Rattle.std.specs.Prelude.{ℕ, List, [], ◌∷◌, ◌++◌, Option}
 use Rattle.std.specs.Option.{option_map_or}
 use Rattle.std.specs.Int.{w16, w32, w64, to_be_bytes}
+use Rattle.pr_cdb.specs.declared.codes.TheConstants.{TEST_UNIT_READY, REQUEST_SENSE, READ_10, WRITE_10, PERSISTENT_RESERVE_IN, PERSISTENT_RESERVE_OUT, READ_KEYS, READ_RESERVATION, REPORT_CAPABILITIES, REGISTER, RESERVE, RELEASE, CLEAR, PREEMPT, PREEMPT_AND_ABORT, REGISTER_AND_IGNORE_EXISTING_KEY, FIXED_SENSE_LENGTH, PARAMETER_LIST_LENGTH}
 use Rattle.pr_cdb.specs.declared.command.Kind.{Kind}
 use Rattle.pr_cdb.specs.declared.command.Command.{Command}
 use Rattle.pr_cdb.specs.declared.command.Command.TheVariants.{TestUnitReady, RequestSense, Read, Write, ReadKeys, ReadReservation, ReportCapabilities, Register, RegisterIgnore, Reserve, Release, Clear, Preempt, PreemptAbort}
@@ -26,14 +27,14 @@ transfer opcode lba blocks =
 
 -- PERSISTENT RESERVE IN: a service action and the allocation length
 abbrev pub reserve_in : ℕ → ℕ → Wire
-reserve_in action alloc = wire_of ((0x5e ∷ action ∷ 0 ∷ 0 ∷ 0 ∷ 0 ∷ 0 ∷ []) ++ to_be_bytes w16 alloc ++ (0 ∷ [])) []
+reserve_in action alloc = wire_of ((PERSISTENT_RESERVE_IN ∷ action ∷ 0 ∷ 0 ∷ 0 ∷ 0 ∷ 0 ∷ []) ++ to_be_bytes w16 alloc ++ (0 ∷ [])) []
 
--- PERSISTENT RESERVE OUT: a service action, scope and type, and a parameter list of 24 bytes with the
+-- PERSISTENT RESERVE OUT: a service action, scope and type, and a parameter list with the
 -- reservation key and the service action reservation key
 abbrev pub reserve_out : ℕ → ℕ → ℕ → ℕ → Wire
 reserve_out action kind rk sark =
     wire_of
-    (0x5f ∷ action ∷ kind ∷ 0 ∷ 0 ∷ 0 ∷ 0 ∷ 0 ∷ 24 ∷ 0 ∷ [])
+    (PERSISTENT_RESERVE_OUT ∷ action ∷ kind ∷ 0 ∷ 0 ∷ 0 ∷ 0 ∷ 0 ∷ PARAMETER_LIST_LENGTH ∷ 0 ∷ [])
     (to_be_bytes w64 rk ++ to_be_bytes w64 sark ++ (0 ∷ 0 ∷ 0 ∷ 0 ∷ 0 ∷ 0 ∷ 0 ∷ 0 ∷ []))
 
 -- scope and type: the scope is the logical unit's, which is 0. No type is written as 0.
@@ -41,17 +42,17 @@ abbrev pub kind_byte : Option Kind → ℕ
 kind_byte kind = option_map_or code_of kind 0
 
 unfoldable pub spelling : Command → Wire
-spelling TestUnitReady = six 0x00 0
-spelling RequestSense = six 0x03 18
-spelling (Read lba blocks) = transfer 0x28 lba blocks
-spelling (Write lba blocks) = transfer 0x2a lba blocks
-spelling (ReadKeys alloc) = reserve_in 0x00 alloc
-spelling (ReadReservation alloc) = reserve_in 0x01 alloc
-spelling (ReportCapabilities alloc) = reserve_in 0x02 alloc
-spelling (Register rk sark) = reserve_out 0x00 0 rk sark
-spelling (Reserve rk kind) = reserve_out 0x01 (code_of kind) rk 0
-spelling (Release rk kind) = reserve_out 0x02 (code_of kind) rk 0
-spelling (Clear rk) = reserve_out 0x03 0 rk 0
-spelling (Preempt rk sark kind) = reserve_out 0x04 (kind_byte kind) rk sark
-spelling (PreemptAbort rk sark kind) = reserve_out 0x05 (kind_byte kind) rk sark
-spelling (RegisterIgnore sark) = reserve_out 0x06 0 0 sark
+spelling TestUnitReady = six TEST_UNIT_READY 0
+spelling RequestSense = six REQUEST_SENSE FIXED_SENSE_LENGTH
+spelling (Read lba blocks) = transfer READ_10 lba blocks
+spelling (Write lba blocks) = transfer WRITE_10 lba blocks
+spelling (ReadKeys alloc) = reserve_in READ_KEYS alloc
+spelling (ReadReservation alloc) = reserve_in READ_RESERVATION alloc
+spelling (ReportCapabilities alloc) = reserve_in REPORT_CAPABILITIES alloc
+spelling (Register rk sark) = reserve_out REGISTER 0 rk sark
+spelling (Reserve rk kind) = reserve_out RESERVE (code_of kind) rk 0
+spelling (Release rk kind) = reserve_out RELEASE (code_of kind) rk 0
+spelling (Clear rk) = reserve_out CLEAR 0 rk 0
+spelling (Preempt rk sark kind) = reserve_out PREEMPT (kind_byte kind) rk sark
+spelling (PreemptAbort rk sark kind) = reserve_out PREEMPT_AND_ABORT (kind_byte kind) rk sark
+spelling (RegisterIgnore sark) = reserve_out REGISTER_AND_IGNORE_EXISTING_KEY 0 0 sark

@@ -8,6 +8,7 @@
 //! Nothing here takes memory.
 #![tactic(auto)]
 
+pub mod codes;
 mod command;
 mod parameter_data;
 mod reading;

@@ -5,40 +5,24 @@ ghost use Rattle.pr_cdb.specs.Kinds.{kind_of_code};
 ghost use Rattle.pr_cdb.specs.Bytes.{be16, be32, be64};
 ghost use Rattle.pr_cdb.specs.Requests.{request_of, named, length_of, kind_of_byte, has_refused_flag, reserve_out, AreBytes, FitsWhereRead};
 
+use crate::codes::{
+    ALL_TG_PT, APTPL, CLEAR, DESC, FIXED_SENSE_LENGTH, ILLEGAL_REQUEST, INQUIRY,
+    INVALID_COMMAND_OPERATION_CODE, INVALID_FIELD_IN_CDB, INVALID_FIELD_IN_PARAMETER_LIST,
+    KEY_LENGTH, PARAMETER_LIST_LENGTH, PARAMETER_LIST_LENGTH_ERROR, PERSISTENT_RESERVE_IN,
+    PERSISTENT_RESERVE_OUT, PREEMPT, PREEMPT_AND_ABORT, READ_10, READ_KEYS, READ_RESERVATION,
+    REGISTER, REGISTER_AND_IGNORE_EXISTING_KEY, RELEASE, REPORT_CAPABILITIES, REPORT_LUNS,
+    REQUEST_SENSE, RESERVE, SIX_BYTE_CDB, SPEC_I_PT, TEN_BYTE_CDB, TEST_UNIT_READY, WRITE_10,
+};
 use crate::command::{Command, Kind};
 use crate::reply::Sense;
 use crate::wire::{Bad, Request};
 use byteorder::{BigEndian, ByteOrder};
 
-const TEST_UNIT_READY: u8 = 0x00;
-
-const REQUEST_SENSE: u8 = 0x03;
-
-const INQUIRY: u8 = 0x12;
-
-const READ_10: u8 = 0x28;
-
-const WRITE_10: u8 = 0x2a;
-
-const PERSISTENT_RESERVE_IN: u8 = 0x5e;
-
-const PERSISTENT_RESERVE_OUT: u8 = 0x5f;
-
-const REPORT_LUNS: u8 = 0xa0;
-
-const PARAMETER_LIST_LENGTH_ERROR: u8 = 0x1a;
-
-const INVALID_COMMAND_OPERATION_CODE: u8 = 0x20;
-
-const INVALID_FIELD_IN_CDB: u8 = 0x24;
-
-const INVALID_FIELD_IN_PARAMETER_LIST: u8 = 0x26;
-
 /// What the logical unit reads the command descriptor block `cdb` and the parameter list `params` as,
 /// for every two byte lists (SPC-4, 'PERSISTENT RESERVE IN command' and 'PERSISTENT RESERVE OUT
 /// command').
 ///
-/// Bytes past a command's length, and parameters past the 24th byte, are ignored.
+/// Bytes past a command's length, and past a whole parameter list, are ignored.
 #[tactic(auto, unfolding(crate::specs::Requests::request_of, crate::specs::Requests::named, crate::specs::Requests::length_of))]
 pub fn decode(cdb: &[u8], params: &[u8]) -> Result<Request, Bad>
     ensures value { result ≡ request_of cdb.now params.now }
@@ -78,33 +62,33 @@ fn length_of(opcode: u8) -> usize
     ensures { result ≡ length_of opcode }
 {
     match opcode {
-        TEST_UNIT_READY | REQUEST_SENSE => 6,
-        READ_10 | WRITE_10 | PERSISTENT_RESERVE_IN | PERSISTENT_RESERVE_OUT => 10,
+        TEST_UNIT_READY | REQUEST_SENSE => SIX_BYTE_CDB,
+        READ_10 | WRITE_10 | PERSISTENT_RESERVE_IN | PERSISTENT_RESERVE_OUT => TEN_BYTE_CDB,
         _ => 0,
     }
 }
 
 fn illegal(asc: u8) -> Request
-    ensures { result ≡ Request.Faulty (record { key = 5; asc = asc; ascq = 0 }) }
+    ensures { result ≡ Request.Faulty (record { key = ILLEGAL_REQUEST; asc = asc; ascq = 0 }) }
 {
     Request::Faulty(Sense {
-        key: 0x05,
+        key: ILLEGAL_REQUEST,
         asc,
-        ascq: 0x00,
+        ascq: 0,
     })
 }
 
 // REQUEST SENSE: descriptor format is a fault, and a short allocation length is not modelled.
 #[tactic(auto, unfolding(crate::specs::Requests::request_of, crate::specs::Requests::named, crate::specs::Requests::length_of))]
 fn request_sense(cdb: &[u8], params: &[u8]) -> Result<Request, Bad>
-    requires whole { 6 ≤ length cdb.now }
-    requires opcode { slice_index cdb.now 0 ≡ 0x03 }
+    requires whole { SIX_BYTE_CDB ≤ length cdb.now }
+    requires opcode { slice_index cdb.now 0 ≡ REQUEST_SENSE }
     ensures { result ≡ request_of cdb.now params.now }
 {
-    if cdb[1] & 0x01 != 0 {
+    if cdb[1] & DESC != 0 {
         return Ok(illegal(INVALID_FIELD_IN_CDB));
     }
-    if cdb[4] < 18 {
+    if usize::from(cdb[4]) < FIXED_SENSE_LENGTH {
         return Err(Bad::NotModelled(REQUEST_SENSE));
     }
     Ok(Request::Plain(Command::RequestSense))
@@ -113,9 +97,9 @@ fn request_sense(cdb: &[u8], params: &[u8]) -> Result<Request, Bad>
 // READ (10) or WRITE (10).
 #[tactic(auto, unfolding(crate::specs::Bytes::be32, crate::specs::Bytes::be16))]
 fn transfer(opcode: u8, cdb: &[u8]) -> Command
-    requires whole { 10 ≤ length cdb.now }
-    ensures read { opcode ≢ 0x2a → result ≡ Command.Read (be32 cdb.now 2) (be16 cdb.now 7) }
-    ensures write { opcode ≡ 0x2a → result ≡ Command.Write (be32 cdb.now 2) (be16 cdb.now 7) }
+    requires whole { TEN_BYTE_CDB ≤ length cdb.now }
+    ensures read { opcode ≢ WRITE_10 → result ≡ Command.Read (be32 cdb.now 2) (be16 cdb.now 7) }
+    ensures write { opcode ≡ WRITE_10 → result ≡ Command.Write (be32 cdb.now 2) (be16 cdb.now 7) }
 {
     let lba = BigEndian::read_u32(&cdb[2..]);
     let blocks = BigEndian::read_u16(&cdb[7..]);
@@ -128,16 +112,16 @@ fn transfer(opcode: u8, cdb: &[u8]) -> Command
 
 #[tactic(auto, unfolding(crate::specs::Requests::request_of, crate::specs::Requests::named, crate::specs::Requests::length_of, crate::specs::Bytes::be16))]
 fn reserve_in(cdb: &[u8], params: &[u8]) -> Result<Request, Bad>
-    requires whole { 10 ≤ length cdb.now }
-    requires opcode { slice_index cdb.now 0 ≡ 0x5e }
+    requires whole { TEN_BYTE_CDB ≤ length cdb.now }
+    requires opcode { slice_index cdb.now 0 ≡ PERSISTENT_RESERVE_IN }
     ensures { result ≡ request_of cdb.now params.now }
 {
     let action = cdb[1] & 0x1f;
     let alloc = BigEndian::read_u16(&cdb[7..]);
     let command = match action {
-        0x00 => Command::ReadKeys { alloc },
-        0x01 => Command::ReadReservation { alloc },
-        0x02 => Command::ReportCapabilities { alloc },
+        READ_KEYS => Command::ReadKeys { alloc },
+        READ_RESERVATION => Command::ReadReservation { alloc },
+        REPORT_CAPABILITIES => Command::ReportCapabilities { alloc },
         _ => return Ok(illegal(INVALID_FIELD_IN_CDB)),
     };
     Ok(Request::Plain(command))
@@ -145,18 +129,18 @@ fn reserve_in(cdb: &[u8], params: &[u8]) -> Result<Request, Bad>
 
 #[tactic(auto, unfolding(crate::specs::Requests::request_of, crate::specs::Requests::length_of, crate::specs::Bytes::be32))]
 fn reserve_out(cdb: &[u8], params: &[u8]) -> Result<Request, Bad>
-    requires whole { 10 ≤ length cdb.now }
-    requires opcode { slice_index cdb.now 0 ≡ 0x5f }
+    requires whole { TEN_BYTE_CDB ≤ length cdb.now }
+    requires opcode { slice_index cdb.now 0 ≡ PERSISTENT_RESERVE_OUT }
     ensures { result ≡ request_of cdb.now params.now }
 {
     let action = cdb[1] & 0x1f;
-    if action > 0x06 {
+    if action > REGISTER_AND_IGNORE_EXISTING_KEY {
         return Ok(illegal(INVALID_FIELD_IN_CDB));
     }
-    if BigEndian::read_u32(&cdb[5..]) != 24 {
+    if BigEndian::read_u32(&cdb[5..]) as usize != PARAMETER_LIST_LENGTH {
         return Ok(illegal(PARAMETER_LIST_LENGTH_ERROR));
     }
-    if params.len() < 24 {
+    if params.len() < PARAMETER_LIST_LENGTH {
         return Err(Bad::Short);
     }
     let Some(command) = named_out(cdb, params) else {
@@ -171,9 +155,9 @@ fn reserve_out(cdb: &[u8], params: &[u8]) -> Result<Request, Bad>
 // The command of the fields of PERSISTENT RESERVE OUT.
 #[tactic(auto, unfolding(crate::specs::Requests::named))]
 fn named_out(cdb: &[u8], params: &[u8]) -> Option<Command>
-    requires whole { 10 ≤ length cdb.now }
-    requires opcode { slice_index cdb.now 0 ≡ 0x5f }
-    requires list { 24 ≤ length params.now }
+    requires whole { TEN_BYTE_CDB ≤ length cdb.now }
+    requires opcode { slice_index cdb.now 0 ≡ PERSISTENT_RESERVE_OUT }
+    requires list { PARAMETER_LIST_LENGTH ≤ length params.now }
     ensures { result ≡ named cdb.now params.now }
 {
     let rk = key_at(params, 0);
@@ -181,10 +165,10 @@ fn named_out(cdb: &[u8], params: &[u8]) -> Option<Command>
     service_action(cdb[1] & 0x1f, kind_of_byte(cdb[2]), rk, sark)
 }
 
-// The key in the 8 bytes from `place`.
+// The key that begins at `place`.
 #[tactic(auto, unfolding(crate::specs::Bytes::be64))]
 fn key_at(params: &[u8], place: usize) -> u64
-    requires { place + 8 ≤ length params.now }
+    requires { place + KEY_LENGTH ≤ length params.now }
     ensures { result ≡ be64 params.now place }
 {
     BigEndian::read_u64(&params[place..])
@@ -196,12 +180,12 @@ fn service_action(action: u8, kind: Option<Kind>, rk: u64, sark: u64) -> Option<
     ensures { result ≡ reserve_out action kind rk sark }
 {
     match action {
-        0x00 => Some(Command::Register { rk, sark }),
-        0x01 => kind.map(|kind| Command::Reserve { rk, kind }),
-        0x02 => kind.map(|kind| Command::Release { rk, kind }),
-        0x03 => Some(Command::Clear { rk }),
-        0x04 => Some(Command::Preempt { rk, sark, kind }),
-        0x05 => Some(Command::PreemptAbort { rk, sark, kind }),
+        REGISTER => Some(Command::Register { rk, sark }),
+        RESERVE => kind.map(|kind| Command::Reserve { rk, kind }),
+        RELEASE => kind.map(|kind| Command::Release { rk, kind }),
+        CLEAR => Some(Command::Clear { rk }),
+        PREEMPT => Some(Command::Preempt { rk, sark, kind }),
+        PREEMPT_AND_ABORT => Some(Command::PreemptAbort { rk, sark, kind }),
         _ => Some(Command::RegisterIgnore { sark }),
     }
 }
@@ -222,6 +206,6 @@ fn kind_of_byte(byte: u8) -> Option<Kind>
 fn has_refused_flag(action: u8, flags: u8) -> bool
     ensures { result ≡ has_refused_flag action flags }
 {
-    let registers = action == 0x00 || action == 0x06;
-    flags & 0x08 != 0 || (registers && (flags & 0x04 != 0 || flags & 0x01 != 0))
+    let registers = action == REGISTER || action == REGISTER_AND_IGNORE_EXISTING_KEY;
+    flags & SPEC_I_PT != 0 || (registers && (flags & ALL_TG_PT != 0 || flags & APTPL != 0))
 }

@@ -2,6 +2,7 @@
 
 ghost use Rattle.std.specs.Prelude.{◌≡◌};
 
+use crate::codes::MOST_DATA_LENGTH;
 use crate::wire::copied;
 use arrayvec::ArrayVec;
 
@@ -30,7 +31,7 @@ pub enum Status {
 pub struct Reply {
     pub status: Status,
     pub sense: Option<Sense>,
-    pub bytes: ArrayVec<u8, 72>,
+    pub bytes: ArrayVec<u8, MOST_DATA_LENGTH>,
 }
 
 impl Reply {

@@ -2,6 +2,7 @@
 
 ghost use Rattle.std.specs.Prelude.{◌≡◌, ◌≤◌, length};
 
+use crate::codes::{MOST_CDB_LENGTH, PARAMETER_LIST_LENGTH};
 use crate::command::Command;
 use crate::reply::Sense;
 use arrayvec::ArrayVec;
@@ -13,8 +14,8 @@ use thiserror::Error;
 /// has none.
 #[derive(Debug, Drop, PartialEq, Eq)]
 pub struct Wire {
-    pub cdb: ArrayVec<u8, 16>,
-    pub params: ArrayVec<u8, 24>,
+    pub cdb: ArrayVec<u8, MOST_CDB_LENGTH>,
+    pub params: ArrayVec<u8, PARAMETER_LIST_LENGTH>,
 }
 
 impl Wire {

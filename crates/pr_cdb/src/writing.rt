@@ -4,6 +4,12 @@ ghost use Rattle.std.specs.Prelude.{◌≡◌, ◌≤◌, ◌<◌, length};
 ghost use Rattle.pr_cdb.specs.Requests.{plain, requested, Fits};
 ghost use Rattle.pr_cdb.specs.Spelling.{spelling, wire_of, kind_byte, six, transfer, reserve_in, reserve_out};
 
+use crate::codes::{
+    CLEAR, FIXED_SENSE_LENGTH, PARAMETER_LIST_LENGTH, PERSISTENT_RESERVE_IN,
+    PERSISTENT_RESERVE_OUT, PREEMPT, PREEMPT_AND_ABORT, READ_10, READ_KEYS, READ_RESERVATION,
+    REGISTER, REGISTER_AND_IGNORE_EXISTING_KEY, RELEASE, REPORT_CAPABILITIES, REQUEST_SENSE,
+    RESERVE, TEST_UNIT_READY, WRITE_10,
+};
 use crate::command::{Command, Kind};
 use crate::wire::{Wire, copied};
 use byteorder::{BigEndian, ByteOrder};
@@ -30,20 +36,30 @@ fn spelled(command: Command) -> Wire
     ensures fits { Fits command }
 {
     match command {
-        Command::TestUnitReady => six(0x00, 0),
-        Command::RequestSense => six(0x03, 18),
-        Command::Read { lba, blocks } => transfer(0x28, lba, blocks),
-        Command::Write { lba, blocks } => transfer(0x2a, lba, blocks),
-        Command::ReadKeys { alloc } => reserve_in(0x00, alloc),
-        Command::ReadReservation { alloc } => reserve_in(0x01, alloc),
-        Command::ReportCapabilities { alloc } => reserve_in(0x02, alloc),
-        Command::Register { rk, sark } => reserve_out(0x00, 0, rk, sark),
-        Command::Reserve { rk, kind } => reserve_out(0x01, kind.code(), rk, 0),
-        Command::Release { rk, kind } => reserve_out(0x02, kind.code(), rk, 0),
-        Command::Clear { rk } => reserve_out(0x03, 0, rk, 0),
-        Command::Preempt { rk, sark, kind } => reserve_out(0x04, kind_byte(kind), rk, sark),
-        Command::PreemptAbort { rk, sark, kind } => reserve_out(0x05, kind_byte(kind), rk, sark),
-        Command::RegisterIgnore { sark } => reserve_out(0x06, 0, 0, sark),
+        Command::TestUnitReady => six(TEST_UNIT_READY, 0),
+        Command::RequestSense => six(REQUEST_SENSE, FIXED_SENSE_LENGTH as u8),
+        Command::Read { lba, blocks } => transfer(READ_10, lba, blocks),
+        Command::Write { lba, blocks } => transfer(WRITE_10, lba, blocks),
+        Command::ReadKeys { alloc } => reserve_in(READ_KEYS, alloc),
+        Command::ReadReservation { alloc } => reserve_in(READ_RESERVATION, alloc),
+        Command::ReportCapabilities { alloc } => reserve_in(REPORT_CAPABILITIES, alloc),
+        Command::Register { rk, sark } => reserve_out(REGISTER, 0, rk, sark),
+        Command::Reserve { rk, kind } => reserve_out(RESERVE, kind.code(), rk, 0),
+        Command::Release { rk, kind } => reserve_out(RELEASE, kind.code(), rk, 0),
+        Command::Clear { rk } => reserve_out(CLEAR, 0, rk, 0),
+        Command::Preempt { rk, sark, kind } => reserve_out(PREEMPT, kind_byte(kind), rk, sark),
+        Command::PreemptAbort { rk, sark, kind } => reserve_out(
+            PREEMPT_AND_ABORT,
+            kind_byte(kind),
+            rk,
+            sark,
+        ),
+        Command::RegisterIgnore { sark } => reserve_out(
+            REGISTER_AND_IGNORE_EXISTING_KEY,
+            0,
+            0,
+            sark,
+        ),
     }
 }
 
@@ -83,7 +99,7 @@ fn transfer(opcode: u8, lba: u32, blocks: u16) -> Wire
 fn reserve_in(action: u8, alloc: u16) -> Wire
     ensures { result ≡ reserve_in action alloc }
 {
-    let mut cdb = [0x5e, action, 0, 0, 0, 0, 0, 0, 0, 0];
+    let mut cdb = [PERSISTENT_RESERVE_IN, action, 0, 0, 0, 0, 0, 0, 0, 0];
     BigEndian::write_u16(&mut cdb[7..], alloc);
     Wire {
         cdb: copied(&cdb),
@@ -91,15 +107,17 @@ fn reserve_in(action: u8, alloc: u16) -> Wire
     }
 }
 
-// A service action of PERSISTENT RESERVE OUT, with its parameter list of 24 bytes.
+// A service action of PERSISTENT RESERVE OUT, with its parameter list.
 fn reserve_out(action: u8, kind: u8, rk: u64, sark: u64) -> Wire
     ensures { result ≡ reserve_out action kind rk sark }
 {
-    let mut params = [0; 24];
+    let mut cdb = [PERSISTENT_RESERVE_OUT, action, kind, 0, 0, 0, 0, 0, 0, 0];
+    cdb[8] = PARAMETER_LIST_LENGTH as u8;
+    let mut params = [0; PARAMETER_LIST_LENGTH];
     BigEndian::write_u64(&mut params, rk);
     BigEndian::write_u64(&mut params[8..], sark);
     Wire {
-        cdb: copied(&[0x5f, action, kind, 0, 0, 0, 0, 0, 24, 0]),
+        cdb: copied(&cdb),
         params: copied(&params),
     }
 }

@@ -7,10 +7,8 @@ ghost use Rattle.pr_domain.specs.inside.Reporting.{takes, sense_of, AreBlind};
 
 use crate::landing::{Class, Landing};
 use pr_cdb::Sense;
+use pr_cdb::codes::UNIT_ATTENTION;
 use pr_script::Test;
-
-// The sense key UNIT ATTENTION.
-const UNIT_ATTENTION: u8 = 6;
 
 impl Class {
     // Whether the test matches the replies of the class, where it does not look at their data.

@@ -18,7 +18,8 @@ use Rattle.pr_registry.specs.Registrations.{State, key_of, is_registered}
 use Rattle.pr_registry.specs.Changes.{no_change, is_in_the_way, is_held_by_all, change_on_unregister, change_on_release, change_on_clear, change_on_preempt}
 use Rattle.pr_registry.specs.Effects.{registered, unregistered, reserved, released, cleared, preempted, after, change, after_register, change_on_register}
 use Rattle.pr_unit.specs.Conflicts.{access_conflicts, reading, writing, is_wrong_key, preempt_conflicts, command_conflicts}
-use Rattle.pr_unit.specs.Faults.{illegal, release_fault, capacity, range_fault, preempt_fault, command_fault}
+use Rattle.pr_unit.specs.declared.unit.TheConstants.{CAPACITY}
+use Rattle.pr_unit.specs.Faults.{illegal, release_fault, range_fault, preempt_fault, command_fault}
 use Rattle.pr_views.specs.Possibilities.{key_at}
 use Rattle.pr_regions.specs.declared.purpose.Purpose.{Purpose}
 use Rattle.pr_regions.specs.declared.purpose.Purpose.TheVariants.{Look, Read, Write, Register, Unregister, Reserve, Release, Clear, PreemptAll, Preempt}
@@ -157,7 +158,7 @@ purpose_in : (p q : Purpose) → Some p ≡ Some q → p ≡ q
 purpose_in p q same = cc
 
 range : (lba blocks : ℕ) → range_fault lba blocks ≡ (if is_in_range lba blocks then None else Some (illegal 0x21 0x00))
-range lba blocks = at (nat_le (lba + blocks) capacity) (nat_lt capacity (lba + blocks)) (turned (lba + blocks) capacity)
+range lba blocks = at (nat_le (lba + blocks) CAPACITY) (nat_lt CAPACITY (lba + blocks)) (turned (lba + blocks) CAPACITY)
   where
     turned : (a b : ℕ) → nat_lt b a ≡ not (nat_le a b)
     turned a b = grind (arith, nat_tests)

@@ -8,7 +8,7 @@ use Rattle.pr_cdb.specs.declared.command.Command.TheVariants as command
 use Rattle.pr_registry.specs.Hosts.{is_key}
 use Rattle.pr_script.specs.Grammar.{is_written_key}
 use Rattle.pr_unit.specs.Conflicts.{is_wrong_key}
-use Rattle.pr_unit.specs.Faults.{capacity}
+use Rattle.pr_unit.specs.declared.unit.TheConstants.{CAPACITY}
 use Rattle.pr_regions.specs.declared.purpose.Purpose.{Purpose}
 use Rattle.pr_regions.specs.declared.purpose.Purpose.TheVariants.{Look, Read, Write, Register, Unregister, Reserve, Release, Clear, PreemptAll, Preempt}
 
@@ -44,7 +44,7 @@ HasNumber (Preempt j kind) = (1 ≤ j) × (j ≤ 12)
 
 -- the blocks are among those of the unit
 abbrev pub is_in_range : ℕ → ℕ → Bool
-is_in_range lba blocks = nat_le (lba + blocks) capacity
+is_in_range lba blocks = nat_le (lba + blocks) CAPACITY
 
 -- REGISTER of the key zero unregisters
 abbrev pub registering : List ℕ → ℕ → Purpose

@@ -9,9 +9,7 @@ ghost use Rattle.pr_regions.specs.Regions.{names, standing_of};
 
 use crate::purpose::{Purpose, Standing};
 use pr_cdb::{Command, Kind};
-
-// How many blocks the unit has.
-const CAPACITY: u64 = 1_048_576;
+use pr_unit::CAPACITY;
 
 // The place of a key among the declared ones.
 fn place_in(keys: &[u64], key: u64) -> Option<usize>

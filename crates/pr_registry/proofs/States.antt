@@ -4,6 +4,7 @@ use Rattle.std.specs.FinSet as set
 use Rattle.std.specs.FinMap as map
 use Rattle.std.proofs.lemmas.Bool.Decides.{nat_tests, eqb_tells}
 use Rattle.std.proofs.lemmas.List.{get_or-set_same, get_or-set_other}
+use Rattle.pr_cdb.specs.declared.codes.TheConstants.{MOST_NEXUSES}
 use Rattle.pr_cdb.specs.declared.command.Kind.{Kind}
 use Rattle.pr_registry.specs.declared.held.Held.{Held}
 use Rattle.pr_registry.specs.declared.held.Held.TheVariants.{One, All}
@@ -24,12 +25,12 @@ slot-set slots h o q small = at (eqb_tells q h)
     at (inl same) = rw same.0 (rw same.1 (get_or-set_same slots h o None small))
     at (inr other) = rw other.0 (get_or-set_other slots h q o None other.1)
 
-get-table_keys-set : (slots : List (Option ℕ)) (h : ℕ) (o : Option ℕ) (q : ℕ) → length slots ≡ 8 → h < 8
-    → map.get (table_keys 8 (slice_set slots h o)) q ≡ (if q == h then o else map.get (table_keys 8 slots) q)
+get-table_keys-set : (slots : List (Option ℕ)) (h : ℕ) (o : Option ℕ) (q : ℕ) → length slots ≡ MOST_NEXUSES → h < MOST_NEXUSES
+    → map.get (table_keys MOST_NEXUSES (slice_set slots h o)) q ≡ (if q == h then o else map.get (table_keys MOST_NEXUSES slots) q)
 get-table_keys-set slots h o q whole small =
-    get-table_keys 8 (slice_set slots h o) q ∙ ap (λ x. cond (nat_lt q 8) x None) (slot-set slots h o q (omega arith))
-    ∙ swapped (nat_lt q 8) (q == h) (λ e. ap (λ x. nat_lt x 8) (same_number q h e) ∙ lt_true h 8 small)
-    ∙ ap (λ x. cond (q == h) o x) (sym (get-table_keys 8 slots q))
+    get-table_keys MOST_NEXUSES (slice_set slots h o) q ∙ ap (λ x. cond (nat_lt q MOST_NEXUSES) x None) (slot-set slots h o q (omega arith))
+    ∙ swapped (nat_lt q MOST_NEXUSES) (q == h) (λ e. ap (λ x. nat_lt x MOST_NEXUSES) (same_number q h e) ∙ lt_true h MOST_NEXUSES small)
+    ∙ ap (λ x. cond (q == h) o x) (sym (get-table_keys MOST_NEXUSES slots q))
   where
     swapped : (l e : Bool) → (e ≡ true → l ≡ true) → cond l (cond e o (slot slots q)) None ≡ cond e o (cond l (slot slots q) None)
     swapped true true in_range = refl
@@ -37,26 +38,26 @@ get-table_keys-set slots h o q whole small =
     swapped false true in_range = absurd (false≢true (in_range refl))
     swapped false false in_range = refl
 
-pub table_keys-insert : (slots : List (Option ℕ)) (h k : ℕ) → length slots ≡ 8 → h < 8 → table_keys 8 (slice_set slots h (Some k)) ≡ map.insert (table_keys 8 slots) h k
+pub table_keys-insert : (slots : List (Option ℕ)) (h k : ℕ) → length slots ≡ MOST_NEXUSES → h < MOST_NEXUSES → table_keys MOST_NEXUSES (slice_set slots h (Some k)) ≡ map.insert (table_keys MOST_NEXUSES slots) h k
 table_keys-insert slots h k whole small =
-    same_keys _ _ (λ q. get-table_keys-set slots h (Some k) q whole small ∙ sym (get-insert (table_keys 8 slots) h k q))
+    same_keys _ _ (λ q. get-table_keys-set slots h (Some k) q whole small ∙ sym (get-insert (table_keys MOST_NEXUSES slots) h k q))
 
-pub table_keys-without : (slots : List (Option ℕ)) (h : ℕ) → length slots ≡ 8 → h < 8 → table_keys 8 (slice_set slots h None) ≡ without (table_keys 8 slots) (just h)
+pub table_keys-without : (slots : List (Option ℕ)) (h : ℕ) → length slots ≡ MOST_NEXUSES → h < MOST_NEXUSES → table_keys MOST_NEXUSES (slice_set slots h None) ≡ without (table_keys MOST_NEXUSES slots) (just h)
 table_keys-without slots h whole small =
     same_keys _ _ (λ q. get-table_keys-set slots h None q whole small
-    ∙ ap (λ b. cond b None (map.get (table_keys 8 slots) q)) (sym (contains-just h q))
-    ∙ sym (get-without (table_keys 8 slots) (just h) q))
+    ∙ ap (λ b. cond b None (map.get (table_keys MOST_NEXUSES slots) q)) (sym (contains-just h q))
+    ∙ sym (get-without (table_keys MOST_NEXUSES slots) (just h) q))
 
-pub table_keys-none : table_keys 8 (None ∷ None ∷ None ∷ None ∷ None ∷ None ∷ None ∷ None ∷ []) ≡ map.empty
+pub table_keys-none : table_keys MOST_NEXUSES (None ∷ None ∷ None ∷ None ∷ None ∷ None ∷ None ∷ None ∷ []) ≡ map.empty
 unfolding map_where
 table_keys-none = refl
 
-pub state_of-registered : (hosts : ℕ) (old new : List (Option ℕ)) (held : Option Held) (g after_g h k : ℕ) → table_keys 8 new ≡ map.insert (table_keys 8 old) h k → after_g ≡ next g
+pub state_of-registered : (hosts : ℕ) (old new : List (Option ℕ)) (held : Option Held) (g after_g h k : ℕ) → table_keys MOST_NEXUSES new ≡ map.insert (table_keys MOST_NEXUSES old) h k → after_g ≡ next g
     → state_of hosts new held after_g ≡ registered (state_of hosts old held g) h k
 state_of-registered hosts old new held g after_g h k keys more = λ x. record { hosts = hosts; keys = keys x; held = held; generation = more x }
 
-pub state_of-unregistered : (hosts : ℕ) (old new : List (Option ℕ)) (held after : Option Held) (g after_g h : ℕ) → table_keys 8 new ≡ without (table_keys 8 old) (just h)
-    → after ≡ (if holds_alone held h then None else held_by_rest (table_keys 8 new) held) → after_g ≡ next g
+pub state_of-unregistered : (hosts : ℕ) (old new : List (Option ℕ)) (held after : Option Held) (g after_g h : ℕ) → table_keys MOST_NEXUSES new ≡ without (table_keys MOST_NEXUSES old) (just h)
+    → after ≡ (if holds_alone held h then None else held_by_rest (table_keys MOST_NEXUSES new) held) → after_g ≡ next g
     → state_of hosts new after after_g ≡ unregistered (state_of hosts old held g) h
 state_of-unregistered hosts old new held after g after_g h keys is more =
     let left = is ∙ ap (λ rest. if holds_alone held h then None else held_by_rest rest held) keys in
@@ -64,7 +65,7 @@ state_of-unregistered hosts old new held after g after_g h keys is more =
 
 pub state_of-reserved : (hosts : ℕ) (slots : List (Option ℕ)) (held : Option Held) (new : Held) (g h : ℕ) (t : Kind) → is_some held ≡ false → new ≡ established t h
     → state_of hosts slots (Some new) g ≡ reserved (state_of hosts slots held g) h t
-state_of-reserved hosts slots None new g h t free is = λ x. record { hosts = hosts; keys = table_keys 8 slots; held = Some (is x); generation = g }
+state_of-reserved hosts slots None new g h t free is = λ x. record { hosts = hosts; keys = table_keys MOST_NEXUSES slots; held = Some (is x); generation = g }
 state_of-reserved hosts slots (Some v) new g h t free is = absurd (false≢true (sym free))
 
 pub state_of-cleared : (hosts : ℕ) (slots : List (Option ℕ)) (held : Option Held) (g after_g : ℕ) → after_g ≡ next g
@@ -72,17 +73,17 @@ pub state_of-cleared : (hosts : ℕ) (slots : List (Option ℕ)) (held : Option 
 state_of-cleared hosts slots held g after_g more = λ x. record { hosts = hosts; keys = table_keys-none x; held = None; generation = more x }
 
 pub state_of-preempted : (hosts : ℕ) (old new : List (Option ℕ)) (held after : Option Held) (g after_g h sark : ℕ) (kind : Option Kind) (case : Case) (removed : Hosts)
-    → case ≡ preempt_case (table_keys 8 old) held sark → removed ≡ removed_by_preempt (table_keys 8 old) h sark (preempt_case (table_keys 8 old) held sark)
-    → table_keys 8 new ≡ without (table_keys 8 old) removed → after ≡ held_after_preempt (table_keys 8 new) held h kind case → after_g ≡ next g
+    → case ≡ preempt_case (table_keys MOST_NEXUSES old) held sark → removed ≡ removed_by_preempt (table_keys MOST_NEXUSES old) h sark (preempt_case (table_keys MOST_NEXUSES old) held sark)
+    → table_keys MOST_NEXUSES new ≡ without (table_keys MOST_NEXUSES old) removed → after ≡ held_after_preempt (table_keys MOST_NEXUSES new) held h kind case → after_g ≡ next g
     → state_of hosts new after after_g ≡ preempted (state_of hosts old held g) h sark kind
 state_of-preempted hosts old new held after g after_g h sark kind case removed case_is removed_is keys is more =
-    let rest = keys ∙ ap (without (table_keys 8 old)) removed_is in
+    let rest = keys ∙ ap (without (table_keys MOST_NEXUSES old)) removed_is in
     let left = is ∙ (λ x. held_after_preempt (rest x) held h kind (case_is x)) in
     λ x. record { hosts = hosts; keys = rest x; held = left x; generation = more x }
 
 -- ---- well formed states
 
-pub well_formed-fresh : (hosts : ℕ) → 1 ≤ hosts → hosts ≤ 8 → IsWellFormed (fresh hosts)
+pub well_formed-fresh : (hosts : ℕ) → 1 ≤ hosts → hosts ≤ MOST_NEXUSES → IsWellFormed (fresh hosts)
 well_formed-fresh hosts some most = record {
   hosts = (some, most);
   keys = λ h k is. let bad : None ≡ Some k = sym (get-empty h) ∙ is in cc;
@@ -253,7 +254,7 @@ are_keys-from keys held g w i small = at (slot keys i) refl
     at None is = tt
     at (Some k) is = (w.keys i k (get-table_keys_in (length keys) keys i small ∙ is)).1
 
-pub well_formed-from : (keys : List (Option ℕ)) (held : Option Held) (g : ℕ) → 1 ≤ length keys → length keys ≤ 8
+pub well_formed-from : (keys : List (Option ℕ)) (held : Option Held) (g : ℕ) → 1 ≤ length keys → length keys ≤ MOST_NEXUSES
     → ((i : ℕ) → i < length keys → IsKeyOrNone (slot keys i)) → HasHolder (table_keys (length keys) keys) held → g < 2 ^ 32 → IsWellFormed (state_from keys held g)
 well_formed-from keys held g some most are has fits = record {
   hosts = (some, most);

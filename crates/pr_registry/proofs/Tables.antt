@@ -3,6 +3,7 @@ use Rattle.std.proofs.Common.{◌≡◌, ℕ, ◌+◌, ◌<◌, ◌≤◌, Bool,
 use Rattle.std.specs.FinSet as set
 use Rattle.std.specs.FinMap as map
 use Rattle.std.proofs.lemmas.Bool.Decides.{nat_tests}
+use Rattle.pr_cdb.specs.declared.codes.TheConstants.{MOST_NEXUSES}
 use Rattle.pr_registry.specs.Hosts.{Hosts, is_key, hosts_in, hosts_with, is_empty, hosts_where}
 use Rattle.pr_registry.specs.Registrations.{table_keys}
 use Rattle.pr_registry.proofs.Sets.{same_hosts, same_keys, contains-hosts_where, contains-hosts_in, contains-hosts_with, get-map_where, is_empty_from_none, not_empty_from_some}
@@ -29,38 +30,38 @@ get-table_keys n slots q = get-map_where n (slot slots) q
 pub get-table_keys_in : (n : ℕ) (slots : List (Option ℕ)) (q : ℕ) → q < n → map.get (table_keys n slots) q ≡ slot slots q
 get-table_keys_in n slots q small = get-table_keys n slots q ∙ ap (λ b. cond b (slot slots q) None) (lt_true q n small)
 
-pub get-table_keys_past : (slots : List (Option ℕ)) (q : ℕ) → 8 ≤ q → map.get (table_keys 8 slots) q ≡ None
-get-table_keys_past slots q large = get-table_keys 8 slots q ∙ ap (λ b. cond b (slot slots q) None) (lt_false q 8 large)
+pub get-table_keys_past : (slots : List (Option ℕ)) (q : ℕ) → MOST_NEXUSES ≤ q → map.get (table_keys MOST_NEXUSES slots) q ≡ None
+get-table_keys_past slots q large = get-table_keys MOST_NEXUSES slots q ∙ ap (λ b. cond b (slot slots q) None) (lt_false q MOST_NEXUSES large)
 
-pub contains_key-table_keys : (slots : List (Option ℕ)) (q : ℕ) → q < 8 → map.contains_key (table_keys 8 slots) q ≡ is_some (slot slots q)
-contains_key-table_keys slots q small = ap is_some (get-table_keys_in 8 slots q small)
+pub contains_key-table_keys : (slots : List (Option ℕ)) (q : ℕ) → q < MOST_NEXUSES → map.contains_key (table_keys MOST_NEXUSES slots) q ≡ is_some (slot slots q)
+contains_key-table_keys slots q small = ap is_some (get-table_keys_in MOST_NEXUSES slots q small)
 
-pub contains_key-table_keys_past : (slots : List (Option ℕ)) (q : ℕ) → 8 ≤ q → map.contains_key (table_keys 8 slots) q ≡ false
+pub contains_key-table_keys_past : (slots : List (Option ℕ)) (q : ℕ) → MOST_NEXUSES ≤ q → map.contains_key (table_keys MOST_NEXUSES slots) q ≡ false
 contains_key-table_keys_past slots q large =
     ap is_some (get-table_keys_past slots q large)
 
--- a set whose members are all below 8 is what its test collects there
-hosts_where-of : (s : Hosts) (p : ℕ → Bool) → ((q : ℕ) → p q ≡ set.contains s q) → ((q : ℕ) → 8 ≤ q → set.contains s q ≡ false) → hosts_where 8 p ≡ s
+-- a set whose members are all below MOST_NEXUSES is what its test collects there
+hosts_where-of : (s : Hosts) (p : ℕ → Bool) → ((q : ℕ) → p q ≡ set.contains s q) → ((q : ℕ) → MOST_NEXUSES ≤ q → set.contains s q ≡ false) → hosts_where MOST_NEXUSES p ≡ s
 hosts_where-of s p tests past =
-    same_hosts _ _ (λ q. contains-hosts_where 8 p q ∙ at q (nat_lt q 8) refl)
+    same_hosts _ _ (λ q. contains-hosts_where MOST_NEXUSES p q ∙ at q (nat_lt q MOST_NEXUSES) refl)
   where
-    at : (q : ℕ) (b : Bool) → nat_lt q 8 ≡ b → (b && p q) ≡ set.contains s q
+    at : (q : ℕ) (b : Bool) → nat_lt q MOST_NEXUSES ≡ b → (b && p q) ≡ set.contains s q
     at q true inside = tests q
     at q false outside = sym (past q (grind (arith, nat_tests)))
 
-pub hosts_where-is_registered : (slots : List (Option ℕ)) → hosts_where 8 (map.contains_key (table_keys 8 slots)) ≡ hosts_in (table_keys 8 slots)
+pub hosts_where-is_registered : (slots : List (Option ℕ)) → hosts_where MOST_NEXUSES (map.contains_key (table_keys MOST_NEXUSES slots)) ≡ hosts_in (table_keys MOST_NEXUSES slots)
 hosts_where-is_registered slots =
-    hosts_where-of (hosts_in (table_keys 8 slots)) (map.contains_key (table_keys 8 slots)) (λ q. sym (contains-hosts_in (table_keys 8 slots) q))
-    (λ q large. contains-hosts_in (table_keys 8 slots) q ∙ contains_key-table_keys_past slots q large)
+    hosts_where-of (hosts_in (table_keys MOST_NEXUSES slots)) (map.contains_key (table_keys MOST_NEXUSES slots)) (λ q. sym (contains-hosts_in (table_keys MOST_NEXUSES slots) q))
+    (λ q large. contains-hosts_in (table_keys MOST_NEXUSES slots) q ∙ contains_key-table_keys_past slots q large)
 
 -- the test of a host that is registered with this key
 abbrev pub has_key : List (Option ℕ) → ℕ → ℕ → Bool
-has_key slots k q = is_key (map.get (table_keys 8 slots) q) k
+has_key slots k q = is_key (map.get (table_keys MOST_NEXUSES slots) q) k
 
-pub hosts_where-has_key : (slots : List (Option ℕ)) (k : ℕ) → hosts_where 8 (has_key slots k) ≡ hosts_with (table_keys 8 slots) k
+pub hosts_where-has_key : (slots : List (Option ℕ)) (k : ℕ) → hosts_where MOST_NEXUSES (has_key slots k) ≡ hosts_with (table_keys MOST_NEXUSES slots) k
 hosts_where-has_key slots k =
-    hosts_where-of (hosts_with (table_keys 8 slots) k) (has_key slots k) (λ q. sym (contains-hosts_with (table_keys 8 slots) k q))
-    (λ q large. contains-hosts_with (table_keys 8 slots) k q ∙ ap (λ o. is_key o k) (get-table_keys_past slots q large))
+    hosts_where-of (hosts_with (table_keys MOST_NEXUSES slots) k) (has_key slots k) (λ q. sym (contains-hosts_with (table_keys MOST_NEXUSES slots) k q))
+    (λ q large. contains-hosts_with (table_keys MOST_NEXUSES slots) k q ∙ ap (λ o. is_key o k) (get-table_keys_past slots q large))
 
 pub is_empty-table_keys : (n : ℕ) (slots : List (Option ℕ)) → ((i : ℕ) → i < n → slot slots i ≡ None) → is_empty (table_keys n slots) ≡ true
 is_empty-table_keys n slots none =
@@ -98,10 +99,10 @@ pub none_below_zero : (removed : Hosts) (q : ℕ) → is_removed_below removed 0
 none_below_zero removed q = ap (λ b. b && set.contains removed q) (lt_false q 0 (omega arith))
 
 pub all_below : (slots : List (Option ℕ)) (removed : Hosts) (q : ℕ)
-    → (if is_removed_below removed 8 q then None else map.get (table_keys 8 slots) q) ≡ (if set.contains removed q then None else map.get (table_keys 8 slots) q)
-all_below slots removed q = at (nat_lt q 8) (set.contains removed q) refl
+    → (if is_removed_below removed MOST_NEXUSES q then None else map.get (table_keys MOST_NEXUSES slots) q) ≡ (if set.contains removed q then None else map.get (table_keys MOST_NEXUSES slots) q)
+all_below slots removed q = at (nat_lt q MOST_NEXUSES) (set.contains removed q) refl
   where
-    at : (l b : Bool) → nat_lt q 8 ≡ l → (if l && b then None else map.get (table_keys 8 slots) q) ≡ (if b then None else map.get (table_keys 8 slots) q)
+    at : (l b : Bool) → nat_lt q MOST_NEXUSES ≡ l → (if l && b then None else map.get (table_keys MOST_NEXUSES slots) q) ≡ (if b then None else map.get (table_keys MOST_NEXUSES slots) q)
     at true b inside = refl
     at false true outside = get-table_keys_past slots q (grind (arith, nat_tests))
     at false false outside = refl

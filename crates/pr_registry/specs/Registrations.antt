@@ -5,6 +5,7 @@ use Rattle.std.specs.Prelude.{◌≡◌, ℕ, ◌<◌, ◌≤◌, ◌^◌, Bool,
 use Rattle.std.specs.FinSet as set
 use Rattle.std.specs.FinMap as map
 use Rattle.std.specs.Coded.{Coded, code_by, coded×, coded_ℕ, coded_option}
+use Rattle.pr_cdb.specs.declared.codes.TheConstants.{MOST_NEXUSES}
 use Rattle.pr_cdb.specs.declared.command.Kind.{Kind}
 use Rattle.pr_cdb.specs.declared.command.Kind.TheVariants.{WriteExclusive, ExclusiveAccess, WriteExclusiveRegistrantsOnly, ExclusiveAccessRegistrantsOnly, WriteExclusiveAllRegistrants, ExclusiveAccessAllRegistrants}
 use Rattle.pr_registry.specs.declared.held.Held.{Held}
@@ -96,7 +97,7 @@ IsKeyOrNone None = Unit {0}
 IsKeyOrNone (Some k) = IsKey k
 
 pub record IsWellFormed (u : State) : Type 0 where
-  pub hosts : (1 ≤ u.hosts) × (u.hosts ≤ 8)
+  pub hosts : (1 ≤ u.hosts) × (u.hosts ≤ MOST_NEXUSES)
   pub keys : (h k : ℕ) → key_of u h ≡ Some k → (h < u.hosts) × IsKey k
   pub held : HasHolder u.keys u.held
   pub generation : u.generation < 2 ^ 32
@@ -109,10 +110,10 @@ fresh hosts = record { hosts = hosts; keys = map.empty; held = None; generation 
 abbrev pub table_keys : ℕ → List (Option ℕ) → Keys
 table_keys n slots = map_where n (λ h. slice_index_or slots h None)
 
--- the state that a table of 8 places, a reservation and a generation describe
+-- the state that a table with a place for each host, a reservation and a generation describe
 abbrev pub state_of : ℕ → List (Option ℕ) → Option Held → ℕ → State
 state_of hosts slots held generation =
-    record { hosts = hosts; keys = table_keys 8 slots; held = held; generation = generation }
+    record { hosts = hosts; keys = table_keys MOST_NEXUSES slots; held = held; generation = generation }
 
 -- the state that a list of each host's key, a reservation and a generation describe
 abbrev pub state_from : List (Option ℕ) → Option Held → ℕ → State

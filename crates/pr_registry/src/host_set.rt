@@ -4,7 +4,11 @@ ghost use Rattle.std.specs.Prelude.{◌≡◌, ◌<◌, ◌↔◌, IsTrue};
 ghost use Rattle.std.specs.FinSet as set;
 ghost use Rattle.pr_registry.specs.Hosts.{Hosts, nobody};
 
+use pr_cdb::codes::MOST_NEXUSES;
 use std::marker::Model;
+
+// The 8 of this file is how many bits a byte has: to serve more hosts than that, it takes a wider type.
+const _: () = prove!(MOST_NEXUSES <= 8);
 
 /// A set of hosts, by their numbers.
 #[derive(Debug, Drop)]

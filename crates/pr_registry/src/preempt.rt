@@ -10,6 +10,7 @@ use crate::held::Held;
 use crate::host_set::HostSet;
 use crate::table;
 use pr_cdb::Kind;
+use pr_cdb::codes::MOST_NEXUSES;
 
 /// What a PREEMPT does (SPC-4, 'Preempting').
 #[derive(Clone, Copy, Debug)]
@@ -27,8 +28,12 @@ pub(crate) enum Case {
 }
 
 /// Which case a PREEMPT with this key is.
-pub(crate) fn preempt_case(slots: &[Option<u64>; 8], held: Option<Held>, sark: u64) -> Case
-    ensures { case_of result ≡ preempt_case (table_keys 8 slots.now) held sark }
+pub(crate) fn preempt_case(
+    slots: &[Option<u64>; MOST_NEXUSES],
+    held: Option<Held>,
+    sark: u64,
+) -> Case
+    ensures { case_of result ≡ preempt_case (table_keys MOST_NEXUSES slots.now) held sark }
 {
     match held {
         None => Case::RemovesKey,
@@ -62,13 +67,13 @@ pub(crate) fn is_replacing(case: Case) -> bool
 
 /// Whose registrations go.
 pub(crate) fn removed_by_preempt(
-    slots: &[Option<u64>; 8],
+    slots: &[Option<u64>; MOST_NEXUSES],
     host: u8,
     sark: u64,
     case: Case,
 ) -> HostSet
-    requires { host < 8 }
-    ensures { result ≡ removed_by_preempt (table_keys 8 slots.now) host sark (case_of case) }
+    requires { host < MOST_NEXUSES }
+    ensures { result ≡ removed_by_preempt (table_keys MOST_NEXUSES slots.now) host sark (case_of case) }
 {
     match case {
         Case::ReplacesAll => table::registrants(slots).without(host),
@@ -89,13 +94,13 @@ pub(crate) fn is_new_type(kind: Option<Kind>, case: Case) -> bool
 
 /// The reservation afterwards, over the registrations that remain.
 pub(crate) fn held_after_preempt(
-    rest: &[Option<u64>; 8],
+    rest: &[Option<u64>; MOST_NEXUSES],
     held: Option<Held>,
     host: u8,
     kind: Option<Kind>,
     case: Case,
 ) -> Option<Held>
-    ensures { result ≡ held_after_preempt (table_keys 8 rest.now) held host kind (case_of case) }
+    ensures { result ≡ held_after_preempt (table_keys MOST_NEXUSES rest.now) held host kind (case_of case) }
 {
     match case {
         Case::ReplacesAll => established_if(kind, host),

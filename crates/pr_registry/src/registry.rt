@@ -8,10 +8,10 @@ use crate::change::Change;
 use crate::held::Held;
 use crate::host_set::HostSet;
 use crate::preempt::Case;
-use crate::table::MOST_HOSTS;
 use crate::{preempt, table};
 use arrayvec::ArrayVec;
 use pr_cdb::Kind;
+use pr_cdb::codes::MOST_NEXUSES;
 use std::marker::Model;
 
 /// Who is registered with which key, the reservation, and PRGENERATION (SPC-4, 'Persistent
@@ -22,7 +22,7 @@ use std::marker::Model;
 #[derive(Debug, Drop)]
 pub struct Registry {
     hosts: u8,
-    slots: [Option<u64>; 8],
+    slots: [Option<u64>; MOST_NEXUSES],
     held: Option<Held>,
     generation: u32,
 }
@@ -50,19 +50,19 @@ impl Registry {
     /// Nothing is registered or reserved, and the generation is 0.
     pub fn new(hosts: u8) -> Self
         requires some { 1 ≤ hosts }
-        requires most { hosts ≤ 8 }
+        requires most { hosts ≤ MOST_NEXUSES }
         ensures { result ≡ fresh hosts }
     {
         Registry {
             hosts,
-            slots: [None; 8],
+            slots: [None; MOST_NEXUSES],
             held: None,
             generation: 0,
         }
     }
 
     /// The registry that has these keys, one place for each host, this reservation and this generation:
-    /// `None` where there is no host or more than 8, a key is zero, the reservation's type does not
+    /// `None` where there is no host or more than [`MOST_NEXUSES`], a key is zero, the reservation's type does not
     /// belong to its holders, or it has no holder.
     pub fn from_parts(keys: &[Option<u64>], held: Option<Held>, generation: u32) -> Option<Self>
         ensures value { IfSome result (λ r. r ≡ state_from keys.now held generation) }
@@ -71,7 +71,7 @@ impl Registry {
         if keys.is_empty() {
             return None;
         }
-        if keys.len() > MOST_HOSTS {
+        if keys.len() > MOST_NEXUSES {
             return None;
         }
         if !table::are_keys(keys) {
@@ -89,7 +89,7 @@ impl Registry {
         })
     }
 
-    /// How many hosts there are, 1 to 8.
+    /// How many hosts there are, at least 1 and at most [`MOST_NEXUSES`].
     pub fn hosts(&self) -> u8
         ensures value { result ≡ self.now.hosts }
         ensures well_formed { IsWellFormed self.now }
@@ -106,7 +106,7 @@ impl Registry {
     }
 
     /// The key of each registered host, in the order of their numbers; equal keys are repeated.
-    pub fn keys(&self) -> ArrayVec<u64, 8>
+    pub fn keys(&self) -> ArrayVec<u64, MOST_NEXUSES>
         ensures { result.items ≡ map.values self.now.keys }
     {
         table::keys(&self.slots)
@@ -243,7 +243,7 @@ impl Registry {
         ensures change { result ≡ change_on_clear self.old host }
     {
         let change = self.change_on_clear(host);
-        self.slots = [None; 8];
+        self.slots = [None; MOST_NEXUSES];
         self.held = None;
         self.generation = next(self.generation);
         change
@@ -271,14 +271,14 @@ impl Registry {
 
     // The registrants but one.
     fn others(&self, host: u8) -> HostSet
-        requires { host < 8 }
+        requires { host < MOST_NEXUSES }
         ensures { result ≡ others self.now host }
     {
         table::registrants(&self.slots).without(host)
     }
 
     fn change_on_unregister(&self, host: u8) -> Change
-        requires { host < 8 }
+        requires { host < MOST_NEXUSES }
         ensures { result ≡ change_on_unregister self.now host }
     {
         let mut change = Change::none();
@@ -297,7 +297,7 @@ impl Registry {
     }
 
     fn change_on_release(&self, host: u8, kind: Kind) -> Change
-        requires { host < 8 }
+        requires { host < MOST_NEXUSES }
         ensures { result ≡ change_on_release self.now host kind }
     {
         let mut change = Change::none();
@@ -308,7 +308,7 @@ impl Registry {
     }
 
     fn change_on_clear(&self, host: u8) -> Change
-        requires { host < 8 }
+        requires { host < MOST_NEXUSES }
         ensures { result ≡ change_on_clear self.now host }
     {
         let mut change = Change::none();
@@ -318,7 +318,7 @@ impl Registry {
     }
 
     fn change_on_preempt(&self, host: u8, sark: u64, kind: Option<Kind>, case: Case) -> Change
-        requires there { host < 8 }
+        requires there { host < MOST_NEXUSES }
         requires case { case_of case ≡ preempt_case self.now.keys self.now.held sark }
         ensures { result ≡ change_on_preempt self.now host sark kind }
     {

@@ -12,16 +12,14 @@ use crate::held::Held;
 use crate::host_set::HostSet;
 use arrayvec::ArrayVec;
 use pr_cdb::Kind;
-
-/// How many hosts a logical unit serves at most.
-pub(crate) const MOST_HOSTS: usize = 8;
+use pr_cdb::codes::MOST_NEXUSES;
 
 /// The registered hosts.
-pub(crate) fn registrants(slots: &[Option<u64>; 8]) -> HostSet
-    ensures { result ≡ hosts_in (table_keys 8 slots.now) }
+pub(crate) fn registrants(slots: &[Option<u64>; MOST_NEXUSES]) -> HostSet
+    ensures { result ≡ hosts_in (table_keys MOST_NEXUSES slots.now) }
 {
     let mut hosts = HostSet::new();
-    for host in 0..8u8 {
+    for host in 0..MOST_NEXUSES as u8 {
         if is_registered(slots, host) {
             hosts.insert(host);
         }
@@ -30,11 +28,11 @@ pub(crate) fn registrants(slots: &[Option<u64>; 8]) -> HostSet
 }
 
 /// The hosts that are registered with this key.
-pub(crate) fn hosts_with(slots: &[Option<u64>; 8], key: u64) -> HostSet
-    ensures { result ≡ hosts_with (table_keys 8 slots.now) key }
+pub(crate) fn hosts_with(slots: &[Option<u64>; MOST_NEXUSES], key: u64) -> HostSet
+    ensures { result ≡ hosts_with (table_keys MOST_NEXUSES slots.now) key }
 {
     let mut hosts = HostSet::new();
-    for host in 0..8u8 {
+    for host in 0..MOST_NEXUSES as u8 {
         if has_key(slots, host, key) {
             hosts.insert(host);
         }
@@ -43,18 +41,18 @@ pub(crate) fn hosts_with(slots: &[Option<u64>; 8], key: u64) -> HostSet
 }
 
 /// Whether no host is registered with this key.
-pub(crate) fn is_nobodys(slots: &[Option<u64>; 8], key: u64) -> bool
-    ensures { result ≡ is_nobodys (table_keys 8 slots.now) key }
+pub(crate) fn is_nobodys(slots: &[Option<u64>; MOST_NEXUSES], key: u64) -> bool
+    ensures { result ≡ is_nobodys (table_keys MOST_NEXUSES slots.now) key }
 {
     hosts_with(slots, key).is_empty()
 }
 
 /// Whether the host is registered with this key.
-pub(crate) fn has_key(slots: &[Option<u64>; 8], host: u8, key: u64) -> bool
-    ensures { result ≡ is_key (map.get (table_keys 8 slots.now) host) key }
+pub(crate) fn has_key(slots: &[Option<u64>; MOST_NEXUSES], host: u8, key: u64) -> bool
+    ensures { result ≡ is_key (map.get (table_keys MOST_NEXUSES slots.now) host) key }
 {
     let place = usize::from(host);
-    if place >= MOST_HOSTS {
+    if place >= MOST_NEXUSES {
         return false;
     }
     match slots[place] {
@@ -64,16 +62,16 @@ pub(crate) fn has_key(slots: &[Option<u64>; 8], host: u8, key: u64) -> bool
 }
 
 /// Whether the host is registered.
-pub(crate) fn is_registered(slots: &[Option<u64>; 8], host: u8) -> bool
-    ensures { result ≡ map.contains_key (table_keys 8 slots.now) host }
+pub(crate) fn is_registered(slots: &[Option<u64>; MOST_NEXUSES], host: u8) -> bool
+    ensures { result ≡ map.contains_key (table_keys MOST_NEXUSES slots.now) host }
 {
     let place = usize::from(host);
-    place < MOST_HOSTS && slots[place].is_some()
+    place < MOST_NEXUSES && slots[place].is_some()
 }
 
 /// Whether nobody is registered.
-pub(crate) fn is_empty(slots: &[Option<u64>; 8]) -> bool
-    ensures { result ≡ is_empty (table_keys 8 slots.now) }
+pub(crate) fn is_empty(slots: &[Option<u64>; MOST_NEXUSES]) -> bool
+    ensures { result ≡ is_empty (table_keys MOST_NEXUSES slots.now) }
 {
     for slot in slots {
         if slot.is_some() {
@@ -118,8 +116,8 @@ pub fn is_all(kind: Kind) -> bool
 
 /// Whether the reservation has a holder: a single one is registered, and all registrants are at least
 /// one.
-pub(crate) fn has_holder(slots: &[Option<u64>; 8], held: Option<Held>) -> bool
-    ensures { IsTrue result ↔ HasHolder (table_keys 8 slots.now) held }
+pub(crate) fn has_holder(slots: &[Option<u64>; MOST_NEXUSES], held: Option<Held>) -> bool
+    ensures { IsTrue result ↔ HasHolder (table_keys MOST_NEXUSES slots.now) held }
 {
     match held {
         None => true,
@@ -129,11 +127,11 @@ pub(crate) fn has_holder(slots: &[Option<u64>; 8], held: Option<Held>) -> bool
 }
 
 /// The keys, with no key past their end.
-pub(crate) fn slots_of(keys: &[Option<u64>]) -> [Option<u64>; 8]
-    requires { length keys.now ≤ 8 }
-    ensures { table_keys 8 result ≡ table_keys (length keys.now) keys.now }
+pub(crate) fn slots_of(keys: &[Option<u64>]) -> [Option<u64>; MOST_NEXUSES]
+    requires { length keys.now ≤ MOST_NEXUSES }
+    ensures { table_keys MOST_NEXUSES result ≡ table_keys (length keys.now) keys.now }
 {
-    let mut slots = [None; 8];
+    let mut slots = [None; MOST_NEXUSES];
     for (host, key) in keys.iter().enumerate() {
         slots[host] = *key;
     }
@@ -152,8 +150,8 @@ pub(crate) fn established(kind: Kind, host: u8) -> Held
 }
 
 /// Whether the host holds the reservation: the single holder, or each registrant.
-pub(crate) fn is_holder(slots: &[Option<u64>; 8], held: Option<Held>, host: u8) -> bool
-    ensures { result ≡ is_holder_of (table_keys 8 slots.now) held host }
+pub(crate) fn is_holder(slots: &[Option<u64>; MOST_NEXUSES], held: Option<Held>, host: u8) -> bool
+    ensures { result ≡ is_holder_of (table_keys MOST_NEXUSES slots.now) held host }
 {
     match held {
         Some(Held::One(_, holder)) => holder == host,
@@ -210,8 +208,8 @@ fn is_for_registrants(kind: Kind) -> bool
 }
 
 /// What is left of a reservation once these registrations remain.
-pub(crate) fn held_by_rest(slots: &[Option<u64>; 8], held: Option<Held>) -> Option<Held>
-    ensures { result ≡ held_by_rest (table_keys 8 slots.now) held }
+pub(crate) fn held_by_rest(slots: &[Option<u64>; MOST_NEXUSES], held: Option<Held>) -> Option<Held>
+    ensures { result ≡ held_by_rest (table_keys MOST_NEXUSES slots.now) held }
 {
     match held {
         Some(Held::One(kind, host)) => Some(Held::One(kind, host)),
@@ -229,12 +227,12 @@ pub(crate) fn held_by_rest(slots: &[Option<u64>; 8], held: Option<Held>) -> Opti
 /// The reservation once a host has unregistered and these registrations remain: a single holder's ends
 /// with its registration.
 pub(crate) fn held_after_unregister(
-    slots: &[Option<u64>; 8],
+    slots: &[Option<u64>; MOST_NEXUSES],
     held: Option<Held>,
     host: u8,
 ) -> Option<Held>
     ensures { result
-        ≡ (if holds_alone held host then None else held_by_rest (table_keys 8 slots.now) held) }
+        ≡ (if holds_alone held host then None else held_by_rest (table_keys MOST_NEXUSES slots.now) held) }
 {
     if holds_alone(held, host) {
         return None;
@@ -243,26 +241,26 @@ pub(crate) fn held_after_unregister(
 }
 
 /// Gives the host this key.
-pub(crate) fn insert(slots: &mut [Option<u64>; 8], host: u8, key: u64)
-    requires { host < 8 }
-    ensures { table_keys 8 slots.new ≡ map.insert (table_keys 8 slots.old) host key }
+pub(crate) fn insert(slots: &mut [Option<u64>; MOST_NEXUSES], host: u8, key: u64)
+    requires { host < MOST_NEXUSES }
+    ensures { table_keys MOST_NEXUSES slots.new ≡ map.insert (table_keys MOST_NEXUSES slots.old) host key }
 {
     slots[usize::from(host)] = Some(key);
 }
 
 /// Takes the host's key away.
-pub(crate) fn remove(slots: &mut [Option<u64>; 8], host: u8)
-    requires { host < 8 }
-    ensures { table_keys 8 slots.new ≡ without (table_keys 8 slots.old) (just host) }
+pub(crate) fn remove(slots: &mut [Option<u64>; MOST_NEXUSES], host: u8)
+    requires { host < MOST_NEXUSES }
+    ensures { table_keys MOST_NEXUSES slots.new ≡ without (table_keys MOST_NEXUSES slots.old) (just host) }
 {
     slots[usize::from(host)] = None;
 }
 
 /// Takes the keys of these hosts away.
-pub(crate) fn remove_all(slots: &mut [Option<u64>; 8], removed: &HostSet)
-    ensures { table_keys 8 slots.new ≡ without (table_keys 8 slots.old) removed.now }
+pub(crate) fn remove_all(slots: &mut [Option<u64>; MOST_NEXUSES], removed: &HostSet)
+    ensures { table_keys MOST_NEXUSES slots.new ≡ without (table_keys MOST_NEXUSES slots.old) removed.now }
 {
-    for host in 0..8u8 {
+    for host in 0..MOST_NEXUSES as u8 {
         if removed.has(host) {
             remove(slots, host);
         }
@@ -270,8 +268,8 @@ pub(crate) fn remove_all(slots: &mut [Option<u64>; 8], removed: &HostSet)
 }
 
 /// The keys, in the order of the hosts.
-pub(crate) fn keys(slots: &[Option<u64>; 8]) -> ArrayVec<u64, 8>
-    ensures { result.items ≡ map.values (table_keys 8 slots.now) }
+pub(crate) fn keys(slots: &[Option<u64>; MOST_NEXUSES]) -> ArrayVec<u64, MOST_NEXUSES>
+    ensures { result.items ≡ map.values (table_keys MOST_NEXUSES slots.now) }
 {
     let mut keys = ArrayVec::new();
     for slot in slots {

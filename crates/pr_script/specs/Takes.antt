@@ -2,6 +2,7 @@
 -- Which replies an arm matches, and what a script goes on with after a reply.
 use Rattle.std.specs.Prelude.{◌≡◌, ℕ, Bool, true, false, ◌==◌, ◌&&◌, [], ◌∷◌, Option, Some, None, option_map, if◌then◌else◌}
 use Rattle.std.specs.List.{list_any}
+use Rattle.pr_cdb.specs.declared.codes.TheConstants.{UNIT_ATTENTION}
 use Rattle.pr_cdb.specs.declared.reply.Sense.{Sense}
 use Rattle.pr_cdb.specs.declared.reply.Status.{Status}
 use Rattle.pr_cdb.specs.declared.reply.Status.TheVariants as status
@@ -40,7 +41,7 @@ is_unheld (Some (Some held)) = false
 
 abbrev pub is_attention : Option Sense → Bool
 is_attention None = false
-is_attention (Some sense) = sense.key == 0x06
+is_attention (Some sense) = sense.key == UNIT_ATTENTION
 
 abbrev pub is_sense : Option Sense → Sense → Bool
 is_sense None wanted = false

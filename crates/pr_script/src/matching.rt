@@ -4,6 +4,7 @@ ghost use Rattle.std.specs.Prelude.{◌≡◌};
 ghost use Rattle.pr_script.specs.Takes.{matches, is_held_by};
 
 use crate::script::Test;
+use pr_cdb::codes::UNIT_ATTENTION;
 use pr_cdb::{Reply, Status, holder_of, keys_of};
 
 impl Test {
@@ -25,9 +26,6 @@ impl Test {
         }
     }
 }
-
-// The sense key UNIT ATTENTION.
-const UNIT_ATTENTION: u8 = 0x06;
 
 fn is_held_by(held: Option<Option<(u64, u8)>>, key: u64) -> bool
     ensures { result ≡ is_held_by held key }

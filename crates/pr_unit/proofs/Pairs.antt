@@ -8,6 +8,7 @@ use Rattle.std.specs.Cmp.Lexicographic.{nat_list_cmp_total}
 use Rattle.std.specs.FinSet as set
 use Rattle.std.specs.FinSet.{IsAntisymmetric, slice_cmp-IsAntisymmetric, nat_cmp-IsAntisymmetric}
 use Rattle.std.specs.List.{list_any}
+use Rattle.pr_cdb.specs.declared.codes.TheConstants.{MOST_NEXUSES}
 use Rattle.pr_registry.specs.Hosts.{Hosts}
 use Rattle.std.proofs.lemmas.Bool.{false≢true}
 use Rattle.std.proofs.lemmas.Bool.Decides.{nat_tests, eqb_tells}
@@ -147,11 +148,11 @@ place_read [] h d small = absurd (omega arith)
 place_read (codes ∷ table) zero d small = refl
 place_read (codes ∷ table) (suc h) d small = place_read table h d (omega arith)
 
-pub contains-table_pairs : (table : List Codes) (q x : ℕ) → set.contains (table_pairs table) (q, x) ≡ (nat_lt q 8 && set.contains (place table q) x)
-contains-table_pairs table q x = contains-pairs_where 8 (place table) q x
+pub contains-table_pairs : (table : List Codes) (q x : ℕ) → set.contains (table_pairs table) (q, x) ≡ (nat_lt q MOST_NEXUSES && set.contains (place table q) x)
+contains-table_pairs table q x = contains-pairs_where MOST_NEXUSES (place table) q x
 
-pub contains-table_pairs_in : (table : List Codes) (q x : ℕ) → q < 8 → set.contains (table_pairs table) (q, x) ≡ set.contains (place table q) x
-contains-table_pairs_in table q x small = contains-table_pairs table q x ∙ ap (λ b. b && set.contains (place table q) x) (lt_true q 8 small)
+pub contains-table_pairs_in : (table : List Codes) (q x : ℕ) → q < MOST_NEXUSES → set.contains (table_pairs table) (q, x) ≡ set.contains (place table q) x
+contains-table_pairs_in table q x small = contains-table_pairs table q x ∙ ap (λ b. b && set.contains (place table q) x) (lt_true q MOST_NEXUSES small)
 
 place-set : (table : List Codes) (h : ℕ) (codes : Codes) (q : ℕ) → h < length table → place (slice_set table h codes) q ≡ (if q == h then codes else place table q)
 place-set table h codes q small = at (eqb_tells q h)
@@ -160,12 +161,12 @@ place-set table h codes q small = at (eqb_tells q h)
     at (inl same) = rw same.0 (rw same.1 (get_or-set_same table h codes no_code small))
     at (inr other) = rw other.0 (get_or-set_other table h q codes no_code other.1)
 
-contains-table_pairs-set : (table : List Codes) (h : ℕ) (codes : Codes) (q x : ℕ) → length table ≡ 8 → h < 8
+contains-table_pairs-set : (table : List Codes) (h : ℕ) (codes : Codes) (q x : ℕ) → length table ≡ MOST_NEXUSES → h < MOST_NEXUSES
     → set.contains (table_pairs (slice_set table h codes)) (q, x) ≡ (if q == h then set.contains codes x else set.contains (table_pairs table) (q, x))
 contains-table_pairs-set table h codes q x whole small =
     contains-table_pairs (slice_set table h codes) q x
-    ∙ ap (λ (s : Codes). nat_lt q 8 && set.contains s x) (place-set table h codes q (omega arith))
-    ∙ swapped (q == h) (nat_lt q 8) (λ e. ap (λ n. nat_lt n 8) (same_number q h e) ∙ lt_true h 8 small)
+    ∙ ap (λ (s : Codes). nat_lt q MOST_NEXUSES && set.contains s x) (place-set table h codes q (omega arith))
+    ∙ swapped (q == h) (nat_lt q MOST_NEXUSES) (λ e. ap (λ n. nat_lt n MOST_NEXUSES) (same_number q h e) ∙ lt_true h MOST_NEXUSES small)
     ∙ ap (λ b. if q == h then set.contains codes x else b) (sym (contains-table_pairs table q x))
   where
     swapped : (e l : Bool) → (e ≡ true → l ≡ true) → (l && set.contains (if e then codes else place table q) x) ≡ (if e then set.contains codes x else (l && set.contains (place table q) x))
@@ -173,7 +174,7 @@ contains-table_pairs-set table h codes q x whole small =
     swapped true false h = absurd (false≢true (h refl))
     swapped false l h = refl
 
-pub table_pairs-insert : (table : List Codes) (h : ℕ) (codes : Codes) (code : ℕ) → length table ≡ 8 → h < 8 → codes ≡ set.insert (place table h) code
+pub table_pairs-insert : (table : List Codes) (h : ℕ) (codes : Codes) (code : ℕ) → length table ≡ MOST_NEXUSES → h < MOST_NEXUSES → codes ≡ set.insert (place table h) code
     → table_pairs (slice_set table h codes) ≡ set.insert (table_pairs table) (h, code)
 table_pairs-insert table h codes code whole small is =
     same_pairs _ _ (λ p. contains-table_pairs-set table h codes p.0 p.1 whole small
@@ -188,7 +189,7 @@ table_pairs-insert table h codes code whole small is =
         ∙ ap (λ q. p.1 == code || set.contains (table_pairs table) (q, p.1)) (sym (same_number p.0 h e))
     at p false e = refl
 
-pub table_pairs-remove : (table : List Codes) (h : ℕ) (codes : Codes) (code : ℕ) → length table ≡ 8 → h < 8 → codes ≡ set.remove (place table h) code
+pub table_pairs-remove : (table : List Codes) (h : ℕ) (codes : Codes) (code : ℕ) → length table ≡ MOST_NEXUSES → h < MOST_NEXUSES → codes ≡ set.remove (place table h) code
     → table_pairs (slice_set table h codes) ≡ set.remove (table_pairs table) (h, code)
 table_pairs-remove table h codes code whole small is =
     same_pairs _ _ (λ p. contains-table_pairs-set table h codes p.0 p.1 whole small
@@ -244,12 +245,12 @@ told_skips old new hosts code i member told q x =
     at true false false c false is = refl
     at false l m c o is = refl
 
-pub told_all : (old new : Pairs) (hosts : Hosts) (code : ℕ) → AreBelow 8 hosts → IsToldBelow old new hosts code 8 → new ≡ set.union old (each_with hosts code)
+pub told_all : (old new : Pairs) (hosts : Hosts) (code : ℕ) → AreBelow MOST_NEXUSES hosts → IsToldBelow old new hosts code MOST_NEXUSES → new ≡ set.union old (each_with hosts code)
 told_all old new hosts code below told =
-    same_pairs _ _ (λ p. told p.0 p.1 ∙ ap (λ b. set.contains old p || b) (at p (nat_lt p.0 8) (set.contains hosts p.0) refl refl ∙ sym (contains-each_with hosts code p.0 p.1))
+    same_pairs _ _ (λ p. told p.0 p.1 ∙ ap (λ b. set.contains old p || b) (at p (nat_lt p.0 MOST_NEXUSES) (set.contains hosts p.0) refl refl ∙ sym (contains-each_with hosts code p.0 p.1))
     ∙ sym (contains-union-pairs old (each_with hosts code) p))
   where
-    at : (p : ℕ × ℕ) (l m : Bool) → nat_lt p.0 8 ≡ l → set.contains hosts p.0 ≡ m → (l && (m && p.1 == code)) ≡ (m && p.1 == code)
+    at : (p : ℕ × ℕ) (l m : Bool) → nat_lt p.0 MOST_NEXUSES ≡ l → set.contains hosts p.0 ≡ m → (l && (m && p.1 == code)) ≡ (m && p.1 == code)
     at p true m is there = refl
     at p false false is there = refl
-    at p false true is there = let small = below p.0 there in absurd (false≢true (sym is ∙ lt_true p.0 8 small))
+    at p false true is there = let small = below p.0 there in absurd (false≢true (sym is ∙ lt_true p.0 MOST_NEXUSES small))

@@ -3,6 +3,7 @@ use Rattle.std.proofs.Common.{◌≡◌, ℕ, ◌<◌, ◌^◌, Bool, true, fals
 use Rattle.std.specs.FinSet as set
 use Rattle.std.proofs.lemmas.Bool.{false≢true}
 use Rattle.std.proofs.lemmas.Bool.Decides.{nat_tests}
+use Rattle.pr_cdb.specs.declared.codes.TheConstants.{MOST_NEXUSES}
 use Rattle.pr_cdb.specs.declared.command.Kind.{Kind}
 use Rattle.pr_cdb.specs.declared.command.Command.{Command}
 use Rattle.pr_cdb.specs.declared.command.Command.TheVariants.{TestUnitReady, RequestSense, Read, Write, ReadKeys, ReadReservation, ReportCapabilities, Register, RegisterIgnore, Reserve, Release, Clear, Preempt, PreemptAbort}
@@ -155,13 +156,13 @@ effects_are_well_formed u h c w there fits free whole =
     }
 
 -- a command tells hosts that have a place
-pub tells_below : (u : State) (h : ℕ) (c : Command) → IsWellFormedRegistry u → TellsBelow 8 (change u h c)
+pub tells_below : (u : State) (h : ℕ) (c : Command) → IsWellFormedRegistry u → TellsBelow MOST_NEXUSES (change u h c)
 tells_below u h c w =
     let tells = tells_registrants u h c in
     let c = change u h c in
     record { told_03 = below c.told_03 tells.told_03; told_04 = below c.told_04 tells.told_04; told_05 = below c.told_05 tells.told_05 }
   where
-    below : (s : Hosts) → AreRegistered u s → AreBelow 8 s
+    below : (s : Hosts) → AreRegistered u s → AreBelow MOST_NEXUSES s
     below s are q is =
         let there = in_range u q w (are q is) in
         let most = w.hosts.1 in

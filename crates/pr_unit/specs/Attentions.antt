@@ -6,6 +6,7 @@ use Rattle.std.specs.Ordering.{nat_cmp}
 use Rattle.std.specs.declared.cmp.Ordering.{Ordering}
 use Rattle.std.specs.Cmp.Lexicographic.{slice_cmp}
 use Rattle.std.specs.FinSet as set
+use Rattle.pr_cdb.specs.declared.codes.TheConstants.{MOST_NEXUSES}
 use Rattle.pr_attention.specs.Attentions.{Codes, no_code}
 pub use Rattle.pr_attention.specs.Attentions.{power_on, reservations_preempted, reservations_released, registrations_preempted, attentions, is_attention, attention_sense}
 use Rattle.pr_registry.specs.Hosts.{Hosts}
@@ -34,6 +35,6 @@ pairs_where (suc n) f = set.union (pairs_where n f) (of_host n (f n))
 abbrev pub place : List Codes → ℕ → Codes
 place table h = slice_index_or table h no_code
 
--- the pairs of a table with a place for each of at most 8 hosts
+-- the pairs of a table with a place for each host
 abbrev pub table_pairs : List Codes → Pairs
-table_pairs table = pairs_where 8 (place table)
+table_pairs table = pairs_where MOST_NEXUSES (place table)

@@ -2,6 +2,7 @@
 -- What the logical unit answers (SAM-5, 'Status').
 use Rattle.std.specs.Prelude.{ℕ, Bool, true, false, if◌then◌else◌, List, [], Option, Some, None, unwrap_or}
 use Rattle.std.specs.FinMap as map
+use Rattle.pr_cdb.specs.declared.codes.TheConstants.{NO_SENSE, NO_ADDITIONAL_SENSE_INFORMATION}
 use Rattle.pr_cdb.specs.declared.command.Kind.{Kind}
 use Rattle.pr_cdb.specs.declared.command.Command.{Command}
 use Rattle.pr_cdb.specs.declared.command.Command.TheVariants.{TestUnitReady, RequestSense, Read, Write, ReadKeys, ReadReservation, ReportCapabilities, Register, RegisterIgnore, Reserve, Release, Clear, Preempt, PreemptAbort}
@@ -69,7 +70,7 @@ reservation keys (Some (All t)) = Some (0, t)
 -- the data of a command that ends GOOD: of the keys in the order of the hosts
 abbrev pub data_of : State → Command → List ℕ
 data_of u TestUnitReady = []
-data_of u RequestSense = sense_bytes (record { key = 0x00; asc = 0x00; ascq = 0x00 })
+data_of u RequestSense = sense_bytes (record { key = NO_SENSE; asc = NO_ADDITIONAL_SENSE_INFORMATION; ascq = 0 })
 data_of u (Read lba blocks) = []
 data_of u (Write lba blocks) = []
 data_of u (ReadKeys alloc) = cut alloc (keys_bytes u.generation (map.values u.keys))

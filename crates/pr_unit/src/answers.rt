@@ -16,13 +16,14 @@ use crate::line::{Line, deciding_line};
 use crate::services::{buffer, data, serve};
 use crate::{pending_table, reply};
 use pr_attention::{Attention, Pending};
+use pr_cdb::codes::MOST_NEXUSES;
 use pr_cdb::{Command, Reply, Request, encode_sense};
 use pr_registry::Registry;
 
 /// Answers the request of the host, and makes the unit's parts what they are then.
 pub(crate) fn answer(
     registry: &mut Registry,
-    pendings: &mut [Pending; 8],
+    pendings: &mut [Pending; MOST_NEXUSES],
     host: u8,
     request: Request,
 ) -> Reply
@@ -47,12 +48,12 @@ pub(crate) fn answer(
 
 /// Reports the attention, which alone is pending for the host no more.
 pub(crate) fn report(
-    pendings: &mut [Pending; 8],
+    pendings: &mut [Pending; MOST_NEXUSES],
     host: u8,
     request: Request,
     attention: Attention,
 ) -> Reply
-    requires { host < 8 }
+    requires { host < MOST_NEXUSES }
     ensures reply { result ≡ report request (code_of attention) }
     ensures table { table_pairs pendings.new ≡ set.remove (table_pairs pendings.old) (host, code_of attention) }
 {
@@ -74,7 +75,7 @@ pub(crate) fn report_of(request: Request, attention: Attention) -> Reply
 /// Ends a command GOOD: its data is of the registry before it.
 pub(crate) fn perform(
     registry: &mut Registry,
-    pendings: &mut [Pending; 8],
+    pendings: &mut [Pending; MOST_NEXUSES],
     host: u8,
     command: Command,
 ) -> Reply

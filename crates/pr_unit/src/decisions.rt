@@ -5,11 +5,13 @@ ghost use Rattle.pr_unit.specs.Conflicts.{is_wrong_key, lacks_key, preempt_confl
 ghost use Rattle.pr_unit.specs.Faults.{illegal, release_fault, preempt_fault, range_fault, command_fault};
 
 use crate::access::{reading_conflicts, writing_conflicts};
+use crate::unit::CAPACITY;
+use pr_cdb::codes::{
+    ILLEGAL_REQUEST, INVALID_FIELD_IN_CDB, INVALID_FIELD_IN_PARAMETER_LIST,
+    INVALID_RELEASE_OF_PERSISTENT_RESERVATION, LOGICAL_BLOCK_ADDRESS_OUT_OF_RANGE,
+};
 use pr_cdb::{Command, Kind, Sense};
 use pr_registry::Registry;
-
-/// How many blocks the unit has.
-const CAPACITY: u64 = 1_048_576;
 
 /// Whether the command of the host ends in RESERVATION CONFLICT.
 pub(crate) fn conflicts(registry: &Registry, host: u8, command: Command) -> bool
@@ -91,7 +93,11 @@ pub(crate) fn fault(registry: &Registry, host: u8, command: Command) -> Option<S
 fn illegal(asc: u8, ascq: u8) -> Sense
     ensures { result ≡ illegal asc ascq }
 {
-    Sense { key: 5, asc, ascq }
+    Sense {
+        key: ILLEGAL_REQUEST,
+        asc,
+        ascq,
+    }
 }
 
 fn release_fault(registry: &Registry, host: u8, kind: Kind) -> Option<Sense>
@@ -99,7 +105,10 @@ fn release_fault(registry: &Registry, host: u8, kind: Kind) -> Option<Sense>
     ensures { result ≡ release_fault registry.now host kind }
 {
     if registry.is_holder(host) && !registry.is_held_as(kind) {
-        Some(illegal(0x26, 0x04))
+        Some(illegal(
+            INVALID_FIELD_IN_PARAMETER_LIST,
+            INVALID_RELEASE_OF_PERSISTENT_RESERVATION,
+        ))
     } else {
         None
     }
@@ -109,10 +118,10 @@ fn preempt_fault(registry: &Registry, sark: u64, kind: Option<Kind>) -> Option<S
     ensures { result ≡ preempt_fault registry.now sark kind }
 {
     if sark == 0 && !registry.is_held_by_all() {
-        return Some(illegal(0x26, 0x00));
+        return Some(illegal(INVALID_FIELD_IN_PARAMETER_LIST, 0));
     }
     if kind.is_none() && registry.is_replaced_by(sark) {
-        return Some(illegal(0x24, 0x00));
+        return Some(illegal(INVALID_FIELD_IN_CDB, 0));
     }
     None
 }
@@ -121,7 +130,7 @@ fn range_fault(lba: u32, blocks: u16) -> Option<Sense>
     ensures { result ≡ range_fault lba blocks }
 {
     if CAPACITY < u64::from(lba) + u64::from(blocks) {
-        Some(illegal(0x21, 0x00))
+        Some(illegal(LOGICAL_BLOCK_ADDRESS_OUT_OF_RANGE, 0))
     } else {
         None
     }

@@ -12,6 +12,7 @@ use crate::line::{Line, deciding_line};
 use crate::services::data;
 use crate::{pending_table, reply};
 use pr_attention::{Attention, Pending};
+use pr_cdb::codes::MOST_NEXUSES;
 use pr_cdb::{Command, Reply, Request};
 use pr_registry::Registry;
 
@@ -19,7 +20,7 @@ use pr_registry::Registry;
 /// what they are then; else nothing changes.
 pub(crate) fn follow(
     registry: &mut Registry,
-    pendings: &mut [Pending; 8],
+    pendings: &mut [Pending; MOST_NEXUSES],
     host: u8,
     request: Request,
     reply: &Reply,
@@ -45,12 +46,12 @@ pub(crate) fn follow(
 // Follows a reply that reports one of the attentions.
 fn follow_any_report(
     registry: &Registry,
-    pendings: &mut [Pending; 8],
+    pendings: &mut [Pending; MOST_NEXUSES],
     host: u8,
     request: Request,
     reply: &Reply,
 ) -> bool
-    requires { host < 8 }
+    requires { host < MOST_NEXUSES }
     ensures { IsAnyReported (unit_of registry.now pendings.old) host request reply.now result (unit_of registry.now pendings.new) }
 {
     follow_report(registry, pendings, host, request, reply, Attention::PowerOn)
@@ -83,13 +84,13 @@ fn follow_any_report(
 // Follows a reply that reports this attention.
 fn follow_report(
     registry: &Registry,
-    pendings: &mut [Pending; 8],
+    pendings: &mut [Pending; MOST_NEXUSES],
     host: u8,
     request: Request,
     reply: &Reply,
     attention: Attention,
 ) -> bool
-    requires { host < 8 }
+    requires { host < MOST_NEXUSES }
     ensures { IsReported (unit_of registry.now pendings.old) host request reply.now (code_of attention) result (unit_of registry.now pendings.new) }
 {
     let _ = registry;
@@ -104,7 +105,7 @@ fn follow_report(
 // Follows a reply of a command that ends GOOD.
 fn follow_good(
     registry: &mut Registry,
-    pendings: &mut [Pending; 8],
+    pendings: &mut [Pending; MOST_NEXUSES],
     host: u8,
     command: Command,
     reply: &Reply,

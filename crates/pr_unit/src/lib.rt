@@ -16,4 +16,4 @@ pub use laws::{
     effects_are_well_formed, every_request_has_a_step, free_commands_end_good, good_is_fixed,
     good_steps_take_effect, quiet_steps, steps_are_well_formed, steps_keep_hosts,
 };
-pub use unit::Unit;
+pub use unit::{CAPACITY, Unit};

@@ -8,6 +8,7 @@ ghost use Rattle.pr_unit.specs.Faults.{fault};
 
 use crate::{decisions, pending_table};
 use pr_attention::{Attention, Pending};
+use pr_cdb::codes::MOST_NEXUSES;
 use pr_cdb::{Command, Request, Sense};
 use pr_registry::Registry;
 
@@ -29,12 +30,12 @@ pub(crate) enum Line {
 /// What decides how the request of the host ends.
 pub(crate) fn deciding_line(
     registry: &Registry,
-    pendings: &[Pending; 8],
+    pendings: &[Pending; MOST_NEXUSES],
     host: u8,
     request: Request,
 ) -> Line
     requires there { host < registry.now.hosts }
-    requires place { host < 8 }
+    requires place { host < MOST_NEXUSES }
     ensures { result ≡ line (unit_of registry.now pendings.now) host request }
 {
     if pending_table::has(pendings, host, Attention::PowerOn) {

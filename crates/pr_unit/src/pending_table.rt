@@ -8,11 +8,12 @@ ghost use Rattle.pr_unit.specs.UnitStates.{has_any, told};
 ghost use Rattle.pr_unit.specs.inside.Told.{AreBelow, TellsBelow, IsLowestOf, HasNone};
 
 use pr_attention::{Attention, Pending};
+use pr_cdb::codes::MOST_NEXUSES;
 use pr_registry::{Change, HostSet};
 
 /// Whether the attention is pending for the host.
-pub(crate) fn has(pendings: &[Pending; 8], host: u8, attention: Attention) -> bool
-    requires { host < 8 }
+pub(crate) fn has(pendings: &[Pending; MOST_NEXUSES], host: u8, attention: Attention) -> bool
+    requires { host < MOST_NEXUSES }
     ensures { result ≡ set.contains (table_pairs pendings.now) (host, code_of attention) }
 {
     let pending = &pendings[usize::from(host)];
@@ -20,8 +21,8 @@ pub(crate) fn has(pendings: &[Pending; 8], host: u8, attention: Attention) -> bo
 }
 
 /// The attention with the lowest code of those that are pending for the host.
-pub(crate) fn lowest(pendings: &[Pending; 8], host: u8) -> Option<Attention>
-    requires { host < 8 }
+pub(crate) fn lowest(pendings: &[Pending; MOST_NEXUSES], host: u8) -> Option<Attention>
+    requires { host < MOST_NEXUSES }
     ensures some { IfSome result (λ attention. IsLowestOf (table_pairs pendings.now) host (code_of attention)) }
     ensures none { IsNone result ↔ HasNone (table_pairs pendings.now) host }
 {
@@ -30,8 +31,8 @@ pub(crate) fn lowest(pendings: &[Pending; 8], host: u8) -> Option<Attention>
 }
 
 /// Whether any attention is pending for the host.
-pub(crate) fn has_any(pendings: &[Pending; 8], host: u8) -> bool
-    requires { host < 8 }
+pub(crate) fn has_any(pendings: &[Pending; MOST_NEXUSES], host: u8) -> bool
+    requires { host < MOST_NEXUSES }
     ensures { result ≡ has_any (table_pairs pendings.now) host }
 {
     has(pendings, host, Attention::PowerOn)
@@ -41,8 +42,8 @@ pub(crate) fn has_any(pendings: &[Pending; 8], host: u8) -> bool
 }
 
 /// Makes the attention pending for the host.
-pub(crate) fn add(pendings: &mut [Pending; 8], host: u8, attention: Attention)
-    requires { host < 8 }
+pub(crate) fn add(pendings: &mut [Pending; MOST_NEXUSES], host: u8, attention: Attention)
+    requires { host < MOST_NEXUSES }
     ensures { table_pairs pendings.new ≡ set.insert (table_pairs pendings.old) (host, code_of attention) }
 {
     let pending = &mut pendings[usize::from(host)];
@@ -50,8 +51,8 @@ pub(crate) fn add(pendings: &mut [Pending; 8], host: u8, attention: Attention)
 }
 
 /// Takes the attention away from the host.
-pub(crate) fn remove(pendings: &mut [Pending; 8], host: u8, attention: Attention)
-    requires { host < 8 }
+pub(crate) fn remove(pendings: &mut [Pending; MOST_NEXUSES], host: u8, attention: Attention)
+    requires { host < MOST_NEXUSES }
     ensures { table_pairs pendings.new ≡ set.remove (table_pairs pendings.old) (host, code_of attention) }
 {
     let pending = &mut pendings[usize::from(host)];
@@ -59,11 +60,11 @@ pub(crate) fn remove(pendings: &mut [Pending; 8], host: u8, attention: Attention
 }
 
 /// Makes the attention pending for each of the hosts.
-pub(crate) fn tell(pendings: &mut [Pending; 8], hosts: &HostSet, attention: Attention)
-    requires { AreBelow 8 hosts.now }
+pub(crate) fn tell(pendings: &mut [Pending; MOST_NEXUSES], hosts: &HostSet, attention: Attention)
+    requires { AreBelow MOST_NEXUSES hosts.now }
     ensures { table_pairs pendings.new ≡ set.union (table_pairs pendings.old) (each_with hosts.now (code_of attention)) }
 {
-    for host in 0..8u8 {
+    for host in 0..MOST_NEXUSES as u8 {
         if hosts.has(host) {
             add(pendings, host, attention);
         }
@@ -71,8 +72,8 @@ pub(crate) fn tell(pendings: &mut [Pending; 8], hosts: &HostSet, attention: Atte
 }
 
 /// Makes pending what a change tells.
-pub(crate) fn tell_change(pendings: &mut [Pending; 8], change: &Change)
-    requires { TellsBelow 8 change.now }
+pub(crate) fn tell_change(pendings: &mut [Pending; MOST_NEXUSES], change: &Change)
+    requires { TellsBelow MOST_NEXUSES change.now }
     ensures { table_pairs pendings.new ≡ told (table_pairs pendings.old) change.now }
 {
     tell(pendings, &change.told_03, Attention::ReservationsPreempted);

@@ -5,6 +5,7 @@ ghost use Rattle.pr_cdb.specs.ReplyData.{cut};
 ghost use Rattle.pr_unit.specs.Replies.{good, check, conflict};
 
 use arrayvec::ArrayVec;
+use pr_cdb::codes::MOST_DATA_LENGTH;
 use pr_cdb::{Reply, Sense, Status};
 
 /// CHECK CONDITION with this sense.
@@ -30,7 +31,7 @@ pub(crate) fn conflict() -> Reply
 }
 
 /// GOOD, with this data.
-pub(crate) fn good(bytes: ArrayVec<u8, 72>) -> Reply
+pub(crate) fn good(bytes: ArrayVec<u8, MOST_DATA_LENGTH>) -> Reply
     ensures { result ≡ good bytes.items }
 {
     Reply {
@@ -41,7 +42,10 @@ pub(crate) fn good(bytes: ArrayVec<u8, 72>) -> Reply
 }
 
 /// The data up to the allocation length.
-pub(crate) fn cut(mut bytes: ArrayVec<u8, 72>, alloc: u16) -> ArrayVec<u8, 72>
+pub(crate) fn cut(
+    mut bytes: ArrayVec<u8, MOST_DATA_LENGTH>,
+    alloc: u16,
+) -> ArrayVec<u8, MOST_DATA_LENGTH>
     ensures { result.items ≡ cut alloc bytes.items }
 {
     bytes.truncate(usize::from(alloc));

@@ -9,6 +9,7 @@ ghost use Rattle.pr_unit.specs.Replies.{reservation, data_of};
 
 use crate::reply::cut;
 use arrayvec::ArrayVec;
+use pr_cdb::codes::{MOST_DATA_LENGTH, NO_ADDITIONAL_SENSE_INFORMATION, NO_SENSE};
 use pr_cdb::{Command, Kind, Sense, capabilities, encode_sense, keys_data, reservation_data};
 use pr_registry::{Change, Held, Registry};
 
@@ -54,7 +55,7 @@ fn set_key(registry: &mut Registry, host: u8, key: u64) -> Change
 }
 
 /// The data of the command.
-pub(crate) fn data(registry: &Registry, command: Command) -> ArrayVec<u8, 72>
+pub(crate) fn data(registry: &Registry, command: Command) -> ArrayVec<u8, MOST_DATA_LENGTH>
     requires { IsWellFormed registry.now }
     ensures { result.items ≡ data_of registry.now command }
 {
@@ -70,8 +71,8 @@ pub(crate) fn data(registry: &Registry, command: Command) -> ArrayVec<u8, 72>
         }
         Command::ReportCapabilities { alloc } => cut(buffer(&capabilities()), alloc),
         Command::RequestSense => buffer(&encode_sense(&Sense {
-            key: 0,
-            asc: 0,
+            key: NO_SENSE,
+            asc: NO_ADDITIONAL_SENSE_INFORMATION,
             ascq: 0,
         })),
         Command::TestUnitReady
@@ -99,8 +100,8 @@ fn reservation(registry: &Registry) -> Option<(u64, Kind)>
 }
 
 /// These bytes as the data of a reply.
-pub(crate) fn buffer(bytes: &[u8]) -> ArrayVec<u8, 72>
-    requires { length bytes.now ≤ 72 }
+pub(crate) fn buffer(bytes: &[u8]) -> ArrayVec<u8, MOST_DATA_LENGTH>
+    requires { length bytes.now ≤ MOST_DATA_LENGTH }
     ensures { result.items ≡ bytes.now }
 {
     let mut buffer = ArrayVec::new();

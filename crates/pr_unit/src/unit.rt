@@ -11,15 +11,19 @@ use crate::decisions;
 use crate::follows::follow;
 use crate::line::{deciding_line, ends_good};
 use pr_attention::Pending;
+use pr_cdb::codes::MOST_NEXUSES;
 use pr_cdb::{Bad, Command, Reply, Request, Wire, decode};
 use pr_registry::Registry;
 use std::marker::Model;
+
+/// How many blocks a unit has.
+pub const CAPACITY: u64 = 1_048_576;
 
 /// A logical unit: its registry, and the pending attentions of each host.
 #[derive(Debug, Drop)]
 pub struct Unit {
     registry: Registry,
-    pending: [Pending; 8],
+    pending: [Pending; MOST_NEXUSES],
 }
 
 impl Model for Unit {
@@ -48,7 +52,7 @@ impl Unit {
     /// A unit of so many hosts with nothing registered, reserved or pending, and generation 0.
     pub fn new(hosts: u8) -> Self
         requires some { 1 ≤ hosts }
-        requires most { hosts ≤ 8 }
+        requires most { hosts ≤ MOST_NEXUSES }
         ensures { result ≡ quiet (fresh hosts) }
     {
         Unit::of(Registry::new(hosts))
@@ -140,8 +144,8 @@ impl Unit {
     }
 }
 
-// A place for each of 8 hosts, with nothing pending for those that are not there.
-fn table_of(pendings: &[Pending]) -> [Pending; 8]
+// A place for each host, as many as [`MOST_NEXUSES`], with nothing pending for those that are not there.
+fn table_of(pendings: &[Pending]) -> [Pending; MOST_NEXUSES]
     ensures value { table_pairs result ≡ table_pairs pendings.now }
     ensures members { (host code : ℕ) → set.contains (table_pairs result) (host, code) ≡ true → (host < length pendings.now) × IsTrue (is_attention code) }
 {
@@ -169,7 +173,7 @@ fn place_of(pendings: &[Pending], host: usize) -> Pending
 }
 
 // Nothing is pending for any host.
-fn nothing_pending() -> [Pending; 8]
+fn nothing_pending() -> [Pending; MOST_NEXUSES]
     ensures { table_pairs result ≡ set.empty }
 {
     [

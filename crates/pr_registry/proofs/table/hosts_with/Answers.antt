@@ -1,5 +1,6 @@
 use Rattle.std.proofs.Common.{◌≡◌, ap, sym, ◌∙◌, arith}
 use Rattle.std.specs.FinSet as set
+use Rattle.pr_cdb.specs.declared.codes.TheConstants.{MOST_NEXUSES}
 use Rattle.pr_registry.specs.Hosts.{hosts_where}
 use Rattle.pr_registry.proofs.Sets.{hosts_where-none, hosts_where-takes, hosts_where-skips}
 use Rattle.pr_registry.proofs.Tables.{has_key, hosts_where-has_key}
@@ -21,6 +22,6 @@ loop-host-preserved c =
 
 pub returns : goal.returns
 returns c =
-    let all : c.loop-host.host ≡ 8 = omega arith in
+    let all : c.loop-host.host ≡ MOST_NEXUSES = omega arith in
     c.loop-host.invariant ∙ ap (λ n. hosts_where n (has_key c.args.slots.now c.args.key)) all
     ∙ hosts_where-has_key c.args.slots.now c.args.key

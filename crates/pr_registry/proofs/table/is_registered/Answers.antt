@@ -1,17 +1,18 @@
 use Rattle.std.proofs.Common.{sym, ap, ◌∙◌, ◌≡◌, nat_lt, false, arith}
 use Rattle.std.specs.FinMap as map
 use Rattle.std.proofs.lemmas.Bool.Decides.{nat_tests}
+use Rattle.pr_cdb.specs.declared.codes.TheConstants.{MOST_NEXUSES}
 use Rattle.pr_registry.specs.Registrations.{table_keys}
 use Rattle.pr_registry.proofs.Tables.{contains_key-table_keys, contains_key-table_keys_past}
 use Rattle.pr_registry.proofs.table.is_registered.Goals as goal
 
-pub returns-then-place-lt-MOST_HOSTS : goal.returns-then-place-lt-MOST_HOSTS
-returns-then-place-lt-MOST_HOSTS c =
-    c.is_some.ensures ∙ sym (contains_key-table_keys c.args.slots.now c.from-place.result c.if-place-lt-MOST_HOSTS.true)
-    ∙ ap (map.contains_key (table_keys 8 c.args.slots.now)) c.from-place.ensures
+pub returns-then-place-lt-MOST_NEXUSES : goal.returns-then-place-lt-MOST_NEXUSES
+returns-then-place-lt-MOST_NEXUSES c =
+    c.is_some.ensures ∙ sym (contains_key-table_keys c.args.slots.now c.from-place.result c.if-place-lt-MOST_NEXUSES.true)
+    ∙ ap (map.contains_key (table_keys MOST_NEXUSES c.args.slots.now)) c.from-place.ensures
 
-pub returns-else-place-lt-MOST_HOSTS : goal.returns-else-place-lt-MOST_HOSTS
-returns-else-place-lt-MOST_HOSTS c =
-    let past : nat_lt c.from-place.result 8 ≡ false = grind (arith, nat_tests) in
-    past ∙ sym (contains_key-table_keys_past c.args.slots.now c.from-place.result c.if-place-lt-MOST_HOSTS.false)
-    ∙ ap (map.contains_key (table_keys 8 c.args.slots.now)) c.from-place.ensures
+pub returns-else-place-lt-MOST_NEXUSES : goal.returns-else-place-lt-MOST_NEXUSES
+returns-else-place-lt-MOST_NEXUSES c =
+    let past : nat_lt c.from-place.result MOST_NEXUSES ≡ false = grind (arith, nat_tests) in
+    past ∙ sym (contains_key-table_keys_past c.args.slots.now c.from-place.result c.if-place-lt-MOST_NEXUSES.false)
+    ∙ ap (map.contains_key (table_keys MOST_NEXUSES c.args.slots.now)) c.from-place.ensures

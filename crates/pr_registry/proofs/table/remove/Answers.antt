@@ -1,9 +1,10 @@
 use Rattle.std.proofs.Common.{ap, ◌∙◌, None, slice_set}
+use Rattle.pr_cdb.specs.declared.codes.TheConstants.{MOST_NEXUSES}
 use Rattle.pr_registry.specs.Registrations.{table_keys}
 use Rattle.pr_registry.proofs.States.{table_keys-without}
 use Rattle.pr_registry.proofs.table.remove.Goals as goal
 
 pub returns : goal.returns
 returns c =
-    ap (λ i. table_keys 8 (slice_set c.args.slots.now i None)) c.from.ensures
+    ap (λ i. table_keys MOST_NEXUSES (slice_set c.args.slots.now i None)) c.from.ensures
     ∙ table_keys-without c.args.slots.now c.args.host c.told-slots c.requires

@@ -1,5 +1,6 @@
 use Rattle.std.proofs.Common.{◌≡◌, if◌then◌else◌, cond, None, ap, sym, ◌∙◌, arith}
 use Rattle.std.specs.FinMap as map
+use Rattle.pr_cdb.specs.declared.codes.TheConstants.{MOST_NEXUSES}
 use Rattle.pr_registry.specs.Hosts.{just}
 use Rattle.pr_registry.specs.Registrations.{table_keys}
 use Rattle.pr_registry.proofs.Sets.{same_keys, get-without, contains-just}
@@ -9,23 +10,23 @@ use Rattle.pr_registry.proofs.table.remove_all.Goals.{then-has, else-has}
 
 pub loop-host-init : goal.loop-host-init
 loop-host-init c =
-    λ q. ap (λ b. cond b None (map.get (table_keys 8 c.args.slots.now) q)) (sym (none_below_zero c.args.removed.now q))
+    λ q. ap (λ b. cond b None (map.get (table_keys MOST_NEXUSES c.args.slots.now) q)) (sym (none_below_zero c.args.removed.now q))
 
 pub loop-host-preserved : goal.loop-host-preserved
 loop-host-preserved c =
     let host = c.loop-host.host in
     elim c.if-has.branch [
-      | then-has w ↦ λ q. ap (λ s. map.get (table_keys 8 s) q) w.slots-is ∙ ap (λ m. map.get m q) w.remove.ensures
-          ∙ get-without (table_keys 8 c.loop-host.slots) (just host) q
+      | then-has w ↦ λ q. ap (λ s. map.get (table_keys MOST_NEXUSES s) q) w.slots-is ∙ ap (λ m. map.get m q) w.remove.ensures
+          ∙ get-without (table_keys MOST_NEXUSES c.loop-host.slots) (just host) q
           ∙ (λ i. if contains-just host q i then None else c.loop-host.invariant q i)
-          ∙ removes_more c.args.removed.now host q (map.get (table_keys 8 c.args.slots.now) q) (sym c.has.ensures ∙ w.if-has.true)
-      | else-has w ↦ λ q. ap (λ s. map.get (table_keys 8 s) q) w.slots-is ∙ c.loop-host.invariant q
-          ∙ keeps_more c.args.removed.now host q (map.get (table_keys 8 c.args.slots.now) q) (sym c.has.ensures ∙ w.if-has.false)
+          ∙ removes_more c.args.removed.now host q (map.get (table_keys MOST_NEXUSES c.args.slots.now) q) (sym c.has.ensures ∙ w.if-has.true)
+      | else-has w ↦ λ q. ap (λ s. map.get (table_keys MOST_NEXUSES s) q) w.slots-is ∙ c.loop-host.invariant q
+          ∙ keeps_more c.args.removed.now host q (map.get (table_keys MOST_NEXUSES c.args.slots.now) q) (sym c.has.ensures ∙ w.if-has.false)
     ]
 
 pub returns : goal.returns
 returns c =
-    let all : c.loop-host.host ≡ 8 = omega arith in
+    let all : c.loop-host.host ≡ MOST_NEXUSES = omega arith in
     same_keys _ _ (λ q. c.loop-host.invariant q
-    ∙ ap (λ n. if is_removed_below c.args.removed.now n q then None else map.get (table_keys 8 c.args.slots.now) q) all
-    ∙ all_below c.args.slots.now c.args.removed.now q ∙ sym (get-without (table_keys 8 c.args.slots.now) c.args.removed.now q))
+    ∙ ap (λ n. if is_removed_below c.args.removed.now n q then None else map.get (table_keys MOST_NEXUSES c.args.slots.now) q) all
+    ∙ all_below c.args.slots.now c.args.removed.now q ∙ sym (get-without (table_keys MOST_NEXUSES c.args.slots.now) c.args.removed.now q))

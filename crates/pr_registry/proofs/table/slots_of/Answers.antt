@@ -1,9 +1,10 @@
 use Rattle.std.proofs.Common.{length, arith}
+use Rattle.pr_cdb.specs.declared.codes.TheConstants.{MOST_NEXUSES}
 use Rattle.pr_registry.proofs.Tables.{same_table_keys}
 use Rattle.pr_registry.proofs.table.slots_of.Goals as goal
 
 pub returns : goal.returns
 returns c =
-    same_table_keys (length c.args.keys.now) 8 c.args.keys.now c.loop-host.slots c.requires
+    same_table_keys (length c.args.keys.now) MOST_NEXUSES c.args.keys.now c.loop-host.slots c.requires
     (λ i small. c.loop-host.invariant.1 i (omega arith))
     (λ i from below. c.loop-host.invariant.2 i (omega arith) below)

@@ -1,5 +1,6 @@
 use Rattle.std.proofs.Common.{◌<◌, ap, ◌∙◌, length, arith}
 use Rattle.std.specs.FinSet as set
+use Rattle.pr_cdb.specs.declared.codes.TheConstants.{MOST_NEXUSES}
 use Rattle.pr_attention.specs.Attentions.{code_of}
 use Rattle.pr_unit.specs.Attentions.{table_pairs}
 use Rattle.pr_unit.proofs.Pairs.{place_read, table_pairs-insert}
@@ -10,7 +11,7 @@ returns c =
     let table = c.args.pendings.now in
     let code = code_of c.args.attention in
     let whole = c.told-pendings in
-    let small : c.from.result < 8 = omega arith in
+    let small : c.from.result < MOST_NEXUSES = omega arith in
     let there : c.from.result < length table = omega arith in
     let is = c.add.ensures ∙ ap (λ s. set.insert s code) (place_read table c.from.result c.index-pendings-from.result there) in
     table_pairs-insert table c.from.result c.add.new.self code whole small is

@@ -1,5 +1,6 @@
 use Rattle.std.proofs.Common.{◌<◌, ap, sym, ◌∙◌, length, arith}
 use Rattle.std.specs.FinSet as set
+use Rattle.pr_cdb.specs.declared.codes.TheConstants.{MOST_NEXUSES}
 use Rattle.pr_attention.specs.Attentions.{code_of}
 use Rattle.pr_unit.specs.Attentions.{table_pairs}
 use Rattle.pr_unit.proofs.Pairs.{place_read, contains-table_pairs_in}
@@ -10,7 +11,7 @@ returns c =
     let table = c.args.pendings.now in
     let code = code_of c.args.attention in
     let whole = c.type_inv.pendings in
-    let small : c.from.result < 8 = omega arith in
+    let small : c.from.result < MOST_NEXUSES = omega arith in
     let there : c.from.result < length table = omega arith in
     c.has.ensures.value ∙ ap (λ s. set.contains s code) (place_read table c.from.result c.index-pendings-from.result there)
     ∙ sym (contains-table_pairs_in table c.from.result code small) ∙ ap (λ h. set.contains (table_pairs table) (h, code)) c.from.ensures

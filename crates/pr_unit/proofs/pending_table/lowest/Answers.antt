@@ -1,6 +1,7 @@
 use Rattle.std.proofs.Common.{◌<◌, ◌≡◌, ℕ, ap, sym, ◌∙◌, length, get_or, arith}
 use Rattle.std.specs.FinSet as set
 use Rattle.std.proofs.lemmas.Option.{IfSome_then}
+use Rattle.pr_cdb.specs.declared.codes.TheConstants.{MOST_NEXUSES}
 use Rattle.pr_attention.specs.Attentions.{code_of}
 use Rattle.pr_attention.proofs.Sets.{same_codes, contains-no_code}
 use Rattle.pr_unit.specs.Attentions.{table_pairs}
@@ -13,7 +14,7 @@ at_place : (c : goal.After-lowest) (code : ℕ)
 at_place c code =
     let table = c.args.pendings.now in
     let whole = c.type_inv.pendings in
-    let small : c.from.result < 8 = omega arith in
+    let small : c.from.result < MOST_NEXUSES = omega arith in
     let there : c.from.result < length table = omega arith in
     ap (λ h. set.contains (table_pairs table) (h, code)) (sym c.from.ensures) ∙ contains-table_pairs_in table c.from.result code small
     ∙ ap (λ s. set.contains s code) (sym (place_read table c.from.result c.index-pendings-from.result there))

@@ -1,4 +1,5 @@
 use Rattle.std.proofs.Common.{ap, subst, ◌∙◌, sym, ◌≡◌, ◌+◌, arith}
+use Rattle.pr_cdb.specs.declared.codes.TheConstants.{MOST_NEXUSES}
 use Rattle.pr_attention.specs.Attentions.{code_of}
 use Rattle.pr_unit.specs.Attentions.{Pairs, table_pairs}
 use Rattle.pr_unit.proofs.Pairs.{IsToldBelow, told_none, told_more, told_skips, told_all}
@@ -25,7 +26,7 @@ loop-host-preserved c =
 
 pub returns : goal.returns
 returns c =
-    let last : c.loop-host.host ≡ 8 = omega arith in
+    let last : c.loop-host.host ≡ MOST_NEXUSES = omega arith in
     let old = table_pairs c.args.pendings.now in
     let new = table_pairs c.loop-host.pendings in
     told_all old new c.args.hosts.now (code_of c.args.attention) c.requires

@@ -1,5 +1,6 @@
 use Rattle.std.proofs.Common.{◌≡◌, ℕ, zero, suc, ◌&&◌, nat_lt, Bool, true, false, List, [], ◌∷◌, refl, sym, ap, ◌∙◌}
 use Rattle.std.specs.FinSet as set
+use Rattle.pr_cdb.specs.declared.codes.TheConstants.{MOST_NEXUSES}
 use Rattle.pr_attention.specs.Attentions.{Codes, no_code}
 use Rattle.pr_attention.proofs.Sets.{contains-no_code}
 use Rattle.pr_unit.specs.Attentions.{place, table_pairs}
@@ -19,10 +20,10 @@ and_false : (b : Bool) → (b && false) ≡ false
 and_false true = refl
 and_false false = refl
 
-of_none : table_pairs (nones 8) ≡ set.empty
+of_none : table_pairs (nones MOST_NEXUSES) ≡ set.empty
 of_none = same_pairs _ _ (λ p.
-    contains-table_pairs (nones 8) p.0 p.1 ∙ ap (λ s. nat_lt p.0 8 && set.contains s p.1) (place-nones 8 p.0)
-    ∙ ap (λ b. nat_lt p.0 8 && b) (contains-no_code p.1) ∙ and_false (nat_lt p.0 8) ∙ sym (contains-none p))
+    contains-table_pairs (nones MOST_NEXUSES) p.0 p.1 ∙ ap (λ s. nat_lt p.0 MOST_NEXUSES && set.contains s p.1) (place-nones MOST_NEXUSES p.0)
+    ∙ ap (λ b. nat_lt p.0 MOST_NEXUSES && b) (contains-no_code p.1) ∙ and_false (nat_lt p.0 MOST_NEXUSES) ∙ sym (contains-none p))
 
 pub returns : goal.returns
 returns c =

@@ -2,6 +2,7 @@ use Rattle.std.proofs.Common.{◌≡◌, ◌<◌, ℕ, zero, suc, ◌&&◌, nat_
 use Rattle.std.specs.FinSet as set
 use Rattle.std.proofs.lemmas.Bool.{and_parts, false≢true}
 use Rattle.std.proofs.lemmas.Bool.Decides.{nat_tests}
+use Rattle.pr_cdb.specs.declared.codes.TheConstants.{MOST_NEXUSES}
 use Rattle.pr_attention.specs.Attentions.{Codes, AreAttentions}
 use Rattle.pr_attention.proofs.Sets.{contains-no_code}
 use Rattle.pr_unit.specs.Attentions.{place, of_host, pairs_where, table_pairs}
@@ -17,7 +18,7 @@ has_place (codes ∷ table) (suc h) code is = let there = has_place table h code
 is_below : (a b : ℕ) → nat_lt a b ≡ true → a < b
 is_below a b is = grind (arith, nat_tests)
 
-by_host : (P : ℕ → Type 0) → P 0 → P 1 → P 2 → P 3 → P 4 → P 5 → P 6 → P 7 → (h : ℕ) → h < 8 → P h
+by_host : (P : ℕ → Type 0) → P 0 → P 1 → P 2 → P 3 → P 4 → P 5 → P 6 → P 7 → (h : ℕ) → h < MOST_NEXUSES → P h
 by_host P p0 p1 p2 p3 p4 p5 p6 p7 zero below = p0
 by_host P p0 p1 p2 p3 p4 p5 p6 p7 (suc zero) below = p1
 by_host P p0 p1 p2 p3 p4 p5 p6 p7 (suc (suc zero)) below = p2
@@ -46,7 +47,7 @@ pub returns-clause-value : goal.returns-clause-value
 returns-clause-value c = same_table c
 
 -- no place has another code than the four
-are_attentions : (c : goal.After-place_of-8) (h : ℕ) → h < 8 → AreAttentions (place c.args.pendings.now h)
+are_attentions : (c : goal.After-place_of-8) (h : ℕ) → h < MOST_NEXUSES → AreAttentions (place c.args.pendings.now h)
 are_attentions c = by_host (λ h. AreAttentions (place c.args.pendings.now h))
     (subst AreAttentions c.place_of.ensures.value c.place_of.ensures.members)
     (subst AreAttentions c.place_of-2.ensures.value c.place_of-2.ensures.members)
@@ -60,7 +61,7 @@ are_attentions c = by_host (λ h. AreAttentions (place c.args.pendings.now h))
 pub returns-clause-members : goal.returns-clause-members
 returns-clause-members c = λ host code is.
     let table = c.args.pendings.now in
-    let both : (nat_lt host 8 && set.contains (place table host) code) ≡ true =
+    let both : (nat_lt host MOST_NEXUSES && set.contains (place table host) code) ≡ true =
     sym (contains-table_pairs table host code) ∙ ap (λ s. set.contains s (host, code)) (sym (same_table c)) ∙ is in
-    let parts = and_parts (nat_lt host 8) (set.contains (place table host) code) both in
-    (has_place table host code parts.1, are_attentions c host (is_below host 8 parts.0) code parts.1)
+    let parts = and_parts (nat_lt host MOST_NEXUSES) (set.contains (place table host) code) both in
+    (has_place table host code parts.1, are_attentions c host (is_below host MOST_NEXUSES parts.0) code parts.1)

@@ -15,7 +15,7 @@ is_well_formed : (c : goal.Else-not-has_holder) → IsWellFormed (state_from c.a
 is_well_formed c =
     let some : 1 ≤ length c.args.keys.now = grind (arith, nat_tests) in
     let has = subst (λ keys. HasHolder keys c.args.held) c.slots_of-slots.ensures (c.has_holder.ensures.0 c.if-not-has_holder.false) in
-    well_formed-from c.args.keys.now c.args.held c.args.generation some c.if-keys-gt-MOST_HOSTS.false
+    well_formed-from c.args.keys.now c.args.held c.args.generation some c.if-keys-gt-MOST_NEXUSES.false
     (c.are_keys.ensures.0 c.if-not-are_keys.false) has (omega arith)
 
 pub invariant_of-result : goal.invariant_of-result

@@ -1,5 +1,6 @@
 use Rattle.std.proofs.Common.{◌<◌, ap, sym, ◌∙◌, length, subst, arith}
 use Rattle.std.specs.FinSet as set
+use Rattle.pr_cdb.specs.declared.codes.TheConstants.{MOST_NEXUSES}
 use Rattle.pr_unit.specs.Attentions.{table_pairs}
 use Rattle.pr_unit.specs.UnitStates.{UnitState, unit_of, is_pending}
 use Rattle.pr_unit.proofs.Pairs.{place_read, contains-table_pairs_in}
@@ -12,7 +13,7 @@ returns-clause-value c = λ code.
     let below : c.args.host < u.registry.hosts = subst (λ (s : UnitState). c.args.host < s.registry.hosts) (sym c.self.view_is) c.requires in
     let most = c.self.invariant.registry.hosts.1 in
     let whole = c.self.told in
-    let small : c.from.result < 8 = omega arith in
+    let small : c.from.result < MOST_NEXUSES = omega arith in
     let there : c.from.result < length table = omega arith in
     ap (λ s. set.contains s code) (place_read table c.from.result c.index-self-from.result there)
     ∙ sym (contains-table_pairs_in table c.from.result code small) ∙ ap (λ h. set.contains (table_pairs table) (h, code)) c.from.ensures
