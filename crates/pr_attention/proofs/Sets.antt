@@ -1,26 +1,12 @@
 -- What sets of codes contain, and that they are equal where they contain the same.
 use Rattle.std.proofs.Common.{◌≡◌, ℕ, Bool, true, false, ◌==◌, ◌&&◌, ◌||◌, not, IsTrue, refl, sym, ap, ◌∙◌, arith}
-use Rattle.std.specs.Ordering.{nat_cmp}
-use Rattle.std.specs.Cmp.{nat_cmp_total, unsigned_tied}
 use Rattle.std.specs.FinSet as set
-use Rattle.std.specs.FinSet.{nat_cmp-IsAntisymmetric}
 use Rattle.std.specs.List.{list_any}
 use Rattle.std.proofs.lemmas.Bool.Decides.{nat_tests}
+pub use Rattle.pr_sets.proofs.Members.{same_numbers as same_codes, contains-empty as contains-no_code, contains-insert as contains-insert_code, contains-remove as contains-remove_code}
 use Rattle.pr_attention.specs.declared.attention.Attention.{Attention}
 use Rattle.pr_attention.specs.declared.attention.Attention.TheVariants.{PowerOn, ReservationsPreempted, ReservationsReleased, RegistrationsPreempted}
 use Rattle.pr_attention.specs.Attentions.{power_on, reservations_preempted, reservations_released, registrations_preempted, attentions, is_attention, code_of, Codes, no_code, AreAttentions}
-
-pub same_codes : (s t : Codes) → ((q : ℕ) → set.contains s q ≡ set.contains t q) → s ≡ t
-same_codes s t same = set.same_set nat_cmp_total nat_cmp-IsAntisymmetric s t same
-
-pub contains-no_code : (q : ℕ) → set.contains no_code q ≡ false
-contains-no_code q = set.contains-empty nat_cmp q
-
-pub contains-insert_code : (s : Codes) (code q : ℕ) → set.contains (set.insert s code) q ≡ (q == code || set.contains s q)
-contains-insert_code s code q = set.contains-insert nat_cmp_total s code q ∙ ap (λ b. b || set.contains s q) (unsigned_tied q code)
-
-pub contains-remove_code : (s : Codes) (code q : ℕ) → set.contains (set.remove s code) q ≡ (not (q == code) && set.contains s q)
-contains-remove_code s code q = set.contains-remove nat_cmp_total s code q ∙ ap (λ b. not b && set.contains s q) (unsigned_tied q code)
 
 -- what a set of codes contains after a change
 pub ruleset code_reads = (contains-no_code, contains-insert_code, contains-remove_code)

@@ -1,7 +1,7 @@
 -- What a sender with one registration asks for, and how that ends.
-use Rattle.std.proofs.Common.{◌≡◌, ◌≢◌, ◌⊎◌, ℕ, zero, suc, ◌+◌, ◌<◌, ◌≤◌, Bool, true, false, ◌==◌, ◌&&◌, ◌||◌, not, if◌then◌else◌, option_map, nat_lt, nat_le, IsTrue, List, length, Option, Some, None, refl, sym, ap, ◌∙◌, subst, inl, inr, arith}
-use Rattle.std.specs.List.{slice_get, Contains, All}
-use Rattle.std.proofs.lemmas.Bool.{false≢true, or_left, ltb-true, lt-ltb, and_parts, leb-true}
+use Rattle.std.proofs.Common.{◌≡◌, ℕ, ◌<◌, ◌≤◌, Bool, true, false, ◌==◌, ◌&&◌, not, if◌then◌else◌, option_map, nat_lt, nat_le, List, length, Option, Some, None, sym, ap, ◌∙◌, subst, arith}
+use Rattle.std.specs.List.{Contains}
+use Rattle.std.proofs.lemmas.Bool.{false≢true, or_left, lt-ltb, and_parts, leb-true}
 use Rattle.std.proofs.lemmas.Bool.Decides.{nat_tests}
 use Rattle.std.proofs.lemmas.Option.{slice_get-get_or}
 use Rattle.pr_cdb.specs.declared.command.Command.{Command}
@@ -13,26 +13,23 @@ use Rattle.pr_registry.specs.Registrations.{State, key_of}
 use Rattle.pr_registry.specs.Changes.{is_in_the_way}
 use Rattle.pr_unit.specs.UnitStates.{UnitState}
 use Rattle.pr_unit.specs.Conflicts.{command_conflicts}
-use Rattle.pr_unit.specs.Replies.{good, data_of}
 use Rattle.pr_script.specs.declared.script.Test.{Test}
 use Rattle.pr_roles.specs.Fitting.{AreDeclared, are_distinct}
 use Rattle.pr_sets.specs.declared.word.Word.{Word}
 use Rattle.pr_sets.specs.Words.{has}
 use Rattle.pr_views.specs.declared.possibilities.Possibilities.{Possibilities}
-use Rattle.pr_views.specs.Possibilities.{Scope, Registration, Reservation, IsSo, key_at}
-use Rattle.pr_views.specs.Views.{View, IsSeen, Shows}
+use Rattle.pr_views.specs.Possibilities.{Scope, Registration, IsSo}
+use Rattle.pr_views.specs.Views.{Shows}
 use Rattle.pr_views.specs.Portions.{view_in, HasSomebody}
 use Rattle.pr_views.proofs.Numbering.{one_registration}
 use Rattle.pr_regions.specs.declared.purpose.Purpose.{Purpose}
-use Rattle.pr_regions.specs.declared.purpose.Standing.{Standing}
 use Rattle.pr_regions.specs.declared.region.Branch.{Branch}
 use Rattle.pr_regions.specs.declared.region.Region.{Region}
 use Rattle.pr_regions.specs.declared.region.Ending.TheVariants as ending
-use Rattle.pr_regions.specs.Purposes.{is_refused, purpose_of}
-use Rattle.pr_regions.specs.Regions.{AreBranches, Meets, IsDecided, IsCovered, IsInRegion, filter_of, standing_of, Ends, IsUntestedOrRegistered, IsProper as IsProperBranch}
-use Rattle.pr_regions.specs.Readings.{first_test}
+use Rattle.pr_regions.specs.Purposes.{is_refused}
+use Rattle.pr_regions.specs.Regions.{AreBranches, Meets, filter_of, standing_of, Ends, IsUntestedOrRegistered, IsProper as IsProperBranch}
 use Rattle.pr_domain.specs.declared.place.Place.{Place}
-use Rattle.pr_domain.specs.inside.Gathering.{IsPlace, IsUniform, IsProper, IsAt}
+use Rattle.pr_domain.specs.inside.Gathering.{IsPlace, IsUniform, IsAt}
 use Rattle.pr_domain.specs.inside.Tallies.{IsRight, AreRight, IsInOne, HasBoth, IsAsked, IsRefusedAt}
 use Rattle.pr_domain.proofs.Gathered.{same_reservation}
 

@@ -1,5 +1,5 @@
 -- Tallies that grow step by step.
-use Rattle.std.proofs.Common.{◌≡◌, ◌≢◌, ◌⊎◌, ℕ, zero, suc, ◌+◌, ◌<◌, ◌≤◌, Bool, true, false, ◌==◌, List, length, Option, Some, None, refl, sym, ap, ◌∙◌, subst, inl, inr, arith}
+use Rattle.std.proofs.Common.{◌≡◌, ◌⊎◌, ℕ, ◌+◌, ◌<◌, true, List, Some, sym, ap, ◌∙◌, subst, inl, inr, arith}
 use Rattle.std.specs.List.{slice_get, Contains}
 use Rattle.std.proofs.lemmas.Option.{same_Some, slice_get_within, get_or_from_slice_get}
 use Rattle.std.proofs.lemmas.Bool.{cases_eq, cases_order}
@@ -15,7 +15,7 @@ use Rattle.pr_regions.specs.declared.region.Branch.{Branch}
 use Rattle.pr_domain.specs.declared.place.Place.{Place}
 use Rattle.pr_domain.specs.declared.tally.Tally.{Tally}
 use Rattle.pr_domain.specs.inside.Gathering.{IsAt}
-use Rattle.pr_domain.specs.inside.Tallies.{tallied, Leaves, IsFound, Grows, IsRight, AreRight, IsInOne}
+use Rattle.pr_domain.specs.inside.Tallies.{tallied, Leaves, IsFound, Grows, IsInOne}
 
 -- found among these, and so among those
 found_as : (v : View) (c : Command) (tests : List Test) (A B : UnitState → Type 0) (way : ℕ) (i : Item) (q : ℕ) → ((u : UnitState) → Shows v u → A u → B u)

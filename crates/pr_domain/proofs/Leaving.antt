@@ -1,5 +1,6 @@
 -- What a tally has once the states of one region are added.
-use Rattle.std.proofs.Common.{◌≡◌, ◌≢◌, ◌⊎◌, ℕ, zero, suc, ◌+◌, ◌<◌, ◌≤◌, Bool, true, false, ◌==◌, ◌&&◌, ◌||◌, if◌then◌else◌, List, Option, Some, None, is_some, unwrap_or, refl, sym, ap, ◌∙◌, subst, inl, inr, arith}
+use Rattle.std.proofs.Common.{◌≡◌, ◌≢◌, ◌⊎◌, ℕ, zero, suc, ◌<◌, ◌≤◌, true, false, ◌==◌, ◌&&◌, ◌||◌, if◌then◌else◌, List, Option, Some, None, is_some, unwrap_or, refl, sym, ap, ◌∙◌, subst, inl, inr, arith}
+use Rattle.std.proofs.Math.Logic.{⊎_elim}
 use Rattle.std.proofs.lemmas.Bool.{and_parts, and_from, or_cases, or_left, or_right, false≢true, cases_lt}
 use Rattle.std.proofs.lemmas.Bool.Decides.{nat_tests, eqb_tells}
 use Rattle.pr_cdb.specs.declared.command.Command.{Command}
@@ -18,14 +19,13 @@ use Rattle.pr_views.specs.Portions.{has_at, view_in}
 use Rattle.pr_views.proofs.Numbering.{one_registration}
 use Rattle.pr_regions.specs.declared.region.Branch.{Branch}
 use Rattle.pr_regions.specs.declared.region.Change.{Change}
-use Rattle.pr_regions.specs.declared.region.Ending.{Ending}
 use Rattle.pr_regions.specs.declared.region.Ending.TheVariants as ending
 use Rattle.pr_regions.specs.declared.region.Region.{Region}
 use Rattle.pr_regions.specs.Readings.{first_test}
 use Rattle.pr_regions.specs.Regions.{Ends, Changes}
 use Rattle.pr_domain.specs.declared.place.Place.{Place}
 use Rattle.pr_domain.specs.declared.tally.Tally.{Tally}
-use Rattle.pr_domain.specs.inside.Gathering.{IsPlace, IsUniform, IsProper, IsAt, IsMet, IsThere, IsGathered}
+use Rattle.pr_domain.specs.inside.Gathering.{IsPlace, IsAt, IsGathered}
 use Rattle.pr_domain.specs.inside.Images.{IsImage, becomes, left}
 use Rattle.pr_domain.specs.inside.Tallies.{IsRegistered, has_part, tallied, arm_of, Leaves, IsFound, Grows, IsRight}
 
@@ -55,6 +55,21 @@ added_here old new way p added i has =
 added_kept : (old new : Tally) (way : ℕ) (p : Possibilities) → IsAdded old way p new → (w : ℕ) (i : Item) → tallied old w i ≡ true → tallied new w i ≡ true
 added_kept old new way p added w i has = added w i ∙ or_left (tallied old w i) (w == way && has_part p i) has
 
+-- what was added of a way is what a state among these leaves that ends so
+found_in : (v : View) (c : Command) (tests : List Test) (At : UnitState → Type 0) (move : UnitState → UnitState) (old new : Tally) (way : ℕ) (p : Possibilities)
+    → ((u : UnitState) → At u → Shows v u) → IsPart v At move p → IsAdded old way p new
+    → ((u : UnitState) (i : Item) → At u → IsRegistered v.scope (move u) i → Leaves v.scope c tests way u i)
+    → (w : ℕ) (i : Item) (q : ℕ) → tallied new w i ≡ true → v.pending q ≡ true → (tallied old w i ≡ true) ⊎ IsFound v c tests At w i q
+found_in v c tests At move old new way p shows is added leaves w i q has pending =
+    at (added_cases old new way p added w i has)
+  where
+    at : (tallied old w i ≡ true) ⊎ ((w ≡ way) × (has_part p i ≡ true)) → (tallied old w i ≡ true) ⊎ IsFound v c tests At w i q
+    at (inl before) = inl before
+    at (inr here) = inr (
+        let met = is.only i q here.1 pending in
+        let left = subst (λ n. Leaves v.scope c tests n met.0 i) (sym here.0) (leaves met.0 i met.1 met.2) in
+        record { unit = met.0; shown = shows met.0 met.1; among = met.1; leaves = left; pending = met.3 })
+
 -- ---- nothing is added
 
 pub grows_nothing : (v : View) (c : Command) (tests : List Test) (t : Tally) (At : UnitState → Type 0) → ((u : UnitState) → At u → ⊥) → Grows v c tests t t At
@@ -72,7 +87,7 @@ pub grows_conflict : (v : View) (c : Command) (tests : List Test) (At : UnitStat
 grows_conflict v c tests At old new p shows conflicts is added = record {
   kept = added_kept old new 0 p added;
   all = all;
-  only = λ way i q has pending. only way i q pending (added_cases old new 0 p added way i has);
+  only = found_in v c tests At (λ u. u) old new 0 p shows is added (λ u i at so. (conflicts u at, so));
 }
   where
     all : (u : UnitState) (way : ℕ) (i : Item) → Shows v u → At u → Leaves v.scope c tests way u i → tallied new way i ≡ true
@@ -80,14 +95,6 @@ grows_conflict v c tests At old new p shows conflicts is added = record {
     all u (suc zero) i shown at leaves = absurd (false≢true (sym leaves.0 ∙ conflicts u at))
     all u (suc (suc zero)) i shown at leaves = absurd (false≢true (sym leaves.0 ∙ conflicts u at))
     all u (suc (suc (suc n))) i shown at leaves = absurd (false≢true (sym leaves.0 ∙ conflicts u at))
-
-    only : (way : ℕ) (i : Item) (q : ℕ) → v.pending q ≡ true → (tallied old way i ≡ true) ⊎ ((way ≡ 0) × (has_part p i ≡ true))
-        → (tallied old way i ≡ true) ⊎ IsFound v c tests At way i q
-    only way i q pending (inl before) = inl before
-    only zero i q pending (inr here) = inr (
-        let met = is.only i q here.1 pending in
-        record { unit = met.0; shown = shows met.0 met.1; among = met.1; leaves = (conflicts met.0 met.1, met.2); pending = met.3 })
-    only (suc n) i q pending (inr here) = absurd (omega (arith, here.0))
 
 -- ---- a fault
 
@@ -98,7 +105,8 @@ pub grows_fault : (v : View) (c : Command) (tests : List Test) (sense : Sense) (
 grows_fault v c tests sense At old mid new p shows faults is first second = record {
   kept = λ way i has. added_kept mid new 2 p second way i (added_kept old mid 1 p first way i has);
   all = all;
-  only = λ way i q has pending. late way i q pending (added_cases mid new 2 p second way i has);
+  only = λ way i q has pending. ⊎_elim (λ before. found_in v c tests At (λ u. u) old mid 1 p shows is first (λ u i at so. ((faults u at).0, so)) way i q before pending) inr
+      (found_in v c tests At (λ u. u) mid new 2 p shows is second (λ u i at so. ((faults u at).0, some u at, so)) way i q has pending);
 }
   where
     some : (u : UnitState) → At u → is_some (command_fault u.registry v.scope.own c) ≡ true
@@ -113,25 +121,6 @@ grows_fault v c tests sense At old mid new p shows faults is first second = reco
     all u (suc (suc zero)) i shown at leaves = added_here mid new 2 p second i (is.all u i at leaves.2)
     all u (suc (suc (suc n))) i shown at leaves = absurd (none (command_fault u.registry v.scope.own c) (faults u at).1 leaves.1)
 
-    early : (way : ℕ) (i : Item) (q : ℕ) → v.pending q ≡ true → (tallied old way i ≡ true) ⊎ ((way ≡ 1) × (has_part p i ≡ true))
-        → (tallied old way i ≡ true) ⊎ IsFound v c tests At way i q
-    early way i q pending (inl before) = inl before
-    early zero i q pending (inr here) = absurd (omega (arith, here.0))
-    early (suc zero) i q pending (inr here) = inr (
-        let met = is.only i q here.1 pending in
-        record { unit = met.0; shown = shows met.0 met.1; among = met.1; leaves = ((faults met.0 met.1).0, met.2); pending = met.3 })
-    early (suc (suc n)) i q pending (inr here) = absurd (omega (arith, here.0))
-
-    late : (way : ℕ) (i : Item) (q : ℕ) → v.pending q ≡ true → (tallied mid way i ≡ true) ⊎ ((way ≡ 2) × (has_part p i ≡ true))
-        → (tallied old way i ≡ true) ⊎ IsFound v c tests At way i q
-    late way i q pending (inl before) = early way i q pending (added_cases old mid 1 p first way i before)
-    late zero i q pending (inr here) = absurd (omega (arith, here.0))
-    late (suc zero) i q pending (inr here) = absurd (omega (arith, here.0))
-    late (suc (suc zero)) i q pending (inr here) = inr (
-        let met = is.only i q here.1 pending in
-        record { unit = met.0; shown = shows met.0 met.1; among = met.1; leaves = ((faults met.0 met.1).0, some met.0 met.1, met.2); pending = met.3 })
-    late (suc (suc (suc n))) i q pending (inr here) = absurd (omega (arith, here.0))
-
 -- ---- GOOD
 
 pub grows_good : (v : View) (c : Command) (tests : List Test) (arm : ℕ) (At : UnitState → Type 0) (old mid new : Tally) (p after : Possibilities)
@@ -142,7 +131,8 @@ pub grows_good : (v : View) (c : Command) (tests : List Test) (arm : ℕ) (At : 
 grows_good v c tests arm At old mid new p after shows done is then_is first second = record {
   kept = λ way i has. added_kept mid new (suc (suc (suc arm))) after second way i (added_kept old mid 1 p first way i has);
   all = all;
-  only = λ way i q has pending. late way i q pending (added_cases mid new (suc (suc (suc arm))) after second way i has);
+  only = λ way i q has pending. ⊎_elim (λ before. found_in v c tests At (λ u. u) old mid 1 p shows is first (λ u i at so. ((done u at).0, so)) way i q before pending) inr
+      (found_in v c tests At (λ u. effect u v.scope.own c) mid new (suc (suc (suc arm))) after shows then_is second (λ u i at so. ((done u at).0, (done u at).1, (done u at).2, so)) way i q has pending);
 }
   where
     none : (o : Option Sense) → o ≡ None → is_some o ≡ true → ⊥
@@ -161,32 +151,6 @@ grows_good v c tests arm At old mid new p after shows done is then_is first seco
     all u (suc (suc (suc n))) i shown at leaves =
         let same = same_arm arm n (sym (done u at).2 ∙ leaves.2) in
         subst (λ m. tallied new (suc (suc (suc m))) i ≡ true) same (added_here mid new (suc (suc (suc arm))) after second i (then_is.all u i at leaves.3))
-
-    early : (way : ℕ) (i : Item) (q : ℕ) → v.pending q ≡ true → (tallied old way i ≡ true) ⊎ ((way ≡ 1) × (has_part p i ≡ true))
-        → (tallied old way i ≡ true) ⊎ IsFound v c tests At way i q
-    early way i q pending (inl before) = inl before
-    early zero i q pending (inr here) = absurd (omega (arith, here.0))
-    early (suc zero) i q pending (inr here) = inr (
-        let met = is.only i q here.1 pending in
-        record { unit = met.0; shown = shows met.0 met.1; among = met.1; leaves = ((done met.0 met.1).0, met.2); pending = met.3 })
-    early (suc (suc n)) i q pending (inr here) = absurd (omega (arith, here.0))
-
-    late : (way : ℕ) (i : Item) (q : ℕ) → v.pending q ≡ true → (tallied mid way i ≡ true) ⊎ ((way ≡ suc (suc (suc arm))) × (has_part after i ≡ true))
-        → (tallied old way i ≡ true) ⊎ IsFound v c tests At way i q
-    late way i q pending (inl before) = early way i q pending (added_cases old mid 1 p first way i before)
-    late zero i q pending (inr here) = absurd (omega (arith, here.0))
-    late (suc zero) i q pending (inr here) = absurd (omega (arith, here.0))
-    late (suc (suc zero)) i q pending (inr here) = absurd (omega (arith, here.0))
-    late (suc (suc (suc n))) i q pending (inr here) = inr (
-        let met = then_is.only i q here.1 pending in
-        let same : arm ≡ n = omega (arith, here.0) in
-        record {
-          unit = met.0;
-          shown = shows met.0 met.1;
-          among = met.1;
-          leaves = ((done met.0 met.1).0, (done met.0 met.1).1, (done met.0 met.1).2 ∙ ap arm_of same, met.2);
-          pending = met.3;
-        })
 
 -- ---- what the words of a region are part of
 

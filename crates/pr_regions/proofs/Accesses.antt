@@ -1,10 +1,12 @@
 -- How commands that read and write blocks end.
-use Rattle.std.proofs.Common.{◌≡◌, ℕ, Bool, true, false, not, if◌then◌else◌, Option, Some, None, refl, ap, ◌∙◌}
+use Rattle.std.proofs.Common.{◌≡◌, ℕ, Bool, true, false, not, if◌then◌else◌, List, Option, Some, None, refl, sym, ap, ◌∙◌}
 use Rattle.pr_cdb.specs.declared.command.Kind.{Kind}
 use Rattle.pr_cdb.specs.declared.command.Kind.TheVariants.{WriteExclusive, ExclusiveAccess, WriteExclusiveRegistrantsOnly, ExclusiveAccessRegistrantsOnly, WriteExclusiveAllRegistrants, ExclusiveAccessAllRegistrants}
 use Rattle.pr_cdb.specs.declared.command.Command.{Command}
+use Rattle.pr_cdb.specs.declared.reply.Sense.{Sense}
 use Rattle.pr_registry.specs.declared.held.Held.{Held}
 use Rattle.pr_registry.specs.Registrations.{State, is_registered, is_holder, kind_of}
+use Rattle.pr_registry.specs.Changes.{no_change}
 use Rattle.pr_unit.specs.UnitStates.{UnitState}
 use Rattle.pr_unit.specs.Conflicts.{access_conflicts, is_shut_out, reading, writing}
 use Rattle.pr_unit.specs.Faults.{illegal}
@@ -14,8 +16,10 @@ use Rattle.pr_regions.specs.declared.region.Ending.TheVariants.{Conflict, Fault,
 use Rattle.pr_regions.specs.declared.purpose.Purpose.{Purpose}
 use Rattle.pr_regions.specs.declared.purpose.Purpose.TheVariants.{Read, Write}
 use Rattle.pr_regions.specs.declared.purpose.Standing.{Standing}
+use Rattle.pr_regions.specs.Purposes.{HasNumber}
 use Rattle.pr_regions.specs.Regions.{Meets, HasRoom}
 use Rattle.pr_regions.specs.inside.Parts.{Does, AlwaysEnds, never, is_unregistered, holds, keeps_from_reading, keeps_from_writing, is_kept_from}
+use Rattle.pr_regions.proofs.Asking.{conflicts_for, fault_for, after_for, change_for}
 use Rattle.pr_regions.proofs.Meeting.{registered_or_not, is_holder-standing, conflict_ends, fault_ends, same_ends}
 
 -- the sender has no key
@@ -64,52 +68,43 @@ writes_conflict s p held sender standing u c m = ap (λ v. access_conflicts u.re
     at None is = refl
     at (Some v) is = shut_out-writing u.registry sender standing v (kind_of v) (is_holder-standing s p held v sender standing u c m is) (out s p held sender standing u c m)
 
-faults : (b : Bool) → b ≡ false → (if b then None else Some (illegal 0x21 0x00)) ≡ Some (illegal 0x21 0x00)
-faults b is = ap (λ x. if x then None else Some (illegal 0x21 0x00)) is
-
-faultless : (b : Bool) → b ≡ true → (if b then None else Some (illegal 0x21 0x00)) ≡ None
-faultless b is = ap (λ x. if x then None else Some (illegal 0x21 0x00)) is
-
 -- ---- how they end
 
-pub read_conflict : (hosts : ℕ) (b : Bool) (held : Option Held) (sender : ℕ) (standing : Standing) → is_kept_from keeps_from_reading held sender standing ≡ true
-    → AlwaysEnds hosts (Read b) held sender standing Conflict
-read_conflict hosts b held sender standing kept = record {
-  ends = λ s u c alike m. conflict_ends s (Read b) held sender standing u c tt m (reads_conflict s (Read b) held sender standing u c m ∙ kept);
-  fits = tt;
-}
+-- The purpose conflicts where the sender is kept from it, and else is at fault unless the blocks are in range. It changes nothing.
+pub record IsMove (p : Purpose) (kept in_range : Bool) (held : Option Held) (sender : ℕ) (standing : Standing) : Type 0 where
+  numbered : HasNumber p
+  conflicts : (s : Scope) (u : UnitState) (c : Command) → Meets s p held sender standing u c → conflicts_for s.keys u.registry sender p ≡ kept
+  faults : (u : State) → fault_for u sender p ≡ (if in_range then None else Some (illegal 0x21 0x00))
+  stays : (keys : List ℕ) (u : State) → after_for keys u sender p ≡ u
+  tells : (keys : List ℕ) (u : State) → change_for keys u sender p ≡ no_change
 
-pub read_fault : (hosts : ℕ) (b : Bool) (held : Option Held) (sender : ℕ) (standing : Standing) → is_kept_from keeps_from_reading held sender standing ≡ false → b ≡ false
-    → AlwaysEnds hosts (Read b) held sender standing (Fault (illegal 0x21 0x00))
-read_fault hosts b held sender standing free beyond = record {
-  ends = λ s u c alike m. fault_ends s (Read b) held sender standing u c (illegal 0x21 0x00) tt m (reads_conflict s (Read b) held sender standing u c m ∙ free) (faults b beyond);
-  fits = tt;
-}
+pub is_read : (kept in_range : Bool) (held : Option Held) (sender : ℕ) (standing : Standing) → kept ≡ is_kept_from keeps_from_reading held sender standing
+    → IsMove (Read in_range) kept in_range held sender standing
+is_read kept in_range held sender standing is =
+    record { numbered = tt; conflicts = λ s u c m. reads_conflict s (Read in_range) held sender standing u c m ∙ sym is; faults = λ u. refl; stays = λ keys u. refl; tells = λ keys u. refl }
 
-pub read_good : (hosts : ℕ) (b : Bool) (held : Option Held) (sender : ℕ) (standing : Standing) (change : Change) → is_kept_from keeps_from_reading held sender standing ≡ false → b ≡ true
-    → Does change None never (number_of hosts held) never never never → HasRoom hosts (Good change) → AlwaysEnds hosts (Read b) held sender standing (Good change)
-read_good hosts b held sender standing change free within does room = record {
-  ends = λ s u c alike m. same_ends s (Read b) held sender standing u c hosts change tt m alike (reads_conflict s (Read b) held sender standing u c m ∙ free) (faultless b within) refl refl does;
-  fits = room;
-}
+pub is_write : (kept in_range : Bool) (held : Option Held) (sender : ℕ) (standing : Standing) → kept ≡ is_kept_from keeps_from_writing held sender standing
+    → IsMove (Write in_range) kept in_range held sender standing
+is_write kept in_range held sender standing is =
+    record { numbered = tt; conflicts = λ s u c m. writes_conflict s (Write in_range) held sender standing u c m ∙ sym is; faults = λ u. refl; stays = λ keys u. refl; tells = λ keys u. refl }
 
-pub write_conflict : (hosts : ℕ) (b : Bool) (held : Option Held) (sender : ℕ) (standing : Standing) → is_kept_from keeps_from_writing held sender standing ≡ true
-    → AlwaysEnds hosts (Write b) held sender standing Conflict
-write_conflict hosts b held sender standing kept = record {
-  ends = λ s u c alike m. conflict_ends s (Write b) held sender standing u c tt m (writes_conflict s (Write b) held sender standing u c m ∙ kept);
-  fits = tt;
-}
+module _ (hosts : ℕ) (p : Purpose) (kept in_range : Bool) (held : Option Held) (sender : ℕ) (standing : Standing) (is : IsMove p kept in_range held sender standing) where
+  abbrev faulty : Bool → Option Sense
+  faulty b = if b then None else Some (illegal 0x21 0x00)
 
-pub write_fault : (hosts : ℕ) (b : Bool) (held : Option Held) (sender : ℕ) (standing : Standing) → is_kept_from keeps_from_writing held sender standing ≡ false → b ≡ false
-    → AlwaysEnds hosts (Write b) held sender standing (Fault (illegal 0x21 0x00))
-write_fault hosts b held sender standing free beyond = record {
-  ends = λ s u c alike m. fault_ends s (Write b) held sender standing u c (illegal 0x21 0x00) tt m (writes_conflict s (Write b) held sender standing u c m ∙ free) (faults b beyond);
-  fits = tt;
-}
+  pub move_conflicts : kept ≡ true → AlwaysEnds hosts p held sender standing Conflict
+  move_conflicts kept_out = record { ends = λ s u c alike m. conflict_ends s p held sender standing u c is.numbered m (is.conflicts s u c m ∙ kept_out); fits = tt }
 
-pub write_good : (hosts : ℕ) (b : Bool) (held : Option Held) (sender : ℕ) (standing : Standing) (change : Change) → is_kept_from keeps_from_writing held sender standing ≡ false → b ≡ true
-    → Does change None never (number_of hosts held) never never never → HasRoom hosts (Good change) → AlwaysEnds hosts (Write b) held sender standing (Good change)
-write_good hosts b held sender standing change free within does room = record {
-  ends = λ s u c alike m. same_ends s (Write b) held sender standing u c hosts change tt m alike (writes_conflict s (Write b) held sender standing u c m ∙ free) (faultless b within) refl refl does;
-  fits = room;
-}
+  pub move_fails : kept ≡ false → in_range ≡ false → AlwaysEnds hosts p held sender standing (Fault (illegal 0x21 0x00))
+  move_fails free beyond = record {
+    ends = λ s u c alike m. fault_ends s p held sender standing u c (illegal 0x21 0x00) is.numbered m (is.conflicts s u c m ∙ free) (is.faults u.registry ∙ ap faulty beyond);
+    fits = tt;
+  }
+
+  pub move_goes : (change : Change) → kept ≡ false → in_range ≡ true → Does change None never (number_of hosts held) never never never → HasRoom hosts (Good change)
+      → AlwaysEnds hosts p held sender standing (Good change)
+  move_goes change free within does room = record {
+    ends = λ s u c alike m.
+        same_ends s p held sender standing u c hosts change is.numbered m alike (is.conflicts s u c m ∙ free) (is.faults u.registry ∙ ap faulty within) (is.stays s.keys u.registry) (is.tells s.keys u.registry) does;
+    fits = room;
+  }

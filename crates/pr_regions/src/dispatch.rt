@@ -9,7 +9,8 @@ ghost use Rattle.pr_regions.specs.inside.Parts.{Tell};
 
 use crate::branching::alone;
 use crate::endings::{
-    clearing, looking, preempting_all, reading, registering, releasing, reserving, writing,
+    clearing, keeps_from_reading, keeps_from_writing, looking, moving, preempting_all, registering,
+    releasing, reserving,
 };
 use crate::preempting::preempting;
 use crate::purpose::{Purpose, Standing};
@@ -53,8 +54,14 @@ fn told(
 {
     match purpose {
         Purpose::Look => alone(looking(hosts, held)),
-        Purpose::Read(in_range) => alone(reading(hosts, in_range, held, sender, standing)),
-        Purpose::Write(in_range) => alone(writing(hosts, in_range, held, sender, standing)),
+        Purpose::Read(in_range) => {
+            let is_kept = keeps_from_reading(held, sender, standing);
+            alone(moving(hosts, is_kept, in_range, held))
+        }
+        Purpose::Write(in_range) => {
+            let is_kept = keeps_from_writing(held, sender, standing);
+            alone(moving(hosts, is_kept, in_range, held))
+        }
         Purpose::Register(key) => alone(registering(hosts, key, held)),
         Purpose::Unregister => unregistering(hosts, held, sender, standing),
         Purpose::Reserve(kind) => alone(reserving(hosts, kind, held, sender, standing)),

@@ -101,8 +101,8 @@ pub(crate) fn looking(hosts: u8, held: Option<Held>) -> Ending
     Ending::Good(unchanged(hosts, held))
 }
 
-// Whether the reservation keeps the sender from reading.
-fn keeps_from_reading(held: Option<Held>, sender: u8, standing: Standing) -> bool
+/// Whether the reservation keeps the sender from reading.
+pub(crate) fn keeps_from_reading(held: Option<Held>, sender: u8, standing: Standing) -> bool
     ensures { result ≡ is_kept_from keeps_from_reading held sender standing }
 {
     let Some(held) = held else {
@@ -119,8 +119,8 @@ fn keeps_from_reading(held: Option<Held>, sender: u8, standing: Standing) -> boo
     }
 }
 
-// Whether the reservation keeps the sender from writing.
-fn keeps_from_writing(held: Option<Held>, sender: u8, standing: Standing) -> bool
+/// Whether the reservation keeps the sender from writing.
+pub(crate) fn keeps_from_writing(held: Option<Held>, sender: u8, standing: Standing) -> bool
     ensures { result ≡ is_kept_from keeps_from_writing held sender standing }
 {
     let Some(held) = held else {
@@ -133,40 +133,14 @@ fn keeps_from_writing(held: Option<Held>, sender: u8, standing: Standing) -> boo
     }
 }
 
-/// To read blocks.
-pub(crate) fn reading(
-    hosts: u8,
-    in_range: bool,
-    held: Option<Held>,
-    sender: u8,
-    standing: Standing,
-) -> Ending
+/// To read or to write blocks, from which the reservation keeps the sender or not.
+pub(crate) fn moving(hosts: u8, is_kept: bool, in_range: bool, held: Option<Held>) -> Ending
     requires few { hosts ≤ 8 }
     requires fits { IsTrue (is_reservation hosts held) }
-    ensures { AlwaysEnds hosts (Purpose.Read in_range) held sender standing result }
+    ensures reading { (sender : ℕ) (standing : Standing) → is_kept ≡ is_kept_from keeps_from_reading held sender standing → AlwaysEnds hosts (Purpose.Read in_range) held sender standing result }
+    ensures writing { (sender : ℕ) (standing : Standing) → is_kept ≡ is_kept_from keeps_from_writing held sender standing → AlwaysEnds hosts (Purpose.Write in_range) held sender standing result }
 {
-    if keeps_from_reading(held, sender, standing) {
-        Ending::Conflict
-    } else if in_range {
-        Ending::Good(unchanged(hosts, held))
-    } else {
-        Ending::Fault(illegal(0x21, 0x00))
-    }
-}
-
-/// To write blocks.
-pub(crate) fn writing(
-    hosts: u8,
-    in_range: bool,
-    held: Option<Held>,
-    sender: u8,
-    standing: Standing,
-) -> Ending
-    requires few { hosts ≤ 8 }
-    requires fits { IsTrue (is_reservation hosts held) }
-    ensures { AlwaysEnds hosts (Purpose.Write in_range) held sender standing result }
-{
-    if keeps_from_writing(held, sender, standing) {
+    if is_kept {
         Ending::Conflict
     } else if in_range {
         Ending::Good(unchanged(hosts, held))

@@ -1,27 +1,17 @@
 -- What sets of hosts and registrations contain, and that these are equal where they contain the same.
-use Rattle.std.proofs.Common.{◌≡◌, ◌↔◌, IsTrue, ℕ, zero, suc, ◌+◌, Bool, true, false, ◌==◌, ◌&&◌, ◌||◌, not, nat_lt, cond, if◌then◌else◌, Option, Some, None, is_some, refl, sym, ap, ◌∙◌, arith, add-one}
+use Rattle.std.proofs.Common.{◌≡◌, ◌↔◌, IsTrue, ℕ, zero, suc, ◌+◌, Bool, true, false, ◌==◌, ◌&&◌, ◌||◌, not, nat_lt, cond, if◌then◌else◌, Option, Some, None, is_some, refl, sym, ap, ◌∙◌, add-one}
 use Rattle.std.specs.Ordering.{nat_cmp}
 use Rattle.std.specs.Cmp.{nat_cmp_total, unsigned_tied}
 use Rattle.std.specs.FinSet as set
 use Rattle.std.specs.FinSet.{nat_cmp-IsAntisymmetric}
 use Rattle.std.specs.FinMap as map
-use Rattle.std.proofs.lemmas.Bool.Decides.{nat_tests}
+use Rattle.pr_sets.specs.Kept.{numbers_where}
+use Rattle.pr_sets.proofs.Members.{contains-numbers_where, lt-zero, lt-suc, same_at}
+pub use Rattle.pr_sets.proofs.Members.{same_numbers as same_hosts, contains-empty as contains-nobody, contains-insert, contains-remove, contains-difference, contains-union}
 use Rattle.pr_registry.specs.Hosts.{Hosts, Keys, nobody, just, is_key, hosts_in, hosts_with, without, is_empty, with_pair, map_where, hosts_where}
-
-pub same_hosts : (s t : Hosts) → ((q : ℕ) → set.contains s q ≡ set.contains t q) → s ≡ t
-same_hosts s t same = set.same_set nat_cmp_total nat_cmp-IsAntisymmetric s t same
 
 pub same_keys : (m n : Keys) → ((q : ℕ) → map.get m q ≡ map.get n q) → m ≡ n
 same_keys m n same = map.same_map nat_cmp_total nat_cmp-IsAntisymmetric m n same
-
-pub contains-nobody : (q : ℕ) → set.contains nobody q ≡ false
-contains-nobody q = set.contains-empty nat_cmp q
-
-pub contains-insert : (s : Hosts) (h q : ℕ) → set.contains (set.insert s h) q ≡ (q == h || set.contains s q)
-contains-insert s h q = set.contains-insert nat_cmp_total s h q ∙ ap (λ b. b || set.contains s q) (unsigned_tied q h)
-
-pub contains-remove : (s : Hosts) (h q : ℕ) → set.contains (set.remove s h) q ≡ (not (q == h) && set.contains s q)
-contains-remove s h q = set.contains-remove nat_cmp_total s h q ∙ ap (λ b. not b && set.contains s q) (unsigned_tied q h)
 
 pub contains-just : (h q : ℕ) → set.contains (just h) q ≡ (q == h)
 contains-just h q =
@@ -30,12 +20,6 @@ contains-just h q =
     or-false : (b : Bool) → (b || false) ≡ b
     or-false true = refl
     or-false false = refl
-
-pub contains-difference : (s t : Hosts) (q : ℕ) → set.contains (set.difference s t) q ≡ (set.contains s q && not (set.contains t q))
-contains-difference s t q = set.contains-difference nat_cmp_total s t q
-
-pub contains-union : (s t : Hosts) (q : ℕ) → set.contains (set.union s t) q ≡ (set.contains s q || set.contains t q)
-contains-union s t q = set.contains-union nat_cmp_total s t q
 
 pub get-insert : (m : Keys) (h k q : ℕ) → map.get (map.insert m h k) q ≡ (if q == h then Some k else map.get m q)
 get-insert m h k q =
@@ -46,34 +30,13 @@ get-empty q = map.get-empty nat_cmp q
 
 -- ---- a set and a map that tables give
 
-lt-zero : (q : ℕ) → nat_lt q 0 ≡ false
-lt-zero q = grind (arith, nat_tests)
-
-lt-suc : (q n : ℕ) → nat_lt q (suc n) ≡ (q == n || nat_lt q n)
-lt-suc q n = grind (arith, nat_tests)
-
-same_at : (q n : ℕ) → (q == n) ≡ true → q ≡ n
-same_at q n e = grind (arith, nat_tests)
-
-more_true : (e l x : Bool) → (e ≡ true → x ≡ true) → (e || (l && x)) ≡ ((e || l) && x)
-more_true true l x h = sym (h refl)
-more_true false l x h = refl
-
-more_false : (e l x : Bool) → (e ≡ true → x ≡ false) → (l && x) ≡ ((e || l) && x)
-more_false true true x h = refl
-more_false true false x h = sym (h refl)
-more_false false l x h = refl
+pub hosts_where-numbers_where : (n : ℕ) (p : ℕ → Bool) → hosts_where n p ≡ numbers_where n p
+unfolding hosts_where numbers_where
+hosts_where-numbers_where zero p = refl
+hosts_where-numbers_where (suc n) p = ap (λ s. if p n then set.insert s n else s) (hosts_where-numbers_where n p)
 
 pub contains-hosts_where : (n : ℕ) (p : ℕ → Bool) (q : ℕ) → set.contains (hosts_where n p) q ≡ (nat_lt q n && p q)
-unfolding hosts_where
-contains-hosts_where zero p q = contains-nobody q ∙ ap (λ b. b && p q) (sym (lt-zero q))
-contains-hosts_where (suc n) p q =
-    elim (p n) as (λ b. p n ≡ b → set.contains (if b then set.insert (hosts_where n p) n else hosts_where n p) q ≡ (nat_lt q (suc n) && p q)) [
-      | true ↦ λ is. contains-insert (hosts_where n p) n q ∙ ap (λ b. q == n || b) (contains-hosts_where n p q)
-          ∙ more_true (q == n) (nat_lt q n) (p q) (λ e. ap p (same_at q n e) ∙ is) ∙ ap (λ b. b && p q) (sym (lt-suc q n))
-      | false ↦ λ is. contains-hosts_where n p q
-          ∙ more_false (q == n) (nat_lt q n) (p q) (λ e. ap p (same_at q n e) ∙ is) ∙ ap (λ b. b && p q) (sym (lt-suc q n))
-    ] refl
+contains-hosts_where n p q = ap (λ s. set.contains s q) (hosts_where-numbers_where n p) ∙ contains-numbers_where n p q
 
 -- one more place
 pub hosts_where-more : (n : ℕ) (p : ℕ → Bool) → hosts_where (n + 1) p ≡ (if p n then set.insert (hosts_where n p) n else hosts_where n p)

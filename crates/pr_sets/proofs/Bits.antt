@@ -1,89 +1,28 @@
 -- A set of numbers as the bits of a word.
-use Rattle.std.proofs.Common.{◌≡◌, ◌≢◌, ◌⊎◌, inl, inr, ℕ, ◌+◌, ◌-◌, ◌*◌, ◌/◌, ◌%◌, ◌^◌, ◌<◌, ◌≤◌, Bool, true, false, ◌==◌, ◌&&◌, ◌||◌, nat_lt, min, max, w64, refl, sym, ap, ◌∙◌, lit<, arith, bit_or, bit_and}
+use Rattle.std.proofs.Common.{◌≡◌, ℕ, ◌+◌, ◌-◌, ◌/◌, ◌%◌, ◌^◌, ◌<◌, ◌≤◌, Bool, true, false, ◌==◌, nat_lt, min, w64, refl, sym, ap, ◌∙◌, lit<, arith, bit_and}
 use Rattle.std.specs.Int.{bit_at, bit_not, trailing_zeros}
-use Rattle.std.specs.FinSet as set
 use Rattle.std.proofs.lemmas.Bool.{and_parts}
-use Rattle.std.proofs.lemmas.Bool.Decides.{nat_tests, eqb_tells}
+use Rattle.std.proofs.lemmas.Bool.Decides.{nat_tests}
 use Rattle.std.proofs.lemmas.Nat.{pow-add}
-use Rattle.std.proofs.lemmas.Nat.Bits.{bit_at_or, bit_at_and, bit_at_not, bit_at_set_same, bit_at_set_other, bit_at-zero, bit_at-lt, bit_at_above, bit_at-trailing_zeros, same_from_bits_below, shr_and_one}
+use Rattle.std.proofs.lemmas.Nat.Bits.{bit_at_and, bit_at_not, bit_at-zero, bit_at-lt, bit_at_above, bit_at-trailing_zeros, same_from_bits_below}
 use Rattle.std.proofs.Math.Nat.{div-div-eq-div-mul}
 use Rattle.pr_sets.specs.Numbers.{Has, Within, IsNext, HasNoneFrom}
 use Rattle.pr_sets.specs.Kept.{numbers_of_bits}
-use Rattle.pr_sets.proofs.Members.{same_numbers, contains-empty, contains-insert, contains-union, contains-numbers_where}
-
-contains-bits : (bits q : ℕ) → set.contains (numbers_of_bits bits) q ≡ (nat_lt q 64 && (bit_at bits q == 1))
-contains-bits bits q = contains-numbers_where 64 (λ n. bit_at bits n == 1) q
+use Rattle.pr_sets.proofs.Placed.{below_from, zero_from, contains-placed, contains-placed_below, contains-placed_clear}
 
 -- ---- one place and one bit
-
-lt_true : (a b : ℕ) → a < b → nat_lt a b ≡ true
-lt_true a b h = grind (arith, nat_tests)
-
-below_from : (a b : ℕ) → nat_lt a b ≡ true → a < b
-below_from a b is = grind (arith, nat_tests)
 
 one_from : (n : ℕ) → (n == 1) ≡ true → n ≡ 1
 one_from n is = grind (arith, nat_tests)
 
-zero_from : (n : ℕ) → n < 2 → (n == 1) ≡ false → n ≡ 0
-zero_from n few is = grind (arith, nat_tests)
-
 is_small : (bits q : ℕ) → Has (numbers_of_bits bits) q → q < 64
-is_small bits q there = below_from q 64 (and_parts (nat_lt q 64) (bit_at bits q == 1) (sym (contains-bits bits q) ∙ there)).0
+is_small bits q there = below_from q 64 (and_parts (nat_lt q 64) (bit_at bits q == 1) (sym (contains-placed w64 bits q) ∙ there)).0
 
 bit_of : (bits q : ℕ) → Has (numbers_of_bits bits) q → bit_at bits q ≡ 1
-bit_of bits q there = one_from (bit_at bits q) (and_parts (nat_lt q 64) (bit_at bits q == 1) (sym (contains-bits bits q) ∙ there)).1
-
-contains-bit : (bits q : ℕ) → q < 64 → set.contains (numbers_of_bits bits) q ≡ (bit_at bits q == 1)
-contains-bit bits q small = contains-bits bits q ∙ ap (λ b. b && (bit_at bits q == 1)) (lt_true q 64 small)
+bit_of bits q there = one_from (bit_at bits q) (and_parts (nat_lt q 64) (bit_at bits q == 1) (sym (contains-placed w64 bits q) ∙ there)).1
 
 has_bit : (bits q : ℕ) → q < 64 → bit_at bits q ≡ 1 → Has (numbers_of_bits bits) q
-has_bit bits q small is = contains-bit bits q small ∙ ap (λ n. n == 1) is
-
-has_no_bit : (bits q : ℕ) → bit_at bits q ≡ 0 → set.contains (numbers_of_bits bits) q ≡ false
-has_no_bit bits q is = contains-bits bits q ∙ ap (λ n. nat_lt q 64 && (n == 1)) is ∙ none (nat_lt q 64)
-  where
-    none : (b : Bool) → (b && false) ≡ false
-    none true = refl
-    none false = refl
-
-pub tested_bit : (bits q : ℕ) → q < 64 → (bit_and (bits / 2 ^ q) 1 == 1) ≡ set.contains (numbers_of_bits bits) q
-tested_bit bits q small = ap (λ n. n == 1) (shr_and_one bits q) ∙ sym (contains-bit bits q small)
-
--- ---- one more, and all of another
-
-pub bits-insert : (bits n : ℕ) → n < 64 → numbers_of_bits (bit_or bits (1 * 2 ^ n % 2 ^ 64)) ≡ set.insert (numbers_of_bits bits) n
-bits-insert bits n small =
-    same_numbers _ _ (λ q. contains-bits (bit_or bits (1 * 2 ^ n % 2 ^ 64)) q ∙ at q (eqb_tells q n)
-    ∙ ap (λ b. q == n || b) (sym (contains-bits bits q)) ∙ sym (contains-insert (numbers_of_bits bits) n q))
-  where
-    at : (q : ℕ) → (((q == n) ≡ true) × (q ≡ n)) ⊎ (((q == n) ≡ false) × (q ≢ n))
-        → (nat_lt q 64 && (bit_at (bit_or bits (1 * 2 ^ n % 2 ^ 64)) q == 1)) ≡ (q == n || (nat_lt q 64 && (bit_at bits q == 1)))
-    at q (inl same) = rw same.0 (rw same.1 (rw (lt_true n 64 small) (ap (λ m. m == 1) (bit_at_set_same w64 bits n small))))
-    at q (inr other) = rw other.0 (ap (λ m. nat_lt q 64 && (m == 1)) (bit_at_set_other w64 bits n small q other.1))
-
-pub bits-union : (a b : ℕ) → numbers_of_bits (bit_or a b) ≡ set.union (numbers_of_bits a) (numbers_of_bits b)
-bits-union a b =
-    same_numbers _ _ (λ q. contains-bits (bit_or a b) q ∙ ap (λ m. nat_lt q 64 && (m == 1)) (bit_at_or a b q)
-    ∙ either (nat_lt q 64) (bit_at a q) (bit_at b q) (bit_at-lt a q) (bit_at-lt b q)
-    ∙ (λ i. sym (contains-bits a q) i || sym (contains-bits b q) i) ∙ sym (contains-union (numbers_of_bits a) (numbers_of_bits b) q))
-  where
-    one_of : (x y : ℕ) → x < 2 → y < 2 → (max x y == 1) ≡ ((x == 1) || (y == 1))
-    one_of x y few also = grind (arith, nat_tests)
-
-    either : (l : Bool) (x y : ℕ) → x < 2 → y < 2 → (l && (max x y == 1)) ≡ ((l && (x == 1)) || (l && (y == 1)))
-    either true x y few also = one_of x y few also
-    either false x y few also = refl
-
--- ---- none at all
-
-pub bits-zero : numbers_of_bits 0 ≡ set.empty
-bits-zero = same_numbers _ _ (λ q. has_no_bit 0 q (bit_at-zero q) ∙ sym (contains-empty q))
-
-pub zero_from_empty : (bits : ℕ) → bits < 2 ^ 64 → numbers_of_bits bits ≡ set.empty → bits ≡ 0
-zero_from_empty bits fits none =
-    same_from_bits_below 64 bits 0 fits (lit< tt) (λ q small. zero_from (bit_at bits q) (bit_at-lt bits q)
-    (sym (contains-bit bits q small) ∙ ap (λ s. set.contains s q) none ∙ contains-empty q) ∙ sym (bit_at-zero q))
+has_bit bits q small is = contains-placed_below w64 bits q small ∙ ap (λ n. n == 1) is
 
 -- ---- inclusion
 
@@ -111,7 +50,7 @@ none_left_from_within a b fits left_fits within =
     neither x y none = omega arith
 
     at : (q : ℕ) → q < 64 → (t : Bool) → (bit_at a q == 1) ≡ t → min (bit_at a q) (1 - bit_at b q) ≡ 0
-    at q small true is = both (bit_at a q) (bit_at b q) (bit_of b q (within q (contains-bit a q small ∙ is)))
+    at q small true is = both (bit_at a q) (bit_at b q) (bit_of b q (within q (contains-placed_below w64 a q small ∙ is)))
     at q small false is = neither (bit_at a q) (bit_at b q) (zero_from (bit_at a q) (bit_at-lt a q) is)
 
 -- ---- the least from a number on
@@ -126,7 +65,7 @@ bit_from bits from m late = let is : m ≡ from + (m - from) = omega arith in ap
 
 pub none_from_zero : (bits from : ℕ) → bits / 2 ^ from ≡ 0 → HasNoneFrom (numbers_of_bits bits) from
 none_from_zero bits from rest m late =
-    has_no_bit bits m (bit_from bits from m late ∙ ap (λ n. bit_at n (m - from)) rest ∙ bit_at-zero (m - from))
+    contains-placed_clear w64 bits m (bit_from bits from m late ∙ ap (λ n. bit_at n (m - from)) rest ∙ bit_at-zero (m - from))
 
 -- a word has no bit from 64 on
 place_of_bit : (bits q : ℕ) → bits < 2 ^ 64 → bit_at bits q ≡ 1 → q < 64

@@ -1,5 +1,6 @@
 pub mod Words
 pub mod Members
+pub mod Placed
 pub mod Bits
 pub mod Lists
 pub mod Lattice

@@ -1,5 +1,5 @@
 -- What sets of numbers contain, and that they are equal where they contain the same.
-use Rattle.std.proofs.Common.{◌≡◌, ◌≢◌, ◌⊎◌, inl, inr, ℕ, zero, suc, ◌<◌, Bool, true, false, ◌==◌, ◌&&◌, ◌||◌, nat_lt, if◌then◌else◌, refl, sym, ap, ◌∙◌, arith}
+use Rattle.std.proofs.Common.{◌≡◌, ◌≢◌, ◌⊎◌, inl, inr, ℕ, zero, suc, ◌<◌, Bool, true, false, ◌==◌, ◌&&◌, ◌||◌, not, nat_lt, if◌then◌else◌, refl, sym, ap, ◌∙◌, arith}
 use Rattle.std.specs.Ordering.{nat_cmp}
 use Rattle.std.specs.Cmp.{nat_cmp_total, unsigned_tied, both_ways}
 use Rattle.std.specs.FinSet as set
@@ -19,6 +19,12 @@ contains-empty q = set.contains-empty nat_cmp q
 
 pub contains-insert : (s : Numbers) (n q : ℕ) → set.contains (set.insert s n) q ≡ (q == n || set.contains s q)
 contains-insert s n q = set.contains-insert nat_cmp_total s n q ∙ ap (λ b. b || set.contains s q) (unsigned_tied q n)
+
+pub contains-remove : (s : Numbers) (n q : ℕ) → set.contains (set.remove s n) q ≡ (not (q == n) && set.contains s q)
+contains-remove s n q = set.contains-remove nat_cmp_total s n q ∙ ap (λ b. not b && set.contains s q) (unsigned_tied q n)
+
+pub contains-difference : (s t : Numbers) (q : ℕ) → set.contains (set.difference s t) q ≡ (set.contains s q && not (set.contains t q))
+contains-difference s t q = set.contains-difference nat_cmp_total s t q
 
 pub contains-union : (s t : Numbers) (q : ℕ) → set.contains (set.union s t) q ≡ (set.contains s q || set.contains t q)
 contains-union s t q = set.contains-union nat_cmp_total s t q
@@ -89,13 +95,13 @@ AllBelow-union size s t below also q there =
 
 -- ---- the numbers that pass a test
 
-lt-zero : (q : ℕ) → nat_lt q 0 ≡ false
+pub lt-zero : (q : ℕ) → nat_lt q 0 ≡ false
 lt-zero q = grind (arith, nat_tests)
 
-lt-suc : (q n : ℕ) → nat_lt q (suc n) ≡ (q == n || nat_lt q n)
+pub lt-suc : (q n : ℕ) → nat_lt q (suc n) ≡ (q == n || nat_lt q n)
 lt-suc q n = grind (arith, nat_tests)
 
-same_at : (q n : ℕ) → (q == n) ≡ true → q ≡ n
+pub same_at : (q n : ℕ) → (q == n) ≡ true → q ≡ n
 same_at q n e = grind (arith, nat_tests)
 
 more_true : (e l x : Bool) → (e ≡ true → x ≡ true) → (e || (l && x)) ≡ ((e || l) && x)

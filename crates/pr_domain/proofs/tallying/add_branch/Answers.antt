@@ -1,4 +1,4 @@
-use Rattle.std.proofs.Common.{◌≡◌, ◌+◌, ℕ, suc, arith}
+use Rattle.std.proofs.Common.{◌≡◌, ◌+◌, suc, arith}
 use Rattle.pr_domain.proofs.Leaving.{leaf_conflict, leaf_fault, leaf_good}
 use Rattle.pr_domain.proofs.tallying.add_branch.Goals as goal
 

@@ -1,4 +1,4 @@
-use Rattle.std.proofs.Common.{◌≡◌, ◌+◌, ◌<◌, length, sym, ap, ◌∙◌, subst, arith}
+use Rattle.std.proofs.Common.{◌+◌, sym, ap, ◌∙◌, subst, arith}
 use Rattle.pr_sets.specs.Words.{has}
 use Rattle.pr_views.specs.Portions.{has_at, view_in}
 use Rattle.pr_views.proofs.Places.{holds_at-get_or}

@@ -1,4 +1,4 @@
-use Rattle.std.proofs.Common.{◌≡◌, ℕ, ◌||◌, false, true, length, sym, ap, ◌∙◌, subst}
+use Rattle.std.proofs.Common.{ℕ, length, sym, ap, ◌∙◌, subst}
 use Rattle.std.specs.List.{Contains, All}
 use Rattle.std.proofs.lemmas.List.Elements.{All-contains}
 use Rattle.pr_views.specs.Possibilities.{key_at}
@@ -6,7 +6,7 @@ use Rattle.pr_views.specs.Portions.{view_in}
 use Rattle.pr_regions.specs.declared.region.Reading.{Reading}
 use Rattle.pr_regions.specs.Purposes.{is_refused, purpose_of}
 use Rattle.pr_regions.specs.Readings.{AreReadings, IsProperReading}
-use Rattle.pr_domain.specs.inside.Tallies.{HasBoth, IsReadFirst, IsAsked}
+use Rattle.pr_domain.specs.inside.Tallies.{HasBoth, IsReadFirst}
 use Rattle.pr_domain.proofs.DataTaken.{right_readings, readings_cover, arm_taken}
 use Rattle.pr_domain.proofs.Growing.{grows_as}
 use Rattle.pr_domain.proofs.tallying.add_registration.Goals as goal

@@ -5,10 +5,10 @@ pub returns-in-Look : goal.returns-in-Look
 returns-in-Look c = rw c.in-Look.is (c.alone.ensures c.args.hosts Look c.args.held c.args.sender c.args.standing (c.looking.ensures c.args.sender c.args.standing))
 
 pub returns-in-Read : goal.returns-in-Read
-returns-in-Read c = rw c.in-Read.is (c.alone-in-Read.ensures c.args.hosts (Read c.in-Read.in_range) c.args.held c.args.sender c.args.standing c.reading.ensures)
+returns-in-Read c = rw c.in-Read.is (c.alone-in-Read.ensures c.args.hosts (Read c.in-Read.in_range) c.args.held c.args.sender c.args.standing (c.moving.ensures.reading c.args.sender c.args.standing c.keeps_from_reading-is_kept.ensures))
 
 pub returns-in-Write : goal.returns-in-Write
-returns-in-Write c = rw c.in-Write.is (c.alone-in-Write.ensures c.args.hosts (Write c.in-Write.in_range) c.args.held c.args.sender c.args.standing c.writing.ensures)
+returns-in-Write c = rw c.in-Write.is (c.alone-in-Write.ensures c.args.hosts (Write c.in-Write.in_range) c.args.held c.args.sender c.args.standing (c.moving-in-Write.ensures.writing c.args.sender c.args.standing c.keeps_from_writing-is_kept.ensures))
 
 pub returns-in-Register : goal.returns-in-Register
 returns-in-Register c = rw c.in-Register.is (c.alone-in-Register.ensures c.args.hosts (Register c.in-Register.key) c.args.held c.args.sender c.args.standing (c.registering.ensures c.args.sender c.args.standing))
