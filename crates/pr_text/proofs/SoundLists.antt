@@ -23,10 +23,11 @@ use Rattle.pr_roles.specs.declared.role.Action.TheVariants as action
 use Rattle.pr_roles.specs.declared.role.Clause.{Clause}
 use Rattle.pr_roles.specs.Fitting.{are_distinct, are_reservations, is_reservation, is_action, is_role, is_alternative, is_start}
 use Rattle.pr_text.specs.ScriptLines.{ScriptLine, send_at, arm_on, block_done, repeat_of, break_out, stop_with}
-use Rattle.pr_text.specs.ScriptSteps.{awaits_arm}
+use Rattle.pr_text.specs.Standing.{awaits_arm}
 use Rattle.pr_text.specs.Declarations.{Opening, repeating, sending, WrittenTask, scripted, planned, Declaration, outside, Declared}
 use Rattle.pr_text.specs.Items.{Wanted, nobody, single, everybody}
-use Rattle.pr_text.specs.Declaring.{declared_keys, number_of, keys_placed, nexus_placed, held_of, helds_onto, reservations_at, reservation_placed}
+use Rattle.pr_text.specs.Declaring.{declared_keys, number_of, held_of, helds_onto}
+use Rattle.pr_text.specs.inside.Chains.{keys_placed, nexus_placed, reservations_at, reservation_placed}
 use Rattle.pr_text.specs.Texts.{start_of, reservations_of}
 use Rattle.pr_text.specs.inside.Sound.{Reached, at_first, may, may_arm, may_all, next, IsTask, IsDeclaration, AreDeclarations, IsPlace, IsSound}
 use Rattle.pr_text.proofs.ItemTerms.{is_key, is_wanted}

@@ -1,3 +1,4 @@
+pub mod Chains
 pub mod Drafts
 pub mod ItemValues
 pub mod OpenScripts
