@@ -3,6 +3,7 @@ pub mod ReadBytes
 pub mod NumberRoom
 pub mod NameText
 pub mod Steps
+pub mod Lists
 pub mod LineOrder
 pub mod OpenLines
 pub mod Drafts

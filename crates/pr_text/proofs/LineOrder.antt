@@ -14,7 +14,8 @@ use Rattle.pr_text.specs.declared.fault.ReadError.{ReadError}
 use Rattle.pr_text.specs.declared.fault.Which.TheVariants as which
 use Rattle.pr_text.specs.declared.fault.ReadError.TheVariants as fault
 use Rattle.pr_text.specs.Declarations.{Declaration, Opening, repeating, sending, OpenLines, Place, before_all, outside, in_script, in_plan, Declared}
-use Rattle.pr_text.specs.Declaring.{declared_keys, number_of, are_codes_distinct, helds_onto, is_spelled, is_test_declared}
+use Rattle.pr_text.specs.Chain.{each}
+use Rattle.pr_text.specs.Declaring.{declared_keys, number_of, are_codes_distinct, held_of, is_spelled, is_test_declared}
 use Rattle.pr_text.specs.Faults.{and_then, unless}
 use Rattle.pr_text.specs.Items.{Wanted, Item, fence_line, keys_line, host_line, guest_line, start_line, pending_line, reservation_line, generation_line, role_line, script_line, plan_line, end_line, send_line, on_line, done_line, repeat_line, break_line, stop_line, command_line}
 use Rattle.pr_text.specs.Placing.{with_more, opening, stating, closing, item_placed}
@@ -82,9 +83,9 @@ pending_same n name xs d = by_number (number_of d.nexuses name) refl
 
 reservation_same : (n : ℕ) (ws : List Wanted) (d : Declared) → item_placed n (reservation_line ws) (at_place d outside) ≡ reservation_placed n ws (at_place d outside)
 unfolding item_placed reservation_placed
-reservation_same n ws d = by_helds (helds_onto d.nexuses [] ws) refl
+reservation_same n ws d = by_helds (each (held_of d.nexuses) ws) refl
   where
-    by_helds : (o : Option (List (Option Held))) → helds_onto d.nexuses [] ws ≡ o → item_placed n (reservation_line ws) (at_place d outside) ≡ reservation_placed n ws (at_place d outside)
+    by_helds : (o : Option (List (Option Held))) → each (held_of d.nexuses) ws ≡ o → item_placed n (reservation_line ws) (at_place d outside) ≡ reservation_placed n ws (at_place d outside)
     by_helds None is = rw is refl
     by_helds (Some vs) is = rw is (first (is_some d.reservations || not (are_distinct is_same_reservation vs)) _ None _)
 

@@ -13,10 +13,10 @@ use Rattle.pr_roles.specs.Scenarios.{Nexus, Task, Scripted, Planned}
 use Rattle.pr_roles.specs.Starts.{first_under}
 use Rattle.pr_roles.specs.Fitting.{AreDeclared, are_distinct, is_nexus, is_reservation, is_same_reservation}
 use Rattle.pr_roles.proofs.Allowed.{start_found}
-use Rattle.pr_text.specs.Chain.{◌>>=◌}
+use Rattle.pr_text.specs.Chain.{each}
 use Rattle.pr_text.specs.Items.{fence_line, keys_line, generation_line, reservation_line}
 use Rattle.pr_text.specs.Declarations.{Declaration, outside, nothing}
-use Rattle.pr_text.specs.Declaring.{number_of, held_of, helds_onto}
+use Rattle.pr_text.specs.Declaring.{number_of, held_of}
 use Rattle.pr_text.specs.inside.Chains.{keys_placed, nexus_placed, reservation_placed, generation_placed, item_taken}
 use Rattle.pr_text.specs.Texts.{start_of, first_unscripted, ended}
 use Rattle.pr_text.specs.Readings.{nexus_written, nexus_declared}
@@ -137,19 +137,18 @@ held_goes n ns (Some (One kind h)) apart few fits =
     ap (λ o. option_map (λ m. Some (One kind m)) o) (number_at n [] ns h apart (omega arith) below) ∙ ap (λ m. Some (Some (One kind m))) (omega arith)
 held_goes n ns (Some (Everybody kind)) apart few h = refl
 
-helds_go : (n : ℕ) (ns : List Nexus) (done vs : List (Option Held)) → are_distinct bytes_eq (named ns) ≡ true → length ns ≤ 8 → list_all (is_reservation (length ns)) vs ≡ true
-    → helds_onto (map (bare n) ns) done (map (wanted_by ns) vs) ≡ Some (done ++ vs)
-helds_go n ns done [] apart few fits = ap (λ l. Some l) (sym (append-nil done))
-helds_go n ns done (v ∷ vs) apart few fits =
+helds_go : (n : ℕ) (ns : List Nexus) (vs : List (Option Held)) → are_distinct bytes_eq (named ns) ≡ true → length ns ≤ 8 → list_all (is_reservation (length ns)) vs ≡ true
+    → each (held_of (map (bare n) ns)) (map (wanted_by ns) vs) ≡ Some vs
+helds_go n ns [] apart few fits = refl
+helds_go n ns (v ∷ vs) apart few fits =
     let parts = and_parts (is_reservation (length ns) v) _ fits in
-    ap (λ o. o >>= (λ w. helds_onto (map (bare n) ns) (done ++ w ∷ []) (map (wanted_by ns) vs))) (held_goes n ns v apart few parts.0)
-    ∙ (helds_go n ns (done ++ v ∷ []) vs apart few parts.1 ∙ ap (λ l. Some l) (append_assoc done (v ∷ []) vs))
+    rw (held_goes n ns v apart few parts.0, helds_go n ns vs apart few parts.1) refl
 
 reservation_goes : (n : ℕ) (keys : Option (List ℕ)) (g : Option ℕ) (ns : List Nexus) (vs : List (Option Held)) → are_distinct bytes_eq (named ns) ≡ true → length ns ≤ 8
     → list_all (is_reservation (length ns)) vs ≡ true → are_distinct is_same_reservation vs ≡ true
     → item_taken n (reservation_line (map (wanted_by ns) vs)) (placed keys None g (map (bare n) ns) outside) ≡ Ok (placed keys (Some vs) g (map (bare n) ns) outside)
 unfolding item_taken reservation_placed
-reservation_goes n keys g ns vs apart few fits once = rw (helds_go n ns [] vs apart few fits, once) refl
+reservation_goes n keys g ns vs apart few fits once = rw (helds_go n ns vs apart few fits, once) refl
 
 -- ---- the end
 

@@ -1,6 +1,6 @@
 -- Agrees with docs/FORMATS.md, 'The lines of a scenario'.
 -- What the names and keys of the next line mean, by what is declared before it.
-use Rattle.std.specs.Prelude.{ℕ, List, Option, if◌then◌else◌, [], ◌∷◌, bytes_eq, Some, None, option_map, Bool, ◌&&◌, unwrap_or, false, ◌==◌, nat_lt, ◌++◌, position, fold, true}
+use Rattle.std.specs.Prelude.{ℕ, List, Option, if◌then◌else◌, [], bytes_eq, Some, None, option_map, Bool, ◌&&◌, unwrap_or, false, ◌==◌, nat_lt, position, fold, true}
 use Rattle.std.specs.Option.{option_map_or}
 use Rattle.std.specs.List.{slice_get}
 use Rattle.std.specs.FinSet as set
@@ -44,10 +44,6 @@ abbrev pub held_of : List Declaration → Wanted → Option (Option Held)
 held_of nexuses nobody = Some None
 held_of nexuses (single kind name) = option_map (λ h. Some (One kind h)) (number_of nexuses name)
 held_of nexuses (everybody kind) = Some (Some (Everybody kind))
-
-abbrev pub helds_onto : List Declaration → List (Option Held) → List Wanted → Option (List (Option Held))
-helds_onto nexuses vs [] = Some vs
-helds_onto nexuses vs (w ∷ ws) = held_of nexuses w >>= λ v. helds_onto nexuses (vs ++ v ∷ []) ws
 
 -- the command may stand in a script or plan, and the keys that it drops are declared too
 abbrev pub is_spelled : List ℕ → Spelled → Bool

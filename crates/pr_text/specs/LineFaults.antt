@@ -8,7 +8,8 @@ use Rattle.pr_text.specs.declared.fault.ReadError.{ReadError}
 use Rattle.pr_text.specs.declared.fault.Which.TheVariants as which
 use Rattle.pr_text.specs.declared.fault.ReadError.TheVariants as fault
 use Rattle.pr_text.specs.Declarations.{Opening, Declared}
-use Rattle.pr_text.specs.Declaring.{declared_keys, number_of, named, holds_of, are_codes_distinct, helds_onto, is_spelled, is_test_declared}
+use Rattle.pr_text.specs.Chain.{each}
+use Rattle.pr_text.specs.Declaring.{declared_keys, number_of, named, holds_of, are_codes_distinct, held_of, is_spelled, is_test_declared}
 use Rattle.pr_text.specs.Items.{Item, fence_line, keys_line, host_line, guest_line, start_line, pending_line, reservation_line, generation_line, role_line, script_line, plan_line, end_line, send_line, on_line, done_line, repeat_line, break_line, stop_line, command_line}
 use Rattle.pr_text.specs.Standing.{is_before_all, is_outside, of_plan, of_script, of_send, is_repeating, is_sending, awaits_arm, awaits_more, may_close, stands_under}
 
@@ -42,7 +43,7 @@ names_unknown d (host_line name) = false
 names_unknown d (guest_line name) = false
 names_unknown d (start_line name xs) = is_none (named d name)
 names_unknown d (pending_line name xs) = is_none (named d name)
-names_unknown d (reservation_line ws) = is_none (helds_onto d.nexuses [] ws)
+names_unknown d (reservation_line ws) = is_none (each (held_of d.nexuses) ws)
 names_unknown d (generation_line g) = false
 names_unknown d (role_line name clause) = is_none (named d name)
 names_unknown d (script_line name budget) = not (holds_of d name (λ x. not x.is_guest))
@@ -86,7 +87,7 @@ says_again d (host_line name) = is_some (number_of d.nexuses name)
 says_again d (guest_line name) = is_some (number_of d.nexuses name)
 says_again d (start_line name xs) = holds_of d name (λ x. is_some x.start) || not (are_distinct is_same_alternative xs)
 says_again d (pending_line name xs) = holds_of d name (λ x. is_some x.pending) || not (are_codes_distinct xs)
-says_again d (reservation_line ws) = is_some d.reservations || not (are_distinct is_same_reservation (unwrap_or (helds_onto d.nexuses [] ws) []))
+says_again d (reservation_line ws) = is_some d.reservations || not (are_distinct is_same_reservation (unwrap_or (each (held_of d.nexuses) ws) []))
 says_again d (generation_line g) = is_some d.generation
 says_again d (role_line name clause) = false
 says_again d (script_line name budget) = holds_of d name (λ x. is_some x.task)

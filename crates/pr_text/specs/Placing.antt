@@ -6,7 +6,8 @@ use Rattle.std.specs.List.{slice_get}
 use Rattle.pr_script.specs.declared.script.Test.{Test}
 use Rattle.pr_text.specs.declared.fault.ReadError.{ReadError}
 use Rattle.pr_text.specs.Declarations.{WrittenTask, scripted, planned, Declaration, Opening, repeating, sending, OpenLines, outside, in_script, in_plan, Declared}
-use Rattle.pr_text.specs.Declaring.{number_of, codes_of, helds_onto}
+use Rattle.pr_text.specs.Chain.{each}
+use Rattle.pr_text.specs.Declaring.{number_of, codes_of, held_of}
 use Rattle.pr_text.specs.Faults.{unless}
 use Rattle.pr_text.specs.Items.{Item, fence_line, keys_line, host_line, guest_line, start_line, pending_line, reservation_line, generation_line, role_line, script_line, plan_line, end_line, send_line, on_line, done_line, repeat_line, break_line, stop_line, command_line}
 use Rattle.pr_text.specs.LineFaults.{fault_at}
@@ -71,7 +72,7 @@ with_line n d (host_line name) = with_more n false name d
 with_line n d (guest_line name) = with_more n true name d
 with_line n d (start_line name xs) = with_named d name (λ x. record x { start = Some xs })
 with_line n d (pending_line name xs) = with_named d name (λ x. record x { pending = Some (codes_of xs) })
-with_line n d (reservation_line ws) = record d { reservations = helds_onto d.nexuses [] ws }
+with_line n d (reservation_line ws) = record d { reservations = each (held_of d.nexuses) ws }
 with_line n d (generation_line g) = record d { generation = Some g }
 with_line n d (role_line name clause) = with_named d name (λ x. record x { role = x.role ++ clause ∷ [] })
 with_line n d (script_line name budget) = option_map_or (λ h. record d { place = in_script (begun_script h budget) }) (number_of d.nexuses name) d

@@ -58,7 +58,8 @@ impl Builder {
     ghost use Rattle.pr_text.specs.Faults.{Gives};
     ghost use Rattle.pr_text.specs.inside.ItemValues.{seen, wanted_seen};
     ghost use Rattle.pr_text.specs.Declarations.{nothing};
-    ghost use Rattle.pr_text.specs.Declaring.{declared_keys, number_of, held_of, helds_onto};
+    ghost use Rattle.pr_text.specs.Declaring.{declared_keys, number_of, held_of};
+    ghost use Rattle.pr_text.specs.Chain.{each};
     ghost use Rattle.pr_text.specs.inside.Chains.{keys_placed, nexus_placed, start_placed, pending_placed, reservation_placed, generation_placed, role_placed, script_placed, plan_placed};
     ghost use Rattle.pr_text.specs.inside.Drafts.{draft_seen, task_seen, declared_by};
     ghost use Rattle.pr_text.specs.inside.OpenScripts.{open_seen};
@@ -390,12 +391,13 @@ impl Builder {
     }
 
     // The reservations, if the holders are declared.
+    #[tactic(auto, using(crate::proofs::Lists::each_same))]
     fn reservations_of(
         &self,
         alloc: Global,
         wanted: &[Wanted],
     ) -> Result<Option<Vec<Option<Held>>>, AllocError>
-        ensures { IfOk result (λ vs. option_map (λ v. v.items) vs ≡ helds_onto (map draft_seen self.now.nexuses.items) [] (map wanted_seen wanted.now)) }
+        ensures { IfOk result (λ vs. option_map (λ v. v.items) vs ≡ each (held_of (map draft_seen self.now.nexuses.items)) (map wanted_seen wanted.now)) }
     {
         let mut reservations = Vec::new(alloc);
         let mut rest = wanted;

@@ -12,7 +12,8 @@ use Rattle.pr_text.specs.declared.fault.ReadError.{ReadError}
 use Rattle.pr_text.specs.declared.fault.Which.TheVariants as which
 use Rattle.pr_text.specs.declared.fault.ReadError.TheVariants as fault
 use Rattle.pr_text.specs.Declarations.{scripted, planned, Declaration, Opening, repeating, sending, OpenLines, Place, before_all, outside, in_script, in_plan, Declared}
-use Rattle.pr_text.specs.Declaring.{declared_keys, number_of, codes_of, are_codes_distinct, helds_onto, is_spelled, is_test_declared}
+use Rattle.pr_text.specs.Chain.{each}
+use Rattle.pr_text.specs.Declaring.{declared_keys, number_of, codes_of, are_codes_distinct, held_of, is_spelled, is_test_declared}
 use Rattle.pr_text.specs.Faults.{and_then, unless}
 use Rattle.pr_text.specs.Items.{Wanted, Item, fence_line, keys_line, host_line, guest_line, start_line, pending_line, reservation_line, generation_line, role_line, script_line, plan_line, end_line, send_line, on_line, done_line, repeat_line, break_line, stop_line, command_line}
 use Rattle.pr_text.specs.Placing.{with_task, begun_script, opening, stating}
@@ -77,7 +78,7 @@ reservations_at n d (Some vs) =
     Ok (record d { reservations = Some vs })
 
 unfoldable pub reservation_placed : ℕ → List Wanted → Declared → Result Declared ReadError
-reservation_placed n ws d = reservations_at n d (helds_onto d.nexuses [] ws)
+reservation_placed n ws d = reservations_at n d (each (held_of d.nexuses) ws)
 
 unfoldable pub generation_placed : ℕ → ℕ → Declared → Result Declared ReadError
 generation_placed n generation d =
