@@ -21,18 +21,19 @@ use Rattle.pr_text.specs.declared.fault.ReadError.{ReadError}
 use Rattle.pr_text.specs.Faults.{and_then}
 use Rattle.pr_text.specs.CommandWords.{keyless}
 use Rattle.pr_text.specs.Items.{Item, start_line, pending_line, role_line, script_line, plan_line, end_line, command_line}
-use Rattle.pr_text.specs.ScriptLines.{ScriptLine, send_at, arm_on, block_done, repeat_of, break_out, stop_with, body_lines}
-use Rattle.pr_text.specs.ScriptSteps.{script_step}
+use Rattle.pr_text.specs.ScriptLines.{body_lines}
+use Rattle.pr_text.specs.inside.Chains.{at_name, start_at, start_placed, pending_at, pending_placed, role_at, role_placed, script_at, script_placed, plan_at, plan_placed, planned_step, item_taken}
 use Rattle.pr_text.specs.Declarations.{Declaration, WrittenTask, scripted, planned, OpenLines, Place, outside, in_script, in_plan, Declared}
-use Rattle.pr_text.specs.Declaring.{at_name, start_at, start_placed, codes_of, are_codes_distinct, pending_at, pending_placed, role_at, role_placed, begun_script, script_at, script_placed, plan_at, plan_placed}
-use Rattle.pr_text.specs.Placing.{with_task, item_placed, planned_step}
+use Rattle.pr_text.specs.Declaring.{codes_of, are_codes_distinct}
+use Rattle.pr_text.specs.Placing.{begun_script, with_task, item_placed}
 use Rattle.pr_text.specs.Readings.{task_written}
-use Rattle.pr_text.specs.SaidLines.{said_by, numbered, all_stepped}
-use Rattle.pr_text.specs.SaidScenarios.{Line, line, all_said, attentions_in, pending_said, script_said, task_said, details_said}
+use Rattle.pr_text.specs.SaidLines.{Line, line, all_said, script_said}
+use Rattle.pr_text.specs.SaidScenarios.{attentions_in, pending_said, task_said, details_said}
 use Rattle.pr_text.proofs.Trees.{both, no_not, true_le}
 use Rattle.pr_text.proofs.SoundScripts.{or_no, no_true}
 use Rattle.pr_text.proofs.Rereading.{goes, reread}
 use Rattle.pr_text.proofs.NamesApart.{is_taken, neither, itself, number_there, element_there}
+use Rattle.pr_text.proofs.LineOrder.{in_order}
 
 -- ---- lines one after another
 
@@ -44,8 +45,8 @@ pub said_on : (ls ks : List Line) (d e : Declared) (r : Result Declared ReadErro
 said_on [] ks d e r first rest = ap (λ x. and_then x (all_said ks)) first ∙ rest
 said_on (l ∷ ls) ks d e r first rest = on_after (item_placed l.number l.item d) (all_said ls) (all_said (ls ++ ks)) e r first (λ f h. said_on ls ks f e r h rest)
 
-pub said_first : (n : ℕ) (i : Item) (ls : List Line) (d e : Declared) (r : Result Declared ReadError) → item_placed n i d ≡ Ok e → all_said ls e ≡ r → all_said (line n i ∷ ls) d ≡ r
-said_first n i ls d e r first rest = goes (item_placed n i d) e (all_said ls) first ∙ rest
+pub said_first : (n : ℕ) (i : Item) (ls : List Line) (d e : Declared) (r : Result Declared ReadError) → item_taken n i d ≡ Ok e → all_said ls e ≡ r → all_said (line n i ∷ ls) d ≡ r
+said_first n i ls d e r first rest = goes (item_placed n i d) e (all_said ls) (in_order n i d ∙ first) ∙ rest
 
 -- ---- pending attentions
 
@@ -170,16 +171,16 @@ module _ (n : ℕ) (keys : Option (List ℕ)) (vs : Option (List (Option Held)))
   found x p step it = rw (number_there before x after name free it few, element_there before x after) refl
 
   start_goes : (guest : Bool) (xs : List (Option ℕ)) → list_all (is_alternative (unwrap_or keys [])) xs ≡ true → are_distinct is_same_alternative xs ≡ true
-      → item_placed n (start_line name xs) (with (staged n name guest None None [] None) outside) ≡ Ok (with (staged n name guest (Some xs) None [] None) outside)
-  unfolding item_placed start_placed
+      → item_taken n (start_line name xs) (with (staged n name guest None None [] None) outside) ≡ Ok (with (staged n name guest (Some xs) None [] None) outside)
+  unfolding item_taken start_placed
   start_goes guest xs known once =
       let x = staged n name guest None None [] None in
       found x outside (start_at n xs (with x outside)) (itself name)
       ∙ rw (known, once, set-append_seam before x after (staged n name guest (Some xs) None [] None)) refl
 
   pending_line_goes : (guest : Bool) (s : Option (List (Option ℕ))) (xs : List Attention) (codes : Codes) → are_codes_distinct xs ≡ true → codes_of xs ≡ codes
-      → item_placed n (pending_line name xs) (with (staged n name guest s None [] None) outside) ≡ Ok (with (staged n name guest s (Some codes) [] None) outside)
-  unfolding item_placed pending_placed
+      → item_taken n (pending_line name xs) (with (staged n name guest s None [] None) outside) ≡ Ok (with (staged n name guest s (Some codes) [] None) outside)
+  unfolding item_taken pending_placed
   pending_line_goes guest s xs codes once same =
       let x = staged n name guest s None [] None in
       found x outside (pending_at n xs (with x outside)) (itself name)
@@ -192,8 +193,8 @@ module _ (n : ℕ) (keys : Option (List ℕ)) (vs : Option (List (Option Held)))
       said_first n (pending_line name (a ∷ xs)) [] _ (with (staged n name guest s (Some codes) [] None) outside) _ (pending_line_goes guest s (a ∷ xs) codes once same) refl
 
   role_goes : (guest : Bool) (s : Option (List (Option ℕ))) (p : Option Codes) (done : List Clause) (c : Clause) → is_action (unwrap_or keys []) c.action ≡ true → nat_le 32 (length done) ≡ false
-      → item_placed n (role_line name c) (with (staged n name guest s p done None) outside) ≡ Ok (with (staged n name guest s p (done ++ c ∷ []) None) outside)
-  unfolding item_placed role_placed
+      → item_taken n (role_line name c) (with (staged n name guest s p done None) outside) ≡ Ok (with (staged n name guest s p (done ++ c ∷ []) None) outside)
+  unfolding item_taken role_placed
   role_goes guest s p done c known short =
       let x = staged n name guest s p done None in
       found x outside (role_at n c (with x outside)) (itself name)
@@ -218,51 +219,28 @@ module _ (n : ℕ) (keys : Option (List ℕ)) (vs : Option (List (Option Held)))
   -- ---- a script
 
   script_begins : (s : Option (List (Option ℕ))) (p : Option Codes) (r : List Clause) (budget : ℕ) → (nat_le 1 budget && nat_le budget 4096) ≡ true
-      → item_placed n (script_line name budget) (with (staged n name false s p r None) outside) ≡ Ok (with (staged n name false s p r None) (in_script (begun_script (length before) budget)))
-  unfolding item_placed script_placed
+      → item_taken n (script_line name budget) (with (staged n name false s p r None) outside) ≡ Ok (with (staged n name false s p r None) (in_script (begun_script (length before) budget)))
+  unfolding item_taken script_placed
   script_begins s p r budget fits =
       let x = staged n name false s p r None in
       found x outside (script_at n budget (with x outside)) (itself name) ∙ rw fits refl
 
-  stepped : (x : Declaration) (l : ScriptLine) (o : OpenLines)
-      → item_placed (numbered n l) (said_by l) (with x (in_script o)) ≡ and_then (script_step (numbered n l) (unwrap_or keys []) (said_by l) o) (λ q. Ok (with x (in_script q)))
-  unfolding item_placed
-  stepped x (send_at m c) o = refl
-  stepped x (arm_on t) o = refl
-  stepped x block_done o = refl
-  stepped x (repeat_of count) o = refl
-  stepped x break_out o = refl
-  stepped x (stop_with word) o = refl
-
-  step_then : (x : Declaration) (r : Result OpenLines ReadError) (ls : List ScriptLine)
-      → ((o : OpenLines) → all_said (script_said n ls) (with x (in_script o)) ≡ and_then (all_stepped n (unwrap_or keys []) ls o) (λ q. Ok (with x (in_script q))))
-      → and_then (and_then r (λ q. Ok (with x (in_script q)))) (all_said (script_said n ls)) ≡ and_then (and_then r (all_stepped n (unwrap_or keys []) ls)) (λ q. Ok (with x (in_script q)))
-  step_then x (Ok q) ls rest = rest q
-  step_then x (Err e) ls rest = refl
-
-  all_step : (x : Declaration) (ls : List ScriptLine) (o : OpenLines)
-      → all_said (script_said n ls) (with x (in_script o)) ≡ and_then (all_stepped n (unwrap_or keys []) ls o) (λ q. Ok (with x (in_script q)))
-  all_step x [] o = refl
-  all_step x (l ∷ ls) o =
-      ap (λ r. and_then r (all_said (script_said n ls))) (stepped x l o)
-      ∙ step_then x (script_step (numbered n l) (unwrap_or keys []) (said_by l) o) ls (λ q. all_step x ls q)
-
-  script_ends : (x : Declaration) (o : OpenLines) → o.blocks ≡ [] → o.host ≡ length before → item_placed n end_line (with x (in_script o)) ≡ Ok (with (tasked_as (scripted o.lines o.budget) x) outside)
-  unfolding item_placed
+  script_ends : (x : Declaration) (o : OpenLines) → o.blocks ≡ [] → o.host ≡ length before → item_taken n end_line (with x (in_script o)) ≡ Ok (with (tasked_as (scripted o.lines o.budget) x) outside)
+  unfolding item_taken
   script_ends x o closed own = rw (closed, own) (ap (λ d. Ok d) (task_ends x (scripted o.lines o.budget) (in_script o)))
 
   -- ---- a plan
 
   plan_begins : (s : Option (List (Option ℕ))) (p : Option Codes) (r : List Clause)
-      → item_placed n (plan_line name) (with (staged n name true s p r None) outside) ≡ Ok (with (staged n name true s p r None) (in_plan (length before) []))
-  unfolding item_placed plan_placed
+      → item_taken n (plan_line name) (with (staged n name true s p r None) outside) ≡ Ok (with (staged n name true s p r None) (in_plan (length before) []))
+  unfolding item_taken plan_placed
   plan_begins s p r =
       let x = staged n name true s p r None in
       found x outside (plan_at n (with x outside)) (itself name)
 
   command_goes : (x : Declaration) (h : ℕ) (done : List Command) (c : Command) → is_written (unwrap_or keys []) c ≡ true → nat_le 256 (length done) ≡ false
-      → item_placed n (command_line (keyless c)) (with x (in_plan h done)) ≡ Ok (with x (in_plan h (done ++ c ∷ [])))
-  unfolding item_placed planned_step
+      → item_taken n (command_line (keyless c)) (with x (in_plan h done)) ≡ Ok (with x (in_plan h (done ++ c ∷ [])))
+  unfolding item_taken planned_step
   command_goes x h done c written short = rw (written, short) refl
 
   commands_go : (x : Declaration) (h : ℕ) (done cs : List Command) → list_all (is_written (unwrap_or keys [])) cs ≡ true → length done + length cs ≤ 256
@@ -273,8 +251,8 @@ module _ (n : ℕ) (keys : Option (List ℕ)) (vs : Option (List (Option Held)))
       said_first n (command_line (keyless c)) (map (λ d. line n (command_line (keyless d))) cs) _ _ _ (command_goes x h done c parts.0 (short_plan (length done) (length cs) short))
       (commands_go x h (done ++ c ∷ []) cs parts.1 (one_longer done c (length cs) 256 short) ∙ ap (λ l. Ok (with x (in_plan h l))) (append_assoc done (c ∷ []) cs))
 
-  plan_ends : (x : Declaration) (cs : List Command) → item_placed n end_line (with x (in_plan (length before) cs)) ≡ Ok (with (tasked_as (planned cs) x) outside)
-  unfolding item_placed
+  plan_ends : (x : Declaration) (cs : List Command) → item_taken n end_line (with x (in_plan (length before) cs)) ≡ Ok (with (tasked_as (planned cs) x) outside)
+  unfolding item_taken
   plan_ends x cs = ap (λ d. Ok d) (task_ends x (planned cs) (in_plan (length before) cs))
 
   -- ---- a task
@@ -284,10 +262,10 @@ module _ (n : ℕ) (keys : Option (List ℕ)) (vs : Option (List (Option Held)))
   task_goes (Scripted script budget) s p r h =
       let x = staged n name false s p r None in
       let parts = and_parts (script_fits (unwrap_or keys []) script) _ h in
-      let read = reread n (unwrap_or keys []) (length before) budget script parts.0 in
+      let read = reread n (with x outside) (length before) budget script parts.0 in
       said_first n (script_line name budget) (script_said n (body_lines script) ++ line n end_line ∷ []) _ _ _ (script_begins s p r budget parts.1)
       (said_on (script_said n (body_lines script)) (line n end_line ∷ []) _ (with x (in_script read.script)) _
-      (all_step x (body_lines script) (begun_script (length before) budget) ∙ goes _ read.script (λ q. Ok (with x (in_script q))) read.stepped)
+      read.stepped
       (said_first n end_line [] _ _ _ (script_ends x read.script read.closed read.host_is)
       (ap (λ t. Ok (with (tasked_as t x) outside)) (ap (λ ls. scripted ls read.script.budget) read.lines_are ∙ ap (λ m. scripted (body_lines script) m) read.budget_is))))
   task_goes (Planned commands) s p r h =

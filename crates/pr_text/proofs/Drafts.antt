@@ -9,7 +9,8 @@ use Rattle.pr_text.specs.declared.draft.Draft.{Draft}
 use Rattle.pr_text.specs.declared.fault.ReadError.{ReadError}
 use Rattle.pr_text.specs.Faults.{Fails}
 use Rattle.pr_text.specs.Declarations.{Declaration, Declared}
-use Rattle.pr_text.specs.Declaring.{declared_keys, number_of, start_fault, start_placed}
+use Rattle.pr_text.specs.Declaring.{declared_keys, number_of}
+use Rattle.pr_text.specs.inside.Chains.{start_fault, start_placed}
 use Rattle.pr_text.proofs.Steps.{fails_same}
 use Rattle.pr_text.specs.inside.Drafts.{draft_seen}
 

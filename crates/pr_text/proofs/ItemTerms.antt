@@ -1,10 +1,9 @@
 -- The terms of a line are what they are meant to be: names are names, and keys are not zero.
-use Rattle.std.specs.Prelude.{◌≡◌, ℕ, ◌+◌, ◌*◌, ◌<◌, ◌^◌, ◌==◌, Bool, true, false, cond, ◌&&◌, not, nat_lt, nat_le, List, [], ◌∷◌, ◌++◌, length, take, drop, slice_index, fold, Option, Some, None, option_map, option_and_then, IfSome, codes, bytes_eq}
+use Rattle.std.specs.Prelude.{◌≡◌, ℕ, ◌+◌, ◌*◌, ◌<◌, ◌^◌, ◌==◌, Bool, true, false, cond, ◌&&◌, not, nat_lt, nat_le, List, [], ◌∷◌, length, take, drop, slice_index, fold, Option, Some, None, option_map, option_and_then, IfSome, codes, bytes_eq}
 use Rattle.std.specs.List.{list_all}
-use Rattle.std.proofs.Common.{refl, ap, ◌∙◌, arith, lit<, length-append, add-zero, zero-add}
+use Rattle.std.proofs.Common.{refl, ap, ◌∙◌, arith, lit<, add-zero, zero-add}
 use Rattle.std.proofs.lemmas.Bool.{and_parts}
 use Rattle.std.proofs.lemmas.Bool.Decides.{nat_tests}
-use Rattle.std.proofs.lemmas.List.Folds.{list_all-append}
 use Rattle.pr_cdb.specs.declared.command.Kind.{Kind}
 use Rattle.pr_registry.specs.Registrations.{is_all}
 use Rattle.pr_script.specs.Names.{is_name}
@@ -16,7 +15,8 @@ use Rattle.pr_text.specs.TextLines.{only, is_end}
 use Rattle.pr_text.specs.WordTerms.{worth, number, digit_of, byte_of, without_prefix, hexadecimal, name_of, key_or_zero, key_of, kind_of, code_of, count_of, generation_of, sense_of}
 use Rattle.pr_text.specs.CommandWords.{spelled_of, spelled_in}
 use Rattle.pr_text.specs.Clauses.{clause_of, alone, good_of, test_of}
-use Rattle.pr_text.specs.Items.{Wanted, nobody, single, everybody, Item, keys_line, host_line, guest_line, start_line, pending_line, reservation_line, generation_line, role_line, script_line, plan_line, end_line, send_line, on_line, done_line, repeat_line, break_line, stop_line, command_line, fence_line, each_onto, listed, alternative_of, everybody_of, single_of, wanted_of, name_in, only_name, budget_in, start_said, pending_said, said_simply, said_after, said_with, item_of}
+use Rattle.pr_text.specs.Chain.{each}
+use Rattle.pr_text.specs.Items.{Wanted, nobody, single, everybody, Item, keys_line, host_line, guest_line, start_line, pending_line, reservation_line, generation_line, role_line, script_line, plan_line, end_line, send_line, on_line, done_line, repeat_line, break_line, stop_line, command_line, fence_line, listed, alternative_of, everybody_of, single_of, wanted_of, name_in, only_name, budget_in, start_said, pending_said, said_simply, said_after, said_with, item_of}
 use Rattle.pr_text.specs.Keywords.{keyword_of}
 use Rattle.pr_text.proofs.NumberRoom.{digit_more, hex_some}
 use Rattle.pr_text.proofs.Trees.{both, true_le, true_lt}
@@ -67,25 +67,24 @@ keep_if P false x h = tt
 
 -- ---- lists
 
-each_all : {A : Type 0} (p : A → Bool) (f : List ℕ → Option A) (xs : List A) (ws : List (List ℕ)) → ((w : List ℕ) → IfSome (f w) (λ a. p a ≡ true))
-    → list_all p xs ≡ true → IfSome (each_onto f xs ws) (λ ys. list_all p ys ≡ true)
-each_all p f xs [] each h = h
-each_all p f xs (w ∷ ws) each h =
-    bind_if (λ a. p a ≡ true) (λ ys. list_all p ys ≡ true) (λ x. each_onto f (xs ++ x ∷ []) ws) (f w) (each w)
-    (λ x k. each_all p f (xs ++ x ∷ []) ws each (list_all-append p xs (x ∷ []) ∙ both _ _ h (both _ _ k refl)))
+each_all : {A : Type 0} (p : A → Bool) (f : List ℕ → Option A) (ws : List (List ℕ)) → ((w : List ℕ) → IfSome (f w) (λ a. p a ≡ true)) → IfSome (each f ws) (λ ys. list_all p ys ≡ true)
+each_all p f [] sound = refl
+each_all p f (w ∷ ws) sound =
+    bind_if (λ a. p a ≡ true) (λ ys. list_all p ys ≡ true) (λ y. option_map (λ ys. y ∷ ys) (each f ws)) (f w) (sound w)
+    (λ y h. map_if (λ ys. list_all p ys ≡ true) (λ ys. list_all p ys ≡ true) (λ ys. y ∷ ys) (each f ws) (each_all p f ws sound) (λ ys k. both _ _ h k))
 
 longer : {A : Type 0} (o : Option (List A)) (n m : ℕ) → n ≡ m → IfSome o (λ ys. length ys ≡ n) → IfSome o (λ ys. length ys ≡ m)
 longer None n m e h = tt
 longer (Some ys) n m e h = h ∙ e
 
-each_long : {A : Type 0} (f : List ℕ → Option A) (xs : List A) (ws : List (List ℕ)) → IfSome (each_onto f xs ws) (λ ys. length ys ≡ length xs + length ws)
-each_long f xs [] = omega arith
-each_long f xs (w ∷ ws) =
-    bind_if (λ _. Unit {0}) (λ ys. length ys ≡ length xs + length (w ∷ ws)) (λ x. each_onto f (xs ++ x ∷ []) ws) (f w) (any_if (f w))
-    (λ x k. longer (each_onto f (xs ++ x ∷ []) ws) (length (xs ++ x ∷ []) + length ws) (length xs + length (w ∷ ws)) (omega (arith, length-append xs (x ∷ []))) (each_long f (xs ++ x ∷ []) ws))
+each_long : {A : Type 0} (f : List ℕ → Option A) (ws : List (List ℕ)) → IfSome (each f ws) (λ ys. length ys ≡ length ws)
+each_long f [] = refl
+each_long f (w ∷ ws) =
+    bind_if (λ _. Unit {0}) (λ ys. length ys ≡ length (w ∷ ws)) (λ y. option_map (λ ys. y ∷ ys) (each f ws)) (f w) (any_if (f w))
+    (λ y k. map_if (λ ys. length ys ≡ length ws) (λ ys. length ys ≡ length (w ∷ ws)) (λ ys. y ∷ ys) (each f ws) (each_long f ws) (λ ys h. omega (arith, h)))
 
 listed_all : {A : Type 0} (p : A → Bool) (f : List ℕ → Option A) (ws : List (List ℕ)) → ((w : List ℕ) → IfSome (f w) (λ a. p a ≡ true)) → IfSome (listed f ws) (λ ys. list_all p ys ≡ true)
-listed_all p f ws each = cond_if (λ ys. list_all p ys ≡ true) (is_end ws) None (each_onto f [] ws) (λ e. tt) (λ e. each_all p f [] ws each refl)
+listed_all p f ws each_is = cond_if (λ ys. list_all p ys ≡ true) (is_end ws) None (each f ws) (λ e. tt) (λ e. each_all p f ws each_is)
 
 is_some_length : (n m : ℕ) → n ≡ m + 1 → not (n == 0) ≡ true
 is_some_length n m e = grind (arith, nat_tests)
@@ -96,7 +95,7 @@ not_empty (Some ys) m h = is_some_length (length ys) m h
 
 listed_some : {A : Type 0} (f : List ℕ → Option A) (ws : List (List ℕ)) → IfSome (listed f ws) (λ ys. not (length ys == 0) ≡ true)
 listed_some f [] = tt
-listed_some f (w ∷ ws) = cond_if (λ ys. not (length ys == 0) ≡ true) (is_end (w ∷ ws)) None (each_onto f [] (w ∷ ws)) (λ e. tt) (λ e. not_empty (each_onto f [] (w ∷ ws)) (length ws) (longer _ _ _ (omega arith) (each_long f [] (w ∷ ws))))
+listed_some f (w ∷ ws) = cond_if (λ ys. not (length ys == 0) ≡ true) (is_end (w ∷ ws)) None (each f (w ∷ ws)) (λ e. tt) (λ e. not_empty (each f (w ∷ ws)) (length ws) (longer _ _ _ (omega arith) (each_long f (w ∷ ws))))
 
 -- ---- terms
 

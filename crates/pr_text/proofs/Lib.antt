@@ -3,6 +3,8 @@ pub mod ReadBytes
 pub mod NumberRoom
 pub mod NameText
 pub mod Steps
+pub mod Lists
+pub mod LineOrder
 pub mod OpenLines
 pub mod Drafts
 pub mod Answering

@@ -18,7 +18,7 @@ use Rattle.pr_text.specs.declared.open_script.Opener.{Opener}
 use Rattle.pr_text.specs.declared.open_script.Opener.TheVariants as opener
 use Rattle.pr_text.specs.ScriptLines.{ScriptLine, send_at, arm_on, block_done, repeat_of, statement_lines, body_lines, arms_lines}
 use Rattle.pr_text.specs.Declarations.{Opening}
-use Rattle.pr_text.specs.ScriptSteps.{is_repeating, is_sending, is_armless, awaits_arm}
+use Rattle.pr_text.specs.Standing.{is_repeating, is_sending, is_armless, awaits_arm}
 use Rattle.pr_text.specs.inside.OpenScripts.{with_armless, armless_lines, lines_in, arm_lines, opener_lines, frame_lines, block_of, block_by, blocks_in}
 
 -- ---- what statements are written as

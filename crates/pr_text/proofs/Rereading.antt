@@ -1,5 +1,5 @@
 -- The lines of a script that fits have no fault.
-use Rattle.std.specs.Prelude.{◌≡◌, ℕ, ◌+◌, ◌≤◌, ◌==◌, Bool, true, false, ◌&&◌, not, nat_lt, nat_le, List, [], ◌∷◌, ◌++◌, count_by, Result, Ok}
+use Rattle.std.specs.Prelude.{◌≡◌, ℕ, ◌+◌, ◌≤◌, ◌==◌, Bool, true, false, ◌&&◌, not, nat_lt, nat_le, List, [], ◌∷◌, ◌++◌, count_by, Result, Ok, Err}
 use Rattle.std.proofs.Common.{refl, sym, ap, ◌∙◌, arith, append_assoc, append-nil}
 use Rattle.std.proofs.lemmas.Bool.{and_parts}
 use Rattle.std.proofs.lemmas.Bool.Decides.{nat_tests}
@@ -12,10 +12,14 @@ use Rattle.pr_text.specs.declared.fault.ReadError.{ReadError}
 use Rattle.pr_text.specs.Faults.{and_then}
 use Rattle.pr_text.specs.CommandWords.{keyless}
 use Rattle.pr_text.specs.ScriptLines.{ScriptLine, send_at, arm_on, block_done, repeat_of, break_out, stop_with, statement_lines, body_lines, arms_lines}
-use Rattle.pr_text.specs.Declarations.{Opening, repeating, sending, OpenLines}
-use Rattle.pr_text.specs.ScriptSteps.{is_repeating, is_sending, awaits_arm, is_in_repeat, send_step, repeat_step, break_step, stop_step, stands_under, is_test_declared, on_step, done_step, may_close}
-use Rattle.pr_text.specs.SaidLines.{all_stepped, ScriptsHaveNoFault}
+use Rattle.pr_text.specs.Declarations.{Opening, repeating, sending, OpenLines, Declared}
+use Rattle.pr_text.specs.Standing.{is_repeating, is_sending, awaits_arm, is_in_repeat, stands_under, may_close}
+use Rattle.pr_text.specs.inside.Chains.{send_step, repeat_step, break_step, stop_step, on_step, done_step, all_stepped, script_step, item_taken}
+use Rattle.pr_text.specs.Declaring.{is_test_declared, declared_keys}
+use Rattle.pr_text.specs.SaidLines.{ScriptsHaveNoFault, said_by, numbered, script_said, all_said, within}
 use Rattle.pr_text.proofs.Trees.{both, no_not, true_le, one_more, as_many}
+use Rattle.pr_text.proofs.LineOrder.{in_order}
+use Rattle.pr_text.specs.Placing.{begun_script}
 
 -- an open script by its parts
 abbrev open_at : ℕ → ℕ → List ScriptLine → ℕ → List Opening → Bool → OpenLines
@@ -257,14 +261,41 @@ mutual
 
 -- ---- a whole script
 
+taken : (n : ℕ) (d : Declared) (l : ScriptLine) (o : OpenLines)
+    → item_taken (numbered n l) (said_by l) (within d o) ≡ and_then (script_step (numbered n l) (declared_keys d) (said_by l) o) (λ q. Ok (within d q))
+unfolding item_taken
+taken n d (send_at m c) o = refl
+taken n d (arm_on t) o = refl
+taken n d block_done o = refl
+taken n d (repeat_of count) o = refl
+taken n d break_out o = refl
+taken n d (stop_with word) o = refl
+
+step_then : (n : ℕ) (d : Declared) (r : Result OpenLines ReadError) (ls : List ScriptLine)
+    → ((o : OpenLines) → all_said (script_said n ls) (within d o) ≡ and_then (all_stepped n (declared_keys d) ls o) (λ q. Ok (within d q)))
+    → and_then (and_then r (λ q. Ok (within d q))) (all_said (script_said n ls)) ≡ and_then (and_then r (all_stepped n (declared_keys d) ls)) (λ q. Ok (within d q))
+step_then n d (Ok q) ls rest = rest q
+step_then n d (Err e) ls rest = refl
+
+all_step : (n : ℕ) (d : Declared) (ls : List ScriptLine) (o : OpenLines)
+    → all_said (script_said n ls) (within d o) ≡ and_then (all_stepped n (declared_keys d) ls o) (λ q. Ok (within d q))
+all_step n d [] o = refl
+all_step n d (l ∷ ls) o =
+    ap (λ r. and_then r (all_said (script_said n ls))) (in_order (numbered n l) (said_by l) (within d o) ∙ taken n d l o)
+    ∙ step_then n d (script_step (numbered n l) (declared_keys d) (said_by l) o) ls (λ q. all_step n d ls q)
+
 pub reread : ScriptsHaveNoFault
-reread n keys host budget b fits =
+reread n d host budget b fits =
+    let keys = declared_keys d in
     let p = and_parts (statements_fit keys 0 0 b) _ fits in
     let q = and_parts (nat_le (count_of_all b) 512) _ p.1 in
+    let script = open_at host budget (body_lines b) (0 + count_of_all b) [] (begun_after b false) in
+    let steps : all_stepped n keys (body_lines b) (begun_script host budget) ≡ Ok script =
+    ap (λ ls. all_stepped n keys ls (open_at host budget [] 0 [] false)) (sym (append-nil (body_lines b)))
+    ∙ body_goes n keys host budget b 0 0 [] [] 0 [] false p.0 (record { repeats_are = refl; sends_are = refl; free = refl }) (follows_first b) (from_none (count_of_all b) 512 (true_le (count_of_all b) 512 q.0)) in
     record {
-      script = open_at host budget (body_lines b) (0 + count_of_all b) [] (begun_after b false);
-      stepped = ap (λ ls. all_stepped n keys ls (open_at host budget [] 0 [] false)) (sym (append-nil (body_lines b)))
-          ∙ body_goes n keys host budget b 0 0 [] [] 0 [] false p.0 (record { repeats_are = refl; sends_are = refl; free = refl }) (follows_first b) (from_none (count_of_all b) 512 (true_le (count_of_all b) 512 q.0));
+      script = script;
+      stepped = all_step n d (body_lines b) (begun_script host budget) ∙ goes _ script (λ o. Ok (within d o)) steps;
       host_is = refl;
       budget_is = refl;
       lines_are = refl;

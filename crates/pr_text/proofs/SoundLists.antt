@@ -2,7 +2,6 @@
 use Rattle.std.specs.Prelude.{◌≡◌, ℕ, suc, ◌+◌, ◌<◌, ◌≤◌, ◌==◌, Bool, true, false, cond, ◌&&◌, ◌||◌, not, nat_lt, nat_le, List, [], ◌∷◌, ◌++◌, length, map, Option, Some, None, is_some, option_map, option_and_then, unwrap_or, position, bytes_eq, Ok}
 use Rattle.std.specs.List.{list_all, list_any, position_from}
 use Rattle.std.proofs.Common.{refl, sym, subst, ap, ◌∙◌, arith, length-append}
-use Rattle.std.proofs.lemmas.List.Folds.{list_all-append}
 use Rattle.std.proofs.lemmas.List.Sums.{AllPass-from_list_all}
 use Rattle.std.proofs.lemmas.Iterator.Adapters.{position_from-zero}
 use Rattle.std.proofs.lemmas.Bool.{and_parts, false≢true}
@@ -23,10 +22,12 @@ use Rattle.pr_roles.specs.declared.role.Action.TheVariants as action
 use Rattle.pr_roles.specs.declared.role.Clause.{Clause}
 use Rattle.pr_roles.specs.Fitting.{are_distinct, are_reservations, is_reservation, is_action, is_role, is_alternative, is_start}
 use Rattle.pr_text.specs.ScriptLines.{ScriptLine, send_at, arm_on, block_done, repeat_of, break_out, stop_with}
-use Rattle.pr_text.specs.ScriptSteps.{awaits_arm}
+use Rattle.pr_text.specs.Standing.{awaits_arm}
 use Rattle.pr_text.specs.Declarations.{Opening, repeating, sending, WrittenTask, scripted, planned, Declaration, outside, Declared}
 use Rattle.pr_text.specs.Items.{Wanted, nobody, single, everybody}
-use Rattle.pr_text.specs.Declaring.{declared_keys, number_of, keys_placed, nexus_placed, held_of, helds_onto, reservations_at, reservation_placed}
+use Rattle.pr_text.specs.Chain.{each}
+use Rattle.pr_text.specs.Declaring.{declared_keys, number_of, held_of}
+use Rattle.pr_text.specs.inside.Chains.{keys_placed, nexus_placed, reservations_at, reservation_placed}
 use Rattle.pr_text.specs.Texts.{start_of, reservations_of}
 use Rattle.pr_text.specs.inside.Sound.{Reached, at_first, may, may_arm, may_all, next, IsTask, IsDeclaration, AreDeclarations, IsPlace, IsSound}
 use Rattle.pr_text.proofs.ItemTerms.{is_key, is_wanted}
@@ -304,37 +305,41 @@ held_sound xs nobody (Some v) s e = cc
 held_sound xs (everybody kind) v s e = let same : ◌≡◌ {A = Option Held} (Some (Everybody kind)) v = cc in subst (λ x. is_reservation (length xs) x ≡ true) same s
 held_sound xs (single kind name) v s e = held_by xs kind name (number_of xs name) v refl s e
 
-held_then : (xs : List Declaration) (w : Wanted) (ws : List Wanted) (vs us : List (Option Held)) (o : Option (Option Held)) → held_of xs w ≡ o → is_wanted w ≡ true
-    → list_all (is_reservation (length xs)) vs ≡ true
-    → ((v : Option Held) → list_all (is_reservation (length xs)) (vs ++ v ∷ []) ≡ true → helds_onto xs (vs ++ v ∷ []) ws ≡ Some us
-    → (list_all (is_reservation (length xs)) us ≡ true) × (length us ≡ length (vs ++ v ∷ []) + length ws))
-    → option_and_then (λ v. helds_onto xs (vs ++ v ∷ []) ws) o ≡ Some us
-    → (list_all (is_reservation (length xs)) us ≡ true) × (length us ≡ length vs + length (w ∷ ws))
-held_then xs w ws vs us None is s h later e = cc
-held_then xs w ws vs us (Some v) is s h later e =
-    let more = later v (list_all-append (is_reservation (length xs)) vs (v ∷ []) ∙ both _ _ h (both _ _ (held_sound xs w v s is) refl)) e in
-    (more.0, omega (arith, more.1, length-append vs (v ∷ [])))
+helds_then : (xs : List Declaration) (w : Wanted) (ws : List Wanted) (us : List (Option Held)) (o : Option (Option Held)) (p : Option (List (Option Held))) → held_of xs w ≡ o → is_wanted w ≡ true
+    → ((vs : List (Option Held)) → p ≡ Some vs → (list_all (is_reservation (length xs)) vs ≡ true) × (length vs ≡ length ws))
+    → option_and_then (λ v. option_map (λ vs. v ∷ vs) p) o ≡ Some us
+    → (list_all (is_reservation (length xs)) us ≡ true) × (length us ≡ length (w ∷ ws))
+helds_then xs w ws us None p is s later e = cc
+helds_then xs w ws us (Some v) None is s later e = cc
+helds_then xs w ws us (Some v) (Some vs) is s later e =
+    let same : v ∷ vs ≡ us = cc in
+    let rest = later vs refl in (
+      subst (λ ys. list_all (is_reservation (length xs)) ys ≡ true) same (both _ _ (held_sound xs w v s is) rest.0),
+      subst (λ ys. length ys ≡ length (w ∷ ws)) same (omega (arith, rest.1)),
+    )
 
-helds_sound : (xs : List Declaration) (ws : List Wanted) (vs us : List (Option Held)) → list_all is_wanted ws ≡ true → list_all (is_reservation (length xs)) vs ≡ true
-    → helds_onto xs vs ws ≡ Some us → (list_all (is_reservation (length xs)) us ≡ true) × (length us ≡ length vs + length ws)
-helds_sound xs [] vs us s h e = let same : vs ≡ us = cc in (subst (λ ys. list_all (is_reservation (length xs)) ys ≡ true) same h, subst (λ ys. length ys ≡ length vs + 0) same (omega arith))
-helds_sound xs (w ∷ ws) vs us s h e = let parts = and_parts (is_wanted w) _ s in held_then xs w ws vs us (held_of xs w) refl parts.0 h (λ v p. helds_sound xs ws (vs ++ v ∷ []) us parts.1 p) e
+helds_sound : (xs : List Declaration) (ws : List Wanted) (us : List (Option Held)) → list_all is_wanted ws ≡ true
+    → each (held_of xs) ws ≡ Some us → (list_all (is_reservation (length xs)) us ≡ true) × (length us ≡ length ws)
+helds_sound xs [] us s e = let same : [] ≡ us = cc in (subst (λ ys. list_all (is_reservation (length xs)) ys ≡ true) same refl, subst (λ ys. length ys ≡ 0) same refl)
+helds_sound xs (w ∷ ws) us s e =
+    let parts = and_parts (is_wanted w) _ s in
+    helds_then xs w ws us (held_of xs w) (each (held_of xs) ws) refl parts.0 (λ vs q. helds_sound xs ws vs parts.1 q) e
 
-some_held : (n m : ℕ) → n ≡ 0 + m → not (m == 0) ≡ true → not (n == 0) ≡ true
+some_held : (n m : ℕ) → n ≡ m → not (m == 0) ≡ true → not (n == 0) ≡ true
 some_held n m e h = grind (arith, nat_tests)
 
 placed_helds : (n : ℕ) (ws : List Wanted) (d e : Declared) (o : Option (List (Option Held))) → d.place ≡ outside → (not (length ws == 0) && list_all is_wanted ws) ≡ true → IsSound n d
-    → helds_onto d.nexuses [] ws ≡ o → reservations_at (n + 1) d o ≡ Ok e → IsSound (n + 1) e
+    → each (held_of d.nexuses) ws ≡ o → reservations_at (n + 1) d o ≡ Ok e → IsSound (n + 1) e
 placed_helds n ws d e None at s h is r = cc
 placed_helds n ws d e (Some vs) at s h is r =
     let a = past _ _ _ e r in
     let same : record d { reservations = Some vs } ≡ e = ok_same _ _ a.1 in
     let wanted = and_parts (not (length ws == 0)) _ s in
-    let each = helds_sound d.nexuses ws [] vs wanted.1 refl is in
+    let held = helds_sound d.nexuses ws vs wanted.1 is in
     let apart = (or_no (is_some d.reservations) _ a.0).1 in
     subst (IsSound (n + 1)) same (record {
       keys = h.keys;
-      reservations = both _ _ (some_held (length vs) (length ws) each.1 wanted.0) (both _ _ each.0 (not_no _ apart));
+      reservations = both _ _ (some_held (length vs) (length ws) held.1 wanted.0) (both _ _ held.0 (not_no _ apart));
       few = h.few;
       apart = h.apart;
       each = h.each;
@@ -343,4 +348,4 @@ placed_helds n ws d e (Some vs) at s h is r =
 
 pub reservation_sound : (n : ℕ) (ws : List Wanted) (d e : Declared) → d.place ≡ outside → (not (length ws == 0) && list_all is_wanted ws) ≡ true → IsSound n d → reservation_placed (n + 1) ws d ≡ Ok e → IsSound (n + 1) e
 unfolding reservation_placed
-reservation_sound n ws d e at s h r = placed_helds n ws d e (helds_onto d.nexuses [] ws) at s h refl r
+reservation_sound n ws d e at s h r = placed_helds n ws d e (each (held_of d.nexuses) ws) at s h refl r

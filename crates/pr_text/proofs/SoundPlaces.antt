@@ -17,14 +17,15 @@ use Rattle.pr_text.specs.declared.spelling.Spelled.{Spelled}
 use Rattle.pr_text.specs.Faults.{and_then}
 use Rattle.pr_text.specs.Declarations.{OpenLines, WrittenTask, scripted, planned, Declaration, Place, before_all, outside, in_script, in_plan, Declared}
 use Rattle.pr_text.specs.Items.{Item, keys_line, host_line, guest_line, start_line, pending_line, reservation_line, generation_line, role_line, script_line, plan_line, end_line, command_line, fence_line}
-use Rattle.pr_text.specs.ScriptSteps.{script_step}
-use Rattle.pr_text.specs.Declaring.{declared_keys, number_of, with_nexus, on_nexus, at_number, at_name, start_fault, start_at, start_placed, codes_of, pending_at, pending_placed, generation_placed, role_at, role_placed, script_fault, begun_script, script_at, script_placed, plan_at, plan_placed}
-use Rattle.pr_text.specs.Placing.{placed_first, placed_outside, tasked, with_task, script_ended, placed_in_script, planned_step, placed_in_plan, placed_at, item_placed}
+use Rattle.pr_text.specs.inside.Chains.{script_step, nexus_set, on_nexus, at_number, at_name, start_fault, start_at, start_placed, pending_at, pending_placed, generation_placed, role_at, role_placed, script_fault, script_at, script_placed, plan_at, plan_placed, placed_first, placed_outside, script_ended, placed_in_script, planned_step, placed_in_plan, placed_at, item_taken}
+use Rattle.pr_text.specs.Declaring.{declared_keys, number_of, codes_of}
+use Rattle.pr_text.specs.Placing.{begun_script, with_task, item_placed}
 use Rattle.pr_text.specs.inside.Sound.{AreBegun, is_plan, IsTask, IsDeclaration, AreDeclarations, IsPlace, IsSound}
 use Rattle.pr_text.proofs.ItemTerms.{is_item}
 use Rattle.pr_text.proofs.Trees.{both, le_true}
 use Rattle.pr_text.proofs.SoundScripts.{ok_same, past, not_no, or_no, kept, passes, skips, script_sound}
 use Rattle.pr_text.proofs.SoundLists.{keys_sound, nexus_sound, reservation_sound}
+use Rattle.pr_text.proofs.LineOrder.{in_order}
 
 -- ---- the same, at another place
 
@@ -87,7 +88,7 @@ start_sound n name xs d e at some sound r =
     let m = named (n + 1) d e name (start_at (n + 1) xs d) r in
     let keys = declared_keys d in
     let x = m.nexus in
-    let a = passes (start_fault (n + 1) keys x xs) (with_nexus d m.number (record x { start = Some xs })) e m.made in
+    let a = passes (start_fault (n + 1) keys x xs) (nexus_set d m.number (record x { start = Some xs })) e m.made in
     let b = skips _ _ _ a.0 in
     let c = skips _ _ _ b.1 in
     let was = declaration_at keys d.nexuses m.number x m.there sound.each in
@@ -104,7 +105,7 @@ pending_sound n name xs d e at sound r =
     let keys = declared_keys d in
     let x = m.nexus in
     let a = past _ _ _ e m.made in
-    let same : with_nexus d m.number (record x { pending = Some (codes_of xs) }) ≡ e = ok_same _ _ a.1 in
+    let same : nexus_set d m.number (record x { pending = Some (codes_of xs) }) ≡ e = ok_same _ _ a.1 in
     let was = declaration_at keys d.nexuses m.number x m.there sound.each in
     subst (IsSound (n + 1)) same (changed n d m.number x (record x { pending = Some (codes_of xs) }) d.place sound m.there refl
     (record { described = was.described; task = was.task }) (subst (IsPlace keys (n + 1)) (sym at) tt))
@@ -126,7 +127,7 @@ role_sound n name clause d e at sound r =
     let x = m.nexus in
     let a = past _ _ _ e m.made in
     let b = past _ _ _ e a.1 in
-    let same : with_nexus d m.number (record x { role = x.role ++ clause ∷ [] }) ≡ e = ok_same _ _ b.1 in
+    let same : nexus_set d m.number (record x { role = x.role ++ clause ∷ [] }) ≡ e = ok_same _ _ b.1 in
     let was = declaration_at keys d.nexuses m.number x m.there sound.each in
     let parts = and_parts (is_name x.name) _ was.described in
     let role = and_parts (is_role keys x.role) _ parts.1 in
@@ -197,10 +198,10 @@ first_sound n _ d e h r = cc
 task_at : (n : ℕ) (d : Declared) (h : ℕ) (t : WrittenTask) (o : Option Declaration) → slice_get d.nexuses h ≡ o → IsSound n d → IsTask (declared_keys d) (Some t)
     → IsSound (n + 1) (with_task d h t)
 task_at n d h t None is sound fits =
-    let same : tasked d.nexuses h t ≡ d.nexuses = rw is refl in
+    let same : (with_task d h t).nexuses ≡ d.nexuses = rw is refl in
     subst (λ xs. IsSound (n + 1) (record d { nexuses = xs; place = outside })) (sym same) (moved n d outside sound tt)
 task_at n d h t (Some x) is sound fits =
-    let same : tasked d.nexuses h t ≡ slice_set d.nexuses h (record x { task = Some t }) = rw is refl in
+    let same : (with_task d h t).nexuses ≡ slice_set d.nexuses h (record x { task = Some t }) = rw is refl in
     let was = declaration_at (declared_keys d) d.nexuses h x is sound.each in
     subst (λ xs. IsSound (n + 1) (record d { nexuses = xs; place = outside })) (sym same)
     (changed n d h x (record x { task = Some t }) outside sound is refl (record { described = was.described; task = fits }) tt)
@@ -255,5 +256,5 @@ placed_by n (in_script o) i d e at h s r = in_script_sound n o i d e (subst (IsP
 placed_by n (in_plan g commands) i d e at h s r = in_plan_sound n g commands i d e (subst (IsPlace (declared_keys d) n) at h.place) h r
 
 pub placed_sound : (n : ℕ) (i : Item) (d e : Declared) → IsSound n d → is_item i ≡ true → item_placed (n + 1) i d ≡ Ok e → IsSound (n + 1) e
-unfolding item_placed
-placed_sound n i d e h sound r = placed_by n d.place i d e refl h sound r
+unfolding item_taken
+placed_sound n i d e h sound r = placed_by n d.place i d e refl h sound (sym (in_order (n + 1) i d) ∙ r)

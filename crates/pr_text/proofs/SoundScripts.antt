@@ -17,7 +17,10 @@ use Rattle.pr_text.specs.Faults.{unless}
 use Rattle.pr_text.specs.ScriptLines.{ScriptLine, send_at, arm_on, block_done, repeat_of, break_out, stop_with}
 use Rattle.pr_text.specs.Declarations.{Opening, repeating, sending, OpenLines}
 use Rattle.pr_text.specs.Items.{Item, send_line, on_line, done_line, repeat_line, break_line, stop_line}
-use Rattle.pr_text.specs.ScriptSteps.{is_repeating, is_sending, awaits_arm, awaits_more, opening, stating, send_step, repeat_step, break_step, stop_step, stands_under, is_test_declared, arm_fault, on_step, on_step_in, may_close, done_step, script_step}
+use Rattle.pr_text.specs.Standing.{is_repeating, is_sending, awaits_arm, awaits_more, stands_under, may_close}
+use Rattle.pr_text.specs.Placing.{opening, stating}
+use Rattle.pr_text.specs.inside.Chains.{send_step, repeat_step, break_step, stop_step, arm_fault, on_step, on_step_in, done_step, script_step}
+use Rattle.pr_text.specs.Declaring.{is_test_declared}
 use Rattle.pr_text.specs.inside.Sound.{Reached, at_first, may, may_state, may_all, next, reached, is_statement, sends_in, AreBegun}
 use Rattle.pr_text.proofs.ItemTerms.{is_item, is_test}
 use Rattle.pr_text.proofs.Trees.{both, le_true, true_le, count-cons, sends-append}

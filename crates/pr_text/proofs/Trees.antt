@@ -9,7 +9,7 @@ use Rattle.pr_script.specs.Scripts.{Stmt, Stmts, Arms, sends, repeats, breaks, s
 use Rattle.pr_script.specs.Grammar.{is_written, test_fits, count_of_arms, begins_body, statement_fits, statements_fit, arms_fit, count_of, count_of_all, count_in_arms, lines_of, lines_of_all, lines_of_arms, rise_above, script_fits}
 use Rattle.pr_text.specs.ScriptLines.{ScriptLine, send_at, arm_on, block_done, repeat_of, break_out, stop_with, statement_lines, body_lines, arms_lines}
 use Rattle.pr_text.specs.Declarations.{Opening, repeating, sending}
-use Rattle.pr_text.specs.ScriptSteps.{is_repeating, is_sending, awaits_arm}
+use Rattle.pr_text.specs.Standing.{is_repeating, is_sending, awaits_arm}
 use Rattle.pr_text.specs.inside.Sound.{Reached, may, may_state, may_all, is_statement, sends_in, AreWhole}
 
 pub both : (a b : Bool) → a ≡ true → b ≡ true → (a && b) ≡ true

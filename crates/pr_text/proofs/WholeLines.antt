@@ -13,14 +13,15 @@ use Rattle.pr_roles.specs.Scenarios.{Nexus, Task, Scripted, Planned}
 use Rattle.pr_roles.specs.Starts.{first_under}
 use Rattle.pr_roles.specs.Fitting.{AreDeclared, are_distinct, is_nexus, is_reservation, is_same_reservation}
 use Rattle.pr_roles.proofs.Allowed.{start_found}
-use Rattle.pr_text.specs.Chain.{◌>>=◌}
+use Rattle.pr_text.specs.Chain.{each}
 use Rattle.pr_text.specs.Items.{fence_line, keys_line, generation_line, reservation_line}
 use Rattle.pr_text.specs.Declarations.{Declaration, outside, nothing}
-use Rattle.pr_text.specs.Declaring.{number_of, keys_placed, nexus_placed, held_of, helds_onto, reservation_placed, generation_placed}
-use Rattle.pr_text.specs.Placing.{item_placed}
+use Rattle.pr_text.specs.Declaring.{number_of, held_of}
+use Rattle.pr_text.specs.inside.Chains.{keys_placed, nexus_placed, reservation_placed, generation_placed, item_taken}
 use Rattle.pr_text.specs.Texts.{start_of, first_unscripted, ended}
 use Rattle.pr_text.specs.Readings.{nexus_written, nexus_declared}
-use Rattle.pr_text.specs.SaidScenarios.{line, all_said, declaring, details_said, keys_said, wanted_by, ScenariosHaveNoFault}
+use Rattle.pr_text.specs.SaidLines.{line, all_said}
+use Rattle.pr_text.specs.SaidScenarios.{declaring, details_said, keys_said, wanted_by, ScenariosHaveNoFault}
 use Rattle.pr_text.proofs.Trees.{true_le, true_lt}
 use Rattle.pr_text.proofs.NamesApart.{names, is_taken, free_of, names_moved, itself, number_nowhere, number_there}
 use Rattle.pr_text.proofs.DetailLines.{said_on, said_first, pending_same, is_planned, placed, bare, full, details_go}
@@ -33,8 +34,8 @@ all_rest P x xs all = λ k d below. all (suc k) d (omega arith)
 
 -- ---- the version, the keys, and the generation
 
-fence_goes : (n : ℕ) → item_placed n fence_line nothing ≡ Ok (placed None None None [] outside)
-unfolding item_placed
+fence_goes : (n : ℕ) → item_taken n fence_line nothing ≡ Ok (placed None None None [] outside)
+unfolding item_taken
 fence_goes n = refl
 
 abbrev keys_kept : List ℕ → Option (List ℕ)
@@ -49,8 +50,8 @@ not_over : (n m : ℕ) → nat_le n m ≡ true → nat_lt m n ≡ false
 not_over n m h = grind (arith, nat_tests)
 
 keys_go : (n : ℕ) (keys : List ℕ) → are_distinct (λ j k. j == k) keys ≡ true → nat_lt 12 (length keys) ≡ false
-    → item_placed n (keys_line keys) (placed None None None [] outside) ≡ Ok (placed (Some keys) None None [] outside)
-unfolding item_placed keys_placed
+    → item_taken n (keys_line keys) (placed None None None [] outside) ≡ Ok (placed (Some keys) None None [] outside)
+unfolding item_taken keys_placed
 keys_go n keys once few = rw (once, few) refl
 
 keys_lines_go : (n : ℕ) (keys : List ℕ) → AreDeclared keys → all_said (keys_said n keys) (placed None None None [] outside) ≡ Ok (placed (keys_kept keys) None None [] outside)
@@ -60,8 +61,8 @@ keys_lines_go n (k ∷ ks) h =
     said_first n (keys_line (k ∷ ks)) [] _ _ _ (keys_go n (k ∷ ks) parts.1 (not_over (length (k ∷ ks)) 12 parts.0)) refl
 
 generation_goes : (n generation : ℕ) (keys : Option (List ℕ)) (xs : List Declaration)
-    → item_placed n (generation_line generation) (placed keys None None xs outside) ≡ Ok (placed keys None (Some generation) xs outside)
-unfolding item_placed generation_placed
+    → item_taken n (generation_line generation) (placed keys None None xs outside) ≡ Ok (placed keys None (Some generation) xs outside)
+unfolding item_taken generation_placed
 generation_goes n generation keys xs = refl
 
 -- ---- hosts and guests
@@ -70,12 +71,12 @@ abbrev named : List Nexus → List (List ℕ)
 named ns = map (λ x. x.name) ns
 
 nexus_goes : (n : ℕ) (keys : Option (List ℕ)) (before : List Declaration) (x : Nexus) → is_taken x.name before ≡ false → nat_le 8 (length before) ≡ false
-    → item_placed n (declaring x.name x.task) (placed keys None None before outside) ≡ Ok (placed keys None None (before ++ bare n x ∷ []) outside)
-unfolding item_placed nexus_placed
+    → item_taken n (declaring x.name x.task) (placed keys None None before outside) ≡ Ok (placed keys None None (before ++ bare n x ∷ []) outside)
+unfolding item_taken nexus_placed
 nexus_goes n keys before x free few =
     by_task x.task refl
   where
-    by_task : (t : Task) → x.task ≡ t → item_placed n (declaring x.name x.task) (placed keys None None before outside) ≡ Ok (placed keys None None (before ++ bare n x ∷ []) outside)
+    by_task : (t : Task) → x.task ≡ t → item_taken n (declaring x.name x.task) (placed keys None None before outside) ≡ Ok (placed keys None None (before ++ bare n x ∷ []) outside)
     by_task (Scripted script budget) is = rw (is, number_nowhere before x.name free, few) refl
     by_task (Planned commands) is = rw (is, number_nowhere before x.name free, few) refl
 
@@ -136,19 +137,18 @@ held_goes n ns (Some (One kind h)) apart few fits =
     ap (λ o. option_map (λ m. Some (One kind m)) o) (number_at n [] ns h apart (omega arith) below) ∙ ap (λ m. Some (Some (One kind m))) (omega arith)
 held_goes n ns (Some (Everybody kind)) apart few h = refl
 
-helds_go : (n : ℕ) (ns : List Nexus) (done vs : List (Option Held)) → are_distinct bytes_eq (named ns) ≡ true → length ns ≤ 8 → list_all (is_reservation (length ns)) vs ≡ true
-    → helds_onto (map (bare n) ns) done (map (wanted_by ns) vs) ≡ Some (done ++ vs)
-helds_go n ns done [] apart few fits = ap (λ l. Some l) (sym (append-nil done))
-helds_go n ns done (v ∷ vs) apart few fits =
+helds_go : (n : ℕ) (ns : List Nexus) (vs : List (Option Held)) → are_distinct bytes_eq (named ns) ≡ true → length ns ≤ 8 → list_all (is_reservation (length ns)) vs ≡ true
+    → each (held_of (map (bare n) ns)) (map (wanted_by ns) vs) ≡ Some vs
+helds_go n ns [] apart few fits = refl
+helds_go n ns (v ∷ vs) apart few fits =
     let parts = and_parts (is_reservation (length ns) v) _ fits in
-    ap (λ o. o >>= (λ w. helds_onto (map (bare n) ns) (done ++ w ∷ []) (map (wanted_by ns) vs))) (held_goes n ns v apart few parts.0)
-    ∙ (helds_go n ns (done ++ v ∷ []) vs apart few parts.1 ∙ ap (λ l. Some l) (append_assoc done (v ∷ []) vs))
+    rw (held_goes n ns v apart few parts.0, helds_go n ns vs apart few parts.1) refl
 
 reservation_goes : (n : ℕ) (keys : Option (List ℕ)) (g : Option ℕ) (ns : List Nexus) (vs : List (Option Held)) → are_distinct bytes_eq (named ns) ≡ true → length ns ≤ 8
     → list_all (is_reservation (length ns)) vs ≡ true → are_distinct is_same_reservation vs ≡ true
-    → item_placed n (reservation_line (map (wanted_by ns) vs)) (placed keys None g (map (bare n) ns) outside) ≡ Ok (placed keys (Some vs) g (map (bare n) ns) outside)
-unfolding item_placed reservation_placed
-reservation_goes n keys g ns vs apart few fits once = rw (helds_go n ns [] vs apart few fits, once) refl
+    → item_taken n (reservation_line (map (wanted_by ns) vs)) (placed keys None g (map (bare n) ns) outside) ≡ Ok (placed keys (Some vs) g (map (bare n) ns) outside)
+unfolding item_taken reservation_placed
+reservation_goes n keys g ns vs apart few fits once = rw (helds_go n ns vs apart few fits, once) refl
 
 -- ---- the end
 

@@ -9,11 +9,11 @@ use Rattle.pr_roles.specs.Fitting.{Fits}
 use Rattle.pr_roles.specs.Starts.{CanStart, starts, first_under}
 use Rattle.pr_roles.proofs.Allowed.{first_allowed}
 use Rattle.pr_text.specs.declared.fault.ReadError.{ReadError}
-use Rattle.pr_text.specs.declared.fault.ReadError.TheVariants.{TooLarge, EmptyStart}
+use Rattle.pr_text.specs.declared.fault.ReadError.TheVariants.{EmptyStart}
 use Rattle.pr_text.specs.Faults.{and_then, unless}
 use Rattle.pr_text.specs.Declarations.{Declared, nothing}
 use Rattle.pr_text.specs.Texts.{line_placed, all_placed, end_fault, starts_somewhere, started, ended, finished, answer_of}
-use Rattle.pr_text.specs.Readings.{IsDeclaredBy, IsWrittenAs}
+use Rattle.pr_text.specs.Readings.{IsDeclaredBy}
 use Rattle.pr_text.specs.inside.Sound.{IsSound}
 use Rattle.pr_text.specs.Laws.{WhatIsWrittenFits, FirstFaultDecides}
 use Rattle.pr_text.proofs.Answering.{start_same}

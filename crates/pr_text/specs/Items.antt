@@ -1,6 +1,6 @@
 -- Agrees with docs/FORMATS.md, 'The lines of a scenario'.
 -- What one line of a text says.
-use Rattle.std.specs.Prelude.{ℕ, ◌==◌, if◌then◌else◌, List, [], ◌∷◌, ◌++◌, length, take, drop, slice_index, codes, bytes_eq, Option, Some, None, option_map}
+use Rattle.std.specs.Prelude.{ℕ, ◌==◌, if◌then◌else◌, List, [], ◌∷◌, length, take, drop, slice_index, codes, bytes_eq, Option, Some, None, option_map}
 use Rattle.pr_cdb.specs.declared.command.Kind.{Kind}
 use Rattle.pr_attention.specs.declared.attention.Attention.{Attention}
 use Rattle.pr_registry.specs.Registrations.{is_all}
@@ -9,7 +9,7 @@ use Rattle.pr_roles.specs.declared.role.Clause.{Clause}
 use Rattle.pr_text.specs.declared.keyword.Keyword.{Keyword}
 use Rattle.pr_text.specs.declared.keyword.Keyword.TheVariants as keyword
 use Rattle.pr_text.specs.declared.spelling.Spelled.{Spelled}
-use Rattle.pr_text.specs.Chain.{◌>>=◌}
+use Rattle.pr_text.specs.Chain.{◌>>=◌, each}
 use Rattle.pr_text.specs.TextLines.{only, is_end}
 use Rattle.pr_text.specs.WordTerms.{name_of, key_of, generation_of, count_of, kind_of, code_of}
 use Rattle.pr_text.specs.CommandWords.{spelled_of, spelled_in}
@@ -48,14 +48,9 @@ pub data Item : Type 0 where
 
 -- ---- lists
 
--- what each word is, behind what came before
-abbrev pub each_onto : {A : Type 0} → (List ℕ → Option A) → List A → List (List ℕ) → Option (List A)
-each_onto f xs [] = Some xs
-each_onto f xs (w ∷ ws) = f w >>= λ x. each_onto f (xs ++ x ∷ []) ws
-
 -- what each word is, of at least one
 abbrev pub listed : {A : Type 0} → (List ℕ → Option A) → List (List ℕ) → Option (List A)
-listed f ws = if is_end ws then None else each_onto f [] ws
+listed f ws = if is_end ws then None else each f ws
 
 -- a registration: `free`, or a key
 abbrev pub alternative_of : List ℕ → Option (Option ℕ)

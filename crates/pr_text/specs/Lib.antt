@@ -11,8 +11,9 @@ pub mod Items
 pub mod ScriptLines
 pub mod Declarations
 pub mod Faults
-pub mod ScriptSteps
+pub mod Standing
 pub mod Declaring
+pub mod LineFaults
 pub mod Placing
 pub mod Texts
 pub mod Readings

@@ -1,81 +1,92 @@
--- Agrees with docs/FORMATS.md, 'Faults'.
+-- Agrees with docs/FORMATS.md, 'The lines of a scenario'.
 -- What the next line makes of what is declared so far.
-use Rattle.std.specs.Prelude.{ℕ, true, false, ◌==◌, not, nat_le, if◌then◌else◌, List, [], ◌∷◌, ◌++◌, length, Some, slice_set, Result, Ok, Err}
-use Rattle.std.specs.List.{slice_get}
+use Rattle.std.specs.Prelude.{ℕ, List, [], ◌∷◌, Some, None, Bool, false, ◌++◌, slice_set, Result, drop, true, ◌+◌}
 use Rattle.std.specs.Option.{option_map_or}
-use Rattle.pr_cdb.specs.declared.command.Command.{Command}
-use Rattle.pr_text.specs.declared.fault.Which.TheVariants as which
+use Rattle.std.specs.List.{slice_get}
+use Rattle.pr_script.specs.declared.script.Test.{Test}
 use Rattle.pr_text.specs.declared.fault.ReadError.{ReadError}
-use Rattle.pr_text.specs.declared.fault.ReadError.TheVariants as fault
-use Rattle.pr_text.specs.declared.spelling.Spelled.{Spelled}
-use Rattle.pr_text.specs.Faults.{and_then}
+use Rattle.pr_text.specs.Declarations.{WrittenTask, scripted, planned, Declaration, Opening, repeating, sending, OpenLines, outside, in_script, in_plan, Declared}
+use Rattle.pr_text.specs.Chain.{each}
+use Rattle.pr_text.specs.Declaring.{number_of, codes_of, held_of}
+use Rattle.pr_text.specs.Faults.{unless}
 use Rattle.pr_text.specs.Items.{Item, fence_line, keys_line, host_line, guest_line, start_line, pending_line, reservation_line, generation_line, role_line, script_line, plan_line, end_line, send_line, on_line, done_line, repeat_line, break_line, stop_line, command_line}
-use Rattle.pr_text.specs.Declarations.{Declaration, WrittenTask, scripted, planned, OpenLines, Place, before_all, outside, in_script, in_plan, Declared}
-use Rattle.pr_text.specs.Declaring.{declared_keys, keys_placed, nexus_placed, start_placed, pending_placed, reservation_placed, generation_placed, role_placed, script_placed, plan_placed}
-use Rattle.pr_text.specs.ScriptSteps.{is_spelled, script_step}
+use Rattle.pr_text.specs.LineFaults.{fault_at}
+use Rattle.pr_text.specs.ScriptLines.{ScriptLine, send_at, arm_on, block_done, repeat_of, break_out, stop_with}
+use Rattle.pr_text.specs.Standing.{of_plan, of_script}
 
--- the first line
-abbrev pub placed_first : ℕ → Item → Declared → Result Declared ReadError
-placed_first n fence_line d = Ok (record d { place = outside })
-placed_first n item d = Err (fault.Syntax n)
+-- ---- hosts and guests
 
--- a line outside scripts and plans
-abbrev pub placed_outside : ℕ → Item → Declared → Result Declared ReadError
-placed_outside n (keys_line keys) d = keys_placed n keys d
-placed_outside n (host_line name) d = nexus_placed n false name d
-placed_outside n (guest_line name) d = nexus_placed n true name d
-placed_outside n (start_line name xs) d = start_placed n name xs d
-placed_outside n (pending_line name xs) d = pending_placed n name xs d
-placed_outside n (reservation_line ws) d = reservation_placed n ws d
-placed_outside n (generation_line generation) d = generation_placed n generation d
-placed_outside n (role_line name clause) d = role_placed n name clause d
-placed_outside n (script_line name budget) d = script_placed n name budget d
-placed_outside n (plan_line name) d = plan_placed n name d
-placed_outside n fence_line d = Err (fault.Syntax n)
-placed_outside n end_line d = Err (fault.Syntax n)
-placed_outside n (send_line s) d = Err (fault.Syntax n)
-placed_outside n (on_line t) d = Err (fault.Syntax n)
-placed_outside n done_line d = Err (fault.Syntax n)
-placed_outside n (repeat_line count) d = Err (fault.Syntax n)
-placed_outside n break_line d = Err (fault.Syntax n)
-placed_outside n (stop_line word) d = Err (fault.Syntax n)
-placed_outside n (command_line s) d = Err (fault.Syntax n)
+-- something else is declared of the host or guest with this number
+abbrev pub with_nexus : Declared → ℕ → (Declaration → Declaration) → Declared
+with_nexus d h f = record d { nexuses = option_map_or (λ x. slice_set d.nexuses h (f x)) (slice_get d.nexuses h) d.nexuses }
 
--- this host or guest has its task
-abbrev pub tasked : List Declaration → ℕ → WrittenTask → List Declaration
-tasked nexuses h t = option_map_or (λ x. slice_set nexuses h (record x { task = Some t })) (slice_get nexuses h) nexuses
+abbrev pub with_named : Declared → List ℕ → (Declaration → Declaration) → Declared
+with_named d name f = option_map_or (λ h. with_nexus d h f) (number_of d.nexuses name) d
 
+-- one more is declared, of which nothing is said yet
+abbrev pub with_more : ℕ → Bool → List ℕ → Declared → Declared
+with_more n guest name d =
+    record d { nexuses = d.nexuses ++ record { name = name; line = n; is_guest = guest; start = None; pending = None; role = []; task = None } ∷ [] }
+
+-- the host or guest with this number has its task, and the next line stands outside
 abbrev pub with_task : Declared → ℕ → WrittenTask → Declared
-with_task d h t = record d { nexuses = tasked d.nexuses h t; place = outside }
+with_task d h t = record (with_nexus d h (λ x. record x { task = Some t })) { place = outside }
 
--- the last line of a script, within which no block is open
-abbrev pub script_ended : ℕ → OpenLines → Declared → Result Declared ReadError
-script_ended n o d =
-    if length o.blocks == 0 then Ok (with_task d o.host (scripted o.lines o.budget)) else Err (fault.Syntax n)
+-- ---- scripts
 
--- a line of a script
-abbrev pub placed_in_script : ℕ → OpenLines → Item → Declared → Result Declared ReadError
-placed_in_script n o end_line d = script_ended n o d
-placed_in_script n o item d = and_then (script_step n (declared_keys d) item o) (λ p. Ok (record d { place = in_script p }))
+-- a script that begins
+abbrev pub begun_script : ℕ → ℕ → OpenLines
+begun_script h budget = record { host = h; budget = budget; lines = []; statements = 0; blocks = []; begun = false }
 
-unfoldable pub planned_step : ℕ → List ℕ → Spelled → List Command → Result (List Command) ReadError
-planned_step n keys s commands =
-    if not (is_spelled keys s) then Err (fault.UndeclaredKey n) else (
-    if nat_le 256 (length commands) then Err (fault.Limit which.Plan n) else
-    Ok (commands ++ s.command ∷ []))
+-- a line that opens a block
+abbrev pub opening : ScriptLine → Opening → OpenLines → OpenLines
+opening line block o = record o { lines = o.lines ++ line ∷ []; statements = o.statements + 1; blocks = block ∷ o.blocks; begun = false }
 
--- a line of a plan
-abbrev pub placed_in_plan : ℕ → ℕ → List Command → Item → Declared → Result Declared ReadError
-placed_in_plan n h commands (command_line s) d = and_then (planned_step n (declared_keys d) s commands) (λ more. Ok (record d { place = in_plan h more }))
-placed_in_plan n h commands end_line d = Ok (with_task d h (planned commands))
-placed_in_plan n h commands item d = Err (fault.Syntax n)
+-- a line that is a whole statement
+abbrev pub stating : ScriptLine → OpenLines → OpenLines
+stating line o = record o { lines = o.lines ++ line ∷ []; statements = o.statements + 1; begun = true }
 
-abbrev pub placed_at : ℕ → Place → Item → Declared → Result Declared ReadError
-placed_at n before_all item d = placed_first n item d
-placed_at n outside item d = placed_outside n item d
-placed_at n (in_script o) item d = placed_in_script n o item d
-placed_at n (in_plan h commands) item d = placed_in_plan n h commands item d
+-- the innermost block, a send, has one arm more
+abbrev pub with_arm : List Opening → List Opening
+with_arm [] = []
+with_arm (repeating ∷ bs) = repeating ∷ bs
+with_arm ((sending c arms) ∷ bs) = sending c (arms + 1) ∷ bs
 
--- a line where it stands
+abbrev pub in_arm : Test → OpenLines → OpenLines
+in_arm t o = record o { lines = o.lines ++ arm_on t ∷ []; blocks = with_arm o.blocks; begun = false }
+
+-- the innermost block ends
+abbrev pub closing : OpenLines → OpenLines
+closing o = record o { lines = o.lines ++ block_done ∷ []; blocks = drop 1 o.blocks; begun = true }
+
+abbrev pub with_script : Declared → (OpenLines → OpenLines) → Declared
+with_script d f = record d { place = of_script d.place (λ o. in_script (f o)) d.place }
+
+-- ---- any line
+
+-- what is declared with the line of this number, where nothing is wrong with it
+abbrev pub with_line : ℕ → Declared → Item → Declared
+with_line n d fence_line = record d { place = outside }
+with_line n d (keys_line keys) = record d { keys = Some keys }
+with_line n d (host_line name) = with_more n false name d
+with_line n d (guest_line name) = with_more n true name d
+with_line n d (start_line name xs) = with_named d name (λ x. record x { start = Some xs })
+with_line n d (pending_line name xs) = with_named d name (λ x. record x { pending = Some (codes_of xs) })
+with_line n d (reservation_line ws) = record d { reservations = each (held_of d.nexuses) ws }
+with_line n d (generation_line g) = record d { generation = Some g }
+with_line n d (role_line name clause) = with_named d name (λ x. record x { role = x.role ++ clause ∷ [] })
+with_line n d (script_line name budget) = option_map_or (λ h. record d { place = in_script (begun_script h budget) }) (number_of d.nexuses name) d
+with_line n d (plan_line name) = option_map_or (λ h. record d { place = in_plan h [] }) (number_of d.nexuses name) d
+with_line n d end_line =
+    of_script (of_plan d (λ h commands. with_task d h (planned commands)) d.place) (λ o. with_task d o.host (scripted o.lines o.budget)) d.place
+with_line n d (send_line s) = with_script d (opening (send_at n s.command) (sending s.command 0))
+with_line n d (on_line t) = with_script d (in_arm t)
+with_line n d done_line = with_script d closing
+with_line n d (repeat_line count) = with_script d (opening (repeat_of count) repeating)
+with_line n d break_line = with_script d (stating break_out)
+with_line n d (stop_line word) = with_script d (stating (stop_with word))
+with_line n d (command_line s) = record d { place = of_plan d.place (λ h commands. in_plan h (commands ++ s.command ∷ [])) d.place }
+
+-- the first thing that is wrong with the line, or what is declared with it
 unfoldable pub item_placed : ℕ → Item → Declared → Result Declared ReadError
-item_placed n item d = placed_at n d.place item d
+item_placed n item d = unless (fault_at n d item) (with_line n d item)

@@ -1,16 +1,16 @@
 -- Agrees with docs/FORMATS.md, 'Statements'.
 -- The lines that a script is written as, and what the reader makes of them.
-use Rattle.std.specs.Prelude.{◌≡◌, ℕ, true, List, [], ◌∷◌, Result, Ok}
+use Rattle.std.specs.Prelude.{◌≡◌, ℕ, List, [], ◌∷◌, Result, Ok, true, map}
 use Rattle.pr_script.specs.Scripts.{Stmts}
 use Rattle.pr_script.specs.Grammar.{script_fits}
 use Rattle.pr_text.specs.declared.fault.ReadError.{ReadError}
-use Rattle.pr_text.specs.Faults.{and_then}
 use Rattle.pr_text.specs.CommandWords.{keyless}
+use Rattle.pr_text.specs.Declarations.{OpenLines, in_script, Declared}
+use Rattle.pr_text.specs.Declaring.{declared_keys}
+use Rattle.pr_text.specs.Faults.{and_then}
 use Rattle.pr_text.specs.Items.{Item, send_line, on_line, done_line, repeat_line, break_line, stop_line}
+use Rattle.pr_text.specs.Placing.{begun_script, item_placed}
 use Rattle.pr_text.specs.ScriptLines.{ScriptLine, send_at, arm_on, block_done, repeat_of, break_out, stop_with, body_lines}
-use Rattle.pr_text.specs.Declarations.{OpenLines}
-use Rattle.pr_text.specs.Declaring.{begun_script}
-use Rattle.pr_text.specs.ScriptSteps.{script_step}
 
 -- what the line says; a key that its command drops is not written
 abbrev pub said_by : ScriptLine → Item
@@ -30,15 +30,30 @@ numbered n (repeat_of count) = n
 numbered n break_out = n
 numbered n (stop_with word) = n
 
--- what the lines make of an open script, one after another, under these declared keys
-abbrev pub all_stepped : ℕ → List ℕ → List ScriptLine → OpenLines → Result OpenLines ReadError
-all_stepped n keys [] o = Ok o
-all_stepped n keys (l ∷ ls) o = and_then (script_step (numbered n l) keys (said_by l) o) (all_stepped n keys ls)
+-- a line by its number and what it says
+pub record Line : Type 0 where
+  pub number : ℕ
+  pub item : Item
+
+abbrev pub line : ℕ → Item → Line
+line n item = record { number = n; item = item }
+
+abbrev pub script_said : ℕ → List ScriptLine → List Line
+script_said n ls = map (λ l. line (numbered n l) (said_by l)) ls
+
+-- what lines make of what is declared, one after another
+abbrev pub all_said : List Line → Declared → Result Declared ReadError
+all_said [] d = Ok d
+all_said (l ∷ ls) d = and_then (item_placed l.number l.item d) (all_said ls)
+
+-- this script is open
+abbrev pub within : Declared → OpenLines → Declared
+within d o = record d { place = in_script o }
 
 -- the lines end a script that these lines are, with no block open
-pub record IsReread (n : ℕ) (keys : List ℕ) (host budget : ℕ) (b : Stmts) : Type 0 where
+pub record IsReread (n : ℕ) (d : Declared) (host budget : ℕ) (b : Stmts) : Type 0 where
   pub script : OpenLines
-  pub stepped : all_stepped n keys (body_lines b) (begun_script host budget) ≡ Ok script
+  pub stepped : all_said (script_said n (body_lines b)) (within d (begun_script host budget)) ≡ Ok (within d script)
   pub host_is : script.host ≡ host
   pub budget_is : script.budget ≡ budget
   pub lines_are : script.lines ≡ body_lines b
@@ -46,4 +61,4 @@ pub record IsReread (n : ℕ) (keys : List ℕ) (host budget : ℕ) (b : Stmts) 
 
 -- The lines of a script that fits have no fault, and are read as just that script's.
 abbrev pub ScriptsHaveNoFault : Type 0
-ScriptsHaveNoFault = (n : ℕ) (keys : List ℕ) (host budget : ℕ) (b : Stmts) → script_fits keys b ≡ true → IsReread n keys host budget b
+ScriptsHaveNoFault = (n : ℕ) (d : Declared) (host budget : ℕ) (b : Stmts) → script_fits (declared_keys d) b ≡ true → IsReread n d host budget b

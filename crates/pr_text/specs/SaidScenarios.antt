@@ -1,6 +1,6 @@
 -- Agrees with docs/FORMATS.md, 'The lines of a scenario'.
 -- The lines that a scenario is written as, and what the reader makes of them.
-use Rattle.std.specs.Prelude.{◌≡◌, ℕ, List, [], ◌∷◌, ◌++◌, map, filter, Option, Some, None, Result, Ok}
+use Rattle.std.specs.Prelude.{◌≡◌, ℕ, List, [], ◌∷◌, ◌++◌, map, filter, Option, Some, None, Ok}
 use Rattle.std.specs.FinSet as set
 use Rattle.std.specs.List.{All, flat_map, slice_get}
 use Rattle.std.specs.Option.{option_map_or}
@@ -12,28 +12,12 @@ use Rattle.pr_attention.specs.Attentions.{Codes, code_of, AreAttentions}
 use Rattle.pr_roles.specs.Scenarios.{Scenario, Nexus, Task, Scripted, Planned}
 use Rattle.pr_roles.specs.Starts.{CanStart}
 use Rattle.pr_roles.specs.Fitting.{Fits}
-use Rattle.pr_text.specs.declared.fault.ReadError.{ReadError}
-use Rattle.pr_text.specs.Faults.{and_then}
 use Rattle.pr_text.specs.CommandWords.{keyless}
 use Rattle.pr_text.specs.Items.{Wanted, nobody, single, everybody, Item, fence_line, keys_line, host_line, guest_line, start_line, pending_line, reservation_line, generation_line, role_line, script_line, plan_line, end_line, command_line}
-use Rattle.pr_text.specs.ScriptLines.{ScriptLine, body_lines}
-use Rattle.pr_text.specs.SaidLines.{said_by, numbered}
+use Rattle.pr_text.specs.ScriptLines.{body_lines}
+use Rattle.pr_text.specs.SaidLines.{Line, line, script_said, all_said}
 use Rattle.pr_text.specs.Declarations.{Declared, nothing}
-use Rattle.pr_text.specs.Placing.{item_placed}
 use Rattle.pr_text.specs.Readings.{IsWhole}
-
--- a line by its number and what it says
-pub record Line : Type 0 where
-  pub number : ℕ
-  pub item : Item
-
-abbrev pub line : ℕ → Item → Line
-line n item = record { number = n; item = item }
-
--- what lines make of what is declared, one after another
-abbrev pub all_said : List Line → Declared → Result Declared ReadError
-all_said [] d = Ok d
-all_said (l ∷ ls) d = and_then (item_placed l.number l.item d) (all_said ls)
 
 -- ---- a host or guest, with this number on each line but those of sends, which have their own
 
@@ -49,9 +33,6 @@ attentions_in codes = filter (λ a. set.contains codes (code_of a)) (PowerOn ∷
 abbrev pub pending_said : ℕ → List ℕ → List Attention → List Line
 pending_said n name [] = []
 pending_said n name (x ∷ xs) = line n (pending_line name (x ∷ xs)) ∷ []
-
-abbrev pub script_said : ℕ → List ScriptLine → List Line
-script_said n ls = map (λ l. line (numbered n l) (said_by l)) ls
 
 -- the lines of a task, the last of them included
 abbrev pub task_said : ℕ → List ℕ → Task → List Line

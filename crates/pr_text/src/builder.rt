@@ -2,9 +2,9 @@
 
 ghost use Rattle.std.specs.Prelude.{◌≡◌, ◌<◌, IfSome, length, position, bytes_eq};
 ghost use Rattle.pr_text.specs.Faults.{Gives};
-ghost use Rattle.pr_text.specs.Declaring.{start_fault, script_fault};
+ghost use Rattle.pr_text.specs.inside.Chains.{start_fault, script_fault};
 ghost use Rattle.pr_text.specs.inside.Drafts.{draft_seen};
-ghost use Rattle.pr_text.specs.Placing.{planned_step};
+ghost use Rattle.pr_text.specs.inside.Chains.{planned_step};
 
 use crate::draft::{Draft, pending_of};
 use crate::fault::{ReadError, Which};
@@ -58,10 +58,13 @@ impl Builder {
     ghost use Rattle.pr_text.specs.Faults.{Gives};
     ghost use Rattle.pr_text.specs.inside.ItemValues.{seen, wanted_seen};
     ghost use Rattle.pr_text.specs.Declarations.{nothing};
-    ghost use Rattle.pr_text.specs.Declaring.{declared_keys, number_of, held_of, helds_onto, keys_placed, nexus_placed, start_placed, pending_placed, reservation_placed, generation_placed, role_placed, script_placed, plan_placed};
+    ghost use Rattle.pr_text.specs.Declaring.{declared_keys, number_of, held_of};
+    ghost use Rattle.pr_text.specs.Chain.{each};
+    ghost use Rattle.pr_text.specs.inside.Chains.{keys_placed, nexus_placed, start_placed, pending_placed, reservation_placed, generation_placed, role_placed, script_placed, plan_placed};
     ghost use Rattle.pr_text.specs.inside.Drafts.{draft_seen, task_seen, declared_by};
     ghost use Rattle.pr_text.specs.inside.OpenScripts.{open_seen};
-    ghost use Rattle.pr_text.specs.Placing.{placed_first, placed_outside, placed_in_script, placed_in_plan, script_ended, with_task, item_placed};
+    ghost use Rattle.pr_text.specs.inside.Chains.{placed_first, placed_outside, placed_in_script, placed_in_plan, script_ended};
+    ghost use Rattle.pr_text.specs.Placing.{with_task, item_placed};
 
     /// Nothing is declared yet.
     pub fn new(alloc: Global) -> Self
@@ -77,7 +80,7 @@ impl Builder {
     }
 
     /// What is declared with one line more.
-    #[tactic(auto, unfolding(crate::specs::Placing::item_placed))]
+    #[tactic(auto, unfolding(crate::specs::inside::Chains::item_taken), using(crate::proofs::LineOrder::in_order))]
     pub fn with_item(mut self, alloc: Global, line: u32, item: Item) -> Result<Self, ReadError>
         ensures { Gives declared_by result (item_placed line (seen item) (declared_by self)) }
     {
@@ -117,7 +120,7 @@ impl Builder {
         }
     }
 
-    #[tactic(auto, unfolding(crate::specs::Declaring::keys_placed))]
+    #[tactic(auto, unfolding(crate::specs::inside::Chains::keys_placed))]
     fn keys_line(mut self, line: u32, keys: Vec<u64>) -> Result<Self, ReadError>
         ensures { Gives declared_by result (keys_placed line keys.items (declared_by self)) }
     {
@@ -132,7 +135,7 @@ impl Builder {
         Ok(self)
     }
 
-    #[tactic(auto, unfolding(crate::specs::Declaring::nexus_placed))]
+    #[tactic(auto, unfolding(crate::specs::inside::Chains::nexus_placed))]
     fn nexus_line(
         mut self,
         alloc: Global,
@@ -153,7 +156,7 @@ impl Builder {
         Ok(self)
     }
 
-    #[tactic(auto, unfolding(crate::specs::Declaring::start_placed), using(crate::proofs::Steps::fails_same, crate::proofs::Drafts::found, crate::proofs::Drafts::changed))]
+    #[tactic(auto, unfolding(crate::specs::inside::Chains::start_placed), using(crate::proofs::Steps::fails_same, crate::proofs::Drafts::found, crate::proofs::Drafts::changed))]
     fn start_line(
         mut self,
         line: u32,
@@ -174,7 +177,7 @@ impl Builder {
         Ok(self)
     }
 
-    #[tactic(auto, unfolding(crate::specs::Declaring::pending_placed), using(crate::proofs::Drafts::found, crate::proofs::Drafts::changed))]
+    #[tactic(auto, unfolding(crate::specs::inside::Chains::pending_placed), using(crate::proofs::Drafts::found, crate::proofs::Drafts::changed))]
     fn pending_line(
         mut self,
         line: u32,
@@ -194,7 +197,7 @@ impl Builder {
         Ok(self)
     }
 
-    #[tactic(auto, unfolding(crate::specs::Declaring::reservation_placed))]
+    #[tactic(auto, unfolding(crate::specs::inside::Chains::reservation_placed))]
     fn reservation_line(
         mut self,
         alloc: Global,
@@ -213,7 +216,7 @@ impl Builder {
         Ok(self)
     }
 
-    #[tactic(auto, unfolding(crate::specs::Declaring::generation_placed))]
+    #[tactic(auto, unfolding(crate::specs::inside::Chains::generation_placed))]
     fn generation_line(mut self, line: u32, generation: u32) -> Result<Self, ReadError>
         ensures { Gives declared_by result (generation_placed line generation (declared_by self)) }
     {
@@ -224,7 +227,7 @@ impl Builder {
         Ok(self)
     }
 
-    #[tactic(auto, unfolding(crate::specs::Declaring::role_placed), using(crate::proofs::Drafts::found, crate::proofs::Drafts::changed))]
+    #[tactic(auto, unfolding(crate::specs::inside::Chains::role_placed), using(crate::proofs::Drafts::found, crate::proofs::Drafts::changed))]
     fn role_line(mut self, line: u32, name: Word, clause: Clause) -> Result<Self, ReadError>
         ensures { Gives declared_by result (role_placed line name.bytes clause (declared_by self)) }
     {
@@ -243,7 +246,7 @@ impl Builder {
         Ok(self)
     }
 
-    #[tactic(auto, unfolding(crate::specs::Declaring::script_placed), using(crate::proofs::Steps::fails_same, crate::proofs::Drafts::found))]
+    #[tactic(auto, unfolding(crate::specs::inside::Chains::script_placed), using(crate::proofs::Steps::fails_same, crate::proofs::Drafts::found))]
     fn script_line(
         mut self,
         alloc: Global,
@@ -264,7 +267,7 @@ impl Builder {
         Ok(self)
     }
 
-    #[tactic(auto, unfolding(crate::specs::Declaring::plan_placed), using(crate::proofs::Drafts::found))]
+    #[tactic(auto, unfolding(crate::specs::inside::Chains::plan_placed), using(crate::proofs::Drafts::found))]
     fn plan_line(mut self, alloc: Global, line: u32, name: Word) -> Result<Self, ReadError>
         ensures { Gives declared_by result (plan_placed line name.bytes (declared_by self)) }
     {
@@ -388,12 +391,13 @@ impl Builder {
     }
 
     // The reservations, if the holders are declared.
+    #[tactic(auto, using(crate::proofs::Lists::each_same))]
     fn reservations_of(
         &self,
         alloc: Global,
         wanted: &[Wanted],
     ) -> Result<Option<Vec<Option<Held>>>, AllocError>
-        ensures { IfOk result (λ vs. option_map (λ v. v.items) vs ≡ helds_onto (map draft_seen self.now.nexuses.items) [] (map wanted_seen wanted.now)) }
+        ensures { IfOk result (λ vs. option_map (λ v. v.items) vs ≡ each (held_of (map draft_seen self.now.nexuses.items)) (map wanted_seen wanted.now)) }
     {
         let mut reservations = Vec::new(alloc);
         let mut rest = wanted;
@@ -464,7 +468,7 @@ fn script_fault(line: u32, nexus: &Draft, budget: u32) -> Option<ReadError>
 }
 
 // The commands with one more.
-#[tactic(auto, unfolding(crate::specs::Placing::planned_step))]
+#[tactic(auto, unfolding(crate::specs::inside::Chains::planned_step))]
 fn planned(
     line: u32,
     keys: &[u64],

@@ -199,6 +199,7 @@ fn reservation_said(alloc: Global, rest: &[u8]) -> Result<Option<Item>, AllocErr
     Ok(wanted.map(Item::Reservation))
 }
 
+#[tactic(auto, using(crate::proofs::Lists::each_same))]
 fn keys_in(alloc: Global, line: &[u8]) -> Result<Option<Vec<u64>>, AllocError>
     ensures { IfOk result (λ keys. option_map (λ v. v.items) keys ≡ listed key_of (words line.now)) }
 {
@@ -217,6 +218,7 @@ fn keys_in(alloc: Global, line: &[u8]) -> Result<Option<Vec<u64>>, AllocError>
     Ok(Some(keys))
 }
 
+#[tactic(auto, using(crate::proofs::Lists::each_same))]
 fn alternatives_in(alloc: Global, line: &[u8]) -> Result<Option<Vec<Option<u64>>>, AllocError>
     ensures { IfOk result (λ xs. option_map (λ v. v.items) xs ≡ listed alternative_of (words line.now)) }
 {
@@ -245,6 +247,7 @@ fn alternative_of(word: &[u8]) -> Option<Option<u64>>
     Some(Some(key))
 }
 
+#[tactic(auto, using(crate::proofs::Lists::each_same))]
 fn attentions_in(alloc: Global, line: &[u8]) -> Result<Option<Vec<Attention>>, AllocError>
     ensures { IfOk result (λ xs. option_map (λ v. v.items) xs ≡ listed code_of (words line.now)) }
 {
@@ -263,6 +266,7 @@ fn attentions_in(alloc: Global, line: &[u8]) -> Result<Option<Vec<Attention>>, A
     Ok(Some(attentions))
 }
 
+#[tactic(auto, using(crate::proofs::Lists::each_same))]
 fn wanted_in(alloc: Global, line: &[u8]) -> Result<Option<Vec<Wanted>>, AllocError>
     ensures { IfOk result (λ xs. option_map (λ v. map wanted_seen v.items) xs ≡ listed wanted_of (words line.now)) }
 {

@@ -1,7 +1,9 @@
 //! A script that is open: its statements so far, and the blocks that are open in it.
 
 ghost use Rattle.std.specs.Prelude.{◌≡◌, [], ◌∷◌, ◌++◌, IfOk};
-ghost use Rattle.pr_text.specs.ScriptSteps.{stands_under, is_test_declared, is_spelled, is_repeating, arm_fault};
+ghost use Rattle.pr_text.specs.Standing.{stands_under, is_repeating};
+ghost use Rattle.pr_text.specs.Declaring.{is_test_declared, is_spelled};
+ghost use Rattle.pr_text.specs.inside.Chains.{arm_fault};
 ghost use Rattle.pr_script.specs.Trees.{statement_of};
 ghost use Rattle.pr_text.specs.ScriptLines.{statement_lines, block_done};
 ghost use Rattle.pr_text.specs.inside.OpenScripts.{block_by, opener_lines, lines_in};
@@ -72,7 +74,8 @@ impl OpenScript {
     ghost use Rattle.pr_text.specs.Faults.{Gives};
     ghost use Rattle.pr_text.specs.inside.ItemValues.{seen};
     ghost use Rattle.pr_text.specs.inside.OpenScripts.{open_seen, opened_in};
-    ghost use Rattle.pr_text.specs.ScriptSteps.{awaits_arm, awaits_more, is_full, is_repeating, is_sending, send_step, repeat_step, break_step, stop_step, on_step, done_step, script_step, is_in_repeat};
+    ghost use Rattle.pr_text.specs.Standing.{awaits_arm, awaits_more, is_repeating, is_sending, is_in_repeat};
+    ghost use Rattle.pr_text.specs.inside.Chains.{is_full, send_step, repeat_step, break_step, stop_step, on_step, done_step, script_step};
 
     /// A script without statements.
     pub fn new(alloc: Global, host: usize, budget: u32) -> Self
@@ -170,7 +173,7 @@ impl OpenScript {
             .count()
     }
 
-    #[tactic(auto, unfolding(crate::specs::ScriptSteps::send_step))]
+    #[tactic(auto, unfolding(crate::specs::inside::Chains::send_step))]
     fn send(mut self, line: u32, keys: &[u64], spelled: Spelled) -> Result<Self, ReadError>
         ensures { Gives open_seen result (send_step line keys.now spelled (open_seen self)) }
     {
@@ -196,7 +199,7 @@ impl OpenScript {
         Ok(self)
     }
 
-    #[tactic(auto, unfolding(crate::specs::ScriptSteps::repeat_step))]
+    #[tactic(auto, unfolding(crate::specs::inside::Chains::repeat_step))]
     fn repeat(self, alloc: Global, line: u32, count: u32) -> Result<Self, ReadError>
         ensures { Gives open_seen result (repeat_step line count (open_seen self)) }
     {
@@ -240,7 +243,7 @@ impl OpenScript {
         }
     }
 
-    #[tactic(auto, unfolding(crate::specs::ScriptSteps::on_step), using(crate::proofs::Steps::fails_same, crate::proofs::OpenLines::first_arm))]
+    #[tactic(auto, unfolding(crate::specs::inside::Chains::on_step), using(crate::proofs::Steps::fails_same, crate::proofs::OpenLines::first_arm))]
     fn first_arm(
         mut self,
         alloc: Global,
@@ -265,7 +268,7 @@ impl OpenScript {
         Ok(self.opened(alloc, opener)?)
     }
 
-    #[tactic(auto, unfolding(crate::specs::ScriptSteps::on_step), using(crate::proofs::Steps::fails_same))]
+    #[tactic(auto, unfolding(crate::specs::inside::Chains::on_step), using(crate::proofs::Steps::fails_same))]
     fn next_arm(
         mut self,
         alloc: Global,
@@ -316,7 +319,7 @@ impl OpenScript {
     }
 
     // The end of a send without arms.
-    #[tactic(auto, unfolding(crate::specs::ScriptSteps::done_step), using(crate::proofs::OpenLines::armless_closes))]
+    #[tactic(auto, unfolding(crate::specs::inside::Chains::done_step), using(crate::proofs::OpenLines::armless_closes))]
     fn armless_done(mut self, alloc: Global, line: u32, send: Armless) -> Result<Self, ReadError>
         requires { self.armless ≡ Some send }
         ensures { Gives open_seen result (done_step line (open_seen self)) }
@@ -332,7 +335,7 @@ impl OpenScript {
     }
 
     // The end of the innermost body.
-    #[tactic(auto, unfolding(crate::specs::ScriptSteps::done_step))]
+    #[tactic(auto, unfolding(crate::specs::inside::Chains::done_step))]
     fn body_done(mut self, line: u32) -> Result<Self, ReadError>
         requires { self.armless ≡ None }
         ensures { Gives open_seen result (done_step line (open_seen self)) }
@@ -349,7 +352,7 @@ impl OpenScript {
         Ok(self)
     }
 
-    #[tactic(auto, unfolding(crate::specs::ScriptSteps::break_step))]
+    #[tactic(auto, unfolding(crate::specs::inside::Chains::break_step))]
     fn break_out(mut self, line: u32) -> Result<Self, ReadError>
         ensures { Gives open_seen result (break_step line (open_seen self)) }
     {
@@ -365,7 +368,7 @@ impl OpenScript {
         Ok(self)
     }
 
-    #[tactic(auto, unfolding(crate::specs::ScriptSteps::stop_step))]
+    #[tactic(auto, unfolding(crate::specs::inside::Chains::stop_step))]
     fn stop(mut self, line: u32, word: Word) -> Result<Self, ReadError>
         ensures { Gives open_seen result (stop_step line word.bytes (open_seen self)) }
     {

@@ -9,7 +9,7 @@ use Rattle.pr_roles.specs.Fitting.{AreDeclared, are_distinct, are_reservations, 
 use Rattle.pr_text.specs.ScriptLines.{ScriptLine, send_at, arm_on, block_done, repeat_of, break_out, stop_with}
 use Rattle.pr_text.specs.Declarations.{Opening, repeating, sending, OpenLines, WrittenTask, scripted, planned, Declaration, Place, before_all, outside, in_script, in_plan, Declared}
 use Rattle.pr_text.specs.Declaring.{declared_keys}
-use Rattle.pr_text.specs.ScriptSteps.{is_repeating, is_sending, awaits_arm, is_in_repeat, may_close}
+use Rattle.pr_text.specs.Standing.{is_repeating, is_sending, awaits_arm, is_in_repeat, may_close}
 use Rattle.pr_text.specs.Texts.{start_of, reservations_of}
 
 -- ---- the lines of a script

@@ -1,11 +1,13 @@
-use Rattle.std.proofs.Common.{◌≡◌, [], length}
+use Rattle.std.proofs.Common.{◌≡◌, length}
+use Rattle.pr_text.specs.Chain.{each}
 use Rattle.pr_text.specs.TextLines.{words}
-use Rattle.pr_text.specs.Items.{each_onto, alternative_of}
+use Rattle.pr_text.specs.Items.{alternative_of}
+use Rattle.pr_text.specs.inside.Lists.{each_onto}
 use Rattle.pr_text.proofs.item.alternatives_in.Given as goal
 
 -- the words that are left, behind what was read
 abbrev pub invariant-loop-word : goal.invariant-loop-word
-invariant-loop-word l = each_onto alternative_of l.alternatives.items (words l.rest) ≡ each_onto alternative_of [] (words l.line)
+invariant-loop-word l = each_onto alternative_of l.alternatives.items (words l.rest) ≡ each alternative_of (words l.line)
 
 abbrev pub decreases-loop-word : goal.decreases-loop-word
 decreases-loop-word l = length l.rest

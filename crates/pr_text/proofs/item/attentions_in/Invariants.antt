@@ -1,12 +1,13 @@
-use Rattle.std.proofs.Common.{◌≡◌, [], length}
+use Rattle.std.proofs.Common.{◌≡◌, length}
+use Rattle.pr_text.specs.Chain.{each}
 use Rattle.pr_text.specs.TextLines.{words}
-use Rattle.pr_text.specs.Items.{each_onto}
+use Rattle.pr_text.specs.inside.Lists.{each_onto}
 use Rattle.pr_text.specs.WordTerms.{code_of}
 use Rattle.pr_text.proofs.item.attentions_in.Given as goal
 
 -- the words that are left, behind what was read
 abbrev pub invariant-loop-word : goal.invariant-loop-word
-invariant-loop-word l = each_onto code_of l.attentions.items (words l.rest) ≡ each_onto code_of [] (words l.line)
+invariant-loop-word l = each_onto code_of l.attentions.items (words l.rest) ≡ each code_of (words l.line)
 
 abbrev pub decreases-loop-word : goal.decreases-loop-word
 decreases-loop-word l = length l.rest

@@ -1,5 +1,7 @@
-use Rattle.std.proofs.Common.{◌≡◌, [], length, map}
-use Rattle.pr_text.specs.Declaring.{helds_onto}
+use Rattle.std.proofs.Common.{◌≡◌, length, map}
+use Rattle.pr_text.specs.Chain.{each}
+use Rattle.pr_text.specs.Declaring.{held_of}
+use Rattle.pr_text.specs.inside.Lists.{each_onto}
 use Rattle.pr_text.specs.inside.ItemValues.{wanted_seen}
 use Rattle.pr_text.specs.inside.Drafts.{draft_seen}
 use Rattle.pr_text.proofs.builder.Builder.reservations_of.Given as goal
@@ -7,8 +9,8 @@ use Rattle.pr_text.proofs.builder.Builder.reservations_of.Given as goal
 -- the reservations that are left, behind those so far
 abbrev pub invariant-loop-first : goal.invariant-loop-first
 invariant-loop-first l =
-    helds_onto (map draft_seen l.self.nexuses.items) l.reservations.items (map wanted_seen l.rest)
-    ≡ helds_onto (map draft_seen l.self.nexuses.items) [] (map wanted_seen l.wanted)
+    each_onto (held_of (map draft_seen l.self.nexuses.items)) l.reservations.items (map wanted_seen l.rest)
+    ≡ each (held_of (map draft_seen l.self.nexuses.items)) (map wanted_seen l.wanted)
 
 abbrev pub decreases-loop-first : goal.decreases-loop-first
 decreases-loop-first l = length l.rest

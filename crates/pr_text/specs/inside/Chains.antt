@@ -1,0 +1,254 @@
+-- What a line makes of what is declared, test by test as the reader makes them.
+use Rattle.std.specs.Prelude.{ℕ, List, length, Option, if◌then◌else◌, [], ◌∷◌, Some, None, Bool, ◌&&◌, false, ◌==◌, ◌||◌, not, nat_lt, nat_le, ◌++◌, is_some, slice_set, Result, Ok, Err, drop, true, ◌+◌, count_by}
+use Rattle.std.specs.List.{slice_get, list_all}
+use Rattle.pr_cdb.specs.declared.command.Command.{Command}
+use Rattle.pr_registry.specs.declared.held.Held.{Held}
+use Rattle.pr_attention.specs.declared.attention.Attention.{Attention}
+use Rattle.pr_script.specs.declared.script.Test.{Test}
+use Rattle.pr_roles.specs.declared.role.Clause.{Clause}
+use Rattle.pr_roles.specs.Fitting.{are_distinct, is_alternative, is_same_alternative, is_same_reservation, is_action}
+use Rattle.pr_text.specs.declared.spelling.Spelled.{Spelled}
+use Rattle.pr_text.specs.declared.fault.ReadError.{ReadError}
+use Rattle.pr_text.specs.declared.fault.Which.TheVariants as which
+use Rattle.pr_text.specs.declared.fault.ReadError.TheVariants as fault
+use Rattle.pr_text.specs.Declarations.{scripted, planned, Declaration, Opening, repeating, sending, OpenLines, Place, before_all, outside, in_script, in_plan, Declared}
+use Rattle.pr_text.specs.Chain.{each}
+use Rattle.pr_text.specs.Declaring.{declared_keys, number_of, codes_of, are_codes_distinct, held_of, is_spelled, is_test_declared}
+use Rattle.pr_text.specs.Faults.{and_then, unless}
+use Rattle.pr_text.specs.Items.{Wanted, Item, fence_line, keys_line, host_line, guest_line, start_line, pending_line, reservation_line, generation_line, role_line, script_line, plan_line, end_line, send_line, on_line, done_line, repeat_line, break_line, stop_line, command_line}
+use Rattle.pr_text.specs.Placing.{with_task, begun_script, opening, stating}
+use Rattle.pr_text.specs.SaidLines.{said_by, numbered}
+use Rattle.pr_text.specs.ScriptLines.{ScriptLine, send_at, arm_on, block_done, repeat_of, break_out, stop_with}
+use Rattle.pr_text.specs.Standing.{is_repeating, is_sending, awaits_arm, awaits_more, may_close, stands_under}
+
+-- ---- hosts and guests
+
+-- something else is declared of the host or guest with this number
+abbrev pub nexus_set : Declared → ℕ → Declaration → Declared
+nexus_set d h x = record d { nexuses = slice_set d.nexuses h x }
+
+-- a step on what is declared of this host or guest
+abbrev pub on_nexus : ℕ → Option Declaration → (Declaration → Result Declared ReadError) → Result Declared ReadError
+on_nexus n None step = Err (fault.UnknownName n)
+on_nexus n (Some x) step = step x
+
+abbrev pub at_number : ℕ → Declared → Option ℕ → (ℕ → Declaration → Result Declared ReadError) → Result Declared ReadError
+at_number n d None step = Err (fault.UnknownName n)
+at_number n d (Some h) step = on_nexus n (slice_get d.nexuses h) (step h)
+
+-- a step of the host or guest with this name
+abbrev pub at_name : ℕ → Declared → List ℕ → (ℕ → Declaration → Result Declared ReadError) → Result Declared ReadError
+at_name n d name step = at_number n d (number_of d.nexuses name) step
+
+unfoldable pub keys_placed : ℕ → List ℕ → Declared → Result Declared ReadError
+keys_placed n keys d =
+    if is_some d.keys || not (are_distinct (λ j k. j == k) keys) then Err (fault.Repeated n) else (
+    if nat_lt 12 (length keys) then Err (fault.Limit which.Keys n) else
+    Ok (record d { keys = Some keys }))
+
+unfoldable pub nexus_placed : ℕ → Bool → List ℕ → Declared → Result Declared ReadError
+nexus_placed n guest name d =
+    if is_some (number_of d.nexuses name) then Err (fault.Repeated n) else (
+    if nat_le 8 (length d.nexuses) then Err (fault.Limit which.Hosts n) else
+    Ok (record d { nexuses = d.nexuses ++ record { name = name; line = n; is_guest = guest; start = None; pending = None; role = []; task = None } ∷ [] }))
+
+abbrev pub start_fault : ℕ → List ℕ → Declaration → List (Option ℕ) → Option ReadError
+start_fault n keys x xs =
+    if not (list_all (is_alternative keys) xs) then Some (fault.UndeclaredKey n) else (
+    if is_some x.start || not (are_distinct is_same_alternative xs) then Some (fault.Repeated n) else None)
+
+abbrev pub start_at : ℕ → List (Option ℕ) → Declared → ℕ → Declaration → Result Declared ReadError
+start_at n xs d h x = unless (start_fault n (declared_keys d) x xs) (nexus_set d h (record x { start = Some xs }))
+
+unfoldable pub start_placed : ℕ → List ℕ → List (Option ℕ) → Declared → Result Declared ReadError
+start_placed n name xs d = at_name n d name (start_at n xs d)
+
+abbrev pub pending_at : ℕ → List Attention → Declared → ℕ → Declaration → Result Declared ReadError
+pending_at n xs d h x =
+    if is_some x.pending || not (are_codes_distinct xs) then Err (fault.Repeated n) else
+    Ok (nexus_set d h (record x { pending = Some (codes_of xs) }))
+
+unfoldable pub pending_placed : ℕ → List ℕ → List Attention → Declared → Result Declared ReadError
+pending_placed n name xs d = at_name n d name (pending_at n xs d)
+
+abbrev pub reservations_at : ℕ → Declared → Option (List (Option Held)) → Result Declared ReadError
+reservations_at n d None = Err (fault.UnknownName n)
+reservations_at n d (Some vs) =
+    if is_some d.reservations || not (are_distinct is_same_reservation vs) then Err (fault.Repeated n) else
+    Ok (record d { reservations = Some vs })
+
+unfoldable pub reservation_placed : ℕ → List Wanted → Declared → Result Declared ReadError
+reservation_placed n ws d = reservations_at n d (each (held_of d.nexuses) ws)
+
+unfoldable pub generation_placed : ℕ → ℕ → Declared → Result Declared ReadError
+generation_placed n generation d =
+    if is_some d.generation then Err (fault.Repeated n) else Ok (record d { generation = Some generation })
+
+abbrev pub role_at : ℕ → Clause → Declared → ℕ → Declaration → Result Declared ReadError
+role_at n clause d h x =
+    if not (is_action (declared_keys d) clause.action) then Err (fault.UndeclaredKey n) else (
+    if nat_le 32 (length x.role) then Err (fault.Limit which.Roles n) else
+    Ok (nexus_set d h (record x { role = x.role ++ clause ∷ [] })))
+
+unfoldable pub role_placed : ℕ → List ℕ → Clause → Declared → Result Declared ReadError
+role_placed n name clause d = at_name n d name (role_at n clause d)
+
+abbrev pub script_fault : ℕ → ℕ → Declaration → Option ReadError
+script_fault n budget x =
+    if x.is_guest then Some (fault.UnknownName n) else (
+    if is_some x.task then Some (fault.Repeated n) else (
+    if not (nat_le 1 budget && nat_le budget 4096) then Some (fault.Limit which.Budget n) else None))
+
+abbrev pub script_at : ℕ → ℕ → Declared → ℕ → Declaration → Result Declared ReadError
+script_at n budget d h x = unless (script_fault n budget x) (record d { place = in_script (begun_script h budget) })
+
+unfoldable pub script_placed : ℕ → List ℕ → ℕ → Declared → Result Declared ReadError
+script_placed n name budget d = at_name n d name (script_at n budget d)
+
+abbrev pub plan_at : ℕ → Declared → ℕ → Declaration → Result Declared ReadError
+plan_at n d h x =
+    if not x.is_guest then Err (fault.UnknownName n) else (
+    if is_some x.task then Err (fault.Repeated n) else
+    Ok (record d { place = in_plan h [] }))
+
+unfoldable pub plan_placed : ℕ → List ℕ → Declared → Result Declared ReadError
+plan_placed n name d = at_name n d name (plan_at n d)
+
+abbrev pub is_full : OpenLines → Bool
+is_full o = nat_le 512 o.statements
+
+unfoldable pub send_step : ℕ → List ℕ → Spelled → OpenLines → Result OpenLines ReadError
+send_step n keys s o =
+    if awaits_arm o.blocks then Err (fault.Syntax n) else (
+    if not (is_spelled keys s) then Err (fault.UndeclaredKey n) else (
+    if is_full o then Err (fault.Limit which.Statements n) else (
+    if nat_le 8 (count_by is_sending o.blocks) then Err (fault.Limit which.Nesting n) else
+    Ok (opening (send_at n s.command) (sending s.command 0) o))))
+
+unfoldable pub repeat_step : ℕ → ℕ → OpenLines → Result OpenLines ReadError
+repeat_step n count o =
+    if awaits_arm o.blocks then Err (fault.Syntax n) else (
+    if is_full o then Err (fault.Limit which.Statements n) else (
+    if nat_le 8 (count_by is_repeating o.blocks) then Err (fault.Limit which.Nesting n) else (
+    if not (nat_le 1 count && nat_le count 1000) then Err (fault.Limit which.Repeat n) else
+    Ok (opening (repeat_of count) repeating o))))
+
+unfoldable pub break_step : ℕ → OpenLines → Result OpenLines ReadError
+break_step n o =
+    if awaits_more o || count_by is_repeating o.blocks == 0 then Err (fault.Syntax n) else (
+    if is_full o then Err (fault.Limit which.Statements n) else
+    Ok (stating break_out o))
+
+unfoldable pub stop_step : ℕ → List ℕ → OpenLines → Result OpenLines ReadError
+stop_step n word o =
+    if awaits_more o then Err (fault.Syntax n) else (
+    if is_full o then Err (fault.Limit which.Statements n) else
+    Ok (stating (stop_with word) o))
+
+-- why an arm may not be the next of a send that has so many
+abbrev pub arm_fault : ℕ → List ℕ → Test → Command → ℕ → Option ReadError
+arm_fault n keys t c arms =
+    if not (stands_under c t) then Some (fault.Syntax n) else (
+    if not (is_test_declared keys t) then Some (fault.UndeclaredKey n) else (
+    if nat_le 16 arms then Some (fault.Limit which.Arms n) else None))
+
+abbrev pub on_step_in : ℕ → List ℕ → Test → OpenLines → List Opening → Result OpenLines ReadError
+on_step_in n keys t o [] = Err (fault.Syntax n)
+on_step_in n keys t o (repeating ∷ bs) = Err (fault.Syntax n)
+on_step_in n keys t o ((sending c arms) ∷ bs) =
+    unless (arm_fault n keys t c arms) (record o { lines = o.lines ++ arm_on t ∷ []; blocks = sending c (arms + 1) ∷ bs; begun = false })
+
+unfoldable pub on_step : ℕ → List ℕ → Test → OpenLines → Result OpenLines ReadError
+on_step n keys t o = on_step_in n keys t o o.blocks
+
+unfoldable pub done_step : ℕ → OpenLines → Result OpenLines ReadError
+done_step n o =
+    if may_close o.blocks o.begun then
+    Ok (record o { lines = o.lines ++ block_done ∷ []; blocks = drop 1 o.blocks; begun = true })
+    else Err (fault.Syntax n)
+
+-- what the line of this number makes of the script, under these declared keys
+abbrev pub script_step : ℕ → List ℕ → Item → OpenLines → Result OpenLines ReadError
+script_step n keys (send_line s) o = send_step n keys s o
+script_step n keys (on_line t) o = on_step n keys t o
+script_step n keys done_line o = done_step n o
+script_step n keys (repeat_line count) o = repeat_step n count o
+script_step n keys break_line o = break_step n o
+script_step n keys (stop_line word) o = stop_step n word o
+script_step n keys fence_line o = Err (fault.Syntax n)
+script_step n keys (keys_line ks) o = Err (fault.Syntax n)
+script_step n keys (host_line name) o = Err (fault.Syntax n)
+script_step n keys (guest_line name) o = Err (fault.Syntax n)
+script_step n keys (start_line name xs) o = Err (fault.Syntax n)
+script_step n keys (pending_line name xs) o = Err (fault.Syntax n)
+script_step n keys (reservation_line ws) o = Err (fault.Syntax n)
+script_step n keys (generation_line generation) o = Err (fault.Syntax n)
+script_step n keys (role_line name clause) o = Err (fault.Syntax n)
+script_step n keys (script_line name budget) o = Err (fault.Syntax n)
+script_step n keys (plan_line name) o = Err (fault.Syntax n)
+script_step n keys end_line o = Err (fault.Syntax n)
+script_step n keys (command_line s) o = Err (fault.Syntax n)
+
+-- the first line
+abbrev pub placed_first : ℕ → Item → Declared → Result Declared ReadError
+placed_first n fence_line d = Ok (record d { place = outside })
+placed_first n item d = Err (fault.Syntax n)
+
+-- a line outside scripts and plans
+abbrev pub placed_outside : ℕ → Item → Declared → Result Declared ReadError
+placed_outside n (keys_line keys) d = keys_placed n keys d
+placed_outside n (host_line name) d = nexus_placed n false name d
+placed_outside n (guest_line name) d = nexus_placed n true name d
+placed_outside n (start_line name xs) d = start_placed n name xs d
+placed_outside n (pending_line name xs) d = pending_placed n name xs d
+placed_outside n (reservation_line ws) d = reservation_placed n ws d
+placed_outside n (generation_line generation) d = generation_placed n generation d
+placed_outside n (role_line name clause) d = role_placed n name clause d
+placed_outside n (script_line name budget) d = script_placed n name budget d
+placed_outside n (plan_line name) d = plan_placed n name d
+placed_outside n fence_line d = Err (fault.Syntax n)
+placed_outside n end_line d = Err (fault.Syntax n)
+placed_outside n (send_line s) d = Err (fault.Syntax n)
+placed_outside n (on_line t) d = Err (fault.Syntax n)
+placed_outside n done_line d = Err (fault.Syntax n)
+placed_outside n (repeat_line count) d = Err (fault.Syntax n)
+placed_outside n break_line d = Err (fault.Syntax n)
+placed_outside n (stop_line word) d = Err (fault.Syntax n)
+placed_outside n (command_line s) d = Err (fault.Syntax n)
+
+-- the last line of a script, within which no block is open
+abbrev pub script_ended : ℕ → OpenLines → Declared → Result Declared ReadError
+script_ended n o d =
+    if length o.blocks == 0 then Ok (with_task d o.host (scripted o.lines o.budget)) else Err (fault.Syntax n)
+
+-- a line of a script
+abbrev pub placed_in_script : ℕ → OpenLines → Item → Declared → Result Declared ReadError
+placed_in_script n o end_line d = script_ended n o d
+placed_in_script n o item d = and_then (script_step n (declared_keys d) item o) (λ p. Ok (record d { place = in_script p }))
+
+unfoldable pub planned_step : ℕ → List ℕ → Spelled → List Command → Result (List Command) ReadError
+planned_step n keys s commands =
+    if not (is_spelled keys s) then Err (fault.UndeclaredKey n) else (
+    if nat_le 256 (length commands) then Err (fault.Limit which.Plan n) else
+    Ok (commands ++ s.command ∷ []))
+
+-- a line of a plan
+abbrev pub placed_in_plan : ℕ → ℕ → List Command → Item → Declared → Result Declared ReadError
+placed_in_plan n h commands (command_line s) d = and_then (planned_step n (declared_keys d) s commands) (λ more. Ok (record d { place = in_plan h more }))
+placed_in_plan n h commands end_line d = Ok (with_task d h (planned commands))
+placed_in_plan n h commands item d = Err (fault.Syntax n)
+
+abbrev pub placed_at : ℕ → Place → Item → Declared → Result Declared ReadError
+placed_at n before_all item d = placed_first n item d
+placed_at n outside item d = placed_outside n item d
+placed_at n (in_script o) item d = placed_in_script n o item d
+placed_at n (in_plan h commands) item d = placed_in_plan n h commands item d
+
+-- a line where it stands
+unfoldable pub item_taken : ℕ → Item → Declared → Result Declared ReadError
+item_taken n item d = placed_at n d.place item d
+
+-- what the lines make of an open script, one after another, under these declared keys
+abbrev pub all_stepped : ℕ → List ℕ → List ScriptLine → OpenLines → Result OpenLines ReadError
+all_stepped n keys [] o = Ok o
+all_stepped n keys (l ∷ ls) o = and_then (script_step (numbered n l) keys (said_by l) o) (all_stepped n keys ls)
