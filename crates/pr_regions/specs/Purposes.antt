@@ -5,10 +5,10 @@ use Rattle.std.specs.Option.{option_map_or}
 use Rattle.pr_cdb.specs.declared.command.Kind.{Kind}
 use Rattle.pr_cdb.specs.declared.command.Command.{Command}
 use Rattle.pr_cdb.specs.declared.command.Command.TheVariants as command
+use Rattle.pr_unit.specs.declared.unit.TheConstants.{CAPACITY}
 use Rattle.pr_registry.specs.Hosts.{is_key}
 use Rattle.pr_script.specs.Grammar.{is_written_key}
 use Rattle.pr_unit.specs.Conflicts.{is_wrong_key}
-use Rattle.pr_unit.specs.declared.unit.TheConstants.{CAPACITY}
 use Rattle.pr_regions.specs.declared.purpose.Purpose.{Purpose}
 use Rattle.pr_regions.specs.declared.purpose.Purpose.TheVariants.{Look, Read, Write, Register, Unregister, Reserve, Release, Clear, PreemptAll, Preempt}
 

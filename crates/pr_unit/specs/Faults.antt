@@ -9,8 +9,8 @@ use Rattle.pr_cdb.specs.declared.command.Command.TheVariants.{TestUnitReady, Req
 use Rattle.pr_cdb.specs.declared.reply.Sense.{Sense}
 use Rattle.pr_cdb.specs.declared.wire.Request.{Request}
 use Rattle.pr_cdb.specs.declared.wire.Request.TheVariants.{Plain, Faulty}
-use Rattle.pr_registry.specs.Registrations.{State, is_holder}
 use Rattle.pr_unit.specs.declared.unit.TheConstants.{CAPACITY}
+use Rattle.pr_registry.specs.Registrations.{State, is_holder}
 use Rattle.pr_registry.specs.Changes.{is_held_as, is_held_by_all, preempt_case, is_replacing}
 
 -- ILLEGAL REQUEST, with this additional sense code and qualifier
@@ -19,7 +19,9 @@ illegal asc ascq = record { key = ILLEGAL_REQUEST; asc = asc; ascq = ascq }
 
 -- invalid release of persistent reservation: a holder names another type
 abbrev pub release_fault : State → ℕ → Kind → Option Sense
-release_fault u h kind = if is_holder u h && not (is_held_as u.held kind) then Some (illegal INVALID_FIELD_IN_PARAMETER_LIST INVALID_RELEASE_OF_PERSISTENT_RESERVATION) else None
+release_fault u h kind =
+    if is_holder u h && not (is_held_as u.held kind) then
+    Some (illegal INVALID_FIELD_IN_PARAMETER_LIST INVALID_RELEASE_OF_PERSISTENT_RESERVATION) else None
 
 -- A key of zero is for a reservation of all registrants alone, and a reservation is replaced by one of a
 -- type.
