@@ -421,8 +421,8 @@ impl Unit {
             Command::Preempt { rk, sark, .. } | Command::PreemptAbort { rk, sark, .. } => {
                 self.lacks_key(host, rk) || sark != 0 && !self.keys.contains(&Some(sark))
             }
-            Command::Read { .. } => self.is_shut_out(host, false),
-            Command::Write { .. } => self.is_shut_out(host, true),
+            Command::Read { .. } => self.is_denied(host, false),
+            Command::Write { .. } => self.is_denied(host, true),
             _ => false,
         }
     }
@@ -439,7 +439,7 @@ impl Unit {
         }
     }
 
-    fn is_shut_out(&self, host: usize, writes: bool) -> bool {
+    fn is_denied(&self, host: usize, writes: bool) -> bool {
         let Some(held) = self.held else {
             return false;
         };

@@ -8,9 +8,9 @@ use Rattle.pr_cdb.specs.declared.command.Command.{Command}
 use Rattle.pr_cdb.specs.declared.command.Command.TheVariants as command
 use Rattle.pr_registry.specs.declared.held.Held.{Held}
 use Rattle.pr_registry.specs.declared.held.Held.TheVariants.{One, All as Everybody}
-use Rattle.pr_registry.specs.Hosts.{is_key, is_nobodys}
+use Rattle.pr_registry.specs.Hosts.{is_key, has_no_registrant}
 use Rattle.pr_registry.specs.Registrations.{State, key_of}
-use Rattle.pr_registry.specs.Changes.{is_in_the_way}
+use Rattle.pr_registry.specs.Changes.{conflicts_with_reserve}
 use Rattle.pr_unit.specs.UnitStates.{UnitState}
 use Rattle.pr_unit.specs.Conflicts.{command_conflicts}
 use Rattle.pr_script.specs.declared.script.Test.{Test}
@@ -120,11 +120,11 @@ refused_conflicts u h (command.ReadReservation alloc) is = is
 refused_conflicts u h (command.ReportCapabilities alloc) is = is
 refused_conflicts u h (command.Register rk sark) is = is
 refused_conflicts u h (command.RegisterIgnore sark) is = is
-refused_conflicts u h (command.Reserve rk kind) is = or_left (not (is_key (key_of u h) rk)) (is_in_the_way u h u.held kind) is
+refused_conflicts u h (command.Reserve rk kind) is = or_left (not (is_key (key_of u h) rk)) (conflicts_with_reserve u h u.held kind) is
 refused_conflicts u h (command.Release rk kind) is = is
 refused_conflicts u h (command.Clear rk) is = is
-refused_conflicts u h (command.Preempt rk sark kind) is = or_left (not (is_key (key_of u h) rk)) (not (sark == 0) && is_nobodys u.keys sark) is
-refused_conflicts u h (command.PreemptAbort rk sark kind) is = or_left (not (is_key (key_of u h) rk)) (not (sark == 0) && is_nobodys u.keys sark) is
+refused_conflicts u h (command.Preempt rk sark kind) is = or_left (not (is_key (key_of u h) rk)) (not (sark == 0) && has_no_registrant u.keys sark) is
+refused_conflicts u h (command.PreemptAbort rk sark kind) is = or_left (not (is_key (key_of u h) rk)) (not (sark == 0) && has_no_registrant u.keys sark) is
 
 few_keys : (keys : List ℕ) → AreDeclared keys → length keys ≤ 12
 few_keys keys declared = leb-true (length keys) 12 (and_parts (nat_le (length keys) 12) (are_distinct (λ j k. j == k) keys) declared.once).0

@@ -15,7 +15,7 @@ use Rattle.pr_attention.proofs.Sets.{contains-no_code}
 use Rattle.pr_unit.specs.UnitStates.{UnitState, IsWellFormed, is_pending, is_any_pending}
 use Rattle.pr_unit.specs.Conflicts.{command_conflicts}
 use Rattle.pr_unit.specs.Replies.{good, is_good, is_request_sense}
-use Rattle.pr_unit.specs.Steps.{Step, line, ends_good}
+use Rattle.pr_unit.specs.Steps.{Step, decision, ends_good}
 use Rattle.pr_unit.proofs.GoodFixed.{good_by_line}
 use Rattle.pr_unit.proofs.GoodSteps.{good_effect, good_step}
 use Rattle.pr_roles.specs.declared.role.Clause.{Clause}
@@ -67,7 +67,7 @@ looks_not (command.PreemptAbort rk sark kind) is = refl
 
 -- where something is pending, it does not end GOOD
 busy_is_not_good : (u : UnitState) (h : ℕ) (c : Command) (on conflict : Bool) → is_pending u h power_on ≡ on → command_conflicts u.registry h c ≡ conflict → is_any_pending u h ≡ true
-    → is_request_sense (Plain c) ≡ false → ends_good (line u h (Plain c)) (Plain c) ≡ false
+    → is_request_sense (Plain c) ≡ false → ends_good (decision u h (Plain c)) (Plain c) ≡ false
 busy_is_not_good u h c true conflict is so busy looks = rw is looks
 busy_is_not_good u h c false true is so busy looks = rw (is, so) refl
 busy_is_not_good u h c false false is so busy looks = rw (busy, is, so) looks

@@ -9,8 +9,8 @@ use Rattle.pr_cdb.specs.declared.command.Command.TheVariants as command
 use Rattle.pr_cdb.specs.declared.reply.Sense.{Sense}
 use Rattle.pr_registry.specs.declared.held.Held.{Held}
 use Rattle.pr_registry.specs.declared.held.Held.TheVariants.{One, All as Everybody}
-use Rattle.pr_registry.specs.Hosts.{is_nobodys}
-use Rattle.pr_registry.specs.Changes.{is_in_the_way}
+use Rattle.pr_registry.specs.Hosts.{has_no_registrant}
+use Rattle.pr_registry.specs.Changes.{conflicts_with_reserve}
 use Rattle.pr_registry.specs.Registrations.{State, key_of, is_registered, is_holder_of}
 use Rattle.pr_unit.specs.UnitStates.{UnitState}
 use Rattle.pr_unit.specs.Conflicts.{command_conflicts, lacks_key}
@@ -89,11 +89,11 @@ refused_conflicts u h (command.ReadReservation alloc) is = absurd (false≢true 
 refused_conflicts u h (command.ReportCapabilities alloc) is = absurd (false≢true is)
 refused_conflicts u h (command.Register rk sark) is = is
 refused_conflicts u h (command.RegisterIgnore sark) is = absurd (false≢true is)
-refused_conflicts u h (command.Reserve rk kind) is = or_left (lacks_key u h rk) (is_in_the_way u h u.held kind) is
+refused_conflicts u h (command.Reserve rk kind) is = or_left (lacks_key u h rk) (conflicts_with_reserve u h u.held kind) is
 refused_conflicts u h (command.Release rk kind) is = is
 refused_conflicts u h (command.Clear rk) is = is
-refused_conflicts u h (command.Preempt rk sark kind) is = or_left (lacks_key u h rk) (not (sark == 0) && is_nobodys u.keys sark) is
-refused_conflicts u h (command.PreemptAbort rk sark kind) is = or_left (lacks_key u h rk) (not (sark == 0) && is_nobodys u.keys sark) is
+refused_conflicts u h (command.Preempt rk sark kind) is = or_left (lacks_key u h rk) (not (sark == 0) && has_no_registrant u.keys sark) is
+refused_conflicts u h (command.PreemptAbort rk sark kind) is = or_left (lacks_key u h rk) (not (sark == 0) && has_no_registrant u.keys sark) is
 
 -- ---- branches
 

@@ -10,8 +10,8 @@ use Rattle.pr_cdb.specs.Kinds.{code_of}
 use Rattle.pr_cdb.specs.Requests.{Fits}
 use Rattle.pr_registry.specs.declared.held.Held.{Held}
 use Rattle.pr_registry.specs.Registrations.{State, IsKey, key_of, kind_of}
-use Rattle.pr_registry.specs.Changes.{is_kind, is_in_the_way}
-use Rattle.pr_registry.specs.Hosts.{is_nobodys}
+use Rattle.pr_registry.specs.Changes.{is_kind, conflicts_with_reserve}
+use Rattle.pr_registry.specs.Hosts.{has_no_registrant}
 use Rattle.pr_unit.specs.Conflicts.{lacks_key, command_conflicts}
 use Rattle.pr_unit.specs.Laws.{request_looks}
 use Rattle.pr_roles.specs.declared.role.Action.{Action}
@@ -49,11 +49,11 @@ not_refused u h (command.ReadReservation alloc) free = refl
 not_refused u h (command.ReportCapabilities alloc) free = refl
 not_refused u h (command.Register rk sark) free = free
 not_refused u h (command.RegisterIgnore sark) free = refl
-not_refused u h (command.Reserve rk kind) free = first_false (lacks_key u h rk) (is_in_the_way u h u.held kind) free
+not_refused u h (command.Reserve rk kind) free = first_false (lacks_key u h rk) (conflicts_with_reserve u h u.held kind) free
 not_refused u h (command.Release rk kind) free = free
 not_refused u h (command.Clear rk) free = free
-not_refused u h (command.Preempt rk sark kind) free = first_false (lacks_key u h rk) (not (sark == 0) && is_nobodys u.keys sark) free
-not_refused u h (command.PreemptAbort rk sark kind) free = first_false (lacks_key u h rk) (not (sark == 0) && is_nobodys u.keys sark) free
+not_refused u h (command.Preempt rk sark kind) free = first_false (lacks_key u h rk) (not (sark == 0) && has_no_registrant u.keys sark) free
+not_refused u h (command.PreemptAbort rk sark kind) free = first_false (lacks_key u h rk) (not (sark == 0) && has_no_registrant u.keys sark) free
 
 -- a purpose that admits strangers
 admits : (p q : Purpose) → Some q ≡ Some p → refuses_strangers q ≡ false → refuses_strangers p ≡ true → false ≡ true

@@ -8,7 +8,7 @@ use Rattle.pr_registry.specs.declared.held.Held.{Held}
 use Rattle.pr_registry.specs.Registrations.{State, is_registered, is_holder, kind_of}
 use Rattle.pr_registry.specs.Changes.{no_change}
 use Rattle.pr_unit.specs.UnitStates.{UnitState}
-use Rattle.pr_unit.specs.Conflicts.{access_conflicts, is_shut_out, reading, writing}
+use Rattle.pr_unit.specs.Conflicts.{access_conflicts, is_denied, reading, writing}
 use Rattle.pr_unit.specs.Faults.{illegal}
 use Rattle.pr_views.specs.Possibilities.{Scope, number_of}
 use Rattle.pr_regions.specs.declared.region.Change.{Change}
@@ -27,7 +27,7 @@ abbrev IsOut : State → ℕ → Standing → Type 0
 IsOut u h standing = not (is_registered u h) ≡ is_unregistered standing
 
 shut_out-reading : (u : State) (h : ℕ) (standing : Standing) (v : Held) (t : Kind) → is_holder u h ≡ holds v h standing → IsOut u h standing
-    → is_shut_out u h (reading t) ≡ keeps_from_reading t v h standing
+    → is_denied u h (reading t) ≡ keeps_from_reading t v h standing
 shut_out-reading u h standing v WriteExclusive holder out = refl
 shut_out-reading u h standing v ExclusiveAccess holder out = ap not holder
 shut_out-reading u h standing v WriteExclusiveRegistrantsOnly holder out = refl
@@ -36,7 +36,7 @@ shut_out-reading u h standing v WriteExclusiveAllRegistrants holder out = refl
 shut_out-reading u h standing v ExclusiveAccessAllRegistrants holder out = out
 
 shut_out-writing : (u : State) (h : ℕ) (standing : Standing) (v : Held) (t : Kind) → is_holder u h ≡ holds v h standing → IsOut u h standing
-    → is_shut_out u h (writing t) ≡ keeps_from_writing t v h standing
+    → is_denied u h (writing t) ≡ keeps_from_writing t v h standing
 shut_out-writing u h standing v WriteExclusive holder out = ap not holder
 shut_out-writing u h standing v ExclusiveAccess holder out = ap not holder
 shut_out-writing u h standing v WriteExclusiveRegistrantsOnly holder out = out

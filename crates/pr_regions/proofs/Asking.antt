@@ -13,9 +13,9 @@ use Rattle.pr_cdb.specs.declared.command.Command.{Command}
 use Rattle.pr_cdb.specs.declared.command.Command.TheVariants as command
 use Rattle.pr_cdb.specs.declared.reply.Sense.{Sense}
 use Rattle.pr_registry.specs.declared.change.Change.{Change}
-use Rattle.pr_registry.specs.Hosts.{is_nobodys, is_key}
+use Rattle.pr_registry.specs.Hosts.{has_no_registrant, is_key}
 use Rattle.pr_registry.specs.Registrations.{State, key_of, is_registered}
-use Rattle.pr_registry.specs.Changes.{no_change, is_in_the_way, is_held_by_all, change_on_unregister, change_on_release, change_on_clear, change_on_preempt}
+use Rattle.pr_registry.specs.Changes.{no_change, conflicts_with_reserve, is_held_by_all, change_on_unregister, change_on_release, change_on_clear, change_on_preempt}
 use Rattle.pr_registry.specs.Effects.{registered, unregistered, reserved, released, cleared, preempted, after, change, after_register, change_on_register}
 use Rattle.pr_unit.specs.Conflicts.{access_conflicts, reading, writing, is_wrong_key, preempt_conflicts, command_conflicts}
 use Rattle.pr_unit.specs.declared.unit.TheConstants.{CAPACITY}
@@ -36,11 +36,11 @@ conflicts_for keys u h (Read ranges) = access_conflicts u h u.held reading
 conflicts_for keys u h (Write ranges) = access_conflicts u h u.held writing
 conflicts_for keys u h (Register j) = false
 conflicts_for keys u h Unregister = false
-conflicts_for keys u h (Reserve t) = is_in_the_way u h u.held t
+conflicts_for keys u h (Reserve t) = conflicts_with_reserve u h u.held t
 conflicts_for keys u h (Release t) = false
 conflicts_for keys u h Clear = false
 conflicts_for keys u h (PreemptAll t) = false
-conflicts_for keys u h (Preempt j t) = is_nobodys u.keys (key_named keys j)
+conflicts_for keys u h (Preempt j t) = has_no_registrant u.keys (key_named keys j)
 
 -- its own fault
 abbrev pub fault_for : State → ℕ → Purpose → Option Sense
@@ -227,10 +227,10 @@ accepts : (u : State) (h rk : ℕ) (rest : Bool) → not (is_key (key_of u h) rk
 accepts u h rk rest accepted = ap (λ b. b || rest) accepted
 
 reserves : (keys : List ℕ) (u : State) (h rk : ℕ) (t : Kind) (p : Purpose) → Some (Reserve t) ≡ Some p → not (is_key (key_of u h) rk) ≡ false
-    → IsAsked keys u h p (not (is_key (key_of u h) rk) || is_in_the_way u h u.held t) None (reserved u h t) no_change
+    → IsAsked keys u h p (not (is_key (key_of u h) rk) || conflicts_with_reserve u h u.held t) None (reserved u h t) no_change
 reserves keys u h rk t p same accepted =
-    subst (λ (q : Purpose). IsAsked keys u h q (not (is_key (key_of u h) rk) || is_in_the_way u h u.held t) None (reserved u h t) no_change) (purpose_in (Reserve t) p same)
-    (record { named = tt; owned = has_key u h rk accepted; conflicting = accepts u h rk (is_in_the_way u h u.held t) accepted; faulty = refl; after = refl; change = refl })
+    subst (λ (q : Purpose). IsAsked keys u h q (not (is_key (key_of u h) rk) || conflicts_with_reserve u h u.held t) None (reserved u h t) no_change) (purpose_in (Reserve t) p same)
+    (record { named = tt; owned = has_key u h rk accepted; conflicting = accepts u h rk (conflicts_with_reserve u h u.held t) accepted; faulty = refl; after = refl; change = refl })
 
 releases : (keys : List ℕ) (u : State) (h rk : ℕ) (t : Kind) (p : Purpose) → Some (Release t) ≡ Some p → not (is_key (key_of u h) rk) ≡ false
     → IsAsked keys u h p (not (is_key (key_of u h) rk)) (release_fault u h t) (released u h t) (change_on_release u h t)
@@ -245,11 +245,11 @@ clears keys u h rk p same free =
     (record { named = tt; owned = has_key u h rk free; conflicting = free; faulty = refl; after = refl; change = refl })
 
 preempts : (keys : List ℕ) (u : State) (h rk sark : ℕ) (t : Kind) (p : Purpose) → HasNumber p → Some (preempting keys sark t) ≡ Some p → not (is_key (key_of u h) rk) ≡ false
-    → IsAsked keys u h p (not (is_key (key_of u h) rk) || (not (sark == 0) && is_nobodys u.keys sark)) (preempt_fault u sark (Some t)) (preempted u h sark (Some t)) (change_on_preempt u h sark (Some t))
+    → IsAsked keys u h p (not (is_key (key_of u h) rk) || (not (sark == 0) && has_no_registrant u.keys sark)) (preempt_fault u sark (Some t)) (preempted u h sark (Some t)) (change_on_preempt u h sark (Some t))
 preempts keys u h rk sark t p has same accepted = at (sark == 0) refl p has (purpose_in (preempting keys sark t) p same)
   where
-    free : preempt_conflicts u h rk sark ≡ (not (sark == 0) && is_nobodys u.keys sark)
-    free = accepts u h rk (not (sark == 0) && is_nobodys u.keys sark) accepted
+    free : preempt_conflicts u h rk sark ≡ (not (sark == 0) && has_no_registrant u.keys sark)
+    free = accepts u h rk (not (sark == 0) && has_no_registrant u.keys sark) accepted
 
     faults : (b : Bool) → (sark == 0) ≡ b → preempt_fault u sark (Some t) ≡ (if b && not (is_held_by_all u.held) then Some (illegal 0x26 0x00) else None)
     faults b is = ap (λ z. if z && not (is_held_by_all u.held) then Some (illegal 0x26 0x00) else None) is
@@ -262,7 +262,7 @@ preempts keys u h rk sark t p has same accepted = at (sark == 0) refl p has (pur
         (record {
           named = tt;
           owned = has_key u h rk accepted;
-          conflicting = free ∙ ap (λ b. not b && is_nobodys u.keys sark) zeroed;
+          conflicting = free ∙ ap (λ b. not b && has_no_registrant u.keys sark) zeroed;
           faulty = faults true zeroed;
           after = ap (λ k. preempted u h k (Some t)) zero_is;
           change = ap (λ k. change_on_preempt u h k (Some t)) zero_is;
@@ -276,7 +276,7 @@ preempts keys u h rk sark t p has same accepted = at (sark == 0) refl p has (pur
         subst P same (record {
           named = (there.0, there.1 ∙ ap Some (sym key));
           owned = has_key u h rk accepted;
-          conflicting = free ∙ ap (λ b. not b && is_nobodys u.keys sark) other ∙ ap (is_nobodys u.keys) (sym key);
+          conflicting = free ∙ ap (λ b. not b && has_no_registrant u.keys sark) other ∙ ap (has_no_registrant u.keys) (sym key);
           faulty = faults false other;
           after = ap (λ k. preempted u h k (Some t)) (sym key);
           change = ap (λ k. change_on_preempt u h k (Some t)) (sym key);

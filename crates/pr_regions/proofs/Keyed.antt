@@ -11,7 +11,7 @@ use Rattle.pr_cdb.specs.declared.command.Kind.{Kind}
 use Rattle.pr_cdb.specs.declared.command.Command.{Command}
 use Rattle.pr_registry.specs.declared.held.Held.{Held}
 use Rattle.pr_registry.specs.declared.held.Held.TheVariants.{One, All}
-use Rattle.pr_registry.specs.Hosts.{Keys, Hosts, nobody, without, hosts_with, is_key, is_nobodys, is_empty}
+use Rattle.pr_registry.specs.Hosts.{Keys, Hosts, nobody, without, hosts_with, is_key, has_no_registrant, is_empty}
 use Rattle.pr_registry.specs.Registrations.{State, IsKey, key_of, is_registered, established}
 use Rattle.pr_registry.specs.Changes.{ReplacesAll, ReplacesHolder, RemovesKey, preempt_case, is_kind}
 use Rattle.pr_registry.specs.Effects.{held_by_rest}
@@ -39,10 +39,10 @@ same_itself k = grind (arith, nat_tests)
 
 -- ---- whether a key is anybody's
 
-pub somebodys : (keys : Keys) (g k : ℕ) → map.get keys g ≡ Some k → is_nobodys keys k ≡ false
-somebodys keys g k has = at (is_nobodys keys k) refl
+pub somebodys : (keys : Keys) (g k : ℕ) → map.get keys g ≡ Some k → has_no_registrant keys k ≡ false
+somebodys keys g k has = at (has_no_registrant keys k) refl
   where
-    at : (b : Bool) → is_nobodys keys k ≡ b → b ≡ false
+    at : (b : Bool) → has_no_registrant keys k ≡ b → b ≡ false
     at false is = refl
     at true is =
         let empty : set.len (hosts_with keys k) ≡ 0 = grind (arith, nat_tests) in
@@ -50,7 +50,7 @@ somebodys keys g k has = at (is_nobodys keys k) refl
         let there = none ∙ contains-hosts_with keys k g ∙ ap (λ o. is_key o k) has ∙ same_itself k in
         absurd (false≢true there)
 
-pub nobodys : (keys : Keys) (k : ℕ) → ((g : ℕ) → is_key (map.get keys g) k ≡ false) → is_nobodys keys k ≡ true
+pub nobodys : (keys : Keys) (k : ℕ) → ((g : ℕ) → is_key (map.get keys g) k ≡ false) → has_no_registrant keys k ≡ true
 nobodys keys k none =
     let empty : hosts_with keys k ≡ nobody = same_hosts (hosts_with keys k) nobody (λ g. contains-hosts_with keys k g ∙ none g ∙ sym (contains-nobody g)) in
     ap (λ (s : Hosts). set.len s == 0) empty ∙ ap (λ n. n == 0) (set.len-empty nat_cmp)

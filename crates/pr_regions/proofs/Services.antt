@@ -7,7 +7,7 @@ use Rattle.pr_registry.specs.declared.held.Held.{Held}
 use Rattle.pr_registry.specs.declared.held.Held.TheVariants.{One, All}
 use Rattle.pr_registry.specs.Hosts.{Keys}
 use Rattle.pr_registry.specs.Registrations.{is_holder_of, kind_of, established, is_for_registrants}
-use Rattle.pr_registry.specs.Changes.{ReplacesAll, preempt_case, is_kind, is_held_as, is_in_the_way, is_released, is_told_of_loss, is_held_by_all}
+use Rattle.pr_registry.specs.Changes.{ReplacesAll, preempt_case, is_kind, is_held_as, conflicts_with_reserve, is_released, is_told_of_loss, is_held_by_all}
 use Rattle.pr_registry.specs.Effects.{held_or, reserved, released}
 use Rattle.pr_unit.specs.UnitStates.{UnitState}
 use Rattle.pr_unit.specs.Faults.{illegal, release_fault}
@@ -47,7 +47,7 @@ reserve_new hosts t held sender standing change free does room = record {
       let none : u.registry.held ≡ None = m.held ∙ free in
       let now = number_of s.hosts (held_or u.registry.held (established t sender)) in
       let left : number_of hosts (Some (established t sender)) ≡ now = λ i. number_of (sym alike i) (held_or (sym none i) (established t sender)) in
-      good_ends s (Reserve t) held sender standing u c None never now never never never change tt m (ap (λ v. is_in_the_way u.registry sender v t) none) refl
+      good_ends s (Reserve t) held sender standing u c None never now never never never change tt m (ap (λ v. conflicts_with_reserve u.registry sender v t) none) refl
       (leaves change None never (number_of hosts (Some (established t sender))) now never never never left does)
       (still s.keys s.hosts sender u.registry (reserved u.registry sender t) (λ g. refl));
   fits = room;
@@ -55,9 +55,9 @@ reserve_new hosts t held sender standing change free does room = record {
 
 -- what is in the way of a reservation, where one stands
 in_the_way : (s : Scope) (t : Kind) (held : Option Held) (v : Held) (sender : ℕ) (standing : Standing) (u : UnitState) (c : Command) → Meets s (Reserve t) held sender standing u c
-    → held ≡ Some v → is_in_the_way u.registry sender u.registry.held t ≡ not (holds v sender standing && is_kind (kind_of v) t)
+    → held ≡ Some v → conflicts_with_reserve u.registry sender u.registry.held t ≡ not (holds v sender standing && is_kind (kind_of v) t)
 in_the_way s t held v sender standing u c m is =
-    ap (λ w. is_in_the_way u.registry sender w t) (m.held ∙ is)
+    ap (λ w. conflicts_with_reserve u.registry sender w t) (m.held ∙ is)
     ∙ ap (λ b. not (b && is_kind (kind_of v) t)) (is_holder-standing s (Reserve t) held v sender standing u c m is)
 
 pub reserve_same : (hosts : ℕ) (t : Kind) (held : Option Held) (v : Held) (sender : ℕ) (standing : Standing) (change : Change) → held ≡ Some v

@@ -11,7 +11,7 @@ use Rattle.pr_cdb.specs.Kinds.{code_of}
 use Rattle.pr_registry.specs.declared.held.Held.{Held}
 use Rattle.pr_registry.specs.declared.held.Held.TheVariants.{One, All}
 use Rattle.pr_registry.specs.declared.change.Change.{Change}
-use Rattle.pr_registry.specs.Hosts.{Hosts, Keys, nobody, just, is_key, is_nobodys, hosts_in, hosts_with}
+use Rattle.pr_registry.specs.Hosts.{Hosts, Keys, nobody, just, is_key, has_no_registrant, hosts_in, hosts_with}
 use Rattle.pr_registry.specs.Registrations.{State, registrants, others, is_holder, holds_alone, is_for_registrants, kind_of}
 
 abbrev pub no_change : Change
@@ -39,9 +39,9 @@ is_held_as None t = false
 is_held_as (Some v) t = is_kind (kind_of v) t
 
 -- a reservation that keeps h from reserving: one that h does not hold, or of another type
-abbrev pub is_in_the_way : State → ℕ → Option Held → Kind → Bool
-is_in_the_way u h None t = false
-is_in_the_way u h (Some v) t = not (is_holder u h && is_held_as (Some v) t)
+abbrev pub conflicts_with_reserve : State → ℕ → Option Held → Kind → Bool
+conflicts_with_reserve u h None t = false
+conflicts_with_reserve u h (Some v) t = not (is_holder u h && is_held_as (Some v) t)
 
 -- RELEASE by a holder of the type that stands ends the reservation
 abbrev pub is_released : State → ℕ → Kind → Bool
@@ -85,7 +85,7 @@ is_replacing RemovesKey = false
 -- The key picks out registrations: it is some host's, or zero where all registrants hold. A PREEMPT with
 -- any other key does not end GOOD.
 abbrev pub picks_registrations : Keys → Option Held → ℕ → Bool
-picks_registrations keys held sark = if sark == 0 then is_held_by_all held else not (is_nobodys keys sark)
+picks_registrations keys held sark = if sark == 0 then is_held_by_all held else not (has_no_registrant keys sark)
 
 -- A PREEMPT that replaces a reservation has a type: without one it is at fault.
 abbrev pub HasKindIfReplacing : Option Kind → Case → Type 0

@@ -31,8 +31,8 @@ unfoldable pub hosts_with : Keys → ℕ → Hosts
 hosts_with keys k = set.retain (hosts_in keys) (λ h. is_key (map.get keys h) k)
 
 -- no host has the key k
-abbrev pub is_nobodys : Keys → ℕ → Bool
-is_nobodys keys k = set.len (hosts_with keys k) == 0
+abbrev pub has_no_registrant : Keys → ℕ → Bool
+has_no_registrant keys k = set.len (hosts_with keys k) == 0
 
 -- the pairs whose host is not among the removed
 unfoldable pub without : Keys → Hosts → Keys

@@ -42,8 +42,8 @@ impl Model for Registry {
 
 impl Registry {
     ghost use Rattle.pr_registry.specs.Registrations.{IsWellFormed, Holds, fresh, state_from, key_of, is_registered, others, is_holder};
-    ghost use Rattle.pr_registry.specs.Hosts.{is_nobodys};
-    ghost use Rattle.pr_registry.specs.Changes.{no_change, is_in_the_way, is_held_as, is_held_by_all, is_released, preempt_case, is_replacing, HasKindIfReplacing, change_on_unregister, change_on_release, change_on_clear, change_on_preempt, picks_registrations};
+    ghost use Rattle.pr_registry.specs.Hosts.{has_no_registrant};
+    ghost use Rattle.pr_registry.specs.Changes.{no_change, conflicts_with_reserve, is_held_as, is_held_by_all, is_released, preempt_case, is_replacing, HasKindIfReplacing, change_on_unregister, change_on_release, change_on_clear, change_on_preempt, picks_registrations};
     ghost use Rattle.pr_registry.specs.inside.Cases.{case_of};
     ghost use Rattle.pr_registry.specs.Effects.{registered, unregistered, reserved, released, cleared, preempted};
 
@@ -128,10 +128,10 @@ impl Registry {
     }
 
     /// Whether no host is registered with this key.
-    pub fn is_nobodys(&self, key: u64) -> bool
-        ensures { result ≡ is_nobodys self.now.keys key }
+    pub fn has_no_registrant(&self, key: u64) -> bool
+        ensures { result ≡ has_no_registrant self.now.keys key }
     {
-        table::is_nobodys(&self.slots, key)
+        table::has_no_registrant(&self.slots, key)
     }
 
     /// Whether the host holds the reservation: the single holder, or each registrant under types 7 and 8.
@@ -157,9 +157,9 @@ impl Registry {
     }
 
     /// Whether the reservation keeps the host from reserving with this type.
-    pub fn is_in_the_way(&self, host: u8, kind: Kind) -> bool
+    pub fn conflicts_with_reserve(&self, host: u8, kind: Kind) -> bool
         requires { host < self.now.hosts }
-        ensures { result ≡ is_in_the_way self.now host self.now.held kind }
+        ensures { result ≡ conflicts_with_reserve self.now host self.now.held kind }
     {
         self.held.is_some() && !self.is_released(host, kind)
     }
@@ -210,7 +210,7 @@ impl Registry {
     /// holds a reservation of this type already changes nothing.
     pub fn reserve(&mut self, host: u8, kind: Kind) -> Change
         requires there { IsTrue (is_registered self.old host) }
-        requires free { is_in_the_way self.old host self.old.held kind ≡ false }
+        requires free { conflicts_with_reserve self.old host self.old.held kind ≡ false }
         ensures state { self.new ≡ reserved self.old host kind }
         ensures change { result ≡ no_change }
     {

@@ -3,7 +3,7 @@
 
 ghost use Rattle.std.specs.Prelude.{◌≡◌, ◌<◌, ◌≤◌, ◌↔◌, ℕ, IsTrue, if◌then◌else◌, None, length, slice_index_or};
 ghost use Rattle.std.specs.FinMap as map;
-ghost use Rattle.pr_registry.specs.Hosts.{just, is_key, hosts_in, hosts_with, is_nobodys, is_empty, without};
+ghost use Rattle.pr_registry.specs.Hosts.{just, is_key, hosts_in, hosts_with, has_no_registrant, is_empty, without};
 ghost use Rattle.pr_registry.specs.Registrations.{table_keys, is_all, is_for_registrants, established, holds_alone, is_holder_of, HasHolder, IsKeyOrNone};
 ghost use Rattle.pr_registry.specs.Changes.{is_kind, is_told_of_loss, is_held_as, is_held_by_all};
 ghost use Rattle.pr_registry.specs.Effects.{held_by_rest};
@@ -41,8 +41,8 @@ pub(crate) fn hosts_with(slots: &[Option<u64>; MOST_NEXUSES], key: u64) -> HostS
 }
 
 /// Whether no host is registered with this key.
-pub(crate) fn is_nobodys(slots: &[Option<u64>; MOST_NEXUSES], key: u64) -> bool
-    ensures { result ≡ is_nobodys (table_keys MOST_NEXUSES slots.now) key }
+pub(crate) fn has_no_registrant(slots: &[Option<u64>; MOST_NEXUSES], key: u64) -> bool
+    ensures { result ≡ has_no_registrant (table_keys MOST_NEXUSES slots.now) key }
 {
     hosts_with(slots, key).is_empty()
 }

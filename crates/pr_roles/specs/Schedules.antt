@@ -8,7 +8,7 @@ use Rattle.pr_cdb.specs.declared.reply.Reply.{Reply}
 use Rattle.pr_cdb.specs.declared.wire.Request.TheVariants.{Plain}
 use Rattle.pr_cdb.specs.Spelling.{spelling}
 use Rattle.pr_unit.specs.UnitStates.{UnitState}
-use Rattle.pr_unit.specs.Steps.{TakenStep, line, ends_good}
+use Rattle.pr_unit.specs.Steps.{TakenStep, decision, ends_good}
 use Rattle.pr_script.specs.Scripts.{Standing, ready, stopped}
 use Rattle.pr_roles.specs.declared.role.Clause.{Clause}
 use Rattle.pr_roles.specs.Permits.{is_permitted}
@@ -38,7 +38,7 @@ HostTurn None w h v = v ≡ w
 
 -- the command would end GOOD, and the role does not permit that
 abbrev pub is_held_back : List Clause → UnitState → ℕ → Command → Bool
-is_held_back clauses u g c = ends_good (line u g (Plain c)) (Plain c) && not (is_permitted clauses u.registry g (Plain c))
+is_held_back clauses u g c = ends_good (decision u g (Plain c)) (Plain c) && not (is_permitted clauses u.registry g (Plain c))
 
 abbrev pub SendsUnless : Bool → World → ℕ → Command → World → Type 0
 SendsUnless true w g c v = v ≡ w

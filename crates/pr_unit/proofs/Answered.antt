@@ -5,14 +5,14 @@ use Rattle.pr_cdb.specs.declared.reply.Sense.{Sense}
 use Rattle.pr_cdb.specs.declared.reply.Reply.{Reply}
 use Rattle.pr_cdb.specs.declared.wire.Request.{Request}
 use Rattle.pr_cdb.specs.declared.wire.Request.TheVariants.{Plain, Faulty}
-use Rattle.pr_unit.specs.declared.line.Line.{Line}
-use Rattle.pr_unit.specs.declared.line.Line.TheVariants.{PowerOn, Conflicting, Attention}
+use Rattle.pr_unit.specs.declared.decision.Decision.{Decision}
+use Rattle.pr_unit.specs.declared.decision.Decision.TheVariants.{PowerOn, Conflicting, Attention}
 use Rattle.pr_unit.specs.Attentions.{power_on, attentions}
 use Rattle.pr_unit.specs.UnitStates.{UnitState, is_pending, is_any_pending, effect, reported}
 use Rattle.pr_unit.specs.Conflicts.{conflicts}
 use Rattle.pr_unit.specs.Faults.{command_fault, fault}
 use Rattle.pr_unit.specs.Replies.{good, check, conflict, report, data_of}
-use Rattle.pr_unit.specs.Steps.{StepBy, line, last_line}
+use Rattle.pr_unit.specs.Steps.{StepBy, decision, last_decision}
 use Rattle.pr_unit.specs.Laws.{EveryRequestHasAStep}
 
 record Found (p : ℕ → Bool) : Type 0 where
@@ -28,7 +28,7 @@ found p (x ∷ xs) is = at (p x) refl is (found p xs)
     at false here is later = later is
 
 -- a request that is decided so has an answer
-record HasStepBy (l : Line) (u : UnitState) (h : ℕ) (q : Request) : Type 0 where
+record HasStepBy (l : Decision) (u : UnitState) (h : ℕ) (q : Request) : Type 0 where
   pub reply : Reply
   pub after : UnitState
   pub step : StepBy l u h q reply after
@@ -39,26 +39,26 @@ by_attention u h q is =
     record { reply = report q one.item; after = reported u h one.item; step = record { code = one.item; pending = one.passes; reply = refl; after = refl } }
 
 -- what neither conflicts nor meets an attention
-by_fault : (u : UnitState) (h : ℕ) (q : Request) → HasStepBy (last_line (fault u.registry h q)) u h q
+by_fault : (u : UnitState) (h : ℕ) (q : Request) → HasStepBy (last_decision (fault u.registry h q)) u h q
 by_fault u h (Faulty sense) = record { reply = check sense; after = u; step = (refl, refl) }
 by_fault u h (Plain c) = at (command_fault u.registry h c)
   where
-    at : (f : Option Sense) → HasStepBy (last_line f) u h (Plain c)
+    at : (f : Option Sense) → HasStepBy (last_decision f) u h (Plain c)
     at None = record { reply = good (data_of u.registry c); after = effect u h c; step = (refl, refl) }
     at (Some sense) = record { reply = check sense; after = u; step = (refl, refl) }
 
-first_line : (u : UnitState) (h : ℕ) (q : Request) (a b c : Bool) (last : Line) → (c ≡ true → HasStepBy Attention u h q) → HasStepBy last u h q
+first_line : (u : UnitState) (h : ℕ) (q : Request) (a b c : Bool) (last : Decision) → (c ≡ true → HasStepBy Attention u h q) → HasStepBy last u h q
     → HasStepBy (if a then PowerOn else (if b then Conflicting else (if c then Attention else last))) u h q
 first_line u h q true b c last any rest = record { reply = report q power_on; after = reported u h power_on; step = (refl, refl) }
 first_line u h q false true c last any rest = record { reply = conflict; after = u; step = (refl, refl) }
 first_line u h q false false true last any rest = any refl
 first_line u h q false false false last any rest = rest
 
-by_line : (u : UnitState) (h : ℕ) (q : Request) → HasStepBy (line u h q) u h q
-by_line u h q =
-    first_line u h q (is_pending u h power_on) (conflicts u.registry h q) (is_any_pending u h) (last_line (fault u.registry h q)) (by_attention u h q) (by_fault u h q)
+by_decision : (u : UnitState) (h : ℕ) (q : Request) → HasStepBy (decision u h q) u h q
+by_decision u h q =
+    first_line u h q (is_pending u h power_on) (conflicts u.registry h q) (is_any_pending u h) (last_decision (fault u.registry h q)) (by_attention u h q) (by_fault u h q)
 
 pub every_request_has_a_step : EveryRequestHasAStep
 every_request_has_a_step u h q =
-    let s = by_line u h q in
+    let s = by_decision u h q in
     record { reply = s.reply; after = s.after; step = s.step }

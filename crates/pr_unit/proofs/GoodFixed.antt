@@ -7,9 +7,9 @@ use Rattle.pr_cdb.specs.ReplyData.{sense_bytes}
 use Rattle.pr_unit.specs.Attentions.{power_on, attention_sense}
 use Rattle.pr_unit.specs.UnitStates.{UnitState}
 use Rattle.pr_unit.specs.Replies.{is_good, good, check, report, is_request_sense}
-use Rattle.pr_unit.specs.declared.line.Line.{Line}
-use Rattle.pr_unit.specs.declared.line.Line.TheVariants.{PowerOn, Conflicting, Attention, AtFault, Done}
-use Rattle.pr_unit.specs.Steps.{StepBy, IsDone, Step, line, ends_good}
+use Rattle.pr_unit.specs.declared.decision.Decision.{Decision}
+use Rattle.pr_unit.specs.declared.decision.Decision.TheVariants.{PowerOn, Conflicting, Attention, AtFault, Done}
+use Rattle.pr_unit.specs.Steps.{StepBy, IsDone, Step, decision, ends_good}
 use Rattle.pr_unit.specs.Laws.{GoodIsFixed}
 
 -- every report of an attention ends alike
@@ -24,15 +24,15 @@ done : (u : UnitState) (h : ℕ) (q : Request) (r : Reply) (v : UnitState) → I
 done u h (Plain c) r v step = ap is_good step.0
 done u h (Faulty sense) r v step = absurd step
 
-by_line : (l : Line) (u : UnitState) (h : ℕ) (q : Request) (r : Reply) (v : UnitState) → StepBy l u h q r v → is_good r ≡ ends_good l q
-by_line PowerOn u h q r v step = ap is_good step.0 ∙ good-report q power_on
-by_line Conflicting u h q r v step = ap is_good step.0
-by_line Attention u h q r v step = ap is_good step.reply ∙ good-report q step.code
-by_line (AtFault sense) u h q r v step = ap is_good step.0
-by_line Done u h q r v step = done u h q r v step
+by_decision : (l : Decision) (u : UnitState) (h : ℕ) (q : Request) (r : Reply) (v : UnitState) → StepBy l u h q r v → is_good r ≡ ends_good l q
+by_decision PowerOn u h q r v step = ap is_good step.0 ∙ good-report q power_on
+by_decision Conflicting u h q r v step = ap is_good step.0
+by_decision Attention u h q r v step = ap is_good step.reply ∙ good-report q step.code
+by_decision (AtFault sense) u h q r v step = ap is_good step.0
+by_decision Done u h q r v step = done u h q r v step
 
-pub good_by_line : (u : UnitState) (h : ℕ) (q : Request) (r : Reply) (v : UnitState) → Step u h q r v → is_good r ≡ ends_good (line u h q) q
-good_by_line u h q r v step = by_line (line u h q) u h q r v step
+pub good_by_decision : (u : UnitState) (h : ℕ) (q : Request) (r : Reply) (v : UnitState) → Step u h q r v → is_good r ≡ ends_good (decision u h q) q
+good_by_decision u h q r v step = by_decision (decision u h q) u h q r v step
 
 pub good_is_fixed : GoodIsFixed
-good_is_fixed u h q r s v w one other = good_by_line u h q r v one ∙ sym (good_by_line u h q s w other)
+good_is_fixed u h q r s v w one other = good_by_decision u h q r v one ∙ sym (good_by_decision u h q s w other)

@@ -5,34 +5,34 @@ use Rattle.std.proofs.lemmas.Bool.{false≢true}
 use Rattle.pr_cdb.specs.declared.command.Command.{Command}
 use Rattle.pr_cdb.specs.declared.reply.Sense.{Sense}
 use Rattle.pr_cdb.specs.declared.wire.Request.TheVariants.{Plain}
-use Rattle.pr_unit.specs.declared.line.Line.{Line}
-use Rattle.pr_unit.specs.declared.line.Line.TheVariants.{PowerOn, Conflicting, Attention, AtFault, Done}
+use Rattle.pr_unit.specs.declared.decision.Decision.{Decision}
+use Rattle.pr_unit.specs.declared.decision.Decision.TheVariants.{PowerOn, Conflicting, Attention, AtFault, Done}
 use Rattle.pr_unit.specs.Attentions.{power_on}
 use Rattle.pr_unit.specs.UnitStates.{UnitState, is_pending, is_any_pending, effect}
 use Rattle.pr_unit.specs.Conflicts.{command_conflicts}
 use Rattle.pr_unit.specs.Faults.{command_fault}
 use Rattle.pr_unit.specs.Replies.{good, data_of}
-use Rattle.pr_unit.specs.Steps.{StepBy, line, last_line, ends_good}
+use Rattle.pr_unit.specs.Steps.{StepBy, decision, last_decision, ends_good}
 use Rattle.pr_unit.specs.Laws.{TakesEffect, GoodStepsTakeEffect, FreeCommandsEndGood}
-use Rattle.pr_unit.proofs.GoodFixed.{good_by_line}
+use Rattle.pr_unit.proofs.GoodFixed.{good_by_decision}
 use Rattle.pr_unit.proofs.Steps.{done_is_free}
 
 pub good_effect : GoodStepsTakeEffect
-good_effect u h c r v step good looks = by_line (line u h (Plain c)) refl step (sym (good_by_line u h (Plain c) r v step) ∙ good)
+good_effect u h c r v step good looks = by_decision (decision u h (Plain c)) refl step (sym (good_by_decision u h (Plain c) r v step) ∙ good)
   where
     refused : false ≡ true → TakesEffect u h c r v
     refused is = absurd (false≢true is)
 
-    by_line : (l : Line) → line u h (Plain c) ≡ l → StepBy l u h (Plain c) r v → ends_good l (Plain c) ≡ true → TakesEffect u h c r v
-    by_line PowerOn is step ends = refused (sym looks ∙ ends)
-    by_line Conflicting is step ends = refused ends
-    by_line Attention is step ends = refused (sym looks ∙ ends)
-    by_line (AtFault sense) is step ends = refused ends
-    by_line Done is step ends =
+    by_decision : (l : Decision) → decision u h (Plain c) ≡ l → StepBy l u h (Plain c) r v → ends_good l (Plain c) ≡ true → TakesEffect u h c r v
+    by_decision PowerOn is step ends = refused (sym looks ∙ ends)
+    by_decision Conflicting is step ends = refused ends
+    by_decision Attention is step ends = refused (sym looks ∙ ends)
+    by_decision (AtFault sense) is step ends = refused ends
+    by_decision Done is step ends =
         let parts = done_is_free u h (Plain c) is in
         record { free = parts.0; whole = parts.1; reply = step.0; after = step.1 }
 
-pub free_is_done : (u : UnitState) (h : ℕ) (c : Command) → is_any_pending u h ≡ false → command_conflicts u.registry h c ≡ false → command_fault u.registry h c ≡ None → line u h (Plain c) ≡ Done
+pub free_is_done : (u : UnitState) (h : ℕ) (c : Command) → is_any_pending u h ≡ false → command_conflicts u.registry h c ≡ false → command_fault u.registry h c ≡ None → decision u h (Plain c) ≡ Done
 free_is_done u h c none free whole =
     at (is_pending u h power_on) (command_conflicts u.registry h c) (is_any_pending u h) (command_fault u.registry h c) (first_false (is_pending u h power_on) _ none) free none whole
   where
@@ -41,7 +41,7 @@ free_is_done u h c none free whole =
     first_false false b is = refl
 
     at : (a b any : Bool) (f : Option Sense) → a ≡ false → b ≡ false → any ≡ false → f ≡ None
-        → (if a then PowerOn else (if b then Conflicting else (if any then Attention else last_line f))) ≡ Done
+        → (if a then PowerOn else (if b then Conflicting else (if any then Attention else last_decision f))) ≡ Done
     at a b any f p q r s = rw (p, q, r, s) refl
 
 pub good_step : FreeCommandsEndGood

@@ -9,12 +9,12 @@ use Rattle.pr_cdb.specs.declared.wire.Request.{Request}
 use Rattle.pr_cdb.specs.declared.wire.Request.TheVariants.{Plain, Faulty}
 use Rattle.pr_registry.specs.Hosts.{nobody}
 use Rattle.pr_registry.specs.Changes.{no_change}
-use Rattle.pr_unit.specs.declared.line.Line.{Line}
-use Rattle.pr_unit.specs.declared.line.Line.TheVariants.{PowerOn, Conflicting, Attention, AtFault, Done}
+use Rattle.pr_unit.specs.declared.decision.Decision.{Decision}
+use Rattle.pr_unit.specs.declared.decision.Decision.TheVariants.{PowerOn, Conflicting, Attention, AtFault, Done}
 use Rattle.pr_unit.specs.Attentions.{Pairs, power_on, each_with, reservations_preempted, reservations_released, registrations_preempted}
 use Rattle.pr_unit.specs.UnitStates.{UnitState, effect, reported, told}
 use Rattle.pr_unit.specs.Replies.{is_good}
-use Rattle.pr_unit.specs.Steps.{StepBy, line}
+use Rattle.pr_unit.specs.Steps.{StepBy, decision}
 use Rattle.pr_unit.specs.Laws.{IsQuiet, request_looks, QuietSteps}
 use Rattle.pr_unit.proofs.Pairs.{same_pairs, contains-union-pairs, contains-each_with, contains-remove-pair}
 
@@ -69,7 +69,7 @@ effect-looking u h (Preempt rk sark kind) looks = absurd (false≢true looks)
 effect-looking u h (PreemptAbort rk sark kind) looks = absurd (false≢true looks)
 
 pub quiet_steps : QuietSteps
-quiet_steps u h q r v step why = by_line (line u h q) step
+quiet_steps u h q r v step why = by_decision (decision u h q) step
   where
     to : (w : UnitState) → v ≡ w → IsQuiet u h w → IsQuiet u h v
     to w is quiet = subst (IsQuiet u h) (sym is) quiet
@@ -80,9 +80,9 @@ quiet_steps u h q r v step why = by_line (line u h q) step
     looking (Plain c) step (inl bad) = absurd (false≢true (sym bad ∙ ap is_good step.0))
     looking (Plain c) step (inr looks) = to u (step.1 ∙ effect-looking u h c looks) (same-quiet u h)
 
-    by_line : (l : Line) → StepBy l u h q r v → IsQuiet u h v
-    by_line PowerOn step = to (reported u h power_on) step.1 (reported-quiet u h power_on)
-    by_line Conflicting step = to u step.1 (same-quiet u h)
-    by_line Attention step = to (reported u h step.code) step.after (reported-quiet u h step.code)
-    by_line (AtFault sense) step = to u step.1 (same-quiet u h)
-    by_line Done step = looking q step why
+    by_decision : (l : Decision) → StepBy l u h q r v → IsQuiet u h v
+    by_decision PowerOn step = to (reported u h power_on) step.1 (reported-quiet u h power_on)
+    by_decision Conflicting step = to u step.1 (same-quiet u h)
+    by_decision Attention step = to (reported u h step.code) step.after (reported-quiet u h step.code)
+    by_decision (AtFault sense) step = to u step.1 (same-quiet u h)
+    by_decision Done step = looking q step why

@@ -15,8 +15,8 @@ use Rattle.pr_unit.specs.Attentions.{power_on, reservations_preempted, reservati
 use Rattle.pr_unit.specs.UnitStates.{UnitState, quiet, effect, reported, is_pending}
 use Rattle.pr_unit.specs.Faults.{command_fault, illegal}
 use Rattle.pr_unit.specs.Replies.{data_of}
-use Rattle.pr_unit.specs.declared.line.Line.TheVariants.{PowerOn, Conflicting, Attention, AtFault, Done}
-use Rattle.pr_unit.specs.Steps.{line}
+use Rattle.pr_unit.specs.declared.decision.Decision.TheVariants.{PowerOn, Conflicting, Attention, AtFault, Done}
+use Rattle.pr_unit.specs.Steps.{decision}
 use Rattle.pr_unit.proofs.Pairs.{contains-none, contains-union-pairs, contains-insert-pair, contains-remove-pair, contains-each_with}
 
 ruleset reads = (contains-nobody, contains-insert, contains-remove, contains-just, contains-difference, get-insert, get-empty, get-without, contains-hosts_in, contains-hosts_with, contains-none, contains-union-pairs, contains-insert-pair, contains-remove-pair, contains-each_with)
@@ -50,11 +50,11 @@ unfolding same_type with_three after_all
 preempter_holds = simp reads refl
 
 -- its WRITE conflicts before it is told
-preempted_holder_is_told_after_its_conflict : line same_type 0 (Plain (Write 0 8)) ≡ Conflicting
+preempted_holder_is_told_after_its_conflict : decision same_type 0 (Plain (Write 0 8)) ≡ Conflicting
 unfolding same_type with_three after_all
 preempted_holder_is_told_after_its_conflict = simp reads refl
 
-preempted_holder_is_told : line same_type 0 (Plain TestUnitReady) ≡ Attention
+preempted_holder_is_told : decision same_type 0 (Plain TestUnitReady) ≡ Attention
 unfolding same_type with_three after_all
 preempted_holder_is_told = simp reads refl
 
@@ -66,11 +66,11 @@ told_of_nothing_else : is_pending same_type 0 reservations_released ≡ false
 unfolding same_type with_three after_all
 told_of_nothing_else = simp reads refl
 
-told_once : line (reported same_type 0 registrations_preempted) 0 (Plain TestUnitReady) ≡ Done
+told_once : decision (reported same_type 0 registrations_preempted) 0 (Plain TestUnitReady) ≡ Done
 unfolding same_type with_three after_all
 told_once = simp reads refl
 
-bystander_is_not_told_of_the_same_type : line same_type 2 (Plain TestUnitReady) ≡ Done
+bystander_is_not_told_of_the_same_type : decision same_type 2 (Plain TestUnitReady) ≡ Done
 unfolding same_type with_three after_all
 bystander_is_not_told_of_the_same_type = simp reads refl
 
@@ -99,11 +99,11 @@ other_is_told : is_pending shared 1 registrations_preempted ≡ true
 unfolding shared after_all
 other_is_told = simp reads refl
 
-sender_is_not_told : line shared 0 (Plain TestUnitReady) ≡ Done
+sender_is_not_told : decision shared 0 (Plain TestUnitReady) ≡ Done
 unfolding shared after_all
 sender_is_not_told = simp reads refl
 
-sender_may_not_reserve : line shared 0 (Plain (Reserve 0xa1 WriteExclusiveRegistrantsOnly)) ≡ Conflicting
+sender_may_not_reserve : decision shared 0 (Plain (Reserve 0xa1 WriteExclusiveRegistrantsOnly)) ≡ Conflicting
 unfolding shared after_all
 sender_may_not_reserve = simp reads refl
 
@@ -112,11 +112,11 @@ sender_may_not_reserve = simp reads refl
 held : UnitState
 held = after_all (quiet (fresh 3)) ((0, Register 0 0xa1) ∷ (1, Register 0 0xb2) ∷ (2, Register 0 0xc3) ∷ (0, Reserve 0xa1 WriteExclusiveRegistrantsOnly) ∷ [])
 
-release_of_another_type_is_at_fault : line held 0 (Plain (Release 0xa1 ExclusiveAccessRegistrantsOnly)) ≡ AtFault (illegal 0x26 0x04)
+release_of_another_type_is_at_fault : decision held 0 (Plain (Release 0xa1 ExclusiveAccessRegistrantsOnly)) ≡ AtFault (illegal 0x26 0x04)
 unfolding held after_all
 release_of_another_type_is_at_fault = simp reads refl
 
-preempt_of_zero_under_a_single_holder_is_at_fault : line held 1 (Plain (Preempt 0xb2 0 (Some WriteExclusiveRegistrantsOnly))) ≡ AtFault (illegal 0x26 0x00)
+preempt_of_zero_under_a_single_holder_is_at_fault : decision held 1 (Plain (Preempt 0xb2 0 (Some WriteExclusiveRegistrantsOnly))) ≡ AtFault (illegal 0x26 0x00)
 unfolding held after_all
 preempt_of_zero_under_a_single_holder_is_at_fault = simp reads refl
 
@@ -144,7 +144,7 @@ others_are_told_of_the_clear : is_pending cleared_by_b 2 reservations_preempted 
 unfolding cleared_by_b held after_all
 others_are_told_of_the_clear = simp reads refl
 
-who_clears_is_not_told : line cleared_by_b 1 (Plain TestUnitReady) ≡ Done
+who_clears_is_not_told : decision cleared_by_b 1 (Plain TestUnitReady) ≡ Done
 unfolding cleared_by_b held after_all
 who_clears_is_not_told = simp reads refl
 
@@ -190,7 +190,7 @@ a_is_told : is_pending (key_removed None) 0 registrations_preempted ≡ true
 unfolding key_removed all_hold after_all
 a_is_told = simp reads refl
 
-c_is_told_nothing : line (key_removed None) 2 (Plain TestUnitReady) ≡ Done
+c_is_told_nothing : decision (key_removed None) 2 (Plain TestUnitReady) ≡ Done
 unfolding key_removed all_hold after_all
 c_is_told_nothing = simp reads refl
 
@@ -223,7 +223,7 @@ its_reservation_ends : left.registry.held ≡ None
 unfolding left after_all
 its_reservation_ends = simp reads refl
 
-nobody_is_told_of_its_end : line left 1 (Plain TestUnitReady) ≡ Done
+nobody_is_told_of_its_end : decision left 1 (Plain TestUnitReady) ≡ Done
 unfolding left after_all
 nobody_is_told_of_its_end = simp reads refl
 
@@ -247,18 +247,18 @@ waiting =
 heard : UnitState
 heard = reported waiting 0 power_on
 
-a_power_on_comes_first : line waiting 0 (Plain (Write 0 8)) ≡ PowerOn
+a_power_on_comes_first : decision waiting 0 (Plain (Write 0 8)) ≡ PowerOn
 unfolding waiting after_all
 a_power_on_comes_first = simp reads refl
 
-then_the_conflict : line heard 0 (Plain (Write 0 8)) ≡ Conflicting
+then_the_conflict : decision heard 0 (Plain (Write 0 8)) ≡ Conflicting
 unfolding heard waiting after_all
 then_the_conflict = simp reads refl
 
-request_sense_does_not_conflict : line heard 0 (Plain RequestSense) ≡ Attention
+request_sense_does_not_conflict : decision heard 0 (Plain RequestSense) ≡ Attention
 unfolding heard waiting after_all
 request_sense_does_not_conflict = simp reads refl
 
-nothing_is_left : line (reported heard 0 registrations_preempted) 0 (Plain RequestSense) ≡ Done
+nothing_is_left : decision (reported heard 0 registrations_preempted) 0 (Plain RequestSense) ≡ Done
 unfolding heard waiting after_all
 nothing_is_left = simp reads refl

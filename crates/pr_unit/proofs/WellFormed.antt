@@ -9,9 +9,9 @@ use Rattle.pr_cdb.specs.declared.command.Command.{Command}
 use Rattle.pr_cdb.specs.declared.command.Command.TheVariants.{TestUnitReady, RequestSense, Read, Write, ReadKeys, ReadReservation, ReportCapabilities, Register, RegisterIgnore, Reserve, Release, Clear, Preempt, PreemptAbort}
 use Rattle.pr_cdb.specs.Requests.{Fits}
 use Rattle.pr_registry.specs.declared.change.Change.{Change}
-use Rattle.pr_registry.specs.Hosts.{Hosts, is_key, is_nobodys}
+use Rattle.pr_registry.specs.Hosts.{Hosts, is_key, has_no_registrant}
 use Rattle.pr_registry.specs.Registrations.{State, key_of, is_registered, IsKey, IsWellFormed as IsWellFormedRegistry}
-use Rattle.pr_registry.specs.Changes.{Case, ReplacesAll, ReplacesHolder, RemovesKey, is_in_the_way, is_held_by_all, preempt_case, is_replacing, HasKindIfReplacing}
+use Rattle.pr_registry.specs.Changes.{Case, ReplacesAll, ReplacesHolder, RemovesKey, conflicts_with_reserve, is_held_by_all, preempt_case, is_replacing, HasKindIfReplacing}
 use Rattle.pr_registry.specs.Effects.{after, after_register, change, registered, unregistered}
 use Rattle.pr_registry.proofs.States.{well_formed-registered, well_formed-unregistered, well_formed-reserved, well_formed-released, well_formed-cleared, well_formed-preempted}
 use Rattle.pr_registry.proofs.Told.{AreRegistered, tells_registrants}
@@ -60,13 +60,13 @@ well_formed-after : (u : State) (h : ℕ) (c : Command) → IsWellFormedRegistry
 well_formed-after u h (Register rk sark) w there fits free whole = well_formed-after_register u h sark w there fits.1
 well_formed-after u h (RegisterIgnore sark) w there fits free whole = well_formed-after_register u h sark w there fits
 well_formed-after u h (Reserve rk kind) w there fits free whole =
-    well_formed-reserved u h kind w (registered_by_key u h rk (first_false (lacks_key u h rk) (is_in_the_way u h u.held kind) free))
+    well_formed-reserved u h kind w (registered_by_key u h rk (first_false (lacks_key u h rk) (conflicts_with_reserve u h u.held kind) free))
 well_formed-after u h (Release rk kind) w there fits free whole = well_formed-released u h kind w
 well_formed-after u h (Clear rk) w there fits free whole = well_formed-cleared u w
 well_formed-after u h (Preempt rk sark kind) w there fits free whole =
-    well_formed-preempted u h sark kind w (registered_by_key u h rk (first_false (lacks_key u h rk) (not (sark == 0) && is_nobodys u.keys sark) free)) (has_kind u sark kind whole)
+    well_formed-preempted u h sark kind w (registered_by_key u h rk (first_false (lacks_key u h rk) (not (sark == 0) && has_no_registrant u.keys sark) free)) (has_kind u sark kind whole)
 well_formed-after u h (PreemptAbort rk sark kind) w there fits free whole =
-    well_formed-preempted u h sark kind w (registered_by_key u h rk (first_false (lacks_key u h rk) (not (sark == 0) && is_nobodys u.keys sark) free)) (has_kind u sark kind whole)
+    well_formed-preempted u h sark kind w (registered_by_key u h rk (first_false (lacks_key u h rk) (not (sark == 0) && has_no_registrant u.keys sark) free)) (has_kind u sark kind whole)
 well_formed-after u h TestUnitReady w there fits free whole = w
 well_formed-after u h RequestSense w there fits free whole = w
 well_formed-after u h (Read lba blocks) w there fits free whole = w

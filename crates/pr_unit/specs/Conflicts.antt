@@ -11,9 +11,9 @@ use Rattle.pr_cdb.specs.declared.wire.Request.TheVariants.{Plain, Faulty}
 use Rattle.pr_registry.specs.declared.held.Held.{Held}
 use Rattle.pr_unit.specs.declared.access.Access.{Access}
 use Rattle.pr_unit.specs.declared.access.Access.TheVariants.{Everybody, Registrants, Holder}
-use Rattle.pr_registry.specs.Hosts.{is_key, is_nobodys}
+use Rattle.pr_registry.specs.Hosts.{is_key, has_no_registrant}
 use Rattle.pr_registry.specs.Registrations.{State, key_of, is_registered, is_holder, kind_of}
-use Rattle.pr_registry.specs.Changes.{is_in_the_way}
+use Rattle.pr_registry.specs.Changes.{conflicts_with_reserve}
 
 -- REGISTER needs the sender's key, or zero where it has none
 abbrev pub is_wrong_key : Option ℕ → ℕ → Bool
@@ -25,7 +25,7 @@ abbrev pub lacks_key : State → ℕ → ℕ → Bool
 lacks_key u h rk = not (is_key (key_of u h) rk)
 
 abbrev pub preempt_conflicts : State → ℕ → ℕ → ℕ → Bool
-preempt_conflicts u h rk sark = lacks_key u h rk || (not (sark == 0) && is_nobodys u.keys sark)
+preempt_conflicts u h rk sark = lacks_key u h rk || (not (sark == 0) && has_no_registrant u.keys sark)
 
 -- to whom a reservation leaves an access
 abbrev pub reading : Kind → Access
@@ -44,14 +44,14 @@ writing ExclusiveAccessRegistrantsOnly = Registrants
 writing WriteExclusiveAllRegistrants = Registrants
 writing ExclusiveAccessAllRegistrants = Registrants
 
-abbrev pub is_shut_out : State → ℕ → Access → Bool
-is_shut_out u h Everybody = false
-is_shut_out u h Registrants = not (is_registered u h)
-is_shut_out u h Holder = not (is_holder u h)
+abbrev pub is_denied : State → ℕ → Access → Bool
+is_denied u h Everybody = false
+is_denied u h Registrants = not (is_registered u h)
+is_denied u h Holder = not (is_holder u h)
 
 abbrev pub access_conflicts : State → ℕ → Option Held → (Kind → Access) → Bool
 access_conflicts u h None access = false
-access_conflicts u h (Some v) access = is_shut_out u h (access (kind_of v))
+access_conflicts u h (Some v) access = is_denied u h (access (kind_of v))
 
 -- PERSISTENT RESERVE IN, REQUEST SENSE, TEST UNIT READY and REGISTER AND IGNORE EXISTING KEY never
 -- conflict
@@ -65,7 +65,7 @@ command_conflicts u h (ReadReservation alloc) = false
 command_conflicts u h (ReportCapabilities alloc) = false
 command_conflicts u h (Register rk sark) = is_wrong_key (key_of u h) rk
 command_conflicts u h (RegisterIgnore sark) = false
-command_conflicts u h (Reserve rk kind) = lacks_key u h rk || is_in_the_way u h u.held kind
+command_conflicts u h (Reserve rk kind) = lacks_key u h rk || conflicts_with_reserve u h u.held kind
 command_conflicts u h (Release rk kind) = lacks_key u h rk
 command_conflicts u h (Clear rk) = lacks_key u h rk
 command_conflicts u h (Preempt rk sark kind) = preempt_conflicts u h rk sark

@@ -6,8 +6,8 @@ use Rattle.pr_cdb.specs.declared.reply.Reply.{Reply}
 use Rattle.pr_cdb.specs.declared.wire.Request.{Request}
 use Rattle.pr_cdb.specs.declared.wire.Request.TheVariants.{Plain, Faulty}
 use Rattle.pr_cdb.specs.declared.wire.Bad.{Bad}
-use Rattle.pr_unit.specs.declared.line.Line.{Line}
-use Rattle.pr_unit.specs.declared.line.Line.TheVariants.{PowerOn, Conflicting, Attention, AtFault, Done}
+use Rattle.pr_unit.specs.declared.decision.Decision.{Decision}
+use Rattle.pr_unit.specs.declared.decision.Decision.TheVariants.{PowerOn, Conflicting, Attention, AtFault, Done}
 use Rattle.pr_unit.specs.Attentions.{power_on}
 use Rattle.pr_unit.specs.UnitStates.{UnitState, is_pending, is_any_pending, effect, reported}
 use Rattle.pr_unit.specs.Conflicts.{conflicts}
@@ -15,18 +15,18 @@ use Rattle.pr_unit.specs.Faults.{fault}
 use Rattle.pr_unit.specs.Replies.{good, check, conflict, report, is_request_sense, data_of}
 
 -- what decides how a request ends: a fault of its own, or nothing
-abbrev pub last_line : Option Sense → Line
-last_line None = Done
-last_line (Some sense) = AtFault sense
+abbrev pub last_decision : Option Sense → Decision
+last_decision None = Done
+last_decision (Some sense) = AtFault sense
 
 -- The first that applies decides. That the first three come in this order is the standard's (SAM-5, 'Status
 -- precedence'); that a fault of the request comes after them is our own choice.
-abbrev pub line : UnitState → ℕ → Request → Line
-line u h q =
+abbrev pub decision : UnitState → ℕ → Request → Decision
+decision u h q =
     if is_pending u h power_on then PowerOn else (
     if conflicts u.registry h q then Conflicting else (
     if is_any_pending u h then Attention else
-    last_line (fault u.registry h q)))
+    last_decision (fault u.registry h q)))
 
 -- GOOD, with the command's data and its effect. Bytes at fault do not come here.
 abbrev pub IsDone : UnitState → ℕ → Request → Reply → UnitState → Type 0
@@ -40,7 +40,7 @@ pub record Reports (u : UnitState) (h : ℕ) (q : Request) (r : Reply) (u' : Uni
   pub reply : r ≡ report q code
   pub after : u' ≡ reported u h code
 
-abbrev pub StepBy : Line → UnitState → ℕ → Request → Reply → UnitState → Type 0
+abbrev pub StepBy : Decision → UnitState → ℕ → Request → Reply → UnitState → Type 0
 StepBy PowerOn u h q r u' = (r ≡ report q power_on) × (u' ≡ reported u h power_on)
 StepBy Conflicting u h q r u' = (r ≡ conflict) × (u' ≡ u)
 StepBy Attention u h q r u' = Reports u h q r u'
@@ -49,10 +49,10 @@ StepBy Done u h q r u' = IsDone u h q r u'
 
 -- In state u, the request q of host h may be answered with r, and then the state is u'.
 abbrev pub Step : UnitState → ℕ → Request → Reply → UnitState → Type 0
-Step u h q r u' = StepBy (line u h q) u h q r u'
+Step u h q r u' = StepBy (decision u h q) u h q r u'
 
 -- whether a request that is decided so ends GOOD
-abbrev pub ends_good : Line → Request → Bool
+abbrev pub ends_good : Decision → Request → Bool
 ends_good PowerOn q = is_request_sense q
 ends_good Conflicting q = false
 ends_good Attention q = is_request_sense q
@@ -66,7 +66,7 @@ pub record ReportsLowest (u : UnitState) (h : ℕ) (q : Request) (r : Reply) : T
   pub reply : r ≡ report q code
   pub least : (other : ℕ) → is_pending u h other ≡ true → code ≤ other
 
-abbrev pub LowestBy : Line → UnitState → ℕ → Request → Reply → Type 0
+abbrev pub LowestBy : Decision → UnitState → ℕ → Request → Reply → Type 0
 LowestBy PowerOn u h q r = Unit {0}
 LowestBy Conflicting u h q r = Unit {0}
 LowestBy Attention u h q r = ReportsLowest u h q r
@@ -76,7 +76,7 @@ LowestBy Done u h q r = Unit {0}
 -- The step that this unit takes: where it may choose, it reports the lowest code.
 pub record TakenStep (u : UnitState) (h : ℕ) (q : Request) (r : Reply) (u' : UnitState) : Type 0 where
   pub step : Step u h q r u'
-  pub lowest : LowestBy (line u h q) u h q r
+  pub lowest : LowestBy (decision u h q) u h q r
 
 -- In state u, this unit answers the bytes of a command of host h so, and then the state is u'. Bytes that
 -- are no request change nothing.

@@ -1,7 +1,7 @@
 //! To whom a reservation leaves an access.
 
 ghost use Rattle.std.specs.Prelude.{◌≡◌, ◌<◌};
-ghost use Rattle.pr_unit.specs.Conflicts.{reading, writing, is_shut_out, access_conflicts};
+ghost use Rattle.pr_unit.specs.Conflicts.{reading, writing, is_denied, access_conflicts};
 ghost use Rattle.pr_registry.specs.Registrations.{kind_of};
 
 use pr_cdb::Kind;
@@ -50,9 +50,9 @@ fn kind_of(held: Held) -> Kind
     }
 }
 
-fn is_shut_out(registry: &Registry, host: u8, access: Access) -> bool
+fn is_denied(registry: &Registry, host: u8, access: Access) -> bool
     requires { host < registry.now.hosts }
-    ensures { result ≡ is_shut_out registry.now host access }
+    ensures { result ≡ is_denied registry.now host access }
 {
     match access {
         Access::Everybody => false,
@@ -68,7 +68,7 @@ pub(crate) fn reading_conflicts(registry: &Registry, host: u8) -> bool
 {
     match registry.held() {
         None => false,
-        Some(held) => is_shut_out(registry, host, reading(kind_of(held))),
+        Some(held) => is_denied(registry, host, reading(kind_of(held))),
     }
 }
 
@@ -79,6 +79,6 @@ pub(crate) fn writing_conflicts(registry: &Registry, host: u8) -> bool
 {
     match registry.held() {
         None => false,
-        Some(held) => is_shut_out(registry, host, writing(kind_of(held))),
+        Some(held) => is_denied(registry, host, writing(kind_of(held))),
     }
 }

@@ -12,8 +12,9 @@ ghost use Rattle.pr_unit.specs.Faults.{command_fault};
 ghost use Rattle.pr_unit.specs.Replies.{good, report, data_of};
 ghost use Rattle.pr_unit.specs.Steps.{TakenStep};
 
-use crate::line::{Line, deciding_line};
-use crate::services::{buffer, data, serve};
+use crate::data::{buffer, data};
+use crate::decision::{Decision, decide};
+use crate::effects::serve;
 use crate::{pending_table, reply};
 use pr_attention::{Attention, Pending};
 use pr_cdb::codes::MOST_NEXUSES;
@@ -31,15 +32,15 @@ pub(crate) fn answer(
     requires well_formed { IsWellFormed registry.old }
     ensures { TakenStep (unit_of registry.old pendings.old) host request result (unit_of registry.new pendings.new) }
 {
-    match deciding_line(registry, pendings, host, request) {
-        Line::PowerOn => report(pendings, host, request, Attention::PowerOn),
-        Line::Conflicting => reply::conflict(),
-        Line::Attention => match pending_table::lowest(pendings, host) {
+    match decide(registry, pendings, host, request) {
+        Decision::PowerOn => report(pendings, host, request, Attention::PowerOn),
+        Decision::Conflicting => reply::conflict(),
+        Decision::Attention => match pending_table::lowest(pendings, host) {
             Some(attention) => report(pendings, host, request, attention),
             None => unreachable!(),
         },
-        Line::AtFault(sense) => reply::check(sense),
-        Line::Done => match request {
+        Decision::AtFault(sense) => reply::check(sense),
+        Decision::Done => match request {
             Request::Plain(command) => perform(registry, pendings, host, command),
             Request::Faulty(_) => unreachable!(),
         },

@@ -8,8 +8,8 @@ ghost use Rattle.pr_unit.specs.Faults.{command_fault};
 ghost use Rattle.pr_unit.specs.Follows.{IsFollowed, IsReported, IsAnyReported, IsDoneSo};
 
 use crate::answers::{perform, report_of};
-use crate::line::{Line, deciding_line};
-use crate::services::data;
+use crate::data::data;
+use crate::decision::{Decision, decide};
 use crate::{pending_table, reply};
 use pr_attention::{Attention, Pending};
 use pr_cdb::codes::MOST_NEXUSES;
@@ -29,14 +29,14 @@ pub(crate) fn follow(
     requires well_formed { IsWellFormed (unit_of registry.old pendings.old) }
     ensures { IsFollowed (unit_of registry.old pendings.old) host request reply.now result (unit_of registry.new pendings.new) }
 {
-    match deciding_line(registry, pendings, host, request) {
-        Line::PowerOn => {
+    match decide(registry, pendings, host, request) {
+        Decision::PowerOn => {
             follow_report(registry, pendings, host, request, reply, Attention::PowerOn)
         }
-        Line::Conflicting => *reply == reply::conflict(),
-        Line::Attention => follow_any_report(registry, pendings, host, request, reply),
-        Line::AtFault(sense) => *reply == reply::check(sense),
-        Line::Done => match request {
+        Decision::Conflicting => *reply == reply::conflict(),
+        Decision::Attention => follow_any_report(registry, pendings, host, request, reply),
+        Decision::AtFault(sense) => *reply == reply::check(sense),
+        Decision::Done => match request {
             Request::Plain(command) => follow_good(registry, pendings, host, command, reply),
             Request::Faulty(_) => unreachable!(),
         },

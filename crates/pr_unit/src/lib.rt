@@ -3,13 +3,15 @@
 
 mod access;
 mod answers;
-mod decisions;
+mod conflicts;
+mod data;
+mod decision;
+mod effects;
+mod faults;
 mod follows;
 mod laws;
-mod line;
 mod pending_table;
 mod reply;
-mod services;
 mod unit;
 
 pub use laws::{

@@ -7,9 +7,9 @@ ghost use Rattle.pr_attention.specs.Attentions.{AreAttentions, is_attention};
 ghost use Rattle.pr_unit.specs.Attentions.{place, table_pairs};
 
 use crate::answers::answer;
-use crate::decisions;
+use crate::conflicts::command_conflicts;
+use crate::decision::{decide, ends_good};
 use crate::follows::follow;
-use crate::line::{deciding_line, ends_good};
 use pr_attention::Pending;
 use pr_cdb::codes::MOST_NEXUSES;
 use pr_cdb::{Bad, Command, Reply, Request, Wire, decode};
@@ -46,7 +46,7 @@ impl Unit {
     ghost use Rattle.pr_unit.specs.UnitStates.{UnitState, IsWellFormed, unit_of, is_pending, quiet};
     ghost use Rattle.pr_unit.specs.Replies.{is_good};
     ghost use Rattle.pr_unit.specs.Conflicts.{command_conflicts};
-    ghost use Rattle.pr_unit.specs.Steps.{Step, Executes, line, ends_good};
+    ghost use Rattle.pr_unit.specs.Steps.{Step, Executes, decision, ends_good};
     ghost use Rattle.pr_unit.specs.Follows.{Follows};
 
     /// A unit of so many hosts with nothing registered, reserved or pending, and generation 0.
@@ -108,18 +108,18 @@ impl Unit {
         requires { host < self.now.registry.hosts }
         ensures { result ≡ command_conflicts self.now.registry host command.now }
     {
-        decisions::conflicts(&self.registry, host, *command)
+        command_conflicts(&self.registry, host, *command)
     }
 
     /// Whether the command of the host would end GOOD now.
     pub fn would_end_good(&self, host: u8, command: &Command) -> bool
         requires { host < self.now.registry.hosts }
-        ensures value { result ≡ ends_good (line self.now host (Plain command.now)) (Plain command.now) }
+        ensures value { result ≡ ends_good (decision self.now host (Plain command.now)) (Plain command.now) }
         ensures steps { (reply : Reply) (after : UnitState) → Step self.now host (Plain command.now) reply after → is_good reply ≡ result }
     {
         let request = Request::Plain(*command);
-        let line = deciding_line(&self.registry, &self.pending, host, request);
-        ends_good(line, request)
+        let decision = decide(&self.registry, &self.pending, host, request);
+        ends_good(decision, request)
     }
 
     /// Executes a command of a host, and answers it. Where the bytes are no request, nothing changes.

@@ -1,7 +1,7 @@
 use Rattle.std.proofs.Common.{◌==◌, ap, ◌∙◌}
 use Rattle.std.specs.FinSet as set
 use Rattle.pr_registry.proofs.Sets.{len-is_nobody}
-use Rattle.pr_registry.proofs.table.is_nobodys.Goals as goal
+use Rattle.pr_registry.proofs.table.has_no_registrant.Goals as goal
 
 pub returns : goal.returns
 returns c =

@@ -1,10 +1,8 @@
-//! What decides how a command ends: a conflict, or a fault of its own.
+//! Which commands are at fault, though they don't conflict.
 
 ghost use Rattle.std.specs.Prelude.{◌≡◌, ◌<◌};
-ghost use Rattle.pr_unit.specs.Conflicts.{is_wrong_key, lacks_key, preempt_conflicts, command_conflicts};
 ghost use Rattle.pr_unit.specs.Faults.{illegal, release_fault, preempt_fault, range_fault, command_fault};
 
-use crate::access::{reading_conflicts, writing_conflicts};
 use crate::unit::CAPACITY;
 use pr_cdb::codes::{
     ILLEGAL_REQUEST, INVALID_FIELD_IN_CDB, INVALID_FIELD_IN_PARAMETER_LIST,
@@ -13,61 +11,8 @@ use pr_cdb::codes::{
 use pr_cdb::{Command, Kind, Sense};
 use pr_registry::Registry;
 
-/// Whether the command of the host ends in RESERVATION CONFLICT.
-pub(crate) fn conflicts(registry: &Registry, host: u8, command: Command) -> bool
-    requires { host < registry.now.hosts }
-    ensures { result ≡ command_conflicts registry.now host command }
-{
-    match command {
-        Command::Register { rk, .. } => is_wrong_key(registry.key(host), rk),
-        Command::Reserve { rk, kind } => {
-            lacks_key(registry, host, rk) || registry.is_in_the_way(host, kind)
-        }
-        Command::Release { rk, .. } => lacks_key(registry, host, rk),
-        Command::Clear { rk } => lacks_key(registry, host, rk),
-        Command::Preempt { rk, sark, .. } => preempt_conflicts(registry, host, rk, sark),
-        Command::PreemptAbort { rk, sark, .. } => preempt_conflicts(registry, host, rk, sark),
-        Command::Read { .. } => reading_conflicts(registry, host),
-        Command::Write { .. } => writing_conflicts(registry, host),
-        Command::TestUnitReady
-        | Command::RequestSense
-        | Command::ReadKeys { .. }
-        | Command::ReadReservation { .. }
-        | Command::ReportCapabilities { .. }
-        | Command::RegisterIgnore { .. } => false,
-    }
-}
-
-// REGISTER needs the key that the host has, or zero where it has none.
-fn is_wrong_key(key: Option<u64>, rk: u64) -> bool
-    ensures { result ≡ is_wrong_key key rk }
-{
-    match key {
-        None => rk != 0,
-        Some(key) => key != rk,
-    }
-}
-
-// Every service action but the two that register needs the key of a registered sender.
-fn lacks_key(registry: &Registry, host: u8, rk: u64) -> bool
-    requires { host < registry.now.hosts }
-    ensures { result ≡ lacks_key registry.now host rk }
-{
-    match registry.key(host) {
-        None => true,
-        Some(key) => key != rk,
-    }
-}
-
-fn preempt_conflicts(registry: &Registry, host: u8, rk: u64, sark: u64) -> bool
-    requires { host < registry.now.hosts }
-    ensures { result ≡ preempt_conflicts registry.now host rk sark }
-{
-    lacks_key(registry, host, rk) || (sark != 0 && registry.is_nobodys(sark))
-}
-
 /// The fault of a command of the host that does not conflict.
-pub(crate) fn fault(registry: &Registry, host: u8, command: Command) -> Option<Sense>
+pub(crate) fn command_fault(registry: &Registry, host: u8, command: Command) -> Option<Sense>
     requires { host < registry.now.hosts }
     ensures { result ≡ command_fault registry.now host command }
 {

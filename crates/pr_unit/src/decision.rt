@@ -2,11 +2,13 @@
 
 ghost use Rattle.std.specs.Prelude.{◌≡◌, ◌<◌};
 ghost use Rattle.pr_unit.specs.UnitStates.{unit_of};
-ghost use Rattle.pr_unit.specs.Steps.{line, ends_good};
+ghost use Rattle.pr_unit.specs.Steps.{decision, ends_good};
 ghost use Rattle.pr_unit.specs.Conflicts.{conflicts};
 ghost use Rattle.pr_unit.specs.Faults.{fault};
 
-use crate::{decisions, pending_table};
+use crate::conflicts::command_conflicts;
+use crate::faults::command_fault;
+use crate::pending_table;
 use pr_attention::{Attention, Pending};
 use pr_cdb::codes::MOST_NEXUSES;
 use pr_cdb::{Command, Request, Sense};
@@ -14,7 +16,7 @@ use pr_registry::Registry;
 
 /// What decides how a request ends.
 #[derive(Clone, Copy, Debug, PartialEq, Eq)]
-pub(crate) enum Line {
+pub(crate) enum Decision {
     /// A power on or reset that is still to be reported.
     PowerOn,
     /// A reservation conflict.
@@ -28,28 +30,28 @@ pub(crate) enum Line {
 }
 
 /// What decides how the request of the host ends.
-pub(crate) fn deciding_line(
+pub(crate) fn decide(
     registry: &Registry,
     pendings: &[Pending; MOST_NEXUSES],
     host: u8,
     request: Request,
-) -> Line
+) -> Decision
     requires there { host < registry.now.hosts }
     requires place { host < MOST_NEXUSES }
-    ensures { result ≡ line (unit_of registry.now pendings.now) host request }
+    ensures { result ≡ decision (unit_of registry.now pendings.now) host request }
 {
     if pending_table::has(pendings, host, Attention::PowerOn) {
-        return Line::PowerOn;
+        return Decision::PowerOn;
     }
     if conflicts(registry, host, request) {
-        return Line::Conflicting;
+        return Decision::Conflicting;
     }
     if pending_table::has_any(pendings, host) {
-        return Line::Attention;
+        return Decision::Attention;
     }
     match fault(registry, host, request) {
-        None => Line::Done,
-        Some(sense) => Line::AtFault(sense),
+        None => Decision::Done,
+        Some(sense) => Decision::AtFault(sense),
     }
 }
 
@@ -59,7 +61,7 @@ fn conflicts(registry: &Registry, host: u8, request: Request) -> bool
     ensures { result ≡ conflicts registry.now host request }
 {
     match request {
-        Request::Plain(command) => decisions::conflicts(registry, host, command),
+        Request::Plain(command) => command_conflicts(registry, host, command),
         Request::Faulty(_) => false,
     }
 }
@@ -69,20 +71,20 @@ fn fault(registry: &Registry, host: u8, request: Request) -> Option<Sense>
     ensures { result ≡ fault registry.now host request }
 {
     match request {
-        Request::Plain(command) => decisions::fault(registry, host, command),
+        Request::Plain(command) => command_fault(registry, host, command),
         Request::Faulty(sense) => Some(sense),
     }
 }
 
 /// Whether a request that is decided so ends GOOD.
-pub(crate) fn ends_good(line: Line, request: Request) -> bool
-    ensures { result ≡ ends_good line request }
+pub(crate) fn ends_good(decision: Decision, request: Request) -> bool
+    ensures { result ≡ ends_good decision request }
 {
-    match line {
-        Line::PowerOn | Line::Attention => {
+    match decision {
+        Decision::PowerOn | Decision::Attention => {
             matches!(request, Request::Plain(Command::RequestSense))
         }
-        Line::Conflicting | Line::AtFault(_) => false,
-        Line::Done => true,
+        Decision::Conflicting | Decision::AtFault(_) => false,
+        Decision::Done => true,
     }
 }
