@@ -27,10 +27,10 @@ use Rattle.pr_verify.specs.declared.places.Spot.{Spot}
 use Rattle.pr_verify.specs.Places.{Place, places_of}
 use Rattle.pr_verify.specs.Outlines.{Outline, OnScripted, KeepsToRole, IsListed}
 use Rattle.pr_verify.specs.Rooms.{outline_of, table_of, IsMadeFor, IsScripted}
-use Rattle.pr_verify.specs.Refusals.{class_number, LacksArm}
+use Rattle.pr_verify.specs.Refusals.{class_number}
 use Rattle.pr_verify.specs.Tables.{TakesArm, Row, IsRow, Table, IsTable, AreTables, has_script}
 use Rattle.pr_verify.specs.declared.table.Table.{Table as KeptTable}
-use Rattle.pr_verify.specs.inside.Reviewing.{IsUnarmed, IsFirstClass}
+use Rattle.pr_verify.specs.inside.Reviewing.{IsUnarmed}
 use Rattle.pr_verify.specs.inside.Tabling.{IsInRange}
 use Rattle.pr_verify.specs.inside.Listing.{place_of}
 use Rattle.pr_verify.proofs.Checked.{place_lines}

@@ -14,6 +14,7 @@ ghost use Rattle.pr_verify.specs.Refusals.{IsRefusal, past_budgets, differing};
 ghost use Rattle.pr_verify.specs.Rooms.{outline_of, IsMadeFor, IsScripted};
 
 use crate::lacking::{lacking_at_start, least};
+use crate::nexus::nexus_in;
 use crate::others::lacking_by_others;
 use crate::outline::OutlineOf;
 use crate::places::{Spot, first_lines, spots};
@@ -38,7 +39,7 @@ pub fn check_outline<S: ViewSet>(
     ensures fitting { OnOk result (OnScripted (task (scenario_of scenario.now) outline.now.host) (λ script budget. IsFitting (scenario_of scenario.now) script budget (outline_of S.members outline.now))) }
     ensures refusal { IfErr result (λ refusal. OnScripted (task (scenario_of scenario.now) outline.now.host) (λ script budget. IsRefusal (scenario_of scenario.now) script budget (outline_of S.members outline.now) refusal)) }
 {
-    match &scenario.parts().nexuses[usize::from(outline.host)].task {
+    match &nexus_in(scenario, outline.host).task {
         Task::Scripted { script, budget } => {
             check_cost(script, *budget, outline.host)?;
             check_script(alloc, scenario, script, outline)

@@ -10,6 +10,7 @@ mod inferring;
 mod known;
 mod lacking;
 mod laws;
+mod nexus;
 mod others;
 mod outline;
 mod places;

@@ -11,6 +11,7 @@ ghost use Rattle.pr_verify.specs.Outlines.{IsLeftAt};
 ghost use Rattle.pr_verify.specs.Rooms.{outline_of, IsMadeFor};
 ghost use Rattle.pr_verify.specs.inside.Lacking.{IsFirstLacking, IsOpen, IsSameAsOne};
 
+use crate::nexus::nexus_in;
 use crate::outline::OutlineOf;
 use pr_domain::interfere;
 use pr_roles::Scenario;
@@ -67,10 +68,10 @@ fn is_closed<S: ViewSet>(
     ensures closed { IfOk result (λ is. IsTrue is → IsClosed (scenario_of scenario.now) (view_of S.members own view.now)) }
     ensures open { IfOk result (λ is. is ≡ false → IsOpen (scenario_of scenario.now) (view_of S.members own view.now)) }
 {
-    let nexuses = &scenario.parts().nexuses;
     for other in 0..view.hosts {
         if other != own {
-            let left = interfere(alloc, view, own, other, &nexuses[usize::from(other)].role)?;
+            let role = &nexus_in(scenario, other).role;
+            let left = interfere(alloc, view, own, other, role)?;
             if !left.within(view) {
                 return Ok(false);
             }

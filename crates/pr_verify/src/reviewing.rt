@@ -16,6 +16,7 @@ ghost use Rattle.pr_verify.specs.inside.Reviewing.{IsMadeAs, IsLackingOfSends, I
 
 use crate::answers::Questions;
 use crate::lacking::{first_lacking, least};
+use crate::nexus::nexus_in;
 use crate::outline::OutlineOf;
 use crate::places::Spot;
 use crate::refusal::Refusal;
@@ -133,7 +134,7 @@ fn misfit<S: ViewSet>(
 {
     let host = outline.host;
     let line = spot.line;
-    let role = &scenario.parts().nexuses[usize::from(host)].role;
+    let role = &nexus_in(scenario, host).role;
     if !permitted(view, role, host, &spot.command) {
         return Some(Refusal::OutOfRole { host, line });
     }

@@ -18,6 +18,7 @@ ghost use Rattle.pr_verify.specs.inside.Tabling.{IsInRange};
 
 use crate::answers::Questions;
 use crate::inferring::{has_script, infer, script_in};
+use crate::nexus::nexus_in;
 use crate::outline::{Outline, OutlineOf};
 use crate::places::{Spot, spots};
 use crate::reviewing::{first_unarmed, number_of};
@@ -130,7 +131,7 @@ fn row_of_spot<S: ViewSet>(
     requires outcomes { AreOutcomes (view_of S.members outline.now.host view.now) spot.now.command spot.now.tests.items (map (λ o. (o.0, view_of S.members outline.now.host o.1)) outcomes.now) }
     ensures { IfOk result (λ row. IsRow (scenario_of scenario.now) (outline_of S.members outline.now) (place_of spot.now) (row_of row)) }
 {
-    let role = &scenario.parts().nexuses[usize::from(outline.host)].role;
+    let role = &nexus_in(scenario, outline.host).role;
     let permitted = permitted(view, role, outline.host, &spot.command);
     let tests = Vec::from_slice(alloc, &spot.tests)?;
     let arms = arms_taken(alloc, outcomes, spot.tests.len())?;

@@ -9,6 +9,7 @@ ghost use Rattle.pr_verify.specs.Verdicts.{HasReason, IsVerdict};
 use crate::checking::{check_cost, check_script};
 use crate::inferring::infer;
 use crate::laws::outlines_make_safe;
+use crate::nexus::nexus_in;
 use crate::refusal::Refusal;
 use pr_roles::{Scenario, Task};
 use std::alloc::Global;
@@ -111,7 +112,7 @@ pub(crate) fn check_host(alloc: Global, scenario: &Scenario, host: u8) -> Result
     ensures outline { OnOk result (OnScripted (task (scenario_of scenario.now) host) (HasOutline (scenario_of scenario.now) host)) }
     ensures reason { IfErr result (λ refusal. refusal ≢ Refusal.Memory → HasReason (scenario_of scenario.now) host refusal) }
 {
-    match &scenario.parts().nexuses[usize::from(host)].task {
+    match &nexus_in(scenario, host).task {
         Task::Scripted { script, budget } => {
             check_cost(script, *budget, host)?;
             let outline = infer(alloc, scenario, host)?;

@@ -1,4 +1,4 @@
-use Rattle.std.proofs.Common.{ℕ, ◌≤◌, min, refl, rules, sym, ◌∙◌, subst, arith}
+use Rattle.std.proofs.Common.{ℕ, ◌≤◌, min, refl, rules, sym, ◌∙◌, subst}
 use Rattle.std.proofs.lemmas.Result.{IfOk-weaker, IfErr-weaker, err_from_is_err_and}
 use Rattle.pr_script.specs.Costs.{cost_of_all}
 use Rattle.pr_script.specs.Trees.{script_of}
@@ -9,51 +9,37 @@ use Rattle.pr_verify.specs.declared.refusal.Refusal.{Refusal}
 use Rattle.pr_verify.specs.declared.refusal.Refusal.TheVariants.{OverBudget}
 use Rattle.pr_verify.specs.Refusals.{IsRefusal, past_budgets}
 use Rattle.pr_verify.specs.Rooms.{outline_of}
-use Rattle.pr_verify.proofs.Nexuses.{IsRead, is_kept, scripted_there, scripted_task, scripted_fits, planned_not}
+use Rattle.pr_verify.proofs.Nexuses.{scripted_there, scripted_task, scripted_fits, planned_not}
 use Rattle.pr_verify.proofs.checking.check_outline.Goals as goal
 
-pub index-requires : goal.index-requires
-index-requires g c =
-    let s = scenario_of c.args.scenario.now in
-    let host = c.args.outline.now.host in
-    let all = is_kept c.args.scenario.now c.parts.result.now c.from.result host c.parts.ensures.value c.from.ensures (scripted_there s host c.requires.scripted) in
-    omega (arith, c.parts.result.now.nexuses.ok.0)
+pub nexus_in-requires : goal.nexus_in-requires
+nexus_in-requires g c = scripted_there (scenario_of c.args.scenario.now) c.args.outline.now.host c.requires.scripted
 
 pub check_cost-requires : goal.check_cost-requires
 check_cost-requires g c =
     let host = c.args.outline.now.host in
     let there = scripted_there (scenario_of c.args.scenario.now) host c.requires.scripted in
-    let read : IsRead c.args.scenario.now c.parts.result.now c.from.result host c.index.result.now = record { same = c.parts.ensures.value; fits = c.parts.ensures.fits; place = c.from.ensures; there = there; read = c.index.ensures } in
-    (scripted_fits c.args.scenario.now c.parts.result.now c.from.result host c.index.result.now read c.in-Scripted.script c.in-Scripted.budget c.in-Scripted.is).1
+    (scripted_fits (scenario_of c.args.scenario.now) host c.nexus_in.result.now c.nexus_in.ensures.nexus c.in-Scripted.script c.in-Scripted.budget c.in-Scripted.is c.nexus_in.ensures.fits).1
 
 pub check_script-requires : goal.check_script-requires
 check_script-requires g c =
     let host = c.args.outline.now.host in
     let there = scripted_there (scenario_of c.args.scenario.now) host c.requires.scripted in
-    let read : IsRead c.args.scenario.now c.parts.result.now c.from.result host c.index.result.now = record { same = c.parts.ensures.value; fits = c.parts.ensures.fits; place = c.from.ensures; there = there; read = c.index.ensures } in
-    let fits = scripted_fits c.args.scenario.now c.parts.result.now c.from.result host c.index.result.now read c.in-Scripted.script c.in-Scripted.budget c.in-Scripted.is in
-    (search rules, (there, (fits.0, (c.parts.ensures.starts, c.requires.made))))
+    let fits = scripted_fits (scenario_of c.args.scenario.now) host c.nexus_in.result.now c.nexus_in.ensures.nexus c.in-Scripted.script c.in-Scripted.budget c.in-Scripted.is c.nexus_in.ensures.fits in
+    (search rules, (there, (fits.0, (c.nexus_in.ensures.starts, c.requires.made))))
 
 pub unreachable-requires : goal.unreachable-requires
 unreachable-requires g c =
     let host = c.args.outline.now.host in
     let there = scripted_there (scenario_of c.args.scenario.now) host c.requires.scripted in
-    let read : IsRead c.args.scenario.now c.parts.result.now c.from.result host c.index.result.now = record { same = c.parts.ensures.value; fits = c.parts.ensures.fits; place = c.from.ensures; there = there; read = c.index.ensures } in
-    planned_not c.args.scenario.now c.parts.result.now c.from.result host c.index.result.now read c.in-Planned.field-0 c.in-Planned.is c.requires.scripted
+    planned_not (scenario_of c.args.scenario.now) host c.nexus_in.result.now c.nexus_in.ensures.nexus c.in-Planned.field-0 c.in-Planned.is c.requires.scripted
 
 pub returns-clause-sound : goal.returns-clause-sound
 returns-clause-sound g c =
     let s = scenario_of c.args.scenario.now in
     let o = outline_of g.S.ViewSet.members c.args.outline.now in
     let host = c.args.outline.now.host in
-    let read : IsRead c.args.scenario.now c.parts.result.now c.from.result host c.index.result.now = record {
-      same = c.parts.ensures.value;
-      fits = c.parts.ensures.fits;
-      place = c.from.ensures;
-      there = scripted_there s host c.requires.scripted;
-      read = c.index.ensures;
-    } in
-    let is = scripted_task c.args.scenario.now c.parts.result.now c.from.result host c.index.result.now read c.in-Scripted.script c.in-Scripted.budget c.in-Scripted.is in
+    let is = scripted_task s host c.nexus_in.result.now c.nexus_in.ensures.nexus c.in-Scripted.script c.in-Scripted.budget c.in-Scripted.is in
     IfOk-weaker c.check_script.result (λ _. IsSound s (script_of c.in-Scripted.script) o) (λ _. OnScripted (task s host) (λ script budget. IsSound s script o))
     (λ _ sound. subst (λ t. OnScripted t (λ script budget. IsSound s script o)) (sym is) sound) c.check_script.ensures.sound
 
@@ -62,14 +48,7 @@ returns-clause-fitting g c =
     let s = scenario_of c.args.scenario.now in
     let o = outline_of g.S.ViewSet.members c.args.outline.now in
     let host = c.args.outline.now.host in
-    let read : IsRead c.args.scenario.now c.parts.result.now c.from.result host c.index.result.now = record {
-      same = c.parts.ensures.value;
-      fits = c.parts.ensures.fits;
-      place = c.from.ensures;
-      there = scripted_there s host c.requires.scripted;
-      read = c.index.ensures;
-    } in
-    let is = scripted_task c.args.scenario.now c.parts.result.now c.from.result host c.index.result.now read c.in-Scripted.script c.in-Scripted.budget c.in-Scripted.is in
+    let is = scripted_task s host c.nexus_in.result.now c.nexus_in.ensures.nexus c.in-Scripted.script c.in-Scripted.budget c.in-Scripted.is in
     IfOk-weaker c.check_script.result (λ _. (budget : ℕ) → cost_of_all (script_of c.in-Scripted.script) ≤ budget → IsFitting s (script_of c.in-Scripted.script) budget o)
     (λ _. OnScripted (task s host) (λ script budget. IsFitting s script budget o))
     (λ _ fits. subst (λ t. OnScripted t (λ script budget. IsFitting s script budget o)) (sym is) (fits c.in-Scripted.budget c.in_ok-check_cost-in-Scripted.ensures.within)) c.check_script.ensures.fitting
@@ -79,14 +58,7 @@ returns-clause-refusal g c =
     let s = scenario_of c.args.scenario.now in
     let o = outline_of g.S.ViewSet.members c.args.outline.now in
     let host = c.args.outline.now.host in
-    let read : IsRead c.args.scenario.now c.parts.result.now c.from.result host c.index.result.now = record {
-      same = c.parts.ensures.value;
-      fits = c.parts.ensures.fits;
-      place = c.from.ensures;
-      there = scripted_there s host c.requires.scripted;
-      read = c.index.ensures;
-    } in
-    let is = scripted_task c.args.scenario.now c.parts.result.now c.from.result host c.index.result.now read c.in-Scripted.script c.in-Scripted.budget c.in-Scripted.is in
+    let is = scripted_task s host c.nexus_in.result.now c.nexus_in.ensures.nexus c.in-Scripted.script c.in-Scripted.budget c.in-Scripted.is in
     IfErr-weaker c.check_script.result (λ refusal. (budget : ℕ) → cost_of_all (script_of c.in-Scripted.script) ≤ budget → IsRefusal s (script_of c.in-Scripted.script) budget o refusal)
     (λ refusal. OnScripted (task s host) (λ script budget. IsRefusal s script budget o refusal))
     (λ refusal refused. subst (λ t. OnScripted t (λ script budget. IsRefusal s script budget o refusal)) (sym is) (refused c.in-Scripted.budget c.in_ok-check_cost-in-Scripted.ensures.within)) c.check_script.ensures.refusal
@@ -96,14 +68,7 @@ returns-in_err-check_cost-in-Scripted-clause-refusal g c =
     let s = scenario_of c.args.scenario.now in
     let o = outline_of g.S.ViewSet.members c.args.outline.now in
     let host = c.args.outline.now.host in
-    let read : IsRead c.args.scenario.now c.parts.result.now c.from.result host c.index.result.now = record {
-      same = c.parts.ensures.value;
-      fits = c.parts.ensures.fits;
-      place = c.from.ensures;
-      there = scripted_there s host c.requires.scripted;
-      read = c.index.ensures;
-    } in
-    let is = scripted_task c.args.scenario.now c.parts.result.now c.from.result host c.index.result.now read c.in-Scripted.script c.in-Scripted.budget c.in-Scripted.is in
+    let is = scripted_task s host c.nexus_in.result.now c.nexus_in.ensures.nexus c.in-Scripted.script c.in-Scripted.budget c.in-Scripted.is in
     let Q = λ (refusal : Refusal). OnScripted (task s host) (λ script budget. IsRefusal s script budget o refusal) in
     let over = c.in_err-check_cost-in-Scripted.ensures.over in
     let p = err_from_is_err_and c.from_residual.result c.from_residual.ensures.1 in

@@ -5,29 +5,16 @@ use Rattle.pr_roles.specs.Scenarios.{scenario_of}
 use Rattle.pr_views.specs.Rooms.{view_of}
 use Rattle.pr_views.proofs.Viewing.{fits}
 use Rattle.pr_verify.proofs.Begun.{any_own, scope_alike}
-use Rattle.pr_verify.proofs.Nexuses.{IsRead, role_read, role_fits, is_kept}
+use Rattle.pr_verify.proofs.Nexuses.{role_read, role_fits}
 use Rattle.pr_verify.proofs.Disturbed.{closed_to_none, closed_own, closed_one, open_by}
-use Rattle.pr_verify.proofs.others.is_closed.Given as given
 use Rattle.pr_verify.proofs.others.is_closed.Goals.{then-other-own+in_ok-left+else-not-within, else-other-own}
 use Rattle.pr_verify.proofs.others.is_closed.Goals as goal
 
 pub loop-other-init : goal.loop-other-init
 loop-other-init g c = closed_to_none (scenario_of c.args.scenario.now) (view_of g.S.ViewSet.members c.args.own c.args.view.now)
 
-pub index-requires : goal.index-requires
-index-requires g c =
-    let all = is_kept c.args.scenario.now c.parts.result.now c.from.result c.loop-other.other c.parts.ensures.value c.from.ensures (let same = c.requires.hosts in omega arith) in
-    omega (arith, c.parts.result.now.nexuses.ok.0)
-
--- the other's nexus, as it was read
-read : (g : given.Over) (c : goal.After-index g) → IsRead c.args.scenario.now c.parts.result.now c.from.result c.loop-other.other c.index.result.now
-read g c = record {
-  same = c.parts.ensures.value;
-  fits = c.parts.ensures.fits;
-  place = c.from.ensures;
-  there = let same = c.requires.hosts in let small = c.loop-other-test.true in omega arith;
-  read = c.index.ensures;
-}
+pub nexus_in-requires : goal.nexus_in-requires
+nexus_in-requires g c = let same = c.requires.hosts in let small = c.loop-other-test.true in omega arith
 
 pub interfere-requires : goal.interfere-requires
 interfere-requires g c = (
@@ -40,8 +27,8 @@ interfere-requires g c = (
         c.loop-other-test.true,
         (
           λ same. c.if-other-own.true (sym same),
-          subst (λ keys. is_role keys c.index.result.now.role.clauses.items ≡ true) (sym c.requires.keys)
-              (role_fits c.args.scenario.now c.parts.result.now c.from.result c.loop-other.other c.index.result.now (read g c)),
+          subst (λ keys. is_role keys c.nexus_in.result.now.role.clauses.items ≡ true) (sym c.requires.keys)
+              (role_fits (scenario_of c.args.scenario.now) c.loop-other.other c.nexus_in.result.now c.nexus_in.ensures.nexus c.nexus_in.ensures.fits),
         ),
       ),
     ),
@@ -55,10 +42,9 @@ returns-then-not-within-clause-open g c denied =
     let left = c.in_ok-left.left in
     let view = c.args.view.now in
     let there : c.loop-other.other < length (scenario_of c.args.scenario.now).nexuses = (let same = c.requires.hosts in let small = c.loop-other-test.true in omega arith) in
-    let seen : IsRead c.args.scenario.now c.parts.result.now c.from.result c.loop-other.other c.index.result.now = record { same = c.parts.ensures.value; fits = c.parts.ensures.fits; place = c.from.ensures; there = there; read = c.index.ensures } in
-    open_by (scenario_of c.args.scenario.now) (view_of members own view) c.loop-other.other c.index.result.now.role.clauses.items (view_of members own left) (scope_alike own view left c.in_ok-left.ensures.alike)
+    open_by (scenario_of c.args.scenario.now) (view_of members own view) c.loop-other.other c.nexus_in.result.now.role.clauses.items (view_of members own left) (scope_alike own view left c.in_ok-left.ensures.alike)
     (fits members g.S.ViewSet.room g.met.S.ViewSet.below left own c.in_ok-left.ensures.made (subst (λ n. own < n) c.in_ok-left.ensures.alike.hosts c.requires.own)) there c.if-other-own.true
-    (role_read c.args.scenario.now c.parts.result.now c.from.result c.loop-other.other c.index.result.now seen)
+    (role_read (scenario_of c.args.scenario.now) c.loop-other.other c.nexus_in.result.now c.nexus_in.ensures.nexus)
     c.in_ok-left.ensures.interference (λ within. false≢true (sym c.if-not-within.true ∙ c.within.ensures.1 (any_own members g.S.ViewSet.room left view own within)))
 
 pub loop-other-preserved : goal.loop-other-preserved
@@ -68,11 +54,9 @@ loop-other-preserved g c =
     let view = c.args.view.now in
     elim c.if-other-own.branch [
       | then-other-own+in_ok-left+else-not-within w ↦
-          let there : c.loop-other.other < length (scenario_of c.args.scenario.now).nexuses = (let same = c.requires.hosts in let small = c.loop-other-test.true in omega arith) in
-          let seen : IsRead c.args.scenario.now c.parts.result.now w.from.result c.loop-other.other w.index.result.now = record { same = c.parts.ensures.value; fits = c.parts.ensures.fits; place = w.from.ensures; there = there; read = w.index.ensures } in
-          closed_one (scenario_of c.args.scenario.now) (view_of members own view) c.loop-other.other w.index.result.now.role.clauses.items (view_of members own w.in_ok-left.left)
+          closed_one (scenario_of c.args.scenario.now) (view_of members own view) c.loop-other.other w.nexus_in.result.now.role.clauses.items (view_of members own w.in_ok-left.left)
           (scope_alike own view w.in_ok-left.left w.in_ok-left.ensures.alike)
-          (role_read c.args.scenario.now c.parts.result.now w.from.result c.loop-other.other w.index.result.now seen)
+          (role_read (scenario_of c.args.scenario.now) c.loop-other.other w.nexus_in.result.now w.nexus_in.ensures.nexus)
           w.in_ok-left.ensures.interference (w.within.ensures.0 w.if-not-within.false own) c.loop-other.invariant
       | else-other-own w ↦ closed_own (scenario_of c.args.scenario.now) (view_of members own view) c.loop-other.other w.if-other-own.false c.loop-other.invariant
     ]

@@ -5,14 +5,9 @@ use Rattle.pr_domain.specs.Outcomes.{IsPermittedIn, IsRefusedIn}
 use Rattle.pr_verify.specs.Rooms.{outline_of}
 use Rattle.pr_verify.specs.inside.Listing.{place_of}
 use Rattle.pr_verify.specs.inside.Reviewing.{IsMisfit}
-use Rattle.pr_verify.proofs.Nexuses.{IsRead, role_read, is_kept}
+use Rattle.pr_verify.proofs.Nexuses.{role_read}
 use Rattle.pr_verify.proofs.Fitted.{IsHere, keeps_role, breaks_role, has_arms, lacks_arm_first}
 use Rattle.pr_verify.proofs.reviewing.misfit.Goals as goal
-
-pub index-requires : goal.index-requires
-index-requires g c =
-    let all = is_kept c.args.scenario.now c.parts.result.now c.from.result c.args.outline.now.host c.parts.ensures.value c.from.ensures c.requires.host in
-    omega (arith, c.parts.result.now.nexuses.ok.0)
 
 pub returns-then-not-permitted : goal.returns-then-not-permitted
 returns-then-not-permitted g c =
@@ -20,8 +15,7 @@ returns-then-not-permitted g c =
     let own = c.args.outline.now.host in
     let v = view_of members own c.args.view.now in
     let p = place_of c.args.spot.now in
-    let seen : IsRead c.args.scenario.now c.parts.result.now c.from.result own c.index.result.now = record { same = c.parts.ensures.value; fits = c.parts.ensures.fits; place = c.from.ensures; there = c.requires.host; read = c.index.ensures } in
-    let refused = subst (λ clauses. IsRefusedIn v clauses p.command) (role_read c.args.scenario.now c.parts.result.now c.from.result own c.index.result.now seen) (c.permitted.ensures.refused c.if-not-permitted.true) in
+    let refused = subst (λ clauses. IsRefusedIn v clauses p.command) (role_read (scenario_of c.args.scenario.now) own c.nexus_in.result.now c.nexus_in.ensures.nexus) (c.permitted.ensures.refused c.if-not-permitted.true) in
     (refl, refl, breaks_role (scenario_of c.args.scenario.now) (outline_of members c.args.outline.now) p v (record { at = c.requires.here; own = refl }) refused)
 
 pub returns-in_err-class : goal.returns-in_err-class
@@ -32,8 +26,7 @@ returns-in_err-class g c =
     let own = c.args.outline.now.host in
     let v = view_of members own c.args.view.now in
     let p = place_of c.args.spot.now in
-    let seen : IsRead c.args.scenario.now c.parts.result.now c.from.result own c.index.result.now = record { same = c.parts.ensures.value; fits = c.parts.ensures.fits; place = c.from.ensures; there = c.requires.host; read = c.index.ensures } in
-    let permitted = subst (λ clauses. IsPermittedIn v clauses p.command) (role_read c.args.scenario.now c.parts.result.now c.from.result own c.index.result.now seen) (c.permitted.ensures.permitted c.if-not-permitted.false) in
+    let permitted = subst (λ clauses. IsPermittedIn v clauses p.command) (role_read (scenario_of c.args.scenario.now) own c.nexus_in.result.now c.nexus_in.ensures.nexus) (c.permitted.ensures.permitted c.if-not-permitted.false) in
     let here : IsHere o p v = record { at = c.requires.here; own = refl } in
     subst (IsMisfit s o p) (sym c.from_residual.ensures)
     (has_arms s o p v here members own c.args.outcomes.now c.requires.outcomes c.requires.written.next (λ class one. c.in_err-class.ensures class one (omega arith)), keeps_role s o p v here permitted)
@@ -46,7 +39,6 @@ returns g c =
     let own = c.args.outline.now.host in
     let v = view_of members own c.args.view.now in
     let p = place_of c.args.spot.now in
-    let seen : IsRead c.args.scenario.now c.parts.result.now c.from.result own c.index.result.now = record { same = c.parts.ensures.value; fits = c.parts.ensures.fits; place = c.from.ensures; there = c.requires.host; read = c.index.ensures } in
-    let permitted = subst (λ clauses. IsPermittedIn v clauses p.command) (role_read c.args.scenario.now c.parts.result.now c.from.result own c.index.result.now seen) (c.permitted.ensures.permitted c.if-not-permitted.false) in
+    let permitted = subst (λ clauses. IsPermittedIn v clauses p.command) (role_read (scenario_of c.args.scenario.now) own c.nexus_in.result.now c.nexus_in.ensures.nexus) (c.permitted.ensures.permitted c.if-not-permitted.false) in
     let here : IsHere o p v = record { at = c.requires.here; own = refl } in
     (refl, refl, keeps_role s o p v here permitted, lacks_arm_first s o p v here members own c.args.outcomes.now c.requires.outcomes c.in_ok-class.class c.in_ok-class.ensures.is (λ other one. c.in_ok-class.ensures.first other one (omega arith)))

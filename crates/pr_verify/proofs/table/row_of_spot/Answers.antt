@@ -1,4 +1,4 @@
-use Rattle.std.proofs.Common.{◌≡◌, ◌<◌, length, map, refl, sym, ap, ◌∙◌, subst, arith}
+use Rattle.std.proofs.Common.{◌≡◌, length, map, refl, ◌∙◌, subst, arith}
 use Rattle.std.specs.List.{Contains}
 use Rattle.pr_roles.specs.Scenarios.{scenario_of}
 use Rattle.pr_views.specs.Rooms.{view_of}
@@ -6,17 +6,12 @@ use Rattle.pr_views.specs.declared.view.ViewOf.{ViewOf}
 use Rattle.pr_domain.specs.declared.landing.Landing.{Landing}
 use Rattle.pr_domain.specs.declared.landing.Landing.TheVariants.{Arm}
 use Rattle.pr_domain.specs.Outcomes.{IsPermittedIn, IsRefusedIn}
-use Rattle.pr_verify.specs.Rooms.{outline_of, row_of}
+use Rattle.pr_verify.specs.Rooms.{outline_of}
 use Rattle.pr_verify.specs.inside.Listing.{place_of}
-use Rattle.pr_verify.proofs.Nexuses.{IsRead, role_read, is_kept}
+use Rattle.pr_verify.proofs.Nexuses.{role_read}
 use Rattle.pr_verify.proofs.Fitted.{IsHere}
 use Rattle.pr_verify.proofs.Tabled.{AreBelow, row_is}
 use Rattle.pr_verify.proofs.table.row_of_spot.Goals as goal
-
-pub index-requires : goal.index-requires
-index-requires g c =
-    let all = is_kept c.args.scenario.now c.parts.result.now c.from.result c.args.outline.now.host c.parts.ensures.value c.from.ensures c.requires.host in
-    omega (arith, c.parts.result.now.nexuses.ok.0)
 
 pub returns : goal.returns
 returns g c =
@@ -27,8 +22,7 @@ returns g c =
     let v = view_of members own c.args.view.now in
     let p = place_of c.args.spot.now in
     let xs = c.args.outcomes.now in
-    let seen : IsRead c.args.scenario.now c.parts.result.now c.from.result own c.index.result.now = record { same = c.parts.ensures.value; fits = c.parts.ensures.fits; place = c.from.ensures; there = c.requires.host; read = c.index.ensures } in
-    let role = role_read c.args.scenario.now c.parts.result.now c.from.result own c.index.result.now seen in
+    let role = role_read s own c.nexus_in.result.now c.nexus_in.ensures.nexus in
     let here : IsHere o p v = record { at = c.requires.here; own = refl } in
     let count : c.len.result ≡ length c.args.spot.now.tests.items = omega (arith, c.len.ensures, c.args.spot.now.tests.ok) in
     row_is s o p v here members own xs c.requires.outcomes _ refl (c.in_ok-tests.ensures.items ∙ c.deref.ensures.value)

@@ -10,7 +10,6 @@ use Rattle.pr_verify.specs.declared.answers.Questions.{Questions}
 use Rattle.pr_verify.specs.declared.places.Spot.{Spot}
 use Rattle.pr_verify.specs.declared.table.Row.{Row}
 use Rattle.pr_verify.specs.inside.Listing.{place_of, IsPlaceWritten}
-use Rattle.pr_verify.specs.inside.Asked.{IsAnswerTo, AreAnswersTo}
 use Rattle.pr_verify.proofs.Begun.{entry_made}
 use Rattle.pr_verify.proofs.Rising.{view_at_same}
 use Rattle.pr_verify.proofs.Answering.{asked_in, has_view, answer_within, outcomes_read}

@@ -6,10 +6,10 @@ use Rattle.pr_roles.specs.Scenarios.{scenario_of, task}
 use Rattle.pr_sets.specs.contracts.word_set.WordSetViewSet.TheImpl.{members-value}
 use Rattle.pr_sets.specs.declared.word_set.WordSet.{WordSet}
 use Rattle.pr_views.specs.declared.view.ViewOf.{ViewOf}
-use Rattle.pr_verify.specs.Places.{Place, places_of}
+use Rattle.pr_verify.specs.Places.{Place}
 use Rattle.pr_verify.specs.Outlines.{IsListed}
 use Rattle.pr_verify.specs.LeastOutlines.{IsLeastSound}
-use Rattle.pr_verify.specs.Rooms.{outline_of, row_of, table_of}
+use Rattle.pr_verify.specs.Rooms.{outline_of, row_of}
 use Rattle.pr_verify.specs.Tables.{IsRow, IsTable}
 use Rattle.pr_verify.specs.declared.places.Spot.{Spot}
 use Rattle.pr_verify.specs.declared.table.Row.{Row}

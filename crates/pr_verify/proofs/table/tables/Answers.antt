@@ -1,6 +1,5 @@
-use Rattle.std.proofs.Common.{◌≡◌, ◌+◌, length, refl, rules, sym, ap, ◌∙◌, subst, arith, Vec, Global}
-use Rattle.std.proofs.lemmas.List.Elements.{All-nil}
-use Rattle.pr_roles.specs.Scenarios.{scenario_of, task}
+use Rattle.std.proofs.Common.{◌≡◌, ◌+◌, length, sym, ap, ◌∙◌, subst, arith, Vec, Global}
+use Rattle.pr_roles.specs.Scenarios.{scenario_of}
 use Rattle.pr_domain.proofs.Written.{are_counted}
 use Rattle.pr_sets.specs.contracts.word_set.WordSetViewSet.TheImpl.{members-value, room-value}
 use Rattle.pr_verify.specs.declared.table.Table.{Table}

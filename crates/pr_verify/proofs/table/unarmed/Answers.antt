@@ -1,4 +1,4 @@
-use Rattle.std.proofs.Common.{◌≡◌, ◌+◌, ◌<◌, length, List, [], ◌∷◌, ◌++◌, sym, ◌∙◌, ap, subst}
+use Rattle.std.proofs.Common.{◌≡◌, ◌+◌, ◌<◌, length, [], ◌∷◌, ◌++◌, sym, subst}
 use Rattle.std.specs.List.{AllPairs}
 use Rattle.pr_domain.specs.declared.landing.Class.{Class}
 use Rattle.pr_verify.specs.Refusals.{class_number}

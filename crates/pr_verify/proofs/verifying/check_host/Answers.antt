@@ -13,33 +13,25 @@ use Rattle.pr_roles.specs.Scenarios.{scenario_of, task, task_of}
 use Rattle.pr_script.specs.Trees.{script_of}
 use Rattle.pr_verify.specs.Outlines.{OnScripted, HasOutline}
 use Rattle.pr_verify.specs.Rooms.{IsScripted}
-use Rattle.pr_verify.proofs.Nexuses.{IsRead, is_kept, scripted_task, scripted_fits, task_read}
+use Rattle.pr_verify.proofs.Nexuses.{scripted_task, scripted_fits, task_read}
 use Rattle.pr_verify.proofs.Tasked.{on_script}
 use Rattle.pr_verify.proofs.Outlined.{has_outline, all_ok}
 use Rattle.pr_verify.proofs.verifying.check_host.Goals as goal
 
-pub index-requires : goal.index-requires
-index-requires c =
-    let all = is_kept c.args.scenario.now c.parts.result.now c.from.result c.args.host c.parts.ensures.value c.from.ensures c.requires in
-    omega (arith, c.parts.result.now.nexuses.ok.0)
-
 pub check_cost-requires : goal.check_cost-requires
 check_cost-requires c =
-    let read : IsRead c.args.scenario.now c.parts.result.now c.from.result c.args.host c.index.result.now = record { same = c.parts.ensures.value; fits = c.parts.ensures.fits; place = c.from.ensures; there = c.requires; read = c.index.ensures } in
-    (scripted_fits c.args.scenario.now c.parts.result.now c.from.result c.args.host c.index.result.now read c.in-Scripted.script c.in-Scripted.budget c.in-Scripted.is).1
+    (scripted_fits (scenario_of c.args.scenario.now) c.args.host c.nexus_in.result.now c.nexus_in.ensures.nexus c.in-Scripted.script c.in-Scripted.budget c.in-Scripted.is c.nexus_in.ensures.fits).1
 
 pub infer-requires : goal.infer-requires
 infer-requires c =
-    let read : IsRead c.args.scenario.now c.parts.result.now c.from.result c.args.host c.index.result.now = record { same = c.parts.ensures.value; fits = c.parts.ensures.fits; place = c.from.ensures; there = c.requires; read = c.index.ensures } in
-    let is = scripted_task c.args.scenario.now c.parts.result.now c.from.result c.args.host c.index.result.now read c.in-Scripted.script c.in-Scripted.budget c.in-Scripted.is in
+    let is = scripted_task (scenario_of c.args.scenario.now) c.args.host c.nexus_in.result.now c.nexus_in.ensures.nexus c.in-Scripted.script c.in-Scripted.budget c.in-Scripted.is in
     record { scripted = subst IsScripted (sym is) tt }
 
 pub check_script-requires : goal.check_script-requires
 check_script-requires c =
-    let read : IsRead c.args.scenario.now c.parts.result.now c.from.result c.args.host c.index.result.now = record { same = c.parts.ensures.value; fits = c.parts.ensures.fits; place = c.from.ensures; there = c.requires; read = c.index.ensures } in
-    let fits = scripted_fits c.args.scenario.now c.parts.result.now c.from.result c.args.host c.index.result.now read c.in-Scripted.script c.in-Scripted.budget c.in-Scripted.is in
+    let fits = scripted_fits (scenario_of c.args.scenario.now) c.args.host c.nexus_in.result.now c.nexus_in.ensures.nexus c.in-Scripted.script c.in-Scripted.budget c.in-Scripted.is c.nexus_in.ensures.fits in
     let same = c.in_ok-outline-in-Scripted.ensures.host in
-    (search rules, (omega (arith, c.requires), (fits.0, (c.parts.ensures.starts, c.in_ok-outline-in-Scripted.ensures.made))))
+    (search rules, (omega (arith, c.requires), (fits.0, (c.nexus_in.ensures.starts, c.in_ok-outline-in-Scripted.ensures.made))))
 
 pub returns-in_ok-outline-in-Scripted-clause-outline : goal.returns-in_ok-outline-in-Scripted-clause-outline
 returns-in_ok-outline-in-Scripted-clause-outline c =
@@ -47,8 +39,7 @@ returns-in_ok-outline-in-Scripted-clause-outline c =
     let host = c.args.host in
     let script = script_of c.in-Scripted.script in
     let budget = c.in-Scripted.budget in
-    let read : IsRead c.args.scenario.now c.parts.result.now c.from.result c.args.host c.index.result.now = record { same = c.parts.ensures.value; fits = c.parts.ensures.fits; place = c.from.ensures; there = c.requires; read = c.index.ensures } in
-    let is = scripted_task c.args.scenario.now c.parts.result.now c.from.result host c.index.result.now read c.in-Scripted.script budget c.in-Scripted.is in
+    let is = scripted_task s host c.nexus_in.result.now c.nexus_in.ensures.nexus c.in-Scripted.script budget c.in-Scripted.is in
     all_ok c.check_script.result
     (λ fields sound fitting. on_script (task s host) script budget (HasOutline s host) is
     (has_outline s host script budget fields c.in_ok-outline-in-Scripted.ensures.host sound (fitting budget c.in_ok-check_cost-in-Scripted.ensures.within)))
@@ -57,8 +48,7 @@ returns-in_ok-outline-in-Scripted-clause-outline c =
 pub returns-in-Planned-clause-outline : goal.returns-in-Planned-clause-outline
 returns-in-Planned-clause-outline c =
     let s = scenario_of c.args.scenario.now in
-    let read : IsRead c.args.scenario.now c.parts.result.now c.from.result c.args.host c.index.result.now = record { same = c.parts.ensures.value; fits = c.parts.ensures.fits; place = c.from.ensures; there = c.requires; read = c.index.ensures } in
-    let is = task_read c.args.scenario.now c.parts.result.now c.from.result c.args.host c.index.result.now read ∙ ap (λ t. Some (task_of t)) c.in-Planned.is in
+    let is = task_read s c.args.host c.nexus_in.result.now c.nexus_in.ensures.nexus ∙ ap (λ t. Some (task_of t)) c.in-Planned.is in
     subst (λ t. OnScripted t (HasOutline s c.args.host)) (sym is) tt
 
 pub returns-in_ok-outline-in-Scripted-clause-reason : goal.returns-in_ok-outline-in-Scripted-clause-reason
@@ -68,8 +58,7 @@ returns-in_ok-outline-in-Scripted-clause-reason c =
     let script = script_of c.in-Scripted.script in
     let budget = c.in-Scripted.budget in
     let o = outline_of _ c.in_ok-outline-in-Scripted.outline in
-    let read : IsRead c.args.scenario.now c.parts.result.now c.from.result c.args.host c.index.result.now = record { same = c.parts.ensures.value; fits = c.parts.ensures.fits; place = c.from.ensures; there = c.requires; read = c.index.ensures } in
-    let is = scripted_task c.args.scenario.now c.parts.result.now c.from.result host c.index.result.now read c.in-Scripted.script budget c.in-Scripted.is in
+    let is = scripted_task s host c.nexus_in.result.now c.nexus_in.ensures.nexus c.in-Scripted.script budget c.in-Scripted.is in
     let least = subst (λ t. OnScripted t (λ b n. IsLeastSound s b o)) is c.in_ok-outline-in-Scripted.ensures.least in
     IfErr-weaker c.check_script.result (λ refusal. (n : ℕ) → cost_of_all script ≤ n → IsRefusal s script n o refusal) (λ refusal. refusal ≢ Memory → HasReason s host refusal)
     (λ refusal refused. has_reason s host script budget is o c.in_ok-outline-in-Scripted.ensures.host least refusal (refused budget c.in_ok-check_cost-in-Scripted.ensures.within)) c.check_script.ensures.refusal
@@ -80,8 +69,7 @@ returns-in_err-check_cost-in-Scripted-clause-reason c =
     let host = c.args.host in
     let script = script_of c.in-Scripted.script in
     let budget = c.in-Scripted.budget in
-    let read : IsRead c.args.scenario.now c.parts.result.now c.from.result c.args.host c.index.result.now = record { same = c.parts.ensures.value; fits = c.parts.ensures.fits; place = c.from.ensures; there = c.requires; read = c.index.ensures } in
-    let is = scripted_task c.args.scenario.now c.parts.result.now c.from.result host c.index.result.now read c.in-Scripted.script budget c.in-Scripted.is in
+    let is = scripted_task s host c.nexus_in.result.now c.nexus_in.ensures.nexus c.in-Scripted.script budget c.in-Scripted.is in
     let Q = λ (refusal : Refusal). refusal ≢ Memory → HasReason s host refusal in
     let over = c.in_err-check_cost-in-Scripted.ensures.over in
     let p = err_from_is_err_and c.from_residual.result c.from_residual.ensures.1 in
