@@ -63,14 +63,11 @@ number_nowhere xs name h =
     let none : position (λ x. bytes_eq x.name name) xs ≡ None = position_from-zero (λ x. bytes_eq x.name name) xs ∙ nowhere (λ x. bytes_eq x.name name) xs 0 h in
     rw none refl
 
-pub number_there : (xs : List Declaration) (y : Declaration) (ys : List Declaration) (name : List ℕ) → is_taken name xs ≡ false → bytes_eq y.name name ≡ true → length xs ≤ 8
+pub number_there : (xs : List Declaration) (y : Declaration) (ys : List Declaration) (name : List ℕ) → is_taken name xs ≡ false → bytes_eq y.name name ≡ true
     → number_of (xs ++ y ∷ ys) name ≡ Some (length xs)
 unfolding number_of
-number_there xs y ys name h it few =
-    let found : position (λ x. bytes_eq x.name name) (xs ++ y ∷ ys) ≡ Some (length xs) =
-    position_from-zero (λ x. bytes_eq x.name name) (xs ++ y ∷ ys) ∙ (there_at (λ x. bytes_eq x.name name) xs y ys 0 h it ∙ ap (λ m. Some m) (omega arith)) in
-    let small = lt_true (length xs) 256 (omega arith) in
-    rw (found, small) refl
+number_there xs y ys name h it =
+    position_from-zero (λ x. bytes_eq x.name name) (xs ++ y ∷ ys) ∙ (there_at (λ x. bytes_eq x.name name) xs y ys 0 h it ∙ ap (λ m. Some m) (omega arith))
 
 pub element_there : {A : Type 0} (xs : List A) (y : A) (ys : List A) → slice_get (xs ++ y ∷ ys) (length xs) ≡ Some y
 element_there [] y ys = refl

@@ -41,13 +41,13 @@ pub enum Item {
     Reservation(Vec<Wanted>),
     Generation(u32),
     Role(Word, Clause),
-    Script(Word, u32),
+    Script(Word, u64),
     Plan(Word),
     End,
     Send(Spelled),
     On(Test),
     Done,
-    Repeat(u32),
+    Repeat(u64),
     Break,
     Stop(Word),
     /// A command of a plan.
@@ -138,7 +138,7 @@ fn script_said(rest: &[u8]) -> Option<Item>
     Some(Item::Script(name, budget))
 }
 
-fn budget_in(line: &[u8]) -> Option<u32>
+fn budget_in(line: &[u8]) -> Option<u64>
     ensures { result ≡ budget_in (words line.now) }
 {
     let (word, rest) = next_word(line)?;
