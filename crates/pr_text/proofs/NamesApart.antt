@@ -1,5 +1,5 @@
 -- Where a name that is declared once is found.
-use Rattle.std.specs.Prelude.{◌≡◌, ℕ, ◌+◌, ◌≤◌, Bool, true, false, cond, ◌||◌, not, List, [], ◌∷◌, ◌++◌, length, map, Some, None, is_some, position, bytes_eq}
+use Rattle.std.specs.Prelude.{◌≡◌, ℕ, ◌+◌, Bool, true, false, cond, ◌||◌, not, List, [], ◌∷◌, ◌++◌, length, map, Some, None, is_some, position, bytes_eq}
 use Rattle.std.specs.List.{slice_get, list_any, position_from}
 use Rattle.std.proofs.Common.{refl, sym, ap, ◌∙◌, arith, append_assoc}
 use Rattle.std.proofs.lemmas.Bool.{and_parts}
@@ -11,7 +11,7 @@ use Rattle.pr_roles.specs.Fitting.{are_distinct}
 use Rattle.pr_text.specs.Declarations.{Declaration}
 use Rattle.pr_text.specs.Declaring.{number_of}
 use Rattle.pr_text.proofs.Trees.{no_not}
-use Rattle.pr_text.proofs.SoundScripts.{or_no, lt_true}
+use Rattle.pr_text.proofs.SoundScripts.{or_no}
 use Rattle.pr_text.proofs.SoundLists.{other_way}
 
 abbrev pub names : List Declaration → List (List ℕ)

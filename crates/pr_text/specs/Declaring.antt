@@ -1,6 +1,6 @@
 -- Agrees with docs/FORMATS.md, 'The lines of a scenario'.
 -- What the names and keys of the next line mean, by what is declared before it.
-use Rattle.std.specs.Prelude.{ℕ, List, Option, if◌then◌else◌, [], bytes_eq, Some, None, option_map, Bool, ◌&&◌, unwrap_or, false, ◌==◌, nat_lt, position, fold, true}
+use Rattle.std.specs.Prelude.{ℕ, List, Option, [], bytes_eq, Some, None, option_map, Bool, ◌&&◌, unwrap_or, false, ◌==◌, position, fold, true}
 use Rattle.std.specs.Option.{option_map_or}
 use Rattle.std.specs.List.{slice_get}
 use Rattle.std.specs.FinSet as set

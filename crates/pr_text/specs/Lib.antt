@@ -5,7 +5,6 @@ pub mod WordTerms
 pub mod CommandOptions
 pub mod CommandWords
 pub mod Clauses
-pub mod Keywords
 pub mod Items
 pub mod ScriptLines
 pub mod Declarations

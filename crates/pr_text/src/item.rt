@@ -3,7 +3,8 @@
 ghost use Rattle.std.specs.Prelude.{◌≡◌, map, option_map, IfOk};
 ghost use Rattle.pr_text.specs.TextLines.{words};
 ghost use Rattle.pr_text.specs.WordTerms.{key_of, code_of};
-ghost use Rattle.pr_text.specs.Items.{listed, alternative_of, everybody_of, single_of, wanted_of, name_in, only_name, budget_in, fence_said, start_said, pending_said, role_said, script_said, said_simply, said_after, item_of, bare_said, keys_line, reservation_line};
+ghost use Rattle.pr_text.specs.Items.{listed, alternative_of, everybody_of, single_of, wanted_of, name_in, only_name, budget_in, fence_said, start_said, pending_said, role_said, script_said, item_of, bare_said, keys_line, reservation_line};
+ghost use Rattle.pr_text.specs.inside.Keywords.{said_simply, said_after};
 ghost use Rattle.pr_text.specs.inside.ItemValues.{wanted_seen, seen};
 
 use crate::clauses::{clause_of, test_of};
@@ -55,7 +56,7 @@ pub enum Item {
 }
 
 /// What the line says that begins with the word, or nothing where it does not keep its shape.
-#[tactic(auto, unfolding(crate::specs::Items::item_of))]
+#[tactic(auto, using(crate::proofs::ItemWords::by_keyword))]
 pub fn item_of(alloc: Global, word: &[u8], rest: &[u8]) -> Result<Option<Item>, AllocError>
     ensures { IfOk result (λ item. option_map seen item ≡ item_of word.now (words rest.now)) }
 {
