@@ -163,12 +163,12 @@ short_plan k m h = grind (arith, nat_tests)
 one_longer : {A : Type 0} (xs : List A) (x : A) (m top : ℕ) → length xs + suc m ≤ top → length (xs ++ x ∷ []) + m ≤ top
 one_longer xs x m top h = omega (arith, length-append xs (x ∷ []))
 
-module _ (n : ℕ) (keys : Option (List ℕ)) (vs : Option (List (Option Held))) (g : Option ℕ) (before after : List Declaration) (name : List ℕ) (free : is_taken name before ≡ false) (few : length before ≤ 8) where
+module _ (n : ℕ) (keys : Option (List ℕ)) (vs : Option (List (Option Held))) (g : Option ℕ) (before after : List Declaration) (name : List ℕ) (free : is_taken name before ≡ false) where
   abbrev with : Declaration → Place → Declared
   with x p = placed keys vs g (before ++ x ∷ after) p
 
   found : (x : Declaration) (p : Place) (step : ℕ → Declaration → Result Declared ReadError) → bytes_eq x.name name ≡ true → at_name n (with x p) name step ≡ step (length before) x
-  found x p step it = rw (number_there before x after name free it few, element_there before x after) refl
+  found x p step it = rw (number_there before x after name free it, element_there before x after) refl
 
   start_goes : (guest : Bool) (xs : List (Option ℕ)) → list_all (is_alternative (unwrap_or keys [])) xs ≡ true → are_distinct is_same_alternative xs ≡ true
       → item_taken n (start_line name xs) (with (staged n name guest None None [] None) outside) ≡ Ok (with (staged n name guest (Some xs) None [] None) outside)
@@ -285,18 +285,18 @@ abbrev pub full : ℕ → Nexus → Declaration
 full n x = staged n x.name (is_planned x.task) (Some x.start) (pending_kept (attentions_in x.pending) x.pending) x.role (Some (task_written x.task))
 
 pub details_go : (n : ℕ) (keys : Option (List ℕ)) (vs : Option (List (Option Held))) (g : Option ℕ) (before after : List Declaration) (x : Nexus)
-    → is_taken x.name before ≡ false → length before ≤ 8 → is_nexus (unwrap_or keys []) x ≡ true → AreAttentions x.pending
+    → is_taken x.name before ≡ false → is_nexus (unwrap_or keys []) x ≡ true → AreAttentions x.pending
     → all_said (details_said n x) (placed keys vs g (before ++ bare n x ∷ after) outside) ≡ Ok (placed keys vs g (before ++ full n x ∷ after) outside)
-details_go n keys vs g before after x free few fits are =
+details_go n keys vs g before after x free fits are =
     let guest = is_planned x.task in
     let pending = pending_kept (attentions_in x.pending) x.pending in
     let parts = and_parts (is_role (unwrap_or keys []) x.role) _ (and_parts (is_name x.name) _ fits).1 in
     let roles = and_parts (nat_le (length x.role) 32) _ parts.0 in
     let rest = and_parts (is_start (unwrap_or keys []) x.start) _ parts.1 in
     let start = and_parts (list_all (is_alternative (unwrap_or keys [])) x.start) _ (and_parts (not (length x.start == 0)) _ rest.0).1 in
-    said_first n (start_line x.name x.start) _ _ _ _ (start_goes n keys vs g before after x.name free few guest x.start start.0 start.1)
+    said_first n (start_line x.name x.start) _ _ _ _ (start_goes n keys vs g before after x.name free guest x.start start.0 start.1)
     (said_on (pending_said n x.name (attentions_in x.pending)) _ _ _ _
-    (pending_goes n keys vs g before after x.name free few guest (Some x.start) (attentions_in x.pending) x.pending (attentions_apart x.pending) (attentions_are x.pending are))
+    (pending_goes n keys vs g before after x.name free guest (Some x.start) (attentions_in x.pending) x.pending (attentions_apart x.pending) (attentions_are x.pending are))
     (said_on (map (λ c. line n (role_line x.name c)) x.role) _ _ _ _
-    (roles_go n keys vs g before after x.name free few guest (Some x.start) pending [] x.role roles.1 (let few_roles = true_le (length x.role) 32 roles.0 in omega arith))
-    (task_goes n keys vs g before after x.name free few x.task (Some x.start) pending x.role rest.1)))
+    (roles_go n keys vs g before after x.name free guest (Some x.start) pending [] x.role roles.1 (let few_roles = true_le (length x.role) 32 roles.0 in omega arith))
+    (task_goes n keys vs g before after x.name free x.task (Some x.start) pending x.role rest.1)))

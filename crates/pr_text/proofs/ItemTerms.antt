@@ -16,8 +16,9 @@ use Rattle.pr_text.specs.WordTerms.{worth, number, digit_of, byte_of, without_pr
 use Rattle.pr_text.specs.CommandWords.{spelled_of, spelled_in}
 use Rattle.pr_text.specs.Clauses.{clause_of, alone, good_of, test_of}
 use Rattle.pr_text.specs.Chain.{each}
-use Rattle.pr_text.specs.Items.{Wanted, nobody, single, everybody, Item, keys_line, host_line, guest_line, start_line, pending_line, reservation_line, generation_line, role_line, script_line, plan_line, end_line, send_line, on_line, done_line, repeat_line, break_line, stop_line, command_line, fence_line, listed, alternative_of, everybody_of, single_of, wanted_of, name_in, only_name, budget_in, start_said, pending_said, said_simply, said_after, said_with, item_of}
-use Rattle.pr_text.specs.Keywords.{keyword_of}
+use Rattle.pr_text.specs.Items.{Wanted, nobody, single, everybody, Item, keys_line, host_line, guest_line, start_line, pending_line, reservation_line, generation_line, role_line, script_line, plan_line, end_line, send_line, on_line, done_line, repeat_line, break_line, stop_line, command_line, fence_line, listed, alternative_of, everybody_of, single_of, wanted_of, name_in, only_name, budget_in, start_said, pending_said, item_of}
+use Rattle.pr_text.specs.inside.Keywords.{keyword_of, said_simply, said_after, said_with}
+use Rattle.pr_text.proofs.ItemWords.{by_keyword}
 use Rattle.pr_text.proofs.NumberRoom.{digit_more, hex_some}
 use Rattle.pr_text.proofs.Trees.{both, true_le, true_lt}
 
@@ -265,5 +266,4 @@ said_sound (Some k) w ws = after_sound k ws
 said_sound None w ws = map_if (λ _. Unit {0}) Sound (λ s. command_line s) (spelled_of w ws) (any_if _) (λ x h. refl)
 
 pub item_sound : (w : List ℕ) (ws : List (List ℕ)) → IfSome (item_of w ws) (λ i. is_item i ≡ true)
-unfolding item_of
-item_sound w ws = said_sound (keyword_of w) w ws
+item_sound w ws = rw (by_keyword w ws) (said_sound (keyword_of w) w ws)

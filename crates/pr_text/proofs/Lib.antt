@@ -3,6 +3,7 @@ pub mod ReadBytes
 pub mod NumberRoom
 pub mod NameText
 pub mod Steps
+pub mod Endings
 pub mod Lists
 pub mod LineOrder
 pub mod OpenLines
@@ -12,6 +13,7 @@ pub mod Fitting
 pub mod Soundness
 pub mod FrontOfText
 pub mod Trees
+pub mod ItemWords
 pub mod ItemTerms
 pub mod SoundScripts
 pub mod SoundPlaces

@@ -1,5 +1,5 @@
 -- Where a name that is declared once is found.
-use Rattle.std.specs.Prelude.{◌≡◌, ℕ, ◌+◌, ◌≤◌, Bool, true, false, cond, ◌||◌, not, List, [], ◌∷◌, ◌++◌, length, map, Some, None, is_some, position, bytes_eq}
+use Rattle.std.specs.Prelude.{◌≡◌, ℕ, ◌+◌, Bool, true, false, cond, ◌||◌, not, List, [], ◌∷◌, ◌++◌, length, map, Some, None, is_some, position, bytes_eq}
 use Rattle.std.specs.List.{slice_get, list_any, position_from}
 use Rattle.std.proofs.Common.{refl, sym, ap, ◌∙◌, arith, append_assoc}
 use Rattle.std.proofs.lemmas.Bool.{and_parts}
@@ -11,7 +11,7 @@ use Rattle.pr_roles.specs.Fitting.{are_distinct}
 use Rattle.pr_text.specs.Declarations.{Declaration}
 use Rattle.pr_text.specs.Declaring.{number_of}
 use Rattle.pr_text.proofs.Trees.{no_not}
-use Rattle.pr_text.proofs.SoundScripts.{or_no, lt_true}
+use Rattle.pr_text.proofs.SoundScripts.{or_no}
 use Rattle.pr_text.proofs.SoundLists.{other_way}
 
 abbrev pub names : List Declaration → List (List ℕ)
@@ -63,14 +63,11 @@ number_nowhere xs name h =
     let none : position (λ x. bytes_eq x.name name) xs ≡ None = position_from-zero (λ x. bytes_eq x.name name) xs ∙ nowhere (λ x. bytes_eq x.name name) xs 0 h in
     rw none refl
 
-pub number_there : (xs : List Declaration) (y : Declaration) (ys : List Declaration) (name : List ℕ) → is_taken name xs ≡ false → bytes_eq y.name name ≡ true → length xs ≤ 8
+pub number_there : (xs : List Declaration) (y : Declaration) (ys : List Declaration) (name : List ℕ) → is_taken name xs ≡ false → bytes_eq y.name name ≡ true
     → number_of (xs ++ y ∷ ys) name ≡ Some (length xs)
 unfolding number_of
-number_there xs y ys name h it few =
-    let found : position (λ x. bytes_eq x.name name) (xs ++ y ∷ ys) ≡ Some (length xs) =
-    position_from-zero (λ x. bytes_eq x.name name) (xs ++ y ∷ ys) ∙ (there_at (λ x. bytes_eq x.name name) xs y ys 0 h it ∙ ap (λ m. Some m) (omega arith)) in
-    let small = lt_true (length xs) 256 (omega arith) in
-    rw (found, small) refl
+number_there xs y ys name h it =
+    position_from-zero (λ x. bytes_eq x.name name) (xs ++ y ∷ ys) ∙ (there_at (λ x. bytes_eq x.name name) xs y ys 0 h it ∙ ap (λ m. Some m) (omega arith))
 
 pub element_there : {A : Type 0} (xs : List A) (y : A) (ys : List A) → slice_get (xs ++ y ∷ ys) (length xs) ≡ Some y
 element_there [] y ys = refl

@@ -1,5 +1,5 @@
 -- Keys, hosts and guests, and reservations stay sound with one line more.
-use Rattle.std.specs.Prelude.{◌≡◌, ℕ, suc, ◌+◌, ◌<◌, ◌≤◌, ◌==◌, Bool, true, false, cond, ◌&&◌, ◌||◌, not, nat_lt, nat_le, List, [], ◌∷◌, ◌++◌, length, map, Option, Some, None, is_some, option_map, option_and_then, unwrap_or, position, bytes_eq, Ok}
+use Rattle.std.specs.Prelude.{◌≡◌, ℕ, suc, ◌+◌, ◌<◌, ◌==◌, Bool, true, false, cond, ◌&&◌, ◌||◌, not, nat_lt, nat_le, List, [], ◌∷◌, ◌++◌, length, map, Option, Some, None, is_some, option_map, option_and_then, unwrap_or, position, bytes_eq, Ok}
 use Rattle.std.specs.List.{list_all, list_any, position_from}
 use Rattle.std.proofs.Common.{refl, sym, subst, ap, ◌∙◌, arith, length-append}
 use Rattle.std.proofs.lemmas.List.Sums.{AllPass-from_list_all}
@@ -31,7 +31,7 @@ use Rattle.pr_text.specs.inside.Chains.{keys_placed, nexus_placed, reservations_
 use Rattle.pr_text.specs.Texts.{start_of, reservations_of}
 use Rattle.pr_text.specs.inside.Sound.{Reached, at_first, may, may_arm, may_all, next, IsTask, IsDeclaration, AreDeclarations, IsPlace, IsSound}
 use Rattle.pr_text.proofs.ItemTerms.{is_key, is_wanted}
-use Rattle.pr_text.proofs.Trees.{both, true_le}
+use Rattle.pr_text.proofs.Trees.{both}
 use Rattle.pr_text.proofs.SoundScripts.{ok_same, past, not_no, or_no, lt_true}
 
 all_more : {A : Type 0} (p q : A → Bool) → ((x : A) → p x ≡ true → q x ≡ true) → (xs : List A) → list_all p xs ≡ true → list_all q xs ≡ true
@@ -171,9 +171,6 @@ keys_sound n keys d e at sound h r =
 
 -- ---- names and numbers
 
-abbrev small : ℕ → Option ℕ
-small h = cond (nat_lt h 256) (Some h) None
-
 found_within : {A : Type 0} (p : A → Bool) (b : Bool) (n h : ℕ) (xs : List A) → ((m : ℕ) → position_from p m xs ≡ Some h → h < m + length xs)
     → cond b (Some n) (position_from p (n + 1) xs) ≡ Some h → h < n + suc (length xs)
 found_within p true n h xs later e = let same : n ≡ h = cc in omega arith
@@ -192,39 +189,26 @@ from_none : {A : Type 0} (p : A → Bool) (xs : List A) (n : ℕ) → position_f
 from_none p [] n e = refl
 from_none p (x ∷ xs) n e = found_none p (p x) n xs (λ m. from_none p xs m) e
 
-kept_small : (b : Bool) (k h : ℕ) → cond b (Some k) None ≡ Some h → Some k ≡ Some h
-kept_small true k h e = e
-kept_small false k h e = cc
-
 not_true : (b : Bool) → (b ≡ true → ⊥) → b ≡ false
 not_true true h = absurd (h refl)
 not_true false h = refl
-
-bounded : (h n : ℕ) → n ≤ 8 → h < 0 + n → h < 256
-bounded h n few below = omega arith
-
-small_some : (o : Option ℕ) (h : ℕ) → option_and_then small o ≡ Some h → o ≡ Some h
-small_some None h e = cc
-small_some (Some k) h e = kept_small (nat_lt k 256) k h e
-
-small_none : (o : Option ℕ) → ((h : ℕ) → o ≡ Some h → h < 256) → is_some (option_and_then small o) ≡ false → o ≡ None
-small_none None below e = refl
-small_none (Some k) below e = absurd (false≢true (sym e ∙ ap (λ b. is_some (cond b (Some k) None)) (lt_true k 256 (below k refl))))
 
 number_within : (xs : List Declaration) (name : List ℕ) (h : ℕ) → number_of xs name ≡ Some h → h < length xs
 unfolding number_of
 number_within xs name h e =
     let p : Declaration → Bool = λ x. bytes_eq x.name name in
-    let found = small_some (position p xs) h e in
-    let below = from_within p h xs 0 (sym (position_from-zero p xs) ∙ found) in
+    let below = from_within p h xs 0 (sym (position_from-zero p xs) ∙ e) in
     omega arith
 
-number_none : (xs : List Declaration) (name : List ℕ) → length xs ≤ 8 → is_some (number_of xs name) ≡ false → list_any (λ x. bytes_eq x.name name) xs ≡ false
+none_there : {A : Type 0} (o : Option A) → is_some o ≡ false → o ≡ None
+none_there None e = refl
+none_there (Some x) e = cc
+
+number_none : (xs : List Declaration) (name : List ℕ) → is_some (number_of xs name) ≡ false → list_any (λ x. bytes_eq x.name name) xs ≡ false
 unfolding number_of
-number_none xs name few e =
+number_none xs name e =
     let p : Declaration → Bool = λ x. bytes_eq x.name name in
-    let below : (h : ℕ) → position p xs ≡ Some h → h < 256 = λ h q. bounded h (length xs) few (from_within p h xs 0 (sym (position_from-zero p xs) ∙ q)) in
-    from_none p xs 0 (sym (position_from-zero p xs) ∙ small_none (position p xs) below e)
+    from_none p xs 0 (sym (position_from-zero p xs) ∙ none_there (position p xs) e)
 
 -- ---- hosts and guests
 
@@ -280,7 +264,7 @@ nexus_sound n guest name d e at named h r =
     let b = past _ _ _ e a.1 in
     let x = new_nexus (n + 1) guest name in
     let same : record d { nexuses = d.nexuses ++ x ∷ [] } ≡ e = ok_same _ _ b.1 in
-    let fresh = number_none d.nexuses name (true_le _ 8 h.few) a.0 in
+    let fresh = number_none d.nexuses name a.0 in
     subst (IsSound (n + 1)) same (record {
       keys = h.keys;
       reservations = rw (one_long d.nexuses x) (reservations_more (reservations_of d) (length d.nexuses) h.reservations);

@@ -9,7 +9,8 @@ use Rattle.pr_text.specs.TextLines.{is_text, words}
 use Rattle.pr_text.specs.Declarations.{Place, before_all, outside, in_script, in_plan, Declared, nothing}
 use Rattle.pr_text.specs.Items.{Item, item_of}
 use Rattle.pr_text.specs.Declaring.{declared_keys}
-use Rattle.pr_text.specs.Texts.{line_placed, worded, said_placed, all_placed, AreRead}
+use Rattle.pr_text.specs.Texts.{line_placed, worded, said_placed, all_placed}
+use Rattle.pr_text.specs.inside.Endings.{AreRead}
 use Rattle.pr_text.specs.inside.Sound.{IsPlace, IsSound}
 use Rattle.pr_text.proofs.ItemTerms.{is_item, item_sound}
 use Rattle.pr_text.proofs.SoundScripts.{later_begun}

@@ -83,9 +83,6 @@ nexus_goes n keys before x free few =
 room : (k m : ℕ) → k + suc m ≤ 8 → nat_le 8 k ≡ false
 room k m h = grind (arith, nat_tests)
 
-room_kept : (k m : ℕ) → k + suc m ≤ 8 → k ≤ 8
-room_kept k m h = omega arith
-
 room_left : {A : Type 0} (xs : List A) (x : A) (m : ℕ) → length xs + suc m ≤ 8 → length (xs ++ x ∷ []) + m ≤ 8
 room_left xs x m h = omega (arith, length-append xs (x ∷ []))
 
@@ -104,51 +101,51 @@ nexuses_go n keys before (x ∷ ns) apart few =
     ∙ ap (λ l. Ok (placed keys None None l outside)) (append_assoc before (bare n x ∷ []) (map (bare n) ns)))
 
 details_all : (n : ℕ) (keys : Option (List ℕ)) (vs : Option (List (Option Held))) (g : Option ℕ) (before : List Declaration) (ns : List Nexus)
-    → are_distinct bytes_eq (names before ++ named ns) ≡ true → length before + length ns ≤ 8 → list_all (is_nexus (unwrap_or keys [])) ns ≡ true → All (λ x. AreAttentions x.pending) ns
+    → are_distinct bytes_eq (names before ++ named ns) ≡ true → list_all (is_nexus (unwrap_or keys [])) ns ≡ true → All (λ x. AreAttentions x.pending) ns
     → all_said (flat_map (details_said n) ns) (placed keys vs g (before ++ map (bare n) ns) outside) ≡ Ok (placed keys vs g (before ++ map (full n) ns) outside)
-details_all n keys vs g before [] apart few fits are = refl
-details_all n keys vs g before (x ∷ ns) apart few fits are =
+details_all n keys vs g before [] apart fits are = refl
+details_all n keys vs g before (x ∷ ns) apart fits are =
     let parts = and_parts (is_nexus (unwrap_or keys []) x) _ fits in
     said_on (details_said n x) (flat_map (details_said n) ns) _ (placed keys vs g (before ++ full n x ∷ map (bare n) ns) outside) _
-    (details_go n keys vs g before (map (bare n) ns) x (free_of before x.name (named ns) apart) (room_kept (length before) (length ns) few) parts.0 (all_first (λ y. AreAttentions y.pending) x ns are))
+    (details_go n keys vs g before (map (bare n) ns) x (free_of before x.name (named ns) apart) parts.0 (all_first (λ y. AreAttentions y.pending) x ns are))
     (ap (λ l. all_said (flat_map (details_said n) ns) (placed keys vs g l outside)) (sym (append_assoc before (full n x ∷ []) (map (bare n) ns)))
-    ∙ (details_all n keys vs g (before ++ full n x ∷ []) ns (still_apart before (full n x) (named ns) apart) (room_left before (full n x) (length ns) few) parts.1 (all_rest (λ y. AreAttentions y.pending) x ns are)
+    ∙ (details_all n keys vs g (before ++ full n x ∷ []) ns (still_apart before (full n x) (named ns) apart) parts.1 (all_rest (λ y. AreAttentions y.pending) x ns are)
     ∙ ap (λ l. Ok (placed keys vs g l outside)) (append_assoc before (full n x ∷ []) (map (full n) ns))))
 
 -- ---- reservations
 
 -- the name of the h-th leads to its number
-number_at : (n : ℕ) (before : List Declaration) (ns : List Nexus) (h : ℕ) → are_distinct bytes_eq (names before ++ named ns) ≡ true → length before + length ns ≤ 8 → h < length ns
+number_at : (n : ℕ) (before : List Declaration) (ns : List Nexus) (h : ℕ) → are_distinct bytes_eq (names before ++ named ns) ≡ true → h < length ns
     → number_of (before ++ map (bare n) ns) (option_map_or (λ x. x.name) (slice_get ns h) []) ≡ Some (length before + h)
-number_at n before [] h apart few below = absurd (omega arith)
-number_at n before (x ∷ ns) zero apart few below =
-    number_there before (bare n x) (map (bare n) ns) x.name (free_of before x.name (named ns) apart) (itself x.name) (room_kept (length before) (length ns) few)
+number_at n before [] h apart below = absurd (omega arith)
+number_at n before (x ∷ ns) zero apart below =
+    number_there before (bare n x) (map (bare n) ns) x.name (free_of before x.name (named ns) apart) (itself x.name)
     ∙ ap (λ m. Some m) (omega arith)
-number_at n before (x ∷ ns) (suc h) apart few below =
+number_at n before (x ∷ ns) (suc h) apart below =
     ap (λ l. number_of l (option_map_or (λ y. y.name) (slice_get ns h) [])) (sym (append_assoc before (bare n x ∷ []) (map (bare n) ns)))
-    ∙ (number_at n (before ++ bare n x ∷ []) ns h (still_apart before (bare n x) (named ns) apart) (room_left before (bare n x) (length ns) few) (omega arith)
+    ∙ (number_at n (before ++ bare n x ∷ []) ns h (still_apart before (bare n x) (named ns) apart) (omega arith)
     ∙ ap (λ m. Some m) (omega (arith, length-append before (bare n x ∷ []))))
 
-held_goes : (n : ℕ) (ns : List Nexus) (v : Option Held) → are_distinct bytes_eq (named ns) ≡ true → length ns ≤ 8 → is_reservation (length ns) v ≡ true
+held_goes : (n : ℕ) (ns : List Nexus) (v : Option Held) → are_distinct bytes_eq (named ns) ≡ true → is_reservation (length ns) v ≡ true
     → held_of (map (bare n) ns) (wanted_by ns v) ≡ Some v
-held_goes n ns None apart few h = refl
-held_goes n ns (Some (One kind h)) apart few fits =
+held_goes n ns None apart h = refl
+held_goes n ns (Some (One kind h)) apart fits =
     let below = true_lt h (length ns) (and_parts (not (is_all kind)) _ fits).1 in
-    ap (λ o. option_map (λ m. Some (One kind m)) o) (number_at n [] ns h apart (omega arith) below) ∙ ap (λ m. Some (Some (One kind m))) (omega arith)
-held_goes n ns (Some (Everybody kind)) apart few h = refl
+    ap (λ o. option_map (λ m. Some (One kind m)) o) (number_at n [] ns h apart below) ∙ ap (λ m. Some (Some (One kind m))) (omega arith)
+held_goes n ns (Some (Everybody kind)) apart h = refl
 
-helds_go : (n : ℕ) (ns : List Nexus) (vs : List (Option Held)) → are_distinct bytes_eq (named ns) ≡ true → length ns ≤ 8 → list_all (is_reservation (length ns)) vs ≡ true
+helds_go : (n : ℕ) (ns : List Nexus) (vs : List (Option Held)) → are_distinct bytes_eq (named ns) ≡ true → list_all (is_reservation (length ns)) vs ≡ true
     → each (held_of (map (bare n) ns)) (map (wanted_by ns) vs) ≡ Some vs
-helds_go n ns [] apart few fits = refl
-helds_go n ns (v ∷ vs) apart few fits =
+helds_go n ns [] apart fits = refl
+helds_go n ns (v ∷ vs) apart fits =
     let parts = and_parts (is_reservation (length ns) v) _ fits in
-    rw (held_goes n ns v apart few parts.0, helds_go n ns vs apart few parts.1) refl
+    rw (held_goes n ns v apart parts.0, helds_go n ns vs apart parts.1) refl
 
-reservation_goes : (n : ℕ) (keys : Option (List ℕ)) (g : Option ℕ) (ns : List Nexus) (vs : List (Option Held)) → are_distinct bytes_eq (named ns) ≡ true → length ns ≤ 8
+reservation_goes : (n : ℕ) (keys : Option (List ℕ)) (g : Option ℕ) (ns : List Nexus) (vs : List (Option Held)) → are_distinct bytes_eq (named ns) ≡ true
     → list_all (is_reservation (length ns)) vs ≡ true → are_distinct is_same_reservation vs ≡ true
     → item_taken n (reservation_line (map (wanted_by ns) vs)) (placed keys None g (map (bare n) ns) outside) ≡ Ok (placed keys (Some vs) g (map (bare n) ns) outside)
 unfolding item_taken reservation_placed
-reservation_goes n keys g ns vs apart few fits once = rw (helds_go n ns vs apart few fits, once) refl
+reservation_goes n keys g ns vs apart fits once = rw (helds_go n ns vs apart fits, once) refl
 
 -- ---- the end
 
@@ -199,8 +196,8 @@ said n s fits can are =
           (said_on (map (λ x. line n (declaring x.name x.task)) s.nexuses) _ _ _ _ (nexuses_go n keys [] s.nexuses apart.0 (omega arith))
           (said_first n (generation_line s.generation) behind _ _ _ (generation_goes n s.generation keys (map (bare n) s.nexuses))
           (said_first n (reservation_line (map (wanted_by s.nexuses) s.reservations)) _ _ _ _
-          (reservation_goes n keys (Some s.generation) s.nexuses s.reservations apart.0 at_most reserved.0 reserved.1)
-          (details_all n keys (Some s.reservations) (Some s.generation) [] s.nexuses apart.0 (omega arith) each are)))));
+          (reservation_goes n keys (Some s.generation) s.nexuses s.reservations apart.0 reserved.0 reserved.1)
+          (details_all n keys (Some s.reservations) (Some s.generation) [] s.nexuses apart.0 each are)))));
       whole = record {
         faultless = ends n keys (Some s.generation) s.nexuses s.reservations parts.0 (start_found s can);
         kept = record { keys = sym (keys_same s.keys); reservations = refl; generation = refl; nexuses = written_same n s.nexuses are };

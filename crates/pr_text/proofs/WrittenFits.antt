@@ -12,7 +12,9 @@ use Rattle.pr_text.specs.declared.fault.ReadError.{ReadError}
 use Rattle.pr_text.specs.declared.fault.ReadError.TheVariants.{EmptyStart}
 use Rattle.pr_text.specs.Faults.{and_then, unless}
 use Rattle.pr_text.specs.Declarations.{Declared, nothing}
-use Rattle.pr_text.specs.Texts.{line_placed, all_placed, end_fault, starts_somewhere, started, ended, finished, answer_of}
+use Rattle.pr_text.specs.Texts.{line_placed, all_placed, starts_somewhere, ended, finished, answer_of}
+use Rattle.pr_text.specs.inside.Endings.{missing, started}
+use Rattle.pr_text.proofs.Endings.{ended_in_turn}
 use Rattle.pr_text.specs.Readings.{IsDeclaredBy}
 use Rattle.pr_text.specs.inside.Sound.{IsSound}
 use Rattle.pr_text.specs.Laws.{WhatIsWrittenFits, FirstFaultDecides}
@@ -67,9 +69,8 @@ ends_by None d e h =
     record { faultless = refl; starting = s.0; same = s.1 }
 ends_by (Some x) d e h = cc
 
-ends_well : (n : ℕ) (d e : Declared) → ended n d ≡ Ok e → EndsWell (end_fault n d) d e
-unfolding ended
-ends_well n d e h = ends_by (end_fault n d) d e h
+ends_well : (n : ℕ) (d e : Declared) → ended n d ≡ Ok e → EndsWell (missing n d) d e
+ends_well n d e h = ends_by (missing n d) d e (sym (ended_in_turn n d) ∙ h)
 
 -- The generation is no part of what makes a state an allowed one: the state found has the generation 0.
 some_start : (s : Scenario) → Fits s → (o : Option (Option Held × List (Option ℕ))) → first_under (starts s) s.reservations ≡ o → is_some o ≡ true → CanStart s

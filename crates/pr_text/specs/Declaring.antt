@@ -1,6 +1,6 @@
 -- Agrees with docs/FORMATS.md, 'The lines of a scenario'.
 -- What the names and keys of the next line mean, by what is declared before it.
-use Rattle.std.specs.Prelude.{ℕ, List, Option, if◌then◌else◌, [], bytes_eq, Some, None, option_map, Bool, ◌&&◌, unwrap_or, false, ◌==◌, nat_lt, position, fold, true}
+use Rattle.std.specs.Prelude.{ℕ, List, Option, [], bytes_eq, Some, None, option_map, Bool, ◌&&◌, unwrap_or, false, ◌==◌, position, fold, true}
 use Rattle.std.specs.Option.{option_map_or}
 use Rattle.std.specs.List.{slice_get}
 use Rattle.std.specs.FinSet as set
@@ -20,9 +20,9 @@ use Rattle.pr_text.specs.Items.{Wanted, nobody, single, everybody}
 abbrev pub declared_keys : Declared → List ℕ
 declared_keys d = unwrap_or d.keys []
 
--- the number of the host or guest with this name, which is far below 256
+-- the number of the host or guest with this name
 unfoldable pub number_of : List Declaration → List ℕ → Option ℕ
-number_of nexuses name = position (λ x. bytes_eq x.name name) nexuses >>= λ h. if nat_lt h 256 then Some h else None
+number_of nexuses name = position (λ x. bytes_eq x.name name) nexuses
 
 -- the host or guest with this name
 abbrev pub named : Declared → List ℕ → Option Declaration

@@ -6,15 +6,12 @@ use Rattle.pr_attention.specs.declared.attention.Attention.{Attention}
 use Rattle.pr_registry.specs.Registrations.{is_all}
 use Rattle.pr_script.specs.declared.script.Test.{Test}
 use Rattle.pr_roles.specs.declared.role.Clause.{Clause}
-use Rattle.pr_text.specs.declared.keyword.Keyword.{Keyword}
-use Rattle.pr_text.specs.declared.keyword.Keyword.TheVariants as keyword
 use Rattle.pr_text.specs.declared.spelling.Spelled.{Spelled}
 use Rattle.pr_text.specs.Chain.{◌>>=◌, each}
 use Rattle.pr_text.specs.TextLines.{only, is_end}
 use Rattle.pr_text.specs.WordTerms.{name_of, key_of, generation_of, count_of, kind_of, code_of}
 use Rattle.pr_text.specs.CommandWords.{spelled_of, spelled_in}
 use Rattle.pr_text.specs.Clauses.{clause_of, test_of}
-use Rattle.pr_text.specs.Keywords.{keyword_of}
 
 -- a reservation that there may be at the start: none, of a single host or guest with this name, or of all
 -- registrants
@@ -89,7 +86,7 @@ abbrev pub budget_in : List (List ℕ) → Option ℕ
 budget_in [] = None
 budget_in (w ∷ ws) = if bytes_eq w (codes "budget") then (only ws >>= count_of) else None
 
--- the version: 1
+-- the version of the language that this is: 1
 abbrev pub fence_said : List (List ℕ) → Option Item
 fence_said ws = only ws >>= λ word. if bytes_eq word (codes "1") then Some fence_line else None
 
@@ -109,39 +106,25 @@ script_said ws = name_in ws >>= λ r. option_map (λ budget. script_line r.0 bud
 abbrev pub bare_said : Item → List (List ℕ) → Option Item
 bare_said item ws = if is_end ws then Some item else None
 
--- what the words behind a keyword say that takes no list
-abbrev pub said_simply : Keyword → List (List ℕ) → Option Item
-said_simply keyword.Fence ws = fence_said ws
-said_simply keyword.Host ws = option_map (λ name. host_line name) (only_name ws)
-said_simply keyword.Guest ws = option_map (λ name. guest_line name) (only_name ws)
-said_simply keyword.Generation ws = option_map (λ n. generation_line n) (only ws >>= generation_of)
-said_simply keyword.Role ws = role_said ws
-said_simply keyword.Script ws = script_said ws
-said_simply keyword.Plan ws = option_map (λ name. plan_line name) (only_name ws)
-said_simply keyword.End ws = bare_said end_line ws
-said_simply keyword.Send ws = option_map (λ s. send_line s) (spelled_in ws)
-said_simply keyword.On ws = option_map (λ t. on_line t) (test_of ws)
-said_simply keyword.Done ws = bare_said done_line ws
-said_simply keyword.Repeat ws = option_map (λ n. repeat_line n) (only ws >>= count_of)
-said_simply keyword.Break ws = bare_said break_line ws
-said_simply keyword.Stop ws = option_map (λ word. stop_line word) (only_name ws)
-said_simply keyword.Keys ws = None
-said_simply keyword.Start ws = None
-said_simply keyword.Pending ws = None
-said_simply keyword.Reservation ws = None
-
--- what the words behind a keyword say
-abbrev pub said_after : Keyword → List (List ℕ) → Option Item
-said_after keyword.Keys ws = option_map (λ keys. keys_line keys) (listed key_of ws)
-said_after keyword.Start ws = start_said ws
-said_after keyword.Pending ws = pending_said ws
-said_after keyword.Reservation ws = option_map (λ xs. reservation_line xs) (listed wanted_of ws)
-said_after k ws = said_simply k ws
-
 -- what a line says that begins with this word; one without a keyword is a command of a plan
-abbrev pub said_with : Option Keyword → List ℕ → List (List ℕ) → Option Item
-said_with (Some k) word ws = said_after k ws
-said_with None word ws = option_map (λ s. command_line s) (spelled_of word ws)
-
 unfoldable pub item_of : List ℕ → List (List ℕ) → Option Item
-item_of word ws = said_with (keyword_of word) word ws
+item_of word ws =
+    if bytes_eq word (codes "fence") then fence_said ws else (
+    if bytes_eq word (codes "keys") then option_map (λ keys. keys_line keys) (listed key_of ws) else (
+    if bytes_eq word (codes "host") then option_map (λ name. host_line name) (only_name ws) else (
+    if bytes_eq word (codes "guest") then option_map (λ name. guest_line name) (only_name ws) else (
+    if bytes_eq word (codes "start") then start_said ws else (
+    if bytes_eq word (codes "pending") then pending_said ws else (
+    if bytes_eq word (codes "reservation") then option_map (λ xs. reservation_line xs) (listed wanted_of ws) else (
+    if bytes_eq word (codes "generation") then option_map (λ n. generation_line n) (only ws >>= generation_of) else (
+    if bytes_eq word (codes "role") then role_said ws else (
+    if bytes_eq word (codes "script") then script_said ws else (
+    if bytes_eq word (codes "plan") then option_map (λ name. plan_line name) (only_name ws) else (
+    if bytes_eq word (codes "end") then bare_said end_line ws else (
+    if bytes_eq word (codes "send") then option_map (λ s. send_line s) (spelled_in ws) else (
+    if bytes_eq word (codes "on") then option_map (λ t. on_line t) (test_of ws) else (
+    if bytes_eq word (codes "done") then bare_said done_line ws else (
+    if bytes_eq word (codes "repeat") then option_map (λ n. repeat_line n) (only ws >>= count_of) else (
+    if bytes_eq word (codes "break") then bare_said break_line ws else (
+    if bytes_eq word (codes "stop") then option_map (λ word. stop_line word) (only_name ws) else (
+    option_map (λ s. command_line s) (spelled_of word ws)))))))))))))))))))

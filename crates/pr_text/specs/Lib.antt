@@ -6,7 +6,6 @@ pub mod Lookups
 pub mod CommandOptions
 pub mod CommandWords
 pub mod Clauses
-pub mod Keywords
 pub mod Items
 pub mod ScriptLines
 pub mod Declarations

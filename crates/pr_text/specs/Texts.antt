@@ -1,17 +1,19 @@
 -- Agrees with docs/FORMATS.md, 'Faults'.
 -- What a text declares, or its one fault.
-use Rattle.std.specs.Prelude.{◌≡◌, ℕ, Bool, ◌+◌, ◌==◌, ◌&&◌, not, nat_lt, if◌then◌else◌, List, [], ◌∷◌, length, map, Option, Some, None, is_some, is_none, option_map, unwrap_or, Result, Ok, Err}
+use Rattle.std.specs.Prelude.{ℕ, List, length, Option, [], ◌∷◌, Some, if◌then◌else◌, None, Bool, ◌&&◌, is_none, unwrap_or, false, ◌==◌, nat_lt, true, Result, Ok, Err, not, is_some, ◌+◌, map}
+use Rattle.std.specs.Option.{option_map_or}
 use Rattle.std.specs.Str.Lines.{lines}
 use Rattle.pr_registry.specs.declared.held.Held.{Held}
 use Rattle.pr_roles.specs.Starts.{first_under}
-use Rattle.pr_text.specs.declared.fault.Which.TheVariants as which
 use Rattle.pr_text.specs.declared.fault.ReadError.{ReadError}
+use Rattle.pr_text.specs.declared.fault.Which.TheVariants as which
 use Rattle.pr_text.specs.declared.fault.ReadError.TheVariants as fault
+use Rattle.pr_text.specs.Declarations.{Declaration, Place, Declared, nothing}
 use Rattle.pr_text.specs.Faults.{and_then, unless}
-use Rattle.pr_text.specs.TextLines.{is_text, words}
 use Rattle.pr_text.specs.Items.{Item, item_of}
-use Rattle.pr_text.specs.Declarations.{Declaration, Place, before_all, outside, in_script, in_plan, Declared, nothing}
 use Rattle.pr_text.specs.Placing.{item_placed}
+use Rattle.pr_text.specs.Standing.{is_before_all, of_plan, of_script}
+use Rattle.pr_text.specs.TextLines.{is_text, words}
 
 -- ---- one line
 
@@ -55,31 +57,21 @@ reservations_of d = unwrap_or d.reservations (None ∷ [])
 abbrev pub starts_somewhere : Declared → Bool
 starts_somewhere d = is_some (first_under (map start_of d.nexuses) (reservations_of d))
 
--- what is wrong with a text that ends outside scripts and plans, on the line of this number
-abbrev pub whole_fault : ℕ → List Declaration → Option ReadError
-whole_fault n nexuses =
-    if length nexuses == 0 then Some (fault.Limit which.Hosts n) else option_map (λ line. fault.Syntax line) (first_unscripted nexuses)
+-- a script or plan is open
+abbrev pub is_open : Place → Bool
+is_open p = of_script (of_plan false (λ h commands. true) p) (λ o. true) p
 
-abbrev pub end_fault_at : ℕ → Declared → Place → Option ReadError
-end_fault_at n d before_all = Some (fault.Syntax 1)
-end_fault_at n d outside = whole_fault n d.nexuses
-end_fault_at n d (in_script o) = Some (fault.Unclosed n)
-end_fault_at n d (in_plan h commands) = Some (fault.Unclosed n)
-
+-- after the last line, of this number: the first thing that is wrong with the whole
 abbrev pub end_fault : ℕ → Declared → Option ReadError
-end_fault n d = end_fault_at n d d.place
+end_fault n d =
+    if is_before_all d.place then Some (fault.Syntax 1) else (
+    if is_open d.place then Some (fault.Unclosed n) else (
+    if length d.nexuses == 0 then Some (fault.Limit which.Hosts n) else
+    option_map_or (λ line. Some (fault.Syntax line)) (first_unscripted d.nexuses) (
+    if starts_somewhere d then None else Some fault.EmptyStart)))
 
-abbrev pub started : Declared → Result Declared ReadError
-started d = if starts_somewhere d then Ok d else Err fault.EmptyStart
-
--- after the last line, of this number
 unfoldable pub ended : ℕ → Declared → Result Declared ReadError
-ended n d = and_then (unless (end_fault n d) d) started
-
--- the text has so many lines, and they declare this
-pub record AreRead (text : List ℕ) (number : ℕ) (d : Declared) : Type 0 where
-  pub placed : all_placed 0 (lines text) nothing ≡ Ok d
-  pub counted : number ≡ length (lines text)
+ended n d = unless (end_fault n d) d
 
 -- what these lines declare, or their one fault
 unfoldable pub finished : List (List ℕ) → Result Declared ReadError

@@ -1,6 +1,6 @@
 -- Agrees with docs/FORMATS.md, 'Terms'.
 -- The terms that words are: names, keys, numbers, types and codes.
-use Rattle.std.specs.Prelude.{ℕ, ◌+◌, ◌-◌, ◌*◌, ◌==◌, ◌&&◌, nat_lt, nat_le, min, if◌then◌else◌, List, length, take, drop, slice_index, codes, Option, Some, None, unwrap_or, option_map, fold, bytes_eq}
+use Rattle.std.specs.Prelude.{ℕ, ◌+◌, ◌-◌, ◌*◌, ◌==◌, ◌&&◌, nat_lt, nat_le, if◌then◌else◌, List, length, take, drop, slice_index, codes, Option, Some, None, unwrap_or, fold, bytes_eq}
 use Rattle.std.specs.List.{list_all}
 use Rattle.pr_cdb.specs.declared.command.Kind.{Kind}
 use Rattle.pr_cdb.specs.declared.reply.Sense.{Sense}
@@ -61,11 +61,9 @@ key_of word = key_or_zero word >>= λ key. if key == 0 then None else Some key
 unfoldable pub generation_of : List ℕ → Option ℕ
 generation_of word = hexadecimal 8 word
 
--- The count that a word is: 1 to 10 decimal digits. Every bound on counts is far below 2^32, so greater ones
--- count as the last number below that.
+-- the count that a word is: 1 to 10 decimal digits
 unfoldable pub count_of : List ℕ → Option ℕ
-count_of word =
-    if nat_lt 0 (length word) && nat_le (length word) 10 then option_map (λ n. min n 4294967295) (number 10 word) else None
+count_of word = if nat_lt 0 (length word) && nat_le (length word) 10 then number 10 word else None
 
 -- the decimal number that a word is, which is at most this
 unfoldable pub amount_of : ℕ → List ℕ → Option ℕ

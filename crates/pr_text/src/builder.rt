@@ -1,12 +1,10 @@
 //! What the lines so far declare.
 
-ghost use Rattle.std.specs.Prelude.{◌≡◌, ◌<◌, IfSome, length, position, bytes_eq};
+ghost use Rattle.std.specs.Prelude.{◌≡◌, ◌≤◌, length};
 ghost use Rattle.pr_text.specs.Faults.{Gives};
-ghost use Rattle.pr_text.specs.inside.Chains.{start_fault, script_fault};
-ghost use Rattle.pr_text.specs.inside.Drafts.{draft_seen};
 ghost use Rattle.pr_text.specs.inside.Chains.{planned_step};
 
-use crate::draft::{Draft, pending_of};
+use crate::draft::{Draft, number_in, pending_of};
 use crate::fault::{ReadError, Which};
 use crate::item::{Item, Wanted};
 use crate::open_script::{OpenScript, is_spelled};
@@ -15,7 +13,7 @@ use crate::uniqueness::are_codes_distinct;
 use pr_attention::Attention;
 use pr_cdb::Command;
 use pr_registry::Held;
-use pr_roles::{Clause, Task, Word, are_alternatives, are_distinct, are_held_apart, is_action};
+use pr_roles::{Clause, Task, Word, are_distinct, are_held_apart, is_action};
 use pr_script::Script;
 use std::alloc::{AllocError, Global};
 use std::mem;
@@ -25,8 +23,6 @@ const MOST_KEYS: usize = 12;
 const MOST_NEXUSES: usize = 8;
 
 const MOST_CLAUSES: usize = 32;
-
-const MOST_BUDGET: u32 = 4096;
 
 const MOST_PLANNED: usize = 256;
 
@@ -50,6 +46,7 @@ pub struct Builder {
     pub generation: Option<u32>,
     pub nexuses: Vec<Draft>,
     pub place: Place,
+    ghost few: { length nexuses.items ≤ 8 },
 }
 
 impl Builder {
@@ -168,9 +165,8 @@ impl Builder {
         let Some(number) = self.number_of(&name) else {
             return Err(ReadError::UnknownName { line });
         };
-        let number = usize::from(number);
         let keys = self.declared_keys();
-        if let Some(fault) = start_fault(line, keys, &self.nexuses[number], &alternatives) {
+        if let Some(fault) = self.nexuses[number].start_fault(line, keys, &alternatives) {
             return Err(fault);
         }
         self.nexuses[number].start = Some(alternatives);
@@ -189,7 +185,7 @@ impl Builder {
         let Some(number) = self.number_of(&name) else {
             return Err(ReadError::UnknownName { line });
         };
-        let nexus = &mut self.nexuses[usize::from(number)];
+        let nexus = &mut self.nexuses[number];
         if nexus.pending.is_some() || !are_codes_distinct(attentions) {
             return Err(ReadError::Repeated { line });
         }
@@ -237,7 +233,7 @@ impl Builder {
         if !is_action(self.declared_keys(), clause.action) {
             return Err(ReadError::UndeclaredKey { line });
         }
-        let nexus = &mut self.nexuses[usize::from(number)];
+        let nexus = &mut self.nexuses[number];
         if nexus.role.len() >= MOST_CLAUSES {
             let which = Which::Roles;
             return Err(ReadError::Limit { which, line });
@@ -252,18 +248,17 @@ impl Builder {
         alloc: Global,
         line: u32,
         name: Word,
-        budget: u32,
+        budget: u64,
     ) -> Result<Self, ReadError>
         ensures { Gives declared_by result (script_placed line name.bytes budget (declared_by self)) }
     {
-        let Some(number) = self.number_of(&name) else {
+        let Some(host) = self.number_of(&name) else {
             return Err(ReadError::UnknownName { line });
         };
-        let host = usize::from(number);
-        if let Some(fault) = script_fault(line, &self.nexuses[host], budget) {
+        if let Some(fault) = self.nexuses[host].script_fault(line, budget) {
             return Err(fault);
         }
-        self.place = Place::InScript(OpenScript::new(alloc, host, budget));
+        self.place = Place::InScript(OpenScript::new(alloc, host, budget as u32));
         Ok(self)
     }
 
@@ -271,10 +266,9 @@ impl Builder {
     fn plan_line(mut self, alloc: Global, line: u32, name: Word) -> Result<Self, ReadError>
         ensures { Gives declared_by result (plan_placed line name.bytes (declared_by self)) }
     {
-        let Some(number) = self.number_of(&name) else {
+        let Some(guest) = self.number_of(&name) else {
             return Err(ReadError::UnknownName { line });
         };
-        let guest = usize::from(number);
         let nexus = &self.nexuses[guest];
         if !nexus.is_guest {
             return Err(ReadError::UnknownName { line });
@@ -371,23 +365,11 @@ impl Builder {
 
     // The number of the host or guest with this name.
     #[tactic(auto, unfolding(crate::specs::Declaring::number_of))]
-    fn number_of(&self, name: &Word) -> Option<u8>
+    fn number_of(&self, name: &Word) -> Option<usize>
         ensures value { result ≡ number_of (map draft_seen self.now.nexuses.items) name.now.bytes }
         ensures within { IfSome result (λ h. h < length self.now.nexuses.items) }
     {
-        let number = self.position_of(name)?;
-        if number < 256 {
-            Some(number as u8)
-        } else {
-            None
-        }
-    }
-
-    fn position_of(&self, name: &Word) -> Option<usize>
-        ensures value { result ≡ position (λ x. bytes_eq x.name name.now.bytes) (map draft_seen self.now.nexuses.items) }
-        ensures within { IfSome result (λ h. h < length self.now.nexuses.items) }
-    {
-        position_in(&self.nexuses, name)
+        number_in(&self.nexuses, name)
     }
 
     // The reservations, if the holders are declared.
@@ -418,53 +400,11 @@ impl Builder {
             Wanted::Nobody => Some(None),
             Wanted::Single(kind, name) => {
                 let number = self.number_of(name)?;
-                Some(Some(Held::One(*kind, number)))
+                Some(Some(Held::One(*kind, number as u8)))
             }
             Wanted::Everybody(kind) => Some(Some(Held::All(*kind))),
         }
     }
-}
-
-fn position_in(nexuses: &[Draft], name: &Word) -> Option<usize>
-    ensures value { result ≡ position (λ x. bytes_eq x.name.bytes name.now.bytes) nexuses.now }
-    ensures within { IfSome result (λ h. h < length nexuses.now) }
-{
-    nexuses.iter().position(|nexus| nexus.name == *name)
-}
-
-// Why these may not be the alternatives of the host or guest.
-fn start_fault(
-    line: u32,
-    keys: &[u64],
-    nexus: &Draft,
-    alternatives: &[Option<u64>],
-) -> Option<ReadError>
-    ensures { result ≡ start_fault line keys.now (draft_seen nexus.now) alternatives.now }
-{
-    if !are_alternatives(keys, alternatives) {
-        return Some(ReadError::UndeclaredKey { line });
-    }
-    if nexus.start.is_some() || !are_distinct(alternatives) {
-        return Some(ReadError::Repeated { line });
-    }
-    None
-}
-
-// Why the nexus may not have a script with this budget.
-fn script_fault(line: u32, nexus: &Draft, budget: u32) -> Option<ReadError>
-    ensures { result ≡ script_fault line budget (draft_seen nexus.now) }
-{
-    if nexus.is_guest {
-        return Some(ReadError::UnknownName { line });
-    }
-    if nexus.task.is_some() {
-        return Some(ReadError::Repeated { line });
-    }
-    if budget < 1 || budget > MOST_BUDGET {
-        let which = Which::Budget;
-        return Some(ReadError::Limit { which, line });
-    }
-    None
 }
 
 // The commands with one more.

@@ -1,11 +1,14 @@
 //! What is declared of a host or guest so far.
 
-ghost use Rattle.std.specs.Prelude.{◌≡◌, Some, None, fold};
+ghost use Rattle.std.specs.Prelude.{◌≡◌, ◌<◌, IfSome, Some, None, fold, length, position, bytes_eq};
 ghost use Rattle.pr_text.specs.Declaring.{codes_of};
 
+use crate::fault::{ReadError, Which};
 use pr_attention::{Attention, Pending};
-use pr_roles::{Clause, Task, Word};
+use pr_roles::{Clause, Task, Word, are_alternatives, are_distinct};
 use std::alloc::Global;
+
+const MOST_BUDGET: u64 = 4096;
 
 /// What is declared of a host or guest so far.
 #[derive(Debug, Drop)]
@@ -21,7 +24,8 @@ pub struct Draft {
 }
 
 impl Draft {
-    ghost use Rattle.std.specs.Prelude.{◌≡◌, [], None};
+    ghost use Rattle.std.specs.Prelude.{◌≡◌, ◌≤◌, [], None, IfNone};
+    ghost use Rattle.pr_text.specs.inside.Chains.{start_fault, script_fault};
     ghost use Rattle.pr_text.specs.inside.Drafts.{draft_seen};
 
     /// A host or guest of which nothing more is said yet.
@@ -38,6 +42,42 @@ impl Draft {
             task: None,
         }
     }
+
+    /// Why these may not be its alternatives.
+    pub fn start_fault(
+        &self,
+        line: u32,
+        keys: &[u64],
+        alternatives: &[Option<u64>],
+    ) -> Option<ReadError>
+        ensures { result ≡ start_fault line keys.now (draft_seen self.now) alternatives.now }
+    {
+        if !are_alternatives(keys, alternatives) {
+            return Some(ReadError::UndeclaredKey { line });
+        }
+        if self.start.is_some() || !are_distinct(alternatives) {
+            return Some(ReadError::Repeated { line });
+        }
+        None
+    }
+
+    /// Why it may not have a script with this budget.
+    pub fn script_fault(&self, line: u32, budget: u64) -> Option<ReadError>
+        ensures fault { result ≡ script_fault line budget (draft_seen self.now) }
+        ensures within { IfNone result (budget ≤ 4096) }
+    {
+        if self.is_guest {
+            return Some(ReadError::UnknownName { line });
+        }
+        if self.task.is_some() {
+            return Some(ReadError::Repeated { line });
+        }
+        if budget < 1 || budget > MOST_BUDGET {
+            let which = Which::Budget;
+            return Some(ReadError::Limit { which, line });
+        }
+        None
+    }
 }
 
 /// The set of these attentions.
@@ -49,4 +89,12 @@ pub fn pending_of(attentions: &[Attention]) -> Pending
         pending.add(*attention);
     }
     pending
+}
+
+/// The number of the host or guest with this name.
+pub fn number_in(nexuses: &[Draft], name: &Word) -> Option<usize>
+    ensures value { result ≡ position (λ x. bytes_eq x.name.bytes name.now.bytes) nexuses.now }
+    ensures within { IfSome result (λ h. h < length nexuses.now) }
+{
+    nexuses.iter().position(|nexus| nexus.name == *name)
 }

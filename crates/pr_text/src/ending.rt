@@ -3,7 +3,8 @@
 ghost use Rattle.std.specs.Prelude.{◌≡◌, [], ◌∷◌, IfOk, map, option_map, unwrap_or};
 ghost use Rattle.pr_roles.specs.Scenarios.{nexus_of};
 ghost use Rattle.pr_text.specs.inside.Drafts.{draft_seen};
-ghost use Rattle.pr_text.specs.Texts.{first_unscripted, whole_fault};
+ghost use Rattle.pr_text.specs.Texts.{first_unscripted};
+ghost use Rattle.pr_text.specs.inside.Endings.{whole_fault};
 ghost use Rattle.pr_text.specs.Readings.{nexus_written, nexus_declared};
 
 use crate::builder::{Builder, Place};
@@ -19,7 +20,8 @@ impl Builder {
     ghost use Rattle.pr_text.specs.Faults.{Fails};
     ghost use Rattle.pr_text.specs.inside.Drafts.{declared_by};
     ghost use Rattle.pr_text.specs.inside.Sound.{IsSound};
-    ghost use Rattle.pr_text.specs.Texts.{end_fault, ended};
+    ghost use Rattle.pr_text.specs.Texts.{ended};
+    ghost use Rattle.pr_text.specs.inside.Endings.{missing};
     ghost use Rattle.pr_text.specs.Readings.{IsDeclaredBy, IsWhole};
 
     /// The scenario that is declared, where the text ends on the line of this number.
@@ -28,7 +30,7 @@ impl Builder {
         ensures found { IfOk result (λ scenario. IsWhole number (declared_by self) (scenario_of scenario)) }
         ensures fault { IfErr result (λ e. Fails e (ended number (declared_by self))) }
     {
-        if let Some(fault) = self.end_fault(number) {
+        if let Some(fault) = self.missing(number) {
             return Err(fault);
         }
         let parts = self.parts(alloc)?;
@@ -39,8 +41,8 @@ impl Builder {
     }
 
     // What is missing where the text ends on the line of this number.
-    fn end_fault(&self, number: u32) -> Option<ReadError>
-        ensures { result ≡ end_fault number (declared_by self.now) }
+    fn missing(&self, number: u32) -> Option<ReadError>
+        ensures { result ≡ missing number (declared_by self.now) }
     {
         match self.place {
             Place::BeforeAll => Some(ReadError::Syntax { line: 1 }),

@@ -3,7 +3,8 @@
 ghost use Rattle.std.specs.Prelude.{◌≡◌, map, option_map, IfOk};
 ghost use Rattle.pr_text.specs.TextLines.{words};
 ghost use Rattle.pr_text.specs.WordTerms.{key_of, code_of};
-ghost use Rattle.pr_text.specs.Items.{listed, alternative_of, everybody_of, single_of, wanted_of, name_in, only_name, budget_in, fence_said, start_said, pending_said, role_said, script_said, said_simply, said_after, item_of, bare_said, keys_line, reservation_line};
+ghost use Rattle.pr_text.specs.Items.{listed, alternative_of, everybody_of, single_of, wanted_of, name_in, only_name, budget_in, fence_said, start_said, pending_said, role_said, script_said, item_of, bare_said, keys_line, reservation_line};
+ghost use Rattle.pr_text.specs.inside.Keywords.{said_simply, said_after};
 ghost use Rattle.pr_text.specs.inside.ItemValues.{wanted_seen, seen};
 
 use crate::clauses::{clause_of, test_of};
@@ -41,13 +42,13 @@ pub enum Item {
     Reservation(Vec<Wanted>),
     Generation(u32),
     Role(Word, Clause),
-    Script(Word, u32),
+    Script(Word, u64),
     Plan(Word),
     End,
     Send(Spelled),
     On(Test),
     Done,
-    Repeat(u32),
+    Repeat(u64),
     Break,
     Stop(Word),
     /// A command of a plan.
@@ -55,7 +56,7 @@ pub enum Item {
 }
 
 /// What the line says that begins with the word, or nothing where it does not keep its shape.
-#[tactic(auto, unfolding(crate::specs::Items::item_of))]
+#[tactic(auto, using(crate::proofs::ItemWords::by_keyword))]
 pub fn item_of(alloc: Global, word: &[u8], rest: &[u8]) -> Result<Option<Item>, AllocError>
     ensures { IfOk result (λ item. option_map seen item ≡ item_of word.now (words rest.now)) }
 {
@@ -138,7 +139,7 @@ fn script_said(rest: &[u8]) -> Option<Item>
     Some(Item::Script(name, budget))
 }
 
-fn budget_in(line: &[u8]) -> Option<u32>
+fn budget_in(line: &[u8]) -> Option<u64>
     ensures { result ≡ budget_in (words line.now) }
 {
     let (word, rest) = next_word(line)?;

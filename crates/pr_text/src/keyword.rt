@@ -1,7 +1,7 @@
 //! The words that lines begin with.
 
 ghost use Rattle.std.specs.Prelude.{◌≡◌};
-ghost use Rattle.pr_text.specs.Keywords.{keyword_of};
+ghost use Rattle.pr_text.specs.inside.Keywords.{keyword_of};
 
 use crate::lookup::lookup;
 
@@ -51,7 +51,7 @@ pub const KEYWORDS: [(&[u8], Keyword); 18] = [
 ];
 
 /// The keyword that the word is.
-#[tactic(auto, unfolding(crate::specs::Keywords::keyword_of))]
+#[tactic(auto, unfolding(crate::specs::inside::Keywords::keyword_of))]
 pub fn keyword_of(word: &[u8]) -> Option<Keyword>
     ensures { result ≡ keyword_of word.now }
 {

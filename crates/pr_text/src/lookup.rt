@@ -8,7 +8,7 @@ pub fn lookup<T: Copy>(mut table: &[(&[u8], T)], word: &[u8]) -> Option<T>
     ensures { result ≡ lookup (map (λ row. (row.0.now, row.1)) table.entry.now) word.now }
 {
     while let [row, rest @ ..] = table {
-        if row.0 == word {
+        if word == row.0 {
             return Some(row.1);
         }
         table = rest;

@@ -23,7 +23,7 @@ const MOST_ARMS: usize = 16;
 
 const MOST_OPEN: usize = 8;
 
-const MOST_TURNS: u32 = 1000;
+const MOST_TURNS: u64 = 1000;
 
 /// A send that has no arm yet.
 #[derive(Clone, Copy, Debug, PartialEq, Eq)]
@@ -200,7 +200,7 @@ impl OpenScript {
     }
 
     #[tactic(auto, unfolding(crate::specs::inside::Chains::repeat_step))]
-    fn repeat(self, alloc: Global, line: u32, count: u32) -> Result<Self, ReadError>
+    fn repeat(self, alloc: Global, line: u32, count: u64) -> Result<Self, ReadError>
         ensures { Gives open_seen result (repeat_step line count (open_seen self)) }
     {
         if self.awaits_arm() {
@@ -218,7 +218,12 @@ impl OpenScript {
             let which = Which::Repeat;
             return Err(ReadError::Limit { which, line });
         }
-        let mut open = self.opened(alloc, Opener::Repeat { count })?;
+        let mut open = self.opened(
+            alloc,
+            Opener::Repeat {
+                count: count as u32,
+            },
+        )?;
         open.statements += 1;
         Ok(open)
     }

@@ -74,17 +74,15 @@ fn hexadecimal(most: usize, word: &[u8]) -> Option<u64>
     number(16, word)
 }
 
-/// The count that the word is: 1 to 10 decimal digits. One that has more than 32 bits is past every bound,
-/// and counts as the greatest that has no more.
+/// The count that the word is: 1 to 10 decimal digits.
 #[tactic(auto, unfolding(crate::specs::WordTerms::count_of), using(crate::proofs::NumberRoom::decimal_room))]
-pub fn count_of(word: &[u8]) -> Option<u32>
+pub fn count_of(word: &[u8]) -> Option<u64>
     ensures { result ≡ count_of word.now }
 {
     if word.is_empty() || word.len() > 10 {
         return None;
     }
-    let count = number(10, word)?;
-    Some(count.min(4_294_967_295) as u32)
+    number(10, word)
 }
 
 /// The decimal number that the word is, of any number of digits, which is at most `most`.

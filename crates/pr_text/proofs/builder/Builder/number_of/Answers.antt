@@ -1,5 +1,7 @@
+use Rattle.pr_text.specs.Declaring.{number_of}
 use Rattle.pr_text.proofs.Drafts.{position_of}
-use Rattle.pr_text.proofs.builder.Builder.position_of.Goals as goal
+use Rattle.pr_text.proofs.builder.Builder.number_of.Goals as goal
 
 pub returns-clause-value : goal.returns-clause-value
+unfolding number_of
 returns-clause-value c = rw (position_of c.args.self.now.nexuses.items c.args.name.now.bytes) (cc)
