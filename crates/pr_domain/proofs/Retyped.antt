@@ -15,7 +15,8 @@ use Rattle.pr_unit.specs.Conflicts.{command_conflicts}
 use Rattle.pr_unit.specs.Faults.{command_fault}
 use Rattle.pr_unit.specs.Replies.{good, data_of, reservation}
 use Rattle.pr_script.specs.declared.script.Test.{Test}
-use Rattle.pr_script.specs.Grammar.{is_read_keys, is_read_reservation, is_written, test_fits, written_length}
+use Rattle.pr_script.specs.declared.grammar.TheConstants.{WRITTEN_LENGTH}
+use Rattle.pr_script.specs.Grammar.{is_read_keys, is_read_reservation, is_written, test_fits}
 use Rattle.pr_roles.specs.Fitting.{is_reservation}
 use Rattle.pr_sets.specs.Words.{has}
 use Rattle.pr_views.specs.declared.possibilities.Possibilities.{Possibilities}
@@ -131,7 +132,7 @@ module _ (s : Scope) (view : Possibilities) (c : Command) (tests : List Test) (r
       at (command.Write lba blocks) reads written fit = absurd (false≢true reads)
       at (command.ReadKeys alloc) reads written fit = refl
       at (command.ReadReservation alloc) reads written fit =
-          let whole : alloc ≡ written_length = grind (arith, nat_tests) in
+          let whole : alloc ≡ WRITTEN_LENGTH = grind (arith, nat_tests) in
           let key = key_in u.registry in
           subst (λ n. first_test tests (good (data_of (retyped u w).registry (command.ReadReservation n))) ≡ first_test tests (good (data_of u.registry (command.ReadReservation n)))) (sym whole)
           (first_found s.keys (retyped u w) tests key also.formed.registry fit (same_key u.registry.keys u.registry.held w same) ∙ sym (first_found s.keys u tests key shown.formed.registry fit refl))

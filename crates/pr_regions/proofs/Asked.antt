@@ -7,7 +7,8 @@ use Rattle.pr_registry.specs.declared.held.Held.{Held}
 use Rattle.pr_registry.specs.Registrations.{key_of}
 use Rattle.pr_unit.specs.UnitStates.{UnitState}
 use Rattle.pr_script.specs.declared.script.Test.TheVariants.{GoodHas}
-use Rattle.pr_script.specs.Grammar.{test_fits, written_length}
+use Rattle.pr_script.specs.declared.grammar.TheConstants.{WRITTEN_LENGTH}
+use Rattle.pr_script.specs.Grammar.{test_fits}
 use Rattle.pr_script.specs.Takes.{matches}
 use Rattle.pr_views.specs.Possibilities.{Scope, Registration, IsSo, key_at}
 use Rattle.pr_views.specs.Portions.{HasSomebody}
@@ -19,28 +20,28 @@ use Rattle.pr_regions.proofs.Asking.{number_named, declared_number}
 use Rattle.pr_regions.proofs.Contents.{key_read, key_not_read}
 
 -- the number that the test names is the key's
-numbered : (keys : List ℕ) (k : ℕ) → test_fits keys (ReadKeys written_length) (GoodHas k) ≡ true → (number_in keys k ≤ length keys) × (key_at keys (number_in keys k) ≡ Some k)
+numbered : (keys : List ℕ) (k : ℕ) → test_fits keys (ReadKeys WRITTEN_LENGTH) (GoodHas k) ≡ true → (number_in keys k ≤ length keys) × (key_at keys (number_in keys k) ≡ Some k)
 numbered keys k fits = number_named keys k (number_in keys k) refl (declared_number keys k fits)
 
 key_by_number : (keys : List ℕ) (hosts : ℕ) (held : Option Held) (sender own : ℕ) (k g r : ℕ) (s : Scope) (u : UnitState) → IsKnown keys hosts held sender own s u
-    → test_fits keys (ReadKeys written_length) (GoodHas k) ≡ true → IsSo s u (Registration g r) → r ≡ number_in keys k → key_of u.registry g ≡ Some k
+    → test_fits keys (ReadKeys WRITTEN_LENGTH) (GoodHas k) ≡ true → IsSo s u (Registration g r) → r ≡ number_in keys k → key_of u.registry g ≡ Some k
 key_by_number keys hosts held sender own k g r s u known fits so is =
     so.2 ∙ (λ i. key_at (known.keys i) (is i)) ∙ (numbered keys k fits).1
 
 pub always_there : (keys : List ℕ) (hosts : ℕ) (held : Option Held) (sender own : ℕ) (k : ℕ) (s : Scope) (u : UnitState) → IsKnown keys hosts held sender own s u
-    → test_fits keys (ReadKeys written_length) (GoodHas k) ≡ true → number_in keys k ≡ own → matches (GoodHas k) (answer u (ReadKeys written_length)) ≡ true
+    → test_fits keys (ReadKeys WRITTEN_LENGTH) (GoodHas k) ≡ true → number_in keys k ≡ own → matches (GoodHas k) (answer u (ReadKeys WRITTEN_LENGTH)) ≡ true
 always_there keys hosts held sender own k s u known fits is =
     key_read u.registry sender k known.formed.registry (key_by_number keys hosts held sender own k sender own s u known fits known.sender (sym is))
 
 pub there_with_somebody : (keys : List ℕ) (hosts : ℕ) (held : Option Held) (sender own : ℕ) (k : ℕ) (s : Scope) (u : UnitState) → IsKnown keys hosts held sender own s u
-    → test_fits keys (ReadKeys written_length) (GoodHas k) ≡ true → HasSomebody s u sender (Some (only (number_in keys k))) → matches (GoodHas k) (answer u (ReadKeys written_length)) ≡ true
+    → test_fits keys (ReadKeys WRITTEN_LENGTH) (GoodHas k) ≡ true → HasSomebody s u sender (Some (only (number_in keys k))) → matches (GoodHas k) (answer u (ReadKeys WRITTEN_LENGTH)) ≡ true
 there_with_somebody keys hosts held sender own k s u known fits there =
     let is = there.4 in
     let same : there.1 ≡ number_in keys k = grind (arith, nat_tests) in
     key_read u.registry there.0 k known.formed.registry (key_by_number keys hosts held sender own k there.0 there.1 s u known fits there.3 same)
 
 pub not_there_with_nobody : (keys : List ℕ) (hosts : ℕ) (held : Option Held) (sender own : ℕ) (k : ℕ) (s : Scope) (u : UnitState) → IsKnown keys hosts held sender own s u
-    → test_fits keys (ReadKeys written_length) (GoodHas k) ≡ true → number_in keys k ≢ own → HasNobody s u sender (only (number_in keys k)) → matches (GoodHas k) (answer u (ReadKeys written_length)) ≡ false
+    → test_fits keys (ReadKeys WRITTEN_LENGTH) (GoodHas k) ≡ true → number_in keys k ≢ own → HasNobody s u sender (only (number_in keys k)) → matches (GoodHas k) (answer u (ReadKeys WRITTEN_LENGTH)) ≡ false
 not_there_with_nobody keys hosts held sender own k s u known fits other nobody =
     key_not_read u.registry k known.formed.registry (λ g j is. by_test g j is (eqb_tells j k))
   where

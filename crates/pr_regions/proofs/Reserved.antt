@@ -17,7 +17,8 @@ use Rattle.pr_unit.specs.UnitStates.{UnitState}
 use Rattle.pr_unit.specs.Replies.{reservation}
 use Rattle.pr_script.specs.declared.script.Test.{Test}
 use Rattle.pr_script.specs.declared.script.Test.TheVariants as test
-use Rattle.pr_script.specs.Grammar.{test_fits, written_length}
+use Rattle.pr_script.specs.declared.grammar.TheConstants.{WRITTEN_LENGTH}
+use Rattle.pr_script.specs.Grammar.{test_fits}
 use Rattle.pr_script.specs.Takes.{matches, is_held_by, is_unheld}
 use Rattle.pr_views.specs.Possibilities.{Scope, Registration, IsSo, key_at}
 use Rattle.pr_regions.specs.declared.region.Reading.{Reading}
@@ -35,7 +36,7 @@ use Rattle.pr_regions.proofs.Arms.{last_or_before, still_there, are_readings}
 
 -- the tests that may stand under READ RESERVATION
 abbrev pub Fit : List ℕ → List Test → Type 0
-Fit keys tests = All (λ t. test_fits keys (ReadReservation written_length) t ≡ true) tests
+Fit keys tests = All (λ t. test_fits keys (ReadReservation WRITTEN_LENGTH) t ≡ true) tests
 
 abbrev pub key_in : State → Option ℕ
 key_in u = option_map (λ r. r.0) (reservation u.keys u.held)
@@ -61,8 +62,8 @@ unheld_by_data : (o : Option (ℕ × Kind)) → is_unheld (Some (holder o)) ≡ 
 unheld_by_data None = refl
 unheld_by_data (Some r) = refl
 
-finds : (keys : List ℕ) (u : UnitState) (t : Test) → IsWellFormed u.registry → test_fits keys (ReadReservation written_length) t ≡ true
-    → matches t (answer u (ReadReservation written_length)) ≡ passes_held (key_in u.registry) t
+finds : (keys : List ℕ) (u : UnitState) (t : Test) → IsWellFormed u.registry → test_fits keys (ReadReservation WRITTEN_LENGTH) t ≡ true
+    → matches t (answer u (ReadReservation WRITTEN_LENGTH)) ≡ passes_held (key_in u.registry) t
 finds keys u test.Good w fits = refl
 finds keys u (test.GoodHas k) w fits = absurd (false≢true fits)
 finds keys u (test.GoodHeld k) w fits =
@@ -83,9 +84,9 @@ position_alike : {X : Type 0} (p q : X → Bool) (xs : List X) → All (λ x. p 
 position_alike p q xs same = ap (λ n. cond (nat_lt n (length xs)) (Some n) None) (prefix_alike p q xs same)
 
 pub first_found : (keys : List ℕ) (u : UnitState) (tests : List Test) (key : Option ℕ) → IsWellFormed u.registry → Fit keys tests → key_in u.registry ≡ key
-    → first_test tests (answer u (ReadReservation written_length)) ≡ position (passes_held key) tests
+    → first_test tests (answer u (ReadReservation WRITTEN_LENGTH)) ≡ position (passes_held key) tests
 first_found keys u tests key w fit is =
-    position_alike (λ t. matches t (answer u (ReadReservation written_length))) (passes_held key) tests
+    position_alike (λ t. matches t (answer u (ReadReservation WRITTEN_LENGTH))) (passes_held key) tests
     (λ k d small. finds keys u (get_or tests k d) w (fit k d small) ∙ ap (λ o. passes_held o (get_or tests k d)) is)
 
 -- ---- where the key is known
@@ -94,9 +95,9 @@ first_found keys u tests key w fit is =
 pub read_everywhere : (keys : List ℕ) (hosts : ℕ) (held : Option Held) (sender own : ℕ) (tests : List Test) (key : Option ℕ) (b : Reading) → Fit keys tests
     → Leaves b.region any any None → b.arm ≡ position (passes_held key) tests
     → ((s : Scope) (u : UnitState) → IsKnown keys hosts held sender own s u → key_in u.registry ≡ key)
-    → AreReadings keys hosts tests (ReadReservation written_length) held sender own (b ∷ [])
+    → AreReadings keys hosts tests (ReadReservation WRITTEN_LENGTH) held sender own (b ∷ [])
 read_everywhere keys hosts held sender own tests key b fit leaves arm is =
-    are_readings keys hosts held sender own (ReadReservation written_length) tests (b ∷ [])
+    are_readings keys hosts held sender own (ReadReservation WRITTEN_LENGTH) tests (b ∷ [])
     (λ s u known. record {
       reading = b;
       listed = (0, omega arith, refl);
@@ -174,7 +175,7 @@ held_start keys hosts kind h sender own c tests = record {
 
 -- the arm of a state in which the holder has the key at i
 held_arm : (keys : List ℕ) (hosts : ℕ) (kind : Kind) (h sender own : ℕ) (tests : List Test) (i key : ℕ) (s : Scope) (u : UnitState) → Fit keys tests → i < length keys → key ≡ get_or keys i key
-    → IsKnown keys hosts (held_by kind h) sender own s u → IsSo s u (Registration h (suc i)) → first_test tests (answer u (ReadReservation written_length)) ≡ position (passes_held (Some key)) tests
+    → IsKnown keys hosts (held_by kind h) sender own s u → IsSo s u (Registration h (suc i)) → first_test tests (answer u (ReadReservation WRITTEN_LENGTH)) ≡ position (passes_held (Some key)) tests
 held_arm keys hosts kind h sender own tests i key s u fit small is known so =
     let there : key_of u.registry h ≡ Some key = so.2 ∙ ap (λ l. key_at l (suc i)) known.keys ∙ slice_get-get_or keys i key small ∙ ap Some (sym is) in
     first_found keys u tests (Some key) known.formed.registry fit
@@ -182,8 +183,8 @@ held_arm keys hosts kind h sender own tests i key s u fit small is known so =
 
 pub held_more : (keys : List ℕ) (hosts : ℕ) (kind : Kind) (h sender own : ℕ) (tests : List Test) (i key : ℕ) (readings : List Reading) (b : Reading) → Fit keys tests → i < length keys → key ≡ get_or keys i key → h ≢ sender
     → Leaves b.region (only (i + 1)) any None → b.arm ≡ position (passes_held (Some key)) tests
-    → AreHeldSoFar keys hosts kind h sender own (ReadReservation written_length) tests i readings
-    → AreHeldSoFar keys hosts kind h sender own (ReadReservation written_length) tests (i + 1) (readings ++ b ∷ [])
+    → AreHeldSoFar keys hosts kind h sender own (ReadReservation WRITTEN_LENGTH) tests i readings
+    → AreHeldSoFar keys hosts kind h sender own (ReadReservation WRITTEN_LENGTH) tests (i + 1) (readings ++ b ∷ [])
 held_more keys hosts kind h sender own tests i key readings b fit small is apart leaves arm so_far = record {
   covered = λ s u n known so some few. by_number s u n known so some few (eqb_tells n (i + 1));
   right = λ s u x known there inside. by_place s u x known inside (last_or_before readings b x there);
@@ -205,7 +206,7 @@ held_more keys hosts kind h sender own tests i key readings b fit small is apart
         record { reading = old.reading; listed = still_there readings b old.reading old.listed; inside = old.inside }
 
     by_place : (s : Scope) (u : UnitState) (x : Reading) → IsKnown keys hosts (held_by kind h) sender own s u → IsInRegion s sender x.region u → Contains readings x ⊎ (b ≡ x)
-        → first_test tests (answer u (ReadReservation written_length)) ≡ x.arm
+        → first_test tests (answer u (ReadReservation WRITTEN_LENGTH)) ≡ x.arm
     by_place s u x known inside (inl there) = so_far.right s u x known there inside
     by_place s u x known inside (inr same) =
         let here : IsInRegion s sender b.region u = subst (λ (y : Reading). IsInRegion s sender y.region u) (sym same) inside in
@@ -217,10 +218,10 @@ held_more keys hosts kind h sender own tests i key readings b fit small is apart
         held_arm keys hosts kind h sender own tests i key s u fit small is known (subst (λ m. IsSo s u (Registration h m)) number it.so) ∙ sym arm ∙ ap (λ (y : Reading). y.arm) same
 
 pub held_all : (keys : List ℕ) (hosts : ℕ) (kind : Kind) (h sender own : ℕ) (tests : List Test) (count : ℕ) (readings : List Reading) → count ≡ length keys
-    → AreHeldSoFar keys hosts kind h sender own (ReadReservation written_length) tests count readings
-    → AreReadings keys hosts tests (ReadReservation written_length) (held_by kind h) sender own readings
+    → AreHeldSoFar keys hosts kind h sender own (ReadReservation WRITTEN_LENGTH) tests count readings
+    → AreReadings keys hosts tests (ReadReservation WRITTEN_LENGTH) (held_by kind h) sender own readings
 held_all keys hosts kind h sender own tests count readings all so_far =
-    are_readings keys hosts (held_by kind h) sender own (ReadReservation written_length) tests readings
+    are_readings keys hosts (held_by kind h) sender own (ReadReservation WRITTEN_LENGTH) tests readings
     (λ s u known.
     let it = held_number keys hosts kind h sender own s u known in
     let few = it.so.1 in

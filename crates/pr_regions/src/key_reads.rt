@@ -4,7 +4,8 @@ ghost use Rattle.std.specs.Prelude.{◌≡◌, ◌≤◌, ℕ, Option, length, t
 ghost use Rattle.std.specs.List.{All};
 ghost use Rattle.pr_cdb.specs.declared.command.Command.{Command as CommandOf};
 ghost use Rattle.pr_registry.specs.declared.held.Held.{Held};
-ghost use Rattle.pr_script.specs.Grammar.{test_fits, written_length};
+ghost use Rattle.pr_script.specs.declared.grammar.TheConstants.{WRITTEN_LENGTH};
+ghost use Rattle.pr_script.specs.Grammar.{test_fits};
 ghost use Rattle.pr_regions.specs.Readings.{AreReadings, IsProperReading};
 ghost use Rattle.pr_regions.specs.inside.Reads.{IsAsked, HasFewer, open_to};
 
@@ -38,8 +39,8 @@ impl Default for Reading {
 
 fn asked_by(test: Test, keys: &[u64], registration: u8) -> Ask
     requires few { length keys.now ≤ 12 }
-    requires fits { test_fits keys.now (Command.ReadKeys written_length) test ≡ true }
-    ensures asked { (hosts : ℕ) (held : Option Held) (sender : ℕ) → IsAsked keys.now hosts held sender registration (Command.ReadKeys written_length) test result }
+    requires fits { test_fits keys.now (Command.ReadKeys WRITTEN_LENGTH) test ≡ true }
+    ensures asked { (hosts : ℕ) (held : Option Held) (sender : ℕ) → IsAsked keys.now hosts held sender registration (Command.ReadKeys WRITTEN_LENGTH) test result }
     ensures small { HasFewer result }
 {
     match test {
@@ -72,9 +73,9 @@ fn open_to(left: Word) -> Region
 pub(crate) fn key_readings(tests: &[Test], keys: &[u64], registration: u8) -> ArrayVec<Reading, 17>
     requires few { length keys.now ≤ 12 }
     requires arms { length tests.now ≤ 16 }
-    requires fits { All (λ test. test_fits keys.now (Command.ReadKeys written_length) test ≡ true) tests.now }
+    requires fits { All (λ test. test_fits keys.now (Command.ReadKeys WRITTEN_LENGTH) test ≡ true) tests.now }
     ensures right { (hosts : ℕ) (held : Option Held) (sender : ℕ)
-        → AreReadings keys.now hosts tests.now (Command.ReadKeys written_length) held sender registration result.items }
+        → AreReadings keys.now hosts tests.now (Command.ReadKeys WRITTEN_LENGTH) held sender registration result.items }
     ensures proper { All IsProperReading result.items }
 {
     let mut readings = ArrayVec::new();

@@ -4,7 +4,8 @@ ghost use Rattle.std.specs.Prelude.{◌≡◌, ◌≢◌, ◌≤◌, ℕ, Some, 
 ghost use Rattle.std.specs.List.{All};
 ghost use Rattle.pr_cdb.specs.declared.command.Kind.{Kind as KindOf};
 ghost use Rattle.pr_cdb.specs.declared.command.Command.{Command as CommandOf};
-ghost use Rattle.pr_script.specs.Grammar.{test_fits, written_length};
+ghost use Rattle.pr_script.specs.declared.grammar.TheConstants.{WRITTEN_LENGTH};
+ghost use Rattle.pr_script.specs.Grammar.{test_fits};
 ghost use Rattle.pr_views.specs.Possibilities.{key_at};
 ghost use Rattle.pr_regions.specs.Readings.{AreReadings, IsProperReading};
 ghost use Rattle.pr_regions.specs.inside.Reads.{passes_held, IsEverywhere};
@@ -63,9 +64,9 @@ fn everywhere(arm: Option<usize>) -> ArrayVec<Reading, 17>
 // By the key of another host that holds the reservation alone.
 fn by_holder(tests: &[Test], keys: &[u64]) -> ArrayVec<Reading, 17>
     requires few { length keys.now ≤ 12 }
-    requires fits { All (λ test. test_fits keys.now (Command.ReadReservation written_length) test ≡ true) tests.now }
+    requires fits { All (λ test. test_fits keys.now (Command.ReadReservation WRITTEN_LENGTH) test ≡ true) tests.now }
     ensures right { (hosts : ℕ) (kind : KindOf) (holder sender own : ℕ) → holder ≢ sender
-        → AreReadings keys.now hosts tests.now (Command.ReadReservation written_length) (Some (Held.One kind holder)) sender own result.items }
+        → AreReadings keys.now hosts tests.now (Command.ReadReservation WRITTEN_LENGTH) (Some (Held.One kind holder)) sender own result.items }
     ensures proper { All IsProperReading result.items }
 {
     let mut readings = ArrayVec::new();
@@ -90,9 +91,9 @@ fn held_readings(
     registration: u8,
 ) -> ArrayVec<Reading, 17>
     requires few { length keys.now ≤ 12 }
-    requires fits { All (λ test. test_fits keys.now (Command.ReadReservation written_length) test ≡ true) tests.now }
+    requires fits { All (λ test. test_fits keys.now (Command.ReadReservation WRITTEN_LENGTH) test ≡ true) tests.now }
     requires known { registration ≤ length keys.now }
-    ensures right { (hosts : ℕ) → AreReadings keys.now hosts tests.now (Command.ReadReservation written_length) (Some held) sender registration result.items }
+    ensures right { (hosts : ℕ) → AreReadings keys.now hosts tests.now (Command.ReadReservation WRITTEN_LENGTH) (Some held) sender registration result.items }
     ensures proper { All IsProperReading result.items }
 {
     match held {
@@ -116,9 +117,9 @@ pub(crate) fn reservation_readings(
     registration: u8,
 ) -> ArrayVec<Reading, 17>
     requires few { length keys.now ≤ 12 }
-    requires fits { All (λ test. test_fits keys.now (Command.ReadReservation written_length) test ≡ true) tests.now }
+    requires fits { All (λ test. test_fits keys.now (Command.ReadReservation WRITTEN_LENGTH) test ≡ true) tests.now }
     requires known { registration ≤ length keys.now }
-    ensures right { (hosts : ℕ) → AreReadings keys.now hosts tests.now (Command.ReadReservation written_length) held sender registration result.items }
+    ensures right { (hosts : ℕ) → AreReadings keys.now hosts tests.now (Command.ReadReservation WRITTEN_LENGTH) held sender registration result.items }
     ensures proper { All IsProperReading result.items }
 {
     match held {

@@ -69,7 +69,7 @@ nobody_tried p q u senders e i n acts same at len past before x adds =
 -- ---- the sender of the entry
 
 module _ (p q : Parts) (u v : UnitState) (senders : List Sender) (e : Entry) (i : ℕ) (n : NexusPart) (x y : Sender) (b : Bool) (acts : ActFor (scenario_of p) (world_of u senders []))
-    (there : e.host < length (scenario_of p).nexuses) (same : q ≡ p) (at : i ≡ e.host) (nexus : n ≡ get_or q.nexuses.items i n) (seat : x ≡ get_or senders i x)
+    (there : e.host < length (scenario_of p).nexuses) (same : q ≡ p) (at : i ≡ e.host) (nexus : n ≡ get_or q.nexuses.items i n) (participation : x ≡ get_or senders i x)
     (judged : IsJudged (control_by x) n.role.clauses.items u e b (control_by y) v) where
   by_role : IsJudged (control_by x) (role (scenario_of p) e.host) u e b (control_by y) v
   by_role =
@@ -77,7 +77,7 @@ module _ (p q : Parts) (u v : UnitState) (senders : List Sender) (e : Entry) (i 
       subst (λ clauses. IsJudged (control_by x) clauses u e b (control_by y) v) (role_at p e.host n there named) judged
 
   sender_here : get_or (map control_by senders) e.host (control_by x) ≡ control_by x
-  sender_here = get_or-map control_by senders e.host x ∙ ap control_by (sym (seat ∙ ap (λ j. get_or senders j x) at))
+  sender_here = get_or-map control_by senders e.host x ∙ ap control_by (sym (participation ∙ ap (λ j. get_or senders j x) at))
 
   control_here : (before : List Entry) → control (world_of u senders before) e.host ≡ control_by x
   control_here before =

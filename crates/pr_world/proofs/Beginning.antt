@@ -15,7 +15,7 @@ use Rattle.pr_roles.specs.Worlds.{control_of}
 use Rattle.pr_roles.specs.Schedules.{plan_of}
 use Rattle.pr_unit.specs.UnitStates.{UnitState}
 use Rattle.pr_roles.specs.declared.entry.Entry.{Entry}
-use Rattle.pr_world.specs.Courses.{IsShort, IsReached, Seat, StandsFor, schedule_by, seat_from, is_free, is_planned}
+use Rattle.pr_world.specs.Courses.{IsShort, IsReached, Participation, StandsFor, schedule_by, participation_from, is_free, is_planned}
 
 -- ---- what fits is short
 
@@ -46,11 +46,11 @@ short_at p q ns i n fits same items there is =
 
 -- ---- each at its beginning
 
-controls_from : (ns : List Nexus) → map (λ x. x.control) (map (λ n. seat_from n.task) ns) ≡ map (λ n. control_of n.task) ns
+controls_from : (ns : List Nexus) → map (λ x. x.control) (map (λ n. participation_from n.task) ns) ≡ map (λ n. control_of n.task) ns
 controls_from [] = refl
 controls_from (n ∷ ns) = ap (λ ks. control_of n.task ∷ ks) (controls_from ns)
 
-plans_from : (ns : List Nexus) → map (λ x. x.plan) (map (λ n. seat_from n.task) ns) ≡ map (λ n. plan_of n.task) ns
+plans_from : (ns : List Nexus) → map (λ x. x.plan) (map (λ n. participation_from n.task) ns) ≡ map (λ n. plan_of n.task) ns
 plans_from [] = refl
 plans_from (n ∷ ns) = ap (λ ps. plan_of n.task ∷ ps) (plans_from ns)
 
@@ -58,15 +58,15 @@ pub free_from : (t : Task) → is_free (control_of t) ≡ is_planned t
 free_from (Scripted script budget) = refl
 free_from (Planned commands) = refl
 
-tasks_from : (ns : List Nexus) → map (λ x. is_free x.control) (map (λ n. seat_from n.task) ns) ≡ map (λ n. is_planned n.task) ns
+tasks_from : (ns : List Nexus) → map (λ x. is_free x.control) (map (λ n. participation_from n.task) ns) ≡ map (λ n. is_planned n.task) ns
 tasks_from [] = refl
 tasks_from (n ∷ ns) = λ i. free_from n.task i ∷ tasks_from ns i
 
-pub begun : (s : Scenario) (u : UnitState) (xs : List Seat) (es : List Entry) → Some u ≡ first_state s → IsAllowedStart s u → xs ≡ map (λ n. seat_from n.task) s.nexuses → es ≡ []
+pub begun : (s : Scenario) (u : UnitState) (xs : List Participation) (es : List Entry) → Some u ≡ first_state s → IsAllowedStart s u → xs ≡ map (λ n. participation_from n.task) s.nexuses → es ≡ []
     → IsReached s [] (schedule_by u xs es)
-begun s u xs es first allowed seats none =
-    let controls = ap (map (λ x. x.control)) seats ∙ controls_from s.nexuses in
-    let plans = ap (map (λ x. x.plan)) seats ∙ plans_from s.nexuses in
+begun s u xs es first allowed participations none =
+    let controls = ap (map (λ x. x.control)) participations ∙ controls_from s.nexuses in
+    let plans = ap (map (λ x. x.plan)) participations ∙ plans_from s.nexuses in
     record {
       start = u;
       first = sym first;
@@ -76,8 +76,8 @@ begun s u xs es first allowed seats none =
       run = λ i. record { unit = u; controls = controls i; entries = none i };
     }
 
-pub stands_at_first : (s : Scenario) (u : UnitState) (xs : List Seat) → IsAllowedStart s u → xs ≡ map (λ n. seat_from n.task) s.nexuses → StandsFor s u xs
-stands_at_first s u xs allowed seats = record {
+pub stands_at_first : (s : Scenario) (u : UnitState) (xs : List Participation) → IsAllowedStart s u → xs ≡ map (λ n. participation_from n.task) s.nexuses → StandsFor s u xs
+stands_at_first s u xs allowed participations = record {
   hosts = allowed.hosts;
-  tasks = ap (map (λ x. is_free x.control)) seats ∙ tasks_from s.nexuses;
+  tasks = ap (map (λ x. is_free x.control)) participations ∙ tasks_from s.nexuses;
 }

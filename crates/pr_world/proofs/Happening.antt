@@ -12,14 +12,14 @@ use Rattle.pr_roles.specs.declared.entry.Entry.{Entry}
 use Rattle.pr_roles.specs.Scenarios.{Scenario, Task, Scripted, Planned, role}
 use Rattle.pr_roles.specs.Worlds.{Control, Going, Trapped, Free, Host, Guest, is_guest, is_guest_task, standing_of, taken}
 use Rattle.pr_roles.specs.Schedules.{is_held_back}
-use Rattle.pr_world.specs.Courses.{HappensBy, Seat, StandsFor, is_free, is_planned, seat}
+use Rattle.pr_world.specs.Courses.{HappensBy, Participation, StandsFor, is_free, is_planned, participation}
 use Rattle.pr_world.specs.inside.Turns.{Acts, ActsAs, GuestActs, HostActs, SendsOr}
 use Rattle.pr_world.proofs.Spelled.{are_bytes, are_short}
-use Rattle.pr_world.proofs.Seats.{at_seat, control_at, has_task, rests, with_seat, world_after, world_by}
+use Rattle.pr_world.proofs.Participations.{at_seat, control_at, has_task, rests, with_seat, world_after, world_by}
 
 -- ---- hosts
 
-hosts_happen : (s : Scenario) (o : Option Standing) (u v : UnitState) (xs : List Seat) (es : List Entry) (h : ℕ) (e : Option Entry) (x y : Seat) → h < length xs → get_or xs h x ≡ x
+hosts_happen : (s : Scenario) (o : Option Standing) (u v : UnitState) (xs : List Participation) (es : List Entry) (h : ℕ) (e : Option Entry) (x y : Participation) → h < length xs → get_or xs h x ≡ x
     → o ≡ standing_of x.control → HostActs o h x u e y v → HappensBy s h e (world_by u xs es) (world_by v (with_seat xs h y) (es ++ option_to_list e))
 hosts_happen s (Some (ready at c)) u v xs es h (Some e) x y there seated is acts =
     let here = at_seat xs h x there seated in
@@ -52,7 +52,7 @@ permitted_if_good true true held is = refl
 permitted_if_good true false held is = let bad : true ≡ false = held in cc
 permitted_if_good false permitted held is = let bad : false ≡ true = is in cc
 
-guest_sends : (s : Scenario) (b : Bool) (u v : UnitState) (xs : List Seat) (es : List Entry) (h : ℕ) (c : Command) (e : Option Entry) (x y : Seat) → h < length xs → get_or xs h x ≡ x
+guest_sends : (s : Scenario) (b : Bool) (u v : UnitState) (xs : List Participation) (es : List Entry) (h : ℕ) (c : Command) (e : Option Entry) (x y : Participation) → h < length xs → get_or xs h x ≡ x
     → is_guest s h ≡ true → x.control ≡ Free → y.control ≡ Free → is_held_back (role s h) u h c ≡ b → SendsOr b h u c e v
     → HappensBy s h e (world_by u xs es) (world_by v (with_seat xs h y) (es ++ option_to_list e))
 guest_sends s true u v xs es h c (Some e) x y there seated guest free still held acts = absurd acts
@@ -79,7 +79,7 @@ guest_sends s false u v xs es h c (Some e) x y there seated guest free still hel
       added = refl;
     }
 
-guests_happen : (s : Scenario) (planned : List Command) (u v : UnitState) (xs : List Seat) (es : List Entry) (h : ℕ) (e : Option Entry) (x y : Seat) → h < length xs → get_or xs h x ≡ x
+guests_happen : (s : Scenario) (planned : List Command) (u v : UnitState) (xs : List Participation) (es : List Entry) (h : ℕ) (e : Option Entry) (x y : Participation) → h < length xs → get_or xs h x ≡ x
     → is_guest s h ≡ true → x.control ≡ Free → GuestActs (role s h) h planned u e y v → HappensBy s h e (world_by u xs es) (world_by v (with_seat xs h y) (es ++ option_to_list e))
 guests_happen s [] u v xs es h (Some e) x y there seated guest free acts = absurd acts
 guests_happen s [] u v xs es h None x y there seated guest free acts =
@@ -89,18 +89,18 @@ guests_happen s (c ∷ cs) u v xs es h e x y there seated guest free acts =
 
 -- ---- each turn
 
-acts_happen : (s : Scenario) (k : Control) (p : List Command) (u v : UnitState) (xs : List Seat) (es : List Entry) (h : ℕ) (e : Option Entry) (y : Seat) → h < length xs
-    → get_or xs h (seat k p) ≡ seat k p → (is_free k ≡ true → is_guest s h ≡ true) → ActsAs k (role s h) h (seat k p) u e y v
+acts_happen : (s : Scenario) (k : Control) (p : List Command) (u v : UnitState) (xs : List Participation) (es : List Entry) (h : ℕ) (e : Option Entry) (y : Participation) → h < length xs
+    → get_or xs h (participation k p) ≡ participation k p → (is_free k ≡ true → is_guest s h ≡ true) → ActsAs k (role s h) h (participation k p) u e y v
     → HappensBy s h e (world_by u xs es) (world_by v (with_seat xs h y) (es ++ option_to_list e))
-acts_happen s (Going l) p u v xs es h e y there seated guest acts = hosts_happen s (standing_of (Going l)) u v xs es h e (seat (Going l) p) y there seated refl acts
-acts_happen s (Trapped at) p u v xs es h e y there seated guest acts = hosts_happen s None u v xs es h e (seat (Trapped at) p) y there seated refl acts
-acts_happen s Free p u v xs es h e y there seated guest acts = guests_happen s p u v xs es h e (seat Free p) y there seated (guest refl) refl acts
+acts_happen s (Going l) p u v xs es h e y there seated guest acts = hosts_happen s (standing_of (Going l)) u v xs es h e (participation (Going l) p) y there seated refl acts
+acts_happen s (Trapped at) p u v xs es h e y there seated guest acts = hosts_happen s None u v xs es h e (participation (Trapped at) p) y there seated refl acts
+acts_happen s Free p u v xs es h e y there seated guest acts = guests_happen s p u v xs es h e (participation Free p) y there seated (guest refl) refl acts
 
 guest_task : (t : Task) → is_planned t ≡ true → is_guest_task (Some t) ≡ true
 guest_task (Scripted script budget) is = is
 guest_task (Planned commands) is = refl
 
-pub happens_at_seat : (s : Scenario) (u v : UnitState) (xs : List Seat) (es : List Entry) (h : ℕ) (e : Option Entry) (x y : Seat) → StandsFor s u xs → h < length xs
+pub happens_at_seat : (s : Scenario) (u v : UnitState) (xs : List Participation) (es : List Entry) (h : ℕ) (e : Option Entry) (x y : Participation) → StandsFor s u xs → h < length xs
     → get_or xs h x ≡ x → Acts (role s h) h x u e y v → HappensBy s h e (world_by u xs es) (world_by v (with_seat xs h y) (es ++ option_to_list e))
 happens_at_seat s u v xs es h e x y stands there seated acts =
     let has = has_task s u xs h x stands (at_seat xs h x there seated) in

@@ -6,7 +6,7 @@ pub mod Admitting
 pub mod Histories
 pub mod Knowing
 pub mod Spelled
-pub mod Seats
+pub mod Participations
 pub mod Happening
 pub mod Turning
 pub mod Beginning

@@ -12,10 +12,10 @@ use Rattle.pr_roles.specs.declared.entry.Entry.{Entry}
 use Rattle.pr_roles.specs.Scenarios.{Scenario, Task, Scripted, Planned, role, task}
 use Rattle.pr_roles.specs.Worlds.{Control, Going, Trapped, Free, control, standing_of}
 use Rattle.pr_roles.specs.Schedules.{Schedule, GuestTurn, TurnBy, Turn, is_held_back, plan}
-use Rattle.pr_world.specs.Courses.{Seat, StandsFor, is_free, is_planned, schedule_by}
+use Rattle.pr_world.specs.Courses.{Participation, StandsFor, is_free, is_planned, schedule_by}
 use Rattle.pr_world.specs.StepAnswers.{IsStopped, IsStoppedBy, PassesOver}
 use Rattle.pr_world.specs.inside.Turns.{Doing, sends, stops, is_trapped, is_done, passes, host_does, does, does_as}
-use Rattle.pr_world.proofs.Seats.{control_at, has_task}
+use Rattle.pr_world.proofs.Participations.{control_at, has_task}
 use Rattle.pr_world.proofs.Turning.{length-tasks}
 
 -- ---- its task
@@ -26,12 +26,12 @@ pub record HasItsTask (s : Scenario) (x : Schedule) (h : ℕ) : Type 0 where
   pub is : task s h ≡ Some its_task
   pub fits : is_planned its_task ≡ is_free (control x.world h)
 
-found_seat : (xs : List Seat) (h : ℕ) → h < length xs → (x : Seat) × (slice_get xs h ≡ Some x)
+found_seat : (xs : List Participation) (h : ℕ) → h < length xs → (x : Participation) × (slice_get xs h ≡ Some x)
 found_seat [] h there = absurd (omega arith)
 found_seat (x ∷ xs) zero there = (x, refl)
 found_seat (x ∷ xs) (suc h) there = found_seat xs h (omega arith)
 
-pub has_its_task : (s : Scenario) (u : UnitState) (xs : List Seat) (es : List Entry) (h : ℕ) → StandsFor s u xs → h < length s.nexuses → HasItsTask s (schedule_by u xs es) h
+pub has_its_task : (s : Scenario) (u : UnitState) (xs : List Participation) (es : List Entry) (h : ℕ) → StandsFor s u xs → h < length s.nexuses → HasItsTask s (schedule_by u xs es) h
 has_its_task s u xs es h stands there =
     let found = found_seat xs h (rw (length-tasks s u xs stands) there) in
     let has = has_task s u xs h found.0 stands found.1 in

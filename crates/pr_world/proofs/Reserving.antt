@@ -12,7 +12,7 @@ use Rattle.pr_roles.specs.declared.parts.Parts.{Parts}
 use Rattle.pr_roles.specs.Scenarios.{Nexus, Task, Scripted, Planned, nexus_of, task_of, scenario_of}
 use Rattle.pr_roles.specs.Fitting.{Fits, are_distinct, is_nexus, is_role, is_start, is_task, are_nexuses}
 use Rattle.pr_world.specs.declared.course.Course.{Course}
-use Rattle.pr_world.specs.Courses.{IsReached, StandsFor, schedule_of, seat_of}
+use Rattle.pr_world.specs.Courses.{IsReached, StandsFor, schedule_of, participation_of}
 use Rattle.pr_world.specs.Rooms.{room_of, rooms}
 use Rattle.pr_world.specs.inside.Workings.{IsAtWork}
 
@@ -58,10 +58,10 @@ rooms_are_few p q ns fits same items =
     omega (arith, few, rooms_are p q ns same items)
 
 pub at_work_at_first : (p q : Parts) (c : Course) (room : ℕ) → q ≡ p → room ≡ rooms (scenario_of p) → IsReached (scenario_of q) [] (schedule_of c)
-    → StandsFor (scenario_of q) c.unit (map seat_of c.players.items) → (vec_len c.entries ≡ 0) × (vec_capacity c.entries ≡ room) → IsAtWork (scenario_of p) c
+    → StandsFor (scenario_of q) c.unit (map participation_of c.participants.items) → (vec_len c.entries ≡ 0) × (vec_capacity c.entries ≡ room) → IsAtWork (scenario_of p) c
 at_work_at_first p q c room same enough reached stands reserved = record {
   steps = [];
   reached = subst (λ r. IsReached (scenario_of r) [] (schedule_of c)) same reached;
-  stands = subst (λ r. StandsFor (scenario_of r) c.unit (map seat_of c.players.items)) same stands;
+  stands = subst (λ r. StandsFor (scenario_of r) c.unit (map participation_of c.participants.items)) same stands;
   room = reserved.1 ∙ enough;
 }

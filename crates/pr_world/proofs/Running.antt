@@ -9,9 +9,9 @@ use Rattle.pr_roles.specs.Worlds.{World, Event, Happens, Run, sent, world_from}
 use Rattle.pr_roles.specs.Schedules.{Schedule, Turn, ScheduledRun}
 use Rattle.pr_roles.specs.declared.entry.Entry.{Entry}
 use Rattle.pr_world.specs.declared.course.Course.{Course}
-use Rattle.pr_world.specs.declared.player.Player.{Player}
+use Rattle.pr_world.specs.declared.participant.Participant.{Participant}
 use Rattle.pr_world.specs.declared.replaying.Replayed.{Replayed}
-use Rattle.pr_world.specs.Courses.{seat_of, schedule_of, HappensBy, IsReached, StandsFor}
+use Rattle.pr_world.specs.Courses.{participation_of, schedule_of, HappensBy, IsReached, StandsFor}
 use Rattle.pr_world.specs.Ends.{seen, ending, endings}
 use Rattle.pr_world.proofs.Trapping.{trapped_ends}
 use Rattle.pr_world.specs.Replays.{IsEndOf, IsReplayed}
@@ -48,13 +48,13 @@ reached_more s steps x y h (Some e) turn one reached = record {
 -- the turns before step i have led here, with room for one entry more at each step
 pub record IsRunning (s : Scenario) (steps : List ℕ) (i : ℕ) (c : Course) : Type 0 where
   pub reached : IsReached s (take i steps) (schedule_of c)
-  pub stands : StandsFor s c.unit (map seat_of c.players.items)
+  pub stands : StandsFor s c.unit (map participation_of c.participants.items)
   pub room : vec_capacity c.entries ≡ length steps
   pub few : vec_len c.entries ≤ i
 
 pub running_more : (s : Scenario) (steps : List ℕ) (i : ℕ) (c d : Course) → i < length steps → IsRunning s steps i c
     → ((hs : List ℕ) → IsReached s hs (schedule_of c) → IsReached s (hs ++ get_or steps i 0 ∷ []) (schedule_of d))
-    → StandsFor s d.unit (map seat_of d.players.items)
+    → StandsFor s d.unit (map participation_of d.participants.items)
     → vec_capacity d.entries ≡ vec_capacity c.entries → vec_len d.entries ≤ vec_len c.entries + 1 → IsRunning s steps (i + 1) d
 running_more s steps i c d there running more stands room few = record {
   reached = subst (λ hs. IsReached s hs (schedule_of d)) (sym (take_more steps i 0 there)) (more (take i steps) running.reached);
@@ -81,19 +81,19 @@ replayed s steps i c (Err e) running done outcome = outcome
 
 -- ---- how they stand
 
-pub endings_of : (ps : List Player) → endings (map (λ x. x.control) (map seat_of ps)) (map (λ x. x.plan) (map seat_of ps)) ≡ map (λ p. ending (seat_of p).control (seat_of p).plan) ps
+pub endings_of : (ps : List Participant) → endings (map (λ x. x.control) (map participation_of ps)) (map (λ x. x.plan) (map participation_of ps)) ≡ map (λ p. ending (participation_of p).control (participation_of p).plan) ps
 endings_of [] = refl
-endings_of (p ∷ ps) = ap (λ es. ending (seat_of p).control (seat_of p).plan ∷ es) (endings_of ps)
+endings_of (p ∷ ps) = ap (λ es. ending (participation_of p).control (participation_of p).plan ∷ es) (endings_of ps)
 
-pub outcome_of : (c : Course) (r : Replayed) (ps : List Player) (es : List Entry) (n : ℕ) → ps ≡ c.players.items → es ≡ c.entries.items → n ≡ vec_len c.players
-    → r.entries.items ≡ c.entries.items → r.unit ≡ c.unit → map (λ e. Some (seen e)) r.ends.items ≡ map (λ p. ending (seat_of p).control (seat_of p).plan) ps
+pub outcome_of : (c : Course) (r : Replayed) (ps : List Participant) (es : List Entry) (n : ℕ) → ps ≡ c.participants.items → es ≡ c.entries.items → n ≡ vec_len c.participants
+    → r.entries.items ≡ c.entries.items → r.unit ≡ c.unit → map (λ e. Some (seen e)) r.ends.items ≡ map (λ p. ending (participation_of p).control (participation_of p).plan) ps
     → r.counts.items ≡ map (λ h. sent es h) (range_with_len 0 n) → IsEndOf (schedule_of c) r
-outcome_of c r ps es n players sends len entries unit ends counts = record {
+outcome_of c r ps es n participants sends len entries unit ends counts = record {
   entries = entries;
   unit = unit;
-  ends = ends ∙ (ap (map (λ p. ending (seat_of p).control (seat_of p).plan)) players ∙ sym (endings_of c.players.items));
+  ends = ends ∙ (ap (map (λ p. ending (participation_of p).control (participation_of p).plan)) participants ∙ sym (endings_of c.participants.items));
   counts =
-      let all = len ∙ (c.players.ok.0 ∙ sym (length-map (map seat_of c.players.items) (λ x. x.plan) ∙ length-map c.players.items seat_of)) in
+      let all = len ∙ (c.participants.ok.0 ∙ sym (length-map (map participation_of c.participants.items) (λ x. x.plan) ∙ length-map c.participants.items participation_of)) in
       counts ∙ (ap (λ gs. map (λ h. sent gs h) (range_with_len 0 n)) sends ∙ ap (λ k. map (λ h. sent c.entries.items h) (range_with_len 0 k)) all);
-  trapped = trapped_ends c.players.items r.ends.items (ends ∙ ap (map (λ p. ending (seat_of p).control (seat_of p).plan)) players);
+  trapped = trapped_ends c.participants.items r.ends.items (ends ∙ ap (map (λ p. ending (participation_of p).control (participation_of p).plan)) participants);
 }

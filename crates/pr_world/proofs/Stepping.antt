@@ -14,7 +14,7 @@ use Rattle.pr_world.specs.declared.act.Act.TheVariants as act
 use Rattle.pr_world.specs.declared.course.Course.{Course}
 use Rattle.pr_world.specs.declared.turn.Turn.{Turn}
 use Rattle.pr_world.specs.declared.turn.Turn.TheVariants as turn
-use Rattle.pr_world.specs.Courses.{HappensBy, IsReached, StandsFor, schedule_of, seat_of}
+use Rattle.pr_world.specs.Courses.{HappensBy, IsReached, StandsFor, schedule_of, participation_of}
 use Rattle.pr_world.specs.StepAnswers.{IfStopped, IfHeld, IsStopped, PassesOver}
 use Rattle.pr_world.specs.inside.Turns.{does, entry_in, sends, stops, is_done, passes, seen}
 use Rattle.pr_world.specs.inside.Workings.{IsAtWork}
@@ -22,7 +22,7 @@ use Rattle.pr_world.proofs.Keeping.{turn_has_room}
 use Rattle.pr_world.proofs.Meaning.{HasItsTask, has_its_task, means, stopped_is, stopped_rests, done_is, done_rests, passed_over}
 
 its_task_at : (s : Scenario) (c : Course) (h : ℕ) → IsAtWork s c → h < length s.nexuses → HasItsTask s (schedule_of c) h
-its_task_at s c h at_work there = has_its_task s c.unit (map seat_of c.players.items) c.entries.items h at_work.stands there
+its_task_at s c h at_work there = has_its_task s c.unit (map participation_of c.participants.items) c.entries.items h at_work.stands there
 
 -- ---- before the turn
 
@@ -61,11 +61,11 @@ is_turned p q c d h a same at_work there does_so turn happens = record {
 
 pub still_at_work : (p q : Parts) (c d : Course) (h : ℕ) → q ≡ p → IsAtWork (scenario_of p) c
     → ((steps : List ℕ) → IsReached (scenario_of q) steps (schedule_of c) → IsReached (scenario_of q) (steps ++ h ∷ []) (schedule_of d))
-    → StandsFor (scenario_of q) d.unit (map seat_of d.players.items) → vec_capacity d.entries ≡ vec_capacity c.entries → IsAtWork (scenario_of p) d
+    → StandsFor (scenario_of q) d.unit (map participation_of d.participants.items) → vec_capacity d.entries ≡ vec_capacity c.entries → IsAtWork (scenario_of p) d
 still_at_work p q c d h same at_work more stands room = record {
   steps = at_work.steps ++ h ∷ [];
   reached = subst (λ r. (steps : List ℕ) → IsReached (scenario_of r) steps (schedule_of c) → IsReached (scenario_of r) (steps ++ h ∷ []) (schedule_of d)) same more at_work.steps at_work.reached;
-  stands = subst (λ r. StandsFor (scenario_of r) d.unit (map seat_of d.players.items)) same stands;
+  stands = subst (λ r. StandsFor (scenario_of r) d.unit (map participation_of d.participants.items)) same stands;
   room = room ∙ at_work.room;
 }
 

@@ -8,8 +8,8 @@ use Rattle.pr_script.specs.Scripts.{Standing, ready, stopped, standing}
 use Rattle.pr_roles.specs.Worlds.{Control, Going, Trapped, Free, is_trapped}
 use Rattle.pr_world.specs.declared.end.End.{End}
 use Rattle.pr_world.specs.declared.end.End.TheVariants as end
-use Rattle.pr_world.specs.declared.player.Player.{Player}
-use Rattle.pr_world.specs.Courses.{seat_of}
+use Rattle.pr_world.specs.declared.participant.Participant.{Participant}
+use Rattle.pr_world.specs.Courses.{participation_of}
 use Rattle.pr_world.specs.Ends.{Ending, stops, waits, traps, seen, ending, ending_by, is_trapped_end}
 
 abbrev is_trap : Ending → Bool
@@ -33,13 +33,13 @@ trap_of (Trapped line) plan x is = ap is_trap (sym (same_Some _ _ is))
 trap_of Free plan x is = ap is_trap (sym (same_Some _ _ is))
 
 -- some end is a trapped one just where some host is trapped
-pub trapped_ends : (ps : List Player) (es : List End) → map (λ e. Some (seen e)) es ≡ map (λ p. ending (seat_of p).control (seat_of p).plan) ps
-    → list_any is_trapped_end es ≡ list_any is_trapped (map (λ x. x.control) (map seat_of ps))
+pub trapped_ends : (ps : List Participant) (es : List End) → map (λ e. Some (seen e)) es ≡ map (λ p. ending (participation_of p).control (participation_of p).plan) ps
+    → list_any is_trapped_end es ≡ list_any is_trapped (map (λ x. x.control) (map participation_of ps))
 trapped_ends [] [] same = refl
 trapped_ends [] (e ∷ es) same = let bad : Some (seen e) ∷ map (λ e. Some (seen e)) es ≡ [] = same in cc
-trapped_ends (p ∷ ps) [] same = let bad : [] ≡ ending (seat_of p).control (seat_of p).plan ∷ map (λ p. ending (seat_of p).control (seat_of p).plan) ps = same in cc
+trapped_ends (p ∷ ps) [] same = let bad : [] ≡ ending (participation_of p).control (participation_of p).plan ∷ map (λ p. ending (participation_of p).control (participation_of p).plan) ps = same in cc
 trapped_ends (p ∷ ps) (e ∷ es) same =
-    let first : Some (seen e) ≡ ending (seat_of p).control (seat_of p).plan = cc in
-    let rest : map (λ e. Some (seen e)) es ≡ map (λ p. ending (seat_of p).control (seat_of p).plan) ps = cc in
-    let here = trap_seen e ∙ trap_of (seat_of p).control (seat_of p).plan (seen e) (sym first) in
+    let first : Some (seen e) ≡ ending (participation_of p).control (participation_of p).plan = cc in
+    let rest : map (λ e. Some (seen e)) es ≡ map (λ p. ending (participation_of p).control (participation_of p).plan) ps = cc in
+    let here = trap_seen e ∙ trap_of (participation_of p).control (participation_of p).plan (seen e) (sym first) in
     λ i. here i || trapped_ends ps es rest i

@@ -19,10 +19,10 @@ use Rattle.pr_roles.specs.declared.parts.Parts.{Parts}
 use Rattle.pr_roles.specs.Scenarios.{Scenario, Task, Scripted, Planned, nexus, role, nexus_of, scenario_of}
 use Rattle.pr_roles.specs.Worlds.{Control, Going, Trapped, Free, control, is_trapped, standing_of, going_or_trapped, taken}
 use Rattle.pr_roles.specs.Schedules.{HostTurn, SendsUnless, GuestTurn, TurnBy, Turn, is_held_back, plan}
-use Rattle.pr_world.specs.declared.player.Player.{Player}
-use Rattle.pr_world.specs.Courses.{Seat, seat, seat_of, schedule_by, StandsFor, HappensBy, is_free, is_planned}
+use Rattle.pr_world.specs.declared.participant.Participant.{Participant}
+use Rattle.pr_world.specs.Courses.{Participation, participation, participation_of, schedule_by, StandsFor, HappensBy, is_free, is_planned}
 use Rattle.pr_world.specs.Ends.{Ending, ending}
-use Rattle.pr_world.proofs.Seats.{at_seat, control_at, has_task, plan_at, rests, sends, with_seat, world_by}
+use Rattle.pr_world.proofs.Participations.{at_seat, control_at, has_task, plan_at, rests, sends, with_seat, world_by}
 use Rattle.pr_world.proofs.Happening.{happens_at_seat}
 use Rattle.pr_world.specs.declared.act.Act.{Act}
 use Rattle.pr_world.specs.declared.act.Act.TheVariants as act
@@ -30,7 +30,7 @@ use Rattle.pr_world.specs.inside.Turns.{Acts, ActsAs, GuestActs, HostActs, Sends
 
 -- ---- hosts
 
-host_turn : (o : Option Standing) (u v : UnitState) (xs : List Seat) (es : List Entry) (h : ℕ) (e : Option Entry) (x y : Seat) → h < length xs → get_or xs h x ≡ x
+host_turn : (o : Option Standing) (u v : UnitState) (xs : List Participation) (es : List Entry) (h : ℕ) (e : Option Entry) (x y : Participation) → h < length xs → get_or xs h x ≡ x
     → HostActs o h x u e y v → HostTurn o (world_by u xs es) h (world_by v (with_seat xs h y) (es ++ option_to_list e)) × (map (λ s. s.plan) (with_seat xs h y) ≡ map (λ s. s.plan) xs)
 host_turn (Some (ready line c)) u v xs es h (Some e) x y there at acts = (
   sends u v xs es h line c e x y (at_seat xs h x there at) acts.0 (ap (λ s. s.control) acts.1),
@@ -46,7 +46,7 @@ host_turn None u v xs es h None x y there at acts =
 
 -- ---- guests
 
-sends_unless : (b : Bool) (u v : UnitState) (xs : List Seat) (es : List Entry) (h : ℕ) (c : Command) (e : Option Entry) (x y : Seat) → h < length xs → get_or xs h x ≡ x
+sends_unless : (b : Bool) (u v : UnitState) (xs : List Participation) (es : List Entry) (h : ℕ) (c : Command) (e : Option Entry) (x y : Participation) → h < length xs → get_or xs h x ≡ x
     → x.control ≡ Free → y.control ≡ Free → SendsOr b h u c e v → SendsUnless b (world_by u xs es) h c (world_by v (with_seat xs h y) (es ++ option_to_list e))
 sends_unless true u v xs es h c (Some e) x y there at free still acts = absurd acts
 sends_unless true u v xs es h c None x y there at free still acts = rests u v xs es h x y at (still ∙ sym free) acts
@@ -54,7 +54,7 @@ sends_unless false u v xs es h c (Some e) x y there at free still acts =
     sends u v xs es h 0 c e x y (at_seat xs h x there at) acts (still ∙ ap (λ k. taken 0 k e.reply) (sym free))
 sends_unless false u v xs es h c None x y there at free still acts = absurd acts
 
-guest_turn : (clauses : List Clause) (planned : List Command) (u v : UnitState) (xs : List Seat) (es : List Entry) (h : ℕ) (e : Option Entry) (x y : Seat) → h < length xs
+guest_turn : (clauses : List Clause) (planned : List Command) (u v : UnitState) (xs : List Participation) (es : List Entry) (h : ℕ) (e : Option Entry) (x y : Participation) → h < length xs
     → get_or xs h x ≡ x → x.control ≡ Free → GuestActs clauses h planned u e y v
     → GuestTurn clauses planned (world_by u xs es) h (world_by v (with_seat xs h y) (es ++ option_to_list e)) y.plan
 guest_turn clauses [] u v xs es h (Some e) x y there at free acts = absurd acts
@@ -65,27 +65,27 @@ guest_turn clauses (c ∷ cs) u v xs es h e x y there at free acts =
 
 -- ---- the turn
 
-turn_by : (t : Task) (k : Control) (s : Scenario) (u v : UnitState) (xs : List Seat) (es : List Entry) (h : ℕ) (e : Option Entry) (p : List Command) (y : Seat) → h < length xs
-    → get_or xs h (seat k p) ≡ seat k p → is_planned t ≡ is_free k → ActsAs k (role s h) h (seat k p) u e y v
+turn_by : (t : Task) (k : Control) (s : Scenario) (u v : UnitState) (xs : List Participation) (es : List Entry) (h : ℕ) (e : Option Entry) (p : List Command) (y : Participation) → h < length xs
+    → get_or xs h (participation k p) ≡ participation k p → is_planned t ≡ is_free k → ActsAs k (role s h) h (participation k p) u e y v
     → TurnBy (Some t) s (schedule_by u xs es) h (schedule_by v (with_seat xs h y) (es ++ option_to_list e))
 turn_by (Scripted script budget) Free s u v xs es h e p y there at fits acts = let bad : false ≡ true = fits in cc
 turn_by (Scripted script budget) (Going l) s u v xs es h e p y there at fits acts =
-    let x = seat (Going l) p in
+    let x = participation (Going l) p in
     subst (λ k. HostTurn (standing_of k) (world_by u xs es) h (world_by v (with_seat xs h y) (es ++ option_to_list e)) × (map (λ s. s.plan) (with_seat xs h y) ≡ map (λ s. s.plan) xs))
     (sym (control_at u xs es h x (at_seat xs h x there at))) (host_turn (standing_of (Going l)) u v xs es h e x y there at acts)
 turn_by (Scripted script budget) (Trapped line) s u v xs es h e p y there at fits acts =
-    let x = seat (Trapped line) p in
+    let x = participation (Trapped line) p in
     subst (λ k. HostTurn (standing_of k) (world_by u xs es) h (world_by v (with_seat xs h y) (es ++ option_to_list e)) × (map (λ s. s.plan) (with_seat xs h y) ≡ map (λ s. s.plan) xs))
     (sym (control_at u xs es h x (at_seat xs h x there at))) (host_turn None u v xs es h e x y there at acts)
 turn_by (Planned commands) (Going l) s u v xs es h e p y there at fits acts = let bad : true ≡ false = fits in cc
 turn_by (Planned commands) (Trapped line) s u v xs es h e p y there at fits acts = let bad : true ≡ false = fits in cc
 turn_by (Planned commands) Free s u v xs es h e p y there at fits acts =
-    let x = seat Free p in
+    let x = participation Free p in
     let turn = subst (λ cs. GuestTurn (role s h) cs (world_by u xs es) h (world_by v (with_seat xs h y) (es ++ option_to_list e)) y.plan)
     (sym (plan_at u xs es h x (at_seat xs h x there at))) (guest_turn (role s h) p u v xs es h e x y there at refl acts) in
     (y.plan, turn, map-set (λ s. s.plan) xs h y)
 
-pub turn_of_seats : (s : Scenario) (u v : UnitState) (xs : List Seat) (es : List Entry) (h : ℕ) (e : Option Entry) (x y : Seat) → StandsFor s u xs → h < length xs
+pub turn_of_seats : (s : Scenario) (u v : UnitState) (xs : List Participation) (es : List Entry) (h : ℕ) (e : Option Entry) (x y : Participation) → StandsFor s u xs → h < length xs
     → get_or xs h x ≡ x → Acts (role s h) h x u e y v → Turn s (schedule_by u xs es) h (schedule_by v (with_seat xs h y) (es ++ option_to_list e))
 turn_of_seats s u v xs es h e x y stands there at acts =
     let has = has_task s u xs h x stands (at_seat xs h x there at) in
@@ -101,7 +101,7 @@ free_taken line l r = at (take l r)
     at None = refl
     at (Some m) = refl
 
-free_host : (o : Option Standing) (h : ℕ) (x : Seat) (u : UnitState) (e : Option Entry) (y : Seat) (v : UnitState) → ((line : ℕ) (r : Reply) → is_free (taken line x.control r) ≡ is_free x.control)
+free_host : (o : Option Standing) (h : ℕ) (x : Participation) (u : UnitState) (e : Option Entry) (y : Participation) (v : UnitState) → ((line : ℕ) (r : Reply) → is_free (taken line x.control r) ≡ is_free x.control)
     → HostActs o h x u e y v → is_free y.control ≡ is_free x.control
 free_host (Some (ready line c)) h x u (Some e) y v same acts = ap (λ s. is_free s.control) acts.1 ∙ same line e.reply
 free_host (Some (ready line c)) h x u None y v same acts = absurd acts
@@ -110,47 +110,47 @@ free_host (Some (stopped w)) h x u None y v same acts = ap (λ s. is_free s.cont
 free_host None h x u (Some e) y v same acts = absurd acts
 free_host None h x u None y v same acts = ap (λ s. is_free s.control) acts.0
 
-free_guest : (clauses : List Clause) (h : ℕ) (planned : List Command) (u : UnitState) (e : Option Entry) (y : Seat) (v : UnitState) → GuestActs clauses h planned u e y v → is_free y.control ≡ true
+free_guest : (clauses : List Clause) (h : ℕ) (planned : List Command) (u : UnitState) (e : Option Entry) (y : Participation) (v : UnitState) → GuestActs clauses h planned u e y v → is_free y.control ≡ true
 free_guest clauses h [] u (Some e) y v acts = absurd acts
 free_guest clauses h [] u None y v acts = ap (λ s. is_free s.control) acts.0
 free_guest clauses h (c ∷ cs) u e y v acts = ap (λ s. is_free s.control) acts.1
 
-free_kept : (clauses : List Clause) (h : ℕ) (k : Control) (p : List Command) (u : UnitState) (e : Option Entry) (y : Seat) (v : UnitState) → ActsAs k clauses h (seat k p) u e y v → is_free y.control ≡ is_free k
-free_kept clauses h (Going l) p u e y v acts = free_host (standing_of (Going l)) h (seat (Going l) p) u e y v (λ line r. free_taken line l r) acts
-free_kept clauses h (Trapped at) p u e y v acts = free_host None h (seat (Trapped at) p) u e y v (λ line r. refl) acts
+free_kept : (clauses : List Clause) (h : ℕ) (k : Control) (p : List Command) (u : UnitState) (e : Option Entry) (y : Participation) (v : UnitState) → ActsAs k clauses h (participation k p) u e y v → is_free y.control ≡ is_free k
+free_kept clauses h (Going l) p u e y v acts = free_host (standing_of (Going l)) h (participation (Going l) p) u e y v (λ line r. free_taken line l r) acts
+free_kept clauses h (Trapped at) p u e y v acts = free_host None h (participation (Trapped at) p) u e y v (λ line r. refl) acts
 free_kept clauses h Free p u e y v acts = free_guest clauses h p u e y v acts
 
--- ---- players
+-- ---- participants
 
--- after the turn of one among these players
-pub record IsTurned (s : Scenario) (u : UnitState) (ps : List Player) (es : List Entry) (h : ℕ) (e : Option Entry) (v : UnitState) (qs : List Player) (fs : List Entry) : Type 0 where
-  pub turn : Turn s (schedule_by u (map seat_of ps) es) h (schedule_by v (map seat_of qs) fs)
-  pub happens : HappensBy s h e (world_by u (map seat_of ps) es) (world_by v (map seat_of qs) fs)
-  pub stands : StandsFor s v (map seat_of qs)
+-- after the turn of one among these participants
+pub record IsTurned (s : Scenario) (u : UnitState) (ps : List Participant) (es : List Entry) (h : ℕ) (e : Option Entry) (v : UnitState) (qs : List Participant) (fs : List Entry) : Type 0 where
+  pub turn : Turn s (schedule_by u (map participation_of ps) es) h (schedule_by v (map participation_of qs) fs)
+  pub happens : HappensBy s h e (world_by u (map participation_of ps) es) (world_by v (map participation_of qs) fs)
+  pub stands : StandsFor s v (map participation_of qs)
 
-pub length-tasks : (s : Scenario) (u : UnitState) (xs : List Seat) → StandsFor s u xs → length xs ≡ length s.nexuses
+pub length-tasks : (s : Scenario) (u : UnitState) (xs : List Participation) → StandsFor s u xs → length xs ≡ length s.nexuses
 length-tasks s u xs stands = sym (length-map xs (λ x. is_free x.control)) ∙ (ap length stands.tasks ∙ length-map s.nexuses (λ n. is_planned n.task))
 
-pub length-players : (s : Scenario) (u : UnitState) (ps : List Player) → StandsFor s u (map seat_of ps) → length ps ≡ length s.nexuses
-length-players s u ps stands = sym (length-map ps seat_of) ∙ length-tasks s u (map seat_of ps) stands
+pub length-participants : (s : Scenario) (u : UnitState) (ps : List Participant) → StandsFor s u (map participation_of ps) → length ps ≡ length s.nexuses
+length-participants s u ps stands = sym (length-map ps participation_of) ∙ length-tasks s u (map participation_of ps) stands
 
-turned : (s : Scenario) (u v : UnitState) (ps : List Player) (es : List Entry) (h : ℕ) (e : Option Entry) (p q : Player) → StandsFor s u (map seat_of ps) → h < length s.nexuses
-    → get_or ps h p ≡ p → Acts (role s h) h (seat_of p) u e (seat_of q) v → v.registry.hosts ≡ u.registry.hosts
+turned : (s : Scenario) (u v : UnitState) (ps : List Participant) (es : List Entry) (h : ℕ) (e : Option Entry) (p q : Participant) → StandsFor s u (map participation_of ps) → h < length s.nexuses
+    → get_or ps h p ≡ p → Acts (role s h) h (participation_of p) u e (participation_of q) v → v.registry.hosts ≡ u.registry.hosts
     → IsTurned s u ps es h e v (slice_set ps h q) (es ++ option_to_list e)
 turned s u v ps es h e p q stands there at acts hosts =
-    let xs = map seat_of ps in
+    let xs = map participation_of ps in
     let among : h < length xs = rw (length-tasks s u xs stands) there in
-    let seated : get_or xs h (seat_of p) ≡ seat_of p = get_or-map seat_of ps h p ∙ ap seat_of at in
-    let seats : map seat_of (slice_set ps h q) ≡ slice_set xs h (seat_of q) = map-set seat_of ps h q in
-    let free = free_kept (role s h) h (seat_of p).control (seat_of p).plan u e (seat_of q) v acts in
+    let seated : get_or xs h (participation_of p) ≡ participation_of p = get_or-map participation_of ps h p ∙ ap participation_of at in
+    let participations : map participation_of (slice_set ps h q) ≡ slice_set xs h (participation_of q) = map-set participation_of ps h q in
+    let free = free_kept (role s h) h (participation_of p).control (participation_of p).plan u e (participation_of q) v acts in
     record {
-      turn = subst (λ ys. Turn s (schedule_by u xs es) h (schedule_by v ys (es ++ option_to_list e))) (sym seats)
-          (turn_of_seats s u v xs es h e (seat_of p) (seat_of q) stands among seated acts);
-      happens = subst (λ ys. HappensBy s h e (world_by u xs es) (world_by v ys (es ++ option_to_list e))) (sym seats) (happens_at_seat s u v xs es h e (seat_of p) (seat_of q) stands among seated acts);
+      turn = subst (λ ys. Turn s (schedule_by u xs es) h (schedule_by v ys (es ++ option_to_list e))) (sym participations)
+          (turn_of_seats s u v xs es h e (participation_of p) (participation_of q) stands among seated acts);
+      happens = subst (λ ys. HappensBy s h e (world_by u xs es) (world_by v ys (es ++ option_to_list e))) (sym participations) (happens_at_seat s u v xs es h e (participation_of p) (participation_of q) stands among seated acts);
       stands = record {
         hosts = hosts ∙ stands.hosts;
-        tasks = ap (map (λ x. is_free x.control)) seats
-            ∙ (map-set_same (λ x. is_free x.control) xs h (seat_of q) (seat_of p) (free ∙ ap (λ x. is_free x.control) (sym seated)) ∙ stands.tasks);
+        tasks = ap (map (λ x. is_free x.control)) participations
+            ∙ (map-set_same (λ x. is_free x.control) xs h (participation_of q) (participation_of p) (free ∙ ap (λ x. is_free x.control) (sym seated)) ∙ stands.tasks);
       };
     }
 
@@ -167,16 +167,16 @@ pub length-parts : (p : Parts) → length (scenario_of p).nexuses ≡ length p.n
 unfolding scenario_of
 length-parts p = length-map p.nexuses.items nexus_of
 
-pub turn_made : (p q : Parts) (u v : UnitState) (ps : List Player) (es fs : List Entry) (h i : ℕ) (e : Option Entry) (n : NexusPart) (x y : Player)
-    → StandsFor (scenario_of p) u (map seat_of ps) → h < length (scenario_of p).nexuses → q ≡ p → i ≡ h → n ≡ get_or q.nexuses.items i n → x ≡ get_or ps i x
-    → Acts n.role.clauses.items h (seat_of x) u e (seat_of y) v → v.registry.hosts ≡ u.registry.hosts → fs ≡ es ++ option_to_list e
+pub turn_made : (p q : Parts) (u v : UnitState) (ps : List Participant) (es fs : List Entry) (h i : ℕ) (e : Option Entry) (n : NexusPart) (x y : Participant)
+    → StandsFor (scenario_of p) u (map participation_of ps) → h < length (scenario_of p).nexuses → q ≡ p → i ≡ h → n ≡ get_or q.nexuses.items i n → x ≡ get_or ps i x
+    → Acts n.role.clauses.items h (participation_of x) u e (participation_of y) v → v.registry.hosts ≡ u.registry.hosts → fs ≡ es ++ option_to_list e
     → IsTurned (scenario_of p) u ps es h e v (slice_set ps i y) fs
-turn_made p q u v ps es fs h i e n x y stands there same at nexus seat acts hosts added =
+turn_made p q u v ps es fs h i e n x y stands there same at nexus participation acts hosts added =
     let named = nexus ∙ (ap (λ r. get_or r.nexuses.items i n) same ∙ ap (λ j. get_or p.nexuses.items j n) at) in
-    let acting = subst (λ clauses. Acts clauses h (seat_of x) u e (seat_of y) v) (role_at p h n there named) acts in
+    let acting = subst (λ clauses. Acts clauses h (participation_of x) u e (participation_of y) v) (role_at p h n there named) acts in
     subst (λ j. IsTurned (scenario_of p) u ps es h e v (slice_set ps j y) fs) (sym at)
     (subst (λ gs. IsTurned (scenario_of p) u ps es h e v (slice_set ps h y) gs) (sym added)
-    (turned (scenario_of p) u v ps es h e x y stands there (sym (seat ∙ ap (λ j. get_or ps j x) at)) acting hosts))
+    (turned (scenario_of p) u v ps es h e x y stands there (sym (participation ∙ ap (λ j. get_or ps j x) at)) acting hosts))
 
 pub nexus_within : (p q : Parts) (h i : ℕ) → h < length (scenario_of p).nexuses → q ≡ p → i ≡ h → i < vec_len q.nexuses
 nexus_within p q h i there same at =
@@ -185,9 +185,9 @@ nexus_within p q h i there same at =
     let len = q.nexuses.ok.0 in
     omega arith
 
-pub player_within : (s : Scenario) (u : UnitState) (ps : Vec Player Global) (h i : ℕ) → StandsFor s u (map seat_of ps.items) → h < length s.nexuses → i ≡ h → i < vec_len ps
+pub player_within : (s : Scenario) (u : UnitState) (ps : Vec Participant Global) (h i : ℕ) → StandsFor s u (map participation_of ps.items) → h < length s.nexuses → i ≡ h → i < vec_len ps
 player_within s u ps h i stands there at =
-    let players = length-players s u ps.items stands in
+    let participants = length-participants s u ps.items stands in
     let len = ps.ok.0 in
     omega arith
 
@@ -205,37 +205,37 @@ sends_entry act.Trapped e is = let bad : Some e ≡ None = is in cc
 sends_entry act.Finished e is = let bad : Some e ≡ None = is in cc
 sends_entry act.Held e is = let bad : Some e ≡ None = is in cc
 
--- what h would do is found at its seat, before its turn
-pub doing_at : (p q : Parts) (u : UnitState) (ps : List Player) (es : List Entry) (h i : ℕ) (d : Doing) (n : NexusPart) (x : Player)
-    → StandsFor (scenario_of p) u (map seat_of ps) → h < length (scenario_of p).nexuses → q ≡ p → i ≡ h → n ≡ get_or q.nexuses.items i n → x ≡ get_or ps i x
-    → d ≡ does_as (seat_of x).control n.role.clauses.items u h (seat_of x).plan → d ≡ does (scenario_of p) (schedule_by u (map seat_of ps) es) h
-doing_at p q u ps es h i d n x stands there same at nexus seat does_so =
+-- what h would do is found at its participation, before its turn
+pub doing_at : (p q : Parts) (u : UnitState) (ps : List Participant) (es : List Entry) (h i : ℕ) (d : Doing) (n : NexusPart) (x : Participant)
+    → StandsFor (scenario_of p) u (map participation_of ps) → h < length (scenario_of p).nexuses → q ≡ p → i ≡ h → n ≡ get_or q.nexuses.items i n → x ≡ get_or ps i x
+    → d ≡ does_as (participation_of x).control n.role.clauses.items u h (participation_of x).plan → d ≡ does (scenario_of p) (schedule_by u (map participation_of ps) es) h
+doing_at p q u ps es h i d n x stands there same at nexus participation does_so =
     let s = scenario_of p in
-    let xs = map seat_of ps in
+    let xs = map participation_of ps in
     let among : h < length xs = rw (length-tasks s u xs stands) there in
-    let seated : get_or xs h (seat_of x) ≡ seat_of x = get_or-map seat_of ps h x ∙ ap seat_of (sym (seat ∙ ap (λ j. get_or ps j x) at)) in
-    let found = at_seat xs h (seat_of x) among seated in
+    let seated : get_or xs h (participation_of x) ≡ participation_of x = get_or-map participation_of ps h x ∙ ap participation_of (sym (participation ∙ ap (λ j. get_or ps j x) at)) in
+    let found = at_seat xs h (participation_of x) among seated in
     let named = nexus ∙ (ap (λ r. get_or r.nexuses.items i n) same ∙ ap (λ j. get_or p.nexuses.items j n) at) in
-    subst (λ clauses. d ≡ does_as (seat_of x).control clauses u h (seat_of x).plan) (role_at p h n there named) does_so
-    ∙ sym (λ i. does_as (control_at u xs es h (seat_of x) found i) (role s h) u h (plan_at u xs es h (seat_of x) found i))
+    subst (λ clauses. d ≡ does_as (participation_of x).control clauses u h (participation_of x).plan) (role_at p h n there named) does_so
+    ∙ sym (λ i. does_as (control_at u xs es h (participation_of x) found i) (role s h) u h (plan_at u xs es h (participation_of x) found i))
 
--- ---- who is in a seat, as the schedule has it
+-- ---- who is in a participation, as the schedule has it
 
-pub seat_here : (ps : List Player) (h i : ℕ) (x : Player) → h < length ps → i ≡ h → x ≡ get_or ps i x → slice_get (map seat_of ps) h ≡ Some (seat_of x)
-seat_here ps h i x there at seat =
-    slice_get-map seat_of ps h ∙ ap (option_map seat_of) (slice_get-get_or ps h x there ∙ ap Some (sym (seat ∙ ap (λ j. get_or ps j x) at)))
+pub seat_here : (ps : List Participant) (h i : ℕ) (x : Participant) → h < length ps → i ≡ h → x ≡ get_or ps i x → slice_get (map participation_of ps) h ≡ Some (participation_of x)
+seat_here ps h i x there at participation =
+    slice_get-map participation_of ps h ∙ ap (option_map participation_of) (slice_get-get_or ps h x there ∙ ap Some (sym (participation ∙ ap (λ j. get_or ps j x) at)))
 
 -- one that is trapped there is trapped in the schedule
-pub trapped_here : (s : Scenario) (u : UnitState) (ps : List Player) (es : List Entry) (h i : ℕ) (x : Player) → StandsFor s u (map seat_of ps) → h < length s.nexuses → i ≡ h
-    → x ≡ get_or ps i x → IsTrue (is_trapped (seat_of x).control) → IsTrue (is_trapped (control (world_by u (map seat_of ps) es) h))
-trapped_here s u ps es h i x stands there at seat trapped =
-    let found = seat_here ps h i x (rw (length-players s u ps stands) there) at seat in
-    subst (λ k. IsTrue (is_trapped k)) (sym (control_at u (map seat_of ps) es h (seat_of x) found)) trapped
+pub trapped_here : (s : Scenario) (u : UnitState) (ps : List Participant) (es : List Entry) (h i : ℕ) (x : Participant) → StandsFor s u (map participation_of ps) → h < length s.nexuses → i ≡ h
+    → x ≡ get_or ps i x → IsTrue (is_trapped (participation_of x).control) → IsTrue (is_trapped (control (world_by u (map participation_of ps) es) h))
+trapped_here s u ps es h i x stands there at participation trapped =
+    let found = seat_here ps h i x (rw (length-participants s u ps stands) there) at participation in
+    subst (λ k. IsTrue (is_trapped k)) (sym (control_at u (map participation_of ps) es h (participation_of x) found)) trapped
 
 -- its end is that of what the schedule has
-pub end_here : (u : UnitState) (ps : List Player) (es : List Entry) (h i : ℕ) (x : Player) (e : Option Ending) → h < length ps → i ≡ h → x ≡ get_or ps i x
-    → ending (seat_of x).control (seat_of x).plan ≡ e → ending (control (world_by u (map seat_of ps) es) h) (plan (schedule_by u (map seat_of ps) es) h) ≡ e
-end_here u ps es h i x e there at seat is =
-    let xs = map seat_of ps in
-    let found = seat_here ps h i x there at seat in
-    (λ j. ending (control_at u xs es h (seat_of x) found j) (plan_at u xs es h (seat_of x) found j)) ∙ is
+pub end_here : (u : UnitState) (ps : List Participant) (es : List Entry) (h i : ℕ) (x : Participant) (e : Option Ending) → h < length ps → i ≡ h → x ≡ get_or ps i x
+    → ending (participation_of x).control (participation_of x).plan ≡ e → ending (control (world_by u (map participation_of ps) es) h) (plan (schedule_by u (map participation_of ps) es) h) ≡ e
+end_here u ps es h i x e there at participation is =
+    let xs = map participation_of ps in
+    let found = seat_here ps h i x there at participation in
+    (λ j. ending (control_at u xs es h (participation_of x) found j) (plan_at u xs es h (participation_of x) found j)) ∙ is

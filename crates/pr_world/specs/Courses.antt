@@ -14,35 +14,40 @@ use Rattle.pr_roles.specs.Worlds.{World, Event, Happens, Run, Control, Going, Tr
 use Rattle.pr_roles.specs.Starts.{IsAllowedStart, first_state}
 use Rattle.pr_roles.specs.Schedules.{Schedule, ScheduledRun, schedule_from, plan_of}
 use Rattle.pr_world.specs.declared.course.Course.{Course}
-use Rattle.pr_world.specs.declared.player.Player.{Player}
-use Rattle.pr_world.specs.declared.player.Player.TheVariants as player
+use Rattle.pr_world.specs.declared.host_script.HostScript.{HostScript}
+use Rattle.pr_world.specs.declared.host_script.HostScript.TheVariants as script
+use Rattle.pr_world.specs.declared.participant.Participant.{Participant}
+use Rattle.pr_world.specs.declared.participant.Participant.TheVariants as participant
 
 -- what one host or guest does, and what is left of its plan
-pub record Seat : Type 0 where
+pub record Participation : Type 0 where
   pub control : Control
   pub plan : List Command
 
-abbrev pub seat : Control → List Command → Seat
-seat k plan = record { control = k; plan = plan }
+abbrev pub participation : Control → List Command → Participation
+participation k plan = record { control = k; plan = plan }
 
-abbrev pub seat_of : Player → Seat
-seat_of (player.Host l) = seat (Going l) []
-seat_of (player.Trapped line) = seat (Trapped line) []
-seat_of (player.Guest plan) = seat Free plan.commands.items
+abbrev pub control_in : HostScript → Control
+control_in (script.Going l) = Going l
+control_in (script.Trapped line) = Trapped line
+
+abbrev pub participation_of : Participant → Participation
+participation_of (participant.Host it) = participation (control_in it) []
+participation_of (participant.Guest plan) = participation Free plan.commands.items
 
 -- at the beginning
-abbrev pub seat_from : Task → Seat
-seat_from task = seat (control_of task) (plan_of task)
+abbrev pub participation_from : Task → Participation
+participation_from task = participation (control_of task) (plan_of task)
 
 -- the script and the plan are no longer than those that a text can have
 abbrev pub IsShort : Task → Type 0
 IsShort (Scripted script budget) = depth_of_all script ≤ 8
 IsShort (Planned commands) = length commands ≤ 256
 
-abbrev pub schedule_by : UnitState → List Seat → List Entry → Schedule
-schedule_by unit seats entries = record {
-  world = record { unit = unit; controls = map (λ s. s.control) seats; entries = entries };
-  plans = map (λ s. s.plan) seats;
+abbrev pub schedule_by : UnitState → List Participation → List Entry → Schedule
+schedule_by unit participations entries = record {
+  world = record { unit = unit; controls = map (λ s. s.control) participations; entries = entries };
+  plans = map (λ s. s.plan) participations;
 }
 
 -- The command of h was spelled, executed and answered, by whichever of the attentions that may be reported; what was
@@ -79,12 +84,12 @@ HappensBy s h None w v = v ≡ w
 HappensBy s h (Some e) w v = IsOneEvent s h e w v
 
 -- there is one host or guest for each that the scenario declares, and just the guests have plans
-pub record StandsFor (s : Scenario) (u : UnitState) (seats : List Seat) : Type 0 where
+pub record StandsFor (s : Scenario) (u : UnitState) (participations : List Participation) : Type 0 where
   pub hosts : u.registry.hosts ≡ length s.nexuses
-  pub tasks : map (λ x. is_free x.control) seats ≡ map (λ n. is_planned n.task) s.nexuses
+  pub tasks : map (λ x. is_free x.control) participations ≡ map (λ n. is_planned n.task) s.nexuses
 
 abbrev pub schedule_of : Course → Schedule
-schedule_of c = schedule_by c.unit (map seat_of c.players.items) c.entries.items
+schedule_of c = schedule_by c.unit (map participation_of c.participants.items) c.entries.items
 
 -- The turns of these steps led here from the first start, which the scenario allows. The history is that of a run,
 -- which leads from that start to the present world.

@@ -39,4 +39,6 @@ endings (k ∷ ks) (plan ∷ plans) = ending k plan ∷ endings ks plans
 
 abbrev pub is_trapped_end : End → Bool
 is_trapped_end (end.Trapped line) = true
-is_trapped_end _ = false
+is_trapped_end (end.Stopped word) = false
+is_trapped_end (end.Ready line) = false
+is_trapped_end (end.Left planned) = false

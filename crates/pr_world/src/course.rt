@@ -5,14 +5,14 @@ ghost use Rattle.std.specs.List.{range_with_len};
 ghost use Rattle.pr_roles.specs.Scenarios.{scenario_of};
 ghost use Rattle.pr_roles.specs.Schedules.{Turn, plan};
 ghost use Rattle.pr_roles.specs.Worlds.{control, is_trapped, sent};
-ghost use Rattle.pr_world.specs.Courses.{seat_of, seat_from, schedule_of, HappensBy, IsReached, StandsFor};
+ghost use Rattle.pr_world.specs.Courses.{participation_of, participation_from, schedule_of, HappensBy, IsReached, StandsFor};
 ghost use Rattle.pr_world.specs.inside.Turns.{seen as act_seen, sends, does, entry_in};
 ghost use Rattle.pr_world.specs.Ends.{seen, ending};
 ghost use Rattle.pr_world.specs.Replays.{IsEndOf};
 
 use crate::act::Act;
 use crate::end::End;
-use crate::player::Player;
+use crate::participant::Participant;
 use crate::replaying::Replayed;
 use pr_roles::{Entry, Scenario, first_start};
 use pr_unit::Unit;
@@ -22,7 +22,7 @@ use std::alloc::{AllocError, Global};
 #[derive(Debug, Drop)]
 pub(crate) struct Course {
     pub(crate) unit: Unit,
-    players: Vec<Player>,
+    participants: Vec<Participant>,
     pub(crate) entries: Vec<Entry>,
 }
 
@@ -35,13 +35,13 @@ impl Course {
     ) -> Result<Course, AllocError>
         ensures reached { IfOk result (λ course. IsReached (scenario_of scenario.now) [] (schedule_of course)) }
         ensures stands { IfOk result (λ course.
-            StandsFor (scenario_of scenario.now) course.unit (map seat_of course.players.items)) }
+            StandsFor (scenario_of scenario.now) course.unit (map participation_of course.participants.items)) }
         ensures room { IfOk result (λ course.
             (vec_len course.entries ≡ 0) × (vec_capacity course.entries ≡ room)) }
     {
         Ok(Course {
             unit: first_start(scenario),
-            players: players_of(alloc, scenario)?,
+            participants: participants_of(alloc, scenario)?,
             entries: Vec::with_capacity(alloc, room)?,
         })
     }
@@ -50,7 +50,7 @@ impl Course {
     pub(crate) fn turn(&mut self, scenario: &Scenario, host: u8) -> Act
         requires there { host < length (scenario_of scenario.now).nexuses }
         requires stands { StandsFor (scenario_of scenario.now) self.old.unit
-            (map seat_of self.old.players.items) }
+            (map participation_of self.old.participants.items) }
         requires room { does (scenario_of scenario.now) (schedule_of self.old) host ≡ sends
             → vec_len self.old.entries < vec_capacity self.old.entries }
         ensures does { act_seen result
@@ -63,13 +63,13 @@ impl Course {
         ensures reached { (steps : List ℕ) → IsReached (scenario_of scenario.now) steps (schedule_of self.old)
             → IsReached (scenario_of scenario.now) (steps ++ host ∷ []) (schedule_of self.new) }
         ensures stands { StandsFor (scenario_of scenario.now) self.new.unit
-            (map seat_of self.new.players.items) }
+            (map participation_of self.new.participants.items) }
         ensures length { vec_len self.new.entries ≤ vec_len self.old.entries + 1 }
         ensures room { vec_capacity self.new.entries ≡ vec_capacity self.old.entries }
     {
         let index = usize::from(host);
         let role = &scenario.parts().nexuses[index].role;
-        let act = self.players[index].act(&mut self.unit, role, host);
+        let act = self.participants[index].act(&mut self.unit, role, host);
         if let Some(entry) = act.entry() {
             self.entries.push_reserved(entry.copy());
         }
@@ -78,11 +78,11 @@ impl Course {
 
     /// How the host or guest stands.
     pub(crate) fn end(&self, host: u8) -> End
-        requires { host < vec_len self.now.players }
+        requires { host < vec_len self.now.participants }
         ensures { ending (control (schedule_of self.now).world host) (plan (schedule_of self.now) host)
             ≡ Some (seen result) }
     {
-        self.players[usize::from(host)].end()
+        self.participants[usize::from(host)].end()
     }
 
     /// The commands that were sent, in order, and the unit.
@@ -98,8 +98,8 @@ impl Course {
         requires { vec_len self.entries < 2 ^ 32 }
         ensures { IfOk result (IsEndOf (schedule_of self)) }
     {
-        let ends = ends_of(alloc, &self.players)?;
-        let counts = counts_of(alloc, &self.entries, self.players.len())?;
+        let ends = ends_of(alloc, &self.participants)?;
+        let counts = counts_of(alloc, &self.entries, self.participants.len())?;
         Ok(Replayed {
             entries: self.entries,
             unit: self.unit,
@@ -111,38 +111,38 @@ impl Course {
 
 // Each host and guest at its beginning.
 #[tactic(auto, unfolding(pr_roles::specs::Scenarios::scenario_of))]
-fn players_of(alloc: Global, scenario: &Scenario) -> Result<Vec<Player>, AllocError>
-    ensures { IfOk result (λ players.
-        map seat_of players.items ≡ map (λ n. seat_from n.task) (scenario_of scenario.now).nexuses) }
+fn participants_of(alloc: Global, scenario: &Scenario) -> Result<Vec<Participant>, AllocError>
+    ensures { IfOk result (λ participants.
+        map participation_of participants.items ≡ map (λ n. participation_from n.task) (scenario_of scenario.now).nexuses) }
 {
     let nexuses = &scenario.parts().nexuses;
-    let mut players = Vec::with_capacity(alloc, nexuses.len())?;
+    let mut participants = Vec::with_capacity(alloc, nexuses.len())?;
     for nexus in nexuses {
-        players.push(Player::new(alloc, nexus)?)?;
+        participants.push(Participant::new(alloc, nexus)?)?;
     }
-    Ok(players)
+    Ok(participants)
 }
 
 // How each stands.
-fn ends_of(alloc: Global, players: &[Player]) -> Result<Vec<End>, AllocError>
+fn ends_of(alloc: Global, participants: &[Participant]) -> Result<Vec<End>, AllocError>
     ensures { IfOk result (λ ends. map (λ e. Some (seen e)) ends.items
-        ≡ map (λ p. ending (seat_of p).control (seat_of p).plan) players.now) }
+        ≡ map (λ p. ending (participation_of p).control (participation_of p).plan) participants.now) }
 {
-    let mut ends = Vec::with_capacity(alloc, players.len())?;
-    for player in players {
-        ends.push(player.end())?;
+    let mut ends = Vec::with_capacity(alloc, participants.len())?;
+    for participant in participants {
+        ends.push(participant.end())?;
     }
     Ok(ends)
 }
 
 // How many commands of each reached the unit.
-fn counts_of(alloc: Global, entries: &[Entry], players: usize) -> Result<Vec<u32>, AllocError>
+fn counts_of(alloc: Global, entries: &[Entry], participants: usize) -> Result<Vec<u32>, AllocError>
     requires { length entries.now < 2 ^ 32 }
     ensures { IfOk result (λ counts.
-        counts.items ≡ map (λ h. sent entries.now h) (range_with_len 0 players)) }
+        counts.items ≡ map (λ h. sent entries.now h) (range_with_len 0 participants)) }
 {
-    let mut counts = Vec::with_capacity(alloc, players)?;
-    for host in 0..players {
+    let mut counts = Vec::with_capacity(alloc, participants)?;
+    for host in 0..participants {
         counts.push(sent(entries, host))?;
     }
     Ok(counts)

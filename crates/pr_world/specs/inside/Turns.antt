@@ -2,7 +2,9 @@
 use Rattle.std.specs.Prelude.{◌≡◌, ℕ, Bool, true, false, if◌then◌else◌, List, [], ◌∷◌, Option, Some, None}
 use Rattle.pr_cdb.specs.declared.command.Command.{Command}
 use Rattle.pr_unit.specs.UnitStates.{UnitState}
-use Rattle.pr_script.specs.Scripts.{Standing, ready, stopped}
+use Rattle.pr_script.specs.declared.next.Next.{Next}
+use Rattle.pr_script.specs.Scripts.{Standing, ready, stopped, is_ready}
+use Rattle.pr_script.specs.Next.{is_send}
 use Rattle.pr_roles.specs.declared.role.Clause.{Clause}
 use Rattle.pr_roles.specs.declared.entry.Entry.{Entry}
 use Rattle.pr_roles.specs.Scenarios.{Scenario, role}
@@ -10,7 +12,7 @@ use Rattle.pr_roles.specs.Worlds.{Control, Going, Trapped, Free, control, standi
 use Rattle.pr_roles.specs.Schedules.{Schedule, plan, is_held_back}
 use Rattle.pr_world.specs.declared.act.Act.{Act}
 use Rattle.pr_world.specs.declared.act.Act.TheVariants as act
-use Rattle.pr_world.specs.Courses.{Seat, seat, IsSentHere}
+use Rattle.pr_world.specs.Courses.{Participation, participation, IsSentHere}
 
 -- ---- which of the things that there are to do
 
@@ -50,6 +52,16 @@ does_as Free clauses u h planned = guest_does clauses u h planned
 abbrev pub does : Scenario → Schedule → ℕ → Doing
 does s x h = does_as (control x.world h) (role s h) x.world.unit h (plan x h)
 
+-- the script's next is a send
+abbrev pub is_sending : Control → Bool
+is_sending (Going l) = is_ready l
+is_sending (Trapped line) = false
+is_sending Free = false
+
+abbrev pub sends_next : Option Next → Bool
+sends_next None = false
+sends_next (Some next) = is_send next
+
 -- ---- and what comes of it
 
 -- the entry that was sent, if one was
@@ -61,12 +73,12 @@ entry_in act.Finished = None
 entry_in act.Held = None
 
 -- the unit stays as it is, and so does who acts
-abbrev pub Rests : UnitState → Seat → Seat → UnitState → Type 0
+abbrev pub Rests : UnitState → Participation → Participation → UnitState → Type 0
 Rests u x y v = (y ≡ x) × (v ≡ u)
 
 -- a host sends its command where it is ready, and takes the reply
-abbrev pub HostActs : Option Standing → ℕ → Seat → UnitState → Option Entry → Seat → UnitState → Type 0
-HostActs (Some (ready line c)) h x u (Some e) y v = IsSentHere u h c e v × (y ≡ seat (taken line x.control e.reply) x.plan)
+abbrev pub HostActs : Option Standing → ℕ → Participation → UnitState → Option Entry → Participation → UnitState → Type 0
+HostActs (Some (ready line c)) h x u (Some e) y v = IsSentHere u h c e v × (y ≡ participation (taken line x.control e.reply) x.plan)
 HostActs (Some (ready line c)) h x u None y v = ⊥
 HostActs (Some (stopped word)) h x u (Some e) y v = ⊥
 HostActs (Some (stopped word)) h x u None y v = Rests u x y v
@@ -80,15 +92,15 @@ SendsOr true h u c None v = v ≡ u
 SendsOr false h u c (Some e) v = IsSentHere u h c e v
 SendsOr false h u c None v = ⊥
 
-abbrev pub GuestActs : List Clause → ℕ → List Command → UnitState → Option Entry → Seat → UnitState → Type 0
+abbrev pub GuestActs : List Clause → ℕ → List Command → UnitState → Option Entry → Participation → UnitState → Type 0
 GuestActs clauses h [] u (Some e) y v = ⊥
-GuestActs clauses h [] u None y v = Rests u (seat Free []) y v
-GuestActs clauses h (c ∷ cs) u e y v = SendsOr (is_held_back clauses u h c) h u c e v × (y ≡ seat Free cs)
+GuestActs clauses h [] u None y v = Rests u (participation Free []) y v
+GuestActs clauses h (c ∷ cs) u e y v = SendsOr (is_held_back clauses u h c) h u c e v × (y ≡ participation Free cs)
 
-abbrev pub ActsAs : Control → List Clause → ℕ → Seat → UnitState → Option Entry → Seat → UnitState → Type 0
+abbrev pub ActsAs : Control → List Clause → ℕ → Participation → UnitState → Option Entry → Participation → UnitState → Type 0
 ActsAs (Going l) clauses h x u e y v = HostActs (standing_of (Going l)) h x u e y v
 ActsAs (Trapped line) clauses h x u e y v = HostActs None h x u e y v
 ActsAs Free clauses h x u e y v = GuestActs clauses h x.plan u e y v
 
-abbrev pub Acts : List Clause → ℕ → Seat → UnitState → Option Entry → Seat → UnitState → Type 0
+abbrev pub Acts : List Clause → ℕ → Participation → UnitState → Option Entry → Participation → UnitState → Type 0
 Acts clauses h x u e y v = ActsAs x.control clauses h x u e y v

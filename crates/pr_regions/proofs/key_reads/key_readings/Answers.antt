@@ -1,7 +1,7 @@
 use Rattle.std.proofs.Common.{◌<◌, length, ◌∙◌, length-append, arith}
 use Rattle.std.proofs.lemmas.List.Elements.{All-push}
 use Rattle.pr_cdb.specs.declared.command.Command.TheVariants.{ReadKeys}
-use Rattle.pr_script.specs.Grammar.{written_length}
+use Rattle.pr_script.specs.declared.grammar.TheConstants.{WRITTEN_LENGTH}
 use Rattle.pr_regions.specs.Readings.{IsProperReading}
 use Rattle.pr_regions.proofs.Choosing.{none_is_not}
 use Rattle.pr_regions.proofs.Arms.{read_alike, so_far_skip, so_far_more, read_always, read_by_none}
@@ -12,7 +12,7 @@ pub returns-in-Always-clause-right : goal.returns-in-Always-clause-right
 returns-in-Always-clause-right c hosts held sender =
     let small : c.loop-arm.arm < length c.args.tests.now = omega arith in
     rw c.push.ensures.items (rw c.open_to.ensures (
-    read_always c.args.keys.now hosts held sender c.args.registration (ReadKeys written_length) c.args.tests.now c.loop-arm.arm c.loop-arm.readings.items c.loop-arm.left _
+    read_always c.args.keys.now hosts held sender c.args.registration (ReadKeys WRITTEN_LENGTH) c.args.tests.now c.loop-arm.arm c.loop-arm.readings.items c.loop-arm.left _
     (c.loop-arm.invariant.so_far hosts held sender) small (read_alike c.args.tests.now c.loop-arm.arm _ _ small) (c.in-Always.ensures.asked hosts held sender)))
 
 pub loop-arm-preserved : goal.loop-arm-preserved
@@ -23,7 +23,7 @@ loop-arm-preserved c =
         few = rw w.readings-is (let most = c.loop-arm.invariant.few in omega arith);
         so_far = λ hosts held sender.
             rw (w.readings-is, w.left-is) (
-            so_far_skip c.args.keys.now hosts held sender c.args.registration (ReadKeys written_length) c.args.tests.now c.loop-arm.arm c.loop-arm.readings.items c.loop-arm.left _
+            so_far_skip c.args.keys.now hosts held sender c.args.registration (ReadKeys WRITTEN_LENGTH) c.args.tests.now c.loop-arm.arm c.loop-arm.readings.items c.loop-arm.left _
             (c.loop-arm.invariant.so_far hosts held sender) small (read_alike c.args.tests.now c.loop-arm.arm _ _ small) (w.in-Never.ensures.asked hosts held sender));
         proper = rw w.readings-is c.loop-arm.invariant.proper;
       }
@@ -31,7 +31,7 @@ loop-arm-preserved c =
         few = rw (w.readings-is, w.push-in-Somebody.ensures.items) (simp length-append (let most = c.loop-arm.invariant.few in omega arith));
         so_far = λ hosts held sender.
             rw (w.readings-is, w.left-is, w.push-in-Somebody.ensures.items, w.open_to-in-Somebody.ensures) (
-            so_far_more c.args.keys.now hosts held sender c.args.registration (ReadKeys written_length) c.args.tests.now c.loop-arm.arm c.loop-arm.readings.items c.loop-arm.left w.only.result w.without-left.result _
+            so_far_more c.args.keys.now hosts held sender c.args.registration (ReadKeys WRITTEN_LENGTH) c.args.tests.now c.loop-arm.arm c.loop-arm.readings.items c.loop-arm.left w.only.result w.without-left.result _
             w.in-Somebody.key (c.loop-arm.invariant.so_far hosts held sender) small (read_alike c.args.tests.now c.loop-arm.arm _ _ small) (w.in-Somebody.ensures.asked hosts held sender)
             (λ r few. w.only.ensures r) w.without-left.ensures);
         proper = rw (w.readings-is, w.push-in-Somebody.ensures.items) (All-push IsProperReading c.loop-arm.readings.items _ c.loop-arm.invariant.proper (w.only.ensures 0 ∙ none_is_not w.in-Somebody.key w.in-Somebody.ensures.small.0));
@@ -41,5 +41,5 @@ loop-arm-preserved c =
 pub returns-clause-right : goal.returns-clause-right
 returns-clause-right c hosts held sender =
     rw c.push-2.ensures.items (rw c.open_to-2.ensures (
-    read_by_none c.args.keys.now hosts held sender c.args.registration (ReadKeys written_length) c.args.tests.now c.loop-arm.arm c.loop-arm.readings.items c.loop-arm.left
+    read_by_none c.args.keys.now hosts held sender c.args.registration (ReadKeys WRITTEN_LENGTH) c.args.tests.now c.loop-arm.arm c.loop-arm.readings.items c.loop-arm.left
     (c.loop-arm.invariant.so_far hosts held sender) (omega arith)))

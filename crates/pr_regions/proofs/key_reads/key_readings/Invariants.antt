@@ -1,7 +1,7 @@
 use Rattle.std.proofs.Common.{ℕ, Option, length, ◌≤◌}
 use Rattle.pr_cdb.specs.declared.command.Command.TheVariants.{ReadKeys}
 use Rattle.pr_registry.specs.declared.held.Held.{Held}
-use Rattle.pr_script.specs.Grammar.{written_length}
+use Rattle.pr_script.specs.declared.grammar.TheConstants.{WRITTEN_LENGTH}
 use Rattle.std.specs.List.{All}
 use Rattle.pr_regions.specs.Readings.{IsProperReading}
 use Rattle.pr_regions.specs.inside.Reads.{AreReadSoFar}
@@ -10,6 +10,6 @@ use Rattle.pr_regions.proofs.key_reads.key_readings.Given as goal
 abbrev pub invariant-loop-arm : goal.invariant-loop-arm
 invariant-loop-arm l = record {
   few : length l.readings.items ≤ l.arm;
-  so_far : (hosts : ℕ) (held : Option Held) (sender : ℕ) → AreReadSoFar l.keys hosts held sender l.registration (ReadKeys written_length) l.tests l.arm l.readings.items l.left;
+  so_far : (hosts : ℕ) (held : Option Held) (sender : ℕ) → AreReadSoFar l.keys hosts held sender l.registration (ReadKeys WRITTEN_LENGTH) l.tests l.arm l.readings.items l.left;
   proper : All IsProperReading l.readings.items;
 }

@@ -1,5 +1,5 @@
 use Rattle.pr_world.proofs.Beginning.{short_at}
-use Rattle.pr_world.proofs.course.players_of.Goals as goal
+use Rattle.pr_world.proofs.course.participants_of.Goals as goal
 
 pub new-requires : goal.new-requires
 new-requires c =

@@ -2,7 +2,7 @@
 
 ghost use Rattle.std.specs.Prelude.{◌≡◌, ◌<◌, Some, IfOk, IsTrue};
 ghost use Rattle.pr_roles.specs.Scenarios.{task_of};
-ghost use Rattle.pr_world.specs.Courses.{seat_of, seat_from, IsShort, IsSentHere};
+ghost use Rattle.pr_world.specs.Courses.{participation_of, participation_from, IsShort, IsSentHere};
 ghost use Rattle.pr_world.specs.Ends.{ending, seen};
 ghost use Rattle.pr_roles.specs.Worlds.{is_trapped};
 ghost use Rattle.pr_roles.specs.Schedules.{is_held_back};
@@ -10,62 +10,54 @@ ghost use Rattle.pr_world.specs.inside.Turns.{Acts, entry_in, seen as act_seen, 
 
 use crate::act::Act;
 use crate::end::End;
+use crate::host_script::HostScript;
 use crate::plan::Plan;
 use pr_cdb::{Command, encode};
 use pr_roles::{Entry, Nexus, Role, Task, permits};
-use pr_script::{Machine, Next};
+use pr_script::Next;
 use pr_unit::Unit;
 use std::alloc::{AllocError, Global};
 
 /// A host or guest at work.
 #[derive(Debug, Drop)]
-pub(crate) enum Player {
-    /// The host's script goes on.
-    Host(Machine),
-
-    /// The host's script met a reply without an arm, at the send of this line.
-    Trapped(u32),
-
-    /// The guest has a plan.
+pub(crate) enum Participant {
+    Host(HostScript),
     Guest(Plan),
 }
 
-impl Player {
+impl Participant {
     /// The host or guest at its beginning.
-    pub(crate) fn new(alloc: Global, nexus: &Nexus) -> Result<Player, AllocError>
+    pub(crate) fn new(alloc: Global, nexus: &Nexus) -> Result<Participant, AllocError>
         requires { IsShort (task_of nexus.now.task) }
-        ensures { IfOk result (λ player. seat_of player ≡ seat_from (task_of nexus.now.task)) }
+        ensures { IfOk result (λ participant. participation_of participant ≡ participation_from (task_of nexus.now.task)) }
     {
         match &nexus.task {
-            Task::Scripted { script, .. } => Ok(Player::Host(Machine::new(alloc, script)?)),
-            Task::Planned(commands) => Ok(Player::Guest(Plan::new(alloc, commands)?)),
+            Task::Scripted { script, .. } => Ok(Participant::Host(HostScript::new(alloc, script)?)),
+            Task::Planned(commands) => Ok(Participant::Guest(Plan::new(alloc, commands)?)),
         }
     }
 
     /// Takes its turn, and answers what it did.
     pub(crate) fn act(&mut self, unit: &mut Unit, role: &Role, host: u8) -> Act
         requires { host < unit.old.registry.hosts }
-        ensures does { act_seen result ≡ does_as (seat_of self.old).control
-            role.now.clauses.items unit.old host (seat_of self.old).plan }
+        ensures does { act_seen result ≡ does_as (participation_of self.old).control
+            role.now.clauses.items unit.old host (participation_of self.old).plan }
         ensures acts { Acts role.now.clauses.items host
-            (seat_of self.old) unit.old (entry_in result) (seat_of self.new) unit.new }
-        ensures trapped { result ≡ Act.Trapped → IsTrue (is_trapped (seat_of self.old).control) }
+            (participation_of self.old) unit.old (entry_in result) (participation_of self.new) unit.new }
+        ensures trapped { result ≡ Act.Trapped → IsTrue (is_trapped (participation_of self.old).control) }
         ensures hosts { unit.new.registry.hosts ≡ unit.old.registry.hosts }
     {
         match self {
-            Player::Host(machine) => {
-                let (line, command) = match machine.next() {
-                    Next::Send { line, command } => (line, command),
-                    Next::Stopped(word) => return Act::Stopped(word),
-                };
-                let entry = sent(unit, host, command);
-                if machine.take(&entry.reply).is_err() {
-                    *self = Player::Trapped(line);
+            Participant::Host(script) => match script.next() {
+                Some(Next::Send { line, command }) => {
+                    let entry = sent(unit, host, command);
+                    script.take(line, &entry.reply);
+                    Act::Sent(entry)
                 }
-                Act::Sent(entry)
-            }
-            Player::Trapped(_) => Act::Trapped,
-            Player::Guest(plan) => {
+                Some(Next::Stopped(word)) => Act::Stopped(word),
+                None => Act::Trapped,
+            },
+            Participant::Guest(plan) => {
                 let Some(command) = plan.next() else {
                     return Act::Finished;
                 };
@@ -79,15 +71,11 @@ impl Player {
 
     /// How it stands.
     pub(crate) fn end(&self) -> End
-        ensures { ending (seat_of self.now).control (seat_of self.now).plan ≡ Some (seen result) }
+        ensures { ending (participation_of self.now).control (participation_of self.now).plan ≡ Some (seen result) }
     {
         match self {
-            Player::Host(machine) => match machine.next() {
-                Next::Send { line, .. } => End::Ready(line),
-                Next::Stopped(word) => End::Stopped(word),
-            },
-            Player::Trapped(line) => End::Trapped(*line),
-            Player::Guest(plan) => End::Left(plan.left()),
+            Participant::Host(script) => script.end(),
+            Participant::Guest(plan) => End::Left(plan.left()),
         }
     }
 }

@@ -1,9 +1,0 @@
-use Rattle.std.proofs.Common.{◌≡◌, take}
-use Rattle.std.specs.Prelude.{map}
-use Rattle.pr_roles.specs.Scenarios.{nexus_of}
-use Rattle.pr_world.specs.Courses.{seat_of, seat_from}
-use Rattle.pr_world.proofs.course.players_of.Given as goal
-
--- those before this one are at their beginning
-abbrev pub invariant-loop-nexus : goal.invariant-loop-nexus
-invariant-loop-nexus l = map seat_of l.players.items ≡ map (λ n. seat_from n.task) (map nexus_of (take l.nexus-index l.nexus-items))
