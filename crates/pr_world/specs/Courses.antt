@@ -6,7 +6,7 @@ use Rattle.pr_cdb.specs.declared.wire.Request.TheVariants.{Plain}
 use Rattle.pr_cdb.specs.Requests.{plain, requested}
 use Rattle.pr_cdb.specs.Spelling.{spelling}
 use Rattle.pr_unit.specs.UnitStates.{UnitState}
-use Rattle.pr_unit.specs.Steps.{Step, LowestBy, line}
+use Rattle.pr_unit.specs.Steps.{Step, LowestBy, decision}
 use Rattle.pr_script.specs.Depths.{depth_of_all}
 use Rattle.pr_roles.specs.declared.entry.Entry.{Entry}
 use Rattle.pr_roles.specs.Scenarios.{Scenario, Task, Scripted, Planned}
@@ -60,7 +60,7 @@ pub record IsSent (u : UnitState) (h : ℕ) (c : Command) (e : Entry) (v : UnitS
 -- the same by this unit, which reports the lowest code where it may choose
 pub record IsSentHere (u : UnitState) (h : ℕ) (c : Command) (e : Entry) (v : UnitState) : Type 0 where
   pub sent : IsSent u h c e v
-  pub lowest : LowestBy (line u h (Plain c)) u h (Plain c) e.reply
+  pub lowest : LowestBy (decision u h (Plain c)) u h (Plain c) e.reply
 
 abbrev pub is_free : Control → Bool
 is_free (Going l) = false
