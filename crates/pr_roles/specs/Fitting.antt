@@ -2,6 +2,7 @@
 -- Which parts make a scenario: the limits, and the conditions of its text.
 use Rattle.std.specs.Prelude.{ℕ, Bool, true, false, ◌==◌, ◌&&◌, not, nat_lt, nat_le, IsTrue, List, [], ◌∷◌, Option, Some, None, length, map, bytes_eq}
 use Rattle.std.specs.List.{All, list_any, list_all}
+use Rattle.pr_cdb.specs.declared.codes.TheConstants.{MOST_NEXUSES}
 use Rattle.pr_registry.specs.declared.held.Held.{Held}
 use Rattle.pr_registry.specs.declared.held.Held.TheVariants.{One, All as Everybody}
 use Rattle.pr_registry.specs.Registrations.{IsKey, is_all}
@@ -85,10 +86,10 @@ pub record AreDeclared (keys : List ℕ) : Type 0 where
   pub each : All IsKey keys
   pub once : IsTrue (nat_le (length keys) MOST_KEYS && are_distinct (λ j k. j == k) keys)
 
--- 1 to 8 hosts and guests, each with a name of its own
+-- one host or guest at least, and not too many, each with a name of its own
 abbrev pub are_nexuses : List ℕ → List Nexus → Bool
 are_nexuses keys nexuses =
-    not (length nexuses == 0) && (nat_le (length nexuses) 8
+    not (length nexuses == 0) && (nat_le (length nexuses) MOST_NEXUSES
     && (are_distinct bytes_eq (map (λ n. n.name) nexuses) && list_all (is_nexus keys) nexuses))
 
 -- The parts can be those of a text: each limit is kept, and each key that is written is declared.

@@ -2,6 +2,7 @@
 
 ghost use Rattle.std.specs.Prelude.{◌≡◌, ◌↔◌, ◌<◌, ◌≤◌, ◌^◌, Some, IsSome, IfSome, slice_set, length, is_some, map, option_map, position};
 ghost use Rattle.std.specs.List.{list_any};
+ghost use Rattle.pr_cdb.specs.declared.codes.TheConstants.{MOST_NEXUSES};
 ghost use Rattle.pr_registry.specs.Registrations.{IsWellFormed, state_from};
 ghost use Rattle.pr_unit.specs.UnitStates.{quiet};
 ghost use Rattle.pr_roles.specs.Scenarios.{scenario_of};
@@ -10,10 +11,11 @@ ghost use Rattle.pr_roles.specs.Starts.{CanStart, IsAllowedStart, start_of, firs
 
 use crate::parts::{Nexus, Parts, Start};
 use arrayvec::ArrayVec;
+use pr_cdb::codes::MOST_NEXUSES;
 use pr_registry::{Held, Registry};
 
 /// The registration of each nexus, by its number.
-pub(crate) type Keys = ArrayVec<Option<u64>, 8>;
+pub(crate) type Keys = ArrayVec<Option<u64>, MOST_NEXUSES>;
 
 impl Parts {
     /// The registry of the first start: `None` where no state is allowed.
@@ -38,7 +40,7 @@ fn registry_of(keys: &[Option<u64>], held: Option<Held>, generation: u32) -> Opt
 
 // The first of the reservations that can be well formed, with the registrations under it.
 fn first_under(nexuses: &[Nexus], reservations: &[Option<Held>]) -> Option<(Option<Held>, Keys)>
-    requires { length nexuses.now ≤ 8 }
+    requires { length nexuses.now ≤ MOST_NEXUSES }
     ensures { option_map (λ first. (first.0, first.1.items)) result ≡ first_under (map start_of nexuses.now) reservations.now }
 {
     for held in reservations {
@@ -51,7 +53,7 @@ fn first_under(nexuses: &[Nexus], reservations: &[Option<Held>]) -> Option<(Opti
 
 // The registrations under which the reservation is well formed.
 fn keys_under(nexuses: &[Nexus], held: Option<Held>) -> Option<Keys>
-    requires { length nexuses.now ≤ 8 }
+    requires { length nexuses.now ≤ MOST_NEXUSES }
     ensures { option_map (λ keys. keys.items) result ≡ keys_under (map start_of nexuses.now) held }
 {
     let keys = first_keys(nexuses);
@@ -64,7 +66,7 @@ fn keys_under(nexuses: &[Nexus], held: Option<Held>) -> Option<Keys>
 
 // The first alternative of each.
 fn first_keys(nexuses: &[Nexus]) -> Keys
-    requires { length nexuses.now ≤ 8 }
+    requires { length nexuses.now ≤ MOST_NEXUSES }
     ensures { result.items ≡ map first_of (map start_of nexuses.now) }
 {
     let mut keys = Keys::new();

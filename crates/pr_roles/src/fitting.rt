@@ -12,11 +12,10 @@ use crate::parts::{Nexus, Parts, Start, Task};
 use crate::role::{Action, Clause, Role};
 use crate::uniqueness::{are_distinct, are_held_apart};
 use pr_cdb::Command;
+use pr_cdb::codes::MOST_NEXUSES;
 use pr_registry::{Held, is_all};
 use pr_script::limits::MOST_BUDGET;
 use pr_script::{is_declared, is_name, is_written, is_written_key};
-
-const MOST_NEXUSES: usize = 8;
 
 impl Parts {
     /// Whether the parts can be those of a text: every limit is kept, keys are not zero and each that is

@@ -2,15 +2,20 @@
 
 ghost use Rattle.std.specs.Prelude.{◌≡◌, ℕ, ◌<◌, ◌≤◌, List, IfSome, IfNone};
 ghost use Rattle.arrayvec.specs.ArrayVec.{array_vec_len};
+ghost use Rattle.pr_script.specs.declared.limits.TheConstants.{MOST_OPEN};
 ghost use Rattle.pr_script.specs.Scripts.{Stmts, none, before, turn, past_mark, becomes, settled};
 ghost use Rattle.pr_script.specs.inside.Program.{place, meanings, opened, configuration, AreLoops, IsPlaced, IsMachine};
 ghost use Rattle.pr_script.specs.inside.Advances.{Leads};
 
+use crate::limits::MOST_OPEN;
 use crate::rows::{Instruction, Step};
 use arrayvec::ArrayVec;
 
 /// The repeats that are open, the innermost last.
-pub(crate) type Loops = ArrayVec<LoopFrame, 8>;
+pub(crate) type Loops = ArrayVec<LoopFrame, MOST_LOOPS>;
+
+// As many as may be open.
+const MOST_LOOPS: usize = MOST_OPEN as usize;
 
 /// A repeat that is open: how often its body is still to run after this time, where the body begins, and
 /// what follows the repeat.
@@ -67,7 +72,7 @@ fn advance(rows: &[Instruction], at: usize, opens: &mut Loops) -> Option<usize>
 
 // Runs the body once more where it is still to run, and else goes on after the repeat.
 fn repeat_or_exit(again: LoopFrame, opens: &mut Loops) -> usize
-    requires { 0 < again.left → array_vec_len opens.old < 8 }
+    requires { 0 < again.left → array_vec_len opens.old < MOST_OPEN }
     ensures to { (ms : List Stmts) → configuration ms result opens.new.items
         ≡ turn again.left (place ms again.body) (before (place ms again.next) (opened ms opens.old.items)) }
     ensures within { (top : ℕ) → again.body ≤ top → again.next ≤ top → AreLoops top opens.old.items

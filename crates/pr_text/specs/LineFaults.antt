@@ -3,6 +3,9 @@
 use Rattle.std.specs.Prelude.{ℕ, length, Option, if◌then◌else◌, [], Some, None, option_map, Bool, ◌&&◌, is_none, unwrap_or, false, ◌==◌, ◌||◌, not, nat_lt, nat_le, is_some, true, count_by}
 use Rattle.std.specs.List.{list_all}
 use Rattle.pr_roles.specs.Fitting.{are_distinct, is_alternative, is_same_alternative, is_same_reservation, is_action}
+use Rattle.pr_cdb.specs.declared.codes.TheConstants.{MOST_NEXUSES}
+use Rattle.pr_script.specs.declared.limits.TheConstants.{MOST_STATEMENTS, MOST_ARMS, MOST_OPEN, MOST_TURNS, MOST_BUDGET}
+use Rattle.pr_roles.specs.declared.limits.TheConstants.{MOST_KEYS, MOST_CLAUSES, MOST_PLANNED}
 use Rattle.pr_text.specs.declared.fault.Which.{Which}
 use Rattle.pr_text.specs.declared.fault.ReadError.{ReadError}
 use Rattle.pr_text.specs.declared.fault.Which.TheVariants as which
@@ -101,37 +104,37 @@ says_again d break_line = false
 says_again d (stop_line word) = false
 says_again d (command_line s) = false
 
--- eight blocks of this kind are open
+-- as many blocks of this kind are open as may be
 abbrev pub nests : Declared → (Opening → Bool) → Bool
-nests d kind = of_script false (λ o. nat_le 8 (count_by kind o.blocks)) d.place
+nests d kind = of_script false (λ o. nat_le MOST_OPEN (count_by kind o.blocks)) d.place
 
 -- the script has as many statements as it may have, or else there is this limit
 abbrev pub past_size : Declared → Option Which → Option Which
-past_size d other = if of_script false (λ o. nat_le 512 o.statements) d.place then Some which.Statements else other
+past_size d other = if of_script false (λ o. nat_le MOST_STATEMENTS o.statements) d.place then Some which.Statements else other
 
 -- it goes past this limit, the first of them
 abbrev pub past_limit : Declared → Item → Option Which
 past_limit d fence_line = None
-past_limit d (keys_line keys) = if nat_lt 12 (length keys) then Some which.Keys else None
-past_limit d (host_line name) = if nat_le 8 (length d.nexuses) then Some which.Hosts else None
-past_limit d (guest_line name) = if nat_le 8 (length d.nexuses) then Some which.Hosts else None
+past_limit d (keys_line keys) = if nat_lt MOST_KEYS (length keys) then Some which.Keys else None
+past_limit d (host_line name) = if nat_le MOST_NEXUSES (length d.nexuses) then Some which.Hosts else None
+past_limit d (guest_line name) = if nat_le MOST_NEXUSES (length d.nexuses) then Some which.Hosts else None
 past_limit d (start_line name xs) = None
 past_limit d (pending_line name xs) = None
 past_limit d (reservation_line ws) = None
 past_limit d (generation_line g) = None
-past_limit d (role_line name clause) = if holds_of d name (λ x. nat_le 32 (length x.role)) then Some which.Roles else None
-past_limit d (script_line name budget) = if not (nat_le 1 budget && nat_le budget 4096) then Some which.Budget else None
+past_limit d (role_line name clause) = if holds_of d name (λ x. nat_le MOST_CLAUSES (length x.role)) then Some which.Roles else None
+past_limit d (script_line name budget) = if not (nat_le 1 budget && nat_le budget MOST_BUDGET) then Some which.Budget else None
 past_limit d (plan_line name) = None
 past_limit d end_line = None
 past_limit d (send_line s) = past_size d (if nests d is_sending then Some which.Nesting else None)
-past_limit d (on_line t) = if of_script false (λ o. of_send false (λ c arms. nat_le 16 arms) o.blocks) d.place then Some which.Arms else None
+past_limit d (on_line t) = if of_script false (λ o. of_send false (λ c arms. nat_le MOST_ARMS arms) o.blocks) d.place then Some which.Arms else None
 past_limit d done_line = None
 past_limit d (repeat_line count) = past_size d (
     if nests d is_repeating then Some which.Nesting else (
-    if not (nat_le 1 count && nat_le count 1000) then Some which.Repeat else None))
+    if not (nat_le 1 count && nat_le count MOST_TURNS) then Some which.Repeat else None))
 past_limit d break_line = past_size d None
 past_limit d (stop_line word) = past_size d None
-past_limit d (command_line s) = if of_plan false (λ h commands. nat_le 256 (length commands)) d.place then Some which.Plan else None
+past_limit d (command_line s) = if of_plan false (λ h commands. nat_le MOST_PLANNED (length commands)) d.place then Some which.Plan else None
 
 -- the first thing that is wrong with the line of this number
 abbrev pub fault_at : ℕ → Declared → Item → Option ReadError

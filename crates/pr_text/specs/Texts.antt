@@ -5,6 +5,7 @@ use Rattle.std.specs.Option.{option_map_or}
 use Rattle.std.specs.Str.Lines.{lines}
 use Rattle.pr_registry.specs.declared.held.Held.{Held}
 use Rattle.pr_roles.specs.Starts.{first_under}
+use Rattle.pr_text.specs.declared.text.TheConstants.{MOST_BYTES, MOST_LINE_BYTES}
 use Rattle.pr_text.specs.declared.fault.ReadError.{ReadError}
 use Rattle.pr_text.specs.declared.fault.Which.TheVariants as which
 use Rattle.pr_text.specs.declared.fault.ReadError.TheVariants as fault
@@ -29,7 +30,7 @@ worded n (w ∷ ws) d = said_placed n (item_of w ws) d
 unfoldable pub line_placed : ℕ → List ℕ → Declared → Result Declared ReadError
 line_placed n line d =
     if not (is_text line) then Err (fault.NotAscii n) else (
-    if nat_lt 256 (length line) then Err (fault.LineTooLong n) else worded n (words line) d)
+    if nat_lt MOST_LINE_BYTES (length line) then Err (fault.LineTooLong n) else worded n (words line) d)
 
 -- ---- all lines, behind so many others
 
@@ -79,4 +80,4 @@ finished ls = and_then (all_placed 0 ls nothing) (ended (length ls))
 
 -- what a text declares, or its one fault
 unfoldable pub answer_of : List ℕ → Result Declared ReadError
-answer_of text = if nat_lt 65536 (length text) then Err fault.TooLarge else finished (lines text)
+answer_of text = if nat_lt MOST_BYTES (length text) then Err fault.TooLarge else finished (lines text)

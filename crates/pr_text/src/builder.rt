@@ -12,19 +12,13 @@ use crate::spelling::Spelled;
 use crate::uniqueness::are_codes_distinct;
 use pr_attention::Attention;
 use pr_cdb::Command;
+use pr_cdb::codes::MOST_NEXUSES;
 use pr_registry::Held;
+use pr_roles::limits::{MOST_CLAUSES, MOST_KEYS, MOST_PLANNED};
 use pr_roles::{Clause, Task, Word, are_distinct, are_held_apart, is_action};
 use pr_script::Script;
 use std::alloc::{AllocError, Global};
 use std::mem;
-
-const MOST_KEYS: usize = 12;
-
-const MOST_NEXUSES: usize = 8;
-
-const MOST_CLAUSES: usize = 32;
-
-const MOST_PLANNED: usize = 256;
 
 /// Where the next line stands.
 #[derive(Debug, Drop)]

@@ -6,9 +6,8 @@ ghost use Rattle.pr_text.specs.Declaring.{codes_of};
 use crate::fault::{ReadError, Which};
 use pr_attention::{Attention, Pending};
 use pr_roles::{Clause, Task, Word, are_alternatives, are_distinct};
+use pr_script::limits::MOST_BUDGET;
 use std::alloc::Global;
-
-const MOST_BUDGET: u64 = 4096;
 
 /// What is declared of a host or guest so far.
 #[derive(Debug, Drop)]
@@ -72,7 +71,7 @@ impl Draft {
         if self.task.is_some() {
             return Some(ReadError::Repeated { line });
         }
-        if budget < 1 || budget > MOST_BUDGET {
+        if budget < 1 || budget > u64::from(MOST_BUDGET) {
             let which = Which::Budget;
             return Some(ReadError::Limit { which, line });
         }

@@ -13,17 +13,10 @@ use crate::item::Item;
 use crate::spelling::Spelled;
 use pr_cdb::Command;
 use pr_roles::Word;
+use pr_script::limits::{MOST_ARMS, MOST_OPEN, MOST_STATEMENTS, MOST_TURNS};
 use pr_script::{Arm, Script, Statement, Test, is_declared, is_written, is_written_key};
 use std::alloc::{AllocError, Global};
 use std::mem;
-
-const MOST_STATEMENTS: u32 = 512;
-
-const MOST_ARMS: usize = 16;
-
-const MOST_OPEN: usize = 8;
-
-const MOST_TURNS: u64 = 1000;
 
 /// A send that has no arm yet.
 #[derive(Clone, Copy, Debug, PartialEq, Eq)]
@@ -187,7 +180,7 @@ impl OpenScript {
             let which = Which::Statements;
             return Err(ReadError::Limit { which, line });
         }
-        if self.open_sends() >= MOST_OPEN {
+        if self.open_sends() >= MOST_OPEN as usize {
             let which = Which::Nesting;
             return Err(ReadError::Limit { which, line });
         }
@@ -210,11 +203,11 @@ impl OpenScript {
             let which = Which::Statements;
             return Err(ReadError::Limit { which, line });
         }
-        if self.open_repeats() >= MOST_OPEN {
+        if self.open_repeats() >= MOST_OPEN as usize {
             let which = Which::Nesting;
             return Err(ReadError::Limit { which, line });
         }
-        if count < 1 || count > MOST_TURNS {
+        if count < 1 || count > u64::from(MOST_TURNS) {
             let which = Which::Repeat;
             return Err(ReadError::Limit { which, line });
         }

@@ -22,9 +22,11 @@ use pr_roles::Scenario;
 use std::alloc::Global;
 use std::io::Read;
 
-const MOST_BYTES: usize = 65_536;
+/// Bytes of a text.
+pub const MOST_BYTES: usize = 65_536;
 
-const MOST_LINE_BYTES: usize = 256;
+/// Bytes of a line, without its end.
+pub const MOST_LINE_BYTES: usize = 256;
 
 /// The scenario that the text is which `reader` has left, or the text's one fault.
 ///

@@ -7,8 +7,10 @@ use Rattle.pr_cdb.specs.Requests.{plain, requested}
 use Rattle.pr_cdb.specs.Spelling.{spelling}
 use Rattle.pr_unit.specs.UnitStates.{UnitState}
 use Rattle.pr_unit.specs.Steps.{Step, LowestBy, decision}
+use Rattle.pr_script.specs.declared.limits.TheConstants.{MOST_OPEN}
 use Rattle.pr_script.specs.Depths.{depth_of_all}
 use Rattle.pr_roles.specs.declared.entry.Entry.{Entry}
+use Rattle.pr_roles.specs.declared.limits.TheConstants.{MOST_PLANNED}
 use Rattle.pr_roles.specs.Scenarios.{Scenario, Task, Scripted, Planned}
 use Rattle.pr_roles.specs.Worlds.{World, Event, Happens, Run, Control, Going, Trapped, Free, control_of, entry_of, world_from}
 use Rattle.pr_roles.specs.Starts.{IsAllowedStart, first_state}
@@ -41,8 +43,8 @@ participation_from task = participation (control_of task) (plan_of task)
 
 -- the script and the plan are no longer than those that a text can have
 abbrev pub IsShort : Task → Type 0
-IsShort (Scripted script budget) = depth_of_all script ≤ 8
-IsShort (Planned commands) = length commands ≤ 256
+IsShort (Scripted script budget) = depth_of_all script ≤ MOST_OPEN
+IsShort (Planned commands) = length commands ≤ MOST_PLANNED
 
 abbrev pub schedule_by : UnitState → List Participation → List Entry → Schedule
 schedule_by unit participations entries = record {

@@ -1,6 +1,7 @@
 //! A host's script at work, in a turn as in an audit.
 
 ghost use Rattle.std.specs.Prelude.{◌≡◌, ◌≤◌, [], Some, IfOk, IsTrue, option_map};
+ghost use Rattle.pr_script.specs.declared.limits.TheConstants.{MOST_OPEN};
 ghost use Rattle.pr_script.specs.Depths.{depth_of_all};
 ghost use Rattle.pr_script.specs.Scripts.{begun};
 ghost use Rattle.pr_script.specs.Next.{seen as next_seen};
@@ -28,7 +29,7 @@ pub(crate) enum HostScript {
 impl HostScript {
     /// The script at its beginning.
     pub(crate) fn new(alloc: Global, script: &Script) -> Result<HostScript, AllocError>
-        requires { depth_of_all (script_of script.now) ≤ 8 }
+        requires { depth_of_all (script_of script.now) ≤ MOST_OPEN }
         ensures { IfOk result (λ it. control_in it ≡ Going (begun (script_of script.now))) }
     {
         Ok(HostScript::Going(Machine::new(alloc, script)?))

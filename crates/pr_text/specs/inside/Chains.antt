@@ -7,6 +7,9 @@ use Rattle.pr_attention.specs.declared.attention.Attention.{Attention}
 use Rattle.pr_script.specs.declared.script.Test.{Test}
 use Rattle.pr_roles.specs.declared.role.Clause.{Clause}
 use Rattle.pr_roles.specs.Fitting.{are_distinct, is_alternative, is_same_alternative, is_same_reservation, is_action}
+use Rattle.pr_cdb.specs.declared.codes.TheConstants.{MOST_NEXUSES}
+use Rattle.pr_script.specs.declared.limits.TheConstants.{MOST_STATEMENTS, MOST_ARMS, MOST_OPEN, MOST_TURNS, MOST_BUDGET}
+use Rattle.pr_roles.specs.declared.limits.TheConstants.{MOST_KEYS, MOST_CLAUSES, MOST_PLANNED}
 use Rattle.pr_text.specs.declared.spelling.Spelled.{Spelled}
 use Rattle.pr_text.specs.declared.fault.ReadError.{ReadError}
 use Rattle.pr_text.specs.declared.fault.Which.TheVariants as which
@@ -43,13 +46,13 @@ at_name n d name step = at_number n d (number_of d.nexuses name) step
 unfoldable pub keys_placed : ℕ → List ℕ → Declared → Result Declared ReadError
 keys_placed n keys d =
     if is_some d.keys || not (are_distinct (λ j k. j == k) keys) then Err (fault.Repeated n) else (
-    if nat_lt 12 (length keys) then Err (fault.Limit which.Keys n) else
+    if nat_lt MOST_KEYS (length keys) then Err (fault.Limit which.Keys n) else
     Ok (record d { keys = Some keys }))
 
 unfoldable pub nexus_placed : ℕ → Bool → List ℕ → Declared → Result Declared ReadError
 nexus_placed n guest name d =
     if is_some (number_of d.nexuses name) then Err (fault.Repeated n) else (
-    if nat_le 8 (length d.nexuses) then Err (fault.Limit which.Hosts n) else
+    if nat_le MOST_NEXUSES (length d.nexuses) then Err (fault.Limit which.Hosts n) else
     Ok (record d { nexuses = d.nexuses ++ record { name = name; line = n; is_guest = guest; start = None; pending = None; role = []; task = None } ∷ [] }))
 
 abbrev pub start_fault : ℕ → List ℕ → Declaration → List (Option ℕ) → Option ReadError
@@ -87,7 +90,7 @@ generation_placed n generation d =
 abbrev pub role_at : ℕ → Clause → Declared → ℕ → Declaration → Result Declared ReadError
 role_at n clause d h x =
     if not (is_action (declared_keys d) clause.action) then Err (fault.UndeclaredKey n) else (
-    if nat_le 32 (length x.role) then Err (fault.Limit which.Roles n) else
+    if nat_le MOST_CLAUSES (length x.role) then Err (fault.Limit which.Roles n) else
     Ok (nexus_set d h (record x { role = x.role ++ clause ∷ [] })))
 
 unfoldable pub role_placed : ℕ → List ℕ → Clause → Declared → Result Declared ReadError
@@ -97,7 +100,7 @@ abbrev pub script_fault : ℕ → ℕ → Declaration → Option ReadError
 script_fault n budget x =
     if x.is_guest then Some (fault.UnknownName n) else (
     if is_some x.task then Some (fault.Repeated n) else (
-    if not (nat_le 1 budget && nat_le budget 4096) then Some (fault.Limit which.Budget n) else None))
+    if not (nat_le 1 budget && nat_le budget MOST_BUDGET) then Some (fault.Limit which.Budget n) else None))
 
 abbrev pub script_at : ℕ → ℕ → Declared → ℕ → Declaration → Result Declared ReadError
 script_at n budget d h x = unless (script_fault n budget x) (record d { place = in_script (begun_script h budget) })
@@ -115,22 +118,22 @@ unfoldable pub plan_placed : ℕ → List ℕ → Declared → Result Declared R
 plan_placed n name d = at_name n d name (plan_at n d)
 
 abbrev pub is_full : OpenLines → Bool
-is_full o = nat_le 512 o.statements
+is_full o = nat_le MOST_STATEMENTS o.statements
 
 unfoldable pub send_step : ℕ → List ℕ → Spelled → OpenLines → Result OpenLines ReadError
 send_step n keys s o =
     if awaits_arm o.blocks then Err (fault.Syntax n) else (
     if not (is_spelled keys s) then Err (fault.UndeclaredKey n) else (
     if is_full o then Err (fault.Limit which.Statements n) else (
-    if nat_le 8 (count_by is_sending o.blocks) then Err (fault.Limit which.Nesting n) else
+    if nat_le MOST_OPEN (count_by is_sending o.blocks) then Err (fault.Limit which.Nesting n) else
     Ok (opening (send_at n s.command) (sending s.command 0) o))))
 
 unfoldable pub repeat_step : ℕ → ℕ → OpenLines → Result OpenLines ReadError
 repeat_step n count o =
     if awaits_arm o.blocks then Err (fault.Syntax n) else (
     if is_full o then Err (fault.Limit which.Statements n) else (
-    if nat_le 8 (count_by is_repeating o.blocks) then Err (fault.Limit which.Nesting n) else (
-    if not (nat_le 1 count && nat_le count 1000) then Err (fault.Limit which.Repeat n) else
+    if nat_le MOST_OPEN (count_by is_repeating o.blocks) then Err (fault.Limit which.Nesting n) else (
+    if not (nat_le 1 count && nat_le count MOST_TURNS) then Err (fault.Limit which.Repeat n) else
     Ok (opening (repeat_of count) repeating o))))
 
 unfoldable pub break_step : ℕ → OpenLines → Result OpenLines ReadError
@@ -150,7 +153,7 @@ abbrev pub arm_fault : ℕ → List ℕ → Test → Command → ℕ → Option 
 arm_fault n keys t c arms =
     if not (stands_under c t) then Some (fault.Syntax n) else (
     if not (is_test_declared keys t) then Some (fault.UndeclaredKey n) else (
-    if nat_le 16 arms then Some (fault.Limit which.Arms n) else None))
+    if nat_le MOST_ARMS arms then Some (fault.Limit which.Arms n) else None))
 
 abbrev pub on_step_in : ℕ → List ℕ → Test → OpenLines → List Opening → Result OpenLines ReadError
 on_step_in n keys t o [] = Err (fault.Syntax n)
@@ -229,7 +232,7 @@ placed_in_script n o item d = and_then (script_step n (declared_keys d) item o) 
 unfoldable pub planned_step : ℕ → List ℕ → Spelled → List Command → Result (List Command) ReadError
 planned_step n keys s commands =
     if not (is_spelled keys s) then Err (fault.UndeclaredKey n) else (
-    if nat_le 256 (length commands) then Err (fault.Limit which.Plan n) else
+    if nat_le MOST_PLANNED (length commands) then Err (fault.Limit which.Plan n) else
     Ok (commands ++ s.command ∷ []))
 
 -- a line of a plan

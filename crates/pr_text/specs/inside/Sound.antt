@@ -6,6 +6,9 @@ use Rattle.pr_script.specs.declared.script.Test.{Test}
 use Rattle.pr_script.specs.Names.{is_name}
 use Rattle.pr_script.specs.Grammar.{is_written, test_fits, rise_above}
 use Rattle.pr_roles.specs.Fitting.{AreDeclared, are_distinct, are_reservations, is_role, is_start}
+use Rattle.pr_cdb.specs.declared.codes.TheConstants.{MOST_NEXUSES}
+use Rattle.pr_script.specs.declared.limits.TheConstants.{MOST_STATEMENTS, MOST_ARMS, MOST_OPEN, MOST_TURNS, MOST_BUDGET}
+use Rattle.pr_roles.specs.declared.limits.TheConstants.{MOST_PLANNED}
 use Rattle.pr_text.specs.ScriptLines.{ScriptLine, send_at, arm_on, block_done, repeat_of, break_out, stop_with}
 use Rattle.pr_text.specs.Declarations.{Opening, repeating, sending, OpenLines, WrittenTask, scripted, planned, Declaration, Place, before_all, outside, in_script, in_plan, Declared}
 use Rattle.pr_text.specs.Declaring.{declared_keys}
@@ -29,14 +32,14 @@ may_state s = not (awaits_arm s.blocks) && not (is_in_repeat s.blocks && not s.b
 abbrev pub may_arm : List ℕ → Test → List Opening → Bool
 may_arm keys t [] = false
 may_arm keys t (repeating ∷ bs) = false
-may_arm keys t ((sending c arms) ∷ bs) = test_fits keys c t && nat_lt arms 16
+may_arm keys t ((sending c arms) ∷ bs) = test_fits keys c t && nat_lt arms MOST_ARMS
 
 -- the line may stand here
 abbrev pub may : List ℕ → Reached → ScriptLine → Bool
-may keys s (send_at n c) = not (awaits_arm s.blocks) && (is_written keys c && nat_lt (count_by is_sending s.blocks) 8)
+may keys s (send_at n c) = not (awaits_arm s.blocks) && (is_written keys c && nat_lt (count_by is_sending s.blocks) MOST_OPEN)
 may keys s (arm_on t) = may_arm keys t s.blocks
 may keys s block_done = may_close s.blocks s.begun
-may keys s (repeat_of n) = not (awaits_arm s.blocks) && ((nat_le 1 n && nat_le n 1000) && nat_lt (count_by is_repeating s.blocks) 8)
+may keys s (repeat_of n) = not (awaits_arm s.blocks) && ((nat_le 1 n && nat_le n MOST_TURNS) && nat_lt (count_by is_repeating s.blocks) MOST_OPEN)
 may keys s break_out = may_state s && nat_lt 0 (count_by is_repeating s.blocks)
 may keys s (stop_with word) = may_state s && is_name word
 
@@ -83,7 +86,7 @@ sends_in (stop_with word ∷ ls) = sends_in ls
 -- the lines are those of a whole script
 pub record AreWhole (keys : List ℕ) (ls : List ScriptLine) : Type 0 where
   pub standing : may_all keys at_first ls ≡ true
-  pub short : nat_le (count_by is_statement ls) 512 ≡ true
+  pub short : nat_le (count_by is_statement ls) MOST_STATEMENTS ≡ true
   pub rising : rise_above 0 (sends_in ls) ≡ true
 
 -- the lines of an open script, behind which this many lines of the text were read
@@ -91,19 +94,19 @@ pub record AreBegun (keys : List ℕ) (n : ℕ) (o : OpenLines) : Type 0 where
   pub standing : may_all keys at_first o.lines ≡ true
   pub reaching : reached at_first o.lines ≡ record { blocks = o.blocks; begun = o.begun }
   pub counted : o.statements ≡ count_by is_statement o.lines
-  pub short : nat_le o.statements 512 ≡ true
+  pub short : nat_le o.statements MOST_STATEMENTS ≡ true
   pub rising : rise_above 0 (sends_in o.lines) ≡ true
   pub passed : list_all (λ line. nat_le line n) (sends_in o.lines) ≡ true
-  pub budget : (nat_le 1 o.budget && nat_le o.budget 4096) ≡ true
+  pub budget : (nat_le 1 o.budget && nat_le o.budget MOST_BUDGET) ≡ true
 
 -- ---- the whole
 
 abbrev pub is_plan : List ℕ → List Command → Bool
-is_plan keys commands = nat_le (length commands) 256 && list_all (is_written keys) commands
+is_plan keys commands = nat_le (length commands) MOST_PLANNED && list_all (is_written keys) commands
 
 abbrev pub IsTask : List ℕ → Option WrittenTask → Type 0
 IsTask keys None = Unit {0}
-IsTask keys (Some (scripted ls budget)) = AreWhole keys ls × ((nat_le 1 budget && nat_le budget 4096) ≡ true)
+IsTask keys (Some (scripted ls budget)) = AreWhole keys ls × ((nat_le 1 budget && nat_le budget MOST_BUDGET) ≡ true)
 IsTask keys (Some (planned commands)) = is_plan keys commands ≡ true
 
 abbrev pub is_described : List ℕ → Declaration → Bool
@@ -127,7 +130,7 @@ IsPlace keys n (in_plan h commands) = is_plan keys commands ≡ true
 pub record IsSound (n : ℕ) (d : Declared) : Type 0 where
   pub keys : AreDeclared (declared_keys d)
   pub reservations : are_reservations (length d.nexuses) (reservations_of d) ≡ true
-  pub few : nat_le (length d.nexuses) 8 ≡ true
+  pub few : nat_le (length d.nexuses) MOST_NEXUSES ≡ true
   pub apart : are_distinct bytes_eq (map (λ x. x.name) d.nexuses) ≡ true
   pub each : AreDeclarations (declared_keys d) d.nexuses
   pub place : IsPlace (declared_keys d) n d.place
