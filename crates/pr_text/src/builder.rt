@@ -1,7 +1,7 @@
 //! What the lines so far declare.
 
 ghost use Rattle.std.specs.Prelude.{◌≡◌, ◌≤◌, length};
-ghost use Rattle.pr_text.specs.Faults.{Gives};
+ghost use Rattle.pr_text.specs.inside.Steps.{Gives};
 ghost use Rattle.pr_text.specs.inside.Chains.{planned_step};
 
 use crate::draft::{Draft, number_in, pending_of};
@@ -52,7 +52,7 @@ pub struct Builder {
 impl Builder {
     ghost use Rattle.std.specs.Prelude.{◌≡◌, ◌<◌, IfOk, IfSome, [], length, map, option_map, position, bytes_eq};
     ghost use Rattle.pr_text.specs.declared.builder.Place.TheVariants.{Outside};
-    ghost use Rattle.pr_text.specs.Faults.{Gives};
+    ghost use Rattle.pr_text.specs.inside.Steps.{Gives};
     ghost use Rattle.pr_text.specs.inside.ItemValues.{seen, wanted_seen};
     ghost use Rattle.pr_text.specs.Declarations.{nothing};
     ghost use Rattle.pr_text.specs.Declaring.{declared_keys, number_of, held_of};

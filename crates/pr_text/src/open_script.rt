@@ -71,7 +71,7 @@ pub struct OpenScript {
 
 impl OpenScript {
     ghost use Rattle.std.specs.Prelude.{◌≡◌, ◌==◌, false, IfOk, None, Some, [], length, count_by};
-    ghost use Rattle.pr_text.specs.Faults.{Gives};
+    ghost use Rattle.pr_text.specs.inside.Steps.{Gives};
     ghost use Rattle.pr_text.specs.inside.ItemValues.{seen};
     ghost use Rattle.pr_text.specs.inside.OpenScripts.{open_seen, opened_in};
     ghost use Rattle.pr_text.specs.Standing.{awaits_arm, awaits_more, is_repeating, is_sending, is_in_repeat};
