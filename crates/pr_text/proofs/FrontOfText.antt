@@ -6,7 +6,7 @@ use Rattle.pr_roles.specs.declared.parts.Parts.{Parts}
 use Rattle.pr_roles.specs.Scenarios.{scenario_of}
 use Rattle.pr_text.specs.declared.fault.ReadError.{ReadError}
 use Rattle.pr_text.specs.declared.fault.ReadError.TheVariants.{TooLarge, NotAscii, LineTooLong, Syntax, UnknownName, Limit, UndeclaredKey, Repeated, Unclosed, ReadFault, Memory, EmptyStart}
-use Rattle.pr_text.specs.BytesRead.{ReadsUpTo}
+use Rattle.pr_text.specs.inside.Steps.{ReadsUpTo}
 use Rattle.pr_text.specs.Faults.{Fails}
 use Rattle.pr_text.specs.Texts.{answer_of}
 use Rattle.pr_text.specs.Readings.{IsWrittenAs, IsRead}

@@ -11,7 +11,7 @@ use Rattle.pr_script.specs.declared.script.Test.{Test}
 use Rattle.pr_script.specs.declared.script.Test.TheVariants as test
 use Rattle.pr_text.specs.declared.keyword.Keyword.{Keyword}
 use Rattle.pr_text.specs.declared.keyword.Keyword.TheVariants as keyword
-use Rattle.pr_text.specs.TextLines.{only, is_end}
+use Rattle.pr_text.specs.TextLines.{character, only, is_end}
 use Rattle.pr_text.specs.WordTerms.{worth, number, digit_of, byte_of, without_prefix, hexadecimal, name_of, key_or_zero, key_of, kind_of, code_of, count_of, generation_of, sense_of}
 use Rattle.pr_text.specs.CommandWords.{spelled_of, spelled_in}
 use Rattle.pr_text.specs.Clauses.{clause_of, alone, good_of, test_of}
@@ -143,7 +143,7 @@ digit_sound b = keep_if (λ n. nat_lt n 16 ≡ true) (nat_lt (worth b) 16) (wort
 sense_sound : (w : List ℕ) → IfSome (sense_of w) (λ s. nat_lt s.key 16 ≡ true)
 unfolding sense_of
 sense_sound w =
-    cond_if (λ s. nat_lt s.key 16 ≡ true) (length w == 7 && (slice_index w 1 == 47 && slice_index w 4 == 47)) _ None
+    cond_if (λ s. nat_lt s.key 16 ≡ true) (length w == 7 && (slice_index w 1 == character (codes "/") && slice_index w 4 == character (codes "/"))) _ None
     (λ e. bind_if (λ n. nat_lt n 16 ≡ true) (λ s. nat_lt s.key 16 ≡ true) _ (digit_of (slice_index w 0)) (digit_sound (slice_index w 0))
     (λ key h. bind_if (λ _. Unit {0}) (λ s. nat_lt s.key 16 ≡ true) _ (byte_of (slice_index w 2) (slice_index w 3)) (any_if _)
     (λ asc i. bind_if (λ _. Unit {0}) (λ s. nat_lt s.key 16 ≡ true) _ (byte_of (slice_index w 5) (slice_index w 6)) (any_if _) (λ ascq j. h))))
@@ -159,7 +159,7 @@ single_with kind o e = map_if (λ _. Unit {0}) (λ x. is_wanted x ≡ true) (λ 
 
 single_sound : (w : List ℕ) → IfSome (single_of w) (λ x. is_wanted x ≡ true)
 single_sound w =
-    cond_if (λ x. is_wanted x ≡ true) (slice_index w 1 == 58) _ None
+    cond_if (λ x. is_wanted x ≡ true) (slice_index w 1 == character (codes ":")) _ None
     (λ e. bind_if (λ _. Unit {0}) (λ x. is_wanted x ≡ true) (λ kind. cond (is_all kind) None (option_map (λ name. single kind name) (name_of (drop 2 w)))) (kind_of (take 1 w)) (any_if _)
     (λ kind h. cond_if (λ x. is_wanted x ≡ true) (is_all kind) None _ (λ f. tt) (λ f. single_with kind (name_of (drop 2 w)) f)))
     (λ e. tt)

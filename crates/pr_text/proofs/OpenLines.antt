@@ -18,7 +18,7 @@ use Rattle.pr_text.specs.declared.open_script.Opener.{Opener}
 use Rattle.pr_text.specs.declared.open_script.Opener.TheVariants as opener
 use Rattle.pr_text.specs.ScriptLines.{ScriptLine, send_at, arm_on, block_done, repeat_of, statement_lines, body_lines, arms_lines}
 use Rattle.pr_text.specs.Declarations.{Opening}
-use Rattle.pr_text.specs.Standing.{is_repeating, is_sending, is_armless, awaits_arm}
+use Rattle.pr_text.specs.Standing.{is_repeating, is_sending, awaits_arm}
 use Rattle.pr_text.specs.inside.OpenScripts.{with_armless, armless_lines, lines_in, arm_lines, opener_lines, frame_lines, block_of, block_by, blocks_in}
 
 -- ---- what statements are written as
@@ -115,13 +115,16 @@ count_sends frames = blocks_from is_sending [] frames ∙ (zero-add (count_by (�
 
 -- ---- what the blocks say
 
-armed_by : (o : Opener) → is_armless (block_by o) ≡ false
-armed_by (opener.Repeat count) = refl
-armed_by (opener.Arm line command arms test) = grind (arith, nat_tests)
+armed_by : (o : Opener) (bs : List Opening) → awaits_arm (block_by o ∷ bs) ≡ false
+armed_by (opener.Repeat count) bs = refl
+armed_by (opener.Arm line command arms test) bs = some_arm (length arms.items)
+  where
+    some_arm : (n : ℕ) → (n + 1 == 0) ≡ false
+    some_arm n = grind (arith, nat_tests)
 
 armed_from : (acc : List Opening) (frames : List Frame) → awaits_arm acc ≡ false → awaits_arm (fold (λ blocks f. block_of f ∷ blocks) acc frames) ≡ false
 armed_from acc [] h = h
-armed_from acc (f ∷ frames) h = armed_from (block_of f ∷ acc) frames (armed_by f.opener)
+armed_from acc (f ∷ frames) h = armed_from (block_of f ∷ acc) frames (armed_by f.opener acc)
 
 -- no open body is a send without arms
 pub armed : (frames : List Frame) → awaits_arm (blocks_in frames) ≡ false

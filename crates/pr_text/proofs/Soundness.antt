@@ -1,16 +1,19 @@
 -- What lines declare is sound.
 use Rattle.std.specs.Prelude.{◌≡◌, ℕ, ◌+◌, Bool, true, false, cond, not, nat_lt, List, [], ◌∷◌, length, Option, Some, None, IfSome, Result, Ok, Err}
 use Rattle.std.specs.Str.Lines.{lines}
+use Rattle.std.specs.Option.{option_map_or}
 use Rattle.std.proofs.Common.{refl, sym, subst, arith}
 use Rattle.pr_text.specs.declared.fault.ReadError.{ReadError}
 use Rattle.pr_text.specs.declared.fault.ReadError.TheVariants.{NotAscii, LineTooLong}
+use Rattle.pr_text.specs.declared.fault.ReadError.TheVariants as fault
 use Rattle.pr_text.specs.Faults.{and_then}
 use Rattle.pr_text.specs.TextLines.{is_text, words}
 use Rattle.pr_text.specs.Declarations.{Place, before_all, outside, in_script, in_plan, Declared, nothing}
 use Rattle.pr_text.specs.Items.{Item, item_of}
 use Rattle.pr_text.specs.Declaring.{declared_keys}
-use Rattle.pr_text.specs.Texts.{line_placed, worded, said_placed, all_placed}
-use Rattle.pr_text.specs.inside.Endings.{AreRead}
+use Rattle.pr_text.specs.Placing.{item_placed}
+use Rattle.pr_text.specs.Texts.{line_placed, worded, all_placed}
+use Rattle.pr_text.specs.inside.Steps.{AreRead}
 use Rattle.pr_text.specs.inside.Sound.{IsPlace, IsSound}
 use Rattle.pr_text.proofs.ItemTerms.{is_item, item_sound}
 use Rattle.pr_text.proofs.SoundScripts.{later_begun}
@@ -38,7 +41,7 @@ pub passed : {A : Type 0} (b : Bool) (e : ReadError) (r : Result A ReadError) (a
 passed true e r a h = cc
 passed false e r a h = h
 
-said_sound : (n : ℕ) (o : Option Item) (d e : Declared) → IsSound n d → IfSome o (λ i. is_item i ≡ true) → said_placed (n + 1) o d ≡ Ok e → IsSound (n + 1) e
+said_sound : (n : ℕ) (o : Option Item) (d e : Declared) → IsSound n d → IfSome o (λ i. is_item i ≡ true) → option_map_or (λ item. item_placed (n + 1) item d) o (Err (fault.Syntax (n + 1))) ≡ Ok e → IsSound (n + 1) e
 said_sound n None d e h i r = cc
 said_sound n (Some item) d e h i r = placed_sound n item d e h i r
 

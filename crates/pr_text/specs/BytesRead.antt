@@ -3,13 +3,6 @@
 use Rattle.std.specs.Prelude.{ℕ, ◌≤◌, ◌<◌, List, length, Option}
 use Rattle.std.specs.Io.KnownBytes.{Consumes, IsAtEnd}
 
--- these are the first bytes of what the reader had left, and there are fewer than the limit only where
--- nothing else was left
-pub record ReadsUpTo (limit : ℕ) (old new : Option (List ℕ)) (bytes : List ℕ) : Type 0 where
-  pub taken : Consumes old new bytes
-  pub limited : length bytes ≤ limit
-  pub ended : length bytes < limit → IsAtEnd new
-
 -- the reader has lost some bytes from the front, no more than the limit
 pub record LosesUpTo (limit : ℕ) (old new : Option (List ℕ)) : Type 0 where
   pub lost : List ℕ

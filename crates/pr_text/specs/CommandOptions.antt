@@ -56,7 +56,7 @@ abbrev pub with_options : Written → List (List ℕ) → Option Written
 with_options w [] = Some w
 with_options w (word ∷ ws) = option_of word >>= λ o. with_option w o >>= λ v. with_options v ws
 
--- the commands of `--in`. They have no key and no type.
+-- the commands of `--in`
 unfoldable pub command_in : Action → Option Command
 command_in action.ReadKeys = Some (ReadKeys WRITTEN_LENGTH)
 command_in action.ReadReservation = Some (ReadReservation WRITTEN_LENGTH)
@@ -82,12 +82,9 @@ command_out action.ReadKeys rk sark kind = None
 command_out action.ReadReservation rk sark kind = None
 command_out action.ReportCapabilities rk sark kind = None
 
--- neither a key nor a type is written
-abbrev pub is_bare : Written → Bool
-is_bare w = is_none w.rk && (is_none w.sark && is_none w.kind)
-
+-- the command of this service action; one of `--in` has neither a key nor a type
 abbrev pub commanded : Way → Action → Written → Option Command
-commanded In action w = if is_bare w then command_in action else None
+commanded In action w = if is_none w.rk && (is_none w.sark && is_none w.kind) then command_in action else None
 commanded Out action w = command_out action (unwrap_or w.rk 0) (unwrap_or w.sark 0) w.kind
 
 -- the command that the options spell

@@ -28,8 +28,3 @@ Fails (Unclosed n) step = step ≡ Err (Unclosed n)
 Fails ReadFault step = step ≡ Err ReadFault
 Fails Memory step = Unit {0}
 Fails EmptyStart step = step ≡ Err EmptyStart
-
--- what the call answers is what the step gives
-abbrev pub Gives : {A B : Type 0} → (A → B) → Result A ReadError → Result B ReadError → Type 0
-Gives view (Ok a) step = step ≡ Ok (view a)
-Gives view (Err e) step = Fails e step

@@ -8,7 +8,7 @@ use Rattle.pr_script.specs.declared.script.Test.{Test}
 use Rattle.pr_roles.specs.declared.role.Clause.{Clause}
 use Rattle.pr_text.specs.declared.spelling.Spelled.{Spelled}
 use Rattle.pr_text.specs.Chain.{◌>>=◌, each}
-use Rattle.pr_text.specs.TextLines.{only, is_end}
+use Rattle.pr_text.specs.TextLines.{character, only, is_end}
 use Rattle.pr_text.specs.WordTerms.{name_of, key_of, generation_of, count_of, kind_of, code_of}
 use Rattle.pr_text.specs.CommandWords.{spelled_of, spelled_in}
 use Rattle.pr_text.specs.Clauses.{clause_of, test_of}
@@ -60,7 +60,7 @@ everybody_of word = kind_of word >>= λ kind. if is_all kind then Some (everybod
 -- the type of a single holder, a colon, and its name
 abbrev pub single_of : List ℕ → Option Wanted
 single_of word =
-    if slice_index word 1 == 58 then
+    if slice_index word 1 == character (codes ":") then
     (kind_of (take 1 word) >>= λ kind. if is_all kind then None else option_map (λ name. single kind name) (name_of (drop 2 word)))
     else None
 

@@ -49,14 +49,9 @@ abbrev pub is_sending : Opening → Bool
 is_sending repeating = false
 is_sending (sending c n) = true
 
-abbrev pub is_armless : Opening → Bool
-is_armless repeating = false
-is_armless (sending c n) = n == 0
-
 -- the innermost block is a send that has no arm yet, so that no statement may stand here
 abbrev pub awaits_arm : List Opening → Bool
-awaits_arm [] = false
-awaits_arm (b ∷ bs) = is_armless b
+awaits_arm bs = of_send false (λ c arms. arms == 0) bs
 
 -- the innermost block is a repeat
 abbrev pub is_in_repeat : List Opening → Bool

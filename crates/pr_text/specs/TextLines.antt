@@ -1,6 +1,6 @@
 -- Agrees with docs/FORMATS.md, 'Lines and words'.
 -- How a line is cut into words.
-use Rattle.std.specs.Prelude.{ℕ, Bool, ◌==◌, ◌||◌, ◌&&◌, not, nat_le, List, [], ◌∷◌, length, slice_index, Option, Some, None, filter, take_while}
+use Rattle.std.specs.Prelude.{ℕ, Bool, ◌==◌, ◌||◌, ◌&&◌, not, nat_le, List, [], ◌∷◌, length, slice_index, codes, Option, Some, None, filter, take_while}
 use Rattle.std.specs.List.{slice_split, list_all}
 
 -- a tab, or an ASCII character that prints, the space among them
@@ -14,9 +14,13 @@ is_text line = list_all is_text_byte line
 abbrev pub is_blank : ℕ → Bool
 is_blank b = b == 9 || b == 32
 
+-- the one character of this word
+abbrev pub character : List ℕ → ℕ
+character word = slice_index word 0
+
 -- a comment begins with `#`
 abbrev pub is_comment : List ℕ → Bool
-is_comment word = slice_index word 0 == 35
+is_comment word = slice_index word 0 == character (codes "#")
 
 -- a line's words: its parts between tabs and spaces, up to the first that begins a comment
 unfoldable pub words : List ℕ → List (List ℕ)

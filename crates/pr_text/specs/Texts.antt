@@ -18,14 +18,10 @@ use Rattle.pr_text.specs.TextLines.{is_text, words}
 
 -- ---- one line
 
-abbrev pub said_placed : ℕ → Option Item → Declared → Result Declared ReadError
-said_placed n None d = Err (fault.Syntax n)
-said_placed n (Some item) d = item_placed n item d
-
--- a line without words says nothing
+-- a line without words says nothing, and words that keep no shape are at fault
 abbrev pub worded : ℕ → List (List ℕ) → Declared → Result Declared ReadError
 worded n [] d = Ok d
-worded n (w ∷ ws) d = said_placed n (item_of w ws) d
+worded n (w ∷ ws) d = option_map_or (λ item. item_placed n item d) (item_of w ws) (Err (fault.Syntax n))
 
 unfoldable pub line_placed : ℕ → List ℕ → Declared → Result Declared ReadError
 line_placed n line d =

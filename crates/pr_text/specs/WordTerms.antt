@@ -9,6 +9,7 @@ use Rattle.pr_attention.specs.declared.attention.Attention.{Attention}
 use Rattle.pr_attention.specs.declared.attention.Attention.TheVariants.{PowerOn, ReservationsPreempted, ReservationsReleased, RegistrationsPreempted}
 use Rattle.pr_script.specs.Names.{is_digit, is_name}
 use Rattle.pr_text.specs.Chain.{◌>>=◌}
+use Rattle.pr_text.specs.TextLines.{character}
 
 -- the name that a word is: that of a host or guest, or the word with which a script stops
 unfoldable pub name_of : List ℕ → Option (List ℕ)
@@ -87,7 +88,7 @@ attention_of asc ascq =
 -- the attention that a word is: two digits, a slash and two digits
 unfoldable pub code_of : List ℕ → Option Attention
 code_of word =
-    if length word == 5 && slice_index word 2 == 47 then
+    if length word == 5 && slice_index word 2 == character (codes "/") then
     (byte_of (slice_index word 0) (slice_index word 1) >>= λ asc.
     byte_of (slice_index word 3) (slice_index word 4) >>= λ ascq. attention_of asc ascq)
     else None
@@ -95,7 +96,7 @@ code_of word =
 -- the sense that a word is: one, two and two digits, with slashes between them
 unfoldable pub sense_of : List ℕ → Option Sense
 sense_of word =
-    if length word == 7 && (slice_index word 1 == 47 && slice_index word 4 == 47) then
+    if length word == 7 && (slice_index word 1 == character (codes "/") && slice_index word 4 == character (codes "/")) then
     (digit_of (slice_index word 0) >>= λ key.
     byte_of (slice_index word 2) (slice_index word 3) >>= λ asc.
     byte_of (slice_index word 5) (slice_index word 6) >>= λ ascq. Some (record { key = key; asc = asc; ascq = ascq }))

@@ -6,3 +6,4 @@ pub mod Keywords
 pub mod Lists
 pub mod OpenScripts
 pub mod Sound
+pub mod Steps

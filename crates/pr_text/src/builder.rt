@@ -1,7 +1,7 @@
 //! What the lines so far declare.
 
 ghost use Rattle.std.specs.Prelude.{◌≡◌, ◌≤◌, length};
-ghost use Rattle.pr_text.specs.Faults.{Gives};
+ghost use Rattle.pr_text.specs.inside.Steps.{Gives};
 ghost use Rattle.pr_text.specs.inside.Chains.{planned_step};
 
 use crate::draft::{Draft, number_in, pending_of};
@@ -14,6 +14,7 @@ use pr_attention::Attention;
 use pr_cdb::Command;
 use pr_cdb::codes::MOST_NEXUSES;
 use pr_registry::Held;
+use pr_roles::limits::{MOST_CLAUSES, MOST_KEYS, MOST_PLANNED};
 use pr_roles::limits::{MOST_CLAUSES, MOST_KEYS, MOST_PLANNED};
 use pr_roles::{Clause, Task, Word, are_distinct, are_held_apart, is_action};
 use pr_script::Script;
@@ -46,7 +47,7 @@ pub struct Builder {
 impl Builder {
     ghost use Rattle.std.specs.Prelude.{◌≡◌, ◌<◌, IfOk, IfSome, [], length, map, option_map, position, bytes_eq};
     ghost use Rattle.pr_text.specs.declared.builder.Place.TheVariants.{Outside};
-    ghost use Rattle.pr_text.specs.Faults.{Gives};
+    ghost use Rattle.pr_text.specs.inside.Steps.{Gives};
     ghost use Rattle.pr_text.specs.inside.ItemValues.{seen, wanted_seen};
     ghost use Rattle.pr_text.specs.Declarations.{nothing};
     ghost use Rattle.pr_text.specs.Declaring.{declared_keys, number_of, held_of};

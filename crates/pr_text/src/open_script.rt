@@ -14,6 +14,7 @@ use crate::spelling::Spelled;
 use pr_cdb::Command;
 use pr_roles::Word;
 use pr_script::limits::{MOST_ARMS, MOST_OPEN, MOST_STATEMENTS, MOST_TURNS};
+use pr_script::limits::{MOST_ARMS, MOST_OPEN, MOST_STATEMENTS, MOST_TURNS};
 use pr_script::{Arm, Script, Statement, Test, is_declared, is_written, is_written_key};
 use std::alloc::{AllocError, Global};
 use std::mem;
@@ -64,7 +65,7 @@ pub struct OpenScript {
 
 impl OpenScript {
     ghost use Rattle.std.specs.Prelude.{◌≡◌, ◌==◌, false, IfOk, None, Some, [], length, count_by};
-    ghost use Rattle.pr_text.specs.Faults.{Gives};
+    ghost use Rattle.pr_text.specs.inside.Steps.{Gives};
     ghost use Rattle.pr_text.specs.inside.ItemValues.{seen};
     ghost use Rattle.pr_text.specs.inside.OpenScripts.{open_seen, opened_in};
     ghost use Rattle.pr_text.specs.Standing.{awaits_arm, awaits_more, is_repeating, is_sending, is_in_repeat};

@@ -70,9 +70,9 @@ pub struct Written {
 }
 
 impl Written {
-    ghost use Rattle.std.specs.Prelude.{◌≡◌};
+    ghost use Rattle.std.specs.Prelude.{◌≡◌, ◌&&◌, is_none};
     ghost use Rattle.pr_text.specs.TextLines.{words};
-    ghost use Rattle.pr_text.specs.CommandOptions.{unwritten, with_option, with_options, is_bare, command_of};
+    ghost use Rattle.pr_text.specs.CommandOptions.{unwritten, with_option, with_options, command_of};
 
     /// Nothing is written.
     pub fn new() -> Self
@@ -106,7 +106,7 @@ impl Written {
 
     // Whether neither a key nor a type is written.
     fn is_bare(&self) -> bool
-        ensures { result ≡ is_bare self.now }
+        ensures { result ≡ (is_none self.now.rk && (is_none self.now.sark && is_none self.now.kind)) }
     {
         self.rk.is_none() && self.sark.is_none() && self.kind.is_none()
     }

@@ -1,7 +1,8 @@
 //! All the bytes of a reader, up to a limit.
 
 ghost use Rattle.std.specs.Prelude.{◌≡◌, IfOk, OnErr};
-ghost use Rattle.pr_text.specs.BytesRead.{LosesUpTo, ReadsUpTo};
+ghost use Rattle.pr_text.specs.BytesRead.{LosesUpTo};
+ghost use Rattle.pr_text.specs.inside.Steps.{ReadsUpTo};
 ghost use Rattle.pr_text.specs.declared.source.SourceFault.TheVariants.{Memory};
 
 use std::alloc::{AllocError, Global};

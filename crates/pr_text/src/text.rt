@@ -3,11 +3,12 @@
 ghost use Rattle.std.specs.Prelude.{◌≡◌, ◌≤◌, length, IfOk, IfErr, IfSome};
 ghost use Rattle.std.specs.Str.Lines.{lines};
 ghost use Rattle.pr_roles.specs.Scenarios.{scenario_of};
-ghost use Rattle.pr_text.specs.Faults.{Gives, Fails};
+ghost use Rattle.pr_text.specs.Faults.{Fails};
+ghost use Rattle.pr_text.specs.inside.Steps.{Gives};
 ghost use Rattle.pr_text.specs.Declarations.{nothing};
 ghost use Rattle.pr_text.specs.inside.Drafts.{declared_by};
 ghost use Rattle.pr_text.specs.Texts.{line_placed, all_placed, answer_of};
-ghost use Rattle.pr_text.specs.inside.Endings.{AreRead};
+ghost use Rattle.pr_text.specs.inside.Steps.{AreRead};
 ghost use Rattle.pr_text.specs.BytesRead.{LosesUpTo};
 ghost use Rattle.pr_text.specs.Readings.{IsWrittenAs, IsRead};
 ghost use Rattle.pr_text.specs.SaidScenarios.{ScenariosHaveNoFault};

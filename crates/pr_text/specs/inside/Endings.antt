@@ -7,11 +7,6 @@ use Rattle.pr_text.specs.declared.fault.ReadError.TheVariants as fault
 use Rattle.pr_text.specs.Declarations.{Declaration, Place, before_all, outside, in_script, in_plan, Declared, nothing}
 use Rattle.pr_text.specs.Texts.{all_placed, first_unscripted, starts_somewhere}
 
--- the text has so many lines, and they declare this
-pub record AreRead (text : List ℕ) (number : ℕ) (d : Declared) : Type 0 where
-  pub placed : all_placed 0 (lines text) nothing ≡ Ok d
-  pub counted : number ≡ length (lines text)
-
 -- what is missing in a text that ends outside scripts and plans, on the line of this number
 abbrev pub whole_fault : ℕ → List Declaration → Option ReadError
 whole_fault n nexuses =
