@@ -13,7 +13,6 @@ use crate::role::{Action, Clause, Role};
 use crate::uniqueness::{are_distinct, are_held_apart};
 use pr_cdb::Command;
 use pr_cdb::codes::MOST_NEXUSES;
-use pr_cdb::codes::MOST_NEXUSES;
 use pr_registry::{Held, is_all};
 use pr_script::limits::MOST_BUDGET;
 use pr_script::{is_declared, is_name, is_written, is_written_key};

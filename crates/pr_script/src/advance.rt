@@ -3,12 +3,10 @@
 ghost use Rattle.std.specs.Prelude.{◌≡◌, ℕ, ◌<◌, ◌≤◌, List, IfSome, IfNone};
 ghost use Rattle.arrayvec.specs.ArrayVec.{array_vec_len};
 ghost use Rattle.pr_script.specs.declared.limits.TheConstants.{MOST_OPEN};
-ghost use Rattle.pr_script.specs.declared.limits.TheConstants.{MOST_OPEN};
 ghost use Rattle.pr_script.specs.Scripts.{Stmts, none, before, turn, past_mark, becomes, settled};
 ghost use Rattle.pr_script.specs.inside.Program.{place, meanings, opened, configuration, AreLoops, IsPlaced, IsMachine};
 ghost use Rattle.pr_script.specs.inside.Advances.{Leads};
 
-use crate::limits::MOST_OPEN;
 use crate::limits::MOST_OPEN;
 use crate::rows::{Instruction, Step};
 use arrayvec::ArrayVec;

@@ -14,9 +14,7 @@ use pr_attention::Attention;
 use pr_cdb::Command;
 use pr_cdb::codes::MOST_NEXUSES;
 use pr_registry::Held;
-use pr_roles::limits::{
-    MOST_CLAUSES, MOST_CLAUSES, MOST_KEYS, MOST_KEYS, MOST_PLANNED, MOST_PLANNED,
-};
+use pr_roles::limits::{MOST_CLAUSES, MOST_KEYS, MOST_PLANNED};
 use pr_roles::{Clause, Task, Word, are_distinct, are_held_apart, is_action};
 use pr_script::Script;
 use std::alloc::{AllocError, Global};

@@ -6,7 +6,7 @@ ghost use Rattle.pr_text.specs.Declaring.{codes_of};
 use crate::fault::{ReadError, Which};
 use pr_attention::{Attention, Pending};
 use pr_roles::{Clause, Task, Word, are_alternatives, are_distinct};
-use pr_script::limits::{MOST_BUDGET, MOST_BUDGET};
+use pr_script::limits::MOST_BUDGET;
 use std::alloc::Global;
 
 /// What is declared of a host or guest so far.

@@ -13,10 +13,7 @@ use crate::item::Item;
 use crate::spelling::Spelled;
 use pr_cdb::Command;
 use pr_roles::Word;
-use pr_script::limits::{
-    MOST_ARMS, MOST_ARMS, MOST_OPEN, MOST_OPEN, MOST_STATEMENTS, MOST_STATEMENTS, MOST_TURNS,
-    MOST_TURNS,
-};
+use pr_script::limits::{MOST_ARMS, MOST_OPEN, MOST_STATEMENTS, MOST_TURNS};
 use pr_script::{Arm, Script, Statement, Test, is_declared, is_written, is_written_key};
 use std::alloc::{AllocError, Global};
 use std::mem;
