@@ -24,6 +24,7 @@ mod tally;
 mod tallying;
 mod twins;
 
+pub use attentions::is_among;
 pub use closing::close;
 pub use interference::interfere;
 pub use landing::{Class, Landing};

@@ -79,21 +79,22 @@ sends_here names host vs rs i v r h is k has =
     ∙ ap (λ l. sends_text names (map (line_and_view host) (v ∷ drop (i + 1) vs)) (map row_of l)) (drop_here rs i r k has)
 
 -- each goes to the page behind what is held there
-pub sends_more : (old mid new : Option (List ℕ)) (text held left : List ℕ) (names : List (List ℕ)) (host : ℕ) (vs : List (ℕ × ViewOf WordSet)) (rs : List KeptRow) (i : ℕ) (v : ℕ × ViewOf WordSet) (r : KeptRow)
-    → i < length vs → v ≡ get_or vs i v → i < length rs → r ≡ get_or rs i r
-    → Wrote old mid text (held ++ sends_text names (map (line_and_view host) (drop i vs)) (map row_of (drop i rs)))
-    → Wrote mid new (held ++ send_text names v.0 (line_and_view host v).1 (row_of r)) left
-    → Wrote old new text (left ++ sends_text names (map (line_and_view host) (drop (i + 1) vs)) (map row_of (drop (i + 1) rs)))
-sends_more old mid new text held left names host vs rs i v r h is k has w p =
-    held_more old mid new text held _ _ left (subst (λ l. Wrote old mid text (held ++ l)) (sends_here names host vs rs i v r h is k has) w) p
+module _ (names : List (List ℕ)) (host : ℕ) (vs : List (ℕ × ViewOf WordSet)) (rs read : List KeptRow) (i : ℕ) (v : ℕ × ViewOf WordSet) (r : KeptRow)
+    (same : read ≡ rs) (each : length rs ≡ length vs) (there : i < length read) (is : v ≡ get_or vs i v) (has : r ≡ get_or read i r) where
+  row_there : i < length rs
+  row_there = subst (λ l. i < length l) same there
 
-pub sends_front : (old mid new : Option (List ℕ)) (text held : List ℕ) (names : List (List ℕ)) (host : ℕ) (vs : List (ℕ × ViewOf WordSet)) (rs : List KeptRow) (i : ℕ) (v : ℕ × ViewOf WordSet) (r : KeptRow)
-    → i < length vs → v ≡ get_or vs i v → i < length rs → r ≡ get_or rs i r
-    → Wrote old mid text (held ++ sends_text names (map (line_and_view host) (drop i vs)) (map row_of (drop i rs)))
-    → FallsShort mid new (held ++ send_text names v.0 (line_and_view host v).1 (row_of r))
-    → FallsShort old new text
-sends_front old mid new text held names host vs rs i v r h is k has w p =
-    held_front old mid new text held _ _ (subst (λ l. Wrote old mid text (held ++ l)) (sends_here names host vs rs i v r h is k has) w) p
+  here : sends_text names (map (line_and_view host) (drop i vs)) (map row_of (drop i rs))
+      ≡ send_text names v.0 (line_and_view host v).1 (row_of r) ++ sends_text names (map (line_and_view host) (drop (i + 1) vs)) (map row_of (drop (i + 1) rs))
+  here = sends_here names host vs rs i v r (subst (λ n. i < n) each row_there) is row_there (has ∙ ap (λ l. get_or l i r) same)
+
+  module _ (old mid new : Option (List ℕ)) (text held : List ℕ) (w : Wrote old mid text (held ++ sends_text names (map (line_and_view host) (drop i vs)) (map row_of (drop i rs)))) where
+    pub sends_more : (left : List ℕ) → Wrote mid new (held ++ send_text names v.0 (line_and_view host v).1 (row_of r)) left
+        → Wrote old new text (left ++ sends_text names (map (line_and_view host) (drop (i + 1) vs)) (map row_of (drop (i + 1) rs)))
+    sends_more left p = held_more old mid new text held _ _ left (subst (λ l. Wrote old mid text (held ++ l)) here w) p
+
+    pub sends_front : FallsShort mid new (held ++ send_text names v.0 (line_and_view host v).1 (row_of r)) → FallsShort old new text
+    sends_front p = held_front old mid new text held _ _ (subst (λ l. Wrote old mid text (held ++ l)) here w) p
 
 no_sends : (names : List (List ℕ)) (views : List (ℕ × View)) → sends_text names views [] ≡ []
 no_sends names [] = refl

@@ -2,7 +2,7 @@
 use Rattle.std.proofs.Common.{◌≡◌, ℕ, zero, suc, ◌<◌, ◌≤◌, Bool, true, false, List, [], ◌∷◌, length, get_or, map, refl, sym, arith, inl, inr, subst}
 use Rattle.std.specs.Prelude.{◌==◌, ◌&&◌, ◌||◌, not, nat_lt, nat_le, bytes_eq, Some, None, cond}
 use Rattle.std.specs.List.{list_all, list_any, position_or_len}
-use Rattle.std.proofs.lemmas.Bool.{and_parts, cases_lt}
+use Rattle.std.proofs.lemmas.Bool.{and_parts, cases_lt, lt-ltb}
 use Rattle.std.proofs.lemmas.Bool.Decides.{nat_tests}
 use Rattle.std.proofs.lemmas.List.{get_or_past, length-map}
 use Rattle.std.proofs.lemmas.List.Sums.{position_or_len_is}
@@ -75,11 +75,8 @@ names_apart (x ∷ xs) zero (suc h) e k m =
 names_apart (x ∷ xs) (suc j) (suc h) e k m =
     names_apart xs j h (and_parts (not (list_any (λ y. bytes_eq y x) xs)) (are_distinct bytes_eq xs) e).1 (omega arith) (omega arith)
 
-lt_true : (m n : ℕ) → m < n → nat_lt m n ≡ true
-lt_true m n h = grind (arith, nat_tests)
-
 found : (n m h : ℕ) → n ≡ h → h < m → cond (nat_lt n m) (Some n) None ≡ Some h
-found n m h e k = rw (e, lt_true h m k) refl
+found n m h e k = rw (e, lt-ltb h m k) refl
 
 pub number_back : (names : List (List ℕ)) (h : ℕ) → AreNames names → h < length names → number_of names (name_of names h) ≡ Some h
 number_back names h are k =

@@ -109,34 +109,22 @@ record IsCut (text rest : List ℕ) : Type 0 where
   pub later : is_later bare_line ≡ true
   pub short : length bare_line ≤ 1024
 
-host_cut : (name how what rest : List ℕ) (sent : ℕ) → IsWord 16 name → IsWord 81 how → IsWord 81 what → IsCut (line (codes "host") (ending_words name how what sent)) rest
-host_cut name how what rest sent h k m =
-    let ws = ending_words name how what sent in
-    let are = ending_are_words name how what sent h k m in
-    record {
-      bare_line = bare (codes "host") ws;
-      cut = later_cut (codes "host") ws (known 5 (codes "host") refl (omega arith)) are (omega arith) rest;
-      later = host_later (spaced ws);
-      short = later_short (codes "host") ws (known 5 (codes "host") refl (omega arith)) are (omega arith);
-    }
+module _ (kind name how what rest : List ℕ) (sent : ℕ) (k : IsWord 5 kind) (n : IsWord 16 name) (h : IsWord 81 how) (w : IsWord 81 what) where
+  kind_cut : ((others : List ℕ) → is_later (kind ++ others) ≡ true) → IsCut (line kind (ending_words name how what sent)) rest
+  kind_cut later =
+      let ws = ending_words name how what sent in
+      let are = ending_are_words name how what sent n h w in
+      record { bare_line = bare kind ws; cut = later_cut kind ws k are (omega arith) rest; later = later (spaced ws); short = later_short kind ws k are (omega arith) }
 
-guest_cut : (name how what rest : List ℕ) (sent : ℕ) → IsWord 16 name → IsWord 81 how → IsWord 81 what → IsCut (line (codes "guest") (ending_words name how what sent)) rest
-guest_cut name how what rest sent h k m =
-    let ws = ending_words name how what sent in
-    let are = ending_are_words name how what sent h k m in
-    record {
-      bare_line = bare (codes "guest") ws;
-      cut = later_cut (codes "guest") ws (known 5 (codes "guest") refl (omega arith)) are (omega arith) rest;
-      later = guest_later (spaced ws);
-      short = later_short (codes "guest") ws (known 5 (codes "guest") refl (omega arith)) are (omega arith);
-    }
+host_cut : (name how what rest : List ℕ) (sent : ℕ) → IsWord 16 name → IsWord 81 how → IsWord 81 what → IsCut (line (codes "host") (ending_words name how what sent)) rest
+host_cut name how what rest sent n h w = kind_cut (codes "host") name how what rest sent (known 5 (codes "host") refl (omega arith)) n h w host_later
 
 ending_cut : (name rest : List ℕ) (e : Ending) (sent : ℕ) → IsWord 16 name → IsEnding e → IsCut (ending_line name e sent) rest
 unfolding ending_line
 ending_cut name rest (stops word) sent h k = host_cut name (codes "stopped") word rest sent h (known 81 (codes "stopped") refl (omega arith)) (wider 81 word (name_word word k) (omega arith))
 ending_cut name rest (waits place) sent h k = host_cut name (codes "ready") (decimal place) rest sent h (known 81 (codes "ready") refl (omega arith)) (number_word place)
 ending_cut name rest (traps place) sent h k = host_cut name (codes "trapped") (decimal place) rest sent h (known 81 (codes "trapped") refl (omega arith)) (number_word place)
-ending_cut name rest (leaves planned) sent h k = guest_cut name (codes "left") (decimal planned) rest sent h (known 81 (codes "left") refl (omega arith)) (number_word planned)
+ending_cut name rest (leaves planned) sent h k = kind_cut (codes "guest") name (codes "left") (decimal planned) rest sent (known 5 (codes "guest") refl (omega arith)) h (known 81 (codes "left") refl (omega arith)) (number_word planned) guest_later
 
 abbrev AreEndings : List Ending → Type 0
 AreEndings [] = Unit {0}

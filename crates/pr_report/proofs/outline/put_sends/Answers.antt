@@ -1,4 +1,4 @@
-use Rattle.std.proofs.Common.{◌<◌, ◌≤◌, ◌∙◌, length, get_or, map, ap, subst, arith}
+use Rattle.std.proofs.Common.{◌≤◌, length, map, subst}
 use Rattle.pr_verify.specs.Rooms.{row_of}
 use Rattle.pr_report.specs.TraceText.{names_of}
 use Rattle.pr_report.specs.OutlineText.{sends_text}
@@ -15,24 +15,14 @@ loop-place-init g c =
 pub returns-in_err-add_send : goal.returns-in_err-add_send
 returns-in_err-add_send g c =
     let table = c.args.table.now in
-    let place = c.loop-place.place in
-    let same = c.deref-row-items.ensures.value in
-    let row_there : place < length table.rows.items = subst (λ rows. place < length rows) same c.loop-place-test.true in
-    let row_is = c.row-item.is ∙ ap (λ rows. get_or rows place c.row-item.result) same in
-    let view_there : place < length table.outline.views.items = omega (arith, row_there, c.requires.rows) in
-    puts_err _ _ _ _ (sends_front _ _ _ _ _ (names_of c.args.nexuses.now) table.outline.host table.outline.views.items table.rows.items place c.index.result.now c.row-item.result view_there c.index.ensures row_there row_is
-    c.loop-place.invariant (c.in_err-add_send.ensures table.outline.host)) c.from_residual.ensures.0
+    puts_err _ _ _ _ (sends_front (names_of c.args.nexuses.now) table.outline.host table.outline.views.items table.rows.items c.deref-row-items.result.now c.loop-place.place c.index.result.now c.row-item.result
+    c.deref-row-items.ensures.value c.requires.rows c.loop-place-test.true c.index.ensures c.row-item.is _ _ _ _ _ c.loop-place.invariant (c.in_err-add_send.ensures table.outline.host)) c.from_residual.ensures.0
 
 pub loop-place-preserved : goal.loop-place-preserved
 loop-place-preserved g c =
     let table = c.args.table.now in
-    let place = c.loop-place.place in
-    let same = c.deref-row-items.ensures.value in
-    let row_there : place < length table.rows.items = subst (λ rows. place < length rows) same c.loop-place-test.true in
-    let row_is = c.row-item.is ∙ ap (λ rows. get_or rows place c.row-item.result) same in
-    let view_there : place < length table.outline.views.items = omega (arith, row_there, c.requires.rows) in
-    sends_more _ _ _ _ _ _ (names_of c.args.nexuses.now) table.outline.host table.outline.views.items table.rows.items place c.index.result.now c.row-item.result view_there c.index.ensures row_there row_is
-    c.loop-place.invariant (c.in_ok-add_send.ensures table.outline.host)
+    sends_more (names_of c.args.nexuses.now) table.outline.host table.outline.views.items table.rows.items c.deref-row-items.result.now c.loop-place.place c.index.result.now c.row-item.result
+    c.deref-row-items.ensures.value c.requires.rows c.loop-place-test.true c.index.ensures c.row-item.is _ _ _ _ _ c.loop-place.invariant _ (c.in_ok-add_send.ensures table.outline.host)
 
 pub returns : goal.returns
 returns g c =
