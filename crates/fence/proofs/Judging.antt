@@ -3,7 +3,7 @@ use Rattle.std.proofs.Common.{◌≡◌, ℕ, Bool, List, Option, Some, None, Re
 use Rattle.std.specs.Prelude.{IfSome, IsErrAnd, is_err}
 use Rattle.std.specs.Io.KnownBytes.{Appends}
 use Rattle.pr_roles.specs.Scenarios.{scenario_of}
-use Rattle.pr_text.specs.Readings.{IsWrittenAs}
+use Rattle.pr_text.specs.Reading.{IsWrittenAs}
 use Rattle.pr_report.specs.Written.{FallsShort}
 use Rattle.pr_report.specs.declared.verdict.Verdict.TheVariants.{Accepted, Refused}
 use Rattle.fence.specs.declared.fault.Fault.{Fault}

@@ -12,7 +12,7 @@ use Rattle.pr_roles.specs.Scenarios.{Nexus, Scenario, scenario_of, task}
 use Rattle.pr_roles.specs.Safety.{IsSafe}
 use Rattle.pr_roles.specs.Fitting.{Fits, are_distinct, are_nexuses, is_nexus}
 use Rattle.pr_roles.specs.Worlds.{sent}
-use Rattle.pr_text.specs.Readings.{IsWrittenAs}
+use Rattle.pr_text.specs.Reading.{IsWrittenAs}
 use Rattle.pr_roles.specs.declared.entry.Entry.{Entry}
 use Rattle.pr_world.specs.declared.end.End.{End}
 use Rattle.pr_world.specs.Ends.{seen}

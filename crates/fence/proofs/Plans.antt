@@ -8,7 +8,7 @@ use Rattle.std.proofs.lemmas.Option.{none-some, same_Some}
 use Rattle.pr_roles.specs.declared.parts.Parts.{Parts}
 use Rattle.pr_roles.specs.Scenarios.{scenario_of}
 use Rattle.pr_roles.proofs.Apart.{names_of_parts, length_of_parts}
-use Rattle.pr_text.specs.Readings.{IsWrittenAs}
+use Rattle.pr_text.specs.Reading.{IsWrittenAs}
 use Rattle.pr_world.specs.declared.end.End.{End}
 use Rattle.pr_world.specs.declared.replaying.Replayed.{Replayed}
 use Rattle.pr_world.specs.Ends.{seen}

@@ -7,7 +7,7 @@ use Rattle.pr_roles.specs.Scenarios.{Scenario}
 use Rattle.pr_roles.specs.Starts.{first_state}
 use Rattle.pr_roles.specs.Worlds.{is_trapped}
 use Rattle.pr_roles.specs.Schedules.{Schedule, ScheduledRun, schedule_from}
-use Rattle.pr_text.specs.Readings.{IsWrittenAs}
+use Rattle.pr_text.specs.Reading.{IsWrittenAs}
 use Rattle.pr_world.specs.Ends.{Ending, endings}
 use Rattle.pr_world.specs.Replays.{counts_in}
 use Rattle.pr_report.specs.TraceText.{names_in, trace_text}

@@ -20,15 +20,15 @@ use Rattle.pr_roles.specs.Fitting.{are_distinct, is_action, is_role, is_alternat
 use Rattle.pr_text.specs.declared.fault.ReadError.{ReadError}
 use Rattle.pr_text.specs.Faults.{and_then}
 use Rattle.pr_text.specs.CommandWords.{keyless}
-use Rattle.pr_text.specs.Items.{Item, start_line, pending_line, role_line, script_line, plan_line, end_line, command_line}
+use Rattle.pr_text.specs.ScenarioLines.{ScenarioLine, start_line, pending_line, role_line, script_line, plan_line, end_line, command_line}
 use Rattle.pr_text.specs.ScriptLines.{body_lines}
 use Rattle.pr_text.specs.inside.Chains.{at_name, start_at, start_placed, pending_at, pending_placed, role_at, role_placed, script_at, script_placed, plan_at, plan_placed, planned_step, item_taken}
 use Rattle.pr_text.specs.Declarations.{Declaration, WrittenTask, scripted, planned, OpenLines, Place, outside, in_script, in_plan, Declared}
 use Rattle.pr_text.specs.Declaring.{codes_of, are_codes_distinct}
-use Rattle.pr_text.specs.Placing.{begun_script, with_task, item_placed}
-use Rattle.pr_text.specs.Readings.{task_written}
-use Rattle.pr_text.specs.SaidLines.{Line, line, all_said, script_said}
-use Rattle.pr_text.specs.SaidScenarios.{attentions_in, pending_said, task_said, details_said}
+use Rattle.pr_text.specs.NextLine.{begun_script, with_task, item_placed}
+use Rattle.pr_text.specs.Reading.{task_written}
+use Rattle.pr_text.specs.ScriptRoundTrip.{Line, line, all_said, script_said}
+use Rattle.pr_text.specs.ScenarioRoundTrip.{attentions_in, pending_said, task_said, details_said}
 use Rattle.pr_text.proofs.Trees.{both, no_not, true_le}
 use Rattle.pr_text.proofs.SoundScripts.{or_no, no_true}
 use Rattle.pr_text.proofs.Rereading.{goes, reread}
@@ -45,7 +45,7 @@ pub said_on : (ls ks : List Line) (d e : Declared) (r : Result Declared ReadErro
 said_on [] ks d e r first rest = ap (λ x. and_then x (all_said ks)) first ∙ rest
 said_on (l ∷ ls) ks d e r first rest = on_after (item_placed l.number l.item d) (all_said ls) (all_said (ls ++ ks)) e r first (λ f h. said_on ls ks f e r h rest)
 
-pub said_first : (n : ℕ) (i : Item) (ls : List Line) (d e : Declared) (r : Result Declared ReadError) → item_taken n i d ≡ Ok e → all_said ls e ≡ r → all_said (line n i ∷ ls) d ≡ r
+pub said_first : (n : ℕ) (i : ScenarioLine) (ls : List Line) (d e : Declared) (r : Result Declared ReadError) → item_taken n i d ≡ Ok e → all_said ls e ≡ r → all_said (line n i ∷ ls) d ≡ r
 said_first n i ls d e r first rest = goes (item_placed n i d) e (all_said ls) (in_order n i d ∙ first) ∙ rest
 
 -- ---- pending attentions

@@ -12,7 +12,7 @@ use Rattle.pr_text.specs.ScriptLines.{body_lines}
 use Rattle.pr_text.specs.Declarations.{WrittenTask, scripted, planned, Declaration, Declared, Place, before_all, outside, in_script, in_plan}
 use Rattle.pr_text.specs.Declaring.{declared_keys}
 use Rattle.pr_text.specs.inside.Endings.{missing, missing_at}
-use Rattle.pr_text.specs.Readings.{WrittenNexus, task_written, nexus_written, nexus_declared, IsDeclaredBy}
+use Rattle.pr_text.specs.Reading.{WrittenNexus, task_written, nexus_written, nexus_declared, IsDeclaredBy}
 use Rattle.pr_text.specs.inside.Sound.{IsTask, IsDeclaration, AreDeclarations, IsSound}
 use Rattle.pr_text.proofs.Trees.{both, whole_fits}
 

@@ -9,7 +9,7 @@ use Rattle.pr_text.specs.declared.fault.ReadError.TheVariants.{TooLarge, NotAsci
 use Rattle.pr_text.specs.inside.Steps.{ReadsUpTo}
 use Rattle.pr_text.specs.Faults.{Fails}
 use Rattle.pr_text.specs.Texts.{answer_of}
-use Rattle.pr_text.specs.Readings.{IsWrittenAs, IsRead}
+use Rattle.pr_text.specs.Reading.{IsWrittenAs, IsRead}
 use Rattle.pr_text.proofs.Answering.{too_large}
 
 answer_of_front : (bytes rest : List ℕ) → (length bytes < 65537 → rest ≡ []) → answer_of (bytes ++ rest) ≡ answer_of bytes

@@ -16,7 +16,7 @@ use Rattle.pr_text.specs.WordTerms.{worth, number, digit_of, byte_of, without_pr
 use Rattle.pr_text.specs.CommandWords.{spelled_of, spelled_in}
 use Rattle.pr_text.specs.Clauses.{clause_of, alone, good_of, test_of}
 use Rattle.pr_text.specs.Chain.{each}
-use Rattle.pr_text.specs.Items.{Wanted, nobody, single, everybody, Item, keys_line, host_line, guest_line, start_line, pending_line, reservation_line, generation_line, role_line, script_line, plan_line, end_line, send_line, on_line, done_line, repeat_line, break_line, stop_line, command_line, fence_line, listed, alternative_of, everybody_of, single_of, wanted_of, name_in, only_name, budget_in, start_said, pending_said, item_of}
+use Rattle.pr_text.specs.ScenarioLines.{StartReservation, nobody, single, everybody, ScenarioLine, keys_line, host_line, guest_line, start_line, pending_line, reservation_line, generation_line, role_line, script_line, plan_line, end_line, send_line, on_line, done_line, repeat_line, break_line, stop_line, command_line, fence_line, listed, alternative_of, everybody_of, single_of, start_reservation_of, name_in, only_name, budget_in, start_said, pending_said, item_of}
 use Rattle.pr_text.specs.inside.Keywords.{keyword_of, said_simply, said_after, said_with}
 use Rattle.pr_text.proofs.ItemWords.{by_keyword}
 use Rattle.pr_text.proofs.NumberRoom.{digit_more, hex_some}
@@ -25,7 +25,7 @@ use Rattle.pr_text.proofs.Trees.{both, true_le, true_lt}
 abbrev pub is_key : ℕ → Bool
 is_key k = not (k == 0) && nat_lt k (2 ^ 64)
 
-abbrev pub is_wanted : Wanted → Bool
+abbrev pub is_wanted : StartReservation → Bool
 is_wanted nobody = true
 is_wanted (single kind name) = not (is_all kind)
 is_wanted (everybody kind) = is_all kind
@@ -34,7 +34,7 @@ abbrev pub is_test : Test → Bool
 is_test (test.Sense sense) = nat_lt sense.key 16
 is_test t = true
 
-abbrev pub is_item : Item → Bool
+abbrev pub is_item : ScenarioLine → Bool
 is_item (keys_line ks) = list_all is_key ks
 is_item (host_line name) = is_name name
 is_item (guest_line name) = is_name name
@@ -164,8 +164,8 @@ single_sound w =
     (λ kind h. cond_if (λ x. is_wanted x ≡ true) (is_all kind) None _ (λ f. tt) (λ f. single_with kind (name_of (drop 2 w)) f)))
     (λ e. tt)
 
-wanted_sound : (w : List ℕ) → IfSome (wanted_of w) (λ x. is_wanted x ≡ true)
-unfolding wanted_of
+wanted_sound : (w : List ℕ) → IfSome (start_reservation_of w) (λ x. is_wanted x ≡ true)
+unfolding start_reservation_of
 wanted_sound w =
     cond_if (λ x. is_wanted x ≡ true) (bytes_eq w (codes "none")) (Some nobody) _ (λ e. refl)
     (λ e. cond_if (λ x. is_wanted x ≡ true) (length w == 1) (everybody_of w) (single_of w) (λ f. everybody_sound w) (λ f. single_sound w))
@@ -200,7 +200,7 @@ test_sound (w ∷ ws) =
 
 -- ---- lines
 
-abbrev Sound : Item → Type 0
+abbrev Sound : ScenarioLine → Type 0
 Sound i = is_item i ≡ true
 
 simply_sound : (k : Keyword) (ws : List (List ℕ)) → IfSome (said_simply k ws) Sound
@@ -235,10 +235,10 @@ both_if : {A : Type 0} (P Q : A → Type 0) (o : Option A) → IfSome o P → If
 both_if P Q None h k = tt
 both_if P Q (Some x) h k = (h, k)
 
-reservation_sound : (ws : List (List ℕ)) → IfSome (option_map (λ xs. reservation_line xs) (listed wanted_of ws)) Sound
+reservation_sound : (ws : List (List ℕ)) → IfSome (option_map (λ xs. reservation_line xs) (listed start_reservation_of ws)) Sound
 reservation_sound ws =
-    map_if (λ ys. (not (length ys == 0) ≡ true) × (list_all is_wanted ys ≡ true)) Sound (λ xs. reservation_line xs) (listed wanted_of ws)
-    (both_if (λ ys. not (length ys == 0) ≡ true) (λ ys. list_all is_wanted ys ≡ true) (listed wanted_of ws) (listed_some wanted_of ws) (listed_all is_wanted wanted_of ws wanted_sound))
+    map_if (λ ys. (not (length ys == 0) ≡ true) × (list_all is_wanted ys ≡ true)) Sound (λ xs. reservation_line xs) (listed start_reservation_of ws)
+    (both_if (λ ys. not (length ys == 0) ≡ true) (λ ys. list_all is_wanted ys ≡ true) (listed start_reservation_of ws) (listed_some start_reservation_of ws) (listed_all is_wanted start_reservation_of ws wanted_sound))
     (λ x k. both _ _ k.0 k.1)
 
 after_sound : (k : Keyword) (ws : List (List ℕ)) → IfSome (said_after k ws) Sound

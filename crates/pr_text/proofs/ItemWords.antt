@@ -3,10 +3,10 @@ use Rattle.std.specs.Prelude.{◌≡◌, ℕ, List, Option, Some, codes, bytes_e
 use Rattle.std.proofs.Common.{refl}
 use Rattle.pr_text.specs.declared.keyword.Keyword.{Keyword}
 use Rattle.pr_text.specs.declared.keyword.Keyword.TheVariants as keyword
-use Rattle.pr_text.specs.Items.{Item, item_of}
+use Rattle.pr_text.specs.ScenarioLines.{ScenarioLine, item_of}
 use Rattle.pr_text.specs.inside.Keywords.{keyword_of, said_after, said_with}
 
-with_keyword : (b : Bool) (k : Keyword) (o : Option Keyword) (w : List ℕ) (ws : List (List ℕ)) (i : Option Item)
+with_keyword : (b : Bool) (k : Keyword) (o : Option Keyword) (w : List ℕ) (ws : List (List ℕ)) (i : Option ScenarioLine)
     → i ≡ said_with o w ws → cond b (said_after k ws) i ≡ said_with (cond b (Some k) o) w ws
 with_keyword true k o w ws i rest = refl
 with_keyword false k o w ws i rest = rest

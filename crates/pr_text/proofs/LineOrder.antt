@@ -9,16 +9,16 @@ use Rattle.pr_script.specs.declared.script.Test.{Test}
 use Rattle.pr_roles.specs.declared.role.Clause.{Clause}
 use Rattle.pr_roles.specs.Fitting.{are_distinct, is_same_reservation, is_action}
 use Rattle.pr_text.specs.declared.fault.Which.{Which}
-use Rattle.pr_text.specs.declared.spelling.Spelled.{Spelled}
+use Rattle.pr_text.specs.declared.spelling.ParsedCommand.{ParsedCommand}
 use Rattle.pr_text.specs.declared.fault.ReadError.{ReadError}
 use Rattle.pr_text.specs.declared.fault.Which.TheVariants as which
 use Rattle.pr_text.specs.declared.fault.ReadError.TheVariants as fault
-use Rattle.pr_text.specs.Declarations.{Declaration, Opening, repeating, sending, OpenLines, Place, before_all, outside, in_script, in_plan, Declared}
+use Rattle.pr_text.specs.Declarations.{Declaration, OpenBlock, repeating, sending, OpenLines, Place, before_all, outside, in_script, in_plan, Declared}
 use Rattle.pr_text.specs.Chain.{each}
 use Rattle.pr_text.specs.Declaring.{declared_keys, number_of, are_codes_distinct, held_of, is_spelled, is_test_declared}
 use Rattle.pr_text.specs.Faults.{and_then, unless}
-use Rattle.pr_text.specs.Items.{Wanted, Item, fence_line, keys_line, host_line, guest_line, start_line, pending_line, reservation_line, generation_line, role_line, script_line, plan_line, end_line, send_line, on_line, done_line, repeat_line, break_line, stop_line, command_line}
-use Rattle.pr_text.specs.Placing.{with_more, opening, stating, closing, item_placed}
+use Rattle.pr_text.specs.ScenarioLines.{StartReservation, ScenarioLine, fence_line, keys_line, host_line, guest_line, start_line, pending_line, reservation_line, generation_line, role_line, script_line, plan_line, end_line, send_line, on_line, done_line, repeat_line, break_line, stop_line, command_line}
+use Rattle.pr_text.specs.NextLine.{with_more, opening, stating, closing, item_placed}
 use Rattle.pr_text.specs.ScriptLines.{send_at, arm_on, repeat_of, break_out, stop_with}
 use Rattle.pr_text.specs.Standing.{is_repeating, is_sending, awaits_arm, awaits_more, may_close, stands_under}
 use Rattle.pr_text.specs.inside.Chains.{keys_placed, nexus_placed, start_placed, pending_placed, reservation_placed, generation_placed, role_placed, script_placed, plan_placed, send_step, repeat_step, break_step, stop_step, on_step, done_step, placed_first, placed_outside, placed_in_script, planned_step, placed_in_plan, placed_at, item_taken}
@@ -81,7 +81,7 @@ pending_same n name xs d = by_number (number_of d.nexuses name) refl
     by_number None is = rw is refl
     by_number (Some h) is = by_nexus h (slice_get d.nexuses h) is refl
 
-reservation_same : (n : ℕ) (ws : List Wanted) (d : Declared) → item_placed n (reservation_line ws) (at_place d outside) ≡ reservation_placed n ws (at_place d outside)
+reservation_same : (n : ℕ) (ws : List StartReservation) (d : Declared) → item_placed n (reservation_line ws) (at_place d outside) ≡ reservation_placed n ws (at_place d outside)
 unfolding item_placed reservation_placed
 reservation_same n ws d = by_helds (each (held_of d.nexuses) ws) refl
   where
@@ -136,7 +136,7 @@ plan_same n name d = by_number (number_of d.nexuses name) refl
     by_number None is = rw is refl
     by_number (Some h) is = by_nexus h (slice_get d.nexuses h) is refl
 
-outside_same : (n : ℕ) (i : Item) (d : Declared) → item_placed n i (at_place d outside) ≡ placed_outside n i (at_place d outside)
+outside_same : (n : ℕ) (i : ScenarioLine) (d : Declared) → item_placed n i (at_place d outside) ≡ placed_outside n i (at_place d outside)
 unfolding item_placed generation_placed
 outside_same n fence_line d = refl
 outside_same n (keys_line keys) d = keys_same n keys d
@@ -160,7 +160,7 @@ outside_same n (command_line s) d = refl
 
 -- ---- the first line
 
-first_same : (n : ℕ) (i : Item) (d : Declared) → item_placed n i (at_place d before_all) ≡ placed_first n i (at_place d before_all)
+first_same : (n : ℕ) (i : ScenarioLine) (d : Declared) → item_placed n i (at_place d before_all) ≡ placed_first n i (at_place d before_all)
 unfolding item_placed
 first_same n fence_line d = refl
 first_same n (keys_line keys) d = refl
@@ -193,7 +193,7 @@ send_tests false false true d e f n v w p g = refl
 send_tests false false false true e f n v w p g = refl
 send_tests false false false false e f n v w p g = refl
 
-send_same : (n : ℕ) (s : Spelled) (o : OpenLines) (d : Declared)
+send_same : (n : ℕ) (s : ParsedCommand) (o : OpenLines) (d : Declared)
     → item_placed n (send_line s) (at_place d (in_script o)) ≡ and_then (send_step n (declared_keys d) s o) (λ p. Ok (at_place d (in_script p)))
 unfolding item_placed send_step
 send_same n s o d =
@@ -257,7 +257,7 @@ on_same : (n : ℕ) (t : Test) (o : OpenLines) (d : Declared)
 unfolding item_placed on_step
 on_same n t o d = by_blocks o.blocks refl
   where
-    by_blocks : (bs : List Opening) → o.blocks ≡ bs
+    by_blocks : (bs : List OpenBlock) → o.blocks ≡ bs
         → item_placed n (on_line t) (at_place d (in_script o)) ≡ and_then (on_step n (declared_keys d) t o) (λ p. Ok (at_place d (in_script p)))
     by_blocks [] is = rw is refl
     by_blocks (repeating ∷ bs) is = rw is refl
@@ -269,7 +269,7 @@ ends : {A : Type 0} (b : Bool) (e : ReadError) (a : A) → unless (cond (not b) 
 ends true e a = refl
 ends false e a = refl
 
-in_script_same : (n : ℕ) (i : Item) (o : OpenLines) (d : Declared) → item_placed n i (at_place d (in_script o)) ≡ placed_in_script n o i (at_place d (in_script o))
+in_script_same : (n : ℕ) (i : ScenarioLine) (o : OpenLines) (d : Declared) → item_placed n i (at_place d (in_script o)) ≡ placed_in_script n o i (at_place d (in_script o))
 unfolding item_placed
 in_script_same n end_line o d = ends (length o.blocks == 0) _ _
 in_script_same n (send_line s) o d = send_same n s o d
@@ -300,13 +300,13 @@ command_tests true b e n u p g = refl
 command_tests false true e n u p g = refl
 command_tests false false e n u p g = refl
 
-command_same : (n h : ℕ) (commands : List Command) (s : Spelled) (d : Declared)
+command_same : (n h : ℕ) (commands : List Command) (s : ParsedCommand) (d : Declared)
     → item_placed n (command_line s) (at_place d (in_plan h commands)) ≡ placed_in_plan n h commands (command_line s) (at_place d (in_plan h commands))
 unfolding item_placed planned_step
 command_same n h commands s d =
     command_tests (not (is_spelled (declared_keys d) s)) (nat_le 256 (length commands)) _ n which.Plan (commands ++ s.command ∷ []) (λ more. at_place d (in_plan h more))
 
-in_plan_same : (n h : ℕ) (commands : List Command) (i : Item) (d : Declared) → item_placed n i (at_place d (in_plan h commands)) ≡ placed_in_plan n h commands i (at_place d (in_plan h commands))
+in_plan_same : (n h : ℕ) (commands : List Command) (i : ScenarioLine) (d : Declared) → item_placed n i (at_place d (in_plan h commands)) ≡ placed_in_plan n h commands i (at_place d (in_plan h commands))
 unfolding item_placed
 in_plan_same n h commands (command_line s) d = command_same n h commands s d
 in_plan_same n h commands end_line d = refl
@@ -330,13 +330,13 @@ in_plan_same n h commands (stop_line word) d = refl
 
 -- ---- any line
 
-at_same : (n : ℕ) (i : Item) (d : Declared) (p : Place) → item_placed n i (at_place d p) ≡ placed_at n p i (at_place d p)
+at_same : (n : ℕ) (i : ScenarioLine) (d : Declared) (p : Place) → item_placed n i (at_place d p) ≡ placed_at n p i (at_place d p)
 at_same n i d before_all = first_same n i d
 at_same n i d outside = outside_same n i d
 at_same n i d (in_script o) = in_script_same n i o d
 at_same n i d (in_plan h commands) = in_plan_same n h commands i d
 
 -- what is declared with a line, or its first fault, is what the reader's tests come to
-pub in_order : (n : ℕ) (i : Item) (d : Declared) → item_placed n i d ≡ item_taken n i d
+pub in_order : (n : ℕ) (i : ScenarioLine) (d : Declared) → item_placed n i d ≡ item_taken n i d
 unfolding item_taken
 in_order n i d = at_same n i d d.place

@@ -9,7 +9,7 @@ use Rattle.pr_roles.specs.Scenarios.{Scenario, Nexus, Task, Scripted, Planned}
 use Rattle.pr_text.specs.ScriptLines.{ScriptLine, send_at, arm_on, block_done, repeat_of, stop_with, statement_lines, body_lines, arms_lines}
 use Rattle.pr_text.specs.Declarations.{scripted, Declared}
 use Rattle.pr_text.specs.inside.Sound.{is_statement}
-use Rattle.pr_text.specs.Readings.{WrittenNexus, task_written, nexus_written, IsDeclaredBy, IsWrittenAs}
+use Rattle.pr_text.specs.Reading.{WrittenNexus, task_written, nexus_written, IsDeclaredBy, IsWrittenAs}
 use Rattle.pr_text.proofs.SoundScripts.{ok_same}
 
 -- the first of the lines begins a statement

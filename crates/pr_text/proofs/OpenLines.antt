@@ -12,12 +12,12 @@ use Rattle.pr_script.specs.declared.script.Statement.TheVariants.{Send, Repeat}
 use Rattle.pr_script.specs.declared.script.Arm.{Arm}
 use Rattle.pr_script.specs.Trees.{statement_of, statements_in, arms_in}
 use Rattle.pr_script.proofs.Equations.{tree_repeat, tree_send}
-use Rattle.pr_text.specs.declared.open_script.Armless.{Armless}
-use Rattle.pr_text.specs.declared.open_script.Frame.{Frame}
-use Rattle.pr_text.specs.declared.open_script.Opener.{Opener}
-use Rattle.pr_text.specs.declared.open_script.Opener.TheVariants as opener
+use Rattle.pr_text.specs.declared.open_script.SendWithoutArm.{SendWithoutArm}
+use Rattle.pr_text.specs.declared.open_script.OpenBody.{OpenBody}
+use Rattle.pr_text.specs.declared.open_script.BlockHead.{BlockHead}
+use Rattle.pr_text.specs.declared.open_script.BlockHead.TheVariants as opener
 use Rattle.pr_text.specs.ScriptLines.{ScriptLine, send_at, arm_on, block_done, repeat_of, statement_lines, body_lines, arms_lines}
-use Rattle.pr_text.specs.Declarations.{Opening}
+use Rattle.pr_text.specs.Declarations.{OpenBlock}
 use Rattle.pr_text.specs.Standing.{is_repeating, is_sending, awaits_arm}
 use Rattle.pr_text.specs.inside.OpenScripts.{with_armless, armless_lines, lines_in, arm_lines, opener_lines, frame_lines, block_of, block_by, blocks_in}
 
@@ -52,10 +52,10 @@ closed_send line command arms before a e =
 
 -- ---- the steps
 
-pub more_blocks : (outer : List Frame) (f : Frame) → blocks_in (outer ++ f ∷ []) ≡ block_of f ∷ blocks_in outer
+pub more_blocks : (outer : List OpenBody) (f : OpenBody) → blocks_in (outer ++ f ∷ []) ≡ block_of f ∷ blocks_in outer
 more_blocks outer f = fold-append (λ blocks g. block_of g ∷ blocks) [] outer (f ∷ [])
 
-pub more_lines : (outer : List Frame) (f : Frame) → (flat_map frame_lines (outer ++ f ∷ []) ++ []) ++ [] ≡ ((flat_map frame_lines outer ++ lines_in f.body.items) ++ []) ++ opener_lines f.opener
+pub more_lines : (outer : List OpenBody) (f : OpenBody) → (flat_map frame_lines (outer ++ f ∷ []) ++ []) ++ [] ≡ ((flat_map frame_lines outer ++ lines_in f.body.items) ++ []) ++ opener_lines f.opener
 more_lines outer f = rw (flat_map-append frame_lines outer (f ∷ [])) (simp (append_assoc, append-nil))
 
 pub first_arm : (xs : List ScriptLine) (x y : ScriptLine) → (xs ++ []) ++ (x ∷ y ∷ []) ≡ (xs ++ x ∷ []) ++ y ∷ []
@@ -73,7 +73,7 @@ armless_closes xs body line command arms e =
 joined : (a b c d : List ScriptLine) → (a ++ (b ++ (c ++ (d ++ block_done ∷ [])))) ++ [] ≡ (((a ++ (b ++ c)) ++ d) ++ []) ++ block_done ∷ []
 joined a b c d = simp (append_assoc, append-nil)
 
-pub closes : (outer : List Frame) (f : Frame) (body : List Statement) (s : Statement)
+pub closes : (outer : List OpenBody) (f : OpenBody) (body : List Statement) (s : Statement)
     → statement_lines (statement_of s) ≡ opener_lines f.opener ++ (lines_in body ++ block_done ∷ [])
     → (flat_map frame_lines outer ++ lines_in (f.body.items ++ s ∷ [])) ++ [] ≡ ((flat_map frame_lines (outer ++ f ∷ []) ++ lines_in body) ++ []) ++ block_done ∷ []
 closes outer f body s e =
@@ -89,52 +89,52 @@ closes outer f body s e =
 count-cons : {X : Type 0} (p : X → Bool) (x : X) (xs : List X) → count_by p (x ∷ xs) ≡ cond (p x) 1 0 + count_by p xs
 count-cons p x xs = sum_by-cons (λ y. cond (p y) 1 0) x xs
 
-blocks_from : (p : Opening → Bool) (acc : List Opening) (frames : List Frame) → count_by p (fold (λ blocks f. block_of f ∷ blocks) acc frames) ≡ count_by p acc + count_by (λ f. p (block_of f)) frames
+blocks_from : (p : OpenBlock → Bool) (acc : List OpenBlock) (frames : List OpenBody) → count_by p (fold (λ blocks f. block_of f ∷ blocks) acc frames) ≡ count_by p acc + count_by (λ f. p (block_of f)) frames
 blocks_from p acc [] = omega arith
 blocks_from p acc (f ∷ frames) =
     omega (arith, blocks_from p (block_of f ∷ acc) frames, count-cons p (block_of f) acc, count-cons (λ g. p (block_of g)) f frames)
 
-pub count_repeats : (frames : List Frame) → count_by is_repeating (blocks_in frames) ≡ count_by (λ f. is_repeating (block_of f)) frames
+pub count_repeats : (frames : List OpenBody) → count_by is_repeating (blocks_in frames) ≡ count_by (λ f. is_repeating (block_of f)) frames
 count_repeats frames = blocks_from is_repeating [] frames ∙ zero-add (count_by (λ f. is_repeating (block_of f)) frames)
 
-by_opener : (o : Opener) → is_sending (block_by o) ≡ not (is_repeating (block_by o))
+by_opener : (o : BlockHead) → is_sending (block_by o) ≡ not (is_repeating (block_by o))
 by_opener (opener.Repeat count) = refl
 by_opener (opener.Arm line command arms test) = refl
 
-sending_not : (f : Frame) → is_sending (block_of f) ≡ not (is_repeating (block_of f))
+sending_not : (f : OpenBody) → is_sending (block_of f) ≡ not (is_repeating (block_of f))
 sending_not f = by_opener f.opener
 
-sends_counted : (frames : List Frame) → count_by (λ f. is_sending (block_of f)) frames ≡ count_by (λ f. not (is_repeating (block_of f))) frames
+sends_counted : (frames : List OpenBody) → count_by (λ f. is_sending (block_of f)) frames ≡ count_by (λ f. not (is_repeating (block_of f))) frames
 sends_counted [] = refl
 sends_counted (f ∷ frames) =
     let e : ◌≡◌ {A = ℕ} (cond (is_sending (block_of f)) 1 0) (cond (not (is_repeating (block_of f))) 1 0) = ap (λ b. cond b 1 0) (sending_not f) in
     omega (arith, e, sends_counted frames, count-cons (λ g. is_sending (block_of g)) f frames, count-cons (λ g. not (is_repeating (block_of g))) f frames)
 
-pub count_sends : (frames : List Frame) → count_by is_sending (blocks_in frames) ≡ count_by (λ f. not (is_repeating (block_of f))) frames
+pub count_sends : (frames : List OpenBody) → count_by is_sending (blocks_in frames) ≡ count_by (λ f. not (is_repeating (block_of f))) frames
 count_sends frames = blocks_from is_sending [] frames ∙ (zero-add (count_by (λ f. is_sending (block_of f)) frames) ∙ sends_counted frames)
 
 -- ---- what the blocks say
 
-armed_by : (o : Opener) (bs : List Opening) → awaits_arm (block_by o ∷ bs) ≡ false
+armed_by : (o : BlockHead) (bs : List OpenBlock) → awaits_arm (block_by o ∷ bs) ≡ false
 armed_by (opener.Repeat count) bs = refl
 armed_by (opener.Arm line command arms test) bs = some_arm (length arms.items)
   where
     some_arm : (n : ℕ) → (n + 1 == 0) ≡ false
     some_arm n = grind (arith, nat_tests)
 
-armed_from : (acc : List Opening) (frames : List Frame) → awaits_arm acc ≡ false → awaits_arm (fold (λ blocks f. block_of f ∷ blocks) acc frames) ≡ false
+armed_from : (acc : List OpenBlock) (frames : List OpenBody) → awaits_arm acc ≡ false → awaits_arm (fold (λ blocks f. block_of f ∷ blocks) acc frames) ≡ false
 armed_from acc [] h = h
 armed_from acc (f ∷ frames) h = armed_from (block_of f ∷ acc) frames (armed_by f.opener acc)
 
 -- no open body is a send without arms
-pub armed : (frames : List Frame) → awaits_arm (blocks_in frames) ≡ false
+pub armed : (frames : List OpenBody) → awaits_arm (blocks_in frames) ≡ false
 armed frames = armed_from [] frames refl
 
-length_from : (acc : List Opening) (frames : List Frame) → length (fold (λ blocks f. block_of f ∷ blocks) acc frames) ≡ length acc + length frames
+length_from : (acc : List OpenBlock) (frames : List OpenBody) → length (fold (λ blocks f. block_of f ∷ blocks) acc frames) ≡ length acc + length frames
 length_from acc [] = omega arith
 length_from acc (f ∷ frames) = omega (arith, length_from (block_of f ∷ acc) frames)
 
-pub length_blocks : (frames : List Frame) → length (blocks_in frames) ≡ length frames
+pub length_blocks : (frames : List OpenBody) → length (blocks_in frames) ≡ length frames
 length_blocks frames = length_from [] frames ∙ zero-add (length frames)
 
 -- ---- the end
@@ -143,7 +143,7 @@ not_closed : (n m : ℕ) → n ≡ suc m → (n == 0) ≡ true → ⊥
 not_closed n m e closed = grind (arith, nat_tests)
 
 -- where no block is open, the lines are those of the statements
-pub closed_lines : (armless : Option Armless) (outer : List Frame) (body : List Statement) → (length (with_armless armless (blocks_in outer)) == 0) ≡ true
+pub closed_lines : (armless : Option SendWithoutArm) (outer : List OpenBody) (body : List Statement) → (length (with_armless armless (blocks_in outer)) == 0) ≡ true
     → (flat_map frame_lines outer ++ lines_in body) ++ armless_lines armless ≡ body_lines (statements_in body)
 closed_lines (Some a) outer body closed = grind (arith, nat_tests)
 closed_lines None [] body closed = append-nil (lines_in body) ∙ sym (body_lines_in body)

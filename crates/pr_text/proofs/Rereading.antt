@@ -12,17 +12,17 @@ use Rattle.pr_text.specs.declared.fault.ReadError.{ReadError}
 use Rattle.pr_text.specs.Faults.{and_then}
 use Rattle.pr_text.specs.CommandWords.{keyless}
 use Rattle.pr_text.specs.ScriptLines.{ScriptLine, send_at, arm_on, block_done, repeat_of, break_out, stop_with, statement_lines, body_lines, arms_lines}
-use Rattle.pr_text.specs.Declarations.{Opening, repeating, sending, OpenLines, Declared}
+use Rattle.pr_text.specs.Declarations.{OpenBlock, repeating, sending, OpenLines, Declared}
 use Rattle.pr_text.specs.Standing.{is_repeating, is_sending, awaits_arm, is_in_repeat, stands_under, may_close}
 use Rattle.pr_text.specs.inside.Chains.{send_step, repeat_step, break_step, stop_step, on_step, done_step, all_stepped, script_step, item_taken}
 use Rattle.pr_text.specs.Declaring.{is_test_declared, declared_keys}
-use Rattle.pr_text.specs.SaidLines.{ScriptsHaveNoFault, said_by, numbered, script_said, all_said, within}
+use Rattle.pr_text.specs.ScriptRoundTrip.{ScriptsHaveNoFault, said_by, numbered, script_said, all_said, within}
 use Rattle.pr_text.proofs.Trees.{both, no_not, true_le, one_more, as_many}
 use Rattle.pr_text.proofs.LineOrder.{in_order}
-use Rattle.pr_text.specs.Placing.{begun_script}
+use Rattle.pr_text.specs.NextLine.{begun_script}
 
 -- an open script by its parts
-abbrev open_at : ℕ → ℕ → List ScriptLine → ℕ → List Opening → Bool → OpenLines
+abbrev open_at : ℕ → ℕ → List ScriptLine → ℕ → List OpenBlock → Bool → OpenLines
 open_at host budget ls k bs g = record { host = host; budget = budget; lines = ls; statements = k; blocks = bs; begun = g }
 
 -- ---- single lines
@@ -30,25 +30,25 @@ open_at host budget ls k bs g = record { host = host; budget = budget; lines = l
 pub goes : {A B : Type 0} (step : Result A ReadError) (a : A) (f : A → Result B ReadError) → step ≡ Ok a → and_then step f ≡ f a
 goes step a f e = rw e refl
 
-send_goes : (m : ℕ) (keys : List ℕ) (c : Command) (host budget : ℕ) (ls : List ScriptLine) (k : ℕ) (bs : List Opening) (g : Bool)
+send_goes : (m : ℕ) (keys : List ℕ) (c : Command) (host budget : ℕ) (ls : List ScriptLine) (k : ℕ) (bs : List OpenBlock) (g : Bool)
     → awaits_arm bs ≡ false → is_written keys c ≡ true → nat_le 512 k ≡ false → nat_le 8 (count_by is_sending bs) ≡ false
     → send_step m keys (keyless c) (open_at host budget ls k bs g) ≡ Ok (open_at host budget (ls ++ send_at m c ∷ []) (k + 1) (sending c 0 ∷ bs) false)
 unfolding send_step
 send_goes m keys c host budget ls k bs g free written short shallow = rw (free, written, short, shallow) refl
 
-repeat_goes : (m : ℕ) (keys : List ℕ) (count : ℕ) (host budget : ℕ) (ls : List ScriptLine) (k : ℕ) (bs : List Opening) (g : Bool)
+repeat_goes : (m : ℕ) (keys : List ℕ) (count : ℕ) (host budget : ℕ) (ls : List ScriptLine) (k : ℕ) (bs : List OpenBlock) (g : Bool)
     → awaits_arm bs ≡ false → nat_le 512 k ≡ false → nat_le 8 (count_by is_repeating bs) ≡ false → (nat_le 1 count && nat_le count 1000) ≡ true
     → repeat_step m count (open_at host budget ls k bs g) ≡ Ok (open_at host budget (ls ++ repeat_of count ∷ []) (k + 1) (repeating ∷ bs) false)
 unfolding repeat_step
 repeat_goes m keys count host budget ls k bs g free short shallow counted = rw (free, short, shallow, counted) refl
 
-break_goes : (m : ℕ) (host budget : ℕ) (ls : List ScriptLine) (k : ℕ) (bs : List Opening) (g : Bool)
+break_goes : (m : ℕ) (host budget : ℕ) (ls : List ScriptLine) (k : ℕ) (bs : List OpenBlock) (g : Bool)
     → awaits_arm bs ≡ false → (is_in_repeat bs && not g) ≡ false → (count_by is_repeating bs == 0) ≡ false → nat_le 512 k ≡ false
     → break_step m (open_at host budget ls k bs g) ≡ Ok (open_at host budget (ls ++ break_out ∷ []) (k + 1) bs true)
 unfolding break_step
 break_goes m host budget ls k bs g free begun inside short = rw (free, begun, inside, short) refl
 
-stop_goes : (m : ℕ) (word : List ℕ) (host budget : ℕ) (ls : List ScriptLine) (k : ℕ) (bs : List Opening) (g : Bool)
+stop_goes : (m : ℕ) (word : List ℕ) (host budget : ℕ) (ls : List ScriptLine) (k : ℕ) (bs : List OpenBlock) (g : Bool)
     → awaits_arm bs ≡ false → (is_in_repeat bs && not g) ≡ false → nat_le 512 k ≡ false
     → stop_step m word (open_at host budget ls k bs g) ≡ Ok (open_at host budget (ls ++ stop_with word ∷ []) (k + 1) bs true)
 unfolding stop_step
@@ -63,13 +63,13 @@ test_stands keys c test.Conflict h = (refl, refl)
 test_stands keys c test.Attention h = (refl, refl)
 test_stands keys c (test.Sense sense) h = (refl, refl)
 
-arm_goes : (m : ℕ) (keys : List ℕ) (t : Test) (c : Command) (j : ℕ) (host budget : ℕ) (ls : List ScriptLine) (k : ℕ) (bs : List Opening) (g : Bool)
+arm_goes : (m : ℕ) (keys : List ℕ) (t : Test) (c : Command) (j : ℕ) (host budget : ℕ) (ls : List ScriptLine) (k : ℕ) (bs : List OpenBlock) (g : Bool)
     → stands_under c t ≡ true → is_test_declared keys t ≡ true → nat_le 16 j ≡ false
     → on_step m keys t (open_at host budget ls k (sending c j ∷ bs) g) ≡ Ok (open_at host budget (ls ++ arm_on t ∷ []) k (sending c (j + 1) ∷ bs) false)
 unfolding on_step
 arm_goes m keys t c j host budget ls k bs g under known short = rw (under, known, short) refl
 
-done_goes : (m : ℕ) (host budget : ℕ) (ls : List ScriptLine) (k : ℕ) (b : Opening) (bs : List Opening) (g : Bool)
+done_goes : (m : ℕ) (host budget : ℕ) (ls : List ScriptLine) (k : ℕ) (b : OpenBlock) (bs : List OpenBlock) (g : Bool)
     → may_close (b ∷ bs) g ≡ true
     → done_step m (open_at host budget ls k (b ∷ bs) g) ≡ Ok (open_at host budget (ls ++ block_done ∷ []) k bs true)
 unfolding done_step
@@ -77,17 +77,17 @@ done_goes m host budget ls k b bs g closes = rw closes refl
 
 -- ---- where statements may stand
 
-record Stands (repeated sent : ℕ) (bs : List Opening) : Type 0 where
+record Stands (repeated sent : ℕ) (bs : List OpenBlock) : Type 0 where
   repeats_are : count_by is_repeating bs ≡ repeated
   sends_are : count_by is_sending bs ≡ sent
   free : awaits_arm bs ≡ false
 
-abbrev may_begin : Stmt → List Opening → Bool → Bool
+abbrev may_begin : Stmt → List OpenBlock → Bool → Bool
 may_begin (sends n c a) bs g = true
 may_begin (repeats n b) bs g = true
 may_begin x bs g = not (is_in_repeat bs && not g)
 
-abbrev may_follow : Stmts → List Opening → Bool → Bool
+abbrev may_follow : Stmts → List OpenBlock → Bool → Bool
 may_follow none bs g = true
 may_follow (more x rest) bs g = may_begin x bs g
 
@@ -104,21 +104,21 @@ after_one : (b : Bool) → not (b && false) ≡ true
 after_one true = refl
 after_one false = refl
 
-follows_in_arm : (b : Stmts) (c : Command) (j : ℕ) (bs : List Opening) (g : Bool) → may_follow b (sending c j ∷ bs) g ≡ true
+follows_in_arm : (b : Stmts) (c : Command) (j : ℕ) (bs : List OpenBlock) (g : Bool) → may_follow b (sending c j ∷ bs) g ≡ true
 follows_in_arm none c j bs g = refl
 follows_in_arm (more (sends n d a) rest) c j bs g = refl
 follows_in_arm (more (repeats n b) rest) c j bs g = refl
 follows_in_arm (more breaks rest) c j bs g = refl
 follows_in_arm (more (stops w) rest) c j bs g = refl
 
-follows_one : (b : Stmts) (bs : List Opening) → may_follow b bs true ≡ true
+follows_one : (b : Stmts) (bs : List OpenBlock) → may_follow b bs true ≡ true
 follows_one none bs = refl
 follows_one (more (sends n d a) rest) bs = refl
 follows_one (more (repeats n b) rest) bs = refl
 follows_one (more breaks rest) bs = after_one (is_in_repeat bs)
 follows_one (more (stops w) rest) bs = after_one (is_in_repeat bs)
 
-follows_repeat : (b : Stmts) (bs : List Opening) (g : Bool) → begins_body b ≡ true → may_follow b bs g ≡ true
+follows_repeat : (b : Stmts) (bs : List OpenBlock) (g : Bool) → begins_body b ≡ true → may_follow b bs g ≡ true
 follows_repeat none bs g h = refl
 follows_repeat (more (sends n d a) rest) bs g h = refl
 follows_repeat (more (repeats n b) rest) bs g h = refl
@@ -157,17 +157,17 @@ few_arms j n h = grind (arith, nat_tests)
 some_arm : (j : ℕ) → (j + 1 == 0) ≡ false
 some_arm j = grind (arith, nat_tests)
 
-stands_armed : (r s : ℕ) (c : Command) (j : ℕ) (bs : List Opening) → count_by is_repeating bs ≡ r → count_by is_sending bs ≡ s → Stands r (s + 1) (sending c (j + 1) ∷ bs)
+stands_armed : (r s : ℕ) (c : Command) (j : ℕ) (bs : List OpenBlock) → count_by is_repeating bs ≡ r → count_by is_sending bs ≡ s → Stands r (s + 1) (sending c (j + 1) ∷ bs)
 stands_armed r s c j bs a b = record { repeats_are = as_many is_repeating (sending c (j + 1)) bs r refl a; sends_are = one_more is_sending (sending c (j + 1)) bs s refl b; free = some_arm j }
 
-stands_repeated : (r s : ℕ) (bs : List Opening) → Stands r s bs → Stands (r + 1) s (repeating ∷ bs)
+stands_repeated : (r s : ℕ) (bs : List OpenBlock) → Stands r s bs → Stands (r + 1) s (repeating ∷ bs)
 stands_repeated r s bs h = record { repeats_are = one_more is_repeating repeating bs r refl h.repeats_are; sends_are = as_many is_sending repeating bs s refl h.sends_are; free = refl }
 
-same_at : (host budget : ℕ) (ls ks : List ScriptLine) (j k : ℕ) (bs cs : List Opening) (f g : Bool) → ls ≡ ks → j ≡ k → bs ≡ cs → f ≡ g
+same_at : (host budget : ℕ) (ls ks : List ScriptLine) (j k : ℕ) (bs cs : List OpenBlock) (f g : Bool) → ls ≡ ks → j ≡ k → bs ≡ cs → f ≡ g
     → open_at host budget ls j bs f ≡ open_at host budget ks k cs g
 same_at host budget ls ks j k bs cs f g a b c d = cc
 
-same_arms : (c : Command) (i j : ℕ) (bs : List Opening) → i ≡ j → ◌≡◌ {A = List Opening} (sending c i ∷ bs) (sending c j ∷ bs)
+same_arms : (c : Command) (i j : ℕ) (bs : List OpenBlock) → i ≡ j → ◌≡◌ {A = List OpenBlock} (sending c i ∷ bs) (sending c j ∷ bs)
 same_arms c i j bs e = cc
 
 block_joined : (ls : List ScriptLine) (x : ScriptLine) (inner : List ScriptLine) → ((ls ++ x ∷ []) ++ inner) ++ block_done ∷ [] ≡ ls ++ x ∷ (inner ++ block_done ∷ [])
@@ -194,7 +194,7 @@ arms_rest j n h = omega arith
 -- ---- statements, bodies and arms
 
 mutual
-  statement_goes : (n : ℕ) (keys : List ℕ) (host budget : ℕ) (x : Stmt) (r s : ℕ) (u ls : List ScriptLine) (k : ℕ) (bs : List Opening) (g : Bool)
+  statement_goes : (n : ℕ) (keys : List ℕ) (host budget : ℕ) (x : Stmt) (r s : ℕ) (u ls : List ScriptLine) (k : ℕ) (bs : List OpenBlock) (g : Bool)
       → statement_fits keys r s x ≡ true → Stands r s bs → may_begin x bs g ≡ true → k + count_of x ≤ 512
       → all_stepped n keys (statement_lines x ++ u) (open_at host budget ls k bs g) ≡ all_stepped n keys u (open_at host budget (ls ++ statement_lines x) (k + count_of x) bs true)
   statement_goes n keys host budget (sends m c a) r s u ls k bs g fits stands begins few =
@@ -227,7 +227,7 @@ mutual
       goes _ _ (all_stepped n keys u)
       (stop_goes n w host budget ls k bs g stands.free (no_not _ begins) (short_now k 0 few))
 
-  body_goes : (n : ℕ) (keys : List ℕ) (host budget : ℕ) (b : Stmts) (r s : ℕ) (u ls : List ScriptLine) (k : ℕ) (bs : List Opening) (g : Bool)
+  body_goes : (n : ℕ) (keys : List ℕ) (host budget : ℕ) (b : Stmts) (r s : ℕ) (u ls : List ScriptLine) (k : ℕ) (bs : List OpenBlock) (g : Bool)
       → statements_fit keys r s b ≡ true → Stands r s bs → may_follow b bs g ≡ true → k + count_of_all b ≤ 512
       → all_stepped n keys (body_lines b ++ u) (open_at host budget ls k bs g) ≡ all_stepped n keys u (open_at host budget (ls ++ body_lines b) (k + count_of_all b) bs (begun_after b g))
   body_goes n keys host budget none r s u ls k bs g fits stands follows few =
@@ -239,7 +239,7 @@ mutual
       ∙ (body_goes n keys host budget rest r s u (ls ++ statement_lines x) (k + count_of x) bs true p.1 stands (follows_one rest bs) (sum_rest k (count_of x) (count_of_all rest) few)
       ∙ ap (all_stepped n keys u) (same_at host budget _ _ _ _ bs bs _ true (append_assoc ls (statement_lines x) (body_lines rest)) (sum_joined k (count_of x) (count_of_all rest)) refl (begun_still rest))))
 
-  arms_goes : (n : ℕ) (keys : List ℕ) (host budget : ℕ) (c : Command) (a : Arms) (r s : ℕ) (u ls : List ScriptLine) (k j : ℕ) (bs : List Opening) (g : Bool)
+  arms_goes : (n : ℕ) (keys : List ℕ) (host budget : ℕ) (c : Command) (a : Arms) (r s : ℕ) (u ls : List ScriptLine) (k j : ℕ) (bs : List OpenBlock) (g : Bool)
       → arms_fit keys r (s + 1) c a ≡ true → count_by is_repeating bs ≡ r → count_by is_sending bs ≡ s → j + count_of_arms a ≤ 16 → k + count_in_arms a ≤ 512
       → all_stepped n keys (arms_lines a ++ u) (open_at host budget ls k (sending c j ∷ bs) g)
       ≡ all_stepped n keys u (open_at host budget (ls ++ arms_lines a) (k + count_in_arms a) (sending c (j + count_of_arms a) ∷ bs) (begun_arms a g))

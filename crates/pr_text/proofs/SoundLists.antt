@@ -23,8 +23,8 @@ use Rattle.pr_roles.specs.declared.role.Clause.{Clause}
 use Rattle.pr_roles.specs.Fitting.{are_distinct, are_reservations, is_reservation, is_action, is_role, is_alternative, is_start}
 use Rattle.pr_text.specs.ScriptLines.{ScriptLine, send_at, arm_on, block_done, repeat_of, break_out, stop_with}
 use Rattle.pr_text.specs.Standing.{awaits_arm}
-use Rattle.pr_text.specs.Declarations.{Opening, repeating, sending, WrittenTask, scripted, planned, Declaration, outside, Declared}
-use Rattle.pr_text.specs.Items.{Wanted, nobody, single, everybody}
+use Rattle.pr_text.specs.Declarations.{OpenBlock, repeating, sending, WrittenTask, scripted, planned, Declaration, outside, Declared}
+use Rattle.pr_text.specs.ScenarioLines.{StartReservation, nobody, single, everybody}
 use Rattle.pr_text.specs.Chain.{each}
 use Rattle.pr_text.specs.Declaring.{declared_keys, number_of, held_of}
 use Rattle.pr_text.specs.inside.Chains.{keys_placed, nexus_placed, reservations_at, reservation_placed}
@@ -82,7 +82,7 @@ module _ (keys : List ℕ) where
   test_more c test.Attention h = refl
   test_more c (test.Sense sense) h = h
 
-  arm_more : (t : Test) (bs : List Opening) → may_arm [] t bs ≡ true → may_arm keys t bs ≡ true
+  arm_more : (t : Test) (bs : List OpenBlock) → may_arm [] t bs ≡ true → may_arm keys t bs ≡ true
   arm_more t [] h = h
   arm_more t (repeating ∷ bs) h = h
   arm_more t ((sending c arms) ∷ bs) h = let parts = and_parts (test_fits [] c t) _ h in both _ _ (test_more c t parts.0) parts.1
@@ -283,13 +283,13 @@ held_by xs kind name (Some h) v is s e =
     let same : ◌≡◌ {A = Option Held} (Some (One kind h)) v = cc in
     subst (λ x. is_reservation (length xs) x ≡ true) same (both _ _ s (lt_true h (length xs) (number_within xs name h is)))
 
-held_sound : (xs : List Declaration) (w : Wanted) (v : Option Held) → is_wanted w ≡ true → held_of xs w ≡ Some v → is_reservation (length xs) v ≡ true
+held_sound : (xs : List Declaration) (w : StartReservation) (v : Option Held) → is_wanted w ≡ true → held_of xs w ≡ Some v → is_reservation (length xs) v ≡ true
 held_sound xs nobody None s e = refl
 held_sound xs nobody (Some v) s e = cc
 held_sound xs (everybody kind) v s e = let same : ◌≡◌ {A = Option Held} (Some (Everybody kind)) v = cc in subst (λ x. is_reservation (length xs) x ≡ true) same s
 held_sound xs (single kind name) v s e = held_by xs kind name (number_of xs name) v refl s e
 
-helds_then : (xs : List Declaration) (w : Wanted) (ws : List Wanted) (us : List (Option Held)) (o : Option (Option Held)) (p : Option (List (Option Held))) → held_of xs w ≡ o → is_wanted w ≡ true
+helds_then : (xs : List Declaration) (w : StartReservation) (ws : List StartReservation) (us : List (Option Held)) (o : Option (Option Held)) (p : Option (List (Option Held))) → held_of xs w ≡ o → is_wanted w ≡ true
     → ((vs : List (Option Held)) → p ≡ Some vs → (list_all (is_reservation (length xs)) vs ≡ true) × (length vs ≡ length ws))
     → option_and_then (λ v. option_map (λ vs. v ∷ vs) p) o ≡ Some us
     → (list_all (is_reservation (length xs)) us ≡ true) × (length us ≡ length (w ∷ ws))
@@ -302,7 +302,7 @@ helds_then xs w ws us (Some v) (Some vs) is s later e =
       subst (λ ys. length ys ≡ length (w ∷ ws)) same (omega (arith, rest.1)),
     )
 
-helds_sound : (xs : List Declaration) (ws : List Wanted) (us : List (Option Held)) → list_all is_wanted ws ≡ true
+helds_sound : (xs : List Declaration) (ws : List StartReservation) (us : List (Option Held)) → list_all is_wanted ws ≡ true
     → each (held_of xs) ws ≡ Some us → (list_all (is_reservation (length xs)) us ≡ true) × (length us ≡ length ws)
 helds_sound xs [] us s e = let same : [] ≡ us = cc in (subst (λ ys. list_all (is_reservation (length xs)) ys ≡ true) same refl, subst (λ ys. length ys ≡ 0) same refl)
 helds_sound xs (w ∷ ws) us s e =
@@ -312,7 +312,7 @@ helds_sound xs (w ∷ ws) us s e =
 some_held : (n m : ℕ) → n ≡ m → not (m == 0) ≡ true → not (n == 0) ≡ true
 some_held n m e h = grind (arith, nat_tests)
 
-placed_helds : (n : ℕ) (ws : List Wanted) (d e : Declared) (o : Option (List (Option Held))) → d.place ≡ outside → (not (length ws == 0) && list_all is_wanted ws) ≡ true → IsSound n d
+placed_helds : (n : ℕ) (ws : List StartReservation) (d e : Declared) (o : Option (List (Option Held))) → d.place ≡ outside → (not (length ws == 0) && list_all is_wanted ws) ≡ true → IsSound n d
     → each (held_of d.nexuses) ws ≡ o → reservations_at (n + 1) d o ≡ Ok e → IsSound (n + 1) e
 placed_helds n ws d e None at s h is r = cc
 placed_helds n ws d e (Some vs) at s h is r =
@@ -330,6 +330,6 @@ placed_helds n ws d e (Some vs) at s h is r =
       place = subst (IsPlace (declared_keys d) (n + 1)) (sym at) tt;
     })
 
-pub reservation_sound : (n : ℕ) (ws : List Wanted) (d e : Declared) → d.place ≡ outside → (not (length ws == 0) && list_all is_wanted ws) ≡ true → IsSound n d → reservation_placed (n + 1) ws d ≡ Ok e → IsSound (n + 1) e
+pub reservation_sound : (n : ℕ) (ws : List StartReservation) (d e : Declared) → d.place ≡ outside → (not (length ws == 0) && list_all is_wanted ws) ≡ true → IsSound n d → reservation_placed (n + 1) ws d ≡ Ok e → IsSound (n + 1) e
 unfolding reservation_placed
 reservation_sound n ws d e at s h r = placed_helds n ws d e (each (held_of d.nexuses) ws) at s h refl r

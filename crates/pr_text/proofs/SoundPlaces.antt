@@ -13,13 +13,13 @@ use Rattle.pr_script.specs.Grammar.{is_written}
 use Rattle.pr_roles.specs.declared.role.Clause.{Clause}
 use Rattle.pr_roles.specs.Fitting.{is_action, is_role}
 use Rattle.pr_text.specs.declared.fault.ReadError.{ReadError}
-use Rattle.pr_text.specs.declared.spelling.Spelled.{Spelled}
+use Rattle.pr_text.specs.declared.spelling.ParsedCommand.{ParsedCommand}
 use Rattle.pr_text.specs.Faults.{and_then}
 use Rattle.pr_text.specs.Declarations.{OpenLines, WrittenTask, scripted, planned, Declaration, Place, before_all, outside, in_script, in_plan, Declared}
-use Rattle.pr_text.specs.Items.{Item, keys_line, host_line, guest_line, start_line, pending_line, reservation_line, generation_line, role_line, script_line, plan_line, end_line, command_line, fence_line}
+use Rattle.pr_text.specs.ScenarioLines.{ScenarioLine, keys_line, host_line, guest_line, start_line, pending_line, reservation_line, generation_line, role_line, script_line, plan_line, end_line, command_line, fence_line}
 use Rattle.pr_text.specs.inside.Chains.{script_step, nexus_set, on_nexus, at_number, at_name, start_fault, start_at, start_placed, pending_at, pending_placed, generation_placed, role_at, role_placed, script_fault, script_at, script_placed, plan_at, plan_placed, placed_first, placed_outside, script_ended, placed_in_script, planned_step, placed_in_plan, placed_at, item_taken}
 use Rattle.pr_text.specs.Declaring.{declared_keys, number_of, codes_of}
-use Rattle.pr_text.specs.Placing.{begun_script, with_task, item_placed}
+use Rattle.pr_text.specs.NextLine.{begun_script, with_task, item_placed}
 use Rattle.pr_text.specs.inside.Sound.{AreBegun, is_plan, IsTask, IsDeclaration, AreDeclarations, IsPlace, IsSound}
 use Rattle.pr_text.proofs.ItemTerms.{is_item}
 use Rattle.pr_text.proofs.Trees.{both, le_true}
@@ -176,7 +176,7 @@ plan_line_sound n name d e sound r =
     let same : record d { place = in_plan m.number [] } ≡ e = ok_same _ _ b.1 in
     subst (IsSound (n + 1)) same (moved n d (in_plan m.number []) sound refl)
 
-outside_sound : (n : ℕ) (i : Item) (d e : Declared) → d.place ≡ outside → IsSound n d → is_item i ≡ true → placed_outside (n + 1) i d ≡ Ok e → IsSound (n + 1) e
+outside_sound : (n : ℕ) (i : ScenarioLine) (d e : Declared) → d.place ≡ outside → IsSound n d → is_item i ≡ true → placed_outside (n + 1) i d ≡ Ok e → IsSound (n + 1) e
 outside_sound n (keys_line keys) d e at h s r = keys_sound n keys d e at s h r
 outside_sound n (host_line name) d e at h s r = nexus_sound n false name d e at s h r
 outside_sound n (guest_line name) d e at h s r = nexus_sound n true name d e at s h r
@@ -191,7 +191,7 @@ outside_sound n _ d e at h s r = cc
 
 -- ---- the other lines
 
-first_sound : (n : ℕ) (i : Item) (d e : Declared) → IsSound n d → placed_first (n + 1) i d ≡ Ok e → IsSound (n + 1) e
+first_sound : (n : ℕ) (i : ScenarioLine) (d e : Declared) → IsSound n d → placed_first (n + 1) i d ≡ Ok e → IsSound (n + 1) e
 first_sound n fence_line d e h r = subst (IsSound (n + 1)) (ok_same _ _ r) (moved n d outside h tt)
 first_sound n _ d e h r = cc
 
@@ -217,7 +217,7 @@ step_sound : (n : ℕ) (d e : Declared) (s : Result OpenLines ReadError) → IsS
 step_sound n d e (Ok p) h each r = subst (IsSound (n + 1)) (ok_same _ _ r) (moved n d (in_script p) h (each p refl))
 step_sound n d e (Err x) h each r = cc
 
-in_script_sound : (n : ℕ) (o : OpenLines) (i : Item) (d e : Declared) → AreBegun (declared_keys d) n o → IsSound n d → is_item i ≡ true → placed_in_script (n + 1) o i d ≡ Ok e → IsSound (n + 1) e
+in_script_sound : (n : ℕ) (o : OpenLines) (i : ScenarioLine) (d e : Declared) → AreBegun (declared_keys d) n o → IsSound n d → is_item i ≡ true → placed_in_script (n + 1) o i d ≡ Ok e → IsSound (n + 1) e
 in_script_sound n o end_line d e begun h s r = ended_sound n o d e begun h r
 in_script_sound n o i d e begun h s r =
     step_sound n d e (script_step (n + 1) (declared_keys d) i o) h (λ p q. script_sound (declared_keys d) n i o p s begun q) r
@@ -225,7 +225,7 @@ in_script_sound n o i d e begun h s r =
 fewer : (k : ℕ) → nat_le 256 k ≡ false → k + 1 ≤ 256
 fewer k h = grind (arith, nat_tests)
 
-plan_more : (keys : List ℕ) (n : ℕ) (s : Spelled) (commands after : List Command) → is_plan keys commands ≡ true → planned_step n keys s commands ≡ Ok after → is_plan keys after ≡ true
+plan_more : (keys : List ℕ) (n : ℕ) (s : ParsedCommand) (commands after : List Command) → is_plan keys commands ≡ true → planned_step n keys s commands ≡ Ok after → is_plan keys after ≡ true
 unfolding planned_step
 plan_more keys n s commands after h r =
     let a = past _ _ _ after r in
@@ -242,19 +242,19 @@ plan_step_sound : (n h : ℕ) (d e : Declared) (s : Result (List Command) ReadEr
 plan_step_sound n h d e (Ok more) sound each r = subst (IsSound (n + 1)) (ok_same _ _ r) (moved n d (in_plan h more) sound (each more refl))
 plan_step_sound n h d e (Err x) sound each r = cc
 
-in_plan_sound : (n g : ℕ) (commands : List Command) (i : Item) (d e : Declared) → is_plan (declared_keys d) commands ≡ true → IsSound n d → placed_in_plan (n + 1) g commands i d ≡ Ok e → IsSound (n + 1) e
+in_plan_sound : (n g : ℕ) (commands : List Command) (i : ScenarioLine) (d e : Declared) → is_plan (declared_keys d) commands ≡ true → IsSound n d → placed_in_plan (n + 1) g commands i d ≡ Ok e → IsSound (n + 1) e
 in_plan_sound n g commands (command_line s) d e plan h r =
     plan_step_sound n g d e (planned_step (n + 1) (declared_keys d) s commands) h (λ more q. plan_more (declared_keys d) (n + 1) s commands more plan q) r
 in_plan_sound n g commands end_line d e plan h r =
     subst (IsSound (n + 1)) (ok_same _ _ r) (task_at n d g (planned commands) (slice_get d.nexuses g) refl h plan)
 in_plan_sound n g commands _ d e plan h r = cc
 
-placed_by : (n : ℕ) (p : Place) (i : Item) (d e : Declared) → d.place ≡ p → IsSound n d → is_item i ≡ true → placed_at (n + 1) p i d ≡ Ok e → IsSound (n + 1) e
+placed_by : (n : ℕ) (p : Place) (i : ScenarioLine) (d e : Declared) → d.place ≡ p → IsSound n d → is_item i ≡ true → placed_at (n + 1) p i d ≡ Ok e → IsSound (n + 1) e
 placed_by n before_all i d e at h s r = first_sound n i d e h r
 placed_by n outside i d e at h s r = outside_sound n i d e at h s r
 placed_by n (in_script o) i d e at h s r = in_script_sound n o i d e (subst (IsPlace (declared_keys d) n) at h.place) h s r
 placed_by n (in_plan g commands) i d e at h s r = in_plan_sound n g commands i d e (subst (IsPlace (declared_keys d) n) at h.place) h r
 
-pub placed_sound : (n : ℕ) (i : Item) (d e : Declared) → IsSound n d → is_item i ≡ true → item_placed (n + 1) i d ≡ Ok e → IsSound (n + 1) e
+pub placed_sound : (n : ℕ) (i : ScenarioLine) (d e : Declared) → IsSound n d → is_item i ≡ true → item_placed (n + 1) i d ≡ Ok e → IsSound (n + 1) e
 unfolding item_taken
 placed_sound n i d e h sound r = placed_by n d.place i d e refl h sound (sym (in_order (n + 1) i d) ∙ r)

@@ -12,13 +12,13 @@ use Rattle.pr_script.specs.declared.script.Test.TheVariants as test
 use Rattle.pr_script.specs.Names.{is_name}
 use Rattle.pr_script.specs.Grammar.{is_written, test_fits, rise_above}
 use Rattle.pr_text.specs.declared.fault.ReadError.{ReadError}
-use Rattle.pr_text.specs.declared.spelling.Spelled.{Spelled}
+use Rattle.pr_text.specs.declared.spelling.ParsedCommand.{ParsedCommand}
 use Rattle.pr_text.specs.Faults.{unless}
 use Rattle.pr_text.specs.ScriptLines.{ScriptLine, send_at, arm_on, block_done, repeat_of, break_out, stop_with}
-use Rattle.pr_text.specs.Declarations.{Opening, repeating, sending, OpenLines}
-use Rattle.pr_text.specs.Items.{Item, send_line, on_line, done_line, repeat_line, break_line, stop_line}
+use Rattle.pr_text.specs.Declarations.{OpenBlock, repeating, sending, OpenLines}
+use Rattle.pr_text.specs.ScenarioLines.{ScenarioLine, send_line, on_line, done_line, repeat_line, break_line, stop_line}
 use Rattle.pr_text.specs.Standing.{is_repeating, is_sending, awaits_arm, awaits_more, stands_under, may_close}
-use Rattle.pr_text.specs.Placing.{opening, stating}
+use Rattle.pr_text.specs.NextLine.{opening, stating}
 use Rattle.pr_text.specs.inside.Chains.{send_step, repeat_step, break_step, stop_step, arm_fault, on_step, on_step_in, done_step, script_step}
 use Rattle.pr_text.specs.Declaring.{is_test_declared}
 use Rattle.pr_text.specs.inside.Sound.{Reached, at_first, may, may_state, may_all, next, reached, is_statement, sends_in, AreBegun}
@@ -131,7 +131,7 @@ pub or_no : (a b : Bool) → (a || b) ≡ false → (a ≡ false) × (b ≡ fals
 or_no true b h = cc
 or_no false b h = (refl, h)
 
-send_sound : (keys : List ℕ) (n : ℕ) (s : Spelled) (o p : OpenLines) → AreBegun keys n o → send_step (n + 1) keys s o ≡ Ok p → AreBegun keys (n + 1) p
+send_sound : (keys : List ℕ) (n : ℕ) (s : ParsedCommand) (o p : OpenLines) → AreBegun keys n o → send_step (n + 1) keys s o ≡ Ok p → AreBegun keys (n + 1) p
 unfolding send_step
 send_sound keys n s o p h r =
     let a = past _ _ _ p r in
@@ -193,7 +193,7 @@ done_sound keys n o p h r =
     let same : closed o ≡ p = a.1 in
     subst (AreBegun keys (n + 1)) same (plain_more keys n o (closed o) block_done h refl refl refl a.0 refl (omega arith) (true_le o.statements 512 h.short))
 
-abbrev armed : OpenLines → Test → Command → ℕ → List Opening → OpenLines
+abbrev armed : OpenLines → Test → Command → ℕ → List OpenBlock → OpenLines
 armed o t c k bs = record o { lines = o.lines ++ arm_on t ∷ []; blocks = sending c (k + 1) ∷ bs; begun = false }
 
 pub passes : {A : Type 0} (o : Option ReadError) (x a : A) → unless o x ≡ Ok a → (o ≡ None) × (x ≡ a)
@@ -223,7 +223,7 @@ arm_true n keys t c k sound r =
     let d = skips _ _ _ b.1 in
     both _ _ (test_true keys c t sound (not_no _ a.0) (not_no _ b.0)) (few_arms k d.0)
 
-on_blocks : (keys : List ℕ) (n : ℕ) (t : Test) (o p : OpenLines) (bs : List Opening) → o.blocks ≡ bs → is_test t ≡ true → AreBegun keys n o
+on_blocks : (keys : List ℕ) (n : ℕ) (t : Test) (o p : OpenLines) (bs : List OpenBlock) → o.blocks ≡ bs → is_test t ≡ true → AreBegun keys n o
     → on_step_in (n + 1) keys t o bs ≡ Ok p → AreBegun keys (n + 1) p
 on_blocks keys n t o p [] e sound h r = cc
 on_blocks keys n t o p (repeating ∷ bs) e sound h r = cc
@@ -237,7 +237,7 @@ on_sound : (keys : List ℕ) (n : ℕ) (t : Test) (o p : OpenLines) → is_test 
 unfolding on_step
 on_sound keys n t o p sound h r = on_blocks keys n t o p o.blocks refl sound h r
 
-pub script_sound : (keys : List ℕ) (n : ℕ) (i : Item) (o p : OpenLines) → is_item i ≡ true → AreBegun keys n o → script_step (n + 1) keys i o ≡ Ok p → AreBegun keys (n + 1) p
+pub script_sound : (keys : List ℕ) (n : ℕ) (i : ScenarioLine) (o p : OpenLines) → is_item i ≡ true → AreBegun keys n o → script_step (n + 1) keys i o ≡ Ok p → AreBegun keys (n + 1) p
 script_sound keys n (send_line s) o p i h r = send_sound keys n s o p h r
 script_sound keys n (on_line t) o p i h r = on_sound keys n t o p i h r
 script_sound keys n done_line o p i h r = done_sound keys n o p h r

@@ -9,9 +9,9 @@ use Rattle.pr_text.specs.declared.fault.ReadError.TheVariants as fault
 use Rattle.pr_text.specs.Faults.{and_then}
 use Rattle.pr_text.specs.TextLines.{is_text, words}
 use Rattle.pr_text.specs.Declarations.{Place, before_all, outside, in_script, in_plan, Declared, nothing}
-use Rattle.pr_text.specs.Items.{Item, item_of}
+use Rattle.pr_text.specs.ScenarioLines.{ScenarioLine, item_of}
 use Rattle.pr_text.specs.Declaring.{declared_keys}
-use Rattle.pr_text.specs.Placing.{item_placed}
+use Rattle.pr_text.specs.NextLine.{item_placed}
 use Rattle.pr_text.specs.Texts.{line_placed, worded, all_placed}
 use Rattle.pr_text.specs.inside.Steps.{AreRead}
 use Rattle.pr_text.specs.inside.Sound.{IsPlace, IsSound}
@@ -41,7 +41,7 @@ pub passed : {A : Type 0} (b : Bool) (e : ReadError) (r : Result A ReadError) (a
 passed true e r a h = cc
 passed false e r a h = h
 
-said_sound : (n : ℕ) (o : Option Item) (d e : Declared) → IsSound n d → IfSome o (λ i. is_item i ≡ true) → option_map_or (λ item. item_placed (n + 1) item d) o (Err (fault.Syntax (n + 1))) ≡ Ok e → IsSound (n + 1) e
+said_sound : (n : ℕ) (o : Option ScenarioLine) (d e : Declared) → IsSound n d → IfSome o (λ i. is_item i ≡ true) → option_map_or (λ item. item_placed (n + 1) item d) o (Err (fault.Syntax (n + 1))) ≡ Ok e → IsSound (n + 1) e
 said_sound n None d e h i r = cc
 said_sound n (Some item) d e h i r = placed_sound n item d e h i r
 

@@ -8,7 +8,7 @@ use Rattle.pr_cdb.specs.declared.command.Command.{Command}
 use Rattle.pr_script.specs.Scripts.{Stmt, Stmts, Arms, sends, repeats, breaks, stops, none, more, no_arm, arm}
 use Rattle.pr_script.specs.Grammar.{is_written, test_fits, count_of_arms, begins_body, statement_fits, statements_fit, arms_fit, count_of, count_of_all, count_in_arms, lines_of, lines_of_all, lines_of_arms, rise_above, script_fits}
 use Rattle.pr_text.specs.ScriptLines.{ScriptLine, send_at, arm_on, block_done, repeat_of, break_out, stop_with, statement_lines, body_lines, arms_lines}
-use Rattle.pr_text.specs.Declarations.{Opening, repeating, sending}
+use Rattle.pr_text.specs.Declarations.{OpenBlock, repeating, sending}
 use Rattle.pr_text.specs.Standing.{is_repeating, is_sending, awaits_arm}
 use Rattle.pr_text.specs.inside.Sound.{Reached, may, may_state, may_all, is_statement, sends_in, AreWhole}
 
@@ -33,31 +33,31 @@ true_lt n m h = grind (arith, nat_tests)
 pub count-cons : {X : Type 0} (p : X → Bool) (x : X) (xs : List X) → count_by p (x ∷ xs) ≡ cond (p x) 1 0 + count_by p xs
 count-cons p x xs = sum_by-cons (λ y. cond (p y) 1 0) x xs
 
-pub one_more : (p : Opening → Bool) (b : Opening) (bs : List Opening) (n : ℕ) → p b ≡ true → count_by p bs ≡ n → count_by p (b ∷ bs) ≡ n + 1
+pub one_more : (p : OpenBlock → Bool) (b : OpenBlock) (bs : List OpenBlock) (n : ℕ) → p b ≡ true → count_by p bs ≡ n → count_by p (b ∷ bs) ≡ n + 1
 one_more p b bs n it e = let c = count-cons p b bs in let one : cond (p b) 1 0 ≡ suc 0 = ap (λ t. cond t 1 0) it in omega arith
 
-pub as_many : (p : Opening → Bool) (b : Opening) (bs : List Opening) (n : ℕ) → p b ≡ false → count_by p bs ≡ n → count_by p (b ∷ bs) ≡ n
+pub as_many : (p : OpenBlock → Bool) (b : OpenBlock) (bs : List OpenBlock) (n : ℕ) → p b ≡ false → count_by p bs ≡ n → count_by p (b ∷ bs) ≡ n
 as_many p b bs n it e = let c = count-cons p b bs in let nil : ◌≡◌ {A = ℕ} (cond (p b) 1 0) 0 = ap (λ t. cond t 1 0) it in omega arith
 
-abbrev state : List Opening → Bool → Reached
+abbrev state : List OpenBlock → Bool → Reached
 state bs begun = record { blocks = bs; begun = begun }
 
-abbrev May : List ℕ → List Opening → Bool → List ScriptLine → Type 0
+abbrev May : List ℕ → List OpenBlock → Bool → List ScriptLine → Type 0
 May keys bs begun ls = may_all keys (state bs begun) ls ≡ true
 
 -- what is so of statements, and of the lines behind them
-record Stand (keys : List ℕ) (fits : Bool) (bs : List Opening) (rest : List ScriptLine) : Type 0 where
+record Stand (keys : List ℕ) (fits : Bool) (bs : List OpenBlock) (rest : List ScriptLine) : Type 0 where
   fitting : fits ≡ true
   begun : Bool
   behind : May keys bs begun rest
 
-record StandArms (keys : List ℕ) (fits : Bool) (n : ℕ) (bs : List Opening) (rest : List ScriptLine) : Type 0 where
+record StandArms (keys : List ℕ) (fits : Bool) (n : ℕ) (bs : List OpenBlock) (rest : List ScriptLine) : Type 0 where
   fitting : fits ≡ true
   few : n ≤ 16
   behind : May keys bs true rest
 
 -- the first statement of a repeat
-begins : (keys : List ℕ) (b : Stmts) (bs : List Opening) (rest : List ScriptLine) → May keys (repeating ∷ bs) false (body_lines b ++ block_done ∷ rest) → begins_body b ≡ true
+begins : (keys : List ℕ) (b : Stmts) (bs : List OpenBlock) (rest : List ScriptLine) → May keys (repeating ∷ bs) false (body_lines b ++ block_done ∷ rest) → begins_body b ≡ true
 begins keys none bs rest h = h
 begins keys (more (sends n c a) ss) bs rest h = refl
 begins keys (more (repeats n b) ss) bs rest h = refl
@@ -65,7 +65,7 @@ begins keys (more breaks ss) bs rest h = h
 begins keys (more (stops w) ss) bs rest h = h
 
 mutual
-  statement_stands : (keys : List ℕ) (x : Stmt) (bs : List Opening) (begun : Bool) (rest : List ScriptLine) (r s : ℕ)
+  statement_stands : (keys : List ℕ) (x : Stmt) (bs : List OpenBlock) (begun : Bool) (rest : List ScriptLine) (r s : ℕ)
       → count_by is_repeating bs ≡ r → count_by is_sending bs ≡ s
       → May keys bs begun (statement_lines x ++ rest) → Stand keys (statement_fits keys r s x) bs rest
   statement_stands keys (sends n c a) bs begun rest r s er es h =
@@ -100,7 +100,7 @@ mutual
       let parts = and_parts (may keys (state bs begun) (stop_with w)) _ h in
       record { fitting = (and_parts (may_state (state bs begun)) _ parts.0).1; begun = true; behind = parts.1 }
 
-  statements_stand : (keys : List ℕ) (ss : Stmts) (bs : List Opening) (begun : Bool) (rest : List ScriptLine) (r s : ℕ)
+  statements_stand : (keys : List ℕ) (ss : Stmts) (bs : List OpenBlock) (begun : Bool) (rest : List ScriptLine) (r s : ℕ)
       → count_by is_repeating bs ≡ r → count_by is_sending bs ≡ s
       → May keys bs begun (body_lines ss ++ rest) → Stand keys (statements_fit keys r s ss) bs rest
   statements_stand keys none bs begun rest r s er es h = record { fitting = refl; begun = begun; behind = h }
@@ -110,7 +110,7 @@ mutual
       let others = statements_stand keys ss bs first.begun rest r s er es first.behind in
       record { fitting = both _ _ first.fitting others.fitting; begun = others.begun; behind = others.behind }
 
-  arms_stand : (keys : List ℕ) (a : Arms) (bs : List Opening) (c : Command) (k : ℕ) (begun : Bool) (rest : List ScriptLine) (r s : ℕ)
+  arms_stand : (keys : List ℕ) (a : Arms) (bs : List OpenBlock) (c : Command) (k : ℕ) (begun : Bool) (rest : List ScriptLine) (r s : ℕ)
       → count_by is_repeating bs ≡ r → count_by is_sending bs ≡ s → k ≤ 16
       → May keys (sending c k ∷ bs) begun (arms_lines a ++ block_done ∷ rest) → StandArms keys (arms_fit keys r (s + 1) c a) (k + count_of_arms a) bs rest
   arms_stand keys no_arm bs c k begun rest r s er es few h = record { fitting = refl; few = omega arith; behind = h }

@@ -14,14 +14,14 @@ use Rattle.pr_roles.specs.Starts.{first_under}
 use Rattle.pr_roles.specs.Fitting.{AreDeclared, are_distinct, is_nexus, is_reservation, is_same_reservation}
 use Rattle.pr_roles.proofs.Allowed.{start_found}
 use Rattle.pr_text.specs.Chain.{each}
-use Rattle.pr_text.specs.Items.{fence_line, keys_line, generation_line, reservation_line}
+use Rattle.pr_text.specs.ScenarioLines.{fence_line, keys_line, generation_line, reservation_line}
 use Rattle.pr_text.specs.Declarations.{Declaration, outside, nothing}
 use Rattle.pr_text.specs.Declaring.{number_of, held_of}
 use Rattle.pr_text.specs.inside.Chains.{keys_placed, nexus_placed, reservation_placed, generation_placed, item_taken}
 use Rattle.pr_text.specs.Texts.{start_of, first_unscripted, ended}
-use Rattle.pr_text.specs.Readings.{nexus_written, nexus_declared}
-use Rattle.pr_text.specs.SaidLines.{line, all_said}
-use Rattle.pr_text.specs.SaidScenarios.{declaring, details_said, keys_said, wanted_by, ScenariosHaveNoFault}
+use Rattle.pr_text.specs.Reading.{nexus_written, nexus_declared}
+use Rattle.pr_text.specs.ScriptRoundTrip.{line, all_said}
+use Rattle.pr_text.specs.ScenarioRoundTrip.{declaring, details_said, keys_said, wanted_by, ScenariosHaveNoFault}
 use Rattle.pr_text.proofs.Trees.{true_le, true_lt}
 use Rattle.pr_text.proofs.NamesApart.{names, is_taken, free_of, names_moved, itself, number_nowhere, number_there}
 use Rattle.pr_text.proofs.DetailLines.{said_on, said_first, pending_same, is_planned, placed, bare, full, details_go}

@@ -15,7 +15,7 @@ use Rattle.pr_text.specs.Declarations.{Declared, nothing}
 use Rattle.pr_text.specs.Texts.{line_placed, all_placed, starts_somewhere, ended, finished, answer_of}
 use Rattle.pr_text.specs.inside.Endings.{missing, started}
 use Rattle.pr_text.proofs.Endings.{ended_in_turn}
-use Rattle.pr_text.specs.Readings.{IsDeclaredBy}
+use Rattle.pr_text.specs.Reading.{IsDeclaredBy}
 use Rattle.pr_text.specs.inside.Sound.{IsSound}
 use Rattle.pr_text.specs.Laws.{WhatIsWrittenFits, FirstFaultDecides}
 use Rattle.pr_text.proofs.Answering.{start_same}

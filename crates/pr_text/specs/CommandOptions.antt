@@ -6,21 +6,21 @@ use Rattle.pr_cdb.specs.declared.command.Kind.{Kind}
 use Rattle.pr_cdb.specs.declared.command.Command.{Command}
 use Rattle.pr_cdb.specs.declared.command.Command.TheVariants.{ReadKeys, ReadReservation, ReportCapabilities, Register, RegisterIgnore, Reserve, Release, Clear, Preempt, PreemptAbort}
 use Rattle.pr_script.specs.declared.grammar.TheConstants.{WRITTEN_LENGTH}
-use Rattle.pr_text.specs.declared.options.Way.{Way}
-use Rattle.pr_text.specs.declared.options.Way.TheVariants.{In, Out}
+use Rattle.pr_text.specs.declared.options.Direction.{Direction}
+use Rattle.pr_text.specs.declared.options.Direction.TheVariants.{In, Out}
 use Rattle.pr_text.specs.declared.options.Action.{Action}
 use Rattle.pr_text.specs.declared.options.Action.TheVariants as action
 use Rattle.pr_text.specs.declared.options.CommandOption.{CommandOption}
-use Rattle.pr_text.specs.declared.options.CommandOption.TheVariants.{Toward, Doing, Rk, Sark, OfKind}
-use Rattle.pr_text.specs.declared.options.TheConstants.{WAYS, ACTIONS}
+use Rattle.pr_text.specs.declared.options.CommandOption.TheVariants as option
+use Rattle.pr_text.specs.declared.options.TheConstants.{DIRECTIONS, ACTIONS}
 use Rattle.pr_text.specs.declared.options.Written.{Written}
 use Rattle.pr_text.specs.Chain.{◌>>=◌}
 use Rattle.pr_text.specs.Lookups.{lookup}
 use Rattle.pr_text.specs.WordTerms.{value_after, key_or_zero, kind_of}
 
--- the way of the data, of which each command names one
-unfoldable pub way_of : List ℕ → Option Way
-way_of word = lookup (map (λ row. (row.0.now, row.1)) WAYS) word
+-- the direction of the data, of which each command names one
+unfoldable pub direction_of : List ℕ → Option Direction
+direction_of word = lookup (map (λ row. (row.0.now, row.1)) DIRECTIONS) word
 
 -- the service action that a word names
 unfoldable pub action_of : List ℕ → Option Action
@@ -33,23 +33,23 @@ key_after name word = value_after name word >>= key_or_zero
 -- the one option that a word is
 unfoldable pub option_of : List ℕ → Option CommandOption
 option_of word =
-    option_or (option_map (λ x. Toward x) (way_of word)) (
-    option_or (option_map (λ x. Doing x) (action_of word)) (
-    option_or (option_map (λ x. Rk x) (key_after (codes "--param-rk=") word)) (
-    option_or (option_map (λ x. Sark x) (key_after (codes "--param-sark=") word)) (
-    option_map (λ x. OfKind x) (value_after (codes "--prout-type=") word >>= kind_of)))))
+    option_or (option_map (λ x. option.Direction x) (direction_of word)) (
+    option_or (option_map (λ x. option.Action x) (action_of word)) (
+    option_or (option_map (λ x. option.Rk x) (key_after (codes "--param-rk=") word)) (
+    option_or (option_map (λ x. option.Sark x) (key_after (codes "--param-sark=") word)) (
+    option_map (λ x. option.Kind x) (value_after (codes "--prout-type=") word >>= kind_of)))))
 
 -- nothing is written yet
 abbrev pub unwritten : Written
-unwritten = record { way = None; action = None; rk = None; sark = None; kind = None }
+unwritten = record { direction = None; action = None; rk = None; sark = None; kind = None }
 
 -- what is written with one option more, of which each may be written once
 unfoldable pub with_option : Written → CommandOption → Option Written
-with_option w (Toward x) = if is_none w.way then Some (record w { way = Some x }) else None
-with_option w (Doing x) = if is_none w.action then Some (record w { action = Some x }) else None
-with_option w (Rk x) = if is_none w.rk then Some (record w { rk = Some x }) else None
-with_option w (Sark x) = if is_none w.sark then Some (record w { sark = Some x }) else None
-with_option w (OfKind x) = if is_none w.kind then Some (record w { kind = Some x }) else None
+with_option w (option.Direction x) = if is_none w.direction then Some (record w { direction = Some x }) else None
+with_option w (option.Action x) = if is_none w.action then Some (record w { action = Some x }) else None
+with_option w (option.Rk x) = if is_none w.rk then Some (record w { rk = Some x }) else None
+with_option w (option.Sark x) = if is_none w.sark then Some (record w { sark = Some x }) else None
+with_option w (option.Kind x) = if is_none w.kind then Some (record w { kind = Some x }) else None
 
 -- what is written with these words more
 abbrev pub with_options : Written → List (List ℕ) → Option Written
@@ -83,10 +83,10 @@ command_out action.ReadReservation rk sark kind = None
 command_out action.ReportCapabilities rk sark kind = None
 
 -- the command of this service action; one of `--in` has neither a key nor a type
-abbrev pub commanded : Way → Action → Written → Option Command
+abbrev pub commanded : Direction → Action → Written → Option Command
 commanded In action w = if is_none w.rk && (is_none w.sark && is_none w.kind) then command_in action else None
 commanded Out action w = command_out action (unwrap_or w.rk 0) (unwrap_or w.sark 0) w.kind
 
 -- the command that the options spell
 unfoldable pub command_of : Written → Option Command
-command_of w = w.way >>= λ way. w.action >>= λ action. commanded way action w
+command_of w = w.direction >>= λ direction. w.action >>= λ action. commanded direction action w

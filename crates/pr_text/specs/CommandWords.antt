@@ -3,7 +3,7 @@
 use Rattle.std.specs.Prelude.{ℕ, if◌then◌else◌, List, [], ◌∷◌, codes, bytes_eq, Option, Some, None, unwrap_or, option_map}
 use Rattle.pr_cdb.specs.declared.command.Command.{Command}
 use Rattle.pr_cdb.specs.declared.command.Command.TheVariants.{TestUnitReady, RequestSense, Read, Write}
-use Rattle.pr_text.specs.declared.spelling.Spelled.{Spelled}
+use Rattle.pr_text.specs.declared.spelling.ParsedCommand.{ParsedCommand}
 use Rattle.pr_text.specs.declared.options.Written.{Written}
 use Rattle.pr_text.specs.Chain.{◌>>=◌}
 use Rattle.pr_text.specs.TextLines.{only, is_end}
@@ -11,11 +11,11 @@ use Rattle.pr_text.specs.WordTerms.{amount_of}
 use Rattle.pr_text.specs.CommandOptions.{unwritten, with_options, command_of}
 
 -- a command that has no keys
-abbrev pub keyless : Command → Spelled
+abbrev pub keyless : Command → ParsedCommand
 keyless command = record { command = command; rk = 0; sark = 0 }
 
 -- just this word, with nothing behind it
-abbrev pub bare : Command → List (List ℕ) → Option Spelled
+abbrev pub bare : Command → List (List ℕ) → Option ParsedCommand
 bare command ws = if is_end ws then Some (keyless command) else None
 
 -- the address of the first block, and how many blocks
@@ -24,11 +24,11 @@ blocks_of [] = None
 blocks_of (w ∷ ws) = amount_of 4294967295 w >>= λ lba. only ws >>= λ last. amount_of 65535 last >>= λ blocks. Some (lba, blocks)
 
 -- the command of the options, with the keys that are written, also if the command drops them
-abbrev pub spelled_by : Written → Option Spelled
+abbrev pub spelled_by : Written → Option ParsedCommand
 spelled_by w = option_map (λ command. record { command = command; rk = unwrap_or w.rk 0; sark = unwrap_or w.sark 0 }) (command_of w)
 
 -- the command that a word and the words after it spell
-unfoldable pub spelled_of : List ℕ → List (List ℕ) → Option Spelled
+unfoldable pub spelled_of : List ℕ → List (List ℕ) → Option ParsedCommand
 spelled_of word ws =
     if bytes_eq word (codes "test-unit-ready") then bare TestUnitReady ws else (
     if bytes_eq word (codes "request-sense") then bare RequestSense ws else (
@@ -37,6 +37,6 @@ spelled_of word ws =
     (with_options unwritten (word ∷ ws) >>= spelled_by))))
 
 -- the command that these words spell
-abbrev pub spelled_in : List (List ℕ) → Option Spelled
+abbrev pub spelled_in : List (List ℕ) → Option ParsedCommand
 spelled_in [] = None
 spelled_in (w ∷ ws) = spelled_of w ws

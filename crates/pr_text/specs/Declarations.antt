@@ -27,9 +27,9 @@ pub record Declaration : Type 0 where
 -- ---- blocks
 
 -- a block that is open: a repeat, or a send with its command and the number of its arms so far
-pub data Opening : Type 0 where
-  repeating : Opening
-  sending : Command → ℕ → Opening
+pub data OpenBlock : Type 0 where
+  repeating : OpenBlock
+  sending : Command → ℕ → OpenBlock
 
 -- A script that is open: whose it is, its budget, its lines and how many statements they begin, the blocks
 -- that are open, the innermost first, and whether the innermost has a statement yet.
@@ -38,7 +38,7 @@ pub record OpenLines : Type 0 where
   pub budget : ℕ
   pub lines : List ScriptLine
   pub statements : ℕ
-  pub blocks : List Opening
+  pub blocks : List OpenBlock
   pub begun : Bool
 
 -- ---- the whole

@@ -12,10 +12,10 @@ use Rattle.pr_script.specs.declared.script.Test.{Test}
 use Rattle.pr_script.specs.Grammar.{is_written, is_written_key, is_declared}
 use Rattle.pr_script.specs.declared.script.Test.TheVariants as test
 use Rattle.pr_roles.specs.Fitting.{are_distinct}
-use Rattle.pr_text.specs.declared.spelling.Spelled.{Spelled}
+use Rattle.pr_text.specs.declared.spelling.ParsedCommand.{ParsedCommand}
 use Rattle.pr_text.specs.Chain.{◌>>=◌}
 use Rattle.pr_text.specs.Declarations.{Declaration, Declared}
-use Rattle.pr_text.specs.Items.{Wanted, nobody, single, everybody}
+use Rattle.pr_text.specs.ScenarioLines.{StartReservation, nobody, single, everybody}
 
 abbrev pub declared_keys : Declared → List ℕ
 declared_keys d = unwrap_or d.keys []
@@ -40,13 +40,13 @@ abbrev pub are_codes_distinct : List Attention → Bool
 are_codes_distinct xs = are_distinct (λ x y. code_of x == code_of y) xs
 
 -- a reservation, if its holder is declared
-abbrev pub held_of : List Declaration → Wanted → Option (Option Held)
+abbrev pub held_of : List Declaration → StartReservation → Option (Option Held)
 held_of nexuses nobody = Some None
 held_of nexuses (single kind name) = option_map (λ h. Some (One kind h)) (number_of nexuses name)
 held_of nexuses (everybody kind) = Some (Some (Everybody kind))
 
 -- the command may stand in a script or plan, and the keys that it drops are declared too
-abbrev pub is_spelled : List ℕ → Spelled → Bool
+abbrev pub is_spelled : List ℕ → ParsedCommand → Bool
 is_spelled keys s = is_written keys s.command && (is_written_key keys s.rk && is_written_key keys s.sark)
 
 abbrev pub is_test_declared : List ℕ → Test → Bool

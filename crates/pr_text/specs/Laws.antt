@@ -7,7 +7,7 @@ use Rattle.pr_roles.specs.Fitting.{Fits}
 use Rattle.pr_text.specs.declared.fault.ReadError.{ReadError}
 use Rattle.pr_text.specs.Declarations.{nothing}
 use Rattle.pr_text.specs.Texts.{all_placed, finished}
-use Rattle.pr_text.specs.Readings.{IsWrittenAs}
+use Rattle.pr_text.specs.Reading.{IsWrittenAs}
 
 -- A text is written as one scenario at most.
 abbrev pub TextsAreWrittenOnce : Type 0

@@ -10,14 +10,14 @@ use Rattle.pr_text.specs.declared.fault.Which.{Which}
 use Rattle.pr_text.specs.declared.fault.ReadError.{ReadError}
 use Rattle.pr_text.specs.declared.fault.Which.TheVariants as which
 use Rattle.pr_text.specs.declared.fault.ReadError.TheVariants as fault
-use Rattle.pr_text.specs.Declarations.{Opening, Declared}
+use Rattle.pr_text.specs.Declarations.{OpenBlock, Declared}
 use Rattle.pr_text.specs.Chain.{each}
 use Rattle.pr_text.specs.Declaring.{declared_keys, number_of, named, holds_of, are_codes_distinct, held_of, is_spelled, is_test_declared}
-use Rattle.pr_text.specs.Items.{Item, fence_line, keys_line, host_line, guest_line, start_line, pending_line, reservation_line, generation_line, role_line, script_line, plan_line, end_line, send_line, on_line, done_line, repeat_line, break_line, stop_line, command_line}
+use Rattle.pr_text.specs.ScenarioLines.{ScenarioLine, fence_line, keys_line, host_line, guest_line, start_line, pending_line, reservation_line, generation_line, role_line, script_line, plan_line, end_line, send_line, on_line, done_line, repeat_line, break_line, stop_line, command_line}
 use Rattle.pr_text.specs.Standing.{is_before_all, is_outside, of_plan, of_script, of_send, is_repeating, is_sending, awaits_arm, awaits_more, may_close, stands_under}
 
 -- it may not stand here
-abbrev pub out_of_place : Declared → Item → Bool
+abbrev pub out_of_place : Declared → ScenarioLine → Bool
 out_of_place d fence_line = not (is_before_all d.place)
 out_of_place d (keys_line keys) = not (is_outside d.place)
 out_of_place d (host_line name) = not (is_outside d.place)
@@ -39,7 +39,7 @@ out_of_place d (stop_line word) = of_script true awaits_more d.place
 out_of_place d (command_line s) = of_plan true (λ h commands. false) d.place
 
 -- it names what is not declared, or not of the kind that it has to be
-abbrev pub names_unknown : Declared → Item → Bool
+abbrev pub names_unknown : Declared → ScenarioLine → Bool
 names_unknown d fence_line = false
 names_unknown d (keys_line keys) = false
 names_unknown d (host_line name) = false
@@ -61,7 +61,7 @@ names_unknown d (stop_line word) = false
 names_unknown d (command_line s) = false
 
 -- it has a key that is not declared
-abbrev pub keys_undeclared : Declared → Item → Bool
+abbrev pub keys_undeclared : Declared → ScenarioLine → Bool
 keys_undeclared d fence_line = false
 keys_undeclared d (keys_line keys) = false
 keys_undeclared d (host_line name) = false
@@ -83,7 +83,7 @@ keys_undeclared d (stop_line word) = false
 keys_undeclared d (command_line s) = not (is_spelled (declared_keys d) s)
 
 -- it says again what may be said once
-abbrev pub says_again : Declared → Item → Bool
+abbrev pub says_again : Declared → ScenarioLine → Bool
 says_again d fence_line = false
 says_again d (keys_line keys) = is_some d.keys || not (are_distinct (λ j k. j == k) keys)
 says_again d (host_line name) = is_some (number_of d.nexuses name)
@@ -105,7 +105,7 @@ says_again d (stop_line word) = false
 says_again d (command_line s) = false
 
 -- as many blocks of this kind are open as may be
-abbrev pub nests : Declared → (Opening → Bool) → Bool
+abbrev pub nests : Declared → (OpenBlock → Bool) → Bool
 nests d kind = of_script false (λ o. nat_le MOST_OPEN (count_by kind o.blocks)) d.place
 
 -- the script has as many statements as it may have, or else there is this limit
@@ -113,7 +113,7 @@ abbrev pub past_size : Declared → Option Which → Option Which
 past_size d other = if of_script false (λ o. nat_le MOST_STATEMENTS o.statements) d.place then Some which.Statements else other
 
 -- it goes past this limit, the first of them
-abbrev pub past_limit : Declared → Item → Option Which
+abbrev pub past_limit : Declared → ScenarioLine → Option Which
 past_limit d fence_line = None
 past_limit d (keys_line keys) = if nat_lt MOST_KEYS (length keys) then Some which.Keys else None
 past_limit d (host_line name) = if nat_le MOST_NEXUSES (length d.nexuses) then Some which.Hosts else None
@@ -137,7 +137,7 @@ past_limit d (stop_line word) = past_size d None
 past_limit d (command_line s) = if of_plan false (λ h commands. nat_le MOST_PLANNED (length commands)) d.place then Some which.Plan else None
 
 -- the first thing that is wrong with the line of this number
-abbrev pub fault_at : ℕ → Declared → Item → Option ReadError
+abbrev pub fault_at : ℕ → Declared → ScenarioLine → Option ReadError
 fault_at n d i =
     if out_of_place d i then Some (fault.Syntax n) else (
     if names_unknown d i then Some (fault.UnknownName n) else (

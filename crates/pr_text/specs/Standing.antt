@@ -5,7 +5,7 @@ use Rattle.pr_cdb.specs.declared.command.Command.{Command}
 use Rattle.pr_script.specs.declared.script.Test.{Test}
 use Rattle.pr_script.specs.Grammar.{is_read_keys, is_read_reservation}
 use Rattle.pr_script.specs.declared.script.Test.TheVariants as test
-use Rattle.pr_text.specs.Declarations.{Opening, repeating, sending, OpenLines, Place, before_all, outside, in_script, in_plan}
+use Rattle.pr_text.specs.Declarations.{OpenBlock, repeating, sending, OpenLines, Place, before_all, outside, in_script, in_plan}
 
 abbrev pub is_before_all : Place → Bool
 is_before_all before_all = true
@@ -36,25 +36,25 @@ of_script a f (in_plan h commands) = a
 -- ---- in a script
 
 -- what the innermost block gives by its command and the number of its arms, or this where it is no send
-abbrev pub of_send : {A : Type 0} → A → (Command → ℕ → A) → List Opening → A
+abbrev pub of_send : {A : Type 0} → A → (Command → ℕ → A) → List OpenBlock → A
 of_send a f [] = a
 of_send a f (repeating ∷ bs) = a
 of_send a f ((sending c arms) ∷ bs) = f c arms
 
-abbrev pub is_repeating : Opening → Bool
+abbrev pub is_repeating : OpenBlock → Bool
 is_repeating repeating = true
 is_repeating (sending c n) = false
 
-abbrev pub is_sending : Opening → Bool
+abbrev pub is_sending : OpenBlock → Bool
 is_sending repeating = false
 is_sending (sending c n) = true
 
 -- the innermost block is a send that has no arm yet, so that no statement may stand here
-abbrev pub awaits_arm : List Opening → Bool
+abbrev pub awaits_arm : List OpenBlock → Bool
 awaits_arm bs = of_send false (λ c arms. arms == 0) bs
 
 -- the innermost block is a repeat
-abbrev pub is_in_repeat : List Opening → Bool
+abbrev pub is_in_repeat : List OpenBlock → Bool
 is_in_repeat [] = false
 is_in_repeat (b ∷ bs) = is_repeating b
 
@@ -63,7 +63,7 @@ abbrev pub awaits_more : OpenLines → Bool
 awaits_more o = awaits_arm o.blocks || (is_in_repeat o.blocks && not o.begun)
 
 -- a block is open; a repeat has a statement before it ends
-abbrev pub may_close : List Opening → Bool → Bool
+abbrev pub may_close : List OpenBlock → Bool → Bool
 may_close [] begun = false
 may_close (repeating ∷ bs) begun = begun
 may_close ((sending c arms) ∷ bs) begun = true

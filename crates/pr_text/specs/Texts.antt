@@ -11,8 +11,8 @@ use Rattle.pr_text.specs.declared.fault.Which.TheVariants as which
 use Rattle.pr_text.specs.declared.fault.ReadError.TheVariants as fault
 use Rattle.pr_text.specs.Declarations.{Declaration, Place, Declared, nothing}
 use Rattle.pr_text.specs.Faults.{and_then, unless}
-use Rattle.pr_text.specs.Items.{Item, item_of}
-use Rattle.pr_text.specs.Placing.{item_placed}
+use Rattle.pr_text.specs.ScenarioLines.{ScenarioLine, item_of}
+use Rattle.pr_text.specs.NextLine.{item_placed}
 use Rattle.pr_text.specs.Standing.{is_before_all, of_plan, of_script}
 use Rattle.pr_text.specs.TextLines.{is_text, words}
 

@@ -1,7 +1,7 @@
 pub mod Chains
 pub mod Drafts
 pub mod Endings
-pub mod ItemValues
+pub mod LineValues
 pub mod Keywords
 pub mod Lists
 pub mod OpenScripts

@@ -6,9 +6,9 @@ ghost use Rattle.pr_text.specs.inside.Chains.{planned_step};
 
 use crate::draft::{Draft, number_in, pending_of};
 use crate::fault::{ReadError, Which};
-use crate::item::{Item, Wanted};
+use crate::item::{ScenarioLine, StartReservation};
 use crate::open_script::{OpenScript, is_spelled};
-use crate::spelling::Spelled;
+use crate::spelling::ParsedCommand;
 use crate::uniqueness::are_codes_distinct;
 use pr_attention::Attention;
 use pr_cdb::Command;
@@ -47,7 +47,7 @@ impl Builder {
     ghost use Rattle.std.specs.Prelude.{◌≡◌, ◌<◌, IfOk, IfSome, [], length, map, option_map, position, bytes_eq};
     ghost use Rattle.pr_text.specs.declared.builder.Place.TheVariants.{Outside};
     ghost use Rattle.pr_text.specs.inside.Steps.{Gives};
-    ghost use Rattle.pr_text.specs.inside.ItemValues.{seen, wanted_seen};
+    ghost use Rattle.pr_text.specs.inside.LineValues.{seen, wanted_seen};
     ghost use Rattle.pr_text.specs.Declarations.{nothing};
     ghost use Rattle.pr_text.specs.Declaring.{declared_keys, number_of, held_of};
     ghost use Rattle.pr_text.specs.Chain.{each};
@@ -55,7 +55,7 @@ impl Builder {
     ghost use Rattle.pr_text.specs.inside.Drafts.{draft_seen, task_seen, declared_by};
     ghost use Rattle.pr_text.specs.inside.OpenScripts.{open_seen};
     ghost use Rattle.pr_text.specs.inside.Chains.{placed_first, placed_outside, placed_in_script, placed_in_plan, script_ended};
-    ghost use Rattle.pr_text.specs.Placing.{with_task, item_placed};
+    ghost use Rattle.pr_text.specs.NextLine.{with_task, item_placed};
 
     /// Nothing is declared yet.
     pub fn new(alloc: Global) -> Self
@@ -72,7 +72,12 @@ impl Builder {
 
     /// What is declared with one line more.
     #[tactic(auto, unfolding(crate::specs::inside::Chains::item_taken), using(crate::proofs::LineOrder::in_order))]
-    pub fn with_item(mut self, alloc: Global, line: u32, item: Item) -> Result<Self, ReadError>
+    pub fn with_item(
+        mut self,
+        alloc: Global,
+        line: u32,
+        item: ScenarioLine,
+    ) -> Result<Self, ReadError>
         ensures { Gives declared_by result (item_placed line (seen item) (declared_by self)) }
     {
         match mem::replace(&mut self.place, Place::Outside) {
@@ -83,30 +88,30 @@ impl Builder {
         }
     }
 
-    fn first_line(self, line: u32, item: Item) -> Result<Self, ReadError>
+    fn first_line(self, line: u32, item: ScenarioLine) -> Result<Self, ReadError>
         requires { self.place ≡ Outside }
         ensures { Gives declared_by result (placed_first line (seen item) (declared_by self)) }
     {
         match item {
-            Item::Fence => Ok(self),
+            ScenarioLine::Fence => Ok(self),
             _ => Err(ReadError::Syntax { line }),
         }
     }
 
-    fn line_outside(self, alloc: Global, line: u32, item: Item) -> Result<Self, ReadError>
+    fn line_outside(self, alloc: Global, line: u32, item: ScenarioLine) -> Result<Self, ReadError>
         ensures { Gives declared_by result (placed_outside line (seen item) (declared_by self)) }
     {
         match item {
-            Item::Keys(keys) => self.keys_line(line, keys),
-            Item::Host(name) => self.nexus_line(alloc, line, false, name),
-            Item::Guest(name) => self.nexus_line(alloc, line, true, name),
-            Item::Start(name, alternatives) => self.start_line(line, name, alternatives),
-            Item::Pending(name, attentions) => self.pending_line(line, name, &attentions),
-            Item::Reservation(wanted) => self.reservation_line(alloc, line, &wanted),
-            Item::Generation(generation) => self.generation_line(line, generation),
-            Item::Role(name, clause) => self.role_line(line, name, clause),
-            Item::Script(name, budget) => self.script_line(alloc, line, name, budget),
-            Item::Plan(name) => self.plan_line(alloc, line, name),
+            ScenarioLine::Keys(keys) => self.keys_line(line, keys),
+            ScenarioLine::Host(name) => self.nexus_line(alloc, line, false, name),
+            ScenarioLine::Guest(name) => self.nexus_line(alloc, line, true, name),
+            ScenarioLine::Start(name, alternatives) => self.start_line(line, name, alternatives),
+            ScenarioLine::Pending(name, attentions) => self.pending_line(line, name, &attentions),
+            ScenarioLine::Reservation(wanted) => self.reservation_line(alloc, line, &wanted),
+            ScenarioLine::Generation(generation) => self.generation_line(line, generation),
+            ScenarioLine::Role(name, clause) => self.role_line(line, name, clause),
+            ScenarioLine::Script(name, budget) => self.script_line(alloc, line, name, budget),
+            ScenarioLine::Plan(name) => self.plan_line(alloc, line, name),
             _ => Err(ReadError::Syntax { line }),
         }
     }
@@ -192,7 +197,7 @@ impl Builder {
         mut self,
         alloc: Global,
         line: u32,
-        wanted: &[Wanted],
+        wanted: &[StartReservation],
     ) -> Result<Self, ReadError>
         ensures { Gives declared_by result (reservation_placed line (map wanted_seen wanted.now) (declared_by self)) }
     {
@@ -280,12 +285,12 @@ impl Builder {
         alloc: Global,
         line: u32,
         script: OpenScript,
-        item: Item,
+        item: ScenarioLine,
     ) -> Result<Self, ReadError>
         requires { self.place ≡ Outside }
         ensures { Gives declared_by result (placed_in_script line (open_seen script) (seen item) (declared_by self)) }
     {
-        if let Item::End = item {
+        if let ScenarioLine::End = item {
             return self.script_end(line, script);
         }
         let script = script.with_item(alloc, line, self.declared_keys(), item)?;
@@ -318,18 +323,18 @@ impl Builder {
         line: u32,
         guest: usize,
         commands: Vec<Command>,
-        item: Item,
+        item: ScenarioLine,
     ) -> Result<Self, ReadError>
         requires { self.place ≡ Outside }
         ensures { Gives declared_by result (placed_in_plan line guest commands.items (seen item) (declared_by self)) }
     {
         match item {
-            Item::Command(spelled) => {
+            ScenarioLine::Command(spelled) => {
                 let commands = planned(line, self.declared_keys(), commands, spelled)?;
                 self.place = Place::InPlan(guest, commands);
                 Ok(self)
             }
-            Item::End => {
+            ScenarioLine::End => {
                 self.set_task(guest, Task::Planned(commands));
                 Ok(self)
             }
@@ -371,7 +376,7 @@ impl Builder {
     fn reservations_of(
         &self,
         alloc: Global,
-        wanted: &[Wanted],
+        wanted: &[StartReservation],
     ) -> Result<Option<Vec<Option<Held>>>, AllocError>
         ensures { IfOk result (λ vs. option_map (λ v. v.items) vs ≡ each (held_of (map draft_seen self.now.nexuses.items)) (map wanted_seen wanted.now)) }
     {
@@ -387,16 +392,16 @@ impl Builder {
         Ok(Some(reservations))
     }
 
-    fn held_of(&self, wanted: &Wanted) -> Option<Option<Held>>
+    fn held_of(&self, wanted: &StartReservation) -> Option<Option<Held>>
         ensures { result ≡ held_of (map draft_seen self.now.nexuses.items) (wanted_seen wanted.now) }
     {
         match wanted {
-            Wanted::Nobody => Some(None),
-            Wanted::Single(kind, name) => {
+            StartReservation::Nobody => Some(None),
+            StartReservation::Single(kind, name) => {
                 let number = self.number_of(name)?;
                 Some(Some(Held::One(*kind, number as u8)))
             }
-            Wanted::Everybody(kind) => Some(Some(Held::All(*kind))),
+            StartReservation::Everybody(kind) => Some(Some(Held::All(*kind))),
         }
     }
 }
@@ -407,7 +412,7 @@ fn planned(
     line: u32,
     keys: &[u64],
     mut commands: Vec<Command>,
-    spelled: Spelled,
+    spelled: ParsedCommand,
 ) -> Result<Vec<Command>, ReadError>
     ensures { Gives (λ v. v.items) result (planned_step line keys.now spelled commands.items) }
 {

@@ -5,7 +5,7 @@ ghost use Rattle.pr_roles.specs.Scenarios.{nexus_of};
 ghost use Rattle.pr_text.specs.inside.Drafts.{draft_seen};
 ghost use Rattle.pr_text.specs.Texts.{first_unscripted};
 ghost use Rattle.pr_text.specs.inside.Endings.{whole_fault};
-ghost use Rattle.pr_text.specs.Readings.{nexus_written, nexus_declared};
+ghost use Rattle.pr_text.specs.Reading.{nexus_written, nexus_declared};
 
 use crate::builder::{Builder, Place};
 use crate::draft::Draft;
@@ -22,7 +22,7 @@ impl Builder {
     ghost use Rattle.pr_text.specs.inside.Sound.{IsSound};
     ghost use Rattle.pr_text.specs.Texts.{ended};
     ghost use Rattle.pr_text.specs.inside.Endings.{missing};
-    ghost use Rattle.pr_text.specs.Readings.{IsDeclaredBy, IsWhole};
+    ghost use Rattle.pr_text.specs.Reading.{IsDeclaredBy, IsWhole};
 
     /// The scenario that is declared, where the text ends on the line of this number.
     pub fn finished(self, alloc: Global, number: u32) -> Result<Scenario, ReadError>

@@ -95,7 +95,7 @@ impl From<SourceFault> for ReadError {
     ghost from_gives = { λ fault e. e ≡ read_error fault };
 
     ghost use Rattle.std.specs.Prelude.{◌≡◌};
-    ghost use Rattle.pr_text.specs.Readings.{read_error};
+    ghost use Rattle.pr_text.specs.Reading.{read_error};
 
     fn from(fault: SourceFault) -> ReadError {
         match fault {

@@ -3,14 +3,14 @@
 ghost use Rattle.std.specs.Prelude.{◌≡◌, map, option_map, IfOk};
 ghost use Rattle.pr_text.specs.TextLines.{words};
 ghost use Rattle.pr_text.specs.WordTerms.{key_of, code_of};
-ghost use Rattle.pr_text.specs.Items.{listed, alternative_of, everybody_of, single_of, wanted_of, name_in, only_name, budget_in, fence_said, start_said, pending_said, role_said, script_said, item_of, bare_said, keys_line, reservation_line};
+ghost use Rattle.pr_text.specs.ScenarioLines.{listed, alternative_of, everybody_of, single_of, start_reservation_of, name_in, only_name, budget_in, fence_said, start_said, pending_said, role_said, script_said, item_of, bare_said, keys_line, reservation_line};
 ghost use Rattle.pr_text.specs.inside.Keywords.{said_simply, said_after};
-ghost use Rattle.pr_text.specs.inside.ItemValues.{wanted_seen, seen};
+ghost use Rattle.pr_text.specs.inside.LineValues.{wanted_seen, seen};
 
 use crate::clauses::{clause_of, test_of};
 use crate::cutting::{is, is_end, next_word, only};
 use crate::keyword::{Keyword, keyword_of};
-use crate::spelling::{Spelled, spelled_in, spelled_of};
+use crate::spelling::{ParsedCommand, spelled_in, spelled_of};
 use crate::terms::{code_of, count_of, generation_of, key_of, kind_of, name_of};
 use pr_attention::Attention;
 use pr_cdb::Kind;
@@ -21,7 +21,7 @@ use std::alloc::{AllocError, Global};
 
 /// A reservation that there may be at the start.
 #[derive(Clone, Copy, Debug)]
-pub enum Wanted {
+pub enum StartReservation {
     /// There is none.
     Nobody,
     /// It has one holder, with this name.
@@ -32,42 +32,46 @@ pub enum Wanted {
 
 /// A line that keeps its shape, with the terms on it.
 #[derive(Debug, Drop)]
-pub enum Item {
+pub enum ScenarioLine {
     Fence,
     Keys(Vec<u64>),
     Host(Word),
     Guest(Word),
     Start(Word, Vec<Option<u64>>),
     Pending(Word, Vec<Attention>),
-    Reservation(Vec<Wanted>),
+    Reservation(Vec<StartReservation>),
     Generation(u32),
     Role(Word, Clause),
     Script(Word, u64),
     Plan(Word),
     End,
-    Send(Spelled),
+    Send(ParsedCommand),
     On(Test),
     Done,
     Repeat(u64),
     Break,
     Stop(Word),
     /// A command of a plan.
-    Command(Spelled),
+    Command(ParsedCommand),
 }
 
 /// What the line says that begins with the word, or nothing where it does not keep its shape.
 #[tactic(auto, using(crate::proofs::ItemWords::by_keyword))]
-pub fn item_of(alloc: Global, word: &[u8], rest: &[u8]) -> Result<Option<Item>, AllocError>
+pub fn item_of(alloc: Global, word: &[u8], rest: &[u8]) -> Result<Option<ScenarioLine>, AllocError>
     ensures { IfOk result (λ item. option_map seen item ≡ item_of word.now (words rest.now)) }
 {
     match keyword_of(word) {
         Some(keyword) => said_after(alloc, keyword, rest),
-        None => Ok(spelled_of(word, rest).map(Item::Command)),
+        None => Ok(spelled_of(word, rest).map(ScenarioLine::Command)),
     }
 }
 
 // What the words behind the keyword say.
-fn said_after(alloc: Global, keyword: Keyword, rest: &[u8]) -> Result<Option<Item>, AllocError>
+fn said_after(
+    alloc: Global,
+    keyword: Keyword,
+    rest: &[u8],
+) -> Result<Option<ScenarioLine>, AllocError>
     ensures { IfOk result (λ item. option_map seen item ≡ said_after keyword (words rest.now)) }
 {
     match keyword {
@@ -80,63 +84,63 @@ fn said_after(alloc: Global, keyword: Keyword, rest: &[u8]) -> Result<Option<Ite
 }
 
 // What the words behind a keyword say that takes no list.
-fn said_simply(keyword: Keyword, rest: &[u8]) -> Option<Item>
+fn said_simply(keyword: Keyword, rest: &[u8]) -> Option<ScenarioLine>
     ensures { option_map seen result ≡ said_simply keyword (words rest.now) }
 {
     match keyword {
         Keyword::Fence => fence_said(rest),
-        Keyword::Host => Some(Item::Host(only_name(rest)?)),
-        Keyword::Guest => Some(Item::Guest(only_name(rest)?)),
-        Keyword::Generation => Some(Item::Generation(generation_of(only(rest)?)?)),
+        Keyword::Host => Some(ScenarioLine::Host(only_name(rest)?)),
+        Keyword::Guest => Some(ScenarioLine::Guest(only_name(rest)?)),
+        Keyword::Generation => Some(ScenarioLine::Generation(generation_of(only(rest)?)?)),
         Keyword::Role => role_said(rest),
         Keyword::Script => script_said(rest),
-        Keyword::Plan => Some(Item::Plan(only_name(rest)?)),
-        Keyword::End => bare_said(Item::End, rest),
-        Keyword::Send => Some(Item::Send(spelled_in(rest)?)),
-        Keyword::On => Some(Item::On(test_of(rest)?)),
-        Keyword::Done => bare_said(Item::Done, rest),
-        Keyword::Repeat => Some(Item::Repeat(count_of(only(rest)?)?)),
-        Keyword::Break => bare_said(Item::Break, rest),
-        Keyword::Stop => Some(Item::Stop(only_name(rest)?)),
+        Keyword::Plan => Some(ScenarioLine::Plan(only_name(rest)?)),
+        Keyword::End => bare_said(ScenarioLine::End, rest),
+        Keyword::Send => Some(ScenarioLine::Send(spelled_in(rest)?)),
+        Keyword::On => Some(ScenarioLine::On(test_of(rest)?)),
+        Keyword::Done => bare_said(ScenarioLine::Done, rest),
+        Keyword::Repeat => Some(ScenarioLine::Repeat(count_of(only(rest)?)?)),
+        Keyword::Break => bare_said(ScenarioLine::Break, rest),
+        Keyword::Stop => Some(ScenarioLine::Stop(only_name(rest)?)),
         Keyword::Keys | Keyword::Start | Keyword::Pending | Keyword::Reservation => None,
     }
 }
 
 // The item, if no word follows it.
-fn bare_said(item: Item, rest: &[u8]) -> Option<Item>
+fn bare_said(item: ScenarioLine, rest: &[u8]) -> Option<ScenarioLine>
     ensures { option_map seen result ≡ bare_said (seen item) (words rest.now) }
 {
     if is_end(rest) { Some(item) } else { None }
 }
 
-fn fence_said(rest: &[u8]) -> Option<Item>
+fn fence_said(rest: &[u8]) -> Option<ScenarioLine>
     ensures { option_map seen result ≡ fence_said (words rest.now) }
 {
     if is(only(rest)?, "1") {
-        Some(Item::Fence)
+        Some(ScenarioLine::Fence)
     } else {
         None
     }
 }
 
-fn role_said(rest: &[u8]) -> Option<Item>
+fn role_said(rest: &[u8]) -> Option<ScenarioLine>
     ensures { option_map seen result ≡ role_said (words rest.now) }
 {
     let Some((name, others)) = name_in(rest) else {
         return None;
     };
     let clause = clause_of(others)?;
-    Some(Item::Role(name, clause))
+    Some(ScenarioLine::Role(name, clause))
 }
 
-fn script_said(rest: &[u8]) -> Option<Item>
+fn script_said(rest: &[u8]) -> Option<ScenarioLine>
     ensures { option_map seen result ≡ script_said (words rest.now) }
 {
     let Some((name, others)) = name_in(rest) else {
         return None;
     };
     let budget = budget_in(others)?;
-    Some(Item::Script(name, budget))
+    Some(ScenarioLine::Script(name, budget))
 }
 
 fn budget_in(line: &[u8]) -> Option<u64>
@@ -166,38 +170,38 @@ fn only_name(line: &[u8]) -> Option<Word>
     name_of(only(line)?)
 }
 
-fn keys_said(alloc: Global, rest: &[u8]) -> Result<Option<Item>, AllocError>
+fn keys_said(alloc: Global, rest: &[u8]) -> Result<Option<ScenarioLine>, AllocError>
     ensures { IfOk result (λ item. option_map seen item ≡ option_map (λ keys. keys_line keys) (listed key_of (words rest.now))) }
 {
     let keys = keys_in(alloc, rest)?;
-    Ok(keys.map(Item::Keys))
+    Ok(keys.map(ScenarioLine::Keys))
 }
 
-fn start_said(alloc: Global, rest: &[u8]) -> Result<Option<Item>, AllocError>
+fn start_said(alloc: Global, rest: &[u8]) -> Result<Option<ScenarioLine>, AllocError>
     ensures { IfOk result (λ item. option_map seen item ≡ start_said (words rest.now)) }
 {
     let Some((name, others)) = name_in(rest) else {
         return Ok(None);
     };
     let alternatives = alternatives_in(alloc, others)?;
-    Ok(alternatives.map(|alternatives| Item::Start(name, alternatives)))
+    Ok(alternatives.map(|alternatives| ScenarioLine::Start(name, alternatives)))
 }
 
-fn pending_said(alloc: Global, rest: &[u8]) -> Result<Option<Item>, AllocError>
+fn pending_said(alloc: Global, rest: &[u8]) -> Result<Option<ScenarioLine>, AllocError>
     ensures { IfOk result (λ item. option_map seen item ≡ pending_said (words rest.now)) }
 {
     let Some((name, others)) = name_in(rest) else {
         return Ok(None);
     };
     let attentions = attentions_in(alloc, others)?;
-    Ok(attentions.map(|attentions| Item::Pending(name, attentions)))
+    Ok(attentions.map(|attentions| ScenarioLine::Pending(name, attentions)))
 }
 
-fn reservation_said(alloc: Global, rest: &[u8]) -> Result<Option<Item>, AllocError>
-    ensures { IfOk result (λ item. option_map seen item ≡ option_map (λ xs. reservation_line xs) (listed wanted_of (words rest.now))) }
+fn reservation_said(alloc: Global, rest: &[u8]) -> Result<Option<ScenarioLine>, AllocError>
+    ensures { IfOk result (λ item. option_map seen item ≡ option_map (λ xs. reservation_line xs) (listed start_reservation_of (words rest.now))) }
 {
     let wanted = wanted_in(alloc, rest)?;
-    Ok(wanted.map(Item::Reservation))
+    Ok(wanted.map(ScenarioLine::Reservation))
 }
 
 #[tactic(auto, using(crate::proofs::Lists::each_same))]
@@ -268,8 +272,8 @@ fn attentions_in(alloc: Global, line: &[u8]) -> Result<Option<Vec<Attention>>, A
 }
 
 #[tactic(auto, using(crate::proofs::Lists::each_same))]
-fn wanted_in(alloc: Global, line: &[u8]) -> Result<Option<Vec<Wanted>>, AllocError>
-    ensures { IfOk result (λ xs. option_map (λ v. map wanted_seen v.items) xs ≡ listed wanted_of (words line.now)) }
+fn wanted_in(alloc: Global, line: &[u8]) -> Result<Option<Vec<StartReservation>>, AllocError>
+    ensures { IfOk result (λ xs. option_map (λ v. map wanted_seen v.items) xs ≡ listed start_reservation_of (words line.now)) }
 {
     if is_end(line) {
         return Ok(None);
@@ -277,7 +281,7 @@ fn wanted_in(alloc: Global, line: &[u8]) -> Result<Option<Vec<Wanted>>, AllocErr
     let mut all = Vec::new(alloc);
     let mut rest = line;
     while let Some((word, others)) = next_word(rest) {
-        let Some(wanted) = wanted_of(word) else {
+        let Some(wanted) = start_reservation_of(word) else {
             return Ok(None);
         };
         all.push(wanted)?;
@@ -287,12 +291,12 @@ fn wanted_in(alloc: Global, line: &[u8]) -> Result<Option<Vec<Wanted>>, AllocErr
 }
 
 // The reservation that the word is.
-#[tactic(auto, unfolding(crate::specs::Items::wanted_of))]
-fn wanted_of(word: &[u8]) -> Option<Wanted>
-    ensures { option_map wanted_seen result ≡ wanted_of word.now }
+#[tactic(auto, unfolding(crate::specs::ScenarioLines::start_reservation_of))]
+fn start_reservation_of(word: &[u8]) -> Option<StartReservation>
+    ensures { option_map wanted_seen result ≡ start_reservation_of word.now }
 {
     if is(word, "none") {
-        return Some(Wanted::Nobody);
+        return Some(StartReservation::Nobody);
     }
     if word.len() == 1 {
         return everybody_of(word);
@@ -300,19 +304,19 @@ fn wanted_of(word: &[u8]) -> Option<Wanted>
     single_of(word)
 }
 
-fn everybody_of(word: &[u8]) -> Option<Wanted>
+fn everybody_of(word: &[u8]) -> Option<StartReservation>
     ensures { option_map wanted_seen result ≡ everybody_of word.now }
 {
     let kind = kind_of(word)?;
     if is_all(kind) {
-        Some(Wanted::Everybody(kind))
+        Some(StartReservation::Everybody(kind))
     } else {
         None
     }
 }
 
 // A type, a colon and a name.
-fn single_of(word: &[u8]) -> Option<Wanted>
+fn single_of(word: &[u8]) -> Option<StartReservation>
     ensures { option_map wanted_seen result ≡ single_of word.now }
 {
     if word.len() < 2 || word[1] != b':' {
@@ -323,5 +327,5 @@ fn single_of(word: &[u8]) -> Option<Wanted>
         return None;
     }
     let name = name_of(&word[2..])?;
-    Some(Wanted::Single(kind, name))
+    Some(StartReservation::Single(kind, name))
 }

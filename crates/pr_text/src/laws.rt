@@ -1,8 +1,8 @@
 //! Laws of the language, each the contract of a function with nothing to do.
 
 ghost use Rattle.pr_text.specs.Laws.{FirstFaultDecides, TextsAreWrittenOnce, WhatIsWrittenFits};
-ghost use Rattle.pr_text.specs.SaidLines.{ScriptsHaveNoFault};
-ghost use Rattle.pr_text.specs.SaidScenarios.{ScenariosHaveNoFault};
+ghost use Rattle.pr_text.specs.ScriptRoundTrip.{ScriptsHaveNoFault};
+ghost use Rattle.pr_text.specs.ScenarioRoundTrip.{ScenariosHaveNoFault};
 
 /// A text is written as one scenario at most: its scripts are the only ones that are written as its lines.
 pub fn texts_are_written_once()

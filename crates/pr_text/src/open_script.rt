@@ -9,8 +9,8 @@ ghost use Rattle.pr_text.specs.ScriptLines.{statement_lines, block_done};
 ghost use Rattle.pr_text.specs.inside.OpenScripts.{block_by, opener_lines, lines_in};
 
 use crate::fault::{ReadError, Which};
-use crate::item::Item;
-use crate::spelling::Spelled;
+use crate::item::ScenarioLine;
+use crate::spelling::ParsedCommand;
 use pr_cdb::Command;
 use pr_roles::Word;
 use pr_script::limits::{MOST_ARMS, MOST_OPEN, MOST_STATEMENTS, MOST_TURNS};
@@ -20,14 +20,14 @@ use std::mem;
 
 /// A send that has no arm yet.
 #[derive(Clone, Copy, Debug, PartialEq, Eq)]
-pub struct Armless {
+pub struct SendWithoutArm {
     pub line: u32,
     pub command: Command,
 }
 
 /// What begins a body: a repeat, or an arm of a send, behind the arms before it.
 #[derive(Debug, Drop)]
-pub enum Opener {
+pub enum BlockHead {
     Repeat {
         count: u32,
     },
@@ -41,9 +41,9 @@ pub enum Opener {
 
 /// An open body: the statements before it, in the body round it, and what begins it.
 #[derive(Debug, Drop)]
-pub struct Frame {
+pub struct OpenBody {
     pub body: Vec<Statement>,
-    pub opener: Opener,
+    pub opener: BlockHead,
 }
 
 /// A script that is open.
@@ -55,17 +55,17 @@ pub struct OpenScript {
     /// How many statements have begun.
     pub statements: u32,
     /// The open bodies, the innermost last.
-    pub outer: Vec<Frame>,
+    pub outer: Vec<OpenBody>,
     /// The statements of the innermost body.
     pub body: Vec<Statement>,
     /// The send that has no arm yet, behind these statements.
-    pub armless: Option<Armless>,
+    pub armless: Option<SendWithoutArm>,
 }
 
 impl OpenScript {
     ghost use Rattle.std.specs.Prelude.{◌≡◌, ◌==◌, false, IfOk, None, Some, [], length, count_by};
     ghost use Rattle.pr_text.specs.inside.Steps.{Gives};
-    ghost use Rattle.pr_text.specs.inside.ItemValues.{seen};
+    ghost use Rattle.pr_text.specs.inside.LineValues.{seen};
     ghost use Rattle.pr_text.specs.inside.OpenScripts.{open_seen, opened_in};
     ghost use Rattle.pr_text.specs.Standing.{awaits_arm, awaits_more, is_repeating, is_sending, is_in_repeat};
     ghost use Rattle.pr_text.specs.inside.Chains.{is_full, send_step, repeat_step, break_step, stop_step, on_step, done_step, script_step};
@@ -90,17 +90,17 @@ impl OpenScript {
         alloc: Global,
         line: u32,
         keys: &[u64],
-        item: Item,
+        item: ScenarioLine,
     ) -> Result<Self, ReadError>
         ensures { Gives open_seen result (script_step line keys.now (seen item) (open_seen self)) }
     {
         match item {
-            Item::Send(spelled) => self.send(line, keys, spelled),
-            Item::On(test) => self.on(alloc, line, keys, test),
-            Item::Done => self.done(alloc, line),
-            Item::Repeat(count) => self.repeat(alloc, line, count),
-            Item::Break => self.break_out(line),
-            Item::Stop(word) => self.stop(line, word),
+            ScenarioLine::Send(spelled) => self.send(line, keys, spelled),
+            ScenarioLine::On(test) => self.on(alloc, line, keys, test),
+            ScenarioLine::Done => self.done(alloc, line),
+            ScenarioLine::Repeat(count) => self.repeat(alloc, line, count),
+            ScenarioLine::Break => self.break_out(line),
+            ScenarioLine::Stop(word) => self.stop(line, word),
             _ => Err(ReadError::Syntax { line }),
         }
     }
@@ -167,7 +167,7 @@ impl OpenScript {
     }
 
     #[tactic(auto, unfolding(crate::specs::inside::Chains::send_step))]
-    fn send(mut self, line: u32, keys: &[u64], spelled: Spelled) -> Result<Self, ReadError>
+    fn send(mut self, line: u32, keys: &[u64], spelled: ParsedCommand) -> Result<Self, ReadError>
         ensures { Gives open_seen result (send_step line keys.now spelled (open_seen self)) }
     {
         if self.awaits_arm() {
@@ -185,7 +185,7 @@ impl OpenScript {
             return Err(ReadError::Limit { which, line });
         }
         self.statements += 1;
-        self.armless = Some(Armless {
+        self.armless = Some(SendWithoutArm {
             line,
             command: spelled.command,
         });
@@ -213,7 +213,7 @@ impl OpenScript {
         }
         let mut open = self.opened(
             alloc,
-            Opener::Repeat {
+            BlockHead::Repeat {
                 count: count as u32,
             },
         )?;
@@ -223,12 +223,12 @@ impl OpenScript {
 
     // The script in which a body is open too.
     #[tactic(auto, using(crate::proofs::OpenLines::more_blocks, crate::proofs::OpenLines::more_lines))]
-    fn opened(mut self, alloc: Global, opener: Opener) -> Result<Self, AllocError>
+    fn opened(mut self, alloc: Global, opener: BlockHead) -> Result<Self, AllocError>
         requires { self.armless ≡ None }
         ensures { IfOk result (λ after. open_seen after ≡ opened_in opener (open_seen self)) }
     {
         let body = mem::replace(&mut self.body, Vec::new(alloc));
-        self.outer.push(Frame { body, opener })?;
+        self.outer.push(OpenBody { body, opener })?;
         Ok(self)
     }
 
@@ -247,7 +247,7 @@ impl OpenScript {
         alloc: Global,
         line: u32,
         keys: &[u64],
-        send: Armless,
+        send: SendWithoutArm,
         test: Test,
     ) -> Result<Self, ReadError>
         requires { self.armless ≡ Some send }
@@ -257,7 +257,7 @@ impl OpenScript {
             return Err(fault);
         }
         self.armless = None;
-        let opener = Opener::Arm {
+        let opener = BlockHead::Arm {
             line: send.line,
             command: send.command,
             arms: Vec::new(alloc),
@@ -277,10 +277,10 @@ impl OpenScript {
         requires { self.armless ≡ None }
         ensures { Gives open_seen result (on_step line keys.now test (open_seen self)) }
     {
-        let Some(Frame { body, opener }) = self.outer.pop() else {
+        let Some(OpenBody { body, opener }) = self.outer.pop() else {
             return Err(ReadError::Syntax { line });
         };
-        let Opener::Arm {
+        let BlockHead::Arm {
             line: begun,
             command,
             mut arms,
@@ -297,13 +297,13 @@ impl OpenScript {
             test: last,
             body: Script { statements },
         })?;
-        let opener = Opener::Arm {
+        let opener = BlockHead::Arm {
             line: begun,
             command,
             arms,
             test,
         };
-        self.outer.push(Frame { body, opener })?;
+        self.outer.push(OpenBody { body, opener })?;
         Ok(self)
     }
 
@@ -318,7 +318,12 @@ impl OpenScript {
 
     // The end of a send without arms.
     #[tactic(auto, unfolding(crate::specs::inside::Chains::done_step), using(crate::proofs::OpenLines::armless_closes))]
-    fn armless_done(mut self, alloc: Global, line: u32, send: Armless) -> Result<Self, ReadError>
+    fn armless_done(
+        mut self,
+        alloc: Global,
+        line: u32,
+        send: SendWithoutArm,
+    ) -> Result<Self, ReadError>
         requires { self.armless ≡ Some send }
         ensures { Gives open_seen result (done_step line (open_seen self)) }
     {
@@ -338,7 +343,7 @@ impl OpenScript {
         requires { self.armless ≡ None }
         ensures { Gives open_seen result (done_step line (open_seen self)) }
     {
-        let Some(Frame { body, opener }) = self.outer.pop() else {
+        let Some(OpenBody { body, opener }) = self.outer.pop() else {
             return Err(ReadError::Syntax { line });
         };
         if is_repeat(&opener) && self.body.is_empty() {
@@ -384,23 +389,23 @@ impl OpenScript {
 }
 
 // Whether the opener is a repeat.
-fn is_repeat(opener: &Opener) -> bool
+fn is_repeat(opener: &BlockHead) -> bool
     ensures { result ≡ is_repeating (block_by opener.now) }
 {
     match opener {
-        Opener::Repeat { .. } => true,
-        Opener::Arm { .. } => false,
+        BlockHead::Repeat { .. } => true,
+        BlockHead::Arm { .. } => false,
     }
 }
 
 // The statement that the opener and its body are.
 #[tactic(auto, using(crate::proofs::OpenLines::closed_repeat, crate::proofs::OpenLines::closed_send))]
-fn closed(opener: Opener, body: Script) -> Result<Statement, AllocError>
+fn closed(opener: BlockHead, body: Script) -> Result<Statement, AllocError>
     ensures { IfOk result (λ s. statement_lines (statement_of s) ≡ opener_lines opener ++ (lines_in body.statements.items ++ block_done ∷ [])) }
 {
     match opener {
-        Opener::Repeat { count } => Ok(Statement::Repeat { count, body }),
-        Opener::Arm {
+        BlockHead::Repeat { count } => Ok(Statement::Repeat { count, body }),
+        BlockHead::Arm {
             line,
             command,
             mut arms,
@@ -462,7 +467,7 @@ fn is_test_declared(keys: &[u64], test: Test) -> bool
 
 /// Whether the command may stand in a script or plan under these declared keys, which have the keys that
 /// it drops, too.
-pub fn is_spelled(keys: &[u64], spelled: Spelled) -> bool
+pub fn is_spelled(keys: &[u64], spelled: ParsedCommand) -> bool
     ensures { result ≡ is_spelled keys.now spelled }
 {
     is_written(keys, spelled.command)

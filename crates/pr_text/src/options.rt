@@ -2,7 +2,7 @@
 
 ghost use Rattle.std.specs.Prelude.{◌≡◌, ◌∷◌};
 ghost use Rattle.pr_text.specs.TextLines.{words};
-ghost use Rattle.pr_text.specs.CommandOptions.{way_of, action_of, key_after, option_of, with_option, with_options, unwritten, command_in, command_out, command_of};
+ghost use Rattle.pr_text.specs.CommandOptions.{direction_of, action_of, key_after, option_of, with_option, with_options, unwritten, command_in, command_out, command_of};
 
 use crate::cutting::next_word;
 use crate::lookup::lookup;
@@ -10,9 +10,9 @@ use crate::terms::{key_or_zero, kind_of, value_after};
 use pr_cdb::{Command, Kind};
 use pr_script::WRITTEN_LENGTH;
 
-/// The way of a command's data: `--in` or `--out`.
+/// The direction of a command's data: `--in` or `--out`.
 #[derive(Clone, Copy, Debug, PartialEq, Eq)]
-pub enum Way {
+pub enum Direction {
     In,
     Out,
 }
@@ -32,8 +32,11 @@ pub enum Action {
     PreemptAbort,
 }
 
-/// The options for the way of the data, of which each command names one.
-pub const WAYS: [(&[u8], Way); 2] = [(b"--in", Way::In), (b"--out", Way::Out)];
+/// The options for the direction of the data, of which each command names one.
+pub const DIRECTIONS: [(&[u8], Direction); 2] = [
+    (b"--in", Direction::In),
+    (b"--out", Direction::Out),
+];
 
 /// The options for the service actions.
 pub const ACTIONS: [(&[u8], Action); 10] = [
@@ -52,17 +55,17 @@ pub const ACTIONS: [(&[u8], Action); 10] = [
 /// One option of a command.
 #[derive(Clone, Copy, Debug, PartialEq, Eq)]
 pub enum CommandOption {
-    Toward(Way),
-    Doing(Action),
+    Direction(Direction),
+    Action(Action),
     Rk(u64),
     Sark(u64),
-    OfKind(Kind),
+    Kind(Kind),
 }
 
 /// The options that are written, each at most once.
 #[derive(Clone, Copy, Debug, PartialEq, Eq)]
 pub struct Written {
-    pub way: Option<Way>,
+    pub direction: Option<Direction>,
     pub action: Option<Action>,
     pub rk: Option<u64>,
     pub sark: Option<u64>,
@@ -79,7 +82,7 @@ impl Written {
         ensures { result ≡ unwritten }
     {
         Written {
-            way: None,
+            direction: None,
             action: None,
             rk: None,
             sark: None,
@@ -94,11 +97,12 @@ impl Written {
     {
         let mut written = self;
         match option {
-            CommandOption::Toward(way) if self.way.is_none() => written.way = Some(way),
-            CommandOption::Doing(action) if self.action.is_none() => written.action = Some(action),
+            CommandOption::Direction(direction) if self.direction.is_none() => written.direction =
+                Some(direction),
+            CommandOption::Action(action) if self.action.is_none() => written.action = Some(action),
             CommandOption::Rk(rk) if self.rk.is_none() => written.rk = Some(rk),
             CommandOption::Sark(sark) if self.sark.is_none() => written.sark = Some(sark),
-            CommandOption::OfKind(kind) if self.kind.is_none() => written.kind = Some(kind),
+            CommandOption::Kind(kind) if self.kind.is_none() => written.kind = Some(kind),
             _ => return None,
         }
         Some(written)
@@ -116,12 +120,12 @@ impl Written {
     pub fn command(&self) -> Option<Command>
         ensures { result ≡ command_of self.now }
     {
-        let way = self.way?;
+        let direction = self.direction?;
         let action = self.action?;
-        match way {
-            Way::In if self.is_bare() => command_in(action),
-            Way::In => None,
-            Way::Out => command_out(
+        match direction {
+            Direction::In if self.is_bare() => command_in(action),
+            Direction::In => None,
+            Direction::Out => command_out(
                 action,
                 self.rk.unwrap_or(0),
                 self.sark.unwrap_or(0),
@@ -149,11 +153,11 @@ pub fn options_of(first: &[u8], line: &[u8]) -> Option<Written>
 fn option_of(word: &[u8]) -> Option<CommandOption>
     ensures { result ≡ option_of word.now }
 {
-    if let Some(way) = way_of(word) {
-        return Some(CommandOption::Toward(way));
+    if let Some(direction) = direction_of(word) {
+        return Some(CommandOption::Direction(direction));
     }
     if let Some(action) = action_of(word) {
-        return Some(CommandOption::Doing(action));
+        return Some(CommandOption::Action(action));
     }
     if let Some(rk) = key_after("--param-rk=", word) {
         return Some(CommandOption::Rk(rk));
@@ -162,7 +166,7 @@ fn option_of(word: &[u8]) -> Option<CommandOption>
         return Some(CommandOption::Sark(sark));
     }
     let kind = kind_of(value_after("--prout-type=", word)?)?;
-    Some(CommandOption::OfKind(kind))
+    Some(CommandOption::Kind(kind))
 }
 
 fn key_after(name: &str, word: &[u8]) -> Option<u64>
@@ -171,11 +175,11 @@ fn key_after(name: &str, word: &[u8]) -> Option<u64>
     key_or_zero(value_after(name, word)?)
 }
 
-#[tactic(auto, unfolding(crate::specs::CommandOptions::way_of))]
-fn way_of(word: &[u8]) -> Option<Way>
-    ensures { result ≡ way_of word.now }
+#[tactic(auto, unfolding(crate::specs::CommandOptions::direction_of))]
+fn direction_of(word: &[u8]) -> Option<Direction>
+    ensures { result ≡ direction_of word.now }
 {
-    lookup(&WAYS, word)
+    lookup(&DIRECTIONS, word)
 }
 
 #[tactic(auto, unfolding(crate::specs::CommandOptions::action_of))]

@@ -11,14 +11,14 @@ use pr_cdb::Command;
 
 /// A command, and the keys that are written with it, zero where none is. The command may drop a key.
 #[derive(Clone, Copy, Debug, PartialEq, Eq)]
-pub struct Spelled {
+pub struct ParsedCommand {
     pub command: Command,
     pub rk: u64,
     pub sark: u64,
 }
 
 /// The command that the line's words spell.
-pub fn spelled_in(line: &[u8]) -> Option<Spelled>
+pub fn spelled_in(line: &[u8]) -> Option<ParsedCommand>
     ensures { result ≡ spelled_in (words line.now) }
 {
     let (word, rest) = next_word(line)?;
@@ -27,7 +27,7 @@ pub fn spelled_in(line: &[u8]) -> Option<Spelled>
 
 /// The command that the word and the words after it spell.
 #[tactic(auto, unfolding(crate::specs::CommandWords::spelled_of))]
-pub fn spelled_of(word: &[u8], rest: &[u8]) -> Option<Spelled>
+pub fn spelled_of(word: &[u8], rest: &[u8]) -> Option<ParsedCommand>
     ensures { result ≡ spelled_of word.now (words rest.now) }
 {
     if is(word, "test-unit-ready") {
@@ -47,10 +47,10 @@ pub fn spelled_of(word: &[u8], rest: &[u8]) -> Option<Spelled>
     spelled_by(options_of(word, rest)?)
 }
 
-fn keyless(command: Command) -> Spelled
+fn keyless(command: Command) -> ParsedCommand
     ensures { result ≡ keyless command }
 {
-    Spelled {
+    ParsedCommand {
         command,
         rk: 0,
         sark: 0,
@@ -58,7 +58,7 @@ fn keyless(command: Command) -> Spelled
 }
 
 // The command, if no word follows it.
-fn bare(command: Command, rest: &[u8]) -> Option<Spelled>
+fn bare(command: Command, rest: &[u8]) -> Option<ParsedCommand>
     ensures { result ≡ bare command (words rest.now) }
 {
     if is_end(rest) {
@@ -79,11 +79,11 @@ fn blocks_of(line: &[u8]) -> Option<(u32, u16)>
     Some((lba as u32, blocks as u16))
 }
 
-fn spelled_by(written: Written) -> Option<Spelled>
+fn spelled_by(written: Written) -> Option<ParsedCommand>
     ensures { result ≡ spelled_by written }
 {
     let command = written.command()?;
-    Some(Spelled {
+    Some(ParsedCommand {
         command,
         rk: written.rk.unwrap_or(0),
         sark: written.sark.unwrap_or(0),

@@ -10,8 +10,8 @@ ghost use Rattle.pr_text.specs.inside.Drafts.{declared_by};
 ghost use Rattle.pr_text.specs.Texts.{line_placed, all_placed, answer_of};
 ghost use Rattle.pr_text.specs.inside.Steps.{AreRead};
 ghost use Rattle.pr_text.specs.BytesRead.{LosesUpTo};
-ghost use Rattle.pr_text.specs.Readings.{IsWrittenAs, IsRead};
-ghost use Rattle.pr_text.specs.SaidScenarios.{ScenariosHaveNoFault};
+ghost use Rattle.pr_text.specs.Reading.{IsWrittenAs, IsRead};
+ghost use Rattle.pr_text.specs.ScenarioRoundTrip.{ScenariosHaveNoFault};
 ghost use Rattle.pr_text.specs.Laws.{TextsAreWrittenOnce};
 
 use crate::builder::Builder;

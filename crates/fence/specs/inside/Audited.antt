@@ -4,7 +4,7 @@ use Rattle.pr_roles.specs.declared.entry.Entry.{Entry}
 use Rattle.pr_roles.specs.Scenarios.{scenario_of}
 use Rattle.pr_text.specs.declared.fault.ReadError.TheVariants as input
 use Rattle.pr_text.specs.Texts.{answer_of}
-use Rattle.pr_text.specs.Readings.{IsWrittenAs}
+use Rattle.pr_text.specs.Reading.{IsWrittenAs}
 use Rattle.pr_report.specs.TraceReadings.{trace_of}
 use Rattle.pr_report.specs.TraceText.{names_in}
 use Rattle.pr_report.specs.Verdicts.{IsVerdict}

@@ -5,7 +5,7 @@ use Rattle.pr_roles.specs.Scenarios.{scenario_of}
 use Rattle.pr_roles.specs.Safety.{IsSafe}
 use Rattle.pr_text.specs.declared.fault.ReadError.TheVariants as input
 use Rattle.pr_text.specs.Texts.{answer_of}
-use Rattle.pr_text.specs.Readings.{IsWrittenAs}
+use Rattle.pr_text.specs.Reading.{IsWrittenAs}
 use Rattle.pr_verify.specs.declared.verifying.Refused.{Refused}
 use Rattle.pr_verify.specs.Outlines.{HaveOutlines}
 use Rattle.pr_verify.specs.Verdicts.{IsFirstReason, IsVerdict}

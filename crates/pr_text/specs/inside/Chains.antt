@@ -10,17 +10,17 @@ use Rattle.pr_roles.specs.Fitting.{are_distinct, is_alternative, is_same_alterna
 use Rattle.pr_cdb.specs.declared.codes.TheConstants.{MOST_NEXUSES}
 use Rattle.pr_script.specs.declared.limits.TheConstants.{MOST_STATEMENTS, MOST_ARMS, MOST_OPEN, MOST_TURNS, MOST_BUDGET}
 use Rattle.pr_roles.specs.declared.limits.TheConstants.{MOST_KEYS, MOST_CLAUSES, MOST_PLANNED}
-use Rattle.pr_text.specs.declared.spelling.Spelled.{Spelled}
+use Rattle.pr_text.specs.declared.spelling.ParsedCommand.{ParsedCommand}
 use Rattle.pr_text.specs.declared.fault.ReadError.{ReadError}
 use Rattle.pr_text.specs.declared.fault.Which.TheVariants as which
 use Rattle.pr_text.specs.declared.fault.ReadError.TheVariants as fault
-use Rattle.pr_text.specs.Declarations.{scripted, planned, Declaration, Opening, repeating, sending, OpenLines, Place, before_all, outside, in_script, in_plan, Declared}
+use Rattle.pr_text.specs.Declarations.{scripted, planned, Declaration, OpenBlock, repeating, sending, OpenLines, Place, before_all, outside, in_script, in_plan, Declared}
 use Rattle.pr_text.specs.Chain.{each}
 use Rattle.pr_text.specs.Declaring.{declared_keys, number_of, codes_of, are_codes_distinct, held_of, is_spelled, is_test_declared}
 use Rattle.pr_text.specs.Faults.{and_then, unless}
-use Rattle.pr_text.specs.Items.{Wanted, Item, fence_line, keys_line, host_line, guest_line, start_line, pending_line, reservation_line, generation_line, role_line, script_line, plan_line, end_line, send_line, on_line, done_line, repeat_line, break_line, stop_line, command_line}
-use Rattle.pr_text.specs.Placing.{with_task, begun_script, opening, stating}
-use Rattle.pr_text.specs.SaidLines.{said_by, numbered}
+use Rattle.pr_text.specs.ScenarioLines.{StartReservation, ScenarioLine, fence_line, keys_line, host_line, guest_line, start_line, pending_line, reservation_line, generation_line, role_line, script_line, plan_line, end_line, send_line, on_line, done_line, repeat_line, break_line, stop_line, command_line}
+use Rattle.pr_text.specs.NextLine.{with_task, begun_script, opening, stating}
+use Rattle.pr_text.specs.ScriptRoundTrip.{said_by, numbered}
 use Rattle.pr_text.specs.ScriptLines.{ScriptLine, send_at, arm_on, block_done, repeat_of, break_out, stop_with}
 use Rattle.pr_text.specs.Standing.{is_repeating, is_sending, awaits_arm, awaits_more, may_close, stands_under}
 
@@ -80,7 +80,7 @@ reservations_at n d (Some vs) =
     if is_some d.reservations || not (are_distinct is_same_reservation vs) then Err (fault.Repeated n) else
     Ok (record d { reservations = Some vs })
 
-unfoldable pub reservation_placed : ℕ → List Wanted → Declared → Result Declared ReadError
+unfoldable pub reservation_placed : ℕ → List StartReservation → Declared → Result Declared ReadError
 reservation_placed n ws d = reservations_at n d (each (held_of d.nexuses) ws)
 
 unfoldable pub generation_placed : ℕ → ℕ → Declared → Result Declared ReadError
@@ -120,7 +120,7 @@ plan_placed n name d = at_name n d name (plan_at n d)
 abbrev pub is_full : OpenLines → Bool
 is_full o = nat_le MOST_STATEMENTS o.statements
 
-unfoldable pub send_step : ℕ → List ℕ → Spelled → OpenLines → Result OpenLines ReadError
+unfoldable pub send_step : ℕ → List ℕ → ParsedCommand → OpenLines → Result OpenLines ReadError
 send_step n keys s o =
     if awaits_arm o.blocks then Err (fault.Syntax n) else (
     if not (is_spelled keys s) then Err (fault.UndeclaredKey n) else (
@@ -155,7 +155,7 @@ arm_fault n keys t c arms =
     if not (is_test_declared keys t) then Some (fault.UndeclaredKey n) else (
     if nat_le MOST_ARMS arms then Some (fault.Limit which.Arms n) else None))
 
-abbrev pub on_step_in : ℕ → List ℕ → Test → OpenLines → List Opening → Result OpenLines ReadError
+abbrev pub on_step_in : ℕ → List ℕ → Test → OpenLines → List OpenBlock → Result OpenLines ReadError
 on_step_in n keys t o [] = Err (fault.Syntax n)
 on_step_in n keys t o (repeating ∷ bs) = Err (fault.Syntax n)
 on_step_in n keys t o ((sending c arms) ∷ bs) =
@@ -171,7 +171,7 @@ done_step n o =
     else Err (fault.Syntax n)
 
 -- what the line of this number makes of the script, under these declared keys
-abbrev pub script_step : ℕ → List ℕ → Item → OpenLines → Result OpenLines ReadError
+abbrev pub script_step : ℕ → List ℕ → ScenarioLine → OpenLines → Result OpenLines ReadError
 script_step n keys (send_line s) o = send_step n keys s o
 script_step n keys (on_line t) o = on_step n keys t o
 script_step n keys done_line o = done_step n o
@@ -193,12 +193,12 @@ script_step n keys end_line o = Err (fault.Syntax n)
 script_step n keys (command_line s) o = Err (fault.Syntax n)
 
 -- the first line
-abbrev pub placed_first : ℕ → Item → Declared → Result Declared ReadError
+abbrev pub placed_first : ℕ → ScenarioLine → Declared → Result Declared ReadError
 placed_first n fence_line d = Ok (record d { place = outside })
 placed_first n item d = Err (fault.Syntax n)
 
 -- a line outside scripts and plans
-abbrev pub placed_outside : ℕ → Item → Declared → Result Declared ReadError
+abbrev pub placed_outside : ℕ → ScenarioLine → Declared → Result Declared ReadError
 placed_outside n (keys_line keys) d = keys_placed n keys d
 placed_outside n (host_line name) d = nexus_placed n false name d
 placed_outside n (guest_line name) d = nexus_placed n true name d
@@ -225,30 +225,30 @@ script_ended n o d =
     if length o.blocks == 0 then Ok (with_task d o.host (scripted o.lines o.budget)) else Err (fault.Syntax n)
 
 -- a line of a script
-abbrev pub placed_in_script : ℕ → OpenLines → Item → Declared → Result Declared ReadError
+abbrev pub placed_in_script : ℕ → OpenLines → ScenarioLine → Declared → Result Declared ReadError
 placed_in_script n o end_line d = script_ended n o d
 placed_in_script n o item d = and_then (script_step n (declared_keys d) item o) (λ p. Ok (record d { place = in_script p }))
 
-unfoldable pub planned_step : ℕ → List ℕ → Spelled → List Command → Result (List Command) ReadError
+unfoldable pub planned_step : ℕ → List ℕ → ParsedCommand → List Command → Result (List Command) ReadError
 planned_step n keys s commands =
     if not (is_spelled keys s) then Err (fault.UndeclaredKey n) else (
     if nat_le MOST_PLANNED (length commands) then Err (fault.Limit which.Plan n) else
     Ok (commands ++ s.command ∷ []))
 
 -- a line of a plan
-abbrev pub placed_in_plan : ℕ → ℕ → List Command → Item → Declared → Result Declared ReadError
+abbrev pub placed_in_plan : ℕ → ℕ → List Command → ScenarioLine → Declared → Result Declared ReadError
 placed_in_plan n h commands (command_line s) d = and_then (planned_step n (declared_keys d) s commands) (λ more. Ok (record d { place = in_plan h more }))
 placed_in_plan n h commands end_line d = Ok (with_task d h (planned commands))
 placed_in_plan n h commands item d = Err (fault.Syntax n)
 
-abbrev pub placed_at : ℕ → Place → Item → Declared → Result Declared ReadError
+abbrev pub placed_at : ℕ → Place → ScenarioLine → Declared → Result Declared ReadError
 placed_at n before_all item d = placed_first n item d
 placed_at n outside item d = placed_outside n item d
 placed_at n (in_script o) item d = placed_in_script n o item d
 placed_at n (in_plan h commands) item d = placed_in_plan n h commands item d
 
 -- a line where it stands
-unfoldable pub item_taken : ℕ → Item → Declared → Result Declared ReadError
+unfoldable pub item_taken : ℕ → ScenarioLine → Declared → Result Declared ReadError
 item_taken n item d = placed_at n d.place item d
 
 -- what the lines make of an open script, one after another, under these declared keys

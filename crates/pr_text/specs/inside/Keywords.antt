@@ -6,7 +6,7 @@ use Rattle.pr_text.specs.declared.keyword.TheConstants.{KEYWORDS}
 use Rattle.pr_text.specs.Chain.{◌>>=◌}
 use Rattle.pr_text.specs.Clauses.{test_of}
 use Rattle.pr_text.specs.CommandWords.{spelled_of, spelled_in}
-use Rattle.pr_text.specs.Items.{Item, keys_line, host_line, guest_line, reservation_line, generation_line, plan_line, end_line, send_line, on_line, done_line, repeat_line, break_line, stop_line, command_line, listed, wanted_of, only_name, fence_said, start_said, pending_said, role_said, script_said, bare_said}
+use Rattle.pr_text.specs.ScenarioLines.{ScenarioLine, keys_line, host_line, guest_line, reservation_line, generation_line, plan_line, end_line, send_line, on_line, done_line, repeat_line, break_line, stop_line, command_line, listed, start_reservation_of, only_name, fence_said, start_said, pending_said, role_said, script_said, bare_said}
 use Rattle.pr_text.specs.Lookups.{lookup}
 use Rattle.pr_text.specs.TextLines.{only}
 use Rattle.pr_text.specs.WordTerms.{key_of, generation_of, count_of}
@@ -16,7 +16,7 @@ unfoldable pub keyword_of : List ℕ → Option Keyword
 keyword_of word = lookup (map (λ row. (row.0.now, row.1)) KEYWORDS) word
 
 -- what the words behind a keyword say that takes no list
-abbrev pub said_simply : Keyword → List (List ℕ) → Option Item
+abbrev pub said_simply : Keyword → List (List ℕ) → Option ScenarioLine
 said_simply keyword.Fence ws = fence_said ws
 said_simply keyword.Host ws = option_map (λ name. host_line name) (only_name ws)
 said_simply keyword.Guest ws = option_map (λ name. guest_line name) (only_name ws)
@@ -37,14 +37,14 @@ said_simply keyword.Pending ws = None
 said_simply keyword.Reservation ws = None
 
 -- what the words behind a keyword say
-abbrev pub said_after : Keyword → List (List ℕ) → Option Item
+abbrev pub said_after : Keyword → List (List ℕ) → Option ScenarioLine
 said_after keyword.Keys ws = option_map (λ keys. keys_line keys) (listed key_of ws)
 said_after keyword.Start ws = start_said ws
 said_after keyword.Pending ws = pending_said ws
-said_after keyword.Reservation ws = option_map (λ xs. reservation_line xs) (listed wanted_of ws)
+said_after keyword.Reservation ws = option_map (λ xs. reservation_line xs) (listed start_reservation_of ws)
 said_after k ws = said_simply k ws
 
 -- what a line says that begins with this word; one without a keyword is a command of a plan
-abbrev pub said_with : Option Keyword → List ℕ → List (List ℕ) → Option Item
+abbrev pub said_with : Option Keyword → List ℕ → List (List ℕ) → Option ScenarioLine
 said_with (Some k) word ws = said_after k ws
 said_with None word ws = option_map (λ s. command_line s) (spelled_of word ws)

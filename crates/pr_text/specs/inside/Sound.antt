@@ -10,7 +10,7 @@ use Rattle.pr_cdb.specs.declared.codes.TheConstants.{MOST_NEXUSES}
 use Rattle.pr_script.specs.declared.limits.TheConstants.{MOST_STATEMENTS, MOST_ARMS, MOST_OPEN, MOST_TURNS, MOST_BUDGET}
 use Rattle.pr_roles.specs.declared.limits.TheConstants.{MOST_PLANNED}
 use Rattle.pr_text.specs.ScriptLines.{ScriptLine, send_at, arm_on, block_done, repeat_of, break_out, stop_with}
-use Rattle.pr_text.specs.Declarations.{Opening, repeating, sending, OpenLines, WrittenTask, scripted, planned, Declaration, Place, before_all, outside, in_script, in_plan, Declared}
+use Rattle.pr_text.specs.Declarations.{OpenBlock, repeating, sending, OpenLines, WrittenTask, scripted, planned, Declaration, Place, before_all, outside, in_script, in_plan, Declared}
 use Rattle.pr_text.specs.Declaring.{declared_keys}
 use Rattle.pr_text.specs.Standing.{is_repeating, is_sending, awaits_arm, is_in_repeat, may_close}
 use Rattle.pr_text.specs.Texts.{start_of, reservations_of}
@@ -19,7 +19,7 @@ use Rattle.pr_text.specs.Texts.{start_of, reservations_of}
 
 -- the blocks that are open, the innermost first, and whether the innermost has a statement
 pub record Reached : Type 0 where
-  pub blocks : List Opening
+  pub blocks : List OpenBlock
   pub begun : Bool
 
 -- nothing is open, and there is no statement
@@ -29,7 +29,7 @@ at_first = record { blocks = []; begun = false }
 abbrev pub may_state : Reached → Bool
 may_state s = not (awaits_arm s.blocks) && not (is_in_repeat s.blocks && not s.begun)
 
-abbrev pub may_arm : List ℕ → Test → List Opening → Bool
+abbrev pub may_arm : List ℕ → Test → List OpenBlock → Bool
 may_arm keys t [] = false
 may_arm keys t (repeating ∷ bs) = false
 may_arm keys t ((sending c arms) ∷ bs) = test_fits keys c t && nat_lt arms MOST_ARMS
@@ -43,7 +43,7 @@ may keys s (repeat_of n) = not (awaits_arm s.blocks) && ((nat_le 1 n && nat_le n
 may keys s break_out = may_state s && nat_lt 0 (count_by is_repeating s.blocks)
 may keys s (stop_with word) = may_state s && is_name word
 
-abbrev pub with_arm : List Opening → List Opening
+abbrev pub with_arm : List OpenBlock → List OpenBlock
 with_arm [] = []
 with_arm (repeating ∷ bs) = repeating ∷ bs
 with_arm ((sending c arms) ∷ bs) = sending c (arms + 1) ∷ bs

@@ -1,7 +1,7 @@
 use Rattle.std.proofs.Common.{◌≡◌, length}
 use Rattle.pr_text.specs.Chain.{each}
 use Rattle.pr_text.specs.TextLines.{words}
-use Rattle.pr_text.specs.Items.{alternative_of}
+use Rattle.pr_text.specs.ScenarioLines.{alternative_of}
 use Rattle.pr_text.specs.inside.Lists.{each_onto}
 use Rattle.pr_text.proofs.item.alternatives_in.Given as goal
 

@@ -13,16 +13,16 @@ use Rattle.pr_roles.specs.Scenarios.{Scenario, Nexus, Task, Scripted, Planned}
 use Rattle.pr_roles.specs.Starts.{CanStart}
 use Rattle.pr_roles.specs.Fitting.{Fits}
 use Rattle.pr_text.specs.CommandWords.{keyless}
-use Rattle.pr_text.specs.Items.{Wanted, nobody, single, everybody, Item, fence_line, keys_line, host_line, guest_line, start_line, pending_line, reservation_line, generation_line, role_line, script_line, plan_line, end_line, command_line}
+use Rattle.pr_text.specs.ScenarioLines.{StartReservation, nobody, single, everybody, ScenarioLine, fence_line, keys_line, host_line, guest_line, start_line, pending_line, reservation_line, generation_line, role_line, script_line, plan_line, end_line, command_line}
 use Rattle.pr_text.specs.ScriptLines.{body_lines}
-use Rattle.pr_text.specs.SaidLines.{Line, line, script_said, all_said}
+use Rattle.pr_text.specs.ScriptRoundTrip.{Line, line, script_said, all_said}
 use Rattle.pr_text.specs.Declarations.{Declared, nothing}
-use Rattle.pr_text.specs.Readings.{IsWhole}
+use Rattle.pr_text.specs.Reading.{IsWhole}
 
 -- ---- a host or guest, with this number on each line but those of sends, which have their own
 
 -- a host has a script, a guest a plan
-abbrev pub declaring : List ℕ → Task → Item
+abbrev pub declaring : List ℕ → Task → ScenarioLine
 declaring name (Scripted script budget) = host_line name
 declaring name (Planned commands) = guest_line name
 
@@ -53,7 +53,7 @@ keys_said n [] = []
 keys_said n (k ∷ ks) = line n (keys_line (k ∷ ks)) ∷ []
 
 -- a reservation, whose single holder is named
-abbrev pub wanted_by : List Nexus → Option Held → Wanted
+abbrev pub wanted_by : List Nexus → Option Held → StartReservation
 wanted_by nexuses None = nobody
 wanted_by nexuses (Some (One kind h)) = single kind (option_map_or (λ x. x.name) (slice_get nexuses h) [])
 wanted_by nexuses (Some (Everybody kind)) = everybody kind

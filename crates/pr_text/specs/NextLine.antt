@@ -5,11 +5,11 @@ use Rattle.std.specs.Option.{option_map_or}
 use Rattle.std.specs.List.{slice_get}
 use Rattle.pr_script.specs.declared.script.Test.{Test}
 use Rattle.pr_text.specs.declared.fault.ReadError.{ReadError}
-use Rattle.pr_text.specs.Declarations.{WrittenTask, scripted, planned, Declaration, Opening, repeating, sending, OpenLines, outside, in_script, in_plan, Declared}
+use Rattle.pr_text.specs.Declarations.{WrittenTask, scripted, planned, Declaration, OpenBlock, repeating, sending, OpenLines, outside, in_script, in_plan, Declared}
 use Rattle.pr_text.specs.Chain.{each}
 use Rattle.pr_text.specs.Declaring.{number_of, codes_of, held_of}
 use Rattle.pr_text.specs.Faults.{unless}
-use Rattle.pr_text.specs.Items.{Item, fence_line, keys_line, host_line, guest_line, start_line, pending_line, reservation_line, generation_line, role_line, script_line, plan_line, end_line, send_line, on_line, done_line, repeat_line, break_line, stop_line, command_line}
+use Rattle.pr_text.specs.ScenarioLines.{ScenarioLine, fence_line, keys_line, host_line, guest_line, start_line, pending_line, reservation_line, generation_line, role_line, script_line, plan_line, end_line, send_line, on_line, done_line, repeat_line, break_line, stop_line, command_line}
 use Rattle.pr_text.specs.LineFaults.{fault_at}
 use Rattle.pr_text.specs.ScriptLines.{ScriptLine, send_at, arm_on, block_done, repeat_of, break_out, stop_with}
 use Rattle.pr_text.specs.Standing.{of_plan, of_script}
@@ -39,7 +39,7 @@ abbrev pub begun_script : ℕ → ℕ → OpenLines
 begun_script h budget = record { host = h; budget = budget; lines = []; statements = 0; blocks = []; begun = false }
 
 -- a line that opens a block
-abbrev pub opening : ScriptLine → Opening → OpenLines → OpenLines
+abbrev pub opening : ScriptLine → OpenBlock → OpenLines → OpenLines
 opening line block o = record o { lines = o.lines ++ line ∷ []; statements = o.statements + 1; blocks = block ∷ o.blocks; begun = false }
 
 -- a line that is a whole statement
@@ -47,7 +47,7 @@ abbrev pub stating : ScriptLine → OpenLines → OpenLines
 stating line o = record o { lines = o.lines ++ line ∷ []; statements = o.statements + 1; begun = true }
 
 -- the innermost block, a send, has one arm more
-abbrev pub with_arm : List Opening → List Opening
+abbrev pub with_arm : List OpenBlock → List OpenBlock
 with_arm [] = []
 with_arm (repeating ∷ bs) = repeating ∷ bs
 with_arm ((sending c arms) ∷ bs) = sending c (arms + 1) ∷ bs
@@ -65,7 +65,7 @@ with_script d f = record d { place = of_script d.place (λ o. in_script (f o)) d
 -- ---- any line
 
 -- what is declared with the line of this number, where nothing is wrong with it
-abbrev pub with_line : ℕ → Declared → Item → Declared
+abbrev pub with_line : ℕ → Declared → ScenarioLine → Declared
 with_line n d fence_line = record d { place = outside }
 with_line n d (keys_line keys) = record d { keys = Some keys }
 with_line n d (host_line name) = with_more n false name d
@@ -88,5 +88,5 @@ with_line n d (stop_line word) = with_script d (stating (stop_with word))
 with_line n d (command_line s) = record d { place = of_plan d.place (λ h commands. in_plan h (commands ++ s.command ∷ [])) d.place }
 
 -- the first thing that is wrong with the line, or what is declared with it
-unfoldable pub item_placed : ℕ → Item → Declared → Result Declared ReadError
+unfoldable pub item_placed : ℕ → ScenarioLine → Declared → Result Declared ReadError
 item_placed n item d = unless (fault_at n d item) (with_line n d item)

@@ -6,7 +6,7 @@ use Rattle.pr_attention.specs.declared.attention.Attention.{Attention}
 use Rattle.pr_registry.specs.Registrations.{is_all}
 use Rattle.pr_script.specs.declared.script.Test.{Test}
 use Rattle.pr_roles.specs.declared.role.Clause.{Clause}
-use Rattle.pr_text.specs.declared.spelling.Spelled.{Spelled}
+use Rattle.pr_text.specs.declared.spelling.ParsedCommand.{ParsedCommand}
 use Rattle.pr_text.specs.Chain.{◌>>=◌, each}
 use Rattle.pr_text.specs.TextLines.{character, only, is_end}
 use Rattle.pr_text.specs.WordTerms.{name_of, key_of, generation_of, count_of, kind_of, code_of}
@@ -15,33 +15,33 @@ use Rattle.pr_text.specs.Clauses.{clause_of, test_of}
 
 -- a reservation that there may be at the start: none, of a single host or guest with this name, or of all
 -- registrants
-pub data Wanted : Type 0 where
-  nobody : Wanted
-  single : Kind → List ℕ → Wanted
-  everybody : Kind → Wanted
+pub data StartReservation : Type 0 where
+  nobody : StartReservation
+  single : Kind → List ℕ → StartReservation
+  everybody : Kind → StartReservation
 
 -- A line that keeps its shape, with the terms on it. A key, a count or a name need not be one that the text
 -- may have there.
-pub data Item : Type 0 where
-  fence_line : Item
-  keys_line : List ℕ → Item
-  host_line : List ℕ → Item
-  guest_line : List ℕ → Item
-  start_line : List ℕ → List (Option ℕ) → Item
-  pending_line : List ℕ → List Attention → Item
-  reservation_line : List Wanted → Item
-  generation_line : ℕ → Item
-  role_line : List ℕ → Clause → Item
-  script_line : List ℕ → ℕ → Item
-  plan_line : List ℕ → Item
-  end_line : Item
-  send_line : Spelled → Item
-  on_line : Test → Item
-  done_line : Item
-  repeat_line : ℕ → Item
-  break_line : Item
-  stop_line : List ℕ → Item
-  command_line : Spelled → Item
+pub data ScenarioLine : Type 0 where
+  fence_line : ScenarioLine
+  keys_line : List ℕ → ScenarioLine
+  host_line : List ℕ → ScenarioLine
+  guest_line : List ℕ → ScenarioLine
+  start_line : List ℕ → List (Option ℕ) → ScenarioLine
+  pending_line : List ℕ → List Attention → ScenarioLine
+  reservation_line : List StartReservation → ScenarioLine
+  generation_line : ℕ → ScenarioLine
+  role_line : List ℕ → Clause → ScenarioLine
+  script_line : List ℕ → ℕ → ScenarioLine
+  plan_line : List ℕ → ScenarioLine
+  end_line : ScenarioLine
+  send_line : ParsedCommand → ScenarioLine
+  on_line : Test → ScenarioLine
+  done_line : ScenarioLine
+  repeat_line : ℕ → ScenarioLine
+  break_line : ScenarioLine
+  stop_line : List ℕ → ScenarioLine
+  command_line : ParsedCommand → ScenarioLine
 
 -- ---- lists
 
@@ -54,19 +54,19 @@ abbrev pub alternative_of : List ℕ → Option (Option ℕ)
 alternative_of word = if bytes_eq word (codes "free") then Some None else option_map (λ key. Some key) (key_of word)
 
 -- the type of all registrants
-abbrev pub everybody_of : List ℕ → Option Wanted
+abbrev pub everybody_of : List ℕ → Option StartReservation
 everybody_of word = kind_of word >>= λ kind. if is_all kind then Some (everybody kind) else None
 
 -- the type of a single holder, a colon, and its name
-abbrev pub single_of : List ℕ → Option Wanted
+abbrev pub single_of : List ℕ → Option StartReservation
 single_of word =
     if slice_index word 1 == character (codes ":") then
     (kind_of (take 1 word) >>= λ kind. if is_all kind then None else option_map (λ name. single kind name) (name_of (drop 2 word)))
     else None
 
 -- a reservation
-unfoldable pub wanted_of : List ℕ → Option Wanted
-wanted_of word =
+unfoldable pub start_reservation_of : List ℕ → Option StartReservation
+start_reservation_of word =
     if bytes_eq word (codes "none") then Some nobody else (
     if length word == 1 then everybody_of word else single_of word)
 
@@ -87,27 +87,27 @@ budget_in [] = None
 budget_in (w ∷ ws) = if bytes_eq w (codes "budget") then (only ws >>= count_of) else None
 
 -- the version of the language that this is: 1
-abbrev pub fence_said : List (List ℕ) → Option Item
+abbrev pub fence_said : List (List ℕ) → Option ScenarioLine
 fence_said ws = only ws >>= λ word. if bytes_eq word (codes "1") then Some fence_line else None
 
-abbrev pub start_said : List (List ℕ) → Option Item
+abbrev pub start_said : List (List ℕ) → Option ScenarioLine
 start_said ws = name_in ws >>= λ r. option_map (λ xs. start_line r.0 xs) (listed alternative_of r.1)
 
-abbrev pub pending_said : List (List ℕ) → Option Item
+abbrev pub pending_said : List (List ℕ) → Option ScenarioLine
 pending_said ws = name_in ws >>= λ r. option_map (λ xs. pending_line r.0 xs) (listed code_of r.1)
 
-abbrev pub role_said : List (List ℕ) → Option Item
+abbrev pub role_said : List (List ℕ) → Option ScenarioLine
 role_said ws = name_in ws >>= λ r. option_map (λ clause. role_line r.0 clause) (clause_of r.1)
 
-abbrev pub script_said : List (List ℕ) → Option Item
+abbrev pub script_said : List (List ℕ) → Option ScenarioLine
 script_said ws = name_in ws >>= λ r. option_map (λ budget. script_line r.0 budget) (budget_in r.1)
 
 -- a line of just its keyword
-abbrev pub bare_said : Item → List (List ℕ) → Option Item
+abbrev pub bare_said : ScenarioLine → List (List ℕ) → Option ScenarioLine
 bare_said item ws = if is_end ws then Some item else None
 
 -- what a line says that begins with this word; one without a keyword is a command of a plan
-unfoldable pub item_of : List ℕ → List (List ℕ) → Option Item
+unfoldable pub item_of : List ℕ → List (List ℕ) → Option ScenarioLine
 item_of word ws =
     if bytes_eq word (codes "fence") then fence_said ws else (
     if bytes_eq word (codes "keys") then option_map (λ keys. keys_line keys) (listed key_of ws) else (
@@ -115,7 +115,7 @@ item_of word ws =
     if bytes_eq word (codes "guest") then option_map (λ name. guest_line name) (only_name ws) else (
     if bytes_eq word (codes "start") then start_said ws else (
     if bytes_eq word (codes "pending") then pending_said ws else (
-    if bytes_eq word (codes "reservation") then option_map (λ xs. reservation_line xs) (listed wanted_of ws) else (
+    if bytes_eq word (codes "reservation") then option_map (λ xs. reservation_line xs) (listed start_reservation_of ws) else (
     if bytes_eq word (codes "generation") then option_map (λ n. generation_line n) (only ws >>= generation_of) else (
     if bytes_eq word (codes "role") then role_said ws else (
     if bytes_eq word (codes "script") then script_said ws else (
