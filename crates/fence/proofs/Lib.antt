@@ -4,3 +4,4 @@ pub mod Judging
 pub mod Auditing
 pub mod Reasons
 pub mod Performing
+pub mod Telling
