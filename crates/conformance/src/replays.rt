@@ -32,7 +32,7 @@ on good
 done
 ";
 
-// As long as a text may be: eight hosts and guests, 512 statements in one script, 256 commands in one plan.
+// As long as a text may be: eight nexuses, 512 statements in one script, 256 commands in one plan.
 fn longest_text(alloc: Global) -> Result<Vec<u8>, AllocError> {
     let mut text = Vec::new(alloc);
     text.extend_from_slice(HEAD)?;

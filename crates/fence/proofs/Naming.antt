@@ -1,4 +1,4 @@
--- Steps, and the hosts and guests that they name.
+-- Steps, and the nexuses that they name.
 use Rattle.std.specs.Prelude.{◌≡◌, ℕ, ◌+◌, ◌<◌, ◌≤◌, List, [], ◌∷◌, ◌++◌, length, position, bytes_eq, cond, Option, Some, None, option_map, option_and_then}
 use Rattle.std.proofs.Common.{refl, sym, ap, ◌∙◌, zero, suc, arith}
 use Rattle.std.proofs.lemmas.List.Elements.{All-append}

@@ -82,7 +82,7 @@ each_nexus keys ns is =
 pub short_rooms : (s : Scenario) (h : ℕ) → Fits s → room_by (task s h) ≤ 4096
 short_rooms s h fits = room_in s.keys s.nexuses h (each_nexus s.keys s.nexuses fits.nexuses)
 
--- no host or guest sends so many that there is no number for them
+-- no nexus sends so many that there is no number for them
 pub few_sent : (s : Scenario) (o : Outcome) (h : ℕ) → Fits s → IsSafe s → IsOutcome s o → sent o.history.items h < 2 ^ 32
 few_sent s o h fits safe comes =
     let kept : sent comes.last.world.entries h ≤ room_by (task s h) = sent_within s comes.steps comes.last safe comes.reached h in

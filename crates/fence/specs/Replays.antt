@@ -16,7 +16,7 @@ use Rattle.fence.specs.declared.fault.Fault.TheVariants as fault
 use Rattle.fence.specs.Endings.{Outputs}
 use Rattle.fence.specs.Steps.{hosts_of, has_wrong_count}
 
--- The text is a scenario, the steps are names of its hosts and guests, and this is the trace of their scheduled
+-- The text is a scenario, the steps are names of its nexuses, and this is the trace of their scheduled
 -- run from the first start; it is refused where a host is trapped.
 pub record IsTraceOf (steps : List (List ℕ)) (text trace : List ℕ) (refused : Bool) : Type 0 where
   pub scenario : Scenario

@@ -18,7 +18,7 @@ use Rattle.pr_report.specs.declared.verdict.Verdict.TheVariants.{Refused}
 use Rattle.fence.specs.declared.fault.Fault.{Fault}
 use Rattle.fence.specs.Endings.{Outputs}
 
--- how many commands of each host and guest reached the unit
+-- how many commands of each nexus reached the unit
 abbrev pub counts_in : Scenario → List Entry → List ℕ
 counts_in s history = map (λ h. sent history h) (range_with_len 0 (length s.nexuses))
 
@@ -48,7 +48,7 @@ abbrev pub IsRunOf : List ℕ → List ℕ → Bool → Type 0
 IsRunOf text answer true = IsRefusalOf text answer
 IsRunOf text answer false = IsOutcomeOf text answer
 
--- the text is a safe scenario, and this is the name of one of its hosts or guests
+-- the text is a safe scenario, and this is the name of one of its nexuses
 pub record IsUnstarted (text name : List ℕ) : Type 0 where
   pub scenario : Scenario
   pub read : IsWrittenAs text scenario

@@ -1,5 +1,5 @@
 -- Agrees with docs/FORMATS.md, 'Replaying'.
--- The hosts and guests that the steps of a replay name.
+-- The nexuses that the steps of a replay name.
 use Rattle.std.specs.Prelude.{ℕ, ◌==◌, ◌||◌, Bool, nat_lt, List, [], ◌∷◌, length, Option, Some, option_map, option_and_then}
 use Rattle.pr_report.specs.TraceReadings.{number_of}
 

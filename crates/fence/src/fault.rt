@@ -31,7 +31,7 @@ pub enum Fault {
     /// The trace is none of the scenario's, or can't be read to its end.
     Trace(TraceError),
 
-    /// The thread of the host or guest of this name could not be started.
+    /// The thread of the nexus of this name could not be started.
     Thread(Name),
 
     /// What stood under a run's lock is not what its threads hand back.

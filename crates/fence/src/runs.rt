@@ -30,7 +30,7 @@ use std::sync::Wait;
 use std::thread::Threads;
 
 /// `fence run`: reads a scenario, verifies it, with a thread for each host that has a script, and runs it in threads, one for
-/// each host and guest, until every script is stopped and every plan is done. Then it writes the trace. Of a scenario that is
+/// each nexus, until every script is stopped and every plan is done. Then it writes the trace. Of a scenario that is
 /// refused nothing is run, and the line of the verdict is written.
 ///
 /// Of the text at most 65,537 bytes are taken. A fault is told in one line on `errors`, whose own faults change nothing. It

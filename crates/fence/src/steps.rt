@@ -1,4 +1,4 @@
-//! The steps of a replay: names of hosts and guests.
+//! The steps of a replay: names of nexuses.
 
 ghost use Rattle.std.specs.Prelude.{◌≡◌, ◌<◌, ◌≤◌, IfOk, IfSome, length, map, option_map, position, bytes_eq};
 ghost use Rattle.std.specs.List.{All};
@@ -9,7 +9,7 @@ ghost use Rattle.fence.specs.Steps.{hosts_of};
 use pr_roles::Nexus;
 use std::alloc::{AllocError, Global};
 
-/// The numbers of the hosts and guests that the steps name; none where one of them is no name.
+/// The numbers of the nexuses that the steps name; none where one of them is no name.
 pub fn hosts_of(
     alloc: Global,
     steps: &[&str],

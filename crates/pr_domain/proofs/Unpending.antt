@@ -1,4 +1,4 @@
--- States that differ in what is pending for one host or guest alone: views of the others show them alike.
+-- States that differ in what is pending for one nexus alone: views of the others show them alike.
 use Rattle.std.proofs.Common.{◌≡◌, ◌≢◌, ℕ, Bool, true, false, ◌==◌, ◌&&◌, ◌||◌, not, refl, sym, ap, ◌∙◌, arith}
 use Rattle.std.specs.FinSet as set
 use Rattle.std.proofs.lemmas.Bool.{and_parts}

@@ -203,7 +203,7 @@ written_in_range hosts own parts p fits many are = record {
 pub written_past : (hosts own : ℕ) (parts : Parts) (p : Possibilities) → length parts.nexuses.items ≡ hosts → AreWritten hosts own parts p → (g r : ℕ) → hosts ≤ g → has_at p.registrations g r ≡ false
 written_past hosts own parts p many are g r past = are.registrations g r ∙ may_have_past parts.keys.items parts.nexuses.items g r (omega arith)
 
--- so many hosts and guests are there, in the parts and in the scenario that they are
+-- so many nexuses are there, in the parts and in the scenario that they are
 pub record AreCounted (scenario parts : Parts) (count : ℕ) : Type 0 where
   pub items : length parts.nexuses.items ≡ count
   pub nexuses : count ≡ length (scenario_of scenario).nexuses

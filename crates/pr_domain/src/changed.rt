@@ -8,7 +8,7 @@ ghost use Rattle.pr_domain.specs.inside.Images.{IsImage, first, left, becomes, m
 use pr_regions::Change;
 use pr_sets::Word;
 
-/// What becomes of the registrations of each host and guest by a change of the sender's.
+/// What becomes of the registrations of each nexus by a change of the sender's.
 pub(crate) fn registrations_after(words: &[Word; 8], sender: u8, change: &Change) -> [Word; 8]
     requires { unwrap_or change.now.sender 0 ≤ 12 }
     ensures { (g : ℕ) → IsImage (has_at words.now g) (becomes sender change.now g) (has_at result g) }

@@ -119,7 +119,7 @@ impl Onlooker {
         }
     }
 
-    // Whether a host or guest may have one of these registrations.
+    // Whether a nexus may have one of these registrations.
     fn may_be_among(&self, host: u8, registrations: Word) -> bool
         requires { host < 8 }
         ensures { result ≡ false → (r : ℕ) → has_at self.now.view.registrations host r ≡ true → has registrations r ≡ false }

@@ -16,7 +16,7 @@ use pr_regions::{Region, reservation_at};
 use pr_sets::Word;
 use pr_views::Possibilities;
 
-/// What is so in some state that the view shows, of so many hosts and guests.
+/// What is so in some state that the view shows, of so many nexuses.
 pub(crate) fn kept(hosts: u8, view: &Possibilities) -> Possibilities
     requires hosts { (1 ≤ hosts) × (hosts ≤ 8) }
     ensures { (s : Scope) → s.hosts ≡ hosts → Fits (view_in s view.now) → IsKept (view_in s view.now) (view_in s result) }

@@ -19,7 +19,7 @@ use pr_views::Possibilities;
 /// The owner of a view, who looks on while another sends commands.
 #[derive(Clone, Copy, Debug, PartialEq, Eq)]
 pub(crate) struct Onlooker {
-    /// How many hosts and guests there are.
+    /// How many nexuses there are.
     pub(crate) hosts: u8,
     pub(crate) own: u8,
     /// Who sends commands.

@@ -24,7 +24,7 @@ pub(crate) struct Place {
 }
 
 impl Place {
-    /// What each host and guest has in the states of this region in which the sender has one of these
+    /// What each nexus has in the states of this region in which the sender has one of these
     /// registrations; none where the view shows no such state.
     pub(crate) fn gather(
         &self,

@@ -150,7 +150,7 @@ impl Onlooker {
         self.may_have(host, 0) || self.may_have(host, key)
     }
 
-    // Whether a host or guest may have this registration.
+    // Whether a nexus may have this registration.
     fn may_have(&self, host: u8, registration: u8) -> bool
         requires host { host < 8 }
         requires registration { registration ≤ 12 }

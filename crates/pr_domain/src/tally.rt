@@ -37,7 +37,7 @@ impl Tally {
         self.ways[way] = joined;
     }
 
-    /// Whether all that is found of this way, of so many hosts and guests, was added before.
+    /// Whether all that is found of this way, of so many nexuses, was added before.
     pub(crate) fn has(&self, way: usize, hosts: u8, found: &Possibilities) -> bool
         requires way { way < 20 }
         requires hosts { hosts ≤ 8 }

@@ -34,6 +34,6 @@ pub record AreReadings (keys : List ℕ) (hosts : ℕ) (tests : List Test) (c : 
       → IsSo s u (Registration sender registration) → Contains readings b → IsInRegion s sender b.region u
       → first_test tests (good (data_of u.registry c)) ≡ b.arm
 
--- that a host or guest is not registered passes no test
+-- that a nexus is not registered passes no test
 abbrev pub IsProperReading : Reading → Type 0
 IsProperReading b = IsUntestedOrRegistered b.region.somebody

@@ -65,7 +65,7 @@ filter_of region None g = region.others
 filter_of region (Some (One kind h)) g = if h == g then region.holder else region.others
 filter_of region (Some (All kind)) g = region.others
 
--- every host and guest but the sender has a registration that the region leaves to it, and, if there is a
+-- every nexus but the sender has a registration that the region leaves to it, and, if there is a
 -- test, one of them has one that passes it
 pub record IsInRegion (s : Scope) (sender : ℕ) (region : Region) (u : UnitState) : Type 0 where
   pub registrations : (g r : ℕ) → g ≢ sender → IsSo s u (Registration g r) → has (filter_of region u.registry.held g) r ≡ true
@@ -115,7 +115,7 @@ AreBranches hosts purpose held sender standing branches =
 
 -- ---- limits that branches keep
 
--- that a host or guest is not registered passes no test
+-- that a nexus is not registered passes no test
 abbrev pub IsUntestedOrRegistered : Option Word → Type 0
 IsUntestedOrRegistered None = Unit {0}
 IsUntestedOrRegistered (Some w) = has w 0 ≡ false

@@ -35,7 +35,7 @@ pub fn reservation_number(hosts: u8, held: Option<Held>) -> u8
     }
 }
 
-/// The reservation of this type that a host or guest establishes.
+/// The reservation of this type that a nexus establishes.
 pub(crate) fn established(kind: Kind, host: u8) -> Held
     ensures { result ≡ established kind host }
 {

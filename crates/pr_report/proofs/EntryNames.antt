@@ -1,4 +1,4 @@
--- Hosts and guests by their names.
+-- Nexuses by their names.
 use Rattle.std.specs.Prelude.{◌≡◌, ℕ, ◌+◌, List, [], ◌∷◌, position, bytes_eq, cond, Some}
 use Rattle.std.specs.List.{position_from}
 use Rattle.std.proofs.Common.{refl, sym, ap, ◌∙◌}

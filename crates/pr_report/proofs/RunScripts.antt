@@ -98,7 +98,7 @@ settled_says keys l h = often_says keys (work l) l h
 
 -- ---- what stands next
 
--- of a host or guest
+-- of a nexus
 abbrev pub ControlSays : List ℕ → Control → Type 0
 ControlSays keys (Going l) = StillSays keys l
 ControlSays keys (Trapped line) = Unit {0}

@@ -26,7 +26,7 @@ indented words = line (codes " ") words
 
 -- ---- what is possible
 
--- the registrations of a host or guest, by their numbers
+-- the registrations of a nexus, by their numbers
 abbrev pub registrations_of : View → ℕ → List ℕ
 registrations_of v g = filter (v.registrations g) (range_with_len 0 (length v.scope.keys + 1))
 
@@ -38,7 +38,7 @@ unfoldable pub registration_line : List (List ℕ) → View → ℕ → List ℕ
 registration_line names v g =
     indented (codes "registration" ∷ name_of names g ∷ map (λ r. free_or_key (key_at v.scope.keys r)) (registrations_of v g))
 
--- the types of which one host or guest is the holder
+-- the types of which one nexus is the holder
 abbrev pub kinds_of_one : List Kind
 kinds_of_one = WriteExclusive ∷ ExclusiveAccess ∷ WriteExclusiveRegistrantsOnly ∷ ExclusiveAccessRegistrantsOnly ∷ []
 
@@ -46,7 +46,7 @@ kinds_of_one = WriteExclusive ∷ ExclusiveAccess ∷ WriteExclusiveRegistrantsO
 abbrev pub held_by_one : ℕ → Kind → List (Option Held)
 held_by_one hosts kind = map (λ h. Some (One kind h)) (range_with_len 0 hosts)
 
--- all reservations of so many hosts and guests
+-- all reservations of so many nexuses
 abbrev pub reservations : ℕ → List (Option Held)
 reservations hosts =
     None

@@ -24,7 +24,7 @@ HasSense CheckCondition (Some s) = (s.key < 16) × (s.asc < 256) × (s.ascq < 25
 HasSense Conflict None = Unit {0}
 HasSense Conflict (Some s) = ⊥
 
--- The sender is one of so many hosts and guests. The command, its parameters and the data are bytes, no more than a
+-- The sender is one of so many nexuses. The command, its parameters and the data are bytes, no more than a
 -- wire and a reply hold, and the command has one at least.
 pub record IsEntry (hosts : ℕ) (e : Entry) : Type 0 where
   pub sender : e.host < hosts

@@ -33,7 +33,7 @@ words line = slice_split (λ b. b == 32) line
 
 -- ---- an entry's line
 
--- the number of the host or guest with this name
+-- the number of the nexus with this name
 abbrev pub number_of : List (List ℕ) → List ℕ → Option ℕ
 number_of names word = position (λ name. bytes_eq name word) names
 

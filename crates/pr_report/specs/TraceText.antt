@@ -1,6 +1,6 @@
 -- Agrees with docs/FORMATS.md, 'Trace text'.
 -- The text of a trace: its first line, a line for each command that reached the unit, the unit as it ends, and
--- how each host or guest ended.
+-- how each nexus ended.
 use Rattle.std.specs.Prelude.{ℕ, ◌+◌, List, [], ◌∷◌, ◌++◌, map, codes, Option, None, Some, slice_index, slice_index_or}
 use Rattle.std.specs.Fmt.{decimal}
 use Rattle.pr_cdb.specs.declared.reply.Sense.{Sense}
@@ -17,7 +17,7 @@ use Rattle.pr_roles.specs.Scenarios.{Scenario}
 use Rattle.pr_world.specs.Ends.{Ending, stops, waits, traps, leaves}
 use Rattle.pr_report.specs.PrintedLines.{line, pairs_or_dash, generation_word, holder_word, registration_word}
 
--- the names of the hosts and guests, in the order of their numbers
+-- the names of the nexuses, in the order of their numbers
 abbrev pub names_in : Scenario → List (List ℕ)
 names_in s = map (λ n. n.name) s.nexuses
 
@@ -25,7 +25,7 @@ names_in s = map (λ n. n.name) s.nexuses
 abbrev pub names_of : List NexusPart → List (List ℕ)
 names_of nexuses = map (λ n. n.name.bytes) nexuses
 
--- the name of a host or guest, by its number
+-- the name of a nexus, by its number
 abbrev pub name_of : List (List ℕ) → ℕ → List ℕ
 name_of names host = slice_index_or names host []
 
@@ -76,14 +76,14 @@ unit_line names unit =
 
 -- Ends.
 
--- how a host or guest of this name ended, after as many of its commands reached the unit
+-- how a nexus of this name ended, after as many of its commands reached the unit
 unfoldable pub ending_line : List ℕ → Ending → ℕ → List ℕ
 ending_line name (stops word) sent = line (codes "host") (name ∷ codes "stopped" ∷ word ∷ codes "sent" ∷ decimal sent ∷ [])
 ending_line name (waits place) sent = line (codes "host") (name ∷ codes "ready" ∷ decimal place ∷ codes "sent" ∷ decimal sent ∷ [])
 ending_line name (traps place) sent = line (codes "host") (name ∷ codes "trapped" ∷ decimal place ∷ codes "sent" ∷ decimal sent ∷ [])
 ending_line name (leaves planned) sent = line (codes "guest") (name ∷ codes "left" ∷ decimal planned ∷ codes "sent" ∷ decimal sent ∷ [])
 
--- the ends of the hosts and guests from this number on, with the counts of all
+-- the ends of the nexuses from this number on, with the counts of all
 abbrev pub ending_lines : ℕ → List (List ℕ) → List ℕ → List Ending → List ℕ
 ending_lines host names counts [] = []
 ending_lines host names counts (e ∷ es) =

@@ -229,7 +229,7 @@ fn worth(digit: u8) -> Option<u8>
     }
 }
 
-// The number of the host or guest with this name.
+// The number of the nexus with this name.
 fn number_of(nexuses: &[Nexus], name: &[u8]) -> Option<u8>
     requires { length nexuses.now ≤ 8 }
     ensures { result ≡ number_of (names_of nexuses.now) name.now }

@@ -37,11 +37,11 @@ pub(crate) enum TraceLine<'a> {
     /// The unit as it is at last.
     Unit(&'a Registry),
 
-    /// How the host or guest of this name ended, and how many of its commands reached the unit.
+    /// How the nexus of this name ended, and how many of its commands reached the unit.
     End(&'a [u8], End, u32),
 }
 
-/// Writes the trace of a scenario: what was sent, the unit as it is at last, how each host or guest stands,
+/// Writes the trace of a scenario: what was sent, the unit as it is at last, how each nexus stands,
 /// and how many commands of each reached the unit. On a fault, what went out is a front of it, and not all.
 ///
 /// The ends and the counts stand in the order of the hosts' and guests' numbers. The writer is handed as many
@@ -185,7 +185,7 @@ fn put_entry<W: Write>(
     put_line(writer, Word::Number(index), &words)
 }
 
-// The name of a host or guest, by its number.
+// The name of a nexus, by its number.
 pub(crate) fn name_of(nexuses: &[Nexus], host: usize) -> &[u8]
     ensures { result.now ≡ name_of (names_of nexuses.now) host }
 {
@@ -268,7 +268,7 @@ pub(crate) fn held_word(nexuses: &[Nexus], held: Option<Held>) -> Word<'_>
     }
 }
 
-// A host or guest that has no count sent nothing.
+// A nexus that has no count sent nothing.
 fn count_of(counts: &[u32], host: usize) -> u32
     ensures { result ≡ slice_index counts.now host }
 {

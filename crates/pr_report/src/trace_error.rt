@@ -11,7 +11,7 @@ pub enum TraceError {
     /// The line does not have the form of a line that may stand there.
     #[error("syntax, line {line}")]
     Syntax { line: u32 },
-    /// The line is that of an entry whose sender is no host or guest of the scenario.
+    /// The line is that of an entry whose sender is no nexus of the scenario.
     #[error("unknown name, line {line}")]
     UnknownName { line: u32 },
     /// There are more than 32,768 entries, or more than 64 lines behind them.

@@ -27,7 +27,7 @@ use Rattle.pr_roles.proofs.Reserving.{Made, Holding, made, first, found_first, f
 
 -- ---- what fitting says
 
--- one to eight hosts and guests
+-- one to eight nexuses
 pub counted : (s : Scenario) → Fits s → (1 ≤ length s.nexuses) × (length s.nexuses ≤ 8)
 counted s fits =
     let parts = and_parts (not (length s.nexuses == 0)) _ fits.nexuses in

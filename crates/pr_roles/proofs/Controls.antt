@@ -1,4 +1,4 @@
--- What the hosts and guests do as a run begins.
+-- What the nexuses do as a run begins.
 use Rattle.std.specs.Prelude.{◌≡◌, ℕ, ◌<◌, length, Option, Some, None, option_map}
 use Rattle.std.specs.Option.{option_map_or}
 use Rattle.std.proofs.Common.{refl, ap, ◌∙◌}

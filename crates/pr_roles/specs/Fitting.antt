@@ -61,7 +61,7 @@ is_nexus keys n = is_name n.name && (is_role keys n.role && (is_start keys n.sta
 
 -- ---- the reservations
 
--- none, or one whose type belongs to its holders; a single holder is one of so many hosts and guests
+-- none, or one whose type belongs to its holders; a single holder is one of so many nexuses
 abbrev pub is_reservation : ℕ → Option Held → Bool
 is_reservation hosts None = true
 is_reservation hosts (Some (One kind h)) = not (is_all kind) && nat_lt h hosts
@@ -86,7 +86,7 @@ pub record AreDeclared (keys : List ℕ) : Type 0 where
   pub each : All IsKey keys
   pub once : IsTrue (nat_le (length keys) MOST_KEYS && are_distinct (λ j k. j == k) keys)
 
--- one host or guest at least, and not too many, each with a name of its own
+-- one nexus at least, and not too many, each with a name of its own
 abbrev pub are_nexuses : List ℕ → List Nexus → Bool
 are_nexuses keys nexuses =
     not (length nexuses == 0) && (nat_le (length nexuses) MOST_NEXUSES

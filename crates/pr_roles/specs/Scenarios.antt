@@ -19,7 +19,7 @@ pub data Task : Type 0 where
   Scripted : Stmts → ℕ → Task
   Planned : List Command → Task
 
--- A host or guest: its name, its role, what it may be registered with at the start, the attentions that may
+-- A nexus: its name, its role, what it may be registered with at the start, the attentions that may
 -- be pending for it then, and its task.
 pub record Nexus : Type 0 where
   pub name : List ℕ
@@ -29,7 +29,7 @@ pub record Nexus : Type 0 where
   pub task : Task
 
 -- The declared keys, the reservations that there may be at the start, the generation of the first start, and
--- the hosts and guests in the order of their numbers.
+-- the nexuses in the order of their numbers.
 pub record Scenario : Type 0 where
   pub keys : List ℕ
   pub reservations : List (Option Held)

@@ -1,5 +1,5 @@
 -- Agrees with docs/FORMATS.md, 'Replaying'.
--- Runs in which each turn belongs to a named host or guest.
+-- Runs in which each turn belongs to a named nexus.
 use Rattle.std.specs.Prelude.{◌≡◌, ℕ, Bool, true, false, ◌&&◌, not, List, [], ◌∷◌, Option, Some, None, map, slice_set}
 use Rattle.std.specs.List.{slice_get}
 use Rattle.std.specs.Option.{option_map_or}

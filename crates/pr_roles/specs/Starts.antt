@@ -27,7 +27,7 @@ pub record CanStart (s : Scenario) : Type 0 where
 
 -- ---- the first start
 
--- the alternatives of each host and guest
+-- the alternatives of each nexus
 abbrev pub Starts : Type 0
 Starts = List (List (Option ℕ))
 
@@ -52,7 +52,7 @@ first_key ((Some k) ∷ ks) = Some k
 abbrev pub with_key : Starts → List (Option ℕ) → ℕ → Option (List (Option ℕ))
 with_key all keys h = option_and_then (λ ks. option_map (λ k. slice_set keys h (Some k)) (first_key ks)) (slice_get all h)
 
--- all registrants hold: some host or guest is registered, or else the first that can be is
+-- all registrants hold: some nexus is registered, or else the first that can be is
 abbrev pub with_registrant : Starts → List (Option ℕ) → Option (List (Option ℕ))
 with_registrant all keys =
     if list_any (λ k. is_some k) keys then Some keys else

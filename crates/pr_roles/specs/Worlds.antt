@@ -1,6 +1,6 @@
 -- Agrees with docs/MODEL.md, 'Worlds, events and runs'.
 -- A logical unit with the scripts that drive it, and what may happen to them. One event is one command of one
--- host or guest: it is executed and answered, and a host's script takes the reply.
+-- nexus: it is executed and answered, and a host's script takes the reply.
 use Rattle.std.specs.Prelude.{◌≡◌, ℕ, ◌≤◌, ◌==◌, Bool, true, false, IsTrue, List, [], ◌∷◌, ◌++◌, length, Option, Some, None, map, slice_set, Ok}
 use Rattle.std.specs.List.{slice_get, count_by}
 use Rattle.std.specs.Option.{option_map_or}
@@ -20,7 +20,7 @@ use Rattle.pr_roles.specs.declared.entry.Entry.{Entry}
 use Rattle.pr_roles.specs.Permits.{is_permitted}
 use Rattle.pr_roles.specs.Scenarios.{Scenario, Task, Scripted, Planned, role, task}
 
--- What a host or guest does: a host's script goes on, or it met a reply without an arm at the send of this
+-- What a nexus does: a host's script goes on, or it met a reply without an arm at the send of this
 -- line; a guest sends what it likes.
 pub data Control : Type 0 where
   Going : Configuration → Control

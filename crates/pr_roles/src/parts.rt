@@ -6,7 +6,7 @@ use pr_cdb::Command;
 use pr_registry::Held;
 use pr_script::{Script, Word};
 
-/// What a host or guest may be registered with at the start: one of these keys, or none.
+/// What a nexus may be registered with at the start: one of these keys, or none.
 #[derive(Debug, Drop, PartialEq, Eq)]
 pub struct Start {
     pub alternatives: Vec<Option<u64>>,
@@ -24,7 +24,7 @@ pub enum Task {
     Planned(Vec<Command>),
 }
 
-/// A host or guest (SAM-5, 'I_T nexus').
+/// A nexus (SAM-5, 'I_T nexus').
 #[derive(Debug, Drop)]
 pub struct Nexus {
     pub name: Word,
@@ -35,7 +35,7 @@ pub struct Nexus {
     pub task: Task,
 }
 
-/// What a scenario declares. Hosts and guests are numbered from 0 in the order of their declaration.
+/// What a scenario declares. Nexuses are numbered from 0 in the order of their declaration.
 #[derive(Debug, Drop)]
 pub struct Parts {
     pub keys: Vec<u64>,

@@ -1,4 +1,4 @@
-//! Roles: which commands a host or guest is meant to send.
+//! Roles: which commands a nexus is meant to send.
 
 use pr_cdb::Kind;
 
@@ -43,7 +43,7 @@ pub struct Clause {
     pub condition: Option<Condition>,
 }
 
-/// What a host or guest is meant to do: the commands of its clauses.
+/// What a nexus is meant to do: the commands of its clauses.
 #[derive(Debug, Drop, PartialEq, Eq)]
 pub struct Role {
     pub clauses: Vec<Clause>,

@@ -1,5 +1,5 @@
 -- Agrees with docs/FORMATS.md, 'Terms'.
--- Names of hosts and guests, and the words with which scripts stop.
+-- Names of nexuses, and the words with which scripts stop.
 use Rattle.std.specs.Prelude.{ℕ, Bool, ◌==◌, ◌||◌, ◌&&◌, nat_le, List, length, slice_index}
 use Rattle.std.specs.List.{list_all}
 use Rattle.pr_script.specs.declared.limits.TheConstants.{MOST_LETTERS}

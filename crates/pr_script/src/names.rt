@@ -1,4 +1,4 @@
-//! Names of hosts and guests, and the words with which scripts stop.
+//! Names of nexuses, and the words with which scripts stop.
 
 ghost use Rattle.std.specs.Prelude.{◌≡◌, ◌≤◌, length};
 ghost use Rattle.std.specs.List.{list_all};

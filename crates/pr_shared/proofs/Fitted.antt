@@ -1,4 +1,4 @@
--- What the hosts and guests of a scenario that fits are, as they are kept.
+-- What the nexuses of a scenario that fits are, as they are kept.
 use Rattle.std.proofs.Common.{◌≡◌, ℕ, zero, suc, ◌+◌, ◌<◌, ◌≤◌, ◌==◌, not, true, nat_le, Bool, List, [], ◌∷◌, length, refl, sym, ap, ◌∙◌, subst, get_or, arith}
 use Rattle.std.specs.Prelude.{map, bytes_eq, vec_len}
 use Rattle.std.specs.List.{All, list_all}

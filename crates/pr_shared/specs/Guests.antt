@@ -4,6 +4,6 @@ use Rattle.std.specs.Prelude.{Bool, List, map}
 use Rattle.pr_roles.specs.Scenarios.{Scenario}
 use Rattle.pr_world.specs.Courses.{is_planned}
 
--- of each host and guest, by its number, whether it is a guest
+-- of each nexus, by its number, whether it is a guest
 abbrev pub guests_of : Scenario → List Bool
 guests_of s = map (λ n. is_planned n.task) s.nexuses

@@ -23,7 +23,7 @@ is_over (Some (waits line)) = false
 is_over (Some (traps line)) = false
 is_over (Some (leaves planned)) = planned == 0
 
--- how each host and guest of the scenario stands, by its number
+-- how each nexus of the scenario stands, by its number
 abbrev pub endings_in : Scenario → Schedule → List (Option Ending)
 endings_in s y = map (λ h. ending (control y.world h) (plan y h)) (range_with_len 0 (length s.nexuses))
 
@@ -41,7 +41,7 @@ pub record IsOutcome (s : Scenario) (o : Outcome) : Type 0 where
   pub ends : map (λ e. Some (seen e)) o.ends.items ≡ endings_in s last
   pub over : AreOver s last
 
--- The world is one of this scenario, each of these lists is what its host or guest sent, and all are over.
+-- The world is one of this scenario, each of these lists is what its nexus sent, and all are over.
 pub record IsClosed (s : Scenario) (mine : List (List Entry)) (w : Progress) : Type 0 where
   pub scenario : scenario_of w.scenario ≡ s
   pub own : entries_by (length mine) w.schedule.world.entries ≡ mine

@@ -5,7 +5,7 @@ use Rattle.pr_roles.specs.declared.entry.Entry.{Entry}
 use Rattle.pr_shared.specs.declared.run_error.RunError.{RunError}
 use Rattle.pr_shared.specs.declared.run_error.RunError.TheVariants as error
 
--- of the host or guest whose thread could not be started, and the history, if that is why
+-- of the nexus whose thread could not be started, and the history, if that is why
 abbrev pub IfSpawn : (ℕ → List Entry → Type 0) → RunError → Type 0
 IfSpawn P error.Memory = Unit {0}
 IfSpawn P (error.Spawn host history) = P host history.items

@@ -11,7 +11,7 @@ use crate::outcome::Outcome;
 use pr_roles::{Entry, Scenario};
 use pr_world::{End, World};
 
-/// Whether the world is one of this scenario, each list is what its host or guest sent, and all are over.
+/// Whether the world is one of this scenario, each list is what its nexus sent, and all are over.
 pub(crate) fn is_closed(
     scenario: &Scenario,
     world: &World,
@@ -31,7 +31,7 @@ pub(crate) fn is_closed(
     are_over(ends)
 }
 
-/// Whether each list is what its host or guest sent.
+/// Whether each list is what its nexus sent.
 pub(crate) fn are_own(lists: &[Vec<Entry>], history: &[Entry]) -> bool
     ensures { IsTrue result
         ↔ (entries_by (length lists.now) history.now ≡ map (λ l. l.items) lists.now) }
@@ -44,7 +44,7 @@ pub(crate) fn are_own(lists: &[Vec<Entry>], history: &[Entry]) -> bool
     true
 }
 
-// Whether the list is what this host or guest sent.
+// Whether the list is what this nexus sent.
 fn is_own(host: usize, mine: &[Entry], history: &[Entry]) -> bool
     ensures { IsTrue result ↔ (entries_of history.now host ≡ mine.now) }
 {
@@ -93,7 +93,7 @@ fn is_over(end: &End) -> bool
     }
 }
 
-/// How each host and guest stands. There is room in the list for all of them.
+/// How each nexus stands. There is room in the list for all of them.
 pub(crate) fn ends_of(world: &World, mut ends: Vec<End>) -> Vec<End>
     requires none { vec_len ends ≡ 0 }
     requires room { length (scenario_of world.now.scenario).nexuses ≤ vec_capacity ends }

@@ -2,13 +2,13 @@
 
 use pr_world::Turn;
 
-/// What a run calls round each turn, in the thread that takes the turn. The turns of a host or guest are numbered from 1. A
+/// What a run calls round each turn, in the thread that takes the turn. The turns of a nexus are numbered from 1. A
 /// gate may wait, and so have threads meet.
 pub trait Gate: Sync {
-    /// Before turn `n` of this host or guest.
+    /// Before turn `n` of this nexus.
     fn before(&self, host: u8, n: u32);
 
-    /// After turn `n` of this host or guest, with what it answered.
+    /// After turn `n` of this nexus, with what it answered.
     fn after(&self, host: u8, n: u32, turn: &Turn);
 }
 

@@ -8,7 +8,7 @@ use pr_world::End;
 use std::alloc::{AllocError, Global};
 
 /// What is kept beside the lock, so that closing takes no memory: a copy of the scenario, and empty lists with room for one
-/// item for each host and guest.
+/// item for each nexus.
 #[derive(Drop)]
 pub(crate) struct Kept {
     pub(crate) scenario: Scenario,

@@ -1,4 +1,4 @@
-//! A verified scenario over threads: its world stands under a lock, and each host and guest has a seat, by which some thread
+//! A verified scenario over threads: its world stands under a lock, and each nexus has a seat, by which some thread
 //! takes its turns.
 #![tactic(auto)]
 

@@ -32,7 +32,7 @@ pub(crate) struct Locked<C: Round> {
 }
 
 impl<C: Round> Locked<C> {
-    /// The turn of the seat's host or guest, which adds its entry to the world and to the seat.
+    /// The turn of the seat's nexus, which adds its entry to the world and to the seat.
     pub(crate) fn turn(&mut self, seat: &mut Seat<C>) -> Turn
         requires going { seat.old.ended ≡ false }
         requires room { vec_len seat.old.mine < vec_capacity seat.old.mine }

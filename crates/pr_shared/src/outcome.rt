@@ -12,16 +12,16 @@ pub struct Outcome {
 
     pub unit: Unit,
 
-    /// How each host or guest stands, by its number.
+    /// How each nexus stands, by its number.
     pub ends: Vec<End>,
 }
 
-/// The world under the lock and the seats don't belong together, or some host or guest has not come to its end.
+/// The world under the lock and the seats don't belong together, or some nexus has not come to its end.
 #[derive(Debug, Drop)]
 pub struct Differs {
     /// What stood under the lock.
     pub world: World,
 
-    /// The entries that each seat's turns answered, by the numbers of their hosts and guests.
+    /// The entries that each seat's turns answered, by the numbers of their nexuses.
     pub mine: Vec<Vec<Entry>>,
 }

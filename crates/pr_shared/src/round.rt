@@ -3,7 +3,7 @@
 use std::marker::Brand;
 use std::sync::ledger::Ledger;
 
-/// Which run it is. A round names the ledger that counts the entries, and says of each host and guest, by its number,
+/// Which run it is. A round names the ledger that counts the entries, and says of each nexus, by its number,
 /// whether it is a guest. Contracts alone see it: a function over a round is called with [`Brand`], and that call picks it.
 pub trait Round: Ledger {
     ghost use Rattle.std.specs.Prelude.{Bool, List};

@@ -10,7 +10,7 @@ pub enum RunError {
     /// Memory was refused before any turn.
     #[error("memory")]
     Memory,
-    /// The thread of this host or guest could not be started, and for those after it none was tried. Those before it ran
+    /// The thread of this nexus could not be started, and for those after it none was tried. Those before it ran
     /// to their end, and this is their history.
     #[error("no thread for host {host}")]
     Spawn { host: u8, history: Vec<Entry> },

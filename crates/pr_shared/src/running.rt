@@ -1,4 +1,4 @@
-//! Runs: the turns of a verified scenario, taken by a thread for each host and guest.
+//! Runs: the turns of a verified scenario, taken by a thread for each nexus.
 
 ghost use Rattle.std.specs.Prelude.{◌≡◌, ◌↔◌, ◌<◌, IsTrue, IfOk, IfErr, true, length, map};
 ghost use Rattle.std.specs.List.{All, range_with_len};
@@ -23,7 +23,7 @@ use std::sync::Wait;
 use std::sync::ledger::Blank;
 use std::thread::Threads;
 
-/// Runs a verified scenario from its first start, with a thread for each host and guest, which takes its turns until its
+/// Runs a verified scenario from its first start, with a thread for each nexus, which takes its turns until its
 /// script is stopped or its plan is done. The threads share nothing but the world and the gate, which is called round each
 /// turn. All threads are joined.
 ///
@@ -68,7 +68,7 @@ fn run_as<C: Round + Send + Sync, G: Gate, R: Threads + Wait + Sync>(
     settled(shared, seats, failed)
 }
 
-// What a run came to, from the seats that came back, and the first host or guest whose thread could not be started.
+// What a run came to, from the seats that came back, and the first nexus whose thread could not be started.
 fn settled<C: Round>(
     shared: SharedWorld<C>,
     seats: Vec<Seat<C>>,

@@ -1,4 +1,4 @@
-//! The seats of hosts and guests.
+//! The seats of nexuses.
 
 ghost use Rattle.std.specs.Prelude.{◌≡◌, ◌↔◌, ◌+◌, ◌<◌, ◌≤◌, ◌^◌, [], IsTrue, IfOk, false, length, vec_len, vec_capacity};
 ghost use Rattle.pr_roles.specs.Scenarios.{task_of};
@@ -9,7 +9,7 @@ use pr_roles::{Entry, Task};
 use std::alloc::{AllocError, Global};
 use std::sync::ledger::Share;
 
-/// The seat of one host or guest. Whoever has it may take its turns, and it keeps the entries that they answered.
+/// The seat of one nexus. Whoever has it may take its turns, and it keeps the entries that they answered.
 ///
 /// It has one part of the ledger, in which those entries are counted.
 #[derive(Drop)]
@@ -25,7 +25,7 @@ pub struct Seat<C: Round> {
 }
 
 impl<C: Round> Seat<C> {
-    /// The seat of a host or guest that has sent nothing, with room for one entry more than it can send.
+    /// The seat of a nexus that has sent nothing, with room for one entry more than it can send.
     pub(crate) fn new(
         alloc: Global,
         host: u8,
@@ -50,7 +50,7 @@ impl<C: Round> Seat<C> {
         })
     }
 
-    /// The number of its host or guest.
+    /// The number of its nexus.
     pub fn host(&self) -> u8
         ensures { result ≡ self.now.host }
     {

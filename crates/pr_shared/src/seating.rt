@@ -1,4 +1,4 @@
-//! A seat for each host and guest.
+//! A seat for each nexus.
 
 ghost use Rattle.std.specs.Prelude.{◌≡◌, ◌+◌, ◌≤◌, [], length, map, IfOk, OnOk, false, vec_capacity};
 ghost use Rattle.std.specs.List.{All, range_with_len};
@@ -11,7 +11,7 @@ use pr_roles::Nexus;
 use std::alloc::{AllocError, Global};
 use std::sync::ledger::Share;
 
-/// A seat for each host and guest, in order, with one part each of the share.
+/// A seat for each nexus, in order, with one part each of the share.
 pub(crate) fn seats_for<C: Round>(
     alloc: Global,
     nexuses: &[Nexus],

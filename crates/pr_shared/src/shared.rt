@@ -38,7 +38,7 @@ pub struct SharedWorld<C: Round> {
 }
 
 impl<C: Round> SharedWorld<C> {
-    /// The scenario at its first start, and a seat for each host and guest, in order. All memory is taken here: a seat has
+    /// The scenario at its first start, and a seat for each nexus, in order. All memory is taken here: a seat has
     /// room for one entry more than its host's budget or its guest's plan. Where memory is refused the scenario is handed
     /// back.
     pub fn begin(
@@ -68,7 +68,7 @@ impl<C: Round> SharedWorld<C> {
         Ok((SharedWorld { lock, kept }, seats))
     }
 
-    /// The turn of the seat's host or guest. It waits for the lock, and takes no memory.
+    /// The turn of the seat's nexus. It waits for the lock, and takes no memory.
     ///
     /// An entry that it answers stands last in the seat's list. A turn that answers `Stopped` ends the seat.
     pub fn turn<R: Wait>(&self, rt: &R, seat: &mut Seat<C>) -> Turn

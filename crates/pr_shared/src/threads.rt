@@ -11,7 +11,7 @@ use std::sync::Wait;
 use std::thread;
 use std::thread::{Promise, PromisedHandle, Scope, Threads};
 
-/// The promise that a thread gives back the seat that it got, which is that of this host or guest.
+/// The promise that a thread gives back the seat that it got, which is that of this nexus.
 #[derive(Clone, Copy)]
 pub(crate) struct SeatOf(u8);
 

@@ -1,4 +1,4 @@
--- The lines of one host or guest have no fault.
+-- The lines of one nexus have no fault.
 use Rattle.std.specs.Prelude.{◌≡◌, ℕ, suc, ◌+◌, ◌≤◌, ◌==◌, Bool, true, false, cond, ◌&&◌, ◌||◌, not, nat_le, List, [], ◌∷◌, ◌++◌, length, map, filter, fold, Option, Some, None, unwrap_or, bytes_eq, Result, Ok, Err}
 use Rattle.std.specs.FinSet as set
 use Rattle.std.specs.List.{list_all, list_any}
@@ -142,7 +142,7 @@ pending_same codes are = at (attentions_in codes) (attentions_are codes are)
     at [] h = h
     at (x ∷ xs) h = refl
 
--- ---- one host or guest among others
+-- ---- one nexus among others
 
 abbrev pub is_planned : Task → Bool
 is_planned (Scripted script budget) = false

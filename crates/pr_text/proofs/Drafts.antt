@@ -1,4 +1,4 @@
--- What is declared of hosts and guests, by their numbers.
+-- What is declared of nexuses, by their numbers.
 use Rattle.std.specs.Prelude.{◌≡◌, ℕ, ◌+◌, ◌<◌, Bool, cond, List, [], ◌∷◌, length, map, Option, Some, option_map, position, bytes_eq, slice_index_or, slice_set}
 use Rattle.std.specs.List.{slice_get, position_from}
 use Rattle.std.proofs.Common.{refl, sym, ap, ◌∙◌}

@@ -16,7 +16,7 @@ use Rattle.pr_text.specs.Reading.{WrittenNexus, task_written, nexus_written, nex
 use Rattle.pr_text.specs.inside.Sound.{IsTask, IsDeclaration, AreDeclarations, IsSound}
 use Rattle.pr_text.proofs.Trees.{both, whole_fits}
 
--- ---- one host or guest
+-- ---- one nexus
 
 task_known : (keys : List ℕ) (t : Task) (w : WrittenTask) → task_written t ≡ w → IsTask keys (Some w) → is_task keys t ≡ true
 task_known keys (Scripted b budget) w e h =

@@ -1,4 +1,4 @@
--- Keys, hosts and guests, and reservations stay sound with one line more.
+-- Keys, nexuses, and reservations stay sound with one line more.
 use Rattle.std.specs.Prelude.{◌≡◌, ℕ, suc, ◌+◌, ◌<◌, ◌==◌, Bool, true, false, cond, ◌&&◌, ◌||◌, not, nat_lt, nat_le, List, [], ◌∷◌, ◌++◌, length, map, Option, Some, None, is_some, option_map, option_and_then, unwrap_or, position, bytes_eq, Ok}
 use Rattle.std.specs.List.{list_all, list_any, position_from}
 use Rattle.std.proofs.Common.{refl, sym, subst, ap, ◌∙◌, arith, length-append}
@@ -210,7 +210,7 @@ number_none xs name e =
     let p : Declaration → Bool = λ x. bytes_eq x.name name in
     from_none p xs 0 (sym (position_from-zero p xs) ∙ none_there (position p xs) e)
 
--- ---- hosts and guests
+-- ---- nexuses
 
 pub other_way : (xs ys : List ℕ) → bytes_eq xs ys ≡ false → bytes_eq ys xs ≡ false
 other_way xs ys e = not_true (bytes_eq ys xs) (λ h. false≢true (sym e ∙ (bytes_eq-Decides xs ys).1 (sym ((bytes_eq-Decides ys xs).0 h))))

@@ -32,7 +32,7 @@ use Rattle.pr_text.proofs.LineOrder.{in_order}
 moved : (n : ℕ) (d : Declared) (p : Place) → IsSound n d → IsPlace (declared_keys d) (n + 1) p → IsSound (n + 1) (record d { place = p })
 moved n d p h at = record { keys = h.keys; reservations = h.reservations; few = h.few; apart = h.apart; each = h.each; place = at }
 
--- ---- one host or guest
+-- ---- one nexus
 
 declaration_at : (keys : List ℕ) (xs : List Declaration) (h : ℕ) (x : Declaration) → slice_get xs h ≡ Some x → AreDeclarations keys xs → IsDeclaration keys x
 declaration_at keys [] h x there all = cc
@@ -62,7 +62,7 @@ changed n d h x y p sound there named is at =
       place = at;
     }
 
--- what a step on a host or guest was made on
+-- what a step on a nexus was made on
 record Named (n : ℕ) (d : Declared) (step : ℕ → Declaration → Result Declared ReadError) (e : Declared) : Type 0 where
   number : ℕ
   nexus : Declaration

@@ -65,7 +65,7 @@ generation_goes : (n generation : ℕ) (keys : Option (List ℕ)) (xs : List Dec
 unfolding item_taken generation_placed
 generation_goes n generation keys xs = refl
 
--- ---- hosts and guests
+-- ---- nexuses
 
 abbrev named : List Nexus → List (List ℕ)
 named ns = map (λ x. x.name) ns

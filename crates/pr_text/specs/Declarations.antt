@@ -7,14 +7,14 @@ use Rattle.pr_attention.specs.Attentions.{Codes}
 use Rattle.pr_roles.specs.declared.role.Clause.{Clause}
 use Rattle.pr_text.specs.ScriptLines.{ScriptLine}
 
--- ---- hosts and guests
+-- ---- nexuses
 
--- what a host or guest is given to do: the lines of a script and its budget, or the commands of a plan
+-- what a nexus is given to do: the lines of a script and its budget, or the commands of a plan
 pub data WrittenTask : Type 0 where
   scripted : List ScriptLine → ℕ → WrittenTask
   planned : List Command → WrittenTask
 
--- a host or guest, the line that declares it, and what other lines have said of it so far
+-- a nexus, the line that declares it, and what other lines have said of it so far
 pub record Declaration : Type 0 where
   pub name : List ℕ
   pub line : ℕ

@@ -20,15 +20,15 @@ use Rattle.pr_text.specs.ScenarioLines.{StartReservation, nobody, single, everyb
 abbrev pub declared_keys : Declared → List ℕ
 declared_keys d = unwrap_or d.keys []
 
--- the number of the host or guest with this name
+-- the number of the nexus with this name
 unfoldable pub number_of : List Declaration → List ℕ → Option ℕ
 number_of nexuses name = position (λ x. bytes_eq x.name name) nexuses
 
--- the host or guest with this name
+-- the nexus with this name
 abbrev pub named : Declared → List ℕ → Option Declaration
 named d name = number_of d.nexuses name >>= λ h. slice_get d.nexuses h
 
--- this holds of the host or guest with this name, and of none where none has it
+-- this holds of the nexus with this name, and of none where none has it
 abbrev pub holds_of : Declared → List ℕ → (Declaration → Bool) → Bool
 holds_of d name p = option_map_or p (named d name) false
 

@@ -14,9 +14,9 @@ use Rattle.pr_text.specs.LineFaults.{fault_at}
 use Rattle.pr_text.specs.ScriptLines.{ScriptLine, send_at, arm_on, block_done, repeat_of, break_out, stop_with}
 use Rattle.pr_text.specs.Standing.{of_plan, of_script}
 
--- ---- hosts and guests
+-- ---- nexuses
 
--- something else is declared of the host or guest with this number
+-- something else is declared of the nexus with this number
 abbrev pub with_nexus : Declared → ℕ → (Declaration → Declaration) → Declared
 with_nexus d h f = record d { nexuses = option_map_or (λ x. slice_set d.nexuses h (f x)) (slice_get d.nexuses h) d.nexuses }
 
@@ -28,7 +28,7 @@ abbrev pub with_more : ℕ → Bool → List ℕ → Declared → Declared
 with_more n guest name d =
     record d { nexuses = d.nexuses ++ record { name = name; line = n; is_guest = guest; start = None; pending = None; role = []; task = None } ∷ [] }
 
--- the host or guest with this number has its task, and the next line stands outside
+-- the nexus with this number has its task, and the next line stands outside
 abbrev pub with_task : Declared → ℕ → WrittenTask → Declared
 with_task d h t = record (with_nexus d h (λ x. record x { task = Some t })) { place = outside }
 

@@ -13,7 +13,7 @@ use Rattle.pr_text.specs.ScriptLines.{body_lines}
 use Rattle.pr_text.specs.Declarations.{Declaration, WrittenTask, scripted, planned, Declared}
 use Rattle.pr_text.specs.Texts.{start_of, reservations_of, ended, answer_of}
 
--- a host or guest, with its script as the lines that it is written as
+-- a nexus, with its script as the lines that it is written as
 pub record WrittenNexus : Type 0 where
   pub name : List ℕ
   pub role : List Clause
@@ -28,7 +28,7 @@ task_written (Planned commands) = planned commands
 abbrev pub nexus_written : Nexus → WrittenNexus
 nexus_written n = record { name = n.name; role = n.role; start = n.start; pending = n.pending; task = task_written n.task }
 
--- what is declared of a host or guest, where nothing pending, no registration and no command of a plan need
+-- what is declared of a nexus, where nothing pending, no registration and no command of a plan need
 -- be written
 abbrev pub nexus_declared : Declaration → WrittenNexus
 nexus_declared x = record { name = x.name; role = x.role; start = start_of x; pending = unwrap_or x.pending no_code; task = unwrap_or x.task (planned []) }

@@ -13,7 +13,7 @@ use Rattle.pr_text.specs.WordTerms.{name_of, key_of, generation_of, count_of, ki
 use Rattle.pr_text.specs.CommandWords.{spelled_of, spelled_in}
 use Rattle.pr_text.specs.Clauses.{clause_of, test_of}
 
--- a reservation that there may be at the start: none, of a single host or guest with this name, or of all
+-- a reservation that there may be at the start: none, of a single nexus with this name, or of all
 -- registrants
 pub data StartReservation : Type 0 where
   nobody : StartReservation

@@ -19,7 +19,7 @@ use Rattle.pr_text.specs.ScriptRoundTrip.{Line, line, script_said, all_said}
 use Rattle.pr_text.specs.Declarations.{Declared, nothing}
 use Rattle.pr_text.specs.Reading.{IsWhole}
 
--- ---- a host or guest, with this number on each line but those of sends, which have their own
+-- ---- a nexus, with this number on each line but those of sends, which have their own
 
 -- a host has a script, a guest a plan
 abbrev pub declaring : List ℕ → Task → ScenarioLine

@@ -41,7 +41,7 @@ abbrev pub first_unscripted : List Declaration → Option ℕ
 first_unscripted [] = None
 first_unscripted (x ∷ xs) = if not x.is_guest && is_none x.task then Some x.line else first_unscripted xs
 
--- a host or guest is free where nothing is written, and nothing is reserved where nothing is written
+-- a nexus is free where nothing is written, and nothing is reserved where nothing is written
 abbrev pub start_of : Declaration → List (Option ℕ)
 start_of x = unwrap_or x.start (None ∷ [])
 

@@ -11,7 +11,7 @@ use Rattle.pr_script.specs.Names.{is_digit, is_name}
 use Rattle.pr_text.specs.Chain.{◌>>=◌}
 use Rattle.pr_text.specs.TextLines.{character}
 
--- the name that a word is: that of a host or guest, or the word with which a script stops
+-- the name that a word is: that of a nexus, or the word with which a script stops
 unfoldable pub name_of : List ℕ → Option (List ℕ)
 name_of word = if is_name word then Some word else None
 

@@ -342,7 +342,7 @@ impl Builder {
         }
     }
 
-    // The host or guest with this number has its task.
+    // The nexus with this number has its task.
     #[tactic(auto, using(crate::proofs::Drafts::found, crate::proofs::Drafts::changed))]
     fn set_task(&mut self, number: usize, task: Task)
         requires { self.old.place ≡ Outside }
@@ -362,7 +362,7 @@ impl Builder {
         }
     }
 
-    // The number of the host or guest with this name.
+    // The number of the nexus with this name.
     #[tactic(auto, unfolding(crate::specs::Declaring::number_of))]
     fn number_of(&self, name: &Word) -> Option<usize>
         ensures value { result ≡ number_of (map draft_seen self.now.nexuses.items) name.now.bytes }

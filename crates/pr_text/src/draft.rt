@@ -1,4 +1,4 @@
-//! What is declared of a host or guest so far.
+//! What is declared of a nexus so far.
 
 ghost use Rattle.std.specs.Prelude.{◌≡◌, ◌<◌, IfSome, Some, None, fold, length, position, bytes_eq};
 ghost use Rattle.pr_text.specs.Declaring.{codes_of};
@@ -9,7 +9,7 @@ use pr_roles::{Clause, Task, Word, are_alternatives, are_distinct};
 use pr_script::limits::MOST_BUDGET;
 use std::alloc::Global;
 
-/// What is declared of a host or guest so far.
+/// What is declared of a nexus so far.
 #[derive(Debug, Drop)]
 pub struct Draft {
     pub name: Word,
@@ -27,7 +27,7 @@ impl Draft {
     ghost use Rattle.pr_text.specs.inside.Chains.{start_fault, script_fault};
     ghost use Rattle.pr_text.specs.inside.Drafts.{draft_seen};
 
-    /// A host or guest of which nothing more is said yet.
+    /// A nexus of which nothing more is said yet.
     pub fn new(alloc: Global, name: Word, line: u32, is_guest: bool) -> Self
         ensures { draft_seen result ≡ record { name = name.bytes; line = line; is_guest = is_guest; start = None; pending = None; role = []; task = None } }
     {
@@ -90,7 +90,7 @@ pub fn pending_of(attentions: &[Attention]) -> Pending
     pending
 }
 
-/// The number of the host or guest with this name.
+/// The number of the nexus with this name.
 pub fn number_in(nexuses: &[Draft], name: &Word) -> Option<usize>
     ensures value { result ≡ position (λ x. bytes_eq x.name.bytes name.now.bytes) nexuses.now }
     ensures within { IfSome result (λ h. h < length nexuses.now) }

@@ -9,7 +9,7 @@ use thiserror::Error;
 /// Which limit a text goes past.
 #[derive(Clone, Copy, Debug, PartialEq, Eq)]
 pub enum Which {
-    /// At least 1 and at most 8 hosts and guests together.
+    /// At least 1 and at most 8 nexuses together.
     Hosts,
     /// At most 12 declared keys.
     Keys,

@@ -1,6 +1,6 @@
 //! The text of a scenario: its lines, words and terms, and the scenario that it is or its one fault.
 //!
-//! A text has lines, and a line has words. The lines before one declare keys, hosts and guests, starts, roles,
+//! A text has lines, and a line has words. The lines before one declare keys, nexuses, starts, roles,
 //! scripts and plans; the next line either declares more or is the text's fault. [`read`] reads from any
 //! reader, and [`of_text`] reads bytes.
 #![tactic(auto)]

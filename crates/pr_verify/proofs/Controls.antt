@@ -1,4 +1,4 @@
--- What the hosts and guests do at the beginning, and after a command of one of them.
+-- What the nexuses do at the beginning, and after a command of one of them.
 use Rattle.std.proofs.Common.{◌≡◌, ◌≢◌, ℕ, zero, suc, List, [], ◌∷◌, Option, Some, None, refl, ap, ◌∙◌}
 use Rattle.std.specs.Prelude.{option_map, slice_set}
 use Rattle.std.specs.List.{slice_get}

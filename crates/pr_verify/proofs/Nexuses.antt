@@ -1,4 +1,4 @@
--- The hosts and guests of a scenario, as they are kept.
+-- The nexuses of a scenario, as they are kept.
 use Rattle.std.proofs.Common.{◌≡◌, ℕ, ◌<◌, ◌≤◌, true, ◌&&◌, nat_le, [], length, Option, Some, None, Vec, Global, refl, sym, ap, ◌∙◌, subst}
 use Rattle.std.specs.List.{slice_get}
 use Rattle.std.specs.Option.{option_map_or}

@@ -263,7 +263,7 @@ module _ (p : ℕ → Bool) (n : ℕ) where
 -- ---- one table more, or none
 
 module _ (s : Scenario) (members : WordSet → Numbers) (room : WordSet → ℕ) where
-  -- those of the hosts and guests before this one
+  -- those of the nexuses before this one
   pub record AreBeforeHost (n : ℕ) (ts : List KeptTable) : Type 0 where
     pub hosts : map (λ t. t.outline.host) ts ≡ filter (λ h. has_script (task s h)) (range_with_len 0 n)
     pub each : All (λ t. OnScripted (task s t.outline.host) (λ script budget. IsTable s script (table_of members t))) ts

@@ -37,7 +37,7 @@ ShowsIn (Some v) u = Shows v u
 abbrev pub IsShownAt : Outline → ℕ → UnitState → Type 0
 IsShownAt o line u = ShowsIn (view_at o.views line) u
 
--- what the views of a host speak of: the hosts and guests of the scenario, its declared keys, and what is pending for the host
+-- what the views of a host speak of: the nexuses of the scenario, its declared keys, and what is pending for the host
 abbrev pub scope_in : Scenario → ℕ → Scope
 scope_in s own = record { own = own; hosts = length s.nexuses; keys = s.keys }
 

@@ -17,7 +17,7 @@ use Rattle.pr_verify.specs.Tables.{Row, Table}
 abbrev pub outline_of : {S : Type 0} → (S → Numbers) → OutlineBy (ViewOf S) → Outline
 outline_of members o = record { host = o.host; views = map (λ e. (e.0, view_of members o.host e.1)) o.views.items }
 
--- the views can be ones of this scenario: they have its keys, and speak of as many hosts and guests
+-- the views can be ones of this scenario: they have its keys, and speak of as many nexuses
 abbrev pub IsMadeFor : {S : Type 0} → (S → ℕ) → Scenario → OutlineBy (ViewOf S) → Type 0
 IsMadeFor room s o = All (λ e. IsMade room e.1 × (e.1.keys.items ≡ s.keys) × (e.1.hosts ≡ length s.nexuses)) o.views.items
 

@@ -1,4 +1,4 @@
-//! Whether the scripts of a scenario keep its promises, whatever its hosts and guests do.
+//! Whether the scripts of a scenario keep its promises, whatever its nexuses do.
 #![tactic(auto)]
 
 mod answers;

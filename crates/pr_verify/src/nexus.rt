@@ -1,4 +1,4 @@
-//! The hosts and guests of a scenario.
+//! The nexuses of a scenario.
 
 ghost use Rattle.std.specs.Prelude.{◌≡◌, ◌<◌, length, Some};
 ghost use Rattle.pr_roles.specs.Fitting.{Fits};

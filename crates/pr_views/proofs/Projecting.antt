@@ -1,4 +1,4 @@
--- What each host or guest has in the states of a portion.
+-- What each nexus has in the states of a portion.
 use Rattle.std.proofs.Common.{◌≡◌, ◌≢◌, ℕ, ◌+◌, ◌<◌, ◌≤◌, true, false, ◌==◌, ◌&&◌, not, nat_lt, if◌then◌else◌, IfSome, IfNone, List, Option, Some, None, is_some, refl, sym, ap, ◌∙◌, subst, inl, inr, ◌⊎◌, option_map, arith}
 use Rattle.std.proofs.lemmas.Bool.{and_parts, and_from, false≢true, ltb-true, cases_lt, cases_eq, cases_order}
 use Rattle.std.proofs.lemmas.Bool.Decides.{eqb_tells}
@@ -37,7 +37,7 @@ but_elsewhere f g r h differs = at (eqb_tells h g)
     at (inl same) = absurd (differs same.1)
     at (inr other) = rw other.0 refl
 
--- each host or guest that is there has what is chosen for it
+-- each nexus that is there has what is chosen for it
 abbrev AreChosen : ℕ → List Word → (ℕ → ℕ) → Type 0
 AreChosen hosts words f = (g : ℕ) → g < hosts → has_at words g (f g) ≡ true
 
@@ -250,7 +250,7 @@ no_state_where_none_passes v p test u some none inside =
     at : HasSomebody v.scope u p.sender (Some (has test)) → ⊥
     at one = false≢true (sym (none one.0 (omega arith) one.3.0 one.2 one.1 (inside.registrations one.0 one.1 one.3)) ∙ one.4)
 
--- ---- in any view of so many hosts and guests
+-- ---- in any view of so many nexuses
 
 pub untested_of : (hosts : ℕ) (p : Portion) → AreFilled hosts p.registrations → p.somebody ≡ None
     → (v : View) → v.scope.hosts ≡ hosts → Fits v → IsPortion v p → IsProjected v p p.registrations

@@ -1,4 +1,4 @@
--- A state that a view shows, from what is chosen for each host or guest, a reservation and the owner's attentions.
+-- A state that a view shows, from what is chosen for each nexus, a reservation and the owner's attentions.
 use Rattle.std.proofs.Common.{◌≡◌, ◌≢◌, ℕ, zero, suc, ◌<◌, ◌≤◌, Bool, true, false, ◌==◌, ◌&&◌, not, nat_lt, cond, IsTrue, List, length, Option, Some, None, is_some, refl, sym, ap, ◌∙◌, subst, lit<}
 use Rattle.std.specs.FinSet as set
 use Rattle.std.proofs.lemmas.Bool.{and_parts, not-true, ltb-true, lt-ltb}
@@ -20,7 +20,7 @@ use Rattle.pr_views.specs.Possibilities.{Scope, IsScope, key_at, number_of, coun
 use Rattle.pr_views.specs.Views.{View, Shows, Fits, Within}
 use Rattle.pr_views.proofs.Numbering.{key_there}
 
--- The state of these choices: of each host or guest the registration of this number, the reservation, and of the
+-- The state of these choices: of each nexus the registration of this number, the reservation, and of the
 -- owner's attentions those of this number. Nothing is pending for the others.
 abbrev pub state_of : Scope → (ℕ → ℕ) → Option Held → ℕ → UnitState
 state_of s f held q = record {

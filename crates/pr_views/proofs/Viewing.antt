@@ -20,7 +20,7 @@ use Rattle.pr_views.specs.Rooms.{contains_at, view_of, IsMade, AreInRange}
 read : {X : Type 0} (P : X → Type 0) (xs : List X) (i : ℕ) (x : X) → All P xs → slice_get xs i ≡ Some x → P x
 read P xs i x all is = subst P (get_or_from_slice_get xs i x x is) (all i x (slice_get_within xs i x is))
 
--- words in range are a view whose possibilities fit, where they have nothing past the hosts and guests that are there
+-- words in range are a view whose possibilities fit, where they have nothing past the nexuses that are there
 pub words_fit : (own hosts : ℕ) (keys : List ℕ) (p : Possibilities) → (1 ≤ hosts) × (hosts ≤ 8) → own < hosts → AreDeclared keys → AreInRange hosts keys p
     → ((g r : ℕ) → hosts ≤ g → has_at p.registrations g r ≡ false) → Fits (view_in (record { own = own; hosts = hosts; keys = keys }) p)
 words_fit own hosts keys p counted small declared range past = record {

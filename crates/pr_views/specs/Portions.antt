@@ -22,12 +22,12 @@ has_at words g n = option_map_or (λ w. has w n) (slice_get words g) false
 abbrev pub view_in : Scope → Possibilities → View
 view_in s p = record { scope = s; registrations = has_at p.registrations; reservations = has p.reservations; pending = has p.pending }
 
--- some host or guest but the sender has a registration that passes, if there is a test
+-- some nexus but the sender has a registration that passes, if there is a test
 abbrev pub HasSomebody : Scope → UnitState → ℕ → Option (ℕ → Bool) → Type 0
 HasSomebody s u sender None = Unit {0}
 HasSomebody s u sender (Some passes) = (g : ℕ) × (r : ℕ) × (g ≢ sender) × IsSo s u (Registration g r) × (passes r ≡ true)
 
--- The view shows the state, and it is in the portion: it has its reservation; each host or guest has one of the
+-- The view shows the state, and it is in the portion: it has its reservation; each nexus has one of the
 -- registrations left to it; and, if there is a test, one other than the sender has one that passes it.
 pub record IsIn (v : View) (p : Portion) (u : UnitState) : Type 0 where
   pub shown : Shows v u
@@ -60,7 +60,7 @@ pub record IsPortion (v : View) (p : Portion) : Type 0 where
   pub reservation : v.reservations p.reservation ≡ true
   pub holder : (held : Option Held) → is_reservation v.scope.hosts held ≡ true → p.reservation ≡ number_of v.scope.hosts held → GivesHolder p held
 
--- each host or guest that is there has some number
+-- each nexus that is there has some number
 abbrev pub AreFilled : ℕ → List Word → Type 0
 AreFilled hosts words = (g : ℕ) → g < hosts → (n : ℕ) × (has_at words g n ≡ true)
 
@@ -68,7 +68,7 @@ AreFilled hosts words = (g : ℕ) → g < hosts → (n : ℕ) × (has_at words g
 abbrev pub AreWithin : List Word → List Word → Type 0
 AreWithin words others = (g n : ℕ) → has_at words g n ≡ true → has_at others g n ≡ true
 
--- What the states of a portion have: of each host or guest just these registrations, each beside any attentions of
+-- What the states of a portion have: of each nexus just these registrations, each beside any attentions of
 -- the owner that the view has.
 pub record IsProjected (v : View) (p : Portion) (registrations : List Word) : Type 0 where
   pub all : (u : UnitState) (g r : ℕ) → IsIn v p u → IsSo v.scope u (Registration g r) → has_at registrations g r ≡ true

@@ -13,14 +13,14 @@ use Rattle.pr_attention.specs.Flagged.{codes_of}
 use Rattle.pr_unit.specs.UnitStates.{UnitState, is_pending}
 use Rattle.pr_roles.specs.Fitting.{AreDeclared}
 
--- Whose view it is, how many hosts and guests there are, and the declared keys, whose order numbers the
+-- Whose view it is, how many nexuses there are, and the declared keys, whose order numbers the
 -- registrations.
 pub record Scope : Type 0 where
   pub own : ℕ
   pub hosts : ℕ
   pub keys : List ℕ
 
--- 1 to 8 hosts and guests, the owner among them, and keys that a scenario can declare
+-- 1 to 8 nexuses, the owner among them, and keys that a scenario can declare
 pub record IsScope (s : Scope) : Type 0 where
   pub hosts : (1 ≤ s.hosts) × (s.hosts ≤ 8)
   pub own : s.own < s.hosts
@@ -46,7 +46,7 @@ number_of hosts None = 0
 number_of hosts (Some (One kind h)) = 1 + (hosts * place_of kind + h)
 number_of hosts (Some (All kind)) = 1 + (hosts * 4 + place_of kind)
 
--- how many reservations there can be: 35 where there are 8 hosts and guests
+-- how many reservations there can be: 35 where there are 8 nexuses
 abbrev pub count_of_reservations : ℕ → ℕ
 count_of_reservations hosts = hosts * 4 + 3
 
@@ -54,7 +54,7 @@ count_of_reservations hosts = hosts * 4 + 3
 abbrev pub count_of_attentions : ℕ
 count_of_attentions = 16
 
--- the registration of a host or guest; the reservation; the attentions pending for the owner, with a bit for
+-- the registration of a nexus; the reservation; the attentions pending for the owner, with a bit for
 -- each code
 pub data Item : Type 0 where
   Registration : ℕ → ℕ → Item

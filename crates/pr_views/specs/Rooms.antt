@@ -29,7 +29,7 @@ view_of members own v = record {
   pending = λ q. set.contains (members v.pending) q;
 }
 
--- 1 to 8 hosts and guests, declared keys, and sets with room for what is possible of each
+-- 1 to 8 nexuses, declared keys, and sets with room for what is possible of each
 pub record IsMade {S : Type 0} (room : S → ℕ) (v : ViewOf S) : Type 0 where
   pub hosts : (1 ≤ v.hosts) × (v.hosts ≤ 8)
   pub keys : AreDeclared v.keys.items
@@ -37,12 +37,12 @@ pub record IsMade {S : Type 0} (room : S → ℕ) (v : ViewOf S) : Type 0 where
   pub reservations : room v.reservations ≡ count_of_reservations v.hosts
   pub pending : room v.pending ≡ count_of_attentions
 
--- they have the same keys, and speak of as many hosts and guests
+-- they have the same keys, and speak of as many nexuses
 pub record AreAlike {S : Type 0} (v w : ViewOf S) : Type 0 where
   pub keys : v.keys.items ≡ w.keys.items
   pub hosts : v.hosts ≡ w.hosts
 
--- the possibilities are ones of so many hosts and guests and these keys
+-- the possibilities are ones of so many nexuses and these keys
 pub record AreInRange (hosts : ℕ) (keys : List ℕ) (p : Possibilities) : Type 0 where
   pub registrations : (g r : ℕ) → g < hosts → has_at p.registrations g r ≡ true → r ≤ length keys
   pub reservations : (x : ℕ) → has p.reservations x ≡ true → x < count_of_reservations hosts

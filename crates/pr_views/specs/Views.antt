@@ -7,7 +7,7 @@ use Rattle.std.specs.Prelude.{◌≡◌, ℕ, ◌<◌, ◌≤◌, Bool, true, le
 use Rattle.pr_unit.specs.UnitStates.{UnitState, IsWellFormed}
 use Rattle.pr_views.specs.Possibilities.{Scope, IsScope, Item, Registration, Reservation, Attentions, IsSo, count_of_reservations, count_of_attentions}
 
--- for each host or guest the registrations, the reservations, and the owner's attentions, that are possible
+-- for each nexus the registrations, the reservations, and the owner's attentions, that are possible
 pub record View : Type 0 where
   pub scope : Scope
   pub registrations : ℕ → ℕ → Bool

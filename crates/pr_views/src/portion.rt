@@ -9,22 +9,22 @@ ghost use Rattle.pr_views.specs.inside.Passing.{LacksOne, CanPass, CannotPass, N
 
 use pr_sets::Word;
 
-/// Of the states that a view shows, those with one reservation, in which each host or guest has one of some
+/// Of the states that a view shows, those with one reservation, in which each nexus has one of some
 /// registrations, and, where there is a test, one other than the sender of a command has a registration that passes.
 #[derive(Clone, Copy, Debug, PartialEq, Eq)]
 pub struct Portion {
-    /// The host or guest that the test does not look at.
+    /// The nexus that the test does not look at.
     pub sender: u8,
     /// The reservation, by its number.
     pub reservation: u8,
-    /// The registrations that each host or guest may have.
+    /// The registrations that each nexus may have.
     pub registrations: [Word; 8],
     /// The registrations of which one other than the sender must have one.
     pub somebody: Option<Word>,
 }
 
 impl Portion {
-    /// What each host or guest has in the states of the portion, of so many that are there. None where the portion
+    /// What each nexus has in the states of the portion, of so many that are there. None where the portion
     /// has no state.
     pub fn projected(&self, hosts: u8) -> Option<[Word; 8]>
         requires few { (1 ≤ hosts) × (hosts ≤ 8) }
@@ -47,7 +47,7 @@ impl Portion {
         Some(self.passed_by(test, first))
     }
 
-    // Whether each host or guest that is there has a registration left.
+    // Whether each nexus that is there has a registration left.
     fn is_filled(&self, hosts: u8) -> bool
         requires { hosts ≤ 8 }
         ensures filled { IsTrue result → AreFilled hosts self.now.registrations }
@@ -61,7 +61,7 @@ impl Portion {
         true
     }
 
-    // Of the hosts and guests from a number on, the first that can pass the test.
+    // Of the nexuses from a number on, the first that can pass the test.
     fn first_passing(&self, test: Word, from: u8, hosts: u8) -> Option<u8>
         requires { hosts ≤ 8 }
         ensures some { IfSome result (IsFirstPassing self.now test from hosts) }

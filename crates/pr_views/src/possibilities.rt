@@ -6,7 +6,7 @@ ghost use Rattle.pr_views.specs.Portions.{has_at};
 
 use pr_sets::Word;
 
-/// The possibilities of a view as words, for reckoning: those of the first hosts and guests that are there, in
+/// The possibilities of a view as words, for reckoning: those of the first nexuses that are there, in
 /// the numbers of a view.
 #[derive(Clone, Copy, Debug, PartialEq, Eq)]
 pub struct Possibilities {

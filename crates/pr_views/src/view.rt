@@ -18,16 +18,16 @@ use pr_roles::limits::MOST_KEYS;
 use pr_sets::{ViewSet, WordSet};
 use std::alloc::{AllocError, Global};
 
-/// What a host can know of the logical unit: which registrations are possible for each host and guest, which
+/// What a host can know of the logical unit: which registrations are possible for each nexus, which
 /// reservations, and which attentions pending for itself.
 #[derive(Drop)]
 pub struct ViewOf<S: ViewSet> {
     /// The declared keys.
     pub keys: ArrayVec<u64, MOST_KEYS>,
-    /// How many hosts and guests there are.
+    /// How many nexuses there are.
     pub hosts: u8,
-    /// For each host and guest, its registrations: 0 for none, or the place of a declared key, from 1. The sets past
-    /// the hosts and guests that are there say nothing.
+    /// For each nexus, its registrations: 0 for none, or the place of a declared key, from 1. The sets past
+    /// the nexuses that are there say nothing.
     pub registrations: [S; 8],
     /// The reservations: 0 for none, then types 1, 3, 5, 6, each by its holder, then 7 and 8.
     pub reservations: S,
@@ -42,7 +42,7 @@ pub type View = ViewOf<WordSet>;
 const ATTENTIONS: u8 = 16;
 
 impl<S: ViewSet> ViewOf<S> {
-    /// The view in which nothing is possible, of so many hosts and guests. It takes no memory yet.
+    /// The view in which nothing is possible, of so many nexuses. It takes no memory yet.
     pub fn nothing(alloc: Global, keys: &[u64], hosts: u8) -> Self
         requires hosts { (1 ≤ hosts) × (hosts ≤ 8) }
         requires keys { AreDeclared keys.now }
@@ -96,7 +96,7 @@ impl<S: ViewSet> ViewOf<S> {
         })
     }
 
-    /// What is possible in the view, as words. Those past the hosts and guests that are there are empty.
+    /// What is possible in the view, as words. Those past the nexuses that are there are empty.
     pub fn possibilities(&self) -> Possibilities
         requires { IsMade S.room self.now }
         ensures same { (own : ℕ) (i : Item) → IsPossible (view_in (scope_of own self.now) result) i ↔ IsPossible (view_of S.members own self.now) i }
@@ -148,7 +148,7 @@ impl<S: ViewSet> ViewOf<S> {
             && self.pending.is_empty()
     }
 
-    /// Whether the view can be one: of 1 to 8 hosts and guests, with declared keys, and sets that have room for what
+    /// Whether the view can be one: of 1 to 8 nexuses, with declared keys, and sets that have room for what
     /// is possible of each.
     pub fn fits(&self) -> bool
         ensures { IsTrue result ↔ IsMade S.room self.now }

@@ -1,4 +1,4 @@
--- What may come next of one host or guest.
+-- What may come next of one nexus.
 use Rattle.std.proofs.Common.{◌≡◌, Bool, true, false, List, Some, Ok, refl, sym, ap, ◌∙◌, subst}
 use Rattle.pr_cdb.specs.declared.wire.Request.TheVariants.{Plain}
 use Rattle.pr_unit.specs.UnitStates.{UnitState}

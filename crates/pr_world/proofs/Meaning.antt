@@ -1,4 +1,4 @@
--- What a host or guest is, where its turn does one thing or another.
+-- What a nexus is, where its turn does one thing or another.
 use Rattle.std.proofs.Common.{◌≡◌, ℕ, zero, suc, ◌<◌, Bool, true, false, List, [], ◌∷◌, length, get_or, Option, Some, None, ◌⊎◌, inl, inr, refl, sym, ap, ◌∙◌, subst, arith}
 use Rattle.std.specs.Prelude.{slice_set, codes, unwrap_or, if◌then◌else◌}
 use Rattle.std.specs.List.{slice_get}

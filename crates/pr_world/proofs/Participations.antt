@@ -1,4 +1,4 @@
--- A host or guest among the others.
+-- A nexus among the others.
 use Rattle.std.proofs.Common.{◌≡◌, ℕ, ◌<◌, Bool, List, [], ◌∷◌, ◌++◌, length, Option, Some, None, refl, sym, ap, ◌∙◌, get_or}
 use Rattle.std.specs.Prelude.{map, slice_set, option_map}
 use Rattle.std.specs.List.{slice_get}

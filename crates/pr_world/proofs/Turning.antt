@@ -1,4 +1,4 @@
--- What one host or guest does makes the turn of the schedule.
+-- What one nexus does makes the turn of the schedule.
 use Rattle.std.proofs.Common.{◌≡◌, ℕ, ◌<◌, Bool, true, false, List, [], ◌∷◌, ◌++◌, length, Option, Some, None, refl, sym, ap, ◌∙◌, subst, get_or, vec_len, Vec, Global, arith}
 use Rattle.std.specs.Prelude.{map, slice_set, option_map, IsTrue}
 use Rattle.std.specs.List.{slice_get}

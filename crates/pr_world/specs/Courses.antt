@@ -21,7 +21,7 @@ use Rattle.pr_world.specs.declared.host_script.HostScript.TheVariants as script
 use Rattle.pr_world.specs.declared.participant.Participant.{Participant}
 use Rattle.pr_world.specs.declared.participant.Participant.TheVariants as participant
 
--- what one host or guest does, and what is left of its plan
+-- what one nexus does, and what is left of its plan
 pub record Participation : Type 0 where
   pub control : Control
   pub plan : List Command
@@ -85,7 +85,7 @@ abbrev pub HappensBy : Scenario → ℕ → Option Entry → World → World →
 HappensBy s h None w v = v ≡ w
 HappensBy s h (Some e) w v = IsOneEvent s h e w v
 
--- there is one host or guest for each that the scenario declares, and just the guests have plans
+-- there is one nexus for each that the scenario declares, and just the guests have plans
 pub record StandsFor (s : Scenario) (u : UnitState) (participations : List Participation) : Type 0 where
   pub hosts : u.registry.hosts ≡ length s.nexuses
   pub tasks : map (λ x. is_free x.control) participations ≡ map (λ n. is_planned n.task) s.nexuses

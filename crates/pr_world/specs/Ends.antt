@@ -1,5 +1,5 @@
 -- Agrees with docs/FORMATS.md, 'Trace text'.
--- How hosts and guests stand at the end of a run.
+-- How nexuses stand at the end of a run.
 use Rattle.std.specs.Prelude.{ℕ, Bool, true, false, List, [], ◌∷◌, length, Option, Some, None}
 use Rattle.pr_cdb.specs.declared.command.Command.{Command}
 use Rattle.pr_script.specs.Scripts.{Standing, ready, stopped, standing}
@@ -31,7 +31,7 @@ ending (Going l) plan = ending_by (standing l)
 ending (Trapped line) plan = Some (traps line)
 ending Free plan = Some (leaves (length plan))
 
--- the ends of hosts and guests, each with what is left of its plan
+-- the ends of nexuses, each with what is left of its plan
 abbrev pub endings : List Control → List (List Command) → List (Option Ending)
 endings [] plans = []
 endings (k ∷ ks) [] = []

@@ -10,11 +10,11 @@ use Rattle.pr_roles.specs.Schedules.{Schedule, ScheduledRun, schedule_from}
 use Rattle.pr_world.specs.declared.replaying.Replayed.{Replayed}
 use Rattle.pr_world.specs.Ends.{seen, endings, is_trapped_end}
 
--- how many commands of each host and guest reached the unit
+-- how many commands of each nexus reached the unit
 abbrev pub counts_in : Schedule → List ℕ
 counts_in y = map (λ h. sent y.world.entries h) (range_with_len 0 (length y.plans))
 
--- what a schedule holds at last: the entries, the unit, the end of each host and guest, and how many of its
+-- what a schedule holds at last: the entries, the unit, the end of each nexus, and how many of its
 -- commands reached the unit. Some end is a trapped one just where some host is trapped.
 pub record IsEndOf (y : Schedule) (r : Replayed) : Type 0 where
   pub entries : r.entries.items ≡ y.world.entries

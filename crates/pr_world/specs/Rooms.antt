@@ -1,5 +1,5 @@
 -- Agrees with docs/MODEL.md, 'Cost'.
--- How many commands of the hosts and guests of a scenario can reach the unit.
+-- How many commands of the nexuses of a scenario can reach the unit.
 use Rattle.std.specs.Prelude.{ℕ, Option, None, Some, length, map, sum}
 use Rattle.pr_roles.specs.Scenarios.{Scenario, Task, Scripted, Planned}
 

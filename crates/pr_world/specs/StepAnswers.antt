@@ -16,7 +16,7 @@ IfSent (turn.Sent e) P = P e
 IfSent (turn.Stopped word) P = Unit {0}
 IfSent turn.Held P = Unit {0}
 
--- of the word with which the host or guest is stopped, if it is
+-- of the word with which the nexus is stopped, if it is
 abbrev pub IfStopped : Turn → (List ℕ → Type 0) → Type 0
 IfStopped (turn.Sent e) P = Unit {0}
 IfStopped (turn.Stopped word) P = P word.bytes

@@ -1,4 +1,4 @@
-//! What a host or guest does in its turn.
+//! What a nexus does in its turn.
 
 ghost use Rattle.std.specs.Prelude.{◌≡◌, option_map};
 ghost use Rattle.pr_world.specs.inside.Turns.{entry_in};
@@ -6,7 +6,7 @@ ghost use Rattle.pr_world.specs.inside.Turns.{entry_in};
 use pr_roles::Entry;
 use pr_script::Word;
 
-/// What a host or guest did in its turn.
+/// What a nexus did in its turn.
 #[derive(Debug, Drop)]
 pub(crate) enum Act {
     /// Its command reached the unit, and was answered.

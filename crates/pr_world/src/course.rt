@@ -1,4 +1,4 @@
-//! A scenario at work: its unit, its hosts and guests, and what was sent so far.
+//! A scenario at work: its unit, its nexuses, and what was sent so far.
 
 ghost use Rattle.std.specs.Prelude.{◌≡◌, ◌<◌, ◌≤◌, ◌+◌, ◌^◌, ℕ, List, [], ◌∷◌, ◌++◌, Some, length, map, IfOk, vec_len, vec_capacity, IsTrue};
 ghost use Rattle.std.specs.List.{range_with_len};
@@ -46,7 +46,7 @@ impl Course {
         })
     }
 
-    /// The turn of this host or guest. It takes no memory, and room for an entry only where it sends.
+    /// The turn of this nexus. It takes no memory, and room for an entry only where it sends.
     pub(crate) fn turn(&mut self, scenario: &Scenario, host: u8) -> Act
         requires there { host < length (scenario_of scenario.now).nexuses }
         requires stands { StandsFor (scenario_of scenario.now) self.old.unit
@@ -76,7 +76,7 @@ impl Course {
         act
     }
 
-    /// How the host or guest stands.
+    /// How the nexus stands.
     pub(crate) fn end(&self, host: u8) -> End
         requires { host < vec_len self.now.participants }
         ensures { ending (control (schedule_of self.now).world host) (plan (schedule_of self.now) host)

@@ -1,8 +1,8 @@
-//! How a host or guest ends.
+//! How a nexus ends.
 
 use pr_script::Word;
 
-/// How a host or guest stands at the end of a run.
+/// How a nexus stands at the end of a run.
 #[derive(Clone, Copy, Debug, PartialEq, Eq)]
 pub enum End {
     /// The host's script is stopped with this word.

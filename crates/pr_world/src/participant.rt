@@ -1,4 +1,4 @@
-//! The hosts and guests of a scenario at work.
+//! The nexuses of a scenario at work.
 
 ghost use Rattle.std.specs.Prelude.{◌≡◌, ◌<◌, Some, IfOk, IsTrue};
 ghost use Rattle.pr_roles.specs.Scenarios.{task_of};
@@ -18,7 +18,7 @@ use pr_script::Next;
 use pr_unit::Unit;
 use std::alloc::{AllocError, Global};
 
-/// A host or guest at work.
+/// A nexus at work.
 #[derive(Debug, Drop)]
 pub(crate) enum Participant {
     Host(HostScript),
@@ -26,7 +26,7 @@ pub(crate) enum Participant {
 }
 
 impl Participant {
-    /// The host or guest at its beginning.
+    /// The nexus at its beginning.
     pub(crate) fn new(alloc: Global, nexus: &Nexus) -> Result<Participant, AllocError>
         requires { IsShort (task_of nexus.now.task) }
         ensures { IfOk result (λ participant. participation_of participant ≡ participation_from (task_of nexus.now.task)) }

@@ -20,10 +20,10 @@ pub struct Replayed {
 
     pub unit: Unit,
 
-    /// How each host or guest stands, by its number.
+    /// How each nexus stands, by its number.
     pub ends: Vec<End>,
 
-    /// How many commands of each host or guest reached the unit, by its number.
+    /// How many commands of each nexus reached the unit, by its number.
     pub counts: Vec<u32>,
 }
 
@@ -36,7 +36,7 @@ impl Replayed {
     }
 }
 
-/// Runs the scenario from its first start, with a turn for each step: the number of a host or guest.
+/// Runs the scenario from its first start, with a turn for each step: the number of a nexus.
 ///
 /// In its turn a host sends its command, if its script is ready, and takes the reply. A guest sends the
 /// next command of its plan; where that would end GOOD and its role does not permit it, the command is

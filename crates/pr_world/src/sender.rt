@@ -1,4 +1,4 @@
-//! The hosts and guests of an audit.
+//! The nexuses of an audit.
 
 ghost use Rattle.std.specs.Prelude.{◌≡◌, ◌<◌, ℕ, slice_index, IfOk};
 ghost use Rattle.pr_cdb.specs.Requests.{AreBytes};
@@ -15,7 +15,7 @@ use pr_script::Next;
 use pr_unit::Unit;
 use std::alloc::{AllocError, Global};
 
-/// A host or guest of an audit. Of a guest's plan an audit knows nothing.
+/// A nexus of an audit. Of a guest's plan an audit knows nothing.
 #[derive(Debug, Drop)]
 pub(crate) enum Sender {
     Host(HostScript),
@@ -23,7 +23,7 @@ pub(crate) enum Sender {
 }
 
 impl Sender {
-    /// The host or guest at its beginning.
+    /// The nexus at its beginning.
     pub(crate) fn new(alloc: Global, nexus: &Nexus) -> Result<Sender, AllocError>
         requires { IsShort (task_of nexus.now.task) }
         ensures { IfOk result (λ sender. control_by sender ≡ control_of (task_of nexus.now.task)) }

@@ -3,7 +3,7 @@
 use pr_roles::Entry;
 use pr_script::Word;
 
-/// What a host or guest of a verified scenario did in its turn.
+/// What a nexus of a verified scenario did in its turn.
 #[derive(Debug, Drop, PartialEq, Eq)]
 pub enum Turn {
     /// Its command reached the unit, and was answered.

@@ -67,7 +67,7 @@ impl World {
         }
     }
 
-    /// The turn of this host or guest. It takes no memory.
+    /// The turn of this nexus. It takes no memory.
     ///
     /// Where the unit could report one of several attentions, it reports the lowest.
     pub fn step(&mut self, host: u8) -> Turn
@@ -115,7 +115,7 @@ impl World {
         &self.course.unit
     }
 
-    /// How the host or guest stands.
+    /// How the nexus stands.
     pub fn end(&self, host: u8) -> End
         requires { host < length (scenario_of self.now.scenario).nexuses }
         ensures { ending (control self.now.schedule.world host) (plan self.now.schedule host) ≡ Some (seen result) }

@@ -1,4 +1,4 @@
--- The states of a view that are looked at one part after another, and what each host or guest has in such a part.
+-- The states of a view that are looked at one part after another, and what each nexus has in such a part.
 use Rattle.std.specs.Prelude.{◌≡◌, ℕ, ◌<◌, ◌≤◌, Bool, true, false, not, ◌==◌, ◌&&◌, if◌then◌else◌, List, Option, Some, None}
 use Rattle.pr_registry.specs.Registrations.{holds_alone}
 use Rattle.pr_registry.specs.Changes.{is_held_by_all}
@@ -28,7 +28,7 @@ pub record IsPlace (s : Scope) (view : Possibilities) (place : Place) : Type 0 w
 abbrev pub IsUniform : Word → Type 0
 IsUniform senders = has senders 0 ≡ true → (r : ℕ) → has senders r ≡ true → r ≡ 0
 
--- the region's test, if there is one, is passed by registered hosts and guests alone
+-- the region's test, if there is one, is passed by registered nexuses alone
 abbrev pub IsProper : Region → Type 0
 IsProper region = IsUntestedOrRegistered region.somebody
 

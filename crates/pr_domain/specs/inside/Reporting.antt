@@ -101,7 +101,7 @@ abbrev pub HasOutcome : {S : Type 0} → (S → Numbers) → ℕ → List (Landi
 HasOutcome {S = S} members own outcomes l i =
     (k : ℕ) × (v : ViewOf S) × (slice_get outcomes k ≡ Some (l, v)) × IsPossible (view_of members own v) i
 
--- Each view is made, is of these keys and so many hosts and guests, and has some possibility; each landing stands
+-- Each view is made, is of these keys and so many nexuses, and has some possibility; each landing stands
 -- once.
 pub record AreKept {S : Type 0} (members : S → Numbers) (room : S → ℕ) (hosts : ℕ) (keys : List ℕ) (outcomes : List (Landing × ViewOf S)) : Type 0 where
   pub made : (k : ℕ) (l : Landing) (v : ViewOf S) → slice_get outcomes k ≡ Some (l, v) → IsMade room v

@@ -161,7 +161,7 @@ pub record IsOwners (s : Scope) (keys : List ℕ) (view : Possibilities) (place 
   pub same_keys : s.keys ≡ keys
   pub is : IsPlace s view place
 
--- the possibilities are a view of this scope, of these hosts and guests and keys
+-- the possibilities are a view of this scope, of these nexuses and keys
 pub record IsOfScope (s : Scope) (hosts own : ℕ) (keys : List ℕ) (view : Possibilities) : Type 0 where
   pub same_hosts : s.hosts ≡ hosts
   pub same_own : s.own ≡ own

@@ -24,13 +24,13 @@ use Rattle.pr_text.specs.ScriptRoundTrip.{said_by, numbered}
 use Rattle.pr_text.specs.ScriptLines.{ScriptLine, send_at, arm_on, block_done, repeat_of, break_out, stop_with}
 use Rattle.pr_text.specs.Standing.{is_repeating, is_sending, awaits_arm, awaits_more, may_close, stands_under}
 
--- ---- hosts and guests
+-- ---- nexuses
 
--- something else is declared of the host or guest with this number
+-- something else is declared of the nexus with this number
 abbrev pub nexus_set : Declared → ℕ → Declaration → Declared
 nexus_set d h x = record d { nexuses = slice_set d.nexuses h x }
 
--- a step on what is declared of this host or guest
+-- a step on what is declared of this nexus
 abbrev pub on_nexus : ℕ → Option Declaration → (Declaration → Result Declared ReadError) → Result Declared ReadError
 on_nexus n None step = Err (fault.UnknownName n)
 on_nexus n (Some x) step = step x
@@ -39,7 +39,7 @@ abbrev pub at_number : ℕ → Declared → Option ℕ → (ℕ → Declaration 
 at_number n d None step = Err (fault.UnknownName n)
 at_number n d (Some h) step = on_nexus n (slice_get d.nexuses h) (step h)
 
--- a step of the host or guest with this name
+-- a step of the nexus with this name
 abbrev pub at_name : ℕ → Declared → List ℕ → (ℕ → Declaration → Result Declared ReadError) → Result Declared ReadError
 at_name n d name step = at_number n d (number_of d.nexuses name) step
 

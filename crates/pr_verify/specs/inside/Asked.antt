@@ -11,7 +11,7 @@ use Rattle.pr_verify.specs.inside.Known.{AskTheSame, IsAnswer, IsAnswerAt, AreEq
 
 -- ---- questions
 
--- for each send there is a view, all of the same keys and of as many hosts and guests; the host is one of them, and the
+-- for each send there is a view, all of the same keys and of as many nexuses; the host is one of them, and the
 -- sends can stand in a text with those keys
 pub record AreAsked {S : Type 0} (room : S → ℕ) (q : Questions (ViewOf S)) : Type 0 where
   pub keys : List ℕ

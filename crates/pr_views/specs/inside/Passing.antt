@@ -5,7 +5,7 @@ use Rattle.pr_sets.specs.Words.{has}
 use Rattle.pr_views.specs.declared.portion.Portion.{Portion}
 use Rattle.pr_views.specs.Portions.{has_at}
 
--- some host or guest that is there has no registration left
+-- some nexus that is there has no registration left
 pub record LacksOne (hosts : ℕ) (words : List Word) : Type 0 where
   pub host : ℕ
   pub there : host < hosts

@@ -19,7 +19,7 @@ use Rattle.pr_world.specs.declared.sender.Sender.{Sender}
 use Rattle.pr_world.specs.declared.sender.Sender.TheVariants as sender
 use Rattle.pr_world.specs.Courses.{control_in, is_free, is_planned}
 
--- ---- one host or guest
+-- ---- one nexus
 
 -- the script's next command is spelled so, the unit may answer it so, and the script takes the reply
 pub record ScriptSends (k : Control) (u : UnitState) (e : Entry) (after : Control) (v : UnitState) : Type 0 where
@@ -77,7 +77,7 @@ abbrev pub IsTried : Scenario → World → Entry → Bool → World → Type 0
 IsTried s w e true v = Adds s w e v × ((x : World) → Adds s w e x → x ≡ v)
 IsTried s w e false v = (x : World) → Adds s w e x → ⊥
 
--- there is one host or guest for each that the scenario declares, and just the guests send what they like
+-- there is one nexus for each that the scenario declares, and just the guests send what they like
 pub record ActFor (s : Scenario) (w : World) : Type 0 where
   pub hosts : w.unit.registry.hosts ≡ length s.nexuses
   pub tasks : map is_free w.controls ≡ map (λ n. is_planned n.task) s.nexuses

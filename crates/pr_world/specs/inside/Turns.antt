@@ -1,4 +1,4 @@
--- What one host or guest does in its turn.
+-- What one nexus does in its turn.
 use Rattle.std.specs.Prelude.{◌≡◌, ℕ, Bool, true, false, if◌then◌else◌, List, [], ◌∷◌, Option, Some, None}
 use Rattle.pr_cdb.specs.declared.command.Command.{Command}
 use Rattle.pr_unit.specs.UnitStates.{UnitState}

@@ -5,7 +5,7 @@ use Rattle.pr_world.specs.declared.course.Course.{Course}
 use Rattle.pr_world.specs.Courses.{IsReached, StandsFor, schedule_of, participation_of}
 use Rattle.pr_world.specs.Rooms.{rooms}
 
--- Some turns led here from the first start. There is one host or guest for each that the scenario declares, and room for
+-- Some turns led here from the first start. There is one nexus for each that the scenario declares, and room for
 -- every command that can reach the unit.
 pub record IsAtWork (s : Scenario) (c : Course) : Type 0 where
   pub steps : List ℕ

@@ -1,4 +1,4 @@
--- A place among the hosts and guests is one among their names.
+-- A place among the nexuses is one among their names.
 use Rattle.std.proofs.Common.{sym, ◌∙◌}
 use Rattle.pr_report.proofs.EntryNames.{place_in_names}
 use Rattle.fence.proofs.steps.number_of.Goals as goal

@@ -3,6 +3,6 @@ use Rattle.pr_sets.specs.contracts.word_set.WordSetViewSet.TheImpl.{members-valu
 use Rattle.pr_verify.proofs.Tabled.{AreBeforeHost}
 use Rattle.pr_verify.proofs.table.tables.Given as goal
 
--- as after the hosts and guests before this one
+-- as after the nexuses before this one
 abbrev pub invariant-loop-host : goal.invariant-loop-host
 invariant-loop-host l = AreBeforeHost (scenario_of l.scenario) (members-value).it (room-value).it l.host l.tables.items
