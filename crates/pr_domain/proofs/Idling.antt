@@ -16,7 +16,7 @@ use Rattle.pr_unit.specs.UnitStates.{UnitState, IsWellFormed, is_pending, is_any
 use Rattle.pr_unit.specs.Conflicts.{command_conflicts}
 use Rattle.pr_unit.specs.Replies.{good, is_good, is_request_sense}
 use Rattle.pr_unit.specs.Steps.{Step, decision, ends_good}
-use Rattle.pr_unit.proofs.GoodFixed.{good_by_line}
+use Rattle.pr_unit.proofs.GoodFixed.{good_by_decision}
 use Rattle.pr_unit.proofs.GoodSteps.{good_effect, good_step}
 use Rattle.pr_roles.specs.declared.role.Clause.{Clause}
 use Rattle.pr_roles.specs.Permits.{is_always_permitted, clause_permits, command_permitted}
@@ -74,7 +74,7 @@ busy_is_not_good u h c false false is so busy looks = rw (busy, is, so) looks
 
 good_is_idle : (u : UnitState) (h : ℕ) (c : Command) (r : Reply) (w : UnitState) → Step u h (Plain c) r w → is_good r ≡ true → is_request_sense (Plain c) ≡ false → is_any_pending u h ≡ false
 good_is_idle u h c r w step good looks = false_from_ne_true (is_any_pending u h) (λ busy.
-    false≢true (sym (busy_is_not_good u h c (is_pending u h power_on) (command_conflicts u.registry h c) refl refl busy looks) ∙ sym (good_by_line u h (Plain c) r w step) ∙ good))
+    false≢true (sym (busy_is_not_good u h c (is_pending u h power_on) (command_conflicts u.registry h c) refl refl busy looks) ∙ sym (good_by_decision u h (Plain c) r w step) ∙ good))
 
 pub good_ends : (s : Scope) (u : UnitState) (c : Command) (r : Reply) (w : UnitState) → IsWellFormed u → Step u s.own (Plain c) r w → is_good r ≡ true → is_always_permitted c ≡ false → EndsGood s c u
 good_ends s u c r w formed step good looks =

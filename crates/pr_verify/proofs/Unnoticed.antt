@@ -15,7 +15,7 @@ use Rattle.pr_unit.specs.Conflicts.{conflicts}
 use Rattle.pr_unit.specs.Faults.{fault}
 use Rattle.pr_unit.specs.Replies.{is_good, report}
 use Rattle.pr_unit.specs.Steps.{Step}
-use Rattle.pr_unit.proofs.GoodFixed.{good_by_line}
+use Rattle.pr_unit.proofs.GoodFixed.{good_by_decision}
 use Rattle.pr_roles.specs.declared.role.Clause.{Clause}
 use Rattle.pr_roles.specs.Permits.{is_permitted}
 use Rattle.pr_domain.specs.Interference.{IsDone}
@@ -49,7 +49,7 @@ unnoticed role g u q r v step bad = at (is_pending u g power_on) (conflicts u.re
         inr (sensed s.code (senses u g s.code v p_is any_is s.pending s.after))
     at false false false (Some sense) p_is c_is any_is f_is = let s = rw (any_is, f_is, c_is, p_is) at step in inl s.1
     at false false false None p_is c_is any_is f_is =
-        let good = rw (any_is, f_is, c_is, p_is) at (good_by_line u g q r v step) in
+        let good = rw (any_is, f_is, c_is, p_is) at (good_by_decision u g q r v step) in
         absurd (false≢true (sym bad ∙ good))
 
 -- what a step is to the others

@@ -10,7 +10,7 @@ use Rattle.pr_unit.specs.UnitStates.{UnitState, is_pending, is_any_pending, repo
 use Rattle.pr_unit.specs.Replies.{good, check, report, is_request_sense}
 use Rattle.pr_unit.specs.Conflicts.{conflicts}
 use Rattle.pr_unit.specs.Faults.{fault}
-use Rattle.pr_unit.specs.Steps.{StepBy, Reports, IsDone, Step, last_line}
+use Rattle.pr_unit.specs.Steps.{StepBy, Reports, IsDone, Step, last_decision}
 
 -- two codes with one sense are one
 one_code : (c d : ℕ) → attention_sense c ≡ attention_sense d → c ≡ d
@@ -47,7 +47,7 @@ reported_fixed : (u : UnitState) (h : ℕ) (q : Request) (r : Reply) (v w : Unit
 reported_fixed u h q r v w one other =
     one.after ∙ (ap (reported u h) (one_report q one.code other.code (sym one.reply ∙ other.reply)) ∙ sym other.after)
 
-by_fault : (f : Option Sense) (u : UnitState) (h : ℕ) (q : Request) (r : Reply) (v w : UnitState) → StepBy (last_line f) u h q r v → StepBy (last_line f) u h q r w → v ≡ w
+by_fault : (f : Option Sense) (u : UnitState) (h : ℕ) (q : Request) (r : Reply) (v w : UnitState) → StepBy (last_decision f) u h q r v → StepBy (last_decision f) u h q r w → v ≡ w
 by_fault None u h q r v w one other = done_fixed u h q r v w one other
 by_fault (Some sense) u h q r v w one other = one.1 ∙ sym other.1
 

@@ -6,7 +6,7 @@ use Rattle.pr_cdb.specs.declared.wire.Request.TheVariants.{Plain}
 use Rattle.pr_cdb.specs.Requests.{plain, requested}
 use Rattle.pr_cdb.specs.Spelling.{spelling}
 use Rattle.pr_unit.specs.UnitStates.{UnitState}
-use Rattle.pr_unit.proofs.GoodFixed.{good_by_line}
+use Rattle.pr_unit.proofs.GoodFixed.{good_by_decision}
 use Rattle.pr_script.specs.Scripts.{Standing, ready, stopped}
 use Rattle.pr_roles.specs.declared.entry.Entry.{Entry}
 use Rattle.pr_roles.specs.Scenarios.{Scenario, Task, Scripted, Planned, role}
@@ -72,7 +72,7 @@ guest_sends s false u v xs es h c (Some e) x y there seated guest free still hel
         reply = e.reply;
         unit = v;
         step = acts.sent.step;
-        permitted = λ good. permitted_if_good _ _ held (sym (good_by_line u h (Plain c) e.reply v acts.sent.step) ∙ good);
+        permitted = λ good. permitted_if_good _ _ held (sym (good_by_decision u h (Plain c) e.reply v acts.sent.step) ∙ good);
         world = world_after u v xs es h 0 c e x y (at_seat xs h x there seated) acts.sent (still ∙ ap (λ k. taken 0 k e.reply) (sym free));
       };
       sender = ap (λ f. f.host) acts.sent.entry;
