@@ -4,6 +4,7 @@ use Rattle.pr_cdb.specs.declared.command.Kind.{Kind}
 use Rattle.pr_cdb.specs.declared.command.Kind.TheVariants.{WriteExclusive, ExclusiveAccess, WriteExclusiveRegistrantsOnly, ExclusiveAccessRegistrantsOnly, WriteExclusiveAllRegistrants, ExclusiveAccessAllRegistrants}
 use Rattle.pr_cdb.specs.declared.command.Command.{Command}
 use Rattle.pr_cdb.specs.declared.reply.Sense.{Sense}
+use Rattle.pr_cdb.specs.declared.codes.TheConstants.{LOGICAL_BLOCK_ADDRESS_OUT_OF_RANGE}
 use Rattle.pr_registry.specs.declared.held.Held.{Held}
 use Rattle.pr_registry.specs.Registrations.{State, is_registered, is_holder, kind_of}
 use Rattle.pr_registry.specs.Changes.{no_change}
@@ -74,7 +75,7 @@ writes_conflict s p held sender standing u c m = ap (λ v. access_conflicts u.re
 pub record IsMove (p : Purpose) (kept in_range : Bool) (held : Option Held) (sender : ℕ) (standing : Standing) : Type 0 where
   numbered : HasNumber p
   conflicts : (s : Scope) (u : UnitState) (c : Command) → Meets s p held sender standing u c → conflicts_for s.keys u.registry sender p ≡ kept
-  faults : (u : State) → fault_for u sender p ≡ (if in_range then None else Some (illegal 0x21 0x00))
+  faults : (u : State) → fault_for u sender p ≡ (if in_range then None else Some (illegal LOGICAL_BLOCK_ADDRESS_OUT_OF_RANGE 0))
   stays : (keys : List ℕ) (u : State) → after_for keys u sender p ≡ u
   tells : (keys : List ℕ) (u : State) → change_for keys u sender p ≡ no_change
 
@@ -90,14 +91,14 @@ is_write kept in_range held sender standing is =
 
 module _ (hosts : ℕ) (p : Purpose) (kept in_range : Bool) (held : Option Held) (sender : ℕ) (standing : Standing) (is : IsMove p kept in_range held sender standing) where
   abbrev faulty : Bool → Option Sense
-  faulty b = if b then None else Some (illegal 0x21 0x00)
+  faulty b = if b then None else Some (illegal LOGICAL_BLOCK_ADDRESS_OUT_OF_RANGE 0)
 
   pub move_conflicts : kept ≡ true → AlwaysEnds hosts p held sender standing Conflict
   move_conflicts kept_out = record { ends = λ s u c alike m. conflict_ends s p held sender standing u c is.numbered m (is.conflicts s u c m ∙ kept_out); fits = tt }
 
-  pub move_fails : kept ≡ false → in_range ≡ false → AlwaysEnds hosts p held sender standing (Fault (illegal 0x21 0x00))
+  pub move_fails : kept ≡ false → in_range ≡ false → AlwaysEnds hosts p held sender standing (Fault (illegal LOGICAL_BLOCK_ADDRESS_OUT_OF_RANGE 0))
   move_fails free beyond = record {
-    ends = λ s u c alike m. fault_ends s p held sender standing u c (illegal 0x21 0x00) is.numbered m (is.conflicts s u c m ∙ free) (is.faults u.registry ∙ ap faulty beyond);
+    ends = λ s u c alike m. fault_ends s p held sender standing u c (illegal LOGICAL_BLOCK_ADDRESS_OUT_OF_RANGE 0) is.numbered m (is.conflicts s u c m ∙ free) (is.faults u.registry ∙ ap faulty beyond);
     fits = tt;
   }
 

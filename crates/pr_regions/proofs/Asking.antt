@@ -12,6 +12,7 @@ use Rattle.pr_cdb.specs.declared.command.Kind.{Kind}
 use Rattle.pr_cdb.specs.declared.command.Command.{Command}
 use Rattle.pr_cdb.specs.declared.command.Command.TheVariants as command
 use Rattle.pr_cdb.specs.declared.reply.Sense.{Sense}
+use Rattle.pr_cdb.specs.declared.codes.TheConstants.{LOGICAL_BLOCK_ADDRESS_OUT_OF_RANGE, INVALID_FIELD_IN_PARAMETER_LIST}
 use Rattle.pr_registry.specs.declared.change.Change.{Change}
 use Rattle.pr_registry.specs.Hosts.{has_no_registrant, is_key}
 use Rattle.pr_registry.specs.Registrations.{State, key_of, is_registered}
@@ -45,14 +46,14 @@ conflicts_for keys u h (Preempt j t) = has_no_registrant u.keys (key_named keys 
 -- its own fault
 abbrev pub fault_for : State → ℕ → Purpose → Option Sense
 fault_for u h Look = None
-fault_for u h (Read ranges) = if ranges then None else Some (illegal 0x21 0x00)
-fault_for u h (Write ranges) = if ranges then None else Some (illegal 0x21 0x00)
+fault_for u h (Read ranges) = if ranges then None else Some (illegal LOGICAL_BLOCK_ADDRESS_OUT_OF_RANGE 0)
+fault_for u h (Write ranges) = if ranges then None else Some (illegal LOGICAL_BLOCK_ADDRESS_OUT_OF_RANGE 0)
 fault_for u h (Register j) = None
 fault_for u h Unregister = None
 fault_for u h (Reserve t) = None
 fault_for u h (Release t) = release_fault u h t
 fault_for u h Clear = None
-fault_for u h (PreemptAll t) = if not (is_held_by_all u.held) then Some (illegal 0x26 0x00) else None
+fault_for u h (PreemptAll t) = if not (is_held_by_all u.held) then Some (illegal INVALID_FIELD_IN_PARAMETER_LIST 0) else None
 fault_for u h (Preempt j t) = None
 
 -- the registry once it has ended GOOD
@@ -157,13 +158,13 @@ named_as keys k n there = ap (λ o. unwrap_or o 0) there
 purpose_in : (p q : Purpose) → Some p ≡ Some q → p ≡ q
 purpose_in p q same = cc
 
-range : (lba blocks : ℕ) → range_fault lba blocks ≡ (if is_in_range lba blocks then None else Some (illegal 0x21 0x00))
+range : (lba blocks : ℕ) → range_fault lba blocks ≡ (if is_in_range lba blocks then None else Some (illegal LOGICAL_BLOCK_ADDRESS_OUT_OF_RANGE 0))
 range lba blocks = at (nat_le (lba + blocks) CAPACITY) (nat_lt CAPACITY (lba + blocks)) (turned (lba + blocks) CAPACITY)
   where
     turned : (a b : ℕ) → nat_lt b a ≡ not (nat_le a b)
     turned a b = grind (arith, nat_tests)
 
-    at : (within beyond : Bool) → beyond ≡ not within → (if beyond then Some (illegal 0x21 0x00) else None) ≡ (if within then None else Some (illegal 0x21 0x00))
+    at : (within beyond : Bool) → beyond ≡ not within → (if beyond then Some (illegal LOGICAL_BLOCK_ADDRESS_OUT_OF_RANGE 0) else None) ≡ (if within then None else Some (illegal LOGICAL_BLOCK_ADDRESS_OUT_OF_RANGE 0))
     at true beyond is = rw is refl
     at false beyond is = rw is refl
 
@@ -251,8 +252,8 @@ preempts keys u h rk sark t p has same accepted = at (sark == 0) refl p has (pur
     free : preempt_conflicts u h rk sark ≡ (not (sark == 0) && has_no_registrant u.keys sark)
     free = accepts u h rk (not (sark == 0) && has_no_registrant u.keys sark) accepted
 
-    faults : (b : Bool) → (sark == 0) ≡ b → preempt_fault u sark (Some t) ≡ (if b && not (is_held_by_all u.held) then Some (illegal 0x26 0x00) else None)
-    faults b is = ap (λ z. if z && not (is_held_by_all u.held) then Some (illegal 0x26 0x00) else None) is
+    faults : (b : Bool) → (sark == 0) ≡ b → preempt_fault u sark (Some t) ≡ (if b && not (is_held_by_all u.held) then Some (illegal INVALID_FIELD_IN_PARAMETER_LIST 0) else None)
+    faults b is = ap (λ z. if z && not (is_held_by_all u.held) then Some (illegal INVALID_FIELD_IN_PARAMETER_LIST 0) else None) is
 
     at : (b : Bool) → (sark == 0) ≡ b → (p : Purpose) → HasNumber p → (if b then PreemptAll t else Preempt (number_in keys sark) t) ≡ p
         → IsAsked keys u h p (preempt_conflicts u h rk sark) (preempt_fault u sark (Some t)) (preempted u h sark (Some t)) (change_on_preempt u h sark (Some t))

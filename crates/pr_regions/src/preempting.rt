@@ -2,6 +2,7 @@
 
 ghost use Rattle.std.specs.Prelude.{◌≡◌, ◌≢◌, ◌≤◌, ◌<◌, ◌==◌, ℕ, IsTrue, Some, None, false, true, not};
 ghost use Rattle.pr_cdb.specs.declared.command.Kind.{Kind as KindOf};
+ghost use Rattle.pr_cdb.specs.declared.codes.TheConstants.{MOST_NEXUSES};
 ghost use Rattle.pr_registry.specs.Registrations.{established, is_all};
 ghost use Rattle.pr_registry.specs.Changes.{is_kind, is_held_by_all};
 ghost use Rattle.pr_roles.specs.Fitting.{is_reservation};
@@ -22,7 +23,7 @@ use pr_sets::Word;
 
 // What changes where the key is the single holder's: the reservation is replaced.
 fn replaced(hosts: u8, key: u8, old: Kind, kind: Kind, sender: u8) -> Change
-    requires few { hosts ≤ 8 }
+    requires few { hosts ≤ MOST_NEXUSES }
     requires there { sender < hosts }
     requires key { key ≤ 12 }
     ensures change { Does result None (only key) (number_of hosts (Some (established kind sender)))
@@ -58,7 +59,7 @@ fn removed(key: u8, is_own: bool, reservation: u8) -> Change
 
 // Another's key, which no single holder but the sender has: there is a conflict where nobody has it.
 fn preempting_others(hosts: u8, key: u8, held: Option<Held>) -> ArrayVec<Branch, 3>
-    requires few { hosts ≤ 8 }
+    requires few { hosts ≤ MOST_NEXUSES }
     requires fits { IsTrue (is_reservation hosts held) }
     requires key { (1 ≤ key) × (key ≤ 12) }
     ensures { (kind : KindOf) (sender : ℕ) (standing : Standing) → is_named standing ≡ false → IsNotAnothers held sender
@@ -83,7 +84,7 @@ fn preempting_others(hosts: u8, key: u8, held: Option<Held>) -> ArrayVec<Branch,
 
 // The key where no reservation stands.
 fn preempting_unheld(hosts: u8, key: u8, standing: Standing) -> ArrayVec<Branch, 3>
-    requires few { hosts ≤ 8 }
+    requires few { hosts ≤ MOST_NEXUSES }
     requires key { (1 ≤ key) × (key ≤ 12) }
     ensures { (kind : KindOf) (sender : ℕ) → Tell hosts (Purpose.Preempt key kind) None sender standing result.items }
 {
@@ -96,7 +97,7 @@ fn preempting_unheld(hosts: u8, key: u8, standing: Standing) -> ArrayVec<Branch,
 
 // The sender's own key where all registrants hold: the reservation ends with the last of them.
 fn preempting_own(hosts: u8, key: u8, held: Option<Held>) -> ArrayVec<Branch, 3>
-    requires few { hosts ≤ 8 }
+    requires few { hosts ≤ MOST_NEXUSES }
     requires fits { IsTrue (is_reservation hosts held) }
     requires all { is_held_by_all held ≡ true }
     requires key { (1 ≤ key) × (key ≤ 12) }
@@ -130,7 +131,7 @@ fn preempting_holder(
     sender: u8,
     standing: Standing,
 ) -> ArrayVec<Branch, 3>
-    requires few { hosts ≤ 8 }
+    requires few { hosts ≤ MOST_NEXUSES }
     requires there { sender < hosts }
     requires fits { IsTrue (is_reservation hosts (Some (Held.One old holder))) }
     requires apart { holder ≢ sender }
@@ -183,7 +184,7 @@ fn preempting_single(
     sender: u8,
     standing: Standing,
 ) -> ArrayVec<Branch, 3>
-    requires few { hosts ≤ 8 }
+    requires few { hosts ≤ MOST_NEXUSES }
     requires there { sender < hosts }
     requires fits { IsTrue (is_reservation hosts (Some (Held.One old holder))) }
     requires key { (1 ≤ key) × (key ≤ 12) }
@@ -200,7 +201,7 @@ fn preempting_single(
 
 // The key where all registrants hold.
 fn preempting_registrants(hosts: u8, key: u8, old: Kind, standing: Standing) -> ArrayVec<Branch, 3>
-    requires few { hosts ≤ 8 }
+    requires few { hosts ≤ MOST_NEXUSES }
     requires fits { IsTrue (is_reservation hosts (Some (Held.All old))) }
     requires key { (1 ≤ key) × (key ≤ 12) }
     ensures { (kind : KindOf) (sender : ℕ) → Tell hosts (Purpose.Preempt key kind) (Some (Held.All old)) sender standing result.items }
@@ -222,7 +223,7 @@ pub(crate) fn preempting(
     sender: u8,
     standing: Standing,
 ) -> ArrayVec<Branch, 3>
-    requires few { hosts ≤ 8 }
+    requires few { hosts ≤ MOST_NEXUSES }
     requires there { sender < hosts }
     requires fits { IsTrue (is_reservation hosts held) }
     requires key { (1 ≤ key) × (key ≤ 12) }

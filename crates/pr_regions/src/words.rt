@@ -4,22 +4,20 @@ ghost use Rattle.std.specs.Prelude.{◌≡◌, ◌≤◌, ◌==◌, ◌&&◌, �
 ghost use Rattle.pr_regions.specs.inside.Parts.{HasThose, any, never, registered, but, another, free_or};
 
 use pr_sets::Word;
-
-// None, and each of 12 keys.
-const REGISTRATIONS: u8 = 13;
+use pr_views::MOST_REGISTRATIONS;
 
 // Every registration.
 pub(crate) fn anything() -> Word
     ensures { HasThose result any }
 {
-    Word::below(REGISTRATIONS)
+    Word::below(MOST_REGISTRATIONS)
 }
 
 // Every key.
 pub(crate) fn registered() -> Word
     ensures { HasThose result registered }
 {
-    Word::below(REGISTRATIONS).without(0)
+    Word::below(MOST_REGISTRATIONS).without(0)
 }
 
 // Every registration but this one.
@@ -27,7 +25,7 @@ pub(crate) fn anything_but(registration: u8) -> Word
     requires { registration ≤ 12 }
     ensures { HasThose result (but registration) }
 {
-    Word::below(REGISTRATIONS).without(registration)
+    Word::below(MOST_REGISTRATIONS).without(registration)
 }
 
 // Every key but the one of this number.
