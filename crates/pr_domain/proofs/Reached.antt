@@ -7,6 +7,7 @@ use Rattle.std.proofs.lemmas.Option.{same_Some, slice_get_within, get_or_from_sl
 use Rattle.std.specs.Prelude.{get_or, slice_index_or}
 use Rattle.pr_cdb.specs.declared.command.Kind.{Kind}
 use Rattle.pr_cdb.specs.declared.reply.Sense.{Sense}
+use Rattle.pr_cdb.specs.declared.codes.TheConstants.{MOST_NEXUSES, INVALID_FIELD_IN_PARAMETER_LIST}
 use Rattle.pr_registry.specs.declared.held.Held.{Held}
 use Rattle.pr_registry.specs.declared.held.Held.TheVariants.{One, All}
 use Rattle.pr_registry.specs.Registrations.{IsKey, key_of, is_registered, established, holds_alone, kind_of}
@@ -131,7 +132,7 @@ module _ (s : Scope) (o : Onlooker) (place : Place) (clause : Clause) (reach : R
       → (is_held_by_all place.held ≡ true → (r : ℕ) → 1 ≤ r → r ≤ 12 → has reach.told_05 r ≡ true) → IsReachAt s o.view clause place reach
   preempt_all_reach key t acts zero_is removes takes tells u w led =
       let known = served u w (action.Preempt 0 t) (PreemptAll t) led (acts ∙ ap (λ k. action.Preempt k t) zero_is) refl in
-      let all = by_all (illegal 0x26 0x00) (is_held_by_all u.registry.held) known.whole in
+      let all = by_all (illegal INVALID_FIELD_IN_PARAMETER_LIST 0) (is_held_by_all u.registry.held) known.whole in
       let here : is_held_by_all place.held ≡ true = ap is_held_by_all (sym (stands u w led)) ∙ all in
       within u w (PreemptAll t) known
       (preempt_all_within s place.sender reach u few is.other t all (removes here) (subst (λ n. has reach.reservations (number_of n (Some (established t place.sender))) ≡ true) (sym is.known.hosts) (takes here)) (tells here))
@@ -287,7 +288,7 @@ module _ (s : Scope) (o : Onlooker) (clause : Clause) (reach : Reach) (is : IsOn
   -- these possibilities have what the reach makes of those before
   pub record AreWithin (most : Possibilities) : Type 0 where
     pub given : (n : ℕ) → has reach.given n ≡ true → has_at most.registrations o.other n ≡ true
-    pub freed : (g r : ℕ) → g < 8 → g ≢ o.other → has_at o.view.registrations g r ≡ true → has reach.removed r ≡ true → has_at most.registrations g 0 ≡ true
+    pub freed : (g r : ℕ) → g < MOST_NEXUSES → g ≢ o.other → has_at o.view.registrations g r ≡ true → has reach.removed r ≡ true → has_at most.registrations g 0 ≡ true
     pub reservations : (x : ℕ) → has reach.reservations x ≡ true → has most.reservations x ≡ true
     pub pending : (r q n : ℕ) → has_at o.view.registrations s.own r ≡ true → has o.view.pending q ≡ true → q < 16 → IsTold reach r q n → has most.pending n ≡ true
 
@@ -324,7 +325,7 @@ module _ (s : Scope) (o : Onlooker) (clause : Clause) (reach : Reach) (is : IsOn
           let found = within_it.others g seen.0 apart seen.1.1 in
           (found.0, found.1, at found.0 seen.0 seen.1.0.1 seen.1.1 found.2)
         where
-          below : g < 8
+          below : g < MOST_NEXUSES
           below = let most_hosts = is.fits.scope.hosts.1 in omega arith
 
           at : (n r : ℕ) → has_at o.view.registrations g r ≡ true → IsSo s u (Registration g r) → (n ≡ r) ⊎ ((n ≡ 0) × (has reach.removed r ≡ true))

@@ -1,6 +1,7 @@
 //! What a command gives, removes and tells at most.
 
 ghost use Rattle.std.specs.Prelude.{◌≡◌, ◌<◌, ◌≤◌, ◌||◌, ◌&&◌, ℕ, Some, None, true};
+ghost use Rattle.pr_cdb.specs.declared.codes.TheConstants.{MOST_NEXUSES};
 ghost use Rattle.pr_registry.specs.Registrations.{established, holds_alone, is_for_registrants as is_for_registrants_as};
 ghost use Rattle.pr_registry.specs.Changes.{is_held_by_all, is_told_of_loss};
 ghost use Rattle.pr_sets.specs.Words.{has};
@@ -96,7 +97,7 @@ impl Reach {
 
     /// To establish a reservation of this type.
     pub(crate) fn of_reserving(place: &Place, kind: Kind) -> Reach
-        requires hosts { place.now.hosts ≤ 8 }
+        requires hosts { place.now.hosts ≤ MOST_NEXUSES }
         requires sender { place.now.sender < place.now.hosts }
         ensures { place.now.held ≡ None → has result.reservations (number_of place.now.hosts (Some (established kind place.now.sender))) ≡ true }
     {
@@ -147,7 +148,7 @@ impl Reach {
 
     /// To preempt all others, where all registrants hold.
     pub(crate) fn of_preempting_all(place: &Place, kind: Kind) -> Reach
-        requires hosts { place.now.hosts ≤ 8 }
+        requires hosts { place.now.hosts ≤ MOST_NEXUSES }
         requires sender { place.now.sender < place.now.hosts }
         ensures removed { is_held_by_all place.now.held ≡ true → (r : ℕ) → 1 ≤ r → r ≤ 12 → has result.removed r ≡ true }
         ensures reservations { is_held_by_all place.now.held ≡ true → has result.reservations (number_of place.now.hosts (Some (established kind place.now.sender))) ≡ true }
@@ -168,7 +169,7 @@ impl Reach {
 impl Place {
     /// The reservation of this type that the sender establishes.
     pub(crate) fn established(&self, kind: Kind) -> Word
-        requires hosts { self.now.hosts ≤ 8 }
+        requires hosts { self.now.hosts ≤ MOST_NEXUSES }
         requires sender { self.now.sender < self.now.hosts }
         ensures { has result (number_of self.now.hosts (Some (established kind self.now.sender))) ≡ true }
     {

@@ -25,16 +25,17 @@ use crate::landing::Class;
 use crate::place::Place;
 use crate::tally::Tally;
 use pr_cdb::Command;
+use pr_cdb::codes::MOST_NEXUSES;
 use pr_regions::{
     Branch, Change, Ending, Purpose, Reading, Region, branches, is_refused, purpose_of, readings,
     reservation_at, standing_of,
 };
 use pr_script::Test;
 use pr_sets::Word;
-use pr_views::Possibilities;
+use pr_views::{MOST_REGISTRATIONS, Possibilities};
 
 // These registrations under this reservation.
-fn part(registrations: [Word; 8], reservation: u8) -> Possibilities
+fn part(registrations: [Word; MOST_NEXUSES], reservation: u8) -> Possibilities
     requires { reservation < 64 }
     ensures registrations { result.registrations ≡ registrations }
     ensures reservations { (x : ℕ) → has result.reservations x ≡ (x == reservation) }
@@ -55,7 +56,7 @@ fn add_branch(
     branch: &Branch,
     arm: usize,
 )
-    requires hosts { (1 ≤ place.hosts) × (place.hosts ≤ 8) }
+    requires hosts { (1 ≤ place.hosts) × (place.hosts ≤ MOST_NEXUSES) }
     requires sender { place.sender < place.hosts }
     requires reservation { place.reservation < count_of_reservations place.hosts }
     requires room { HasRoom place.hosts branch.now.ending }
@@ -89,7 +90,7 @@ fn add_branches(
     branches: &[Branch],
     arm: usize,
 )
-    requires hosts { (1 ≤ place.hosts) × (place.hosts ≤ 8) }
+    requires hosts { (1 ≤ place.hosts) × (place.hosts ≤ MOST_NEXUSES) }
     requires sender { place.sender < place.hosts }
     requires reservation { place.reservation < count_of_reservations place.hosts }
     requires room { All (λ b. HasRoom place.hosts b.ending) branches.now }
@@ -112,7 +113,7 @@ fn add_accepted(
     arm: usize,
     registration: u8,
 )
-    requires hosts { (1 ≤ place.hosts) × (place.hosts ≤ 8) }
+    requires hosts { (1 ≤ place.hosts) × (place.hosts ≤ MOST_NEXUSES) }
     requires sender { place.sender < place.hosts }
     requires reservation { place.reservation < count_of_reservations place.hosts }
     requires held { IsTrue (is_reservation place.hosts place.held) }
@@ -128,13 +129,13 @@ fn add_accepted(
 
 // Adds those in which its reservation key is not accepted.
 fn add_refused(tally: &mut Tally, view: &Possibilities, place: Place, registration: u8)
-    requires hosts { (1 ≤ place.hosts) × (place.hosts ≤ 8) }
+    requires hosts { (1 ≤ place.hosts) × (place.hosts ≤ MOST_NEXUSES) }
     requires sender { place.sender < place.hosts }
     requires reservation { place.reservation < count_of_reservations place.hosts }
     requires registration { registration ≤ 12 }
     ensures { (s : Scope) (c : CommandOf) (tests : List TestOf) → IsRefusedAt s c view.now place registration → Grows (view_in s view.now) c tests tally.old tally.new (HasBoth s place registration) }
 {
-    let anything = Word::below(13);
+    let anything = Word::below(MOST_REGISTRATIONS);
     let region = Region {
         holder: anything,
         others: anything,
@@ -168,7 +169,7 @@ fn is_tallied(
     region: &Region,
     arm: usize,
 ) -> bool
-    requires hosts { (1 ≤ place.hosts) × (place.hosts ≤ 8) }
+    requires hosts { (1 ≤ place.hosts) × (place.hosts ≤ MOST_NEXUSES) }
     requires sender { place.sender < place.hosts }
     requires reservation { place.reservation < count_of_reservations place.hosts }
     requires arm { arm ≤ 16 }
@@ -187,7 +188,7 @@ fn add_reading(
     registration: u8,
     reading: &Reading,
 )
-    requires hosts { (1 ≤ place.hosts) × (place.hosts ≤ 8) }
+    requires hosts { (1 ≤ place.hosts) × (place.hosts ≤ MOST_NEXUSES) }
     requires sender { place.sender < place.hosts }
     requires reservation { place.reservation < count_of_reservations place.hosts }
     requires registration { registration ≤ 12 }
@@ -222,7 +223,7 @@ fn add_readings(
     registration: u8,
     readings: &[Reading],
 )
-    requires hosts { (1 ≤ place.hosts) × (place.hosts ≤ 8) }
+    requires hosts { (1 ≤ place.hosts) × (place.hosts ≤ MOST_NEXUSES) }
     requires sender { place.sender < place.hosts }
     requires reservation { place.reservation < count_of_reservations place.hosts }
     requires registration { registration ≤ 12 }
@@ -265,7 +266,7 @@ fn add_registration(
     tests: &[Test],
     registration: u8,
 )
-    requires hosts { (1 ≤ place.hosts) × (place.hosts ≤ 8) }
+    requires hosts { (1 ≤ place.hosts) × (place.hosts ≤ MOST_NEXUSES) }
     requires sender { place.sender < place.hosts }
     requires reservation { place.reservation < count_of_reservations place.hosts }
     requires held { IsTrue (is_reservation place.hosts place.held) }
@@ -303,7 +304,7 @@ fn add_place(
     command: Command,
     tests: &[Test],
 )
-    requires hosts { (1 ≤ place.hosts) × (place.hosts ≤ 8) }
+    requires hosts { (1 ≤ place.hosts) × (place.hosts ≤ MOST_NEXUSES) }
     requires sender { place.sender < place.hosts }
     requires reservation { place.reservation < count_of_reservations place.hosts }
     requires held { IsTrue (is_reservation place.hosts place.held) }
@@ -335,7 +336,7 @@ fn add_reservation(
     command: Command,
     tests: &[Test],
 )
-    requires hosts { (1 ≤ place.hosts) × (place.hosts ≤ 8) }
+    requires hosts { (1 ≤ place.hosts) × (place.hosts ≤ MOST_NEXUSES) }
     requires sender { place.sender < place.hosts }
     requires reservation { place.reservation < count_of_reservations place.hosts }
     requires held { IsTrue (is_reservation place.hosts place.held) }
@@ -364,7 +365,7 @@ pub(crate) fn tally(
     command: Command,
     tests: &[Test],
 ) -> Tally
-    requires hosts { (1 ≤ hosts) × (hosts ≤ 8) }
+    requires hosts { (1 ≤ hosts) × (hosts ≤ MOST_NEXUSES) }
     requires own { own < hosts }
     requires keys { AreDeclared keys.now }
     requires few_keys { length keys.now ≤ 12 }
