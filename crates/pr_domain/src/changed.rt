@@ -1,6 +1,7 @@
 //! What a change makes of the registrations and the attentions of some states.
 
 ghost use Rattle.std.specs.Prelude.{◌≡◌, ◌≤◌, ◌<◌, ℕ, unwrap_or, bit_or};
+ghost use Rattle.pr_roles.specs.declared.limits.TheConstants.{MOST_KEYS};
 ghost use Rattle.pr_sets.specs.Words.{has};
 ghost use Rattle.pr_views.specs.Portions.{has_at};
 ghost use Rattle.pr_domain.specs.inside.Images.{IsImage, first, left, becomes, mark as mark_of, AreTold};
@@ -16,7 +17,7 @@ pub(crate) fn registrations_after(
     sender: u8,
     change: &Change,
 ) -> [Word; MOST_NEXUSES]
-    requires { unwrap_or change.now.sender 0 ≤ 12 }
+    requires { unwrap_or change.now.sender 0 ≤ MOST_KEYS }
     ensures { (g : ℕ) → IsImage (has_at words.now g) (becomes sender change.now g) (has_at result g) }
 {
     let mut after = *words;
@@ -33,7 +34,7 @@ pub(crate) fn registrations_after(
 
 // The sender's: another one where the change gives it.
 fn given(word: Word, to: Option<u8>) -> Word
-    requires { unwrap_or to 0 ≤ 12 }
+    requires { unwrap_or to 0 ≤ MOST_KEYS }
     ensures { IsImage (has word) (λ r. unwrap_or to r) (has result) }
 {
     match to {

@@ -3,6 +3,7 @@
 ghost use Rattle.std.specs.Prelude.{◌≡◌, ◌≢◌, ◌<◌, ◌≤◌, ℕ, true, false, length, IsTrue, IfOk, Some};
 ghost use Rattle.std.specs.List.{All};
 ghost use Rattle.pr_cdb.specs.declared.codes.TheConstants.{MOST_NEXUSES};
+ghost use Rattle.pr_roles.specs.declared.limits.TheConstants.{MOST_KEYS};
 ghost use Rattle.pr_roles.specs.Fitting.{is_action, is_reservation, is_role};
 ghost use Rattle.pr_sets.specs.Words.{has};
 ghost use Rattle.pr_views.specs.Possibilities.{Scope, count_of_reservations};
@@ -31,7 +32,7 @@ impl Onlooker {
         requires hosts { (1 ≤ self.now.hosts) × (self.now.hosts ≤ MOST_NEXUSES) }
         requires own { self.now.own < self.now.hosts }
         requires other { self.now.other < self.now.hosts }
-        requires keys { length keys.now ≤ 12 }
+        requires keys { length keys.now ≤ MOST_KEYS }
         requires actions { All (IsClause keys.now) clauses.now }
         ensures { (s : Scope) → IsOnlooking s self.now → s.keys ≡ keys.now → IsInterference (view_in s self.now.view) clauses.now self.now.other (view_in s result) }
     {
@@ -46,7 +47,7 @@ impl Onlooker {
         requires hosts { (1 ≤ self.now.hosts) × (self.now.hosts ≤ MOST_NEXUSES) }
         requires own { self.now.own < self.now.hosts }
         requires other { self.now.other < self.now.hosts }
-        requires keys { length keys.now ≤ 12 }
+        requires keys { length keys.now ≤ MOST_KEYS }
         requires actions { All (IsClause keys.now) clauses.now }
         ensures { (s : Scope) → IsOnlooking s self.now → s.keys ≡ keys.now → Adds s answer.old answer.new (λ u w. Among (length clauses.now) clauses.now (λ clause. FirstLeads (count_of_reservations self.now.hosts) (view_in s self.now.view) clause self.now.other u w)) (λ i. Among (length clauses.now) clauses.now (λ clause. ClauseLeaves (view_in s self.now.view) clause self.now.other i)) }
     {
@@ -61,7 +62,7 @@ impl Onlooker {
         requires hosts { (1 ≤ self.now.hosts) × (self.now.hosts ≤ MOST_NEXUSES) }
         requires own { self.now.own < self.now.hosts }
         requires other { self.now.other < self.now.hosts }
-        requires keys { length keys.now ≤ 12 }
+        requires keys { length keys.now ≤ MOST_KEYS }
         requires action { IsClause keys.now clause.now }
         ensures { (s : Scope) → IsOnlooking s self.now → s.keys ≡ keys.now → Adds s answer.old answer.new (FirstLeads (count_of_reservations self.now.hosts) (view_in s self.now.view) clause.now self.now.other) (ClauseLeaves (view_in s self.now.view) clause.now self.now.other) }
     {
@@ -83,7 +84,7 @@ impl Onlooker {
         requires hosts { (1 ≤ place.now.hosts) × (place.now.hosts ≤ MOST_NEXUSES) }
         requires sender { place.now.sender < place.now.hosts }
         requires held { IsTrue (is_reservation place.now.hosts place.now.held) }
-        requires keys { length keys.now ≤ 12 }
+        requires keys { length keys.now ≤ MOST_KEYS }
         requires action { is_action keys.now clause.now.action ≡ true }
         ensures { (s : Scope) → IsWatched s self.now place.now → s.keys ≡ keys.now → Adds s answer.old answer.new (PlaceLeads (view_in s self.now.view) clause.now place.now.sender place.now.reservation) (ClauseLeaves (view_in s self.now.view) clause.now place.now.sender) }
     {

@@ -3,6 +3,7 @@
 ghost use Rattle.std.specs.Prelude.{◌≡◌, ◌≤◌, ◌<◌, ◌+◌, ◌*◌, ℕ, true, None, IfSome, IfNone, IsTrue};
 ghost use Rattle.pr_cdb.specs.declared.codes.TheConstants.{MOST_NEXUSES};
 ghost use Rattle.pr_unit.specs.UnitStates.{UnitState};
+ghost use Rattle.pr_roles.specs.declared.limits.TheConstants.{MOST_KEYS};
 ghost use Rattle.pr_roles.specs.Fitting.{is_reservation};
 ghost use Rattle.pr_sets.specs.Words.{has};
 ghost use Rattle.pr_views.specs.Possibilities.{Scope, number_of, count_of_reservations};
@@ -96,8 +97,8 @@ impl Place {
 
 // The region of every state.
 fn everything() -> Region
-    ensures holder { (r : ℕ) → r ≤ 12 → has result.holder r ≡ true }
-    ensures others { (r : ℕ) → r ≤ 12 → has result.others r ≡ true }
+    ensures holder { (r : ℕ) → r ≤ MOST_KEYS → has result.holder r ≡ true }
+    ensures others { (r : ℕ) → r ≤ MOST_KEYS → has result.others r ≡ true }
     ensures somebody { result.somebody ≡ None }
 {
     let all = Word::below(MOST_REGISTRATIONS);

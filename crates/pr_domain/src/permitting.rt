@@ -4,6 +4,7 @@ ghost use Rattle.std.specs.Prelude.{◌≡◌, ◌<◌, ◌≤◌, ◌↔◌, Is
 ghost use Rattle.std.specs.List.{list_any, All};
 ghost use Rattle.pr_cdb.specs.declared.codes.TheConstants.{MOST_NEXUSES};
 ghost use Rattle.pr_script.specs.Grammar.{is_written};
+ghost use Rattle.pr_roles.specs.declared.limits.TheConstants.{MOST_KEYS};
 ghost use Rattle.pr_sets.specs.Words.{has};
 ghost use Rattle.pr_roles.specs.Permits.{is_always_permitted};
 ghost use Rattle.pr_views.specs.Possibilities.{Scope, Reservation, IsSo, key_at};
@@ -130,7 +131,7 @@ fn is_permitted_with(
 ) -> bool
     requires asking { IsAsking keys.now place.hosts place.sender command view.now }
     requires place { IsPlace (scope_at keys.now place.hosts place.sender) view.now place }
-    requires registration { registration ≤ 12 }
+    requires registration { registration ≤ MOST_KEYS }
     ensures permitted { IsTrue result → ArePermitted (view_in (scope_at keys.now place.hosts place.sender) view.now) clauses.now command (HasBoth (scope_at keys.now place.hosts place.sender) place registration) }
     ensures refused { result ≡ false → IsOneRefused (view_in (scope_at keys.now place.hosts place.sender) view.now) clauses.now command (HasBoth (scope_at keys.now place.hosts place.sender) place registration) }
 {

@@ -4,6 +4,7 @@ ghost use Rattle.std.specs.Prelude.{◌≡◌, ◌<◌, ◌≤◌, ℕ, Bool, tr
 ghost use Rattle.pr_registry.specs.Changes.{is_held_by_all};
 ghost use Rattle.pr_sets.specs.Words.{has};
 ghost use Rattle.pr_unit.specs.UnitStates.{UnitState};
+ghost use Rattle.pr_roles.specs.declared.limits.TheConstants.{MOST_KEYS};
 ghost use Rattle.pr_views.specs.Possibilities.{Scope};
 ghost use Rattle.pr_views.specs.Portions.{has_at, view_in};
 ghost use Rattle.pr_domain.specs.inside.Gathering.{IsPlace, IsUniform, IsProper, IsAt, IsGathered, passes, IsLeftTo, tested};
@@ -111,7 +112,7 @@ impl Place {
 
 /// The registrations by a key.
 pub(crate) fn registered() -> Word
-    ensures keys { (r : ℕ) → 1 ≤ r → r ≤ 12 → has result r ≡ true }
+    ensures keys { (r : ℕ) → 1 ≤ r → r ≤ MOST_KEYS → has result r ≡ true }
     ensures none { has result 0 ≡ false }
 {
     Word::below(MOST_REGISTRATIONS).without(0)

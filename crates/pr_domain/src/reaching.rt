@@ -5,6 +5,7 @@ ghost use Rattle.pr_cdb.specs.declared.command.Kind.{Kind as KindOf};
 ghost use Rattle.pr_registry.specs.declared.held.Held.TheVariants.{One};
 ghost use Rattle.pr_registry.specs.Registrations.{established};
 ghost use Rattle.pr_registry.specs.Changes.{is_kind, is_held_by_all};
+ghost use Rattle.pr_roles.specs.declared.limits.TheConstants.{MOST_KEYS};
 ghost use Rattle.pr_roles.specs.Fitting.{is_action, is_reservation};
 ghost use Rattle.pr_sets.specs.Words.{has};
 ghost use Rattle.pr_views.specs.declared.view.TheConstants.{ATTENTION_SETS};
@@ -34,7 +35,7 @@ impl Onlooker {
         requires hosts { (1 ≤ self.now.hosts) × (self.now.hosts ≤ MOST_NEXUSES) }
         requires own { self.now.own < self.now.hosts }
         requires other { self.now.other < self.now.hosts }
-        requires keys { length keys.now ≤ 12 }
+        requires keys { length keys.now ≤ MOST_KEYS }
         requires action { IsClause keys.now clause.now }
         ensures { (s : Scope) → IsOnlooking s self.now → s.keys ≡ keys.now → IsMost s self.now.view clause.now self.now.other result }
     {
@@ -50,7 +51,7 @@ impl Onlooker {
     fn reach(&self, clause: &Clause, keys: &[u64]) -> Reach
         requires hosts { (1 ≤ self.now.hosts) × (self.now.hosts ≤ MOST_NEXUSES) }
         requires other { self.now.other < self.now.hosts }
-        requires keys { length keys.now ≤ 12 }
+        requires keys { length keys.now ≤ MOST_KEYS }
         requires action { IsClause keys.now clause.now }
         ensures { (s : Scope) → IsOnlooking s self.now → s.keys ≡ keys.now → IsReach s self.now.view clause.now self.now.other result }
     {
@@ -70,7 +71,7 @@ impl Onlooker {
         requires hosts { (1 ≤ place.now.hosts) × (place.now.hosts ≤ MOST_NEXUSES) }
         requires sender { place.now.sender < place.now.hosts }
         requires held { IsTrue (is_reservation place.now.hosts place.now.held) }
-        requires number { number ≤ 12 }
+        requires number { number ≤ MOST_KEYS }
         ensures { (s : Scope) → IsWatched s self.now place.now → is_action s.keys clause.now.action ≡ true → number_named s.keys clause.now.action ≡ number → IsReachAt s self.now.view clause.now place.now result }
     {
         if !holds(clause.condition, place, true) {
@@ -99,12 +100,12 @@ impl Onlooker {
         requires hosts { place.now.hosts ≤ MOST_NEXUSES }
         requires sender { place.now.sender < place.now.hosts }
         requires held { IsTrue (is_reservation place.now.hosts place.now.held) }
-        requires key { key ≤ 12 }
+        requires key { key ≤ MOST_KEYS }
         ensures given { has_at self.now.view.registrations place.now.sender key ≡ true → has result.given 0 ≡ true }
         ensures ended { is_held_by_all place.now.held ≡ true → has_at self.now.view.registrations place.now.sender key ≡ true → MayAllGo self.now.view place.now key → has result.reservations 0 ≡ true }
         ensures removed { has result.removed key ≡ true }
         ensures replaced { (old : KindOf) (holder : ℕ) → place.now.held ≡ Some (One old holder) → has_at self.now.view.registrations holder key ≡ true → has result.reservations (number_of place.now.hosts (Some (established kind place.now.sender))) ≡ true }
-        ensures told_04 { (old : KindOf) (holder : ℕ) → place.now.held ≡ Some (One old holder) → has_at self.now.view.registrations holder key ≡ true → is_kind old kind ≡ false → (r : ℕ) → 1 ≤ r → r ≤ 12 → r ≢ key → has result.told_04 r ≡ true }
+        ensures told_04 { (old : KindOf) (holder : ℕ) → place.now.held ≡ Some (One old holder) → has_at self.now.view.registrations holder key ≡ true → is_kind old kind ≡ false → (r : ℕ) → 1 ≤ r → r ≤ MOST_KEYS → r ≢ key → has result.told_04 r ≡ true }
         ensures told_05 { has result.told_05 key ≡ true }
     {
         let named = Word::only(key);
@@ -132,7 +133,7 @@ impl Onlooker {
     // Whether each but the sender may be free or have the key of this number.
     fn may_all_go(&self, place: &Place, key: u8) -> bool
         requires hosts { place.now.hosts ≤ MOST_NEXUSES }
-        requires key { key ≤ 12 }
+        requires key { key ≤ MOST_KEYS }
         ensures { MayAllGo self.now.view place.now key → IsTrue result }
     {
         for host in 0..place.hosts {
@@ -146,7 +147,7 @@ impl Onlooker {
     // Whether this one may.
     fn may_go(&self, host: u8, key: u8) -> bool
         requires host { host < MOST_NEXUSES }
-        requires key { key ≤ 12 }
+        requires key { key ≤ MOST_KEYS }
         ensures { result ≡ (has_at self.now.view.registrations host 0 || has_at self.now.view.registrations host key) }
     {
         self.may_have(host, 0) || self.may_have(host, key)
@@ -155,7 +156,7 @@ impl Onlooker {
     // Whether a nexus may have this registration.
     fn may_have(&self, host: u8, registration: u8) -> bool
         requires host { host < MOST_NEXUSES }
-        requires registration { registration ≤ 12 }
+        requires registration { registration ≤ MOST_KEYS }
         ensures { result ≡ has_at self.now.view.registrations host registration }
     {
         self.view.registrations[usize::from(host)].has(registration)
@@ -194,9 +195,9 @@ impl Onlooker {
 
 // The number of the key that an action registers or preempts.
 fn number_named(action: Action, keys: &[u64]) -> u8
-    requires { length keys.now ≤ 12 }
+    requires { length keys.now ≤ MOST_KEYS }
     ensures number { result ≡ number_named keys.now action }
-    ensures few { result ≤ 12 }
+    ensures few { result ≤ MOST_KEYS }
 {
     match action {
         Action::Register(key) | Action::Preempt(key, _) => number_in(keys, key),
@@ -218,8 +219,8 @@ fn none_if(is: bool) -> Word
 
 // With which registrations others are told that a reservation was released which one of another type replaced.
 fn told_of_another(old: Kind, kind: Kind, key: u8) -> Word
-    requires { key ≤ 12 }
-    ensures { is_kind old kind ≡ false → (r : ℕ) → 1 ≤ r → r ≤ 12 → r ≢ key → has result r ≡ true }
+    requires { key ≤ MOST_KEYS }
+    ensures { is_kind old kind ≡ false → (r : ℕ) → 1 ≤ r → r ≤ MOST_KEYS → r ≢ key → has result r ≡ true }
 {
     if old == kind {
         Word::none()

@@ -3,6 +3,7 @@
 ghost use Rattle.std.specs.Prelude.{◌≡◌, ◌↔◌, ◌<◌, ◌≤◌, ℕ, true, length, IsTrue, IfOk};
 ghost use Rattle.std.specs.List.{list_all};
 ghost use Rattle.pr_attention.specs.Flagged.{codes_of};
+ghost use Rattle.pr_roles.specs.declared.limits.TheConstants.{MOST_KEYS};
 ghost use Rattle.pr_roles.specs.Fitting.{Fits as FitsAll, is_reservation};
 ghost use Rattle.pr_roles.specs.Scenarios.{scenario_of};
 ghost use Rattle.pr_sets.specs.Words.{has};
@@ -72,7 +73,7 @@ fn alternatives(hosts: u8, own: u8, parts: &Parts) -> Possibilities
 
 // The registrations with which each may start.
 fn registrations(keys: &[u64], nexuses: &[Nexus]) -> [Word; MOST_NEXUSES]
-    requires keys { length keys.now ≤ 12 }
+    requires keys { length keys.now ≤ MOST_KEYS }
     requires nexuses { length nexuses.now ≤ MOST_NEXUSES }
     ensures { (g r : ℕ) → has_at result g r ≡ may_have keys.now nexuses.now g r }
 {
@@ -85,7 +86,7 @@ fn registrations(keys: &[u64], nexuses: &[Nexus]) -> [Word; MOST_NEXUSES]
 
 // The numbers of these registrations.
 fn registrations_of(keys: &[u64], alternatives: &[Option<u64>]) -> Word
-    requires { length keys.now ≤ 12 }
+    requires { length keys.now ≤ MOST_KEYS }
     ensures { (r : ℕ) → has result r ≡ has_alternative keys.now alternatives.now r }
 {
     let mut numbers = Word::none();
@@ -96,9 +97,9 @@ fn registrations_of(keys: &[u64], alternatives: &[Option<u64>]) -> Word
 }
 
 fn registration_in(keys: &[u64], key: Option<u64>) -> u8
-    requires { length keys.now ≤ 12 }
+    requires { length keys.now ≤ MOST_KEYS }
     ensures number { result ≡ registration_in keys.now key }
-    ensures few { result ≤ 12 }
+    ensures few { result ≤ MOST_KEYS }
 {
     match key {
         Some(key) => number_in(keys, key),

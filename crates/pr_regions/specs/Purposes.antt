@@ -9,6 +9,7 @@ use Rattle.pr_unit.specs.declared.unit.TheConstants.{CAPACITY}
 use Rattle.pr_registry.specs.Hosts.{is_key}
 use Rattle.pr_script.specs.Grammar.{is_written_key}
 use Rattle.pr_unit.specs.Conflicts.{is_wrong_key}
+use Rattle.pr_roles.specs.declared.limits.TheConstants.{MOST_KEYS}
 use Rattle.pr_regions.specs.declared.purpose.Purpose.{Purpose}
 use Rattle.pr_regions.specs.declared.purpose.Purpose.TheVariants.{Look, Read, Write, Register, Unregister, Reserve, Release, Clear, PreemptAll, Preempt}
 
@@ -34,13 +35,13 @@ abbrev pub HasNumber : Purpose → Type 0
 HasNumber Look = Unit {0}
 HasNumber (Read ranges) = Unit {0}
 HasNumber (Write ranges) = Unit {0}
-HasNumber (Register j) = (1 ≤ j) × (j ≤ 12)
+HasNumber (Register j) = (1 ≤ j) × (j ≤ MOST_KEYS)
 HasNumber Unregister = Unit {0}
 HasNumber (Reserve kind) = Unit {0}
 HasNumber (Release kind) = Unit {0}
 HasNumber Clear = Unit {0}
 HasNumber (PreemptAll kind) = Unit {0}
-HasNumber (Preempt j kind) = (1 ≤ j) × (j ≤ 12)
+HasNumber (Preempt j kind) = (1 ≤ j) × (j ≤ MOST_KEYS)
 
 -- the blocks are among those of the unit
 abbrev pub is_in_range : ℕ → ℕ → Bool

@@ -4,6 +4,7 @@ ghost use Rattle.std.specs.Prelude.{◌≡◌, ◌≤◌, ◌==◌, IsTrue, IsSo
 ghost use Rattle.pr_registry.specs.Hosts.{is_key};
 ghost use Rattle.pr_script.specs.Grammar.{is_written_key};
 ghost use Rattle.pr_unit.specs.Conflicts.{is_wrong_key};
+ghost use Rattle.pr_roles.specs.declared.limits.TheConstants.{MOST_KEYS};
 ghost use Rattle.pr_regions.specs.Purposes.{number_in, is_in_range, registering, preempting, purpose_of, named, HasNumber, names_written, is_refused};
 ghost use Rattle.pr_regions.specs.Regions.{names, standing_of};
 
@@ -20,10 +21,10 @@ fn place_in(keys: &[u64], key: u64) -> Option<usize>
 
 // The number of a declared key, from 1.
 pub(crate) fn number_in(keys: &[u64], key: u64) -> u8
-    requires { length keys.now ≤ 12 }
+    requires { length keys.now ≤ MOST_KEYS }
     ensures number { result ≡ number_in keys.now key }
     ensures known { result ≤ length keys.now }
-    ensures most { result ≤ 12 }
+    ensures most { result ≤ MOST_KEYS }
 {
     match place_in(keys, key) {
         Some(place) => place as u8 + 1,
@@ -39,7 +40,7 @@ fn is_in_range(lba: u32, blocks: u16) -> bool
 }
 
 fn registering(keys: &[u64], sark: u64) -> Purpose
-    requires { length keys.now ≤ 12 }
+    requires { length keys.now ≤ MOST_KEYS }
     ensures purpose { result ≡ registering keys.now sark }
     ensures number { IsTrue (is_written_key keys.now sark) → HasNumber result }
     ensures known { named result ≤ length keys.now }
@@ -52,7 +53,7 @@ fn registering(keys: &[u64], sark: u64) -> Purpose
 }
 
 fn preempting(keys: &[u64], sark: u64, kind: Kind) -> Purpose
-    requires { length keys.now ≤ 12 }
+    requires { length keys.now ≤ MOST_KEYS }
     ensures purpose { result ≡ preempting keys.now sark kind }
     ensures number { IsTrue (is_written_key keys.now sark) → HasNumber result }
     ensures known { named result ≤ length keys.now }
@@ -66,7 +67,7 @@ fn preempting(keys: &[u64], sark: u64, kind: Kind) -> Purpose
 
 /// What a command asks for. A PREEMPT has a type.
 pub fn purpose_of(command: Command, keys: &[u64]) -> Purpose
-    requires few { length keys.now ≤ 12 }
+    requires few { length keys.now ≤ MOST_KEYS }
     requires typed { IsSome (purpose_of keys.now command) }
     ensures purpose { Some result ≡ purpose_of keys.now command }
     ensures number { IsTrue (names_written keys.now command) → HasNumber result }

@@ -5,6 +5,7 @@ ghost use Rattle.pr_cdb.specs.declared.command.Kind.{Kind as KindOf};
 ghost use Rattle.pr_cdb.specs.declared.codes.TheConstants.{MOST_NEXUSES};
 ghost use Rattle.pr_registry.specs.Registrations.{established, is_all};
 ghost use Rattle.pr_registry.specs.Changes.{is_kind, is_held_by_all};
+ghost use Rattle.pr_roles.specs.declared.limits.TheConstants.{MOST_KEYS};
 ghost use Rattle.pr_roles.specs.Fitting.{is_reservation};
 ghost use Rattle.pr_views.specs.Possibilities.{number_of, count_of_reservations};
 ghost use Rattle.pr_regions.specs.Regions.{HasRoom};
@@ -25,7 +26,7 @@ use pr_sets::Word;
 fn replaced(hosts: u8, key: u8, old: Kind, kind: Kind, sender: u8) -> Change
     requires few { hosts ≤ MOST_NEXUSES }
     requires there { sender < hosts }
-    requires key { key ≤ 12 }
+    requires key { key ≤ MOST_KEYS }
     ensures change { Does result None (only key) (number_of hosts (Some (established kind sender)))
         never (told_but (not (is_kind old kind)) key) (only key) }
     ensures room { HasRoom hosts (Ending.Good result) }
@@ -43,7 +44,7 @@ fn replaced(hosts: u8, key: u8, old: Kind, kind: Kind, sender: u8) -> Change
 
 // What changes where the key is another's: those with the key go, the sender among them if it is its own.
 fn removed(key: u8, is_own: bool, reservation: u8) -> Change
-    requires { key ≤ 12 }
+    requires { key ≤ MOST_KEYS }
     ensures { Does result (lost_if is_own) (only key) reservation never never (only key) }
 {
     let mut change = Change {
@@ -61,7 +62,7 @@ fn removed(key: u8, is_own: bool, reservation: u8) -> Change
 fn preempting_others(hosts: u8, key: u8, held: Option<Held>) -> ArrayVec<Branch, 3>
     requires few { hosts ≤ MOST_NEXUSES }
     requires fits { IsTrue (is_reservation hosts held) }
-    requires key { (1 ≤ key) × (key ≤ 12) }
+    requires key { (1 ≤ key) × (key ≤ MOST_KEYS) }
     ensures { (kind : KindOf) (sender : ℕ) (standing : Standing) → is_named standing ≡ false → IsNotAnothers held sender
         → Tell hosts (Purpose.Preempt key kind) held sender standing result.items }
 {
@@ -85,7 +86,7 @@ fn preempting_others(hosts: u8, key: u8, held: Option<Held>) -> ArrayVec<Branch,
 // The key where no reservation stands.
 fn preempting_unheld(hosts: u8, key: u8, standing: Standing) -> ArrayVec<Branch, 3>
     requires few { hosts ≤ MOST_NEXUSES }
-    requires key { (1 ≤ key) × (key ≤ 12) }
+    requires key { (1 ≤ key) × (key ≤ MOST_KEYS) }
     ensures { (kind : KindOf) (sender : ℕ) → Tell hosts (Purpose.Preempt key kind) None sender standing result.items }
 {
     if standing.is_named() {
@@ -100,7 +101,7 @@ fn preempting_own(hosts: u8, key: u8, held: Option<Held>) -> ArrayVec<Branch, 3>
     requires few { hosts ≤ MOST_NEXUSES }
     requires fits { IsTrue (is_reservation hosts held) }
     requires all { is_held_by_all held ≡ true }
-    requires key { (1 ≤ key) × (key ≤ 12) }
+    requires key { (1 ≤ key) × (key ≤ MOST_KEYS) }
     ensures { (kind : KindOf) (sender : ℕ) (standing : Standing) → is_named standing ≡ true
         → Tell hosts (Purpose.Preempt key kind) held sender standing result.items }
 {
@@ -135,7 +136,7 @@ fn preempting_holder(
     requires there { sender < hosts }
     requires fits { IsTrue (is_reservation hosts (Some (Held.One old holder))) }
     requires apart { holder ≢ sender }
-    requires key { (1 ≤ key) × (key ≤ 12) }
+    requires key { (1 ≤ key) × (key ≤ MOST_KEYS) }
     ensures { Tell hosts (Purpose.Preempt key kind) (Some (Held.One old holder)) sender standing result.items }
 {
     let number = reservation_number(hosts, Some(Held::One(old, holder)));
@@ -187,7 +188,7 @@ fn preempting_single(
     requires few { hosts ≤ MOST_NEXUSES }
     requires there { sender < hosts }
     requires fits { IsTrue (is_reservation hosts (Some (Held.One old holder))) }
-    requires key { (1 ≤ key) × (key ≤ 12) }
+    requires key { (1 ≤ key) × (key ≤ MOST_KEYS) }
     ensures { Tell hosts (Purpose.Preempt key kind) (Some (Held.One old holder)) sender standing result.items }
 {
     if holder != sender {
@@ -203,7 +204,7 @@ fn preempting_single(
 fn preempting_registrants(hosts: u8, key: u8, old: Kind, standing: Standing) -> ArrayVec<Branch, 3>
     requires few { hosts ≤ MOST_NEXUSES }
     requires fits { IsTrue (is_reservation hosts (Some (Held.All old))) }
-    requires key { (1 ≤ key) × (key ≤ 12) }
+    requires key { (1 ≤ key) × (key ≤ MOST_KEYS) }
     ensures { (kind : KindOf) (sender : ℕ) → Tell hosts (Purpose.Preempt key kind) (Some (Held.All old)) sender standing result.items }
 {
     let held = Some(Held::All(old));
@@ -226,7 +227,7 @@ pub(crate) fn preempting(
     requires few { hosts ≤ MOST_NEXUSES }
     requires there { sender < hosts }
     requires fits { IsTrue (is_reservation hosts held) }
-    requires key { (1 ≤ key) × (key ≤ 12) }
+    requires key { (1 ≤ key) × (key ≤ MOST_KEYS) }
     ensures { Tell hosts (Purpose.Preempt key kind) held sender standing result.items }
 {
     match held {

@@ -1,6 +1,7 @@
 //! Words of registrations: 0 for none, and 1 to 12 for the declared keys.
 
 ghost use Rattle.std.specs.Prelude.{◌≡◌, ◌≤◌, ◌==◌, ◌&&◌, ℕ, true, not};
+ghost use Rattle.pr_roles.specs.declared.limits.TheConstants.{MOST_KEYS};
 ghost use Rattle.pr_regions.specs.inside.Parts.{HasThose, any, never, registered, but, another, free_or};
 
 use pr_sets::Word;
@@ -22,7 +23,7 @@ pub(crate) fn registered() -> Word
 
 // Every registration but this one.
 pub(crate) fn anything_but(registration: u8) -> Word
-    requires { registration ≤ 12 }
+    requires { registration ≤ MOST_KEYS }
     ensures { HasThose result (but registration) }
 {
     Word::below(MOST_REGISTRATIONS).without(registration)
@@ -30,7 +31,7 @@ pub(crate) fn anything_but(registration: u8) -> Word
 
 // Every key but the one of this number.
 pub(crate) fn another_than(key: u8) -> Word
-    requires { key ≤ 12 }
+    requires { key ≤ MOST_KEYS }
     ensures { HasThose result (another key) }
 {
     registered().without(key)
@@ -38,7 +39,7 @@ pub(crate) fn another_than(key: u8) -> Word
 
 // None, or the key of this number.
 pub(crate) fn free_or(key: u8) -> Word
-    requires { key ≤ 12 }
+    requires { key ≤ MOST_KEYS }
     ensures { HasThose result (free_or key) }
 {
     Word::only(0).with(key)

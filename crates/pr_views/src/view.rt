@@ -176,7 +176,7 @@ impl<S: ViewSet> ViewOf<S> {
 
 // How many registrations one can have: none, or one by each key.
 fn count_of_registrations(keys: &[u64]) -> u8
-    requires { length keys.now ≤ 12 }
+    requires { length keys.now ≤ MOST_KEYS }
     ensures { result ≡ length keys.now + 1 }
 {
     keys.len() as u8 + 1
@@ -191,7 +191,7 @@ fn count_of_reservations(hosts: u8) -> u8
 }
 
 fn copied(keys: &[u64]) -> ArrayVec<u64, MOST_KEYS>
-    requires { length keys.now ≤ 12 }
+    requires { length keys.now ≤ MOST_KEYS }
     ensures { result.items ≡ keys.now }
 {
     let mut all = ArrayVec::new();

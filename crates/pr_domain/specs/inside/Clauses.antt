@@ -5,6 +5,7 @@ use Rattle.pr_registry.specs.declared.held.Held.{Held}
 use Rattle.pr_registry.specs.declared.held.Held.TheVariants.{One, All}
 use Rattle.pr_registry.specs.Registrations.{kind_of}
 use Rattle.pr_unit.specs.UnitStates.{UnitState, effect}
+use Rattle.pr_roles.specs.declared.limits.TheConstants.{MOST_KEYS}
 use Rattle.pr_roles.specs.declared.role.Action.{Action}
 use Rattle.pr_roles.specs.declared.role.Action.TheVariants as action
 use Rattle.pr_roles.specs.declared.role.Condition.{Condition}
@@ -76,7 +77,7 @@ may_send condition purpose held sender standing =
 
 -- the word has the registrations with which a sender stands so
 pub record AreSenders (purpose : Purpose) (standing : Standing) (word : Word) : Type 0 where
-  pub all : (r : ℕ) → r ≤ 12 → standing_of purpose r ≡ standing → has word r ≡ true
+  pub all : (r : ℕ) → r ≤ MOST_KEYS → standing_of purpose r ≡ standing → has word r ≡ true
   pub only : (r : ℕ) → has word r ≡ true → standing_of purpose r ≡ standing
 
 -- Under this reservation, a command of the clause for this purpose leads so from a shown state.
