@@ -11,6 +11,7 @@ use Rattle.pr_registry.specs.declared.held.Held.{Held}
 use Rattle.pr_registry.specs.declared.held.Held.TheVariants.{One, All as Everybody}
 use Rattle.pr_registry.specs.Registrations.{State, key_of}
 use Rattle.pr_cdb.specs.Kinds.{code_of}
+use Rattle.pr_cdb.specs.declared.codes.TheConstants.{MOST_NEXUSES}
 use Rattle.pr_roles.specs.declared.entry.Entry.{Entry}
 use Rattle.pr_world.specs.Ends.{Ending, stops, waits, traps, leaves}
 use Rattle.pr_report.specs.PrintedLines.{generation_word, key_or_dash, line, registration_word, spaced}
@@ -201,7 +202,7 @@ first_bare = refl
 nothing_more : (names : List (List ℕ)) (entries : ℕ) (l : List ℕ) (ls : List (List ℕ)) → is_later l ≡ true → later_lines entries 0 (l ∷ ls) ≡ Ok tt → entries_of names entries (l ∷ ls) ≡ Ok []
 nothing_more names entries l ls h k = entries_later names entries l ls h ∙ ap (λ r. and_then r (λ _. Ok [])) k
 
-behind_back : (names : List (List ℕ)) (entries : ℕ) (u : State) (ends : List Ending) (counts : List ℕ) → AreNames names → length ends ≤ 8 → AreEndings ends
+behind_back : (names : List (List ℕ)) (entries : ℕ) (u : State) (ends : List Ending) (counts : List ℕ) → AreNames names → length ends ≤ MOST_NEXUSES → AreEndings ends
     → entries_of names entries (lines (unit_line names u ++ ending_lines 0 names counts ends)) ≡ Ok []
 behind_back names entries u ends counts are short each =
     let rest = ending_lines 0 names counts ends in
@@ -236,7 +237,7 @@ written_are_read s es u ends counts fits each few ended all =
     let names = names_in s in
     let are = names_fit s fits in
     let rest = unit_line names u ++ ending_lines 0 names counts ends in
-    let short : length ends ≤ 8 = omega (arith, ended, names_count s, are.few) in
+    let short : length ends ≤ MOST_NEXUSES = omega (arith, ended, names_count s, are.few) in
     first_back names (entry_lines 0 names es ++ rest)
     ∙ entries_back names es 0 rest are (all_entries names (length s.nexuses) es (sym (names_count s)) each) (omega arith)
     (behind_back names (0 + length es) u ends counts are short (all_endings ends all))

@@ -1,6 +1,7 @@
 //! The entry that a line of a trace says.
 
 ghost use Rattle.std.specs.Prelude.{◌≡◌, ◌==◌, ◌∷◌, ◌≤◌, ◌<◌, [], false, length, map, option_map, position, bytes_eq, MatchOption, IfSome};
+ghost use Rattle.pr_cdb.specs.declared.codes.TheConstants.{MOST_NEXUSES};
 ghost use Rattle.pr_report.specs.TraceText.{names_of};
 ghost use Rattle.pr_report.specs.EntryWords.{byte_in, bytes_in, exchange_in, reply_in, sense_of, sense_under, senseless, status_in, wire_in, worth};
 ghost use Rattle.pr_report.specs.TraceReadings.{entry_on, number_of, words};
@@ -32,7 +33,7 @@ pub(crate) struct EntryWords<'a> {
 /// The entry with this index, which counts from 1, or what is wrong with its line.
 #[tactic(auto, unfolding(crate::specs::TraceReadings::entry_on))]
 pub(crate) fn entry_on(nexuses: &[Nexus], index: u32, line: &[u8]) -> Result<Entry, TraceError>
-    requires { length nexuses.now ≤ 8 }
+    requires { length nexuses.now ≤ MOST_NEXUSES }
     ensures { result ≡ entry_on (names_of nexuses.now) index line.now }
 {
     if index > MOST_ENTRIES {
@@ -231,7 +232,7 @@ fn worth(digit: u8) -> Option<u8>
 
 // The number of the nexus with this name.
 fn number_of(nexuses: &[Nexus], name: &[u8]) -> Option<u8>
-    requires { length nexuses.now ≤ 8 }
+    requires { length nexuses.now ≤ MOST_NEXUSES }
     ensures { result ≡ number_of (names_of nexuses.now) name.now }
 {
     let host = place_of(nexuses, name)?;

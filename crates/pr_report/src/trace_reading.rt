@@ -1,6 +1,7 @@
 //! Traces from their texts.
 
 ghost use Rattle.std.specs.Prelude.{◌≡◌, ◌≤◌, ℕ, [], List, Ok, codes, length, bytes_eq, IfErr, IfOk, IfSome, OnOk};
+ghost use Rattle.pr_cdb.specs.declared.codes.TheConstants.{MOST_NEXUSES};
 ghost use Rattle.pr_roles.specs.Scenarios.{scenario_of};
 ghost use Rattle.pr_report.specs.TraceText.{names_in, names_of};
 ghost use Rattle.pr_report.specs.BytesTaken.{LosesUpTo};
@@ -68,7 +69,7 @@ fn read_entries<R: Read>(
     ahead: &mut Ahead,
     reader: &mut R,
 ) -> Result<Vec<Entry>, TraceError>
-    requires { length nexuses.now ≤ 8 }
+    requires { length nexuses.now ≤ MOST_NEXUSES }
     ensures taken { Takes 33587200 (R.remaining reader.old) (R.remaining reader.new) (length (held ahead.old)) (length (held ahead.new)) }
     ensures ok { IfOk result (λ entries. Leads (λ old new. entries_of (names_of nexuses.now) 0 (lines old) ≡ and_then (later_lines (length entries.items) 0 (lines new)) (λ _. Ok entries.items)) (left ahead.old (R.remaining reader.old)) (left ahead.new (R.remaining reader.new))) }
     ensures few { IfOk result (λ entries. length entries.items ≤ 32768) }

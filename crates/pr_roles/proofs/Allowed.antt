@@ -7,6 +7,7 @@ use Rattle.std.proofs.Math.Nat.{eq-or-lt_of_le}
 use Rattle.std.proofs.lemmas.Bool.{and_parts, ltb-true, false≢true}
 use Rattle.std.proofs.lemmas.Bool.Decides.{nat_tests}
 use Rattle.std.proofs.lemmas.Option.{none-some, slice_get-map, slice_get_within}
+use Rattle.pr_cdb.specs.declared.codes.TheConstants.{MOST_NEXUSES}
 use Rattle.pr_registry.specs.declared.held.Held.{Held}
 use Rattle.pr_registry.specs.declared.held.Held.TheVariants.{One, All}
 use Rattle.pr_registry.specs.Hosts.{Keys}
@@ -28,7 +29,7 @@ use Rattle.pr_roles.proofs.Reserving.{Made, Holding, made, first, found_first, f
 -- ---- what fitting says
 
 -- one to eight nexuses
-pub counted : (s : Scenario) → Fits s → (1 ≤ length s.nexuses) × (length s.nexuses ≤ 8)
+pub counted : (s : Scenario) → Fits s → (1 ≤ length s.nexuses) × (length s.nexuses ≤ MOST_NEXUSES)
 counted s fits =
     let parts = and_parts (not (length s.nexuses == 0)) _ fits.nexuses in
     let few = (and_parts (nat_le (length s.nexuses) 8) _ parts.1).0 in
@@ -218,7 +219,7 @@ pub starts_of_parts : (p : Parts) → starts (scenario_of p) ≡ map start_of p.
 unfolding scenario_of
 starts_of_parts p = starts_of p.nexuses.items
 
-pub few_parts : (p : Parts) → Fits (scenario_of p) → length p.nexuses.items ≤ 8
+pub few_parts : (p : Parts) → Fits (scenario_of p) → length p.nexuses.items ≤ MOST_NEXUSES
 unfolding scenario_of
 few_parts p fits = omega (arith, (counted (scenario_of p) fits).1, length_of_parts p.nexuses.items)
 

@@ -2,6 +2,7 @@
 
 ghost use Rattle.std.specs.Prelude.{◌≡◌, ◌+◌, ◌≤◌, [], length, map, IfOk, OnOk, false, vec_capacity};
 ghost use Rattle.std.specs.List.{All, range_with_len};
+ghost use Rattle.pr_cdb.specs.declared.codes.TheConstants.{MOST_NEXUSES};
 ghost use Rattle.pr_roles.specs.Scenarios.{task_of};
 ghost use Rattle.pr_world.specs.Rooms.{room_of};
 
@@ -17,7 +18,7 @@ pub(crate) fn seats_for<C: Round>(
     nexuses: &[Nexus],
     all: &mut Share<C>,
 ) -> Result<Vec<Seat<C>>, AllocError>
-    requires few { length nexuses.now ≤ 8 }
+    requires few { length nexuses.now ≤ MOST_NEXUSES }
     requires short { All (λ n. room_of (task_of n.task) ≤ 4096) nexuses.now }
     requires known { length nexuses.now ≡ length C.guests }
     requires parts { all.old.parts ≡ length nexuses.now }

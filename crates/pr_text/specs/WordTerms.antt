@@ -2,6 +2,7 @@
 -- The terms that words are: names, keys, numbers, types and codes.
 use Rattle.std.specs.Prelude.{ℕ, ◌+◌, ◌-◌, ◌*◌, ◌==◌, ◌&&◌, nat_lt, nat_le, if◌then◌else◌, List, length, take, drop, slice_index, codes, Option, Some, None, unwrap_or, fold, bytes_eq}
 use Rattle.std.specs.List.{list_all}
+use Rattle.pr_cdb.specs.declared.codes.TheConstants.{POWER_ON, RESERVATIONS_PREEMPTED, RESERVATIONS_RELEASED, REGISTRATIONS_PREEMPTED}
 use Rattle.pr_cdb.specs.declared.command.Kind.{Kind}
 use Rattle.pr_cdb.specs.declared.reply.Sense.{Sense}
 use Rattle.pr_cdb.specs.Kinds.{kind_of_code}
@@ -80,10 +81,11 @@ kind_of word = if length word == 1 then kind_of_code (slice_index word 0 - 48) e
 -- the attention with this additional sense code and qualifier
 abbrev pub attention_of : ℕ → ℕ → Option Attention
 attention_of asc ascq =
-    if asc == 0x29 && ascq == 0x00 then Some PowerOn else (
-    if asc == 0x2a && ascq == 0x03 then Some ReservationsPreempted else (
-    if asc == 0x2a && ascq == 0x04 then Some ReservationsReleased else (
-    if asc == 0x2a && ascq == 0x05 then Some RegistrationsPreempted else None)))
+    let code = asc * 256 + ascq in
+    if code == POWER_ON then Some PowerOn else (
+    if code == RESERVATIONS_PREEMPTED then Some ReservationsPreempted else (
+    if code == RESERVATIONS_RELEASED then Some ReservationsReleased else (
+    if code == REGISTRATIONS_PREEMPTED then Some RegistrationsPreempted else None)))
 
 -- the attention that a word is: two digits, a slash and two digits
 unfoldable pub code_of : List ℕ → Option Attention

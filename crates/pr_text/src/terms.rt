@@ -4,6 +4,9 @@ ghost use Rattle.std.specs.Prelude.{◌≡◌, ◌≤◌, ◌<◌, ◌^◌, leng
 ghost use Rattle.pr_text.specs.WordTerms.{worth, number, digit_of, byte_of, value_after, without_prefix, hexadecimal, name_of, key_or_zero, key_of, generation_of, count_of, amount_of, kind_of, attention_of, code_of, sense_of};
 
 use pr_attention::Attention;
+use pr_cdb::codes::{
+    POWER_ON, REGISTRATIONS_PREEMPTED, RESERVATIONS_PREEMPTED, RESERVATIONS_RELEASED,
+};
 use pr_cdb::{Kind, Sense};
 use pr_roles::Word;
 use pr_script::is_name;
@@ -185,11 +188,11 @@ pub fn code_of(word: &[u8]) -> Option<Attention>
 fn attention_of(asc: u8, ascq: u8) -> Option<Attention>
     ensures { result ≡ attention_of asc ascq }
 {
-    match (asc, ascq) {
-        (0x29, 0x00) => Some(Attention::PowerOn),
-        (0x2a, 0x03) => Some(Attention::ReservationsPreempted),
-        (0x2a, 0x04) => Some(Attention::ReservationsReleased),
-        (0x2a, 0x05) => Some(Attention::RegistrationsPreempted),
+    match u16::from(asc) * 256 + u16::from(ascq) {
+        POWER_ON => Some(Attention::PowerOn),
+        RESERVATIONS_PREEMPTED => Some(Attention::ReservationsPreempted),
+        RESERVATIONS_RELEASED => Some(Attention::ReservationsReleased),
+        REGISTRATIONS_PREEMPTED => Some(Attention::RegistrationsPreempted),
         _ => None,
     }
 }

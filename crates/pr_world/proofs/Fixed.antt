@@ -1,5 +1,6 @@
 -- The state after a step is fixed by the reply.
 use Rattle.std.proofs.Common.{◌≡◌, ℕ, Bool, true, false, if◌then◌else◌, Option, Some, None, sym, ap, ◌∙◌, get_or, arith}
+use Rattle.pr_cdb.specs.declared.codes.TheConstants.{UNIT_ATTENTION}
 use Rattle.pr_cdb.specs.declared.reply.Reply.{Reply}
 use Rattle.pr_cdb.specs.declared.reply.Sense.{Sense}
 use Rattle.pr_cdb.specs.declared.wire.Request.{Request}
@@ -23,7 +24,7 @@ one_code c d same =
 one_sense : (c d : ℕ) → sense_bytes (attention_sense c) ≡ sense_bytes (attention_sense d) → attention_sense c ≡ attention_sense d
 unfolding sense_bytes
 one_sense c d same =
-    λ i. record { key = 0x06; asc = get_or (same i) 12 0; ascq = get_or (same i) 13 0 }
+    λ i. record { key = UNIT_ATTENTION; asc = get_or (same i) 12 0; ascq = get_or (same i) 13 0 }
 
 one_reported : (b : Bool) (c d : ℕ) → (if b then good (sense_bytes (attention_sense c)) else check (attention_sense c)) ≡ (if b then good (sense_bytes (attention_sense d)) else check (attention_sense d))
     → c ≡ d
