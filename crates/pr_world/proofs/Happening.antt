@@ -15,14 +15,14 @@ use Rattle.pr_roles.specs.Schedules.{is_held_back}
 use Rattle.pr_world.specs.Courses.{HappensBy, Participation, StandsFor, is_free, is_planned, participation}
 use Rattle.pr_world.specs.inside.Turns.{Acts, ActsAs, GuestActs, HostActs, SendsOr}
 use Rattle.pr_world.proofs.Spelled.{are_bytes, are_short}
-use Rattle.pr_world.proofs.Participations.{at_seat, control_at, has_task, rests, with_seat, world_after, world_by}
+use Rattle.pr_world.proofs.Participations.{at_participation, control_at, has_task, rests, with_participation, world_after, world_by}
 
 -- ---- hosts
 
 hosts_happen : (s : Scenario) (o : Option Standing) (u v : UnitState) (xs : List Participation) (es : List Entry) (h : ℕ) (e : Option Entry) (x y : Participation) → h < length xs → get_or xs h x ≡ x
-    → o ≡ standing_of x.control → HostActs o h x u e y v → HappensBy s h e (world_by u xs es) (world_by v (with_seat xs h y) (es ++ option_to_list e))
+    → o ≡ standing_of x.control → HostActs o h x u e y v → HappensBy s h e (world_by u xs es) (world_by v (with_participation xs h y) (es ++ option_to_list e))
 hosts_happen s (Some (ready at c)) u v xs es h (Some e) x y there seated is acts =
-    let here = at_seat xs h x there seated in
+    let here = at_participation xs h x there seated in
     record {
       event = Host h;
       happens = record {
@@ -54,7 +54,7 @@ permitted_if_good false permitted held is = let bad : false ≡ true = is in cc
 
 guest_sends : (s : Scenario) (b : Bool) (u v : UnitState) (xs : List Participation) (es : List Entry) (h : ℕ) (c : Command) (e : Option Entry) (x y : Participation) → h < length xs → get_or xs h x ≡ x
     → is_guest s h ≡ true → x.control ≡ Free → y.control ≡ Free → is_held_back (role s h) u h c ≡ b → SendsOr b h u c e v
-    → HappensBy s h e (world_by u xs es) (world_by v (with_seat xs h y) (es ++ option_to_list e))
+    → HappensBy s h e (world_by u xs es) (world_by v (with_participation xs h y) (es ++ option_to_list e))
 guest_sends s true u v xs es h c (Some e) x y there seated guest free still held acts = absurd acts
 guest_sends s true u v xs es h c None x y there seated guest free still held acts =
     (rests u v xs es h x y seated (still ∙ sym free) acts)
@@ -73,14 +73,14 @@ guest_sends s false u v xs es h c (Some e) x y there seated guest free still hel
         unit = v;
         step = acts.sent.step;
         permitted = λ good. permitted_if_good _ _ held (sym (good_by_decision u h (Plain c) e.reply v acts.sent.step) ∙ good);
-        world = world_after u v xs es h 0 c e x y (at_seat xs h x there seated) acts.sent (still ∙ ap (λ k. taken 0 k e.reply) (sym free));
+        world = world_after u v xs es h 0 c e x y (at_participation xs h x there seated) acts.sent (still ∙ ap (λ k. taken 0 k e.reply) (sym free));
       };
       sender = ap (λ f. f.host) acts.sent.entry;
       added = refl;
     }
 
 guests_happen : (s : Scenario) (planned : List Command) (u v : UnitState) (xs : List Participation) (es : List Entry) (h : ℕ) (e : Option Entry) (x y : Participation) → h < length xs → get_or xs h x ≡ x
-    → is_guest s h ≡ true → x.control ≡ Free → GuestActs (role s h) h planned u e y v → HappensBy s h e (world_by u xs es) (world_by v (with_seat xs h y) (es ++ option_to_list e))
+    → is_guest s h ≡ true → x.control ≡ Free → GuestActs (role s h) h planned u e y v → HappensBy s h e (world_by u xs es) (world_by v (with_participation xs h y) (es ++ option_to_list e))
 guests_happen s [] u v xs es h (Some e) x y there seated guest free acts = absurd acts
 guests_happen s [] u v xs es h None x y there seated guest free acts =
     (rests u v xs es h x y seated (ap (λ t. t.control) acts.0 ∙ sym free) acts.1)
@@ -91,7 +91,7 @@ guests_happen s (c ∷ cs) u v xs es h e x y there seated guest free acts =
 
 acts_happen : (s : Scenario) (k : Control) (p : List Command) (u v : UnitState) (xs : List Participation) (es : List Entry) (h : ℕ) (e : Option Entry) (y : Participation) → h < length xs
     → get_or xs h (participation k p) ≡ participation k p → (is_free k ≡ true → is_guest s h ≡ true) → ActsAs k (role s h) h (participation k p) u e y v
-    → HappensBy s h e (world_by u xs es) (world_by v (with_seat xs h y) (es ++ option_to_list e))
+    → HappensBy s h e (world_by u xs es) (world_by v (with_participation xs h y) (es ++ option_to_list e))
 acts_happen s (Going l) p u v xs es h e y there seated guest acts = hosts_happen s (standing_of (Going l)) u v xs es h e (participation (Going l) p) y there seated refl acts
 acts_happen s (Trapped at) p u v xs es h e y there seated guest acts = hosts_happen s None u v xs es h e (participation (Trapped at) p) y there seated refl acts
 acts_happen s Free p u v xs es h e y there seated guest acts = guests_happen s p u v xs es h e (participation Free p) y there seated (guest refl) refl acts
@@ -100,9 +100,9 @@ guest_task : (t : Task) → is_planned t ≡ true → is_guest_task (Some t) ≡
 guest_task (Scripted script budget) is = is
 guest_task (Planned commands) is = refl
 
-pub happens_at_seat : (s : Scenario) (u v : UnitState) (xs : List Participation) (es : List Entry) (h : ℕ) (e : Option Entry) (x y : Participation) → StandsFor s u xs → h < length xs
-    → get_or xs h x ≡ x → Acts (role s h) h x u e y v → HappensBy s h e (world_by u xs es) (world_by v (with_seat xs h y) (es ++ option_to_list e))
-happens_at_seat s u v xs es h e x y stands there seated acts =
-    let has = has_task s u xs h x stands (at_seat xs h x there seated) in
+pub happens_at_participation : (s : Scenario) (u v : UnitState) (xs : List Participation) (es : List Entry) (h : ℕ) (e : Option Entry) (x y : Participation) → StandsFor s u xs → h < length xs
+    → get_or xs h x ≡ x → Acts (role s h) h x u e y v → HappensBy s h e (world_by u xs es) (world_by v (with_participation xs h y) (es ++ option_to_list e))
+happens_at_participation s u v xs es h e x y stands there seated acts =
+    let has = has_task s u xs h x stands (at_participation xs h x there seated) in
     let guest = λ (free : is_free x.control ≡ true). ap (λ o. is_guest_task (option_map_or (λ n. Some n.task) o None)) has.is ∙ guest_task has.nexus.task (has.planned ∙ free) in
     acts_happen s x.control x.plan u v xs es h e y there seated guest acts

@@ -26,14 +26,14 @@ pub record HasItsTask (s : Scenario) (x : Schedule) (h : ℕ) : Type 0 where
   pub is : task s h ≡ Some its_task
   pub fits : is_planned its_task ≡ is_free (control x.world h)
 
-found_seat : (xs : List Participation) (h : ℕ) → h < length xs → (x : Participation) × (slice_get xs h ≡ Some x)
-found_seat [] h there = absurd (omega arith)
-found_seat (x ∷ xs) zero there = (x, refl)
-found_seat (x ∷ xs) (suc h) there = found_seat xs h (omega arith)
+found_participation : (xs : List Participation) (h : ℕ) → h < length xs → (x : Participation) × (slice_get xs h ≡ Some x)
+found_participation [] h there = absurd (omega arith)
+found_participation (x ∷ xs) zero there = (x, refl)
+found_participation (x ∷ xs) (suc h) there = found_participation xs h (omega arith)
 
 pub has_its_task : (s : Scenario) (u : UnitState) (xs : List Participation) (es : List Entry) (h : ℕ) → StandsFor s u xs → h < length s.nexuses → HasItsTask s (schedule_by u xs es) h
 has_its_task s u xs es h stands there =
-    let found = found_seat xs h (rw (length-tasks s u xs stands) there) in
+    let found = found_participation xs h (rw (length-tasks s u xs stands) there) in
     let has = has_task s u xs h found.0 stands found.1 in
     record {
       its_task = has.nexus.task;

@@ -17,14 +17,14 @@ use Rattle.pr_world.specs.Courses.{Participation, schedule_by, IsSent, IsSentHer
 
 -- ---- a participation among the participations
 
-abbrev pub with_seat : List Participation → ℕ → Participation → List Participation
-with_seat xs h y = slice_set xs h y
+abbrev pub with_participation : List Participation → ℕ → Participation → List Participation
+with_participation xs h y = slice_set xs h y
 
 abbrev pub world_by : UnitState → List Participation → List Entry → World
 world_by u xs es = record { unit = u; controls = map (λ x. x.control) xs; entries = es }
 
-pub at_seat : (xs : List Participation) (h : ℕ) (x : Participation) → h < length xs → get_or xs h x ≡ x → slice_get xs h ≡ Some x
-at_seat xs h x there is = slice_get-get_or xs h x there ∙ ap Some is
+pub at_participation : (xs : List Participation) (h : ℕ) (x : Participation) → h < length xs → get_or xs h x ≡ x → slice_get xs h ≡ Some x
+at_participation xs h x there is = slice_get-get_or xs h x there ∙ ap Some is
 
 pub control_at : (u : UnitState) (xs : List Participation) (es : List Entry) (h : ℕ) (x : Participation) → slice_get xs h ≡ Some x → control (world_by u xs es) h ≡ x.control
 control_at u xs es h x is = ap (λ o. option_map_or (λ c. c) o Free) (slice_get-map (λ s. s.control) xs h ∙ ap (option_map (λ s. s.control)) is)
@@ -34,20 +34,20 @@ plan_at u xs es h x is = ap (λ o. option_map_or (λ p. p) o []) (slice_get-map 
 
 -- nothing was sent, and all is as it was
 pub rests : (u v : UnitState) (xs : List Participation) (es : List Entry) (h : ℕ) (x y : Participation) → get_or xs h x ≡ x → y.control ≡ x.control → v ≡ u
-    → world_by v (with_seat xs h y) (es ++ []) ≡ world_by u xs es
+    → world_by v (with_participation xs h y) (es ++ []) ≡ world_by u xs es
 rests u v xs es h x y at same is =
     let controls = map-set_same (λ s. s.control) xs h y x (same ∙ ap (λ s. s.control) (sym at)) in
     λ i. record { unit = is i; controls = controls i; entries = append-nil es i }
 
 -- this entry was sent, and the reply taken
 pub world_after : (u v : UnitState) (xs : List Participation) (es : List Entry) (h line : ℕ) (c : Command) (e : Entry) (x y : Participation) → slice_get xs h ≡ Some x
-    → IsSent u h c e v → y.control ≡ taken line x.control e.reply → world_by v (with_seat xs h y) (es ++ e ∷ []) ≡ after (world_by u xs es) h line (spelling c) e.reply v
+    → IsSent u h c e v → y.control ≡ taken line x.control e.reply → world_by v (with_participation xs h y) (es ++ e ∷ []) ≡ after (world_by u xs es) h line (spelling c) e.reply v
 world_after u v xs es h line c e x y at sent takes =
     let controls = map-set (λ s. s.control) xs h y ∙ ap (λ k. slice_set (map (λ s. s.control) xs) h k) (takes ∙ ap (λ k. taken line k e.reply) (sym (control_at u xs es h x at))) in
     λ i. record { unit = v; controls = controls i; entries = es ++ sent.entry i ∷ [] }
 
 pub sends : (u v : UnitState) (xs : List Participation) (es : List Entry) (h line : ℕ) (c : Command) (e : Entry) (x y : Participation) → slice_get xs h ≡ Some x
-    → IsSentHere u h c e v → y.control ≡ taken line x.control e.reply → Sends (world_by u xs es) h line c (world_by v (with_seat xs h y) (es ++ e ∷ []))
+    → IsSentHere u h c e v → y.control ≡ taken line x.control e.reply → Sends (world_by u xs es) h line c (world_by v (with_participation xs h y) (es ++ e ∷ []))
 sends u v xs es h line c e x y at sent takes = record {
   reply = e.reply;
   unit = v;

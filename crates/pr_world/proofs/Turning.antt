@@ -22,8 +22,8 @@ use Rattle.pr_roles.specs.Schedules.{HostTurn, SendsUnless, GuestTurn, TurnBy, T
 use Rattle.pr_world.specs.declared.participant.Participant.{Participant}
 use Rattle.pr_world.specs.Courses.{Participation, participation, participation_of, schedule_by, StandsFor, HappensBy, is_free, is_planned}
 use Rattle.pr_world.specs.Ends.{Ending, ending}
-use Rattle.pr_world.proofs.Participations.{at_seat, control_at, has_task, plan_at, rests, sends, with_seat, world_by}
-use Rattle.pr_world.proofs.Happening.{happens_at_seat}
+use Rattle.pr_world.proofs.Participations.{at_participation, control_at, has_task, plan_at, rests, sends, with_participation, world_by}
+use Rattle.pr_world.proofs.Happening.{happens_at_participation}
 use Rattle.pr_world.specs.declared.act.Act.{Act}
 use Rattle.pr_world.specs.declared.act.Act.TheVariants as act
 use Rattle.pr_world.specs.inside.Turns.{Acts, ActsAs, GuestActs, HostActs, SendsOr, Doing, sends as sending, seen, entry_in, does, does_as}
@@ -31,9 +31,9 @@ use Rattle.pr_world.specs.inside.Turns.{Acts, ActsAs, GuestActs, HostActs, Sends
 -- ---- hosts
 
 host_turn : (o : Option Standing) (u v : UnitState) (xs : List Participation) (es : List Entry) (h : ℕ) (e : Option Entry) (x y : Participation) → h < length xs → get_or xs h x ≡ x
-    → HostActs o h x u e y v → HostTurn o (world_by u xs es) h (world_by v (with_seat xs h y) (es ++ option_to_list e)) × (map (λ s. s.plan) (with_seat xs h y) ≡ map (λ s. s.plan) xs)
+    → HostActs o h x u e y v → HostTurn o (world_by u xs es) h (world_by v (with_participation xs h y) (es ++ option_to_list e)) × (map (λ s. s.plan) (with_participation xs h y) ≡ map (λ s. s.plan) xs)
 host_turn (Some (ready line c)) u v xs es h (Some e) x y there at acts = (
-  sends u v xs es h line c e x y (at_seat xs h x there at) acts.0 (ap (λ s. s.control) acts.1),
+  sends u v xs es h line c e x y (at_participation xs h x there at) acts.0 (ap (λ s. s.control) acts.1),
   map-set_same (λ s. s.plan) xs h y x (ap (λ s. s.plan) acts.1 ∙ ap (λ s. s.plan) (sym at)),
 )
 host_turn (Some (ready line c)) u v xs es h None x y there at acts = absurd acts
@@ -47,16 +47,16 @@ host_turn None u v xs es h None x y there at acts =
 -- ---- guests
 
 sends_unless : (b : Bool) (u v : UnitState) (xs : List Participation) (es : List Entry) (h : ℕ) (c : Command) (e : Option Entry) (x y : Participation) → h < length xs → get_or xs h x ≡ x
-    → x.control ≡ Free → y.control ≡ Free → SendsOr b h u c e v → SendsUnless b (world_by u xs es) h c (world_by v (with_seat xs h y) (es ++ option_to_list e))
+    → x.control ≡ Free → y.control ≡ Free → SendsOr b h u c e v → SendsUnless b (world_by u xs es) h c (world_by v (with_participation xs h y) (es ++ option_to_list e))
 sends_unless true u v xs es h c (Some e) x y there at free still acts = absurd acts
 sends_unless true u v xs es h c None x y there at free still acts = rests u v xs es h x y at (still ∙ sym free) acts
 sends_unless false u v xs es h c (Some e) x y there at free still acts =
-    sends u v xs es h 0 c e x y (at_seat xs h x there at) acts (still ∙ ap (λ k. taken 0 k e.reply) (sym free))
+    sends u v xs es h 0 c e x y (at_participation xs h x there at) acts (still ∙ ap (λ k. taken 0 k e.reply) (sym free))
 sends_unless false u v xs es h c None x y there at free still acts = absurd acts
 
 guest_turn : (clauses : List Clause) (planned : List Command) (u v : UnitState) (xs : List Participation) (es : List Entry) (h : ℕ) (e : Option Entry) (x y : Participation) → h < length xs
     → get_or xs h x ≡ x → x.control ≡ Free → GuestActs clauses h planned u e y v
-    → GuestTurn clauses planned (world_by u xs es) h (world_by v (with_seat xs h y) (es ++ option_to_list e)) y.plan
+    → GuestTurn clauses planned (world_by u xs es) h (world_by v (with_participation xs h y) (es ++ option_to_list e)) y.plan
 guest_turn clauses [] u v xs es h (Some e) x y there at free acts = absurd acts
 guest_turn clauses [] u v xs es h None x y there at free acts =
     (rests u v xs es h x y at (ap (λ s. s.control) acts.0 ∙ sym free) acts.1, ap (λ s. s.plan) acts.0)
@@ -67,29 +67,29 @@ guest_turn clauses (c ∷ cs) u v xs es h e x y there at free acts =
 
 turn_by : (t : Task) (k : Control) (s : Scenario) (u v : UnitState) (xs : List Participation) (es : List Entry) (h : ℕ) (e : Option Entry) (p : List Command) (y : Participation) → h < length xs
     → get_or xs h (participation k p) ≡ participation k p → is_planned t ≡ is_free k → ActsAs k (role s h) h (participation k p) u e y v
-    → TurnBy (Some t) s (schedule_by u xs es) h (schedule_by v (with_seat xs h y) (es ++ option_to_list e))
+    → TurnBy (Some t) s (schedule_by u xs es) h (schedule_by v (with_participation xs h y) (es ++ option_to_list e))
 turn_by (Scripted script budget) Free s u v xs es h e p y there at fits acts = let bad : false ≡ true = fits in cc
 turn_by (Scripted script budget) (Going l) s u v xs es h e p y there at fits acts =
     let x = participation (Going l) p in
-    subst (λ k. HostTurn (standing_of k) (world_by u xs es) h (world_by v (with_seat xs h y) (es ++ option_to_list e)) × (map (λ s. s.plan) (with_seat xs h y) ≡ map (λ s. s.plan) xs))
-    (sym (control_at u xs es h x (at_seat xs h x there at))) (host_turn (standing_of (Going l)) u v xs es h e x y there at acts)
+    subst (λ k. HostTurn (standing_of k) (world_by u xs es) h (world_by v (with_participation xs h y) (es ++ option_to_list e)) × (map (λ s. s.plan) (with_participation xs h y) ≡ map (λ s. s.plan) xs))
+    (sym (control_at u xs es h x (at_participation xs h x there at))) (host_turn (standing_of (Going l)) u v xs es h e x y there at acts)
 turn_by (Scripted script budget) (Trapped line) s u v xs es h e p y there at fits acts =
     let x = participation (Trapped line) p in
-    subst (λ k. HostTurn (standing_of k) (world_by u xs es) h (world_by v (with_seat xs h y) (es ++ option_to_list e)) × (map (λ s. s.plan) (with_seat xs h y) ≡ map (λ s. s.plan) xs))
-    (sym (control_at u xs es h x (at_seat xs h x there at))) (host_turn None u v xs es h e x y there at acts)
+    subst (λ k. HostTurn (standing_of k) (world_by u xs es) h (world_by v (with_participation xs h y) (es ++ option_to_list e)) × (map (λ s. s.plan) (with_participation xs h y) ≡ map (λ s. s.plan) xs))
+    (sym (control_at u xs es h x (at_participation xs h x there at))) (host_turn None u v xs es h e x y there at acts)
 turn_by (Planned commands) (Going l) s u v xs es h e p y there at fits acts = let bad : true ≡ false = fits in cc
 turn_by (Planned commands) (Trapped line) s u v xs es h e p y there at fits acts = let bad : true ≡ false = fits in cc
 turn_by (Planned commands) Free s u v xs es h e p y there at fits acts =
     let x = participation Free p in
-    let turn = subst (λ cs. GuestTurn (role s h) cs (world_by u xs es) h (world_by v (with_seat xs h y) (es ++ option_to_list e)) y.plan)
-    (sym (plan_at u xs es h x (at_seat xs h x there at))) (guest_turn (role s h) p u v xs es h e x y there at refl acts) in
+    let turn = subst (λ cs. GuestTurn (role s h) cs (world_by u xs es) h (world_by v (with_participation xs h y) (es ++ option_to_list e)) y.plan)
+    (sym (plan_at u xs es h x (at_participation xs h x there at))) (guest_turn (role s h) p u v xs es h e x y there at refl acts) in
     (y.plan, turn, map-set (λ s. s.plan) xs h y)
 
 pub turn_of_seats : (s : Scenario) (u v : UnitState) (xs : List Participation) (es : List Entry) (h : ℕ) (e : Option Entry) (x y : Participation) → StandsFor s u xs → h < length xs
-    → get_or xs h x ≡ x → Acts (role s h) h x u e y v → Turn s (schedule_by u xs es) h (schedule_by v (with_seat xs h y) (es ++ option_to_list e))
+    → get_or xs h x ≡ x → Acts (role s h) h x u e y v → Turn s (schedule_by u xs es) h (schedule_by v (with_participation xs h y) (es ++ option_to_list e))
 turn_of_seats s u v xs es h e x y stands there at acts =
-    let has = has_task s u xs h x stands (at_seat xs h x there at) in
-    subst (λ o. TurnBy (option_map_or (λ n. Some n.task) o None) s (schedule_by u xs es) h (schedule_by v (with_seat xs h y) (es ++ option_to_list e))) (sym has.is)
+    let has = has_task s u xs h x stands (at_participation xs h x there at) in
+    subst (λ o. TurnBy (option_map_or (λ n. Some n.task) o None) s (schedule_by u xs es) h (schedule_by v (with_participation xs h y) (es ++ option_to_list e))) (sym has.is)
     (turn_by has.nexus.task x.control s u v xs es h e x.plan y there at has.planned acts)
 
 -- ---- who is a guest stays one
@@ -146,7 +146,7 @@ turned s u v ps es h e p q stands there at acts hosts =
     record {
       turn = subst (λ ys. Turn s (schedule_by u xs es) h (schedule_by v ys (es ++ option_to_list e))) (sym participations)
           (turn_of_seats s u v xs es h e (participation_of p) (participation_of q) stands among seated acts);
-      happens = subst (λ ys. HappensBy s h e (world_by u xs es) (world_by v ys (es ++ option_to_list e))) (sym participations) (happens_at_seat s u v xs es h e (participation_of p) (participation_of q) stands among seated acts);
+      happens = subst (λ ys. HappensBy s h e (world_by u xs es) (world_by v ys (es ++ option_to_list e))) (sym participations) (happens_at_participation s u v xs es h e (participation_of p) (participation_of q) stands among seated acts);
       stands = record {
         hosts = hosts ∙ stands.hosts;
         tasks = ap (map (λ x. is_free x.control)) participations
@@ -214,7 +214,7 @@ doing_at p q u ps es h i d n x stands there same at nexus participation does_so 
     let xs = map participation_of ps in
     let among : h < length xs = rw (length-tasks s u xs stands) there in
     let seated : get_or xs h (participation_of x) ≡ participation_of x = get_or-map participation_of ps h x ∙ ap participation_of (sym (participation ∙ ap (λ j. get_or ps j x) at)) in
-    let found = at_seat xs h (participation_of x) among seated in
+    let found = at_participation xs h (participation_of x) among seated in
     let named = nexus ∙ (ap (λ r. get_or r.nexuses.items i n) same ∙ ap (λ j. get_or p.nexuses.items j n) at) in
     subst (λ clauses. d ≡ does_as (participation_of x).control clauses u h (participation_of x).plan) (role_at p h n there named) does_so
     ∙ sym (λ i. does_as (control_at u xs es h (participation_of x) found i) (role s h) u h (plan_at u xs es h (participation_of x) found i))

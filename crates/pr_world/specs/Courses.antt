@@ -16,8 +16,6 @@ use Rattle.pr_roles.specs.Worlds.{World, Event, Happens, Run, Control, Going, Tr
 use Rattle.pr_roles.specs.Starts.{IsAllowedStart, first_state}
 use Rattle.pr_roles.specs.Schedules.{Schedule, ScheduledRun, schedule_from, plan_of}
 use Rattle.pr_world.specs.declared.course.Course.{Course}
-use Rattle.pr_world.specs.declared.host_script.HostScript.{HostScript}
-use Rattle.pr_world.specs.declared.host_script.HostScript.TheVariants as script
 use Rattle.pr_world.specs.declared.participant.Participant.{Participant}
 use Rattle.pr_world.specs.declared.participant.Participant.TheVariants as participant
 
@@ -29,12 +27,9 @@ pub record Participation : Type 0 where
 abbrev pub participation : Control → List Command → Participation
 participation k plan = record { control = k; plan = plan }
 
-abbrev pub control_in : HostScript → Control
-control_in (script.Going l) = Going l
-control_in (script.Trapped line) = Trapped line
-
 abbrev pub participation_of : Participant → Participation
-participation_of (participant.Host it) = participation (control_in it) []
+participation_of (participant.Host l) = participation (Going l) []
+participation_of (participant.Trapped line) = participation (Trapped line) []
 participation_of (participant.Guest plan) = participation Free plan.commands.items
 
 -- at the beginning

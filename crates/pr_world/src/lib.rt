@@ -6,7 +6,6 @@ mod auditing;
 mod auditor;
 mod course;
 mod end;
-mod host_script;
 mod laws;
 mod participant;
 mod plan;

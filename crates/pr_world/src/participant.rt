@@ -10,18 +10,23 @@ ghost use Rattle.pr_world.specs.inside.Turns.{Acts, entry_in, seen as act_seen, 
 
 use crate::act::Act;
 use crate::end::End;
-use crate::host_script::HostScript;
 use crate::plan::Plan;
 use pr_cdb::{Command, encode};
 use pr_roles::{Entry, Nexus, Role, Task, permits};
-use pr_script::Next;
+use pr_script::{Machine, Next};
 use pr_unit::Unit;
 use std::alloc::{AllocError, Global};
 
 /// A nexus at work.
 #[derive(Debug, Drop)]
 pub(crate) enum Participant {
-    Host(HostScript),
+    /// The host's script goes on.
+    Host(Machine),
+
+    /// The host's script met a reply without an arm, at the send of this line.
+    Trapped(u32),
+
+    /// The guest has a plan.
     Guest(Plan),
 }
 
@@ -32,7 +37,7 @@ impl Participant {
         ensures { IfOk result (λ participant. participation_of participant ≡ participation_from (task_of nexus.now.task)) }
     {
         match &nexus.task {
-            Task::Scripted { script, .. } => Ok(Participant::Host(HostScript::new(alloc, script)?)),
+            Task::Scripted { script, .. } => Ok(Participant::Host(Machine::new(alloc, script)?)),
             Task::Planned(commands) => Ok(Participant::Guest(Plan::new(alloc, commands)?)),
         }
     }
@@ -48,15 +53,18 @@ impl Participant {
         ensures hosts { unit.new.registry.hosts ≡ unit.old.registry.hosts }
     {
         match self {
-            Participant::Host(script) => match script.next() {
-                Some(Next::Send { line, command }) => {
-                    let entry = sent(unit, host, command);
-                    script.take(line, &entry.reply);
-                    Act::Sent(entry)
+            Participant::Host(machine) => {
+                let (line, command) = match machine.next() {
+                    Next::Send { line, command } => (line, command),
+                    Next::Stopped(word) => return Act::Stopped(word),
+                };
+                let entry = sent(unit, host, command);
+                if machine.take(&entry.reply).is_err() {
+                    *self = Participant::Trapped(line);
                 }
-                Some(Next::Stopped(word)) => Act::Stopped(word),
-                None => Act::Trapped,
-            },
+                Act::Sent(entry)
+            }
+            Participant::Trapped(_) => Act::Trapped,
             Participant::Guest(plan) => {
                 let Some(command) = plan.next() else {
                     return Act::Finished;
@@ -74,7 +82,11 @@ impl Participant {
         ensures { ending (participation_of self.now).control (participation_of self.now).plan ≡ Some (seen result) }
     {
         match self {
-            Participant::Host(script) => script.end(),
+            Participant::Host(machine) => match machine.next() {
+                Next::Send { line, .. } => End::Ready(line),
+                Next::Stopped(word) => End::Stopped(word),
+            },
+            Participant::Trapped(line) => End::Trapped(*line),
             Participant::Guest(plan) => End::Left(plan.left()),
         }
     }

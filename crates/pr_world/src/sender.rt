@@ -8,17 +8,21 @@ ghost use Rattle.pr_roles.specs.Worlds.{control_of};
 ghost use Rattle.pr_world.specs.Courses.{IsShort};
 ghost use Rattle.pr_world.specs.inside.Auditing.{IsGuestJudged, IsJudged, control_by};
 
-use crate::host_script::HostScript;
 use pr_cdb::{Request, Status, decode, encode};
 use pr_roles::{Entry, Nexus, Role, Task, permits};
-use pr_script::Next;
+use pr_script::{Machine, Next};
 use pr_unit::Unit;
 use std::alloc::{AllocError, Global};
 
 /// A nexus of an audit. Of a guest's plan an audit knows nothing.
 #[derive(Debug, Drop)]
 pub(crate) enum Sender {
-    Host(HostScript),
+    /// The host's script goes on.
+    Host(Machine),
+
+    /// The host's script met a reply without an arm, at the send of this line.
+    Trapped(u32),
+
     Guest,
 }
 
@@ -29,7 +33,7 @@ impl Sender {
         ensures { IfOk result (λ sender. control_by sender ≡ control_of (task_of nexus.now.task)) }
     {
         match &nexus.task {
-            Task::Scripted { script, .. } => Ok(Sender::Host(HostScript::new(alloc, script)?)),
+            Task::Scripted { script, .. } => Ok(Sender::Host(Machine::new(alloc, script)?)),
             Task::Planned(_) => Ok(Sender::Guest),
         }
     }
@@ -42,9 +46,10 @@ impl Sender {
             (control_by self.new) unit.new }
     {
         match self {
-            Sender::Host(script) => {
-                let Some(Next::Send { line, command }) = script.next() else {
-                    return false;
+            Sender::Host(machine) => {
+                let (line, command) = match machine.next() {
+                    Next::Send { line, command } => (line, command),
+                    Next::Stopped(_) => return false,
                 };
                 if entry.wire != encode(&command) {
                     return false;
@@ -52,9 +57,12 @@ impl Sender {
                 if !unit.follow(entry.host, &entry.wire, &entry.reply) {
                     return false;
                 }
-                script.take(line, &entry.reply);
+                if machine.take(&entry.reply).is_err() {
+                    *self = Sender::Trapped(line);
+                }
                 true
             }
+            Sender::Trapped(_) => false,
             Sender::Guest => guest_sends(unit, role, entry),
         }
     }

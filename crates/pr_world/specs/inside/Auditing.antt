@@ -17,7 +17,7 @@ use Rattle.pr_roles.specs.Worlds.{World, Event, Happens, Control, Going, Trapped
 use Rattle.pr_world.specs.declared.auditor.Auditor.{Auditor}
 use Rattle.pr_world.specs.declared.sender.Sender.{Sender}
 use Rattle.pr_world.specs.declared.sender.Sender.TheVariants as sender
-use Rattle.pr_world.specs.Courses.{control_in, is_free, is_planned}
+use Rattle.pr_world.specs.Courses.{is_free, is_planned}
 
 -- ---- one nexus
 
@@ -52,7 +52,8 @@ IsJudged k clauses u e false after v =
     (after ≡ k) × (v ≡ u) × ((other : Control) (w : UnitState) → MayCome k clauses u e other w → ⊥)
 
 abbrev pub control_by : Sender → Control
-control_by (sender.Host script) = control_in script
+control_by (sender.Host l) = Going l
+control_by (sender.Trapped line) = Trapped line
 control_by sender.Guest = Free
 
 -- the same of a guest

@@ -2,9 +2,7 @@
 use Rattle.std.specs.Prelude.{◌≡◌, ℕ, Bool, true, false, if◌then◌else◌, List, [], ◌∷◌, Option, Some, None}
 use Rattle.pr_cdb.specs.declared.command.Command.{Command}
 use Rattle.pr_unit.specs.UnitStates.{UnitState}
-use Rattle.pr_script.specs.declared.next.Next.{Next}
-use Rattle.pr_script.specs.Scripts.{Standing, ready, stopped, is_ready}
-use Rattle.pr_script.specs.Next.{is_send}
+use Rattle.pr_script.specs.Scripts.{Standing, ready, stopped}
 use Rattle.pr_roles.specs.declared.role.Clause.{Clause}
 use Rattle.pr_roles.specs.declared.entry.Entry.{Entry}
 use Rattle.pr_roles.specs.Scenarios.{Scenario, role}
@@ -51,16 +49,6 @@ does_as Free clauses u h planned = guest_does clauses u h planned
 -- what h does, if this is its turn
 abbrev pub does : Scenario → Schedule → ℕ → Doing
 does s x h = does_as (control x.world h) (role s h) x.world.unit h (plan x h)
-
--- the script's next is a send
-abbrev pub is_sending : Control → Bool
-is_sending (Going l) = is_ready l
-is_sending (Trapped line) = false
-is_sending Free = false
-
-abbrev pub sends_next : Option Next → Bool
-sends_next None = false
-sends_next (Some next) = is_send next
 
 -- ---- and what comes of it
 
