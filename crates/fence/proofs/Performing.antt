@@ -5,6 +5,7 @@ use Rattle.std.specs.List.{list_all, range_with_len, slice_get}
 use Rattle.std.specs.Option.{option_map_or}
 use Rattle.std.specs.Io.KnownBytes.{Appends}
 use Rattle.std.proofs.lemmas.Bool.{and_parts}
+use Rattle.pr_cdb.specs.declared.codes.TheConstants.{MOST_NEXUSES}
 use Rattle.pr_roles.specs.declared.parts.Nexus.{Nexus as NexusPart}
 use Rattle.pr_roles.specs.declared.parts.Parts.{Parts}
 use Rattle.pr_verify.specs.declared.verifying.Refused.{Refused}
@@ -77,7 +78,7 @@ room_in keys (n ∷ ns) (suc h) fit = room_in keys ns h (and_parts (is_nexus key
 
 each_nexus : (keys : List ℕ) (ns : List Nexus) → are_nexuses keys ns ≡ true → list_all (is_nexus keys) ns ≡ true
 each_nexus keys ns is =
-    (and_parts (are_distinct bytes_eq (map (λ n. n.name) ns)) _ (and_parts (nat_le (length ns) 8) _ (and_parts (not (length ns == 0)) _ is).1).1).1
+    (and_parts (are_distinct bytes_eq (map (λ n. n.name) ns)) _ (and_parts (nat_le (length ns) MOST_NEXUSES) _ (and_parts (not (length ns == 0)) _ is).1).1).1
 
 pub short_rooms : (s : Scenario) (h : ℕ) → Fits s → room_by (task s h) ≤ 4096
 short_rooms s h fits = room_in s.keys s.nexuses h (each_nexus s.keys s.nexuses fits.nexuses)

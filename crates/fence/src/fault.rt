@@ -5,7 +5,7 @@ ghost use Rattle.std.specs.Fmt.{decimal};
 ghost use Rattle.pr_report.specs.Written.{AppendsFront, Puts};
 ghost use Rattle.pr_report.specs.Printed.{printed};
 ghost use Rattle.pr_report.specs.PrintedLines.{line};
-ghost use Rattle.fence.specs.FaultText.{exit_status_of, fault_text, status_of, told_line, input_words, trace_words, of_whole, at_line, of_text, of_line, which_word};
+ghost use Rattle.fence.specs.FaultText.{exit_status_of, fault_text, status_of, told_line, input_words, trace_words, of_whole, at_line, which_word};
 
 use pr_report::{TraceError, Word, WriteFault, put_line};
 use pr_roles::Word as Name;
@@ -185,18 +185,36 @@ fn put_input<W: Write>(errors: &mut W, error: ReadError) -> Result<(), WriteFaul
     ensures { Puts (W.contents errors.old) (W.contents errors.new) (told_line (input_words error)) result }
 {
     match error {
-        ReadError::TooLarge => put_of_text(errors, b"1", b"TooLarge"),
-        ReadError::NotAscii { line } => put_of_line(errors, b"2", b"NotAscii", line),
-        ReadError::LineTooLong { line } => put_of_line(errors, b"3", b"LineTooLong", line),
-        ReadError::Syntax { line } => put_of_line(errors, b"4", b"Syntax", line),
-        ReadError::UnknownName { line } => put_of_line(errors, b"5", b"UnknownName", line),
+        ReadError::TooLarge => put_of_whole(errors, b"input", b"1", b"TooLarge"),
+        ReadError::NotAscii { line } => put_at_line(errors, b"input", b"2", b"NotAscii", line),
+        ReadError::LineTooLong { line } => put_at_line(
+            errors,
+            b"input",
+            b"3",
+            b"LineTooLong",
+            line,
+        ),
+        ReadError::Syntax { line } => put_at_line(errors, b"input", b"4", b"Syntax", line),
+        ReadError::UnknownName { line } => put_at_line(
+            errors,
+            b"input",
+            b"5",
+            b"UnknownName",
+            line,
+        ),
         ReadError::Limit { which, line } => put_limit(errors, which, line),
-        ReadError::UndeclaredKey { line } => put_of_line(errors, b"7", b"UndeclaredKey", line),
-        ReadError::Repeated { line } => put_of_line(errors, b"8", b"Repeated", line),
-        ReadError::Unclosed { line } => put_of_line(errors, b"9", b"Unclosed", line),
-        ReadError::ReadFault => put_of_text(errors, b"10", b"ReadFault"),
+        ReadError::UndeclaredKey { line } => put_at_line(
+            errors,
+            b"input",
+            b"7",
+            b"UndeclaredKey",
+            line,
+        ),
+        ReadError::Repeated { line } => put_at_line(errors, b"input", b"8", b"Repeated", line),
+        ReadError::Unclosed { line } => put_at_line(errors, b"input", b"9", b"Unclosed", line),
+        ReadError::ReadFault => put_of_whole(errors, b"input", b"10", b"ReadFault"),
         ReadError::Memory => put_memory(errors),
-        ReadError::EmptyStart => put_of_text(errors, b"12", b"EmptyStart"),
+        ReadError::EmptyStart => put_of_whole(errors, b"input", b"12", b"EmptyStart"),
     }
 }
 
@@ -205,29 +223,6 @@ fn put_memory<W: Write>(errors: &mut W) -> Result<(), WriteFault>
     ensures { Puts (W.contents errors.old) (W.contents errors.new) (told_line (codes "memory" ∷ [])) result }
 {
     put_told(errors, &[Word::Text(b"memory")])
-}
-
-// A fault of the whole text of a scenario.
-fn put_of_text<'a, W: Write>(
-    errors: &mut W,
-    number: &'a [u8],
-    name: &'a [u8],
-) -> Result<(), WriteFault>
-    ensures { Puts (W.contents errors.old) (W.contents errors.new) (told_line (of_text number.now name.now)) result }
-{
-    put_of_whole(errors, b"input", number, name)
-}
-
-// A fault of a line of it.
-fn put_of_line<'a, W: Write>(
-    errors: &mut W,
-    number: &'a [u8],
-    name: &'a [u8],
-    line: u32,
-) -> Result<(), WriteFault>
-    ensures { Puts (W.contents errors.old) (W.contents errors.new) (told_line (of_line number.now name.now line)) result }
-{
-    put_at_line(errors, b"input", number, name, line)
 }
 
 fn put_trace<W: Write>(errors: &mut W, error: TraceError) -> Result<(), WriteFault>

@@ -19,6 +19,7 @@ use crate::checks::settled;
 use crate::ending::{status_of, tell_end};
 use crate::fault::{Fault, Status};
 use arrayvec::ArrayVec;
+use pr_cdb::codes::MOST_NEXUSES;
 use pr_report::{Verdict, WriteFault, write_trace, write_verdict};
 use pr_roles::{Nexus, Scenario, Word as Name};
 use pr_shared::{Entry, NoGate, Outcome, RunError, run};
@@ -196,8 +197,8 @@ fn put_outcome<W: Write>(
 }
 
 // How many commands of each reached the unit.
-fn counts_of(history: &[Entry], nexuses: usize) -> ArrayVec<u32, 8>
-    requires few { nexuses ≤ 8 }
+fn counts_of(history: &[Entry], nexuses: usize) -> ArrayVec<u32, MOST_NEXUSES>
+    requires few { nexuses ≤ MOST_NEXUSES }
     requires fit { (h : ℕ) → sent history.now h < 2 ^ 32 }
     ensures { result.items ≡ map (λ h. sent history.now h) (range_with_len 0 nexuses) }
 {
