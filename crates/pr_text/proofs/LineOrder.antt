@@ -17,7 +17,7 @@ use Rattle.pr_text.specs.Declarations.{Declaration, OpenBlock, repeating, sendin
 use Rattle.pr_text.specs.Chain.{each}
 use Rattle.pr_text.specs.Declaring.{declared_keys, number_of, are_codes_distinct, held_of, is_spelled, is_test_declared}
 use Rattle.pr_text.specs.Faults.{and_then, unless}
-use Rattle.pr_text.specs.ScenarioLines.{StartReservation, ScenarioLine, fence_line, keys_line, host_line, guest_line, start_line, pending_line, reservation_line, generation_line, role_line, script_line, plan_line, end_line, send_line, on_line, done_line, repeat_line, break_line, stop_line, command_line}
+use Rattle.pr_text.specs.ScenarioLines.{StartReservation, ScenarioLine, fence_line, keys_line, nexus_line, start_line, pending_line, reservation_line, generation_line, role_line, script_line, plan_line, end_line, send_line, on_line, done_line, repeat_line, break_line, stop_line, command_line}
 use Rattle.pr_text.specs.NextLine.{with_more, opening, stating, closing, item_placed}
 use Rattle.pr_text.specs.ScriptLines.{send_at, arm_on, repeat_of, break_out, stop_with}
 use Rattle.pr_text.specs.Standing.{is_repeating, is_sending, awaits_arm, awaits_more, may_close, stands_under}
@@ -140,8 +140,7 @@ outside_same : (n : ℕ) (i : ScenarioLine) (d : Declared) → item_placed n i (
 unfolding item_placed generation_placed
 outside_same n fence_line d = refl
 outside_same n (keys_line keys) d = keys_same n keys d
-outside_same n (host_line name) d = nexus_same n false name d
-outside_same n (guest_line name) d = nexus_same n true name d
+outside_same n (nexus_line guest name) d = nexus_same n guest name d
 outside_same n (start_line name xs) d = start_same n name xs d
 outside_same n (pending_line name xs) d = pending_same n name xs d
 outside_same n (reservation_line ws) d = reservation_same n ws d
@@ -164,8 +163,7 @@ first_same : (n : ℕ) (i : ScenarioLine) (d : Declared) → item_placed n i (at
 unfolding item_placed
 first_same n fence_line d = refl
 first_same n (keys_line keys) d = refl
-first_same n (host_line name) d = refl
-first_same n (guest_line name) d = refl
+first_same n (nexus_line guest name) d = refl
 first_same n (start_line name xs) d = refl
 first_same n (pending_line name xs) d = refl
 first_same n (reservation_line ws) d = refl
@@ -280,8 +278,7 @@ in_script_same n break_line o d = break_same n o d
 in_script_same n (stop_line word) o d = stop_same n word o d
 in_script_same n fence_line o d = refl
 in_script_same n (keys_line keys) o d = refl
-in_script_same n (host_line name) o d = refl
-in_script_same n (guest_line name) o d = refl
+in_script_same n (nexus_line guest name) o d = refl
 in_script_same n (start_line name xs) o d = refl
 in_script_same n (pending_line name xs) o d = refl
 in_script_same n (reservation_line ws) o d = refl
@@ -312,8 +309,7 @@ in_plan_same n h commands (command_line s) d = command_same n h commands s d
 in_plan_same n h commands end_line d = refl
 in_plan_same n h commands fence_line d = refl
 in_plan_same n h commands (keys_line keys) d = refl
-in_plan_same n h commands (host_line name) d = refl
-in_plan_same n h commands (guest_line name) d = refl
+in_plan_same n h commands (nexus_line guest name) d = refl
 in_plan_same n h commands (start_line name xs) d = refl
 in_plan_same n h commands (pending_line name xs) d = refl
 in_plan_same n h commands (reservation_line ws) d = refl

@@ -16,7 +16,7 @@ use Rattle.pr_text.specs.declared.fault.ReadError.{ReadError}
 use Rattle.pr_text.specs.declared.spelling.ParsedCommand.{ParsedCommand}
 use Rattle.pr_text.specs.Faults.{and_then}
 use Rattle.pr_text.specs.Declarations.{OpenLines, WrittenTask, scripted, planned, Declaration, Place, before_all, outside, in_script, in_plan, Declared}
-use Rattle.pr_text.specs.ScenarioLines.{ScenarioLine, keys_line, host_line, guest_line, start_line, pending_line, reservation_line, generation_line, role_line, script_line, plan_line, end_line, command_line, fence_line}
+use Rattle.pr_text.specs.ScenarioLines.{ScenarioLine, keys_line, nexus_line, start_line, pending_line, reservation_line, generation_line, role_line, script_line, plan_line, end_line, command_line, fence_line}
 use Rattle.pr_text.specs.inside.Chains.{script_step, nexus_set, on_nexus, at_number, at_name, start_fault, start_at, start_placed, pending_at, pending_placed, generation_placed, role_at, role_placed, script_fault, script_at, script_placed, plan_at, plan_placed, placed_first, placed_outside, script_ended, placed_in_script, planned_step, placed_in_plan, placed_at, item_taken}
 use Rattle.pr_text.specs.Declaring.{declared_keys, number_of, codes_of}
 use Rattle.pr_text.specs.NextLine.{begun_script, with_task, item_placed}
@@ -178,8 +178,7 @@ plan_line_sound n name d e sound r =
 
 outside_sound : (n : ℕ) (i : ScenarioLine) (d e : Declared) → d.place ≡ outside → IsSound n d → is_item i ≡ true → placed_outside (n + 1) i d ≡ Ok e → IsSound (n + 1) e
 outside_sound n (keys_line keys) d e at h s r = keys_sound n keys d e at s h r
-outside_sound n (host_line name) d e at h s r = nexus_sound n false name d e at s h r
-outside_sound n (guest_line name) d e at h s r = nexus_sound n true name d e at s h r
+outside_sound n (nexus_line guest name) d e at h s r = nexus_sound n guest name d e at s h r
 outside_sound n (start_line name xs) d e at h s r = start_sound n name xs d e at s h r
 outside_sound n (pending_line name xs) d e at h s r = pending_sound n name xs d e at h r
 outside_sound n (reservation_line ws) d e at h s r = reservation_sound n ws d e at s h r

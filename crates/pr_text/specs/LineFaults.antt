@@ -13,15 +13,14 @@ use Rattle.pr_text.specs.declared.fault.ReadError.TheVariants as fault
 use Rattle.pr_text.specs.Declarations.{OpenBlock, Declared}
 use Rattle.pr_text.specs.Chain.{each}
 use Rattle.pr_text.specs.Declaring.{declared_keys, number_of, named, holds_of, are_codes_distinct, held_of, is_spelled, is_test_declared}
-use Rattle.pr_text.specs.ScenarioLines.{ScenarioLine, fence_line, keys_line, host_line, guest_line, start_line, pending_line, reservation_line, generation_line, role_line, script_line, plan_line, end_line, send_line, on_line, done_line, repeat_line, break_line, stop_line, command_line}
-use Rattle.pr_text.specs.Standing.{is_before_all, is_outside, of_plan, of_script, of_send, is_repeating, is_sending, awaits_arm, awaits_more, may_close, stands_under}
+use Rattle.pr_text.specs.ScenarioLines.{ScenarioLine, fence_line, keys_line, nexus_line, start_line, pending_line, reservation_line, generation_line, role_line, script_line, plan_line, end_line, send_line, on_line, done_line, repeat_line, break_line, stop_line, command_line}
+use Rattle.pr_text.specs.Standing.{by_place, is_before_all, is_outside, of_plan, of_script, by_innermost, is_repeating, is_sending, awaits_arm, awaits_more, may_close, stands_under}
 
 -- it may not stand here
 abbrev pub out_of_place : Declared → ScenarioLine → Bool
 out_of_place d fence_line = not (is_before_all d.place)
 out_of_place d (keys_line keys) = not (is_outside d.place)
-out_of_place d (host_line name) = not (is_outside d.place)
-out_of_place d (guest_line name) = not (is_outside d.place)
+out_of_place d (nexus_line guest name) = not (is_outside d.place)
 out_of_place d (start_line name xs) = not (is_outside d.place)
 out_of_place d (pending_line name xs) = not (is_outside d.place)
 out_of_place d (reservation_line ws) = not (is_outside d.place)
@@ -29,9 +28,9 @@ out_of_place d (generation_line g) = not (is_outside d.place)
 out_of_place d (role_line name clause) = not (is_outside d.place)
 out_of_place d (script_line name budget) = not (is_outside d.place)
 out_of_place d (plan_line name) = not (is_outside d.place)
-out_of_place d end_line = of_script (of_plan true (λ h commands. false) d.place) (λ o. not (length o.blocks == 0)) d.place
+out_of_place d end_line = by_place true true (λ o. not (length o.blocks == 0)) (λ h commands. false) d.place
 out_of_place d (send_line s) = of_script true (λ o. awaits_arm o.blocks) d.place
-out_of_place d (on_line t) = of_script true (λ o. of_send true (λ c arms. not (stands_under c t)) o.blocks) d.place
+out_of_place d (on_line t) = of_script true (λ o. by_innermost true true (λ c arms. not (stands_under c t)) o.blocks) d.place
 out_of_place d done_line = of_script true (λ o. not (may_close o.blocks o.begun)) d.place
 out_of_place d (repeat_line count) = of_script true (λ o. awaits_arm o.blocks) d.place
 out_of_place d break_line = of_script true (λ o. awaits_more o || count_by is_repeating o.blocks == 0) d.place
@@ -42,8 +41,7 @@ out_of_place d (command_line s) = of_plan true (λ h commands. false) d.place
 abbrev pub names_unknown : Declared → ScenarioLine → Bool
 names_unknown d fence_line = false
 names_unknown d (keys_line keys) = false
-names_unknown d (host_line name) = false
-names_unknown d (guest_line name) = false
+names_unknown d (nexus_line guest name) = false
 names_unknown d (start_line name xs) = is_none (named d name)
 names_unknown d (pending_line name xs) = is_none (named d name)
 names_unknown d (reservation_line ws) = is_none (each (held_of d.nexuses) ws)
@@ -64,8 +62,7 @@ names_unknown d (command_line s) = false
 abbrev pub keys_undeclared : Declared → ScenarioLine → Bool
 keys_undeclared d fence_line = false
 keys_undeclared d (keys_line keys) = false
-keys_undeclared d (host_line name) = false
-keys_undeclared d (guest_line name) = false
+keys_undeclared d (nexus_line guest name) = false
 keys_undeclared d (start_line name xs) = not (list_all (is_alternative (declared_keys d)) xs)
 keys_undeclared d (pending_line name xs) = false
 keys_undeclared d (reservation_line ws) = false
@@ -86,8 +83,7 @@ keys_undeclared d (command_line s) = not (is_spelled (declared_keys d) s)
 abbrev pub says_again : Declared → ScenarioLine → Bool
 says_again d fence_line = false
 says_again d (keys_line keys) = is_some d.keys || not (are_distinct (λ j k. j == k) keys)
-says_again d (host_line name) = is_some (number_of d.nexuses name)
-says_again d (guest_line name) = is_some (number_of d.nexuses name)
+says_again d (nexus_line guest name) = is_some (number_of d.nexuses name)
 says_again d (start_line name xs) = holds_of d name (λ x. is_some x.start) || not (are_distinct is_same_alternative xs)
 says_again d (pending_line name xs) = holds_of d name (λ x. is_some x.pending) || not (are_codes_distinct xs)
 says_again d (reservation_line ws) = is_some d.reservations || not (are_distinct is_same_reservation (unwrap_or (each (held_of d.nexuses) ws) []))
@@ -116,8 +112,7 @@ past_size d other = if of_script false (λ o. nat_le MOST_STATEMENTS o.statement
 abbrev pub past_limit : Declared → ScenarioLine → Option Which
 past_limit d fence_line = None
 past_limit d (keys_line keys) = if nat_lt MOST_KEYS (length keys) then Some which.Keys else None
-past_limit d (host_line name) = if nat_le MOST_NEXUSES (length d.nexuses) then Some which.Hosts else None
-past_limit d (guest_line name) = if nat_le MOST_NEXUSES (length d.nexuses) then Some which.Hosts else None
+past_limit d (nexus_line guest name) = if nat_le MOST_NEXUSES (length d.nexuses) then Some which.Hosts else None
 past_limit d (start_line name xs) = None
 past_limit d (pending_line name xs) = None
 past_limit d (reservation_line ws) = None
@@ -127,7 +122,7 @@ past_limit d (script_line name budget) = if not (nat_le 1 budget && nat_le budge
 past_limit d (plan_line name) = None
 past_limit d end_line = None
 past_limit d (send_line s) = past_size d (if nests d is_sending then Some which.Nesting else None)
-past_limit d (on_line t) = if of_script false (λ o. of_send false (λ c arms. nat_le MOST_ARMS arms) o.blocks) d.place then Some which.Arms else None
+past_limit d (on_line t) = if of_script false (λ o. by_innermost false false (λ c arms. nat_le MOST_ARMS arms) o.blocks) d.place then Some which.Arms else None
 past_limit d done_line = None
 past_limit d (repeat_line count) = past_size d (
     if nests d is_repeating then Some which.Nesting else (

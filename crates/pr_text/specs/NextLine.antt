@@ -9,10 +9,10 @@ use Rattle.pr_text.specs.Declarations.{WrittenTask, scripted, planned, Declarati
 use Rattle.pr_text.specs.Chain.{each}
 use Rattle.pr_text.specs.Declaring.{number_of, codes_of, held_of}
 use Rattle.pr_text.specs.Faults.{unless}
-use Rattle.pr_text.specs.ScenarioLines.{ScenarioLine, fence_line, keys_line, host_line, guest_line, start_line, pending_line, reservation_line, generation_line, role_line, script_line, plan_line, end_line, send_line, on_line, done_line, repeat_line, break_line, stop_line, command_line}
+use Rattle.pr_text.specs.ScenarioLines.{ScenarioLine, fence_line, keys_line, nexus_line, start_line, pending_line, reservation_line, generation_line, role_line, script_line, plan_line, end_line, send_line, on_line, done_line, repeat_line, break_line, stop_line, command_line}
 use Rattle.pr_text.specs.LineFaults.{fault_at}
 use Rattle.pr_text.specs.ScriptLines.{ScriptLine, send_at, arm_on, block_done, repeat_of, break_out, stop_with}
-use Rattle.pr_text.specs.Standing.{of_plan, of_script}
+use Rattle.pr_text.specs.Standing.{by_place, of_plan, of_script, by_innermost}
 
 -- ---- nexuses
 
@@ -47,13 +47,9 @@ abbrev pub stating : ScriptLine → OpenLines → OpenLines
 stating line o = record o { lines = o.lines ++ line ∷ []; statements = o.statements + 1; begun = true }
 
 -- the innermost block, a send, has one arm more
-abbrev pub with_arm : List OpenBlock → List OpenBlock
-with_arm [] = []
-with_arm (repeating ∷ bs) = repeating ∷ bs
-with_arm ((sending c arms) ∷ bs) = sending c (arms + 1) ∷ bs
-
 abbrev pub in_arm : Test → OpenLines → OpenLines
-in_arm t o = record o { lines = o.lines ++ arm_on t ∷ []; blocks = with_arm o.blocks; begun = false }
+in_arm t o =
+    record o { lines = o.lines ++ arm_on t ∷ []; blocks = by_innermost o.blocks o.blocks (λ c arms. sending c (arms + 1) ∷ drop 1 o.blocks) o.blocks; begun = false }
 
 -- the innermost block ends
 abbrev pub closing : OpenLines → OpenLines
@@ -68,8 +64,7 @@ with_script d f = record d { place = of_script d.place (λ o. in_script (f o)) d
 abbrev pub with_line : ℕ → Declared → ScenarioLine → Declared
 with_line n d fence_line = record d { place = outside }
 with_line n d (keys_line keys) = record d { keys = Some keys }
-with_line n d (host_line name) = with_more n false name d
-with_line n d (guest_line name) = with_more n true name d
+with_line n d (nexus_line guest name) = with_more n guest name d
 with_line n d (start_line name xs) = with_named d name (λ x. record x { start = Some xs })
 with_line n d (pending_line name xs) = with_named d name (λ x. record x { pending = Some (codes_of xs) })
 with_line n d (reservation_line ws) = record d { reservations = each (held_of d.nexuses) ws }
@@ -78,7 +73,7 @@ with_line n d (role_line name clause) = with_named d name (λ x. record x { role
 with_line n d (script_line name budget) = option_map_or (λ h. record d { place = in_script (begun_script h budget) }) (number_of d.nexuses name) d
 with_line n d (plan_line name) = option_map_or (λ h. record d { place = in_plan h [] }) (number_of d.nexuses name) d
 with_line n d end_line =
-    of_script (of_plan d (λ h commands. with_task d h (planned commands)) d.place) (λ o. with_task d o.host (scripted o.lines o.budget)) d.place
+    by_place d d (λ o. with_task d o.host (scripted o.lines o.budget)) (λ h commands. with_task d h (planned commands)) d.place
 with_line n d (send_line s) = with_script d (opening (send_at n s.command) (sending s.command 0))
 with_line n d (on_line t) = with_script d (in_arm t)
 with_line n d done_line = with_script d closing

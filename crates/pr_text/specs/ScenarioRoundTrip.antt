@@ -1,6 +1,6 @@
 -- Agrees with docs/FORMATS.md, 'The lines of a scenario'.
 -- The lines that a scenario is written as, and what the reader makes of them.
-use Rattle.std.specs.Prelude.{◌≡◌, ℕ, List, [], ◌∷◌, ◌++◌, map, filter, Option, Some, None, Ok}
+use Rattle.std.specs.Prelude.{◌≡◌, ℕ, List, [], ◌∷◌, ◌++◌, map, filter, Option, Some, None, Ok, true, false}
 use Rattle.std.specs.FinSet as set
 use Rattle.std.specs.List.{All, flat_map, slice_get}
 use Rattle.std.specs.Option.{option_map_or}
@@ -13,18 +13,19 @@ use Rattle.pr_roles.specs.Scenarios.{Scenario, Nexus, Task, Scripted, Planned}
 use Rattle.pr_roles.specs.Starts.{CanStart}
 use Rattle.pr_roles.specs.Fitting.{Fits}
 use Rattle.pr_text.specs.CommandWords.{keyless}
-use Rattle.pr_text.specs.ScenarioLines.{StartReservation, nobody, single, everybody, ScenarioLine, fence_line, keys_line, host_line, guest_line, start_line, pending_line, reservation_line, generation_line, role_line, script_line, plan_line, end_line, command_line}
+use Rattle.pr_text.specs.ScenarioLines.{StartReservation, nobody, single, everybody, ScenarioLine, fence_line, keys_line, nexus_line, start_line, pending_line, reservation_line, generation_line, role_line, script_line, plan_line, end_line, command_line}
 use Rattle.pr_text.specs.ScriptLines.{body_lines}
 use Rattle.pr_text.specs.ScriptRoundTrip.{Line, line, script_said, all_said}
 use Rattle.pr_text.specs.Declarations.{Declared, nothing}
-use Rattle.pr_text.specs.Reading.{IsWhole}
+use Rattle.pr_text.specs.Reading.{IsDeclaredBy}
+use Rattle.pr_text.specs.Texts.{ended}
 
 -- ---- a nexus, with this number on each line but those of sends, which have their own
 
 -- a host has a script, a guest a plan
 abbrev pub declaring : List ℕ → Task → ScenarioLine
-declaring name (Scripted script budget) = host_line name
-declaring name (Planned commands) = guest_line name
+declaring name (Scripted script budget) = nexus_line false name
+declaring name (Planned commands) = nexus_line true name
 
 abbrev pub attentions_in : Codes → List Attention
 attentions_in codes = filter (λ a. set.contains codes (code_of a)) (PowerOn ∷ ReservationsPreempted ∷ ReservationsReleased ∷ RegistrationsPreempted ∷ [])
@@ -66,6 +67,11 @@ lines_said n s =
     ++ (line n (generation_line s.generation)
     ∷ line n (reservation_line (map (wanted_by s.nexuses) s.reservations))
     ∷ flat_map (details_said n) s.nexuses)))
+
+-- What is declared is whole where the last line has this number, and the scenario is just that.
+pub record IsWhole (number : ℕ) (d : Declared) (s : Scenario) : Type 0 where
+  pub faultless : ended number d ≡ Ok d
+  pub kept : IsDeclaredBy d s
 
 -- the lines have no fault, and what they declare is just this scenario
 pub record IsSaid (n : ℕ) (s : Scenario) : Type 0 where

@@ -18,7 +18,7 @@ use Rattle.pr_text.specs.Declarations.{scripted, planned, Declaration, OpenBlock
 use Rattle.pr_text.specs.Chain.{each}
 use Rattle.pr_text.specs.Declaring.{declared_keys, number_of, codes_of, are_codes_distinct, held_of, is_spelled, is_test_declared}
 use Rattle.pr_text.specs.Faults.{and_then, unless}
-use Rattle.pr_text.specs.ScenarioLines.{StartReservation, ScenarioLine, fence_line, keys_line, host_line, guest_line, start_line, pending_line, reservation_line, generation_line, role_line, script_line, plan_line, end_line, send_line, on_line, done_line, repeat_line, break_line, stop_line, command_line}
+use Rattle.pr_text.specs.ScenarioLines.{StartReservation, ScenarioLine, fence_line, keys_line, nexus_line, start_line, pending_line, reservation_line, generation_line, role_line, script_line, plan_line, end_line, send_line, on_line, done_line, repeat_line, break_line, stop_line, command_line}
 use Rattle.pr_text.specs.NextLine.{with_task, begun_script, opening, stating}
 use Rattle.pr_text.specs.ScriptRoundTrip.{said_by, numbered}
 use Rattle.pr_text.specs.ScriptLines.{ScriptLine, send_at, arm_on, block_done, repeat_of, break_out, stop_with}
@@ -180,8 +180,7 @@ script_step n keys break_line o = break_step n o
 script_step n keys (stop_line word) o = stop_step n word o
 script_step n keys fence_line o = Err (fault.Syntax n)
 script_step n keys (keys_line ks) o = Err (fault.Syntax n)
-script_step n keys (host_line name) o = Err (fault.Syntax n)
-script_step n keys (guest_line name) o = Err (fault.Syntax n)
+script_step n keys (nexus_line guest name) o = Err (fault.Syntax n)
 script_step n keys (start_line name xs) o = Err (fault.Syntax n)
 script_step n keys (pending_line name xs) o = Err (fault.Syntax n)
 script_step n keys (reservation_line ws) o = Err (fault.Syntax n)
@@ -200,8 +199,7 @@ placed_first n item d = Err (fault.Syntax n)
 -- a line outside scripts and plans
 abbrev pub placed_outside : ℕ → ScenarioLine → Declared → Result Declared ReadError
 placed_outside n (keys_line keys) d = keys_placed n keys d
-placed_outside n (host_line name) d = nexus_placed n false name d
-placed_outside n (guest_line name) d = nexus_placed n true name d
+placed_outside n (nexus_line guest name) d = nexus_placed n guest name d
 placed_outside n (start_line name xs) d = start_placed n name xs d
 placed_outside n (pending_line name xs) d = pending_placed n name xs d
 placed_outside n (reservation_line ws) d = reservation_placed n ws d
