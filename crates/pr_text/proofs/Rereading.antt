@@ -14,6 +14,7 @@ use Rattle.pr_text.specs.CommandWords.{keyless}
 use Rattle.pr_text.specs.ScriptLines.{ScriptLine, send_at, arm_on, block_done, repeat_of, break_out, stop_with, statement_lines, body_lines, arms_lines}
 use Rattle.pr_text.specs.Declarations.{OpenBlock, repeating, sending, OpenLines, Declared}
 use Rattle.pr_text.specs.Standing.{is_repeating, is_sending, awaits_arm, is_in_repeat, stands_under, may_close}
+use Rattle.pr_text.specs.ScenarioLines.{states}
 use Rattle.pr_text.specs.inside.Chains.{send_step, repeat_step, break_step, stop_step, on_step, done_step, all_stepped, script_step, item_taken}
 use Rattle.pr_text.specs.Declaring.{is_test_declared, declared_keys}
 use Rattle.pr_text.specs.ScriptRoundTrip.{ScriptsHaveNoFault, said_by, numbered, script_said, all_said, within}
@@ -262,7 +263,7 @@ mutual
 -- ---- a whole script
 
 taken : (n : ℕ) (d : Declared) (l : ScriptLine) (o : OpenLines)
-    → item_taken (numbered n l) (said_by l) (within d o) ≡ and_then (script_step (numbered n l) (declared_keys d) (said_by l) o) (λ q. Ok (within d q))
+    → item_taken (numbered n l) (states (said_by l)) (within d o) ≡ and_then (script_step (numbered n l) (declared_keys d) (said_by l) o) (λ q. Ok (within d q))
 unfolding item_taken
 taken n d (send_at m c) o = refl
 taken n d (arm_on t) o = refl
@@ -281,7 +282,7 @@ all_step : (n : ℕ) (d : Declared) (ls : List ScriptLine) (o : OpenLines)
     → all_said (script_said n ls) (within d o) ≡ and_then (all_stepped n (declared_keys d) ls o) (λ q. Ok (within d q))
 all_step n d [] o = refl
 all_step n d (l ∷ ls) o =
-    ap (λ r. and_then r (all_said (script_said n ls))) (in_order (numbered n l) (said_by l) (within d o) ∙ taken n d l o)
+    ap (λ r. and_then r (all_said (script_said n ls))) (in_order (numbered n l) (states (said_by l)) (within d o) ∙ taken n d l o)
     ∙ step_then n d (script_step (numbered n l) (declared_keys d) (said_by l) o) ls (λ q. all_step n d ls q)
 
 pub reread : ScriptsHaveNoFault

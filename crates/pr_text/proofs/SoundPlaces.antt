@@ -16,8 +16,8 @@ use Rattle.pr_text.specs.declared.fault.ReadError.{ReadError}
 use Rattle.pr_text.specs.declared.spelling.ParsedCommand.{ParsedCommand}
 use Rattle.pr_text.specs.Faults.{and_then}
 use Rattle.pr_text.specs.Declarations.{OpenLines, WrittenTask, scripted, planned, Declaration, Place, before_all, outside, in_script, in_plan, Declared}
-use Rattle.pr_text.specs.ScenarioLines.{ScenarioLine, keys_line, nexus_line, start_line, pending_line, reservation_line, generation_line, role_line, script_line, plan_line, end_line, command_line, fence_line}
-use Rattle.pr_text.specs.inside.Chains.{script_step, nexus_set, on_nexus, at_number, at_name, start_fault, start_at, start_placed, pending_at, pending_placed, generation_placed, role_at, role_placed, script_fault, script_at, script_placed, plan_at, plan_placed, placed_first, placed_outside, script_ended, placed_in_script, planned_step, placed_in_plan, placed_at, item_taken}
+use Rattle.pr_text.specs.ScenarioLines.{ScenarioLine, keys_line, nexus_line, start_line, pending_line, reservation_line, generation_line, role_line, script_line, plan_line, end_line, command_line, fence_line, DeclaringLine, declares, states}
+use Rattle.pr_text.specs.inside.Chains.{script_step, declared_with, nexus_set, on_nexus, at_number, at_name, start_fault, start_at, start_placed, pending_at, pending_placed, generation_placed, role_at, role_placed, script_fault, script_at, script_placed, plan_at, plan_placed, placed_first, placed_outside, script_ended, placed_in_script, planned_step, placed_in_plan, placed_at, item_taken}
 use Rattle.pr_text.specs.Declaring.{declared_keys, number_of, codes_of}
 use Rattle.pr_text.specs.NextLine.{begun_script, with_task, item_placed}
 use Rattle.pr_text.specs.inside.Sound.{AreBegun, is_plan, IsTask, IsDeclaration, AreDeclarations, IsPlace, IsSound}
@@ -176,16 +176,19 @@ plan_line_sound n name d e sound r =
     let same : record d { place = in_plan m.number [] } ≡ e = ok_same _ _ b.1 in
     subst (IsSound (n + 1)) same (moved n d (in_plan m.number []) sound refl)
 
+declared_sound : (n : ℕ) (l : DeclaringLine) (d e : Declared) → d.place ≡ outside → IsSound n d → is_item (declares l) ≡ true → declared_with (n + 1) l d ≡ Ok e → IsSound (n + 1) e
+declared_sound n (keys_line keys) d e at h s r = keys_sound n keys d e at s h r
+declared_sound n (nexus_line guest name) d e at h s r = nexus_sound n guest name d e at s h r
+declared_sound n (start_line name xs) d e at h s r = start_sound n name xs d e at s h r
+declared_sound n (pending_line name xs) d e at h s r = pending_sound n name xs d e at h r
+declared_sound n (reservation_line ws) d e at h s r = reservation_sound n ws d e at s h r
+declared_sound n (generation_line g) d e at h s r = generation_sound n g d e at h r
+declared_sound n (role_line name clause) d e at h s r = role_sound n name clause d e at h r
+declared_sound n (script_line name budget) d e at h s r = script_line_sound n name budget d e h r
+declared_sound n (plan_line name) d e at h s r = plan_line_sound n name d e h r
+
 outside_sound : (n : ℕ) (i : ScenarioLine) (d e : Declared) → d.place ≡ outside → IsSound n d → is_item i ≡ true → placed_outside (n + 1) i d ≡ Ok e → IsSound (n + 1) e
-outside_sound n (keys_line keys) d e at h s r = keys_sound n keys d e at s h r
-outside_sound n (nexus_line guest name) d e at h s r = nexus_sound n guest name d e at s h r
-outside_sound n (start_line name xs) d e at h s r = start_sound n name xs d e at s h r
-outside_sound n (pending_line name xs) d e at h s r = pending_sound n name xs d e at h r
-outside_sound n (reservation_line ws) d e at h s r = reservation_sound n ws d e at s h r
-outside_sound n (generation_line g) d e at h s r = generation_sound n g d e at h r
-outside_sound n (role_line name clause) d e at h s r = role_sound n name clause d e at h r
-outside_sound n (script_line name budget) d e at h s r = script_line_sound n name budget d e h r
-outside_sound n (plan_line name) d e at h s r = plan_line_sound n name d e h r
+outside_sound n (declares l) d e at h s r = declared_sound n l d e at h s r
 outside_sound n _ d e at h s r = cc
 
 -- ---- the other lines
@@ -218,8 +221,9 @@ step_sound n d e (Err x) h each r = cc
 
 in_script_sound : (n : ℕ) (o : OpenLines) (i : ScenarioLine) (d e : Declared) → AreBegun (declared_keys d) n o → IsSound n d → is_item i ≡ true → placed_in_script (n + 1) o i d ≡ Ok e → IsSound (n + 1) e
 in_script_sound n o end_line d e begun h s r = ended_sound n o d e begun h r
-in_script_sound n o i d e begun h s r =
-    step_sound n d e (script_step (n + 1) (declared_keys d) i o) h (λ p q. script_sound (declared_keys d) n i o p s begun q) r
+in_script_sound n o (states l) d e begun h s r =
+    step_sound n d e (script_step (n + 1) (declared_keys d) l o) h (λ p q. script_sound (declared_keys d) n l o p s begun q) r
+in_script_sound n o _ d e begun h s r = cc
 
 fewer : (k : ℕ) → nat_le 256 k ≡ false → k + 1 ≤ 256
 fewer k h = grind (arith, nat_tests)

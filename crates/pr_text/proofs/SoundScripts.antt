@@ -16,7 +16,7 @@ use Rattle.pr_text.specs.declared.spelling.ParsedCommand.{ParsedCommand}
 use Rattle.pr_text.specs.Faults.{unless}
 use Rattle.pr_text.specs.ScriptLines.{ScriptLine, send_at, arm_on, block_done, repeat_of, break_out, stop_with}
 use Rattle.pr_text.specs.Declarations.{OpenBlock, repeating, sending, OpenLines}
-use Rattle.pr_text.specs.ScenarioLines.{ScenarioLine, send_line, on_line, done_line, repeat_line, break_line, stop_line}
+use Rattle.pr_text.specs.ScenarioLines.{StatementLine, states, send_line, on_line, done_line, repeat_line, break_line, stop_line}
 use Rattle.pr_text.specs.Standing.{is_repeating, is_sending, awaits_arm, awaits_more, stands_under, may_close}
 use Rattle.pr_text.specs.NextLine.{opening, stating}
 use Rattle.pr_text.specs.inside.Chains.{send_step, repeat_step, break_step, stop_step, arm_fault, on_step, on_step_in, done_step, script_step}
@@ -237,11 +237,10 @@ on_sound : (keys : List ℕ) (n : ℕ) (t : Test) (o p : OpenLines) → is_test 
 unfolding on_step
 on_sound keys n t o p sound h r = on_blocks keys n t o p o.blocks refl sound h r
 
-pub script_sound : (keys : List ℕ) (n : ℕ) (i : ScenarioLine) (o p : OpenLines) → is_item i ≡ true → AreBegun keys n o → script_step (n + 1) keys i o ≡ Ok p → AreBegun keys (n + 1) p
+pub script_sound : (keys : List ℕ) (n : ℕ) (i : StatementLine) (o p : OpenLines) → is_item (states i) ≡ true → AreBegun keys n o → script_step (n + 1) keys i o ≡ Ok p → AreBegun keys (n + 1) p
 script_sound keys n (send_line s) o p i h r = send_sound keys n s o p h r
 script_sound keys n (on_line t) o p i h r = on_sound keys n t o p i h r
 script_sound keys n done_line o p i h r = done_sound keys n o p h r
 script_sound keys n (repeat_line count) o p i h r = repeat_sound keys n count o p h r
 script_sound keys n break_line o p i h r = break_sound keys n o p h r
 script_sound keys n (stop_line word) o p i h r = stop_sound keys n word o p i h r
-script_sound keys n _ o p i h r = cc

@@ -21,27 +21,35 @@ pub data StartReservation : Type 0 where
   single : Kind → List ℕ → StartReservation
   everybody : Kind → StartReservation
 
--- A line that keeps its shape, with the terms on it. A nexus is a guest where the flag says so. A key, a
+-- A line outside scripts and plans, with the terms on it. A nexus is a guest where the flag says so. A key, a
 -- count or a name need not be one that the text may have there.
+pub data DeclaringLine : Type 0 where
+  keys_line : List ℕ → DeclaringLine
+  nexus_line : Bool → List ℕ → DeclaringLine
+  start_line : List ℕ → List (Option ℕ) → DeclaringLine
+  pending_line : List ℕ → List Attention → DeclaringLine
+  reservation_line : List StartReservation → DeclaringLine
+  generation_line : ℕ → DeclaringLine
+  role_line : List ℕ → Clause → DeclaringLine
+  script_line : List ℕ → ℕ → DeclaringLine
+  plan_line : List ℕ → DeclaringLine
+
+-- a line of a script
+pub data StatementLine : Type 0 where
+  send_line : ParsedCommand → StatementLine
+  on_line : Test → StatementLine
+  done_line : StatementLine
+  repeat_line : ℕ → StatementLine
+  break_line : StatementLine
+  stop_line : List ℕ → StatementLine
+
+-- a line that keeps its shape
 pub data ScenarioLine : Type 0 where
   fence_line : ScenarioLine
-  keys_line : List ℕ → ScenarioLine
-  nexus_line : Bool → List ℕ → ScenarioLine
-  start_line : List ℕ → List (Option ℕ) → ScenarioLine
-  pending_line : List ℕ → List Attention → ScenarioLine
-  reservation_line : List StartReservation → ScenarioLine
-  generation_line : ℕ → ScenarioLine
-  role_line : List ℕ → Clause → ScenarioLine
-  script_line : List ℕ → ℕ → ScenarioLine
-  plan_line : List ℕ → ScenarioLine
-  end_line : ScenarioLine
-  send_line : ParsedCommand → ScenarioLine
-  on_line : Test → ScenarioLine
-  done_line : ScenarioLine
-  repeat_line : ℕ → ScenarioLine
-  break_line : ScenarioLine
-  stop_line : List ℕ → ScenarioLine
+  declares : DeclaringLine → ScenarioLine
+  states : StatementLine → ScenarioLine
   command_line : ParsedCommand → ScenarioLine
+  end_line : ScenarioLine
 
 -- ---- lists
 
@@ -98,21 +106,21 @@ said_of_name says f ws = name_in ws >>= λ r. option_map (says r.0) (f r.1)
 unfoldable pub item_of : List ℕ → List (List ℕ) → Option ScenarioLine
 item_of word ws =
     if bytes_eq word (codes "fence") then fence_said ws else (
-    if bytes_eq word (codes "keys") then option_map (λ keys. keys_line keys) (listed key_of ws) else (
-    if bytes_eq word (codes "host") then option_map (λ name. nexus_line false name) (only_name ws) else (
-    if bytes_eq word (codes "guest") then option_map (λ name. nexus_line true name) (only_name ws) else (
-    if bytes_eq word (codes "start") then said_of_name (λ name xs. start_line name xs) (listed alternative_of) ws else (
-    if bytes_eq word (codes "pending") then said_of_name (λ name xs. pending_line name xs) (listed code_of) ws else (
-    if bytes_eq word (codes "reservation") then option_map (λ xs. reservation_line xs) (listed start_reservation_of ws) else (
-    if bytes_eq word (codes "generation") then option_map (λ n. generation_line n) (only ws >>= generation_of) else (
-    if bytes_eq word (codes "role") then said_of_name (λ name clause. role_line name clause) clause_of ws else (
-    if bytes_eq word (codes "script") then said_of_name (λ name budget. script_line name budget) budget_in ws else (
-    if bytes_eq word (codes "plan") then option_map (λ name. plan_line name) (only_name ws) else (
+    if bytes_eq word (codes "keys") then option_map (λ keys. declares (keys_line keys)) (listed key_of ws) else (
+    if bytes_eq word (codes "host") then option_map (λ name. declares (nexus_line false name)) (only_name ws) else (
+    if bytes_eq word (codes "guest") then option_map (λ name. declares (nexus_line true name)) (only_name ws) else (
+    if bytes_eq word (codes "start") then said_of_name (λ name xs. declares (start_line name xs)) (listed alternative_of) ws else (
+    if bytes_eq word (codes "pending") then said_of_name (λ name xs. declares (pending_line name xs)) (listed code_of) ws else (
+    if bytes_eq word (codes "reservation") then option_map (λ xs. declares (reservation_line xs)) (listed start_reservation_of ws) else (
+    if bytes_eq word (codes "generation") then option_map (λ n. declares (generation_line n)) (only ws >>= generation_of) else (
+    if bytes_eq word (codes "role") then said_of_name (λ name clause. declares (role_line name clause)) clause_of ws else (
+    if bytes_eq word (codes "script") then said_of_name (λ name budget. declares (script_line name budget)) budget_in ws else (
+    if bytes_eq word (codes "plan") then option_map (λ name. declares (plan_line name)) (only_name ws) else (
     if bytes_eq word (codes "end") then alone end_line ws else (
-    if bytes_eq word (codes "send") then option_map (λ s. send_line s) (spelled_in ws) else (
-    if bytes_eq word (codes "on") then option_map (λ t. on_line t) (test_of ws) else (
-    if bytes_eq word (codes "done") then alone done_line ws else (
-    if bytes_eq word (codes "repeat") then option_map (λ n. repeat_line n) (only ws >>= count_of) else (
-    if bytes_eq word (codes "break") then alone break_line ws else (
-    if bytes_eq word (codes "stop") then option_map (λ word. stop_line word) (only_name ws) else (
+    if bytes_eq word (codes "send") then option_map (λ s. states (send_line s)) (spelled_in ws) else (
+    if bytes_eq word (codes "on") then option_map (λ t. states (on_line t)) (test_of ws) else (
+    if bytes_eq word (codes "done") then alone (states done_line) ws else (
+    if bytes_eq word (codes "repeat") then option_map (λ n. states (repeat_line n)) (only ws >>= count_of) else (
+    if bytes_eq word (codes "break") then alone (states break_line) ws else (
+    if bytes_eq word (codes "stop") then option_map (λ word. states (stop_line word)) (only_name ws) else (
     option_map (λ s. command_line s) (spelled_of word ws)))))))))))))))))))

@@ -11,7 +11,7 @@ use Rattle.pr_text.specs.declared.fault.Which.TheVariants as which
 use Rattle.pr_text.specs.declared.fault.ReadError.TheVariants as fault
 use Rattle.pr_text.specs.Declarations.{Declaration, Place, Declared, nothing}
 use Rattle.pr_text.specs.Faults.{and_then, unless}
-use Rattle.pr_text.specs.ScenarioLines.{ScenarioLine, item_of}
+use Rattle.pr_text.specs.ScenarioLines.{item_of}
 use Rattle.pr_text.specs.NextLine.{item_placed}
 use Rattle.pr_text.specs.Standing.{by_place, is_before_all}
 use Rattle.pr_text.specs.TextLines.{is_text, words}

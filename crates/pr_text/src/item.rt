@@ -4,7 +4,7 @@ ghost use Rattle.std.specs.Prelude.{◌≡◌, map, option_map, IfOk};
 ghost use Rattle.pr_text.specs.TextLines.{words, alone};
 ghost use Rattle.pr_text.specs.WordTerms.{key_of, code_of};
 ghost use Rattle.pr_text.specs.Clauses.{clause_of};
-ghost use Rattle.pr_text.specs.ScenarioLines.{listed, alternative_of, everybody_of, single_of, start_reservation_of, name_in, only_name, budget_in, fence_said, said_of_name, item_of, keys_line, start_line, pending_line, reservation_line, role_line, script_line};
+ghost use Rattle.pr_text.specs.ScenarioLines.{listed, alternative_of, everybody_of, single_of, start_reservation_of, name_in, only_name, budget_in, fence_said, said_of_name, item_of, declares, keys_line, start_line, pending_line, reservation_line, role_line, script_line};
 ghost use Rattle.pr_text.specs.inside.Keywords.{said_simply, said_after};
 ghost use Rattle.pr_text.specs.inside.LineValues.{wanted_seen, seen};
 
@@ -128,7 +128,7 @@ fn fence_said(rest: &[u8]) -> Option<ScenarioLine>
 }
 
 fn role_said(rest: &[u8]) -> Option<ScenarioLine>
-    ensures { option_map seen result ≡ said_of_name (λ name clause. role_line name clause) clause_of (words rest.now) }
+    ensures { option_map seen result ≡ said_of_name (λ name clause. declares (role_line name clause)) clause_of (words rest.now) }
 {
     let Some((name, others)) = name_in(rest) else {
         return None;
@@ -138,7 +138,7 @@ fn role_said(rest: &[u8]) -> Option<ScenarioLine>
 }
 
 fn script_said(rest: &[u8]) -> Option<ScenarioLine>
-    ensures { option_map seen result ≡ said_of_name (λ name budget. script_line name budget) budget_in (words rest.now) }
+    ensures { option_map seen result ≡ said_of_name (λ name budget. declares (script_line name budget)) budget_in (words rest.now) }
 {
     let Some((name, others)) = name_in(rest) else {
         return None;
@@ -175,14 +175,14 @@ fn only_name(line: &[u8]) -> Option<Word>
 }
 
 fn keys_said(alloc: Global, rest: &[u8]) -> Result<Option<ScenarioLine>, AllocError>
-    ensures { IfOk result (λ item. option_map seen item ≡ option_map (λ keys. keys_line keys) (listed key_of (words rest.now))) }
+    ensures { IfOk result (λ item. option_map seen item ≡ option_map (λ keys. declares (keys_line keys)) (listed key_of (words rest.now))) }
 {
     let keys = keys_in(alloc, rest)?;
     Ok(keys.map(ScenarioLine::Keys))
 }
 
 fn start_said(alloc: Global, rest: &[u8]) -> Result<Option<ScenarioLine>, AllocError>
-    ensures { IfOk result (λ item. option_map seen item ≡ said_of_name (λ name xs. start_line name xs) (listed alternative_of) (words rest.now)) }
+    ensures { IfOk result (λ item. option_map seen item ≡ said_of_name (λ name xs. declares (start_line name xs)) (listed alternative_of) (words rest.now)) }
 {
     let Some((name, others)) = name_in(rest) else {
         return Ok(None);
@@ -192,7 +192,7 @@ fn start_said(alloc: Global, rest: &[u8]) -> Result<Option<ScenarioLine>, AllocE
 }
 
 fn pending_said(alloc: Global, rest: &[u8]) -> Result<Option<ScenarioLine>, AllocError>
-    ensures { IfOk result (λ item. option_map seen item ≡ said_of_name (λ name xs. pending_line name xs) (listed code_of) (words rest.now)) }
+    ensures { IfOk result (λ item. option_map seen item ≡ said_of_name (λ name xs. declares (pending_line name xs)) (listed code_of) (words rest.now)) }
 {
     let Some((name, others)) = name_in(rest) else {
         return Ok(None);
@@ -202,7 +202,7 @@ fn pending_said(alloc: Global, rest: &[u8]) -> Result<Option<ScenarioLine>, Allo
 }
 
 fn reservation_said(alloc: Global, rest: &[u8]) -> Result<Option<ScenarioLine>, AllocError>
-    ensures { IfOk result (λ item. option_map seen item ≡ option_map (λ xs. reservation_line xs) (listed start_reservation_of (words rest.now))) }
+    ensures { IfOk result (λ item. option_map seen item ≡ option_map (λ xs. declares (reservation_line xs)) (listed start_reservation_of (words rest.now))) }
 {
     let wanted = wanted_in(alloc, rest)?;
     Ok(wanted.map(ScenarioLine::Reservation))

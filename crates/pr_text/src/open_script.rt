@@ -68,7 +68,7 @@ impl OpenScript {
     ghost use Rattle.pr_text.specs.inside.LineValues.{seen};
     ghost use Rattle.pr_text.specs.inside.OpenScripts.{open_seen, opened_in};
     ghost use Rattle.pr_text.specs.Standing.{awaits_arm, awaits_more, is_repeating, is_sending, is_in_repeat};
-    ghost use Rattle.pr_text.specs.inside.Chains.{is_full, send_step, repeat_step, break_step, stop_step, on_step, done_step, script_step};
+    ghost use Rattle.pr_text.specs.inside.Chains.{is_full, send_step, repeat_step, break_step, stop_step, on_step, done_step, line_step};
 
     /// A script without statements.
     pub fn new(alloc: Global, host: usize, budget: u32) -> Self
@@ -92,7 +92,7 @@ impl OpenScript {
         keys: &[u64],
         item: ScenarioLine,
     ) -> Result<Self, ReadError>
-        ensures { Gives open_seen result (script_step line keys.now (seen item) (open_seen self)) }
+        ensures { Gives open_seen result (line_step line keys.now (seen item) (open_seen self)) }
     {
         match item {
             ScenarioLine::Send(spelled) => self.send(line, keys, spelled),

@@ -18,7 +18,7 @@ use Rattle.pr_text.specs.Declarations.{scripted, planned, Declaration, OpenBlock
 use Rattle.pr_text.specs.Chain.{each}
 use Rattle.pr_text.specs.Declaring.{declared_keys, number_of, codes_of, are_codes_distinct, held_of, is_spelled, is_test_declared}
 use Rattle.pr_text.specs.Faults.{and_then, unless}
-use Rattle.pr_text.specs.ScenarioLines.{StartReservation, ScenarioLine, fence_line, keys_line, nexus_line, start_line, pending_line, reservation_line, generation_line, role_line, script_line, plan_line, end_line, send_line, on_line, done_line, repeat_line, break_line, stop_line, command_line}
+use Rattle.pr_text.specs.ScenarioLines.{StartReservation, ScenarioLine, fence_line, keys_line, nexus_line, start_line, pending_line, reservation_line, generation_line, role_line, script_line, plan_line, end_line, send_line, on_line, done_line, repeat_line, break_line, stop_line, command_line, DeclaringLine, StatementLine, declares, states}
 use Rattle.pr_text.specs.NextLine.{with_task, begun_script, opening, stating}
 use Rattle.pr_text.specs.ScriptRoundTrip.{said_by, numbered}
 use Rattle.pr_text.specs.ScriptLines.{ScriptLine, send_at, arm_on, block_done, repeat_of, break_out, stop_with}
@@ -170,52 +170,50 @@ done_step n o =
     Ok (record o { lines = o.lines ++ block_done ∷ []; blocks = drop 1 o.blocks; begun = true })
     else Err (fault.Syntax n)
 
--- what the line of this number makes of the script, under these declared keys
-abbrev pub script_step : ℕ → List ℕ → ScenarioLine → OpenLines → Result OpenLines ReadError
+-- what a statement's line of this number makes of the script, under these declared keys
+abbrev pub script_step : ℕ → List ℕ → StatementLine → OpenLines → Result OpenLines ReadError
 script_step n keys (send_line s) o = send_step n keys s o
 script_step n keys (on_line t) o = on_step n keys t o
 script_step n keys done_line o = done_step n o
 script_step n keys (repeat_line count) o = repeat_step n count o
 script_step n keys break_line o = break_step n o
 script_step n keys (stop_line word) o = stop_step n word o
-script_step n keys fence_line o = Err (fault.Syntax n)
-script_step n keys (keys_line ks) o = Err (fault.Syntax n)
-script_step n keys (nexus_line guest name) o = Err (fault.Syntax n)
-script_step n keys (start_line name xs) o = Err (fault.Syntax n)
-script_step n keys (pending_line name xs) o = Err (fault.Syntax n)
-script_step n keys (reservation_line ws) o = Err (fault.Syntax n)
-script_step n keys (generation_line generation) o = Err (fault.Syntax n)
-script_step n keys (role_line name clause) o = Err (fault.Syntax n)
-script_step n keys (script_line name budget) o = Err (fault.Syntax n)
-script_step n keys (plan_line name) o = Err (fault.Syntax n)
-script_step n keys end_line o = Err (fault.Syntax n)
-script_step n keys (command_line s) o = Err (fault.Syntax n)
+
+-- what any line makes of it
+abbrev pub line_step : ℕ → List ℕ → ScenarioLine → OpenLines → Result OpenLines ReadError
+line_step n keys fence_line o = Err (fault.Syntax n)
+line_step n keys (declares l) o = Err (fault.Syntax n)
+line_step n keys (states l) o = script_step n keys l o
+line_step n keys (command_line s) o = Err (fault.Syntax n)
+line_step n keys end_line o = Err (fault.Syntax n)
 
 -- the first line
 abbrev pub placed_first : ℕ → ScenarioLine → Declared → Result Declared ReadError
 placed_first n fence_line d = Ok (record d { place = outside })
-placed_first n item d = Err (fault.Syntax n)
+placed_first n (declares l) d = Err (fault.Syntax n)
+placed_first n (states l) d = Err (fault.Syntax n)
+placed_first n (command_line s) d = Err (fault.Syntax n)
+placed_first n end_line d = Err (fault.Syntax n)
+
+-- a line that declares
+abbrev pub declared_with : ℕ → DeclaringLine → Declared → Result Declared ReadError
+declared_with n (keys_line keys) d = keys_placed n keys d
+declared_with n (nexus_line guest name) d = nexus_placed n guest name d
+declared_with n (start_line name xs) d = start_placed n name xs d
+declared_with n (pending_line name xs) d = pending_placed n name xs d
+declared_with n (reservation_line ws) d = reservation_placed n ws d
+declared_with n (generation_line generation) d = generation_placed n generation d
+declared_with n (role_line name clause) d = role_placed n name clause d
+declared_with n (script_line name budget) d = script_placed n name budget d
+declared_with n (plan_line name) d = plan_placed n name d
 
 -- a line outside scripts and plans
 abbrev pub placed_outside : ℕ → ScenarioLine → Declared → Result Declared ReadError
-placed_outside n (keys_line keys) d = keys_placed n keys d
-placed_outside n (nexus_line guest name) d = nexus_placed n guest name d
-placed_outside n (start_line name xs) d = start_placed n name xs d
-placed_outside n (pending_line name xs) d = pending_placed n name xs d
-placed_outside n (reservation_line ws) d = reservation_placed n ws d
-placed_outside n (generation_line generation) d = generation_placed n generation d
-placed_outside n (role_line name clause) d = role_placed n name clause d
-placed_outside n (script_line name budget) d = script_placed n name budget d
-placed_outside n (plan_line name) d = plan_placed n name d
 placed_outside n fence_line d = Err (fault.Syntax n)
-placed_outside n end_line d = Err (fault.Syntax n)
-placed_outside n (send_line s) d = Err (fault.Syntax n)
-placed_outside n (on_line t) d = Err (fault.Syntax n)
-placed_outside n done_line d = Err (fault.Syntax n)
-placed_outside n (repeat_line count) d = Err (fault.Syntax n)
-placed_outside n break_line d = Err (fault.Syntax n)
-placed_outside n (stop_line word) d = Err (fault.Syntax n)
+placed_outside n (declares l) d = declared_with n l d
+placed_outside n (states l) d = Err (fault.Syntax n)
 placed_outside n (command_line s) d = Err (fault.Syntax n)
+placed_outside n end_line d = Err (fault.Syntax n)
 
 -- the last line of a script, within which no block is open
 abbrev pub script_ended : ℕ → OpenLines → Declared → Result Declared ReadError
@@ -225,7 +223,7 @@ script_ended n o d =
 -- a line of a script
 abbrev pub placed_in_script : ℕ → OpenLines → ScenarioLine → Declared → Result Declared ReadError
 placed_in_script n o end_line d = script_ended n o d
-placed_in_script n o item d = and_then (script_step n (declared_keys d) item o) (λ p. Ok (record d { place = in_script p }))
+placed_in_script n o item d = and_then (line_step n (declared_keys d) item o) (λ p. Ok (record d { place = in_script p }))
 
 unfoldable pub planned_step : ℕ → List ℕ → ParsedCommand → List Command → Result (List Command) ReadError
 planned_step n keys s commands =
