@@ -40,14 +40,11 @@ abbrev pub action_in : List (List ℕ) → Acting
 action_in [] = None
 action_in (w ∷ ws) = action_named w ws
 
-unfoldable pub condition_of : List ℕ → Option Condition
-condition_of word = lookup (map (λ row. (row.0.now, row.1)) CONDITIONS) word
-
 -- nothing, or `if` and a condition
 abbrev pub condition_in : List (List ℕ) → Option (Option Condition)
 condition_in [] = Some None
 condition_in (w ∷ ws) =
-    if bytes_eq w (codes "if") then (only ws >>= λ word. option_map (λ c. Some c) (condition_of word)) else None
+    if bytes_eq w (codes "if") then (only ws >>= λ word. option_map (λ c. Some c) (lookup (map (λ row. (row.0.now, row.1)) CONDITIONS) word)) else None
 
 -- the clause that these words are
 abbrev pub clause_of : List (List ℕ) → Option Clause

@@ -22,14 +22,6 @@ use Rattle.pr_text.specs.Chain.{◌>>=◌}
 use Rattle.pr_text.specs.Lookups.{lookup}
 use Rattle.pr_text.specs.WordTerms.{value_after, key_or_zero, kind_of}
 
--- the direction of the data, of which each command names one
-unfoldable pub direction_of : List ℕ → Option Direction
-direction_of word = lookup (map (λ row. (row.0.now, row.1)) DIRECTIONS) word
-
--- the service action that a word names
-unfoldable pub action_of : List ℕ → Option Action
-action_of word = lookup (map (λ row. (row.0.now, row.1)) ACTIONS) word
-
 -- the key that follows this in the word
 abbrev pub key_after : List ℕ → List ℕ → Option ℕ
 key_after name word = value_after name word >>= key_or_zero
@@ -37,8 +29,8 @@ key_after name word = value_after name word >>= key_or_zero
 -- the one option that a word is
 unfoldable pub option_of : List ℕ → Option CommandOption
 option_of word =
-    option_or (option_map (λ x. option.Direction x) (direction_of word)) (
-    option_or (option_map (λ x. option.Action x) (action_of word)) (
+    option_or (option_map (λ x. option.Direction x) (lookup (map (λ row. (row.0.now, row.1)) DIRECTIONS) word)) (
+    option_or (option_map (λ x. option.Action x) (lookup (map (λ row. (row.0.now, row.1)) ACTIONS) word)) (
     option_or (option_map (λ x. option.Rk x) (key_after (codes "--param-rk=") word)) (
     option_or (option_map (λ x. option.Sark x) (key_after (codes "--param-sark=") word)) (
     option_map (λ x. option.Kind x) (value_after (codes "--prout-type=") word >>= kind_of)))))

@@ -4,7 +4,7 @@ ghost use Rattle.std.specs.Prelude.{◌≡◌, option_map};
 ghost use Rattle.pr_roles.specs.declared.role.Action.TheVariants as action;
 ghost use Rattle.pr_text.specs.TextLines.{words, alone};
 ghost use Rattle.pr_text.specs.WordTerms.{key_of, kind_of};
-ghost use Rattle.pr_text.specs.Clauses.{acting_on, preempting, action_named, action_in, condition_of, condition_in, clause_of, good_of, test_of};
+ghost use Rattle.pr_text.specs.Clauses.{acting_on, preempting, action_named, action_in, condition_in, clause_of, good_of, test_of};
 
 use crate::cutting::{is, is_end, next_word, only};
 use crate::lookup::lookup;
@@ -103,15 +103,8 @@ fn condition_in(line: &[u8]) -> Option<Option<Condition>>
     if !is(word, "if") {
         return None;
     }
-    let condition = condition_of(only(rest)?)?;
+    let condition = lookup(&CONDITIONS, only(rest)?)?;
     Some(Some(condition))
-}
-
-#[tactic(auto, unfolding(crate::specs::Clauses::condition_of))]
-fn condition_of(word: &[u8]) -> Option<Condition>
-    ensures { result ≡ condition_of word.now }
-{
-    lookup(&CONDITIONS, word)
 }
 
 /// What the arm asks that the line's words are.

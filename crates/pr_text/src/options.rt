@@ -2,7 +2,7 @@
 
 ghost use Rattle.std.specs.Prelude.{◌≡◌, ◌∷◌};
 ghost use Rattle.pr_text.specs.TextLines.{words};
-ghost use Rattle.pr_text.specs.CommandOptions.{direction_of, action_of, key_after, option_of, with_option, with_options, unwritten, command_in, command_out, command_of};
+ghost use Rattle.pr_text.specs.CommandOptions.{key_after, option_of, with_option, with_options, unwritten, command_in, command_out, command_of};
 
 use crate::cutting::next_word;
 use crate::lookup::lookup;
@@ -168,10 +168,10 @@ pub fn options_of(first: &[u8], line: &[u8]) -> Option<Written>
 fn option_of(word: &[u8]) -> Option<CommandOption>
     ensures { result ≡ option_of word.now }
 {
-    if let Some(direction) = direction_of(word) {
+    if let Some(direction) = lookup(&DIRECTIONS, word) {
         return Some(CommandOption::Direction(direction));
     }
-    if let Some(action) = action_of(word) {
+    if let Some(action) = lookup(&ACTIONS, word) {
         return Some(CommandOption::Action(action));
     }
     if let Some(rk) = key_after("--param-rk=", word) {
@@ -188,20 +188,6 @@ fn key_after(name: &str, word: &[u8]) -> Option<u64>
     ensures { result ≡ key_after name.now word.now }
 {
     key_or_zero(value_after(name, word)?)
-}
-
-#[tactic(auto, unfolding(crate::specs::CommandOptions::direction_of))]
-fn direction_of(word: &[u8]) -> Option<Direction>
-    ensures { result ≡ direction_of word.now }
-{
-    lookup(&DIRECTIONS, word)
-}
-
-#[tactic(auto, unfolding(crate::specs::CommandOptions::action_of))]
-fn action_of(word: &[u8]) -> Option<Action>
-    ensures { result ≡ action_of word.now }
-{
-    lookup(&ACTIONS, word)
 }
 
 // The commands of `--in`.
