@@ -14,7 +14,8 @@ use Rattle.pr_text.specs.declared.fault.ReadError.TheVariants.{TooLarge, EmptySt
 use Rattle.pr_text.specs.Faults.{and_then, Fails}
 use Rattle.pr_text.specs.Declarations.{Declared, nothing}
 use Rattle.pr_text.specs.Texts.{all_placed, ended, finished, answer_of, start_of, reservations_of, starts_somewhere}
-use Rattle.pr_text.specs.Reading.{nexus_written, nexus_declared, IsDeclaredBy, IsWhole, IsWrittenAs}
+use Rattle.pr_text.specs.Reading.{nexus_written, nexus_declared, IsDeclaredBy, IsWrittenAs}
+use Rattle.pr_text.specs.ScenarioRoundTrip.{IsWhole}
 use Rattle.pr_text.specs.inside.Endings.{missing}
 use Rattle.pr_text.specs.inside.Steps.{AreRead}
 use Rattle.pr_text.proofs.Endings.{ended_in_turn}

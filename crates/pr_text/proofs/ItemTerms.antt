@@ -11,12 +11,13 @@ use Rattle.pr_script.specs.declared.script.Test.{Test}
 use Rattle.pr_script.specs.declared.script.Test.TheVariants as test
 use Rattle.pr_text.specs.declared.keyword.Keyword.{Keyword}
 use Rattle.pr_text.specs.declared.keyword.Keyword.TheVariants as keyword
-use Rattle.pr_text.specs.TextLines.{character, only, is_end}
+use Rattle.pr_text.specs.declared.item.TheConstants.{VERSION}
+use Rattle.pr_text.specs.TextLines.{character, only, is_end, alone}
 use Rattle.pr_text.specs.WordTerms.{worth, number, digit_of, byte_of, without_prefix, hexadecimal, name_of, key_or_zero, key_of, kind_of, code_of, count_of, generation_of, sense_of}
 use Rattle.pr_text.specs.CommandWords.{spelled_of, spelled_in}
-use Rattle.pr_text.specs.Clauses.{clause_of, alone, good_of, test_of}
+use Rattle.pr_text.specs.Clauses.{clause_of, good_of, test_of}
 use Rattle.pr_text.specs.Chain.{each}
-use Rattle.pr_text.specs.ScenarioLines.{StartReservation, nobody, single, everybody, ScenarioLine, keys_line, host_line, guest_line, start_line, pending_line, reservation_line, generation_line, role_line, script_line, plan_line, end_line, send_line, on_line, done_line, repeat_line, break_line, stop_line, command_line, fence_line, listed, alternative_of, everybody_of, single_of, start_reservation_of, name_in, only_name, budget_in, start_said, pending_said, item_of}
+use Rattle.pr_text.specs.ScenarioLines.{StartReservation, nobody, single, everybody, ScenarioLine, keys_line, nexus_line, start_line, pending_line, reservation_line, generation_line, role_line, script_line, plan_line, end_line, send_line, on_line, done_line, repeat_line, break_line, stop_line, command_line, fence_line, listed, alternative_of, everybody_of, single_of, start_reservation_of, name_in, only_name, budget_in, said_of_name, item_of, declares, states}
 use Rattle.pr_text.specs.inside.Keywords.{keyword_of, said_simply, said_after, said_with}
 use Rattle.pr_text.proofs.ItemWords.{by_keyword}
 use Rattle.pr_text.proofs.NumberRoom.{digit_more, hex_some}
@@ -35,13 +36,12 @@ is_test (test.Sense sense) = nat_lt sense.key 16
 is_test t = true
 
 abbrev pub is_item : ScenarioLine → Bool
-is_item (keys_line ks) = list_all is_key ks
-is_item (host_line name) = is_name name
-is_item (guest_line name) = is_name name
-is_item (start_line name xs) = not (length xs == 0)
-is_item (reservation_line ws) = not (length ws == 0) && list_all is_wanted ws
-is_item (on_line t) = is_test t
-is_item (stop_line word) = is_name word
+is_item (declares (keys_line ks)) = list_all is_key ks
+is_item (declares (nexus_line guest name)) = is_name name
+is_item (declares (start_line name xs)) = not (length xs == 0)
+is_item (declares (reservation_line ws)) = not (length ws == 0) && list_all is_wanted ws
+is_item (states (on_line t)) = is_test t
+is_item (states (stop_line word)) = is_name word
 is_item i = true
 
 -- ---- steps that may fail
@@ -204,45 +204,45 @@ abbrev Sound : ScenarioLine → Type 0
 Sound i = is_item i ≡ true
 
 simply_sound : (k : Keyword) (ws : List (List ℕ)) → IfSome (said_simply k ws) Sound
-simply_sound keyword.Fence ws = bind_if (λ _. Unit {0}) Sound (λ w. cond (bytes_eq w (codes "1")) (Some fence_line) None) (only ws) (any_if (only ws)) (λ w h. keep_if Sound (bytes_eq w (codes "1")) fence_line (λ e. refl))
-simply_sound keyword.Host ws = map_if (λ x. is_name x ≡ true) Sound (λ name. host_line name) (only_name ws) (only_name_sound ws) (λ x h. h)
-simply_sound keyword.Guest ws = map_if (λ x. is_name x ≡ true) Sound (λ name. guest_line name) (only_name ws) (only_name_sound ws) (λ x h. h)
-simply_sound keyword.Generation ws = map_if (λ _. Unit {0}) Sound (λ n. generation_line n) (option_and_then generation_of (only ws)) (any_if _) (λ x h. refl)
-simply_sound keyword.Role ws = bind_if (λ _. Unit {0}) Sound (λ r. option_map (λ clause. role_line r.0 clause) (clause_of r.1)) (name_in ws) (any_if _) (λ r h. map_if (λ _. Unit {0}) Sound (λ clause. role_line r.0 clause) (clause_of r.1) (any_if _) (λ x k. refl))
-simply_sound keyword.Script ws = bind_if (λ _. Unit {0}) Sound (λ r. option_map (λ budget. script_line r.0 budget) (budget_in r.1)) (name_in ws) (any_if _) (λ r h. map_if (λ _. Unit {0}) Sound (λ budget. script_line r.0 budget) (budget_in r.1) (any_if _) (λ x k. refl))
-simply_sound keyword.Plan ws = map_if (λ _. Unit {0}) Sound (λ name. plan_line name) (only_name ws) (any_if _) (λ x h. refl)
+simply_sound keyword.Fence ws = bind_if (λ _. Unit {0}) Sound (λ w. cond (bytes_eq w VERSION.now) (Some fence_line) None) (only ws) (any_if (only ws)) (λ w h. keep_if Sound (bytes_eq w VERSION.now) fence_line (λ e. refl))
+simply_sound keyword.Host ws = map_if (λ x. is_name x ≡ true) Sound (λ name. declares (nexus_line false name)) (only_name ws) (only_name_sound ws) (λ x h. h)
+simply_sound keyword.Guest ws = map_if (λ x. is_name x ≡ true) Sound (λ name. declares (nexus_line true name)) (only_name ws) (only_name_sound ws) (λ x h. h)
+simply_sound keyword.Generation ws = map_if (λ _. Unit {0}) Sound (λ n. declares (generation_line n)) (option_and_then generation_of (only ws)) (any_if _) (λ x h. refl)
+simply_sound keyword.Role ws = bind_if (λ _. Unit {0}) Sound (λ r. option_map (λ clause. declares (role_line r.0 clause)) (clause_of r.1)) (name_in ws) (any_if _) (λ r h. map_if (λ _. Unit {0}) Sound (λ clause. declares (role_line r.0 clause)) (clause_of r.1) (any_if _) (λ x k. refl))
+simply_sound keyword.Script ws = bind_if (λ _. Unit {0}) Sound (λ r. option_map (λ budget. declares (script_line r.0 budget)) (budget_in r.1)) (name_in ws) (any_if _) (λ r h. map_if (λ _. Unit {0}) Sound (λ budget. declares (script_line r.0 budget)) (budget_in r.1) (any_if _) (λ x k. refl))
+simply_sound keyword.Plan ws = map_if (λ _. Unit {0}) Sound (λ name. declares (plan_line name)) (only_name ws) (any_if _) (λ x h. refl)
 simply_sound keyword.End ws = keep_if Sound (is_end ws) end_line (λ e. refl)
-simply_sound keyword.Send ws = map_if (λ _. Unit {0}) Sound (λ s. send_line s) (spelled_in ws) (any_if _) (λ x h. refl)
-simply_sound keyword.On ws = map_if (λ t. is_test t ≡ true) Sound (λ t. on_line t) (test_of ws) (test_sound ws) (λ t h. h)
-simply_sound keyword.Done ws = keep_if Sound (is_end ws) done_line (λ e. refl)
-simply_sound keyword.Repeat ws = map_if (λ _. Unit {0}) Sound (λ n. repeat_line n) (option_and_then count_of (only ws)) (any_if _) (λ x h. refl)
-simply_sound keyword.Break ws = keep_if Sound (is_end ws) break_line (λ e. refl)
-simply_sound keyword.Stop ws = map_if (λ x. is_name x ≡ true) Sound (λ word. stop_line word) (only_name ws) (only_name_sound ws) (λ x h. h)
+simply_sound keyword.Send ws = map_if (λ _. Unit {0}) Sound (λ s. states (send_line s)) (spelled_in ws) (any_if _) (λ x h. refl)
+simply_sound keyword.On ws = map_if (λ t. is_test t ≡ true) Sound (λ t. states (on_line t)) (test_of ws) (test_sound ws) (λ t h. h)
+simply_sound keyword.Done ws = keep_if Sound (is_end ws) (states done_line) (λ e. refl)
+simply_sound keyword.Repeat ws = map_if (λ _. Unit {0}) Sound (λ n. states (repeat_line n)) (option_and_then count_of (only ws)) (any_if _) (λ x h. refl)
+simply_sound keyword.Break ws = keep_if Sound (is_end ws) (states break_line) (λ e. refl)
+simply_sound keyword.Stop ws = map_if (λ x. is_name x ≡ true) Sound (λ word. states (stop_line word)) (only_name ws) (only_name_sound ws) (λ x h. h)
 simply_sound keyword.Keys ws = tt
 simply_sound keyword.Start ws = tt
 simply_sound keyword.Pending ws = tt
 simply_sound keyword.Reservation ws = tt
 
-start_sound : (ws : List (List ℕ)) → IfSome (start_said ws) Sound
-start_sound ws = bind_if (λ _. Unit {0}) Sound (λ r. option_map (λ xs. start_line r.0 xs) (listed alternative_of r.1)) (name_in ws) (any_if _)
-    (λ r h. map_if (λ ys. not (length ys == 0) ≡ true) Sound (λ xs. start_line r.0 xs) (listed alternative_of r.1) (listed_some alternative_of r.1) (λ x k. k))
+start_sound : (ws : List (List ℕ)) → IfSome (said_of_name (λ name xs. declares (start_line name xs)) (listed alternative_of) ws) Sound
+start_sound ws = bind_if (λ _. Unit {0}) Sound (λ r. option_map (λ xs. declares (start_line r.0 xs)) (listed alternative_of r.1)) (name_in ws) (any_if _)
+    (λ r h. map_if (λ ys. not (length ys == 0) ≡ true) Sound (λ xs. declares (start_line r.0 xs)) (listed alternative_of r.1) (listed_some alternative_of r.1) (λ x k. k))
 
-pending_sound : (ws : List (List ℕ)) → IfSome (pending_said ws) Sound
-pending_sound ws = bind_if (λ _. Unit {0}) Sound (λ r. option_map (λ xs. pending_line r.0 xs) (listed code_of r.1)) (name_in ws) (any_if _)
-    (λ r h. map_if (λ _. Unit {0}) Sound (λ xs. pending_line r.0 xs) (listed code_of r.1) (any_if _) (λ x k. refl))
+pending_sound : (ws : List (List ℕ)) → IfSome (said_of_name (λ name xs. declares (pending_line name xs)) (listed code_of) ws) Sound
+pending_sound ws = bind_if (λ _. Unit {0}) Sound (λ r. option_map (λ xs. declares (pending_line r.0 xs)) (listed code_of r.1)) (name_in ws) (any_if _)
+    (λ r h. map_if (λ _. Unit {0}) Sound (λ xs. declares (pending_line r.0 xs)) (listed code_of r.1) (any_if _) (λ x k. refl))
 
 both_if : {A : Type 0} (P Q : A → Type 0) (o : Option A) → IfSome o P → IfSome o Q → IfSome o (λ x. P x × Q x)
 both_if P Q None h k = tt
 both_if P Q (Some x) h k = (h, k)
 
-reservation_sound : (ws : List (List ℕ)) → IfSome (option_map (λ xs. reservation_line xs) (listed start_reservation_of ws)) Sound
+reservation_sound : (ws : List (List ℕ)) → IfSome (option_map (λ xs. declares (reservation_line xs)) (listed start_reservation_of ws)) Sound
 reservation_sound ws =
-    map_if (λ ys. (not (length ys == 0) ≡ true) × (list_all is_wanted ys ≡ true)) Sound (λ xs. reservation_line xs) (listed start_reservation_of ws)
+    map_if (λ ys. (not (length ys == 0) ≡ true) × (list_all is_wanted ys ≡ true)) Sound (λ xs. declares (reservation_line xs)) (listed start_reservation_of ws)
     (both_if (λ ys. not (length ys == 0) ≡ true) (λ ys. list_all is_wanted ys ≡ true) (listed start_reservation_of ws) (listed_some start_reservation_of ws) (listed_all is_wanted start_reservation_of ws wanted_sound))
     (λ x k. both _ _ k.0 k.1)
 
 after_sound : (k : Keyword) (ws : List (List ℕ)) → IfSome (said_after k ws) Sound
-after_sound keyword.Keys ws = map_if (λ ys. list_all is_key ys ≡ true) Sound (λ keys. keys_line keys) (listed key_of ws) (listed_all is_key key_of ws key_sound) (λ x h. h)
+after_sound keyword.Keys ws = map_if (λ ys. list_all is_key ys ≡ true) Sound (λ keys. declares (keys_line keys)) (listed key_of ws) (listed_all is_key key_of ws key_sound) (λ x h. h)
 after_sound keyword.Start ws = start_sound ws
 after_sound keyword.Pending ws = pending_sound ws
 after_sound keyword.Reservation ws = reservation_sound ws

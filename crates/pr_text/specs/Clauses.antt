@@ -1,15 +1,16 @@
 -- Agrees with docs/FORMATS.md, 'The lines of a scenario'; docs/FORMATS.md, 'Statements'.
 -- The clauses of roles, and the arms of sends.
-use Rattle.std.specs.Prelude.{ℕ, if◌then◌else◌, List, [], ◌∷◌, codes, bytes_eq, Option, Some, None, option_map}
+use Rattle.std.specs.Prelude.{ℕ, if◌then◌else◌, List, [], ◌∷◌, map, codes, bytes_eq, Option, Some, None, option_map}
 use Rattle.pr_script.specs.declared.script.Test.{Test}
 use Rattle.pr_script.specs.declared.script.Test.TheVariants as test
 use Rattle.pr_roles.specs.declared.role.Action.{Action}
 use Rattle.pr_roles.specs.declared.role.Action.TheVariants as action
 use Rattle.pr_roles.specs.declared.role.Condition.{Condition}
-use Rattle.pr_roles.specs.declared.role.Condition.TheVariants as condition
 use Rattle.pr_roles.specs.declared.role.Clause.{Clause}
+use Rattle.pr_text.specs.declared.clauses.TheConstants.{BARE_ACTIONS, CONDITIONS}
 use Rattle.pr_text.specs.Chain.{◌>>=◌}
-use Rattle.pr_text.specs.TextLines.{only, is_end}
+use Rattle.pr_text.specs.Lookups.{lookup}
+use Rattle.pr_text.specs.TextLines.{only, alone}
 use Rattle.pr_text.specs.WordTerms.{key_or_zero, key_of, kind_of, sense_of}
 
 -- ---- clauses
@@ -18,59 +19,38 @@ use Rattle.pr_text.specs.WordTerms.{key_or_zero, key_of, kind_of, sense_of}
 abbrev pub Acting : Type 0
 Acting = Option (Action × List (List ℕ))
 
-abbrev pub registering : List (List ℕ) → Acting
-registering [] = None
-registering (w ∷ ws) = option_map (λ key. (action.Register key, ws)) (key_of w)
-
-abbrev pub reserving : List (List ℕ) → Acting
-reserving [] = None
-reserving (w ∷ ws) = option_map (λ kind. (action.Reserve kind, ws)) (kind_of w)
-
-abbrev pub preempting_with : ℕ → List (List ℕ) → Acting
-preempting_with key [] = None
-preempting_with key (w ∷ ws) = option_map (λ kind. (action.Preempt key kind, ws)) (kind_of w)
+-- the action with the term that the first of these words is
+abbrev pub acting_on : {A : Type 0} → (A → Action) → (List ℕ → Option A) → List (List ℕ) → Acting
+acting_on acts f [] = None
+acting_on acts f (w ∷ ws) = option_map (λ term. (acts term, ws)) (f w)
 
 abbrev pub preempting : List (List ℕ) → Acting
 preempting [] = None
-preempting (w ∷ ws) = key_or_zero w >>= λ key. preempting_with key ws
+preempting (w ∷ ws) = key_or_zero w >>= λ key. acting_on (λ kind. action.Preempt key kind) kind_of ws
 
 -- the action that a word names, with its key and type among the words behind it
 unfoldable pub action_named : List ℕ → List (List ℕ) → Acting
 action_named word ws =
-    if bytes_eq word (codes "register") then registering ws else (
-    if bytes_eq word (codes "unregister") then Some (action.Unregister, ws) else (
-    if bytes_eq word (codes "reserve") then reserving ws else (
-    if bytes_eq word (codes "release") then Some (action.Release, ws) else (
-    if bytes_eq word (codes "clear") then Some (action.Clear, ws) else (
-    if bytes_eq word (codes "preempt") then preempting ws else (
-    if bytes_eq word (codes "read") then Some (action.Read, ws) else (
-    if bytes_eq word (codes "write") then Some (action.Write, ws) else None)))))))
+    if bytes_eq word (codes "register") then acting_on (λ key. action.Register key) key_of ws else (
+    if bytes_eq word (codes "reserve") then acting_on (λ kind. action.Reserve kind) kind_of ws else (
+    if bytes_eq word (codes "preempt") then preempting ws else
+    option_map (λ a. (a, ws)) (lookup (map (λ row. (row.0.now, row.1)) BARE_ACTIONS) word)))
 
 abbrev pub action_in : List (List ℕ) → Acting
 action_in [] = None
 action_in (w ∷ ws) = action_named w ws
 
-unfoldable pub condition_of : List ℕ → Option Condition
-condition_of word =
-    if bytes_eq word (codes "registered") then Some condition.Registered else (
-    if bytes_eq word (codes "holder") then Some condition.Holder else (
-    if bytes_eq word (codes "reserved") then Some condition.Reserved else None))
-
 -- nothing, or `if` and a condition
 abbrev pub condition_in : List (List ℕ) → Option (Option Condition)
 condition_in [] = Some None
 condition_in (w ∷ ws) =
-    if bytes_eq w (codes "if") then (only ws >>= λ word. option_map (λ c. Some c) (condition_of word)) else None
+    if bytes_eq w (codes "if") then (only ws >>= λ word. option_map (λ c. Some c) (lookup (map (λ row. (row.0.now, row.1)) CONDITIONS) word)) else None
 
 -- the clause that these words are
 abbrev pub clause_of : List (List ℕ) → Option Clause
 clause_of ws = action_in ws >>= λ a. option_map (λ c. record { action = a.0; condition = c }) (condition_in a.1)
 
 -- ---- arms
-
--- what an arm asks, with nothing behind it
-abbrev pub alone : Test → List (List ℕ) → Option Test
-alone t ws = if is_end ws then Some t else None
 
 -- what an arm asks of a GOOD reply
 abbrev pub good_of : List (List ℕ) → Option Test

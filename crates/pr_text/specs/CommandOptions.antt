@@ -1,6 +1,6 @@
 -- Agrees with docs/FORMATS.md, 'COMMAND'.
 -- The options that spell a PERSISTENT RESERVE command, as in the manual of `sg_persist`.
-use Rattle.std.specs.Prelude.{ℕ, Bool, ◌&&◌, if◌then◌else◌, List, [], ◌∷◌, map, codes, Option, Some, None, is_none, unwrap_or, option_map}
+use Rattle.std.specs.Prelude.{ℕ, ◌&&◌, if◌then◌else◌, List, [], ◌∷◌, map, codes, Option, Some, None, is_none, unwrap_or, option_map}
 use Rattle.std.specs.Option.{option_or}
 use Rattle.pr_cdb.specs.declared.command.Kind.{Kind}
 use Rattle.pr_cdb.specs.declared.command.Command.{Command}
@@ -10,6 +10,10 @@ use Rattle.pr_text.specs.declared.options.Direction.{Direction}
 use Rattle.pr_text.specs.declared.options.Direction.TheVariants.{In, Out}
 use Rattle.pr_text.specs.declared.options.Action.{Action}
 use Rattle.pr_text.specs.declared.options.Action.TheVariants as action
+use Rattle.pr_text.specs.declared.options.InAction.{InAction}
+use Rattle.pr_text.specs.declared.options.InAction.TheVariants as in_action
+use Rattle.pr_text.specs.declared.options.OutAction.{OutAction}
+use Rattle.pr_text.specs.declared.options.OutAction.TheVariants as out_action
 use Rattle.pr_text.specs.declared.options.CommandOption.{CommandOption}
 use Rattle.pr_text.specs.declared.options.CommandOption.TheVariants as option
 use Rattle.pr_text.specs.declared.options.TheConstants.{DIRECTIONS, ACTIONS}
@@ -18,14 +22,6 @@ use Rattle.pr_text.specs.Chain.{◌>>=◌}
 use Rattle.pr_text.specs.Lookups.{lookup}
 use Rattle.pr_text.specs.WordTerms.{value_after, key_or_zero, kind_of}
 
--- the direction of the data, of which each command names one
-unfoldable pub direction_of : List ℕ → Option Direction
-direction_of word = lookup (map (λ row. (row.0.now, row.1)) DIRECTIONS) word
-
--- the service action that a word names
-unfoldable pub action_of : List ℕ → Option Action
-action_of word = lookup (map (λ row. (row.0.now, row.1)) ACTIONS) word
-
 -- the key that follows this in the word
 abbrev pub key_after : List ℕ → List ℕ → Option ℕ
 key_after name word = value_after name word >>= key_or_zero
@@ -33,8 +29,8 @@ key_after name word = value_after name word >>= key_or_zero
 -- the one option that a word is
 unfoldable pub option_of : List ℕ → Option CommandOption
 option_of word =
-    option_or (option_map (λ x. option.Direction x) (direction_of word)) (
-    option_or (option_map (λ x. option.Action x) (action_of word)) (
+    option_or (option_map (λ x. option.Direction x) (lookup (map (λ row. (row.0.now, row.1)) DIRECTIONS) word)) (
+    option_or (option_map (λ x. option.Action x) (lookup (map (λ row. (row.0.now, row.1)) ACTIONS) word)) (
     option_or (option_map (λ x. option.Rk x) (key_after (codes "--param-rk=") word)) (
     option_or (option_map (λ x. option.Sark x) (key_after (codes "--param-sark=") word)) (
     option_map (λ x. option.Kind x) (value_after (codes "--prout-type=") word >>= kind_of)))))
@@ -57,35 +53,27 @@ with_options w [] = Some w
 with_options w (word ∷ ws) = option_of word >>= λ o. with_option w o >>= λ v. with_options v ws
 
 -- the commands of `--in`
-unfoldable pub command_in : Action → Option Command
-command_in action.ReadKeys = Some (ReadKeys WRITTEN_LENGTH)
-command_in action.ReadReservation = Some (ReadReservation WRITTEN_LENGTH)
-command_in action.ReportCapabilities = Some (ReportCapabilities WRITTEN_LENGTH)
-command_in action.Register = None
-command_in action.RegisterIgnore = None
-command_in action.Reserve = None
-command_in action.Release = None
-command_in action.Clear = None
-command_in action.Preempt = None
-command_in action.PreemptAbort = None
+unfoldable pub command_in : InAction → Command
+command_in in_action.ReadKeys = ReadKeys WRITTEN_LENGTH
+command_in in_action.ReadReservation = ReadReservation WRITTEN_LENGTH
+command_in in_action.ReportCapabilities = ReportCapabilities WRITTEN_LENGTH
 
 -- the commands of `--out`. A key that is not written is 0, and a key or type that is not used is dropped.
-unfoldable pub command_out : Action → ℕ → ℕ → Option Kind → Option Command
-command_out action.Register rk sark kind = Some (Register rk sark)
-command_out action.RegisterIgnore rk sark kind = Some (RegisterIgnore sark)
-command_out action.Reserve rk sark kind = option_map (λ k. Reserve rk k) kind
-command_out action.Release rk sark kind = option_map (λ k. Release rk k) kind
-command_out action.Clear rk sark kind = Some (Clear rk)
-command_out action.Preempt rk sark kind = option_map (λ k. Preempt rk sark (Some k)) kind
-command_out action.PreemptAbort rk sark kind = option_map (λ k. PreemptAbort rk sark (Some k)) kind
-command_out action.ReadKeys rk sark kind = None
-command_out action.ReadReservation rk sark kind = None
-command_out action.ReportCapabilities rk sark kind = None
+unfoldable pub command_out : OutAction → ℕ → ℕ → Option Kind → Option Command
+command_out out_action.Register rk sark kind = Some (Register rk sark)
+command_out out_action.RegisterIgnore rk sark kind = Some (RegisterIgnore sark)
+command_out out_action.Reserve rk sark kind = option_map (λ k. Reserve rk k) kind
+command_out out_action.Release rk sark kind = option_map (λ k. Release rk k) kind
+command_out out_action.Clear rk sark kind = Some (Clear rk)
+command_out out_action.Preempt rk sark kind = option_map (λ k. Preempt rk sark (Some k)) kind
+command_out out_action.PreemptAbort rk sark kind = option_map (λ k. PreemptAbort rk sark (Some k)) kind
 
--- the command of this service action; one of `--in` has neither a key nor a type
+-- the command of a service action that goes in this direction; one of `--in` has neither a key nor a type
 abbrev pub commanded : Direction → Action → Written → Option Command
-commanded In action w = if is_none w.rk && (is_none w.sark && is_none w.kind) then command_in action else None
-commanded Out action w = command_out action (unwrap_or w.rk 0) (unwrap_or w.sark 0) w.kind
+commanded In (action.In a) w = if is_none w.rk && (is_none w.sark && is_none w.kind) then Some (command_in a) else None
+commanded In (action.Out a) w = None
+commanded Out (action.In a) w = None
+commanded Out (action.Out a) w = command_out a (unwrap_or w.rk 0) (unwrap_or w.sark 0) w.kind
 
 -- the command that the options spell
 unfoldable pub command_of : Written → Option Command

@@ -6,17 +6,13 @@ use Rattle.pr_cdb.specs.declared.command.Command.TheVariants.{TestUnitReady, Req
 use Rattle.pr_text.specs.declared.spelling.ParsedCommand.{ParsedCommand}
 use Rattle.pr_text.specs.declared.options.Written.{Written}
 use Rattle.pr_text.specs.Chain.{◌>>=◌}
-use Rattle.pr_text.specs.TextLines.{only, is_end}
+use Rattle.pr_text.specs.TextLines.{only, alone}
 use Rattle.pr_text.specs.WordTerms.{amount_of}
 use Rattle.pr_text.specs.CommandOptions.{unwritten, with_options, command_of}
 
 -- a command that has no keys
 abbrev pub keyless : Command → ParsedCommand
 keyless command = record { command = command; rk = 0; sark = 0 }
-
--- just this word, with nothing behind it
-abbrev pub bare : Command → List (List ℕ) → Option ParsedCommand
-bare command ws = if is_end ws then Some (keyless command) else None
 
 -- the address of the first block, and how many blocks
 abbrev pub blocks_of : List (List ℕ) → Option (ℕ × ℕ)
@@ -30,8 +26,8 @@ spelled_by w = option_map (λ command. record { command = command; rk = unwrap_o
 -- the command that a word and the words after it spell
 unfoldable pub spelled_of : List ℕ → List (List ℕ) → Option ParsedCommand
 spelled_of word ws =
-    if bytes_eq word (codes "test-unit-ready") then bare TestUnitReady ws else (
-    if bytes_eq word (codes "request-sense") then bare RequestSense ws else (
+    if bytes_eq word (codes "test-unit-ready") then alone (keyless TestUnitReady) ws else (
+    if bytes_eq word (codes "request-sense") then alone (keyless RequestSense) ws else (
     if bytes_eq word (codes "read") then option_map (λ b. keyless (Read b.0 b.1)) (blocks_of ws) else (
     if bytes_eq word (codes "write") then option_map (λ b. keyless (Write b.0 b.1)) (blocks_of ws) else
     (with_options unwritten (word ∷ ws) >>= spelled_by))))

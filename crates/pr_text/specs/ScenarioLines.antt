@@ -1,14 +1,15 @@
 -- Agrees with docs/FORMATS.md, 'The lines of a scenario'.
 -- What one line of a text says.
-use Rattle.std.specs.Prelude.{ℕ, ◌==◌, if◌then◌else◌, List, [], ◌∷◌, length, take, drop, slice_index, codes, bytes_eq, Option, Some, None, option_map}
+use Rattle.std.specs.Prelude.{ℕ, Bool, true, false, ◌==◌, if◌then◌else◌, List, [], ◌∷◌, length, take, drop, slice_index, codes, bytes_eq, Option, Some, None, option_map}
 use Rattle.pr_cdb.specs.declared.command.Kind.{Kind}
 use Rattle.pr_attention.specs.declared.attention.Attention.{Attention}
 use Rattle.pr_registry.specs.Registrations.{is_all}
 use Rattle.pr_script.specs.declared.script.Test.{Test}
 use Rattle.pr_roles.specs.declared.role.Clause.{Clause}
+use Rattle.pr_text.specs.declared.item.TheConstants.{VERSION}
 use Rattle.pr_text.specs.declared.spelling.ParsedCommand.{ParsedCommand}
 use Rattle.pr_text.specs.Chain.{◌>>=◌, each}
-use Rattle.pr_text.specs.TextLines.{character, only, is_end}
+use Rattle.pr_text.specs.TextLines.{character, only, is_end, alone}
 use Rattle.pr_text.specs.WordTerms.{name_of, key_of, generation_of, count_of, kind_of, code_of}
 use Rattle.pr_text.specs.CommandWords.{spelled_of, spelled_in}
 use Rattle.pr_text.specs.Clauses.{clause_of, test_of}
@@ -20,28 +21,35 @@ pub data StartReservation : Type 0 where
   single : Kind → List ℕ → StartReservation
   everybody : Kind → StartReservation
 
--- A line that keeps its shape, with the terms on it. A key, a count or a name need not be one that the text
--- may have there.
+-- A line outside scripts and plans, with the terms on it. A nexus is a guest where the flag says so. A key, a
+-- count or a name need not be one that the text may have there.
+pub data DeclaringLine : Type 0 where
+  keys_line : List ℕ → DeclaringLine
+  nexus_line : Bool → List ℕ → DeclaringLine
+  start_line : List ℕ → List (Option ℕ) → DeclaringLine
+  pending_line : List ℕ → List Attention → DeclaringLine
+  reservation_line : List StartReservation → DeclaringLine
+  generation_line : ℕ → DeclaringLine
+  role_line : List ℕ → Clause → DeclaringLine
+  script_line : List ℕ → ℕ → DeclaringLine
+  plan_line : List ℕ → DeclaringLine
+
+-- a line of a script
+pub data StatementLine : Type 0 where
+  send_line : ParsedCommand → StatementLine
+  on_line : Test → StatementLine
+  done_line : StatementLine
+  repeat_line : ℕ → StatementLine
+  break_line : StatementLine
+  stop_line : List ℕ → StatementLine
+
+-- a line that keeps its shape
 pub data ScenarioLine : Type 0 where
   fence_line : ScenarioLine
-  keys_line : List ℕ → ScenarioLine
-  host_line : List ℕ → ScenarioLine
-  guest_line : List ℕ → ScenarioLine
-  start_line : List ℕ → List (Option ℕ) → ScenarioLine
-  pending_line : List ℕ → List Attention → ScenarioLine
-  reservation_line : List StartReservation → ScenarioLine
-  generation_line : ℕ → ScenarioLine
-  role_line : List ℕ → Clause → ScenarioLine
-  script_line : List ℕ → ℕ → ScenarioLine
-  plan_line : List ℕ → ScenarioLine
-  end_line : ScenarioLine
-  send_line : ParsedCommand → ScenarioLine
-  on_line : Test → ScenarioLine
-  done_line : ScenarioLine
-  repeat_line : ℕ → ScenarioLine
-  break_line : ScenarioLine
-  stop_line : List ℕ → ScenarioLine
+  declares : DeclaringLine → ScenarioLine
+  states : StatementLine → ScenarioLine
   command_line : ParsedCommand → ScenarioLine
+  end_line : ScenarioLine
 
 -- ---- lists
 
@@ -86,45 +94,33 @@ abbrev pub budget_in : List (List ℕ) → Option ℕ
 budget_in [] = None
 budget_in (w ∷ ws) = if bytes_eq w (codes "budget") then (only ws >>= count_of) else None
 
--- the version of the language that this is: 1
+-- the version of the language that this is
 abbrev pub fence_said : List (List ℕ) → Option ScenarioLine
-fence_said ws = only ws >>= λ word. if bytes_eq word (codes "1") then Some fence_line else None
+fence_said ws = only ws >>= λ word. if bytes_eq word VERSION.now then Some fence_line else None
 
-abbrev pub start_said : List (List ℕ) → Option ScenarioLine
-start_said ws = name_in ws >>= λ r. option_map (λ xs. start_line r.0 xs) (listed alternative_of r.1)
-
-abbrev pub pending_said : List (List ℕ) → Option ScenarioLine
-pending_said ws = name_in ws >>= λ r. option_map (λ xs. pending_line r.0 xs) (listed code_of r.1)
-
-abbrev pub role_said : List (List ℕ) → Option ScenarioLine
-role_said ws = name_in ws >>= λ r. option_map (λ clause. role_line r.0 clause) (clause_of r.1)
-
-abbrev pub script_said : List (List ℕ) → Option ScenarioLine
-script_said ws = name_in ws >>= λ r. option_map (λ budget. script_line r.0 budget) (budget_in r.1)
-
--- a line of just its keyword
-abbrev pub bare_said : ScenarioLine → List (List ℕ) → Option ScenarioLine
-bare_said item ws = if is_end ws then Some item else None
+-- what a line says of a name, and of what the words behind it are
+abbrev pub said_of_name : {A : Type 0} → (List ℕ → A → ScenarioLine) → (List (List ℕ) → Option A) → List (List ℕ) → Option ScenarioLine
+said_of_name says f ws = name_in ws >>= λ r. option_map (says r.0) (f r.1)
 
 -- what a line says that begins with this word; one without a keyword is a command of a plan
 unfoldable pub item_of : List ℕ → List (List ℕ) → Option ScenarioLine
 item_of word ws =
     if bytes_eq word (codes "fence") then fence_said ws else (
-    if bytes_eq word (codes "keys") then option_map (λ keys. keys_line keys) (listed key_of ws) else (
-    if bytes_eq word (codes "host") then option_map (λ name. host_line name) (only_name ws) else (
-    if bytes_eq word (codes "guest") then option_map (λ name. guest_line name) (only_name ws) else (
-    if bytes_eq word (codes "start") then start_said ws else (
-    if bytes_eq word (codes "pending") then pending_said ws else (
-    if bytes_eq word (codes "reservation") then option_map (λ xs. reservation_line xs) (listed start_reservation_of ws) else (
-    if bytes_eq word (codes "generation") then option_map (λ n. generation_line n) (only ws >>= generation_of) else (
-    if bytes_eq word (codes "role") then role_said ws else (
-    if bytes_eq word (codes "script") then script_said ws else (
-    if bytes_eq word (codes "plan") then option_map (λ name. plan_line name) (only_name ws) else (
-    if bytes_eq word (codes "end") then bare_said end_line ws else (
-    if bytes_eq word (codes "send") then option_map (λ s. send_line s) (spelled_in ws) else (
-    if bytes_eq word (codes "on") then option_map (λ t. on_line t) (test_of ws) else (
-    if bytes_eq word (codes "done") then bare_said done_line ws else (
-    if bytes_eq word (codes "repeat") then option_map (λ n. repeat_line n) (only ws >>= count_of) else (
-    if bytes_eq word (codes "break") then bare_said break_line ws else (
-    if bytes_eq word (codes "stop") then option_map (λ word. stop_line word) (only_name ws) else (
+    if bytes_eq word (codes "keys") then option_map (λ keys. declares (keys_line keys)) (listed key_of ws) else (
+    if bytes_eq word (codes "host") then option_map (λ name. declares (nexus_line false name)) (only_name ws) else (
+    if bytes_eq word (codes "guest") then option_map (λ name. declares (nexus_line true name)) (only_name ws) else (
+    if bytes_eq word (codes "start") then said_of_name (λ name xs. declares (start_line name xs)) (listed alternative_of) ws else (
+    if bytes_eq word (codes "pending") then said_of_name (λ name xs. declares (pending_line name xs)) (listed code_of) ws else (
+    if bytes_eq word (codes "reservation") then option_map (λ xs. declares (reservation_line xs)) (listed start_reservation_of ws) else (
+    if bytes_eq word (codes "generation") then option_map (λ n. declares (generation_line n)) (only ws >>= generation_of) else (
+    if bytes_eq word (codes "role") then said_of_name (λ name clause. declares (role_line name clause)) clause_of ws else (
+    if bytes_eq word (codes "script") then said_of_name (λ name budget. declares (script_line name budget)) budget_in ws else (
+    if bytes_eq word (codes "plan") then option_map (λ name. declares (plan_line name)) (only_name ws) else (
+    if bytes_eq word (codes "end") then alone end_line ws else (
+    if bytes_eq word (codes "send") then option_map (λ s. states (send_line s)) (spelled_in ws) else (
+    if bytes_eq word (codes "on") then option_map (λ t. states (on_line t)) (test_of ws) else (
+    if bytes_eq word (codes "done") then alone (states done_line) ws else (
+    if bytes_eq word (codes "repeat") then option_map (λ n. states (repeat_line n)) (only ws >>= count_of) else (
+    if bytes_eq word (codes "break") then alone (states break_line) ws else (
+    if bytes_eq word (codes "stop") then option_map (λ word. states (stop_line word)) (only_name ws) else (
     option_map (λ s. command_line s) (spelled_of word ws)))))))))))))))))))

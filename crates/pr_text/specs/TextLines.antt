@@ -1,6 +1,6 @@
 -- Agrees with docs/FORMATS.md, 'Lines and words'.
 -- How a line is cut into words.
-use Rattle.std.specs.Prelude.{ℕ, Bool, ◌==◌, ◌||◌, ◌&&◌, not, nat_le, List, [], ◌∷◌, length, slice_index, codes, Option, Some, None, filter, take_while}
+use Rattle.std.specs.Prelude.{ℕ, if◌then◌else◌, Bool, ◌==◌, ◌||◌, ◌&&◌, not, nat_le, List, [], ◌∷◌, length, slice_index, codes, Option, Some, None, filter, take_while}
 use Rattle.std.specs.List.{slice_split, list_all}
 
 -- a tab, or an ASCII character that prints, the space among them
@@ -35,3 +35,7 @@ only (w ∷ x ∷ ws) = None
 -- no word is left
 abbrev pub is_end : List (List ℕ) → Bool
 is_end ws = length ws == 0
+
+-- this, where no word is left
+abbrev pub alone : {A : Type 0} → A → List (List ℕ) → Option A
+alone a ws = if is_end ws then Some a else None

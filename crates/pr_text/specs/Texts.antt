@@ -11,9 +11,9 @@ use Rattle.pr_text.specs.declared.fault.Which.TheVariants as which
 use Rattle.pr_text.specs.declared.fault.ReadError.TheVariants as fault
 use Rattle.pr_text.specs.Declarations.{Declaration, Place, Declared, nothing}
 use Rattle.pr_text.specs.Faults.{and_then, unless}
-use Rattle.pr_text.specs.ScenarioLines.{ScenarioLine, item_of}
+use Rattle.pr_text.specs.ScenarioLines.{item_of}
 use Rattle.pr_text.specs.NextLine.{item_placed}
-use Rattle.pr_text.specs.Standing.{is_before_all, of_plan, of_script}
+use Rattle.pr_text.specs.Standing.{by_place, is_before_all}
 use Rattle.pr_text.specs.TextLines.{is_text, words}
 
 -- ---- one line
@@ -56,7 +56,7 @@ starts_somewhere d = is_some (first_under (map start_of d.nexuses) (reservations
 
 -- a script or plan is open
 abbrev pub is_open : Place → Bool
-is_open p = of_script (of_plan false (λ h commands. true) p) (λ o. true) p
+is_open p = by_place false false (λ o. true) (λ h commands. true) p
 
 -- after the last line, of this number: the first thing that is wrong with the whole
 abbrev pub end_fault : ℕ → Declared → Option ReadError

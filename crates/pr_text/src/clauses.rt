@@ -1,13 +1,32 @@
 //! The clauses of roles, and the arms of sends.
 
 ghost use Rattle.std.specs.Prelude.{◌≡◌, option_map};
-ghost use Rattle.pr_text.specs.TextLines.{words};
-ghost use Rattle.pr_text.specs.Clauses.{registering, reserving, preempting, preempting_with, action_named, action_in, condition_of, condition_in, clause_of, alone, good_of, test_of};
+ghost use Rattle.pr_roles.specs.declared.role.Action.TheVariants as action;
+ghost use Rattle.pr_text.specs.TextLines.{words, alone};
+ghost use Rattle.pr_text.specs.WordTerms.{key_of, kind_of};
+ghost use Rattle.pr_text.specs.Clauses.{acting_on, preempting, action_named, action_in, condition_in, clause_of, good_of, test_of};
 
 use crate::cutting::{is, is_end, next_word, only};
+use crate::lookup::lookup;
 use crate::terms::{key_of, key_or_zero, kind_of, sense_of};
 use pr_roles::{Action, Clause, Condition};
 use pr_script::Test;
+
+/// The actions that have neither a key nor a type.
+pub const BARE_ACTIONS: [(&[u8], Action); 5] = [
+    (b"unregister", Action::Unregister),
+    (b"release", Action::Release),
+    (b"clear", Action::Clear),
+    (b"read", Action::Read),
+    (b"write", Action::Write),
+];
+
+/// The conditions of clauses.
+pub const CONDITIONS: [(&[u8], Condition); 3] = [
+    (b"registered", Condition::Registered),
+    (b"holder", Condition::Holder),
+    (b"reserved", Condition::Reserved),
+];
 
 /// The clause that the line's words are.
 pub fn clause_of(line: &[u8]) -> Option<Clause>
@@ -33,32 +52,17 @@ fn action_named<'a>(word: &[u8], rest: &'a [u8]) -> Option<(Action, &'a [u8])>
     if is(word, "register") {
         return registering(rest);
     }
-    if is(word, "unregister") {
-        return Some((Action::Unregister, rest));
-    }
     if is(word, "reserve") {
         return reserving(rest);
-    }
-    if is(word, "release") {
-        return Some((Action::Release, rest));
-    }
-    if is(word, "clear") {
-        return Some((Action::Clear, rest));
     }
     if is(word, "preempt") {
         return preempting(rest);
     }
-    if is(word, "read") {
-        return Some((Action::Read, rest));
-    }
-    if is(word, "write") {
-        return Some((Action::Write, rest));
-    }
-    None
+    Some((lookup(&BARE_ACTIONS, word)?, rest))
 }
 
 fn registering(line: &[u8]) -> Option<(Action, &[u8])>
-    ensures { option_map (λ r. (r.0, words r.1.now)) result ≡ registering (words line.now) }
+    ensures { option_map (λ r. (r.0, words r.1.now)) result ≡ acting_on (λ key. action.Register key) key_of (words line.now) }
 {
     let (word, rest) = next_word(line)?;
     let key = key_of(word)?;
@@ -66,7 +70,7 @@ fn registering(line: &[u8]) -> Option<(Action, &[u8])>
 }
 
 fn reserving(line: &[u8]) -> Option<(Action, &[u8])>
-    ensures { option_map (λ r. (r.0, words r.1.now)) result ≡ reserving (words line.now) }
+    ensures { option_map (λ r. (r.0, words r.1.now)) result ≡ acting_on (λ kind. action.Reserve kind) kind_of (words line.now) }
 {
     let (word, rest) = next_word(line)?;
     let kind = kind_of(word)?;
@@ -82,7 +86,7 @@ fn preempting(line: &[u8]) -> Option<(Action, &[u8])>
 }
 
 fn preempting_with(key: u64, line: &[u8]) -> Option<(Action, &[u8])>
-    ensures { option_map (λ r. (r.0, words r.1.now)) result ≡ preempting_with key (words line.now) }
+    ensures { option_map (λ r. (r.0, words r.1.now)) result ≡ acting_on (λ kind. action.Preempt key kind) kind_of (words line.now) }
 {
     let (word, rest) = next_word(line)?;
     let kind = kind_of(word)?;
@@ -99,24 +103,8 @@ fn condition_in(line: &[u8]) -> Option<Option<Condition>>
     if !is(word, "if") {
         return None;
     }
-    let condition = condition_of(only(rest)?)?;
+    let condition = lookup(&CONDITIONS, only(rest)?)?;
     Some(Some(condition))
-}
-
-#[tactic(auto, unfolding(crate::specs::Clauses::condition_of))]
-fn condition_of(word: &[u8]) -> Option<Condition>
-    ensures { result ≡ condition_of word.now }
-{
-    if is(word, "registered") {
-        return Some(Condition::Registered);
-    }
-    if is(word, "holder") {
-        return Some(Condition::Holder);
-    }
-    if is(word, "reserved") {
-        return Some(Condition::Reserved);
-    }
-    None
 }
 
 /// What the arm asks that the line's words are.

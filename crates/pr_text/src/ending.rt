@@ -22,7 +22,8 @@ impl Builder {
     ghost use Rattle.pr_text.specs.inside.Sound.{IsSound};
     ghost use Rattle.pr_text.specs.Texts.{ended};
     ghost use Rattle.pr_text.specs.inside.Endings.{missing};
-    ghost use Rattle.pr_text.specs.Reading.{IsDeclaredBy, IsWhole};
+    ghost use Rattle.pr_text.specs.Reading.{IsDeclaredBy};
+    ghost use Rattle.pr_text.specs.ScenarioRoundTrip.{IsWhole};
 
     /// The scenario that is declared, where the text ends on the line of this number.
     pub fn finished(self, alloc: Global, number: u32) -> Result<Scenario, ReadError>

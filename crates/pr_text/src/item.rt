@@ -1,9 +1,10 @@
 //! What one line of a text says.
 
 ghost use Rattle.std.specs.Prelude.{◌≡◌, map, option_map, IfOk};
-ghost use Rattle.pr_text.specs.TextLines.{words};
+ghost use Rattle.pr_text.specs.TextLines.{words, alone};
 ghost use Rattle.pr_text.specs.WordTerms.{key_of, code_of};
-ghost use Rattle.pr_text.specs.ScenarioLines.{listed, alternative_of, everybody_of, single_of, start_reservation_of, name_in, only_name, budget_in, fence_said, start_said, pending_said, role_said, script_said, item_of, bare_said, keys_line, reservation_line};
+ghost use Rattle.pr_text.specs.Clauses.{clause_of};
+ghost use Rattle.pr_text.specs.ScenarioLines.{listed, alternative_of, everybody_of, single_of, start_reservation_of, name_in, only_name, budget_in, fence_said, said_of_name, item_of, declares, keys_line, start_line, pending_line, reservation_line, role_line, script_line};
 ghost use Rattle.pr_text.specs.inside.Keywords.{said_simply, said_after};
 ghost use Rattle.pr_text.specs.inside.LineValues.{wanted_seen, seen};
 
@@ -18,6 +19,9 @@ use pr_registry::is_all;
 use pr_roles::{Clause, Word};
 use pr_script::Test;
 use std::alloc::{AllocError, Global};
+
+/// The version of the language.
+pub const VERSION: &str = "1";
 
 /// A reservation that there may be at the start.
 #[derive(Clone, Copy, Debug)]
@@ -95,20 +99,20 @@ fn said_simply(keyword: Keyword, rest: &[u8]) -> Option<ScenarioLine>
         Keyword::Role => role_said(rest),
         Keyword::Script => script_said(rest),
         Keyword::Plan => Some(ScenarioLine::Plan(only_name(rest)?)),
-        Keyword::End => bare_said(ScenarioLine::End, rest),
+        Keyword::End => alone(ScenarioLine::End, rest),
         Keyword::Send => Some(ScenarioLine::Send(spelled_in(rest)?)),
         Keyword::On => Some(ScenarioLine::On(test_of(rest)?)),
-        Keyword::Done => bare_said(ScenarioLine::Done, rest),
+        Keyword::Done => alone(ScenarioLine::Done, rest),
         Keyword::Repeat => Some(ScenarioLine::Repeat(count_of(only(rest)?)?)),
-        Keyword::Break => bare_said(ScenarioLine::Break, rest),
+        Keyword::Break => alone(ScenarioLine::Break, rest),
         Keyword::Stop => Some(ScenarioLine::Stop(only_name(rest)?)),
         Keyword::Keys | Keyword::Start | Keyword::Pending | Keyword::Reservation => None,
     }
 }
 
 // The item, if no word follows it.
-fn bare_said(item: ScenarioLine, rest: &[u8]) -> Option<ScenarioLine>
-    ensures { option_map seen result ≡ bare_said (seen item) (words rest.now) }
+fn alone(item: ScenarioLine, rest: &[u8]) -> Option<ScenarioLine>
+    ensures { option_map seen result ≡ alone (seen item) (words rest.now) }
 {
     if is_end(rest) { Some(item) } else { None }
 }
@@ -116,7 +120,7 @@ fn bare_said(item: ScenarioLine, rest: &[u8]) -> Option<ScenarioLine>
 fn fence_said(rest: &[u8]) -> Option<ScenarioLine>
     ensures { option_map seen result ≡ fence_said (words rest.now) }
 {
-    if is(only(rest)?, "1") {
+    if is(only(rest)?, VERSION) {
         Some(ScenarioLine::Fence)
     } else {
         None
@@ -124,7 +128,7 @@ fn fence_said(rest: &[u8]) -> Option<ScenarioLine>
 }
 
 fn role_said(rest: &[u8]) -> Option<ScenarioLine>
-    ensures { option_map seen result ≡ role_said (words rest.now) }
+    ensures { option_map seen result ≡ said_of_name (λ name clause. declares (role_line name clause)) clause_of (words rest.now) }
 {
     let Some((name, others)) = name_in(rest) else {
         return None;
@@ -134,7 +138,7 @@ fn role_said(rest: &[u8]) -> Option<ScenarioLine>
 }
 
 fn script_said(rest: &[u8]) -> Option<ScenarioLine>
-    ensures { option_map seen result ≡ script_said (words rest.now) }
+    ensures { option_map seen result ≡ said_of_name (λ name budget. declares (script_line name budget)) budget_in (words rest.now) }
 {
     let Some((name, others)) = name_in(rest) else {
         return None;
@@ -171,14 +175,14 @@ fn only_name(line: &[u8]) -> Option<Word>
 }
 
 fn keys_said(alloc: Global, rest: &[u8]) -> Result<Option<ScenarioLine>, AllocError>
-    ensures { IfOk result (λ item. option_map seen item ≡ option_map (λ keys. keys_line keys) (listed key_of (words rest.now))) }
+    ensures { IfOk result (λ item. option_map seen item ≡ option_map (λ keys. declares (keys_line keys)) (listed key_of (words rest.now))) }
 {
     let keys = keys_in(alloc, rest)?;
     Ok(keys.map(ScenarioLine::Keys))
 }
 
 fn start_said(alloc: Global, rest: &[u8]) -> Result<Option<ScenarioLine>, AllocError>
-    ensures { IfOk result (λ item. option_map seen item ≡ start_said (words rest.now)) }
+    ensures { IfOk result (λ item. option_map seen item ≡ said_of_name (λ name xs. declares (start_line name xs)) (listed alternative_of) (words rest.now)) }
 {
     let Some((name, others)) = name_in(rest) else {
         return Ok(None);
@@ -188,7 +192,7 @@ fn start_said(alloc: Global, rest: &[u8]) -> Result<Option<ScenarioLine>, AllocE
 }
 
 fn pending_said(alloc: Global, rest: &[u8]) -> Result<Option<ScenarioLine>, AllocError>
-    ensures { IfOk result (λ item. option_map seen item ≡ pending_said (words rest.now)) }
+    ensures { IfOk result (λ item. option_map seen item ≡ said_of_name (λ name xs. declares (pending_line name xs)) (listed code_of) (words rest.now)) }
 {
     let Some((name, others)) = name_in(rest) else {
         return Ok(None);
@@ -198,7 +202,7 @@ fn pending_said(alloc: Global, rest: &[u8]) -> Result<Option<ScenarioLine>, Allo
 }
 
 fn reservation_said(alloc: Global, rest: &[u8]) -> Result<Option<ScenarioLine>, AllocError>
-    ensures { IfOk result (λ item. option_map seen item ≡ option_map (λ xs. reservation_line xs) (listed start_reservation_of (words rest.now))) }
+    ensures { IfOk result (λ item. option_map seen item ≡ option_map (λ xs. declares (reservation_line xs)) (listed start_reservation_of (words rest.now))) }
 {
     let wanted = wanted_in(alloc, rest)?;
     Ok(wanted.map(ScenarioLine::Reservation))

@@ -68,7 +68,8 @@ impl OpenScript {
     ghost use Rattle.pr_text.specs.inside.LineValues.{seen};
     ghost use Rattle.pr_text.specs.inside.OpenScripts.{open_seen, opened_in};
     ghost use Rattle.pr_text.specs.Standing.{awaits_arm, awaits_more, is_repeating, is_sending, is_in_repeat};
-    ghost use Rattle.pr_text.specs.inside.Chains.{is_full, send_step, repeat_step, break_step, stop_step, on_step, done_step, script_step};
+    ghost use Rattle.pr_text.specs.inside.Chains.{is_full, script_step, line_step};
+    ghost use Rattle.pr_text.specs.ScenarioLines.{send_line, on_line, done_line, repeat_line, break_line, stop_line};
 
     /// A script without statements.
     pub fn new(alloc: Global, host: usize, budget: u32) -> Self
@@ -85,6 +86,7 @@ impl OpenScript {
     }
 
     /// The script with one line more.
+    #[tactic(auto, unfolding(crate::specs::inside::Chains::script_step))]
     pub fn with_item(
         self,
         alloc: Global,
@@ -92,7 +94,7 @@ impl OpenScript {
         keys: &[u64],
         item: ScenarioLine,
     ) -> Result<Self, ReadError>
-        ensures { Gives open_seen result (script_step line keys.now (seen item) (open_seen self)) }
+        ensures { Gives open_seen result (line_step line keys.now (seen item) (open_seen self)) }
     {
         match item {
             ScenarioLine::Send(spelled) => self.send(line, keys, spelled),
@@ -166,9 +168,9 @@ impl OpenScript {
             .count()
     }
 
-    #[tactic(auto, unfolding(crate::specs::inside::Chains::send_step))]
+    #[tactic(auto, unfolding(crate::specs::inside::Chains::script_step))]
     fn send(mut self, line: u32, keys: &[u64], spelled: ParsedCommand) -> Result<Self, ReadError>
-        ensures { Gives open_seen result (send_step line keys.now spelled (open_seen self)) }
+        ensures { Gives open_seen result (script_step line keys.now (send_line spelled) (open_seen self)) }
     {
         if self.awaits_arm() {
             return Err(ReadError::Syntax { line });
@@ -192,9 +194,9 @@ impl OpenScript {
         Ok(self)
     }
 
-    #[tactic(auto, unfolding(crate::specs::inside::Chains::repeat_step))]
+    #[tactic(auto, unfolding(crate::specs::inside::Chains::script_step))]
     fn repeat(self, alloc: Global, line: u32, count: u64) -> Result<Self, ReadError>
-        ensures { Gives open_seen result (repeat_step line count (open_seen self)) }
+        ensures { Gives open_seen result (script_step line [] (repeat_line count) (open_seen self)) }
     {
         if self.awaits_arm() {
             return Err(ReadError::Syntax { line });
@@ -233,7 +235,7 @@ impl OpenScript {
     }
 
     fn on(self, alloc: Global, line: u32, keys: &[u64], test: Test) -> Result<Self, ReadError>
-        ensures { Gives open_seen result (on_step line keys.now test (open_seen self)) }
+        ensures { Gives open_seen result (script_step line keys.now (on_line test) (open_seen self)) }
     {
         match self.armless {
             Some(send) => self.first_arm(alloc, line, keys, send, test),
@@ -241,7 +243,7 @@ impl OpenScript {
         }
     }
 
-    #[tactic(auto, unfolding(crate::specs::inside::Chains::on_step), using(crate::proofs::Steps::fails_same, crate::proofs::OpenLines::first_arm))]
+    #[tactic(auto, unfolding(crate::specs::inside::Chains::script_step), using(crate::proofs::Steps::fails_same, crate::proofs::OpenLines::first_arm))]
     fn first_arm(
         mut self,
         alloc: Global,
@@ -251,7 +253,7 @@ impl OpenScript {
         test: Test,
     ) -> Result<Self, ReadError>
         requires { self.armless ≡ Some send }
-        ensures { Gives open_seen result (on_step line keys.now test (open_seen self)) }
+        ensures { Gives open_seen result (script_step line keys.now (on_line test) (open_seen self)) }
     {
         if let Some(fault) = arm_fault(line, keys, send.command, 0, test) {
             return Err(fault);
@@ -266,7 +268,7 @@ impl OpenScript {
         Ok(self.opened(alloc, opener)?)
     }
 
-    #[tactic(auto, unfolding(crate::specs::inside::Chains::on_step), using(crate::proofs::Steps::fails_same))]
+    #[tactic(auto, unfolding(crate::specs::inside::Chains::script_step), using(crate::proofs::Steps::fails_same))]
     fn next_arm(
         mut self,
         alloc: Global,
@@ -275,7 +277,7 @@ impl OpenScript {
         test: Test,
     ) -> Result<Self, ReadError>
         requires { self.armless ≡ None }
-        ensures { Gives open_seen result (on_step line keys.now test (open_seen self)) }
+        ensures { Gives open_seen result (script_step line keys.now (on_line test) (open_seen self)) }
     {
         let Some(OpenBody { body, opener }) = self.outer.pop() else {
             return Err(ReadError::Syntax { line });
@@ -308,7 +310,7 @@ impl OpenScript {
     }
 
     fn done(self, alloc: Global, line: u32) -> Result<Self, ReadError>
-        ensures { Gives open_seen result (done_step line (open_seen self)) }
+        ensures { Gives open_seen result (script_step line [] done_line (open_seen self)) }
     {
         match self.armless {
             Some(send) => self.armless_done(alloc, line, send),
@@ -317,7 +319,7 @@ impl OpenScript {
     }
 
     // The end of a send without arms.
-    #[tactic(auto, unfolding(crate::specs::inside::Chains::done_step), using(crate::proofs::OpenLines::armless_closes))]
+    #[tactic(auto, unfolding(crate::specs::inside::Chains::script_step), using(crate::proofs::OpenLines::armless_closes))]
     fn armless_done(
         mut self,
         alloc: Global,
@@ -325,7 +327,7 @@ impl OpenScript {
         send: SendWithoutArm,
     ) -> Result<Self, ReadError>
         requires { self.armless ≡ Some send }
-        ensures { Gives open_seen result (done_step line (open_seen self)) }
+        ensures { Gives open_seen result (script_step line [] done_line (open_seen self)) }
     {
         self.armless = None;
         let statement = Statement::Send {
@@ -338,10 +340,10 @@ impl OpenScript {
     }
 
     // The end of the innermost body.
-    #[tactic(auto, unfolding(crate::specs::inside::Chains::done_step))]
+    #[tactic(auto, unfolding(crate::specs::inside::Chains::script_step))]
     fn body_done(mut self, line: u32) -> Result<Self, ReadError>
         requires { self.armless ≡ None }
-        ensures { Gives open_seen result (done_step line (open_seen self)) }
+        ensures { Gives open_seen result (script_step line [] done_line (open_seen self)) }
     {
         let Some(OpenBody { body, opener }) = self.outer.pop() else {
             return Err(ReadError::Syntax { line });
@@ -355,9 +357,9 @@ impl OpenScript {
         Ok(self)
     }
 
-    #[tactic(auto, unfolding(crate::specs::inside::Chains::break_step))]
+    #[tactic(auto, unfolding(crate::specs::inside::Chains::script_step))]
     fn break_out(mut self, line: u32) -> Result<Self, ReadError>
-        ensures { Gives open_seen result (break_step line (open_seen self)) }
+        ensures { Gives open_seen result (script_step line [] break_line (open_seen self)) }
     {
         if self.awaits_more() || self.open_repeats() == 0 {
             return Err(ReadError::Syntax { line });
@@ -371,9 +373,9 @@ impl OpenScript {
         Ok(self)
     }
 
-    #[tactic(auto, unfolding(crate::specs::inside::Chains::stop_step))]
+    #[tactic(auto, unfolding(crate::specs::inside::Chains::script_step))]
     fn stop(mut self, line: u32, word: Word) -> Result<Self, ReadError>
-        ensures { Gives open_seen result (stop_step line word.bytes (open_seen self)) }
+        ensures { Gives open_seen result (script_step line [] (stop_line word.bytes) (open_seen self)) }
     {
         if self.awaits_more() {
             return Err(ReadError::Syntax { line });

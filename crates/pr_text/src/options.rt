@@ -2,7 +2,7 @@
 
 ghost use Rattle.std.specs.Prelude.{◌≡◌, ◌∷◌};
 ghost use Rattle.pr_text.specs.TextLines.{words};
-ghost use Rattle.pr_text.specs.CommandOptions.{direction_of, action_of, key_after, option_of, with_option, with_options, unwritten, command_in, command_out, command_of};
+ghost use Rattle.pr_text.specs.CommandOptions.{key_after, option_of, with_option, with_options, unwritten, command_in, command_out, command_of};
 
 use crate::cutting::next_word;
 use crate::lookup::lookup;
@@ -17,12 +17,17 @@ pub enum Direction {
     Out,
 }
 
-/// A service action.
+/// A service action of `--in`.
 #[derive(Clone, Copy, Debug, PartialEq, Eq)]
-pub enum Action {
+pub enum InAction {
     ReadKeys,
     ReadReservation,
     ReportCapabilities,
+}
+
+/// A service action of `--out`.
+#[derive(Clone, Copy, Debug, PartialEq, Eq)]
+pub enum OutAction {
     Register,
     RegisterIgnore,
     Reserve,
@@ -30,6 +35,13 @@ pub enum Action {
     Clear,
     Preempt,
     PreemptAbort,
+}
+
+/// A service action.
+#[derive(Clone, Copy, Debug, PartialEq, Eq)]
+pub enum Action {
+    In(InAction),
+    Out(OutAction),
 }
 
 /// The options for the direction of the data, of which each command names one.
@@ -40,16 +52,19 @@ pub const DIRECTIONS: [(&[u8], Direction); 2] = [
 
 /// The options for the service actions.
 pub const ACTIONS: [(&[u8], Action); 10] = [
-    (b"--read-keys", Action::ReadKeys),
-    (b"--read-reservation", Action::ReadReservation),
-    (b"--report-capabilities", Action::ReportCapabilities),
-    (b"--register", Action::Register),
-    (b"--register-ignore", Action::RegisterIgnore),
-    (b"--reserve", Action::Reserve),
-    (b"--release", Action::Release),
-    (b"--clear", Action::Clear),
-    (b"--preempt", Action::Preempt),
-    (b"--preempt-abort", Action::PreemptAbort),
+    (b"--read-keys", Action::In(InAction::ReadKeys)),
+    (b"--read-reservation", Action::In(InAction::ReadReservation)),
+    (
+        b"--report-capabilities",
+        Action::In(InAction::ReportCapabilities),
+    ),
+    (b"--register", Action::Out(OutAction::Register)),
+    (b"--register-ignore", Action::Out(OutAction::RegisterIgnore)),
+    (b"--reserve", Action::Out(OutAction::Reserve)),
+    (b"--release", Action::Out(OutAction::Release)),
+    (b"--clear", Action::Out(OutAction::Clear)),
+    (b"--preempt", Action::Out(OutAction::Preempt)),
+    (b"--preempt-abort", Action::Out(OutAction::PreemptAbort)),
 ];
 
 /// One option of a command.
@@ -122,15 +137,15 @@ impl Written {
     {
         let direction = self.direction?;
         let action = self.action?;
-        match direction {
-            Direction::In if self.is_bare() => command_in(action),
-            Direction::In => None,
-            Direction::Out => command_out(
+        match (direction, action) {
+            (Direction::In, Action::In(action)) if self.is_bare() => Some(command_in(action)),
+            (Direction::Out, Action::Out(action)) => command_out(
                 action,
                 self.rk.unwrap_or(0),
                 self.sark.unwrap_or(0),
                 self.kind,
             ),
+            _ => None,
         }
     }
 }
@@ -153,10 +168,10 @@ pub fn options_of(first: &[u8], line: &[u8]) -> Option<Written>
 fn option_of(word: &[u8]) -> Option<CommandOption>
     ensures { result ≡ option_of word.now }
 {
-    if let Some(direction) = direction_of(word) {
+    if let Some(direction) = lookup(&DIRECTIONS, word) {
         return Some(CommandOption::Direction(direction));
     }
-    if let Some(action) = action_of(word) {
+    if let Some(action) = lookup(&ACTIONS, word) {
         return Some(CommandOption::Action(action));
     }
     if let Some(rk) = key_after("--param-rk=", word) {
@@ -175,47 +190,32 @@ fn key_after(name: &str, word: &[u8]) -> Option<u64>
     key_or_zero(value_after(name, word)?)
 }
 
-#[tactic(auto, unfolding(crate::specs::CommandOptions::direction_of))]
-fn direction_of(word: &[u8]) -> Option<Direction>
-    ensures { result ≡ direction_of word.now }
-{
-    lookup(&DIRECTIONS, word)
-}
-
-#[tactic(auto, unfolding(crate::specs::CommandOptions::action_of))]
-fn action_of(word: &[u8]) -> Option<Action>
-    ensures { result ≡ action_of word.now }
-{
-    lookup(&ACTIONS, word)
-}
-
 // The commands of `--in`.
 #[tactic(auto, unfolding(crate::specs::CommandOptions::command_in))]
-fn command_in(action: Action) -> Option<Command>
+fn command_in(action: InAction) -> Command
     ensures { result ≡ command_in action }
 {
     let alloc = WRITTEN_LENGTH;
     match action {
-        Action::ReadKeys => Some(Command::ReadKeys { alloc }),
-        Action::ReadReservation => Some(Command::ReadReservation { alloc }),
-        Action::ReportCapabilities => Some(Command::ReportCapabilities { alloc }),
-        _ => None,
+        InAction::ReadKeys => Command::ReadKeys { alloc },
+        InAction::ReadReservation => Command::ReadReservation { alloc },
+        InAction::ReportCapabilities => Command::ReportCapabilities { alloc },
     }
 }
 
 // The commands of `--out`.
 #[tactic(auto, unfolding(crate::specs::CommandOptions::command_out))]
-fn command_out(action: Action, rk: u64, sark: u64, kind: Option<Kind>) -> Option<Command>
+fn command_out(action: OutAction, rk: u64, sark: u64, kind: Option<Kind>) -> Option<Command>
     ensures { result ≡ command_out action rk sark kind }
 {
     match action {
-        Action::Register => Some(Command::Register { rk, sark }),
-        Action::RegisterIgnore => Some(Command::RegisterIgnore { sark }),
-        Action::Reserve => kind.map(|kind| Command::Reserve { rk, kind }),
-        Action::Release => kind.map(|kind| Command::Release { rk, kind }),
-        Action::Clear => Some(Command::Clear { rk }),
-        Action::Preempt if kind.is_some() => Some(Command::Preempt { rk, sark, kind }),
-        Action::PreemptAbort if kind.is_some() => Some(Command::PreemptAbort { rk, sark, kind }),
+        OutAction::Register => Some(Command::Register { rk, sark }),
+        OutAction::RegisterIgnore => Some(Command::RegisterIgnore { sark }),
+        OutAction::Reserve => kind.map(|kind| Command::Reserve { rk, kind }),
+        OutAction::Release => kind.map(|kind| Command::Release { rk, kind }),
+        OutAction::Clear => Some(Command::Clear { rk }),
+        OutAction::Preempt if kind.is_some() => Some(Command::Preempt { rk, sark, kind }),
+        OutAction::PreemptAbort if kind.is_some() => Some(Command::PreemptAbort { rk, sark, kind }),
         _ => None,
     }
 }

@@ -1,8 +1,8 @@
 //! The commands that words spell.
 
 ghost use Rattle.std.specs.Prelude.{◌≡◌};
-ghost use Rattle.pr_text.specs.TextLines.{words};
-ghost use Rattle.pr_text.specs.CommandWords.{keyless, bare, blocks_of, spelled_by, spelled_of, spelled_in};
+ghost use Rattle.pr_text.specs.TextLines.{words, alone};
+ghost use Rattle.pr_text.specs.CommandWords.{keyless, blocks_of, spelled_by, spelled_of, spelled_in};
 
 use crate::cutting::{is, is_end, next_word, only};
 use crate::options::{Written, options_of};
@@ -59,7 +59,7 @@ fn keyless(command: Command) -> ParsedCommand
 
 // The command, if no word follows it.
 fn bare(command: Command, rest: &[u8]) -> Option<ParsedCommand>
-    ensures { result ≡ bare command (words rest.now) }
+    ensures { result ≡ alone (keyless command) (words rest.now) }
 {
     if is_end(rest) {
         Some(keyless(command))

@@ -1,15 +1,15 @@
 -- The words that lines begin with, and what the words behind each say.
-use Rattle.std.specs.Prelude.{ℕ, List, map, Option, Some, option_map, None}
+use Rattle.std.specs.Prelude.{ℕ, List, map, Option, Some, option_map, None, true, false}
 use Rattle.pr_text.specs.declared.keyword.Keyword.{Keyword}
 use Rattle.pr_text.specs.declared.keyword.Keyword.TheVariants as keyword
 use Rattle.pr_text.specs.declared.keyword.TheConstants.{KEYWORDS}
 use Rattle.pr_text.specs.Chain.{◌>>=◌}
-use Rattle.pr_text.specs.Clauses.{test_of}
+use Rattle.pr_text.specs.Clauses.{clause_of, test_of}
 use Rattle.pr_text.specs.CommandWords.{spelled_of, spelled_in}
-use Rattle.pr_text.specs.ScenarioLines.{ScenarioLine, keys_line, host_line, guest_line, reservation_line, generation_line, plan_line, end_line, send_line, on_line, done_line, repeat_line, break_line, stop_line, command_line, listed, start_reservation_of, only_name, fence_said, start_said, pending_said, role_said, script_said, bare_said}
+use Rattle.pr_text.specs.ScenarioLines.{ScenarioLine, keys_line, nexus_line, reservation_line, generation_line, plan_line, end_line, send_line, on_line, done_line, repeat_line, break_line, stop_line, command_line, listed, start_reservation_of, only_name, fence_said, start_line, pending_line, role_line, script_line, alternative_of, budget_in, said_of_name, declares, states}
 use Rattle.pr_text.specs.Lookups.{lookup}
-use Rattle.pr_text.specs.TextLines.{only}
-use Rattle.pr_text.specs.WordTerms.{key_of, generation_of, count_of}
+use Rattle.pr_text.specs.TextLines.{only, alone}
+use Rattle.pr_text.specs.WordTerms.{key_of, generation_of, count_of, code_of}
 
 -- the keyword that a word is
 unfoldable pub keyword_of : List ℕ → Option Keyword
@@ -18,19 +18,19 @@ keyword_of word = lookup (map (λ row. (row.0.now, row.1)) KEYWORDS) word
 -- what the words behind a keyword say that takes no list
 abbrev pub said_simply : Keyword → List (List ℕ) → Option ScenarioLine
 said_simply keyword.Fence ws = fence_said ws
-said_simply keyword.Host ws = option_map (λ name. host_line name) (only_name ws)
-said_simply keyword.Guest ws = option_map (λ name. guest_line name) (only_name ws)
-said_simply keyword.Generation ws = option_map (λ n. generation_line n) (only ws >>= generation_of)
-said_simply keyword.Role ws = role_said ws
-said_simply keyword.Script ws = script_said ws
-said_simply keyword.Plan ws = option_map (λ name. plan_line name) (only_name ws)
-said_simply keyword.End ws = bare_said end_line ws
-said_simply keyword.Send ws = option_map (λ s. send_line s) (spelled_in ws)
-said_simply keyword.On ws = option_map (λ t. on_line t) (test_of ws)
-said_simply keyword.Done ws = bare_said done_line ws
-said_simply keyword.Repeat ws = option_map (λ n. repeat_line n) (only ws >>= count_of)
-said_simply keyword.Break ws = bare_said break_line ws
-said_simply keyword.Stop ws = option_map (λ word. stop_line word) (only_name ws)
+said_simply keyword.Host ws = option_map (λ name. declares (nexus_line false name)) (only_name ws)
+said_simply keyword.Guest ws = option_map (λ name. declares (nexus_line true name)) (only_name ws)
+said_simply keyword.Generation ws = option_map (λ n. declares (generation_line n)) (only ws >>= generation_of)
+said_simply keyword.Role ws = said_of_name (λ name clause. declares (role_line name clause)) clause_of ws
+said_simply keyword.Script ws = said_of_name (λ name budget. declares (script_line name budget)) budget_in ws
+said_simply keyword.Plan ws = option_map (λ name. declares (plan_line name)) (only_name ws)
+said_simply keyword.End ws = alone end_line ws
+said_simply keyword.Send ws = option_map (λ s. states (send_line s)) (spelled_in ws)
+said_simply keyword.On ws = option_map (λ t. states (on_line t)) (test_of ws)
+said_simply keyword.Done ws = alone (states done_line) ws
+said_simply keyword.Repeat ws = option_map (λ n. states (repeat_line n)) (only ws >>= count_of)
+said_simply keyword.Break ws = alone (states break_line) ws
+said_simply keyword.Stop ws = option_map (λ word. states (stop_line word)) (only_name ws)
 said_simply keyword.Keys ws = None
 said_simply keyword.Start ws = None
 said_simply keyword.Pending ws = None
@@ -38,10 +38,10 @@ said_simply keyword.Reservation ws = None
 
 -- what the words behind a keyword say
 abbrev pub said_after : Keyword → List (List ℕ) → Option ScenarioLine
-said_after keyword.Keys ws = option_map (λ keys. keys_line keys) (listed key_of ws)
-said_after keyword.Start ws = start_said ws
-said_after keyword.Pending ws = pending_said ws
-said_after keyword.Reservation ws = option_map (λ xs. reservation_line xs) (listed start_reservation_of ws)
+said_after keyword.Keys ws = option_map (λ keys. declares (keys_line keys)) (listed key_of ws)
+said_after keyword.Start ws = said_of_name (λ name xs. declares (start_line name xs)) (listed alternative_of) ws
+said_after keyword.Pending ws = said_of_name (λ name xs. declares (pending_line name xs)) (listed code_of) ws
+said_after keyword.Reservation ws = option_map (λ xs. declares (reservation_line xs)) (listed start_reservation_of ws)
 said_after k ws = said_simply k ws
 
 -- what a line says that begins with this word; one without a keyword is a command of a plan
