@@ -3,6 +3,7 @@ use Rattle.std.specs.Prelude.{◌≡◌, ℕ, ◌+◌, ◌<◌, ◌≤◌, List,
 use Rattle.std.proofs.Common.{refl, sym, ap, ◌∙◌, zero, suc, arith}
 use Rattle.std.proofs.lemmas.List.Elements.{All-append}
 use Rattle.std.specs.List.{All}
+use Rattle.pr_cdb.specs.declared.codes.TheConstants.{MOST_NEXUSES}
 use Rattle.pr_roles.specs.declared.parts.Parts.{Parts}
 use Rattle.pr_roles.specs.Scenarios.{scenario_of}
 use Rattle.pr_roles.specs.Fitting.{Fits}
@@ -53,5 +54,5 @@ all_more n h hosts all there = All-append (λ host. host < n) hosts (h ∷ []) a
 
 -- ---- the parts of a scenario
 
-pub few_nexuses : (p : Parts) → Fits (scenario_of p) → length p.nexuses.items ≤ 8
+pub few_nexuses : (p : Parts) → Fits (scenario_of p) → length p.nexuses.items ≤ MOST_NEXUSES
 few_nexuses p fits = few_parts p fits

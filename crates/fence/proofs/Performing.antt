@@ -5,17 +5,18 @@ use Rattle.std.specs.List.{list_all, range_with_len, slice_get}
 use Rattle.std.specs.Option.{option_map_or}
 use Rattle.std.specs.Io.KnownBytes.{Appends}
 use Rattle.std.proofs.lemmas.Bool.{and_parts}
+use Rattle.pr_cdb.specs.declared.codes.TheConstants.{MOST_NEXUSES}
 use Rattle.pr_roles.specs.declared.parts.Nexus.{Nexus as NexusPart}
 use Rattle.pr_roles.specs.declared.parts.Parts.{Parts}
 use Rattle.pr_verify.specs.declared.verifying.Refused.{Refused}
 use Rattle.pr_roles.specs.Scenarios.{Nexus, Scenario, scenario_of, task}
 use Rattle.pr_roles.specs.Safety.{IsSafe}
 use Rattle.pr_roles.specs.Fitting.{Fits, are_distinct, are_nexuses, is_nexus}
-use Rattle.pr_roles.specs.Worlds.{sent}
+use Rattle.pr_roles.specs.Worlds.{commands_by}
 use Rattle.pr_text.specs.Reading.{IsWrittenAs}
 use Rattle.pr_roles.specs.declared.entry.Entry.{Entry}
 use Rattle.pr_world.specs.declared.end.End.{End}
-use Rattle.pr_world.specs.Ends.{seen}
+use Rattle.pr_world.specs.Ends.{ending_of}
 use Rattle.pr_world.specs.Rooms.{room_by}
 use Rattle.pr_world.proofs.Keeping.{sent_within}
 use Rattle.pr_world.proofs.Reserving.{room_of_nexus}
@@ -77,27 +78,27 @@ room_in keys (n ∷ ns) (suc h) fit = room_in keys ns h (and_parts (is_nexus key
 
 each_nexus : (keys : List ℕ) (ns : List Nexus) → are_nexuses keys ns ≡ true → list_all (is_nexus keys) ns ≡ true
 each_nexus keys ns is =
-    (and_parts (are_distinct bytes_eq (map (λ n. n.name) ns)) _ (and_parts (nat_le (length ns) 8) _ (and_parts (not (length ns == 0)) _ is).1).1).1
+    (and_parts (are_distinct bytes_eq (map (λ n. n.name) ns)) _ (and_parts (nat_le (length ns) MOST_NEXUSES) _ (and_parts (not (length ns == 0)) _ is).1).1).1
 
 pub short_rooms : (s : Scenario) (h : ℕ) → Fits s → room_by (task s h) ≤ 4096
 short_rooms s h fits = room_in s.keys s.nexuses h (each_nexus s.keys s.nexuses fits.nexuses)
 
 -- no nexus sends so many that there is no number for them
-pub few_sent : (s : Scenario) (o : Outcome) (h : ℕ) → Fits s → IsSafe s → IsOutcome s o → sent o.history.items h < 2 ^ 32
+pub few_sent : (s : Scenario) (o : Outcome) (h : ℕ) → Fits s → IsSafe s → IsOutcome s o → commands_by o.history.items h < 2 ^ 32
 few_sent s o h fits safe comes =
-    let kept : sent comes.last.world.entries h ≤ room_by (task s h) = sent_within s comes.steps comes.last safe comes.reached h in
-    let here : sent o.history.items h ≤ room_by (task s h) = subst (λ es. sent es h ≤ room_by (task s h)) (sym comes.history) kept in
+    let kept : commands_by comes.last.world.entries h ≤ room_by (task s h) = sent_within s comes.steps comes.last safe comes.reached h in
+    let here : commands_by o.history.items h ≤ room_by (task s h) = subst (λ es. commands_by es h ≤ room_by (task s h)) (sym comes.history) kept in
     omega (arith, here, short_rooms s h fits)
 
-pub counts_at : (s : Scenario) (o : Outcome) (history : List Entry) (n : ℕ) (counts : List ℕ) → counts ≡ map (λ h. sent history h) (range_with_len 0 n)
+pub counts_at : (s : Scenario) (o : Outcome) (history : List Entry) (n : ℕ) (counts : List ℕ) → counts ≡ map (λ h. commands_by history h) (range_with_len 0 n)
     → history ≡ o.history.items → n ≡ length s.nexuses → counts ≡ counts_in s o.history.items
 counts_at s o history n counts is same all =
-    is ∙ (ap (λ es. map (λ h. sent es h) (range_with_len 0 n)) same ∙ ap (λ n. map (λ h. sent o.history.items h) (range_with_len 0 n)) all)
+    is ∙ (ap (λ es. map (λ h. commands_by es h) (range_with_len 0 n)) same ∙ ap (λ n. map (λ h. commands_by o.history.items h) (range_with_len 0 n)) all)
 
 pub text_of_outcome : (s : Scenario) (o : Outcome) (history : List Entry) (ends : List End) (counts : List ℕ) → history ≡ o.history.items → ends ≡ o.ends.items
-    → counts ≡ counts_in s o.history.items → trace_text (names_in s) history o.unit.registry (map seen ends) counts ≡ outcome_text s o
+    → counts ≡ counts_in s o.history.items → trace_text (names_in s) history o.unit.registry (map ending_of ends) counts ≡ outcome_text s o
 text_of_outcome s o history ends counts same ended counted =
-    λ i. trace_text (names_in s) (same i) o.unit.registry (map seen (ended i)) (counted i)
+    λ i. trace_text (names_in s) (same i) o.unit.registry (map ending_of (ended i)) (counted i)
 
 -- ---- names
 

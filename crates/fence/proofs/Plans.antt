@@ -9,11 +9,10 @@ use Rattle.pr_roles.specs.declared.parts.Parts.{Parts}
 use Rattle.pr_roles.specs.Scenarios.{scenario_of}
 use Rattle.pr_roles.proofs.Apart.{names_of_parts, length_of_parts}
 use Rattle.pr_text.specs.Reading.{IsWrittenAs}
-use Rattle.pr_world.specs.declared.end.End.{End}
 use Rattle.pr_world.specs.declared.replaying.Replayed.{Replayed}
-use Rattle.pr_world.specs.Ends.{seen}
 use Rattle.pr_world.specs.Replays.{IsReplayed}
-use Rattle.pr_report.specs.TraceText.{names_in, names_of, trace_text}
+use Rattle.pr_report.specs.TraceText.{names_in, names_of}
+use Rattle.pr_report.proofs.Tracing.{replays_are_traced}
 use Rattle.fence.specs.declared.fault.Fault.TheVariants as fault
 use Rattle.pr_report.specs.TraceReadings.{number_of}
 use Rattle.fence.specs.Steps.{hosts_of, has_wrong_count}
@@ -43,10 +42,6 @@ named_length ns (w ∷ ws) hosts is = first (number_of ns w) is (named_length ns
     first None is later = absurd (none-some hosts is)
     first (Some h) is later = rest h (hosts_of ns ws) is later
 
-some_seen : (ends : List End) → map (λ e. Some e) (map seen ends) ≡ map (λ e. Some (seen e)) ends
-some_seen [] = refl
-some_seen (e ∷ es) = ap (λ l. Some (seen e) ∷ l) (some_seen es)
-
 planned_trace : (steps : List (List ℕ)) (text : List ℕ) (p : Parts) (r : Replayed) (hosts : List ℕ) → IsWrittenAs text (scenario_of p)
     → hosts_of (names_in (scenario_of p)) steps ≡ Some hosts → IsReplayed (scenario_of p) hosts r
     → IsTraceOf steps text (planned_text (record { scenario = p; replayed = r })) (is_refused (record { scenario = p; replayed = r }))
@@ -59,9 +54,7 @@ planned_trace steps text p r hosts written named is = record {
   first = is.first;
   last = is.last;
   run = is.run;
-  ends = map seen r.ends.items;
-  ended = some_seen r.ends.items ∙ is.outcome.ends;
-  trace_is = λ i. trace_text (names_in (scenario_of p)) (is.outcome.entries i) ((is.outcome.unit i).registry) (map seen r.ends.items) (is.outcome.counts i);
+  trace_is = replays_are_traced (scenario_of p) is.last r is.outcome;
   refused_is = is.outcome.trapped;
 }
 

@@ -1,6 +1,6 @@
 -- Agrees with docs/FORMATS.md, 'Replaying'.
 -- What `fence replay` writes.
-use Rattle.std.specs.Prelude.{◌≡◌, ℕ, Bool, true, false, IsTrue, List, map, Option, Some, None, IfSome, Result, Err}
+use Rattle.std.specs.Prelude.{◌≡◌, ℕ, Bool, true, false, IsTrue, List, Option, Some, None, IfSome, Result, Err}
 use Rattle.std.specs.List.{list_any}
 use Rattle.pr_unit.specs.UnitStates.{UnitState}
 use Rattle.pr_roles.specs.Scenarios.{Scenario}
@@ -8,9 +8,8 @@ use Rattle.pr_roles.specs.Starts.{first_state}
 use Rattle.pr_roles.specs.Worlds.{is_trapped}
 use Rattle.pr_roles.specs.Schedules.{Schedule, ScheduledRun, schedule_from}
 use Rattle.pr_text.specs.Reading.{IsWrittenAs}
-use Rattle.pr_world.specs.Ends.{Ending, endings}
-use Rattle.pr_world.specs.Replays.{counts_in}
-use Rattle.pr_report.specs.TraceText.{names_in, trace_text}
+use Rattle.pr_report.specs.TraceText.{names_in}
+use Rattle.pr_report.specs.Traces.{IsTraceOf as IsTraceOfSchedule}
 use Rattle.fence.specs.declared.fault.Fault.{Fault}
 use Rattle.fence.specs.declared.fault.Fault.TheVariants as fault
 use Rattle.fence.specs.Endings.{Outputs}
@@ -27,9 +26,7 @@ pub record IsTraceOf (steps : List (List ℕ)) (text trace : List ℕ) (refused 
   pub first : first_state scenario ≡ Some start
   pub last : Schedule
   pub run : ScheduledRun scenario (schedule_from scenario start) hosts last
-  pub ends : List Ending
-  pub ended : map (λ e. Some e) ends ≡ endings last.world.controls last.plans
-  pub trace_is : trace ≡ trace_text (names_in scenario) last.world.entries last.world.unit.registry ends (counts_in last)
+  pub trace_is : IsTraceOfSchedule scenario last trace
   pub refused_is : refused ≡ list_any is_trapped last.world.controls
 
 -- The steps are at fault: there are too few or too many, or the text is a scenario and one of them is no name

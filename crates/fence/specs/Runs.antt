@@ -5,11 +5,11 @@ use Rattle.std.specs.List.{range_with_len}
 use Rattle.pr_roles.specs.declared.entry.Entry.{Entry}
 use Rattle.pr_roles.specs.Scenarios.{Scenario}
 use Rattle.pr_roles.specs.Safety.{IsSafe}
-use Rattle.pr_roles.specs.Worlds.{sent}
+use Rattle.pr_roles.specs.Worlds.{commands_by}
 use Rattle.pr_text.specs.Reading.{IsWrittenAs}
 use Rattle.pr_verify.specs.declared.refusal.Refusal.{Refusal}
 use Rattle.pr_verify.specs.Verdicts.{IsFirstReason}
-use Rattle.pr_world.specs.Ends.{seen}
+use Rattle.pr_world.specs.Ends.{ending_of}
 use Rattle.pr_shared.specs.declared.outcome.Outcome.{Outcome}
 use Rattle.pr_shared.specs.Outcomes.{IsOutcome}
 use Rattle.pr_report.specs.TraceText.{name_of, names_in, trace_text}
@@ -20,11 +20,11 @@ use Rattle.fence.specs.Endings.{Outputs}
 
 -- how many commands of each nexus reached the unit
 abbrev pub counts_in : Scenario → List Entry → List ℕ
-counts_in s history = map (λ h. sent history h) (range_with_len 0 (length s.nexuses))
+counts_in s history = map (λ h. commands_by history h) (range_with_len 0 (length s.nexuses))
 
 abbrev pub outcome_text : Scenario → Outcome → List ℕ
 outcome_text s o =
-    trace_text (names_in s) o.history.items o.unit.registry (map seen o.ends.items) (counts_in s o.history.items)
+    trace_text (names_in s) o.history.items o.unit.registry (map ending_of o.ends.items) (counts_in s o.history.items)
 
 -- the text is a scenario that is refused for its first reason, and this is the line of that verdict
 pub record IsRefusalOf (text line : List ℕ) : Type 0 where

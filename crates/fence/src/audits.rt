@@ -1,9 +1,10 @@
 //! `fence audit`, over any two readers, writer and error writer.
 
-ghost use Rattle.std.specs.Prelude.{◌≡◌, Err, IfErr, IfOk};
+ghost use Rattle.std.specs.Prelude.{◌≡◌, ◌+◌, Err, IfErr, IfOk};
 ghost use Rattle.std.specs.Io.KnownBytes.{Keeps};
 ghost use Rattle.pr_roles.specs.Scenarios.{scenario_of};
 ghost use Rattle.pr_text.specs.declared.fault.ReadError.{ReadError};
+ghost use Rattle.pr_text.specs.declared.text.TheConstants.{MOST_BYTES};
 ghost use Rattle.pr_text.specs.BytesRead.{LosesUpTo};
 ghost use Rattle.pr_report.specs.BytesTaken.{LosesUpTo as TakesUpTo};
 ghost use Rattle.pr_report.specs.Written.{Puts};
@@ -34,7 +35,7 @@ pub fn do_audit<R: Read, T: Read, W: Write, E: Write>(
     errors: &mut E,
 ) -> Status
     ensures command { IsCommand (EndsAudit (R.remaining reader.old) (T.remaining trace.old) (T.remaining trace.new) (W.contents writer.old) (W.contents writer.new)) (E.contents errors.old) (E.contents errors.new) result }
-    ensures limited { LosesUpTo 65537 (R.remaining reader.old) (R.remaining reader.new) }
+    ensures limited { LosesUpTo (MOST_BYTES + 1) (R.remaining reader.old) (R.remaining reader.new) }
     ensures limited_trace { TakesUpTo 33662017 (T.remaining trace.old) (T.remaining trace.new) }
 {
     let (end, _) = audit_and_tell(alloc, reader, trace, writer, errors);
@@ -51,7 +52,7 @@ fn audit_and_tell<R: Read, T: Read, W: Write, E: Write>(
 ) -> (Result<bool, Fault>, Result<(), WriteFault>)
     ensures ends { EndsAudit (R.remaining reader.old) (T.remaining trace.old) (T.remaining trace.new) (W.contents writer.old) (W.contents writer.new) result.0 }
     ensures tells { Puts (E.contents errors.old) (E.contents errors.new) (told_of_end result.0) result.1 }
-    ensures limited { LosesUpTo 65537 (R.remaining reader.old) (R.remaining reader.new) }
+    ensures limited { LosesUpTo (MOST_BYTES + 1) (R.remaining reader.old) (R.remaining reader.new) }
     ensures limited_trace { TakesUpTo 33662017 (T.remaining trace.old) (T.remaining trace.new) }
 {
     let end = audit_texts(alloc, reader, trace, writer);
@@ -67,7 +68,7 @@ fn audit_texts<R: Read, T: Read, W: Write>(
     writer: &mut W,
 ) -> Result<bool, Fault>
     ensures ends { EndsAudit (R.remaining reader.old) (T.remaining trace.old) (T.remaining trace.new) (W.contents writer.old) (W.contents writer.new) result }
-    ensures limited { LosesUpTo 65537 (R.remaining reader.old) (R.remaining reader.new) }
+    ensures limited { LosesUpTo (MOST_BYTES + 1) (R.remaining reader.old) (R.remaining reader.new) }
     ensures limited_trace { TakesUpTo 33662017 (T.remaining trace.old) (T.remaining trace.new) }
 {
     let audited = examine(alloc, reader, trace)?;
@@ -86,7 +87,7 @@ struct Audited {
 fn examine<R: Read, T: Read>(alloc: Global, reader: &mut R, trace: &mut T) -> Result<Audited, Fault>
     ensures audited { IsAudited (R.remaining reader.old) (T.remaining trace.old) result }
     ensures unread { (e : ReadError) → result ≡ Err (Input e) → Keeps (T.remaining trace.old) (T.remaining trace.new) }
-    ensures limited { LosesUpTo 65537 (R.remaining reader.old) (R.remaining reader.new) }
+    ensures limited { LosesUpTo (MOST_BYTES + 1) (R.remaining reader.old) (R.remaining reader.new) }
     ensures limited_trace { TakesUpTo 33662017 (T.remaining trace.old) (T.remaining trace.new) }
 {
     let scenario = read(alloc, reader)?;

@@ -1,6 +1,7 @@
 //! `fence check`, over any reader, writer and error writer.
 
-ghost use Rattle.std.specs.Prelude.{◌≡◌, IfErr, IfOk};
+ghost use Rattle.std.specs.Prelude.{◌≡◌, ◌+◌, IfErr, IfOk};
+ghost use Rattle.pr_text.specs.declared.text.TheConstants.{MOST_BYTES};
 ghost use Rattle.pr_text.specs.BytesRead.{LosesUpTo};
 ghost use Rattle.pr_report.specs.Written.{Puts};
 ghost use Rattle.fence.specs.Endings.{IsCommand, told_of_end};
@@ -26,7 +27,7 @@ pub fn do_check<R: Read, W: Write, E: Write>(
     errors: &mut E,
 ) -> Status
     ensures command { IsCommand (EndsCheck (R.remaining reader.old) (W.contents writer.old) (W.contents writer.new)) (E.contents errors.old) (E.contents errors.new) result }
-    ensures limited { LosesUpTo 65537 (R.remaining reader.old) (R.remaining reader.new) }
+    ensures limited { LosesUpTo (MOST_BYTES + 1) (R.remaining reader.old) (R.remaining reader.new) }
 {
     let (end, _) = check_and_tell(alloc, reader, writer, errors);
     status_of(end)
@@ -41,7 +42,7 @@ fn check_and_tell<R: Read, W: Write, E: Write>(
 ) -> (Result<bool, Fault>, Result<(), WriteFault>)
     ensures ends { EndsCheck (R.remaining reader.old) (W.contents writer.old) (W.contents writer.new) result.0 }
     ensures tells { Puts (E.contents errors.old) (E.contents errors.new) (told_of_end result.0) result.1 }
-    ensures limited { LosesUpTo 65537 (R.remaining reader.old) (R.remaining reader.new) }
+    ensures limited { LosesUpTo (MOST_BYTES + 1) (R.remaining reader.old) (R.remaining reader.new) }
 {
     let end = check_text(alloc, reader, writer);
     let told = tell_end(errors, &end);
@@ -55,7 +56,7 @@ fn check_text<R: Read, W: Write>(
     writer: &mut W,
 ) -> Result<bool, Fault>
     ensures ends { EndsCheck (R.remaining reader.old) (W.contents writer.old) (W.contents writer.new) result }
-    ensures limited { LosesUpTo 65537 (R.remaining reader.old) (R.remaining reader.new) }
+    ensures limited { LosesUpTo (MOST_BYTES + 1) (R.remaining reader.old) (R.remaining reader.new) }
 {
     let judgement = judge(alloc, reader)?;
     put_judgement(writer, &judgement)?;
@@ -65,7 +66,7 @@ fn check_text<R: Read, W: Write>(
 // Reads the text and verifies its scenario.
 fn judge<R: Read>(alloc: Global, reader: &mut R) -> Result<Result<Verified, Refused>, Fault>
     ensures judged { IsJudged (R.remaining reader.old) result }
-    ensures limited { LosesUpTo 65537 (R.remaining reader.old) (R.remaining reader.new) }
+    ensures limited { LosesUpTo (MOST_BYTES + 1) (R.remaining reader.old) (R.remaining reader.new) }
 {
     let scenario = read(alloc, reader)?;
     settled(verify(alloc, scenario))

@@ -3,9 +3,9 @@
 ghost use Rattle.std.specs.Prelude.{◌≡◌, ◌∷◌, [], codes, map};
 ghost use Rattle.std.specs.Fmt.{decimal};
 ghost use Rattle.pr_report.specs.Written.{AppendsFront, Puts};
-ghost use Rattle.pr_report.specs.Printed.{printed};
+ghost use Rattle.pr_report.specs.Printed.{printed_word};
 ghost use Rattle.pr_report.specs.PrintedLines.{line};
-ghost use Rattle.fence.specs.FaultText.{exit_status_of, fault_text, status_of, told_line, input_words, trace_words, of_whole, at_line, of_text, of_line, which_word};
+ghost use Rattle.fence.specs.FaultText.{exit_status_of, fault_text, status_of, told_line, input_words, trace_words, of_whole, at_line, which_word};
 
 use pr_report::{TraceError, Word, WriteFault, put_line};
 use pr_roles::Word as Name;
@@ -165,7 +165,7 @@ pub fn tell<W: Write>(errors: &mut W, fault: &Fault)
 }
 
 /// Writes the one line for a fault.
-#[tactic(auto, unfolding(crate::specs::FaultText::fault_text, pr_report::specs::Printed::printed))]
+#[tactic(auto, unfolding(crate::specs::FaultText::fault_text, pr_report::specs::Printed::printed_word))]
 pub fn put_fault<W: Write>(errors: &mut W, fault: &Fault) -> Result<(), WriteFault>
     ensures { Puts (W.contents errors.old) (W.contents errors.new) (fault_text fault.now) result }
 {
@@ -185,49 +185,44 @@ fn put_input<W: Write>(errors: &mut W, error: ReadError) -> Result<(), WriteFaul
     ensures { Puts (W.contents errors.old) (W.contents errors.new) (told_line (input_words error)) result }
 {
     match error {
-        ReadError::TooLarge => put_of_text(errors, b"1", b"TooLarge"),
-        ReadError::NotAscii { line } => put_of_line(errors, b"2", b"NotAscii", line),
-        ReadError::LineTooLong { line } => put_of_line(errors, b"3", b"LineTooLong", line),
-        ReadError::Syntax { line } => put_of_line(errors, b"4", b"Syntax", line),
-        ReadError::UnknownName { line } => put_of_line(errors, b"5", b"UnknownName", line),
+        ReadError::TooLarge => put_of_whole(errors, b"input", b"1", b"TooLarge"),
+        ReadError::NotAscii { line } => put_at_line(errors, b"input", b"2", b"NotAscii", line),
+        ReadError::LineTooLong { line } => put_at_line(
+            errors,
+            b"input",
+            b"3",
+            b"LineTooLong",
+            line,
+        ),
+        ReadError::Syntax { line } => put_at_line(errors, b"input", b"4", b"Syntax", line),
+        ReadError::UnknownName { line } => put_at_line(
+            errors,
+            b"input",
+            b"5",
+            b"UnknownName",
+            line,
+        ),
         ReadError::Limit { which, line } => put_limit(errors, which, line),
-        ReadError::UndeclaredKey { line } => put_of_line(errors, b"7", b"UndeclaredKey", line),
-        ReadError::Repeated { line } => put_of_line(errors, b"8", b"Repeated", line),
-        ReadError::Unclosed { line } => put_of_line(errors, b"9", b"Unclosed", line),
-        ReadError::ReadFault => put_of_text(errors, b"10", b"ReadFault"),
+        ReadError::UndeclaredKey { line } => put_at_line(
+            errors,
+            b"input",
+            b"7",
+            b"UndeclaredKey",
+            line,
+        ),
+        ReadError::Repeated { line } => put_at_line(errors, b"input", b"8", b"Repeated", line),
+        ReadError::Unclosed { line } => put_at_line(errors, b"input", b"9", b"Unclosed", line),
+        ReadError::ReadFault => put_of_whole(errors, b"input", b"10", b"ReadFault"),
         ReadError::Memory => put_memory(errors),
-        ReadError::EmptyStart => put_of_text(errors, b"12", b"EmptyStart"),
+        ReadError::EmptyStart => put_of_whole(errors, b"input", b"12", b"EmptyStart"),
     }
 }
 
-#[tactic(auto, unfolding(pr_report::specs::Printed::printed))]
+#[tactic(auto, unfolding(pr_report::specs::Printed::printed_word))]
 fn put_memory<W: Write>(errors: &mut W) -> Result<(), WriteFault>
     ensures { Puts (W.contents errors.old) (W.contents errors.new) (told_line (codes "memory" ∷ [])) result }
 {
     put_told(errors, &[Word::Text(b"memory")])
-}
-
-// A fault of the whole text of a scenario.
-fn put_of_text<'a, W: Write>(
-    errors: &mut W,
-    number: &'a [u8],
-    name: &'a [u8],
-) -> Result<(), WriteFault>
-    ensures { Puts (W.contents errors.old) (W.contents errors.new) (told_line (of_text number.now name.now)) result }
-{
-    put_of_whole(errors, b"input", number, name)
-}
-
-// A fault of a line of it.
-fn put_of_line<'a, W: Write>(
-    errors: &mut W,
-    number: &'a [u8],
-    name: &'a [u8],
-    line: u32,
-) -> Result<(), WriteFault>
-    ensures { Puts (W.contents errors.old) (W.contents errors.new) (told_line (of_line number.now name.now line)) result }
-{
-    put_at_line(errors, b"input", number, name, line)
 }
 
 fn put_trace<W: Write>(errors: &mut W, error: TraceError) -> Result<(), WriteFault>
@@ -245,7 +240,7 @@ fn put_trace<W: Write>(errors: &mut W, error: TraceError) -> Result<(), WriteFau
 }
 
 // Whose thread could not be started.
-#[tactic(auto, unfolding(pr_report::specs::Printed::printed))]
+#[tactic(auto, unfolding(pr_report::specs::Printed::printed_word))]
 fn put_thread<W: Write>(errors: &mut W, name: &Name) -> Result<(), WriteFault>
     ensures { Puts (W.contents errors.old) (W.contents errors.new) (told_line (codes "thread" ∷ name.now.bytes ∷ [])) result }
 {
@@ -256,7 +251,7 @@ fn put_thread<W: Write>(errors: &mut W, name: &Name) -> Result<(), WriteFault>
 }
 
 // A fault of a whole text, which is the input or the trace.
-#[tactic(auto, unfolding(pr_report::specs::Printed::printed))]
+#[tactic(auto, unfolding(pr_report::specs::Printed::printed_word))]
 fn put_of_whole<'a, W: Write>(
     errors: &mut W,
     which: &'a [u8],
@@ -272,7 +267,7 @@ fn put_of_whole<'a, W: Write>(
 }
 
 // A fault of a line.
-#[tactic(auto, unfolding(pr_report::specs::Printed::printed))]
+#[tactic(auto, unfolding(pr_report::specs::Printed::printed_word))]
 fn put_at_line<'a, W: Write>(
     errors: &mut W,
     which: &'a [u8],
@@ -294,7 +289,7 @@ fn put_at_line<'a, W: Write>(
     )
 }
 
-#[tactic(auto, unfolding(pr_report::specs::Printed::printed))]
+#[tactic(auto, unfolding(pr_report::specs::Printed::printed_word))]
 fn put_limit<W: Write>(errors: &mut W, which: Which, line: u32) -> Result<(), WriteFault>
     ensures { Puts (W.contents errors.old) (W.contents errors.new) (told_line (codes "input" ∷ codes "6" ∷ codes "Limit" ∷ which_word which ∷ codes "line" ∷ decimal line ∷ [])) result }
 {
@@ -328,9 +323,9 @@ fn which_word(which: Which) -> &'static [u8]
 }
 
 // The line with these words after the program's name.
-#[tactic(auto, unfolding(pr_report::specs::Printed::printed))]
+#[tactic(auto, unfolding(pr_report::specs::Printed::printed_word))]
 fn put_told<W: Write>(errors: &mut W, words: &[Word<'_>]) -> Result<(), WriteFault>
-    ensures { Puts (W.contents errors.old) (W.contents errors.new) (told_line (map printed words.now)) result }
+    ensures { Puts (W.contents errors.old) (W.contents errors.new) (told_line (map printed_word words.now)) result }
 {
     put_line(errors, Word::Text(b"fence:"), words)
 }

@@ -1,5 +1,7 @@
 //! `fence outline`, over any reader, writer and error writer.
 
+ghost use Rattle.std.specs.Prelude.{◌+◌};
+ghost use Rattle.pr_text.specs.declared.text.TheConstants.{MOST_BYTES};
 ghost use Rattle.pr_text.specs.BytesRead.{LosesUpTo};
 ghost use Rattle.pr_report.specs.Written.{Puts};
 ghost use Rattle.fence.specs.Endings.{IsCommand, told_of_end};
@@ -23,7 +25,7 @@ pub fn do_outline<R: Read, W: Write, E: Write>(
     errors: &mut E,
 ) -> Status
     ensures command { IsCommand (EndsOutline (R.remaining reader.old) (W.contents writer.old) (W.contents writer.new)) (E.contents errors.old) (E.contents errors.new) result }
-    ensures limited { LosesUpTo 65537 (R.remaining reader.old) (R.remaining reader.new) }
+    ensures limited { LosesUpTo (MOST_BYTES + 1) (R.remaining reader.old) (R.remaining reader.new) }
 {
     let (end, _) = outline_and_tell(alloc, reader, writer, errors);
     status_of(end)
@@ -38,7 +40,7 @@ fn outline_and_tell<R: Read, W: Write, E: Write>(
 ) -> (Result<bool, Fault>, Result<(), WriteFault>)
     ensures ends { EndsOutline (R.remaining reader.old) (W.contents writer.old) (W.contents writer.new) result.0 }
     ensures tells { Puts (E.contents errors.old) (E.contents errors.new) (told_of_end result.0) result.1 }
-    ensures limited { LosesUpTo 65537 (R.remaining reader.old) (R.remaining reader.new) }
+    ensures limited { LosesUpTo (MOST_BYTES + 1) (R.remaining reader.old) (R.remaining reader.new) }
 {
     let end = outline_text(alloc, reader, writer);
     let told = tell_end(errors, &end);
@@ -52,7 +54,7 @@ fn outline_text<R: Read, W: Write>(
     writer: &mut W,
 ) -> Result<bool, Fault>
     ensures ends { EndsOutline (R.remaining reader.old) (W.contents writer.old) (W.contents writer.new) result }
-    ensures limited { LosesUpTo 65537 (R.remaining reader.old) (R.remaining reader.new) }
+    ensures limited { LosesUpTo (MOST_BYTES + 1) (R.remaining reader.old) (R.remaining reader.new) }
 {
     let scenario = read(alloc, reader)?;
     let tables = tables(alloc, &scenario)?;

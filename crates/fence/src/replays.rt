@@ -1,7 +1,8 @@
 //! `fence replay`, over any reader, writer and error writer.
 
-ghost use Rattle.std.specs.Prelude.{◌≡◌, IsTrue, map};
+ghost use Rattle.std.specs.Prelude.{◌≡◌, ◌+◌, IsTrue, map};
 ghost use Rattle.std.specs.Io.KnownBytes.{Keeps};
+ghost use Rattle.pr_text.specs.declared.text.TheConstants.{MOST_BYTES};
 ghost use Rattle.pr_text.specs.BytesRead.{LosesUpTo};
 ghost use Rattle.pr_report.specs.Written.{Puts};
 ghost use Rattle.fence.specs.Endings.{IsCommand, told_of_end};
@@ -19,7 +20,8 @@ use pr_world::{Replayed, replay};
 use std::alloc::Global;
 use std::io::{Read, Write};
 
-const MOST_STEPS: usize = 4_096;
+/// The steps of a replay.
+pub const MOST_STEPS: usize = 4_096;
 
 /// `fence replay`: reads a scenario, lets the named hosts take their turns in the order of the steps, and
 /// writes the trace.
@@ -34,7 +36,7 @@ pub fn do_replay<R: Read, W: Write, E: Write>(
     errors: &mut E,
 ) -> Status
     ensures command { IsCommand (EndsReplay (map (λ s. s.now) steps.now) (R.remaining reader.old) (W.contents writer.old) (W.contents writer.new)) (E.contents errors.old) (E.contents errors.new) result }
-    ensures limited { LosesUpTo 65537 (R.remaining reader.old) (R.remaining reader.new) }
+    ensures limited { LosesUpTo (MOST_BYTES + 1) (R.remaining reader.old) (R.remaining reader.new) }
     ensures unread { IsTrue (has_wrong_count (map (λ s. s.now) steps.now)) → Keeps (R.remaining reader.old) (R.remaining reader.new) }
 {
     let (end, _) = replay_and_tell(alloc, steps, reader, writer, errors);
@@ -51,7 +53,7 @@ fn replay_and_tell<R: Read, W: Write, E: Write>(
 ) -> (Result<bool, Fault>, Result<(), WriteFault>)
     ensures ends { EndsReplay (map (λ s. s.now) steps.now) (R.remaining reader.old) (W.contents writer.old) (W.contents writer.new) result.0 }
     ensures tells { Puts (E.contents errors.old) (E.contents errors.new) (told_of_end result.0) result.1 }
-    ensures limited { LosesUpTo 65537 (R.remaining reader.old) (R.remaining reader.new) }
+    ensures limited { LosesUpTo (MOST_BYTES + 1) (R.remaining reader.old) (R.remaining reader.new) }
     ensures unread { IsTrue (has_wrong_count (map (λ s. s.now) steps.now)) → Keeps (R.remaining reader.old) (R.remaining reader.new) }
 {
     let end = replay_text(alloc, steps, reader, writer);
@@ -67,7 +69,7 @@ fn replay_text<R: Read, W: Write>(
     writer: &mut W,
 ) -> Result<bool, Fault>
     ensures ends { EndsReplay (map (λ s. s.now) steps.now) (R.remaining reader.old) (W.contents writer.old) (W.contents writer.new) result }
-    ensures limited { LosesUpTo 65537 (R.remaining reader.old) (R.remaining reader.new) }
+    ensures limited { LosesUpTo (MOST_BYTES + 1) (R.remaining reader.old) (R.remaining reader.new) }
     ensures unread { IsTrue (has_wrong_count (map (λ s. s.now) steps.now)) → Keeps (R.remaining reader.old) (R.remaining reader.new) }
 {
     let plan = plan(alloc, steps, reader)?;
@@ -92,7 +94,7 @@ struct Planned {
 // Reads the text and replays the steps, or answers their first fault.
 fn plan<R: Read>(alloc: Global, steps: &[&str], reader: &mut R) -> Result<Planned, Fault>
     ensures planned { IsPlanned (map (λ s. s.now) steps.now) (R.remaining reader.old) result }
-    ensures limited { LosesUpTo 65537 (R.remaining reader.old) (R.remaining reader.new) }
+    ensures limited { LosesUpTo (MOST_BYTES + 1) (R.remaining reader.old) (R.remaining reader.new) }
     ensures unread { IsTrue (has_wrong_count (map (λ s. s.now) steps.now)) → Keeps (R.remaining reader.old) (R.remaining reader.new) }
 {
     if has_wrong_count(steps) {

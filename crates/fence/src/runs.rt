@@ -1,10 +1,11 @@
 //! `fence run`, over any reader, writer and error writer, in threads.
 
-ghost use Rattle.std.specs.Prelude.{◌≡◌, ◌^◌, ◌<◌, ◌≤◌, ℕ, length, map, IfErr, IfOk};
+ghost use Rattle.std.specs.Prelude.{◌≡◌, ◌+◌, ◌^◌, ◌<◌, ◌≤◌, ℕ, length, map, IfErr, IfOk};
 ghost use Rattle.std.specs.List.{range_with_len};
 ghost use Rattle.pr_roles.specs.Scenarios.{scenario_of};
 ghost use Rattle.pr_roles.specs.Safety.{IsSafe};
-ghost use Rattle.pr_roles.specs.Worlds.{sent};
+ghost use Rattle.pr_roles.specs.Worlds.{commands_by};
+ghost use Rattle.pr_text.specs.declared.text.TheConstants.{MOST_BYTES};
 ghost use Rattle.pr_text.specs.BytesRead.{LosesUpTo};
 ghost use Rattle.pr_shared.specs.Outcomes.{IsOutcome};
 ghost use Rattle.pr_shared.specs.RunAnswers.{IfSpawn};
@@ -19,6 +20,7 @@ use crate::checks::settled;
 use crate::ending::{status_of, tell_end};
 use crate::fault::{Fault, Status};
 use arrayvec::ArrayVec;
+use pr_cdb::codes::MOST_NEXUSES;
 use pr_report::{Verdict, WriteFault, write_trace, write_verdict};
 use pr_roles::{Nexus, Scenario, Word as Name};
 use pr_shared::{Entry, NoGate, Outcome, RunError, run};
@@ -43,7 +45,7 @@ pub fn do_run<T: Threads + Wait + Sync, R: Read, W: Write, E: Write>(
     errors: &mut E,
 ) -> Status
     ensures command { IsCommand (EndsRun (R.remaining reader.old) (W.contents writer.old) (W.contents writer.new)) (E.contents errors.old) (E.contents errors.new) result }
-    ensures limited { LosesUpTo 65537 (R.remaining reader.old) (R.remaining reader.new) }
+    ensures limited { LosesUpTo (MOST_BYTES + 1) (R.remaining reader.old) (R.remaining reader.new) }
 {
     let (end, _) = run_and_tell(rt, alloc, reader, writer, errors);
     status_of(end)
@@ -59,7 +61,7 @@ fn run_and_tell<T: Threads + Wait + Sync, R: Read, W: Write, E: Write>(
 ) -> (Result<bool, Fault>, Result<(), WriteFault>)
     ensures ends { EndsRun (R.remaining reader.old) (W.contents writer.old) (W.contents writer.new) result.0 }
     ensures tells { Puts (E.contents errors.old) (E.contents errors.new) (told_of_end result.0) result.1 }
-    ensures limited { LosesUpTo 65537 (R.remaining reader.old) (R.remaining reader.new) }
+    ensures limited { LosesUpTo (MOST_BYTES + 1) (R.remaining reader.old) (R.remaining reader.new) }
 {
     let end = run_text(rt, alloc, reader, writer);
     let told = tell_end(errors, &end);
@@ -74,7 +76,7 @@ fn run_text<T: Threads + Wait + Sync, R: Read, W: Write>(
     writer: &mut W,
 ) -> Result<bool, Fault>
     ensures ends { EndsRun (R.remaining reader.old) (W.contents writer.old) (W.contents writer.new) result }
-    ensures limited { LosesUpTo 65537 (R.remaining reader.old) (R.remaining reader.new) }
+    ensures limited { LosesUpTo (MOST_BYTES + 1) (R.remaining reader.old) (R.remaining reader.new) }
 {
     let performed = perform(rt, alloc, reader)?;
     put_performed(writer, &performed)?;
@@ -96,7 +98,7 @@ fn perform<T: Threads + Wait + Sync, R: Read>(
     reader: &mut R,
 ) -> Result<Result<Ran, Refused>, Fault>
     ensures performed { IsPerformed (R.remaining reader.old) result }
-    ensures limited { LosesUpTo 65537 (R.remaining reader.old) (R.remaining reader.new) }
+    ensures limited { LosesUpTo (MOST_BYTES + 1) (R.remaining reader.old) (R.remaining reader.new) }
 {
     match judge_each(rt, alloc, reader)? {
         Ok(verified) => {
@@ -114,7 +116,7 @@ fn judge_each<T: Threads + Wait + Sync, R: Read>(
     reader: &mut R,
 ) -> Result<Result<Verified, Refused>, Fault>
     ensures judged { IsJudged (R.remaining reader.old) result }
-    ensures limited { LosesUpTo 65537 (R.remaining reader.old) (R.remaining reader.new) }
+    ensures limited { LosesUpTo (MOST_BYTES + 1) (R.remaining reader.old) (R.remaining reader.new) }
 {
     let scenario = read(alloc, reader)?;
     settled(verify_each(rt, alloc, scenario, &NoCheckGate))
@@ -196,21 +198,21 @@ fn put_outcome<W: Write>(
 }
 
 // How many commands of each reached the unit.
-fn counts_of(history: &[Entry], nexuses: usize) -> ArrayVec<u32, 8>
-    requires few { nexuses ≤ 8 }
-    requires fit { (h : ℕ) → sent history.now h < 2 ^ 32 }
-    ensures { result.items ≡ map (λ h. sent history.now h) (range_with_len 0 nexuses) }
+fn counts_of(history: &[Entry], nexuses: usize) -> ArrayVec<u32, MOST_NEXUSES>
+    requires few { nexuses ≤ MOST_NEXUSES }
+    requires fit { (h : ℕ) → commands_by history.now h < 2 ^ 32 }
+    ensures { result.items ≡ map (λ h. commands_by history.now h) (range_with_len 0 nexuses) }
 {
     let mut counts = ArrayVec::new();
     for host in 0..nexuses {
-        counts.push(sent(history, host));
+        counts.push(commands_by(history, host));
     }
     counts
 }
 
-fn sent(history: &[Entry], host: usize) -> u32
-    requires { sent history.now host < 2 ^ 32 }
-    ensures { result ≡ sent history.now host }
+fn commands_by(history: &[Entry], host: usize) -> u32
+    requires { commands_by history.now host < 2 ^ 32 }
+    ensures { result ≡ commands_by history.now host }
 {
     history
         .iter()

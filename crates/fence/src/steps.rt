@@ -2,6 +2,7 @@
 
 ghost use Rattle.std.specs.Prelude.{◌≡◌, ◌<◌, ◌≤◌, IfOk, IfSome, length, map, option_map, position, bytes_eq};
 ghost use Rattle.std.specs.List.{All};
+ghost use Rattle.pr_cdb.specs.declared.codes.TheConstants.{MOST_NEXUSES};
 ghost use Rattle.pr_report.specs.TraceText.{names_of};
 ghost use Rattle.pr_report.specs.TraceReadings.{number_of};
 ghost use Rattle.fence.specs.Steps.{hosts_of};
@@ -15,7 +16,7 @@ pub fn hosts_of(
     steps: &[&str],
     nexuses: &[Nexus],
 ) -> Result<Option<Vec<u8>>, AllocError>
-    requires { length nexuses.now ≤ 8 }
+    requires { length nexuses.now ≤ MOST_NEXUSES }
     ensures named { IfOk result (λ found. option_map (λ hosts. hosts.items) found ≡ hosts_of (names_of nexuses.now) (map (λ s. s.now) steps.now)) }
     ensures there { IfOk result (λ found. IfSome found (λ hosts. All (λ host. host < length nexuses.now) hosts.items)) }
 {
@@ -30,7 +31,7 @@ pub fn hosts_of(
 }
 
 fn number_of(step: &str, nexuses: &[Nexus]) -> Option<u8>
-    requires { length nexuses.now ≤ 8 }
+    requires { length nexuses.now ≤ MOST_NEXUSES }
     ensures number { result ≡ number_of (names_of nexuses.now) step.now }
     ensures there { IfSome result (λ host. host < length nexuses.now) }
 {

@@ -7,7 +7,7 @@ use Rattle.pr_cdb.specs.declared.command.Command.{Command}
 use Rattle.pr_cdb.specs.declared.wire.Request.{Request}
 use Rattle.pr_cdb.specs.declared.wire.Bad.{Bad}
 use Rattle.pr_cdb.specs.Bytes.{be16, be32, be64, has_flag}
-use Rattle.pr_cdb.specs.Requests.{request_of, named, reserve_out, kind_of_byte, length_of, has_refused_flag, plain, illegal, Fits, FitsWhereRead, AreBytes}
+use Rattle.pr_cdb.specs.Requests.{request_of, named_command, reserve_out, kind_of_byte, length_of, has_refused_flag, plain_request, illegal, Fits, FitsWhereRead, AreBytes}
 
 pub be16-lt : (bytes : List ℕ) (i : ℕ) → AreBytes bytes → be16 bytes i < 2 ^ 16
 unfolding be16
@@ -50,8 +50,8 @@ Named-reserve_out action (Some k) rk sark r s =
     one_of (action == REGISTER) (record { fits = (r, s) }) (one_of (action == RESERVE) (record { fits = r }) (one_of (action == RELEASE) (record { fits = r }) (
     one_of (action == CLEAR) (record { fits = r }) (one_of (action == PREEMPT) (record { fits = (r, s) }) (one_of (action == PREEMPT_AND_ABORT) (record { fits = (r, s) }) (record { fits = s }))))))
 
-Named-named : (cdb params : List ℕ) → AreBytes cdb → AreBytes params → Named (named cdb params)
-unfolding named
+Named-named : (cdb params : List ℕ) → AreBytes cdb → AreBytes params → Named (named_command cdb params)
+unfolding named_command
 Named-named cdb params c p =
     let opcode = slice_index cdb 0 in
     let action = slice_index cdb 1 % 32 in
@@ -61,7 +61,7 @@ Named-named cdb params c p =
     one_of (opcode == PERSISTENT_RESERVE_IN) (one_of (action == READ_KEYS) (record { fits = blocks }) (one_of (action == READ_RESERVATION) (record { fits = blocks }) (record { fits = blocks })))
     (Named-reserve_out action (kind_of_byte (slice_index cdb 2)) (be64 params 0) (be64 params 8) (be64-lt params 0 p) (be64-lt params 8 p))))))
 
-Read-named : (o : Option Command) → Named o → Read (option_map_or (λ c. plain c) o (illegal INVALID_FIELD_IN_CDB))
+Read-named : (o : Option Command) → Named o → Read (option_map_or (λ c. plain_request c) o (illegal INVALID_FIELD_IN_CDB))
 Read-named None n = record { fits = tt }
 Read-named (Some c) n = record { fits = n.fits }
 
@@ -82,9 +82,9 @@ Read-request_of cdb params c p =
     either ((is_in && nat_lt REPORT_CAPABILITIES action) || (is_out && nat_lt REGISTER_AND_IGNORE_EXISTING_KEY action)) (record { fits = tt }) (
     either (is_out && not (be32 cdb 5 == PARAMETER_LIST_LENGTH)) (record { fits = tt }) (
     either (is_out && nat_lt (length params) PARAMETER_LIST_LENGTH) (record { fits = tt }) (
-    either (is_none (named cdb params)) (record { fits = tt }) (
+    either (is_none (named_command cdb params)) (record { fits = tt }) (
     either (is_out && has_refused_flag action (slice_index params 20)) (record { fits = tt })
-    (Read-named (named cdb params) (Named-named cdb params c p))))))))))))
+    (Read-named (named_command cdb params) (Named-named cdb params c p))))))))))))
 
 pub reads_fit : (cdb params : List ℕ) → AreBytes cdb → AreBytes params → FitsWhereRead (request_of cdb params)
 reads_fit cdb params c p = (Read-request_of cdb params c p).fits

@@ -7,7 +7,7 @@ use Rattle.pr_cdb.specs.declared.command.Command.{Command}
 use Rattle.pr_cdb.specs.declared.command.Command.TheVariants.{TestUnitReady, RequestSense, Read, Write, ReadKeys, ReadReservation, ReportCapabilities, Register, RegisterIgnore, Reserve, Release, Clear, Preempt, PreemptAbort}
 use Rattle.pr_cdb.specs.Kinds.{code_of, kind_of_code}
 use Rattle.pr_cdb.specs.Bytes.{be16, be32, be64}
-use Rattle.pr_cdb.specs.Requests.{request_of, named, reserve_out, kind_of_byte, length_of, has_refused_flag, plain, requested, Fits}
+use Rattle.pr_cdb.specs.Requests.{request_of, named_command, reserve_out, kind_of_byte, length_of, has_refused_flag, plain_request, request_of_wire, Fits}
 use Rattle.pr_cdb.specs.Spelling.{spelling, kind_byte}
 
 kind_of_byte-code_of : (k : Kind) → kind_of_byte (code_of k) ≡ Some k
@@ -24,8 +24,8 @@ unfolding kind_of_byte kind_of_code
 kind_of_byte-kind_byte None = refl
 kind_of_byte-kind_byte (Some k) = kind_of_byte-code_of k
 
-pub written_is_read : (c : Command) → Fits c → requested (spelling c) ≡ plain c
-unfolding request_of named reserve_out length_of has_refused_flag be16 be32 be64 spelling
+pub written_is_read : (c : Command) → Fits c → request_of_wire (spelling c) ≡ plain_request c
+unfolding request_of named_command reserve_out length_of has_refused_flag be16 be32 be64 spelling
 written_is_read TestUnitReady fits = refl
 written_is_read RequestSense fits = refl
 written_is_read (Read lba blocks) fits = rw (from_be_bytes-to_be_bytes_4 lba fits.0, from_be_bytes-to_be_bytes_2 blocks fits.1) refl

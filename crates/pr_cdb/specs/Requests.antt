@@ -15,8 +15,8 @@ use Rattle.pr_cdb.specs.Kinds.{kind_of_code}
 use Rattle.pr_cdb.specs.Bytes.{be16, be32, be64, has_flag}
 
 -- the command is read, and is this one
-abbrev pub plain : Command → Result Request Bad
-plain c = Ok (Plain c)
+abbrev pub plain_request : Command → Result Request Bad
+plain_request c = Ok (Plain c)
 
 -- ILLEGAL REQUEST (5h) with this additional sense code
 abbrev pub illegal : ℕ → Result Request Bad
@@ -61,8 +61,8 @@ reserve_out action kind rk sark =
     Some (RegisterIgnore sark))))))
 
 -- the command of the named fields. All other bits, the control byte among them, are ignored.
-unfoldable pub named : List ℕ → List ℕ → Option Command
-named cdb params =
+unfoldable pub named_command : List ℕ → List ℕ → Option Command
+named_command cdb params =
     let opcode = slice_index cdb 0 in
     let action = slice_index cdb 1 % 32 in
     if opcode == TEST_UNIT_READY then Some TestUnitReady else (
@@ -90,13 +90,13 @@ request_of cdb params =
     if (is_in && nat_lt REPORT_CAPABILITIES action) || (is_out && nat_lt REGISTER_AND_IGNORE_EXISTING_KEY action) then illegal INVALID_FIELD_IN_CDB else (
     if is_out && not (be32 cdb 5 == PARAMETER_LIST_LENGTH) then illegal PARAMETER_LIST_LENGTH_ERROR else (
     if is_out && nat_lt (length params) PARAMETER_LIST_LENGTH then Err Short else (
-    if is_none (named cdb params) then illegal INVALID_FIELD_IN_CDB else (
+    if is_none (named_command cdb params) then illegal INVALID_FIELD_IN_CDB else (
     if is_out && has_refused_flag action (slice_index params 20) then illegal INVALID_FIELD_IN_PARAMETER_LIST else
-    option_map_or (λ c. plain c) (named cdb params) (illegal INVALID_FIELD_IN_CDB)))))))))))
+    option_map_or (λ c. plain_request c) (named_command cdb params) (illegal INVALID_FIELD_IN_CDB)))))))))))
 
 -- what a command as it travels asks for
-abbrev pub requested : Wire → Result Request Bad
-requested wire = request_of wire.cdb.items wire.params.items
+abbrev pub request_of_wire : Wire → Result Request Bad
+request_of_wire wire = request_of wire.cdb.items wire.params.items
 
 -- each field of the command is in its type's range
 abbrev pub Fits : Command → Type 0

@@ -3,7 +3,7 @@
 ghost use Rattle.std.specs.Prelude.{◌≡◌, ◌+◌, ◌≤◌, ◌≢◌, List, ℕ, length, slice_index};
 ghost use Rattle.pr_cdb.specs.Kinds.{kind_of_code};
 ghost use Rattle.pr_cdb.specs.Bytes.{be16, be32, be64};
-ghost use Rattle.pr_cdb.specs.Requests.{request_of, named, length_of, kind_of_byte, has_refused_flag, reserve_out, AreBytes, FitsWhereRead};
+ghost use Rattle.pr_cdb.specs.Requests.{request_of, named_command, length_of, kind_of_byte, has_refused_flag, reserve_out, AreBytes, FitsWhereRead};
 
 use crate::codes::{
     ALL_TG_PT, APTPL, CLEAR, DESC, FIXED_SENSE_LENGTH, ILLEGAL_REQUEST, INQUIRY,
@@ -23,7 +23,7 @@ use byteorder::{BigEndian, ByteOrder};
 /// command').
 ///
 /// Bytes past a command's length, and past a whole parameter list, are ignored.
-#[tactic(auto, unfolding(crate::specs::Requests::request_of, crate::specs::Requests::named, crate::specs::Requests::length_of))]
+#[tactic(auto, unfolding(crate::specs::Requests::request_of, crate::specs::Requests::named_command, crate::specs::Requests::length_of))]
 pub fn decode(cdb: &[u8], params: &[u8]) -> Result<Request, Bad>
     ensures value { result ≡ request_of cdb.now params.now }
     ensures in_range { FitsWhereRead result }
@@ -79,7 +79,7 @@ fn illegal(asc: u8) -> Request
 }
 
 // REQUEST SENSE: descriptor format is a fault, and a short allocation length is not modelled.
-#[tactic(auto, unfolding(crate::specs::Requests::request_of, crate::specs::Requests::named, crate::specs::Requests::length_of))]
+#[tactic(auto, unfolding(crate::specs::Requests::request_of, crate::specs::Requests::named_command, crate::specs::Requests::length_of))]
 fn request_sense(cdb: &[u8], params: &[u8]) -> Result<Request, Bad>
     requires whole { SIX_BYTE_CDB ≤ length cdb.now }
     requires opcode { slice_index cdb.now 0 ≡ REQUEST_SENSE }
@@ -110,7 +110,7 @@ fn transfer(opcode: u8, cdb: &[u8]) -> Command
     }
 }
 
-#[tactic(auto, unfolding(crate::specs::Requests::request_of, crate::specs::Requests::named, crate::specs::Requests::length_of, crate::specs::Bytes::be16))]
+#[tactic(auto, unfolding(crate::specs::Requests::request_of, crate::specs::Requests::named_command, crate::specs::Requests::length_of, crate::specs::Bytes::be16))]
 fn reserve_in(cdb: &[u8], params: &[u8]) -> Result<Request, Bad>
     requires whole { TEN_BYTE_CDB ≤ length cdb.now }
     requires opcode { slice_index cdb.now 0 ≡ PERSISTENT_RESERVE_IN }
@@ -153,12 +153,12 @@ fn reserve_out(cdb: &[u8], params: &[u8]) -> Result<Request, Bad>
 }
 
 // The command of the fields of PERSISTENT RESERVE OUT.
-#[tactic(auto, unfolding(crate::specs::Requests::named))]
+#[tactic(auto, unfolding(crate::specs::Requests::named_command))]
 fn named_out(cdb: &[u8], params: &[u8]) -> Option<Command>
     requires whole { TEN_BYTE_CDB ≤ length cdb.now }
     requires opcode { slice_index cdb.now 0 ≡ PERSISTENT_RESERVE_OUT }
     requires list { PARAMETER_LIST_LENGTH ≤ length params.now }
-    ensures { result ≡ named cdb.now params.now }
+    ensures { result ≡ named_command cdb.now params.now }
 {
     let rk = key_at(params, 0);
     let sark = key_at(params, 8);

@@ -1,7 +1,7 @@
 //! Writing a command's bytes.
 
 ghost use Rattle.std.specs.Prelude.{◌≡◌, ◌≤◌, ◌<◌, length};
-ghost use Rattle.pr_cdb.specs.Requests.{plain, requested, Fits};
+ghost use Rattle.pr_cdb.specs.Requests.{plain_request, request_of_wire, Fits};
 ghost use Rattle.pr_cdb.specs.Spelling.{spelling, wire_of, kind_byte, six, transfer, reserve_in, reserve_out};
 
 use crate::codes::{
@@ -19,19 +19,19 @@ use byteorder::{BigEndian, ByteOrder};
 /// What is written is read as the very command.
 pub fn encode(command: &Command) -> Wire
     ensures bytes { result ≡ spelling command.now }
-    ensures read_again { requested result ≡ plain command.now }
+    ensures read_again { request_of_wire result ≡ plain_request command.now }
 {
-    spelled(*command)
+    wire_of(*command)
 }
 
 /// What is written of a command whose fields are in their types' ranges is read as that command.
 pub fn reads_what_is_written()
-    ensures { (c : Command) → Fits c → requested (spelling c) ≡ plain c }
+    ensures { (c : Command) → Fits c → request_of_wire (spelling c) ≡ plain_request c }
 {}
 
 // The bytes, and that the fields are in range, as each arm knows.
 #[tactic(auto, unfolding(crate::specs::Spelling::spelling))]
-fn spelled(command: Command) -> Wire
+fn wire_of(command: Command) -> Wire
     ensures bytes { result ≡ spelling command }
     ensures fits { Fits command }
 {

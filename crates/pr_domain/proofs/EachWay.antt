@@ -13,7 +13,7 @@ use Rattle.pr_attention.specs.declared.attention.Attention.{Attention}
 use Rattle.pr_attention.specs.declared.attention.Attention.TheVariants.{PowerOn}
 use Rattle.pr_attention.specs.Attentions.{power_on, code_of}
 use Rattle.pr_attention.specs.Flagged.{codes_of}
-use Rattle.pr_unit.specs.UnitStates.{UnitState, is_pending, is_any_pending, effect, reported}
+use Rattle.pr_unit.specs.UnitStates.{UnitState, is_pending, is_any_pending, effect, after_report}
 use Rattle.pr_unit.specs.Conflicts.{command_conflicts}
 use Rattle.pr_unit.specs.Faults.{command_fault}
 use Rattle.pr_unit.specs.Replies.{good, check, conflict, report, data_of}
@@ -85,10 +85,10 @@ module _ (s : Scope) (known : Possibilities) (c : Command) (tests : List Test) (
           found.2,
           λ u j shown so pending. record {
             reply = report (Plain c) power_on;
-            after = reported u s.own power_on;
+            after = after_report u s.own power_on;
             ends = (tt, (pending.1 power_on ∙ found.3.1, refl, refl));
             landing = landing;
-            is = so_from_registered s (reported u s.own power_on) j (still_registered s (reported u s.own power_on) u j refl so);
+            is = so_from_registered s (after_report u s.own power_on) j (still_registered s (after_report u s.own power_on) u j refl so);
             left = after_reported s u PowerOn found.0 n pending found.3;
           },
         );
@@ -118,10 +118,10 @@ module _ (s : Scope) (known : Possibilities) (c : Command) (tests : List Test) (
           known.0,
           λ u j shown so pending. record {
             reply = report (Plain c) (code_of a);
-            after = reported u s.own (code_of a);
+            after = after_report u s.own (code_of a);
             ends = ((may u).1 (pending.1 power_on ∙ known.1, so.0), (pending.1 (code_of a) ∙ found.3.1, refl, refl));
             landing = landing;
-            is = so_from_registered s (reported u s.own (code_of a)) j (still_registered s (reported u s.own (code_of a)) u j refl so.1);
+            is = so_from_registered s (after_report u s.own (code_of a)) j (still_registered s (after_report u s.own (code_of a)) u j refl so.1);
             left = after_reported s u a found.0 n pending found.3;
           },
         );

@@ -9,7 +9,7 @@ use Rattle.pr_cdb.specs.declared.wire.Request.TheVariants.{Plain}
 use Rattle.pr_attention.specs.declared.attention.Attention.{Attention}
 use Rattle.pr_attention.specs.declared.attention.Attention.TheVariants.{PowerOn, ReservationsPreempted, ReservationsReleased, RegistrationsPreempted}
 use Rattle.pr_attention.specs.Attentions.{power_on, reservations_preempted, reservations_released, registrations_preempted, is_attention, code_of}
-use Rattle.pr_unit.specs.UnitStates.{UnitState, IsWellFormed, is_pending, is_any_pending, reported}
+use Rattle.pr_unit.specs.UnitStates.{UnitState, IsWellFormed, is_pending, is_any_pending, after_report}
 use Rattle.pr_unit.specs.Conflicts.{command_conflicts}
 use Rattle.pr_unit.specs.Faults.{command_fault}
 use Rattle.pr_unit.specs.Replies.{report}
@@ -35,11 +35,11 @@ report_ends u h c r w formed calm free step = by (which step.code (formed.pendin
     by : (a : Attention) × (step.code ≡ code_of a) → (how : How) × Ends how c h u r w
     by (PowerOn, same) = let wrong = ap (is_pending u h) same in let there = step.pending in cc
     by (ReservationsPreempted, same) =
-        (Reports ReservationsPreempted, ((calm, free), (ap (is_pending u h) (sym same) ∙ step.pending, step.reply ∙ ap (report (Plain c)) same, step.after ∙ ap (reported u h) same)))
+        (Reports ReservationsPreempted, ((calm, free), (ap (is_pending u h) (sym same) ∙ step.pending, step.reply ∙ ap (report (Plain c)) same, step.after ∙ ap (after_report u h) same)))
     by (ReservationsReleased, same) =
-        (Reports ReservationsReleased, ((calm, free), (ap (is_pending u h) (sym same) ∙ step.pending, step.reply ∙ ap (report (Plain c)) same, step.after ∙ ap (reported u h) same)))
+        (Reports ReservationsReleased, ((calm, free), (ap (is_pending u h) (sym same) ∙ step.pending, step.reply ∙ ap (report (Plain c)) same, step.after ∙ ap (after_report u h) same)))
     by (RegistrationsPreempted, same) =
-        (Reports RegistrationsPreempted, ((calm, free), (ap (is_pending u h) (sym same) ∙ step.pending, step.reply ∙ ap (report (Plain c)) same, step.after ∙ ap (reported u h) same)))
+        (Reports RegistrationsPreempted, ((calm, free), (ap (is_pending u h) (sym same) ∙ step.pending, step.reply ∙ ap (report (Plain c)) same, step.after ∙ ap (after_report u h) same)))
 
 pub step_ends : (u : UnitState) (h : ℕ) (c : Command) (r : Reply) (w : UnitState) → IsWellFormed u → Step u h (Plain c) r w → (how : How) × Ends how c h u r w
 step_ends u h c r w formed step = at (is_pending u h power_on) (command_conflicts u.registry h c) (is_any_pending u h) (command_fault u.registry h c) refl refl refl refl

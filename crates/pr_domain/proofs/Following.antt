@@ -2,6 +2,7 @@
 use Rattle.std.proofs.Common.{◌≡◌, ◌≢◌, ℕ, ◌<◌, ◌≤◌, true, false, ◌==◌, nat_le, List, length, unwrap_or, sym, ◌∙◌, subst, inl, inr, ◌⊎◌, arith}
 use Rattle.std.proofs.lemmas.Bool.{and_parts, leb-true}
 use Rattle.std.proofs.lemmas.Bool.Decides.{nat_tests, eqb_tells}
+use Rattle.pr_cdb.specs.declared.codes.TheConstants.{MOST_NEXUSES}
 use Rattle.pr_unit.specs.UnitStates.{UnitState}
 use Rattle.pr_roles.specs.Fitting.{AreDeclared, are_distinct}
 use Rattle.pr_sets.specs.declared.word.Word.{Word}
@@ -35,7 +36,7 @@ becomes_so s sender c u w g r changes so = at (eqb_tells g sender)
 
 -- the possibilities are made of what is gathered
 pub record IsMadeOf (view : Possibilities) (own : ℕ) (place : Place) (change : Change) (words : List Word) (p : Possibilities) : Type 0 where
-  pub registrations : (g : ℕ) → g < 8 → IsImage (has_at words g) (becomes place.sender change g) (has_at p.registrations g)
+  pub registrations : (g : ℕ) → g < MOST_NEXUSES → IsImage (has_at words g) (becomes place.sender change g) (has_at p.registrations g)
   pub reservation : (x : ℕ) → has p.reservations x ≡ (x == change.reservation)
   pub owners : Word
   pub are_own : (r : ℕ) → has_at words own r ≡ has owners r
@@ -48,7 +49,7 @@ itself : (a : ℕ) → (a == a) ≡ true
 itself a = grind (arith, nat_tests)
 
 pub is_after : (s : Scope) (o : Onlooker) (place : Place) (senders : Word) (region : Region) (change : Change) (words : List Word) (p : Possibilities) (q : ℕ) → IsWatched s o place
-    → s.hosts ≤ 8 → IsGathered (view_in s o.view) place senders region words → has o.view.pending q ≡ true → IsMadeOf o.view s.own place change words p
+    → s.hosts ≤ MOST_NEXUSES → IsGathered (view_in s o.view) place senders region words → has o.view.pending q ≡ true → IsMadeOf o.view s.own place change words p
     → IsAfter s o.view place senders region change p
 is_after s o place senders region change words p q is most gathered some made = record { all = allows; only = only }
   where
@@ -63,7 +64,7 @@ is_after s o place senders region change words p q is most gathered some made = 
         let seen = at.shown.registrations g so.0 in
         let after = becomes_so s place.sender change u w g seen.0 changes seen.1.1 in
         let same = one_registration s w g (becomes place.sender change g seen.0) n is.known.fits.scope after so in
-        let below : g < 8 = (let there = so.0 in omega arith) in
+        let below : g < MOST_NEXUSES = (let there = so.0 in omega arith) in
         (so.0, subst (λ m. has_at p.registrations g m ≡ true) same ((made.registrations g below).all seen.0 (gathered.all u g seen.0 at seen.1.1)))
     all u w at changes (Reservation x) so =
         made.reservation x ∙ subst (λ y. (x == y) ≡ true) (so ∙ sym changes.reservation) (itself x)
@@ -90,7 +91,7 @@ is_after s o place senders region change words p q is most gathered some made = 
 
     only : (i : Item) → IsPossible (view_in s p) i → IsChanged s o.view place senders region change i
     only (Registration g n) got =
-        let below : g < 8 = (let there = got.0 in omega arith) in
+        let below : g < MOST_NEXUSES = (let there = got.0 in omega arith) in
         let found = (made.registrations g below).only n got.1 in
         let met = gathered.only g found.0 q got.0 found.1 some in
         record {

@@ -23,7 +23,7 @@ use Rattle.pr_roles.specs.Fitting.{AreDeclared, is_action}
 use Rattle.pr_script.specs.Grammar.{is_declared}
 use Rattle.pr_regions.specs.declared.purpose.Purpose.{Purpose}
 use Rattle.pr_regions.specs.declared.purpose.Purpose.TheVariants.{Register, Unregister, Reserve, Release, Clear}
-use Rattle.pr_regions.specs.Purposes.{number_in, registering, preempting, purpose_of}
+use Rattle.pr_regions.specs.Purposes.{number_in, purpose_of_register, purpose_of_preempt, purpose_of}
 use Rattle.pr_regions.proofs.Telling.{contains-told, is_pending_after}
 use Rattle.pr_domain.specs.inside.Clauses.{purpose_for}
 use Rattle.pr_domain.proofs.Doing.{any_found}
@@ -105,19 +105,19 @@ releases keys u h rk kind (Some v) is = at (is_kind (kind_of v) kind) refl
     at true same = inl (record { purpose = Release (kind_of v); meant = refl; asked = ap (λ k. Some (Release k)) (sym (same_kind (kind_of v) kind same)) })
     at false other = inr (unreleased u h rk kind (ap (λ w. is_holder u.registry h && is_held_as w kind) is ∙ ap (λ b. is_holder u.registry h && b) other ∙ and_false (is_holder u.registry h)))
 
-pub registers_key : (keys : List ℕ) (sark key : ℕ) → AreDeclared keys → is_declared keys key ≡ true → (sark == key) ≡ true → Some (registering keys sark) ≡ Some (Register (number_in keys key))
+pub registers_key : (keys : List ℕ) (sark key : ℕ) → AreDeclared keys → is_declared keys key ≡ true → (sark == key) ≡ true → Some (purpose_of_register keys sark) ≡ Some (Register (number_in keys key))
 registers_key keys sark key declared is same =
-    ap (λ k. Some (registering keys k)) (same_number sark key same)
+    ap (λ k. Some (purpose_of_register keys k)) (same_number sark key same)
     ∙ ap (λ b. Some (if b then Unregister else Register (number_in keys key))) (not_zero key (declared_key keys key declared is))
 
-unregisters : (keys : List ℕ) (sark : ℕ) → (sark == 0) ≡ true → Some (registering keys sark) ≡ Some Unregister
+unregisters : (keys : List ℕ) (sark : ℕ) → (sark == 0) ≡ true → Some (purpose_of_register keys sark) ≡ Some Unregister
 unregisters keys sark same = ap (λ b. Some (if b then Unregister else Register (number_in keys sark))) same
 
-preempts_key : (keys : List ℕ) (sark key : ℕ) (kind : Option Kind) (t : Kind) → is_preempting sark kind key t ≡ true → option_map (λ k. preempting keys sark k) kind ≡ Some (preempting keys key t)
+preempts_key : (keys : List ℕ) (sark key : ℕ) (kind : Option Kind) (t : Kind) → is_preempting sark kind key t ≡ true → option_map (λ k. purpose_of_preempt keys sark k) kind ≡ Some (purpose_of_preempt keys key t)
 preempts_key keys sark key None t is = absurd (false≢true is)
 preempts_key keys sark key (Some k) t is =
     let parts = and_parts (sark == key) (is_kind k t) is in
-    (λ i. Some (preempting keys (same_number sark key parts.0 i) (same_kind k t parts.1 i)))
+    (λ i. Some (purpose_of_preempt keys (same_number sark key parts.0 i) (same_kind k t parts.1 i)))
 
 is_meant : (keys : List ℕ) (a : Action) (c : Command) (u : UnitState) (p : Purpose) → purpose_for keys a u.registry.held ≡ Some p → purpose_of keys c ≡ Some p → IsMeant keys a u.registry.held c
 is_meant keys a c u p meant asked = record { purpose = p; meant = meant; asked = asked }
@@ -180,7 +180,7 @@ meant keys action.Unregister (command.Preempt rk sark kind) u h declared fits ac
 meant keys (action.Reserve t) (command.Preempt rk sark kind) u h declared fits acts named = absurd (false≢true named)
 meant keys action.Release (command.Preempt rk sark kind) u h declared fits acts named = absurd (false≢true named)
 meant keys action.Clear (command.Preempt rk sark kind) u h declared fits acts named = absurd (false≢true named)
-meant keys (action.Preempt key t) (command.Preempt rk sark kind) u h declared fits acts named = inl (is_meant keys (action.Preempt key t) (command.Preempt rk sark kind) u (preempting keys key t) refl (preempts_key keys sark key kind t named))
+meant keys (action.Preempt key t) (command.Preempt rk sark kind) u h declared fits acts named = inl (is_meant keys (action.Preempt key t) (command.Preempt rk sark kind) u (purpose_of_preempt keys key t) refl (preempts_key keys sark key kind t named))
 meant keys action.Read (command.Preempt rk sark kind) u h declared fits acts named = absurd (false≢true named)
 meant keys action.Write (command.Preempt rk sark kind) u h declared fits acts named = absurd (false≢true named)
 meant keys (action.Register key) (command.PreemptAbort rk sark kind) u h declared fits acts named = absurd (false≢true named)
@@ -188,6 +188,6 @@ meant keys action.Unregister (command.PreemptAbort rk sark kind) u h declared fi
 meant keys (action.Reserve t) (command.PreemptAbort rk sark kind) u h declared fits acts named = absurd (false≢true named)
 meant keys action.Release (command.PreemptAbort rk sark kind) u h declared fits acts named = absurd (false≢true named)
 meant keys action.Clear (command.PreemptAbort rk sark kind) u h declared fits acts named = absurd (false≢true named)
-meant keys (action.Preempt key t) (command.PreemptAbort rk sark kind) u h declared fits acts named = inl (is_meant keys (action.Preempt key t) (command.PreemptAbort rk sark kind) u (preempting keys key t) refl (preempts_key keys sark key kind t named))
+meant keys (action.Preempt key t) (command.PreemptAbort rk sark kind) u h declared fits acts named = inl (is_meant keys (action.Preempt key t) (command.PreemptAbort rk sark kind) u (purpose_of_preempt keys key t) refl (preempts_key keys sark key kind t named))
 meant keys action.Read (command.PreemptAbort rk sark kind) u h declared fits acts named = absurd (false≢true named)
 meant keys action.Write (command.PreemptAbort rk sark kind) u h declared fits acts named = absurd (false≢true named)

@@ -18,10 +18,10 @@ use Rattle.pr_registry.specs.declared.change.Change.{Change}
 use Rattle.pr_registry.specs.Hosts.{Hosts, Keys, nobody, just, without}
 use Rattle.pr_registry.specs.Registrations.{State, key_of, is_registered, others, holds_alone}
 use Rattle.pr_registry.specs.Changes.{no_change, removed_by_preempt, preempt_case, is_new_type, is_released, is_told_of_loss, change_on_unregister, change_on_preempt}
-use Rattle.pr_registry.specs.Effects.{registered, unregistered, after_register, after, change}
+use Rattle.pr_registry.specs.Effects.{with_registration, without_registration, after_register, after, change}
 use Rattle.pr_registry.proofs.Sets.{contains-nobody, contains-difference, get-insert, get-empty, get-without}
 use Rattle.pr_registry.proofs.Tables.{eq_itself}
-use Rattle.pr_unit.specs.UnitStates.{UnitState, is_pending, is_any_pending, effect, reported}
+use Rattle.pr_unit.specs.UnitStates.{UnitState, is_pending, is_any_pending, effect, after_report}
 use Rattle.pr_unit.proofs.Pairs.{contains-remove-pair}
 use Rattle.pr_script.specs.Grammar.{is_declared, is_written_key, is_written}
 use Rattle.pr_views.specs.Possibilities.{Scope, key_at, Attentions, IsSo}
@@ -33,18 +33,18 @@ use Rattle.pr_domain.proofs.Ending.{which, any_pending}
 -- ---- a report
 
 left_after : (s : Scope) (u : UnitState) (a : Attention) (q : ℕ) → IsSo s u (Attentions q)
-    → (code : ℕ) → is_pending (reported u s.own (code_of a)) s.own code ≡ set.contains (set.remove (codes_of q) (code_of a)) code
+    → (code : ℕ) → is_pending (after_report u s.own (code_of a)) s.own code ≡ set.contains (set.remove (codes_of q) (code_of a)) code
 left_after s u a q so code =
     contains-remove-pair u.pending (s.own, code_of a) (s.own, code)
     ∙ (λ i. not (eq_itself s.own i && code == code_of a) && so.1 code i)
     ∙ sym (contains-remove_code (codes_of q) (code_of a) code)
 
-pub after_reported : (s : Scope) (u : UnitState) (a : Attention) (q n : ℕ) → IsSo s u (Attentions q) → IsAfter q a n → IsSo s (reported u s.own (code_of a)) (Attentions n)
+pub after_reported : (s : Scope) (u : UnitState) (a : Attention) (q n : ℕ) → IsSo s u (Attentions q) → IsAfter q a n → IsSo s (after_report u s.own (code_of a)) (Attentions n)
 after_reported s u a q n so follows =
     (follows.0, λ code. left_after s u a q so code ∙ sym (ap (λ t. set.contains t code) follows.2))
 
 pub reported_after : (s : Scope) (u : UnitState) (a : Attention) (q n : ℕ) → IsSo s u (Attentions q) → is_pending u s.own (code_of a) ≡ true
-    → IsSo s (reported u s.own (code_of a)) (Attentions n) → IsAfter q a n
+    → IsSo s (after_report u s.own (code_of a)) (Attentions n) → IsAfter q a n
 reported_after s u a q n so there left =
     (left.0, sym (so.1 (code_of a)) ∙ there, same_codes _ _ (λ code. sym (left.1 code) ∙ left_after s u a q so code))
 
@@ -163,7 +163,7 @@ numbered_without keys m removed g is =
 numbered_register : (keys : List ℕ) (u : State) (h sark g : ℕ) → is_written_key keys sark ≡ true → IsNumbered keys (key_of u g) → IsNumbered keys (key_of (after_register u h sark) g)
 numbered_register keys u h sark g written is = at (sark == 0) (is_registered u h) refl written
   where
-    at : (b there : Bool) → (sark == 0) ≡ b → (b || is_declared keys sark) ≡ true → IsNumbered keys (key_of (if b then (if there then unregistered u h else u) else registered u h sark) g)
+    at : (b there : Bool) → (sark == 0) ≡ b → (b || is_declared keys sark) ≡ true → IsNumbered keys (key_of (if b then (if there then without_registration u h else u) else with_registration u h sark) g)
     at true true zero_is declared = numbered_without keys u.keys (just h) g is
     at true false zero_is declared = is
     at false there zero_is declared =

@@ -21,7 +21,7 @@ use Rattle.pr_regions.specs.declared.purpose.Purpose.{Purpose}
 use Rattle.pr_regions.specs.declared.purpose.Purpose.TheVariants.{Register, Unregister, Reserve, Release, Clear, PreemptAll, Preempt}
 use Rattle.pr_regions.specs.declared.purpose.Standing.{Standing}
 use Rattle.pr_regions.specs.declared.purpose.Standing.TheVariants.{Unregistered, Named, Other}
-use Rattle.pr_regions.specs.Purposes.{HasNumber, number_in, preempting}
+use Rattle.pr_regions.specs.Purposes.{HasNumber, number_in, purpose_of_preempt}
 use Rattle.pr_regions.specs.Regions.{standing_of}
 use Rattle.pr_domain.specs.declared.place.Place.{Place}
 use Rattle.pr_domain.specs.declared.onlooker.Onlooker.{Onlooker}
@@ -58,7 +58,7 @@ has_number keys (action.Reserve kind) held p few fits meant = numbered p (Reserv
 has_number keys action.Release None p few fits meant = let bad : None ≡ Some p = meant in cc
 has_number keys action.Release (Some v) p few fits meant = numbered p (Release (kind_of v)) meant tt
 has_number keys action.Clear held p few fits meant = numbered p Clear meant tt
-has_number keys (action.Preempt key kind) held p few fits meant = numbered p (preempting keys key kind) meant (at (key == 0) fits)
+has_number keys (action.Preempt key kind) held p few fits meant = numbered p (purpose_of_preempt keys key kind) meant (at (key == 0) fits)
   where
     at : (b : Bool) → (b || is_declared keys key) ≡ true → HasNumber (if b then PreemptAll kind else Preempt (number_in keys key) kind)
     at true fits = tt

@@ -7,9 +7,10 @@ use Rattle.std.proofs.lemmas.Option.{same_Some, slice_get_within, get_or_from_sl
 use Rattle.std.specs.Prelude.{get_or, slice_index_or}
 use Rattle.pr_cdb.specs.declared.command.Kind.{Kind}
 use Rattle.pr_cdb.specs.declared.reply.Sense.{Sense}
+use Rattle.pr_cdb.specs.declared.codes.TheConstants.{MOST_NEXUSES, INVALID_FIELD_IN_PARAMETER_LIST}
 use Rattle.pr_registry.specs.declared.held.Held.{Held}
 use Rattle.pr_registry.specs.declared.held.Held.TheVariants.{One, All}
-use Rattle.pr_registry.specs.Registrations.{IsKey, key_of, is_registered, established, holds_alone, kind_of}
+use Rattle.pr_registry.specs.Registrations.{IsKey, key_of, is_registered, new_reservation, holds_alone, kind_of}
 use Rattle.pr_registry.specs.Changes.{is_kind, is_held_by_all, is_told_of_loss}
 use Rattle.pr_unit.specs.UnitStates.{UnitState}
 use Rattle.pr_unit.specs.Faults.{illegal}
@@ -30,7 +31,7 @@ use Rattle.pr_views.proofs.Places.{holds_at-get_or, holds_at_past}
 use Rattle.pr_views.proofs.Numbering.{one_registration, one_reservation, one_attentions}
 use Rattle.pr_regions.specs.declared.purpose.Purpose.{Purpose}
 use Rattle.pr_regions.specs.declared.purpose.Purpose.TheVariants.{Register, Unregister, Reserve, Release, Clear, PreemptAll, Preempt}
-use Rattle.pr_regions.specs.Purposes.{number_in, preempting}
+use Rattle.pr_regions.specs.Purposes.{number_in, purpose_of_preempt}
 use Rattle.pr_regions.proofs.Unique.{AreDistinct, are_distinct_keys, same_number_at}
 use Rattle.pr_regions.proofs.Asking.{key_named, after_for, change_for, fault_for, IsNamed, IsOwned, asked}
 use Rattle.pr_regions.proofs.Acting.{then_in}
@@ -98,13 +99,13 @@ module _ (s : Scope) (o : Onlooker) (place : Place) (clause : Clause) (reach : R
       (unregister_within s place.sender reach u few is.other gives (λ e. ends (subst (λ v. (holds_alone v place.sender || is_held_by_all v) ≡ true) held e))
       (λ e. tells (subst (λ v. (holds_alone v place.sender && is_told_of_loss v) ≡ true) held e)))
 
-  pub reserve_reach : (t : Kind) → clause.action ≡ action.Reserve t → (place.held ≡ None → has reach.reservations (number_of place.hosts (Some (established t place.sender))) ≡ true)
+  pub reserve_reach : (t : Kind) → clause.action ≡ action.Reserve t → (place.held ≡ None → has reach.reservations (number_of place.hosts (Some (new_reservation t place.sender))) ≡ true)
       → IsReachAt s o.view clause place reach
   reserve_reach t acts takes u w led =
       within u w (Reserve t) (served u w (action.Reserve t) (Reserve t) led acts refl) (reserve_within s place.sender reach u few is.other t (λ none. here (takes (sym (stands u w led) ∙ none))))
     where
-      here : has reach.reservations (number_of place.hosts (Some (established t place.sender))) ≡ true → has reach.reservations (number_of s.hosts (Some (established t place.sender))) ≡ true
-      here = subst (λ n. has reach.reservations (number_of n (Some (established t place.sender))) ≡ true) (sym is.known.hosts)
+      here : has reach.reservations (number_of place.hosts (Some (new_reservation t place.sender))) ≡ true → has reach.reservations (number_of s.hosts (Some (new_reservation t place.sender))) ≡ true
+      here = subst (λ n. has reach.reservations (number_of n (Some (new_reservation t place.sender))) ≡ true) (sym is.known.hosts)
 
   pub release_reach : clause.action ≡ action.Release → ((holds_alone place.held place.sender || is_held_by_all place.held) ≡ true → has reach.reservations 0 ≡ true)
       → (((holds_alone place.held place.sender || is_held_by_all place.held) && is_told_of_loss place.held) ≡ true → (r : ℕ) → 1 ≤ r → r ≤ 12 → has reach.told_04 r ≡ true) → IsReachAt s o.view clause place reach
@@ -127,14 +128,14 @@ module _ (s : Scope) (o : Onlooker) (place : Place) (clause : Clause) (reach : R
       within u w Clear (served u w action.Clear Clear led acts refl) (clear_within s place.sender reach u few is.other gives removes none tells)
 
   pub preempt_all_reach : (key : ℕ) (t : Kind) → clause.action ≡ action.Preempt key t → key ≡ 0 → (is_held_by_all place.held ≡ true → (r : ℕ) → 1 ≤ r → r ≤ 12 → has reach.removed r ≡ true)
-      → (is_held_by_all place.held ≡ true → has reach.reservations (number_of place.hosts (Some (established t place.sender))) ≡ true)
+      → (is_held_by_all place.held ≡ true → has reach.reservations (number_of place.hosts (Some (new_reservation t place.sender))) ≡ true)
       → (is_held_by_all place.held ≡ true → (r : ℕ) → 1 ≤ r → r ≤ 12 → has reach.told_05 r ≡ true) → IsReachAt s o.view clause place reach
   preempt_all_reach key t acts zero_is removes takes tells u w led =
       let known = served u w (action.Preempt 0 t) (PreemptAll t) led (acts ∙ ap (λ k. action.Preempt k t) zero_is) refl in
-      let all = by_all (illegal 0x26 0x00) (is_held_by_all u.registry.held) known.whole in
+      let all = by_all (illegal INVALID_FIELD_IN_PARAMETER_LIST 0) (is_held_by_all u.registry.held) known.whole in
       let here : is_held_by_all place.held ≡ true = ap is_held_by_all (sym (stands u w led)) ∙ all in
       within u w (PreemptAll t) known
-      (preempt_all_within s place.sender reach u few is.other t all (removes here) (subst (λ n. has reach.reservations (number_of n (Some (established t place.sender))) ≡ true) (sym is.known.hosts) (takes here)) (tells here))
+      (preempt_all_within s place.sender reach u few is.other t all (removes here) (subst (λ n. has reach.reservations (number_of n (Some (new_reservation t place.sender))) ≡ true) (sym is.known.hosts) (takes here)) (tells here))
     where
       by_all : (sense : Sense) (b : Bool) → (if not b then Some sense else None) ≡ None → b ≡ true
       by_all sense true is = refl
@@ -143,7 +144,7 @@ module _ (s : Scope) (o : Onlooker) (place : Place) (clause : Clause) (reach : R
   pub preempt_key_reach : (key : ℕ) (t : Kind) → clause.action ≡ action.Preempt key t → key ≢ 0
       → (has_at o.view.registrations place.sender (number_in s.keys key) ≡ true → has reach.given 0 ≡ true)
       → (is_held_by_all place.held ≡ true → has_at o.view.registrations place.sender (number_in s.keys key) ≡ true → MayAllGo o.view place (number_in s.keys key) → has reach.reservations 0 ≡ true) → has reach.removed (number_in s.keys key) ≡ true
-      → ((old : Kind) (g : ℕ) → place.held ≡ Some (One old g) → has_at o.view.registrations g (number_in s.keys key) ≡ true → has reach.reservations (number_of place.hosts (Some (established t place.sender))) ≡ true)
+      → ((old : Kind) (g : ℕ) → place.held ≡ Some (One old g) → has_at o.view.registrations g (number_in s.keys key) ≡ true → has reach.reservations (number_of place.hosts (Some (new_reservation t place.sender))) ≡ true)
       → ((old : Kind) (g : ℕ) → place.held ≡ Some (One old g) → has_at o.view.registrations g (number_in s.keys key) ≡ true → is_kind old t ≡ false
       → (r : ℕ) → 1 ≤ r → r ≤ 12 → r ≢ number_in s.keys key → has reach.told_04 r ≡ true)
       → has reach.told_05 (number_in s.keys key) ≡ true → IsReachAt s o.view clause place reach
@@ -168,7 +169,7 @@ module _ (s : Scope) (o : Onlooker) (place : Place) (clause : Clause) (reach : R
       once : AreDistinct s.keys
       once = are_distinct_keys s.keys is.known.fits.scope.keys
 
-      asks : preempting s.keys key t ≡ Preempt j t
+      asks : purpose_of_preempt s.keys key t ≡ Preempt j t
       asks = let other : (key == 0) ≡ false = grind (arith, nat_tests) in ap (λ b. if b then PreemptAll t else Preempt j t) other
 
       shown : Shows (view_in s o.view) u
@@ -197,8 +198,8 @@ module _ (s : Scope) (o : Onlooker) (place : Place) (clause : Clause) (reach : R
           let same : it.0 ≡ j = same_number_at s.keys it.0 j once it.1.1.1 small (sym it.1.1.2 ∙ has ∙ sym named) in
           subst (λ r. has_at o.view.registrations g r ≡ true) same it.1.0.1
 
-      here : has reach.reservations (number_of place.hosts (Some (established t place.sender))) ≡ true → has reach.reservations (number_of s.hosts (Some (established t place.sender))) ≡ true
-      here = subst (λ n. has reach.reservations (number_of n (Some (established t place.sender))) ≡ true) (sym is.known.hosts)
+      here : has reach.reservations (number_of place.hosts (Some (new_reservation t place.sender))) ≡ true → has reach.reservations (number_of s.hosts (Some (new_reservation t place.sender))) ≡ true
+      here = subst (λ n. has reach.reservations (number_of n (Some (new_reservation t place.sender))) ≡ true) (sym is.known.hosts)
 
       nonzero : (keys : List ℕ) (j k : ℕ) → Each IsKey keys → key_at keys j ≡ Some k → (k == 0) ≡ false
       nonzero keys zero k each there = let bad : None ≡ Some k = there in cc
@@ -287,7 +288,7 @@ module _ (s : Scope) (o : Onlooker) (clause : Clause) (reach : Reach) (is : IsOn
   -- these possibilities have what the reach makes of those before
   pub record AreWithin (most : Possibilities) : Type 0 where
     pub given : (n : ℕ) → has reach.given n ≡ true → has_at most.registrations o.other n ≡ true
-    pub freed : (g r : ℕ) → g < 8 → g ≢ o.other → has_at o.view.registrations g r ≡ true → has reach.removed r ≡ true → has_at most.registrations g 0 ≡ true
+    pub freed : (g r : ℕ) → g < MOST_NEXUSES → g ≢ o.other → has_at o.view.registrations g r ≡ true → has reach.removed r ≡ true → has_at most.registrations g 0 ≡ true
     pub reservations : (x : ℕ) → has reach.reservations x ≡ true → has most.reservations x ≡ true
     pub pending : (r q n : ℕ) → has_at o.view.registrations s.own r ≡ true → has o.view.pending q ≡ true → q < 16 → IsTold reach r q n → has most.pending n ≡ true
 
@@ -324,7 +325,7 @@ module _ (s : Scope) (o : Onlooker) (clause : Clause) (reach : Reach) (is : IsOn
           let found = within_it.others g seen.0 apart seen.1.1 in
           (found.0, found.1, at found.0 seen.0 seen.1.0.1 seen.1.1 found.2)
         where
-          below : g < 8
+          below : g < MOST_NEXUSES
           below = let most_hosts = is.fits.scope.hosts.1 in omega arith
 
           at : (n r : ℕ) → has_at o.view.registrations g r ≡ true → IsSo s u (Registration g r) → (n ≡ r) ⊎ ((n ≡ 0) × (has reach.removed r ≡ true))

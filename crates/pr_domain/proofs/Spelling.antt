@@ -22,7 +22,7 @@ use Rattle.pr_script.specs.Grammar.{is_declared, is_written_key}
 use Rattle.pr_regions.specs.declared.purpose.Purpose.{Purpose}
 use Rattle.pr_regions.specs.declared.purpose.Purpose.TheVariants as purpose
 use Rattle.pr_regions.specs.declared.purpose.Purpose.TheVariants.{Look, Register, Unregister, Reserve, Release, Clear, PreemptAll, Preempt}
-use Rattle.pr_regions.specs.Purposes.{number_in, registering, preempting, purpose_of, is_refused, is_in_range}
+use Rattle.pr_regions.specs.Purposes.{number_in, purpose_of_register, purpose_of_preempt, purpose_of, is_refused, is_in_range}
 use Rattle.pr_domain.specs.inside.Clauses.{purpose_for, refuses_strangers}
 use Rattle.pr_domain.proofs.Meaning.{declared_key, registers_key}
 
@@ -59,7 +59,7 @@ not_refused u h (command.PreemptAbort rk sark kind) free = first_false (lacks_ke
 admits : (p q : Purpose) → Some q ≡ Some p → refuses_strangers q ≡ false → refuses_strangers p ≡ true → false ≡ true
 admits p q same is refuses = let e : q ≡ p = cc in sym is ∙ ap refuses_strangers e ∙ refuses
 
-registering_admits : (keys : List ℕ) (sark : ℕ) → refuses_strangers (registering keys sark) ≡ false
+registering_admits : (keys : List ℕ) (sark : ℕ) → refuses_strangers (purpose_of_register keys sark) ≡ false
 registering_admits keys sark = at (sark == 0)
   where
     at : (b : Bool) → refuses_strangers (if b then Unregister else Register (number_in keys sark)) ≡ false
@@ -74,8 +74,8 @@ strangers_refused keys (command.Write lba blocks) p is refuses = admits p (purpo
 strangers_refused keys (command.ReadKeys alloc) p is refuses = admits p Look is refl refuses
 strangers_refused keys (command.ReadReservation alloc) p is refuses = admits p Look is refl refuses
 strangers_refused keys (command.ReportCapabilities alloc) p is refuses = admits p Look is refl refuses
-strangers_refused keys (command.Register rk sark) p is refuses = absurd (false≢true (admits p (registering keys sark) is (registering_admits keys sark) refuses))
-strangers_refused keys (command.RegisterIgnore sark) p is refuses = absurd (false≢true (admits p (registering keys sark) is (registering_admits keys sark) refuses))
+strangers_refused keys (command.Register rk sark) p is refuses = absurd (false≢true (admits p (purpose_of_register keys sark) is (registering_admits keys sark) refuses))
+strangers_refused keys (command.RegisterIgnore sark) p is refuses = absurd (false≢true (admits p (purpose_of_register keys sark) is (registering_admits keys sark) refuses))
 strangers_refused keys (command.Reserve rk kind) p is refuses = refl
 strangers_refused keys (command.Release rk kind) p is refuses = refl
 strangers_refused keys (command.Clear rk) p is refuses = refl
@@ -145,7 +145,7 @@ spells keys action.Write held rk p declared fits own meant = let bad : None ≡ 
 refused : (p q : Purpose) → Some q ≡ Some p → refuses_strangers q ≡ true → refuses_strangers p ≡ false → false ≡ true
 refused p q same is admits = let e : q ≡ p = cc in sym admits ∙ sym (ap refuses_strangers e) ∙ is
 
-preempting_refuses : (keys : List ℕ) (key : ℕ) (kind : Kind) → refuses_strangers (preempting keys key kind) ≡ true
+preempting_refuses : (keys : List ℕ) (key : ℕ) (kind : Kind) → refuses_strangers (purpose_of_preempt keys key kind) ≡ true
 preempting_refuses keys key kind = at (key == 0)
   where
     at : (b : Bool) → refuses_strangers (if b then PreemptAll kind else Preempt (number_in keys key) kind) ≡ true
@@ -161,6 +161,6 @@ spells_stranger keys action.Release None p declared fits admits meant = let bad 
 spells_stranger keys action.Release (Some v) p declared fits admits meant = absurd (false≢true (refused p (Release (kind_of v)) meant refl admits))
 spells_stranger keys action.Clear held p declared fits admits meant = absurd (false≢true (refused p Clear meant refl admits))
 spells_stranger keys (action.Preempt key kind) held p declared fits admits meant =
-    absurd (false≢true (refused p (preempting keys key kind) meant (preempting_refuses keys key kind) admits))
+    absurd (false≢true (refused p (purpose_of_preempt keys key kind) meant (preempting_refuses keys key kind) admits))
 spells_stranger keys action.Read held p declared fits admits meant = let bad : None ≡ Some p = meant in cc
 spells_stranger keys action.Write held p declared fits admits meant = let bad : None ≡ Some p = meant in cc

@@ -8,7 +8,7 @@ use Rattle.pr_attention.specs.Attentions.{power_on, reservations_preempted, rese
 use Rattle.pr_registry.specs.Registrations.{State, key_of}
 use Rattle.pr_registry.specs.Effects.{after, change}
 use Rattle.pr_unit.specs.Attentions.{Pairs}
-use Rattle.pr_unit.specs.UnitStates.{UnitState, IsWellFormed, is_pending, is_any_pending, told, effect, reported}
+use Rattle.pr_unit.specs.UnitStates.{UnitState, IsWellFormed, is_pending, is_any_pending, pending_after, effect, after_report}
 use Rattle.pr_unit.specs.Laws.{IsQuiet}
 use Rattle.pr_unit.proofs.Pairs.{contains-remove-pair}
 use Rattle.pr_views.specs.Possibilities.{Scope, Item, Registration, Reservation, Attentions, IsSo, number_of}
@@ -51,7 +51,7 @@ pub like_effect : (own h : ℕ) (c : Command) (u w : UnitState) → IsLike own u
 like_effect own h c u w like = record {
   registry = ap (λ (r : State). after r h c) like.registry;
   pending = λ code.
-      ap (λ (r : State). set.contains (told w.pending (change r h c)) (own, code)) like.registry
+      ap (λ (r : State). set.contains (pending_after w.pending (change r h c)) (own, code)) like.registry
       ∙ contains-told w.pending (change u.registry h c) own code
       ∙ ap (λ b. is_pending_after b (set.contains (change u.registry h c).told_03 own) (set.contains (change u.registry h c).told_04 own) (set.contains (change u.registry h c).told_05 own) code) (like.pending code)
       ∙ sym (contains-told u.pending (change u.registry h c) own code);
@@ -60,15 +60,15 @@ like_effect own h c u w like = record {
 -- ---- nothing is pending for the sender
 
 abbrev pub cleared : UnitState → ℕ → UnitState
-cleared u h = reported (reported (reported (reported u h power_on) h reservations_preempted) h reservations_released) h registrations_preempted
+cleared u h = after_report (after_report (after_report (after_report u h power_on) h reservations_preempted) h reservations_released) h registrations_preempted
 
-formed_reported : (u : UnitState) (h code : ℕ) → IsWellFormed u → IsWellFormed (reported u h code)
+formed_reported : (u : UnitState) (h code : ℕ) → IsWellFormed u → IsWellFormed (after_report u h code)
 formed_reported u h code w = record {
   registry = w.registry;
   pending = λ q x is. w.pending q x (and_parts (not (q == h && x == code)) (set.contains u.pending (q, x)) (sym (contains-remove-pair u.pending (h, code) (q, x)) ∙ is)).1;
 }
 
-like_reported : (own : ℕ) (u : UnitState) (h code : ℕ) → own ≢ h → IsLike own u (reported u h code)
+like_reported : (own : ℕ) (u : UnitState) (h code : ℕ) → own ≢ h → IsLike own u (after_report u h code)
 like_reported own u h code other = record {
   registry = refl;
   pending = λ x.
@@ -82,10 +82,10 @@ formed_cleared u h formed =
 
 pub like_cleared : (own : ℕ) (u : UnitState) (h : ℕ) → own ≢ h → IsLike own u (cleared u h)
 like_cleared own u h other =
-    let a = reported u h power_on in
-    let b = reported a h reservations_preempted in
-    let c = reported b h reservations_released in
-    like_through own u c (reported c h registrations_preempted)
+    let a = after_report u h power_on in
+    let b = after_report a h reservations_preempted in
+    let c = after_report b h reservations_released in
+    like_through own u c (after_report c h registrations_preempted)
     (like_through own u b c (like_through own u a b (like_reported own u h power_on other) (like_reported own a h reservations_preempted other)) (like_reported own b h reservations_released other))
     (like_reported own c h registrations_preempted other)
 

@@ -10,9 +10,9 @@ use Rattle.pr_registry.specs.declared.held.Held.{Held}
 use Rattle.pr_registry.specs.declared.held.Held.TheVariants.{One, All}
 use Rattle.pr_registry.specs.declared.change.Change.{Change as Told}
 use Rattle.pr_registry.specs.Hosts.{Keys, just, without, hosts_with, is_key, is_empty}
-use Rattle.pr_registry.specs.Registrations.{State, key_of, is_registered, established, holds_alone, is_holder_of}
+use Rattle.pr_registry.specs.Registrations.{State, key_of, is_registered, new_reservation, holds_alone, is_holder_of}
 use Rattle.pr_registry.specs.Changes.{Case, ReplacesAll, ReplacesHolder, RemovesKey, no_change, is_kind, is_told_of_loss, is_held_by_all, is_held_as, is_released, preempt_case, change_on_unregister, change_on_release, change_on_clear, change_on_preempt}
-use Rattle.pr_registry.specs.Effects.{registered as register, held_by_rest, held_or, reserved, released, unregistered, cleared, preempted}
+use Rattle.pr_registry.specs.Effects.{with_registration as register, held_by_rest, held_or, with_reservation, after_release, without_registration, after_clear, after_preempt}
 use Rattle.pr_registry.proofs.Sets.{get-without, contains-hosts_with, not_empty_from_some}
 use Rattle.pr_unit.specs.UnitStates.{UnitState}
 use Rattle.pr_sets.specs.Words.{has}
@@ -145,15 +145,15 @@ module _ (s : Scope) (from : ℕ) (reach : Reach) (u : UnitState) where
     Releases = (holds_alone u.registry.held from && is_told_of_loss u.registry.held) ≡ true → (r : ℕ) → 1 ≤ r → r ≤ 12 → has reach.told_04 r ≡ true
 
     -- a registrant unregisters
-    unregistered_within : has reach.given 0 ≡ true → Ends → Releases → IsWithin s from reach u (then_in u (unregistered u.registry from) (change_on_unregister u.registry from))
+    unregistered_within : has reach.given 0 ≡ true → Ends → Releases → IsWithin s from reach u (then_in u (without_registration u.registry from) (change_on_unregister u.registry from))
     unregistered_within gives ends tells =
         let b = holds_alone u.registry.held from && is_told_of_loss u.registry.held in
-        within_becomes s from reach u (unregistered u.registry from) (change_on_unregister u.registry from) (Some 0) never (number_of s.hosts (unregistered u.registry from).held) never (told_if b) never few apart
+        within_becomes s from reach u (without_registration u.registry from) (change_on_unregister u.registry from) (Some 0) never (number_of s.hosts (without_registration u.registry from).held) never (told_if b) never few apart
         (on_unregister s.keys s.hosts from u.registry)
         (record {
           given = λ i is. let same : 0 ≡ i = cc in subst (λ n. has reach.given n ≡ true) same gives;
           removed = λ r few goes. absurd (false≢true goes);
-          reservation = left_or_none (unregistered u.registry from).held (left u.registry.held (holds_alone u.registry.held from) ends);
+          reservation = left_or_none (without_registration u.registry from).held (left u.registry.held (holds_alone u.registry.held from) ends);
           told = told_if_04 b tells;
         })
       where
@@ -177,30 +177,30 @@ module _ (s : Scope) (from : ℕ) (reach : Reach) (u : UnitState) where
         → IsWithin s from reach u (then_in u (after_for s.keys u.registry from Unregister) (change_for s.keys u.registry from Unregister))
     unregister_within gives ends tells = at (is_registered u.registry from)
       where
-        at : (b : Bool) → IsWithin s from reach u (then_in u (if b then unregistered u.registry from else u.registry) (if b then change_on_unregister u.registry from else no_change))
+        at : (b : Bool) → IsWithin s from reach u (then_in u (if b then without_registration u.registry from else u.registry) (if b then change_on_unregister u.registry from else no_change))
         at true = unregistered_within gives ends tells
         at false =
             let now = number_of s.hosts u.registry.held in
             within_becomes s from reach u u.registry no_change None never now never never never few apart (still s.keys s.hosts from u.registry u.registry (λ g. refl)) (keeps now never (inl refl) told_none)
 
-    pub reserve_within : (t : Kind) → (u.registry.held ≡ None → has reach.reservations (number_of s.hosts (Some (established t from))) ≡ true) → IsWithin s from reach u (then_in u (reserved u.registry from t) no_change)
+    pub reserve_within : (t : Kind) → (u.registry.held ≡ None → has reach.reservations (number_of s.hosts (Some (new_reservation t from))) ≡ true) → IsWithin s from reach u (then_in u (with_reservation u.registry from t) no_change)
     reserve_within t takes =
-        let now = number_of s.hosts (reserved u.registry from t).held in
-        within_becomes s from reach u (reserved u.registry from t) no_change None never now never never never few apart (still s.keys s.hosts from u.registry (reserved u.registry from t) (λ g. refl))
+        let now = number_of s.hosts (with_reservation u.registry from t).held in
+        within_becomes s from reach u (with_reservation u.registry from t) no_change None never now never never never few apart (still s.keys s.hosts from u.registry (with_reservation u.registry from t) (λ g. refl))
         (keeps now never (at u.registry.held takes) told_none)
       where
-        at : (v : Option Held) → (v ≡ None → has reach.reservations (number_of s.hosts (Some (established t from))) ≡ true)
-            → (number_of s.hosts (held_or v (established t from)) ≡ number_of s.hosts v) ⊎ (has reach.reservations (number_of s.hosts (held_or v (established t from))) ≡ true)
+        at : (v : Option Held) → (v ≡ None → has reach.reservations (number_of s.hosts (Some (new_reservation t from))) ≡ true)
+            → (number_of s.hosts (held_or v (new_reservation t from)) ≡ number_of s.hosts v) ⊎ (has reach.reservations (number_of s.hosts (held_or v (new_reservation t from))) ≡ true)
         at None takes = inr (takes refl)
         at (Some v) takes = inl refl
 
     pub release_within : (t : Kind) → Ends → (((holds_alone u.registry.held from || is_held_by_all u.registry.held) && is_told_of_loss u.registry.held) ≡ true → (r : ℕ) → 1 ≤ r → r ≤ 12 → has reach.told_04 r ≡ true)
-        → IsWithin s from reach u (then_in u (released u.registry from t) (change_on_release u.registry from t))
+        → IsWithin s from reach u (then_in u (after_release u.registry from t) (change_on_release u.registry from t))
     release_within t ends tells =
-        let now = number_of s.hosts (released u.registry from t).held in
+        let now = number_of s.hosts (after_release u.registry from t).held in
         let b = is_released u.registry from t && is_told_of_loss u.registry.held in
-        within_becomes s from reach u (released u.registry from t) (change_on_release u.registry from t) None never now never (told_if b) never few apart (on_release s.keys s.hosts from t u.registry)
-        (keeps now (told_if b) (left_or_none (released u.registry from t).held (at (is_released u.registry from t) refl)) (told_if_04 b (λ is. tells (both is))))
+        within_becomes s from reach u (after_release u.registry from t) (change_on_release u.registry from t) None never now never (told_if b) never few apart (on_release s.keys s.hosts from t u.registry)
+        (keeps now (told_if b) (left_or_none (after_release u.registry from t).held (at (is_released u.registry from t) refl)) (told_if_04 b (λ is. tells (both is))))
       where
         -- who releases it holds it
         holds : (v : Option Held) → is_holder_of u.registry.keys v from ≡ true → (holds_alone v from || is_held_by_all v) ≡ true
@@ -226,9 +226,9 @@ module _ (s : Scope) (from : ℕ) (reach : Reach) (u : UnitState) where
     goes removes (suc i) few is = removes (suc i) (omega arith) few
 
     pub clear_within : has reach.given 0 ≡ true → ((r : ℕ) → 1 ≤ r → r ≤ 12 → has reach.removed r ≡ true) → has reach.reservations 0 ≡ true → ((r : ℕ) → 1 ≤ r → r ≤ 12 → has reach.told_03 r ≡ true)
-        → IsWithin s from reach u (then_in u (cleared u.registry) (change_on_clear u.registry from))
+        → IsWithin s from reach u (then_in u (after_clear u.registry) (change_on_clear u.registry from))
     clear_within gives removes none tells =
-        within_becomes s from reach u (cleared u.registry) (change_on_clear u.registry from) (Some 0) registered 0 registered never never few apart (on_clear s.keys s.hosts from u.registry)
+        within_becomes s from reach u (after_clear u.registry) (change_on_clear u.registry from) (Some 0) registered 0 registered never never few apart (on_clear s.keys s.hosts from u.registry)
         (record {
           given = λ i is. let same : 0 ≡ i = cc in subst (λ n. has reach.given n ≡ true) same gives;
           removed = goes removes;
@@ -237,11 +237,11 @@ module _ (s : Scope) (from : ℕ) (reach : Reach) (u : UnitState) where
         })
 
     pub preempt_all_within : (t : Kind) → is_held_by_all u.registry.held ≡ true → ((r : ℕ) → 1 ≤ r → r ≤ 12 → has reach.removed r ≡ true)
-        → has reach.reservations (number_of s.hosts (Some (established t from))) ≡ true → ((r : ℕ) → 1 ≤ r → r ≤ 12 → has reach.told_05 r ≡ true)
-        → IsWithin s from reach u (then_in u (preempted u.registry from 0 (Some t)) (change_on_preempt u.registry from 0 (Some t)))
+        → has reach.reservations (number_of s.hosts (Some (new_reservation t from))) ≡ true → ((r : ℕ) → 1 ≤ r → r ≤ 12 → has reach.told_05 r ≡ true)
+        → IsWithin s from reach u (then_in u (after_preempt u.registry from 0 (Some t)) (change_on_preempt u.registry from 0 (Some t)))
     preempt_all_within t all removes takes tells =
-        let left = number_of s.hosts (Some (established t from)) in
-        within_becomes s from reach u (preempted u.registry from 0 (Some t)) (change_on_preempt u.registry from 0 (Some t)) None registered left never never registered few apart
+        let left = number_of s.hosts (Some (new_reservation t from)) in
+        within_becomes s from reach u (after_preempt u.registry from 0 (Some t)) (change_on_preempt u.registry from 0 (Some t)) None registered left never never registered few apart
         (in_case s.keys s.hosts from None registered left never never registered u.registry 0 t ReplacesAll (replaces u.registry.held all) (on_preempt_all s.keys s.hosts from t u.registry))
         (record {
           given = λ j is. let bad : None ≡ Some j = is in cc;
@@ -262,10 +262,10 @@ module _ (s : Scope) (from : ℕ) (reach : Reach) (u : UnitState) where
     -- whoever has the key j, which the sender may have itself, goes
     pub preempt_key_within : (j k r : ℕ) (t : Kind) → AreDistinct s.keys → j ≤ length s.keys → key_at s.keys j ≡ Some k → (k == 0) ≡ false → IsSo s u (Registration from r) → is_registered u.registry from ≡ true
         → (r ≡ j → has reach.given 0 ≡ true) → (is_held_by_all u.registry.held ≡ true → r ≡ j → AllGo j → has reach.reservations 0 ≡ true) → has reach.removed j ≡ true
-        → ((old : Kind) (g : ℕ) → u.registry.held ≡ Some (One old g) → key_of u.registry g ≡ Some k → has reach.reservations (number_of s.hosts (Some (established t from))) ≡ true)
+        → ((old : Kind) (g : ℕ) → u.registry.held ≡ Some (One old g) → key_of u.registry g ≡ Some k → has reach.reservations (number_of s.hosts (Some (new_reservation t from))) ≡ true)
         → ((old : Kind) (g : ℕ) → u.registry.held ≡ Some (One old g) → key_of u.registry g ≡ Some k → is_kind old t ≡ false → (n : ℕ) → 1 ≤ n → n ≤ 12 → n ≢ j → has reach.told_04 n ≡ true)
         → has reach.told_05 j ≡ true
-        → IsWithin s from reach u (then_in u (preempted u.registry from k (Some t)) (change_on_preempt u.registry from k (Some t)))
+        → IsWithin s from reach u (then_in u (after_preempt u.registry from k (Some t)) (change_on_preempt u.registry from k (Some t)))
     preempt_key_within j k r t once small named nonzero so present mine ends removes takes frees removed = at (preempt_case u.registry.keys u.registry.held k) refl
       where
         out : ℕ → Bool
@@ -317,12 +317,12 @@ module _ (s : Scope) (from : ℕ) (reach : Reach) (u : UnitState) where
         holder_of held (Some (All old)) stands is = let bad : RemovesKey ≡ ReplacesHolder held = sym (ap (λ b. if b then ReplacesAll else RemovesKey) nonzero) ∙ is in cc
 
         replaces : (held : Kind) → preempt_case u.registry.keys u.registry.held k ≡ ReplacesHolder held
-            → IsWithin s from reach u (then_in u (preempted u.registry from k (Some t)) (change_on_preempt u.registry from k (Some t)))
+            → IsWithin s from reach u (then_in u (after_preempt u.registry from k (Some t)) (change_on_preempt u.registry from k (Some t)))
         replaces held is =
-            let left = number_of s.hosts (Some (established t from)) in
+            let left = number_of s.hosts (Some (new_reservation t from)) in
             let b = not (is_kind held t) in
             let holder = holder_of held u.registry.held refl is in
-            within_becomes s from reach u (preempted u.registry from k (Some t)) (change_on_preempt u.registry from k (Some t)) None out left never (told_but b j) out few apart
+            within_becomes s from reach u (after_preempt u.registry from k (Some t)) (change_on_preempt u.registry from k (Some t)) None out left never (told_but b j) out few apart
             (in_case s.keys s.hosts from None out left never (told_but b j) out u.registry k t (ReplacesHolder held) is (on_preempt_holder s.keys s.hosts from j k t held u.registry once small named))
             (record {
               given = λ i is. let bad : None ≡ Some i = is in cc;
@@ -396,10 +396,10 @@ module _ (s : Scope) (from : ℕ) (reach : Reach) (u : UnitState) where
         mine_or_not true is = inl is
         mine_or_not false is = inr is
 
-        removes_key : preempt_case u.registry.keys u.registry.held k ≡ RemovesKey → IsWithin s from reach u (then_in u (preempted u.registry from k (Some t)) (change_on_preempt u.registry from k (Some t)))
+        removes_key : preempt_case u.registry.keys u.registry.held k ≡ RemovesKey → IsWithin s from reach u (then_in u (after_preempt u.registry from k (Some t)) (change_on_preempt u.registry from k (Some t)))
         removes_key is =
             let left = number_of s.hosts (held_by_rest rest u.registry.held) in
-            within_becomes s from reach u (preempted u.registry from k (Some t)) (change_on_preempt u.registry from k (Some t)) (lost_if own) out left never never out few apart
+            within_becomes s from reach u (after_preempt u.registry from k (Some t)) (change_on_preempt u.registry from k (Some t)) (lost_if own) out left never never out few apart
             (in_case s.keys s.hosts from (lost_if own) out left never never out u.registry k t RemovesKey is (on_preempt_key s.keys s.hosts from j k t u.registry own once small named one))
             (record {
               given = gives own refl;
@@ -408,7 +408,7 @@ module _ (s : Scope) (from : ℕ) (reach : Reach) (u : UnitState) where
               told = λ n few. told_gone n (n == j) refl;
             })
 
-        at : (case : Case) → preempt_case u.registry.keys u.registry.held k ≡ case → IsWithin s from reach u (then_in u (preempted u.registry from k (Some t)) (change_on_preempt u.registry from k (Some t)))
+        at : (case : Case) → preempt_case u.registry.keys u.registry.held k ≡ case → IsWithin s from reach u (then_in u (after_preempt u.registry from k (Some t)) (change_on_preempt u.registry from k (Some t)))
         at ReplacesAll is = absurd (never_all u.registry.held is)
         at (ReplacesHolder held) is = replaces held is
         at RemovesKey is = removes_key is

@@ -6,6 +6,7 @@ use Rattle.std.proofs.lemmas.Bool.{and_parts, false≢true, cases_lt}
 use Rattle.std.proofs.lemmas.Bool.Decides.{nat_tests}
 use Rattle.std.proofs.lemmas.List.Folds.{Any-from_list_any, list_any-from_Any}
 use Rattle.std.proofs.lemmas.Option.{slice_get-map, slice_get_past, slice_get_within, none-some, same_Some}
+use Rattle.pr_cdb.specs.declared.codes.TheConstants.{MOST_NEXUSES}
 use Rattle.pr_attention.specs.Attentions.{Codes}
 use Rattle.pr_attention.specs.Flagged.{codes_of}
 use Rattle.pr_registry.specs.declared.held.Held.{Held}
@@ -124,8 +125,8 @@ reservation_in_range hosts reservations x all is =
 
 -- ---- what fitting says
 
-pub few_nexuses : (p : Parts) → FitsAll (scenario_of p) → (1 ≤ length p.nexuses.items) × (length p.nexuses.items ≤ 8)
-few_nexuses p fits = subst (λ n. (1 ≤ n) × (n ≤ 8)) (count_of_parts p) (counted (scenario_of p) fits)
+pub few_nexuses : (p : Parts) → FitsAll (scenario_of p) → (1 ≤ length p.nexuses.items) × (length p.nexuses.items ≤ MOST_NEXUSES)
+few_nexuses p fits = subst (λ n. (1 ≤ n) × (n ≤ MOST_NEXUSES)) (count_of_parts p) (counted (scenario_of p) fits)
 
 pub reservations_fit : (s : Scenario) → FitsAll s → list_all (is_reservation (length s.nexuses)) s.reservations ≡ true
 reservations_fit s fits =
@@ -140,8 +141,8 @@ pub start_fits : (s : Scenario) (g : ℕ) (n : Nexus) → FitsAll s → nexus s 
 start_fits s g n fits is =
     let keys = s.keys in
     let ns = s.nexuses in
-    let rest = (and_parts (not (length ns == 0)) (nat_le (length ns) 8 && (are_distinct bytes_eq (map (λ n. n.name) ns) && list_all (is_nexus keys) ns)) fits.nexuses).1 in
-    let more = (and_parts (nat_le (length ns) 8) (are_distinct bytes_eq (map (λ n. n.name) ns) && list_all (is_nexus keys) ns) rest).1 in
+    let rest = (and_parts (not (length ns == 0)) (nat_le (length ns) MOST_NEXUSES && (are_distinct bytes_eq (map (λ n. n.name) ns) && list_all (is_nexus keys) ns)) fits.nexuses).1 in
+    let more = (and_parts (nat_le (length ns) MOST_NEXUSES) (are_distinct bytes_eq (map (λ n. n.name) ns) && list_all (is_nexus keys) ns) rest).1 in
     let all = (and_parts (are_distinct bytes_eq (map (λ n. n.name) ns)) (list_all (is_nexus keys) ns) more).1 in
     let one = all_pass (is_nexus keys) ns n all (slice_get_contains ns g n is) in
     let named = (and_parts (is_name n.name) (is_role keys n.role && (is_start keys n.start && is_task keys n.task)) one).1 in
@@ -207,13 +208,13 @@ written_past hosts own parts p many are g r past = are.registrations g r ∙ may
 pub record AreCounted (scenario parts : Parts) (count : ℕ) : Type 0 where
   pub items : length parts.nexuses.items ≡ count
   pub nexuses : count ≡ length (scenario_of scenario).nexuses
-  pub few : (1 ≤ count) × (count ≤ 8)
+  pub few : (1 ≤ count) × (count ≤ MOST_NEXUSES)
 
 pub are_counted : (scenario parts : Parts) (count : ℕ) → parts ≡ scenario → FitsAll (scenario_of scenario) → count ≡ vec_len parts.nexuses → AreCounted scenario parts count
 are_counted scenario parts count same fits is = record {
   items = items;
   nexuses = sym items ∙ ap (λ (p : Parts). length p.nexuses.items) same ∙ sym (count_of_parts scenario);
-  few = subst (λ n. (1 ≤ n) × (n ≤ 8)) (ap (λ (p : Parts). length p.nexuses.items) (sym same) ∙ items) (few_nexuses scenario fits);
+  few = subst (λ n. (1 ≤ n) × (n ≤ MOST_NEXUSES)) (ap (λ (p : Parts). length p.nexuses.items) (sym same) ∙ items) (few_nexuses scenario fits);
 }
   where
     items : length parts.nexuses.items ≡ count

@@ -1,21 +1,28 @@
 //! What a change makes of the registrations and the attentions of some states.
 
 ghost use Rattle.std.specs.Prelude.{◌≡◌, ◌≤◌, ◌<◌, ℕ, unwrap_or, bit_or};
+ghost use Rattle.pr_roles.specs.declared.limits.TheConstants.{MOST_KEYS};
 ghost use Rattle.pr_sets.specs.Words.{has};
 ghost use Rattle.pr_views.specs.Portions.{has_at};
 ghost use Rattle.pr_domain.specs.inside.Images.{IsImage, first, left, becomes, mark as mark_of, AreTold};
 
+use pr_cdb::codes::MOST_NEXUSES;
 use pr_regions::Change;
 use pr_sets::Word;
+use pr_views::{ATTENTION_SETS, MOST_REGISTRATIONS};
 
 /// What becomes of the registrations of each nexus by a change of the sender's.
-pub(crate) fn registrations_after(words: &[Word; 8], sender: u8, change: &Change) -> [Word; 8]
-    requires { unwrap_or change.now.sender 0 ≤ 12 }
+pub(crate) fn registrations_after(
+    words: &[Word; MOST_NEXUSES],
+    sender: u8,
+    change: &Change,
+) -> [Word; MOST_NEXUSES]
+    requires { unwrap_or change.now.sender 0 ≤ MOST_KEYS }
     ensures { (g : ℕ) → IsImage (has_at words.now g) (becomes sender change.now g) (has_at result g) }
 {
     let mut after = *words;
     let from = usize::from(sender);
-    for host in 0..8 {
+    for host in 0..MOST_NEXUSES {
         after[host] = if host == from {
             given(words[host], change.sender)
         } else {
@@ -27,7 +34,7 @@ pub(crate) fn registrations_after(words: &[Word; 8], sender: u8, change: &Change
 
 // The sender's: another one where the change gives it.
 fn given(word: Word, to: Option<u8>) -> Word
-    requires { unwrap_or to 0 ≤ 12 }
+    requires { unwrap_or to 0 ≤ MOST_KEYS }
     ensures { IsImage (has word) (λ r. unwrap_or to r) (has result) }
 {
     match to {
@@ -53,7 +60,7 @@ pub(crate) fn attentions_after(owners: Word, pending: Word, change: &Change) -> 
 {
     let marks = marks(owners, change);
     let mut told = Word::none();
-    for mark in 0..16 {
+    for mark in 0..ATTENTION_SETS {
         if marks.has(mark) {
             told = told.or(marked(pending, mark));
         }
@@ -63,10 +70,10 @@ pub(crate) fn attentions_after(owners: Word, pending: Word, change: &Change) -> 
 
 // The bits of what hosts with these registrations are told.
 fn marks(owners: Word, change: &Change) -> Word
-    ensures image { IsImage (first 13 owners) (mark_of change.now) (has result) }
+    ensures image { IsImage (first MOST_REGISTRATIONS owners) (mark_of change.now) (has result) }
 {
     let mut marks = Word::none();
-    for registration in 0..13 {
+    for registration in 0..MOST_REGISTRATIONS {
         if owners.has(registration) {
             marks = marks.with(mark(registration, change));
         }
@@ -75,9 +82,9 @@ fn marks(owners: Word, change: &Change) -> Word
 }
 
 fn mark(registration: u8, change: &Change) -> u8
-    requires { registration < 13 }
+    requires { registration < MOST_REGISTRATIONS }
     ensures mark { result ≡ mark_of change.now registration }
-    ensures few { result < 16 }
+    ensures few { result < ATTENTION_SETS }
 {
     let preempted = if change.told_03.has(registration) {
         2
@@ -99,11 +106,11 @@ fn mark(registration: u8, change: &Change) -> u8
 
 /// The attentions with these bits besides.
 pub(crate) fn marked(pending: Word, mark: u8) -> Word
-    requires { mark < 16 }
-    ensures { IsImage (first 16 pending) (λ q. bit_or q mark) (has result) }
+    requires { mark < ATTENTION_SETS }
+    ensures { IsImage (first ATTENTION_SETS pending) (λ q. bit_or q mark) (has result) }
 {
     let mut marked = Word::none();
-    for attentions in 0..16 {
+    for attentions in 0..ATTENTION_SETS {
         if pending.has(attentions) {
             marked = marked.with(attentions | mark);
         }

@@ -2,6 +2,7 @@
 
 ghost use Rattle.std.specs.Prelude.{◌≡◌, ◌≤◌, ◌<◌, ◌==◌, ℕ, false, length, position, IfSome};
 ghost use Rattle.std.specs.Option.{option_map_or};
+ghost use Rattle.pr_roles.specs.declared.limits.TheConstants.{MOST_KEYS};
 ghost use Rattle.pr_sets.specs.Words.{has};
 ghost use Rattle.pr_regions.specs.Purposes.{HasNumber, number_in};
 ghost use Rattle.pr_regions.specs.Regions.{names};
@@ -15,7 +16,7 @@ use pr_sets::Word;
 
 /// What a clause of this action asks for under a reservation, if it changes anything.
 pub(crate) fn purpose_for(action: Action, keys: &[u64], held: Option<Held>) -> Option<Purpose>
-    requires { length keys.now ≤ 12 }
+    requires { length keys.now ≤ MOST_KEYS }
     ensures { result ≡ purpose_for keys.now action held }
 {
     match action {
@@ -35,7 +36,7 @@ pub(crate) fn purpose_for(action: Action, keys: &[u64], held: Option<Held>) -> O
 
 /// The number of a declared key, from 1.
 pub(crate) fn number_in(keys: &[u64], key: u64) -> u8
-    requires { length keys.now ≤ 12 }
+    requires { length keys.now ≤ MOST_KEYS }
     ensures { result ≡ number_in keys.now key }
 {
     match place_in(keys, key) {
@@ -125,7 +126,7 @@ pub(crate) fn senders(purpose: Purpose, standing: Standing) -> Word
 fn named(purpose: Purpose) -> Option<u8>
     requires { HasNumber purpose }
     ensures number { (r : ℕ) → names purpose r ≡ option_map_or (λ j. r == j) result false }
-    ensures few { IfSome result (λ j. (1 ≤ j) × (j ≤ 12)) }
+    ensures few { IfSome result (λ j. (1 ≤ j) × (j ≤ MOST_KEYS)) }
 {
     match purpose {
         Purpose::Register(key) | Purpose::Preempt(key, _) => Some(key),

@@ -1,6 +1,7 @@
 //! Which possibilities are new beside others.
 
 ghost use Rattle.std.specs.Prelude.{◌≡◌, ◌≤◌, ℕ, true, false, IsTrue};
+ghost use Rattle.pr_cdb.specs.declared.codes.TheConstants.{MOST_NEXUSES};
 ghost use Rattle.pr_sets.specs.Words.{has};
 ghost use Rattle.pr_views.specs.Possibilities.{Scope};
 ghost use Rattle.pr_views.specs.Views.{Within};
@@ -12,7 +13,7 @@ use pr_views::Possibilities;
 
 /// Whether the new possibilities have one that the old ones are without.
 pub(crate) fn gains(hosts: u8, old: &Possibilities, new: &Possibilities) -> bool
-    requires { hosts ≤ 8 }
+    requires { hosts ≤ MOST_NEXUSES }
     ensures gained { IsTrue result → (s : Scope) → s.hosts ≡ hosts → IsNew s old.now new.now }
     ensures none { result ≡ false → (s : Scope) → s.hosts ≡ hosts → Within (view_in s new.now) (view_in s old.now) }
 {

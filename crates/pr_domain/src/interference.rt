@@ -2,6 +2,8 @@
 
 ghost use Rattle.std.specs.Prelude.{◌≡◌, ◌≢◌, ◌<◌, ◌≤◌, ℕ, true, false, length, IsTrue, IfOk, Some};
 ghost use Rattle.std.specs.List.{All};
+ghost use Rattle.pr_cdb.specs.declared.codes.TheConstants.{MOST_NEXUSES};
+ghost use Rattle.pr_roles.specs.declared.limits.TheConstants.{MOST_KEYS};
 ghost use Rattle.pr_roles.specs.Fitting.{is_action, is_reservation, is_role};
 ghost use Rattle.pr_sets.specs.Words.{has};
 ghost use Rattle.pr_views.specs.Possibilities.{Scope, count_of_reservations};
@@ -27,10 +29,10 @@ use std::alloc::{AllocError, Global};
 impl Onlooker {
     /// What is possible after any request of the other that ends GOOD and that its role, these clauses, permits.
     pub(crate) fn interfered(&self, clauses: &[Clause], keys: &[u64]) -> Possibilities
-        requires hosts { (1 ≤ self.now.hosts) × (self.now.hosts ≤ 8) }
+        requires hosts { (1 ≤ self.now.hosts) × (self.now.hosts ≤ MOST_NEXUSES) }
         requires own { self.now.own < self.now.hosts }
         requires other { self.now.other < self.now.hosts }
-        requires keys { length keys.now ≤ 12 }
+        requires keys { length keys.now ≤ MOST_KEYS }
         requires actions { All (IsClause keys.now) clauses.now }
         ensures { (s : Scope) → IsOnlooking s self.now → s.keys ≡ keys.now → IsInterference (view_in s self.now.view) clauses.now self.now.other (view_in s result) }
     {
@@ -42,10 +44,10 @@ impl Onlooker {
     // Adds what is possible after a command of one of the clauses, where the answer has what is shown.
     fn add_role(&self, answer: &mut Possibilities, clauses: &[Clause], keys: &[u64])
         requires shown { (s : Scope) → IsOnlooking s self.now → s.keys ≡ keys.now → HasShown s self.now.view answer.old }
-        requires hosts { (1 ≤ self.now.hosts) × (self.now.hosts ≤ 8) }
+        requires hosts { (1 ≤ self.now.hosts) × (self.now.hosts ≤ MOST_NEXUSES) }
         requires own { self.now.own < self.now.hosts }
         requires other { self.now.other < self.now.hosts }
-        requires keys { length keys.now ≤ 12 }
+        requires keys { length keys.now ≤ MOST_KEYS }
         requires actions { All (IsClause keys.now) clauses.now }
         ensures { (s : Scope) → IsOnlooking s self.now → s.keys ≡ keys.now → Adds s answer.old answer.new (λ u w. Among (length clauses.now) clauses.now (λ clause. FirstLeads (count_of_reservations self.now.hosts) (view_in s self.now.view) clause self.now.other u w)) (λ i. Among (length clauses.now) clauses.now (λ clause. ClauseLeaves (view_in s self.now.view) clause self.now.other i)) }
     {
@@ -57,10 +59,10 @@ impl Onlooker {
     // Adds what is possible after a command of this clause, until the answer has the most that it can leave.
     fn add_clause(&self, answer: &mut Possibilities, clause: &Clause, keys: &[u64])
         requires shown { (s : Scope) → IsOnlooking s self.now → s.keys ≡ keys.now → HasShown s self.now.view answer.old }
-        requires hosts { (1 ≤ self.now.hosts) × (self.now.hosts ≤ 8) }
+        requires hosts { (1 ≤ self.now.hosts) × (self.now.hosts ≤ MOST_NEXUSES) }
         requires own { self.now.own < self.now.hosts }
         requires other { self.now.other < self.now.hosts }
-        requires keys { length keys.now ≤ 12 }
+        requires keys { length keys.now ≤ MOST_KEYS }
         requires action { IsClause keys.now clause.now }
         ensures { (s : Scope) → IsOnlooking s self.now → s.keys ≡ keys.now → Adds s answer.old answer.new (FirstLeads (count_of_reservations self.now.hosts) (view_in s self.now.view) clause.now self.now.other) (ClauseLeaves (view_in s self.now.view) clause.now self.now.other) }
     {
@@ -78,11 +80,11 @@ impl Onlooker {
 
     // Under one reservation.
     fn add_place(&self, answer: &mut Possibilities, place: &Place, clause: &Clause, keys: &[u64])
-        requires own { self.now.own < 8 }
-        requires hosts { (1 ≤ place.now.hosts) × (place.now.hosts ≤ 8) }
+        requires own { self.now.own < MOST_NEXUSES }
+        requires hosts { (1 ≤ place.now.hosts) × (place.now.hosts ≤ MOST_NEXUSES) }
         requires sender { place.now.sender < place.now.hosts }
         requires held { IsTrue (is_reservation place.now.hosts place.now.held) }
-        requires keys { length keys.now ≤ 12 }
+        requires keys { length keys.now ≤ MOST_KEYS }
         requires action { is_action keys.now clause.now.action ≡ true }
         ensures { (s : Scope) → IsWatched s self.now place.now → s.keys ≡ keys.now → Adds s answer.old answer.new (PlaceLeads (view_in s self.now.view) clause.now place.now.sender place.now.reservation) (ClauseLeaves (view_in s self.now.view) clause.now place.now.sender) }
     {
@@ -102,8 +104,8 @@ impl Onlooker {
         purpose: Purpose,
         standing: Standing,
     )
-        requires own { self.now.own < 8 }
-        requires hosts { (1 ≤ place.now.hosts) × (place.now.hosts ≤ 8) }
+        requires own { self.now.own < MOST_NEXUSES }
+        requires hosts { (1 ≤ place.now.hosts) × (place.now.hosts ≤ MOST_NEXUSES) }
         requires sender { place.now.sender < place.now.hosts }
         requires held { IsTrue (is_reservation place.now.hosts place.now.held) }
         requires number { HasNumber purpose }
@@ -121,7 +123,7 @@ impl Onlooker {
 
     // Whether a nexus may have one of these registrations.
     fn may_be_among(&self, host: u8, registrations: Word) -> bool
-        requires { host < 8 }
+        requires { host < MOST_NEXUSES }
         ensures { result ≡ false → (r : ℕ) → has_at self.now.view.registrations host r ≡ true → has registrations r ≡ false }
     {
         !self.view.registrations[usize::from(host)]

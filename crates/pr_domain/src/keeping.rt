@@ -1,7 +1,9 @@
 //! What of a view's possibilities is so in some state that it shows.
 
 ghost use Rattle.std.specs.Prelude.{◌≡◌, ◌≤◌, ◌<◌, ◌+◌, ◌*◌, ℕ, true, None, IfSome, IfNone, IsTrue};
+ghost use Rattle.pr_cdb.specs.declared.codes.TheConstants.{MOST_NEXUSES};
 ghost use Rattle.pr_unit.specs.UnitStates.{UnitState};
+ghost use Rattle.pr_roles.specs.declared.limits.TheConstants.{MOST_KEYS};
 ghost use Rattle.pr_roles.specs.Fitting.{is_reservation};
 ghost use Rattle.pr_sets.specs.Words.{has};
 ghost use Rattle.pr_views.specs.Possibilities.{Scope, number_of, count_of_reservations};
@@ -14,11 +16,11 @@ ghost use Rattle.pr_domain.specs.inside.Keeping.{IsShownSo, IsShownAt, IsShown, 
 use crate::place::{Place, registered};
 use pr_regions::{Region, reservation_at};
 use pr_sets::Word;
-use pr_views::Possibilities;
+use pr_views::{MOST_REGISTRATIONS, Possibilities};
 
 /// What is so in some state that the view shows, of so many nexuses.
 pub(crate) fn kept(hosts: u8, view: &Possibilities) -> Possibilities
-    requires hosts { (1 ≤ hosts) × (hosts ≤ 8) }
+    requires hosts { (1 ≤ hosts) × (hosts ≤ MOST_NEXUSES) }
     ensures { (s : Scope) → s.hosts ≡ hosts → Fits (view_in s view.now) → IsKept (view_in s view.now) (view_in s result) }
 {
     let mut kept = Possibilities::none();
@@ -34,7 +36,7 @@ pub(crate) fn kept(hosts: u8, view: &Possibilities) -> Possibilities
 
 /// How many reservations there can be.
 pub(crate) fn count_of_reservations(hosts: u8) -> u8
-    requires { hosts ≤ 8 }
+    requires { hosts ≤ MOST_NEXUSES }
     ensures { result ≡ count_of_reservations hosts }
 {
     hosts * 4 + 3
@@ -43,7 +45,7 @@ pub(crate) fn count_of_reservations(hosts: u8) -> u8
 impl Place {
     /// The place of this reservation.
     pub(crate) fn of(hosts: u8, sender: u8, reservation: u8) -> Place
-        requires hosts { (1 ≤ hosts) × (hosts ≤ 8) }
+        requires hosts { (1 ≤ hosts) × (hosts ≤ MOST_NEXUSES) }
         requires below { reservation < count_of_reservations hosts }
         ensures hosts { result.hosts ≡ hosts }
         ensures sender { result.sender ≡ sender }
@@ -61,7 +63,7 @@ impl Place {
 
     // Adds what is so in some state of the place in which the sender has one of these registrations.
     fn add_kept(&self, kept: &mut Possibilities, view: &Possibilities, senders: Word)
-        requires hosts { (1 ≤ self.now.hosts) × (self.now.hosts ≤ 8) }
+        requires hosts { (1 ≤ self.now.hosts) × (self.now.hosts ≤ MOST_NEXUSES) }
         requires sender { self.now.sender < self.now.hosts }
         requires reservation { self.now.reservation < 64 }
         ensures { (s : Scope) → IsPlace s view.now self.now → IsUniform senders → Adds s kept.old kept.new (λ _ u. IsShownAt (view_in s view.now) self.now senders u) (IsShownSo (view_in s view.now)) }
@@ -73,7 +75,7 @@ impl Place {
 
     // What is so in those states, if there are any.
     fn shown(&self, view: &Possibilities, senders: Word) -> Option<Possibilities>
-        requires hosts { (1 ≤ self.now.hosts) × (self.now.hosts ≤ 8) }
+        requires hosts { (1 ≤ self.now.hosts) × (self.now.hosts ≤ MOST_NEXUSES) }
         requires sender { self.now.sender < self.now.hosts }
         requires reservation { self.now.reservation < 64 }
         ensures some { IfSome result (λ p. (s : Scope) → IsPlace s view.now self.now → IsUniform senders → IsShown s view.now self.now senders p) }
@@ -95,11 +97,11 @@ impl Place {
 
 // The region of every state.
 fn everything() -> Region
-    ensures holder { (r : ℕ) → r ≤ 12 → has result.holder r ≡ true }
-    ensures others { (r : ℕ) → r ≤ 12 → has result.others r ≡ true }
+    ensures holder { (r : ℕ) → r ≤ MOST_KEYS → has result.holder r ≡ true }
+    ensures others { (r : ℕ) → r ≤ MOST_KEYS → has result.others r ≡ true }
     ensures somebody { result.somebody ≡ None }
 {
-    let all = Word::below(13);
+    let all = Word::below(MOST_REGISTRATIONS);
     Region {
         holder: all,
         others: all,

@@ -2,7 +2,9 @@
 
 ghost use Rattle.std.specs.Prelude.{◌≡◌, ◌<◌, ◌≤◌, ◌↔◌, IsTrue, length, true, false};
 ghost use Rattle.std.specs.List.{list_any, All};
+ghost use Rattle.pr_cdb.specs.declared.codes.TheConstants.{MOST_NEXUSES};
 ghost use Rattle.pr_script.specs.Grammar.{is_written};
+ghost use Rattle.pr_roles.specs.declared.limits.TheConstants.{MOST_KEYS};
 ghost use Rattle.pr_sets.specs.Words.{has};
 ghost use Rattle.pr_roles.specs.Permits.{is_always_permitted};
 ghost use Rattle.pr_views.specs.Possibilities.{Scope, Reservation, IsSo, key_at};
@@ -20,7 +22,7 @@ use pr_regions::{Branch, Ending, branches, is_refused, purpose_of, reservation_a
 use pr_registry::Held;
 use pr_roles::{Clause, Condition, Role, names};
 use pr_sets::{ViewSet, Word};
-use pr_views::{Possibilities, ViewOf};
+use pr_views::{MOST_REGISTRATIONS, Possibilities, ViewOf};
 
 /// Whether the role permits this command of the host in each state that the host's view shows and in which the
 /// command ends GOOD. It takes no memory.
@@ -109,7 +111,7 @@ fn is_permitted_at(
     ensures refused { result ≡ false → IsOneRefused (view_in (scope_at keys.now place.hosts place.sender) view.now) clauses.now command (λ u. IsSo (scope_at keys.now place.hosts place.sender) u (Reservation place.reservation)) }
 {
     let mut registration = 0;
-    while registration < 13 {
+    while registration < MOST_REGISTRATIONS {
         if !is_permitted_with(view, place, keys, clauses, command, registration) {
             return false;
         }
@@ -129,7 +131,7 @@ fn is_permitted_with(
 ) -> bool
     requires asking { IsAsking keys.now place.hosts place.sender command view.now }
     requires place { IsPlace (scope_at keys.now place.hosts place.sender) view.now place }
-    requires registration { registration ≤ 12 }
+    requires registration { registration ≤ MOST_KEYS }
     ensures permitted { IsTrue result → ArePermitted (view_in (scope_at keys.now place.hosts place.sender) view.now) clauses.now command (HasBoth (scope_at keys.now place.hosts place.sender) place registration) }
     ensures refused { result ≡ false → IsOneRefused (view_in (scope_at keys.now place.hosts place.sender) view.now) clauses.now command (HasBoth (scope_at keys.now place.hosts place.sender) place registration) }
 {
@@ -159,7 +161,7 @@ fn key_at(keys: &[u64], registration: u8) -> Option<u64>
 
 // Whether one of the branches ends GOOD in some state of the view.
 fn is_one_reached(view: &Possibilities, place: Place, senders: Word, branches: &[Branch]) -> bool
-    requires hosts { (1 ≤ place.hosts) × (place.hosts ≤ 8) }
+    requires hosts { (1 ≤ place.hosts) × (place.hosts ≤ MOST_NEXUSES) }
     requires sender { place.sender < place.hosts }
     ensures { (s : Scope) → IsPlace s view.now place → IsUniform senders → has view.now.pending 0 ≡ true → All IsProperBranch branches.now → (IsTrue result ↔ IsOneReached (view_in s view.now) place senders branches.now (length branches.now)) }
 {
@@ -175,7 +177,7 @@ fn is_one_reached(view: &Possibilities, place: Place, senders: Word, branches: &
 
 // Whether the branch ends GOOD in some state of the view, in which nothing is pending for its owner.
 fn is_reached(view: &Possibilities, place: Place, senders: Word, branch: &Branch) -> bool
-    requires hosts { (1 ≤ place.hosts) × (place.hosts ≤ 8) }
+    requires hosts { (1 ≤ place.hosts) × (place.hosts ≤ MOST_NEXUSES) }
     requires sender { place.sender < place.hosts }
     ensures { (s : Scope) → IsPlace s view.now place → IsUniform senders → has view.now.pending 0 ≡ true → IsProper branch.now.region → (IsTrue result ↔ IsReached (view_in s view.now) place senders branch.now) }
 {

@@ -4,14 +4,16 @@ ghost use Rattle.std.specs.Prelude.{◌≡◌, ◌<◌, ◌≤◌, ℕ, Bool, tr
 ghost use Rattle.pr_registry.specs.Changes.{is_held_by_all};
 ghost use Rattle.pr_sets.specs.Words.{has};
 ghost use Rattle.pr_unit.specs.UnitStates.{UnitState};
+ghost use Rattle.pr_roles.specs.declared.limits.TheConstants.{MOST_KEYS};
 ghost use Rattle.pr_views.specs.Possibilities.{Scope};
 ghost use Rattle.pr_views.specs.Portions.{has_at, view_in};
 ghost use Rattle.pr_domain.specs.inside.Gathering.{IsPlace, IsUniform, IsProper, IsAt, IsGathered, passes, IsLeftTo, tested};
 
+use pr_cdb::codes::MOST_NEXUSES;
 use pr_regions::Region;
 use pr_registry::Held;
 use pr_sets::Word;
-use pr_views::{Portion, Possibilities};
+use pr_views::{MOST_REGISTRATIONS, Portion, Possibilities};
 
 /// One reservation of a view, and who sends a command under it.
 #[derive(Clone, Copy, Debug, PartialEq, Eq)]
@@ -31,8 +33,8 @@ impl Place {
         view: &Possibilities,
         senders: Word,
         region: &Region,
-    ) -> Option<[Word; 8]>
-        requires hosts { (1 ≤ self.now.hosts) × (self.now.hosts ≤ 8) }
+    ) -> Option<[Word; MOST_NEXUSES]>
+        requires hosts { (1 ≤ self.now.hosts) × (self.now.hosts ≤ MOST_NEXUSES) }
         requires sender { self.now.sender < self.now.hosts }
         ensures some { IfSome result (λ words. (s : Scope) → IsPlace s view.now self.now → IsUniform senders → IsProper region.now → IsGathered (view_in s view.now) self.now senders region.now words) }
         ensures beyond { IfSome result (λ words. (g r : ℕ) → self.now.hosts ≤ g → has_at words g r ≡ false) }
@@ -43,7 +45,7 @@ impl Place {
 
     /// The portion of the view that those states are.
     pub(crate) fn portion(&self, view: &Possibilities, senders: Word, region: &Region) -> Portion
-        requires hosts { (1 ≤ self.now.hosts) × (self.now.hosts ≤ 8) }
+        requires hosts { (1 ≤ self.now.hosts) × (self.now.hosts ≤ MOST_NEXUSES) }
         ensures sender { result.sender ≡ self.now.sender }
         ensures reservation { result.reservation ≡ self.now.reservation }
         ensures left { IsLeftTo view.now self.now senders region.now result }
@@ -59,12 +61,12 @@ impl Place {
     }
 
     // What the portion leaves to each.
-    fn left(&self, view: &Possibilities, senders: Word, region: &Region) -> [Word; 8]
-        requires hosts { (1 ≤ self.now.hosts) × (self.now.hosts ≤ 8) }
+    fn left(&self, view: &Possibilities, senders: Word, region: &Region) -> [Word; MOST_NEXUSES]
+        requires hosts { (1 ≤ self.now.hosts) × (self.now.hosts ≤ MOST_NEXUSES) }
         ensures left { (g r : ℕ) → g < self.now.hosts → has_at result g r ≡ (has_at view.now.registrations g r && passes self.now senders region.now g r) }
         ensures beyond { (g r : ℕ) → self.now.hosts ≤ g → has_at result g r ≡ false }
     {
-        let mut words = [Word::none(); 8];
+        let mut words = [Word::none(); MOST_NEXUSES];
         let mut g = 0;
         while g < self.hosts {
             let i = usize::from(g);
@@ -110,8 +112,8 @@ impl Place {
 
 /// The registrations by a key.
 pub(crate) fn registered() -> Word
-    ensures keys { (r : ℕ) → 1 ≤ r → r ≤ 12 → has result r ≡ true }
+    ensures keys { (r : ℕ) → 1 ≤ r → r ≤ MOST_KEYS → has result r ≡ true }
     ensures none { has result 0 ≡ false }
 {
-    Word::below(13).without(0)
+    Word::below(MOST_REGISTRATIONS).without(0)
 }

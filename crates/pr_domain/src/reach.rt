@@ -1,8 +1,10 @@
 //! What a command gives, removes and tells at most.
 
 ghost use Rattle.std.specs.Prelude.{◌≡◌, ◌<◌, ◌≤◌, ◌||◌, ◌&&◌, ℕ, Some, None, true};
-ghost use Rattle.pr_registry.specs.Registrations.{established, holds_alone, is_for_registrants as is_for_registrants_as};
+ghost use Rattle.pr_cdb.specs.declared.codes.TheConstants.{MOST_NEXUSES};
+ghost use Rattle.pr_registry.specs.Registrations.{new_reservation, holds_alone, is_for_registrants as is_for_registrants_as};
 ghost use Rattle.pr_registry.specs.Changes.{is_held_by_all, is_told_of_loss};
+ghost use Rattle.pr_roles.specs.declared.limits.TheConstants.{MOST_KEYS};
 ghost use Rattle.pr_sets.specs.Words.{has};
 ghost use Rattle.pr_views.specs.Possibilities.{number_of};
 ghost use Rattle.pr_domain.specs.inside.Reaching.{IsWider};
@@ -61,7 +63,7 @@ impl Reach {
 
     /// To be registered with the key of this number.
     pub(crate) fn of_registering(key: u8) -> Reach
-        requires { key ≤ 12 }
+        requires { key ≤ MOST_KEYS }
         ensures { has result.given key ≡ true }
     {
         Reach {
@@ -74,7 +76,7 @@ impl Reach {
     pub(crate) fn of_unregistering(place: &Place) -> Reach
         ensures given { has result.given 0 ≡ true }
         ensures ended { (holds_alone place.now.held place.now.sender || is_held_by_all place.now.held) ≡ true → has result.reservations 0 ≡ true }
-        ensures told { (holds_alone place.now.held place.now.sender && is_told_of_loss place.now.held) ≡ true → (r : ℕ) → 1 ≤ r → r ≤ 12 → has result.told_04 r ≡ true }
+        ensures told { (holds_alone place.now.held place.now.sender && is_told_of_loss place.now.held) ≡ true → (r : ℕ) → 1 ≤ r → r ≤ MOST_KEYS → has result.told_04 r ≡ true }
     {
         let going = Reach {
             given: none_alone(),
@@ -96,13 +98,13 @@ impl Reach {
 
     /// To establish a reservation of this type.
     pub(crate) fn of_reserving(place: &Place, kind: Kind) -> Reach
-        requires hosts { place.now.hosts ≤ 8 }
+        requires hosts { place.now.hosts ≤ MOST_NEXUSES }
         requires sender { place.now.sender < place.now.hosts }
-        ensures { place.now.held ≡ None → has result.reservations (number_of place.now.hosts (Some (established kind place.now.sender))) ≡ true }
+        ensures { place.now.held ≡ None → has result.reservations (number_of place.now.hosts (Some (new_reservation kind place.now.sender))) ≡ true }
     {
         match place.held {
             None => Reach {
-                reservations: place.established(kind),
+                reservations: place.new_reservation(kind),
                 ..Reach::none()
             },
             Some(_) => Reach::none(),
@@ -112,7 +114,7 @@ impl Reach {
     /// To release the reservation that stands.
     pub(crate) fn of_releasing(place: &Place) -> Reach
         ensures ended { (holds_alone place.now.held place.now.sender || is_held_by_all place.now.held) ≡ true → has result.reservations 0 ≡ true }
-        ensures told { ((holds_alone place.now.held place.now.sender || is_held_by_all place.now.held) && is_told_of_loss place.now.held) ≡ true → (r : ℕ) → 1 ≤ r → r ≤ 12 → has result.told_04 r ≡ true }
+        ensures told { ((holds_alone place.now.held place.now.sender || is_held_by_all place.now.held) && is_told_of_loss place.now.held) ≡ true → (r : ℕ) → 1 ≤ r → r ≤ MOST_KEYS → has result.told_04 r ≡ true }
     {
         match place.held {
             Some(Held::One(kind, holder)) if holder == place.sender => Reach {
@@ -132,9 +134,9 @@ impl Reach {
     /// To remove the reservation and every registration.
     pub(crate) fn of_clearing() -> Reach
         ensures given { has result.given 0 ≡ true }
-        ensures removed { (r : ℕ) → 1 ≤ r → r ≤ 12 → has result.removed r ≡ true }
+        ensures removed { (r : ℕ) → 1 ≤ r → r ≤ MOST_KEYS → has result.removed r ≡ true }
         ensures reservations { has result.reservations 0 ≡ true }
-        ensures told { (r : ℕ) → 1 ≤ r → r ≤ 12 → has result.told_03 r ≡ true }
+        ensures told { (r : ℕ) → 1 ≤ r → r ≤ MOST_KEYS → has result.told_03 r ≡ true }
     {
         Reach {
             given: none_alone(),
@@ -147,16 +149,16 @@ impl Reach {
 
     /// To preempt all others, where all registrants hold.
     pub(crate) fn of_preempting_all(place: &Place, kind: Kind) -> Reach
-        requires hosts { place.now.hosts ≤ 8 }
+        requires hosts { place.now.hosts ≤ MOST_NEXUSES }
         requires sender { place.now.sender < place.now.hosts }
-        ensures removed { is_held_by_all place.now.held ≡ true → (r : ℕ) → 1 ≤ r → r ≤ 12 → has result.removed r ≡ true }
-        ensures reservations { is_held_by_all place.now.held ≡ true → has result.reservations (number_of place.now.hosts (Some (established kind place.now.sender))) ≡ true }
-        ensures told { is_held_by_all place.now.held ≡ true → (r : ℕ) → 1 ≤ r → r ≤ 12 → has result.told_05 r ≡ true }
+        ensures removed { is_held_by_all place.now.held ≡ true → (r : ℕ) → 1 ≤ r → r ≤ MOST_KEYS → has result.removed r ≡ true }
+        ensures reservations { is_held_by_all place.now.held ≡ true → has result.reservations (number_of place.now.hosts (Some (new_reservation kind place.now.sender))) ≡ true }
+        ensures told { is_held_by_all place.now.held ≡ true → (r : ℕ) → 1 ≤ r → r ≤ MOST_KEYS → has result.told_05 r ≡ true }
     {
         match place.held {
             Some(Held::All(_)) => Reach {
                 removed: registered(),
-                reservations: place.established(kind),
+                reservations: place.new_reservation(kind),
                 told_05: registered(),
                 ..Reach::none()
             },
@@ -167,10 +169,10 @@ impl Reach {
 
 impl Place {
     /// The reservation of this type that the sender establishes.
-    pub(crate) fn established(&self, kind: Kind) -> Word
-        requires hosts { self.now.hosts ≤ 8 }
+    pub(crate) fn new_reservation(&self, kind: Kind) -> Word
+        requires hosts { self.now.hosts ≤ MOST_NEXUSES }
         requires sender { self.now.sender < self.now.hosts }
-        ensures { has result (number_of self.now.hosts (Some (established kind self.now.sender))) ≡ true }
+        ensures { has result (number_of self.now.hosts (Some (new_reservation kind self.now.sender))) ≡ true }
     {
         let held = if is_all(kind) {
             Held::All(kind)
@@ -190,7 +192,7 @@ pub(crate) fn none_alone() -> Word
 
 // With which registrations others are told of the loss of a reservation of this type.
 fn those_told(kind: Kind) -> Word
-    ensures { is_for_registrants_as kind ≡ true → (r : ℕ) → 1 ≤ r → r ≤ 12 → has result r ≡ true }
+    ensures { is_for_registrants_as kind ≡ true → (r : ℕ) → 1 ≤ r → r ≤ MOST_KEYS → has result r ≡ true }
 {
     match kind {
         Kind::WriteExclusive | Kind::ExclusiveAccess => Word::none(),

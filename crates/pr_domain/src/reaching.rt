@@ -3,10 +3,12 @@
 ghost use Rattle.std.specs.Prelude.{◌≡◌, ◌≢◌, ◌⊎◌, ◌<◌, ◌≤◌, ◌==◌, ◌&&◌, ◌||◌, ℕ, Some, true, false, not, length, bit_or, IsTrue};
 ghost use Rattle.pr_cdb.specs.declared.command.Kind.{Kind as KindOf};
 ghost use Rattle.pr_registry.specs.declared.held.Held.TheVariants.{One};
-ghost use Rattle.pr_registry.specs.Registrations.{established};
+ghost use Rattle.pr_registry.specs.Registrations.{new_reservation};
 ghost use Rattle.pr_registry.specs.Changes.{is_kind, is_held_by_all};
+ghost use Rattle.pr_roles.specs.declared.limits.TheConstants.{MOST_KEYS};
 ghost use Rattle.pr_roles.specs.Fitting.{is_action, is_reservation};
 ghost use Rattle.pr_sets.specs.Words.{has};
+ghost use Rattle.pr_views.specs.declared.view.TheConstants.{ATTENTION_SETS};
 ghost use Rattle.pr_views.specs.Possibilities.{Scope, number_of};
 ghost use Rattle.pr_views.specs.Portions.{has_at};
 ghost use Rattle.pr_regions.specs.Purposes.{number_in};
@@ -21,6 +23,7 @@ use crate::onlooker::Onlooker;
 use crate::place::{Place, registered};
 use crate::reach::{Reach, none_alone};
 use pr_cdb::Kind;
+use pr_cdb::codes::MOST_NEXUSES;
 use pr_registry::Held;
 use pr_roles::{Action, Clause};
 use pr_sets::Word;
@@ -29,10 +32,10 @@ use pr_views::Possibilities;
 impl Onlooker {
     /// What a command of this clause can leave at most, beside what was so before it.
     pub(crate) fn most(&self, clause: &Clause, keys: &[u64]) -> Possibilities
-        requires hosts { (1 ≤ self.now.hosts) × (self.now.hosts ≤ 8) }
+        requires hosts { (1 ≤ self.now.hosts) × (self.now.hosts ≤ MOST_NEXUSES) }
         requires own { self.now.own < self.now.hosts }
         requires other { self.now.other < self.now.hosts }
-        requires keys { length keys.now ≤ 12 }
+        requires keys { length keys.now ≤ MOST_KEYS }
         requires action { IsClause keys.now clause.now }
         ensures { (s : Scope) → IsOnlooking s self.now → s.keys ≡ keys.now → IsMost s self.now.view clause.now self.now.other result }
     {
@@ -46,9 +49,9 @@ impl Onlooker {
 
     // What it reaches under the reservations that are possible.
     fn reach(&self, clause: &Clause, keys: &[u64]) -> Reach
-        requires hosts { (1 ≤ self.now.hosts) × (self.now.hosts ≤ 8) }
+        requires hosts { (1 ≤ self.now.hosts) × (self.now.hosts ≤ MOST_NEXUSES) }
         requires other { self.now.other < self.now.hosts }
-        requires keys { length keys.now ≤ 12 }
+        requires keys { length keys.now ≤ MOST_KEYS }
         requires action { IsClause keys.now clause.now }
         ensures { (s : Scope) → IsOnlooking s self.now → s.keys ≡ keys.now → IsReach s self.now.view clause.now self.now.other result }
     {
@@ -65,10 +68,10 @@ impl Onlooker {
 
     // Under one reservation, where its key has this number.
     fn reach_at(&self, place: &Place, clause: &Clause, number: u8) -> Reach
-        requires hosts { (1 ≤ place.now.hosts) × (place.now.hosts ≤ 8) }
+        requires hosts { (1 ≤ place.now.hosts) × (place.now.hosts ≤ MOST_NEXUSES) }
         requires sender { place.now.sender < place.now.hosts }
         requires held { IsTrue (is_reservation place.now.hosts place.now.held) }
-        requires number { number ≤ 12 }
+        requires number { number ≤ MOST_KEYS }
         ensures { (s : Scope) → IsWatched s self.now place.now → is_action s.keys clause.now.action ≡ true → number_named s.keys clause.now.action ≡ number → IsReachAt s self.now.view clause.now place.now result }
     {
         if !holds(clause.condition, place, true) {
@@ -94,15 +97,15 @@ impl Onlooker {
     // To preempt the key of this number: whoever has it goes, the reservation of a holder that has it is replaced, and
     // that of all registrants ends where nobody is left.
     fn reach_of_preempting(&self, place: &Place, key: u8, kind: Kind) -> Reach
-        requires hosts { place.now.hosts ≤ 8 }
+        requires hosts { place.now.hosts ≤ MOST_NEXUSES }
         requires sender { place.now.sender < place.now.hosts }
         requires held { IsTrue (is_reservation place.now.hosts place.now.held) }
-        requires key { key ≤ 12 }
+        requires key { key ≤ MOST_KEYS }
         ensures given { has_at self.now.view.registrations place.now.sender key ≡ true → has result.given 0 ≡ true }
         ensures ended { is_held_by_all place.now.held ≡ true → has_at self.now.view.registrations place.now.sender key ≡ true → MayAllGo self.now.view place.now key → has result.reservations 0 ≡ true }
         ensures removed { has result.removed key ≡ true }
-        ensures replaced { (old : KindOf) (holder : ℕ) → place.now.held ≡ Some (One old holder) → has_at self.now.view.registrations holder key ≡ true → has result.reservations (number_of place.now.hosts (Some (established kind place.now.sender))) ≡ true }
-        ensures told_04 { (old : KindOf) (holder : ℕ) → place.now.held ≡ Some (One old holder) → has_at self.now.view.registrations holder key ≡ true → is_kind old kind ≡ false → (r : ℕ) → 1 ≤ r → r ≤ 12 → r ≢ key → has result.told_04 r ≡ true }
+        ensures replaced { (old : KindOf) (holder : ℕ) → place.now.held ≡ Some (One old holder) → has_at self.now.view.registrations holder key ≡ true → has result.reservations (number_of place.now.hosts (Some (new_reservation kind place.now.sender))) ≡ true }
+        ensures told_04 { (old : KindOf) (holder : ℕ) → place.now.held ≡ Some (One old holder) → has_at self.now.view.registrations holder key ≡ true → is_kind old kind ≡ false → (r : ℕ) → 1 ≤ r → r ≤ MOST_KEYS → r ≢ key → has result.told_04 r ≡ true }
         ensures told_05 { has result.told_05 key ≡ true }
     {
         let named = Word::only(key);
@@ -115,7 +118,7 @@ impl Onlooker {
         };
         match place.held {
             Some(Held::One(old, holder)) if self.may_have(holder, key) => Reach {
-                reservations: place.established(kind),
+                reservations: place.new_reservation(kind),
                 told_04: told_of_another(old, kind, key),
                 ..removing
             },
@@ -129,8 +132,8 @@ impl Onlooker {
 
     // Whether each but the sender may be free or have the key of this number.
     fn may_all_go(&self, place: &Place, key: u8) -> bool
-        requires hosts { place.now.hosts ≤ 8 }
-        requires key { key ≤ 12 }
+        requires hosts { place.now.hosts ≤ MOST_NEXUSES }
+        requires key { key ≤ MOST_KEYS }
         ensures { MayAllGo self.now.view place.now key → IsTrue result }
     {
         for host in 0..place.hosts {
@@ -143,8 +146,8 @@ impl Onlooker {
 
     // Whether this one may.
     fn may_go(&self, host: u8, key: u8) -> bool
-        requires host { host < 8 }
-        requires key { key ≤ 12 }
+        requires host { host < MOST_NEXUSES }
+        requires key { key ≤ MOST_KEYS }
         ensures { result ≡ (has_at self.now.view.registrations host 0 || has_at self.now.view.registrations host key) }
     {
         self.may_have(host, 0) || self.may_have(host, key)
@@ -152,22 +155,22 @@ impl Onlooker {
 
     // Whether a nexus may have this registration.
     fn may_have(&self, host: u8, registration: u8) -> bool
-        requires host { host < 8 }
-        requires registration { registration ≤ 12 }
+        requires host { host < MOST_NEXUSES }
+        requires registration { registration ≤ MOST_KEYS }
         ensures { result ≡ has_at self.now.view.registrations host registration }
     {
         self.view.registrations[usize::from(host)].has(registration)
     }
 
     // The registrations that are in reach.
-    fn registrations_within(&self, reach: &Reach) -> [Word; 8]
-        requires other { self.now.other < 8 }
+    fn registrations_within(&self, reach: &Reach) -> [Word; MOST_NEXUSES]
+        requires other { self.now.other < MOST_NEXUSES }
         ensures given { (n : ℕ) → has reach.now.given n ≡ true → has_at result self.now.other n ≡ true }
-        ensures freed { (g r : ℕ) → g < 8 → g ≢ self.now.other → has_at self.now.view.registrations g r ≡ true → has reach.now.removed r ≡ true → has_at result g 0 ≡ true }
+        ensures freed { (g r : ℕ) → g < MOST_NEXUSES → g ≢ self.now.other → has_at self.now.view.registrations g r ≡ true → has reach.now.removed r ≡ true → has_at result g 0 ≡ true }
     {
-        let mut words = [Word::none(); 8];
+        let mut words = [Word::none(); MOST_NEXUSES];
         let sender = usize::from(self.other);
-        for host in 0..8 {
+        for host in 0..MOST_NEXUSES {
             words[host] = if host == sender {
                 reach.given
             } else {
@@ -179,8 +182,8 @@ impl Onlooker {
 
     // The attentions that are in reach.
     fn pending_within(&self, reach: &Reach) -> Word
-        requires own { self.now.own < 8 }
-        ensures { (r q n : ℕ) → has_at self.now.view.registrations self.now.own r ≡ true → has self.now.view.pending q ≡ true → q < 16 → IsTold reach.now r q n → has result n ≡ true }
+        requires own { self.now.own < MOST_NEXUSES }
+        ensures { (r q n : ℕ) → has_at self.now.view.registrations self.now.own r ≡ true → has self.now.view.pending q ≡ true → q < ATTENTION_SETS → IsTold reach.now r q n → has result n ≡ true }
     {
         let owners = self.view.registrations[usize::from(self.own)];
         let preempted = told(owners, reach.told_03, self.view.pending, 2);
@@ -192,9 +195,9 @@ impl Onlooker {
 
 // The number of the key that an action registers or preempts.
 fn number_named(action: Action, keys: &[u64]) -> u8
-    requires { length keys.now ≤ 12 }
+    requires { length keys.now ≤ MOST_KEYS }
     ensures number { result ≡ number_named keys.now action }
-    ensures few { result ≤ 12 }
+    ensures few { result ≤ MOST_KEYS }
 {
     match action {
         Action::Register(key) | Action::Preempt(key, _) => number_in(keys, key),
@@ -216,8 +219,8 @@ fn none_if(is: bool) -> Word
 
 // With which registrations others are told that a reservation was released which one of another type replaced.
 fn told_of_another(old: Kind, kind: Kind, key: u8) -> Word
-    requires { key ≤ 12 }
-    ensures { is_kind old kind ≡ false → (r : ℕ) → 1 ≤ r → r ≤ 12 → r ≢ key → has result r ≡ true }
+    requires { key ≤ MOST_KEYS }
+    ensures { is_kind old kind ≡ false → (r : ℕ) → 1 ≤ r → r ≤ MOST_KEYS → r ≢ key → has result r ≡ true }
 {
     if old == kind {
         Word::none()
@@ -228,8 +231,8 @@ fn told_of_another(old: Kind, kind: Kind, key: u8) -> Word
 
 // The attentions with these bits besides, if an owner with one of the registrations can be told.
 fn told(owners: Word, told: Word, pending: Word, mark: u8) -> Word
-    requires { mark < 16 }
-    ensures { (r q : ℕ) → has owners r ≡ true → has told r ≡ true → has pending q ≡ true → q < 16 → has result (bit_or q mark) ≡ true }
+    requires { mark < ATTENTION_SETS }
+    ensures { (r q : ℕ) → has owners r ≡ true → has told r ≡ true → has pending q ≡ true → q < ATTENTION_SETS → has result (bit_or q mark) ≡ true }
 {
     if owners.and(told).is_empty() {
         Word::none()

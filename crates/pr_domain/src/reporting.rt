@@ -25,6 +25,10 @@ use crate::collecting::put;
 use crate::landing::{Class, Landing};
 use crate::tally::Tally;
 use pr_attention::Attention;
+use pr_cdb::codes::{
+    ILLEGAL_REQUEST, INVALID_FIELD_IN_PARAMETER_LIST, INVALID_RELEASE_OF_PERSISTENT_RESERVATION,
+    LOGICAL_BLOCK_ADDRESS_OUT_OF_RANGE,
+};
 use pr_cdb::{Command, Sense};
 use pr_script::Test;
 use pr_sets::{ViewSet, Word};
@@ -46,7 +50,11 @@ fn class_of_report(command: &Command, attention: Attention) -> Class
 fn illegal(asc: u8, ascq: u8) -> Sense
     ensures { result ≡ illegal asc ascq }
 {
-    Sense { key: 5, asc, ascq }
+    Sense {
+        key: ILLEGAL_REQUEST,
+        asc,
+        ascq,
+    }
 }
 
 /// The sense of the command's fault, where it can be at fault.
@@ -54,9 +62,18 @@ pub(crate) fn fault_of(command: &Command) -> Option<Sense>
     ensures { (keys : List ℕ) (u : State) (h : ℕ) (x : Sense) → is_written keys command.now ≡ true → command_fault u h command.now ≡ Some x → result ≡ Some x }
 {
     match command {
-        Command::Read { .. } | Command::Write { .. } => Some(illegal(0x21, 0x00)),
-        Command::Release { .. } => Some(illegal(0x26, 0x04)),
-        Command::Preempt { .. } | Command::PreemptAbort { .. } => Some(illegal(0x26, 0x00)),
+        Command::Read { .. } | Command::Write { .. } => Some(illegal(
+            LOGICAL_BLOCK_ADDRESS_OUT_OF_RANGE,
+            0,
+        )),
+        Command::Release { .. } => Some(illegal(
+            INVALID_FIELD_IN_PARAMETER_LIST,
+            INVALID_RELEASE_OF_PERSISTENT_RESERVATION,
+        )),
+        Command::Preempt { .. } | Command::PreemptAbort { .. } => Some(illegal(
+            INVALID_FIELD_IN_PARAMETER_LIST,
+            0,
+        )),
         Command::TestUnitReady
         | Command::RequestSense
         | Command::ReadKeys { .. }

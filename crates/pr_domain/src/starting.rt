@@ -3,6 +3,7 @@
 ghost use Rattle.std.specs.Prelude.{◌≡◌, ◌↔◌, ◌<◌, ◌≤◌, ℕ, true, length, IsTrue, IfOk};
 ghost use Rattle.std.specs.List.{list_all};
 ghost use Rattle.pr_attention.specs.Flagged.{codes_of};
+ghost use Rattle.pr_roles.specs.declared.limits.TheConstants.{MOST_KEYS};
 ghost use Rattle.pr_roles.specs.Fitting.{Fits as FitsAll, is_reservation};
 ghost use Rattle.pr_roles.specs.Scenarios.{scenario_of};
 ghost use Rattle.pr_sets.specs.Words.{has};
@@ -17,11 +18,12 @@ use crate::attentions::is_among;
 use crate::clauses::number_in;
 use crate::keeping::kept;
 use pr_attention::{Attention, Pending};
+use pr_cdb::codes::MOST_NEXUSES;
 use pr_regions::reservation_number;
 use pr_registry::Held;
 use pr_roles::{Nexus, Parts, Scenario};
 use pr_sets::{ViewSet, Word};
-use pr_views::{Possibilities, ViewOf};
+use pr_views::{ATTENTION_SETS, Possibilities, ViewOf};
 use std::alloc::{AllocError, Global};
 
 /// The view of the states that the scenario may start from: it shows each of them, and has nothing that is so in none.
@@ -70,12 +72,12 @@ fn alternatives(hosts: u8, own: u8, parts: &Parts) -> Possibilities
 }
 
 // The registrations with which each may start.
-fn registrations(keys: &[u64], nexuses: &[Nexus]) -> [Word; 8]
-    requires keys { length keys.now ≤ 12 }
-    requires nexuses { length nexuses.now ≤ 8 }
+fn registrations(keys: &[u64], nexuses: &[Nexus]) -> [Word; MOST_NEXUSES]
+    requires keys { length keys.now ≤ MOST_KEYS }
+    requires nexuses { length nexuses.now ≤ MOST_NEXUSES }
     ensures { (g r : ℕ) → has_at result g r ≡ may_have keys.now nexuses.now g r }
 {
-    let mut words = [Word::none(); 8];
+    let mut words = [Word::none(); MOST_NEXUSES];
     for (host, nexus) in nexuses.iter().enumerate() {
         words[host] = registrations_of(keys, &nexus.start.alternatives);
     }
@@ -84,7 +86,7 @@ fn registrations(keys: &[u64], nexuses: &[Nexus]) -> [Word; 8]
 
 // The numbers of these registrations.
 fn registrations_of(keys: &[u64], alternatives: &[Option<u64>]) -> Word
-    requires { length keys.now ≤ 12 }
+    requires { length keys.now ≤ MOST_KEYS }
     ensures { (r : ℕ) → has result r ≡ has_alternative keys.now alternatives.now r }
 {
     let mut numbers = Word::none();
@@ -95,9 +97,9 @@ fn registrations_of(keys: &[u64], alternatives: &[Option<u64>]) -> Word
 }
 
 fn registration_in(keys: &[u64], key: Option<u64>) -> u8
-    requires { length keys.now ≤ 12 }
+    requires { length keys.now ≤ MOST_KEYS }
     ensures number { result ≡ registration_in keys.now key }
-    ensures few { result ≤ 12 }
+    ensures few { result ≤ MOST_KEYS }
 {
     match key {
         Some(key) => number_in(keys, key),
@@ -107,7 +109,7 @@ fn registration_in(keys: &[u64], key: Option<u64>) -> u8
 
 // The numbers of these reservations.
 fn reservations(hosts: u8, reservations: &[Option<Held>]) -> Word
-    requires hosts { hosts ≤ 8 }
+    requires hosts { hosts ≤ MOST_NEXUSES }
     requires fit { IsTrue (list_all (is_reservation hosts) reservations.now) }
     ensures { (x : ℕ) → has result x ≡ has_reservation hosts reservations.now x }
 {
@@ -120,11 +122,11 @@ fn reservations(hosts: u8, reservations: &[Option<Held>]) -> Word
 
 // The sets of attentions that are within the written one.
 fn sets_within(written: &Pending) -> Word
-    ensures few { (q : ℕ) → has result q ≡ true → q < 16 }
-    ensures within { (q : ℕ) → q < 16 → (has result q ≡ true) ↔ AreAmong (codes_of q) written.now }
+    ensures few { (q : ℕ) → has result q ≡ true → q < ATTENTION_SETS }
+    ensures within { (q : ℕ) → q < ATTENTION_SETS → (has result q ≡ true) ↔ AreAmong (codes_of q) written.now }
 {
     let mut sets = Word::none();
-    for attentions in 0..16 {
+    for attentions in 0..ATTENTION_SETS {
         if is_within(attentions, written) {
             sets = sets.with(attentions);
         }

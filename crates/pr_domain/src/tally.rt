@@ -1,6 +1,7 @@
 //! What is found of each way in which a command can end.
 
 ghost use Rattle.std.specs.Prelude.{◌≡◌, ◌<◌, ◌≤◌, ℕ, false, IsTrue, ◌==◌, ◌&&◌, ◌||◌};
+ghost use Rattle.pr_cdb.specs.declared.codes.TheConstants.{MOST_NEXUSES};
 ghost use Rattle.pr_sets.specs.Numbers.{most};
 ghost use Rattle.pr_sets.specs.Words.{has};
 ghost use Rattle.pr_views.specs.Possibilities.{Item};
@@ -40,7 +41,7 @@ impl Tally {
     /// Whether all that is found of this way, of so many nexuses, was added before.
     pub(crate) fn has(&self, way: usize, hosts: u8, found: &Possibilities) -> bool
         requires way { way < 20 }
-        requires hosts { hosts ≤ 8 }
+        requires hosts { hosts ≤ MOST_NEXUSES }
         ensures { IsTrue result → HasFound self.now way hosts found.now }
     {
         !gains(hosts, &self.ways[way], found)

@@ -12,6 +12,7 @@ ghost use Rattle.pr_sets.specs.Words.{has};
 ghost use Rattle.pr_cdb.specs.declared.command.Command.{Command as CommandOf};
 ghost use Rattle.pr_script.specs.declared.script.Test.{Test as TestOf};
 ghost use Rattle.pr_unit.specs.UnitStates.{UnitState};
+ghost use Rattle.pr_roles.specs.declared.limits.TheConstants.{MOST_KEYS};
 ghost use Rattle.pr_views.specs.Possibilities.{Scope, Item, count_of_reservations};
 ghost use Rattle.pr_views.specs.Portions.{view_in};
 ghost use Rattle.pr_regions.specs.Regions.{HasRoom};
@@ -25,16 +26,18 @@ use crate::landing::Class;
 use crate::place::Place;
 use crate::tally::Tally;
 use pr_cdb::Command;
+use pr_cdb::codes::MOST_NEXUSES;
 use pr_regions::{
     Branch, Change, Ending, Purpose, Reading, Region, branches, is_refused, purpose_of, readings,
     reservation_at, standing_of,
 };
 use pr_script::Test;
+use pr_script::limits::MOST_ARMS;
 use pr_sets::Word;
-use pr_views::Possibilities;
+use pr_views::{MOST_REGISTRATIONS, Possibilities};
 
 // These registrations under this reservation.
-fn part(registrations: [Word; 8], reservation: u8) -> Possibilities
+fn part(registrations: [Word; MOST_NEXUSES], reservation: u8) -> Possibilities
     requires { reservation < 64 }
     ensures registrations { result.registrations ≡ registrations }
     ensures reservations { (x : ℕ) → has result.reservations x ≡ (x == reservation) }
@@ -55,11 +58,11 @@ fn add_branch(
     branch: &Branch,
     arm: usize,
 )
-    requires hosts { (1 ≤ place.hosts) × (place.hosts ≤ 8) }
+    requires hosts { (1 ≤ place.hosts) × (place.hosts ≤ MOST_NEXUSES) }
     requires sender { place.sender < place.hosts }
     requires reservation { place.reservation < count_of_reservations place.hosts }
     requires room { HasRoom place.hosts branch.now.ending }
-    requires arm { arm ≤ 16 }
+    requires arm { arm ≤ MOST_ARMS }
     ensures { (s : Scope) (c : CommandOf) (tests : List TestOf) → IsRight s c tests view.now place senders branch.now arm → Grows (view_in s view.now) c tests tally.old tally.new (IsAt (view_in s view.now) place senders branch.now.region) }
 {
     let Some(registrations) = place.gather(view, senders, &branch.region) else {
@@ -89,11 +92,11 @@ fn add_branches(
     branches: &[Branch],
     arm: usize,
 )
-    requires hosts { (1 ≤ place.hosts) × (place.hosts ≤ 8) }
+    requires hosts { (1 ≤ place.hosts) × (place.hosts ≤ MOST_NEXUSES) }
     requires sender { place.sender < place.hosts }
     requires reservation { place.reservation < count_of_reservations place.hosts }
     requires room { All (λ b. HasRoom place.hosts b.ending) branches.now }
-    requires arm { arm ≤ 16 }
+    requires arm { arm ≤ MOST_ARMS }
     ensures { (s : Scope) (c : CommandOf) (tests : List TestOf) → AreRight s c tests view.now place senders branches.now arm → Grows (view_in s view.now) c tests tally.old tally.new (IsInOne (view_in s view.now) place senders branches.now (length branches.now)) }
 {
     let mut i = 0;
@@ -112,13 +115,13 @@ fn add_accepted(
     arm: usize,
     registration: u8,
 )
-    requires hosts { (1 ≤ place.hosts) × (place.hosts ≤ 8) }
+    requires hosts { (1 ≤ place.hosts) × (place.hosts ≤ MOST_NEXUSES) }
     requires sender { place.sender < place.hosts }
     requires reservation { place.reservation < count_of_reservations place.hosts }
     requires held { IsTrue (is_reservation place.hosts place.held) }
     requires number { HasNumber purpose }
-    requires arm { arm ≤ 16 }
-    requires registration { registration ≤ 12 }
+    requires arm { arm ≤ MOST_ARMS }
+    requires registration { registration ≤ MOST_KEYS }
     ensures { (s : Scope) (c : CommandOf) (tests : List TestOf) → IsAsked s c tests view.now place purpose arm registration → Grows (view_in s view.now) c tests tally.old tally.new (HasBoth s place registration) }
 {
     let standing = standing_of(purpose, registration);
@@ -128,13 +131,13 @@ fn add_accepted(
 
 // Adds those in which its reservation key is not accepted.
 fn add_refused(tally: &mut Tally, view: &Possibilities, place: Place, registration: u8)
-    requires hosts { (1 ≤ place.hosts) × (place.hosts ≤ 8) }
+    requires hosts { (1 ≤ place.hosts) × (place.hosts ≤ MOST_NEXUSES) }
     requires sender { place.sender < place.hosts }
     requires reservation { place.reservation < count_of_reservations place.hosts }
-    requires registration { registration ≤ 12 }
+    requires registration { registration ≤ MOST_KEYS }
     ensures { (s : Scope) (c : CommandOf) (tests : List TestOf) → IsRefusedAt s c view.now place registration → Grows (view_in s view.now) c tests tally.old tally.new (HasBoth s place registration) }
 {
-    let anything = Word::below(13);
+    let anything = Word::below(MOST_REGISTRATIONS);
     let region = Region {
         holder: anything,
         others: anything,
@@ -149,12 +152,12 @@ fn add_refused(tally: &mut Tally, view: &Possibilities, place: Place, registrati
 
 // The way of GOOD with the data taken by this arm, of at most 16.
 fn way_of(arm: Option<usize>) -> usize
-    ensures few { result ≤ 16 }
-    ensures way { IfSome arm (λ n. n < 16) → result ≡ way_of arm }
+    ensures few { result ≤ MOST_ARMS }
+    ensures way { IfSome arm (λ n. n < MOST_ARMS) → result ≡ way_of arm }
     ensures none { IfNone arm (result ≡ 0) }
 {
     match arm {
-        Some(n) if n < 16 => n + 1,
+        Some(n) if n < MOST_ARMS => n + 1,
         _ => 0,
     }
 }
@@ -168,10 +171,10 @@ fn is_tallied(
     region: &Region,
     arm: usize,
 ) -> bool
-    requires hosts { (1 ≤ place.hosts) × (place.hosts ≤ 8) }
+    requires hosts { (1 ≤ place.hosts) × (place.hosts ≤ MOST_NEXUSES) }
     requires sender { place.sender < place.hosts }
     requires reservation { place.reservation < count_of_reservations place.hosts }
-    requires arm { arm ≤ 16 }
+    requires arm { arm ≤ MOST_ARMS }
     ensures { IsTrue result → (s : Scope) → IsPlace s view.now place → IsUniform senders → (u : UnitState) (i : Item) → IsAt (view_in s view.now) place senders region.now u → IsRegistered s u i → (tallied tally.now 1 i ≡ true) × (tallied tally.now (3 + arm) i ≡ true) }
 {
     let portion = place.portion(view, senders, region);
@@ -187,10 +190,10 @@ fn add_reading(
     registration: u8,
     reading: &Reading,
 )
-    requires hosts { (1 ≤ place.hosts) × (place.hosts ≤ 8) }
+    requires hosts { (1 ≤ place.hosts) × (place.hosts ≤ MOST_NEXUSES) }
     requires sender { place.sender < place.hosts }
     requires reservation { place.reservation < count_of_reservations place.hosts }
-    requires registration { registration ≤ 12 }
+    requires registration { registration ≤ MOST_KEYS }
     ensures { (s : Scope) (c : CommandOf) (tests : List TestOf) → IsRightReading s c tests view.now place registration reading.now → Grows (view_in s view.now) c tests tally.old tally.new (IsReadAt s view.now place registration reading.now) }
 {
     let senders = Word::only(registration);
@@ -222,10 +225,10 @@ fn add_readings(
     registration: u8,
     readings: &[Reading],
 )
-    requires hosts { (1 ≤ place.hosts) × (place.hosts ≤ 8) }
+    requires hosts { (1 ≤ place.hosts) × (place.hosts ≤ MOST_NEXUSES) }
     requires sender { place.sender < place.hosts }
     requires reservation { place.reservation < count_of_reservations place.hosts }
-    requires registration { registration ≤ 12 }
+    requires registration { registration ≤ MOST_KEYS }
     ensures { (s : Scope) (c : CommandOf) (tests : List TestOf) → AreRightReadings s c tests view.now place registration readings.now → Grows (view_in s view.now) c tests tally.old tally.new (IsReadFirst s view.now place registration readings.now (length readings.now)) }
 {
     let mut i = 0;
@@ -265,14 +268,14 @@ fn add_registration(
     tests: &[Test],
     registration: u8,
 )
-    requires hosts { (1 ≤ place.hosts) × (place.hosts ≤ 8) }
+    requires hosts { (1 ≤ place.hosts) × (place.hosts ≤ MOST_NEXUSES) }
     requires sender { place.sender < place.hosts }
     requires reservation { place.reservation < count_of_reservations place.hosts }
     requires held { IsTrue (is_reservation place.hosts place.held) }
     requires keys { AreDeclared keys.now }
     requires written { IsTrue (is_written keys.now command) }
     requires tests { All (λ t. test_fits keys.now command t ≡ true) tests.now }
-    requires few { length tests.now ≤ 16 }
+    requires few { length tests.now ≤ MOST_ARMS }
     requires registration { registration ≤ length keys.now }
     ensures { (s : Scope) → IsOwners s keys.now view.now place → Grows (view_in s view.now) command tests.now tally.old tally.new (HasBoth s place registration) }
 {
@@ -303,15 +306,15 @@ fn add_place(
     command: Command,
     tests: &[Test],
 )
-    requires hosts { (1 ≤ place.hosts) × (place.hosts ≤ 8) }
+    requires hosts { (1 ≤ place.hosts) × (place.hosts ≤ MOST_NEXUSES) }
     requires sender { place.sender < place.hosts }
     requires reservation { place.reservation < count_of_reservations place.hosts }
     requires held { IsTrue (is_reservation place.hosts place.held) }
     requires keys { AreDeclared keys.now }
-    requires few_keys { length keys.now ≤ 12 }
+    requires few_keys { length keys.now ≤ MOST_KEYS }
     requires written { IsTrue (is_written keys.now command) }
     requires tests { All (λ t. test_fits keys.now command t ≡ true) tests.now }
-    requires few { length tests.now ≤ 16 }
+    requires few { length tests.now ≤ MOST_ARMS }
     ensures { (s : Scope) → IsOwners s keys.now view.now place → Grows (view_in s view.now) command tests.now tally.old tally.new (HasFirst s place (length keys.now + 1)) }
 {
     let registrations = keys.len() as u8 + 1;
@@ -335,15 +338,15 @@ fn add_reservation(
     command: Command,
     tests: &[Test],
 )
-    requires hosts { (1 ≤ place.hosts) × (place.hosts ≤ 8) }
+    requires hosts { (1 ≤ place.hosts) × (place.hosts ≤ MOST_NEXUSES) }
     requires sender { place.sender < place.hosts }
     requires reservation { place.reservation < count_of_reservations place.hosts }
     requires held { IsTrue (is_reservation place.hosts place.held) }
     requires keys { AreDeclared keys.now }
-    requires few_keys { length keys.now ≤ 12 }
+    requires few_keys { length keys.now ≤ MOST_KEYS }
     requires written { IsTrue (is_written keys.now command) }
     requires tests { All (λ t. test_fits keys.now command t ≡ true) tests.now }
-    requires few { length tests.now ≤ 16 }
+    requires few { length tests.now ≤ MOST_ARMS }
     ensures { (s : Scope) (none : TallyOf) → IsOwners s keys.now view.now place → IsNothing none → Grows (view_in s view.now) command tests.now none tally.old (IsReserved s place.reservation) → Grows (view_in s view.now) command tests.now none tally.new (IsReserved s (place.reservation + 1)) }
 {
     if is_reading(command) {
@@ -364,13 +367,13 @@ pub(crate) fn tally(
     command: Command,
     tests: &[Test],
 ) -> Tally
-    requires hosts { (1 ≤ hosts) × (hosts ≤ 8) }
+    requires hosts { (1 ≤ hosts) × (hosts ≤ MOST_NEXUSES) }
     requires own { own < hosts }
     requires keys { AreDeclared keys.now }
-    requires few_keys { length keys.now ≤ 12 }
+    requires few_keys { length keys.now ≤ MOST_KEYS }
     requires written { IsTrue (is_written keys.now command) }
     requires tests { All (λ t. test_fits keys.now command t ≡ true) tests.now }
-    requires few { length tests.now ≤ 16 }
+    requires few { length tests.now ≤ MOST_ARMS }
     ensures { (s : Scope) → IsOfScope s hosts own keys.now view.now → IsTally (view_in s view.now) command tests.now result }
 {
     let mut tally = Tally::none();

@@ -4,11 +4,12 @@ use Rattle.pr_cdb.specs.declared.command.Kind.{Kind}
 use Rattle.pr_cdb.specs.declared.command.Kind.TheVariants.{WriteExclusive, ExclusiveAccess, WriteExclusiveRegistrantsOnly, ExclusiveAccessRegistrantsOnly, WriteExclusiveAllRegistrants, ExclusiveAccessAllRegistrants}
 use Rattle.pr_cdb.specs.declared.command.Command.{Command}
 use Rattle.pr_cdb.specs.declared.reply.Sense.{Sense}
+use Rattle.pr_cdb.specs.declared.codes.TheConstants.{LOGICAL_BLOCK_ADDRESS_OUT_OF_RANGE}
 use Rattle.pr_registry.specs.declared.held.Held.{Held}
 use Rattle.pr_registry.specs.Registrations.{State, is_registered, is_holder, kind_of}
 use Rattle.pr_registry.specs.Changes.{no_change}
 use Rattle.pr_unit.specs.UnitStates.{UnitState}
-use Rattle.pr_unit.specs.Conflicts.{access_conflicts, is_denied, reading, writing}
+use Rattle.pr_unit.specs.Conflicts.{access_conflicts, is_denied, read_access, write_access}
 use Rattle.pr_unit.specs.Faults.{illegal}
 use Rattle.pr_views.specs.Possibilities.{Scope, number_of}
 use Rattle.pr_regions.specs.declared.region.Change.{Change}
@@ -27,7 +28,7 @@ abbrev IsOut : State → ℕ → Standing → Type 0
 IsOut u h standing = not (is_registered u h) ≡ is_unregistered standing
 
 shut_out-reading : (u : State) (h : ℕ) (standing : Standing) (v : Held) (t : Kind) → is_holder u h ≡ holds v h standing → IsOut u h standing
-    → is_denied u h (reading t) ≡ keeps_from_reading t v h standing
+    → is_denied u h (read_access t) ≡ keeps_from_reading t v h standing
 shut_out-reading u h standing v WriteExclusive holder out = refl
 shut_out-reading u h standing v ExclusiveAccess holder out = ap not holder
 shut_out-reading u h standing v WriteExclusiveRegistrantsOnly holder out = refl
@@ -36,7 +37,7 @@ shut_out-reading u h standing v WriteExclusiveAllRegistrants holder out = refl
 shut_out-reading u h standing v ExclusiveAccessAllRegistrants holder out = out
 
 shut_out-writing : (u : State) (h : ℕ) (standing : Standing) (v : Held) (t : Kind) → is_holder u h ≡ holds v h standing → IsOut u h standing
-    → is_denied u h (writing t) ≡ keeps_from_writing t v h standing
+    → is_denied u h (write_access t) ≡ keeps_from_writing t v h standing
 shut_out-writing u h standing v WriteExclusive holder out = ap not holder
 shut_out-writing u h standing v ExclusiveAccess holder out = ap not holder
 shut_out-writing u h standing v WriteExclusiveRegistrantsOnly holder out = out
@@ -53,18 +54,18 @@ out s p held sender standing u c m = ap not (registered_or_not s p held sender s
 
 -- the table of reads, for what is known
 pub reads_conflict : (s : Scope) (p : Purpose) (held : Option Held) (sender : ℕ) (standing : Standing) (u : UnitState) (c : Command) → Meets s p held sender standing u c
-    → access_conflicts u.registry sender u.registry.held reading ≡ is_kept_from keeps_from_reading held sender standing
-reads_conflict s p held sender standing u c m = ap (λ v. access_conflicts u.registry sender v reading) m.held ∙ at held refl
+    → access_conflicts u.registry sender u.registry.held read_access ≡ is_kept_from keeps_from_reading held sender standing
+reads_conflict s p held sender standing u c m = ap (λ v. access_conflicts u.registry sender v read_access) m.held ∙ at held refl
   where
-    at : (v : Option Held) → held ≡ v → access_conflicts u.registry sender v reading ≡ is_kept_from keeps_from_reading v sender standing
+    at : (v : Option Held) → held ≡ v → access_conflicts u.registry sender v read_access ≡ is_kept_from keeps_from_reading v sender standing
     at None is = refl
     at (Some v) is = shut_out-reading u.registry sender standing v (kind_of v) (is_holder-standing s p held v sender standing u c m is) (out s p held sender standing u c m)
 
 pub writes_conflict : (s : Scope) (p : Purpose) (held : Option Held) (sender : ℕ) (standing : Standing) (u : UnitState) (c : Command) → Meets s p held sender standing u c
-    → access_conflicts u.registry sender u.registry.held writing ≡ is_kept_from keeps_from_writing held sender standing
-writes_conflict s p held sender standing u c m = ap (λ v. access_conflicts u.registry sender v writing) m.held ∙ at held refl
+    → access_conflicts u.registry sender u.registry.held write_access ≡ is_kept_from keeps_from_writing held sender standing
+writes_conflict s p held sender standing u c m = ap (λ v. access_conflicts u.registry sender v write_access) m.held ∙ at held refl
   where
-    at : (v : Option Held) → held ≡ v → access_conflicts u.registry sender v writing ≡ is_kept_from keeps_from_writing v sender standing
+    at : (v : Option Held) → held ≡ v → access_conflicts u.registry sender v write_access ≡ is_kept_from keeps_from_writing v sender standing
     at None is = refl
     at (Some v) is = shut_out-writing u.registry sender standing v (kind_of v) (is_holder-standing s p held v sender standing u c m is) (out s p held sender standing u c m)
 
@@ -74,7 +75,7 @@ writes_conflict s p held sender standing u c m = ap (λ v. access_conflicts u.re
 pub record IsMove (p : Purpose) (kept in_range : Bool) (held : Option Held) (sender : ℕ) (standing : Standing) : Type 0 where
   numbered : HasNumber p
   conflicts : (s : Scope) (u : UnitState) (c : Command) → Meets s p held sender standing u c → conflicts_for s.keys u.registry sender p ≡ kept
-  faults : (u : State) → fault_for u sender p ≡ (if in_range then None else Some (illegal 0x21 0x00))
+  faults : (u : State) → fault_for u sender p ≡ (if in_range then None else Some (illegal LOGICAL_BLOCK_ADDRESS_OUT_OF_RANGE 0))
   stays : (keys : List ℕ) (u : State) → after_for keys u sender p ≡ u
   tells : (keys : List ℕ) (u : State) → change_for keys u sender p ≡ no_change
 
@@ -90,14 +91,14 @@ is_write kept in_range held sender standing is =
 
 module _ (hosts : ℕ) (p : Purpose) (kept in_range : Bool) (held : Option Held) (sender : ℕ) (standing : Standing) (is : IsMove p kept in_range held sender standing) where
   abbrev faulty : Bool → Option Sense
-  faulty b = if b then None else Some (illegal 0x21 0x00)
+  faulty b = if b then None else Some (illegal LOGICAL_BLOCK_ADDRESS_OUT_OF_RANGE 0)
 
   pub move_conflicts : kept ≡ true → AlwaysEnds hosts p held sender standing Conflict
   move_conflicts kept_out = record { ends = λ s u c alike m. conflict_ends s p held sender standing u c is.numbered m (is.conflicts s u c m ∙ kept_out); fits = tt }
 
-  pub move_fails : kept ≡ false → in_range ≡ false → AlwaysEnds hosts p held sender standing (Fault (illegal 0x21 0x00))
+  pub move_fails : kept ≡ false → in_range ≡ false → AlwaysEnds hosts p held sender standing (Fault (illegal LOGICAL_BLOCK_ADDRESS_OUT_OF_RANGE 0))
   move_fails free beyond = record {
-    ends = λ s u c alike m. fault_ends s p held sender standing u c (illegal 0x21 0x00) is.numbered m (is.conflicts s u c m ∙ free) (is.faults u.registry ∙ ap faulty beyond);
+    ends = λ s u c alike m. fault_ends s p held sender standing u c (illegal LOGICAL_BLOCK_ADDRESS_OUT_OF_RANGE 0) is.numbered m (is.conflicts s u c m ∙ free) (is.faults u.registry ∙ ap faulty beyond);
     fits = tt;
   }
 

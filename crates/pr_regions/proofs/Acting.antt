@@ -4,7 +4,7 @@ use Rattle.std.specs.FinSet as set
 use Rattle.pr_registry.specs.declared.change.Change.{Change as Told}
 use Rattle.pr_registry.specs.Registrations.{State, key_of}
 use Rattle.pr_attention.specs.Flagged.{codes_of}
-use Rattle.pr_unit.specs.UnitStates.{UnitState, told, is_pending}
+use Rattle.pr_unit.specs.UnitStates.{UnitState, pending_after, is_pending}
 use Rattle.pr_sets.specs.Words.{has}
 use Rattle.pr_views.specs.Possibilities.{Scope, key_at, number_of}
 use Rattle.pr_regions.specs.declared.region.Change.{Change}
@@ -30,7 +30,7 @@ pub record Acts (keys : List ℕ) (hosts from : ℕ) (c : Change) (u v : State) 
 
 -- the state of a unit once its registry is v and these are told
 abbrev pub then_in : UnitState → State → Told → UnitState
-then_in u v t = record { registry = v; pending = told u.pending t }
+then_in u v t = record { registry = v; pending = pending_after u.pending t }
 
 other_after : (s : Scope) (u v : State) (g r : ℕ) (b : Bool) → r ≤ length s.keys → key_of u g ≡ key_at s.keys r → key_of v g ≡ (if b then None else key_of u g)
     → ((if b then 0 else r) ≤ length s.keys) × (key_of v g ≡ key_at s.keys (if b then 0 else r))

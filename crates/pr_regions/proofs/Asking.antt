@@ -12,18 +12,19 @@ use Rattle.pr_cdb.specs.declared.command.Kind.{Kind}
 use Rattle.pr_cdb.specs.declared.command.Command.{Command}
 use Rattle.pr_cdb.specs.declared.command.Command.TheVariants as command
 use Rattle.pr_cdb.specs.declared.reply.Sense.{Sense}
+use Rattle.pr_cdb.specs.declared.codes.TheConstants.{LOGICAL_BLOCK_ADDRESS_OUT_OF_RANGE, INVALID_FIELD_IN_PARAMETER_LIST}
 use Rattle.pr_registry.specs.declared.change.Change.{Change}
 use Rattle.pr_registry.specs.Hosts.{has_no_registrant, is_key}
 use Rattle.pr_registry.specs.Registrations.{State, key_of, is_registered}
 use Rattle.pr_registry.specs.Changes.{no_change, conflicts_with_reserve, is_held_by_all, change_on_unregister, change_on_release, change_on_clear, change_on_preempt}
-use Rattle.pr_registry.specs.Effects.{registered, unregistered, reserved, released, cleared, preempted, after, change, after_register, change_on_register}
-use Rattle.pr_unit.specs.Conflicts.{access_conflicts, reading, writing, is_wrong_key, preempt_conflicts, command_conflicts}
+use Rattle.pr_registry.specs.Effects.{with_registration, without_registration, with_reservation, after_release, after_clear, after_preempt, after, change, after_register, change_on_register}
+use Rattle.pr_unit.specs.Conflicts.{access_conflicts, read_access, write_access, is_wrong_key, preempt_conflicts, command_conflicts}
 use Rattle.pr_unit.specs.declared.unit.TheConstants.{CAPACITY}
 use Rattle.pr_unit.specs.Faults.{illegal, release_fault, range_fault, preempt_fault, command_fault}
 use Rattle.pr_views.specs.Possibilities.{key_at}
 use Rattle.pr_regions.specs.declared.purpose.Purpose.{Purpose}
 use Rattle.pr_regions.specs.declared.purpose.Purpose.TheVariants.{Look, Read, Write, Register, Unregister, Reserve, Release, Clear, PreemptAll, Preempt}
-use Rattle.pr_regions.specs.Purposes.{number_in, is_in_range, registering, preempting, HasNumber, purpose_of, is_refused}
+use Rattle.pr_regions.specs.Purposes.{number_in, is_in_range, purpose_of_register, purpose_of_preempt, HasNumber, purpose_of, is_refused}
 
 -- the key of this number, if there is one
 abbrev pub key_named : List ℕ → ℕ → ℕ
@@ -32,8 +33,8 @@ key_named keys j = unwrap_or (key_at keys j) 0
 -- an accepted command of this purpose ends in RESERVATION CONFLICT
 abbrev pub conflicts_for : List ℕ → State → ℕ → Purpose → Bool
 conflicts_for keys u h Look = false
-conflicts_for keys u h (Read ranges) = access_conflicts u h u.held reading
-conflicts_for keys u h (Write ranges) = access_conflicts u h u.held writing
+conflicts_for keys u h (Read ranges) = access_conflicts u h u.held read_access
+conflicts_for keys u h (Write ranges) = access_conflicts u h u.held write_access
 conflicts_for keys u h (Register j) = false
 conflicts_for keys u h Unregister = false
 conflicts_for keys u h (Reserve t) = conflicts_with_reserve u h u.held t
@@ -45,14 +46,14 @@ conflicts_for keys u h (Preempt j t) = has_no_registrant u.keys (key_named keys 
 -- its own fault
 abbrev pub fault_for : State → ℕ → Purpose → Option Sense
 fault_for u h Look = None
-fault_for u h (Read ranges) = if ranges then None else Some (illegal 0x21 0x00)
-fault_for u h (Write ranges) = if ranges then None else Some (illegal 0x21 0x00)
+fault_for u h (Read ranges) = if ranges then None else Some (illegal LOGICAL_BLOCK_ADDRESS_OUT_OF_RANGE 0)
+fault_for u h (Write ranges) = if ranges then None else Some (illegal LOGICAL_BLOCK_ADDRESS_OUT_OF_RANGE 0)
 fault_for u h (Register j) = None
 fault_for u h Unregister = None
 fault_for u h (Reserve t) = None
 fault_for u h (Release t) = release_fault u h t
 fault_for u h Clear = None
-fault_for u h (PreemptAll t) = if not (is_held_by_all u.held) then Some (illegal 0x26 0x00) else None
+fault_for u h (PreemptAll t) = if not (is_held_by_all u.held) then Some (illegal INVALID_FIELD_IN_PARAMETER_LIST 0) else None
 fault_for u h (Preempt j t) = None
 
 -- the registry once it has ended GOOD
@@ -60,13 +61,13 @@ abbrev pub after_for : List ℕ → State → ℕ → Purpose → State
 after_for keys u h Look = u
 after_for keys u h (Read ranges) = u
 after_for keys u h (Write ranges) = u
-after_for keys u h (Register j) = registered u h (key_named keys j)
-after_for keys u h Unregister = if is_registered u h then unregistered u h else u
-after_for keys u h (Reserve t) = reserved u h t
-after_for keys u h (Release t) = released u h t
-after_for keys u h Clear = cleared u
-after_for keys u h (PreemptAll t) = preempted u h 0 (Some t)
-after_for keys u h (Preempt j t) = preempted u h (key_named keys j) (Some t)
+after_for keys u h (Register j) = with_registration u h (key_named keys j)
+after_for keys u h Unregister = if is_registered u h then without_registration u h else u
+after_for keys u h (Reserve t) = with_reservation u h t
+after_for keys u h (Release t) = after_release u h t
+after_for keys u h Clear = after_clear u
+after_for keys u h (PreemptAll t) = after_preempt u h 0 (Some t)
+after_for keys u h (Preempt j t) = after_preempt u h (key_named keys j) (Some t)
 
 -- whom it then removes and tells
 abbrev pub change_for : List ℕ → State → ℕ → Purpose → Change
@@ -157,13 +158,13 @@ named_as keys k n there = ap (λ o. unwrap_or o 0) there
 purpose_in : (p q : Purpose) → Some p ≡ Some q → p ≡ q
 purpose_in p q same = cc
 
-range : (lba blocks : ℕ) → range_fault lba blocks ≡ (if is_in_range lba blocks then None else Some (illegal 0x21 0x00))
+range : (lba blocks : ℕ) → range_fault lba blocks ≡ (if is_in_range lba blocks then None else Some (illegal LOGICAL_BLOCK_ADDRESS_OUT_OF_RANGE 0))
 range lba blocks = at (nat_le (lba + blocks) CAPACITY) (nat_lt CAPACITY (lba + blocks)) (turned (lba + blocks) CAPACITY)
   where
     turned : (a b : ℕ) → nat_lt b a ≡ not (nat_le a b)
     turned a b = grind (arith, nat_tests)
 
-    at : (within beyond : Bool) → beyond ≡ not within → (if beyond then Some (illegal 0x21 0x00) else None) ≡ (if within then None else Some (illegal 0x21 0x00))
+    at : (within beyond : Bool) → beyond ≡ not within → (if beyond then Some (illegal LOGICAL_BLOCK_ADDRESS_OUT_OF_RANGE 0) else None) ≡ (if within then None else Some (illegal LOGICAL_BLOCK_ADDRESS_OUT_OF_RANGE 0))
     at true beyond is = rw is refl
     at false beyond is = rw is refl
 
@@ -173,20 +174,20 @@ looks keys u h p same =
     (record { named = tt; owned = tt; conflicting = refl; faulty = refl; after = refl; change = refl })
 
 reads : (keys : List ℕ) (u : State) (h lba blocks : ℕ) (p : Purpose) → Some (Read (is_in_range lba blocks)) ≡ Some p
-    → IsAsked keys u h p (access_conflicts u h u.held reading) (range_fault lba blocks) u no_change
+    → IsAsked keys u h p (access_conflicts u h u.held read_access) (range_fault lba blocks) u no_change
 reads keys u h lba blocks p same =
-    subst (λ (q : Purpose). IsAsked keys u h q (access_conflicts u h u.held reading) (range_fault lba blocks) u no_change) (purpose_in (Read (is_in_range lba blocks)) p same)
+    subst (λ (q : Purpose). IsAsked keys u h q (access_conflicts u h u.held read_access) (range_fault lba blocks) u no_change) (purpose_in (Read (is_in_range lba blocks)) p same)
     (record { named = tt; owned = tt; conflicting = refl; faulty = range lba blocks; after = refl; change = refl })
 
 writes : (keys : List ℕ) (u : State) (h lba blocks : ℕ) (p : Purpose) → Some (Write (is_in_range lba blocks)) ≡ Some p
-    → IsAsked keys u h p (access_conflicts u h u.held writing) (range_fault lba blocks) u no_change
+    → IsAsked keys u h p (access_conflicts u h u.held write_access) (range_fault lba blocks) u no_change
 writes keys u h lba blocks p same =
-    subst (λ (q : Purpose). IsAsked keys u h q (access_conflicts u h u.held writing) (range_fault lba blocks) u no_change) (purpose_in (Write (is_in_range lba blocks)) p same)
+    subst (λ (q : Purpose). IsAsked keys u h q (access_conflicts u h u.held write_access) (range_fault lba blocks) u no_change) (purpose_in (Write (is_in_range lba blocks)) p same)
     (record { named = tt; owned = tt; conflicting = refl; faulty = range lba blocks; after = refl; change = refl })
 
-registers : (keys : List ℕ) (u : State) (h sark : ℕ) (p : Purpose) (conflicts : Bool) → HasNumber p → Some (registering keys sark) ≡ Some p → conflicts ≡ false
+registers : (keys : List ℕ) (u : State) (h sark : ℕ) (p : Purpose) (conflicts : Bool) → HasNumber p → Some (purpose_of_register keys sark) ≡ Some p → conflicts ≡ false
     → IsAsked keys u h p conflicts None (after_register u h sark) (change_on_register u h sark)
-registers keys u h sark p conflicts has same free = at (sark == 0) refl p has (purpose_in (registering keys sark) p same)
+registers keys u h sark p conflicts has same free = at (sark == 0) refl p has (purpose_in (purpose_of_register keys sark) p same)
   where
     at : (b : Bool) → (sark == 0) ≡ b → (p : Purpose) → HasNumber p → (if b then Unregister else Register (number_in keys sark)) ≡ p
         → IsAsked keys u h p conflicts None (after_register u h sark) (change_on_register u h sark)
@@ -197,7 +198,7 @@ registers keys u h sark p conflicts has same free = at (sark == 0) refl p has (p
           owned = tt;
           conflicting = free;
           faulty = refl;
-          after = ap (λ b. if b then (if is_registered u h then unregistered u h else u) else registered u h sark) zeroed;
+          after = ap (λ b. if b then (if is_registered u h then without_registration u h else u) else with_registration u h sark) zeroed;
           change = ap (λ b. if b && is_registered u h then change_on_unregister u h else no_change) zeroed;
         })
     at false other p has same =
@@ -211,7 +212,7 @@ registers keys u h sark p conflicts has same free = at (sark == 0) refl p has (p
           owned = tt;
           conflicting = free;
           faulty = refl;
-          after = ap (λ b. if b then (if is_registered u h then unregistered u h else u) else registered u h sark) other ∙ ap (registered u h) (sym key);
+          after = ap (λ b. if b then (if is_registered u h then without_registration u h else u) else with_registration u h sark) other ∙ ap (with_registration u h) (sym key);
           change = ap (λ b. if b && is_registered u h then change_on_unregister u h else no_change) other;
         })
 
@@ -227,49 +228,49 @@ accepts : (u : State) (h rk : ℕ) (rest : Bool) → not (is_key (key_of u h) rk
 accepts u h rk rest accepted = ap (λ b. b || rest) accepted
 
 reserves : (keys : List ℕ) (u : State) (h rk : ℕ) (t : Kind) (p : Purpose) → Some (Reserve t) ≡ Some p → not (is_key (key_of u h) rk) ≡ false
-    → IsAsked keys u h p (not (is_key (key_of u h) rk) || conflicts_with_reserve u h u.held t) None (reserved u h t) no_change
+    → IsAsked keys u h p (not (is_key (key_of u h) rk) || conflicts_with_reserve u h u.held t) None (with_reservation u h t) no_change
 reserves keys u h rk t p same accepted =
-    subst (λ (q : Purpose). IsAsked keys u h q (not (is_key (key_of u h) rk) || conflicts_with_reserve u h u.held t) None (reserved u h t) no_change) (purpose_in (Reserve t) p same)
+    subst (λ (q : Purpose). IsAsked keys u h q (not (is_key (key_of u h) rk) || conflicts_with_reserve u h u.held t) None (with_reservation u h t) no_change) (purpose_in (Reserve t) p same)
     (record { named = tt; owned = has_key u h rk accepted; conflicting = accepts u h rk (conflicts_with_reserve u h u.held t) accepted; faulty = refl; after = refl; change = refl })
 
 releases : (keys : List ℕ) (u : State) (h rk : ℕ) (t : Kind) (p : Purpose) → Some (Release t) ≡ Some p → not (is_key (key_of u h) rk) ≡ false
-    → IsAsked keys u h p (not (is_key (key_of u h) rk)) (release_fault u h t) (released u h t) (change_on_release u h t)
+    → IsAsked keys u h p (not (is_key (key_of u h) rk)) (release_fault u h t) (after_release u h t) (change_on_release u h t)
 releases keys u h rk t p same free =
-    subst (λ (q : Purpose). IsAsked keys u h q (not (is_key (key_of u h) rk)) (release_fault u h t) (released u h t) (change_on_release u h t)) (purpose_in (Release t) p same)
+    subst (λ (q : Purpose). IsAsked keys u h q (not (is_key (key_of u h) rk)) (release_fault u h t) (after_release u h t) (change_on_release u h t)) (purpose_in (Release t) p same)
     (record { named = tt; owned = has_key u h rk free; conflicting = free; faulty = refl; after = refl; change = refl })
 
 clears : (keys : List ℕ) (u : State) (h rk : ℕ) (p : Purpose) → Some Clear ≡ Some p → not (is_key (key_of u h) rk) ≡ false
-    → IsAsked keys u h p (not (is_key (key_of u h) rk)) None (cleared u) (change_on_clear u h)
+    → IsAsked keys u h p (not (is_key (key_of u h) rk)) None (after_clear u) (change_on_clear u h)
 clears keys u h rk p same free =
-    subst (λ (q : Purpose). IsAsked keys u h q (not (is_key (key_of u h) rk)) None (cleared u) (change_on_clear u h)) (purpose_in Clear p same)
+    subst (λ (q : Purpose). IsAsked keys u h q (not (is_key (key_of u h) rk)) None (after_clear u) (change_on_clear u h)) (purpose_in Clear p same)
     (record { named = tt; owned = has_key u h rk free; conflicting = free; faulty = refl; after = refl; change = refl })
 
-preempts : (keys : List ℕ) (u : State) (h rk sark : ℕ) (t : Kind) (p : Purpose) → HasNumber p → Some (preempting keys sark t) ≡ Some p → not (is_key (key_of u h) rk) ≡ false
-    → IsAsked keys u h p (not (is_key (key_of u h) rk) || (not (sark == 0) && has_no_registrant u.keys sark)) (preempt_fault u sark (Some t)) (preempted u h sark (Some t)) (change_on_preempt u h sark (Some t))
-preempts keys u h rk sark t p has same accepted = at (sark == 0) refl p has (purpose_in (preempting keys sark t) p same)
+preempts : (keys : List ℕ) (u : State) (h rk sark : ℕ) (t : Kind) (p : Purpose) → HasNumber p → Some (purpose_of_preempt keys sark t) ≡ Some p → not (is_key (key_of u h) rk) ≡ false
+    → IsAsked keys u h p (not (is_key (key_of u h) rk) || (not (sark == 0) && has_no_registrant u.keys sark)) (preempt_fault u sark (Some t)) (after_preempt u h sark (Some t)) (change_on_preempt u h sark (Some t))
+preempts keys u h rk sark t p has same accepted = at (sark == 0) refl p has (purpose_in (purpose_of_preempt keys sark t) p same)
   where
     free : preempt_conflicts u h rk sark ≡ (not (sark == 0) && has_no_registrant u.keys sark)
     free = accepts u h rk (not (sark == 0) && has_no_registrant u.keys sark) accepted
 
-    faults : (b : Bool) → (sark == 0) ≡ b → preempt_fault u sark (Some t) ≡ (if b && not (is_held_by_all u.held) then Some (illegal 0x26 0x00) else None)
-    faults b is = ap (λ z. if z && not (is_held_by_all u.held) then Some (illegal 0x26 0x00) else None) is
+    faults : (b : Bool) → (sark == 0) ≡ b → preempt_fault u sark (Some t) ≡ (if b && not (is_held_by_all u.held) then Some (illegal INVALID_FIELD_IN_PARAMETER_LIST 0) else None)
+    faults b is = ap (λ z. if z && not (is_held_by_all u.held) then Some (illegal INVALID_FIELD_IN_PARAMETER_LIST 0) else None) is
 
     at : (b : Bool) → (sark == 0) ≡ b → (p : Purpose) → HasNumber p → (if b then PreemptAll t else Preempt (number_in keys sark) t) ≡ p
-        → IsAsked keys u h p (preempt_conflicts u h rk sark) (preempt_fault u sark (Some t)) (preempted u h sark (Some t)) (change_on_preempt u h sark (Some t))
+        → IsAsked keys u h p (preempt_conflicts u h rk sark) (preempt_fault u sark (Some t)) (after_preempt u h sark (Some t)) (change_on_preempt u h sark (Some t))
     at true zeroed p has same =
         let zero_is : sark ≡ 0 = grind (arith, nat_tests) in
-        subst (λ (q : Purpose). IsAsked keys u h q (preempt_conflicts u h rk sark) (preempt_fault u sark (Some t)) (preempted u h sark (Some t)) (change_on_preempt u h sark (Some t))) same
+        subst (λ (q : Purpose). IsAsked keys u h q (preempt_conflicts u h rk sark) (preempt_fault u sark (Some t)) (after_preempt u h sark (Some t)) (change_on_preempt u h sark (Some t))) same
         (record {
           named = tt;
           owned = has_key u h rk accepted;
           conflicting = free ∙ ap (λ b. not b && has_no_registrant u.keys sark) zeroed;
           faulty = faults true zeroed;
-          after = ap (λ k. preempted u h k (Some t)) zero_is;
+          after = ap (λ k. after_preempt u h k (Some t)) zero_is;
           change = ap (λ k. change_on_preempt u h k (Some t)) zero_is;
         })
     at false other p has same =
         let n = number_in keys sark in
-        let P : Purpose → Type 0 = λ q. IsAsked keys u h q (preempt_conflicts u h rk sark) (preempt_fault u sark (Some t)) (preempted u h sark (Some t)) (change_on_preempt u h sark (Some t)) in
+        let P : Purpose → Type 0 = λ q. IsAsked keys u h q (preempt_conflicts u h rk sark) (preempt_fault u sark (Some t)) (after_preempt u h sark (Some t)) (change_on_preempt u h sark (Some t)) in
         let has_it : HasNumber (Preempt n t) = subst (λ (q : Purpose). HasNumber q) (sym same) has in
         let there = number_named keys sark n refl has_it.0 in
         let key = named_as keys sark n there.1 in
@@ -278,7 +279,7 @@ preempts keys u h rk sark t p has same accepted = at (sark == 0) refl p has (pur
           owned = has_key u h rk accepted;
           conflicting = free ∙ ap (λ b. not b && has_no_registrant u.keys sark) other ∙ ap (has_no_registrant u.keys) (sym key);
           faulty = faults false other;
-          after = ap (λ k. preempted u h k (Some t)) (sym key);
+          after = ap (λ k. after_preempt u h k (Some t)) (sym key);
           change = ap (λ k. change_on_preempt u h k (Some t)) (sym key);
         })
 

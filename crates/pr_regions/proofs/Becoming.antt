@@ -8,7 +8,7 @@ use Rattle.pr_registry.specs.declared.change.Change.{Change as Told}
 use Rattle.pr_registry.specs.Hosts.{Hosts, nobody, just, is_key}
 use Rattle.pr_registry.specs.Registrations.{State, key_of, is_registered, others, registrants, holds_alone}
 use Rattle.pr_registry.specs.Changes.{no_change, is_told_of_loss, is_released, change_on_unregister, change_on_release, change_on_clear}
-use Rattle.pr_registry.specs.Effects.{registered as register, unregistered, released, cleared}
+use Rattle.pr_registry.specs.Effects.{with_registration as register, without_registration, after_release, after_clear}
 use Rattle.pr_registry.proofs.Sets.{contains-nobody, contains-just, contains-remove, contains-hosts_in, get-insert, get-empty, get-without}
 use Rattle.pr_views.specs.Possibilities.{key_at, number_of}
 use Rattle.pr_regions.specs.declared.region.Change.{Change}
@@ -108,7 +108,7 @@ still keys hosts from u v same = record {
 }
 
 pub on_release : (keys : List ℕ) (hosts from : ℕ) (t : Kind) (u : State)
-    → Becomes keys hosts from None never (number_of hosts (released u from t).held) never (told_if (is_released u from t && is_told_of_loss u.held)) never u (released u from t) (change_on_release u from t)
+    → Becomes keys hosts from None never (number_of hosts (after_release u from t).held) never (told_if (is_released u from t && is_told_of_loss u.held)) never u (after_release u from t) (change_on_release u from t)
 on_release keys hosts from t u = record {
   sender = λ r is. record { known = is.known; key = is.key };
   others = λ g r other is. refl;
@@ -137,7 +137,7 @@ on_register keys hosts from j k u fits named = record {
   untold_05 = contains-nobody from;
 }
 
-pub on_clear : (keys : List ℕ) (hosts from : ℕ) (u : State) → Becomes keys hosts from (Some 0) registered 0 registered never never u (cleared u) (change_on_clear u from)
+pub on_clear : (keys : List ℕ) (hosts from : ℕ) (u : State) → Becomes keys hosts from (Some 0) registered 0 registered never never u (after_clear u) (change_on_clear u from)
 on_clear keys hosts from u = record {
   sender = λ r is. record { known = omega arith; key = get-empty from };
   others = λ g r other is. get-empty g ∙ none keys g r is;
@@ -158,7 +158,7 @@ on_clear keys hosts from u = record {
         not_zero i = grind (arith, nat_tests)
 
 pub on_unregister : (keys : List ℕ) (hosts from : ℕ) (u : State)
-    → Becomes keys hosts from (Some 0) never (number_of hosts (unregistered u from).held) never (told_if (holds_alone u.held from && is_told_of_loss u.held)) never u (unregistered u from) (change_on_unregister u from)
+    → Becomes keys hosts from (Some 0) never (number_of hosts (without_registration u from).held) never (told_if (holds_alone u.held from && is_told_of_loss u.held)) never u (without_registration u from) (change_on_unregister u from)
 on_unregister keys hosts from u = record {
   sender = λ r is. record {
     known = omega arith;

@@ -8,7 +8,7 @@ use Rattle.pr_cdb.specs.declared.command.Command.{Command}
 use Rattle.pr_registry.specs.declared.held.Held.{Held}
 use Rattle.pr_registry.specs.declared.held.Held.TheVariants.{One, All}
 use Rattle.pr_registry.specs.Hosts.{Keys, without, hosts_with, is_key, is_empty}
-use Rattle.pr_registry.specs.Registrations.{key_of, is_registered, established}
+use Rattle.pr_registry.specs.Registrations.{key_of, is_registered, new_reservation}
 use Rattle.pr_registry.specs.Changes.{is_kind, is_held_by_all}
 use Rattle.pr_registry.specs.Effects.{held_by_rest}
 use Rattle.pr_unit.specs.UnitStates.{UnitState}
@@ -173,7 +173,7 @@ own_unheld hosts j t sender standing goes has own does room = record {
 }
 
 pub own_single : (hosts j : ℕ) (t old : Kind) (h sender : ℕ) (standing : Standing) (change : Change) → HasNumber (Preempt j t) → is_named standing ≡ true → h ≡ sender
-    → Does change None (only j) (number_of hosts (Some (established t sender))) never (told_but (not (is_kind old t)) j) (only j) → HasRoom hosts (Good change)
+    → Does change None (only j) (number_of hosts (Some (new_reservation t sender))) never (told_but (not (is_kind old t)) j) (only j) → HasRoom hosts (Good change)
     → AlwaysEnds hosts (Preempt j t) (Some (One old h)) sender standing (Good change)
 own_single hosts j t old h sender standing change has own is does room = record {
   ends = λ s u c alike m.

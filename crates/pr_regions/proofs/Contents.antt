@@ -10,6 +10,7 @@ use Rattle.std.proofs.lemmas.List.Folds.{list_any-append}
 use Rattle.pr_cdb.specs.declared.command.Kind.{Kind}
 use Rattle.pr_cdb.specs.ReplyData.{keys_bytes, keys_in, reservation_bytes, holder, HasKey, holder_in, cut}
 use Rattle.pr_cdb.proofs.ReadsData.{keys_in-keys_bytes, holder_in-reservation_bytes}
+use Rattle.pr_cdb.specs.declared.codes.TheConstants.{MOST_NEXUSES}
 use Rattle.pr_registry.specs.Hosts.{map_where}
 use Rattle.pr_registry.specs.Registrations.{State, key_of, IsWellFormed}
 use Rattle.pr_registry.proofs.Sets.{same_keys, get-map_where}
@@ -88,7 +89,7 @@ all_keys u w = same_keys u.keys (map_where u.hosts (key_of u)) (λ q. at q (nat_
 values_of : (u : State) → IsWellFormed u → map.values u.keys ≡ KeysBelow u.hosts (key_of u)
 values_of u w = ap map.values (all_keys u w)
 
-few_values : (u : State) → IsWellFormed u → length (map.values u.keys) ≤ 8
+few_values : (u : State) → IsWellFormed u → length (map.values u.keys) ≤ MOST_NEXUSES
 few_values u w =
     let few = length-values u.hosts (key_of u) in
     let same = ap length (values_of u w) in

@@ -8,7 +8,7 @@ use Rattle.pr_cdb.specs.declared.command.Command.{Command}
 use Rattle.pr_registry.specs.declared.held.Held.{Held}
 use Rattle.pr_registry.specs.declared.held.Held.TheVariants.{One}
 use Rattle.pr_registry.specs.Hosts.{Keys, is_key}
-use Rattle.pr_registry.specs.Registrations.{HasHolder, key_of, established}
+use Rattle.pr_registry.specs.Registrations.{HasHolder, key_of, new_reservation}
 use Rattle.pr_registry.specs.Changes.{is_kind}
 use Rattle.pr_registry.specs.Effects.{held_by_rest}
 use Rattle.pr_unit.specs.UnitStates.{UnitState}
@@ -81,7 +81,7 @@ holder_is s j t old h sender standing u c b holder others test apart m leaves in
 -- the holder has the key
 pub holders_key : (hosts j : ℕ) (t old : Kind) (h sender : ℕ) (standing : Standing) (b : Branch) (change : Change) → HasNumber (Preempt j t) → h ≢ sender
     → Leaves b.region (only j) any None → b.ending ≡ Good change
-    → Does change None (only j) (number_of hosts (Some (established t sender))) never (told_but (not (is_kind old t)) j) (only j) → HasRoom hosts (Good change)
+    → Does change None (only j) (number_of hosts (Some (new_reservation t sender))) never (told_but (not (is_kind old t)) j) (only j) → HasRoom hosts (Good change)
     → EndsIn hosts (Preempt j t) (held_by old h) sender standing b
 holders_key hosts j t old h sender standing b change has apart leaves ending does room = record {
   ends = λ s u c alike m inside.

@@ -12,7 +12,7 @@ use Rattle.pr_cdb.specs.declared.command.Command.{Command}
 use Rattle.pr_registry.specs.declared.held.Held.{Held}
 use Rattle.pr_registry.specs.declared.held.Held.TheVariants.{One, All}
 use Rattle.pr_registry.specs.Hosts.{Keys, Hosts, nobody, without, hosts_with, is_key, has_no_registrant, is_empty}
-use Rattle.pr_registry.specs.Registrations.{State, IsKey, key_of, is_registered, established}
+use Rattle.pr_registry.specs.Registrations.{State, IsKey, key_of, is_registered, new_reservation}
 use Rattle.pr_registry.specs.Changes.{ReplacesAll, ReplacesHolder, RemovesKey, preempt_case, is_kind}
 use Rattle.pr_registry.specs.Effects.{held_by_rest}
 use Rattle.pr_registry.proofs.Sets.{same_hosts, contains-nobody, contains-hosts_with, get-without, is_empty_from_none, not_empty_from_some}
@@ -176,16 +176,16 @@ removes keys (Some (All t)) k nonzero other = ap (λ b. if b then ReplacesAll el
 -- the key is a single holder's
 pub replaced_ends : (s : Scope) (hosts j : ℕ) (t old : Kind) (h : ℕ) (held : Option Held) (sender : ℕ) (standing : Standing) (u : UnitState) (c : Command) (change : Change) → HasNumber (Preempt j t)
     → Meets s (Preempt j t) held sender standing u c → s.hosts ≡ hosts → held ≡ Some (One old h) → key_of u.registry h ≡ Some (key_named s.keys j)
-    → Does change None (only j) (number_of hosts (Some (established t sender))) never (told_but (not (is_kind old t)) j) (only j) → Ends s sender (Good change) u c
+    → Does change None (only j) (number_of hosts (Some (new_reservation t sender))) never (told_but (not (is_kind old t)) j) (only j) → Ends s sender (Good change) u c
 replaced_ends s hosts j t old h held sender standing u c change has m alike is key does =
     let k = key_named s.keys j in
     let keys = keys_of s j t held sender standing u c has m in
-    let now = number_of s.hosts (Some (established t sender)) in
+    let now = number_of s.hosts (Some (new_reservation t sender)) in
     let tells = told_but (not (is_kind old t)) j in
     let case : preempt_case u.registry.keys u.registry.held k ≡ ReplacesHolder old =
     ap (λ v. preempt_case u.registry.keys v k) (m.held ∙ is) ∙ ap (λ b. if b then ReplacesHolder old else RemovesKey) (ap (λ o. is_key o k) key ∙ same_itself k) in
     good_ends s (Preempt j t) held sender standing u c None (only j) now never tells (only j) change has m (somebodys u.registry.keys h k key) refl
-    (leaves change None (only j) (number_of hosts (Some (established t sender))) now never tells (only j) (ap (λ n. number_of n (Some (established t sender))) (sym alike)) does)
+    (leaves change None (only j) (number_of hosts (Some (new_reservation t sender))) now never tells (only j) (ap (λ n. number_of n (Some (new_reservation t sender))) (sym alike)) does)
     (in_case s.keys s.hosts sender None (only j) now never tells (only j) u.registry k t (ReplacesHolder old) case
     (on_preempt_holder s.keys s.hosts sender j k t old u.registry keys.once keys.fits keys.named))
 

@@ -9,7 +9,7 @@ use Rattle.pr_registry.specs.declared.held.Held.TheVariants.{One, All}
 use Rattle.pr_registry.specs.Hosts.{just, without, is_empty}
 use Rattle.pr_registry.specs.Registrations.{State, key_of, is_registered, holds_alone}
 use Rattle.pr_registry.specs.Changes.{is_held_by_all, is_told_of_loss, no_change, change_on_unregister}
-use Rattle.pr_registry.specs.Effects.{held_by_rest, unregistered}
+use Rattle.pr_registry.specs.Effects.{held_by_rest, without_registration}
 use Rattle.pr_registry.proofs.Sets.{contains-just, get-without, is_empty_from_none, not_empty_from_some}
 use Rattle.pr_unit.specs.UnitStates.{UnitState}
 use Rattle.pr_views.specs.Possibilities.{Scope, Registration, IsSo, number_of}
@@ -67,7 +67,7 @@ no_rest s p held sender standing u c m nobody = is_empty_from_none (without u.re
     at q (inr other) = get-rest_other u.registry sender q other.1 ∙ keyless s p held sender standing u c q m (λ r so. nobody q r other.1 so)
 
 -- a reservation that is not of all registrants stands, unless the sender holds it alone
-held_without : (u : State) (h : ℕ) → is_held_by_all u.held ≡ false → (unregistered u h).held ≡ (if holds_alone u.held h then None else u.held)
+held_without : (u : State) (h : ℕ) → is_held_by_all u.held ≡ false → (without_registration u h).held ≡ (if holds_alone u.held h then None else u.held)
 held_without u h other = at u.held other
   where
     at : (v : Option Held) → is_held_by_all v ≡ false → (if holds_alone v h then None else held_by_rest (without u.keys (just h)) v) ≡ (if holds_alone v h then None else v)
@@ -75,7 +75,7 @@ held_without u h other = at u.held other
     at (Some (One t g)) other = refl
     at (Some (All t)) other = absurd (false≢true (sym other))
 
-held_by_some : (u : State) (h : ℕ) → is_held_by_all u.held ≡ true → is_empty (without u.keys (just h)) ≡ false → (unregistered u h).held ≡ u.held
+held_by_some : (u : State) (h : ℕ) → is_held_by_all u.held ≡ true → is_empty (without u.keys (just h)) ≡ false → (without_registration u h).held ≡ u.held
 held_by_some u h all some = at u.held all
   where
     at : (v : Option Held) → is_held_by_all v ≡ true → (if holds_alone v h then None else held_by_rest (without u.keys (just h)) v) ≡ v
@@ -83,7 +83,7 @@ held_by_some u h all some = at u.held all
     at (Some (One t g)) all = absurd (false≢true all)
     at (Some (All t)) all = ap (λ b. if b then None else Some (All t)) some
 
-held_by_none : (u : State) (h : ℕ) → is_held_by_all u.held ≡ true → is_empty (without u.keys (just h)) ≡ true → (unregistered u h).held ≡ None
+held_by_none : (u : State) (h : ℕ) → is_held_by_all u.held ≡ true → is_empty (without u.keys (just h)) ≡ true → (without_registration u h).held ≡ None
 held_by_none u h all none = at u.held all
   where
     at : (v : Option Held) → is_held_by_all v ≡ true → (if holds_alone v h then None else held_by_rest (without u.keys (just h)) v) ≡ None
@@ -104,23 +104,23 @@ unregister_absent hosts held sender standing change absent does room = record {
   ends = λ s u c alike m.
       let out : is_registered u.registry sender ≡ false = registered_or_not s Unregister held sender standing u c m ∙ ap not absent in
       same_ends s Unregister held sender standing u c hosts change tt m alike refl refl
-      (ap (λ b. if b then unregistered u.registry sender else u.registry) out) (ap (λ b. if b then change_on_unregister u.registry sender else no_change) out) does;
+      (ap (λ b. if b then without_registration u.registry sender else u.registry) out) (ap (λ b. if b then change_on_unregister u.registry sender else no_change) out) does;
   fits = room;
 }
 
 -- a registrant that unregisters, by what is left
 unregister_ends : (s : Scope) (held : Option Held) (sender : ℕ) (standing : Standing) (u : UnitState) (c : Command) (left : ℕ) (told : Bool) (change : Change)
     → Meets s Unregister held sender standing u c → is_unregistered standing ≡ false
-    → left ≡ number_of s.hosts (unregistered u.registry sender).held → told ≡ (holds_alone u.registry.held sender && is_told_of_loss u.registry.held)
+    → left ≡ number_of s.hosts (without_registration u.registry sender).held → told ≡ (holds_alone u.registry.held sender && is_told_of_loss u.registry.held)
     → Does change (Some 0) never left never (told_if told) never → Ends s sender (Good change) u c
 unregister_ends s held sender standing u c left told change m present leaves_it tells does =
     let there : is_registered u.registry sender ≡ true = registered_or_not s Unregister held sender standing u c m ∙ ap not present in
-    let now = number_of s.hosts (unregistered u.registry sender).held in
+    let now = number_of s.hosts (without_registration u.registry sender).held in
     let b = holds_alone u.registry.held sender && is_told_of_loss u.registry.held in
     let known = on_unregister s.keys s.hosts sender u.registry in
     let so : Becomes s.keys s.hosts sender (Some 0) never now never (told_if b) never u.registry (after_for s.keys u.registry sender Unregister) (change_for s.keys u.registry sender Unregister) =
     let P : Bool → Type 0 =
-    λ x. Becomes s.keys s.hosts sender (Some 0) never now never (told_if b) never u.registry (if x then unregistered u.registry sender else u.registry) (if x then change_on_unregister u.registry sender else no_change) in
+    λ x. Becomes s.keys s.hosts sender (Some 0) never now never (told_if b) never u.registry (if x then without_registration u.registry sender else u.registry) (if x then change_on_unregister u.registry sender else no_change) in
     subst P (sym there) known in
     good_ends s Unregister held sender standing u c (Some 0) never now never (told_if b) never change tt m refl refl
     (record {

@@ -5,9 +5,9 @@ use Rattle.std.specs.FinMap as map
 use Rattle.pr_cdb.specs.declared.command.Kind.{Kind}
 use Rattle.pr_registry.specs.declared.change.Change.{Change as Told}
 use Rattle.pr_registry.specs.Hosts.{Hosts, nobody, hosts_in, hosts_with, without}
-use Rattle.pr_registry.specs.Registrations.{State, key_of, others, established}
+use Rattle.pr_registry.specs.Registrations.{State, key_of, others, new_reservation}
 use Rattle.pr_registry.specs.Changes.{Case, ReplacesAll, ReplacesHolder, RemovesKey, no_change, is_kind, preempt_case, removed_by_preempt, is_new_type, change_on_preempt}
-use Rattle.pr_registry.specs.Effects.{next, held_by_rest, held_after_preempt, preempted}
+use Rattle.pr_registry.specs.Effects.{next, held_by_rest, held_after_preempt, after_preempt}
 use Rattle.pr_registry.proofs.Sets.{contains-nobody, contains-remove, contains-difference, contains-hosts_with, get-without}
 use Rattle.pr_views.specs.Possibilities.{key_at, number_of}
 use Rattle.pr_regions.specs.inside.Parts.{never, registered, told_but, lost_if}
@@ -32,7 +32,7 @@ told_as u h k t case =
 
 pub in_case : (keys : List ℕ) (hosts from : ℕ) (to : Option ℕ) (out : ℕ → Bool) (left : ℕ) (t3 t4 t5 : ℕ → Bool) (u : State) (k : ℕ) (t : Kind) (case : Case)
     → preempt_case u.keys u.held k ≡ case → Becomes keys hosts from to out left t3 t4 t5 u (preempted_as u from k t case) (told_as u from k t case)
-    → Becomes keys hosts from to out left t3 t4 t5 u (preempted u from k (Some t)) (change_on_preempt u from k (Some t))
+    → Becomes keys hosts from to out left t3 t4 t5 u (after_preempt u from k (Some t)) (change_on_preempt u from k (Some t))
 in_case keys hosts from to out left t3 t4 t5 u k t case is becomes =
     subst (λ (x : Case). Becomes keys hosts from to out left t3 t4 t5 u (preempted_as u from k t x) (told_as u from k t x)) (sym is) becomes
 
@@ -50,7 +50,7 @@ with_key keys u g r j k once fits named is = contains-hosts_with u.keys k g ∙ 
 -- ---- all others
 
 pub on_preempt_all : (keys : List ℕ) (hosts from : ℕ) (t : Kind) (u : State)
-    → Becomes keys hosts from None registered (number_of hosts (Some (established t from))) never never registered u (preempted_as u from 0 t ReplacesAll) (told_as u from 0 t ReplacesAll)
+    → Becomes keys hosts from None registered (number_of hosts (Some (new_reservation t from))) never never registered u (preempted_as u from 0 t ReplacesAll) (told_as u from 0 t ReplacesAll)
 on_preempt_all keys hosts from t u = record {
   sender = λ r is. record { known = is.known; key = without_some u (set.remove (hosts_in u.keys) from) from false (not_itself (hosts_in u.keys) from) ∙ is.key };
   others = λ g r other is. without_some u (set.remove (hosts_in u.keys) from) g (registered r) (all_but g r other is);
@@ -89,7 +89,7 @@ untold_itself u k from true =
 untold_itself u k from false = contains-nobody from
 
 pub on_preempt_holder : (keys : List ℕ) (hosts from j k : ℕ) (t held : Kind) (u : State) → AreDistinct keys → j ≤ length keys → key_at keys j ≡ Some k
-    → Becomes keys hosts from None (λ r. r == j) (number_of hosts (Some (established t from))) never (told_but (not (is_kind held t)) j) (λ r. r == j)
+    → Becomes keys hosts from None (λ r. r == j) (number_of hosts (Some (new_reservation t from))) never (told_but (not (is_kind held t)) j) (λ r. r == j)
     u (preempted_as u from k t (ReplacesHolder held)) (told_as u from k t (ReplacesHolder held))
 on_preempt_holder keys hosts from j k t held u once fits named = record {
   sender = λ r is. record { known = is.known; key = without_some u (others_with u k from) from false (not_itself (hosts_with u.keys k) from) ∙ is.key };

@@ -3,12 +3,13 @@ use Rattle.std.proofs.Common.{◌≡◌, ℕ, true, false, ◌&&◌, not, if◌t
 use Rattle.std.proofs.lemmas.Bool.{false≢true}
 use Rattle.pr_cdb.specs.declared.command.Kind.{Kind}
 use Rattle.pr_cdb.specs.declared.command.Command.{Command}
+use Rattle.pr_cdb.specs.declared.codes.TheConstants.{INVALID_FIELD_IN_PARAMETER_LIST, INVALID_RELEASE_OF_PERSISTENT_RESERVATION}
 use Rattle.pr_registry.specs.declared.held.Held.{Held}
 use Rattle.pr_registry.specs.declared.held.Held.TheVariants.{One, All}
 use Rattle.pr_registry.specs.Hosts.{Keys}
-use Rattle.pr_registry.specs.Registrations.{is_holder_of, kind_of, established, is_for_registrants}
+use Rattle.pr_registry.specs.Registrations.{is_holder_of, kind_of, new_reservation, is_for_registrants}
 use Rattle.pr_registry.specs.Changes.{ReplacesAll, preempt_case, is_kind, is_held_as, conflicts_with_reserve, is_released, is_told_of_loss, is_held_by_all}
-use Rattle.pr_registry.specs.Effects.{held_or, reserved, released}
+use Rattle.pr_registry.specs.Effects.{held_or, with_reservation, after_release}
 use Rattle.pr_unit.specs.UnitStates.{UnitState}
 use Rattle.pr_unit.specs.Faults.{illegal, release_fault}
 use Rattle.pr_views.specs.Possibilities.{Scope, number_of}
@@ -41,15 +42,15 @@ register_good hosts j held sender standing change has does room = record {
 -- ---- RESERVE
 
 pub reserve_new : (hosts : ℕ) (t : Kind) (held : Option Held) (sender : ℕ) (standing : Standing) (change : Change) → held ≡ None
-    → Does change None never (number_of hosts (Some (established t sender))) never never never → HasRoom hosts (Good change) → AlwaysEnds hosts (Reserve t) held sender standing (Good change)
+    → Does change None never (number_of hosts (Some (new_reservation t sender))) never never never → HasRoom hosts (Good change) → AlwaysEnds hosts (Reserve t) held sender standing (Good change)
 reserve_new hosts t held sender standing change free does room = record {
   ends = λ s u c alike m.
       let none : u.registry.held ≡ None = m.held ∙ free in
-      let now = number_of s.hosts (held_or u.registry.held (established t sender)) in
-      let left : number_of hosts (Some (established t sender)) ≡ now = λ i. number_of (sym alike i) (held_or (sym none i) (established t sender)) in
+      let now = number_of s.hosts (held_or u.registry.held (new_reservation t sender)) in
+      let left : number_of hosts (Some (new_reservation t sender)) ≡ now = λ i. number_of (sym alike i) (held_or (sym none i) (new_reservation t sender)) in
       good_ends s (Reserve t) held sender standing u c None never now never never never change tt m (ap (λ v. conflicts_with_reserve u.registry sender v t) none) refl
-      (leaves change None never (number_of hosts (Some (established t sender))) now never never never left does)
-      (still s.keys s.hosts sender u.registry (reserved u.registry sender t) (λ g. refl));
+      (leaves change None never (number_of hosts (Some (new_reservation t sender))) now never never never left does)
+      (still s.keys s.hosts sender u.registry (with_reservation u.registry sender t) (λ g. refl));
   fits = room;
 }
 
@@ -66,12 +67,12 @@ pub reserve_same : (hosts : ℕ) (t : Kind) (held : Option Held) (v : Held) (sen
 reserve_same hosts t held v sender standing change is holder same does room = record {
   ends = λ s u c alike m.
       let stands : u.registry.held ≡ Some v = m.held ∙ is in
-      let now = number_of s.hosts (held_or u.registry.held (established t sender)) in
-      let left : number_of hosts (Some v) ≡ now = λ i. number_of (sym alike i) (held_or (sym stands i) (established t sender)) in
+      let now = number_of s.hosts (held_or u.registry.held (new_reservation t sender)) in
+      let left : number_of hosts (Some v) ≡ now = λ i. number_of (sym alike i) (held_or (sym stands i) (new_reservation t sender)) in
       good_ends s (Reserve t) held sender standing u c None never now never never never change tt m
       (in_the_way s t held v sender standing u c m is ∙ (λ i. not (holder i && same i))) refl
       (leaves change None never (number_of hosts (Some v)) now never never never left does)
-      (still s.keys s.hosts sender u.registry (reserved u.registry sender t) (λ g. refl));
+      (still s.keys s.hosts sender u.registry (with_reservation u.registry sender t) (λ g. refl));
   fits = room;
 }
 
@@ -91,9 +92,9 @@ releases s t held v sender standing u c m is =
     λ i. is_holder-standing s (Release t) held v sender standing u c m is i && is_held_as ((m.held ∙ is) i) t
 
 release_faults : (s : Scope) (t : Kind) (held : Option Held) (v : Held) (sender : ℕ) (standing : Standing) (u : UnitState) (c : Command) → Meets s (Release t) held sender standing u c
-    → held ≡ Some v → release_fault u.registry sender t ≡ (if holds v sender standing && not (is_kind (kind_of v) t) then Some (illegal 0x26 0x04) else None)
+    → held ≡ Some v → release_fault u.registry sender t ≡ (if holds v sender standing && not (is_kind (kind_of v) t) then Some (illegal INVALID_FIELD_IN_PARAMETER_LIST INVALID_RELEASE_OF_PERSISTENT_RESERVATION) else None)
 release_faults s t held v sender standing u c m is =
-    λ i. if is_holder-standing s (Release t) held v sender standing u c m is i && not (is_held_as ((m.held ∙ is) i) t) then Some (illegal 0x26 0x04) else None
+    λ i. if is_holder-standing s (Release t) held v sender standing u c m is i && not (is_held_as ((m.held ∙ is) i) t) then Some (illegal INVALID_FIELD_IN_PARAMETER_LIST INVALID_RELEASE_OF_PERSISTENT_RESERVATION) else None
 
 -- no reservation stands, or the sender does not hold it
 release_nothing : (s : Scope) (t : Kind) (held : Option Held) (sender : ℕ) (standing : Standing) (u : UnitState) (c : Command) (hosts : ℕ) (change : Change)
@@ -101,7 +102,7 @@ release_nothing : (s : Scope) (t : Kind) (held : Option Held) (sender : ℕ) (st
     → Does change None never (number_of hosts held) never never never
     → Ends s sender (Good change) u c
 release_nothing s t held sender standing u c hosts change m alike kept whole does =
-    let now = number_of s.hosts (released u.registry sender t).held in
+    let now = number_of s.hosts (after_release u.registry sender t).held in
     let stays : number_of hosts held ≡ now = (λ i. number_of (sym alike i) (sym m.held i)) ∙ ap (λ b. number_of s.hosts (if b then None else u.registry.held)) (sym kept) in
     let none : (r : ℕ) → told_if (is_released u.registry sender t && is_told_of_loss u.registry.held) r ≡ never r = λ r. ap (λ b. told_if (b && is_told_of_loss u.registry.held) r) kept in
     good_ends s (Release t) held sender standing u c None never now never (told_if (is_released u.registry sender t && is_told_of_loss u.registry.held)) never change tt m refl whole
@@ -122,7 +123,7 @@ release_none hosts t held sender standing change free does room = record {
       let none : u.registry.held ≡ None = m.held ∙ free in
       release_nothing s t held sender standing u c hosts change m alike
       (λ i. is_holder_of u.registry.keys (none i) sender && is_held_as (none i) t)
-      (λ i. if is_holder_of u.registry.keys (none i) sender && not (is_held_as (none i) t) then Some (illegal 0x26 0x04) else None)
+      (λ i. if is_holder_of u.registry.keys (none i) sender && not (is_held_as (none i) t) then Some (illegal INVALID_FIELD_IN_PARAMETER_LIST INVALID_RELEASE_OF_PERSISTENT_RESERVATION) else None)
       (leaves change None never (number_of hosts None) (number_of hosts held) never never never (ap (number_of hosts) (sym free)) does);
   fits = room;
 }
@@ -133,16 +134,16 @@ release_others hosts t held v sender standing change is other does room = record
   ends = λ s u c alike m.
       release_nothing s t held sender standing u c hosts change m alike
       (releases s t held v sender standing u c m is ∙ ap (λ b. b && is_kind (kind_of v) t) other)
-      (release_faults s t held v sender standing u c m is ∙ ap (λ b. if b && not (is_kind (kind_of v) t) then Some (illegal 0x26 0x04) else None) other)
+      (release_faults s t held v sender standing u c m is ∙ ap (λ b. if b && not (is_kind (kind_of v) t) then Some (illegal INVALID_FIELD_IN_PARAMETER_LIST INVALID_RELEASE_OF_PERSISTENT_RESERVATION) else None) other)
       (leaves change None never (number_of hosts (Some v)) (number_of hosts held) never never never (ap (number_of hosts) (sym is)) does);
   fits = room;
 }
 
 pub release_fault_ends : (hosts : ℕ) (t : Kind) (held : Option Held) (v : Held) (sender : ℕ) (standing : Standing) → held ≡ Some v → holds v sender standing ≡ true → is_kind (kind_of v) t ≡ false
-    → AlwaysEnds hosts (Release t) held sender standing (Fault (illegal 0x26 0x04))
+    → AlwaysEnds hosts (Release t) held sender standing (Fault (illegal INVALID_FIELD_IN_PARAMETER_LIST INVALID_RELEASE_OF_PERSISTENT_RESERVATION))
 release_fault_ends hosts t held v sender standing is holder other = record {
-  ends = λ s u c alike m. fault_ends s (Release t) held sender standing u c (illegal 0x26 0x04) tt m refl
-      (release_faults s t held v sender standing u c m is ∙ (λ i. if holder i && not (other i) then Some (illegal 0x26 0x04) else None));
+  ends = λ s u c alike m. fault_ends s (Release t) held sender standing u c (illegal INVALID_FIELD_IN_PARAMETER_LIST INVALID_RELEASE_OF_PERSISTENT_RESERVATION) tt m refl
+      (release_faults s t held v sender standing u c m is ∙ (λ i. if holder i && not (other i) then Some (illegal INVALID_FIELD_IN_PARAMETER_LIST INVALID_RELEASE_OF_PERSISTENT_RESERVATION) else None));
   fits = tt;
 }
 
@@ -151,11 +152,11 @@ pub release_good : (hosts : ℕ) (t : Kind) (held : Option Held) (v : Held) (sen
 release_good hosts t held v sender standing change is holder same does room = record {
   ends = λ s u c alike m.
       let ended : is_released u.registry sender t ≡ true = releases s t held v sender standing u c m is ∙ (λ i. holder i && same i) in
-      let now = number_of s.hosts (released u.registry sender t).held in
+      let now = number_of s.hosts (after_release u.registry sender t).held in
       let none : 0 ≡ now = ap (λ b. number_of s.hosts (if b then None else u.registry.held)) (sym ended) in
       let tells : (is_released u.registry sender t && is_told_of_loss u.registry.held) ≡ is_for_registrants (kind_of v) = λ i. ended i && is_told_of_loss ((m.held ∙ is) i) in
       good_ends s (Release t) held sender standing u c None never now never (told_if (is_released u.registry sender t && is_told_of_loss u.registry.held)) never change tt m refl
-      (release_faults s t held v sender standing u c m is ∙ (λ i. if holder i && not (same i) then Some (illegal 0x26 0x04) else None))
+      (release_faults s t held v sender standing u c m is ∙ (λ i. if holder i && not (same i) then Some (illegal INVALID_FIELD_IN_PARAMETER_LIST INVALID_RELEASE_OF_PERSISTENT_RESERVATION) else None))
       (record {
         sender = does.sender;
         removed = does.removed;
@@ -180,10 +181,10 @@ clear_good hosts held sender standing change does room = record {
 -- ---- PREEMPT of all others
 
 pub preempt_all_fault : (hosts : ℕ) (t : Kind) (held : Option Held) (sender : ℕ) (standing : Standing) → is_held_by_all held ≡ false
-    → AlwaysEnds hosts (PreemptAll t) held sender standing (Fault (illegal 0x26 0x00))
+    → AlwaysEnds hosts (PreemptAll t) held sender standing (Fault (illegal INVALID_FIELD_IN_PARAMETER_LIST 0))
 preempt_all_fault hosts t held sender standing other = record {
-  ends = λ s u c alike m. fault_ends s (PreemptAll t) held sender standing u c (illegal 0x26 0x00) tt m refl
-      (ap (λ v. if not (is_held_by_all v) then Some (illegal 0x26 0x00) else None) m.held ∙ ap (λ b. if not b then Some (illegal 0x26 0x00) else None) other);
+  ends = λ s u c alike m. fault_ends s (PreemptAll t) held sender standing u c (illegal INVALID_FIELD_IN_PARAMETER_LIST 0) tt m refl
+      (ap (λ v. if not (is_held_by_all v) then Some (illegal INVALID_FIELD_IN_PARAMETER_LIST 0) else None) m.held ∙ ap (λ b. if not b then Some (illegal INVALID_FIELD_IN_PARAMETER_LIST 0) else None) other);
   fits = tt;
 }
 
@@ -194,15 +195,15 @@ replaces_all keys (Some (One t g)) is = absurd (false≢true is)
 replaces_all keys (Some (All t)) is = refl
 
 pub preempt_all_good : (hosts : ℕ) (t : Kind) (held : Option Held) (sender : ℕ) (standing : Standing) (change : Change) → is_held_by_all held ≡ true
-    → Does change None registered (number_of hosts (Some (established t sender))) never never registered → HasRoom hosts (Good change) → AlwaysEnds hosts (PreemptAll t) held sender standing (Good change)
+    → Does change None registered (number_of hosts (Some (new_reservation t sender))) never never registered → HasRoom hosts (Good change) → AlwaysEnds hosts (PreemptAll t) held sender standing (Good change)
 preempt_all_good hosts t held sender standing change is does room = record {
   ends = λ s u c alike m.
       let stands : is_held_by_all u.registry.held ≡ true = ap is_held_by_all m.held ∙ is in
-      let left : number_of hosts (Some (established t sender)) ≡ number_of s.hosts (Some (established t sender)) = ap (λ n. number_of n (Some (established t sender))) (sym alike) in
-      good_ends s (PreemptAll t) held sender standing u c None registered (number_of s.hosts (Some (established t sender))) never never registered change tt m refl
-      (ap (λ b. if not b then Some (illegal 0x26 0x00) else None) stands)
-      (leaves change None registered (number_of hosts (Some (established t sender))) (number_of s.hosts (Some (established t sender))) never never registered left does)
-      (in_case s.keys s.hosts sender None registered (number_of s.hosts (Some (established t sender))) never never registered u.registry 0 t ReplacesAll
+      let left : number_of hosts (Some (new_reservation t sender)) ≡ number_of s.hosts (Some (new_reservation t sender)) = ap (λ n. number_of n (Some (new_reservation t sender))) (sym alike) in
+      good_ends s (PreemptAll t) held sender standing u c None registered (number_of s.hosts (Some (new_reservation t sender))) never never registered change tt m refl
+      (ap (λ b. if not b then Some (illegal INVALID_FIELD_IN_PARAMETER_LIST 0) else None) stands)
+      (leaves change None registered (number_of hosts (Some (new_reservation t sender))) (number_of s.hosts (Some (new_reservation t sender))) never never registered left does)
+      (in_case s.keys s.hosts sender None registered (number_of s.hosts (Some (new_reservation t sender))) never never registered u.registry 0 t ReplacesAll
       (replaces_all u.registry.keys u.registry.held stands) (on_preempt_all s.keys s.hosts sender t u.registry));
   fits = room;
 }

@@ -5,12 +5,13 @@ use Rattle.std.specs.FinSet as set
 use Rattle.std.proofs.lemmas.Bool.Decides.{nat_tests, eqb_tells}
 use Rattle.std.proofs.lemmas.Nat.{or_lt}
 use Rattle.std.proofs.lemmas.Nat.Bits.{bit_at_or, bit_at-lt}
+use Rattle.pr_cdb.specs.declared.codes.TheConstants.{POWER_ON, RESERVATIONS_PREEMPTED, RESERVATIONS_RELEASED, REGISTRATIONS_PREEMPTED}
 use Rattle.pr_attention.specs.Attentions.{is_attention}
 use Rattle.pr_attention.specs.Flagged.{codes_of, place_of}
 use Rattle.pr_attention.proofs.Bits.{contains-codes_of}
 use Rattle.pr_registry.specs.declared.change.Change.{Change}
 use Rattle.pr_unit.specs.Attentions.{Pairs, each_with, reservations_preempted, reservations_released, registrations_preempted}
-use Rattle.pr_unit.specs.UnitStates.{told}
+use Rattle.pr_unit.specs.UnitStates.{pending_after}
 use Rattle.pr_unit.proofs.Pairs.{contains-union-pairs, contains-each_with}
 use Rattle.pr_regions.specs.Regions.{flag}
 
@@ -20,7 +21,7 @@ is_pending_after was a b c code =
     ((was || (a && code == reservations_preempted)) || (b && code == reservations_released)) || (c && code == registrations_preempted)
 
 pub contains-told : (pending : Pairs) (t : Change) (h code : ℕ)
-    → set.contains (told pending t) (h, code) ≡ is_pending_after (set.contains pending (h, code)) (set.contains t.told_03 h) (set.contains t.told_04 h) (set.contains t.told_05 h) code
+    → set.contains (pending_after pending t) (h, code) ≡ is_pending_after (set.contains pending (h, code)) (set.contains t.told_03 h) (set.contains t.told_04 h) (set.contains t.told_05 h) code
 contains-told pending t h code =
     let e3 = each_with t.told_03 reservations_preempted in
     let e4 = each_with t.told_04 reservations_released in
@@ -114,41 +115,41 @@ told_05_adds false false false false = refl
 abbrev Agrees : ℕ → Bool → Bool → Bool → ℕ → Type 0
 Agrees q a b c k = (is_attention k && (bit_at (bit_or q (flags a b c)) (place_of k) == 1)) ≡ is_pending_after (is_attention k && (bit_at q (place_of k) == 1)) a b c k
 
-at_power_on : (q : ℕ) (a b c : Bool) → Agrees q a b c 0x2900
+at_power_on : (q : ℕ) (a b c : Bool) → Agrees q a b c POWER_ON
 at_power_on q a b c = bit_after q (flags a b c) 0 false (bits_of a b c).at_0 ∙ power_on_stays (bit_at q 0 == 1) a b c
 
-at_03 : (q : ℕ) (a b c : Bool) → Agrees q a b c 0x2a03
+at_03 : (q : ℕ) (a b c : Bool) → Agrees q a b c RESERVATIONS_PREEMPTED
 at_03 q a b c = bit_after q (flags a b c) 1 a (bits_of a b c).at_1 ∙ told_03_adds (bit_at q 1 == 1) a b c
 
-at_04 : (q : ℕ) (a b c : Bool) → Agrees q a b c 0x2a04
+at_04 : (q : ℕ) (a b c : Bool) → Agrees q a b c RESERVATIONS_RELEASED
 at_04 q a b c = bit_after q (flags a b c) 2 b (bits_of a b c).at_2 ∙ told_04_adds (bit_at q 2 == 1) a b c
 
-at_05 : (q : ℕ) (a b c : Bool) → Agrees q a b c 0x2a05
+at_05 : (q : ℕ) (a b c : Bool) → Agrees q a b c REGISTRATIONS_PREEMPTED
 at_05 q a b c = bit_after q (flags a b c) 3 c (bits_of a b c).at_3 ∙ told_05_adds (bit_at q 3 == 1) a b c
 
-at_none : (q : ℕ) (a b c : Bool) (k : ℕ) → (k == 0x2900) ≡ false → (k == 0x2a03) ≡ false → (k == 0x2a04) ≡ false → (k == 0x2a05) ≡ false → Agrees q a b c k
+at_none : (q : ℕ) (a b c : Bool) (k : ℕ) → (k == POWER_ON) ≡ false → (k == RESERVATIONS_PREEMPTED) ≡ false → (k == RESERVATIONS_RELEASED) ≡ false → (k == REGISTRATIONS_PREEMPTED) ≡ false → Agrees q a b c k
 at_none q a b c k not_29 not_03 not_04 not_05 =
     let unknown : is_attention k ≡ false = rw (not_29, not_03, not_04, not_05) refl in
     rw unknown (rw (not_03, not_04, not_05) (power_on_stays false a b c))
 
 at_code : (q : ℕ) (a b c : Bool) (k : ℕ) → Agrees q a b c k
-at_code q a b c k = by_29 (eqb_tells k 0x2900)
+at_code q a b c k = by_29 (eqb_tells k POWER_ON)
   where
-    by_05 : (k == 0x2900) ≡ false → (k == 0x2a03) ≡ false → (k == 0x2a04) ≡ false → (((k == 0x2a05) ≡ true) × (k ≡ 0x2a05)) ⊎ (((k == 0x2a05) ≡ false) × (k ≢ 0x2a05)) → Agrees q a b c k
+    by_05 : (k == POWER_ON) ≡ false → (k == RESERVATIONS_PREEMPTED) ≡ false → (k == RESERVATIONS_RELEASED) ≡ false → (((k == REGISTRATIONS_PREEMPTED) ≡ true) × (k ≡ REGISTRATIONS_PREEMPTED)) ⊎ (((k == REGISTRATIONS_PREEMPTED) ≡ false) × (k ≢ REGISTRATIONS_PREEMPTED)) → Agrees q a b c k
     by_05 not_29 not_03 not_04 (inl is) = subst (λ n. Agrees q a b c n) (sym is.1) (at_05 q a b c)
     by_05 not_29 not_03 not_04 (inr other) = at_none q a b c k not_29 not_03 not_04 other.0
 
-    by_04 : (k == 0x2900) ≡ false → (k == 0x2a03) ≡ false → (((k == 0x2a04) ≡ true) × (k ≡ 0x2a04)) ⊎ (((k == 0x2a04) ≡ false) × (k ≢ 0x2a04)) → Agrees q a b c k
+    by_04 : (k == POWER_ON) ≡ false → (k == RESERVATIONS_PREEMPTED) ≡ false → (((k == RESERVATIONS_RELEASED) ≡ true) × (k ≡ RESERVATIONS_RELEASED)) ⊎ (((k == RESERVATIONS_RELEASED) ≡ false) × (k ≢ RESERVATIONS_RELEASED)) → Agrees q a b c k
     by_04 not_29 not_03 (inl is) = subst (λ n. Agrees q a b c n) (sym is.1) (at_04 q a b c)
-    by_04 not_29 not_03 (inr other) = by_05 not_29 not_03 other.0 (eqb_tells k 0x2a05)
+    by_04 not_29 not_03 (inr other) = by_05 not_29 not_03 other.0 (eqb_tells k REGISTRATIONS_PREEMPTED)
 
-    by_03 : (k == 0x2900) ≡ false → (((k == 0x2a03) ≡ true) × (k ≡ 0x2a03)) ⊎ (((k == 0x2a03) ≡ false) × (k ≢ 0x2a03)) → Agrees q a b c k
+    by_03 : (k == POWER_ON) ≡ false → (((k == RESERVATIONS_PREEMPTED) ≡ true) × (k ≡ RESERVATIONS_PREEMPTED)) ⊎ (((k == RESERVATIONS_PREEMPTED) ≡ false) × (k ≢ RESERVATIONS_PREEMPTED)) → Agrees q a b c k
     by_03 not_29 (inl is) = subst (λ n. Agrees q a b c n) (sym is.1) (at_03 q a b c)
-    by_03 not_29 (inr other) = by_04 not_29 other.0 (eqb_tells k 0x2a04)
+    by_03 not_29 (inr other) = by_04 not_29 other.0 (eqb_tells k RESERVATIONS_RELEASED)
 
-    by_29 : (((k == 0x2900) ≡ true) × (k ≡ 0x2900)) ⊎ (((k == 0x2900) ≡ false) × (k ≢ 0x2900)) → Agrees q a b c k
+    by_29 : (((k == POWER_ON) ≡ true) × (k ≡ POWER_ON)) ⊎ (((k == POWER_ON) ≡ false) × (k ≢ POWER_ON)) → Agrees q a b c k
     by_29 (inl is) = subst (λ n. Agrees q a b c n) (sym is.1) (at_power_on q a b c)
-    by_29 (inr other) = by_03 other.0 (eqb_tells k 0x2a03)
+    by_29 (inr other) = by_03 other.0 (eqb_tells k RESERVATIONS_PREEMPTED)
 
 -- the codes of the number once told
 pub contains-codes_told : (q : ℕ) (a b c : Bool) (code : ℕ) → set.contains (codes_of (bit_or q (flags a b c))) code ≡ is_pending_after (set.contains (codes_of q) code) a b c code

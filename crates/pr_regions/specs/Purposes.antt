@@ -9,6 +9,7 @@ use Rattle.pr_unit.specs.declared.unit.TheConstants.{CAPACITY}
 use Rattle.pr_registry.specs.Hosts.{is_key}
 use Rattle.pr_script.specs.Grammar.{is_written_key}
 use Rattle.pr_unit.specs.Conflicts.{is_wrong_key}
+use Rattle.pr_roles.specs.declared.limits.TheConstants.{MOST_KEYS}
 use Rattle.pr_regions.specs.declared.purpose.Purpose.{Purpose}
 use Rattle.pr_regions.specs.declared.purpose.Purpose.TheVariants.{Look, Read, Write, Register, Unregister, Reserve, Release, Clear, PreemptAll, Preempt}
 
@@ -17,42 +18,42 @@ abbrev pub number_in : List ℕ → ℕ → ℕ
 number_in keys k = option_map_or suc (position (λ key. key == k) keys) 0
 
 -- the number of the key that it names, or 0
-abbrev pub named : Purpose → ℕ
-named Look = 0
-named (Read ranges) = 0
-named (Write ranges) = 0
-named (Register j) = j
-named Unregister = 0
-named (Reserve kind) = 0
-named (Release kind) = 0
-named Clear = 0
-named (PreemptAll kind) = 0
-named (Preempt j kind) = j
+abbrev pub key_named : Purpose → ℕ
+key_named Look = 0
+key_named (Read ranges) = 0
+key_named (Write ranges) = 0
+key_named (Register j) = j
+key_named Unregister = 0
+key_named (Reserve kind) = 0
+key_named (Release kind) = 0
+key_named Clear = 0
+key_named (PreemptAll kind) = 0
+key_named (Preempt j kind) = j
 
 -- the key that it names, if it names one, has a number: there are at most 12
 abbrev pub HasNumber : Purpose → Type 0
 HasNumber Look = Unit {0}
 HasNumber (Read ranges) = Unit {0}
 HasNumber (Write ranges) = Unit {0}
-HasNumber (Register j) = (1 ≤ j) × (j ≤ 12)
+HasNumber (Register j) = (1 ≤ j) × (j ≤ MOST_KEYS)
 HasNumber Unregister = Unit {0}
 HasNumber (Reserve kind) = Unit {0}
 HasNumber (Release kind) = Unit {0}
 HasNumber Clear = Unit {0}
 HasNumber (PreemptAll kind) = Unit {0}
-HasNumber (Preempt j kind) = (1 ≤ j) × (j ≤ 12)
+HasNumber (Preempt j kind) = (1 ≤ j) × (j ≤ MOST_KEYS)
 
 -- the blocks are among those of the unit
 abbrev pub is_in_range : ℕ → ℕ → Bool
 is_in_range lba blocks = nat_le (lba + blocks) CAPACITY
 
 -- REGISTER of the key zero unregisters
-abbrev pub registering : List ℕ → ℕ → Purpose
-registering keys sark = if sark == 0 then Unregister else Register (number_in keys sark)
+abbrev pub purpose_of_register : List ℕ → ℕ → Purpose
+purpose_of_register keys sark = if sark == 0 then Unregister else Register (number_in keys sark)
 
 -- PREEMPT of the key zero is of all other registrations
-abbrev pub preempting : List ℕ → ℕ → Kind → Purpose
-preempting keys sark kind = if sark == 0 then PreemptAll kind else Preempt (number_in keys sark) kind
+abbrev pub purpose_of_preempt : List ℕ → ℕ → Kind → Purpose
+purpose_of_preempt keys sark kind = if sark == 0 then PreemptAll kind else Preempt (number_in keys sark) kind
 
 -- A PREEMPT without a type has none: no role permits it, and no text writes it.
 abbrev pub purpose_of : List ℕ → Command → Option Purpose
@@ -63,13 +64,13 @@ purpose_of keys (command.Write lba blocks) = Some (Write (is_in_range lba blocks
 purpose_of keys (command.ReadKeys alloc) = Some Look
 purpose_of keys (command.ReadReservation alloc) = Some Look
 purpose_of keys (command.ReportCapabilities alloc) = Some Look
-purpose_of keys (command.Register rk sark) = Some (registering keys sark)
-purpose_of keys (command.RegisterIgnore sark) = Some (registering keys sark)
+purpose_of keys (command.Register rk sark) = Some (purpose_of_register keys sark)
+purpose_of keys (command.RegisterIgnore sark) = Some (purpose_of_register keys sark)
 purpose_of keys (command.Reserve rk kind) = Some (Reserve kind)
 purpose_of keys (command.Release rk kind) = Some (Release kind)
 purpose_of keys (command.Clear rk) = Some Clear
-purpose_of keys (command.Preempt rk sark kind) = option_map (λ t. preempting keys sark t) kind
-purpose_of keys (command.PreemptAbort rk sark kind) = option_map (λ t. preempting keys sark t) kind
+purpose_of keys (command.Preempt rk sark kind) = option_map (λ t. purpose_of_preempt keys sark t) kind
+purpose_of keys (command.PreemptAbort rk sark kind) = option_map (λ t. purpose_of_preempt keys sark t) kind
 
 -- the key that it registers or preempts is zero or declared
 abbrev pub names_written : List ℕ → Command → Bool

@@ -9,6 +9,7 @@ use Rattle.pr_registry.specs.Registrations.{key_of}
 use Rattle.pr_unit.specs.UnitStates.{UnitState, IsWellFormed, effect}
 use Rattle.pr_unit.specs.Conflicts.{command_conflicts}
 use Rattle.pr_unit.specs.Faults.{command_fault}
+use Rattle.pr_roles.specs.declared.limits.TheConstants.{MOST_KEYS}
 use Rattle.pr_sets.specs.declared.word.Word.{Word}
 use Rattle.pr_sets.specs.Words.{has}
 use Rattle.pr_views.specs.Possibilities.{Scope, IsScope, Registration, Reservation, Attentions, IsSo, count_of_reservations}
@@ -127,4 +128,4 @@ IsProper b = IsUntestedOrRegistered b.region.somebody
 abbrev pub HasRoom : ℕ → Ending → Type 0
 HasRoom hosts Conflict = Unit {0}
 HasRoom hosts (Fault sense) = Unit {0}
-HasRoom hosts (Good change) = (unwrap_or change.sender 0 ≤ 12) × (change.reservation < count_of_reservations hosts)
+HasRoom hosts (Good change) = (unwrap_or change.sender 0 ≤ MOST_KEYS) × (change.reservation < count_of_reservations hosts)

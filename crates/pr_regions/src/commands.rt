@@ -4,7 +4,8 @@ ghost use Rattle.std.specs.Prelude.{◌≡◌, ◌≤◌, ◌==◌, IsTrue, IsSo
 ghost use Rattle.pr_registry.specs.Hosts.{is_key};
 ghost use Rattle.pr_script.specs.Grammar.{is_written_key};
 ghost use Rattle.pr_unit.specs.Conflicts.{is_wrong_key};
-ghost use Rattle.pr_regions.specs.Purposes.{number_in, is_in_range, registering, preempting, purpose_of, named, HasNumber, names_written, is_refused};
+ghost use Rattle.pr_roles.specs.declared.limits.TheConstants.{MOST_KEYS};
+ghost use Rattle.pr_regions.specs.Purposes.{number_in, is_in_range, purpose_of_register, purpose_of_preempt, purpose_of, key_named, HasNumber, names_written, is_refused};
 ghost use Rattle.pr_regions.specs.Regions.{names, standing_of};
 
 use crate::purpose::{Purpose, Standing};
@@ -20,10 +21,10 @@ fn place_in(keys: &[u64], key: u64) -> Option<usize>
 
 // The number of a declared key, from 1.
 pub(crate) fn number_in(keys: &[u64], key: u64) -> u8
-    requires { length keys.now ≤ 12 }
+    requires { length keys.now ≤ MOST_KEYS }
     ensures number { result ≡ number_in keys.now key }
     ensures known { result ≤ length keys.now }
-    ensures most { result ≤ 12 }
+    ensures most { result ≤ MOST_KEYS }
 {
     match place_in(keys, key) {
         Some(place) => place as u8 + 1,
@@ -38,11 +39,11 @@ fn is_in_range(lba: u32, blocks: u16) -> bool
     u64::from(lba) + u64::from(blocks) <= CAPACITY
 }
 
-fn registering(keys: &[u64], sark: u64) -> Purpose
-    requires { length keys.now ≤ 12 }
-    ensures purpose { result ≡ registering keys.now sark }
+fn purpose_of_register(keys: &[u64], sark: u64) -> Purpose
+    requires { length keys.now ≤ MOST_KEYS }
+    ensures purpose { result ≡ purpose_of_register keys.now sark }
     ensures number { IsTrue (is_written_key keys.now sark) → HasNumber result }
-    ensures known { named result ≤ length keys.now }
+    ensures known { key_named result ≤ length keys.now }
 {
     if sark == 0 {
         Purpose::Unregister
@@ -51,11 +52,11 @@ fn registering(keys: &[u64], sark: u64) -> Purpose
     }
 }
 
-fn preempting(keys: &[u64], sark: u64, kind: Kind) -> Purpose
-    requires { length keys.now ≤ 12 }
-    ensures purpose { result ≡ preempting keys.now sark kind }
+fn purpose_of_preempt(keys: &[u64], sark: u64, kind: Kind) -> Purpose
+    requires { length keys.now ≤ MOST_KEYS }
+    ensures purpose { result ≡ purpose_of_preempt keys.now sark kind }
     ensures number { IsTrue (is_written_key keys.now sark) → HasNumber result }
-    ensures known { named result ≤ length keys.now }
+    ensures known { key_named result ≤ length keys.now }
 {
     if sark == 0 {
         Purpose::PreemptAll(kind)
@@ -66,11 +67,11 @@ fn preempting(keys: &[u64], sark: u64, kind: Kind) -> Purpose
 
 /// What a command asks for. A PREEMPT has a type.
 pub fn purpose_of(command: Command, keys: &[u64]) -> Purpose
-    requires few { length keys.now ≤ 12 }
+    requires few { length keys.now ≤ MOST_KEYS }
     requires typed { IsSome (purpose_of keys.now command) }
     ensures purpose { Some result ≡ purpose_of keys.now command }
     ensures number { IsTrue (names_written keys.now command) → HasNumber result }
-    ensures known { named result ≤ length keys.now }
+    ensures known { key_named result ≤ length keys.now }
 {
     match command {
         Command::TestUnitReady
@@ -80,8 +81,8 @@ pub fn purpose_of(command: Command, keys: &[u64]) -> Purpose
         | Command::ReportCapabilities { .. } => Purpose::Look,
         Command::Read { lba, blocks } => Purpose::Read(is_in_range(lba, blocks)),
         Command::Write { lba, blocks } => Purpose::Write(is_in_range(lba, blocks)),
-        Command::Register { sark, .. } => registering(keys, sark),
-        Command::RegisterIgnore { sark } => registering(keys, sark),
+        Command::Register { sark, .. } => purpose_of_register(keys, sark),
+        Command::RegisterIgnore { sark } => purpose_of_register(keys, sark),
         Command::Reserve { kind, .. } => Purpose::Reserve(kind),
         Command::Release { kind, .. } => Purpose::Release(kind),
         Command::Clear { .. } => Purpose::Clear,
@@ -89,12 +90,12 @@ pub fn purpose_of(command: Command, keys: &[u64]) -> Purpose
             sark,
             kind: Some(kind),
             ..
-        } => preempting(keys, sark, kind),
+        } => purpose_of_preempt(keys, sark, kind),
         Command::PreemptAbort {
             sark,
             kind: Some(kind),
             ..
-        } => preempting(keys, sark, kind),
+        } => purpose_of_preempt(keys, sark, kind),
         Command::Preempt { .. } | Command::PreemptAbort { .. } => unreachable!(),
     }
 }

@@ -2,6 +2,7 @@
 
 ghost use Rattle.std.specs.Prelude.{◌≡◌, ◌≤◌, ◌<◌, IsTrue};
 ghost use Rattle.std.specs.List.{All};
+ghost use Rattle.pr_cdb.specs.declared.codes.TheConstants.{MOST_NEXUSES};
 ghost use Rattle.pr_roles.specs.Fitting.{is_reservation};
 ghost use Rattle.pr_regions.specs.Purposes.{HasNumber};
 ghost use Rattle.pr_regions.specs.Regions.{AreBranches, IsProper, HasRoom};
@@ -28,7 +29,7 @@ pub fn branches(
     sender: u8,
     standing: Standing,
 ) -> ArrayVec<Branch, 3>
-    requires few { hosts ≤ 8 }
+    requires few { hosts ≤ MOST_NEXUSES }
     requires there { sender < hosts }
     requires number { HasNumber purpose }
     requires reservation { IsTrue (is_reservation hosts held) }
@@ -46,7 +47,7 @@ fn told(
     sender: u8,
     standing: Standing,
 ) -> ArrayVec<Branch, 3>
-    requires few { hosts ≤ 8 }
+    requires few { hosts ≤ MOST_NEXUSES }
     requires there { sender < hosts }
     requires number { HasNumber purpose }
     requires reservation { IsTrue (is_reservation hosts held) }

@@ -1,6 +1,7 @@
 //! How the commands end whose ending does not depend on who else is registered.
 
 ghost use Rattle.std.specs.Prelude.{◌≡◌, ◌≤◌, ◌<◌, ℕ, IsTrue, None, Option};
+ghost use Rattle.pr_cdb.specs.declared.codes.TheConstants.{MOST_NEXUSES};
 ghost use Rattle.pr_registry.specs.declared.held.Held.{Held as HeldOf};
 ghost use Rattle.pr_registry.specs.Registrations.{kind_of, is_for_registrants};
 ghost use Rattle.pr_registry.specs.Changes.{is_kind, is_held_by_all};
@@ -11,10 +12,14 @@ ghost use Rattle.pr_regions.specs.Purposes.{HasNumber};
 ghost use Rattle.pr_regions.specs.Regions.{HasRoom};
 ghost use Rattle.pr_regions.specs.inside.Parts.{Does, AlwaysEnds, never, told_if, holds, keeps_from_reading, keeps_from_writing, is_kept_from};
 
-use crate::numbers::{established, reservation_number};
+use crate::numbers::{new_reservation, reservation_number};
 use crate::purpose::{Purpose, Standing};
 use crate::region::{Change, Ending};
 use crate::words::registered;
+use pr_cdb::codes::{
+    ILLEGAL_REQUEST, INVALID_FIELD_IN_PARAMETER_LIST, INVALID_RELEASE_OF_PERSISTENT_RESERVATION,
+    LOGICAL_BLOCK_ADDRESS_OUT_OF_RANGE,
+};
 use pr_cdb::{Kind, Sense};
 use pr_registry::Held;
 use pr_sets::Word;
@@ -23,7 +28,11 @@ use pr_sets::Word;
 fn illegal(asc: u8, ascq: u8) -> Sense
     ensures { result ≡ illegal asc ascq }
 {
-    Sense { key: 5, asc, ascq }
+    Sense {
+        key: ILLEGAL_REQUEST,
+        asc,
+        ascq,
+    }
 }
 
 // The type of a reservation.
@@ -84,7 +93,7 @@ pub(crate) fn leaving(reservation: u8) -> Change
 
 // No change while this reservation stands.
 pub(crate) fn unchanged(hosts: u8, held: Option<Held>) -> Change
-    requires few { hosts ≤ 8 }
+    requires few { hosts ≤ MOST_NEXUSES }
     requires fits { IsTrue (is_reservation hosts held) }
     ensures change { Does result None never (number_of hosts held) never never never }
     ensures room { HasRoom hosts (Ending.Good result) }
@@ -94,7 +103,7 @@ pub(crate) fn unchanged(hosts: u8, held: Option<Held>) -> Change
 
 /// To look.
 pub(crate) fn looking(hosts: u8, held: Option<Held>) -> Ending
-    requires few { hosts ≤ 8 }
+    requires few { hosts ≤ MOST_NEXUSES }
     requires fits { IsTrue (is_reservation hosts held) }
     ensures { (sender : ℕ) (standing : Standing) → AlwaysEnds hosts Purpose.Look held sender standing result }
 {
@@ -135,7 +144,7 @@ pub(crate) fn keeps_from_writing(held: Option<Held>, sender: u8, standing: Stand
 
 /// To read or to write blocks, from which the reservation keeps the sender or not.
 pub(crate) fn moving(hosts: u8, is_kept: bool, in_range: bool, held: Option<Held>) -> Ending
-    requires few { hosts ≤ 8 }
+    requires few { hosts ≤ MOST_NEXUSES }
     requires fits { IsTrue (is_reservation hosts held) }
     ensures reading { (sender : ℕ) (standing : Standing) → is_kept ≡ is_kept_from keeps_from_reading held sender standing → AlwaysEnds hosts (Purpose.Read in_range) held sender standing result }
     ensures writing { (sender : ℕ) (standing : Standing) → is_kept ≡ is_kept_from keeps_from_writing held sender standing → AlwaysEnds hosts (Purpose.Write in_range) held sender standing result }
@@ -145,13 +154,13 @@ pub(crate) fn moving(hosts: u8, is_kept: bool, in_range: bool, held: Option<Held
     } else if in_range {
         Ending::Good(unchanged(hosts, held))
     } else {
-        Ending::Fault(illegal(0x21, 0x00))
+        Ending::Fault(illegal(LOGICAL_BLOCK_ADDRESS_OUT_OF_RANGE, 0))
     }
 }
 
 /// To be registered with the key of this number.
 pub(crate) fn registering(hosts: u8, key: u8, held: Option<Held>) -> Ending
-    requires few { hosts ≤ 8 }
+    requires few { hosts ≤ MOST_NEXUSES }
     requires fits { IsTrue (is_reservation hosts held) }
     requires key { HasNumber (Purpose.Register key) }
     ensures { (sender : ℕ) (standing : Standing) → AlwaysEnds hosts (Purpose.Register key) held sender standing result }
@@ -170,13 +179,13 @@ pub(crate) fn reserving(
     sender: u8,
     standing: Standing,
 ) -> Ending
-    requires few { hosts ≤ 8 }
+    requires few { hosts ≤ MOST_NEXUSES }
     requires there { sender < hosts }
     requires fits { IsTrue (is_reservation hosts held) }
     ensures { AlwaysEnds hosts (Purpose.Reserve kind) held sender standing result }
 {
     let Some(held) = held else {
-        return Ending::Good(unchanged(hosts, Some(established(kind, sender))));
+        return Ending::Good(unchanged(hosts, Some(new_reservation(kind, sender))));
     };
     if holds(held, sender, standing) && is_kind(kind_of(held), kind) {
         Ending::Good(unchanged(hosts, Some(held)))
@@ -204,7 +213,7 @@ pub(crate) fn releasing(
     sender: u8,
     standing: Standing,
 ) -> Ending
-    requires few { hosts ≤ 8 }
+    requires few { hosts ≤ MOST_NEXUSES }
     requires fits { IsTrue (is_reservation hosts held) }
     ensures { AlwaysEnds hosts (Purpose.Release kind) held sender standing result }
 {
@@ -216,7 +225,10 @@ pub(crate) fn releasing(
     } else if is_kind(kind_of(held), kind) {
         Ending::Good(released(kind_of(held)))
     } else {
-        Ending::Fault(illegal(0x26, 0x04))
+        Ending::Fault(illegal(
+            INVALID_FIELD_IN_PARAMETER_LIST,
+            INVALID_RELEASE_OF_PERSISTENT_RESERVATION,
+        ))
     }
 }
 
@@ -234,16 +246,16 @@ pub(crate) fn clearing() -> Ending
 
 /// To preempt all other registrations.
 pub(crate) fn preempting_all(hosts: u8, kind: Kind, held: Option<Held>, sender: u8) -> Ending
-    requires few { hosts ≤ 8 }
+    requires few { hosts ≤ MOST_NEXUSES }
     requires there { sender < hosts }
     ensures { (standing : Standing) → AlwaysEnds hosts (Purpose.PreemptAll kind) held sender standing result }
 {
     if !is_held_by_all(held) {
-        return Ending::Fault(illegal(0x26, 0x00));
+        return Ending::Fault(illegal(INVALID_FIELD_IN_PARAMETER_LIST, 0));
     }
     Ending::Good(Change {
         removed: registered(),
         told_05: registered(),
-        ..unchanged(hosts, Some(established(kind, sender)))
+        ..unchanged(hosts, Some(new_reservation(kind, sender)))
     })
 }

@@ -4,8 +4,10 @@ ghost use Rattle.std.specs.Prelude.{◌≡◌, ◌≤◌, ℕ, Option, length, t
 ghost use Rattle.std.specs.List.{All};
 ghost use Rattle.pr_cdb.specs.declared.command.Command.{Command as CommandOf};
 ghost use Rattle.pr_registry.specs.declared.held.Held.{Held};
+ghost use Rattle.pr_script.specs.declared.limits.TheConstants.{MOST_ARMS};
 ghost use Rattle.pr_script.specs.declared.grammar.TheConstants.{WRITTEN_LENGTH};
 ghost use Rattle.pr_script.specs.Grammar.{test_fits};
+ghost use Rattle.pr_roles.specs.declared.limits.TheConstants.{MOST_KEYS};
 ghost use Rattle.pr_regions.specs.Readings.{AreReadings, IsProperReading};
 ghost use Rattle.pr_regions.specs.inside.Reads.{IsAsked, HasFewer, open_to};
 
@@ -38,7 +40,7 @@ impl Default for Reading {
 }
 
 fn asked_by(test: Test, keys: &[u64], registration: u8) -> Ask
-    requires few { length keys.now ≤ 12 }
+    requires few { length keys.now ≤ MOST_KEYS }
     requires fits { test_fits keys.now (Command.ReadKeys WRITTEN_LENGTH) test ≡ true }
     ensures asked { (hosts : ℕ) (held : Option Held) (sender : ℕ) → IsAsked keys.now hosts held sender registration (Command.ReadKeys WRITTEN_LENGTH) test result }
     ensures small { HasFewer result }
@@ -71,8 +73,8 @@ fn open_to(left: Word) -> Region
 
 /// Which arm takes the data of READ KEYS, region by region.
 pub(crate) fn key_readings(tests: &[Test], keys: &[u64], registration: u8) -> ArrayVec<Reading, 17>
-    requires few { length keys.now ≤ 12 }
-    requires arms { length tests.now ≤ 16 }
+    requires few { length keys.now ≤ MOST_KEYS }
+    requires arms { length tests.now ≤ MOST_ARMS }
     requires fits { All (λ test. test_fits keys.now (Command.ReadKeys WRITTEN_LENGTH) test ≡ true) tests.now }
     ensures right { (hosts : ℕ) (held : Option Held) (sender : ℕ)
         → AreReadings keys.now hosts tests.now (Command.ReadKeys WRITTEN_LENGTH) held sender registration result.items }

@@ -1,7 +1,8 @@
 //! The numbers of reservations.
 
 ghost use Rattle.std.specs.Prelude.{true, false, ◌≡◌, ◌≤◌, ◌<◌, ◌+◌, ◌*◌, IsTrue, IfSome, Some, None};
-ghost use Rattle.pr_registry.specs.Registrations.{established, is_all};
+ghost use Rattle.pr_cdb.specs.declared.codes.TheConstants.{MOST_NEXUSES};
+ghost use Rattle.pr_registry.specs.Registrations.{new_reservation, is_all};
 ghost use Rattle.pr_roles.specs.Fitting.{is_reservation};
 ghost use Rattle.pr_views.specs.Possibilities.{place_of, number_of, count_of_reservations};
 
@@ -23,7 +24,7 @@ fn place_of(kind: Kind) -> u8
 
 /// The number of a reservation: 0 for none, then types 1, 3, 5 and 6, each by its holder, then 7 and 8.
 pub fn reservation_number(hosts: u8, held: Option<Held>) -> u8
-    requires few { hosts ≤ 8 }
+    requires few { hosts ≤ MOST_NEXUSES }
     requires fits { IsTrue (is_reservation hosts held) }
     ensures number { result ≡ number_of hosts held }
     ensures below { result < count_of_reservations hosts }
@@ -36,8 +37,8 @@ pub fn reservation_number(hosts: u8, held: Option<Held>) -> u8
 }
 
 /// The reservation of this type that a nexus establishes.
-pub(crate) fn established(kind: Kind, host: u8) -> Held
-    ensures { result ≡ established kind host }
+pub(crate) fn new_reservation(kind: Kind, host: u8) -> Held
+    ensures { result ≡ new_reservation kind host }
 {
     if is_all(kind) {
         Held::All(kind)
@@ -76,7 +77,7 @@ fn shared_kind(place: u8) -> Kind
 /// The reservation of this number.
 pub fn reservation_at(hosts: u8, number: u8) -> Option<Held>
     requires some { 1 ≤ hosts }
-    requires few { hosts ≤ 8 }
+    requires few { hosts ≤ MOST_NEXUSES }
     requires below { number < count_of_reservations hosts }
     ensures number { number ≡ number_of hosts result }
     ensures fits { IsTrue (is_reservation hosts result) }

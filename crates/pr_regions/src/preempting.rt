@@ -2,8 +2,10 @@
 
 ghost use Rattle.std.specs.Prelude.{◌≡◌, ◌≢◌, ◌≤◌, ◌<◌, ◌==◌, ℕ, IsTrue, Some, None, false, true, not};
 ghost use Rattle.pr_cdb.specs.declared.command.Kind.{Kind as KindOf};
-ghost use Rattle.pr_registry.specs.Registrations.{established, is_all};
+ghost use Rattle.pr_cdb.specs.declared.codes.TheConstants.{MOST_NEXUSES};
+ghost use Rattle.pr_registry.specs.Registrations.{new_reservation, is_all};
 ghost use Rattle.pr_registry.specs.Changes.{is_kind, is_held_by_all};
+ghost use Rattle.pr_roles.specs.declared.limits.TheConstants.{MOST_KEYS};
 ghost use Rattle.pr_roles.specs.Fitting.{is_reservation};
 ghost use Rattle.pr_views.specs.Possibilities.{number_of, count_of_reservations};
 ghost use Rattle.pr_regions.specs.Regions.{HasRoom};
@@ -11,7 +13,7 @@ ghost use Rattle.pr_regions.specs.inside.Parts.{Does, Tell, never, only, is_name
 
 use crate::branching::{alone, three, two};
 use crate::endings::{is_kind, leaving, unchanged};
-use crate::numbers::{established, reservation_number};
+use crate::numbers::{new_reservation, reservation_number};
 use crate::purpose::{Purpose, Standing};
 use crate::region::{Branch, Change, Ending, Region};
 use crate::words::{another_than, anything_but, free_or};
@@ -22,17 +24,17 @@ use pr_sets::Word;
 
 // What changes where the key is the single holder's: the reservation is replaced.
 fn replaced(hosts: u8, key: u8, old: Kind, kind: Kind, sender: u8) -> Change
-    requires few { hosts ≤ 8 }
+    requires few { hosts ≤ MOST_NEXUSES }
     requires there { sender < hosts }
-    requires key { key ≤ 12 }
-    ensures change { Does result None (only key) (number_of hosts (Some (established kind sender)))
+    requires key { key ≤ MOST_KEYS }
+    ensures change { Does result None (only key) (number_of hosts (Some (new_reservation kind sender)))
         never (told_but (not (is_kind old kind)) key) (only key) }
     ensures room { HasRoom hosts (Ending.Good result) }
 {
     let mut change = Change {
         removed: Word::only(key),
         told_05: Word::only(key),
-        ..unchanged(hosts, Some(established(kind, sender)))
+        ..unchanged(hosts, Some(new_reservation(kind, sender)))
     };
     if !is_kind(old, kind) {
         change.told_04 = another_than(key);
@@ -42,7 +44,7 @@ fn replaced(hosts: u8, key: u8, old: Kind, kind: Kind, sender: u8) -> Change
 
 // What changes where the key is another's: those with the key go, the sender among them if it is its own.
 fn removed(key: u8, is_own: bool, reservation: u8) -> Change
-    requires { key ≤ 12 }
+    requires { key ≤ MOST_KEYS }
     ensures { Does result (lost_if is_own) (only key) reservation never never (only key) }
 {
     let mut change = Change {
@@ -58,9 +60,9 @@ fn removed(key: u8, is_own: bool, reservation: u8) -> Change
 
 // Another's key, which no single holder but the sender has: there is a conflict where nobody has it.
 fn preempting_others(hosts: u8, key: u8, held: Option<Held>) -> ArrayVec<Branch, 3>
-    requires few { hosts ≤ 8 }
+    requires few { hosts ≤ MOST_NEXUSES }
     requires fits { IsTrue (is_reservation hosts held) }
-    requires key { (1 ≤ key) × (key ≤ 12) }
+    requires key { (1 ≤ key) × (key ≤ MOST_KEYS) }
     ensures { (kind : KindOf) (sender : ℕ) (standing : Standing) → is_named standing ≡ false → IsNotAnothers held sender
         → Tell hosts (Purpose.Preempt key kind) held sender standing result.items }
 {
@@ -83,8 +85,8 @@ fn preempting_others(hosts: u8, key: u8, held: Option<Held>) -> ArrayVec<Branch,
 
 // The key where no reservation stands.
 fn preempting_unheld(hosts: u8, key: u8, standing: Standing) -> ArrayVec<Branch, 3>
-    requires few { hosts ≤ 8 }
-    requires key { (1 ≤ key) × (key ≤ 12) }
+    requires few { hosts ≤ MOST_NEXUSES }
+    requires key { (1 ≤ key) × (key ≤ MOST_KEYS) }
     ensures { (kind : KindOf) (sender : ℕ) → Tell hosts (Purpose.Preempt key kind) None sender standing result.items }
 {
     if standing.is_named() {
@@ -96,10 +98,10 @@ fn preempting_unheld(hosts: u8, key: u8, standing: Standing) -> ArrayVec<Branch,
 
 // The sender's own key where all registrants hold: the reservation ends with the last of them.
 fn preempting_own(hosts: u8, key: u8, held: Option<Held>) -> ArrayVec<Branch, 3>
-    requires few { hosts ≤ 8 }
+    requires few { hosts ≤ MOST_NEXUSES }
     requires fits { IsTrue (is_reservation hosts held) }
     requires all { is_held_by_all held ≡ true }
-    requires key { (1 ≤ key) × (key ≤ 12) }
+    requires key { (1 ≤ key) × (key ≤ MOST_KEYS) }
     ensures { (kind : KindOf) (sender : ℕ) (standing : Standing) → is_named standing ≡ true
         → Tell hosts (Purpose.Preempt key kind) held sender standing result.items }
 {
@@ -130,11 +132,11 @@ fn preempting_holder(
     sender: u8,
     standing: Standing,
 ) -> ArrayVec<Branch, 3>
-    requires few { hosts ≤ 8 }
+    requires few { hosts ≤ MOST_NEXUSES }
     requires there { sender < hosts }
     requires fits { IsTrue (is_reservation hosts (Some (Held.One old holder))) }
     requires apart { holder ≢ sender }
-    requires key { (1 ≤ key) × (key ≤ 12) }
+    requires key { (1 ≤ key) × (key ≤ MOST_KEYS) }
     ensures { Tell hosts (Purpose.Preempt key kind) (Some (Held.One old holder)) sender standing result.items }
 {
     let number = reservation_number(hosts, Some(Held::One(old, holder)));
@@ -183,10 +185,10 @@ fn preempting_single(
     sender: u8,
     standing: Standing,
 ) -> ArrayVec<Branch, 3>
-    requires few { hosts ≤ 8 }
+    requires few { hosts ≤ MOST_NEXUSES }
     requires there { sender < hosts }
     requires fits { IsTrue (is_reservation hosts (Some (Held.One old holder))) }
-    requires key { (1 ≤ key) × (key ≤ 12) }
+    requires key { (1 ≤ key) × (key ≤ MOST_KEYS) }
     ensures { Tell hosts (Purpose.Preempt key kind) (Some (Held.One old holder)) sender standing result.items }
 {
     if holder != sender {
@@ -200,9 +202,9 @@ fn preempting_single(
 
 // The key where all registrants hold.
 fn preempting_registrants(hosts: u8, key: u8, old: Kind, standing: Standing) -> ArrayVec<Branch, 3>
-    requires few { hosts ≤ 8 }
+    requires few { hosts ≤ MOST_NEXUSES }
     requires fits { IsTrue (is_reservation hosts (Some (Held.All old))) }
-    requires key { (1 ≤ key) × (key ≤ 12) }
+    requires key { (1 ≤ key) × (key ≤ MOST_KEYS) }
     ensures { (kind : KindOf) (sender : ℕ) → Tell hosts (Purpose.Preempt key kind) (Some (Held.All old)) sender standing result.items }
 {
     let held = Some(Held::All(old));
@@ -222,10 +224,10 @@ pub(crate) fn preempting(
     sender: u8,
     standing: Standing,
 ) -> ArrayVec<Branch, 3>
-    requires few { hosts ≤ 8 }
+    requires few { hosts ≤ MOST_NEXUSES }
     requires there { sender < hosts }
     requires fits { IsTrue (is_reservation hosts held) }
-    requires key { (1 ≤ key) × (key ≤ 12) }
+    requires key { (1 ≤ key) × (key ≤ MOST_KEYS) }
     ensures { Tell hosts (Purpose.Preempt key kind) held sender standing result.items }
 {
     match held {

@@ -2,7 +2,9 @@
 
 ghost use Rattle.std.specs.Prelude.{◌≡◌, ◌≤◌, ◌||◌, ℕ, IsTrue, length, true};
 ghost use Rattle.std.specs.List.{All};
+ghost use Rattle.pr_script.specs.declared.limits.TheConstants.{MOST_ARMS};
 ghost use Rattle.pr_script.specs.Grammar.{is_written, is_read_keys, is_read_reservation, test_fits};
+ghost use Rattle.pr_roles.specs.declared.limits.TheConstants.{MOST_KEYS};
 ghost use Rattle.pr_regions.specs.Readings.{AreReadings, IsProperReading};
 
 use crate::key_reads::key_readings;
@@ -23,8 +25,8 @@ pub fn readings(
     sender: u8,
     registration: u8,
 ) -> ArrayVec<Reading, 17>
-    requires arms { length tests.now ≤ 16 }
-    requires few { length keys.now ≤ 12 }
+    requires arms { length tests.now ≤ MOST_ARMS }
+    requires few { length keys.now ≤ MOST_KEYS }
     requires reads { IsTrue (is_read_keys command || is_read_reservation command) }
     requires written { IsTrue (is_written keys.now command) }
     requires fits { All (λ test. IsTrue (test_fits keys.now command test)) tests.now }

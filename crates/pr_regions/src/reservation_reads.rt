@@ -6,6 +6,7 @@ ghost use Rattle.pr_cdb.specs.declared.command.Kind.{Kind as KindOf};
 ghost use Rattle.pr_cdb.specs.declared.command.Command.{Command as CommandOf};
 ghost use Rattle.pr_script.specs.declared.grammar.TheConstants.{WRITTEN_LENGTH};
 ghost use Rattle.pr_script.specs.Grammar.{test_fits};
+ghost use Rattle.pr_roles.specs.declared.limits.TheConstants.{MOST_KEYS};
 ghost use Rattle.pr_views.specs.Possibilities.{key_at};
 ghost use Rattle.pr_regions.specs.Readings.{AreReadings, IsProperReading};
 ghost use Rattle.pr_regions.specs.inside.Reads.{passes_held, IsEverywhere};
@@ -63,7 +64,7 @@ fn everywhere(arm: Option<usize>) -> ArrayVec<Reading, 17>
 
 // By the key of another host that holds the reservation alone.
 fn by_holder(tests: &[Test], keys: &[u64]) -> ArrayVec<Reading, 17>
-    requires few { length keys.now ≤ 12 }
+    requires few { length keys.now ≤ MOST_KEYS }
     requires fits { All (λ test. test_fits keys.now (Command.ReadReservation WRITTEN_LENGTH) test ≡ true) tests.now }
     ensures right { (hosts : ℕ) (kind : KindOf) (holder sender own : ℕ) → holder ≢ sender
         → AreReadings keys.now hosts tests.now (Command.ReadReservation WRITTEN_LENGTH) (Some (Held.One kind holder)) sender own result.items }
@@ -90,7 +91,7 @@ fn held_readings(
     sender: u8,
     registration: u8,
 ) -> ArrayVec<Reading, 17>
-    requires few { length keys.now ≤ 12 }
+    requires few { length keys.now ≤ MOST_KEYS }
     requires fits { All (λ test. test_fits keys.now (Command.ReadReservation WRITTEN_LENGTH) test ≡ true) tests.now }
     requires known { registration ≤ length keys.now }
     ensures right { (hosts : ℕ) → AreReadings keys.now hosts tests.now (Command.ReadReservation WRITTEN_LENGTH) (Some held) sender registration result.items }
@@ -116,7 +117,7 @@ pub(crate) fn reservation_readings(
     sender: u8,
     registration: u8,
 ) -> ArrayVec<Reading, 17>
-    requires few { length keys.now ≤ 12 }
+    requires few { length keys.now ≤ MOST_KEYS }
     requires fits { All (λ test. test_fits keys.now (Command.ReadReservation WRITTEN_LENGTH) test ≡ true) tests.now }
     requires known { registration ≤ length keys.now }
     ensures right { (hosts : ℕ) → AreReadings keys.now hosts tests.now (Command.ReadReservation WRITTEN_LENGTH) held sender registration result.items }

@@ -1,6 +1,7 @@
 //! How a command ends by which its sender is registered no more.
 
 ghost use Rattle.std.specs.Prelude.{◌≡◌, ◌≤◌, ◌&&◌, ℕ, IsTrue, Some, None, false, true, if◌then◌else◌};
+ghost use Rattle.pr_cdb.specs.declared.codes.TheConstants.{MOST_NEXUSES};
 ghost use Rattle.pr_registry.specs.Registrations.{holds_alone};
 ghost use Rattle.pr_registry.specs.Changes.{is_held_by_all, is_told_of_loss};
 ghost use Rattle.pr_roles.specs.Fitting.{is_reservation};
@@ -19,7 +20,7 @@ use pr_sets::Word;
 
 // What unregistering changes where not all registrants hold: a single holder's reservation ends.
 fn unregistered(hosts: u8, held: Option<Held>, sender: u8) -> Change
-    requires few { hosts ≤ 8 }
+    requires few { hosts ≤ MOST_NEXUSES }
     requires fits { IsTrue (is_reservation hosts held) }
     ensures change { Does result (Some 0) never (number_of hosts (if holds_alone held sender then None else held))
         never (told_if (holds_alone held sender && is_told_of_loss held)) never }
@@ -37,7 +38,7 @@ fn unregistered(hosts: u8, held: Option<Held>, sender: u8) -> Change
 
 // Where all registrants hold, the reservation ends with the last of them.
 fn unregistering_registrant(hosts: u8, held: Option<Held>) -> ArrayVec<Branch, 3>
-    requires few { hosts ≤ 8 }
+    requires few { hosts ≤ MOST_NEXUSES }
     requires fits { IsTrue (is_reservation hosts held) }
     requires all { is_held_by_all held ≡ true }
     ensures { (sender : ℕ) (standing : Standing) → is_unregistered standing ≡ false → Tell hosts Purpose.Unregister held sender standing result.items }
@@ -72,7 +73,7 @@ pub(crate) fn unregistering(
     sender: u8,
     standing: Standing,
 ) -> ArrayVec<Branch, 3>
-    requires few { hosts ≤ 8 }
+    requires few { hosts ≤ MOST_NEXUSES }
     requires fits { IsTrue (is_reservation hosts held) }
     ensures { Tell hosts Purpose.Unregister held sender standing result.items }
 {

@@ -1,38 +1,37 @@
 //! Words of registrations: 0 for none, and 1 to 12 for the declared keys.
 
 ghost use Rattle.std.specs.Prelude.{◌≡◌, ◌≤◌, ◌==◌, ◌&&◌, ℕ, true, not};
+ghost use Rattle.pr_roles.specs.declared.limits.TheConstants.{MOST_KEYS};
 ghost use Rattle.pr_regions.specs.inside.Parts.{HasThose, any, never, registered, but, another, free_or};
 
 use pr_sets::Word;
-
-// None, and each of 12 keys.
-const REGISTRATIONS: u8 = 13;
+use pr_views::MOST_REGISTRATIONS;
 
 // Every registration.
 pub(crate) fn anything() -> Word
     ensures { HasThose result any }
 {
-    Word::below(REGISTRATIONS)
+    Word::below(MOST_REGISTRATIONS)
 }
 
 // Every key.
 pub(crate) fn registered() -> Word
     ensures { HasThose result registered }
 {
-    Word::below(REGISTRATIONS).without(0)
+    Word::below(MOST_REGISTRATIONS).without(0)
 }
 
 // Every registration but this one.
 pub(crate) fn anything_but(registration: u8) -> Word
-    requires { registration ≤ 12 }
+    requires { registration ≤ MOST_KEYS }
     ensures { HasThose result (but registration) }
 {
-    Word::below(REGISTRATIONS).without(registration)
+    Word::below(MOST_REGISTRATIONS).without(registration)
 }
 
 // Every key but the one of this number.
 pub(crate) fn another_than(key: u8) -> Word
-    requires { key ≤ 12 }
+    requires { key ≤ MOST_KEYS }
     ensures { HasThose result (another key) }
 {
     registered().without(key)
@@ -40,7 +39,7 @@ pub(crate) fn another_than(key: u8) -> Word
 
 // None, or the key of this number.
 pub(crate) fn free_or(key: u8) -> Word
-    requires { key ≤ 12 }
+    requires { key ≤ MOST_KEYS }
     ensures { HasThose result (free_or key) }
 {
     Word::only(0).with(key)

@@ -9,8 +9,8 @@ use Rattle.pr_cdb.specs.declared.command.Kind.{Kind}
 use Rattle.pr_registry.specs.declared.held.Held.{Held}
 use Rattle.pr_registry.specs.declared.held.Held.TheVariants.{One, All}
 use Rattle.pr_registry.specs.Hosts.{Hosts, Keys, just, is_key, hosts_in, hosts_with, is_empty, without, map_where}
-use Rattle.pr_registry.specs.Registrations.{State, IsKey, IsWellFormed, HasHolder, IsKeyOrNone, table_keys, state_of, state_from, is_registered, holds_alone, is_all, established, fresh}
-use Rattle.pr_registry.specs.Effects.{next, held_by_rest, held_or, held_after_preempt, registered, unregistered, reserved, released, cleared, preempted}
+use Rattle.pr_registry.specs.Registrations.{State, IsKey, IsWellFormed, HasHolder, IsKeyOrNone, table_keys, state_of, state_from, is_registered, holds_alone, is_all, new_reservation, empty_registry}
+use Rattle.pr_registry.specs.Effects.{next, held_by_rest, held_or, held_after_preempt, with_registration, without_registration, with_reservation, after_release, after_clear, after_preempt}
 use Rattle.pr_registry.specs.Changes.{Case, ReplacesAll, ReplacesHolder, RemovesKey, preempt_case, HasKindIfReplacing, removed_by_preempt, is_released}
 use Rattle.pr_registry.proofs.Sets.{same_keys, get-insert, get-empty, get-without, contains-just, contains-remove, contains-hosts_with, not_empty_from_some}
 use Rattle.std.proofs.lemmas.Bool.{false≢true}
@@ -53,29 +53,29 @@ unfolding map_where
 table_keys-none = refl
 
 pub state_of-registered : (hosts : ℕ) (old new : List (Option ℕ)) (held : Option Held) (g after_g h k : ℕ) → table_keys MOST_NEXUSES new ≡ map.insert (table_keys MOST_NEXUSES old) h k → after_g ≡ next g
-    → state_of hosts new held after_g ≡ registered (state_of hosts old held g) h k
+    → state_of hosts new held after_g ≡ with_registration (state_of hosts old held g) h k
 state_of-registered hosts old new held g after_g h k keys more = λ x. record { hosts = hosts; keys = keys x; held = held; generation = more x }
 
 pub state_of-unregistered : (hosts : ℕ) (old new : List (Option ℕ)) (held after : Option Held) (g after_g h : ℕ) → table_keys MOST_NEXUSES new ≡ without (table_keys MOST_NEXUSES old) (just h)
     → after ≡ (if holds_alone held h then None else held_by_rest (table_keys MOST_NEXUSES new) held) → after_g ≡ next g
-    → state_of hosts new after after_g ≡ unregistered (state_of hosts old held g) h
+    → state_of hosts new after after_g ≡ without_registration (state_of hosts old held g) h
 state_of-unregistered hosts old new held after g after_g h keys is more =
     let left = is ∙ ap (λ rest. if holds_alone held h then None else held_by_rest rest held) keys in
     λ x. record { hosts = hosts; keys = keys x; held = left x; generation = more x }
 
-pub state_of-reserved : (hosts : ℕ) (slots : List (Option ℕ)) (held : Option Held) (new : Held) (g h : ℕ) (t : Kind) → is_some held ≡ false → new ≡ established t h
-    → state_of hosts slots (Some new) g ≡ reserved (state_of hosts slots held g) h t
+pub state_of-reserved : (hosts : ℕ) (slots : List (Option ℕ)) (held : Option Held) (new : Held) (g h : ℕ) (t : Kind) → is_some held ≡ false → new ≡ new_reservation t h
+    → state_of hosts slots (Some new) g ≡ with_reservation (state_of hosts slots held g) h t
 state_of-reserved hosts slots None new g h t free is = λ x. record { hosts = hosts; keys = table_keys MOST_NEXUSES slots; held = Some (is x); generation = g }
 state_of-reserved hosts slots (Some v) new g h t free is = absurd (false≢true (sym free))
 
 pub state_of-cleared : (hosts : ℕ) (slots : List (Option ℕ)) (held : Option Held) (g after_g : ℕ) → after_g ≡ next g
-    → state_of hosts (None ∷ None ∷ None ∷ None ∷ None ∷ None ∷ None ∷ None ∷ []) None after_g ≡ cleared (state_of hosts slots held g)
+    → state_of hosts (None ∷ None ∷ None ∷ None ∷ None ∷ None ∷ None ∷ None ∷ []) None after_g ≡ after_clear (state_of hosts slots held g)
 state_of-cleared hosts slots held g after_g more = λ x. record { hosts = hosts; keys = table_keys-none x; held = None; generation = more x }
 
 pub state_of-preempted : (hosts : ℕ) (old new : List (Option ℕ)) (held after : Option Held) (g after_g h sark : ℕ) (kind : Option Kind) (case : Case) (removed : Hosts)
     → case ≡ preempt_case (table_keys MOST_NEXUSES old) held sark → removed ≡ removed_by_preempt (table_keys MOST_NEXUSES old) h sark (preempt_case (table_keys MOST_NEXUSES old) held sark)
     → table_keys MOST_NEXUSES new ≡ without (table_keys MOST_NEXUSES old) removed → after ≡ held_after_preempt (table_keys MOST_NEXUSES new) held h kind case → after_g ≡ next g
-    → state_of hosts new after after_g ≡ preempted (state_of hosts old held g) h sark kind
+    → state_of hosts new after after_g ≡ after_preempt (state_of hosts old held g) h sark kind
 state_of-preempted hosts old new held after g after_g h sark kind case removed case_is removed_is keys is more =
     let rest = keys ∙ ap (without (table_keys MOST_NEXUSES old)) removed_is in
     let left = is ∙ (λ x. held_after_preempt (rest x) held h kind (case_is x)) in
@@ -83,7 +83,7 @@ state_of-preempted hosts old new held after g after_g h sark kind case removed c
 
 -- ---- well formed states
 
-pub well_formed-fresh : (hosts : ℕ) → 1 ≤ hosts → hosts ≤ MOST_NEXUSES → IsWellFormed (fresh hosts)
+pub well_formed-fresh : (hosts : ℕ) → 1 ≤ hosts → hosts ≤ MOST_NEXUSES → IsWellFormed (empty_registry hosts)
 well_formed-fresh hosts some most = record {
   hosts = (some, most);
   keys = λ h k is. let bad : None ≡ Some k = sym (get-empty h) ∙ is in cc;
@@ -105,7 +105,7 @@ HasHolder-insert keys (Some (One t g)) h k has = (has.0, rw (get-insert keys h k
 HasHolder-insert keys (Some (All t)) h k has =
     (has.0, not_empty_from_some (map.insert keys h k) h k (get-insert keys h k h ∙ ap (λ b. cond b (Some k) (map.get keys h)) (eq_itself h)))
 
-pub well_formed-registered : (u : State) (h k : ℕ) → IsWellFormed u → h < u.hosts → IsKey k → IsWellFormed (registered u h k)
+pub well_formed-registered : (u : State) (h k : ℕ) → IsWellFormed u → h < u.hosts → IsKey k → IsWellFormed (with_registration u h k)
 well_formed-registered u h k w small key = record {
   hosts = w.hosts;
   keys = λ q j is. at q j (eqb_tells q h) (sym (get-insert u.keys h k q) ∙ is);
@@ -156,7 +156,7 @@ HasHolder-unregistered keys (Some (One t g)) h has =
     ] refl
 HasHolder-unregistered keys (Some (All t)) h has = HasHolder-rest keys (just h) (Some (All t)) has tt
 
-pub well_formed-unregistered : (u : State) (h : ℕ) → IsWellFormed u → IsWellFormed (unregistered u h)
+pub well_formed-unregistered : (u : State) (h : ℕ) → IsWellFormed u → IsWellFormed (without_registration u h)
 well_formed-unregistered u h w = record {
   hosts = w.hosts;
   keys = keys-without u (just h) w;
@@ -165,7 +165,7 @@ well_formed-unregistered u h w = record {
 }
 
 -- a reservation that a registrant establishes
-HasHolder-established : (keys : Keys) (t : Kind) (h : ℕ) → IsTrue (map.contains_key keys h) → HasHolder keys (Some (established t h))
+HasHolder-established : (keys : Keys) (t : Kind) (h : ℕ) → IsTrue (map.contains_key keys h) → HasHolder keys (Some (new_reservation t h))
 HasHolder-established keys t h there =
     elim (is_all t) as (λ b. is_all t ≡ b → HasHolder keys (Some (if b then All t else One t h))) [
       | true ↦ λ is. (is, some (map.get keys h) refl there)
@@ -176,7 +176,7 @@ HasHolder-established keys t h there =
     some None is there = absurd (false≢true there)
     some (Some k) is there = not_empty_from_some keys h k is
 
-pub well_formed-reserved : (u : State) (h : ℕ) (t : Kind) → IsWellFormed u → IsTrue (is_registered u h) → IsWellFormed (reserved u h t)
+pub well_formed-reserved : (u : State) (h : ℕ) (t : Kind) → IsWellFormed u → IsTrue (is_registered u h) → IsWellFormed (with_reservation u h t)
 well_formed-reserved u h t w there = record {
   hosts = w.hosts;
   keys = w.keys;
@@ -184,11 +184,11 @@ well_formed-reserved u h t w there = record {
   generation = w.generation;
 }
   where
-    at : (held : Option Held) → HasHolder u.keys held → HasHolder u.keys (held_or held (established t h))
+    at : (held : Option Held) → HasHolder u.keys held → HasHolder u.keys (held_or held (new_reservation t h))
     at None has = HasHolder-established u.keys t h there
     at (Some v) has = has
 
-pub well_formed-released : (u : State) (h : ℕ) (t : Kind) → IsWellFormed u → IsWellFormed (released u h t)
+pub well_formed-released : (u : State) (h : ℕ) (t : Kind) → IsWellFormed u → IsWellFormed (after_release u h t)
 well_formed-released u h t w = record {
   hosts = w.hosts;
   keys = w.keys;
@@ -200,7 +200,7 @@ well_formed-released u h t w = record {
     at true = tt
     at false = w.held
 
-pub well_formed-cleared : (u : State) → IsWellFormed u → IsWellFormed (cleared u)
+pub well_formed-cleared : (u : State) → IsWellFormed u → IsWellFormed (after_clear u)
 well_formed-cleared u w = record {
   hosts = w.hosts;
   keys = λ h k is. let bad : None ≡ Some k = sym (get-empty h) ∙ is in cc;
@@ -209,7 +209,7 @@ well_formed-cleared u w = record {
 }
 
 HasHolder-replaced : (keys : Keys) (removed : Hosts) (h : ℕ) (kind : Option Kind) → IsTrue (map.contains_key keys h) → IsTrue (is_some kind) → set.contains removed h ≡ false
-    → HasHolder (without keys removed) (option_map (λ t. established t h) kind)
+    → HasHolder (without keys removed) (option_map (λ t. new_reservation t h) kind)
 HasHolder-replaced keys removed h None there typed kept = absurd (false≢true typed)
 HasHolder-replaced keys removed h (Some t) there typed kept =
     HasHolder-established (without keys removed) t h (rw (contains_key-without keys removed h kept) there)
@@ -237,7 +237,7 @@ HasHolder-preempted u h sark kind (ReplacesHolder s) is has there typed =
 HasHolder-preempted u h sark kind RemovesKey is has there typed =
     HasHolder-rest u.keys (hosts_with u.keys sark) u.held has (IsKept-removed u.keys u.held h sark RemovesKey is refl)
 
-pub well_formed-preempted : (u : State) (h sark : ℕ) (kind : Option Kind) → IsWellFormed u → IsTrue (is_registered u h) → HasKindIfReplacing kind (preempt_case u.keys u.held sark) → IsWellFormed (preempted u h sark kind)
+pub well_formed-preempted : (u : State) (h sark : ℕ) (kind : Option Kind) → IsWellFormed u → IsTrue (is_registered u h) → HasKindIfReplacing kind (preempt_case u.keys u.held sark) → IsWellFormed (after_preempt u h sark kind)
 well_formed-preempted u h sark kind w there typed = record {
   hosts = w.hosts;
   keys = keys-without u (removed_by_preempt u.keys h sark (preempt_case u.keys u.held sark)) w;

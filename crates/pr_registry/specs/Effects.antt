@@ -10,7 +10,7 @@ use Rattle.pr_registry.specs.declared.held.Held.{Held}
 use Rattle.pr_registry.specs.declared.held.Held.TheVariants.{One, All}
 use Rattle.pr_registry.specs.declared.change.Change.{Change}
 use Rattle.pr_registry.specs.Hosts.{Keys, just, without, is_empty}
-use Rattle.pr_registry.specs.Registrations.{State, is_registered, established, holds_alone}
+use Rattle.pr_registry.specs.Registrations.{State, is_registered, new_reservation, holds_alone}
 use Rattle.pr_registry.specs.Changes.{Case, ReplacesAll, ReplacesHolder, RemovesKey, no_change, preempt_case, removed_by_preempt, is_released, change_on_unregister, change_on_release, change_on_clear, change_on_preempt}
 
 -- the next generation, which wraps at 2^32
@@ -24,11 +24,11 @@ held_by_rest keys None = None
 held_by_rest keys (Some (One t g)) = Some (One t g)
 held_by_rest keys (Some (All t)) = if is_empty keys then None else Some (All t)
 
-abbrev pub registered : State → ℕ → ℕ → State
-registered u h key = record u { keys = map.insert u.keys h key; generation = next u.generation }
+abbrev pub with_registration : State → ℕ → ℕ → State
+with_registration u h key = record u { keys = map.insert u.keys h key; generation = next u.generation }
 
-abbrev pub unregistered : State → ℕ → State
-unregistered u h =
+abbrev pub without_registration : State → ℕ → State
+without_registration u h =
     let keys = without u.keys (just h) in
     record u {
       keys = keys;
@@ -41,24 +41,24 @@ abbrev pub held_or : Option Held → Held → Option Held
 held_or None new = Some new
 held_or (Some v) new = Some v
 
-abbrev pub reserved : State → ℕ → Kind → State
-reserved u h t = record u { held = held_or u.held (established t h) }
+abbrev pub with_reservation : State → ℕ → Kind → State
+with_reservation u h t = record u { held = held_or u.held (new_reservation t h) }
 
-abbrev pub released : State → ℕ → Kind → State
-released u h t = record u { held = if is_released u h t then None else u.held }
+abbrev pub after_release : State → ℕ → Kind → State
+after_release u h t = record u { held = if is_released u h t then None else u.held }
 
-abbrev pub cleared : State → State
-cleared u = record u { keys = map.empty; held = None; generation = next u.generation }
+abbrev pub after_clear : State → State
+after_clear u = record u { keys = map.empty; held = None; generation = next u.generation }
 
 -- The reservation after a PREEMPT over these remaining registrations. Where it is replaced there is a
 -- type, since a PREEMPT without one is then at fault.
 abbrev pub held_after_preempt : Keys → Option Held → ℕ → Option Kind → Case → Option Held
-held_after_preempt rest held h kind ReplacesAll = option_map (λ t. established t h) kind
-held_after_preempt rest held h kind (ReplacesHolder s) = option_map (λ t. established t h) kind
+held_after_preempt rest held h kind ReplacesAll = option_map (λ t. new_reservation t h) kind
+held_after_preempt rest held h kind (ReplacesHolder s) = option_map (λ t. new_reservation t h) kind
 held_after_preempt rest held h kind RemovesKey = held_by_rest rest held
 
-abbrev pub preempted : State → ℕ → ℕ → Option Kind → State
-preempted u h sark kind =
+abbrev pub after_preempt : State → ℕ → ℕ → Option Kind → State
+after_preempt u h sark kind =
     let case = preempt_case u.keys u.held sark in
     let rest = without u.keys (removed_by_preempt u.keys h sark case) in
     record u { keys = rest; held = held_after_preempt rest u.held h kind case; generation = next u.generation }
@@ -67,7 +67,7 @@ preempted u h sark kind =
 -- is no registration
 abbrev pub after_register : State → ℕ → ℕ → State
 after_register u h key =
-    if key == 0 then (if is_registered u h then unregistered u h else u) else registered u h key
+    if key == 0 then (if is_registered u h then without_registration u h else u) else with_registration u h key
 
 abbrev pub change_on_register : State → ℕ → ℕ → Change
 change_on_register u h key = if key == 0 && is_registered u h then change_on_unregister u h else no_change
@@ -76,11 +76,11 @@ change_on_register u h key = if key == 0 && is_registered u h then change_on_unr
 abbrev pub after : State → ℕ → Command → State
 after u h (Register rk sark) = after_register u h sark
 after u h (RegisterIgnore sark) = after_register u h sark
-after u h (Reserve rk kind) = reserved u h kind
-after u h (Release rk kind) = released u h kind
-after u h (Clear rk) = cleared u
-after u h (Preempt rk sark kind) = preempted u h sark kind
-after u h (PreemptAbort rk sark kind) = preempted u h sark kind
+after u h (Reserve rk kind) = with_reservation u h kind
+after u h (Release rk kind) = after_release u h kind
+after u h (Clear rk) = after_clear u
+after u h (Preempt rk sark kind) = after_preempt u h sark kind
+after u h (PreemptAbort rk sark kind) = after_preempt u h sark kind
 after u h TestUnitReady = u
 after u h RequestSense = u
 after u h (Read lba blocks) = u

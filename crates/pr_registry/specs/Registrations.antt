@@ -61,8 +61,8 @@ kind_of (One t g) = t
 kind_of (All t) = t
 
 -- a reservation of type t that h establishes: its own, or one of all registrants
-abbrev pub established : Kind → ℕ → Held
-established t h = if is_all t then All t else One t h
+abbrev pub new_reservation : Kind → ℕ → Held
+new_reservation t h = if is_all t then All t else One t h
 
 -- h is the single holder
 abbrev pub holds_alone : Option Held → ℕ → Bool
@@ -103,8 +103,8 @@ pub record IsWellFormed (u : State) : Type 0 where
   pub generation : u.generation < 2 ^ 32
 
 -- nothing is registered or reserved
-abbrev pub fresh : ℕ → State
-fresh hosts = record { hosts = hosts; keys = map.empty; held = None; generation = 0 }
+abbrev pub empty_registry : ℕ → State
+empty_registry hosts = record { hosts = hosts; keys = map.empty; held = None; generation = 0 }
 
 -- the registrations of a table with a place for each of n hosts
 abbrev pub table_keys : ℕ → List (Option ℕ) → Keys

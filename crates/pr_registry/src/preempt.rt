@@ -1,7 +1,7 @@
 //! The three successful cases of PREEMPT.
 
 ghost use Rattle.std.specs.Prelude.{◌≡◌, ◌<◌, option_map};
-ghost use Rattle.pr_registry.specs.Registrations.{table_keys, established};
+ghost use Rattle.pr_registry.specs.Registrations.{table_keys, new_reservation};
 ghost use Rattle.pr_registry.specs.Changes.{preempt_case, is_replacing, removed_by_preempt, is_new_type};
 ghost use Rattle.pr_registry.specs.inside.Cases.{case_of};
 ghost use Rattle.pr_registry.specs.Effects.{held_after_preempt};
@@ -111,10 +111,10 @@ pub(crate) fn held_after_preempt(
 
 // The reservation that replaces another, if there is a type.
 fn established_if(kind: Option<Kind>, host: u8) -> Option<Held>
-    ensures { result ≡ option_map (λ t. established t host) kind }
+    ensures { result ≡ option_map (λ t. new_reservation t host) kind }
 {
     match kind {
-        Some(kind) => Some(table::established(kind, host)),
+        Some(kind) => Some(table::new_reservation(kind, host)),
         None => None,
     }
 }

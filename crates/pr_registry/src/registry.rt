@@ -41,17 +41,17 @@ impl Model for Registry {
 }
 
 impl Registry {
-    ghost use Rattle.pr_registry.specs.Registrations.{IsWellFormed, Holds, fresh, state_from, key_of, is_registered, others, is_holder};
+    ghost use Rattle.pr_registry.specs.Registrations.{IsWellFormed, Holds, empty_registry, state_from, key_of, is_registered, others, is_holder};
     ghost use Rattle.pr_registry.specs.Hosts.{has_no_registrant};
     ghost use Rattle.pr_registry.specs.Changes.{no_change, conflicts_with_reserve, is_held_as, is_held_by_all, is_released, preempt_case, is_replacing, HasKindIfReplacing, change_on_unregister, change_on_release, change_on_clear, change_on_preempt, picks_registrations};
     ghost use Rattle.pr_registry.specs.inside.Cases.{case_of};
-    ghost use Rattle.pr_registry.specs.Effects.{registered, unregistered, reserved, released, cleared, preempted};
+    ghost use Rattle.pr_registry.specs.Effects.{with_registration, without_registration, with_reservation, after_release, after_clear, after_preempt};
 
     /// Nothing is registered or reserved, and the generation is 0.
     pub fn new(hosts: u8) -> Self
         requires some { 1 ≤ hosts }
         requires most { hosts ≤ MOST_NEXUSES }
-        ensures { result ≡ fresh hosts }
+        ensures { result ≡ empty_registry hosts }
     {
         Registry {
             hosts,
@@ -183,7 +183,7 @@ impl Registry {
     pub fn register(&mut self, host: u8, key: u64) -> Change
         requires there { host < self.old.hosts }
         requires key { 1 ≤ key }
-        ensures state { self.new ≡ registered self.old host key }
+        ensures state { self.new ≡ with_registration self.old host key }
         ensures change { result ≡ no_change }
     {
         table::insert(&mut self.slots, host, key);
@@ -196,7 +196,7 @@ impl Registry {
     /// registrants are told so; a reservation of all registrants ends with the last of them.
     pub fn unregister(&mut self, host: u8) -> Change
         requires { IsTrue (is_registered self.old host) }
-        ensures state { self.new ≡ unregistered self.old host }
+        ensures state { self.new ≡ without_registration self.old host }
         ensures change { result ≡ change_on_unregister self.old host }
     {
         let change = self.change_on_unregister(host);
@@ -211,11 +211,11 @@ impl Registry {
     pub fn reserve(&mut self, host: u8, kind: Kind) -> Change
         requires there { IsTrue (is_registered self.old host) }
         requires free { conflicts_with_reserve self.old host self.old.held kind ≡ false }
-        ensures state { self.new ≡ reserved self.old host kind }
+        ensures state { self.new ≡ with_reservation self.old host kind }
         ensures change { result ≡ no_change }
     {
         if self.held.is_none() {
-            self.held = Some(table::established(kind, host));
+            self.held = Some(table::new_reservation(kind, host));
         }
         Change::none()
     }
@@ -225,7 +225,7 @@ impl Registry {
     pub fn release(&mut self, host: u8, kind: Kind) -> Change
         requires there { IsTrue (is_registered self.old host) }
         requires named { Holds self.old host → IsTrue (is_held_as self.old.held kind) }
-        ensures state { self.new ≡ released self.old host kind }
+        ensures state { self.new ≡ after_release self.old host kind }
         ensures change { result ≡ change_on_release self.old host kind }
     {
         let change = self.change_on_release(host, kind);
@@ -239,7 +239,7 @@ impl Registry {
     /// told so.
     pub fn clear(&mut self, host: u8) -> Change
         requires { IsTrue (is_registered self.old host) }
-        ensures state { self.new ≡ cleared self.old }
+        ensures state { self.new ≡ after_clear self.old }
         ensures change { result ≡ change_on_clear self.old host }
     {
         let change = self.change_on_clear(host);
@@ -258,7 +258,7 @@ impl Registry {
         requires there { IsTrue (is_registered self.old host) }
         requires picks { IsTrue (picks_registrations self.old.keys self.old.held sark) }
         requires typed { HasKindIfReplacing kind (preempt_case self.old.keys self.old.held sark) }
-        ensures state { self.new ≡ preempted self.old host sark kind }
+        ensures state { self.new ≡ after_preempt self.old host sark kind }
         ensures change { result ≡ change_on_preempt self.old host sark kind }
     {
         let case = preempt::preempt_case(&self.slots, self.held, sark);

@@ -4,7 +4,7 @@
 ghost use Rattle.std.specs.Prelude.{◌≡◌, ◌<◌, ◌≤◌, ◌↔◌, ℕ, IsTrue, if◌then◌else◌, None, length, slice_index_or};
 ghost use Rattle.std.specs.FinMap as map;
 ghost use Rattle.pr_registry.specs.Hosts.{just, is_key, hosts_in, hosts_with, has_no_registrant, is_empty, without};
-ghost use Rattle.pr_registry.specs.Registrations.{table_keys, is_all, is_for_registrants, established, holds_alone, is_holder_of, HasHolder, IsKeyOrNone};
+ghost use Rattle.pr_registry.specs.Registrations.{table_keys, is_all, is_for_registrants, new_reservation, holds_alone, is_holder_of, HasHolder, IsKeyOrNone};
 ghost use Rattle.pr_registry.specs.Changes.{is_kind, is_told_of_loss, is_held_as, is_held_by_all};
 ghost use Rattle.pr_registry.specs.Effects.{held_by_rest};
 
@@ -139,8 +139,8 @@ pub(crate) fn slots_of(keys: &[Option<u64>]) -> [Option<u64>; MOST_NEXUSES]
 }
 
 /// A reservation of this type that the host establishes: its own, or one of all registrants.
-pub(crate) fn established(kind: Kind, host: u8) -> Held
-    ensures { result ≡ established kind host }
+pub(crate) fn new_reservation(kind: Kind, host: u8) -> Held
+    ensures { result ≡ new_reservation kind host }
 {
     if is_all(kind) {
         Held::All(kind)

@@ -10,7 +10,7 @@ use Rattle.pr_cdb.specs.declared.reply.Status.TheVariants.{Good, CheckCondition,
 use Rattle.pr_cdb.specs.declared.wire.Wire.{Wire}
 use Rattle.pr_cdb.specs.Requests.{AreBytes}
 use Rattle.pr_roles.specs.declared.entry.Entry.{Entry}
-use Rattle.pr_report.specs.PrintedLines.{pairs_or_dash, spaced}
+use Rattle.pr_report.specs.PrintedLines.{pairs_or_dash, joined_by_spaces}
 use Rattle.pr_report.specs.TraceText.{entry_line, entry_lines, name_of, sense_data, status_word}
 use Rattle.pr_report.specs.TraceLaws.{HasSense, IsEntry}
 use Rattle.pr_report.specs.EntryWords.{exchange_in, reply_in, wire_in}
@@ -74,7 +74,7 @@ module _ (names : List (List ℕ)) (e : Entry) (are : AreNames names) (is : IsEn
   others_solid =
       ((name_of_word names e.host are).solid, (cdb_word.solid, (params_word.solid, ((status_solid e.reply.status).solid, (sense_word.solid, (data_word.solid, tt))))))
 
-  others_short : length (spaced (others_of names e)) ≤ 284
+  others_short : length (joined_by_spaces (others_of names e)) ≤ 284
   others_short =
       let reply = pairs_or_dash e.reply.bytes.items in
       let sense = pairs_or_dash (sense_data e.reply.sense) in
@@ -89,7 +89,7 @@ module _ (names : List (List ℕ)) (e : Entry) (are : AreNames names) (is : IsEn
       (spaced_word 144 _ reply [] data_word spaced_none)))))
 
   bare_short : (index : ℕ) → length (bare (decimal index) (others_of names e)) ≤ 1024
-  bare_short index = omega (arith, length-append (decimal index) (spaced (others_of names e)), (digits_word 10 index).short, others_short)
+  bare_short index = omega (arith, length-append (decimal index) (joined_by_spaces (others_of names e)), (digits_word 10 index).short, others_short)
 
   words_are : (index : ℕ) → words (bare (decimal index) (others_of names e)) ≡ decimal index ∷ others_of names e
   words_are index = words_back (decimal index) (others_of names e) (digits_word 10 index).solid others_solid
@@ -143,7 +143,7 @@ line_is others names e rest are is = line_back (decimal (others + 1)) (others_of
 one_back : (names : List (List ℕ)) (others : ℕ) (e : Entry) (ls : List (List ℕ)) → AreNames names → IsEntry (length names) e → others + 1 ≤ 32768
     → entries_of names others (bare (decimal (others + 1)) (others_of names e) ∷ ls) ≡ and_then (entries_of names (others + 1) ls) (λ es. Ok (e ∷ es))
 one_back names others e ls are is h =
-    rw (not_later (decimal (others + 1)) (spaced (others_of names e)) (decimal_begins (others + 1)), entry_back names e are is (others + 1) h) refl
+    rw (not_later (decimal (others + 1)) (joined_by_spaces (others_of names e)) (decimal_begins (others + 1)), entry_back names e are is (others + 1) h) refl
 
 pub entries_back : (names : List (List ℕ)) (es : List Entry) (others : ℕ) (rest : List ℕ) → AreNames names → AreEntries names es → others + length es ≤ 32768
     → entries_of names (others + length es) (lines rest) ≡ Ok [] → entries_of names others (lines (entry_lines others names es ++ rest)) ≡ Ok es

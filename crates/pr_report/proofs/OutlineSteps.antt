@@ -20,7 +20,7 @@ use Rattle.pr_verify.specs.declared.table.Row.{Row as KeptRow}
 use Rattle.pr_verify.specs.Tables.{Table}
 use Rattle.pr_verify.specs.Rooms.{row_of}
 use Rattle.pr_report.specs.Written.{Wrote, FallsShort, Puts}
-use Rattle.pr_report.specs.PrintedLines.{spaced}
+use Rattle.pr_report.specs.PrintedLines.{joined_by_spaces}
 use Rattle.pr_report.specs.TraceText.{name_of, names_in, names_of}
 use Rattle.pr_report.specs.OutlineText.{free_or_key, outlines_text, registration_line, send_text, sends_text}
 use Rattle.pr_report.proofs.Fronts.{held_front, held_more}
@@ -51,19 +51,19 @@ keys_of v g = shown (λ r. free_or_key (key_at v.keys.items r)) (contains_at (λ
 -- the pieces in which it goes out
 pub registration_begins : (names : List (List ℕ)) (own : ℕ) (v : ViewOf WordSet) (g : ℕ) (name : List ℕ) → name ≡ name_of names g
     → registration_line names (view_of (λ (t : WordSet). numbers_of_bits t.bits) own v) g
-    ≡ codes " " ++ (spaced (codes "registration" ∷ name ∷ []) ++ (keys_of v g ++ 10 ∷ []))
+    ≡ codes " " ++ (joined_by_spaces (codes "registration" ∷ name ∷ []) ++ (keys_of v g ++ 10 ∷ []))
 unfolding registration_line
 registration_begins names own v g name called =
     line_pieces (codes " ") (codes "registration" ∷ name_of names g ∷ [])
     (map (λ r. free_or_key (key_at v.keys.items r)) (filter (contains_at (λ (t : WordSet). numbers_of_bits t.bits) v.registrations g) (range_with_len 0 (length v.keys.items + 1))))
-    ∙ ap (λ n. codes " " ++ (spaced (codes "registration" ∷ n ∷ []) ++ (keys_of v g ++ 10 ∷ []))) (sym called)
+    ∙ ap (λ n. codes " " ++ (joined_by_spaces (codes "registration" ∷ n ∷ []) ++ (keys_of v g ++ 10 ∷ []))) (sym called)
 
 pub registration_pieces : (names : List (List ℕ)) (own : ℕ) (v : ViewOf WordSet) (g : ℕ) (s : WordSet) (keys name : List ℕ)
     → slice_get v.registrations g ≡ Some s → keys ≡ v.keys.items → name ≡ name_of names g
     → registration_line names (view_of (λ (t : WordSet). numbers_of_bits t.bits) own v) g
-    ≡ codes " " ++ (spaced (codes "registration" ∷ name ∷ []) ++ (key_words keys s ++ 10 ∷ []))
+    ≡ codes " " ++ (joined_by_spaces (codes "registration" ∷ name ∷ []) ++ (key_words keys s ++ 10 ∷ []))
 registration_pieces names own v g s keys name at same called =
-    let begun = λ (rest : List ℕ). codes " " ++ (spaced (codes "registration" ∷ name ∷ []) ++ (rest ++ 10 ∷ [])) in
+    let begun = λ (rest : List ℕ). codes " " ++ (joined_by_spaces (codes "registration" ∷ name ∷ []) ++ (rest ++ 10 ∷ [])) in
     registration_begins names own v g name called
     ∙ (ap (λ p. begun (shown (λ r. free_or_key (key_at v.keys.items r)) p (range_with_len 0 (length v.keys.items + 1)))) (own_set v.registrations g s at)
     ∙ ap (λ ks. begun (key_words ks s)) (sym same))

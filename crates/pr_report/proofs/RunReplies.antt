@@ -19,7 +19,8 @@ use Rattle.pr_cdb.specs.Kinds.{code_of}
 use Rattle.pr_cdb.specs.ReplyData.{sense_bytes, keys_bytes, reservation_bytes, capabilities_bytes}
 use Rattle.pr_cdb.specs.declared.wire.Bad.TheVariants.{Short, NotModelled}
 use Rattle.pr_cdb.specs.Bytes.{be32, has_flag}
-use Rattle.pr_cdb.specs.Requests.{AreBytes, has_refused_flag, illegal, length_of, named, plain, request_of}
+use Rattle.pr_cdb.specs.Requests.{AreBytes, has_refused_flag, illegal, length_of, named_command, plain_request, request_of}
+use Rattle.pr_cdb.specs.declared.codes.TheConstants.{MOST_NEXUSES, INQUIRY, REPORT_LUNS, REQUEST_SENSE, PERSISTENT_RESERVE_IN, PERSISTENT_RESERVE_OUT, REPORT_CAPABILITIES, REGISTER_AND_IGNORE_EXISTING_KEY, DESC, FIXED_SENSE_LENGTH, PARAMETER_LIST_LENGTH, NO_SENSE, ILLEGAL_REQUEST, NO_ADDITIONAL_SENSE_INFORMATION, PARAMETER_LIST_LENGTH_ERROR, INVALID_COMMAND_OPERATION_CODE, LOGICAL_BLOCK_ADDRESS_OUT_OF_RANGE, INVALID_FIELD_IN_CDB, INVALID_FIELD_IN_PARAMETER_LIST, INVALID_RELEASE_OF_PERSISTENT_RESERVATION}
 use Rattle.pr_registry.specs.Registrations.{State}
 use Rattle.pr_unit.specs.Attentions.{attention_sense, is_attention}
 use Rattle.pr_unit.specs.Replies.{check, conflict, data_of, good, is_request_sense, report, reservation}
@@ -43,7 +44,7 @@ record IsFault (o : Option Sense) : Type 0 where
 no_fault : IsFault None
 no_fault = record { said = tt }
 
-five : (asc ascq : ℕ) → asc < 256 → ascq < 256 → IsFault (Some (record { key = 0x05; asc = asc; ascq = ascq }))
+five : (asc ascq : ℕ) → asc < 256 → ascq < 256 → IsFault (Some (record { key = ILLEGAL_REQUEST; asc = asc; ascq = ascq }))
 five asc ascq h k = record { said = (omega arith, h, k) }
 
 either : (b : Bool) (x y : Option Sense) → IsFault x → IsFault y → IsFault (cond b x y)
@@ -53,18 +54,18 @@ either false x y h k = k
 faulty : (u : State) (h : ℕ) (c : Command) → IsFault (command_fault u h c)
 faulty u h TestUnitReady = no_fault
 faulty u h RequestSense = no_fault
-faulty u h (Read lba blocks) = either _ _ _ (five 0x21 0x00 (omega arith) (omega arith)) no_fault
-faulty u h (Write lba blocks) = either _ _ _ (five 0x21 0x00 (omega arith) (omega arith)) no_fault
+faulty u h (Read lba blocks) = either _ _ _ (five LOGICAL_BLOCK_ADDRESS_OUT_OF_RANGE 0 (omega arith) (omega arith)) no_fault
+faulty u h (Write lba blocks) = either _ _ _ (five LOGICAL_BLOCK_ADDRESS_OUT_OF_RANGE 0 (omega arith) (omega arith)) no_fault
 faulty u h (ReadKeys alloc) = no_fault
 faulty u h (ReadReservation alloc) = no_fault
 faulty u h (ReportCapabilities alloc) = no_fault
 faulty u h (Register rk sark) = no_fault
 faulty u h (RegisterIgnore sark) = no_fault
 faulty u h (Reserve rk kind) = no_fault
-faulty u h (Release rk kind) = either _ _ _ (five 0x26 0x04 (omega arith) (omega arith)) no_fault
+faulty u h (Release rk kind) = either _ _ _ (five INVALID_FIELD_IN_PARAMETER_LIST INVALID_RELEASE_OF_PERSISTENT_RESERVATION (omega arith) (omega arith)) no_fault
 faulty u h (Clear rk) = no_fault
-faulty u h (Preempt rk sark kind) = either _ _ _ (five 0x26 0x00 (omega arith) (omega arith)) (either _ _ _ (five 0x24 0x00 (omega arith) (omega arith)) no_fault)
-faulty u h (PreemptAbort rk sark kind) = either _ _ _ (five 0x26 0x00 (omega arith) (omega arith)) (either _ _ _ (five 0x24 0x00 (omega arith) (omega arith)) no_fault)
+faulty u h (Preempt rk sark kind) = either _ _ _ (five INVALID_FIELD_IN_PARAMETER_LIST 0 (omega arith) (omega arith)) (either _ _ _ (five INVALID_FIELD_IN_CDB 0 (omega arith) (omega arith)) no_fault)
+faulty u h (PreemptAbort rk sark kind) = either _ _ _ (five INVALID_FIELD_IN_PARAMETER_LIST 0 (omega arith) (omega arith)) (either _ _ _ (five INVALID_FIELD_IN_CDB 0 (omega arith) (omega arith)) no_fault)
 
 pub fault_said : (u : State) (h : ℕ) (c : Command) (s : Sense) → command_fault u h c ≡ Some s → IsInRange s
 fault_said u h c s is = subst InRangeWhere is (faulty u h c).said
@@ -91,8 +92,8 @@ or_else : (b : Bool) {x y : Result Request Bad} → IsAsked x → IsAsked y → 
 or_else true h k = h
 or_else false h k = k
 
-named_asked : (o : Option Command) → IsAsked (option_map_or (λ c. plain c) o (illegal 0x24))
-named_asked None = illegal_asked 0x24 (omega arith)
+named_asked : (o : Option Command) → IsAsked (option_map_or (λ c. plain_request c) o (illegal INVALID_FIELD_IN_CDB))
+named_asked None = illegal_asked INVALID_FIELD_IN_CDB (omega arith)
 named_asked (Some c) = record { said = tt }
 
 asked : (cdb params : List ℕ) → IsAsked (request_of cdb params)
@@ -100,21 +101,21 @@ unfolding request_of
 asked cdb params =
     let opcode = slice_index cdb 0 in
     let action = slice_index cdb 1 % 32 in
-    let is_sense = opcode == 0x03 in
-    let is_in = opcode == 0x5e in
-    let is_out = opcode == 0x5f in
+    let is_sense = opcode == REQUEST_SENSE in
+    let is_in = opcode == PERSISTENT_RESERVE_IN in
+    let is_out = opcode == PERSISTENT_RESERVE_OUT in
     or_else (length cdb == 0) (no_request Short) (
-    or_else (opcode == 0x12 || opcode == 0xa0) (no_request (NotModelled opcode)) (
-    or_else (length_of opcode == 0) (illegal_asked 0x20 (omega arith)) (
+    or_else (opcode == INQUIRY || opcode == REPORT_LUNS) (no_request (NotModelled opcode)) (
+    or_else (length_of opcode == 0) (illegal_asked INVALID_COMMAND_OPERATION_CODE (omega arith)) (
     or_else (nat_lt (length cdb) (length_of opcode)) (no_request Short) (
-    or_else (is_sense && has_flag (slice_index cdb 1) 0x01) (illegal_asked 0x24 (omega arith)) (
-    or_else (is_sense && nat_lt (slice_index cdb 4) 18) (no_request (NotModelled opcode)) (
-    or_else ((is_in && nat_lt 0x02 action) || (is_out && nat_lt 0x06 action)) (illegal_asked 0x24 (omega arith)) (
-    or_else (is_out && not (be32 cdb 5 == 24)) (illegal_asked 0x1a (omega arith)) (
-    or_else (is_out && nat_lt (length params) 24) (no_request Short) (
-    or_else (is_none (named cdb params)) (illegal_asked 0x24 (omega arith)) (
-    or_else (is_out && has_refused_flag action (slice_index params 20)) (illegal_asked 0x26 (omega arith))
-    (named_asked (named cdb params))))))))))))
+    or_else (is_sense && has_flag (slice_index cdb 1) DESC) (illegal_asked INVALID_FIELD_IN_CDB (omega arith)) (
+    or_else (is_sense && nat_lt (slice_index cdb 4) FIXED_SENSE_LENGTH) (no_request (NotModelled opcode)) (
+    or_else ((is_in && nat_lt REPORT_CAPABILITIES action) || (is_out && nat_lt REGISTER_AND_IGNORE_EXISTING_KEY action)) (illegal_asked INVALID_FIELD_IN_CDB (omega arith)) (
+    or_else (is_out && not (be32 cdb 5 == PARAMETER_LIST_LENGTH)) (illegal_asked PARAMETER_LIST_LENGTH_ERROR (omega arith)) (
+    or_else (is_out && nat_lt (length params) PARAMETER_LIST_LENGTH) (no_request Short) (
+    or_else (is_none (named_command cdb params)) (illegal_asked INVALID_FIELD_IN_CDB (omega arith)) (
+    or_else (is_out && has_refused_flag action (slice_index params 20)) (illegal_asked INVALID_FIELD_IN_PARAMETER_LIST (omega arith))
+    (named_asked (named_command cdb params))))))))))))
 
 pub request_said : (cdb params : List ℕ) (q : Request) → request_of cdb params ≡ Ok q → FaultyInRange q
 request_said cdb params q is = subst InRangeRead is (asked cdb params).said
@@ -169,7 +170,7 @@ code_small ExclusiveAccessRegistrantsOnly = omega arith
 code_small WriteExclusiveAllRegistrants = omega arith
 code_small ExclusiveAccessAllRegistrants = omega arith
 
-all_keys_data : (generation : ℕ) (keys : List ℕ) → length keys ≤ 8 → IsData 72 (keys_bytes generation keys)
+all_keys_data : (generation : ℕ) (keys : List ℕ) → length keys ≤ MOST_NEXUSES → IsData 72 (keys_bytes generation keys)
 unfolding keys_bytes
 all_keys_data generation keys h =
     let head = data_both 4 4 (to_be_bytes w32 generation) (to_be_bytes w32 (8 * length keys)) (number_data 4 generation) (number_data 4 (8 * length keys)) in
@@ -203,9 +204,9 @@ unfolding sense_bytes
 sense_data s h k = record { each = sense_each s h k; short = omega arith }
 
 -- the data of a command that ends GOOD, where there are no more registrations than 8
-said_data : (u : State) (c : Command) → length (finmap.values u.keys) ≤ 8 → IsData 72 (data_of u c)
+said_data : (u : State) (c : Command) → length (finmap.values u.keys) ≤ MOST_NEXUSES → IsData 72 (data_of u c)
 said_data u TestUnitReady h = nothing
-said_data u RequestSense h = sense_data (record { key = 0x00; asc = 0x00; ascq = 0x00 }) (omega arith) (omega arith)
+said_data u RequestSense h = sense_data (record { key = NO_SENSE; asc = NO_ADDITIONAL_SENSE_INFORMATION; ascq = 0 }) (omega arith) (omega arith)
 said_data u (Read lba blocks) h = nothing
 said_data u (Write lba blocks) h = nothing
 said_data u (ReadKeys alloc) h = cut_data 72 alloc (keys_bytes u.generation (finmap.values u.keys)) (all_keys_data u.generation (finmap.values u.keys) h) (omega arith)
@@ -236,7 +237,7 @@ check_said s h = record { sense = h; bytes = are_bytes [] tt; short = omega arit
 pub conflict_said : IsSaid conflict
 conflict_said = record { sense = tt; bytes = are_bytes [] tt; short = omega arith }
 
-pub done_said : (u : State) (c : Command) → length (finmap.values u.keys) ≤ 8 → IsSaid (good (data_of u c))
+pub done_said : (u : State) (c : Command) → length (finmap.values u.keys) ≤ MOST_NEXUSES → IsSaid (good (data_of u c))
 done_said u c h = good_said (data_of u c) (said_data u c h)
 
 pub fault_reply_said : (s : Sense) → IsInRange s → IsSaid (check s)

@@ -5,10 +5,10 @@ use Rattle.std.proofs.lemmas.Bool.{and_parts}
 use Rattle.pr_cdb.specs.declared.command.Command.{Command}
 use Rattle.pr_cdb.specs.declared.reply.Reply.{Reply}
 use Rattle.pr_script.specs.Names.{is_name}
-use Rattle.pr_script.specs.Scripts.{Stmt, Stmts, Arms, sends, repeats, breaks, stops, none, more, no_arm, arm, Item, statement, mark, Configuration, before, turn, past_mark, becomes, becomes_often, work, settled, begun, Standing, ready, stopped, standing}
+use Rattle.pr_script.specs.Scripts.{Stmt, Stmts, Arms, sends, repeats, breaks, stops, none, more, no_arm, arm, Item, statement, mark, Configuration, before, turn, past_mark, becomes, becomes_often, work, settled_form, first_configuration, Standing, ready, stopped, standing_of_items}
 use Rattle.pr_script.specs.Takes.{first_match, matches, take}
 use Rattle.pr_script.specs.Grammar.{statement_fits, statements_fit, arms_fit, is_send_written, is_repeat_written, is_written, test_fits, script_fits, count_of_arms}
-use Rattle.pr_roles.specs.Worlds.{Control, Going, Trapped, Free, standing_of, taken}
+use Rattle.pr_roles.specs.Worlds.{Control, Going, Trapped, Free, standing_of, control_after}
 
 abbrev mutual
   Says : List ℕ → Stmt → Type 0
@@ -92,8 +92,8 @@ often_says : (keys : List ℕ) (n : ℕ) (l : Configuration) → StillSays keys 
 often_says keys zero l h = h
 often_says keys (suc n) l h = often_says keys n (becomes l) (becomes_says keys l h)
 
-settled_says : (keys : List ℕ) (l : Configuration) → StillSays keys l → StillSays keys (settled l)
-unfolding settled
+settled_says : (keys : List ℕ) (l : Configuration) → StillSays keys l → StillSays keys (settled_form l)
+unfolding settled_form
 settled_says keys l h = often_says keys (work l) l h
 
 -- ---- what stands next
@@ -104,7 +104,7 @@ ControlSays keys (Going l) = StillSays keys l
 ControlSays keys (Trapped line) = Unit {0}
 ControlSays keys Free = Unit {0}
 
-pub begun_says : (keys : List ℕ) (b : Stmts) → AllSay keys b → ControlSays keys (Going (begun b))
+pub begun_says : (keys : List ℕ) (b : Stmts) → AllSay keys b → ControlSays keys (Going (first_configuration b))
 begun_says keys b h = settled_says keys (before b []) (before_says keys b [] h tt)
 
 abbrev BodySays : List ℕ → Option Stmts → Type 0
@@ -117,11 +117,11 @@ match_says keys (arm t body rest) r h =
     elim (matches t r) as (λ b. BodySays keys (cond b (Some body) (first_match rest r))) [ true ↦ h.0 | false ↦ match_says keys rest r h.1 ]
 
 going_says : (keys : List ℕ) (line : ℕ) (l : Configuration) (o : Option Stmts) → StillSays keys l → BodySays keys o
-    → ControlSays keys (elim (option_map (λ body. settled (before body l)) o) as (λ x. Control) [ None ↦ Trapped line | Some m ↦ Going m ])
+    → ControlSays keys (elim (option_map (λ body. settled_form (before body l)) o) as (λ x. Control) [ None ↦ Trapped line | Some m ↦ Going m ])
 going_says keys line l None h k = tt
 going_says keys line l (Some body) h k = settled_says keys (before body l) (before_says keys body l k h)
 
-pub taken_says : (keys : List ℕ) (line : ℕ) (k : Control) (r : Reply) → ControlSays keys k → ControlSays keys (taken line k r)
+pub taken_says : (keys : List ℕ) (line : ℕ) (k : Control) (r : Reply) → ControlSays keys k → ControlSays keys (control_after line k r)
 taken_says keys line (Going []) r h = tt
 taken_says keys line (Going (mark ∷ l)) r h = tt
 taken_says keys line (Going ((statement (sends n c a)) ∷ l)) r h = going_says keys line l (first_match a r) h.1 (match_says keys a r h.0.1)
@@ -141,7 +141,7 @@ end_is_name : is_name (codes "end") ≡ true
 unfolding is_name
 end_is_name = refl
 
-pub standing_says : (keys : List ℕ) (l : Configuration) → StillSays keys l → StandingSays keys (standing l)
+pub standing_says : (keys : List ℕ) (l : Configuration) → StillSays keys l → StandingSays keys (standing_of_items l)
 standing_says keys [] h = end_is_name
 standing_says keys (mark ∷ l) h = tt
 standing_says keys ((statement (sends n c a)) ∷ l) h = h.0.0

@@ -7,7 +7,7 @@ use Rattle.std.proofs.lemmas.Bool.{ne_eqb}
 use Rattle.std.proofs.lemmas.Bool.Decides.{nat_tests}
 use Rattle.std.proofs.lemmas.List.Elements.{All-cons, All-nil}
 use Rattle.std.proofs.lemmas.List.Splits.{slice_split_at, slice_split_none, length-slice_split}
-use Rattle.pr_report.specs.PrintedLines.{line, pairs, pairs_or_dash, spaced}
+use Rattle.pr_report.specs.PrintedLines.{line, pairs, pairs_or_dash, joined_by_spaces}
 use Rattle.pr_report.specs.TraceReadings.{lines, lines_of_parts, words}
 
 -- no byte is a space, or before it among the characters
@@ -80,24 +80,24 @@ AreSolid (w ∷ ws) = IsSolid w × AreSolid ws
 
 -- a line without its end
 abbrev pub bare : List ℕ → List (List ℕ) → List ℕ
-bare first others = first ++ spaced others
+bare first others = first ++ joined_by_spaces others
 
 pub words_back : (first : List ℕ) (others : List (List ℕ)) → IsSolid first → AreSolid others → words (bare first others) ≡ first ∷ others
-unfolding words spaced
+unfolding words joined_by_spaces
 words_back first [] h k =
     ap (slice_split (λ b. b == 32)) (append-nil first) ∙ slice_split_none (λ b. b == 32) first (not_in 32 first (omega arith) h)
 words_back first (w ∷ ws) h k =
     slice_split_at (λ b. b == 32) first 32 (bare w ws) (not_in 32 first (omega arith) h) refl ∙ ap (λ l. first ∷ l) (words_back w ws k.0 k.1)
 
-spaced_length : (w : List ℕ) (ws : List (List ℕ)) → length (spaced (w ∷ ws)) ≡ 1 + length w + length (spaced ws)
-unfolding spaced
-spaced_length w ws = omega (arith, length-append (32 ∷ w) (spaced ws))
+spaced_length : (w : List ℕ) (ws : List (List ℕ)) → length (joined_by_spaces (w ∷ ws)) ≡ 1 + length w + length (joined_by_spaces ws)
+unfolding joined_by_spaces
+spaced_length w ws = omega (arith, length-append (32 ∷ w) (joined_by_spaces ws))
 
-pub spaced_word : (m k : ℕ) (w : List ℕ) (ws : List (List ℕ)) → IsWord m w → length (spaced ws) ≤ k → length (spaced (w ∷ ws)) ≤ 1 + m + k
+pub spaced_word : (m k : ℕ) (w : List ℕ) (ws : List (List ℕ)) → IsWord m w → length (joined_by_spaces ws) ≤ k → length (joined_by_spaces (w ∷ ws)) ≤ 1 + m + k
 spaced_word m k w ws h l = omega (arith, spaced_length w ws, h.short)
 
-pub spaced_none : length (spaced []) ≤ 0
-unfolding spaced
+pub spaced_none : length (joined_by_spaces []) ≤ 0
+unfolding joined_by_spaces
 spaced_none = omega arith
 
 -- ---- lines
@@ -111,10 +111,10 @@ clear_solid : (w rest : List ℕ) → IsSolid w → IsClear rest → IsClear (w 
 clear_solid [] rest h k = k
 clear_solid (b ∷ bs) rest h k = (omega arith, clear_solid bs rest h.1 k)
 
-clear_spaced : (ws : List (List ℕ)) → AreSolid ws → IsClear (spaced ws)
-unfolding spaced
+clear_spaced : (ws : List (List ℕ)) → AreSolid ws → IsClear (joined_by_spaces ws)
+unfolding joined_by_spaces
 clear_spaced [] h = tt
-clear_spaced (w ∷ ws) h = (omega arith, clear_solid w (spaced ws) h.0 (clear_spaced ws h.1))
+clear_spaced (w ∷ ws) h = (omega arith, clear_solid w (joined_by_spaces ws) h.0 (clear_spaced ws h.1))
 
 clear_all : (w : List ℕ) → IsClear w → All (λ b. (b == 10) ≡ false) w
 clear_all [] k = All-nil (λ b. (b == 10) ≡ false)
@@ -134,6 +134,6 @@ pub line_back : (first : List ℕ) (others : List (List ℕ)) (rest : List ℕ) 
 unfolding line
 line_back first others rest h k =
     let whole : line first others ++ rest ≡ bare first others ++ (10 ∷ rest) =
-    append_assoc first (spaced others ++ (10 ∷ [])) rest
-    ∙ (ap (λ l. first ++ l) (append_assoc (spaced others) (10 ∷ []) rest) ∙ sym (append_assoc first (spaced others) (10 ∷ rest))) in
-    ap lines whole ∙ line_cut (bare first others) rest (clear_solid first (spaced others) h (clear_spaced others k))
+    append_assoc first (joined_by_spaces others ++ (10 ∷ [])) rest
+    ∙ (ap (λ l. first ++ l) (append_assoc (joined_by_spaces others) (10 ∷ []) rest) ∙ sym (append_assoc first (joined_by_spaces others) (10 ∷ rest))) in
+    ap lines whole ∙ line_cut (bare first others) rest (clear_solid first (joined_by_spaces others) h (clear_spaced others k))

@@ -7,6 +7,7 @@ use Rattle.std.proofs.lemmas.Bool.Decides.{nat_tests}
 use Rattle.std.proofs.lemmas.List.{get_or_past, length-map}
 use Rattle.std.proofs.lemmas.List.Sums.{position_or_len_is}
 use Rattle.std.proofs.lemmas.Slice.Eq.{bytes_eq-Decides}
+use Rattle.pr_cdb.specs.declared.codes.TheConstants.{MOST_NEXUSES}
 use Rattle.pr_script.specs.Names.{is_name, is_name_byte}
 use Rattle.pr_roles.specs.Scenarios.{Scenario, Nexus}
 use Rattle.pr_roles.specs.Fitting.{Fits, are_distinct, is_nexus, is_role, is_start, is_task}
@@ -16,7 +17,7 @@ use Rattle.pr_report.proofs.SolidWords.{IsSolid, IsWord}
 
 -- names that differ, each with the form of one
 pub record AreNames (names : List (List ℕ)) : Type 0 where
-  pub few : length names ≤ 8
+  pub few : length names ≤ MOST_NEXUSES
   pub apart : are_distinct bytes_eq names ≡ true
   pub each : (h : ℕ) → h < length names → is_name (name_of names h) ≡ true
 
@@ -86,7 +87,7 @@ number_back names h are k =
 
 -- ---- the names of a scenario
 
-few_names : (n : ℕ) → nat_le n 8 ≡ true → n ≤ 8
+few_names : (n : ℕ) → nat_le n MOST_NEXUSES ≡ true → n ≤ MOST_NEXUSES
 few_names n h = grind (arith, nat_tests)
 
 each_name : (keys : List ℕ) (ns : List Nexus) (h : ℕ) → list_all (is_nexus keys) ns ≡ true → h < length ns → is_name (name_of (map (λ n. n.name) ns) h) ≡ true
@@ -99,8 +100,8 @@ pub names_fit : (s : Scenario) → Fits s → AreNames (names_in s)
 names_fit s fits =
     let ns = s.nexuses in
     let names = map (λ (n : Nexus). n.name) ns in
-    let rest = (and_parts (not (length ns == 0)) (nat_le (length ns) 8 && (are_distinct bytes_eq names && list_all (is_nexus s.keys) ns)) fits.nexuses).1 in
-    let more = and_parts (nat_le (length ns) 8) (are_distinct bytes_eq names && list_all (is_nexus s.keys) ns) rest in
+    let rest = (and_parts (not (length ns == 0)) (nat_le (length ns) MOST_NEXUSES && (are_distinct bytes_eq names && list_all (is_nexus s.keys) ns)) fits.nexuses).1 in
+    let more = and_parts (nat_le (length ns) MOST_NEXUSES) (are_distinct bytes_eq names && list_all (is_nexus s.keys) ns) rest in
     let all = and_parts (are_distinct bytes_eq names) (list_all (is_nexus s.keys) ns) more.1 in
     record {
       few = omega (arith, few_names (length ns) more.0, length-map ns (λ (n : Nexus). n.name));

@@ -3,7 +3,7 @@ use Rattle.std.proofs.Common.{◌≡◌, ℕ, suc, ◌+◌, ◌<◌, ◌≤◌, 
 use Rattle.std.proofs.Math.ListN.{drop_of_length-le}
 use Rattle.std.specs.Io.KnownBytes.{Appends}
 use Rattle.pr_report.specs.Written.{Wrote, FallsShort, Puts}
-use Rattle.pr_report.specs.PrintedLines.{line, spaced, generation_word, registration_word}
+use Rattle.pr_report.specs.PrintedLines.{line, joined_by_spaces, generation_word, registration_word}
 use Rattle.pr_report.specs.TraceText.{entry_line, entry_lines, ending_line, ending_lines, held_word, name_of, names_in, names_of, registration_words, trace_text, unit_line}
 use Rattle.std.specs.Prelude.{map, slice_index}
 use Rattle.pr_roles.specs.declared.entry.Entry.{Entry}
@@ -12,7 +12,7 @@ use Rattle.pr_roles.specs.declared.parts.Parts.{Parts}
 use Rattle.pr_roles.specs.Scenarios.{scenario_of, nexus_of}
 use Rattle.pr_registry.specs.Registrations.{State, key_of}
 use Rattle.pr_world.specs.declared.end.End.{End}
-use Rattle.pr_world.specs.Ends.{seen}
+use Rattle.pr_world.specs.Ends.{ending_of}
 use Rattle.pr_report.proofs.Fronts.{held_first, held_front, held_more, wrote_front, wrote_more}
 
 -- the element that a loop is at, and what comes after it
@@ -43,15 +43,15 @@ entries_end old new text held names es i h w = rw append-nil at (rw (entry_lines
 -- Registrations.
 
 abbrev pub registrations : State → ℕ → List NexusPart → List ℕ
-registrations unit host nexuses = spaced (registration_words unit host (names_of nexuses))
+registrations unit host nexuses = joined_by_spaces (registration_words unit host (names_of nexuses))
 
 registrations_from : (unit : State) (nexuses : List NexusPart) (i : ℕ) (n : NexusPart) → i < length nexuses → n ≡ get_or nexuses i n
     → registrations unit i (drop i nexuses) ≡ (32 ∷ registration_word n.name.bytes (key_of unit i)) ++ registrations unit (i + 1) (drop (i + 1) nexuses)
-unfolding spaced
+unfolding joined_by_spaces
 registrations_from unit nexuses i n h is = rw (drop_here nexuses i n h is) refl
 
 pub registrations_end : (unit : State) (nexuses : List NexusPart) (i : ℕ) → length nexuses ≤ i → registrations unit i (drop i nexuses) ≡ []
-unfolding spaced
+unfolding joined_by_spaces
 registrations_end unit nexuses i h = rw (drop_of_length-le nexuses {i = i} h) refl
 
 pub registrations_front : (old mid new : Option (List ℕ)) (text : List ℕ) (unit : State) (nexuses : List NexusPart) (i : ℕ) (n : NexusPart) → i < length nexuses → n ≡ get_or nexuses i n
@@ -68,30 +68,30 @@ regrouped a b c d = simp (append_assoc, append-nil)
 -- the four pieces in which the line of the unit goes out
 pub unit_pieces : (names : List (List ℕ)) (unit : State)
     → unit_line names unit
-    ≡ codes "unit" ++ (spaced (generation_word unit.generation ∷ held_word names unit.held ∷ []) ++ (spaced (registration_words unit 0 names) ++ (10 ∷ [])))
-unfolding unit_line line spaced
+    ≡ codes "unit" ++ (joined_by_spaces (generation_word unit.generation ∷ held_word names unit.held ∷ []) ++ (joined_by_spaces (registration_words unit 0 names) ++ (10 ∷ [])))
+unfolding unit_line line joined_by_spaces
 unit_pieces names unit =
-    ap (λ w. codes "unit" ++ (32 ∷ w)) (regrouped (generation_word unit.generation) (32 ∷ held_word names unit.held) (spaced (registration_words unit 0 names)) (10 ∷ []))
+    ap (λ w. codes "unit" ++ (32 ∷ w)) (regrouped (generation_word unit.generation) (32 ∷ held_word names unit.held) (joined_by_spaces (registration_words unit 0 names)) (10 ∷ []))
 
 -- Ends.
 
 ending_lines_from : (names : List (List ℕ)) (counts : List ℕ) (es : List End) (i : ℕ) (e : End) → i < length es → e ≡ get_or es i e
-    → ending_lines i names counts (map seen (drop i es)) ≡ ending_line (name_of names i) (seen e) (slice_index counts i) ++ ending_lines (i + 1) names counts (map seen (drop (i + 1) es))
+    → ending_lines i names counts (map ending_of (drop i es)) ≡ ending_line (name_of names i) (ending_of e) (slice_index counts i) ++ ending_lines (i + 1) names counts (map ending_of (drop (i + 1) es))
 ending_lines_from names counts es i e h is = rw (drop_here es i e h is) refl
 
-ending_lines_end : (names : List (List ℕ)) (counts : List ℕ) (es : List End) (i : ℕ) → length es ≤ i → ending_lines i names counts (map seen (drop i es)) ≡ []
+ending_lines_end : (names : List (List ℕ)) (counts : List ℕ) (es : List End) (i : ℕ) → length es ≤ i → ending_lines i names counts (map ending_of (drop i es)) ≡ []
 ending_lines_end names counts es i h = rw (drop_of_length-le es {i = i} h) refl
 
 pub ends_front : (old mid new : Option (List ℕ)) (text held : List ℕ) (names : List (List ℕ)) (counts : List ℕ) (es : List End) (i : ℕ) (e : End) → i < length es → e ≡ get_or es i e
-    → Wrote old mid text (held ++ ending_lines i names counts (map seen (drop i es))) → FallsShort mid new (held ++ ending_line (name_of names i) (seen e) (slice_index counts i)) → FallsShort old new text
+    → Wrote old mid text (held ++ ending_lines i names counts (map ending_of (drop i es))) → FallsShort mid new (held ++ ending_line (name_of names i) (ending_of e) (slice_index counts i)) → FallsShort old new text
 ends_front old mid new text held names counts es i e h is w f = held_front _ _ _ _ held _ _ (rw (ending_lines_from names counts es i e h is) at w) f
 
 pub ends_more : (old mid new : Option (List ℕ)) (text held left : List ℕ) (names : List (List ℕ)) (counts : List ℕ) (es : List End) (i : ℕ) (e : End) → i < length es → e ≡ get_or es i e
-    → Wrote old mid text (held ++ ending_lines i names counts (map seen (drop i es))) → Wrote mid new (held ++ ending_line (name_of names i) (seen e) (slice_index counts i)) left → Wrote old new text (left ++ ending_lines (i + 1) names counts (map seen (drop (i + 1) es)))
+    → Wrote old mid text (held ++ ending_lines i names counts (map ending_of (drop i es))) → Wrote mid new (held ++ ending_line (name_of names i) (ending_of e) (slice_index counts i)) left → Wrote old new text (left ++ ending_lines (i + 1) names counts (map ending_of (drop (i + 1) es)))
 ends_more old mid new text held left names counts es i e h is w v = held_more _ _ _ _ held _ _ _ (rw (ending_lines_from names counts es i e h is) at w) v
 
 pub ends_end : (old new : Option (List ℕ)) (text held : List ℕ) (names : List (List ℕ)) (counts : List ℕ) (es : List End) (i : ℕ) → length es ≤ i
-    → Wrote old new text (held ++ ending_lines i names counts (map seen (drop i es))) → Wrote old new text held
+    → Wrote old new text (held ++ ending_lines i names counts (map ending_of (drop i es))) → Wrote old new text held
 ends_end old new text held names counts es i h w = rw append-nil at (rw (ending_lines_end names counts es i h) at w)
 
 -- The whole, in four parts.
@@ -117,8 +117,8 @@ names_of_scenario p = names_of_nexuses p.nexuses.items
 
 -- the trace of a scenario, whose names and registry were read out
 pub trace_of_parts : {E : Type 0} (old new : Option (List ℕ)) (p q : Parts) (nexuses : List NexusPart) (entries : List Entry) (u v : State) (ends : List End) (counts : List ℕ) (r : Result (Unit {0}) E)
-    → q ≡ p → nexuses ≡ q.nexuses.items → u ≡ v → Puts old new (trace_text (names_of nexuses) entries u (map seen ends) counts) r
-    → Puts old new (trace_text (names_in (scenario_of p)) entries v (map seen ends) counts) r
+    → q ≡ p → nexuses ≡ q.nexuses.items → u ≡ v → Puts old new (trace_text (names_of nexuses) entries u (map ending_of ends) counts) r
+    → Puts old new (trace_text (names_in (scenario_of p)) entries v (map ending_of ends) counts) r
 trace_of_parts old new p q nexuses entries u v ends counts r same items unit puts =
-    subst (λ w. Puts old new (trace_text (names_in (scenario_of p)) entries w (map seen ends) counts) r) unit
-    (subst (λ ns. Puts old new (trace_text ns entries u (map seen ends) counts) r) (ap names_of (items ∙ ap (λ o. o.nexuses.items) same) ∙ names_of_scenario p) puts)
+    subst (λ w. Puts old new (trace_text (names_in (scenario_of p)) entries w (map ending_of ends) counts) r) unit
+    (subst (λ ns. Puts old new (trace_text ns entries u (map ending_of ends) counts) r) (ap names_of (items ∙ ap (λ o. o.nexuses.items) same) ∙ names_of_scenario p) puts)

@@ -11,9 +11,10 @@ use Rattle.pr_registry.specs.declared.held.Held.{Held}
 use Rattle.pr_registry.specs.declared.held.Held.TheVariants.{One, All as Everybody}
 use Rattle.pr_registry.specs.Registrations.{State, key_of}
 use Rattle.pr_cdb.specs.Kinds.{code_of}
+use Rattle.pr_cdb.specs.declared.codes.TheConstants.{MOST_NEXUSES}
 use Rattle.pr_roles.specs.declared.entry.Entry.{Entry}
 use Rattle.pr_world.specs.Ends.{Ending, stops, waits, traps, leaves}
-use Rattle.pr_report.specs.PrintedLines.{generation_word, key_or_dash, line, registration_word, spaced}
+use Rattle.pr_report.specs.PrintedLines.{generation_word, key_or_dash, line, registration_word, joined_by_spaces}
 use Rattle.pr_report.specs.TraceText.{ending_line, ending_lines, entry_lines, held_word, name_of, names_in, registration_words, unit_line}
 use Rattle.pr_report.specs.TraceLaws.{IsEnding, IsEntry, WrittenTracesAreRead}
 use Rattle.pr_report.specs.TraceReadings.{and_then, entries_of, is_later, later_lines, lines, trace_in, trace_of}
@@ -49,7 +50,7 @@ are_solid : (n : ℕ) (ws : List (List ℕ)) → AreWords n ws → AreSolid ws
 are_solid n [] h = tt
 are_solid n (w ∷ ws) h = (h.0.solid, are_solid n ws h.1)
 
-spaced_short : (ws : List (List ℕ)) → AreWords 81 ws → length (spaced ws) ≤ 82 * length ws
+spaced_short : (ws : List (List ℕ)) → AreWords 81 ws → length (joined_by_spaces ws) ≤ 82 * length ws
 spaced_short [] h = omega (arith, spaced_none)
 spaced_short (w ∷ ws) h = omega (arith, spaced_word 81 (82 * length ws) w ws h.0 (spaced_short ws h.1))
 
@@ -74,7 +75,7 @@ later_good entries others (l ∷ ls) h k =
 -- a line of such words, which is cut off
 module _ (first : List ℕ) (others : List (List ℕ)) (solid : IsWord 5 first) (words : AreWords 81 others) (few : length others ≤ 10) where
   later_short : length (bare first others) ≤ 1024
-  later_short = omega (arith, length-append first (spaced others), solid.short, spaced_short others words)
+  later_short = omega (arith, length-append first (joined_by_spaces others), solid.short, spaced_short others words)
 
   later_cut : (rest : List ℕ) → lines (line first others ++ rest) ≡ bare first others ∷ lines rest
   later_cut rest = line_back first others rest solid.solid (are_solid 81 others words)
@@ -114,7 +115,7 @@ module _ (kind name how what rest : List ℕ) (sent : ℕ) (k : IsWord 5 kind) (
   kind_cut later =
       let ws = ending_words name how what sent in
       let are = ending_are_words name how what sent n h w in
-      record { bare_line = bare kind ws; cut = later_cut kind ws k are (omega arith) rest; later = later (spaced ws); short = later_short kind ws k are (omega arith) }
+      record { bare_line = bare kind ws; cut = later_cut kind ws k are (omega arith) rest; later = later (joined_by_spaces ws); short = later_short kind ws k are (omega arith) }
 
 host_cut : (name how what rest : List ℕ) (sent : ℕ) → IsWord 16 name → IsWord 81 how → IsWord 81 what → IsCut (line (codes "host") (ending_words name how what sent)) rest
 host_cut name how what rest sent n h w = kind_cut (codes "host") name how what rest sent (known 5 (codes "host") refl (omega arith)) n h w host_later
@@ -188,20 +189,20 @@ unit_cut names u rest are =
     record {
       bare_line = bare (codes "unit") ws;
       cut = later_cut (codes "unit") ws first each few rest;
-      later = unit_later (spaced ws);
+      later = unit_later (joined_by_spaces ws);
       short = later_short (codes "unit") ws first each few;
     }
 
 -- ---- the whole text
 
 first_bare : bare (codes "fence-trace") (codes "1" ∷ []) ≡ codes "fence-trace 1"
-unfolding spaced
+unfolding joined_by_spaces
 first_bare = refl
 
 nothing_more : (names : List (List ℕ)) (entries : ℕ) (l : List ℕ) (ls : List (List ℕ)) → is_later l ≡ true → later_lines entries 0 (l ∷ ls) ≡ Ok tt → entries_of names entries (l ∷ ls) ≡ Ok []
 nothing_more names entries l ls h k = entries_later names entries l ls h ∙ ap (λ r. and_then r (λ _. Ok [])) k
 
-behind_back : (names : List (List ℕ)) (entries : ℕ) (u : State) (ends : List Ending) (counts : List ℕ) → AreNames names → length ends ≤ 8 → AreEndings ends
+behind_back : (names : List (List ℕ)) (entries : ℕ) (u : State) (ends : List Ending) (counts : List ℕ) → AreNames names → length ends ≤ MOST_NEXUSES → AreEndings ends
     → entries_of names entries (lines (unit_line names u ++ ending_lines 0 names counts ends)) ≡ Ok []
 behind_back names entries u ends counts are short each =
     let rest = ending_lines 0 names counts ends in
@@ -236,7 +237,7 @@ written_are_read s es u ends counts fits each few ended all =
     let names = names_in s in
     let are = names_fit s fits in
     let rest = unit_line names u ++ ending_lines 0 names counts ends in
-    let short : length ends ≤ 8 = omega (arith, ended, names_count s, are.few) in
+    let short : length ends ≤ MOST_NEXUSES = omega (arith, ended, names_count s, are.few) in
     first_back names (entry_lines 0 names es ++ rest)
     ∙ entries_back names es 0 rest are (all_entries names (length s.nexuses) es (sym (names_count s)) each) (omega arith)
     (behind_back names (0 + length es) u ends counts are short (all_endings ends all))

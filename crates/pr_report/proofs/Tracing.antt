@@ -2,17 +2,17 @@
 use Rattle.std.proofs.Common.{◌≡◌, List, [], ◌∷◌, Some, refl, ap, ◌∙◌}
 use Rattle.std.specs.Prelude.{map}
 use Rattle.pr_world.specs.declared.end.End.{End}
-use Rattle.pr_world.specs.Ends.{seen}
+use Rattle.pr_world.specs.Ends.{ending_of}
 use Rattle.pr_report.specs.TraceText.{names_in, trace_text}
 use Rattle.pr_report.specs.Traces.{ReplaysAreTraced}
 
-seen_again : (es : List End) → map (λ e. Some e) (map seen es) ≡ map (λ e. Some (seen e)) es
+seen_again : (es : List End) → map (λ e. Some e) (map ending_of es) ≡ map (λ e. Some (ending_of e)) es
 seen_again [] = refl
-seen_again (e ∷ es) = ap (λ xs. Some (seen e) ∷ xs) (seen_again es)
+seen_again (e ∷ es) = ap (λ xs. Some (ending_of e) ∷ xs) (seen_again es)
 
 pub replays_are_traced : ReplaysAreTraced
 replays_are_traced s y r is = record {
-  ends = map seen r.ends.items;
+  ends = map ending_of r.ends.items;
   standing = seen_again r.ends.items ∙ is.ends;
-  text_is = λ i. trace_text (names_in s) (is.entries i) ((is.unit i).registry) (map seen r.ends.items) (is.counts i);
+  text_is = λ i. trace_text (names_in s) (is.entries i) ((is.unit i).registry) (map ending_of r.ends.items) (is.counts i);
 }

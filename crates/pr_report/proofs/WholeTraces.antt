@@ -3,6 +3,7 @@ use Rattle.std.proofs.Common.{◌≡◌, ◌≤◌, ℕ, List, [], length, sym, 
 use Rattle.std.specs.Prelude.{Option, Some, None, Result, Ok, IfSome}
 use Rattle.std.specs.Io.KnownBytes.{prepend_known}
 use Rattle.std.proofs.KnownBytes.{prepend_known-nil}
+use Rattle.pr_cdb.specs.declared.codes.TheConstants.{MOST_NEXUSES}
 use Rattle.pr_roles.specs.declared.entry.Entry.{Entry}
 use Rattle.pr_roles.specs.declared.parts.Nexus.{Nexus}
 use Rattle.pr_roles.specs.declared.parts.Parts.{Parts}
@@ -86,5 +87,5 @@ module _ {held : List ℕ} (known : Option (List ℕ)) (empty : held ≡ []) whe
 pub names_read : (p q : Parts) (nexuses : List Nexus) → q ≡ p → nexuses ≡ q.nexuses.items → names_of nexuses ≡ names_in (scenario_of p)
 names_read p q nexuses same items = ap names_of (items ∙ ap (λ o. o.nexuses.items) same) ∙ names_of_scenario p
 
-pub few_nexuses : (p q : Parts) (nexuses : List Nexus) → q ≡ p → nexuses ≡ q.nexuses.items → Fits (scenario_of p) → length nexuses ≤ 8
-few_nexuses p q nexuses same items fits = subst (λ ns. length ns ≤ 8) (sym (items ∙ ap (λ o. o.nexuses.items) same)) (few_parts p fits)
+pub few_nexuses : (p q : Parts) (nexuses : List Nexus) → q ≡ p → nexuses ≡ q.nexuses.items → Fits (scenario_of p) → length nexuses ≤ MOST_NEXUSES
+few_nexuses p q nexuses same items fits = subst (λ ns. length ns ≤ MOST_NEXUSES) (sym (items ∙ ap (λ o. o.nexuses.items) same)) (few_parts p fits)

@@ -1,6 +1,7 @@
 -- Agrees with docs/FORMATS.md, 'Reading a trace'.
 -- What the words of an entry's line say: INDEX NAME CDB PARAMS STATUS SENSE BYTES.
 use Rattle.std.specs.Prelude.{ℕ, ◌+◌, ◌-◌, ◌*◌, ◌==◌, ◌&&◌, nat_lt, nat_le, if◌then◌else◌, List, [], ◌∷◌, length, slice_index_or, Option, Some, None, option_map, codes, bytes_eq, decimal}
+use Rattle.pr_cdb.specs.declared.codes.TheConstants.{MOST_CDB_LENGTH, PARAMETER_LIST_LENGTH, FIXED_SENSE_LENGTH, MOST_DATA_LENGTH}
 use Rattle.pr_cdb.specs.declared.reply.Reply.{Reply}
 use Rattle.pr_cdb.specs.declared.reply.Sense.{Sense}
 use Rattle.pr_cdb.specs.declared.reply.Status.{Status}
@@ -43,7 +44,7 @@ bytes_in most word =
 -- a command as it travelled: CDB and PARAMS
 abbrev pub wire_in : List ℕ → List ℕ → Option Wire
 wire_in cdb params =
-    bytes_in 16 cdb >>= λ c. bytes_in 24 params >>= λ p. if length c == 0 then None else Some (wire_of c p)
+    bytes_in MOST_CDB_LENGTH cdb >>= λ c. bytes_in PARAMETER_LIST_LENGTH params >>= λ p. if length c == 0 then None else Some (wire_of c p)
 
 abbrev pub status_in : List ℕ → Option Status
 status_in word =
@@ -68,7 +69,7 @@ sense_under Conflict bytes = senseless bytes
 -- the answer: STATUS, SENSE and BYTES
 abbrev pub reply_in : List ℕ → List ℕ → List ℕ → Option Reply
 reply_in status sense bytes =
-    status_in status >>= λ t. bytes_in 18 sense >>= λ sb. sense_under t sb >>= λ s. bytes_in 72 bytes >>= λ b. Some (reply_of t s b)
+    status_in status >>= λ t. bytes_in FIXED_SENSE_LENGTH sense >>= λ sb. sense_under t sb >>= λ s. bytes_in MOST_DATA_LENGTH bytes >>= λ b. Some (reply_of t s b)
 
 -- ---- the whole line
 

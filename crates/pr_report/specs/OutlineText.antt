@@ -21,8 +21,8 @@ use Rattle.pr_report.specs.ScenarioWords.{command_words, test_words}
 use Rattle.pr_report.specs.TraceText.{name_of, held_word}
 
 -- the line of these words behind two spaces
-abbrev pub indented : List (List ℕ) → List ℕ
-indented words = line (codes " ") words
+abbrev pub indented_line : List (List ℕ) → List ℕ
+indented_line words = line (codes " ") words
 
 -- ---- what is possible
 
@@ -36,7 +36,7 @@ free_or_key (Some key) = key_word key
 
 unfoldable pub registration_line : List (List ℕ) → View → ℕ → List ℕ
 registration_line names v g =
-    indented (codes "registration" ∷ name_of names g ∷ map (λ r. free_or_key (key_at v.scope.keys r)) (registrations_of v g))
+    indented_line (codes "registration" ∷ name_of names g ∷ map (λ r. free_or_key (key_at v.scope.keys r)) (registrations_of v g))
 
 -- the types of which one nexus is the holder
 abbrev pub kinds_of_one : List Kind
@@ -58,7 +58,7 @@ abbrev pub possible_of : View → List (Option Held) → List (Option Held)
 possible_of v helds = filter (λ held. v.reservations (number_of v.scope.hosts held)) helds
 
 unfoldable pub reservation_line : List (List ℕ) → View → List ℕ
-reservation_line names v = indented (codes "reservation" ∷ map (held_word names) (possible_of v (reservations v.scope.hosts)))
+reservation_line names v = indented_line (codes "reservation" ∷ map (held_word names) (possible_of v (reservations v.scope.hosts)))
 
 -- the codes of the set with this number, the lowest first
 abbrev pub codes_in : ℕ → List ℕ
@@ -66,7 +66,7 @@ codes_in q = filter (set.contains (codes_of q)) attentions
 
 unfoldable pub pending_line : View → List ℕ
 pending_line v =
-    indented (codes "pending" ∷ map (λ q. attentions_word (codes_in q)) (filter v.pending (range_with_len 0 count_of_attentions)))
+    indented_line (codes "pending" ∷ map (λ q. attentions_word (codes_in q)) (filter v.pending (range_with_len 0 count_of_attentions)))
 
 unfoldable pub view_text : List (List ℕ) → View → List ℕ
 view_text names v =
@@ -76,19 +76,19 @@ view_text names v =
 
 abbrev pub permitted_text : Bool → List ℕ
 permitted_text true = []
-permitted_text false = indented (codes "not" ∷ codes "permitted" ∷ [])
+permitted_text false = indented_line (codes "not" ∷ codes "permitted" ∷ [])
 
 -- the line of an arm; an arm that is not there has none
 abbrev pub arm_text : Option Test → List ℕ
 arm_text None = []
-arm_text (Some test) = indented (codes "on" ∷ test_words test)
+arm_text (Some test) = indented_line (codes "on" ∷ test_words test)
 
 abbrev pub unarmed_line : Class → List ℕ
-unarmed_line class = indented (codes "no" ∷ codes "arm" ∷ class_word class ∷ [])
+unarmed_line class = indented_line (codes "no" ∷ codes "arm" ∷ class_word class ∷ [])
 
 -- where no reply may come at all
 abbrev pub never_text : List ℕ → List Class → List ℕ
-never_text [] [] = indented (codes "never" ∷ codes "sent" ∷ [])
+never_text [] [] = indented_line (codes "never" ∷ codes "sent" ∷ [])
 never_text [] (class ∷ classes) = []
 never_text (arm ∷ arms) [] = []
 never_text (arm ∷ arms) (class ∷ classes) = []

@@ -6,17 +6,17 @@ use Rattle.pr_report.specs.declared.printing.Word.{Word}
 use Rattle.pr_report.specs.declared.printing.Word.TheVariants.{Text, Number, Bytes, Key, Generation, Holder, Registration, ReservationKey, ServiceActionKey, ReservationType, Sense, Class, Attentions}
 use Rattle.pr_report.specs.PrintedLines.{pairs_or_dash, key_word, generation_word, holder_word, registration_word, reservation_key_word, service_action_key_word, type_word, sense_word, class_word, attentions_word}
 
-unfoldable pub printed : Word → List ℕ
-printed (Text text) = text.now
-printed (Number number) = decimal number
-printed (Bytes bytes) = pairs_or_dash bytes.now
-printed (Key key) = key_word key
-printed (Generation generation) = generation_word generation
-printed (Holder kind name) = holder_word kind name.now
-printed (Registration name key) = registration_word name.now key
-printed (ReservationKey key) = reservation_key_word key
-printed (ServiceActionKey key) = service_action_key_word key
-printed (ReservationType kind) = type_word kind
-printed (Sense sense) = sense_word sense
-printed (Class class) = class_word class
-printed (Attentions codes) = attentions_word codes.now
+unfoldable pub printed_word : Word → List ℕ
+printed_word (Text text) = text.now
+printed_word (Number number) = decimal number
+printed_word (Bytes bytes) = pairs_or_dash bytes.now
+printed_word (Key key) = key_word key
+printed_word (Generation generation) = generation_word generation
+printed_word (Holder kind name) = holder_word kind name.now
+printed_word (Registration name key) = registration_word name.now key
+printed_word (ReservationKey key) = reservation_key_word key
+printed_word (ServiceActionKey key) = service_action_key_word key
+printed_word (ReservationType kind) = type_word kind
+printed_word (Sense sense) = sense_word sense
+printed_word (Class class) = class_word class
+printed_word (Attentions codes) = attentions_word codes.now

@@ -11,11 +11,11 @@ use Rattle.pr_domain.specs.declared.landing.Class.{Class}
 use Rattle.pr_domain.specs.declared.landing.Class.TheVariants as class
 
 -- each word after a space
-unfoldable pub spaced : List (List ℕ) → List ℕ
-spaced others = flat_map (λ word. codes " " ++ word) others
+unfoldable pub joined_by_spaces : List (List ℕ) → List ℕ
+joined_by_spaces others = flat_map (λ word. codes " " ++ word) others
 
 unfoldable pub line : List ℕ → List (List ℕ) → List ℕ
-line first others = first ++ (spaced others ++ codes "\n")
+line first others = first ++ (joined_by_spaces others ++ codes "\n")
 
 -- a byte in two hexadecimal digits
 abbrev pub pair : ℕ → List ℕ

@@ -2,6 +2,7 @@
 -- Laws of traces that are read.
 use Rattle.std.specs.Prelude.{◌≡◌, ℕ, ◌<◌, ◌≤◌, IsTrue, List, length, Option, Some, None, Ok}
 use Rattle.std.specs.List.{All}
+use Rattle.pr_cdb.specs.declared.codes.TheConstants.{MOST_CDB_LENGTH, PARAMETER_LIST_LENGTH, MOST_DATA_LENGTH}
 use Rattle.pr_cdb.specs.declared.reply.Sense.{Sense}
 use Rattle.pr_cdb.specs.declared.reply.Status.{Status}
 use Rattle.pr_cdb.specs.declared.reply.Status.TheVariants.{Good, CheckCondition, Conflict}
@@ -29,8 +30,8 @@ HasSense Conflict (Some s) = ⊥
 pub record IsEntry (hosts : ℕ) (e : Entry) : Type 0 where
   pub sender : e.host < hosts
   pub bytes : AreBytes e.wire.cdb.items × AreBytes e.wire.params.items × AreBytes e.reply.bytes.items
-  pub command : (0 < length e.wire.cdb.items) × (length e.wire.cdb.items ≤ 16)
-  pub lengths : (length e.wire.params.items ≤ 24) × (length e.reply.bytes.items ≤ 72)
+  pub command : (0 < length e.wire.cdb.items) × (length e.wire.cdb.items ≤ MOST_CDB_LENGTH)
+  pub lengths : (length e.wire.params.items ≤ PARAMETER_LIST_LENGTH) × (length e.reply.bytes.items ≤ MOST_DATA_LENGTH)
   pub sense : HasSense e.reply.status e.reply.sense
 
 -- a script stops with a word that has the form of a name

@@ -6,6 +6,9 @@ use Rattle.pr_cdb.specs.declared.reply.Reply.{Reply}
 use Rattle.pr_cdb.specs.declared.wire.Wire.{Wire}
 use Rattle.pr_roles.specs.declared.entry.Entry.{Entry}
 use Rattle.pr_roles.specs.Worlds.{entry_of}
+use Rattle.pr_report.specs.declared.ahead.TheConstants.{MOST_LINE_BYTES}
+use Rattle.pr_report.specs.declared.entry_reading.TheConstants.{MOST_ENTRIES}
+use Rattle.pr_report.specs.declared.trace_reading.TheConstants.{MOST_LATER_LINES}
 use Rattle.pr_report.specs.declared.trace_error.TraceError.{TraceError}
 use Rattle.pr_report.specs.declared.trace_error.TraceError.TheVariants.{Syntax, UnknownName, TooLong, ReadFault, Memory}
 use Rattle.pr_report.specs.EntryWords.{word_at, exchange_in}
@@ -48,8 +51,8 @@ entry_said names line name (Some x) = entry_from line (number_of names name) x
 -- the entry with this index: the first stands on line 2
 unfoldable pub entry_on : List (List ℕ) → ℕ → List ℕ → Result Entry TraceError
 entry_on names index line =
-    if nat_lt 32768 index then Err TooLong else (
-    if nat_lt 1024 (length line) then Err (Syntax (index + 1)) else
+    if nat_lt MOST_ENTRIES index then Err TooLong else (
+    if nat_lt MOST_LINE_BYTES (length line) then Err (Syntax (index + 1)) else
     entry_said names (index + 1) (word_at (words line) 1) (exchange_in index (words line)))
 
 -- ---- all lines
@@ -63,8 +66,8 @@ is_later line =
 abbrev pub later_lines : ℕ → ℕ → List (List ℕ) → Result (Unit {0}) TraceError
 later_lines entries others [] = Ok tt
 later_lines entries others (l ∷ ls) =
-    if nat_le 64 others then Err TooLong else (
-    if is_later l && nat_le (length l) 1024 then later_lines entries (others + 1) ls else Err (Syntax (entries + others + 2)))
+    if nat_le MOST_LATER_LINES others then Err TooLong else (
+    if is_later l && nat_le (length l) MOST_LINE_BYTES then later_lines entries (others + 1) ls else Err (Syntax (entries + others + 2)))
 
 -- the entries of the lines behind the first and so many other entries
 abbrev pub entries_of : List (List ℕ) → ℕ → List (List ℕ) → Result (List Entry) TraceError

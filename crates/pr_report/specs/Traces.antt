@@ -4,7 +4,7 @@ use Rattle.std.specs.Prelude.{◌≡◌, ℕ, List, Some, map}
 use Rattle.pr_roles.specs.Scenarios.{Scenario}
 use Rattle.pr_roles.specs.Schedules.{Schedule}
 use Rattle.pr_world.specs.declared.replaying.Replayed.{Replayed}
-use Rattle.pr_world.specs.Ends.{Ending, seen, endings}
+use Rattle.pr_world.specs.Ends.{Ending, ending_of, endings}
 use Rattle.pr_world.specs.Replays.{IsEndOf, counts_in}
 use Rattle.pr_report.specs.TraceText.{names_in, trace_text}
 
@@ -18,4 +18,4 @@ pub record IsTraceOf (s : Scenario) (y : Schedule) (text : List ℕ) : Type 0 wh
 abbrev pub ReplaysAreTraced : Type 0
 ReplaysAreTraced =
     (s : Scenario) (y : Schedule) (r : Replayed) → IsEndOf y r
-    → IsTraceOf s y (trace_text (names_in s) r.entries.items r.unit.registry (map seen r.ends.items) r.counts.items)
+    → IsTraceOf s y (trace_text (names_in s) r.entries.items r.unit.registry (map ending_of r.ends.items) r.counts.items)

@@ -7,7 +7,7 @@ use arrayvec::ArrayVec;
 use std::io::Read;
 
 /// How many bytes a line of a trace may have, without its end.
-pub(crate) const MOST_LINE_BYTES: usize = 1_024;
+pub const MOST_LINE_BYTES: usize = 1_024;
 
 // How many bytes are asked of the reader at a time.
 const CHUNK: usize = 4_096;
@@ -87,7 +87,7 @@ impl Ahead {
 
     // Whether the reader had more.
     fn read_more<R: Read>(&mut self, reader: &mut R) -> Result<bool, TraceError>
-        requires { length (held self.old) ≤ 1024 }
+        requires { length (held self.old) ≤ MOST_LINE_BYTES }
         ensures kept { OnOk result (Keeps (left self.old (R.remaining reader.old)) (left self.new (R.remaining reader.new))) }
         ensures taken { Takes 0 (R.remaining reader.old) (R.remaining reader.new) (length (held self.old)) (length (held self.new)) }
         ensures fault { IfErr result (λ e. e ≡ TraceError.ReadFault) }

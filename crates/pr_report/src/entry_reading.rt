@@ -1,6 +1,7 @@
 //! The entry that a line of a trace says.
 
 ghost use Rattle.std.specs.Prelude.{◌≡◌, ◌==◌, ◌∷◌, ◌≤◌, ◌<◌, [], false, length, map, option_map, position, bytes_eq, MatchOption, IfSome};
+ghost use Rattle.pr_cdb.specs.declared.codes.TheConstants.{MOST_NEXUSES};
 ghost use Rattle.pr_report.specs.TraceText.{names_of};
 ghost use Rattle.pr_report.specs.EntryWords.{byte_in, bytes_in, exchange_in, reply_in, sense_of, sense_under, senseless, status_in, wire_in, worth};
 ghost use Rattle.pr_report.specs.TraceReadings.{entry_on, number_of, words};
@@ -10,12 +11,14 @@ use crate::ahead::MOST_LINE_BYTES;
 use crate::trace_error::TraceError;
 use arrayvec::ArrayVec;
 use itoa::Buffer;
+use pr_cdb::codes::FIXED_SENSE_LENGTH;
 use pr_cdb::{Reply, Sense, Status, Wire, decode_sense, encode_sense};
 use pr_roles::Nexus;
 use pr_script::is_name;
 use pr_world::Entry;
 
-const MOST_ENTRIES: u32 = 32_768;
+/// The entries of a trace.
+pub const MOST_ENTRIES: u32 = 32_768;
 
 // The words of an entry's line.
 #[derive(Clone, Copy)]
@@ -32,7 +35,7 @@ pub(crate) struct EntryWords<'a> {
 /// The entry with this index, which counts from 1, or what is wrong with its line.
 #[tactic(auto, unfolding(crate::specs::TraceReadings::entry_on))]
 pub(crate) fn entry_on(nexuses: &[Nexus], index: u32, line: &[u8]) -> Result<Entry, TraceError>
-    requires { length nexuses.now ≤ 8 }
+    requires { length nexuses.now ≤ MOST_NEXUSES }
     ensures { result ≡ entry_on (names_of nexuses.now) index line.now }
 {
     if index > MOST_ENTRIES {
@@ -127,7 +130,7 @@ fn reply_in(status: &[u8], sense: &[u8], bytes: &[u8]) -> Option<Reply>
     ensures { result ≡ reply_in status.now sense.now bytes.now }
 {
     let status = status_in(status)?;
-    let sense = bytes_in::<18>(sense)?;
+    let sense = bytes_in::<FIXED_SENSE_LENGTH>(sense)?;
     let sense = sense_under(status, sense.as_slice())?;
     let bytes = bytes_in(bytes)?;
     Some(Reply {
@@ -231,7 +234,7 @@ fn worth(digit: u8) -> Option<u8>
 
 // The number of the nexus with this name.
 fn number_of(nexuses: &[Nexus], name: &[u8]) -> Option<u8>
-    requires { length nexuses.now ≤ 8 }
+    requires { length nexuses.now ≤ MOST_NEXUSES }
     ensures { result ≡ number_of (names_of nexuses.now) name.now }
 {
     let host = place_of(nexuses, name)?;

@@ -4,8 +4,8 @@ ghost use Rattle.std.specs.Prelude.{◌++◌, ◌<◌, ◌≡◌, codes, false, 
 ghost use Rattle.std.specs.Fmt.{decimal, digits, digit_glyph};
 ghost use Rattle.pr_cdb.specs.Kinds.{code_of};
 ghost use Rattle.pr_report.specs.Written.{Puts};
-ghost use Rattle.pr_report.specs.PrintedLines.{attention_word, attentions_word, class_word, holder_word, key_or_dash, key_word, line, more_attentions_word, pair, pairs, pairs_or_dash, registration_word, reservation_key_word, sense_word, service_action_key_word, spaced, type_word};
-ghost use Rattle.pr_report.specs.Printed.{printed};
+ghost use Rattle.pr_report.specs.PrintedLines.{attention_word, attentions_word, class_word, holder_word, key_or_dash, key_word, line, more_attentions_word, pair, pairs, pairs_or_dash, registration_word, reservation_key_word, sense_word, service_action_key_word, joined_by_spaces, type_word};
+ghost use Rattle.pr_report.specs.Printed.{printed_word};
 
 use crate::output::{WriteFault, put};
 use itoa::Buffer;
@@ -62,7 +62,7 @@ pub fn put_line<W: Write>(
     first: Word<'_>,
     others: &[Word<'_>],
 ) -> Result<(), WriteFault>
-    ensures { Puts (W.contents writer.old) (W.contents writer.new) (line (printed first.entry) (map printed others.now)) result }
+    ensures { Puts (W.contents writer.old) (W.contents writer.new) (line (printed_word first.entry) (map printed_word others.now)) result }
 {
     put_word(writer, first)?;
     put_spaced(writer, others)?;
@@ -71,7 +71,7 @@ pub fn put_line<W: Write>(
 
 /// Writes each word after a space.
 pub fn put_spaced<W: Write>(writer: &mut W, words: &[Word<'_>]) -> Result<(), WriteFault>
-    ensures { Puts (W.contents writer.old) (W.contents writer.new) (spaced (map printed words.now)) result }
+    ensures { Puts (W.contents writer.old) (W.contents writer.new) (joined_by_spaces (map printed_word words.now)) result }
 {
     for word in words {
         put_after_space(writer, *word)?;
@@ -80,15 +80,15 @@ pub fn put_spaced<W: Write>(writer: &mut W, words: &[Word<'_>]) -> Result<(), Wr
 }
 
 pub(crate) fn put_after_space<W: Write>(writer: &mut W, word: Word<'_>) -> Result<(), WriteFault>
-    ensures { Puts (W.contents writer.old) (W.contents writer.new) (codes " " ++ printed word.entry) result }
+    ensures { Puts (W.contents writer.old) (W.contents writer.new) (codes " " ++ printed_word word.entry) result }
 {
     put(writer, b" ")?;
     put_word(writer, word)
 }
 
-#[tactic(auto, unfolding(crate::specs::Printed::printed))]
+#[tactic(auto, unfolding(crate::specs::Printed::printed_word))]
 pub(crate) fn put_word<W: Write>(writer: &mut W, word: Word<'_>) -> Result<(), WriteFault>
-    ensures { Puts (W.contents writer.old) (W.contents writer.new) (printed word.entry) result }
+    ensures { Puts (W.contents writer.old) (W.contents writer.new) (printed_word word.entry) result }
 {
     match word {
         Word::Text(text) => put(writer, text),

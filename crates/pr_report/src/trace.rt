@@ -3,18 +3,19 @@
 ghost use Rattle.std.specs.Prelude.{◌≡◌, ◌+◌, ◌++◌, ◌∷◌, [], codes, map, slice_index};
 ghost use Rattle.pr_registry.specs.Registrations.{key_of};
 ghost use Rattle.pr_roles.specs.Scenarios.{scenario_of};
-ghost use Rattle.pr_world.specs.Ends.{seen};
+ghost use Rattle.pr_world.specs.Ends.{ending_of};
 ghost use Rattle.pr_report.specs.Written.{Puts, PutsAllBut};
 ghost use Rattle.pr_report.specs.inside.TraceLines.{line_text};
 ghost use Rattle.std.specs.Bool.{OnTrue, OnFalse};
 ghost use Rattle.std.specs.Fmt.{decimal};
-ghost use Rattle.pr_report.specs.Printed.{printed};
-ghost use Rattle.pr_report.specs.PrintedLines.{line, spaced};
+ghost use Rattle.pr_report.specs.Printed.{printed_word};
+ghost use Rattle.pr_report.specs.PrintedLines.{line, joined_by_spaces};
 ghost use Rattle.pr_report.specs.TraceText.{ending_line, ending_lines, entry_line, entry_lines, held_word, name_of, names_in, names_of, registration_words, sense_data, status_word, trace_text, unit_line};
 
 use crate::output::{WriteFault, put};
 use crate::printing::{Word, put_after_space, put_line, put_spaced, put_word};
 use arrayvec::ArrayVec;
+use pr_cdb::codes::FIXED_SENSE_LENGTH;
 use pr_cdb::{Sense, Status, encode_sense};
 use pr_registry::{Held, Registry};
 use pr_roles::{Nexus, Scenario};
@@ -54,7 +55,7 @@ pub fn write_trace<W: Write>(
     ends: &[End],
     counts: &[u32],
 ) -> Result<(), WriteFault>
-    ensures { Puts (W.contents writer.old) (W.contents writer.new) (trace_text (names_in (scenario_of scenario.now)) entries.now unit.now.registry (map seen ends.now) counts.now) result }
+    ensures { Puts (W.contents writer.old) (W.contents writer.new) (trace_text (names_in (scenario_of scenario.now)) entries.now unit.now.registry (map ending_of ends.now) counts.now) result }
 {
     let nexuses = &scenario.parts().nexuses;
     put_trace(writer, nexuses, entries, unit.registry(), ends, counts)
@@ -68,7 +69,7 @@ fn put_trace<W: Write>(
     ends: &[End],
     counts: &[u32],
 ) -> Result<(), WriteFault>
-    ensures { Puts (W.contents writer.old) (W.contents writer.new) (trace_text (names_of nexuses.now) entries.now unit.now (map seen ends.now) counts.now) result }
+    ensures { Puts (W.contents writer.old) (W.contents writer.new) (trace_text (names_of nexuses.now) entries.now unit.now (map ending_of ends.now) counts.now) result }
 {
     let mut page = Page::new();
     add_line(writer, &mut page, nexuses, &TraceLine::First)?;
@@ -100,7 +101,7 @@ fn add_ends<W: Write>(
     ends: &[End],
     counts: &[u32],
 ) -> Result<(), WriteFault>
-    ensures { PutsAllBut (W.contents writer.old) (W.contents writer.new) (page.old.items ++ ending_lines 0 (names_of nexuses.now) counts.now (map seen ends.now)) page.new.items result }
+    ensures { PutsAllBut (W.contents writer.old) (W.contents writer.new) (page.old.items ++ ending_lines 0 (names_of nexuses.now) counts.now (map ending_of ends.now)) page.new.items result }
 {
     for (host, end) in ends.iter().enumerate() {
         let line = TraceLine::End(name_of(nexuses, host), *end, count_of(counts, host));
@@ -157,14 +158,14 @@ fn put_trace_line<W: Write>(
     }
 }
 
-#[tactic(auto, unfolding(crate::specs::Printed::printed))]
+#[tactic(auto, unfolding(crate::specs::Printed::printed_word))]
 fn put_first<W: Write>(writer: &mut W) -> Result<(), WriteFault>
     ensures { Puts (W.contents writer.old) (W.contents writer.new) (line (codes "fence-trace") (codes "1" ∷ [])) result }
 {
     put_line(writer, Word::Text(b"fence-trace"), &[Word::Text(b"1")])
 }
 
-#[tactic(auto, unfolding(crate::specs::TraceText::entry_line, crate::specs::Printed::printed))]
+#[tactic(auto, unfolding(crate::specs::TraceText::entry_line, crate::specs::Printed::printed_word))]
 fn put_entry<W: Write>(
     writer: &mut W,
     index: u64,
@@ -205,7 +206,7 @@ fn status_word(status: Status) -> &'static [u8]
     }
 }
 
-fn sense_data(sense: Option<Sense>) -> ArrayVec<u8, 18>
+fn sense_data(sense: Option<Sense>) -> ArrayVec<u8, FIXED_SENSE_LENGTH>
     ensures { result.items ≡ sense_data sense }
 {
     match sense {
@@ -229,13 +230,13 @@ fn put_unit<W: Write>(writer: &mut W, nexuses: &[Nexus], unit: &Registry) -> Res
     put(writer, b"\n")
 }
 
-#[tactic(auto, unfolding(crate::specs::Printed::printed))]
+#[tactic(auto, unfolding(crate::specs::Printed::printed_word))]
 fn put_registrations<W: Write>(
     writer: &mut W,
     nexuses: &[Nexus],
     unit: &Registry,
 ) -> Result<(), WriteFault>
-    ensures { Puts (W.contents writer.old) (W.contents writer.new) (spaced (registration_words unit.now 0 (names_of nexuses.now))) result }
+    ensures { Puts (W.contents writer.old) (W.contents writer.new) (joined_by_spaces (registration_words unit.now 0 (names_of nexuses.now))) result }
 {
     for (host, nexus) in nexuses.iter().enumerate() {
         put_after_space(
@@ -257,9 +258,9 @@ fn key_of(unit: &Registry, host: usize) -> Option<u64>
     }
 }
 
-#[tactic(auto, unfolding(crate::specs::Printed::printed))]
+#[tactic(auto, unfolding(crate::specs::Printed::printed_word))]
 pub(crate) fn held_word(nexuses: &[Nexus], held: Option<Held>) -> Word<'_>
-    ensures { printed result ≡ held_word (names_of nexuses.now) held }
+    ensures { printed_word result ≡ held_word (names_of nexuses.now) held }
 {
     match held {
         None => Word::Text(b"none"),
@@ -278,9 +279,9 @@ fn count_of(counts: &[u32], host: usize) -> u32
     }
 }
 
-#[tactic(auto, unfolding(crate::specs::TraceText::ending_line, crate::specs::Printed::printed))]
+#[tactic(auto, unfolding(crate::specs::TraceText::ending_line, crate::specs::Printed::printed_word))]
 fn put_end<W: Write>(writer: &mut W, name: &[u8], end: End, sent: u32) -> Result<(), WriteFault>
-    ensures { Puts (W.contents writer.old) (W.contents writer.new) (ending_line name.now (seen end) sent) result }
+    ensures { Puts (W.contents writer.old) (W.contents writer.new) (ending_line name.now (ending_of end) sent) result }
 {
     match end {
         End::Stopped(word) => {
@@ -302,7 +303,7 @@ fn put_end<W: Write>(writer: &mut W, name: &[u8], end: End, sent: u32) -> Result
     }
 }
 
-#[tactic(auto, unfolding(crate::specs::Printed::printed))]
+#[tactic(auto, unfolding(crate::specs::Printed::printed_word))]
 fn put_ending<'a, W: Write>(
     writer: &mut W,
     role: &'a [u8],
@@ -311,7 +312,7 @@ fn put_ending<'a, W: Write>(
     what: Word<'a>,
     sent: u32,
 ) -> Result<(), WriteFault>
-    ensures { Puts (W.contents writer.old) (W.contents writer.new) (line role.now (name.now ∷ how.now ∷ printed what.entry ∷ codes "sent" ∷ decimal sent ∷ [])) result }
+    ensures { Puts (W.contents writer.old) (W.contents writer.new) (line role.now (name.now ∷ how.now ∷ printed_word what.entry ∷ codes "sent" ∷ decimal sent ∷ [])) result }
 {
     put_line(
         writer,

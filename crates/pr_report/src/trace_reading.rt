@@ -1,6 +1,8 @@
 //! Traces from their texts.
 
 ghost use Rattle.std.specs.Prelude.{◌≡◌, ◌≤◌, ℕ, [], List, Ok, codes, length, bytes_eq, IfErr, IfOk, IfSome, OnOk};
+ghost use Rattle.pr_cdb.specs.declared.codes.TheConstants.{MOST_NEXUSES};
+ghost use Rattle.pr_report.specs.declared.entry_reading.TheConstants.{MOST_ENTRIES};
 ghost use Rattle.pr_roles.specs.Scenarios.{scenario_of};
 ghost use Rattle.pr_report.specs.TraceText.{names_in, names_of};
 ghost use Rattle.pr_report.specs.BytesTaken.{LosesUpTo};
@@ -15,7 +17,8 @@ use pr_world::Entry;
 use std::alloc::Global;
 use std::io::Read;
 
-const MOST_LATER_LINES: u32 = 64;
+/// The lines of a trace behind its entries.
+pub const MOST_LATER_LINES: u32 = 64;
 
 /// The entries of the trace that `reader` has left, or the trace's one fault.
 ///
@@ -68,10 +71,10 @@ fn read_entries<R: Read>(
     ahead: &mut Ahead,
     reader: &mut R,
 ) -> Result<Vec<Entry>, TraceError>
-    requires { length nexuses.now ≤ 8 }
+    requires { length nexuses.now ≤ MOST_NEXUSES }
     ensures taken { Takes 33587200 (R.remaining reader.old) (R.remaining reader.new) (length (held ahead.old)) (length (held ahead.new)) }
     ensures ok { IfOk result (λ entries. Leads (λ old new. entries_of (names_of nexuses.now) 0 (lines old) ≡ and_then (later_lines (length entries.items) 0 (lines new)) (λ _. Ok entries.items)) (left ahead.old (R.remaining reader.old)) (left ahead.new (R.remaining reader.new))) }
-    ensures few { IfOk result (λ entries. length entries.items ≤ 32768) }
+    ensures few { IfOk result (λ entries. length entries.items ≤ MOST_ENTRIES) }
     ensures fault { IfSome (left ahead.old (R.remaining reader.old)) (λ text. IfErr result (λ e. Faults e (entries_of (names_of nexuses.now) 0 (lines text)))) }
 {
     let mut entries = Vec::new(alloc);
@@ -89,7 +92,7 @@ fn read_entries<R: Read>(
 
 // Reads the lines behind so many entries.
 fn read_later<R: Read>(entries: u32, ahead: &mut Ahead, reader: &mut R) -> Result<(), TraceError>
-    requires { entries ≤ 32768 }
+    requires { entries ≤ MOST_ENTRIES }
     ensures taken { Takes 65600 (R.remaining reader.old) (R.remaining reader.new) (length (held ahead.old)) (length (held ahead.new)) }
     ensures ok { IfSome (left ahead.old (R.remaining reader.old)) (λ text. OnOk result (later_lines entries 0 (lines text) ≡ Ok tt)) }
     ensures fault { IfSome (left ahead.old (R.remaining reader.old)) (λ text. IfErr result (λ e. Faults e (later_lines entries 0 (lines text)))) }

@@ -4,7 +4,7 @@ ghost use Rattle.std.specs.Prelude.{◌≡◌, ◌∷◌, [], codes, map};
 ghost use Rattle.std.specs.Fmt.{decimal};
 ghost use Rattle.pr_roles.specs.Scenarios.{scenario_of};
 ghost use Rattle.pr_report.specs.Written.{Puts};
-ghost use Rattle.pr_report.specs.Printed.{printed};
+ghost use Rattle.pr_report.specs.Printed.{printed_word};
 ghost use Rattle.pr_report.specs.PrintedLines.{class_word, line};
 ghost use Rattle.pr_report.specs.TraceText.{names_in, names_of};
 ghost use Rattle.pr_report.specs.Verdicts.{IsReason, IsVerdict, is_refusal, no_arm_words, over_budget_words, place_words, reason_words, refused_line, verdict_text};
@@ -64,7 +64,7 @@ pub fn write_verdict<W: Write>(
 }
 
 // The line of a word and a number.
-#[tactic(auto, unfolding(crate::specs::Printed::printed))]
+#[tactic(auto, unfolding(crate::specs::Printed::printed_word))]
 fn put_counted<W: Write>(writer: &mut W, word: &[u8], number: usize) -> Result<(), WriteFault>
     ensures { Puts (W.contents writer.old) (W.contents writer.new) (line word.now (decimal number ∷ [])) result }
 {
@@ -106,7 +106,7 @@ fn put_reason<W: Write>(
     }
 }
 
-#[tactic(auto, unfolding(crate::specs::Printed::printed))]
+#[tactic(auto, unfolding(crate::specs::Printed::printed_word))]
 fn put_no_arm<W: Write>(
     writer: &mut W,
     name: &[u8],
@@ -129,7 +129,7 @@ fn put_no_arm<W: Write>(
     )
 }
 
-#[tactic(auto, unfolding(crate::specs::Printed::printed))]
+#[tactic(auto, unfolding(crate::specs::Printed::printed_word))]
 fn put_place<'a, W: Write>(
     writer: &mut W,
     reason: &'a [u8],
@@ -150,7 +150,7 @@ fn put_place<'a, W: Write>(
     )
 }
 
-#[tactic(auto, unfolding(crate::specs::Printed::printed))]
+#[tactic(auto, unfolding(crate::specs::Printed::printed_word))]
 fn put_over_budget<W: Write>(writer: &mut W, name: &[u8], cost: u64) -> Result<(), WriteFault>
     ensures { Puts (W.contents writer.old) (W.contents writer.new) (refused_line (over_budget_words name.now cost)) result }
 {
@@ -167,9 +167,9 @@ fn put_over_budget<W: Write>(writer: &mut W, name: &[u8], cost: u64) -> Result<(
 }
 
 // The line with these words after the first.
-#[tactic(auto, unfolding(crate::specs::Printed::printed))]
+#[tactic(auto, unfolding(crate::specs::Printed::printed_word))]
 fn put_refused<W: Write>(writer: &mut W, words: &[Word<'_>]) -> Result<(), WriteFault>
-    ensures { Puts (W.contents writer.old) (W.contents writer.new) (refused_line (map printed words.now)) result }
+    ensures { Puts (W.contents writer.old) (W.contents writer.new) (refused_line (map printed_word words.now)) result }
 {
     put_line(writer, Word::Text(b"refused"), words)
 }

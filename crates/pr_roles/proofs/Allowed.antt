@@ -7,6 +7,7 @@ use Rattle.std.proofs.Math.Nat.{eq-or-lt_of_le}
 use Rattle.std.proofs.lemmas.Bool.{and_parts, ltb-true, false≢true}
 use Rattle.std.proofs.lemmas.Bool.Decides.{nat_tests}
 use Rattle.std.proofs.lemmas.Option.{none-some, slice_get-map, slice_get_within}
+use Rattle.pr_cdb.specs.declared.codes.TheConstants.{MOST_NEXUSES}
 use Rattle.pr_registry.specs.declared.held.Held.{Held}
 use Rattle.pr_registry.specs.declared.held.Held.TheVariants.{One, All}
 use Rattle.pr_registry.specs.Hosts.{Keys}
@@ -14,7 +15,7 @@ use Rattle.pr_registry.specs.Registrations.{State, IsKey, HasHolder, is_all, tab
 use Rattle.pr_registry.proofs.Sets.{is_empty_from_none}
 use Rattle.pr_registry.proofs.Tables.{get-table_keys, get-table_keys_in, not_empty-table_keys}
 use Rattle.pr_unit.proofs.Pairs.{contains-none}
-use Rattle.pr_unit.specs.UnitStates.{UnitState, quiet}
+use Rattle.pr_unit.specs.UnitStates.{UnitState, quiet_unit}
 use Rattle.pr_script.specs.Names.{is_name}
 use Rattle.pr_roles.specs.declared.parts.Nexus.{Nexus as NexusPart}
 use Rattle.pr_roles.specs.declared.parts.Parts.{Parts}
@@ -28,7 +29,7 @@ use Rattle.pr_roles.proofs.Reserving.{Made, Holding, made, first, found_first, f
 -- ---- what fitting says
 
 -- one to eight nexuses
-pub counted : (s : Scenario) → Fits s → (1 ≤ length s.nexuses) × (length s.nexuses ≤ 8)
+pub counted : (s : Scenario) → Fits s → (1 ≤ length s.nexuses) × (length s.nexuses ≤ MOST_NEXUSES)
 counted s fits =
     let parts = and_parts (not (length s.nexuses == 0)) _ fits.nexuses in
     let few = (and_parts (nat_le (length s.nexuses) 8) _ parts.1).0 in
@@ -132,7 +133,7 @@ each_reservation s held fits there =
 
 pub first_allowed : (s : Scenario) (held : Option Held) (keys : List (Option ℕ)) → Fits s → s.generation < 2 ^ 32
     → first_under (starts s) s.reservations ≡ Some (held, keys)
-    → IsWellFormed (state_from keys held s.generation) × IsAllowedStart s (quiet (state_from keys held s.generation))
+    → IsWellFormed (state_from keys held s.generation) × IsAllowedStart s (quiet_unit (state_from keys held s.generation))
 first_allowed s held keys fits generation is =
     let f = first (starts s) s.reservations held keys is in
     let m = made (starts s) held keys (offered s fits) f.under in
@@ -218,7 +219,7 @@ pub starts_of_parts : (p : Parts) → starts (scenario_of p) ≡ map start_of p.
 unfolding scenario_of
 starts_of_parts p = starts_of p.nexuses.items
 
-pub few_parts : (p : Parts) → Fits (scenario_of p) → length p.nexuses.items ≤ 8
+pub few_parts : (p : Parts) → Fits (scenario_of p) → length p.nexuses.items ≤ MOST_NEXUSES
 unfolding scenario_of
 few_parts p fits = omega (arith, (counted (scenario_of p) fits).1, length_of_parts p.nexuses.items)
 
@@ -239,13 +240,13 @@ none_allowed s none can = false≢true (sym (ap is_some none) ∙ start_found s 
 pub registry_found : (s : Scenario) (held : Option Held) (keys : List (Option ℕ)) (o : Option State)
     → first_under (starts s) s.reservations ≡ Some (held, keys)
     → IfSome o (λ r. r ≡ state_from keys held s.generation) → IsSome o
-    → option_map (λ r. quiet r) o ≡ first_state s
+    → option_map (λ r. quiet_unit r) o ≡ first_state s
 registry_found s held keys None is value some = absurd (false≢true some)
 registry_found s held keys (Some r) is value some =
-    ap (λ r. Some (quiet r)) value ∙ sym (ap (option_map (λ first. quiet (state_from first.1 first.0 s.generation))) is)
+    ap (λ r. Some (quiet_unit r)) value ∙ sym (ap (option_map (λ first. quiet_unit (state_from first.1 first.0 s.generation))) is)
 
 pub registry_allowed : (s : Scenario) (held : Option Held) (keys : List (Option ℕ)) (o : Option State)
-    → IsAllowedStart s (quiet (state_from keys held s.generation)) → IfSome o (λ r. r ≡ state_from keys held s.generation)
-    → IfSome o (λ r. IsAllowedStart s (quiet r))
+    → IsAllowedStart s (quiet_unit (state_from keys held s.generation)) → IfSome o (λ r. r ≡ state_from keys held s.generation)
+    → IfSome o (λ r. IsAllowedStart s (quiet_unit r))
 registry_allowed s held keys None allowed value = tt
-registry_allowed s held keys (Some r) allowed value = subst (λ r. IsAllowedStart s (quiet r)) (sym value) allowed
+registry_allowed s held keys (Some r) allowed value = subst (λ r. IsAllowedStart s (quiet_unit r)) (sym value) allowed

@@ -7,7 +7,7 @@ use Rattle.std.proofs.lemmas.Bool.{false≢true}
 use Rattle.std.proofs.lemmas.Option.{none-some, same_Some}
 use Rattle.pr_registry.specs.declared.held.Held.{Held}
 use Rattle.pr_registry.specs.Registrations.{state_from}
-use Rattle.pr_unit.specs.UnitStates.{quiet}
+use Rattle.pr_unit.specs.UnitStates.{quiet_unit}
 use Rattle.pr_roles.specs.Scenarios.{Scenario}
 use Rattle.pr_roles.specs.Fitting.{Fits}
 use Rattle.pr_roles.specs.Starts.{Starts, CanStart, starts, keys_under, first_under}
@@ -27,7 +27,7 @@ can_start s fits (Some first) is some =
     let kept : Fits (at_zero s) = record { keys = fits.keys; reservations = fits.reservations; nexuses = fits.nexuses } in
     let allowed = (first_allowed (at_zero s) first.0 first.1 kept (lit< tt) is).1 in
     record {
-      unit = quiet (state_from first.1 first.0 0);
+      unit = quiet_unit (state_from first.1 first.0 0);
       allowed = record {
         formed = allowed.formed;
         hosts = allowed.hosts;
@@ -68,7 +68,7 @@ unfolding Before
 first_starts_are_earliest s first u i is allowed there = at (first_under (starts s) s.reservations) refl is
   where
     at : (o : Option (Option Held × List (Option ℕ))) → first_under (starts s) s.reservations ≡ o
-        → option_map (λ f. quiet (state_from f.1 f.0 s.generation)) o ≡ Some first → Before s.reservations first.registry.held i
+        → option_map (λ f. quiet_unit (state_from f.1 f.0 s.generation)) o ≡ Some first → Before s.reservations first.registry.held i
     at None none is = absurd (none-some _ is)
     at (Some f) found is =
         let held : f.0 ≡ first.registry.held = ap (λ v. v.registry.held) (same_Some _ _ is) in

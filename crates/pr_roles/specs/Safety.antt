@@ -8,7 +8,7 @@ use Rattle.pr_roles.specs.declared.entry.Entry.{Entry}
 use Rattle.pr_roles.specs.Permits.{is_permitted}
 use Rattle.pr_roles.specs.Scenarios.{Scenario, Task, Scripted, Planned, role, task}
 use Rattle.pr_roles.specs.Starts.{IsAllowedStart}
-use Rattle.pr_roles.specs.Worlds.{World, Event, Host, Guest, Happens, Run, control, is_trapped, world_from, sent}
+use Rattle.pr_roles.specs.Worlds.{World, Event, Host, Guest, Happens, Run, control, is_trapped, world_from, commands_by}
 
 -- a host's command that ends GOOD is one that its role permits, in the state just before it
 abbrev pub KeepsRole : (s : Scenario) (w : World) (e : Event) (v : World) → Happens s w e v → Type 0
@@ -24,7 +24,7 @@ KeepsRoles s w (e ∷ es) v run = KeepsRole s w e run.0 run.1 × KeepsRoles s ru
 -- a script sent no more commands than its budget
 abbrev pub KeepsBudgetBy : Option Task → World → ℕ → Type 0
 KeepsBudgetBy None w h = Unit {0}
-KeepsBudgetBy (Some (Scripted script budget)) w h = sent w.entries h ≤ budget
+KeepsBudgetBy (Some (Scripted script budget)) w h = commands_by w.entries h ≤ budget
 KeepsBudgetBy (Some (Planned commands)) w h = Unit {0}
 
 -- From every allowed start and under every list of events: no host is trapped, none has sent more commands

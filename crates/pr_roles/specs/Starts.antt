@@ -7,7 +7,7 @@ use Rattle.std.specs.Option.{option_or}
 use Rattle.pr_registry.specs.declared.held.Held.{Held}
 use Rattle.pr_registry.specs.declared.held.Held.TheVariants.{One, All}
 use Rattle.pr_registry.specs.Registrations.{key_of, state_from}
-use Rattle.pr_unit.specs.UnitStates.{UnitState, IsWellFormed, is_pending, quiet}
+use Rattle.pr_unit.specs.UnitStates.{UnitState, IsWellFormed, is_pending, quiet_unit}
 use Rattle.pr_roles.specs.declared.parts.Nexus.{Nexus as NexusPart}
 use Rattle.pr_roles.specs.Scenarios.{Scenario, Nexus, nexus}
 
@@ -72,4 +72,4 @@ first_under all (v ∷ vs) = option_or (option_map (λ keys. (v, keys)) (keys_un
 
 -- The first start: nothing is pending, and the generation is the written one.
 abbrev pub first_state : Scenario → Option UnitState
-first_state s = option_map (λ first. quiet (state_from first.1 first.0 s.generation)) (first_under (starts s) s.reservations)
+first_state s = option_map (λ first. quiet_unit (state_from first.1 first.0 s.generation)) (first_under (starts s) s.reservations)

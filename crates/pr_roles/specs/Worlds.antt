@@ -9,12 +9,12 @@ use Rattle.pr_cdb.specs.declared.reply.Reply.{Reply}
 use Rattle.pr_cdb.specs.declared.wire.Wire.{Wire}
 use Rattle.pr_cdb.specs.declared.wire.Request.{Request}
 use Rattle.pr_cdb.specs.declared.wire.Request.TheVariants.{Plain}
-use Rattle.pr_cdb.specs.Requests.{requested, AreBytes}
+use Rattle.pr_cdb.specs.Requests.{request_of_wire, AreBytes}
 use Rattle.pr_cdb.specs.Spelling.{spelling}
 use Rattle.pr_unit.specs.UnitStates.{UnitState}
 use Rattle.pr_unit.specs.Replies.{is_good}
 use Rattle.pr_unit.specs.Steps.{Step}
-use Rattle.pr_script.specs.Scripts.{Configuration, Standing, ready, standing, begun}
+use Rattle.pr_script.specs.Scripts.{Configuration, Standing, ready, standing_of_items, first_configuration}
 use Rattle.pr_script.specs.Takes.{take}
 use Rattle.pr_roles.specs.declared.entry.Entry.{Entry}
 use Rattle.pr_roles.specs.Permits.{is_permitted}
@@ -29,7 +29,7 @@ pub data Control : Type 0 where
 
 -- what comes next of a script
 abbrev pub standing_of : Control → Option Standing
-standing_of (Going l) = standing l
+standing_of (Going l) = standing_of_items l
 standing_of (Trapped line) = None
 standing_of Free = None
 
@@ -38,10 +38,10 @@ going_or_trapped line None = Trapped line
 going_or_trapped line (Some l) = Going l
 
 -- after a reply to the send of this line
-abbrev pub taken : ℕ → Control → Reply → Control
-taken line (Going l) r = going_or_trapped line (take l r)
-taken line (Trapped at) r = Trapped at
-taken line Free r = Free
+abbrev pub control_after : ℕ → Control → Reply → Control
+control_after line (Going l) r = going_or_trapped line (take l r)
+control_after line (Trapped at) r = Trapped at
+control_after line Free r = Free
 
 pub record World : Type 0 where
   pub unit : UnitState
@@ -60,7 +60,7 @@ entry_of h wire r = record { host = h; wire = wire; reply = r }
 abbrev pub after : World → ℕ → ℕ → Wire → Reply → UnitState → World
 after w h line wire r unit = record {
   unit = unit;
-  controls = slice_set w.controls h (taken line (control w h) r);
+  controls = slice_set w.controls h (control_after line (control w h) r);
   entries = w.entries ++ entry_of h wire r ∷ [];
 }
 
@@ -96,7 +96,7 @@ pub record GuestSends (s : Scenario) (w : World) (g : ℕ) (wire : Wire) (v : Wo
   pub bytes : AreBytes wire.cdb.items × AreBytes wire.params.items
   pub lengths : (length wire.cdb.items ≤ 16) × (length wire.params.items ≤ 24)
   pub request : Request
-  pub read : requested wire ≡ Ok request
+  pub read : request_of_wire wire ≡ Ok request
   pub reply : Reply
   pub unit : UnitState
   pub step : Step w.unit g request reply unit
@@ -115,7 +115,7 @@ Run s w (e ∷ es) v = (mid : World) × Happens s w e mid × Run s mid es v
 -- ---- the beginning
 
 abbrev pub control_of : Task → Control
-control_of (Scripted script budget) = Going (begun script)
+control_of (Scripted script budget) = Going (first_configuration script)
 control_of (Planned commands) = Free
 
 -- each script at its beginning over this unit, and no command sent
@@ -123,8 +123,8 @@ abbrev pub world_from : Scenario → UnitState → World
 world_from s unit = record { unit = unit; controls = map (λ n. control_of n.task) s.nexuses; entries = [] }
 
 -- how many commands of h reached the unit
-abbrev pub sent : List Entry → ℕ → ℕ
-sent entries h = count_by (λ e. e.host == h) entries
+abbrev pub commands_by : List Entry → ℕ → ℕ
+commands_by entries h = count_by (λ e. e.host == h) entries
 
 abbrev pub is_trapped : Control → Bool
 is_trapped (Going l) = false

@@ -4,7 +4,7 @@ ghost use Rattle.std.specs.Prelude.{◌≡◌, ◌↔◌, ◌<◌, ◌≤◌, �
 ghost use Rattle.std.specs.List.{list_any};
 ghost use Rattle.pr_cdb.specs.declared.codes.TheConstants.{MOST_NEXUSES};
 ghost use Rattle.pr_registry.specs.Registrations.{IsWellFormed, state_from};
-ghost use Rattle.pr_unit.specs.UnitStates.{quiet};
+ghost use Rattle.pr_unit.specs.UnitStates.{quiet_unit};
 ghost use Rattle.pr_roles.specs.Scenarios.{scenario_of};
 ghost use Rattle.pr_roles.specs.Fitting.{Fits};
 ghost use Rattle.pr_roles.specs.Starts.{CanStart, IsAllowedStart, start_of, first_of, first_key, with_key, with_registrant, keys_under, first_under, first_state};
@@ -21,9 +21,9 @@ impl Parts {
     /// The registry of the first start: `None` where no state is allowed.
     pub(crate) fn first_registry(&self) -> Option<Registry>
         requires { Fits (scenario_of self.now) }
-        ensures value { option_map (λ registry. quiet registry) result ≡ first_state (scenario_of self.now) }
+        ensures value { option_map (λ registry. quiet_unit registry) result ≡ first_state (scenario_of self.now) }
         ensures exactly { IsSome result ↔ CanStart (scenario_of self.now) }
-        ensures allowed { IfSome result (λ registry. IsAllowedStart (scenario_of self.now) (quiet registry)) }
+        ensures allowed { IfSome result (λ registry. IsAllowedStart (scenario_of self.now) (quiet_unit registry)) }
     {
         let (held, keys) = first_under(&self.nexuses, &self.reservations)?;
         registry_of(&keys, held, self.generation)

@@ -10,7 +10,7 @@ use Rattle.pr_script.specs.declared.rows.Step.{Step}
 use Rattle.pr_script.specs.declared.rows.Step.TheVariants.{Send}
 use Rattle.pr_script.specs.declared.rows.ArmTarget.{ArmTarget}
 use Rattle.pr_script.specs.declared.advance.LoopFrame.{LoopFrame}
-use Rattle.pr_script.specs.Scripts.{Stmt, Stmts, Arms, sends, repeats, breaks, stops, none, more, no_arm, arm, Configuration, statement, before, settled, is_ready, IsReady}
+use Rattle.pr_script.specs.Scripts.{Stmt, Stmts, Arms, sends, repeats, breaks, stops, none, more, no_arm, arm, Configuration, statement, before, settled_form, is_ready, IsReady}
 use Rattle.pr_script.specs.Takes.{matches, first_match, take}
 use Rattle.pr_script.specs.Depths.{depth_of_all, depth_of_arms}
 use Rattle.pr_script.specs.inside.Program.{joined, without_end, opened, place, arms_at, step_at, meanings, deepest, open_count, AreJumps, IsStep, IsTable}
@@ -87,7 +87,7 @@ takes_body : (b : Stmts) (n : ℕ) (c : Command) (a : Arms) (next body : Stmts) 
 takes_body b n c a next body r l is found =
     let old = ap (λ k. before k l) is in
     subst (λ k. TakesBody k r (before (joined body next) l)) (sym old) (record {
-      taken = ap (option_map (λ b'. settled (before b' (before next l)))) found ∙ ap (λ k. Some (settled k)) (sym (before-joined body next l));
+      taken = ap (option_map (λ b'. settled_form (before b' (before next l)))) found ∙ ap (λ k. Some (settled_form k)) (sym (before-joined body next l));
       room = subst (λ k. deepest k ≤ max (open_count (before next l) + depth_of_arms a) (deepest (before next l))) (sym (before-joined body next l))
           (omega (arith, deepest-before body (before next l), depth-first_match a r body found));
     })
@@ -95,7 +95,7 @@ takes_body b n c a next body r l is found =
 takes_nothing : (b : Stmts) (n : ℕ) (c : Command) (a : Arms) (next : Stmts) (r : Reply) (l : Configuration) → b ≡ more (sends n c a) next
     → first_match a r ≡ None → take (before b l) r ≡ None
 takes_nothing b n c a next r l is found =
-    ap (λ k. take (before k l) r) is ∙ ap (option_map (λ b'. settled (before b' (before next l)))) found
+    ap (λ k. take (before k l) r) is ∙ ap (option_map (λ b'. settled_form (before b' (before next l)))) found
 
 -- ---- the answer of the search
 

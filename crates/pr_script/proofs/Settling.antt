@@ -1,7 +1,7 @@
 -- What is still to do comes to rest.
 use Rattle.std.specs.Prelude.{◌≡◌, ℕ, zero, suc, ◌+◌, ◌<◌, ◌≤◌, ◌⊎◌, true, [], ◌∷◌, drop, is_some}
 use Rattle.std.proofs.Common.{refl, sym, ap, subst, ◌∙◌, inl, inr, arith}
-use Rattle.pr_script.specs.Scripts.{Stmts, sends, repeats, breaks, stops, none, more, statement, mark, Configuration, before, turn, past_mark, becomes, work_of_all, work, becomes_often, settled, standing}
+use Rattle.pr_script.specs.Scripts.{Stmts, sends, repeats, breaks, stops, none, more, statement, mark, Configuration, before, turn, past_mark, becomes, work_of_all, work, becomes_often, settled_form, standing_of_items}
 use Rattle.pr_script.specs.Laws.{Settles}
 
 pub work-before : (b : Stmts) (l : Configuration) → work (before b l) ≡ work_of_all b + work l
@@ -41,8 +41,8 @@ settles_within (suc n) l h = elim (rests l) [
   | inr less ↦ settles_within n (becomes l) (omega arith)
 ]
 
-settled_rests : (l : Configuration) → becomes (settled l) ≡ settled l
-unfolding settled
+settled_rests : (l : Configuration) → becomes (settled_form l) ≡ settled_form l
+unfolding settled_form
 settled_rests l = settles_within (work l) l (omega arith)
 
 -- more unfoldings change nothing
@@ -55,17 +55,17 @@ enough (suc n) (suc m) l h k = elim (rests l) [
 ]
 
 -- an unfolding settles as what it was made of
-pub settled-becomes : (l : Configuration) → settled (becomes l) ≡ settled l
-unfolding settled
+pub settled-becomes : (l : Configuration) → settled_form (becomes l) ≡ settled_form l
+unfolding settled_form
 settled-becomes l = elim (rests l) [
-  | inl e ↦ ap settled e
+  | inl e ↦ ap settled_form e
   | inr less ↦ enough (work (becomes l)) (work l) (becomes l) (omega arith) (omega arith)
       ∙ enough (suc (work l)) (work l) l (omega arith) (omega arith)
 ]
 
 -- what rests is settled
-pub settled-rest : (l : Configuration) → becomes l ≡ l → settled l ≡ l
-unfolding settled
+pub settled-rest : (l : Configuration) → becomes l ≡ l → settled_form l ≡ l
+unfolding settled_form
 settled-rest l e = at_rest (work l) l e
 
 kept_within : (P : Configuration → Type 0) → ((l : Configuration) → P l → P (becomes l)) → (n : ℕ) (l : Configuration) → P l → P (becomes_often n l)
@@ -73,8 +73,8 @@ kept_within P step zero l p = p
 kept_within P step (suc n) l p = kept_within P step n (becomes l) (step l p)
 
 -- what each unfolding keeps, settling keeps
-pub kept : (P : Configuration → Type 0) → ((l : Configuration) → P l → P (becomes l)) → (l : Configuration) → P l → P (settled l)
-unfolding settled
+pub kept : (P : Configuration → Type 0) → ((l : Configuration) → P l → P (becomes l)) → (l : Configuration) → P l → P (settled_form l)
+unfolding settled_form
 kept P step l p = kept_within P step (work l) l p
 
 -- ---- what doesn't rest
@@ -96,7 +96,7 @@ pub no_mark_rests : (l : Configuration) (m : Configuration) → becomes l ≡ l 
 no_mark_rests l m e is = moves (mark ∷ m) (subst (λ k. becomes k ≡ k) is e) (omega arith)
 
 -- what rests is ready or stopped
-rest_stands : (l : Configuration) → becomes l ≡ l → is_some (standing l) ≡ true
+rest_stands : (l : Configuration) → becomes l ≡ l → is_some (standing_of_items l) ≡ true
 rest_stands [] e = refl
 rest_stands (mark ∷ m) e = absurd (no_mark_rests (mark ∷ m) m e refl)
 rest_stands ((statement (sends n c a)) ∷ m) e = refl
@@ -105,4 +105,4 @@ rest_stands ((statement breaks) ∷ m) e = absurd (no_break_rests (statement bre
 rest_stands ((statement (stops w)) ∷ m) e = refl
 
 pub settles : Settles
-settles l = (settled_rests l, rest_stands (settled l) (settled_rests l))
+settles l = (settled_rests l, rest_stands (settled_form l) (settled_rests l))

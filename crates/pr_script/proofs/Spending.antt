@@ -2,9 +2,9 @@
 use Rattle.std.specs.Prelude.{◌≡◌, ℕ, zero, suc, ◌+◌, ◌≤◌, List, [], ◌∷◌, Some, option_map, true, false, drop, max, if◌then◌else◌}
 use Rattle.std.proofs.Common.{arith}
 use Rattle.pr_cdb.specs.declared.reply.Reply.{Reply}
-use Rattle.pr_script.specs.Scripts.{Stmts, Arms, sends, repeats, breaks, stops, none, more, no_arm, arm, statement, mark, Configuration, before, past_mark, becomes, settled, begun}
+use Rattle.pr_script.specs.Scripts.{Stmts, Arms, sends, repeats, breaks, stops, none, more, no_arm, arm, statement, mark, Configuration, before, past_mark, becomes, settled_form, first_configuration}
 use Rattle.pr_script.specs.Takes.{matches, first_match}
-use Rattle.pr_script.specs.Costs.{cost_of, cost_of_all, greatest, sent, count_in, sent}
+use Rattle.pr_script.specs.Costs.{cost_of, cost_of_all, greatest, commands_sent, count_in, commands_sent}
 use Rattle.pr_script.specs.Laws.{CostBoundsSends}
 use Rattle.pr_script.proofs.Settling.{kept}
 
@@ -42,20 +42,20 @@ cost_in-becomes ((statement (repeats (suc n) b)) ∷ l) = omega (arith, cost_in-
 cost_in-becomes ((statement breaks) ∷ l) = omega (arith, cost_in-past_mark l)
 cost_in-becomes ((statement (stops w)) ∷ l) = omega arith
 
-cost_in-settled : (l : Configuration) → cost_in (settled l) ≤ cost_in l
+cost_in-settled : (l : Configuration) → cost_in (settled_form l) ≤ cost_in l
 cost_in-settled l = kept (λ m. cost_in m ≤ cost_in l) (λ m h. omega (arith, cost_in-becomes m)) l (omega arith)
 
 -- the arm that matches costs no more than the greatest
-through_arms : (rs : List Reply) (r : Reply) (l : Configuration) → ((m : Configuration) → sent rs m ≤ cost_in m) → (a : Arms)
-    → count_in (sent rs) (option_map (λ body. settled (before body l)) (first_match a r)) ≤ greatest a + cost_in l
+through_arms : (rs : List Reply) (r : Reply) (l : Configuration) → ((m : Configuration) → commands_sent rs m ≤ cost_in m) → (a : Arms)
+    → count_in (commands_sent rs) (option_map (λ body. settled_form (before body l)) (first_match a r)) ≤ greatest a + cost_in l
 through_arms rs r l within no_arm = omega arith
 through_arms rs r l within (arm test body rest) =
-    elim (matches test r) as (λ b. count_in (sent rs) (option_map (λ body'. settled (before body' l)) (if b then Some body else first_match rest r)) ≤ max (cost_of_all body) (greatest rest) + cost_in l) [
-      | true ↦ omega (arith, within (settled (before body l)), cost_in-settled (before body l), cost_in-before body l)
+    elim (matches test r) as (λ b. count_in (commands_sent rs) (option_map (λ body'. settled_form (before body' l)) (if b then Some body else first_match rest r)) ≤ max (cost_of_all body) (greatest rest) + cost_in l) [
+      | true ↦ omega (arith, within (settled_form (before body l)), cost_in-settled (before body l), cost_in-before body l)
       | false ↦ omega (arith, through_arms rs r l within rest)
     ]
 
-sent_within_cost : (rs : List Reply) (l : Configuration) → sent rs l ≤ cost_in l
+sent_within_cost : (rs : List Reply) (l : Configuration) → commands_sent rs l ≤ cost_in l
 unfolding cost_in
 sent_within_cost [] l = omega arith
 sent_within_cost (r ∷ rs) [] = omega arith
@@ -67,4 +67,4 @@ sent_within_cost (r ∷ rs) ((statement (stops w)) ∷ l) = omega arith
 
 pub cost_bounds_sends : CostBoundsSends
 unfolding cost_in
-cost_bounds_sends b rs = omega (arith, sent_within_cost rs (begun b), cost_in-settled (before b []), cost_in-before b [])
+cost_bounds_sends b rs = omega (arith, sent_within_cost rs (first_configuration b), cost_in-settled (before b []), cost_in-before b [])

@@ -37,6 +37,6 @@ count_in count (Some l) = count l
 
 -- How many commands are sent as these replies come, one after another, until no arm matches or the script
 -- is stopped.
-abbrev pub sent : List Reply → Configuration → ℕ
-sent [] l = 0
-sent (r ∷ rs) l = commands l + count_in (sent rs) (take l r)
+abbrev pub commands_sent : List Reply → Configuration → ℕ
+commands_sent [] l = 0
+commands_sent (r ∷ rs) l = commands l + count_in (commands_sent rs) (take l r)

@@ -71,16 +71,40 @@ is_read_reservation (command.Clear rk) = false
 is_read_reservation (command.Preempt rk sark kind) = false
 is_read_reservation (command.PreemptAbort rk sark kind) = false
 
--- an arm of a send with this command: one that looks at data stands only under the command that returns it,
--- and a sense key has one hexadecimal digit
+-- an arm with this test stands under the command: one that looks at data, only under the command that
+-- returns it
+abbrev pub stands_under : Command → Test → Bool
+stands_under c test.Good = true
+stands_under c (test.GoodHas key) = is_read_keys c
+stands_under c (test.GoodHeld key) = is_read_reservation c
+stands_under c test.GoodUnheld = is_read_reservation c
+stands_under c test.Conflict = true
+stands_under c test.Attention = true
+stands_under c (test.Sense sense) = true
+
+-- a key that the test asks for is declared
+abbrev pub is_test_declared : List ℕ → Test → Bool
+is_test_declared keys test.Good = true
+is_test_declared keys (test.GoodHas key) = is_declared keys key
+is_test_declared keys (test.GoodHeld key) = is_written_key keys key
+is_test_declared keys test.GoodUnheld = true
+is_test_declared keys test.Conflict = true
+is_test_declared keys test.Attention = true
+is_test_declared keys (test.Sense sense) = true
+
+-- a sense key that the test asks for has one hexadecimal digit
+abbrev pub has_sense_digit : Test → Bool
+has_sense_digit test.Good = true
+has_sense_digit (test.GoodHas key) = true
+has_sense_digit (test.GoodHeld key) = true
+has_sense_digit test.GoodUnheld = true
+has_sense_digit test.Conflict = true
+has_sense_digit test.Attention = true
+has_sense_digit (test.Sense sense) = nat_lt sense.key 16
+
+-- an arm of a send with this command
 abbrev pub test_fits : List ℕ → Command → Test → Bool
-test_fits keys c test.Good = true
-test_fits keys c (test.GoodHas key) = is_read_keys c && is_declared keys key
-test_fits keys c (test.GoodHeld key) = is_read_reservation c && is_written_key keys key
-test_fits keys c test.GoodUnheld = is_read_reservation c
-test_fits keys c test.Conflict = true
-test_fits keys c test.Attention = true
-test_fits keys c (test.Sense sense) = nat_lt sense.key 16
+test_fits keys c t = has_sense_digit t && (stands_under c t && is_test_declared keys t)
 
 abbrev pub count_of_arms : Arms → ℕ
 count_of_arms no_arm = 0

@@ -5,9 +5,9 @@ use Rattle.pr_script.specs.declared.next.Next.{Next}
 use Rattle.pr_script.specs.declared.next.Next.TheVariants.{Send, Stopped}
 use Rattle.pr_script.specs.Scripts.{Standing, ready, stopped}
 
-abbrev pub seen : Next → Standing
-seen (Send line command) = ready line command
-seen (Stopped word) = stopped word.bytes
+abbrev pub standing_of_next : Next → Standing
+standing_of_next (Send line command) = ready line command
+standing_of_next (Stopped word) = stopped word.bytes
 
 abbrev pub is_send : Next → Bool
 is_send (Send line command) = true

@@ -75,8 +75,8 @@ becomes_often zero l = l
 becomes_often (suc n) l = becomes_often n (becomes l)
 
 -- unfolded until it is ready or stopped
-unfoldable pub settled : Configuration → Configuration
-settled l = becomes_often (work l) l
+unfoldable pub settled_form : Configuration → Configuration
+settled_form l = becomes_often (work l) l
 
 -- ready to send a command, by the line of its send; or stopped with a word
 pub data Standing : Type 0 where
@@ -84,13 +84,13 @@ pub data Standing : Type 0 where
   stopped : List ℕ → Standing
 
 -- Where a settled list of items stands. With nothing left to do it is stopped, with the word `end`.
-abbrev pub standing : Configuration → Option Standing
-standing [] = Some (stopped (codes "end"))
-standing (mark ∷ l) = None
-standing ((statement (sends n c a)) ∷ l) = Some (ready n c)
-standing ((statement (repeats n b)) ∷ l) = None
-standing ((statement breaks) ∷ l) = None
-standing ((statement (stops w)) ∷ l) = Some (stopped w)
+abbrev pub standing_of_items : Configuration → Option Standing
+standing_of_items [] = Some (stopped (codes "end"))
+standing_of_items (mark ∷ l) = None
+standing_of_items ((statement (sends n c a)) ∷ l) = Some (ready n c)
+standing_of_items ((statement (repeats n b)) ∷ l) = None
+standing_of_items ((statement breaks) ∷ l) = None
+standing_of_items ((statement (stops w)) ∷ l) = Some (stopped w)
 
 -- a send comes first
 abbrev pub is_ready : Configuration → Bool
@@ -105,5 +105,5 @@ abbrev pub IsReady : Configuration → Type 0
 IsReady l = IsTrue (is_ready l)
 
 -- a script at its beginning
-abbrev pub begun : Stmts → Configuration
-begun b = settled (before b [])
+abbrev pub first_configuration : Stmts → Configuration
+first_configuration b = settled_form (before b [])

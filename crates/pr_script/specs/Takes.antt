@@ -10,7 +10,7 @@ use Rattle.pr_cdb.specs.declared.reply.Reply.{Reply}
 use Rattle.pr_cdb.specs.ReplyData.{keys_in, holder_in}
 use Rattle.pr_script.specs.declared.script.Test.{Test}
 use Rattle.pr_script.specs.declared.script.Test.TheVariants as test
-use Rattle.pr_script.specs.Scripts.{Stmts, Arms, sends, repeats, breaks, stops, no_arm, arm, statement, mark, Configuration, before, settled, IsReady}
+use Rattle.pr_script.specs.Scripts.{Stmts, Arms, sends, repeats, breaks, stops, no_arm, arm, statement, mark, Configuration, before, settled_form, IsReady}
 
 abbrev pub is_good_status : Status → Bool
 is_good_status status.Good = true
@@ -66,7 +66,7 @@ first_match (arm test body more) r = if matches test r then Some body else first
 abbrev pub take : Configuration → Reply → Option Configuration
 take [] r = None
 take (mark ∷ l) r = None
-take ((statement (sends n c a)) ∷ l) r = option_map (λ body. settled (before body l)) (first_match a r)
+take ((statement (sends n c a)) ∷ l) r = option_map (λ body. settled_form (before body l)) (first_match a r)
 take ((statement (repeats n b)) ∷ l) r = None
 take ((statement breaks) ∷ l) r = None
 take ((statement (stops w)) ∷ l) r = None

@@ -3,7 +3,7 @@
 ghost use Rattle.std.specs.Prelude.{◌≡◌, ℕ, ◌<◌, ◌≤◌, List, IfSome, IfNone};
 ghost use Rattle.arrayvec.specs.ArrayVec.{array_vec_len};
 ghost use Rattle.pr_script.specs.declared.limits.TheConstants.{MOST_OPEN};
-ghost use Rattle.pr_script.specs.Scripts.{Stmts, none, before, turn, past_mark, becomes, settled};
+ghost use Rattle.pr_script.specs.Scripts.{Stmts, none, before, turn, past_mark, becomes, settled_form};
 ghost use Rattle.pr_script.specs.inside.Program.{place, meanings, opened, configuration, AreLoops, IsPlaced, IsMachine};
 ghost use Rattle.pr_script.specs.inside.Advances.{Leads};
 
@@ -31,7 +31,7 @@ pub(crate) fn settle(rows: &[Instruction], from: usize, opens: &mut Loops) -> us
     requires { IsPlaced rows.now from opens.old.items }
     ensures machine { IsMachine rows.now result opens.new.items }
     ensures reached { configuration (meanings rows.now) result opens.new.items
-        ≡ settled (configuration (meanings rows.now) from opens.old.items) }
+        ≡ settled_form (configuration (meanings rows.now) from opens.old.items) }
 {
     let mut at = from;
     while let Some(to) = advance(rows, at, opens) {

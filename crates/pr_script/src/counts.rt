@@ -46,16 +46,9 @@ fn arms_count(arms: &[Arm]) -> u32
 {
     let mut total = 0;
     for arm in arms {
-        total = (total + arm_count(arm)).min(MOST_STATEMENTS + 1);
+        total = (total + count(&arm.body)).min(MOST_STATEMENTS + 1);
     }
     total
-}
-
-#[cycle(count)]
-fn arm_count(arm: &Arm) -> u32
-    ensures { result ≡ min (MOST_STATEMENTS + 1) (count_of_all (script_of arm.now.body)) }
-{
-    count(&arm.body)
 }
 
 /// Whether the lines of the sends rise from 1 on, in the order in which they are written.
@@ -100,14 +93,7 @@ fn last_arm_line(line: u32, arms: &[Arm]) -> Option<u32>
 {
     let mut last = line;
     for arm in arms {
-        last = last_body_line(last, arm)?;
+        last = last_line(last, &arm.body)?;
     }
     Some(last)
-}
-
-#[cycle(lines)]
-fn last_body_line(last: u32, arm: &Arm) -> Option<u32>
-    ensures { result ≡ climbed last (lines_of_all (script_of arm.now.body)) }
-{
-    last_line(last, &arm.body)
 }

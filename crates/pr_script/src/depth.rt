@@ -42,14 +42,7 @@ fn arms_depth(arms: &[Arm]) -> u8
 {
     let mut most = 0;
     for arm in arms {
-        most = arm_depth(arm).max(most);
+        most = repeat_depth(&arm.body).max(most);
     }
     most
-}
-
-#[cycle(depth)]
-fn arm_depth(arm: &Arm) -> u8
-    ensures { result ≡ min (MOST_OPEN + 1) (depth_of_all (script_of arm.now.body)) }
-{
-    repeat_depth(&arm.body)
 }

@@ -3,7 +3,7 @@
 ghost use Rattle.std.specs.Prelude.{◌≡◌, ◌≤◌, ◌<◌, ◌+◌, ◌&&◌, nat_lt, is_some};
 ghost use Rattle.pr_script.specs.declared.limits.TheConstants.{MOST_OPEN};
 ghost use Rattle.pr_script.specs.Trees.{script_of, statement_of, arms_in};
-ghost use Rattle.pr_script.specs.Grammar.{is_declared, is_written_key, is_written, test_fits, begins_body, is_send_written, is_repeat_written, statement_fits, statements_fit, arms_fit, script_fits};
+ghost use Rattle.pr_script.specs.Grammar.{is_declared, is_written_key, is_written, stands_under, is_test_declared, has_sense_digit, test_fits, begins_body, is_send_written, is_repeat_written, statement_fits, statements_fit, arms_fit, script_fits};
 
 use crate::counts::{is_short, lines_rise};
 use crate::limits::{MOST_ARMS, MOST_OPEN, MOST_TURNS};
@@ -122,18 +122,42 @@ fn begins_body(body: &Script) -> bool
     }
 }
 
-// Whether an arm with this test may stand under the command.
 fn test_fits(keys: &[u64], command: Command, test: Test) -> bool
     ensures { result ≡ test_fits keys.now command test }
 {
+    has_sense_digit(test) && stands_under(command, test) && is_test_declared(keys, test)
+}
+
+// A sense key that the test asks for has one hexadecimal digit.
+fn has_sense_digit(test: Test) -> bool
+    ensures { result ≡ has_sense_digit test }
+{
     match test {
-        Test::GoodHas(key) => matches!(command, Command::ReadKeys { .. }) && is_declared(keys, key),
-        Test::GoodHeld(key) => {
-            matches!(command, Command::ReadReservation { .. }) && is_written_key(keys, key)
-        }
-        Test::GoodUnheld => matches!(command, Command::ReadReservation { .. }),
         Test::Sense(sense) => sense.key < 16,
-        Test::Good | Test::Conflict | Test::Attention => true,
+        _ => true,
+    }
+}
+
+/// Whether an arm with this test may stand under the command: one that looks at data, only under the
+/// command that returns it.
+pub fn stands_under(command: Command, test: Test) -> bool
+    ensures { result ≡ stands_under command test }
+{
+    match test {
+        Test::GoodHas(_) => matches!(command, Command::ReadKeys { .. }),
+        Test::GoodHeld(_) | Test::GoodUnheld => matches!(command, Command::ReadReservation { .. }),
+        Test::Good | Test::Conflict | Test::Attention | Test::Sense(_) => true,
+    }
+}
+
+/// Whether a key that the test asks for is declared; that of a reservation's holder may also be zero.
+pub fn is_test_declared(keys: &[u64], test: Test) -> bool
+    ensures { result ≡ is_test_declared keys.now test }
+{
+    match test {
+        Test::GoodHas(key) => is_declared(keys, key),
+        Test::GoodHeld(key) => is_written_key(keys, key),
+        _ => true,
     }
 }
 

@@ -23,7 +23,9 @@ mod script;
 mod sizes;
 
 pub use depth::repeat_depth;
-pub use grammar::{WRITTEN_LENGTH, is_declared, is_written, is_written_key};
+pub use grammar::{
+    WRITTEN_LENGTH, is_declared, is_test_declared, is_written, is_written_key, stands_under,
+};
 pub use laws::{cost_bounds_sends, fitting_is_shallow, settles};
 pub use machine::Machine;
 pub use names::is_name;

@@ -42,14 +42,7 @@ fn greatest_cost(arms: &[Arm]) -> u64
 {
     let mut most = 0;
     for arm in arms {
-        most = arm_cost(arm).max(most);
+        most = cost(&arm.body).max(most);
     }
     most
-}
-
-#[cycle(cost)]
-fn arm_cost(arm: &Arm) -> u64
-    ensures { result ≡ min (MOST_BUDGET + 1) (cost_of_all (script_of arm.now.body)) }
-{
-    cost(&arm.body)
 }

@@ -14,7 +14,7 @@ use Rattle.pr_roles.specs.Schedules.{Schedule, plan}
 use Rattle.pr_roles.specs.Worlds.{control}
 use Rattle.pr_world.specs.declared.end.End.{End}
 use Rattle.pr_world.specs.Courses.{is_planned}
-use Rattle.pr_world.specs.Ends.{Ending, ending, seen}
+use Rattle.pr_world.specs.Ends.{Ending, ending, ending_of}
 use Rattle.pr_world.specs.Progress.{Progress}
 use Rattle.pr_shared.specs.Guests.{guests_of}
 use Rattle.pr_shared.specs.Histories.{IsLegalWorld, entries_by, entries_of}
@@ -55,12 +55,12 @@ not_own s w xs g history b not is tells = (
   λ closed. absurd (false≢true (sym not ∙ tells.1 (ap (entries_by (length xs)) is ∙ (sym (ap (λ n. entries_by n w.schedule.world.entries) (length-map xs g)) ∙ closed.own)))),
 )
 
-over_is : (s : Scenario) (w : Progress) (ends : List End) → map (λ e. Some (seen e)) ends ≡ endings_in s w.schedule → list_all (λ e. is_over (Some (seen e))) ends ≡ list_all is_over (endings_in s w.schedule)
-over_is s w ends are = sym (list_all-map is_over (λ e. Some (seen e)) ends) ∙ ap (list_all is_over) are
+over_is : (s : Scenario) (w : Progress) (ends : List End) → map (λ e. Some (ending_of e)) ends ≡ endings_in s w.schedule → list_all (λ e. is_over (Some (ending_of e))) ends ≡ list_all is_over (endings_in s w.schedule)
+over_is s w ends are = sym (list_all-map is_over (λ e. Some (ending_of e)) ends) ∙ ap (list_all is_over) are
 
 pub just_over : {X : Type 0} (s : Scenario) (w : Progress) (p : Parts) (xs : List X) (g : X → List Entry) (history : List Entry) (ends : List End) (a b r : Bool) → a ≡ true → p ≡ w.scenario
     → IsTrue a ↔ (scenario_of p ≡ s) → b ≡ true → history ≡ w.schedule.world.entries → IsTrue b ↔ (entries_by (length xs) history ≡ map g xs)
-    → map (λ e. Some (seen e)) ends ≡ endings_in (scenario_of w.scenario) w.schedule → r ≡ list_all (λ e. is_over (Some (seen e))) ends → IsTrue r ↔ IsClosed s (map g xs) w
+    → map (λ e. Some (ending_of e)) ends ≡ endings_in (scenario_of w.scenario) w.schedule → r ≡ list_all (λ e. is_over (Some (ending_of e))) ends → IsTrue r ↔ IsClosed s (map g xs) w
 just_over s w p xs g history ends a b r same is tells own is' tells' are over =
     let all = over ∙ over_is (scenario_of w.scenario) w ends are in (
       λ yes.

@@ -5,6 +5,7 @@ use Rattle.std.specs.List.{All, list_all}
 use Rattle.std.proofs.lemmas.Bool.{and_parts}
 use Rattle.std.proofs.lemmas.Bool.Decides.{nat_tests}
 use Rattle.std.proofs.lemmas.List.{length-map}
+use Rattle.pr_cdb.specs.declared.codes.TheConstants.{MOST_NEXUSES}
 use Rattle.pr_roles.specs.declared.parts.Nexus.{Nexus as NexusPart}
 use Rattle.pr_roles.specs.declared.parts.Parts.{Parts}
 use Rattle.pr_roles.specs.Fitting.{Fits, are_distinct, are_nexuses, is_nexus}
@@ -14,13 +15,13 @@ use Rattle.pr_world.specs.Rooms.{room_of}
 use Rattle.pr_world.proofs.Reserving.{room_of_nexus}
 use Rattle.pr_shared.specs.Guests.{guests_of}
 
-few : (keys : List ℕ) (ns : List Nexus) → are_nexuses keys ns ≡ true → length ns ≤ 8
+few : (keys : List ℕ) (ns : List Nexus) → are_nexuses keys ns ≡ true → length ns ≤ MOST_NEXUSES
 few keys ns is =
-    let within : nat_le (length ns) 8 ≡ true = (and_parts (nat_le (length ns) 8) _ (and_parts (not (length ns == 0)) _ is).1).0 in
+    let within : nat_le (length ns) MOST_NEXUSES ≡ true = (and_parts (nat_le (length ns) MOST_NEXUSES) _ (and_parts (not (length ns == 0)) _ is).1).0 in
     grind (arith, nat_tests)
 
 each : (keys : List ℕ) (ns : List Nexus) → are_nexuses keys ns ≡ true → list_all (is_nexus keys) ns ≡ true
-each keys ns is = (and_parts (are_distinct bytes_eq (map (λ n. n.name) ns)) _ (and_parts (nat_le (length ns) 8) _ (and_parts (not (length ns == 0)) _ is).1).1).1
+each keys ns is = (and_parts (are_distinct bytes_eq (map (λ n. n.name) ns)) _ (and_parts (nat_le (length ns) MOST_NEXUSES) _ (and_parts (not (length ns == 0)) _ is).1).1).1
 
 short_each : (keys : List ℕ) (ns : List NexusPart) (i : ℕ) (d : NexusPart) → list_all (is_nexus keys) (map nexus_of ns) ≡ true → i < length ns → room_of (task_of (get_or ns i d).task) ≤ 4096
 short_each keys [] i d all there = absurd (omega arith)
@@ -32,10 +33,10 @@ whole p q ns same items = items ∙ ap (λ r. r.nexuses.items) same
 
 -- ---- there are at most eight, and none has room for more than 4,096
 
-pub few_nexuses : (p q : Parts) (ns : List NexusPart) → Fits (scenario_of p) → q ≡ p → ns ≡ q.nexuses.items → length ns ≤ 8
+pub few_nexuses : (p q : Parts) (ns : List NexusPart) → Fits (scenario_of p) → q ≡ p → ns ≡ q.nexuses.items → length ns ≤ MOST_NEXUSES
 unfolding scenario_of
 few_nexuses p q ns fits same items =
-    let within : length (map nexus_of p.nexuses.items) ≤ 8 = few p.keys.items (map nexus_of p.nexuses.items) fits.nexuses in
+    let within : length (map nexus_of p.nexuses.items) ≤ MOST_NEXUSES = few p.keys.items (map nexus_of p.nexuses.items) fits.nexuses in
     omega (arith, within, length-map p.nexuses.items nexus_of, ap length (whole p q ns same items))
 
 pub short_nexuses : (p q : Parts) (ns : List NexusPart) → Fits (scenario_of p) → q ≡ p → ns ≡ q.nexuses.items → All (λ n. room_of (task_of n.task) ≤ 4096) ns

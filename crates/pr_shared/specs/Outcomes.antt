@@ -10,7 +10,7 @@ use Rattle.pr_roles.specs.Schedules.{Schedule, plan}
 use Rattle.pr_roles.specs.Starts.{first_state}
 use Rattle.pr_roles.specs.Worlds.{control}
 use Rattle.pr_world.specs.Courses.{IsReached}
-use Rattle.pr_world.specs.Ends.{Ending, stops, waits, traps, leaves, ending, seen}
+use Rattle.pr_world.specs.Ends.{Ending, stops, waits, traps, leaves, ending, ending_of}
 use Rattle.pr_world.specs.Progress.{Progress}
 use Rattle.pr_shared.specs.declared.outcome.Outcome.{Outcome}
 use Rattle.pr_shared.specs.Histories.{entries_by, entries_of}
@@ -38,7 +38,7 @@ pub record IsOutcome (s : Scenario) (o : Outcome) : Type 0 where
   pub reached : IsReached s steps last
   pub history : o.history.items ≡ last.world.entries
   pub unit : o.unit ≡ last.world.unit
-  pub ends : map (λ e. Some (seen e)) o.ends.items ≡ endings_in s last
+  pub ends : map (λ e. Some (ending_of e)) o.ends.items ≡ endings_in s last
   pub over : AreOver s last
 
 -- The world is one of this scenario, each of these lists is what its nexus sent, and all are over.

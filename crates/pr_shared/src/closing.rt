@@ -3,7 +3,7 @@
 ghost use Rattle.std.specs.Prelude.{◌≡◌, ◌↔◌, ◌<◌, ◌≤◌, Some, IsTrue, length, map, vec_len, vec_capacity};
 ghost use Rattle.std.specs.List.{All, list_all};
 ghost use Rattle.pr_roles.specs.Scenarios.{scenario_of};
-ghost use Rattle.pr_world.specs.Ends.{seen};
+ghost use Rattle.pr_world.specs.Ends.{ending_of};
 ghost use Rattle.pr_shared.specs.Histories.{entries_of, entries_by};
 ghost use Rattle.pr_shared.specs.Outcomes.{AreOver, IsClosed, IsOutcome, endings_in, is_over};
 
@@ -18,7 +18,7 @@ pub(crate) fn is_closed(
     lists: &[Vec<Entry>],
     ends: &[End],
 ) -> bool
-    requires { map (λ e. Some (seen e)) ends.now ≡ endings_in (scenario_of world.now.scenario) world.now.schedule }
+    requires { map (λ e. Some (ending_of e)) ends.now ≡ endings_in (scenario_of world.now.scenario) world.now.schedule }
     ensures { IsTrue result
         ↔ IsClosed (scenario_of scenario.now) (map (λ l. l.items) lists.now) world.now }
 {
@@ -78,13 +78,13 @@ pub(crate) fn are_before(count: usize, history: &[Entry]) -> bool
 
 // Whether each script is stopped, and each plan is done.
 fn are_over(ends: &[End]) -> bool
-    ensures { result ≡ list_all (λ e. is_over (Some (seen e))) ends.now }
+    ensures { result ≡ list_all (λ e. is_over (Some (ending_of e))) ends.now }
 {
     ends.iter().all(|end| is_over(end))
 }
 
 fn is_over(end: &End) -> bool
-    ensures { result ≡ is_over (Some (seen end.now)) }
+    ensures { result ≡ is_over (Some (ending_of end.now)) }
 {
     match end {
         End::Stopped(_) => true,
@@ -97,7 +97,7 @@ fn is_over(end: &End) -> bool
 pub(crate) fn ends_of(world: &World, mut ends: Vec<End>) -> Vec<End>
     requires none { vec_len ends ≡ 0 }
     requires room { length (scenario_of world.now.scenario).nexuses ≤ vec_capacity ends }
-    ensures { map (λ e. Some (seen e)) result.items
+    ensures { map (λ e. Some (ending_of e)) result.items
         ≡ endings_in (scenario_of world.now.scenario) world.now.schedule }
 {
     let nexuses = world.scenario().parts().nexuses.len();
@@ -109,7 +109,7 @@ pub(crate) fn ends_of(world: &World, mut ends: Vec<End>) -> Vec<End>
 
 /// What a world comes to in which all are over.
 pub(crate) fn outcome_of(world: World, ends: Vec<End>) -> Outcome
-    requires ends { map (λ e. Some (seen e)) ends.items ≡ endings_in (scenario_of world.scenario) world.schedule }
+    requires ends { map (λ e. Some (ending_of e)) ends.items ≡ endings_in (scenario_of world.scenario) world.schedule }
     requires over { AreOver (scenario_of world.scenario) world.schedule }
     ensures outcome { IsOutcome (scenario_of world.scenario) result }
     ensures history { result.history.items ≡ world.schedule.world.entries }

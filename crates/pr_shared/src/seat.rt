@@ -1,6 +1,7 @@
 //! The seats of nexuses.
 
 ghost use Rattle.std.specs.Prelude.{◌≡◌, ◌↔◌, ◌+◌, ◌<◌, ◌≤◌, ◌^◌, [], IsTrue, IfOk, false, length, vec_len, vec_capacity};
+ghost use Rattle.pr_script.specs.declared.limits.TheConstants.{MOST_BUDGET};
 ghost use Rattle.pr_roles.specs.Scenarios.{task_of};
 ghost use Rattle.pr_world.specs.Rooms.{room_of};
 
@@ -33,7 +34,7 @@ impl<C: Round> Seat<C> {
         share: Share<C>,
     ) -> Result<Seat<C>, AllocError>
         requires known { host < length C.guests }
-        requires short { room_of (task_of task.now) ≤ 4096 }
+        requires short { room_of (task_of task.now) ≤ MOST_BUDGET }
         requires one_part { share.parts ≡ 1 }
         requires nothing { share.amount ≡ 0 }
         ensures host { IfOk result (λ seat. seat.host ≡ host) }

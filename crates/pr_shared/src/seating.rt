@@ -2,6 +2,8 @@
 
 ghost use Rattle.std.specs.Prelude.{◌≡◌, ◌+◌, ◌≤◌, [], length, map, IfOk, OnOk, false, vec_capacity};
 ghost use Rattle.std.specs.List.{All, range_with_len};
+ghost use Rattle.pr_cdb.specs.declared.codes.TheConstants.{MOST_NEXUSES};
+ghost use Rattle.pr_script.specs.declared.limits.TheConstants.{MOST_BUDGET};
 ghost use Rattle.pr_roles.specs.Scenarios.{task_of};
 ghost use Rattle.pr_world.specs.Rooms.{room_of};
 
@@ -17,8 +19,8 @@ pub(crate) fn seats_for<C: Round>(
     nexuses: &[Nexus],
     all: &mut Share<C>,
 ) -> Result<Vec<Seat<C>>, AllocError>
-    requires few { length nexuses.now ≤ 8 }
-    requires short { All (λ n. room_of (task_of n.task) ≤ 4096) nexuses.now }
+    requires few { length nexuses.now ≤ MOST_NEXUSES }
+    requires short { All (λ n. room_of (task_of n.task) ≤ MOST_BUDGET) nexuses.now }
     requires known { length nexuses.now ≡ length C.guests }
     requires parts { all.old.parts ≡ length nexuses.now }
     requires amount { all.old.amount ≡ 0 }

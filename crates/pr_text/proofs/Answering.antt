@@ -13,8 +13,9 @@ use Rattle.pr_text.specs.declared.fault.ReadError.{ReadError}
 use Rattle.pr_text.specs.declared.fault.ReadError.TheVariants.{TooLarge, EmptyStart}
 use Rattle.pr_text.specs.Faults.{and_then, Fails}
 use Rattle.pr_text.specs.Declarations.{Declared, nothing}
-use Rattle.pr_text.specs.Texts.{all_placed, ended, finished, answer_of, start_of, reservations_of, starts_somewhere}
-use Rattle.pr_text.specs.Reading.{nexus_written, nexus_declared, IsDeclaredBy, IsWhole, IsWrittenAs}
+use Rattle.pr_text.specs.Texts.{all_placed, end_placed, answer_of_lines, answer_of, start_of, reservations_of, starts_somewhere}
+use Rattle.pr_text.specs.Reading.{nexus_written, nexus_declared, IsDeclaredBy, IsWrittenAs}
+use Rattle.pr_text.specs.ScenarioRoundTrip.{IsWhole}
 use Rattle.pr_text.specs.inside.Endings.{missing}
 use Rattle.pr_text.specs.inside.Steps.{AreRead}
 use Rattle.pr_text.proofs.Endings.{ended_in_turn}
@@ -32,23 +33,23 @@ pub too_large : (text : List ℕ) → 65536 < length text → answer_of text ≡
 unfolding answer_of
 too_large text h = rw (is_large (length text) h) refl
 
-answer_small : (text : List ℕ) → length text ≤ 65536 → answer_of text ≡ finished (lines text)
+answer_small : (text : List ℕ) → length text ≤ 65536 → answer_of text ≡ answer_of_lines (lines text)
 unfolding answer_of
 answer_small text h = rw (is_small (length text) h) refl
 
-answer_first : (text : List ℕ) → length text ≤ 65536 → answer_of text ≡ and_then (all_placed 0 (lines text) nothing) (ended (length (lines text)))
-unfolding finished
+answer_first : (text : List ℕ) → length text ≤ 65536 → answer_of text ≡ and_then (all_placed 0 (lines text) nothing) (end_placed (length (lines text)))
+unfolding answer_of_lines
 answer_first text h = answer_small text h
 
-answer_read : (text : List ℕ) (n : ℕ) (d : Declared) → length text ≤ 65536 → AreRead text n d → answer_of text ≡ ended n d
+answer_read : (text : List ℕ) (n : ℕ) (d : Declared) → length text ≤ 65536 → AreRead text n d → answer_of text ≡ end_placed n d
 answer_read text n d h read =
-    answer_first text h ∙ (ap (λ r. and_then r (ended (length (lines text)))) read.placed ∙ ap (λ m. ended m d) (sym read.counted))
+    answer_first text h ∙ (ap (λ r. and_then r (end_placed (length (lines text)))) read.placed ∙ ap (λ m. end_placed m d) (sym read.counted))
 
 pub fails_early : (text : List ℕ) (e : ReadError) → length text ≤ 65536 → Fails e (all_placed 0 (lines text) nothing) → Fails e (answer_of text)
-fails_early text e h fails = rw (answer_first text h) (fails_first e (all_placed 0 (lines text) nothing) (ended (length (lines text))) fails)
+fails_early text e h fails = rw (answer_first text h) (fails_first e (all_placed 0 (lines text) nothing) (end_placed (length (lines text))) fails)
 
 pub fails_late : {A : Type 0} (text : List ℕ) (n : ℕ) (d : Declared) (r : Result A ReadError) → length text ≤ 65536 → AreRead text n d
-    → IfErr r (λ e. Fails e (ended n d)) → IfErr r (λ e. Fails e (answer_of text))
+    → IfErr r (λ e. Fails e (end_placed n d)) → IfErr r (λ e. Fails e (answer_of text))
 fails_late text n d (Ok a) h read fails = tt
 fails_late text n d (Err e) h read fails = rw (answer_read text n d h read) fails
 
@@ -82,11 +83,11 @@ found_none s fits generation cannot None is = refl
 found_none s fits generation cannot (Some first) is =
     absurd (cannot (record { unit = _; allowed = (first_allowed s first.0 first.1 fits generation is).1 }))
 
-pub empty : (n : ℕ) (d : Declared) (s : Scenario) → missing n d ≡ None → IsDeclaredBy d s → Fits s → s.generation < 2 ^ 32 → (CanStart s → ⊥) → ended n d ≡ Err EmptyStart
+pub empty : (n : ℕ) (d : Declared) (s : Scenario) → missing n d ≡ None → IsDeclaredBy d s → Fits s → s.generation < 2 ^ 32 → (CanStart s → ⊥) → end_placed n d ≡ Err EmptyStart
 empty n d s faultless kept fits generation cannot =
     let nowhere : starts_somewhere d ≡ false =
     ap (λ o. is_some o) (sym (start_same d s kept)) ∙ found_none s fits generation cannot (first_under (starts s) s.reservations) refl in
     ended_in_turn n d ∙ rw (faultless, nowhere) refl
 
-pub fails_end : (n : ℕ) (d : Declared) (e : ReadError) → missing n d ≡ Some e → Fails e (ended n d)
+pub fails_end : (n : ℕ) (d : Declared) (e : ReadError) → missing n d ≡ Some e → Fails e (end_placed n d)
 fails_end n d e faulty = rw (ended_in_turn n d) (rw faulty (fails_same Declared e))

@@ -19,17 +19,18 @@ use Rattle.pr_roles.specs.Scenarios.{Nexus, Task, Scripted, Planned}
 use Rattle.pr_roles.specs.Fitting.{are_distinct, is_action, is_role, is_alternative, is_same_alternative, is_start, is_task, is_nexus}
 use Rattle.pr_text.specs.declared.fault.ReadError.{ReadError}
 use Rattle.pr_text.specs.Faults.{and_then}
-use Rattle.pr_text.specs.CommandWords.{keyless}
-use Rattle.pr_text.specs.ScenarioLines.{ScenarioLine, start_line, pending_line, role_line, script_line, plan_line, end_line, command_line}
+use Rattle.pr_lines.specs.CommandWords.{keyless}
+use Rattle.pr_lines.specs.ScenarioLines.{ScenarioLine, start_line, pending_line, role_line, script_line, plan_line, end_line, command_line, declares}
 use Rattle.pr_text.specs.ScriptLines.{body_lines}
-use Rattle.pr_text.specs.inside.Chains.{at_name, start_at, start_placed, pending_at, pending_placed, role_at, role_placed, script_at, script_placed, plan_at, plan_placed, planned_step, item_taken}
+use Rattle.pr_text.specs.inside.Chains.{are_codes_distinct, at_name, start_at, start_placed, pending_at, pending_placed, role_at, role_placed, script_at, script_placed, plan_at, plan_placed, planned_step, item_taken}
 use Rattle.pr_text.specs.Declarations.{Declaration, WrittenTask, scripted, planned, OpenLines, Place, outside, in_script, in_plan, Declared}
-use Rattle.pr_text.specs.Declaring.{codes_of, are_codes_distinct}
+use Rattle.pr_text.specs.Declaring.{codes_of}
 use Rattle.pr_text.specs.NextLine.{begun_script, with_task, item_placed}
 use Rattle.pr_text.specs.Reading.{task_written}
 use Rattle.pr_text.specs.ScriptRoundTrip.{Line, line, all_said, script_said}
 use Rattle.pr_text.specs.ScenarioRoundTrip.{attentions_in, pending_said, task_said, details_said}
-use Rattle.pr_text.proofs.Trees.{both, no_not, true_le}
+use Rattle.pr_lines.proofs.Tests.{both, true_le}
+use Rattle.pr_text.proofs.Trees.{no_not}
 use Rattle.pr_text.proofs.SoundScripts.{or_no, no_true}
 use Rattle.pr_text.proofs.Rereading.{goes, reread}
 use Rattle.pr_text.proofs.NamesApart.{is_taken, neither, itself, number_there, element_there}
@@ -171,7 +172,7 @@ module _ (n : ℕ) (keys : Option (List ℕ)) (vs : Option (List (Option Held)))
   found x p step it = rw (number_there before x after name free it, element_there before x after) refl
 
   start_goes : (guest : Bool) (xs : List (Option ℕ)) → list_all (is_alternative (unwrap_or keys [])) xs ≡ true → are_distinct is_same_alternative xs ≡ true
-      → item_taken n (start_line name xs) (with (staged n name guest None None [] None) outside) ≡ Ok (with (staged n name guest (Some xs) None [] None) outside)
+      → item_taken n (declares (start_line name xs)) (with (staged n name guest None None [] None) outside) ≡ Ok (with (staged n name guest (Some xs) None [] None) outside)
   unfolding item_taken start_placed
   start_goes guest xs known once =
       let x = staged n name guest None None [] None in
@@ -179,7 +180,7 @@ module _ (n : ℕ) (keys : Option (List ℕ)) (vs : Option (List (Option Held)))
       ∙ rw (known, once, set-append_seam before x after (staged n name guest (Some xs) None [] None)) refl
 
   pending_line_goes : (guest : Bool) (s : Option (List (Option ℕ))) (xs : List Attention) (codes : Codes) → are_codes_distinct xs ≡ true → codes_of xs ≡ codes
-      → item_taken n (pending_line name xs) (with (staged n name guest s None [] None) outside) ≡ Ok (with (staged n name guest s (Some codes) [] None) outside)
+      → item_taken n (declares (pending_line name xs)) (with (staged n name guest s None [] None) outside) ≡ Ok (with (staged n name guest s (Some codes) [] None) outside)
   unfolding item_taken pending_placed
   pending_line_goes guest s xs codes once same =
       let x = staged n name guest s None [] None in
@@ -190,10 +191,10 @@ module _ (n : ℕ) (keys : Option (List ℕ)) (vs : Option (List (Option Held)))
       → all_said (pending_said n name xs) (with (staged n name guest s None [] None) outside) ≡ Ok (with (staged n name guest s (pending_kept xs codes) [] None) outside)
   pending_goes guest s [] codes once same = refl
   pending_goes guest s (a ∷ xs) codes once same =
-      said_first n (pending_line name (a ∷ xs)) [] _ (with (staged n name guest s (Some codes) [] None) outside) _ (pending_line_goes guest s (a ∷ xs) codes once same) refl
+      said_first n (declares (pending_line name (a ∷ xs))) [] _ (with (staged n name guest s (Some codes) [] None) outside) _ (pending_line_goes guest s (a ∷ xs) codes once same) refl
 
   role_goes : (guest : Bool) (s : Option (List (Option ℕ))) (p : Option Codes) (done : List Clause) (c : Clause) → is_action (unwrap_or keys []) c.action ≡ true → nat_le 32 (length done) ≡ false
-      → item_taken n (role_line name c) (with (staged n name guest s p done None) outside) ≡ Ok (with (staged n name guest s p (done ++ c ∷ []) None) outside)
+      → item_taken n (declares (role_line name c)) (with (staged n name guest s p done None) outside) ≡ Ok (with (staged n name guest s p (done ++ c ∷ []) None) outside)
   unfolding item_taken role_placed
   role_goes guest s p done c known short =
       let x = staged n name guest s p done None in
@@ -201,11 +202,11 @@ module _ (n : ℕ) (keys : Option (List ℕ)) (vs : Option (List (Option Held)))
       ∙ rw (known, short, set-append_seam before x after (staged n name guest s p (done ++ c ∷ []) None)) refl
 
   roles_go : (guest : Bool) (s : Option (List (Option ℕ))) (p : Option Codes) (done cs : List Clause) → list_all (λ c. is_action (unwrap_or keys []) c.action) cs ≡ true → length done + length cs ≤ 32
-      → all_said (map (λ c. line n (role_line name c)) cs) (with (staged n name guest s p done None) outside) ≡ Ok (with (staged n name guest s p (done ++ cs) None) outside)
+      → all_said (map (λ c. line n (declares (role_line name c))) cs) (with (staged n name guest s p done None) outside) ≡ Ok (with (staged n name guest s p (done ++ cs) None) outside)
   roles_go guest s p done [] known short = ap (λ l. Ok (with (staged n name guest s p l None) outside)) (sym (append-nil done))
   roles_go guest s p done (c ∷ cs) known short =
       let parts = and_parts (is_action (unwrap_or keys []) c.action) _ known in
-      said_first n (role_line name c) (map (λ d. line n (role_line name d)) cs) _ _ _ (role_goes guest s p done c parts.0 (short_role (length done) (length cs) short))
+      said_first n (declares (role_line name c)) (map (λ d. line n (declares (role_line name d))) cs) _ _ _ (role_goes guest s p done c parts.0 (short_role (length done) (length cs) short))
       (roles_go guest s p (done ++ c ∷ []) cs parts.1 (one_longer done c (length cs) 32 short)
       ∙ ap (λ l. Ok (with (staged n name guest s p l None) outside)) (append_assoc done (c ∷ []) cs))
 
@@ -219,7 +220,7 @@ module _ (n : ℕ) (keys : Option (List ℕ)) (vs : Option (List (Option Held)))
   -- ---- a script
 
   script_begins : (s : Option (List (Option ℕ))) (p : Option Codes) (r : List Clause) (budget : ℕ) → (nat_le 1 budget && nat_le budget 4096) ≡ true
-      → item_taken n (script_line name budget) (with (staged n name false s p r None) outside) ≡ Ok (with (staged n name false s p r None) (in_script (begun_script (length before) budget)))
+      → item_taken n (declares (script_line name budget)) (with (staged n name false s p r None) outside) ≡ Ok (with (staged n name false s p r None) (in_script (begun_script (length before) budget)))
   unfolding item_taken script_placed
   script_begins s p r budget fits =
       let x = staged n name false s p r None in
@@ -232,7 +233,7 @@ module _ (n : ℕ) (keys : Option (List ℕ)) (vs : Option (List (Option Held)))
   -- ---- a plan
 
   plan_begins : (s : Option (List (Option ℕ))) (p : Option Codes) (r : List Clause)
-      → item_taken n (plan_line name) (with (staged n name true s p r None) outside) ≡ Ok (with (staged n name true s p r None) (in_plan (length before) []))
+      → item_taken n (declares (plan_line name)) (with (staged n name true s p r None) outside) ≡ Ok (with (staged n name true s p r None) (in_plan (length before) []))
   unfolding item_taken plan_placed
   plan_begins s p r =
       let x = staged n name true s p r None in
@@ -263,7 +264,7 @@ module _ (n : ℕ) (keys : Option (List ℕ)) (vs : Option (List (Option Held)))
       let x = staged n name false s p r None in
       let parts = and_parts (script_fits (unwrap_or keys []) script) _ h in
       let read = reread n (with x outside) (length before) budget script parts.0 in
-      said_first n (script_line name budget) (script_said n (body_lines script) ++ line n end_line ∷ []) _ _ _ (script_begins s p r budget parts.1)
+      said_first n (declares (script_line name budget)) (script_said n (body_lines script) ++ line n end_line ∷ []) _ _ _ (script_begins s p r budget parts.1)
       (said_on (script_said n (body_lines script)) (line n end_line ∷ []) _ (with x (in_script read.script)) _
       read.stepped
       (said_first n end_line [] _ _ _ (script_ends x read.script read.closed read.host_is)
@@ -271,7 +272,7 @@ module _ (n : ℕ) (keys : Option (List ℕ)) (vs : Option (List (Option Held)))
   task_goes (Planned commands) s p r h =
       let x = staged n name true s p r None in
       let parts = and_parts (nat_le (length commands) 256) _ h in
-      said_first n (plan_line name) (map (λ c. line n (command_line (keyless c))) commands ++ line n end_line ∷ []) _ _ _ (plan_begins s p r)
+      said_first n (declares (plan_line name)) (map (λ c. line n (command_line (keyless c))) commands ++ line n end_line ∷ []) _ _ _ (plan_begins s p r)
       (said_on (map (λ c. line n (command_line (keyless c))) commands) (line n end_line ∷ []) _ (with x (in_plan (length before) commands)) _
       (commands_go x (length before) [] commands parts.1 (let few_commands = true_le (length commands) 256 parts.0 in omega arith))
       (said_first n end_line [] _ _ _ (plan_ends x commands) refl))
@@ -294,9 +295,9 @@ details_go n keys vs g before after x free fits are =
     let roles = and_parts (nat_le (length x.role) 32) _ parts.0 in
     let rest = and_parts (is_start (unwrap_or keys []) x.start) _ parts.1 in
     let start = and_parts (list_all (is_alternative (unwrap_or keys [])) x.start) _ (and_parts (not (length x.start == 0)) _ rest.0).1 in
-    said_first n (start_line x.name x.start) _ _ _ _ (start_goes n keys vs g before after x.name free guest x.start start.0 start.1)
+    said_first n (declares (start_line x.name x.start)) _ _ _ _ (start_goes n keys vs g before after x.name free guest x.start start.0 start.1)
     (said_on (pending_said n x.name (attentions_in x.pending)) _ _ _ _
     (pending_goes n keys vs g before after x.name free guest (Some x.start) (attentions_in x.pending) x.pending (attentions_apart x.pending) (attentions_are x.pending are))
-    (said_on (map (λ c. line n (role_line x.name c)) x.role) _ _ _ _
+    (said_on (map (λ c. line n (declares (role_line x.name c))) x.role) _ _ _ _
     (roles_go n keys vs g before after x.name free guest (Some x.start) pending [] x.role roles.1 (let few_roles = true_le (length x.role) 32 roles.0 in omega arith))
     (task_goes n keys vs g before after x.name free x.task (Some x.start) pending x.role rest.1)))

@@ -14,7 +14,8 @@ use Rattle.pr_text.specs.Declaring.{declared_keys}
 use Rattle.pr_text.specs.inside.Endings.{missing, missing_at}
 use Rattle.pr_text.specs.Reading.{WrittenNexus, task_written, nexus_written, nexus_declared, IsDeclaredBy}
 use Rattle.pr_text.specs.inside.Sound.{IsTask, IsDeclaration, AreDeclarations, IsSound}
-use Rattle.pr_text.proofs.Trees.{both, whole_fits}
+use Rattle.pr_lines.proofs.Tests.{both}
+use Rattle.pr_text.proofs.Trees.{whole_fits}
 
 -- ---- one nexus
 

@@ -1,10 +1,6 @@
-pub mod LineCuts
 pub mod ReadBytes
-pub mod NumberRoom
-pub mod NameText
 pub mod Steps
 pub mod Endings
-pub mod Lists
 pub mod LineOrder
 pub mod OpenLines
 pub mod Drafts
@@ -13,8 +9,6 @@ pub mod Fitting
 pub mod Soundness
 pub mod FrontOfText
 pub mod Trees
-pub mod ItemWords
-pub mod ItemTerms
 pub mod SoundScripts
 pub mod SoundPlaces
 pub mod SoundLists

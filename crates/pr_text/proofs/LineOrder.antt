@@ -1,27 +1,25 @@
 -- The faults of a line in their order, as the tests that the reader makes.
-use Rattle.std.specs.Prelude.{◌≡◌, ℕ, List, length, Option, [], ◌∷◌, Some, None, option_map, Bool, ◌&&◌, false, ◌==◌, ◌||◌, not, nat_le, ◌++◌, is_some, Ok, Err, true, ◌+◌, count_by, cond}
+use Rattle.std.specs.Prelude.{◌≡◌, ℕ, List, length, Option, [], ◌∷◌, Some, None, option_map, Bool, ◌&&◌, false, ◌==◌, ◌||◌, not, nat_le, ◌++◌, is_some, Ok, Err, true, ◌+◌, cond}
 use Rattle.std.specs.List.{slice_get}
 use Rattle.std.proofs.Common.{refl}
 use Rattle.pr_cdb.specs.declared.command.Command.{Command}
 use Rattle.pr_registry.specs.declared.held.Held.{Held}
 use Rattle.pr_attention.specs.declared.attention.Attention.{Attention}
-use Rattle.pr_script.specs.declared.script.Test.{Test}
 use Rattle.pr_roles.specs.declared.role.Clause.{Clause}
 use Rattle.pr_roles.specs.Fitting.{are_distinct, is_same_reservation, is_action}
 use Rattle.pr_text.specs.declared.fault.Which.{Which}
-use Rattle.pr_text.specs.declared.spelling.ParsedCommand.{ParsedCommand}
+use Rattle.pr_lines.specs.declared.spelling.ParsedCommand.{ParsedCommand}
 use Rattle.pr_text.specs.declared.fault.ReadError.{ReadError}
 use Rattle.pr_text.specs.declared.fault.Which.TheVariants as which
 use Rattle.pr_text.specs.declared.fault.ReadError.TheVariants as fault
-use Rattle.pr_text.specs.Declarations.{Declaration, OpenBlock, repeating, sending, OpenLines, Place, before_all, outside, in_script, in_plan, Declared}
-use Rattle.pr_text.specs.Chain.{each}
-use Rattle.pr_text.specs.Declaring.{declared_keys, number_of, are_codes_distinct, held_of, is_spelled, is_test_declared}
+use Rattle.pr_text.specs.Declarations.{Declaration, OpenLines, Place, before_all, outside, in_script, in_plan, Declared}
+use Rattle.pr_lines.specs.Chain.{each}
+use Rattle.pr_text.specs.Declaring.{declared_keys, number_of, held_of}
 use Rattle.pr_text.specs.Faults.{and_then, unless}
-use Rattle.pr_text.specs.ScenarioLines.{StartReservation, ScenarioLine, fence_line, keys_line, host_line, guest_line, start_line, pending_line, reservation_line, generation_line, role_line, script_line, plan_line, end_line, send_line, on_line, done_line, repeat_line, break_line, stop_line, command_line}
-use Rattle.pr_text.specs.NextLine.{with_more, opening, stating, closing, item_placed}
-use Rattle.pr_text.specs.ScriptLines.{send_at, arm_on, repeat_of, break_out, stop_with}
-use Rattle.pr_text.specs.Standing.{is_repeating, is_sending, awaits_arm, awaits_more, may_close, stands_under}
-use Rattle.pr_text.specs.inside.Chains.{keys_placed, nexus_placed, start_placed, pending_placed, reservation_placed, generation_placed, role_placed, script_placed, plan_placed, send_step, repeat_step, break_step, stop_step, on_step, done_step, placed_first, placed_outside, placed_in_script, planned_step, placed_in_plan, placed_at, item_taken}
+use Rattle.pr_lines.specs.ScenarioLines.{StartReservation, ScenarioLine, fence_line, keys_line, nexus_line, start_line, pending_line, reservation_line, generation_line, role_line, script_line, plan_line, end_line, command_line, DeclaringLine, StatementLine, declares, states}
+use Rattle.pr_text.specs.LineFaults.{statement_fault, command_fault}
+use Rattle.pr_text.specs.NextLine.{with_statement_line, with_more, item_placed}
+use Rattle.pr_text.specs.inside.Chains.{are_codes_distinct, declared_with, script_step, keys_placed, nexus_placed, start_placed, pending_placed, reservation_placed, generation_placed, role_placed, script_placed, plan_placed, placed_first, placed_outside, placed_in_script, planned_step, placed_in_plan, placed_at, item_taken}
 
 -- ---- tests one behind another
 
@@ -45,7 +43,7 @@ limited false false e n w a = refl
 abbrev at_place : Declared → Place → Declared
 at_place d p = record d { place = p }
 
-keys_same : (n : ℕ) (keys : List ℕ) (d : Declared) → item_placed n (keys_line keys) (at_place d outside) ≡ keys_placed n keys (at_place d outside)
+keys_same : (n : ℕ) (keys : List ℕ) (d : Declared) → item_placed n (declares (keys_line keys)) (at_place d outside) ≡ keys_placed n keys (at_place d outside)
 unfolding item_placed keys_placed
 keys_same n keys d = limited _ _ _ _ _ _
 
@@ -55,50 +53,50 @@ nexus_same : (n : ℕ) (guest : Bool) (name : List ℕ) (d : Declared)
 unfolding nexus_placed
 nexus_same n guest name d = limited _ _ _ _ _ _
 
-start_same : (n : ℕ) (name : List ℕ) (xs : List (Option ℕ)) (d : Declared) → item_placed n (start_line name xs) (at_place d outside) ≡ start_placed n name xs (at_place d outside)
+start_same : (n : ℕ) (name : List ℕ) (xs : List (Option ℕ)) (d : Declared) → item_placed n (declares (start_line name xs)) (at_place d outside) ≡ start_placed n name xs (at_place d outside)
 unfolding item_placed start_placed
 start_same n name xs d = by_number (number_of d.nexuses name) refl
   where
     by_nexus : (h : ℕ) (o : Option Declaration) → number_of d.nexuses name ≡ Some h → slice_get d.nexuses h ≡ o
-        → item_placed n (start_line name xs) (at_place d outside) ≡ start_placed n name xs (at_place d outside)
+        → item_placed n (declares (start_line name xs)) (at_place d outside) ≡ start_placed n name xs (at_place d outside)
     by_nexus h None is there = rw (is, there) refl
     by_nexus h (Some x) is there = rw (is, there) refl
 
-    by_number : (o : Option ℕ) → number_of d.nexuses name ≡ o → item_placed n (start_line name xs) (at_place d outside) ≡ start_placed n name xs (at_place d outside)
+    by_number : (o : Option ℕ) → number_of d.nexuses name ≡ o → item_placed n (declares (start_line name xs)) (at_place d outside) ≡ start_placed n name xs (at_place d outside)
     by_number None is = rw is refl
     by_number (Some h) is = by_nexus h (slice_get d.nexuses h) is refl
 
-pending_same : (n : ℕ) (name : List ℕ) (xs : List Attention) (d : Declared) → item_placed n (pending_line name xs) (at_place d outside) ≡ pending_placed n name xs (at_place d outside)
+pending_same : (n : ℕ) (name : List ℕ) (xs : List Attention) (d : Declared) → item_placed n (declares (pending_line name xs)) (at_place d outside) ≡ pending_placed n name xs (at_place d outside)
 unfolding item_placed pending_placed
 pending_same n name xs d = by_number (number_of d.nexuses name) refl
   where
     by_nexus : (h : ℕ) (o : Option Declaration) → number_of d.nexuses name ≡ Some h → slice_get d.nexuses h ≡ o
-        → item_placed n (pending_line name xs) (at_place d outside) ≡ pending_placed n name xs (at_place d outside)
+        → item_placed n (declares (pending_line name xs)) (at_place d outside) ≡ pending_placed n name xs (at_place d outside)
     by_nexus h None is there = rw (is, there) refl
     by_nexus h (Some x) is there = rw (is, there) (first (is_some x.pending || not (are_codes_distinct xs)) _ None _)
 
-    by_number : (o : Option ℕ) → number_of d.nexuses name ≡ o → item_placed n (pending_line name xs) (at_place d outside) ≡ pending_placed n name xs (at_place d outside)
+    by_number : (o : Option ℕ) → number_of d.nexuses name ≡ o → item_placed n (declares (pending_line name xs)) (at_place d outside) ≡ pending_placed n name xs (at_place d outside)
     by_number None is = rw is refl
     by_number (Some h) is = by_nexus h (slice_get d.nexuses h) is refl
 
-reservation_same : (n : ℕ) (ws : List StartReservation) (d : Declared) → item_placed n (reservation_line ws) (at_place d outside) ≡ reservation_placed n ws (at_place d outside)
+reservation_same : (n : ℕ) (ws : List StartReservation) (d : Declared) → item_placed n (declares (reservation_line ws)) (at_place d outside) ≡ reservation_placed n ws (at_place d outside)
 unfolding item_placed reservation_placed
 reservation_same n ws d = by_helds (each (held_of d.nexuses) ws) refl
   where
-    by_helds : (o : Option (List (Option Held))) → each (held_of d.nexuses) ws ≡ o → item_placed n (reservation_line ws) (at_place d outside) ≡ reservation_placed n ws (at_place d outside)
+    by_helds : (o : Option (List (Option Held))) → each (held_of d.nexuses) ws ≡ o → item_placed n (declares (reservation_line ws)) (at_place d outside) ≡ reservation_placed n ws (at_place d outside)
     by_helds None is = rw is refl
     by_helds (Some vs) is = rw is (first (is_some d.reservations || not (are_distinct is_same_reservation vs)) _ None _)
 
-role_same : (n : ℕ) (name : List ℕ) (clause : Clause) (d : Declared) → item_placed n (role_line name clause) (at_place d outside) ≡ role_placed n name clause (at_place d outside)
+role_same : (n : ℕ) (name : List ℕ) (clause : Clause) (d : Declared) → item_placed n (declares (role_line name clause)) (at_place d outside) ≡ role_placed n name clause (at_place d outside)
 unfolding item_placed role_placed
 role_same n name clause d = by_number (number_of d.nexuses name) refl
   where
     by_nexus : (h : ℕ) (o : Option Declaration) → number_of d.nexuses name ≡ Some h → slice_get d.nexuses h ≡ o
-        → item_placed n (role_line name clause) (at_place d outside) ≡ role_placed n name clause (at_place d outside)
+        → item_placed n (declares (role_line name clause)) (at_place d outside) ≡ role_placed n name clause (at_place d outside)
     by_nexus h None is there = rw (is, there) refl
     by_nexus h (Some x) is there = rw (is, there) (limited (not (is_action (declared_keys d) clause.action)) (nat_le 32 (length x.role)) _ n which.Roles _)
 
-    by_number : (o : Option ℕ) → number_of d.nexuses name ≡ o → item_placed n (role_line name clause) (at_place d outside) ≡ role_placed n name clause (at_place d outside)
+    by_number : (o : Option ℕ) → number_of d.nexuses name ≡ o → item_placed n (declares (role_line name clause)) (at_place d outside) ≡ role_placed n name clause (at_place d outside)
     by_number None is = rw is refl
     by_number (Some h) is = by_nexus h (slice_get d.nexuses h) is refl
 
@@ -110,160 +108,72 @@ script_tests false true l e f n w a = refl
 script_tests false false true e f n w a = refl
 script_tests false false false e f n w a = refl
 
-script_same : (n : ℕ) (name : List ℕ) (budget : ℕ) (d : Declared) → item_placed n (script_line name budget) (at_place d outside) ≡ script_placed n name budget (at_place d outside)
+script_same : (n : ℕ) (name : List ℕ) (budget : ℕ) (d : Declared) → item_placed n (declares (script_line name budget)) (at_place d outside) ≡ script_placed n name budget (at_place d outside)
 unfolding item_placed script_placed
 script_same n name budget d = by_number (number_of d.nexuses name) refl
   where
     by_nexus : (h : ℕ) (o : Option Declaration) → number_of d.nexuses name ≡ Some h → slice_get d.nexuses h ≡ o
-        → item_placed n (script_line name budget) (at_place d outside) ≡ script_placed n name budget (at_place d outside)
+        → item_placed n (declares (script_line name budget)) (at_place d outside) ≡ script_placed n name budget (at_place d outside)
     by_nexus h None is there = rw (is, there) refl
     by_nexus h (Some x) is there = rw (is, there) (script_tests x.is_guest (is_some x.task) (not (nat_le 1 budget && nat_le budget 4096)) _ _ n which.Budget _)
 
-    by_number : (o : Option ℕ) → number_of d.nexuses name ≡ o → item_placed n (script_line name budget) (at_place d outside) ≡ script_placed n name budget (at_place d outside)
+    by_number : (o : Option ℕ) → number_of d.nexuses name ≡ o → item_placed n (declares (script_line name budget)) (at_place d outside) ≡ script_placed n name budget (at_place d outside)
     by_number None is = rw is refl
     by_number (Some h) is = by_nexus h (slice_get d.nexuses h) is refl
 
-plan_same : (n : ℕ) (name : List ℕ) (d : Declared) → item_placed n (plan_line name) (at_place d outside) ≡ plan_placed n name (at_place d outside)
+plan_same : (n : ℕ) (name : List ℕ) (d : Declared) → item_placed n (declares (plan_line name)) (at_place d outside) ≡ plan_placed n name (at_place d outside)
 unfolding item_placed plan_placed
 plan_same n name d = by_number (number_of d.nexuses name) refl
   where
     by_nexus : (h : ℕ) (o : Option Declaration) → number_of d.nexuses name ≡ Some h → slice_get d.nexuses h ≡ o
-        → item_placed n (plan_line name) (at_place d outside) ≡ plan_placed n name (at_place d outside)
+        → item_placed n (declares (plan_line name)) (at_place d outside) ≡ plan_placed n name (at_place d outside)
     by_nexus h None is there = rw (is, there) refl
     by_nexus h (Some x) is there = rw (is, there) (second (not x.is_guest) (is_some x.task) _ _ _)
 
-    by_number : (o : Option ℕ) → number_of d.nexuses name ≡ o → item_placed n (plan_line name) (at_place d outside) ≡ plan_placed n name (at_place d outside)
+    by_number : (o : Option ℕ) → number_of d.nexuses name ≡ o → item_placed n (declares (plan_line name)) (at_place d outside) ≡ plan_placed n name (at_place d outside)
     by_number None is = rw is refl
     by_number (Some h) is = by_nexus h (slice_get d.nexuses h) is refl
 
-outside_same : (n : ℕ) (i : ScenarioLine) (d : Declared) → item_placed n i (at_place d outside) ≡ placed_outside n i (at_place d outside)
+declared_same : (n : ℕ) (l : DeclaringLine) (d : Declared) → item_placed n (declares l) (at_place d outside) ≡ declared_with n l (at_place d outside)
 unfolding item_placed generation_placed
+declared_same n (keys_line keys) d = keys_same n keys d
+declared_same n (nexus_line guest name) d = nexus_same n guest name d
+declared_same n (start_line name xs) d = start_same n name xs d
+declared_same n (pending_line name xs) d = pending_same n name xs d
+declared_same n (reservation_line ws) d = reservation_same n ws d
+declared_same n (generation_line g) d = first (is_some d.generation) _ None _
+declared_same n (role_line name clause) d = role_same n name clause d
+declared_same n (script_line name budget) d = script_same n name budget d
+declared_same n (plan_line name) d = plan_same n name d
+
+outside_same : (n : ℕ) (i : ScenarioLine) (d : Declared) → item_placed n i (at_place d outside) ≡ placed_outside n i (at_place d outside)
+unfolding item_placed
 outside_same n fence_line d = refl
-outside_same n (keys_line keys) d = keys_same n keys d
-outside_same n (host_line name) d = nexus_same n false name d
-outside_same n (guest_line name) d = nexus_same n true name d
-outside_same n (start_line name xs) d = start_same n name xs d
-outside_same n (pending_line name xs) d = pending_same n name xs d
-outside_same n (reservation_line ws) d = reservation_same n ws d
-outside_same n (generation_line g) d = first (is_some d.generation) _ None _
-outside_same n (role_line name clause) d = role_same n name clause d
-outside_same n (script_line name budget) d = script_same n name budget d
-outside_same n (plan_line name) d = plan_same n name d
-outside_same n end_line d = refl
-outside_same n (send_line s) d = refl
-outside_same n (on_line t) d = refl
-outside_same n done_line d = refl
-outside_same n (repeat_line count) d = refl
-outside_same n break_line d = refl
-outside_same n (stop_line word) d = refl
+outside_same n (declares l) d = declared_same n l d
+outside_same n (states l) d = refl
 outside_same n (command_line s) d = refl
+outside_same n end_line d = refl
 
 -- ---- the first line
 
 first_same : (n : ℕ) (i : ScenarioLine) (d : Declared) → item_placed n i (at_place d before_all) ≡ placed_first n i (at_place d before_all)
 unfolding item_placed
 first_same n fence_line d = refl
-first_same n (keys_line keys) d = refl
-first_same n (host_line name) d = refl
-first_same n (guest_line name) d = refl
-first_same n (start_line name xs) d = refl
-first_same n (pending_line name xs) d = refl
-first_same n (reservation_line ws) d = refl
-first_same n (generation_line g) d = refl
-first_same n (role_line name clause) d = refl
-first_same n (script_line name budget) d = refl
-first_same n (plan_line name) d = refl
-first_same n end_line d = refl
-first_same n (send_line s) d = refl
-first_same n (on_line t) d = refl
-first_same n done_line d = refl
-first_same n (repeat_line count) d = refl
-first_same n break_line d = refl
-first_same n (stop_line word) d = refl
+first_same n (declares l) d = refl
+first_same n (states l) d = refl
 first_same n (command_line s) d = refl
+first_same n end_line d = refl
 
 -- ---- scripts
 
-send_tests : {A B : Type 0} (a b c d : Bool) (e f : ReadError) (n : ℕ) (v w : Which) (p : A) (g : A → B)
-    → unless (cond a (Some e) (cond b (Some f) (option_map (λ limit. fault.Limit limit n) (cond c (Some v) (cond d (Some w) None))))) (g p)
-    ≡ and_then (cond a (Err e) (cond b (Err f) (cond c (Err (fault.Limit v n)) (cond d (Err (fault.Limit w n)) (Ok p))))) (λ q. Ok (g q))
-send_tests true b c d e f n v w p g = refl
-send_tests false true c d e f n v w p g = refl
-send_tests false false true d e f n v w p g = refl
-send_tests false false false true e f n v w p g = refl
-send_tests false false false false e f n v w p g = refl
+and_kept : {A B : Type 0} (o : Option ReadError) (a : A) (f : A → B) → unless o (f a) ≡ and_then (unless o a) (λ b. Ok (f b))
+and_kept None a f = refl
+and_kept (Some e) a f = refl
 
-send_same : (n : ℕ) (s : ParsedCommand) (o : OpenLines) (d : Declared)
-    → item_placed n (send_line s) (at_place d (in_script o)) ≡ and_then (send_step n (declared_keys d) s o) (λ p. Ok (at_place d (in_script p)))
-unfolding item_placed send_step
-send_same n s o d =
-    send_tests (awaits_arm o.blocks) (not (is_spelled (declared_keys d) s)) (nat_le 512 o.statements) (nat_le 8 (count_by is_sending o.blocks)) _ _ n which.Statements which.Nesting
-    (opening (send_at n s.command) (sending s.command 0) o) (λ p. at_place d (in_script p))
-
-repeat_tests : {A B : Type 0} (a b c d : Bool) (e : ReadError) (n : ℕ) (u v w : Which) (p : A) (g : A → B)
-    → unless (cond a (Some e) (option_map (λ limit. fault.Limit limit n) (cond b (Some u) (cond c (Some v) (cond d (Some w) None))))) (g p)
-    ≡ and_then (cond a (Err e) (cond b (Err (fault.Limit u n)) (cond c (Err (fault.Limit v n)) (cond d (Err (fault.Limit w n)) (Ok p))))) (λ q. Ok (g q))
-repeat_tests true b c d e n u v w p g = refl
-repeat_tests false true c d e n u v w p g = refl
-repeat_tests false false true d e n u v w p g = refl
-repeat_tests false false false true e n u v w p g = refl
-repeat_tests false false false false e n u v w p g = refl
-
-repeat_same : (n count : ℕ) (o : OpenLines) (d : Declared)
-    → item_placed n (repeat_line count) (at_place d (in_script o)) ≡ and_then (repeat_step n count o) (λ p. Ok (at_place d (in_script p)))
-unfolding item_placed repeat_step
-repeat_same n count o d =
-    repeat_tests (awaits_arm o.blocks) (nat_le 512 o.statements) (nat_le 8 (count_by is_repeating o.blocks)) (not (nat_le 1 count && nat_le count 1000)) _ n which.Statements which.Nesting which.Repeat
-    (opening (repeat_of count) repeating o) (λ p. at_place d (in_script p))
-
-state_tests : {A B : Type 0} (a b : Bool) (e : ReadError) (n : ℕ) (u : Which) (p : A) (g : A → B)
-    → unless (cond a (Some e) (option_map (λ limit. fault.Limit limit n) (cond b (Some u) None))) (g p)
-    ≡ and_then (cond a (Err e) (cond b (Err (fault.Limit u n)) (Ok p))) (λ q. Ok (g q))
-state_tests true b e n u p g = refl
-state_tests false true e n u p g = refl
-state_tests false false e n u p g = refl
-
-break_same : (n : ℕ) (o : OpenLines) (d : Declared)
-    → item_placed n break_line (at_place d (in_script o)) ≡ and_then (break_step n o) (λ p. Ok (at_place d (in_script p)))
-unfolding item_placed break_step
-break_same n o d =
-    state_tests (awaits_more o || count_by is_repeating o.blocks == 0) (nat_le 512 o.statements) _ n which.Statements (stating break_out o) (λ p. at_place d (in_script p))
-
-stop_same : (n : ℕ) (word : List ℕ) (o : OpenLines) (d : Declared)
-    → item_placed n (stop_line word) (at_place d (in_script o)) ≡ and_then (stop_step n word o) (λ p. Ok (at_place d (in_script p)))
-unfolding item_placed stop_step
-stop_same n word o d =
-    state_tests (awaits_more o) (nat_le 512 o.statements) _ n which.Statements (stating (stop_with word) o) (λ p. at_place d (in_script p))
-
-closes : {A B : Type 0} (b : Bool) (e : ReadError) (p : A) (g : A → B) → unless (cond (not b) (Some e) None) (g p) ≡ and_then (cond b (Ok p) (Err e)) (λ q. Ok (g q))
-closes true e p g = refl
-closes false e p g = refl
-
-done_same : (n : ℕ) (o : OpenLines) (d : Declared)
-    → item_placed n done_line (at_place d (in_script o)) ≡ and_then (done_step n o) (λ p. Ok (at_place d (in_script p)))
-unfolding item_placed done_step
-done_same n o d = closes (may_close o.blocks o.begun) _ (closing o) (λ p. at_place d (in_script p))
-
-arm_tests : {A B : Type 0} (a b c : Bool) (e f : ReadError) (n : ℕ) (u : Which) (p : A) (g : A → B)
-    → unless (cond a (Some e) (cond b (Some f) (option_map (λ limit. fault.Limit limit n) (cond c (Some u) None)))) (g p)
-    ≡ and_then (unless (cond a (Some e) (cond b (Some f) (cond c (Some (fault.Limit u n)) None))) p) (λ q. Ok (g q))
-arm_tests true b c e f n u p g = refl
-arm_tests false true c e f n u p g = refl
-arm_tests false false true e f n u p g = refl
-arm_tests false false false e f n u p g = refl
-
-on_same : (n : ℕ) (t : Test) (o : OpenLines) (d : Declared)
-    → item_placed n (on_line t) (at_place d (in_script o)) ≡ and_then (on_step n (declared_keys d) t o) (λ p. Ok (at_place d (in_script p)))
-unfolding item_placed on_step
-on_same n t o d = by_blocks o.blocks refl
-  where
-    by_blocks : (bs : List OpenBlock) → o.blocks ≡ bs
-        → item_placed n (on_line t) (at_place d (in_script o)) ≡ and_then (on_step n (declared_keys d) t o) (λ p. Ok (at_place d (in_script p)))
-    by_blocks [] is = rw is refl
-    by_blocks (repeating ∷ bs) is = rw is refl
-    by_blocks ((sending c arms) ∷ bs) is =
-        rw is (arm_tests (not (stands_under c t)) (not (is_test_declared (declared_keys d) t)) (nat_le 16 arms) _ _ n which.Arms
-        (record o { lines = o.lines ++ arm_on t ∷ []; blocks = sending c (arms + 1) ∷ bs; begun = false }) (λ p. at_place d (in_script p)))
+stated_same : (n : ℕ) (l : StatementLine) (o : OpenLines) (d : Declared)
+    → item_placed n (states l) (at_place d (in_script o)) ≡ and_then (script_step n (declared_keys d) l o) (λ p. Ok (at_place d (in_script p)))
+unfolding item_placed script_step
+stated_same n l o d = and_kept (statement_fault n (declared_keys d) o l) (with_statement_line n l o) (λ p. at_place d (in_script p))
 
 ends : {A : Type 0} (b : Bool) (e : ReadError) (a : A) → unless (cond (not b) (Some e) None) a ≡ cond b (Ok a) (Err e)
 ends true e a = refl
@@ -271,62 +181,27 @@ ends false e a = refl
 
 in_script_same : (n : ℕ) (i : ScenarioLine) (o : OpenLines) (d : Declared) → item_placed n i (at_place d (in_script o)) ≡ placed_in_script n o i (at_place d (in_script o))
 unfolding item_placed
-in_script_same n end_line o d = ends (length o.blocks == 0) _ _
-in_script_same n (send_line s) o d = send_same n s o d
-in_script_same n (on_line t) o d = on_same n t o d
-in_script_same n done_line o d = done_same n o d
-in_script_same n (repeat_line count) o d = repeat_same n count o d
-in_script_same n break_line o d = break_same n o d
-in_script_same n (stop_line word) o d = stop_same n word o d
 in_script_same n fence_line o d = refl
-in_script_same n (keys_line keys) o d = refl
-in_script_same n (host_line name) o d = refl
-in_script_same n (guest_line name) o d = refl
-in_script_same n (start_line name xs) o d = refl
-in_script_same n (pending_line name xs) o d = refl
-in_script_same n (reservation_line ws) o d = refl
-in_script_same n (generation_line g) o d = refl
-in_script_same n (role_line name clause) o d = refl
-in_script_same n (script_line name budget) o d = refl
-in_script_same n (plan_line name) o d = refl
+in_script_same n (declares l) o d = refl
+in_script_same n (states l) o d = stated_same n l o d
 in_script_same n (command_line s) o d = refl
+in_script_same n end_line o d = ends (length o.blocks == 0) _ _
 
 -- ---- plans
-
-command_tests : {A B : Type 0} (a b : Bool) (e : ReadError) (n : ℕ) (u : Which) (p : A) (g : A → B)
-    → unless (cond a (Some e) (option_map (λ limit. fault.Limit limit n) (cond b (Some u) None))) (g p)
-    ≡ and_then (cond a (Err e) (cond b (Err (fault.Limit u n)) (Ok p))) (λ q. Ok (g q))
-command_tests true b e n u p g = refl
-command_tests false true e n u p g = refl
-command_tests false false e n u p g = refl
 
 command_same : (n h : ℕ) (commands : List Command) (s : ParsedCommand) (d : Declared)
     → item_placed n (command_line s) (at_place d (in_plan h commands)) ≡ placed_in_plan n h commands (command_line s) (at_place d (in_plan h commands))
 unfolding item_placed planned_step
 command_same n h commands s d =
-    command_tests (not (is_spelled (declared_keys d) s)) (nat_le 256 (length commands)) _ n which.Plan (commands ++ s.command ∷ []) (λ more. at_place d (in_plan h more))
+    and_kept (command_fault n (declared_keys d) commands s) (commands ++ s.command ∷ []) (λ more. at_place d (in_plan h more))
 
 in_plan_same : (n h : ℕ) (commands : List Command) (i : ScenarioLine) (d : Declared) → item_placed n i (at_place d (in_plan h commands)) ≡ placed_in_plan n h commands i (at_place d (in_plan h commands))
 unfolding item_placed
+in_plan_same n h commands fence_line d = refl
+in_plan_same n h commands (declares l) d = refl
+in_plan_same n h commands (states l) d = refl
 in_plan_same n h commands (command_line s) d = command_same n h commands s d
 in_plan_same n h commands end_line d = refl
-in_plan_same n h commands fence_line d = refl
-in_plan_same n h commands (keys_line keys) d = refl
-in_plan_same n h commands (host_line name) d = refl
-in_plan_same n h commands (guest_line name) d = refl
-in_plan_same n h commands (start_line name xs) d = refl
-in_plan_same n h commands (pending_line name xs) d = refl
-in_plan_same n h commands (reservation_line ws) d = refl
-in_plan_same n h commands (generation_line g) d = refl
-in_plan_same n h commands (role_line name clause) d = refl
-in_plan_same n h commands (script_line name budget) d = refl
-in_plan_same n h commands (plan_line name) d = refl
-in_plan_same n h commands (send_line s) d = refl
-in_plan_same n h commands (on_line t) d = refl
-in_plan_same n h commands done_line d = refl
-in_plan_same n h commands (repeat_line count) d = refl
-in_plan_same n h commands break_line d = refl
-in_plan_same n h commands (stop_line word) d = refl
 
 -- ---- any line
 

@@ -7,17 +7,19 @@ use Rattle.pr_cdb.specs.declared.command.Command.{Command}
 use Rattle.pr_script.specs.declared.script.Test.{Test}
 use Rattle.pr_script.specs.declared.script.Test.TheVariants as test
 use Rattle.pr_script.specs.Scripts.{Stmt, Stmts, Arms, sends, repeats, breaks, stops, none, more, no_arm, arm}
-use Rattle.pr_script.specs.Grammar.{is_written, is_read_keys, is_read_reservation, test_fits, count_of_arms, begins_body, is_send_written, is_repeat_written, statement_fits, statements_fit, arms_fit, count_of, count_of_all, count_in_arms}
+use Rattle.pr_script.specs.Grammar.{is_written, stands_under, is_test_declared, has_sense_digit, test_fits, count_of_arms, begins_body, is_send_written, is_repeat_written, statement_fits, statements_fit, arms_fit, count_of, count_of_all, count_in_arms}
 use Rattle.pr_text.specs.declared.fault.ReadError.{ReadError}
 use Rattle.pr_text.specs.Faults.{and_then}
-use Rattle.pr_text.specs.CommandWords.{keyless}
+use Rattle.pr_lines.specs.CommandWords.{keyless}
 use Rattle.pr_text.specs.ScriptLines.{ScriptLine, send_at, arm_on, block_done, repeat_of, break_out, stop_with, statement_lines, body_lines, arms_lines}
 use Rattle.pr_text.specs.Declarations.{OpenBlock, repeating, sending, OpenLines, Declared}
-use Rattle.pr_text.specs.Standing.{is_repeating, is_sending, awaits_arm, is_in_repeat, stands_under, may_close}
-use Rattle.pr_text.specs.inside.Chains.{send_step, repeat_step, break_step, stop_step, on_step, done_step, all_stepped, script_step, item_taken}
-use Rattle.pr_text.specs.Declaring.{is_test_declared, declared_keys}
+use Rattle.pr_text.specs.Standing.{is_repeating, is_sending, awaits_arm, is_in_repeat, may_close}
+use Rattle.pr_lines.specs.ScenarioLines.{states, send_line, on_line, done_line, repeat_line, break_line, stop_line}
+use Rattle.pr_text.specs.inside.Chains.{all_stepped, script_step, item_taken}
+use Rattle.pr_text.specs.Declaring.{declared_keys}
 use Rattle.pr_text.specs.ScriptRoundTrip.{ScriptsHaveNoFault, said_by, numbered, script_said, all_said, within}
-use Rattle.pr_text.proofs.Trees.{both, no_not, true_le, one_more, as_many}
+use Rattle.pr_lines.proofs.Tests.{both, true_le}
+use Rattle.pr_text.proofs.Trees.{no_not, one_more, as_many}
 use Rattle.pr_text.proofs.LineOrder.{in_order}
 use Rattle.pr_text.specs.NextLine.{begun_script}
 
@@ -32,48 +34,42 @@ goes step a f e = rw e refl
 
 send_goes : (m : ℕ) (keys : List ℕ) (c : Command) (host budget : ℕ) (ls : List ScriptLine) (k : ℕ) (bs : List OpenBlock) (g : Bool)
     → awaits_arm bs ≡ false → is_written keys c ≡ true → nat_le 512 k ≡ false → nat_le 8 (count_by is_sending bs) ≡ false
-    → send_step m keys (keyless c) (open_at host budget ls k bs g) ≡ Ok (open_at host budget (ls ++ send_at m c ∷ []) (k + 1) (sending c 0 ∷ bs) false)
-unfolding send_step
+    → script_step m keys (send_line (keyless c)) (open_at host budget ls k bs g) ≡ Ok (open_at host budget (ls ++ send_at m c ∷ []) (k + 1) (sending c 0 ∷ bs) false)
+unfolding script_step
 send_goes m keys c host budget ls k bs g free written short shallow = rw (free, written, short, shallow) refl
 
 repeat_goes : (m : ℕ) (keys : List ℕ) (count : ℕ) (host budget : ℕ) (ls : List ScriptLine) (k : ℕ) (bs : List OpenBlock) (g : Bool)
     → awaits_arm bs ≡ false → nat_le 512 k ≡ false → nat_le 8 (count_by is_repeating bs) ≡ false → (nat_le 1 count && nat_le count 1000) ≡ true
-    → repeat_step m count (open_at host budget ls k bs g) ≡ Ok (open_at host budget (ls ++ repeat_of count ∷ []) (k + 1) (repeating ∷ bs) false)
-unfolding repeat_step
+    → script_step m keys (repeat_line count) (open_at host budget ls k bs g) ≡ Ok (open_at host budget (ls ++ repeat_of count ∷ []) (k + 1) (repeating ∷ bs) false)
+unfolding script_step
 repeat_goes m keys count host budget ls k bs g free short shallow counted = rw (free, short, shallow, counted) refl
 
-break_goes : (m : ℕ) (host budget : ℕ) (ls : List ScriptLine) (k : ℕ) (bs : List OpenBlock) (g : Bool)
+break_goes : (m : ℕ) (keys : List ℕ) (host budget : ℕ) (ls : List ScriptLine) (k : ℕ) (bs : List OpenBlock) (g : Bool)
     → awaits_arm bs ≡ false → (is_in_repeat bs && not g) ≡ false → (count_by is_repeating bs == 0) ≡ false → nat_le 512 k ≡ false
-    → break_step m (open_at host budget ls k bs g) ≡ Ok (open_at host budget (ls ++ break_out ∷ []) (k + 1) bs true)
-unfolding break_step
-break_goes m host budget ls k bs g free begun inside short = rw (free, begun, inside, short) refl
+    → script_step m keys break_line (open_at host budget ls k bs g) ≡ Ok (open_at host budget (ls ++ break_out ∷ []) (k + 1) bs true)
+unfolding script_step
+break_goes m keys host budget ls k bs g free begun inside short = rw (free, begun, inside, short) refl
 
-stop_goes : (m : ℕ) (word : List ℕ) (host budget : ℕ) (ls : List ScriptLine) (k : ℕ) (bs : List OpenBlock) (g : Bool)
+stop_goes : (m : ℕ) (keys : List ℕ) (word : List ℕ) (host budget : ℕ) (ls : List ScriptLine) (k : ℕ) (bs : List OpenBlock) (g : Bool)
     → awaits_arm bs ≡ false → (is_in_repeat bs && not g) ≡ false → nat_le 512 k ≡ false
-    → stop_step m word (open_at host budget ls k bs g) ≡ Ok (open_at host budget (ls ++ stop_with word ∷ []) (k + 1) bs true)
-unfolding stop_step
-stop_goes m word host budget ls k bs g free begun short = rw (free, begun, short) refl
+    → script_step m keys (stop_line word) (open_at host budget ls k bs g) ≡ Ok (open_at host budget (ls ++ stop_with word ∷ []) (k + 1) bs true)
+unfolding script_step
+stop_goes m keys word host budget ls k bs g free begun short = rw (free, begun, short) refl
 
 test_stands : (keys : List ℕ) (c : Command) (t : Test) → test_fits keys c t ≡ true → (stands_under c t ≡ true) × (is_test_declared keys t ≡ true)
-test_stands keys c test.Good h = (refl, refl)
-test_stands keys c (test.GoodHas key) h = and_parts (is_read_keys c) _ h
-test_stands keys c (test.GoodHeld key) h = and_parts (is_read_reservation c) _ h
-test_stands keys c test.GoodUnheld h = (h, refl)
-test_stands keys c test.Conflict h = (refl, refl)
-test_stands keys c test.Attention h = (refl, refl)
-test_stands keys c (test.Sense sense) h = (refl, refl)
+test_stands keys c t fits = and_parts (stands_under c t) _ (and_parts (has_sense_digit t) _ fits).1
 
 arm_goes : (m : ℕ) (keys : List ℕ) (t : Test) (c : Command) (j : ℕ) (host budget : ℕ) (ls : List ScriptLine) (k : ℕ) (bs : List OpenBlock) (g : Bool)
     → stands_under c t ≡ true → is_test_declared keys t ≡ true → nat_le 16 j ≡ false
-    → on_step m keys t (open_at host budget ls k (sending c j ∷ bs) g) ≡ Ok (open_at host budget (ls ++ arm_on t ∷ []) k (sending c (j + 1) ∷ bs) false)
-unfolding on_step
+    → script_step m keys (on_line t) (open_at host budget ls k (sending c j ∷ bs) g) ≡ Ok (open_at host budget (ls ++ arm_on t ∷ []) k (sending c (j + 1) ∷ bs) false)
+unfolding script_step
 arm_goes m keys t c j host budget ls k bs g under known short = rw (under, known, short) refl
 
-done_goes : (m : ℕ) (host budget : ℕ) (ls : List ScriptLine) (k : ℕ) (b : OpenBlock) (bs : List OpenBlock) (g : Bool)
+done_goes : (m : ℕ) (keys : List ℕ) (host budget : ℕ) (ls : List ScriptLine) (k : ℕ) (b : OpenBlock) (bs : List OpenBlock) (g : Bool)
     → may_close (b ∷ bs) g ≡ true
-    → done_step m (open_at host budget ls k (b ∷ bs) g) ≡ Ok (open_at host budget (ls ++ block_done ∷ []) k bs true)
-unfolding done_step
-done_goes m host budget ls k b bs g closes = rw closes refl
+    → script_step m keys done_line (open_at host budget ls k (b ∷ bs) g) ≡ Ok (open_at host budget (ls ++ block_done ∷ []) k bs true)
+unfolding script_step
+done_goes m keys host budget ls k b bs g closes = rw closes refl
 
 -- ---- where statements may stand
 
@@ -206,7 +202,7 @@ mutual
       ∙ (ap (λ v. all_stepped n keys v (open_at host budget (ls ++ send_at m c ∷ []) (k + 1) (sending c 0 ∷ bs) false)) (append_assoc (arms_lines a) (block_done ∷ []) u)
       ∙ (arms_goes n keys host budget c a r s (block_done ∷ u) (ls ++ send_at m c ∷ []) (k + 1) 0 bs false q.1 stands.repeats_are stands.sends_are
       (from_none (count_of_arms a) 16 (true_le (count_of_arms a) 16 written.1)) (sum_rest k 1 (count_in_arms a) few)
-      ∙ (goes _ _ (all_stepped n keys u) (done_goes n host budget _ _ (sending c (0 + count_of_arms a)) bs _ refl)
+      ∙ (goes _ _ (all_stepped n keys u) (done_goes n keys host budget _ _ (sending c (0 + count_of_arms a)) bs _ refl)
       ∙ ap (all_stepped n keys u) (same_at host budget _ _ _ _ bs bs true true (block_joined ls (send_at m c) (arms_lines a)) (sum_joined k 1 (count_in_arms a)) refl refl))))
   statement_goes n keys host budget (repeats count b) r s u ls k bs g fits stands begins few =
       let p = and_parts (is_repeat_written count b) _ fits in
@@ -218,14 +214,14 @@ mutual
       ∙ (ap (λ v. all_stepped n keys v (open_at host budget (ls ++ repeat_of count ∷ []) (k + 1) (repeating ∷ bs) false)) (append_assoc (body_lines b) (block_done ∷ []) u)
       ∙ (body_goes n keys host budget b (r + 1) s (block_done ∷ u) (ls ++ repeat_of count ∷ []) (k + 1) (repeating ∷ bs) false q.1 (stands_repeated r s bs stands)
       (follows_repeat b (repeating ∷ bs) false body.1) (sum_rest k 1 (count_of_all b) few)
-      ∙ (goes _ _ (all_stepped n keys u) (done_goes n host budget _ _ repeating bs _ (begun_by b false body.1))
+      ∙ (goes _ _ (all_stepped n keys u) (done_goes n keys host budget _ _ repeating bs _ (begun_by b false body.1))
       ∙ ap (all_stepped n keys u) (same_at host budget _ _ _ _ bs bs true true (block_joined ls (repeat_of count) (body_lines b)) (sum_joined k 1 (count_of_all b)) refl refl))))
   statement_goes n keys host budget breaks r s u ls k bs g fits stands begins few =
       goes _ _ (all_stepped n keys u)
-      (break_goes n host budget ls k bs g stands.free (no_not _ begins) (inside _ r stands.repeats_are fits) (short_now k 0 few))
+      (break_goes n keys host budget ls k bs g stands.free (no_not _ begins) (inside _ r stands.repeats_are fits) (short_now k 0 few))
   statement_goes n keys host budget (stops w) r s u ls k bs g fits stands begins few =
       goes _ _ (all_stepped n keys u)
-      (stop_goes n w host budget ls k bs g stands.free (no_not _ begins) (short_now k 0 few))
+      (stop_goes n keys w host budget ls k bs g stands.free (no_not _ begins) (short_now k 0 few))
 
   body_goes : (n : ℕ) (keys : List ℕ) (host budget : ℕ) (b : Stmts) (r s : ℕ) (u ls : List ScriptLine) (k : ℕ) (bs : List OpenBlock) (g : Bool)
       → statements_fit keys r s b ≡ true → Stands r s bs → may_follow b bs g ≡ true → k + count_of_all b ≤ 512
@@ -262,7 +258,7 @@ mutual
 -- ---- a whole script
 
 taken : (n : ℕ) (d : Declared) (l : ScriptLine) (o : OpenLines)
-    → item_taken (numbered n l) (said_by l) (within d o) ≡ and_then (script_step (numbered n l) (declared_keys d) (said_by l) o) (λ q. Ok (within d q))
+    → item_taken (numbered n l) (states (said_by l)) (within d o) ≡ and_then (script_step (numbered n l) (declared_keys d) (said_by l) o) (λ q. Ok (within d q))
 unfolding item_taken
 taken n d (send_at m c) o = refl
 taken n d (arm_on t) o = refl
@@ -281,7 +277,7 @@ all_step : (n : ℕ) (d : Declared) (ls : List ScriptLine) (o : OpenLines)
     → all_said (script_said n ls) (within d o) ≡ and_then (all_stepped n (declared_keys d) ls o) (λ q. Ok (within d q))
 all_step n d [] o = refl
 all_step n d (l ∷ ls) o =
-    ap (λ r. and_then r (all_said (script_said n ls))) (in_order (numbered n l) (said_by l) (within d o) ∙ taken n d l o)
+    ap (λ r. and_then r (all_said (script_said n ls))) (in_order (numbered n l) (states (said_by l)) (within d o) ∙ taken n d l o)
     ∙ step_then n d (script_step (numbered n l) (declared_keys d) (said_by l) o) ls (λ q. all_step n d ls q)
 
 pub reread : ScriptsHaveNoFault

@@ -24,14 +24,14 @@ use Rattle.pr_roles.specs.Fitting.{are_distinct, are_reservations, is_reservatio
 use Rattle.pr_text.specs.ScriptLines.{ScriptLine, send_at, arm_on, block_done, repeat_of, break_out, stop_with}
 use Rattle.pr_text.specs.Standing.{awaits_arm}
 use Rattle.pr_text.specs.Declarations.{OpenBlock, repeating, sending, WrittenTask, scripted, planned, Declaration, outside, Declared}
-use Rattle.pr_text.specs.ScenarioLines.{StartReservation, nobody, single, everybody}
-use Rattle.pr_text.specs.Chain.{each}
+use Rattle.pr_lines.specs.ScenarioLines.{StartReservation, nobody, single, everybody}
+use Rattle.pr_lines.specs.Chain.{each}
 use Rattle.pr_text.specs.Declaring.{declared_keys, number_of, held_of}
 use Rattle.pr_text.specs.inside.Chains.{keys_placed, nexus_placed, reservations_at, reservation_placed}
 use Rattle.pr_text.specs.Texts.{start_of, reservations_of}
 use Rattle.pr_text.specs.inside.Sound.{Reached, at_first, may, may_arm, may_all, next, IsTask, IsDeclaration, AreDeclarations, IsPlace, IsSound}
-use Rattle.pr_text.proofs.ItemTerms.{is_key, is_wanted}
-use Rattle.pr_text.proofs.Trees.{both}
+use Rattle.pr_lines.proofs.ItemTerms.{is_key, is_wanted}
+use Rattle.pr_lines.proofs.Tests.{both}
 use Rattle.pr_text.proofs.SoundScripts.{ok_same, past, not_no, or_no, lt_true}
 
 all_more : {A : Type 0} (p q : A → Bool) → ((x : A) → p x ≡ true → q x ≡ true) → (xs : List A) → list_all p xs ≡ true → list_all q xs ≡ true

@@ -1,5 +1,5 @@
 -- What is declared stays sound with one line more.
-use Rattle.std.specs.Prelude.{◌≡◌, ℕ, zero, suc, ◌+◌, ◌≤◌, ◌==◌, true, false, ◌&&◌, not, nat_le, List, [], ◌∷◌, ◌++◌, length, map, Option, Some, None, is_some, slice_set, Result, Ok, Err}
+use Rattle.std.specs.Prelude.{cond, ◌≡◌, ℕ, zero, suc, ◌+◌, ◌≤◌, ◌==◌, true, false, ◌&&◌, not, nat_le, List, [], ◌∷◌, ◌++◌, length, map, Option, Some, None, is_some, slice_set, Result, Ok, Err}
 use Rattle.std.specs.List.{slice_get}
 use Rattle.std.proofs.Common.{refl, sym, subst, ap, ◌∙◌, arith, length-append}
 use Rattle.std.proofs.lemmas.List.{length-set}
@@ -13,17 +13,20 @@ use Rattle.pr_script.specs.Grammar.{is_written}
 use Rattle.pr_roles.specs.declared.role.Clause.{Clause}
 use Rattle.pr_roles.specs.Fitting.{is_action, is_role}
 use Rattle.pr_text.specs.declared.fault.ReadError.{ReadError}
-use Rattle.pr_text.specs.declared.spelling.ParsedCommand.{ParsedCommand}
+use Rattle.pr_lines.specs.declared.spelling.ParsedCommand.{ParsedCommand}
 use Rattle.pr_text.specs.Faults.{and_then}
 use Rattle.pr_text.specs.Declarations.{OpenLines, WrittenTask, scripted, planned, Declaration, Place, before_all, outside, in_script, in_plan, Declared}
-use Rattle.pr_text.specs.ScenarioLines.{ScenarioLine, keys_line, host_line, guest_line, start_line, pending_line, reservation_line, generation_line, role_line, script_line, plan_line, end_line, command_line, fence_line}
-use Rattle.pr_text.specs.inside.Chains.{script_step, nexus_set, on_nexus, at_number, at_name, start_fault, start_at, start_placed, pending_at, pending_placed, generation_placed, role_at, role_placed, script_fault, script_at, script_placed, plan_at, plan_placed, placed_first, placed_outside, script_ended, placed_in_script, planned_step, placed_in_plan, placed_at, item_taken}
-use Rattle.pr_text.specs.Declaring.{declared_keys, number_of, codes_of}
+use Rattle.pr_lines.specs.ScenarioLines.{ScenarioLine, keys_line, nexus_line, start_line, pending_line, reservation_line, generation_line, role_line, script_line, plan_line, end_line, command_line, fence_line, DeclaringLine, declares, states}
+use Rattle.pr_text.specs.declared.fault.Which.TheVariants as which
+use Rattle.pr_text.specs.LineFaults.{command_fault}
+use Rattle.pr_text.specs.inside.Chains.{script_step, declared_with, nexus_set, on_nexus, at_number, at_name, start_fault, start_at, start_placed, pending_at, pending_placed, generation_placed, role_at, role_placed, script_fault, script_at, script_placed, plan_at, plan_placed, placed_first, placed_outside, script_ended, placed_in_script, planned_step, placed_in_plan, placed_at, item_taken}
+use Rattle.pr_text.specs.Declaring.{declared_keys, number_of, codes_of, is_spelled}
 use Rattle.pr_text.specs.NextLine.{begun_script, with_task, item_placed}
 use Rattle.pr_text.specs.inside.Sound.{AreBegun, is_plan, IsTask, IsDeclaration, AreDeclarations, IsPlace, IsSound}
-use Rattle.pr_text.proofs.ItemTerms.{is_item}
-use Rattle.pr_text.proofs.Trees.{both, le_true}
-use Rattle.pr_text.proofs.SoundScripts.{ok_same, past, not_no, or_no, kept, passes, skips, script_sound}
+use Rattle.pr_lines.proofs.ItemTerms.{is_item}
+use Rattle.pr_lines.proofs.Tests.{both}
+use Rattle.pr_text.proofs.Trees.{le_true}
+use Rattle.pr_text.proofs.SoundScripts.{faultless, ok_same, past, not_no, or_no, kept, passes, skips, script_sound}
 use Rattle.pr_text.proofs.SoundLists.{keys_sound, nexus_sound, reservation_sound}
 use Rattle.pr_text.proofs.LineOrder.{in_order}
 
@@ -176,17 +179,19 @@ plan_line_sound n name d e sound r =
     let same : record d { place = in_plan m.number [] } ≡ e = ok_same _ _ b.1 in
     subst (IsSound (n + 1)) same (moved n d (in_plan m.number []) sound refl)
 
+declared_sound : (n : ℕ) (l : DeclaringLine) (d e : Declared) → d.place ≡ outside → IsSound n d → is_item (declares l) ≡ true → declared_with (n + 1) l d ≡ Ok e → IsSound (n + 1) e
+declared_sound n (keys_line keys) d e at h s r = keys_sound n keys d e at s h r
+declared_sound n (nexus_line guest name) d e at h s r = nexus_sound n guest name d e at s h r
+declared_sound n (start_line name xs) d e at h s r = start_sound n name xs d e at s h r
+declared_sound n (pending_line name xs) d e at h s r = pending_sound n name xs d e at h r
+declared_sound n (reservation_line ws) d e at h s r = reservation_sound n ws d e at s h r
+declared_sound n (generation_line g) d e at h s r = generation_sound n g d e at h r
+declared_sound n (role_line name clause) d e at h s r = role_sound n name clause d e at h r
+declared_sound n (script_line name budget) d e at h s r = script_line_sound n name budget d e h r
+declared_sound n (plan_line name) d e at h s r = plan_line_sound n name d e h r
+
 outside_sound : (n : ℕ) (i : ScenarioLine) (d e : Declared) → d.place ≡ outside → IsSound n d → is_item i ≡ true → placed_outside (n + 1) i d ≡ Ok e → IsSound (n + 1) e
-outside_sound n (keys_line keys) d e at h s r = keys_sound n keys d e at s h r
-outside_sound n (host_line name) d e at h s r = nexus_sound n false name d e at s h r
-outside_sound n (guest_line name) d e at h s r = nexus_sound n true name d e at s h r
-outside_sound n (start_line name xs) d e at h s r = start_sound n name xs d e at s h r
-outside_sound n (pending_line name xs) d e at h s r = pending_sound n name xs d e at h r
-outside_sound n (reservation_line ws) d e at h s r = reservation_sound n ws d e at s h r
-outside_sound n (generation_line g) d e at h s r = generation_sound n g d e at h r
-outside_sound n (role_line name clause) d e at h s r = role_sound n name clause d e at h r
-outside_sound n (script_line name budget) d e at h s r = script_line_sound n name budget d e h r
-outside_sound n (plan_line name) d e at h s r = plan_line_sound n name d e h r
+outside_sound n (declares l) d e at h s r = declared_sound n l d e at h s r
 outside_sound n _ d e at h s r = cc
 
 -- ---- the other lines
@@ -219,8 +224,9 @@ step_sound n d e (Err x) h each r = cc
 
 in_script_sound : (n : ℕ) (o : OpenLines) (i : ScenarioLine) (d e : Declared) → AreBegun (declared_keys d) n o → IsSound n d → is_item i ≡ true → placed_in_script (n + 1) o i d ≡ Ok e → IsSound (n + 1) e
 in_script_sound n o end_line d e begun h s r = ended_sound n o d e begun h r
-in_script_sound n o i d e begun h s r =
-    step_sound n d e (script_step (n + 1) (declared_keys d) i o) h (λ p q. script_sound (declared_keys d) n i o p s begun q) r
+in_script_sound n o (states l) d e begun h s r =
+    step_sound n d e (script_step (n + 1) (declared_keys d) l o) h (λ p q. script_sound (declared_keys d) n l o p s begun q) r
+in_script_sound n o _ d e begun h s r = cc
 
 fewer : (k : ℕ) → nat_le 256 k ≡ false → k + 1 ≤ 256
 fewer k h = grind (arith, nat_tests)
@@ -228,13 +234,13 @@ fewer k h = grind (arith, nat_tests)
 plan_more : (keys : List ℕ) (n : ℕ) (s : ParsedCommand) (commands after : List Command) → is_plan keys commands ≡ true → planned_step n keys s commands ≡ Ok after → is_plan keys after ≡ true
 unfolding planned_step
 plan_more keys n s commands after h r =
-    let a = past _ _ _ after r in
-    let b = past _ _ _ after a.1 in
-    let same : commands ++ s.command ∷ [] ≡ after = ok_same _ _ b.1 in
+    let a = passes (command_fault n keys commands s) (commands ++ s.command ∷ []) after r in
+    let b = faultless n false (not (is_spelled keys s)) (cond (nat_le 256 (length commands)) (Some which.Plan) None) a.0 in
+    let c = skips (nat_le 256 (length commands)) _ _ b.1.1 in
     let parts = and_parts (nat_le (length commands) 256) _ h in
-    let written = (and_parts (is_written keys s.command) _ (not_no _ a.0)).0 in
-    subst (λ cs. is_plan keys cs ≡ true) same
-    (both _ _ (le_true (length (commands ++ s.command ∷ [])) 256 (omega (arith, length-append commands (s.command ∷ []), fewer (length commands) b.0)))
+    let written = (and_parts (is_written keys s.command) _ (not_no _ b.1.0)).0 in
+    subst (λ cs. is_plan keys cs ≡ true) a.1
+    (both _ _ (le_true (length (commands ++ s.command ∷ [])) 256 (omega (arith, length-append commands (s.command ∷ []), fewer (length commands) c.0)))
     (list_all-append (is_written keys) commands (s.command ∷ []) ∙ both _ _ parts.1 (both _ _ written refl)))
 
 plan_step_sound : (n h : ℕ) (d e : Declared) (s : Result (List Command) ReadError) → IsSound n d → ((more : List Command) → s ≡ Ok more → is_plan (declared_keys d) more ≡ true)

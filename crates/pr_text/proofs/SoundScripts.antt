@@ -10,20 +10,24 @@ use Rattle.pr_cdb.specs.declared.command.Command.{Command}
 use Rattle.pr_script.specs.declared.script.Test.{Test}
 use Rattle.pr_script.specs.declared.script.Test.TheVariants as test
 use Rattle.pr_script.specs.Names.{is_name}
-use Rattle.pr_script.specs.Grammar.{is_written, test_fits, rise_above}
+use Rattle.pr_script.specs.Grammar.{is_written, stands_under, is_test_declared, has_sense_digit, test_fits, rise_above}
 use Rattle.pr_text.specs.declared.fault.ReadError.{ReadError}
-use Rattle.pr_text.specs.declared.spelling.ParsedCommand.{ParsedCommand}
+use Rattle.pr_lines.specs.declared.spelling.ParsedCommand.{ParsedCommand}
 use Rattle.pr_text.specs.Faults.{unless}
 use Rattle.pr_text.specs.ScriptLines.{ScriptLine, send_at, arm_on, block_done, repeat_of, break_out, stop_with}
 use Rattle.pr_text.specs.Declarations.{OpenBlock, repeating, sending, OpenLines}
-use Rattle.pr_text.specs.ScenarioLines.{ScenarioLine, send_line, on_line, done_line, repeat_line, break_line, stop_line}
-use Rattle.pr_text.specs.Standing.{is_repeating, is_sending, awaits_arm, awaits_more, stands_under, may_close}
-use Rattle.pr_text.specs.NextLine.{opening, stating}
-use Rattle.pr_text.specs.inside.Chains.{send_step, repeat_step, break_step, stop_step, arm_fault, on_step, on_step_in, done_step, script_step}
-use Rattle.pr_text.specs.Declaring.{is_test_declared}
+use Rattle.pr_lines.specs.ScenarioLines.{StatementLine, states, send_line, on_line, done_line, repeat_line, break_line, stop_line}
+use Rattle.pr_text.specs.Standing.{by_innermost, is_repeating, is_sending, awaits_arm, awaits_more, may_close}
+use Rattle.pr_text.specs.NextLine.{with_statement_line}
+use Rattle.pr_text.specs.inside.Chains.{arm_fault, script_step}
+use Rattle.pr_text.specs.LineFaults.{out_of_place, past_limit_in, first_fault, statement_fault}
+use Rattle.pr_text.specs.declared.fault.Which.{Which}
+use Rattle.pr_text.specs.declared.fault.Which.TheVariants as which
+use Rattle.pr_text.specs.Declaring.{is_spelled}
 use Rattle.pr_text.specs.inside.Sound.{Reached, at_first, may, may_state, may_all, next, reached, is_statement, sends_in, AreBegun}
-use Rattle.pr_text.proofs.ItemTerms.{is_item, is_test}
-use Rattle.pr_text.proofs.Trees.{both, le_true, true_le, count-cons, sends-append}
+use Rattle.pr_lines.proofs.ItemTerms.{is_item}
+use Rattle.pr_lines.proofs.Tests.{both, true_le}
+use Rattle.pr_text.proofs.Trees.{le_true, count-cons, sends-append}
 
 -- ---- one line more
 
@@ -131,71 +135,6 @@ pub or_no : (a b : Bool) → (a || b) ≡ false → (a ≡ false) × (b ≡ fals
 or_no true b h = cc
 or_no false b h = (refl, h)
 
-send_sound : (keys : List ℕ) (n : ℕ) (s : ParsedCommand) (o p : OpenLines) → AreBegun keys n o → send_step (n + 1) keys s o ≡ Ok p → AreBegun keys (n + 1) p
-unfolding send_step
-send_sound keys n s o p h r =
-    let a = past _ _ _ p r in
-    let b = past _ _ _ p a.1 in
-    let c = past _ _ _ p b.1 in
-    let d = past _ _ _ p c.1 in
-    let same : opening (send_at (n + 1) s.command) (sending s.command 0) o ≡ p = ok_same _ _ d.1 in
-    let written = (and_parts (is_written keys s.command) _ (not_no _ b.0)).0 in
-    subst (AreBegun keys (n + 1)) same (send_more keys n o (opening (send_at (n + 1) s.command) (sending s.command 0) o) s.command h refl refl
-    (both _ _ (no_true (awaits_arm o.blocks) a.0) (both _ _ written (few_open (count_by is_sending o.blocks) d.0))) refl refl (not_full o.statements c.0))
-
-repeat_sound : (keys : List ℕ) (n count : ℕ) (o p : OpenLines) → AreBegun keys n o → repeat_step (n + 1) count o ≡ Ok p → AreBegun keys (n + 1) p
-unfolding repeat_step
-repeat_sound keys n count o p h r =
-    let a = past _ _ _ p r in
-    let b = past _ _ _ p a.1 in
-    let c = past _ _ _ p b.1 in
-    let d = past _ _ _ p c.1 in
-    let same : opening (repeat_of count) repeating o ≡ p = ok_same _ _ d.1 in
-    subst (AreBegun keys (n + 1)) same (plain_more keys n o (opening (repeat_of count) repeating o) (repeat_of count) h refl refl refl
-    (both _ _ (no_true (awaits_arm o.blocks) a.0) (both _ _ (not_no _ d.0) (few_open (count_by is_repeating o.blocks) c.0))) refl refl (not_full o.statements b.0))
-
-state_true : (o : OpenLines) → awaits_more o ≡ false → may_state (state_of o) ≡ true
-state_true o h = let parts = or_no (awaits_arm o.blocks) _ h in both _ _ (no_true _ parts.0) (no_true _ parts.1)
-
-some_open : (n : ℕ) → (n == 0) ≡ false → nat_lt 0 n ≡ true
-some_open n h = grind (arith, nat_tests)
-
-break_sound : (keys : List ℕ) (n : ℕ) (o p : OpenLines) → AreBegun keys n o → break_step (n + 1) o ≡ Ok p → AreBegun keys (n + 1) p
-unfolding break_step
-break_sound keys n o p h r =
-    let a = past _ _ _ p r in
-    let b = past _ _ _ p a.1 in
-    let parts = or_no (awaits_more o) _ a.0 in
-    let same : stating break_out o ≡ p = ok_same _ _ b.1 in
-    subst (AreBegun keys (n + 1)) same (plain_more keys n o (stating break_out o) break_out h refl refl refl
-    (both _ _ (state_true o parts.0) (some_open (count_by is_repeating o.blocks) parts.1)) refl refl (not_full o.statements b.0))
-
-stop_sound : (keys : List ℕ) (n : ℕ) (word : List ℕ) (o p : OpenLines) → is_name word ≡ true → AreBegun keys n o → stop_step (n + 1) word o ≡ Ok p → AreBegun keys (n + 1) p
-unfolding stop_step
-stop_sound keys n word o p named h r =
-    let a = past _ _ _ p r in
-    let b = past _ _ _ p a.1 in
-    let same : stating (stop_with word) o ≡ p = ok_same _ _ b.1 in
-    subst (AreBegun keys (n + 1)) same (plain_more keys n o (stating (stop_with word) o) (stop_with word) h refl refl refl
-    (both _ _ (state_true o a.0) named) refl refl (not_full o.statements b.0))
-
-pub kept : {A : Type 0} (b : Bool) (x : A) (e : ReadError) (a : A) → cond b (Ok x) (Err e) ≡ Ok a → (b ≡ true) × (x ≡ a)
-kept true x e a h = (refl, cc)
-kept false x e a h = cc
-
-abbrev closed : OpenLines → OpenLines
-closed o = record o { lines = o.lines ++ block_done ∷ []; blocks = drop 1 o.blocks; begun = true }
-
-done_sound : (keys : List ℕ) (n : ℕ) (o p : OpenLines) → AreBegun keys n o → done_step (n + 1) o ≡ Ok p → AreBegun keys (n + 1) p
-unfolding done_step
-done_sound keys n o p h r =
-    let a = kept (may_close o.blocks o.begun) _ _ p r in
-    let same : closed o ≡ p = a.1 in
-    subst (AreBegun keys (n + 1)) same (plain_more keys n o (closed o) block_done h refl refl refl a.0 refl (omega arith) (true_le o.statements 512 h.short))
-
-abbrev armed : OpenLines → Test → Command → ℕ → List OpenBlock → OpenLines
-armed o t c k bs = record o { lines = o.lines ++ arm_on t ∷ []; blocks = sending c (k + 1) ∷ bs; begun = false }
-
 pub passes : {A : Type 0} (o : Option ReadError) (x a : A) → unless o x ≡ Ok a → (o ≡ None) × (x ≡ a)
 passes None x a h = (refl, cc)
 passes (Some e) x a h = cc
@@ -204,44 +143,113 @@ pub skips : {A : Type 0} (b : Bool) (e : A) (o : Option A) → cond b (Some e) o
 skips true e o h = cc
 skips false e o h = (refl, h)
 
-test_true : (keys : List ℕ) (c : Command) (t : Test) → is_test t ≡ true → stands_under c t ≡ true → is_test_declared keys t ≡ true → test_fits keys c t ≡ true
-test_true keys c test.Good s u d = refl
-test_true keys c (test.GoodHas key) s u d = both _ _ u d
-test_true keys c (test.GoodHeld key) s u d = both _ _ u d
-test_true keys c test.GoodUnheld s u d = u
-test_true keys c test.Conflict s u d = refl
-test_true keys c test.Attention s u d = refl
-test_true keys c (test.Sense sense) s u d = s
+-- what the line of a script or plan is not, where it has no fault
+pub faultless : (n : ℕ) (misplaced undeclared : Bool) (past : Option Which) → first_fault n misplaced false undeclared false past ≡ None
+    → (misplaced ≡ false) × ((undeclared ≡ false) × (past ≡ None))
+faultless n true undeclared past h = cc
+faultless n false true past h = cc
+faultless n false false None h = (refl, (refl, refl))
+faultless n false false (Some w) h = cc
+
+send_sound : (keys : List ℕ) (n : ℕ) (s : ParsedCommand) (o p : OpenLines) → AreBegun keys n o → script_step (n + 1) keys (send_line s) o ≡ Ok p → AreBegun keys (n + 1) p
+unfolding script_step
+send_sound keys n s o p h r =
+    let a = passes (statement_fault (n + 1) keys o (send_line s)) (with_statement_line (n + 1) (send_line s) o) p r in
+    let b = faultless (n + 1) (awaits_arm o.blocks) (not (is_spelled keys s)) (past_limit_in o (send_line s)) a.0 in
+    let c = skips (nat_le 512 o.statements) _ _ b.1.1 in
+    let d = skips (nat_le 8 (count_by is_sending o.blocks)) _ _ c.1 in
+    let written = (and_parts (is_written keys s.command) _ (not_no _ b.1.0)).0 in
+    subst (AreBegun keys (n + 1)) a.1 (send_more keys n o (with_statement_line (n + 1) (send_line s) o) s.command h refl refl
+    (both _ _ (no_true (awaits_arm o.blocks) b.0) (both _ _ written (few_open (count_by is_sending o.blocks) d.0))) refl refl (not_full o.statements c.0))
+
+repeat_sound : (keys : List ℕ) (n count : ℕ) (o p : OpenLines) → AreBegun keys n o → script_step (n + 1) keys (repeat_line count) o ≡ Ok p → AreBegun keys (n + 1) p
+unfolding script_step
+repeat_sound keys n count o p h r =
+    let a = passes (statement_fault (n + 1) keys o (repeat_line count)) (with_statement_line (n + 1) (repeat_line count) o) p r in
+    let b = faultless (n + 1) (awaits_arm o.blocks) false (past_limit_in o (repeat_line count)) a.0 in
+    let c = skips (nat_le 512 o.statements) _ _ b.1.1 in
+    let d = skips (nat_le 8 (count_by is_repeating o.blocks)) _ _ c.1 in
+    let e = skips (not (nat_le 1 count && nat_le count 1000)) _ _ d.1 in
+    subst (AreBegun keys (n + 1)) a.1 (plain_more keys n o (with_statement_line (n + 1) (repeat_line count) o) (repeat_of count) h refl refl refl
+    (both _ _ (no_true (awaits_arm o.blocks) b.0) (both _ _ (not_no _ e.0) (few_open (count_by is_repeating o.blocks) d.0))) refl refl (not_full o.statements c.0))
+
+state_true : (o : OpenLines) → awaits_more o ≡ false → may_state (state_of o) ≡ true
+state_true o h = let parts = or_no (awaits_arm o.blocks) _ h in both _ _ (no_true _ parts.0) (no_true _ parts.1)
+
+some_open : (n : ℕ) → (n == 0) ≡ false → nat_lt 0 n ≡ true
+some_open n h = grind (arith, nat_tests)
+
+break_sound : (keys : List ℕ) (n : ℕ) (o p : OpenLines) → AreBegun keys n o → script_step (n + 1) keys break_line o ≡ Ok p → AreBegun keys (n + 1) p
+unfolding script_step
+break_sound keys n o p h r =
+    let a = passes (statement_fault (n + 1) keys o break_line) (with_statement_line (n + 1) break_line o) p r in
+    let b = faultless (n + 1) (out_of_place o break_line) false (past_limit_in o break_line) a.0 in
+    let c = skips (nat_le 512 o.statements) _ _ b.1.1 in
+    let parts = or_no (awaits_more o) _ b.0 in
+    subst (AreBegun keys (n + 1)) a.1 (plain_more keys n o (with_statement_line (n + 1) break_line o) break_out h refl refl refl
+    (both _ _ (state_true o parts.0) (some_open (count_by is_repeating o.blocks) parts.1)) refl refl (not_full o.statements c.0))
+
+stop_sound : (keys : List ℕ) (n : ℕ) (word : List ℕ) (o p : OpenLines) → is_name word ≡ true → AreBegun keys n o → script_step (n + 1) keys (stop_line word) o ≡ Ok p → AreBegun keys (n + 1) p
+unfolding script_step
+stop_sound keys n word o p named h r =
+    let a = passes (statement_fault (n + 1) keys o (stop_line word)) (with_statement_line (n + 1) (stop_line word) o) p r in
+    let b = faultless (n + 1) (awaits_more o) false (past_limit_in o (stop_line word)) a.0 in
+    let c = skips (nat_le 512 o.statements) _ _ b.1.1 in
+    subst (AreBegun keys (n + 1)) a.1 (plain_more keys n o (with_statement_line (n + 1) (stop_line word) o) (stop_with word) h refl refl refl
+    (both _ _ (state_true o b.0) named) refl refl (not_full o.statements c.0))
+
+pub kept : {A : Type 0} (b : Bool) (x : A) (e : ReadError) (a : A) → cond b (Ok x) (Err e) ≡ Ok a → (b ≡ true) × (x ≡ a)
+kept true x e a h = (refl, cc)
+kept false x e a h = cc
+
+done_sound : (keys : List ℕ) (n : ℕ) (o p : OpenLines) → AreBegun keys n o → script_step (n + 1) keys done_line o ≡ Ok p → AreBegun keys (n + 1) p
+unfolding script_step
+done_sound keys n o p h r =
+    let a = passes (statement_fault (n + 1) keys o done_line) (with_statement_line (n + 1) done_line o) p r in
+    let b = faultless (n + 1) (not (may_close o.blocks o.begun)) false None a.0 in
+    subst (AreBegun keys (n + 1)) a.1
+    (plain_more keys n o (with_statement_line (n + 1) done_line o) block_done h refl refl refl (not_no _ b.0) refl (omega arith) (true_le o.statements 512 h.short))
+
+test_true : (keys : List ℕ) (c : Command) (t : Test) → has_sense_digit t ≡ true → stands_under c t ≡ true → is_test_declared keys t ≡ true → test_fits keys c t ≡ true
+test_true keys c t digit under known = both _ _ digit (both _ _ under known)
 
 few_arms : (n : ℕ) → nat_le 16 n ≡ false → nat_lt n 16 ≡ true
 few_arms n h = grind (arith, nat_tests)
 
-arm_true : (n : ℕ) (keys : List ℕ) (t : Test) (c : Command) (k : ℕ) → is_test t ≡ true → arm_fault n keys t c k ≡ None → (test_fits keys c t && nat_lt k 16) ≡ true
+arm_true : (n : ℕ) (keys : List ℕ) (t : Test) (c : Command) (k : ℕ) → has_sense_digit t ≡ true → arm_fault n keys t c k ≡ None → (test_fits keys c t && nat_lt k 16) ≡ true
 arm_true n keys t c k sound r =
-    let a = skips _ _ _ r in
-    let b = skips _ _ _ a.1 in
-    let d = skips _ _ _ b.1 in
-    both _ _ (test_true keys c t sound (not_no _ a.0) (not_no _ b.0)) (few_arms k d.0)
+    let a = faultless n (not (stands_under c t)) (not (is_test_declared keys t)) (cond (nat_le 16 k) (Some which.Arms) None) r in
+    let b = skips (nat_le 16 k) _ _ a.1.1 in
+    both _ _ (test_true keys c t sound (not_no _ a.0) (not_no _ a.1.0)) (few_arms k b.0)
 
-on_blocks : (keys : List ℕ) (n : ℕ) (t : Test) (o p : OpenLines) (bs : List OpenBlock) → o.blocks ≡ bs → is_test t ≡ true → AreBegun keys n o
-    → on_step_in (n + 1) keys t o bs ≡ Ok p → AreBegun keys (n + 1) p
+-- the script with the next arm, where these blocks are open
+abbrev armed : OpenLines → Test → List OpenBlock → OpenLines
+armed o t bs = record o { lines = o.lines ++ arm_on t ∷ []; blocks = by_innermost bs bs (λ c arms. sending c (arms + 1) ∷ drop 1 bs) bs; begun = false }
+
+abbrev arm_fault_under : ℕ → List ℕ → Test → List OpenBlock → Option ReadError
+arm_fault_under n keys t bs =
+    first_fault n (by_innermost true true (λ c arms. not (stands_under c t)) bs) false (not (is_test_declared keys t)) false
+    (cond (by_innermost false false (λ c arms. nat_le 16 arms) bs) (Some which.Arms) None)
+
+on_blocks : (keys : List ℕ) (n : ℕ) (t : Test) (o p : OpenLines) (bs : List OpenBlock) → o.blocks ≡ bs → has_sense_digit t ≡ true → AreBegun keys n o
+    → unless (arm_fault_under (n + 1) keys t bs) (armed o t bs) ≡ Ok p → AreBegun keys (n + 1) p
 on_blocks keys n t o p [] e sound h r = cc
 on_blocks keys n t o p (repeating ∷ bs) e sound h r = cc
 on_blocks keys n t o p ((sending c k) ∷ bs) e sound h r =
-    let a = passes (arm_fault (n + 1) keys t c k) (armed o t c k bs) p r in
+    let after : OpenLines = armed o t (sending c k ∷ bs) in
+    let a = passes (arm_fault (n + 1) keys t c k) after p r in
     let stands : may keys (state_of o) (arm_on t) ≡ true = rw e (arm_true (n + 1) keys t c k sound a.0) in
-    let steps : state_of (armed o t c k bs) ≡ next (state_of o) (arm_on t) = rw e refl in
-    subst (AreBegun keys (n + 1)) a.1 (plain_more keys n o (armed o t c k bs) (arm_on t) h refl refl refl stands steps (omega arith) (true_le o.statements 512 h.short))
+    let steps : state_of after ≡ next (state_of o) (arm_on t) = rw e refl in
+    subst (AreBegun keys (n + 1)) a.1 (plain_more keys n o after (arm_on t) h refl refl refl stands steps (omega arith) (true_le o.statements 512 h.short))
 
-on_sound : (keys : List ℕ) (n : ℕ) (t : Test) (o p : OpenLines) → is_test t ≡ true → AreBegun keys n o → on_step (n + 1) keys t o ≡ Ok p → AreBegun keys (n + 1) p
-unfolding on_step
+on_sound : (keys : List ℕ) (n : ℕ) (t : Test) (o p : OpenLines) → has_sense_digit t ≡ true → AreBegun keys n o → script_step (n + 1) keys (on_line t) o ≡ Ok p → AreBegun keys (n + 1) p
+unfolding script_step
 on_sound keys n t o p sound h r = on_blocks keys n t o p o.blocks refl sound h r
 
-pub script_sound : (keys : List ℕ) (n : ℕ) (i : ScenarioLine) (o p : OpenLines) → is_item i ≡ true → AreBegun keys n o → script_step (n + 1) keys i o ≡ Ok p → AreBegun keys (n + 1) p
+pub script_sound : (keys : List ℕ) (n : ℕ) (i : StatementLine) (o p : OpenLines) → is_item (states i) ≡ true → AreBegun keys n o → script_step (n + 1) keys i o ≡ Ok p → AreBegun keys (n + 1) p
 script_sound keys n (send_line s) o p i h r = send_sound keys n s o p h r
 script_sound keys n (on_line t) o p i h r = on_sound keys n t o p i h r
 script_sound keys n done_line o p i h r = done_sound keys n o p h r
 script_sound keys n (repeat_line count) o p i h r = repeat_sound keys n count o p h r
 script_sound keys n break_line o p i h r = break_sound keys n o p h r
 script_sound keys n (stop_line word) o p i h r = stop_sound keys n word o p i h r
-script_sound keys n _ o p i h r = cc

@@ -7,15 +7,15 @@ use Rattle.pr_text.specs.declared.fault.ReadError.{ReadError}
 use Rattle.pr_text.specs.declared.fault.ReadError.TheVariants.{NotAscii, LineTooLong}
 use Rattle.pr_text.specs.declared.fault.ReadError.TheVariants as fault
 use Rattle.pr_text.specs.Faults.{and_then}
-use Rattle.pr_text.specs.TextLines.{is_text, words}
+use Rattle.pr_lines.specs.TextLines.{is_text, words}
 use Rattle.pr_text.specs.Declarations.{Place, before_all, outside, in_script, in_plan, Declared, nothing}
-use Rattle.pr_text.specs.ScenarioLines.{ScenarioLine, item_of}
+use Rattle.pr_lines.specs.ScenarioLines.{ScenarioLine, item_of}
 use Rattle.pr_text.specs.Declaring.{declared_keys}
 use Rattle.pr_text.specs.NextLine.{item_placed}
-use Rattle.pr_text.specs.Texts.{line_placed, worded, all_placed}
+use Rattle.pr_text.specs.Texts.{line_placed, words_placed, all_placed}
 use Rattle.pr_text.specs.inside.Steps.{AreRead}
 use Rattle.pr_text.specs.inside.Sound.{IsPlace, IsSound}
-use Rattle.pr_text.proofs.ItemTerms.{is_item, item_sound}
+use Rattle.pr_lines.proofs.ItemTerms.{is_item, item_sound}
 use Rattle.pr_text.proofs.SoundScripts.{later_begun}
 use Rattle.pr_text.proofs.SoundPlaces.{placed_sound}
 
@@ -45,15 +45,15 @@ said_sound : (n : ℕ) (o : Option ScenarioLine) (d e : Declared) → IsSound n 
 said_sound n None d e h i r = cc
 said_sound n (Some item) d e h i r = placed_sound n item d e h i r
 
-worded_sound : (n : ℕ) (ws : List (List ℕ)) (d e : Declared) → IsSound n d → worded (n + 1) ws d ≡ Ok e → IsSound (n + 1) e
+worded_sound : (n : ℕ) (ws : List (List ℕ)) (d e : Declared) → IsSound n d → words_placed (n + 1) ws d ≡ Ok e → IsSound (n + 1) e
 worded_sound n [] d e h r = let same : d ≡ e = cc in subst (IsSound (n + 1)) same (later n d h)
 worded_sound n (w ∷ ws) d e h r = said_sound n (item_of w ws) d e h (item_sound w ws) r
 
 line_sound : (n : ℕ) (line : List ℕ) (d e : Declared) → IsSound n d → line_placed (n + 1) line d ≡ Ok e → IsSound (n + 1) e
 unfolding line_placed
 line_sound n line d e h r =
-    let ascii = passed (not (is_text line)) (NotAscii (n + 1)) (cond (nat_lt 256 (length line)) (Err (LineTooLong (n + 1))) (worded (n + 1) (words line) d)) e r in
-    let short = passed (nat_lt 256 (length line)) (LineTooLong (n + 1)) (worded (n + 1) (words line) d) e ascii in
+    let ascii = passed (not (is_text line)) (NotAscii (n + 1)) (cond (nat_lt 256 (length line)) (Err (LineTooLong (n + 1))) (words_placed (n + 1) (words line) d)) e r in
+    let short = passed (nat_lt 256 (length line)) (LineTooLong (n + 1)) (words_placed (n + 1) (words line) d) e ascii in
     worded_sound n (words line) d e h short
 
 -- ---- all lines

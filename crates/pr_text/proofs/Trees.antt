@@ -1,5 +1,5 @@
 -- Scripts whose lines may stand where they do follow the grammar.
-use Rattle.std.specs.Prelude.{◌≡◌, ℕ, suc, ◌+◌, ◌<◌, ◌≤◌, Bool, true, false, cond, ◌&&◌, not, nat_lt, nat_le, List, [], ◌∷◌, ◌++◌, count_by}
+use Rattle.std.specs.Prelude.{◌≡◌, ℕ, suc, ◌+◌, ◌≤◌, Bool, true, false, cond, ◌&&◌, not, nat_lt, nat_le, List, [], ◌∷◌, ◌++◌, count_by}
 use Rattle.std.proofs.Common.{refl, subst, ap, ◌∙◌, append_assoc, append-nil, arith}
 use Rattle.std.proofs.lemmas.Bool.{and_parts}
 use Rattle.std.proofs.lemmas.Bool.Decides.{nat_tests}
@@ -11,9 +11,7 @@ use Rattle.pr_text.specs.ScriptLines.{ScriptLine, send_at, arm_on, block_done, r
 use Rattle.pr_text.specs.Declarations.{OpenBlock, repeating, sending}
 use Rattle.pr_text.specs.Standing.{is_repeating, is_sending, awaits_arm}
 use Rattle.pr_text.specs.inside.Sound.{Reached, may, may_state, may_all, is_statement, sends_in, AreWhole}
-
-pub both : (a b : Bool) → a ≡ true → b ≡ true → (a && b) ≡ true
-both a b p q = rw (p, q) refl
+use Rattle.pr_lines.proofs.Tests.{both, true_lt}
 
 pub no_not : (b : Bool) → not b ≡ true → b ≡ false
 no_not true h = cc
@@ -21,12 +19,6 @@ no_not false h = refl
 
 pub le_true : (n m : ℕ) → n ≤ m → nat_le n m ≡ true
 le_true n m h = grind (arith, nat_tests)
-
-pub true_le : (n m : ℕ) → nat_le n m ≡ true → n ≤ m
-true_le n m h = grind (arith, nat_tests)
-
-pub true_lt : (n m : ℕ) → nat_lt n m ≡ true → n < m
-true_lt n m h = grind (arith, nat_tests)
 
 -- ---- the blocks
 

@@ -13,16 +13,16 @@ use Rattle.pr_roles.specs.Scenarios.{Nexus, Task, Scripted, Planned}
 use Rattle.pr_roles.specs.Starts.{first_under}
 use Rattle.pr_roles.specs.Fitting.{AreDeclared, are_distinct, is_nexus, is_reservation, is_same_reservation}
 use Rattle.pr_roles.proofs.Allowed.{start_found}
-use Rattle.pr_text.specs.Chain.{each}
-use Rattle.pr_text.specs.ScenarioLines.{fence_line, keys_line, generation_line, reservation_line}
+use Rattle.pr_lines.specs.Chain.{each}
+use Rattle.pr_lines.specs.ScenarioLines.{fence_line, keys_line, generation_line, reservation_line, declares}
 use Rattle.pr_text.specs.Declarations.{Declaration, outside, nothing}
 use Rattle.pr_text.specs.Declaring.{number_of, held_of}
 use Rattle.pr_text.specs.inside.Chains.{keys_placed, nexus_placed, reservation_placed, generation_placed, item_taken}
-use Rattle.pr_text.specs.Texts.{start_of, first_unscripted, ended}
+use Rattle.pr_text.specs.Texts.{start_of, first_unscripted, end_placed}
 use Rattle.pr_text.specs.Reading.{nexus_written, nexus_declared}
 use Rattle.pr_text.specs.ScriptRoundTrip.{line, all_said}
-use Rattle.pr_text.specs.ScenarioRoundTrip.{declaring, details_said, keys_said, wanted_by, ScenariosHaveNoFault}
-use Rattle.pr_text.proofs.Trees.{true_le, true_lt}
+use Rattle.pr_text.specs.ScenarioRoundTrip.{task_line, details_said, keys_said, wanted_by, ScenariosHaveNoFault}
+use Rattle.pr_lines.proofs.Tests.{true_le, true_lt}
 use Rattle.pr_text.proofs.NamesApart.{names, is_taken, free_of, names_moved, itself, number_nowhere, number_there}
 use Rattle.pr_text.proofs.DetailLines.{said_on, said_first, pending_same, is_planned, placed, bare, full, details_go}
 
@@ -50,7 +50,7 @@ not_over : (n m : ℕ) → nat_le n m ≡ true → nat_lt m n ≡ false
 not_over n m h = grind (arith, nat_tests)
 
 keys_go : (n : ℕ) (keys : List ℕ) → are_distinct (λ j k. j == k) keys ≡ true → nat_lt 12 (length keys) ≡ false
-    → item_taken n (keys_line keys) (placed None None None [] outside) ≡ Ok (placed (Some keys) None None [] outside)
+    → item_taken n (declares (keys_line keys)) (placed None None None [] outside) ≡ Ok (placed (Some keys) None None [] outside)
 unfolding item_taken keys_placed
 keys_go n keys once few = rw (once, few) refl
 
@@ -58,10 +58,10 @@ keys_lines_go : (n : ℕ) (keys : List ℕ) → AreDeclared keys → all_said (k
 keys_lines_go n [] h = refl
 keys_lines_go n (k ∷ ks) h =
     let parts = and_parts (nat_le (length (k ∷ ks)) 12) _ h.once in
-    said_first n (keys_line (k ∷ ks)) [] _ _ _ (keys_go n (k ∷ ks) parts.1 (not_over (length (k ∷ ks)) 12 parts.0)) refl
+    said_first n (declares (keys_line (k ∷ ks))) [] _ _ _ (keys_go n (k ∷ ks) parts.1 (not_over (length (k ∷ ks)) 12 parts.0)) refl
 
 generation_goes : (n generation : ℕ) (keys : Option (List ℕ)) (xs : List Declaration)
-    → item_taken n (generation_line generation) (placed keys None None xs outside) ≡ Ok (placed keys None (Some generation) xs outside)
+    → item_taken n (declares (generation_line generation)) (placed keys None None xs outside) ≡ Ok (placed keys None (Some generation) xs outside)
 unfolding item_taken generation_placed
 generation_goes n generation keys xs = refl
 
@@ -71,12 +71,12 @@ abbrev named : List Nexus → List (List ℕ)
 named ns = map (λ x. x.name) ns
 
 nexus_goes : (n : ℕ) (keys : Option (List ℕ)) (before : List Declaration) (x : Nexus) → is_taken x.name before ≡ false → nat_le 8 (length before) ≡ false
-    → item_taken n (declaring x.name x.task) (placed keys None None before outside) ≡ Ok (placed keys None None (before ++ bare n x ∷ []) outside)
+    → item_taken n (task_line x.name x.task) (placed keys None None before outside) ≡ Ok (placed keys None None (before ++ bare n x ∷ []) outside)
 unfolding item_taken nexus_placed
 nexus_goes n keys before x free few =
     by_task x.task refl
   where
-    by_task : (t : Task) → x.task ≡ t → item_taken n (declaring x.name x.task) (placed keys None None before outside) ≡ Ok (placed keys None None (before ++ bare n x ∷ []) outside)
+    by_task : (t : Task) → x.task ≡ t → item_taken n (task_line x.name x.task) (placed keys None None before outside) ≡ Ok (placed keys None None (before ++ bare n x ∷ []) outside)
     by_task (Scripted script budget) is = rw (is, number_nowhere before x.name free, few) refl
     by_task (Planned commands) is = rw (is, number_nowhere before x.name free, few) refl
 
@@ -92,10 +92,10 @@ still_apart : (before : List Declaration) (d : Declaration) (rest : List (List �
 still_apart before d rest h = ap (are_distinct bytes_eq) (names_moved before d rest) ∙ h
 
 nexuses_go : (n : ℕ) (keys : Option (List ℕ)) (before : List Declaration) (ns : List Nexus) → are_distinct bytes_eq (names before ++ named ns) ≡ true → length before + length ns ≤ 8
-    → all_said (map (λ x. line n (declaring x.name x.task)) ns) (placed keys None None before outside) ≡ Ok (placed keys None None (before ++ map (bare n) ns) outside)
+    → all_said (map (λ x. line n (task_line x.name x.task)) ns) (placed keys None None before outside) ≡ Ok (placed keys None None (before ++ map (bare n) ns) outside)
 nexuses_go n keys before [] apart few = ap (λ l. Ok (placed keys None None l outside)) (sym (append-nil before))
 nexuses_go n keys before (x ∷ ns) apart few =
-    said_first n (declaring x.name x.task) (map (λ y. line n (declaring y.name y.task)) ns) _ _ _
+    said_first n (task_line x.name x.task) (map (λ y. line n (task_line y.name y.task)) ns) _ _ _
     (nexus_goes n keys before x (free_of before x.name (named ns) apart) (room (length before) (length ns) few))
     (nexuses_go n keys (before ++ bare n x ∷ []) ns (still_apart before (bare n x) (named ns) apart) (room_left before (bare n x) (length ns) few)
     ∙ ap (λ l. Ok (placed keys None None l outside)) (append_assoc before (bare n x ∷ []) (map (bare n) ns)))
@@ -143,7 +143,7 @@ helds_go n ns (v ∷ vs) apart fits =
 
 reservation_goes : (n : ℕ) (keys : Option (List ℕ)) (g : Option ℕ) (ns : List Nexus) (vs : List (Option Held)) → are_distinct bytes_eq (named ns) ≡ true
     → list_all (is_reservation (length ns)) vs ≡ true → are_distinct is_same_reservation vs ≡ true
-    → item_taken n (reservation_line (map (wanted_by ns) vs)) (placed keys None g (map (bare n) ns) outside) ≡ Ok (placed keys (Some vs) g (map (bare n) ns) outside)
+    → item_taken n (declares (reservation_line (map (wanted_by ns) vs))) (placed keys None g (map (bare n) ns) outside) ≡ Ok (placed keys (Some vs) g (map (bare n) ns) outside)
 unfolding item_taken reservation_placed
 reservation_goes n keys g ns vs apart fits once = rw (helds_go n ns vs apart fits, once) refl
 
@@ -166,8 +166,8 @@ some_there f [] h = cc
 some_there f (x ∷ xs) h = grind (arith, nat_tests)
 
 ends : (n : ℕ) (keys : Option (List ℕ)) (g : Option ℕ) (ns : List Nexus) (vs : List (Option Held)) → not (length ns == 0) ≡ true → is_some (first_under (map (λ x. x.start) ns) vs) ≡ true
-    → ended n (placed keys (Some vs) g (map (full n) ns) outside) ≡ Ok (placed keys (Some vs) g (map (full n) ns) outside)
-unfolding ended
+    → end_placed n (placed keys (Some vs) g (map (full n) ns) outside) ≡ Ok (placed keys (Some vs) g (map (full n) ns) outside)
+unfolding end_placed
 ends n keys g ns vs some startable = rw (some_there (full n) ns some, tasks_there n ns, starts_same n ns, startable) refl
 
 written_same : (n : ℕ) (ns : List Nexus) → All (λ x. AreAttentions x.pending) ns → map nexus_written ns ≡ map nexus_declared (map (full n) ns)
@@ -186,16 +186,16 @@ said n s fits can are =
     let apart = and_parts (are_distinct bytes_eq (named s.nexuses)) _ few.1 in
     let at_most = true_le (length s.nexuses) 8 few.0 in
     let reserved = and_parts (list_all (is_reservation (length s.nexuses)) s.reservations) _ (and_parts (not (length s.reservations == 0)) _ fits.reservations).1 in
-    let behind = line n (reservation_line (map (wanted_by s.nexuses) s.reservations)) ∷ flat_map (details_said n) s.nexuses in
+    let behind = line n (declares (reservation_line (map (wanted_by s.nexuses) s.reservations))) ∷ flat_map (details_said n) s.nexuses in
     let each : list_all (is_nexus (unwrap_or keys [])) s.nexuses ≡ true = rw (keys_same s.keys) apart.1 in
     record {
       declared = placed keys (Some s.reservations) (Some s.generation) (map (full n) s.nexuses) outside;
       faultless =
           said_first n fence_line _ nothing _ _ (fence_goes n)
           (said_on (keys_said n s.keys) _ _ _ _ (keys_lines_go n s.keys fits.keys)
-          (said_on (map (λ x. line n (declaring x.name x.task)) s.nexuses) _ _ _ _ (nexuses_go n keys [] s.nexuses apart.0 (omega arith))
-          (said_first n (generation_line s.generation) behind _ _ _ (generation_goes n s.generation keys (map (bare n) s.nexuses))
-          (said_first n (reservation_line (map (wanted_by s.nexuses) s.reservations)) _ _ _ _
+          (said_on (map (λ x. line n (task_line x.name x.task)) s.nexuses) _ _ _ _ (nexuses_go n keys [] s.nexuses apart.0 (omega arith))
+          (said_first n (declares (generation_line s.generation)) behind _ _ _ (generation_goes n s.generation keys (map (bare n) s.nexuses))
+          (said_first n (declares (reservation_line (map (wanted_by s.nexuses) s.reservations))) _ _ _ _
           (reservation_goes n keys (Some s.generation) s.nexuses s.reservations apart.0 reserved.0 reserved.1)
           (details_all n keys (Some s.reservations) (Some s.generation) [] s.nexuses apart.0 each are)))));
       whole = record {

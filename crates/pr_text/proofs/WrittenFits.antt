@@ -12,7 +12,7 @@ use Rattle.pr_text.specs.declared.fault.ReadError.{ReadError}
 use Rattle.pr_text.specs.declared.fault.ReadError.TheVariants.{EmptyStart}
 use Rattle.pr_text.specs.Faults.{and_then, unless}
 use Rattle.pr_text.specs.Declarations.{Declared, nothing}
-use Rattle.pr_text.specs.Texts.{line_placed, all_placed, starts_somewhere, ended, finished, answer_of}
+use Rattle.pr_text.specs.Texts.{line_placed, all_placed, starts_somewhere, end_placed, answer_of_lines, answer_of}
 use Rattle.pr_text.specs.inside.Endings.{missing, started}
 use Rattle.pr_text.proofs.Endings.{ended_in_turn}
 use Rattle.pr_text.specs.Reading.{IsDeclaredBy}
@@ -35,8 +35,8 @@ decided (l ∷ ls) more n d e h =
     behind (line_placed (n + 1) l d) (λ x. all_placed (n + 1) ls x) (λ x. all_placed (n + 1) (ls ++ more) x) e (λ x p. decided ls more (n + 1) x e p) h
 
 pub first_fault_decides : FirstFaultDecides
-unfolding finished
-first_fault_decides ls more e h = ap (λ r. and_then r (ended (length (ls ++ more)))) (decided ls more 0 nothing e h)
+unfolding answer_of_lines
+first_fault_decides ls more e h = ap (λ r. and_then r (end_placed (length (ls ++ more)))) (decided ls more 0 nothing e h)
 
 -- ---- what is written
 
@@ -44,14 +44,14 @@ first_fault_decides ls more e h = ap (λ r. and_then r (ended (length (ls ++ mor
 record IsFinished (r : Result Declared ReadError) (n : ℕ) (e : Declared) : Type 0 where
   declared : Declared
   placed : r ≡ Ok declared
-  ends : ended n declared ≡ Ok e
+  ends : end_placed n declared ≡ Ok e
 
-finished_by : (r : Result Declared ReadError) (n : ℕ) (e : Declared) → and_then r (ended n) ≡ Ok e → IsFinished r n e
+finished_by : (r : Result Declared ReadError) (n : ℕ) (e : Declared) → and_then r (end_placed n) ≡ Ok e → IsFinished r n e
 finished_by (Ok d) n e h = record { declared = d; placed = refl; ends = h }
 finished_by (Err x) n e h = cc
 
 answer_finished : (text : List ℕ) (d : Declared) → answer_of text ≡ Ok d → IsFinished (all_placed 0 (lines text) nothing) (length (lines text)) d
-unfolding answer_of finished
+unfolding answer_of answer_of_lines
 answer_finished text d h = finished_by _ _ _ (passed _ _ _ _ h)
 
 record EndsWell (o : Option ReadError) (d e : Declared) : Type 0 where
@@ -69,7 +69,7 @@ ends_by None d e h =
     record { faultless = refl; starting = s.0; same = s.1 }
 ends_by (Some x) d e h = cc
 
-ends_well : (n : ℕ) (d e : Declared) → ended n d ≡ Ok e → EndsWell (missing n d) d e
+ends_well : (n : ℕ) (d e : Declared) → end_placed n d ≡ Ok e → EndsWell (missing n d) d e
 ends_well n d e h = ends_by (missing n d) d e (sym (ended_in_turn n d) ∙ h)
 
 -- The generation is no part of what makes a state an allowed one: the state found has the generation 0.

@@ -1,6 +1,6 @@
 -- Agrees with docs/FORMATS.md, 'The lines of a scenario'.
 -- What the names and keys of the next line mean, by what is declared before it.
-use Rattle.std.specs.Prelude.{ℕ, List, Option, [], bytes_eq, Some, None, option_map, Bool, ◌&&◌, unwrap_or, false, ◌==◌, position, fold, true}
+use Rattle.std.specs.Prelude.{ℕ, List, Option, [], bytes_eq, Some, None, option_map, Bool, ◌&&◌, unwrap_or, false, position, fold}
 use Rattle.std.specs.Option.{option_map_or}
 use Rattle.std.specs.List.{slice_get}
 use Rattle.std.specs.FinSet as set
@@ -8,14 +8,11 @@ use Rattle.pr_registry.specs.declared.held.Held.{Held}
 use Rattle.pr_registry.specs.declared.held.Held.TheVariants.{One, All as Everybody}
 use Rattle.pr_attention.specs.Attentions.{Codes, code_of, no_code}
 use Rattle.pr_attention.specs.declared.attention.Attention.{Attention}
-use Rattle.pr_script.specs.declared.script.Test.{Test}
-use Rattle.pr_script.specs.Grammar.{is_written, is_written_key, is_declared}
-use Rattle.pr_script.specs.declared.script.Test.TheVariants as test
-use Rattle.pr_roles.specs.Fitting.{are_distinct}
-use Rattle.pr_text.specs.declared.spelling.ParsedCommand.{ParsedCommand}
-use Rattle.pr_text.specs.Chain.{◌>>=◌}
+use Rattle.pr_script.specs.Grammar.{is_written, is_written_key}
+use Rattle.pr_lines.specs.declared.spelling.ParsedCommand.{ParsedCommand}
+use Rattle.pr_lines.specs.Chain.{◌>>=◌}
 use Rattle.pr_text.specs.Declarations.{Declaration, Declared}
-use Rattle.pr_text.specs.ScenarioLines.{StartReservation, nobody, single, everybody}
+use Rattle.pr_lines.specs.ScenarioLines.{StartReservation, nobody, single, everybody}
 
 abbrev pub declared_keys : Declared → List ℕ
 declared_keys d = unwrap_or d.keys []
@@ -25,19 +22,16 @@ unfoldable pub number_of : List Declaration → List ℕ → Option ℕ
 number_of nexuses name = position (λ x. bytes_eq x.name name) nexuses
 
 -- the nexus with this name
-abbrev pub named : Declared → List ℕ → Option Declaration
-named d name = number_of d.nexuses name >>= λ h. slice_get d.nexuses h
+abbrev pub nexus_named : Declared → List ℕ → Option Declaration
+nexus_named d name = number_of d.nexuses name >>= λ h. slice_get d.nexuses h
 
 -- this holds of the nexus with this name, and of none where none has it
 abbrev pub holds_of : Declared → List ℕ → (Declaration → Bool) → Bool
-holds_of d name p = option_map_or p (named d name) false
+holds_of d name p = option_map_or p (nexus_named d name) false
 
 -- the set of these attentions
 abbrev pub codes_of : List Attention → Codes
 codes_of xs = fold (λ codes x. set.insert codes (code_of x)) no_code xs
-
-abbrev pub are_codes_distinct : List Attention → Bool
-are_codes_distinct xs = are_distinct (λ x y. code_of x == code_of y) xs
 
 -- a reservation, if its holder is declared
 abbrev pub held_of : List Declaration → StartReservation → Option (Option Held)
@@ -48,12 +42,3 @@ held_of nexuses (everybody kind) = Some (Some (Everybody kind))
 -- the command may stand in a script or plan, and the keys that it drops are declared too
 abbrev pub is_spelled : List ℕ → ParsedCommand → Bool
 is_spelled keys s = is_written keys s.command && (is_written_key keys s.rk && is_written_key keys s.sark)
-
-abbrev pub is_test_declared : List ℕ → Test → Bool
-is_test_declared keys (test.GoodHas key) = is_declared keys key
-is_test_declared keys (test.GoodHeld key) = is_written_key keys key
-is_test_declared keys test.Good = true
-is_test_declared keys test.GoodUnheld = true
-is_test_declared keys test.Conflict = true
-is_test_declared keys test.Attention = true
-is_test_declared keys (test.Sense s) = true

@@ -14,17 +14,21 @@ abbrev pub unless : {A : Type 0} → Option ReadError → A → Result A ReadErr
 unless None a = Ok a
 unless (Some e) a = Err e
 
--- this is the fault; memory may fail at any step
+-- this is the fault, but that a failed read says this alone; memory may fail at any step
+abbrev pub FailsOrUnread : {A : Type 0} → Type 0 → ReadError → Result A ReadError → Type 0
+FailsOrUnread unread TooLarge step = step ≡ Err TooLarge
+FailsOrUnread unread (NotAscii n) step = step ≡ Err (NotAscii n)
+FailsOrUnread unread (LineTooLong n) step = step ≡ Err (LineTooLong n)
+FailsOrUnread unread (Syntax n) step = step ≡ Err (Syntax n)
+FailsOrUnread unread (UnknownName n) step = step ≡ Err (UnknownName n)
+FailsOrUnread unread (Limit which n) step = step ≡ Err (Limit which n)
+FailsOrUnread unread (UndeclaredKey n) step = step ≡ Err (UndeclaredKey n)
+FailsOrUnread unread (Repeated n) step = step ≡ Err (Repeated n)
+FailsOrUnread unread (Unclosed n) step = step ≡ Err (Unclosed n)
+FailsOrUnread unread ReadFault step = unread
+FailsOrUnread unread Memory step = Unit {0}
+FailsOrUnread unread EmptyStart step = step ≡ Err EmptyStart
+
+-- this is the fault of the step
 abbrev pub Fails : {A : Type 0} → ReadError → Result A ReadError → Type 0
-Fails TooLarge step = step ≡ Err TooLarge
-Fails (NotAscii n) step = step ≡ Err (NotAscii n)
-Fails (LineTooLong n) step = step ≡ Err (LineTooLong n)
-Fails (Syntax n) step = step ≡ Err (Syntax n)
-Fails (UnknownName n) step = step ≡ Err (UnknownName n)
-Fails (Limit which n) step = step ≡ Err (Limit which n)
-Fails (UndeclaredKey n) step = step ≡ Err (UndeclaredKey n)
-Fails (Repeated n) step = step ≡ Err (Repeated n)
-Fails (Unclosed n) step = step ≡ Err (Unclosed n)
-Fails ReadFault step = step ≡ Err ReadFault
-Fails Memory step = Unit {0}
-Fails EmptyStart step = step ≡ Err EmptyStart
+Fails e step = FailsOrUnread (step ≡ Err ReadFault) e step

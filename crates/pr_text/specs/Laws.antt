@@ -6,7 +6,7 @@ use Rattle.pr_roles.specs.Starts.{CanStart}
 use Rattle.pr_roles.specs.Fitting.{Fits}
 use Rattle.pr_text.specs.declared.fault.ReadError.{ReadError}
 use Rattle.pr_text.specs.Declarations.{nothing}
-use Rattle.pr_text.specs.Texts.{all_placed, finished}
+use Rattle.pr_text.specs.Texts.{all_placed, answer_of_lines}
 use Rattle.pr_text.specs.Reading.{IsWrittenAs}
 
 -- A text is written as one scenario at most.
@@ -19,4 +19,4 @@ WhatIsWrittenFits = (text : List ℕ) (s : Scenario) → IsWrittenAs text s → 
 
 -- The first line with a fault decides, whatever lines follow.
 abbrev pub FirstFaultDecides : Type 0
-FirstFaultDecides = (ls more : List (List ℕ)) (e : ReadError) → all_placed 0 ls nothing ≡ Err e → finished (ls ++ more) ≡ Err e
+FirstFaultDecides = (ls more : List (List ℕ)) (e : ReadError) → all_placed 0 ls nothing ≡ Err e → answer_of_lines (ls ++ more) ≡ Err e

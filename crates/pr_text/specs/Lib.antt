@@ -1,12 +1,4 @@
-pub mod Chain
 pub mod BytesRead
-pub mod TextLines
-pub mod WordTerms
-pub mod Lookups
-pub mod CommandOptions
-pub mod CommandWords
-pub mod Clauses
-pub mod ScenarioLines
 pub mod ScriptLines
 pub mod Declarations
 pub mod Faults

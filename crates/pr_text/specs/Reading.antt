@@ -6,12 +6,10 @@ use Rattle.pr_roles.specs.declared.role.Clause.{Clause}
 use Rattle.pr_roles.specs.Scenarios.{Scenario, Nexus, Task, Scripted, Planned, scenario_of}
 use Rattle.pr_roles.specs.declared.parts.Parts.{Parts}
 use Rattle.pr_text.specs.declared.fault.ReadError.{ReadError}
-use Rattle.pr_text.specs.declared.fault.ReadError.TheVariants.{TooLarge, NotAscii, LineTooLong, Syntax, UnknownName, Limit, UndeclaredKey, Repeated, Unclosed, ReadFault, Memory, EmptyStart}
-use Rattle.pr_text.specs.declared.source.SourceFault.{SourceFault}
-use Rattle.pr_text.specs.declared.source.SourceFault.TheVariants as source
+use Rattle.pr_text.specs.Faults.{FailsOrUnread}
 use Rattle.pr_text.specs.ScriptLines.{body_lines}
 use Rattle.pr_text.specs.Declarations.{Declaration, WrittenTask, scripted, planned, Declared}
-use Rattle.pr_text.specs.Texts.{start_of, reservations_of, ended, answer_of}
+use Rattle.pr_text.specs.Texts.{start_of, reservations_of, answer_of}
 
 -- a nexus, with its script as the lines that it is written as
 pub record WrittenNexus : Type 0 where
@@ -46,28 +44,7 @@ pub record IsWrittenAs (text : List ℕ) (s : Scenario) : Type 0 where
   pub faultless : answer_of text ≡ Ok declared
   pub kept : IsDeclaredBy declared s
 
--- What is declared is whole where the last line has this number, and the scenario is just that.
-pub record IsWhole (number : ℕ) (d : Declared) (s : Scenario) : Type 0 where
-  pub faultless : ended number d ≡ Ok d
-  pub kept : IsDeclaredBy d s
-
 -- What a reader's text was read as. A reader may fail on any text, and memory may run out on any.
 abbrev pub IsRead : List ℕ → Result Parts ReadError → Type 0
 IsRead text (Ok parts) = IsWrittenAs text (scenario_of parts)
-IsRead text (Err TooLarge) = answer_of text ≡ Err TooLarge
-IsRead text (Err (NotAscii n)) = answer_of text ≡ Err (NotAscii n)
-IsRead text (Err (LineTooLong n)) = answer_of text ≡ Err (LineTooLong n)
-IsRead text (Err (Syntax n)) = answer_of text ≡ Err (Syntax n)
-IsRead text (Err (UnknownName n)) = answer_of text ≡ Err (UnknownName n)
-IsRead text (Err (Limit which n)) = answer_of text ≡ Err (Limit which n)
-IsRead text (Err (UndeclaredKey n)) = answer_of text ≡ Err (UndeclaredKey n)
-IsRead text (Err (Repeated n)) = answer_of text ≡ Err (Repeated n)
-IsRead text (Err (Unclosed n)) = answer_of text ≡ Err (Unclosed n)
-IsRead text (Err ReadFault) = Unit {0}
-IsRead text (Err Memory) = Unit {0}
-IsRead text (Err EmptyStart) = answer_of text ≡ Err EmptyStart
-
--- what a reader's fault is as a fault of its text
-abbrev pub read_error : SourceFault → ReadError
-read_error source.ReadFault = ReadFault
-read_error source.Memory = Memory
+IsRead text (Err e) = FailsOrUnread (Unit {0}) e (answer_of text)

@@ -1,6 +1,6 @@
 -- Agrees with docs/FORMATS.md, 'The lines of a scenario'.
 -- The lines that a scenario is written as, and what the reader makes of them.
-use Rattle.std.specs.Prelude.{◌≡◌, ℕ, List, [], ◌∷◌, ◌++◌, map, filter, Option, Some, None, Ok}
+use Rattle.std.specs.Prelude.{◌≡◌, ℕ, List, [], ◌∷◌, ◌++◌, map, filter, Option, Some, None, Ok, true, false}
 use Rattle.std.specs.FinSet as set
 use Rattle.std.specs.List.{All, flat_map, slice_get}
 use Rattle.std.specs.Option.{option_map_or}
@@ -12,19 +12,20 @@ use Rattle.pr_attention.specs.Attentions.{Codes, code_of, AreAttentions}
 use Rattle.pr_roles.specs.Scenarios.{Scenario, Nexus, Task, Scripted, Planned}
 use Rattle.pr_roles.specs.Starts.{CanStart}
 use Rattle.pr_roles.specs.Fitting.{Fits}
-use Rattle.pr_text.specs.CommandWords.{keyless}
-use Rattle.pr_text.specs.ScenarioLines.{StartReservation, nobody, single, everybody, ScenarioLine, fence_line, keys_line, host_line, guest_line, start_line, pending_line, reservation_line, generation_line, role_line, script_line, plan_line, end_line, command_line}
+use Rattle.pr_lines.specs.CommandWords.{keyless}
+use Rattle.pr_lines.specs.ScenarioLines.{StartReservation, nobody, single, everybody, ScenarioLine, fence_line, keys_line, nexus_line, start_line, pending_line, reservation_line, generation_line, role_line, script_line, plan_line, end_line, command_line, declares}
 use Rattle.pr_text.specs.ScriptLines.{body_lines}
 use Rattle.pr_text.specs.ScriptRoundTrip.{Line, line, script_said, all_said}
 use Rattle.pr_text.specs.Declarations.{Declared, nothing}
-use Rattle.pr_text.specs.Reading.{IsWhole}
+use Rattle.pr_text.specs.Reading.{IsDeclaredBy}
+use Rattle.pr_text.specs.Texts.{end_placed}
 
 -- ---- a nexus, with this number on each line but those of sends, which have their own
 
 -- a host has a script, a guest a plan
-abbrev pub declaring : List ℕ → Task → ScenarioLine
-declaring name (Scripted script budget) = host_line name
-declaring name (Planned commands) = guest_line name
+abbrev pub task_line : List ℕ → Task → ScenarioLine
+task_line name (Scripted script budget) = declares (nexus_line false name)
+task_line name (Planned commands) = declares (nexus_line true name)
 
 abbrev pub attentions_in : Codes → List Attention
 attentions_in codes = filter (λ a. set.contains codes (code_of a)) (PowerOn ∷ ReservationsPreempted ∷ ReservationsReleased ∷ RegistrationsPreempted ∷ [])
@@ -32,25 +33,25 @@ attentions_in codes = filter (λ a. set.contains codes (code_of a)) (PowerOn ∷
 -- where nothing is pending, nothing is written
 abbrev pub pending_said : ℕ → List ℕ → List Attention → List Line
 pending_said n name [] = []
-pending_said n name (x ∷ xs) = line n (pending_line name (x ∷ xs)) ∷ []
+pending_said n name (x ∷ xs) = line n (declares (pending_line name (x ∷ xs))) ∷ []
 
 -- the lines of a task, the last of them included
 abbrev pub task_said : ℕ → List ℕ → Task → List Line
-task_said n name (Scripted script budget) = line n (script_line name budget) ∷ (script_said n (body_lines script) ++ line n end_line ∷ [])
-task_said n name (Planned commands) = line n (plan_line name) ∷ (map (λ c. line n (command_line (keyless c))) commands ++ line n end_line ∷ [])
+task_said n name (Scripted script budget) = line n (declares (script_line name budget)) ∷ (script_said n (body_lines script) ++ line n end_line ∷ [])
+task_said n name (Planned commands) = line n (declares (plan_line name)) ∷ (map (λ c. line n (command_line (keyless c))) commands ++ line n end_line ∷ [])
 
 -- a host's or guest's start, what is pending for it, its role and its task
 abbrev pub details_said : ℕ → Nexus → List Line
 details_said n x =
-    line n (start_line x.name x.start)
-    ∷ (pending_said n x.name (attentions_in x.pending) ++ (map (λ c. line n (role_line x.name c)) x.role ++ task_said n x.name x.task))
+    line n (declares (start_line x.name x.start))
+    ∷ (pending_said n x.name (attentions_in x.pending) ++ (map (λ c. line n (declares (role_line x.name c))) x.role ++ task_said n x.name x.task))
 
 -- ---- the whole
 
 -- where no key is declared, nothing is written
 abbrev pub keys_said : ℕ → List ℕ → List Line
 keys_said n [] = []
-keys_said n (k ∷ ks) = line n (keys_line (k ∷ ks)) ∷ []
+keys_said n (k ∷ ks) = line n (declares (keys_line (k ∷ ks))) ∷ []
 
 -- a reservation, whose single holder is named
 abbrev pub wanted_by : List Nexus → Option Held → StartReservation
@@ -62,10 +63,15 @@ abbrev pub lines_said : ℕ → Scenario → List Line
 lines_said n s =
     line n fence_line
     ∷ (keys_said n s.keys
-    ++ (map (λ x. line n (declaring x.name x.task)) s.nexuses
-    ++ (line n (generation_line s.generation)
-    ∷ line n (reservation_line (map (wanted_by s.nexuses) s.reservations))
+    ++ (map (λ x. line n (task_line x.name x.task)) s.nexuses
+    ++ (line n (declares (generation_line s.generation))
+    ∷ line n (declares (reservation_line (map (wanted_by s.nexuses) s.reservations)))
     ∷ flat_map (details_said n) s.nexuses)))
+
+-- What is declared is whole where the last line has this number, and the scenario is just that.
+pub record IsWhole (number : ℕ) (d : Declared) (s : Scenario) : Type 0 where
+  pub faultless : end_placed number d ≡ Ok d
+  pub kept : IsDeclaredBy d s
 
 -- the lines have no fault, and what they declare is just this scenario
 pub record IsSaid (n : ℕ) (s : Scenario) : Type 0 where

@@ -4,16 +4,16 @@ use Rattle.std.specs.Prelude.{◌≡◌, ℕ, List, [], ◌∷◌, Result, Ok, t
 use Rattle.pr_script.specs.Scripts.{Stmts}
 use Rattle.pr_script.specs.Grammar.{script_fits}
 use Rattle.pr_text.specs.declared.fault.ReadError.{ReadError}
-use Rattle.pr_text.specs.CommandWords.{keyless}
+use Rattle.pr_lines.specs.CommandWords.{keyless}
 use Rattle.pr_text.specs.Declarations.{OpenLines, in_script, Declared}
 use Rattle.pr_text.specs.Declaring.{declared_keys}
 use Rattle.pr_text.specs.Faults.{and_then}
-use Rattle.pr_text.specs.ScenarioLines.{ScenarioLine, send_line, on_line, done_line, repeat_line, break_line, stop_line}
+use Rattle.pr_lines.specs.ScenarioLines.{ScenarioLine, StatementLine, states, send_line, on_line, done_line, repeat_line, break_line, stop_line}
 use Rattle.pr_text.specs.NextLine.{begun_script, item_placed}
 use Rattle.pr_text.specs.ScriptLines.{ScriptLine, send_at, arm_on, block_done, repeat_of, break_out, stop_with, body_lines}
 
 -- what the line says; a key that its command drops is not written
-abbrev pub said_by : ScriptLine → ScenarioLine
+abbrev pub said_by : ScriptLine → StatementLine
 said_by (send_at line command) = send_line (keyless command)
 said_by (arm_on test) = on_line test
 said_by block_done = done_line
@@ -39,7 +39,7 @@ abbrev pub line : ℕ → ScenarioLine → Line
 line n item = record { number = n; item = item }
 
 abbrev pub script_said : ℕ → List ScriptLine → List Line
-script_said n ls = map (λ l. line (numbered n l) (said_by l)) ls
+script_said n ls = map (λ l. line (numbered n l) (states (said_by l))) ls
 
 -- what lines make of what is declared, one after another
 abbrev pub all_said : List Line → Declared → Result Declared ReadError

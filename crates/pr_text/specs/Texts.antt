@@ -9,24 +9,24 @@ use Rattle.pr_text.specs.declared.text.TheConstants.{MOST_BYTES, MOST_LINE_BYTES
 use Rattle.pr_text.specs.declared.fault.ReadError.{ReadError}
 use Rattle.pr_text.specs.declared.fault.Which.TheVariants as which
 use Rattle.pr_text.specs.declared.fault.ReadError.TheVariants as fault
-use Rattle.pr_text.specs.Declarations.{Declaration, Place, Declared, nothing}
+use Rattle.pr_text.specs.Declarations.{Declaration, Declared, nothing}
 use Rattle.pr_text.specs.Faults.{and_then, unless}
-use Rattle.pr_text.specs.ScenarioLines.{ScenarioLine, item_of}
+use Rattle.pr_lines.specs.ScenarioLines.{item_of}
 use Rattle.pr_text.specs.NextLine.{item_placed}
-use Rattle.pr_text.specs.Standing.{is_before_all, of_plan, of_script}
-use Rattle.pr_text.specs.TextLines.{is_text, words}
+use Rattle.pr_text.specs.Standing.{by_place, is_before_all}
+use Rattle.pr_lines.specs.TextLines.{is_text, words}
 
 -- ---- one line
 
 -- a line without words says nothing, and words that keep no shape are at fault
-abbrev pub worded : ℕ → List (List ℕ) → Declared → Result Declared ReadError
-worded n [] d = Ok d
-worded n (w ∷ ws) d = option_map_or (λ item. item_placed n item d) (item_of w ws) (Err (fault.Syntax n))
+abbrev pub words_placed : ℕ → List (List ℕ) → Declared → Result Declared ReadError
+words_placed n [] d = Ok d
+words_placed n (w ∷ ws) d = option_map_or (λ item. item_placed n item d) (item_of w ws) (Err (fault.Syntax n))
 
 unfoldable pub line_placed : ℕ → List ℕ → Declared → Result Declared ReadError
 line_placed n line d =
     if not (is_text line) then Err (fault.NotAscii n) else (
-    if nat_lt MOST_LINE_BYTES (length line) then Err (fault.LineTooLong n) else worded n (words line) d)
+    if nat_lt MOST_LINE_BYTES (length line) then Err (fault.LineTooLong n) else words_placed n (words line) d)
 
 -- ---- all lines, behind so many others
 
@@ -54,26 +54,23 @@ reservations_of d = unwrap_or d.reservations (None ∷ [])
 abbrev pub starts_somewhere : Declared → Bool
 starts_somewhere d = is_some (first_under (map start_of d.nexuses) (reservations_of d))
 
--- a script or plan is open
-abbrev pub is_open : Place → Bool
-is_open p = of_script (of_plan false (λ h commands. true) p) (λ o. true) p
-
--- after the last line, of this number: the first thing that is wrong with the whole
+-- After the last line, of this number: the first thing that is wrong with the whole. Nothing was begun, a script or
+-- a plan is open, no nexus is declared, a host has no script, or nothing can start.
 abbrev pub end_fault : ℕ → Declared → Option ReadError
 end_fault n d =
     if is_before_all d.place then Some (fault.Syntax 1) else (
-    if is_open d.place then Some (fault.Unclosed n) else (
+    if by_place false false (λ o. true) (λ h commands. true) d.place then Some (fault.Unclosed n) else (
     if length d.nexuses == 0 then Some (fault.Limit which.Hosts n) else
     option_map_or (λ line. Some (fault.Syntax line)) (first_unscripted d.nexuses) (
     if starts_somewhere d then None else Some fault.EmptyStart)))
 
-unfoldable pub ended : ℕ → Declared → Result Declared ReadError
-ended n d = unless (end_fault n d) d
+unfoldable pub end_placed : ℕ → Declared → Result Declared ReadError
+end_placed n d = unless (end_fault n d) d
 
 -- what these lines declare, or their one fault
-unfoldable pub finished : List (List ℕ) → Result Declared ReadError
-finished ls = and_then (all_placed 0 ls nothing) (ended (length ls))
+unfoldable pub answer_of_lines : List (List ℕ) → Result Declared ReadError
+answer_of_lines ls = and_then (all_placed 0 ls nothing) (end_placed (length ls))
 
 -- what a text declares, or its one fault
 unfoldable pub answer_of : List ℕ → Result Declared ReadError
-answer_of text = if nat_lt MOST_BYTES (length text) then Err fault.TooLarge else finished (lines text)
+answer_of text = if nat_lt MOST_BYTES (length text) then Err fault.TooLarge else answer_of_lines (lines text)

@@ -1,9 +1,6 @@
 pub mod Chains
 pub mod Drafts
 pub mod Endings
-pub mod LineValues
-pub mod Keywords
-pub mod Lists
 pub mod OpenScripts
 pub mod Sound
 pub mod Steps

@@ -6,13 +6,12 @@ ghost use Rattle.pr_text.specs.inside.Chains.{planned_step};
 
 use crate::draft::{Draft, number_in, pending_of};
 use crate::fault::{ReadError, Which};
-use crate::item::{ScenarioLine, StartReservation};
 use crate::open_script::{OpenScript, is_spelled};
-use crate::spelling::ParsedCommand;
 use crate::uniqueness::are_codes_distinct;
 use pr_attention::Attention;
 use pr_cdb::Command;
 use pr_cdb::codes::MOST_NEXUSES;
+use pr_lines::{ParsedCommand, ScenarioLine, StartReservation};
 use pr_registry::Held;
 use pr_roles::limits::{MOST_CLAUSES, MOST_KEYS, MOST_PLANNED};
 use pr_roles::{Clause, Task, Word, are_distinct, are_held_apart, is_action};
@@ -47,10 +46,10 @@ impl Builder {
     ghost use Rattle.std.specs.Prelude.{◌≡◌, ◌<◌, IfOk, IfSome, [], length, map, option_map, position, bytes_eq};
     ghost use Rattle.pr_text.specs.declared.builder.Place.TheVariants.{Outside};
     ghost use Rattle.pr_text.specs.inside.Steps.{Gives};
-    ghost use Rattle.pr_text.specs.inside.LineValues.{seen, wanted_seen};
+    ghost use Rattle.pr_lines.specs.LineValues.{seen, wanted_seen};
     ghost use Rattle.pr_text.specs.Declarations.{nothing};
     ghost use Rattle.pr_text.specs.Declaring.{declared_keys, number_of, held_of};
-    ghost use Rattle.pr_text.specs.Chain.{each};
+    ghost use Rattle.pr_lines.specs.Chain.{each};
     ghost use Rattle.pr_text.specs.inside.Chains.{keys_placed, nexus_placed, start_placed, pending_placed, reservation_placed, generation_placed, role_placed, script_placed, plan_placed};
     ghost use Rattle.pr_text.specs.inside.Drafts.{draft_seen, task_seen, declared_by};
     ghost use Rattle.pr_text.specs.inside.OpenScripts.{open_seen};
@@ -372,7 +371,7 @@ impl Builder {
     }
 
     // The reservations, if the holders are declared.
-    #[tactic(auto, using(crate::proofs::Lists::each_same))]
+    #[tactic(auto, using(pr_lines::proofs::Lists::each_same))]
     fn reservations_of(
         &self,
         alloc: Global,

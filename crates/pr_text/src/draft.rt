@@ -24,6 +24,7 @@ pub struct Draft {
 
 impl Draft {
     ghost use Rattle.std.specs.Prelude.{◌≡◌, ◌≤◌, [], None, IfNone};
+    ghost use Rattle.pr_script.specs.declared.limits.TheConstants.{MOST_BUDGET};
     ghost use Rattle.pr_text.specs.inside.Chains.{start_fault, script_fault};
     ghost use Rattle.pr_text.specs.inside.Drafts.{draft_seen};
 
@@ -63,7 +64,7 @@ impl Draft {
     /// Why it may not have a script with this budget.
     pub fn script_fault(&self, line: u32, budget: u64) -> Option<ReadError>
         ensures fault { result ≡ script_fault line budget (draft_seen self.now) }
-        ensures within { IfNone result (budget ≤ 4096) }
+        ensures within { IfNone result (budget ≤ MOST_BUDGET) }
     {
         if self.is_guest {
             return Some(ReadError::UnknownName { line });

@@ -20,15 +20,16 @@ impl Builder {
     ghost use Rattle.pr_text.specs.Faults.{Fails};
     ghost use Rattle.pr_text.specs.inside.Drafts.{declared_by};
     ghost use Rattle.pr_text.specs.inside.Sound.{IsSound};
-    ghost use Rattle.pr_text.specs.Texts.{ended};
+    ghost use Rattle.pr_text.specs.Texts.{end_placed};
     ghost use Rattle.pr_text.specs.inside.Endings.{missing};
-    ghost use Rattle.pr_text.specs.Reading.{IsDeclaredBy, IsWhole};
+    ghost use Rattle.pr_text.specs.Reading.{IsDeclaredBy};
+    ghost use Rattle.pr_text.specs.ScenarioRoundTrip.{IsWhole};
 
     /// The scenario that is declared, where the text ends on the line of this number.
     pub fn finished(self, alloc: Global, number: u32) -> Result<Scenario, ReadError>
         requires { IsSound number (declared_by self) }
         ensures found { IfOk result (λ scenario. IsWhole number (declared_by self) (scenario_of scenario)) }
-        ensures fault { IfErr result (λ e. Fails e (ended number (declared_by self))) }
+        ensures fault { IfErr result (λ e. Fails e (end_placed number (declared_by self))) }
     {
         if let Some(fault) = self.missing(number) {
             return Err(fault);

@@ -2,7 +2,6 @@
 
 ghost use Rattle.pr_text.specs.declared.fault.ReadError.TheVariants.{Memory};
 
-use crate::source::SourceFault;
 use std::alloc::{AllocError, AllocFailed};
 use thiserror::Error;
 
@@ -88,19 +87,5 @@ impl<T: Drop> From<AllocFailed<T>> for ReadError {
 
     fn from(_e: AllocFailed<T>) -> ReadError {
         ReadError::Memory
-    }
-}
-
-impl From<SourceFault> for ReadError {
-    ghost from_gives = { λ fault e. e ≡ read_error fault };
-
-    ghost use Rattle.std.specs.Prelude.{◌≡◌};
-    ghost use Rattle.pr_text.specs.Reading.{read_error};
-
-    fn from(fault: SourceFault) -> ReadError {
-        match fault {
-            SourceFault::ReadFault => ReadError::ReadFault,
-            SourceFault::Memory => ReadError::Memory,
-        }
     }
 }

@@ -1,25 +1,17 @@
-//! The text of a scenario: its lines, words and terms, and the scenario that it is or its one fault.
+//! The text of a scenario: its lines together, and the scenario that it is or its one fault.
 //!
-//! A text has lines, and a line has words. The lines before one declare keys, nexuses, starts, roles,
-//! scripts and plans; the next line either declares more or is the text's fault. [`read`] reads from any
-//! reader, and [`of_text`] reads bytes.
+//! A text has lines, and what each says alone is read by `pr_lines`. The lines before one declare keys,
+//! nexuses, starts, roles, scripts and plans; the next line either declares more or is the text's fault.
+//! [`read`] reads from any reader, and [`of_text`] reads bytes.
 #![tactic(auto)]
 
 mod builder;
-mod clauses;
-mod cutting;
 mod draft;
 mod ending;
 mod fault;
-mod item;
-mod keyword;
 mod laws;
-mod lookup;
 mod open_script;
-mod options;
 mod source;
-mod spelling;
-mod terms;
 mod text;
 mod uniqueness;
 

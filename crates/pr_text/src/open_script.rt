@@ -1,20 +1,21 @@
 //! A script that is open: its statements so far, and the blocks that are open in it.
 
 ghost use Rattle.std.specs.Prelude.{◌≡◌, [], ◌∷◌, ◌++◌, IfOk};
-ghost use Rattle.pr_text.specs.Standing.{stands_under, is_repeating};
-ghost use Rattle.pr_text.specs.Declaring.{is_test_declared, is_spelled};
+ghost use Rattle.pr_text.specs.Standing.{is_repeating};
+ghost use Rattle.pr_text.specs.Declaring.{is_spelled};
 ghost use Rattle.pr_text.specs.inside.Chains.{arm_fault};
 ghost use Rattle.pr_script.specs.Trees.{statement_of};
 ghost use Rattle.pr_text.specs.ScriptLines.{statement_lines, block_done};
 ghost use Rattle.pr_text.specs.inside.OpenScripts.{block_by, opener_lines, lines_in};
 
 use crate::fault::{ReadError, Which};
-use crate::item::ScenarioLine;
-use crate::spelling::ParsedCommand;
 use pr_cdb::Command;
+use pr_lines::{ParsedCommand, ScenarioLine};
 use pr_roles::Word;
 use pr_script::limits::{MOST_ARMS, MOST_OPEN, MOST_STATEMENTS, MOST_TURNS};
-use pr_script::{Arm, Script, Statement, Test, is_declared, is_written, is_written_key};
+use pr_script::{
+    Arm, Script, Statement, Test, is_test_declared, is_written, is_written_key, stands_under,
+};
 use std::alloc::{AllocError, Global};
 use std::mem;
 
@@ -65,10 +66,11 @@ pub struct OpenScript {
 impl OpenScript {
     ghost use Rattle.std.specs.Prelude.{◌≡◌, ◌==◌, false, IfOk, None, Some, [], length, count_by};
     ghost use Rattle.pr_text.specs.inside.Steps.{Gives};
-    ghost use Rattle.pr_text.specs.inside.LineValues.{seen};
+    ghost use Rattle.pr_lines.specs.LineValues.{seen};
     ghost use Rattle.pr_text.specs.inside.OpenScripts.{open_seen, opened_in};
     ghost use Rattle.pr_text.specs.Standing.{awaits_arm, awaits_more, is_repeating, is_sending, is_in_repeat};
-    ghost use Rattle.pr_text.specs.inside.Chains.{is_full, send_step, repeat_step, break_step, stop_step, on_step, done_step, script_step};
+    ghost use Rattle.pr_text.specs.inside.Chains.{is_full, script_step, line_step};
+    ghost use Rattle.pr_lines.specs.ScenarioLines.{send_line, on_line, done_line, repeat_line, break_line, stop_line};
 
     /// A script without statements.
     pub fn new(alloc: Global, host: usize, budget: u32) -> Self
@@ -85,6 +87,7 @@ impl OpenScript {
     }
 
     /// The script with one line more.
+    #[tactic(auto, unfolding(crate::specs::inside::Chains::script_step))]
     pub fn with_item(
         self,
         alloc: Global,
@@ -92,7 +95,7 @@ impl OpenScript {
         keys: &[u64],
         item: ScenarioLine,
     ) -> Result<Self, ReadError>
-        ensures { Gives open_seen result (script_step line keys.now (seen item) (open_seen self)) }
+        ensures { Gives open_seen result (line_step line keys.now (seen item) (open_seen self)) }
     {
         match item {
             ScenarioLine::Send(spelled) => self.send(line, keys, spelled),
@@ -166,9 +169,9 @@ impl OpenScript {
             .count()
     }
 
-    #[tactic(auto, unfolding(crate::specs::inside::Chains::send_step))]
+    #[tactic(auto, unfolding(crate::specs::inside::Chains::script_step))]
     fn send(mut self, line: u32, keys: &[u64], spelled: ParsedCommand) -> Result<Self, ReadError>
-        ensures { Gives open_seen result (send_step line keys.now spelled (open_seen self)) }
+        ensures { Gives open_seen result (script_step line keys.now (send_line spelled) (open_seen self)) }
     {
         if self.awaits_arm() {
             return Err(ReadError::Syntax { line });
@@ -192,9 +195,9 @@ impl OpenScript {
         Ok(self)
     }
 
-    #[tactic(auto, unfolding(crate::specs::inside::Chains::repeat_step))]
+    #[tactic(auto, unfolding(crate::specs::inside::Chains::script_step))]
     fn repeat(self, alloc: Global, line: u32, count: u64) -> Result<Self, ReadError>
-        ensures { Gives open_seen result (repeat_step line count (open_seen self)) }
+        ensures { Gives open_seen result (script_step line [] (repeat_line count) (open_seen self)) }
     {
         if self.awaits_arm() {
             return Err(ReadError::Syntax { line });
@@ -211,7 +214,7 @@ impl OpenScript {
             let which = Which::Repeat;
             return Err(ReadError::Limit { which, line });
         }
-        let mut open = self.opened(
+        let mut open = self.with_block(
             alloc,
             BlockHead::Repeat {
                 count: count as u32,
@@ -223,7 +226,7 @@ impl OpenScript {
 
     // The script in which a body is open too.
     #[tactic(auto, using(crate::proofs::OpenLines::more_blocks, crate::proofs::OpenLines::more_lines))]
-    fn opened(mut self, alloc: Global, opener: BlockHead) -> Result<Self, AllocError>
+    fn with_block(mut self, alloc: Global, opener: BlockHead) -> Result<Self, AllocError>
         requires { self.armless ≡ None }
         ensures { IfOk result (λ after. open_seen after ≡ opened_in opener (open_seen self)) }
     {
@@ -233,7 +236,7 @@ impl OpenScript {
     }
 
     fn on(self, alloc: Global, line: u32, keys: &[u64], test: Test) -> Result<Self, ReadError>
-        ensures { Gives open_seen result (on_step line keys.now test (open_seen self)) }
+        ensures { Gives open_seen result (script_step line keys.now (on_line test) (open_seen self)) }
     {
         match self.armless {
             Some(send) => self.first_arm(alloc, line, keys, send, test),
@@ -241,7 +244,7 @@ impl OpenScript {
         }
     }
 
-    #[tactic(auto, unfolding(crate::specs::inside::Chains::on_step), using(crate::proofs::Steps::fails_same, crate::proofs::OpenLines::first_arm))]
+    #[tactic(auto, unfolding(crate::specs::inside::Chains::script_step), using(crate::proofs::Steps::fails_same, crate::proofs::OpenLines::first_arm))]
     fn first_arm(
         mut self,
         alloc: Global,
@@ -251,7 +254,7 @@ impl OpenScript {
         test: Test,
     ) -> Result<Self, ReadError>
         requires { self.armless ≡ Some send }
-        ensures { Gives open_seen result (on_step line keys.now test (open_seen self)) }
+        ensures { Gives open_seen result (script_step line keys.now (on_line test) (open_seen self)) }
     {
         if let Some(fault) = arm_fault(line, keys, send.command, 0, test) {
             return Err(fault);
@@ -263,10 +266,10 @@ impl OpenScript {
             arms: Vec::new(alloc),
             test,
         };
-        Ok(self.opened(alloc, opener)?)
+        Ok(self.with_block(alloc, opener)?)
     }
 
-    #[tactic(auto, unfolding(crate::specs::inside::Chains::on_step), using(crate::proofs::Steps::fails_same))]
+    #[tactic(auto, unfolding(crate::specs::inside::Chains::script_step), using(crate::proofs::Steps::fails_same))]
     fn next_arm(
         mut self,
         alloc: Global,
@@ -275,7 +278,7 @@ impl OpenScript {
         test: Test,
     ) -> Result<Self, ReadError>
         requires { self.armless ≡ None }
-        ensures { Gives open_seen result (on_step line keys.now test (open_seen self)) }
+        ensures { Gives open_seen result (script_step line keys.now (on_line test) (open_seen self)) }
     {
         let Some(OpenBody { body, opener }) = self.outer.pop() else {
             return Err(ReadError::Syntax { line });
@@ -308,7 +311,7 @@ impl OpenScript {
     }
 
     fn done(self, alloc: Global, line: u32) -> Result<Self, ReadError>
-        ensures { Gives open_seen result (done_step line (open_seen self)) }
+        ensures { Gives open_seen result (script_step line [] done_line (open_seen self)) }
     {
         match self.armless {
             Some(send) => self.armless_done(alloc, line, send),
@@ -317,7 +320,7 @@ impl OpenScript {
     }
 
     // The end of a send without arms.
-    #[tactic(auto, unfolding(crate::specs::inside::Chains::done_step), using(crate::proofs::OpenLines::armless_closes))]
+    #[tactic(auto, unfolding(crate::specs::inside::Chains::script_step), using(crate::proofs::OpenLines::armless_closes))]
     fn armless_done(
         mut self,
         alloc: Global,
@@ -325,7 +328,7 @@ impl OpenScript {
         send: SendWithoutArm,
     ) -> Result<Self, ReadError>
         requires { self.armless ≡ Some send }
-        ensures { Gives open_seen result (done_step line (open_seen self)) }
+        ensures { Gives open_seen result (script_step line [] done_line (open_seen self)) }
     {
         self.armless = None;
         let statement = Statement::Send {
@@ -338,10 +341,10 @@ impl OpenScript {
     }
 
     // The end of the innermost body.
-    #[tactic(auto, unfolding(crate::specs::inside::Chains::done_step))]
+    #[tactic(auto, unfolding(crate::specs::inside::Chains::script_step))]
     fn body_done(mut self, line: u32) -> Result<Self, ReadError>
         requires { self.armless ≡ None }
-        ensures { Gives open_seen result (done_step line (open_seen self)) }
+        ensures { Gives open_seen result (script_step line [] done_line (open_seen self)) }
     {
         let Some(OpenBody { body, opener }) = self.outer.pop() else {
             return Err(ReadError::Syntax { line });
@@ -350,14 +353,14 @@ impl OpenScript {
             return Err(ReadError::Syntax { line });
         }
         let statements = mem::replace(&mut self.body, body);
-        let statement = closed(opener, Script { statements })?;
+        let statement = statement_of_block(opener, Script { statements })?;
         self.body.push(statement)?;
         Ok(self)
     }
 
-    #[tactic(auto, unfolding(crate::specs::inside::Chains::break_step))]
+    #[tactic(auto, unfolding(crate::specs::inside::Chains::script_step))]
     fn break_out(mut self, line: u32) -> Result<Self, ReadError>
-        ensures { Gives open_seen result (break_step line (open_seen self)) }
+        ensures { Gives open_seen result (script_step line [] break_line (open_seen self)) }
     {
         if self.awaits_more() || self.open_repeats() == 0 {
             return Err(ReadError::Syntax { line });
@@ -371,9 +374,9 @@ impl OpenScript {
         Ok(self)
     }
 
-    #[tactic(auto, unfolding(crate::specs::inside::Chains::stop_step))]
+    #[tactic(auto, unfolding(crate::specs::inside::Chains::script_step))]
     fn stop(mut self, line: u32, word: Word) -> Result<Self, ReadError>
-        ensures { Gives open_seen result (stop_step line word.bytes (open_seen self)) }
+        ensures { Gives open_seen result (script_step line [] (stop_line word.bytes) (open_seen self)) }
     {
         if self.awaits_more() {
             return Err(ReadError::Syntax { line });
@@ -400,7 +403,7 @@ fn is_repeat(opener: &BlockHead) -> bool
 
 // The statement that the opener and its body are.
 #[tactic(auto, using(crate::proofs::OpenLines::closed_repeat, crate::proofs::OpenLines::closed_send))]
-fn closed(opener: BlockHead, body: Script) -> Result<Statement, AllocError>
+fn statement_of_block(opener: BlockHead, body: Script) -> Result<Statement, AllocError>
     ensures { IfOk result (λ s. statement_lines (statement_of s) ≡ opener_lines opener ++ (lines_in body.statements.items ++ block_done ∷ [])) }
 {
     match opener {
@@ -442,27 +445,6 @@ fn arm_fault(
         return Some(ReadError::Limit { which, line });
     }
     None
-}
-
-// Whether an arm with this test stands under the command.
-fn stands_under(command: Command, test: Test) -> bool
-    ensures { result ≡ stands_under command test }
-{
-    match test {
-        Test::GoodHas(_) => matches!(command, Command::ReadKeys { .. }),
-        Test::GoodHeld(_) | Test::GoodUnheld => matches!(command, Command::ReadReservation { .. }),
-        Test::Good | Test::Conflict | Test::Attention | Test::Sense(_) => true,
-    }
-}
-
-fn is_test_declared(keys: &[u64], test: Test) -> bool
-    ensures { result ≡ is_test_declared keys.now test }
-{
-    match test {
-        Test::GoodHas(key) => is_declared(keys, key),
-        Test::GoodHeld(key) => is_written_key(keys, key),
-        _ => true,
-    }
 }
 
 /// Whether the command may stand in a script or plan under these declared keys, which have the keys that

@@ -1,8 +1,9 @@
 //! Scenarios from their texts.
 
-ghost use Rattle.std.specs.Prelude.{◌≡◌, ◌≤◌, length, IfOk, IfErr, IfSome};
+ghost use Rattle.std.specs.Prelude.{◌≡◌, ◌≤◌, ◌+◌, length, IfOk, IfErr, IfSome};
 ghost use Rattle.std.specs.Str.Lines.{lines};
 ghost use Rattle.pr_roles.specs.Scenarios.{scenario_of};
+ghost use Rattle.pr_text.specs.declared.text.TheConstants.{MOST_BYTES};
 ghost use Rattle.pr_text.specs.Faults.{Fails};
 ghost use Rattle.pr_text.specs.inside.Steps.{Gives};
 ghost use Rattle.pr_text.specs.Declarations.{nothing};
@@ -15,10 +16,9 @@ ghost use Rattle.pr_text.specs.ScenarioRoundTrip.{ScenariosHaveNoFault};
 ghost use Rattle.pr_text.specs.Laws.{TextsAreWrittenOnce};
 
 use crate::builder::Builder;
-use crate::cutting::{is_text, next_line, next_word};
 use crate::fault::ReadError;
-use crate::item::item_of;
 use crate::source::all_bytes;
+use pr_lines::{is_text, item_of, next_line, next_word};
 use pr_roles::Scenario;
 use std::alloc::Global;
 use std::io::Read;
@@ -37,7 +37,7 @@ pub const MOST_LINE_BYTES: usize = 256;
 /// scenario at most.
 pub fn read<R: Read>(alloc: Global, reader: &mut R) -> Result<Scenario, ReadError>
     ensures read { IfSome (R.remaining reader.old) (λ text. IsRead text result) }
-    ensures limited { LosesUpTo 65537 (R.remaining reader.old) (R.remaining reader.new) }
+    ensures limited { LosesUpTo (MOST_BYTES + 1) (R.remaining reader.old) (R.remaining reader.new) }
     ensures each { ScenariosHaveNoFault }
     ensures once { TextsAreWrittenOnce }
 {
@@ -59,7 +59,7 @@ pub fn of_text(alloc: Global, text: &[u8]) -> Result<Scenario, ReadError>
 
 // How many lines the text has, and what they declare.
 fn declared_in(alloc: Global, text: &[u8]) -> Result<(u32, Builder), ReadError>
-    requires { length text.now ≤ 65536 }
+    requires { length text.now ≤ MOST_BYTES }
     ensures ok { IfOk result (λ r. AreRead text.now r.0 (declared_by r.1)) }
     ensures fault { IfErr result (λ e. Fails e (all_placed 0 (lines text.now) nothing)) }
 {

@@ -3,7 +3,7 @@
 ghost use Rattle.std.specs.Prelude.{◌≡◌, ◌==◌};
 ghost use Rattle.std.specs.List.{list_any};
 ghost use Rattle.pr_attention.specs.Attentions.{code_of};
-ghost use Rattle.pr_text.specs.Declaring.{are_codes_distinct};
+ghost use Rattle.pr_text.specs.inside.Chains.{are_codes_distinct};
 
 use pr_attention::Attention;
 

@@ -8,7 +8,7 @@ use Rattle.pr_cdb.specs.declared.wire.Request.TheVariants.{Plain, Faulty}
 use Rattle.pr_unit.specs.declared.decision.Decision.{Decision}
 use Rattle.pr_unit.specs.declared.decision.Decision.TheVariants.{PowerOn, Conflicting, Attention}
 use Rattle.pr_unit.specs.Attentions.{power_on, attentions}
-use Rattle.pr_unit.specs.UnitStates.{UnitState, is_pending, is_any_pending, effect, reported}
+use Rattle.pr_unit.specs.UnitStates.{UnitState, is_pending, is_any_pending, effect, after_report}
 use Rattle.pr_unit.specs.Conflicts.{conflicts}
 use Rattle.pr_unit.specs.Faults.{command_fault, fault}
 use Rattle.pr_unit.specs.Replies.{good, check, conflict, report, data_of}
@@ -36,7 +36,7 @@ record HasStepBy (l : Decision) (u : UnitState) (h : ℕ) (q : Request) : Type 0
 by_attention : (u : UnitState) (h : ℕ) (q : Request) → is_any_pending u h ≡ true → HasStepBy Attention u h q
 by_attention u h q is =
     let one = found (λ code. is_pending u h code) attentions is in
-    record { reply = report q one.item; after = reported u h one.item; step = record { code = one.item; pending = one.passes; reply = refl; after = refl } }
+    record { reply = report q one.item; after = after_report u h one.item; step = record { code = one.item; pending = one.passes; reply = refl; after = refl } }
 
 -- what neither conflicts nor meets an attention
 by_fault : (u : UnitState) (h : ℕ) (q : Request) → HasStepBy (last_decision (fault u.registry h q)) u h q
@@ -49,7 +49,7 @@ by_fault u h (Plain c) = at (command_fault u.registry h c)
 
 first_line : (u : UnitState) (h : ℕ) (q : Request) (a b c : Bool) (last : Decision) → (c ≡ true → HasStepBy Attention u h q) → HasStepBy last u h q
     → HasStepBy (if a then PowerOn else (if b then Conflicting else (if c then Attention else last))) u h q
-first_line u h q true b c last any rest = record { reply = report q power_on; after = reported u h power_on; step = (refl, refl) }
+first_line u h q true b c last any rest = record { reply = report q power_on; after = after_report u h power_on; step = (refl, refl) }
 first_line u h q false true c last any rest = record { reply = conflict; after = u; step = (refl, refl) }
 first_line u h q false false true last any rest = any refl
 first_line u h q false false false last any rest = rest

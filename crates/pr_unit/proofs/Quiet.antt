@@ -12,7 +12,7 @@ use Rattle.pr_registry.specs.Changes.{no_change}
 use Rattle.pr_unit.specs.declared.decision.Decision.{Decision}
 use Rattle.pr_unit.specs.declared.decision.Decision.TheVariants.{PowerOn, Conflicting, Attention, AtFault, Done}
 use Rattle.pr_unit.specs.Attentions.{Pairs, power_on, each_with, reservations_preempted, reservations_released, registrations_preempted}
-use Rattle.pr_unit.specs.UnitStates.{UnitState, effect, reported, told}
+use Rattle.pr_unit.specs.UnitStates.{UnitState, effect, after_report, pending_after}
 use Rattle.pr_unit.specs.Replies.{is_good}
 use Rattle.pr_unit.specs.Steps.{StepBy, decision}
 use Rattle.pr_unit.specs.Laws.{IsQuiet, request_looks, QuietSteps}
@@ -29,7 +29,7 @@ each_with-nobody code pending =
     or_false true = refl
     or_false false = refl
 
-told-no_change : (pending : Pairs) → told pending no_change ≡ pending
+told-no_change : (pending : Pairs) → pending_after pending no_change ≡ pending
 told-no_change pending =
     each_with-nobody registrations_preempted (set.union (set.union pending (each_with nobody reservations_preempted)) (each_with nobody reservations_released))
     ∙ each_with-nobody reservations_released (set.union pending (each_with nobody reservations_preempted))
@@ -40,7 +40,7 @@ same-quiet : (u : UnitState) (h : ℕ) → IsQuiet u h u
 same-quiet u h = record { registry = refl; others = λ other code differs. refl; own = λ code is. is }
 
 -- one attention less
-reported-quiet : (u : UnitState) (h code : ℕ) → IsQuiet u h (reported u h code)
+reported-quiet : (u : UnitState) (h code : ℕ) → IsQuiet u h (after_report u h code)
 reported-quiet u h code = record {
   registry = refl;
   others = λ other x differs. contains-remove-pair u.pending (h, code) (other, x)
@@ -81,8 +81,8 @@ quiet_steps u h q r v step why = by_decision (decision u h q) step
     looking (Plain c) step (inr looks) = to u (step.1 ∙ effect-looking u h c looks) (same-quiet u h)
 
     by_decision : (l : Decision) → StepBy l u h q r v → IsQuiet u h v
-    by_decision PowerOn step = to (reported u h power_on) step.1 (reported-quiet u h power_on)
+    by_decision PowerOn step = to (after_report u h power_on) step.1 (reported-quiet u h power_on)
     by_decision Conflicting step = to u step.1 (same-quiet u h)
-    by_decision Attention step = to (reported u h step.code) step.after (reported-quiet u h step.code)
+    by_decision Attention step = to (after_report u h step.code) step.after (reported-quiet u h step.code)
     by_decision (AtFault sense) step = to u step.1 (same-quiet u h)
     by_decision Done step = looking q step why

@@ -9,10 +9,10 @@ use Rattle.pr_cdb.specs.declared.command.Command.TheVariants.{TestUnitReady, Req
 use Rattle.pr_cdb.specs.declared.wire.Request.TheVariants.{Plain}
 use Rattle.pr_cdb.specs.ReplyData.{reservation_bytes}
 use Rattle.pr_registry.specs.declared.held.Held.TheVariants.{One}
-use Rattle.pr_registry.specs.Registrations.{fresh, key_of}
+use Rattle.pr_registry.specs.Registrations.{empty_registry, key_of}
 use Rattle.pr_registry.proofs.Sets.{contains-nobody, contains-insert, contains-remove, contains-just, contains-difference, get-insert, get-empty, get-without, contains-hosts_in, contains-hosts_with}
 use Rattle.pr_unit.specs.Attentions.{power_on, reservations_preempted, reservations_released, registrations_preempted}
-use Rattle.pr_unit.specs.UnitStates.{UnitState, quiet, effect, reported, is_pending}
+use Rattle.pr_unit.specs.UnitStates.{UnitState, quiet_unit, effect, after_report, is_pending}
 use Rattle.pr_unit.specs.Faults.{command_fault, illegal}
 use Rattle.pr_unit.specs.Replies.{data_of}
 use Rattle.pr_unit.specs.declared.decision.Decision.TheVariants.{PowerOn, Conflicting, Attention, AtFault, Done}
@@ -30,7 +30,7 @@ after_all u (c ∷ cs) = after_all (effect u c.0 c.1) cs
 
 with_three : Kind → UnitState
 with_three kind =
-    after_all (quiet (fresh 3)) (
+    after_all (quiet_unit (empty_registry 3)) (
     (0, Register 0 0xa1) ∷ (0, Reserve 0xa1 WriteExclusiveRegistrantsOnly) ∷ (1, Register 0 0xb2) ∷ (2, Register 0 0xc3)
     ∷ (1, Preempt 0xb2 0xa1 (Some kind)) ∷ []
     )
@@ -66,7 +66,7 @@ told_of_nothing_else : is_pending same_type 0 reservations_released ≡ false
 unfolding same_type with_three after_all
 told_of_nothing_else = simp reads refl
 
-told_once : decision (reported same_type 0 registrations_preempted) 0 (Plain TestUnitReady) ≡ Done
+told_once : decision (after_report same_type 0 registrations_preempted) 0 (Plain TestUnitReady) ≡ Done
 unfolding same_type with_three after_all
 told_once = simp reads refl
 
@@ -85,7 +85,7 @@ generation_counts_registrations_and_preempts = refl
 -- ---- a key that two hosts share, and one of them preempts it with no reservation
 
 shared : UnitState
-shared = after_all (quiet (fresh 2)) ((0, Register 0 0xa1) ∷ (1, Register 0 0xa1) ∷ (0, Preempt 0xa1 0xa1 (Some WriteExclusiveRegistrantsOnly)) ∷ [])
+shared = after_all (quiet_unit (empty_registry 2)) ((0, Register 0 0xa1) ∷ (1, Register 0 0xa1) ∷ (0, Preempt 0xa1 0xa1 (Some WriteExclusiveRegistrantsOnly)) ∷ [])
 
 sender_loses_its_own_key : key_of shared.registry 0 ≡ None
 unfolding shared after_all
@@ -110,7 +110,7 @@ sender_may_not_reserve = simp reads refl
 -- ---- a holds type 5, and b is registered
 
 held : UnitState
-held = after_all (quiet (fresh 3)) ((0, Register 0 0xa1) ∷ (1, Register 0 0xb2) ∷ (2, Register 0 0xc3) ∷ (0, Reserve 0xa1 WriteExclusiveRegistrantsOnly) ∷ [])
+held = after_all (quiet_unit (empty_registry 3)) ((0, Register 0 0xa1) ∷ (1, Register 0 0xb2) ∷ (2, Register 0 0xc3) ∷ (0, Reserve 0xa1 WriteExclusiveRegistrantsOnly) ∷ [])
 
 release_of_another_type_is_at_fault : decision held 0 (Plain (Release 0xa1 ExclusiveAccessRegistrantsOnly)) ≡ AtFault (illegal 0x26 0x04)
 unfolding held after_all
@@ -156,7 +156,7 @@ a_clear_counts = refl
 
 own_key : UnitState
 own_key =
-    after_all (quiet (fresh 2)) ((0, Register 0 0xa1) ∷ (1, Register 0 0xa1) ∷ (0, Reserve 0xa1 WriteExclusiveRegistrantsOnly) ∷ (0, Preempt 0xa1 0xa1 (Some WriteExclusiveRegistrantsOnly)) ∷ [])
+    after_all (quiet_unit (empty_registry 2)) ((0, Register 0 0xa1) ∷ (1, Register 0 0xa1) ∷ (0, Reserve 0xa1 WriteExclusiveRegistrantsOnly) ∷ (0, Preempt 0xa1 0xa1 (Some WriteExclusiveRegistrantsOnly)) ∷ [])
 
 holder_stays_registered : key_of own_key.registry 0 ≡ Some 0xa1
 unfolding own_key after_all
@@ -177,7 +177,7 @@ its_namesake_is_told = simp reads refl
 -- ---- all registrants hold type 7: a, b and c
 
 all_hold : UnitState
-all_hold = after_all (quiet (fresh 3)) ((0, Register 0 0xa1) ∷ (1, Register 0 0xb2) ∷ (2, Register 0 0xc3) ∷ (0, Reserve 0xa1 WriteExclusiveAllRegistrants) ∷ [])
+all_hold = after_all (quiet_unit (empty_registry 3)) ((0, Register 0 0xa1) ∷ (1, Register 0 0xb2) ∷ (2, Register 0 0xc3) ∷ (0, Reserve 0xa1 WriteExclusiveAllRegistrants) ∷ [])
 
 key_removed : Option Kind → UnitState
 key_removed kind = effect all_hold 1 (Preempt 0xb2 0xa1 kind)
@@ -217,7 +217,7 @@ all_others_are_told = simp reads refl
 -- ---- a holds type 3 and unregisters
 
 left : UnitState
-left = after_all (quiet (fresh 2)) ((0, Register 0 0xa1) ∷ (1, Register 0 0xb2) ∷ (0, Reserve 0xa1 ExclusiveAccess) ∷ (0, Register 0xa1 0) ∷ [])
+left = after_all (quiet_unit (empty_registry 2)) ((0, Register 0 0xa1) ∷ (1, Register 0 0xb2) ∷ (0, Reserve 0xa1 ExclusiveAccess) ∷ (0, Register 0xa1 0) ∷ [])
 
 its_reservation_ends : left.registry.held ≡ None
 unfolding left after_all
@@ -230,7 +230,7 @@ nobody_is_told_of_its_end = simp reads refl
 -- ---- PRGENERATION wraps
 
 wrapped : UnitState
-wrapped = after_all (quiet (record (fresh 1) { generation = 0xffffffff })) ((0, Register 0 0xa1) ∷ (0, Reserve 0xa1 WriteExclusive) ∷ [])
+wrapped = after_all (quiet_unit (record (empty_registry 1) { generation = 0xffffffff })) ((0, Register 0 0xa1) ∷ (0, Reserve 0xa1 WriteExclusive) ∷ [])
 
 generation_wraps_and_a_reserve_leaves_it : wrapped.registry.generation ≡ 0
 unfolding wrapped after_all
@@ -240,12 +240,12 @@ generation_wraps_and_a_reserve_leaves_it = refl
 
 waiting : UnitState
 waiting =
-    record (after_all (quiet (fresh 2)) ((1, Register 0 0xb2) ∷ (1, Reserve 0xb2 ExclusiveAccess) ∷ [])) {
+    record (after_all (quiet_unit (empty_registry 2)) ((1, Register 0 0xb2) ∷ (1, Reserve 0xb2 ExclusiveAccess) ∷ [])) {
       pending = set.insert (set.insert set.empty (0, power_on)) (0, registrations_preempted);
     }
 
 heard : UnitState
-heard = reported waiting 0 power_on
+heard = after_report waiting 0 power_on
 
 a_power_on_comes_first : decision waiting 0 (Plain (Write 0 8)) ≡ PowerOn
 unfolding waiting after_all
@@ -259,6 +259,6 @@ request_sense_does_not_conflict : decision heard 0 (Plain RequestSense) ≡ Atte
 unfolding heard waiting after_all
 request_sense_does_not_conflict = simp reads refl
 
-nothing_is_left : decision (reported heard 0 registrations_preempted) 0 (Plain RequestSense) ≡ Done
+nothing_is_left : decision (after_report heard 0 registrations_preempted) 0 (Plain RequestSense) ≡ Done
 unfolding heard waiting after_all
 nothing_is_left = simp reads refl

@@ -11,7 +11,7 @@ use Rattle.pr_cdb.specs.Requests.{FitsWhereRead}
 use Rattle.pr_unit.specs.declared.decision.Decision.{Decision}
 use Rattle.pr_unit.specs.declared.decision.Decision.TheVariants.{PowerOn, Conflicting, Attention, AtFault, Done}
 use Rattle.pr_unit.specs.Attentions.{power_on}
-use Rattle.pr_unit.specs.UnitStates.{UnitState, IsWellFormed, is_pending, is_any_pending, effect, reported}
+use Rattle.pr_unit.specs.UnitStates.{UnitState, IsWellFormed, is_pending, is_any_pending, effect, after_report}
 use Rattle.pr_unit.specs.Conflicts.{conflicts}
 use Rattle.pr_unit.specs.Faults.{fault}
 use Rattle.pr_unit.specs.Steps.{last_decision, decision, StepBy, Step}
@@ -30,7 +30,7 @@ done_parts false false false (Some sense) is = let bad : AtFault sense ≡ Done 
 pub done_is_free : (u : UnitState) (h : ℕ) (q : Request) → decision u h q ≡ Done → (conflicts u.registry h q ≡ false) × (fault u.registry h q ≡ None)
 done_is_free u h q is = done_parts (is_pending u h power_on) (conflicts u.registry h q) (is_any_pending u h) (fault u.registry h q) is
 
-well_formed-reported : (u : UnitState) (h code : ℕ) → IsWellFormed u → IsWellFormed (reported u h code)
+well_formed-reported : (u : UnitState) (h code : ℕ) → IsWellFormed u → IsWellFormed (after_report u h code)
 well_formed-reported u h code w = record {
   registry = w.registry;
   pending = λ q x is. w.pending q x (and_parts (not (q == h && x == code)) (set.contains u.pending (q, x)) (sym (contains-remove-pair u.pending (h, code) (q, x)) ∙ is)).1;
@@ -68,8 +68,8 @@ hosts-step u h q r v step = by_decision (decision u h q) step
     by_request (Faulty sense) step = absurd step
 
     by_decision : (l : Decision) → StepBy l u h q r v → v.registry.hosts ≡ u.registry.hosts
-    by_decision PowerOn step = same (reported u h power_on) step.1
+    by_decision PowerOn step = same (after_report u h power_on) step.1
     by_decision Conflicting step = same u step.1
-    by_decision Attention step = same (reported u h step.code) step.after
+    by_decision Attention step = same (after_report u h step.code) step.after
     by_decision (AtFault sense) step = same u step.1
     by_decision Done step = by_request q step

@@ -12,11 +12,11 @@ use Rattle.pr_registry.specs.declared.change.Change.{Change}
 use Rattle.pr_registry.specs.Hosts.{Hosts, is_key, has_no_registrant}
 use Rattle.pr_registry.specs.Registrations.{State, key_of, is_registered, IsKey, IsWellFormed as IsWellFormedRegistry}
 use Rattle.pr_registry.specs.Changes.{Case, ReplacesAll, ReplacesHolder, RemovesKey, conflicts_with_reserve, is_held_by_all, preempt_case, is_replacing, HasKindIfReplacing}
-use Rattle.pr_registry.specs.Effects.{after, after_register, change, registered, unregistered}
+use Rattle.pr_registry.specs.Effects.{after, after_register, change, with_registration, without_registration}
 use Rattle.pr_registry.proofs.States.{well_formed-registered, well_formed-unregistered, well_formed-reserved, well_formed-released, well_formed-cleared, well_formed-preempted}
 use Rattle.pr_registry.proofs.Told.{AreRegistered, tells_registrants}
 use Rattle.pr_unit.specs.Attentions.{Pairs, is_attention, each_with, reservations_preempted, reservations_released, registrations_preempted}
-use Rattle.pr_unit.specs.UnitStates.{UnitState, IsWellFormed, told}
+use Rattle.pr_unit.specs.UnitStates.{UnitState, IsWellFormed, pending_after}
 use Rattle.pr_unit.specs.Conflicts.{lacks_key, command_conflicts}
 use Rattle.pr_unit.specs.Faults.{illegal, preempt_fault, command_fault}
 use Rattle.pr_unit.specs.Laws.{EffectsAreWellFormed}
@@ -50,7 +50,7 @@ has_kind u sark kind none = at (sark == 0 && not (is_held_by_all u.held)) kind (
 well_formed-after_register : (u : State) (h key : ℕ) → IsWellFormedRegistry u → h < u.hosts → key < 2 ^ 64 → IsWellFormedRegistry (after_register u h key)
 well_formed-after_register u h key w there fits = at (key == 0) (is_registered u h) refl
   where
-    at : (b c : Bool) → (key == 0) ≡ b → IsWellFormedRegistry (if b then (if c then unregistered u h else u) else registered u h key)
+    at : (b c : Bool) → (key == 0) ≡ b → IsWellFormedRegistry (if b then (if c then without_registration u h else u) else with_registration u h key)
     at true true is = well_formed-unregistered u h w
     at true false is = w
     at false c is = let key_is : IsKey key = (grind (arith, nat_tests), fits) in well_formed-registered u h key w there key_is
@@ -79,7 +79,7 @@ well_formed-after u h (ReportCapabilities alloc) w there fits free whole = w
 hosts-after_register : (u : State) (h key : ℕ) → (after_register u h key).hosts ≡ u.hosts
 hosts-after_register u h key = at (key == 0) (is_registered u h)
   where
-    at : (b c : Bool) → (if b then (if c then unregistered u h else u) else registered u h key).hosts ≡ u.hosts
+    at : (b c : Bool) → (if b then (if c then without_registration u h else u) else with_registration u h key).hosts ≡ u.hosts
     at true true = refl
     at true false = refl
     at false c = refl
@@ -129,7 +129,7 @@ told_with u s k q code w are known is =
 -- a pair is pending after a change since it was before, or since one of the three codes was told
 told_is_of_host : (u : UnitState) (c : Change) (q code : ℕ) → IsWellFormed u
     → AreRegistered u.registry c.told_03 → AreRegistered u.registry c.told_04 → AreRegistered u.registry c.told_05
-    → set.contains (told u.pending c) (q, code) ≡ true → IsOfHost u.registry.hosts q code
+    → set.contains (pending_after u.pending c) (q, code) ≡ true → IsOfHost u.registry.hosts q code
 told_is_of_host u c q code w t3 t4 t5 is =
     let e3 = each_with c.told_03 reservations_preempted in
     let e4 = each_with c.told_04 reservations_released in

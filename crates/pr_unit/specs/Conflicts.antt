@@ -28,21 +28,21 @@ abbrev pub preempt_conflicts : State → ℕ → ℕ → ℕ → Bool
 preempt_conflicts u h rk sark = lacks_key u h rk || (not (sark == 0) && has_no_registrant u.keys sark)
 
 -- to whom a reservation leaves an access
-abbrev pub reading : Kind → Access
-reading WriteExclusive = Everybody
-reading ExclusiveAccess = Holder
-reading WriteExclusiveRegistrantsOnly = Everybody
-reading ExclusiveAccessRegistrantsOnly = Registrants
-reading WriteExclusiveAllRegistrants = Everybody
-reading ExclusiveAccessAllRegistrants = Registrants
+abbrev pub read_access : Kind → Access
+read_access WriteExclusive = Everybody
+read_access ExclusiveAccess = Holder
+read_access WriteExclusiveRegistrantsOnly = Everybody
+read_access ExclusiveAccessRegistrantsOnly = Registrants
+read_access WriteExclusiveAllRegistrants = Everybody
+read_access ExclusiveAccessAllRegistrants = Registrants
 
-abbrev pub writing : Kind → Access
-writing WriteExclusive = Holder
-writing ExclusiveAccess = Holder
-writing WriteExclusiveRegistrantsOnly = Registrants
-writing ExclusiveAccessRegistrantsOnly = Registrants
-writing WriteExclusiveAllRegistrants = Registrants
-writing ExclusiveAccessAllRegistrants = Registrants
+abbrev pub write_access : Kind → Access
+write_access WriteExclusive = Holder
+write_access ExclusiveAccess = Holder
+write_access WriteExclusiveRegistrantsOnly = Registrants
+write_access ExclusiveAccessRegistrantsOnly = Registrants
+write_access WriteExclusiveAllRegistrants = Registrants
+write_access ExclusiveAccessAllRegistrants = Registrants
 
 abbrev pub is_denied : State → ℕ → Access → Bool
 is_denied u h Everybody = false
@@ -58,8 +58,8 @@ access_conflicts u h (Some v) access = is_denied u h (access (kind_of v))
 abbrev pub command_conflicts : State → ℕ → Command → Bool
 command_conflicts u h TestUnitReady = false
 command_conflicts u h RequestSense = false
-command_conflicts u h (Read lba blocks) = access_conflicts u h u.held reading
-command_conflicts u h (Write lba blocks) = access_conflicts u h u.held writing
+command_conflicts u h (Read lba blocks) = access_conflicts u h u.held read_access
+command_conflicts u h (Write lba blocks) = access_conflicts u h u.held write_access
 command_conflicts u h (ReadKeys alloc) = false
 command_conflicts u h (ReadReservation alloc) = false
 command_conflicts u h (ReportCapabilities alloc) = false

@@ -6,7 +6,7 @@ use Rattle.pr_cdb.specs.declared.reply.Reply.{Reply}
 use Rattle.pr_cdb.specs.declared.wire.Request.{Request}
 use Rattle.pr_cdb.specs.declared.wire.Bad.{Bad}
 use Rattle.pr_unit.specs.Attentions.{is_attention}
-use Rattle.pr_unit.specs.UnitStates.{UnitState, is_pending, reported, effect}
+use Rattle.pr_unit.specs.UnitStates.{UnitState, is_pending, after_report, effect}
 use Rattle.pr_unit.specs.Replies.{good, report, data_of}
 use Rattle.pr_unit.specs.Steps.{Step, Reports}
 
@@ -25,7 +25,7 @@ Follows u h (Err bad) r false u' = u' ≡ u
 -- True: the reply reports this attention, which was pending and alone is no more. False: it does not, or
 -- the attention is not pending, and nothing changes.
 abbrev pub IsReported : UnitState → ℕ → Request → Reply → ℕ → Bool → UnitState → Type 0
-IsReported u h q r code true u' = (is_pending u h code ≡ true) × (r ≡ report q code) × (u' ≡ reported u h code)
+IsReported u h q r code true u' = (is_pending u h code ≡ true) × (r ≡ report q code) × (u' ≡ after_report u h code)
 IsReported u h q r code false u' = (u' ≡ u) × (is_pending u h code ≡ true → r ≡ report q code → ⊥)
 
 -- the same of some attention

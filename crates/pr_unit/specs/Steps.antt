@@ -9,7 +9,7 @@ use Rattle.pr_cdb.specs.declared.wire.Bad.{Bad}
 use Rattle.pr_unit.specs.declared.decision.Decision.{Decision}
 use Rattle.pr_unit.specs.declared.decision.Decision.TheVariants.{PowerOn, Conflicting, Attention, AtFault, Done}
 use Rattle.pr_unit.specs.Attentions.{power_on}
-use Rattle.pr_unit.specs.UnitStates.{UnitState, is_pending, is_any_pending, effect, reported}
+use Rattle.pr_unit.specs.UnitStates.{UnitState, is_pending, is_any_pending, effect, after_report}
 use Rattle.pr_unit.specs.Conflicts.{conflicts}
 use Rattle.pr_unit.specs.Faults.{fault}
 use Rattle.pr_unit.specs.Replies.{good, check, conflict, report, is_request_sense, data_of}
@@ -38,10 +38,10 @@ pub record Reports (u : UnitState) (h : ℕ) (q : Request) (r : Reply) (u' : Uni
   pub code : ℕ
   pub pending : IsTrue (is_pending u h code)
   pub reply : r ≡ report q code
-  pub after : u' ≡ reported u h code
+  pub after : u' ≡ after_report u h code
 
 abbrev pub StepBy : Decision → UnitState → ℕ → Request → Reply → UnitState → Type 0
-StepBy PowerOn u h q r u' = (r ≡ report q power_on) × (u' ≡ reported u h power_on)
+StepBy PowerOn u h q r u' = (r ≡ report q power_on) × (u' ≡ after_report u h power_on)
 StepBy Conflicting u h q r u' = (r ≡ conflict) × (u' ≡ u)
 StepBy Attention u h q r u' = Reports u h q r u'
 StepBy (AtFault sense) u h q r u' = (r ≡ check sense) × (u' ≡ u)

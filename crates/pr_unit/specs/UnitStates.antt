@@ -40,18 +40,18 @@ pub record IsWellFormed (u : UnitState) : Type 0 where
   pub pending : (h code : ℕ) → is_pending u h code ≡ true → (h < u.registry.hosts) × IsTrue (is_attention code)
 
 -- nothing is pending
-abbrev pub quiet : State → UnitState
-quiet registry = record { registry = registry; pending = set.empty }
+abbrev pub quiet_unit : State → UnitState
+quiet_unit registry = record { registry = registry; pending = set.empty }
 
 -- what is pending once a service action has told whom it tells
-abbrev pub told : Pairs → Change → Pairs
-told pending c =
+abbrev pub pending_after : Pairs → Change → Pairs
+pending_after pending c =
     set.union (set.union (set.union pending (each_with c.told_03 reservations_preempted)) (each_with c.told_04 reservations_released)) (each_with c.told_05 registrations_preempted)
 
 -- the state after a command of h that ends GOOD
 abbrev pub effect : UnitState → ℕ → Command → UnitState
-effect u h c = record { registry = after u.registry h c; pending = told u.pending (change u.registry h c) }
+effect u h c = record { registry = after u.registry h c; pending = pending_after u.pending (change u.registry h c) }
 
 -- the state once this code of h has been reported
-abbrev pub reported : UnitState → ℕ → ℕ → UnitState
-reported u h code = record u { pending = set.remove u.pending (h, code) }
+abbrev pub after_report : UnitState → ℕ → ℕ → UnitState
+after_report u h code = record u { pending = set.remove u.pending (h, code) }

@@ -1,7 +1,7 @@
 //! To whom a reservation leaves an access.
 
 ghost use Rattle.std.specs.Prelude.{◌≡◌, ◌<◌};
-ghost use Rattle.pr_unit.specs.Conflicts.{reading, writing, is_denied, access_conflicts};
+ghost use Rattle.pr_unit.specs.Conflicts.{read_access, write_access, is_denied, access_conflicts};
 ghost use Rattle.pr_registry.specs.Registrations.{kind_of};
 
 use pr_cdb::Kind;
@@ -16,8 +16,8 @@ pub(crate) enum Access {
 }
 
 /// Who may read the medium under a reservation of this type.
-fn reading(kind: Kind) -> Access
-    ensures { result ≡ reading kind }
+fn read_access(kind: Kind) -> Access
+    ensures { result ≡ read_access kind }
 {
     match kind {
         Kind::WriteExclusive => Access::Everybody,
@@ -30,8 +30,8 @@ fn reading(kind: Kind) -> Access
 }
 
 /// Who may write it.
-fn writing(kind: Kind) -> Access
-    ensures { result ≡ writing kind }
+fn write_access(kind: Kind) -> Access
+    ensures { result ≡ write_access kind }
 {
     match kind {
         Kind::WriteExclusive | Kind::ExclusiveAccess => Access::Holder,
@@ -64,21 +64,21 @@ fn is_denied(registry: &Registry, host: u8, access: Access) -> bool
 /// Whether the reservation keeps the host from reading the medium.
 pub(crate) fn reading_conflicts(registry: &Registry, host: u8) -> bool
     requires { host < registry.now.hosts }
-    ensures { result ≡ access_conflicts registry.now host registry.now.held reading }
+    ensures { result ≡ access_conflicts registry.now host registry.now.held read_access }
 {
     match registry.held() {
         None => false,
-        Some(held) => is_denied(registry, host, reading(kind_of(held))),
+        Some(held) => is_denied(registry, host, read_access(kind_of(held))),
     }
 }
 
 /// Whether the reservation keeps the host from writing it.
 pub(crate) fn writing_conflicts(registry: &Registry, host: u8) -> bool
     requires { host < registry.now.hosts }
-    ensures { result ≡ access_conflicts registry.now host registry.now.held writing }
+    ensures { result ≡ access_conflicts registry.now host registry.now.held write_access }
 {
     match registry.held() {
         None => false,
-        Some(held) => is_denied(registry, host, writing(kind_of(held))),
+        Some(held) => is_denied(registry, host, write_access(kind_of(held))),
     }
 }

@@ -4,7 +4,7 @@ ghost use Rattle.std.specs.Prelude.{◌≡◌, ◌<◌, ◌≤◌, ℕ, true, Is
 ghost use Rattle.std.specs.FinSet as set;
 ghost use Rattle.pr_attention.specs.Attentions.{code_of};
 ghost use Rattle.pr_unit.specs.Attentions.{each_with, table_pairs};
-ghost use Rattle.pr_unit.specs.UnitStates.{has_any, told};
+ghost use Rattle.pr_unit.specs.UnitStates.{has_any, pending_after};
 ghost use Rattle.pr_unit.specs.inside.Told.{AreBelow, TellsBelow, IsLowestOf, HasNone};
 
 use pr_attention::{Attention, Pending};
@@ -74,7 +74,7 @@ pub(crate) fn tell(pendings: &mut [Pending; MOST_NEXUSES], hosts: &HostSet, atte
 /// Makes pending what a change tells.
 pub(crate) fn tell_change(pendings: &mut [Pending; MOST_NEXUSES], change: &Change)
     requires { TellsBelow MOST_NEXUSES change.now }
-    ensures { table_pairs pendings.new ≡ told (table_pairs pendings.old) change.now }
+    ensures { table_pairs pendings.new ≡ pending_after (table_pairs pendings.old) change.now }
 {
     tell(pendings, &change.told_03, Attention::ReservationsPreempted);
     tell(pendings, &change.told_04, Attention::ReservationsReleased);

@@ -2,7 +2,7 @@
 
 ghost use Rattle.std.specs.Prelude.{◌≡◌, ◌<◌, ◌≤◌, ◌↔◌, ℕ, true, IsTrue, IsSome, IfSome, length};
 ghost use Rattle.std.specs.FinSet as set;
-ghost use Rattle.pr_cdb.specs.Requests.{requested};
+ghost use Rattle.pr_cdb.specs.Requests.{request_of_wire};
 ghost use Rattle.pr_attention.specs.Attentions.{AreAttentions, is_attention};
 ghost use Rattle.pr_unit.specs.Attentions.{place, table_pairs};
 
@@ -40,10 +40,10 @@ impl Model for Unit {
 }
 
 impl Unit {
-    ghost use Rattle.pr_registry.specs.Registrations.{fresh};
+    ghost use Rattle.pr_registry.specs.Registrations.{empty_registry};
     ghost use Rattle.pr_cdb.specs.declared.wire.Request.TheVariants.{Plain};
     ghost use Rattle.pr_cdb.specs.declared.reply.Reply.{Reply};
-    ghost use Rattle.pr_unit.specs.UnitStates.{UnitState, IsWellFormed, unit_of, is_pending, quiet};
+    ghost use Rattle.pr_unit.specs.UnitStates.{UnitState, IsWellFormed, unit_of, is_pending, quiet_unit};
     ghost use Rattle.pr_unit.specs.Replies.{is_good};
     ghost use Rattle.pr_unit.specs.Conflicts.{command_conflicts};
     ghost use Rattle.pr_unit.specs.Steps.{Step, Executes, decision, ends_good};
@@ -53,14 +53,14 @@ impl Unit {
     pub fn new(hosts: u8) -> Self
         requires some { 1 ≤ hosts }
         requires most { hosts ≤ MOST_NEXUSES }
-        ensures { result ≡ quiet (fresh hosts) }
+        ensures { result ≡ quiet_unit (empty_registry hosts) }
     {
         Unit::of(Registry::new(hosts))
     }
 
     /// A unit with this registry and nothing pending.
     pub fn of(registry: Registry) -> Self
-        ensures { result ≡ quiet registry }
+        ensures { result ≡ quiet_unit registry }
     {
         // A registry says with its size that it is well formed.
         let _ = registry.hosts();
@@ -125,7 +125,7 @@ impl Unit {
     /// Executes a command of a host, and answers it. Where the bytes are no request, nothing changes.
     pub fn execute(&mut self, host: u8, wire: &Wire) -> Result<Reply, Bad>
         requires { host < self.old.registry.hosts }
-        ensures { Executes self.old host (requested wire.now) result self.new }
+        ensures { Executes self.old host (request_of_wire wire.now) result self.new }
     {
         let request = decode(&wire.cdb, &wire.params)?;
         Ok(answer(&mut self.registry, &mut self.pending, host, request))
@@ -135,7 +135,7 @@ impl Unit {
     /// chooses to report. Where it may, it is in the state after that answer; else nothing changes.
     pub fn follow(&mut self, host: u8, wire: &Wire, reply: &Reply) -> bool
         requires { host < self.old.registry.hosts }
-        ensures { Follows self.old host (requested wire.now) reply.now result self.new }
+        ensures { Follows self.old host (request_of_wire wire.now) reply.now result self.new }
     {
         match decode(&wire.cdb, &wire.params) {
             Ok(request) => follow(&mut self.registry, &mut self.pending, host, request, reply),

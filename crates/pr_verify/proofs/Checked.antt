@@ -13,7 +13,7 @@ use Rattle.pr_verify.specs.declared.refusal.Refusal.{Refusal}
 use Rattle.pr_verify.specs.declared.refusal.Refusal.TheVariants.{NoArm, OutOfRole, OverBudget, Memory, NotSound}
 use Rattle.pr_verify.specs.Places.{Place, places_of}
 use Rattle.pr_verify.specs.Outlines.{Outline, IsOfScenario, StartsAt, ComesTo, IsLeftAt, IsAsked, at_start, by_itself, by_another, IsListed, IsSound, IsFitting, KeepsToRole}
-use Rattle.pr_verify.specs.Refusals.{differing, DiffersAt, LacksFirst, BreaksRole, LacksArmFirst, FitsAt, IsUnfitAt, IsRefusal}
+use Rattle.pr_verify.specs.Refusals.{first_difference, DiffersAt, LacksFirst, BreaksRole, LacksArmFirst, FitsAt, IsUnfitAt, IsRefusal}
 use Rattle.pr_verify.specs.inside.Listing.{place_of, IsPlaceWritten}
 use Rattle.pr_verify.specs.inside.Least.{least, Among, EachOf}
 use Rattle.pr_verify.specs.inside.Lacking.{HasAll, Lacks, IsFirstLacking}
@@ -46,17 +46,17 @@ module _ (script : Stmts) (spots : List Spot) (places : map place_of spots ≡ p
     is_listed same = map-map (λ (e : ℕ × View). e.0) (λ e. (e.0, f e.1)) views ∙ same ∙ sym place_lines
 
     -- others
-    pub differs_at : (line : ℕ) → differing (map (λ e. e.0) views) (map (λ (x : Spot). x.line) spots) ≡ Some line → DiffersAt script (record { host = host; views = entries f views }) line
+    pub differs_at : (line : ℕ) → first_difference (map (λ e. e.0) views) (map (λ (x : Spot). x.line) spots) ≡ Some line → DiffersAt script (record { host = host; views = entries f views }) line
     differs_at line is =
-        (λ i. differing (map-map (λ (e : ℕ × View). e.0) (λ e. (e.0, f e.1)) views i) (place_lines i)) ∙ is
+        (λ i. first_difference (map-map (λ (e : ℕ × View). e.0) (λ e. (e.0, f e.1)) views i) (place_lines i)) ∙ is
 
 -- the lines of lists that were read
-pub differing_read : {A : Type 0} (read views : List (ℕ × A)) (also spots : List Spot) (found : Option ℕ) → read ≡ views → also ≡ spots → found ≡ differing (map (λ e. e.0) read) (map (λ (x : Spot). x.line) also)
-    → differing (map (λ e. e.0) views) (map (λ (x : Spot). x.line) spots) ≡ found
+pub differing_read : {A : Type 0} (read views : List (ℕ × A)) (also spots : List Spot) (found : Option ℕ) → read ≡ views → also ≡ spots → found ≡ first_difference (map (λ e. e.0) read) (map (λ (x : Spot). x.line) also)
+    → first_difference (map (λ e. e.0) views) (map (λ (x : Spot). x.line) spots) ≡ found
 differing_read read views also spots found same alike is =
-    (λ i. differing (map (λ e. e.0) (sym same i)) (map (λ (x : Spot). x.line) (sym alike i))) ∙ sym is
+    (λ i. first_difference (map (λ e. e.0) (sym same i)) (map (λ (x : Spot). x.line) (sym alike i))) ∙ sym is
 
-pub same_lines : {A : Type 0} (read views : List (ℕ × A)) (also spots : List Spot) (found : Option ℕ) → read ≡ views → also ≡ spots → found ≡ differing (map (λ e. e.0) read) (map (λ (x : Spot). x.line) also) → found ≡ None
+pub same_lines : {A : Type 0} (read views : List (ℕ × A)) (also spots : List Spot) (found : Option ℕ) → read ≡ views → also ≡ spots → found ≡ first_difference (map (λ e. e.0) read) (map (λ (x : Spot). x.line) also) → found ≡ None
     → map (λ e. e.0) views ≡ map (λ (x : Spot). x.line) spots
 same_lines read views also spots found same alike is none =
     differing_none (map (λ e. e.0) views) (map (λ (x : Spot). x.line) spots) (differing_read read views also spots found same alike is ∙ none)

@@ -9,7 +9,7 @@ use Rattle.pr_cdb.specs.declared.wire.Wire.{Wire}
 use Rattle.pr_unit.specs.UnitStates.{UnitState}
 use Rattle.pr_script.specs.Scripts.{Configuration}
 use Rattle.pr_roles.specs.Scenarios.{Scenario, Nexus, nexus, task}
-use Rattle.pr_roles.specs.Worlds.{World, Control, Going, Free, taken, control, control_of, after, world_from}
+use Rattle.pr_roles.specs.Worlds.{World, Control, Going, Free, control_after, control, control_of, after, world_from}
 
 -- one that is not there does nothing
 pub nobody_at_start : (s : Scenario) (u : UnitState) (h : ℕ) → task s h ≡ None → control (world_from s u) h ≡ Free
@@ -34,20 +34,20 @@ at_another (c ∷ cs) (suc g) zero x other = refl
 at_another (c ∷ cs) (suc g) (suc h) x other = at_another cs g h x (λ same. other (ap suc same))
 
 pub control_other : (w : World) (g line : ℕ) (wire : Wire) (r : Reply) (u : UnitState) (h : ℕ) → h ≢ g → control (after w g line wire r u) h ≡ control w h
-control_other w g line wire r u h other = ap (λ o. option_map_or (λ c. c) o Free) (at_another w.controls g h (taken line (control w g) r) other)
+control_other w g line wire r u h other = ap (λ o. option_map_or (λ c. c) o Free) (at_another w.controls g h (control_after line (control w g) r) other)
 
 -- a script takes the reply
-pub control_going : (w : World) (h line : ℕ) (wire : Wire) (r : Reply) (u : UnitState) (l : Configuration) → control w h ≡ Going l → control (after w h line wire r u) h ≡ taken line (Going l) r
-control_going w h line wire r u l is = ap (λ o. option_map_or (λ c. c) o Free) (at_itself w.controls h (taken line (control w h) r)) ∙ at (slice_get w.controls h) is ∙ ap (λ c. taken line c r) is
+pub control_going : (w : World) (h line : ℕ) (wire : Wire) (r : Reply) (u : UnitState) (l : Configuration) → control w h ≡ Going l → control (after w h line wire r u) h ≡ control_after line (Going l) r
+control_going w h line wire r u l is = ap (λ o. option_map_or (λ c. c) o Free) (at_itself w.controls h (control_after line (control w h) r)) ∙ at (slice_get w.controls h) is ∙ ap (λ c. control_after line c r) is
   where
-    at : (o : Option Control) → option_map_or (λ c. c) o Free ≡ Going l → option_map_or (λ c. c) (option_map (λ c. taken line (control w h) r) o) Free ≡ taken line (control w h) r
+    at : (o : Option Control) → option_map_or (λ c. c) o Free ≡ Going l → option_map_or (λ c. c) (option_map (λ c. control_after line (control w h) r) o) Free ≡ control_after line (control w h) r
     at None is = let bad : Free ≡ Going l = is in cc
     at (Some c) is = refl
 
 -- a guest stays one
 pub control_free : (w : World) (h line : ℕ) (wire : Wire) (r : Reply) (u : UnitState) → control w h ≡ Free → control (after w h line wire r u) h ≡ Free
-control_free w h line wire r u is = ap (λ o. option_map_or (λ c. c) o Free) (at_itself w.controls h (taken line (control w h) r)) ∙ at (slice_get w.controls h)
+control_free w h line wire r u is = ap (λ o. option_map_or (λ c. c) o Free) (at_itself w.controls h (control_after line (control w h) r)) ∙ at (slice_get w.controls h)
   where
-    at : (o : Option Control) → option_map_or (λ c. c) (option_map (λ c. taken line (control w h) r) o) Free ≡ Free
+    at : (o : Option Control) → option_map_or (λ c. c) (option_map (λ c. control_after line (control w h) r) o) Free ≡ Free
     at None = refl
-    at (Some c) = ap (λ c. taken line c r) is
+    at (Some c) = ap (λ c. control_after line c r) is

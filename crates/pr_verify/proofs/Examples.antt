@@ -6,15 +6,15 @@ use Rattle.std.proofs.lemmas.Bool.{false≢true}
 use Rattle.std.proofs.lemmas.Option.{none-some, same_Some}
 use Rattle.pr_cdb.specs.declared.command.Command.TheVariants.{TestUnitReady}
 use Rattle.pr_attention.specs.Attentions.{no_code}
-use Rattle.pr_registry.specs.Registrations.{fresh, key_of}
+use Rattle.pr_registry.specs.Registrations.{empty_registry, key_of}
 use Rattle.pr_registry.proofs.Sets.{get-empty}
 use Rattle.pr_registry.proofs.States.{well_formed-fresh}
-use Rattle.pr_unit.specs.UnitStates.{UnitState, is_any_pending, effect, quiet}
+use Rattle.pr_unit.specs.UnitStates.{UnitState, is_any_pending, effect, quiet_unit}
 use Rattle.pr_unit.specs.Replies.{good}
 use Rattle.pr_unit.proofs.GoodSteps.{good_step}
 use Rattle.pr_unit.proofs.Pairs.{contains-none}
 use Rattle.pr_script.specs.declared.script.Test.TheVariants.{Good, Conflict}
-use Rattle.pr_script.specs.Scripts.{Stmt, Stmts, sends, repeats, breaks, stops, none, more, no_arm, arm, settled}
+use Rattle.pr_script.specs.Scripts.{Stmt, Stmts, sends, repeats, breaks, stops, none, more, no_arm, arm, settled_form}
 use Rattle.pr_roles.specs.Scenarios.{Scenario, Nexus, Scripted, nexus}
 use Rattle.pr_roles.specs.Starts.{IsAllowedStart}
 use Rattle.pr_roles.specs.Worlds.{World, Host, HostSends, after, control, is_trapped, world_from}
@@ -82,7 +82,7 @@ lacking = record {
 }
 
 fresh_unit : UnitState
-fresh_unit = quiet (fresh 1)
+fresh_unit = quiet_unit (empty_registry 1)
 
 unregistered : (h : ℕ) (n : Nexus) → nexus lacking h ≡ Some n → Contains n.start (key_of fresh_unit.registry h)
 unfolding lacking fresh_unit
@@ -107,7 +107,7 @@ answered : World
 answered = after (world_from lacking fresh_unit) 0 1 (spelling TestUnitReady) (good []) (effect fresh_unit 0 TestUnitReady)
 
 is_answered : HostSends (world_from lacking fresh_unit) 0 answered
-unfolding lacking answered settled
+unfolding lacking answered settled_form
 is_answered = record {
   line = 1;
   command = TestUnitReady;
@@ -119,7 +119,7 @@ is_answered = record {
 }
 
 gets_trapped : is_trapped (control answered 0) ≡ true
-unfolding lacking answered settled
+unfolding lacking answered settled_form
 gets_trapped = refl
 
 is_not_safe : IsSafe lacking → ⊥

@@ -16,14 +16,14 @@ use Rattle.pr_cdb.proofs.ReadsInRange.{reads_fit}
 use Rattle.pr_unit.specs.UnitStates.{UnitState}
 use Rattle.pr_unit.specs.Replies.{is_good}
 use Rattle.pr_unit.specs.Steps.{Step}
-use Rattle.pr_script.specs.Scripts.{Stmts, Configuration, ready, begun}
+use Rattle.pr_script.specs.Scripts.{Stmts, Configuration, ready, first_configuration}
 use Rattle.pr_script.specs.Takes.{take}
 use Rattle.pr_script.specs.Costs.{cost_of_all}
 use Rattle.pr_script.proofs.Spending.{cost_bounds_sends}
 use Rattle.pr_roles.specs.Permits.{command_permitted}
 use Rattle.pr_roles.specs.Scenarios.{Scenario, Task, Scripted, Planned, role, task}
 use Rattle.pr_roles.specs.Starts.{IsAllowedStart}
-use Rattle.pr_roles.specs.Worlds.{World, Going, Free, Event, Host, Guest, HostSends, GuestSends, Happens, Run, after, control, going_or_trapped, is_guest_task, sent, standing_of, taken, world_from}
+use Rattle.pr_roles.specs.Worlds.{World, Going, Free, Event, Host, Guest, HostSends, GuestSends, Happens, Run, after, control, going_or_trapped, is_guest_task, commands_by, standing_of, control_after, world_from}
 use Rattle.pr_roles.specs.Safety.{KeepsRole, KeepsRoles}
 use Rattle.pr_roles.proofs.Controls.{there, at_start as begins}
 use Rattle.pr_domain.specs.Interference.{IsDone}
@@ -45,7 +45,7 @@ pub record IsOnCourse (s : Scenario) (h : ℕ) (script : Stmts) (budget : ℕ) (
   pub lines : List ℕ
   pub leads : Leads (places_of script) lines rest
   pub shown : (line : ℕ) → Contains lines line → IsShownAt outlined.outline line w.unit
-  pub spent : IsWithinCost (sent w.entries h) rest (cost_of_all script)
+  pub spent : IsWithinCost (commands_by w.entries h) rest (cost_of_all script)
 
 abbrev pub IsKeptBy : Option Task → Scenario → World → ℕ → Type 0
 IsKeptBy None s w h = control w h ≡ Free
@@ -64,7 +64,7 @@ on_course_at_start : (s : Scenario) (u : UnitState) (h : ℕ) (script : Stmts) (
     → IsOnCourse s h script budget (world_from s u)
 on_course_at_start s u h script budget o allowed is = record {
   outlined = o;
-  rest = begun script;
+  rest = first_configuration script;
   going = begins s u h (Scripted script budget) is;
   lines = first_lines script;
   leads = leads_begun script;
@@ -86,7 +86,7 @@ kept_at_start s u have allowed h = at (task s h) refl
 pub record IsMove (s : Scenario) (g : ℕ) (w v : World) : Type 0 where
   pub there : g < length s.nexuses
   pub controls : (h : ℕ) → h ≢ g → control v h ≡ control w h
-  pub entries : (h : ℕ) → h ≢ g → sent v.entries h ≡ sent w.entries h
+  pub entries : (h : ℕ) → h ≢ g → commands_by v.entries h ≡ commands_by w.entries h
   pub unit : (v.unit ≡ w.unit) ⊎ IsDone (role s g) g w.unit v.unit
 
 move : (s : Scenario) (g : ℕ) (w : World) (line : ℕ) (wire : Wire) (r : Reply) (u : UnitState) → g < length s.nexuses → (u ≡ w.unit) ⊎ IsDone (role s g) g w.unit u
@@ -164,17 +164,17 @@ own_kept s h script budget w x n c wire r u at own = goes_on (take x.rest r) ref
     arm = takes_reply s h script budget x.outlined at.place w.unit r u own
 
     goes_on : (o : Option Configuration) → take x.rest r ≡ o → LeadsOn (places_of script) arm.0 o → IsOnCourse s h script budget (after w h n wire r u)
-    goes_on None taken leads = absurd leads
-    goes_on (Some m) taken leads = record {
+    goes_on None control_after leads = absurd leads
+    goes_on (Some m) control_after leads = record {
       outlined = x.outlined;
       rest = m;
-      going = control_going w h n wire r u x.rest x.going ∙ ap (going_or_trapped n) taken;
+      going = control_going w h n wire r u x.rest x.going ∙ ap (going_or_trapped n) control_after;
       lines = arm.0;
       leads = leads;
       shown = λ line there.
           x.outlined.sound.shows line u (by_itself at.place at.listed (record { from = w.unit; shown = own.shown; reply = r; step = own.step; next = arm.0; follows = arm.1; there = there }));
       spent = subst (λ k. IsWithinCost k m (cost_of_all script)) (sym (sent_own w.entries (record { host = h; wire = wire; reply = r }) h refl))
-          (within_cost_taken (sent w.entries h) x.rest m r (cost_of_all script) at.one taken x.spent);
+          (within_cost_taken (commands_by w.entries h) x.rest m r (cost_of_all script) at.one control_after x.spent);
     }
 
 -- what an event leaves, and that it keeps to the role

@@ -3,7 +3,7 @@
 use Rattle.std.proofs.Common.{◌≡◌, ℕ, zero, suc, ◌<◌, List, [], ◌∷◌, ◌++◌, refl, sym, subst, inl, inr, ◌⊎◌, arith}
 use Rattle.std.specs.List.{Contains}
 use Rattle.std.proofs.lemmas.List.Elements.{Contains-append_left, Contains-append_right, Contains-append_cases}
-use Rattle.pr_script.specs.Scripts.{Stmt, Stmts, sends, repeats, breaks, stops, none, more, statement, mark, Configuration, before, past_mark, becomes, settled, begun}
+use Rattle.pr_script.specs.Scripts.{Stmt, Stmts, sends, repeats, breaks, stops, none, more, statement, mark, Configuration, before, past_mark, becomes, settled_form, first_configuration}
 use Rattle.pr_script.proofs.Settling.{kept}
 use Rattle.pr_verify.specs.declared.head.Head.{Head}
 use Rattle.pr_verify.specs.declared.head.Head.TheVariants.{Line, Falls, Breaks, Stops}
@@ -176,10 +176,10 @@ leads_becomes all now ((statement breaks) ∷ l) leads =
     (past.0, wider all (past_mark l) leads.0 now past.0 leads.1.1 past.1)
 leads_becomes all now ((statement (stops w)) ∷ l) leads = leads
 
-pub leads_settled : (all : List Place) (now : List ℕ) (l : Configuration) → Leads all now l → Leads all now (settled l)
+pub leads_settled : (all : List Place) (now : List ℕ) (l : Configuration) → Leads all now l → Leads all now (settled_form l)
 leads_settled all now l leads = kept (Leads all now) (leads_becomes all now) l leads
 
 -- a script at its beginning leads to its first lines
-pub leads_begun : (script : Stmts) → Leads (places_of script) (first_lines script) (begun script)
+pub leads_begun : (script : Stmts) → Leads (places_of script) (first_lines script) (first_configuration script)
 leads_begun script =
     leads_settled (places_of script) (first_lines script) (before script []) ([], goes_before (places_of script) script [] [] [] (λ p there. there) tt)

@@ -19,7 +19,7 @@ use Rattle.pr_verify.specs.Laws.{ReasonsAreFinal}
 use Rattle.pr_verify.specs.Places.{Place, places_of}
 use Rattle.pr_verify.specs.Outlines.{Outline, view_at, scope_in, ShowsIn, IsShownAt, IsSound, HasOutline, HaveOutlines, OnScripted}
 use Rattle.pr_verify.specs.LeastOutlines.{IsWithinIn, IsLeastSound}
-use Rattle.pr_verify.specs.Refusals.{differing, BreaksRole, LacksArm, DiffersAt, LacksFirst, IsRefusal}
+use Rattle.pr_verify.specs.Refusals.{first_difference, BreaksRole, LacksArm, DiffersAt, LacksFirst, IsRefusal}
 use Rattle.pr_verify.specs.Verdicts.{HasReason, IsFirstReason, IsVerdict}
 use Rattle.pr_roles.proofs.Controls.{there}
 
@@ -90,18 +90,18 @@ is_verdict s h (NotSound host line) has before = (has (λ is. let e : NotSound h
 
 -- ---- what the check of the least sound outline finds
 
-differing_same : (ls : List ℕ) (line : ℕ) → differing ls ls ≡ Some line → ⊥
+differing_same : (ls : List ℕ) (line : ℕ) → first_difference ls ls ≡ Some line → ⊥
 differing_same [] line is = none-some line is
 differing_same (n ∷ ns) line is = at (eqb_tells n n) (differing_same ns line)
   where
-    at : (((n == n) ≡ true) × (n ≡ n)) ⊎ (((n == n) ≡ false) × (n ≢ n)) → (differing ns ns ≡ Some line → ⊥) → ⊥
-    at (inl same) rest = rest (sym (ap (λ b. if b then differing ns ns else Some (min n n)) same.0) ∙ is)
+    at : (((n == n) ≡ true) × (n ≡ n)) ⊎ (((n == n) ≡ false) × (n ≢ n)) → (first_difference ns ns ≡ Some line → ⊥) → ⊥
+    at (inl same) rest = rest (sym (ap (λ b. if b then first_difference ns ns else Some (min n n)) same.0) ∙ is)
     at (inr other) rest = other.1 refl
 
 module _ (s : Scenario) (h : ℕ) (script : Stmts) (budget : ℕ) (is : task s h ≡ Some (Scripted script budget)) (o : Outline) (host : o.host ≡ h) (least : IsLeastSound s script o) where
   never_unsound : (line : ℕ) → DiffersAt script o line ⊎ LacksFirst s script o line → ⊥
   never_unsound line (inl differs) =
-      differing_same (map (λ (p : Place). p.line) (places_of script)) line (ap (λ ls. differing ls (map (λ (p : Place). p.line) (places_of script))) (sym least.sound.listed) ∙ differs)
+      differing_same (map (λ (p : Place). p.line) (places_of script)) line (ap (λ ls. first_difference ls (map (λ (p : Place). p.line) (places_of script))) (sym least.sound.listed) ∙ differs)
   never_unsound line (inr first) = first.lacks.missing (least.sound.shows line first.lacks.unit first.lacks.asked)
 
   pub has_reason : (refusal : Refusal) → IsRefusal s script budget o refusal → refusal ≢ Memory → HasReason s h refusal

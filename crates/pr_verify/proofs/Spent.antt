@@ -5,18 +5,18 @@ use Rattle.std.proofs.lemmas.List.Sums.{sum_by_push}
 use Rattle.pr_cdb.specs.declared.reply.Reply.{Reply}
 use Rattle.pr_script.specs.Scripts.{Configuration}
 use Rattle.pr_script.specs.Takes.{take}
-use Rattle.pr_script.specs.Costs.{commands, count_in, sent as sends_on}
+use Rattle.pr_script.specs.Costs.{commands, count_in, commands_sent as sends_on}
 use Rattle.pr_roles.specs.declared.entry.Entry.{Entry}
-use Rattle.pr_roles.specs.Worlds.{sent}
+use Rattle.pr_roles.specs.Worlds.{commands_by}
 
-pub sent_other : (es : List Entry) (e : Entry) (h : ℕ) → h ≢ e.host → sent (es ++ e ∷ []) h ≡ sent es h
+pub sent_other : (es : List Entry) (e : Entry) (h : ℕ) → h ≢ e.host → commands_by (es ++ e ∷ []) h ≡ commands_by es h
 sent_other es e h other =
     let differs : (e.host == h) ≡ false = grind (arith, nat_tests) in
     let more = sum_by_push (λ x. cond (x.host == h) 1 0) es e in
     let none = ap {B = ℕ} (λ b. cond b 1 0) differs in
     omega (arith, more, none)
 
-pub sent_own : (es : List Entry) (e : Entry) (h : ℕ) → e.host ≡ h → sent (es ++ e ∷ []) h ≡ sent es h + 1
+pub sent_own : (es : List Entry) (e : Entry) (h : ℕ) → e.host ≡ h → commands_by (es ++ e ∷ []) h ≡ commands_by es h + 1
 sent_own es e h own =
     let same : (e.host == h) ≡ true = grind (arith, nat_tests) in
     let more = sum_by_push (λ x. cond (x.host == h) 1 0) es e in
@@ -25,7 +25,7 @@ sent_own es e h own =
 
 -- with these replies to come, what was sent and what is sent yet is within the cost
 abbrev pub IsWithinCost : ℕ → Configuration → ℕ → Type 0
-IsWithinCost sent l cost = (rs : List Reply) → sent + sends_on rs l ≤ cost
+IsWithinCost commands_by l cost = (rs : List Reply) → commands_by + sends_on rs l ≤ cost
 
 -- one command more
 pub within_cost_taken : (before : ℕ) (l m : Configuration) (r : Reply) (cost : ℕ) → commands l ≡ 1 → take l r ≡ Some m → IsWithinCost before l cost → IsWithinCost (before + 1) m cost

@@ -9,7 +9,7 @@ use Rattle.pr_cdb.specs.declared.command.Command.{Command}
 use Rattle.pr_cdb.specs.declared.reply.Reply.{Reply}
 use Rattle.pr_script.specs.declared.script.Test.{Test}
 use Rattle.pr_script.specs.declared.script.Test.TheVariants as test
-use Rattle.pr_script.specs.Scripts.{Stmts, Arms, sends, repeats, breaks, stops, no_arm, arm, statement, mark, Configuration, ready, stopped, before, settled, standing}
+use Rattle.pr_script.specs.Scripts.{Stmts, Arms, sends, repeats, breaks, stops, no_arm, arm, statement, mark, Configuration, ready, stopped, before, settled_form, standing_of_items}
 use Rattle.pr_script.specs.Takes.{matches, first_match, take}
 use Rattle.pr_script.specs.Costs.{commands}
 use Rattle.pr_verify.specs.Places.{Place, first_of, tests_of, next_of, place, places, places_of_arms, follows}
@@ -22,7 +22,7 @@ LeadsOn all next (Some l) = Leads all next l
 
 -- the body of the arm is still to do, before these
 abbrev pub goes_into : Configuration → Option Stmts → Option Configuration
-goes_into l o = option_map (λ body. settled (before body l)) o
+goes_into l o = option_map (λ body. settled_form (before body l)) o
 
 -- ---- the arm that takes a reply
 
@@ -37,7 +37,7 @@ takes_arm all (arm t body rest) l left broken r zero next placed goes passes bef
     let first = leads_settled all (first_of body left broken) (before body l)
     (broken, goes_before all body l left broken (λ p there. placed p (Contains-append_left (places body left broken) (places_of_arms rest left broken) p there)) goes) in
     subst (λ b. LeadsOn all next (goes_into l (if b then Some body else first_match rest r))) (sym passes)
-    (subst (λ lines. Leads all lines (settled (before body l))) (same_Some (first_of body left broken) next is) first)
+    (subst (λ lines. Leads all lines (settled_form (before body l))) (same_Some (first_of body left broken) next is) first)
 takes_arm all (arm t body rest) l left broken r (suc i) next placed goes passes before_it is =
     subst (λ b. LeadsOn all next (goes_into l (if b then Some body else first_match rest r))) (sym (before_it 0 (omega arith)))
     (takes_arm all rest l left broken r i next (λ p there. placed p (Contains-append_right (places body left broken) (places_of_arms rest left broken) p there)) goes
@@ -80,7 +80,7 @@ ready_send all now n c a l leads =
       goes_on = λ r next is. taken_by all n c a l left broken r next (λ p among. placed p (Contains-append_right (place n c a left broken ∷ []) (places_of_arms a left broken) p among)) rest is;
     }
 
-pub ready_at : (all : List Place) (now : List ℕ) (l : Configuration) (n : ℕ) (c : Command) → Leads all now l → standing l ≡ Some (ready n c) → IsReadyAt all now l n c
+pub ready_at : (all : List Place) (now : List ℕ) (l : Configuration) (n : ℕ) (c : Command) → Leads all now l → standing_of_items l ≡ Some (ready n c) → IsReadyAt all now l n c
 ready_at all now [] n c leads is = let bad : Some (stopped (codes "end")) ≡ Some (ready n c) = is in cc
 ready_at all now (mark ∷ l) n c leads is = absurd (none-some (ready n c) is)
 ready_at all now ((statement (sends m d a)) ∷ l) n c leads is =

@@ -10,7 +10,7 @@ use Rattle.pr_cdb.specs.declared.wire.Request.{Request}
 use Rattle.pr_cdb.specs.declared.wire.Request.TheVariants.{Plain}
 use Rattle.pr_cdb.specs.Requests.{FitsWhereRead}
 use Rattle.pr_unit.specs.Attentions.{power_on}
-use Rattle.pr_unit.specs.UnitStates.{UnitState, is_pending, is_any_pending, reported}
+use Rattle.pr_unit.specs.UnitStates.{UnitState, is_pending, is_any_pending, after_report}
 use Rattle.pr_unit.specs.Conflicts.{conflicts}
 use Rattle.pr_unit.specs.Faults.{fault}
 use Rattle.pr_unit.specs.Replies.{is_good, report}
@@ -21,10 +21,10 @@ use Rattle.pr_roles.specs.Permits.{is_permitted}
 use Rattle.pr_domain.specs.Interference.{IsDone}
 
 -- the REQUEST SENSE that reports this attention
-senses_power_on : (u : UnitState) (g : ℕ) (v : UnitState) → is_pending u g power_on ≡ true → v ≡ reported u g power_on → Step u g (Plain RequestSense) (report (Plain RequestSense) power_on) v
+senses_power_on : (u : UnitState) (g : ℕ) (v : UnitState) → is_pending u g power_on ≡ true → v ≡ after_report u g power_on → Step u g (Plain RequestSense) (report (Plain RequestSense) power_on) v
 senses_power_on u g v is after = rw is (refl, after)
 
-senses : (u : UnitState) (g code : ℕ) (v : UnitState) → is_pending u g power_on ≡ false → is_any_pending u g ≡ true → is_pending u g code ≡ true → v ≡ reported u g code
+senses : (u : UnitState) (g code : ℕ) (v : UnitState) → is_pending u g power_on ≡ false → is_any_pending u g ≡ true → is_pending u g code ≡ true → v ≡ after_report u g code
     → Step u g (Plain RequestSense) (report (Plain RequestSense) code) v
 senses u g code v calm any is after = rw (any, calm) (record { code = code; pending = is; reply = refl; after = after })
 

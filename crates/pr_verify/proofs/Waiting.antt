@@ -19,11 +19,11 @@ use Rattle.pr_attention.proofs.Bits.{codes_of-zero}
 use Rattle.pr_attention.proofs.Sets.{contains-no_code}
 use Rattle.pr_registry.specs.declared.held.Held.{Held}
 use Rattle.pr_registry.specs.declared.held.Held.TheVariants.{One, All}
-use Rattle.pr_registry.specs.Registrations.{State, fresh, key_of}
+use Rattle.pr_registry.specs.Registrations.{State, empty_registry, key_of}
 use Rattle.pr_registry.proofs.Sets.{get-empty}
 use Rattle.pr_registry.proofs.States.{well_formed-fresh}
 use Rattle.pr_registry.proofs.Tables.{same_number}
-use Rattle.pr_unit.specs.UnitStates.{UnitState, IsWellFormed, is_pending, is_any_pending, effect, quiet}
+use Rattle.pr_unit.specs.UnitStates.{UnitState, IsWellFormed, is_pending, is_any_pending, effect, quiet_unit}
 use Rattle.pr_unit.specs.Replies.{is_good_status, good}
 use Rattle.pr_unit.specs.Steps.{Step}
 use Rattle.pr_unit.specs.Laws.{request_looks}
@@ -129,9 +129,9 @@ still_idle u v formed same calm i = record {
 
 own_idle : (u : UnitState) (r : Reply) (v : UnitState) → Step u 0 (Plain TestUnitReady) r v → IsIdle u → IsIdle v
 own_idle u r v step i =
-    let quiet = quiet_steps u 0 (Plain TestUnitReady) r v step (inr refl) in
+    let quiet_unit = quiet_steps u 0 (Plain TestUnitReady) r v step (inr refl) in
     let formed = well_formed-step u 0 (Plain TestUnitReady) r v i.formed (let two = i.hosts in omega arith) tt step in
-    still_idle u v formed quiet.registry (λ code. at code (is_pending v 0 code) refl (quiet.own code)) i
+    still_idle u v formed quiet_unit.registry (λ code. at code (is_pending v 0 code) refl (quiet_unit.own code)) i
   where
     at : (code : ℕ) (b : Bool) → is_pending v 0 code ≡ b → (is_pending v 0 code ≡ true → is_pending u 0 code ≡ true) → is_pending v 0 code ≡ false
     at code true is before = absurd (false≢true (sym (i.calm code) ∙ before is))
@@ -163,9 +163,9 @@ looks u g (Plain (PreemptAbort rk sark kind)) permitted = permitted
 others_idle : (g : ℕ) (u v : UnitState) → g < 2 → g ≢ 0 → IsDone (role waiting g) g u v → IsIdle u → IsIdle v
 others_idle g u v there other done i =
     let permitted = subst (λ clauses. is_permitted clauses u.registry g done.request ≡ true) (no_role g) done.permitted in
-    let quiet = quiet_steps u g done.request done.reply v done.step (inr (looks u.registry g done.request permitted)) in
+    let quiet_unit = quiet_steps u g done.request done.reply v done.step (inr (looks u.registry g done.request permitted)) in
     let formed = well_formed-step u g done.request done.reply v i.formed (let two = i.hosts in omega arith) done.fits done.step in
-    still_idle u v formed quiet.registry (λ code. quiet.others 0 code (λ same. other (sym same)) ∙ i.calm code) i
+    still_idle u v formed quiet_unit.registry (λ code. quiet_unit.others 0 code (λ same. other (sym same)) ∙ i.calm code) i
 
 -- ---- the reply is GOOD
 
@@ -276,14 +276,14 @@ waiting_is_safe : IsSafe waiting
 waiting_is_safe = outlines_make_safe waiting have_outlines
 
 -- and there is a state to start from
-unregistered : (h : ℕ) (n : Nexus) → nexus waiting h ≡ Some n → Contains n.start (key_of (quiet (fresh 2)).registry h)
-unregistered zero n is = subst (λ (m : Nexus). Contains m.start (key_of (quiet (fresh 2)).registry 0)) (same_Some host n is) (0, omega arith, sym (get-empty 0))
-unregistered (suc zero) n is = subst (λ (m : Nexus). Contains m.start (key_of (quiet (fresh 2)).registry 1)) (same_Some guest n is) (0, omega arith, sym (get-empty 1))
+unregistered : (h : ℕ) (n : Nexus) → nexus waiting h ≡ Some n → Contains n.start (key_of (quiet_unit (empty_registry 2)).registry h)
+unregistered zero n is = subst (λ (m : Nexus). Contains m.start (key_of (quiet_unit (empty_registry 2)).registry 0)) (same_Some host n is) (0, omega arith, sym (get-empty 0))
+unregistered (suc zero) n is = subst (λ (m : Nexus). Contains m.start (key_of (quiet_unit (empty_registry 2)).registry 1)) (same_Some guest n is) (0, omega arith, sym (get-empty 1))
 unregistered (suc (suc h)) n is = absurd (none-some n is)
 
 waiting_can_start : CanStart waiting
 waiting_can_start = record {
-  unit = quiet (fresh 2);
+  unit = quiet_unit (empty_registry 2);
   allowed = record {
     formed = record { registry = well_formed-fresh 2 (omega arith) (omega arith); pending = λ h code is. absurd (false≢true (sym (contains-none (h, code)) ∙ is)) };
     hosts = refl;

@@ -8,6 +8,7 @@ use Rattle.pr_cdb.specs.declared.wire.Request.TheVariants.{Plain}
 use Rattle.pr_unit.specs.UnitStates.{UnitState}
 use Rattle.pr_unit.specs.Replies.{is_good}
 use Rattle.pr_unit.specs.Steps.{Step}
+use Rattle.pr_script.specs.declared.limits.TheConstants.{MOST_BUDGET}
 use Rattle.pr_script.specs.Scripts.{Stmts}
 use Rattle.pr_script.specs.Costs.{cost_of_all}
 use Rattle.pr_roles.specs.Permits.{command_permitted}
@@ -23,7 +24,7 @@ use Rattle.pr_verify.specs.Outlines.{Outline, IsShownAt, IsAsked, IsListed, IsSo
 
 -- one more than the greatest budget: what costs more is not counted on
 abbrev pub past_budgets : ℕ
-past_budgets = 4097
+past_budgets = MOST_BUDGET + 1
 
 -- ---- an outline that is not sound
 
@@ -40,15 +41,15 @@ pub record LacksFirst (s : Scenario) (script : Stmts) (o : Outline) (line : ℕ)
   pub first : (earlier : ℕ) → earlier < line → ¬ LacksAt s script o earlier
 
 -- the smaller of two lines, at the first place at which the lists differ; where one of them ends there, the other's line
-abbrev pub differing : List ℕ → List ℕ → Option ℕ
-differing [] [] = None
-differing [] (n ∷ ns) = Some n
-differing (m ∷ ms) [] = Some m
-differing (m ∷ ms) (n ∷ ns) = if m == n then differing ms ns else Some (min m n)
+abbrev pub first_difference : List ℕ → List ℕ → Option ℕ
+first_difference [] [] = None
+first_difference [] (n ∷ ns) = Some n
+first_difference (m ∷ ms) [] = Some m
+first_difference (m ∷ ms) (n ∷ ns) = if m == n then first_difference ms ns else Some (min m n)
 
 -- the views are not those of the script's sends
 abbrev pub DiffersAt : Stmts → Outline → ℕ → Type 0
-DiffersAt script o line = differing (map (λ e. e.0) o.views) (map (λ p. p.line) (places_of script)) ≡ Some line
+DiffersAt script o line = first_difference (map (λ e. e.0) o.views) (map (λ p. p.line) (places_of script)) ≡ Some line
 
 -- ---- an outline that does not fit
 

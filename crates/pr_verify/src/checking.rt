@@ -3,6 +3,7 @@
 ghost use Rattle.std.specs.Prelude.{◌≡◌, ℕ, ◌<◌, ◌≤◌, true, min, length, map, OnOk, IfErr};
 ghost use Rattle.std.specs.List.{Contains};
 ghost use Rattle.pr_cdb.specs.Requests.{Fits};
+ghost use Rattle.pr_script.specs.declared.limits.TheConstants.{MOST_BUDGET};
 ghost use Rattle.pr_script.specs.Costs.{cost_of_all};
 ghost use Rattle.pr_script.specs.Grammar.{script_fits};
 ghost use Rattle.pr_script.specs.Trees.{script_of};
@@ -10,7 +11,7 @@ ghost use Rattle.pr_roles.specs.Scenarios.{scenario_of, task};
 ghost use Rattle.pr_roles.specs.Starts.{CanStart};
 ghost use Rattle.pr_verify.specs.Places.{Place, places_of};
 ghost use Rattle.pr_verify.specs.Outlines.{OnScripted, IsSound, IsFitting};
-ghost use Rattle.pr_verify.specs.Refusals.{IsRefusal, past_budgets, differing};
+ghost use Rattle.pr_verify.specs.Refusals.{IsRefusal, past_budgets, first_difference};
 ghost use Rattle.pr_verify.specs.Rooms.{outline_of, IsMadeFor, IsScripted};
 
 use crate::lacking::{lacking_at_start, least};
@@ -50,7 +51,7 @@ pub fn check_outline<S: ViewSet>(
 
 /// Whether the script is within the budget.
 pub(crate) fn check_cost(script: &Script, budget: u32, host: u8) -> Result<(), Refusal>
-    requires { budget ≤ 4096 }
+    requires { budget ≤ MOST_BUDGET }
     ensures within { OnOk result (cost_of_all (script_of script.now) ≤ budget) }
     ensures over { IfErr result (λ refusal. (budget < cost_of_all (script_of script.now)) × (refusal ≡ Refusal.OverBudget host (min past_budgets (cost_of_all (script_of script.now))))) }
 {
@@ -79,7 +80,7 @@ pub(crate) fn check_script<S: ViewSet>(
 {
     let host = outline.host;
     let spots = spots(alloc, script)?;
-    if let Some(line) = differing(&outline.views, &spots) {
+    if let Some(line) = first_difference(&outline.views, &spots) {
         return Err(Refusal::NotSound { host, line });
     }
     let firsts = first_lines(alloc, script)?;
@@ -96,8 +97,8 @@ pub(crate) fn check_script<S: ViewSet>(
 }
 
 // The smaller of two lines, where first a view's line is not that of its send; where one of them ends, the other's.
-fn differing<S: ViewSet>(views: &[(u32, ViewOf<S>)], spots: &[Spot]) -> Option<u32>
-    ensures { result ≡ differing (map (λ e. e.0) views.now) (map (λ p. p.line) spots.now) }
+fn first_difference<S: ViewSet>(views: &[(u32, ViewOf<S>)], spots: &[Spot]) -> Option<u32>
+    ensures { result ≡ first_difference (map (λ e. e.0) views.now) (map (λ p. p.line) spots.now) }
 {
     for (i, entry) in views.iter().enumerate() {
         if i >= spots.len() {

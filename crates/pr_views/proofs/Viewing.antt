@@ -5,6 +5,7 @@ use Rattle.std.specs.List.{slice_get, All}
 use Rattle.std.specs.Option.{option_map_or}
 use Rattle.std.proofs.lemmas.Bool.{false_from_ne_true, false≢true, cases_lt}
 use Rattle.std.proofs.lemmas.Option.{slice_get_within, get_or_from_slice_get}
+use Rattle.pr_cdb.specs.declared.codes.TheConstants.{MOST_NEXUSES}
 use Rattle.pr_registry.proofs.Sets.{same_hosts, contains-nobody}
 use Rattle.pr_roles.specs.Fitting.{AreDeclared}
 use Rattle.pr_sets.specs.Numbers.{Numbers, Within as WithinNumbers, AllBelow}
@@ -21,7 +22,7 @@ read : {X : Type 0} (P : X → Type 0) (xs : List X) (i : ℕ) (x : X) → All P
 read P xs i x all is = subst P (get_or_from_slice_get xs i x x is) (all i x (slice_get_within xs i x is))
 
 -- words in range are a view whose possibilities fit, where they have nothing past the nexuses that are there
-pub words_fit : (own hosts : ℕ) (keys : List ℕ) (p : Possibilities) → (1 ≤ hosts) × (hosts ≤ 8) → own < hosts → AreDeclared keys → AreInRange hosts keys p
+pub words_fit : (own hosts : ℕ) (keys : List ℕ) (p : Possibilities) → (1 ≤ hosts) × (hosts ≤ MOST_NEXUSES) → own < hosts → AreDeclared keys → AreInRange hosts keys p
     → ((g r : ℕ) → hosts ≤ g → has_at p.registrations g r ≡ false) → Fits (view_in (record { own = own; hosts = hosts; keys = keys }) p)
 words_fit own hosts keys p counted small declared range past = record {
   scope = record { hosts = counted; own = small; keys = declared };

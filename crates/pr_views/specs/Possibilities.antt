@@ -6,12 +6,14 @@ use Rattle.std.specs.FinSet as set
 use Rattle.std.specs.List.{slice_get}
 use Rattle.pr_cdb.specs.declared.command.Kind.{Kind}
 use Rattle.pr_cdb.specs.declared.command.Kind.TheVariants.{WriteExclusive, ExclusiveAccess, WriteExclusiveRegistrantsOnly, ExclusiveAccessRegistrantsOnly, WriteExclusiveAllRegistrants, ExclusiveAccessAllRegistrants}
+use Rattle.pr_cdb.specs.declared.codes.TheConstants.{MOST_NEXUSES}
 use Rattle.pr_registry.specs.declared.held.Held.{Held}
 use Rattle.pr_registry.specs.declared.held.Held.TheVariants.{One, All}
 use Rattle.pr_registry.specs.Registrations.{key_of}
 use Rattle.pr_attention.specs.Flagged.{codes_of}
 use Rattle.pr_unit.specs.UnitStates.{UnitState, is_pending}
 use Rattle.pr_roles.specs.Fitting.{AreDeclared}
+use Rattle.pr_views.specs.declared.view.TheConstants.{ATTENTION_SETS}
 
 -- Whose view it is, how many nexuses there are, and the declared keys, whose order numbers the
 -- registrations.
@@ -22,7 +24,7 @@ pub record Scope : Type 0 where
 
 -- 1 to 8 nexuses, the owner among them, and keys that a scenario can declare
 pub record IsScope (s : Scope) : Type 0 where
-  pub hosts : (1 ≤ s.hosts) × (s.hosts ≤ 8)
+  pub hosts : (1 ≤ s.hosts) × (s.hosts ≤ MOST_NEXUSES)
   pub own : s.own < s.hosts
   pub keys : AreDeclared s.keys
 
@@ -52,7 +54,7 @@ count_of_reservations hosts = hosts * 4 + 3
 
 -- how many sets of the four codes there are
 abbrev pub count_of_attentions : ℕ
-count_of_attentions = 16
+count_of_attentions = ATTENTION_SETS
 
 -- the registration of a nexus; the reservation; the attentions pending for the owner, with a bit for
 -- each code

@@ -4,6 +4,7 @@ use Rattle.std.specs.Prelude.{◌≡◌, ℕ, ◌+◌, ◌<◌, ◌≤◌, Bool,
 use Rattle.std.specs.FinSet as set
 use Rattle.std.specs.List.{slice_get, All}
 use Rattle.std.specs.Option.{option_map_or}
+use Rattle.pr_cdb.specs.declared.codes.TheConstants.{MOST_NEXUSES}
 use Rattle.pr_roles.specs.Fitting.{AreDeclared}
 use Rattle.pr_sets.specs.Numbers.{Numbers}
 use Rattle.pr_views.specs.declared.view.ViewOf.{ViewOf}
@@ -31,7 +32,7 @@ view_of members own v = record {
 
 -- 1 to 8 nexuses, declared keys, and sets with room for what is possible of each
 pub record IsMade {S : Type 0} (room : S → ℕ) (v : ViewOf S) : Type 0 where
-  pub hosts : (1 ≤ v.hosts) × (v.hosts ≤ 8)
+  pub hosts : (1 ≤ v.hosts) × (v.hosts ≤ MOST_NEXUSES)
   pub keys : AreDeclared v.keys.items
   pub registrations : All (λ s. room s ≡ length v.keys.items + 1) v.registrations
   pub reservations : room v.reservations ≡ count_of_reservations v.hosts

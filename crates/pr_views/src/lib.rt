@@ -8,4 +8,4 @@ mod view;
 
 pub use portion::Portion;
 pub use possibilities::Possibilities;
-pub use view::{View, ViewOf};
+pub use view::{ATTENTION_SETS, MOST_REGISTRATIONS, View, ViewOf};

@@ -7,6 +7,7 @@ ghost use Rattle.pr_views.specs.Views.{View, Fits};
 ghost use Rattle.pr_views.specs.Portions.{has_at, IsIn, IsPortion, AreFilled, AreWithin, IsProjected};
 ghost use Rattle.pr_views.specs.inside.Passing.{LacksOne, CanPass, CannotPass, NonePasses, IsFirstPassing};
 
+use pr_cdb::codes::MOST_NEXUSES;
 use pr_sets::Word;
 
 /// Of the states that a view shows, those with one reservation, in which each nexus has one of some
@@ -18,7 +19,7 @@ pub struct Portion {
     /// The reservation, by its number.
     pub reservation: u8,
     /// The registrations that each nexus may have.
-    pub registrations: [Word; 8],
+    pub registrations: [Word; MOST_NEXUSES],
     /// The registrations of which one other than the sender must have one.
     pub somebody: Option<Word>,
 }
@@ -26,8 +27,8 @@ pub struct Portion {
 impl Portion {
     /// What each nexus has in the states of the portion, of so many that are there. None where the portion
     /// has no state.
-    pub fn projected(&self, hosts: u8) -> Option<[Word; 8]>
-        requires few { (1 ≤ hosts) × (hosts ≤ 8) }
+    pub fn projected(&self, hosts: u8) -> Option<[Word; MOST_NEXUSES]>
+        requires few { (1 ≤ hosts) × (hosts ≤ MOST_NEXUSES) }
         requires sender { self.now.sender < hosts }
         ensures some { IfSome result (λ words. (v : View) → v.scope.hosts ≡ hosts → Fits v → IsPortion v self.now → IsProjected v self.now words) }
         ensures none { IfNone result ((v : View) → v.scope.hosts ≡ hosts → Fits v → IsPortion v self.now → (u : UnitState) → IsIn v self.now u → ⊥) }
@@ -49,7 +50,7 @@ impl Portion {
 
     // Whether each nexus that is there has a registration left.
     fn is_filled(&self, hosts: u8) -> bool
-        requires { hosts ≤ 8 }
+        requires { hosts ≤ MOST_NEXUSES }
         ensures filled { IsTrue result → AreFilled hosts self.now.registrations }
         ensures lacks { result ≡ false → LacksOne hosts self.now.registrations }
     {
@@ -63,7 +64,7 @@ impl Portion {
 
     // Of the nexuses from a number on, the first that can pass the test.
     fn first_passing(&self, test: Word, from: u8, hosts: u8) -> Option<u8>
-        requires { hosts ≤ 8 }
+        requires { hosts ≤ MOST_NEXUSES }
         ensures some { IfSome result (IsFirstPassing self.now test from hosts) }
         ensures none { IfNone result (NonePasses self.now test from hosts) }
     {
@@ -77,7 +78,7 @@ impl Portion {
 
     // Whether one other than the sender has a registration left that passes the test.
     fn can_pass(&self, test: Word, host: u8) -> bool
-        requires { host < 8 }
+        requires { host < MOST_NEXUSES }
         ensures passes { IsTrue result → CanPass self.now test host }
         ensures fails { result ≡ false → CannotPass self.now test host }
     {
@@ -85,8 +86,8 @@ impl Portion {
     }
 
     // What each has left where this one must pass the test.
-    fn passed_by(&self, test: Word, host: u8) -> [Word; 8]
-        requires { host < 8 }
+    fn passed_by(&self, test: Word, host: u8) -> [Word; MOST_NEXUSES]
+        requires { host < MOST_NEXUSES }
         ensures here { (r : ℕ) → has_at result host r ≡ (has_at self.now.registrations host r && has test r) }
         ensures others { (g r : ℕ) → g ≢ host → has_at result g r ≡ has_at self.now.registrations g r }
     {

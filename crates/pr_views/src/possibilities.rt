@@ -4,13 +4,14 @@ ghost use Rattle.std.specs.Prelude.{◌≡◌, ℕ, ◌||◌, false};
 ghost use Rattle.pr_sets.specs.Words.{has};
 ghost use Rattle.pr_views.specs.Portions.{has_at};
 
+use pr_cdb::codes::MOST_NEXUSES;
 use pr_sets::Word;
 
 /// The possibilities of a view as words, for reckoning: those of the first nexuses that are there, in
 /// the numbers of a view.
 #[derive(Clone, Copy, Debug, PartialEq, Eq)]
 pub struct Possibilities {
-    pub registrations: [Word; 8],
+    pub registrations: [Word; MOST_NEXUSES],
     pub reservations: Word,
     pub pending: Word,
 }
@@ -23,7 +24,7 @@ impl Possibilities {
         ensures pending { (q : ℕ) → has result.pending q ≡ false }
     {
         Possibilities {
-            registrations: [Word::none(); 8],
+            registrations: [Word::none(); MOST_NEXUSES],
             reservations: Word::none(),
             pending: Word::none(),
         }
@@ -35,7 +36,7 @@ impl Possibilities {
         ensures reservations { (x : ℕ) → has self.new.reservations x ≡ (has self.old.reservations x || has other.now.reservations x) }
         ensures pending { (q : ℕ) → has self.new.pending q ≡ (has self.old.pending q || has other.now.pending q) }
     {
-        for host in 0..8 {
+        for host in 0..MOST_NEXUSES {
             self.registrations[host] = self.registrations[host].or(other.registrations[host]);
         }
         self.reservations = self.reservations.or(other.reservations);

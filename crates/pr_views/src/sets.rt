@@ -8,12 +8,13 @@ ghost use Rattle.pr_sets.specs.Words.{has};
 ghost use Rattle.pr_views.specs.Portions.{has_at};
 ghost use Rattle.pr_views.specs.Rooms.{contains_at};
 
+use pr_cdb::codes::MOST_NEXUSES;
 use pr_sets::{ViewSet, Word};
 use std::alloc::{AllocError, Global};
 use std::array;
 
 /// Eight empty sets of numbers below a size.
-pub(crate) fn empty_sets<S: ViewSet>(alloc: Global, size: u8) -> [S; 8]
+pub(crate) fn empty_sets<S: ViewSet>(alloc: Global, size: u8) -> [S; MOST_NEXUSES]
     requires { size ≤ most }
     ensures room { All (λ s. S.room s ≡ size) result }
     ensures members { All (λ s. S.members s ≡ set.empty) result }
@@ -48,10 +49,10 @@ pub(crate) fn sets_of<S: ViewSet>(
     alloc: Global,
     size: u8,
     count: u8,
-    words: &[Word; 8],
-) -> Result<[S; 8], AllocError>
+    words: &[Word; MOST_NEXUSES],
+) -> Result<[S; MOST_NEXUSES], AllocError>
     requires few { size ≤ most }
-    requires count { count ≤ 8 }
+    requires count { count ≤ MOST_NEXUSES }
     requires below { (g n : ℕ) → g < count → has_at words.now g n ≡ true → n < size }
     ensures room { IfOk result (All (λ s. S.room s ≡ size)) }
     ensures members { IfOk result (λ sets. (g n : ℕ) → g < count → contains_at S.members sets g n ≡ has_at words.now g n) }
@@ -78,12 +79,12 @@ pub(crate) fn word_of<S: ViewSet>(numbers: &S) -> Word
 }
 
 /// The members of the first sets as words. The others are empty.
-pub(crate) fn words_of<S: ViewSet>(sets: &[S; 8], count: u8) -> [Word; 8]
-    requires { count ≤ 8 }
+pub(crate) fn words_of<S: ViewSet>(sets: &[S; MOST_NEXUSES], count: u8) -> [Word; MOST_NEXUSES]
+    requires { count ≤ MOST_NEXUSES }
     ensures there { (g n : ℕ) → g < count → has_at result g n ≡ contains_at S.members sets.now g n }
     ensures past { (g n : ℕ) → count ≤ g → has_at result g n ≡ false }
 {
-    let mut words = [Word::none(); 8];
+    let mut words = [Word::none(); MOST_NEXUSES];
     for host in 0..count {
         let place = usize::from(host);
         words[place] = word_of(&sets[place]);
@@ -92,8 +93,12 @@ pub(crate) fn words_of<S: ViewSet>(sets: &[S; 8], count: u8) -> [Word; 8]
 }
 
 /// Whether each of the first sets is within the other of its place.
-pub(crate) fn are_within<S: ViewSet>(sets: &[S; 8], others: &[S; 8], count: u8) -> bool
-    requires count { count ≤ 8 }
+pub(crate) fn are_within<S: ViewSet>(
+    sets: &[S; MOST_NEXUSES],
+    others: &[S; MOST_NEXUSES],
+    count: u8,
+) -> bool
+    requires count { count ≤ MOST_NEXUSES }
     requires alike { (k : ℕ) (d : S) → k < length sets.now → k < length others.now → S.room (slice_index_or others.now k d) ≡ S.room (slice_index_or sets.now k d) }
     ensures { IsTrue result ↔ ((g n : ℕ) → g < count → contains_at S.members sets.now g n ≡ true → contains_at S.members others.now g n ≡ true) }
 {
@@ -107,8 +112,8 @@ pub(crate) fn are_within<S: ViewSet>(sets: &[S; 8], others: &[S; 8], count: u8) 
 }
 
 /// Whether each of the first sets is empty.
-pub(crate) fn are_empty<S: ViewSet>(sets: &[S; 8], count: u8) -> bool
-    requires { count ≤ 8 }
+pub(crate) fn are_empty<S: ViewSet>(sets: &[S; MOST_NEXUSES], count: u8) -> bool
+    requires { count ≤ MOST_NEXUSES }
     ensures { IsTrue result ↔ ((g n : ℕ) → g < count → contains_at S.members sets.now g n ≡ false) }
 {
     for host in 0..count {
@@ -120,10 +125,10 @@ pub(crate) fn are_empty<S: ViewSet>(sets: &[S; 8], count: u8) -> bool
 }
 
 /// Whether each set is of numbers below the size.
-pub(crate) fn have_room<S: ViewSet>(sets: &[S; 8], size: usize) -> bool
+pub(crate) fn have_room<S: ViewSet>(sets: &[S; MOST_NEXUSES], size: usize) -> bool
     ensures { IsTrue result ↔ All (λ s. S.room s ≡ size) sets.now }
 {
-    for place in 0..8 {
+    for place in 0..MOST_NEXUSES {
         if usize::from(sets[place].size()) != size {
             return false;
         }

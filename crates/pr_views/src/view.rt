@@ -13,6 +13,7 @@ use crate::sets::{
     are_empty, are_within, empty_sets, have_room, set_of, sets_of, word_of, words_of,
 };
 use arrayvec::ArrayVec;
+use pr_cdb::codes::MOST_NEXUSES;
 use pr_roles::are_distinct;
 use pr_roles::limits::MOST_KEYS;
 use pr_sets::{ViewSet, WordSet};
@@ -28,7 +29,7 @@ pub struct ViewOf<S: ViewSet> {
     pub hosts: u8,
     /// For each nexus, its registrations: 0 for none, or the place of a declared key, from 1. The sets past
     /// the nexuses that are there say nothing.
-    pub registrations: [S; 8],
+    pub registrations: [S; MOST_NEXUSES],
     /// The reservations: 0 for none, then types 1, 3, 5, 6, each by its holder, then 7 and 8.
     pub reservations: S,
     /// The attentions pending for the owner of the view, with a bit for each code, the lowest code lowest.
@@ -38,13 +39,16 @@ pub struct ViewOf<S: ViewSet> {
 /// A view whose sets take no memory.
 pub type View = ViewOf<WordSet>;
 
-/// How many sets of pending attentions there are.
-const ATTENTIONS: u8 = 16;
+/// How many registrations one can have at most: none, or one by each key.
+pub const MOST_REGISTRATIONS: u8 = MOST_KEYS as u8 + 1;
+
+/// How many sets of pending attentions there are, with a bit for each of the four codes.
+pub const ATTENTION_SETS: u8 = 16;
 
 impl<S: ViewSet> ViewOf<S> {
     /// The view in which nothing is possible, of so many nexuses. It takes no memory yet.
     pub fn nothing(alloc: Global, keys: &[u64], hosts: u8) -> Self
-        requires hosts { (1 ≤ hosts) × (hosts ≤ 8) }
+        requires hosts { (1 ≤ hosts) × (hosts ≤ MOST_NEXUSES) }
         requires keys { AreDeclared keys.now }
         ensures made { IsMade S.room result }
         ensures keys { result.keys.items ≡ keys.now }
@@ -56,7 +60,7 @@ impl<S: ViewSet> ViewOf<S> {
             hosts,
             registrations: empty_sets(alloc, count_of_registrations(keys)),
             reservations: S::none(alloc, count_of_reservations(hosts)),
-            pending: S::none(alloc, ATTENTIONS),
+            pending: S::none(alloc, ATTENTION_SETS),
         }
     }
 
@@ -67,7 +71,7 @@ impl<S: ViewSet> ViewOf<S> {
         hosts: u8,
         possibilities: &Possibilities,
     ) -> Result<Self, AllocError>
-        requires hosts { (1 ≤ hosts) × (hosts ≤ 8) }
+        requires hosts { (1 ≤ hosts) × (hosts ≤ MOST_NEXUSES) }
         requires keys { AreDeclared keys.now }
         requires range { AreInRange hosts keys.now possibilities.now }
         ensures made { IfOk result (IsMade S.room) }
@@ -86,7 +90,7 @@ impl<S: ViewSet> ViewOf<S> {
             count_of_reservations(hosts),
             possibilities.reservations,
         )?;
-        let pending = set_of(alloc, ATTENTIONS, possibilities.pending)?;
+        let pending = set_of(alloc, ATTENTION_SETS, possibilities.pending)?;
         Ok(ViewOf {
             keys: copied(keys),
             hosts,
@@ -153,23 +157,26 @@ impl<S: ViewSet> ViewOf<S> {
     pub fn fits(&self) -> bool
         ensures { IsTrue result ↔ IsMade S.room self.now }
     {
-        1 <= self.hosts && self.hosts <= 8 && are_declared(&self.keys) && self.has_room()
+        1 <= self.hosts
+            && usize::from(self.hosts) <= MOST_NEXUSES
+            && are_declared(&self.keys)
+            && self.has_room()
     }
 
     // Whether the sets have room for what is possible of each.
     fn has_room(&self) -> bool
-        requires { self.now.hosts ≤ 8 }
+        requires { self.now.hosts ≤ MOST_NEXUSES }
         ensures { IsTrue result ↔ HasRoom S.room self.now }
     {
         have_room(&self.registrations, self.keys.len() + 1)
             && self.reservations.size() == count_of_reservations(self.hosts)
-            && self.pending.size() == ATTENTIONS
+            && self.pending.size() == ATTENTION_SETS
     }
 }
 
 // How many registrations one can have: none, or one by each key.
 fn count_of_registrations(keys: &[u64]) -> u8
-    requires { length keys.now ≤ 12 }
+    requires { length keys.now ≤ MOST_KEYS }
     ensures { result ≡ length keys.now + 1 }
 {
     keys.len() as u8 + 1
@@ -177,14 +184,14 @@ fn count_of_registrations(keys: &[u64]) -> u8
 
 // How many reservations there can be.
 fn count_of_reservations(hosts: u8) -> u8
-    requires { hosts ≤ 8 }
+    requires { hosts ≤ MOST_NEXUSES }
     ensures { result ≡ count_of_reservations hosts }
 {
     hosts * 4 + 3
 }
 
 fn copied(keys: &[u64]) -> ArrayVec<u64, MOST_KEYS>
-    requires { length keys.now ≤ 12 }
+    requires { length keys.now ≤ MOST_KEYS }
     ensures { result.items ≡ keys.now }
 {
     let mut all = ArrayVec::new();

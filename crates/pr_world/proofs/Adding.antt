@@ -16,7 +16,7 @@ use Rattle.pr_unit.specs.Steps.{Step}
 use Rattle.pr_script.specs.Scripts.{ready}
 use Rattle.pr_roles.specs.declared.entry.Entry.{Entry}
 use Rattle.pr_roles.specs.Scenarios.{Scenario, Nexus, Task, Scripted, Planned, role}
-use Rattle.pr_roles.specs.Worlds.{World, Control, Going, Trapped, Free, Event, Host, Guest, Happens, GuestSends, control, is_guest, is_guest_task, standing_of, taken, entry_of, after as world_after}
+use Rattle.pr_roles.specs.Worlds.{World, Control, Going, Trapped, Free, Event, Host, Guest, Happens, GuestSends, control, is_guest, is_guest_task, standing_of, control_after, entry_of, after as world_after}
 use Rattle.pr_world.specs.Courses.{is_free, is_planned}
 use Rattle.pr_world.specs.inside.Auditing.{MayCome, IsJudged, Adds, IsTried, ActFor}
 use Rattle.pr_world.proofs.Judging.{may_fixed, free_judged, hosts_judged}
@@ -34,7 +34,7 @@ with_entry w e after v = record {
 adds_by : (s : Scenario) (w : World) (e : Entry) (k after : Control) (v : UnitState) → control w e.host ≡ k → (is_free k ≡ true → is_guest s e.host ≡ true)
     → MayCome k (role s e.host) w.unit e after v → Adds s w e (with_entry w e after v)
 adds_by s w e (Going l) after v is guest may =
-    let takes = may.takes ∙ ap (λ k. taken may.line k e.reply) (sym is) in
+    let takes = may.takes ∙ ap (λ k. control_after may.line k e.reply) (sym is) in
     record {
       event = Host e.host;
       happens = record {
@@ -54,7 +54,7 @@ adds_by s w e (Going l) after v is guest may =
     }
 adds_by s w e (Trapped line) after v is guest may = absurd may
 adds_by s w e Free after v is guest may =
-    let takes : after ≡ taken 0 (control w e.host) e.reply = may.1 ∙ ap (λ k. taken 0 k e.reply) (sym is) in
+    let takes : after ≡ control_after 0 (control w e.host) e.reply = may.1 ∙ ap (λ k. control_after 0 k e.reply) (sym is) in
     record {
       event = Guest e.host e.wire;
       happens = record {
@@ -90,9 +90,9 @@ host_comes : (s : Scenario) (w : World) (h line : ℕ) (c : Command) (r : Reply)
     → Step w.unit h (Plain c) r v → Comes s w (entry_of h (spelling c) r) (world_after w h line (spelling c) r v)
 host_comes s w h line c r v (Going l) is stands step =
     record {
-      after = taken line (control w h) r;
+      after = control_after line (control w h) r;
       unit = v;
-      may = subst (λ k. MayCome k (role s h) w.unit (entry_of h (spelling c) r) (taken line k r) v) (sym is)
+      may = subst (λ k. MayCome k (role s h) w.unit (entry_of h (spelling c) r) (control_after line k r) v) (sym is)
           (record {
             line = line;
             command = c;
@@ -112,9 +112,9 @@ guest_comes : (s : Scenario) (w : World) (g : ℕ) (wire : Wire) (x : World) →
 guest_comes s w g wire x is sends =
     let e = entry_of g wire sends.reply in
     record {
-      after = taken 0 (control w g) sends.reply;
+      after = control_after 0 (control w g) sends.reply;
       unit = sends.unit;
-      may = subst (λ k. MayCome k (role s g) w.unit e (taken 0 k sends.reply) sends.unit) (sym is) (
+      may = subst (λ k. MayCome k (role s g) w.unit e (control_after 0 k sends.reply) sends.unit) (sym is) (
         record {
           bytes = sends.bytes;
           lengths = sends.lengths;

@@ -4,6 +4,7 @@ use Rattle.std.specs.Prelude.{map, bytes_eq}
 use Rattle.std.specs.List.{list_all}
 use Rattle.std.proofs.lemmas.Bool.{and_parts}
 use Rattle.std.proofs.lemmas.Bool.Decides.{nat_tests}
+use Rattle.pr_cdb.specs.declared.codes.TheConstants.{MOST_NEXUSES}
 use Rattle.pr_script.proofs.Shallow.{shallow}
 use Rattle.pr_roles.specs.declared.parts.Nexus.{Nexus as NexusPart}
 use Rattle.pr_roles.specs.declared.parts.Parts.{Parts}
@@ -36,7 +37,7 @@ unfolding scenario_of
 short_part p i d fits there = short_each p.keys.items p.nexuses.items i d (each p.keys.items (map nexus_of p.nexuses.items) fits.nexuses) there
   where
     each : (keys : List ℕ) (ns : List Nexus) → are_nexuses keys ns ≡ true → list_all (is_nexus keys) ns ≡ true
-    each keys ns is = (and_parts (are_distinct bytes_eq (map (λ n. n.name) ns)) _ (and_parts (nat_le (length ns) 8) _ (and_parts (not (length ns == 0)) _ is).1).1).1
+    each keys ns is = (and_parts (are_distinct bytes_eq (map (λ n. n.name) ns)) _ (and_parts (nat_le (length ns) MOST_NEXUSES) _ (and_parts (not (length ns == 0)) _ is).1).1).1
 
 pub short_at : (p q : Parts) (ns : List NexusPart) (i : ℕ) (n : NexusPart) → Fits (scenario_of p) → q ≡ p → ns ≡ q.nexuses.items → i < length ns → n ≡ get_or ns i n → IsShort (task_of n.task)
 short_at p q ns i n fits same items there is =

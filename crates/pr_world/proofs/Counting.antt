@@ -5,7 +5,7 @@ use Rattle.std.proofs.lemmas.List.{get_or_past}
 use Rattle.std.proofs.lemmas.List.Sums.{sum_by-cons, sum_by-set, sum_by_push}
 use Rattle.std.proofs.lemmas.Bool.Decides.{nat_tests}
 use Rattle.pr_roles.specs.declared.entry.Entry.{Entry}
-use Rattle.pr_roles.specs.Worlds.{sent}
+use Rattle.pr_roles.specs.Worlds.{commands_by}
 
 -- ---- one entry more
 
@@ -13,10 +13,10 @@ use Rattle.pr_roles.specs.Worlds.{sent}
 abbrev pub counts : Entry → ℕ → ℕ
 counts e h = cond (e.host == h) 1 0
 
-sent-cons : (e : Entry) (es : List Entry) (h : ℕ) → sent (e ∷ es) h ≡ counts e h + sent es h
+sent-cons : (e : Entry) (es : List Entry) (h : ℕ) → commands_by (e ∷ es) h ≡ counts e h + commands_by es h
 sent-cons e es h = sum_by-cons (λ x. cond (x.host == h) 1 0) e es
 
-pub sent-push : (es : List Entry) (e : Entry) (h : ℕ) → sent (es ++ e ∷ []) h ≡ sent es h + counts e h
+pub sent-push : (es : List Entry) (e : Entry) (h : ℕ) → commands_by (es ++ e ∷ []) h ≡ commands_by es h + counts e h
 sent-push es e h = sum_by_push (λ x. cond (x.host == h) 1 0) es e
 
 counts_own : (e : Entry) → counts e e.host ≡ 1
@@ -25,11 +25,11 @@ counts_own e = grind (arith, nat_tests)
 counts_other : (e : Entry) (h : ℕ) → e.host ≢ h → counts e h ≡ 0
 counts_other e h other = grind (arith, nat_tests)
 
-pub sent_other : (es : List Entry) (e : Entry) (h : ℕ) → e.host ≢ h → sent (es ++ e ∷ []) h ≡ sent es h
+pub sent_other : (es : List Entry) (e : Entry) (h : ℕ) → e.host ≢ h → commands_by (es ++ e ∷ []) h ≡ commands_by es h
 sent_other es e h other = omega (arith, sent-push es e h, counts_other e h other)
 
-pub sent_own : (es : List Entry) (e : Entry) (h : ℕ) → e.host ≡ h → sent (es ++ e ∷ []) h ≡ sent es h + 1
-sent_own es e h own = sent-push es e h ∙ ap (λ n. sent es h + n) (subst (λ k. counts e k ≡ 1) own (counts_own e))
+pub sent_own : (es : List Entry) (e : Entry) (h : ℕ) → e.host ≡ h → commands_by (es ++ e ∷ []) h ≡ commands_by es h + 1
+sent_own es e h own = sent-push es e h ∙ ap (λ n. commands_by es h + n) (subst (λ k. counts e k ≡ 1) own (counts_own e))
 
 -- ---- no more than there is room for
 
@@ -57,18 +57,18 @@ at_lowered rs i h n some few less = at (h == i) refl
         let other : h ≢ i = grind (arith, nat_tests) in
         omega (arith, get_or-set_other rs i h (get_or rs i 0 - 1) 0 other)
 
-pub all_have_room : (rs : List ℕ) (es : List Entry) → ((h : ℕ) → sent es h ≤ get_or rs h 0) → length es ≤ sum rs
+pub all_have_room : (rs : List ℕ) (es : List Entry) → ((h : ℕ) → commands_by es h ≤ get_or rs h 0) → length es ≤ sum rs
 all_have_room rs [] few = omega arith
 all_have_room rs (e ∷ es) few =
-    let own : sent es e.host + 1 ≤ get_or rs e.host 0 = omega (arith, sent-cons e es e.host, counts_own e, few e.host) in
+    let own : commands_by es e.host + 1 ≤ get_or rs e.host 0 = omega (arith, sent-cons e es e.host, counts_own e, few e.host) in
     let some : 1 ≤ get_or rs e.host 0 = omega (arith, own) in
-    let rest = all_have_room (lowered rs e.host) es (λ h. at_lowered rs e.host h (sent es h) some (omega (arith, sent-cons e es h, few h)) (λ same. subst (λ k. sent es k + 1 ≤ get_or rs k 0) (sym same) own)) in
+    let rest = all_have_room (lowered rs e.host) es (λ h. at_lowered rs e.host h (commands_by es h) some (omega (arith, sent-cons e es h, few h)) (λ same. subst (λ k. commands_by es k + 1 ≤ get_or rs k 0) (sym same) own)) in
     omega (arith, sum-lowered rs e.host some, rest)
 
 -- and one that has not sent as many as it may finds room
-pub one_has_room : (rs : List ℕ) (es : List Entry) (i : ℕ) → ((h : ℕ) → sent es h ≤ get_or rs h 0) → sent es i < get_or rs i 0 → length es < sum rs
+pub one_has_room : (rs : List ℕ) (es : List Entry) (i : ℕ) → ((h : ℕ) → commands_by es h ≤ get_or rs h 0) → commands_by es i < get_or rs i 0 → length es < sum rs
 one_has_room rs es i few less =
-    let own : sent es i + 1 ≤ get_or rs i 0 = omega arith in
+    let own : commands_by es i + 1 ≤ get_or rs i 0 = omega arith in
     let some : 1 ≤ get_or rs i 0 = omega (arith, own) in
-    let rest = all_have_room (lowered rs i) es (λ h. at_lowered rs i h (sent es h) some (few h) (λ same. subst (λ k. sent es k + 1 ≤ get_or rs k 0) (sym same) own)) in
+    let rest = all_have_room (lowered rs i) es (λ h. at_lowered rs i h (commands_by es h) some (few h) (λ same. subst (λ k. commands_by es k + 1 ≤ get_or rs k 0) (sym same) own)) in
     omega (arith, sum-lowered rs i some, rest)

@@ -1,12 +1,13 @@
 -- The state after a step is fixed by the reply.
 use Rattle.std.proofs.Common.{◌≡◌, ℕ, Bool, true, false, if◌then◌else◌, Option, Some, None, sym, ap, ◌∙◌, get_or, arith}
+use Rattle.pr_cdb.specs.declared.codes.TheConstants.{UNIT_ATTENTION}
 use Rattle.pr_cdb.specs.declared.reply.Reply.{Reply}
 use Rattle.pr_cdb.specs.declared.reply.Sense.{Sense}
 use Rattle.pr_cdb.specs.declared.wire.Request.{Request}
 use Rattle.pr_cdb.specs.declared.wire.Request.TheVariants.{Plain, Faulty}
 use Rattle.pr_cdb.specs.ReplyData.{sense_bytes}
 use Rattle.pr_unit.specs.Attentions.{power_on, attention_sense}
-use Rattle.pr_unit.specs.UnitStates.{UnitState, is_pending, is_any_pending, reported}
+use Rattle.pr_unit.specs.UnitStates.{UnitState, is_pending, is_any_pending, after_report}
 use Rattle.pr_unit.specs.Replies.{good, check, report, is_request_sense}
 use Rattle.pr_unit.specs.Conflicts.{conflicts}
 use Rattle.pr_unit.specs.Faults.{fault}
@@ -23,7 +24,7 @@ one_code c d same =
 one_sense : (c d : ℕ) → sense_bytes (attention_sense c) ≡ sense_bytes (attention_sense d) → attention_sense c ≡ attention_sense d
 unfolding sense_bytes
 one_sense c d same =
-    λ i. record { key = 0x06; asc = get_or (same i) 12 0; ascq = get_or (same i) 13 0 }
+    λ i. record { key = UNIT_ATTENTION; asc = get_or (same i) 12 0; ascq = get_or (same i) 13 0 }
 
 one_reported : (b : Bool) (c d : ℕ) → (if b then good (sense_bytes (attention_sense c)) else check (attention_sense c)) ≡ (if b then good (sense_bytes (attention_sense d)) else check (attention_sense d))
     → c ≡ d
@@ -45,7 +46,7 @@ in_both P false x y one other = other
 
 reported_fixed : (u : UnitState) (h : ℕ) (q : Request) (r : Reply) (v w : UnitState) → Reports u h q r v → Reports u h q r w → v ≡ w
 reported_fixed u h q r v w one other =
-    one.after ∙ (ap (reported u h) (one_report q one.code other.code (sym one.reply ∙ other.reply)) ∙ sym other.after)
+    one.after ∙ (ap (after_report u h) (one_report q one.code other.code (sym one.reply ∙ other.reply)) ∙ sym other.after)
 
 by_fault : (f : Option Sense) (u : UnitState) (h : ℕ) (q : Request) (r : Reply) (v w : UnitState) → StepBy (last_decision f) u h q r v → StepBy (last_decision f) u h q r w → v ≡ w
 by_fault None u h q r v w one other = done_fixed u h q r v w one other

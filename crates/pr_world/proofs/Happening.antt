@@ -3,14 +3,14 @@ use Rattle.std.proofs.Common.{◌≡◌, ℕ, ◌<◌, Bool, true, false, ◌&&�
 use Rattle.std.specs.Option.{option_map_or, option_to_list}
 use Rattle.pr_cdb.specs.declared.command.Command.{Command}
 use Rattle.pr_cdb.specs.declared.wire.Request.TheVariants.{Plain}
-use Rattle.pr_cdb.specs.Requests.{plain, requested}
+use Rattle.pr_cdb.specs.Requests.{plain_request, request_of_wire}
 use Rattle.pr_cdb.specs.Spelling.{spelling}
 use Rattle.pr_unit.specs.UnitStates.{UnitState}
 use Rattle.pr_unit.proofs.GoodFixed.{good_by_decision}
 use Rattle.pr_script.specs.Scripts.{Standing, ready, stopped}
 use Rattle.pr_roles.specs.declared.entry.Entry.{Entry}
 use Rattle.pr_roles.specs.Scenarios.{Scenario, Task, Scripted, Planned, role}
-use Rattle.pr_roles.specs.Worlds.{Control, Going, Trapped, Free, Host, Guest, is_guest, is_guest_task, standing_of, taken}
+use Rattle.pr_roles.specs.Worlds.{Control, Going, Trapped, Free, Host, Guest, is_guest, is_guest_task, standing_of, control_after}
 use Rattle.pr_roles.specs.Schedules.{is_held_back}
 use Rattle.pr_world.specs.Courses.{HappensBy, Participation, StandsFor, is_free, is_planned, participation}
 use Rattle.pr_world.specs.inside.Turns.{Acts, ActsAs, GuestActs, HostActs, SendsOr}
@@ -68,12 +68,12 @@ guest_sends s false u v xs es h c (Some e) x y there seated guest free still hel
         bytes = are_bytes c;
         lengths = are_short c;
         request = Plain c;
-        read = subst (λ w. requested w ≡ plain c) wire acts.sent.read;
+        read = subst (λ w. request_of_wire w ≡ plain_request c) wire acts.sent.read;
         reply = e.reply;
         unit = v;
         step = acts.sent.step;
         permitted = λ good. permitted_if_good _ _ held (sym (good_by_decision u h (Plain c) e.reply v acts.sent.step) ∙ good);
-        world = world_after u v xs es h 0 c e x y (at_participation xs h x there seated) acts.sent (still ∙ ap (λ k. taken 0 k e.reply) (sym free));
+        world = world_after u v xs es h 0 c e x y (at_participation xs h x there seated) acts.sent (still ∙ ap (λ k. control_after 0 k e.reply) (sym free));
       };
       sender = ap (λ f. f.host) acts.sent.entry;
       added = refl;

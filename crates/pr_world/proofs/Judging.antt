@@ -7,7 +7,7 @@ use Rattle.pr_unit.proofs.Steps.{hosts-step}
 use Rattle.pr_script.specs.Scripts.{ready}
 use Rattle.pr_roles.specs.declared.role.Clause.{Clause}
 use Rattle.pr_roles.specs.declared.entry.Entry.{Entry}
-use Rattle.pr_roles.specs.Worlds.{Control, Going, Trapped, Free, taken}
+use Rattle.pr_roles.specs.Worlds.{Control, Going, Trapped, Free, control_after}
 use Rattle.pr_world.specs.declared.sender.Sender.{Sender}
 use Rattle.pr_world.specs.declared.sender.Sender.TheVariants as sender
 use Rattle.pr_world.specs.Courses.{is_free}
@@ -33,7 +33,7 @@ script_fixed k u e after other v w one two =
     let same : Some (ready two.line two.command) ≡ Some (ready one.line one.command) = sym two.ready ∙ one.ready in
     let line : two.line ≡ one.line = cc in
     let command : two.command ≡ one.command = cc in (
-      two.takes ∙ (ap (λ n. taken n k e.reply) line ∙ sym one.takes),
+      two.takes ∙ (ap (λ n. control_after n k e.reply) line ∙ sym one.takes),
       step_fixed u e.host (Plain one.command) e.reply w v (subst (λ c. Step u e.host (Plain c) e.reply w) command two.step) one.step,
     )
 

@@ -15,7 +15,7 @@ use Rattle.pr_script.specs.Scripts.{Stmts, Standing, ready, stopped}
 use Rattle.pr_roles.specs.declared.entry.Entry.{Entry}
 use Rattle.pr_roles.specs.declared.role.Clause.{Clause}
 use Rattle.pr_roles.specs.Scenarios.{Scenario, Nexus, Task, Scripted, Planned, nexus, role, task}
-use Rattle.pr_roles.specs.Worlds.{World, Host, HostSends, after, control, entry_of, sent, standing_of, world_from}
+use Rattle.pr_roles.specs.Worlds.{World, Host, HostSends, after, control, entry_of, commands_by, standing_of, world_from}
 use Rattle.pr_roles.specs.Safety.{IsSafe, KeepsBudgetBy}
 use Rattle.pr_roles.specs.Schedules.{Schedule, Sends, SendsUnless, HostTurn, GuestTurn, TurnBy, ScheduledRun, is_held_back, plan, plan_of, schedule_from}
 use Rattle.pr_world.specs.Courses.{IsReached}
@@ -34,7 +34,7 @@ KeepsPlanBy (Some (Scripted script budget)) n = Unit {0}
 KeepsPlanBy (Some (Planned commands)) n = n ≤ length commands
 
 abbrev pub used : Schedule → ℕ → ℕ
-used x g = sent x.world.entries g + length (plan x g)
+used x g = commands_by x.world.entries g + length (plan x g)
 
 pub KeepsPlans : Scenario → Schedule → Type 0
 KeepsPlans s x = (g : ℕ) → KeepsPlanBy (task s g) (used x g)
@@ -89,15 +89,15 @@ host_grows (Some (stopped word)) w v h turn = same_grows w v h turn
 host_grows None w v h turn = same_grows w v h turn
 
 -- of another as many were sent, and of h at most one more
-grown_other : (es fs : List Entry) (h g : ℕ) → g ≢ h → Grows es h fs → sent fs g ≡ sent es g
-grown_other es fs h g other (inl same) = ap (λ xs. sent xs g) same
+grown_other : (es fs : List Entry) (h g : ℕ) → g ≢ h → Grows es h fs → commands_by fs g ≡ commands_by es g
+grown_other es fs h g other (inl same) = ap (λ xs. commands_by xs g) same
 grown_other es fs h g other (inr (e, own, added)) =
     let away : e.host ≢ g = λ is. other (sym is ∙ own) in
-    ap (λ xs. sent xs g) added ∙ sent_other es e g away
+    ap (λ xs. commands_by xs g) added ∙ sent_other es e g away
 
-grown_own : (es fs : List Entry) (h : ℕ) → Grows es h fs → sent fs h ≤ sent es h + 1
-grown_own es fs h (inl same) = omega (arith, ap (λ xs. sent xs h) same)
-grown_own es fs h (inr (e, own, added)) = omega (arith, ap (λ xs. sent xs h) added, sent_own es e h own)
+grown_own : (es fs : List Entry) (h : ℕ) → Grows es h fs → commands_by fs h ≤ commands_by es h + 1
+grown_own es fs h (inl same) = omega (arith, ap (λ xs. commands_by xs h) same)
+grown_own es fs h (inr (e, own, added)) = omega (arith, ap (λ xs. commands_by xs h) added, sent_own es e h own)
 
 -- Who is not h keeps to its plan, as long as only h sends and only the plan of h changes.
 others_kept : (s : Scenario) (x y : Schedule) (h : ℕ) → Grows x.world.entries h y.world.entries → ((g : ℕ) → g ≢ h → plan y g ≡ plan x g)
@@ -113,13 +113,13 @@ others_kept s x y h grows plans own kept g = at (g == h) refl
 
 -- what a guest's turn uses up of its plan is what it sends at most
 guest_used : (clauses : List Clause) (planned : List Command) (w v : World) (h : ℕ) (left : List Command) → GuestTurn clauses planned w h v left
-    → Grows w.entries h v.entries × (sent v.entries h + length left ≤ sent w.entries h + length planned)
+    → Grows w.entries h v.entries × (commands_by v.entries h + length left ≤ commands_by w.entries h + length planned)
 guest_used clauses [] w v h left turn =
-    (same_grows w v h turn.0, omega (arith, ap (λ x. sent x.entries h) turn.0, ap length turn.1))
+    (same_grows w v h turn.0, omega (arith, ap (λ x. commands_by x.entries h) turn.0, ap length turn.1))
 guest_used clauses (c ∷ cs) w v h left turn = at (is_held_back clauses w.unit h c) turn.0
   where
-    at : (b : Bool) → SendsUnless b w h c v → Grows w.entries h v.entries × (sent v.entries h + length left ≤ sent w.entries h + length (c ∷ cs))
-    at true same = (same_grows w v h same, omega (arith, ap (λ x. sent x.entries h) same, ap length turn.1))
+    at : (b : Bool) → SendsUnless b w h c v → Grows w.entries h v.entries × (commands_by v.entries h + length left ≤ commands_by w.entries h + length (c ∷ cs))
+    at true same = (same_grows w v h same, omega (arith, ap (λ x. commands_by x.entries h) same, ap length turn.1))
     at false sends =
         let grows = sends_grows w v h 0 c sends in
         (grows, omega (arith, grown_own w.entries v.entries h grows, ap length turn.1))
@@ -168,7 +168,7 @@ reached_keeps_plans s steps y reached = run_kept s (schedule_from s reached.star
 -- ---- hosts keep to their budgets
 
 -- the command that h is ready to send may be its next event
-next_sends : (w : World) (h at : ℕ) (c : Command) → standing_of (control w h) ≡ Some (ready at c) → (v : World) × HostSends w h v × (sent v.entries h ≡ sent w.entries h + 1)
+next_sends : (w : World) (h at : ℕ) (c : Command) → standing_of (control w h) ≡ Some (ready at c) → (v : World) × HostSends w h v × (commands_by v.entries h ≡ commands_by w.entries h + 1)
 next_sends w h at c is =
     let answered = every_request_has_a_step w.unit h (Plain c) in (
       after w h at (spelling c) answered.reply answered.after,
@@ -186,21 +186,21 @@ next_sends w h at c is =
 
 -- so of a safe scenario it is within the budget
 pub ready_has_room : (s : Scenario) (steps : List ℕ) (y : Schedule) (h at : ℕ) (c : Command) (script : Stmts) (budget : ℕ) → IsSafe s → IsReached s steps y
-    → task s h ≡ Some (Scripted script budget) → standing_of (control y.world h) ≡ Some (ready at c) → sent y.world.entries h < budget
+    → task s h ≡ Some (Scripted script budget) → standing_of (control y.world h) ≡ Some (ready at c) → commands_by y.world.entries h < budget
 unfolding IsSafe
 ready_has_room s steps y h at c script budget safe reached is stands =
     let next = next_sends y.world h at c stands in
     let run = run_then s (world_from s reached.start) y.world next.0 reached.events (Host h) reached.run next.1 in
     let kept : KeepsBudgetBy (task s h) next.0 h = ((safe reached.start reached.allowed (reached.events ++ Host h ∷ []) next.0 run).0 h).1 in
-    let few : sent next.0.entries h ≤ budget = subst (λ t. KeepsBudgetBy t next.0 h) is kept in
+    let few : commands_by next.0.entries h ≤ budget = subst (λ t. KeepsBudgetBy t next.0 h) is kept in
     omega (arith, few, next.2)
 
 -- In a scheduled run of a safe scenario nobody sends more than there is room for.
-pub sent_within : (s : Scenario) (steps : List ℕ) (y : Schedule) → IsSafe s → IsReached s steps y → (h : ℕ) → sent y.world.entries h ≤ room_by (task s h)
+pub sent_within : (s : Scenario) (steps : List ℕ) (y : Schedule) → IsSafe s → IsReached s steps y → (h : ℕ) → commands_by y.world.entries h ≤ room_by (task s h)
 unfolding IsSafe KeepsPlans
 sent_within s steps y safe reached h = by (task s h) (reached_keeps_plans s steps y reached h) ((safe reached.start reached.allowed reached.events y.world reached.run).0 h).1
   where
-    by : (t : Option Task) → KeepsPlanBy t (used y h) → KeepsBudgetBy t y.world h → sent y.world.entries h ≤ room_by t
+    by : (t : Option Task) → KeepsPlanBy t (used y h) → KeepsBudgetBy t y.world h → commands_by y.world.entries h ≤ room_by t
     by None plans budget = omega (arith, plans)
     by (Some (Scripted script most)) plans budget = budget
     by (Some (Planned commands)) plans budget = omega (arith, plans)
@@ -218,26 +218,26 @@ pub run_has_room : (s : Scenario) (steps : List ℕ) (y : Schedule) → IsSafe s
 run_has_room s steps y safe reached =
     all_have_room (map (λ n. room_of n.task) s.nexuses) y.world.entries (λ h. omega (arith, room_at s h, sent_within s steps y safe reached h))
 
-pub next_has_room : (s : Scenario) (steps : List ℕ) (y : Schedule) (h : ℕ) → IsSafe s → IsReached s steps y → sent y.world.entries h < room_by (task s h) → length y.world.entries < rooms s
+pub next_has_room : (s : Scenario) (steps : List ℕ) (y : Schedule) (h : ℕ) → IsSafe s → IsReached s steps y → commands_by y.world.entries h < room_by (task s h) → length y.world.entries < rooms s
 next_has_room s steps y h safe reached less =
     one_has_room (map (λ n. room_of n.task) s.nexuses) y.world.entries h (λ g. omega (arith, room_at s g, sent_within s steps y safe reached g)) (omega (arith, room_at s h, less))
 
 -- ---- a turn that sends finds room
 
 guest_has_room : (s : Scenario) (steps : List ℕ) (y : Schedule) (h : ℕ) (commands : List Command) (c : Command) (cs : List Command) → IsReached s steps y
-    → task s h ≡ Some (Planned commands) → plan y h ≡ c ∷ cs → sent y.world.entries h < length commands
+    → task s h ≡ Some (Planned commands) → plan y h ≡ c ∷ cs → commands_by y.world.entries h < length commands
 unfolding KeepsPlans
 guest_has_room s steps y h commands c cs reached is next =
     let few : used y h ≤ length commands = subst (λ t. KeepsPlanBy t (used y h)) is (reached_keeps_plans s steps y reached h) in
     omega (arith, few, ap length next)
 
 ready_below_room : (s : Scenario) (steps : List ℕ) (y : Schedule) (h : ℕ) → IsSafe s → IsReached s steps y → HostIsReady s y h ⊎ GuestIsReady s y h false
-    → sent y.world.entries h < room_by (task s h)
+    → commands_by y.world.entries h < room_by (task s h)
 ready_below_room s steps y h safe reached (inl host) =
-    subst (λ t. sent y.world.entries h < room_by t) (sym host.host.is)
+    subst (λ t. commands_by y.world.entries h < room_by t) (sym host.host.is)
     (ready_has_room s steps y h host.line host.command host.host.script host.host.budget safe reached host.host.is host.host.stands)
 ready_below_room s steps y h safe reached (inr guest) =
-    subst (λ t. sent y.world.entries h < room_by t) (sym guest.guest.is)
+    subst (λ t. commands_by y.world.entries h < room_by t) (sym guest.guest.is)
     (guest_has_room s steps y h guest.guest.commands guest.command guest.left reached guest.guest.is guest.guest.has)
 
 pub turn_has_room : (s : Scenario) (steps : List ℕ) (y : Schedule) (h : ℕ) → IsSafe s → IsReached s steps y → HasItsTask s y h → does s y h ≡ sending

@@ -11,7 +11,7 @@ use Rattle.pr_cdb.specs.Spelling.{spelling}
 use Rattle.pr_unit.specs.UnitStates.{UnitState}
 use Rattle.pr_roles.specs.declared.entry.Entry.{Entry}
 use Rattle.pr_roles.specs.Scenarios.{Scenario, Nexus}
-use Rattle.pr_roles.specs.Worlds.{World, Free, taken, control, after}
+use Rattle.pr_roles.specs.Worlds.{World, Free, control_after, control, after}
 use Rattle.pr_roles.specs.Schedules.{plan, Sends}
 use Rattle.pr_world.specs.Courses.{Participation, schedule_by, IsSent, IsSentHere, StandsFor, is_free, is_planned}
 
@@ -41,13 +41,13 @@ rests u v xs es h x y at same is =
 
 -- this entry was sent, and the reply taken
 pub world_after : (u v : UnitState) (xs : List Participation) (es : List Entry) (h line : ℕ) (c : Command) (e : Entry) (x y : Participation) → slice_get xs h ≡ Some x
-    → IsSent u h c e v → y.control ≡ taken line x.control e.reply → world_by v (with_participation xs h y) (es ++ e ∷ []) ≡ after (world_by u xs es) h line (spelling c) e.reply v
+    → IsSent u h c e v → y.control ≡ control_after line x.control e.reply → world_by v (with_participation xs h y) (es ++ e ∷ []) ≡ after (world_by u xs es) h line (spelling c) e.reply v
 world_after u v xs es h line c e x y at sent takes =
-    let controls = map-set (λ s. s.control) xs h y ∙ ap (λ k. slice_set (map (λ s. s.control) xs) h k) (takes ∙ ap (λ k. taken line k e.reply) (sym (control_at u xs es h x at))) in
+    let controls = map-set (λ s. s.control) xs h y ∙ ap (λ k. slice_set (map (λ s. s.control) xs) h k) (takes ∙ ap (λ k. control_after line k e.reply) (sym (control_at u xs es h x at))) in
     λ i. record { unit = v; controls = controls i; entries = es ++ sent.entry i ∷ [] }
 
 pub sends : (u v : UnitState) (xs : List Participation) (es : List Entry) (h line : ℕ) (c : Command) (e : Entry) (x y : Participation) → slice_get xs h ≡ Some x
-    → IsSentHere u h c e v → y.control ≡ taken line x.control e.reply → Sends (world_by u xs es) h line c (world_by v (with_participation xs h y) (es ++ e ∷ []))
+    → IsSentHere u h c e v → y.control ≡ control_after line x.control e.reply → Sends (world_by u xs es) h line c (world_by v (with_participation xs h y) (es ++ e ∷ []))
 sends u v xs es h line c e x y at sent takes = record {
   reply = e.reply;
   unit = v;

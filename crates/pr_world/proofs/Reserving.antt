@@ -5,6 +5,7 @@ use Rattle.std.specs.List.{list_all}
 use Rattle.std.proofs.lemmas.Bool.{and_parts}
 use Rattle.std.proofs.lemmas.Bool.Decides.{nat_tests}
 use Rattle.std.proofs.lemmas.List.Sums.{sum_by-cons}
+use Rattle.pr_cdb.specs.declared.codes.TheConstants.{MOST_NEXUSES}
 use Rattle.pr_script.specs.Grammar.{script_fits}
 use Rattle.pr_script.specs.Names.{is_name}
 use Rattle.pr_roles.specs.declared.parts.Nexus.{Nexus as NexusPart}
@@ -38,8 +39,8 @@ rooms_in keys (n ∷ ns) fit =
 few_rooms : (keys : List ℕ) (ns : List Nexus) → are_nexuses keys ns ≡ true → sum (map (λ n. room_of n.task) ns) ≤ 32768
 few_rooms keys ns fit =
     let some = (and_parts (not (length ns == 0)) _ fit).1 in
-    let few = and_parts (nat_le (length ns) 8) _ some in
-    let short : length ns ≤ 8 = grind (arith, nat_tests, few.0) in
+    let few = and_parts (nat_le (length ns) MOST_NEXUSES) _ some in
+    let short : length ns ≤ MOST_NEXUSES = grind (arith, nat_tests, few.0) in
     omega (arith, short, rooms_in keys ns (and_parts (are_distinct bytes_eq (map (λ n. n.name) ns)) _ few.1).1)
 
 rooms_of_parts : (ns : List NexusPart) → map (λ n. room_of (task_of n.task)) ns ≡ map (λ n. room_of n.task) (map nexus_of ns)

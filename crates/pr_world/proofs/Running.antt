@@ -5,14 +5,14 @@ use Rattle.std.specs.List.{range_with_len}
 use Rattle.std.specs.declared.alloc.AllocError.{AllocError}
 use Rattle.std.proofs.lemmas.List.{length-map, take_all, take_more}
 use Rattle.pr_roles.specs.Scenarios.{Scenario}
-use Rattle.pr_roles.specs.Worlds.{World, Event, Happens, Run, sent, world_from}
+use Rattle.pr_roles.specs.Worlds.{World, Event, Happens, Run, commands_by, world_from}
 use Rattle.pr_roles.specs.Schedules.{Schedule, Turn, ScheduledRun}
 use Rattle.pr_roles.specs.declared.entry.Entry.{Entry}
 use Rattle.pr_world.specs.declared.course.Course.{Course}
 use Rattle.pr_world.specs.declared.participant.Participant.{Participant}
 use Rattle.pr_world.specs.declared.replaying.Replayed.{Replayed}
 use Rattle.pr_world.specs.Courses.{participation_of, schedule_of, HappensBy, IsReached, StandsFor}
-use Rattle.pr_world.specs.Ends.{seen, ending, endings}
+use Rattle.pr_world.specs.Ends.{ending_of, ending, endings}
 use Rattle.pr_world.proofs.Trapping.{trapped_ends}
 use Rattle.pr_world.specs.Replays.{IsEndOf, IsReplayed}
 
@@ -86,14 +86,14 @@ endings_of [] = refl
 endings_of (p ∷ ps) = ap (λ es. ending (participation_of p).control (participation_of p).plan ∷ es) (endings_of ps)
 
 pub outcome_of : (c : Course) (r : Replayed) (ps : List Participant) (es : List Entry) (n : ℕ) → ps ≡ c.participants.items → es ≡ c.entries.items → n ≡ vec_len c.participants
-    → r.entries.items ≡ c.entries.items → r.unit ≡ c.unit → map (λ e. Some (seen e)) r.ends.items ≡ map (λ p. ending (participation_of p).control (participation_of p).plan) ps
-    → r.counts.items ≡ map (λ h. sent es h) (range_with_len 0 n) → IsEndOf (schedule_of c) r
+    → r.entries.items ≡ c.entries.items → r.unit ≡ c.unit → map (λ e. Some (ending_of e)) r.ends.items ≡ map (λ p. ending (participation_of p).control (participation_of p).plan) ps
+    → r.counts.items ≡ map (λ h. commands_by es h) (range_with_len 0 n) → IsEndOf (schedule_of c) r
 outcome_of c r ps es n participants sends len entries unit ends counts = record {
   entries = entries;
   unit = unit;
   ends = ends ∙ (ap (map (λ p. ending (participation_of p).control (participation_of p).plan)) participants ∙ sym (endings_of c.participants.items));
   counts =
       let all = len ∙ (c.participants.ok.0 ∙ sym (length-map (map participation_of c.participants.items) (λ x. x.plan) ∙ length-map c.participants.items participation_of)) in
-      counts ∙ (ap (λ gs. map (λ h. sent gs h) (range_with_len 0 n)) sends ∙ ap (λ k. map (λ h. sent c.entries.items h) (range_with_len 0 k)) all);
+      counts ∙ (ap (λ gs. map (λ h. commands_by gs h) (range_with_len 0 n)) sends ∙ ap (λ k. map (λ h. commands_by c.entries.items h) (range_with_len 0 k)) all);
   trapped = trapped_ends c.participants.items r.ends.items (ends ∙ ap (map (λ p. ending (participation_of p).control (participation_of p).plan)) participants);
 }

@@ -8,7 +8,7 @@ use Rattle.std.proofs.lemmas.List.FromFn.{get_or-map-range_with_len, length-map-
 use Rattle.std.proofs.lemmas.Bool.Decides.{nat_tests}
 use Rattle.pr_script.specs.Scripts.{Stmts}
 use Rattle.pr_roles.specs.Scenarios.{Scenario, Scripted, task}
-use Rattle.pr_roles.specs.Worlds.{Control, Free, is_trapped, sent, world_from}
+use Rattle.pr_roles.specs.Worlds.{Control, Free, is_trapped, commands_by, world_from}
 use Rattle.pr_roles.specs.Safety.{IsSafe, IsLegal, KeepsBudgetBy, KeepsRoles}
 use Rattle.pr_roles.specs.declared.entry.Entry.{Entry}
 use Rattle.pr_world.specs.declared.replaying.Replayed.{Replayed}
@@ -29,21 +29,21 @@ safe_untrapped s steps r safe x =
     x.outcome.trapped ∙ none_trapped x.last.world.controls (λ h. ((safe x.start x.allowed x.events x.last.world x.reached).0 h).0)
 
 -- the count of each, and none past the last
-count_at : (es : List Entry) (n h budget : ℕ) → sent es h ≤ budget → slice_index (map (λ g. sent es g) (range_with_len 0 n)) h ≤ budget
+count_at : (es : List Entry) (n h budget : ℕ) → commands_by es h ≤ budget → slice_index (map (λ g. commands_by es g) (range_with_len 0 n)) h ≤ budget
 count_at es n h budget few = grind (arith, nat_tests, counted, uncounted)
   where
-    counted : (i : ℕ) → i < n → slice_index (map (λ g. sent es g) (range_with_len 0 n)) i ≡ sent es i
-    counted i there = get_or-map-range_with_len (λ g. sent es g) 0 n i i 0 there (zero-add i)
+    counted : (i : ℕ) → i < n → slice_index (map (λ g. commands_by es g) (range_with_len 0 n)) i ≡ commands_by es i
+    counted i there = get_or-map-range_with_len (λ g. commands_by es g) 0 n i i 0 there (zero-add i)
 
-    uncounted : (i : ℕ) → n ≤ i → slice_index (map (λ g. sent es g) (range_with_len 0 n)) i ≡ 0
-    uncounted i past = get_or_past (map (λ g. sent es g) (range_with_len 0 n)) i 0 (rw (length-map-range_with_len (λ g. sent es g) 0 n) past)
+    uncounted : (i : ℕ) → n ≤ i → slice_index (map (λ g. commands_by es g) (range_with_len 0 n)) i ≡ 0
+    uncounted i past = get_or_past (map (λ g. commands_by es g) (range_with_len 0 n)) i 0 (rw (length-map-range_with_len (λ g. commands_by es g) 0 n) past)
 
 pub safe_budgets : (s : Scenario) (steps : List ℕ) (r : Replayed) → IsSafe s → IsReplayed s steps r → (h : ℕ) (script : Stmts) (budget : ℕ) → task s h ≡ Some (Scripted script budget)
     → slice_index r.counts.items h ≤ budget
 unfolding IsSafe
 safe_budgets s steps r safe x h script budget is =
     let kept : KeepsBudgetBy (task s h) x.last.world h = ((safe x.start x.allowed x.events x.last.world x.reached).0 h).1 in
-    let few : sent x.last.world.entries h ≤ budget = subst (λ t. KeepsBudgetBy t x.last.world h) is kept in
+    let few : commands_by x.last.world.entries h ≤ budget = subst (λ t. KeepsBudgetBy t x.last.world h) is kept in
     subst (λ cs. slice_index cs h ≤ budget) (sym x.outcome.counts) (count_at x.last.world.entries (length x.last.plans) h budget few)
 
 pub safe_roles : (s : Scenario) (steps : List ℕ) (r : Replayed) → IsSafe s → (x : IsReplayed s steps r) → KeepsRoles s (world_from s x.start) x.events x.last.world x.reached

@@ -17,7 +17,7 @@ use Rattle.pr_roles.specs.declared.entry.Entry.{Entry}
 use Rattle.pr_roles.specs.declared.parts.Nexus.{Nexus as NexusPart}
 use Rattle.pr_roles.specs.declared.parts.Parts.{Parts}
 use Rattle.pr_roles.specs.Scenarios.{Scenario, Task, Scripted, Planned, nexus, role, nexus_of, scenario_of}
-use Rattle.pr_roles.specs.Worlds.{Control, Going, Trapped, Free, control, is_trapped, standing_of, going_or_trapped, taken}
+use Rattle.pr_roles.specs.Worlds.{Control, Going, Trapped, Free, control, is_trapped, standing_of, going_or_trapped, control_after}
 use Rattle.pr_roles.specs.Schedules.{HostTurn, SendsUnless, GuestTurn, TurnBy, Turn, is_held_back, plan}
 use Rattle.pr_world.specs.declared.participant.Participant.{Participant}
 use Rattle.pr_world.specs.Courses.{Participation, participation, participation_of, schedule_by, StandsFor, HappensBy, is_free, is_planned}
@@ -51,7 +51,7 @@ sends_unless : (b : Bool) (u v : UnitState) (xs : List Participation) (es : List
 sends_unless true u v xs es h c (Some e) x y there at free still acts = absurd acts
 sends_unless true u v xs es h c None x y there at free still acts = rests u v xs es h x y at (still ∙ sym free) acts
 sends_unless false u v xs es h c (Some e) x y there at free still acts =
-    sends u v xs es h 0 c e x y (at_participation xs h x there at) acts (still ∙ ap (λ k. taken 0 k e.reply) (sym free))
+    sends u v xs es h 0 c e x y (at_participation xs h x there at) acts (still ∙ ap (λ k. control_after 0 k e.reply) (sym free))
 sends_unless false u v xs es h c None x y there at free still acts = absurd acts
 
 guest_turn : (clauses : List Clause) (planned : List Command) (u v : UnitState) (xs : List Participation) (es : List Entry) (h : ℕ) (e : Option Entry) (x y : Participation) → h < length xs
@@ -94,14 +94,14 @@ turn_of_seats s u v xs es h e x y stands there at acts =
 
 -- ---- who is a guest stays one
 
-pub free_taken : (line : ℕ) (l : Configuration) (r : Reply) → is_free (taken line (Going l) r) ≡ false
+pub free_taken : (line : ℕ) (l : Configuration) (r : Reply) → is_free (control_after line (Going l) r) ≡ false
 free_taken line l r = at (take l r)
   where
     at : (o : Option Configuration) → is_free (going_or_trapped line o) ≡ false
     at None = refl
     at (Some m) = refl
 
-free_host : (o : Option Standing) (h : ℕ) (x : Participation) (u : UnitState) (e : Option Entry) (y : Participation) (v : UnitState) → ((line : ℕ) (r : Reply) → is_free (taken line x.control r) ≡ is_free x.control)
+free_host : (o : Option Standing) (h : ℕ) (x : Participation) (u : UnitState) (e : Option Entry) (y : Participation) (v : UnitState) → ((line : ℕ) (r : Reply) → is_free (control_after line x.control r) ≡ is_free x.control)
     → HostActs o h x u e y v → is_free y.control ≡ is_free x.control
 free_host (Some (ready line c)) h x u (Some e) y v same acts = ap (λ s. is_free s.control) acts.1 ∙ same line e.reply
 free_host (Some (ready line c)) h x u None y v same acts = absurd acts

@@ -3,7 +3,7 @@
 use Rattle.std.specs.Prelude.{◌≡◌, ℕ, ◌≤◌, Bool, true, false, List, [], ◌∷◌, ◌++◌, Option, Some, None, length, map}
 use Rattle.pr_cdb.specs.declared.command.Command.{Command}
 use Rattle.pr_cdb.specs.declared.wire.Request.TheVariants.{Plain}
-use Rattle.pr_cdb.specs.Requests.{plain, requested}
+use Rattle.pr_cdb.specs.Requests.{plain_request, request_of_wire}
 use Rattle.pr_cdb.specs.Spelling.{spelling}
 use Rattle.pr_unit.specs.UnitStates.{UnitState}
 use Rattle.pr_unit.specs.Steps.{Step, LowestBy, decision}
@@ -52,7 +52,7 @@ schedule_by unit participations entries = record {
 pub record IsSent (u : UnitState) (h : ℕ) (c : Command) (e : Entry) (v : UnitState) : Type 0 where
   pub step : Step u h (Plain c) e.reply v
   pub entry : e ≡ entry_of h (spelling c) e.reply
-  pub read : requested e.wire ≡ plain c
+  pub read : request_of_wire e.wire ≡ plain_request c
 
 -- the same by this unit, which reports the lowest code where it may choose
 pub record IsSentHere (u : UnitState) (h : ℕ) (c : Command) (e : Entry) (v : UnitState) : Type 0 where

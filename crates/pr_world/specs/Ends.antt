@@ -2,7 +2,7 @@
 -- How nexuses stand at the end of a run.
 use Rattle.std.specs.Prelude.{ℕ, Bool, true, false, List, [], ◌∷◌, length, Option, Some, None}
 use Rattle.pr_cdb.specs.declared.command.Command.{Command}
-use Rattle.pr_script.specs.Scripts.{Standing, ready, stopped, standing}
+use Rattle.pr_script.specs.Scripts.{Standing, ready, stopped, standing_of_items}
 use Rattle.pr_roles.specs.Worlds.{Control, Going, Trapped, Free}
 use Rattle.pr_world.specs.declared.end.End.{End}
 use Rattle.pr_world.specs.declared.end.End.TheVariants as end
@@ -14,11 +14,11 @@ pub data Ending : Type 0 where
   traps : ℕ → Ending
   leaves : ℕ → Ending
 
-abbrev pub seen : End → Ending
-seen (end.Stopped word) = stops word.bytes
-seen (end.Ready line) = waits line
-seen (end.Trapped line) = traps line
-seen (end.Left planned) = leaves planned
+abbrev pub ending_of : End → Ending
+ending_of (end.Stopped word) = stops word.bytes
+ending_of (end.Ready line) = waits line
+ending_of (end.Trapped line) = traps line
+ending_of (end.Left planned) = leaves planned
 
 abbrev pub ending_by : Option Standing → Option Ending
 ending_by None = None
@@ -27,7 +27,7 @@ ending_by (Some (stopped word)) = Some (stops word)
 
 -- A script that is neither ready nor stopped has no end: no machine stands so.
 abbrev pub ending : Control → List Command → Option Ending
-ending (Going l) plan = ending_by (standing l)
+ending (Going l) plan = ending_by (standing_of_items l)
 ending (Trapped line) plan = Some (traps line)
 ending Free plan = Some (leaves (length plan))
 

@@ -5,7 +5,7 @@ use Rattle.std.specs.Prelude.{◌≡◌, ℕ, ◌≤◌, false, List, Some, slic
 use Rattle.std.specs.List.{list_any}
 use Rattle.pr_script.specs.Scripts.{Stmts}
 use Rattle.pr_roles.specs.Scenarios.{Scenario, Scripted, task}
-use Rattle.pr_roles.specs.Worlds.{sent, world_from}
+use Rattle.pr_roles.specs.Worlds.{commands_by, world_from}
 use Rattle.pr_roles.specs.Schedules.{Schedule}
 use Rattle.pr_roles.specs.Safety.{IsSafe, IsLegal, KeepsRoles}
 use Rattle.pr_world.specs.declared.replaying.Replayed.{Replayed}
@@ -38,4 +38,4 @@ SafeReplaysKeepRoles =
 -- where turns led in a safe scenario, no host has sent more than its budget, and no guest more than its plan has
 abbrev pub SafeSchedulesKeepToRooms : Type 0
 SafeSchedulesKeepToRooms =
-    (s : Scenario) (steps : List ℕ) (y : Schedule) → IsSafe s → IsReached s steps y → (h : ℕ) → sent y.world.entries h ≤ room_by (task s h)
+    (s : Scenario) (steps : List ℕ) (y : Schedule) → IsSafe s → IsReached s steps y → (h : ℕ) → commands_by y.world.entries h ≤ room_by (task s h)

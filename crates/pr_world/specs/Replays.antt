@@ -5,21 +5,21 @@ use Rattle.std.specs.List.{list_any, range_with_len}
 use Rattle.pr_unit.specs.UnitStates.{UnitState}
 use Rattle.pr_roles.specs.Scenarios.{Scenario}
 use Rattle.pr_roles.specs.Starts.{IsAllowedStart, first_state}
-use Rattle.pr_roles.specs.Worlds.{Event, Run, is_trapped, sent, world_from}
+use Rattle.pr_roles.specs.Worlds.{Event, Run, is_trapped, commands_by, world_from}
 use Rattle.pr_roles.specs.Schedules.{Schedule, ScheduledRun, schedule_from}
 use Rattle.pr_world.specs.declared.replaying.Replayed.{Replayed}
-use Rattle.pr_world.specs.Ends.{seen, endings, is_trapped_end}
+use Rattle.pr_world.specs.Ends.{ending_of, endings, is_trapped_end}
 
 -- how many commands of each nexus reached the unit
 abbrev pub counts_in : Schedule → List ℕ
-counts_in y = map (λ h. sent y.world.entries h) (range_with_len 0 (length y.plans))
+counts_in y = map (λ h. commands_by y.world.entries h) (range_with_len 0 (length y.plans))
 
 -- what a schedule holds at last: the entries, the unit, the end of each nexus, and how many of its
 -- commands reached the unit. Some end is a trapped one just where some host is trapped.
 pub record IsEndOf (y : Schedule) (r : Replayed) : Type 0 where
   pub entries : r.entries.items ≡ y.world.entries
   pub unit : r.unit ≡ y.world.unit
-  pub ends : map (λ e. Some (seen e)) r.ends.items ≡ endings y.world.controls y.plans
+  pub ends : map (λ e. Some (ending_of e)) r.ends.items ≡ endings y.world.controls y.plans
   pub counts : r.counts.items ≡ counts_in y
   pub trapped : list_any is_trapped_end r.ends.items ≡ list_any is_trapped y.world.controls
 

@@ -4,10 +4,10 @@ ghost use Rattle.std.specs.Prelude.{◌≡◌, ◌<◌, ◌≤◌, ◌+◌, ◌^
 ghost use Rattle.std.specs.List.{range_with_len};
 ghost use Rattle.pr_roles.specs.Scenarios.{scenario_of};
 ghost use Rattle.pr_roles.specs.Schedules.{Turn, plan};
-ghost use Rattle.pr_roles.specs.Worlds.{control, is_trapped, sent};
+ghost use Rattle.pr_roles.specs.Worlds.{control, is_trapped, commands_by};
 ghost use Rattle.pr_world.specs.Courses.{participation_of, participation_from, schedule_of, HappensBy, IsReached, StandsFor};
 ghost use Rattle.pr_world.specs.inside.Turns.{seen as act_seen, sends, does, entry_in};
-ghost use Rattle.pr_world.specs.Ends.{seen, ending};
+ghost use Rattle.pr_world.specs.Ends.{ending_of, ending};
 ghost use Rattle.pr_world.specs.Replays.{IsEndOf};
 
 use crate::act::Act;
@@ -80,7 +80,7 @@ impl Course {
     pub(crate) fn end(&self, host: u8) -> End
         requires { host < vec_len self.now.participants }
         ensures { ending (control (schedule_of self.now).world host) (plan (schedule_of self.now) host)
-            ≡ Some (seen result) }
+            ≡ Some (ending_of result) }
     {
         self.participants[usize::from(host)].end()
     }
@@ -125,7 +125,7 @@ fn participants_of(alloc: Global, scenario: &Scenario) -> Result<Vec<Participant
 
 // How each stands.
 fn ends_of(alloc: Global, participants: &[Participant]) -> Result<Vec<End>, AllocError>
-    ensures { IfOk result (λ ends. map (λ e. Some (seen e)) ends.items
+    ensures { IfOk result (λ ends. map (λ e. Some (ending_of e)) ends.items
         ≡ map (λ p. ending (participation_of p).control (participation_of p).plan) participants.now) }
 {
     let mut ends = Vec::with_capacity(alloc, participants.len())?;
@@ -139,18 +139,18 @@ fn ends_of(alloc: Global, participants: &[Participant]) -> Result<Vec<End>, Allo
 fn counts_of(alloc: Global, entries: &[Entry], participants: usize) -> Result<Vec<u32>, AllocError>
     requires { length entries.now < 2 ^ 32 }
     ensures { IfOk result (λ counts.
-        counts.items ≡ map (λ h. sent entries.now h) (range_with_len 0 participants)) }
+        counts.items ≡ map (λ h. commands_by entries.now h) (range_with_len 0 participants)) }
 {
     let mut counts = Vec::with_capacity(alloc, participants)?;
     for host in 0..participants {
-        counts.push(sent(entries, host))?;
+        counts.push(commands_by(entries, host))?;
     }
     Ok(counts)
 }
 
-fn sent(entries: &[Entry], host: usize) -> u32
+fn commands_by(entries: &[Entry], host: usize) -> u32
     requires { length entries.now < 2 ^ 32 }
-    ensures { result ≡ sent entries.now host }
+    ensures { result ≡ commands_by entries.now host }
 {
     entries
         .iter()

@@ -3,7 +3,7 @@
 ghost use Rattle.std.specs.Prelude.{◌≡◌, ◌<◌, Some, IfOk, IsTrue};
 ghost use Rattle.pr_roles.specs.Scenarios.{task_of};
 ghost use Rattle.pr_world.specs.Courses.{participation_of, participation_from, IsShort, IsSentHere};
-ghost use Rattle.pr_world.specs.Ends.{ending, seen};
+ghost use Rattle.pr_world.specs.Ends.{ending, ending_of};
 ghost use Rattle.pr_roles.specs.Worlds.{is_trapped};
 ghost use Rattle.pr_roles.specs.Schedules.{is_held_back};
 ghost use Rattle.pr_world.specs.inside.Turns.{Acts, entry_in, seen as act_seen, does_as};
@@ -58,7 +58,7 @@ impl Participant {
                     Next::Send { line, command } => (line, command),
                     Next::Stopped(word) => return Act::Stopped(word),
                 };
-                let entry = sent(unit, host, command);
+                let entry = send(unit, host, command);
                 if machine.take(&entry.reply).is_err() {
                     *self = Participant::Trapped(line);
                 }
@@ -72,14 +72,14 @@ impl Participant {
                 if is_held_back(unit, role, host, command) {
                     return Act::Held;
                 }
-                Act::Sent(sent(unit, host, command))
+                Act::Sent(send(unit, host, command))
             }
         }
     }
 
     /// How it stands.
     pub(crate) fn end(&self) -> End
-        ensures { ending (participation_of self.now).control (participation_of self.now).plan ≡ Some (seen result) }
+        ensures { ending (participation_of self.now).control (participation_of self.now).plan ≡ Some (ending_of result) }
     {
         match self {
             Participant::Host(machine) => match machine.next() {
@@ -101,7 +101,7 @@ fn is_held_back(unit: &Unit, role: &Role, host: u8, command: Command) -> bool
 }
 
 // The command goes to the unit, and comes back with its reply.
-fn sent(unit: &mut Unit, host: u8, command: Command) -> Entry
+fn send(unit: &mut Unit, host: u8, command: Command) -> Entry
     requires { host < unit.old.registry.hosts }
     ensures sent { IsSentHere unit.old host command result unit.new }
     ensures hosts { unit.new.registry.hosts ≡ unit.old.registry.hosts }

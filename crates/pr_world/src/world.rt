@@ -51,7 +51,7 @@ impl World {
     ghost use Rattle.pr_roles.specs.Schedules.{Turn as IsTurn, plan};
     ghost use Rattle.pr_roles.specs.Worlds.{control};
     ghost use Rattle.pr_world.specs.Courses.{IsOneEvent};
-    ghost use Rattle.pr_world.specs.Ends.{ending, seen};
+    ghost use Rattle.pr_world.specs.Ends.{ending, ending_of};
     ghost use Rattle.pr_world.specs.StepAnswers.{IfSent, IfStopped, IfHeld, IsStopped, PassesOver};
 
     /// The scenario at its first start, with room for its whole history. Where memory is refused it is handed back.
@@ -118,7 +118,7 @@ impl World {
     /// How the nexus stands.
     pub fn end(&self, host: u8) -> End
         requires { host < length (scenario_of self.now.scenario).nexuses }
-        ensures { ending (control self.now.schedule.world host) (plan self.now.schedule host) ≡ Some (seen result) }
+        ensures { ending (control self.now.schedule.world host) (plan self.now.schedule host) ≡ Some (ending_of result) }
     {
         self.course.end(host)
     }

@@ -4,7 +4,7 @@ use Rattle.std.specs.List.{list_any}
 use Rattle.pr_roles.specs.Scenarios.{scenario_of}
 use Rattle.pr_text.specs.declared.fault.ReadError.TheVariants as input
 use Rattle.pr_text.specs.Texts.{answer_of}
-use Rattle.pr_world.specs.Ends.{seen, is_trapped_end}
+use Rattle.pr_world.specs.Ends.{ending_of, is_trapped_end}
 use Rattle.pr_report.specs.TraceText.{names_in, trace_text}
 use Rattle.fence.specs.declared.replays.Planned.{Planned}
 use Rattle.fence.specs.declared.fault.Fault.{Fault}
@@ -15,7 +15,7 @@ use Rattle.fence.specs.Replays.{IsTraceOf, IsUsageFault}
 -- the text of the trace of what is planned, and whether a host is trapped
 abbrev pub planned_text : Planned → List ℕ
 planned_text p =
-    trace_text (names_in (scenario_of p.scenario)) p.replayed.entries.items p.replayed.unit.registry (map seen p.replayed.ends.items) p.replayed.counts.items
+    trace_text (names_in (scenario_of p.scenario)) p.replayed.entries.items p.replayed.unit.registry (map ending_of p.replayed.ends.items) p.replayed.counts.items
 
 abbrev pub is_refused : Planned → Bool
 is_refused p = list_any is_trapped_end p.replayed.ends.items

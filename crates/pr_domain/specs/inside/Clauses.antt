@@ -5,6 +5,7 @@ use Rattle.pr_registry.specs.declared.held.Held.{Held}
 use Rattle.pr_registry.specs.declared.held.Held.TheVariants.{One, All}
 use Rattle.pr_registry.specs.Registrations.{kind_of}
 use Rattle.pr_unit.specs.UnitStates.{UnitState, effect}
+use Rattle.pr_roles.specs.declared.limits.TheConstants.{MOST_KEYS}
 use Rattle.pr_roles.specs.declared.role.Action.{Action}
 use Rattle.pr_roles.specs.declared.role.Action.TheVariants as action
 use Rattle.pr_roles.specs.declared.role.Condition.{Condition}
@@ -19,7 +20,7 @@ use Rattle.pr_regions.specs.declared.purpose.Purpose.{Purpose}
 use Rattle.pr_regions.specs.declared.purpose.Purpose.TheVariants.{Look, Read, Write, Register, Unregister, Reserve, Release, Clear, PreemptAll, Preempt}
 use Rattle.pr_regions.specs.declared.purpose.Standing.{Standing}
 use Rattle.pr_regions.specs.declared.purpose.Standing.TheVariants.{Unregistered, Named, Other}
-use Rattle.pr_regions.specs.Purposes.{number_in, preempting, purpose_of}
+use Rattle.pr_regions.specs.Purposes.{number_in, purpose_of_preempt, purpose_of}
 use Rattle.pr_regions.specs.Regions.{standing_of}
 use Rattle.pr_domain.specs.inside.Interfering.{IsFree}
 
@@ -31,7 +32,7 @@ purpose_for keys action.Unregister held = Some Unregister
 purpose_for keys (action.Reserve kind) held = Some (Reserve kind)
 purpose_for keys action.Release held = option_map (λ v. Release (kind_of v)) held
 purpose_for keys action.Clear held = Some Clear
-purpose_for keys (action.Preempt key kind) held = Some (preempting keys key kind)
+purpose_for keys (action.Preempt key kind) held = Some (purpose_of_preempt keys key kind)
 purpose_for keys action.Read held = None
 purpose_for keys action.Write held = None
 
@@ -76,7 +77,7 @@ may_send condition purpose held sender standing =
 
 -- the word has the registrations with which a sender stands so
 pub record AreSenders (purpose : Purpose) (standing : Standing) (word : Word) : Type 0 where
-  pub all : (r : ℕ) → r ≤ 12 → standing_of purpose r ≡ standing → has word r ≡ true
+  pub all : (r : ℕ) → r ≤ MOST_KEYS → standing_of purpose r ≡ standing → has word r ≡ true
   pub only : (r : ℕ) → has word r ≡ true → standing_of purpose r ≡ standing
 
 -- Under this reservation, a command of the clause for this purpose leads so from a shown state.

@@ -3,6 +3,7 @@ use Rattle.std.specs.Prelude.{◌≡◌, ℕ, ◌<◌, ◌≤◌, Bool, true, fa
 use Rattle.pr_registry.specs.Registrations.{holds_alone}
 use Rattle.pr_registry.specs.Changes.{is_held_by_all}
 use Rattle.pr_unit.specs.UnitStates.{UnitState}
+use Rattle.pr_roles.specs.declared.limits.TheConstants.{MOST_KEYS}
 use Rattle.pr_roles.specs.Fitting.{is_reservation}
 use Rattle.pr_sets.specs.declared.word.Word.{Word}
 use Rattle.pr_sets.specs.Words.{has}
@@ -74,6 +75,6 @@ IsLeftTo view place senders region p =
 -- where all registrants hold and the sender is none, another one must be registered
 abbrev pub tested : Place → Word → Option Word → Option Word → Type 0
 tested place senders None None = (is_held_by_all place.held && has senders 0) ≡ false
-tested place senders None (Some w) = ((is_held_by_all place.held && has senders 0) ≡ true) × ((r : ℕ) → 1 ≤ r → r ≤ 12 → has w r ≡ true) × (has w 0 ≡ false)
+tested place senders None (Some w) = ((is_held_by_all place.held && has senders 0) ≡ true) × ((r : ℕ) → 1 ≤ r → r ≤ MOST_KEYS → has w r ≡ true) × (has w 0 ≡ false)
 tested place senders (Some w) None = ⊥
 tested place senders (Some w) (Some x) = x ≡ w

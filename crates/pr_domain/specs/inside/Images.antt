@@ -2,6 +2,7 @@
 use Rattle.std.specs.Prelude.{◌≡◌, ℕ, ◌+◌, Bool, true, ◌==◌, ◌&&◌, nat_lt, if◌then◌else◌, unwrap_or, bit_or}
 use Rattle.pr_sets.specs.declared.word.Word.{Word}
 use Rattle.pr_sets.specs.Words.{has}
+use Rattle.pr_views.specs.declared.view.TheConstants.{ATTENTION_SETS, MOST_REGISTRATIONS}
 use Rattle.pr_regions.specs.declared.region.Change.{Change}
 use Rattle.pr_regions.specs.Regions.{flag}
 
@@ -26,12 +27,12 @@ becomes sender c g r = if g == sender then unwrap_or c.sender r else left c.remo
 abbrev pub mark : Change → ℕ → ℕ
 mark c r = flag (has c.told_03 r) 2 + (flag (has c.told_04 r) 4 + flag (has c.told_05 r) 8)
 
--- of the attentions below 16, what they are with each of the first marks
+-- of the sets of attentions, what they are with each of the first marks
 pub record AreMarked (bound : ℕ) (marks pending told : Word) : Type 0 where
-  pub all : (m q : ℕ) → first bound marks m ≡ true → first 16 pending q ≡ true → has told (bit_or q m) ≡ true
-  pub only : (n : ℕ) → has told n ≡ true → (m : ℕ) × (q : ℕ) × (first bound marks m ≡ true) × (first 16 pending q ≡ true) × (n ≡ bit_or q m)
+  pub all : (m q : ℕ) → first bound marks m ≡ true → first ATTENTION_SETS pending q ≡ true → has told (bit_or q m) ≡ true
+  pub only : (n : ℕ) → has told n ≡ true → (m : ℕ) × (q : ℕ) × (first bound marks m ≡ true) × (first ATTENTION_SETS pending q ≡ true) × (n ≡ bit_or q m)
 
--- of the attentions below 16, what they are for an owner with one of the registrations below 13
+-- of the sets of attentions, what they are for an owner with one of the registrations that there may be
 pub record AreTold (c : Change) (owners pending told : Word) : Type 0 where
-  pub all : (r q : ℕ) → first 13 owners r ≡ true → first 16 pending q ≡ true → has told (bit_or q (mark c r)) ≡ true
-  pub only : (n : ℕ) → has told n ≡ true → (r : ℕ) × (q : ℕ) × (first 13 owners r ≡ true) × (first 16 pending q ≡ true) × (n ≡ bit_or q (mark c r))
+  pub all : (r q : ℕ) → first MOST_REGISTRATIONS owners r ≡ true → first ATTENTION_SETS pending q ≡ true → has told (bit_or q (mark c r)) ≡ true
+  pub only : (n : ℕ) → has told n ≡ true → (r : ℕ) × (q : ℕ) × (first MOST_REGISTRATIONS owners r ≡ true) × (first ATTENTION_SETS pending q ≡ true) × (n ≡ bit_or q (mark c r))

@@ -10,7 +10,7 @@ use Rattle.pr_attention.specs.declared.attention.Attention.{Attention}
 use Rattle.pr_attention.specs.Attentions.{power_on, code_of}
 use Rattle.pr_attention.specs.Flagged.{codes_of}
 use Rattle.pr_attention.specs.declared.attention.Attention.TheVariants.{PowerOn, ReservationsPreempted, ReservationsReleased, RegistrationsPreempted}
-use Rattle.pr_unit.specs.UnitStates.{UnitState, is_pending, is_any_pending, effect, reported}
+use Rattle.pr_unit.specs.UnitStates.{UnitState, is_pending, is_any_pending, effect, after_report}
 use Rattle.pr_unit.specs.Conflicts.{command_conflicts}
 use Rattle.pr_unit.specs.Faults.{command_fault}
 use Rattle.pr_unit.specs.Replies.{good, check, conflict, report, data_of}
@@ -125,7 +125,7 @@ pub data How : Type 0 where
 
 -- the attention is reported, and is pending no more
 abbrev pub IsReport : Command → ℕ → UnitState → Attention → Reply → UnitState → Type 0
-IsReport c h u a r w = (is_pending u h (code_of a) ≡ true) × (r ≡ report (Plain c) (code_of a)) × (w ≡ reported u h (code_of a))
+IsReport c h u a r w = (is_pending u h (code_of a) ≡ true) × (r ≡ report (Plain c) (code_of a)) × (w ≡ after_report u h (code_of a))
 
 -- it is so after power on, and else where there is no conflict
 abbrev pub MayReport : Command → ℕ → UnitState → Attention → Type 0

@@ -5,6 +5,7 @@ use Rattle.pr_cdb.specs.Requests.{Fits as FitsCommand}
 use Rattle.pr_cdb.specs.declared.reply.Sense.{Sense}
 use Rattle.pr_registry.specs.Registrations.{State}
 use Rattle.pr_unit.specs.Faults.{command_fault}
+use Rattle.pr_script.specs.declared.limits.TheConstants.{MOST_ARMS}
 use Rattle.pr_script.specs.Grammar.{is_written, test_fits}
 use Rattle.pr_sets.specs.Numbers.{Numbers}
 use Rattle.pr_views.specs.declared.view.ViewOf.{ViewOf}
@@ -34,5 +35,5 @@ pub record IsAsked (q : Sending) : Type 0 where
   pub whole : FitsCommand q.command
   pub fault : (u : State) (h : ℕ) (x : Sense) → command_fault u h q.command ≡ Some x → q.fault ≡ Some x
   pub tests : All (λ t. test_fits q.keys.now q.command t ≡ true) q.tests.now
-  pub few : length q.tests.now ≤ 16
+  pub few : length q.tests.now ≤ MOST_ARMS
   pub tally : IsTally (view_of_sending q) q.command q.tests.now q.tally.now

@@ -23,6 +23,7 @@ use Rattle.pr_regions.specs.declared.region.Change.{Change}
 use Rattle.pr_regions.specs.declared.region.Ending.TheVariants as ending
 use Rattle.pr_regions.specs.inside.Parts.{Does, never}
 use Rattle.pr_registry.specs.Registrations.{State}
+use Rattle.pr_script.specs.declared.limits.TheConstants.{MOST_ARMS}
 use Rattle.pr_regions.specs.declared.purpose.Purpose.{Purpose}
 use Rattle.pr_regions.specs.Purposes.{purpose_of, is_refused}
 use Rattle.pr_regions.specs.Regions.{Ends, IsInRegion, IsUntestedOrRegistered}
@@ -187,7 +188,7 @@ pub record IsReadFirst (s : Scope) (view : Possibilities) (place : Place) (r : �
 pub record IsRightReading (s : Scope) (c : Command) (tests : List Test) (view : Possibilities) (place : Place) (r : ℕ) (b : Reading) : Type 0 where
   pub own : place.sender ≡ s.own
   pub is : IsPlace s view place
-  pub few : length tests ≤ 16
+  pub few : length tests ≤ MOST_ARMS
   pub reads : (is_read_keys c || is_read_reservation c) ≡ true
   pub proper : IsUntestedOrRegistered b.region.somebody
   pub looks : (change : Change) → Does change None never place.reservation never never never → (u : UnitState) → Shows (view_in s view) u → HasBoth s place r u

@@ -8,6 +8,7 @@ use Rattle.pr_registry.specs.declared.held.Held.{Held}
 use Rattle.pr_registry.specs.declared.held.Held.TheVariants.{One, All as Everybody}
 use Rattle.pr_registry.specs.Registrations.{kind_of}
 use Rattle.pr_unit.specs.UnitStates.{UnitState}
+use Rattle.pr_roles.specs.declared.limits.TheConstants.{MOST_KEYS}
 use Rattle.pr_sets.specs.declared.word.Word.{Word}
 use Rattle.pr_sets.specs.Words.{has}
 use Rattle.pr_views.specs.Possibilities.{Scope}
@@ -24,7 +25,7 @@ use Rattle.pr_regions.specs.Regions.{Meets, IsInRegion, Ends, AreBranches, IsPro
 
 -- of the registrations that there can be, the word has those that pass
 abbrev pub HasThose : Word → (ℕ → Bool) → Type 0
-HasThose w passes = (r : ℕ) → r ≤ 12 → has w r ≡ passes r
+HasThose w passes = (r : ℕ) → r ≤ MOST_KEYS → has w r ≡ passes r
 
 abbrev pub any : ℕ → Bool
 any r = true

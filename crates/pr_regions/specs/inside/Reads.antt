@@ -12,6 +12,7 @@ use Rattle.pr_unit.specs.Replies.{good, data_of}
 use Rattle.pr_script.specs.declared.script.Test.{Test}
 use Rattle.pr_script.specs.declared.script.Test.TheVariants as test
 use Rattle.pr_script.specs.Takes.{matches}
+use Rattle.pr_roles.specs.declared.limits.TheConstants.{MOST_KEYS}
 use Rattle.pr_sets.specs.declared.word.Word.{Word}
 use Rattle.pr_views.specs.Possibilities.{Scope, IsScope, Registration, IsSo}
 use Rattle.pr_views.specs.Portions.{HasSomebody}
@@ -56,7 +57,7 @@ IsAsked keys hosts held sender own c t (Somebody j) =
 abbrev pub HasFewer : Ask → Type 0
 HasFewer Always = Unit {0}
 HasFewer Never = Unit {0}
-HasFewer (Somebody j) = (1 ≤ j) × (j ≤ 12)
+HasFewer (Somebody j) = (1 ≤ j) × (j ≤ MOST_KEYS)
 
 -- the region in which all others have one of these registrations
 abbrev pub open_to : Word → Region

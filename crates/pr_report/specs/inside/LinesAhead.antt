@@ -2,6 +2,7 @@
 use Rattle.std.specs.Prelude.{◌≡◌, ℕ, ◌+◌, ◌≤◌, ◌==◌, nat_lt, if◌then◌else◌, List, [], ◌∷◌, ◌++◌, length, take, drop, position, Option, Some, None, IfSome}
 use Rattle.std.specs.Option.{option_or}
 use Rattle.std.specs.Io.KnownBytes.{Consumes, Keeps, prepend_known}
+use Rattle.pr_report.specs.declared.ahead.TheConstants.{MOST_LINE_BYTES}
 use Rattle.pr_report.specs.declared.ahead.Ahead.{Ahead}
 use Rattle.pr_report.specs.TraceReadings.{lines}
 
@@ -25,7 +26,7 @@ pub record IsFront (held more : List ℕ) (n : ℕ) : Type 0 where
   pub others : List (List ℕ)
   pub cut : lines (held ++ more) ≡ line ∷ others
   pub shown : take n held ≡ take n line
-  pub whole : n ≤ 1024 → (line ≡ take n held) × (lines (drop (n + 1) held ++ more) ≡ others)
+  pub whole : n ≤ MOST_LINE_BYTES → (line ≡ take n held) × (lines (drop (n + 1) held ++ more) ≡ others)
 
 -- there is such a line, or nothing is left
 abbrev pub StandsInFront : List ℕ → List ℕ → Option ℕ → Type 0
@@ -35,7 +36,7 @@ StandsInFront held more (Some n) = IsFront held more n
 -- where the line in front ends: at a line feed, or past as many bytes as a line may have
 abbrev pub line_end : List ℕ → Option ℕ
 line_end held =
-    option_or (position (λ b. b == 10) held) (if nat_lt 1024 (length held) then Some (length held) else None)
+    option_or (position (λ b. b == 10) held) (if nat_lt MOST_LINE_BYTES (length held) then Some (length held) else None)
 
 -- Nothing of what was left at the start is lost, and this stands in front of it now.
 pub record FindsLine (start : Option (List ℕ)) (held : List ℕ) (known : Option (List ℕ)) (found : Option ℕ) : Type 0 where

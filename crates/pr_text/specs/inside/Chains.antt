@@ -1,28 +1,34 @@
 -- What a line makes of what is declared, test by test as the reader makes them.
-use Rattle.std.specs.Prelude.{ℕ, List, length, Option, if◌then◌else◌, [], ◌∷◌, Some, None, Bool, ◌&&◌, false, ◌==◌, ◌||◌, not, nat_lt, nat_le, ◌++◌, is_some, slice_set, Result, Ok, Err, drop, true, ◌+◌, count_by}
+use Rattle.std.specs.Prelude.{ℕ, List, length, Option, if◌then◌else◌, [], ◌∷◌, Some, None, Bool, ◌&&◌, false, ◌==◌, ◌||◌, not, nat_lt, nat_le, ◌++◌, is_some, slice_set, Result, Ok, Err, ◌+◌}
 use Rattle.std.specs.List.{slice_get, list_all}
 use Rattle.pr_cdb.specs.declared.command.Command.{Command}
 use Rattle.pr_registry.specs.declared.held.Held.{Held}
+use Rattle.pr_attention.specs.Attentions.{code_of}
 use Rattle.pr_attention.specs.declared.attention.Attention.{Attention}
 use Rattle.pr_script.specs.declared.script.Test.{Test}
+use Rattle.pr_script.specs.Grammar.{stands_under, is_test_declared}
 use Rattle.pr_roles.specs.declared.role.Clause.{Clause}
 use Rattle.pr_roles.specs.Fitting.{are_distinct, is_alternative, is_same_alternative, is_same_reservation, is_action}
 use Rattle.pr_cdb.specs.declared.codes.TheConstants.{MOST_NEXUSES}
-use Rattle.pr_script.specs.declared.limits.TheConstants.{MOST_STATEMENTS, MOST_ARMS, MOST_OPEN, MOST_TURNS, MOST_BUDGET}
-use Rattle.pr_roles.specs.declared.limits.TheConstants.{MOST_KEYS, MOST_CLAUSES, MOST_PLANNED}
-use Rattle.pr_text.specs.declared.spelling.ParsedCommand.{ParsedCommand}
+use Rattle.pr_script.specs.declared.limits.TheConstants.{MOST_STATEMENTS, MOST_ARMS, MOST_BUDGET}
+use Rattle.pr_roles.specs.declared.limits.TheConstants.{MOST_KEYS, MOST_CLAUSES}
+use Rattle.pr_lines.specs.declared.spelling.ParsedCommand.{ParsedCommand}
 use Rattle.pr_text.specs.declared.fault.ReadError.{ReadError}
 use Rattle.pr_text.specs.declared.fault.Which.TheVariants as which
 use Rattle.pr_text.specs.declared.fault.ReadError.TheVariants as fault
-use Rattle.pr_text.specs.Declarations.{scripted, planned, Declaration, OpenBlock, repeating, sending, OpenLines, Place, before_all, outside, in_script, in_plan, Declared}
-use Rattle.pr_text.specs.Chain.{each}
-use Rattle.pr_text.specs.Declaring.{declared_keys, number_of, codes_of, are_codes_distinct, held_of, is_spelled, is_test_declared}
+use Rattle.pr_text.specs.Declarations.{scripted, planned, Declaration, OpenLines, Place, before_all, outside, in_script, in_plan, Declared}
+use Rattle.pr_lines.specs.Chain.{each}
+use Rattle.pr_text.specs.Declaring.{declared_keys, number_of, codes_of, held_of}
 use Rattle.pr_text.specs.Faults.{and_then, unless}
-use Rattle.pr_text.specs.ScenarioLines.{StartReservation, ScenarioLine, fence_line, keys_line, host_line, guest_line, start_line, pending_line, reservation_line, generation_line, role_line, script_line, plan_line, end_line, send_line, on_line, done_line, repeat_line, break_line, stop_line, command_line}
-use Rattle.pr_text.specs.NextLine.{with_task, begun_script, opening, stating}
+use Rattle.pr_lines.specs.ScenarioLines.{StartReservation, ScenarioLine, fence_line, keys_line, nexus_line, start_line, pending_line, reservation_line, generation_line, role_line, script_line, plan_line, end_line, command_line, DeclaringLine, StatementLine, declares, states}
+use Rattle.pr_text.specs.LineFaults.{first_fault, statement_fault, command_fault}
+use Rattle.pr_text.specs.NextLine.{with_task, begun_script, with_statement_line}
 use Rattle.pr_text.specs.ScriptRoundTrip.{said_by, numbered}
-use Rattle.pr_text.specs.ScriptLines.{ScriptLine, send_at, arm_on, block_done, repeat_of, break_out, stop_with}
-use Rattle.pr_text.specs.Standing.{is_repeating, is_sending, awaits_arm, awaits_more, may_close, stands_under}
+use Rattle.pr_text.specs.ScriptLines.{ScriptLine}
+
+-- no two attentions have one code
+abbrev pub are_codes_distinct : List Attention → Bool
+are_codes_distinct xs = are_distinct (λ x y. code_of x == code_of y) xs
 
 -- ---- nexuses
 
@@ -120,104 +126,50 @@ plan_placed n name d = at_name n d name (plan_at n d)
 abbrev pub is_full : OpenLines → Bool
 is_full o = nat_le MOST_STATEMENTS o.statements
 
-unfoldable pub send_step : ℕ → List ℕ → ParsedCommand → OpenLines → Result OpenLines ReadError
-send_step n keys s o =
-    if awaits_arm o.blocks then Err (fault.Syntax n) else (
-    if not (is_spelled keys s) then Err (fault.UndeclaredKey n) else (
-    if is_full o then Err (fault.Limit which.Statements n) else (
-    if nat_le MOST_OPEN (count_by is_sending o.blocks) then Err (fault.Limit which.Nesting n) else
-    Ok (opening (send_at n s.command) (sending s.command 0) o))))
-
-unfoldable pub repeat_step : ℕ → ℕ → OpenLines → Result OpenLines ReadError
-repeat_step n count o =
-    if awaits_arm o.blocks then Err (fault.Syntax n) else (
-    if is_full o then Err (fault.Limit which.Statements n) else (
-    if nat_le MOST_OPEN (count_by is_repeating o.blocks) then Err (fault.Limit which.Nesting n) else (
-    if not (nat_le 1 count && nat_le count MOST_TURNS) then Err (fault.Limit which.Repeat n) else
-    Ok (opening (repeat_of count) repeating o))))
-
-unfoldable pub break_step : ℕ → OpenLines → Result OpenLines ReadError
-break_step n o =
-    if awaits_more o || count_by is_repeating o.blocks == 0 then Err (fault.Syntax n) else (
-    if is_full o then Err (fault.Limit which.Statements n) else
-    Ok (stating break_out o))
-
-unfoldable pub stop_step : ℕ → List ℕ → OpenLines → Result OpenLines ReadError
-stop_step n word o =
-    if awaits_more o then Err (fault.Syntax n) else (
-    if is_full o then Err (fault.Limit which.Statements n) else
-    Ok (stating (stop_with word) o))
-
 -- why an arm may not be the next of a send that has so many
 abbrev pub arm_fault : ℕ → List ℕ → Test → Command → ℕ → Option ReadError
 arm_fault n keys t c arms =
-    if not (stands_under c t) then Some (fault.Syntax n) else (
-    if not (is_test_declared keys t) then Some (fault.UndeclaredKey n) else (
-    if nat_le MOST_ARMS arms then Some (fault.Limit which.Arms n) else None))
+    first_fault n (not (stands_under c t)) false (not (is_test_declared keys t)) false (if nat_le MOST_ARMS arms then Some which.Arms else None)
 
-abbrev pub on_step_in : ℕ → List ℕ → Test → OpenLines → List OpenBlock → Result OpenLines ReadError
-on_step_in n keys t o [] = Err (fault.Syntax n)
-on_step_in n keys t o (repeating ∷ bs) = Err (fault.Syntax n)
-on_step_in n keys t o ((sending c arms) ∷ bs) =
-    unless (arm_fault n keys t c arms) (record o { lines = o.lines ++ arm_on t ∷ []; blocks = sending c (arms + 1) ∷ bs; begun = false })
+-- what a statement's line of this number makes of the script, under these declared keys
+unfoldable pub script_step : ℕ → List ℕ → StatementLine → OpenLines → Result OpenLines ReadError
+script_step n keys l o = unless (statement_fault n keys o l) (with_statement_line n l o)
 
-unfoldable pub on_step : ℕ → List ℕ → Test → OpenLines → Result OpenLines ReadError
-on_step n keys t o = on_step_in n keys t o o.blocks
-
-unfoldable pub done_step : ℕ → OpenLines → Result OpenLines ReadError
-done_step n o =
-    if may_close o.blocks o.begun then
-    Ok (record o { lines = o.lines ++ block_done ∷ []; blocks = drop 1 o.blocks; begun = true })
-    else Err (fault.Syntax n)
-
--- what the line of this number makes of the script, under these declared keys
-abbrev pub script_step : ℕ → List ℕ → ScenarioLine → OpenLines → Result OpenLines ReadError
-script_step n keys (send_line s) o = send_step n keys s o
-script_step n keys (on_line t) o = on_step n keys t o
-script_step n keys done_line o = done_step n o
-script_step n keys (repeat_line count) o = repeat_step n count o
-script_step n keys break_line o = break_step n o
-script_step n keys (stop_line word) o = stop_step n word o
-script_step n keys fence_line o = Err (fault.Syntax n)
-script_step n keys (keys_line ks) o = Err (fault.Syntax n)
-script_step n keys (host_line name) o = Err (fault.Syntax n)
-script_step n keys (guest_line name) o = Err (fault.Syntax n)
-script_step n keys (start_line name xs) o = Err (fault.Syntax n)
-script_step n keys (pending_line name xs) o = Err (fault.Syntax n)
-script_step n keys (reservation_line ws) o = Err (fault.Syntax n)
-script_step n keys (generation_line generation) o = Err (fault.Syntax n)
-script_step n keys (role_line name clause) o = Err (fault.Syntax n)
-script_step n keys (script_line name budget) o = Err (fault.Syntax n)
-script_step n keys (plan_line name) o = Err (fault.Syntax n)
-script_step n keys end_line o = Err (fault.Syntax n)
-script_step n keys (command_line s) o = Err (fault.Syntax n)
+-- what any line makes of it
+abbrev pub line_step : ℕ → List ℕ → ScenarioLine → OpenLines → Result OpenLines ReadError
+line_step n keys fence_line o = Err (fault.Syntax n)
+line_step n keys (declares l) o = Err (fault.Syntax n)
+line_step n keys (states l) o = script_step n keys l o
+line_step n keys (command_line s) o = Err (fault.Syntax n)
+line_step n keys end_line o = Err (fault.Syntax n)
 
 -- the first line
 abbrev pub placed_first : ℕ → ScenarioLine → Declared → Result Declared ReadError
 placed_first n fence_line d = Ok (record d { place = outside })
-placed_first n item d = Err (fault.Syntax n)
+placed_first n (declares l) d = Err (fault.Syntax n)
+placed_first n (states l) d = Err (fault.Syntax n)
+placed_first n (command_line s) d = Err (fault.Syntax n)
+placed_first n end_line d = Err (fault.Syntax n)
+
+-- a line that declares
+abbrev pub declared_with : ℕ → DeclaringLine → Declared → Result Declared ReadError
+declared_with n (keys_line keys) d = keys_placed n keys d
+declared_with n (nexus_line guest name) d = nexus_placed n guest name d
+declared_with n (start_line name xs) d = start_placed n name xs d
+declared_with n (pending_line name xs) d = pending_placed n name xs d
+declared_with n (reservation_line ws) d = reservation_placed n ws d
+declared_with n (generation_line generation) d = generation_placed n generation d
+declared_with n (role_line name clause) d = role_placed n name clause d
+declared_with n (script_line name budget) d = script_placed n name budget d
+declared_with n (plan_line name) d = plan_placed n name d
 
 -- a line outside scripts and plans
 abbrev pub placed_outside : ℕ → ScenarioLine → Declared → Result Declared ReadError
-placed_outside n (keys_line keys) d = keys_placed n keys d
-placed_outside n (host_line name) d = nexus_placed n false name d
-placed_outside n (guest_line name) d = nexus_placed n true name d
-placed_outside n (start_line name xs) d = start_placed n name xs d
-placed_outside n (pending_line name xs) d = pending_placed n name xs d
-placed_outside n (reservation_line ws) d = reservation_placed n ws d
-placed_outside n (generation_line generation) d = generation_placed n generation d
-placed_outside n (role_line name clause) d = role_placed n name clause d
-placed_outside n (script_line name budget) d = script_placed n name budget d
-placed_outside n (plan_line name) d = plan_placed n name d
 placed_outside n fence_line d = Err (fault.Syntax n)
-placed_outside n end_line d = Err (fault.Syntax n)
-placed_outside n (send_line s) d = Err (fault.Syntax n)
-placed_outside n (on_line t) d = Err (fault.Syntax n)
-placed_outside n done_line d = Err (fault.Syntax n)
-placed_outside n (repeat_line count) d = Err (fault.Syntax n)
-placed_outside n break_line d = Err (fault.Syntax n)
-placed_outside n (stop_line word) d = Err (fault.Syntax n)
+placed_outside n (declares l) d = declared_with n l d
+placed_outside n (states l) d = Err (fault.Syntax n)
 placed_outside n (command_line s) d = Err (fault.Syntax n)
+placed_outside n end_line d = Err (fault.Syntax n)
 
 -- the last line of a script, within which no block is open
 abbrev pub script_ended : ℕ → OpenLines → Declared → Result Declared ReadError
@@ -227,13 +179,10 @@ script_ended n o d =
 -- a line of a script
 abbrev pub placed_in_script : ℕ → OpenLines → ScenarioLine → Declared → Result Declared ReadError
 placed_in_script n o end_line d = script_ended n o d
-placed_in_script n o item d = and_then (script_step n (declared_keys d) item o) (λ p. Ok (record d { place = in_script p }))
+placed_in_script n o item d = and_then (line_step n (declared_keys d) item o) (λ p. Ok (record d { place = in_script p }))
 
 unfoldable pub planned_step : ℕ → List ℕ → ParsedCommand → List Command → Result (List Command) ReadError
-planned_step n keys s commands =
-    if not (is_spelled keys s) then Err (fault.UndeclaredKey n) else (
-    if nat_le MOST_PLANNED (length commands) then Err (fault.Limit which.Plan n) else
-    Ok (commands ++ s.command ∷ []))
+planned_step n keys s commands = unless (command_fault n keys commands s) (commands ++ s.command ∷ [])
 
 -- a line of a plan
 abbrev pub placed_in_plan : ℕ → ℕ → List Command → ScenarioLine → Declared → Result Declared ReadError

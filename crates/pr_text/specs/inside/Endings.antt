@@ -1,11 +1,10 @@
 -- What is wrong after the last line, as the reader finds it: what is missing, and then whether there is a start.
-use Rattle.std.specs.Prelude.{◌≡◌, ℕ, List, length, Option, Some, option_map, if◌then◌else◌, ◌==◌, Result, Ok, Err}
-use Rattle.std.specs.Str.Lines.{lines}
+use Rattle.std.specs.Prelude.{ℕ, List, length, Option, Some, option_map, if◌then◌else◌, ◌==◌, Result, Ok, Err}
 use Rattle.pr_text.specs.declared.fault.ReadError.{ReadError}
 use Rattle.pr_text.specs.declared.fault.Which.TheVariants as which
 use Rattle.pr_text.specs.declared.fault.ReadError.TheVariants as fault
-use Rattle.pr_text.specs.Declarations.{Declaration, Place, before_all, outside, in_script, in_plan, Declared, nothing}
-use Rattle.pr_text.specs.Texts.{all_placed, first_unscripted, starts_somewhere}
+use Rattle.pr_text.specs.Declarations.{Declaration, Place, before_all, outside, in_script, in_plan, Declared}
+use Rattle.pr_text.specs.Texts.{first_unscripted, starts_somewhere}
 
 -- what is missing in a text that ends outside scripts and plans, on the line of this number
 abbrev pub whole_fault : ℕ → List Declaration → Option ReadError

@@ -2,6 +2,7 @@
 use Rattle.std.specs.Prelude.{◌≡◌, ℕ, ◌≤◌, true, IsTrue, List, length, map}
 use Rattle.std.specs.List.{All, Contains}
 use Rattle.pr_cdb.specs.Requests.{Fits}
+use Rattle.pr_script.specs.declared.limits.TheConstants.{MOST_ARMS}
 use Rattle.pr_script.specs.Grammar.{is_written, test_fits}
 use Rattle.pr_verify.specs.declared.places.Spot.{Spot}
 use Rattle.pr_verify.specs.Places.{Place}
@@ -18,7 +19,7 @@ AreInRange spots = All (λ s. Fits s.command) spots
 pub record IsPlaceWritten (keys : List ℕ) (p : Place) : Type 0 where
   pub command : IsTrue (is_written keys p.command)
   pub tests : All (λ t. test_fits keys p.command t ≡ true) p.tests
-  pub few : length p.tests ≤ 16
+  pub few : length p.tests ≤ MOST_ARMS
   pub next : length p.next ≡ length p.tests
 
 -- each of these lines is one of those

@@ -3,7 +3,7 @@ use Rattle.std.specs.Prelude.{◌≡◌, ℕ, ◌≤◌, Bool, true, false, IsTr
 use Rattle.pr_cdb.specs.declared.command.Command.{Command}
 use Rattle.pr_cdb.specs.declared.wire.Request.{Request}
 use Rattle.pr_cdb.specs.declared.wire.Request.TheVariants.{Plain}
-use Rattle.pr_cdb.specs.Requests.{requested, AreBytes}
+use Rattle.pr_cdb.specs.Requests.{request_of_wire, AreBytes}
 use Rattle.pr_cdb.specs.Spelling.{spelling}
 use Rattle.pr_unit.specs.UnitStates.{UnitState}
 use Rattle.pr_unit.specs.Replies.{is_good}
@@ -13,7 +13,7 @@ use Rattle.pr_roles.specs.declared.role.Clause.{Clause}
 use Rattle.pr_roles.specs.declared.entry.Entry.{Entry}
 use Rattle.pr_roles.specs.Permits.{is_permitted}
 use Rattle.pr_roles.specs.Scenarios.{Scenario}
-use Rattle.pr_roles.specs.Worlds.{World, Event, Happens, Control, Going, Trapped, Free, standing_of, taken}
+use Rattle.pr_roles.specs.Worlds.{World, Event, Happens, Control, Going, Trapped, Free, standing_of, control_after}
 use Rattle.pr_world.specs.declared.auditor.Auditor.{Auditor}
 use Rattle.pr_world.specs.declared.sender.Sender.{Sender}
 use Rattle.pr_world.specs.declared.sender.Sender.TheVariants as sender
@@ -28,14 +28,14 @@ pub record ScriptSends (k : Control) (u : UnitState) (e : Entry) (after : Contro
   pub ready : standing_of k ≡ Some (ready line command)
   pub wire : e.wire ≡ spelling command
   pub step : Step u e.host (Plain command) e.reply v
-  pub takes : after ≡ taken line k e.reply
+  pub takes : after ≡ control_after line k e.reply
 
 -- the bytes are a request, the unit may answer it so, and where that is GOOD the role permits it
 pub record GuestSendsSo (clauses : List Clause) (u : UnitState) (e : Entry) (v : UnitState) : Type 0 where
   pub bytes : AreBytes e.wire.cdb.items × AreBytes e.wire.params.items
   pub lengths : (length e.wire.cdb.items ≤ 16) × (length e.wire.params.items ≤ 24)
   pub request : Request
-  pub read : requested e.wire ≡ Ok request
+  pub read : request_of_wire e.wire ≡ Ok request
   pub step : Step u e.host request e.reply v
   pub permitted : is_good e.reply ≡ true → IsTrue (is_permitted clauses u.registry e.host request)
 

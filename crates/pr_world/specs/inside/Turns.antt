@@ -6,7 +6,7 @@ use Rattle.pr_script.specs.Scripts.{Standing, ready, stopped}
 use Rattle.pr_roles.specs.declared.role.Clause.{Clause}
 use Rattle.pr_roles.specs.declared.entry.Entry.{Entry}
 use Rattle.pr_roles.specs.Scenarios.{Scenario, role}
-use Rattle.pr_roles.specs.Worlds.{Control, Going, Trapped, Free, control, standing_of, taken}
+use Rattle.pr_roles.specs.Worlds.{Control, Going, Trapped, Free, control, standing_of, control_after}
 use Rattle.pr_roles.specs.Schedules.{Schedule, plan, is_held_back}
 use Rattle.pr_world.specs.declared.act.Act.{Act}
 use Rattle.pr_world.specs.declared.act.Act.TheVariants as act
@@ -66,7 +66,7 @@ Rests u x y v = (y ≡ x) × (v ≡ u)
 
 -- a host sends its command where it is ready, and takes the reply
 abbrev pub HostActs : Option Standing → ℕ → Participation → UnitState → Option Entry → Participation → UnitState → Type 0
-HostActs (Some (ready line c)) h x u (Some e) y v = IsSentHere u h c e v × (y ≡ participation (taken line x.control e.reply) x.plan)
+HostActs (Some (ready line c)) h x u (Some e) y v = IsSentHere u h c e v × (y ≡ participation (control_after line x.control e.reply) x.plan)
 HostActs (Some (ready line c)) h x u None y v = ⊥
 HostActs (Some (stopped word)) h x u (Some e) y v = ⊥
 HostActs (Some (stopped word)) h x u None y v = Rests u x y v

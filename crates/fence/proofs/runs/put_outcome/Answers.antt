@@ -1,7 +1,7 @@
 -- The history has no more entries than there are numbers for, and the counts are those of its text.
 use Rattle.std.proofs.Common.{◌^◌, ◌<◌, refl, sym, ◌∙◌, subst}
 use Rattle.pr_roles.specs.Scenarios.{scenario_of}
-use Rattle.pr_roles.specs.Worlds.{sent}
+use Rattle.pr_roles.specs.Worlds.{commands_by}
 use Rattle.pr_shared.proofs.Fitted.{number_of_nexuses}
 use Rattle.pr_report.specs.Written.{Puts}
 use Rattle.fence.proofs.Performing.{counts_at, few_sent, text_of_outcome}
@@ -9,7 +9,7 @@ use Rattle.fence.proofs.runs.put_outcome.Goals as goal
 
 pub counts_of-counts-requires-clause-fit : goal.counts_of-counts-requires-clause-fit
 counts_of-counts-requires-clause-fit g c = λ h.
-    subst (λ es. sent es h < 2 ^ 32) (sym c.deref.ensures.value)
+    subst (λ es. commands_by es h < 2 ^ 32) (sym c.deref.ensures.value)
     (few_sent (scenario_of c.args.scenario.now) c.args.outcome.now h c.parts.ensures.fits c.requires.safe c.requires.comes)
 
 pub returns : goal.returns

@@ -1,8 +1,8 @@
 use Rattle.std.proofs.Common.{ap, ◌∙◌}
-use Rattle.pr_cdb.specs.Requests.{requested}
+use Rattle.pr_cdb.specs.Requests.{request_of_wire}
 use Rattle.pr_cdb.proofs.ReadsWritten.{written_is_read}
 use Rattle.pr_cdb.proofs.writing.encode.Goals as goal
 
 pub returns-clause-read_again : goal.returns-clause-read_again
 returns-clause-read_again c =
-    ap requested c.spelled.ensures.bytes ∙ written_is_read c.args.command.now c.spelled.ensures.fits
+    ap request_of_wire c.wire_of.ensures.bytes ∙ written_is_read c.args.command.now c.wire_of.ensures.fits

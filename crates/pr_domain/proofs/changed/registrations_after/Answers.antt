@@ -2,6 +2,7 @@ use Rattle.std.proofs.Common.{ℕ, ◌≡◌, ◌≢◌, ◌<◌, ◌==◌, Bool
 use Rattle.std.proofs.lemmas.Bool.{cases_lt, false≢true}
 use Rattle.std.proofs.lemmas.Bool.Decides.{nat_tests}
 use Rattle.std.proofs.lemmas.List.{length-set}
+use Rattle.pr_cdb.specs.declared.codes.TheConstants.{MOST_NEXUSES}
 use Rattle.pr_sets.specs.declared.word.Word.{Word}
 use Rattle.pr_sets.specs.Words.{has}
 use Rattle.pr_regions.specs.declared.region.Change.{Change}
@@ -55,8 +56,8 @@ past_image words after g f beyond also = record {
 }
 
 pub returns : goal.returns
-returns c g = at (cases_lt g 8)
+returns c g = at (cases_lt g MOST_NEXUSES)
   where
-    at : (g < 8) ⊎ (8 ≤ g) → IsImage (has_at c.args.words.now g) (becomes c.args.sender c.args.change.now g) (has_at c.loop-host.after g)
+    at : (g < MOST_NEXUSES) ⊎ (MOST_NEXUSES ≤ g) → IsImage (has_at c.args.words.now g) (becomes c.args.sender c.args.change.now g) (has_at c.loop-host.after g)
     at (inl small) = subst (λ n. IsImage (has_at c.args.words.now g) (becomes n c.args.change.now g) (has_at c.loop-host.after g)) c.from-from.ensures (c.loop-host.invariant.done g (omega arith))
     at (inr beyond) = past_image c.args.words.now c.loop-host.after g (becomes c.args.sender c.args.change.now g) (omega arith) (let e = c.loop-host.invariant.size in omega arith)

@@ -1,4 +1,5 @@
 use Rattle.std.proofs.Common.{◌≡◌, ◌<◌, ℕ, length}
+use Rattle.pr_cdb.specs.declared.codes.TheConstants.{MOST_NEXUSES}
 use Rattle.pr_views.specs.Portions.{has_at}
 use Rattle.pr_domain.specs.inside.Images.{IsImage, becomes}
 use Rattle.pr_domain.proofs.changed.registrations_after.Given as goal
@@ -6,5 +7,5 @@ use Rattle.pr_domain.proofs.changed.registrations_after.Given as goal
 abbrev pub invariant-loop-host : goal.invariant-loop-host
 invariant-loop-host l = record {
   done : (g : ℕ) → g < l.host → IsImage (has_at l.words g) (becomes l.from l.change g) (has_at l.after g);
-  size : length l.after ≡ 8;
+  size : length l.after ≡ MOST_NEXUSES;
 }

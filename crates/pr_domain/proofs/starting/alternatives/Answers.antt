@@ -1,6 +1,7 @@
 use Rattle.std.proofs.Common.{◌≡◌, ◌≤◌, ◌<◌, true, length, get_or, Some, sym, ap, ◌∙◌, subst, arith}
 use Rattle.std.specs.List.{list_all}
 use Rattle.std.proofs.lemmas.Option.{slice_get-get_or}
+use Rattle.pr_cdb.specs.declared.codes.TheConstants.{MOST_NEXUSES}
 use Rattle.pr_roles.specs.Fitting.{is_reservation}
 use Rattle.pr_views.specs.declared.possibilities.Possibilities.{Possibilities}
 use Rattle.pr_views.proofs.Viewing.{words_fit}
@@ -13,7 +14,7 @@ pub registrations-requires-clause-keys : goal.registrations-requires-clause-keys
 registrations-requires-clause-keys c = subst (λ keys. length keys ≤ 12) (sym c.deref.ensures.value) (few_of_parts c.args.parts.now c.requires.parts)
 
 pub registrations-requires-clause-nexuses : goal.registrations-requires-clause-nexuses
-registrations-requires-clause-nexuses c = subst (λ nexuses. length nexuses ≤ 8) (sym c.deref-2.ensures.value) (few_nexuses c.args.parts.now c.requires.parts).1
+registrations-requires-clause-nexuses c = subst (λ nexuses. length nexuses ≤ MOST_NEXUSES) (sym c.deref-2.ensures.value) (few_nexuses c.args.parts.now c.requires.parts).1
 
 pub reservations-requires-clause-hosts : goal.reservations-requires-clause-hosts
 reservations-requires-clause-hosts c = let few = (few_nexuses c.args.parts.now c.requires.parts).1 in omega arith
@@ -49,6 +50,6 @@ pub returns-clause-fits : goal.returns-clause-fits
 unfolding all
 returns-clause-fits c =
     let parts = c.args.parts.now in
-    words_fit c.args.own c.args.hosts parts.keys.items (all c) (subst (λ n. (1 ≤ n) × (n ≤ 8)) c.requires.nexuses (few_nexuses parts c.requires.parts)) c.requires.own (keys_of_parts parts c.requires.parts)
+    words_fit c.args.own c.args.hosts parts.keys.items (all c) (subst (λ n. (1 ≤ n) × (n ≤ MOST_NEXUSES)) c.requires.nexuses (few_nexuses parts c.requires.parts)) c.requires.own (keys_of_parts parts c.requires.parts)
     (written_in_range c.args.hosts c.args.own parts (all c) c.requires.parts c.requires.nexuses (written c))
     (written_past c.args.hosts c.args.own parts (all c) c.requires.nexuses (written c))

@@ -1,4 +1,5 @@
 use Rattle.std.proofs.Common.{◌≡◌, ◌<◌, ◌≤◌, ℕ, false, length}
+use Rattle.pr_cdb.specs.declared.codes.TheConstants.{MOST_NEXUSES}
 use Rattle.pr_views.specs.Portions.{has_at}
 use Rattle.pr_domain.specs.inside.Beginning.{may_have}
 use Rattle.pr_domain.proofs.starting.registrations.Given as goal
@@ -7,5 +8,5 @@ abbrev pub invariant-loop-host : goal.invariant-loop-host
 invariant-loop-host l = record {
   done : (g r : ℕ) → g < l.host → has_at l.words g r ≡ may_have l.keys l.nexuses g r;
   past : (g r : ℕ) → l.host ≤ g → has_at l.words g r ≡ false;
-  size : length l.words ≡ 8;
+  size : length l.words ≡ MOST_NEXUSES;
 }

@@ -15,7 +15,7 @@ returns c standing =
     (record {
       sender = change.sender;
       removed = c.registered.ensures;
-      reservation = change.reservation ∙ ap (λ (v : Held). number_of c.args.hosts (Some v)) c.established.ensures;
+      reservation = change.reservation ∙ ap (λ (v : Held). number_of c.args.hosts (Some v)) c.new_reservation.ensures;
       told_03 = change.told_03;
       told_04 = change.told_04;
       told_05 = c.registered-2.ensures;

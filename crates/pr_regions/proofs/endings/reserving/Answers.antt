@@ -8,7 +8,7 @@ use Rattle.pr_regions.proofs.endings.reserving.Goals.{else-holds-via-then-holds+
 
 pub returns-in_default : goal.returns-in_default
 returns-in_default c =
-    reserve_new c.args.hosts c.args.kind c.args.held c.args.sender c.args.standing c.unchanged.result c.in_default.is (rw (← c.established.ensures) c.unchanged.ensures.change) c.unchanged.ensures.room
+    reserve_new c.args.hosts c.args.kind c.args.held c.args.sender c.args.standing c.unchanged.result c.in_default.is (rw (← c.new_reservation.ensures) c.unchanged.ensures.change) c.unchanged.ensures.room
 
 pub returns-then-is_kind : goal.returns-then-is_kind
 returns-then-is_kind c =

@@ -2,7 +2,7 @@ use Rattle.std.proofs.Common.{ℕ, ◌<◌, ◌≤◌, ◌∙◌, ap, arith}
 use Rattle.std.specs.FinSet as set
 use Rattle.pr_sets.specs.Kept.{numbers_of_bits}
 use Rattle.pr_views.specs.Possibilities.{count_of_attentions}
-use Rattle.pr_report.specs.Printed.{printed}
+use Rattle.pr_report.specs.Printed.{printed_word}
 use Rattle.pr_report.specs.PrintedLines.{attentions_word}
 use Rattle.pr_report.specs.OutlineText.{codes_in}
 use Rattle.pr_report.proofs.Fronts.{puts_err}
@@ -10,7 +10,7 @@ use Rattle.pr_report.proofs.Shown.{possible_front, possible_more, range_here, ra
 use Rattle.pr_report.proofs.outline.put_pending.Goals as goal
 
 pub returns-in_err-put_if : goal.returns-in_err-put_if
-unfolding printed
+unfolding printed_word
 returns-in_err-put_if g c =
     let word = λ (q : ℕ). attentions_word (codes_in q) in
     let is_possible = λ (q : ℕ). set.contains (numbers_of_bits c.args.pending.now.bits) q in
@@ -19,7 +19,7 @@ returns-in_err-put_if g c =
     c.has.ensures (ap attentions_word (c.as_slice.ensures.value ∙ c.codes_in-codes.ensures)) c.loop-number.invariant c.in_err-put_if.ensures) c.from_residual.ensures.0
 
 pub loop-number-preserved : goal.loop-number-preserved
-unfolding printed
+unfolding printed_word
 loop-number-preserved g c =
     let word = λ (q : ℕ). attentions_word (codes_in q) in
     let is_possible = λ (q : ℕ). set.contains (numbers_of_bits c.args.pending.now.bits) q in

@@ -3,7 +3,7 @@ use Rattle.std.specs.FinSet as set
 use Rattle.std.specs.List.{filter, range_with_len}
 use Rattle.pr_sets.specs.Kept.{numbers_of_bits}
 use Rattle.pr_views.specs.Possibilities.{count_of_attentions}
-use Rattle.pr_report.specs.Printed.{printed}
+use Rattle.pr_report.specs.Printed.{printed_word}
 use Rattle.pr_report.specs.PrintedLines.{attentions_word}
 use Rattle.pr_report.specs.OutlineText.{codes_in, pending_line}
 use Rattle.pr_report.proofs.Fronts.{front_first, front_then, puts_err, puts_last}
@@ -11,14 +11,14 @@ use Rattle.pr_report.proofs.Shown.{line_pieces, puts_as}
 use Rattle.pr_report.proofs.outline.put_pending_line.Goals as goal
 
 pub returns-in_err-begin_item : goal.returns-in_err-begin_item
-unfolding printed pending_line
+unfolding printed_word pending_line
 returns-in_err-begin_item g c = λ own.
     let is_possible = λ (q : ℕ). set.contains (numbers_of_bits c.args.view.now.pending.bits) q in
     let words = map (λ (q : ℕ). attentions_word (codes_in q)) (filter is_possible (range_with_len 0 count_of_attentions)) in
     puts_as _ _ _ _ _ (line_pieces (codes " ") (codes "pending" ∷ []) words) (puts_err _ _ _ _ (front_first _ _ _ _ c.in_err-begin_item.ensures) c.from_residual.ensures.0)
 
 pub returns-in_err-put_pending : goal.returns-in_err-put_pending
-unfolding printed pending_line
+unfolding printed_word pending_line
 returns-in_err-put_pending g c = λ own.
     let is_possible = λ (q : ℕ). set.contains (numbers_of_bits c.args.view.now.pending.bits) q in
     let words = map (λ (q : ℕ). attentions_word (codes_in q)) (filter is_possible (range_with_len 0 count_of_attentions)) in
@@ -27,7 +27,7 @@ returns-in_err-put_pending g c = λ own.
     (puts_err _ _ _ _ (front_then _ _ _ _ _ c.in_ok-begin_item.ensures f) c.from_residual-in_err-put_pending.ensures.0)
 
 pub returns : goal.returns
-unfolding printed pending_line
+unfolding printed_word pending_line
 returns g c = λ own.
     let is_possible = λ (q : ℕ). set.contains (numbers_of_bits c.args.view.now.pending.bits) q in
     let words = map (λ (q : ℕ). attentions_word (codes_in q)) (filter is_possible (range_with_len 0 count_of_attentions)) in

@@ -1,6 +1,6 @@
-use Rattle.pr_report.specs.Printed.{printed}
+use Rattle.pr_report.specs.Printed.{printed_word}
 use Rattle.pr_report.proofs.outline.put_permitted.Goals as goal
 
 pub returns-else-permitted : goal.returns-else-permitted
-unfolding printed
+unfolding printed_word
 returns-else-permitted g c = rw c.if-permitted.false c.put_item.ensures

@@ -1,5 +1,5 @@
 use Rattle.std.proofs.Common.{ap, ◌∙◌}
-use Rattle.pr_report.specs.Printed.{printed}
+use Rattle.pr_report.specs.Printed.{printed_word}
 use Rattle.pr_report.specs.TraceText.{name_of, names_of}
 use Rattle.pr_report.proofs.Fronts.{front_first, front_then, puts_err, puts_last}
 use Rattle.pr_report.proofs.OutlineSteps.{registration_begins, registration_pieces}
@@ -7,14 +7,14 @@ use Rattle.pr_report.proofs.Shown.{puts_as}
 use Rattle.pr_report.proofs.outline.put_registration_line.Goals as goal
 
 pub returns-in_err-begin_item : goal.returns-in_err-begin_item
-unfolding printed
+unfolding printed_word
 returns-in_err-begin_item g c = λ own.
     let named = c.name_of.ensures ∙ ap (λ h. name_of (names_of c.args.nexuses.now) h) c.from.ensures in
     puts_as _ _ _ _ _ (registration_begins (names_of c.args.nexuses.now) own c.args.view.now c.args.host _ named)
     (puts_err _ _ _ _ (front_first _ _ _ _ c.in_err-begin_item.ensures) c.from_residual.ensures.0)
 
 pub returns-in_err-put_keys : goal.returns-in_err-put_keys
-unfolding printed
+unfolding printed_word
 returns-in_err-put_keys g c = λ own.
     let named = c.name_of.ensures ∙ ap (λ h. name_of (names_of c.args.nexuses.now) h) c.from.ensures in
     let f = front_first _ _ _ _ c.in_err-put_keys.ensures in
@@ -22,7 +22,7 @@ returns-in_err-put_keys g c = λ own.
     (puts_err _ _ _ _ (front_then _ _ _ _ _ c.in_ok-begin_item.ensures f) c.from_residual-in_err-put_keys.ensures.0)
 
 pub returns : goal.returns
-unfolding printed
+unfolding printed_word
 returns g c = λ own.
     let named = c.name_of.ensures ∙ ap (λ h. name_of (names_of c.args.nexuses.now) h) c.from.ensures in
     puts_as _ _ _ _ _ (registration_pieces (names_of c.args.nexuses.now) own c.args.view.now c.args.host _ _ _ c.set_of.ensures c.deref.ensures.0 named)

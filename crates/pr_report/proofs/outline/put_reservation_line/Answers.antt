@@ -2,7 +2,7 @@ use Rattle.std.proofs.Common.{[], ◌∷◌, codes, map}
 use Rattle.pr_sets.specs.declared.word_set.WordSet.{WordSet}
 use Rattle.pr_sets.specs.Kept.{numbers_of_bits}
 use Rattle.pr_views.specs.Rooms.{view_of}
-use Rattle.pr_report.specs.Printed.{printed}
+use Rattle.pr_report.specs.Printed.{printed_word}
 use Rattle.pr_report.specs.TraceText.{held_word, names_of}
 use Rattle.pr_report.specs.OutlineText.{possible_of, reservation_line, reservations}
 use Rattle.pr_report.proofs.Fronts.{front_first, front_then, puts_err, puts_last}
@@ -10,14 +10,14 @@ use Rattle.pr_report.proofs.Shown.{line_pieces, puts_as}
 use Rattle.pr_report.proofs.outline.put_reservation_line.Goals as goal
 
 pub returns-in_err-begin_item : goal.returns-in_err-begin_item
-unfolding printed reservation_line
+unfolding printed_word reservation_line
 returns-in_err-begin_item g c = λ own.
     let view = view_of (λ (s : WordSet). numbers_of_bits s.bits) own c.args.view.now in
     let words = map (held_word (names_of c.args.nexuses.now)) (possible_of view (reservations view.scope.hosts)) in
     puts_as _ _ _ _ _ (line_pieces (codes " ") (codes "reservation" ∷ []) words) (puts_err _ _ _ _ (front_first _ _ _ _ c.in_err-begin_item.ensures) c.from_residual.ensures.0)
 
 pub returns-in_err-put_reservations : goal.returns-in_err-put_reservations
-unfolding printed reservation_line
+unfolding printed_word reservation_line
 returns-in_err-put_reservations g c = λ own.
     let view = view_of (λ (s : WordSet). numbers_of_bits s.bits) own c.args.view.now in
     let words = map (held_word (names_of c.args.nexuses.now)) (possible_of view (reservations view.scope.hosts)) in
@@ -26,7 +26,7 @@ returns-in_err-put_reservations g c = λ own.
     (puts_err _ _ _ _ (front_then _ _ _ _ _ c.in_ok-begin_item.ensures f) c.from_residual-in_err-put_reservations.ensures.0)
 
 pub returns : goal.returns
-unfolding printed reservation_line
+unfolding printed_word reservation_line
 returns g c = λ own.
     let view = view_of (λ (s : WordSet). numbers_of_bits s.bits) own c.args.view.now in
     let words = map (held_word (names_of c.args.nexuses.now)) (possible_of view (reservations view.scope.hosts)) in

@@ -2,26 +2,26 @@ use Rattle.std.proofs.Common.{◌≡◌, ℕ, ◌+◌, ◌<◌, ◌≤◌, List,
 use Rattle.std.proofs.Math.ListN.{drop_of_length-le}
 use Rattle.std.specs.Io.KnownBytes.{Appends}
 use Rattle.pr_report.specs.Written.{Wrote, FallsShort}
-use Rattle.pr_report.specs.PrintedLines.{spaced}
-use Rattle.pr_report.specs.Printed.{printed}
+use Rattle.pr_report.specs.PrintedLines.{joined_by_spaces}
+use Rattle.pr_report.specs.Printed.{printed_word}
 use Rattle.pr_report.specs.declared.printing.Word.{Word}
 use Rattle.pr_report.proofs.Fronts.{puts_err, wrote_all, wrote_front, wrote_more}
 use Rattle.pr_report.proofs.printing.put_spaced.Goals as goal
 
-spaced_from : (words : List Word) (i : ℕ) (d : Word) → i < length words → spaced (map printed (drop i words)) ≡ (32 ∷ printed (get_or words i d)) ++ spaced (map printed (drop (i + 1) words))
-unfolding spaced
+spaced_from : (words : List Word) (i : ℕ) (d : Word) → i < length words → joined_by_spaces (map printed_word (drop i words)) ≡ (32 ∷ printed_word (get_or words i d)) ++ joined_by_spaces (map printed_word (drop (i + 1) words))
+unfolding joined_by_spaces
 spaced_from words i d h = rw (add-one, drop-cons words i d) refl
 
-spaced_end : (words : List Word) (i : ℕ) → length words ≤ i → spaced (map printed (drop i words)) ≡ []
-unfolding spaced
+spaced_end : (words : List Word) (i : ℕ) → length words ≤ i → joined_by_spaces (map printed_word (drop i words)) ≡ []
+unfolding joined_by_spaces
 spaced_end words i h = rw (drop_of_length-le words {i = i} h) refl
 
 spaced_front : (old mid new : Option (List ℕ)) (text : List ℕ) (words : List Word) (i : ℕ) (d : Word) → i < length words
-    → Wrote old mid text (spaced (map printed (drop i words))) → FallsShort mid new (32 ∷ printed (get_or words i d)) → FallsShort old new text
+    → Wrote old mid text (joined_by_spaces (map printed_word (drop i words))) → FallsShort mid new (32 ∷ printed_word (get_or words i d)) → FallsShort old new text
 spaced_front old mid new text words i d h w f = wrote_front _ _ _ _ _ _ (rw (spaced_from words i d h) at w) f
 
 spaced_more : (old mid new : Option (List ℕ)) (text : List ℕ) (words : List Word) (i : ℕ) (d : Word) → i < length words
-    → Wrote old mid text (spaced (map printed (drop i words))) → Appends mid new (32 ∷ printed (get_or words i d)) → Wrote old new text (spaced (map printed (drop (i + 1) words)))
+    → Wrote old mid text (joined_by_spaces (map printed_word (drop i words))) → Appends mid new (32 ∷ printed_word (get_or words i d)) → Wrote old new text (joined_by_spaces (map printed_word (drop (i + 1) words)))
 spaced_more old mid new text words i d h w p = wrote_more _ _ _ _ _ _ (rw (spaced_from words i d h) at w) p
 
 pub returns-in_err-put_after_space : goal.returns-in_err-put_after_space

@@ -1,8 +1,8 @@
 use Rattle.std.proofs.Common.{drop, map}
 use Rattle.pr_report.specs.Written.{Wrote}
-use Rattle.pr_report.specs.PrintedLines.{spaced}
-use Rattle.pr_report.specs.Printed.{printed}
+use Rattle.pr_report.specs.PrintedLines.{joined_by_spaces}
+use Rattle.pr_report.specs.Printed.{printed_word}
 use Rattle.pr_report.proofs.printing.put_spaced.Given as goal
 
 abbrev pub invariant-loop-word : goal.invariant-loop-word
-invariant-loop-word g l = Wrote (g.W.Write.contents l.fn.writer) (g.W.Write.contents l.writer) (spaced (map printed l.words)) (spaced (map printed (drop l.word-index l.words)))
+invariant-loop-word g l = Wrote (g.W.Write.contents l.fn.writer) (g.W.Write.contents l.writer) (joined_by_spaces (map printed_word l.words)) (joined_by_spaces (map printed_word (drop l.word-index l.words)))

@@ -1,5 +1,5 @@
 use Rattle.std.specs.Prelude.{◌++◌, map}
-use Rattle.pr_world.specs.Ends.{seen}
+use Rattle.pr_world.specs.Ends.{ending_of}
 use Rattle.pr_report.specs.TraceText.{ending_lines, entry_lines, names_of, unit_line}
 use Rattle.pr_report.proofs.Fronts.{held_end, held_front, held_last, held_more, held_over, puts_err}
 use Rattle.pr_report.proofs.TraceSteps.{first_front, first_line, first_put}
@@ -8,7 +8,7 @@ use Rattle.pr_report.proofs.trace.put_trace.Goals as goal
 pub returns-in_err-add_line : goal.returns-in_err-add_line
 returns-in_err-add_line g c =
     let names = names_of c.args.nexuses.now in
-    let ended = ending_lines 0 names c.args.counts.now (map seen c.args.ends.now) in
+    let ended = ending_lines 0 names c.args.counts.now (map ending_of c.args.ends.now) in
     let last = unit_line names c.args.unit.now ++ ended in
     let later = entry_lines 0 names c.args.entries.now ++ last in
     puts_err _ _ _ _ (first_front _ _ c.new-page.result.items later c.new-page.ensures c.in_err-add_line.ensures) c.from_residual.ensures.0
@@ -16,7 +16,7 @@ returns-in_err-add_line g c =
 pub returns-in_err-add_entries : goal.returns-in_err-add_entries
 returns-in_err-add_entries g c =
     let names = names_of c.args.nexuses.now in
-    let ended = ending_lines 0 names c.args.counts.now (map seen c.args.ends.now) in
+    let ended = ending_lines 0 names c.args.counts.now (map ending_of c.args.ends.now) in
     let last = unit_line names c.args.unit.now ++ ended in
     let later = entry_lines 0 names c.args.entries.now ++ last in
     let first = first_put _ _ c.new-page.result.items c.add_line.new.page.items later c.new-page.ensures c.in_ok-add_line.ensures in
@@ -25,7 +25,7 @@ returns-in_err-add_entries g c =
 pub returns-in_err-add_line-2 : goal.returns-in_err-add_line-2
 returns-in_err-add_line-2 g c =
     let names = names_of c.args.nexuses.now in
-    let ended = ending_lines 0 names c.args.counts.now (map seen c.args.ends.now) in
+    let ended = ending_lines 0 names c.args.counts.now (map ending_of c.args.ends.now) in
     let last = unit_line names c.args.unit.now ++ ended in
     let later = entry_lines 0 names c.args.entries.now ++ last in
     let first = first_put _ _ c.new-page.result.items c.add_line.new.page.items later c.new-page.ensures c.in_ok-add_line.ensures in
@@ -35,7 +35,7 @@ returns-in_err-add_line-2 g c =
 pub returns-in_err-add_ends : goal.returns-in_err-add_ends
 returns-in_err-add_ends g c =
     let names = names_of c.args.nexuses.now in
-    let ended = ending_lines 0 names c.args.counts.now (map seen c.args.ends.now) in
+    let ended = ending_lines 0 names c.args.counts.now (map ending_of c.args.ends.now) in
     let last = unit_line names c.args.unit.now ++ ended in
     let later = entry_lines 0 names c.args.entries.now ++ last in
     let first = first_put _ _ c.new-page.result.items c.add_line.new.page.items later c.new-page.ensures c.in_ok-add_line.ensures in
@@ -46,7 +46,7 @@ returns-in_err-add_ends g c =
 pub returns : goal.returns
 returns g c =
     let names = names_of c.args.nexuses.now in
-    let ended = ending_lines 0 names c.args.counts.now (map seen c.args.ends.now) in
+    let ended = ending_lines 0 names c.args.counts.now (map ending_of c.args.ends.now) in
     let last = unit_line names c.args.unit.now ++ ended in
     let later = entry_lines 0 names c.args.entries.now ++ last in
     let first = first_put _ _ c.new-page.result.items c.add_line.new.page.items later c.new-page.ensures c.in_ok-add_line.ensures in

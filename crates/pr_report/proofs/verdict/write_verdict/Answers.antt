@@ -1,9 +1,9 @@
-use Rattle.pr_report.specs.Printed.{printed}
+use Rattle.pr_report.specs.Printed.{printed_word}
 use Rattle.pr_report.proofs.Refusing.{refusal_of_parts}
 use Rattle.pr_report.proofs.verdict.write_verdict.Goals as goal
 
 pub returns-in-Accepted : goal.returns-in-Accepted
-unfolding printed
+unfolding printed_word
 returns-in-Accepted g c = rw c.in-Accepted.is c.put_line.ensures
 
 pub returns-in-Refused : goal.returns-in-Refused

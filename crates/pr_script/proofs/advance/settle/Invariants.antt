@@ -1,13 +1,13 @@
 -- The place and the open repeats settle as those at the start; each step leaves less to unfold.
 use Rattle.std.proofs.Common.{◌≡◌}
-use Rattle.pr_script.specs.Scripts.{work, settled}
+use Rattle.pr_script.specs.Scripts.{work, settled_form}
 use Rattle.pr_script.specs.inside.Program.{meanings, configuration, IsPlaced}
 use Rattle.pr_script.proofs.advance.settle.Given as goal
 
 abbrev pub invariant-loop-to : goal.invariant-loop-to
 invariant-loop-to l = record {
   placed : IsPlaced l.rows l.at l.opens.items;
-  settles : settled (configuration (meanings l.rows) l.at l.opens.items) ≡ settled (configuration (meanings l.fn.rows) l.fn.from l.fn.opens.items);
+  settles : settled_form (configuration (meanings l.rows) l.at l.opens.items) ≡ settled_form (configuration (meanings l.fn.rows) l.fn.from l.fn.opens.items);
 }
 
 abbrev pub decreases-loop-to : goal.decreases-loop-to

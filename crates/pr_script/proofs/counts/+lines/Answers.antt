@@ -18,7 +18,7 @@ pub last_arm_line-loop-arm-preserved : goal.last_arm_line-loop-arm-preserved
 last_arm_line-loop-arm-preserved t c =
     arm_lines_taken c.args.line _ c.loop-arm.arm-index c.arm-item.result c.loop-arm-test.true c.arm-item.is
     ∙ (ap (λ o. then o (lines_of_all (script_of c.arm-item.result.body))) c.loop-arm.invariant
-    ∙ (sym c.last_body_line.ensures ∙ c.in_ok-last.was))
+    ∙ (sym c.last_line.ensures ∙ c.in_ok-last.was))
 
 pub last_line-returns-in_err-last : goal.last_line-returns-in_err-last
 last_line-returns-in_err-last t c =
@@ -32,7 +32,7 @@ pub last_arm_line-returns-in_err-last : goal.last_arm_line-returns-in_err-last
 last_arm_line-returns-in_err-last t c =
     let fell = arm_lines_taken c.args.line _ c.loop-arm.arm-index c.arm-item.result c.loop-arm-test.true c.arm-item.is
     ∙ (ap (λ o. then o (lines_of_all (script_of c.arm-item.result.body))) c.loop-arm.invariant
-    ∙ (sym c.last_body_line.ensures ∙ c.in_err-last.was)) in
+    ∙ (sym c.last_line.ensures ∙ c.in_err-last.was)) in
     c.from_residual.ensures ∙ sym (arm_lines_fallen c.args.line c.args.arms.now (c.loop-arm.arm-index + 1) fell)
 
 pub last_statement_line-returns-else-line-last : goal.last_statement_line-returns-else-line-last

@@ -29,7 +29,7 @@ review-requires g c =
     let script = script_of c.args.script.now in
     let spots = c.in_ok-spots.spots.items in
     let places = c.in_ok-spots.ensures.places in
-    let same = same_lines c.deref.result.now c.args.outline.now.views.items c.deref-2.result.now spots c.differing.result c.deref.ensures.value c.deref-2.ensures.value c.differing.ensures c.in_default.is in
+    let same = same_lines c.deref.result.now c.args.outline.now.views.items c.deref-2.result.now spots c.first_difference.result c.deref.ensures.value c.deref-2.ensures.value c.first_difference.ensures c.in_default.is in
     let rise = ap (rise_above 0) same ∙ spots_rise script spots places s.keys c.requires.written in (
       search rules,
       (
@@ -49,7 +49,7 @@ lacking_by_others-requires g c =
     let s = scenario_of c.args.scenario.now in
     let script = script_of c.args.script.now in
     let spots = c.in_ok-spots.spots.items in
-    let same = same_lines c.deref.result.now c.args.outline.now.views.items c.deref-2.result.now spots c.differing.result c.deref.ensures.value c.deref-2.ensures.value c.differing.ensures c.in_default.is in
+    let same = same_lines c.deref.result.now c.args.outline.now.views.items c.deref-2.result.now spots c.first_difference.result c.deref.ensures.value c.deref-2.ensures.value c.first_difference.ensures c.in_default.is in
     (search rules, (c.requires.host, (c.requires.made, ap (rise_above 0) same ∙ spots_rise script spots c.in_ok-spots.ensures.places s.keys c.requires.written)))
 
 pub returns-in-Some-least-clause-refusal : goal.returns-in-Some-least-clause-refusal
@@ -61,7 +61,7 @@ returns-in-Some-least-clause-refusal g c budget cost =
     let views = c.args.outline.now.views.items in
     let spots = c.in_ok-spots.spots.items in
     let places = c.in_ok-spots.ensures.places in
-    let same = same_lines c.deref.result.now views c.deref-2.result.now spots c.differing.result c.deref.ensures.value c.deref-2.ensures.value c.differing.ensures c.in_default.is in
+    let same = same_lines c.deref.result.now views c.deref-2.result.now spots c.first_difference.result c.deref.ensures.value c.deref-2.ensures.value c.first_difference.ensures c.in_default.is in
     let listed = is_listed script spots places (view_of g.S.ViewSet.members host) views host same in
     let found = found_lacking s script o spots places c.deref-4.result.now c.in_ok-start.start c.in_ok-own.own.lacking c.in_ok-others.others c.least.result c.least-2.result c.deref-4.ensures.value
     (c.in_ok-start.ensures script (sym (c.deref-3.ensures.value ∙ c.in_ok-firsts.ensures))) c.in_ok-own.ensures.lacking c.in_ok-others.ensures c.least.ensures c.least-2.ensures in
@@ -76,7 +76,7 @@ returns-in-None-clause-sound g c =
     let views = c.args.outline.now.views.items in
     let spots = c.in_ok-spots.spots.items in
     let places = c.in_ok-spots.ensures.places in
-    let same = same_lines c.deref.result.now views c.deref-2.result.now spots c.differing.result c.deref.ensures.value c.deref-2.ensures.value c.differing.ensures c.in_default.is in
+    let same = same_lines c.deref.result.now views c.deref-2.result.now spots c.first_difference.result c.deref.ensures.value c.deref-2.ensures.value c.first_difference.ensures c.in_default.is in
     let listed = is_listed script spots places (view_of g.S.ViewSet.members host) views host same in
     let found = found_lacking s script o spots places c.deref-4.result.now c.in_ok-start.start c.in_ok-own.own.lacking c.in_ok-others.others c.least.result c.least-2.result c.deref-4.ensures.value
     (c.in_ok-start.ensures script (sym (c.deref-3.ensures.value ∙ c.in_ok-firsts.ensures))) c.in_ok-own.ensures.lacking c.in_ok-others.ensures c.least.ensures c.least-2.ensures in
@@ -100,7 +100,7 @@ returns-clause-refusal g c budget cost =
     let views = c.args.outline.now.views.items in
     let spots = c.in_ok-spots.spots.items in
     let places = c.in_ok-spots.ensures.places in
-    let same = same_lines c.deref.result.now views c.deref-2.result.now spots c.differing.result c.deref.ensures.value c.deref-2.ensures.value c.differing.ensures c.in_default.is in
+    let same = same_lines c.deref.result.now views c.deref-2.result.now spots c.first_difference.result c.deref.ensures.value c.deref-2.ensures.value c.first_difference.ensures c.in_default.is in
     let listed = is_listed script spots places (view_of g.S.ViewSet.members host) views host same in
     let found = found_lacking s script o spots places c.deref-4.result.now c.in_ok-start.start c.in_ok-own.own.lacking c.in_ok-others.others c.least.result c.least-2.result c.deref-4.ensures.value
     (c.in_ok-start.ensures script (sym (c.deref-3.ensures.value ∙ c.in_ok-firsts.ensures))) c.in_ok-own.ensures.lacking c.in_ok-others.ensures c.least.ensures c.least-2.ensures in

@@ -1,11 +1,12 @@
 use Rattle.std.proofs.Common.{◌≡◌, ℕ, length, ◌<◌, ◌≤◌, false}
+use Rattle.pr_cdb.specs.declared.codes.TheConstants.{MOST_NEXUSES}
 use Rattle.pr_views.specs.Portions.{has_at}
 use Rattle.pr_views.specs.Rooms.{contains_at}
 use Rattle.pr_views.proofs.sets.words_of.Given as goal
 
 abbrev pub invariant-loop-host : goal.invariant-loop-host
 invariant-loop-host g l = record {
-  whole : length l.words ≡ 8;
+  whole : length l.words ≡ MOST_NEXUSES;
   there : (h n : ℕ) → h < l.host → has_at l.words h n ≡ contains_at g.S.ViewSet.members l.sets h n;
   past : (h n : ℕ) → l.host ≤ h → has_at l.words h n ≡ false;
 }

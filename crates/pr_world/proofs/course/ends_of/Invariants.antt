@@ -1,9 +1,9 @@
 use Rattle.std.proofs.Common.{◌≡◌, take, Some}
 use Rattle.std.specs.Prelude.{map}
 use Rattle.pr_world.specs.Courses.{participation_of}
-use Rattle.pr_world.specs.Ends.{seen, ending}
+use Rattle.pr_world.specs.Ends.{ending_of, ending}
 use Rattle.pr_world.proofs.course.ends_of.Given as goal
 
 -- how those before this one stand
 abbrev pub invariant-loop-participant : goal.invariant-loop-participant
-invariant-loop-participant l = map (λ e. Some (seen e)) l.ends.items ≡ map (λ p. ending (participation_of p).control (participation_of p).plan) (take l.participant-index l.participants)
+invariant-loop-participant l = map (λ e. Some (ending_of e)) l.ends.items ≡ map (λ p. ending (participation_of p).control (participation_of p).plan) (take l.participant-index l.participants)

@@ -1,7 +1,7 @@
 use Rattle.std.proofs.Common.{◌≡◌, ◌≢◌, ◌≤◌, ℕ, true, false, Some, sym, ap, ◌∙◌, subst}
 use Rattle.pr_cdb.specs.declared.command.Kind.{Kind}
 use Rattle.pr_registry.specs.declared.held.Held.TheVariants.{One}
-use Rattle.pr_registry.specs.Registrations.{established}
+use Rattle.pr_registry.specs.Registrations.{new_reservation}
 use Rattle.pr_registry.specs.Changes.{is_kind, is_held_by_all}
 use Rattle.pr_sets.specs.Words.{has}
 use Rattle.pr_views.specs.Possibilities.{number_of}
@@ -54,7 +54,7 @@ returns-else-key-eq0 c s is fits number =
     (subst (λ j. has_at o.view.registrations place.sender j ≡ true → has reach.given 0 ≡ true) same facts.given)
     (subst (λ j. is_held_by_all place.held ≡ true → has_at o.view.registrations place.sender j ≡ true → MayAllGo o.view place j → has reach.reservations 0 ≡ true) same facts.ended)
     (subst (λ j. has reach.removed j ≡ true) same facts.removed)
-    (subst (λ j. (old : Kind) (g : ℕ) → place.held ≡ Some (One old g) → has_at o.view.registrations g j ≡ true → has reach.reservations (number_of place.hosts (Some (established kind place.sender))) ≡ true)
+    (subst (λ j. (old : Kind) (g : ℕ) → place.held ≡ Some (One old g) → has_at o.view.registrations g j ≡ true → has reach.reservations (number_of place.hosts (Some (new_reservation kind place.sender))) ≡ true)
     same facts.replaced)
     (subst (λ j. (old : Kind) (g : ℕ) → place.held ≡ Some (One old g) → has_at o.view.registrations g j ≡ true → is_kind old kind ≡ false → (r : ℕ) → 1 ≤ r → r ≤ 12 → r ≢ j → has reach.told_04 r ≡ true)
     same facts.told_04)

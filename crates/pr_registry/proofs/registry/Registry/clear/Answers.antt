@@ -1,6 +1,6 @@
 use Rattle.std.proofs.Common.{sym, ap, subst, ◌∙◌}
 use Rattle.pr_registry.specs.Registrations.{IsWellFormed, state_of}
-use Rattle.pr_registry.specs.Effects.{cleared}
+use Rattle.pr_registry.specs.Effects.{after_clear}
 use Rattle.pr_registry.proofs.States.{state_of-cleared, well_formed-cleared}
 use Rattle.pr_registry.proofs.registry.Registry.clear.Goals as goal
 
@@ -13,4 +13,4 @@ invariant_of-self c =
 pub returns-clause-state : goal.returns-clause-state
 returns-clause-state c =
     let s = c.self.inside in
-    state_of-cleared s.hosts s.slots s.held s.generation c.next-self-inside.result c.next-self-inside.ensures ∙ ap cleared c.self.view_is
+    state_of-cleared s.hosts s.slots s.held s.generation c.next-self-inside.result c.next-self-inside.ensures ∙ ap after_clear c.self.view_is

@@ -1,9 +1,9 @@
 use Rattle.std.proofs.Common.{◌≡◌, ℕ, [], ◌∷◌, None, sym, subst}
-use Rattle.pr_registry.specs.Registrations.{IsWellFormed, fresh, state_of}
+use Rattle.pr_registry.specs.Registrations.{IsWellFormed, empty_registry, state_of}
 use Rattle.pr_registry.proofs.States.{well_formed-fresh, table_keys-none}
 use Rattle.pr_registry.proofs.registry.Registry.new.Goals as goal
 
-is_fresh : (hosts : ℕ) → state_of hosts (None ∷ None ∷ None ∷ None ∷ None ∷ None ∷ None ∷ None ∷ []) None 0 ≡ fresh hosts
+is_fresh : (hosts : ℕ) → state_of hosts (None ∷ None ∷ None ∷ None ∷ None ∷ None ∷ None ∷ None ∷ []) None 0 ≡ empty_registry hosts
 is_fresh hosts = λ i. record { hosts = hosts; keys = table_keys-none i; held = None; generation = 0 }
 
 pub invariant_of-result : goal.invariant_of-result

@@ -1,6 +1,6 @@
 use Rattle.std.proofs.Common.{◌<◌, sym, ap, subst, ◌∙◌, arith}
 use Rattle.pr_registry.specs.Registrations.{State, IsKey, IsWellFormed, state_of}
-use Rattle.pr_registry.specs.Effects.{registered}
+use Rattle.pr_registry.specs.Effects.{with_registration}
 use Rattle.pr_registry.proofs.States.{state_of-registered, well_formed-registered}
 use Rattle.pr_registry.proofs.registry.Registry.register.Goals as goal
 
@@ -17,4 +17,4 @@ pub returns-clause-state : goal.returns-clause-state
 returns-clause-state c =
     let s = c.self.inside in
     state_of-registered s.hosts s.slots c.insert.new.slots s.held s.generation c.next-self-inside.result c.args.host c.args.key c.insert.ensures c.next-self-inside.ensures
-    ∙ ap (λ u. registered u c.args.host c.args.key) c.self.view_is
+    ∙ ap (λ u. with_registration u c.args.host c.args.key) c.self.view_is

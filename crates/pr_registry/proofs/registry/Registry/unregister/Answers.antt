@@ -1,6 +1,6 @@
 use Rattle.std.proofs.Common.{sym, ap, subst, ◌∙◌}
 use Rattle.pr_registry.specs.Registrations.{IsWellFormed, state_of}
-use Rattle.pr_registry.specs.Effects.{unregistered}
+use Rattle.pr_registry.specs.Effects.{without_registration}
 use Rattle.pr_registry.proofs.States.{state_of-unregistered, well_formed-unregistered}
 use Rattle.pr_registry.proofs.registry.Registry.unregister.Goals as goal
 
@@ -14,4 +14,4 @@ pub returns-clause-state : goal.returns-clause-state
 returns-clause-state c =
     let s = c.self.inside in
     state_of-unregistered s.hosts s.slots c.remove.new.slots s.held c.held_after_unregister-self-inside.result s.generation c.next-self-inside.result c.args.host c.remove.ensures c.held_after_unregister-self-inside.ensures c.next-self-inside.ensures
-    ∙ ap (λ u. unregistered u c.args.host) c.self.view_is
+    ∙ ap (λ u. without_registration u c.args.host) c.self.view_is

@@ -2,7 +2,7 @@
 use Rattle.std.proofs.Common.{ap, sym, ◌∙◌, length, arith, Some}
 use Rattle.std.specs.Prelude.{option_map, is_some}
 use Rattle.std.proofs.lemmas.Bool.{false≢true}
-use Rattle.pr_unit.specs.UnitStates.{quiet}
+use Rattle.pr_unit.specs.UnitStates.{quiet_unit}
 use Rattle.pr_roles.specs.Scenarios.{scenario_of}
 use Rattle.pr_roles.proofs.Allowed.{few_parts, found_in_parts, none_allowed, registry_found, registry_allowed, first_allowed}
 use Rattle.pr_roles.proofs.parts.Parts.first_registry.Goals as goal
@@ -13,7 +13,7 @@ first_under-requires c = omega (arith, few_parts c.args.self.now c.requires, ap 
 pub returns-in_err-held-clause-value : goal.returns-in_err-held-clause-value
 returns-in_err-held-clause-value c =
     let none = sym (found_in_parts c.args.self.now _ _ c.deref.ensures.value c.deref-2.ensures.value) ∙ (sym c.first_under.ensures ∙ ap (option_map _) c.in_err-held.was) in
-    ap (option_map (λ r. quiet r)) c.from_residual.ensures ∙ sym (ap (option_map _) none)
+    ap (option_map (λ r. quiet_unit r)) c.from_residual.ensures ∙ sym (ap (option_map _) none)
 
 pub returns-in_err-held-clause-exactly : goal.returns-in_err-held-clause-exactly
 returns-in_err-held-clause-exactly c =

@@ -1,8 +1,8 @@
 use Rattle.std.proofs.Common.{◌≡◌, length, map}
-use Rattle.pr_text.specs.Chain.{each}
+use Rattle.pr_lines.specs.Chain.{each}
 use Rattle.pr_text.specs.Declaring.{held_of}
-use Rattle.pr_text.specs.inside.Lists.{each_onto}
-use Rattle.pr_text.specs.inside.LineValues.{wanted_seen}
+use Rattle.pr_lines.specs.inside.Lists.{each_onto}
+use Rattle.pr_lines.specs.LineValues.{wanted_seen}
 use Rattle.pr_text.specs.inside.Drafts.{draft_seen}
 use Rattle.pr_text.proofs.builder.Builder.reservations_of.Given as goal
 

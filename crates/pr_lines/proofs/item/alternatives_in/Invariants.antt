@@ -1,0 +1,13 @@
+use Rattle.std.proofs.Common.{◌≡◌, length}
+use Rattle.pr_lines.specs.Chain.{each}
+use Rattle.pr_lines.specs.TextLines.{words}
+use Rattle.pr_lines.specs.ScenarioLines.{alternative_of}
+use Rattle.pr_lines.specs.inside.Lists.{each_onto}
+use Rattle.pr_lines.proofs.item.alternatives_in.Given as goal
+
+-- the words that are left, behind what was read
+abbrev pub invariant-loop-word : goal.invariant-loop-word
+invariant-loop-word l = each_onto alternative_of l.alternatives.items (words l.rest) ≡ each alternative_of (words l.line)
+
+abbrev pub decreases-loop-word : goal.decreases-loop-word
+decreases-loop-word l = length l.rest

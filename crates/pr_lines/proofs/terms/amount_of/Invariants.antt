@@ -1,0 +1,10 @@
+use Rattle.std.proofs.Common.{◌≡◌, ◌+◌, ◌*◌, ◌≤◌, true, take, fold, nat_lt}
+use Rattle.std.specs.List.{list_all}
+use Rattle.pr_lines.specs.WordTerms.{worth}
+use Rattle.pr_lines.proofs.terms.amount_of.Given as goal
+
+abbrev pub invariant-loop-digit : goal.invariant-loop-digit
+invariant-loop-digit l =
+    (l.value ≡ fold (λ n b. 10 * n + worth b) 0 (take l.digit-index l.word))
+    × (list_all (λ b. nat_lt (worth b) 10) (take l.digit-index l.word) ≡ true)
+    × (l.value ≤ l.most)

@@ -1,0 +1,80 @@
+-- Agrees with docs/FORMATS.md, 'COMMAND'.
+-- The options that spell a PERSISTENT RESERVE command, as in the manual of `sg_persist`.
+use Rattle.std.specs.Prelude.{ℕ, ◌&&◌, if◌then◌else◌, List, [], ◌∷◌, map, codes, Option, Some, None, is_none, unwrap_or, option_map}
+use Rattle.std.specs.Option.{option_or}
+use Rattle.pr_cdb.specs.declared.command.Kind.{Kind}
+use Rattle.pr_cdb.specs.declared.command.Command.{Command}
+use Rattle.pr_cdb.specs.declared.command.Command.TheVariants.{ReadKeys, ReadReservation, ReportCapabilities, Register, RegisterIgnore, Reserve, Release, Clear, Preempt, PreemptAbort}
+use Rattle.pr_script.specs.declared.grammar.TheConstants.{WRITTEN_LENGTH}
+use Rattle.pr_lines.specs.declared.options.Direction.{Direction}
+use Rattle.pr_lines.specs.declared.options.Direction.TheVariants.{In, Out}
+use Rattle.pr_lines.specs.declared.options.Action.{Action}
+use Rattle.pr_lines.specs.declared.options.Action.TheVariants as action
+use Rattle.pr_lines.specs.declared.options.InAction.{InAction}
+use Rattle.pr_lines.specs.declared.options.InAction.TheVariants as in_action
+use Rattle.pr_lines.specs.declared.options.OutAction.{OutAction}
+use Rattle.pr_lines.specs.declared.options.OutAction.TheVariants as out_action
+use Rattle.pr_lines.specs.declared.options.CommandOption.{CommandOption}
+use Rattle.pr_lines.specs.declared.options.CommandOption.TheVariants as option
+use Rattle.pr_lines.specs.declared.options.TheConstants.{DIRECTIONS, ACTIONS}
+use Rattle.pr_lines.specs.declared.options.Written.{Written}
+use Rattle.pr_lines.specs.Chain.{◌>>=◌}
+use Rattle.pr_lines.specs.Lookups.{lookup}
+use Rattle.pr_lines.specs.WordTerms.{value_after, key_or_zero, kind_of}
+
+-- the key that follows this in the word
+abbrev pub key_after : List ℕ → List ℕ → Option ℕ
+key_after name word = value_after name word >>= key_or_zero
+
+-- the one option that a word is
+unfoldable pub option_of : List ℕ → Option CommandOption
+option_of word =
+    option_or (option_map (λ x. option.Direction x) (lookup (map (λ row. (row.0.now, row.1)) DIRECTIONS) word)) (
+    option_or (option_map (λ x. option.Action x) (lookup (map (λ row. (row.0.now, row.1)) ACTIONS) word)) (
+    option_or (option_map (λ x. option.Rk x) (key_after (codes "--param-rk=") word)) (
+    option_or (option_map (λ x. option.Sark x) (key_after (codes "--param-sark=") word)) (
+    option_map (λ x. option.Kind x) (value_after (codes "--prout-type=") word >>= kind_of)))))
+
+-- nothing is written yet
+abbrev pub no_option : Written
+no_option = record { direction = None; action = None; rk = None; sark = None; kind = None }
+
+-- what is written with one option more, of which each may be written once
+unfoldable pub with_option : Written → CommandOption → Option Written
+with_option w (option.Direction x) = if is_none w.direction then Some (record w { direction = Some x }) else None
+with_option w (option.Action x) = if is_none w.action then Some (record w { action = Some x }) else None
+with_option w (option.Rk x) = if is_none w.rk then Some (record w { rk = Some x }) else None
+with_option w (option.Sark x) = if is_none w.sark then Some (record w { sark = Some x }) else None
+with_option w (option.Kind x) = if is_none w.kind then Some (record w { kind = Some x }) else None
+
+-- what is written with these words more
+abbrev pub with_options : Written → List (List ℕ) → Option Written
+with_options w [] = Some w
+with_options w (word ∷ ws) = option_of word >>= λ o. with_option w o >>= λ v. with_options v ws
+
+-- the commands of `--in`
+unfoldable pub command_in : InAction → Command
+command_in in_action.ReadKeys = ReadKeys WRITTEN_LENGTH
+command_in in_action.ReadReservation = ReadReservation WRITTEN_LENGTH
+command_in in_action.ReportCapabilities = ReportCapabilities WRITTEN_LENGTH
+
+-- the commands of `--out`. A key that is not written is 0, and a key or type that is not used is dropped.
+unfoldable pub command_out : OutAction → ℕ → ℕ → Option Kind → Option Command
+command_out out_action.Register rk sark kind = Some (Register rk sark)
+command_out out_action.RegisterIgnore rk sark kind = Some (RegisterIgnore sark)
+command_out out_action.Reserve rk sark kind = option_map (λ k. Reserve rk k) kind
+command_out out_action.Release rk sark kind = option_map (λ k. Release rk k) kind
+command_out out_action.Clear rk sark kind = Some (Clear rk)
+command_out out_action.Preempt rk sark kind = option_map (λ k. Preempt rk sark (Some k)) kind
+command_out out_action.PreemptAbort rk sark kind = option_map (λ k. PreemptAbort rk sark (Some k)) kind
+
+-- the command of a service action that goes in this direction; one of `--in` has neither a key nor a type
+abbrev pub command_going : Direction → Action → Written → Option Command
+command_going In (action.In a) w = if is_none w.rk && (is_none w.sark && is_none w.kind) then Some (command_in a) else None
+command_going In (action.Out a) w = None
+command_going Out (action.In a) w = None
+command_going Out (action.Out a) w = command_out a (unwrap_or w.rk 0) (unwrap_or w.sark 0) w.kind
+
+-- the command that the options spell
+unfoldable pub command_of : Written → Option Command
+command_of w = w.direction >>= λ direction. w.action >>= λ action. command_going direction action w

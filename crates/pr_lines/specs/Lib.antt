@@ -1,0 +1,10 @@
+pub mod Chain
+pub mod TextLines
+pub mod WordTerms
+pub mod Lookups
+pub mod CommandOptions
+pub mod CommandWords
+pub mod Clauses
+pub mod ScenarioLines
+pub mod LineValues
+pub mod inside

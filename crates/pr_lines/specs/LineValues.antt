@@ -1,0 +1,34 @@
+-- Agrees with docs/FORMATS.md, 'The lines of a scenario'.
+-- The values of lines, as what the lines say.
+use Rattle.std.specs.Prelude.{map, true, false}
+use Rattle.pr_lines.specs.declared.item.ScenarioLine.{ScenarioLine as ItemValue}
+use Rattle.pr_lines.specs.declared.item.ScenarioLine.TheVariants as value
+use Rattle.pr_lines.specs.declared.item.StartReservation.{StartReservation as WantedValue}
+use Rattle.pr_lines.specs.declared.item.StartReservation.TheVariants as wanted
+use Rattle.pr_lines.specs.ScenarioLines.{StartReservation, nobody, single, everybody, ScenarioLine, fence_line, keys_line, nexus_line, start_line, pending_line, reservation_line, generation_line, role_line, script_line, plan_line, end_line, send_line, on_line, done_line, repeat_line, break_line, stop_line, command_line, declares, states}
+
+abbrev pub wanted_seen : WantedValue → StartReservation
+wanted_seen wanted.Nobody = nobody
+wanted_seen (wanted.Single kind name) = single kind name.bytes
+wanted_seen (wanted.Everybody kind) = everybody kind
+
+abbrev pub seen : ItemValue → ScenarioLine
+seen value.Fence = fence_line
+seen (value.Keys keys) = declares (keys_line keys.items)
+seen (value.Host name) = declares (nexus_line false name.bytes)
+seen (value.Guest name) = declares (nexus_line true name.bytes)
+seen (value.Start name xs) = declares (start_line name.bytes xs.items)
+seen (value.Pending name xs) = declares (pending_line name.bytes xs.items)
+seen (value.Reservation xs) = declares (reservation_line (map wanted_seen xs.items))
+seen (value.Generation n) = declares (generation_line n)
+seen (value.Role name clause) = declares (role_line name.bytes clause)
+seen (value.Script name budget) = declares (script_line name.bytes budget)
+seen (value.Plan name) = declares (plan_line name.bytes)
+seen value.End = end_line
+seen (value.Send s) = states (send_line s)
+seen (value.On t) = states (on_line t)
+seen value.Done = states done_line
+seen (value.Repeat n) = states (repeat_line n)
+seen value.Break = states break_line
+seen (value.Stop word) = states (stop_line word.bytes)
+seen (value.Command s) = command_line s

@@ -1,0 +1,361 @@
+//! What one line of a text says.
+
+ghost use Rattle.std.specs.Prelude.{◌≡◌, map, option_map, IfOk};
+ghost use Rattle.pr_lines.specs.TextLines.{words, if_alone};
+ghost use Rattle.pr_lines.specs.WordTerms.{key_of, code_of};
+ghost use Rattle.pr_lines.specs.Clauses.{clause_of};
+ghost use Rattle.pr_lines.specs.ScenarioLines.{list_of, alternative_of, everybody_of, single_of, start_reservation_of, name_in, only_name, budget_in, fence_said, said_of_name, item_of, declares, keys_line, start_line, pending_line, reservation_line, role_line, script_line};
+ghost use Rattle.pr_lines.specs.inside.Keywords.{said_simply, said_after};
+ghost use Rattle.pr_lines.specs.LineValues.{wanted_seen, seen};
+
+use crate::clauses::{clause_of, test_of};
+use crate::cutting::{is, is_end, next_word, only};
+use crate::keyword::{Keyword, keyword_of};
+use crate::spelling::{ParsedCommand, spelled_in, spelled_of};
+use crate::terms::{code_of, count_of, generation_of, key_of, kind_of, name_of};
+use pr_attention::Attention;
+use pr_cdb::Kind;
+use pr_registry::is_all;
+use pr_roles::{Clause, Word};
+use pr_script::Test;
+use std::alloc::{AllocError, Global};
+
+/// The version of the language.
+pub const VERSION: &str = "1";
+
+/// A reservation that there may be at the start: an ALT of a line `reservation` (docs/FORMATS.md, 'The lines of a
+/// scenario').
+#[derive(Clone, Copy, Debug)]
+pub enum StartReservation {
+    /// There is none.
+    Nobody,
+    /// It has one holder, with this name.
+    Single(Kind, Word),
+    /// All registrants hold it.
+    Everybody(Kind),
+}
+
+/// A line that keeps its shape, with the terms on it (docs/FORMATS.md, 'The lines of a scenario' and 'Statements').
+///
+/// A list has at least one element. A term has its form, and need not be one that the text may have there: a name
+/// need not be declared, nor a key, and a count may be past its limit.
+#[derive(Debug, Drop)]
+pub enum ScenarioLine {
+    /// The first line with words: the version of the language.
+    Fence,
+    /// The declared keys, none of them zero.
+    Keys(Vec<u64>),
+    /// A host with this name.
+    Host(Word),
+    /// A guest with this name.
+    Guest(Word),
+    /// What the nexus with this name may be registered with at the start: a key, or nothing where it is free.
+    Start(Word, Vec<Option<u64>>),
+    /// The attentions that may be pending at the start for the nexus with this name.
+    Pending(Word, Vec<Attention>),
+    /// The reservations that there may be at the start.
+    Reservation(Vec<StartReservation>),
+    /// The generation of the first start.
+    Generation(u32),
+    /// One clause more of the role of the nexus with this name.
+    Role(Word, Clause),
+    /// A script begins, of the host with this name, and with this budget of commands.
+    Script(Word, u64),
+    /// A plan begins, of the guest with this name.
+    Plan(Word),
+    /// The end of a script or a plan.
+    End,
+    /// A send of this command, with its arms to come.
+    Send(ParsedCommand),
+    /// An arm, for the replies that pass this test.
+    On(Test),
+    /// The end of a send or a repeat.
+    Done,
+    /// A repeat of so many turns.
+    Repeat(u64),
+    /// A break of the innermost repeat.
+    Break,
+    /// A stop with this word.
+    Stop(Word),
+    /// A command of a plan.
+    Command(ParsedCommand),
+}
+
+/// What the line says that begins with the word and goes on with `rest`, or nothing where it does not keep its
+/// shape (docs/FORMATS.md, 'The lines of a scenario', 'Statements' and 'COMMAND').
+///
+/// A line whose first word is none of those that lines begin with is a command of a plan. The one error is want of
+/// memory for a list.
+#[tactic(auto, using(crate::proofs::ItemWords::by_keyword))]
+pub fn item_of(alloc: Global, word: &[u8], rest: &[u8]) -> Result<Option<ScenarioLine>, AllocError>
+    ensures { IfOk result (λ item. option_map seen item ≡ item_of word.now (words rest.now)) }
+{
+    match keyword_of(word) {
+        Some(keyword) => said_after(alloc, keyword, rest),
+        None => Ok(spelled_of(word, rest).map(ScenarioLine::Command)),
+    }
+}
+
+// What the words behind the keyword say.
+fn said_after(
+    alloc: Global,
+    keyword: Keyword,
+    rest: &[u8],
+) -> Result<Option<ScenarioLine>, AllocError>
+    ensures { IfOk result (λ item. option_map seen item ≡ said_after keyword (words rest.now)) }
+{
+    match keyword {
+        Keyword::Keys => keys_said(alloc, rest),
+        Keyword::Start => start_said(alloc, rest),
+        Keyword::Pending => pending_said(alloc, rest),
+        Keyword::Reservation => reservation_said(alloc, rest),
+        other => Ok(said_simply(other, rest)),
+    }
+}
+
+// What the words behind a keyword say that takes no list.
+fn said_simply(keyword: Keyword, rest: &[u8]) -> Option<ScenarioLine>
+    ensures { option_map seen result ≡ said_simply keyword (words rest.now) }
+{
+    match keyword {
+        Keyword::Fence => fence_said(rest),
+        Keyword::Host => Some(ScenarioLine::Host(only_name(rest)?)),
+        Keyword::Guest => Some(ScenarioLine::Guest(only_name(rest)?)),
+        Keyword::Generation => Some(ScenarioLine::Generation(generation_of(only(rest)?)?)),
+        Keyword::Role => role_said(rest),
+        Keyword::Script => script_said(rest),
+        Keyword::Plan => Some(ScenarioLine::Plan(only_name(rest)?)),
+        Keyword::End => if_alone(ScenarioLine::End, rest),
+        Keyword::Send => Some(ScenarioLine::Send(spelled_in(rest)?)),
+        Keyword::On => Some(ScenarioLine::On(test_of(rest)?)),
+        Keyword::Done => if_alone(ScenarioLine::Done, rest),
+        Keyword::Repeat => Some(ScenarioLine::Repeat(count_of(only(rest)?)?)),
+        Keyword::Break => if_alone(ScenarioLine::Break, rest),
+        Keyword::Stop => Some(ScenarioLine::Stop(only_name(rest)?)),
+        Keyword::Keys | Keyword::Start | Keyword::Pending | Keyword::Reservation => None,
+    }
+}
+
+// The item, if no word follows it.
+fn if_alone(item: ScenarioLine, rest: &[u8]) -> Option<ScenarioLine>
+    ensures { option_map seen result ≡ if_alone (seen item) (words rest.now) }
+{
+    if is_end(rest) { Some(item) } else { None }
+}
+
+fn fence_said(rest: &[u8]) -> Option<ScenarioLine>
+    ensures { option_map seen result ≡ fence_said (words rest.now) }
+{
+    if is(only(rest)?, VERSION) {
+        Some(ScenarioLine::Fence)
+    } else {
+        None
+    }
+}
+
+fn role_said(rest: &[u8]) -> Option<ScenarioLine>
+    ensures { option_map seen result ≡ said_of_name (λ name clause. declares (role_line name clause)) clause_of (words rest.now) }
+{
+    let Some((name, others)) = name_in(rest) else {
+        return None;
+    };
+    let clause = clause_of(others)?;
+    Some(ScenarioLine::Role(name, clause))
+}
+
+fn script_said(rest: &[u8]) -> Option<ScenarioLine>
+    ensures { option_map seen result ≡ said_of_name (λ name budget. declares (script_line name budget)) budget_in (words rest.now) }
+{
+    let Some((name, others)) = name_in(rest) else {
+        return None;
+    };
+    let budget = budget_in(others)?;
+    Some(ScenarioLine::Script(name, budget))
+}
+
+fn budget_in(line: &[u8]) -> Option<u64>
+    ensures { result ≡ budget_in (words line.now) }
+{
+    let (word, rest) = next_word(line)?;
+    if is(word, "budget") {
+        count_of(only(rest)?)
+    } else {
+        None
+    }
+}
+
+// The name that the line begins with, and what stands behind it.
+fn name_in(line: &[u8]) -> Option<(Word, &[u8])>
+    ensures { option_map (λ r. (r.0.bytes, words r.1.now)) result ≡ name_in (words line.now) }
+{
+    let (word, rest) = next_word(line)?;
+    let name = name_of(word)?;
+    Some((name, rest))
+}
+
+// The name that is the line's one word.
+fn only_name(line: &[u8]) -> Option<Word>
+    ensures { option_map (λ name. name.bytes) result ≡ only_name (words line.now) }
+{
+    name_of(only(line)?)
+}
+
+fn keys_said(alloc: Global, rest: &[u8]) -> Result<Option<ScenarioLine>, AllocError>
+    ensures { IfOk result (λ item. option_map seen item ≡ option_map (λ keys. declares (keys_line keys)) (list_of key_of (words rest.now))) }
+{
+    let keys = keys_in(alloc, rest)?;
+    Ok(keys.map(ScenarioLine::Keys))
+}
+
+fn start_said(alloc: Global, rest: &[u8]) -> Result<Option<ScenarioLine>, AllocError>
+    ensures { IfOk result (λ item. option_map seen item ≡ said_of_name (λ name xs. declares (start_line name xs)) (list_of alternative_of) (words rest.now)) }
+{
+    let Some((name, others)) = name_in(rest) else {
+        return Ok(None);
+    };
+    let alternatives = alternatives_in(alloc, others)?;
+    Ok(alternatives.map(|alternatives| ScenarioLine::Start(name, alternatives)))
+}
+
+fn pending_said(alloc: Global, rest: &[u8]) -> Result<Option<ScenarioLine>, AllocError>
+    ensures { IfOk result (λ item. option_map seen item ≡ said_of_name (λ name xs. declares (pending_line name xs)) (list_of code_of) (words rest.now)) }
+{
+    let Some((name, others)) = name_in(rest) else {
+        return Ok(None);
+    };
+    let attentions = attentions_in(alloc, others)?;
+    Ok(attentions.map(|attentions| ScenarioLine::Pending(name, attentions)))
+}
+
+fn reservation_said(alloc: Global, rest: &[u8]) -> Result<Option<ScenarioLine>, AllocError>
+    ensures { IfOk result (λ item. option_map seen item ≡ option_map (λ xs. declares (reservation_line xs)) (list_of start_reservation_of (words rest.now))) }
+{
+    let wanted = wanted_in(alloc, rest)?;
+    Ok(wanted.map(ScenarioLine::Reservation))
+}
+
+#[tactic(auto, using(crate::proofs::Lists::each_same))]
+fn keys_in(alloc: Global, line: &[u8]) -> Result<Option<Vec<u64>>, AllocError>
+    ensures { IfOk result (λ keys. option_map (λ v. v.items) keys ≡ list_of key_of (words line.now)) }
+{
+    if is_end(line) {
+        return Ok(None);
+    }
+    let mut keys = Vec::new(alloc);
+    let mut rest = line;
+    while let Some((word, others)) = next_word(rest) {
+        let Some(key) = key_of(word) else {
+            return Ok(None);
+        };
+        keys.push(key)?;
+        rest = others;
+    }
+    Ok(Some(keys))
+}
+
+#[tactic(auto, using(crate::proofs::Lists::each_same))]
+fn alternatives_in(alloc: Global, line: &[u8]) -> Result<Option<Vec<Option<u64>>>, AllocError>
+    ensures { IfOk result (λ xs. option_map (λ v. v.items) xs ≡ list_of alternative_of (words line.now)) }
+{
+    if is_end(line) {
+        return Ok(None);
+    }
+    let mut alternatives = Vec::new(alloc);
+    let mut rest = line;
+    while let Some((word, others)) = next_word(rest) {
+        let Some(alternative) = alternative_of(word) else {
+            return Ok(None);
+        };
+        alternatives.push(alternative)?;
+        rest = others;
+    }
+    Ok(Some(alternatives))
+}
+
+fn alternative_of(word: &[u8]) -> Option<Option<u64>>
+    ensures { result ≡ alternative_of word.now }
+{
+    if is(word, "free") {
+        return Some(None);
+    }
+    let key = key_of(word)?;
+    Some(Some(key))
+}
+
+#[tactic(auto, using(crate::proofs::Lists::each_same))]
+fn attentions_in(alloc: Global, line: &[u8]) -> Result<Option<Vec<Attention>>, AllocError>
+    ensures { IfOk result (λ xs. option_map (λ v. v.items) xs ≡ list_of code_of (words line.now)) }
+{
+    if is_end(line) {
+        return Ok(None);
+    }
+    let mut attentions = Vec::new(alloc);
+    let mut rest = line;
+    while let Some((word, others)) = next_word(rest) {
+        let Some(attention) = code_of(word) else {
+            return Ok(None);
+        };
+        attentions.push(attention)?;
+        rest = others;
+    }
+    Ok(Some(attentions))
+}
+
+#[tactic(auto, using(crate::proofs::Lists::each_same))]
+fn wanted_in(alloc: Global, line: &[u8]) -> Result<Option<Vec<StartReservation>>, AllocError>
+    ensures { IfOk result (λ xs. option_map (λ v. map wanted_seen v.items) xs ≡ list_of start_reservation_of (words line.now)) }
+{
+    if is_end(line) {
+        return Ok(None);
+    }
+    let mut all = Vec::new(alloc);
+    let mut rest = line;
+    while let Some((word, others)) = next_word(rest) {
+        let Some(wanted) = start_reservation_of(word) else {
+            return Ok(None);
+        };
+        all.push(wanted)?;
+        rest = others;
+    }
+    Ok(Some(all))
+}
+
+// The reservation that the word is.
+#[tactic(auto, unfolding(crate::specs::ScenarioLines::start_reservation_of))]
+fn start_reservation_of(word: &[u8]) -> Option<StartReservation>
+    ensures { option_map wanted_seen result ≡ start_reservation_of word.now }
+{
+    if is(word, "none") {
+        return Some(StartReservation::Nobody);
+    }
+    if word.len() == 1 {
+        return everybody_of(word);
+    }
+    single_of(word)
+}
+
+fn everybody_of(word: &[u8]) -> Option<StartReservation>
+    ensures { option_map wanted_seen result ≡ everybody_of word.now }
+{
+    let kind = kind_of(word)?;
+    if is_all(kind) {
+        Some(StartReservation::Everybody(kind))
+    } else {
+        None
+    }
+}
+
+// A type, a colon and a name.
+fn single_of(word: &[u8]) -> Option<StartReservation>
+    ensures { option_map wanted_seen result ≡ single_of word.now }
+{
+    if word.len() < 2 || word[1] != b':' {
+        return None;
+    }
+    let kind = kind_of(&word[..1])?;
+    if is_all(kind) {
+        return None;
+    }
+    let name = name_of(&word[2..])?;
+    Some(StartReservation::Single(kind, name))
+}

@@ -1,0 +1,20 @@
+//! What one line of a scenario's text says: from its bytes to its words and terms, and from these to one
+//! [`ScenarioLine`].
+//!
+//! A text is cut into lines by [`next_line`], and a line into words by [`next_word`]. [`item_of`] says what a line
+//! says that begins with a word; a line that does not keep its shape says nothing. What lines mean together, and
+//! whether one may stand behind another, is no matter here.
+#![tactic(auto)]
+
+mod clauses;
+mod cutting;
+mod item;
+mod keyword;
+mod lookup;
+mod options;
+mod spelling;
+mod terms;
+
+pub use cutting::{is_text, next_line, next_word};
+pub use item::{ScenarioLine, StartReservation, item_of};
+pub use spelling::ParsedCommand;

@@ -1,0 +1,221 @@
+//! The options that spell a PERSISTENT RESERVE command.
+
+ghost use Rattle.std.specs.Prelude.{◌≡◌, ◌∷◌};
+ghost use Rattle.pr_lines.specs.TextLines.{words};
+ghost use Rattle.pr_lines.specs.CommandOptions.{key_after, option_of, with_option, with_options, no_option, command_in, command_out, command_of};
+
+use crate::cutting::next_word;
+use crate::lookup::lookup;
+use crate::terms::{key_or_zero, kind_of, value_after};
+use pr_cdb::{Command, Kind};
+use pr_script::WRITTEN_LENGTH;
+
+/// The direction of a command's data: `--in` or `--out`.
+#[derive(Clone, Copy, Debug, PartialEq, Eq)]
+pub enum Direction {
+    In,
+    Out,
+}
+
+/// A service action of `--in`.
+#[derive(Clone, Copy, Debug, PartialEq, Eq)]
+pub enum InAction {
+    ReadKeys,
+    ReadReservation,
+    ReportCapabilities,
+}
+
+/// A service action of `--out`.
+#[derive(Clone, Copy, Debug, PartialEq, Eq)]
+pub enum OutAction {
+    Register,
+    RegisterIgnore,
+    Reserve,
+    Release,
+    Clear,
+    Preempt,
+    PreemptAbort,
+}
+
+/// A service action.
+#[derive(Clone, Copy, Debug, PartialEq, Eq)]
+pub enum Action {
+    In(InAction),
+    Out(OutAction),
+}
+
+/// The options for the direction of the data, of which each command names one.
+pub const DIRECTIONS: [(&[u8], Direction); 2] = [
+    (b"--in", Direction::In),
+    (b"--out", Direction::Out),
+];
+
+/// The options for the service actions.
+pub const ACTIONS: [(&[u8], Action); 10] = [
+    (b"--read-keys", Action::In(InAction::ReadKeys)),
+    (b"--read-reservation", Action::In(InAction::ReadReservation)),
+    (
+        b"--report-capabilities",
+        Action::In(InAction::ReportCapabilities),
+    ),
+    (b"--register", Action::Out(OutAction::Register)),
+    (b"--register-ignore", Action::Out(OutAction::RegisterIgnore)),
+    (b"--reserve", Action::Out(OutAction::Reserve)),
+    (b"--release", Action::Out(OutAction::Release)),
+    (b"--clear", Action::Out(OutAction::Clear)),
+    (b"--preempt", Action::Out(OutAction::Preempt)),
+    (b"--preempt-abort", Action::Out(OutAction::PreemptAbort)),
+];
+
+/// One option of a command.
+#[derive(Clone, Copy, Debug, PartialEq, Eq)]
+pub enum CommandOption {
+    Direction(Direction),
+    Action(Action),
+    Rk(u64),
+    Sark(u64),
+    Kind(Kind),
+}
+
+/// The options that are written, each at most once.
+#[derive(Clone, Copy, Debug, PartialEq, Eq)]
+pub struct Written {
+    pub direction: Option<Direction>,
+    pub action: Option<Action>,
+    pub rk: Option<u64>,
+    pub sark: Option<u64>,
+    pub kind: Option<Kind>,
+}
+
+impl Written {
+    ghost use Rattle.std.specs.Prelude.{◌≡◌, ◌&&◌, is_none};
+    ghost use Rattle.pr_lines.specs.TextLines.{words};
+    ghost use Rattle.pr_lines.specs.CommandOptions.{no_option, with_option, with_options, command_of};
+
+    /// Nothing is written.
+    pub fn new() -> Self
+        ensures { result ≡ no_option }
+    {
+        Written {
+            direction: None,
+            action: None,
+            rk: None,
+            sark: None,
+            kind: None,
+        }
+    }
+
+    /// What is written with one option more, if that was not written before.
+    #[tactic(auto, unfolding(crate::specs::CommandOptions::with_option))]
+    pub fn with(self, option: CommandOption) -> Option<Self>
+        ensures { result ≡ with_option self option }
+    {
+        let mut written = self;
+        match option {
+            CommandOption::Direction(direction) if self.direction.is_none() => written.direction =
+                Some(direction),
+            CommandOption::Action(action) if self.action.is_none() => written.action = Some(action),
+            CommandOption::Rk(rk) if self.rk.is_none() => written.rk = Some(rk),
+            CommandOption::Sark(sark) if self.sark.is_none() => written.sark = Some(sark),
+            CommandOption::Kind(kind) if self.kind.is_none() => written.kind = Some(kind),
+            _ => return None,
+        }
+        Some(written)
+    }
+
+    // Whether neither a key nor a type is written.
+    fn is_bare(&self) -> bool
+        ensures { result ≡ (is_none self.now.rk && (is_none self.now.sark && is_none self.now.kind)) }
+    {
+        self.rk.is_none() && self.sark.is_none() && self.kind.is_none()
+    }
+
+    /// The command that the options spell.
+    #[tactic(auto, unfolding(crate::specs::CommandOptions::command_of))]
+    pub fn command(&self) -> Option<Command>
+        ensures { result ≡ command_of self.now }
+    {
+        let direction = self.direction?;
+        let action = self.action?;
+        match (direction, action) {
+            (Direction::In, Action::In(action)) if self.is_bare() => Some(command_in(action)),
+            (Direction::Out, Action::Out(action)) => command_out(
+                action,
+                self.rk.unwrap_or(0),
+                self.sark.unwrap_or(0),
+                self.kind,
+            ),
+            _ => None,
+        }
+    }
+}
+
+/// The options that the word and the line's words are.
+pub fn options_of(first: &[u8], line: &[u8]) -> Option<Written>
+    ensures { result ≡ with_options no_option (first.now ∷ words line.now) }
+{
+    let mut written = Written::new().with(option_of(first)?)?;
+    let mut rest = line;
+    while let Some((word, others)) = next_word(rest) {
+        written = written.with(option_of(word)?)?;
+        rest = others;
+    }
+    Some(written)
+}
+
+// The one option that the word is.
+#[tactic(auto, unfolding(crate::specs::CommandOptions::option_of))]
+fn option_of(word: &[u8]) -> Option<CommandOption>
+    ensures { result ≡ option_of word.now }
+{
+    if let Some(direction) = lookup(&DIRECTIONS, word) {
+        return Some(CommandOption::Direction(direction));
+    }
+    if let Some(action) = lookup(&ACTIONS, word) {
+        return Some(CommandOption::Action(action));
+    }
+    if let Some(rk) = key_after("--param-rk=", word) {
+        return Some(CommandOption::Rk(rk));
+    }
+    if let Some(sark) = key_after("--param-sark=", word) {
+        return Some(CommandOption::Sark(sark));
+    }
+    let kind = kind_of(value_after("--prout-type=", word)?)?;
+    Some(CommandOption::Kind(kind))
+}
+
+fn key_after(name: &str, word: &[u8]) -> Option<u64>
+    ensures { result ≡ key_after name.now word.now }
+{
+    key_or_zero(value_after(name, word)?)
+}
+
+// The commands of `--in`.
+#[tactic(auto, unfolding(crate::specs::CommandOptions::command_in))]
+fn command_in(action: InAction) -> Command
+    ensures { result ≡ command_in action }
+{
+    let alloc = WRITTEN_LENGTH;
+    match action {
+        InAction::ReadKeys => Command::ReadKeys { alloc },
+        InAction::ReadReservation => Command::ReadReservation { alloc },
+        InAction::ReportCapabilities => Command::ReportCapabilities { alloc },
+    }
+}
+
+// The commands of `--out`.
+#[tactic(auto, unfolding(crate::specs::CommandOptions::command_out))]
+fn command_out(action: OutAction, rk: u64, sark: u64, kind: Option<Kind>) -> Option<Command>
+    ensures { result ≡ command_out action rk sark kind }
+{
+    match action {
+        OutAction::Register => Some(Command::Register { rk, sark }),
+        OutAction::RegisterIgnore => Some(Command::RegisterIgnore { sark }),
+        OutAction::Reserve => kind.map(|kind| Command::Reserve { rk, kind }),
+        OutAction::Release => kind.map(|kind| Command::Release { rk, kind }),
+        OutAction::Clear => Some(Command::Clear { rk }),
+        OutAction::Preempt if kind.is_some() => Some(Command::Preempt { rk, sark, kind }),
+        OutAction::PreemptAbort if kind.is_some() => Some(Command::PreemptAbort { rk, sark, kind }),
+        _ => None,
+    }
+}

@@ -1,0 +1,93 @@
+//! The commands that words spell.
+
+ghost use Rattle.std.specs.Prelude.{◌≡◌};
+ghost use Rattle.pr_lines.specs.TextLines.{words, if_alone};
+ghost use Rattle.pr_lines.specs.CommandWords.{keyless, blocks_of, spelled_by, spelled_of, spelled_in};
+
+use crate::cutting::{is, is_end, next_word, only};
+use crate::options::{Written, options_of};
+use crate::terms::amount_of;
+use pr_cdb::Command;
+
+/// A command, and the keys that are written with it (docs/FORMATS.md, 'COMMAND'). The command may drop a key.
+#[derive(Clone, Copy, Debug, PartialEq, Eq)]
+pub struct ParsedCommand {
+    pub command: Command,
+    /// The key of `--param-rk`, zero where none is written.
+    pub rk: u64,
+    /// The key of `--param-sark`, zero where none is written.
+    pub sark: u64,
+}
+
+/// The command that the line's words spell.
+pub fn spelled_in(line: &[u8]) -> Option<ParsedCommand>
+    ensures { result ≡ spelled_in (words line.now) }
+{
+    let (word, rest) = next_word(line)?;
+    spelled_of(word, rest)
+}
+
+/// The command that the word and the words after it spell.
+#[tactic(auto, unfolding(crate::specs::CommandWords::spelled_of))]
+pub fn spelled_of(word: &[u8], rest: &[u8]) -> Option<ParsedCommand>
+    ensures { result ≡ spelled_of word.now (words rest.now) }
+{
+    if is(word, "test-unit-ready") {
+        return keyless_if_alone(Command::TestUnitReady, rest);
+    }
+    if is(word, "request-sense") {
+        return keyless_if_alone(Command::RequestSense, rest);
+    }
+    if is(word, "read") {
+        let (lba, blocks) = blocks_of(rest)?;
+        return Some(keyless(Command::Read { lba, blocks }));
+    }
+    if is(word, "write") {
+        let (lba, blocks) = blocks_of(rest)?;
+        return Some(keyless(Command::Write { lba, blocks }));
+    }
+    spelled_by(options_of(word, rest)?)
+}
+
+fn keyless(command: Command) -> ParsedCommand
+    ensures { result ≡ keyless command }
+{
+    ParsedCommand {
+        command,
+        rk: 0,
+        sark: 0,
+    }
+}
+
+// The command, if no word follows it.
+fn keyless_if_alone(command: Command, rest: &[u8]) -> Option<ParsedCommand>
+    ensures { result ≡ if_alone (keyless command) (words rest.now) }
+{
+    if is_end(rest) {
+        Some(keyless(command))
+    } else {
+        None
+    }
+}
+
+// The address of the first block, and how many blocks.
+fn blocks_of(line: &[u8]) -> Option<(u32, u16)>
+    ensures { result ≡ blocks_of (words line.now) }
+{
+    let (word, rest) = next_word(line)?;
+    let lba = amount_of(4_294_967_295, word)?;
+    let last = only(rest)?;
+    let blocks = amount_of(65_535, last)?;
+    Some((lba as u32, blocks as u16))
+}
+
+fn spelled_by(written: Written) -> Option<ParsedCommand>
+    ensures { result ≡ spelled_by written }
+{
+    let command = written.command()?;
+    Some(ParsedCommand {
+        command,
+        rk: written.rk.unwrap_or(0),
+        sark: written.sark.unwrap_or(0),
+    })
+}

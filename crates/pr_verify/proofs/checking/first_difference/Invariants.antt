@@ -1,0 +1,11 @@
+use Rattle.std.proofs.Common.{ℕ, ◌≤◌, length}
+use Rattle.pr_views.specs.declared.view.ViewOf.{ViewOf}
+use Rattle.pr_verify.specs.declared.places.Spot.{Spot}
+use Rattle.pr_verify.proofs.Differing.{Agree}
+use Rattle.pr_verify.proofs.checking.first_difference.Given as goal
+
+abbrev pub invariant-loop-i : goal.invariant-loop-i
+invariant-loop-i g l = record {
+  agree : Agree (λ (e : ℕ × ViewOf g.row.S.Denot). e.0) (λ (p : Spot). p.line) l.i l.views l.spots;
+  within : l.i ≤ length l.spots;
+}
