@@ -4,6 +4,7 @@
 use Rattle.std.specs.Prelude.{◌≡◌, ℕ, ◌≤◌, ◌==◌, Bool, true, false, IsTrue, List, [], ◌∷◌, ◌++◌, length, Option, Some, None, map, slice_set, Ok}
 use Rattle.std.specs.List.{slice_get, count_by}
 use Rattle.std.specs.Option.{option_map_or}
+use Rattle.pr_cdb.specs.declared.codes.TheConstants.{MOST_CDB_LENGTH, PARAMETER_LIST_LENGTH}
 use Rattle.pr_cdb.specs.declared.command.Command.{Command}
 use Rattle.pr_cdb.specs.declared.reply.Reply.{Reply}
 use Rattle.pr_cdb.specs.declared.wire.Wire.{Wire}
@@ -94,7 +95,7 @@ is_guest s g = is_guest_task (task s g)
 pub record GuestSends (s : Scenario) (w : World) (g : ℕ) (wire : Wire) (v : World) : Type 0 where
   pub guest : IsTrue (is_guest s g)
   pub bytes : AreBytes wire.cdb.items × AreBytes wire.params.items
-  pub lengths : (length wire.cdb.items ≤ 16) × (length wire.params.items ≤ 24)
+  pub lengths : (length wire.cdb.items ≤ MOST_CDB_LENGTH) × (length wire.params.items ≤ PARAMETER_LIST_LENGTH)
   pub request : Request
   pub read : request_of_wire wire ≡ Ok request
   pub reply : Reply

@@ -1,6 +1,7 @@
 //! What the lines so far declare.
 
 ghost use Rattle.std.specs.Prelude.{◌≡◌, ◌≤◌, length};
+ghost use Rattle.pr_cdb.specs.declared.codes.TheConstants.{MOST_NEXUSES};
 ghost use Rattle.pr_text.specs.inside.Steps.{Gives};
 ghost use Rattle.pr_text.specs.inside.Chains.{planned_step};
 
@@ -39,7 +40,7 @@ pub struct Builder {
     pub generation: Option<u32>,
     pub nexuses: Vec<Draft>,
     pub place: Place,
-    ghost few: { length nexuses.items ≤ 8 },
+    ghost few: { length nexuses.items ≤ MOST_NEXUSES },
 }
 
 impl Builder {

@@ -1,6 +1,7 @@
 //! What is left of a guest's plan.
 
 ghost use Rattle.std.specs.Prelude.{◌≡◌, ◌≤◌, [], ◌∷◌, length, IfOk, MatchOption};
+ghost use Rattle.pr_roles.specs.declared.limits.TheConstants.{MOST_PLANNED};
 
 use pr_cdb::Command;
 use std::alloc::{AllocError, Global};
@@ -10,12 +11,12 @@ use std::collections::VecDeque;
 #[derive(Debug, Drop)]
 pub(crate) struct Plan {
     commands: VecDeque<Command>,
-    ghost short: { length commands.items ≤ 256 },
+    ghost short: { length commands.items ≤ MOST_PLANNED },
 }
 
 impl Plan {
     pub(crate) fn new(alloc: Global, commands: &[Command]) -> Result<Plan, AllocError>
-        requires { length commands.now ≤ 256 }
+        requires { length commands.now ≤ MOST_PLANNED }
         ensures { IfOk result (λ plan. plan.commands.items ≡ commands.now) }
     {
         Ok(Plan {

@@ -5,6 +5,7 @@ use Rattle.pr_script.specs.declared.rows.Step.{Step}
 use Rattle.pr_script.specs.declared.rows.Step.TheVariants.{Send, Repeat, Break, Stop}
 use Rattle.pr_script.specs.declared.rows.ArmTarget.{ArmTarget}
 use Rattle.pr_script.specs.declared.advance.LoopFrame.{LoopFrame}
+use Rattle.pr_script.specs.declared.limits.TheConstants.{MOST_OPEN}
 use Rattle.pr_script.specs.Scripts.{Stmt, Stmts, Arms, sends, repeats, breaks, stops, none, more, no_arm, arm, statement, mark, Configuration, before, becomes}
 use Rattle.pr_script.specs.Depths.{depth_of}
 
@@ -108,7 +109,7 @@ pub record IsPlaced (rows : List Instruction) (at : ℕ) (opens : List LoopFrame
   pub table : IsTable rows
   pub within : at ≤ length rows
   pub repeats : AreLoops (length rows) opens
-  pub room : deepest (configuration (meanings rows) at opens) ≤ 8
+  pub room : deepest (configuration (meanings rows) at opens) ≤ MOST_OPEN
 
 -- It stands at a send, at a stop or at the script's end.
 pub record IsMachine (rows : List Instruction) (at : ℕ) (opens : List LoopFrame) : Type 0 where

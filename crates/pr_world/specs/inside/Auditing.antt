@@ -1,5 +1,6 @@
 -- The entries that may come next in an audit.
 use Rattle.std.specs.Prelude.{◌≡◌, ℕ, ◌≤◌, Bool, true, false, IsTrue, List, [], ◌∷◌, ◌++◌, Some, Ok, length, map}
+use Rattle.pr_cdb.specs.declared.codes.TheConstants.{MOST_CDB_LENGTH, PARAMETER_LIST_LENGTH}
 use Rattle.pr_cdb.specs.declared.command.Command.{Command}
 use Rattle.pr_cdb.specs.declared.wire.Request.{Request}
 use Rattle.pr_cdb.specs.declared.wire.Request.TheVariants.{Plain}
@@ -33,7 +34,7 @@ pub record ScriptSends (k : Control) (u : UnitState) (e : Entry) (after : Contro
 -- the bytes are a request, the unit may answer it so, and where that is GOOD the role permits it
 pub record GuestSendsSo (clauses : List Clause) (u : UnitState) (e : Entry) (v : UnitState) : Type 0 where
   pub bytes : AreBytes e.wire.cdb.items × AreBytes e.wire.params.items
-  pub lengths : (length e.wire.cdb.items ≤ 16) × (length e.wire.params.items ≤ 24)
+  pub lengths : (length e.wire.cdb.items ≤ MOST_CDB_LENGTH) × (length e.wire.params.items ≤ PARAMETER_LIST_LENGTH)
   pub request : Request
   pub read : request_of_wire e.wire ≡ Ok request
   pub step : Step u e.host request e.reply v
