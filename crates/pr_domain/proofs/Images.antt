@@ -7,8 +7,8 @@ use Rattle.pr_sets.specs.Words.{has}
 use Rattle.pr_views.specs.Portions.{has_at}
 use Rattle.pr_views.proofs.Places.{holds_at_written, holds_at_kept}
 use Rattle.pr_regions.specs.declared.region.Change.{Change}
-use Rattle.pr_regions.specs.Regions.{flag}
-use Rattle.pr_domain.specs.inside.Images.{IsImage, first, mark, AreMarked, AreTold}
+use Rattle.pr_regions.specs.Regions.{flag, mark}
+use Rattle.pr_domain.specs.inside.Images.{IsImage, first, AreMarked, AreTold}
 
 -- ---- the numbers of a word below a bound
 

@@ -4,12 +4,16 @@ ghost use Rattle.std.specs.Prelude.{◌≡◌, ◌≤◌, ◌<◌, ℕ, unwrap_o
 ghost use Rattle.pr_roles.specs.declared.limits.TheConstants.{MOST_KEYS};
 ghost use Rattle.pr_sets.specs.Words.{has};
 ghost use Rattle.pr_views.specs.Portions.{has_at};
-ghost use Rattle.pr_domain.specs.inside.Images.{IsImage, first, left, becomes, mark as mark_of, AreTold};
+ghost use Rattle.pr_regions.specs.Regions.{mark as mark_of};
+ghost use Rattle.pr_domain.specs.inside.Images.{IsImage, first, left, becomes, AreTold};
 
 use pr_cdb::codes::MOST_NEXUSES;
 use pr_regions::Change;
 use pr_sets::Word;
-use pr_views::{ATTENTION_SETS, MOST_REGISTRATIONS};
+use pr_views::{
+    ATTENTION_SETS, MOST_REGISTRATIONS, REGISTRATIONS_PREEMPTED_BIT, RESERVATIONS_PREEMPTED_BIT,
+    RESERVATIONS_RELEASED_BIT,
+};
 
 /// What becomes of the registrations of each nexus by a change of the sender's.
 pub(crate) fn registrations_after(
@@ -87,17 +91,17 @@ fn mark(registration: u8, change: &Change) -> u8
     ensures few { result < ATTENTION_SETS }
 {
     let preempted = if change.told_03.has(registration) {
-        2
+        RESERVATIONS_PREEMPTED_BIT
     } else {
         0
     };
     let released = if change.told_04.has(registration) {
-        4
+        RESERVATIONS_RELEASED_BIT
     } else {
         0
     };
     let removed = if change.told_05.has(registration) {
-        8
+        REGISTRATIONS_PREEMPTED_BIT
     } else {
         0
     };

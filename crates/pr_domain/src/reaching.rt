@@ -27,7 +27,10 @@ use pr_cdb::codes::MOST_NEXUSES;
 use pr_registry::Held;
 use pr_roles::{Action, Clause};
 use pr_sets::Word;
-use pr_views::Possibilities;
+use pr_views::{
+    Possibilities, REGISTRATIONS_PREEMPTED_BIT, RESERVATIONS_PREEMPTED_BIT,
+    RESERVATIONS_RELEASED_BIT,
+};
 
 impl Onlooker {
     /// What a command of this clause can leave at most, beside what was so before it.
@@ -186,9 +189,24 @@ impl Onlooker {
         ensures { (r q n : ℕ) → has_at self.now.view.registrations self.now.own r ≡ true → has self.now.view.pending q ≡ true → q < ATTENTION_SETS → IsTold reach.now r q n → has result n ≡ true }
     {
         let owners = self.view.registrations[usize::from(self.own)];
-        let preempted = told(owners, reach.told_03, self.view.pending, 2);
-        let released = told(owners, reach.told_04, self.view.pending, 4);
-        let removed = told(owners, reach.told_05, self.view.pending, 8);
+        let preempted = told(
+            owners,
+            reach.told_03,
+            self.view.pending,
+            RESERVATIONS_PREEMPTED_BIT,
+        );
+        let released = told(
+            owners,
+            reach.told_04,
+            self.view.pending,
+            RESERVATIONS_RELEASED_BIT,
+        );
+        let removed = told(
+            owners,
+            reach.told_05,
+            self.view.pending,
+            REGISTRATIONS_PREEMPTED_BIT,
+        );
         preempted.or(released.or(removed))
     }
 }

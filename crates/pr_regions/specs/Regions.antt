@@ -12,6 +12,7 @@ use Rattle.pr_unit.specs.Faults.{command_fault}
 use Rattle.pr_roles.specs.declared.limits.TheConstants.{MOST_KEYS}
 use Rattle.pr_sets.specs.declared.word.Word.{Word}
 use Rattle.pr_sets.specs.Words.{has}
+use Rattle.pr_views.specs.declared.view.TheConstants.{RESERVATIONS_PREEMPTED_BIT, RESERVATIONS_RELEASED_BIT, REGISTRATIONS_PREEMPTED_BIT}
 use Rattle.pr_views.specs.Possibilities.{Scope, IsScope, Registration, Reservation, Attentions, IsSo, count_of_reservations}
 use Rattle.pr_views.specs.Portions.{HasSomebody}
 use Rattle.pr_regions.specs.declared.region.Region.{Region}
@@ -75,11 +76,17 @@ pub record IsInRegion (s : Scope) (sender : ℕ) (region : Region) (u : UnitStat
 -- ---- how a command ends there
 
 abbrev pub flag : Bool → ℕ → ℕ
-flag tells code = if tells then code else 0
+flag tells bit = if tells then bit else 0
 
--- the number of the owner's attentions once an owner with registration r has been told
+-- the bits of what an owner with registration r is told
+abbrev pub mark : Change → ℕ → ℕ
+mark c r =
+    flag (has c.told_03 r) RESERVATIONS_PREEMPTED_BIT +
+    (flag (has c.told_04 r) RESERVATIONS_RELEASED_BIT + flag (has c.told_05 r) REGISTRATIONS_PREEMPTED_BIT)
+
+-- the number of the owner's attentions once it has been told
 abbrev pub told_number : Change → ℕ → ℕ → ℕ
-told_number c r q = bit_or q (flag (has c.told_03 r) 2 + (flag (has c.told_04 r) 4 + flag (has c.told_05 r) 8))
+told_number c r q = bit_or q (mark c r)
 
 -- What becomes of the sender's registration, of the others', of the reservation, and of what is pending for
 -- the owner of the view: each by itself.

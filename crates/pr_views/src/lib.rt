@@ -8,4 +8,7 @@ mod view;
 
 pub use portion::Portion;
 pub use possibilities::Possibilities;
-pub use view::{ATTENTION_SETS, MOST_REGISTRATIONS, View, ViewOf};
+pub use view::{
+    ATTENTION_SETS, MOST_REGISTRATIONS, POWER_ON_BIT, REGISTRATIONS_PREEMPTED_BIT,
+    RESERVATIONS_PREEMPTED_BIT, RESERVATIONS_RELEASED_BIT, View, ViewOf,
+};

@@ -4,7 +4,7 @@ use Rattle.pr_sets.specs.declared.word.Word.{Word}
 use Rattle.pr_sets.specs.Words.{has}
 use Rattle.pr_views.specs.declared.view.TheConstants.{ATTENTION_SETS, MOST_REGISTRATIONS}
 use Rattle.pr_regions.specs.declared.region.Change.{Change}
-use Rattle.pr_regions.specs.Regions.{flag}
+use Rattle.pr_regions.specs.Regions.{mark}
 
 -- these numbers are what the others become
 pub record IsImage (from : ℕ → Bool) (becomes : ℕ → ℕ) (to : ℕ → Bool) : Type 0 where
@@ -22,10 +22,6 @@ left removed r = if has removed r then 0 else r
 -- what becomes of g's registration by a change of this sender
 abbrev pub becomes : ℕ → Change → ℕ → ℕ → ℕ
 becomes sender c g r = if g == sender then unwrap_or c.sender r else left c.removed r
-
--- the bits of what a host with registration r is told
-abbrev pub mark : Change → ℕ → ℕ
-mark c r = flag (has c.told_03 r) 2 + (flag (has c.told_04 r) 4 + flag (has c.told_05 r) 8)
 
 -- of the sets of attentions, what they are with each of the first marks
 pub record AreMarked (bound : ℕ) (marks pending told : Word) : Type 0 where

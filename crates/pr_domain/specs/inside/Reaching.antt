@@ -6,6 +6,7 @@ use Rattle.pr_roles.specs.declared.role.Action.TheVariants as action
 use Rattle.pr_roles.specs.declared.role.Clause.{Clause}
 use Rattle.pr_sets.specs.Words.{has}
 use Rattle.pr_views.specs.declared.possibilities.Possibilities.{Possibilities}
+use Rattle.pr_views.specs.declared.view.TheConstants.{RESERVATIONS_PREEMPTED_BIT, RESERVATIONS_RELEASED_BIT, REGISTRATIONS_PREEMPTED_BIT}
 use Rattle.pr_views.specs.Possibilities.{Scope, Item, Registration, Reservation, Attentions, IsSo}
 use Rattle.pr_views.specs.Views.{IsPossible, Shows}
 use Rattle.pr_views.specs.Portions.{has_at, view_in}
@@ -17,7 +18,9 @@ use Rattle.pr_domain.specs.inside.Clauses.{PlaceLeads}
 -- with registration r the owner can be told, and q becomes n by it
 abbrev pub IsTold : Reach → ℕ → ℕ → ℕ → Type 0
 IsTold reach r q n =
-    ((has reach.told_03 r ≡ true) × (n ≡ bit_or q 2)) ⊎ (((has reach.told_04 r ≡ true) × (n ≡ bit_or q 4)) ⊎ ((has reach.told_05 r ≡ true) × (n ≡ bit_or q 8)))
+    ((has reach.told_03 r ≡ true) × (n ≡ bit_or q RESERVATIONS_PREEMPTED_BIT)) ⊎
+    (((has reach.told_04 r ≡ true) × (n ≡ bit_or q RESERVATIONS_RELEASED_BIT)) ⊎
+    ((has reach.told_05 r ≡ true) × (n ≡ bit_or q REGISTRATIONS_PREEMPTED_BIT)))
 
 -- whatever becomes another by the step is in reach
 pub record IsWithin (s : Scope) (from : ℕ) (reach : Reach) (u w : UnitState) : Type 0 where

@@ -1,6 +1,7 @@
 use Rattle.std.proofs.Common.{◌+◌, subst, sym, ◌∙◌}
 use Rattle.pr_sets.specs.Words.{has}
-use Rattle.pr_domain.specs.inside.Images.{IsImage, first, mark}
+use Rattle.pr_regions.specs.Regions.{mark}
+use Rattle.pr_domain.specs.inside.Images.{IsImage, first}
 use Rattle.pr_domain.proofs.Images.{image_more, image_skips}
 use Rattle.pr_domain.proofs.changed.marks.Goals.{then-has, else-has}
 use Rattle.pr_domain.proofs.changed.marks.Goals as goal

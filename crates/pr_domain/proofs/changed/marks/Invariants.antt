@@ -1,5 +1,6 @@
 use Rattle.pr_sets.specs.Words.{has}
-use Rattle.pr_domain.specs.inside.Images.{IsImage, first, mark}
+use Rattle.pr_regions.specs.Regions.{mark}
+use Rattle.pr_domain.specs.inside.Images.{IsImage, first}
 use Rattle.pr_domain.proofs.changed.marks.Given as goal
 
 abbrev pub invariant-loop-registration : goal.invariant-loop-registration
