@@ -29,14 +29,14 @@ use Rattle.pr_regions.specs.Readings.{first_test}
 use Rattle.pr_domain.specs.declared.landing.Landing.{Landing}
 use Rattle.pr_domain.specs.declared.tally.Tally.{Tally}
 use Rattle.pr_domain.specs.Landings.{IsLanding}
-use Rattle.pr_domain.specs.inside.Tallies.{IsRegistered, has_part, tallied, arm_of, Leaves, IsTally}
+use Rattle.pr_domain.specs.inside.Tallies.{IsRegistered, has_part, has_tallied, arm_of, Leaves, IsTally}
 use Rattle.pr_domain.specs.inside.Reporting.{AreReported, AreCalm, AreQuiet, Reports, Conflicts, Fails, EndsGood, MayReport, landing_at}
 use Rattle.pr_domain.proofs.Owner.{after_reported, reported_after, quiet_number, number_quiet, untold_pending}
 use Rattle.pr_domain.proofs.Landed.{so_from_registered, still_registered, IsWay, IsTold}
 
 -- ---- what a tally has
 
-way_says : (t : Tally) (w : ℕ) (p : Possibilities) → slice_get t.ways w ≡ Some p → (j : Item) → tallied t w j ≡ has_part p j
+way_says : (t : Tally) (w : ℕ) (p : Possibilities) → slice_get t.ways w ≡ Some p → (j : Item) → has_tallied t w j ≡ has_part p j
 way_says t w p is j = ap (λ o. option_map_or (λ x. has_part x j) o false) is
 
 pub way_of_tally : (v : View) (c : Command) (tests : List Test) (t : Tally) (w : ℕ) (p : Possibilities) → IsTally v c tests t → slice_get t.ways w ≡ Some p

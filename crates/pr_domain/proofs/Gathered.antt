@@ -22,7 +22,7 @@ use Rattle.pr_views.proofs.Numbering.{same_held, reservation_of, one_registratio
 use Rattle.pr_regions.specs.declared.region.Region.{Region}
 use Rattle.pr_regions.specs.Regions.{IsUntestedOrRegistered, filter_of}
 use Rattle.pr_domain.specs.declared.place.Place.{Place}
-use Rattle.pr_domain.specs.inside.Gathering.{IsPlace, IsUniform, IsProper, IsAt, passes, IsLeftTo, tested}
+use Rattle.pr_domain.specs.inside.Gathering.{IsPlace, IsUniform, IsProper, IsAt, passes, IsLeftTo, HasTest}
 
 and_false : (b : Bool) → (b && false) ≡ false
 and_false true = refl
@@ -79,7 +79,7 @@ pub record IsPortionOf (view : Possibilities) (place : Place) (senders : Word) (
   pub sender : p.sender ≡ place.sender
   pub reservation : p.reservation ≡ place.reservation
   pub left : IsLeftTo view place senders region p
-  pub tested : tested place senders region.somebody p.somebody
+  pub tested : HasTest place senders region.somebody p.somebody
 
 gives : (s : Scope) (view : Possibilities) (place : Place) (senders : Word) (region : Region) (p : Portion) → IsPlace s view place → IsProper region
     → IsPortionOf view place senders region p → (held : Option Held) → place.held ≡ held → is_reservation s.hosts held ≡ true → GivesHolder p held
@@ -105,7 +105,7 @@ gives s view place senders region p is proper of (Some (All kind)) held fits = a
             (ap (λ b. b && not (holds_alone place.held place.sender && 0 == 0)) none)
     at true some = inr (tests region.somebody p.somebody of.tested proper)
       where
-        tests : (a b : Option Word) → tested place senders a b → IsUntestedOrRegistered a → TestsRegistered b
+        tests : (a b : Option Word) → HasTest place senders a b → IsUntestedOrRegistered a → TestsRegistered b
         tests None None none proper = absurd (false≢true (sym none ∙ ap (λ b. b && has senders 0) by_all ∙ some))
         tests None (Some w) another proper = another.2
         tests (Some w) None none proper = absurd none
@@ -151,7 +151,7 @@ at_from_in s view place senders region p is of u inside =
         (and_parts (has_at view.registrations g r) (passes place senders region g r)
         (sym (of.left g r (subst (λ n. g < n) is.hosts it.0)) ∙ inside.registrations g r it)).1
 
-    somebody : (a b : Option Word) → tested place senders a b → HasSomebody s u place.sender (option_map has b) → HasSomebody s u place.sender (option_map has a)
+    somebody : (a b : Option Word) → HasTest place senders a b → HasSomebody s u place.sender (option_map has b) → HasSomebody s u place.sender (option_map has a)
     somebody None None none some = tt
     somebody None (Some w) another some = tt
     somebody (Some w) None none some = absurd none
@@ -235,7 +235,7 @@ in_from_at s view place senders region p is uniform of u at = record {
                     let none = uniform free (suc i) (at.sender (suc i) (subst (λ n. IsSo s u (Registration n (suc i))) same so)) in
                     absurd (omega arith)
 
-    somebody : (a b : Option Word) → tested place senders a b → HasSomebody s u place.sender (option_map has a) → HasSomebody s u place.sender (option_map has b)
+    somebody : (a b : Option Word) → HasTest place senders a b → HasSomebody s u place.sender (option_map has a) → HasSomebody s u place.sender (option_map has b)
     somebody None None none some = tt
     somebody None (Some w) more some =
         let parts = and_parts (is_held_by_all place.held) (has senders 0) more.0 in

@@ -15,7 +15,7 @@ use Rattle.pr_regions.specs.declared.region.Branch.{Branch}
 use Rattle.pr_domain.specs.declared.place.Place.{Place}
 use Rattle.pr_domain.specs.declared.tally.Tally.{Tally}
 use Rattle.pr_domain.specs.inside.Gathering.{IsAt}
-use Rattle.pr_domain.specs.inside.Tallies.{tallied, Leaves, IsFound, Grows, IsInOne}
+use Rattle.pr_domain.specs.inside.Tallies.{has_tallied, Leaves, IsFound, Grows, IsInOne}
 
 -- found among these, and so among those
 found_as : (v : View) (c : Command) (tests : List Test) (A B : UnitState → Type 0) (way : ℕ) (i : Item) (q : ℕ) → ((u : UnitState) → Shows v u → A u → B u)
@@ -32,7 +32,7 @@ grows_as v c tests old new A B to from grows = record {
   only = λ way i q has pending. at way i q (grows.only way i q has pending);
 }
   where
-    at : (way : ℕ) (i : Item) (q : ℕ) → (tallied old way i ≡ true) ⊎ IsFound v c tests A way i q → (tallied old way i ≡ true) ⊎ IsFound v c tests B way i q
+    at : (way : ℕ) (i : Item) (q : ℕ) → (has_tallied old way i ≡ true) ⊎ IsFound v c tests A way i q → (has_tallied old way i ≡ true) ⊎ IsFound v c tests B way i q
     at way i q (inl before) = inl before
     at way i q (inr found) = inr (found_as v c tests A B way i q to found)
 
@@ -46,15 +46,15 @@ grows_then v c tests old mid new A B C from_a from_b either first second = recor
   only = λ way i q has pending. late way i q pending (second.only way i q has pending);
 }
   where
-    all : (u : UnitState) (way : ℕ) (i : Item) → Shows v u → Leaves v.scope c tests way u i → A u ⊎ B u → tallied new way i ≡ true
+    all : (u : UnitState) (way : ℕ) (i : Item) → Shows v u → Leaves v.scope c tests way u i → A u ⊎ B u → has_tallied new way i ≡ true
     all u way i shown leaves (inl a) = second.kept way i (first.all u way i shown a leaves)
     all u way i shown leaves (inr b) = second.all u way i shown b leaves
 
-    early : (way : ℕ) (i : Item) (q : ℕ) → (tallied old way i ≡ true) ⊎ IsFound v c tests A way i q → (tallied old way i ≡ true) ⊎ IsFound v c tests C way i q
+    early : (way : ℕ) (i : Item) (q : ℕ) → (has_tallied old way i ≡ true) ⊎ IsFound v c tests A way i q → (has_tallied old way i ≡ true) ⊎ IsFound v c tests C way i q
     early way i q (inl before) = inl before
     early way i q (inr found) = inr (found_as v c tests A C way i q from_a found)
 
-    late : (way : ℕ) (i : Item) (q : ℕ) → v.pending q ≡ true → (tallied mid way i ≡ true) ⊎ IsFound v c tests B way i q → (tallied old way i ≡ true) ⊎ IsFound v c tests C way i q
+    late : (way : ℕ) (i : Item) (q : ℕ) → v.pending q ≡ true → (has_tallied mid way i ≡ true) ⊎ IsFound v c tests B way i q → (has_tallied old way i ≡ true) ⊎ IsFound v c tests C way i q
     late way i q pending (inl before) = early way i q (first.only way i q before pending)
     late way i q pending (inr found) = inr (found_as v c tests B C way i q from_b found)
 

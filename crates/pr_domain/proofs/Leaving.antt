@@ -26,8 +26,8 @@ use Rattle.pr_regions.specs.Regions.{Ends, Changes}
 use Rattle.pr_domain.specs.declared.place.Place.{Place}
 use Rattle.pr_domain.specs.declared.tally.Tally.{Tally}
 use Rattle.pr_domain.specs.inside.Gathering.{IsPlace, IsAt, IsGathered}
-use Rattle.pr_domain.specs.inside.Images.{IsImage, becomes, left}
-use Rattle.pr_domain.specs.inside.Tallies.{IsRegistered, has_part, tallied, arm_of, Leaves, IsFound, Grows, IsRight}
+use Rattle.pr_domain.specs.inside.Images.{IsImage, becomes, registration_left}
+use Rattle.pr_domain.specs.inside.Tallies.{IsRegistered, has_part, has_tallied, arm_of, Leaves, IsFound, Grows, IsRight}
 
 -- the possibilities are what is so, of registrations and reservation, after these states become others
 pub record IsPart (v : View) (At : UnitState → Type 0) (after : UnitState → UnitState) (p : Possibilities) : Type 0 where
@@ -37,38 +37,38 @@ pub record IsPart (v : View) (At : UnitState → Type 0) (after : UnitState → 
 
 -- what a tally has to which this was added
 abbrev pub IsAdded : Tally → ℕ → Possibilities → Tally → Type 0
-IsAdded old way p new = (w : ℕ) (i : Item) → tallied new w i ≡ (tallied old w i || (w == way && has_part p i))
+IsAdded old way p new = (w : ℕ) (i : Item) → has_tallied new w i ≡ (has_tallied old w i || (w == way && has_part p i))
 
-added_cases : (old new : Tally) (way : ℕ) (p : Possibilities) → IsAdded old way p new → (w : ℕ) (i : Item) → tallied new w i ≡ true
-    → (tallied old w i ≡ true) ⊎ ((w ≡ way) × (has_part p i ≡ true))
-added_cases old new way p added w i has = at (or_cases (tallied old w i) (w == way && has_part p i) (sym (added w i) ∙ has))
+added_cases : (old new : Tally) (way : ℕ) (p : Possibilities) → IsAdded old way p new → (w : ℕ) (i : Item) → has_tallied new w i ≡ true
+    → (has_tallied old w i ≡ true) ⊎ ((w ≡ way) × (has_part p i ≡ true))
+added_cases old new way p added w i has = at (or_cases (has_tallied old w i) (w == way && has_part p i) (sym (added w i) ∙ has))
   where
-    at : (tallied old w i ≡ true) ⊎ ((w == way && has_part p i) ≡ true) → (tallied old w i ≡ true) ⊎ ((w ≡ way) × (has_part p i ≡ true))
+    at : (has_tallied old w i ≡ true) ⊎ ((w == way && has_part p i) ≡ true) → (has_tallied old w i ≡ true) ⊎ ((w ≡ way) × (has_part p i ≡ true))
     at (inl before) = inl before
     at (inr both) = let parts = and_parts (w == way) (has_part p i) both in inr (grind (arith, nat_tests), parts.1)
 
-added_here : (old new : Tally) (way : ℕ) (p : Possibilities) → IsAdded old way p new → (i : Item) → has_part p i ≡ true → tallied new way i ≡ true
+added_here : (old new : Tally) (way : ℕ) (p : Possibilities) → IsAdded old way p new → (i : Item) → has_part p i ≡ true → has_tallied new way i ≡ true
 added_here old new way p added i has =
     let same : (way == way) ≡ true = grind (arith, nat_tests) in
-    added way i ∙ or_right (tallied old way i) (way == way && has_part p i) (and_from _ _ same has)
+    added way i ∙ or_right (has_tallied old way i) (way == way && has_part p i) (and_from _ _ same has)
 
-added_kept : (old new : Tally) (way : ℕ) (p : Possibilities) → IsAdded old way p new → (w : ℕ) (i : Item) → tallied old w i ≡ true → tallied new w i ≡ true
-added_kept old new way p added w i has = added w i ∙ or_left (tallied old w i) (w == way && has_part p i) has
+added_kept : (old new : Tally) (way : ℕ) (p : Possibilities) → IsAdded old way p new → (w : ℕ) (i : Item) → has_tallied old w i ≡ true → has_tallied new w i ≡ true
+added_kept old new way p added w i has = added w i ∙ or_left (has_tallied old w i) (w == way && has_part p i) has
 
 -- what was added of a way is what a state among these leaves that ends so
 found_in : (v : View) (c : Command) (tests : List Test) (At : UnitState → Type 0) (move : UnitState → UnitState) (old new : Tally) (way : ℕ) (p : Possibilities)
     → ((u : UnitState) → At u → Shows v u) → IsPart v At move p → IsAdded old way p new
     → ((u : UnitState) (i : Item) → At u → IsRegistered v.scope (move u) i → Leaves v.scope c tests way u i)
-    → (w : ℕ) (i : Item) (q : ℕ) → tallied new w i ≡ true → v.pending q ≡ true → (tallied old w i ≡ true) ⊎ IsFound v c tests At w i q
+    → (w : ℕ) (i : Item) (q : ℕ) → has_tallied new w i ≡ true → v.pending q ≡ true → (has_tallied old w i ≡ true) ⊎ IsFound v c tests At w i q
 found_in v c tests At move old new way p shows is added leaves w i q has pending =
     at (added_cases old new way p added w i has)
   where
-    at : (tallied old w i ≡ true) ⊎ ((w ≡ way) × (has_part p i ≡ true)) → (tallied old w i ≡ true) ⊎ IsFound v c tests At w i q
+    at : (has_tallied old w i ≡ true) ⊎ ((w ≡ way) × (has_part p i ≡ true)) → (has_tallied old w i ≡ true) ⊎ IsFound v c tests At w i q
     at (inl before) = inl before
     at (inr here) = inr (
         let met = is.only i q here.1 pending in
-        let left = subst (λ n. Leaves v.scope c tests n met.0 i) (sym here.0) (leaves met.0 i met.1 met.2) in
-        record { unit = met.0; shown = shows met.0 met.1; among = met.1; leaves = left; pending = met.3 })
+        let leaving = subst (λ n. Leaves v.scope c tests n met.0 i) (sym here.0) (leaves met.0 i met.1 met.2) in
+        record { unit = met.0; shown = shows met.0 met.1; among = met.1; leaves = leaving; pending = met.3 })
 
 -- ---- nothing is added
 
@@ -90,7 +90,7 @@ grows_conflict v c tests At old new p shows conflicts is added = record {
   only = found_in v c tests At (λ u. u) old new 0 p shows is added (λ u i at so. (conflicts u at, so));
 }
   where
-    all : (u : UnitState) (way : ℕ) (i : Item) → Shows v u → At u → Leaves v.scope c tests way u i → tallied new way i ≡ true
+    all : (u : UnitState) (way : ℕ) (i : Item) → Shows v u → At u → Leaves v.scope c tests way u i → has_tallied new way i ≡ true
     all u zero i shown at leaves = added_here old new 0 p added i (is.all u i at leaves.1)
     all u (suc zero) i shown at leaves = absurd (false≢true (sym leaves.0 ∙ conflicts u at))
     all u (suc (suc zero)) i shown at leaves = absurd (false≢true (sym leaves.0 ∙ conflicts u at))
@@ -115,7 +115,7 @@ grows_fault v c tests sense At old mid new p shows faults is first second = reco
     none : (o : Option Sense) → o ≡ Some sense → o ≡ None → ⊥
     none o is isnt = false≢true (ap is_some (sym isnt ∙ is))
 
-    all : (u : UnitState) (way : ℕ) (i : Item) → Shows v u → At u → Leaves v.scope c tests way u i → tallied new way i ≡ true
+    all : (u : UnitState) (way : ℕ) (i : Item) → Shows v u → At u → Leaves v.scope c tests way u i → has_tallied new way i ≡ true
     all u zero i shown at leaves = absurd (false≢true (sym (faults u at).0 ∙ leaves.0))
     all u (suc zero) i shown at leaves = added_kept mid new 2 p second 1 i (added_here old mid 1 p first i (is.all u i at leaves.1))
     all u (suc (suc zero)) i shown at leaves = added_here mid new 2 p second i (is.all u i at leaves.2)
@@ -144,13 +144,13 @@ grows_good v c tests arm At old mid new p after shows done is then_is first seco
     same_arm (suc m) zero is = let bad : Some m ≡ None = is in cc
     same_arm (suc m) (suc n) is = let good : Some m ≡ Some n = is in cc
 
-    all : (u : UnitState) (way : ℕ) (i : Item) → Shows v u → At u → Leaves v.scope c tests way u i → tallied new way i ≡ true
+    all : (u : UnitState) (way : ℕ) (i : Item) → Shows v u → At u → Leaves v.scope c tests way u i → has_tallied new way i ≡ true
     all u zero i shown at leaves = absurd (false≢true (sym (done u at).0 ∙ leaves.0))
     all u (suc zero) i shown at leaves = added_kept mid new (suc (suc (suc arm))) after second 1 i (added_here old mid 1 p first i (is.all u i at leaves.1))
     all u (suc (suc zero)) i shown at leaves = absurd (none (command_fault u.registry v.scope.own c) (done u at).1 leaves.1)
     all u (suc (suc (suc n))) i shown at leaves =
         let same = same_arm arm n (sym (done u at).2 ∙ leaves.2) in
-        subst (λ m. tallied new (suc (suc (suc m))) i ≡ true) same (added_here mid new (suc (suc (suc arm))) after second i (then_is.all u i at leaves.3))
+        subst (λ m. has_tallied new (suc (suc (suc m))) i ≡ true) same (added_here mid new (suc (suc (suc arm))) after second i (then_is.all u i at leaves.3))
 
 -- ---- what the words of a region are part of
 
@@ -201,11 +201,11 @@ part_after s c change view place senders region words after p is own gathered be
             → IsSo s (effect u s.own c) (Registration g (becomes place.sender change g r))
         pick (inl same) =
             let mine : g ≡ s.own = same.1 ∙ own in
-            subst (λ b. IsSo s (effect u s.own c) (Registration g (if b then unwrap_or change.sender r else left change.removed r))) (sym same.0)
+            subst (λ b. IsSo s (effect u s.own c) (Registration g (if b then unwrap_or change.sender r else registration_left change.removed r))) (sym same.0)
             (subst (λ n. IsSo s (effect u s.own c) (Registration n (unwrap_or change.sender r))) (sym mine)
             ((changes u at).sender r (subst (λ n. IsSo s u (Registration n r)) mine so)))
         pick (inr other) =
-            subst (λ b. IsSo s (effect u s.own c) (Registration g (if b then unwrap_or change.sender r else left change.removed r))) (sym other.0)
+            subst (λ b. IsSo s (effect u s.own c) (Registration g (if b then unwrap_or change.sender r else registration_left change.removed r))) (sym other.0)
             ((changes u at).others g r (λ same. other.1 (same ∙ sym own)) so)
 
     all : (u : UnitState) (i : Item) → IsAt (view_in s view) place senders region u → IsRegistered s (effect u s.own c) i → has_part p i ≡ true

@@ -18,7 +18,7 @@ use Rattle.pr_regions.specs.declared.region.Reading.{Reading}
 use Rattle.pr_domain.specs.declared.place.Place.{Place}
 use Rattle.pr_domain.specs.declared.tally.Tally.{Tally}
 use Rattle.pr_domain.specs.inside.Gathering.{IsPlace, IsUniform, IsAt}
-use Rattle.pr_domain.specs.inside.Tallies.{IsRegistered, has_part, tallied, HasFound, arm_of, way_of, Leaves, Grows, IsReadAt, IsRightReading}
+use Rattle.pr_domain.specs.inside.Tallies.{IsRegistered, has_part, has_tallied, HasFound, arm_of, way_of, Leaves, Grows, IsReadAt, IsRightReading}
 use Rattle.pr_domain.proofs.Gathered.{IsPortionOf, in_from_at}
 use Rattle.pr_domain.proofs.DataTaken.{arm_way, at_read}
 use Rattle.pr_domain.proofs.Retyped.{OnlyReads, only_reads, left_there}
@@ -36,7 +36,7 @@ has_found t way hosts d found there within = record {
 -- what is so in the states of a region is in its portion
 pub tallied_there : (t : Tally) (way : ℕ) (s : Scope) (view : Possibilities) (place : Place) (senders : Word) (region : Region) (portion : Portion) (found : Possibilities) → IsPlace s view place → IsUniform senders
     → IsPortionOf view place senders region portion → found.registrations ≡ portion.registrations → ((x : ℕ) → has found.reservations x ≡ (x == place.reservation)) → HasFound t way place.hosts found
-    → (u : UnitState) (i : Item) → IsAt (view_in s view) place senders region u → IsRegistered s u i → tallied t way i ≡ true
+    → (u : UnitState) (i : Item) → IsAt (view_in s view) place senders region u → IsRegistered s u i → has_tallied t way i ≡ true
 tallied_there t way s view place senders region portion found is uniform of registrations reservations has u (Registration g r) at so =
     has.registrations g r (subst (λ n. g < n) is.hosts so.0)
     (subst (λ ws. has_at ws g r ≡ true) (sym registrations) ((in_from_at s view place senders region portion is uniform of u at).registrations g r so))
@@ -48,7 +48,7 @@ tallied_there t way s view place senders region portion found is uniform of regi
 -- a reading whose states are there adds nothing
 pub reading_there : (s : Scope) (c : Command) (tests : List Test) (view : Possibilities) (place : Place) (r : ℕ) (w : Word) (b : Reading) (way : ℕ) (t : Tally) → IsRightReading s c tests view place r b
     → ((m : ℕ) → has w m ≡ (m == r)) → (IfSome b.arm (λ n. n < 16) → way ≡ way_of b.arm) → IfNone b.arm (way ≡ 0)
-    → ((u : UnitState) (i : Item) → IsAt (view_in s view) place w b.region u → IsRegistered s u i → (tallied t 1 i ≡ true) × (tallied t (3 + way) i ≡ true))
+    → ((u : UnitState) (i : Item) → IsAt (view_in s view) place w b.region u → IsRegistered s u i → (has_tallied t 1 i ≡ true) × (has_tallied t (3 + way) i ≡ true))
     → Grows (view_in s view) c tests t t (IsReadAt s view place r b)
 reading_there s c tests view place r w b way t right only some none there = record {
   kept = λ m i has. has;
@@ -59,7 +59,7 @@ reading_there s c tests view place r w b way t right only some none there = reco
     alone : (u : UnitState) → OnlyReads s c u
     alone u = only_reads s c u right.reads
 
-    known : (u : UnitState) (i : Item) → Shows (view_in s view) u → IsReadAt s view place r b u → IsRegistered s u i → (tallied t 1 i ≡ true) × (tallied t (3 + way) i ≡ true)
+    known : (u : UnitState) (i : Item) → Shows (view_in s view) u → IsReadAt s view place r b u → IsRegistered s u i → (has_tallied t 1 i ≡ true) × (has_tallied t (3 + way) i ≡ true)
     known u i shown read so = there u i (at_read s view place r w b u right.is only shown read) so
 
     same_arm : (m n : ℕ) → arm_of m ≡ arm_of n → m ≡ n
@@ -68,11 +68,11 @@ reading_there s c tests view place r w b way t right only some none there = reco
     same_arm (suc m) zero is = let bad : Some m ≡ None = is in cc
     same_arm (suc m) (suc n) is = let both : Some m ≡ Some n = is in cc
 
-    all : (m : ℕ) (u : UnitState) (i : Item) → Shows (view_in s view) u → IsReadAt s view place r b u → Leaves s c tests m u i → tallied t m i ≡ true
+    all : (m : ℕ) (u : UnitState) (i : Item) → Shows (view_in s view) u → IsReadAt s view place r b u → Leaves s c tests m u i → has_tallied t m i ≡ true
     all zero u i shown read leaves = absurd (false≢true (sym (alone u).free ∙ leaves.0))
     all (suc zero) u i shown read leaves = (known u i shown read leaves.1).0
     all (suc (suc zero)) u i shown read leaves = absurd (false≢true (sym (ap is_some (alone u).whole) ∙ leaves.1))
     all (suc (suc (suc n))) u i shown read leaves =
         let so = left_there s c tests right.reads u (suc (suc (suc n))) i leaves in
         let same : way ≡ n = same_arm way n (sym (arm_way tests u c b.arm way right.few some none (right.taken u shown read)) ∙ leaves.2) in
-        subst (λ k. tallied t k i ≡ true) (let e = same in omega arith) (known u i shown read so).1
+        subst (λ k. has_tallied t k i ≡ true) (let e = same in omega arith) (known u i shown read so).1

@@ -28,8 +28,8 @@ use Rattle.pr_regions.proofs.Reserved.{key_in, first_found}
 use Rattle.pr_domain.specs.declared.place.Place.{Place}
 use Rattle.pr_domain.specs.declared.tally.Tally.{Tally}
 use Rattle.pr_domain.specs.inside.Gathering.{IsPlace}
-use Rattle.pr_domain.specs.inside.Tallies.{IsRegistered, tallied, IsNothing, Leaves, IsFound, Grows, IsReserved, IsOwners}
-use Rattle.pr_domain.specs.inside.Twins.{AreTwins, IsTwin, twinned}
+use Rattle.pr_domain.specs.inside.Tallies.{IsRegistered, has_tallied, IsNothing, Leaves, IsFound, Grows, IsReserved, IsOwners}
+use Rattle.pr_domain.specs.inside.Twins.{AreTwins, IsTwin, has_with_twin}
 use Rattle.pr_domain.proofs.Gathered.{same_reservation}
 use Rattle.pr_domain.proofs.Landed.{still_registered}
 
@@ -158,7 +158,7 @@ module _ (s : Scope) (view : Possibilities) (c : Command) (tests : List Test) (r
   -- ---- the states under a twin
 
   pub twin_grows : (keys : List ℕ) (place : Place) (x : ℕ) (none old new : Tally) → IsOwners s keys view place → IsTwin view place x → IsNothing none
-      → ((way : ℕ) (i : Item) → tallied new way i ≡ twinned old x place.reservation way i)
+      → ((way : ℕ) (i : Item) → has_tallied new way i ≡ has_with_twin old x place.reservation way i)
       → Grows (view_in s view) c tests none old (IsReserved s place.reservation) → Grows (view_in s view) c tests none new (IsReserved s (place.reservation + 1))
   twin_grows keys place x none old new owners twin nothing joined grows = record {
     kept = λ way i has. absurd (false≢true (sym (nothing way i) ∙ has));
@@ -169,9 +169,9 @@ module _ (s : Scope) (view : Possibilities) (c : Command) (tests : List Test) (r
       n : ℕ
       n = place.reservation
 
-      kept : (way : ℕ) (i : Item) → tallied old way i ≡ true → tallied new way i ≡ true
+      kept : (way : ℕ) (i : Item) → has_tallied old way i ≡ true → has_tallied new way i ≡ true
       kept way (Registration g r) has = joined way (Registration g r) ∙ has
-      kept way (Reservation z) has = joined way (Reservation z) ∙ or_left (tallied old way (Reservation z)) (z == n && tallied old way (Reservation x)) has
+      kept way (Reservation z) has = joined way (Reservation z) ∙ or_left (has_tallied old way (Reservation z)) (z == n && has_tallied old way (Reservation x)) has
       kept way (Attentions q) has = joined way (Attentions q) ∙ has
 
       -- the place of the twin
@@ -206,7 +206,7 @@ module _ (s : Scope) (view : Possibilities) (c : Command) (tests : List Test) (r
       itself : (y : ℕ) → (y == y) ≡ true
       itself y = grind (arith, nat_tests)
 
-      here : (u : UnitState) (way : ℕ) (i : Item) → Shows (view_in s view) u → IsSo s u (Reservation n) → Leaves s c tests way u i → tallied new way i ≡ true
+      here : (u : UnitState) (way : ℕ) (i : Item) → Shows (view_in s view) u → IsSo s u (Reservation n) → Leaves s c tests way u i → has_tallied new way i ≡ true
       here u way (Registration g r) shown so leaves =
           let also = shown_twin u shown so in
           kept way (Registration g r) (grows.all (retyped u twin.twin) way (Registration g r) also (record { reservation = x; below = twin.below; reserved = is_other.number })
@@ -217,10 +217,10 @@ module _ (s : Scope) (view : Possibilities) (c : Command) (tests : List Test) (r
           (leaves_alike u twin.twin way (Reservation y) (Reservation x) shown also (under_twin u shown so) leaves is_other.number) in
           let same : y ≡ n = left_there s c tests reads u way (Reservation y) leaves ∙ sym so in
           joined way (Reservation y)
-          ∙ or_right (tallied old way (Reservation y)) (y == n && tallied old way (Reservation x)) (and_from (y == n) (tallied old way (Reservation x)) (subst (λ z. (y == z) ≡ true) same (itself y)) had)
+          ∙ or_right (has_tallied old way (Reservation y)) (y == n && has_tallied old way (Reservation x)) (and_from (y == n) (has_tallied old way (Reservation x)) (subst (λ z. (y == z) ≡ true) same (itself y)) had)
       here u way (Attentions q) shown so leaves = absurd (left_there s c tests reads u way (Attentions q) leaves)
 
-      all : (u : UnitState) (way : ℕ) (i : Item) → Shows (view_in s view) u → Leaves s c tests way u i → (among : IsReserved s (n + 1) u) → (among.reservation ≡ n) ⊎ (among.reservation ≡ n → ⊥) → tallied new way i ≡ true
+      all : (u : UnitState) (way : ℕ) (i : Item) → Shows (view_in s view) u → Leaves s c tests way u i → (among : IsReserved s (n + 1) u) → (among.reservation ≡ n) ⊎ (among.reservation ≡ n → ⊥) → has_tallied new way i ≡ true
       all u way i shown leaves among (inl same) = here u way i shown (subst (λ y. IsSo s u (Reservation y)) same among.reserved) leaves
       all u way i shown leaves among (inr differs) = kept way i (grows.all u way i shown (record {
         reservation = among.reservation;
@@ -229,9 +229,9 @@ module _ (s : Scope) (view : Possibilities) (c : Command) (tests : List Test) (r
       }) leaves)
 
       Found : ℕ → Item → ℕ → Type 0
-      Found way i q = (tallied none way i ≡ true) ⊎ IsFound (view_in s view) c tests (IsReserved s (n + 1)) way i q
+      Found way i q = (has_tallied none way i ≡ true) ⊎ IsFound (view_in s view) c tests (IsReserved s (n + 1)) way i q
 
-      wider : (way : ℕ) (i : Item) (q : ℕ) → (tallied none way i ≡ true) ⊎ IsFound (view_in s view) c tests (IsReserved s n) way i q → Found way i q
+      wider : (way : ℕ) (i : Item) (q : ℕ) → (has_tallied none way i ≡ true) ⊎ IsFound (view_in s view) c tests (IsReserved s n) way i q → Found way i q
       wider way i q (inl had) = inl had
       wider way i q (inr found) = inr (record {
         unit = found.unit;
@@ -241,7 +241,7 @@ module _ (s : Scope) (view : Possibilities) (c : Command) (tests : List Test) (r
         pending = found.pending;
       })
 
-      back : (way q : ℕ) → (tallied none way (Reservation x) ≡ true) ⊎ IsFound (view_in s view) c tests (IsReserved s n) way (Reservation x) q → Found way (Reservation n) q
+      back : (way q : ℕ) → (has_tallied none way (Reservation x) ≡ true) ⊎ IsFound (view_in s view) c tests (IsReserved s n) way (Reservation x) q → Found way (Reservation n) q
       back way q (inl had) = absurd (false≢true (sym (nothing way (Reservation x)) ∙ had))
       back way q (inr found) =
           let u = found.unit in
@@ -255,15 +255,15 @@ module _ (s : Scope) (view : Possibilities) (c : Command) (tests : List Test) (r
             pending = found.pending;
           })
 
-      only : (way : ℕ) (i : Item) (q : ℕ) → has view.pending q ≡ true → twinned old x n way i ≡ true → Found way i q
+      only : (way : ℕ) (i : Item) (q : ℕ) → has view.pending q ≡ true → has_with_twin old x n way i ≡ true → Found way i q
       only way (Registration g r) q pending had = wider way (Registration g r) q (grows.only way (Registration g r) q had pending)
       only way (Attentions m) q pending had = wider way (Attentions m) q (grows.only way (Attentions m) q had pending)
-      only way (Reservation z) q pending had = at (or_cases (tallied old way (Reservation z)) (z == n && tallied old way (Reservation x)) had)
+      only way (Reservation z) q pending had = at (or_cases (has_tallied old way (Reservation z)) (z == n && has_tallied old way (Reservation x)) had)
         where
-          at : (tallied old way (Reservation z) ≡ true) ⊎ ((z == n && tallied old way (Reservation x)) ≡ true) → Found way (Reservation z) q
+          at : (has_tallied old way (Reservation z) ≡ true) ⊎ ((z == n && has_tallied old way (Reservation x)) ≡ true) → Found way (Reservation z) q
           at (inl before) = wider way (Reservation z) q (grows.only way (Reservation z) q before pending)
           at (inr both) =
-              let parts = and_parts (z == n) (tallied old way (Reservation x)) both in
+              let parts = and_parts (z == n) (has_tallied old way (Reservation x)) both in
               let tells = parts.0 in
               let same : z ≡ n = grind (arith, nat_tests) in
               subst (λ y. Found way (Reservation y) q) (sym same) (back way q (grows.only way (Reservation x) q parts.1 pending))

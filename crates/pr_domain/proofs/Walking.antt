@@ -15,7 +15,7 @@ use Rattle.pr_views.proofs.Numbering.{one_registration}
 use Rattle.pr_domain.specs.declared.place.Place.{Place}
 use Rattle.pr_domain.specs.declared.tally.Tally.{Tally}
 use Rattle.pr_domain.specs.inside.Gathering.{IsPlace}
-use Rattle.pr_domain.specs.inside.Tallies.{tallied, Grows, IsFound, HasBoth, HasFirst, IsReserved, IsOwners, IsOfScope, IsTally}
+use Rattle.pr_domain.specs.inside.Tallies.{has_tallied, Grows, IsFound, HasBoth, HasFirst, IsReserved, IsOwners, IsOfScope, IsTally}
 use Rattle.pr_domain.proofs.Growing.{grows_as, grows_then, grows_from_none}
 
 -- ---- one registration more
@@ -109,7 +109,7 @@ reservations_none s c tests v t = grows_from_none v c tests t (IsReserved s 0) (
 -- ---- all of them
 
 pub tally_of_all : (s : Scope) (hosts own : ℕ) (keys : List ℕ) (c : Command) (tests : List Test) (view : Possibilities) (n : ℕ) (none t : Tally) → IsOfScope s hosts own keys view
-    → n ≡ count_of_reservations hosts → ((way : ℕ) (i : Item) → tallied none way i ≡ false) → Grows (view_in s view) c tests none t (IsReserved s n) → IsTally (view_in s view) c tests t
+    → n ≡ count_of_reservations hosts → ((way : ℕ) (i : Item) → has_tallied none way i ≡ false) → Grows (view_in s view) c tests none t (IsReserved s n) → IsTally (view_in s view) c tests t
 tally_of_all s hosts own keys c tests view n none t of all nothing grows = record {
   all = λ u way i shown leaves. grows.all u way i shown (reserved u shown) leaves;
   only = λ way i q has pending. found way i q (grows.only way i q has pending);
@@ -121,7 +121,7 @@ tally_of_all s hosts own keys c tests view n none t of all nothing grows = recor
         let many = subst (λ h. shown.reservation.0 < count_of_reservations h) of.same_hosts small in
         record { reservation = shown.reservation.0; below = subst (λ m. shown.reservation.0 < m) (sym all) many; reserved = shown.reservation.1.1 }
 
-    found : (way : ℕ) (i : Item) (q : ℕ) → (tallied none way i ≡ true) ⊎ IsFound (view_in s view) c tests (IsReserved s n) way i q → IsFound (view_in s view) c tests (λ u. Unit {0}) way i q
+    found : (way : ℕ) (i : Item) (q : ℕ) → (has_tallied none way i ≡ true) ⊎ IsFound (view_in s view) c tests (IsReserved s n) way i q → IsFound (view_in s view) c tests (λ u. Unit {0}) way i q
     found way i q (inl has) = absurd (false≢true (sym (nothing way i) ∙ has))
     found way i q (inr is) = record { unit = is.unit; shown = is.shown; among = tt; leaves = is.leaves; pending = is.pending }
 

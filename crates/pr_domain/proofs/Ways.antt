@@ -8,12 +8,12 @@ use Rattle.pr_views.specs.declared.possibilities.Possibilities.{Possibilities}
 use Rattle.pr_views.specs.Possibilities.{Item, Registration, Reservation, Attentions}
 use Rattle.pr_views.specs.Portions.{has_at}
 use Rattle.pr_views.proofs.Places.{holds_at_written, holds_at_kept}
-use Rattle.pr_domain.specs.inside.Tallies.{has_part, tallied}
+use Rattle.pr_domain.specs.inside.Tallies.{has_part, has_tallied}
 
 pub way_added : (ways : List Possibilities) (way : ℕ) (old joined found : Possibilities) → way < length ways → slice_get ways way ≡ Some old
     → ((g r : ℕ) → has_at joined.registrations g r ≡ (has_at old.registrations g r || has_at found.registrations g r))
     → ((x : ℕ) → has joined.reservations x ≡ (has old.reservations x || has found.reservations x))
-    → (w : ℕ) (i : Item) → tallied (record { ways = slice_set ways way joined }) w i ≡ (tallied (record { ways = ways }) w i || (w == way && has_part found i))
+    → (w : ℕ) (i : Item) → has_tallied (record { ways = slice_set ways way joined }) w i ≡ (has_tallied (record { ways = ways }) w i || (w == way && has_part found i))
 way_added ways way old joined found there is registrations reservations w i = at (eqb_tells w way)
   where
     parts : (i : Item) → has_part joined i ≡ (has_part old i || has_part found i)
@@ -26,12 +26,12 @@ way_added ways way old joined found there is registrations reservations w i = at
     or_false false = refl
 
     at : (((w == way) ≡ true) × (w ≡ way)) ⊎ (((w == way) ≡ false) × (w ≢ way))
-        → tallied (record { ways = slice_set ways way joined }) w i ≡ (tallied (record { ways = ways }) w i || (w == way && has_part found i))
+        → has_tallied (record { ways = slice_set ways way joined }) w i ≡ (has_tallied (record { ways = ways }) w i || (w == way && has_part found i))
     at (inl same) =
-        subst (λ n. tallied (record { ways = slice_set ways way joined }) n i ≡ (tallied (record { ways = ways }) n i || (w == way && has_part found i))) (sym same.1)
-        (subst (λ b. tallied (record { ways = slice_set ways way joined }) way i ≡ (tallied (record { ways = ways }) way i || (b && has_part found i))) (sym same.0)
+        subst (λ n. has_tallied (record { ways = slice_set ways way joined }) n i ≡ (has_tallied (record { ways = ways }) n i || (w == way && has_part found i))) (sym same.1)
+        (subst (λ b. has_tallied (record { ways = slice_set ways way joined }) way i ≡ (has_tallied (record { ways = ways }) way i || (b && has_part found i))) (sym same.0)
         (holds_at_written (λ p. has_part p i) ways way joined there ∙ parts i
         ∙ ap (λ o. option_map_or (λ p. has_part p i) o false || has_part found i) (sym is)))
     at (inr other) =
-        holds_at_kept (λ p. has_part p i) ways way w joined other.1 ∙ or_false (tallied (record { ways = ways }) w i)
-        ∙ ap (λ b. tallied (record { ways = ways }) w i || (b && has_part found i)) (sym other.0)
+        holds_at_kept (λ p. has_part p i) ways way w joined other.1 ∙ or_false (has_tallied (record { ways = ways }) w i)
+        ∙ ap (λ b. has_tallied (record { ways = ways }) w i || (b && has_part found i)) (sym other.0)

@@ -18,7 +18,7 @@ use Rattle.pr_unit.specs.UnitStates.{UnitState}
 use Rattle.pr_sets.specs.Words.{has}
 use Rattle.pr_views.specs.Possibilities.{Scope, key_at, number_of, Registration, IsSo}
 use Rattle.pr_regions.specs.declared.purpose.Purpose.TheVariants.{Unregister}
-use Rattle.pr_regions.specs.inside.Parts.{never, registered, told_if, told_but, lost_if}
+use Rattle.pr_regions.specs.inside.Parts.{never, is_of_registrant, told_if, told_but, lost_if}
 use Rattle.pr_regions.proofs.Unique.{AreDistinct, same_number_at}
 use Rattle.pr_regions.proofs.Asking.{after_for, change_for}
 use Rattle.pr_regions.proofs.Acting.{Is, then_in}
@@ -99,18 +99,18 @@ module _ (s : Scope) (from : ℕ) (reach : Reach) (u : UnitState) where
   told_none : (r : ℕ) → r ≤ 12 → Tells reach r false false false
   told_none r few = tt
 
-  told_registered_03 : ((r : ℕ) → 1 ≤ r → r ≤ 12 → has reach.told_03 r ≡ true) → (r : ℕ) → r ≤ 12 → Tells reach r (registered r) false false
+  told_registered_03 : ((r : ℕ) → 1 ≤ r → r ≤ 12 → has reach.told_03 r ≡ true) → (r : ℕ) → r ≤ 12 → Tells reach r (is_of_registrant r) false false
   told_registered_03 tells zero few = tt
-  told_registered_03 tells (suc i) few = let is : registered (suc i) ≡ true = grind (arith, nat_tests) in subst (λ b. Tells reach (suc i) b false false) (sym is) (tells (suc i) (omega arith) few)
+  told_registered_03 tells (suc i) few = let is : is_of_registrant (suc i) ≡ true = grind (arith, nat_tests) in subst (λ b. Tells reach (suc i) b false false) (sym is) (tells (suc i) (omega arith) few)
 
-  told_registered_05 : ((r : ℕ) → 1 ≤ r → r ≤ 12 → has reach.told_05 r ≡ true) → (r : ℕ) → r ≤ 12 → Tells reach r false false (registered r)
+  told_registered_05 : ((r : ℕ) → 1 ≤ r → r ≤ 12 → has reach.told_05 r ≡ true) → (r : ℕ) → r ≤ 12 → Tells reach r false false (is_of_registrant r)
   told_registered_05 tells zero few = tt
-  told_registered_05 tells (suc i) few = let is : registered (suc i) ≡ true = grind (arith, nat_tests) in subst (λ b. Tells reach (suc i) false false b) (sym is) (tells (suc i) (omega arith) few)
+  told_registered_05 tells (suc i) few = let is : is_of_registrant (suc i) ≡ true = grind (arith, nat_tests) in subst (λ b. Tells reach (suc i) false false b) (sym is) (tells (suc i) (omega arith) few)
 
   told_if_04 : (b : Bool) → (b ≡ true → (r : ℕ) → 1 ≤ r → r ≤ 12 → has reach.told_04 r ≡ true) → (r : ℕ) → r ≤ 12 → Tells reach r false (told_if b r) false
   told_if_04 false tells r few = tt
   told_if_04 true tells zero few = tt
-  told_if_04 true tells (suc i) few = let is : registered (suc i) ≡ true = grind (arith, nat_tests) in subst (λ b. Tells reach (suc i) false b false) (sym is) (tells refl (suc i) (omega arith) few)
+  told_if_04 true tells (suc i) few = let is : is_of_registrant (suc i) ≡ true = grind (arith, nat_tests) in subst (λ b. Tells reach (suc i) false b false) (sym is) (tells refl (suc i) (omega arith) few)
 
   -- the reservation that is left is the one from before, or none where that is in reach
   left_or_none : (o : Option Held) → (o ≡ u.registry.held) ⊎ ((o ≡ None) × (has reach.reservations 0 ≡ true)) → Stays (number_of s.hosts o)
@@ -221,14 +221,14 @@ module _ (s : Scope) (from : ℕ) (reach : Reach) (u : UnitState) where
         at false is = inl refl
 
     -- whoever is registered may go
-    goes : ((r : ℕ) → 1 ≤ r → r ≤ 12 → has reach.removed r ≡ true) → (r : ℕ) → r ≤ 12 → registered r ≡ true → has reach.removed r ≡ true
+    goes : ((r : ℕ) → 1 ≤ r → r ≤ 12 → has reach.removed r ≡ true) → (r : ℕ) → r ≤ 12 → is_of_registrant r ≡ true → has reach.removed r ≡ true
     goes removes zero few is = absurd (false≢true is)
     goes removes (suc i) few is = removes (suc i) (omega arith) few
 
     pub clear_within : has reach.given 0 ≡ true → ((r : ℕ) → 1 ≤ r → r ≤ 12 → has reach.removed r ≡ true) → has reach.reservations 0 ≡ true → ((r : ℕ) → 1 ≤ r → r ≤ 12 → has reach.told_03 r ≡ true)
         → IsWithin s from reach u (then_in u (after_clear u.registry) (change_on_clear u.registry from))
     clear_within gives removes none tells =
-        within_becomes s from reach u (after_clear u.registry) (change_on_clear u.registry from) (Some 0) registered 0 registered never never few apart (on_clear s.keys s.hosts from u.registry)
+        within_becomes s from reach u (after_clear u.registry) (change_on_clear u.registry from) (Some 0) is_of_registrant 0 is_of_registrant never never few apart (on_clear s.keys s.hosts from u.registry)
         (record {
           given = λ i is. let same : 0 ≡ i = cc in subst (λ n. has reach.given n ≡ true) same gives;
           removed = goes removes;
@@ -241,8 +241,8 @@ module _ (s : Scope) (from : ℕ) (reach : Reach) (u : UnitState) where
         → IsWithin s from reach u (then_in u (after_preempt u.registry from 0 (Some t)) (change_on_preempt u.registry from 0 (Some t)))
     preempt_all_within t all removes takes tells =
         let left = number_of s.hosts (Some (new_reservation t from)) in
-        within_becomes s from reach u (after_preempt u.registry from 0 (Some t)) (change_on_preempt u.registry from 0 (Some t)) None registered left never never registered few apart
-        (in_case s.keys s.hosts from None registered left never never registered u.registry 0 t ReplacesAll (replaces u.registry.held all) (on_preempt_all s.keys s.hosts from t u.registry))
+        within_becomes s from reach u (after_preempt u.registry from 0 (Some t)) (change_on_preempt u.registry from 0 (Some t)) None is_of_registrant left never never is_of_registrant few apart
+        (in_case s.keys s.hosts from None is_of_registrant left never never is_of_registrant u.registry 0 t ReplacesAll (replaces u.registry.held all) (on_preempt_all s.keys s.hosts from t u.registry))
         (record {
           given = λ j is. let bad : None ≡ Some j = is in cc;
           removed = goes removes;
@@ -356,12 +356,12 @@ module _ (s : Scope) (from : ℕ) (reach : Reach) (u : UnitState) where
             at : Is s.keys u.registry g n
             at = record { known = so.1; key = so.2 }
 
-            free : registered n ≡ false → n ≡ 0
+            free : is_of_registrant n ≡ false → n ≡ 0
             free is = zero_if n is
               where
-                zero_if : (m : ℕ) → registered m ≡ false → m ≡ 0
+                zero_if : (m : ℕ) → is_of_registrant m ≡ false → m ≡ 0
                 zero_if zero is = refl
-                zero_if (suc i) is = let positive : registered (suc i) ≡ true = grind (arith, nat_tests) in absurd (false≢true (sym is ∙ positive))
+                zero_if (suc i) is = let positive : is_of_registrant (suc i) ≡ true = grind (arith, nat_tests) in absurd (false≢true (sym is ∙ positive))
 
             by : (o : Option ℕ) → key_of u.registry g ≡ o → (((n == j) ≡ true) × (n ≡ j)) ⊎ (((n == j) ≡ false) × (n ≢ j)) → (n ≡ 0) ⊎ (n ≡ j)
             by o is (inl same) = inr same.1

@@ -5,7 +5,7 @@ ghost use Rattle.pr_roles.specs.declared.limits.TheConstants.{MOST_KEYS};
 ghost use Rattle.pr_sets.specs.Words.{has};
 ghost use Rattle.pr_views.specs.Portions.{has_at};
 ghost use Rattle.pr_regions.specs.Regions.{mark as mark_of};
-ghost use Rattle.pr_domain.specs.inside.Images.{IsImage, first, left, becomes, AreTold};
+ghost use Rattle.pr_domain.specs.inside.Images.{IsImage, first, registration_left, becomes, AreTold};
 
 use pr_cdb::codes::MOST_NEXUSES;
 use pr_regions::Change;
@@ -49,7 +49,7 @@ fn given(word: Word, to: Option<u8>) -> Word
 
 // Another's: none in the place of those that are removed.
 fn stripped(word: Word, removed: Word) -> Word
-    ensures { IsImage (has word) (left removed) (has result) }
+    ensures { IsImage (has word) (registration_left removed) (has result) }
 {
     if word.and(removed).is_empty() {
         word

@@ -7,7 +7,7 @@ ghost use Rattle.pr_unit.specs.UnitStates.{UnitState};
 ghost use Rattle.pr_roles.specs.declared.limits.TheConstants.{MOST_KEYS};
 ghost use Rattle.pr_views.specs.Possibilities.{Scope};
 ghost use Rattle.pr_views.specs.Portions.{has_at, view_in};
-ghost use Rattle.pr_domain.specs.inside.Gathering.{IsPlace, IsUniform, IsProper, IsAt, IsGathered, passes, IsLeftTo, tested};
+ghost use Rattle.pr_domain.specs.inside.Gathering.{IsPlace, IsUniform, IsProper, IsAt, IsGathered, passes, IsLeftTo, HasTest};
 
 use pr_cdb::codes::MOST_NEXUSES;
 use pr_regions::Region;
@@ -50,7 +50,7 @@ impl Place {
         ensures reservation { result.reservation ≡ self.now.reservation }
         ensures left { IsLeftTo view.now self.now senders region.now result }
         ensures beyond { (g r : ℕ) → self.now.hosts ≤ g → has_at result.registrations g r ≡ false }
-        ensures tested { tested self.now senders region.now.somebody result.somebody }
+        ensures tested { HasTest self.now senders region.now.somebody result.somebody }
     {
         Portion {
             sender: self.sender,
@@ -94,7 +94,7 @@ impl Place {
 
     // Where all registrants hold and the sender is none, somebody else must be registered.
     fn somebody(&self, senders: Word, somebody: Option<Word>) -> Option<Word>
-        ensures { tested self.now senders somebody result }
+        ensures { HasTest self.now senders somebody result }
     {
         match somebody {
             Some(passing) => Some(passing),

@@ -5,8 +5,8 @@ ghost use Rattle.pr_cdb.specs.declared.codes.TheConstants.{MOST_NEXUSES};
 ghost use Rattle.pr_sets.specs.Numbers.{most};
 ghost use Rattle.pr_sets.specs.Words.{has};
 ghost use Rattle.pr_views.specs.Possibilities.{Item};
-ghost use Rattle.pr_domain.specs.inside.Tallies.{has_part, tallied, HasFound};
-ghost use Rattle.pr_domain.specs.inside.Twins.{twinned};
+ghost use Rattle.pr_domain.specs.inside.Tallies.{has_part, has_tallied, HasFound};
+ghost use Rattle.pr_domain.specs.inside.Twins.{has_with_twin};
 
 use crate::comparing::gains;
 use pr_views::Possibilities;
@@ -21,7 +21,7 @@ pub(crate) struct Tally {
 impl Tally {
     /// Nothing is found yet.
     pub(crate) fn none() -> Self
-        ensures { (way : ℕ) (i : Item) → tallied result way i ≡ false }
+        ensures { (way : ℕ) (i : Item) → has_tallied result way i ≡ false }
     {
         Tally {
             ways: [Possibilities::none(); 20],
@@ -31,7 +31,7 @@ impl Tally {
     /// Adds what is found of this way.
     pub(crate) fn add(&mut self, way: usize, found: &Possibilities)
         requires { way < 20 }
-        ensures { (w : ℕ) (i : Item) → tallied self.new w i ≡ (tallied self.old w i || (w == way && has_part found.now i)) }
+        ensures { (w : ℕ) (i : Item) → has_tallied self.new w i ≡ (has_tallied self.old w i || (w == way && has_part found.now i)) }
     {
         let mut joined = self.ways[way];
         joined.join(found);
@@ -51,7 +51,7 @@ impl Tally {
     pub(crate) fn add_twin(&mut self, twin: u8, reservation: u8)
         requires twin { twin < most }
         requires reservation { reservation < most }
-        ensures { (way : ℕ) (i : Item) → tallied self.new way i ≡ twinned self.old twin reservation way i }
+        ensures { (way : ℕ) (i : Item) → has_tallied self.new way i ≡ has_with_twin self.old twin reservation way i }
     {
         for way in 0..20 {
             self.ways[way] = with_twin(&self.ways[way], twin, reservation);

@@ -18,7 +18,7 @@ ghost use Rattle.pr_views.specs.Portions.{view_in};
 ghost use Rattle.pr_regions.specs.Regions.{HasRoom};
 ghost use Rattle.pr_domain.specs.declared.tally.Tally.{Tally as TallyOf};
 ghost use Rattle.pr_domain.specs.inside.Gathering.{IsPlace, IsUniform, IsAt};
-ghost use Rattle.pr_domain.specs.inside.Tallies.{IsRegistered, tallied, Grows, IsRight, AreRight, IsInOne, HasBoth, HasFirst, IsReserved, IsAsked, IsRefusedAt, IsOwners, IsOfScope, IsNothing, IsTally, IsRightReading, AreRightReadings, IsReadAt, IsReadFirst, way_of};
+ghost use Rattle.pr_domain.specs.inside.Tallies.{IsRegistered, has_tallied, Grows, IsRight, AreRight, IsInOne, HasBoth, HasFirst, IsReserved, IsAsked, IsRefusedAt, IsOwners, IsOfScope, IsNothing, IsTally, IsRightReading, AreRightReadings, IsReadAt, IsReadFirst, way_of};
 
 use crate::arms::first_arm;
 use crate::changed::registrations_after;
@@ -175,7 +175,7 @@ fn is_tallied(
     requires sender { place.sender < place.hosts }
     requires reservation { place.reservation < count_of_reservations place.hosts }
     requires arm { arm ≤ MOST_ARMS }
-    ensures { IsTrue result → (s : Scope) → IsPlace s view.now place → IsUniform senders → (u : UnitState) (i : Item) → IsAt (view_in s view.now) place senders region.now u → IsRegistered s u i → (tallied tally.now 1 i ≡ true) × (tallied tally.now (3 + arm) i ≡ true) }
+    ensures { IsTrue result → (s : Scope) → IsPlace s view.now place → IsUniform senders → (u : UnitState) (i : Item) → IsAt (view_in s view.now) place senders region.now u → IsRegistered s u i → (has_tallied tally.now 1 i ≡ true) × (has_tallied tally.now (3 + arm) i ≡ true) }
 {
     let portion = place.portion(view, senders, region);
     let found = part(portion.registrations, place.reservation);

@@ -20,16 +20,16 @@ abbrev pub acting_on : {A : Type 0} → (A → Action) → (List ℕ → Option 
 acting_on acts f [] = None
 acting_on acts f (w ∷ ws) = option_map (λ term. (acts term, ws)) (f w)
 
-abbrev pub preempting : List (List ℕ) → Option (Action × List (List ℕ))
-preempting [] = None
-preempting (w ∷ ws) = key_or_zero w >>= λ key. acting_on (λ kind. action.Preempt key kind) kind_of ws
+abbrev pub preempt_of : List (List ℕ) → Option (Action × List (List ℕ))
+preempt_of [] = None
+preempt_of (w ∷ ws) = key_or_zero w >>= λ key. acting_on (λ kind. action.Preempt key kind) kind_of ws
 
 -- the action that a word names, with its key and type among the words behind it
 unfoldable pub action_named : List ℕ → List (List ℕ) → Option (Action × List (List ℕ))
 action_named word ws =
     if bytes_eq word (codes "register") then acting_on (λ key. action.Register key) key_of ws else (
     if bytes_eq word (codes "reserve") then acting_on (λ kind. action.Reserve kind) kind_of ws else (
-    if bytes_eq word (codes "preempt") then preempting ws else
+    if bytes_eq word (codes "preempt") then preempt_of ws else
     option_map (λ a. (a, ws)) (lookup (map (λ row. (row.0.now, row.1)) BARE_ACTIONS) word)))
 
 abbrev pub action_in : List (List ℕ) → Option (Action × List (List ℕ))

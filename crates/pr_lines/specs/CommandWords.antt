@@ -11,8 +11,8 @@ use Rattle.pr_lines.specs.WordTerms.{amount_of}
 use Rattle.pr_lines.specs.CommandOptions.{no_option, with_options, command_of}
 
 -- a command that has no keys
-abbrev pub keyless : Command → ParsedCommand
-keyless command = record { command = command; rk = 0; sark = 0 }
+abbrev pub without_keys : Command → ParsedCommand
+without_keys command = record { command = command; rk = 0; sark = 0 }
 
 -- the address of the first block, and how many blocks
 abbrev pub blocks_of : List (List ℕ) → Option (ℕ × ℕ)
@@ -26,10 +26,10 @@ spelled_by w = option_map (λ command. record { command = command; rk = unwrap_o
 -- the command that a word and the words after it spell
 unfoldable pub spelled_of : List ℕ → List (List ℕ) → Option ParsedCommand
 spelled_of word ws =
-    if bytes_eq word (codes "test-unit-ready") then if_alone (keyless TestUnitReady) ws else (
-    if bytes_eq word (codes "request-sense") then if_alone (keyless RequestSense) ws else (
-    if bytes_eq word (codes "read") then option_map (λ b. keyless (Read b.0 b.1)) (blocks_of ws) else (
-    if bytes_eq word (codes "write") then option_map (λ b. keyless (Write b.0 b.1)) (blocks_of ws) else
+    if bytes_eq word (codes "test-unit-ready") then if_alone (without_keys TestUnitReady) ws else (
+    if bytes_eq word (codes "request-sense") then if_alone (without_keys RequestSense) ws else (
+    if bytes_eq word (codes "read") then option_map (λ b. without_keys (Read b.0 b.1)) (blocks_of ws) else (
+    if bytes_eq word (codes "write") then option_map (λ b. without_keys (Write b.0 b.1)) (blocks_of ws) else
     (with_options no_option (word ∷ ws) >>= spelled_by))))
 
 -- the command that these words spell

@@ -4,7 +4,7 @@ ghost use Rattle.std.specs.Prelude.{◌≡◌, option_map};
 ghost use Rattle.pr_roles.specs.declared.role.Action.TheVariants as action;
 ghost use Rattle.pr_lines.specs.TextLines.{words, if_alone};
 ghost use Rattle.pr_lines.specs.WordTerms.{key_of, kind_of};
-ghost use Rattle.pr_lines.specs.Clauses.{acting_on, preempting, action_named, action_in, condition_in, clause_of, good_of, test_of};
+ghost use Rattle.pr_lines.specs.Clauses.{acting_on, preempt_of, action_named, action_in, condition_in, clause_of, good_of, test_of};
 
 use crate::cutting::{is, is_end, next_word, only};
 use crate::lookup::lookup;
@@ -56,7 +56,7 @@ fn action_named<'a>(word: &[u8], rest: &'a [u8]) -> Option<(Action, &'a [u8])>
         return reserving(rest);
     }
     if is(word, "preempt") {
-        return preempting(rest);
+        return preempt_of(rest);
     }
     Some((lookup(&BARE_ACTIONS, word)?, rest))
 }
@@ -77,8 +77,8 @@ fn reserving(line: &[u8]) -> Option<(Action, &[u8])>
     Some((Action::Reserve(kind), rest))
 }
 
-fn preempting(line: &[u8]) -> Option<(Action, &[u8])>
-    ensures { option_map (λ r. (r.0, words r.1.now)) result ≡ preempting (words line.now) }
+fn preempt_of(line: &[u8]) -> Option<(Action, &[u8])>
+    ensures { option_map (λ r. (r.0, words r.1.now)) result ≡ preempt_of (words line.now) }
 {
     let (word, rest) = next_word(line)?;
     let key = key_or_zero(word)?;

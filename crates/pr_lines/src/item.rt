@@ -6,7 +6,7 @@ ghost use Rattle.pr_lines.specs.WordTerms.{key_of, code_of};
 ghost use Rattle.pr_lines.specs.Clauses.{clause_of};
 ghost use Rattle.pr_lines.specs.ScenarioLines.{list_of, alternative_of, everybody_of, single_of, start_reservation_of, name_in, only_name, budget_in, fence_said, said_of_name, item_of, declares, keys_line, start_line, pending_line, reservation_line, role_line, script_line};
 ghost use Rattle.pr_lines.specs.inside.Keywords.{said_simply, said_after};
-ghost use Rattle.pr_lines.specs.LineValues.{wanted_seen, seen};
+ghost use Rattle.pr_lines.specs.LineValues.{wanted_seen, line_of_value};
 
 use crate::clauses::{clause_of, test_of};
 use crate::cutting::{is, is_end, next_word, only};
@@ -88,7 +88,7 @@ pub enum ScenarioLine {
 /// memory for a list.
 #[tactic(auto, using(crate::proofs::ItemWords::by_keyword))]
 pub fn item_of(alloc: Global, word: &[u8], rest: &[u8]) -> Result<Option<ScenarioLine>, AllocError>
-    ensures { IfOk result (λ item. option_map seen item ≡ item_of word.now (words rest.now)) }
+    ensures { IfOk result (λ item. option_map line_of_value item ≡ item_of word.now (words rest.now)) }
 {
     match keyword_of(word) {
         Some(keyword) => said_after(alloc, keyword, rest),
@@ -102,7 +102,7 @@ fn said_after(
     keyword: Keyword,
     rest: &[u8],
 ) -> Result<Option<ScenarioLine>, AllocError>
-    ensures { IfOk result (λ item. option_map seen item ≡ said_after keyword (words rest.now)) }
+    ensures { IfOk result (λ item. option_map line_of_value item ≡ said_after keyword (words rest.now)) }
 {
     match keyword {
         Keyword::Keys => keys_said(alloc, rest),
@@ -115,7 +115,7 @@ fn said_after(
 
 // What the words behind a keyword say that takes no list.
 fn said_simply(keyword: Keyword, rest: &[u8]) -> Option<ScenarioLine>
-    ensures { option_map seen result ≡ said_simply keyword (words rest.now) }
+    ensures { option_map line_of_value result ≡ said_simply keyword (words rest.now) }
 {
     match keyword {
         Keyword::Fence => fence_said(rest),
@@ -138,13 +138,13 @@ fn said_simply(keyword: Keyword, rest: &[u8]) -> Option<ScenarioLine>
 
 // The item, if no word follows it.
 fn if_alone(item: ScenarioLine, rest: &[u8]) -> Option<ScenarioLine>
-    ensures { option_map seen result ≡ if_alone (seen item) (words rest.now) }
+    ensures { option_map line_of_value result ≡ if_alone (line_of_value item) (words rest.now) }
 {
     if is_end(rest) { Some(item) } else { None }
 }
 
 fn fence_said(rest: &[u8]) -> Option<ScenarioLine>
-    ensures { option_map seen result ≡ fence_said (words rest.now) }
+    ensures { option_map line_of_value result ≡ fence_said (words rest.now) }
 {
     if is(only(rest)?, VERSION) {
         Some(ScenarioLine::Fence)
@@ -154,7 +154,7 @@ fn fence_said(rest: &[u8]) -> Option<ScenarioLine>
 }
 
 fn role_said(rest: &[u8]) -> Option<ScenarioLine>
-    ensures { option_map seen result ≡ said_of_name (λ name clause. declares (role_line name clause)) clause_of (words rest.now) }
+    ensures { option_map line_of_value result ≡ said_of_name (λ name clause. declares (role_line name clause)) clause_of (words rest.now) }
 {
     let Some((name, others)) = name_in(rest) else {
         return None;
@@ -164,7 +164,7 @@ fn role_said(rest: &[u8]) -> Option<ScenarioLine>
 }
 
 fn script_said(rest: &[u8]) -> Option<ScenarioLine>
-    ensures { option_map seen result ≡ said_of_name (λ name budget. declares (script_line name budget)) budget_in (words rest.now) }
+    ensures { option_map line_of_value result ≡ said_of_name (λ name budget. declares (script_line name budget)) budget_in (words rest.now) }
 {
     let Some((name, others)) = name_in(rest) else {
         return None;
@@ -201,14 +201,14 @@ fn only_name(line: &[u8]) -> Option<Word>
 }
 
 fn keys_said(alloc: Global, rest: &[u8]) -> Result<Option<ScenarioLine>, AllocError>
-    ensures { IfOk result (λ item. option_map seen item ≡ option_map (λ keys. declares (keys_line keys)) (list_of key_of (words rest.now))) }
+    ensures { IfOk result (λ item. option_map line_of_value item ≡ option_map (λ keys. declares (keys_line keys)) (list_of key_of (words rest.now))) }
 {
     let keys = keys_in(alloc, rest)?;
     Ok(keys.map(ScenarioLine::Keys))
 }
 
 fn start_said(alloc: Global, rest: &[u8]) -> Result<Option<ScenarioLine>, AllocError>
-    ensures { IfOk result (λ item. option_map seen item ≡ said_of_name (λ name xs. declares (start_line name xs)) (list_of alternative_of) (words rest.now)) }
+    ensures { IfOk result (λ item. option_map line_of_value item ≡ said_of_name (λ name xs. declares (start_line name xs)) (list_of alternative_of) (words rest.now)) }
 {
     let Some((name, others)) = name_in(rest) else {
         return Ok(None);
@@ -218,7 +218,7 @@ fn start_said(alloc: Global, rest: &[u8]) -> Result<Option<ScenarioLine>, AllocE
 }
 
 fn pending_said(alloc: Global, rest: &[u8]) -> Result<Option<ScenarioLine>, AllocError>
-    ensures { IfOk result (λ item. option_map seen item ≡ said_of_name (λ name xs. declares (pending_line name xs)) (list_of code_of) (words rest.now)) }
+    ensures { IfOk result (λ item. option_map line_of_value item ≡ said_of_name (λ name xs. declares (pending_line name xs)) (list_of code_of) (words rest.now)) }
 {
     let Some((name, others)) = name_in(rest) else {
         return Ok(None);
@@ -228,7 +228,7 @@ fn pending_said(alloc: Global, rest: &[u8]) -> Result<Option<ScenarioLine>, Allo
 }
 
 fn reservation_said(alloc: Global, rest: &[u8]) -> Result<Option<ScenarioLine>, AllocError>
-    ensures { IfOk result (λ item. option_map seen item ≡ option_map (λ xs. declares (reservation_line xs)) (list_of start_reservation_of (words rest.now))) }
+    ensures { IfOk result (λ item. option_map line_of_value item ≡ option_map (λ xs. declares (reservation_line xs)) (list_of start_reservation_of (words rest.now))) }
 {
     let wanted = wanted_in(alloc, rest)?;
     Ok(wanted.map(ScenarioLine::Reservation))

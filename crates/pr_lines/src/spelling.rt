@@ -2,7 +2,7 @@
 
 ghost use Rattle.std.specs.Prelude.{◌≡◌};
 ghost use Rattle.pr_lines.specs.TextLines.{words, if_alone};
-ghost use Rattle.pr_lines.specs.CommandWords.{keyless, blocks_of, spelled_by, spelled_of, spelled_in};
+ghost use Rattle.pr_lines.specs.CommandWords.{without_keys, blocks_of, spelled_by, spelled_of, spelled_in};
 
 use crate::cutting::{is, is_end, next_word, only};
 use crate::options::{Written, options_of};
@@ -40,17 +40,17 @@ pub fn spelled_of(word: &[u8], rest: &[u8]) -> Option<ParsedCommand>
     }
     if is(word, "read") {
         let (lba, blocks) = blocks_of(rest)?;
-        return Some(keyless(Command::Read { lba, blocks }));
+        return Some(without_keys(Command::Read { lba, blocks }));
     }
     if is(word, "write") {
         let (lba, blocks) = blocks_of(rest)?;
-        return Some(keyless(Command::Write { lba, blocks }));
+        return Some(without_keys(Command::Write { lba, blocks }));
     }
     spelled_by(options_of(word, rest)?)
 }
 
-fn keyless(command: Command) -> ParsedCommand
-    ensures { result ≡ keyless command }
+fn without_keys(command: Command) -> ParsedCommand
+    ensures { result ≡ without_keys command }
 {
     ParsedCommand {
         command,
@@ -61,10 +61,10 @@ fn keyless(command: Command) -> ParsedCommand
 
 // The command, if no word follows it.
 fn keyless_if_alone(command: Command, rest: &[u8]) -> Option<ParsedCommand>
-    ensures { result ≡ if_alone (keyless command) (words rest.now) }
+    ensures { result ≡ if_alone (without_keys command) (words rest.now) }
 {
     if is_end(rest) {
-        Some(keyless(command))
+        Some(without_keys(command))
     } else {
         None
     }

@@ -12,7 +12,7 @@ use Rattle.pr_registry.specs.Effects.{with_registration as register, without_reg
 use Rattle.pr_registry.proofs.Sets.{contains-nobody, contains-just, contains-remove, contains-hosts_in, get-insert, get-empty, get-without}
 use Rattle.pr_views.specs.Possibilities.{key_at, number_of}
 use Rattle.pr_regions.specs.declared.region.Change.{Change}
-use Rattle.pr_regions.specs.inside.Parts.{Does, never, registered, told_if}
+use Rattle.pr_regions.specs.inside.Parts.{Does, never, is_of_registrant, told_if}
 use Rattle.pr_regions.proofs.Unique.{AreDistinct, is_some-key_at, same_number_at}
 use Rattle.pr_regions.proofs.Acting.{Is, Acts}
 
@@ -54,10 +54,10 @@ same_host : (g : ℕ) → (g == g) ≡ true
 same_host g = grind (arith, nat_tests)
 
 -- the registrants are the hosts whose registration is not 0
-pub is_registered-number : (keys : List ℕ) (u : State) (g r : ℕ) → Is keys u g r → is_registered u g ≡ registered r
+pub is_registered-number : (keys : List ℕ) (u : State) (g r : ℕ) → Is keys u g r → is_registered u g ≡ is_of_registrant r
 is_registered-number keys u g r is = ap is_some is.key ∙ is_some-key_at keys r is.known
 
-pub contains-others : (keys : List ℕ) (u : State) (from g r : ℕ) → g ≢ from → Is keys u g r → set.contains (others u from) g ≡ registered r
+pub contains-others : (keys : List ℕ) (u : State) (from g r : ℕ) → g ≢ from → Is keys u g r → set.contains (others u from) g ≡ is_of_registrant r
 contains-others keys u from g r other is =
     contains-remove (registrants u) from g ∙ ap (λ b. not b && set.contains (registrants u) g) (other_host g from other)
     ∙ contains-hosts_in u.keys g ∙ is_registered-number keys u g r is
@@ -137,7 +137,7 @@ on_register keys hosts from j k u fits named = record {
   untold_05 = contains-nobody from;
 }
 
-pub on_clear : (keys : List ℕ) (hosts from : ℕ) (u : State) → Becomes keys hosts from (Some 0) registered 0 registered never never u (after_clear u) (change_on_clear u from)
+pub on_clear : (keys : List ℕ) (hosts from : ℕ) (u : State) → Becomes keys hosts from (Some 0) is_of_registrant 0 is_of_registrant never never u (after_clear u) (change_on_clear u from)
 on_clear keys hosts from u = record {
   sender = λ r is. record { known = omega arith; key = get-empty from };
   others = λ g r other is. get-empty g ∙ none keys g r is;
@@ -150,11 +150,11 @@ on_clear keys hosts from u = record {
   untold_05 = contains-nobody from;
 }
   where
-    none : (keys : List ℕ) (g r : ℕ) → Is keys u g r → None ≡ (if registered r then None else key_of u g)
+    none : (keys : List ℕ) (g r : ℕ) → Is keys u g r → None ≡ (if is_of_registrant r then None else key_of u g)
     none keys g zero is = sym is.key
     none keys g (suc i) is = ap (λ b. if b then None else key_of u g) (sym (not_zero i))
       where
-        not_zero : (i : ℕ) → registered (suc i) ≡ true
+        not_zero : (i : ℕ) → is_of_registrant (suc i) ≡ true
         not_zero i = grind (arith, nat_tests)
 
 pub on_unregister : (keys : List ℕ) (hosts from : ℕ) (u : State)

@@ -21,7 +21,7 @@ use Rattle.pr_regions.specs.declared.purpose.Purpose.TheVariants.{Preempt}
 use Rattle.pr_regions.specs.declared.purpose.Standing.{Standing}
 use Rattle.pr_regions.specs.Purposes.{HasNumber}
 use Rattle.pr_regions.specs.Regions.{Meets, IsInRegion, IsCovered, HasRoom}
-use Rattle.pr_regions.specs.inside.Parts.{any, never, registered, only, but, another, told_but, lost_if, is_named, Leaves, Does, EndsIn, Tell}
+use Rattle.pr_regions.specs.inside.Parts.{any, never, is_of_registrant, only, but, another, told_but, lost_if, is_named, Leaves, Does, EndsIn, Tell}
 use Rattle.pr_regions.proofs.Unique.{few_keys, one_registration}
 use Rattle.pr_regions.proofs.Asking.{key_named}
 use Rattle.pr_regions.proofs.Becoming.{is_registered-number}
@@ -37,7 +37,7 @@ held_by old h = Some (One old h)
 record HasHolderNumber (s : Scope) (h : ℕ) (u : UnitState) : Type 0 where
   number : ℕ
   so : IsSo s u (Registration h number)
-  some : registered number ≡ true
+  some : is_of_registrant number ≡ true
 
 holder_number : (s : Scope) (j : ℕ) (t old : Kind) (h sender : ℕ) (standing : Standing) (u : UnitState) (c : Command) → Meets s (Preempt j t) (held_by old h) sender standing u c → HasHolderNumber s h u
 holder_number s j t old h sender standing u c m = at (key_of u.registry h) refl (subst (λ (v : Option Held). HasHolder u.registry.keys v) m.held m.formed.registry.held).1
@@ -62,7 +62,7 @@ left_to_each holder others old h g r one other = at (h == g) refl
 another_is_not : (j r : ℕ) → another j r ≡ true → only j r ≡ false
 another_is_not j r is = (both_not (r == 0) (only j r) is).1
 
-is_another : (j r : ℕ) → registered r ≡ true → only j r ≡ false → another j r ≡ true
+is_another : (j r : ℕ) → is_of_registrant r ≡ true → only j r ≡ false → another j r ≡ true
 is_another j r some other = not_either (r == 0) (only j r) (not_true (r == 0) some) other
 
 another_or_but : (j r : ℕ) (b : Bool) → (if b then another j r else but j r) ≡ true → only j r ≡ false
@@ -173,7 +173,7 @@ tell_own_single hosts j t old h sender standing a b has apart leaves_a ends_a le
     let it = holder_number s j t old h sender standing u c m in
     covers s u c m it.number it.so it.some (only j it.number) refl)
   where
-    covers : (s : Scope) (u : UnitState) (c : Command) → Meets s (Preempt j t) (held_by old h) sender standing u c → (n : ℕ) → IsSo s u (Registration h n) → registered n ≡ true
+    covers : (s : Scope) (u : UnitState) (c : Command) → Meets s (Preempt j t) (held_by old h) sender standing u c → (n : ℕ) → IsSo s u (Registration h n) → is_of_registrant n ≡ true
         → (x : Bool) → only j n ≡ x → IsCovered s sender (a ∷ b ∷ []) u
     covers s u c m n so some true is = record {
       branch = a;
@@ -199,7 +199,7 @@ tell_other_single hosts j t old h sender standing a b d has apart leaves_a ends_
     let it = holder_number s j t old h sender standing u c m in
     covers s u c m it.number it.so it.some (only j it.number) refl (somebody_or_nobody s (Preempt j t) (held_by old h) sender standing u c (only j) m))
   where
-    covers : (s : Scope) (u : UnitState) (c : Command) → Meets s (Preempt j t) (held_by old h) sender standing u c → (n : ℕ) → IsSo s u (Registration h n) → registered n ≡ true
+    covers : (s : Scope) (u : UnitState) (c : Command) → Meets s (Preempt j t) (held_by old h) sender standing u c → (n : ℕ) → IsSo s u (Registration h n) → is_of_registrant n ≡ true
         → (x : Bool) → only j n ≡ x → HasSomebody s u sender (Some (only j)) ⊎ HasNobody s u sender (only j) → IsCovered s sender (a ∷ b ∷ d ∷ []) u
     covers s u c m n so some true is who = record {
       branch = a;

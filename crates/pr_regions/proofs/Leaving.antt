@@ -21,7 +21,7 @@ use Rattle.pr_regions.specs.declared.purpose.Purpose.{Purpose}
 use Rattle.pr_regions.specs.declared.purpose.Purpose.TheVariants.{Unregister}
 use Rattle.pr_regions.specs.declared.purpose.Standing.{Standing}
 use Rattle.pr_regions.specs.Regions.{Meets, Ends, IsCovered, HasRoom}
-use Rattle.pr_regions.specs.inside.Parts.{any, never, registered, only, told_if, is_unregistered, Leaves, Does, AlwaysEnds, EndsIn, Tell}
+use Rattle.pr_regions.specs.inside.Parts.{any, never, is_of_registrant, only, told_if, is_unregistered, Leaves, Does, AlwaysEnds, EndsIn, Tell}
 use Rattle.pr_regions.proofs.Unique.{few_keys, key_there}
 use Rattle.pr_regions.proofs.Asking.{after_for, change_for}
 use Rattle.pr_regions.proofs.Becoming.{Becomes, on_unregister, other_host, is_registered-number}
@@ -30,13 +30,13 @@ use Rattle.pr_regions.proofs.Covering.{left_to, in_region, from_region, HasNobod
 
 -- ---- who has a key
 
-pub key_with : (s : Scope) (u : UnitState) (g r : ℕ) → IsSo s u (Registration g r) → registered r ≡ true → (k : ℕ) × (key_of u.registry g ≡ Some k)
+pub key_with : (s : Scope) (u : UnitState) (g r : ℕ) → IsSo s u (Registration g r) → is_of_registrant r ≡ true → (k : ℕ) × (key_of u.registry g ≡ Some k)
 key_with s u g zero so is = absurd (false≢true is)
 key_with s u g (suc i) so is = let there = key_there s.keys i so.1 in (there.0, so.2 ∙ there.1)
 
 -- who has no number but 0 has no key, be it there or not
 pub keyless : (s : Scope) (p : Purpose) (held : Option Held) (sender : ℕ) (standing : Standing) (u : UnitState) (c : Command) (g : ℕ) → Meets s p held sender standing u c
-    → ((r : ℕ) → IsSo s u (Registration g r) → registered r ≡ false) → key_of u.registry g ≡ None
+    → ((r : ℕ) → IsSo s u (Registration g r) → is_of_registrant r ≡ false) → key_of u.registry g ≡ None
 keyless s p held sender standing u c g m none = at (key_of u.registry g) refl
   where
     at : (o : Option ℕ) → key_of u.registry g ≡ o → o ≡ None
@@ -53,13 +53,13 @@ keyless s p held sender standing u c g m none = at (key_of u.registry g) refl
 get-rest_other : (u : State) (h g : ℕ) → g ≢ h → map.get (without u.keys (just h)) g ≡ key_of u g
 get-rest_other u h g other = get-without u.keys (just h) g ∙ ap (λ b. if b then None else map.get u.keys g) (contains-just h g ∙ other_host g h other)
 
-some_rest : (s : Scope) (sender : ℕ) (u : UnitState) → HasSomebody s u sender (Some registered) → is_empty (without u.registry.keys (just sender)) ≡ false
+some_rest : (s : Scope) (sender : ℕ) (u : UnitState) → HasSomebody s u sender (Some is_of_registrant) → is_empty (without u.registry.keys (just sender)) ≡ false
 some_rest s sender u there =
     let key = key_with s u there.0 there.1 there.3 there.4 in
     not_empty_from_some (without u.registry.keys (just sender)) there.0 key.0 (get-rest_other u.registry sender there.0 there.2 ∙ key.1)
 
 no_rest : (s : Scope) (p : Purpose) (held : Option Held) (sender : ℕ) (standing : Standing) (u : UnitState) (c : Command) → Meets s p held sender standing u c
-    → HasNobody s u sender registered → is_empty (without u.registry.keys (just sender)) ≡ true
+    → HasNobody s u sender is_of_registrant → is_empty (without u.registry.keys (just sender)) ≡ true
 no_rest s p held sender standing u c m nobody = is_empty_from_none (without u.registry.keys (just sender)) (λ q. at q (eqb_tells q sender))
   where
     at : (q : ℕ) → (((q == sender) ≡ true) × (q ≡ sender)) ⊎ (((q == sender) ≡ false) × (q ≢ sender)) → map.get (without u.registry.keys (just sender)) q ≡ None
@@ -147,7 +147,7 @@ unregister_good hosts held sender standing change present other does room = reco
 
 -- of all registrants the sender goes: the reservation stays with the others, if there are any
 pub tell_unregistered : (hosts : ℕ) (held : Option Held) (sender : ℕ) (standing : Standing) (b d : Branch) (stays ends : Change) → is_held_by_all held ≡ true → is_unregistered standing ≡ false
-    → Leaves b.region any any (Some registered) → b.ending ≡ Good stays → Does stays (Some 0) never (number_of hosts held) never never never → HasRoom hosts (Good stays)
+    → Leaves b.region any any (Some is_of_registrant) → b.ending ≡ Good stays → Does stays (Some 0) never (number_of hosts held) never never never → HasRoom hosts (Good stays)
     → Leaves d.region any (only 0) None → d.ending ≡ Good ends → Does ends (Some 0) never 0 never never never → HasRoom hosts (Good ends)
     → Tell hosts Unregister held sender standing (b ∷ d ∷ [])
 tell_unregistered hosts held sender standing b d stays ends all present leaves_b ends_b does_b room_b leaves_d ends_d does_d room_d =
@@ -155,11 +155,11 @@ tell_unregistered hosts held sender standing b d stays ends all present leaves_b
     (each_of_two (EndsIn hosts Unregister held sender standing) b d
     (record {
       ends = λ s u c alike m inside.
-          let there = from_region s u sender b.region any any (Some registered) (few_keys s.keys m.scope.keys) leaves_b inside in
+          let there = from_region s u sender b.region any any (Some is_of_registrant) (few_keys s.keys m.scope.keys) leaves_b inside in
           rw ends_b (unregister_ends s held sender standing u c (number_of hosts held) false stays m present
           ((λ i. number_of (sym alike i) (sym m.held i)) ∙ ap (number_of s.hosts) (sym (held_by_some u.registry sender (ap is_held_by_all m.held ∙ all) (some_rest s sender u there.somebody))))
           (sym (ap (λ x. x && is_told_of_loss u.registry.held) (alone_of_all u.registry.held sender (ap is_held_by_all m.held ∙ all)))) does_b);
-      proper = tested b.region.somebody registered refl leaves_b.tested;
+      proper = tested b.region.somebody is_of_registrant refl leaves_b.tested;
       fits = rw ends_b room_b;
     })
     (record {
@@ -172,7 +172,7 @@ tell_unregistered hosts held sender standing b d stays ends all present leaves_b
       proper = untested d.region.somebody leaves_d.tested;
       fits = rw ends_d room_d;
     }))
-    (λ s u c alike m. covers s u c m (somebody_or_nobody s Unregister held sender standing u c registered m))
+    (λ s u c alike m. covers s u c m (somebody_or_nobody s Unregister held sender standing u c is_of_registrant m))
   where
     -- no single holder is treated apart
     everyones : (v : Option Held) (g r : ℕ) → is_held_by_all v ≡ true → left_to any (only 0) v g r ≡ only 0 r
@@ -180,21 +180,21 @@ tell_unregistered hosts held sender standing b d stays ends all present leaves_b
     everyones (Some (One t h)) g r all = absurd (false≢true all)
     everyones (Some (All t)) g r all = refl
 
-    not_registered : (r : ℕ) → only 0 r ≡ true → registered r ≡ false
+    not_registered : (r : ℕ) → only 0 r ≡ true → is_of_registrant r ≡ false
     not_registered r is = ap not is
 
-    free : (r : ℕ) → registered r ≡ false → only 0 r ≡ true
+    free : (r : ℕ) → is_of_registrant r ≡ false → only 0 r ≡ true
     free r is = twice (only 0 r) is
       where
         twice : (x : Bool) → not x ≡ false → x ≡ true
         twice true is = refl
         twice false is = sym is
 
-    covers : (s : Scope) (u : UnitState) (c : Command) → Meets s Unregister held sender standing u c → HasSomebody s u sender (Some registered) ⊎ HasNobody s u sender registered → IsCovered s sender (b ∷ d ∷ []) u
+    covers : (s : Scope) (u : UnitState) (c : Command) → Meets s Unregister held sender standing u c → HasSomebody s u sender (Some is_of_registrant) ⊎ HasNobody s u sender is_of_registrant → IsCovered s sender (b ∷ d ∷ []) u
     covers s u c m (inl there) = record {
       branch = b;
       listed = (0, omega arith, refl);
-      inside = in_region s u sender b.region any any (Some registered) (few_keys s.keys m.scope.keys) leaves_b (record { registrations = λ g r other so. everyone u.registry.held g r; somebody = there });
+      inside = in_region s u sender b.region any any (Some is_of_registrant) (few_keys s.keys m.scope.keys) leaves_b (record { registrations = λ g r other so. everyone u.registry.held g r; somebody = there });
     }
     covers s u c m (inr nobody) = record {
       branch = d;

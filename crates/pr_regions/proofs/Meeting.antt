@@ -20,7 +20,7 @@ use Rattle.pr_regions.specs.declared.purpose.Standing.{Standing}
 use Rattle.pr_regions.specs.declared.purpose.Standing.TheVariants.{Named, Other}
 use Rattle.pr_regions.specs.Purposes.{HasNumber}
 use Rattle.pr_regions.specs.Regions.{names, standing_of, Meets, Ends, HasRoom}
-use Rattle.pr_regions.specs.inside.Parts.{Does, never, registered, is_unregistered, holds}
+use Rattle.pr_regions.specs.inside.Parts.{Does, never, is_of_registrant, is_unregistered, holds}
 use Rattle.pr_regions.proofs.Unique.{few_keys}
 use Rattle.pr_regions.proofs.Asking.{conflicts_for, fault_for, after_for, change_for, IsAsked, asked}
 use Rattle.pr_regions.proofs.Acting.{Is, Acts, changes}
@@ -39,7 +39,7 @@ sender_of s p held sender standing u c m =
     let there = m.numbered sender m.below in
     record { number = there.0; is = record { known = there.1.1; key = there.1.2 }; stands = m.standing there.0 there.1 }
 
-is_unregistered-number : (p : Purpose) (r : ℕ) → is_unregistered (standing_of p r) ≡ not (registered r)
+is_unregistered-number : (p : Purpose) (r : ℕ) → is_unregistered (standing_of p r) ≡ not (is_of_registrant r)
 is_unregistered-number p zero = refl
 is_unregistered-number p (suc i) = at (names p (suc i)) ∙ sym (not_zero i)
   where
@@ -47,7 +47,7 @@ is_unregistered-number p (suc i) = at (names p (suc i)) ∙ sym (not_zero i)
     at true = refl
     at false = refl
 
-    not_zero : (i : ℕ) → not (registered (suc i)) ≡ false
+    not_zero : (i : ℕ) → not (is_of_registrant (suc i)) ≡ false
     not_zero i = grind (arith, nat_tests)
 
 twice : (b : Bool) → not (not b) ≡ b
@@ -59,7 +59,7 @@ pub registered_or_not : (s : Scope) (p : Purpose) (held : Option Held) (sender :
 registered_or_not s p held sender standing u c m =
     let it = sender_of s p held sender standing u c m in
     is_registered-number s.keys u.registry sender it.number it.is
-    ∙ sym (ap not (sym (ap is_unregistered it.stands) ∙ is_unregistered-number p it.number) ∙ twice (registered it.number))
+    ∙ sym (ap not (sym (ap is_unregistered it.stands) ∙ is_unregistered-number p it.number) ∙ twice (is_of_registrant it.number))
 
 holds_or_not : (u : State) (v : Held) (sender : ℕ) (standing : Standing) → u.held ≡ Some v → is_registered u sender ≡ not (is_unregistered standing)
     → is_holder u sender ≡ holds v sender standing

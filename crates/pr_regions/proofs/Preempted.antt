@@ -10,7 +10,7 @@ use Rattle.pr_registry.specs.Changes.{Case, ReplacesAll, ReplacesHolder, Removes
 use Rattle.pr_registry.specs.Effects.{next, held_by_rest, held_after_preempt, after_preempt}
 use Rattle.pr_registry.proofs.Sets.{contains-nobody, contains-remove, contains-difference, contains-hosts_with, get-without}
 use Rattle.pr_views.specs.Possibilities.{key_at, number_of}
-use Rattle.pr_regions.specs.inside.Parts.{never, registered, told_but, lost_if}
+use Rattle.pr_regions.specs.inside.Parts.{never, is_of_registrant, told_but, lost_if}
 use Rattle.pr_regions.proofs.Unique.{AreDistinct}
 use Rattle.pr_regions.proofs.Acting.{Is}
 use Rattle.pr_regions.proofs.Becoming.{Becomes, contains-others, contains-others_itself, is_key-number, other_host, not_itself}
@@ -50,10 +50,10 @@ with_key keys u g r j k once fits named is = contains-hosts_with u.keys k g ∙ 
 -- ---- all others
 
 pub on_preempt_all : (keys : List ℕ) (hosts from : ℕ) (t : Kind) (u : State)
-    → Becomes keys hosts from None registered (number_of hosts (Some (new_reservation t from))) never never registered u (preempted_as u from 0 t ReplacesAll) (told_as u from 0 t ReplacesAll)
+    → Becomes keys hosts from None is_of_registrant (number_of hosts (Some (new_reservation t from))) never never is_of_registrant u (preempted_as u from 0 t ReplacesAll) (told_as u from 0 t ReplacesAll)
 on_preempt_all keys hosts from t u = record {
   sender = λ r is. record { known = is.known; key = without_some u (set.remove (hosts_in u.keys) from) from false (not_itself (hosts_in u.keys) from) ∙ is.key };
-  others = λ g r other is. without_some u (set.remove (hosts_in u.keys) from) g (registered r) (all_but g r other is);
+  others = λ g r other is. without_some u (set.remove (hosts_in u.keys) from) g (is_of_registrant r) (all_but g r other is);
   reservation = refl;
   told_03 = λ g r other is. contains-nobody g;
   told_04 = λ g r other is. contains-nobody g;
@@ -63,7 +63,7 @@ on_preempt_all keys hosts from t u = record {
   untold_05 = not_itself (set.remove (hosts_in u.keys) from) from;
 }
   where
-    all_but : (g r : ℕ) → g ≢ from → Is keys u g r → set.contains (set.remove (hosts_in u.keys) from) g ≡ registered r
+    all_but : (g r : ℕ) → g ≢ from → Is keys u g r → set.contains (set.remove (hosts_in u.keys) from) g ≡ is_of_registrant r
     all_but g r other is = contains-others keys u from g r other is
 
 -- ---- the holder

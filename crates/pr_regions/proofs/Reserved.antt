@@ -24,7 +24,7 @@ use Rattle.pr_views.specs.Possibilities.{Scope, Registration, IsSo, key_at}
 use Rattle.pr_regions.specs.declared.region.Reading.{Reading}
 use Rattle.pr_regions.specs.Regions.{IsInRegion}
 use Rattle.pr_regions.specs.Readings.{first_test, IsRead, AreReadings}
-use Rattle.pr_regions.specs.inside.Parts.{any, only, registered, Leaves}
+use Rattle.pr_regions.specs.inside.Parts.{any, only, is_of_registrant, Leaves}
 use Rattle.pr_regions.specs.inside.Reads.{IsKnown, answer, passes_held, AreHeldSoFar}
 use Rattle.pr_regions.proofs.Unique.{few_keys, one_registration}
 use Rattle.pr_regions.proofs.Becoming.{is_registered-number}
@@ -141,7 +141,7 @@ held_number : (keys : List ℕ) (hosts : ℕ) (kind : Kind) (h sender own : ℕ)
 held_number keys hosts kind h sender own s u known =
     at (key_of u.registry h) refl (subst (λ (v : Option Held). HasHolder u.registry.keys v) known.held known.formed.registry.held).1
   where
-    positive : (n : ℕ) → registered n ≡ true → 1 ≤ n
+    positive : (n : ℕ) → is_of_registrant n ≡ true → 1 ≤ n
     positive zero is = absurd (false≢true is)
     positive (suc i) is = omega arith
 

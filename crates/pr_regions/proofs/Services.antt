@@ -19,7 +19,7 @@ use Rattle.pr_regions.specs.declared.purpose.Purpose.TheVariants.{Register, Rese
 use Rattle.pr_regions.specs.declared.purpose.Standing.{Standing}
 use Rattle.pr_regions.specs.Purposes.{HasNumber}
 use Rattle.pr_regions.specs.Regions.{Meets, Ends, HasRoom}
-use Rattle.pr_regions.specs.inside.Parts.{Does, AlwaysEnds, never, registered, told_if, holds}
+use Rattle.pr_regions.specs.inside.Parts.{Does, AlwaysEnds, never, is_of_registrant, told_if, holds}
 use Rattle.pr_regions.proofs.Asking.{key_named}
 use Rattle.pr_regions.proofs.Becoming.{still, on_register, on_release, on_clear}
 use Rattle.pr_regions.proofs.Preempted.{in_case, on_preempt_all}
@@ -171,10 +171,10 @@ release_good hosts t held v sender standing change is holder same does room = re
 
 -- ---- CLEAR
 
-pub clear_good : (hosts : ℕ) (held : Option Held) (sender : ℕ) (standing : Standing) (change : Change) → Does change (Some 0) registered 0 registered never never → HasRoom hosts (Good change)
+pub clear_good : (hosts : ℕ) (held : Option Held) (sender : ℕ) (standing : Standing) (change : Change) → Does change (Some 0) is_of_registrant 0 is_of_registrant never never → HasRoom hosts (Good change)
     → AlwaysEnds hosts Clear held sender standing (Good change)
 clear_good hosts held sender standing change does room = record {
-  ends = λ s u c alike m. good_ends s Clear held sender standing u c (Some 0) registered 0 registered never never change tt m refl refl does (on_clear s.keys s.hosts sender u.registry);
+  ends = λ s u c alike m. good_ends s Clear held sender standing u c (Some 0) is_of_registrant 0 is_of_registrant never never change tt m refl refl does (on_clear s.keys s.hosts sender u.registry);
   fits = room;
 }
 
@@ -195,15 +195,15 @@ replaces_all keys (Some (One t g)) is = absurd (false≢true is)
 replaces_all keys (Some (All t)) is = refl
 
 pub preempt_all_good : (hosts : ℕ) (t : Kind) (held : Option Held) (sender : ℕ) (standing : Standing) (change : Change) → is_held_by_all held ≡ true
-    → Does change None registered (number_of hosts (Some (new_reservation t sender))) never never registered → HasRoom hosts (Good change) → AlwaysEnds hosts (PreemptAll t) held sender standing (Good change)
+    → Does change None is_of_registrant (number_of hosts (Some (new_reservation t sender))) never never is_of_registrant → HasRoom hosts (Good change) → AlwaysEnds hosts (PreemptAll t) held sender standing (Good change)
 preempt_all_good hosts t held sender standing change is does room = record {
   ends = λ s u c alike m.
       let stands : is_held_by_all u.registry.held ≡ true = ap is_held_by_all m.held ∙ is in
       let left : number_of hosts (Some (new_reservation t sender)) ≡ number_of s.hosts (Some (new_reservation t sender)) = ap (λ n. number_of n (Some (new_reservation t sender))) (sym alike) in
-      good_ends s (PreemptAll t) held sender standing u c None registered (number_of s.hosts (Some (new_reservation t sender))) never never registered change tt m refl
+      good_ends s (PreemptAll t) held sender standing u c None is_of_registrant (number_of s.hosts (Some (new_reservation t sender))) never never is_of_registrant change tt m refl
       (ap (λ b. if not b then Some (illegal INVALID_FIELD_IN_PARAMETER_LIST 0) else None) stands)
-      (leaves change None registered (number_of hosts (Some (new_reservation t sender))) (number_of s.hosts (Some (new_reservation t sender))) never never registered left does)
-      (in_case s.keys s.hosts sender None registered (number_of s.hosts (Some (new_reservation t sender))) never never registered u.registry 0 t ReplacesAll
+      (leaves change None is_of_registrant (number_of hosts (Some (new_reservation t sender))) (number_of s.hosts (Some (new_reservation t sender))) never never is_of_registrant left does)
+      (in_case s.keys s.hosts sender None is_of_registrant (number_of s.hosts (Some (new_reservation t sender))) never never is_of_registrant u.registry 0 t ReplacesAll
       (replaces_all u.registry.keys u.registry.held stands) (on_preempt_all s.keys s.hosts sender t u.registry));
   fits = room;
 }

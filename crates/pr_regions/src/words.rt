@@ -2,7 +2,7 @@
 
 ghost use Rattle.std.specs.Prelude.{◌≡◌, ◌≤◌, ◌==◌, ◌&&◌, ℕ, true, not};
 ghost use Rattle.pr_roles.specs.declared.limits.TheConstants.{MOST_KEYS};
-ghost use Rattle.pr_regions.specs.inside.Parts.{HasThose, any, never, registered, but, another, free_or};
+ghost use Rattle.pr_regions.specs.inside.Parts.{HasThose, any, never, is_of_registrant, but, another, free_or};
 
 use pr_sets::Word;
 use pr_views::MOST_REGISTRATIONS;
@@ -16,7 +16,7 @@ pub(crate) fn anything() -> Word
 
 // Every key.
 pub(crate) fn registered() -> Word
-    ensures { HasThose result registered }
+    ensures { HasThose result is_of_registrant }
 {
     Word::below(MOST_REGISTRATIONS).without(0)
 }

@@ -3,7 +3,7 @@ use Rattle.std.proofs.Common.{◌≡◌, ℕ, ◌+◌, ◌≤◌, List, [], ◌+
 use Rattle.std.specs.Io.KnownBytes.{Keeps}
 use Rattle.std.proofs.KnownBytes.{Consumes-nil, Consumes-trans, Consumes-kept}
 use Rattle.pr_report.specs.BytesTaken.{LosesUpTo}
-use Rattle.pr_report.specs.inside.LinesAhead.{Takes, held}
+use Rattle.pr_report.specs.inside.LinesAhead.{Takes, bytes_held}
 use Rattle.pr_report.specs.declared.ahead.Ahead.{Ahead}
 
 -- nothing is taken
@@ -28,5 +28,5 @@ takes_drop {s} {m} {a} {b} held next u n h is l = record { lost = h.lost; taken 
 pub loses_up_to : {s m n : ℕ} {a b : Option (List ℕ)} (limit : ℕ) → Takes s a b m n → n + s ≤ limit → LosesUpTo limit a b
 loses_up_to limit h l = record { lost = h.lost; taken = h.taken; limited = omega (arith, h.counted) }
 
-pub held_few : (a : Ahead) → length (held a) ≤ 8192
+pub held_few : (a : Ahead) → length (bytes_held a) ≤ 8192
 held_few a = omega (arith, length-drop a.start a.bytes.items, a.few)

@@ -57,14 +57,14 @@ abbrev pub sense_of : List ℕ → Option Sense
 sense_of bytes = sense_in bytes >>= λ s. if bytes_eq bytes (sense_bytes s) then Some s else None
 
 -- no sense, and no bytes of one
-abbrev pub senseless : List ℕ → Option (Option Sense)
-senseless bytes = if length bytes == 0 then Some None else None
+abbrev pub no_sense_in : List ℕ → Option (Option Sense)
+no_sense_in bytes = if length bytes == 0 then Some None else None
 
 -- there is a sense with CHECK CONDITION, and with no other status
 abbrev pub sense_under : Status → List ℕ → Option (Option Sense)
-sense_under Good bytes = senseless bytes
+sense_under Good bytes = no_sense_in bytes
 sense_under CheckCondition bytes = option_map (λ s. Some s) (sense_of bytes)
-sense_under Conflict bytes = senseless bytes
+sense_under Conflict bytes = no_sense_in bytes
 
 -- the answer: STATUS, SENSE and BYTES
 abbrev pub reply_in : List ℕ → List ℕ → List ℕ → Option Reply

@@ -25,10 +25,10 @@ pub(crate) struct Ahead {
 impl Ahead {
     ghost use Rattle.std.specs.Prelude.{◌≡◌, ◌+◌, ◌<◌, ◌≤◌, ◌++◌, [], length, drop, MatchBool, OnOk, IfErr, IfOk};
     ghost use Rattle.std.specs.Io.KnownBytes.{IsAtEnd, Keeps};
-    ghost use Rattle.pr_report.specs.inside.LinesAhead.{FindsLine, Takes, held, left, line_end};
+    ghost use Rattle.pr_report.specs.inside.LinesAhead.{FindsLine, Takes, bytes_held, bytes_left, line_end};
 
     pub(crate) fn new() -> Ahead
-        ensures { held result ≡ [] }
+        ensures { bytes_held result ≡ [] }
     {
         Ahead {
             bytes: ArrayVec::new(),
@@ -37,7 +37,7 @@ impl Ahead {
     }
 
     pub(crate) fn as_slice(&self) -> &[u8]
-        ensures { result.now ≡ held self.now }
+        ensures { result.now ≡ bytes_held self.now }
     {
         &self.bytes.as_slice()[self.start..]
     }
@@ -45,8 +45,8 @@ impl Ahead {
     /// How many bytes the line in front has without its end, or how many of them are at hand where they are more
     /// than a line may have; none where the reader has nothing left.
     pub(crate) fn next_line<R: Read>(&mut self, reader: &mut R) -> Result<Option<usize>, TraceError>
-        ensures found { IfOk result (λ found. FindsLine (left self.old (R.remaining reader.old)) (held self.new) (R.remaining reader.new) found) }
-        ensures taken { Takes 0 (R.remaining reader.old) (R.remaining reader.new) (length (held self.old)) (length (held self.new)) }
+        ensures found { IfOk result (λ found. FindsLine (bytes_left self.old (R.remaining reader.old)) (bytes_held self.new) (R.remaining reader.new) found) }
+        ensures taken { Takes 0 (R.remaining reader.old) (R.remaining reader.new) (length (bytes_held self.old)) (length (bytes_held self.new)) }
         ensures fault { IfErr result (λ e. e ≡ TraceError.ReadFault) }
     {
         loop {
@@ -63,8 +63,8 @@ impl Ahead {
 
     /// Drops the line in front, which has so many bytes without its end.
     pub(crate) fn drop_line(&mut self, bytes: usize)
-        requires { bytes ≤ length (held self.old) }
-        ensures { held self.new ≡ drop (bytes + 1) (held self.old) }
+        requires { bytes ≤ length (bytes_held self.old) }
+        ensures { bytes_held self.new ≡ drop (bytes + 1) (bytes_held self.old) }
     {
         let all = self.bytes.len();
         self.start = (self.start + bytes + 1).min(all);
@@ -72,7 +72,7 @@ impl Ahead {
 
     // Where the line in front ends, if that is at hand, or if more of it is than a line may have.
     fn line_end(&self) -> Option<usize>
-        ensures { result ≡ line_end (held self.now) }
+        ensures { result ≡ line_end (bytes_held self.now) }
     {
         let bytes = self.as_slice();
         if let Some(end) = line_feed_in(bytes) {
@@ -87,11 +87,11 @@ impl Ahead {
 
     // Whether the reader had more.
     fn read_more<R: Read>(&mut self, reader: &mut R) -> Result<bool, TraceError>
-        requires { length (held self.old) ≤ MOST_LINE_BYTES }
-        ensures kept { OnOk result (Keeps (left self.old (R.remaining reader.old)) (left self.new (R.remaining reader.new))) }
-        ensures taken { Takes 0 (R.remaining reader.old) (R.remaining reader.new) (length (held self.old)) (length (held self.new)) }
+        requires { length (bytes_held self.old) ≤ MOST_LINE_BYTES }
+        ensures kept { OnOk result (Keeps (bytes_left self.old (R.remaining reader.old)) (bytes_left self.new (R.remaining reader.new))) }
+        ensures taken { Takes 0 (R.remaining reader.old) (R.remaining reader.new) (length (bytes_held self.old)) (length (bytes_held self.new)) }
         ensures fault { IfErr result (λ e. e ≡ TraceError.ReadFault) }
-        ensures grown { IfOk result (λ more. MatchBool more (length (held self.old) < length (held self.new)) ((held self.new ≡ held self.old) × IsAtEnd (R.remaining reader.new))) }
+        ensures grown { IfOk result (λ more. MatchBool more (length (bytes_held self.old) < length (bytes_held self.new)) ((bytes_held self.new ≡ bytes_held self.old) × IsAtEnd (R.remaining reader.new))) }
     {
         let mut chunk = [0; CHUNK];
         let Ok(count) = reader.read(&mut chunk) else {
@@ -102,8 +102,8 @@ impl Ahead {
     }
 
     fn append(&mut self, more: &[u8])
-        requires { length (held self.old) + length more.now ≤ 8192 }
-        ensures { held self.new ≡ held self.old ++ more.now }
+        requires { length (bytes_held self.old) + length more.now ≤ 8192 }
+        ensures { bytes_held self.new ≡ bytes_held self.old ++ more.now }
     {
         let mut bytes = ArrayVec::new();
         let _ = bytes.try_extend_from_slice(self.as_slice());

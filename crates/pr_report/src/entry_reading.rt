@@ -3,9 +3,9 @@
 ghost use Rattle.std.specs.Prelude.{◌≡◌, ◌==◌, ◌∷◌, ◌≤◌, ◌<◌, [], false, length, map, option_map, position, bytes_eq, MatchOption, IfSome};
 ghost use Rattle.pr_cdb.specs.declared.codes.TheConstants.{MOST_NEXUSES};
 ghost use Rattle.pr_report.specs.TraceText.{names_of};
-ghost use Rattle.pr_report.specs.EntryWords.{byte_in, bytes_in, exchange_in, reply_in, sense_of, sense_under, senseless, status_in, wire_in, worth};
+ghost use Rattle.pr_report.specs.EntryWords.{byte_in, bytes_in, exchange_in, reply_in, sense_of, sense_under, no_sense_in, status_in, wire_in, worth};
 ghost use Rattle.pr_report.specs.TraceReadings.{entry_on, number_of, words};
-ghost use Rattle.pr_report.specs.inside.SevenWords.{listed, words_left};
+ghost use Rattle.pr_report.specs.inside.SevenWords.{list_of_words, words_left};
 
 use crate::ahead::MOST_LINE_BYTES;
 use crate::trace_error::TraceError;
@@ -59,7 +59,7 @@ pub(crate) fn entry_on(nexuses: &[Nexus], index: u32, line: &[u8]) -> Result<Ent
 
 // The line's words, if there are just seven.
 fn seven_words(line: &[u8]) -> Option<EntryWords<'_>>
-    ensures { MatchOption result ((length (words line.now) == 7) ≡ false) (λ w. words line.now ≡ listed w) }
+    ensures { MatchOption result ((length (words line.now) == 7) ≡ false) (λ w. words line.now ≡ list_of_words w) }
 {
     let (index, rest) = next_word(Some(line))?;
     let (name, rest) = next_word(rest)?;
@@ -102,7 +102,7 @@ fn space_in(line: &[u8]) -> Option<usize>
 // The command and its answer, where the words have the form of an entry's with this index.
 #[tactic(auto, unfolding(crate::specs::EntryWords::exchange_in))]
 fn exchange_in(index: u32, words: &EntryWords<'_>) -> Option<(Wire, Reply)>
-    ensures { result ≡ exchange_in index (listed words.now) }
+    ensures { result ≡ exchange_in index (list_of_words words.now) }
 {
     if words.index != Buffer::new().format(index).as_bytes() {
         return None;
@@ -167,12 +167,12 @@ fn sense_under(status: Status, bytes: &[u8]) -> Option<Option<Sense>>
 {
     match status {
         Status::CheckCondition => Some(Some(sense_of(bytes)?)),
-        Status::Good | Status::Conflict => senseless(bytes),
+        Status::Good | Status::Conflict => no_sense_in(bytes),
     }
 }
 
-fn senseless(bytes: &[u8]) -> Option<Option<Sense>>
-    ensures { result ≡ senseless bytes.now }
+fn no_sense_in(bytes: &[u8]) -> Option<Option<Sense>>
+    ensures { result ≡ no_sense_in bytes.now }
 {
     if bytes.is_empty() { Some(None) } else { None }
 }

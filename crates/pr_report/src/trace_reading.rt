@@ -7,7 +7,7 @@ ghost use Rattle.pr_roles.specs.Scenarios.{scenario_of};
 ghost use Rattle.pr_report.specs.TraceText.{names_in, names_of};
 ghost use Rattle.pr_report.specs.BytesTaken.{LosesUpTo};
 ghost use Rattle.pr_report.specs.TraceReadings.{Faults, and_then, entries_of, is_later, later_lines, lines, trace_in, trace_of};
-ghost use Rattle.pr_report.specs.inside.LinesAhead.{Leads, Takes, held, left};
+ghost use Rattle.pr_report.specs.inside.LinesAhead.{Leads, Takes, bytes_held, bytes_left};
 
 use crate::ahead::{Ahead, MOST_LINE_BYTES};
 use crate::entry_reading::entry_on;
@@ -44,9 +44,9 @@ pub fn read_trace<R: Read>(
 
 // Reads the line above all others.
 fn read_first<R: Read>(ahead: &mut Ahead, reader: &mut R) -> Result<(), TraceError>
-    ensures taken { Takes 1025 (R.remaining reader.old) (R.remaining reader.new) (length (held ahead.old)) (length (held ahead.new)) }
-    ensures ok { (names : List (List ℕ)) → OnOk result (Leads (λ old new. trace_in names (lines old) ≡ entries_of names 0 (lines new)) (left ahead.old (R.remaining reader.old)) (left ahead.new (R.remaining reader.new))) }
-    ensures fault { (names : List (List ℕ)) → IfSome (left ahead.old (R.remaining reader.old)) (λ text. IfErr result (λ e. Faults e (trace_in names (lines text)))) }
+    ensures taken { Takes 1025 (R.remaining reader.old) (R.remaining reader.new) (length (bytes_held ahead.old)) (length (bytes_held ahead.new)) }
+    ensures ok { (names : List (List ℕ)) → OnOk result (Leads (λ old new. trace_in names (lines old) ≡ entries_of names 0 (lines new)) (bytes_left ahead.old (R.remaining reader.old)) (bytes_left ahead.new (R.remaining reader.new))) }
+    ensures fault { (names : List (List ℕ)) → IfSome (bytes_left ahead.old (R.remaining reader.old)) (λ text. IfErr result (λ e. Faults e (trace_in names (lines text)))) }
 {
     let Some(end) = ahead.next_line(reader)? else {
         return Err(TraceError::Syntax { line: 1 });
@@ -72,10 +72,10 @@ fn read_entries<R: Read>(
     reader: &mut R,
 ) -> Result<Vec<Entry>, TraceError>
     requires { length nexuses.now ≤ MOST_NEXUSES }
-    ensures taken { Takes 33587200 (R.remaining reader.old) (R.remaining reader.new) (length (held ahead.old)) (length (held ahead.new)) }
-    ensures ok { IfOk result (λ entries. Leads (λ old new. entries_of (names_of nexuses.now) 0 (lines old) ≡ and_then (later_lines (length entries.items) 0 (lines new)) (λ _. Ok entries.items)) (left ahead.old (R.remaining reader.old)) (left ahead.new (R.remaining reader.new))) }
+    ensures taken { Takes 33587200 (R.remaining reader.old) (R.remaining reader.new) (length (bytes_held ahead.old)) (length (bytes_held ahead.new)) }
+    ensures ok { IfOk result (λ entries. Leads (λ old new. entries_of (names_of nexuses.now) 0 (lines old) ≡ and_then (later_lines (length entries.items) 0 (lines new)) (λ _. Ok entries.items)) (bytes_left ahead.old (R.remaining reader.old)) (bytes_left ahead.new (R.remaining reader.new))) }
     ensures few { IfOk result (λ entries. length entries.items ≤ MOST_ENTRIES) }
-    ensures fault { IfSome (left ahead.old (R.remaining reader.old)) (λ text. IfErr result (λ e. Faults e (entries_of (names_of nexuses.now) 0 (lines text)))) }
+    ensures fault { IfSome (bytes_left ahead.old (R.remaining reader.old)) (λ text. IfErr result (λ e. Faults e (entries_of (names_of nexuses.now) 0 (lines text)))) }
 {
     let mut entries = Vec::new(alloc);
     while let Some(end) = ahead.next_line(reader)? {
@@ -93,9 +93,9 @@ fn read_entries<R: Read>(
 // Reads the lines behind so many entries.
 fn read_later<R: Read>(entries: u32, ahead: &mut Ahead, reader: &mut R) -> Result<(), TraceError>
     requires { entries ≤ MOST_ENTRIES }
-    ensures taken { Takes 65600 (R.remaining reader.old) (R.remaining reader.new) (length (held ahead.old)) (length (held ahead.new)) }
-    ensures ok { IfSome (left ahead.old (R.remaining reader.old)) (λ text. OnOk result (later_lines entries 0 (lines text) ≡ Ok tt)) }
-    ensures fault { IfSome (left ahead.old (R.remaining reader.old)) (λ text. IfErr result (λ e. Faults e (later_lines entries 0 (lines text)))) }
+    ensures taken { Takes 65600 (R.remaining reader.old) (R.remaining reader.new) (length (bytes_held ahead.old)) (length (bytes_held ahead.new)) }
+    ensures ok { IfSome (bytes_left ahead.old (R.remaining reader.old)) (λ text. OnOk result (later_lines entries 0 (lines text) ≡ Ok tt)) }
+    ensures fault { IfSome (bytes_left ahead.old (R.remaining reader.old)) (λ text. IfErr result (λ e. Faults e (later_lines entries 0 (lines text)))) }
 {
     let mut others = 0;
     while let Some(end) = ahead.next_line(reader)? {

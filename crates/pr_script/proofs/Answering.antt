@@ -13,7 +13,7 @@ use Rattle.pr_script.specs.declared.advance.LoopFrame.{LoopFrame}
 use Rattle.pr_script.specs.Scripts.{Stmt, Stmts, Arms, sends, repeats, breaks, stops, none, more, no_arm, arm, Configuration, statement, before, settled_form, is_ready, IsReady}
 use Rattle.pr_script.specs.Takes.{matches, first_match, take}
 use Rattle.pr_script.specs.Depths.{depth_of_all, depth_of_arms}
-use Rattle.pr_script.specs.inside.Program.{joined, without_end, opened, place, arms_at, step_at, meanings, deepest, open_count, AreJumps, IsStep, IsTable}
+use Rattle.pr_script.specs.inside.Program.{concatenation, without_end, open_configuration, place, arms_at, step_at, meanings, deepest, open_count, AreJumps, IsStep, IsTable}
 use Rattle.pr_script.specs.inside.Advances.{TakesBody}
 use Rattle.pr_script.proofs.Places.{place-zero, place-row, the_row, opened-unready}
 use Rattle.pr_script.proofs.Walking.{deepest-before}
@@ -32,9 +32,9 @@ first_alone breaks l = refl
 first_alone (stops w) l = refl
 
 -- readiness is the first statement's alone
-pub ready_place : (b : Stmts) (ms : List Stmts) (opens : List LoopFrame) → IsReady (before b (opened ms opens)) → IsReady (before b [])
+pub ready_place : (b : Stmts) (ms : List Stmts) (opens : List LoopFrame) → IsReady (before b (open_configuration ms opens)) → IsReady (before b [])
 ready_place none ms opens ready = absurd (cc (opened-unready ms opens, ready))
-ready_place (more s b) ms opens ready = first_alone s (before b []) ∙ sym (first_alone s (before b (opened ms opens))) ∙ ready
+ready_place (more s b) ms opens ready = first_alone s (before b []) ∙ sym (first_alone s (before b (open_configuration ms opens))) ∙ ready
 
 pub ready_is : (rows : List Instruction) (at : ℕ) (row : Instruction) (step : Step) → IsTable rows → at ≤ length rows → IsReady (before (place (meanings rows) at) [])
     → row ≡ get_or rows (at - 1) row → row.step ≡ step → is_ready (statement (step_at (meanings rows) row.next step) ∷ []) ≡ true
@@ -46,7 +46,7 @@ ready_is rows at row step table within ready is same =
 
 -- ---- the first arm that matches
 
-before-joined : (b e : Stmts) (l : Configuration) → before (joined b e) l ≡ before b (before e l)
+before-joined : (b e : Stmts) (l : Configuration) → before (concatenation b e) l ≡ before b (before e l)
 before-joined none e l = refl
 before-joined (more s b) e l = ap (λ k. statement s ∷ k) (before-joined b e l)
 
@@ -61,13 +61,13 @@ first_match-arms_at ms next r (j ∷ js) =
     ]
 
 IsJump : List Stmts → ℕ → ℕ → ArmTarget → Type 0
-IsJump ms top next j = (j.place ≤ top) × (joined (without_end (place ms j.place) (place ms next)) (place ms next) ≡ place ms j.place)
+IsJump ms top next j = (j.place ≤ top) × (concatenation (without_end (place ms j.place) (place ms next)) (place ms next) ≡ place ms j.place)
 
 jump_found : (ms : List Stmts) (top next : ℕ) (p : ArmTarget → Bool) (js : List ArmTarget) (j : ArmTarget) → AreJumps ms top next js → find p js ≡ Some j → IsJump ms top next j
 unfolding IsJump
 jump_found ms top next p [] j h = λ e. absurd (cc)
 jump_found ms top next p (i ∷ js) j h =
-    elim (p i) as (λ b. cond b (Some i) (find p js) ≡ Some j → (j.place ≤ top) × (joined (without_end (place ms j.place) (place ms next)) (place ms next) ≡ place ms j.place)) [
+    elim (p i) as (λ b. cond b (Some i) (find p js) ≡ Some j → (j.place ≤ top) × (concatenation (without_end (place ms j.place) (place ms next)) (place ms next) ≡ place ms j.place)) [
       | true ↦ λ e. let same : i ≡ j = cc in subst (IsJump ms top next) same (h.0, h.1)
       | false ↦ λ e. jump_found ms top next p js j h.2 e
     ]
@@ -83,10 +83,10 @@ depth-first_match (arm test body rest) r b =
 -- ---- what the script goes on with
 
 takes_body : (b : Stmts) (n : ℕ) (c : Command) (a : Arms) (next body : Stmts) (r : Reply) (l : Configuration) → b ≡ more (sends n c a) next
-    → first_match a r ≡ Some body → TakesBody (before b l) r (before (joined body next) l)
+    → first_match a r ≡ Some body → TakesBody (before b l) r (before (concatenation body next) l)
 takes_body b n c a next body r l is found =
     let old = ap (λ k. before k l) is in
-    subst (λ k. TakesBody k r (before (joined body next) l)) (sym old) (record {
+    subst (λ k. TakesBody k r (before (concatenation body next) l)) (sym old) (record {
       taken = ap (option_map (λ b'. settled_form (before b' (before next l)))) found ∙ ap (λ k. Some (settled_form k)) (sym (before-joined body next l));
       room = subst (λ k. deepest k ≤ max (open_count (before next l) + depth_of_arms a) (deepest (before next l))) (sym (before-joined body next l))
           (omega (arith, deepest-before body (before next l), depth-first_match a r body found));

@@ -15,7 +15,7 @@ use Rattle.pr_script.specs.declared.rows.ArmTarget.{ArmTarget}
 use Rattle.pr_script.specs.Scripts.{Stmt, Stmts, Arms, sends, repeats, none, more, no_arm, arm, before}
 use Rattle.pr_script.specs.Depths.{depth_of_all}
 use Rattle.pr_script.specs.Trees.{statement_of, statements_in, arms_in, script_of}
-use Rattle.pr_script.specs.inside.Program.{configuration, deepest, IsPlaced, joined, size, front, without_end, place, arms_at, step_at, row_at, meanings, AreJumps, IsStep, IsRow, IsTable}
+use Rattle.pr_script.specs.inside.Program.{configuration, deepest, IsPlaced, concatenation, size, first_statements, without_end, place, arms_at, step_at, row_at, meanings, AreJumps, IsStep, IsRow, IsTable}
 use Rattle.pr_script.specs.inside.Compiled.{Grows, IsCompiled, IsStepCompiled, AreArmsCompiled}
 use Rattle.pr_script.proofs.Places.{length-meanings, meanings-push, place-zero}
 use Rattle.pr_script.proofs.Walking.{deepest-before}
@@ -23,25 +23,25 @@ use Rattle.pr_script.proofs.Taken.{taken, with_last_arm, arms_in-append}
 
 -- ---- lists of statements
 
-joined-none : (b : Stmts) → joined b none ≡ b
+joined-none : (b : Stmts) → concatenation b none ≡ b
 joined-none none = refl
 joined-none (more s b) = ap (more s) (joined-none b)
 
-size-joined : (b e : Stmts) → size (joined b e) ≡ size b + size e
+size-joined : (b e : Stmts) → size (concatenation b e) ≡ size b + size e
 size-joined none e = omega arith
 size-joined (more s b) e = omega (arith, size-joined b e)
 
-front-joined : (b e : Stmts) → front (size b) (joined b e) ≡ b
+front-joined : (b e : Stmts) → first_statements (size b) (concatenation b e) ≡ b
 front-joined none e = refl
-front-joined (more s b) e = ap (λ n. front n (more s (joined b e))) (one_more (size b)) ∙ ap (more s) (front-joined b e)
+front-joined (more s b) e = ap (λ n. first_statements n (more s (concatenation b e))) (one_more (size b)) ∙ ap (more s) (front-joined b e)
   where
     one_more : (n : ℕ) → 1 + n ≡ suc n
     one_more n = omega arith
 
-without_end-joined : (b e : Stmts) → without_end (joined b e) e ≡ b
+without_end-joined : (b e : Stmts) → without_end (concatenation b e) e ≡ b
 without_end-joined b e =
-    let rest : size (joined b e) - size e ≡ size b = omega (arith, size-joined b e) in
-    ap (λ n. front n (joined b e)) rest ∙ front-joined b e
+    let rest : size (concatenation b e) - size e ≡ size b = omega (arith, size-joined b e) in
+    ap (λ n. first_statements n (concatenation b e)) rest ∙ front-joined b e
 
 -- ---- two tables that agree up to a place
 
@@ -50,8 +50,8 @@ module _ (ms ms' : List Stmts) (top wider next : ℕ) (agree : (k : ℕ) → k �
   jumps_alike [] h = tt
   jumps_alike (j ∷ js) h =
       let whole = agree j.place h.0 in let end = agree next within in
-      let same = subst (λ w. joined (without_end w (place ms' next)) (place ms' next) ≡ w) (sym whole)
-      (subst (λ e. joined (without_end (place ms j.place) e) e ≡ place ms j.place) (sym end) h.1) in
+      let same = subst (λ w. concatenation (without_end w (place ms' next)) (place ms' next) ≡ w) (sym whole)
+      (subst (λ e. concatenation (without_end (place ms j.place) e) e ≡ place ms j.place) (sym end) h.1) in
       (omega (arith, h.0), same, jumps_alike js h.2)
 
   arms_alike : (js : List ArmTarget) → AreJumps ms top next js → arms_at ms' next js ≡ arms_at ms next js
@@ -158,14 +158,14 @@ laid_more old mid rows xs i next at x step within is laid stepped new first grow
       meaning = place-last rows row
           ∙ ap (λ s. more s (place (meanings rows) at)) stepped.meaning
           ∙ ap (more (statement_of x)) (stepped.grows.keeps at laid.within ∙ laid.meaning)
-          ∙ sym (ap (λ ys. joined (statements_in ys) (place (meanings old) next)) behind);
+          ∙ sym (ap (λ ys. concatenation (statements_in ys) (place (meanings old) next)) behind);
     } in
     subst (λ rs. IsCompiled old rs (statements_in (drop i xs)) next first) (sym grown) (subst (IsCompiled old (rows ++ row ∷ []) (statements_in (drop i xs)) next) (sym last) whole)
 
 -- ---- arms
 
 jumps_more : (ms : List Stmts) (top next : ℕ) (js : List ArmTarget) (j : ArmTarget) → AreJumps ms top next js → j.place ≤ top
-    → joined (without_end (place ms j.place) (place ms next)) (place ms next) ≡ place ms j.place → AreJumps ms top next (js ++ j ∷ [])
+    → concatenation (without_end (place ms j.place) (place ms next)) (place ms next) ≡ place ms j.place → AreJumps ms top next (js ++ j ∷ [])
 jumps_more ms top next [] j h within is = (within, is, tt)
 jumps_more ms top next (i ∷ js) j h within is = (h.0, h.1, jumps_more ms top next js j h.2 within is)
 
@@ -189,8 +189,8 @@ pub arms_laid_more : (old mid new : List Instruction) (xs : List Arm) (i next fi
 arms_laid_more old mid new xs i next first x js next_within within is before laid =
     let j : ArmTarget = record { test = x.test; place = first } in
     let next_mid : next ≤ length mid = omega (arith, before.grows.longer) in
-    let whole : place (meanings new) first ≡ joined (script_of x.body) (place (meanings new) next)
-    = laid.meaning ∙ ap (joined (script_of x.body)) (sym (laid.grows.keeps next next_mid)) in
+    let whole : place (meanings new) first ≡ concatenation (script_of x.body) (place (meanings new) next)
+    = laid.meaning ∙ ap (concatenation (script_of x.body)) (sym (laid.grows.keeps next next_mid)) in
     let body : without_end (place (meanings new) first) (place (meanings new) next) ≡ script_of x.body
     = ap (λ w. without_end w (place (meanings new) next)) whole ∙ without_end-joined (script_of x.body) (place (meanings new) next) in
     record {
@@ -198,7 +198,7 @@ arms_laid_more old mid new xs i next first x js next_within within is before lai
       within = jumps_more (meanings new) (length new) next js j
           (jumps_alike (meanings mid) (meanings new) (length mid) (length new) next laid.grows.keeps laid.grows.longer next_mid js before.within)
           laid.within
-          (ap (λ b. joined b (place (meanings new) next)) body ∙ sym whole);
+          (ap (λ b. concatenation b (place (meanings new) next)) body ∙ sym whole);
       meaning = arms_at-append (meanings new) next js j
           ∙ ap (with_last_arm (arms_at (meanings new) next js) x.test) body
           ∙ ap (λ a. with_last_arm a x.test (script_of x.body))
@@ -221,7 +221,7 @@ pub repeat_laid : (old new : List Instruction) (s : Stmt) (count next first : �
 repeat_laid old new s count next first b is laid = record {
   grows = laid.grows;
   within = laid.within;
-  meaning = ap (repeats count) (laid.meaning ∙ ap (joined b) (place-zero old) ∙ joined-none b) ∙ sym is;
+  meaning = ap (repeats count) (laid.meaning ∙ ap (concatenation b) (place-zero old) ∙ joined-none b) ∙ sym is;
 }
 
 -- ---- the whole script
@@ -234,7 +234,7 @@ laid_whole old rows rows' xs xs' first start same_rows same laid =
     (subst (λ rs. IsCompiled rs rows (statements_in xs) 0 first) start laid))
 
 pub configuration-laid : (rows : List Instruction) (b : Stmts) (first : ℕ) → IsCompiled [] rows b 0 first → configuration (meanings rows) first [] ≡ before b []
-configuration-laid rows b first laid = ap (λ s. before s []) (laid.meaning ∙ ap (joined b) (place-zero []) ∙ joined-none b)
+configuration-laid rows b first laid = ap (λ s. before s []) (laid.meaning ∙ ap (concatenation b) (place-zero []) ∙ joined-none b)
 
 pub laid_placed : (rows : List Instruction) (b : Stmts) (first : ℕ) → IsCompiled [] rows b 0 first → depth_of_all b ≤ 8 → IsPlaced rows first []
 laid_placed rows b first laid shallow = record {

@@ -5,7 +5,7 @@ use Rattle.pr_script.specs.declared.rows.Instruction.{Instruction}
 use Rattle.pr_script.specs.declared.rows.Step.TheVariants.{Repeat, Break}
 use Rattle.pr_script.specs.declared.advance.LoopFrame.{LoopFrame}
 use Rattle.pr_script.specs.Scripts.{statement, mark, repeats, Configuration, before, turn, past_mark, becomes}
-use Rattle.pr_script.specs.inside.Program.{place, meanings, opened, deepest, configuration, AreLoops, IsStep, IsPlaced}
+use Rattle.pr_script.specs.inside.Program.{place, meanings, open_configuration, deepest, configuration, AreLoops, IsStep, IsPlaced}
 use Rattle.pr_script.specs.inside.Advances.{Leads}
 use Rattle.pr_script.proofs.Places.{the_row, configuration-step, configuration-zero, opened-push}
 use Rattle.pr_script.proofs.Walking.{opens_less, open_count-configuration, leads_turn, leads_mark, leads_break, past_mark-before}
@@ -36,14 +36,14 @@ placed_on rows at to opens next placed leads within = record {
 pub end_rests : (rows : List Instruction) (at : ℕ) (opens : List LoopFrame) → at ≡ 0 → (0 < length opens → ⊥)
     → becomes (configuration (meanings rows) at opens) ≡ configuration (meanings rows) at opens
 end_rests rows at opens ends empty =
-    let nothing = configuration-zero rows at opens ends ∙ ap (opened (meanings rows)) (no_items opens empty) in
+    let nothing = configuration-zero rows at opens ends ∙ ap (open_configuration (meanings rows)) (no_items opens empty) in
     subst (λ l. becomes l ≡ l) (sym nothing) refl
 
 popped : (rows : List Instruction) (at : ℕ) (opens os : List LoopFrame) (o : LoopFrame) → at ≡ 0 → opens ≡ os ++ o ∷ []
     → configuration (meanings rows) at opens
-    ≡ mark ∷ statement (repeats o.left (place (meanings rows) o.body)) ∷ before (place (meanings rows) o.next) (opened (meanings rows) os)
+    ≡ mark ∷ statement (repeats o.left (place (meanings rows) o.body)) ∷ before (place (meanings rows) o.next) (open_configuration (meanings rows) os)
 popped rows at opens os o ends were =
-    configuration-zero rows at opens ends ∙ ap (opened (meanings rows)) were ∙ opened-push (meanings rows) os o
+    configuration-zero rows at opens ends ∙ ap (open_configuration (meanings rows)) were ∙ opened-push (meanings rows) os o
 
 pub room_again : (rows : List Instruction) (at : ℕ) (opens os : List LoopFrame) (o : LoopFrame) → IsPlaced rows at opens → at ≡ 0 → opens ≡ os ++ o ∷ []
     → length os < 8
@@ -57,11 +57,11 @@ pub places_again : (rows : List Instruction) (at : ℕ) (opens os : List LoopFra
 places_again rows at opens os o placed were = opens_less (length rows) os o (subst (AreLoops (length rows)) were placed.repeats)
 
 pub leads_again : (rows : List Instruction) (at to : ℕ) (opens os next : List LoopFrame) (o : LoopFrame) → at ≡ 0 → opens ≡ os ++ o ∷ []
-    → configuration (meanings rows) to next ≡ turn o.left (place (meanings rows) o.body) (before (place (meanings rows) o.next) (opened (meanings rows) os))
+    → configuration (meanings rows) to next ≡ turn o.left (place (meanings rows) o.body) (before (place (meanings rows) o.next) (open_configuration (meanings rows) os))
     → Leads (configuration (meanings rows) at opens) (configuration (meanings rows) to next)
 leads_again rows at to opens os next o ends were to_is =
     leads_alike _ _ _ _ (popped rows at opens os o ends were) to_is
-    (leads_mark o.left (place (meanings rows) o.body) (before (place (meanings rows) o.next) (opened (meanings rows) os)))
+    (leads_mark o.left (place (meanings rows) o.body) (before (place (meanings rows) o.next) (open_configuration (meanings rows) os)))
 
 -- ---- at a repeat
 
@@ -79,17 +79,17 @@ module _ (rows : List Instruction) (at : ℕ) (opens : List LoopFrame) (row : In
         omega (arith, open_count-configuration (place (meanings rows) row.next) (meanings rows) opens)
 
     pub leads_in : (to : ℕ) (next : List LoopFrame)
-        → configuration (meanings rows) to next ≡ turn count (place (meanings rows) body) (before (place (meanings rows) row.next) (opened (meanings rows) opens))
+        → configuration (meanings rows) to next ≡ turn count (place (meanings rows) body) (before (place (meanings rows) row.next) (open_configuration (meanings rows) opens))
         → Leads (configuration (meanings rows) at opens) (configuration (meanings rows) to next)
     leads_in to next to_is = leads_alike _ _ _ _ (configuration-step rows at opens row (Repeat count body) placed some is same) to_is
-        (leads_turn count (place (meanings rows) body) (before (place (meanings rows) row.next) (opened (meanings rows) opens)))
+        (leads_turn count (place (meanings rows) body) (before (place (meanings rows) row.next) (open_configuration (meanings rows) opens)))
 
   -- ---- at a break
 
   pub leads_out : (to : ℕ) (next : List LoopFrame) → row.step ≡ Break
-      → configuration (meanings rows) to next ≡ past_mark (opened (meanings rows) opens)
+      → configuration (meanings rows) to next ≡ past_mark (open_configuration (meanings rows) opens)
       → Leads (configuration (meanings rows) at opens) (configuration (meanings rows) to next)
   leads_out to next same to_is =
-      let past = past_mark-before (place (meanings rows) row.next) (opened (meanings rows) opens) in
+      let past = past_mark-before (place (meanings rows) row.next) (open_configuration (meanings rows) opens) in
       leads_alike _ _ _ _ (configuration-step rows at opens row Break placed some is same) (to_is ∙ sym past)
-      (leads_break (before (place (meanings rows) row.next) (opened (meanings rows) opens)))
+      (leads_break (before (place (meanings rows) row.next) (open_configuration (meanings rows) opens)))

@@ -8,7 +8,7 @@ use Rattle.pr_script.specs.declared.rows.Instruction.{Instruction}
 use Rattle.pr_script.specs.declared.rows.Step.{Step}
 use Rattle.pr_script.specs.declared.advance.LoopFrame.{LoopFrame}
 use Rattle.pr_script.specs.Scripts.{Stmts, none, statement, mark, Configuration, before, becomes, is_ready}
-use Rattle.pr_script.specs.inside.Program.{place, row_at, step_at, with_row, meanings, IsRow, IsTable, opened_by, opened, configuration, IsPlaced, IsMachine}
+use Rattle.pr_script.specs.inside.Program.{place, row_at, step_at, with_row, meanings, IsRow, IsTable, opened_by, open_configuration, configuration, IsPlaced, IsMachine}
 use Rattle.pr_script.proofs.Settling.{no_mark_rests}
 
 -- ---- one row more
@@ -52,11 +52,11 @@ configuration-row : (rows : List Instruction) (at : ℕ) (opens : List LoopFrame
     → row ≡ get_or rows (at - 1) row
     → configuration (meanings rows) at opens ≡ statement (step_at (meanings rows) row.next row.step) ∷ configuration (meanings rows) row.next opens
 configuration-row rows at opens row table some within is =
-    ap (λ b. before b (opened (meanings rows) opens)) (place-row rows at row table some within is)
+    ap (λ b. before b (open_configuration (meanings rows) opens)) (place-row rows at row table some within is)
 
 -- ---- the open repeats
 
-pub opened-push : (ms : List Stmts) (opens : List LoopFrame) (o : LoopFrame) → opened ms (opens ++ o ∷ []) ≡ opened_by ms (opened ms opens) o
+pub opened-push : (ms : List Stmts) (opens : List LoopFrame) (o : LoopFrame) → open_configuration ms (opens ++ o ∷ []) ≡ opened_by ms (open_configuration ms opens) o
 opened-push ms opens o = fold-append (opened_by ms) [] opens (o ∷ [])
 
 -- no repeat is open, or a mark comes first
@@ -65,17 +65,17 @@ begins : (ms : List Stmts) (opens : List LoopFrame) (l : Configuration) → ((l 
 begins ms [] l h = h
 begins ms (o ∷ os) l h = begins ms os (opened_by ms l o) (inr (_, refl))
 
-pub opened-rests : (ms : List Stmts) (opens : List LoopFrame) → becomes (opened ms opens) ≡ opened ms opens → opened ms opens ≡ []
+pub opened-rests : (ms : List Stmts) (opens : List LoopFrame) → becomes (open_configuration ms opens) ≡ open_configuration ms opens → open_configuration ms opens ≡ []
 opened-rests ms opens e = elim (begins ms opens [] (inl refl)) [
   | inl is ↦ is
-  | inr some ↦ absurd (no_mark_rests (opened ms opens) some.0 e some.1)
+  | inr some ↦ absurd (no_mark_rests (open_configuration ms opens) some.0 e some.1)
 ]
 
 -- at place 0 the repeats that are open are to do
-pub configuration-zero : (rows : List Instruction) (at : ℕ) (opens : List LoopFrame) → at ≡ 0 → configuration (meanings rows) at opens ≡ opened (meanings rows) opens
+pub configuration-zero : (rows : List Instruction) (at : ℕ) (opens : List LoopFrame) → at ≡ 0 → configuration (meanings rows) at opens ≡ open_configuration (meanings rows) opens
 configuration-zero rows at opens ends =
-    ap (λ k. before (place (meanings rows) k) (opened (meanings rows) opens)) ends
-    ∙ ap (λ b. before b (opened (meanings rows) opens)) (place-zero rows)
+    ap (λ k. before (place (meanings rows) k) (open_configuration (meanings rows) opens)) ends
+    ∙ ap (λ b. before b (open_configuration (meanings rows) opens)) (place-zero rows)
 
 -- a machine at place 0 has nothing left to do
 pub configuration-end : (rows : List Instruction) (at : ℕ) (opens : List LoopFrame) → IsMachine rows at opens → at ≡ 0 → configuration (meanings rows) at opens ≡ []
@@ -92,7 +92,7 @@ configuration-step rows at opens row step placed some is same =
     ∙ ap (λ s. statement (step_at (meanings rows) row.next s) ∷ configuration (meanings rows) row.next opens) same
 
 -- the repeats that are open begin with no send
-pub opened-unready : (ms : List Stmts) (opens : List LoopFrame) → is_ready (opened ms opens) ≡ false
+pub opened-unready : (ms : List Stmts) (opens : List LoopFrame) → is_ready (open_configuration ms opens) ≡ false
 opened-unready ms opens = elim (begins ms opens [] (inl refl)) [
   | inl is ↦ ap is_ready is
   | inr some ↦ ap is_ready some.1

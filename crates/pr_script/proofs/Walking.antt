@@ -4,7 +4,7 @@ use Rattle.std.proofs.Common.{refl, ◌∙◌, arith}
 use Rattle.pr_script.specs.declared.advance.LoopFrame.{LoopFrame}
 use Rattle.pr_script.specs.Scripts.{Stmts, none, more, statement, mark, repeats, breaks, Configuration, before, turn, past_mark}
 use Rattle.pr_script.specs.Depths.{depth_of_all}
-use Rattle.pr_script.specs.inside.Program.{place, opened_by, opened, open_count, deepest, AreLoops}
+use Rattle.pr_script.specs.inside.Program.{place, opened_by, open_configuration, open_count, deepest, AreLoops}
 use Rattle.pr_script.specs.inside.Advances.{Leads}
 use Rattle.pr_script.proofs.Settling.{settled-becomes, work-turn, work-past_mark}
 
@@ -52,11 +52,11 @@ open_count-fold ms [] l = omega arith
 open_count-fold ms (o ∷ os) l = omega (arith, open_count-fold ms os (opened_by ms l o), open_count-before (place ms o.next) l)
 
 -- as many marks as there are open repeats
-pub open_count-opened : (ms : List Stmts) (os : List LoopFrame) → open_count (opened ms os) ≡ length os
+pub open_count-opened : (ms : List Stmts) (os : List LoopFrame) → open_count (open_configuration ms os) ≡ length os
 open_count-opened ms os = omega (arith, open_count-fold ms os [])
 
-pub open_count-configuration : (b : Stmts) (ms : List Stmts) (os : List LoopFrame) → open_count (before b (opened ms os)) ≡ length os
-open_count-configuration b ms os = open_count-before b (opened ms os) ∙ open_count-opened ms os
+pub open_count-configuration : (b : Stmts) (ms : List Stmts) (os : List LoopFrame) → open_count (before b (open_configuration ms os)) ≡ length os
+open_count-configuration b ms os = open_count-before b (open_configuration ms os) ∙ open_count-opened ms os
 
 -- ---- what leads on
 

@@ -7,7 +7,7 @@ use Rattle.pr_script.specs.declared.script.Statement.{Statement}
 use Rattle.pr_script.specs.declared.script.Arm.{Arm}
 use Rattle.pr_script.specs.Trees.{statement_of, statements_in, script_of, arms_in}
 use Rattle.pr_script.specs.Grammar.{test_fits, statement_fits, statements_fit, arms_fit, count_of_arms, count_of, count_of_all, count_in_arms, lines_of, lines_of_all, lines_of_arms, rise_above}
-use Rattle.pr_script.specs.inside.Climbs.{climbed}
+use Rattle.pr_script.specs.inside.Climbs.{last_of_climb}
 use Rattle.pr_script.proofs.Taken.{taken}
 
 -- ---- the grammar
@@ -76,28 +76,28 @@ arms_count_taken xs i x within is = ap (λ ys. count_in_arms (arms_in ys)) (take
 -- those that come after what rises go on from its last, or fall where it falls
 abbrev pub then : Option ℕ → List ℕ → Option ℕ
 then None ys = None
-then (Some m) ys = climbed m ys
+then (Some m) ys = last_of_climb m ys
 
-after-test : (b : Bool) (next : ℕ) (xs ys : List ℕ) → climbed next (xs ++ ys) ≡ then (climbed next xs) ys
-    → cond b (climbed next (xs ++ ys)) None ≡ then (cond b (climbed next xs) None) ys
+after-test : (b : Bool) (next : ℕ) (xs ys : List ℕ) → last_of_climb next (xs ++ ys) ≡ then (last_of_climb next xs) ys
+    → cond b (last_of_climb next (xs ++ ys)) None ≡ then (cond b (last_of_climb next xs) None) ys
 after-test true next xs ys same = same
 after-test false next xs ys same = refl
 
-pub climbed_on : (n : ℕ) (xs ys : List ℕ) → climbed n (xs ++ ys) ≡ then (climbed n xs) ys
+pub climbed_on : (n : ℕ) (xs ys : List ℕ) → last_of_climb n (xs ++ ys) ≡ then (last_of_climb n xs) ys
 climbed_on n [] ys = refl
 climbed_on n (next ∷ xs) ys = after-test (nat_lt n next) next xs ys (climbed_on next xs ys)
 
-risen-test : (b : Bool) (next : ℕ) (xs : List ℕ) → is_some (climbed next xs) ≡ rise_above next xs
-    → is_some (cond b (climbed next xs) None) ≡ (b && rise_above next xs)
+risen-test : (b : Bool) (next : ℕ) (xs : List ℕ) → is_some (last_of_climb next xs) ≡ rise_above next xs
+    → is_some (cond b (last_of_climb next xs) None) ≡ (b && rise_above next xs)
 risen-test true next xs same = same
 risen-test false next xs same = refl
 
-pub risen : (n : ℕ) (xs : List ℕ) → is_some (climbed n xs) ≡ rise_above n xs
+pub risen : (n : ℕ) (xs : List ℕ) → is_some (last_of_climb n xs) ≡ rise_above n xs
 risen n [] = refl
 risen n (next ∷ xs) = risen-test (nat_lt n next) next xs (risen next xs)
 
-pub climbed_above : (n next : ℕ) (xs : List ℕ) → nat_lt n next ≡ true → climbed n (next ∷ xs) ≡ climbed next xs
-climbed_above n next xs above = ap (λ b. cond b (climbed next xs) None) above
+pub climbed_above : (n next : ℕ) (xs : List ℕ) → nat_lt n next ≡ true → last_of_climb n (next ∷ xs) ≡ last_of_climb next xs
+climbed_above n next xs above = ap (λ b. cond b (last_of_climb next xs) None) above
 
 append-assoc : (xs ys zs : List ℕ) → (xs ++ ys) ++ zs ≡ xs ++ (ys ++ zs)
 append-assoc [] ys zs = refl
@@ -121,33 +121,33 @@ arm-lines-append (x ∷ xs) ys =
     ∙ sym (append-assoc (lines_of_all (script_of x.body)) (lines_of_arms (arms_in xs)) (lines_of_arms (arms_in ys)))
 
 pub lines_taken : (n : ℕ) (xs : List Statement) (i : ℕ) (x : Statement) → i < length xs → x ≡ get_or xs i x
-    → climbed n (lines_of_all (statements_in (take (i + 1) xs))) ≡ then (climbed n (lines_of_all (statements_in (take i xs)))) (lines_of (statement_of x))
+    → last_of_climb n (lines_of_all (statements_in (take (i + 1) xs))) ≡ then (last_of_climb n (lines_of_all (statements_in (take i xs)))) (lines_of (statement_of x))
 lines_taken n xs i x within is =
-    ap (λ ys. climbed n (lines_of_all (statements_in ys))) (taken xs i x within is)
-    ∙ (ap (climbed n) (lines-append (take i xs) (x ∷ []) ∙ ap (λ l. lines_of_all (statements_in (take i xs)) ++ l) (append-none (lines_of (statement_of x))))
+    ap (λ ys. last_of_climb n (lines_of_all (statements_in ys))) (taken xs i x within is)
+    ∙ (ap (last_of_climb n) (lines-append (take i xs) (x ∷ []) ∙ ap (λ l. lines_of_all (statements_in (take i xs)) ++ l) (append-none (lines_of (statement_of x))))
     ∙ climbed_on n (lines_of_all (statements_in (take i xs))) (lines_of (statement_of x)))
 
 pub arm_lines_taken : (n : ℕ) (xs : List Arm) (i : ℕ) (x : Arm) → i < length xs → x ≡ get_or xs i x
-    → climbed n (lines_of_arms (arms_in (take (i + 1) xs))) ≡ then (climbed n (lines_of_arms (arms_in (take i xs)))) (lines_of_all (script_of x.body))
+    → last_of_climb n (lines_of_arms (arms_in (take (i + 1) xs))) ≡ then (last_of_climb n (lines_of_arms (arms_in (take i xs)))) (lines_of_all (script_of x.body))
 arm_lines_taken n xs i x within is =
-    ap (λ ys. climbed n (lines_of_arms (arms_in ys))) (taken xs i x within is)
-    ∙ (ap (climbed n) (arm-lines-append (take i xs) (x ∷ []) ∙ ap (λ l. lines_of_arms (arms_in (take i xs)) ++ l) (append-none (lines_of_all (script_of x.body))))
+    ap (λ ys. last_of_climb n (lines_of_arms (arms_in ys))) (taken xs i x within is)
+    ∙ (ap (last_of_climb n) (arm-lines-append (take i xs) (x ∷ []) ∙ ap (λ l. lines_of_arms (arms_in (take i xs)) ++ l) (append-none (lines_of_all (script_of x.body))))
     ∙ climbed_on n (lines_of_arms (arms_in (take i xs))) (lines_of_all (script_of x.body)))
 
 -- what fell among the first of them falls among all
 pub lines_fallen : (n : ℕ) (xs : List Statement) (k : ℕ)
-    → climbed n (lines_of_all (statements_in (take k xs))) ≡ None → climbed n (lines_of_all (statements_in xs)) ≡ None
+    → last_of_climb n (lines_of_all (statements_in (take k xs))) ≡ None → last_of_climb n (lines_of_all (statements_in xs)) ≡ None
 lines_fallen n xs k fell =
-    ap (λ ys. climbed n (lines_of_all (statements_in ys))) (sym (take-append-drop k xs))
-    ∙ (ap (climbed n) (lines-append (take k xs) (drop k xs))
+    ap (λ ys. last_of_climb n (lines_of_all (statements_in ys))) (sym (take-append-drop k xs))
+    ∙ (ap (last_of_climb n) (lines-append (take k xs) (drop k xs))
     ∙ (climbed_on n (lines_of_all (statements_in (take k xs))) (lines_of_all (statements_in (drop k xs)))
     ∙ ap (λ o. then o (lines_of_all (statements_in (drop k xs)))) fell))
 
 pub arm_lines_fallen : (n : ℕ) (xs : List Arm) (k : ℕ)
-    → climbed n (lines_of_arms (arms_in (take k xs))) ≡ None → climbed n (lines_of_arms (arms_in xs)) ≡ None
+    → last_of_climb n (lines_of_arms (arms_in (take k xs))) ≡ None → last_of_climb n (lines_of_arms (arms_in xs)) ≡ None
 arm_lines_fallen n xs k fell =
-    ap (λ ys. climbed n (lines_of_arms (arms_in ys))) (sym (take-append-drop k xs))
-    ∙ (ap (climbed n) (arm-lines-append (take k xs) (drop k xs))
+    ap (λ ys. last_of_climb n (lines_of_arms (arms_in ys))) (sym (take-append-drop k xs))
+    ∙ (ap (last_of_climb n) (arm-lines-append (take k xs) (drop k xs))
     ∙ (climbed_on n (lines_of_arms (arms_in (take k xs))) (lines_of_arms (arms_in (drop k xs)))
     ∙ ap (λ o. then o (lines_of_arms (arms_in (drop k xs)))) fell))
 

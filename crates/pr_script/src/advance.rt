@@ -4,7 +4,7 @@ ghost use Rattle.std.specs.Prelude.{◌≡◌, ℕ, ◌<◌, ◌≤◌, List, If
 ghost use Rattle.arrayvec.specs.ArrayVec.{array_vec_len};
 ghost use Rattle.pr_script.specs.declared.limits.TheConstants.{MOST_OPEN};
 ghost use Rattle.pr_script.specs.Scripts.{Stmts, none, before, turn, past_mark, becomes, settled_form};
-ghost use Rattle.pr_script.specs.inside.Program.{place, meanings, opened, configuration, AreLoops, IsPlaced, IsMachine};
+ghost use Rattle.pr_script.specs.inside.Program.{place, meanings, open_configuration, configuration, AreLoops, IsPlaced, IsMachine};
 ghost use Rattle.pr_script.specs.inside.Advances.{Leads};
 
 use crate::limits::MOST_OPEN;
@@ -74,7 +74,7 @@ fn advance(rows: &[Instruction], at: usize, opens: &mut Loops) -> Option<usize>
 fn repeat_or_exit(again: LoopFrame, opens: &mut Loops) -> usize
     requires { 0 < again.left → array_vec_len opens.old < MOST_OPEN }
     ensures to { (ms : List Stmts) → configuration ms result opens.new.items
-        ≡ turn again.left (place ms again.body) (before (place ms again.next) (opened ms opens.old.items)) }
+        ≡ turn again.left (place ms again.body) (before (place ms again.next) (open_configuration ms opens.old.items)) }
     ensures within { (top : ℕ) → again.body ≤ top → again.next ≤ top → AreLoops top opens.old.items
         → (result ≤ top) × AreLoops top opens.new.items }
 {
@@ -92,7 +92,7 @@ fn repeat_or_exit(again: LoopFrame, opens: &mut Loops) -> usize
 // Goes on after the innermost repeat.
 fn exit_loop(opens: &mut Loops) -> usize
     ensures to { (ms : List Stmts) → place ms 0 ≡ none
-        → configuration ms result opens.new.items ≡ past_mark (opened ms opens.old.items) }
+        → configuration ms result opens.new.items ≡ past_mark (open_configuration ms opens.old.items) }
     ensures within { (top : ℕ) → AreLoops top opens.old.items → (result ≤ top) × AreLoops top opens.new.items }
 {
     match opens.pop() {

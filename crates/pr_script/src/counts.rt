@@ -4,7 +4,7 @@ ghost use Rattle.std.specs.Prelude.{◌≡◌, ◌+◌, min, nat_le};
 ghost use Rattle.pr_script.specs.declared.limits.TheConstants.{MOST_STATEMENTS};
 ghost use Rattle.pr_script.specs.Trees.{script_of, statement_of, arms_in};
 ghost use Rattle.pr_script.specs.Grammar.{count_of, count_of_all, count_in_arms, lines_of, lines_of_all, lines_of_arms, rise_above};
-ghost use Rattle.pr_script.specs.inside.Climbs.{climbed};
+ghost use Rattle.pr_script.specs.inside.Climbs.{last_of_climb};
 
 use crate::limits::MOST_STATEMENTS;
 use crate::script::{Arm, Script, Statement};
@@ -61,7 +61,7 @@ pub(crate) fn lines_rise(script: &Script) -> bool
 // The line of the last send where each is above the one before it, and the first above this.
 #[cycle(lines)]
 fn last_line(line: u32, script: &Script) -> Option<u32>
-    ensures { result ≡ climbed line (lines_of_all (script_of script.now)) }
+    ensures { result ≡ last_of_climb line (lines_of_all (script_of script.now)) }
 {
     let mut last = line;
     for statement in &script.statements {
@@ -72,7 +72,7 @@ fn last_line(line: u32, script: &Script) -> Option<u32>
 
 #[cycle(lines)]
 fn last_statement_line(last: u32, statement: &Statement) -> Option<u32>
-    ensures { result ≡ climbed last (lines_of (statement_of statement.now)) }
+    ensures { result ≡ last_of_climb last (lines_of (statement_of statement.now)) }
 {
     match statement {
         Statement::Send { line, arms, .. } => {
@@ -89,7 +89,7 @@ fn last_statement_line(last: u32, statement: &Statement) -> Option<u32>
 
 #[cycle(lines)]
 fn last_arm_line(line: u32, arms: &[Arm]) -> Option<u32>
-    ensures { result ≡ climbed line (lines_of_arms (arms_in arms.now)) }
+    ensures { result ≡ last_of_climb line (lines_of_arms (arms_in arms.now)) }
 {
     let mut last = line;
     for arm in arms {

@@ -16,7 +16,7 @@ use Rattle.pr_text.specs.Declarations.{Declared, nothing}
 use Rattle.pr_text.specs.Texts.{all_placed, end_placed, answer_of_lines, answer_of, start_of, reservations_of, starts_somewhere}
 use Rattle.pr_text.specs.Reading.{nexus_written, nexus_declared, IsDeclaredBy, IsWrittenAs}
 use Rattle.pr_text.specs.ScenarioRoundTrip.{IsWhole}
-use Rattle.pr_text.specs.inside.Endings.{missing}
+use Rattle.pr_text.specs.inside.Endings.{missing_fault}
 use Rattle.pr_text.specs.inside.Steps.{AreRead}
 use Rattle.pr_text.proofs.Endings.{ended_in_turn}
 use Rattle.pr_text.proofs.Steps.{fails_same, fails_first}
@@ -74,7 +74,7 @@ start_same d s kept = ap (λ xs. first_under xs s.reservations) (starts_declared
 start_there : (d : Declared) (s : Scenario) → IsDeclaredBy d s → CanStart s → starts_somewhere d ≡ true
 start_there d s kept can = ap (λ o. is_some o) (sym (start_same d s kept)) ∙ start_found s can
 
-pub whole : (n : ℕ) (d : Declared) (s : Scenario) → missing n d ≡ None → IsDeclaredBy d s → CanStart s → IsWhole n d s
+pub whole : (n : ℕ) (d : Declared) (s : Scenario) → missing_fault n d ≡ None → IsDeclaredBy d s → CanStart s → IsWhole n d s
 whole n d s faultless kept can = record { faultless = ended_in_turn n d ∙ rw (faultless, start_there d s kept can) refl; kept = kept }
 
 found_none : (s : Scenario) → Fits s → s.generation < 2 ^ 32 → (CanStart s → ⊥) → (o : Option (Option Held × List (Option ℕ)))
@@ -83,11 +83,11 @@ found_none s fits generation cannot None is = refl
 found_none s fits generation cannot (Some first) is =
     absurd (cannot (record { unit = _; allowed = (first_allowed s first.0 first.1 fits generation is).1 }))
 
-pub empty : (n : ℕ) (d : Declared) (s : Scenario) → missing n d ≡ None → IsDeclaredBy d s → Fits s → s.generation < 2 ^ 32 → (CanStart s → ⊥) → end_placed n d ≡ Err EmptyStart
+pub empty : (n : ℕ) (d : Declared) (s : Scenario) → missing_fault n d ≡ None → IsDeclaredBy d s → Fits s → s.generation < 2 ^ 32 → (CanStart s → ⊥) → end_placed n d ≡ Err EmptyStart
 empty n d s faultless kept fits generation cannot =
     let nowhere : starts_somewhere d ≡ false =
     ap (λ o. is_some o) (sym (start_same d s kept)) ∙ found_none s fits generation cannot (first_under (starts s) s.reservations) refl in
     ended_in_turn n d ∙ rw (faultless, nowhere) refl
 
-pub fails_end : (n : ℕ) (d : Declared) (e : ReadError) → missing n d ≡ Some e → Fails e (end_placed n d)
+pub fails_end : (n : ℕ) (d : Declared) (e : ReadError) → missing_fault n d ≡ Some e → Fails e (end_placed n d)
 fails_end n d e faulty = rw (ended_in_turn n d) (rw faulty (fails_same Declared e))

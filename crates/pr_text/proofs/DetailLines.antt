@@ -19,7 +19,7 @@ use Rattle.pr_roles.specs.Scenarios.{Nexus, Task, Scripted, Planned}
 use Rattle.pr_roles.specs.Fitting.{are_distinct, is_action, is_role, is_alternative, is_same_alternative, is_start, is_task, is_nexus}
 use Rattle.pr_text.specs.declared.fault.ReadError.{ReadError}
 use Rattle.pr_text.specs.Faults.{and_then}
-use Rattle.pr_lines.specs.CommandWords.{keyless}
+use Rattle.pr_lines.specs.CommandWords.{without_keys}
 use Rattle.pr_lines.specs.ScenarioLines.{ScenarioLine, start_line, pending_line, role_line, script_line, plan_line, end_line, command_line, declares}
 use Rattle.pr_text.specs.ScriptLines.{body_lines}
 use Rattle.pr_text.specs.inside.Chains.{are_codes_distinct, at_name, start_at, start_placed, pending_at, pending_placed, role_at, role_placed, script_at, script_placed, plan_at, plan_placed, planned_step, item_taken}
@@ -240,16 +240,16 @@ module _ (n : ℕ) (keys : Option (List ℕ)) (vs : Option (List (Option Held)))
       found x outside (plan_at n (with x outside)) (itself name)
 
   command_goes : (x : Declaration) (h : ℕ) (done : List Command) (c : Command) → is_written (unwrap_or keys []) c ≡ true → nat_le 256 (length done) ≡ false
-      → item_taken n (command_line (keyless c)) (with x (in_plan h done)) ≡ Ok (with x (in_plan h (done ++ c ∷ [])))
+      → item_taken n (command_line (without_keys c)) (with x (in_plan h done)) ≡ Ok (with x (in_plan h (done ++ c ∷ [])))
   unfolding item_taken planned_step
   command_goes x h done c written short = rw (written, short) refl
 
   commands_go : (x : Declaration) (h : ℕ) (done cs : List Command) → list_all (is_written (unwrap_or keys [])) cs ≡ true → length done + length cs ≤ 256
-      → all_said (map (λ c. line n (command_line (keyless c))) cs) (with x (in_plan h done)) ≡ Ok (with x (in_plan h (done ++ cs)))
+      → all_said (map (λ c. line n (command_line (without_keys c))) cs) (with x (in_plan h done)) ≡ Ok (with x (in_plan h (done ++ cs)))
   commands_go x h done [] written short = ap (λ l. Ok (with x (in_plan h l))) (sym (append-nil done))
   commands_go x h done (c ∷ cs) written short =
       let parts = and_parts (is_written (unwrap_or keys []) c) _ written in
-      said_first n (command_line (keyless c)) (map (λ d. line n (command_line (keyless d))) cs) _ _ _ (command_goes x h done c parts.0 (short_plan (length done) (length cs) short))
+      said_first n (command_line (without_keys c)) (map (λ d. line n (command_line (without_keys d))) cs) _ _ _ (command_goes x h done c parts.0 (short_plan (length done) (length cs) short))
       (commands_go x h (done ++ c ∷ []) cs parts.1 (one_longer done c (length cs) 256 short) ∙ ap (λ l. Ok (with x (in_plan h l))) (append_assoc done (c ∷ []) cs))
 
   plan_ends : (x : Declaration) (cs : List Command) → item_taken n end_line (with x (in_plan (length before) cs)) ≡ Ok (with (tasked_as (planned cs) x) outside)
@@ -272,8 +272,8 @@ module _ (n : ℕ) (keys : Option (List ℕ)) (vs : Option (List (Option Held)))
   task_goes (Planned commands) s p r h =
       let x = staged n name true s p r None in
       let parts = and_parts (nat_le (length commands) 256) _ h in
-      said_first n (declares (plan_line name)) (map (λ c. line n (command_line (keyless c))) commands ++ line n end_line ∷ []) _ _ _ (plan_begins s p r)
-      (said_on (map (λ c. line n (command_line (keyless c))) commands) (line n end_line ∷ []) _ (with x (in_plan (length before) commands)) _
+      said_first n (declares (plan_line name)) (map (λ c. line n (command_line (without_keys c))) commands ++ line n end_line ∷ []) _ _ _ (plan_begins s p r)
+      (said_on (map (λ c. line n (command_line (without_keys c))) commands) (line n end_line ∷ []) _ (with x (in_plan (length before) commands)) _
       (commands_go x (length before) [] commands parts.1 (let few_commands = true_le (length commands) 256 parts.0 in omega arith))
       (said_first n end_line [] _ _ _ (plan_ends x commands) refl))
 

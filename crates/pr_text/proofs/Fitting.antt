@@ -11,7 +11,7 @@ use Rattle.pr_script.specs.Names.{is_name}
 use Rattle.pr_text.specs.ScriptLines.{body_lines}
 use Rattle.pr_text.specs.Declarations.{WrittenTask, scripted, planned, Declaration, Declared, Place, before_all, outside, in_script, in_plan}
 use Rattle.pr_text.specs.Declaring.{declared_keys}
-use Rattle.pr_text.specs.inside.Endings.{missing, missing_at}
+use Rattle.pr_text.specs.inside.Endings.{missing_fault, missing_at}
 use Rattle.pr_text.specs.Reading.{WrittenNexus, task_written, nexus_written, nexus_declared, IsDeclaredBy}
 use Rattle.pr_text.specs.inside.Sound.{IsTask, IsDeclaration, AreDeclarations, IsSound}
 use Rattle.pr_lines.proofs.Tests.{both}
@@ -61,7 +61,7 @@ some_nexus n d outside e = some_left (length d.nexuses == 0) _ _ e
 some_nexus n d (in_script o) e = cc
 some_nexus n d (in_plan h commands) e = cc
 
-pub declared_fits : (n : ℕ) (d : Declared) (s : Scenario) → IsSound n d → missing n d ≡ None → IsDeclaredBy d s → Fits s
+pub declared_fits : (n : ℕ) (d : Declared) (s : Scenario) → IsSound n d → missing_fault n d ≡ None → IsDeclaredBy d s → Fits s
 declared_fits n d s sound faultless kept =
     let long : length s.nexuses ≡ length d.nexuses = sym (length-map s.nexuses nexus_written) ∙ (ap length kept.nexuses ∙ length-map d.nexuses nexus_declared) in
     let named : map (λ x. x.name) s.nexuses ≡ map (λ x. x.name) d.nexuses =

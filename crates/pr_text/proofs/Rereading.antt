@@ -10,14 +10,14 @@ use Rattle.pr_script.specs.Scripts.{Stmt, Stmts, Arms, sends, repeats, breaks, s
 use Rattle.pr_script.specs.Grammar.{is_written, stands_under, is_test_declared, has_sense_digit, test_fits, count_of_arms, begins_body, is_send_written, is_repeat_written, statement_fits, statements_fit, arms_fit, count_of, count_of_all, count_in_arms}
 use Rattle.pr_text.specs.declared.fault.ReadError.{ReadError}
 use Rattle.pr_text.specs.Faults.{and_then}
-use Rattle.pr_lines.specs.CommandWords.{keyless}
+use Rattle.pr_lines.specs.CommandWords.{without_keys}
 use Rattle.pr_text.specs.ScriptLines.{ScriptLine, send_at, arm_on, block_done, repeat_of, break_out, stop_with, statement_lines, body_lines, arms_lines}
 use Rattle.pr_text.specs.Declarations.{OpenBlock, repeating, sending, OpenLines, Declared}
 use Rattle.pr_text.specs.Standing.{is_repeating, is_sending, awaits_arm, is_in_repeat, may_close}
 use Rattle.pr_lines.specs.ScenarioLines.{states, send_line, on_line, done_line, repeat_line, break_line, stop_line}
 use Rattle.pr_text.specs.inside.Chains.{all_stepped, script_step, item_taken}
 use Rattle.pr_text.specs.Declaring.{declared_keys}
-use Rattle.pr_text.specs.ScriptRoundTrip.{ScriptsHaveNoFault, said_by, numbered, script_said, all_said, within}
+use Rattle.pr_text.specs.ScriptRoundTrip.{ScriptsHaveNoFault, said_by, number_of_line, script_said, all_said, within}
 use Rattle.pr_lines.proofs.Tests.{both, true_le}
 use Rattle.pr_text.proofs.Trees.{no_not, one_more, as_many}
 use Rattle.pr_text.proofs.LineOrder.{in_order}
@@ -34,7 +34,7 @@ goes step a f e = rw e refl
 
 send_goes : (m : ℕ) (keys : List ℕ) (c : Command) (host budget : ℕ) (ls : List ScriptLine) (k : ℕ) (bs : List OpenBlock) (g : Bool)
     → awaits_arm bs ≡ false → is_written keys c ≡ true → nat_le 512 k ≡ false → nat_le 8 (count_by is_sending bs) ≡ false
-    → script_step m keys (send_line (keyless c)) (open_at host budget ls k bs g) ≡ Ok (open_at host budget (ls ++ send_at m c ∷ []) (k + 1) (sending c 0 ∷ bs) false)
+    → script_step m keys (send_line (without_keys c)) (open_at host budget ls k bs g) ≡ Ok (open_at host budget (ls ++ send_at m c ∷ []) (k + 1) (sending c 0 ∷ bs) false)
 unfolding script_step
 send_goes m keys c host budget ls k bs g free written short shallow = rw (free, written, short, shallow) refl
 
@@ -258,7 +258,7 @@ mutual
 -- ---- a whole script
 
 taken : (n : ℕ) (d : Declared) (l : ScriptLine) (o : OpenLines)
-    → item_taken (numbered n l) (states (said_by l)) (within d o) ≡ and_then (script_step (numbered n l) (declared_keys d) (said_by l) o) (λ q. Ok (within d q))
+    → item_taken (number_of_line n l) (states (said_by l)) (within d o) ≡ and_then (script_step (number_of_line n l) (declared_keys d) (said_by l) o) (λ q. Ok (within d q))
 unfolding item_taken
 taken n d (send_at m c) o = refl
 taken n d (arm_on t) o = refl
@@ -277,8 +277,8 @@ all_step : (n : ℕ) (d : Declared) (ls : List ScriptLine) (o : OpenLines)
     → all_said (script_said n ls) (within d o) ≡ and_then (all_stepped n (declared_keys d) ls o) (λ q. Ok (within d q))
 all_step n d [] o = refl
 all_step n d (l ∷ ls) o =
-    ap (λ r. and_then r (all_said (script_said n ls))) (in_order (numbered n l) (states (said_by l)) (within d o) ∙ taken n d l o)
-    ∙ step_then n d (script_step (numbered n l) (declared_keys d) (said_by l) o) ls (λ q. all_step n d ls q)
+    ap (λ r. and_then r (all_said (script_said n ls))) (in_order (number_of_line n l) (states (said_by l)) (within d o) ∙ taken n d l o)
+    ∙ step_then n d (script_step (number_of_line n l) (declared_keys d) (said_by l) o) ls (λ q. all_step n d ls q)
 
 pub reread : ScriptsHaveNoFault
 reread n d host budget b fits =

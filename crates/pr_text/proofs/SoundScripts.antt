@@ -24,20 +24,20 @@ use Rattle.pr_text.specs.LineFaults.{out_of_place, past_limit_in, first_fault, s
 use Rattle.pr_text.specs.declared.fault.Which.{Which}
 use Rattle.pr_text.specs.declared.fault.Which.TheVariants as which
 use Rattle.pr_text.specs.Declaring.{is_spelled}
-use Rattle.pr_text.specs.inside.Sound.{Reached, at_first, may, may_state, may_all, next, reached, is_statement, sends_in, AreBegun}
+use Rattle.pr_text.specs.inside.Sound.{Reached, at_first, may, may_state, may_all, next, reach_after, is_statement, sends_in, AreBegun}
 use Rattle.pr_lines.proofs.ItemTerms.{is_item}
 use Rattle.pr_lines.proofs.Tests.{both, true_le}
 use Rattle.pr_text.proofs.Trees.{le_true, count-cons, sends-append}
 
 -- ---- one line more
 
-may_more : (keys : List ℕ) (s : Reached) (ls : List ScriptLine) (l : ScriptLine) → may_all keys s ls ≡ true → may keys (reached s ls) l ≡ true → may_all keys s (ls ++ l ∷ []) ≡ true
+may_more : (keys : List ℕ) (s : Reached) (ls : List ScriptLine) (l : ScriptLine) → may_all keys s ls ≡ true → may keys (reach_after s ls) l ≡ true → may_all keys s (ls ++ l ∷ []) ≡ true
 may_more keys s [] l h k = both _ _ k refl
 may_more keys s (x ∷ ls) l h k =
     let parts = and_parts (may keys s x) _ h in
     both _ _ parts.0 (may_more keys (next s x) ls l parts.1 k)
 
-reached_more : (s : Reached) (ls : List ScriptLine) (l : ScriptLine) → reached s (ls ++ l ∷ []) ≡ next (reached s ls) l
+reached_more : (s : Reached) (ls : List ScriptLine) (l : ScriptLine) → reach_after s (ls ++ l ∷ []) ≡ next (reach_after s ls) l
 reached_more s ls l = fold-append next s ls (l ∷ [])
 
 counted_more : (ls : List ScriptLine) (l : ScriptLine) → count_by is_statement (ls ++ l ∷ []) ≡ count_by is_statement ls + cond (is_statement l) 1 0
@@ -83,7 +83,7 @@ plain_more keys n o p l h lines none budget stands steps counts few =
     let same : sends_in p.lines ≡ sends_in o.lines = ap sends_in lines ∙ (sends-append o.lines (l ∷ []) ∙ (ap (λ x. sends_in o.lines ++ x) none ∙ append-nil (sends_in o.lines))) in
     record {
       standing = ap (may_all keys at_first) lines ∙ may_more keys at_first o.lines l h.standing (ap (λ s. may keys s l) h.reaching ∙ stands);
-      reaching = ap (reached at_first) lines ∙ (reached_more at_first o.lines l ∙ (ap (λ s. next s l) h.reaching ∙ sym steps));
+      reaching = ap (reach_after at_first) lines ∙ (reached_more at_first o.lines l ∙ (ap (λ s. next s l) h.reaching ∙ sym steps));
       counted = counts ∙ (ap (λ k. k + cond (is_statement l) 1 0) h.counted ∙ sym (ap (count_by is_statement) lines ∙ counted_more o.lines l));
       short = le_true p.statements 512 few;
       rising = rw same h.rising;
@@ -100,7 +100,7 @@ send_more keys n o p c h lines budget stands steps counts few =
     let same : sends_in p.lines ≡ sends_in o.lines ++ (n + 1) ∷ [] = ap sends_in lines ∙ sends-append o.lines (l ∷ []) in
     record {
       standing = ap (may_all keys at_first) lines ∙ may_more keys at_first o.lines l h.standing (ap (λ s. may keys s l) h.reaching ∙ stands);
-      reaching = ap (reached at_first) lines ∙ (reached_more at_first o.lines l ∙ (ap (λ s. next s l) h.reaching ∙ sym steps));
+      reaching = ap (reach_after at_first) lines ∙ (reached_more at_first o.lines l ∙ (ap (λ s. next s l) h.reaching ∙ sym steps));
       counted = counts ∙ (ap (λ k. k + 1) h.counted ∙ sym (ap (count_by is_statement) lines ∙ counted_more o.lines l));
       short = le_true p.statements 512 few;
       rising = rw same (rise_more 0 (sends_in o.lines) n (omega arith) h.rising h.passed);

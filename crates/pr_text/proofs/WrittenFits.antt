@@ -13,7 +13,7 @@ use Rattle.pr_text.specs.declared.fault.ReadError.TheVariants.{EmptyStart}
 use Rattle.pr_text.specs.Faults.{and_then, unless}
 use Rattle.pr_text.specs.Declarations.{Declared, nothing}
 use Rattle.pr_text.specs.Texts.{line_placed, all_placed, starts_somewhere, end_placed, answer_of_lines, answer_of}
-use Rattle.pr_text.specs.inside.Endings.{missing, started}
+use Rattle.pr_text.specs.inside.Endings.{missing_fault, start_result}
 use Rattle.pr_text.proofs.Endings.{ended_in_turn}
 use Rattle.pr_text.specs.Reading.{IsDeclaredBy}
 use Rattle.pr_text.specs.inside.Sound.{IsSound}
@@ -63,14 +63,14 @@ started_by : (b : Bool) (d e : Declared) → cond b (Ok d) (Err EmptyStart) ≡ 
 started_by true d e h = (refl, cc)
 started_by false d e h = cc
 
-ends_by : (o : Option ReadError) (d e : Declared) → and_then (unless o d) started ≡ Ok e → EndsWell o d e
+ends_by : (o : Option ReadError) (d e : Declared) → and_then (unless o d) start_result ≡ Ok e → EndsWell o d e
 ends_by None d e h =
     let s = started_by (starts_somewhere d) d e h in
     record { faultless = refl; starting = s.0; same = s.1 }
 ends_by (Some x) d e h = cc
 
-ends_well : (n : ℕ) (d e : Declared) → end_placed n d ≡ Ok e → EndsWell (missing n d) d e
-ends_well n d e h = ends_by (missing n d) d e (sym (ended_in_turn n d) ∙ h)
+ends_well : (n : ℕ) (d e : Declared) → end_placed n d ≡ Ok e → EndsWell (missing_fault n d) d e
+ends_well n d e h = ends_by (missing_fault n d) d e (sym (ended_in_turn n d) ∙ h)
 
 -- The generation is no part of what makes a state an allowed one: the state found has the generation 0.
 some_start : (s : Scenario) → Fits s → (o : Option (Option Held × List (Option ℕ))) → first_under (starts s) s.reservations ≡ o → is_some o ≡ true → CanStart s

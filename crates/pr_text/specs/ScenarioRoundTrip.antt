@@ -12,7 +12,7 @@ use Rattle.pr_attention.specs.Attentions.{Codes, code_of, AreAttentions}
 use Rattle.pr_roles.specs.Scenarios.{Scenario, Nexus, Task, Scripted, Planned}
 use Rattle.pr_roles.specs.Starts.{CanStart}
 use Rattle.pr_roles.specs.Fitting.{Fits}
-use Rattle.pr_lines.specs.CommandWords.{keyless}
+use Rattle.pr_lines.specs.CommandWords.{without_keys}
 use Rattle.pr_lines.specs.ScenarioLines.{StartReservation, nobody, single, everybody, ScenarioLine, fence_line, keys_line, nexus_line, start_line, pending_line, reservation_line, generation_line, role_line, script_line, plan_line, end_line, command_line, declares}
 use Rattle.pr_text.specs.ScriptLines.{body_lines}
 use Rattle.pr_text.specs.ScriptRoundTrip.{Line, line, script_said, all_said}
@@ -38,7 +38,7 @@ pending_said n name (x ∷ xs) = line n (declares (pending_line name (x ∷ xs))
 -- the lines of a task, the last of them included
 abbrev pub task_said : ℕ → List ℕ → Task → List Line
 task_said n name (Scripted script budget) = line n (declares (script_line name budget)) ∷ (script_said n (body_lines script) ++ line n end_line ∷ [])
-task_said n name (Planned commands) = line n (declares (plan_line name)) ∷ (map (λ c. line n (command_line (keyless c))) commands ++ line n end_line ∷ [])
+task_said n name (Planned commands) = line n (declares (plan_line name)) ∷ (map (λ c. line n (command_line (without_keys c))) commands ++ line n end_line ∷ [])
 
 -- a host's or guest's start, what is pending for it, its role and its task
 abbrev pub details_said : ℕ → Nexus → List Line

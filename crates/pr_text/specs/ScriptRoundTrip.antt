@@ -4,7 +4,7 @@ use Rattle.std.specs.Prelude.{◌≡◌, ℕ, List, [], ◌∷◌, Result, Ok, t
 use Rattle.pr_script.specs.Scripts.{Stmts}
 use Rattle.pr_script.specs.Grammar.{script_fits}
 use Rattle.pr_text.specs.declared.fault.ReadError.{ReadError}
-use Rattle.pr_lines.specs.CommandWords.{keyless}
+use Rattle.pr_lines.specs.CommandWords.{without_keys}
 use Rattle.pr_text.specs.Declarations.{OpenLines, in_script, Declared}
 use Rattle.pr_text.specs.Declaring.{declared_keys}
 use Rattle.pr_text.specs.Faults.{and_then}
@@ -14,7 +14,7 @@ use Rattle.pr_text.specs.ScriptLines.{ScriptLine, send_at, arm_on, block_done, r
 
 -- what the line says; a key that its command drops is not written
 abbrev pub said_by : ScriptLine → StatementLine
-said_by (send_at line command) = send_line (keyless command)
+said_by (send_at line command) = send_line (without_keys command)
 said_by (arm_on test) = on_line test
 said_by block_done = done_line
 said_by (repeat_of count) = repeat_line count
@@ -22,13 +22,13 @@ said_by break_out = break_line
 said_by (stop_with word) = stop_line word
 
 -- a send has the number of its own line, and any other line may have any number, here this one
-abbrev pub numbered : ℕ → ScriptLine → ℕ
-numbered n (send_at line command) = line
-numbered n (arm_on test) = n
-numbered n block_done = n
-numbered n (repeat_of count) = n
-numbered n break_out = n
-numbered n (stop_with word) = n
+abbrev pub number_of_line : ℕ → ScriptLine → ℕ
+number_of_line n (send_at line command) = line
+number_of_line n (arm_on test) = n
+number_of_line n block_done = n
+number_of_line n (repeat_of count) = n
+number_of_line n break_out = n
+number_of_line n (stop_with word) = n
 
 -- a line by its number and what it says
 pub record Line : Type 0 where
@@ -39,7 +39,7 @@ abbrev pub line : ℕ → ScenarioLine → Line
 line n item = record { number = n; item = item }
 
 abbrev pub script_said : ℕ → List ScriptLine → List Line
-script_said n ls = map (λ l. line (numbered n l) (states (said_by l))) ls
+script_said n ls = map (λ l. line (number_of_line n l) (states (said_by l))) ls
 
 -- what lines make of what is declared, one after another
 abbrev pub all_said : List Line → Declared → Result Declared ReadError

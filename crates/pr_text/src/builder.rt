@@ -47,7 +47,7 @@ impl Builder {
     ghost use Rattle.std.specs.Prelude.{◌≡◌, ◌<◌, IfOk, IfSome, [], length, map, option_map, position, bytes_eq};
     ghost use Rattle.pr_text.specs.declared.builder.Place.TheVariants.{Outside};
     ghost use Rattle.pr_text.specs.inside.Steps.{Gives};
-    ghost use Rattle.pr_lines.specs.LineValues.{seen, wanted_seen};
+    ghost use Rattle.pr_lines.specs.LineValues.{line_of_value, wanted_seen};
     ghost use Rattle.pr_text.specs.Declarations.{nothing};
     ghost use Rattle.pr_text.specs.Declaring.{declared_keys, number_of, held_of};
     ghost use Rattle.pr_lines.specs.Chain.{each};
@@ -78,7 +78,7 @@ impl Builder {
         line: u32,
         item: ScenarioLine,
     ) -> Result<Self, ReadError>
-        ensures { Gives declared_by result (item_placed line (seen item) (declared_by self)) }
+        ensures { Gives declared_by result (item_placed line (line_of_value item) (declared_by self)) }
     {
         match mem::replace(&mut self.place, Place::Outside) {
             Place::BeforeAll => self.first_line(line, item),
@@ -90,7 +90,7 @@ impl Builder {
 
     fn first_line(self, line: u32, item: ScenarioLine) -> Result<Self, ReadError>
         requires { self.place ≡ Outside }
-        ensures { Gives declared_by result (placed_first line (seen item) (declared_by self)) }
+        ensures { Gives declared_by result (placed_first line (line_of_value item) (declared_by self)) }
     {
         match item {
             ScenarioLine::Fence => Ok(self),
@@ -99,7 +99,7 @@ impl Builder {
     }
 
     fn line_outside(self, alloc: Global, line: u32, item: ScenarioLine) -> Result<Self, ReadError>
-        ensures { Gives declared_by result (placed_outside line (seen item) (declared_by self)) }
+        ensures { Gives declared_by result (placed_outside line (line_of_value item) (declared_by self)) }
     {
         match item {
             ScenarioLine::Keys(keys) => self.keys_line(line, keys),
@@ -288,7 +288,7 @@ impl Builder {
         item: ScenarioLine,
     ) -> Result<Self, ReadError>
         requires { self.place ≡ Outside }
-        ensures { Gives declared_by result (placed_in_script line (open_seen script) (seen item) (declared_by self)) }
+        ensures { Gives declared_by result (placed_in_script line (open_seen script) (line_of_value item) (declared_by self)) }
     {
         if let ScenarioLine::End = item {
             return self.script_end(line, script);
@@ -326,7 +326,7 @@ impl Builder {
         item: ScenarioLine,
     ) -> Result<Self, ReadError>
         requires { self.place ≡ Outside }
-        ensures { Gives declared_by result (placed_in_plan line guest commands.items (seen item) (declared_by self)) }
+        ensures { Gives declared_by result (placed_in_plan line guest commands.items (line_of_value item) (declared_by self)) }
     {
         match item {
             ScenarioLine::Command(spelled) => {

@@ -21,7 +21,7 @@ impl Builder {
     ghost use Rattle.pr_text.specs.inside.Drafts.{declared_by};
     ghost use Rattle.pr_text.specs.inside.Sound.{IsSound};
     ghost use Rattle.pr_text.specs.Texts.{end_placed};
-    ghost use Rattle.pr_text.specs.inside.Endings.{missing};
+    ghost use Rattle.pr_text.specs.inside.Endings.{missing_fault};
     ghost use Rattle.pr_text.specs.Reading.{IsDeclaredBy};
     ghost use Rattle.pr_text.specs.ScenarioRoundTrip.{IsWhole};
 
@@ -31,7 +31,7 @@ impl Builder {
         ensures found { IfOk result (λ scenario. IsWhole number (declared_by self) (scenario_of scenario)) }
         ensures fault { IfErr result (λ e. Fails e (end_placed number (declared_by self))) }
     {
-        if let Some(fault) = self.missing(number) {
+        if let Some(fault) = self.missing_fault(number) {
             return Err(fault);
         }
         let parts = self.parts(alloc)?;
@@ -42,8 +42,8 @@ impl Builder {
     }
 
     // What is missing where the text ends on the line of this number.
-    fn missing(&self, number: u32) -> Option<ReadError>
-        ensures { result ≡ missing number (declared_by self.now) }
+    fn missing_fault(&self, number: u32) -> Option<ReadError>
+        ensures { result ≡ missing_fault number (declared_by self.now) }
     {
         match self.place {
             Place::BeforeAll => Some(ReadError::Syntax { line: 1 }),

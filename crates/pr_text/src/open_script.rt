@@ -66,7 +66,7 @@ pub struct OpenScript {
 impl OpenScript {
     ghost use Rattle.std.specs.Prelude.{◌≡◌, ◌==◌, false, IfOk, None, Some, [], length, count_by};
     ghost use Rattle.pr_text.specs.inside.Steps.{Gives};
-    ghost use Rattle.pr_lines.specs.LineValues.{seen};
+    ghost use Rattle.pr_lines.specs.LineValues.{line_of_value};
     ghost use Rattle.pr_text.specs.inside.OpenScripts.{open_seen, opened_in};
     ghost use Rattle.pr_text.specs.Standing.{awaits_arm, awaits_more, is_repeating, is_sending, is_in_repeat};
     ghost use Rattle.pr_text.specs.inside.Chains.{is_full, script_step, line_step};
@@ -95,7 +95,7 @@ impl OpenScript {
         keys: &[u64],
         item: ScenarioLine,
     ) -> Result<Self, ReadError>
-        ensures { Gives open_seen result (line_step line keys.now (seen item) (open_seen self)) }
+        ensures { Gives open_seen result (line_step line keys.now (line_of_value item) (open_seen self)) }
     {
         match item {
             ScenarioLine::Send(spelled) => self.send(line, keys, spelled),

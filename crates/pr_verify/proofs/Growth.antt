@@ -3,21 +3,21 @@ use Rattle.std.proofs.Common.{◌≡◌, ℕ, ◌+◌, ◌<◌, ◌≤◌, Bool,
 use Rattle.std.proofs.lemmas.Bool.{and_parts, ltb-true, lt-ltb, cases_lt}
 use Rattle.pr_views.specs.Possibilities.{Registration, Reservation, Attentions}
 use Rattle.pr_views.specs.Views.{View, Within, Fits}
-use Rattle.pr_domain.specs.inside.Closing.{lacking, lacking_all}
+use Rattle.pr_domain.specs.inside.Closing.{count_of_lacking, count_of_all_lacking}
 use Rattle.pr_domain.proofs.Closed.{Passes, lacking_less, lacking_fewer, lacking_all_less, lacking_all_fewer}
 use Rattle.pr_domain.proofs.Following.{few_keys}
 use Rattle.pr_verify.specs.inside.Inferring.{has_registration, lacks}
 
 -- ---- what lacks no less has the same
 
-lacks_no_less : (n k : ℕ) (p q : ℕ → Bool) → k < n → Passes p q → lacking n p ≤ lacking n q → q k ≡ true → p k ≡ true
+lacks_no_less : (n k : ℕ) (p q : ℕ → Bool) → k < n → Passes p q → count_of_lacking n p ≤ count_of_lacking n q → q k ≡ true → p k ≡ true
 lacks_no_less n k p q small goes same has_it = at (p k) refl
   where
     at : (b : Bool) → p k ≡ b → p k ≡ true
     at true is = is
     at false is = absurd (let fewer = lacking_fewer n k p q small goes is has_it in omega arith)
 
-all_lack_no_less : (n g k : ℕ) (p q : ℕ → ℕ → Bool) → g < n → k < 64 → ((h : ℕ) → Passes (p h) (q h)) → lacking_all n p ≤ lacking_all n q → q g k ≡ true → p g k ≡ true
+all_lack_no_less : (n g k : ℕ) (p q : ℕ → ℕ → Bool) → g < n → k < 64 → ((h : ℕ) → Passes (p h) (q h)) → count_of_all_lacking n p ≤ count_of_all_lacking n q → q g k ≡ true → p g k ≡ true
 all_lack_no_less n g k p q there small goes same has_it = at (p g k) refl
   where
     at : (b : Bool) → p g k ≡ b → p g k ≡ true
@@ -38,18 +38,18 @@ module _ (v w : View) (hosts : w.scope.hosts ≡ v.scope.hosts) (within : Within
       let wide = within (Registration g r) (there, parts.1) in
       both_true (nat_lt g w.scope.hosts) (w.registrations g r) (lt-ltb g w.scope.hosts wide.0) wide.1
 
-  registrations_less : lacking_all v.scope.hosts (has_registration w) ≤ lacking_all v.scope.hosts (has_registration v)
+  registrations_less : count_of_all_lacking v.scope.hosts (has_registration w) ≤ count_of_all_lacking v.scope.hosts (has_registration v)
   registrations_less = lacking_all_less v.scope.hosts (has_registration v) (has_registration w) has_more
 
-  reservations_less : lacking 64 w.reservations ≤ lacking 64 v.reservations
+  reservations_less : count_of_lacking 64 w.reservations ≤ count_of_lacking 64 v.reservations
   reservations_less = lacking_less 64 v.reservations w.reservations (λ x is. within (Reservation x) is)
 
-  attentions_less : lacking 64 w.pending ≤ lacking 64 v.pending
+  attentions_less : count_of_lacking 64 w.pending ≤ count_of_lacking 64 v.pending
   attentions_less = lacking_less 64 v.pending w.pending (λ q is. within (Attentions q) is)
 
-  lacks_by : lacks w ≡ lacking_all v.scope.hosts (has_registration w) + (lacking 64 w.reservations + lacking 64 w.pending)
+  lacks_by : lacks w ≡ count_of_all_lacking v.scope.hosts (has_registration w) + (count_of_lacking 64 w.reservations + count_of_lacking 64 w.pending)
   unfolding lacks
-  lacks_by = ap (λ n. lacking_all n (has_registration w) + (lacking 64 w.reservations + lacking 64 w.pending)) hosts
+  lacks_by = ap (λ n. count_of_all_lacking n (has_registration w) + (count_of_lacking 64 w.reservations + count_of_lacking 64 w.pending)) hosts
 
   -- what has all that another has lacks no more
   pub lacks_less : lacks w ≤ lacks v

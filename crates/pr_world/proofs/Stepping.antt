@@ -16,7 +16,7 @@ use Rattle.pr_world.specs.declared.turn.Turn.{Turn}
 use Rattle.pr_world.specs.declared.turn.Turn.TheVariants as turn
 use Rattle.pr_world.specs.Courses.{HappensBy, IsReached, StandsFor, schedule_of, participation_of}
 use Rattle.pr_world.specs.StepAnswers.{IfStopped, IfHeld, IsStopped, PassesOver}
-use Rattle.pr_world.specs.inside.Turns.{does, entry_in, sends, stops, is_done, passes, seen}
+use Rattle.pr_world.specs.inside.Turns.{does, entry_in, sends, stops, is_done, passes, doing_of}
 use Rattle.pr_world.specs.inside.Workings.{IsAtWork}
 use Rattle.pr_world.proofs.Keeping.{turn_has_room}
 use Rattle.pr_world.proofs.Meaning.{HasItsTask, has_its_task, means, stopped_is, stopped_rests, done_is, done_rests, passed_over}
@@ -45,16 +45,16 @@ never_trapped s c h safe at_work trapped =
 -- what is known of the turn that led from one course to the other
 pub record IsTurned (s : Scenario) (c : Course) (h : ℕ) (a : Act) (d : Course) : Type 0 where
   pub has : HasItsTask s (schedule_of c) h
-  pub does_so : seen a ≡ does s (schedule_of c) h
+  pub does_so : doing_of a ≡ does s (schedule_of c) h
   pub turn : IsTurn s (schedule_of c) h (schedule_of d)
   pub happens : HappensBy s h (entry_in a) (schedule_of c).world (schedule_of d).world
 
 pub is_turned : (p q : Parts) (c d : Course) (h : ℕ) (a : Act) → q ≡ p → IsAtWork (scenario_of p) c → h < length (scenario_of p).nexuses
-    → seen a ≡ does (scenario_of q) (schedule_of c) h → IsTurn (scenario_of q) (schedule_of c) h (schedule_of d)
+    → doing_of a ≡ does (scenario_of q) (schedule_of c) h → IsTurn (scenario_of q) (schedule_of c) h (schedule_of d)
     → HappensBy (scenario_of q) h (entry_in a) (schedule_of c).world (schedule_of d).world → IsTurned (scenario_of p) c h a d
 is_turned p q c d h a same at_work there does_so turn happens = record {
   has = its_task_at (scenario_of p) c h at_work there;
-  does_so = subst (λ r. seen a ≡ does (scenario_of r) (schedule_of c) h) same does_so;
+  does_so = subst (λ r. doing_of a ≡ does (scenario_of r) (schedule_of c) h) same does_so;
   turn = subst (λ r. IsTurn (scenario_of r) (schedule_of c) h (schedule_of d)) same turn;
   happens = subst (λ r. HappensBy (scenario_of r) h (entry_in a) (schedule_of c).world (schedule_of d).world) same happens;
 }
@@ -77,7 +77,7 @@ world_same s c h a d none turned = subst (λ o. HappensBy s h o (schedule_of c).
 pub said_stopped : (s : Scenario) (c d : Course) (h : ℕ) (a : Act) (r : Turn) (word : ArrayString) → IsTurned s c h a d → a ≡ act.Stopped word → r ≡ turn.Stopped word
     → IfStopped r (λ w. IsStopped s (schedule_of c) h w) × IfStopped r (λ w. schedule_of d ≡ schedule_of c)
 said_stopped s c d h a r word turned is said =
-    let host = means s (schedule_of c) h (stops word.bytes) turned.has (sym (ap seen is) ∙ turned.does_so) in
+    let host = means s (schedule_of c) h (stops word.bytes) turned.has (sym (ap doing_of is) ∙ turned.does_so) in
     let same = world_same s c h a d (ap entry_in is) turned in
     subst (λ r. IfStopped r (λ w. IsStopped s (schedule_of c) h w) × IfStopped r (λ w. schedule_of d ≡ schedule_of c)) (sym said)
     (stopped_is s (schedule_of c) h word.bytes host, stopped_rests s (schedule_of c) (schedule_of d) h (stopped word.bytes) host turned.turn same)
@@ -85,7 +85,7 @@ said_stopped s c d h a r word turned is said =
 pub said_done : (s : Scenario) (c d : Course) (h : ℕ) (a : Act) (r : Turn) (word : ArrayString) → IsTurned s c h a d → a ≡ act.Finished → r ≡ turn.Stopped word → word.bytes ≡ codes "end"
     → IfStopped r (λ w. IsStopped s (schedule_of c) h w) × IfStopped r (λ w. schedule_of d ≡ schedule_of c)
 said_done s c d h a r word turned is said named =
-    let guest = means s (schedule_of c) h is_done turned.has (sym (ap seen is) ∙ turned.does_so) in
+    let guest = means s (schedule_of c) h is_done turned.has (sym (ap doing_of is) ∙ turned.does_so) in
     let same = world_same s c h a d (ap entry_in is) turned in
     subst (λ r. IfStopped r (λ w. IsStopped s (schedule_of c) h w) × IfStopped r (λ w. schedule_of d ≡ schedule_of c)) (sym said)
     (subst (IsStopped s (schedule_of c) h) (sym named) (done_is s (schedule_of c) h guest), done_rests s (schedule_of c) (schedule_of d) h guest turned.turn same)
@@ -93,6 +93,6 @@ said_done s c d h a r word turned is said named =
 pub said_held : (s : Scenario) (c d : Course) (h : ℕ) (a : Act) (r : Turn) → IsTurned s c h a d → a ≡ act.Held → r ≡ turn.Held
     → IfHeld r (PassesOver s (schedule_of c) h (schedule_of d))
 said_held s c d h a r turned is said =
-    let guest = means s (schedule_of c) h passes turned.has (sym (ap seen is) ∙ turned.does_so) in
+    let guest = means s (schedule_of c) h passes turned.has (sym (ap doing_of is) ∙ turned.does_so) in
     let same = world_same s c h a d (ap entry_in is) turned in
     subst (λ r. IfHeld r (PassesOver s (schedule_of c) h (schedule_of d))) (sym said) (passed_over s (schedule_of c) (schedule_of d) h guest turned.turn same)

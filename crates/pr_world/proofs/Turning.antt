@@ -26,7 +26,7 @@ use Rattle.pr_world.proofs.Participations.{at_participation, control_at, has_tas
 use Rattle.pr_world.proofs.Happening.{happens_at_participation}
 use Rattle.pr_world.specs.declared.act.Act.{Act}
 use Rattle.pr_world.specs.declared.act.Act.TheVariants as act
-use Rattle.pr_world.specs.inside.Turns.{Acts, ActsAs, GuestActs, HostActs, SendsOr, Doing, sends as sending, seen, entry_in, does, does_as}
+use Rattle.pr_world.specs.inside.Turns.{Acts, ActsAs, GuestActs, HostActs, SendsOr, Doing, sends as sending, doing_of, entry_in, does, does_as}
 
 -- ---- hosts
 
@@ -198,7 +198,7 @@ pub entry_added : (es fs : List Entry) (x : Entry) (e : Option Entry) → fs ≡
 entry_added es fs x e added is = added ∙ ap (λ o. es ++ option_to_list o) is
 
 -- a turn that sends an entry is one that sends
-pub sends_entry : (a : Act) (e : Entry) → Some e ≡ entry_in a → seen a ≡ sending
+pub sends_entry : (a : Act) (e : Entry) → Some e ≡ entry_in a → doing_of a ≡ sending
 sends_entry (act.Sent x) e is = refl
 sends_entry (act.Stopped word) e is = let bad : Some e ≡ None = is in cc
 sends_entry act.Trapped e is = let bad : Some e ≡ None = is in cc

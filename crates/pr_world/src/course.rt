@@ -6,7 +6,7 @@ ghost use Rattle.pr_roles.specs.Scenarios.{scenario_of};
 ghost use Rattle.pr_roles.specs.Schedules.{Turn, plan};
 ghost use Rattle.pr_roles.specs.Worlds.{control, is_trapped, commands_by};
 ghost use Rattle.pr_world.specs.Courses.{participation_of, participation_from, schedule_of, HappensBy, IsReached, StandsFor};
-ghost use Rattle.pr_world.specs.inside.Turns.{seen as act_seen, sends, does, entry_in};
+ghost use Rattle.pr_world.specs.inside.Turns.{doing_of, sends, does, entry_in};
 ghost use Rattle.pr_world.specs.Ends.{ending_of, ending};
 ghost use Rattle.pr_world.specs.Replays.{IsEndOf};
 
@@ -53,7 +53,7 @@ impl Course {
             (map participation_of self.old.participants.items) }
         requires room { does (scenario_of scenario.now) (schedule_of self.old) host ≡ sends
             → vec_len self.old.entries < vec_capacity self.old.entries }
-        ensures does { act_seen result
+        ensures does { doing_of result
             ≡ does (scenario_of scenario.now) (schedule_of self.old) host }
         ensures trapped { result ≡ Act.Trapped
             → IsTrue (is_trapped (control (schedule_of self.old).world host)) }

@@ -6,7 +6,7 @@ ghost use Rattle.pr_world.specs.Courses.{participation_of, participation_from, I
 ghost use Rattle.pr_world.specs.Ends.{ending, ending_of};
 ghost use Rattle.pr_roles.specs.Worlds.{is_trapped};
 ghost use Rattle.pr_roles.specs.Schedules.{is_held_back};
-ghost use Rattle.pr_world.specs.inside.Turns.{Acts, entry_in, seen as act_seen, does_as};
+ghost use Rattle.pr_world.specs.inside.Turns.{Acts, entry_in, doing_of, does_as};
 
 use crate::act::Act;
 use crate::end::End;
@@ -45,7 +45,7 @@ impl Participant {
     /// Takes its turn, and answers what it did.
     pub(crate) fn act(&mut self, unit: &mut Unit, role: &Role, host: u8) -> Act
         requires { host < unit.old.registry.hosts }
-        ensures does { act_seen result ≡ does_as (participation_of self.old).control
+        ensures does { doing_of result ≡ does_as (participation_of self.old).control
             role.now.clauses.items unit.old host (participation_of self.old).plan }
         ensures acts { Acts role.now.clauses.items host
             (participation_of self.old) unit.old (entry_in result) (participation_of self.new) unit.new }

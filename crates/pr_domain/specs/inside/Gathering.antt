@@ -73,8 +73,8 @@ IsLeftTo view place senders region p =
     (g r : ℕ) → g < place.hosts → has_at p.registrations g r ≡ (has_at view.registrations g r && passes place senders region g r)
 
 -- where all registrants hold and the sender is none, another one must be registered
-abbrev pub tested : Place → Word → Option Word → Option Word → Type 0
-tested place senders None None = (is_held_by_all place.held && has senders 0) ≡ false
-tested place senders None (Some w) = ((is_held_by_all place.held && has senders 0) ≡ true) × ((r : ℕ) → 1 ≤ r → r ≤ MOST_KEYS → has w r ≡ true) × (has w 0 ≡ false)
-tested place senders (Some w) None = ⊥
-tested place senders (Some w) (Some x) = x ≡ w
+abbrev pub HasTest : Place → Word → Option Word → Option Word → Type 0
+HasTest place senders None None = (is_held_by_all place.held && has senders 0) ≡ false
+HasTest place senders None (Some w) = ((is_held_by_all place.held && has senders 0) ≡ true) × ((r : ℕ) → 1 ≤ r → r ≤ MOST_KEYS → has w r ≡ true) × (has w 0 ≡ false)
+HasTest place senders (Some w) None = ⊥
+HasTest place senders (Some w) (Some x) = x ≡ w

@@ -16,12 +16,12 @@ abbrev pub first : ℕ → Word → ℕ → Bool
 first bound w n = nat_lt n bound && has w n
 
 -- the registration of another once those are removed
-abbrev pub left : Word → ℕ → ℕ
-left removed r = if has removed r then 0 else r
+abbrev pub registration_left : Word → ℕ → ℕ
+registration_left removed r = if has removed r then 0 else r
 
 -- what becomes of g's registration by a change of this sender
 abbrev pub becomes : ℕ → Change → ℕ → ℕ → ℕ
-becomes sender c g r = if g == sender then unwrap_or c.sender r else left c.removed r
+becomes sender c g r = if g == sender then unwrap_or c.sender r else registration_left c.removed r
 
 -- of the sets of attentions, what they are with each of the first marks
 pub record AreMarked (bound : ℕ) (marks pending told : Word) : Type 0 where

@@ -43,17 +43,17 @@ has_part p (Registration g r) = has_at p.registrations g r
 has_part p (Reservation x) = has p.reservations x
 has_part p (Attentions q) = false
 
-abbrev pub tallied : Tally → ℕ → Item → Bool
-tallied t way i = option_map_or (λ p. has_part p i) (slice_get t.ways way) false
+abbrev pub has_tallied : Tally → ℕ → Item → Bool
+has_tallied t way i = option_map_or (λ p. has_part p i) (slice_get t.ways way) false
 
 -- the tally has nothing
 abbrev pub IsNothing : Tally → Type 0
-IsNothing t = (way : ℕ) (i : Item) → tallied t way i ≡ false
+IsNothing t = (way : ℕ) (i : Item) → has_tallied t way i ≡ false
 
 -- it has these registrations and reservations of the way
 pub record HasFound (t : Tally) (way hosts : ℕ) (found : Possibilities) : Type 0 where
-  pub registrations : (g r : ℕ) → g < hosts → has_at found.registrations g r ≡ true → tallied t way (Registration g r) ≡ true
-  pub reservations : (x : ℕ) → has found.reservations x ≡ true → tallied t way (Reservation x) ≡ true
+  pub registrations : (g r : ℕ) → g < hosts → has_at found.registrations g r ≡ true → has_tallied t way (Registration g r) ≡ true
+  pub reservations : (x : ℕ) → has found.reservations x ≡ true → has_tallied t way (Reservation x) ≡ true
 
 -- GOOD is told apart by the arm that takes the data, if one does
 abbrev pub arm_of : ℕ → Option ℕ
@@ -84,9 +84,9 @@ pub record IsFound (v : View) (c : Command) (tests : List Test) (Among : UnitSta
 
 -- the new tally has what the old one has, and what the shown states among these leave
 pub record Grows (v : View) (c : Command) (tests : List Test) (old new : Tally) (Among : UnitState → Type 0) : Type 0 where
-  pub kept : (way : ℕ) (i : Item) → tallied old way i ≡ true → tallied new way i ≡ true
-  pub all : (u : UnitState) (way : ℕ) (i : Item) → Shows v u → Among u → Leaves v.scope c tests way u i → tallied new way i ≡ true
-  pub only : (way : ℕ) (i : Item) (q : ℕ) → tallied new way i ≡ true → v.pending q ≡ true → (tallied old way i ≡ true) ⊎ IsFound v c tests Among way i q
+  pub kept : (way : ℕ) (i : Item) → has_tallied old way i ≡ true → has_tallied new way i ≡ true
+  pub all : (u : UnitState) (way : ℕ) (i : Item) → Shows v u → Among u → Leaves v.scope c tests way u i → has_tallied new way i ≡ true
+  pub only : (way : ℕ) (i : Item) (q : ℕ) → has_tallied new way i ≡ true → v.pending q ≡ true → (has_tallied old way i ≡ true) ⊎ IsFound v c tests Among way i q
 
 -- ---- one branch
 
@@ -102,8 +102,8 @@ pub record IsRight (s : Scope) (c : Command) (tests : List Test) (view : Possibi
 
 -- the tally of all states that the view shows
 pub record IsTally (v : View) (c : Command) (tests : List Test) (t : Tally) : Type 0 where
-  pub all : (u : UnitState) (way : ℕ) (i : Item) → Shows v u → Leaves v.scope c tests way u i → tallied t way i ≡ true
-  pub only : (way : ℕ) (i : Item) (q : ℕ) → tallied t way i ≡ true → v.pending q ≡ true → IsFound v c tests (λ u. Unit {0}) way i q
+  pub all : (u : UnitState) (way : ℕ) (i : Item) → Shows v u → Leaves v.scope c tests way u i → has_tallied t way i ≡ true
+  pub only : (way : ℕ) (i : Item) (q : ℕ) → has_tallied t way i ≡ true → v.pending q ≡ true → IsFound v c tests (λ u. Unit {0}) way i q
 
 -- ---- the branches of a sender, and its registrations
 

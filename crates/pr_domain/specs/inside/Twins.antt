@@ -8,7 +8,7 @@ use Rattle.pr_views.specs.declared.possibilities.Possibilities.{Possibilities}
 use Rattle.pr_views.specs.Possibilities.{Item, Registration, Reservation, Attentions, number_of}
 use Rattle.pr_domain.specs.declared.place.Place.{Place}
 use Rattle.pr_domain.specs.declared.tally.Tally.{Tally}
-use Rattle.pr_domain.specs.inside.Tallies.{tallied}
+use Rattle.pr_domain.specs.inside.Tallies.{has_tallied}
 
 -- the same host holds both alone, or all registrants hold both
 abbrev pub AreTwins : Option Held → Option Held → Type 0
@@ -30,7 +30,7 @@ pub record IsTwin (view : Possibilities) (place : Place) (x : ℕ) : Type 0 wher
   pub same : AreTwins twin place.held
 
 -- what a tally has of a way once y is added where x is
-abbrev pub twinned : Tally → ℕ → ℕ → ℕ → Item → Bool
-twinned t x y way (Registration g r) = tallied t way (Registration g r)
-twinned t x y way (Reservation z) = tallied t way (Reservation z) || (z == y && tallied t way (Reservation x))
-twinned t x y way (Attentions q) = tallied t way (Attentions q)
+abbrev pub has_with_twin : Tally → ℕ → ℕ → ℕ → Item → Bool
+has_with_twin t x y way (Registration g r) = has_tallied t way (Registration g r)
+has_with_twin t x y way (Reservation z) = has_tallied t way (Reservation z) || (z == y && has_tallied t way (Reservation x))
+has_with_twin t x y way (Attentions q) = has_tallied t way (Attentions q)

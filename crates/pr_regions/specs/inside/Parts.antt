@@ -33,12 +33,12 @@ any r = true
 abbrev pub never : ℕ → Bool
 never r = false
 
-abbrev pub registered : ℕ → Bool
-registered r = not (r == 0)
+abbrev pub is_of_registrant : ℕ → Bool
+is_of_registrant r = not (r == 0)
 
 -- the registrants, if this holds
 abbrev pub told_if : Bool → ℕ → Bool
-told_if b r = b && registered r
+told_if b r = b && is_of_registrant r
 
 -- each but this one
 abbrev pub but : ℕ → ℕ → Bool

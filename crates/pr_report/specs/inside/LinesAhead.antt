@@ -6,12 +6,12 @@ use Rattle.pr_report.specs.declared.ahead.TheConstants.{MOST_LINE_BYTES}
 use Rattle.pr_report.specs.declared.ahead.Ahead.{Ahead}
 use Rattle.pr_report.specs.TraceReadings.{lines}
 
-abbrev pub held : Ahead → List ℕ
-held a = drop a.start a.bytes.items
+abbrev pub bytes_held : Ahead → List ℕ
+bytes_held a = drop a.start a.bytes.items
 
 -- what is left, of which some was read
-abbrev pub left : Ahead → Option (List ℕ) → Option (List ℕ)
-left a known = prepend_known (held a) known
+abbrev pub bytes_left : Ahead → Option (List ℕ) → Option (List ℕ)
+bytes_left a known = prepend_known (bytes_held a) known
 
 -- The reader has lost some bytes. They are at hand, as those of before are, but for so many at most.
 pub record Takes (dropped : ℕ) (old new : Option (List ℕ)) (before after : ℕ) : Type 0 where

@@ -10,5 +10,5 @@ words_left None = []
 words_left (Some rest) = words rest.now
 
 -- in their order
-abbrev pub listed : EntryWords → List (List ℕ)
-listed w = w.index.now ∷ w.name.now ∷ w.cdb.now ∷ w.params.now ∷ w.status.now ∷ w.sense.now ∷ w.bytes.now ∷ []
+abbrev pub list_of_words : EntryWords → List (List ℕ)
+list_of_words w = w.index.now ∷ w.name.now ∷ w.cdb.now ∷ w.params.now ∷ w.status.now ∷ w.sense.now ∷ w.bytes.now ∷ []

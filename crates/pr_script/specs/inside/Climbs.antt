@@ -2,6 +2,6 @@
 use Rattle.std.specs.Prelude.{ℕ, nat_lt, if◌then◌else◌, List, [], ◌∷◌, Option, Some, None}
 
 -- the last of them, or n where there is none, if each is above the one before it and the first above n
-abbrev pub climbed : ℕ → List ℕ → Option ℕ
-climbed n [] = Some n
-climbed n (next ∷ rest) = if nat_lt n next then climbed next rest else None
+abbrev pub last_of_climb : ℕ → List ℕ → Option ℕ
+last_of_climb n [] = Some n
+last_of_climb n (next ∷ rest) = if nat_lt n next then last_of_climb next rest else None

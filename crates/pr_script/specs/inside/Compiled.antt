@@ -4,7 +4,7 @@ use Rattle.pr_script.specs.declared.rows.Instruction.{Instruction}
 use Rattle.pr_script.specs.declared.rows.Step.{Step}
 use Rattle.pr_script.specs.declared.rows.ArmTarget.{ArmTarget}
 use Rattle.pr_script.specs.Scripts.{Stmt, Stmts, Arms}
-use Rattle.pr_script.specs.inside.Program.{joined, place, arms_at, step_at, meanings, AreJumps, IsStep, IsTable}
+use Rattle.pr_script.specs.inside.Program.{concatenation, place, arms_at, step_at, meanings, AreJumps, IsStep, IsTable}
 
 -- A longer table, in which what was to do from each place on still is.
 pub record Grows (old new : List Instruction) : Type 0 where
@@ -16,7 +16,7 @@ pub record Grows (old new : List Instruction) : Type 0 where
 pub record IsCompiled (old new : List Instruction) (b : Stmts) (next first : ℕ) : Type 0 where
   pub grows : Grows old new
   pub within : first ≤ length new
-  pub meaning : place (meanings new) first ≡ joined b (place (meanings old) next)
+  pub meaning : place (meanings new) first ≡ concatenation b (place (meanings old) next)
 
 -- The step does the statement, where what is to do from the place next on follows it.
 pub record IsStepCompiled (old new : List Instruction) (s : Stmt) (next : ℕ) (step : Step) : Type 0 where

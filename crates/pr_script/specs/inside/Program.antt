@@ -11,22 +11,22 @@ use Rattle.pr_script.specs.Depths.{depth_of}
 
 -- ---- parts of a list of statements
 
-abbrev pub joined : Stmts → Stmts → Stmts
-joined none end = end
-joined (more s b) end = more s (joined b end)
+abbrev pub concatenation : Stmts → Stmts → Stmts
+concatenation none end = end
+concatenation (more s b) end = more s (concatenation b end)
 
 abbrev pub size : Stmts → ℕ
 size none = 0
 size (more s b) = 1 + size b
 
-abbrev pub front : ℕ → Stmts → Stmts
-front zero b = none
-front (suc n) none = none
-front (suc n) (more s b) = more s (front n b)
+abbrev pub first_statements : ℕ → Stmts → Stmts
+first_statements zero b = none
+first_statements (suc n) none = none
+first_statements (suc n) (more s b) = more s (first_statements n b)
 
 -- the statements of the whole that stand before this end
 abbrev pub without_end : Stmts → Stmts → Stmts
-without_end whole end = front (size whole - size end) whole
+without_end whole end = first_statements (size whole - size end) whole
 
 -- ---- the statements from each place on
 
@@ -59,7 +59,7 @@ meanings rows = fold with_row (none ∷ []) rows
 abbrev pub AreJumps : List Stmts → ℕ → ℕ → List ArmTarget → Type 0
 AreJumps ms top next [] = Unit {0}
 AreJumps ms top next (j ∷ js) =
-    (j.place ≤ top) × (joined (without_end (place ms j.place) (place ms next)) (place ms next) ≡ place ms j.place) × AreJumps ms top next js
+    (j.place ≤ top) × (concatenation (without_end (place ms j.place) (place ms next)) (place ms next) ≡ place ms j.place) × AreJumps ms top next js
 
 abbrev pub IsStep : List Stmts → ℕ → ℕ → Step → Type 0
 IsStep ms top next (Send line command arms) = AreJumps ms top next arms.items
@@ -82,11 +82,11 @@ pub record IsTable (rows : List Instruction) : Type 0 where
 abbrev pub opened_by : List Stmts → Configuration → LoopFrame → Configuration
 opened_by ms l o = mark ∷ statement (repeats o.left (place ms o.body)) ∷ before (place ms o.next) l
 
-abbrev pub opened : List Stmts → List LoopFrame → Configuration
-opened ms opens = fold (opened_by ms) [] opens
+abbrev pub open_configuration : List Stmts → List LoopFrame → Configuration
+open_configuration ms opens = fold (opened_by ms) [] opens
 
 abbrev pub configuration : List Stmts → ℕ → List LoopFrame → Configuration
-configuration ms at opens = before (place ms at) (opened ms opens)
+configuration ms at opens = before (place ms at) (open_configuration ms opens)
 
 -- how many repeats are open
 abbrev pub open_count : Configuration → ℕ

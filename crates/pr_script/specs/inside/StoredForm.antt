@@ -22,20 +22,20 @@ pub data Part : Type 0 where
   the_stmts : Stmts → Part
   the_arms : Arms → Part
 
-abbrev pub made : Token → List Part → List Part
-made (make_sends n c) ((the_arms a) ∷ ps) = a_stmt (sends n c a) ∷ ps
-made (make_repeats n) ((the_stmts b) ∷ ps) = a_stmt (repeats n b) ∷ ps
-made make_breaks ps = a_stmt breaks ∷ ps
-made (make_stops w) ps = a_stmt (stops w) ∷ ps
-made make_none ps = the_stmts none ∷ ps
-made make_more ((the_stmts ss) ∷ (a_stmt s) ∷ ps) = the_stmts (more s ss) ∷ ps
-made make_no_arm ps = the_arms no_arm ∷ ps
-made (make_arm t) ((the_arms a) ∷ (the_stmts b) ∷ ps) = the_arms (arm t b a) ∷ ps
-made _ ps = ps
+abbrev pub parts_with : Token → List Part → List Part
+parts_with (make_sends n c) ((the_arms a) ∷ ps) = a_stmt (sends n c a) ∷ ps
+parts_with (make_repeats n) ((the_stmts b) ∷ ps) = a_stmt (repeats n b) ∷ ps
+parts_with make_breaks ps = a_stmt breaks ∷ ps
+parts_with (make_stops w) ps = a_stmt (stops w) ∷ ps
+parts_with make_none ps = the_stmts none ∷ ps
+parts_with make_more ((the_stmts ss) ∷ (a_stmt s) ∷ ps) = the_stmts (more s ss) ∷ ps
+parts_with make_no_arm ps = the_arms no_arm ∷ ps
+parts_with (make_arm t) ((the_arms a) ∷ (the_stmts b) ∷ ps) = the_arms (arm t b a) ∷ ps
+parts_with _ ps = ps
 
 abbrev pub made_of_all : List Token → List Part → List Part
 made_of_all [] ps = ps
-made_of_all (t ∷ ts) ps = made_of_all ts (made t ps)
+made_of_all (t ∷ ts) ps = made_of_all ts (parts_with t ps)
 
 -- the tokens of a part, before those that follow
 abbrev mutual

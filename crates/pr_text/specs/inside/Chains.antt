@@ -23,7 +23,7 @@ use Rattle.pr_text.specs.Faults.{and_then, unless}
 use Rattle.pr_lines.specs.ScenarioLines.{StartReservation, ScenarioLine, fence_line, keys_line, nexus_line, start_line, pending_line, reservation_line, generation_line, role_line, script_line, plan_line, end_line, command_line, DeclaringLine, StatementLine, declares, states}
 use Rattle.pr_text.specs.LineFaults.{first_fault, statement_fault, command_fault}
 use Rattle.pr_text.specs.NextLine.{with_task, begun_script, with_statement_line}
-use Rattle.pr_text.specs.ScriptRoundTrip.{said_by, numbered}
+use Rattle.pr_text.specs.ScriptRoundTrip.{said_by, number_of_line}
 use Rattle.pr_text.specs.ScriptLines.{ScriptLine}
 
 -- no two attentions have one code
@@ -203,4 +203,4 @@ item_taken n item d = placed_at n d.place item d
 -- what the lines make of an open script, one after another, under these declared keys
 abbrev pub all_stepped : ℕ → List ℕ → List ScriptLine → OpenLines → Result OpenLines ReadError
 all_stepped n keys [] o = Ok o
-all_stepped n keys (l ∷ ls) o = and_then (script_step (numbered n l) keys (said_by l) o) (all_stepped n keys ls)
+all_stepped n keys (l ∷ ls) o = and_then (script_step (number_of_line n l) keys (said_by l) o) (all_stepped n keys ls)

@@ -17,8 +17,8 @@ missing_at n d outside = whole_fault n d.nexuses
 missing_at n d (in_script o) = Some (fault.Unclosed n)
 missing_at n d (in_plan h commands) = Some (fault.Unclosed n)
 
-abbrev pub missing : ℕ → Declared → Option ReadError
-missing n d = missing_at n d d.place
+abbrev pub missing_fault : ℕ → Declared → Option ReadError
+missing_fault n d = missing_at n d d.place
 
-abbrev pub started : Declared → Result Declared ReadError
-started d = if starts_somewhere d then Ok d else Err fault.EmptyStart
+abbrev pub start_result : Declared → Result Declared ReadError
+start_result d = if starts_somewhere d then Ok d else Err fault.EmptyStart

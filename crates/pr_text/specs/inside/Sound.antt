@@ -62,8 +62,8 @@ abbrev pub may_all : List ℕ → Reached → List ScriptLine → Bool
 may_all keys s [] = true
 may_all keys s (l ∷ ls) = may keys s l && may_all keys (next s l) ls
 
-abbrev pub reached : Reached → List ScriptLine → Reached
-reached s ls = fold next s ls
+abbrev pub reach_after : Reached → List ScriptLine → Reached
+reach_after s ls = fold next s ls
 
 abbrev pub is_statement : ScriptLine → Bool
 is_statement (send_at n c) = true
@@ -92,7 +92,7 @@ pub record AreWhole (keys : List ℕ) (ls : List ScriptLine) : Type 0 where
 -- the lines of an open script, behind which this many lines of the text were read
 pub record AreBegun (keys : List ℕ) (n : ℕ) (o : OpenLines) : Type 0 where
   pub standing : may_all keys at_first o.lines ≡ true
-  pub reaching : reached at_first o.lines ≡ record { blocks = o.blocks; begun = o.begun }
+  pub reaching : reach_after at_first o.lines ≡ record { blocks = o.blocks; begun = o.begun }
   pub counted : o.statements ≡ count_by is_statement o.lines
   pub short : nat_le o.statements MOST_STATEMENTS ≡ true
   pub rising : rise_above 0 (sends_in o.lines) ≡ true

@@ -23,12 +23,12 @@ pub data Doing : Type 0 where
   is_done : Doing
   passes : Doing
 
-abbrev pub seen : Act → Doing
-seen (act.Sent e) = sends
-seen (act.Stopped word) = stops word.bytes
-seen act.Trapped = is_trapped
-seen act.Finished = is_done
-seen act.Held = passes
+abbrev pub doing_of : Act → Doing
+doing_of (act.Sent e) = sends
+doing_of (act.Stopped word) = stops word.bytes
+doing_of act.Trapped = is_trapped
+doing_of act.Finished = is_done
+doing_of act.Held = passes
 
 -- of a script that stands so
 abbrev pub host_does : Option Standing → Doing

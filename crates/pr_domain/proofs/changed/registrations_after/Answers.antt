@@ -8,7 +8,7 @@ use Rattle.pr_sets.specs.Words.{has}
 use Rattle.pr_regions.specs.declared.region.Change.{Change}
 use Rattle.pr_views.specs.Portions.{has_at}
 use Rattle.pr_views.proofs.Places.{holds_at-get_or, holds_at_past}
-use Rattle.pr_domain.specs.inside.Images.{IsImage, left, becomes}
+use Rattle.pr_domain.specs.inside.Images.{IsImage, registration_left, becomes}
 use Rattle.pr_domain.proofs.Images.{images_more}
 use Rattle.pr_domain.proofs.changed.registrations_after.Goals.{then-host-from, else-host-from}
 use Rattle.pr_domain.proofs.changed.registrations_after.Goals as goal
@@ -28,7 +28,7 @@ same_image p q f g same image = record {
 becomes_sent : (from g r : ℕ) (c : Change) → g ≡ from → unwrap_or c.sender r ≡ becomes from c g r
 becomes_sent from g r c is = let same : (g == from) ≡ true = grind (arith, nat_tests) in rw same refl
 
-becomes_left : (from g r : ℕ) (c : Change) → g ≢ from → left c.removed r ≡ becomes from c g r
+becomes_left : (from g r : ℕ) (c : Change) → g ≢ from → registration_left c.removed r ≡ becomes from c g r
 becomes_left from g r c is = let other : (g == from) ≡ false = grind (arith, nat_tests) in rw other refl
 
 pub loop-host-preserved : goal.loop-host-preserved
@@ -41,8 +41,8 @@ loop-host-preserved c =
           (same_image _ _ (λ r. unwrap_or c.args.change.now.sender r) (becomes c.from-from.result c.args.change.now c.loop-host.host) (λ r. becomes_sent c.from-from.result c.loop-host.host r c.args.change.now w.if-host-from.true)
           (image_at words c.loop-host.host w.given.result nobody (λ r. unwrap_or c.args.change.now.sender r) there w.given.ensures))
       | else-host-from w ↦ subst (λ x. IsImage (has_at words c.loop-host.host) (becomes c.from-from.result c.args.change.now c.loop-host.host) (has x)) (sym w.after-is)
-          (same_image _ _ (left c.args.change.now.removed) (becomes c.from-from.result c.args.change.now c.loop-host.host) (λ r. becomes_left c.from-from.result c.loop-host.host r c.args.change.now w.if-host-from.false)
-          (image_at words c.loop-host.host w.stripped.result nobody (left c.args.change.now.removed) there w.stripped.ensures))
+          (same_image _ _ (registration_left c.args.change.now.removed) (becomes c.from-from.result c.args.change.now c.loop-host.host) (λ r. becomes_left c.from-from.result c.loop-host.host r c.args.change.now w.if-host-from.false)
+          (image_at words c.loop-host.host w.stripped.result nobody (registration_left c.args.change.now.removed) there w.stripped.ensures))
     ] in
     record {
       done = images_more words c.loop-host.after c.loop-host.host c.if-host-from.after (becomes c.from-from.result c.args.change.now) (omega arith) image c.loop-host.invariant.done;

@@ -2,7 +2,7 @@ use Rattle.std.proofs.Common.{◌≡◌, ◌+◌, ◌*◌, ◌≤◌, false, Ok,
 use Rattle.std.proofs.lemmas.Result.{err_from_is_err_and}
 use Rattle.pr_report.specs.TraceText.{names_of}
 use Rattle.pr_report.specs.TraceReadings.{entry_on, is_later}
-use Rattle.pr_report.specs.inside.LinesAhead.{held}
+use Rattle.pr_report.specs.inside.LinesAhead.{bytes_held}
 use Rattle.pr_report.proofs.FrontLines.{entries_end, entries_fault, entries_fewer, entries_more, entries_stop, entry_few, entry_short, one_longer}
 use Rattle.pr_report.proofs.Taking.{takes_both, takes_drop}
 use Rattle.pr_report.proofs.trace_reading.read_entries.Given.{Over}
@@ -10,13 +10,13 @@ use Rattle.pr_report.proofs.trace_reading.read_entries.Goals as goal
 use Rattle.pr_report.proofs.trace_reading.read_entries.Goals.{in-Some+then-is_later, in_default}
 
 -- the line in front is that of the next entry
-good : (g : Over) (c : goal.After-drop_line g) → entry_on (names_of c.args.nexuses.now) (length c.loop-entries.entries.items + 1) (take c.in-Some.end (held c.next_line.new.self)) ≡ Ok c.in_ok-entry.entry
+good : (g : Over) (c : goal.After-drop_line g) → entry_on (names_of c.args.nexuses.now) (length c.loop-entries.entries.items + 1) (take c.in-Some.end (bytes_held c.next_line.new.self)) ≡ Ok c.in_ok-entry.entry
 good g c = sym (rw (c.len.ensures, c.loop-entries.entries.ok.0, c.as_slice.ensures) at c.in_ok-entry.ensures)
 
 pub returns-in_err-entry-clause-fault : goal.returns-in_err-entry-clause-fault
 returns-in_err-entry-clause-fault g c =
     let found = rw c.in-Some.is at c.in_ok-end.ensures.found in
-    let entry : is_later (take c.in-Some.end (held c.next_line.new.self)) ≡ false = rw c.as_slice.ensures at (sym c.is_later.ensures ∙ c.if-is_later.false) in
+    let entry : is_later (take c.in-Some.end (bytes_held c.next_line.new.self)) ≡ false = rw c.as_slice.ensures at (sym c.is_later.ensures ∙ c.if-is_later.false) in
     let p = err_from_is_err_and c.from_residual-in_err-entry.result c.from_residual-in_err-entry.ensures.1 in
     let bad = sym (rw (c.len.ensures, c.loop-entries.entries.ok.0, c.as_slice.ensures) at c.in_err-entry.ensures) in
     rw (p.1, p.2) (entries_fault (names_of c.args.nexuses.now) c.loop-entries.entries.items c.loop-entries.invariant.0 found c.in_err-entry.field-0.0 entry bad)
@@ -27,13 +27,13 @@ loop-entries-smaller g c = entries_fewer (length c.loop-entries.entries.items) (
 pub loop-entries-preserved : goal.loop-entries-preserved
 loop-entries-preserved g c =
     let found = rw c.in-Some.is at c.in_ok-end.ensures.found in
-    let entry : is_later (take c.in-Some.end (held c.next_line.new.self)) ≡ false = rw c.as_slice.ensures at (sym c.is_later.ensures ∙ c.if-is_later.false) in
+    let entry : is_later (take c.in-Some.end (bytes_held c.next_line.new.self)) ≡ false = rw c.as_slice.ensures at (sym c.is_later.ensures ∙ c.if-is_later.false) in
     let longer = one_longer _ _ _ c.in_ok-push.ensures.items in
     let taken = takes_both (1025 * length c.loop-entries.entries.items) c.loop-entries.invariant.2 c.in_ok-end.ensures.taken (omega arith) in
-    let short : c.in-Some.end ≤ 1024 = omega (arith, entry_short _ _ _ _ (good g c), length-take c.in-Some.end (held c.next_line.new.self), found.within) in (
+    let short : c.in-Some.end ≤ 1024 = omega (arith, entry_short _ _ _ _ (good g c), length-take c.in-Some.end (bytes_held c.next_line.new.self), found.within) in (
       entries_more (names_of c.args.nexuses.now) c.loop-entries.entries.items c.loop-entries.invariant.0 found c.in_ok-entry.entry entry (good g c) c.drop_line.ensures c.in_ok-push.ensures.items,
       subst (λ n. n ≤ 32768) (sym longer) (entry_few _ _ _ _ (good g c)),
-      takes_drop (held c.next_line.new.self) (held c.drop_line.new.self) (1025 * length c.push.new.self.items) (c.in-Some.end + 1) taken c.drop_line.ensures (omega (arith, longer, short)),
+      takes_drop (bytes_held c.next_line.new.self) (bytes_held c.drop_line.new.self) (1025 * length c.push.new.self.items) (c.in-Some.end + 1) taken c.drop_line.ensures (omega (arith, longer, short)),
     )
 
 pub returns-in_err-end-clause-taken : goal.returns-in_err-end-clause-taken

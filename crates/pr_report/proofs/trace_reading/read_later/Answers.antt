@@ -1,6 +1,6 @@
 use Rattle.std.proofs.Common.{◌+◌, ◌*◌, arith}
 use Rattle.std.proofs.lemmas.Grind.{common_steps}
-use Rattle.pr_report.specs.inside.LinesAhead.{held}
+use Rattle.pr_report.specs.inside.LinesAhead.{bytes_held}
 use Rattle.pr_report.proofs.FrontLines.{later_done}
 use Rattle.pr_report.proofs.Taking.{takes_both, takes_drop}
 use Rattle.pr_report.proofs.trace_reading.read_later.Goals as goal
@@ -22,7 +22,7 @@ loop-end-preserved g c =
     let taken = takes_both (1025 * c.loop-end.others) c.loop-end.invariant.2 c.in_ok-end.ensures.taken (omega arith) in (
       grind (arith, common_steps),
       omega arith,
-      takes_drop (held c.next_line.new.self) (held c.drop_line.new.self) (1025 * (c.loop-end.others + 1)) (c.in-Some.end + 1) taken c.drop_line.ensures (omega arith),
+      takes_drop (bytes_held c.next_line.new.self) (bytes_held c.drop_line.new.self) (1025 * (c.loop-end.others + 1)) (c.in-Some.end + 1) taken c.drop_line.ensures (omega arith),
     )
 
 pub returns-clause-taken : goal.returns-clause-taken

@@ -1,14 +1,14 @@
 -- the lines that are left, behind those that were read
 use Rattle.std.proofs.Common.{◌≡◌, ◌≤◌, ◌-◌, ◌*◌, length}
 use Rattle.pr_report.specs.TraceReadings.{later_lines, lines}
-use Rattle.pr_report.specs.inside.LinesAhead.{Leads, Takes, held, left}
+use Rattle.pr_report.specs.inside.LinesAhead.{Leads, Takes, bytes_held, bytes_left}
 use Rattle.pr_report.proofs.trace_reading.read_later.Given as goal
 
 abbrev pub invariant-loop-end : goal.invariant-loop-end
 invariant-loop-end g l =
-    Leads (λ old new. later_lines l.entries 0 (lines old) ≡ later_lines l.entries l.others (lines new)) (left l.fn.ahead (g.R.Read.remaining l.fn.reader)) (left l.ahead (g.R.Read.remaining l.reader))
+    Leads (λ old new. later_lines l.entries 0 (lines old) ≡ later_lines l.entries l.others (lines new)) (bytes_left l.fn.ahead (g.R.Read.remaining l.fn.reader)) (bytes_left l.ahead (g.R.Read.remaining l.reader))
     × (l.others ≤ 64)
-    × Takes (1025 * l.others) (g.R.Read.remaining l.fn.reader) (g.R.Read.remaining l.reader) (length (held l.fn.ahead)) (length (held l.ahead))
+    × Takes (1025 * l.others) (g.R.Read.remaining l.fn.reader) (g.R.Read.remaining l.reader) (length (bytes_held l.fn.ahead)) (length (bytes_held l.ahead))
 
 abbrev pub decreases-loop-end : goal.decreases-loop-end
 decreases-loop-end g l = 64 - l.others

@@ -2,7 +2,7 @@
 use Rattle.std.proofs.Common.{◌+◌, ap, ◌∙◌, sym, arith}
 use Rattle.std.proofs.lemmas.Bool.{lt-ltb}
 use Rattle.pr_script.specs.Grammar.{lines_of, lines_of_all, lines_of_arms}
-use Rattle.pr_script.specs.inside.Climbs.{climbed}
+use Rattle.pr_script.specs.inside.Climbs.{last_of_climb}
 use Rattle.pr_script.specs.Trees.{statement_of, statements_in, arms_in, script_of}
 use Rattle.pr_script.proofs.Equations.{tree_send, tree_repeat}
 use Rattle.pr_script.proofs.Written.{then, lines_taken, arm_lines_taken, lines_fallen, arm_lines_fallen, climbed_above}
@@ -26,7 +26,7 @@ last_line-returns-in_err-last t c =
     ∙ (ap (λ o. then o (lines_of (statement_of c.statement-item.result))) c.loop-statement.invariant
     ∙ (sym c.last_statement_line.ensures ∙ c.in_err-last.was)) in
     let all = lines_fallen c.args.line c.deref-statement-items.result.now (c.loop-statement.statement-index + 1) fell in
-    c.from_residual.ensures ∙ (sym all ∙ ap (λ ys. climbed c.args.line (lines_of_all (statements_in ys))) c.deref-statement-items.ensures.value)
+    c.from_residual.ensures ∙ (sym all ∙ ap (λ ys. last_of_climb c.args.line (lines_of_all (statements_in ys))) c.deref-statement-items.ensures.value)
 
 pub last_arm_line-returns-in_err-last : goal.last_arm_line-returns-in_err-last
 last_arm_line-returns-in_err-last t c =
@@ -40,10 +40,10 @@ last_statement_line-returns-else-line-last t c =
     let is = ap statement_of c.in-Send.is ∙ tree_send c.in-Send.line c.in-Send.command c.in-Send.arms in
     let lines = lines_of_arms (arms_in c.in-Send.arms.items) in
     c.last_arm_line.ensures
-    ∙ (ap (λ arms. climbed c.in-Send.line (lines_of_arms (arms_in arms))) c.deref.ensures.value
-    ∙ sym (ap (λ s. climbed c.args.last (lines_of s)) is ∙ climbed_above c.args.last c.in-Send.line lines (lt-ltb _ _ (omega (arith, c.if-line-last.false)))))
+    ∙ (ap (λ arms. last_of_climb c.in-Send.line (lines_of_arms (arms_in arms))) c.deref.ensures.value
+    ∙ sym (ap (λ s. last_of_climb c.args.last (lines_of s)) is ∙ climbed_above c.args.last c.in-Send.line lines (lt-ltb _ _ (omega (arith, c.if-line-last.false)))))
 
 pub last_statement_line-returns-in-Repeat : goal.last_statement_line-returns-in-Repeat
 last_statement_line-returns-in-Repeat t c =
     let is = ap statement_of c.in-Repeat.is ∙ tree_repeat c.in-Repeat.count c.in-Repeat.body in
-    c.last_line.ensures ∙ sym (ap (λ s. climbed c.args.last (lines_of s)) is)
+    c.last_line.ensures ∙ sym (ap (λ s. last_of_climb c.args.last (lines_of s)) is)

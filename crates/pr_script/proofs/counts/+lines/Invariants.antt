@@ -2,12 +2,12 @@
 use Rattle.std.proofs.Common.{◌≡◌, Some, take}
 use Rattle.pr_script.specs.Trees.{statements_in, arms_in}
 use Rattle.pr_script.specs.Grammar.{lines_of_all, lines_of_arms}
-use Rattle.pr_script.specs.inside.Climbs.{climbed}
+use Rattle.pr_script.specs.inside.Climbs.{last_of_climb}
 use Rattle.pr_script.proofs.counts.+lines.Given as goal
 
 abbrev pub invariant-last_line-loop-statement : goal.invariant-last_line-loop-statement
 invariant-last_line-loop-statement l =
-    climbed l.line (lines_of_all (statements_in (take l.statement-index l.statement-items))) ≡ Some l.last
+    last_of_climb l.line (lines_of_all (statements_in (take l.statement-index l.statement-items))) ≡ Some l.last
 
 abbrev pub invariant-last_arm_line-loop-arm : goal.invariant-last_arm_line-loop-arm
-invariant-last_arm_line-loop-arm l = climbed l.line (lines_of_arms (arms_in (take l.arm-index l.arms))) ≡ Some l.last
+invariant-last_arm_line-loop-arm l = last_of_climb l.line (lines_of_arms (arms_in (take l.arm-index l.arms))) ≡ Some l.last
