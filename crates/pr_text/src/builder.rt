@@ -330,7 +330,7 @@ impl Builder {
     {
         match item {
             ScenarioLine::Command(spelled) => {
-                let commands = planned(line, self.declared_keys(), commands, spelled)?;
+                let commands = with_command(line, self.declared_keys(), commands, spelled)?;
                 self.place = Place::InPlan(guest, commands);
                 Ok(self)
             }
@@ -408,7 +408,7 @@ impl Builder {
 
 // The commands with one more.
 #[tactic(auto, unfolding(crate::specs::inside::Chains::planned_step))]
-fn planned(
+fn with_command(
     line: u32,
     keys: &[u64],
     mut commands: Vec<Command>,
