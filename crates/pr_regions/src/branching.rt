@@ -7,7 +7,7 @@ ghost use Rattle.pr_regions.specs.declared.purpose.Standing.{Standing};
 ghost use Rattle.pr_regions.specs.inside.Parts.{any, Leaves, AlwaysEnds, Tell};
 
 use crate::region::{Branch, Ending, Region};
-use crate::words::anything;
+use crate::words::every_registration;
 use arrayvec::ArrayVec;
 
 impl Region {
@@ -16,8 +16,8 @@ impl Region {
         ensures { Leaves result any any None }
     {
         Region {
-            holder: anything(),
-            others: anything(),
+            holder: every_registration(),
+            others: every_registration(),
             somebody: None,
         }
     }
@@ -60,7 +60,7 @@ pub(crate) fn three(first: Branch, second: Branch, third: Branch) -> ArrayVec<Br
 }
 
 // The same ending in all states.
-pub(crate) fn alone(ending: Ending) -> ArrayVec<Branch, 3>
+pub(crate) fn ending_everywhere(ending: Ending) -> ArrayVec<Branch, 3>
     ensures { (hosts : ℕ) (purpose : Purpose) (held : Option Held) (sender : ℕ) (standing : Standing) →
         AlwaysEnds hosts purpose held sender standing ending → Tell hosts purpose held sender standing result.items }
 {

@@ -8,15 +8,15 @@ ghost use Rattle.pr_regions.specs.Purposes.{HasNumber};
 ghost use Rattle.pr_regions.specs.Regions.{AreBranches, IsProper, HasRoom};
 ghost use Rattle.pr_regions.specs.inside.Parts.{Tell};
 
-use crate::branching::alone;
+use crate::branching::ending_everywhere;
 use crate::endings::{
-    clearing, keeps_from_reading, keeps_from_writing, looking, moving, preempting_all, registering,
-    releasing, reserving,
+    clear_ending, keeps_from_reading, keeps_from_writing, look_ending, preempt_all_ending,
+    register_ending, release_ending, reserve_ending, transfer_ending,
 };
-use crate::preempting::preempting;
+use crate::preempting::preempt_branches;
 use crate::purpose::{Purpose, Standing};
 use crate::region::Branch;
-use crate::unregistering::unregistering;
+use crate::unregistering::unregister_branches;
 use arrayvec::ArrayVec;
 use pr_registry::Held;
 
@@ -37,10 +37,10 @@ pub fn branches(
     ensures proper { All IsProper result.items }
     ensures fits { All (λ b. HasRoom hosts b.ending) result.items }
 {
-    told(hosts, purpose, held, sender, standing)
+    branches_for(hosts, purpose, held, sender, standing)
 }
 
-fn told(
+fn branches_for(
     hosts: u8,
     purpose: Purpose,
     held: Option<Held>,
@@ -54,21 +54,27 @@ fn told(
     ensures { Tell hosts purpose held sender standing result.items }
 {
     match purpose {
-        Purpose::Look => alone(looking(hosts, held)),
+        Purpose::Look => ending_everywhere(look_ending(hosts, held)),
         Purpose::Read(in_range) => {
             let is_kept = keeps_from_reading(held, sender, standing);
-            alone(moving(hosts, is_kept, in_range, held))
+            ending_everywhere(transfer_ending(hosts, is_kept, in_range, held))
         }
         Purpose::Write(in_range) => {
             let is_kept = keeps_from_writing(held, sender, standing);
-            alone(moving(hosts, is_kept, in_range, held))
+            ending_everywhere(transfer_ending(hosts, is_kept, in_range, held))
         }
-        Purpose::Register(key) => alone(registering(hosts, key, held)),
-        Purpose::Unregister => unregistering(hosts, held, sender, standing),
-        Purpose::Reserve(kind) => alone(reserving(hosts, kind, held, sender, standing)),
-        Purpose::Release(kind) => alone(releasing(hosts, kind, held, sender, standing)),
-        Purpose::Clear => alone(clearing()),
-        Purpose::PreemptAll(kind) => alone(preempting_all(hosts, kind, held, sender)),
-        Purpose::Preempt(key, kind) => preempting(hosts, key, kind, held, sender, standing),
+        Purpose::Register(key) => ending_everywhere(register_ending(hosts, key, held)),
+        Purpose::Unregister => unregister_branches(hosts, held, sender, standing),
+        Purpose::Reserve(kind) => ending_everywhere(reserve_ending(
+            hosts, kind, held, sender, standing,
+        )),
+        Purpose::Release(kind) => ending_everywhere(release_ending(
+            hosts, kind, held, sender, standing,
+        )),
+        Purpose::Clear => ending_everywhere(clear_ending()),
+        Purpose::PreemptAll(kind) => ending_everywhere(preempt_all_ending(
+            hosts, kind, held, sender,
+        )),
+        Purpose::Preempt(key, kind) => preempt_branches(hosts, key, kind, held, sender, standing),
     }
 }

@@ -15,7 +15,7 @@ ghost use Rattle.pr_regions.specs.inside.Parts.{Does, AlwaysEnds, never, told_if
 use crate::numbers::{new_reservation, reservation_number};
 use crate::purpose::{Purpose, Standing};
 use crate::region::{Change, Ending};
-use crate::words::registered;
+use crate::words::every_key;
 use pr_cdb::codes::{
     ILLEGAL_REQUEST, INVALID_FIELD_IN_PARAMETER_LIST, INVALID_RELEASE_OF_PERSISTENT_RESERVATION,
     LOGICAL_BLOCK_ADDRESS_OUT_OF_RANGE,
@@ -77,7 +77,7 @@ fn holds(held: Held, sender: u8, standing: Standing) -> bool
 }
 
 // A change that leaves everything, and this reservation.
-pub(crate) fn leaving(reservation: u8) -> Change
+pub(crate) fn change_to_reservation(reservation: u8) -> Change
     ensures { Does result None never reservation never never never }
 {
     let none = Word::none();
@@ -92,22 +92,22 @@ pub(crate) fn leaving(reservation: u8) -> Change
 }
 
 // No change while this reservation stands.
-pub(crate) fn unchanged(hosts: u8, held: Option<Held>) -> Change
+pub(crate) fn no_change(hosts: u8, held: Option<Held>) -> Change
     requires few { hosts ≤ MOST_NEXUSES }
     requires fits { IsTrue (is_reservation hosts held) }
     ensures change { Does result None never (number_of hosts held) never never never }
     ensures room { HasRoom hosts (Ending.Good result) }
 {
-    leaving(reservation_number(hosts, held))
+    change_to_reservation(reservation_number(hosts, held))
 }
 
 /// To look.
-pub(crate) fn looking(hosts: u8, held: Option<Held>) -> Ending
+pub(crate) fn look_ending(hosts: u8, held: Option<Held>) -> Ending
     requires few { hosts ≤ MOST_NEXUSES }
     requires fits { IsTrue (is_reservation hosts held) }
     ensures { (sender : ℕ) (standing : Standing) → AlwaysEnds hosts Purpose.Look held sender standing result }
 {
-    Ending::Good(unchanged(hosts, held))
+    Ending::Good(no_change(hosts, held))
 }
 
 /// Whether the reservation keeps the sender from reading.
@@ -143,7 +143,12 @@ pub(crate) fn keeps_from_writing(held: Option<Held>, sender: u8, standing: Stand
 }
 
 /// To read or to write blocks, from which the reservation keeps the sender or not.
-pub(crate) fn moving(hosts: u8, is_kept: bool, in_range: bool, held: Option<Held>) -> Ending
+pub(crate) fn transfer_ending(
+    hosts: u8,
+    is_kept: bool,
+    in_range: bool,
+    held: Option<Held>,
+) -> Ending
     requires few { hosts ≤ MOST_NEXUSES }
     requires fits { IsTrue (is_reservation hosts held) }
     ensures reading { (sender : ℕ) (standing : Standing) → is_kept ≡ is_kept_from keeps_from_reading held sender standing → AlwaysEnds hosts (Purpose.Read in_range) held sender standing result }
@@ -152,14 +157,14 @@ pub(crate) fn moving(hosts: u8, is_kept: bool, in_range: bool, held: Option<Held
     if is_kept {
         Ending::Conflict
     } else if in_range {
-        Ending::Good(unchanged(hosts, held))
+        Ending::Good(no_change(hosts, held))
     } else {
         Ending::Fault(illegal(LOGICAL_BLOCK_ADDRESS_OUT_OF_RANGE, 0))
     }
 }
 
 /// To be registered with the key of this number.
-pub(crate) fn registering(hosts: u8, key: u8, held: Option<Held>) -> Ending
+pub(crate) fn register_ending(hosts: u8, key: u8, held: Option<Held>) -> Ending
     requires few { hosts ≤ MOST_NEXUSES }
     requires fits { IsTrue (is_reservation hosts held) }
     requires key { HasNumber (Purpose.Register key) }
@@ -167,12 +172,12 @@ pub(crate) fn registering(hosts: u8, key: u8, held: Option<Held>) -> Ending
 {
     Ending::Good(Change {
         sender: Some(key),
-        ..unchanged(hosts, held)
+        ..no_change(hosts, held)
     })
 }
 
 /// To establish a reservation of this type.
-pub(crate) fn reserving(
+pub(crate) fn reserve_ending(
     hosts: u8,
     kind: Kind,
     held: Option<Held>,
@@ -185,28 +190,28 @@ pub(crate) fn reserving(
     ensures { AlwaysEnds hosts (Purpose.Reserve kind) held sender standing result }
 {
     let Some(held) = held else {
-        return Ending::Good(unchanged(hosts, Some(new_reservation(kind, sender))));
+        return Ending::Good(no_change(hosts, Some(new_reservation(kind, sender))));
     };
     if holds(held, sender, standing) && is_kind(kind_of(held), kind) {
-        Ending::Good(unchanged(hosts, Some(held)))
+        Ending::Good(no_change(hosts, Some(held)))
     } else {
         Ending::Conflict
     }
 }
 
 // What ending a reservation of this type changes: registrants who lose their access are told.
-pub(crate) fn released(kind: Kind) -> Change
+pub(crate) fn release_change(kind: Kind) -> Change
     ensures { Does result None never 0 never (told_if (is_for_registrants kind)) never }
 {
-    let mut change = leaving(0);
+    let mut change = change_to_reservation(0);
     if is_for_registrants(kind) {
-        change.told_04 = registered();
+        change.told_04 = every_key();
     }
     change
 }
 
 /// To release a reservation of this type.
-pub(crate) fn releasing(
+pub(crate) fn release_ending(
     hosts: u8,
     kind: Kind,
     held: Option<Held>,
@@ -218,12 +223,12 @@ pub(crate) fn releasing(
     ensures { AlwaysEnds hosts (Purpose.Release kind) held sender standing result }
 {
     let Some(held) = held else {
-        return Ending::Good(unchanged(hosts, None));
+        return Ending::Good(no_change(hosts, None));
     };
     if !holds(held, sender, standing) {
-        Ending::Good(unchanged(hosts, Some(held)))
+        Ending::Good(no_change(hosts, Some(held)))
     } else if is_kind(kind_of(held), kind) {
-        Ending::Good(released(kind_of(held)))
+        Ending::Good(release_change(kind_of(held)))
     } else {
         Ending::Fault(illegal(
             INVALID_FIELD_IN_PARAMETER_LIST,
@@ -233,19 +238,19 @@ pub(crate) fn releasing(
 }
 
 /// To remove the reservation and every registration.
-pub(crate) fn clearing() -> Ending
+pub(crate) fn clear_ending() -> Ending
     ensures { (hosts : ℕ) (held : Option HeldOf) (sender : ℕ) (standing : Standing) → AlwaysEnds hosts Purpose.Clear held sender standing result }
 {
     Ending::Good(Change {
         sender: Some(0),
-        removed: registered(),
-        told_03: registered(),
-        ..leaving(0)
+        removed: every_key(),
+        told_03: every_key(),
+        ..change_to_reservation(0)
     })
 }
 
 /// To preempt all other registrations.
-pub(crate) fn preempting_all(hosts: u8, kind: Kind, held: Option<Held>, sender: u8) -> Ending
+pub(crate) fn preempt_all_ending(hosts: u8, kind: Kind, held: Option<Held>, sender: u8) -> Ending
     requires few { hosts ≤ MOST_NEXUSES }
     requires there { sender < hosts }
     ensures { (standing : Standing) → AlwaysEnds hosts (Purpose.PreemptAll kind) held sender standing result }
@@ -254,8 +259,8 @@ pub(crate) fn preempting_all(hosts: u8, kind: Kind, held: Option<Held>, sender: 
         return Ending::Fault(illegal(INVALID_FIELD_IN_PARAMETER_LIST, 0));
     }
     Ending::Good(Change {
-        removed: registered(),
-        told_05: registered(),
-        ..unchanged(hosts, Some(new_reservation(kind, sender)))
+        removed: every_key(),
+        told_05: every_key(),
+        ..no_change(hosts, Some(new_reservation(kind, sender)))
     })
 }

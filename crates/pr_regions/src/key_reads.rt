@@ -13,7 +13,7 @@ ghost use Rattle.pr_regions.specs.inside.Reads.{IsAsked, HasFewer, open_to};
 
 use crate::commands::number_in;
 use crate::region::{Reading, Region};
-use crate::words::anything;
+use crate::words::every_registration;
 use arrayvec::ArrayVec;
 use pr_cdb::Command;
 use pr_script::Test;
@@ -81,7 +81,7 @@ pub(crate) fn key_readings(tests: &[Test], keys: &[u64], registration: u8) -> Ar
     ensures proper { All IsProperReading result.items }
 {
     let mut readings = ArrayVec::new();
-    let mut left = anything();
+    let mut left = every_registration();
     for (arm, test) in tests.iter().enumerate() {
         match asked_by(*test, keys, registration) {
             Ask::Never => {}

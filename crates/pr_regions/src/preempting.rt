@@ -11,8 +11,8 @@ ghost use Rattle.pr_views.specs.Possibilities.{number_of, count_of_reservations}
 ghost use Rattle.pr_regions.specs.Regions.{HasRoom};
 ghost use Rattle.pr_regions.specs.inside.Parts.{Does, Tell, never, only, is_named, told_but, lost_if, IsNotAnothers};
 
-use crate::branching::{alone, three, two};
-use crate::endings::{is_kind, leaving, unchanged};
+use crate::branching::{ending_everywhere, three, two};
+use crate::endings::{change_to_reservation, is_kind, no_change};
 use crate::numbers::{new_reservation, reservation_number};
 use crate::purpose::{Purpose, Standing};
 use crate::region::{Branch, Change, Ending, Region};
@@ -23,7 +23,7 @@ use pr_registry::Held;
 use pr_sets::Word;
 
 // What changes where the key is the single holder's: the reservation is replaced.
-fn replaced(hosts: u8, key: u8, old: Kind, kind: Kind, sender: u8) -> Change
+fn replacement_change(hosts: u8, key: u8, old: Kind, kind: Kind, sender: u8) -> Change
     requires few { hosts ≤ MOST_NEXUSES }
     requires there { sender < hosts }
     requires key { key ≤ MOST_KEYS }
@@ -34,7 +34,7 @@ fn replaced(hosts: u8, key: u8, old: Kind, kind: Kind, sender: u8) -> Change
     let mut change = Change {
         removed: Word::only(key),
         told_05: Word::only(key),
-        ..unchanged(hosts, Some(new_reservation(kind, sender)))
+        ..no_change(hosts, Some(new_reservation(kind, sender)))
     };
     if !is_kind(old, kind) {
         change.told_04 = another_than(key);
@@ -43,14 +43,14 @@ fn replaced(hosts: u8, key: u8, old: Kind, kind: Kind, sender: u8) -> Change
 }
 
 // What changes where the key is another's: those with the key go, the sender among them if it is its own.
-fn removed(key: u8, is_own: bool, reservation: u8) -> Change
+fn removal_change(key: u8, is_own: bool, reservation: u8) -> Change
     requires { key ≤ MOST_KEYS }
     ensures { Does result (lost_if is_own) (only key) reservation never never (only key) }
 {
     let mut change = Change {
         removed: Word::only(key),
         told_05: Word::only(key),
-        ..leaving(reservation)
+        ..change_to_reservation(reservation)
     };
     if is_own {
         change.sender = Some(0);
@@ -71,7 +71,7 @@ fn preempting_others(hosts: u8, key: u8, held: Option<Held>) -> ArrayVec<Branch,
             somebody: Some(Word::only(key)),
             ..Region::whole()
         },
-        ending: Ending::Good(removed(key, false, reservation_number(hosts, held))),
+        ending: Ending::Good(removal_change(key, false, reservation_number(hosts, held))),
     };
     let nobody_has = Branch {
         region: Region {
@@ -90,7 +90,7 @@ fn preempting_unheld(hosts: u8, key: u8, standing: Standing) -> ArrayVec<Branch,
     ensures { (kind : KindOf) (sender : ℕ) → Tell hosts (Purpose.Preempt key kind) None sender standing result.items }
 {
     if standing.is_named() {
-        alone(Ending::Good(removed(key, true, 0)))
+        ending_everywhere(Ending::Good(removal_change(key, true, 0)))
     } else {
         preempting_others(hosts, key, None)
     }
@@ -110,14 +110,14 @@ fn preempting_own(hosts: u8, key: u8, held: Option<Held>) -> ArrayVec<Branch, 3>
             somebody: Some(another_than(key)),
             ..Region::whole()
         },
-        ending: Ending::Good(removed(key, true, reservation_number(hosts, held))),
+        ending: Ending::Good(removal_change(key, true, reservation_number(hosts, held))),
     };
     let nobody_stays = Branch {
         region: Region {
             others: free_or(key),
             ..Region::whole()
         },
-        ending: Ending::Good(removed(key, true, 0)),
+        ending: Ending::Good(removal_change(key, true, 0)),
     };
     two(another_stays, nobody_stays)
 }
@@ -145,7 +145,7 @@ fn preempting_holder(
             holder: Word::only(key),
             ..Region::whole()
         },
-        ending: Ending::Good(replaced(hosts, key, old, kind, sender)),
+        ending: Ending::Good(replacement_change(hosts, key, old, kind, sender)),
     };
     let another = Region {
         holder: another_than(key),
@@ -154,7 +154,7 @@ fn preempting_holder(
     if standing.is_named() {
         let sender_has = Branch {
             region: another,
-            ending: Ending::Good(removed(key, true, number)),
+            ending: Ending::Good(removal_change(key, true, number)),
         };
         return two(holder_has, sender_has);
     }
@@ -163,7 +163,7 @@ fn preempting_holder(
             somebody: Some(Word::only(key)),
             ..another
         },
-        ending: Ending::Good(removed(key, false, number)),
+        ending: Ending::Good(removal_change(key, false, number)),
     };
     let nobody_has = Branch {
         region: Region {
@@ -194,7 +194,7 @@ fn preempting_single(
     if holder != sender {
         preempting_holder(hosts, key, kind, old, holder, sender, standing)
     } else if standing.is_named() {
-        alone(Ending::Good(replaced(hosts, key, old, kind, sender)))
+        ending_everywhere(Ending::Good(replacement_change(hosts, key, old, kind, sender)))
     } else {
         preempting_others(hosts, key, Some(Held::One(old, holder)))
     }
@@ -216,7 +216,7 @@ fn preempting_registrants(hosts: u8, key: u8, old: Kind, standing: Standing) -> 
 }
 
 /// To preempt the key of this number.
-pub(crate) fn preempting(
+pub(crate) fn preempt_branches(
     hosts: u8,
     key: u8,
     kind: Kind,

@@ -9,17 +9,17 @@ ghost use Rattle.pr_views.specs.Possibilities.{number_of};
 ghost use Rattle.pr_regions.specs.Regions.{HasRoom};
 ghost use Rattle.pr_regions.specs.inside.Parts.{Does, Tell, never, told_if, is_unregistered};
 
-use crate::branching::{alone, two};
-use crate::endings::{is_held_by_all, leaving, released, unchanged};
+use crate::branching::{ending_everywhere, two};
+use crate::endings::{change_to_reservation, is_held_by_all, no_change, release_change};
 use crate::purpose::{Purpose, Standing};
 use crate::region::{Branch, Change, Ending, Region};
-use crate::words::registered;
+use crate::words::every_key;
 use arrayvec::ArrayVec;
 use pr_registry::Held;
 use pr_sets::Word;
 
 // What unregistering changes where not all registrants hold: a single holder's reservation ends.
-fn unregistered(hosts: u8, held: Option<Held>, sender: u8) -> Change
+fn unregister_change(hosts: u8, held: Option<Held>, sender: u8) -> Change
     requires few { hosts ≤ MOST_NEXUSES }
     requires fits { IsTrue (is_reservation hosts held) }
     ensures change { Does result (Some 0) never (number_of hosts (if holds_alone held sender then None else held))
@@ -27,8 +27,8 @@ fn unregistered(hosts: u8, held: Option<Held>, sender: u8) -> Change
     ensures room { HasRoom hosts (Ending.Good result) }
 {
     let left = match held {
-        Some(Held::One(kind, holder)) if holder == sender => released(kind),
-        _ => unchanged(hosts, held),
+        Some(Held::One(kind, holder)) if holder == sender => release_change(kind),
+        _ => no_change(hosts, held),
     };
     Change {
         sender: Some(0),
@@ -45,12 +45,12 @@ fn unregistering_registrant(hosts: u8, held: Option<Held>) -> ArrayVec<Branch, 3
 {
     let others_stay = Branch {
         region: Region {
-            somebody: Some(registered()),
+            somebody: Some(every_key()),
             ..Region::whole()
         },
         ending: Ending::Good(Change {
             sender: Some(0),
-            ..unchanged(hosts, held)
+            ..no_change(hosts, held)
         }),
     };
     let nobody_stays = Branch {
@@ -60,14 +60,14 @@ fn unregistering_registrant(hosts: u8, held: Option<Held>) -> ArrayVec<Branch, 3
         },
         ending: Ending::Good(Change {
             sender: Some(0),
-            ..leaving(0)
+            ..change_to_reservation(0)
         }),
     };
     two(others_stay, nobody_stays)
 }
 
 /// To be registered no more.
-pub(crate) fn unregistering(
+pub(crate) fn unregister_branches(
     hosts: u8,
     held: Option<Held>,
     sender: u8,
@@ -78,10 +78,10 @@ pub(crate) fn unregistering(
     ensures { Tell hosts Purpose.Unregister held sender standing result.items }
 {
     if standing.is_unregistered() {
-        alone(Ending::Good(unchanged(hosts, held)))
+        ending_everywhere(Ending::Good(no_change(hosts, held)))
     } else if is_held_by_all(held) {
         unregistering_registrant(hosts, held)
     } else {
-        alone(Ending::Good(unregistered(hosts, held, sender)))
+        ending_everywhere(Ending::Good(unregister_change(hosts, held, sender)))
     }
 }

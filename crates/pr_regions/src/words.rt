@@ -8,14 +8,14 @@ use pr_sets::Word;
 use pr_views::MOST_REGISTRATIONS;
 
 // Every registration.
-pub(crate) fn anything() -> Word
+pub(crate) fn every_registration() -> Word
     ensures { HasThose result any }
 {
     Word::below(MOST_REGISTRATIONS)
 }
 
 // Every key.
-pub(crate) fn registered() -> Word
+pub(crate) fn every_key() -> Word
     ensures { HasThose result is_of_registrant }
 {
     Word::below(MOST_REGISTRATIONS).without(0)
@@ -34,7 +34,7 @@ pub(crate) fn another_than(key: u8) -> Word
     requires { key ≤ MOST_KEYS }
     ensures { HasThose result (another key) }
 {
-    registered().without(key)
+    every_key().without(key)
 }
 
 // None, or the key of this number.

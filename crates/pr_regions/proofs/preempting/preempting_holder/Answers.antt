@@ -13,13 +13,13 @@ returns-then-is_named c =
     let h = c.args.holder in
     let number = c.reservation_number-number in
     let own = sym c.is_named.ensures ∙ c.if-is_named.true in
-    let does = leaves c.removed.result (Some 0) (only j) number.result (number_of hosts (held_by old h)) never never (only j) number.ensures.number c.removed.ensures in
+    let does = leaves c.removal_change.result (Some 0) (only j) number.result (number_of hosts (held_by old h)) never never (only j) number.ensures.number c.removal_change.ensures in
     let at_holder : Leaves _ (only j) any None = record { to_holder = λ r few. c.only.ensures r; to_others = c.whole.ensures.to_others; tested = c.whole.ensures.tested } in
     let at_another : Leaves _ (another j) any None = record { to_holder = c.another_than.ensures; to_others = c.whole-2.ensures.to_others; tested = c.whole-2.ensures.tested } in
     rw c.two.ensures (tell_own_single hosts j c.args.kind old h c.args.sender c.args.standing _ _ c.requires.key c.requires.apart
-    at_holder (holders_key hosts j c.args.kind old h c.args.sender c.args.standing _ c.replaced.result c.requires.key c.requires.apart at_holder refl c.replaced.ensures.change c.replaced.ensures.room)
-    at_another (own_key_goes hosts j c.args.kind old h c.args.sender c.args.standing _ c.removed.result c.requires.key c.requires.apart own at_another refl does
-    (has_room hosts c.removed.result (Some 0) (only j) number.result never never (only j) c.removed.ensures (omega arith) number.ensures.below)))
+    at_holder (holders_key hosts j c.args.kind old h c.args.sender c.args.standing _ c.replacement_change.result c.requires.key c.requires.apart at_holder refl c.replacement_change.ensures.change c.replacement_change.ensures.room)
+    at_another (own_key_goes hosts j c.args.kind old h c.args.sender c.args.standing _ c.removal_change.result c.requires.key c.requires.apart own at_another refl does
+    (has_room hosts c.removal_change.result (Some 0) (only j) number.result never never (only j) c.removal_change.ensures (omega arith) number.ensures.below)))
 
 pub returns : goal.returns
 returns c =
@@ -29,12 +29,12 @@ returns c =
     let h = c.args.holder in
     let number = c.reservation_number-number in
     let other = sym c.is_named.ensures ∙ c.if-is_named.false in
-    let does = leaves c.removed-2.result None (only j) number.result (number_of hosts (held_by old h)) never never (only j) number.ensures.number c.removed-2.ensures in
-    let room = has_room hosts c.removed-2.result None (only j) number.result never never (only j) c.removed-2.ensures (omega arith) number.ensures.below in
+    let does = leaves c.removal_change-2.result None (only j) number.result (number_of hosts (held_by old h)) never never (only j) number.ensures.number c.removal_change-2.ensures in
+    let room = has_room hosts c.removal_change-2.result None (only j) number.result never never (only j) c.removal_change-2.ensures (omega arith) number.ensures.below in
     let at_holder : Leaves _ (only j) any None = record { to_holder = λ r few. c.only.ensures r; to_others = c.whole.ensures.to_others; tested = c.whole.ensures.tested } in
     let at_somebody : Leaves _ (another j) any (Some (only j)) = record { to_holder = c.another_than.ensures; to_others = c.whole-2.ensures.to_others; tested = λ r few. c.only-2.ensures r } in
     let at_nobody : Leaves _ (another j) (but j) None = record { to_holder = c.another_than.ensures; to_others = c.anything_but.ensures; tested = c.whole-2.ensures.tested } in
     rw c.three.ensures (tell_other_single hosts j c.args.kind old h c.args.sender c.args.standing _ _ _ c.requires.key c.requires.apart
-    at_holder (holders_key hosts j c.args.kind old h c.args.sender c.args.standing _ c.replaced.result c.requires.key c.requires.apart at_holder refl c.replaced.ensures.change c.replaced.ensures.room)
-    at_somebody (somebodys_key_goes hosts j c.args.kind old h c.args.sender c.args.standing _ c.removed-2.result c.requires.key c.requires.apart other at_somebody refl does room)
+    at_holder (holders_key hosts j c.args.kind old h c.args.sender c.args.standing _ c.replacement_change.result c.requires.key c.requires.apart at_holder refl c.replacement_change.ensures.change c.replacement_change.ensures.room)
+    at_somebody (somebodys_key_goes hosts j c.args.kind old h c.args.sender c.args.standing _ c.removal_change-2.result c.requires.key c.requires.apart other at_somebody refl does room)
     at_nobody (nobodys_key hosts j c.args.kind old h c.args.sender c.args.standing _ c.requires.key other at_nobody refl))

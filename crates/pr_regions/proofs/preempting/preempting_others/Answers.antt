@@ -9,8 +9,8 @@ pub returns : goal.returns
 returns c kind sender standing other own =
     let j = c.args.key in
     let left = number_of c.args.hosts c.args.held in
-    let does = leaves c.removed.result None (only j) c.reservation_number.result left never never (only j) c.reservation_number.ensures.number c.removed.ensures in
-    rw c.two.ensures (tell_others c.args.hosts j kind c.args.held sender standing _ _ c.removed.result c.requires.key other own
+    let does = leaves c.removal_change.result None (only j) c.reservation_number.result left never never (only j) c.reservation_number.ensures.number c.removal_change.ensures in
+    rw c.two.ensures (tell_others c.args.hosts j kind c.args.held sender standing _ _ c.removal_change.result c.requires.key other own
     (record { to_holder = c.whole.ensures.to_holder; to_others = c.whole.ensures.to_others; tested = λ r few. c.only.ensures r }) refl does
-    (has_room c.args.hosts c.removed.result None (only j) c.reservation_number.result never never (only j) c.removed.ensures (omega arith) c.reservation_number.ensures.below)
+    (has_room c.args.hosts c.removal_change.result None (only j) c.reservation_number.result never never (only j) c.removal_change.ensures (omega arith) c.reservation_number.ensures.below)
     (record { to_holder = c.whole-2.ensures.to_holder; to_others = c.anything_but.ensures; tested = c.whole-2.ensures.tested }) refl)

@@ -9,9 +9,9 @@ pub returns : goal.returns
 returns c kind sender standing own =
     let j = c.args.key in
     let left = number_of c.args.hosts c.args.held in
-    let does = leaves c.removed.result (Some 0) (only j) c.reservation_number.result left never never (only j) c.reservation_number.ensures.number c.removed.ensures in
-    rw c.two.ensures (tell_own c.args.hosts j kind c.args.held sender standing _ _ c.removed.result c.removed-2.result c.requires.key own c.requires.all
+    let does = leaves c.removal_change.result (Some 0) (only j) c.reservation_number.result left never never (only j) c.reservation_number.ensures.number c.removal_change.ensures in
+    rw c.two.ensures (tell_own c.args.hosts j kind c.args.held sender standing _ _ c.removal_change.result c.removal_change-2.result c.requires.key own c.requires.all
     (record { to_holder = c.whole.ensures.to_holder; to_others = c.whole.ensures.to_others; tested = c.another_than.ensures }) refl does
-    (has_room c.args.hosts c.removed.result (Some 0) (only j) c.reservation_number.result never never (only j) c.removed.ensures (omega arith) c.reservation_number.ensures.below)
-    (record { to_holder = c.whole-2.ensures.to_holder; to_others = c.free_or.ensures; tested = c.whole-2.ensures.tested }) refl c.removed-2.ensures
-    (has_room c.args.hosts c.removed-2.result (Some 0) (only j) 0 never never (only j) c.removed-2.ensures (omega arith) (omega arith)))
+    (has_room c.args.hosts c.removal_change.result (Some 0) (only j) c.reservation_number.result never never (only j) c.removal_change.ensures (omega arith) c.reservation_number.ensures.below)
+    (record { to_holder = c.whole-2.ensures.to_holder; to_others = c.free_or.ensures; tested = c.whole-2.ensures.tested }) refl c.removal_change-2.ensures
+    (has_room c.args.hosts c.removal_change-2.result (Some 0) (only j) 0 never never (only j) c.removal_change-2.ensures (omega arith) (omega arith)))

@@ -4,12 +4,12 @@ use Rattle.pr_regions.proofs.unregistering.unregistering_registrant.Goals as goa
 
 pub returns : goal.returns
 returns c sender standing present =
-    let stays = c.unchanged.ensures.change in
-    let none = c.leaving.ensures in
+    let stays = c.no_change.ensures.change in
+    let none = c.change_to_reservation.ensures in
     rw c.two.ensures (tell_unregistered c.args.hosts c.args.held sender standing _ _ _ _ c.requires.all present
-    (record { to_holder = c.whole.ensures.to_holder; to_others = c.whole.ensures.to_others; tested = c.registered.ensures }) refl
+    (record { to_holder = c.whole.ensures.to_holder; to_others = c.whole.ensures.to_others; tested = c.every_key.ensures }) refl
     (record { sender = refl; removed = stays.removed; reservation = stays.reservation; told_03 = stays.told_03; told_04 = stays.told_04; told_05 = stays.told_05 })
-    (omega arith, c.unchanged.ensures.room.1)
+    (omega arith, c.no_change.ensures.room.1)
     (record { to_holder = c.whole-2.ensures.to_holder; to_others = λ r few. c.only.ensures r; tested = c.whole-2.ensures.tested }) refl
     (record { sender = refl; removed = none.removed; reservation = none.reservation; told_03 = none.told_03; told_04 = none.told_04; told_05 = none.told_05 })
     (omega arith, let is = none.reservation in omega arith))

@@ -2,7 +2,7 @@ use Rattle.std.proofs.Common.{Some, sym, ◌∙◌, ap}
 use Rattle.pr_registry.specs.declared.held.Held.{Held}
 use Rattle.pr_views.specs.Possibilities.{number_of}
 use Rattle.pr_regions.proofs.Services.{preempt_all_good, preempt_all_fault}
-use Rattle.pr_regions.proofs.endings.preempting_all.Goals as goal
+use Rattle.pr_regions.proofs.endings.preempt_all_ending.Goals as goal
 
 pub returns-then-not-is_held_by_all : goal.returns-then-not-is_held_by_all
 returns-then-not-is_held_by_all c standing =
@@ -10,14 +10,14 @@ returns-then-not-is_held_by_all c standing =
 
 pub returns : goal.returns
 returns c standing =
-    let change = c.unchanged.ensures.change in
+    let change = c.no_change.ensures.change in
     preempt_all_good c.args.hosts c.args.kind c.args.held c.args.sender standing _ (sym c.is_held_by_all.ensures ∙ c.if-not-is_held_by_all.false)
     (record {
       sender = change.sender;
-      removed = c.registered.ensures;
+      removed = c.every_key.ensures;
       reservation = change.reservation ∙ ap (λ (v : Held). number_of c.args.hosts (Some v)) c.new_reservation.ensures;
       told_03 = change.told_03;
       told_04 = change.told_04;
-      told_05 = c.registered-2.ensures;
+      told_05 = c.every_key-2.ensures;
     })
-    c.unchanged.ensures.room
+    c.no_change.ensures.room

@@ -3,18 +3,18 @@ use Rattle.pr_registry.specs.Registrations.{kind_of}
 use Rattle.pr_registry.specs.Changes.{is_kind}
 use Rattle.pr_regions.specs.inside.Parts.{holds}
 use Rattle.pr_regions.proofs.Services.{reserve_new, reserve_same, reserve_conflict}
-use Rattle.pr_regions.proofs.endings.reserving.Goals as goal
-use Rattle.pr_regions.proofs.endings.reserving.Goals.{else-holds-via-then-holds+else-is_kind, else-holds-via-else-holds}
+use Rattle.pr_regions.proofs.endings.reserve_ending.Goals as goal
+use Rattle.pr_regions.proofs.endings.reserve_ending.Goals.{else-holds-via-then-holds+else-is_kind, else-holds-via-else-holds}
 
 pub returns-in_default : goal.returns-in_default
 returns-in_default c =
-    reserve_new c.args.hosts c.args.kind c.args.held c.args.sender c.args.standing c.unchanged.result c.in_default.is (rw (← c.new_reservation.ensures) c.unchanged.ensures.change) c.unchanged.ensures.room
+    reserve_new c.args.hosts c.args.kind c.args.held c.args.sender c.args.standing c.no_change.result c.in_default.is (rw (← c.new_reservation.ensures) c.no_change.ensures.change) c.no_change.ensures.room
 
 pub returns-then-is_kind : goal.returns-then-is_kind
 returns-then-is_kind c =
-    reserve_same c.args.hosts c.args.kind c.args.held c.in-Some.held c.args.sender c.args.standing c.unchanged-then-is_kind.result c.in-Some.is
+    reserve_same c.args.hosts c.args.kind c.args.held c.in-Some.held c.args.sender c.args.standing c.no_change-then-is_kind.result c.in-Some.is
     (sym c.holds.ensures ∙ c.if-holds.true) (ap (λ t. is_kind t c.args.kind) (sym c.kind_of.ensures) ∙ sym c.is_kind.ensures ∙ c.if-is_kind.true)
-    c.unchanged-then-is_kind.ensures.change c.unchanged-then-is_kind.ensures.room
+    c.no_change-then-is_kind.ensures.change c.no_change-then-is_kind.ensures.room
 
 pub returns-else-holds : goal.returns-else-holds
 returns-else-holds c =

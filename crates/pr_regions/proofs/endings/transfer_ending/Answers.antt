@@ -1,6 +1,6 @@
 use Rattle.pr_regions.specs.declared.purpose.Purpose.TheVariants.{Read, Write}
 use Rattle.pr_regions.proofs.Accesses.{is_read, is_write, move_conflicts, move_fails, move_goes}
-use Rattle.pr_regions.proofs.endings.moving.Goals as goal
+use Rattle.pr_regions.proofs.endings.transfer_ending.Goals as goal
 
 pub returns-then-is_kept-clause-reading : goal.returns-then-is_kept-clause-reading
 returns-then-is_kept-clause-reading c sender standing is =
@@ -8,7 +8,7 @@ returns-then-is_kept-clause-reading c sender standing is =
 
 pub returns-then-in_range-clause-reading : goal.returns-then-in_range-clause-reading
 returns-then-in_range-clause-reading c sender standing is =
-    move_goes c.args.hosts (Read c.args.in_range) c.args.is_kept c.args.in_range c.args.held sender standing (is_read c.args.is_kept c.args.in_range c.args.held sender standing is) c.unchanged.result c.if-is_kept.false c.if-in_range.true c.unchanged.ensures.change c.unchanged.ensures.room
+    move_goes c.args.hosts (Read c.args.in_range) c.args.is_kept c.args.in_range c.args.held sender standing (is_read c.args.is_kept c.args.in_range c.args.held sender standing is) c.no_change.result c.if-is_kept.false c.if-in_range.true c.no_change.ensures.change c.no_change.ensures.room
 
 pub returns-else-in_range-clause-reading : goal.returns-else-in_range-clause-reading
 returns-else-in_range-clause-reading c sender standing is =
@@ -20,7 +20,7 @@ returns-then-is_kept-clause-writing c sender standing is =
 
 pub returns-then-in_range-clause-writing : goal.returns-then-in_range-clause-writing
 returns-then-in_range-clause-writing c sender standing is =
-    move_goes c.args.hosts (Write c.args.in_range) c.args.is_kept c.args.in_range c.args.held sender standing (is_write c.args.is_kept c.args.in_range c.args.held sender standing is) c.unchanged.result c.if-is_kept.false c.if-in_range.true c.unchanged.ensures.change c.unchanged.ensures.room
+    move_goes c.args.hosts (Write c.args.in_range) c.args.is_kept c.args.in_range c.args.held sender standing (is_write c.args.is_kept c.args.in_range c.args.held sender standing is) c.no_change.result c.if-is_kept.false c.if-in_range.true c.no_change.ensures.change c.no_change.ensures.room
 
 pub returns-else-in_range-clause-writing : goal.returns-else-in_range-clause-writing
 returns-else-in_range-clause-writing c sender standing is =

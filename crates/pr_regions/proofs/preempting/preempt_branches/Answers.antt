@@ -1,5 +1,5 @@
 use Rattle.std.proofs.Common.{rules}
-use Rattle.pr_regions.proofs.preempting.preempting.Goals as goal
+use Rattle.pr_regions.proofs.preempting.preempt_branches.Goals as goal
 
 pub returns-in-None : goal.returns-in-None
 returns-in-None c = rw c.in-None.is (c.preempting_unheld.ensures c.args.kind c.args.sender)

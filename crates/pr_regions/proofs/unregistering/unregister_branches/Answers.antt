@@ -1,0 +1,19 @@
+use Rattle.std.proofs.Common.{sym, ◌∙◌}
+use Rattle.pr_regions.specs.declared.purpose.Purpose.TheVariants.{Unregister}
+use Rattle.pr_regions.proofs.Leaving.{unregister_absent, unregister_good}
+use Rattle.pr_regions.proofs.unregistering.unregister_branches.Goals as goal
+
+pub returns-then-is_unregistered : goal.returns-then-is_unregistered
+returns-then-is_unregistered c =
+    c.ending_everywhere.ensures c.args.hosts Unregister c.args.held c.args.sender c.args.standing
+    (unregister_absent c.args.hosts c.args.held c.args.sender c.args.standing c.no_change.result (sym c.is_unregistered.ensures ∙ c.if-is_unregistered.true) c.no_change.ensures.change c.no_change.ensures.room)
+
+pub returns-then-is_held_by_all : goal.returns-then-is_held_by_all
+returns-then-is_held_by_all c =
+    c.unregistering_registrant.ensures c.args.sender c.args.standing (sym c.is_unregistered.ensures ∙ c.if-is_unregistered.false)
+
+pub returns-else-is_held_by_all : goal.returns-else-is_held_by_all
+returns-else-is_held_by_all c =
+    c.ending_everywhere-else-is_held_by_all.ensures c.args.hosts Unregister c.args.held c.args.sender c.args.standing
+    (unregister_good c.args.hosts c.args.held c.args.sender c.args.standing c.unregister_change.result (sym c.is_unregistered.ensures ∙ c.if-is_unregistered.false)
+    (sym c.is_held_by_all.ensures ∙ c.if-is_held_by_all.false) c.unregister_change.ensures.change c.unregister_change.ensures.room)
