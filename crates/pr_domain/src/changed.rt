@@ -28,16 +28,16 @@ pub(crate) fn registrations_after(
     let from = usize::from(sender);
     for host in 0..MOST_NEXUSES {
         after[host] = if host == from {
-            given(words[host], change.sender)
+            with_given(words[host], change.sender)
         } else {
-            stripped(words[host], change.removed)
+            without_removed(words[host], change.removed)
         };
     }
     after
 }
 
 // The sender's: another one where the change gives it.
-fn given(word: Word, to: Option<u8>) -> Word
+fn with_given(word: Word, to: Option<u8>) -> Word
     requires { unwrap_or to 0 ≤ MOST_KEYS }
     ensures { IsImage (has word) (λ r. unwrap_or to r) (has result) }
 {
@@ -48,7 +48,7 @@ fn given(word: Word, to: Option<u8>) -> Word
 }
 
 // Another's: none in the place of those that are removed.
-fn stripped(word: Word, removed: Word) -> Word
+fn without_removed(word: Word, removed: Word) -> Word
     ensures { IsImage (has word) (registration_left removed) (has result) }
 {
     if word.and(removed).is_empty() {
@@ -66,7 +66,7 @@ pub(crate) fn attentions_after(owners: Word, pending: Word, change: &Change) -> 
     let mut told = Word::none();
     for mark in 0..ATTENTION_SETS {
         if marks.has(mark) {
-            told = told.or(marked(pending, mark));
+            told = told.or(attentions_with(pending, mark));
         }
     }
     told
@@ -109,7 +109,7 @@ fn mark(registration: u8, change: &Change) -> u8
 }
 
 /// The attentions with these bits besides.
-pub(crate) fn marked(pending: Word, mark: u8) -> Word
+pub(crate) fn attentions_with(pending: Word, mark: u8) -> Word
     requires { mark < ATTENTION_SETS }
     ensures { IsImage (first ATTENTION_SETS pending) (λ q. bit_or q mark) (has result) }
 {

@@ -8,7 +8,7 @@ ghost use Rattle.pr_regions.specs.Purposes.{HasNumber, number_in};
 ghost use Rattle.pr_regions.specs.Regions.{names};
 ghost use Rattle.pr_domain.specs.inside.Clauses.{purpose_for, holds_as, may_send as may_send_as, is_registered_as, refuses_strangers, AreSenders};
 
-use crate::place::{Place, registered};
+use crate::place::{Place, every_key};
 use pr_regions::{Purpose, Standing};
 use pr_registry::Held;
 use pr_roles::{Action, Condition};
@@ -113,17 +113,17 @@ pub(crate) fn senders(purpose: Purpose, standing: Standing) -> Word
     requires { HasNumber purpose }
     ensures { AreSenders purpose standing result }
 {
-    match (standing, named(purpose)) {
+    match (standing, key_named(purpose)) {
         (Standing::Unregistered, _) => Word::only(0),
         (Standing::Named, Some(key)) => Word::only(key),
         (Standing::Named, None) => Word::none(),
-        (Standing::Other, Some(key)) => registered().without(key),
-        (Standing::Other, None) => registered(),
+        (Standing::Other, Some(key)) => every_key().without(key),
+        (Standing::Other, None) => every_key(),
     }
 }
 
 // The key that a command for this names, by its number.
-fn named(purpose: Purpose) -> Option<u8>
+fn key_named(purpose: Purpose) -> Option<u8>
     requires { HasNumber purpose }
     ensures number { (r : ℕ) → names purpose r ≡ option_map_or (λ j. r == j) result false }
     ensures few { IfSome result (λ j. (1 ≤ j) × (j ≤ MOST_KEYS)) }

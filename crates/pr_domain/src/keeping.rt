@@ -13,7 +13,7 @@ ghost use Rattle.pr_domain.specs.inside.Gathering.{IsPlace, IsUniform};
 ghost use Rattle.pr_domain.specs.inside.Interfering.{Adds};
 ghost use Rattle.pr_domain.specs.inside.Keeping.{IsShownSo, IsShownAt, IsShown, IsKept};
 
-use crate::place::{Place, registered};
+use crate::place::{Place, every_key};
 use pr_regions::{Region, reservation_at};
 use pr_sets::Word;
 use pr_views::{MOST_REGISTRATIONS, Possibilities};
@@ -28,7 +28,7 @@ pub(crate) fn kept(hosts: u8, view: &Possibilities) -> Possibilities
         if view.reservations.has(reservation) {
             let place = Place::of(hosts, 0, reservation);
             place.add_kept(&mut kept, view, Word::only(0));
-            place.add_kept(&mut kept, view, registered());
+            place.add_kept(&mut kept, view, every_key());
         }
     }
     kept
@@ -84,7 +84,7 @@ impl Place {
         if view.pending.is_empty() {
             return None;
         }
-        let Some(registrations) = self.gather(view, senders, &everything()) else {
+        let Some(registrations) = self.gather(view, senders, &region_of_all()) else {
             return None;
         };
         Some(Possibilities {
@@ -96,7 +96,7 @@ impl Place {
 }
 
 // The region of every state.
-fn everything() -> Region
+fn region_of_all() -> Region
     ensures holder { (r : ℕ) → r ≤ MOST_KEYS → has result.holder r ≡ true }
     ensures others { (r : ℕ) → r ≤ MOST_KEYS → has result.others r ≡ true }
     ensures somebody { result.somebody ≡ None }

@@ -98,7 +98,7 @@ impl Place {
     {
         match somebody {
             Some(passing) => Some(passing),
-            None if self.needs_another(senders) => Some(registered()),
+            None if self.needs_another(senders) => Some(every_key()),
             None => None,
         }
     }
@@ -111,7 +111,7 @@ impl Place {
 }
 
 /// The registrations by a key.
-pub(crate) fn registered() -> Word
+pub(crate) fn every_key() -> Word
     ensures keys { (r : ℕ) → 1 ≤ r → r ≤ MOST_KEYS → has result r ≡ true }
     ensures none { has result 0 ≡ false }
 {

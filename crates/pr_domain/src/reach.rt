@@ -9,7 +9,7 @@ ghost use Rattle.pr_sets.specs.Words.{has};
 ghost use Rattle.pr_views.specs.Possibilities.{number_of};
 ghost use Rattle.pr_domain.specs.inside.Reaching.{IsWider};
 
-use crate::place::{Place, registered};
+use crate::place::{Place, every_key};
 use pr_cdb::Kind;
 use pr_regions::reservation_number;
 use pr_registry::{Held, is_all};
@@ -140,9 +140,9 @@ impl Reach {
     {
         Reach {
             given: none_alone(),
-            removed: registered(),
+            removed: every_key(),
             reservations: none_alone(),
-            told_03: registered(),
+            told_03: every_key(),
             ..Reach::none()
         }
     }
@@ -157,9 +157,9 @@ impl Reach {
     {
         match place.held {
             Some(Held::All(_)) => Reach {
-                removed: registered(),
+                removed: every_key(),
                 reservations: place.new_reservation(kind),
-                told_05: registered(),
+                told_05: every_key(),
                 ..Reach::none()
             },
             _ => Reach::none(),
@@ -199,6 +199,6 @@ fn those_told(kind: Kind) -> Word
         Kind::WriteExclusiveRegistrantsOnly
         | Kind::ExclusiveAccessRegistrantsOnly
         | Kind::WriteExclusiveAllRegistrants
-        | Kind::ExclusiveAccessAllRegistrants => registered(),
+        | Kind::ExclusiveAccessAllRegistrants => every_key(),
     }
 }

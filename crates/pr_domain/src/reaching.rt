@@ -16,11 +16,11 @@ ghost use Rattle.pr_domain.specs.inside.Clauses.{IsClause};
 ghost use Rattle.pr_domain.specs.inside.Interfering.{IsOnlooking, IsWatched};
 ghost use Rattle.pr_domain.specs.inside.Reaching.{IsReach, IsReachAt, IsMost, IsTold, MayAllGo, number_named};
 
-use crate::changed::marked;
+use crate::changed::attentions_with;
 use crate::clauses::{holds, number_in};
 use crate::keeping::count_of_reservations;
 use crate::onlooker::Onlooker;
-use crate::place::{Place, registered};
+use crate::place::{Place, every_key};
 use crate::reach::{Reach, none_alone};
 use pr_cdb::Kind;
 use pr_cdb::codes::MOST_NEXUSES;
@@ -177,7 +177,7 @@ impl Onlooker {
             words[host] = if host == sender {
                 reach.given
             } else {
-                freed(self.view.registrations[host], reach.removed)
+                free_if_removed(self.view.registrations[host], reach.removed)
             };
         }
         words
@@ -189,19 +189,19 @@ impl Onlooker {
         ensures { (r q n : ℕ) → has_at self.now.view.registrations self.now.own r ≡ true → has self.now.view.pending q ≡ true → q < ATTENTION_SETS → IsTold reach.now r q n → has result n ≡ true }
     {
         let owners = self.view.registrations[usize::from(self.own)];
-        let preempted = told(
+        let preempted = attentions_told(
             owners,
             reach.told_03,
             self.view.pending,
             RESERVATIONS_PREEMPTED_BIT,
         );
-        let released = told(
+        let released = attentions_told(
             owners,
             reach.told_04,
             self.view.pending,
             RESERVATIONS_RELEASED_BIT,
         );
-        let removed = told(
+        let removed = attentions_told(
             owners,
             reach.told_05,
             self.view.pending,
@@ -243,24 +243,24 @@ fn told_of_another(old: Kind, kind: Kind, key: u8) -> Word
     if old == kind {
         Word::none()
     } else {
-        registered().without(key)
+        every_key().without(key)
     }
 }
 
 // The attentions with these bits besides, if an owner with one of the registrations can be told.
-fn told(owners: Word, told: Word, pending: Word, mark: u8) -> Word
+fn attentions_told(owners: Word, told: Word, pending: Word, mark: u8) -> Word
     requires { mark < ATTENTION_SETS }
     ensures { (r q : ℕ) → has owners r ≡ true → has told r ≡ true → has pending q ≡ true → q < ATTENTION_SETS → has result (bit_or q mark) ≡ true }
 {
     if owners.and(told).is_empty() {
         Word::none()
     } else {
-        marked(pending, mark)
+        attentions_with(pending, mark)
     }
 }
 
 // No registration, where one of these can be removed.
-fn freed(word: Word, removed: Word) -> Word
+fn free_if_removed(word: Word, removed: Word) -> Word
     ensures { (r : ℕ) → has word r ≡ true → has removed r ≡ true → has result 0 ≡ true }
 {
     if word.and(removed).is_empty() {

@@ -7,8 +7,8 @@ use Rattle.pr_domain.proofs.changed.attentions_after.Goals as goal
 pub loop-mark-preserved : goal.loop-mark-preserved
 loop-mark-preserved c = elim c.if-has.branch [
   | then-has w ↦ subst (λ t. AreMarked (c.loop-mark.mark + 1) c.marks-marks.result c.args.pending t) (sym w.told-is)
-      (marked_more c.loop-mark.mark c.marks-marks.result c.args.pending c.loop-mark.told w.marked.result w.or-told.result
-      (sym c.has.ensures ∙ w.if-has.true) w.or-told.ensures w.marked.ensures c.loop-mark.invariant)
+      (marked_more c.loop-mark.mark c.marks-marks.result c.args.pending c.loop-mark.told w.attentions_with.result w.or-told.result
+      (sym c.has.ensures ∙ w.if-has.true) w.or-told.ensures w.attentions_with.ensures c.loop-mark.invariant)
   | else-has w ↦ subst (λ t. AreMarked (c.loop-mark.mark + 1) c.marks-marks.result c.args.pending t) (sym w.told-is)
       (marked_skips c.loop-mark.mark c.marks-marks.result c.args.pending c.loop-mark.told (sym c.has.ensures ∙ w.if-has.false) c.loop-mark.invariant)
 ]

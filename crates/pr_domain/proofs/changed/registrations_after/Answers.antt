@@ -39,10 +39,10 @@ loop-host-preserved c =
     let image : IsImage (has_at words c.loop-host.host) (becomes c.from-from.result c.args.change.now c.loop-host.host) (has c.if-host-from.after) = elim c.if-host-from.branch [
       | then-host-from w ↦ subst (λ x. IsImage (has_at words c.loop-host.host) (becomes c.from-from.result c.args.change.now c.loop-host.host) (has x)) (sym w.after-is)
           (same_image _ _ (λ r. unwrap_or c.args.change.now.sender r) (becomes c.from-from.result c.args.change.now c.loop-host.host) (λ r. becomes_sent c.from-from.result c.loop-host.host r c.args.change.now w.if-host-from.true)
-          (image_at words c.loop-host.host w.given.result nobody (λ r. unwrap_or c.args.change.now.sender r) there w.given.ensures))
+          (image_at words c.loop-host.host w.with_given.result nobody (λ r. unwrap_or c.args.change.now.sender r) there w.with_given.ensures))
       | else-host-from w ↦ subst (λ x. IsImage (has_at words c.loop-host.host) (becomes c.from-from.result c.args.change.now c.loop-host.host) (has x)) (sym w.after-is)
           (same_image _ _ (registration_left c.args.change.now.removed) (becomes c.from-from.result c.args.change.now c.loop-host.host) (λ r. becomes_left c.from-from.result c.loop-host.host r c.args.change.now w.if-host-from.false)
-          (image_at words c.loop-host.host w.stripped.result nobody (registration_left c.args.change.now.removed) there w.stripped.ensures))
+          (image_at words c.loop-host.host w.without_removed.result nobody (registration_left c.args.change.now.removed) there w.without_removed.ensures))
     ] in
     record {
       done = images_more words c.loop-host.after c.loop-host.host c.if-host-from.after (becomes c.from-from.result c.args.change.now) (omega arith) image c.loop-host.invariant.done;

@@ -1,4 +1,4 @@
-use Rattle.pr_domain.proofs.place.registered.Goals as goal
+use Rattle.pr_domain.proofs.place.every_key.Goals as goal
 
 -- src/place.rt:91:1
 pub returns-clause-none : goal.returns-clause-none

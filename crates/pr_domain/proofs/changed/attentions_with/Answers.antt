@@ -3,8 +3,8 @@ use Rattle.std.proofs.lemmas.Nat.{or_lt}
 use Rattle.pr_sets.specs.Words.{has}
 use Rattle.pr_domain.specs.inside.Images.{IsImage, first}
 use Rattle.pr_domain.proofs.Images.{image_more, image_skips}
-use Rattle.pr_domain.proofs.changed.marked.Goals.{then-has, else-has}
-use Rattle.pr_domain.proofs.changed.marked.Goals as goal
+use Rattle.pr_domain.proofs.changed.attentions_with.Goals.{then-has, else-has}
+use Rattle.pr_domain.proofs.changed.attentions_with.Goals as goal
 
 pub with-marked-requires : goal.with-marked-requires
 with-marked-requires c = let few : bit_or c.loop-attentions.attentions c.args.mark < 16 = or_lt 4 c.loop-attentions.attentions c.args.mark (omega arith) c.requires in omega arith
