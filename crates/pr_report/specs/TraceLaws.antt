@@ -13,6 +13,7 @@ use Rattle.pr_roles.specs.declared.entry.Entry.{Entry}
 use Rattle.pr_roles.specs.Scenarios.{Scenario}
 use Rattle.pr_roles.specs.Fitting.{Fits}
 use Rattle.pr_world.specs.Ends.{Ending, stops, waits, traps, leaves}
+use Rattle.pr_report.specs.declared.entry_reading.TheConstants.{MOST_ENTRIES}
 use Rattle.pr_report.specs.TraceText.{names_in, trace_text}
 use Rattle.pr_report.specs.TraceReadings.{trace_of}
 
@@ -45,6 +46,6 @@ IsEnding (leaves planned) = Unit {0}
 abbrev pub WrittenTracesAreRead : Type 0
 WrittenTracesAreRead =
     (s : Scenario) (entries : List Entry) (unit : State) (ends : List Ending) (counts : List ℕ)
-    → Fits s → All (IsEntry (length s.nexuses)) entries → length entries ≤ 32768
+    → Fits s → All (IsEntry (length s.nexuses)) entries → length entries ≤ MOST_ENTRIES
     → length ends ≡ length s.nexuses → All IsEnding ends
     → trace_of (names_in s) (trace_text (names_in s) entries unit ends counts) ≡ Ok entries
