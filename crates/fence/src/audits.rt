@@ -109,6 +109,3 @@ fn verdict_on(alloc: Global, scenario: &Scenario, entries: &[Entry]) -> Result<V
         Err(AuditError::Memory) => Err(Fault::Memory),
     }
 }
-
-#[cfg(test)]
-mod tests;

@@ -109,6 +109,3 @@ fn put_judgement<W: Write>(
         }
     }
 }
-
-#[cfg(test)]
-mod tests;

@@ -96,6 +96,3 @@ fn file<'a>(alloc: Global) -> Arg<'a> {
         .help("The scenario; - is standard input")
         .required(true)
 }
-
-#[cfg(test)]
-mod tests;

@@ -13,9 +13,6 @@ use pr_text::{ReadError, Which};
 use std::alloc::{AllocError, AllocFailed};
 use std::io::Write;
 
-#[cfg(test)]
-mod tests;
-
 /// Why a command of the program came to nothing.
 #[derive(Clone, Copy, Debug, PartialEq, Eq)]
 pub enum Fault {

@@ -11,8 +11,6 @@ mod audits;
 mod checks;
 mod command_line;
 mod ending;
-#[cfg(test)]
-mod fakes;
 mod fault;
 mod outlines;
 mod replays;

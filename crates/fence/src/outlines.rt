@@ -61,6 +61,3 @@ fn outline_text<R: Read, W: Write>(
     write_outlines(writer, &scenario, &tables)?;
     Ok(false)
 }
-
-#[cfg(test)]
-mod tests;

@@ -115,6 +115,3 @@ fn has_wrong_count(steps: &[&str]) -> bool
 {
     steps.is_empty() || steps.len() > MOST_STEPS
 }
-
-#[cfg(test)]
-mod tests;

@@ -219,6 +219,3 @@ fn commands_by(history: &[Entry], host: usize) -> u32
         .filter(|entry| usize::from(entry.host) == host)
         .count() as u32
 }
-
-#[cfg(test)]
-mod tests;
