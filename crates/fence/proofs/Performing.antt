@@ -1,17 +1,16 @@
 -- A scenario that was run or refused, and what is written of it.
 use Rattle.std.proofs.Common.{◌≡◌, ℕ, ◌^◌, ◌<◌, ◌≤◌, Bool, true, List, [], ◌∷◌, zero, suc, Option, Some, None, Result, Ok, Err, refl, sym, ap, ◌∙◌, subst, arith}
-use Rattle.std.specs.Prelude.{◌==◌, not, nat_le, IfSome, IsErrAnd, is_err, length, map, bytes_eq, slice_index_or}
+use Rattle.std.specs.Prelude.{IfSome, IsErrAnd, is_err, length, map, slice_index_or}
 use Rattle.std.specs.List.{list_all, range_with_len, slice_get}
 use Rattle.std.specs.Option.{option_map_or}
 use Rattle.std.specs.Io.KnownBytes.{Appends}
 use Rattle.std.proofs.lemmas.Bool.{and_parts}
-use Rattle.pr_cdb.specs.declared.codes.TheConstants.{MOST_NEXUSES}
 use Rattle.pr_roles.specs.declared.parts.Nexus.{Nexus as NexusPart}
 use Rattle.pr_roles.specs.declared.parts.Parts.{Parts}
 use Rattle.pr_verify.specs.declared.verifying.Refused.{Refused}
 use Rattle.pr_roles.specs.Scenarios.{Nexus, Scenario, scenario_of, task}
 use Rattle.pr_roles.specs.Safety.{IsSafe}
-use Rattle.pr_roles.specs.Fitting.{Fits, are_distinct, are_nexuses, is_nexus}
+use Rattle.pr_roles.specs.Fitting.{Fits, is_nexus}
 use Rattle.pr_roles.specs.Worlds.{commands_by}
 use Rattle.pr_text.specs.Reading.{IsWrittenAs}
 use Rattle.pr_roles.specs.declared.entry.Entry.{Entry}
@@ -24,6 +23,7 @@ use Rattle.pr_shared.specs.declared.outcome.Outcome.{Outcome}
 use Rattle.pr_shared.specs.Outcomes.{IsOutcome}
 use Rattle.pr_report.specs.TraceText.{name_of, names_in, names_of, trace_text}
 use Rattle.pr_report.specs.Written.{FallsShort}
+use Rattle.pr_shared.proofs.Fitted.{each}
 use Rattle.fence.specs.declared.fault.Fault.{Fault}
 use Rattle.fence.specs.declared.fault.Fault.TheVariants as fault
 use Rattle.fence.specs.Runs.{EndsRun, IsRunOf, counts_in, outcome_text}
@@ -76,12 +76,8 @@ room_in keys [] h fit = omega arith
 room_in keys (n ∷ ns) zero fit = room_of_nexus keys n (and_parts (is_nexus keys n) (list_all (is_nexus keys) ns) fit).0
 room_in keys (n ∷ ns) (suc h) fit = room_in keys ns h (and_parts (is_nexus keys n) (list_all (is_nexus keys) ns) fit).1
 
-each_nexus : (keys : List ℕ) (ns : List Nexus) → are_nexuses keys ns ≡ true → list_all (is_nexus keys) ns ≡ true
-each_nexus keys ns is =
-    (and_parts (are_distinct bytes_eq (map (λ n. n.name) ns)) _ (and_parts (nat_le (length ns) MOST_NEXUSES) _ (and_parts (not (length ns == 0)) _ is).1).1).1
-
 pub short_rooms : (s : Scenario) (h : ℕ) → Fits s → room_by (task s h) ≤ 4096
-short_rooms s h fits = room_in s.keys s.nexuses h (each_nexus s.keys s.nexuses fits.nexuses)
+short_rooms s h fits = room_in s.keys s.nexuses h (each s.keys s.nexuses fits.nexuses)
 
 -- no nexus sends so many that there is no number for them
 pub few_sent : (s : Scenario) (o : Outcome) (h : ℕ) → Fits s → IsSafe s → IsOutcome s o → commands_by o.history.items h < 2 ^ 32

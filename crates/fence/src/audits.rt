@@ -6,7 +6,7 @@ ghost use Rattle.pr_roles.specs.Scenarios.{scenario_of};
 ghost use Rattle.pr_text.specs.declared.fault.ReadError.{ReadError};
 ghost use Rattle.pr_text.specs.declared.text.TheConstants.{MOST_BYTES};
 ghost use Rattle.pr_text.specs.BytesRead.{LosesUpTo};
-ghost use Rattle.pr_report.specs.BytesTaken.{LosesUpTo as TakesUpTo};
+ghost use Rattle.pr_report.specs.BytesTaken.{LosesUpTo as TakesUpTo, most_of_trace};
 ghost use Rattle.pr_report.specs.Written.{Puts};
 ghost use Rattle.fence.specs.declared.fault.Fault.TheVariants.{Input, Memory};
 ghost use Rattle.fence.specs.Audits.{EndsAudit, Holds};
@@ -36,7 +36,7 @@ pub fn do_audit<R: Read, T: Read, W: Write, E: Write>(
 ) -> Status
     ensures command { IsCommand (EndsAudit (R.remaining reader.old) (T.remaining trace.old) (T.remaining trace.new) (W.contents writer.old) (W.contents writer.new)) (E.contents errors.old) (E.contents errors.new) result }
     ensures limited { LosesUpTo (MOST_BYTES + 1) (R.remaining reader.old) (R.remaining reader.new) }
-    ensures limited_trace { TakesUpTo 33662017 (T.remaining trace.old) (T.remaining trace.new) }
+    ensures limited_trace { TakesUpTo most_of_trace (T.remaining trace.old) (T.remaining trace.new) }
 {
     let (end, _) = audit_and_tell(alloc, reader, trace, writer, errors);
     status_of(end)
@@ -53,7 +53,7 @@ fn audit_and_tell<R: Read, T: Read, W: Write, E: Write>(
     ensures ends { EndsAudit (R.remaining reader.old) (T.remaining trace.old) (T.remaining trace.new) (W.contents writer.old) (W.contents writer.new) result.0 }
     ensures tells { Puts (E.contents errors.old) (E.contents errors.new) (told_of_end result.0) result.1 }
     ensures limited { LosesUpTo (MOST_BYTES + 1) (R.remaining reader.old) (R.remaining reader.new) }
-    ensures limited_trace { TakesUpTo 33662017 (T.remaining trace.old) (T.remaining trace.new) }
+    ensures limited_trace { TakesUpTo most_of_trace (T.remaining trace.old) (T.remaining trace.new) }
 {
     let end = audit_texts(alloc, reader, trace, writer);
     let told = tell_end(errors, &end);
@@ -69,7 +69,7 @@ fn audit_texts<R: Read, T: Read, W: Write>(
 ) -> Result<bool, Fault>
     ensures ends { EndsAudit (R.remaining reader.old) (T.remaining trace.old) (T.remaining trace.new) (W.contents writer.old) (W.contents writer.new) result }
     ensures limited { LosesUpTo (MOST_BYTES + 1) (R.remaining reader.old) (R.remaining reader.new) }
-    ensures limited_trace { TakesUpTo 33662017 (T.remaining trace.old) (T.remaining trace.new) }
+    ensures limited_trace { TakesUpTo most_of_trace (T.remaining trace.old) (T.remaining trace.new) }
 {
     let audited = examine(alloc, reader, trace)?;
     write_verdict(writer, &audited.scenario, &audited.verdict)?;
@@ -88,7 +88,7 @@ fn examine<R: Read, T: Read>(alloc: Global, reader: &mut R, trace: &mut T) -> Re
     ensures audited { IsAudited (R.remaining reader.old) (T.remaining trace.old) result }
     ensures unread { (e : ReadError) → result ≡ Err (Input e) → Keeps (T.remaining trace.old) (T.remaining trace.new) }
     ensures limited { LosesUpTo (MOST_BYTES + 1) (R.remaining reader.old) (R.remaining reader.new) }
-    ensures limited_trace { TakesUpTo 33662017 (T.remaining trace.old) (T.remaining trace.new) }
+    ensures limited_trace { TakesUpTo most_of_trace (T.remaining trace.old) (T.remaining trace.new) }
 {
     let scenario = read(alloc, reader)?;
     let entries = read_trace(alloc, &scenario, trace)?;

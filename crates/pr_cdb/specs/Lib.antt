@@ -3,3 +3,4 @@ pub mod Bytes
 pub mod Requests
 pub mod Spelling
 pub mod ReplyData
+pub mod inside

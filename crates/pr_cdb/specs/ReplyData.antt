@@ -1,6 +1,6 @@
 -- Agrees with SPC-4, 'PERSISTENT RESERVE IN command'; docs/FORMATS.md, 'Reply bytes'.
 -- The data that replies carry.
-use Rattle.std.specs.Prelude.{ℕ, zero, suc, ◌+◌, ◌-◌, ◌*◌, ◌/◌, ◌%◌, ◌<◌, ◌^◌, ◌==◌, ◌||◌, not, nat_lt, min, if◌then◌else◌, List, [], ◌∷◌, ◌++◌, length, take, slice_index, Option, Some, None}
+use Rattle.std.specs.Prelude.{ℕ, zero, suc, ◌+◌, ◌-◌, ◌*◌, ◌/◌, ◌%◌, ◌==◌, ◌||◌, not, nat_lt, min, if◌then◌else◌, List, [], ◌∷◌, ◌++◌, length, take, slice_index, Option, Some, None}
 use Rattle.std.specs.Int.{w32, w64, to_be_bytes}
 use Rattle.std.specs.List.{flat_map}
 use Rattle.pr_cdb.specs.declared.codes.TheConstants.{FIXED_FORMAT, ADDITIONAL_SENSE_LENGTH, HEADER_LENGTH, KEY_LENGTH, RESERVATION_LENGTH, MOST_NEXUSES}
@@ -34,11 +34,6 @@ reservation_bytes generation None = to_be_bytes w32 generation ++ to_be_bytes w3
 reservation_bytes generation (Some r) =
     to_be_bytes w32 generation ++ to_be_bytes w32 RESERVATION_LENGTH ++ to_be_bytes w64 r.0
     ++ (0 ∷ 0 ∷ 0 ∷ 0 ∷ 0 ∷ code_of r.1 ∷ 0 ∷ 0 ∷ [])
-
--- the key of a reservation has 64 bits
-abbrev pub HasKey : Option (ℕ × Kind) → Type 0
-HasKey None = Unit {0}
-HasKey (Some r) = r.0 < 2 ^ 64
 
 -- what the data of READ RESERVATION says of a reservation: its key and its type, under scope 0
 abbrev pub holder : Option (ℕ × Kind) → Option (ℕ × ℕ)

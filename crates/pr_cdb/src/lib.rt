@@ -22,5 +22,5 @@ pub use parameter_data::{capabilities, holder_of, keys_data, keys_of, reservatio
 pub use reading::{decode, reads_in_range};
 pub use reply::{Reply, Sense, Status};
 pub use sense_data::{decode_sense, encode_sense};
-pub use wire::{Bad, Request, Wire};
+pub use wire::{Bad, Request, Wire, copied};
 pub use writing::{encode, reads_what_is_written};

@@ -51,7 +51,7 @@ pub enum Bad {
 }
 
 /// The same bytes in a buffer of their own, which has room for them.
-pub(crate) fn copied<const N: usize>(bytes: &[u8]) -> ArrayVec<u8, N>
+pub fn copied<const N: usize>(bytes: &[u8]) -> ArrayVec<u8, N>
     requires { length bytes.now ≤ N }
     ensures { result.items ≡ bytes.now }
 {

@@ -12,6 +12,7 @@ use Rattle.pr_views.specs.Possibilities.{Scope, Item, Registration, Reservation,
 use Rattle.pr_views.specs.Views.{IsPossible}
 use Rattle.pr_views.specs.Rooms.{scope_of, view_of, IsMade}
 use Rattle.pr_views.specs.Portions.{view_in}
+use Rattle.pr_views.proofs.Places.{get_other}
 use Rattle.pr_domain.specs.declared.landing.Landing.{Landing}
 use Rattle.pr_domain.specs.inside.Reporting.{HasOutcome, AreKept, AreMore, IsOfWay}
 
@@ -21,13 +22,6 @@ get_set_same : {X : Type 0} (xs : List X) (i : ℕ) (y x : X) → slice_get xs i
 get_set_same [] i y x there = let bad : None ≡ Some x = there in cc
 get_set_same (z ∷ xs) zero y x there = refl
 get_set_same (z ∷ xs) (suc i) y x there = get_set_same xs i y x there
-
-get_set_other : {X : Type 0} (xs : List X) (i g : ℕ) (y : X) → g ≢ i → slice_get (slice_set xs i y) g ≡ slice_get xs g
-get_set_other [] i g y differs = refl
-get_set_other (x ∷ xs) zero zero y differs = absurd (differs refl)
-get_set_other (x ∷ xs) zero (suc g) y differs = refl
-get_set_other (x ∷ xs) (suc i) zero y differs = refl
-get_set_other (x ∷ xs) (suc i) (suc g) y differs = get_set_other xs i g y (λ e. differs (ap suc e))
 
 -- ---- what is read after a push
 
@@ -111,7 +105,7 @@ module _ {S : Type 0} (members : S → Numbers) (room : S → ℕ) (hosts : ℕ)
       where
         at : (((k == place) ≡ true) × (k ≡ place)) ⊎ (((k == place) ≡ false) × (k ≢ place)) → ((k ≢ place) × (slice_get old k ≡ Some (m, w))) ⊎ ((k ≡ place) × Same (l, joined) (m, w))
         at (inl same) = inr (same.1, same_Some _ _ (sym (get_set_same old place (l, joined) (l, v) there) ∙ ap (slice_get (slice_set old place (l, joined))) (sym same.1) ∙ read))
-        at (inr other) = inl (other.1, sym (get_set_other old place k (l, joined) other.1) ∙ read)
+        at (inr other) = inl (other.1, sym (get_other old place k (l, joined) other.1) ∙ read)
 
     pub kept_joined : AreKept members room hosts keys (slice_set old place (l, joined))
     kept_joined = record {
@@ -169,7 +163,7 @@ module _ {S : Type 0} (members : S → Numbers) (room : S → ℕ) (hosts : ℕ)
                 let both : Same (l, v) (m, has.1) = same_Some _ _ (sym there ∙ ap (slice_get old) (sym same.1) ∙ has.2) in
                 here m (sym (ap (λ (x : Landing × ViewOf S). x.0) both))
                 ((is own i).1 (inl (subst (λ (x : ViewOf S). IsPossible (view_of members own x) i) (sym (ap (λ (x : Landing × ViewOf S). x.1) both)) has.3)))
-            at (inr other) = (has.0, has.1, get_set_other old place has.0 (l, joined) other.1 ∙ has.2, has.3)
+            at (inr other) = (has.0, has.1, get_other old place has.0 (l, joined) other.1 ∙ has.2, has.3)
         back (inr new) = here m new.0 ((is own i).1 (inr new.1))
 
 -- none of the first has this landing, nor the next

@@ -1,7 +1,6 @@
 -- States that differ in what is pending for one nexus alone: views of the others show them alike.
 use Rattle.std.proofs.Common.{◌≡◌, ◌≢◌, ℕ, Bool, true, false, ◌==◌, ◌&&◌, ◌||◌, not, refl, sym, ap, ◌∙◌, arith}
 use Rattle.std.specs.FinSet as set
-use Rattle.std.proofs.lemmas.Bool.{and_parts}
 use Rattle.std.proofs.lemmas.Bool.Decides.{nat_tests}
 use Rattle.pr_cdb.specs.declared.command.Command.{Command}
 use Rattle.pr_attention.specs.Attentions.{power_on, reservations_preempted, reservations_released, registrations_preempted}
@@ -14,6 +13,7 @@ use Rattle.pr_unit.proofs.Pairs.{contains-remove-pair}
 use Rattle.pr_views.specs.Possibilities.{Scope, Item, Registration, Reservation, Attentions, IsSo, number_of}
 use Rattle.pr_views.specs.Views.{View, Shows}
 use Rattle.pr_regions.proofs.Telling.{contains-told, is_pending_after}
+use Rattle.pr_unit.proofs.Steps.{well_formed-reported}
 
 -- the same registry, and the same is pending for the owner
 pub record IsLike (own : ℕ) (u w : UnitState) : Type 0 where
@@ -62,12 +62,6 @@ like_effect own h c u w like = record {
 abbrev pub cleared : UnitState → ℕ → UnitState
 cleared u h = after_report (after_report (after_report (after_report u h power_on) h reservations_preempted) h reservations_released) h registrations_preempted
 
-formed_reported : (u : UnitState) (h code : ℕ) → IsWellFormed u → IsWellFormed (after_report u h code)
-formed_reported u h code w = record {
-  registry = w.registry;
-  pending = λ q x is. w.pending q x (and_parts (not (q == h && x == code)) (set.contains u.pending (q, x)) (sym (contains-remove-pair u.pending (h, code) (q, x)) ∙ is)).1;
-}
-
 like_reported : (own : ℕ) (u : UnitState) (h code : ℕ) → own ≢ h → IsLike own u (after_report u h code)
 like_reported own u h code other = record {
   registry = refl;
@@ -78,7 +72,7 @@ like_reported own u h code other = record {
 
 pub formed_cleared : (u : UnitState) (h : ℕ) → IsWellFormed u → IsWellFormed (cleared u h)
 formed_cleared u h formed =
-    formed_reported _ h registrations_preempted (formed_reported _ h reservations_released (formed_reported _ h reservations_preempted (formed_reported u h power_on formed)))
+    well_formed-reported _ h registrations_preempted (well_formed-reported _ h reservations_released (well_formed-reported _ h reservations_preempted (well_formed-reported u h power_on formed)))
 
 pub like_cleared : (own : ℕ) (u : UnitState) (h : ℕ) → own ≢ h → IsLike own u (cleared u h)
 like_cleared own u h other =

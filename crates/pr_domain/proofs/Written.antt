@@ -15,7 +15,7 @@ use Rattle.pr_roles.specs.declared.parts.Nexus.{Nexus as NexusPart}
 use Rattle.pr_roles.specs.declared.parts.Parts.{Parts}
 use Rattle.pr_roles.specs.Fitting.{Fits as FitsAll, AreDeclared, are_distinct, is_alternative, is_same_alternative, is_role, is_start, is_task, is_nexus, is_reservation, is_same_reservation}
 use Rattle.pr_roles.specs.Scenarios.{Scenario, Nexus, nexus, nexus_of, scenario_of}
-use Rattle.pr_roles.specs.Starts.{start_of}
+use Rattle.pr_roles.specs.inside.StoredStarts.{start_of}
 use Rattle.pr_roles.proofs.Allowed.{counted}
 use Rattle.pr_roles.proofs.Starting.{all_pass, slice_get_contains}
 use Rattle.pr_sets.specs.Words.{has}

@@ -1,15 +1,15 @@
 //! What the clauses of a role ask for.
 
-ghost use Rattle.std.specs.Prelude.{◌≡◌, ◌≤◌, ◌<◌, ◌==◌, ℕ, false, length, position, IfSome};
+ghost use Rattle.std.specs.Prelude.{◌≡◌, ◌≤◌, ◌==◌, ℕ, false, length, IfSome};
 ghost use Rattle.std.specs.Option.{option_map_or};
 ghost use Rattle.pr_roles.specs.declared.limits.TheConstants.{MOST_KEYS};
 ghost use Rattle.pr_sets.specs.Words.{has};
-ghost use Rattle.pr_regions.specs.Purposes.{HasNumber, number_in};
+ghost use Rattle.pr_regions.specs.Purposes.{HasNumber};
 ghost use Rattle.pr_regions.specs.Regions.{names};
 ghost use Rattle.pr_domain.specs.inside.Clauses.{purpose_for, holds_as, may_send as may_send_as, is_registered_as, refuses_strangers, AreSenders};
 
-use crate::place::{Place, every_key};
-use pr_regions::{Purpose, Standing};
+use crate::place::Place;
+use pr_regions::{Purpose, Standing, every_key, number_in};
 use pr_registry::Held;
 use pr_roles::{Action, Condition};
 use pr_sets::Word;
@@ -32,24 +32,6 @@ pub(crate) fn purpose_for(action: Action, keys: &[u64], held: Option<Held>) -> O
         Action::Preempt(key, kind) => Some(Purpose::Preempt(number_in(keys, key), kind)),
         Action::Read | Action::Write => None,
     }
-}
-
-/// The number of a declared key, from 1.
-pub(crate) fn number_in(keys: &[u64], key: u64) -> u8
-    requires { length keys.now ≤ MOST_KEYS }
-    ensures { result ≡ number_in keys.now key }
-{
-    match place_in(keys, key) {
-        Some(place) => place as u8 + 1,
-        None => 0,
-    }
-}
-
-fn place_in(keys: &[u64], key: u64) -> Option<usize>
-    ensures place { result ≡ position (λ declared. declared == key) keys.now }
-    ensures below { IfSome result (λ place. place < length keys.now) }
-{
-    keys.iter().position(|declared| *declared == key)
 }
 
 /// Whether a sender that stands so meets the condition, and is not refused as a stranger.

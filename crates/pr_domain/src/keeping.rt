@@ -13,8 +13,8 @@ ghost use Rattle.pr_domain.specs.inside.Gathering.{IsPlace, IsUniform};
 ghost use Rattle.pr_domain.specs.inside.Interfering.{Adds};
 ghost use Rattle.pr_domain.specs.inside.Keeping.{IsShownSo, IsShownAt, IsShown, IsKept};
 
-use crate::place::{Place, every_key};
-use pr_regions::{Region, reservation_at};
+use crate::place::Place;
+use pr_regions::{Region, every_key, reservation_at};
 use pr_sets::Word;
 use pr_views::{MOST_REGISTRATIONS, Possibilities};
 

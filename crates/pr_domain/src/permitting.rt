@@ -6,7 +6,6 @@ ghost use Rattle.pr_cdb.specs.declared.codes.TheConstants.{MOST_NEXUSES};
 ghost use Rattle.pr_script.specs.Grammar.{is_written};
 ghost use Rattle.pr_roles.specs.declared.limits.TheConstants.{MOST_KEYS};
 ghost use Rattle.pr_sets.specs.Words.{has};
-ghost use Rattle.pr_roles.specs.Permits.{is_always_permitted};
 ghost use Rattle.pr_views.specs.Possibilities.{Scope, Reservation, IsSo, key_at};
 ghost use Rattle.pr_views.specs.Portions.{view_in};
 ghost use Rattle.pr_views.specs.Rooms.{view_of, IsMade};
@@ -20,7 +19,7 @@ use crate::place::Place;
 use pr_cdb::Command;
 use pr_regions::{Branch, Ending, branches, is_refused, purpose_of, reservation_at, standing_of};
 use pr_registry::Held;
-use pr_roles::{Clause, Condition, Role, names};
+use pr_roles::{Clause, Condition, Role, is_always_permitted, names};
 use pr_sets::{ViewSet, Word};
 use pr_views::{MOST_REGISTRATIONS, Possibilities, ViewOf};
 
@@ -33,7 +32,7 @@ pub fn permitted<S: ViewSet>(view: &ViewOf<S>, role: &Role, host: u8, command: &
     ensures permitted { IsTrue result → IsPermittedIn (view_of S.members host view.now) role.now.clauses.items command.now }
     ensures refused { result ≡ false → IsRefusedIn (view_of S.members host view.now) role.now.clauses.items command.now }
 {
-    if only_looks(*command) {
+    if is_always_permitted(*command) {
         return true;
     }
     let possible = view.possibilities();
@@ -48,20 +47,6 @@ pub fn permitted<S: ViewSet>(view: &ViewOf<S>, role: &Role, host: u8, command: &
         host,
         &role.clauses,
         *command,
-    )
-}
-
-// Whether the command is one that needs no clause.
-fn only_looks(command: Command) -> bool
-    ensures { result ≡ is_always_permitted command }
-{
-    matches!(
-        command,
-        Command::TestUnitReady
-            | Command::RequestSense
-            | Command::ReadKeys { .. }
-            | Command::ReadReservation { .. }
-            | Command::ReportCapabilities { .. }
     )
 }
 

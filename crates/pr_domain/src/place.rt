@@ -4,16 +4,15 @@ ghost use Rattle.std.specs.Prelude.{◌≡◌, ◌<◌, ◌≤◌, ℕ, Bool, tr
 ghost use Rattle.pr_registry.specs.Changes.{is_held_by_all};
 ghost use Rattle.pr_sets.specs.Words.{has};
 ghost use Rattle.pr_unit.specs.UnitStates.{UnitState};
-ghost use Rattle.pr_roles.specs.declared.limits.TheConstants.{MOST_KEYS};
 ghost use Rattle.pr_views.specs.Possibilities.{Scope};
 ghost use Rattle.pr_views.specs.Portions.{has_at, view_in};
 ghost use Rattle.pr_domain.specs.inside.Gathering.{IsPlace, IsUniform, IsProper, IsAt, IsGathered, passes, IsLeftTo, HasTest};
 
 use pr_cdb::codes::MOST_NEXUSES;
-use pr_regions::Region;
+use pr_regions::{Region, every_key};
 use pr_registry::Held;
 use pr_sets::Word;
-use pr_views::{MOST_REGISTRATIONS, Portion, Possibilities};
+use pr_views::{Portion, Possibilities};
 
 /// One reservation of a view, and who sends a command under it.
 #[derive(Clone, Copy, Debug, PartialEq, Eq)]
@@ -108,12 +107,4 @@ impl Place {
     {
         matches!(self.held, Some(Held::All(_))) && senders.has(0)
     }
-}
-
-/// The registrations by a key.
-pub(crate) fn every_key() -> Word
-    ensures keys { (r : ℕ) → 1 ≤ r → r ≤ MOST_KEYS → has result r ≡ true }
-    ensures none { has result 0 ≡ false }
-{
-    Word::below(MOST_REGISTRATIONS).without(0)
 }

@@ -9,9 +9,9 @@ ghost use Rattle.pr_sets.specs.Words.{has};
 ghost use Rattle.pr_views.specs.Possibilities.{number_of};
 ghost use Rattle.pr_domain.specs.inside.Reaching.{IsWider};
 
-use crate::place::{Place, every_key};
+use crate::place::Place;
 use pr_cdb::Kind;
-use pr_regions::reservation_number;
+use pr_regions::{every_key, reservation_number};
 use pr_registry::{Held, is_all};
 use pr_sets::Word;
 

@@ -17,13 +17,14 @@ ghost use Rattle.pr_domain.specs.inside.Interfering.{IsOnlooking, IsWatched};
 ghost use Rattle.pr_domain.specs.inside.Reaching.{IsReach, IsReachAt, IsMost, IsTold, MayAllGo, number_named};
 
 use crate::changed::attentions_with;
-use crate::clauses::{holds, number_in};
+use crate::clauses::holds;
 use crate::keeping::count_of_reservations;
 use crate::onlooker::Onlooker;
-use crate::place::{Place, every_key};
+use crate::place::Place;
 use crate::reach::{Reach, none_alone};
 use pr_cdb::Kind;
 use pr_cdb::codes::MOST_NEXUSES;
+use pr_regions::{every_key, number_in};
 use pr_registry::Held;
 use pr_roles::{Action, Clause};
 use pr_sets::Word;

@@ -9,7 +9,7 @@ ghost use Rattle.pr_cdb.specs.declared.wire.Request.TheVariants.{Plain};
 ghost use Rattle.pr_registry.specs.Registrations.{State};
 ghost use Rattle.pr_script.specs.declared.script.Test.{Test};
 ghost use Rattle.pr_script.specs.Grammar.{is_written, test_fits};
-ghost use Rattle.pr_unit.specs.Faults.{illegal, command_fault};
+ghost use Rattle.pr_unit.specs.Faults.{command_fault};
 ghost use Rattle.pr_unit.specs.Replies.{report};
 ghost use Rattle.pr_sets.specs.Words.{has};
 ghost use Rattle.pr_views.specs.Rooms.{view_of, AreInRange};
@@ -26,12 +26,13 @@ use crate::landing::{Class, Landing};
 use crate::tally::Tally;
 use pr_attention::Attention;
 use pr_cdb::codes::{
-    ILLEGAL_REQUEST, INVALID_FIELD_IN_PARAMETER_LIST, INVALID_RELEASE_OF_PERSISTENT_RESERVATION,
+    INVALID_FIELD_IN_PARAMETER_LIST, INVALID_RELEASE_OF_PERSISTENT_RESERVATION,
     LOGICAL_BLOCK_ADDRESS_OUT_OF_RANGE,
 };
 use pr_cdb::{Command, Sense};
 use pr_script::Test;
 use pr_sets::{ViewSet, Word};
+use pr_unit::illegal;
 use pr_views::{Possibilities, ViewOf};
 use std::alloc::{AllocError, Global};
 
@@ -43,17 +44,6 @@ fn class_of_report(command: &Command, attention: Attention) -> Class
     match command {
         Command::RequestSense => Class::Good,
         _ => Class::Sense(attention.sense()),
-    }
-}
-
-// ILLEGAL REQUEST.
-fn illegal(asc: u8, ascq: u8) -> Sense
-    ensures { result ≡ illegal asc ascq }
-{
-    Sense {
-        key: ILLEGAL_REQUEST,
-        asc,
-        ascq,
     }
 }
 

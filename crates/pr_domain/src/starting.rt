@@ -15,11 +15,10 @@ ghost use Rattle.pr_domain.specs.inside.Beginning.{AreAlternatives, AreAmong, st
 ghost use Rattle.pr_domain.specs.inside.Closing.{scope_in};
 
 use crate::attentions::is_among;
-use crate::clauses::number_in;
 use crate::keeping::kept;
 use pr_attention::{Attention, Pending};
 use pr_cdb::codes::MOST_NEXUSES;
-use pr_regions::reservation_number;
+use pr_regions::{number_in, reservation_number};
 use pr_registry::Held;
 use pr_roles::{Nexus, Parts, Scenario};
 use pr_sets::{ViewSet, Word};

@@ -8,7 +8,8 @@ use Rattle.std.proofs.lemmas.Bool.Decides.{nat_tests, eqb_tells}
 use Rattle.std.proofs.lemmas.List.{take_all}
 use Rattle.std.proofs.lemmas.List.Folds.{list_any-append}
 use Rattle.pr_cdb.specs.declared.command.Kind.{Kind}
-use Rattle.pr_cdb.specs.ReplyData.{keys_bytes, keys_in, reservation_bytes, holder, HasKey, holder_in, cut}
+use Rattle.pr_cdb.specs.ReplyData.{keys_bytes, keys_in, reservation_bytes, holder, holder_in, cut}
+use Rattle.pr_cdb.specs.inside.KeyWidths.{HasKey}
 use Rattle.pr_cdb.proofs.ReadsData.{keys_in-keys_bytes, holder_in-reservation_bytes}
 use Rattle.pr_cdb.specs.declared.codes.TheConstants.{MOST_NEXUSES}
 use Rattle.pr_registry.specs.Hosts.{map_where}

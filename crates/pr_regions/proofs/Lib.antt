@@ -16,3 +16,4 @@ pub mod Contents
 pub mod Asked
 pub mod Arms
 pub mod Reserved
+pub mod Keys

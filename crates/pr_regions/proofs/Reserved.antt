@@ -8,7 +8,8 @@ use Rattle.std.proofs.lemmas.List.Elements.{Contains-push}
 use Rattle.pr_cdb.specs.declared.command.Kind.{Kind}
 use Rattle.pr_cdb.specs.declared.command.Command.{Command}
 use Rattle.pr_cdb.specs.declared.command.Command.TheVariants.{ReadReservation}
-use Rattle.pr_cdb.specs.ReplyData.{HasKey, holder}
+use Rattle.pr_cdb.specs.ReplyData.{holder}
+use Rattle.pr_cdb.specs.inside.KeyWidths.{HasKey}
 use Rattle.pr_registry.specs.declared.held.Held.{Held}
 use Rattle.pr_registry.specs.declared.held.Held.TheVariants.{One, All as Everybody}
 use Rattle.pr_registry.specs.Hosts.{is_key}

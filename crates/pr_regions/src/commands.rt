@@ -3,14 +3,13 @@
 ghost use Rattle.std.specs.Prelude.{◌≡◌, ◌≤◌, ◌==◌, IsTrue, IsSome, Some, length, position};
 ghost use Rattle.pr_registry.specs.Hosts.{is_key};
 ghost use Rattle.pr_script.specs.Grammar.{is_written_key};
-ghost use Rattle.pr_unit.specs.Conflicts.{is_wrong_key};
 ghost use Rattle.pr_roles.specs.declared.limits.TheConstants.{MOST_KEYS};
 ghost use Rattle.pr_regions.specs.Purposes.{number_in, is_in_range, purpose_of_register, purpose_of_preempt, purpose_of, key_named, HasNumber, names_written, is_refused};
 ghost use Rattle.pr_regions.specs.Regions.{names, standing_of};
 
 use crate::purpose::{Purpose, Standing};
 use pr_cdb::{Command, Kind};
-use pr_unit::CAPACITY;
+use pr_unit::{CAPACITY, is_wrong_key};
 
 // The place of a key among the declared ones.
 fn place_in(keys: &[u64], key: u64) -> Option<usize>
@@ -19,8 +18,8 @@ fn place_in(keys: &[u64], key: u64) -> Option<usize>
     keys.iter().position(|declared| *declared == key)
 }
 
-// The number of a declared key, from 1.
-pub(crate) fn number_in(keys: &[u64], key: u64) -> u8
+/// The number of a declared key, from 1, and zero of one that is not declared.
+pub fn number_in(keys: &[u64], key: u64) -> u8
     requires { length keys.now ≤ MOST_KEYS }
     ensures number { result ≡ number_in keys.now key }
     ensures known { result ≤ length keys.now }
@@ -107,16 +106,6 @@ pub(crate) fn is_key(key: Option<u64>, rk: u64) -> bool
     match key {
         None => false,
         Some(key) => key == rk,
-    }
-}
-
-// REGISTER needs the sender's key, or zero where it has none.
-fn is_wrong_key(key: Option<u64>, rk: u64) -> bool
-    ensures { result ≡ is_wrong_key key rk }
-{
-    match key {
-        None => rk != 0,
-        Some(key) => key != rk,
     }
 }
 

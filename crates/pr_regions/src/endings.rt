@@ -4,36 +4,24 @@ ghost use Rattle.std.specs.Prelude.{◌≡◌, ◌≤◌, ◌<◌, ℕ, IsTrue, 
 ghost use Rattle.pr_cdb.specs.declared.codes.TheConstants.{MOST_NEXUSES};
 ghost use Rattle.pr_registry.specs.declared.held.Held.{Held as HeldOf};
 ghost use Rattle.pr_registry.specs.Registrations.{kind_of, is_for_registrants};
-ghost use Rattle.pr_registry.specs.Changes.{is_kind, is_held_by_all};
 ghost use Rattle.pr_roles.specs.Fitting.{is_reservation};
-ghost use Rattle.pr_unit.specs.Faults.{illegal};
 ghost use Rattle.pr_views.specs.Possibilities.{number_of, count_of_reservations};
 ghost use Rattle.pr_regions.specs.Purposes.{HasNumber};
 ghost use Rattle.pr_regions.specs.Regions.{HasRoom};
 ghost use Rattle.pr_regions.specs.inside.Parts.{Does, AlwaysEnds, never, told_if, holds, keeps_from_reading, keeps_from_writing, is_kept_from};
 
-use crate::numbers::{new_reservation, reservation_number};
+use crate::numbers::reservation_number;
 use crate::purpose::{Purpose, Standing};
 use crate::region::{Change, Ending};
 use crate::words::every_key;
+use pr_cdb::Kind;
 use pr_cdb::codes::{
-    ILLEGAL_REQUEST, INVALID_FIELD_IN_PARAMETER_LIST, INVALID_RELEASE_OF_PERSISTENT_RESERVATION,
+    INVALID_FIELD_IN_PARAMETER_LIST, INVALID_RELEASE_OF_PERSISTENT_RESERVATION,
     LOGICAL_BLOCK_ADDRESS_OUT_OF_RANGE,
 };
-use pr_cdb::{Kind, Sense};
-use pr_registry::Held;
+use pr_registry::{Held, is_for_registrants, is_held_by_all, is_kind, new_reservation};
 use pr_sets::Word;
-
-// ILLEGAL REQUEST.
-fn illegal(asc: u8, ascq: u8) -> Sense
-    ensures { result ≡ illegal asc ascq }
-{
-    Sense {
-        key: ILLEGAL_REQUEST,
-        asc,
-        ascq,
-    }
-}
+use pr_unit::illegal;
 
 // The type of a reservation.
 pub(crate) fn kind_of(held: Held) -> Kind
@@ -43,27 +31,6 @@ pub(crate) fn kind_of(held: Held) -> Kind
         Held::One(kind, _) => kind,
         Held::All(kind) => kind,
     }
-}
-
-// Whether registrants that lose their access under this type are told.
-pub(crate) fn is_for_registrants(kind: Kind) -> bool
-    ensures { result ≡ is_for_registrants kind }
-{
-    !matches!(kind, Kind::WriteExclusive | Kind::ExclusiveAccess)
-}
-
-// Whether the types are one.
-pub(crate) fn is_kind(standing: Kind, kind: Kind) -> bool
-    ensures { result ≡ is_kind standing kind }
-{
-    standing == kind
-}
-
-// Whether the reservation is of all registrants.
-pub(crate) fn is_held_by_all(held: Option<Held>) -> bool
-    ensures { result ≡ is_held_by_all held }
-{
-    matches!(held, Some(Held::All(_)))
 }
 
 // Whether a sender that stands so holds the reservation.
@@ -200,6 +167,7 @@ pub(crate) fn reserve_ending(
 }
 
 // What ending a reservation of this type changes: registrants who lose their access are told.
+#[tactic(auto, using(crate::proofs::Keys::keys_those))]
 pub(crate) fn release_change(kind: Kind) -> Change
     ensures { Does result None never 0 never (told_if (is_for_registrants kind)) never }
 {

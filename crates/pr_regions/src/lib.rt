@@ -15,9 +15,10 @@ mod reservation_reads;
 mod unregistering;
 mod words;
 
-pub use commands::{is_refused, purpose_of, standing_of};
+pub use commands::{is_refused, number_in, purpose_of, standing_of};
 pub use dispatch::branches;
 pub use numbers::{reservation_at, reservation_number};
 pub use purpose::{Purpose, Standing};
 pub use reads::readings;
 pub use region::{Branch, Change, Ending, Reading, Region};
+pub use words::every_key;

@@ -2,12 +2,12 @@
 
 ghost use Rattle.std.specs.Prelude.{true, false, ◌≡◌, ◌≤◌, ◌<◌, ◌+◌, ◌*◌, IsTrue, IfSome, Some, None};
 ghost use Rattle.pr_cdb.specs.declared.codes.TheConstants.{MOST_NEXUSES};
-ghost use Rattle.pr_registry.specs.Registrations.{new_reservation, is_all};
+ghost use Rattle.pr_registry.specs.Registrations.{is_all};
 ghost use Rattle.pr_roles.specs.Fitting.{is_reservation};
 ghost use Rattle.pr_views.specs.Possibilities.{place_of, number_of, count_of_reservations};
 
 use pr_cdb::Kind;
-use pr_registry::{Held, is_all};
+use pr_registry::Held;
 
 // The place of a type among those with one holder (1, 3, 5, 6), and among those of all registrants (7, 8).
 fn place_of(kind: Kind) -> u8
@@ -33,17 +33,6 @@ pub fn reservation_number(hosts: u8, held: Option<Held>) -> u8
         None => 0,
         Some(Held::One(kind, holder)) => 1 + (hosts * place_of(kind) + holder),
         Some(Held::All(kind)) => 1 + (hosts * 4 + place_of(kind)),
-    }
-}
-
-/// The reservation of this type that a nexus establishes.
-pub(crate) fn new_reservation(kind: Kind, host: u8) -> Held
-    ensures { result ≡ new_reservation kind host }
-{
-    if is_all(kind) {
-        Held::All(kind)
-    } else {
-        Held::One(kind, host)
     }
 }
 

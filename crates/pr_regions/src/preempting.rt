@@ -12,14 +12,14 @@ ghost use Rattle.pr_regions.specs.Regions.{HasRoom};
 ghost use Rattle.pr_regions.specs.inside.Parts.{Does, Tell, never, only, is_named, told_but, lost_if, IsNotAnothers};
 
 use crate::branching::{ending_everywhere, three, two};
-use crate::endings::{change_to_reservation, is_kind, no_change};
-use crate::numbers::{new_reservation, reservation_number};
+use crate::endings::{change_to_reservation, no_change};
+use crate::numbers::reservation_number;
 use crate::purpose::{Purpose, Standing};
 use crate::region::{Branch, Change, Ending, Region};
 use crate::words::{another_than, anything_but, free_or};
 use arrayvec::ArrayVec;
 use pr_cdb::Kind;
-use pr_registry::Held;
+use pr_registry::{Held, is_kind, new_reservation};
 use pr_sets::Word;
 
 // What changes where the key is the single holder's: the reservation is replaced.

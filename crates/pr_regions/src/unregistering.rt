@@ -10,12 +10,12 @@ ghost use Rattle.pr_regions.specs.Regions.{HasRoom};
 ghost use Rattle.pr_regions.specs.inside.Parts.{Does, Tell, never, told_if, is_unregistered};
 
 use crate::branching::{ending_everywhere, two};
-use crate::endings::{change_to_reservation, is_held_by_all, no_change, release_change};
+use crate::endings::{change_to_reservation, no_change, release_change};
 use crate::purpose::{Purpose, Standing};
 use crate::region::{Branch, Change, Ending, Region};
 use crate::words::every_key;
 use arrayvec::ArrayVec;
-use pr_registry::Held;
+use pr_registry::{Held, is_held_by_all};
 use pr_sets::Word;
 
 // What unregistering changes where not all registrants hold: a single holder's reservation ends.

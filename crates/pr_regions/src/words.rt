@@ -1,8 +1,9 @@
 //! Words of registrations: 0 for none, and 1 to 12 for the declared keys.
 
-ghost use Rattle.std.specs.Prelude.{◌≡◌, ◌≤◌, ◌==◌, ◌&&◌, ℕ, true, not};
+ghost use Rattle.std.specs.Prelude.{◌≡◌, ◌≤◌, ◌==◌, ◌&&◌, ℕ, true, false, not};
+ghost use Rattle.pr_sets.specs.Words.{has};
 ghost use Rattle.pr_roles.specs.declared.limits.TheConstants.{MOST_KEYS};
-ghost use Rattle.pr_regions.specs.inside.Parts.{HasThose, any, never, is_of_registrant, but, another, free_or};
+ghost use Rattle.pr_regions.specs.inside.Parts.{HasThose, any, never, but, another, free_or};
 
 use pr_sets::Word;
 use pr_views::MOST_REGISTRATIONS;
@@ -14,9 +15,10 @@ pub(crate) fn every_registration() -> Word
     Word::below(MOST_REGISTRATIONS)
 }
 
-// Every key.
-pub(crate) fn every_key() -> Word
-    ensures { HasThose result is_of_registrant }
+/// The registrations by a key.
+pub fn every_key() -> Word
+    ensures keys { (r : ℕ) → 1 ≤ r → r ≤ MOST_KEYS → has result r ≡ true }
+    ensures none { has result 0 ≡ false }
 {
     Word::below(MOST_REGISTRATIONS).without(0)
 }
@@ -30,6 +32,7 @@ pub(crate) fn anything_but(registration: u8) -> Word
 }
 
 // Every key but the one of this number.
+#[tactic(auto, using(crate::proofs::Keys::keys_those))]
 pub(crate) fn another_than(key: u8) -> Word
     requires { key ≤ MOST_KEYS }
     ensures { HasThose result (another key) }

@@ -8,7 +8,8 @@ use Rattle.std.specs.FinMap as map
 use Rattle.pr_sets.specs.Kept.{numbers_where}
 use Rattle.pr_sets.proofs.Members.{contains-numbers_where, lt-zero, lt-suc, same_at}
 pub use Rattle.pr_sets.proofs.Members.{same_numbers as same_hosts, contains-empty as contains-nobody, contains-insert, contains-remove, contains-difference, contains-union}
-use Rattle.pr_registry.specs.Hosts.{Hosts, Keys, nobody, just, is_key, hosts_in, hosts_with, without, is_empty, with_pair, map_where, hosts_where}
+use Rattle.pr_registry.specs.Hosts.{Hosts, Keys, nobody, just, is_key, hosts_in, hosts_with, without, is_empty, with_pair, map_where}
+use Rattle.pr_registry.specs.inside.HostBits.{hosts_where}
 
 pub same_keys : (m n : Keys) → ((q : ℕ) → map.get m q ≡ map.get n q) → m ≡ n
 same_keys m n same = map.same_map nat_cmp_total nat_cmp-IsAntisymmetric m n same

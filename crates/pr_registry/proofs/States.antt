@@ -9,7 +9,8 @@ use Rattle.pr_cdb.specs.declared.command.Kind.{Kind}
 use Rattle.pr_registry.specs.declared.held.Held.{Held}
 use Rattle.pr_registry.specs.declared.held.Held.TheVariants.{One, All}
 use Rattle.pr_registry.specs.Hosts.{Hosts, Keys, just, is_key, hosts_in, hosts_with, is_empty, without, map_where}
-use Rattle.pr_registry.specs.Registrations.{State, IsKey, IsWellFormed, HasHolder, IsKeyOrNone, table_keys, state_of, state_from, is_registered, holds_alone, is_all, new_reservation, empty_registry}
+use Rattle.pr_registry.specs.Registrations.{State, IsKey, IsWellFormed, HasHolder, table_keys, state_from, is_registered, holds_alone, is_all, new_reservation, empty_registry}
+use Rattle.pr_registry.specs.inside.TableStates.{IsKeyOrNone, state_of}
 use Rattle.pr_registry.specs.Effects.{next, held_by_rest, held_or, held_after_preempt, with_registration, without_registration, with_reservation, after_release, after_clear, after_preempt}
 use Rattle.pr_registry.specs.Changes.{Case, ReplacesAll, ReplacesHolder, RemovesKey, preempt_case, HasKindIfReplacing, removed_by_preempt, is_released}
 use Rattle.pr_registry.proofs.Sets.{same_keys, get-insert, get-empty, get-without, contains-just, contains-remove, contains-hosts_with, not_empty_from_some}

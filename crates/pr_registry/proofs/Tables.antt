@@ -4,7 +4,8 @@ use Rattle.std.specs.FinSet as set
 use Rattle.std.specs.FinMap as map
 use Rattle.std.proofs.lemmas.Bool.Decides.{nat_tests}
 use Rattle.pr_cdb.specs.declared.codes.TheConstants.{MOST_NEXUSES}
-use Rattle.pr_registry.specs.Hosts.{Hosts, is_key, hosts_in, hosts_with, is_empty, hosts_where}
+use Rattle.pr_registry.specs.Hosts.{Hosts, is_key, hosts_in, hosts_with, is_empty}
+use Rattle.pr_registry.specs.inside.HostBits.{hosts_where}
 use Rattle.pr_registry.specs.Registrations.{table_keys}
 use Rattle.pr_registry.proofs.Sets.{same_hosts, same_keys, contains-hosts_where, contains-hosts_in, contains-hosts_with, get-map_where, is_empty_from_none, not_empty_from_some}
 

@@ -1,6 +1,6 @@
 -- Agrees with docs/MODEL.md, 'Nexuses and registrations'.
 -- Sets of hosts, and registrations as a set of pairs of a host and its key, at most one for a host.
-use Rattle.std.specs.Prelude.{ℕ, zero, suc, Bool, false, not, ◌==◌, Option, Some, None, if◌then◌else◌}
+use Rattle.std.specs.Prelude.{ℕ, zero, suc, Bool, false, not, ◌==◌, Option, Some, None}
 use Rattle.std.specs.Ordering.{nat_cmp}
 use Rattle.std.specs.FinSet as set
 use Rattle.std.specs.FinMap as map
@@ -51,8 +51,3 @@ with_pair keys h (Some k) = map.insert keys h k
 unfoldable pub map_where : ℕ → (ℕ → Option ℕ) → Keys
 map_where zero f = map.empty
 map_where (suc n) f = with_pair (map_where n f) n (f n)
-
--- the hosts below n that pass the test
-unfoldable pub hosts_where : ℕ → (ℕ → Bool) → Hosts
-hosts_where zero p = set.empty
-hosts_where (suc n) p = if p n then set.insert (hosts_where n p) n else hosts_where n p

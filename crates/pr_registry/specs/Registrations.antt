@@ -1,10 +1,9 @@
 -- Agrees with SPC-4, 'Persistent reservations', 'Persistent reservation holder'; docs/MODEL.md, 'Well formed states'.
 -- What a logical unit keeps of persistent reservations (SPC-4, 'Reservations' and 'Persistent
 -- reservations'): who is registered with which key, the reservation, and PRGENERATION.
-use Rattle.std.specs.Prelude.{◌≡◌, ℕ, ◌<◌, ◌≤◌, ◌^◌, Bool, true, false, ◌==◌, IsTrue, List, length, Option, Some, None, slice_index_or, if◌then◌else◌, refl}
+use Rattle.std.specs.Prelude.{◌≡◌, ℕ, ◌<◌, ◌≤◌, ◌^◌, Bool, true, false, ◌==◌, IsTrue, List, length, Option, Some, None, slice_index_or, if◌then◌else◌}
 use Rattle.std.specs.FinSet as set
 use Rattle.std.specs.FinMap as map
-use Rattle.std.specs.Coded.{Coded, code_by, coded×, coded_ℕ, coded_option}
 use Rattle.pr_cdb.specs.declared.codes.TheConstants.{MOST_NEXUSES}
 use Rattle.pr_cdb.specs.declared.command.Kind.{Kind}
 use Rattle.pr_cdb.specs.declared.command.Kind.TheVariants.{WriteExclusive, ExclusiveAccess, WriteExclusiveRegistrantsOnly, ExclusiveAccessRegistrantsOnly, WriteExclusiveAllRegistrants, ExclusiveAccessAllRegistrants}
@@ -17,13 +16,6 @@ pub record State : Type 0 where
   pub keys : Keys
   pub held : Option Held
   pub generation : ℕ
-
-abbrev pub state_code : Coded Held → Coded State
-state_code held =
-    code_by (ℕ × (Keys × (Option Held × ℕ))) (coded× coded_ℕ (coded× (map.code coded_ℕ coded_ℕ) (coded× (coded_option held) coded_ℕ)))
-    (λ u. (u.hosts, (u.keys, (u.held, u.generation))))
-    (λ t. record { hosts = t.0; keys = t.1.0; held = t.1.1.0; generation = t.1.1.1 })
-    (λ _. refl)
 
 abbrev pub key_of : State → ℕ → Option ℕ
 key_of u h = map.get u.keys h
@@ -92,10 +84,6 @@ HasHolder keys (Some (All t)) = (is_all t ≡ true) × (is_empty keys ≡ false)
 abbrev pub IsKey : ℕ → Type 0
 IsKey k = (1 ≤ k) × (k < 2 ^ 64)
 
-abbrev pub IsKeyOrNone : Option ℕ → Type 0
-IsKeyOrNone None = Unit {0}
-IsKeyOrNone (Some k) = IsKey k
-
 pub record IsWellFormed (u : State) : Type 0 where
   pub hosts : (1 ≤ u.hosts) × (u.hosts ≤ MOST_NEXUSES)
   pub keys : (h k : ℕ) → key_of u h ≡ Some k → (h < u.hosts) × IsKey k
@@ -109,11 +97,6 @@ empty_registry hosts = record { hosts = hosts; keys = map.empty; held = None; ge
 -- the registrations of a table with a place for each of n hosts
 abbrev pub table_keys : ℕ → List (Option ℕ) → Keys
 table_keys n slots = map_where n (λ h. slice_index_or slots h None)
-
--- the state that a table with a place for each host, a reservation and a generation describe
-abbrev pub state_of : ℕ → List (Option ℕ) → Option Held → ℕ → State
-state_of hosts slots held generation =
-    record { hosts = hosts; keys = table_keys MOST_NEXUSES slots; held = held; generation = generation }
 
 -- the state that a list of each host's key, a reservation and a generation describe
 abbrev pub state_from : List (Option ℕ) → Option Held → ℕ → State

@@ -1,1 +1,3 @@
 pub mod Cases
+pub mod TableStates
+pub mod HostBits

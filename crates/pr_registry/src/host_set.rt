@@ -21,7 +21,8 @@ impl Model for HostSet {
     ghost use Rattle.std.specs.Int.{bit_at};
     ghost use Rattle.std.specs.FinSet.{code};
     ghost use Rattle.std.specs.Coded.{coded_ℕ};
-    ghost use Rattle.pr_registry.specs.Hosts.{Hosts, hosts_where};
+    ghost use Rattle.pr_registry.specs.Hosts.{Hosts};
+    ghost use Rattle.pr_registry.specs.inside.HostBits.{hosts_where};
 
     ghost Value = { Hosts };
 
@@ -32,7 +33,7 @@ impl Model for HostSet {
 
 impl HostSet {
     /// No host.
-    #[tactic(auto, unfolding(crate::specs::Hosts::hosts_where))]
+    #[tactic(auto, unfolding(crate::specs::inside::HostBits::hosts_where))]
     pub(crate) fn new() -> Self
         ensures { result ≡ nobody }
     {

@@ -29,7 +29,8 @@ pub struct Registry {
 
 impl Model for Registry {
     ghost use Rattle.pr_registry.specs.contracts.held.Held as held_code;
-    ghost use Rattle.pr_registry.specs.Registrations.{State, state_code, IsWellFormed, state_of};
+    ghost use Rattle.pr_registry.specs.Registrations.{State, IsWellFormed};
+    ghost use Rattle.pr_registry.specs.inside.TableStates.{state_code, state_of};
 
     ghost Value = { State };
 

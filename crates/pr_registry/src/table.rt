@@ -4,7 +4,8 @@
 ghost use Rattle.std.specs.Prelude.{◌≡◌, ◌<◌, ◌≤◌, ◌↔◌, ℕ, IsTrue, if◌then◌else◌, None, length, slice_index_or};
 ghost use Rattle.std.specs.FinMap as map;
 ghost use Rattle.pr_registry.specs.Hosts.{just, is_key, hosts_in, hosts_with, has_no_registrant, is_empty, without};
-ghost use Rattle.pr_registry.specs.Registrations.{table_keys, is_all, is_for_registrants, new_reservation, holds_alone, is_holder_of, HasHolder, IsKeyOrNone};
+ghost use Rattle.pr_registry.specs.Registrations.{table_keys, is_all, is_for_registrants, new_reservation, holds_alone, is_holder_of, HasHolder};
+ghost use Rattle.pr_registry.specs.inside.TableStates.{IsKeyOrNone};
 ghost use Rattle.pr_registry.specs.Changes.{is_kind, is_told_of_loss, is_held_as, is_held_by_all};
 ghost use Rattle.pr_registry.specs.Effects.{held_by_rest};
 
@@ -96,8 +97,8 @@ pub(crate) fn are_keys(slots: &[Option<u64>]) -> bool
     true
 }
 
-/// Whether the two types are one.
-pub(crate) fn is_kind(old: Kind, new: Kind) -> bool
+/// Whether the types are one.
+pub fn is_kind(old: Kind, new: Kind) -> bool
     ensures { result ≡ is_kind old new }
 {
     old.code() == new.code()
@@ -139,7 +140,7 @@ pub(crate) fn slots_of(keys: &[Option<u64>]) -> [Option<u64>; MOST_NEXUSES]
 }
 
 /// A reservation of this type that the host establishes: its own, or one of all registrants.
-pub(crate) fn new_reservation(kind: Kind, host: u8) -> Held
+pub fn new_reservation(kind: Kind, host: u8) -> Held
     ensures { result ≡ new_reservation kind host }
 {
     if is_all(kind) {
@@ -172,7 +173,7 @@ pub(crate) fn is_held_as(held: Option<Held>, kind: Kind) -> bool
 }
 
 /// Whether the reservation is of all registrants.
-pub(crate) fn is_held_by_all(held: Option<Held>) -> bool
+pub fn is_held_by_all(held: Option<Held>) -> bool
     ensures { result ≡ is_held_by_all held }
 {
     matches!(held, Some(Held::All(_)))
@@ -200,8 +201,8 @@ pub(crate) fn is_told_of_loss(held: Option<Held>) -> bool
     }
 }
 
-// Whether types 5 to 8 are meant, under which every registrant has access.
-fn is_for_registrants(kind: Kind) -> bool
+/// Whether types 5 to 8 are meant, under which every registrant has access.
+pub fn is_for_registrants(kind: Kind) -> bool
     ensures { result ≡ is_for_registrants kind }
 {
     !matches!(kind, Kind::WriteExclusive | Kind::ExclusiveAccess)

@@ -4,7 +4,8 @@ use Rattle.std.specs.List.{flat_map}
 use Rattle.std.proofs.Math.ListN.{drop_of_length-le}
 use Rattle.std.proofs.Math.Seq.{take-length}
 use Rattle.std.specs.Io.KnownBytes.{Appends}
-use Rattle.pr_report.specs.Written.{Wrote, FallsShort, Puts, PutsAllBut}
+use Rattle.pr_report.specs.Written.{Wrote, FallsShort, Puts}
+use Rattle.pr_report.specs.inside.FrontsWritten.{PutsAllBut}
 
 append_some : (x y : List ℕ) → x ≢ [] → x ++ y ≢ []
 append_some [] y h = absurd (h refl)

@@ -7,7 +7,6 @@ use Rattle.std.specs.Int.{w32, w64, byte_at, bytes_high_first, to_be_bytes}
 use Rattle.std.specs.FinMap as finmap
 use Rattle.std.proofs.lemmas.Bool.Decides.{nat_tests}
 use Rattle.pr_cdb.specs.declared.command.Kind.{Kind}
-use Rattle.pr_cdb.specs.declared.command.Kind.TheVariants.{WriteExclusive, ExclusiveAccess, WriteExclusiveRegistrantsOnly, ExclusiveAccessRegistrantsOnly, WriteExclusiveAllRegistrants, ExclusiveAccessAllRegistrants}
 use Rattle.pr_cdb.specs.declared.command.Command.{Command}
 use Rattle.pr_cdb.specs.declared.command.Command.TheVariants.{TestUnitReady, RequestSense, Read, Write, ReadKeys, ReadReservation, ReportCapabilities, Register, RegisterIgnore, Reserve, Release, Clear, Preempt, PreemptAbort}
 use Rattle.pr_cdb.specs.declared.reply.Sense.{Sense}
@@ -25,6 +24,7 @@ use Rattle.pr_registry.specs.Registrations.{State}
 use Rattle.pr_unit.specs.Attentions.{attention_sense, is_attention}
 use Rattle.pr_unit.specs.Replies.{check, conflict, data_of, good, is_request_sense, report, reservation}
 use Rattle.pr_unit.specs.Faults.{command_fault, fault, preempt_fault, range_fault, release_fault}
+use Rattle.pr_world.proofs.Spelled.{code_small}
 use Rattle.pr_report.specs.TraceLaws.{HasSense}
 use Rattle.pr_report.proofs.WordsBack.{EachByte, are_bytes, sense_each}
 
@@ -161,14 +161,6 @@ cut_data m n bs h k = record { each = each_front n bs h.each; short = omega (ari
 
 nothing : IsData 72 []
 nothing = record { each = tt; short = omega arith }
-
-code_small : (kind : Kind) → code_of kind < 256
-code_small WriteExclusive = omega arith
-code_small ExclusiveAccess = omega arith
-code_small WriteExclusiveRegistrantsOnly = omega arith
-code_small ExclusiveAccessRegistrantsOnly = omega arith
-code_small WriteExclusiveAllRegistrants = omega arith
-code_small ExclusiveAccessAllRegistrants = omega arith
 
 all_keys_data : (generation : ℕ) (keys : List ℕ) → length keys ≤ MOST_NEXUSES → IsData 72 (keys_bytes generation keys)
 unfolding keys_bytes

@@ -1,10 +1,21 @@
 -- Agrees with docs/FORMATS.md, 'Reading a trace'.
 -- How many bytes are taken from a reader.
-use Rattle.std.specs.Prelude.{ℕ, ◌≤◌, List, length, Option}
+use Rattle.std.specs.Prelude.{ℕ, ◌+◌, ◌*◌, ◌≤◌, List, length, Option}
 use Rattle.std.specs.Io.KnownBytes.{Consumes}
+use Rattle.pr_report.specs.declared.ahead.TheConstants.{MOST_LINE_BYTES, MOST_HELD}
+use Rattle.pr_report.specs.declared.entry_reading.TheConstants.{MOST_ENTRIES}
+use Rattle.pr_report.specs.declared.trace_reading.TheConstants.{MOST_LATER_LINES}
 
 -- the reader has lost some bytes from the front, no more than the limit
 pub record LosesUpTo (limit : ℕ) (old new : Option (List ℕ)) : Type 0 where
   pub lost : List ℕ
   pub taken : Consumes old new lost
   pub limited : length lost ≤ limit
+
+-- the bytes of so many lines of a trace, with their ends, where each is as long as it may be
+abbrev pub bytes_of_lines : ℕ → ℕ
+bytes_of_lines n = n * (MOST_LINE_BYTES + 1)
+
+-- all that is taken of a trace: the first line, the entries, the lines behind them, and what is held and not looked at
+abbrev pub most_of_trace : ℕ
+most_of_trace = bytes_of_lines (1 + MOST_ENTRIES + MOST_LATER_LINES) + MOST_HELD

@@ -24,8 +24,3 @@ pub record FallsShort (old new : Option (List ℕ)) (text : List ℕ) : Type 0 w
 abbrev pub Puts : {E : Type 0} → Option (List ℕ) → Option (List ℕ) → List ℕ → Result (Unit {0}) E → Type 0
 Puts old new text (Ok done) = Appends old new text
 Puts old new text (Err fault) = FallsShort old new text
-
--- a call wrote this text but for what is left, where it succeeded, and fell short of it where it failed
-abbrev pub PutsAllBut : {E : Type 0} → Option (List ℕ) → Option (List ℕ) → List ℕ → List ℕ → Result (Unit {0}) E → Type 0
-PutsAllBut old new text left (Ok done) = Wrote old new text left
-PutsAllBut old new text left (Err fault) = FallsShort old new text

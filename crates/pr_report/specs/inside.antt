@@ -2,3 +2,4 @@ pub mod SevenWords
 pub mod LinesAhead
 pub mod Possible
 pub mod TraceLines
+pub mod FrontsWritten

@@ -1,6 +1,7 @@
 //! Lines of a reader, of which no more is read at once than there is room for.
 
 ghost use Rattle.std.specs.Prelude.{◌≡◌, ◌==◌, ◌≤◌, length, position};
+ghost use Rattle.pr_report.specs.declared.ahead.TheConstants.{MOST_HELD};
 
 use crate::trace_error::TraceError;
 use arrayvec::ArrayVec;
@@ -12,14 +13,17 @@ pub const MOST_LINE_BYTES: usize = 1_024;
 // How many bytes are asked of the reader at a time.
 const CHUNK: usize = 4_096;
 
+/// How many bytes are held at most that were read and not looked at.
+pub const MOST_HELD: usize = 8_192;
+
 /// Bytes that were read and not looked at yet.
 #[derive(Drop)]
 pub(crate) struct Ahead {
-    bytes: ArrayVec<u8, 8_192>,
+    bytes: ArrayVec<u8, MOST_HELD>,
     // The bytes before this place were looked at.
     start: usize,
     ghost in_range: { start ≤ length bytes.items },
-    ghost few: { length bytes.items ≤ 8192 },
+    ghost few: { length bytes.items ≤ MOST_HELD },
 }
 
 impl Ahead {
@@ -102,7 +106,7 @@ impl Ahead {
     }
 
     fn append(&mut self, more: &[u8])
-        requires { length (bytes_held self.old) + length more.now ≤ 8192 }
+        requires { length (bytes_held self.old) + length more.now ≤ MOST_HELD }
         ensures { bytes_held self.new ≡ bytes_held self.old ++ more.now }
     {
         let mut bytes = ArrayVec::new();

@@ -232,10 +232,11 @@ fn worth(digit: u8) -> Option<u8>
     }
 }
 
-// The number of the nexus with this name.
-fn number_of(nexuses: &[Nexus], name: &[u8]) -> Option<u8>
+/// The number of the nexus with this name, as a trace or the steps of a replay have it.
+pub fn number_of(nexuses: &[Nexus], name: &[u8]) -> Option<u8>
     requires { length nexuses.now ≤ MOST_NEXUSES }
-    ensures { result ≡ number_of (names_of nexuses.now) name.now }
+    ensures number { result ≡ number_of (names_of nexuses.now) name.now }
+    ensures there { IfSome result (λ host. host < length nexuses.now) }
 {
     let host = place_of(nexuses, name)?;
     Some(host as u8)

@@ -16,6 +16,7 @@ mod trace_error;
 mod trace_reading;
 mod verdict;
 
+pub use entry_reading::number_of;
 pub use laws::{replays_are_traced, written_traces_are_read};
 pub use outline::write_outlines;
 pub use output::{WriteFault, put};

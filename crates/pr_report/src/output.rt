@@ -2,8 +2,12 @@
 
 ghost use Rattle.pr_report.specs.Written.{Puts};
 
+use arrayvec::ArrayVec;
 use std::io::Write;
 use thiserror::Error;
+
+/// Text that is put together, and has not gone out yet.
+pub(crate) type Page = ArrayVec<u8, 8_192>;
 
 /// The writer answered an error, or took no byte.
 #[derive(Clone, Copy, Debug, PartialEq, Eq, Error)]

@@ -4,7 +4,8 @@ ghost use Rattle.std.specs.Prelude.{◌≡◌, ◌+◌, ◌++◌, ◌∷◌, [],
 ghost use Rattle.pr_registry.specs.Registrations.{key_of};
 ghost use Rattle.pr_roles.specs.Scenarios.{scenario_of};
 ghost use Rattle.pr_world.specs.Ends.{ending_of};
-ghost use Rattle.pr_report.specs.Written.{Puts, PutsAllBut};
+ghost use Rattle.pr_report.specs.Written.{Puts};
+ghost use Rattle.pr_report.specs.inside.FrontsWritten.{PutsAllBut};
 ghost use Rattle.pr_report.specs.inside.TraceLines.{line_text};
 ghost use Rattle.std.specs.Bool.{OnTrue, OnFalse};
 ghost use Rattle.std.specs.Fmt.{decimal};
@@ -12,7 +13,7 @@ ghost use Rattle.pr_report.specs.Printed.{printed_word};
 ghost use Rattle.pr_report.specs.PrintedLines.{line, joined_by_spaces};
 ghost use Rattle.pr_report.specs.TraceText.{ending_line, ending_lines, entry_line, entry_lines, held_word, name_of, names_in, names_of, registration_words, sense_data, status_word, trace_text, unit_line};
 
-use crate::output::{WriteFault, put};
+use crate::output::{Page, WriteFault, put};
 use crate::printing::{Word, put_after_space, put_line, put_spaced, put_word};
 use arrayvec::ArrayVec;
 use pr_cdb::codes::FIXED_SENSE_LENGTH;
@@ -22,9 +23,6 @@ use pr_roles::{Nexus, Scenario};
 use pr_unit::Unit;
 use pr_world::{End, Entry};
 use std::io::Write;
-
-// Lines that are put together, and have not gone out yet.
-type Page = ArrayVec<u8, 8192>;
 
 /// A line of a trace.
 #[derive(Clone, Copy)]

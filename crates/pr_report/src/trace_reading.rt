@@ -5,7 +5,7 @@ ghost use Rattle.pr_cdb.specs.declared.codes.TheConstants.{MOST_NEXUSES};
 ghost use Rattle.pr_report.specs.declared.entry_reading.TheConstants.{MOST_ENTRIES};
 ghost use Rattle.pr_roles.specs.Scenarios.{scenario_of};
 ghost use Rattle.pr_report.specs.TraceText.{names_in, names_of};
-ghost use Rattle.pr_report.specs.BytesTaken.{LosesUpTo};
+ghost use Rattle.pr_report.specs.BytesTaken.{LosesUpTo, bytes_of_lines, most_of_trace};
 ghost use Rattle.pr_report.specs.TraceReadings.{Faults, and_then, entries_of, is_later, later_lines, lines, trace_in, trace_of};
 ghost use Rattle.pr_report.specs.inside.LinesAhead.{Leads, Takes, bytes_held, bytes_left};
 
@@ -32,7 +32,7 @@ pub fn read_trace<R: Read>(
 ) -> Result<Vec<Entry>, TraceError>
     ensures read { IfSome (R.remaining reader.old) (λ text. IfOk result (λ entries. trace_of (names_in (scenario_of scenario.now)) text ≡ Ok entries.items)) }
     ensures fault { IfSome (R.remaining reader.old) (λ text. IfErr result (λ e. Faults e (trace_of (names_in (scenario_of scenario.now)) text))) }
-    ensures limited { LosesUpTo 33662017 (R.remaining reader.old) (R.remaining reader.new) }
+    ensures limited { LosesUpTo most_of_trace (R.remaining reader.old) (R.remaining reader.new) }
 {
     let nexuses = &scenario.parts().nexuses;
     let mut ahead = Ahead::new();
@@ -44,7 +44,7 @@ pub fn read_trace<R: Read>(
 
 // Reads the line above all others.
 fn read_first<R: Read>(ahead: &mut Ahead, reader: &mut R) -> Result<(), TraceError>
-    ensures taken { Takes 1025 (R.remaining reader.old) (R.remaining reader.new) (length (bytes_held ahead.old)) (length (bytes_held ahead.new)) }
+    ensures taken { Takes (bytes_of_lines 1) (R.remaining reader.old) (R.remaining reader.new) (length (bytes_held ahead.old)) (length (bytes_held ahead.new)) }
     ensures ok { (names : List (List ℕ)) → OnOk result (Leads (λ old new. trace_in names (lines old) ≡ entries_of names 0 (lines new)) (bytes_left ahead.old (R.remaining reader.old)) (bytes_left ahead.new (R.remaining reader.new))) }
     ensures fault { (names : List (List ℕ)) → IfSome (bytes_left ahead.old (R.remaining reader.old)) (λ text. IfErr result (λ e. Faults e (trace_in names (lines text)))) }
 {
@@ -72,7 +72,7 @@ fn read_entries<R: Read>(
     reader: &mut R,
 ) -> Result<Vec<Entry>, TraceError>
     requires { length nexuses.now ≤ MOST_NEXUSES }
-    ensures taken { Takes 33587200 (R.remaining reader.old) (R.remaining reader.new) (length (bytes_held ahead.old)) (length (bytes_held ahead.new)) }
+    ensures taken { Takes (bytes_of_lines MOST_ENTRIES) (R.remaining reader.old) (R.remaining reader.new) (length (bytes_held ahead.old)) (length (bytes_held ahead.new)) }
     ensures ok { IfOk result (λ entries. Leads (λ old new. entries_of (names_of nexuses.now) 0 (lines old) ≡ and_then (later_lines (length entries.items) 0 (lines new)) (λ _. Ok entries.items)) (bytes_left ahead.old (R.remaining reader.old)) (bytes_left ahead.new (R.remaining reader.new))) }
     ensures few { IfOk result (λ entries. length entries.items ≤ MOST_ENTRIES) }
     ensures fault { IfSome (bytes_left ahead.old (R.remaining reader.old)) (λ text. IfErr result (λ e. Faults e (entries_of (names_of nexuses.now) 0 (lines text)))) }
@@ -93,7 +93,7 @@ fn read_entries<R: Read>(
 // Reads the lines behind so many entries.
 fn read_later<R: Read>(entries: u32, ahead: &mut Ahead, reader: &mut R) -> Result<(), TraceError>
     requires { entries ≤ MOST_ENTRIES }
-    ensures taken { Takes 65600 (R.remaining reader.old) (R.remaining reader.new) (length (bytes_held ahead.old)) (length (bytes_held ahead.new)) }
+    ensures taken { Takes (bytes_of_lines MOST_LATER_LINES) (R.remaining reader.old) (R.remaining reader.new) (length (bytes_held ahead.old)) (length (bytes_held ahead.new)) }
     ensures ok { IfSome (bytes_left ahead.old (R.remaining reader.old)) (λ text. OnOk result (later_lines entries 0 (lines text) ≡ Ok tt)) }
     ensures fault { IfSome (bytes_left ahead.old (R.remaining reader.old)) (λ text. IfErr result (λ e. Faults e (later_lines entries 0 (lines text)))) }
 {

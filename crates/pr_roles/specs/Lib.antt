@@ -6,3 +6,4 @@ pub mod Worlds
 pub mod Schedules
 pub mod Safety
 pub mod Laws
+pub mod inside

@@ -8,7 +8,6 @@ use Rattle.pr_registry.specs.declared.held.Held.{Held}
 use Rattle.pr_registry.specs.declared.held.Held.TheVariants.{One, All}
 use Rattle.pr_registry.specs.Registrations.{key_of, state_from}
 use Rattle.pr_unit.specs.UnitStates.{UnitState, IsWellFormed, is_pending, quiet_unit}
-use Rattle.pr_roles.specs.declared.parts.Nexus.{Nexus as NexusPart}
 use Rattle.pr_roles.specs.Scenarios.{Scenario, Nexus, nexus}
 
 -- The state is well formed. Each host and guest is registered as one of its alternatives says, and nothing is
@@ -33,9 +32,6 @@ Starts = List (List (Option ℕ))
 
 abbrev pub starts : Scenario → Starts
 starts s = map (λ n. n.start) s.nexuses
-
-abbrev pub start_of : NexusPart → List (Option ℕ)
-start_of n = n.start.alternatives.items
 
 -- of the alternatives, the first
 abbrev pub first_of : List (Option ℕ) → Option ℕ

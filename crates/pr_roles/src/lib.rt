@@ -21,7 +21,7 @@ pub use entry::Entry;
 pub use fitting::{are_alternatives, is_action};
 pub use laws::{first_starts_are_earliest, starts_are_found};
 pub use parts::{Nexus, Parts, Start, Task};
-pub use permitting::{names, permits};
+pub use permitting::{is_always_permitted, names, permits};
 pub use pr_script::Word;
 pub use role::{Action, Clause, Condition, Role};
 pub use scenario::{Scenario, first_start};

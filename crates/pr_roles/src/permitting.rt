@@ -17,8 +17,8 @@ pub fn permits(role: &Role, unit: &Unit, host: u8, command: &Command) -> bool
     is_always_permitted(*command) || is_permitted_by(&role.clauses, unit.registry(), host, *command)
 }
 
-// The commands that only look.
-fn is_always_permitted(command: Command) -> bool
+/// Whether the command only looks, so that every role permits it.
+pub fn is_always_permitted(command: Command) -> bool
     ensures { result ≡ is_always_permitted command }
 {
     matches!(

@@ -14,7 +14,8 @@ use Rattle.pr_script.specs.declared.rows.Step.TheVariants.{Send, Repeat, Break, 
 use Rattle.pr_script.specs.declared.rows.ArmTarget.{ArmTarget}
 use Rattle.pr_script.specs.Scripts.{Stmt, Stmts, Arms, sends, repeats, none, more, no_arm, arm, before}
 use Rattle.pr_script.specs.Depths.{depth_of_all}
-use Rattle.pr_script.specs.Trees.{statement_of, statements_in, arms_in, script_of}
+use Rattle.pr_script.specs.Trees.{statement_of, statements_in, script_of}
+use Rattle.pr_script.specs.inside.ArmLists.{arms_in}
 use Rattle.pr_script.specs.inside.Program.{configuration, deepest, IsPlaced, concatenation, size, first_statements, without_end, place, arms_at, step_at, row_at, meanings, AreJumps, IsStep, IsRow, IsTable}
 use Rattle.pr_script.specs.inside.Compiled.{Grows, IsCompiled, IsStepCompiled, AreArmsCompiled}
 use Rattle.pr_script.proofs.Places.{length-meanings, meanings-push, place-zero}

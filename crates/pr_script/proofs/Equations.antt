@@ -8,7 +8,8 @@ use Rattle.pr_script.specs.declared.script.Script.{Script}
 use Rattle.pr_script.specs.declared.script.Arm.{Arm}
 use Rattle.pr_script.specs.declared.script.Statement.TheBlock.{items-the_row-Statement, items-the_row-Arm, items_shown-the_row-Statement-0, items_hidden-the_row-Statement-0, hidden-the_row-Statement-0, hidden-the_row-Arm-1, items_hidden-the_row-Arm-1}
 use Rattle.pr_script.specs.Scripts.{sends, repeats, more, arm}
-use Rattle.pr_script.specs.Trees.{statement_of, statements_of, arms_of, statements_in, arms_in, script_of}
+use Rattle.pr_script.specs.Trees.{statement_of, statements_of, arms_of, statements_in, script_of}
+use Rattle.pr_script.specs.inside.ArmLists.{arms_in}
 
 pub statements-items : (n : _) (row : Row_of-Statement n) → statements_of row ≡ statements_in (items-the_row-Statement n row)
 statements-items _ end_of-Statement = refl

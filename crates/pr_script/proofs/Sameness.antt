@@ -6,7 +6,8 @@ use Rattle.pr_script.specs.declared.script.Test.{Test}
 use Rattle.pr_script.specs.declared.script.Statement.{Statement}
 use Rattle.pr_script.specs.declared.script.Arm.{Arm}
 use Rattle.pr_script.specs.Scripts.{Stmt, Stmts, Arms, sends, repeats, none, more, no_arm, arm}
-use Rattle.pr_script.specs.Trees.{statement_of, statements_in, script_of, arms_in}
+use Rattle.pr_script.specs.Trees.{statement_of, statements_in, script_of}
+use Rattle.pr_script.specs.inside.ArmLists.{arms_in}
 use Rattle.pr_script.specs.inside.Program.{size}
 use Rattle.pr_script.proofs.Taken.{statements_taken, arms_taken, taken}
 

@@ -4,7 +4,8 @@ use Rattle.std.proofs.Common.{refl, sym, ap, ◌∙◌, get_or, arith}
 use Rattle.std.proofs.lemmas.List.{take_more}
 use Rattle.pr_script.specs.declared.script.Statement.{Statement}
 use Rattle.pr_script.specs.declared.script.Arm.{Arm}
-use Rattle.pr_script.specs.Trees.{statement_of, statements_in, script_of, arms_in}
+use Rattle.pr_script.specs.Trees.{statement_of, statements_in, script_of}
+use Rattle.pr_script.specs.inside.ArmLists.{arms_in}
 use Rattle.pr_script.specs.declared.script.Test.{Test}
 use Rattle.pr_script.specs.Scripts.{Stmt, Stmts, Arms, none, more, no_arm, arm}
 use Rattle.pr_script.specs.Depths.{depth_of, depth_of_all, depth_of_arms}

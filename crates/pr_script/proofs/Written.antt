@@ -5,7 +5,8 @@ use Rattle.std.proofs.lemmas.List.{take-append-drop}
 use Rattle.pr_cdb.specs.declared.command.Command.{Command}
 use Rattle.pr_script.specs.declared.script.Statement.{Statement}
 use Rattle.pr_script.specs.declared.script.Arm.{Arm}
-use Rattle.pr_script.specs.Trees.{statement_of, statements_in, script_of, arms_in}
+use Rattle.pr_script.specs.Trees.{statement_of, statements_in, script_of}
+use Rattle.pr_script.specs.inside.ArmLists.{arms_in}
 use Rattle.pr_script.specs.Grammar.{test_fits, statement_fits, statements_fit, arms_fit, count_of_arms, count_of, count_of_all, count_in_arms, lines_of, lines_of_all, lines_of_arms, rise_above}
 use Rattle.pr_script.specs.inside.Climbs.{last_of_climb}
 use Rattle.pr_script.proofs.Taken.{taken}

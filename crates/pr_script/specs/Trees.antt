@@ -28,7 +28,3 @@ statements_in (s ∷ rest) = more (statement_of s) (statements_in rest)
 
 abbrev pub script_of : Script → Stmts
 script_of script = statements_in script.statements.items
-
-abbrev pub arms_in : List Arm → Arms
-arms_in [] = no_arm
-arms_in (a ∷ rest) = arm a.test (script_of a.body) (arms_in rest)

@@ -3,3 +3,4 @@ pub mod Compiled
 pub mod Program
 pub mod StoredForm
 pub mod Advances
+pub mod ArmLists

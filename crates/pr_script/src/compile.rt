@@ -1,7 +1,8 @@
 //! How a script is compiled into a table of instructions.
 
 ghost use Rattle.std.specs.Prelude.{◌≤◌, IfOk, length};
-ghost use Rattle.pr_script.specs.Trees.{statement_of, statements_in, arms_in};
+ghost use Rattle.pr_script.specs.Trees.{statement_of, statements_in};
+ghost use Rattle.pr_script.specs.inside.ArmLists.{arms_in};
 ghost use Rattle.pr_script.specs.inside.Program.{IsTable};
 ghost use Rattle.pr_script.specs.inside.Compiled.{IsCompiled, IsStepCompiled, AreArmsCompiled};
 

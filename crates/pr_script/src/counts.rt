@@ -2,7 +2,8 @@
 
 ghost use Rattle.std.specs.Prelude.{◌≡◌, ◌+◌, min, nat_le};
 ghost use Rattle.pr_script.specs.declared.limits.TheConstants.{MOST_STATEMENTS};
-ghost use Rattle.pr_script.specs.Trees.{script_of, statement_of, arms_in};
+ghost use Rattle.pr_script.specs.Trees.{script_of, statement_of};
+ghost use Rattle.pr_script.specs.inside.ArmLists.{arms_in};
 ghost use Rattle.pr_script.specs.Grammar.{count_of, count_of_all, count_in_arms, lines_of, lines_of_all, lines_of_arms, rise_above};
 ghost use Rattle.pr_script.specs.inside.Climbs.{last_of_climb};
 

@@ -2,7 +2,8 @@
 
 ghost use Rattle.std.specs.Prelude.{◌≡◌, ◌+◌, min};
 ghost use Rattle.pr_script.specs.declared.limits.TheConstants.{MOST_OPEN};
-ghost use Rattle.pr_script.specs.Trees.{script_of, statement_of, arms_in};
+ghost use Rattle.pr_script.specs.Trees.{script_of, statement_of};
+ghost use Rattle.pr_script.specs.inside.ArmLists.{arms_in};
 ghost use Rattle.pr_script.specs.Depths.{depth_of, depth_of_all, depth_of_arms};
 
 use crate::limits::MOST_OPEN;

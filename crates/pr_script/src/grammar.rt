@@ -2,7 +2,8 @@
 
 ghost use Rattle.std.specs.Prelude.{◌≡◌, ◌≤◌, ◌<◌, ◌+◌, ◌&&◌, nat_lt, is_some};
 ghost use Rattle.pr_script.specs.declared.limits.TheConstants.{MOST_OPEN};
-ghost use Rattle.pr_script.specs.Trees.{script_of, statement_of, arms_in};
+ghost use Rattle.pr_script.specs.Trees.{script_of, statement_of};
+ghost use Rattle.pr_script.specs.inside.ArmLists.{arms_in};
 ghost use Rattle.pr_script.specs.Grammar.{is_declared, is_written_key, is_written, stands_under, is_test_declared, has_sense_digit, test_fits, begins_body, is_send_written, is_repeat_written, statement_fits, statements_fit, arms_fit, script_fits};
 
 use crate::counts::{is_short, lines_rise};

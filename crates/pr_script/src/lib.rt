@@ -27,7 +27,7 @@ pub use grammar::{
     WRITTEN_LENGTH, is_declared, is_test_declared, is_written, is_written_key, stands_under,
 };
 pub use laws::{cost_bounds_sends, fitting_is_shallow, settles};
-pub use machine::Machine;
+pub use machine::{Machine, end_word};
 pub use names::is_name;
 pub use next::{Next, NoArm};
 pub use script::{Arm, Script, Statement, Test, Word};

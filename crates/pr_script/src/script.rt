@@ -1,7 +1,8 @@
 //! Scripts as trees.
 
 ghost use Rattle.std.specs.Prelude.{◌≡◌, ◌↔◌, IsTrue, IfOk};
-ghost use Rattle.pr_script.specs.Trees.{script_of, statement_of, arms_in};
+ghost use Rattle.pr_script.specs.Trees.{script_of, statement_of};
+ghost use Rattle.pr_script.specs.inside.ArmLists.{arms_in};
 
 use crate::limits::MOST_LETTERS;
 use arrayvec::ArrayString;

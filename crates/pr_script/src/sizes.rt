@@ -2,7 +2,8 @@
 
 ghost use Rattle.std.specs.Prelude.{◌≡◌, ◌+◌, min};
 ghost use Rattle.pr_script.specs.declared.limits.TheConstants.{MOST_BUDGET};
-ghost use Rattle.pr_script.specs.Trees.{script_of, statement_of, arms_in};
+ghost use Rattle.pr_script.specs.Trees.{script_of, statement_of};
+ghost use Rattle.pr_script.specs.inside.ArmLists.{arms_in};
 ghost use Rattle.pr_script.specs.Costs.{cost_of, cost_of_all, greatest};
 
 use crate::limits::MOST_BUDGET;

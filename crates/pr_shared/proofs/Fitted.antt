@@ -20,7 +20,7 @@ few keys ns is =
     let within : nat_le (length ns) MOST_NEXUSES ≡ true = (and_parts (nat_le (length ns) MOST_NEXUSES) _ (and_parts (not (length ns == 0)) _ is).1).0 in
     grind (arith, nat_tests)
 
-each : (keys : List ℕ) (ns : List Nexus) → are_nexuses keys ns ≡ true → list_all (is_nexus keys) ns ≡ true
+pub each : (keys : List ℕ) (ns : List Nexus) → are_nexuses keys ns ≡ true → list_all (is_nexus keys) ns ≡ true
 each keys ns is = (and_parts (are_distinct bytes_eq (map (λ n. n.name) ns)) _ (and_parts (nat_le (length ns) MOST_NEXUSES) _ (and_parts (not (length ns == 0)) _ is).1).1).1
 
 short_each : (keys : List ℕ) (ns : List NexusPart) (i : ℕ) (d : NexusPart) → list_all (is_nexus keys) (map nexus_of ns) ≡ true → i < length ns → room_of (task_of (get_or ns i d).task) ≤ 4096

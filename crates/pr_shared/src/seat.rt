@@ -7,6 +7,7 @@ ghost use Rattle.pr_world.specs.Rooms.{room_of};
 
 use crate::round::Round;
 use pr_roles::{Entry, Task};
+use pr_world::room_of;
 use std::alloc::{AllocError, Global};
 use std::sync::ledger::Share;
 
@@ -92,15 +93,5 @@ impl<C: Round> Seat<C> {
         ensures { result ≡ vec_capacity self.now.mine }
     {
         self.mine.capacity() as u32
-    }
-}
-
-// A host's script sends no more than its budget, and a guest no more than its plan has.
-fn room_of(task: &Task) -> usize
-    ensures { result ≡ room_of (task_of task.now) }
-{
-    match task {
-        Task::Scripted { budget, .. } => *budget as usize,
-        Task::Planned(commands) => commands.len(),
     }
 }

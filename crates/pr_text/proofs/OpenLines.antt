@@ -10,7 +10,8 @@ use Rattle.pr_script.specs.declared.script.Script.{Script}
 use Rattle.pr_script.specs.declared.script.Statement.{Statement}
 use Rattle.pr_script.specs.declared.script.Statement.TheVariants.{Send, Repeat}
 use Rattle.pr_script.specs.declared.script.Arm.{Arm}
-use Rattle.pr_script.specs.Trees.{statement_of, statements_in, arms_in}
+use Rattle.pr_script.specs.Trees.{statement_of, statements_in}
+use Rattle.pr_script.specs.inside.ArmLists.{arms_in}
 use Rattle.pr_script.proofs.Equations.{tree_repeat, tree_send}
 use Rattle.pr_text.specs.declared.open_script.SendWithoutArm.{SendWithoutArm}
 use Rattle.pr_text.specs.declared.open_script.OpenBody.{OpenBody}

@@ -15,6 +15,7 @@ use Rattle.std.proofs.lemmas.Bool.Decides.{nat_tests, eqb_tells}
 use Rattle.std.proofs.lemmas.List.{get_or-set_same, get_or-set_other}
 use Rattle.pr_attention.specs.Attentions.{Codes, no_code}
 use Rattle.pr_attention.proofs.Sets.{contains-insert_code, contains-remove_code}
+use Rattle.pr_sets.proofs.Members.{lt-suc}
 use Rattle.pr_unit.specs.inside.Told.{AreBelow}
 use Rattle.pr_unit.specs.Attentions.{pair_cmp, Pairs, each_with, of_host, pairs_where, table_pairs, place}
 
@@ -120,9 +121,6 @@ joined_pair true true a b same = ap (λ y. b || y) (same refl) ∙ or_same b
 joined_pair true false a b same = same refl
 joined_pair false true a b same = or_false b
 joined_pair false false a b same = refl
-
-lt-suc : (q n : ℕ) → nat_lt q (suc n) ≡ (q == n || nat_lt q n)
-lt-suc q n = grind (arith, nat_tests)
 
 not-lt-zero : (q : ℕ) → nat_lt q 0 ≡ false
 not-lt-zero q = grind (arith, nat_tests)

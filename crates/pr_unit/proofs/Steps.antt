@@ -30,7 +30,7 @@ done_parts false false false (Some sense) is = let bad : AtFault sense ≡ Done 
 pub done_is_free : (u : UnitState) (h : ℕ) (q : Request) → decision u h q ≡ Done → (conflicts u.registry h q ≡ false) × (fault u.registry h q ≡ None)
 done_is_free u h q is = done_parts (is_pending u h power_on) (conflicts u.registry h q) (is_any_pending u h) (fault u.registry h q) is
 
-well_formed-reported : (u : UnitState) (h code : ℕ) → IsWellFormed u → IsWellFormed (after_report u h code)
+pub well_formed-reported : (u : UnitState) (h code : ℕ) → IsWellFormed u → IsWellFormed (after_report u h code)
 well_formed-reported u h code w = record {
   registry = w.registry;
   pending = λ q x is. w.pending q x (and_parts (not (q == h && x == code)) (set.contains u.pending (q, x)) (sym (contains-remove-pair u.pending (h, code) (q, x)) ∙ is)).1;

@@ -1,9 +1,8 @@
 -- Agrees with docs/MODEL.md, 'Well formed states'.
 -- The state of a logical unit: its registrations, reservation and generation, and the pending
 -- attentions of each host.
-use Rattle.std.specs.Prelude.{◌≡◌, ℕ, ◌<◌, Bool, true, IsTrue, List, refl}
+use Rattle.std.specs.Prelude.{◌≡◌, ℕ, ◌<◌, Bool, true, IsTrue, List}
 use Rattle.std.specs.FinSet as set
-use Rattle.std.specs.Coded.{Coded, code_by, coded×, coded_ℕ}
 use Rattle.std.specs.List.{list_any}
 use Rattle.pr_cdb.specs.declared.command.Command.{Command}
 use Rattle.pr_registry.specs.declared.change.Change.{Change}
@@ -19,10 +18,6 @@ pub record UnitState : Type 0 where
 -- the state of a registry and a table of pending attentions
 abbrev pub unit_of : State → List Codes → UnitState
 unit_of registry table = record { registry = registry; pending = table_pairs table }
-
-abbrev pub unit_code : Coded State → Coded UnitState
-unit_code registry =
-    code_by (State × Pairs) (coded× registry (set.code (coded× coded_ℕ coded_ℕ))) (λ u. (u.registry, u.pending)) (λ t. record { registry = t.0; pending = t.1 }) (λ _. refl)
 
 abbrev pub is_pending : UnitState → ℕ → ℕ → Bool
 is_pending u h code = set.contains u.pending (h, code)

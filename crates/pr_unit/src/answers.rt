@@ -12,13 +12,13 @@ ghost use Rattle.pr_unit.specs.Faults.{command_fault};
 ghost use Rattle.pr_unit.specs.Replies.{good, report, data_of};
 ghost use Rattle.pr_unit.specs.Steps.{TakenStep};
 
-use crate::data::{buffer, data};
+use crate::data::data;
 use crate::decision::{Decision, decide};
 use crate::effects::serve;
 use crate::{pending_table, reply};
 use pr_attention::{Attention, Pending};
 use pr_cdb::codes::MOST_NEXUSES;
-use pr_cdb::{Command, Reply, Request, encode_sense};
+use pr_cdb::{Command, Reply, Request, copied, encode_sense};
 use pr_registry::Registry;
 
 /// Answers the request of the host, and makes the unit's parts what they are then.
@@ -68,7 +68,7 @@ pub(crate) fn report_of(request: Request, attention: Attention) -> Reply
 {
     let sense = attention.sense();
     match request {
-        Request::Plain(Command::RequestSense) => reply::good(buffer(&encode_sense(&sense))),
+        Request::Plain(Command::RequestSense) => reply::good(copied(&encode_sense(&sense))),
         _ => reply::check(sense),
     }
 }

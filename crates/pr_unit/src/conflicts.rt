@@ -32,8 +32,8 @@ pub(crate) fn command_conflicts(registry: &Registry, host: u8, command: Command)
     }
 }
 
-// REGISTER needs the key that the host has, or zero where it has none.
-fn is_wrong_key(key: Option<u64>, rk: u64) -> bool
+/// Whether a REGISTER with this reservation key is refused: it needs the key that the host has, or zero where it has none.
+pub fn is_wrong_key(key: Option<u64>, rk: u64) -> bool
     ensures { result ≡ is_wrong_key key rk }
 {
     match key {

@@ -1,13 +1,15 @@
 //! The data of a command that ends GOOD.
 
-ghost use Rattle.std.specs.Prelude.{◌≡◌, ◌≤◌, length};
+ghost use Rattle.std.specs.Prelude.{◌≡◌};
 ghost use Rattle.pr_registry.specs.Registrations.{IsWellFormed};
 ghost use Rattle.pr_unit.specs.Replies.{reservation, data_of};
 
 use crate::reply::cut;
 use arrayvec::ArrayVec;
 use pr_cdb::codes::{MOST_DATA_LENGTH, NO_ADDITIONAL_SENSE_INFORMATION, NO_SENSE};
-use pr_cdb::{Command, Kind, Sense, capabilities, encode_sense, keys_data, reservation_data};
+use pr_cdb::{
+    Command, Kind, Sense, capabilities, copied, encode_sense, keys_data, reservation_data,
+};
 use pr_registry::{Held, Registry};
 
 /// The data of the command.
@@ -23,10 +25,10 @@ pub(crate) fn data(registry: &Registry, command: Command) -> ArrayVec<u8, MOST_D
         Command::ReadReservation { alloc } => {
             let held = reservation(registry);
             let bytes = reservation_data(registry.generation(), held);
-            cut(buffer(&bytes), alloc)
+            cut(copied(&bytes), alloc)
         }
-        Command::ReportCapabilities { alloc } => cut(buffer(&capabilities()), alloc),
-        Command::RequestSense => buffer(&encode_sense(&Sense {
+        Command::ReportCapabilities { alloc } => cut(copied(&capabilities()), alloc),
+        Command::RequestSense => copied(&encode_sense(&Sense {
             key: NO_SENSE,
             asc: NO_ADDITIONAL_SENSE_INFORMATION,
             ascq: 0,
@@ -53,14 +55,4 @@ fn reservation(registry: &Registry) -> Option<(u64, Kind)>
         Held::One(kind, holder) => Some((registry.key(holder).unwrap_or(0), kind)),
         Held::All(kind) => Some((0, kind)),
     }
-}
-
-/// These bytes as the data of a reply.
-pub(crate) fn buffer(bytes: &[u8]) -> ArrayVec<u8, MOST_DATA_LENGTH>
-    requires { length bytes.now ≤ MOST_DATA_LENGTH }
-    ensures { result.items ≡ bytes.now }
-{
-    let mut buffer = ArrayVec::new();
-    let _ = buffer.try_extend_from_slice(bytes);
-    buffer
 }

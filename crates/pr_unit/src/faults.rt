@@ -34,8 +34,8 @@ pub(crate) fn command_fault(registry: &Registry, host: u8, command: Command) -> 
     }
 }
 
-// ILLEGAL REQUEST.
-fn illegal(asc: u8, ascq: u8) -> Sense
+/// The sense data of ILLEGAL REQUEST with this additional sense code and qualifier.
+pub fn illegal(asc: u8, ascq: u8) -> Sense
     ensures { result ≡ illegal asc ascq }
 {
     Sense {

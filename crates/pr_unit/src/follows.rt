@@ -5,7 +5,8 @@ ghost use Rattle.pr_attention.specs.Attentions.{code_of};
 ghost use Rattle.pr_unit.specs.UnitStates.{IsWellFormed, unit_of};
 ghost use Rattle.pr_unit.specs.Conflicts.{command_conflicts};
 ghost use Rattle.pr_unit.specs.Faults.{command_fault};
-ghost use Rattle.pr_unit.specs.Follows.{IsFollowed, IsReported, IsAnyReported, IsDoneSo};
+ghost use Rattle.pr_unit.specs.Follows.{IsFollowed};
+ghost use Rattle.pr_unit.specs.inside.Following.{IsReported, IsAnyReported, IsDoneSo};
 
 use crate::answers::{perform, report_of};
 use crate::data::data;

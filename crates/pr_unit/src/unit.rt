@@ -28,7 +28,8 @@ pub struct Unit {
 
 impl Model for Unit {
     ghost use Rattle.pr_registry.specs.contracts.registry.Registry as registry_code;
-    ghost use Rattle.pr_unit.specs.UnitStates.{UnitState, IsWellFormed, unit_code, unit_of};
+    ghost use Rattle.pr_unit.specs.UnitStates.{UnitState, IsWellFormed, unit_of};
+    ghost use Rattle.pr_unit.specs.inside.UnitCodes.{unit_code};
 
     ghost Value = { UnitState };
 

@@ -8,6 +8,7 @@ use Rattle.pr_script.specs.Costs.{cost_of_all}
 use Rattle.pr_script.specs.Grammar.{rise_above, script_fits}
 use Rattle.pr_roles.specs.Scenarios.{Scenario}
 use Rattle.pr_views.specs.Views.{View}
+use Rattle.pr_domain.specs.inside.Interfering.{Among}
 use Rattle.pr_verify.specs.declared.places.Spot.{Spot}
 use Rattle.pr_verify.specs.declared.refusal.Refusal.{Refusal}
 use Rattle.pr_verify.specs.declared.refusal.Refusal.TheVariants.{NoArm, OutOfRole, OverBudget, Memory, NotSound}
@@ -15,7 +16,7 @@ use Rattle.pr_verify.specs.Places.{Place, places_of}
 use Rattle.pr_verify.specs.Outlines.{Outline, IsOfScenario, StartsAt, ComesTo, IsLeftAt, IsAsked, at_start, by_itself, by_another, IsListed, IsSound, IsFitting, KeepsToRole}
 use Rattle.pr_verify.specs.Refusals.{first_difference, DiffersAt, LacksFirst, BreaksRole, LacksArmFirst, FitsAt, IsUnfitAt, IsRefusal}
 use Rattle.pr_verify.specs.inside.Listing.{place_of, IsPlaceWritten}
-use Rattle.pr_verify.specs.inside.Least.{least, Among, EachOf}
+use Rattle.pr_verify.specs.inside.Least.{least, EachOf}
 use Rattle.pr_verify.specs.inside.Lacking.{HasAll, Lacks, IsFirstLacking}
 use Rattle.pr_verify.specs.inside.Reviewing.{IsLackingOfSends, IsReason, HasMisfit, IsFirstMisfit}
 use Rattle.pr_verify.proofs.Leasts.{least_as, least_either, each_listed, listed_among}

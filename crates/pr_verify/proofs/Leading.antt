@@ -5,6 +5,7 @@ use Rattle.std.specs.List.{Contains}
 use Rattle.std.proofs.lemmas.List.Elements.{Contains-append_left, Contains-append_right, Contains-append_cases}
 use Rattle.pr_script.specs.Scripts.{Stmt, Stmts, sends, repeats, breaks, stops, none, more, statement, mark, Configuration, before, past_mark, becomes, settled_form, first_configuration}
 use Rattle.pr_script.proofs.Settling.{kept}
+use Rattle.pr_roles.proofs.Starting.{contains_first}
 use Rattle.pr_verify.specs.declared.head.Head.{Head}
 use Rattle.pr_verify.specs.declared.head.Head.TheVariants.{Line, Falls, Breaks, Stops}
 use Rattle.pr_verify.specs.Places.{Place, then_head, out_of, head_of, head_of_all, lines_of, first_of, places_in, places, places_of, first_lines}
@@ -14,9 +15,6 @@ use Rattle.pr_verify.specs.Places.{Place, then_head, out_of, head_of, head_of_al
 -- what is in the one is in the other
 abbrev pub IsWithin : {X : Type 0} → List X → List X → Type 0
 IsWithin {X} xs ys = (x : X) → Contains xs x → Contains ys x
-
-pub here : {X : Type 0} (x : X) (xs : List X) → Contains (x ∷ xs) x
-here x xs = (0, omega arith, refl)
 
 none_within : (ns : List ℕ) → IsWithin [] ns
 none_within ns n there = let small = there.1 in absurd (omega arith)
@@ -80,7 +78,7 @@ enters_again Breaks left m there = Contains-append_left left left m there
 enters_again Stops left m there = none_within left m there
 
 goes_on : (all : List Place) (s : Stmt) (left broken : List ℕ) → IsWithin (places_in s left broken) all → GoesOn all s (lines_of (head_of s) left broken) left broken
-goes_on all (sends n c a) left broken placed = (here n [], placed)
+goes_on all (sends n c a) left broken placed = (contains_first n [], placed)
 goes_on all (repeats zero b) left broken placed = λ m there. there
 goes_on all (repeats (suc zero) b) left broken placed = record {
   inner = left;

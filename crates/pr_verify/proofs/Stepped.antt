@@ -16,9 +16,10 @@ use Rattle.pr_domain.specs.declared.landing.Landing.{Landing}
 use Rattle.pr_domain.specs.declared.landing.Landing.TheVariants.{Arm, NoArm}
 use Rattle.pr_domain.specs.Landings.{IsLanding}
 use Rattle.pr_domain.specs.Outcomes.{Outcome, IsExpected, AreOutcomes}
+use Rattle.pr_domain.specs.inside.Interfering.{Among}
 use Rattle.pr_verify.specs.Places.{Place}
 use Rattle.pr_verify.specs.Outlines.{Outline, view_at, IsShownAt, ComesTo}
-use Rattle.pr_verify.specs.inside.Least.{Among, EachOf, IsLeastAmong}
+use Rattle.pr_verify.specs.inside.Least.{EachOf, IsLeastAmong}
 use Rattle.pr_verify.specs.inside.Lacking.{HasAll, Lacks, IsFirstLacking, HasView, lines_after, HasNext, LacksNext}
 use Rattle.pr_verify.proofs.Leasts.{least_as, each_listed, listed_among}
 use Rattle.pr_verify.proofs.Mapped.{mapped, unmapped}

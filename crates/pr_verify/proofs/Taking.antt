@@ -12,8 +12,9 @@ use Rattle.pr_script.specs.declared.script.Test.TheVariants as test
 use Rattle.pr_script.specs.Scripts.{Stmts, Arms, sends, repeats, breaks, stops, no_arm, arm, statement, mark, Configuration, ready, stopped, before, settled_form, standing_of_items}
 use Rattle.pr_script.specs.Takes.{matches, first_match, take}
 use Rattle.pr_script.specs.Costs.{commands}
+use Rattle.pr_roles.proofs.Starting.{contains_first}
 use Rattle.pr_verify.specs.Places.{Place, first_of, tests_of, next_of, place, places, places_of_arms, follows}
-use Rattle.pr_verify.proofs.Leading.{IsWithin, here, Goes, Leads, goes_before, leads_settled}
+use Rattle.pr_verify.proofs.Leading.{IsWithin, Goes, Leads, goes_before, leads_settled}
 
 -- there is something still to do, and it leads to these lines
 abbrev pub LeadsOn : List Place → List ℕ → Option Configuration → Type 0
@@ -72,7 +73,7 @@ ready_send all now n c a l leads =
     let rest = leads.1.2 in
     record {
       place = place n c a left broken;
-      listed = placed (place n c a left broken) (here (place n c a left broken) (places_of_arms a left broken));
+      listed = placed (place n c a left broken) (contains_first (place n c a left broken) (places_of_arms a left broken));
       line = refl;
       command = refl;
       there = there;

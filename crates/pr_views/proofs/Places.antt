@@ -34,7 +34,7 @@ get_same [] i y there = absurd (omega arith)
 get_same (x ∷ xs) zero y there = refl
 get_same (x ∷ xs) (suc i) y there = get_same xs i y (omega arith)
 
-get_other : {X : Type 0} (xs : List X) (i g : ℕ) (y : X) → g ≢ i → slice_get (slice_set xs i y) g ≡ slice_get xs g
+pub get_other : {X : Type 0} (xs : List X) (i g : ℕ) (y : X) → g ≢ i → slice_get (slice_set xs i y) g ≡ slice_get xs g
 get_other [] i g y differs = refl
 get_other (x ∷ xs) zero zero y differs = absurd (differs refl)
 get_other (x ∷ xs) zero (suc g) y differs = refl

@@ -17,7 +17,8 @@ use Rattle.pr_script.specs.Scripts.{ready}
 use Rattle.pr_roles.specs.declared.entry.Entry.{Entry}
 use Rattle.pr_roles.specs.Scenarios.{Scenario, Nexus, Task, Scripted, Planned, role}
 use Rattle.pr_roles.specs.Worlds.{World, Control, Going, Trapped, Free, Event, Host, Guest, Happens, GuestSends, control, is_guest, is_guest_task, standing_of, control_after, entry_of, after as world_after}
-use Rattle.pr_world.specs.Courses.{is_free, is_planned}
+use Rattle.pr_world.specs.Courses.{is_planned}
+use Rattle.pr_world.specs.inside.Participations.{is_free}
 use Rattle.pr_world.specs.inside.Auditing.{MayCome, IsJudged, Adds, IsTried, ActFor}
 use Rattle.pr_world.proofs.Judging.{may_fixed, free_judged, hosts_judged}
 

@@ -12,11 +12,13 @@ use Rattle.pr_roles.specs.declared.parts.Parts.{Parts}
 use Rattle.pr_roles.specs.Scenarios.{Scenario, Nexus, role, scenario_of}
 use Rattle.pr_roles.specs.Starts.{IsAllowedStart}
 use Rattle.pr_roles.specs.Worlds.{World, Free, control, control_of}
+use Rattle.pr_domain.proofs.Roles.{count_of_parts}
 use Rattle.pr_world.specs.declared.sender.Sender.{Sender}
-use Rattle.pr_world.specs.Courses.{is_free, is_planned}
+use Rattle.pr_world.specs.Courses.{is_planned}
+use Rattle.pr_world.specs.inside.Participations.{is_free}
 use Rattle.pr_world.specs.inside.Auditing.{IsJudged, IsTried, Adds, ActFor, control_by}
 use Rattle.pr_world.proofs.Beginning.{free_from}
-use Rattle.pr_world.proofs.Turning.{role_at, length-parts}
+use Rattle.pr_world.proofs.Turning.{role_at}
 use Rattle.pr_world.proofs.Adding.{judged_tried, judged_acts, none_past}
 
 -- ---- the senders
@@ -43,14 +45,14 @@ length-senders s u senders es acts =
 
 past_parts : (p q : Parts) (h i n : ℕ) → q ≡ p → i ≡ h → n ≡ vec_len q.nexuses → n ≤ i → length (scenario_of p).nexuses ≤ h
 past_parts p q h i n same at len past =
-    let parts = length-parts p in
+    let parts = count_of_parts p in
     let items = ap (λ r. length r.nexuses.items) same in
     let all = q.nexuses.ok.0 in
     omega arith
 
 pub within_parts : (p q : Parts) (h i n : ℕ) → q ≡ p → i ≡ h → n ≡ vec_len q.nexuses → i < n → h < length (scenario_of p).nexuses
 within_parts p q h i n same at len there =
-    let parts = length-parts p in
+    let parts = count_of_parts p in
     let items = ap (λ r. length r.nexuses.items) same in
     let all = q.nexuses.ok.0 in
     omega arith

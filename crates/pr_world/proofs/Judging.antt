@@ -10,7 +10,7 @@ use Rattle.pr_roles.specs.declared.entry.Entry.{Entry}
 use Rattle.pr_roles.specs.Worlds.{Control, Going, Trapped, Free, control_after}
 use Rattle.pr_world.specs.declared.sender.Sender.{Sender}
 use Rattle.pr_world.specs.declared.sender.Sender.TheVariants as sender
-use Rattle.pr_world.specs.Courses.{is_free}
+use Rattle.pr_world.specs.inside.Participations.{is_free}
 use Rattle.pr_world.specs.inside.Auditing.{ScriptSends, GuestSendsSo, MayCome, IsGuestJudged, IsJudged, control_by}
 use Rattle.pr_world.proofs.Fixed.{step_fixed}
 use Rattle.pr_world.proofs.Turning.{free_taken}

@@ -20,7 +20,8 @@ use Rattle.pr_roles.specs.Safety.{IsSafe, KeepsBudgetBy}
 use Rattle.pr_roles.specs.Schedules.{Schedule, Sends, SendsUnless, HostTurn, GuestTurn, TurnBy, ScheduledRun, is_held_back, plan, plan_of, schedule_from}
 use Rattle.pr_world.specs.Courses.{IsReached}
 use Rattle.pr_world.specs.inside.Turns.{does, sends as sending}
-use Rattle.pr_world.specs.Rooms.{room_of, room_by, rooms}
+use Rattle.pr_world.specs.Rooms.{room_of, room_by}
+use Rattle.pr_world.specs.inside.Workings.{rooms}
 use Rattle.pr_world.proofs.Counting.{sent_other, sent_own, all_have_room, one_has_room}
 use Rattle.pr_world.proofs.Meaning.{HasItsTask, HostIsReady, GuestIsReady, means}
 use Rattle.pr_world.proofs.Running.{run_then}

@@ -13,7 +13,8 @@ use Rattle.pr_roles.specs.declared.entry.Entry.{Entry}
 use Rattle.pr_roles.specs.Scenarios.{Scenario, Nexus}
 use Rattle.pr_roles.specs.Worlds.{World, Free, control_after, control, after}
 use Rattle.pr_roles.specs.Schedules.{plan, Sends}
-use Rattle.pr_world.specs.Courses.{Participation, schedule_by, IsSent, IsSentHere, StandsFor, is_free, is_planned}
+use Rattle.pr_world.specs.Courses.{is_planned}
+use Rattle.pr_world.specs.inside.Participations.{Participation, schedule_by, IsSent, IsSentHere, StandsFor, is_free}
 
 -- ---- a participation among the participations
 

@@ -13,8 +13,10 @@ use Rattle.pr_roles.specs.declared.parts.Parts.{Parts}
 use Rattle.pr_roles.specs.Scenarios.{Nexus, Task, Scripted, Planned, nexus_of, task_of, scenario_of}
 use Rattle.pr_roles.specs.Fitting.{Fits, are_distinct, is_nexus, is_role, is_start, is_task, are_nexuses}
 use Rattle.pr_world.specs.declared.course.Course.{Course}
-use Rattle.pr_world.specs.Courses.{IsReached, StandsFor, schedule_of, participation_of}
-use Rattle.pr_world.specs.Rooms.{room_of, rooms}
+use Rattle.pr_world.specs.Courses.{IsReached}
+use Rattle.pr_world.specs.inside.Participations.{StandsFor, schedule_of, participation_of}
+use Rattle.pr_world.specs.Rooms.{room_of}
+use Rattle.pr_world.specs.inside.Workings.{rooms}
 use Rattle.pr_world.specs.inside.Workings.{IsAtWork}
 
 room_of_task : (keys : List ℕ) (t : Task) → is_task keys t ≡ true → room_of t ≤ 4096

@@ -11,7 +11,8 @@ use Rattle.pr_roles.specs.declared.entry.Entry.{Entry}
 use Rattle.pr_world.specs.declared.course.Course.{Course}
 use Rattle.pr_world.specs.declared.participant.Participant.{Participant}
 use Rattle.pr_world.specs.declared.replaying.Replayed.{Replayed}
-use Rattle.pr_world.specs.Courses.{participation_of, schedule_of, HappensBy, IsReached, StandsFor}
+use Rattle.pr_world.specs.Courses.{IsReached}
+use Rattle.pr_world.specs.inside.Participations.{participation_of, schedule_of, HappensBy, StandsFor}
 use Rattle.pr_world.specs.Ends.{ending_of, ending, endings}
 use Rattle.pr_world.proofs.Trapping.{trapped_ends}
 use Rattle.pr_world.specs.Replays.{IsEndOf, IsReplayed}

@@ -41,7 +41,7 @@ literal (b ∷ bs) is = at (nat_lt b 256) (list_all (λ x. nat_lt x 256) bs) ref
     at true rest first is later = more b bs (grind (arith, nat_tests)) (later is)
     at false rest first is later = let bad : false ≡ true = is in cc
 
-code_small : (kind : Kind) → code_of kind < 256
+pub code_small : (kind : Kind) → code_of kind < 256
 code_small WriteExclusive = omega arith
 code_small ExclusiveAccess = omega arith
 code_small WriteExclusiveRegistrantsOnly = omega arith

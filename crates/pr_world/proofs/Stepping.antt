@@ -14,7 +14,8 @@ use Rattle.pr_world.specs.declared.act.Act.TheVariants as act
 use Rattle.pr_world.specs.declared.course.Course.{Course}
 use Rattle.pr_world.specs.declared.turn.Turn.{Turn}
 use Rattle.pr_world.specs.declared.turn.Turn.TheVariants as turn
-use Rattle.pr_world.specs.Courses.{HappensBy, IsReached, StandsFor, schedule_of, participation_of}
+use Rattle.pr_world.specs.Courses.{IsReached}
+use Rattle.pr_world.specs.inside.Participations.{HappensBy, StandsFor, schedule_of, participation_of}
 use Rattle.pr_world.specs.StepAnswers.{IfStopped, IfHeld, IsStopped, PassesOver}
 use Rattle.pr_world.specs.inside.Turns.{does, entry_in, sends, stops, is_done, passes, doing_of}
 use Rattle.pr_world.specs.inside.Workings.{IsAtWork}

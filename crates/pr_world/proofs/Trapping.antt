@@ -9,7 +9,7 @@ use Rattle.pr_roles.specs.Worlds.{Control, Going, Trapped, Free, is_trapped}
 use Rattle.pr_world.specs.declared.end.End.{End}
 use Rattle.pr_world.specs.declared.end.End.TheVariants as end
 use Rattle.pr_world.specs.declared.participant.Participant.{Participant}
-use Rattle.pr_world.specs.Courses.{participation_of}
+use Rattle.pr_world.specs.inside.Participations.{participation_of}
 use Rattle.pr_world.specs.Ends.{Ending, stops, waits, traps, ending_of, ending, ending_by, is_trapped_end}
 
 abbrev is_trap : Ending → Bool

@@ -19,8 +19,10 @@ use Rattle.pr_roles.specs.declared.parts.Parts.{Parts}
 use Rattle.pr_roles.specs.Scenarios.{Scenario, Task, Scripted, Planned, nexus, role, nexus_of, scenario_of}
 use Rattle.pr_roles.specs.Worlds.{Control, Going, Trapped, Free, control, is_trapped, standing_of, going_or_trapped, control_after}
 use Rattle.pr_roles.specs.Schedules.{HostTurn, SendsUnless, GuestTurn, TurnBy, Turn, is_held_back, plan}
+use Rattle.pr_domain.proofs.Roles.{count_of_parts}
 use Rattle.pr_world.specs.declared.participant.Participant.{Participant}
-use Rattle.pr_world.specs.Courses.{Participation, participation, participation_of, schedule_by, StandsFor, HappensBy, is_free, is_planned}
+use Rattle.pr_world.specs.Courses.{is_planned}
+use Rattle.pr_world.specs.inside.Participations.{Participation, participation, participation_of, schedule_by, StandsFor, HappensBy, is_free}
 use Rattle.pr_world.specs.Ends.{Ending, ending}
 use Rattle.pr_world.proofs.Participations.{at_participation, control_at, has_task, plan_at, rests, sends, with_participation, world_by}
 use Rattle.pr_world.proofs.Happening.{happens_at_participation}
@@ -163,10 +165,6 @@ role_at p h n there is =
     let among : h < length p.nexuses.items = rw (← length-map p.nexuses.items nexus_of) there in
     sym (ap (λ o. option_map_or (λ m. m.role) o []) (slice_get-map nexus_of p.nexuses.items h ∙ ap (option_map nexus_of) (slice_get-get_or p.nexuses.items h n among ∙ ap Some (sym is))))
 
-pub length-parts : (p : Parts) → length (scenario_of p).nexuses ≡ length p.nexuses.items
-unfolding scenario_of
-length-parts p = length-map p.nexuses.items nexus_of
-
 pub turn_made : (p q : Parts) (u v : UnitState) (ps : List Participant) (es fs : List Entry) (h i : ℕ) (e : Option Entry) (n : NexusPart) (x y : Participant)
     → StandsFor (scenario_of p) u (map participation_of ps) → h < length (scenario_of p).nexuses → q ≡ p → i ≡ h → n ≡ get_or q.nexuses.items i n → x ≡ get_or ps i x
     → Acts n.role.clauses.items h (participation_of x) u e (participation_of y) v → v.registry.hosts ≡ u.registry.hosts → fs ≡ es ++ option_to_list e
@@ -180,7 +178,7 @@ turn_made p q u v ps es fs h i e n x y stands there same at nexus participation 
 
 pub nexus_within : (p q : Parts) (h i : ℕ) → h < length (scenario_of p).nexuses → q ≡ p → i ≡ h → i < vec_len q.nexuses
 nexus_within p q h i there same at =
-    let parts = length-parts p in
+    let parts = count_of_parts p in
     let items = ap (λ r. length r.nexuses.items) same in
     let len = q.nexuses.ok.0 in
     omega arith

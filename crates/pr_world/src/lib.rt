@@ -23,4 +23,4 @@ pub use laws::{
 pub use pr_roles::Entry;
 pub use replaying::{Replayed, replay};
 pub use turn::Turn;
-pub use world::World;
+pub use world::{World, room_of};

@@ -2,7 +2,7 @@
 
 ghost use Rattle.std.specs.Prelude.{◌≡◌, ◌<◌, Some, IfOk, IsTrue};
 ghost use Rattle.pr_roles.specs.Scenarios.{task_of};
-ghost use Rattle.pr_world.specs.Courses.{participation_of, participation_from, IsShort, IsSentHere};
+ghost use Rattle.pr_world.specs.inside.Participations.{participation_of, participation_from, IsShort, IsSentHere};
 ghost use Rattle.pr_world.specs.Ends.{ending, ending_of};
 ghost use Rattle.pr_roles.specs.Worlds.{is_trapped};
 ghost use Rattle.pr_roles.specs.Schedules.{is_held_back};

@@ -5,7 +5,7 @@ ghost use Rattle.pr_cdb.specs.Requests.{AreBytes};
 ghost use Rattle.pr_roles.specs.Permits.{is_permitted};
 ghost use Rattle.pr_roles.specs.Scenarios.{task_of};
 ghost use Rattle.pr_roles.specs.Worlds.{control_of};
-ghost use Rattle.pr_world.specs.Courses.{IsShort};
+ghost use Rattle.pr_world.specs.inside.Participations.{IsShort};
 ghost use Rattle.pr_world.specs.inside.Auditing.{IsGuestJudged, IsJudged, control_by};
 
 use pr_cdb::{Request, Status, decode, encode};

@@ -1,6 +1,6 @@
 //! A verified scenario at work.
 
-ghost use Rattle.std.specs.Prelude.{◌≡◌, ◌<◌, ◌^◌, ◌++◌, ◌∷◌, ℕ, List, [], Some, length, map, sum, codes, IfOk, IfErr};
+ghost use Rattle.std.specs.Prelude.{◌≡◌, ◌<◌, ◌^◌, ◌++◌, ◌∷◌, ℕ, List, [], Some, length, map, sum, IfOk, IfErr};
 ghost use Rattle.pr_roles.specs.Scenarios.{scenario_of, task_of};
 ghost use Rattle.pr_roles.specs.Safety.{IsSafe};
 ghost use Rattle.pr_world.specs.Courses.{IsReached};
@@ -11,7 +11,7 @@ use crate::course::Course;
 use crate::end::End;
 use crate::turn::Turn;
 use pr_roles::{Entry, Nexus, Scenario, Task};
-use pr_script::Word;
+use pr_script::end_word;
 use pr_unit::Unit;
 use pr_verify::Verified;
 use std::alloc::{AllocError, Global};
@@ -39,7 +39,7 @@ impl Model for World {
     ghost coded = { progress_code parts_code.the_row.coded unit_code.the_row.coded machine_code.the_row.coded entry_code.the_row.coded command_code.the_row.coded };
 
     ghost use Rattle.pr_roles.specs.Scenarios.{scenario_of};
-    ghost use Rattle.pr_world.specs.Courses.{schedule_of};
+    ghost use Rattle.pr_world.specs.inside.Participations.{schedule_of};
     ghost use Rattle.pr_world.specs.inside.Workings.{IsAtWork};
 
     ghost view = { λ w. record { scenario = w.verified; schedule = schedule_of w.course } };
@@ -140,21 +140,12 @@ fn room_for(nexuses: &[Nexus]) -> usize
     nexuses.iter().map(|nexus| room_of(&nexus.task)).sum()
 }
 
-// A host's script sends no more than its budget, and a guest no more than its plan has.
-fn room_of(task: &Task) -> usize
+/// How many commands reach the unit at most: of a host its script's budget, of a guest its plan's.
+pub fn room_of(task: &Task) -> usize
     ensures { result ≡ room_of (task_of task.now) }
 {
     match task {
         Task::Scripted { budget, .. } => *budget as usize,
         Task::Planned(commands) => commands.len(),
     }
-}
-
-// The word of a plan that is done.
-fn end_word() -> Word
-    ensures { result.bytes ≡ codes "end" }
-{
-    let mut word = Word::new();
-    word.push_str("end");
-    word
 }

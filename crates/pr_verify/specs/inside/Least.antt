@@ -1,5 +1,6 @@
 -- The first line at which something is lacking, by what is there and what is lacking at each.
-use Rattle.std.specs.Prelude.{◌≡◌, ℕ, ◌<◌, min, List, slice_index_or, Option, Some, None}
+use Rattle.std.specs.Prelude.{ℕ, ◌<◌, min, List, slice_index_or, Option, Some, None}
+use Rattle.pr_domain.specs.inside.Interfering.{Among}
 
 -- something is lacking at this line, and nothing at those before it
 pub record IsFirst (Has Lacks : ℕ → Type 0) (line : ℕ) : Type 0 where
@@ -18,14 +19,6 @@ least (Some line) None = Some line
 least (Some line) (Some other) = Some (min line other)
 
 -- ---- elements of a list
-
--- it holds of one of the first n elements
-pub record Among {X : Type 0} (n : ℕ) (xs : List X) (holds : X → Type 0) : Type 0 where
-  pub element : X
-  pub place : ℕ
-  pub below : place < n
-  pub there : slice_index_or xs place element ≡ element
-  pub is : holds element
 
 -- it holds of each of them
 abbrev pub EachOf : {X : Type 0} → ℕ → List X → (X → Type 0) → Type 0

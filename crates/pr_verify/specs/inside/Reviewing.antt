@@ -6,13 +6,14 @@ use Rattle.pr_views.specs.Rooms.{IsMade}
 use Rattle.pr_domain.specs.declared.landing.Landing.{Landing}
 use Rattle.pr_domain.specs.declared.landing.Landing.TheVariants as landing
 use Rattle.pr_domain.specs.declared.landing.Class.{Class}
+use Rattle.pr_domain.specs.inside.Interfering.{Among}
 use Rattle.pr_verify.specs.declared.places.Spot.{Spot}
 use Rattle.pr_verify.specs.declared.refusal.Refusal.{Refusal}
 use Rattle.pr_verify.specs.declared.refusal.Refusal.TheVariants.{NoArm, OutOfRole, OverBudget, Memory, NotSound}
 use Rattle.pr_verify.specs.Places.{Place}
 use Rattle.pr_verify.specs.Outlines.{Outline, ComesTo, KeepsToRole}
 use Rattle.pr_verify.specs.Refusals.{class_number, FitsAt, BreaksRole, LacksArmFirst}
-use Rattle.pr_verify.specs.inside.Least.{Among, EachOf, IsLeastAmong}
+use Rattle.pr_verify.specs.inside.Least.{EachOf, IsLeastAmong}
 use Rattle.pr_verify.specs.inside.Lacking.{HasAll, Lacks}
 use Rattle.pr_verify.specs.inside.Listing.{place_of}
 

@@ -18,7 +18,8 @@ use Rattle.pr_roles.specs.Worlds.{World, Event, Happens, Control, Going, Trapped
 use Rattle.pr_world.specs.declared.auditor.Auditor.{Auditor}
 use Rattle.pr_world.specs.declared.sender.Sender.{Sender}
 use Rattle.pr_world.specs.declared.sender.Sender.TheVariants as sender
-use Rattle.pr_world.specs.Courses.{is_free, is_planned}
+use Rattle.pr_world.specs.Courses.{is_planned}
+use Rattle.pr_world.specs.inside.Participations.{is_free}
 
 -- ---- one nexus
 

@@ -10,7 +10,7 @@ use Rattle.pr_roles.specs.Worlds.{Control, Going, Trapped, Free, control, standi
 use Rattle.pr_roles.specs.Schedules.{Schedule, plan, is_held_back}
 use Rattle.pr_world.specs.declared.act.Act.{Act}
 use Rattle.pr_world.specs.declared.act.Act.TheVariants as act
-use Rattle.pr_world.specs.Courses.{Participation, participation, IsSentHere}
+use Rattle.pr_world.specs.inside.Participations.{Participation, participation, IsSentHere}
 
 -- ---- which of the things that there are to do
 

@@ -1,9 +1,14 @@
 -- A verified scenario at work, as it is kept.
-use Rattle.std.specs.Prelude.{◌≡◌, ℕ, List, map, vec_capacity}
+use Rattle.std.specs.Prelude.{◌≡◌, ℕ, List, map, vec_capacity, sum}
 use Rattle.pr_roles.specs.Scenarios.{Scenario}
 use Rattle.pr_world.specs.declared.course.Course.{Course}
-use Rattle.pr_world.specs.Courses.{IsReached, StandsFor, schedule_of, participation_of}
-use Rattle.pr_world.specs.Rooms.{rooms}
+use Rattle.pr_world.specs.Courses.{IsReached}
+use Rattle.pr_world.specs.inside.Participations.{StandsFor, schedule_of, participation_of}
+use Rattle.pr_world.specs.Rooms.{room_of}
+
+-- of all together
+abbrev pub rooms : Scenario → ℕ
+rooms s = sum (map (λ n. room_of n.task) s.nexuses)
 
 -- Some turns led here from the first start. There is one nexus for each that the scenario declares, and room for
 -- every command that can reach the unit.

@@ -1,6 +1,7 @@
 use Rattle.std.proofs.Common.{Some, sym, ◌∙◌, ap}
 use Rattle.pr_registry.specs.declared.held.Held.{Held}
 use Rattle.pr_views.specs.Possibilities.{number_of}
+use Rattle.pr_regions.proofs.Keys.{keys_those}
 use Rattle.pr_regions.proofs.Services.{preempt_all_good, preempt_all_fault}
 use Rattle.pr_regions.proofs.endings.preempt_all_ending.Goals as goal
 
@@ -14,10 +15,10 @@ returns c standing =
     preempt_all_good c.args.hosts c.args.kind c.args.held c.args.sender standing _ (sym c.is_held_by_all.ensures ∙ c.if-not-is_held_by_all.false)
     (record {
       sender = change.sender;
-      removed = c.every_key.ensures;
+      removed = (keys_those c.every_key.result c.every_key.ensures.keys c.every_key.ensures.none);
       reservation = change.reservation ∙ ap (λ (v : Held). number_of c.args.hosts (Some v)) c.new_reservation.ensures;
       told_03 = change.told_03;
       told_04 = change.told_04;
-      told_05 = c.every_key-2.ensures;
+      told_05 = (keys_those c.every_key-2.result c.every_key-2.ensures.keys c.every_key-2.ensures.none);
     })
     c.no_change.ensures.room

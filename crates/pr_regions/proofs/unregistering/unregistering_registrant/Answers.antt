@@ -1,4 +1,5 @@
 use Rattle.std.proofs.Common.{refl, arith}
+use Rattle.pr_regions.proofs.Keys.{keys_those}
 use Rattle.pr_regions.proofs.Leaving.{tell_unregistered}
 use Rattle.pr_regions.proofs.unregistering.unregistering_registrant.Goals as goal
 
@@ -7,7 +8,7 @@ returns c sender standing present =
     let stays = c.no_change.ensures.change in
     let none = c.change_to_reservation.ensures in
     rw c.two.ensures (tell_unregistered c.args.hosts c.args.held sender standing _ _ _ _ c.requires.all present
-    (record { to_holder = c.whole.ensures.to_holder; to_others = c.whole.ensures.to_others; tested = c.every_key.ensures }) refl
+    (record { to_holder = c.whole.ensures.to_holder; to_others = c.whole.ensures.to_others; tested = (keys_those c.every_key.result c.every_key.ensures.keys c.every_key.ensures.none) }) refl
     (record { sender = refl; removed = stays.removed; reservation = stays.reservation; told_03 = stays.told_03; told_04 = stays.told_04; told_05 = stays.told_05 })
     (omega arith, c.no_change.ensures.room.1)
     (record { to_holder = c.whole-2.ensures.to_holder; to_others = λ r few. c.only.ensures r; tested = c.whole-2.ensures.tested }) refl

@@ -1,5 +1,5 @@
 use Rattle.std.proofs.Common.{ℕ, ◌<◌}
-use Rattle.pr_registry.specs.Registrations.{IsKeyOrNone}
+use Rattle.pr_registry.specs.inside.TableStates.{IsKeyOrNone}
 use Rattle.pr_registry.proofs.Tables.{slot}
 use Rattle.pr_registry.proofs.table.are_keys.Given as goal
 

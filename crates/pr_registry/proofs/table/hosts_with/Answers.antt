@@ -1,7 +1,7 @@
 use Rattle.std.proofs.Common.{◌≡◌, ap, sym, ◌∙◌, arith}
 use Rattle.std.specs.FinSet as set
 use Rattle.pr_cdb.specs.declared.codes.TheConstants.{MOST_NEXUSES}
-use Rattle.pr_registry.specs.Hosts.{hosts_where}
+use Rattle.pr_registry.specs.inside.HostBits.{hosts_where}
 use Rattle.pr_registry.proofs.Sets.{hosts_where-none, hosts_where-takes, hosts_where-skips}
 use Rattle.pr_registry.proofs.Tables.{has_key, hosts_where-has_key}
 use Rattle.pr_registry.proofs.table.hosts_with.Goals as goal

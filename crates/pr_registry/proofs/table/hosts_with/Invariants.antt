@@ -1,5 +1,5 @@
 use Rattle.std.proofs.Common.{◌≡◌}
-use Rattle.pr_registry.specs.Hosts.{hosts_where}
+use Rattle.pr_registry.specs.inside.HostBits.{hosts_where}
 use Rattle.pr_registry.proofs.Tables.{has_key}
 use Rattle.pr_registry.proofs.table.hosts_with.Given as goal
 

@@ -2,7 +2,7 @@ use Rattle.std.proofs.Common.{◌≡◌, ap, sym, ◌∙◌, arith}
 use Rattle.std.specs.FinSet as set
 use Rattle.std.specs.FinMap as map
 use Rattle.pr_cdb.specs.declared.codes.TheConstants.{MOST_NEXUSES}
-use Rattle.pr_registry.specs.Hosts.{hosts_where}
+use Rattle.pr_registry.specs.inside.HostBits.{hosts_where}
 use Rattle.pr_registry.specs.Registrations.{table_keys}
 use Rattle.pr_registry.proofs.Sets.{hosts_where-none, hosts_where-takes, hosts_where-skips}
 use Rattle.pr_registry.proofs.Tables.{hosts_where-is_registered}

@@ -1,7 +1,7 @@
 use Rattle.std.proofs.Common.{◌≡◌}
 use Rattle.std.specs.FinMap as map
 use Rattle.pr_cdb.specs.declared.codes.TheConstants.{MOST_NEXUSES}
-use Rattle.pr_registry.specs.Hosts.{hosts_where}
+use Rattle.pr_registry.specs.inside.HostBits.{hosts_where}
 use Rattle.pr_registry.specs.Registrations.{table_keys}
 use Rattle.pr_registry.proofs.table.registrants.Given as goal
 

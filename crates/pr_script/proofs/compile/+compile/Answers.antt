@@ -1,6 +1,7 @@
 -- A step of each kind, and one statement or arm more.
 use Rattle.std.proofs.Common.{◌≡◌, ◌+◌, ◌-◌, take, drop, ap, sym, ◌∙◌, subst, arith}
-use Rattle.pr_script.specs.Trees.{statement_of, statements_in, arms_in}
+use Rattle.pr_script.specs.Trees.{statement_of, statements_in}
+use Rattle.pr_script.specs.inside.ArmLists.{arms_in}
 use Rattle.pr_script.specs.inside.Compiled.{IsCompiled, AreArmsCompiled}
 use Rattle.pr_script.proofs.Equations.{tree_send, tree_repeat}
 use Rattle.pr_script.proofs.Compiling.{laid_more, arms_laid_more, send_laid, repeat_laid}

@@ -1,6 +1,7 @@
 -- The statements behind this one are laid, and the arms before this one.
 use Rattle.std.proofs.Common.{take, drop}
-use Rattle.pr_script.specs.Trees.{statements_in, arms_in}
+use Rattle.pr_script.specs.Trees.{statements_in}
+use Rattle.pr_script.specs.inside.ArmLists.{arms_in}
 use Rattle.pr_script.specs.inside.Compiled.{IsCompiled, AreArmsCompiled}
 use Rattle.pr_script.proofs.compile.+compile.Given as goal
 

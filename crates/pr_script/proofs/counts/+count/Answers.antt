@@ -1,7 +1,8 @@
 -- How many statements a statement is, by its kind, and one statement or arm more.
 use Rattle.std.proofs.Common.{min, ap, ◌∙◌, arith}
 use Rattle.pr_script.specs.Grammar.{count_of, count_in_arms}
-use Rattle.pr_script.specs.Trees.{statement_of, arms_in}
+use Rattle.pr_script.specs.Trees.{statement_of}
+use Rattle.pr_script.specs.inside.ArmLists.{arms_in}
 use Rattle.pr_script.proofs.Equations.{tree_send, tree_repeat}
 use Rattle.pr_script.proofs.Written.{count_taken, arms_count_taken}
 use Rattle.pr_script.proofs.counts.+count.Goals as goal

@@ -1,7 +1,8 @@
 -- A statement's depth by its kind, and one statement or arm more.
 use Rattle.std.proofs.Common.{min, ap, ◌∙◌, arith}
 use Rattle.pr_script.specs.Depths.{depth_of, depth_of_arms}
-use Rattle.pr_script.specs.Trees.{statement_of, arms_in}
+use Rattle.pr_script.specs.Trees.{statement_of}
+use Rattle.pr_script.specs.inside.ArmLists.{arms_in}
 use Rattle.pr_script.proofs.Equations.{tree_send, tree_repeat}
 use Rattle.pr_script.proofs.Taken.{depth_taken, depth_of_arms_taken}
 use Rattle.pr_script.proofs.depth.+depth.Goals as goal

@@ -1,6 +1,7 @@
 -- How deep the statements or arms before this one nest.
 use Rattle.std.proofs.Common.{◌≡◌, min, take}
-use Rattle.pr_script.specs.Trees.{statements_in, arms_in}
+use Rattle.pr_script.specs.Trees.{statements_in}
+use Rattle.pr_script.specs.inside.ArmLists.{arms_in}
 use Rattle.pr_script.specs.Depths.{depth_of_all, depth_of_arms}
 use Rattle.pr_script.proofs.depth.+depth.Given as goal
 

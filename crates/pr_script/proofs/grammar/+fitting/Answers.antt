@@ -1,7 +1,8 @@
 -- A statement by its kind, and one statement or arm more.
 use Rattle.std.proofs.Common.{◌+◌, ◌&&◌, nat_lt, ap, ◌∙◌, sym}
 use Rattle.pr_script.specs.Grammar.{statement_fits, arms_fit, is_send_written}
-use Rattle.pr_script.specs.Trees.{statement_of, arms_in}
+use Rattle.pr_script.specs.Trees.{statement_of}
+use Rattle.pr_script.specs.inside.ArmLists.{arms_in}
 use Rattle.pr_script.proofs.Equations.{tree_send, tree_repeat}
 use Rattle.pr_script.proofs.Written.{fit_taken, arms_taken, and_one, and_none}
 use Rattle.pr_script.proofs.grammar.+fitting.Goals as goal

@@ -1,7 +1,8 @@
 -- A copy's kind, and one statement or arm more.
 use Rattle.std.proofs.Common.{ap, sym, ◌∙◌, refl}
 use Rattle.pr_script.specs.Scripts.{sends, repeats}
-use Rattle.pr_script.specs.Trees.{statement_of, statements_in, arms_in}
+use Rattle.pr_script.specs.Trees.{statement_of, statements_in}
+use Rattle.pr_script.specs.inside.ArmLists.{arms_in}
 use Rattle.pr_script.proofs.Equations.{tree_send, tree_repeat}
 use Rattle.pr_script.proofs.Taken.{statements_taken, arms_taken}
 use Rattle.pr_script.proofs.script.+copy.Goals as goal

@@ -1,6 +1,7 @@
 -- What the statements or arms before this one cost.
 use Rattle.std.proofs.Common.{◌≡◌, min, take}
-use Rattle.pr_script.specs.Trees.{statements_in, arms_in}
+use Rattle.pr_script.specs.Trees.{statements_in}
+use Rattle.pr_script.specs.inside.ArmLists.{arms_in}
 use Rattle.pr_script.specs.Costs.{cost_of_all, greatest}
 use Rattle.pr_script.proofs.sizes.+cost.Given as goal
 

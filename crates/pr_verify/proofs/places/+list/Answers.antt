@@ -1,7 +1,8 @@
 -- The places of a send and of a repeat.
 use Rattle.std.proofs.Common.{◌∙◌, ◌++◌, ap, sym, map}
 use Rattle.std.proofs.lemmas.Result.{on_ok_weaker}
-use Rattle.pr_script.specs.Trees.{statement_of, statements_in, script_of, arms_in}
+use Rattle.pr_script.specs.Trees.{statement_of, statements_in, script_of}
+use Rattle.pr_script.specs.inside.ArmLists.{arms_in}
 use Rattle.pr_script.proofs.Equations.{tree_send, tree_repeat}
 use Rattle.pr_verify.specs.Places.{places, places_in, places_of_arms, round, tests_of, next_of}
 use Rattle.pr_verify.specs.inside.Listing.{place_of}

@@ -1,6 +1,6 @@
 use Rattle.std.proofs.Common.{◌≡◌, take, Some}
 use Rattle.std.specs.Prelude.{map}
-use Rattle.pr_world.specs.Courses.{participation_of}
+use Rattle.pr_world.specs.inside.Participations.{participation_of}
 use Rattle.pr_world.specs.Ends.{ending_of, ending}
 use Rattle.pr_world.proofs.course.ends_of.Given as goal
 

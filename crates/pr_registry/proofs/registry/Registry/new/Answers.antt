@@ -1,5 +1,6 @@
 use Rattle.std.proofs.Common.{◌≡◌, ℕ, [], ◌∷◌, None, sym, subst}
-use Rattle.pr_registry.specs.Registrations.{IsWellFormed, empty_registry, state_of}
+use Rattle.pr_registry.specs.Registrations.{IsWellFormed, empty_registry}
+use Rattle.pr_registry.specs.inside.TableStates.{state_of}
 use Rattle.pr_registry.proofs.States.{well_formed-fresh, table_keys-none}
 use Rattle.pr_registry.proofs.registry.Registry.new.Goals as goal
 

@@ -1,6 +1,7 @@
 use Rattle.std.proofs.Common.{IsTrue, sym, ap, subst, ◌∙◌}
 use Rattle.pr_registry.specs.declared.change.Change.{Change}
-use Rattle.pr_registry.specs.Registrations.{IsWellFormed, is_registered, state_of}
+use Rattle.pr_registry.specs.Registrations.{IsWellFormed, is_registered}
+use Rattle.pr_registry.specs.inside.TableStates.{state_of}
 use Rattle.pr_registry.specs.Changes.{preempt_case, removed_by_preempt, HasKindIfReplacing}
 use Rattle.pr_registry.specs.inside.Cases.{case_of}
 use Rattle.pr_registry.proofs.States.{state_of-preempted, well_formed-preempted}

@@ -1,5 +1,4 @@
-use Rattle.pr_domain.proofs.place.every_key.Goals as goal
+use Rattle.pr_regions.proofs.words.every_key.Goals as goal
 
--- src/place.rt:91:1
 pub returns-clause-none : goal.returns-clause-none
 returns-clause-none c = c.without.ensures 0
