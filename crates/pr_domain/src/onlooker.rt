@@ -18,7 +18,7 @@ use pr_sets::Word;
 use pr_views::Possibilities;
 
 /// The owner of a view, who looks on while another sends commands.
-#[derive(Clone, Copy, Debug, PartialEq, Eq)]
+#[derive(Clone, Copy, PartialEq, Eq)]
 pub(crate) struct Onlooker {
     /// How many nexuses there are.
     pub(crate) hosts: u8,

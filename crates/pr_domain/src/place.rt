@@ -15,7 +15,7 @@ use pr_sets::Word;
 use pr_views::{Portion, Possibilities};
 
 /// One reservation of a view, and who sends a command under it.
-#[derive(Clone, Copy, Debug, PartialEq, Eq)]
+#[derive(Clone, Copy, PartialEq, Eq)]
 pub(crate) struct Place {
     pub(crate) hosts: u8,
     pub(crate) sender: u8,

@@ -16,7 +16,7 @@ use pr_registry::{Held, is_all};
 use pr_sets::Word;
 
 /// What a command gives, removes and tells at most.
-#[derive(Clone, Copy, Debug)]
+#[derive(Clone, Copy)]
 pub(crate) struct Reach {
     /// The registrations that its sender may get.
     pub(crate) given: Word,

@@ -87,7 +87,7 @@ impl Tally {
 }
 
 /// A command whose outcomes are to be found, and what is known of the states from which it is sent.
-#[derive(Clone, Copy, Debug)]
+#[derive(Clone, Copy)]
 pub(crate) struct Sending<'a> {
     pub(crate) keys: &'a [u64],
     pub(crate) hosts: u8,

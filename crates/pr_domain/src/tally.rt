@@ -13,7 +13,7 @@ use pr_views::Possibilities;
 
 /// For each way in which a command can end, what is so of the registrations and the reservation then: in a
 /// conflict, without a conflict, at fault, and GOOD with the data taken by no arm or by each of 16.
-#[derive(Clone, Copy, Debug, PartialEq, Eq)]
+#[derive(Clone, Copy, PartialEq, Eq)]
 pub(crate) struct Tally {
     pub(crate) ways: [Possibilities; 20],
 }

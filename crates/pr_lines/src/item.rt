@@ -25,7 +25,7 @@ pub const VERSION: &str = "1";
 
 /// A reservation that there may be at the start: an ALT of a line `reservation` (docs/FORMATS.md, 'The lines of a
 /// scenario').
-#[derive(Clone, Copy, Debug)]
+#[derive(Clone, Copy)]
 pub enum StartReservation {
     /// There is none.
     Nobody,
@@ -39,7 +39,7 @@ pub enum StartReservation {
 ///
 /// A list has at least one element. A term has its form, and need not be one that the text may have there: a name
 /// need not be declared, nor a key, and a count may be past its limit.
-#[derive(Debug, Drop)]
+#[derive(Drop)]
 pub enum ScenarioLine {
     /// The first line with words: the version of the language.
     Fence,

@@ -6,7 +6,7 @@ ghost use Rattle.pr_lines.specs.inside.Keywords.{keyword_of};
 use crate::lookup::lookup;
 
 /// What the first word of a line says of it. A command of a plan has none of these.
-#[derive(Clone, Copy, Debug, PartialEq, Eq)]
+#[derive(Clone, Copy, PartialEq, Eq)]
 pub enum Keyword {
     Fence,
     Keys,

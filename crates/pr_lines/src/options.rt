@@ -11,14 +11,14 @@ use pr_cdb::{Command, Kind};
 use pr_script::WRITTEN_LENGTH;
 
 /// The direction of a command's data: `--in` or `--out`.
-#[derive(Clone, Copy, Debug, PartialEq, Eq)]
+#[derive(Clone, Copy, PartialEq, Eq)]
 pub enum Direction {
     In,
     Out,
 }
 
 /// A service action of `--in`.
-#[derive(Clone, Copy, Debug, PartialEq, Eq)]
+#[derive(Clone, Copy, PartialEq, Eq)]
 pub enum InAction {
     ReadKeys,
     ReadReservation,
@@ -26,7 +26,7 @@ pub enum InAction {
 }
 
 /// A service action of `--out`.
-#[derive(Clone, Copy, Debug, PartialEq, Eq)]
+#[derive(Clone, Copy, PartialEq, Eq)]
 pub enum OutAction {
     Register,
     RegisterIgnore,
@@ -38,7 +38,7 @@ pub enum OutAction {
 }
 
 /// A service action.
-#[derive(Clone, Copy, Debug, PartialEq, Eq)]
+#[derive(Clone, Copy, PartialEq, Eq)]
 pub enum Action {
     In(InAction),
     Out(OutAction),
@@ -68,7 +68,7 @@ pub const ACTIONS: [(&[u8], Action); 10] = [
 ];
 
 /// One option of a command.
-#[derive(Clone, Copy, Debug, PartialEq, Eq)]
+#[derive(Clone, Copy, PartialEq, Eq)]
 pub enum CommandOption {
     Direction(Direction),
     Action(Action),
@@ -78,7 +78,7 @@ pub enum CommandOption {
 }
 
 /// The options that are written, each at most once.
-#[derive(Clone, Copy, Debug, PartialEq, Eq)]
+#[derive(Clone, Copy, PartialEq, Eq)]
 pub struct Written {
     pub direction: Option<Direction>,
     pub action: Option<Action>,

@@ -10,7 +10,7 @@ use crate::terms::amount_of;
 use pr_cdb::Command;
 
 /// A command, and the keys that are written with it (docs/FORMATS.md, 'COMMAND'). The command may drop a key.
-#[derive(Clone, Copy, Debug, PartialEq, Eq)]
+#[derive(Clone, Copy, PartialEq, Eq)]
 pub struct ParsedCommand {
     pub command: Command,
     /// The key of `--param-rk`, zero where none is written.

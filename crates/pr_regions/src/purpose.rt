@@ -7,7 +7,7 @@ use pr_cdb::Kind;
 
 /// What a command asks for, once its reservation key is accepted. A key is named by its place among the declared
 /// ones, from 1.
-#[derive(Clone, Copy, Debug, PartialEq, Eq)]
+#[derive(Clone, Copy, PartialEq, Eq)]
 pub enum Purpose {
     /// To look: TEST UNIT READY, REQUEST SENSE and PERSISTENT RESERVE IN.
     Look,
@@ -32,7 +32,7 @@ pub enum Purpose {
 }
 
 /// How the sender of a command stands to what it asks for.
-#[derive(Clone, Copy, Debug, PartialEq, Eq)]
+#[derive(Clone, Copy, PartialEq, Eq)]
 pub enum Standing {
     /// It is not registered.
     Unregistered,

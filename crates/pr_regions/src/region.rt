@@ -4,7 +4,7 @@ use pr_cdb::Sense;
 use pr_sets::Word;
 
 /// States with one reservation and one standing of the sender, told apart by the registrations of the others.
-#[derive(Clone, Copy, Debug, PartialEq, Eq)]
+#[derive(Clone, Copy, PartialEq, Eq)]
 pub struct Region {
     /// The registrations that the single holder may have, where it is not the sender.
     pub holder: Word,
@@ -15,7 +15,7 @@ pub struct Region {
 }
 
 /// What a command that ends GOOD changes.
-#[derive(Clone, Copy, Debug, PartialEq, Eq)]
+#[derive(Clone, Copy, PartialEq, Eq)]
 pub struct Change {
     /// The sender's registration after it, where it changes.
     pub sender: Option<u8>,
@@ -32,7 +32,7 @@ pub struct Change {
 }
 
 /// How a command ends once no attention is pending for its sender.
-#[derive(Clone, Copy, Debug, PartialEq, Eq)]
+#[derive(Clone, Copy, PartialEq, Eq)]
 pub enum Ending {
     /// RESERVATION CONFLICT.
     Conflict,
@@ -43,14 +43,14 @@ pub enum Ending {
 }
 
 /// A region with the command's ending there.
-#[derive(Clone, Copy, Debug, PartialEq, Eq)]
+#[derive(Clone, Copy, PartialEq, Eq)]
 pub struct Branch {
     pub region: Region,
     pub ending: Ending,
 }
 
 /// A region with the arm that takes the data which the command returns there, if one does.
-#[derive(Clone, Copy, Debug, PartialEq, Eq)]
+#[derive(Clone, Copy, PartialEq, Eq)]
 pub struct Reading {
     pub region: Region,
     pub arm: Option<usize>,

@@ -7,7 +7,7 @@ use crate::host_set::HostSet;
 /// Whose registrations a service action removed, and whom it tells of what by a unit attention: of
 /// reservations preempted (2Ah/03h), reservations released (2Ah/04h), or registrations preempted
 /// (2Ah/05h).
-#[derive(Debug, Drop)]
+#[derive(Drop)]
 pub struct Change {
     pub removed: HostSet,
     pub told_03: HostSet,

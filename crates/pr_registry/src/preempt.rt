@@ -13,7 +13,7 @@ use pr_cdb::Kind;
 use pr_cdb::codes::MOST_NEXUSES;
 
 /// What a PREEMPT does (SPC-4, 'Preempting').
-#[derive(Clone, Copy, Debug)]
+#[derive(Clone, Copy)]
 pub(crate) enum Case {
     /// Its key is zero where all registrants hold: it removes all other registrations, and replaces the
     /// reservation.

@@ -14,7 +14,7 @@ pub struct Start {
 
 /// What a nexus does: a host runs a script, and a guest sends what it likes. Its plan is what it sends
 /// where a scenario is run.
-#[derive(Debug, Drop)]
+#[derive(Drop)]
 pub enum Task {
     Scripted {
         script: Script,
@@ -25,7 +25,7 @@ pub enum Task {
 }
 
 /// A nexus (SAM-5, 'I_T nexus').
-#[derive(Debug, Drop)]
+#[derive(Drop)]
 pub struct Nexus {
     pub name: Word,
     pub role: Role,
@@ -36,7 +36,7 @@ pub struct Nexus {
 }
 
 /// What a scenario declares. Nexuses are numbered from 0 in the order of their declaration.
-#[derive(Debug, Drop)]
+#[derive(Drop)]
 pub struct Parts {
     pub keys: Vec<u64>,
     /// The reservations that there may be at the start, or none.

@@ -11,7 +11,7 @@ use std::alloc::{AllocError, Global};
 use std::marker::Model;
 
 /// A scenario: parts that fit each other, and can start.
-#[derive(Debug, Drop)]
+#[derive(Drop)]
 pub struct Scenario {
     parts: Parts,
 }

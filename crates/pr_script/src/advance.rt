@@ -19,7 +19,7 @@ const MOST_LOOPS: usize = MOST_OPEN as usize;
 
 /// A repeat that is open: how often its body is still to run after this time, where the body begins, and
 /// what follows the repeat.
-#[derive(Clone, Copy, Debug, Default)]
+#[derive(Clone, Copy, Default)]
 pub(crate) struct LoopFrame {
     pub left: u32,
     pub body: usize,

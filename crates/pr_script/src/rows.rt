@@ -8,14 +8,14 @@ use crate::script::{Test, Word};
 use pr_cdb::Command;
 
 /// A statement, and the place that follows it.
-#[derive(Debug, Drop)]
+#[derive(Drop)]
 pub(crate) struct Instruction {
     pub step: Step,
     pub next: usize,
 }
 
 /// What is done at a row.
-#[derive(Debug, Drop)]
+#[derive(Drop)]
 pub(crate) enum Step {
     Send {
         line: u32,
@@ -31,7 +31,7 @@ pub(crate) enum Step {
 }
 
 /// The place at which an arm's body begins.
-#[derive(Clone, Copy, Debug)]
+#[derive(Clone, Copy)]
 pub(crate) struct ArmTarget {
     pub test: Test,
     pub place: usize,

@@ -15,14 +15,14 @@ pub type Word = ArrayString<MOST_LETTERS>;
 /// The statements of a script, or of a part of one, in order.
 ///
 /// Past the last one there is nothing left to do: then the script is stopped, and its word is `end`.
-#[derive(Debug, Drop)]
+#[derive(Drop)]
 #[cycle(script)]
 pub struct Script {
     pub statements: Vec<Statement>,
 }
 
 /// What a script does at one place.
-#[derive(Debug, Drop)]
+#[derive(Drop)]
 #[cycle(script)]
 pub enum Statement {
     /// Sends the command, and goes on with the first arm that matches its reply. `line` is the line of the
@@ -44,7 +44,7 @@ pub enum Statement {
 }
 
 /// What a script goes on with after some of the replies.
-#[derive(Debug, Drop)]
+#[derive(Drop)]
 #[cycle(script)]
 pub struct Arm {
     pub test: Test,

@@ -5,7 +5,7 @@ ghost use Rattle.pr_sets.specs.Numbers.{most};
 ghost use Rattle.pr_sets.specs.Words.{has, IsLeast};
 
 /// A set of numbers below 64, for reckoning with whole sets at a time.
-#[derive(Clone, Copy, Debug, PartialEq, Eq)]
+#[derive(Clone, Copy, PartialEq, Eq)]
 pub struct Word {
     bits: u64,
 }

@@ -17,7 +17,7 @@ pub struct Outcome {
 }
 
 /// The world under the lock and the seats don't belong together, or some nexus has not come to its end.
-#[derive(Debug, Drop)]
+#[derive(Drop)]
 pub struct Differs {
     /// What stood under the lock.
     pub world: World,

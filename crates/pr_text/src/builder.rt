@@ -21,7 +21,7 @@ use std::alloc::{AllocError, Global};
 use std::mem;
 
 /// Where the next line stands.
-#[derive(Debug, Drop)]
+#[derive(Drop)]
 pub enum Place {
     /// Before the version.
     BeforeAll,
@@ -33,7 +33,7 @@ pub enum Place {
 }
 
 /// What the lines so far declare.
-#[derive(Debug, Drop)]
+#[derive(Drop)]
 pub struct Builder {
     pub keys: Option<Vec<u64>>,
     pub reservations: Option<Vec<Option<Held>>>,

@@ -10,7 +10,7 @@ use pr_script::limits::MOST_BUDGET;
 use std::alloc::Global;
 
 /// What is declared of a nexus so far.
-#[derive(Debug, Drop)]
+#[derive(Drop)]
 pub struct Draft {
     pub name: Word,
     /// The line that declares it.

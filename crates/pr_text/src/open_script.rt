@@ -20,14 +20,14 @@ use std::alloc::{AllocError, Global};
 use std::mem;
 
 /// A send that has no arm yet.
-#[derive(Clone, Copy, Debug, PartialEq, Eq)]
+#[derive(Clone, Copy, PartialEq, Eq)]
 pub struct SendWithoutArm {
     pub line: u32,
     pub command: Command,
 }
 
 /// What begins a body: a repeat, or an arm of a send, behind the arms before it.
-#[derive(Debug, Drop)]
+#[derive(Drop)]
 pub enum BlockHead {
     Repeat {
         count: u32,
@@ -41,14 +41,14 @@ pub enum BlockHead {
 }
 
 /// An open body: the statements before it, in the body round it, and what begins it.
-#[derive(Debug, Drop)]
+#[derive(Drop)]
 pub struct OpenBody {
     pub body: Vec<Statement>,
     pub opener: BlockHead,
 }
 
 /// A script that is open.
-#[derive(Debug, Drop)]
+#[derive(Drop)]
 pub struct OpenScript {
     /// The number of its host.
     pub host: usize,

@@ -8,7 +8,7 @@ use pr_cdb::Kind;
 use pr_registry::{Held, Registry};
 
 /// To whom a reservation leaves an access to the medium (SPC-4, 'Reservations').
-#[derive(Clone, Copy, Debug, PartialEq, Eq)]
+#[derive(Clone, Copy, PartialEq, Eq)]
 pub(crate) enum Access {
     Everybody,
     Registrants,

@@ -15,7 +15,7 @@ use pr_cdb::{Command, Request, Sense};
 use pr_registry::Registry;
 
 /// What decides how a request ends.
-#[derive(Clone, Copy, Debug, PartialEq, Eq)]
+#[derive(Clone, Copy, PartialEq, Eq)]
 pub(crate) enum Decision {
     /// A power on or reset that is still to be reported.
     PowerOn,

@@ -14,7 +14,7 @@ use pr_script::{Arm, Script, Statement, Test};
 use std::alloc::{AllocError, Global};
 
 /// A send of a script.
-#[derive(Debug, Drop)]
+#[derive(Drop)]
 pub(crate) struct Spot {
     pub(crate) line: u32,
     pub(crate) command: Command,

@@ -27,7 +27,7 @@ use pr_views::ViewOf;
 use std::alloc::{AllocError, Global};
 
 /// What the sends of a script show of an outline.
-#[derive(Clone, Copy, Debug, PartialEq, Eq)]
+#[derive(Clone, Copy, PartialEq, Eq)]
 pub(crate) struct Findings {
     /// The first line whose view lacks a state to which a send leads.
     pub(crate) lacking: Option<u32>,

@@ -16,7 +16,7 @@ use std::alloc::Global;
 use std::marker::Model;
 
 /// A scenario that was verified: it is safe.
-#[derive(Debug, Drop)]
+#[derive(Drop)]
 pub struct Verified {
     scenario: Scenario,
 }
@@ -47,7 +47,7 @@ impl Verified {
 }
 
 /// A scenario that was refused, and why.
-#[derive(Debug, Drop)]
+#[derive(Drop)]
 pub struct Refused {
     pub scenario: Scenario,
     pub refusal: Refusal,

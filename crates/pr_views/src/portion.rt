@@ -12,7 +12,7 @@ use pr_sets::Word;
 
 /// Of the states that a view shows, those with one reservation, in which each nexus has one of some
 /// registrations, and, where there is a test, one other than the sender of a command has a registration that passes.
-#[derive(Clone, Copy, Debug, PartialEq, Eq)]
+#[derive(Clone, Copy, PartialEq, Eq)]
 pub struct Portion {
     /// The nexus that the test does not look at.
     pub sender: u8,

@@ -9,7 +9,7 @@ use pr_sets::Word;
 
 /// The possibilities of a view as words, for reckoning: those of the first nexuses that are there, in
 /// the numbers of a view.
-#[derive(Clone, Copy, Debug, PartialEq, Eq)]
+#[derive(Clone, Copy, PartialEq, Eq)]
 pub struct Possibilities {
     pub registrations: [Word; MOST_NEXUSES],
     pub reservations: Word,

@@ -7,7 +7,7 @@ use pr_roles::Entry;
 use pr_script::Word;
 
 /// What a nexus did in its turn.
-#[derive(Debug, Drop)]
+#[derive(Drop)]
 pub(crate) enum Act {
     /// Its command reached the unit, and was answered.
     Sent(Entry),

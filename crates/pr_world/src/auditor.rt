@@ -13,7 +13,7 @@ use pr_unit::Unit;
 use std::alloc::{AllocError, Global};
 
 /// A scenario as an audit goes along it.
-#[derive(Debug, Drop)]
+#[derive(Drop)]
 pub(crate) struct Auditor {
     unit: Unit,
     senders: Vec<Sender>,

@@ -20,7 +20,7 @@ use pr_unit::Unit;
 use std::alloc::{AllocError, Global};
 
 /// A scenario at work.
-#[derive(Debug, Drop)]
+#[derive(Drop)]
 pub(crate) struct Course {
     pub(crate) unit: Unit,
     participants: Vec<Participant>,

@@ -18,7 +18,7 @@ use pr_unit::Unit;
 use std::alloc::{AllocError, Global};
 
 /// A nexus at work.
-#[derive(Debug, Drop)]
+#[derive(Drop)]
 pub(crate) enum Participant {
     /// The host's script goes on.
     Host(Machine),

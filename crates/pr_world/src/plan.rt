@@ -8,7 +8,7 @@ use std::alloc::{AllocError, Global};
 use std::collections::VecDeque;
 
 /// The commands that a guest has still to send, in order.
-#[derive(Debug, Drop)]
+#[derive(Drop)]
 pub(crate) struct Plan {
     commands: VecDeque<Command>,
     ghost short: { length commands.items ≤ MOST_PLANNED },

@@ -15,7 +15,7 @@ use pr_unit::Unit;
 use std::alloc::{AllocError, Global};
 
 /// A nexus of an audit. Of a guest's plan an audit knows nothing.
-#[derive(Debug, Drop)]
+#[derive(Drop)]
 pub(crate) enum Sender {
     /// The host's script goes on.
     Host(Machine),

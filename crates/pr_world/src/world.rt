@@ -19,7 +19,7 @@ use std::marker::Model;
 
 /// A verified scenario at work: what turns have led to from its first start. It has room for every command that can
 /// reach its unit, so that no turn takes memory.
-#[derive(Debug, Drop)]
+#[derive(Drop)]
 pub struct World {
     verified: Verified,
     course: Course,
