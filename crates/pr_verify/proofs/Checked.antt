@@ -98,13 +98,6 @@ module _ (s : Scenario) (script : Stmts) (o : Outline) (spots : List Spot) (plac
       (least_either (HasAll o (StartsAt s script)) (Lacks o (StartsAt s script)) (λ line. EachOf (length spots) spots (λ x. HasAll o (ComesTo o (place_of x)) line))
       (λ line. Among (length spots) spots (λ x. Lacks o (ComesTo o (place_of x)) line)) start own first second) third)
 
-  -- as they were read
-  pub found_lacking : (read : List Spot) (start own others middle found : Option ℕ) → read ≡ spots → IsFirstLacking o (StartsAt s script) start → IsLackingOfSends o (length read) read own → IsFirstLacking o (IsLeftAt s o) others
-      → middle ≡ least start own → found ≡ least middle others → IsFirstLacking o (IsAsked s script o) found
-  found_lacking read start own others middle found same first second third is also =
-      subst (IsFirstLacking o (IsAsked s script o)) (ap (λ l. least l others) (sym is) ∙ sym also)
-      (lacking start own others first (subst (λ xs. IsLackingOfSends o (length xs) xs own) same second) third)
-
   pub is_sound : IsListed script o → IsOfScenario s o → IsFirstLacking o (IsAsked s script o) None → IsSound s script o
   is_sound listed scenario all = record { listed = listed; scenario = scenario; shows = all }
 

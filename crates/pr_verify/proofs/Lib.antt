@@ -18,7 +18,6 @@ pub mod Mapped
 pub mod Classes
 pub mod Fitted
 pub mod Stepped
-pub mod Misfits
 pub mod Checked
 pub mod Differing
 pub mod Rising

@@ -13,10 +13,10 @@ pub has_outline : (s : Scenario) (h : ℕ) (script : Stmts) (budget : ℕ) {o : 
     → HasOutline s h script budget
 has_outline s h script budget {o} fields host sound fitting = record { fields = fields; outline = o; host = host; sound = sound; fitting = fitting }
 
--- three facts of a value, if there is one, put together
-pub all_ok : {T E P Q R X : Type 0} (r : Result T E) → (P → Q → R → X) → OnOk r P → OnOk r Q → OnOk r R → OnOk r X
-all_ok (Ok value) all p q r = all p q r
-all_ok (Err error) all p q r = p
+-- two facts of a value, if there is one, put together
+pub both_ok : {T E P Q X : Type 0} (r : Result T E) → (P → Q → X) → OnOk r P → OnOk r Q → OnOk r X
+both_ok (Ok value) all p q = all p q
+both_ok (Err error) all p q = p
 
 -- what holds of a value, and two facts more
 pub value_ok : {T E Q R X : Type 0} {P : T → Type 0} (r : Result T E) → ((value : T) → P value → Q → R → X) → IfOk r P → OnOk r Q → OnOk r R → OnOk r X

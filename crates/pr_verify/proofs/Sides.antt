@@ -11,12 +11,6 @@ use Rattle.pr_verify.proofs.Reasons.{is_verdict}
 
 -- ---- lists, numbered
 
-pub each_of_none : {X : Type 0} (P : ℕ → X → Type 0) (n : ℕ) (xs : List X) → xs ≡ [] → EachFrom P n xs
-each_of_none {X} P n xs none = subst (EachFrom P n) (sym none) at
-  where
-    at : EachFrom P n []
-    at i d there = absurd (omega arith)
-
 -- P holds of each element at its place, and of one more
 placed_more : {X : Type 0} (P : ℕ → X → Type 0) (xs : List X) (x : X) → P (length xs) x → ((i : ℕ) (d : X) → i < length xs → P i (slice_index_or xs i d)) → (i : ℕ) (d : X) → i < length (xs ++ x ∷ [])
     → P i (slice_index_or (xs ++ x ∷ []) i d)

@@ -1,30 +1,35 @@
 -- What the views lack of the states to which a host's own command leads, by the outcomes of the command.
-use Rattle.std.proofs.Common.{◌≡◌, ℕ, List, length, map, Option, Some, None, refl, sym, ap, ◌∙◌, subst}
-use Rattle.std.specs.List.{slice_get, Contains}
+use Rattle.std.proofs.Common.{◌≡◌, ℕ, ◌<◌, List, length, map, Option, Some, None, refl, sym, ap, ◌∙◌, subst}
+use Rattle.std.specs.List.{slice_get, All, Contains}
 use Rattle.std.specs.Option.{option_and_then}
+use Rattle.std.proofs.lemmas.List.Elements.{All-contains}
 use Rattle.pr_cdb.specs.declared.reply.Reply.{Reply}
 use Rattle.pr_cdb.specs.declared.wire.Request.TheVariants.{Plain}
 use Rattle.pr_unit.specs.UnitStates.{UnitState}
 use Rattle.pr_unit.specs.Steps.{Step}
 use Rattle.pr_roles.specs.Scenarios.{Scenario}
-use Rattle.pr_sets.specs.Numbers.{Numbers}
+use Rattle.pr_sets.specs.Numbers.{Numbers, AllBelow}
 use Rattle.pr_views.specs.declared.view.ViewOf.{ViewOf}
 use Rattle.pr_views.specs.Possibilities.{IsSo}
 use Rattle.pr_views.specs.Views.{View, Shows, Fits}
-use Rattle.pr_views.specs.Rooms.{view_of}
+use Rattle.pr_views.specs.Rooms.{view_of, IsMade, AreAlike}
+use Rattle.pr_views.proofs.Viewing.{fits}
 use Rattle.pr_domain.specs.declared.landing.Landing.{Landing}
 use Rattle.pr_domain.specs.declared.landing.Landing.TheVariants.{Arm, NoArm}
 use Rattle.pr_domain.specs.Landings.{IsLanding}
 use Rattle.pr_domain.specs.Outcomes.{Outcome, IsExpected, AreOutcomes}
 use Rattle.pr_domain.specs.inside.Interfering.{Among}
 use Rattle.pr_verify.specs.Places.{Place}
-use Rattle.pr_verify.specs.Outlines.{Outline, view_at, IsShownAt, ComesTo}
+use Rattle.pr_verify.specs.declared.outline.OutlineBy.{OutlineBy}
+use Rattle.pr_verify.specs.Outlines.{Outline, view_at, scope_in, IsShownAt, ComesTo}
+use Rattle.pr_verify.specs.Rooms.{outline_of, IsMadeFor}
 use Rattle.pr_verify.specs.inside.Least.{EachOf, IsLeastAmong}
 use Rattle.pr_verify.specs.inside.Lacking.{HasAll, Lacks, IsFirstLacking, HasView, lines_after, HasNext, LacksNext}
 use Rattle.pr_verify.proofs.Leasts.{least_as, each_listed, listed_among}
 use Rattle.pr_verify.proofs.Mapped.{mapped, unmapped}
 use Rattle.pr_verify.proofs.Missing.{IsExact, lacks_from_missing, shown_by_within}
-use Rattle.pr_verify.proofs.Begun.{AreScoped}
+use Rattle.pr_verify.specs.inside.Reviewing.{IsMadeAs}
+use Rattle.pr_verify.proofs.Begun.{AreScoped, scope_same, scope_alike, scoped}
 use Rattle.pr_domain.proofs.Landed.{one_landing}
 use Rattle.pr_verify.proofs.Fitted.{IsHere, shown_here, shown_there, step_own, step_host}
 
@@ -118,3 +123,27 @@ module _ (s : Scenario) (o : Outline) (p : Place) (v : View) (here : IsHere o p 
   lacks_next first =
       least_as (λ line. EachOf (length xs) xs (λ x. HasOf x line)) (λ line. Among (length xs) xs (λ x. LacksOf x line)) (HasAll o (ComesTo o p)) (Lacks o (ComesTo o p)) first
       all_shown (λ line one. there_next one.element line one.element.0 (lines_after p.next one.element.0) (listed_among (λ x. LacksOf x line) xs one) refl refl one.is)
+
+-- what the views of the outline lack, by what a send comes to in the view at its line
+pub lacks_by_send : {S : Type 0} (members : S → Numbers) (room : S → ℕ) (below : (x : S) → AllBelow (room x) (members x)) (s : Scenario) (out : OutlineBy (ViewOf S)) (p : Place) (view : ViewOf S)
+    (xs : List (Landing × ViewOf S)) (first : Option ℕ) → out.host < length s.nexuses → IsMadeFor room s out → IsMadeAs room s view
+    → view_at (outline_of members out).views p.line ≡ Some (view_of members out.host view) → All (λ x. IsMade room x.1 × AreAlike view x.1) xs
+    → AreOutcomes (view_of members out.host view) p.command p.tests (map (λ x. (x.0, view_of members out.host x.1)) xs)
+    → IsLeastAmong (length xs) xs (λ x. HasNext (outline_of members out) (lines_after p.next x.0) (view_of members out.host x.1)) (λ x. LacksNext (outline_of members out) (lines_after p.next x.0) (view_of members out.host x.1)) first
+    → IsFirstLacking (outline_of members out) (ComesTo (outline_of members out) p) first
+lacks_by_send {S} members room below s out p view xs first there made is here kind are least =
+    lacks_next s o p v (record { at = here; own = refl }) (subst (AreScoped o) (sym scope) (scoped members room s out made)) members out.host xs are known first least
+  where
+    o : Outline
+    o = outline_of members out
+
+    v : View
+    v = view_of members out.host view
+
+    scope : v.scope ≡ scope_in s out.host
+    scope = scope_same s out.host view is.keys is.hosts
+
+    known : (x : Landing × ViewOf S) → Contains xs x → Fits (view_of members out.host x.1) × ((view_of members out.host x.1).scope ≡ v.scope)
+    known x listed =
+        let of = All-contains (λ (y : Landing × ViewOf S). IsMade room y.1 × AreAlike view y.1) xs x kind listed in
+        (fits members room below x.1 out.host of.0 (subst (λ n. out.host < n) (sym is.hosts ∙ of.1.hosts) there), scope_alike out.host view x.1 of.1)

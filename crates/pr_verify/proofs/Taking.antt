@@ -7,7 +7,6 @@ use Rattle.std.proofs.lemmas.List.Quantifiers.{position-Some}
 use Rattle.std.proofs.lemmas.Option.{none-some, option_and_then_some, same_Some}
 use Rattle.pr_cdb.specs.declared.command.Command.{Command}
 use Rattle.pr_cdb.specs.declared.reply.Reply.{Reply}
-use Rattle.pr_script.specs.declared.script.Test.{Test}
 use Rattle.pr_script.specs.declared.script.Test.TheVariants as test
 use Rattle.pr_script.specs.Scripts.{Stmts, Arms, sends, repeats, breaks, stops, no_arm, arm, statement, mark, Configuration, ready, stopped, before, settled_form, standing_of_items}
 use Rattle.pr_script.specs.Takes.{matches, first_match, take}
@@ -26,9 +25,6 @@ abbrev pub goes_into : Configuration → Option Stmts → Option Configuration
 goes_into l o = option_map (λ body. settled_form (before body l)) o
 
 -- ---- the arm that takes a reply
-
-passes_here : (test : Test) (rest : List Test) (r : Reply) → matches (get_or (test ∷ rest) 0 test) r ≡ true → matches test r ≡ true
-passes_here test rest r is = is
 
 takes_arm : (all : List Place) (a : Arms) (l : Configuration) (left broken : List ℕ) (r : Reply) (i : ℕ) (next : List ℕ) → IsWithin (places_of_arms a left broken) all → Goes all l left broken
     → matches (get_or (tests_of a) i test.Good) r ≡ true → ((k : ℕ) → k < i → matches (get_or (tests_of a) k test.Good) r ≡ false) → slice_get (next_of a left broken) i ≡ Some next

@@ -14,13 +14,11 @@ ghost use Rattle.pr_verify.specs.Outlines.{OnScripted, IsSound, IsFitting};
 ghost use Rattle.pr_verify.specs.Refusals.{IsRefusal, past_budgets, first_difference};
 ghost use Rattle.pr_verify.specs.Rooms.{outline_of, IsMadeFor, IsScripted};
 
-use crate::lacking::{lacking_at_start, least};
 use crate::nexus::nexus_in;
-use crate::others::lacking_by_others;
 use crate::outline::OutlineOf;
-use crate::places::{Spot, first_lines, spots};
+use crate::places::{Spot, spots};
 use crate::refusal::Refusal;
-use crate::reviewing::review;
+use crate::reviewing::{first_misfit, first_unsound};
 use pr_roles::{Scenario, Task};
 use pr_script::{Script, cost};
 use pr_sets::ViewSet;
@@ -43,7 +41,8 @@ pub fn check_outline<S: ViewSet>(
     match &nexus_in(scenario, outline.host).task {
         Task::Scripted { script, budget } => {
             check_cost(script, *budget, outline.host)?;
-            check_script(alloc, scenario, script, outline)
+            check_sound(alloc, scenario, script, outline)?;
+            check_fit(alloc, scenario, script, outline)
         }
         Task::Planned(_) => unreachable!(),
     }
@@ -62,8 +61,8 @@ pub(crate) fn check_cost(script: &Script, budget: u32, host: u8) -> Result<(), R
     Ok(())
 }
 
-/// Whether the outline is sound and fits, by the script of its host, which is within its budget.
-pub(crate) fn check_script<S: ViewSet>(
+// Whether the outline has a view for each send, and each view shows what it has to.
+fn check_sound<S: ViewSet>(
     alloc: Global,
     scenario: &Scenario,
     script: &Script,
@@ -73,9 +72,7 @@ pub(crate) fn check_script<S: ViewSet>(
     requires written { script_fits (scenario_of scenario.now).keys (script_of script.now) ≡ true }
     requires starts { CanStart (scenario_of scenario.now) }
     requires made { IsMadeFor S.room (scenario_of scenario.now) outline.now }
-    ensures fields { OnOk result ((p : Place) → Contains (places_of (script_of script.now)) p → Fits p.command) }
     ensures sound { OnOk result (IsSound (scenario_of scenario.now) (script_of script.now) (outline_of S.members outline.now)) }
-    ensures fitting { OnOk result ((budget : ℕ) → cost_of_all (script_of script.now) ≤ budget → IsFitting (scenario_of scenario.now) (script_of script.now) budget (outline_of S.members outline.now)) }
     ensures refusal { IfErr result (λ refusal. (budget : ℕ) → cost_of_all (script_of script.now) ≤ budget → IsRefusal (scenario_of scenario.now) (script_of script.now) budget (outline_of S.members outline.now) refusal) }
 {
     let host = outline.host;
@@ -83,14 +80,29 @@ pub(crate) fn check_script<S: ViewSet>(
     if let Some(line) = first_difference(&outline.views, &spots) {
         return Err(Refusal::NotSound { host, line });
     }
-    let firsts = first_lines(alloc, script)?;
-    let start = lacking_at_start(alloc, scenario, outline, &firsts)?;
-    let own = review(alloc, scenario, outline, &spots)?;
-    let others = lacking_by_others(alloc, scenario, outline)?;
-    if let Some(line) = least(least(start, own.lacking), others) {
-        return Err(Refusal::NotSound { host, line });
+    match first_unsound(alloc, scenario, script, outline, &spots)? {
+        None => Ok(()),
+        Some(line) => Err(Refusal::NotSound { host, line }),
     }
-    match own.misfit {
+}
+
+/// Whether the sound outline fits, by the script of its host, which is within its budget.
+pub(crate) fn check_fit<S: ViewSet>(
+    alloc: Global,
+    scenario: &Scenario,
+    script: &Script,
+    outline: &OutlineOf<S>,
+) -> Result<(), Refusal>
+    requires host { outline.now.host < length (scenario_of scenario.now).nexuses }
+    requires written { script_fits (scenario_of scenario.now).keys (script_of script.now) ≡ true }
+    requires made { IsMadeFor S.room (scenario_of scenario.now) outline.now }
+    requires sound { IsSound (scenario_of scenario.now) (script_of script.now) (outline_of S.members outline.now) }
+    ensures fields { OnOk result ((p : Place) → Contains (places_of (script_of script.now)) p → Fits p.command) }
+    ensures fitting { OnOk result ((budget : ℕ) → cost_of_all (script_of script.now) ≤ budget → IsFitting (scenario_of scenario.now) (script_of script.now) budget (outline_of S.members outline.now)) }
+    ensures refusal { IfErr result (λ refusal. (budget : ℕ) → cost_of_all (script_of script.now) ≤ budget → IsRefusal (scenario_of scenario.now) (script_of script.now) budget (outline_of S.members outline.now) refusal) }
+{
+    let spots = spots(alloc, script)?;
+    match first_misfit(alloc, scenario, outline, &spots)? {
         None => Ok(()),
         Some(refusal) => Err(refusal),
     }

@@ -1,91 +1,92 @@
-//! What the own commands of a host show of its outline.
+//! The first view of an outline that is not sound, and the first send that does not fit.
 
 ghost use Rattle.std.specs.Prelude.{◌≡◌, ◌<◌, true, length, map, option_map, IsTrue, IfOk, Some};
 ghost use Rattle.std.specs.List.{All};
 ghost use Rattle.pr_script.specs.Grammar.{rise_above};
+ghost use Rattle.pr_script.specs.Trees.{script_of};
 ghost use Rattle.pr_roles.specs.Scenarios.{scenario_of};
+ghost use Rattle.pr_roles.specs.Starts.{CanStart};
 ghost use Rattle.pr_views.specs.Rooms.{view_of, IsMade, AreAlike};
 ghost use Rattle.pr_domain.specs.Outcomes.{AreOutcomes};
-ghost use Rattle.pr_verify.specs.Outlines.{view_at, ComesTo};
+ghost use Rattle.pr_verify.specs.Places.{places_of};
+ghost use Rattle.pr_verify.specs.Outlines.{view_at, IsAsked};
 ghost use Rattle.pr_verify.specs.Refusals.{class_number};
 ghost use Rattle.pr_verify.specs.Rooms.{outline_of, IsMadeFor};
 ghost use Rattle.pr_verify.specs.inside.Listing.{place_of, IsPlaceWritten};
 ghost use Rattle.pr_verify.specs.inside.Least.{IsLeastAmong};
 ghost use Rattle.pr_verify.specs.inside.Lacking.{IsFirstLacking, lines_after, HasNext, LacksNext};
-ghost use Rattle.pr_verify.specs.inside.Reviewing.{IsMadeAs, IsLackingOfSends, IsMisfit, IsFirstMisfit, IsFirstUnarmed, earlier, earlier_from};
+ghost use Rattle.pr_verify.specs.inside.Reviewing.{IsMadeAs, IsMisfit, IsFirstMisfit, IsFirstUnarmed, earlier, earlier_from};
 
 use crate::answers::Questions;
-use crate::lacking::{first_lacking, least};
+use crate::lacking::{first_lacking, lacking_at_start, least};
 use crate::nexus::nexus_in;
+use crate::others::lacking_by_others;
 use crate::outline::OutlineOf;
-use crate::places::Spot;
+use crate::places::{Spot, first_lines};
 use crate::refusal::Refusal;
 use pr_domain::{Class, Landing, permitted};
 use pr_roles::Scenario;
+use pr_script::Script;
 use pr_sets::ViewSet;
 use pr_views::ViewOf;
 use std::alloc::{AllocError, Global};
 
-/// What the sends of a script show of an outline.
-#[derive(Clone, Copy, PartialEq, Eq)]
-pub(crate) struct Findings {
-    /// The first line whose view lacks a state to which a send leads.
-    pub(crate) lacking: Option<u32>,
-    /// Of the first send that does not fit, how it does not.
-    pub(crate) misfit: Option<Refusal>,
+/// The first line whose view lacks a state that it has to show: an allowed start, one to which a send leads, or one that the
+/// others leave.
+pub(crate) fn first_unsound<S: ViewSet>(
+    alloc: Global,
+    scenario: &Scenario,
+    script: &Script,
+    outline: &OutlineOf<S>,
+    spots: &[Spot],
+) -> Result<Option<u32>, AllocError>
+    requires starts { CanStart (scenario_of scenario.now) }
+    requires host { outline.now.host < length (scenario_of scenario.now).nexuses }
+    requires made { IsMadeFor S.room (scenario_of scenario.now) outline.now }
+    requires places { map place_of spots.now ≡ places_of (script_of script.now) }
+    requires written { All (λ p. IsPlaceWritten (scenario_of scenario.now).keys (place_of p)) spots.now }
+    requires listed { map (λ e. e.0) outline.now.views.items ≡ map (λ p. p.line) spots.now }
+    requires rise { rise_above 0 (map (λ e. e.0) outline.now.views.items) ≡ true }
+    ensures { IfOk result (IsFirstLacking (outline_of S.members outline.now) (IsAsked (scenario_of scenario.now) (script_of script.now) (outline_of S.members outline.now))) }
+{
+    let firsts = first_lines(alloc, script)?;
+    let start = lacking_at_start(alloc, scenario, outline, &firsts)?;
+    let others = lacking_by_others(alloc, scenario, outline)?;
+    let questions = Questions { outline, spots };
+    let mut known = Vec::new(alloc);
+    let mut own = None;
+    for (i, spot) in spots.iter().enumerate() {
+        let answer = questions.answer(alloc, &mut known, i)?;
+        let outcomes = &known[answer].outcomes;
+        own = least(own, lacking_after(outline, outcomes, &spot.next));
+    }
+    Ok(least(least(start, own), others))
 }
 
-/// Reviews the sends one after another.
-pub(crate) fn review<S: ViewSet>(
+/// Of the first send that does not fit, how it does not.
+pub(crate) fn first_misfit<S: ViewSet>(
     alloc: Global,
     scenario: &Scenario,
     outline: &OutlineOf<S>,
     spots: &[Spot],
-) -> Result<Findings, AllocError>
+) -> Result<Option<Refusal>, AllocError>
     requires host { outline.now.host < length (scenario_of scenario.now).nexuses }
     requires made { IsMadeFor S.room (scenario_of scenario.now) outline.now }
     requires written { All (λ p. IsPlaceWritten (scenario_of scenario.now).keys (place_of p)) spots.now }
     requires listed { map (λ e. e.0) outline.now.views.items ≡ map (λ p. p.line) spots.now }
     requires rise { rise_above 0 (map (λ e. e.0) outline.now.views.items) ≡ true }
-    ensures lacking { IfOk result (λ review. IsLackingOfSends (outline_of S.members outline.now) (length spots.now) spots.now review.lacking) }
-    ensures misfit { IfOk result (λ review. IsFirstMisfit (scenario_of scenario.now) (outline_of S.members outline.now) (length spots.now) spots.now review.misfit) }
+    ensures { IfOk result (IsFirstMisfit (scenario_of scenario.now) (outline_of S.members outline.now) (length spots.now) spots.now) }
 {
     let questions = Questions { outline, spots };
     let mut known = Vec::new(alloc);
-    let mut lacking = None;
-    let mut misfit = None;
     for (i, spot) in spots.iter().enumerate() {
         let answer = questions.answer(alloc, &mut known, i)?;
         let outcomes = &known[answer].outcomes;
-        let here = review_spot(scenario, outline, &outline.views[i].1, spot, outcomes);
-        lacking = least(lacking, here.lacking);
-        misfit = misfit.or(here.misfit);
+        if let Some(refusal) = misfit(scenario, outline, &outline.views[i].1, spot, outcomes) {
+            return Ok(Some(refusal));
+        }
     }
-    Ok(Findings { lacking, misfit })
-}
-
-// Of one send, by the view of its line and what its command comes to there.
-fn review_spot<S: ViewSet>(
-    scenario: &Scenario,
-    outline: &OutlineOf<S>,
-    view: &ViewOf<S>,
-    spot: &Spot,
-    outcomes: &[(Landing, ViewOf<S>)],
-) -> Findings
-    requires host { outline.now.host < length (scenario_of scenario.now).nexuses }
-    requires made { IsMadeFor S.room (scenario_of scenario.now) outline.now }
-    requires written { IsPlaceWritten (scenario_of scenario.now).keys (place_of spot.now) }
-    requires view { IsMadeAs S.room (scenario_of scenario.now) view.now }
-    requires here { view_at (outline_of S.members outline.now).views spot.now.line ≡ Some (view_of S.members outline.now.host view.now) }
-    requires kind { All (λ o. IsMade S.room o.1 × AreAlike view.now o.1) outcomes.now }
-    requires outcomes { AreOutcomes (view_of S.members outline.now.host view.now) spot.now.command spot.now.tests.items (map (λ o. (o.0, view_of S.members outline.now.host o.1)) outcomes.now) }
-    ensures lacking { IsFirstLacking (outline_of S.members outline.now) (ComesTo (outline_of S.members outline.now) (place_of spot.now)) result.lacking }
-    ensures misfit { IsMisfit (scenario_of scenario.now) (outline_of S.members outline.now) (place_of spot.now) result.misfit }
-{
-    Findings {
-        lacking: lacking_after(outline, outcomes, &spot.next),
-        misfit: misfit(scenario, outline, view, spot, outcomes),
-    }
+    Ok(None)
 }
 
 // The first line to which an outcome leads, and whose view lacks something of the outcome's.

@@ -6,7 +6,7 @@ ghost use Rattle.pr_roles.specs.Safety.{IsSafe};
 ghost use Rattle.pr_verify.specs.Outlines.{OnScripted, HasOutline, HaveOutlines};
 ghost use Rattle.pr_verify.specs.Verdicts.{HasReason, IsVerdict};
 
-use crate::checking::{check_cost, check_script};
+use crate::checking::{check_cost, check_fit};
 use crate::inferring::infer;
 use crate::laws::outlines_make_safe;
 use crate::nexus::nexus_in;
@@ -106,7 +106,7 @@ fn check_hosts(alloc: Global, scenario: &Scenario) -> Result<(), Refusal>
 }
 
 /// Whether the host has one, if it is scripted. A script that costs more than its budget is refused before anything is
-/// inferred of it.
+/// inferred of it. What is inferred is sound as it comes, so only whether it fits is asked.
 pub(crate) fn check_host(alloc: Global, scenario: &Scenario, host: u8) -> Result<(), Refusal>
     requires { host < length (scenario_of scenario.now).nexuses }
     ensures outline { OnOk result (OnScripted (task (scenario_of scenario.now) host) (HasOutline (scenario_of scenario.now) host)) }
@@ -116,7 +116,7 @@ pub(crate) fn check_host(alloc: Global, scenario: &Scenario, host: u8) -> Result
         Task::Scripted { script, budget } => {
             check_cost(script, *budget, host)?;
             let outline = infer(alloc, scenario, host)?;
-            check_script(alloc, scenario, script, &outline)
+            check_fit(alloc, scenario, script, &outline)
         }
         Task::Planned(_) => Ok(()),
     }

@@ -15,7 +15,7 @@ use Rattle.pr_verify.specs.Outlines.{OnScripted, HasOutline}
 use Rattle.pr_verify.specs.Rooms.{IsScripted}
 use Rattle.pr_verify.proofs.Nexuses.{scripted_task, scripted_fits, task_read}
 use Rattle.pr_verify.proofs.Tasked.{on_script}
-use Rattle.pr_verify.proofs.Outlined.{has_outline, all_ok}
+use Rattle.pr_verify.proofs.Outlined.{has_outline, both_ok}
 use Rattle.pr_verify.proofs.verifying.check_host.Goals as goal
 
 pub check_cost-requires : goal.check_cost-requires
@@ -27,11 +27,16 @@ infer-requires c =
     let is = scripted_task (scenario_of c.args.scenario.now) c.args.host c.nexus_in.result.now c.nexus_in.ensures.nexus c.in-Scripted.script c.in-Scripted.budget c.in-Scripted.is in
     record { scripted = subst IsScripted (sym is) tt }
 
-pub check_script-requires : goal.check_script-requires
-check_script-requires c =
-    let fits = scripted_fits (scenario_of c.args.scenario.now) c.args.host c.nexus_in.result.now c.nexus_in.ensures.nexus c.in-Scripted.script c.in-Scripted.budget c.in-Scripted.is c.nexus_in.ensures.fits in
+pub check_fit-requires : goal.check_fit-requires
+check_fit-requires c =
+    let s = scenario_of c.args.scenario.now in
+    let o = outline_of _ c.in_ok-outline-in-Scripted.outline in
+    let n = c.nexus_in.result.now in
+    let is = scripted_task s c.args.host n c.nexus_in.ensures.nexus c.in-Scripted.script c.in-Scripted.budget c.in-Scripted.is in
+    let fits = scripted_fits s c.args.host n c.nexus_in.ensures.nexus c.in-Scripted.script c.in-Scripted.budget c.in-Scripted.is c.nexus_in.ensures.fits in
     let same = c.in_ok-outline-in-Scripted.ensures.host in
-    (search rules, (omega (arith, c.requires), (fits.0, (c.nexus_in.ensures.starts, c.in_ok-outline-in-Scripted.ensures.made))))
+    let least = subst (λ t. OnScripted t (λ b n. IsLeastSound s b o)) is c.in_ok-outline-in-Scripted.ensures.least in
+    (search rules, (omega (arith, c.requires), (fits.0, (c.in_ok-outline-in-Scripted.ensures.made, least.sound))))
 
 pub returns-in_ok-outline-in-Scripted-clause-outline : goal.returns-in_ok-outline-in-Scripted-clause-outline
 returns-in_ok-outline-in-Scripted-clause-outline c =
@@ -40,10 +45,12 @@ returns-in_ok-outline-in-Scripted-clause-outline c =
     let script = script_of c.in-Scripted.script in
     let budget = c.in-Scripted.budget in
     let is = scripted_task s host c.nexus_in.result.now c.nexus_in.ensures.nexus c.in-Scripted.script budget c.in-Scripted.is in
-    all_ok c.check_script.result
-    (λ fields sound fitting. on_script (task s host) script budget (HasOutline s host) is
-    (has_outline s host script budget fields c.in_ok-outline-in-Scripted.ensures.host sound (fitting budget c.in_ok-check_cost-in-Scripted.ensures.within)))
-    c.check_script.ensures.fields c.check_script.ensures.sound c.check_script.ensures.fitting
+    let o = outline_of _ c.in_ok-outline-in-Scripted.outline in
+    let least = subst (λ t. OnScripted t (λ b n. IsLeastSound s b o)) is c.in_ok-outline-in-Scripted.ensures.least in
+    both_ok c.check_fit.result
+    (λ fields fitting. on_script (task s host) script budget (HasOutline s host) is
+    (has_outline s host script budget fields c.in_ok-outline-in-Scripted.ensures.host least.sound (fitting budget c.in_ok-check_cost-in-Scripted.ensures.within))) c.check_fit.ensures.fields
+    c.check_fit.ensures.fitting
 
 pub returns-in-Planned-clause-outline : goal.returns-in-Planned-clause-outline
 returns-in-Planned-clause-outline c =
@@ -60,8 +67,8 @@ returns-in_ok-outline-in-Scripted-clause-reason c =
     let o = outline_of _ c.in_ok-outline-in-Scripted.outline in
     let is = scripted_task s host c.nexus_in.result.now c.nexus_in.ensures.nexus c.in-Scripted.script budget c.in-Scripted.is in
     let least = subst (λ t. OnScripted t (λ b n. IsLeastSound s b o)) is c.in_ok-outline-in-Scripted.ensures.least in
-    IfErr-weaker c.check_script.result (λ refusal. (n : ℕ) → cost_of_all script ≤ n → IsRefusal s script n o refusal) (λ refusal. refusal ≢ Memory → HasReason s host refusal)
-    (λ refusal refused. has_reason s host script budget is o c.in_ok-outline-in-Scripted.ensures.host least refusal (refused budget c.in_ok-check_cost-in-Scripted.ensures.within)) c.check_script.ensures.refusal
+    IfErr-weaker c.check_fit.result (λ refusal. (n : ℕ) → cost_of_all script ≤ n → IsRefusal s script n o refusal) (λ refusal. refusal ≢ Memory → HasReason s host refusal)
+    (λ refusal refused. has_reason s host script budget is o c.in_ok-outline-in-Scripted.ensures.host least refusal (refused budget c.in_ok-check_cost-in-Scripted.ensures.within)) c.check_fit.ensures.refusal
 
 pub returns-in_err-check_cost-in-Scripted-clause-reason : goal.returns-in_err-check_cost-in-Scripted-clause-reason
 returns-in_err-check_cost-in-Scripted-clause-reason c =

@@ -1,0 +1,13 @@
+use Rattle.pr_roles.specs.Scenarios.{scenario_of}
+use Rattle.pr_verify.specs.Refusals.{FitsAt}
+use Rattle.pr_verify.specs.Rooms.{outline_of}
+use Rattle.pr_verify.specs.inside.Asked.{AreAnswersTo}
+use Rattle.pr_verify.specs.inside.Least.{EachOf}
+use Rattle.pr_verify.specs.inside.Listing.{place_of}
+use Rattle.pr_verify.proofs.reviewing.first_misfit.Given as goal
+
+abbrev pub invariant-loop-i : goal.invariant-loop-i
+invariant-loop-i g l = record {
+  fit : EachOf l.i l.spots (λ p. FitsAt (scenario_of l.scenario) (outline_of g.S.ViewSet.members l.outline) (place_of p));
+  known : AreAnswersTo g.S.ViewSet.members g.S.ViewSet.room l.questions l.known.items;
+}
