@@ -26,6 +26,7 @@ use pr_roles::{Nexus, Scenario, Word as Name};
 use pr_shared::{Entry, NoGate, Outcome, RunError, run};
 use pr_text::read;
 use pr_verify::{NoCheckGate, Refused, Verified, verify_each};
+use pr_world::commands_by;
 use std::alloc::Global;
 use std::io::{Read, Write};
 use std::sync::Wait;
@@ -208,14 +209,4 @@ fn counts_of(history: &[Entry], nexuses: usize) -> ArrayVec<u32, MOST_NEXUSES>
         counts.push(commands_by(history, host));
     }
     counts
-}
-
-fn commands_by(history: &[Entry], host: usize) -> u32
-    requires { commands_by history.now host < 2 ^ 32 }
-    ensures { result ≡ commands_by history.now host }
-{
-    history
-        .iter()
-        .filter(|entry| usize::from(entry.host) == host)
-        .count() as u32
 }

@@ -1,3 +1,4 @@
+pub mod Codes
 pub mod Kinds
 pub mod Bytes
 pub mod Requests

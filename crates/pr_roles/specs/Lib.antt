@@ -1,6 +1,7 @@
 pub mod Permits
 pub mod Scenarios
 pub mod Starts
+pub mod Limits
 pub mod Fitting
 pub mod Worlds
 pub mod Schedules

@@ -19,7 +19,7 @@ mod uniqueness;
 
 pub use entry::Entry;
 pub use fitting::{are_alternatives, is_action};
-pub use laws::{first_starts_are_earliest, starts_are_found};
+pub use laws::{first_starts_are_earliest, limits_agree, starts_are_found};
 pub use parts::{Nexus, Parts, Start, Task};
 pub use permitting::{is_always_permitted, names, permits};
 pub use pr_script::Word;

@@ -4,6 +4,7 @@ pub mod Takes
 pub mod Costs
 pub mod Depths
 pub mod Next
+pub mod Limits
 pub mod Names
 pub mod Grammar
 pub mod Laws

@@ -1,5 +1,6 @@
 //! Laws of the language, each the contract of a function with nothing to do.
 
+ghost use Rattle.pr_script.specs.Limits.{LimitsAgree};
 ghost use Rattle.pr_script.specs.Laws.{Settles, CostBoundsSends, FittingIsShallow};
 
 /// What a script has still to do comes to rest: at a send, at a stop, or at its end.
@@ -17,4 +18,9 @@ pub fn cost_bounds_sends()
 #[tactic(auto, using(crate::proofs::Shallow::shallow))]
 pub fn fitting_is_shallow()
     ensures { FittingIsShallow }
+{}
+
+/// The limits of scripts are those that docs/FORMATS.md lists.
+pub fn limits_agree()
+    ensures { LimitsAgree }
 {}

@@ -26,7 +26,7 @@ pub use depth::repeat_depth;
 pub use grammar::{
     WRITTEN_LENGTH, is_declared, is_test_declared, is_written, is_written_key, stands_under,
 };
-pub use laws::{cost_bounds_sends, fitting_is_shallow, settles};
+pub use laws::{cost_bounds_sends, fitting_is_shallow, limits_agree, settles};
 pub use machine::{Machine, end_word};
 pub use names::is_name;
 pub use next::{Next, NoArm};

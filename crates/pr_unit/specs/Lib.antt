@@ -1,5 +1,6 @@
 pub mod Attentions
 pub mod UnitStates
+pub mod Capacity
 pub mod Conflicts
 pub mod Faults
 pub mod Replies

@@ -1,5 +1,6 @@
 //! Laws of the unit's behaviour, each the contract of a function with nothing to do.
 
+ghost use Rattle.pr_unit.specs.Capacity.{CapacityAgrees};
 ghost use Rattle.pr_unit.specs.Laws.{EffectsAreWellFormed, StepsAreWellFormed, StepsKeepHosts, EveryRequestHasAStep, GoodIsFixed, GoodStepsTakeEffect, FreeCommandsEndGood, QuietSteps};
 
 /// A command without conflict and fault leaves a well formed state well formed.
@@ -44,4 +45,9 @@ pub fn free_commands_end_good()
 /// for the sender.
 pub fn quiet_steps()
     ensures { QuietSteps }
+{}
+
+/// The unit has as many blocks as docs/MODEL.md says.
+pub fn capacity_agrees()
+    ensures { CapacityAgrees }
 {}

@@ -149,8 +149,9 @@ fn counts_of(alloc: Global, entries: &[Entry], participants: usize) -> Result<Ve
     Ok(counts)
 }
 
-fn commands_by(entries: &[Entry], host: usize) -> u32
-    requires { length entries.now < 2 ^ 32 }
+/// How many of the commands are the host's or guest's.
+pub fn commands_by(entries: &[Entry], host: usize) -> u32
+    requires { commands_by entries.now host < 2 ^ 32 }
     ensures { result ≡ commands_by entries.now host }
 {
     entries

@@ -15,6 +15,7 @@ mod turn;
 mod world;
 
 pub use auditing::{AuditError, audit};
+pub use course::commands_by;
 pub use end::End;
 pub use laws::{
     replays_are_legal, safe_replays_end_untrapped, safe_replays_keep_budgets,

@@ -1,0 +1,24 @@
+//! The numbers of the standards, each law the contract of a function with nothing to do: a number that is changed in the code
+//! fails here, though the definitions cite it by its name.
+
+ghost use Rattle.pr_cdb.specs.Codes.{OperationCodesAgree, ServiceActionsAgree, SenseCodesAgree, LengthsAgree};
+
+/// The operation codes are the standards'.
+pub fn operation_codes_agree()
+    ensures { OperationCodesAgree }
+{}
+
+/// The service actions and flags are the standards'.
+pub fn service_actions_agree()
+    ensures { ServiceActionsAgree }
+{}
+
+/// The sense keys, additional sense codes and qualifiers are the standards'.
+pub fn sense_codes_agree()
+    ensures { SenseCodesAgree }
+{}
+
+/// The lengths of what is sent and answered are the standards', and there are at most eight I_T nexuses.
+pub fn lengths_agree()
+    ensures { LengthsAgree }
+{}
