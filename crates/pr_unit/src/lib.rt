@@ -17,7 +17,7 @@ mod unit;
 pub use conflicts::is_wrong_key;
 pub use faults::illegal;
 pub use laws::{
-    capacity_agrees, effects_are_well_formed, every_request_has_a_step, free_commands_end_good, good_is_fixed,
-    good_steps_take_effect, quiet_steps, steps_are_well_formed, steps_keep_hosts,
+    capacity_agrees, effects_are_well_formed, every_request_has_a_step, free_commands_end_good,
+    good_is_fixed, good_steps_take_effect, quiet_steps, steps_are_well_formed, steps_keep_hosts,
 };
 pub use unit::{CAPACITY, Unit};
