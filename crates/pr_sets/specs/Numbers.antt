@@ -9,7 +9,7 @@ Numbers = set.FinSet nat_cmp
 
 -- how many numbers there can be in a set: from 0 up to this bound
 abbrev pub most : ℕ
-most = 64
+most = 128
 
 -- n is a member
 abbrev pub Has : Numbers → ℕ → Type 0

@@ -1,5 +1,5 @@
 -- Agrees with docs/VIEWS.md, 'What a view has'.
--- A set of numbers below 64 as the bits of a word.
+-- A set of numbers below 128 as the bits of a word.
 use Rattle.std.specs.Prelude.{◌≡◌, ℕ, ◌≤◌, Bool, true, ◌==◌}
 use Rattle.std.specs.Int.{bit_at}
 use Rattle.pr_sets.specs.declared.word.Word.{Word}

@@ -7,7 +7,7 @@ ghost use Rattle.pr_sets.specs.Numbers.{Numbers, most, AllBelow, Within, IsNext,
 use std::alloc::{AllocError, Global};
 
 /// The bound of every set: its members are below it.
-pub const MOST: u8 = 64;
+pub const MOST: u8 = 128;
 
 /// A set of numbers below a size, which is at most [`MOST`].
 pub trait ViewSet: Sized + Drop {

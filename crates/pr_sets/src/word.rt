@@ -1,13 +1,13 @@
-//! A set of numbers below 64, as the bits of a word.
+//! A set of numbers below 128, as the bits of a word.
 
 ghost use Rattle.std.specs.Prelude.{◌≡◌, ◌<◌, ◌≤◌, ℕ, false, ◌==◌, ◌&&◌, ◌||◌, not, nat_lt, IfSome, IfNone, IsTrue};
 ghost use Rattle.pr_sets.specs.Numbers.{most};
 ghost use Rattle.pr_sets.specs.Words.{has, IsLeast};
 
-/// A set of numbers below 64, for reckoning with whole sets at a time.
+/// A set of numbers below 128, for reckoning with whole sets at a time.
 #[derive(Clone, Copy, PartialEq, Eq)]
 pub struct Word {
-    bits: u64,
+    bits: u128,
 }
 
 impl Word {
@@ -27,7 +27,7 @@ impl Word {
             return Word { bits: 0 };
         }
         Word {
-            bits: u64::MAX >> (64 - size),
+            bits: u128::MAX >> (128 - size),
         }
     }
 

@@ -11,7 +11,7 @@ use std::alloc::{AllocError, Global};
 /// A set that has a bit of one word for each number. It takes no memory, so that `add` and `join` always answer `Ok`.
 #[derive(Debug, Drop)]
 pub struct WordSet {
-    bits: u64,
+    bits: u128,
     size: u8,
     ghost few: { size ≤ most },
     ghost below: { AllBelow size (numbers_of_bits bits) },

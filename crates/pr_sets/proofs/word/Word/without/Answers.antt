@@ -1,8 +1,8 @@
-use Rattle.std.proofs.Common.{◌<◌, arith}
+use Rattle.std.proofs.Common.{◌^◌, ◌<◌, arith}
 use Rattle.pr_sets.proofs.Words.{has-without}
 use Rattle.pr_sets.proofs.word.Word.without.Goals as goal
 
 pub returns : goal.returns
 returns c m =
-    let fits : c.args.self.bits < 18446744073709551616 = omega arith in
+    let fits : c.args.self.bits < 2 ^ 128 = omega arith in
     has-without c.args.self.bits c.args.n m fits c.requires

@@ -1,4 +1,5 @@
-use Rattle.std.proofs.Common.{◌≡◌, ◌<◌, ◌^◌, w64, ap, ◌∙◌, arith}
+use Rattle.std.proofs.Common.{◌≡◌, ◌<◌, ◌^◌, ap, ◌∙◌, arith}
+use Rattle.std.specs.Int.{w128}
 use Rattle.std.proofs.lemmas.Bool.Decides.{nat_tests}
 use Rattle.pr_sets.specs.Kept.{numbers_of_bits}
 use Rattle.pr_sets.proofs.Placed.{placed-zero, zero_from_empty}
@@ -6,7 +7,7 @@ use Rattle.pr_sets.proofs.word_set.WordSetViewSet.is_empty.Goals as goal
 
 pub returns : goal.returns
 returns c = (
-  λ zero. let is : c.args.self.now.bits ≡ 0 = grind (arith, nat_tests) in ap numbers_of_bits is ∙ placed-zero w64,
-  λ none. let fits : c.args.self.now.bits < 2 ^ 64 = omega arith in
-      let is = zero_from_empty w64 c.args.self.now.bits fits none in grind (arith, nat_tests),
+  λ zero. let is : c.args.self.now.bits ≡ 0 = grind (arith, nat_tests) in ap numbers_of_bits is ∙ placed-zero w128,
+  λ none. let fits : c.args.self.now.bits < 2 ^ 128 = omega arith in
+      let is = zero_from_empty w128 c.args.self.now.bits fits none in grind (arith, nat_tests),
 )

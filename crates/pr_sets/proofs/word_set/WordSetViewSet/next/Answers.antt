@@ -8,6 +8,6 @@ returns-then-rest-eq0-clause-none c = none_from_zero c.args.self.now.bits c.args
 
 pub returns-clause-some : goal.returns-clause-some
 returns-clause-some c =
-    let fits : c.args.self.now.bits < 2 ^ 64 = omega arith in
-    let rest_fits : c.args.self.now.bits / 2 ^ c.args.from < 2 ^ 64 = omega (arith, div-le_self c.args.self.now.bits (2 ^ c.args.from)) in
+    let fits : c.args.self.now.bits < 2 ^ 128 = omega arith in
+    let rest_fits : c.args.self.now.bits / 2 ^ c.args.from < 2 ^ 128 = omega (arith, div-le_self c.args.self.now.bits (2 ^ c.args.from)) in
     next_by_zeros c.args.self.now.bits c.args.from _ fits refl (omega (arith, c.if-rest-eq0.false)) rest_fits

@@ -1,10 +1,10 @@
-use Rattle.std.proofs.Common.{w64}
+use Rattle.std.specs.Int.{w128}
 use Rattle.pr_sets.proofs.Members.{AllBelow-empty}
 use Rattle.pr_sets.proofs.Placed.{placed-zero}
 use Rattle.pr_sets.proofs.word_set.WordSetViewSet.none.Goals as goal
 
 pub invariant_of-result-clause-below : goal.invariant_of-result-clause-below
-invariant_of-result-clause-below c = rw (placed-zero w64) (AllBelow-empty c.args.size)
+invariant_of-result-clause-below c = rw (placed-zero w128) (AllBelow-empty c.args.size)
 
 pub returns-clause-members : goal.returns-clause-members
-returns-clause-members c = placed-zero w64
+returns-clause-members c = placed-zero w128
