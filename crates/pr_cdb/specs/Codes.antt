@@ -51,7 +51,7 @@ pub record SenseCodesAgree : Type 0 where
 
 -- lengths in bytes, and how many I_T nexuses there may be
 pub record LengthsAgree : Type 0 where
-  pub most_nexuses : MOST_NEXUSES ≡ 8
+  pub most_nexuses : MOST_NEXUSES ≡ 16
   pub six_byte_cdb : SIX_BYTE_CDB ≡ 6
   pub ten_byte_cdb : TEN_BYTE_CDB ≡ 10
   pub most_cdb_length : MOST_CDB_LENGTH ≡ 16
@@ -62,4 +62,4 @@ pub record LengthsAgree : Type 0 where
   pub key_length : KEY_LENGTH ≡ 8
   pub reservation_length : RESERVATION_LENGTH ≡ 16
   pub reservation_data_length : RESERVATION_DATA_LENGTH ≡ 24
-  pub most_data_length : MOST_DATA_LENGTH ≡ 72
+  pub most_data_length : MOST_DATA_LENGTH ≡ 136

@@ -4,4 +4,5 @@ pub mod Bytes
 pub mod Requests
 pub mod Spelling
 pub mod ReplyData
+pub mod Statuses
 pub mod inside

@@ -99,7 +99,7 @@ pub const REGISTRATIONS_PREEMPTED: u16 = 0x2a05;
 pub const FIXED_FORMAT: u8 = 0x70;
 
 /// How many I_T nexuses a unit serves at most, each with a key.
-pub const MOST_NEXUSES: usize = 8;
+pub const MOST_NEXUSES: usize = 16;
 
 // Lengths in bytes.
 

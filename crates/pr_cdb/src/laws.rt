@@ -18,7 +18,7 @@ pub fn sense_codes_agree()
     ensures { SenseCodesAgree }
 {}
 
-/// The lengths of what is sent and answered are the standards', and there are at most eight I_T nexuses.
+/// The lengths of what is sent and answered are the standards', and there are at most sixteen I_T nexuses.
 pub fn lengths_agree()
     ensures { LengthsAgree }
 {}

@@ -21,6 +21,8 @@ pub enum Status {
     Good,
     CheckCondition,
     Conflict,
+    Busy,
+    TaskFull,
 }
 
 /// The answer to a command.
