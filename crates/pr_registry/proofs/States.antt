@@ -1,5 +1,5 @@
 -- Each service action keeps states well formed, and the table follows the registrations.
-use Rattle.std.proofs.Common.{◌≡◌, ◌≢◌, ℕ, ◌^◌, ◌<◌, ◌≤◌, Bool, true, false, ◌==◌, ◌&&◌, not, nat_lt, IsTrue, cond, if◌then◌else◌, List, [], ◌∷◌, length, Option, Some, None, is_some, slice_set, refl, sym, ap, ◌∙◌, subst, inl, inr, ◌⊎◌, lit<, option_map, arith}
+use Rattle.std.proofs.Common.{◌≡◌, ◌≢◌, ℕ, zero, suc, ◌^◌, ◌<◌, ◌≤◌, Bool, true, false, ◌==◌, ◌&&◌, not, nat_lt, IsTrue, cond, if◌then◌else◌, List, [], ◌∷◌, length, Option, Some, None, is_some, slice_set, refl, sym, ap, ◌∙◌, subst, inl, inr, ◌⊎◌, lit<, option_map, arith}
 use Rattle.std.specs.FinSet as set
 use Rattle.std.specs.FinMap as map
 use Rattle.std.proofs.lemmas.Bool.Decides.{nat_tests, eqb_tells}
@@ -49,7 +49,12 @@ table_keys-without slots h whole small =
     ∙ ap (λ b. cond b None (map.get (table_keys MOST_NEXUSES slots) q)) (sym (contains-just h q))
     ∙ sym (get-without (table_keys MOST_NEXUSES slots) (just h) q))
 
-pub table_keys-none : table_keys MOST_NEXUSES (None ∷ None ∷ None ∷ None ∷ None ∷ None ∷ None ∷ None ∷ []) ≡ map.empty
+-- a place for each of n hosts, with no key
+abbrev pub nones : ℕ → List (Option ℕ)
+nones zero = []
+nones (suc n) = None ∷ nones n
+
+pub table_keys-none : table_keys MOST_NEXUSES (nones MOST_NEXUSES) ≡ map.empty
 unfolding map_where
 table_keys-none = refl
 
@@ -70,7 +75,7 @@ state_of-reserved hosts slots None new g h t free is = λ x. record { hosts = ho
 state_of-reserved hosts slots (Some v) new g h t free is = absurd (false≢true (sym free))
 
 pub state_of-cleared : (hosts : ℕ) (slots : List (Option ℕ)) (held : Option Held) (g after_g : ℕ) → after_g ≡ next g
-    → state_of hosts (None ∷ None ∷ None ∷ None ∷ None ∷ None ∷ None ∷ None ∷ []) None after_g ≡ after_clear (state_of hosts slots held g)
+    → state_of hosts (nones MOST_NEXUSES) None after_g ≡ after_clear (state_of hosts slots held g)
 state_of-cleared hosts slots held g after_g more = λ x. record { hosts = hosts; keys = table_keys-none x; held = None; generation = more x }
 
 pub state_of-preempted : (hosts : ℕ) (old new : List (Option ℕ)) (held after : Option Held) (g after_g h sark : ℕ) (kind : Option Kind) (case : Case) (removed : Hosts)

@@ -7,13 +7,13 @@ ghost use Rattle.pr_registry.specs.Hosts.{Hosts, nobody};
 use pr_cdb::codes::MOST_NEXUSES;
 use std::marker::Model;
 
-// The 8 of this file is how many bits a byte has: to serve more hosts than that, it takes a wider type.
-const _: () = prove!(MOST_NEXUSES <= 8);
+// The 16 of this file is how many bits the word has: to serve more hosts than that, it takes a wider type.
+const _: () = prove!(MOST_NEXUSES <= 16);
 
 /// A set of hosts, by their numbers.
 #[derive(Debug, Drop)]
 pub struct HostSet {
-    bits: u8,
+    bits: u16,
 }
 
 impl Model for HostSet {
@@ -28,7 +28,7 @@ impl Model for HostSet {
 
     ghost coded = { code coded_ℕ };
 
-    ghost view = { λ s. hosts_where 8 (λ h. bit_at s.bits h == 1) };
+    ghost view = { λ s. hosts_where 16 (λ h. bit_at s.bits h == 1) };
 }
 
 impl HostSet {
@@ -42,7 +42,7 @@ impl HostSet {
 
     /// Adds a host.
     pub(crate) fn insert(&mut self, host: u8)
-        requires { host < 8 }
+        requires { host < 16 }
         ensures { self.new ≡ set.insert self.old host }
     {
         self.bits |= 1 << host;
@@ -50,7 +50,7 @@ impl HostSet {
 
     /// The hosts of this set but one.
     pub(crate) fn without(&self, host: u8) -> HostSet
-        requires { host < 8 }
+        requires { host < 16 }
         ensures { result ≡ set.remove self.now host }
     {
         HostSet {
@@ -71,7 +71,7 @@ impl HostSet {
     pub fn has(&self, host: u8) -> bool
         ensures { result ≡ set.contains self.now host }
     {
-        host < 8 && self.bits >> host & 1 == 1
+        host < 16 && self.bits >> host & 1 == 1
     }
 
     /// Whether no host is in the set.

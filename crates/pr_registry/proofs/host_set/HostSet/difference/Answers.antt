@@ -5,5 +5,5 @@ use Rattle.pr_registry.proofs.host_set.HostSet.difference.Goals as goal
 
 pub returns : goal.returns
 returns c =
-    let fits : c.other.inside.bits < 256 = omega arith in
+    let fits : c.other.inside.bits < 65536 = omega arith in
     of_bits-difference c.self.inside.bits c.other.inside.bits fits ∙ (λ i. set.difference (c.self.view_is i) (c.other.view_is i))
