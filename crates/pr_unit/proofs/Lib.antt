@@ -6,3 +6,4 @@ pub mod Steps
 pub mod Answered
 pub mod GoodSteps
 pub mod Quiet
+pub mod NeverBusy

@@ -152,7 +152,7 @@ contains-table_pairs table q x = contains-pairs_where MOST_NEXUSES (place table)
 pub contains-table_pairs_in : (table : List Codes) (q x : ℕ) → q < MOST_NEXUSES → set.contains (table_pairs table) (q, x) ≡ set.contains (place table q) x
 contains-table_pairs_in table q x small = contains-table_pairs table q x ∙ ap (λ b. b && set.contains (place table q) x) (lt_true q MOST_NEXUSES small)
 
-place-set : (table : List Codes) (h : ℕ) (codes : Codes) (q : ℕ) → h < length table → place (slice_set table h codes) q ≡ (if q == h then codes else place table q)
+pub place-set : (table : List Codes) (h : ℕ) (codes : Codes) (q : ℕ) → h < length table → place (slice_set table h codes) q ≡ (if q == h then codes else place table q)
 place-set table h codes q small = at (eqb_tells q h)
   where
     at : (((q == h) ≡ true) × (q ≡ h)) ⊎ (((q == h) ≡ false) × (q ≢ h)) → place (slice_set table h codes) q ≡ (if q == h then codes else place table q)

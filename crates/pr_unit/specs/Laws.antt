@@ -7,6 +7,7 @@ use Rattle.pr_cdb.specs.declared.reply.Reply.{Reply}
 use Rattle.pr_cdb.specs.declared.wire.Request.{Request}
 use Rattle.pr_cdb.specs.declared.wire.Request.TheVariants.{Plain, Faulty}
 use Rattle.pr_cdb.specs.Requests.{Fits, FitsWhereRead}
+use Rattle.pr_cdb.specs.Statuses.{is_busy_status, is_full_status}
 use Rattle.pr_unit.specs.UnitStates.{UnitState, IsWellFormed, is_pending, is_any_pending, effect}
 use Rattle.pr_unit.specs.Conflicts.{command_conflicts}
 use Rattle.pr_unit.specs.Faults.{command_fault}
@@ -44,6 +45,12 @@ EveryRequestHasAStep = (u : UnitState) (h : ℕ) (q : Request) → HasStep u h q
 abbrev pub GoodIsFixed : Type 0
 GoodIsFixed =
     (u : UnitState) (h : ℕ) (q : Request) (r s : Reply) (v w : UnitState) → Step u h q r v → Step u h q s w → is_good r ≡ is_good s
+
+-- the unit by itself answers neither BUSY nor TASK SET FULL
+abbrev pub StepsAreNeverBusy : Type 0
+StepsAreNeverBusy =
+    (u : UnitState) (h : ℕ) (q : Request) (r : Reply) (v : UnitState) → Step u h q r v
+    → (is_busy_status r.status ≡ false) × (is_full_status r.status ≡ false)
 
 -- what a command does that ends GOOD: it neither conflicts nor is at fault, and has its data and its effect
 pub record TakesEffect (u : UnitState) (h : ℕ) (c : Command) (r : Reply) (v : UnitState) : Type 0 where

@@ -8,10 +8,11 @@ use Rattle.pr_cdb.specs.declared.command.Command.{Command}
 use Rattle.pr_cdb.specs.declared.command.Command.TheVariants.{TestUnitReady, RequestSense, Read, Write, ReadKeys, ReadReservation, ReportCapabilities, Register, RegisterIgnore, Reserve, Release, Clear, Preempt, PreemptAbort}
 use Rattle.pr_cdb.specs.declared.reply.Sense.{Sense}
 use Rattle.pr_cdb.specs.declared.reply.Status.{Status}
-use Rattle.pr_cdb.specs.declared.reply.Status.TheVariants.{Good, CheckCondition, Conflict}
+use Rattle.pr_cdb.specs.declared.reply.Status.TheVariants.{Good, CheckCondition, Conflict, Busy, TaskFull}
 use Rattle.pr_cdb.specs.declared.reply.Reply.{Reply}
 use Rattle.pr_cdb.specs.declared.wire.Request.{Request}
 use Rattle.pr_cdb.specs.declared.wire.Request.TheVariants.{Plain, Faulty}
+use Rattle.pr_cdb.specs.Statuses.{is_good_status}
 use Rattle.pr_cdb.specs.ReplyData.{sense_bytes, keys_bytes, reservation_bytes, capabilities_bytes, cut}
 use Rattle.pr_registry.specs.declared.held.Held.{Held}
 use Rattle.pr_registry.specs.declared.held.Held.TheVariants.{One, All}
@@ -31,10 +32,12 @@ check sense = reply_of CheckCondition (Some sense) []
 abbrev pub conflict : Reply
 conflict = reply_of Conflict None []
 
-abbrev pub is_good_status : Status → Bool
-is_good_status Good = true
-is_good_status CheckCondition = false
-is_good_status Conflict = false
+-- the two refusals that the command has no part in, and that leave the unit as it is
+abbrev pub busy : Reply
+busy = reply_of Busy None []
+
+abbrev pub full : Reply
+full = reply_of TaskFull None []
 
 abbrev pub is_good : Reply → Bool
 is_good r = is_good_status r.status

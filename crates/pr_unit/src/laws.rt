@@ -1,7 +1,7 @@
 //! Laws of the unit's behaviour, each the contract of a function with nothing to do.
 
 ghost use Rattle.pr_unit.specs.Capacity.{CapacityAgrees};
-ghost use Rattle.pr_unit.specs.Laws.{EffectsAreWellFormed, StepsAreWellFormed, StepsKeepHosts, EveryRequestHasAStep, GoodIsFixed, GoodStepsTakeEffect, FreeCommandsEndGood, QuietSteps};
+ghost use Rattle.pr_unit.specs.Laws.{EffectsAreWellFormed, StepsAreWellFormed, StepsKeepHosts, EveryRequestHasAStep, GoodIsFixed, StepsAreNeverBusy, GoodStepsTakeEffect, FreeCommandsEndGood, QuietSteps};
 
 /// A command without conflict and fault leaves a well formed state well formed.
 pub fn effects_are_well_formed()
@@ -28,6 +28,11 @@ pub fn every_request_has_a_step()
 /// reported.
 pub fn good_is_fixed()
     ensures { GoodIsFixed }
+{}
+
+/// The unit by itself answers neither BUSY nor TASK SET FULL.
+pub fn steps_are_never_busy()
+    ensures { StepsAreNeverBusy }
 {}
 
 /// A command that ends GOOD neither conflicts nor is at fault, and has its effect; but REQUEST SENSE may

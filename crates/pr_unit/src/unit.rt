@@ -3,7 +3,7 @@
 ghost use Rattle.std.specs.Prelude.{◌≡◌, ◌<◌, ◌≤◌, ◌↔◌, ℕ, true, IsTrue, IsSome, IfSome, length};
 ghost use Rattle.std.specs.FinSet as set;
 ghost use Rattle.pr_cdb.specs.Requests.{request_of_wire};
-ghost use Rattle.pr_attention.specs.Attentions.{AreAttentions, is_attention};
+ghost use Rattle.pr_attention.specs.Attentions.{AreAttentions, is_attention, no_code};
 ghost use Rattle.pr_unit.specs.Attentions.{place, table_pairs};
 
 use crate::answers::answer;
@@ -14,6 +14,7 @@ use pr_attention::Pending;
 use pr_cdb::codes::MOST_NEXUSES;
 use pr_cdb::{Bad, Command, Reply, Request, Wire, decode};
 use pr_registry::Registry;
+use std::array;
 use std::marker::Model;
 
 /// How many blocks a unit has.
@@ -150,16 +151,11 @@ fn table_of(pendings: &[Pending]) -> [Pending; MOST_NEXUSES]
     ensures value { table_pairs result ≡ table_pairs pendings.now }
     ensures members { (host code : ℕ) → set.contains (table_pairs result) (host, code) ≡ true → (host < length pendings.now) × IsTrue (is_attention code) }
 {
-    [
-        place_of(pendings, 0),
-        place_of(pendings, 1),
-        place_of(pendings, 2),
-        place_of(pendings, 3),
-        place_of(pendings, 4),
-        place_of(pendings, 5),
-        place_of(pendings, 6),
-        place_of(pendings, 7),
-    ]
+    let mut table = nothing_pending();
+    for host in 0..MOST_NEXUSES {
+        table[host] = place_of(pendings, host);
+    }
+    table
 }
 
 // What is pending for the host, and nothing where there is no place for it.
@@ -177,14 +173,9 @@ fn place_of(pendings: &[Pending], host: usize) -> Pending
 fn nothing_pending() -> [Pending; MOST_NEXUSES]
     ensures { table_pairs result ≡ set.empty }
 {
-    [
-        Pending::new(),
-        Pending::new(),
-        Pending::new(),
-        Pending::new(),
-        Pending::new(),
-        Pending::new(),
-        Pending::new(),
-        Pending::new(),
-    ]
+    array::from_fn(
+        |_| -> Pending
+            ensures { result ≡ no_code }
+        { Pending::new() },
+    )
 }

@@ -1,12 +1,12 @@
-use Rattle.std.proofs.Common.{◌≡◌, ◌<◌, ℕ, zero, suc, ◌&&◌, nat_lt, true, List, [], ◌∷◌, length, sym, ap, ◌∙◌, subst, arith}
+use Rattle.std.proofs.Common.{◌≡◌, ◌<◌, ◌+◌, ℕ, zero, suc, ◌==◌, ◌&&◌, nat_lt, Bool, true, false, if◌then◌else◌, List, [], ◌∷◌, length, length-set, slice_set, refl, sym, ap, ◌∙◌, subst, rules, arith}
 use Rattle.std.specs.FinSet as set
 use Rattle.std.proofs.lemmas.Bool.{and_parts, false≢true}
 use Rattle.std.proofs.lemmas.Bool.Decides.{nat_tests}
 use Rattle.pr_cdb.specs.declared.codes.TheConstants.{MOST_NEXUSES}
 use Rattle.pr_attention.specs.Attentions.{Codes, AreAttentions}
 use Rattle.pr_attention.proofs.Sets.{contains-no_code}
-use Rattle.pr_unit.specs.Attentions.{place, of_host, pairs_where, table_pairs}
-use Rattle.pr_unit.proofs.Pairs.{contains-table_pairs}
+use Rattle.pr_unit.specs.Attentions.{place, table_pairs}
+use Rattle.pr_unit.proofs.Pairs.{same_pairs, same_number, contains-table_pairs, place-set}
 use Rattle.pr_unit.proofs.unit.table_of.Goals as goal
 
 -- where a table has a code, it has a place
@@ -18,50 +18,50 @@ has_place (codes ∷ table) (suc h) code is = let there = has_place table h code
 is_below : (a b : ℕ) → nat_lt a b ≡ true → a < b
 is_below a b is = grind (arith, nat_tests)
 
-by_host : (P : ℕ → Type 0) → P 0 → P 1 → P 2 → P 3 → P 4 → P 5 → P 6 → P 7 → (h : ℕ) → h < MOST_NEXUSES → P h
-by_host P p0 p1 p2 p3 p4 p5 p6 p7 zero below = p0
-by_host P p0 p1 p2 p3 p4 p5 p6 p7 (suc zero) below = p1
-by_host P p0 p1 p2 p3 p4 p5 p6 p7 (suc (suc zero)) below = p2
-by_host P p0 p1 p2 p3 p4 p5 p6 p7 (suc (suc (suc zero))) below = p3
-by_host P p0 p1 p2 p3 p4 p5 p6 p7 (suc (suc (suc (suc zero)))) below = p4
-by_host P p0 p1 p2 p3 p4 p5 p6 p7 (suc (suc (suc (suc (suc zero))))) below = p5
-by_host P p0 p1 p2 p3 p4 p5 p6 p7 (suc (suc (suc (suc (suc (suc zero)))))) below = p6
-by_host P p0 p1 p2 p3 p4 p5 p6 p7 (suc (suc (suc (suc (suc (suc (suc zero))))))) below = p7
-by_host P p0 p1 p2 p3 p4 p5 p6 p7 (suc (suc (suc (suc (suc (suc (suc (suc h)))))))) below = absurd (omega arith)
+-- what holds of each place before, and of the codes that are written at the next
+one_more : (P : ℕ → Codes → Type 0) (table : List Codes) (i : ℕ) (codes : Codes) → i < length table → ((h : ℕ) → h < i → P h (place table h)) → P i codes
+    → (h : ℕ) → h < i + 1 → P h (place (slice_set table i codes) h)
+one_more P table i codes there each one h small = subst (P h) (sym (place-set table i codes h there)) (at (h == i) refl)
+  where
+    at : (b : Bool) → (h == i) ≡ b → P h (if b then codes else place table h)
+    at true is = subst (λ q. P q codes) (sym (same_number h i is)) one
+    at false is = each h (grind (arith, nat_tests))
 
-same_table : (c : goal.After-place_of-8) → table_pairs (c.place_of.result ∷ c.place_of-2.result ∷ c.place_of-3.result ∷ c.place_of-4.result ∷ c.place_of-5.result ∷ c.place_of-6.result ∷ c.place_of-7.result ∷ c.place_of-8.result ∷ [])
-    ≡ table_pairs c.args.pendings.now
-unfolding pairs_where
-same_table c = λ i.
-    set.union (set.union (set.union (set.union (set.union (set.union (set.union (set.union set.empty
-    (of_host 0 (c.place_of.ensures.value i)))
-    (of_host 1 (c.place_of-2.ensures.value i)))
-    (of_host 2 (c.place_of-3.ensures.value i)))
-    (of_host 3 (c.place_of-4.ensures.value i)))
-    (of_host 4 (c.place_of-5.ensures.value i)))
-    (of_host 5 (c.place_of-6.ensures.value i)))
-    (of_host 6 (c.place_of-7.ensures.value i)))
-    (of_host 7 (c.place_of-8.ensures.value i))
+same_table : (a b : List Codes) → ((h : ℕ) → h < MOST_NEXUSES → place a h ≡ place b h) → table_pairs a ≡ table_pairs b
+same_table a b same =
+    same_pairs _ _ (λ p. contains-table_pairs a p.0 p.1 ∙ at p (nat_lt p.0 MOST_NEXUSES) refl ∙ sym (contains-table_pairs b p.0 p.1))
+  where
+    at : (p : ℕ × ℕ) (l : Bool) → nat_lt p.0 MOST_NEXUSES ≡ l → (l && set.contains (place a p.0) p.1) ≡ (l && set.contains (place b p.0) p.1)
+    at p true inside = ap (λ s. set.contains s p.1) (same p.0 (is_below p.0 MOST_NEXUSES inside))
+    at p false outside = refl
+
+pub loop-host-init : goal.loop-host-init
+loop-host-init c = record {
+  whole = search rules;
+  there = λ h small. absurd (omega arith);
+  members = λ h small. absurd (omega arith);
+}
+
+pub loop-host-preserved : goal.loop-host-preserved
+loop-host-preserved c =
+    let before = c.loop-host.invariant in
+    let there : c.loop-host.host < length c.loop-host.table = omega (arith, before.whole, c.loop-host-test.true) in
+    record {
+      whole = length-set c.loop-host.table c.loop-host.host c.place_of.result ∙ before.whole;
+      there = one_more (λ h codes. codes ≡ place c.args.pendings.now h) c.loop-host.table c.loop-host.host c.place_of.result there before.there c.place_of.ensures.value;
+      members = one_more (λ h codes. AreAttentions codes) c.loop-host.table c.loop-host.host c.place_of.result there before.members c.place_of.ensures.members;
+    }
 
 pub returns-clause-value : goal.returns-clause-value
-returns-clause-value c = same_table c
-
--- no place has another code than the four
-are_attentions : (c : goal.After-place_of-8) (h : ℕ) → h < MOST_NEXUSES → AreAttentions (place c.args.pendings.now h)
-are_attentions c = by_host (λ h. AreAttentions (place c.args.pendings.now h))
-    (subst AreAttentions c.place_of.ensures.value c.place_of.ensures.members)
-    (subst AreAttentions c.place_of-2.ensures.value c.place_of-2.ensures.members)
-    (subst AreAttentions c.place_of-3.ensures.value c.place_of-3.ensures.members)
-    (subst AreAttentions c.place_of-4.ensures.value c.place_of-4.ensures.members)
-    (subst AreAttentions c.place_of-5.ensures.value c.place_of-5.ensures.members)
-    (subst AreAttentions c.place_of-6.ensures.value c.place_of-6.ensures.members)
-    (subst AreAttentions c.place_of-7.ensures.value c.place_of-7.ensures.members)
-    (subst AreAttentions c.place_of-8.ensures.value c.place_of-8.ensures.members)
+returns-clause-value c =
+    same_table c.loop-host.table c.args.pendings.now (λ h small. c.loop-host.invariant.there h (omega (arith, c.loop-host-test.false)))
 
 pub returns-clause-members : goal.returns-clause-members
 returns-clause-members c = λ host code is.
-    let table = c.args.pendings.now in
-    let both : (nat_lt host MOST_NEXUSES && set.contains (place table host) code) ≡ true =
-    sym (contains-table_pairs table host code) ∙ ap (λ s. set.contains s (host, code)) (sym (same_table c)) ∙ is in
-    let parts = and_parts (nat_lt host MOST_NEXUSES) (set.contains (place table host) code) both in
-    (has_place table host code parts.1, are_attentions c host (is_below host MOST_NEXUSES parts.0) code parts.1)
+    let table = c.loop-host.table in
+    let parts = and_parts (nat_lt host MOST_NEXUSES) (set.contains (place table host) code) (sym (contains-table_pairs table host code) ∙ is) in
+    let small = is_below host MOST_NEXUSES parts.0 in
+    let early : host < c.loop-host.host = omega (arith, c.loop-host-test.false) in (
+      has_place c.args.pendings.now host code (ap (λ s. set.contains s code) (sym (c.loop-host.invariant.there host early)) ∙ parts.1),
+      c.loop-host.invariant.members host early code parts.1,
+    )

@@ -1,0 +1,38 @@
+-- The unit by itself answers neither BUSY nor TASK SET FULL.
+use Rattle.std.proofs.Common.{◌≡◌, ℕ, Bool, true, false, if◌then◌else◌, refl}
+use Rattle.pr_cdb.specs.declared.reply.Reply.{Reply}
+use Rattle.pr_cdb.specs.declared.wire.Request.{Request}
+use Rattle.pr_cdb.specs.declared.wire.Request.TheVariants.{Plain, Faulty}
+use Rattle.pr_cdb.specs.ReplyData.{sense_bytes}
+use Rattle.pr_cdb.specs.Statuses.{is_busy_status, is_full_status}
+use Rattle.pr_unit.specs.Attentions.{power_on, attention_sense}
+use Rattle.pr_unit.specs.UnitStates.{UnitState}
+use Rattle.pr_unit.specs.Replies.{good, check, report, is_request_sense}
+use Rattle.pr_unit.specs.declared.decision.Decision.{Decision}
+use Rattle.pr_unit.specs.declared.decision.Decision.TheVariants.{PowerOn, Conflicting, Attention, AtFault, Done}
+use Rattle.pr_unit.specs.Steps.{StepBy, decision}
+use Rattle.pr_unit.specs.Laws.{StepsAreNeverBusy}
+
+abbrev IsOwn : Reply → Type 0
+IsOwn r = (is_busy_status r.status ≡ false) × (is_full_status r.status ≡ false)
+
+own_by : (r s : Reply) → r ≡ s → IsOwn s → IsOwn r
+own_by r s is own = rw is own
+
+reported : (q : Request) (code : ℕ) → IsOwn (report q code)
+reported q code = at (is_request_sense q)
+  where
+    at : (b : Bool) → IsOwn (if b then good (sense_bytes (attention_sense code)) else check (attention_sense code))
+    at true = (refl, refl)
+    at false = (refl, refl)
+
+by_decision : (l : Decision) (u : UnitState) (h : ℕ) (q : Request) (r : Reply) (v : UnitState) → StepBy l u h q r v → IsOwn r
+by_decision PowerOn u h q r v step = own_by r _ step.0 (reported q power_on)
+by_decision Conflicting u h q r v step = own_by r _ step.0 (refl, refl)
+by_decision Attention u h q r v step = own_by r _ step.reply (reported q step.code)
+by_decision (AtFault sense) u h q r v step = own_by r _ step.0 (refl, refl)
+by_decision Done u h (Plain c) r v step = own_by r _ step.0 (refl, refl)
+by_decision Done u h (Faulty sense) r v step = absurd step
+
+pub steps_are_never_busy : StepsAreNeverBusy
+steps_are_never_busy u h q r v step = by_decision (decision u h q) u h q r v step
