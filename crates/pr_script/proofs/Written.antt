@@ -1,5 +1,5 @@
 -- One more statement, or arm, of those that are looked at one after another.
-use Rattle.std.specs.Prelude.{◌≡◌, ℕ, ◌+◌, ◌<◌, Bool, true, false, ◌&&◌, nat_lt, List, [], ◌∷◌, ◌++◌, length, take, cond, Option, Some, None, is_some}
+use Rattle.std.specs.Prelude.{◌≡◌, ℕ, ◌+◌, ◌<◌, Bool, true, false, ◌&&◌, nat_lt, nat_le, List, [], ◌∷◌, ◌++◌, length, take, cond, Option, Some, None, is_some}
 use Rattle.std.proofs.Common.{refl, sym, ap, ◌∙◌, get_or, drop, arith}
 use Rattle.std.proofs.lemmas.List.{take-append-drop}
 use Rattle.pr_cdb.specs.declared.command.Command.{Command}
@@ -8,6 +8,7 @@ use Rattle.pr_script.specs.declared.script.Arm.{Arm}
 use Rattle.pr_script.specs.Trees.{statement_of, statements_in, script_of}
 use Rattle.pr_script.specs.inside.ArmLists.{arms_in}
 use Rattle.pr_script.specs.Grammar.{test_fits, statement_fits, statements_fit, arms_fit, count_of_arms, count_of, count_of_all, count_in_arms, lines_of, lines_of_all, lines_of_arms, rise_above}
+use Rattle.pr_script.specs.Versions.{since, is_statement_of, is_script_of, are_arms_of}
 use Rattle.pr_script.specs.inside.Climbs.{last_of_climb}
 use Rattle.pr_script.proofs.Taken.{taken}
 
@@ -51,6 +52,35 @@ arms_taken keys r s c xs i x within is =
 pub arms_counted : (xs : List Arm) → count_of_arms (arms_in xs) ≡ length xs
 arms_counted [] = refl
 arms_counted (y ∷ ys) = omega (arith, arms_counted ys)
+
+-- ---- the version
+
+dated-append : (version : ℕ) (xs : List Statement) (x : Statement)
+    → is_script_of version (statements_in (xs ++ x ∷ [])) ≡ (is_script_of version (statements_in xs) && is_statement_of version (statement_of x))
+dated-append version [] x = and-true (is_statement_of version (statement_of x))
+dated-append version (y ∷ ys) x =
+    ap (λ b. is_statement_of version (statement_of y) && b) (dated-append version ys x)
+    ∙ sym (and-assoc (is_statement_of version (statement_of y)) (is_script_of version (statements_in ys)) (is_statement_of version (statement_of x)))
+
+pub dated_taken : (version : ℕ) (xs : List Statement) (i : ℕ) (x : Statement) → i < length xs → x ≡ get_or xs i x
+    → is_script_of version (statements_in (take (i + 1) xs)) ≡ (is_script_of version (statements_in (take i xs)) && is_statement_of version (statement_of x))
+dated_taken version xs i x within is =
+    ap (λ ys. is_script_of version (statements_in ys)) (taken xs i x within is) ∙ dated-append version (take i xs) x
+
+abbrev pub is_arm_of : ℕ → Arm → Bool
+is_arm_of version a = nat_le (since a.test) version && is_script_of version (script_of a.body)
+
+arms-dated-append : (version : ℕ) (xs : List Arm) (x : Arm)
+    → are_arms_of version (arms_in (xs ++ x ∷ [])) ≡ (are_arms_of version (arms_in xs) && is_arm_of version x)
+arms-dated-append version [] x = and-true (is_arm_of version x)
+arms-dated-append version (y ∷ ys) x =
+    ap (λ b. is_arm_of version y && b) (arms-dated-append version ys x)
+    ∙ sym (and-assoc (is_arm_of version y) (are_arms_of version (arms_in ys)) (is_arm_of version x))
+
+pub arms_dated_taken : (version : ℕ) (xs : List Arm) (i : ℕ) (x : Arm) → i < length xs → x ≡ get_or xs i x
+    → are_arms_of version (arms_in (take (i + 1) xs)) ≡ (are_arms_of version (arms_in (take i xs)) && is_arm_of version x)
+arms_dated_taken version xs i x within is =
+    ap (λ ys. are_arms_of version (arms_in ys)) (taken xs i x within is) ∙ arms-dated-append version (take i xs) x
 
 -- ---- the count
 

@@ -79,6 +79,8 @@ stands_under c (test.GoodHas key) = is_read_keys c
 stands_under c (test.GoodHeld key) = is_read_reservation c
 stands_under c test.GoodUnheld = is_read_reservation c
 stands_under c test.Conflict = true
+stands_under c test.Busy = true
+stands_under c test.Full = true
 stands_under c test.Attention = true
 stands_under c (test.Sense sense) = true
 
@@ -89,6 +91,8 @@ is_test_declared keys (test.GoodHas key) = is_declared keys key
 is_test_declared keys (test.GoodHeld key) = is_written_key keys key
 is_test_declared keys test.GoodUnheld = true
 is_test_declared keys test.Conflict = true
+is_test_declared keys test.Busy = true
+is_test_declared keys test.Full = true
 is_test_declared keys test.Attention = true
 is_test_declared keys (test.Sense sense) = true
 
@@ -99,6 +103,8 @@ has_sense_digit (test.GoodHas key) = true
 has_sense_digit (test.GoodHeld key) = true
 has_sense_digit test.GoodUnheld = true
 has_sense_digit test.Conflict = true
+has_sense_digit test.Busy = true
+has_sense_digit test.Full = true
 has_sense_digit test.Attention = true
 has_sense_digit (test.Sense sense) = nat_lt sense.key 16
 

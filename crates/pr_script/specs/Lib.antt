@@ -7,5 +7,6 @@ pub mod Next
 pub mod Limits
 pub mod Names
 pub mod Grammar
+pub mod Versions
 pub mod Laws
 pub mod inside

@@ -4,28 +4,12 @@ use Rattle.std.specs.Prelude.{◌≡◌, ℕ, Bool, true, false, ◌==◌, ◌&&
 use Rattle.std.specs.List.{list_any}
 use Rattle.pr_cdb.specs.declared.codes.TheConstants.{UNIT_ATTENTION}
 use Rattle.pr_cdb.specs.declared.reply.Sense.{Sense}
-use Rattle.pr_cdb.specs.declared.reply.Status.{Status}
-use Rattle.pr_cdb.specs.declared.reply.Status.TheVariants as status
 use Rattle.pr_cdb.specs.declared.reply.Reply.{Reply}
+use Rattle.pr_cdb.specs.Statuses.{is_good_status, is_check_status, is_conflict_status, is_busy_status, is_full_status}
 use Rattle.pr_cdb.specs.ReplyData.{keys_in, holder_in}
 use Rattle.pr_script.specs.declared.script.Test.{Test}
 use Rattle.pr_script.specs.declared.script.Test.TheVariants as test
 use Rattle.pr_script.specs.Scripts.{Stmts, Arms, sends, repeats, breaks, stops, no_arm, arm, statement, mark, Configuration, before, settled_form, IsReady}
-
-abbrev pub is_good_status : Status → Bool
-is_good_status status.Good = true
-is_good_status status.CheckCondition = false
-is_good_status status.Conflict = false
-
-abbrev pub is_conflict_status : Status → Bool
-is_conflict_status status.Good = false
-is_conflict_status status.CheckCondition = false
-is_conflict_status status.Conflict = true
-
-abbrev pub is_check_status : Status → Bool
-is_check_status status.Good = false
-is_check_status status.CheckCondition = true
-is_check_status status.Conflict = false
 
 -- the data of READ RESERVATION has a reservation with this key
 abbrev pub is_held_by : Option (Option (ℕ × ℕ)) → ℕ → Bool
@@ -53,6 +37,8 @@ matches (test.GoodHas key) r = is_good_status r.status && list_any (λ k. k == k
 matches (test.GoodHeld key) r = is_good_status r.status && is_held_by (holder_in r.bytes.items) key
 matches test.GoodUnheld r = is_good_status r.status && is_unheld (holder_in r.bytes.items)
 matches test.Conflict r = is_conflict_status r.status
+matches test.Busy r = is_busy_status r.status
+matches test.Full r = is_full_status r.status
 matches test.Attention r = is_check_status r.status && is_attention r.sense
 matches (test.Sense wanted) r = is_check_status r.status && is_sense r.sense wanted
 

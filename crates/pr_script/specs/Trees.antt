@@ -3,7 +3,6 @@
 use Rattle.std.specs.Prelude.{List, [], ◌∷◌}
 use Rattle.pr_script.specs.declared.script.Script.{Script}
 use Rattle.pr_script.specs.declared.script.Statement.{Statement, Send', Repeat', Break, Stop, Row_of-Statement, end_of-Statement, more_of-Statement, Row_of-Arm, end_of-Arm, more_of-Arm}
-use Rattle.pr_script.specs.declared.script.Arm.{Arm}
 use Rattle.pr_script.specs.Scripts.{Stmt, Stmts, Arms, sends, repeats, breaks, stops, none, more, no_arm, arm}
 
 abbrev mutual

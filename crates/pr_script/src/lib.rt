@@ -21,6 +21,7 @@ mod next;
 mod rows;
 mod script;
 mod sizes;
+mod versions;
 
 pub use depth::repeat_depth;
 pub use grammar::{

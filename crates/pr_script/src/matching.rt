@@ -20,6 +20,8 @@ impl Test {
             Test::GoodHeld(key) => is_good && is_held_by(holder_of(bytes), key),
             Test::GoodUnheld => is_good && holder_of(bytes) == Some(None),
             Test::Conflict => reply.status == Status::Conflict,
+            Test::Busy => reply.status == Status::Busy,
+            Test::Full => reply.status == Status::TaskFull,
             Test::Attention => is_check
                 && reply.sense.is_some_and(|sense| sense.key == UNIT_ATTENTION),
             Test::Sense(sense) => is_check && reply.sense == Some(sense),

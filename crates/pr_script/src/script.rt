@@ -64,6 +64,10 @@ pub enum Test {
     GoodUnheld,
     /// RESERVATION CONFLICT.
     Conflict,
+    /// BUSY.
+    Busy,
+    /// TASK SET FULL.
+    Full,
     /// CHECK CONDITION with the sense key UNIT ATTENTION.
     Attention,
     /// CHECK CONDITION with this sense and no other.
