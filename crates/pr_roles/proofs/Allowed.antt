@@ -1,13 +1,14 @@
 -- The first start is allowed, and where some state is allowed there is a first start.
-use Rattle.std.specs.Prelude.{◌≡◌, ℕ, zero, suc, ◌<◌, ◌≤◌, ◌^◌, Bool, true, false, not, ◌==◌, nat_lt, nat_le, cond, List, [], ◌∷◌, length, Option, Some, None, is_some, map, slice_index_or, option_map, bytes_eq, IfSome, IsSome}
+use Rattle.std.specs.Prelude.{◌≡◌, ℕ, zero, suc, ◌<◌, ◌≤◌, ◌^◌, Bool, true, false, not, ◌==◌, nat_lt, nat_le, cond, if◌then◌else◌, List, [], ◌∷◌, length, Option, Some, None, is_some, map, slice_index_or, option_map, bytes_eq, IfSome, IsSome}
 use Rattle.std.specs.FinMap as finmap
 use Rattle.std.specs.List.{slice_get, list_all, Contains, All as Each}
-use Rattle.std.proofs.Common.{refl, sym, ap, ◌∙◌, subst, inl, inr, ◌⊎◌, arith}
+use Rattle.std.proofs.Common.{refl, sym, ap, ◌∙◌, subst, inl, inr, ◌⊎◌, arith, lit≤}
 use Rattle.std.proofs.Math.Nat.{eq-or-lt_of_le}
 use Rattle.std.proofs.lemmas.Bool.{and_parts, ltb-true, false≢true}
 use Rattle.std.proofs.lemmas.Bool.Decides.{nat_tests}
 use Rattle.std.proofs.lemmas.Option.{none-some, slice_get-map, slice_get_within}
 use Rattle.pr_cdb.specs.declared.codes.TheConstants.{MOST_NEXUSES}
+use Rattle.pr_roles.specs.declared.limits.TheConstants.{MOST_DECLARED_1, MOST_DECLARED_2}
 use Rattle.pr_registry.specs.declared.held.Held.{Held}
 use Rattle.pr_registry.specs.declared.held.Held.TheVariants.{One, All}
 use Rattle.pr_registry.specs.Hosts.{Keys}
@@ -20,7 +21,7 @@ use Rattle.pr_script.specs.Names.{is_name}
 use Rattle.pr_roles.specs.declared.parts.Nexus.{Nexus as NexusPart}
 use Rattle.pr_roles.specs.declared.parts.Parts.{Parts}
 use Rattle.pr_roles.specs.Scenarios.{Scenario, Nexus, nexus, nexus_of, scenario_of}
-use Rattle.pr_roles.specs.Fitting.{Fits, is_reservation, is_nexus, is_role, is_start, is_task, is_alternative, are_distinct, is_same_reservation}
+use Rattle.pr_roles.specs.Fitting.{Fits, most_declared, is_reservation, is_nexus, is_role, is_start, is_task, is_alternative, are_distinct, is_same_reservation}
 use Rattle.pr_roles.specs.Starts.{IsAllowedStart, CanStart, starts, first_state, keys_under, first_under}
 use Rattle.pr_roles.specs.inside.StoredStarts.{start_of}
 use Rattle.pr_roles.proofs.Apart.{length_of_parts}
@@ -29,17 +30,25 @@ use Rattle.pr_roles.proofs.Reserving.{Made, Holding, made, first, found_first, f
 
 -- ---- what fitting says
 
--- one to eight nexuses
+-- what a text may declare has a place in a unit
+pub most_fits : (version : ℕ) → most_declared version ≤ MOST_NEXUSES
+most_fits version = at (version == 1)
+  where
+    at : (first : Bool) → (if first then MOST_DECLARED_1 else MOST_DECLARED_2) ≤ MOST_NEXUSES
+    at true = lit≤ tt
+    at false = lit≤ tt
+
+-- at least one nexus, and no more than a unit has room for
 pub counted : (s : Scenario) → Fits s → (1 ≤ length s.nexuses) × (length s.nexuses ≤ MOST_NEXUSES)
 counted s fits =
     let parts = and_parts (not (length s.nexuses == 0)) _ fits.nexuses in
-    let few = (and_parts (nat_le (length s.nexuses) 8) _ parts.1).0 in
-    (grind (arith, nat_tests, parts.0), grind (arith, nat_tests, few))
+    let few = (and_parts (nat_le (length s.nexuses) (most_declared s.version)) _ parts.1).0 in
+    (grind (arith, nat_tests, parts.0), grind (arith, nat_tests, few, most_fits s.version))
 
-each_nexus : (s : Scenario) → Fits s → list_all (is_nexus s.keys) s.nexuses ≡ true
+pub each_nexus : (s : Scenario) → Fits s → list_all (is_nexus s.keys) s.nexuses ≡ true
 each_nexus s fits =
     let parts = and_parts (not (length s.nexuses == 0)) _ fits.nexuses in
-    let more = and_parts (nat_le (length s.nexuses) 8) _ parts.1 in
+    let more = and_parts (nat_le (length s.nexuses) (most_declared s.version)) _ parts.1 in
     (and_parts (are_distinct bytes_eq (map (λ n. n.name) s.nexuses)) (list_all (is_nexus s.keys) s.nexuses) more.1).1
 
 start_part : (keys : List ℕ) (n : Nexus) → is_nexus keys n ≡ true → is_start keys n.start ≡ true

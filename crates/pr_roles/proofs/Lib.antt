@@ -4,3 +4,5 @@ pub mod Reserving
 pub mod Allowed
 pub mod Earliest
 pub mod Controls
+pub mod Refused
+pub mod FirstVersion

@@ -1,8 +1,7 @@
 -- Agrees with docs/MODEL.md, 'Which parts make a scenario'; docs/FORMATS.md, 'Limits'.
 -- Which parts make a scenario: the limits, and the conditions of its text.
-use Rattle.std.specs.Prelude.{ℕ, Bool, true, false, ◌==◌, ◌&&◌, not, nat_lt, nat_le, IsTrue, List, [], ◌∷◌, Option, Some, None, length, map, bytes_eq}
+use Rattle.std.specs.Prelude.{ℕ, Bool, true, false, if◌then◌else◌, ◌==◌, ◌&&◌, ◌||◌, not, nat_lt, nat_le, IsTrue, List, [], ◌∷◌, Option, Some, None, length, map, bytes_eq}
 use Rattle.std.specs.List.{All, list_any, list_all}
-use Rattle.pr_cdb.specs.declared.codes.TheConstants.{MOST_NEXUSES}
 use Rattle.pr_registry.specs.declared.held.Held.{Held}
 use Rattle.pr_registry.specs.declared.held.Held.TheVariants.{One, All as Everybody}
 use Rattle.pr_registry.specs.Registrations.{IsKey, is_all}
@@ -10,7 +9,8 @@ use Rattle.pr_registry.specs.Changes.{is_kind}
 use Rattle.pr_script.specs.declared.limits.TheConstants.{MOST_BUDGET}
 use Rattle.pr_script.specs.Names.{is_name}
 use Rattle.pr_script.specs.Grammar.{is_declared, is_written_key, is_written, script_fits}
-use Rattle.pr_roles.specs.declared.limits.TheConstants.{MOST_KEYS, MOST_CLAUSES, MOST_PLANNED}
+use Rattle.pr_script.specs.Versions.{is_script_of}
+use Rattle.pr_roles.specs.declared.limits.TheConstants.{MOST_DECLARED_1, MOST_DECLARED_2, MOST_KEYS, MOST_CLAUSES, MOST_PLANNED, MOST_REFUSALS}
 use Rattle.pr_roles.specs.declared.role.Action.{Action}
 use Rattle.pr_roles.specs.declared.role.Action.TheVariants as action
 use Rattle.pr_roles.specs.declared.role.Clause.{Clause}
@@ -86,14 +86,37 @@ pub record AreDeclared (keys : List ℕ) : Type 0 where
   pub each : All IsKey keys
   pub once : IsTrue (nat_le (length keys) MOST_KEYS && are_distinct (λ j k. j == k) keys)
 
+-- hosts and guests together, by the version of the text
+abbrev pub most_declared : ℕ → ℕ
+most_declared version = if version == 1 then MOST_DECLARED_1 else MOST_DECLARED_2
+
 -- one nexus at least, and not too many, each with a name of its own
-abbrev pub are_nexuses : List ℕ → List Nexus → Bool
-are_nexuses keys nexuses =
-    not (length nexuses == 0) && (nat_le (length nexuses) MOST_NEXUSES
+abbrev pub are_nexuses : ℕ → List ℕ → List Nexus → Bool
+are_nexuses version keys nexuses =
+    not (length nexuses == 0) && (nat_le (length nexuses) (most_declared version)
     && (are_distinct bytes_eq (map (λ n. n.name) nexuses) && list_all (is_nexus keys) nexuses))
 
--- The parts can be those of a text: each limit is kept, and each key that is written is declared.
+-- a version of texts
+abbrev pub is_version : ℕ → Bool
+is_version version = version == 1 || version == 2
+
+-- no refusals in version 1, and else not too many
+abbrev pub is_count : ℕ → ℕ → Bool
+is_count version n = n == 0 || (version == 2 && nat_le n MOST_REFUSALS)
+
+-- no arm that came with a later version
+abbrev pub is_task_of : ℕ → Task → Bool
+is_task_of version (Scripted script budget) = is_script_of version script
+is_task_of version (Planned commands) = true
+
+-- what this version of texts has
+abbrev pub are_of : ℕ → List Nexus → Bool
+are_of version nexuses = list_all (λ n. is_count version n.busy && (is_count version n.full && is_task_of version n.task)) nexuses
+
+-- The parts can be those of a text of their version: each limit is kept, and each key that is written is declared.
 pub record Fits (s : Scenario) : Type 0 where
+  pub version : IsTrue (is_version s.version)
+  pub dated : IsTrue (are_of s.version s.nexuses)
   pub keys : AreDeclared s.keys
   pub reservations : IsTrue (are_reservations (length s.nexuses) s.reservations)
-  pub nexuses : IsTrue (are_nexuses s.keys s.nexuses)
+  pub nexuses : IsTrue (are_nexuses s.version s.keys s.nexuses)

@@ -1,7 +1,12 @@
 -- Agrees with docs/MODEL.md, 'Starts'.
--- Laws of starts.
-use Rattle.std.specs.Prelude.{◌≡◌, ◌≤◌, ◌↔◌, ℕ, Some, IsSome}
-use Rattle.std.specs.List.{slice_get}
+-- Laws of starts, and of refusals.
+use Rattle.std.specs.Prelude.{◌≡◌, ◌≤◌, ◌↔◌, ℕ, Bool, true, false, ◌==◌, ◌&&◌, IsTrue, List, Some, IsSome}
+use Rattle.std.specs.List.{slice_get, count_by}
+use Rattle.pr_roles.specs.declared.item.Item.{Item}
+use Rattle.pr_roles.specs.declared.how.How.{How}
+use Rattle.pr_roles.specs.declared.how.How.TheVariants as how
+use Rattle.pr_roles.specs.Answers.{refusals_by, most_refusals, may_come}
+use Rattle.pr_roles.specs.Worlds.{World, Event, Host, Guest, Run, world_from}
 use Rattle.pr_unit.specs.UnitStates.{UnitState}
 use Rattle.pr_roles.specs.Scenarios.{Scenario}
 use Rattle.pr_roles.specs.Fitting.{Fits}
@@ -18,3 +23,37 @@ FirstStartsAreEarliest =
     (s : Scenario) (first u : UnitState) (i : ℕ) → first_state s ≡ Some first → IsAllowedStart s u
     → slice_get s.reservations i ≡ Some u.registry.held
     → (j : ℕ) × (j ≤ i) × (slice_get s.reservations j ≡ Some first.registry.held)
+
+-- ---- refusals
+
+-- the same refusal
+abbrev pub is_same_refusal : How → How → Bool
+is_same_refusal how.Plain other = false
+is_same_refusal how.Busy how.Plain = false
+is_same_refusal how.Busy how.Busy = true
+is_same_refusal how.Busy how.Full = false
+is_same_refusal how.Full how.Plain = false
+is_same_refusal how.Full how.Busy = false
+is_same_refusal how.Full how.Full = true
+
+-- an event in which h is refused so
+abbrev pub is_refused_in : ℕ → How → Event → Bool
+is_refused_in h how (Host g other) = g == h && is_same_refusal how other
+is_refused_in h how (Guest g wire other) = g == h && is_same_refusal how other
+
+-- the history of a run tells how often a nexus was refused
+abbrev pub RefusalsAreCounted : Type 0
+RefusalsAreCounted =
+    (s : Scenario) (u : UnitState) (es : List Event) (w : World) → Run s (world_from s u) es w
+    → (h : ℕ) (how : How) → refusals_by w.history h how ≡ count_by (is_refused_in h how) es
+
+-- and in no run that is more often than the scenario has it
+abbrev pub RefusalsAreDeclared : Type 0
+RefusalsAreDeclared =
+    (s : Scenario) (u : UnitState) (es : List Event) (w : World) → Run s (world_from s u) es w
+    → (h : ℕ) (how : How) → count_by (is_refused_in h how) es ≤ most_refusals s h how
+
+-- a scenario of version 1 has none: all its commands are answered by the unit
+abbrev pub FirstVersionIsPlain : Type 0
+FirstVersionIsPlain =
+    (s : Scenario) → Fits s → s.version ≡ 1 → (es : List Item) (h : ℕ) (k : How) → IsTrue (may_come s es h k) → k ≡ how.Plain

@@ -3,7 +3,9 @@ pub mod Scenarios
 pub mod Starts
 pub mod Limits
 pub mod Fitting
+pub mod Answers
 pub mod Worlds
+pub mod Items
 pub mod Schedules
 pub mod Safety
 pub mod Laws

@@ -4,7 +4,7 @@ use Rattle.std.specs.Prelude.{◌≡◌, ℕ, ◌≤◌, true, false, IsTrue, Li
 use Rattle.pr_cdb.specs.declared.wire.Request.TheVariants.{Plain}
 use Rattle.pr_unit.specs.UnitStates.{UnitState}
 use Rattle.pr_unit.specs.Replies.{is_good}
-use Rattle.pr_roles.specs.declared.entry.Entry.{Entry}
+use Rattle.pr_roles.specs.declared.item.Item.{Item}
 use Rattle.pr_roles.specs.Permits.{is_permitted}
 use Rattle.pr_roles.specs.Scenarios.{Scenario, Task, Scripted, Planned, role, task}
 use Rattle.pr_roles.specs.Starts.{IsAllowedStart}
@@ -12,9 +12,9 @@ use Rattle.pr_roles.specs.Worlds.{World, Event, Host, Guest, Happens, Run, contr
 
 -- a host's command that ends GOOD is one that its role permits, in the state just before it
 abbrev pub KeepsRole : (s : Scenario) (w : World) (e : Event) (v : World) → Happens s w e v → Type 0
-KeepsRole s w (Host h) v sends =
+KeepsRole s w (Host h how) v sends =
     is_good sends.reply ≡ true → IsTrue (is_permitted (role s h) w.unit.registry h (Plain sends.command))
-KeepsRole s w (Guest g wire) v sends = Unit {0}
+KeepsRole s w (Guest g wire how) v sends = Unit {0}
 
 -- so does each event of the run
 abbrev pub KeepsRoles : (s : Scenario) (w : World) (es : List Event) (v : World) → Run s w es v → Type 0
@@ -24,7 +24,7 @@ KeepsRoles s w (e ∷ es) v run = KeepsRole s w e run.0 run.1 × KeepsRoles s ru
 -- a script sent no more commands than its budget
 abbrev pub KeepsBudgetBy : Option Task → World → ℕ → Type 0
 KeepsBudgetBy None w h = Unit {0}
-KeepsBudgetBy (Some (Scripted script budget)) w h = commands_by w.entries h ≤ budget
+KeepsBudgetBy (Some (Scripted script budget)) w h = commands_by w.history h ≤ budget
 KeepsBudgetBy (Some (Planned commands)) w h = Unit {0}
 
 -- From every allowed start and under every list of events: no host is trapped, none has sent more commands
@@ -35,5 +35,5 @@ IsSafe s =
     → ((h : ℕ) → (is_trapped (control w h) ≡ false) × KeepsBudgetBy (task s h) w h) × KeepsRoles s (world_from s u) es w run
 
 -- the history is that of some run from this state
-abbrev pub IsLegal : Scenario → UnitState → List Entry → Type 0
-IsLegal s u history = (es : List Event) × (w : World) × Run s (world_from s u) es w × (w.entries ≡ history)
+abbrev pub IsLegal : Scenario → UnitState → List Item → Type 0
+IsLegal s u history = (es : List Event) × (w : World) × Run s (world_from s u) es w × (w.history ≡ history)

@@ -20,17 +20,20 @@ pub data Task : Type 0 where
   Planned : List Command → Task
 
 -- A nexus: its name, its role, what it may be registered with at the start, the attentions that may
--- be pending for it then, and its task.
+-- be pending for it then, its task, and how often it may be answered BUSY and TASK SET FULL.
 pub record Nexus : Type 0 where
   pub name : List ℕ
   pub role : List Clause
   pub start : List (Option ℕ)
   pub pending : Codes
   pub task : Task
+  pub busy : ℕ
+  pub full : ℕ
 
--- The declared keys, the reservations that there may be at the start, the generation of the first start, and
+-- The version of its text, the declared keys, the reservations that there may be at the start, the generation of the first start, and
 -- the nexuses in the order of their numbers.
 pub record Scenario : Type 0 where
+  pub version : ℕ
   pub keys : List ℕ
   pub reservations : List (Option Held)
   pub generation : ℕ
@@ -59,10 +62,13 @@ nexus_of n = record {
   start = n.start.alternatives.items;
   pending = n.pending;
   task = task_of n.task;
+  busy = n.busy;
+  full = n.full;
 }
 
 unfoldable pub scenario_of : Parts → Scenario
 scenario_of p = record {
+  version = p.version;
   keys = p.keys.items;
   reservations = p.reservations.items;
   generation = p.generation;

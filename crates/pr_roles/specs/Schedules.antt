@@ -8,9 +8,12 @@ use Rattle.pr_cdb.specs.declared.reply.Reply.{Reply}
 use Rattle.pr_cdb.specs.declared.wire.Request.TheVariants.{Plain}
 use Rattle.pr_cdb.specs.Spelling.{spelling}
 use Rattle.pr_unit.specs.UnitStates.{UnitState}
-use Rattle.pr_unit.specs.Steps.{TakenStep, decision, ends_good}
+use Rattle.pr_unit.specs.Steps.{decision, ends_good}
 use Rattle.pr_script.specs.Scripts.{Standing, ready, stopped}
 use Rattle.pr_roles.specs.declared.role.Clause.{Clause}
+use Rattle.pr_roles.specs.declared.how.How.{How}
+use Rattle.pr_roles.specs.declared.how.How.TheVariants as how
+use Rattle.pr_roles.specs.Answers.{TakenAnswer, how_now}
 use Rattle.pr_roles.specs.Permits.{is_permitted}
 use Rattle.pr_roles.specs.Scenarios.{Scenario, Task, Scripted, Planned, role, task}
 use Rattle.pr_roles.specs.Worlds.{World, control, standing_of, after, world_from}
@@ -23,46 +26,52 @@ pub record Schedule : Type 0 where
 abbrev pub plan : Schedule → ℕ → List Command
 plan x g = option_map_or (λ p. p) (slice_get x.plans g) []
 
--- the command goes to the unit, which reports the lowest code where it may choose
-pub record Sends (w : World) (h at : ℕ) (command : Command) (v : World) : Type 0 where
+-- the command is answered so; the unit reports the lowest code where it may choose
+pub record Sends (w : World) (h at : ℕ) (command : Command) (how : How) (v : World) : Type 0 where
   pub reply : Reply
   pub unit : UnitState
-  pub step : TakenStep w.unit h (Plain command) reply unit
+  pub answer : TakenAnswer how w.unit h (Plain command) reply unit
   pub world : v ≡ after w h at (spelling command) reply unit
 
 -- the turn of a host: its command where it is ready, else nothing
-abbrev pub HostTurn : Option Standing → World → ℕ → World → Type 0
-HostTurn (Some (ready at command)) w h v = Sends w h at command v
-HostTurn (Some (stopped word)) w h v = v ≡ w
-HostTurn None w h v = v ≡ w
+abbrev pub HostTurn : Option Standing → World → ℕ → How → World → Type 0
+HostTurn (Some (ready at command)) w h how v = Sends w h at command how v
+HostTurn (Some (stopped word)) w h how v = v ≡ w
+HostTurn None w h how v = v ≡ w
 
 -- the command would end GOOD, and the role does not permit that
 abbrev pub is_held_back : List Clause → UnitState → ℕ → Command → Bool
 is_held_back clauses u g c = ends_good (decision u g (Plain c)) (Plain c) && not (is_permitted clauses u.registry g (Plain c))
 
-abbrev pub SendsUnless : Bool → World → ℕ → Command → World → Type 0
-SendsUnless true w g c v = v ≡ w
-SendsUnless false w g c v = Sends w g 0 c v
+-- what is refused is not held back
+abbrev pub is_passed_over : How → List Clause → UnitState → ℕ → Command → Bool
+is_passed_over how.Plain clauses u g c = is_held_back clauses u g c
+is_passed_over how.Busy clauses u g c = false
+is_passed_over how.Full clauses u g c = false
+
+abbrev pub SendsUnless : Bool → World → ℕ → Command → How → World → Type 0
+SendsUnless true w g c how v = v ≡ w
+SendsUnless false w g c how v = Sends w g 0 c how v
 
 -- the turn of a guest: its next planned command, or nothing where that is held back, and then it is passed over
-abbrev pub GuestTurn : List Clause → List Command → World → ℕ → World → List Command → Type 0
-GuestTurn clauses [] w g v left = (v ≡ w) × (left ≡ [])
-GuestTurn clauses (c ∷ cs) w g v left = SendsUnless (is_held_back clauses w.unit g c) w g c v × (left ≡ cs)
+abbrev pub GuestTurn : List Clause → List Command → World → ℕ → How → World → List Command → Type 0
+GuestTurn clauses [] w g how v left = (v ≡ w) × (left ≡ [])
+GuestTurn clauses (c ∷ cs) w g how v left = SendsUnless (is_passed_over how clauses w.unit g c) w g c how v × (left ≡ cs)
 
-abbrev pub TurnBy : Option Task → Scenario → Schedule → ℕ → Schedule → Type 0
-TurnBy None s x h y = y ≡ x
-TurnBy (Some (Scripted script budget)) s x h y = HostTurn (standing_of (control x.world h)) x.world h y.world × (y.plans ≡ x.plans)
-TurnBy (Some (Planned commands)) s x h y =
-    (left : List Command) × GuestTurn (role s h) (plan x h) x.world h y.world left × (y.plans ≡ slice_set x.plans h left)
+abbrev pub TurnBy : Option Task → Scenario → Schedule → ℕ → How → Schedule → Type 0
+TurnBy None s x h how y = y ≡ x
+TurnBy (Some (Scripted script budget)) s x h how y = HostTurn (standing_of (control x.world h)) x.world h how y.world × (y.plans ≡ x.plans)
+TurnBy (Some (Planned commands)) s x h how y =
+    (left : List Command) × GuestTurn (role s h) (plan x h) x.world h how y.world left × (y.plans ≡ slice_set x.plans h left)
 
--- the turn of h
-abbrev pub Turn : Scenario → Schedule → ℕ → Schedule → Type 0
-Turn s x h y = TurnBy (task s h) s x h y
+-- the turn of h, answered so where that may still come
+abbrev pub Turn : Scenario → Schedule → ℕ → How → Schedule → Type 0
+Turn s x h how y = TurnBy (task s h) s x h (how_now s x.world.history h how) y
 
 -- the turns of these, one after another
-abbrev pub ScheduledRun : Scenario → Schedule → List ℕ → Schedule → Type 0
+abbrev pub ScheduledRun : Scenario → Schedule → List (ℕ × How) → Schedule → Type 0
 ScheduledRun s x [] y = y ≡ x
-ScheduledRun s x (h ∷ hs) y = (mid : Schedule) × Turn s x h mid × ScheduledRun s mid hs y
+ScheduledRun s x (step ∷ steps) y = (mid : Schedule) × Turn s x step.0 step.1 mid × ScheduledRun s mid steps y
 
 abbrev pub plan_of : Task → List Command
 plan_of (Scripted script budget) = []

@@ -14,11 +14,14 @@ use Rattle.pr_cdb.specs.Requests.{request_of_wire, AreBytes}
 use Rattle.pr_cdb.specs.Spelling.{spelling}
 use Rattle.pr_unit.specs.UnitStates.{UnitState}
 use Rattle.pr_unit.specs.Replies.{is_good}
-use Rattle.pr_unit.specs.Steps.{Step}
 use Rattle.pr_script.specs.Scripts.{Configuration, Standing, ready, standing_of_items, first_configuration}
 use Rattle.pr_script.specs.Takes.{take}
 use Rattle.pr_roles.specs.declared.entry.Entry.{Entry}
+use Rattle.pr_roles.specs.declared.how.How.{How}
+use Rattle.pr_roles.specs.declared.item.Item.{Item}
+use Rattle.pr_roles.specs.declared.item.Item.TheVariants.{Sent, Reset}
 use Rattle.pr_roles.specs.Permits.{is_permitted}
+use Rattle.pr_roles.specs.Answers.{Answers, may_come}
 use Rattle.pr_roles.specs.Scenarios.{Scenario, Task, Scripted, Planned, role, task}
 
 -- What a nexus does: a host's script goes on, or it met a reply without an arm at the send of this
@@ -47,7 +50,7 @@ control_after line Free r = Free
 pub record World : Type 0 where
   pub unit : UnitState
   pub controls : List Control
-  pub entries : List Entry
+  pub history : List Item
 
 -- one that is not there does nothing
 abbrev pub control : World → ℕ → Control
@@ -62,24 +65,25 @@ abbrev pub after : World → ℕ → ℕ → Wire → Reply → UnitState → Wo
 after w h line wire r unit = record {
   unit = unit;
   controls = slice_set w.controls h (control_after line (control w h) r);
-  entries = w.entries ++ entry_of h wire r ∷ [];
+  history = w.history ++ Sent (entry_of h wire r) ∷ [];
 }
 
 -- ---- events
 
--- a host's script sends, or a guest sends these bytes
+-- a host's script sends, or a guest sends these bytes, and is answered so
 pub data Event : Type 0 where
-  Host : ℕ → Event
-  Guest : ℕ → Wire → Event
+  Host : ℕ → How → Event
+  Guest : ℕ → Wire → How → Event
 
--- The command that host h is ready to send is executed, and its script takes the reply.
-pub record HostSends (w : World) (h : ℕ) (v : World) : Type 0 where
+-- The command that host h is ready to send is answered so, as often as the scenario has it, and its script takes the reply.
+pub record HostSends (s : Scenario) (w : World) (h : ℕ) (how : How) (v : World) : Type 0 where
+  pub room : IsTrue (may_come s w.history h how)
   pub line : ℕ
   pub command : Command
   pub ready : standing_of (control w h) ≡ Some (ready line command)
   pub reply : Reply
   pub unit : UnitState
-  pub step : Step w.unit h (Plain command) reply unit
+  pub answer : Answers how w.unit h (Plain command) reply unit
   pub world : v ≡ after w h line (spelling command) reply unit
 
 abbrev pub is_guest_task : Option Task → Bool
@@ -92,7 +96,8 @@ is_guest s g = is_guest_task (task s g)
 
 -- Any bytes that are a request may come from a guest at any time, as many as a wire holds; where they end GOOD,
 -- its role permits that.
-pub record GuestSends (s : Scenario) (w : World) (g : ℕ) (wire : Wire) (v : World) : Type 0 where
+pub record GuestSends (s : Scenario) (w : World) (g : ℕ) (wire : Wire) (how : How) (v : World) : Type 0 where
+  pub room : IsTrue (may_come s w.history g how)
   pub guest : IsTrue (is_guest s g)
   pub bytes : AreBytes wire.cdb.items × AreBytes wire.params.items
   pub lengths : (length wire.cdb.items ≤ MOST_CDB_LENGTH) × (length wire.params.items ≤ PARAMETER_LIST_LENGTH)
@@ -100,13 +105,13 @@ pub record GuestSends (s : Scenario) (w : World) (g : ℕ) (wire : Wire) (v : Wo
   pub read : request_of_wire wire ≡ Ok request
   pub reply : Reply
   pub unit : UnitState
-  pub step : Step w.unit g request reply unit
+  pub answer : Answers how w.unit g request reply unit
   pub permitted : is_good reply ≡ true → IsTrue (is_permitted (role s g) w.unit.registry g request)
   pub world : v ≡ after w g 0 wire reply unit
 
 abbrev pub Happens : Scenario → World → Event → World → Type 0
-Happens s w (Host h) v = HostSends w h v
-Happens s w (Guest g wire) v = GuestSends s w g wire v
+Happens s w (Host h how) v = HostSends s w h how v
+Happens s w (Guest g wire how) v = GuestSends s w g wire how v
 
 -- these events, one after another, lead from w to v
 abbrev pub Run : Scenario → World → List Event → World → Type 0
@@ -121,11 +126,16 @@ control_of (Planned commands) = Free
 
 -- each script at its beginning over this unit, and no command sent
 abbrev pub world_from : Scenario → UnitState → World
-world_from s unit = record { unit = unit; controls = map (λ n. control_of n.task) s.nexuses; entries = [] }
+world_from s unit = record { unit = unit; controls = map (λ n. control_of n.task) s.nexuses; history = [] }
+
+-- a command of h
+abbrev pub is_sent_by : ℕ → Item → Bool
+is_sent_by h (Sent e) = e.host == h
+is_sent_by h Reset = false
 
 -- how many commands of h reached the unit
-abbrev pub commands_by : List Entry → ℕ → ℕ
-commands_by entries h = count_by (λ e. e.host == h) entries
+abbrev pub commands_by : List Item → ℕ → ℕ
+commands_by history h = count_by (is_sent_by h) history
 
 abbrev pub is_trapped : Control → Bool
 is_trapped (Going l) = false

@@ -17,6 +17,7 @@ impl Parts {
         ensures { IfOk result (λ copy. scenario_of copy ≡ scenario_of self.now) }
     {
         Ok(Parts {
+            version: self.version,
             keys: Vec::from_slice(alloc, &self.keys)?,
             reservations: Vec::from_slice(alloc, &self.reservations)?,
             generation: self.generation,
@@ -29,7 +30,8 @@ impl Parts {
     pub fn same(&self, other: &Parts) -> bool
         ensures { IsTrue result ↔ (scenario_of self.now ≡ scenario_of other.now) }
     {
-        same_keys(&self.keys, &other.keys)
+        self.version == other.version
+            && same_keys(&self.keys, &other.keys)
             && same_reservations(&self.reservations, &other.reservations)
             && self.generation == other.generation
             && same_nexuses(&self.nexuses, &other.nexuses)
@@ -139,6 +141,8 @@ impl Nexus {
             },
             pending: self.pending.copy(),
             task: self.task.copy(alloc)?,
+            busy: self.busy,
+            full: self.full,
         })
     }
 
@@ -151,6 +155,8 @@ impl Nexus {
             && same_alternatives(&self.start.alternatives, &other.start.alternatives)
             && self.pending == other.pending
             && self.task.same(&other.task)
+            && self.busy == other.busy
+            && self.full == other.full
     }
 }
 

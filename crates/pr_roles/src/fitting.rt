@@ -1,33 +1,78 @@
 //! Which parts make a scenario.
 
-ghost use Rattle.std.specs.Prelude.{◌≡◌, ◌↔◌, ◌<◌, ◌≤◌, IsTrue, length, map, bytes_eq};
+ghost use Rattle.std.specs.Prelude.{◌≡◌, ◌&&◌, ◌↔◌, ◌<◌, ◌≤◌, IsTrue, length, map, bytes_eq};
 ghost use Rattle.std.specs.List.{All, list_all, list_any};
 ghost use Rattle.pr_registry.specs.Registrations.{IsKey};
 ghost use Rattle.pr_script.specs.Grammar.{is_written};
 ghost use Rattle.pr_roles.specs.Scenarios.{scenario_of, nexus_of, task_of};
-ghost use Rattle.pr_roles.specs.Fitting.{AreDeclared, Fits, are_distinct, is_action, is_role, is_alternative, is_same_alternative, is_start, is_task, is_nexus, is_reservation, are_reservations, are_nexuses};
+ghost use Rattle.pr_roles.specs.Fitting.{AreDeclared, Fits, are_distinct, is_action, is_role, is_alternative, is_same_alternative, is_start, is_task, is_nexus, is_reservation, are_reservations, are_nexuses, is_version, is_count, is_task_of, are_of};
 
-use crate::limits::{MOST_CLAUSES, MOST_KEYS, MOST_PLANNED};
+use crate::limits::{MOST_CLAUSES, MOST_KEYS, MOST_PLANNED, MOST_REFUSALS, most_declared};
 use crate::parts::{Nexus, Parts, Start, Task};
 use crate::role::{Action, Clause, Role};
 use crate::uniqueness::{are_distinct, are_held_apart};
 use pr_cdb::Command;
-use pr_cdb::codes::MOST_NEXUSES;
 use pr_registry::{Held, is_all};
 use pr_script::limits::MOST_BUDGET;
 use pr_script::{is_declared, is_name, is_written, is_written_key};
 
 impl Parts {
     /// Whether the parts can be those of a text: every limit is kept, keys are not zero and each that is
-    /// written is declared, names differ, reservations have holders that are there, and scripts follow the
-    /// grammar of statements, with sends whose lines rise.
+    /// written is declared, names differ, reservations have holders that are there, scripts follow the
+    /// grammar of statements, with sends whose lines rise, and nothing is there that came after the version.
     #[tactic(auto, unfolding(crate::specs::Scenarios::scenario_of), using(crate::proofs::Apart::length_of_parts))]
     pub fn fits(&self) -> bool
         ensures { IsTrue result ↔ Fits (scenario_of self.now) }
     {
-        are_declared(&self.keys)
+        is_version(self.version)
+            && are_of(self.version, &self.nexuses)
+            && are_declared(&self.keys)
             && are_reservations(self.nexuses.len(), &self.reservations)
-            && are_nexuses(&self.keys, &self.nexuses)
+            && are_nexuses(self.version, &self.keys, &self.nexuses)
+    }
+}
+
+fn is_version(version: u8) -> bool
+    ensures { result ≡ is_version version }
+{
+    version == 1 || version == 2
+}
+
+fn is_count(version: u8, count: u32) -> bool
+    ensures { result ≡ is_count version count }
+{
+    count == 0 || (version == 2 && count <= MOST_REFUSALS)
+}
+
+// What this version of texts has.
+#[tactic(auto, using(crate::proofs::Apart::all_of_parts))]
+fn are_of(version: u8, nexuses: &[Nexus]) -> bool
+    ensures { result ≡ are_of version (map nexus_of nexuses.now) }
+{
+    are_all_of(version, nexuses)
+}
+
+fn are_all_of(version: u8, nexuses: &[Nexus]) -> bool
+    ensures { result ≡ list_all (λ n. is_count version n.busy && (is_count version n.full && is_task_of version (task_of n.task))) nexuses.now }
+{
+    nexuses.iter().all(|nexus| is_of(version, nexus))
+}
+
+fn is_of(version: u8, nexus: &Nexus) -> bool
+    ensures { result ≡ (is_count version nexus.now.busy && (is_count version nexus.now.full && is_task_of version (task_of nexus.now.task))) }
+{
+    is_count(version, nexus.busy)
+        && is_count(version, nexus.full)
+        && is_task_of(version, &nexus.task)
+}
+
+// No arm that came with a later version.
+fn is_task_of(version: u8, task: &Task) -> bool
+    ensures { result ≡ is_task_of version (task_of task.now) }
+{
+    match task {
+        Task::Scripted { script, .. } => script.is_of(version),
+        Task::Planned(_) => true,
     }
 }
 
@@ -73,11 +118,11 @@ fn is_reservation(hosts: usize, held: Option<Held>) -> bool
 }
 
 #[tactic(auto, using(crate::proofs::Apart::all_of_parts, crate::proofs::Apart::names_of_parts, crate::proofs::Apart::length_of_parts))]
-fn are_nexuses(keys: &[u64], nexuses: &[Nexus]) -> bool
-    ensures { result ≡ are_nexuses keys.now (map nexus_of nexuses.now) }
+fn are_nexuses(version: u8, keys: &[u64], nexuses: &[Nexus]) -> bool
+    ensures { result ≡ are_nexuses version keys.now (map nexus_of nexuses.now) }
 {
     !nexuses.is_empty()
-        && nexuses.len() <= MOST_NEXUSES
+        && nexuses.len() <= most_declared(version)
         && are_named_apart(nexuses)
         && are_whole(keys, nexuses)
 }

@@ -1,7 +1,7 @@
-//! Laws of starts, each the contract of a function with nothing to do.
+//! Laws of starts and of refusals, each the contract of a function with nothing to do.
 
 ghost use Rattle.pr_roles.specs.Limits.{LimitsAgree};
-ghost use Rattle.pr_roles.specs.Laws.{StartsAreFound, FirstStartsAreEarliest};
+ghost use Rattle.pr_roles.specs.Laws.{StartsAreFound, FirstStartsAreEarliest, RefusalsAreCounted, RefusalsAreDeclared, FirstVersionIsPlain};
 
 /// Where parts fit, some state is allowed to start from exactly where the first start finds a reservation.
 pub fn starts_are_found()
@@ -16,4 +16,19 @@ pub fn first_starts_are_earliest()
 /// The limits of a scenario's parts are those that docs/FORMATS.md lists.
 pub fn limits_agree()
     ensures { LimitsAgree }
+{}
+
+/// The history of a run tells how often a nexus was refused.
+pub fn refusals_are_counted()
+    ensures { RefusalsAreCounted }
+{}
+
+/// No nexus is refused more often than the scenario has it.
+pub fn refusals_are_declared()
+    ensures { RefusalsAreDeclared }
+{}
+
+/// In a scenario of version 1 the unit answers each command.
+pub fn first_version_is_plain()
+    ensures { FirstVersionIsPlain }
 {}

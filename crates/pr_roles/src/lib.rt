@@ -9,6 +9,8 @@ mod copying;
 mod entry;
 mod first;
 mod fitting;
+mod how;
+mod item;
 mod laws;
 pub mod limits;
 mod parts;
@@ -19,7 +21,12 @@ mod uniqueness;
 
 pub use entry::Entry;
 pub use fitting::{are_alternatives, is_action};
-pub use laws::{first_starts_are_earliest, limits_agree, starts_are_found};
+pub use how::{How, Refusals};
+pub use item::Item;
+pub use laws::{
+    first_starts_are_earliest, first_version_is_plain, limits_agree, refusals_are_counted,
+    refusals_are_declared, starts_are_found,
+};
 pub use parts::{Nexus, Parts, Start, Task};
 pub use permitting::{is_always_permitted, names, permits};
 pub use pr_script::Word;

@@ -33,11 +33,16 @@ pub struct Nexus {
     /// The attentions that may be pending for it at the start.
     pub pending: Pending,
     pub task: Task,
+    /// How often it may be answered BUSY, and how often TASK SET FULL.
+    pub busy: u32,
+    pub full: u32,
 }
 
 /// What a scenario declares. Nexuses are numbered from 0 in the order of their declaration.
 #[derive(Drop)]
 pub struct Parts {
+    /// That of its text: 1 or 2.
+    pub version: u8,
     pub keys: Vec<u64>,
     /// The reservations that there may be at the start, or none.
     pub reservations: Vec<Option<Held>>,

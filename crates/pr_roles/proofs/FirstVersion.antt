@@ -1,0 +1,41 @@
+-- In version 1 of texts no refusal is declared.
+use Rattle.std.proofs.Common.{◌≡◌, ◌⊎◌, inl, inr, ℕ, zero, suc, ◌==◌, nat_lt, nat_le, true, ◌&&◌, IsTrue, List, [], ◌∷◌, refl, subst, arith}
+use Rattle.std.specs.List.{slice_get}
+use Rattle.std.specs.Option.{option_map_or}
+use Rattle.std.proofs.lemmas.Bool.{false≢true, and_parts, or_cases}
+use Rattle.std.proofs.lemmas.Bool.Decides.{nat_tests}
+use Rattle.pr_roles.specs.declared.limits.TheConstants.{MOST_REFUSALS}
+use Rattle.pr_roles.specs.declared.how.How.{How}
+use Rattle.pr_roles.specs.declared.how.How.TheVariants as how
+use Rattle.pr_roles.specs.Scenarios.{Nexus}
+use Rattle.pr_roles.specs.Fitting.{is_count, is_task_of, are_of}
+use Rattle.pr_roles.specs.Answers.{refusals_by, most_refusals, may_come}
+use Rattle.pr_roles.specs.Laws.{FirstVersionIsPlain}
+
+no_count : (n : ℕ) → is_count 1 n ≡ true → n ≡ 0
+no_count n is = at (or_cases (n == 0) (1 == 2 && nat_le n MOST_REFUSALS) is)
+  where
+    at : ((n == 0) ≡ true) ⊎ ((1 == 2 && nat_le n MOST_REFUSALS) ≡ true) → n ≡ 0
+    at (inl none) = grind (arith, nat_tests)
+    at (inr later) = absurd (false≢true later)
+
+none_at : (ns : List Nexus) → are_of 1 ns ≡ true → (h : ℕ) → (option_map_or (λ n. n.busy) (slice_get ns h) 0 ≡ 0) × (option_map_or (λ n. n.full) (slice_get ns h) 0 ≡ 0)
+none_at [] are h = (refl, refl)
+none_at (n ∷ ns) are zero =
+    let one = (and_parts (is_count 1 n.busy && (is_count 1 n.full && is_task_of 1 n.task)) (are_of 1 ns) are).0 in
+    let busy = and_parts (is_count 1 n.busy) (is_count 1 n.full && is_task_of 1 n.task) one in
+    let full = and_parts (is_count 1 n.full) (is_task_of 1 n.task) busy.1 in
+    (no_count n.busy busy.0, no_count n.full full.0)
+none_at (n ∷ ns) are (suc h) =
+    none_at ns (and_parts (is_count 1 n.busy && (is_count 1 n.full && is_task_of 1 n.task)) (are_of 1 ns) are).1 h
+
+none_left : {X : Type 0} (n m : ℕ) → m ≡ 0 → nat_lt n m ≡ true → X
+none_left n m none may = absurd (grind (arith, nat_tests))
+
+pub first_version_is_plain : FirstVersionIsPlain
+first_version_is_plain s fits first es h = at (none_at s.nexuses (subst (λ v. are_of v s.nexuses ≡ true) first fits.dated) h)
+  where
+    at : (most_refusals s h how.Busy ≡ 0) × (most_refusals s h how.Full ≡ 0) → (k : How) → IsTrue (may_come s es h k) → k ≡ how.Plain
+    at none how.Plain may = refl
+    at none how.Busy may = none_left (refusals_by es h how.Busy) (most_refusals s h how.Busy) none.0 may
+    at none how.Full may = none_left (refusals_by es h how.Full) (most_refusals s h how.Full) none.1 may

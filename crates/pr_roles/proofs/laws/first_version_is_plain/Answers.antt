@@ -1,0 +1,5 @@
+use Rattle.pr_roles.proofs.FirstVersion.{first_version_is_plain}
+use Rattle.pr_roles.proofs.laws.first_version_is_plain.Goals as goal
+
+pub returns : goal.returns
+returns c = first_version_is_plain
