@@ -72,6 +72,8 @@ finds keys u (test.GoodHeld k) w fits =
 finds keys u test.GoodUnheld w fits =
     ap is_unheld (holder_read u.registry.generation (reservation u.registry.keys u.registry.held) (key_fits u.registry w)) ∙ unheld_by_data (reservation u.registry.keys u.registry.held)
 finds keys u test.Conflict w fits = refl
+finds keys u test.Busy w fits = refl
+finds keys u test.Full w fits = refl
 finds keys u test.Attention w fits = refl
 finds keys u (test.Sense sense) w fits = refl
 

@@ -27,7 +27,12 @@ fn passes(key: Option<u64>, test: Test) -> bool
         Test::Good => true,
         Test::GoodHeld(held) => is_key(key, held),
         Test::GoodUnheld => key.is_none(),
-        Test::GoodHas(_) | Test::Conflict | Test::Attention | Test::Sense(_) => false,
+        Test::GoodHas(_)
+        | Test::Conflict
+        | Test::Busy
+        | Test::Full
+        | Test::Attention
+        | Test::Sense(_) => false,
     }
 }
 

@@ -22,7 +22,7 @@ pub record Scope : Type 0 where
   pub hosts : ℕ
   pub keys : List ℕ
 
--- 1 to 8 nexuses, the owner among them, and keys that a scenario can declare
+-- some nexuses, no more than a unit has room for, the owner among them, and keys that a scenario can declare
 pub record IsScope (s : Scope) : Type 0 where
   pub hosts : (1 ≤ s.hosts) × (s.hosts ≤ MOST_NEXUSES)
   pub own : s.own < s.hosts
@@ -48,7 +48,7 @@ number_of hosts None = 0
 number_of hosts (Some (One kind h)) = 1 + (hosts * place_of kind + h)
 number_of hosts (Some (All kind)) = 1 + (hosts * 4 + place_of kind)
 
--- how many reservations there can be: 35 where there are 8 nexuses
+-- how many reservations there can be: 67 where there are 16 nexuses
 abbrev pub count_of_reservations : ℕ → ℕ
 count_of_reservations hosts = hosts * 4 + 3
 

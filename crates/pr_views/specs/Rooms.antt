@@ -30,7 +30,7 @@ view_of members own v = record {
   pending = λ q. set.contains (members v.pending) q;
 }
 
--- 1 to 8 nexuses, declared keys, and sets with room for what is possible of each
+-- some nexuses, no more than a unit has room for, declared keys, and sets with room for what is possible of each
 pub record IsMade {S : Type 0} (room : S → ℕ) (v : ViewOf S) : Type 0 where
   pub hosts : (1 ≤ v.hosts) × (v.hosts ≤ MOST_NEXUSES)
   pub keys : AreDeclared v.keys.items

@@ -13,7 +13,7 @@ use pr_sets::{ViewSet, Word};
 use std::alloc::{AllocError, Global};
 use std::array;
 
-/// Eight empty sets of numbers below a size.
+/// Empty sets of numbers below a size, one for each nexus that there may be.
 pub(crate) fn empty_sets<S: ViewSet>(alloc: Global, size: u8) -> [S; MOST_NEXUSES]
     requires { size ≤ most }
     ensures room { All (λ s. S.room s ≡ size) result }
@@ -44,7 +44,7 @@ pub(crate) fn set_of<S: ViewSet>(alloc: Global, size: u8, word: Word) -> Result<
     Ok(numbers)
 }
 
-/// Eight sets of numbers below a size: those of the first words, and empty ones.
+/// Sets of numbers below a size, one for each nexus that there may be: those of the first words, and empty ones.
 pub(crate) fn sets_of<S: ViewSet>(
     alloc: Global,
     size: u8,

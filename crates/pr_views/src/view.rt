@@ -164,7 +164,7 @@ impl<S: ViewSet> ViewOf<S> {
             && self.pending.is_empty()
     }
 
-    /// Whether the view can be one: of 1 to 8 nexuses, with declared keys, and sets that have room for what
+    /// Whether the view can be one: of 1 to 16 nexuses, with declared keys, and sets that have room for what
     /// is possible of each.
     pub fn fits(&self) -> bool
         ensures { IsTrue result ↔ IsMade S.room self.now }

@@ -80,6 +80,8 @@ passes_held key (test.GoodHas k) = false
 passes_held key (test.GoodHeld k) = is_key key k
 passes_held key test.GoodUnheld = is_none key
 passes_held key test.Conflict = false
+passes_held key test.Busy = false
+passes_held key test.Full = false
 passes_held key test.Attention = false
 passes_held key (test.Sense sense) = false
 
