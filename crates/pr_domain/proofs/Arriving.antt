@@ -1,5 +1,5 @@
 -- What is added for each way in which a command can end.
-use Rattle.std.proofs.Common.{◌≡◌, ◌≢◌, ◌⊎◌, ◌↔◌, ℕ, zero, suc, ◌+◌, ◌-◌, ◌<◌, ◌≤◌, true, false, ◌==◌, ◌||◌, not, nat_lt, List, length, Option, Some, None, refl, sym, ap, ◌∙◌, subst, inl, inr, lit<, arith}
+use Rattle.std.proofs.Common.{◌≡◌, ◌≢◌, ◌⊎◌, ◌↔◌, ℕ, zero, suc, ◌+◌, ◌-◌, ◌<◌, ◌≤◌, Bool, true, false, IsTrue, ◌==◌, ◌||◌, not, nat_lt, List, length, Option, Some, None, refl, sym, ap, ◌∙◌, subst, inl, inr, lit<, arith}
 use Rattle.std.specs.List.{slice_get}
 use Rattle.std.proofs.lemmas.Bool.{and_parts, false≢true, ltb-true}
 use Rattle.std.proofs.lemmas.Bool.Decides.{eqb_tells}
@@ -44,10 +44,11 @@ use Rattle.pr_script.specs.Takes.{matches}
 use Rattle.pr_domain.specs.declared.reporting.Sending.{Sending}
 use Rattle.pr_domain.specs.Landings.{IsClass, IsLanding}
 use Rattle.pr_domain.specs.inside.Tallies.{IsRegistered, has_part, Leaves}
-use Rattle.pr_domain.specs.inside.Reporting.{AreReported, AreCalm, AreQuiet, How, Reports, Conflicts, Fails, EndsGood, MayReport, Ends, LandsBy, LandsGood, IsLater, IsOfWay, LandsGoodBelow, AreMore, HasOutcome, landing_at}
+use Rattle.pr_domain.specs.declared.reporting.Refused.{Refused}
+use Rattle.pr_domain.specs.inside.Reporting.{AreReported, AreCalm, AreQuiet, Ending, Reports, Conflicts, Fails, EndsGood, Refuses, refusal, MayReport, Ends, LandsBy, LandsGood, IsLater, IsOfWay, LandsGoodBelow, AreMore, HasOutcome, landing_at}
 use Rattle.pr_domain.specs.inside.Sendings.{scope_of_sending, view_of_sending, IsAsked}
 use Rattle.pr_domain.proofs.Landed.{one_class, one_landing, settled, IsWay, IsTold, from_part, way_lands}
-use Rattle.pr_domain.proofs.EachWay.{way_of_tally, either_way, told_power_on, told_later, told_conflict, told_fault, told_good}
+use Rattle.pr_domain.proofs.EachWay.{way_of_tally, either_way, told_power_on, told_later, told_conflict, told_refusal, told_fault, told_good}
 
 -- ---- the numbers of reservations
 
@@ -80,42 +81,42 @@ number_below hosts (Some (All kind)) is = let small = two_places kind is in omeg
 
 -- ---- one way
 
-module _ (v : View) (c : Command) (tests : List Test) (how : How) (l : Landing) (Left : UnitState → Item → Type 0) (p : Possibilities) (pending : Word)
-    (way : IsWay v Left p) (told : IsTold v c tests how l Left pending)
+module _ (v : View) (c : Command) (tests : List Test) (ending : Ending) (l : Landing) (Left : UnitState → Item → Type 0) (p : Possibilities) (pending : Word)
+    (way : IsWay v Left p) (told : IsTold v c tests ending l Left pending)
     (written : is_written v.scope.keys c ≡ true) (whole : FitsCommand c) (there : v.scope.own < v.scope.hosts) where
   -- its possibilities are numbers of registrations, reservations and attentions
   pub range : (x n : ℕ) → has p.reservations x ≡ true → has pending n ≡ true → AreInRange v.scope.hosts v.scope.keys (record p { pending = pending })
   range x n reserved pends = record {
-    registrations = λ g r small has. (from_part v c tests how l Left p pending way told (Registration g r) n has pends).2.is.1;
+    registrations = λ g r small has. (from_part v c tests ending l Left p pending way told (Registration g r) n has pends).2.is.1;
     reservations = λ y has.
-        let from = from_part v c tests how l Left p pending way told (Reservation y) n has pends in
-        let after = settled v c written whole there how from.0 from.2.reply from.2.after from.1 from.2.ends in
+        let from = from_part v c tests ending l Left p pending way told (Reservation y) n has pends in
+        let after = settled v c written whole there ending from.0 from.2.reply from.2.after from.1 from.2.ends in
         let number = from.2.is in
         subst (λ m. m < count_of_reservations v.scope.hosts) (sym number)
         (number_below v.scope.hosts from.2.after.registry.held (subst (λ m. is_reservation m from.2.after.registry.held ≡ true) after.hosts (reservation_of from.2.after.registry after.formed.registry)));
-    pending = λ m has. (from_part v c tests how l Left p pending way told (Reservation x) m reserved has).2.left.0;
+    pending = λ m has. (from_part v c tests ending l Left p pending way told (Reservation x) m reserved has).2.left.0;
   }
 
   -- where each reply of this way lands there
-  pub lands_so : ((u : UnitState) (r : Reply) (w : UnitState) → Ends how c v.scope.own u r w → IsLanding tests r l)
-      → (m : Landing) (i : Item) → ((m ≡ l) × IsOfWay v.scope p pending i) ↔ LandsBy v c tests how m i
+  pub lands_so : ((u : UnitState) (r : Reply) (w : UnitState) → Ends ending c v.scope.own u r w → IsLanding tests r l)
+      → (m : Landing) (i : Item) → ((m ≡ l) × IsOfWay v.scope p pending i) ↔ LandsBy v c tests ending m i
   lands_so landing m i = (
-    λ is. ((way_lands v c tests how l Left p pending way told written whole there m i).0 is).1,
-    λ by. (way_lands v c tests how l Left p pending way told written whole there m i).1 (one_landing tests by.reply m l by.landing (landing by.from by.reply by.after by.ends), by),
+    λ is. ((way_lands v c tests ending l Left p pending way told written whole there m i).0 is).1,
+    λ by. (way_lands v c tests ending l Left p pending way told written whole there m i).1 (one_landing tests by.reply m l by.landing (landing by.from by.reply by.after by.ends), by),
   )
 
 -- what is known of a way to end
-pub record IsAddedBy (q : Sending) (how : How) (This : Landing → Item → Type 0) (l : Landing) (p : Possibilities) (pending : Word) : Type 0 where
+pub record IsAddedBy (q : Sending) (ending : Ending) (This : Landing → Item → Type 0) (l : Landing) (p : Possibilities) (pending : Word) : Type 0 where
   pub range : (x n : ℕ) → has p.reservations x ≡ true → has pending n ≡ true → AreInRange q.hosts q.keys.now (record p { pending = pending })
   pub lands : (m : Landing) (i : Item) → ((m ≡ l) × IsOfWay (scope_of_sending q) p pending i) ↔ This m i
 
 module _ (q : Sending) (asked : IsAsked q) where
-  by_reply : (how : How) (l : Landing) (Left : UnitState → Item → Type 0) (p : Possibilities) (pending : Word) → IsWay (view_of_sending q) Left p → IsTold (view_of_sending q) q.command q.tests.now how l Left pending
-      → ((u : UnitState) (r : Reply) (w : UnitState) → Ends how q.command q.sender u r w → IsLanding q.tests.now r l)
-      → IsAddedBy q how (LandsBy (view_of_sending q) q.command q.tests.now how) l p pending
-  by_reply how l Left p pending way told landing = record {
-    range = range (view_of_sending q) q.command q.tests.now how l Left p pending way told asked.written asked.whole asked.fits.scope.own;
-    lands = lands_so (view_of_sending q) q.command q.tests.now how l Left p pending way told asked.written asked.whole asked.fits.scope.own landing;
+  by_reply : (ending : Ending) (l : Landing) (Left : UnitState → Item → Type 0) (p : Possibilities) (pending : Word) → IsWay (view_of_sending q) Left p → IsTold (view_of_sending q) q.command q.tests.now ending l Left pending
+      → ((u : UnitState) (r : Reply) (w : UnitState) → Ends ending q.command q.sender u r w → IsLanding q.tests.now r l)
+      → IsAddedBy q ending (LandsBy (view_of_sending q) q.command q.tests.now ending) l p pending
+  by_reply ending l Left p pending way told landing = record {
+    range = range (view_of_sending q) q.command q.tests.now ending l Left p pending way told asked.written asked.whole asked.fits.scope.own;
+    lands = lands_so (view_of_sending q) q.command q.tests.now ending l Left p pending way told asked.written asked.whole asked.fits.scope.own landing;
   }
 
   pub adds_power_on : (l : Landing) (p free either : Possibilities) (left : Word) → slice_get q.tally.now.ways 0 ≡ Some p → slice_get q.tally.now.ways 1 ≡ Some free
@@ -126,6 +127,15 @@ module _ (q : Sending) (asked : IsAsked q) where
       (either_way (view_of_sending q) q.command q.tests.now q.tally.now p free either asked.tally first second is)
       (told_power_on (scope_of_sending q) q.known q.command q.tests.now l left are landing)
       (λ u r w ends. subst (λ x. IsLanding q.tests.now x l) (sym ends.1.1) landing)
+
+  pub adds_refusal : (refused : Refused) (l : Landing) (p free either : Possibilities) → slice_get q.tally.now.ways 0 ≡ Some p → slice_get q.tally.now.ways 1 ≡ Some free
+      → ((j : Item) → has_part either j ≡ (has_part p j || has_part free j)) → IsLanding q.tests.now (refusal refused) l
+      → IsAddedBy q (Refuses refused) (LandsBy (view_of_sending q) q.command q.tests.now (Refuses refused)) l either q.known.pending
+  adds_refusal refused l p free either first second is landing =
+      by_reply (Refuses refused) l (IsRegistered (scope_of_sending q)) either q.known.pending
+      (either_way (view_of_sending q) q.command q.tests.now q.tally.now p free either asked.tally first second is)
+      (told_refusal (scope_of_sending q) q.known q.command q.tests.now l refused landing)
+      (λ u r w ends. subst (λ x. IsLanding q.tests.now x l) (sym ends.0) landing)
 
   may : (a : Attention) → IsLater a → (u : UnitState) → MayReport q.command q.sender u a ↔ ((is_pending u q.sender power_on ≡ false) × (command_conflicts u.registry q.sender q.command ≡ false))
   may PowerOn later u = absurd later
@@ -222,3 +232,25 @@ good_all v c tests bound few all l i = (
       let arm = arm_of_landing tests by.reply l few (ap (λ (r : Reply). r.status) by.ends.3) by.landing in
       (arm.0, (let small = arm.1 in omega arith), (arm.2, by)),
 )
+
+-- ---- a refusal that is declared, or is not
+
+pub more_declared : {S : Type 0} (members : S → Numbers) (own : ℕ) (old new : List (Landing × ViewOf S)) (declared : Bool) (This : Landing → Item → Type 0) → declared ≡ true
+    → AreMore members own old This new → AreMore members own old (λ l i. IsTrue declared × This l i) new
+more_declared members own old new declared This is more l i = (λ has. on ((more l i).0 has), λ x. (more l i).1 (off x))
+  where
+    on : HasOutcome members own old l i ⊎ This l i → HasOutcome members own old l i ⊎ (IsTrue declared × This l i)
+    on (inl before) = inl before
+    on (inr this) = inr (is, this)
+
+    off : HasOutcome members own old l i ⊎ (IsTrue declared × This l i) → HasOutcome members own old l i ⊎ This l i
+    off (inl before) = inl before
+    off (inr this) = inr this.1
+
+pub none_declared : {S : Type 0} (members : S → Numbers) (own : ℕ) (old : List (Landing × ViewOf S)) (declared : Bool) (This : Landing → Item → Type 0) → declared ≡ false
+    → AreMore members own old (λ l i. IsTrue declared × This l i) old
+none_declared members own old declared This is l i = (λ has. inl has, off)
+  where
+    off : HasOutcome members own old l i ⊎ (IsTrue declared × This l i) → HasOutcome members own old l i
+    off (inl before) = before
+    off (inr this) = absurd (false≢true (sym is ∙ this.0))

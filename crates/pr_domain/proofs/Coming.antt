@@ -5,7 +5,8 @@ use Rattle.std.proofs.lemmas.Bool.{false≢true, cases_lt}
 use Rattle.std.proofs.lemmas.Option.{slice_get-get_or}
 use Rattle.pr_cdb.specs.declared.command.Command.{Command}
 use Rattle.pr_cdb.specs.declared.wire.Request.TheVariants.{Plain}
-use Rattle.pr_unit.specs.Steps.{Step}
+use Rattle.pr_roles.specs.declared.how.Refusals.{Refusals}
+use Rattle.pr_roles.specs.Answers.{Answered}
 use Rattle.pr_script.specs.declared.script.Test.{Test}
 use Rattle.pr_sets.specs.Numbers.{Numbers}
 use Rattle.pr_views.specs.declared.possibilities.Possibilities.{Possibilities}
@@ -20,11 +21,11 @@ use Rattle.pr_domain.specs.Outcomes.{Outcome, AreOutcomes}
 use Rattle.pr_domain.specs.inside.Reporting.{AreKept}
 
 -- they are also those of another view with the same possibilities
-pub same_outcomes : (v w : View) (c : Command) (tests : List Test) (outcomes : List Outcome) → v.scope ≡ w.scope → Within v w → Within w v
-    → AreOutcomes v c tests outcomes → AreOutcomes w c tests outcomes
-same_outcomes v w c tests outcomes same there back are = record {
+pub same_outcomes : (v w : View) (d : Refusals) (c : Command) (tests : List Test) (outcomes : List Outcome) → v.scope ≡ w.scope → Within v w → Within w v
+    → AreOutcomes v d c tests outcomes → AreOutcomes w d c tests outcomes
+same_outcomes v w d c tests outcomes same there back are = record {
   cover = λ u r x shown step.
-      are.cover u r x (shown_within w v u (sym same) back shown) (subst (λ (s : Scope). Step u s.own (Plain c) r x) (sym same) step);
+      are.cover u r x (shown_within w v u (sym same) back shown) (subst (λ (s : Scope). Answered d u s.own (Plain c) r x) (sym same) step);
   only = λ o i listed possible.
       let lands = are.only o i listed possible in
       record {
@@ -32,7 +33,7 @@ same_outcomes v w c tests outcomes same there back are = record {
         shown = shown_within v w lands.from same there lands.shown;
         reply = lands.reply;
         after = lands.after;
-        step = subst (λ (s : Scope). Step lands.from s.own (Plain c) lands.reply lands.after) same lands.step;
+        answer = subst (λ (s : Scope). Answered d lands.from s.own (Plain c) lands.reply lands.after) same lands.answer;
         landing = lands.landing;
         is = subst (λ (s : Scope). IsSo s lands.after i) same lands.is;
       };

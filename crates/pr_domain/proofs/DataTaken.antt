@@ -196,6 +196,8 @@ blind keys c tests none fit = All-weaker (λ t. test_fits keys c t ≡ true) (λ
     each (test.GoodHeld key) is = absurd (false≢true (sym neither.1 ∙ (and_parts (is_read_reservation c) (is_written_key keys key) is).0))
     each test.GoodUnheld is = absurd (false≢true (sym neither.1 ∙ (and_parts (is_read_reservation c) true is).0))
     each test.Conflict is = refl
+    each test.Busy is = refl
+    each test.Full is = refl
     each test.Attention is = refl
     each (test.Sense wanted) is = refl
 

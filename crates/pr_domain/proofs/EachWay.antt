@@ -30,7 +30,8 @@ use Rattle.pr_domain.specs.declared.landing.Landing.{Landing}
 use Rattle.pr_domain.specs.declared.tally.Tally.{Tally}
 use Rattle.pr_domain.specs.Landings.{IsLanding}
 use Rattle.pr_domain.specs.inside.Tallies.{IsRegistered, has_part, has_tallied, arm_of, Leaves, IsTally}
-use Rattle.pr_domain.specs.inside.Reporting.{AreReported, AreCalm, AreQuiet, Reports, Conflicts, Fails, EndsGood, MayReport, landing_at}
+use Rattle.pr_domain.specs.declared.reporting.Refused.{Refused}
+use Rattle.pr_domain.specs.inside.Reporting.{AreReported, AreCalm, AreQuiet, Reports, Conflicts, Fails, EndsGood, Refuses, MayReport, landing_at, refusal}
 use Rattle.pr_domain.proofs.Owner.{after_reported, reported_after, quiet_number, number_quiet, untold_pending}
 use Rattle.pr_domain.proofs.Landed.{so_from_registered, still_registered, IsWay, IsTold}
 
@@ -125,6 +126,28 @@ module _ (s : Scope) (known : Possibilities) (c : Command) (tests : List Test) (
             left = after_reported s u a found.0 n pending found.3;
           },
         );
+  }
+
+  -- ---- a refusal
+
+  pub told_refusal : (refused : Refused) → IsLanding tests (refusal refused) l → IsTold (view_in s known) c tests (Refuses refused) l (IsRegistered s) known.pending
+  told_refusal refused landing = record {
+    forth = λ u r w j shown ends landed so. still_registered s u w j (ap (λ (x : UnitState). x.registry) ends.1) so;
+    pends = λ u r w q n ends possible so left.
+        let same = one_attentions s u q n so (subst (λ x. IsSo s x (Attentions n)) ends.1 left) in
+        subst (λ m. has known.pending m ≡ true) same possible;
+    back = λ n has. (
+      n,
+      has,
+      λ u j shown so pending. record {
+        reply = refusal refused;
+        after = u;
+        ends = (refl, refl);
+        landing = landing;
+        is = so_from_registered s u j so;
+        left = pending;
+      },
+    );
   }
 
   -- ---- a conflict

@@ -1,5 +1,5 @@
 -- A step of a command is one of the ways in which it ends.
-use Rattle.std.proofs.Common.{◌≡◌, ℕ, Bool, true, false, ◌==◌, Option, Some, None, refl, sym, ap, ◌∙◌, arith}
+use Rattle.std.proofs.Common.{◌≡◌, ◌⊎◌, inl, inr, ℕ, Bool, true, false, IsTrue, ◌==◌, Option, Some, None, refl, sym, ap, ◌∙◌, arith}
 use Rattle.std.proofs.lemmas.Bool.{or_left, or_right}
 use Rattle.std.proofs.lemmas.Bool.Decides.{nat_tests}
 use Rattle.pr_cdb.specs.declared.command.Command.{Command}
@@ -14,7 +14,12 @@ use Rattle.pr_unit.specs.Conflicts.{command_conflicts}
 use Rattle.pr_unit.specs.Faults.{command_fault}
 use Rattle.pr_unit.specs.Replies.{report}
 use Rattle.pr_unit.specs.Steps.{Step, Reports as ReportsSome}
-use Rattle.pr_domain.specs.inside.Reporting.{How, Reports, Conflicts, Fails, EndsGood, IsReport, Ends}
+use Rattle.pr_roles.specs.declared.how.How.TheVariants as answer
+use Rattle.pr_roles.specs.declared.how.Refusals.{Refusals}
+use Rattle.pr_roles.specs.declared.how.How.{How}
+use Rattle.pr_roles.specs.Answers.{Answers, Answered, is_among}
+use Rattle.pr_domain.specs.declared.reporting.Refused.TheVariants as refused
+use Rattle.pr_domain.specs.inside.Reporting.{Ending, Reports, Conflicts, Fails, EndsGood, Refuses, IsReport, Ends, comes}
 
 -- a code that is pending is one of the four
 pub which : (code : ℕ) → is_attention code ≡ true → (a : Attention) × (code ≡ code_of a)
@@ -28,29 +33,38 @@ which code is = at (code == power_on) (code == reservations_preempted) (code == 
     at false false false true p_is q_is r_is t_is is = (RegistrationsPreempted, grind (arith, nat_tests))
     at false false false false p_is q_is r_is t_is is = absurd (grind (arith, nat_tests))
 
-report_ends : (u : UnitState) (h : ℕ) (c : Command) (r : Reply) (w : UnitState) → IsWellFormed u → is_pending u h power_on ≡ false → command_conflicts u.registry h c ≡ false
-    → ReportsSome u h (Plain c) r w → (how : How) × Ends how c h u r w
-report_ends u h c r w formed calm free step = by (which step.code (formed.pending h step.code step.pending).1)
+report_ends : (d : Refusals) (u : UnitState) (h : ℕ) (c : Command) (r : Reply) (w : UnitState) → IsWellFormed u → is_pending u h power_on ≡ false → command_conflicts u.registry h c ≡ false
+    → ReportsSome u h (Plain c) r w → (ending : Ending) × IsTrue (comes d ending) × Ends ending c h u r w
+report_ends d u h c r w formed calm free step = by (which step.code (formed.pending h step.code step.pending).1)
   where
-    by : (a : Attention) × (step.code ≡ code_of a) → (how : How) × Ends how c h u r w
+    by : (a : Attention) × (step.code ≡ code_of a) → (ending : Ending) × IsTrue (comes d ending) × Ends ending c h u r w
     by (PowerOn, same) = let wrong = ap (is_pending u h) same in let there = step.pending in cc
     by (ReservationsPreempted, same) =
-        (Reports ReservationsPreempted, ((calm, free), (ap (is_pending u h) (sym same) ∙ step.pending, step.reply ∙ ap (report (Plain c)) same, step.after ∙ ap (after_report u h) same)))
+        (Reports ReservationsPreempted, refl, ((calm, free), (ap (is_pending u h) (sym same) ∙ step.pending, step.reply ∙ ap (report (Plain c)) same, step.after ∙ ap (after_report u h) same)))
     by (ReservationsReleased, same) =
-        (Reports ReservationsReleased, ((calm, free), (ap (is_pending u h) (sym same) ∙ step.pending, step.reply ∙ ap (report (Plain c)) same, step.after ∙ ap (after_report u h) same)))
+        (Reports ReservationsReleased, refl, ((calm, free), (ap (is_pending u h) (sym same) ∙ step.pending, step.reply ∙ ap (report (Plain c)) same, step.after ∙ ap (after_report u h) same)))
     by (RegistrationsPreempted, same) =
-        (Reports RegistrationsPreempted, ((calm, free), (ap (is_pending u h) (sym same) ∙ step.pending, step.reply ∙ ap (report (Plain c)) same, step.after ∙ ap (after_report u h) same)))
+        (Reports RegistrationsPreempted, refl, ((calm, free), (ap (is_pending u h) (sym same) ∙ step.pending, step.reply ∙ ap (report (Plain c)) same, step.after ∙ ap (after_report u h) same)))
 
-pub step_ends : (u : UnitState) (h : ℕ) (c : Command) (r : Reply) (w : UnitState) → IsWellFormed u → Step u h (Plain c) r w → (how : How) × Ends how c h u r w
-step_ends u h c r w formed step = at (is_pending u h power_on) (command_conflicts u.registry h c) (is_any_pending u h) (command_fault u.registry h c) refl refl refl refl
+step_ends : (d : Refusals) (u : UnitState) (h : ℕ) (c : Command) (r : Reply) (w : UnitState) → IsWellFormed u → Step u h (Plain c) r w → (ending : Ending) × IsTrue (comes d ending) × Ends ending c h u r w
+step_ends d u h c r w formed step = at (is_pending u h power_on) (command_conflicts u.registry h c) (is_any_pending u h) (command_fault u.registry h c) refl refl refl refl
   where
     at : (p q any : Bool) (f : Option Sense) → is_pending u h power_on ≡ p → command_conflicts u.registry h c ≡ q → is_any_pending u h ≡ any → command_fault u.registry h c ≡ f
-        → (how : How) × Ends how c h u r w
-    at true q any f p_is q_is any_is f_is = let s = rw p_is at step in (Reports PowerOn, (tt, (p_is, s.0, s.1)))
-    at false true any f p_is q_is any_is f_is = let s = rw (p_is, q_is) at step in (Conflicts, (p_is, q_is, s.0, s.1))
-    at false false true f p_is q_is any_is f_is = let s = rw (any_is, q_is, p_is) at step in report_ends u h c r w formed p_is q_is s
-    at false false false (Some sense) p_is q_is any_is f_is = let s = rw (any_is, f_is, q_is, p_is) at step in (Fails, (any_is, q_is, sense, f_is, s.0, s.1))
-    at false false false None p_is q_is any_is f_is = let s = rw (any_is, f_is, q_is, p_is) at step in (EndsGood, (any_is, q_is, f_is, s.0, s.1))
+        → (ending : Ending) × IsTrue (comes d ending) × Ends ending c h u r w
+    at true q any f p_is q_is any_is f_is = let s = rw p_is at step in (Reports PowerOn, refl, (tt, (p_is, s.0, s.1)))
+    at false true any f p_is q_is any_is f_is = let s = rw (p_is, q_is) at step in (Conflicts, refl, (p_is, q_is, s.0, s.1))
+    at false false true f p_is q_is any_is f_is = let s = rw (any_is, q_is, p_is) at step in report_ends d u h c r w formed p_is q_is s
+    at false false false (Some sense) p_is q_is any_is f_is = let s = rw (any_is, f_is, q_is, p_is) at step in (Fails, refl, (any_is, q_is, sense, f_is, s.0, s.1))
+    at false false false None p_is q_is any_is f_is = let s = rw (any_is, f_is, q_is, p_is) at step in (EndsGood, refl, (any_is, q_is, f_is, s.0, s.1))
+
+-- and so is an answer in which the unit has no part
+pub answer_ends : (d : Refusals) (u : UnitState) (h : ℕ) (c : Command) (r : Reply) (w : UnitState) → IsWellFormed u → Answered d u h (Plain c) r w → (ending : Ending) × IsTrue (comes d ending) × Ends ending c h u r w
+answer_ends d u h c r w formed x = by x.how x.declared x.answer
+  where
+    by : (k : How) → IsTrue (is_among d k) → Answers k u h (Plain c) r w → (ending : Ending) × IsTrue (comes d ending) × Ends ending c h u r w
+    by answer.Plain declared is = step_ends d u h c r w formed is
+    by answer.Busy declared is = (Refuses refused.Busy, declared, is)
+    by answer.Full declared is = (Refuses refused.Full, declared, is)
 
 -- one that is pending is any
 pub any_pending : (u : UnitState) (h : ℕ) (a : Attention) → is_pending u h (code_of a) ≡ true → is_any_pending u h ≡ true
@@ -73,11 +87,23 @@ later_step : (u : UnitState) (h : ℕ) (c : Command) (a : Attention) (r : Reply)
 later_step u h c a r w calm free (there, reply, after) =
     rw (any_pending u h a there, free, calm) (record { code = code_of a; pending = there; reply = reply; after = after })
 
-pub ends_step : (how : How) (u : UnitState) (h : ℕ) (c : Command) (r : Reply) (w : UnitState) → Ends how c h u r w → Step u h (Plain c) r w
-ends_step (Reports PowerOn) u h c r w ends = rw ends.1.0 (ends.1.1, ends.1.2)
-ends_step (Reports ReservationsPreempted) u h c r w ends = later_step u h c ReservationsPreempted r w ends.0.0 ends.0.1 ends.1
-ends_step (Reports ReservationsReleased) u h c r w ends = later_step u h c ReservationsReleased r w ends.0.0 ends.0.1 ends.1
-ends_step (Reports RegistrationsPreempted) u h c r w ends = later_step u h c RegistrationsPreempted r w ends.0.0 ends.0.1 ends.1
-ends_step Conflicts u h c r w ends = rw (ends.0, ends.1) (ends.2, ends.3)
-ends_step Fails u h c r w ends = rw (ends.0, ends.3, ends.1, calm_from_quiet u h ends.0) (ends.4, ends.5)
-ends_step EndsGood u h c r w ends = rw (ends.0, ends.2, ends.1, calm_from_quiet u h ends.0) (ends.3, ends.4)
+pub steps_or_stays : (ending : Ending) (u : UnitState) (h : ℕ) (c : Command) (r : Reply) (w : UnitState) → Ends ending c h u r w → Step u h (Plain c) r w ⊎ (w ≡ u)
+steps_or_stays (Reports PowerOn) u h c r w ends = inl (rw ends.1.0 (ends.1.1, ends.1.2))
+steps_or_stays (Reports ReservationsPreempted) u h c r w ends = inl (later_step u h c ReservationsPreempted r w ends.0.0 ends.0.1 ends.1)
+steps_or_stays (Reports ReservationsReleased) u h c r w ends = inl (later_step u h c ReservationsReleased r w ends.0.0 ends.0.1 ends.1)
+steps_or_stays (Reports RegistrationsPreempted) u h c r w ends = inl (later_step u h c RegistrationsPreempted r w ends.0.0 ends.0.1 ends.1)
+steps_or_stays Conflicts u h c r w ends = inl (rw (ends.0, ends.1) (ends.2, ends.3))
+steps_or_stays Fails u h c r w ends = inl (rw (ends.0, ends.3, ends.1, calm_from_quiet u h ends.0) (ends.4, ends.5))
+steps_or_stays EndsGood u h c r w ends = inl (rw (ends.0, ends.2, ends.1, calm_from_quiet u h ends.0) (ends.3, ends.4))
+steps_or_stays (Refuses k) u h c r w ends = inr ends.1
+
+pub ends_answer : (d : Refusals) (ending : Ending) (u : UnitState) (h : ℕ) (c : Command) (r : Reply) (w : UnitState) → IsTrue (comes d ending) → Ends ending c h u r w → Answered d u h (Plain c) r w
+ends_answer d (Refuses refused.Full) u h c r w declared ends = record { how = answer.Full; declared = declared; answer = ends }
+ends_answer d (Refuses refused.Busy) u h c r w declared ends = record { how = answer.Busy; declared = declared; answer = ends }
+ends_answer d (Reports PowerOn) u h c r w declared ends = record { how = answer.Plain; declared = refl; answer = rw ends.1.0 (ends.1.1, ends.1.2) }
+ends_answer d (Reports ReservationsPreempted) u h c r w declared ends = record { how = answer.Plain; declared = refl; answer = later_step u h c ReservationsPreempted r w ends.0.0 ends.0.1 ends.1 }
+ends_answer d (Reports ReservationsReleased) u h c r w declared ends = record { how = answer.Plain; declared = refl; answer = later_step u h c ReservationsReleased r w ends.0.0 ends.0.1 ends.1 }
+ends_answer d (Reports RegistrationsPreempted) u h c r w declared ends = record { how = answer.Plain; declared = refl; answer = later_step u h c RegistrationsPreempted r w ends.0.0 ends.0.1 ends.1 }
+ends_answer d Conflicts u h c r w declared ends = record { how = answer.Plain; declared = refl; answer = rw (ends.0, ends.1) (ends.2, ends.3) }
+ends_answer d Fails u h c r w declared ends = record { how = answer.Plain; declared = refl; answer = rw (ends.0, ends.3, ends.1, calm_from_quiet u h ends.0) (ends.4, ends.5) }
+ends_answer d EndsGood u h c r w declared ends = record { how = answer.Plain; declared = refl; answer = rw (ends.0, ends.2, ends.1, calm_from_quiet u h ends.0) (ends.3, ends.4) }

@@ -11,6 +11,7 @@ use Rattle.pr_attention.specs.Attentions.{code_of}
 use Rattle.pr_registry.specs.Registrations.{State, key_of}
 use Rattle.pr_attention.proofs.Bits.{flag_of, codes_of-without_flag, without_flag-lt}
 use Rattle.pr_unit.specs.UnitStates.{UnitState, IsWellFormed, effect}
+use Rattle.pr_unit.specs.Steps.{Step}
 use Rattle.pr_unit.proofs.Steps.{well_formed-step, hosts-step}
 use Rattle.pr_script.specs.declared.script.Test.{Test}
 use Rattle.pr_script.specs.Grammar.{is_written}
@@ -24,11 +25,11 @@ use Rattle.pr_regions.specs.Readings.{first_test}
 use Rattle.pr_domain.specs.declared.landing.Landing.{Landing}
 use Rattle.pr_domain.specs.declared.landing.Landing.TheVariants.{Arm, NoArm}
 use Rattle.pr_domain.specs.declared.landing.Class.{Class}
-use Rattle.pr_domain.specs.declared.landing.Class.TheVariants.{Good, Conflict, Sense as WithSense}
+use Rattle.pr_domain.specs.declared.landing.Class.TheVariants.{Good, Conflict, Busy, Full, Sense as WithSense}
 use Rattle.pr_domain.specs.Landings.{IsClass, IsLanding}
 use Rattle.pr_domain.specs.inside.Tallies.{IsRegistered, has_part}
-use Rattle.pr_domain.specs.inside.Reporting.{How, Reports, Conflicts, Fails, EndsGood, Ends, LandsBy, IsOfWay}
-use Rattle.pr_domain.proofs.Ending.{ends_step}
+use Rattle.pr_domain.specs.inside.Reporting.{Ending, Reports, Conflicts, Fails, EndsGood, Refuses, Ends, LandsBy, IsOfWay}
+use Rattle.pr_domain.proofs.Ending.{steps_or_stays}
 use Rattle.pr_domain.proofs.Owner.{after_reported, untold_pending, IsNumbered, numbered_after}
 
 -- ---- a reply lands in one place
@@ -36,12 +37,28 @@ use Rattle.pr_domain.proofs.Owner.{after_reported, untold_pending, IsNumbered, n
 pub one_class : (r : Reply) (a b : Class) → IsClass r a → IsClass r b → a ≡ b
 one_class r Good Good is also = refl
 one_class r Good Conflict is also = let bad : status.Good ≡ status.Conflict = sym is ∙ also in cc
+one_class r Good Busy is also = let bad : status.Good ≡ status.Busy = sym is ∙ also in cc
+one_class r Good Full is also = let bad : status.Good ≡ status.TaskFull = sym is ∙ also in cc
 one_class r Good (WithSense s) is also = let bad : status.Good ≡ status.CheckCondition = sym is ∙ also.0 in cc
 one_class r Conflict Good is also = let bad : status.Conflict ≡ status.Good = sym is ∙ also in cc
 one_class r Conflict Conflict is also = refl
+one_class r Conflict Busy is also = let bad : status.Conflict ≡ status.Busy = sym is ∙ also in cc
+one_class r Conflict Full is also = let bad : status.Conflict ≡ status.TaskFull = sym is ∙ also in cc
 one_class r Conflict (WithSense s) is also = let bad : status.Conflict ≡ status.CheckCondition = sym is ∙ also.0 in cc
+one_class r Busy Good is also = let bad : status.Busy ≡ status.Good = sym is ∙ also in cc
+one_class r Busy Conflict is also = let bad : status.Busy ≡ status.Conflict = sym is ∙ also in cc
+one_class r Busy Busy is also = refl
+one_class r Busy Full is also = let bad : status.Busy ≡ status.TaskFull = sym is ∙ also in cc
+one_class r Busy (WithSense s) is also = let bad : status.Busy ≡ status.CheckCondition = sym is ∙ also.0 in cc
+one_class r Full Good is also = let bad : status.TaskFull ≡ status.Good = sym is ∙ also in cc
+one_class r Full Conflict is also = let bad : status.TaskFull ≡ status.Conflict = sym is ∙ also in cc
+one_class r Full Busy is also = let bad : status.TaskFull ≡ status.Busy = sym is ∙ also in cc
+one_class r Full Full is also = refl
+one_class r Full (WithSense s) is also = let bad : status.TaskFull ≡ status.CheckCondition = sym is ∙ also.0 in cc
 one_class r (WithSense s) Good is also = let bad : status.CheckCondition ≡ status.Good = sym is.0 ∙ also in cc
 one_class r (WithSense s) Conflict is also = let bad : status.CheckCondition ≡ status.Conflict = sym is.0 ∙ also in cc
+one_class r (WithSense s) Busy is also = let bad : status.CheckCondition ≡ status.Busy = sym is.0 ∙ also in cc
+one_class r (WithSense s) Full is also = let bad : status.CheckCondition ≡ status.TaskFull = sym is.0 ∙ also in cc
 one_class r (WithSense s) (WithSense t) is also = ap WithSense (same_Some s t (sym is.1 ∙ also.1))
 
 pub one_landing : (tests : List Test) (r : Reply) (l m : Landing) → IsLanding tests r l → IsLanding tests r m → l ≡ m
@@ -81,13 +98,14 @@ pub record IsSettled (s : Scope) (w : UnitState) : Type 0 where
   pub pending : (n : ℕ) × IsSo s w (Attentions n)
 
 module _ (v : View) (c : Command) (written : is_written v.scope.keys c ≡ true) (whole : FitsCommand c) (there : v.scope.own < v.scope.hosts) where
-  registry_after : (how : How) (u : UnitState) (r : Reply) (w : UnitState) → Ends how c v.scope.own u r w → (w.registry ≡ u.registry) ⊎ (w ≡ effect u v.scope.own c)
+  registry_after : (ending : Ending) (u : UnitState) (r : Reply) (w : UnitState) → Ends ending c v.scope.own u r w → (w.registry ≡ u.registry) ⊎ (w ≡ effect u v.scope.own c)
   registry_after (Reports a) u r w ends = inl (ap (λ (x : UnitState). x.registry) ends.1.2)
   registry_after Conflicts u r w ends = inl (ap (λ (x : UnitState). x.registry) ends.3)
   registry_after Fails u r w ends = inl (ap (λ (x : UnitState). x.registry) ends.5)
   registry_after EndsGood u r w ends = inr ends.4
+  registry_after (Refuses refused) u r w ends = inl (ap (λ (x : UnitState). x.registry) ends.1)
 
-  pending_after : (how : How) (u : UnitState) (r : Reply) (w : UnitState) (q : ℕ) → IsSo v.scope u (Attentions q) → Ends how c v.scope.own u r w → (n : ℕ) × IsSo v.scope w (Attentions n)
+  pending_after : (ending : Ending) (u : UnitState) (r : Reply) (w : UnitState) (q : ℕ) → IsSo v.scope u (Attentions q) → Ends ending c v.scope.own u r w → (n : ℕ) × IsSo v.scope w (Attentions n)
   pending_after (Reports a) u r w q so ends = (
     without q a,
     subst (λ x. IsSo v.scope x (Attentions (without q a))) (sym ends.1.2)
@@ -96,19 +114,27 @@ module _ (v : View) (c : Command) (written : is_written v.scope.keys c ≡ true)
   pending_after Conflicts u r w q so ends = (q, subst (λ x. IsSo v.scope x (Attentions q)) (sym ends.3) so)
   pending_after Fails u r w q so ends = (q, subst (λ x. IsSo v.scope x (Attentions q)) (sym ends.5) so)
   pending_after EndsGood u r w q so ends = (q, subst (λ x. IsSo v.scope x (Attentions q)) (sym ends.4) (untold_pending v.scope u c q so))
+  pending_after (Refuses refused) u r w q so ends = (q, subst (λ x. IsSo v.scope x (Attentions q)) (sym ends.1) so)
 
-  pub settled : (how : How) (u : UnitState) (r : Reply) (w : UnitState) → Shows v u → Ends how c v.scope.own u r w → IsSettled v.scope w
-  settled how u r w shown ends =
-      let step = ends_step how u v.scope.own c r w ends in
+  pub settled : (ending : Ending) (u : UnitState) (r : Reply) (w : UnitState) → Shows v u → Ends ending c v.scope.own u r w → IsSettled v.scope w
+  settled ending u r w shown ends =
       record {
-        formed = well_formed-step u v.scope.own (Plain c) r w shown.formed (subst (λ n. v.scope.own < n) (sym shown.hosts) there) whole step;
-        hosts = hosts-step u v.scope.own (Plain c) r w step ∙ shown.hosts;
+        formed = formed_after (steps_or_stays ending u v.scope.own c r w ends);
+        hosts = hosts_after (steps_or_stays ending u v.scope.own c r w ends);
         numbered = numbered;
-        pending = pending_after how u r w shown.pending.0 shown.pending.1.1 ends;
+        pending = pending_after ending u r w shown.pending.0 shown.pending.1.1 ends;
       }
     where
+      formed_after : Step u v.scope.own (Plain c) r w ⊎ (w ≡ u) → IsWellFormed w
+      formed_after (inl step) = well_formed-step u v.scope.own (Plain c) r w shown.formed (subst (λ n. v.scope.own < n) (sym shown.hosts) there) whole step
+      formed_after (inr same) = subst IsWellFormed (sym same) shown.formed
+
+      hosts_after : Step u v.scope.own (Plain c) r w ⊎ (w ≡ u) → w.registry.hosts ≡ v.scope.hosts
+      hosts_after (inl step) = hosts-step u v.scope.own (Plain c) r w step ∙ shown.hosts
+      hosts_after (inr same) = ap (λ (x : UnitState). x.registry.hosts) same ∙ shown.hosts
+
       numbered : (g : ℕ) → g < v.scope.hosts → (t : ℕ) × IsSo v.scope w (Registration g t)
-      numbered g small = at (registry_after how u r w ends)
+      numbered g small = at (registry_after ending u r w ends)
         where
           before : IsNumbered v.scope.keys (key_of u.registry g)
           before = let t = shown.registrations g small in (t.0, t.1.1.1, t.1.1.2)
@@ -128,33 +154,33 @@ pub record IsWay (v : View) (Left : UnitState → Item → Type 0) (p : Possibil
 
 -- from a state with these attentions in which this is left, the command ends so, with this landing and these
 -- attentions
-pub record Leads (v : View) (c : Command) (tests : List Test) (how : How) (l : Landing) (u : UnitState) (j : Item) (n : ℕ) : Type 0 where
+pub record Leads (v : View) (c : Command) (tests : List Test) (ending : Ending) (l : Landing) (u : UnitState) (j : Item) (n : ℕ) : Type 0 where
   pub reply : Reply
   pub after : UnitState
-  pub ends : Ends how c v.scope.own u reply after
+  pub ends : Ends ending c v.scope.own u reply after
   pub landing : IsLanding tests reply l
   pub is : IsSo v.scope after j
   pub left : IsSo v.scope after (Attentions n)
 
 -- each possibility is left, and nothing else is
-pub record IsTold (v : View) (c : Command) (tests : List Test) (how : How) (l : Landing) (Left : UnitState → Item → Type 0) (pending : Word) : Type 0 where
-  pub forth : (u : UnitState) (r : Reply) (w : UnitState) (j : Item) → Shows v u → Ends how c v.scope.own u r w → IsLanding tests r l → IsRegistered v.scope w j → Left u j
-  pub pends : (u : UnitState) (r : Reply) (w : UnitState) (q n : ℕ) → Ends how c v.scope.own u r w → v.pending q ≡ true → IsSo v.scope u (Attentions q) → IsSo v.scope w (Attentions n) → has pending n ≡ true
+pub record IsTold (v : View) (c : Command) (tests : List Test) (ending : Ending) (l : Landing) (Left : UnitState → Item → Type 0) (pending : Word) : Type 0 where
+  pub forth : (u : UnitState) (r : Reply) (w : UnitState) (j : Item) → Shows v u → Ends ending c v.scope.own u r w → IsLanding tests r l → IsRegistered v.scope w j → Left u j
+  pub pends : (u : UnitState) (r : Reply) (w : UnitState) (q n : ℕ) → Ends ending c v.scope.own u r w → v.pending q ≡ true → IsSo v.scope u (Attentions q) → IsSo v.scope w (Attentions n) → has pending n ≡ true
   pub back : (n : ℕ) → has pending n ≡ true
-      → (q : ℕ) × (v.pending q ≡ true) × ((u : UnitState) (j : Item) → Shows v u → Left u j → IsSo v.scope u (Attentions q) → Leads v c tests how l u j n)
+      → (q : ℕ) × (v.pending q ≡ true) × ((u : UnitState) (j : Item) → Shows v u → Left u j → IsSo v.scope u (Attentions q) → Leads v c tests ending l u j n)
 
-module _ (v : View) (c : Command) (tests : List Test) (how : How) (l : Landing) (Left : UnitState → Item → Type 0) (p : Possibilities) (pending : Word)
-    (way : IsWay v Left p) (told : IsTold v c tests how l Left pending) where
-  pub from_part : (j : Item) (n : ℕ) → has_part p j ≡ true → has pending n ≡ true → (u : UnitState) × Shows v u × Leads v c tests how l u j n
+module _ (v : View) (c : Command) (tests : List Test) (ending : Ending) (l : Landing) (Left : UnitState → Item → Type 0) (p : Possibilities) (pending : Word)
+    (way : IsWay v Left p) (told : IsTold v c tests ending l Left pending) where
+  pub from_part : (j : Item) (n : ℕ) → has_part p j ≡ true → has pending n ≡ true → (u : UnitState) × Shows v u × Leads v c tests ending l u j n
   from_part j n has left =
       let q = told.back n left in
       let found = way.only j q.0 has q.1 in
       (found.0, found.1, q.2 found.0 j found.1 found.2 found.3)
 
-  lands : (u : UnitState) (j i : Item) (n : ℕ) → Shows v u → (x : Leads v c tests how l u j n) → IsSo v.scope x.after i → LandsBy v c tests how l i
+  lands : (u : UnitState) (j i : Item) (n : ℕ) → Shows v u → (x : Leads v c tests ending l u j n) → IsSo v.scope x.after i → LandsBy v c tests ending l i
   lands u j i n shown x so = record { from = u; shown = shown; reply = x.reply; after = x.after; ends = x.ends; landing = x.landing; is = so }
 
-  lands_by : (i : Item) → IsOfWay v.scope p pending i → LandsBy v c tests how l i
+  lands_by : (i : Item) → IsOfWay v.scope p pending i → LandsBy v c tests ending l i
   lands_by (Registration g r) is =
       let x = from_part (Registration g r) is.pends.0 is.possible.1 is.pends.1 in lands x.0 (Registration g r) (Registration g r) is.pends.0 x.1 x.2 x.2.is
   lands_by (Reservation x) is =
@@ -163,10 +189,10 @@ module _ (v : View) (c : Command) (tests : List Test) (how : How) (l : Landing) 
       let y = from_part (Reservation is.reserved.0) n is.reserved.1 is.possible in lands y.0 (Reservation is.reserved.0) (Attentions n) n y.1 y.2 y.2.left
 
   module _ (written : is_written v.scope.keys c ≡ true) (whole : FitsCommand c) (there : v.scope.own < v.scope.hosts) where
-    of_way : (i : Item) → LandsBy v c tests how l i → IsOfWay v.scope p pending i
+    of_way : (i : Item) → LandsBy v c tests ending l i → IsOfWay v.scope p pending i
     of_way i by = record {
       reserved = (number_of v.scope.hosts by.after.registry.held, part (Reservation (number_of v.scope.hosts by.after.registry.held)) refl);
-      pends = let n = (settled v c written whole there how by.from by.reply by.after by.shown by.ends).pending in (n.0, left n.0 n.1);
+      pends = let n = (settled v c written whole there ending by.from by.reply by.after by.shown by.ends).pending in (n.0, left n.0 n.1);
       possible = possible i by.is;
     }
       where
@@ -181,8 +207,8 @@ module _ (v : View) (c : Command) (tests : List Test) (how : How) (l : Landing) 
         possible (Reservation x) so = part (Reservation x) so
         possible (Attentions n) so = left n so
 
-    pub way_lands : (m : Landing) (i : Item) → ((m ≡ l) × IsOfWay v.scope p pending i) ↔ ((m ≡ l) × LandsBy v c tests how m i)
+    pub way_lands : (m : Landing) (i : Item) → ((m ≡ l) × IsOfWay v.scope p pending i) ↔ ((m ≡ l) × LandsBy v c tests ending m i)
     way_lands m i = (
-      λ is. (is.0, subst (λ k. LandsBy v c tests how k i) (sym is.0) (lands_by i is.1)),
-      λ by. (by.0, of_way i (subst (λ k. LandsBy v c tests how k i) by.0 by.1)),
+      λ is. (is.0, subst (λ k. LandsBy v c tests ending k i) (sym is.0) (lands_by i is.1)),
+      λ by. (by.0, of_way i (subst (λ k. LandsBy v c tests ending k i) by.0 by.1)),
     )

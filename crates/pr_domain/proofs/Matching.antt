@@ -4,12 +4,13 @@ use Rattle.std.specs.List.{All, position, position_or_len}
 use Rattle.std.proofs.lemmas.Bool.{false≢true}
 use Rattle.pr_cdb.specs.declared.reply.Sense.{Sense}
 use Rattle.pr_cdb.specs.declared.reply.Reply.{Reply}
+use Rattle.pr_cdb.specs.Statuses.{is_good_status, is_check_status, is_conflict_status, is_busy_status, is_full_status}
 use Rattle.pr_script.specs.declared.script.Test.{Test}
 use Rattle.pr_script.specs.declared.script.Test.TheVariants as test
-use Rattle.pr_script.specs.Takes.{matches, is_good_status, is_conflict_status, is_check_status, is_attention, is_sense}
+use Rattle.pr_script.specs.Takes.{matches, is_attention, is_sense}
 use Rattle.pr_regions.specs.Readings.{first_test}
 use Rattle.pr_domain.specs.declared.landing.Class.{Class}
-use Rattle.pr_domain.specs.declared.landing.Class.TheVariants.{Good, Conflict, Sense as WithSense}
+use Rattle.pr_domain.specs.declared.landing.Class.TheVariants.{Good, Conflict, Busy, Full, Sense as WithSense}
 use Rattle.pr_domain.specs.Landings.{IsClass}
 use Rattle.pr_domain.specs.inside.Reporting.{looks, takes, AreBlind}
 
@@ -23,6 +24,8 @@ matches_good (test.GoodHas key) r is blind = absurd (false≢true (sym blind))
 matches_good (test.GoodHeld key) r is blind = absurd (false≢true (sym blind))
 matches_good test.GoodUnheld r is blind = absurd (false≢true (sym blind))
 matches_good test.Conflict r is blind = ap is_conflict_status is
+matches_good test.Busy r is blind = ap is_busy_status is
+matches_good test.Full r is blind = ap is_full_status is
 matches_good test.Attention r is blind = ap (λ s. is_check_status s && is_attention r.sense) is
 matches_good (test.Sense wanted) r is blind = ap (λ s. is_check_status s && is_sense r.sense wanted) is
 
@@ -32,8 +35,32 @@ matches_conflict (test.GoodHas key) r is = rw is refl
 matches_conflict (test.GoodHeld key) r is = rw is refl
 matches_conflict test.GoodUnheld r is = rw is refl
 matches_conflict test.Conflict r is = ap is_conflict_status is
+matches_conflict test.Busy r is = ap is_busy_status is
+matches_conflict test.Full r is = ap is_full_status is
 matches_conflict test.Attention r is = rw is refl
 matches_conflict (test.Sense wanted) r is = rw is refl
+
+matches_busy : (t : Test) (r : Reply) → IsClass r Busy → matches t r ≡ takes t Busy
+matches_busy test.Good r is = ap is_good_status is
+matches_busy test.Conflict r is = ap is_conflict_status is
+matches_busy test.Busy r is = ap is_busy_status is
+matches_busy test.Full r is = ap is_full_status is
+matches_busy (test.GoodHas key) r is = rw is refl
+matches_busy (test.GoodHeld key) r is = rw is refl
+matches_busy test.GoodUnheld r is = rw is refl
+matches_busy test.Attention r is = rw is refl
+matches_busy (test.Sense wanted) r is = rw is refl
+
+matches_full : (t : Test) (r : Reply) → IsClass r Full → matches t r ≡ takes t Full
+matches_full test.Good r is = ap is_good_status is
+matches_full test.Conflict r is = ap is_conflict_status is
+matches_full test.Busy r is = ap is_busy_status is
+matches_full test.Full r is = ap is_full_status is
+matches_full (test.GoodHas key) r is = rw is refl
+matches_full (test.GoodHeld key) r is = rw is refl
+matches_full test.GoodUnheld r is = rw is refl
+matches_full test.Attention r is = rw is refl
+matches_full (test.Sense wanted) r is = rw is refl
 
 matches_sense : (t : Test) (r : Reply) (s : Sense) → IsClass r (WithSense s) → matches t r ≡ takes t (WithSense s)
 matches_sense test.Good r s is = ap is_good_status is.0
@@ -41,6 +68,8 @@ matches_sense (test.GoodHas key) r s is = rw is.0 refl
 matches_sense (test.GoodHeld key) r s is = rw is.0 refl
 matches_sense test.GoodUnheld r s is = rw is.0 refl
 matches_sense test.Conflict r s is = ap is_conflict_status is.0
+matches_sense test.Busy r s is = ap is_busy_status is.0
+matches_sense test.Full r s is = ap is_full_status is.0
 matches_sense test.Attention r s is = (λ i. is_check_status (is.0 i) && is_attention (is.1 i))
 matches_sense (test.Sense wanted) r s is = (λ i. is_check_status (is.0 i) && is_sense (is.1 i) wanted)
 
@@ -55,4 +84,6 @@ same_first p q xs same = rw (same_count p q xs same) refl
 pub first_of_class : (tests : List Test) (class : Class) (r : Reply) → IsClass r class → AreBlind tests class → first_test tests r ≡ position (λ t. takes t class) tests
 first_of_class tests Good r is blind = same_first (λ t. matches t r) (λ t. takes t Good) tests (λ i d there. matches_good _ r is (blind i d there))
 first_of_class tests Conflict r is blind = same_first (λ t. matches t r) (λ t. takes t Conflict) tests (λ i d there. matches_conflict _ r is)
+first_of_class tests Busy r is blind = same_first (λ t. matches t r) (λ t. takes t Busy) tests (λ i d there. matches_busy _ r is)
+first_of_class tests Full r is blind = same_first (λ t. matches t r) (λ t. takes t Full) tests (λ i d there. matches_full _ r is)
 first_of_class tests (WithSense s) r is blind = same_first (λ t. matches t r) (λ t. takes t (WithSense s)) tests (λ i d there. matches_sense _ r s is)

@@ -1,5 +1,5 @@
 -- The numbers of what a scenario writes of its starts.
-use Rattle.std.proofs.Common.{◌≡◌, ◌↔◌, ◌⊎◌, ℕ, ◌<◌, ◌≤◌, Bool, true, false, not, ◌==◌, ◌&&◌, nat_le, vec_len, List, length, map, bytes_eq, Option, Some, None, option_map, refl, sym, ap, ◌∙◌, subst, inl, inr, arith}
+use Rattle.std.proofs.Common.{◌≡◌, ◌↔◌, ◌⊎◌, ℕ, ◌<◌, ◌≤◌, Bool, true, false, not, ◌==◌, ◌&&◌, vec_len, List, length, map, Option, Some, None, option_map, refl, sym, ap, ◌∙◌, subst, inl, inr, arith}
 use Rattle.std.specs.List.{slice_get, list_all, Contains}
 use Rattle.std.specs.Option.{option_map_or}
 use Rattle.std.proofs.lemmas.Bool.{and_parts, false≢true, cases_lt}
@@ -16,7 +16,7 @@ use Rattle.pr_roles.specs.declared.parts.Parts.{Parts}
 use Rattle.pr_roles.specs.Fitting.{Fits as FitsAll, AreDeclared, are_distinct, is_alternative, is_same_alternative, is_role, is_start, is_task, is_nexus, is_reservation, is_same_reservation}
 use Rattle.pr_roles.specs.Scenarios.{Scenario, Nexus, nexus, nexus_of, scenario_of}
 use Rattle.pr_roles.specs.inside.StoredStarts.{start_of}
-use Rattle.pr_roles.proofs.Allowed.{counted}
+use Rattle.pr_roles.proofs.Allowed.{counted, each_nexus}
 use Rattle.pr_roles.proofs.Starting.{all_pass, slice_get_contains}
 use Rattle.pr_sets.specs.Words.{has}
 use Rattle.pr_views.specs.declared.possibilities.Possibilities.{Possibilities}
@@ -141,10 +141,7 @@ pub start_fits : (s : Scenario) (g : ℕ) (n : Nexus) → FitsAll s → nexus s 
 start_fits s g n fits is =
     let keys = s.keys in
     let ns = s.nexuses in
-    let rest = (and_parts (not (length ns == 0)) (nat_le (length ns) MOST_NEXUSES && (are_distinct bytes_eq (map (λ n. n.name) ns) && list_all (is_nexus keys) ns)) fits.nexuses).1 in
-    let more = (and_parts (nat_le (length ns) MOST_NEXUSES) (are_distinct bytes_eq (map (λ n. n.name) ns) && list_all (is_nexus keys) ns) rest).1 in
-    let all = (and_parts (are_distinct bytes_eq (map (λ n. n.name) ns)) (list_all (is_nexus keys) ns) more).1 in
-    let one = all_pass (is_nexus keys) ns n all (slice_get_contains ns g n is) in
+    let one = all_pass (is_nexus keys) ns n (each_nexus s fits) (slice_get_contains ns g n is) in
     let named = (and_parts (is_name n.name) (is_role keys n.role && (is_start keys n.start && is_task keys n.task)) one).1 in
     let roled = (and_parts (is_role keys n.role) (is_start keys n.start && is_task keys n.task) named).1 in
     let started = (and_parts (is_start keys n.start) (is_task keys n.task) roled).0 in

@@ -8,12 +8,14 @@ use Rattle.pr_regions.specs.Readings.{first_test}
 use Rattle.pr_domain.specs.declared.landing.Landing.{Landing}
 use Rattle.pr_domain.specs.declared.landing.Landing.TheVariants.{Arm, NoArm}
 use Rattle.pr_domain.specs.declared.landing.Class.{Class}
-use Rattle.pr_domain.specs.declared.landing.Class.TheVariants.{Good, Conflict, Sense}
+use Rattle.pr_domain.specs.declared.landing.Class.TheVariants.{Good, Conflict, Busy, Full, Sense}
 
 -- how a reply ended
 abbrev pub IsClass : Reply → Class → Type 0
 IsClass r Good = r.status ≡ status.Good
 IsClass r Conflict = r.status ≡ status.Conflict
+IsClass r Busy = r.status ≡ status.Busy
+IsClass r Full = r.status ≡ status.TaskFull
 IsClass r (Sense sense) = (r.status ≡ status.CheckCondition) × (r.sense ≡ Some sense)
 
 -- The first arm whose test the reply passes, counted from 0; with no such arm, how it ended.

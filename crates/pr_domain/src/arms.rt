@@ -19,6 +19,8 @@ impl Class {
             Test::Good => self == Class::Good,
             Test::GoodHas(_) | Test::GoodHeld(_) | Test::GoodUnheld => false,
             Test::Conflict => self == Class::Conflict,
+            Test::Busy => self == Class::Busy,
+            Test::Full => self == Class::Full,
             Test::Attention => self
                 .sense()
                 .is_some_and(|sense| sense.key == UNIT_ATTENTION),
@@ -30,7 +32,7 @@ impl Class {
         ensures { result ≡ sense_of self }
     {
         match self {
-            Class::Good | Class::Conflict => None,
+            Class::Good | Class::Conflict | Class::Busy | Class::Full => None,
             Class::Sense(sense) => Some(sense),
         }
     }

@@ -5,6 +5,7 @@ ghost use Rattle.pr_cdb.specs.declared.codes.TheConstants.{MOST_NEXUSES};
 ghost use Rattle.pr_unit.specs.UnitStates.{UnitState};
 ghost use Rattle.pr_roles.specs.declared.limits.TheConstants.{MOST_KEYS};
 ghost use Rattle.pr_roles.specs.Fitting.{is_reservation};
+ghost use Rattle.pr_sets.specs.Numbers.{most};
 ghost use Rattle.pr_sets.specs.Words.{has};
 ghost use Rattle.pr_views.specs.Possibilities.{Scope, number_of, count_of_reservations};
 ghost use Rattle.pr_views.specs.Views.{Fits};
@@ -65,7 +66,7 @@ impl Place {
     fn add_kept(&self, kept: &mut Possibilities, view: &Possibilities, senders: Word)
         requires hosts { (1 ≤ self.now.hosts) × (self.now.hosts ≤ MOST_NEXUSES) }
         requires sender { self.now.sender < self.now.hosts }
-        requires reservation { self.now.reservation < 64 }
+        requires reservation { self.now.reservation < most }
         ensures { (s : Scope) → IsPlace s view.now self.now → IsUniform senders → Adds s kept.old kept.new (λ _ u. IsShownAt (view_in s view.now) self.now senders u) (IsShownSo (view_in s view.now)) }
     {
         if let Some(shown) = self.shown(view, senders) {
@@ -77,7 +78,7 @@ impl Place {
     fn shown(&self, view: &Possibilities, senders: Word) -> Option<Possibilities>
         requires hosts { (1 ≤ self.now.hosts) × (self.now.hosts ≤ MOST_NEXUSES) }
         requires sender { self.now.sender < self.now.hosts }
-        requires reservation { self.now.reservation < 64 }
+        requires reservation { self.now.reservation < most }
         ensures some { IfSome result (λ p. (s : Scope) → IsPlace s view.now self.now → IsUniform senders → IsShown s view.now self.now senders p) }
         ensures none { IfNone result ((s : Scope) → IsPlace s view.now self.now → IsUniform senders → (u : UnitState) → IsShownAt (view_in s view.now) self.now senders u → ⊥) }
     {

@@ -9,6 +9,10 @@ pub enum Class {
     Good,
     /// RESERVATION CONFLICT.
     Conflict,
+    /// BUSY.
+    Busy,
+    /// TASK SET FULL.
+    Full,
     /// CHECK CONDITION with this sense.
     Sense(Sense),
 }

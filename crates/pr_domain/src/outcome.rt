@@ -12,6 +12,7 @@ use crate::landing::Landing;
 use crate::reporting::{Sending, fault_of};
 use crate::tallying::tally;
 use pr_cdb::Command;
+use pr_roles::Refusals;
 use pr_script::Test;
 use pr_sets::ViewSet;
 use pr_views::ViewOf;
@@ -46,20 +47,21 @@ fn is_whole(command: Command)
 }
 
 /// What a host's own command may come to in the states that its view shows: each landing with the view of the states
-/// that it leaves, and each landing once.
+/// that it leaves, and each landing once. `refusals` says which of BUSY and TASK SET FULL the host may meet.
 pub fn outcomes<S: ViewSet>(
     alloc: Global,
     view: &ViewOf<S>,
     host: u8,
     command: &Command,
     tests: &[Test],
+    refusals: Refusals,
 ) -> Result<Vec<(Landing, ViewOf<S>)>, AllocError>
     requires made { IsMade S.room view.now }
     requires host { host < view.now.hosts }
     requires written { IsTrue (is_written view.now.keys.items command.now) }
     requires tests { All (λ t. test_fits view.now.keys.items command.now t ≡ true) tests.now }
     requires few { length tests.now ≤ MOST_ARMS }
-    ensures outcomes { IfOk result (λ outcomes. AreOutcomes (view_of S.members host view.now) command.now tests.now (map (λ o. (o.0, view_of S.members host o.1)) outcomes.items)) }
+    ensures outcomes { IfOk result (λ outcomes. AreOutcomes (view_of S.members host view.now) refusals command.now tests.now (map (λ o. (o.0, view_of S.members host o.1)) outcomes.items)) }
     ensures made { IfOk result (λ outcomes. All (λ o. IsMade S.room o.1 × AreAlike view.now o.1) outcomes.items) }
 {
     let keys: &[u64] = &view.keys;
@@ -75,6 +77,7 @@ pub fn outcomes<S: ViewSet>(
         command: *command,
         fault: fault_of(command),
         tests,
+        refusals,
     };
     let outcomes = sending.outcomes(alloc)?;
     Ok(outcomes)

@@ -1,6 +1,6 @@
 //! The outcomes of a command, from the tally of its ways to end.
 
-ghost use Rattle.std.specs.Prelude.{◌≡◌, ◌<◌, ◌≤◌, ℕ, true, List, map, IfOk, OnOk, Some};
+ghost use Rattle.std.specs.Prelude.{◌≡◌, ◌<◌, ◌≤◌, ℕ, true, List, map, IfOk, OnOk, IsTrue, Some};
 ghost use Rattle.std.specs.List.{All, slice_get};
 ghost use Rattle.pr_cdb.specs.declared.reply.Sense.{Sense};
 ghost use Rattle.pr_attention.specs.Attentions.{code_of};
@@ -16,7 +16,7 @@ ghost use Rattle.pr_views.specs.Rooms.{view_of, AreInRange};
 ghost use Rattle.pr_views.specs.Possibilities.{IsScope};
 ghost use Rattle.pr_domain.specs.Landings.{IsClass};
 ghost use Rattle.pr_domain.specs.Outcomes.{AreOutcomes};
-ghost use Rattle.pr_domain.specs.inside.Reporting.{AreBlind, AreMore, IsOfWay, AreCalm, AreQuiet, LandsBy, Reports, Conflicts, Fails, EndsGood, IsLater, LandsGood};
+ghost use Rattle.pr_domain.specs.inside.Reporting.{AreBlind, AreMore, IsOfWay, AreCalm, AreQuiet, LandsBy, Reports, Conflicts, Fails, EndsGood, Refuses, refusal, IsLater, LandsGood};
 ghost use Rattle.pr_domain.specs.inside.Sendings.{scope_of_sending, view_of_sending, AreKeptFor, IsAsked};
 
 use crate::arms::landing_of;
@@ -30,6 +30,7 @@ use pr_cdb::codes::{
     LOGICAL_BLOCK_ADDRESS_OUT_OF_RANGE,
 };
 use pr_cdb::{Command, Sense};
+use pr_roles::Refusals;
 use pr_script::Test;
 use pr_sets::{ViewSet, Word};
 use pr_unit::illegal;
@@ -44,6 +45,25 @@ fn class_of_report(command: &Command, attention: Attention) -> Class
     match command {
         Command::RequestSense => Class::Good,
         _ => Class::Sense(attention.sense()),
+    }
+}
+
+/// The two replies in which the unit has no part.
+#[derive(Clone, Copy)]
+pub(crate) enum Refused {
+    Busy,
+    Full,
+}
+
+impl Refused {
+    fn class(self) -> Class
+        ensures class { IsClass (refusal self) result }
+        ensures blind { (tests : List Test) → AreBlind tests result }
+    {
+        match self {
+            Refused::Busy => Class::Busy,
+            Refused::Full => Class::Full,
+        }
     }
 }
 
@@ -97,6 +117,7 @@ pub(crate) struct Sending<'a> {
     pub(crate) command: Command,
     pub(crate) fault: Option<Sense>,
     pub(crate) tests: &'a [Test],
+    pub(crate) refusals: Refusals,
 }
 
 impl Sending<'_> {
@@ -181,6 +202,47 @@ impl Sending<'_> {
         Ok(())
     }
 
+    // Adds where BUSY lands, or TASK SET FULL.
+    fn add_refusal<S: ViewSet>(
+        &self,
+        alloc: Global,
+        outcomes: &mut Vec<(Landing, ViewOf<S>)>,
+        refused: Refused,
+    ) -> Result<(), AllocError>
+        requires asked { IsAsked self.now }
+        requires kept { AreKeptFor S.members S.room self.now outcomes.old.items }
+        ensures kept { OnOk result (AreKeptFor S.members S.room self.now outcomes.new.items) }
+        ensures more { OnOk result (AreMore S.members self.now.sender outcomes.old.items (LandsBy (view_of_sending self.now) self.now.command self.now.tests.now (Refuses refused)) outcomes.new.items) }
+    {
+        let class = refused.class();
+        let landing = landing_of(self.tests, class);
+        // The state stays: what is so of it is what is so with a conflict or without one.
+        let mut way = self.tally.way(0);
+        way.join(&self.tally.way(1));
+        self.add(alloc, outcomes, landing, &way, self.known.pending)?;
+        Ok(())
+    }
+
+    // Adds it where the sender may meet it.
+    fn add_declared<S: ViewSet>(
+        &self,
+        alloc: Global,
+        outcomes: &mut Vec<(Landing, ViewOf<S>)>,
+        declared: bool,
+        refused: Refused,
+    ) -> Result<(), AllocError>
+        requires asked { IsAsked self.now }
+        requires kept { AreKeptFor S.members S.room self.now outcomes.old.items }
+        ensures kept { OnOk result (AreKeptFor S.members S.room self.now outcomes.new.items) }
+        ensures more { OnOk result (AreMore S.members self.now.sender outcomes.old.items (λ l i. IsTrue declared × LandsBy (view_of_sending self.now) self.now.command self.now.tests.now (Refuses refused) l i) outcomes.new.items) }
+    {
+        if !declared {
+            return Ok(());
+        }
+        self.add_refusal(alloc, outcomes, refused)?;
+        Ok(())
+    }
+
     // Adds where a fault lands.
     fn add_fault<S: ViewSet>(
         &self,
@@ -251,7 +313,7 @@ impl Sending<'_> {
         alloc: Global,
     ) -> Result<Vec<(Landing, ViewOf<S>)>, AllocError>
         requires { IsAsked self.now }
-        ensures outcomes { IfOk result (λ outcomes. AreOutcomes (view_of_sending self.now) self.now.command self.now.tests.now (map (λ o. (o.0, view_of S.members self.now.sender o.1)) outcomes.items)) }
+        ensures outcomes { IfOk result (λ outcomes. AreOutcomes (view_of_sending self.now) self.now.refusals self.now.command self.now.tests.now (map (λ o. (o.0, view_of S.members self.now.sender o.1)) outcomes.items)) }
         ensures kept { IfOk result (λ outcomes. AreKeptFor S.members S.room self.now outcomes.items) }
     {
         let mut outcomes = Vec::new(alloc);
@@ -262,6 +324,8 @@ impl Sending<'_> {
         self.add_report(alloc, &mut outcomes, Attention::ReservationsReleased)?;
         self.add_report(alloc, &mut outcomes, Attention::RegistrationsPreempted)?;
         self.add_fault(alloc, &mut outcomes)?;
+        self.add_declared(alloc, &mut outcomes, self.refusals.busy, Refused::Busy)?;
+        self.add_declared(alloc, &mut outcomes, self.refusals.full, Refused::Full)?;
         Ok(outcomes)
     }
 

@@ -8,6 +8,7 @@ ghost use Rattle.pr_roles.specs.Fitting.{is_reservation};
 ghost use Rattle.pr_regions.specs.Purposes.{HasNumber};
 ghost use Rattle.std.specs.List.{All};
 ghost use Rattle.pr_regions.specs.declared.region.Branch.{Branch as BranchOf};
+ghost use Rattle.pr_sets.specs.Numbers.{most};
 ghost use Rattle.pr_sets.specs.Words.{has};
 ghost use Rattle.pr_cdb.specs.declared.command.Command.{Command as CommandOf};
 ghost use Rattle.pr_script.specs.declared.script.Test.{Test as TestOf};
@@ -38,7 +39,7 @@ use pr_views::{MOST_REGISTRATIONS, Possibilities};
 
 // These registrations under this reservation.
 fn part(registrations: [Word; MOST_NEXUSES], reservation: u8) -> Possibilities
-    requires { reservation < 64 }
+    requires { reservation < most }
     ensures registrations { result.registrations ≡ registrations }
     ensures reservations { (x : ℕ) → has result.reservations x ≡ (x == reservation) }
 {

@@ -13,10 +13,11 @@ use Rattle.pr_attention.specs.declared.attention.Attention.TheVariants.{PowerOn,
 use Rattle.pr_unit.specs.UnitStates.{UnitState, is_pending, is_any_pending, effect, after_report}
 use Rattle.pr_unit.specs.Conflicts.{command_conflicts}
 use Rattle.pr_unit.specs.Faults.{command_fault}
-use Rattle.pr_unit.specs.Replies.{good, check, conflict, report, data_of}
+use Rattle.pr_unit.specs.Replies.{good, check, conflict, busy, full, report, data_of}
 use Rattle.pr_script.specs.declared.script.Test.{Test}
 use Rattle.pr_script.specs.declared.script.Test.TheVariants as test
 use Rattle.pr_script.specs.Takes.{is_attention, is_sense}
+use Rattle.pr_roles.specs.declared.how.Refusals.{Refusals}
 use Rattle.pr_sets.specs.declared.word.Word.{Word}
 use Rattle.pr_sets.specs.Numbers.{Numbers}
 use Rattle.pr_sets.specs.Words.{has}
@@ -29,7 +30,9 @@ use Rattle.pr_views.specs.Rooms.{view_of, IsMade}
 use Rattle.pr_domain.specs.declared.landing.Landing.{Landing}
 use Rattle.pr_domain.specs.declared.landing.Landing.TheVariants.{Arm, NoArm}
 use Rattle.pr_domain.specs.declared.landing.Class.{Class}
-use Rattle.pr_domain.specs.declared.landing.Class.TheVariants.{Good, Conflict, Sense as WithSense}
+use Rattle.pr_domain.specs.declared.landing.Class.TheVariants.{Good, Conflict, Busy, Full, Sense as WithSense}
+use Rattle.pr_domain.specs.declared.reporting.Refused.{Refused}
+use Rattle.pr_domain.specs.declared.reporting.Refused.TheVariants as refused
 use Rattle.pr_domain.specs.Landings.{IsLanding}
 
 -- ---- the arm for a reply whose data no test looks at
@@ -41,22 +44,44 @@ looks (test.GoodHas key) = true
 looks (test.GoodHeld key) = true
 looks test.GoodUnheld = true
 looks test.Conflict = false
+looks test.Busy = false
+looks test.Full = false
 looks test.Attention = false
 looks (test.Sense wanted) = false
 
 abbrev pub is_good_class : Class → Bool
 is_good_class Good = true
 is_good_class Conflict = false
+is_good_class Busy = false
+is_good_class Full = false
 is_good_class (WithSense sense) = false
 
 abbrev pub is_conflict_class : Class → Bool
 is_conflict_class Good = false
 is_conflict_class Conflict = true
+is_conflict_class Busy = false
+is_conflict_class Full = false
 is_conflict_class (WithSense sense) = false
+
+abbrev pub is_busy_class : Class → Bool
+is_busy_class Good = false
+is_busy_class Conflict = false
+is_busy_class Busy = true
+is_busy_class Full = false
+is_busy_class (WithSense sense) = false
+
+abbrev pub is_full_class : Class → Bool
+is_full_class Good = false
+is_full_class Conflict = false
+is_full_class Busy = false
+is_full_class Full = true
+is_full_class (WithSense sense) = false
 
 abbrev pub sense_of : Class → Option Sense
 sense_of Good = None
 sense_of Conflict = None
+sense_of Busy = None
+sense_of Full = None
 sense_of (WithSense sense) = Some sense
 
 -- whether the test matches the replies of the class, where it does not look at their data
@@ -66,6 +91,8 @@ takes (test.GoodHas key) class = false
 takes (test.GoodHeld key) class = false
 takes test.GoodUnheld class = false
 takes test.Conflict class = is_conflict_class class
+takes test.Busy class = is_busy_class class
+takes test.Full class = is_full_class class
 takes test.Attention class = is_attention (sense_of class)
 takes (test.Sense wanted) class = is_sense (sense_of class) wanted
 
@@ -73,6 +100,8 @@ takes (test.Sense wanted) class = is_sense (sense_of class) wanted
 abbrev pub AreBlind : List Test → Class → Type 0
 AreBlind tests Good = All (λ t. looks t ≡ false) tests
 AreBlind tests Conflict = Unit {0}
+AreBlind tests Busy = Unit {0}
+AreBlind tests Full = Unit {0}
 AreBlind tests (WithSense sense) = Unit {0}
 
 -- ---- attentions after a report
@@ -116,12 +145,14 @@ AreMore members own old This new =
 
 -- ---- where they come from
 
--- how a command ends: by the report of an attention, in a conflict, at fault, or GOOD with its effect
-pub data How : Type 0 where
-  Reports : Attention → How
-  Conflicts : How
-  Fails : How
-  EndsGood : How
+-- how a command ends: by the report of an attention, in a conflict, at fault, or GOOD with its effect;
+-- or it is refused, by BUSY or by TASK SET FULL
+pub data Ending : Type 0 where
+  Reports : Attention → Ending
+  Conflicts : Ending
+  Fails : Ending
+  EndsGood : Ending
+  Refuses : Refused → Ending
 
 -- the attention is reported, and is pending no more
 abbrev pub IsReport : Command → ℕ → UnitState → Attention → Reply → UnitState → Type 0
@@ -134,12 +165,26 @@ MayReport c h u ReservationsPreempted = (is_pending u h power_on ≡ false) × (
 MayReport c h u ReservationsReleased = (is_pending u h power_on ≡ false) × (command_conflicts u.registry h c ≡ false)
 MayReport c h u RegistrationsPreempted = (is_pending u h power_on ≡ false) × (command_conflicts u.registry h c ≡ false)
 
+abbrev pub refusal : Refused → Reply
+refusal refused.Busy = busy
+refusal refused.Full = full
+
+-- such an end may come where the sender may meet these refusals
+abbrev pub comes : Refusals → Ending → Bool
+comes d (Reports a) = true
+comes d Conflicts = true
+comes d Fails = true
+comes d EndsGood = true
+comes d (Refuses refused.Busy) = d.busy
+comes d (Refuses refused.Full) = d.full
+
 -- in state u the command of h ends so, with this reply, and then the state is w
-abbrev pub Ends : How → Command → ℕ → UnitState → Reply → UnitState → Type 0
+abbrev pub Ends : Ending → Command → ℕ → UnitState → Reply → UnitState → Type 0
 Ends (Reports a) c h u r w = MayReport c h u a × IsReport c h u a r w
 Ends Conflicts c h u r w = (is_pending u h power_on ≡ false) × (command_conflicts u.registry h c ≡ true) × (r ≡ conflict) × (w ≡ u)
 Ends Fails c h u r w = (is_any_pending u h ≡ false) × (command_conflicts u.registry h c ≡ false) × (s : Sense) × (command_fault u.registry h c ≡ Some s) × (r ≡ check s) × (w ≡ u)
 Ends EndsGood c h u r w = (is_any_pending u h ≡ false) × (command_conflicts u.registry h c ≡ false) × (command_fault u.registry h c ≡ None) × (r ≡ good (data_of u.registry c)) × (w ≡ effect u h c)
+Ends (Refuses k) c h u r w = (r ≡ refusal k) × (w ≡ u)
 
 -- where GOOD lands by the arm that takes the data, from 1, if one does
 abbrev pub landing_at : ℕ → Landing
@@ -147,12 +192,12 @@ landing_at zero = NoArm Good
 landing_at (suc n) = Arm n
 
 -- from a shown state the owner's command ends so, with this landing, and this is so after it
-pub record LandsBy (v : View) (c : Command) (tests : List Test) (how : How) (l : Landing) (i : Item) : Type 0 where
+pub record LandsBy (v : View) (c : Command) (tests : List Test) (ending : Ending) (l : Landing) (i : Item) : Type 0 where
   pub from : UnitState
   pub shown : Shows v from
   pub reply : Reply
   pub after : UnitState
-  pub ends : Ends how c v.scope.own from reply after
+  pub ends : Ends ending c v.scope.own from reply after
   pub landing : IsLanding tests reply l
   pub is : IsSo v.scope after i
 

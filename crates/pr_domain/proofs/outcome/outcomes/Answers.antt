@@ -38,7 +38,7 @@ returns-clause-outcomes g c =
     let same : keys ≡ view.keys.items = c.deref-keys.ensures.0 in
     let s : Scope = record { own = c.args.host; hosts = view.hosts; keys = keys } in
     let t : Scope = scope_of c.args.host view in
-    same_outcomes (view_in s known) (view_of members c.args.host view) c.args.command.now c.args.tests.now (map (λ o. (o.0, view_of members c.args.host o.1)) c.in_ok-outcomes.outcomes.items)
+    same_outcomes (view_in s known) (view_of members c.args.host view) c.args.refusals c.args.command.now c.args.tests.now (map (λ o. (o.0, view_of members c.args.host o.1)) c.in_ok-outcomes.outcomes.items)
     (λ j. record { own = c.args.host; hosts = view.hosts; keys = same j })
     (λ i is. (c.possibilities-known.ensures.same c.args.host i).0 (possible_scope s t known refl i is))
     (λ i is. possible_scope t s known refl i ((c.possibilities-known.ensures.same c.args.host i).1 is))
