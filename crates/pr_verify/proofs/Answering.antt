@@ -4,7 +4,8 @@ use Rattle.std.specs.List.{slice_get, All}
 use Rattle.std.proofs.lemmas.Option.{same_Some, slice_get_within, slice_get_read, slice_get-get_or}
 use Rattle.pr_cdb.specs.declared.command.Command.{Command}
 use Rattle.pr_script.specs.declared.script.Test.{Test}
-use Rattle.pr_roles.specs.Scenarios.{Scenario}
+use Rattle.pr_roles.specs.declared.how.Refusals.{Refusals}
+use Rattle.pr_roles.specs.Scenarios.{scenario_of}
 use Rattle.pr_sets.specs.Numbers.{Numbers}
 use Rattle.pr_views.specs.declared.view.ViewOf.{ViewOf}
 use Rattle.pr_views.specs.Rooms.{view_of, scope_of, IsMade, AreAlike}
@@ -15,7 +16,7 @@ use Rattle.pr_verify.specs.declared.answers.Questions.{Questions}
 use Rattle.pr_verify.specs.declared.known.Answer.{Answer}
 use Rattle.pr_verify.specs.declared.places.Spot.{Spot}
 use Rattle.pr_verify.specs.Rooms.{IsMadeFor}
-use Rattle.pr_verify.specs.inside.Asked.{AreAsked, IsAnswerTo, AreAnswersTo, IsAskedBefore, IsAnsweredAt}
+use Rattle.pr_verify.specs.inside.Asked.{refusals_for, AreAsked, IsAnswerTo, AreAnswersTo, IsAskedBefore, IsAnsweredAt}
 use Rattle.pr_verify.specs.inside.Inferring.{IsOf, AreWritten}
 use Rattle.pr_verify.specs.inside.Known.{ComesTo, AskTheSame, IsAnswer, IsAnswerAt, AreEqual}
 use Rattle.pr_verify.specs.inside.Listing.{place_of, IsPlaceWritten}
@@ -27,25 +28,26 @@ use Rattle.pr_verify.proofs.Sketches.{item_is}
 -- ---- views
 
 -- what comes of one view comes of an equal one, where the same is sent
-comes_to_equal : {S : Type 0} (members : S → Numbers) (own : ℕ) (v w : ViewOf S) (p q : Spot) (outcomes : List (Landing × ViewOf S)) → v.keys.items ≡ w.keys.items → v.hosts ≡ w.hosts
-    → AreEqual members v w → AskTheSame p q → ComesTo members own v p outcomes → ComesTo members own w q outcomes
-comes_to_equal {S} members own v w p q outcomes keys hosts equal same is =
+comes_to_equal : {S : Type 0} (members : S → Numbers) (own : ℕ) (d : Refusals) (v w : ViewOf S) (p q : Spot) (outcomes : List (Landing × ViewOf S)) → v.keys.items ≡ w.keys.items → v.hosts ≡ w.hosts
+    → AreEqual members v w → AskTheSame p q → ComesTo members own d v p outcomes → ComesTo members own d w q outcomes
+comes_to_equal {S} members own d v w p q outcomes keys hosts equal same is =
     let them = map (λ (o : Landing × ViewOf S). (o.0, view_of members own o.1)) outcomes in
     let scope : scope_of own v ≡ scope_of own w = λ i. record { own = own; hosts = hosts i; keys = keys i } in
-    same_outcomes (view_of members own v) (view_of members own w) q.command q.tests.items them scope (equal.there own) (equal.back own)
-    (subst (λ (ts : List Test). AreOutcomes (view_of members own v) q.command ts them) same.tests
-    (subst (λ (c : Command). AreOutcomes (view_of members own v) c p.tests.items them) same.command is))
+    same_outcomes (view_of members own v) (view_of members own w) d q.command q.tests.items them scope (equal.there own) (equal.back own)
+    (subst (λ (ts : List Test). AreOutcomes (view_of members own v) d q.command ts them) same.tests
+    (subst (λ (c : Command). AreOutcomes (view_of members own v) d c p.tests.items them) same.command is))
 
 -- ---- questions
 
 -- those of a script, and of an outline of the scenario
-pub asked_in : {S : Type 0} (room : S → ℕ) (s : Scenario) (q : Questions (ViewOf S)) → q.outline.now.host < length s.nexuses → IsMadeFor room s q.outline.now → AreWritten s.keys q.spots.now
+pub asked_in : {S : Type 0} (room : S → ℕ) (q : Questions (ViewOf S)) → q.outline.now.host < length (scenario_of q.scenario.now).nexuses → IsMadeFor room (scenario_of q.scenario.now) q.outline.now → AreWritten (scenario_of q.scenario.now).keys q.spots.now
     → map (λ e. e.0) q.outline.now.views.items ≡ map (λ p. p.line) q.spots.now → AreAsked room q
-asked_in room s q host made written listed = record {
-  keys = s.keys;
-  hosts = length s.nexuses;
+asked_in room q host made written listed = record {
+  keys = (scenario_of q.scenario.now).keys;
+  hosts = length (scenario_of q.scenario.now).nexuses;
   kind = made;
   host = host;
+  declared = host;
   written = written;
   each = as_many (λ (p : Spot). p.line) q.outline.now.views.items q.spots.now listed;
 }
@@ -85,12 +87,12 @@ module _ {S : Type 0} (members : S → Numbers) (room : S → ℕ) (q : Question
         answer = a;
         there = before.there;
         kind = λ i x within. let of = is.kind i x within in (of.0, of.1 ∙ keys, of.2 ∙ hosts);
-        outcomes = comes_to_equal members q.outline.now.host d.1 e.1 r p a.outcomes.items keys hosts (before.same.views d e there shown) (before.same.sends r p sent here) (is.outcomes r sent);
+        outcomes = comes_to_equal members q.outline.now.host (refusals_for q) d.1 e.1 r p a.outcomes.items keys hosts (before.same.views d e there shown) (before.same.sends r p sent here) (is.outcomes r sent);
       }
 
   -- what is answered is there
   module _ (known : List (Answer (ViewOf S))) (k : ℕ) (at : IsAnsweredAt members room q place known k) where
-    answer_for : (p : Spot) (e : ℕ × ViewOf S) → p ≡ get_or q.spots.now place p → e ≡ get_or q.outline.now.views.items place e → IsAnswerAt members room q.outline.now.host p e.1 known k
+    answer_for : (p : Spot) (e : ℕ × ViewOf S) → p ≡ get_or q.spots.now place p → e ≡ get_or q.outline.now.views.items place e → IsAnswerAt members room q.outline.now.host (refusals_for q) p e.1 known k
     answer_for p e sent shown =
         at p e (slice_get_read q.spots.now (length q.spots.now) place p refl small sent)
         (slice_get_read q.outline.now.views.items (length q.outline.now.views.items) place e refl has_view shown)
@@ -114,13 +116,13 @@ module _ {S : Type 0} (members : S → Numbers) (room : S → ℕ) (q : Question
           subst (All (λ (o : Landing × ViewOf S). IsMade room o.1 × AreAlike e.1 o.1)) (sym the_outcomes)
           (λ i x within. let of = (answer_for p e sent shown).kind i x within in (of.0, record { keys = sym of.1; hosts = sym of.2 }))
 
-      pub outcomes_read : ComesTo members q.outline.now.host e.1 p xs
-      outcomes_read = subst (ComesTo members q.outline.now.host e.1 p) (sym the_outcomes) (answer_for p e sent shown).outcomes
+      pub outcomes_read : ComesTo members q.outline.now.host (refusals_for q) e.1 p xs
+      outcomes_read = subst (ComesTo members q.outline.now.host (refusals_for q) e.1 p) (sym the_outcomes) (answer_for p e sent shown).outcomes
 
   -- a new answer
   module _ (p : Spot) (e : ℕ × ViewOf S) (sent : p ≡ get_or q.spots.now place p) (shown : e ≡ get_or q.outline.now.views.items place e) (a : Answer (ViewOf S)) (asks : a.spot ≡ place)
       (made : All (λ o. IsMade room o.1 × AreAlike e.1 o.1) a.outcomes.items) (tests : List Test) (same : tests ≡ p.tests.items)
-      (outcomes : AreOutcomes (view_of members q.outline.now.host e.1) p.command tests (map (λ o. (o.0, view_of members q.outline.now.host o.1)) a.outcomes.items)) where
+      (d : Refusals) (may : d ≡ refusals_for q) (outcomes : AreOutcomes (view_of members q.outline.now.host e.1) d p.command tests (map (λ o. (o.0, view_of members q.outline.now.host o.1)) a.outcomes.items)) where
     the_entry : (x : ℕ × ViewOf S) → slice_get q.outline.now.views.items place ≡ Some x → e ≡ x
     the_entry x is = same_Some e x (sym (slice_get_read q.outline.now.views.items (length q.outline.now.views.items) place e refl has_view shown) ∙ is)
 
@@ -128,11 +130,11 @@ module _ {S : Type 0} (members : S → Numbers) (room : S → ℕ) (q : Question
     answer_to = record {
       there = subst (λ n. n < length q.spots.now) (sym asks) small;
       answer = λ x is.
-          subst (λ (y : ℕ × ViewOf S). IsAnswer members room q.outline.now.host q.spots.now y.1 a) (the_entry x (ap (slice_get q.outline.now.views.items) (sym asks) ∙ is))
-          (answer_is members room q.outline.now.host q.spots.now e.1 place p a small sent asks made tests same outcomes);
+          subst (λ (y : ℕ × ViewOf S). IsAnswer members room q.outline.now.host (refusals_for q) q.spots.now y.1 a) (the_entry x (ap (slice_get q.outline.now.views.items) (sym asks) ∙ is))
+          (answer_is members room q.outline.now.host (refusals_for q) q.spots.now e.1 place p a small sent asks made tests same d may outcomes);
     }
 
     pub answered_now : (old known : List (Answer (ViewOf S))) (n : ℕ) → known ≡ old ++ a ∷ [] → n ≡ length old → IsAnsweredAt members room q place known n
     answered_now old known n pushed count r x here is =
-        subst (λ (y : ℕ × ViewOf S). IsAnswerAt members room q.outline.now.host r y.1 known n) (the_entry x is)
-        (answered_at members room q.outline.now.host q.spots.now e.1 place p a small sent asks made tests same outcomes old known n pushed count r here)
+        subst (λ (y : ℕ × ViewOf S). IsAnswerAt members room q.outline.now.host (refusals_for q) r y.1 known n) (the_entry x is)
+        (answered_at members room q.outline.now.host (refusals_for q) q.spots.now e.1 place p a small sent asks made tests same d may outcomes old known n pushed count r here)

@@ -74,29 +74,29 @@ module _ (s : Scenario) (script : Stmts) (o : Outline) (spots : List Spot) (plac
 
   -- ---- what the views lack
 
-  all_asked : (line : ℕ) → (HasAll o (StartsAt s script) line × EachOf (length spots) spots (λ x. HasAll o (ComesTo o (place_of x)) line)) × HasAll o (IsLeftAt s o) line → HasAll o (IsAsked s script o) line
+  all_asked : (line : ℕ) → (HasAll o (StartsAt s script) line × EachOf (length spots) spots (λ x. HasAll o (ComesTo s o (place_of x)) line)) × HasAll o (IsLeftAt s o) line → HasAll o (IsAsked s script o) line
   all_asked line has u (at_start asks) = has.0.0 u asks
   all_asked line has u (by_itself p there asks) =
       let x = spot_at p there in
-      each_listed (λ y. HasAll o (ComesTo o (place_of y)) line) spots has.0.1 x.0 x.1 u (subst (λ q. ComesTo o q line u) (sym x.2) asks)
+      each_listed (λ y. HasAll o (ComesTo s o (place_of y)) line) spots has.0.1 x.0 x.1 u (subst (λ q. ComesTo s o q line u) (sym x.2) asks)
   all_asked line has u (by_another asks) = has.1 u asks
 
-  one_asked : (line : ℕ) → (Lacks o (StartsAt s script) line ⊎ Among (length spots) spots (λ x. Lacks o (ComesTo o (place_of x)) line)) ⊎ Lacks o (IsLeftAt s o) line → Lacks o (IsAsked s script o) line
+  one_asked : (line : ℕ) → (Lacks o (StartsAt s script) line ⊎ Among (length spots) spots (λ x. Lacks o (ComesTo s o (place_of x)) line)) ⊎ Lacks o (IsLeftAt s o) line → Lacks o (IsAsked s script o) line
   one_asked line (inl (inl lacks)) = record { unit = lacks.unit; asks = at_start lacks.asks; missing = lacks.missing }
   one_asked line (inl (inr one)) = record {
     unit = one.is.unit;
-    asks = by_itself (place_of one.element) (place_at one.element (listed_among (λ x. Lacks o (ComesTo o (place_of x)) line) spots one)) one.is.asks;
+    asks = by_itself (place_of one.element) (place_at one.element (listed_among (λ x. Lacks o (ComesTo s o (place_of x)) line) spots one)) one.is.asks;
     missing = one.is.missing;
   }
   one_asked line (inr lacks) = record { unit = lacks.unit; asks = by_another lacks.asks; missing = lacks.missing }
 
-  pub lacking : (start own others : Option ℕ) → IsFirstLacking o (StartsAt s script) start → IsLackingOfSends o (length spots) spots own → IsFirstLacking o (IsLeftAt s o) others
+  pub lacking : (start own others : Option ℕ) → IsFirstLacking o (StartsAt s script) start → IsLackingOfSends s o (length spots) spots own → IsFirstLacking o (IsLeftAt s o) others
       → IsFirstLacking o (IsAsked s script o) (least (least start own) others)
   lacking start own others first second third =
       least_as _ _ (HasAll o (IsAsked s script o)) (Lacks o (IsAsked s script o)) (least (least start own) others) all_asked one_asked
       (least_either _ _ (HasAll o (IsLeftAt s o)) (Lacks o (IsLeftAt s o)) (least start own) others
-      (least_either (HasAll o (StartsAt s script)) (Lacks o (StartsAt s script)) (λ line. EachOf (length spots) spots (λ x. HasAll o (ComesTo o (place_of x)) line))
-      (λ line. Among (length spots) spots (λ x. Lacks o (ComesTo o (place_of x)) line)) start own first second) third)
+      (least_either (HasAll o (StartsAt s script)) (Lacks o (StartsAt s script)) (λ line. EachOf (length spots) spots (λ x. HasAll o (ComesTo s o (place_of x)) line))
+      (λ line. Among (length spots) spots (λ x. Lacks o (ComesTo s o (place_of x)) line)) start own first second) third)
 
   pub is_sound : IsListed script o → IsOfScenario s o → IsFirstLacking o (IsAsked s script o) None → IsSound s script o
   is_sound listed scenario all = record { listed = listed; scenario = scenario; shows = all }
@@ -147,7 +147,7 @@ module _ (s : Scenario) (script : Stmts) (o : Outline) (spots : List Spot) (plac
       }
 
       at : (r : Refusal) → refusal ≡ r → IsReason s o (place_of one.spot) r → IsRefusal s script budget o r
-      at (NoArm host line class) is reason = (reason.0, unfit (λ p. KeepsToRole s o p × LacksArmFirst o p class) line reason.1 (reason.2, reason.3))
+      at (NoArm host line class) is reason = (reason.0, unfit (λ p. KeepsToRole s o p × LacksArmFirst s o p class) line reason.1 (reason.2, reason.3))
       at (OutOfRole host line) is reason = (reason.0, unfit (BreaksRole s o) line reason.1 reason.2)
       at (OverBudget host cost) is reason = absurd reason
       at Memory is reason = absurd reason

@@ -15,6 +15,7 @@ use Rattle.pr_unit.proofs.GoodSteps.{good_step}
 use Rattle.pr_unit.proofs.Pairs.{contains-none}
 use Rattle.pr_script.specs.declared.script.Test.TheVariants.{Good, Conflict}
 use Rattle.pr_script.specs.Scripts.{Stmt, Stmts, sends, repeats, breaks, stops, none, more, no_arm, arm, settled_form}
+use Rattle.pr_roles.specs.declared.how.How.TheVariants as how
 use Rattle.pr_roles.specs.Scenarios.{Scenario, Nexus, Scripted, nexus}
 use Rattle.pr_roles.specs.Starts.{IsAllowedStart}
 use Rattle.pr_roles.specs.Worlds.{World, Host, HostSends, after, control, is_trapped, world_from}
@@ -75,10 +76,11 @@ sent_in_an_arm = refl
 -- one host, which takes no reply to its TEST UNIT READY
 lacking : Scenario
 lacking = record {
+  version = 1;
   keys = [];
   reservations = None ∷ [];
   generation = 0;
-  nexuses = record { name = 0x61 ∷ []; role = []; start = None ∷ []; pending = no_code; task = Scripted (more (sends 1 TestUnitReady no_arm) none) 1 } ∷ [];
+  nexuses = record { name = 0x61 ∷ []; role = []; start = None ∷ []; pending = no_code; task = Scripted (more (sends 1 TestUnitReady no_arm) none) 1; busy = 0; full = 0 } ∷ [];
 }
 
 fresh_unit : UnitState
@@ -106,15 +108,16 @@ nothing_pending = simp contains-none refl
 answered : World
 answered = after (world_from lacking fresh_unit) 0 1 (spelling TestUnitReady) (good []) (effect fresh_unit 0 TestUnitReady)
 
-is_answered : HostSends (world_from lacking fresh_unit) 0 answered
+is_answered : HostSends lacking (world_from lacking fresh_unit) 0 how.Plain answered
 unfolding lacking answered settled_form
 is_answered = record {
+  room = refl;
   line = 1;
   command = TestUnitReady;
   ready = refl;
   reply = good [];
   unit = effect fresh_unit 0 TestUnitReady;
-  step = good_step fresh_unit 0 TestUnitReady nothing_pending refl refl;
+  answer = good_step fresh_unit 0 TestUnitReady nothing_pending refl refl;
   world = refl;
 }
 
@@ -125,5 +128,5 @@ gets_trapped = refl
 is_not_safe : IsSafe lacking → ⊥
 unfolding IsSafe
 is_not_safe safe =
-    let run = safe fresh_unit starts_fresh (Host 0 ∷ []) answered (answered, is_answered, refl) in
+    let run = safe fresh_unit starts_fresh (Host 0 how.Plain ∷ []) answered (answered, is_answered, refl) in
     false≢true (sym (run.0 0).0 ∙ gets_trapped)

@@ -10,6 +10,7 @@ use Rattle.pr_unit.specs.UnitStates.{UnitState}
 use Rattle.pr_unit.specs.Steps.{Step}
 use Rattle.pr_script.specs.declared.script.Test.TheVariants as test
 use Rattle.pr_script.specs.Takes.{matches}
+use Rattle.pr_roles.specs.Answers.{Answered, refusals_of}
 use Rattle.pr_roles.specs.Permits.{command_permitted}
 use Rattle.pr_roles.specs.Scenarios.{Scenario, role}
 use Rattle.pr_sets.specs.Numbers.{Numbers}
@@ -48,6 +49,12 @@ module _ (s : Scenario) (o : Outline) (p : Place) (v : View) (here : IsHere o p 
   pub step_host : (u : UnitState) (r : Reply) (after : UnitState) → Step u v.scope.own (Plain p.command) r after → Step u o.host (Plain p.command) r after
   step_host u r after step = subst (λ h. Step u h (Plain p.command) r after) here.own step
 
+  pub answer_own : (u : UnitState) (r : Reply) (after : UnitState) → Answered (refusals_of s o.host) u o.host (Plain p.command) r after → Answered (refusals_of s o.host) u v.scope.own (Plain p.command) r after
+  answer_own u r after answer = subst (λ h. Answered (refusals_of s o.host) u h (Plain p.command) r after) (sym here.own) answer
+
+  pub answer_host : (u : UnitState) (r : Reply) (after : UnitState) → Answered (refusals_of s o.host) u v.scope.own (Plain p.command) r after → Answered (refusals_of s o.host) u o.host (Plain p.command) r after
+  answer_host u r after answer = subst (λ h. Answered (refusals_of s o.host) u h (Plain p.command) r after) here.own answer
+
   -- ---- the role
 
   pub keeps_role : IsPermittedIn v (role s o.host) p.command → KeepsToRole s o p
@@ -67,7 +74,7 @@ module _ (s : Scenario) (o : Outline) (p : Place) (v : View) (here : IsHere o p 
 
   -- ---- the arms
 
-  module _ {S : Type 0} (members : S → Numbers) (own : ℕ) (xs : List (Landing × ViewOf S)) (are : AreOutcomes v p.command p.tests (map (λ x. (x.0, view_of members own x.1)) xs)) where
+  module _ {S : Type 0} (members : S → Numbers) (own : ℕ) (xs : List (Landing × ViewOf S)) (are : AreOutcomes v (refusals_of s o.host) p.command p.tests (map (λ x. (x.0, view_of members own x.1)) xs)) where
     outcome_of : Landing × ViewOf S → Outcome
     outcome_of x = (x.0, view_of members own x.1)
 
@@ -82,17 +89,17 @@ module _ (s : Scenario) (o : Outline) (p : Place) (v : View) (here : IsHere o p 
         let small = (position-Some (λ t. matches t r) p.tests n test.Good first).0 in
         ap (λ m. is_some (option_and_then (slice_get p.next) m)) first ∙ ap is_some (slice_get-get_or p.next n [] (omega arith))
 
-    pub has_arms : length p.next ≡ length p.tests → ((class : Class) → IsUnarmed (length xs) xs class → ⊥) → HasArms o p
-    has_arms same none u r after shown step = at one.outcome.0 refl one.landing
+    pub has_arms : length p.next ≡ length p.tests → ((class : Class) → IsUnarmed (length xs) xs class → ⊥) → HasArms s o p
+    has_arms same none u r after shown answer = at one.outcome.0 refl one.landing
       where
         one : IsExpected (map (λ x. (x.0, view_of members own x.1)) xs) p.tests r after
-        one = are.cover u r after (shown_here u shown) (step_own u r after step)
+        one = are.cover u r after (shown_here u shown) (answer_own u r after answer)
 
         at : (l : Landing) → one.outcome.0 ≡ l → IsLanding p.tests r l → is_some (follows p r) ≡ true
         at (Arm n) is first = some_arm r n same first
         at (NoArm class) is ends = absurd (none class (unarmed_listed one.outcome class one.listed is))
 
-    pub lacks_arm : (class : Class) → IsUnarmed (length xs) xs class → LacksArm o p class
+    pub lacks_arm : (class : Class) → IsUnarmed (length xs) xs class → LacksArm s o p class
     lacks_arm class one =
         let listed = mapped (λ x. (x.0, view_of members own x.1)) xs one.element (listed_among (λ x. x.0 ≡ NoArm class) xs one) in
         let come = are.come (one.element.0, view_of members own one.element.1) listed in
@@ -103,24 +110,24 @@ module _ (s : Scenario) (o : Outline) (p : Place) (v : View) (here : IsHere o p 
           shown = shown_there lands.from lands.shown;
           reply = lands.reply;
           after = lands.after;
-          step = step_host lands.from lands.reply lands.after lands.step;
+          answer = answer_host lands.from lands.reply lands.after lands.answer;
           none = ends.0;
           ends = ends.1;
         }
 
     -- the class of a reply that finds no arm is listed
-    pub lacking_listed : (class : Class) → LacksArm o p class → IsUnarmed (length xs) xs class
+    pub lacking_listed : (class : Class) → LacksArm s o p class → IsUnarmed (length xs) xs class
     lacking_listed class lacks = at one.outcome.0 refl one.landing
       where
         one : IsExpected (map (λ x. (x.0, view_of members own x.1)) xs) p.tests lacks.reply lacks.after
-        one = are.cover lacks.from lacks.reply lacks.after (shown_here lacks.from lacks.shown) (step_own lacks.from lacks.reply lacks.after lacks.step)
+        one = are.cover lacks.from lacks.reply lacks.after (shown_here lacks.from lacks.shown) (answer_own lacks.from lacks.reply lacks.after lacks.answer)
 
         at : (l : Landing) → one.outcome.0 ≡ l → IsLanding p.tests lacks.reply l → IsUnarmed (length xs) xs class
         at (Arm n) is first = let bad : None ≡ Some n = sym lacks.none ∙ first in cc
         at (NoArm other) is ends =
             unarmed_listed one.outcome class one.listed (is ∙ ap (λ c. NoArm c) (one_class lacks.reply other class ends.1 lacks.ends))
 
-    pub lacks_arm_first : (class : Class) → IsUnarmed (length xs) xs class → ((other : Class) → IsUnarmed (length xs) xs other → class_number class ≤ class_number other) → LacksArmFirst o p class
+    pub lacks_arm_first : (class : Class) → IsUnarmed (length xs) xs class → ((other : Class) → IsUnarmed (length xs) xs other → class_number class ≤ class_number other) → LacksArmFirst s o p class
     lacks_arm_first class is first = record {
       lacks = lacks_arm class is;
       first = λ other less lacks. let more = first other (lacking_listed other lacks) in omega arith;

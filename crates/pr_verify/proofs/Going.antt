@@ -20,7 +20,7 @@ runs_go_on s w v x es e run happens = (goes s w v x es e run happens).0
 
 pub safe_sends_are_fine : SafeSendsAreFine
 unfolding IsSafe
-safe_sends_are_fine s u es w h v safe allowed run sends =
-    let longer = goes s (world_from s u) w v es (Host h) run sends in
-    let after = safe u allowed (es ++ Host h ∷ []) v longer.0 in
+safe_sends_are_fine s u es w h how v safe allowed run sends =
+    let longer = goes s (world_from s u) w v es (Host h how) run sends in
+    let after = safe u allowed (es ++ Host h how ∷ []) v longer.0 in
     record { arm = (after.0 h).0; budget = (after.0 h).1; role = longer.1 after.1 }

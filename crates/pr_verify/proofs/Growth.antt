@@ -7,6 +7,7 @@ use Rattle.pr_domain.specs.inside.Closing.{count_of_lacking, count_of_all_lackin
 use Rattle.pr_domain.proofs.Closed.{Passes, lacking_less, lacking_fewer, lacking_all_less, lacking_all_fewer}
 use Rattle.pr_domain.proofs.Following.{few_keys}
 use Rattle.pr_verify.specs.inside.Inferring.{has_registration, lacks}
+use Rattle.pr_sets.specs.Numbers.{most}
 
 -- ---- what lacks no less has the same
 
@@ -17,7 +18,7 @@ lacks_no_less n k p q small goes same has_it = at (p k) refl
     at true is = is
     at false is = absurd (let fewer = lacking_fewer n k p q small goes is has_it in omega arith)
 
-all_lack_no_less : (n g k : ℕ) (p q : ℕ → ℕ → Bool) → g < n → k < 64 → ((h : ℕ) → Passes (p h) (q h)) → count_of_all_lacking n p ≤ count_of_all_lacking n q → q g k ≡ true → p g k ≡ true
+all_lack_no_less : (n g k : ℕ) (p q : ℕ → ℕ → Bool) → g < n → k < most → ((h : ℕ) → Passes (p h) (q h)) → count_of_all_lacking n p ≤ count_of_all_lacking n q → q g k ≡ true → p g k ≡ true
 all_lack_no_less n g k p q there small goes same has_it = at (p g k) refl
   where
     at : (b : Bool) → p g k ≡ b → p g k ≡ true
@@ -41,15 +42,15 @@ module _ (v w : View) (hosts : w.scope.hosts ≡ v.scope.hosts) (within : Within
   registrations_less : count_of_all_lacking v.scope.hosts (has_registration w) ≤ count_of_all_lacking v.scope.hosts (has_registration v)
   registrations_less = lacking_all_less v.scope.hosts (has_registration v) (has_registration w) has_more
 
-  reservations_less : count_of_lacking 64 w.reservations ≤ count_of_lacking 64 v.reservations
-  reservations_less = lacking_less 64 v.reservations w.reservations (λ x is. within (Reservation x) is)
+  reservations_less : count_of_lacking most w.reservations ≤ count_of_lacking most v.reservations
+  reservations_less = lacking_less most v.reservations w.reservations (λ x is. within (Reservation x) is)
 
-  attentions_less : count_of_lacking 64 w.pending ≤ count_of_lacking 64 v.pending
-  attentions_less = lacking_less 64 v.pending w.pending (λ q is. within (Attentions q) is)
+  attentions_less : count_of_lacking most w.pending ≤ count_of_lacking most v.pending
+  attentions_less = lacking_less most v.pending w.pending (λ q is. within (Attentions q) is)
 
-  lacks_by : lacks w ≡ count_of_all_lacking v.scope.hosts (has_registration w) + (count_of_lacking 64 w.reservations + count_of_lacking 64 w.pending)
+  lacks_by : lacks w ≡ count_of_all_lacking v.scope.hosts (has_registration w) + (count_of_lacking most w.reservations + count_of_lacking most w.pending)
   unfolding lacks
-  lacks_by = ap (λ n. count_of_all_lacking n (has_registration w) + (count_of_lacking 64 w.reservations + count_of_lacking 64 w.pending)) hosts
+  lacks_by = ap (λ n. count_of_all_lacking n (has_registration w) + (count_of_lacking most w.reservations + count_of_lacking most w.pending)) hosts
 
   -- what has all that another has lacks no more
   pub lacks_less : lacks w ≤ lacks v
@@ -84,14 +85,14 @@ module _ (v w : View) (hosts : w.scope.hosts ≡ v.scope.hosts) (within : Within
         let by = lacks_by in
         let few = fits.scope.hosts.1 in
         let small = fits.reservations x is in
-        lacks_no_less 64 x v.reservations w.reservations (omega arith) (λ y had. within (Reservation y) had) (omega arith) (joined (Reservation x) is)
+        lacks_no_less most x v.reservations w.reservations (omega arith) (λ y had. within (Reservation y) had) (omega arith) (joined (Reservation x) is)
     nothing_more same (Attentions q) is =
         let one = registrations_less in
         let two = reservations_less in
         let three = attentions_less in
         let by = lacks_by in
         let small = fits.pending q is in
-        lacks_no_less 64 q v.pending w.pending (omega arith) (λ y had. within (Attentions y) had) (omega arith) (joined (Attentions q) is)
+        lacks_no_less most q v.pending w.pending (omega arith) (λ y had. within (Attentions y) had) (omega arith) (joined (Attentions q) is)
 
     -- so if it was without something of what was joined, it lacks fewer
     pub lacks_fewer : (Within o v → ⊥) → lacks w < lacks v

@@ -10,6 +10,7 @@ use Rattle.pr_unit.specs.UnitStates.{UnitState}
 use Rattle.pr_unit.specs.Steps.{Step}
 use Rattle.pr_script.specs.Scripts.{Stmts}
 use Rattle.pr_roles.specs.Permits.{command_permitted}
+use Rattle.pr_roles.specs.Answers.{Answered, refusals_of}
 use Rattle.pr_roles.specs.Scenarios.{Scenario, Scripted, role, task}
 use Rattle.pr_views.specs.Views.{View}
 use Rattle.pr_views.proofs.Showing.{shown_within}
@@ -45,12 +46,12 @@ role_broken s h script budget o p host least listed breaks one =
     let permitted = one.fitting.role p listed breaks.from breaks.reply breaks.after shown (subst (λ g. Step breaks.from g (Plain p.command) breaks.reply breaks.after) (sym same) breaks.step) breaks.good in
     false≢true (sym breaks.refused ∙ subst (λ g. command_permitted (role s g) breaks.from.registry g p.command ≡ true) same permitted)
 
-arm_lacking : (s : Scenario) (h : ℕ) (script : Stmts) (budget : ℕ) (o : Outline) (p : Place) (class : _) → o.host ≡ h → IsLeastSound s script o → Contains (places_of script) p → LacksArm o p class → HasOutline s h script budget → ⊥
+arm_lacking : (s : Scenario) (h : ℕ) (script : Stmts) (budget : ℕ) (o : Outline) (p : Place) (class : _) → o.host ≡ h → IsLeastSound s script o → Contains (places_of script) p → LacksArm s o p class → HasOutline s h script budget → ⊥
 arm_lacking s h script budget o p class host least listed lacks one =
     let x = one.outline in
     let same : x.host ≡ o.host = one.host ∙ sym host in
     let shown = shown_by_each s script o x least same one.sound p.line lacks.from lacks.shown in
-    let some = one.fitting.arms p listed lacks.from lacks.reply lacks.after shown (subst (λ g. Step lacks.from g (Plain p.command) lacks.reply lacks.after) (sym same) lacks.step) in
+    let some = one.fitting.arms p listed lacks.from lacks.reply lacks.after shown (subst (λ g. Answered (refusals_of s g) lacks.from g (Plain p.command) lacks.reply lacks.after) (sym same) lacks.answer) in
     false≢true (subst (λ f. is_some f ≡ true) (ap (option_and_then (slice_get p.next)) lacks.none) some)
 
 pub reasons_are_final : ReasonsAreFinal

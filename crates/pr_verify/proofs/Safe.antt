@@ -17,6 +17,6 @@ on_course_is_fine s w h (Some (Planned commands)) free = (ap is_trapped free, tt
 
 pub outlines_make_safe : OutlinesMakeSafe
 unfolding IsSafe
-outlines_make_safe s have u allowed es w run =
-    let all = run_kept s (world_from s u) es w run (kept_at_start s u have allowed) in
+outlines_make_safe s fields have u allowed es w run =
+    let all = run_kept s (world_from s u) es w run (kept_at_start s u fields have allowed) in
     (λ h. on_course_is_fine s w h (task s h) (all.0 h), all.1)

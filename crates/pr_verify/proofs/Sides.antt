@@ -4,7 +4,7 @@ use Rattle.std.specs.Result.{result_and}
 use Rattle.pr_roles.specs.Scenarios.{Scenario, scenario_of, task}
 use Rattle.pr_verify.specs.declared.each.CheckOf.{CheckOf}
 use Rattle.pr_verify.specs.declared.refusal.Refusal.{Refusal}
-use Rattle.pr_verify.specs.Outlines.{HasOutline, OnScripted}
+use Rattle.pr_verify.specs.Outlines.{HasOutline, OnScripted, SendsFit}
 use Rattle.pr_verify.specs.inside.Checks.{EachFrom, IsAnswerBefore, IsAnswerFor, IsPromised}
 use Rattle.pr_verify.proofs.Outlined.{below_next}
 use Rattle.pr_verify.proofs.Reasons.{is_verdict}
@@ -42,6 +42,9 @@ kept_answer s h promise answer is kept = subst (λ t. IsAnswerFor t h answer) is
 
 -- the answer for one host more
 pub answer_next : (s : Scenario) (n : ℕ) (before one : Result (Unit {0}) Refusal) → IsAnswerBefore s n before → IsAnswerFor s n one → IsAnswerBefore s (n + 1) (result_and before one)
-answer_next s n (Ok u) (Ok v) all here = (below_next (λ h. OnScripted (task s h) (HasOutline s h)) n all.0 here.0, tt)
-answer_next s n (Ok u) (Err refusal) all here = (tt, is_verdict s n refusal here.1 all.0)
-answer_next s n (Err refusal) one all here = (tt, all.1)
+answer_next s n (Ok u) (Ok v) all here = (
+  below_next (λ h. OnScripted (task s h) (HasOutline s h)) n all.0 here.0,
+  (below_next (λ h. OnScripted (task s h) (λ script budget. SendsFit script)) n all.1.0 here.1.0, tt),
+)
+answer_next s n (Ok u) (Err refusal) all here = (tt, (tt, is_verdict s n refusal here.1.1 all.0))
+answer_next s n (Err refusal) one all here = (tt, (tt, all.1.1))

@@ -7,19 +7,21 @@ use Rattle.pr_script.specs.Scripts.{Configuration}
 use Rattle.pr_script.specs.Takes.{take}
 use Rattle.pr_script.specs.Costs.{commands, count_in, commands_sent as sends_on}
 use Rattle.pr_roles.specs.declared.entry.Entry.{Entry}
-use Rattle.pr_roles.specs.Worlds.{commands_by}
+use Rattle.pr_roles.specs.declared.item.Item.{Item}
+use Rattle.pr_roles.specs.declared.item.Item.TheVariants.{Sent}
+use Rattle.pr_roles.specs.Worlds.{commands_by, is_sent_by}
 
-pub sent_other : (es : List Entry) (e : Entry) (h : ℕ) → h ≢ e.host → commands_by (es ++ e ∷ []) h ≡ commands_by es h
+pub sent_other : (es : List Item) (e : Entry) (h : ℕ) → h ≢ e.host → commands_by (es ++ Sent e ∷ []) h ≡ commands_by es h
 sent_other es e h other =
     let differs : (e.host == h) ≡ false = grind (arith, nat_tests) in
-    let more = sum_by_push (λ x. cond (x.host == h) 1 0) es e in
+    let more = sum_by_push (λ x. cond (is_sent_by h x) 1 0) es (Sent e) in
     let none = ap {B = ℕ} (λ b. cond b 1 0) differs in
     omega (arith, more, none)
 
-pub sent_own : (es : List Entry) (e : Entry) (h : ℕ) → e.host ≡ h → commands_by (es ++ e ∷ []) h ≡ commands_by es h + 1
+pub sent_own : (es : List Item) (e : Entry) (h : ℕ) → e.host ≡ h → commands_by (es ++ Sent e ∷ []) h ≡ commands_by es h + 1
 sent_own es e h own =
     let same : (e.host == h) ≡ true = grind (arith, nat_tests) in
-    let more = sum_by_push (λ x. cond (x.host == h) 1 0) es e in
+    let more = sum_by_push (λ x. cond (is_sent_by h x) 1 0) es (Sent e) in
     let one = ap {B = ℕ} (λ b. cond b 1 0) same in
     omega (arith, more, one)
 

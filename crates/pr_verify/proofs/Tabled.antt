@@ -10,6 +10,7 @@ use Rattle.std.proofs.lemmas.List.Quantifiers.{all_pairs_push, position-Some}
 use Rattle.pr_script.specs.declared.script.Test.TheVariants as test
 use Rattle.pr_script.specs.Takes.{matches}
 use Rattle.pr_script.specs.Scripts.{Stmts}
+use Rattle.pr_roles.specs.Answers.{refusals_of}
 use Rattle.pr_roles.specs.Scenarios.{Scenario, Task, Scripted, Planned, role, task}
 use Rattle.pr_sets.specs.Numbers.{Numbers}
 use Rattle.pr_sets.specs.declared.word_set.WordSet.{WordSet}
@@ -17,7 +18,7 @@ use Rattle.pr_views.specs.declared.view.ViewOf.{ViewOf}
 use Rattle.pr_views.specs.Views.{View}
 use Rattle.pr_views.specs.Rooms.{view_of}
 use Rattle.pr_domain.specs.declared.landing.Class.{Class}
-use Rattle.pr_domain.specs.declared.landing.Class.TheVariants.{Good, Conflict, Sense}
+use Rattle.pr_domain.specs.declared.landing.Class.TheVariants.{Good, Conflict, Busy, Full, Sense}
 use Rattle.pr_domain.specs.declared.landing.Landing.{Landing}
 use Rattle.pr_domain.specs.declared.landing.Landing.TheVariants.{Arm, NoArm}
 use Rattle.pr_domain.specs.Landings.{IsLanding}
@@ -34,7 +35,7 @@ use Rattle.pr_verify.specs.inside.Reviewing.{IsUnarmed}
 use Rattle.pr_verify.specs.inside.Tabling.{IsInRange}
 use Rattle.pr_verify.specs.inside.Listing.{place_of}
 use Rattle.pr_verify.proofs.Checked.{place_lines}
-use Rattle.pr_verify.proofs.Fitted.{IsHere, shown_here, shown_there, step_own, step_host, keeps_role, breaks_role, lacks_arm, lacking_listed}
+use Rattle.pr_verify.proofs.Fitted.{IsHere, shown_here, shown_there, answer_own, answer_host, keeps_role, breaks_role, lacks_arm, lacking_listed}
 use Rattle.pr_verify.proofs.Leasts.{among_back}
 use Rattle.pr_verify.proofs.Mapped.{mapped, unmapped}
 
@@ -123,12 +124,28 @@ in_range_more xs n x small read here before class one = at (among_back (λ o. o.
 pub class_alone : (a b : Class) → IsInRange a → IsInRange b → class_number a ≡ class_number b → a ≡ b
 class_alone Good Good one two same = refl
 class_alone Good Conflict one two same = absurd (omega arith)
+class_alone Good Busy one two same = absurd (omega arith)
+class_alone Good Full one two same = absurd (omega arith)
 class_alone Good (Sense t) one two same = absurd (omega arith)
 class_alone Conflict Good one two same = absurd (omega arith)
 class_alone Conflict Conflict one two same = refl
+class_alone Conflict Busy one two same = absurd (omega arith)
+class_alone Conflict Full one two same = absurd (omega arith)
 class_alone Conflict (Sense t) one two same = absurd (omega arith)
+class_alone Busy Good one two same = absurd (omega arith)
+class_alone Busy Conflict one two same = absurd (omega arith)
+class_alone Busy Busy one two same = refl
+class_alone Busy Full one two same = absurd (omega arith)
+class_alone Busy (Sense t) one two same = absurd (omega arith)
+class_alone Full Good one two same = absurd (omega arith)
+class_alone Full Conflict one two same = absurd (omega arith)
+class_alone Full Busy one two same = absurd (omega arith)
+class_alone Full Full one two same = refl
+class_alone Full (Sense t) one two same = absurd (omega arith)
 class_alone (Sense s) Good one two same = absurd (omega arith)
 class_alone (Sense s) Conflict one two same = absurd (omega arith)
+class_alone (Sense s) Busy one two same = absurd (omega arith)
+class_alone (Sense s) Full one two same = absurd (omega arith)
 class_alone (Sense s) (Sense t) one two same =
     let key : s.key ≡ t.key = omega (arith, one.0, one.1, one.2, two.0, two.1, two.2) in
     let asc : s.asc ≡ t.asc = omega (arith, one.0, one.1, one.2, two.0, two.1, two.2) in
@@ -138,17 +155,17 @@ class_alone (Sense s) (Sense t) one two same =
 -- ---- the row
 
 module _ (s : Scenario) (o : Outline) (p : Place) (v : View) (here : IsHere o p v) {S : Type 0} (members : S → Numbers) (own : ℕ) (xs : List (Landing × ViewOf S))
-    (are : AreOutcomes v p.command p.tests (map (λ x. (x.0, view_of members own x.1)) xs)) where
+    (are : AreOutcomes v (refusals_of s o.host) p.command p.tests (map (λ x. (x.0, view_of members own x.1)) xs)) where
   landing_listed : (outcome : Outcome) (l : Landing) → Contains (map (λ x. (x.0, view_of members own x.1)) xs) outcome → outcome.0 ≡ l → Contains (map (λ x. x.0) xs) l
   landing_listed outcome l listed is =
       let one = unmapped (λ x. (x.0, view_of members own x.1)) xs outcome listed in
       subst (Contains (map (λ x. x.0) xs)) (ap (λ (y : Outcome). y.0) one.2 ∙ is) (mapped (λ x. x.0) xs one.0 one.1)
 
-  arm_listed : (n : ℕ) → TakesArm o p n → Contains (map (λ x. x.0) xs) (Arm n)
+  arm_listed : (n : ℕ) → TakesArm s o p n → Contains (map (λ x. x.0) xs) (Arm n)
   arm_listed n takes = at one.outcome.0 refl one.landing
     where
       one : IsExpected (map (λ x. (x.0, view_of members own x.1)) xs) p.tests takes.reply takes.after
-      one = are.cover takes.from takes.reply takes.after (shown_here s o p v here takes.from takes.shown) (step_own s o p v here takes.from takes.reply takes.after takes.step)
+      one = are.cover takes.from takes.reply takes.after (shown_here s o p v here takes.from takes.shown) (answer_own s o p v here takes.from takes.reply takes.after takes.answer)
 
       at : (l : Landing) → one.outcome.0 ≡ l → IsLanding p.tests takes.reply l → Contains (map (λ x. x.0) xs) (Arm n)
       at (Arm m) is first =
@@ -157,7 +174,7 @@ module _ (s : Scenario) (o : Outline) (p : Place) (v : View) (here : IsHere o p 
           landing_listed one.outcome (Arm n) one.listed (is ∙ ap (λ k. Arm k) e)
       at (NoArm class) is ends = let bad : None ≡ Some n = sym ends.0 ∙ takes.taken in cc
 
-  takes_arm : (n : ℕ) → Contains (map (λ x. x.0) xs) (Arm n) → TakesArm o p n
+  takes_arm : (n : ℕ) → Contains (map (λ x. x.0) xs) (Arm n) → TakesArm s o p n
   takes_arm n listed =
       let one = unmapped (λ (x : Landing × ViewOf S). x.0) xs (Arm n) listed in
       let there = mapped (λ (x : Landing × ViewOf S). (x.0, view_of members own x.1)) xs one.0 one.1 in
@@ -168,11 +185,11 @@ module _ (s : Scenario) (o : Outline) (p : Place) (v : View) (here : IsHere o p 
         shown = shown_there s o p v here lands.from lands.shown;
         reply = lands.reply;
         after = lands.after;
-        step = step_host s o p v here lands.from lands.reply lands.after lands.step;
+        answer = answer_host s o p v here lands.from lands.reply lands.after lands.answer;
         taken = subst (IsLanding p.tests lands.reply) one.2 lands.landing;
       }
 
-  small_arm : (n : ℕ) → TakesArm o p n → n < length p.tests
+  small_arm : (n : ℕ) → TakesArm s o p n → n < length p.tests
   small_arm n takes = (position-Some (λ t. matches t takes.reply) p.tests n test.Good takes.taken).0
 
   permitted_is : (b : Bool) → (IsTrue b → IsPermittedIn v (role s o.host) p.command) → (b ≡ false → IsRefusedIn v (role s o.host) p.command) → IsTrue b ↔ KeepsToRole s o p

@@ -17,6 +17,9 @@ use Rattle.pr_unit.specs.Replies.{is_good, report}
 use Rattle.pr_unit.specs.Steps.{Step}
 use Rattle.pr_unit.proofs.GoodFixed.{good_by_decision}
 use Rattle.pr_roles.specs.declared.role.Clause.{Clause}
+use Rattle.pr_roles.specs.declared.how.How.{How}
+use Rattle.pr_roles.specs.declared.how.How.TheVariants as how
+use Rattle.pr_roles.specs.Answers.{Answers}
 use Rattle.pr_roles.specs.Permits.{is_permitted}
 use Rattle.pr_domain.specs.Interference.{IsDone}
 
@@ -52,10 +55,12 @@ unnoticed role g u q r v step bad = at (is_pending u g power_on) (conflicts u.re
         let good = rw (any_is, f_is, c_is, p_is) at (good_by_decision u g q r v step) in
         absurd (false≢true (sym bad ∙ good))
 
--- what a step is to the others
-pub noticed : (role : List Clause) (g : ℕ) (u : UnitState) (q : Request) (r : Reply) (v : UnitState) → FitsWhereRead (Ok q) → Step u g q r v
+-- what an answer is to the others
+pub noticed : (role : List Clause) (how : How) (g : ℕ) (u : UnitState) (q : Request) (r : Reply) (v : UnitState) → FitsWhereRead (Ok q) → Answers how u g q r v
     → (is_good r ≡ true → IsTrue (is_permitted role u.registry g q)) → (v ≡ u) ⊎ IsDone role g u v
-noticed role g u q r v fits step permitted = at (is_good r) refl
+noticed role how.Busy g u q r v fits is permitted = inl is.1
+noticed role how.Full g u q r v fits is permitted = inl is.1
+noticed role how.Plain g u q r v fits step permitted = at (is_good r) refl
   where
     at : (b : Bool) → is_good r ≡ b → (v ≡ u) ⊎ IsDone role g u v
     at true good = inr (record { request = q; fits = fits; reply = r; step = step; good = good; permitted = permitted good })

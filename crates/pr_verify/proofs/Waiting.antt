@@ -8,8 +8,6 @@ use Rattle.std.proofs.lemmas.Bool.{false≢true}
 use Rattle.std.proofs.lemmas.Option.{none-some, same_Some}
 use Rattle.pr_cdb.specs.declared.command.Command.TheVariants.{TestUnitReady, RequestSense, Read, Write, ReadKeys, ReadReservation, ReportCapabilities, Register, RegisterIgnore, Reserve, Release, Clear, Preempt, PreemptAbort}
 use Rattle.pr_cdb.specs.declared.reply.Reply.{Reply}
-use Rattle.pr_cdb.specs.declared.reply.Status.{Status}
-use Rattle.pr_cdb.specs.declared.reply.Status.TheVariants as status
 use Rattle.pr_cdb.specs.declared.wire.Request.{Request}
 use Rattle.pr_cdb.specs.declared.wire.Request.TheVariants.{Plain, Faulty}
 use Rattle.pr_cdb.specs.Requests.{Fits}
@@ -24,7 +22,7 @@ use Rattle.pr_registry.proofs.Sets.{get-empty}
 use Rattle.pr_registry.proofs.States.{well_formed-fresh}
 use Rattle.pr_registry.proofs.Tables.{same_number}
 use Rattle.pr_unit.specs.UnitStates.{UnitState, IsWellFormed, is_pending, is_any_pending, effect, quiet_unit}
-use Rattle.pr_unit.specs.Replies.{is_good_status, good}
+use Rattle.pr_unit.specs.Replies.{good}
 use Rattle.pr_unit.specs.Steps.{Step}
 use Rattle.pr_unit.specs.Laws.{request_looks}
 use Rattle.pr_unit.proofs.GoodFixed.{good_is_fixed}
@@ -34,7 +32,10 @@ use Rattle.pr_unit.proofs.Quiet.{quiet_steps}
 use Rattle.pr_unit.proofs.Steps.{well_formed-step}
 use Rattle.pr_script.specs.declared.script.Test.TheVariants.{Good}
 use Rattle.pr_script.specs.Scripts.{Stmts, sends, repeats, none, more, no_arm, arm}
-use Rattle.pr_script.specs.Takes.{matches, is_good_status as is_good_reply}
+use Rattle.pr_script.specs.Takes.{matches}
+use Rattle.pr_roles.specs.declared.how.How.{How}
+use Rattle.pr_roles.specs.declared.how.How.TheVariants as how
+use Rattle.pr_roles.specs.Answers.{Answers, Answered, refusals_of, is_among}
 use Rattle.pr_roles.specs.Permits.{is_permitted}
 use Rattle.pr_roles.specs.Scenarios.{Scenario, Nexus, Scripted, Planned, nexus, role}
 use Rattle.pr_roles.specs.Starts.{IsAllowedStart, CanStart}
@@ -43,7 +44,7 @@ use Rattle.pr_views.specs.Possibilities.{key_at, number_of}
 use Rattle.pr_views.specs.Views.{View, Shows}
 use Rattle.pr_domain.specs.Interference.{IsDone}
 use Rattle.pr_verify.specs.Places.{Place, follows}
-use Rattle.pr_verify.specs.Outlines.{Outline, scope_in, IsOfScenario, IsShownAt, ShowsIn, ComesTo, IsLeftAt, IsAsked, at_start, by_itself, by_another, HasArms, KeepsToRole, HasOutline, HaveOutlines}
+use Rattle.pr_verify.specs.Outlines.{AllSendsFit, Outline, scope_in, IsOfScenario, IsShownAt, ShowsIn, ComesTo, IsLeftAt, IsAsked, at_start, by_itself, by_another, HasArms, KeepsToRole, HasOutline, HaveOutlines}
 use Rattle.pr_verify.proofs.Safe.{outlines_make_safe}
 
 -- ---- the scenario
@@ -52,13 +53,13 @@ abbrev script : Stmts
 script = more (repeats 3 (more (sends 1 TestUnitReady (arm Good none no_arm)) none)) none
 
 abbrev host : Nexus
-host = record { name = 0x61 ∷ []; role = []; start = None ∷ []; pending = no_code; task = Scripted script 3 }
+host = record { name = 0x61 ∷ []; role = []; start = None ∷ []; pending = no_code; task = Scripted script 3; busy = 0; full = 0 }
 
 abbrev guest : Nexus
-guest = record { name = 0x62 ∷ []; role = []; start = None ∷ []; pending = no_code; task = Planned [] }
+guest = record { name = 0x62 ∷ []; role = []; start = None ∷ []; pending = no_code; task = Planned []; busy = 0; full = 0 }
 
 abbrev waiting : Scenario
-waiting = record { keys = []; reservations = None ∷ []; generation = 0; nexuses = host ∷ guest ∷ [] }
+waiting = record { version = 1; keys = []; reservations = None ∷ []; generation = 0; nexuses = host ∷ guest ∷ [] }
 
 -- its only place
 abbrev test_place : Place
@@ -177,15 +178,19 @@ nothing_pending u i =
     let d = i.calm registrations_preempted in
     rw (a, b, c, d) refl
 
-good_status : (s : Status) → is_good_status s ≡ true → is_good_reply s ≡ true
-good_status status.Good is = refl
-good_status status.CheckCondition is = is
-good_status status.Conflict is = is
+-- no refusal is declared, so the unit answers
+by_unit : (u : UnitState) (r : Reply) (v : UnitState) → Answered (refusals_of waiting 0) u 0 (Plain TestUnitReady) r v → Step u 0 (Plain TestUnitReady) r v
+by_unit u r v x = at x.how x.declared x.answer
+  where
+    at : (k : How) → IsTrue (is_among (refusals_of waiting 0) k) → Answers k u 0 (Plain TestUnitReady) r v → Step u 0 (Plain TestUnitReady) r v
+    at how.Plain declared step = step
+    at how.Busy declared refused = absurd (false≢true declared)
+    at how.Full declared refused = absurd (false≢true declared)
 
 passes : (u : UnitState) (r : Reply) (v : UnitState) → Step u 0 (Plain TestUnitReady) r v → IsIdle u → matches Good r ≡ true
 passes u r v step i =
     let one = good_step u 0 TestUnitReady (nothing_pending u i) refl refl in
-    good_status r.status (good_is_fixed u 0 (Plain TestUnitReady) r (good []) v (effect u 0 TestUnitReady) step one)
+    good_is_fixed u 0 (Plain TestUnitReady) r (good []) v (effect u 0 TestUnitReady) step one
 
 taken : (r : Reply) → matches Good r ≡ true → follows test_place r ≡ Some (1 ∷ [])
 taken r is = rw is refl
@@ -224,11 +229,12 @@ starts_idle u allowed = record {
     at code false is = is
 
 -- the lines that may follow its command are its own
-comes_idle : (line : ℕ) (u : UnitState) → ComesTo outline test_place line u → IsShownAt outline line u
+comes_idle : (line : ℕ) (u : UnitState) → ComesTo waiting outline test_place line u → IsShownAt outline line u
 comes_idle line u x =
     let i = (at_line 1 x.from x.shown).1 in
-    let next = same_Some (1 ∷ []) x.next (sym (taken x.reply (passes x.from x.reply u x.step i)) ∙ x.follows) in
-    shown_at line u (only 1 line (subst (λ ns. Contains ns line) (sym next) x.there)) (own_idle x.from x.reply u x.step i)
+    let step = by_unit x.from x.reply u x.answer in
+    let next = same_Some (1 ∷ []) x.next (sym (taken x.reply (passes x.from x.reply u step i)) ∙ x.follows) in
+    shown_at line u (only 1 line (subst (λ ns. Contains ns line) (sym next) x.there)) (own_idle x.from x.reply u step i)
 
 left_idle : (line : ℕ) (u : UnitState) → IsLeftAt waiting outline line u → IsShownAt outline line u
 left_idle line u x =
@@ -237,11 +243,11 @@ left_idle line u x =
 
 asked : (line : ℕ) (u : UnitState) → IsAsked waiting script outline line u → IsShownAt outline line u
 asked line u (at_start x) = shown_at line u (only 1 line x.first) (starts_idle u x.allowed)
-asked line u (by_itself p listed x) = comes_idle line u (subst (λ q. ComesTo outline q line u) (sym (only test_place p listed)) x)
+asked line u (by_itself p listed x) = comes_idle line u (subst (λ q. ComesTo waiting outline q line u) (sym (only test_place p listed)) x)
 asked line u (by_another x) = left_idle line u x
 
-has_arms : HasArms outline test_place
-has_arms u r v shown step = ap is_some (taken r (passes u r v step (at_line 1 u shown).1))
+has_arms : HasArms waiting outline test_place
+has_arms u r v shown answer = ap is_some (taken r (passes u r v (by_unit u r v answer) (at_line 1 u shown).1))
 
 keeps_to_role : KeepsToRole waiting outline test_place
 keeps_to_role u r v shown step ends = refl
@@ -256,12 +262,11 @@ of_scenario line v is = at (1 == line) is
 
 has_outline : HasOutline waiting 0 script 3
 has_outline = record {
-  fields = λ p listed. subst (λ (q : Place). Fits q.command) (only test_place p listed) tt;
   outline = outline;
   host = refl;
   sound = record { listed = refl; scenario = of_scenario; shows = asked };
   fitting = record {
-    arms = λ p listed. subst (HasArms outline) (only test_place p listed) has_arms;
+    arms = λ p listed. subst (HasArms waiting outline) (only test_place p listed) has_arms;
     role = λ p listed. subst (KeepsToRole waiting outline) (only test_place p listed) keeps_to_role;
     cost = omega arith;
   };
@@ -272,8 +277,13 @@ have_outlines zero there = has_outline
 have_outlines (suc zero) there = tt
 have_outlines (suc (suc h)) there = tt
 
+all_sends_fit : AllSendsFit waiting
+all_sends_fit zero there = λ p listed. subst (λ (q : Place). Fits q.command) (only test_place p listed) tt
+all_sends_fit (suc zero) there = tt
+all_sends_fit (suc (suc h)) there = tt
+
 waiting_is_safe : IsSafe waiting
-waiting_is_safe = outlines_make_safe waiting have_outlines
+waiting_is_safe = outlines_make_safe waiting all_sends_fit have_outlines
 
 -- and there is a state to start from
 unregistered : (h : ℕ) (n : Nexus) → nexus waiting h ≡ Some n → Contains n.start (key_of (quiet_unit (empty_registry 2)).registry h)

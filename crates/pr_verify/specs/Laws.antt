@@ -2,18 +2,19 @@
 -- What outlines promise, and what safety promises of the next event.
 use Rattle.std.specs.Prelude.{◌≡◌, ℕ, false, List, [], ◌∷◌, ◌++◌}
 use Rattle.pr_unit.specs.UnitStates.{UnitState}
+use Rattle.pr_roles.specs.declared.how.How.{How}
 use Rattle.pr_roles.specs.Scenarios.{Scenario, task}
 use Rattle.pr_roles.specs.Starts.{IsAllowedStart}
 use Rattle.pr_roles.specs.Worlds.{World, Event, Host, HostSends, Happens, Run, control, is_trapped, world_from}
 use Rattle.pr_roles.specs.Safety.{IsSafe, KeepsBudgetBy, KeepsRole}
 use Rattle.pr_script.specs.Scripts.{Stmts}
 use Rattle.pr_verify.specs.declared.refusal.Refusal.{Refusal}
-use Rattle.pr_verify.specs.Outlines.{HasOutline, HaveOutlines}
+use Rattle.pr_verify.specs.Outlines.{AllSendsFit, HasOutline, HaveOutlines}
 use Rattle.pr_verify.specs.Verdicts.{IsReasonAgainst}
 
 -- Outlines that are sound and fit, one for each scripted host, make a scenario safe.
 abbrev pub OutlinesMakeSafe : Type 0
-OutlinesMakeSafe = (s : Scenario) → HaveOutlines s → IsSafe s
+OutlinesMakeSafe = (s : Scenario) → AllSendsFit s → HaveOutlines s → IsSafe s
 
 -- a run and one event more are a run
 abbrev pub RunsGoOn : Type 0
@@ -21,16 +22,16 @@ RunsGoOn = (s : Scenario) (w v x : World) (es : List Event) (e : Event) → Run 
 
 -- A command of a host that leads to this world: the script found an arm for its reply, sent no more commands than its
 -- budget, and kept to its role.
-pub record IsFine (s : Scenario) (w : World) (h : ℕ) (v : World) (sends : HostSends w h v) : Type 0 where
+pub record IsFine (s : Scenario) (w : World) (h : ℕ) (how : How) (v : World) (sends : HostSends s w h how v) : Type 0 where
   pub arm : is_trapped (control v h) ≡ false
   pub budget : KeepsBudgetBy (task s h) v h
-  pub role : KeepsRole s w (Host h) v sends
+  pub role : KeepsRole s w (Host h how) v sends
 
 -- so does each that comes after a run of a safe scenario
 abbrev pub SafeSendsAreFine : Type 0
 SafeSendsAreFine =
-    (s : Scenario) (u : UnitState) (es : List Event) (w : World) (h : ℕ) (v : World) → IsSafe s → IsAllowedStart s u → Run s (world_from s u) es w
-    → (sends : HostSends w h v) → IsFine s w h v sends
+    (s : Scenario) (u : UnitState) (es : List Event) (w : World) (h : ℕ) (how : How) (v : World) → IsSafe s → IsAllowedStart s u → Run s (world_from s u) es w
+    → (sends : HostSends s w h how v) → IsFine s w h how v sends
 
 -- A host with a reason against it has no outline that is sound and fits.
 abbrev pub ReasonsAreFinal : Type 0

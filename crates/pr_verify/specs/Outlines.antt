@@ -11,6 +11,7 @@ use Rattle.pr_unit.specs.Replies.{is_good}
 use Rattle.pr_unit.specs.Steps.{Step}
 use Rattle.pr_script.specs.Scripts.{Stmts}
 use Rattle.pr_script.specs.Costs.{cost_of_all}
+use Rattle.pr_roles.specs.Answers.{Answered, refusals_of}
 use Rattle.pr_roles.specs.Permits.{command_permitted}
 use Rattle.pr_roles.specs.Scenarios.{Scenario, Task, Scripted, Planned, role, task}
 use Rattle.pr_roles.specs.Starts.{IsAllowedStart}
@@ -54,11 +55,11 @@ pub record StartsAt (s : Scenario) (script : Stmts) (line : ℕ) (u : UnitState)
 
 -- the host's own command, sent at this place from a state that is shown there, leads to this state; the arm that it takes
 -- leads to this line
-pub record ComesTo (o : Outline) (p : Place) (line : ℕ) (after : UnitState) : Type 0 where
+pub record ComesTo (s : Scenario) (o : Outline) (p : Place) (line : ℕ) (after : UnitState) : Type 0 where
   pub from : UnitState
   pub shown : IsShownAt o p.line from
   pub reply : Reply
-  pub step : Step from o.host (Plain p.command) reply after
+  pub answer : Answered (refusals_of s o.host) from o.host (Plain p.command) reply after
   pub next : List ℕ
   pub follows : follows p reply ≡ Some next
   pub there : Contains next line
@@ -75,7 +76,7 @@ pub record IsLeftAt (s : Scenario) (o : Outline) (line : ℕ) (after : UnitState
 -- what the view at a line has to show
 pub data IsAsked (s : Scenario) (script : Stmts) (o : Outline) (line : ℕ) (u : UnitState) : Type 0 where
   at_start : StartsAt s script line u → IsAsked s script o line u
-  by_itself : (p : Place) → Contains (places_of script) p → ComesTo o p line u → IsAsked s script o line u
+  by_itself : (p : Place) → Contains (places_of script) p → ComesTo s o p line u → IsAsked s script o line u
   by_another : IsLeftAt s o line u → IsAsked s script o line u
 
 -- there is one view for each send of the script, in order
@@ -91,8 +92,9 @@ pub record IsSound (s : Scenario) (script : Stmts) (o : Outline) : Type 0 where
 -- ---- what safety asks
 
 -- From each state that is shown at the place, every reply to the host's command has an arm.
-abbrev pub HasArms : Outline → Place → Type 0
-HasArms o p = (u : UnitState) (r : Reply) (after : UnitState) → IsShownAt o p.line u → Step u o.host (Plain p.command) r after → IsSome (follows p r)
+abbrev pub HasArms : Scenario → Outline → Place → Type 0
+HasArms s o p =
+    (u : UnitState) (r : Reply) (after : UnitState) → IsShownAt o p.line u → Answered (refusals_of s o.host) u o.host (Plain p.command) r after → IsSome (follows p r)
 
 -- In each of them in which the command ends GOOD, the host's role permits it.
 abbrev pub KeepsToRole : Scenario → Outline → Place → Type 0
@@ -102,15 +104,14 @@ KeepsToRole s o p =
 
 -- at each place
 pub record IsFitting (s : Scenario) (script : Stmts) (budget : ℕ) (o : Outline) : Type 0 where
-  pub arms : (p : Place) → Contains (places_of script) p → HasArms o p
+  pub arms : (p : Place) → Contains (places_of script) p → HasArms s o p
   pub role : (p : Place) → Contains (places_of script) p → KeepsToRole s o p
   pub cost : cost_of_all script ≤ budget
 
 -- ---- of a whole scenario
 
--- the host has an outline that is sound and fits; the fields of what it sends are in the ranges of their types
+-- the host has an outline that is sound and fits
 pub record HasOutline (s : Scenario) (h : ℕ) (script : Stmts) (budget : ℕ) : Type 0 where
-  pub fields : (p : Place) → Contains (places_of script) p → Fits p.command
   pub outline : Outline
   pub host : outline.host ≡ h
   pub sound : IsSound s script outline
@@ -124,3 +125,11 @@ OnScripted (Some (Planned commands)) P = Unit {0}
 -- so has each scripted host
 abbrev pub HaveOutlines : Scenario → Type 0
 HaveOutlines s = (h : ℕ) → h < length s.nexuses → OnScripted (task s h) (HasOutline s h)
+
+-- the fields of what a script sends are in the ranges of their types, as those of each command that is a value are
+abbrev pub SendsFit : Stmts → Type 0
+SendsFit script = (p : Place) → Contains (places_of script) p → Fits p.command
+
+-- so of each script
+abbrev pub AllSendsFit : Scenario → Type 0
+AllSendsFit s = (h : ℕ) → h < length s.nexuses → OnScripted (task s h) (λ script budget. SendsFit script)

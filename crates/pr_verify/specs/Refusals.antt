@@ -11,12 +11,13 @@ use Rattle.pr_unit.specs.Steps.{Step}
 use Rattle.pr_script.specs.declared.limits.TheConstants.{MOST_BUDGET}
 use Rattle.pr_script.specs.Scripts.{Stmts}
 use Rattle.pr_script.specs.Costs.{cost_of_all}
+use Rattle.pr_roles.specs.Answers.{Answered, refusals_of}
 use Rattle.pr_roles.specs.Permits.{command_permitted}
 use Rattle.pr_roles.specs.Scenarios.{Scenario, role}
 use Rattle.pr_regions.specs.Readings.{first_test}
 use Rattle.pr_domain.specs.Landings.{IsClass}
 use Rattle.pr_domain.specs.declared.landing.Class.{Class}
-use Rattle.pr_domain.specs.declared.landing.Class.TheVariants.{Good, Conflict, Sense}
+use Rattle.pr_domain.specs.declared.landing.Class.TheVariants.{Good, Conflict, Busy, Full, Sense}
 use Rattle.pr_verify.specs.declared.refusal.Refusal.{Refusal}
 use Rattle.pr_verify.specs.declared.refusal.Refusal.TheVariants.{NoArm, OutOfRole, OverBudget, Memory, NotSound}
 use Rattle.pr_verify.specs.Places.{Place, places_of}
@@ -64,31 +65,33 @@ pub record BreaksRole (s : Scenario) (o : Outline) (p : Place) : Type 0 where
   pub refused : command_permitted (role s o.host) from.registry o.host p.command ≡ false
 
 -- from a state that is shown at the place, the host's command ends in this class, and no arm matches the reply
-pub record LacksArm (o : Outline) (p : Place) (class : Class) : Type 0 where
+pub record LacksArm (s : Scenario) (o : Outline) (p : Place) (class : Class) : Type 0 where
   pub from : UnitState
   pub shown : IsShownAt o p.line from
   pub reply : Reply
   pub after : UnitState
-  pub step : Step from o.host (Plain p.command) reply after
+  pub answer : Answered (refusals_of s o.host) from o.host (Plain p.command) reply after
   pub none : first_test p.tests reply ≡ None
   pub ends : IsClass reply class
 
 abbrev pub sense_number : SenseOf → ℕ
 sense_number sense = (sense.key * 256 + sense.asc) * 256 + sense.ascq
 
--- GOOD comes first, then RESERVATION CONFLICT, then the senses by number
+-- GOOD comes first, then RESERVATION CONFLICT, BUSY, TASK SET FULL, and then the senses by number
 abbrev pub class_number : Class → ℕ
 class_number Good = 0
 class_number Conflict = 1
-class_number (Sense sense) = 2 + sense_number sense
+class_number Busy = 2
+class_number Full = 3
+class_number (Sense sense) = 4 + sense_number sense
 
 -- it lacks an arm for this class, and for no class before it
-pub record LacksArmFirst (o : Outline) (p : Place) (class : Class) : Type 0 where
-  pub lacks : LacksArm o p class
-  pub first : (earlier : Class) → class_number earlier < class_number class → ¬ LacksArm o p earlier
+pub record LacksArmFirst (s : Scenario) (o : Outline) (p : Place) (class : Class) : Type 0 where
+  pub lacks : LacksArm s o p class
+  pub first : (earlier : Class) → class_number earlier < class_number class → ¬ LacksArm s o p earlier
 
 abbrev pub FitsAt : Scenario → Outline → Place → Type 0
-FitsAt s o p = HasArms o p × KeepsToRole s o p
+FitsAt s o p = HasArms s o p × KeepsToRole s o p
 
 -- Of a script that is within its budget and a sound outline: the place at this line does not fit, in this way, and each
 -- place at a smaller line does.
@@ -112,5 +115,5 @@ IsRefusal s script budget o (NotSound host line) =
 IsRefusal s script budget o (OutOfRole host line) =
     (host ≡ o.host) × IsUnfitAt s script budget o (BreaksRole s o) line
 IsRefusal s script budget o (NoArm host line class) =
-    (host ≡ o.host) × IsUnfitAt s script budget o (λ p. KeepsToRole s o p × LacksArmFirst o p class) line
+    (host ≡ o.host) × IsUnfitAt s script budget o (λ p. KeepsToRole s o p × LacksArmFirst s o p class) line
 IsRefusal s script budget o Memory = Unit {0}

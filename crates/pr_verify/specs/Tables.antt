@@ -6,9 +6,9 @@ use Rattle.pr_cdb.specs.declared.command.Command.{Command}
 use Rattle.pr_cdb.specs.declared.reply.Reply.{Reply}
 use Rattle.pr_cdb.specs.declared.wire.Request.TheVariants.{Plain}
 use Rattle.pr_unit.specs.UnitStates.{UnitState}
-use Rattle.pr_unit.specs.Steps.{Step}
 use Rattle.pr_script.specs.declared.script.Test.{Test}
 use Rattle.pr_script.specs.Scripts.{Stmts}
+use Rattle.pr_roles.specs.Answers.{Answered, refusals_of}
 use Rattle.pr_roles.specs.Scenarios.{Scenario, Task, Scripted, Planned, task}
 use Rattle.pr_regions.specs.Readings.{first_test}
 use Rattle.pr_domain.specs.declared.landing.Class.{Class}
@@ -18,12 +18,12 @@ use Rattle.pr_verify.specs.Refusals.{class_number, LacksArm}
 use Rattle.pr_verify.specs.LeastOutlines.{IsLeastSound}
 
 -- from a state that is shown at the place, the host's command ends with a reply that this arm takes, counted from 0
-pub record TakesArm (o : Outline) (p : Place) (arm : ℕ) : Type 0 where
+pub record TakesArm (s : Scenario) (o : Outline) (p : Place) (arm : ℕ) : Type 0 where
   pub from : UnitState
   pub shown : IsShownAt o p.line from
   pub reply : Reply
   pub after : UnitState
-  pub step : Step from o.host (Plain p.command) reply after
+  pub answer : Answered (refusals_of s o.host) from o.host (Plain p.command) reply after
   pub taken : first_test p.tests reply ≡ Some arm
 
 -- A send: its command, the tests of its arms, whether the role permits the command wherever it ends GOOD, the arms that some
@@ -35,14 +35,14 @@ pub record Row : Type 0 where
   pub arms : List ℕ
   pub unarmed : List Class
 
--- such is the row of the place: each possibility comes from some step, and each list is in order
+-- such is the row of the place: each possibility comes from some answer, and each list is in order
 pub record IsRow (s : Scenario) (o : Outline) (p : Place) (r : Row) : Type 0 where
   pub command : r.command ≡ p.command
   pub tests : r.tests ≡ p.tests
   pub permitted : IsTrue r.permitted ↔ KeepsToRole s o p
-  pub arms : (arm : ℕ) → Contains r.arms arm ↔ TakesArm o p arm
+  pub arms : (arm : ℕ) → Contains r.arms arm ↔ TakesArm s o p arm
   pub arms_rise : AllPairs (λ m n. m < n) r.arms
-  pub unarmed : (class : Class) → Contains r.unarmed class ↔ LacksArm o p class
+  pub unarmed : (class : Class) → Contains r.unarmed class ↔ LacksArm s o p class
   pub unarmed_rise : AllPairs (λ c d. class_number c < class_number d) r.unarmed
 
 -- an outline, and a row for each of its sends

@@ -5,9 +5,11 @@ ghost use Rattle.std.specs.List.{All};
 ghost use Rattle.pr_verify.specs.inside.Asked.{AreAsked, IsSameQuestion, AreAnswersTo, IsAskedBefore, IsAnsweredAt};
 
 use crate::known::{Answer, ask_the_same};
+use crate::nexus::refusals_in;
 use crate::outline::OutlineBy;
 use crate::places::Spot;
 use pr_domain::outcomes;
+use pr_roles::Scenario;
 use pr_sets::ViewSet;
 use pr_views::ViewOf;
 use std::alloc::{AllocError, Global};
@@ -15,6 +17,7 @@ use std::alloc::{AllocError, Global};
 /// The sends of a script, and the outline that has a view for each.
 #[derive(Drop)]
 pub(crate) struct Questions<'a, V> {
+    pub(crate) scenario: &'a Scenario,
     pub(crate) outline: &'a OutlineBy<V>,
     pub(crate) spots: &'a [Spot],
 }
@@ -69,7 +72,9 @@ impl<S: ViewSet> Questions<'_, ViewOf<S>> {
         }
         let spot = &self.spots[place];
         let view = &self.outline.views[place].1;
-        let outcomes = outcomes(alloc, view, self.outline.host, &spot.command, &spot.tests)?;
+        let host = self.outline.host;
+        let refusals = refusals_in(self.scenario, host);
+        let outcomes = outcomes(alloc, view, host, &spot.command, &spot.tests, refusals)?;
         let number = known.len();
         known.push(Answer {
             spot: place,

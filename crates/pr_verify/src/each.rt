@@ -3,7 +3,7 @@
 ghost use Rattle.std.specs.Prelude.{◌≡◌, ◌≢◌, ℕ, ◌<◌, ◌≤◌, length, IfOk, IfErr, OnOk, vec_len, vec_capacity};
 ghost use Rattle.pr_roles.specs.Scenarios.{scenario_of};
 ghost use Rattle.pr_roles.specs.Safety.{IsSafe};
-ghost use Rattle.pr_verify.specs.Outlines.{HaveOutlines};
+ghost use Rattle.pr_verify.specs.Outlines.{AllSendsFit, HaveOutlines};
 ghost use Rattle.pr_verify.specs.Verdicts.{IsVerdict};
 ghost use Rattle.pr_verify.specs.inside.Checks.{ComeTo, EachFrom, IsAnswerBefore, IsAnswerFor, IsBegunFor, IsCheckFor};
 
@@ -83,6 +83,7 @@ fn check_each<G: CheckGate, R: Threads + Wait + Sync>(
     gate: &G,
 ) -> Result<(), Refusal>
     ensures outlines { OnOk result (HaveOutlines (scenario_of scenario.now)) }
+    ensures fields { OnOk result (AllSendsFit (scenario_of scenario.now)) }
     ensures verdict { IfErr result (IsVerdict (scenario_of scenario.now)) }
 {
     let hosts = scenario.parts().nexuses.len();

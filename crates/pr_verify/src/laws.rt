@@ -2,7 +2,8 @@
 
 ghost use Rattle.pr_verify.specs.Laws.{OutlinesMakeSafe, ReasonsAreFinal, RunsGoOn, SafeSendsAreFine};
 
-/// Outlines that are sound and fit, one for each scripted host, make a scenario safe.
+/// Outlines that are sound and fit, one for each scripted host, make a scenario safe, if the fields of what is sent are in the
+/// ranges of their types.
 #[tactic(auto, using(crate::proofs::Safe::outlines_make_safe))]
 pub fn outlines_make_safe()
     ensures { OutlinesMakeSafe }

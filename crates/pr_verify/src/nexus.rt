@@ -1,11 +1,12 @@
 //! The nexuses of a scenario.
 
 ghost use Rattle.std.specs.Prelude.{◌≡◌, ◌<◌, length, Some};
+ghost use Rattle.pr_roles.specs.Answers.{refusals_of};
 ghost use Rattle.pr_roles.specs.Fitting.{Fits};
 ghost use Rattle.pr_roles.specs.Scenarios.{nexus, nexus_of, scenario_of};
 ghost use Rattle.pr_roles.specs.Starts.{CanStart};
 
-use pr_roles::{Nexus, Scenario};
+use pr_roles::{Nexus, Refusals, Scenario};
 
 /// One of them, as it is kept.
 pub(crate) fn nexus_in(scenario: &Scenario, host: u8) -> &Nexus
@@ -15,4 +16,12 @@ pub(crate) fn nexus_in(scenario: &Scenario, host: u8) -> &Nexus
     ensures starts { CanStart (scenario_of scenario.now) }
 {
     &scenario.parts().nexuses[usize::from(host)]
+}
+
+/// Which of BUSY and TASK SET FULL it may meet.
+pub(crate) fn refusals_in(scenario: &Scenario, host: u8) -> Refusals
+    requires { host < length (scenario_of scenario.now).nexuses }
+    ensures { result ≡ refusals_of (scenario_of scenario.now) host }
+{
+    nexus_in(scenario, host).refusals()
 }

@@ -4,6 +4,7 @@ ghost use Rattle.std.specs.Prelude.{◌≡◌, ◌<◌, true, length, map, optio
 ghost use Rattle.std.specs.List.{All};
 ghost use Rattle.pr_script.specs.Grammar.{rise_above};
 ghost use Rattle.pr_script.specs.Trees.{script_of};
+ghost use Rattle.pr_roles.specs.Answers.{refusals_of};
 ghost use Rattle.pr_roles.specs.Scenarios.{scenario_of};
 ghost use Rattle.pr_roles.specs.Starts.{CanStart};
 ghost use Rattle.pr_views.specs.Rooms.{view_of, IsMade, AreAlike};
@@ -52,7 +53,11 @@ pub(crate) fn first_unsound<S: ViewSet>(
     let firsts = first_lines(alloc, script)?;
     let start = lacking_at_start(alloc, scenario, outline, &firsts)?;
     let others = lacking_by_others(alloc, scenario, outline)?;
-    let questions = Questions { outline, spots };
+    let questions = Questions {
+        scenario,
+        outline,
+        spots,
+    };
     let mut known = Vec::new(alloc);
     let mut own = None;
     for (i, spot) in spots.iter().enumerate() {
@@ -77,7 +82,11 @@ pub(crate) fn first_misfit<S: ViewSet>(
     requires rise { rise_above 0 (map (λ e. e.0) outline.now.views.items) ≡ true }
     ensures { IfOk result (IsFirstMisfit (scenario_of scenario.now) (outline_of S.members outline.now) (length spots.now) spots.now) }
 {
-    let questions = Questions { outline, spots };
+    let questions = Questions {
+        scenario,
+        outline,
+        spots,
+    };
     let mut known = Vec::new(alloc);
     for (i, spot) in spots.iter().enumerate() {
         let answer = questions.answer(alloc, &mut known, i)?;
@@ -130,7 +139,7 @@ fn misfit<S: ViewSet>(
     requires written { IsPlaceWritten (scenario_of scenario.now).keys (place_of spot.now) }
     requires view { IsMadeAs S.room (scenario_of scenario.now) view.now }
     requires here { view_at (outline_of S.members outline.now).views spot.now.line ≡ Some (view_of S.members outline.now.host view.now) }
-    requires outcomes { AreOutcomes (view_of S.members outline.now.host view.now) spot.now.command spot.now.tests.items (map (λ o. (o.0, view_of S.members outline.now.host o.1)) outcomes.now) }
+    requires outcomes { AreOutcomes (view_of S.members outline.now.host view.now) (refusals_of (scenario_of scenario.now) outline.now.host) spot.now.command spot.now.tests.items (map (λ o. (o.0, view_of S.members outline.now.host o.1)) outcomes.now) }
     ensures { IsMisfit (scenario_of scenario.now) (outline_of S.members outline.now) (place_of spot.now) result }
 {
     let host = outline.host;
@@ -193,10 +202,12 @@ pub(crate) fn number_of(class: Class) -> u32
     match class {
         Class::Good => 0,
         Class::Conflict => 1,
+        Class::Busy => 2,
+        Class::Full => 3,
         Class::Sense(sense) => {
             let key = u32::from(sense.key);
             let asc = u32::from(sense.asc);
-            2 + ((key * 256 + asc) * 256 + u32::from(sense.ascq))
+            4 + ((key * 256 + asc) * 256 + u32::from(sense.ascq))
         }
     }
 }

@@ -6,6 +6,7 @@ ghost use Rattle.pr_domain.specs.declared.landing.Class.{Class};
 ghost use Rattle.pr_domain.specs.declared.landing.Landing.TheVariants.{Arm};
 ghost use Rattle.pr_domain.specs.Outcomes.{AreOutcomes};
 ghost use Rattle.pr_script.specs.Grammar.{rise_above};
+ghost use Rattle.pr_roles.specs.Answers.{refusals_of};
 ghost use Rattle.pr_roles.specs.Scenarios.{scenario_of, task};
 ghost use Rattle.pr_views.specs.Rooms.{view_of};
 ghost use Rattle.pr_verify.specs.Outlines.{OnScripted, view_at};
@@ -40,7 +41,7 @@ pub struct Row {
     pub permitted: bool,
     /// The arms that some reply takes, by their numbers from 0, in order.
     pub arms: Vec<usize>,
-    /// How replies may end that no arm takes: GOOD, RESERVATION CONFLICT, then senses by number.
+    /// How replies may end that no arm takes: GOOD, RESERVATION CONFLICT, BUSY, TASK SET FULL, then senses by number.
     pub unarmed: Vec<Class>,
 }
 
@@ -96,7 +97,11 @@ fn rows<S: ViewSet>(
     requires rise { rise_above 0 (map (λ e. e.0) outline.now.views.items) ≡ true }
     ensures { IfOk result (λ rows. AllZip (λ p r. IsRow (scenario_of scenario.now) (outline_of S.members outline.now) (place_of p) (row_of r)) spots.now rows.items) }
 {
-    let questions = Questions { outline, spots };
+    let questions = Questions {
+        scenario,
+        outline,
+        spots,
+    };
     let mut known = Vec::new(alloc);
     let mut rows = Vec::new(alloc);
     for (i, spot) in spots.iter().enumerate() {
@@ -128,7 +133,7 @@ fn row_of_spot<S: ViewSet>(
     requires written { IsPlaceWritten (scenario_of scenario.now).keys (place_of spot.now) }
     requires view { IsMadeAs S.room (scenario_of scenario.now) view.now }
     requires here { view_at (outline_of S.members outline.now).views spot.now.line ≡ Some (view_of S.members outline.now.host view.now) }
-    requires outcomes { AreOutcomes (view_of S.members outline.now.host view.now) spot.now.command spot.now.tests.items (map (λ o. (o.0, view_of S.members outline.now.host o.1)) outcomes.now) }
+    requires outcomes { AreOutcomes (view_of S.members outline.now.host view.now) (refusals_of (scenario_of scenario.now) outline.now.host) spot.now.command spot.now.tests.items (map (λ o. (o.0, view_of S.members outline.now.host o.1)) outcomes.now) }
     ensures { IfOk result (λ row. IsRow (scenario_of scenario.now) (outline_of S.members outline.now) (place_of spot.now) (row_of row)) }
 {
     let role = &nexus_in(scenario, outline.host).role;
@@ -207,7 +212,7 @@ fn is_in_range(class: Class)
     ensures { IsInRange class }
 {
     match class {
-        Class::Good | Class::Conflict => {}
+        Class::Good | Class::Conflict | Class::Busy | Class::Full => {}
         Class::Sense(sense) => {
             let _ = (sense.key, sense.asc, sense.ascq);
         }

@@ -3,7 +3,7 @@
 ghost use Rattle.std.specs.Prelude.{◌≡◌, ◌≢◌, ℕ, ◌<◌, length, IfOk, IfErr, OnOk};
 ghost use Rattle.pr_roles.specs.Scenarios.{scenario_of, task};
 ghost use Rattle.pr_roles.specs.Safety.{IsSafe};
-ghost use Rattle.pr_verify.specs.Outlines.{OnScripted, HasOutline, HaveOutlines};
+ghost use Rattle.pr_verify.specs.Outlines.{AllSendsFit, HasOutline, HaveOutlines, OnScripted, SendsFit};
 ghost use Rattle.pr_verify.specs.Verdicts.{HasReason, IsVerdict};
 
 use crate::checking::{check_cost, check_fit};
@@ -56,8 +56,10 @@ pub struct Refused {
 /// Verifies the scenario. When it is accepted, then from every start that it declares and under every interleaving of the
 /// scripted hosts' commands with any permitted commands of the guests, no script meets a reply for which it has no arm,
 /// none sends more commands than its budget, and each of its commands that ends GOOD is one that its role permits at that
-/// moment: each of them has an outline that is sound and fits. When it is refused, it is handed back with the first reason that its hosts' least sound outlines show, or since
-/// memory was refused; but for memory, no sound outlines of its hosts fit.
+/// moment: each of them has an outline that is sound and fits.
+///
+/// When it is refused, it is handed back with the first reason that its hosts' least sound outlines show, or since memory
+/// was refused; but for memory, no sound outlines of its hosts fit.
 pub fn verify(alloc: Global, scenario: Scenario) -> Result<Verified, Refused>
     ensures same { IfOk result (λ verified. verified ≡ scenario) }
     ensures safe { IfOk result (λ verified. IsSafe (scenario_of verified)) }
@@ -76,6 +78,7 @@ pub(crate) fn verdict_on(
     checked: Result<(), Refusal>,
 ) -> Result<Verified, Refused>
     requires outlines { OnOk checked (HaveOutlines (scenario_of scenario)) }
+    requires fields { OnOk checked (AllSendsFit (scenario_of scenario)) }
     requires verdict { IfErr checked (IsVerdict (scenario_of scenario)) }
     ensures same { IfOk result (λ verified. verified ≡ scenario) }
     ensures safe { IfOk result (λ verified. IsSafe (scenario_of verified)) }
@@ -96,6 +99,7 @@ pub(crate) fn verdict_on(
 // Whether each scripted host has an outline that is sound and fits; else the first reason against one.
 fn check_hosts(alloc: Global, scenario: &Scenario) -> Result<(), Refusal>
     ensures outlines { OnOk result (HaveOutlines (scenario_of scenario.now)) }
+    ensures fields { OnOk result (AllSendsFit (scenario_of scenario.now)) }
     ensures verdict { IfErr result (IsVerdict (scenario_of scenario.now)) }
 {
     let hosts = scenario.parts().nexuses.len() as u8;
@@ -110,6 +114,7 @@ fn check_hosts(alloc: Global, scenario: &Scenario) -> Result<(), Refusal>
 pub(crate) fn check_host(alloc: Global, scenario: &Scenario, host: u8) -> Result<(), Refusal>
     requires { host < length (scenario_of scenario.now).nexuses }
     ensures outline { OnOk result (OnScripted (task (scenario_of scenario.now) host) (HasOutline (scenario_of scenario.now) host)) }
+    ensures fields { OnOk result (OnScripted (task (scenario_of scenario.now) host) (λ script budget. SendsFit script)) }
     ensures reason { IfErr result (λ refusal. refusal ≢ Refusal.Memory → HasReason (scenario_of scenario.now) host refusal) }
 {
     match &nexus_in(scenario, host).task {

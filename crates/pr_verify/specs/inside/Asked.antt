@@ -2,6 +2,9 @@
 use Rattle.std.specs.Prelude.{◌≡◌, ℕ, ◌<◌, List, length, Some}
 use Rattle.std.specs.List.{slice_get, All}
 use Rattle.pr_sets.specs.Numbers.{Numbers}
+use Rattle.pr_roles.specs.declared.how.Refusals.{Refusals}
+use Rattle.pr_roles.specs.Answers.{refusals_of}
+use Rattle.pr_roles.specs.Scenarios.{scenario_of}
 use Rattle.pr_views.specs.declared.view.ViewOf.{ViewOf}
 use Rattle.pr_verify.specs.declared.answers.Questions.{Questions}
 use Rattle.pr_verify.specs.declared.known.Answer.{Answer}
@@ -11,13 +14,18 @@ use Rattle.pr_verify.specs.inside.Known.{AskTheSame, IsAnswer, IsAnswerAt, AreEq
 
 -- ---- questions
 
--- for each send there is a view, all of the same keys and of as many nexuses; the host is one of them, and the
--- sends can stand in a text with those keys
+-- the refusals that the sends may meet
+abbrev pub refusals_for : {S : Type 0} → Questions (ViewOf S) → Refusals
+refusals_for q = refusals_of (scenario_of q.scenario.now) q.outline.now.host
+
+-- for each send there is a view, all of the same keys and of as many nexuses; the host is one of them and of the scenario's, and
+-- the sends can stand in a text with those keys
 pub record AreAsked {S : Type 0} (room : S → ℕ) (q : Questions (ViewOf S)) : Type 0 where
   pub keys : List ℕ
   pub hosts : ℕ
   pub kind : AreOf room keys hosts q.outline.now.views.items
   pub host : q.outline.now.host < hosts
+  pub declared : q.outline.now.host < length (scenario_of q.scenario.now).nexuses
   pub written : AreWritten keys q.spots.now
   pub each : length q.outline.now.views.items ≡ length q.spots.now
 
@@ -31,7 +39,7 @@ pub record IsSameQuestion {S : Type 0} (members : S → Numbers) (q : Questions 
 -- it is what the command of the named place comes to in the view of that place
 pub record IsAnswerTo {S : Type 0} (members : S → Numbers) (room : S → ℕ) (q : Questions (ViewOf S)) (a : Answer (ViewOf S)) : Type 0 where
   pub there : a.spot < length q.spots.now
-  pub answer : (e : ℕ × ViewOf S) → slice_get q.outline.now.views.items a.spot ≡ Some e → IsAnswer members room q.outline.now.host q.spots.now e.1 a
+  pub answer : (e : ℕ × ViewOf S) → slice_get q.outline.now.views.items a.spot ≡ Some e → IsAnswer members room q.outline.now.host (refusals_for q) q.spots.now e.1 a
 
 abbrev pub AreAnswersTo : {S : Type 0} → (S → Numbers) → (S → ℕ) → Questions (ViewOf S) → List (Answer (ViewOf S)) → Type 0
 AreAnswersTo members room q known = All (IsAnswerTo members room q) known
@@ -46,4 +54,4 @@ pub record IsAskedBefore {S : Type 0} (members : S → Numbers) (q : Questions (
 abbrev pub IsAnsweredAt : {S : Type 0} → (S → Numbers) → (S → ℕ) → Questions (ViewOf S) → ℕ → List (Answer (ViewOf S)) → ℕ → Type 0
 IsAnsweredAt {S} members room q place known k =
     (p : Spot) (e : ℕ × ViewOf S) → slice_get q.spots.now place ≡ Some p → slice_get q.outline.now.views.items place ≡ Some e
-    → IsAnswerAt members room q.outline.now.host p e.1 known k
+    → IsAnswerAt members room q.outline.now.host (refusals_for q) p e.1 known k

@@ -8,13 +8,15 @@ use Rattle.pr_verify.specs.declared.each.Check.TheVariants as check
 use Rattle.pr_verify.specs.declared.each.CheckOf.{CheckOf}
 use Rattle.pr_verify.specs.declared.refusal.Refusal.{Refusal}
 use Rattle.pr_verify.specs.declared.refusal.Refusal.TheVariants.{Memory}
-use Rattle.pr_verify.specs.Outlines.{OnScripted, HasOutline}
+use Rattle.pr_verify.specs.Outlines.{OnScripted, HasOutline, SendsFit}
 use Rattle.pr_verify.specs.Verdicts.{HasReason, IsVerdict}
 
--- What the check of a host says: the host has an outline that is sound and fits, if it is scripted; else a reason
--- against it, unless memory was refused.
+-- What the check of a host says: the host has an outline that is sound and fits, if it is scripted, and what it sends is in
+-- range; else a reason against it, unless memory was refused.
 abbrev pub IsAnswerFor : Scenario → ℕ → Result (Unit {0}) Refusal → Type 0
-IsAnswerFor s h answer = OnOk answer (OnScripted (task s h) (HasOutline s h)) × IfErr answer (λ refusal. refusal ≢ Memory → HasReason s h refusal)
+IsAnswerFor s h answer =
+    OnOk answer (OnScripted (task s h) (HasOutline s h))
+    × (OnOk answer (OnScripted (task s h) (λ script budget. SendsFit script)) × IfErr answer (λ refusal. refusal ≢ Memory → HasReason s h refusal))
 
 -- ---- where it is made
 
@@ -38,10 +40,12 @@ EachFrom {X} P n xs = (i : ℕ) (d : X) → i < length xs → P (n + i) (slice_i
 
 -- ---- what they come to
 
--- Each scripted host before n has an outline that is sound and fits; else this is the first reason against one, or memory
--- was refused.
+-- Each scripted host before n has an outline that is sound and fits, and what it sends is in range; else this is the first
+-- reason against one, or memory was refused.
 abbrev pub IsAnswerBefore : Scenario → ℕ → Result (Unit {0}) Refusal → Type 0
-IsAnswerBefore s n answer = OnOk answer ((h : ℕ) → h < n → OnScripted (task s h) (HasOutline s h)) × IfErr answer (IsVerdict s)
+IsAnswerBefore s n answer =
+    OnOk answer ((h : ℕ) → h < n → OnScripted (task s h) (HasOutline s h))
+    × (OnOk answer ((h : ℕ) → h < n → OnScripted (task s h) (λ script budget. SendsFit script)) × IfErr answer (IsVerdict s))
 
 -- So do all of these checks together, of whichever scenario they are.
 abbrev pub ComeTo : List Check → Result (Unit {0}) Refusal → Type 0

@@ -26,14 +26,14 @@ pub record IsMadeAs {S : Type 0} (room : S → ℕ) (s : Scenario) (v : ViewOf S
 -- ---- what the views lack
 
 -- the first line at which a view lacks a state to which one of the first n sends leads
-abbrev pub IsLackingOfSends : Outline → ℕ → List Spot → Option ℕ → Type 0
-IsLackingOfSends o n spots = IsLeastAmong n spots (λ p. HasAll o (ComesTo o (place_of p))) (λ p. Lacks o (ComesTo o (place_of p)))
+abbrev pub IsLackingOfSends : Scenario → Outline → ℕ → List Spot → Option ℕ → Type 0
+IsLackingOfSends s o n spots = IsLeastAmong n spots (λ p. HasAll o (ComesTo s o (place_of p))) (λ p. Lacks o (ComesTo s o (place_of p)))
 
 -- ---- a place that does not fit
 
 -- the place does not fit in the way that the refusal says
 abbrev pub IsReason : Scenario → Outline → Place → Refusal → Type 0
-IsReason s o p (NoArm host line class) = (host ≡ o.host) × (line ≡ p.line) × KeepsToRole s o p × LacksArmFirst o p class
+IsReason s o p (NoArm host line class) = (host ≡ o.host) × (line ≡ p.line) × KeepsToRole s o p × LacksArmFirst s o p class
 IsReason s o p (OutOfRole host line) = (host ≡ o.host) × (line ≡ p.line) × BreaksRole s o p
 IsReason s o p (OverBudget host cost) = ⊥
 IsReason s o p Memory = ⊥

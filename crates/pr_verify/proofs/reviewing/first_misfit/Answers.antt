@@ -18,7 +18,7 @@ use Rattle.pr_verify.proofs.reviewing.first_misfit.Goals as goal
 
 pub loop-i-init : goal.loop-i-init
 loop-i-init g c =
-    let q : Questions (ViewOf g.row.S.Denot) = record { outline = c.args.outline; spots = c.args.spots } in
+    let q : Questions (ViewOf g.row.S.Denot) = record { scenario = c.args.scenario; outline = c.args.outline; spots = c.args.spots } in
     record {
       fit = each_none (λ (p : Spot). FitsAt (scenario_of c.args.scenario.now) (outline_of g.S.ViewSet.members c.args.outline.now) (place_of p)) c.args.spots.now;
       known = subst (AreAnswersTo g.S.ViewSet.members g.S.ViewSet.room q) (sym c.new-known.ensures.items) (All-nil (IsAnswerTo g.S.ViewSet.members g.S.ViewSet.room q));
@@ -26,21 +26,21 @@ loop-i-init g c =
 
 pub answer-requires : goal.answer-requires
 answer-requires g c =
-    let q : Questions (ViewOf g.row.S.Denot) = record { outline = c.args.outline; spots = c.args.spots } in
-    let asked = asked_in g.S.ViewSet.room (scenario_of c.args.scenario.now) q c.requires.host c.requires.made c.requires.written c.requires.listed in
+    let q : Questions (ViewOf g.row.S.Denot) = record { scenario = c.args.scenario; outline = c.args.outline; spots = c.args.spots } in
+    let asked = asked_in g.S.ViewSet.room q c.requires.host c.requires.made c.requires.written c.requires.listed in
     (search rules, (asked, (c.loop-i-test.true, c.loop-i.invariant.known)))
 
 pub index-requires : goal.index-requires
 index-requires g c =
-    let q : Questions (ViewOf g.row.S.Denot) = record { outline = c.args.outline; spots = c.args.spots } in
-    let asked = asked_in g.S.ViewSet.room (scenario_of c.args.scenario.now) q c.requires.host c.requires.made c.requires.written c.requires.listed in
+    let q : Questions (ViewOf g.row.S.Denot) = record { scenario = c.args.scenario; outline = c.args.outline; spots = c.args.spots } in
+    let asked = asked_in g.S.ViewSet.room q c.requires.host c.requires.made c.requires.written c.requires.listed in
     let there = answer_within g.S.ViewSet.members g.S.ViewSet.room q asked c.loop-i.i c.loop-i-test.true c.answer.new.known.items c.in_ok-answer.answer c.in_ok-answer.ensures.answer in
     omega arith
 
 pub index-requires-in-loop-i : goal.index-requires-in-loop-i
 index-requires-in-loop-i g c =
-    let q : Questions (ViewOf g.row.S.Denot) = record { outline = c.args.outline; spots = c.args.spots } in
-    let asked = asked_in g.S.ViewSet.room (scenario_of c.args.scenario.now) q c.requires.host c.requires.made c.requires.written c.requires.listed in
+    let q : Questions (ViewOf g.row.S.Denot) = record { scenario = c.args.scenario; outline = c.args.outline; spots = c.args.spots } in
+    let asked = asked_in g.S.ViewSet.room q c.requires.host c.requires.made c.requires.written c.requires.listed in
     let there = has_view g.S.ViewSet.members g.S.ViewSet.room q asked c.loop-i.i c.loop-i-test.true in
     omega arith
 
@@ -50,8 +50,8 @@ misfit-requires g c =
     let room = g.S.ViewSet.room in
     let s = scenario_of c.args.scenario.now in
     let o = c.args.outline.now in
-    let q : Questions (ViewOf g.row.S.Denot) = record { outline = c.args.outline; spots = c.args.spots } in
-    let asked = asked_in room s q c.requires.host c.requires.made c.requires.written c.requires.listed in
+    let q : Questions (ViewOf g.row.S.Denot) = record { scenario = c.args.scenario; outline = c.args.outline; spots = c.args.spots } in
+    let asked = asked_in room q c.requires.host c.requires.made c.requires.written c.requires.listed in
     let ys = c.args.spots.now in
     let y = c.index-spots-i.result in
     let n = c.loop-i.i in

@@ -25,23 +25,23 @@ use Rattle.pr_verify.proofs.reviewing.first_unsound.Goals as goal
 
 pub loop-i-init : goal.loop-i-init
 loop-i-init g c =
-    let q : Questions (ViewOf g.row.S.Denot) = record { outline = c.args.outline; spots = c.args.spots } in
+    let q : Questions (ViewOf g.row.S.Denot) = record { scenario = c.args.scenario; outline = c.args.outline; spots = c.args.spots } in
     let o = outline_of g.S.ViewSet.members c.args.outline.now in
     record {
-      own = least_none (λ (p : Spot). HasAll o (ComesTo o (place_of p))) (λ p. Lacks o (ComesTo o (place_of p))) c.args.spots.now;
+      own = least_none (λ (p : Spot). HasAll o (ComesTo (scenario_of c.args.scenario.now) o (place_of p))) (λ p. Lacks o (ComesTo (scenario_of c.args.scenario.now) o (place_of p))) c.args.spots.now;
       known = subst (AreAnswersTo g.S.ViewSet.members g.S.ViewSet.room q) (sym c.new-known.ensures.items) (All-nil (IsAnswerTo g.S.ViewSet.members g.S.ViewSet.room q));
     }
 
 pub answer-requires : goal.answer-requires
 answer-requires g c =
-    let q : Questions (ViewOf g.row.S.Denot) = record { outline = c.args.outline; spots = c.args.spots } in
-    let asked = asked_in g.S.ViewSet.room (scenario_of c.args.scenario.now) q c.requires.host c.requires.made c.requires.written c.requires.listed in
+    let q : Questions (ViewOf g.row.S.Denot) = record { scenario = c.args.scenario; outline = c.args.outline; spots = c.args.spots } in
+    let asked = asked_in g.S.ViewSet.room q c.requires.host c.requires.made c.requires.written c.requires.listed in
     (search rules, (asked, (c.loop-i-test.true, c.loop-i.invariant.known)))
 
 pub index-requires : goal.index-requires
 index-requires g c =
-    let q : Questions (ViewOf g.row.S.Denot) = record { outline = c.args.outline; spots = c.args.spots } in
-    let asked = asked_in g.S.ViewSet.room (scenario_of c.args.scenario.now) q c.requires.host c.requires.made c.requires.written c.requires.listed in
+    let q : Questions (ViewOf g.row.S.Denot) = record { scenario = c.args.scenario; outline = c.args.outline; spots = c.args.spots } in
+    let asked = asked_in g.S.ViewSet.room q c.requires.host c.requires.made c.requires.written c.requires.listed in
     let there = answer_within g.S.ViewSet.members g.S.ViewSet.room q asked c.loop-i.i c.loop-i-test.true c.answer.new.known.items c.in_ok-answer.answer c.in_ok-answer.ensures.answer in
     omega arith
 
@@ -51,8 +51,8 @@ lacking_after-requires g c =
     let room = g.S.ViewSet.room in
     let s = scenario_of c.args.scenario.now in
     let o = c.args.outline.now in
-    let q : Questions (ViewOf g.row.S.Denot) = record { outline = c.args.outline; spots = c.args.spots } in
-    let asked = asked_in room s q c.requires.host c.requires.made c.requires.written c.requires.listed in
+    let q : Questions (ViewOf g.row.S.Denot) = record { scenario = c.args.scenario; outline = c.args.outline; spots = c.args.spots } in
+    let asked = asked_in room q c.requires.host c.requires.made c.requires.written c.requires.listed in
     let n = c.loop-i.i in
     let small = has_view members room q asked n c.loop-i-test.true in
     let x = element o.views.items n small in
@@ -74,8 +74,8 @@ loop-i-preserved g c =
     let s = scenario_of c.args.scenario.now in
     let out = c.args.outline.now in
     let o = outline_of members out in
-    let q : Questions (ViewOf g.row.S.Denot) = record { outline = c.args.outline; spots = c.args.spots } in
-    let asked = asked_in room s q c.requires.host c.requires.made c.requires.written c.requires.listed in
+    let q : Questions (ViewOf g.row.S.Denot) = record { scenario = c.args.scenario; outline = c.args.outline; spots = c.args.spots } in
+    let asked = asked_in room q c.requires.host c.requires.made c.requires.written c.requires.listed in
     let ys = c.args.spots.now in
     let y = c.index-spots-i.result in
     let n = c.loop-i.i in
@@ -94,8 +94,8 @@ loop-i-preserved g c =
     c.deref-in-loop-i-2.ensures.value c.lacking_after.ensures in
     let lacking = lacks_by_send members room g.met.S.ViewSet.below s out (place_of y) x.0.1 xs c.lacking_after.result c.requires.host c.requires.made is here kind come least in
     record {
-      own = subst (IsLackingOfSends o (n + 1) ys) (sym c.least-own.ensures)
-          (least_more (λ (p : Spot). HasAll o (ComesTo o (place_of p))) (λ p. Lacks o (ComesTo o (place_of p))) ys n y c.loop-i.own c.lacking_after.result c.loop-i-test.true c.index-spots-i.is c.loop-i.invariant.own lacking);
+      own = subst (IsLackingOfSends s o (n + 1) ys) (sym c.least-own.ensures)
+          (least_more (λ (p : Spot). HasAll o (ComesTo s o (place_of p))) (λ p. Lacks o (ComesTo s o (place_of p))) ys n y c.loop-i.own c.lacking_after.result c.loop-i-test.true c.index-spots-i.is c.loop-i.invariant.own lacking);
       known = c.in_ok-answer.ensures.known;
     }
 
@@ -106,7 +106,7 @@ returns g c =
     let o = outline_of g.S.ViewSet.members c.args.outline.now in
     let others = c.in_ok-others.others in
     let whole : c.loop-i.i ≡ length c.args.spots.now = omega arith in
-    let own = subst (λ n. IsLackingOfSends o n c.args.spots.now c.loop-i.own) whole c.loop-i.invariant.own in
+    let own = subst (λ n. IsLackingOfSends s o n c.args.spots.now c.loop-i.own) whole c.loop-i.invariant.own in
     let start = c.in_ok-start.ensures script (sym (c.deref.ensures.value ∙ c.in_ok-firsts.ensures)) in
     subst (IsFirstLacking o (IsAsked s script o)) (ap (λ l. least l others) (sym c.least.ensures) ∙ sym c.least-2.ensures)
     (lacking s script o c.args.spots.now c.requires.places c.in_ok-start.start c.loop-i.own others start own c.in_ok-others.ensures)

@@ -1,3 +1,4 @@
+use Rattle.pr_roles.specs.Scenarios.{scenario_of}
 use Rattle.pr_verify.specs.Rooms.{outline_of}
 use Rattle.pr_verify.specs.inside.Asked.{AreAnswersTo}
 use Rattle.pr_verify.specs.inside.Reviewing.{IsLackingOfSends}
@@ -5,6 +6,6 @@ use Rattle.pr_verify.proofs.reviewing.first_unsound.Given as goal
 
 abbrev pub invariant-loop-i : goal.invariant-loop-i
 invariant-loop-i g l = record {
-  own : IsLackingOfSends (outline_of g.S.ViewSet.members l.outline) l.i l.spots l.own;
+  own : IsLackingOfSends (scenario_of l.scenario) (outline_of g.S.ViewSet.members l.outline) l.i l.spots l.own;
   known : AreAnswersTo g.S.ViewSet.members g.S.ViewSet.room l.questions l.known.items;
 }

@@ -18,21 +18,21 @@ use Rattle.pr_verify.proofs.table.rows.Goals as goal
 
 pub answer-requires : goal.answer-requires
 answer-requires g c =
-    let q : Questions (ViewOf g.row.S.Denot) = record { outline = c.args.outline; spots = c.args.spots } in
-    let asked = asked_in g.S.ViewSet.room (scenario_of c.args.scenario.now) q c.requires.host c.requires.made c.requires.written c.requires.listed in
+    let q : Questions (ViewOf g.row.S.Denot) = record { scenario = c.args.scenario; outline = c.args.outline; spots = c.args.spots } in
+    let asked = asked_in g.S.ViewSet.room q c.requires.host c.requires.made c.requires.written c.requires.listed in
     (search rules, (asked, (c.loop-i-test.true, c.loop-i.invariant.known)))
 
 pub index-requires : goal.index-requires
 index-requires g c =
-    let q : Questions (ViewOf g.row.S.Denot) = record { outline = c.args.outline; spots = c.args.spots } in
-    let asked = asked_in g.S.ViewSet.room (scenario_of c.args.scenario.now) q c.requires.host c.requires.made c.requires.written c.requires.listed in
+    let q : Questions (ViewOf g.row.S.Denot) = record { scenario = c.args.scenario; outline = c.args.outline; spots = c.args.spots } in
+    let asked = asked_in g.S.ViewSet.room q c.requires.host c.requires.made c.requires.written c.requires.listed in
     let there = answer_within g.S.ViewSet.members g.S.ViewSet.room q asked c.loop-i.i c.loop-i-test.true c.answer.new.known.items c.in_ok-answer.answer c.in_ok-answer.ensures.answer in
     omega arith
 
 pub index-requires-in-loop-i : goal.index-requires-in-loop-i
 index-requires-in-loop-i g c =
-    let q : Questions (ViewOf g.row.S.Denot) = record { outline = c.args.outline; spots = c.args.spots } in
-    let asked = asked_in g.S.ViewSet.room (scenario_of c.args.scenario.now) q c.requires.host c.requires.made c.requires.written c.requires.listed in
+    let q : Questions (ViewOf g.row.S.Denot) = record { scenario = c.args.scenario; outline = c.args.outline; spots = c.args.spots } in
+    let asked = asked_in g.S.ViewSet.room q c.requires.host c.requires.made c.requires.written c.requires.listed in
     let there = has_view g.S.ViewSet.members g.S.ViewSet.room q asked c.loop-i.i c.loop-i-test.true in
     omega arith
 
@@ -42,8 +42,8 @@ row_of_spot-requires g c =
     let room = g.S.ViewSet.room in
     let s = scenario_of c.args.scenario.now in
     let o = c.args.outline.now in
-    let q : Questions (ViewOf g.row.S.Denot) = record { outline = c.args.outline; spots = c.args.spots } in
-    let asked = asked_in room s q c.requires.host c.requires.made c.requires.written c.requires.listed in
+    let q : Questions (ViewOf g.row.S.Denot) = record { scenario = c.args.scenario; outline = c.args.outline; spots = c.args.spots } in
+    let asked = asked_in room q c.requires.host c.requires.made c.requires.written c.requires.listed in
     let ys = c.args.spots.now in
     let y = c.index-spots-i.result in
     let n = c.loop-i.i in

@@ -10,12 +10,13 @@ use Rattle.pr_verify.specs.Verdicts.{HasReason}
 use Rattle.pr_verify.specs.Rooms.{outline_of}
 use Rattle.pr_verify.proofs.Reasons.{has_reason}
 use Rattle.pr_roles.specs.Scenarios.{scenario_of, task, task_of}
+use Rattle.pr_script.specs.Scripts.{Stmts}
 use Rattle.pr_script.specs.Trees.{script_of}
-use Rattle.pr_verify.specs.Outlines.{OnScripted, HasOutline}
+use Rattle.pr_verify.specs.Outlines.{OnScripted, HasOutline, SendsFit}
 use Rattle.pr_verify.specs.Rooms.{IsScripted}
 use Rattle.pr_verify.proofs.Nexuses.{scripted_task, scripted_fits, task_read}
 use Rattle.pr_verify.proofs.Tasked.{on_script}
-use Rattle.pr_verify.proofs.Outlined.{has_outline, both_ok}
+use Rattle.pr_verify.proofs.Outlined.{has_outline, one_ok}
 use Rattle.pr_verify.proofs.verifying.check_host.Goals as goal
 
 pub check_cost-requires : goal.check_cost-requires
@@ -47,16 +48,30 @@ returns-in_ok-outline-in-Scripted-clause-outline c =
     let is = scripted_task s host c.nexus_in.result.now c.nexus_in.ensures.nexus c.in-Scripted.script budget c.in-Scripted.is in
     let o = outline_of _ c.in_ok-outline-in-Scripted.outline in
     let least = subst (λ t. OnScripted t (λ b n. IsLeastSound s b o)) is c.in_ok-outline-in-Scripted.ensures.least in
-    both_ok c.check_fit.result
-    (λ fields fitting. on_script (task s host) script budget (HasOutline s host) is
-    (has_outline s host script budget fields c.in_ok-outline-in-Scripted.ensures.host least.sound (fitting budget c.in_ok-check_cost-in-Scripted.ensures.within))) c.check_fit.ensures.fields
-    c.check_fit.ensures.fitting
+    one_ok c.check_fit.result
+    (λ fitting. on_script (task s host) script budget (HasOutline s host) is
+    (has_outline s host script budget c.in_ok-outline-in-Scripted.ensures.host least.sound (fitting budget c.in_ok-check_cost-in-Scripted.ensures.within))) c.check_fit.ensures.fitting
+
+pub returns-in_ok-outline-in-Scripted-clause-fields : goal.returns-in_ok-outline-in-Scripted-clause-fields
+returns-in_ok-outline-in-Scripted-clause-fields c =
+    let s = scenario_of c.args.scenario.now in
+    let host = c.args.host in
+    let script = script_of c.in-Scripted.script in
+    let budget = c.in-Scripted.budget in
+    let is = scripted_task s host c.nexus_in.result.now c.nexus_in.ensures.nexus c.in-Scripted.script budget c.in-Scripted.is in
+    one_ok c.check_fit.result (on_script (task s host) script budget (λ (b : Stmts) (n : ℕ). SendsFit b) is) c.check_fit.ensures.fields
 
 pub returns-in-Planned-clause-outline : goal.returns-in-Planned-clause-outline
 returns-in-Planned-clause-outline c =
     let s = scenario_of c.args.scenario.now in
     let is = task_read s c.args.host c.nexus_in.result.now c.nexus_in.ensures.nexus ∙ ap (λ t. Some (task_of t)) c.in-Planned.is in
     subst (λ t. OnScripted t (HasOutline s c.args.host)) (sym is) tt
+
+pub returns-in-Planned-clause-fields : goal.returns-in-Planned-clause-fields
+returns-in-Planned-clause-fields c =
+    let s = scenario_of c.args.scenario.now in
+    let is = task_read s c.args.host c.nexus_in.result.now c.nexus_in.ensures.nexus ∙ ap (λ t. Some (task_of t)) c.in-Planned.is in
+    subst (λ t. OnScripted t (λ (script : Stmts) (budget : ℕ). SendsFit script)) (sym is) tt
 
 pub returns-in_ok-outline-in-Scripted-clause-reason : goal.returns-in_ok-outline-in-Scripted-clause-reason
 returns-in_ok-outline-in-Scripted-clause-reason c =

@@ -1,8 +1,10 @@
 use Rattle.std.proofs.Common.{ℕ, ◌<◌}
 use Rattle.pr_roles.specs.Scenarios.{scenario_of, task}
-use Rattle.pr_verify.specs.Outlines.{OnScripted, HasOutline}
+use Rattle.pr_verify.specs.Outlines.{OnScripted, HasOutline, SendsFit}
 use Rattle.pr_verify.proofs.verifying.check_hosts.Given as goal
 
--- each scripted host before this one has an outline
+-- each scripted host before this one has an outline, and what it sends is in range
 abbrev pub invariant-loop-host : goal.invariant-loop-host
-invariant-loop-host l = (h : ℕ) → h < l.host → OnScripted (task (scenario_of l.scenario) h) (HasOutline (scenario_of l.scenario) h)
+invariant-loop-host l =
+    ((h : ℕ) → h < l.host → OnScripted (task (scenario_of l.scenario) h) (HasOutline (scenario_of l.scenario) h))
+    × ((h : ℕ) → h < l.host → OnScripted (task (scenario_of l.scenario) h) (λ script budget. SendsFit script))

@@ -30,11 +30,11 @@ returns-clause-known g c =
     all_pushed (IsAnswerTo g.S.ViewSet.members g.S.ViewSet.room c.args.self.now) c.args.known.now.items c.push.new.self.items _ c.in_ok-push.ensures.items c.requires.known
     (answer_to g.S.ViewSet.members g.S.ViewSet.room c.args.self.now c.requires.asked c.args.place c.requires.there (slice_index_or c.args.self.now.spots.now c.args.place c.index-self-place.result) c.index.result.now
     (ap (slice_index_or c.args.self.now.spots.now c.args.place) c.index-self-place.is) c.index.ensures
-    _ refl c.in_ok-outcomes.ensures.made c.deref-2.result.now c.deref-2.ensures.value c.in_ok-outcomes.ensures.outcomes)
+    _ refl c.in_ok-outcomes.ensures.made c.deref-2.result.now c.deref-2.ensures.value c.refusals_in-refusals.result c.refusals_in-refusals.ensures c.in_ok-outcomes.ensures.outcomes)
 
 pub returns-clause-answer : goal.returns-clause-answer
 returns-clause-answer g c =
     answered_now g.S.ViewSet.members g.S.ViewSet.room c.args.self.now c.requires.asked c.args.place c.requires.there (slice_index_or c.args.self.now.spots.now c.args.place c.index-self-place.result) c.index.result.now
     (ap (slice_index_or c.args.self.now.spots.now c.args.place) c.index-self-place.is) c.index.ensures
-    (record { spot = c.args.place; outcomes = c.in_ok-outcomes.outcomes }) refl c.in_ok-outcomes.ensures.made c.deref-2.result.now c.deref-2.ensures.value c.in_ok-outcomes.ensures.outcomes
+    (record { spot = c.args.place; outcomes = c.in_ok-outcomes.outcomes }) refl c.in_ok-outcomes.ensures.made c.deref-2.result.now c.deref-2.ensures.value c.refusals_in-refusals.result c.refusals_in-refusals.ensures c.in_ok-outcomes.ensures.outcomes
     c.args.known.now.items c.push.new.self.items c.len-number.result c.in_ok-push.ensures.items (omega (arith, c.len-number.ensures))
