@@ -1,24 +1,28 @@
 -- The terms of a line are what they are meant to be: names are names, and keys are not zero.
-use Rattle.std.specs.Prelude.{◌≡◌, ℕ, ◌+◌, ◌*◌, ◌<◌, ◌^◌, ◌==◌, Bool, true, false, cond, ◌&&◌, not, nat_lt, nat_le, List, [], ◌∷◌, length, take, drop, slice_index, fold, Option, Some, None, option_map, option_and_then, IfSome, codes, bytes_eq}
+use Rattle.std.specs.Prelude.{◌≡◌, ℕ, ◌+◌, ◌*◌, ◌<◌, ◌^◌, ◌==◌, Bool, true, false, cond, ◌&&◌, not, nat_lt, nat_le, List, [], ◌∷◌, length, take, drop, slice_index, fold, map, Option, Some, None, option_map, option_and_then, IfSome, codes, bytes_eq}
 use Rattle.std.specs.List.{list_all}
 use Rattle.std.proofs.Common.{refl, ap, ◌∙◌, arith, lit<, add-zero, zero-add}
 use Rattle.std.proofs.lemmas.Bool.{and_parts}
 use Rattle.std.proofs.lemmas.Bool.Decides.{nat_tests}
 use Rattle.pr_cdb.specs.declared.command.Kind.{Kind}
 use Rattle.pr_registry.specs.Registrations.{is_all}
+use Rattle.pr_roles.specs.Fitting.{is_version}
 use Rattle.pr_script.specs.Grammar.{has_sense_digit}
 use Rattle.pr_script.specs.Names.{is_name}
 use Rattle.pr_script.specs.declared.script.Test.{Test}
 use Rattle.pr_script.specs.declared.script.Test.TheVariants as test
+use Rattle.pr_lines.specs.declared.item.Refusal.{Refusal}
+use Rattle.pr_lines.specs.declared.item.Refusal.TheVariants as refusal
 use Rattle.pr_lines.specs.declared.keyword.Keyword.{Keyword}
 use Rattle.pr_lines.specs.declared.keyword.Keyword.TheVariants as keyword
-use Rattle.pr_lines.specs.declared.item.TheConstants.{VERSION}
+use Rattle.pr_lines.specs.declared.versions.TheConstants.{VERSIONS}
 use Rattle.pr_lines.specs.TextLines.{character, only, is_end, if_alone}
 use Rattle.pr_lines.specs.WordTerms.{worth, number, digit_of, byte_of, without_prefix, hexadecimal, name_of, key_or_zero, key_of, kind_of, code_of, count_of, generation_of, sense_of}
 use Rattle.pr_lines.specs.CommandWords.{spelled_of, spelled_in}
 use Rattle.pr_lines.specs.Clauses.{clause_of, good_of, test_of}
 use Rattle.pr_lines.specs.Chain.{each}
-use Rattle.pr_lines.specs.ScenarioLines.{StartReservation, nobody, single, everybody, ScenarioLine, keys_line, nexus_line, start_line, pending_line, reservation_line, generation_line, role_line, script_line, plan_line, end_line, send_line, on_line, done_line, repeat_line, break_line, stop_line, command_line, fence_line, list_of, alternative_of, everybody_of, single_of, start_reservation_of, name_in, only_name, budget_in, said_of_name, item_of, declares, states}
+use Rattle.pr_lines.specs.Lookups.{lookup}
+use Rattle.pr_lines.specs.ScenarioLines.{StartReservation, nobody, single, everybody, ScenarioLine, keys_line, nexus_line, start_line, pending_line, refusals_line, reservation_line, generation_line, role_line, script_line, plan_line, end_line, send_line, on_line, done_line, repeat_line, break_line, stop_line, command_line, fence_line, list_of, alternative_of, everybody_of, single_of, start_reservation_of, name_in, only_name, only_count, budget_in, fence_said, said_of_name, item_of, declares, states}
 use Rattle.pr_lines.specs.inside.Keywords.{keyword_of, said_simply, said_after, said_with}
 use Rattle.pr_lines.proofs.ItemWords.{by_keyword}
 use Rattle.pr_lines.proofs.NumberRoom.{digit_more, hex_some}
@@ -33,6 +37,7 @@ is_wanted (single kind name) = not (is_all kind)
 is_wanted (everybody kind) = is_all kind
 
 abbrev pub is_item : ScenarioLine → Bool
+is_item (fence_line version) = is_version version
 is_item (declares (keys_line ks)) = list_all is_key ks
 is_item (declares (nexus_line guest name)) = is_name name
 is_item (declares (start_line name xs)) = not (length xs == 0)
@@ -189,21 +194,39 @@ test_sound [] = tt
 test_sound (w ∷ ws) =
     cond_if OfTest (bytes_eq w (codes "good")) (good_of ws) _ (λ e. good_sound ws)
     (λ e. cond_if OfTest (bytes_eq w (codes "conflict")) (if_alone test.Conflict ws) _ (λ f. alone_sound test.Conflict ws refl)
+    (λ f. cond_if OfTest (bytes_eq w (codes "busy")) (if_alone test.Busy ws) _ (λ g. alone_sound test.Busy ws refl)
+    (λ f. cond_if OfTest (bytes_eq w (codes "full")) (if_alone test.Full ws) _ (λ g. alone_sound test.Full ws refl)
     (λ f. cond_if OfTest (bytes_eq w (codes "attention")) (if_alone test.Attention ws) _ (λ g. alone_sound test.Attention ws refl)
     (λ g. cond_if OfTest (bytes_eq w (codes "sense")) _ None
     (λ h. bind_if (λ _. Unit {0}) OfTest (λ word. option_map (λ sense. test.Sense sense) (sense_of word)) (only ws) (any_if _)
     (λ word i. map_if (λ s. nat_lt s.key 16 ≡ true) OfTest (λ sense. test.Sense sense) (sense_of word) (sense_sound word) (λ s j. j)))
-    (λ h. tt))))
+    (λ h. tt))))))
 
 -- ---- lines
 
 abbrev Sound : ScenarioLine → Type 0
 Sound i = is_item i ≡ true
 
+abbrev version_of : List ℕ → Option ℕ
+version_of word = lookup (map (λ row. (row.0.now, row.1)) VERSIONS) word
+
+version_sound : (w : List ℕ) → IfSome (version_of w) (λ v. is_version v ≡ true)
+version_sound w =
+    cond_if (λ v. is_version v ≡ true) (bytes_eq w (codes "1")) (Some 1) _ (λ e. refl)
+    (λ e. cond_if (λ v. is_version v ≡ true) (bytes_eq w (codes "2")) (Some 2) None (λ f. refl) (λ f. tt))
+
+fence_sound : (ws : List (List ℕ)) → IfSome (fence_said ws) Sound
+fence_sound ws = bind_if (λ _. Unit {0}) Sound (λ w. option_map (λ v. fence_line v) (version_of w)) (only ws) (any_if (only ws)) (λ w h. map_if (λ v. is_version v ≡ true) Sound (λ v. fence_line v) (version_of w) (version_sound w) (λ v i. i))
+
+refusals_sound : (r : Refusal) (ws : List (List ℕ)) → IfSome (said_of_name (λ name count. declares (refusals_line r name count)) only_count ws) Sound
+refusals_sound r ws = bind_if (λ _. Unit {0}) Sound (λ p. option_map (λ count. declares (refusals_line r p.0 count)) (only_count p.1)) (name_in ws) (any_if _) (λ p h. map_if (λ _. Unit {0}) Sound (λ count. declares (refusals_line r p.0 count)) (only_count p.1) (any_if _) (λ x k. refl))
+
 simply_sound : (k : Keyword) (ws : List (List ℕ)) → IfSome (said_simply k ws) Sound
-simply_sound keyword.Fence ws = bind_if (λ _. Unit {0}) Sound (λ w. cond (bytes_eq w VERSION.now) (Some fence_line) None) (only ws) (any_if (only ws)) (λ w h. keep_if Sound (bytes_eq w VERSION.now) fence_line (λ e. refl))
+simply_sound keyword.Fence ws = fence_sound ws
 simply_sound keyword.Host ws = map_if (λ x. is_name x ≡ true) Sound (λ name. declares (nexus_line false name)) (only_name ws) (only_name_sound ws) (λ x h. h)
 simply_sound keyword.Guest ws = map_if (λ x. is_name x ≡ true) Sound (λ name. declares (nexus_line true name)) (only_name ws) (only_name_sound ws) (λ x h. h)
+simply_sound keyword.Busy ws = refusals_sound refusal.Busy ws
+simply_sound keyword.Full ws = refusals_sound refusal.Full ws
 simply_sound keyword.Generation ws = map_if (λ _. Unit {0}) Sound (λ n. declares (generation_line n)) (option_and_then generation_of (only ws)) (any_if _) (λ x h. refl)
 simply_sound keyword.Role ws = bind_if (λ _. Unit {0}) Sound (λ r. option_map (λ clause. declares (role_line r.0 clause)) (clause_of r.1)) (name_in ws) (any_if _) (λ r h. map_if (λ _. Unit {0}) Sound (λ clause. declares (role_line r.0 clause)) (clause_of r.1) (any_if _) (λ x k. refl))
 simply_sound keyword.Script ws = bind_if (λ _. Unit {0}) Sound (λ r. option_map (λ budget. declares (script_line r.0 budget)) (budget_in r.1)) (name_in ws) (any_if _) (λ r h. map_if (λ _. Unit {0}) Sound (λ budget. declares (script_line r.0 budget)) (budget_in r.1) (any_if _) (λ x k. refl))
@@ -246,6 +269,8 @@ after_sound keyword.Reservation ws = reservation_sound ws
 after_sound keyword.Fence ws = simply_sound keyword.Fence ws
 after_sound keyword.Host ws = simply_sound keyword.Host ws
 after_sound keyword.Guest ws = simply_sound keyword.Guest ws
+after_sound keyword.Busy ws = simply_sound keyword.Busy ws
+after_sound keyword.Full ws = simply_sound keyword.Full ws
 after_sound keyword.Generation ws = simply_sound keyword.Generation ws
 after_sound keyword.Role ws = simply_sound keyword.Role ws
 after_sound keyword.Script ws = simply_sound keyword.Script ws

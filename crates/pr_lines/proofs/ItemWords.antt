@@ -20,6 +20,8 @@ by_keyword w ws =
     with_keyword (bytes_eq w (codes "guest")) keyword.Guest _ w ws _ (
     with_keyword (bytes_eq w (codes "start")) keyword.Start _ w ws _ (
     with_keyword (bytes_eq w (codes "pending")) keyword.Pending _ w ws _ (
+    with_keyword (bytes_eq w (codes "busy")) keyword.Busy _ w ws _ (
+    with_keyword (bytes_eq w (codes "full")) keyword.Full _ w ws _ (
     with_keyword (bytes_eq w (codes "reservation")) keyword.Reservation _ w ws _ (
     with_keyword (bytes_eq w (codes "generation")) keyword.Generation _ w ws _ (
     with_keyword (bytes_eq w (codes "role")) keyword.Role _ w ws _ (
@@ -32,4 +34,4 @@ by_keyword w ws =
     with_keyword (bytes_eq w (codes "repeat")) keyword.Repeat _ w ws _ (
     with_keyword (bytes_eq w (codes "break")) keyword.Break _ w ws _ (
     with_keyword (bytes_eq w (codes "stop")) keyword.Stop _ w ws _ (
-    refl))))))))))))))))))
+    refl))))))))))))))))))))

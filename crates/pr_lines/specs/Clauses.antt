@@ -62,5 +62,7 @@ test_of [] = None
 test_of (w ∷ ws) =
     if bytes_eq w (codes "good") then good_of ws else (
     if bytes_eq w (codes "conflict") then if_alone test.Conflict ws else (
+    if bytes_eq w (codes "busy") then if_alone test.Busy ws else (
+    if bytes_eq w (codes "full") then if_alone test.Full ws else (
     if bytes_eq w (codes "attention") then if_alone test.Attention ws else (
-    if bytes_eq w (codes "sense") then (only ws >>= λ word. option_map (λ sense. test.Sense sense) (sense_of word)) else None)))
+    if bytes_eq w (codes "sense") then (only ws >>= λ word. option_map (λ sense. test.Sense sense) (sense_of word)) else None)))))

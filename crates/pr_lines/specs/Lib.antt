@@ -7,4 +7,5 @@ pub mod CommandWords
 pub mod Clauses
 pub mod ScenarioLines
 pub mod LineValues
+pub mod Versions
 pub mod inside

@@ -1,14 +1,17 @@
 -- Agrees with docs/FORMATS.md, 'The lines of a scenario'.
 -- What one line of a text says.
-use Rattle.std.specs.Prelude.{ℕ, Bool, true, false, ◌==◌, if◌then◌else◌, List, [], ◌∷◌, length, take, drop, slice_index, codes, bytes_eq, Option, Some, None, option_map}
+use Rattle.std.specs.Prelude.{ℕ, Bool, true, false, ◌==◌, if◌then◌else◌, List, [], ◌∷◌, length, take, drop, slice_index, codes, bytes_eq, Option, Some, None, option_map, map}
 use Rattle.pr_cdb.specs.declared.command.Kind.{Kind}
 use Rattle.pr_attention.specs.declared.attention.Attention.{Attention}
 use Rattle.pr_registry.specs.Registrations.{is_all}
 use Rattle.pr_script.specs.declared.script.Test.{Test}
 use Rattle.pr_roles.specs.declared.role.Clause.{Clause}
-use Rattle.pr_lines.specs.declared.item.TheConstants.{VERSION}
+use Rattle.pr_lines.specs.declared.versions.TheConstants.{VERSIONS}
+use Rattle.pr_lines.specs.declared.item.Refusal.{Refusal}
+use Rattle.pr_lines.specs.declared.item.Refusal.TheVariants as refusal
 use Rattle.pr_lines.specs.declared.spelling.ParsedCommand.{ParsedCommand}
 use Rattle.pr_lines.specs.Chain.{◌>>=◌, each}
+use Rattle.pr_lines.specs.Lookups.{lookup}
 use Rattle.pr_lines.specs.TextLines.{character, only, is_end, if_alone}
 use Rattle.pr_lines.specs.WordTerms.{name_of, key_of, generation_of, count_of, kind_of, code_of}
 use Rattle.pr_lines.specs.CommandWords.{spelled_of, spelled_in}
@@ -21,13 +24,14 @@ pub data StartReservation : Type 0 where
   single : Kind → List ℕ → StartReservation
   everybody : Kind → StartReservation
 
--- A line outside scripts and plans, with the terms on it. A nexus is a guest where the flag says so. A key, a
--- count or a name need not be one that the text may have there.
+-- A line outside scripts and plans, with the terms on it. A nexus is a guest where the flag says so, and a line of
+-- refusals says how often one may come. A key, a count or a name need not be one that the text may have there.
 pub data DeclaringLine : Type 0 where
   keys_line : List ℕ → DeclaringLine
   nexus_line : Bool → List ℕ → DeclaringLine
   start_line : List ℕ → List (Option ℕ) → DeclaringLine
   pending_line : List ℕ → List Attention → DeclaringLine
+  refusals_line : Refusal → List ℕ → ℕ → DeclaringLine
   reservation_line : List StartReservation → DeclaringLine
   generation_line : ℕ → DeclaringLine
   role_line : List ℕ → Clause → DeclaringLine
@@ -45,7 +49,7 @@ pub data StatementLine : Type 0 where
 
 -- a line that keeps its shape
 pub data ScenarioLine : Type 0 where
-  fence_line : ScenarioLine
+  fence_line : ℕ → ScenarioLine
   declares : DeclaringLine → ScenarioLine
   states : StatementLine → ScenarioLine
   command_line : ParsedCommand → ScenarioLine
@@ -88,14 +92,18 @@ name_in (w ∷ ws) = option_map (λ name. (name, ws)) (name_of w)
 abbrev pub only_name : List (List ℕ) → Option (List ℕ)
 only_name ws = only ws >>= name_of
 
+-- a count and nothing else
+abbrev pub only_count : List (List ℕ) → Option ℕ
+only_count ws = only ws >>= count_of
+
 -- `budget` and a count
 abbrev pub budget_in : List (List ℕ) → Option ℕ
 budget_in [] = None
-budget_in (w ∷ ws) = if bytes_eq w (codes "budget") then (only ws >>= count_of) else None
+budget_in (w ∷ ws) = if bytes_eq w (codes "budget") then only_count ws else None
 
 -- the version of the language that this is
 abbrev pub fence_said : List (List ℕ) → Option ScenarioLine
-fence_said ws = only ws >>= λ word. if bytes_eq word VERSION.now then Some fence_line else None
+fence_said ws = only ws >>= λ word. option_map (λ version. fence_line version) (lookup (map (λ row. (row.0.now, row.1)) VERSIONS) word)
 
 -- what a line says of a name, and of what the words behind it are
 abbrev pub said_of_name : {A : Type 0} → (List ℕ → A → ScenarioLine) → (List (List ℕ) → Option A) → List (List ℕ) → Option ScenarioLine
@@ -110,6 +118,8 @@ item_of word ws =
     if bytes_eq word (codes "guest") then option_map (λ name. declares (nexus_line true name)) (only_name ws) else (
     if bytes_eq word (codes "start") then said_of_name (λ name xs. declares (start_line name xs)) (list_of alternative_of) ws else (
     if bytes_eq word (codes "pending") then said_of_name (λ name xs. declares (pending_line name xs)) (list_of code_of) ws else (
+    if bytes_eq word (codes "busy") then said_of_name (λ name count. declares (refusals_line refusal.Busy name count)) only_count ws else (
+    if bytes_eq word (codes "full") then said_of_name (λ name count. declares (refusals_line refusal.Full name count)) only_count ws else (
     if bytes_eq word (codes "reservation") then option_map (λ xs. declares (reservation_line xs)) (list_of start_reservation_of ws) else (
     if bytes_eq word (codes "generation") then option_map (λ n. declares (generation_line n)) (only ws >>= generation_of) else (
     if bytes_eq word (codes "role") then said_of_name (λ name clause. declares (role_line name clause)) clause_of ws else (
@@ -119,7 +129,7 @@ item_of word ws =
     if bytes_eq word (codes "send") then option_map (λ s. states (send_line s)) (spelled_in ws) else (
     if bytes_eq word (codes "on") then option_map (λ t. states (on_line t)) (test_of ws) else (
     if bytes_eq word (codes "done") then if_alone (states done_line) ws else (
-    if bytes_eq word (codes "repeat") then option_map (λ n. states (repeat_line n)) (only ws >>= count_of) else (
+    if bytes_eq word (codes "repeat") then option_map (λ n. states (repeat_line n)) (only_count ws) else (
     if bytes_eq word (codes "break") then if_alone (states break_line) ws else (
     if bytes_eq word (codes "stop") then option_map (λ word. states (stop_line word)) (only_name ws) else (
-    option_map (λ s. command_line s) (spelled_of word ws)))))))))))))))))))
+    option_map (λ s. command_line s) (spelled_of word ws)))))))))))))))))))))

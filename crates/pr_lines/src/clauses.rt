@@ -118,6 +118,12 @@ pub fn test_of(line: &[u8]) -> Option<Test>
     if is(word, "conflict") {
         return if_alone(Test::Conflict, rest);
     }
+    if is(word, "busy") {
+        return if_alone(Test::Busy, rest);
+    }
+    if is(word, "full") {
+        return if_alone(Test::Full, rest);
+    }
     if is(word, "attention") {
         return if_alone(Test::Attention, rest);
     }

@@ -4,24 +4,23 @@ ghost use Rattle.std.specs.Prelude.{◌≡◌, map, option_map, IfOk};
 ghost use Rattle.pr_lines.specs.TextLines.{words, if_alone};
 ghost use Rattle.pr_lines.specs.WordTerms.{key_of, code_of};
 ghost use Rattle.pr_lines.specs.Clauses.{clause_of};
-ghost use Rattle.pr_lines.specs.ScenarioLines.{list_of, alternative_of, everybody_of, single_of, start_reservation_of, name_in, only_name, budget_in, fence_said, said_of_name, item_of, declares, keys_line, start_line, pending_line, reservation_line, role_line, script_line};
+ghost use Rattle.pr_lines.specs.ScenarioLines.{list_of, alternative_of, everybody_of, single_of, start_reservation_of, name_in, only_name, only_count, budget_in, fence_said, said_of_name, item_of, declares, keys_line, start_line, pending_line, refusals_line, reservation_line, role_line, script_line};
 ghost use Rattle.pr_lines.specs.inside.Keywords.{said_simply, said_after};
 ghost use Rattle.pr_lines.specs.LineValues.{wanted_seen, line_of_value};
 
 use crate::clauses::{clause_of, test_of};
 use crate::cutting::{is, is_end, next_word, only};
 use crate::keyword::{Keyword, keyword_of};
+use crate::lookup::lookup;
 use crate::spelling::{ParsedCommand, spelled_in, spelled_of};
 use crate::terms::{code_of, count_of, generation_of, key_of, kind_of, name_of};
+use crate::versions::VERSIONS;
 use pr_attention::Attention;
 use pr_cdb::Kind;
 use pr_registry::is_all;
 use pr_roles::{Clause, Word};
 use pr_script::Test;
 use std::alloc::{AllocError, Global};
-
-/// The version of the language.
-pub const VERSION: &str = "1";
 
 /// A reservation that there may be at the start: an ALT of a line `reservation` (docs/FORMATS.md, 'The lines of a
 /// scenario').
@@ -35,14 +34,23 @@ pub enum StartReservation {
     Everybody(Kind),
 }
 
+/// A refusal in which the unit has no part (SAM-5, 'Status').
+#[derive(Clone, Copy, Debug, PartialEq, Eq)]
+pub enum Refusal {
+    /// BUSY.
+    Busy,
+    /// TASK SET FULL.
+    Full,
+}
+
 /// A line that keeps its shape, with the terms on it (docs/FORMATS.md, 'The lines of a scenario' and 'Statements').
 ///
 /// A list has at least one element. A term has its form, and need not be one that the text may have there: a name
 /// need not be declared, nor a key, and a count may be past its limit.
 #[derive(Drop)]
 pub enum ScenarioLine {
-    /// The first line with words: the version of the language.
-    Fence,
+    /// The first line with words: the version of the language, 1 or 2.
+    Fence(u8),
     /// The declared keys, none of them zero.
     Keys(Vec<u64>),
     /// A host with this name.
@@ -53,6 +61,8 @@ pub enum ScenarioLine {
     Start(Word, Vec<Option<u64>>),
     /// The attentions that may be pending at the start for the nexus with this name.
     Pending(Word, Vec<Attention>),
+    /// How often the nexus with this name may meet this refusal.
+    Refusals(Refusal, Word, u64),
     /// The reservations that there may be at the start.
     Reservation(Vec<StartReservation>),
     /// The generation of the first start.
@@ -121,6 +131,8 @@ fn said_simply(keyword: Keyword, rest: &[u8]) -> Option<ScenarioLine>
         Keyword::Fence => fence_said(rest),
         Keyword::Host => Some(ScenarioLine::Host(only_name(rest)?)),
         Keyword::Guest => Some(ScenarioLine::Guest(only_name(rest)?)),
+        Keyword::Busy => refusals_said(Refusal::Busy, rest),
+        Keyword::Full => refusals_said(Refusal::Full, rest),
         Keyword::Generation => Some(ScenarioLine::Generation(generation_of(only(rest)?)?)),
         Keyword::Role => role_said(rest),
         Keyword::Script => script_said(rest),
@@ -129,7 +141,7 @@ fn said_simply(keyword: Keyword, rest: &[u8]) -> Option<ScenarioLine>
         Keyword::Send => Some(ScenarioLine::Send(spelled_in(rest)?)),
         Keyword::On => Some(ScenarioLine::On(test_of(rest)?)),
         Keyword::Done => if_alone(ScenarioLine::Done, rest),
-        Keyword::Repeat => Some(ScenarioLine::Repeat(count_of(only(rest)?)?)),
+        Keyword::Repeat => Some(ScenarioLine::Repeat(only_count(rest)?)),
         Keyword::Break => if_alone(ScenarioLine::Break, rest),
         Keyword::Stop => Some(ScenarioLine::Stop(only_name(rest)?)),
         Keyword::Keys | Keyword::Start | Keyword::Pending | Keyword::Reservation => None,
@@ -146,11 +158,18 @@ fn if_alone(item: ScenarioLine, rest: &[u8]) -> Option<ScenarioLine>
 fn fence_said(rest: &[u8]) -> Option<ScenarioLine>
     ensures { option_map line_of_value result ≡ fence_said (words rest.now) }
 {
-    if is(only(rest)?, VERSION) {
-        Some(ScenarioLine::Fence)
-    } else {
-        None
-    }
+    let version = lookup(&VERSIONS, only(rest)?)?;
+    Some(ScenarioLine::Fence(version))
+}
+
+fn refusals_said(refusal: Refusal, rest: &[u8]) -> Option<ScenarioLine>
+    ensures { option_map line_of_value result ≡ said_of_name (λ name count. declares (refusals_line refusal name count)) only_count (words rest.now) }
+{
+    let Some((name, others)) = name_in(rest) else {
+        return None;
+    };
+    let count = only_count(others)?;
+    Some(ScenarioLine::Refusals(refusal, name, count))
 }
 
 fn role_said(rest: &[u8]) -> Option<ScenarioLine>
@@ -178,7 +197,7 @@ fn budget_in(line: &[u8]) -> Option<u64>
 {
     let (word, rest) = next_word(line)?;
     if is(word, "budget") {
-        count_of(only(rest)?)
+        only_count(rest)
     } else {
         None
     }
@@ -198,6 +217,13 @@ fn only_name(line: &[u8]) -> Option<Word>
     ensures { option_map (λ name. name.bytes) result ≡ only_name (words line.now) }
 {
     name_of(only(line)?)
+}
+
+// The count that is the line's one word.
+fn only_count(line: &[u8]) -> Option<u64>
+    ensures { result ≡ only_count (words line.now) }
+{
+    count_of(only(line)?)
 }
 
 fn keys_said(alloc: Global, rest: &[u8]) -> Result<Option<ScenarioLine>, AllocError>

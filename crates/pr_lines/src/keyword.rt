@@ -14,6 +14,8 @@ pub enum Keyword {
     Guest,
     Start,
     Pending,
+    Busy,
+    Full,
     Reservation,
     Generation,
     Role,
@@ -29,13 +31,15 @@ pub enum Keyword {
 }
 
 /// The words that lines begin with (docs/FORMATS.md, 'The lines of a scenario').
-pub const KEYWORDS: [(&[u8], Keyword); 18] = [
+pub const KEYWORDS: [(&[u8], Keyword); 20] = [
     (b"fence", Keyword::Fence),
     (b"keys", Keyword::Keys),
     (b"host", Keyword::Host),
     (b"guest", Keyword::Guest),
     (b"start", Keyword::Start),
     (b"pending", Keyword::Pending),
+    (b"busy", Keyword::Busy),
+    (b"full", Keyword::Full),
     (b"reservation", Keyword::Reservation),
     (b"generation", Keyword::Generation),
     (b"role", Keyword::Role),

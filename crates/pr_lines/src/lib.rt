@@ -14,7 +14,8 @@ mod lookup;
 mod options;
 mod spelling;
 mod terms;
+mod versions;
 
 pub use cutting::{is_text, next_line, next_word};
-pub use item::{ScenarioLine, StartReservation, item_of};
+pub use item::{Refusal, ScenarioLine, StartReservation, item_of};
 pub use spelling::ParsedCommand;

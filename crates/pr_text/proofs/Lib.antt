@@ -10,6 +10,8 @@ pub mod Soundness
 pub mod FrontOfText
 pub mod Trees
 pub mod SoundScripts
+pub mod Dates
+pub mod Dating
 pub mod SoundPlaces
 pub mod SoundLists
 pub mod OneReading

@@ -122,8 +122,8 @@ task_same (Planned cs) (Planned ds) e = cc
 
 nexus_same : (m n : Nexus) → nexus_written m ≡ nexus_written n → m ≡ n
 nexus_same m n e =
-    ap (λ w. record { name = w.name; role = w.role; start = w.start; pending = w.pending; task = m.task }) e
-    ∙ ap (λ t. record { name = n.name; role = n.role; start = n.start; pending = n.pending; task = t }) (task_same m.task n.task (ap (λ w. w.task) e))
+    ap (λ w. record { name = w.name; role = w.role; start = w.start; pending = w.pending; task = m.task; busy = w.busy; full = w.full }) e
+    ∙ ap (λ t. record { name = n.name; role = n.role; start = n.start; pending = n.pending; task = t; busy = n.busy; full = n.full }) (task_same m.task n.task (ap (λ w. w.task) e))
 
 first_nexus : (x y : WrittenNexus) (xs ys : List WrittenNexus) → x ∷ xs ≡ y ∷ ys → x ≡ y
 first_nexus x y xs ys e = cc
@@ -140,16 +140,17 @@ nexuses_same [] (n ∷ ns) e = cc
 nexuses_same (m ∷ ms) [] e = cc
 nexuses_same (m ∷ ms) (n ∷ ns) e = same_nexuses m n ms ns (nexus_same m n (first_nexus _ _ _ _ e)) (nexuses_same ms ns (other_nexuses _ _ _ _ e))
 
-scenario_same : (s t : Scenario) → s.keys ≡ t.keys → s.reservations ≡ t.reservations → s.generation ≡ t.generation → s.nexuses ≡ t.nexuses → s ≡ t
-scenario_same s t a b c d =
-    ap (λ x. record { keys = x; reservations = s.reservations; generation = s.generation; nexuses = s.nexuses }) a
-    ∙ (ap (λ x. record { keys = t.keys; reservations = x; generation = s.generation; nexuses = s.nexuses }) b
-    ∙ (ap (λ x. record { keys = t.keys; reservations = t.reservations; generation = x; nexuses = s.nexuses }) c
-    ∙ ap (λ x. record { keys = t.keys; reservations = t.reservations; generation = t.generation; nexuses = x }) d))
+scenario_same : (s t : Scenario) → s.version ≡ t.version → s.keys ≡ t.keys → s.reservations ≡ t.reservations → s.generation ≡ t.generation → s.nexuses ≡ t.nexuses → s ≡ t
+scenario_same s t v a b c d =
+    ap (λ x. record { version = x; keys = s.keys; reservations = s.reservations; generation = s.generation; nexuses = s.nexuses }) v
+    ∙ (ap (λ x. record { version = t.version; keys = x; reservations = s.reservations; generation = s.generation; nexuses = s.nexuses }) a
+    ∙ (ap (λ x. record { version = t.version; keys = t.keys; reservations = x; generation = s.generation; nexuses = s.nexuses }) b
+    ∙ (ap (λ x. record { version = t.version; keys = t.keys; reservations = t.reservations; generation = x; nexuses = s.nexuses }) c
+    ∙ ap (λ x. record { version = t.version; keys = t.keys; reservations = t.reservations; generation = t.generation; nexuses = x }) d)))
 
 declared_same : (d : Declared) (s t : Scenario) → IsDeclaredBy d s → IsDeclaredBy d t → s ≡ t
 declared_same d s t p q =
-    scenario_same s t (p.keys ∙ sym q.keys) (p.reservations ∙ sym q.reservations) (p.generation ∙ sym q.generation)
+    scenario_same s t (p.version ∙ sym q.version) (p.keys ∙ sym q.keys) (p.reservations ∙ sym q.reservations) (p.generation ∙ sym q.generation)
     (nexuses_same s.nexuses t.nexuses (p.nexuses ∙ sym q.nexuses))
 
 along : (d e : Declared) (s t : Scenario) → d ≡ e → IsDeclaredBy d s → IsDeclaredBy e t → s ≡ t

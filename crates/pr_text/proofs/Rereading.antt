@@ -1,13 +1,14 @@
 -- The lines of a script that fits have no fault.
 use Rattle.std.specs.Prelude.{◌≡◌, ℕ, ◌+◌, ◌≤◌, ◌==◌, Bool, true, false, ◌&&◌, not, nat_lt, nat_le, List, [], ◌∷◌, ◌++◌, count_by, Result, Ok, Err}
+use Rattle.std.specs.List.{list_all}
 use Rattle.std.proofs.Common.{refl, sym, ap, ◌∙◌, arith, append_assoc, append-nil}
 use Rattle.std.proofs.lemmas.Bool.{and_parts}
 use Rattle.std.proofs.lemmas.Bool.Decides.{nat_tests}
 use Rattle.pr_cdb.specs.declared.command.Command.{Command}
 use Rattle.pr_script.specs.declared.script.Test.{Test}
-use Rattle.pr_script.specs.declared.script.Test.TheVariants as test
 use Rattle.pr_script.specs.Scripts.{Stmt, Stmts, Arms, sends, repeats, breaks, stops, none, more, no_arm, arm}
 use Rattle.pr_script.specs.Grammar.{is_written, stands_under, is_test_declared, has_sense_digit, test_fits, count_of_arms, begins_body, is_send_written, is_repeat_written, statement_fits, statements_fit, arms_fit, count_of, count_of_all, count_in_arms}
+use Rattle.pr_roles.specs.Fitting.{is_version}
 use Rattle.pr_text.specs.declared.fault.ReadError.{ReadError}
 use Rattle.pr_text.specs.Faults.{and_then}
 use Rattle.pr_lines.specs.CommandWords.{without_keys}
@@ -15,12 +16,14 @@ use Rattle.pr_text.specs.ScriptLines.{ScriptLine, send_at, arm_on, block_done, r
 use Rattle.pr_text.specs.Declarations.{OpenBlock, repeating, sending, OpenLines, Declared}
 use Rattle.pr_text.specs.Standing.{is_repeating, is_sending, awaits_arm, is_in_repeat, may_close}
 use Rattle.pr_lines.specs.ScenarioLines.{states, send_line, on_line, done_line, repeat_line, break_line, stop_line}
-use Rattle.pr_text.specs.inside.Chains.{all_stepped, script_step, item_taken}
+use Rattle.pr_text.specs.inside.Chains.{all_stepped, script_step, item_standing}
 use Rattle.pr_text.specs.Declaring.{declared_keys}
 use Rattle.pr_text.specs.ScriptRoundTrip.{ScriptsHaveNoFault, said_by, number_of_line, script_said, all_said, within}
 use Rattle.pr_lines.proofs.Tests.{both, true_le}
 use Rattle.pr_text.proofs.Trees.{no_not, one_more, as_many}
-use Rattle.pr_text.proofs.LineOrder.{in_order}
+use Rattle.pr_text.proofs.LineOrder.{in_version}
+use Rattle.pr_text.proofs.Dates.{body_dated, has_line}
+use Rattle.pr_text.specs.inside.Sound.{is_line_of}
 use Rattle.pr_text.specs.NextLine.{begun_script}
 
 -- an open script by its parts
@@ -258,8 +261,8 @@ mutual
 -- ---- a whole script
 
 taken : (n : ℕ) (d : Declared) (l : ScriptLine) (o : OpenLines)
-    → item_taken (number_of_line n l) (states (said_by l)) (within d o) ≡ and_then (script_step (number_of_line n l) (declared_keys d) (said_by l) o) (λ q. Ok (within d q))
-unfolding item_taken
+    → item_standing (number_of_line n l) (states (said_by l)) (within d o) ≡ and_then (script_step (number_of_line n l) (declared_keys d) (said_by l) o) (λ q. Ok (within d q))
+unfolding item_standing
 taken n d (send_at m c) o = refl
 taken n d (arm_on t) o = refl
 taken n d block_done o = refl
@@ -273,15 +276,16 @@ step_then : (n : ℕ) (d : Declared) (r : Result OpenLines ReadError) (ls : List
 step_then n d (Ok q) ls rest = rest q
 step_then n d (Err e) ls rest = refl
 
-all_step : (n : ℕ) (d : Declared) (ls : List ScriptLine) (o : OpenLines)
+all_step : (n : ℕ) (d : Declared) (ls : List ScriptLine) (o : OpenLines) → is_version d.version ≡ true → list_all (is_line_of d.version) ls ≡ true
     → all_said (script_said n ls) (within d o) ≡ and_then (all_stepped n (declared_keys d) ls o) (λ q. Ok (within d q))
-all_step n d [] o = refl
-all_step n d (l ∷ ls) o =
-    ap (λ r. and_then r (all_said (script_said n ls))) (in_order (number_of_line n l) (states (said_by l)) (within d o) ∙ taken n d l o)
-    ∙ step_then n d (script_step (number_of_line n l) (declared_keys d) (said_by l) o) ls (λ q. all_step n d ls q)
+all_step n d [] o known has = refl
+all_step n d (l ∷ ls) o known has =
+    let parts = and_parts (is_line_of d.version l) _ has in
+    ap (λ r. and_then r (all_said (script_said n ls))) (in_version (number_of_line n l) (states (said_by l)) (within d o) (has_line d.version l known parts.0) ∙ taken n d l o)
+    ∙ step_then n d (script_step (number_of_line n l) (declared_keys d) (said_by l) o) ls (λ q. all_step n d ls q known parts.1)
 
 pub reread : ScriptsHaveNoFault
-reread n d host budget b fits =
+reread n d host budget b known has fits =
     let keys = declared_keys d in
     let p = and_parts (statements_fit keys 0 0 b) _ fits in
     let q = and_parts (nat_le (count_of_all b) 512) _ p.1 in
@@ -291,7 +295,7 @@ reread n d host budget b fits =
     ∙ body_goes n keys host budget b 0 0 [] [] 0 [] false p.0 (record { repeats_are = refl; sends_are = refl; free = refl }) (follows_first b) (from_none (count_of_all b) 512 (true_le (count_of_all b) 512 q.0)) in
     record {
       script = script;
-      stepped = all_step n d (body_lines b) (begun_script host budget) ∙ goes _ script (λ o. Ok (within d o)) steps;
+      stepped = all_step n d (body_lines b) (begun_script host budget) known (body_dated d.version b ∙ has) ∙ goes _ script (λ o. Ok (within d o)) steps;
       host_is = refl;
       budget_is = refl;
       lines_are = refl;

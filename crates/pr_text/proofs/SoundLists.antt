@@ -79,6 +79,8 @@ module _ (keys : List ℕ) where
   test_more c (test.GoodHeld key) h = let parts = and_parts (is_read_reservation c) _ h in both _ _ parts.0 (written_key key parts.1)
   test_more c test.GoodUnheld h = h
   test_more c test.Conflict h = refl
+  test_more c test.Busy h = refl
+  test_more c test.Full h = refl
   test_more c test.Attention h = refl
   test_more c (test.Sense sense) h = h
 
@@ -163,7 +165,6 @@ keys_sound n keys d e at sound h r =
         once = both _ _ (few_keys (length keys) b.0) (not_no _ parts.1);
       };
       reservations = h.reservations;
-      few = h.few;
       apart = h.apart;
       each = declarations_more keys d.nexuses (subst (λ ks. AreDeclarations ks d.nexuses) before h.each);
       place = subst (IsPlace keys (n + 1)) (sym at) tt;
@@ -249,13 +250,10 @@ declarations_with keys [] x all is = (is, tt)
 declarations_with keys (y ∷ xs) x all is = (all.0, declarations_with keys xs x all.1 is)
 
 abbrev new_nexus : ℕ → Bool → List ℕ → Declaration
-new_nexus n guest name = record { name = name; line = n; is_guest = guest; start = None; pending = None; role = []; task = None }
+new_nexus n guest name = record { name = name; line = n; is_guest = guest; start = None; pending = None; busy = None; full = None; role = []; task = None }
 
 one_long : (xs : List Declaration) (x : Declaration) → length (xs ++ x ∷ []) ≡ length xs + 1
 one_long xs x = omega (arith, length-append xs (x ∷ []))
-
-few_more : (n : ℕ) → nat_le 8 n ≡ false → nat_le (n + 1) 8 ≡ true
-few_more n h = grind (arith, nat_tests)
 
 pub nexus_sound : (n : ℕ) (guest : Bool) (name : List ℕ) (d e : Declared) → d.place ≡ outside → is_name name ≡ true → IsSound n d → nexus_placed (n + 1) guest name d ≡ Ok e → IsSound (n + 1) e
 unfolding nexus_placed
@@ -268,7 +266,6 @@ nexus_sound n guest name d e at named h r =
     subst (IsSound (n + 1)) same (record {
       keys = h.keys;
       reservations = rw (one_long d.nexuses x) (reservations_more (reservations_of d) (length d.nexuses) h.reservations);
-      few = rw (one_long d.nexuses x) (few_more (length d.nexuses) b.0);
       apart = names_more d.nexuses x h.apart fresh;
       each = declarations_with (declared_keys d) d.nexuses x h.each (record { described = both _ _ named refl; task = tt });
       place = subst (IsPlace (declared_keys d) (n + 1)) (sym at) tt;
@@ -324,7 +321,6 @@ placed_helds n ws d e (Some vs) at s h is r =
     subst (IsSound (n + 1)) same (record {
       keys = h.keys;
       reservations = both _ _ (some_held (length vs) (length ws) held.1 wanted.0) (both _ _ held.0 (not_no _ apart));
-      few = h.few;
       apart = h.apart;
       each = h.each;
       place = subst (IsPlace (declared_keys d) (n + 1)) (sym at) tt;

@@ -13,15 +13,19 @@ use Rattle.pr_script.specs.Grammar.{is_written}
 use Rattle.pr_roles.specs.declared.role.Clause.{Clause}
 use Rattle.pr_roles.specs.Fitting.{is_action, is_role}
 use Rattle.pr_text.specs.declared.fault.ReadError.{ReadError}
+use Rattle.pr_lines.specs.declared.item.Refusal.{Refusal}
+use Rattle.pr_lines.specs.declared.item.Refusal.TheVariants as refusal
 use Rattle.pr_lines.specs.declared.spelling.ParsedCommand.{ParsedCommand}
 use Rattle.pr_text.specs.Faults.{and_then}
 use Rattle.pr_text.specs.Declarations.{OpenLines, WrittenTask, scripted, planned, Declaration, Place, before_all, outside, in_script, in_plan, Declared}
-use Rattle.pr_lines.specs.ScenarioLines.{ScenarioLine, keys_line, nexus_line, start_line, pending_line, reservation_line, generation_line, role_line, script_line, plan_line, end_line, command_line, fence_line, DeclaringLine, declares, states}
+use Rattle.pr_lines.specs.ScenarioLines.{ScenarioLine, keys_line, nexus_line, start_line, pending_line, refusals_line, reservation_line, generation_line, role_line, script_line, plan_line, end_line, command_line, fence_line, DeclaringLine, declares, states}
 use Rattle.pr_text.specs.declared.fault.Which.TheVariants as which
-use Rattle.pr_text.specs.LineFaults.{command_fault}
-use Rattle.pr_text.specs.inside.Chains.{script_step, declared_with, nexus_set, on_nexus, at_number, at_name, start_fault, start_at, start_placed, pending_at, pending_placed, generation_placed, role_at, role_placed, script_fault, script_at, script_placed, plan_at, plan_placed, placed_first, placed_outside, script_ended, placed_in_script, planned_step, placed_in_plan, placed_at, item_taken}
-use Rattle.pr_text.specs.Declaring.{declared_keys, number_of, codes_of, is_spelled}
-use Rattle.pr_text.specs.NextLine.{begun_script, with_task, item_placed}
+use Rattle.pr_text.specs.declared.fault.ReadError.TheVariants as fault
+use Rattle.pr_roles.specs.declared.limits.TheConstants.{MOST_REFUSALS}
+use Rattle.pr_text.specs.LineFaults.{limit_of, command_fault}
+use Rattle.pr_text.specs.inside.Chains.{script_step, declared_with, nexus_set, on_nexus, at_number, at_name, start_fault, start_at, start_placed, pending_at, pending_placed, refusals_at, refusals_placed, generation_placed, role_at, role_placed, script_fault, script_at, script_placed, plan_at, plan_placed, placed_first, placed_outside, script_ended, placed_in_script, planned_step, placed_in_plan, placed_at, item_standing, item_taken}
+use Rattle.pr_text.specs.Declaring.{declared_keys, number_of, count_in, codes_of, is_spelled}
+use Rattle.pr_text.specs.NextLine.{with_count, begun_script, with_task, item_placed}
 use Rattle.pr_text.specs.inside.Sound.{AreBegun, is_plan, IsTask, IsDeclaration, AreDeclarations, IsPlace, IsSound}
 use Rattle.pr_lines.proofs.ItemTerms.{is_item}
 use Rattle.pr_lines.proofs.Tests.{both}
@@ -33,7 +37,7 @@ use Rattle.pr_text.proofs.LineOrder.{in_order}
 -- ---- the same, at another place
 
 moved : (n : ℕ) (d : Declared) (p : Place) → IsSound n d → IsPlace (declared_keys d) (n + 1) p → IsSound (n + 1) (record d { place = p })
-moved n d p h at = record { keys = h.keys; reservations = h.reservations; few = h.few; apart = h.apart; each = h.each; place = at }
+moved n d p h at = record { keys = h.keys; reservations = h.reservations; apart = h.apart; each = h.each; place = at }
 
 -- ---- one nexus
 
@@ -59,7 +63,6 @@ changed n d h x y p sound there named is at =
     record {
       keys = sound.keys;
       reservations = rw long sound.reservations;
-      few = rw long sound.few;
       apart = rw (names_same d.nexuses h x y there named) sound.apart;
       each = set_sound (declared_keys d) d.nexuses h y is sound.each;
       place = at;
@@ -116,6 +119,30 @@ pending_sound n name xs d e at sound r =
 few_more : (k : ℕ) → nat_le 32 k ≡ false → k + 1 ≤ 32
 few_more k h = grind (arith, nat_tests)
 
+counted_name : (r : Refusal) (count : ℕ) (x : Declaration) → (with_count r count x).name ≡ x.name
+counted_name refusal.Busy count x = refl
+counted_name refusal.Full count x = refl
+
+counted_is : (keys : List ℕ) (r : Refusal) (count : ℕ) (x : Declaration) → IsDeclaration keys x → IsDeclaration keys (with_count r count x)
+counted_is keys refusal.Busy count x was = record { described = was.described; task = was.task }
+counted_is keys refusal.Full count x was = record { described = was.described; task = was.task }
+
+refusals_sound : (n : ℕ) (r : Refusal) (name : List ℕ) (count : ℕ) (d e : Declared) → d.place ≡ outside → IsSound n d → refusals_placed (n + 1) r name count d ≡ Ok e → IsSound (n + 1) e
+unfolding refusals_placed
+refusals_sound n r name count d e at sound q =
+    let m = named (n + 1) d e name (refusals_at (n + 1) r count d) q in
+    let keys = declared_keys d in
+    let x = m.nexus in
+    let past_room = not (nat_le 1 count && nat_le count MOST_REFUSALS) in
+    let limit = fault.Limit (limit_of r) (n + 1) in
+    let after : Result Declared ReadError = Ok (nexus_set d m.number (with_count r count x)) in
+    let a = past (is_some (count_in r x)) (fault.Repeated (n + 1)) (cond past_room (Err limit) after) e m.made in
+    let b = past past_room limit after e a.1 in
+    let same : nexus_set d m.number (with_count r count x) ≡ e = ok_same _ _ b.1 in
+    let was = declaration_at keys d.nexuses m.number x m.there sound.each in
+    subst (IsSound (n + 1)) same (changed n d m.number x (with_count r count x) d.place sound m.there (counted_name r count x)
+    (counted_is keys r count x was) (subst (IsPlace keys (n + 1)) (sym at) tt))
+
 role_more : (keys : List ℕ) (clauses : List Clause) (c : Clause) → is_role keys clauses ≡ true → is_action keys c.action ≡ true → nat_le 32 (length clauses) ≡ false → is_role keys (clauses ++ c ∷ []) ≡ true
 role_more keys clauses c h k few =
     let parts = and_parts (nat_le (length clauses) 32) _ h in
@@ -146,7 +173,6 @@ generation_sound n g d e at sound r =
     subst (IsSound (n + 1)) same (record {
       keys = sound.keys;
       reservations = sound.reservations;
-      few = sound.few;
       apart = sound.apart;
       each = sound.each;
       place = subst (IsPlace (declared_keys d) (n + 1)) (sym at) tt;
@@ -184,6 +210,7 @@ declared_sound n (keys_line keys) d e at h s r = keys_sound n keys d e at s h r
 declared_sound n (nexus_line guest name) d e at h s r = nexus_sound n guest name d e at s h r
 declared_sound n (start_line name xs) d e at h s r = start_sound n name xs d e at s h r
 declared_sound n (pending_line name xs) d e at h s r = pending_sound n name xs d e at h r
+declared_sound n (refusals_line r name count) d e at h s q = refusals_sound n r name count d e at h q
 declared_sound n (reservation_line ws) d e at h s r = reservation_sound n ws d e at s h r
 declared_sound n (generation_line g) d e at h s r = generation_sound n g d e at h r
 declared_sound n (role_line name clause) d e at h s r = role_sound n name clause d e at h r
@@ -196,8 +223,11 @@ outside_sound n _ d e at h s r = cc
 
 -- ---- the other lines
 
+versioned : (n version : ℕ) (d : Declared) → IsSound n d → IsSound n (record d { version = version })
+versioned n version d h = record { keys = h.keys; reservations = h.reservations; apart = h.apart; each = h.each; place = h.place }
+
 first_sound : (n : ℕ) (i : ScenarioLine) (d e : Declared) → IsSound n d → placed_first (n + 1) i d ≡ Ok e → IsSound (n + 1) e
-first_sound n fence_line d e h r = subst (IsSound (n + 1)) (ok_same _ _ r) (moved n d outside h tt)
+first_sound n (fence_line version) d e h r = subst (IsSound (n + 1)) (ok_same _ _ r) (moved n (record d { version = version }) outside (versioned n version d h) tt)
 first_sound n _ d e h r = cc
 
 task_at : (n : ℕ) (d : Declared) (h : ℕ) (t : WrittenTask) (o : Option Declaration) → slice_get d.nexuses h ≡ o → IsSound n d → IsTask (declared_keys d) (Some t)
@@ -262,5 +292,5 @@ placed_by n (in_script o) i d e at h s r = in_script_sound n o i d e (subst (IsP
 placed_by n (in_plan g commands) i d e at h s r = in_plan_sound n g commands i d e (subst (IsPlace (declared_keys d) n) at h.place) h r
 
 pub placed_sound : (n : ℕ) (i : ScenarioLine) (d e : Declared) → IsSound n d → is_item i ≡ true → item_placed (n + 1) i d ≡ Ok e → IsSound (n + 1) e
-unfolding item_taken
-placed_sound n i d e h sound r = placed_by n d.place i d e refl h sound (sym (in_order (n + 1) i d) ∙ r)
+unfolding item_taken item_standing
+placed_sound n i d e h sound r = placed_by n d.place i d e refl h sound (past _ _ _ e (sym (in_order (n + 1) i d) ∙ r)).1

@@ -8,7 +8,6 @@ use Rattle.std.proofs.lemmas.Bool.{and_parts}
 use Rattle.std.proofs.lemmas.Bool.Decides.{nat_tests}
 use Rattle.pr_cdb.specs.declared.command.Command.{Command}
 use Rattle.pr_script.specs.declared.script.Test.{Test}
-use Rattle.pr_script.specs.declared.script.Test.TheVariants as test
 use Rattle.pr_script.specs.Names.{is_name}
 use Rattle.pr_script.specs.Grammar.{is_written, stands_under, is_test_declared, has_sense_digit, test_fits, rise_above}
 use Rattle.pr_text.specs.declared.fault.ReadError.{ReadError}

@@ -11,20 +11,22 @@ use Rattle.pr_registry.specs.Registrations.{is_all}
 use Rattle.pr_attention.specs.Attentions.{AreAttentions}
 use Rattle.pr_roles.specs.Scenarios.{Nexus, Task, Scripted, Planned}
 use Rattle.pr_roles.specs.Starts.{first_under}
-use Rattle.pr_roles.specs.Fitting.{AreDeclared, are_distinct, is_nexus, is_reservation, is_same_reservation}
+use Rattle.pr_roles.specs.Fitting.{most_declared, AreDeclared, are_distinct, is_nexus, is_reservation, is_same_reservation, is_version, are_of}
 use Rattle.pr_roles.proofs.Allowed.{start_found}
 use Rattle.pr_lines.specs.Chain.{each}
+use Rattle.pr_lines.specs.Versions.{since}
 use Rattle.pr_lines.specs.ScenarioLines.{fence_line, keys_line, generation_line, reservation_line, declares}
 use Rattle.pr_text.specs.Declarations.{Declaration, outside, nothing}
 use Rattle.pr_text.specs.Declaring.{number_of, held_of}
-use Rattle.pr_text.specs.inside.Chains.{keys_placed, nexus_placed, reservation_placed, generation_placed, item_taken}
+use Rattle.pr_text.specs.inside.Chains.{keys_placed, nexus_placed, reservation_placed, generation_placed, item_standing}
 use Rattle.pr_text.specs.Texts.{start_of, first_unscripted, end_placed}
 use Rattle.pr_text.specs.Reading.{nexus_written, nexus_declared}
 use Rattle.pr_text.specs.ScriptRoundTrip.{line, all_said}
 use Rattle.pr_text.specs.ScenarioRoundTrip.{task_line, details_said, keys_said, wanted_by, ScenariosHaveNoFault}
 use Rattle.pr_lines.proofs.Tests.{true_le, true_lt}
 use Rattle.pr_text.proofs.NamesApart.{names, is_taken, free_of, names_moved, itself, number_nowhere, number_there}
-use Rattle.pr_text.proofs.DetailLines.{said_on, said_first, pending_same, is_planned, placed, bare, full, details_go}
+use Rattle.pr_text.proofs.DetailLines.{said_on, said_first, pending_same, count_same, is_planned, placed, bare, full, is_nexus_of, details_go}
+use Rattle.pr_text.proofs.Dates.{has_first}
 
 all_first : {A : Type 0} (P : A → Type 0) (x : A) (xs : List A) → All P (x ∷ xs) → P x
 all_first P x xs all = all 0 x (omega arith)
@@ -34,9 +36,9 @@ all_rest P x xs all = λ k d below. all (suc k) d (omega arith)
 
 -- ---- the version, the keys, and the generation
 
-fence_goes : (n : ℕ) → item_taken n fence_line nothing ≡ Ok (placed None None None [] outside)
-unfolding item_taken
-fence_goes n = refl
+fence_goes : (n version : ℕ) → item_standing n (fence_line version) nothing ≡ Ok (placed version None None None [] outside)
+unfolding item_standing
+fence_goes n version = refl
 
 abbrev keys_kept : List ℕ → Option (List ℕ)
 keys_kept [] = None
@@ -49,68 +51,74 @@ keys_same (k ∷ ks) = refl
 not_over : (n m : ℕ) → nat_le n m ≡ true → nat_lt m n ≡ false
 not_over n m h = grind (arith, nat_tests)
 
-keys_go : (n : ℕ) (keys : List ℕ) → are_distinct (λ j k. j == k) keys ≡ true → nat_lt 12 (length keys) ≡ false
-    → item_taken n (declares (keys_line keys)) (placed None None None [] outside) ≡ Ok (placed (Some keys) None None [] outside)
-unfolding item_taken keys_placed
-keys_go n keys once few = rw (once, few) refl
+keys_go : (n version : ℕ) (keys : List ℕ) → are_distinct (λ j k. j == k) keys ≡ true → nat_lt 12 (length keys) ≡ false
+    → item_standing n (declares (keys_line keys)) (placed version None None None [] outside) ≡ Ok (placed version (Some keys) None None [] outside)
+unfolding item_standing keys_placed
+keys_go n version keys once few = rw (once, few) refl
 
-keys_lines_go : (n : ℕ) (keys : List ℕ) → AreDeclared keys → all_said (keys_said n keys) (placed None None None [] outside) ≡ Ok (placed (keys_kept keys) None None [] outside)
-keys_lines_go n [] h = refl
-keys_lines_go n (k ∷ ks) h =
+keys_lines_go : (n version : ℕ) (keys : List ℕ) → is_version version ≡ true → AreDeclared keys → all_said (keys_said n keys) (placed version None None None [] outside) ≡ Ok (placed version (keys_kept keys) None None [] outside)
+keys_lines_go n version [] dated h = refl
+keys_lines_go n version (k ∷ ks) dated h =
     let parts = and_parts (nat_le (length (k ∷ ks)) 12) _ h.once in
-    said_first n (declares (keys_line (k ∷ ks))) [] _ _ _ (keys_go n (k ∷ ks) parts.1 (not_over (length (k ∷ ks)) 12 parts.0)) refl
+    said_first n (declares (keys_line (k ∷ ks))) [] _ _ _ (has_first version dated) (keys_go n version (k ∷ ks) parts.1 (not_over (length (k ∷ ks)) 12 parts.0)) refl
 
-generation_goes : (n generation : ℕ) (keys : Option (List ℕ)) (xs : List Declaration)
-    → item_taken n (declares (generation_line generation)) (placed keys None None xs outside) ≡ Ok (placed keys None (Some generation) xs outside)
-unfolding item_taken generation_placed
-generation_goes n generation keys xs = refl
+generation_goes : (n version generation : ℕ) (keys : Option (List ℕ)) (xs : List Declaration)
+    → item_standing n (declares (generation_line generation)) (placed version keys None None xs outside) ≡ Ok (placed version keys None (Some generation) xs outside)
+unfolding item_standing generation_placed
+generation_goes n version generation keys xs = refl
 
 -- ---- nexuses
 
 abbrev named : List Nexus → List (List ℕ)
 named ns = map (λ x. x.name) ns
 
-nexus_goes : (n : ℕ) (keys : Option (List ℕ)) (before : List Declaration) (x : Nexus) → is_taken x.name before ≡ false → nat_le 8 (length before) ≡ false
-    → item_taken n (task_line x.name x.task) (placed keys None None before outside) ≡ Ok (placed keys None None (before ++ bare n x ∷ []) outside)
-unfolding item_taken nexus_placed
-nexus_goes n keys before x free few =
+nexus_goes : (n version : ℕ) (keys : Option (List ℕ)) (before : List Declaration) (x : Nexus) → is_taken x.name before ≡ false → nat_le (most_declared version) (length before) ≡ false
+    → item_standing n (task_line x.name x.task) (placed version keys None None before outside) ≡ Ok (placed version keys None None (before ++ bare n x ∷ []) outside)
+unfolding item_standing nexus_placed
+nexus_goes n version keys before x free few =
     by_task x.task refl
   where
-    by_task : (t : Task) → x.task ≡ t → item_taken n (task_line x.name x.task) (placed keys None None before outside) ≡ Ok (placed keys None None (before ++ bare n x ∷ []) outside)
+    by_task : (t : Task) → x.task ≡ t → item_standing n (task_line x.name x.task) (placed version keys None None before outside) ≡ Ok (placed version keys None None (before ++ bare n x ∷ []) outside)
     by_task (Scripted script budget) is = rw (is, number_nowhere before x.name free, few) refl
     by_task (Planned commands) is = rw (is, number_nowhere before x.name free, few) refl
 
-room : (k m : ℕ) → k + suc m ≤ 8 → nat_le 8 k ≡ false
-room k m h = grind (arith, nat_tests)
+room : (k m most : ℕ) → k + suc m ≤ most → nat_le most k ≡ false
+room k m most h = grind (arith, nat_tests)
 
-room_left : {A : Type 0} (xs : List A) (x : A) (m : ℕ) → length xs + suc m ≤ 8 → length (xs ++ x ∷ []) + m ≤ 8
-room_left xs x m h = omega (arith, length-append xs (x ∷ []))
+room_left : {A : Type 0} (xs : List A) (x : A) (m most : ℕ) → length xs + suc m ≤ most → length (xs ++ x ∷ []) + m ≤ most
+room_left xs x m most h = omega (arith, length-append xs (x ∷ []))
 
 -- the names stay apart when one more of them is declared
 still_apart : (before : List Declaration) (d : Declaration) (rest : List (List ℕ)) → are_distinct bytes_eq (names before ++ d.name ∷ rest) ≡ true
     → are_distinct bytes_eq (names (before ++ d ∷ []) ++ rest) ≡ true
 still_apart before d rest h = ap (are_distinct bytes_eq) (names_moved before d rest) ∙ h
 
-nexuses_go : (n : ℕ) (keys : Option (List ℕ)) (before : List Declaration) (ns : List Nexus) → are_distinct bytes_eq (names before ++ named ns) ≡ true → length before + length ns ≤ 8
-    → all_said (map (λ x. line n (task_line x.name x.task)) ns) (placed keys None None before outside) ≡ Ok (placed keys None None (before ++ map (bare n) ns) outside)
-nexuses_go n keys before [] apart few = ap (λ l. Ok (placed keys None None l outside)) (sym (append-nil before))
-nexuses_go n keys before (x ∷ ns) apart few =
-    said_first n (task_line x.name x.task) (map (λ y. line n (task_line y.name y.task)) ns) _ _ _
-    (nexus_goes n keys before x (free_of before x.name (named ns) apart) (room (length before) (length ns) few))
-    (nexuses_go n keys (before ++ bare n x ∷ []) ns (still_apart before (bare n x) (named ns) apart) (room_left before (bare n x) (length ns) few)
-    ∙ ap (λ l. Ok (placed keys None None l outside)) (append_assoc before (bare n x ∷ []) (map (bare n) ns)))
+since_task : (version : ℕ) (name : List ℕ) (t : Task) → is_version version ≡ true → nat_lt version (since (task_line name t)) ≡ false
+since_task version name (Scripted script budget) dated = has_first version dated
+since_task version name (Planned commands) dated = has_first version dated
 
-details_all : (n : ℕ) (keys : Option (List ℕ)) (vs : Option (List (Option Held))) (g : Option ℕ) (before : List Declaration) (ns : List Nexus)
+nexuses_go : (n version : ℕ) (keys : Option (List ℕ)) (before : List Declaration) (ns : List Nexus) → is_version version ≡ true → are_distinct bytes_eq (names before ++ named ns) ≡ true → length before + length ns ≤ most_declared version
+    → all_said (map (λ x. line n (task_line x.name x.task)) ns) (placed version keys None None before outside) ≡ Ok (placed version keys None None (before ++ map (bare n) ns) outside)
+nexuses_go n version keys before [] dated apart few = ap (λ l. Ok (placed version keys None None l outside)) (sym (append-nil before))
+nexuses_go n version keys before (x ∷ ns) dated apart few =
+    said_first n (task_line x.name x.task) (map (λ y. line n (task_line y.name y.task)) ns) _ _ _ (since_task version x.name x.task dated)
+    (nexus_goes n version keys before x (free_of before x.name (named ns) apart) (room (length before) (length ns) (most_declared version) few))
+    (nexuses_go n version keys (before ++ bare n x ∷ []) ns dated (still_apart before (bare n x) (named ns) apart) (room_left before (bare n x) (length ns) (most_declared version) few)
+    ∙ ap (λ l. Ok (placed version keys None None l outside)) (append_assoc before (bare n x ∷ []) (map (bare n) ns)))
+
+details_all : (n version : ℕ) (keys : Option (List ℕ)) (vs : Option (List (Option Held))) (g : Option ℕ) (before : List Declaration) (ns : List Nexus)
+    → is_version version ≡ true → are_of version ns ≡ true
     → are_distinct bytes_eq (names before ++ named ns) ≡ true → list_all (is_nexus (unwrap_or keys [])) ns ≡ true → All (λ x. AreAttentions x.pending) ns
-    → all_said (flat_map (details_said n) ns) (placed keys vs g (before ++ map (bare n) ns) outside) ≡ Ok (placed keys vs g (before ++ map (full n) ns) outside)
-details_all n keys vs g before [] apart fits are = refl
-details_all n keys vs g before (x ∷ ns) apart fits are =
+    → all_said (flat_map (details_said n) ns) (placed version keys vs g (before ++ map (bare n) ns) outside) ≡ Ok (placed version keys vs g (before ++ map (full n) ns) outside)
+details_all n version keys vs g before [] dated has apart fits are = refl
+details_all n version keys vs g before (x ∷ ns) dated has apart fits are =
     let parts = and_parts (is_nexus (unwrap_or keys []) x) _ fits in
-    said_on (details_said n x) (flat_map (details_said n) ns) _ (placed keys vs g (before ++ full n x ∷ map (bare n) ns) outside) _
-    (details_go n keys vs g before (map (bare n) ns) x (free_of before x.name (named ns) apart) parts.0 (all_first (λ y. AreAttentions y.pending) x ns are))
-    (ap (λ l. all_said (flat_map (details_said n) ns) (placed keys vs g l outside)) (sym (append_assoc before (full n x ∷ []) (map (bare n) ns)))
-    ∙ (details_all n keys vs g (before ++ full n x ∷ []) ns (still_apart before (full n x) (named ns) apart) parts.1 (all_rest (λ y. AreAttentions y.pending) x ns are)
-    ∙ ap (λ l. Ok (placed keys vs g l outside)) (append_assoc before (full n x ∷ []) (map (full n) ns))))
+    let have = and_parts (is_nexus_of version x) _ has in
+    said_on (details_said n x) (flat_map (details_said n) ns) _ (placed version keys vs g (before ++ full n x ∷ map (bare n) ns) outside) _
+    (details_go n version dated keys vs g before (map (bare n) ns) x (free_of before x.name (named ns) apart) have.0 parts.0 (all_first (λ y. AreAttentions y.pending) x ns are))
+    (ap (λ l. all_said (flat_map (details_said n) ns) (placed version keys vs g l outside)) (sym (append_assoc before (full n x ∷ []) (map (bare n) ns)))
+    ∙ (details_all n version keys vs g (before ++ full n x ∷ []) ns dated have.1 (still_apart before (full n x) (named ns) apart) parts.1 (all_rest (λ y. AreAttentions y.pending) x ns are)
+    ∙ ap (λ l. Ok (placed version keys vs g l outside)) (append_assoc before (full n x ∷ []) (map (full n) ns))))
 
 -- ---- reservations
 
@@ -141,11 +149,11 @@ helds_go n ns (v ∷ vs) apart fits =
     let parts = and_parts (is_reservation (length ns) v) _ fits in
     rw (held_goes n ns v apart parts.0, helds_go n ns vs apart parts.1) refl
 
-reservation_goes : (n : ℕ) (keys : Option (List ℕ)) (g : Option ℕ) (ns : List Nexus) (vs : List (Option Held)) → are_distinct bytes_eq (named ns) ≡ true
+reservation_goes : (n version : ℕ) (keys : Option (List ℕ)) (g : Option ℕ) (ns : List Nexus) (vs : List (Option Held)) → are_distinct bytes_eq (named ns) ≡ true
     → list_all (is_reservation (length ns)) vs ≡ true → are_distinct is_same_reservation vs ≡ true
-    → item_taken n (declares (reservation_line (map (wanted_by ns) vs))) (placed keys None g (map (bare n) ns) outside) ≡ Ok (placed keys (Some vs) g (map (bare n) ns) outside)
-unfolding item_taken reservation_placed
-reservation_goes n keys g ns vs apart fits once = rw (helds_go n ns vs apart fits, once) refl
+    → item_standing n (declares (reservation_line (map (wanted_by ns) vs))) (placed version keys None g (map (bare n) ns) outside) ≡ Ok (placed version keys (Some vs) g (map (bare n) ns) outside)
+unfolding item_standing reservation_placed
+reservation_goes n version keys g ns vs apart fits once = rw (helds_go n ns vs apart fits, once) refl
 
 -- ---- the end
 
@@ -165,41 +173,46 @@ some_there : {A B : Type 0} (f : A → B) (xs : List A) → not (length xs == 0)
 some_there f [] h = cc
 some_there f (x ∷ xs) h = grind (arith, nat_tests)
 
-ends : (n : ℕ) (keys : Option (List ℕ)) (g : Option ℕ) (ns : List Nexus) (vs : List (Option Held)) → not (length ns == 0) ≡ true → is_some (first_under (map (λ x. x.start) ns) vs) ≡ true
-    → end_placed n (placed keys (Some vs) g (map (full n) ns) outside) ≡ Ok (placed keys (Some vs) g (map (full n) ns) outside)
+ends : (n version : ℕ) (keys : Option (List ℕ)) (g : Option ℕ) (ns : List Nexus) (vs : List (Option Held)) → not (length ns == 0) ≡ true → is_some (first_under (map (λ x. x.start) ns) vs) ≡ true
+    → end_placed n (placed version keys (Some vs) g (map (full n) ns) outside) ≡ Ok (placed version keys (Some vs) g (map (full n) ns) outside)
 unfolding end_placed
-ends n keys g ns vs some startable = rw (some_there (full n) ns some, tasks_there n ns, starts_same n ns, startable) refl
+ends n version keys g ns vs some startable = rw (some_there (full n) ns some, tasks_there n ns, starts_same n ns, startable) refl
 
 written_same : (n : ℕ) (ns : List Nexus) → All (λ x. AreAttentions x.pending) ns → map nexus_written ns ≡ map nexus_declared (map (full n) ns)
 written_same n [] are = refl
 written_same n (x ∷ ns) are =
     ap (λ l. nexus_written x ∷ l) (written_same n ns (all_rest (λ y. AreAttentions y.pending) x ns are))
-    ∙ ap (λ p. record (nexus_written x) { pending = p } ∷ map nexus_declared (map (full n) ns)) (sym (pending_same x.pending (all_first (λ y. AreAttentions y.pending) x ns are)))
+    ∙ (ap (λ p. record (nexus_written x) { pending = p } ∷ map nexus_declared (map (full n) ns)) (sym (pending_same x.pending (all_first (λ y. AreAttentions y.pending) x ns are)))
+    ∙ (ap (λ b. record (nexus_declared (full n x)) { busy = b; full = x.full } ∷ map nexus_declared (map (full n) ns)) (sym (count_same x.busy))
+    ∙ ap (λ f. record (nexus_declared (full n x)) { full = f } ∷ map nexus_declared (map (full n) ns)) (sym (count_same x.full))))
 
 -- ---- the whole
 
 pub said : ScenariosHaveNoFault
 said n s fits can are =
     let keys = keys_kept s.keys in
+    let version = s.version in
+    let dated = fits.version in
+    let old = has_first version dated in
     let parts = and_parts (not (length s.nexuses == 0)) _ fits.nexuses in
-    let few = and_parts (nat_le (length s.nexuses) 8) _ parts.1 in
+    let few = and_parts (nat_le (length s.nexuses) (most_declared version)) _ parts.1 in
     let apart = and_parts (are_distinct bytes_eq (named s.nexuses)) _ few.1 in
-    let at_most = true_le (length s.nexuses) 8 few.0 in
+    let at_most = true_le (length s.nexuses) (most_declared version) few.0 in
     let reserved = and_parts (list_all (is_reservation (length s.nexuses)) s.reservations) _ (and_parts (not (length s.reservations == 0)) _ fits.reservations).1 in
     let behind = line n (declares (reservation_line (map (wanted_by s.nexuses) s.reservations))) ∷ flat_map (details_said n) s.nexuses in
     let each : list_all (is_nexus (unwrap_or keys [])) s.nexuses ≡ true = rw (keys_same s.keys) apart.1 in
     record {
-      declared = placed keys (Some s.reservations) (Some s.generation) (map (full n) s.nexuses) outside;
+      declared = placed version keys (Some s.reservations) (Some s.generation) (map (full n) s.nexuses) outside;
       faultless =
-          said_first n fence_line _ nothing _ _ (fence_goes n)
-          (said_on (keys_said n s.keys) _ _ _ _ (keys_lines_go n s.keys fits.keys)
-          (said_on (map (λ x. line n (task_line x.name x.task)) s.nexuses) _ _ _ _ (nexuses_go n keys [] s.nexuses apart.0 (omega arith))
-          (said_first n (declares (generation_line s.generation)) behind _ _ _ (generation_goes n s.generation keys (map (bare n) s.nexuses))
-          (said_first n (declares (reservation_line (map (wanted_by s.nexuses) s.reservations))) _ _ _ _
-          (reservation_goes n keys (Some s.generation) s.nexuses s.reservations apart.0 reserved.0 reserved.1)
-          (details_all n keys (Some s.reservations) (Some s.generation) [] s.nexuses apart.0 each are)))));
+          said_first n (fence_line version) _ nothing _ _ refl (fence_goes n version)
+          (said_on (keys_said n s.keys) _ _ _ _ (keys_lines_go n version s.keys dated fits.keys)
+          (said_on (map (λ x. line n (task_line x.name x.task)) s.nexuses) _ _ _ _ (nexuses_go n version keys [] s.nexuses dated apart.0 (omega arith))
+          (said_first n (declares (generation_line s.generation)) behind _ _ _ old (generation_goes n version s.generation keys (map (bare n) s.nexuses))
+          (said_first n (declares (reservation_line (map (wanted_by s.nexuses) s.reservations))) _ _ _ _ old
+          (reservation_goes n version keys (Some s.generation) s.nexuses s.reservations apart.0 reserved.0 reserved.1)
+          (details_all n version keys (Some s.reservations) (Some s.generation) [] s.nexuses dated fits.dated apart.0 each are)))));
       whole = record {
-        faultless = ends n keys (Some s.generation) s.nexuses s.reservations parts.0 (start_found s can);
-        kept = record { keys = sym (keys_same s.keys); reservations = refl; generation = refl; nexuses = written_same n s.nexuses are };
+        faultless = ends n version keys (Some s.generation) s.nexuses s.reservations parts.0 (start_found s can);
+        kept = record { version = refl; keys = sym (keys_same s.keys); reservations = refl; generation = refl; nexuses = written_same n s.nexuses are };
       };
     }

@@ -16,7 +16,7 @@ use Rattle.pr_text.specs.Texts.{line_placed, all_placed, starts_somewhere, end_p
 use Rattle.pr_text.specs.inside.Endings.{missing_fault, start_result}
 use Rattle.pr_text.proofs.Endings.{ended_in_turn}
 use Rattle.pr_text.specs.Reading.{IsDeclaredBy}
-use Rattle.pr_text.specs.inside.Sound.{IsSound}
+use Rattle.pr_text.specs.inside.Sound.{IsSound, IsDated}
 use Rattle.pr_text.specs.Laws.{WhatIsWrittenFits, FirstFaultDecides}
 use Rattle.pr_text.proofs.Answering.{start_same}
 use Rattle.pr_text.proofs.Fitting.{declared_fits}
@@ -77,7 +77,7 @@ some_start : (s : Scenario) → Fits s → (o : Option (Option Held × List (Opt
 some_start s fits None is h = absurd (false≢true h)
 some_start s fits (Some first) is h =
     let zero : Scenario = record s { generation = 0 } in
-    let fits_zero : Fits zero = record { keys = fits.keys; reservations = fits.reservations; nexuses = fits.nexuses } in
+    let fits_zero : Fits zero = record { version = fits.version; dated = fits.dated; keys = fits.keys; reservations = fits.reservations; nexuses = fits.nexuses } in
     let small : 0 < 2 ^ 32 = omega arith in
     let a = (first_allowed zero first.0 first.1 fits_zero small is).1 in
     record {
@@ -92,7 +92,7 @@ pub what_is_written_fits : WhatIsWrittenFits
 what_is_written_fits text s is =
     let f = answer_finished text is.declared is.faultless in
     let well = ends_well (length (lines text)) f.declared is.declared f.ends in
-    let sound : IsSound (length (lines text)) f.declared = read_sound text (length (lines text)) f.declared (record { placed = f.placed; counted = refl }) in
+    let sound : IsSound (length (lines text)) f.declared × IsDated f.declared = read_sound text (length (lines text)) f.declared (record { placed = f.placed; counted = refl }) in
     let kept : IsDeclaredBy f.declared s = subst (λ d. IsDeclaredBy d s) (sym well.same) is.kept in
-    let fits = declared_fits (length (lines text)) f.declared s sound well.faultless kept in
+    let fits = declared_fits (length (lines text)) f.declared s sound.0 sound.1 well.faultless kept in
     (fits, can_start f.declared s kept fits well.starting)

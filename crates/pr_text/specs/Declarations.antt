@@ -14,13 +14,16 @@ pub data WrittenTask : Type 0 where
   scripted : List ScriptLine → ℕ → WrittenTask
   planned : List Command → WrittenTask
 
--- a nexus, the line that declares it, and what other lines have said of it so far
+-- a nexus, the line that declares it, and what other lines have said of it so far, as how often it may be answered
+-- BUSY and TASK SET FULL
 pub record Declaration : Type 0 where
   pub name : List ℕ
   pub line : ℕ
   pub is_guest : Bool
   pub start : Option (List (Option ℕ))
   pub pending : Option Codes
+  pub busy : Option ℕ
+  pub full : Option ℕ
   pub role : List Clause
   pub task : Option WrittenTask
 
@@ -50,7 +53,9 @@ pub data Place : Type 0 where
   in_script : OpenLines → Place
   in_plan : ℕ → List Command → Place
 
+-- The version is that of the text, and 1 before its first line.
 pub record Declared : Type 0 where
+  pub version : ℕ
   pub keys : Option (List ℕ)
   pub reservations : Option (List (Option Held))
   pub generation : Option ℕ
@@ -59,4 +64,4 @@ pub record Declared : Type 0 where
 
 -- nothing is declared yet
 abbrev pub nothing : Declared
-nothing = record { keys = None; reservations = None; generation = None; nexuses = []; place = before_all }
+nothing = record { version = 1; keys = None; reservations = None; generation = None; nexuses = []; place = before_all }

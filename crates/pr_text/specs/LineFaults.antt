@@ -3,12 +3,13 @@
 use Rattle.std.specs.Prelude.{ℕ, List, length, Option, if◌then◌else◌, [], Some, None, option_map, Bool, ◌&&◌, is_none, unwrap_or, false, ◌==◌, ◌||◌, not, nat_lt, nat_le, is_some, true, count_by}
 use Rattle.std.specs.List.{list_all}
 use Rattle.pr_cdb.specs.declared.command.Command.{Command}
-use Rattle.pr_roles.specs.Fitting.{are_distinct, is_alternative, is_same_alternative, is_same_reservation, is_action}
-use Rattle.pr_cdb.specs.declared.codes.TheConstants.{MOST_NEXUSES}
+use Rattle.pr_roles.specs.Fitting.{most_declared, are_distinct, is_alternative, is_same_alternative, is_same_reservation, is_action}
 use Rattle.pr_attention.specs.Attentions.{code_of}
 use Rattle.pr_script.specs.Grammar.{stands_under, is_test_declared}
 use Rattle.pr_script.specs.declared.limits.TheConstants.{MOST_STATEMENTS, MOST_ARMS, MOST_OPEN, MOST_TURNS, MOST_BUDGET}
-use Rattle.pr_roles.specs.declared.limits.TheConstants.{MOST_KEYS, MOST_CLAUSES, MOST_PLANNED}
+use Rattle.pr_roles.specs.declared.limits.TheConstants.{MOST_KEYS, MOST_CLAUSES, MOST_PLANNED, MOST_REFUSALS}
+use Rattle.pr_lines.specs.declared.item.Refusal.{Refusal}
+use Rattle.pr_lines.specs.declared.item.Refusal.TheVariants as refusal
 use Rattle.pr_lines.specs.declared.spelling.ParsedCommand.{ParsedCommand}
 use Rattle.pr_text.specs.declared.fault.Which.{Which}
 use Rattle.pr_text.specs.declared.fault.ReadError.{ReadError}
@@ -16,8 +17,9 @@ use Rattle.pr_text.specs.declared.fault.Which.TheVariants as which
 use Rattle.pr_text.specs.declared.fault.ReadError.TheVariants as fault
 use Rattle.pr_text.specs.Declarations.{OpenLines, Declared}
 use Rattle.pr_lines.specs.Chain.{each}
-use Rattle.pr_text.specs.Declaring.{declared_keys, number_of, nexus_named, holds_of, held_of, is_spelled}
-use Rattle.pr_lines.specs.ScenarioLines.{DeclaringLine, StatementLine, ScenarioLine, fence_line, declares, states, keys_line, nexus_line, start_line, pending_line, reservation_line, generation_line, role_line, script_line, plan_line, end_line, send_line, on_line, done_line, repeat_line, break_line, stop_line, command_line}
+use Rattle.pr_text.specs.Declaring.{declared_keys, number_of, nexus_named, holds_of, count_in, held_of, is_spelled}
+use Rattle.pr_lines.specs.ScenarioLines.{DeclaringLine, StatementLine, ScenarioLine, fence_line, declares, states, keys_line, nexus_line, start_line, pending_line, refusals_line, reservation_line, generation_line, role_line, script_line, plan_line, end_line, send_line, on_line, done_line, repeat_line, break_line, stop_line, command_line}
+use Rattle.pr_lines.specs.Versions.{since}
 use Rattle.pr_text.specs.Standing.{by_place, is_before_all, is_outside, of_plan, of_script, by_innermost, is_repeating, is_sending, awaits_arm, awaits_more, may_close}
 
 -- ---- a line outside
@@ -28,6 +30,7 @@ names_unknown d (keys_line keys) = false
 names_unknown d (nexus_line guest name) = false
 names_unknown d (start_line name xs) = is_none (nexus_named d name)
 names_unknown d (pending_line name xs) = is_none (nexus_named d name)
+names_unknown d (refusals_line r name count) = is_none (nexus_named d name)
 names_unknown d (reservation_line ws) = is_none (each (held_of d.nexuses) ws)
 names_unknown d (generation_line g) = false
 names_unknown d (role_line name clause) = is_none (nexus_named d name)
@@ -40,6 +43,7 @@ keys_undeclared d (keys_line keys) = false
 keys_undeclared d (nexus_line guest name) = false
 keys_undeclared d (start_line name xs) = not (list_all (is_alternative (declared_keys d)) xs)
 keys_undeclared d (pending_line name xs) = false
+keys_undeclared d (refusals_line r name count) = false
 keys_undeclared d (reservation_line ws) = false
 keys_undeclared d (generation_line g) = false
 keys_undeclared d (role_line name clause) = not (is_action (declared_keys d) clause.action)
@@ -52,18 +56,25 @@ says_again d (keys_line keys) = is_some d.keys || not (are_distinct (λ j k. j =
 says_again d (nexus_line guest name) = is_some (number_of d.nexuses name)
 says_again d (start_line name xs) = holds_of d name (λ x. is_some x.start) || not (are_distinct is_same_alternative xs)
 says_again d (pending_line name xs) = holds_of d name (λ x. is_some x.pending) || not (are_distinct (λ x y. code_of x == code_of y) xs)
+says_again d (refusals_line r name count) = holds_of d name (λ x. is_some (count_in r x))
 says_again d (reservation_line ws) = is_some d.reservations || not (are_distinct is_same_reservation (unwrap_or (each (held_of d.nexuses) ws) []))
 says_again d (generation_line g) = is_some d.generation
 says_again d (role_line name clause) = false
 says_again d (script_line name budget) = holds_of d name (λ x. is_some x.task)
 says_again d (plan_line name) = holds_of d name (λ x. is_some x.task)
 
+-- the limit of how often a refusal may come
+abbrev pub limit_of : Refusal → Which
+limit_of refusal.Busy = which.Busy
+limit_of refusal.Full = which.Full
+
 -- it goes past this limit
 abbrev pub past_limit : Declared → DeclaringLine → Option Which
 past_limit d (keys_line keys) = if nat_lt MOST_KEYS (length keys) then Some which.Keys else None
-past_limit d (nexus_line guest name) = if nat_le MOST_NEXUSES (length d.nexuses) then Some which.Hosts else None
+past_limit d (nexus_line guest name) = if nat_le (most_declared d.version) (length d.nexuses) then Some which.Hosts else None
 past_limit d (start_line name xs) = None
 past_limit d (pending_line name xs) = None
+past_limit d (refusals_line r name count) = if not (nat_le 1 count && nat_le count MOST_REFUSALS) then Some (limit_of r) else None
 past_limit d (reservation_line ws) = None
 past_limit d (generation_line g) = None
 past_limit d (role_line name clause) = if holds_of d name (λ x. nat_le MOST_CLAUSES (length x.role)) then Some which.Roles else None
@@ -126,11 +137,15 @@ abbrev pub command_fault : ℕ → List ℕ → List Command → ParsedCommand �
 command_fault n keys commands s =
     first_fault n false false (not (is_spelled keys s)) false (if nat_le MOST_PLANNED (length commands) then Some which.Plan else None)
 
--- what is wrong with a line, by where it stands
-abbrev pub fault_at : ℕ → Declared → ScenarioLine → Option ReadError
-fault_at n d fence_line = first_fault n (not (is_before_all d.place)) false false false None
-fault_at n d (declares l) =
+-- what is wrong with a line that the version has, by where it stands
+abbrev pub standing_fault : ℕ → Declared → ScenarioLine → Option ReadError
+standing_fault n d (fence_line version) = first_fault n (not (is_before_all d.place)) false false false None
+standing_fault n d (declares l) =
     first_fault n (not (is_outside d.place)) (names_unknown d l) (keys_undeclared d l) (says_again d l) (past_limit d l)
-fault_at n d (states l) = of_script (Some (fault.Syntax n)) (λ o. statement_fault n (declared_keys d) o l) d.place
-fault_at n d (command_line s) = of_plan (Some (fault.Syntax n)) (λ h commands. command_fault n (declared_keys d) commands s) d.place
-fault_at n d end_line = first_fault n (by_place true true (λ o. not (length o.blocks == 0)) (λ h commands. false) d.place) false false false None
+standing_fault n d (states l) = of_script (Some (fault.Syntax n)) (λ o. statement_fault n (declared_keys d) o l) d.place
+standing_fault n d (command_line s) = of_plan (Some (fault.Syntax n)) (λ h commands. command_fault n (declared_keys d) commands s) d.place
+standing_fault n d end_line = first_fault n (by_place true true (λ o. not (length o.blocks == 0)) (λ h commands. false) d.place) false false false None
+
+-- what is wrong with a line: the version has none like it, or what is wrong where it stands
+abbrev pub fault_at : ℕ → Declared → ScenarioLine → Option ReadError
+fault_at n d item = if nat_lt d.version (since item) then Some (fault.Syntax n) else standing_fault n d item

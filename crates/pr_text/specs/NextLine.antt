@@ -4,12 +4,14 @@ use Rattle.std.specs.Prelude.{ℕ, List, [], ◌∷◌, Some, None, Bool, false,
 use Rattle.std.specs.Option.{option_map_or}
 use Rattle.std.specs.List.{slice_get}
 use Rattle.pr_script.specs.declared.script.Test.{Test}
+use Rattle.pr_lines.specs.declared.item.Refusal.{Refusal}
+use Rattle.pr_lines.specs.declared.item.Refusal.TheVariants as refusal
 use Rattle.pr_text.specs.declared.fault.ReadError.{ReadError}
 use Rattle.pr_text.specs.Declarations.{WrittenTask, scripted, planned, Declaration, OpenBlock, repeating, sending, OpenLines, outside, in_script, in_plan, Declared}
 use Rattle.pr_lines.specs.Chain.{each}
 use Rattle.pr_text.specs.Declaring.{number_of, codes_of, held_of}
 use Rattle.pr_text.specs.Faults.{unless}
-use Rattle.pr_lines.specs.ScenarioLines.{ScenarioLine, fence_line, keys_line, nexus_line, start_line, pending_line, reservation_line, generation_line, role_line, script_line, plan_line, end_line, send_line, on_line, done_line, repeat_line, break_line, stop_line, command_line, DeclaringLine, StatementLine, declares, states}
+use Rattle.pr_lines.specs.ScenarioLines.{ScenarioLine, fence_line, keys_line, nexus_line, start_line, pending_line, refusals_line, reservation_line, generation_line, role_line, script_line, plan_line, end_line, send_line, on_line, done_line, repeat_line, break_line, stop_line, command_line, DeclaringLine, StatementLine, declares, states}
 use Rattle.pr_text.specs.LineFaults.{fault_at}
 use Rattle.pr_text.specs.ScriptLines.{ScriptLine, send_at, arm_on, block_done, repeat_of, break_out, stop_with}
 use Rattle.pr_text.specs.Standing.{by_place, of_plan, of_script, by_innermost}
@@ -26,7 +28,12 @@ with_named d name f = option_map_or (λ h. with_nexus d h f) (number_of d.nexuse
 -- one more is declared, of which nothing is said yet
 abbrev pub with_more : ℕ → Bool → List ℕ → Declared → Declared
 with_more n guest name d =
-    record d { nexuses = d.nexuses ++ record { name = name; line = n; is_guest = guest; start = None; pending = None; role = []; task = None } ∷ [] }
+    record d { nexuses = d.nexuses ++ record { name = name; line = n; is_guest = guest; start = None; pending = None; busy = None; full = None; role = []; task = None } ∷ [] }
+
+-- this refusal may come so often
+abbrev pub with_count : Refusal → ℕ → Declaration → Declaration
+with_count refusal.Busy count x = record x { busy = Some count }
+with_count refusal.Full count x = record x { full = Some count }
 
 -- the nexus with this number has its task, and the next line stands outside
 abbrev pub with_task : Declared → ℕ → WrittenTask → Declared
@@ -72,6 +79,7 @@ with_declared n d (keys_line keys) = record d { keys = Some keys }
 with_declared n d (nexus_line guest name) = with_more n guest name d
 with_declared n d (start_line name xs) = with_named d name (λ x. record x { start = Some xs })
 with_declared n d (pending_line name xs) = with_named d name (λ x. record x { pending = Some (codes_of xs) })
+with_declared n d (refusals_line r name count) = with_named d name (with_count r count)
 with_declared n d (reservation_line ws) = record d { reservations = each (held_of d.nexuses) ws }
 with_declared n d (generation_line g) = record d { generation = Some g }
 with_declared n d (role_line name clause) = with_named d name (λ x. record x { role = x.role ++ clause ∷ [] })
@@ -80,7 +88,7 @@ with_declared n d (plan_line name) = option_map_or (λ h. record d { place = in_
 
 -- what is declared with the line of this number, where nothing is wrong with it
 abbrev pub with_line : ℕ → Declared → ScenarioLine → Declared
-with_line n d fence_line = record d { place = outside }
+with_line n d (fence_line version) = record d { version = version; place = outside }
 with_line n d (declares l) = with_declared n d l
 with_line n d (states l) = record d { place = of_script d.place (λ o. in_script (with_statement_line n l o)) d.place }
 with_line n d (command_line s) = record d { place = of_plan d.place (λ h commands. in_plan h (commands ++ s.command ∷ [])) d.place }

@@ -18,21 +18,32 @@ pub record WrittenNexus : Type 0 where
   pub start : List (Option ℕ)
   pub pending : Codes
   pub task : WrittenTask
+  pub busy : ℕ
+  pub full : ℕ
 
 abbrev pub task_written : Task → WrittenTask
 task_written (Scripted script budget) = scripted (body_lines script) budget
 task_written (Planned commands) = planned commands
 
 abbrev pub nexus_written : Nexus → WrittenNexus
-nexus_written n = record { name = n.name; role = n.role; start = n.start; pending = n.pending; task = task_written n.task }
+nexus_written n = record { name = n.name; role = n.role; start = n.start; pending = n.pending; task = task_written n.task; busy = n.busy; full = n.full }
 
--- what is declared of a nexus, where nothing pending, no registration and no command of a plan need
+-- what is declared of a nexus, where nothing pending, no registration, no refusal and no command of a plan need
 -- be written
 abbrev pub nexus_declared : Declaration → WrittenNexus
-nexus_declared x = record { name = x.name; role = x.role; start = start_of x; pending = unwrap_or x.pending no_code; task = unwrap_or x.task (planned []) }
+nexus_declared x = record {
+  name = x.name;
+  role = x.role;
+  start = start_of x;
+  pending = unwrap_or x.pending no_code;
+  task = unwrap_or x.task (planned []);
+  busy = unwrap_or x.busy 0;
+  full = unwrap_or x.full 0;
+}
 
 -- The scenario is just what is declared: its scripts are written as the lines that were read.
 pub record IsDeclaredBy (d : Declared) (s : Scenario) : Type 0 where
+  pub version : s.version ≡ d.version
   pub keys : s.keys ≡ unwrap_or d.keys []
   pub reservations : s.reservations ≡ reservations_of d
   pub generation : s.generation ≡ unwrap_or d.generation 0

@@ -1,6 +1,6 @@
 -- Agrees with docs/FORMATS.md, 'The lines of a scenario'.
 -- The lines that a scenario is written as, and what the reader makes of them.
-use Rattle.std.specs.Prelude.{◌≡◌, ℕ, List, [], ◌∷◌, ◌++◌, map, filter, Option, Some, None, Ok, true, false}
+use Rattle.std.specs.Prelude.{◌≡◌, ℕ, List, [], ◌∷◌, ◌++◌, map, filter, Option, Some, None, Ok, true, false, ◌==◌, if◌then◌else◌}
 use Rattle.std.specs.FinSet as set
 use Rattle.std.specs.List.{All, flat_map, slice_get}
 use Rattle.std.specs.Option.{option_map_or}
@@ -12,8 +12,10 @@ use Rattle.pr_attention.specs.Attentions.{Codes, code_of, AreAttentions}
 use Rattle.pr_roles.specs.Scenarios.{Scenario, Nexus, Task, Scripted, Planned}
 use Rattle.pr_roles.specs.Starts.{CanStart}
 use Rattle.pr_roles.specs.Fitting.{Fits}
+use Rattle.pr_lines.specs.declared.item.Refusal.{Refusal}
+use Rattle.pr_lines.specs.declared.item.Refusal.TheVariants as refusal
 use Rattle.pr_lines.specs.CommandWords.{without_keys}
-use Rattle.pr_lines.specs.ScenarioLines.{StartReservation, nobody, single, everybody, ScenarioLine, fence_line, keys_line, nexus_line, start_line, pending_line, reservation_line, generation_line, role_line, script_line, plan_line, end_line, command_line, declares}
+use Rattle.pr_lines.specs.ScenarioLines.{StartReservation, nobody, single, everybody, ScenarioLine, fence_line, keys_line, nexus_line, start_line, pending_line, refusals_line, reservation_line, generation_line, role_line, script_line, plan_line, end_line, command_line, declares}
 use Rattle.pr_text.specs.ScriptLines.{body_lines}
 use Rattle.pr_text.specs.ScriptRoundTrip.{Line, line, script_said, all_said}
 use Rattle.pr_text.specs.Declarations.{Declared, nothing}
@@ -35,16 +37,23 @@ abbrev pub pending_said : ℕ → List ℕ → List Attention → List Line
 pending_said n name [] = []
 pending_said n name (x ∷ xs) = line n (declares (pending_line name (x ∷ xs))) ∷ []
 
+-- where a refusal may not come, nothing is written
+abbrev pub refusals_said : ℕ → List ℕ → Refusal → ℕ → List Line
+refusals_said n name r count = if count == 0 then [] else line n (declares (refusals_line r name count)) ∷ []
+
 -- the lines of a task, the last of them included
 abbrev pub task_said : ℕ → List ℕ → Task → List Line
 task_said n name (Scripted script budget) = line n (declares (script_line name budget)) ∷ (script_said n (body_lines script) ++ line n end_line ∷ [])
 task_said n name (Planned commands) = line n (declares (plan_line name)) ∷ (map (λ c. line n (command_line (without_keys c))) commands ++ line n end_line ∷ [])
 
--- a host's or guest's start, what is pending for it, its role and its task
+-- a host's or guest's start, what is pending for it, how often it may be refused, its role and its task
 abbrev pub details_said : ℕ → Nexus → List Line
 details_said n x =
     line n (declares (start_line x.name x.start))
-    ∷ (pending_said n x.name (attentions_in x.pending) ++ (map (λ c. line n (declares (role_line x.name c))) x.role ++ task_said n x.name x.task))
+    ∷ (pending_said n x.name (attentions_in x.pending)
+    ++ (refusals_said n x.name refusal.Busy x.busy
+    ++ (refusals_said n x.name refusal.Full x.full
+    ++ (map (λ c. line n (declares (role_line x.name c))) x.role ++ task_said n x.name x.task))))
 
 -- ---- the whole
 
@@ -61,7 +70,7 @@ wanted_by nexuses (Some (Everybody kind)) = everybody kind
 
 abbrev pub lines_said : ℕ → Scenario → List Line
 lines_said n s =
-    line n fence_line
+    line n (fence_line s.version)
     ∷ (keys_said n s.keys
     ++ (map (λ x. line n (task_line x.name x.task)) s.nexuses
     ++ (line n (declares (generation_line s.generation))

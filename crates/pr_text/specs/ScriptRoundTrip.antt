@@ -3,6 +3,8 @@
 use Rattle.std.specs.Prelude.{◌≡◌, ℕ, List, [], ◌∷◌, Result, Ok, true, map}
 use Rattle.pr_script.specs.Scripts.{Stmts}
 use Rattle.pr_script.specs.Grammar.{script_fits}
+use Rattle.pr_script.specs.Versions.{is_script_of}
+use Rattle.pr_roles.specs.Fitting.{is_version}
 use Rattle.pr_text.specs.declared.fault.ReadError.{ReadError}
 use Rattle.pr_lines.specs.CommandWords.{without_keys}
 use Rattle.pr_text.specs.Declarations.{OpenLines, in_script, Declared}
@@ -59,6 +61,8 @@ pub record IsReread (n : ℕ) (d : Declared) (host budget : ℕ) (b : Stmts) : T
   pub lines_are : script.lines ≡ body_lines b
   pub closed : script.blocks ≡ []
 
--- The lines of a script that fits have no fault, and are read as just that script's.
+-- The lines of a script that fits, with arms that the version has, have no fault, and are read as just that script's.
 abbrev pub ScriptsHaveNoFault : Type 0
-ScriptsHaveNoFault = (n : ℕ) (d : Declared) (host budget : ℕ) (b : Stmts) → script_fits (declared_keys d) b ≡ true → IsReread n d host budget b
+ScriptsHaveNoFault =
+    (n : ℕ) (d : Declared) (host budget : ℕ) (b : Stmts) → is_version d.version ≡ true → is_script_of d.version b ≡ true
+    → script_fits (declared_keys d) b ≡ true → IsReread n d host budget b

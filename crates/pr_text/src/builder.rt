@@ -1,7 +1,8 @@
 //! What the lines so far declare.
 
-ghost use Rattle.std.specs.Prelude.{◌≡◌, ◌≤◌, length};
-ghost use Rattle.pr_cdb.specs.declared.codes.TheConstants.{MOST_NEXUSES};
+ghost use Rattle.std.specs.Prelude.{◌≡◌, ◌≤◌, ◌&&◌, nat_le, length};
+ghost use Rattle.pr_roles.specs.declared.limits.TheConstants.{MOST_DECLARED_2, MOST_REFUSALS};
+ghost use Rattle.pr_text.specs.LineFaults.{limit_of};
 ghost use Rattle.pr_text.specs.inside.Steps.{Gives};
 ghost use Rattle.pr_text.specs.inside.Chains.{planned_step};
 
@@ -11,10 +12,9 @@ use crate::open_script::{OpenScript, is_spelled};
 use crate::uniqueness::are_codes_distinct;
 use pr_attention::Attention;
 use pr_cdb::Command;
-use pr_cdb::codes::MOST_NEXUSES;
-use pr_lines::{ParsedCommand, ScenarioLine, StartReservation};
+use pr_lines::{ParsedCommand, Refusal, ScenarioLine, StartReservation};
 use pr_registry::Held;
-use pr_roles::limits::{MOST_CLAUSES, MOST_KEYS, MOST_PLANNED};
+use pr_roles::limits::{MOST_CLAUSES, MOST_KEYS, MOST_PLANNED, MOST_REFUSALS, most_declared};
 use pr_roles::{Clause, Task, Word, are_distinct, are_held_apart, is_action};
 use pr_script::Script;
 use std::alloc::{AllocError, Global};
@@ -35,26 +35,29 @@ pub enum Place {
 /// What the lines so far declare.
 #[derive(Drop)]
 pub struct Builder {
+    /// That of the text, and 1 before its first line.
+    pub version: u8,
     pub keys: Option<Vec<u64>>,
     pub reservations: Option<Vec<Option<Held>>>,
     pub generation: Option<u32>,
     pub nexuses: Vec<Draft>,
     pub place: Place,
-    ghost few: { length nexuses.items ≤ MOST_NEXUSES },
+    ghost few: { length nexuses.items ≤ MOST_DECLARED_2 },
 }
 
 impl Builder {
-    ghost use Rattle.std.specs.Prelude.{◌≡◌, ◌<◌, IfOk, IfSome, [], length, map, option_map, position, bytes_eq};
+    ghost use Rattle.std.specs.Prelude.{◌≡◌, ◌<◌, nat_lt, IfOk, IfSome, [], length, map, option_map, position, bytes_eq};
     ghost use Rattle.pr_text.specs.declared.builder.Place.TheVariants.{Outside};
     ghost use Rattle.pr_text.specs.inside.Steps.{Gives};
     ghost use Rattle.pr_lines.specs.LineValues.{line_of_value, wanted_seen};
+    ghost use Rattle.pr_lines.specs.Versions.{since};
     ghost use Rattle.pr_text.specs.Declarations.{nothing};
     ghost use Rattle.pr_text.specs.Declaring.{declared_keys, number_of, held_of};
     ghost use Rattle.pr_lines.specs.Chain.{each};
-    ghost use Rattle.pr_text.specs.inside.Chains.{keys_placed, nexus_placed, start_placed, pending_placed, reservation_placed, generation_placed, role_placed, script_placed, plan_placed};
+    ghost use Rattle.pr_text.specs.inside.Chains.{keys_placed, nexus_placed, start_placed, pending_placed, refusals_placed, reservation_placed, generation_placed, role_placed, script_placed, plan_placed};
     ghost use Rattle.pr_text.specs.inside.Drafts.{draft_seen, task_seen, declared_by};
     ghost use Rattle.pr_text.specs.inside.OpenScripts.{open_seen};
-    ghost use Rattle.pr_text.specs.inside.Chains.{placed_first, placed_outside, placed_in_script, placed_in_plan, script_ended};
+    ghost use Rattle.pr_text.specs.inside.Chains.{item_standing, placed_first, placed_outside, placed_in_script, placed_in_plan, script_ended};
     ghost use Rattle.pr_text.specs.NextLine.{with_task, item_placed};
 
     /// Nothing is declared yet.
@@ -62,6 +65,7 @@ impl Builder {
         ensures { declared_by result ≡ nothing }
     {
         Builder {
+            version: 1,
             keys: None,
             reservations: None,
             generation: None,
@@ -72,13 +76,31 @@ impl Builder {
 
     /// What is declared with one line more.
     #[tactic(auto, unfolding(crate::specs::inside::Chains::item_taken), using(crate::proofs::LineOrder::in_order))]
-    pub fn with_item(
+    pub fn with_item(self, alloc: Global, line: u32, item: ScenarioLine) -> Result<Self, ReadError>
+        ensures { Gives declared_by result (item_placed line (line_of_value item) (declared_by self)) }
+    {
+        if self.is_before(&item) {
+            return Err(ReadError::Syntax { line });
+        }
+        self.with_standing(alloc, line, item)
+    }
+
+    // Whether the version came before such a line.
+    fn is_before(&self, item: &ScenarioLine) -> bool
+        ensures { result ≡ nat_lt self.now.version (since (line_of_value item.now)) }
+    {
+        self.version < item.since()
+    }
+
+    // What is declared with one line more, which the version has.
+    #[tactic(auto, unfolding(crate::specs::inside::Chains::item_standing))]
+    fn with_standing(
         mut self,
         alloc: Global,
         line: u32,
         item: ScenarioLine,
     ) -> Result<Self, ReadError>
-        ensures { Gives declared_by result (item_placed line (line_of_value item) (declared_by self)) }
+        ensures { Gives declared_by result (item_standing line (line_of_value item) (declared_by self)) }
     {
         match mem::replace(&mut self.place, Place::Outside) {
             Place::BeforeAll => self.first_line(line, item),
@@ -88,12 +110,15 @@ impl Builder {
         }
     }
 
-    fn first_line(self, line: u32, item: ScenarioLine) -> Result<Self, ReadError>
+    fn first_line(mut self, line: u32, item: ScenarioLine) -> Result<Self, ReadError>
         requires { self.place ≡ Outside }
         ensures { Gives declared_by result (placed_first line (line_of_value item) (declared_by self)) }
     {
         match item {
-            ScenarioLine::Fence => Ok(self),
+            ScenarioLine::Fence(version) => {
+                self.version = version;
+                Ok(self)
+            }
             _ => Err(ReadError::Syntax { line }),
         }
     }
@@ -107,6 +132,9 @@ impl Builder {
             ScenarioLine::Guest(name) => self.nexus_line(alloc, line, true, name),
             ScenarioLine::Start(name, alternatives) => self.start_line(line, name, alternatives),
             ScenarioLine::Pending(name, attentions) => self.pending_line(line, name, &attentions),
+            ScenarioLine::Refusals(refusal, name, count) => {
+                self.refusals_line(line, refusal, name, count)
+            }
             ScenarioLine::Reservation(wanted) => self.reservation_line(alloc, line, &wanted),
             ScenarioLine::Generation(generation) => self.generation_line(line, generation),
             ScenarioLine::Role(name, clause) => self.role_line(line, name, clause),
@@ -144,7 +172,7 @@ impl Builder {
         if self.number_of(&name).is_some() {
             return Err(ReadError::Repeated { line });
         }
-        if self.nexuses.len() >= MOST_NEXUSES {
+        if self.nexuses.len() >= most_declared(self.version) {
             let which = Which::Hosts;
             return Err(ReadError::Limit { which, line });
         }
@@ -189,6 +217,31 @@ impl Builder {
             return Err(ReadError::Repeated { line });
         }
         nexus.pending = Some(pending_of(attentions));
+        Ok(self)
+    }
+
+    #[tactic(auto, unfolding(crate::specs::inside::Chains::refusals_placed), using(crate::proofs::Drafts::found, crate::proofs::Drafts::changed))]
+    fn refusals_line(
+        mut self,
+        line: u32,
+        refusal: Refusal,
+        name: Word,
+        count: u64,
+    ) -> Result<Self, ReadError>
+        ensures { Gives declared_by result (refusals_placed line refusal name.bytes count (declared_by self)) }
+    {
+        let Some(number) = self.number_of(&name) else {
+            return Err(ReadError::UnknownName { line });
+        };
+        let nexus = &mut self.nexuses[number];
+        if nexus.count(refusal).is_some() {
+            return Err(ReadError::Repeated { line });
+        }
+        if !is_within(count) {
+            let which = limit_of(refusal);
+            return Err(ReadError::Limit { which, line });
+        }
+        nexus.set_count(refusal, count as u32);
         Ok(self)
     }
 
@@ -403,6 +456,23 @@ impl Builder {
             }
             StartReservation::Everybody(kind) => Some(Some(Held::All(*kind))),
         }
+    }
+}
+
+// Whether a refusal may come so often.
+fn is_within(count: u64) -> bool
+    ensures { result ≡ (nat_le 1 count && nat_le count MOST_REFUSALS) }
+{
+    count >= 1 && count <= u64::from(MOST_REFUSALS)
+}
+
+// The limit of how often the refusal may come.
+fn limit_of(refusal: Refusal) -> Which
+    ensures { result ≡ limit_of refusal }
+{
+    match refusal {
+        Refusal::Busy => Which::Busy,
+        Refusal::Full => Which::Full,
     }
 }
 

@@ -5,6 +5,7 @@ ghost use Rattle.pr_text.specs.Declaring.{codes_of};
 
 use crate::fault::{ReadError, Which};
 use pr_attention::{Attention, Pending};
+use pr_lines::Refusal;
 use pr_roles::{Clause, Task, Word, are_alternatives, are_distinct};
 use pr_script::limits::MOST_BUDGET;
 use std::alloc::Global;
@@ -18,6 +19,9 @@ pub struct Draft {
     pub is_guest: bool,
     pub start: Option<Vec<Option<u64>>>,
     pub pending: Option<Pending>,
+    /// How often it may be answered BUSY, and how often TASK SET FULL.
+    pub busy: Option<u32>,
+    pub full: Option<u32>,
     pub role: Vec<Clause>,
     pub task: Option<Task>,
 }
@@ -25,12 +29,14 @@ pub struct Draft {
 impl Draft {
     ghost use Rattle.std.specs.Prelude.{◌≡◌, ◌≤◌, [], None, IfNone};
     ghost use Rattle.pr_script.specs.declared.limits.TheConstants.{MOST_BUDGET};
+    ghost use Rattle.pr_text.specs.Declaring.{count_in};
+    ghost use Rattle.pr_text.specs.NextLine.{with_count};
     ghost use Rattle.pr_text.specs.inside.Chains.{start_fault, script_fault};
     ghost use Rattle.pr_text.specs.inside.Drafts.{draft_seen};
 
     /// A nexus of which nothing more is said yet.
     pub fn new(alloc: Global, name: Word, line: u32, is_guest: bool) -> Self
-        ensures { draft_seen result ≡ record { name = name.bytes; line = line; is_guest = is_guest; start = None; pending = None; role = []; task = None } }
+        ensures { draft_seen result ≡ record { name = name.bytes; line = line; is_guest = is_guest; start = None; pending = None; busy = None; full = None; role = []; task = None } }
     {
         Draft {
             name,
@@ -38,6 +44,8 @@ impl Draft {
             is_guest,
             start: None,
             pending: None,
+            busy: None,
+            full: None,
             role: Vec::new(alloc),
             task: None,
         }
@@ -59,6 +67,26 @@ impl Draft {
             return Some(ReadError::Repeated { line });
         }
         None
+    }
+
+    /// How often this refusal may come, where a line has said it.
+    pub fn count(&self, refusal: Refusal) -> Option<u32>
+        ensures { result ≡ count_in refusal (draft_seen self.now) }
+    {
+        match refusal {
+            Refusal::Busy => self.busy,
+            Refusal::Full => self.full,
+        }
+    }
+
+    /// This refusal may come so often.
+    pub fn set_count(&mut self, refusal: Refusal, count: u32)
+        ensures { draft_seen self.new ≡ with_count refusal count (draft_seen self.old) }
+    {
+        match refusal {
+            Refusal::Busy => self.busy = Some(count),
+            Refusal::Full => self.full = Some(count),
+        }
     }
 
     /// Why it may not have a script with this budget.

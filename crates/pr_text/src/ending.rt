@@ -19,7 +19,7 @@ impl Builder {
     ghost use Rattle.pr_roles.specs.Scenarios.{scenario_of};
     ghost use Rattle.pr_text.specs.Faults.{Fails};
     ghost use Rattle.pr_text.specs.inside.Drafts.{declared_by};
-    ghost use Rattle.pr_text.specs.inside.Sound.{IsSound};
+    ghost use Rattle.pr_text.specs.inside.Sound.{IsSound, IsDated};
     ghost use Rattle.pr_text.specs.Texts.{end_placed};
     ghost use Rattle.pr_text.specs.inside.Endings.{missing_fault};
     ghost use Rattle.pr_text.specs.Reading.{IsDeclaredBy};
@@ -27,7 +27,8 @@ impl Builder {
 
     /// The scenario that is declared, where the text ends on the line of this number.
     pub fn finished(self, alloc: Global, number: u32) -> Result<Scenario, ReadError>
-        requires { IsSound number (declared_by self) }
+        requires sound { IsSound number (declared_by self) }
+        requires dated { IsDated (declared_by self) }
         ensures found { IfOk result (λ scenario. IsWhole number (declared_by self) (scenario_of scenario)) }
         ensures fault { IfErr result (λ e. Fails e (end_placed number (declared_by self))) }
     {
@@ -59,6 +60,7 @@ impl Builder {
         ensures room { IfOk result (λ parts. parts.generation < 2 ^ 32) }
     {
         let Builder {
+            version,
             keys,
             reservations,
             generation,
@@ -66,6 +68,7 @@ impl Builder {
             place: _,
         } = self;
         Ok(Parts {
+            version,
             keys: keys.unwrap_or(Vec::new(alloc)),
             reservations: or_none(alloc, reservations)?,
             generation: generation.unwrap_or(0),
@@ -136,6 +139,8 @@ fn nexus_of(alloc: Global, draft: Draft) -> Result<Nexus, AllocError>
         is_guest: _,
         start,
         pending,
+        busy,
+        full,
         role,
         task,
     } = draft;
@@ -147,5 +152,7 @@ fn nexus_of(alloc: Global, draft: Draft) -> Result<Nexus, AllocError>
         },
         pending: pending.unwrap_or(Pending::new()),
         task: task.unwrap_or(Task::Planned(Vec::new(alloc))),
+        busy: busy.unwrap_or(0),
+        full: full.unwrap_or(0),
     })
 }

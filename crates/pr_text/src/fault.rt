@@ -8,7 +8,7 @@ use thiserror::Error;
 /// Which limit a text goes past.
 #[derive(Clone, Copy, Debug, PartialEq, Eq)]
 pub enum Which {
-    /// At least 1 and at most 8 nexuses together.
+    /// At least 1 and at most 8 nexuses together, in version 2 at most 16.
     Hosts,
     /// At most 12 declared keys.
     Keys,
@@ -26,6 +26,10 @@ pub enum Which {
     Roles,
     /// At most 256 commands of a plan.
     Plan,
+    /// 1 to 1,000 replies BUSY.
+    Busy,
+    /// 1 to 1,000 replies TASK SET FULL.
+    Full,
 }
 
 /// Why a text is not read as a scenario. Lines count from 1.
@@ -40,7 +44,7 @@ pub enum ReadError {
     /// The line has more than 256 bytes.
     #[error("line {line} is too long")]
     LineTooLong { line: u32 },
-    /// The line does not fit the language, or does not fit where it stands.
+    /// The line does not fit the language or the text's version of it, or does not fit where it stands.
     #[error("syntax, line {line}")]
     Syntax { line: u32 },
     /// The line uses a name that is not declared before it, or that of a guest where a host is wanted, or of

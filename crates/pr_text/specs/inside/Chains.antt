@@ -1,5 +1,5 @@
 -- What a line makes of what is declared, test by test as the reader makes them.
-use Rattle.std.specs.Prelude.{ℕ, List, length, Option, if◌then◌else◌, [], ◌∷◌, Some, None, Bool, ◌&&◌, false, ◌==◌, ◌||◌, not, nat_lt, nat_le, ◌++◌, is_some, slice_set, Result, Ok, Err, ◌+◌}
+use Rattle.std.specs.Prelude.{ℕ, List, length, Option, if◌then◌else◌, [], ◌∷◌, Some, None, Bool, ◌&&◌, false, ◌==◌, ◌||◌, not, nat_lt, nat_le, ◌++◌, is_some, slice_set, Result, Ok, Err}
 use Rattle.std.specs.List.{slice_get, list_all}
 use Rattle.pr_cdb.specs.declared.command.Command.{Command}
 use Rattle.pr_registry.specs.declared.held.Held.{Held}
@@ -8,21 +8,22 @@ use Rattle.pr_attention.specs.declared.attention.Attention.{Attention}
 use Rattle.pr_script.specs.declared.script.Test.{Test}
 use Rattle.pr_script.specs.Grammar.{stands_under, is_test_declared}
 use Rattle.pr_roles.specs.declared.role.Clause.{Clause}
-use Rattle.pr_roles.specs.Fitting.{are_distinct, is_alternative, is_same_alternative, is_same_reservation, is_action}
-use Rattle.pr_cdb.specs.declared.codes.TheConstants.{MOST_NEXUSES}
+use Rattle.pr_roles.specs.Fitting.{most_declared, are_distinct, is_alternative, is_same_alternative, is_same_reservation, is_action}
 use Rattle.pr_script.specs.declared.limits.TheConstants.{MOST_STATEMENTS, MOST_ARMS, MOST_BUDGET}
-use Rattle.pr_roles.specs.declared.limits.TheConstants.{MOST_KEYS, MOST_CLAUSES}
+use Rattle.pr_roles.specs.declared.limits.TheConstants.{MOST_KEYS, MOST_CLAUSES, MOST_REFUSALS}
+use Rattle.pr_lines.specs.declared.item.Refusal.{Refusal}
 use Rattle.pr_lines.specs.declared.spelling.ParsedCommand.{ParsedCommand}
 use Rattle.pr_text.specs.declared.fault.ReadError.{ReadError}
 use Rattle.pr_text.specs.declared.fault.Which.TheVariants as which
 use Rattle.pr_text.specs.declared.fault.ReadError.TheVariants as fault
 use Rattle.pr_text.specs.Declarations.{scripted, planned, Declaration, OpenLines, Place, before_all, outside, in_script, in_plan, Declared}
 use Rattle.pr_lines.specs.Chain.{each}
-use Rattle.pr_text.specs.Declaring.{declared_keys, number_of, codes_of, held_of}
+use Rattle.pr_text.specs.Declaring.{declared_keys, number_of, count_in, codes_of, held_of}
 use Rattle.pr_text.specs.Faults.{and_then, unless}
-use Rattle.pr_lines.specs.ScenarioLines.{StartReservation, ScenarioLine, fence_line, keys_line, nexus_line, start_line, pending_line, reservation_line, generation_line, role_line, script_line, plan_line, end_line, command_line, DeclaringLine, StatementLine, declares, states}
-use Rattle.pr_text.specs.LineFaults.{first_fault, statement_fault, command_fault}
-use Rattle.pr_text.specs.NextLine.{with_task, begun_script, with_statement_line}
+use Rattle.pr_lines.specs.ScenarioLines.{StartReservation, ScenarioLine, fence_line, keys_line, nexus_line, start_line, pending_line, refusals_line, reservation_line, generation_line, role_line, script_line, plan_line, end_line, command_line, DeclaringLine, StatementLine, declares, states}
+use Rattle.pr_lines.specs.Versions.{since}
+use Rattle.pr_text.specs.LineFaults.{limit_of, first_fault, statement_fault, command_fault}
+use Rattle.pr_text.specs.NextLine.{with_count, with_task, begun_script, with_statement_line}
 use Rattle.pr_text.specs.ScriptRoundTrip.{said_by, number_of_line}
 use Rattle.pr_text.specs.ScriptLines.{ScriptLine}
 
@@ -58,8 +59,8 @@ keys_placed n keys d =
 unfoldable pub nexus_placed : ℕ → Bool → List ℕ → Declared → Result Declared ReadError
 nexus_placed n guest name d =
     if is_some (number_of d.nexuses name) then Err (fault.Repeated n) else (
-    if nat_le MOST_NEXUSES (length d.nexuses) then Err (fault.Limit which.Hosts n) else
-    Ok (record d { nexuses = d.nexuses ++ record { name = name; line = n; is_guest = guest; start = None; pending = None; role = []; task = None } ∷ [] }))
+    if nat_le (most_declared d.version) (length d.nexuses) then Err (fault.Limit which.Hosts n) else
+    Ok (record d { nexuses = d.nexuses ++ record { name = name; line = n; is_guest = guest; start = None; pending = None; busy = None; full = None; role = []; task = None } ∷ [] }))
 
 abbrev pub start_fault : ℕ → List ℕ → Declaration → List (Option ℕ) → Option ReadError
 start_fault n keys x xs =
@@ -79,6 +80,15 @@ pending_at n xs d h x =
 
 unfoldable pub pending_placed : ℕ → List ℕ → List Attention → Declared → Result Declared ReadError
 pending_placed n name xs d = at_name n d name (pending_at n xs d)
+
+abbrev pub refusals_at : ℕ → Refusal → ℕ → Declared → ℕ → Declaration → Result Declared ReadError
+refusals_at n r count d h x =
+    if is_some (count_in r x) then Err (fault.Repeated n) else (
+    if not (nat_le 1 count && nat_le count MOST_REFUSALS) then Err (fault.Limit (limit_of r) n) else
+    Ok (nexus_set d h (with_count r count x)))
+
+unfoldable pub refusals_placed : ℕ → Refusal → List ℕ → ℕ → Declared → Result Declared ReadError
+refusals_placed n r name count d = at_name n d name (refusals_at n r count d)
 
 abbrev pub reservations_at : ℕ → Declared → Option (List (Option Held)) → Result Declared ReadError
 reservations_at n d None = Err (fault.UnknownName n)
@@ -137,7 +147,7 @@ script_step n keys l o = unless (statement_fault n keys o l) (with_statement_lin
 
 -- what any line makes of it
 abbrev pub line_step : ℕ → List ℕ → ScenarioLine → OpenLines → Result OpenLines ReadError
-line_step n keys fence_line o = Err (fault.Syntax n)
+line_step n keys (fence_line version) o = Err (fault.Syntax n)
 line_step n keys (declares l) o = Err (fault.Syntax n)
 line_step n keys (states l) o = script_step n keys l o
 line_step n keys (command_line s) o = Err (fault.Syntax n)
@@ -145,7 +155,7 @@ line_step n keys end_line o = Err (fault.Syntax n)
 
 -- the first line
 abbrev pub placed_first : ℕ → ScenarioLine → Declared → Result Declared ReadError
-placed_first n fence_line d = Ok (record d { place = outside })
+placed_first n (fence_line version) d = Ok (record d { version = version; place = outside })
 placed_first n (declares l) d = Err (fault.Syntax n)
 placed_first n (states l) d = Err (fault.Syntax n)
 placed_first n (command_line s) d = Err (fault.Syntax n)
@@ -157,6 +167,7 @@ declared_with n (keys_line keys) d = keys_placed n keys d
 declared_with n (nexus_line guest name) d = nexus_placed n guest name d
 declared_with n (start_line name xs) d = start_placed n name xs d
 declared_with n (pending_line name xs) d = pending_placed n name xs d
+declared_with n (refusals_line r name count) d = refusals_placed n r name count d
 declared_with n (reservation_line ws) d = reservation_placed n ws d
 declared_with n (generation_line generation) d = generation_placed n generation d
 declared_with n (role_line name clause) d = role_placed n name clause d
@@ -165,7 +176,7 @@ declared_with n (plan_line name) d = plan_placed n name d
 
 -- a line outside scripts and plans
 abbrev pub placed_outside : ℕ → ScenarioLine → Declared → Result Declared ReadError
-placed_outside n fence_line d = Err (fault.Syntax n)
+placed_outside n (fence_line version) d = Err (fault.Syntax n)
 placed_outside n (declares l) d = declared_with n l d
 placed_outside n (states l) d = Err (fault.Syntax n)
 placed_outside n (command_line s) d = Err (fault.Syntax n)
@@ -197,8 +208,12 @@ placed_at n (in_script o) item d = placed_in_script n o item d
 placed_at n (in_plan h commands) item d = placed_in_plan n h commands item d
 
 -- a line where it stands
+unfoldable pub item_standing : ℕ → ScenarioLine → Declared → Result Declared ReadError
+item_standing n item d = placed_at n d.place item d
+
+-- a line, if the version has it
 unfoldable pub item_taken : ℕ → ScenarioLine → Declared → Result Declared ReadError
-item_taken n item d = placed_at n d.place item d
+item_taken n item d = if nat_lt d.version (since item) then Err (fault.Syntax n) else item_standing n item d
 
 -- what the lines make of an open script, one after another, under these declared keys
 abbrev pub all_stepped : ℕ → List ℕ → List ScriptLine → OpenLines → Result OpenLines ReadError

@@ -22,6 +22,8 @@ draft_seen x = record {
   is_guest = x.is_guest;
   start = option_map (λ v. v.items) x.start;
   pending = x.pending;
+  busy = x.busy;
+  full = x.full;
   role = x.role.items;
   task = option_map task_seen x.task;
 }
@@ -34,6 +36,7 @@ place_seen (place.InPlan h commands) = in_plan h commands.items
 
 abbrev pub declared_by : Builder → Declared
 declared_by b = record {
+  version = b.version;
   keys = option_map (λ v. v.items) b.keys;
   reservations = option_map (λ v. v.items) b.reservations;
   generation = b.generation;

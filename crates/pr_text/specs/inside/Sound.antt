@@ -1,12 +1,12 @@
 -- What is declared so far keeps the limits, and the conditions of a scenario.
-use Rattle.std.specs.Prelude.{◌≡◌, ℕ, Bool, true, false, ◌+◌, ◌&&◌, not, nat_lt, nat_le, List, [], ◌∷◌, drop, length, map, Option, Some, None, bytes_eq, count_by, fold}
+use Rattle.std.specs.Prelude.{◌≡◌, ℕ, Bool, true, false, ◌+◌, ◌&&◌, not, nat_lt, nat_le, List, [], ◌∷◌, drop, length, map, Option, Some, None, bytes_eq, count_by, fold, unwrap_or}
 use Rattle.std.specs.List.{list_all}
 use Rattle.pr_cdb.specs.declared.command.Command.{Command}
 use Rattle.pr_script.specs.declared.script.Test.{Test}
 use Rattle.pr_script.specs.Names.{is_name}
 use Rattle.pr_script.specs.Grammar.{is_written, test_fits, rise_above}
-use Rattle.pr_roles.specs.Fitting.{AreDeclared, are_distinct, are_reservations, is_role, is_start}
-use Rattle.pr_cdb.specs.declared.codes.TheConstants.{MOST_NEXUSES}
+use Rattle.pr_script.specs.Versions.{since}
+use Rattle.pr_roles.specs.Fitting.{most_declared, AreDeclared, are_distinct, are_reservations, is_role, is_start, is_version, is_count}
 use Rattle.pr_script.specs.declared.limits.TheConstants.{MOST_STATEMENTS, MOST_ARMS, MOST_OPEN, MOST_TURNS, MOST_BUDGET}
 use Rattle.pr_roles.specs.declared.limits.TheConstants.{MOST_PLANNED}
 use Rattle.pr_text.specs.ScriptLines.{ScriptLine, send_at, arm_on, block_done, repeat_of, break_out, stop_with}
@@ -99,6 +99,40 @@ pub record AreBegun (keys : List ℕ) (n : ℕ) (o : OpenLines) : Type 0 where
   pub passed : list_all (λ line. nat_le line n) (sends_in o.lines) ≡ true
   pub budget : (nat_le 1 o.budget && nat_le o.budget MOST_BUDGET) ≡ true
 
+-- ---- the version
+
+-- the version has the line
+abbrev pub is_line_of : ℕ → ScriptLine → Bool
+is_line_of version (send_at n c) = true
+is_line_of version (arm_on t) = nat_le (since t) version
+is_line_of version block_done = true
+is_line_of version (repeat_of n) = true
+is_line_of version break_out = true
+is_line_of version (stop_with word) = true
+
+abbrev pub is_written_of : ℕ → Option WrittenTask → Bool
+is_written_of version None = true
+is_written_of version (Some (scripted ls budget)) = list_all (is_line_of version) ls
+is_written_of version (Some (planned commands)) = true
+
+abbrev pub is_declared_of : ℕ → Declaration → Bool
+is_declared_of version x =
+    is_count version (unwrap_or x.busy 0) && (is_count version (unwrap_or x.full 0) && is_written_of version x.task)
+
+-- nothing is declared before the version is said
+abbrev pub IsPlaceOf : ℕ → List Declaration → Place → Type 0
+IsPlaceOf version xs before_all = xs ≡ []
+IsPlaceOf version xs outside = Unit {0}
+IsPlaceOf version xs (in_script o) = list_all (is_line_of version) o.lines ≡ true
+IsPlaceOf version xs (in_plan h commands) = Unit {0}
+
+-- what is declared is what the version has
+pub record IsDated (d : Declared) : Type 0 where
+  pub version : is_version d.version ≡ true
+  pub few : nat_le (length d.nexuses) (most_declared d.version) ≡ true
+  pub each : list_all (is_declared_of d.version) d.nexuses ≡ true
+  pub place : IsPlaceOf d.version d.nexuses d.place
+
 -- ---- the whole
 
 abbrev pub is_plan : List ℕ → List Command → Bool
@@ -130,7 +164,6 @@ IsPlace keys n (in_plan h commands) = is_plan keys commands ≡ true
 pub record IsSound (n : ℕ) (d : Declared) : Type 0 where
   pub keys : AreDeclared (declared_keys d)
   pub reservations : are_reservations (length d.nexuses) (reservations_of d) ≡ true
-  pub few : nat_le (length d.nexuses) MOST_NEXUSES ≡ true
   pub apart : are_distinct bytes_eq (map (λ x. x.name) d.nexuses) ≡ true
   pub each : AreDeclarations (declared_keys d) d.nexuses
   pub place : IsPlace (declared_keys d) n d.place

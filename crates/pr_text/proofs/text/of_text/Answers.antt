@@ -13,8 +13,11 @@ returns-in_err-number-clause-fault c =
     let p = err_from_is_err_and c.from_residual.result c.from_residual.ensures.1 in
     rw (p.1, p.2) (fails_early c.args.text.now c.in_err-number.field-0.0 c.if-text-gt-MOST_BYTES.false c.in_err-number.ensures.fault)
 
-pub finished-requires : goal.finished-requires
-finished-requires c = read_sound c.args.text.now c.in_ok-number.number (declared_by c.in_ok-number.builder) c.in_ok-number.ensures.ok
+pub finished-requires-clause-sound : goal.finished-requires-clause-sound
+finished-requires-clause-sound c = (read_sound c.args.text.now c.in_ok-number.number (declared_by c.in_ok-number.builder) c.in_ok-number.ensures.ok).0
+
+pub finished-requires-clause-dated : goal.finished-requires-clause-dated
+finished-requires-clause-dated c = (read_sound c.args.text.now c.in_ok-number.number (declared_by c.in_ok-number.builder) c.in_ok-number.ensures.ok).1
 
 pub returns-clause-found : goal.returns-clause-found
 returns-clause-found c =

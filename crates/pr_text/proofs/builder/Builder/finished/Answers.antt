@@ -13,7 +13,7 @@ returns-in-Some-clause-fault c = fails_end c.args.number (declared_by c.args.sel
 
 pub make-requires : goal.make-requires
 make-requires c =
-    declared_fits c.args.number (declared_by c.args.self) (scenario_of c.in_ok-parts.parts) c.requires
+    declared_fits c.args.number (declared_by c.args.self) (scenario_of c.in_ok-parts.parts) c.requires.sound c.requires.dated
     (sym c.missing_fault.ensures ∙ c.in_default.is) c.in_ok-parts.ensures.declared
 
 pub returns-in-Ok-clause-found : goal.returns-in-Ok-clause-found
@@ -25,6 +25,6 @@ pub returns-clause-fault : goal.returns-clause-fault
 unfolding scenario_of
 returns-clause-fault c =
     let faultless : missing_fault c.args.number (declared_by c.args.self) ≡ None = sym c.missing_fault.ensures ∙ c.in_default.is in
-    let fits : Fits (scenario_of c.in_ok-parts.parts) = declared_fits c.args.number (declared_by c.args.self) (scenario_of c.in_ok-parts.parts) c.requires faultless c.in_ok-parts.ensures.declared in
+    let fits : Fits (scenario_of c.in_ok-parts.parts) = declared_fits c.args.number (declared_by c.args.self) (scenario_of c.in_ok-parts.parts) c.requires.sound c.requires.dated faultless c.in_ok-parts.ensures.declared in
     empty c.args.number (declared_by c.args.self) (scenario_of c.in_ok-parts.parts) faultless c.in_ok-parts.ensures.declared fits c.in_ok-parts.ensures.room
     (λ can. false≢true (c.in-Err.ensures.exactly.1 can))
