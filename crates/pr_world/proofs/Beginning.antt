@@ -1,21 +1,21 @@
 -- A scenario at its first start.
-use Rattle.std.proofs.Common.{◌≡◌, ℕ, zero, suc, ◌<◌, ◌==◌, not, true, nat_le, List, [], ◌∷◌, length, Some, refl, sym, ap, ◌∙◌, subst, get_or, arith}
-use Rattle.std.specs.Prelude.{map, bytes_eq}
+use Rattle.std.proofs.Common.{◌≡◌, ℕ, zero, suc, ◌<◌, true, nat_le, List, [], ◌∷◌, length, Some, refl, sym, ap, ◌∙◌, subst, get_or, arith}
+use Rattle.std.specs.Prelude.{map}
 use Rattle.std.specs.List.{list_all}
 use Rattle.std.proofs.lemmas.Bool.{and_parts}
 use Rattle.std.proofs.lemmas.Bool.Decides.{nat_tests}
-use Rattle.pr_cdb.specs.declared.codes.TheConstants.{MOST_NEXUSES}
 use Rattle.pr_script.proofs.Shallow.{shallow}
+use Rattle.pr_roles.specs.declared.item.Item.{Item}
 use Rattle.pr_roles.specs.declared.parts.Nexus.{Nexus as NexusPart}
 use Rattle.pr_roles.specs.declared.parts.Parts.{Parts}
 use Rattle.pr_roles.specs.Scenarios.{Scenario, Nexus, Task, Scripted, Planned, nexus_of, task_of, scenario_of}
 use Rattle.pr_script.specs.Names.{is_name}
-use Rattle.pr_roles.specs.Fitting.{Fits, are_distinct, is_nexus, is_role, is_start, is_task, are_nexuses}
+use Rattle.pr_roles.specs.Fitting.{Fits, is_nexus, is_role, is_start, is_task}
+use Rattle.pr_roles.proofs.Allowed.{each_nexus}
 use Rattle.pr_roles.specs.Starts.{IsAllowedStart, first_state}
 use Rattle.pr_roles.specs.Worlds.{control_of}
 use Rattle.pr_roles.specs.Schedules.{plan_of}
 use Rattle.pr_unit.specs.UnitStates.{UnitState}
-use Rattle.pr_roles.specs.declared.entry.Entry.{Entry}
 use Rattle.pr_world.specs.Courses.{IsReached, is_planned}
 use Rattle.pr_world.specs.inside.Participations.{IsShort, Participation, StandsFor, schedule_by, participation_from, is_free}
 
@@ -35,10 +35,7 @@ short_each keys (n ∷ ns) (suc i) d all there = short_each keys ns i d (and_par
 
 pub short_part : (p : Parts) (i : ℕ) (d : NexusPart) → Fits (scenario_of p) → i < length p.nexuses.items → IsShort (task_of (get_or p.nexuses.items i d).task)
 unfolding scenario_of
-short_part p i d fits there = short_each p.keys.items p.nexuses.items i d (each p.keys.items (map nexus_of p.nexuses.items) fits.nexuses) there
-  where
-    each : (keys : List ℕ) (ns : List Nexus) → are_nexuses keys ns ≡ true → list_all (is_nexus keys) ns ≡ true
-    each keys ns is = (and_parts (are_distinct bytes_eq (map (λ n. n.name) ns)) _ (and_parts (nat_le (length ns) MOST_NEXUSES) _ (and_parts (not (length ns == 0)) _ is).1).1).1
+short_part p i d fits there = short_each p.keys.items p.nexuses.items i d (each_nexus (scenario_of p) fits) there
 
 pub short_at : (p q : Parts) (ns : List NexusPart) (i : ℕ) (n : NexusPart) → Fits (scenario_of p) → q ≡ p → ns ≡ q.nexuses.items → i < length ns → n ≡ get_or ns i n → IsShort (task_of n.task)
 short_at p q ns i n fits same items there is =
@@ -64,7 +61,7 @@ tasks_from : (ns : List Nexus) → map (λ x. is_free x.control) (map (λ n. par
 tasks_from [] = refl
 tasks_from (n ∷ ns) = λ i. free_from n.task i ∷ tasks_from ns i
 
-pub begun : (s : Scenario) (u : UnitState) (xs : List Participation) (es : List Entry) → Some u ≡ first_state s → IsAllowedStart s u → xs ≡ map (λ n. participation_from n.task) s.nexuses → es ≡ []
+pub begun : (s : Scenario) (u : UnitState) (xs : List Participation) (es : List Item) → Some u ≡ first_state s → IsAllowedStart s u → xs ≡ map (λ n. participation_from n.task) s.nexuses → es ≡ []
     → IsReached s [] (schedule_by u xs es)
 begun s u xs es first allowed participations none =
     let controls = ap (map (λ x. x.control)) participations ∙ controls_from s.nexuses in
@@ -73,9 +70,9 @@ begun s u xs es first allowed participations none =
       start = u;
       first = sym first;
       allowed = allowed;
-      scheduled = λ i. record { world = record { unit = u; controls = controls i; entries = none i }; plans = plans i };
+      scheduled = λ i. record { world = record { unit = u; controls = controls i; history = none i }; plans = plans i };
       events = [];
-      run = λ i. record { unit = u; controls = controls i; entries = none i };
+      run = λ i. record { unit = u; controls = controls i; history = none i };
     }
 
 pub stands_at_first : (s : Scenario) (u : UnitState) (xs : List Participation) → IsAllowedStart s u → xs ≡ map (λ n. participation_from n.task) s.nexuses → StandsFor s u xs

@@ -1,35 +1,52 @@
--- Entries counted by their senders.
+-- The commands of a history counted by their senders.
 use Rattle.std.proofs.Common.{◌≡◌, ◌≢◌, ℕ, ◌+◌, ◌-◌, ◌<◌, ◌≤◌, ◌==◌, Bool, true, false, cond, List, [], ◌∷◌, ◌++◌, length, get_or, set, refl, sym, ap, ◌∙◌, subst, arith, get_or-set_same, get_or-set_other}
 use Rattle.std.specs.Prelude.{sum}
+use Rattle.std.specs.List.{count_by}
 use Rattle.std.proofs.lemmas.List.{get_or_past}
 use Rattle.std.proofs.lemmas.List.Sums.{sum_by-cons, sum_by-set, sum_by_push}
 use Rattle.std.proofs.lemmas.Bool.Decides.{nat_tests}
 use Rattle.pr_roles.specs.declared.entry.Entry.{Entry}
-use Rattle.pr_roles.specs.Worlds.{commands_by}
+use Rattle.pr_roles.specs.declared.item.Item.{Item}
+use Rattle.pr_roles.specs.declared.item.Item.TheVariants.{Sent, Reset}
+use Rattle.pr_roles.specs.Worlds.{commands_by, is_sent_by}
 
--- ---- one entry more
+abbrev pub is_reset : Item → Bool
+is_reset (Sent e) = false
+is_reset Reset = true
 
--- one for its sender, and none for another
-abbrev pub counts : Entry → ℕ → ℕ
-counts e h = cond (e.host == h) 1 0
+-- how often the unit was reset
+abbrev pub resets_in : List Item → ℕ
+resets_in history = count_by is_reset history
 
-sent-cons : (e : Entry) (es : List Entry) (h : ℕ) → commands_by (e ∷ es) h ≡ counts e h + commands_by es h
-sent-cons e es h = sum_by-cons (λ x. cond (x.host == h) 1 0) e es
+-- ---- one item more
 
-pub sent-push : (es : List Entry) (e : Entry) (h : ℕ) → commands_by (es ++ e ∷ []) h ≡ commands_by es h + counts e h
-sent-push es e h = sum_by_push (λ x. cond (x.host == h) 1 0) es e
+-- one for its sender, and none for another; a reset counts for nobody
+abbrev pub counts : Item → ℕ → ℕ
+counts e h = cond (is_sent_by h e) 1 0
 
-counts_own : (e : Entry) → counts e e.host ≡ 1
+sent-cons : (e : Item) (es : List Item) (h : ℕ) → commands_by (e ∷ es) h ≡ counts e h + commands_by es h
+sent-cons e es h = sum_by-cons (λ x. cond (is_sent_by h x) 1 0) e es
+
+pub sent-push : (es : List Item) (e : Item) (h : ℕ) → commands_by (es ++ e ∷ []) h ≡ commands_by es h + counts e h
+sent-push es e h = sum_by_push (λ x. cond (is_sent_by h x) 1 0) es e
+
+counts_own : (e : Entry) → counts (Sent e) e.host ≡ 1
 counts_own e = grind (arith, nat_tests)
 
-counts_other : (e : Entry) (h : ℕ) → e.host ≢ h → counts e h ≡ 0
+counts_other : (e : Entry) (h : ℕ) → e.host ≢ h → counts (Sent e) h ≡ 0
 counts_other e h other = grind (arith, nat_tests)
 
-pub sent_other : (es : List Entry) (e : Entry) (h : ℕ) → e.host ≢ h → commands_by (es ++ e ∷ []) h ≡ commands_by es h
-sent_other es e h other = omega (arith, sent-push es e h, counts_other e h other)
+pub sent_other : (es : List Item) (e : Entry) (h : ℕ) → e.host ≢ h → commands_by (es ++ Sent e ∷ []) h ≡ commands_by es h
+sent_other es e h other = omega (arith, sent-push es (Sent e) h, counts_other e h other)
 
-pub sent_own : (es : List Entry) (e : Entry) (h : ℕ) → e.host ≡ h → commands_by (es ++ e ∷ []) h ≡ commands_by es h + 1
-sent_own es e h own = sent-push es e h ∙ ap (λ n. commands_by es h + n) (subst (λ k. counts e k ≡ 1) own (counts_own e))
+pub sent_own : (es : List Item) (e : Entry) (h : ℕ) → e.host ≡ h → commands_by (es ++ Sent e ∷ []) h ≡ commands_by es h + 1
+sent_own es e h own = sent-push es (Sent e) h ∙ ap (λ n. commands_by es h + n) (subst (λ k. counts (Sent e) k ≡ 1) own (counts_own e))
+
+resets-cons : (e : Item) (es : List Item) → resets_in (e ∷ es) ≡ cond (is_reset e) 1 0 + resets_in es
+resets-cons e es = sum_by-cons (λ x. cond (is_reset x) 1 0) e es
+
+pub resets-push : (es : List Item) (e : Item) → resets_in (es ++ e ∷ []) ≡ resets_in es + cond (is_reset e) 1 0
+resets-push es e = sum_by_push (λ x. cond (is_reset x) 1 0) es e
 
 -- ---- no more than there is room for
 
@@ -57,16 +74,19 @@ at_lowered rs i h n some few less = at (h == i) refl
         let other : h ≢ i = grind (arith, nat_tests) in
         omega (arith, get_or-set_other rs i h (get_or rs i 0 - 1) 0 other)
 
-pub all_have_room : (rs : List ℕ) (es : List Entry) → ((h : ℕ) → commands_by es h ≤ get_or rs h 0) → length es ≤ sum rs
+pub all_have_room : (rs : List ℕ) (es : List Item) → ((h : ℕ) → commands_by es h ≤ get_or rs h 0) → length es ≤ sum rs + resets_in es
 all_have_room rs [] few = omega arith
-all_have_room rs (e ∷ es) few =
-    let own : commands_by es e.host + 1 ≤ get_or rs e.host 0 = omega (arith, sent-cons e es e.host, counts_own e, few e.host) in
+all_have_room rs (Sent e ∷ es) few =
+    let own : commands_by es e.host + 1 ≤ get_or rs e.host 0 = omega (arith, sent-cons (Sent e) es e.host, counts_own e, few e.host) in
     let some : 1 ≤ get_or rs e.host 0 = omega (arith, own) in
-    let rest = all_have_room (lowered rs e.host) es (λ h. at_lowered rs e.host h (commands_by es h) some (omega (arith, sent-cons e es h, few h)) (λ same. subst (λ k. commands_by es k + 1 ≤ get_or rs k 0) (sym same) own)) in
-    omega (arith, sum-lowered rs e.host some, rest)
+    let rest = all_have_room (lowered rs e.host) es (λ h. at_lowered rs e.host h (commands_by es h) some (omega (arith, sent-cons (Sent e) es h, few h)) (λ same. subst (λ k. commands_by es k + 1 ≤ get_or rs k 0) (sym same) own)) in
+    omega (arith, sum-lowered rs e.host some, rest, resets-cons (Sent e) es)
+all_have_room rs (Reset ∷ es) few =
+    let rest = all_have_room rs es (λ h. omega (arith, sent-cons Reset es h, few h)) in
+    omega (arith, rest, resets-cons Reset es)
 
 -- and one that has not sent as many as it may finds room
-pub one_has_room : (rs : List ℕ) (es : List Entry) (i : ℕ) → ((h : ℕ) → commands_by es h ≤ get_or rs h 0) → commands_by es i < get_or rs i 0 → length es < sum rs
+pub one_has_room : (rs : List ℕ) (es : List Item) (i : ℕ) → ((h : ℕ) → commands_by es h ≤ get_or rs h 0) → commands_by es i < get_or rs i 0 → length es < sum rs + resets_in es
 one_has_room rs es i few less =
     let own : commands_by es i + 1 ≤ get_or rs i 0 = omega arith in
     let some : 1 ≤ get_or rs i 0 = omega (arith, own) in

@@ -13,16 +13,21 @@ use Rattle.pr_unit.specs.UnitStates.{UnitState}
 use Rattle.pr_unit.proofs.Answered.{every_request_has_a_step}
 use Rattle.pr_script.specs.Scripts.{Stmts, Standing, ready, stopped}
 use Rattle.pr_roles.specs.declared.entry.Entry.{Entry}
+use Rattle.pr_roles.specs.declared.item.Item.{Item}
+use Rattle.pr_roles.specs.declared.item.Item.TheVariants.{Sent}
+use Rattle.pr_roles.specs.declared.how.How.{How}
+use Rattle.pr_roles.specs.declared.how.How.TheVariants as how
+use Rattle.pr_roles.specs.Answers.{how_now}
 use Rattle.pr_roles.specs.declared.role.Clause.{Clause}
 use Rattle.pr_roles.specs.Scenarios.{Scenario, Nexus, Task, Scripted, Planned, nexus, role, task}
-use Rattle.pr_roles.specs.Worlds.{World, Host, HostSends, after, control, entry_of, commands_by, standing_of, world_from}
+use Rattle.pr_roles.specs.Worlds.{World, Event, Host, Guest, Happens, Run, HostSends, after, control, entry_of, commands_by, standing_of, world_from}
 use Rattle.pr_roles.specs.Safety.{IsSafe, KeepsBudgetBy}
-use Rattle.pr_roles.specs.Schedules.{Schedule, Sends, SendsUnless, HostTurn, GuestTurn, TurnBy, ScheduledRun, is_held_back, plan, plan_of, schedule_from}
+use Rattle.pr_roles.specs.Schedules.{Schedule, Sends, SendsUnless, HostTurn, GuestTurn, TurnBy, ScheduledRun, is_passed_over, plan, plan_of, schedule_from}
 use Rattle.pr_world.specs.Courses.{IsReached}
 use Rattle.pr_world.specs.inside.Turns.{does, sends as sending}
 use Rattle.pr_world.specs.Rooms.{room_of, room_by}
 use Rattle.pr_world.specs.inside.Workings.{rooms}
-use Rattle.pr_world.proofs.Counting.{sent_other, sent_own, all_have_room, one_has_room}
+use Rattle.pr_world.proofs.Counting.{resets_in, resets-push, sent_other, sent_own, all_have_room, one_has_room}
 use Rattle.pr_world.proofs.Meaning.{HasItsTask, HostIsReady, GuestIsReady, means}
 use Rattle.pr_world.proofs.Running.{run_then}
 
@@ -35,7 +40,7 @@ KeepsPlanBy (Some (Scripted script budget)) n = Unit {0}
 KeepsPlanBy (Some (Planned commands)) n = n ≤ length commands
 
 abbrev pub used : Schedule → ℕ → ℕ
-used x g = commands_by x.world.entries g + length (plan x g)
+used x g = commands_by x.world.history g + length (plan x g)
 
 pub KeepsPlans : Scenario → Schedule → Type 0
 KeepsPlans s x = (g : ℕ) → KeepsPlanBy (task s g) (used x g)
@@ -74,34 +79,34 @@ plan_own plans h left = at (nat_lt h (length plans)) refl
 
 -- ---- turns
 
--- the entries are those before, or one of h comes to them
-abbrev pub Grows : List Entry → ℕ → List Entry → Type 0
-Grows es h fs = (fs ≡ es) ⊎ ((e : Entry) × (e.host ≡ h) × (fs ≡ es ++ e ∷ []))
+-- the history is the one before, or a command of h comes to it
+abbrev pub Grows : List Item → ℕ → List Item → Type 0
+Grows es h fs = (fs ≡ es) ⊎ ((e : Entry) × (e.host ≡ h) × (fs ≡ es ++ Sent e ∷ []))
 
-sends_grows : (w v : World) (h at : ℕ) (c : Command) → Sends w h at c v → Grows w.entries h v.entries
-sends_grows w v h at c sends = inr (entry_of h (spelling c) sends.reply, refl, ap (λ x. x.entries) sends.world)
+sends_grows : (so : How) (w v : World) (h at : ℕ) (c : Command) → Sends w h at c so v → Grows w.history h v.history
+sends_grows so w v h at c sends = inr (entry_of h (spelling c) sends.reply, refl, ap (λ x. x.history) sends.world)
 
-same_grows : (w v : World) (h : ℕ) → v ≡ w → Grows w.entries h v.entries
-same_grows w v h same = inl (ap (λ x. x.entries) same)
+same_grows : (w v : World) (h : ℕ) → v ≡ w → Grows w.history h v.history
+same_grows w v h same = inl (ap (λ x. x.history) same)
 
-host_grows : (o : Option Standing) (w v : World) (h : ℕ) → HostTurn o w h v → Grows w.entries h v.entries
-host_grows (Some (ready at c)) w v h turn = sends_grows w v h at c turn
-host_grows (Some (stopped word)) w v h turn = same_grows w v h turn
-host_grows None w v h turn = same_grows w v h turn
+host_grows : (so : How) (o : Option Standing) (w v : World) (h : ℕ) → HostTurn o w h so v → Grows w.history h v.history
+host_grows so (Some (ready at c)) w v h turn = sends_grows so w v h at c turn
+host_grows so (Some (stopped word)) w v h turn = same_grows w v h turn
+host_grows so None w v h turn = same_grows w v h turn
 
 -- of another as many were sent, and of h at most one more
-grown_other : (es fs : List Entry) (h g : ℕ) → g ≢ h → Grows es h fs → commands_by fs g ≡ commands_by es g
+grown_other : (es fs : List Item) (h g : ℕ) → g ≢ h → Grows es h fs → commands_by fs g ≡ commands_by es g
 grown_other es fs h g other (inl same) = ap (λ xs. commands_by xs g) same
 grown_other es fs h g other (inr (e, own, added)) =
     let away : e.host ≢ g = λ is. other (sym is ∙ own) in
     ap (λ xs. commands_by xs g) added ∙ sent_other es e g away
 
-grown_own : (es fs : List Entry) (h : ℕ) → Grows es h fs → commands_by fs h ≤ commands_by es h + 1
+grown_own : (es fs : List Item) (h : ℕ) → Grows es h fs → commands_by fs h ≤ commands_by es h + 1
 grown_own es fs h (inl same) = omega (arith, ap (λ xs. commands_by xs h) same)
 grown_own es fs h (inr (e, own, added)) = omega (arith, ap (λ xs. commands_by xs h) added, sent_own es e h own)
 
 -- Who is not h keeps to its plan, as long as only h sends and only the plan of h changes.
-others_kept : (s : Scenario) (x y : Schedule) (h : ℕ) → Grows x.world.entries h y.world.entries → ((g : ℕ) → g ≢ h → plan y g ≡ plan x g)
+others_kept : (s : Scenario) (x y : Schedule) (h : ℕ) → Grows x.world.history h y.world.history → ((g : ℕ) → g ≢ h → plan y g ≡ plan x g)
     → KeepsPlanBy (task s h) (used y h) → KeepsPlans s x → KeepsPlans s y
 unfolding KeepsPlans
 others_kept s x y h grows plans own kept g = at (g == h) refl
@@ -110,29 +115,29 @@ others_kept s x y h grows plans own kept g = at (g == h) refl
     at true is = let same : h ≡ g = grind (arith, nat_tests) in subst (λ k. KeepsPlanBy (task s k) (used y k)) same own
     at false is =
         let other : g ≢ h = grind (arith, nat_tests) in
-        less_kept (task s g) (used y g) (used x g) (omega (arith, grown_other x.world.entries y.world.entries h g other grows, ap length (plans g other))) (kept g)
+        less_kept (task s g) (used y g) (used x g) (omega (arith, grown_other x.world.history y.world.history h g other grows, ap length (plans g other))) (kept g)
 
 -- what a guest's turn uses up of its plan is what it sends at most
-guest_used : (clauses : List Clause) (planned : List Command) (w v : World) (h : ℕ) (left : List Command) → GuestTurn clauses planned w h v left
-    → Grows w.entries h v.entries × (commands_by v.entries h + length left ≤ commands_by w.entries h + length planned)
-guest_used clauses [] w v h left turn =
-    (same_grows w v h turn.0, omega (arith, ap (λ x. commands_by x.entries h) turn.0, ap length turn.1))
-guest_used clauses (c ∷ cs) w v h left turn = at (is_held_back clauses w.unit h c) turn.0
+guest_used : (so : How) (clauses : List Clause) (planned : List Command) (w v : World) (h : ℕ) (left : List Command) → GuestTurn clauses planned w h so v left
+    → Grows w.history h v.history × (commands_by v.history h + length left ≤ commands_by w.history h + length planned)
+guest_used so clauses [] w v h left turn =
+    (same_grows w v h turn.0, omega (arith, ap (λ x. commands_by x.history h) turn.0, ap length turn.1))
+guest_used so clauses (c ∷ cs) w v h left turn = at (is_passed_over so clauses w.unit h c) turn.0
   where
-    at : (b : Bool) → SendsUnless b w h c v → Grows w.entries h v.entries × (commands_by v.entries h + length left ≤ commands_by w.entries h + length (c ∷ cs))
-    at true same = (same_grows w v h same, omega (arith, ap (λ x. commands_by x.entries h) same, ap length turn.1))
+    at : (b : Bool) → SendsUnless b w h c so v → Grows w.history h v.history × (commands_by v.history h + length left ≤ commands_by w.history h + length (c ∷ cs))
+    at true same = (same_grows w v h same, omega (arith, ap (λ x. commands_by x.history h) same, ap length turn.1))
     at false sends =
-        let grows = sends_grows w v h 0 c sends in
-        (grows, omega (arith, grown_own w.entries v.entries h grows, ap length turn.1))
+        let grows = sends_grows so w v h 0 c sends in
+        (grows, omega (arith, grown_own w.history v.history h grows, ap length turn.1))
 
-turn_kept : (s : Scenario) (x y : Schedule) (h : ℕ) (t : Option Task) → task s h ≡ t → TurnBy t s x h y → KeepsPlans s x → KeepsPlans s y
+turn_kept : (so : How) (s : Scenario) (x y : Schedule) (h : ℕ) (t : Option Task) → task s h ≡ t → TurnBy t s x h so y → KeepsPlans s x → KeepsPlans s y
 unfolding KeepsPlans
-turn_kept s x y h None is turn kept = subst (KeepsPlans s) (sym turn) kept
-turn_kept s x y h (Some (Scripted script budget)) is turn kept =
-    others_kept s x y h (host_grows _ x.world y.world h turn.0) (λ g other. ap (λ ps. plan_in ps g) turn.1)
+turn_kept so s x y h None is turn kept = subst (KeepsPlans s) (sym turn) kept
+turn_kept so s x y h (Some (Scripted script budget)) is turn kept =
+    others_kept s x y h (host_grows so _ x.world y.world h turn.0) (λ g other. ap (λ ps. plan_in ps g) turn.1)
     (subst (λ t. KeepsPlanBy t (used y h)) (sym is) tt) kept
-turn_kept s x y h (Some (Planned commands)) is turn kept =
-    let guest = guest_used (role s h) (plan x h) x.world y.world h turn.0 turn.1 in
+turn_kept so s x y h (Some (Planned commands)) is turn kept =
+    let guest = guest_used so (role s h) (plan x h) x.world y.world h turn.0 turn.1 in
     let few : used x h ≤ length commands = subst (λ t. KeepsPlanBy t (used x h)) is (kept h) in
     let own : length (plan y h) ≤ length turn.0 = subst (λ ps. length (plan_in ps h) ≤ length turn.0) (sym turn.2) (plan_own x.plans h turn.0) in
     others_kept s x y h guest.0 (λ g other. ap (λ ps. plan_in ps g) turn.2 ∙ plan_other x.plans h g turn.0 other)
@@ -159,52 +164,69 @@ kept_at_first s u g = by (nexus s g) refl
         subst (λ o. KeepsPlanBy (option_map_or (λ n. Some n.task) o None) (used (schedule_from s u) g)) (sym is)
         (less_kept (Some n.task) (used (schedule_from s u) g) (length (plan_of n.task)) (omega (arith, ap length (begins (Some n) is))) (first n.task))
 
-run_kept : (s : Scenario) (x y : Schedule) (hs : List ℕ) → ScheduledRun s x hs y → KeepsPlans s x → KeepsPlans s y
+run_kept : (s : Scenario) (x y : Schedule) (hs : List (ℕ × How)) → ScheduledRun s x hs y → KeepsPlans s x → KeepsPlans s y
 run_kept s x y [] run kept = subst (KeepsPlans s) (sym run) kept
-run_kept s x y (h ∷ hs) run kept = run_kept s run.0 y hs run.2 (turn_kept s x run.0 h (task s h) refl run.1 kept)
+run_kept s x y (h ∷ hs) run kept = run_kept s run.0 y hs run.2 (turn_kept (how_now s x.world.history h.0 h.1) s x run.0 h.0 (task s h.0) refl run.1 kept)
 
-pub reached_keeps_plans : (s : Scenario) (steps : List ℕ) (y : Schedule) → IsReached s steps y → KeepsPlans s y
+pub reached_keeps_plans : (s : Scenario) (steps : List (ℕ × How)) (y : Schedule) → IsReached s steps y → KeepsPlans s y
 reached_keeps_plans s steps y reached = run_kept s (schedule_from s reached.start) y steps reached.scheduled (kept_at_first s reached.start)
 
 -- ---- hosts keep to their budgets
 
 -- the command that h is ready to send may be its next event
-next_sends : (w : World) (h at : ℕ) (c : Command) → standing_of (control w h) ≡ Some (ready at c) → (v : World) × HostSends w h v × (commands_by v.entries h ≡ commands_by w.entries h + 1)
-next_sends w h at c is =
+next_sends : (s : Scenario) (w : World) (h at : ℕ) (c : Command) → standing_of (control w h) ≡ Some (ready at c) → (v : World) × HostSends s w h how.Plain v × (commands_by v.history h ≡ commands_by w.history h + 1)
+next_sends s w h at c is =
     let answered = every_request_has_a_step w.unit h (Plain c) in (
       after w h at (spelling c) answered.reply answered.after,
       record {
+        room = refl;
         line = at;
         command = c;
         ready = is;
         reply = answered.reply;
         unit = answered.after;
-        step = answered.step;
+        answer = answered.step;
         world = refl;
       },
-      sent_own w.entries (entry_of h (spelling c) answered.reply) h refl,
+      sent_own w.history (entry_of h (spelling c) answered.reply) h refl,
     )
 
 -- so of a safe scenario it is within the budget
-pub ready_has_room : (s : Scenario) (steps : List ℕ) (y : Schedule) (h at : ℕ) (c : Command) (script : Stmts) (budget : ℕ) → IsSafe s → IsReached s steps y
-    → task s h ≡ Some (Scripted script budget) → standing_of (control y.world h) ≡ Some (ready at c) → commands_by y.world.entries h < budget
+pub ready_has_room : (s : Scenario) (steps : List (ℕ × How)) (y : Schedule) (h at : ℕ) (c : Command) (script : Stmts) (budget : ℕ) → IsSafe s → IsReached s steps y
+    → task s h ≡ Some (Scripted script budget) → standing_of (control y.world h) ≡ Some (ready at c) → commands_by y.world.history h < budget
 unfolding IsSafe
 ready_has_room s steps y h at c script budget safe reached is stands =
-    let next = next_sends y.world h at c stands in
-    let run = run_then s (world_from s reached.start) y.world next.0 reached.events (Host h) reached.run next.1 in
-    let kept : KeepsBudgetBy (task s h) next.0 h = ((safe reached.start reached.allowed (reached.events ++ Host h ∷ []) next.0 run).0 h).1 in
-    let few : commands_by next.0.entries h ≤ budget = subst (λ t. KeepsBudgetBy t next.0 h) is kept in
+    let next = next_sends s y.world h at c stands in
+    let run = run_then s (world_from s reached.start) y.world next.0 reached.events (Host h how.Plain) reached.run next.1 in
+    let kept : KeepsBudgetBy (task s h) next.0 h = ((safe reached.start reached.allowed (reached.events ++ Host h how.Plain ∷ []) next.0 run).0 h).1 in
+    let few : commands_by next.0.history h ≤ budget = subst (λ t. KeepsBudgetBy t next.0 h) is kept in
     omega (arith, few, next.2)
 
 -- In a scheduled run of a safe scenario nobody sends more than there is room for.
-pub sent_within : (s : Scenario) (steps : List ℕ) (y : Schedule) → IsSafe s → IsReached s steps y → (h : ℕ) → commands_by y.world.entries h ≤ room_by (task s h)
+pub sent_within : (s : Scenario) (steps : List (ℕ × How)) (y : Schedule) → IsSafe s → IsReached s steps y → (h : ℕ) → commands_by y.world.history h ≤ room_by (task s h)
 unfolding IsSafe KeepsPlans
 sent_within s steps y safe reached h = by (task s h) (reached_keeps_plans s steps y reached h) ((safe reached.start reached.allowed reached.events y.world reached.run).0 h).1
   where
-    by : (t : Option Task) → KeepsPlanBy t (used y h) → KeepsBudgetBy t y.world h → commands_by y.world.entries h ≤ room_by t
+    by : (t : Option Task) → KeepsPlanBy t (used y h) → KeepsBudgetBy t y.world h → commands_by y.world.history h ≤ room_by t
     by None plans budget = omega (arith, plans)
     by (Some (Scripted script most)) plans budget = budget
     by (Some (Planned commands)) plans budget = omega (arith, plans)
+
+-- No event resets the unit.
+unreset_more : (s : Scenario) (w : World) (e : Event) (v : World) → Happens s w e v → resets_in v.history ≡ resets_in w.history
+unreset_more s w (Host h so) v sends =
+    let more = resets-push w.history (Sent (entry_of h (spelling sends.command) sends.reply)) in
+    omega (arith, more, ap (λ x. resets_in x.history) sends.world)
+unreset_more s w (Guest g wire so) v sends =
+    let more = resets-push w.history (Sent (entry_of g wire sends.reply)) in
+    omega (arith, more, ap (λ x. resets_in x.history) sends.world)
+
+run_unreset : (s : Scenario) (w : World) (es : List Event) (v : World) → Run s w es v → resets_in v.history ≡ resets_in w.history
+run_unreset s w [] v run = ap (λ x. resets_in x.history) run
+run_unreset s w (e ∷ es) v run = run_unreset s run.0 es v run.2 ∙ unreset_more s w e run.0 run.1
+
+reached_unreset : (s : Scenario) (steps : List (ℕ × How)) (y : Schedule) → IsReached s steps y → resets_in y.world.history ≡ 0
+reached_unreset s steps y reached = run_unreset s (world_from s reached.start) reached.events y.world reached.run
 
 -- The room of each, in the order of their numbers.
 pub room_at : (s : Scenario) (h : ℕ) → get_or (map (λ n. room_of n.task) s.nexuses) h 0 ≡ room_by (task s h)
@@ -215,33 +237,35 @@ room_at s h = at s.nexuses h
     at (n ∷ ns) zero = refl
     at (n ∷ ns) (suc h) = at ns h
 
-pub run_has_room : (s : Scenario) (steps : List ℕ) (y : Schedule) → IsSafe s → IsReached s steps y → length y.world.entries ≤ rooms s
+pub run_has_room : (s : Scenario) (steps : List (ℕ × How)) (y : Schedule) → IsSafe s → IsReached s steps y → length y.world.history ≤ rooms s
 run_has_room s steps y safe reached =
-    all_have_room (map (λ n. room_of n.task) s.nexuses) y.world.entries (λ h. omega (arith, room_at s h, sent_within s steps y safe reached h))
+    let few = all_have_room (map (λ n. room_of n.task) s.nexuses) y.world.history (λ h. omega (arith, room_at s h, sent_within s steps y safe reached h)) in
+    omega (arith, few, reached_unreset s steps y reached)
 
-pub next_has_room : (s : Scenario) (steps : List ℕ) (y : Schedule) (h : ℕ) → IsSafe s → IsReached s steps y → commands_by y.world.entries h < room_by (task s h) → length y.world.entries < rooms s
+pub next_has_room : (s : Scenario) (steps : List (ℕ × How)) (y : Schedule) (h : ℕ) → IsSafe s → IsReached s steps y → commands_by y.world.history h < room_by (task s h) → length y.world.history < rooms s
 next_has_room s steps y h safe reached less =
-    one_has_room (map (λ n. room_of n.task) s.nexuses) y.world.entries h (λ g. omega (arith, room_at s g, sent_within s steps y safe reached g)) (omega (arith, room_at s h, less))
+    let few = one_has_room (map (λ n. room_of n.task) s.nexuses) y.world.history h (λ g. omega (arith, room_at s g, sent_within s steps y safe reached g)) (omega (arith, room_at s h, less)) in
+    omega (arith, few, reached_unreset s steps y reached)
 
 -- ---- a turn that sends finds room
 
-guest_has_room : (s : Scenario) (steps : List ℕ) (y : Schedule) (h : ℕ) (commands : List Command) (c : Command) (cs : List Command) → IsReached s steps y
-    → task s h ≡ Some (Planned commands) → plan y h ≡ c ∷ cs → commands_by y.world.entries h < length commands
+guest_has_room : (s : Scenario) (steps : List (ℕ × How)) (y : Schedule) (h : ℕ) (commands : List Command) (c : Command) (cs : List Command) → IsReached s steps y
+    → task s h ≡ Some (Planned commands) → plan y h ≡ c ∷ cs → commands_by y.world.history h < length commands
 unfolding KeepsPlans
 guest_has_room s steps y h commands c cs reached is next =
     let few : used y h ≤ length commands = subst (λ t. KeepsPlanBy t (used y h)) is (reached_keeps_plans s steps y reached h) in
     omega (arith, few, ap length next)
 
-ready_below_room : (s : Scenario) (steps : List ℕ) (y : Schedule) (h : ℕ) → IsSafe s → IsReached s steps y → HostIsReady s y h ⊎ GuestIsReady s y h false
-    → commands_by y.world.entries h < room_by (task s h)
-ready_below_room s steps y h safe reached (inl host) =
-    subst (λ t. commands_by y.world.entries h < room_by t) (sym host.host.is)
+ready_below_room : (so : How) (s : Scenario) (steps : List (ℕ × How)) (y : Schedule) (h : ℕ) → IsSafe s → IsReached s steps y → HostIsReady s y h ⊎ GuestIsReady so s y h false
+    → commands_by y.world.history h < room_by (task s h)
+ready_below_room so s steps y h safe reached (inl host) =
+    subst (λ t. commands_by y.world.history h < room_by t) (sym host.host.is)
     (ready_has_room s steps y h host.line host.command host.host.script host.host.budget safe reached host.host.is host.host.stands)
-ready_below_room s steps y h safe reached (inr guest) =
-    subst (λ t. commands_by y.world.entries h < room_by t) (sym guest.guest.is)
+ready_below_room so s steps y h safe reached (inr guest) =
+    subst (λ t. commands_by y.world.history h < room_by t) (sym guest.guest.is)
     (guest_has_room s steps y h guest.guest.commands guest.command guest.left reached guest.guest.is guest.guest.has)
 
-pub turn_has_room : (s : Scenario) (steps : List ℕ) (y : Schedule) (h : ℕ) → IsSafe s → IsReached s steps y → HasItsTask s y h → does s y h ≡ sending
-    → length y.world.entries < rooms s
-turn_has_room s steps y h safe reached has does_so =
-    next_has_room s steps y h safe reached (ready_below_room s steps y h safe reached (means s y h sending has (sym does_so)))
+pub turn_has_room : (wanted : How) (s : Scenario) (steps : List (ℕ × How)) (y : Schedule) (h : ℕ) → IsSafe s → IsReached s steps y → HasItsTask s y h → does s y h wanted ≡ sending
+    → length y.world.history < rooms s
+turn_has_room wanted s steps y h safe reached has does_so =
+    next_has_room s steps y h safe reached (ready_below_room (how_now s y.world.history h wanted) s steps y h safe reached (means wanted s y h sending has (sym does_so)))

@@ -3,15 +3,20 @@ use Rattle.std.proofs.Common.{◌≡◌, ℕ, zero, suc, ◌<◌, Bool, true, fa
 use Rattle.std.specs.Prelude.{slice_set, codes, unwrap_or, if◌then◌else◌}
 use Rattle.std.specs.List.{slice_get}
 use Rattle.std.specs.Option.{option_map_or}
+use Rattle.std.proofs.lemmas.Bool.{false≢true}
 use Rattle.std.proofs.lemmas.List.{set-get_or}
 use Rattle.std.proofs.lemmas.Option.{unwrap_or-slice_get}
 use Rattle.pr_cdb.specs.declared.command.Command.{Command}
 use Rattle.pr_unit.specs.UnitStates.{UnitState}
 use Rattle.pr_script.specs.Scripts.{Stmts, Standing, ready, stopped}
-use Rattle.pr_roles.specs.declared.entry.Entry.{Entry}
+use Rattle.pr_roles.specs.declared.item.Item.{Item}
+use Rattle.pr_roles.specs.declared.role.Clause.{Clause}
+use Rattle.pr_roles.specs.declared.how.How.{How}
+use Rattle.pr_roles.specs.declared.how.How.TheVariants as how
+use Rattle.pr_roles.specs.Answers.{how_now}
 use Rattle.pr_roles.specs.Scenarios.{Scenario, Task, Scripted, Planned, role, task}
 use Rattle.pr_roles.specs.Worlds.{Control, Going, Trapped, Free, control, standing_of}
-use Rattle.pr_roles.specs.Schedules.{Schedule, GuestTurn, TurnBy, Turn, is_held_back, plan}
+use Rattle.pr_roles.specs.Schedules.{Schedule, GuestTurn, TurnBy, Turn, is_held_back, is_passed_over, plan}
 use Rattle.pr_world.specs.Courses.{is_planned}
 use Rattle.pr_world.specs.inside.Participations.{Participation, StandsFor, is_free, schedule_by}
 use Rattle.pr_world.specs.StepAnswers.{IsStopped, IsStoppedBy, PassesOver}
@@ -32,7 +37,7 @@ found_participation [] h there = absurd (omega arith)
 found_participation (x ∷ xs) zero there = (x, refl)
 found_participation (x ∷ xs) (suc h) there = found_participation xs h (omega arith)
 
-pub has_its_task : (s : Scenario) (u : UnitState) (xs : List Participation) (es : List Entry) (h : ℕ) → StandsFor s u xs → h < length s.nexuses → HasItsTask s (schedule_by u xs es) h
+pub has_its_task : (s : Scenario) (u : UnitState) (xs : List Participation) (es : List Item) (h : ℕ) → StandsFor s u xs → h < length s.nexuses → HasItsTask s (schedule_by u xs es) h
 has_its_task s u xs es h stands there =
     let found = found_participation xs h (rw (length-tasks s u xs stands) there) in
     let has = has_task s u xs h found.0 stands found.1 in
@@ -62,25 +67,25 @@ pub record HostIsReady (s : Scenario) (x : Schedule) (h : ℕ) : Type 0 where
   pub command : Command
   pub host : HostStands s x h (ready line command)
 
--- the next command of a guest is held back, or it is not
-pub record GuestIsReady (s : Scenario) (x : Schedule) (h : ℕ) (held_back : Bool) : Type 0 where
+-- the next command of a guest is passed over, if it is answered so, or it is not
+pub record GuestIsReady (so : How) (s : Scenario) (x : Schedule) (h : ℕ) (held_back : Bool) : Type 0 where
   pub command : Command
   pub left : List Command
   pub guest : GuestHas s x h (command ∷ left)
-  pub held : is_held_back (role s h) x.world.unit h command ≡ held_back
+  pub held : is_passed_over so (role s h) x.world.unit h command ≡ held_back
 
-abbrev pub Means : Doing → Scenario → Schedule → ℕ → Type 0
-Means sends s x h = HostIsReady s x h ⊎ GuestIsReady s x h false
-Means (stops word) s x h = HostStands s x h (stopped word)
-Means is_trapped s x h = Unit {0}
-Means is_done s x h = GuestHas s x h []
-Means passes s x h = GuestIsReady s x h true
+abbrev pub Means : How → Doing → Scenario → Schedule → ℕ → Type 0
+Means so sends s x h = HostIsReady s x h ⊎ GuestIsReady so s x h false
+Means so (stops word) s x h = HostStands s x h (stopped word)
+Means so is_trapped s x h = Unit {0}
+Means so is_done s x h = GuestHas s x h []
+Means so passes s x h = GuestIsReady so s x h true
 
-means_by : (s : Scenario) (x : Schedule) (h : ℕ) (t : Task) (k : Control) (planned : List Command) → task s h ≡ Some t → control x.world h ≡ k → plan x h ≡ planned
-    → is_planned t ≡ is_free k → Means (does_as k (role s h) x.world.unit h planned) s x h
-means_by s x h (Scripted script budget) (Going l) planned is goes left fits = host (standing_of (Going l)) refl
+means_by : (so : How) (s : Scenario) (x : Schedule) (h : ℕ) (t : Task) (k : Control) (planned : List Command) → task s h ≡ Some t → control x.world h ≡ k → plan x h ≡ planned
+    → is_planned t ≡ is_free k → Means so (does_as so k (role s h) x.world.unit h planned) s x h
+means_by so s x h (Scripted script budget) (Going l) planned is goes left fits = host (standing_of (Going l)) refl
   where
-    host : (o : Option Standing) → standing_of (Going l) ≡ o → Means (host_does o) s x h
+    host : (o : Option Standing) → standing_of (Going l) ≡ o → Means so (host_does o) s x h
     host None at = tt
     host (Some (ready line c)) at = inl (record {
       line = line;
@@ -88,22 +93,22 @@ means_by s x h (Scripted script budget) (Going l) planned is goes left fits = ho
       host = record { script = script; budget = budget; is = is; stands = ap standing_of goes ∙ at };
     })
     host (Some (stopped word)) at = record { script = script; budget = budget; is = is; stands = ap standing_of goes ∙ at }
-means_by s x h (Scripted script budget) (Trapped line) planned is goes left fits = tt
-means_by s x h (Scripted script budget) Free planned is goes left fits = let bad : false ≡ true = fits in cc
-means_by s x h (Planned commands) (Going l) planned is goes left fits = let bad : true ≡ false = fits in cc
-means_by s x h (Planned commands) (Trapped line) planned is goes left fits = let bad : true ≡ false = fits in cc
-means_by s x h (Planned commands) Free [] is goes left fits = record { commands = commands; is = is; has = left }
-means_by s x h (Planned commands) Free (c ∷ cs) is goes left fits = by (is_held_back (role s h) x.world.unit h c) refl
+means_by so s x h (Scripted script budget) (Trapped line) planned is goes left fits = tt
+means_by so s x h (Scripted script budget) Free planned is goes left fits = let bad : false ≡ true = fits in cc
+means_by so s x h (Planned commands) (Going l) planned is goes left fits = let bad : true ≡ false = fits in cc
+means_by so s x h (Planned commands) (Trapped line) planned is goes left fits = let bad : true ≡ false = fits in cc
+means_by so s x h (Planned commands) Free [] is goes left fits = record { commands = commands; is = is; has = left }
+means_by so s x h (Planned commands) Free (c ∷ cs) is goes left fits = by (is_passed_over so (role s h) x.world.unit h c) refl
   where
-    guest : (b : Bool) → is_held_back (role s h) x.world.unit h c ≡ b → GuestIsReady s x h b
+    guest : (b : Bool) → is_passed_over so (role s h) x.world.unit h c ≡ b → GuestIsReady so s x h b
     guest b held = record { command = c; left = cs; guest = record { commands = commands; is = is; has = left }; held = held }
 
-    by : (b : Bool) → is_held_back (role s h) x.world.unit h c ≡ b → Means (if b then passes else sends) s x h
+    by : (b : Bool) → is_passed_over so (role s h) x.world.unit h c ≡ b → Means so (if b then passes else sends) s x h
     by true held = guest true held
     by false held = inr (guest false held)
 
-pub means : (s : Scenario) (x : Schedule) (h : ℕ) (d : Doing) → HasItsTask s x h → d ≡ does s x h → Means d s x h
-means s x h d has is = subst (λ d. Means d s x h) (sym is) (means_by s x h has.its_task (control x.world h) (plan x h) has.is refl refl has.fits)
+pub means : (wanted : How) (s : Scenario) (x : Schedule) (h : ℕ) (d : Doing) → HasItsTask s x h → d ≡ does s x h wanted → Means (how_now s x.world.history h wanted) d s x h
+means wanted s x h d has is = subst (λ d. Means (how_now s x.world.history h wanted) d s x h) (sym is) (means_by (how_now s x.world.history h wanted) s x h has.its_task (control x.world h) (plan x h) has.is refl refl has.fits)
 
 -- ---- what its turn comes to
 
@@ -116,9 +121,9 @@ stopped_is s x h word host = subst (λ t. IsStoppedBy t x h word) (sym host.is) 
 pub done_is : (s : Scenario) (x : Schedule) (h : ℕ) → GuestHas s x h [] → IsStopped s x h (codes "end")
 done_is s x h guest = subst (λ t. IsStoppedBy t x h (codes "end")) (sym guest.is) (guest.has, refl)
 
-pub stopped_rests : (s : Scenario) (x y : Schedule) (h : ℕ) (standing : Standing) → HostStands s x h standing → Turn s x h y → y.world ≡ x.world → y ≡ x
-stopped_rests s x y h standing host turn same =
-    let turned : TurnBy (Some (Scripted host.script host.budget)) s x h y = subst (λ t. TurnBy t s x h y) host.is turn in
+pub stopped_rests : (wanted : How) (s : Scenario) (x y : Schedule) (h : ℕ) (standing : Standing) → HostStands s x h standing → Turn s x h wanted y → y.world ≡ x.world → y ≡ x
+stopped_rests wanted s x y h standing host turn same =
+    let turned : TurnBy (Some (Scripted host.script host.budget)) s x h (how_now s x.world.history h wanted) y = subst (λ t. TurnBy t s x h (how_now s x.world.history h wanted) y) host.is turn in
     schedule_same x y same turned.1
 
 -- the plan of a guest with nothing left stays as it is
@@ -131,20 +136,26 @@ no_plan plans h none =
     by None = refl
     by (Some p) = refl
 
-pub done_rests : (s : Scenario) (x y : Schedule) (h : ℕ) → GuestHas s x h [] → Turn s x h y → y.world ≡ x.world → y ≡ x
-done_rests s x y h guest turn same =
-    let turned : TurnBy (Some (Planned guest.commands)) s x h y = subst (λ t. TurnBy t s x h y) guest.is turn in
-    let left : turned.0 ≡ [] = (subst (λ planned. GuestTurn (role s h) planned x.world h y.world turned.0) guest.has turned.1).1 in
+pub done_rests : (wanted : How) (s : Scenario) (x y : Schedule) (h : ℕ) → GuestHas s x h [] → Turn s x h wanted y → y.world ≡ x.world → y ≡ x
+done_rests wanted s x y h guest turn same =
+    let turned : TurnBy (Some (Planned guest.commands)) s x h (how_now s x.world.history h wanted) y = subst (λ t. TurnBy t s x h (how_now s x.world.history h wanted) y) guest.is turn in
+    let left : turned.0 ≡ [] = (subst (λ planned. GuestTurn (role s h) planned x.world h (how_now s x.world.history h wanted) y.world turned.0) guest.has turned.1).1 in
     schedule_same x y same (turned.2 ∙ (ap (slice_set x.plans h) left ∙ no_plan x.plans h guest.has))
 
-pub passed_over : (s : Scenario) (x y : Schedule) (h : ℕ) → GuestIsReady s x h true → Turn s x h y → y.world ≡ x.world → PassesOver s x h y
-passed_over s x y h guest turn same =
-    let turned : TurnBy (Some (Planned guest.guest.commands)) s x h y = subst (λ t. TurnBy t s x h y) guest.guest.is turn in
-    let left : turned.0 ≡ guest.left = (subst (λ planned. GuestTurn (role s h) planned x.world h y.world turned.0) guest.guest.has turned.1).1 in
+-- just what the unit would answer is passed over
+held_back : (so : How) (clauses : List Clause) (u : UnitState) (h : ℕ) (c : Command) → is_passed_over so clauses u h c ≡ true → is_held_back clauses u h c ≡ true
+held_back how.Plain clauses u h c is = is
+held_back how.Busy clauses u h c is = absurd (false≢true is)
+held_back how.Full clauses u h c is = absurd (false≢true is)
+
+pub passed_over : (wanted : How) (s : Scenario) (x y : Schedule) (h : ℕ) → GuestIsReady (how_now s x.world.history h wanted) s x h true → Turn s x h wanted y → y.world ≡ x.world → PassesOver s x h y
+passed_over wanted s x y h guest turn same =
+    let turned : TurnBy (Some (Planned guest.guest.commands)) s x h (how_now s x.world.history h wanted) y = subst (λ t. TurnBy t s x h (how_now s x.world.history h wanted) y) guest.guest.is turn in
+    let left : turned.0 ≡ guest.left = (subst (λ planned. GuestTurn (role s h) planned x.world h (how_now s x.world.history h wanted) y.world turned.0) guest.guest.has turned.1).1 in
     record {
       command = guest.command;
       left = guest.left;
       next = guest.guest.has;
-      held = guest.held;
+      held = held_back (how_now s x.world.history h wanted) (role s h) x.world.unit h guest.command guest.held;
       after = schedule_same (record { world = x.world; plans = slice_set x.plans h guest.left }) y same (turned.2 ∙ ap (slice_set x.plans h) left);
     }

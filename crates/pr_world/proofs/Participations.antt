@@ -10,50 +10,53 @@ use Rattle.pr_cdb.specs.declared.command.Command.{Command}
 use Rattle.pr_cdb.specs.Spelling.{spelling}
 use Rattle.pr_unit.specs.UnitStates.{UnitState}
 use Rattle.pr_roles.specs.declared.entry.Entry.{Entry}
+use Rattle.pr_roles.specs.declared.item.Item.{Item}
+use Rattle.pr_roles.specs.declared.item.Item.TheVariants.{Sent}
+use Rattle.pr_roles.specs.declared.how.How.{How}
 use Rattle.pr_roles.specs.Scenarios.{Scenario, Nexus}
 use Rattle.pr_roles.specs.Worlds.{World, Free, control_after, control, after}
 use Rattle.pr_roles.specs.Schedules.{plan, Sends}
 use Rattle.pr_world.specs.Courses.{is_planned}
-use Rattle.pr_world.specs.inside.Participations.{Participation, schedule_by, IsSent, IsSentHere, StandsFor, is_free}
+use Rattle.pr_world.specs.inside.Participations.{Participation, schedule_by, IsSent, StandsFor, is_free}
 
 -- ---- a participation among the participations
 
 abbrev pub with_participation : List Participation → ℕ → Participation → List Participation
 with_participation xs h y = slice_set xs h y
 
-abbrev pub world_by : UnitState → List Participation → List Entry → World
-world_by u xs es = record { unit = u; controls = map (λ x. x.control) xs; entries = es }
+abbrev pub world_by : UnitState → List Participation → List Item → World
+world_by u xs es = record { unit = u; controls = map (λ x. x.control) xs; history = es }
 
 pub at_participation : (xs : List Participation) (h : ℕ) (x : Participation) → h < length xs → get_or xs h x ≡ x → slice_get xs h ≡ Some x
 at_participation xs h x there is = slice_get-get_or xs h x there ∙ ap Some is
 
-pub control_at : (u : UnitState) (xs : List Participation) (es : List Entry) (h : ℕ) (x : Participation) → slice_get xs h ≡ Some x → control (world_by u xs es) h ≡ x.control
+pub control_at : (u : UnitState) (xs : List Participation) (es : List Item) (h : ℕ) (x : Participation) → slice_get xs h ≡ Some x → control (world_by u xs es) h ≡ x.control
 control_at u xs es h x is = ap (λ o. option_map_or (λ c. c) o Free) (slice_get-map (λ s. s.control) xs h ∙ ap (option_map (λ s. s.control)) is)
 
-pub plan_at : (u : UnitState) (xs : List Participation) (es : List Entry) (h : ℕ) (x : Participation) → slice_get xs h ≡ Some x → plan (schedule_by u xs es) h ≡ x.plan
+pub plan_at : (u : UnitState) (xs : List Participation) (es : List Item) (h : ℕ) (x : Participation) → slice_get xs h ≡ Some x → plan (schedule_by u xs es) h ≡ x.plan
 plan_at u xs es h x is = ap (λ o. option_map_or (λ p. p) o []) (slice_get-map (λ s. s.plan) xs h ∙ ap (option_map (λ s. s.plan)) is)
 
 -- nothing was sent, and all is as it was
-pub rests : (u v : UnitState) (xs : List Participation) (es : List Entry) (h : ℕ) (x y : Participation) → get_or xs h x ≡ x → y.control ≡ x.control → v ≡ u
+pub rests : (u v : UnitState) (xs : List Participation) (es : List Item) (h : ℕ) (x y : Participation) → get_or xs h x ≡ x → y.control ≡ x.control → v ≡ u
     → world_by v (with_participation xs h y) (es ++ []) ≡ world_by u xs es
 rests u v xs es h x y at same is =
     let controls = map-set_same (λ s. s.control) xs h y x (same ∙ ap (λ s. s.control) (sym at)) in
-    λ i. record { unit = is i; controls = controls i; entries = append-nil es i }
+    λ i. record { unit = is i; controls = controls i; history = append-nil es i }
 
 -- this entry was sent, and the reply taken
-pub world_after : (u v : UnitState) (xs : List Participation) (es : List Entry) (h line : ℕ) (c : Command) (e : Entry) (x y : Participation) → slice_get xs h ≡ Some x
-    → IsSent u h c e v → y.control ≡ control_after line x.control e.reply → world_by v (with_participation xs h y) (es ++ e ∷ []) ≡ after (world_by u xs es) h line (spelling c) e.reply v
-world_after u v xs es h line c e x y at sent takes =
+pub world_after : (so : How) (u v : UnitState) (xs : List Participation) (es : List Item) (h line : ℕ) (c : Command) (e : Entry) (x y : Participation) → slice_get xs h ≡ Some x
+    → IsSent so u h c e v → y.control ≡ control_after line x.control e.reply → world_by v (with_participation xs h y) (es ++ Sent e ∷ []) ≡ after (world_by u xs es) h line (spelling c) e.reply v
+world_after so u v xs es h line c e x y at sent takes =
     let controls = map-set (λ s. s.control) xs h y ∙ ap (λ k. slice_set (map (λ s. s.control) xs) h k) (takes ∙ ap (λ k. control_after line k e.reply) (sym (control_at u xs es h x at))) in
-    λ i. record { unit = v; controls = controls i; entries = es ++ sent.entry i ∷ [] }
+    λ i. record { unit = v; controls = controls i; history = es ++ Sent (sent.entry i) ∷ [] }
 
-pub sends : (u v : UnitState) (xs : List Participation) (es : List Entry) (h line : ℕ) (c : Command) (e : Entry) (x y : Participation) → slice_get xs h ≡ Some x
-    → IsSentHere u h c e v → y.control ≡ control_after line x.control e.reply → Sends (world_by u xs es) h line c (world_by v (with_participation xs h y) (es ++ e ∷ []))
-sends u v xs es h line c e x y at sent takes = record {
+pub sends : (so : How) (u v : UnitState) (xs : List Participation) (es : List Item) (h line : ℕ) (c : Command) (e : Entry) (x y : Participation) → slice_get xs h ≡ Some x
+    → IsSent so u h c e v → y.control ≡ control_after line x.control e.reply → Sends (world_by u xs es) h line c so (world_by v (with_participation xs h y) (es ++ Sent e ∷ []))
+sends so u v xs es h line c e x y at sent takes = record {
   reply = e.reply;
   unit = v;
-  step = record { step = sent.sent.step; lowest = sent.lowest };
-  world = world_after u v xs es h line c e x y at sent.sent takes;
+  answer = sent.taken;
+  world = world_after so u v xs es h line c e x y at sent takes;
 }
 
 -- ---- the task at a participation

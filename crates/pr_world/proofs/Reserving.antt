@@ -1,17 +1,17 @@
 -- The room that is reserved is enough, and there are so many places.
-use Rattle.std.proofs.Common.{◌≡◌, ℕ, ◌*◌, ◌^◌, ◌<◌, ◌≤◌, ◌==◌, not, true, nat_le, List, [], ◌∷◌, length, refl, ap, ◌∙◌, subst, arith}
-use Rattle.std.specs.Prelude.{map, sum, bytes_eq, vec_len, vec_capacity}
+use Rattle.std.proofs.Common.{◌≡◌, ℕ, ◌*◌, ◌^◌, ◌<◌, ◌≤◌, true, nat_le, List, [], ◌∷◌, length, refl, ap, ◌∙◌, subst, arith}
+use Rattle.std.specs.Prelude.{map, sum, vec_len, vec_capacity}
 use Rattle.std.specs.List.{list_all}
 use Rattle.std.proofs.lemmas.Bool.{and_parts}
 use Rattle.std.proofs.lemmas.Bool.Decides.{nat_tests}
 use Rattle.std.proofs.lemmas.List.Sums.{sum_by-cons}
-use Rattle.pr_cdb.specs.declared.codes.TheConstants.{MOST_NEXUSES}
 use Rattle.pr_script.specs.Grammar.{script_fits}
 use Rattle.pr_script.specs.Names.{is_name}
 use Rattle.pr_roles.specs.declared.parts.Nexus.{Nexus as NexusPart}
 use Rattle.pr_roles.specs.declared.parts.Parts.{Parts}
-use Rattle.pr_roles.specs.Scenarios.{Nexus, Task, Scripted, Planned, nexus_of, task_of, scenario_of}
-use Rattle.pr_roles.specs.Fitting.{Fits, are_distinct, is_nexus, is_role, is_start, is_task, are_nexuses}
+use Rattle.pr_roles.specs.Scenarios.{Scenario, Nexus, Task, Scripted, Planned, nexus_of, task_of, scenario_of}
+use Rattle.pr_roles.specs.Fitting.{Fits, is_nexus, is_role, is_start, is_task}
+use Rattle.pr_roles.proofs.Allowed.{counted, each_nexus}
 use Rattle.pr_world.specs.declared.course.Course.{Course}
 use Rattle.pr_world.specs.Courses.{IsReached}
 use Rattle.pr_world.specs.inside.Participations.{StandsFor, schedule_of, participation_of}
@@ -38,12 +38,8 @@ rooms_in keys (n ∷ ns) fit =
     let parts = and_parts (is_nexus keys n) (list_all (is_nexus keys) ns) fit in
     omega (arith, sum_by-cons (λ x. x) (room_of n.task) (map (λ m. room_of m.task) ns), room_of_nexus keys n parts.0, rooms_in keys ns parts.1)
 
-few_rooms : (keys : List ℕ) (ns : List Nexus) → are_nexuses keys ns ≡ true → sum (map (λ n. room_of n.task) ns) ≤ 32768
-few_rooms keys ns fit =
-    let some = (and_parts (not (length ns == 0)) _ fit).1 in
-    let few = and_parts (nat_le (length ns) MOST_NEXUSES) _ some in
-    let short : length ns ≤ MOST_NEXUSES = grind (arith, nat_tests, few.0) in
-    omega (arith, short, rooms_in keys ns (and_parts (are_distinct bytes_eq (map (λ n. n.name) ns)) _ few.1).1)
+few_rooms : (s : Scenario) → Fits s → sum (map (λ n. room_of n.task) s.nexuses) ≤ 65536
+few_rooms s fits = omega (arith, (counted s fits).1, rooms_in s.keys s.nexuses (each_nexus s fits))
 
 rooms_of_parts : (ns : List NexusPart) → map (λ n. room_of (task_of n.task)) ns ≡ map (λ n. room_of n.task) (map nexus_of ns)
 rooms_of_parts [] = refl
@@ -57,11 +53,11 @@ rooms_are p q ns same items =
 pub rooms_are_few : (p q : Parts) (ns : List NexusPart) → Fits (scenario_of p) → q ≡ p → ns ≡ q.nexuses.items → sum (map (λ n. room_of (task_of n.task)) ns) < 2 ^ 64
 unfolding scenario_of
 rooms_are_few p q ns fits same items =
-    let few : rooms (scenario_of p) ≤ 32768 = few_rooms p.keys.items (map nexus_of p.nexuses.items) fits.nexuses in
+    let few : rooms (scenario_of p) ≤ 65536 = few_rooms (scenario_of p) fits in
     omega (arith, few, rooms_are p q ns same items)
 
 pub at_work_at_first : (p q : Parts) (c : Course) (room : ℕ) → q ≡ p → room ≡ rooms (scenario_of p) → IsReached (scenario_of q) [] (schedule_of c)
-    → StandsFor (scenario_of q) c.unit (map participation_of c.participants.items) → (vec_len c.entries ≡ 0) × (vec_capacity c.entries ≡ room) → IsAtWork (scenario_of p) c
+    → StandsFor (scenario_of q) c.unit (map participation_of c.participants.items) → (vec_len c.history ≡ 0) × (vec_capacity c.history ≡ room) → IsAtWork (scenario_of p) c
 at_work_at_first p q c room same enough reached stands reserved = record {
   steps = [];
   reached = subst (λ r. IsReached (scenario_of r) [] (schedule_of c)) same reached;

@@ -4,10 +4,14 @@ use Rattle.std.specs.Prelude.{map, vec_len, vec_capacity, IfOk}
 use Rattle.std.specs.List.{range_with_len}
 use Rattle.std.specs.declared.alloc.AllocError.{AllocError}
 use Rattle.std.proofs.lemmas.List.{length-map, take_all, take_more}
+use Rattle.std.proofs.Math.ListN.{get_or-map}
+use Rattle.pr_roles.specs.declared.item.Item.{Item}
 use Rattle.pr_roles.specs.Scenarios.{Scenario}
 use Rattle.pr_roles.specs.Worlds.{World, Event, Happens, Run, commands_by, world_from}
 use Rattle.pr_roles.specs.Schedules.{Schedule, Turn, ScheduledRun}
 use Rattle.pr_roles.specs.declared.entry.Entry.{Entry}
+use Rattle.pr_roles.specs.declared.how.How.{How}
+use Rattle.pr_roles.specs.declared.how.How.TheVariants as how
 use Rattle.pr_world.specs.declared.course.Course.{Course}
 use Rattle.pr_world.specs.declared.participant.Participant.{Participant}
 use Rattle.pr_world.specs.declared.replaying.Replayed.{Replayed}
@@ -19,52 +23,52 @@ use Rattle.pr_world.specs.Replays.{IsEndOf, IsReplayed}
 
 -- ---- one turn more
 
-pub scheduled_then : (s : Scenario) (x y z : Schedule) (hs : List ℕ) (h : ℕ) → ScheduledRun s x hs y → Turn s y h z → ScheduledRun s x (hs ++ h ∷ []) z
-scheduled_then s x y z [] h run turn = (z, subst (λ w. Turn s w h z) run turn, refl)
+pub scheduled_then : (s : Scenario) (x y z : Schedule) (hs : List (ℕ × How)) (h : ℕ × How) → ScheduledRun s x hs y → Turn s y h.0 h.1 z → ScheduledRun s x (hs ++ h ∷ []) z
+scheduled_then s x y z [] h run turn = (z, subst (λ w. Turn s w h.0 h.1 z) run turn, refl)
 scheduled_then s x y z (g ∷ hs) h run turn = (run.0, run.1, scheduled_then s run.0 y z hs h run.2 turn)
 
 pub run_then : (s : Scenario) (w v x : World) (es : List Event) (e : Event) → Run s w es v → Happens s v e x → Run s w (es ++ e ∷ []) x
 run_then s w v x [] e run happens = (x, subst (λ u. Happens s u e x) run happens, refl)
 run_then s w v x (f ∷ fs) e run happens = (run.0, run.1, run_then s run.0 v x fs e run.2 happens)
 
-pub reached_more : (s : Scenario) (steps : List ℕ) (x y : Schedule) (h : ℕ) (o : Option Entry) → Turn s x h y → HappensBy s h o x.world y.world → IsReached s steps x
-    → IsReached s (steps ++ h ∷ []) y
-reached_more s steps x y h None turn same reached = record {
+pub reached_more : (s : Scenario) (steps : List (ℕ × How)) (x y : Schedule) (h : ℕ) (wanted : How) (o : Option Entry) → Turn s x h wanted y → HappensBy s h o x.world y.world → IsReached s steps x
+    → IsReached s (steps ++ (h, wanted) ∷ []) y
+reached_more s steps x y h wanted None turn same reached = record {
   start = reached.start;
   first = reached.first;
   allowed = reached.allowed;
-  scheduled = scheduled_then s _ _ _ steps h reached.scheduled turn;
+  scheduled = scheduled_then s _ _ _ steps (h, wanted) reached.scheduled turn;
   events = reached.events;
   run = subst (λ w. Run s (world_from s reached.start) reached.events w) (sym same) reached.run;
 }
-reached_more s steps x y h (Some e) turn one reached = record {
+reached_more s steps x y h wanted (Some e) turn one reached = record {
   start = reached.start;
   first = reached.first;
   allowed = reached.allowed;
-  scheduled = scheduled_then s _ _ _ steps h reached.scheduled turn;
+  scheduled = scheduled_then s _ _ _ steps (h, wanted) reached.scheduled turn;
   events = reached.events ++ one.event ∷ [];
   run = run_then s _ _ _ reached.events one.event reached.run one.happens;
 }
 
 -- the turns before step i have led here, with room for one entry more at each step
-pub record IsRunning (s : Scenario) (steps : List ℕ) (i : ℕ) (c : Course) : Type 0 where
+pub record IsRunning (s : Scenario) (steps : List (ℕ × How)) (i : ℕ) (c : Course) : Type 0 where
   pub reached : IsReached s (take i steps) (schedule_of c)
   pub stands : StandsFor s c.unit (map participation_of c.participants.items)
-  pub room : vec_capacity c.entries ≡ length steps
-  pub few : vec_len c.entries ≤ i
+  pub room : vec_capacity c.history ≡ length steps
+  pub few : vec_len c.history ≤ i
 
-pub running_more : (s : Scenario) (steps : List ℕ) (i : ℕ) (c d : Course) → i < length steps → IsRunning s steps i c
-    → ((hs : List ℕ) → IsReached s hs (schedule_of c) → IsReached s (hs ++ get_or steps i 0 ∷ []) (schedule_of d))
+pub running_more : (s : Scenario) (steps : List (ℕ × How)) (i : ℕ) (or step : ℕ × How) (c d : Course) → i < length steps → IsRunning s steps i c
+    → step ≡ get_or steps i or → ((hs : List (ℕ × How)) → IsReached s hs (schedule_of c) → IsReached s (hs ++ step ∷ []) (schedule_of d))
     → StandsFor s d.unit (map participation_of d.participants.items)
-    → vec_capacity d.entries ≡ vec_capacity c.entries → vec_len d.entries ≤ vec_len c.entries + 1 → IsRunning s steps (i + 1) d
-running_more s steps i c d there running more stands room few = record {
-  reached = subst (λ hs. IsReached s hs (schedule_of d)) (sym (take_more steps i 0 there)) (more (take i steps) running.reached);
+    → vec_capacity d.history ≡ vec_capacity c.history → vec_len d.history ≤ vec_len c.history + 1 → IsRunning s steps (i + 1) d
+running_more s steps i or step c d there running read more stands room few = record {
+  reached = subst (λ hs. IsReached s hs (schedule_of d)) (sym (take_more steps i or there ∙ ap (λ z. take i steps ++ z ∷ []) (sym read))) (more (take i steps) running.reached);
   stands = stands;
   room = room ∙ running.room;
-  few = let before : vec_len c.entries ≤ i = running.few in omega arith;
+  few = let before : vec_len c.history ≤ i = running.few in omega arith;
 }
 
-pub replayed : (s : Scenario) (steps : List ℕ) (i : ℕ) (c : Course) (r : Result Replayed AllocError) → IsRunning s steps i c → length steps ≤ i
+pub replayed : (s : Scenario) (steps : List (ℕ × How)) (i : ℕ) (c : Course) (r : Result Replayed AllocError) → IsRunning s steps i c → length steps ≤ i
     → IfOk r (IsEndOf (schedule_of c)) → IfOk r (IsReplayed s steps)
 replayed s steps i c (Ok r) running done outcome =
     let here : IsReached s steps (schedule_of c) = subst (λ hs. IsReached s hs (schedule_of c)) (take_all i steps done) running.reached in
@@ -80,21 +84,38 @@ replayed s steps i c (Ok r) running done outcome =
     }
 replayed s steps i c (Err e) running done outcome = outcome
 
+-- ---- turns that the unit answers
+
+abbrev pub plain : List ℕ → List (ℕ × How)
+plain hosts = map (λ host. (host, how.Plain)) hosts
+
+pub plain_more : (s : Scenario) (hosts : List ℕ) (i : ℕ) (c d : Course) → i < length hosts → IsRunning s (plain hosts) i c
+    → ((hs : List (ℕ × How)) → IsReached s hs (schedule_of c) → IsReached s (hs ++ (get_or hosts i 0, how.Plain) ∷ []) (schedule_of d))
+    → StandsFor s d.unit (map participation_of d.participants.items)
+    → vec_capacity d.history ≡ vec_capacity c.history → vec_len d.history ≤ vec_len c.history + 1 → IsRunning s (plain hosts) (i + 1) d
+plain_more s hosts i c d there running more stands room few =
+    running_more s (plain hosts) i (0, how.Plain) (get_or hosts i 0, how.Plain) c d (rw (length-map {B = ℕ × How} hosts (λ host. (host, how.Plain))) there) running
+    (sym (get_or-map (λ host. (host, how.Plain)) hosts i 0)) more stands room few
+
+pub plain_replayed : (s : Scenario) (hosts : List ℕ) (i : ℕ) (c : Course) (r : Result Replayed AllocError) → IsRunning s (plain hosts) i c → length hosts ≤ i
+    → IfOk r (IsEndOf (schedule_of c)) → IfOk r (IsReplayed s (plain hosts))
+plain_replayed s hosts i c r running done outcome = replayed s (plain hosts) i c r running (rw (length-map {B = ℕ × How} hosts (λ host. (host, how.Plain))) done) outcome
+
 -- ---- how they stand
 
 pub endings_of : (ps : List Participant) → endings (map (λ x. x.control) (map participation_of ps)) (map (λ x. x.plan) (map participation_of ps)) ≡ map (λ p. ending (participation_of p).control (participation_of p).plan) ps
 endings_of [] = refl
 endings_of (p ∷ ps) = ap (λ es. ending (participation_of p).control (participation_of p).plan ∷ es) (endings_of ps)
 
-pub outcome_of : (c : Course) (r : Replayed) (ps : List Participant) (es : List Entry) (n : ℕ) → ps ≡ c.participants.items → es ≡ c.entries.items → n ≡ vec_len c.participants
-    → r.entries.items ≡ c.entries.items → r.unit ≡ c.unit → map (λ e. Some (ending_of e)) r.ends.items ≡ map (λ p. ending (participation_of p).control (participation_of p).plan) ps
+pub outcome_of : (c : Course) (r : Replayed) (ps : List Participant) (es : List Item) (n : ℕ) → ps ≡ c.participants.items → es ≡ c.history.items → n ≡ vec_len c.participants
+    → r.history.items ≡ c.history.items → r.unit ≡ c.unit → map (λ e. Some (ending_of e)) r.ends.items ≡ map (λ p. ending (participation_of p).control (participation_of p).plan) ps
     → r.counts.items ≡ map (λ h. commands_by es h) (range_with_len 0 n) → IsEndOf (schedule_of c) r
-outcome_of c r ps es n participants sends len entries unit ends counts = record {
-  entries = entries;
+outcome_of c r ps es n participants sends len history unit ends counts = record {
+  history = history;
   unit = unit;
   ends = ends ∙ (ap (map (λ p. ending (participation_of p).control (participation_of p).plan)) participants ∙ sym (endings_of c.participants.items));
   counts =
       let all = len ∙ (c.participants.ok.0 ∙ sym (length-map (map participation_of c.participants.items) (λ x. x.plan) ∙ length-map c.participants.items participation_of)) in
-      counts ∙ (ap (λ gs. map (λ h. commands_by gs h) (range_with_len 0 n)) sends ∙ ap (λ k. map (λ h. commands_by c.entries.items h) (range_with_len 0 k)) all);
+      counts ∙ (ap (λ gs. map (λ h. commands_by gs h) (range_with_len 0 n)) sends ∙ ap (λ k. map (λ h. commands_by c.history.items h) (range_with_len 0 k)) all);
   trapped = trapped_ends c.participants.items r.ends.items (ends ∙ ap (map (λ p. ending (participation_of p).control (participation_of p).plan)) participants);
 }

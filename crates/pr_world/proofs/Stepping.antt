@@ -5,6 +5,7 @@ use Rattle.std.proofs.lemmas.Bool.{false≢true}
 use Rattle.arrayvec.specs.ArrayString.{ArrayString}
 use Rattle.pr_script.specs.Scripts.{stopped}
 use Rattle.pr_roles.specs.declared.parts.Parts.{Parts}
+use Rattle.pr_roles.specs.declared.how.How.{How}
 use Rattle.pr_roles.specs.Scenarios.{Scenario, scenario_of}
 use Rattle.pr_roles.specs.Safety.{IsSafe}
 use Rattle.pr_roles.specs.Worlds.{control, is_trapped}
@@ -23,17 +24,17 @@ use Rattle.pr_world.proofs.Keeping.{turn_has_room}
 use Rattle.pr_world.proofs.Meaning.{HasItsTask, has_its_task, means, stopped_is, stopped_rests, done_is, done_rests, passed_over}
 
 its_task_at : (s : Scenario) (c : Course) (h : ℕ) → IsAtWork s c → h < length s.nexuses → HasItsTask s (schedule_of c) h
-its_task_at s c h at_work there = has_its_task s c.unit (map participation_of c.participants.items) c.entries.items h at_work.stands there
+its_task_at s c h at_work there = has_its_task s c.unit (map participation_of c.participants.items) c.history.items h at_work.stands there
 
 -- ---- before the turn
 
-pub step_has_room : (p q : Parts) (c : Course) (h : ℕ) → q ≡ p → IsSafe (scenario_of p) → IsAtWork (scenario_of p) c → h < length (scenario_of p).nexuses
-    → does (scenario_of q) (schedule_of c) h ≡ sends → vec_len c.entries < vec_capacity c.entries
-step_has_room p q c h same safe at_work there does_so =
+pub step_has_room : (wanted : How) (p q : Parts) (c : Course) (h : ℕ) → q ≡ p → IsSafe (scenario_of p) → IsAtWork (scenario_of p) c → h < length (scenario_of p).nexuses
+    → does (scenario_of q) (schedule_of c) h wanted ≡ sends → vec_len c.history < vec_capacity c.history
+step_has_room wanted p q c h same safe at_work there does_so =
     let s = scenario_of p in
-    let here : does s (schedule_of c) h ≡ sends = subst (λ r. does (scenario_of r) (schedule_of c) h ≡ sends) same does_so in
-    let less = turn_has_room s at_work.steps (schedule_of c) h safe at_work.reached (its_task_at s c h at_work there) here in
-    omega (arith, c.entries.ok.0, at_work.room, less)
+    let here : does s (schedule_of c) h wanted ≡ sends = subst (λ r. does (scenario_of r) (schedule_of c) h wanted ≡ sends) same does_so in
+    let less = turn_has_room wanted s at_work.steps (schedule_of c) h safe at_work.reached (its_task_at s c h at_work there) here in
+    omega (arith, c.history.ok.0, at_work.room, less)
 
 pub never_trapped : (s : Scenario) (c : Course) (h : ℕ) → IsSafe s → IsAtWork s c → IsTrue (is_trapped (control (schedule_of c).world h)) → ⊥
 unfolding IsSafe
@@ -44,56 +45,56 @@ never_trapped s c h safe at_work trapped =
 -- ---- after it
 
 -- what is known of the turn that led from one course to the other
-pub record IsTurned (s : Scenario) (c : Course) (h : ℕ) (a : Act) (d : Course) : Type 0 where
+pub record IsTurned (s : Scenario) (c : Course) (h : ℕ) (wanted : How) (a : Act) (d : Course) : Type 0 where
   pub has : HasItsTask s (schedule_of c) h
-  pub does_so : doing_of a ≡ does s (schedule_of c) h
-  pub turn : IsTurn s (schedule_of c) h (schedule_of d)
+  pub does_so : doing_of a ≡ does s (schedule_of c) h wanted
+  pub turn : IsTurn s (schedule_of c) h wanted (schedule_of d)
   pub happens : HappensBy s h (entry_in a) (schedule_of c).world (schedule_of d).world
 
-pub is_turned : (p q : Parts) (c d : Course) (h : ℕ) (a : Act) → q ≡ p → IsAtWork (scenario_of p) c → h < length (scenario_of p).nexuses
-    → doing_of a ≡ does (scenario_of q) (schedule_of c) h → IsTurn (scenario_of q) (schedule_of c) h (schedule_of d)
-    → HappensBy (scenario_of q) h (entry_in a) (schedule_of c).world (schedule_of d).world → IsTurned (scenario_of p) c h a d
-is_turned p q c d h a same at_work there does_so turn happens = record {
+pub is_turned : (wanted : How) (p q : Parts) (c d : Course) (h : ℕ) (a : Act) → q ≡ p → IsAtWork (scenario_of p) c → h < length (scenario_of p).nexuses
+    → doing_of a ≡ does (scenario_of q) (schedule_of c) h wanted → IsTurn (scenario_of q) (schedule_of c) h wanted (schedule_of d)
+    → HappensBy (scenario_of q) h (entry_in a) (schedule_of c).world (schedule_of d).world → IsTurned (scenario_of p) c h wanted a d
+is_turned wanted p q c d h a same at_work there does_so turn happens = record {
   has = its_task_at (scenario_of p) c h at_work there;
-  does_so = subst (λ r. doing_of a ≡ does (scenario_of r) (schedule_of c) h) same does_so;
-  turn = subst (λ r. IsTurn (scenario_of r) (schedule_of c) h (schedule_of d)) same turn;
+  does_so = subst (λ r. doing_of a ≡ does (scenario_of r) (schedule_of c) h wanted) same does_so;
+  turn = subst (λ r. IsTurn (scenario_of r) (schedule_of c) h wanted (schedule_of d)) same turn;
   happens = subst (λ r. HappensBy (scenario_of r) h (entry_in a) (schedule_of c).world (schedule_of d).world) same happens;
 }
 
-pub still_at_work : (p q : Parts) (c d : Course) (h : ℕ) → q ≡ p → IsAtWork (scenario_of p) c
-    → ((steps : List ℕ) → IsReached (scenario_of q) steps (schedule_of c) → IsReached (scenario_of q) (steps ++ h ∷ []) (schedule_of d))
-    → StandsFor (scenario_of q) d.unit (map participation_of d.participants.items) → vec_capacity d.entries ≡ vec_capacity c.entries → IsAtWork (scenario_of p) d
+pub still_at_work : (p q : Parts) (c d : Course) (h : ℕ × How) → q ≡ p → IsAtWork (scenario_of p) c
+    → ((steps : List (ℕ × How)) → IsReached (scenario_of q) steps (schedule_of c) → IsReached (scenario_of q) (steps ++ h ∷ []) (schedule_of d))
+    → StandsFor (scenario_of q) d.unit (map participation_of d.participants.items) → vec_capacity d.history ≡ vec_capacity c.history → IsAtWork (scenario_of p) d
 still_at_work p q c d h same at_work more stands room = record {
   steps = at_work.steps ++ h ∷ [];
-  reached = subst (λ r. (steps : List ℕ) → IsReached (scenario_of r) steps (schedule_of c) → IsReached (scenario_of r) (steps ++ h ∷ []) (schedule_of d)) same more at_work.steps at_work.reached;
+  reached = subst (λ r. (steps : List (ℕ × How)) → IsReached (scenario_of r) steps (schedule_of c) → IsReached (scenario_of r) (steps ++ h ∷ []) (schedule_of d)) same more at_work.steps at_work.reached;
   stands = subst (λ r. StandsFor (scenario_of r) d.unit (map participation_of d.participants.items)) same stands;
   room = room ∙ at_work.room;
 }
 
 -- ---- what it did
 
-abbrev pub world_same : (s : Scenario) (c : Course) (h : ℕ) (a : Act) (d : Course) → entry_in a ≡ None → IsTurned s c h a d → (schedule_of d).world ≡ (schedule_of c).world
-world_same s c h a d none turned = subst (λ o. HappensBy s h o (schedule_of c).world (schedule_of d).world) none turned.happens
+abbrev pub world_same : (s : Scenario) (c : Course) (h : ℕ) (wanted : How) (a : Act) (d : Course) → entry_in a ≡ None → IsTurned s c h wanted a d → (schedule_of d).world ≡ (schedule_of c).world
+world_same s c h wanted a d none turned = subst (λ o. HappensBy s h o (schedule_of c).world (schedule_of d).world) none turned.happens
 
-pub said_stopped : (s : Scenario) (c d : Course) (h : ℕ) (a : Act) (r : Turn) (word : ArrayString) → IsTurned s c h a d → a ≡ act.Stopped word → r ≡ turn.Stopped word
+pub said_stopped : (wanted : How) (s : Scenario) (c d : Course) (h : ℕ) (a : Act) (r : Turn) (word : ArrayString) → IsTurned s c h wanted a d → a ≡ act.Stopped word → r ≡ turn.Stopped word
     → IfStopped r (λ w. IsStopped s (schedule_of c) h w) × IfStopped r (λ w. schedule_of d ≡ schedule_of c)
-said_stopped s c d h a r word turned is said =
-    let host = means s (schedule_of c) h (stops word.bytes) turned.has (sym (ap doing_of is) ∙ turned.does_so) in
-    let same = world_same s c h a d (ap entry_in is) turned in
+said_stopped wanted s c d h a r word turned is said =
+    let host = means wanted s (schedule_of c) h (stops word.bytes) turned.has (sym (ap doing_of is) ∙ turned.does_so) in
+    let same = world_same s c h wanted a d (ap entry_in is) turned in
     subst (λ r. IfStopped r (λ w. IsStopped s (schedule_of c) h w) × IfStopped r (λ w. schedule_of d ≡ schedule_of c)) (sym said)
-    (stopped_is s (schedule_of c) h word.bytes host, stopped_rests s (schedule_of c) (schedule_of d) h (stopped word.bytes) host turned.turn same)
+    (stopped_is s (schedule_of c) h word.bytes host, stopped_rests wanted s (schedule_of c) (schedule_of d) h (stopped word.bytes) host turned.turn same)
 
-pub said_done : (s : Scenario) (c d : Course) (h : ℕ) (a : Act) (r : Turn) (word : ArrayString) → IsTurned s c h a d → a ≡ act.Finished → r ≡ turn.Stopped word → word.bytes ≡ codes "end"
+pub said_done : (wanted : How) (s : Scenario) (c d : Course) (h : ℕ) (a : Act) (r : Turn) (word : ArrayString) → IsTurned s c h wanted a d → a ≡ act.Finished → r ≡ turn.Stopped word → word.bytes ≡ codes "end"
     → IfStopped r (λ w. IsStopped s (schedule_of c) h w) × IfStopped r (λ w. schedule_of d ≡ schedule_of c)
-said_done s c d h a r word turned is said named =
-    let guest = means s (schedule_of c) h is_done turned.has (sym (ap doing_of is) ∙ turned.does_so) in
-    let same = world_same s c h a d (ap entry_in is) turned in
+said_done wanted s c d h a r word turned is said named =
+    let guest = means wanted s (schedule_of c) h is_done turned.has (sym (ap doing_of is) ∙ turned.does_so) in
+    let same = world_same s c h wanted a d (ap entry_in is) turned in
     subst (λ r. IfStopped r (λ w. IsStopped s (schedule_of c) h w) × IfStopped r (λ w. schedule_of d ≡ schedule_of c)) (sym said)
-    (subst (IsStopped s (schedule_of c) h) (sym named) (done_is s (schedule_of c) h guest), done_rests s (schedule_of c) (schedule_of d) h guest turned.turn same)
+    (subst (IsStopped s (schedule_of c) h) (sym named) (done_is s (schedule_of c) h guest), done_rests wanted s (schedule_of c) (schedule_of d) h guest turned.turn same)
 
-pub said_held : (s : Scenario) (c d : Course) (h : ℕ) (a : Act) (r : Turn) → IsTurned s c h a d → a ≡ act.Held → r ≡ turn.Held
+pub said_held : (wanted : How) (s : Scenario) (c d : Course) (h : ℕ) (a : Act) (r : Turn) → IsTurned s c h wanted a d → a ≡ act.Held → r ≡ turn.Held
     → IfHeld r (PassesOver s (schedule_of c) h (schedule_of d))
-said_held s c d h a r turned is said =
-    let guest = means s (schedule_of c) h passes turned.has (sym (ap doing_of is) ∙ turned.does_so) in
-    let same = world_same s c h a d (ap entry_in is) turned in
-    subst (λ r. IfHeld r (PassesOver s (schedule_of c) h (schedule_of d))) (sym said) (passed_over s (schedule_of c) (schedule_of d) h guest turned.turn same)
+said_held wanted s c d h a r turned is said =
+    let guest = means wanted s (schedule_of c) h passes turned.has (sym (ap doing_of is) ∙ turned.does_so) in
+    let same = world_same s c h wanted a d (ap entry_in is) turned in
+    subst (λ r. IfHeld r (PassesOver s (schedule_of c) h (schedule_of d))) (sym said) (passed_over wanted s (schedule_of c) (schedule_of d) h guest turned.turn same)

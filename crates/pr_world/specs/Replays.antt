@@ -3,6 +3,7 @@
 use Rattle.std.specs.Prelude.{◌≡◌, ℕ, List, Some, length, map}
 use Rattle.std.specs.List.{list_any, range_with_len}
 use Rattle.pr_unit.specs.UnitStates.{UnitState}
+use Rattle.pr_roles.specs.declared.how.How.{How}
 use Rattle.pr_roles.specs.Scenarios.{Scenario}
 use Rattle.pr_roles.specs.Starts.{IsAllowedStart, first_state}
 use Rattle.pr_roles.specs.Worlds.{Event, Run, is_trapped, commands_by, world_from}
@@ -12,12 +13,12 @@ use Rattle.pr_world.specs.Ends.{ending_of, endings, is_trapped_end}
 
 -- how many commands of each nexus reached the unit
 abbrev pub counts_in : Schedule → List ℕ
-counts_in y = map (λ h. commands_by y.world.entries h) (range_with_len 0 (length y.plans))
+counts_in y = map (λ h. commands_by y.world.history h) (range_with_len 0 (length y.plans))
 
--- what a schedule holds at last: the entries, the unit, the end of each nexus, and how many of its
+-- what a schedule holds at last: the history, the unit, the end of each nexus, and how many of its
 -- commands reached the unit. Some end is a trapped one just where some host is trapped.
 pub record IsEndOf (y : Schedule) (r : Replayed) : Type 0 where
-  pub entries : r.entries.items ≡ y.world.entries
+  pub history : r.history.items ≡ y.world.history
   pub unit : r.unit ≡ y.world.unit
   pub ends : map (λ e. Some (ending_of e)) r.ends.items ≡ endings y.world.controls y.plans
   pub counts : r.counts.items ≡ counts_in y
@@ -25,7 +26,7 @@ pub record IsEndOf (y : Schedule) (r : Replayed) : Type 0 where
 
 -- The scheduled run of these steps from the first start, which the scenario allows, came to this. A run of the
 -- scenario leads from that start to the same world, so that what holds of every run holds of it.
-pub record IsReplayed (s : Scenario) (steps : List ℕ) (r : Replayed) : Type 0 where
+pub record IsReplayed (s : Scenario) (steps : List (ℕ × How)) (r : Replayed) : Type 0 where
   pub start : UnitState
   pub first : first_state s ≡ Some start
   pub allowed : IsAllowedStart s start

@@ -5,14 +5,14 @@ ghost use Rattle.pr_roles.specs.Scenarios.{scenario_of};
 ghost use Rattle.pr_world.specs.Audits.{IsLegalFromFirst, Refuses};
 
 use crate::auditor::Auditor;
-use pr_roles::{Entry, Scenario};
+use pr_roles::{Item, Scenario};
 use std::alloc::{AllocError, Global};
 use thiserror::Error;
 
 /// Why an audit accepts no history.
 #[derive(Clone, Copy, Debug, PartialEq, Eq, Error)]
 pub enum AuditError {
-    /// The entry at this place, counted from 1, is the first that isn't legal.
+    /// The item at this place, counted from 1, is the first that isn't legal.
     #[error("illegal, entry {place}")]
     Illegal { place: usize },
     /// Memory ran out.
@@ -31,18 +31,19 @@ impl From<AllocError> for AuditError {
     }
 }
 
-/// Whether the entries are a legal history of the scenario, from its first start.
+/// Whether this is a legal history of the scenario, from its first start.
 ///
 /// A host's entry is legal where its script is ready to send just these bytes, and a guest's where the bytes
 /// are a request that its role permits, or that doesn't end GOOD. The unit may have answered so: where it
-/// may choose which attention it reports, any will do. Plans and budgets are no part of it.
-pub fn audit(alloc: Global, scenario: &Scenario, entries: &[Entry]) -> Result<(), AuditError>
-    ensures legal { IfOk result (λ _. IsLegalFromFirst (scenario_of scenario.now) entries.now) }
-    ensures illegal { IfErr result (Refuses (scenario_of scenario.now) entries.now) }
+/// may choose which attention it reports, any will do. Or the reply is BUSY or TASK SET FULL, no more often than the scenario
+/// declares for the nexus. Plans and budgets are no part of it.
+pub fn audit(alloc: Global, scenario: &Scenario, history: &[Item]) -> Result<(), AuditError>
+    ensures legal { IfOk result (λ _. IsLegalFromFirst (scenario_of scenario.now) history.now) }
+    ensures illegal { IfErr result (Refuses (scenario_of scenario.now) history.now) }
 {
     let mut auditor = Auditor::begin(alloc, scenario)?;
-    for (index, entry) in entries.iter().enumerate() {
-        if !auditor.admits(scenario, entry) {
+    for (index, item) in history.iter().enumerate() {
+        if !auditor.admits(scenario, &history[..index], item) {
             return Err(AuditError::Illegal { place: index + 1 });
         }
     }

@@ -1,14 +1,15 @@
 //! A scenario as an audit goes along it: its unit, and who may send what next.
 
-ghost use Rattle.std.specs.Prelude.{◌≡◌, List, [], ◌∷◌, ◌++◌, Some, map, IfOk};
-ghost use Rattle.pr_roles.specs.declared.entry.Entry.{Entry};
+ghost use Rattle.std.specs.Prelude.{◌≡◌, [], ◌∷◌, ◌++◌, Some, map, IfOk};
 ghost use Rattle.pr_roles.specs.Scenarios.{scenario_of};
 ghost use Rattle.pr_roles.specs.Starts.{first_state};
 ghost use Rattle.pr_roles.specs.Worlds.{control_of, world_from};
-ghost use Rattle.pr_world.specs.inside.Auditing.{ActFor, IsTried, control_by, world_at};
+ghost use Rattle.pr_world.specs.inside.Auditing.{ActFor, IsTried, control_by, how_of, world_at};
 
+use crate::refusing::may_come;
 use crate::sender::Sender;
-use pr_roles::{Entry, Scenario, first_start};
+use pr_cdb::Status;
+use pr_roles::{Entry, How, Item, Scenario, first_start};
 use pr_unit::Unit;
 use std::alloc::{AllocError, Global};
 
@@ -33,11 +34,25 @@ impl Auditor {
         })
     }
 
-    /// Whether the entry may come next, and then goes past it.
-    pub(crate) fn admits(&mut self, scenario: &Scenario, entry: &Entry) -> bool
+    /// Whether the item may come next after these, and then goes past it.
+    #[tactic(auto, using(crate::proofs::Adding::never_reset))]
+    pub(crate) fn admits(&mut self, scenario: &Scenario, before: &[Item], item: &Item) -> bool
         requires { ActFor (scenario_of scenario.now) (world_at self.old []) }
-        ensures tried { (before : List Entry) → IsTried (scenario_of scenario.now) (world_at self.old before)
-            entry.now result (world_at self.new (before ++ entry.now ∷ [])) }
+        ensures tried { IsTried (scenario_of scenario.now) (world_at self.old before.now)
+            item.now result (world_at self.new (before.now ++ item.now ∷ [])) }
+        ensures acts { ActFor (scenario_of scenario.now) (world_at self.new []) }
+    {
+        match item {
+            Item::Sent(entry) => self.admits_sent(scenario, before, entry),
+            Item::Reset => false,
+        }
+    }
+
+    // The same of a command.
+    fn admits_sent(&mut self, scenario: &Scenario, before: &[Item], entry: &Entry) -> bool
+        requires { ActFor (scenario_of scenario.now) (world_at self.old []) }
+        ensures tried { IsTried (scenario_of scenario.now) (world_at self.old before.now)
+            (Item.Sent entry.now) result (world_at self.new (before.now ++ Item.Sent entry.now ∷ [])) }
         ensures acts { ActFor (scenario_of scenario.now) (world_at self.new []) }
     {
         let index = usize::from(entry.host);
@@ -45,8 +60,23 @@ impl Auditor {
         if index >= nexuses.len() {
             return false;
         }
+        let how = how_of(entry.reply.status);
+        if !may_come(scenario, before, entry.host, how) {
+            return false;
+        }
         let role = &nexuses[index].role;
-        self.senders[index].sends(&mut self.unit, role, entry)
+        self.senders[index].sends(&mut self.unit, role, entry, how)
+    }
+}
+
+// How a command was answered, which the status tells.
+fn how_of(status: Status) -> How
+    ensures { result ≡ how_of status }
+{
+    match status {
+        Status::Good | Status::CheckCondition | Status::Conflict => How::Plain,
+        Status::Busy => How::Busy,
+        Status::TaskFull => How::Full,
     }
 }
 

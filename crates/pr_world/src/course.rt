@@ -2,6 +2,7 @@
 
 ghost use Rattle.std.specs.Prelude.{◌≡◌, ◌<◌, ◌≤◌, ◌+◌, ◌^◌, ℕ, List, [], ◌∷◌, ◌++◌, Some, length, map, IfOk, vec_len, vec_capacity, IsTrue};
 ghost use Rattle.std.specs.List.{range_with_len};
+ghost use Rattle.pr_roles.specs.declared.how.How.{How};
 ghost use Rattle.pr_roles.specs.Scenarios.{scenario_of};
 ghost use Rattle.pr_roles.specs.Schedules.{Turn, plan};
 ghost use Rattle.pr_roles.specs.Worlds.{control, is_trapped, commands_by};
@@ -14,8 +15,9 @@ ghost use Rattle.pr_world.specs.Replays.{IsEndOf};
 use crate::act::Act;
 use crate::end::End;
 use crate::participant::Participant;
+use crate::refusing::how_now;
 use crate::replaying::Replayed;
-use pr_roles::{Entry, Scenario, first_start};
+use pr_roles::{How, Item, Scenario, first_start};
 use pr_unit::Unit;
 use std::alloc::{AllocError, Global};
 
@@ -24,11 +26,11 @@ use std::alloc::{AllocError, Global};
 pub(crate) struct Course {
     pub(crate) unit: Unit,
     participants: Vec<Participant>,
-    pub(crate) entries: Vec<Entry>,
+    pub(crate) history: Vec<Item>,
 }
 
 impl Course {
-    /// The scenario at its first start, with room for so many entries.
+    /// The scenario at its first start, with room for a history of so many items.
     pub(crate) fn begin(
         alloc: Global,
         scenario: &Scenario,
@@ -38,41 +40,43 @@ impl Course {
         ensures stands { IfOk result (λ course.
             StandsFor (scenario_of scenario.now) course.unit (map participation_of course.participants.items)) }
         ensures room { IfOk result (λ course.
-            (vec_len course.entries ≡ 0) × (vec_capacity course.entries ≡ room)) }
+            (vec_len course.history ≡ 0) × (vec_capacity course.history ≡ room)) }
     {
         Ok(Course {
             unit: first_start(scenario),
             participants: participants_of(alloc, scenario)?,
-            entries: Vec::with_capacity(alloc, room)?,
+            history: Vec::with_capacity(alloc, room)?,
         })
     }
 
-    /// The turn of this nexus. It takes no memory, and room for an entry only where it sends.
-    pub(crate) fn turn(&mut self, scenario: &Scenario, host: u8) -> Act
+    /// The turn of this nexus, answered so where that may still come, else by the unit. It takes no memory, and room for an
+    /// entry only where it sends.
+    pub(crate) fn turn(&mut self, scenario: &Scenario, host: u8, how: How) -> Act
         requires there { host < length (scenario_of scenario.now).nexuses }
         requires stands { StandsFor (scenario_of scenario.now) self.old.unit
             (map participation_of self.old.participants.items) }
-        requires room { does (scenario_of scenario.now) (schedule_of self.old) host ≡ sends
-            → vec_len self.old.entries < vec_capacity self.old.entries }
+        requires room { does (scenario_of scenario.now) (schedule_of self.old) host how ≡ sends
+            → vec_len self.old.history < vec_capacity self.old.history }
         ensures does { doing_of result
-            ≡ does (scenario_of scenario.now) (schedule_of self.old) host }
+            ≡ does (scenario_of scenario.now) (schedule_of self.old) host how }
         ensures trapped { result ≡ Act.Trapped
             → IsTrue (is_trapped (control (schedule_of self.old).world host)) }
-        ensures turn { Turn (scenario_of scenario.now) (schedule_of self.old) host (schedule_of self.new) }
+        ensures turn { Turn (scenario_of scenario.now) (schedule_of self.old) host how (schedule_of self.new) }
         ensures happens { HappensBy (scenario_of scenario.now) host (entry_in result)
             (schedule_of self.old).world (schedule_of self.new).world }
-        ensures reached { (steps : List ℕ) → IsReached (scenario_of scenario.now) steps (schedule_of self.old)
-            → IsReached (scenario_of scenario.now) (steps ++ host ∷ []) (schedule_of self.new) }
+        ensures reached { (steps : List (ℕ × How)) → IsReached (scenario_of scenario.now) steps (schedule_of self.old)
+            → IsReached (scenario_of scenario.now) (steps ++ (host, how) ∷ []) (schedule_of self.new) }
         ensures stands { StandsFor (scenario_of scenario.now) self.new.unit
             (map participation_of self.new.participants.items) }
-        ensures length { vec_len self.new.entries ≤ vec_len self.old.entries + 1 }
-        ensures room { vec_capacity self.new.entries ≡ vec_capacity self.old.entries }
+        ensures length { vec_len self.new.history ≤ vec_len self.old.history + 1 }
+        ensures room { vec_capacity self.new.history ≡ vec_capacity self.old.history }
     {
         let index = usize::from(host);
+        let now = how_now(scenario, &self.history, host, how);
         let role = &scenario.parts().nexuses[index].role;
-        let act = self.participants[index].act(&mut self.unit, role, host);
+        let act = self.participants[index].act(&mut self.unit, role, host, now);
         if let Some(entry) = act.entry() {
-            self.entries.push_reserved(entry.copy());
+            self.history.push_reserved(Item::Sent(entry.copy()));
         }
         act
     }
@@ -86,23 +90,23 @@ impl Course {
         self.participants[usize::from(host)].end()
     }
 
-    /// The commands that were sent, in order, and the unit.
-    pub(crate) fn into_parts(self) -> (Vec<Entry>, Unit)
-        ensures entries { result.0 ≡ self.entries }
+    /// What happened to the unit, in order, and the unit.
+    pub(crate) fn into_parts(self) -> (Vec<Item>, Unit)
+        ensures history { result.0 ≡ self.history }
         ensures unit { result.1 ≡ self.unit }
     {
-        (self.entries, self.unit)
+        (self.history, self.unit)
     }
 
     /// What it came to.
     pub(crate) fn outcome(self, alloc: Global) -> Result<Replayed, AllocError>
-        requires { vec_len self.entries < 2 ^ 32 }
+        requires { vec_len self.history < 2 ^ 32 }
         ensures { IfOk result (IsEndOf (schedule_of self)) }
     {
         let ends = ends_of(alloc, &self.participants)?;
-        let counts = counts_of(alloc, &self.entries, self.participants.len())?;
+        let counts = counts_of(alloc, &self.history, self.participants.len())?;
         Ok(Replayed {
-            entries: self.entries,
+            history: self.history,
             unit: self.unit,
             ends,
             counts,
@@ -137,25 +141,22 @@ fn ends_of(alloc: Global, participants: &[Participant]) -> Result<Vec<End>, Allo
 }
 
 // How many commands of each reached the unit.
-fn counts_of(alloc: Global, entries: &[Entry], participants: usize) -> Result<Vec<u32>, AllocError>
-    requires { length entries.now < 2 ^ 32 }
+fn counts_of(alloc: Global, history: &[Item], participants: usize) -> Result<Vec<u32>, AllocError>
+    requires { length history.now < 2 ^ 32 }
     ensures { IfOk result (λ counts.
-        counts.items ≡ map (λ h. commands_by entries.now h) (range_with_len 0 participants)) }
+        counts.items ≡ map (λ h. commands_by history.now h) (range_with_len 0 participants)) }
 {
     let mut counts = Vec::with_capacity(alloc, participants)?;
     for host in 0..participants {
-        counts.push(commands_by(entries, host))?;
+        counts.push(commands_by(history, host))?;
     }
     Ok(counts)
 }
 
 /// How many of the commands are the host's or guest's.
-pub fn commands_by(entries: &[Entry], host: usize) -> u32
-    requires { commands_by entries.now host < 2 ^ 32 }
-    ensures { result ≡ commands_by entries.now host }
+pub fn commands_by(history: &[Item], host: usize) -> u32
+    requires { commands_by history.now host < 2 ^ 32 }
+    ensures { result ≡ commands_by history.now host }
 {
-    entries
-        .iter()
-        .filter(|entry| usize::from(entry.host) == host)
-        .count() as u32
+    history.iter().filter(|item| item.is_by(host)).count() as u32
 }

@@ -2,7 +2,7 @@
 
 ghost use Rattle.pr_world.specs.Laws.{ReplaysAreLegal, SafeReplaysEndUntrapped, SafeReplaysKeepBudgets, SafeReplaysKeepRoles, SafeSchedulesKeepToRooms};
 
-/// The entries of a replay are a legal history from the first start.
+/// The history of a replay are a legal history from the first start.
 pub fn replays_are_legal()
     ensures { ReplaysAreLegal }
 {}
@@ -17,7 +17,8 @@ pub fn safe_replays_keep_budgets()
     ensures { SafeReplaysKeepBudgets }
 {}
 
-/// In a replay of a safe scenario each command of a host that ends GOOD is one that its role permits.
+/// In a replay of a safe scenario each entry of a host that ends GOOD is a command that its role permits, in the state to which
+/// the history before it led.
 pub fn safe_replays_keep_roles()
     ensures { SafeReplaysKeepRoles }
 {}

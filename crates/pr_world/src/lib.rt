@@ -9,6 +9,7 @@ mod end;
 mod laws;
 mod participant;
 mod plan;
+mod refusing;
 mod replaying;
 mod sender;
 mod turn;
@@ -21,7 +22,7 @@ pub use laws::{
     replays_are_legal, safe_replays_end_untrapped, safe_replays_keep_budgets,
     safe_replays_keep_roles, safe_schedules_keep_to_rooms,
 };
-pub use pr_roles::Entry;
-pub use replaying::{Replayed, replay};
+pub use pr_roles::{Entry, How, Item};
+pub use replaying::{Replayed, replay, replay_as};
 pub use turn::Turn;
 pub use world::{World, room_of};

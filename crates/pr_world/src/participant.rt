@@ -2,17 +2,18 @@
 
 ghost use Rattle.std.specs.Prelude.{◌≡◌, ◌<◌, Some, IfOk, IsTrue};
 ghost use Rattle.pr_roles.specs.Scenarios.{task_of};
-ghost use Rattle.pr_world.specs.inside.Participations.{participation_of, participation_from, IsShort, IsSentHere};
+ghost use Rattle.pr_world.specs.inside.Participations.{participation_of, participation_from, IsShort, IsSent};
 ghost use Rattle.pr_world.specs.Ends.{ending, ending_of};
 ghost use Rattle.pr_roles.specs.Worlds.{is_trapped};
-ghost use Rattle.pr_roles.specs.Schedules.{is_held_back};
+ghost use Rattle.pr_roles.specs.Schedules.{is_held_back, is_passed_over};
 ghost use Rattle.pr_world.specs.inside.Turns.{Acts, entry_in, doing_of, does_as};
 
 use crate::act::Act;
 use crate::end::End;
 use crate::plan::Plan;
-use pr_cdb::{Command, encode};
-use pr_roles::{Entry, Nexus, Role, Task, permits};
+use crate::refusing::refused;
+use pr_cdb::{Command, Status, encode};
+use pr_roles::{Entry, How, Nexus, Role, Task, permits};
 use pr_script::{Machine, Next};
 use pr_unit::Unit;
 use std::alloc::{AllocError, Global};
@@ -42,12 +43,12 @@ impl Participant {
         }
     }
 
-    /// Takes its turn, and answers what it did.
-    pub(crate) fn act(&mut self, unit: &mut Unit, role: &Role, host: u8) -> Act
+    /// Takes its turn, in which a command is answered so, and says what it did.
+    pub(crate) fn act(&mut self, unit: &mut Unit, role: &Role, host: u8, how: How) -> Act
         requires { host < unit.old.registry.hosts }
-        ensures does { doing_of result ≡ does_as (participation_of self.old).control
+        ensures does { doing_of result ≡ does_as how (participation_of self.old).control
             role.now.clauses.items unit.old host (participation_of self.old).plan }
-        ensures acts { Acts role.now.clauses.items host
+        ensures acts { Acts how role.now.clauses.items host
             (participation_of self.old) unit.old (entry_in result) (participation_of self.new) unit.new }
         ensures trapped { result ≡ Act.Trapped → IsTrue (is_trapped (participation_of self.old).control) }
         ensures hosts { unit.new.registry.hosts ≡ unit.old.registry.hosts }
@@ -58,7 +59,7 @@ impl Participant {
                     Next::Send { line, command } => (line, command),
                     Next::Stopped(word) => return Act::Stopped(word),
                 };
-                let entry = send(unit, host, command);
+                let entry = send(unit, host, command, how);
                 if machine.take(&entry.reply).is_err() {
                     *self = Participant::Trapped(line);
                 }
@@ -69,10 +70,10 @@ impl Participant {
                 let Some(command) = plan.next() else {
                     return Act::Finished;
                 };
-                if is_held_back(unit, role, host, command) {
+                if is_passed_over(unit, role, host, command, how) {
                     return Act::Held;
                 }
-                Act::Sent(send(unit, host, command))
+                Act::Sent(send(unit, host, command, how))
             }
         }
     }
@@ -92,6 +93,17 @@ impl Participant {
     }
 }
 
+// The unit would answer the command, and it is held back. What is refused is not.
+fn is_passed_over(unit: &Unit, role: &Role, host: u8, command: Command, how: How) -> bool
+    requires { host < unit.now.registry.hosts }
+    ensures { result ≡ is_passed_over how role.now.clauses.items unit.now host command }
+{
+    match how {
+        How::Plain => is_held_back(unit, role, host, command),
+        How::Busy | How::Full => false,
+    }
+}
+
 // The command would end GOOD, and the role does not permit that.
 fn is_held_back(unit: &Unit, role: &Role, host: u8, command: Command) -> bool
     requires { host < unit.now.registry.hosts }
@@ -100,15 +112,20 @@ fn is_held_back(unit: &Unit, role: &Role, host: u8, command: Command) -> bool
     unit.would_end_good(host, &command) && !permits(role, unit, host, &command)
 }
 
-// The command goes to the unit, and comes back with its reply.
-fn send(unit: &mut Unit, host: u8, command: Command) -> Entry
+// The command is sent, and comes back with its reply: that of the unit, or a refusal in which the unit has no part.
+fn send(unit: &mut Unit, host: u8, command: Command, how: How) -> Entry
     requires { host < unit.old.registry.hosts }
-    ensures sent { IsSentHere unit.old host command result unit.new }
+    ensures sent { IsSent how unit.old host command result unit.new }
     ensures hosts { unit.new.registry.hosts ≡ unit.old.registry.hosts }
 {
     let wire = encode(&command);
-    match unit.execute(host, &wire) {
-        Ok(reply) => Entry { host, wire, reply },
-        Err(_) => unreachable!(),
-    }
+    let reply = match how {
+        How::Plain => match unit.execute(host, &wire) {
+            Ok(reply) => reply,
+            Err(_) => unreachable!(),
+        },
+        How::Busy => refused(Status::Busy),
+        How::Full => refused(Status::TaskFull),
+    };
+    Entry { host, wire, reply }
 }

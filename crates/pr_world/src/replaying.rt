@@ -1,6 +1,6 @@
 //! Replays: turns in an order that is given.
 
-ghost use Rattle.std.specs.Prelude.{◌≡◌, ◌<◌, ◌^◌, length, IfOk};
+ghost use Rattle.std.specs.Prelude.{◌≡◌, ◌<◌, ◌^◌, length, map, IfOk};
 ghost use Rattle.std.specs.List.{All, list_any};
 ghost use Rattle.pr_roles.specs.Scenarios.{scenario_of};
 ghost use Rattle.pr_world.specs.Ends.{is_trapped_end};
@@ -8,15 +8,15 @@ ghost use Rattle.pr_world.specs.Replays.{IsReplayed};
 
 use crate::course::Course;
 use crate::end::End;
-use pr_roles::{Entry, Scenario};
+use pr_roles::{How, Item, Scenario};
 use pr_unit::Unit;
 use std::alloc::{AllocError, Global};
 
 /// What a replay came to.
 #[derive(Debug, Drop)]
 pub struct Replayed {
-    /// The commands that reached the unit, in order.
-    pub entries: Vec<Entry>,
+    /// What happened to the unit, in order.
+    pub history: Vec<Item>,
 
     pub unit: Unit,
 
@@ -36,7 +36,7 @@ impl Replayed {
     }
 }
 
-/// Runs the scenario from its first start, with a turn for each step: the number of a nexus.
+/// Runs the scenario from its first start, with a turn for each step: the number of a nexus. The unit answers each command.
 ///
 /// In its turn a host sends its command, if its script is ready, and takes the reply. A guest sends the
 /// next command of its plan; where that would end GOOD and its role does not permit it, the command is
@@ -45,11 +45,29 @@ impl Replayed {
 pub fn replay(alloc: Global, scenario: &Scenario, steps: &[u8]) -> Result<Replayed, AllocError>
     requires there { All (λ host. host < length (scenario_of scenario.now).nexuses) steps.now }
     requires few { length steps.now < 2 ^ 32 }
-    ensures { IfOk result (IsReplayed (scenario_of scenario.now) steps.now) }
+    ensures { IfOk result (IsReplayed (scenario_of scenario.now) (map (λ host. (host, How.Plain)) steps.now)) }
 {
     let mut course = Course::begin(alloc, scenario, steps.len())?;
     for host in steps {
-        course.turn(scenario, *host);
+        course.turn(scenario, *host, How::Plain);
+    }
+    course.outcome(alloc)
+}
+
+/// The same, where each step also says how the command is answered: by the unit, or by a refusal, if the scenario has one left
+/// for the nexus. Where it has none, the unit answers. A guest's command that is refused is used up, and never passed over.
+pub fn replay_as(
+    alloc: Global,
+    scenario: &Scenario,
+    steps: &[(u8, How)],
+) -> Result<Replayed, AllocError>
+    requires there { All (λ step. step.0 < length (scenario_of scenario.now).nexuses) steps.now }
+    requires few { length steps.now < 2 ^ 32 }
+    ensures { IfOk result (IsReplayed (scenario_of scenario.now) steps.now) }
+{
+    let mut course = Course::begin(alloc, scenario, steps.len())?;
+    for (host, how) in steps {
+        course.turn(scenario, *host, *how);
     }
     course.outcome(alloc)
 }

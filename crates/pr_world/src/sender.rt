@@ -6,10 +6,11 @@ ghost use Rattle.pr_roles.specs.Permits.{is_permitted};
 ghost use Rattle.pr_roles.specs.Scenarios.{task_of};
 ghost use Rattle.pr_roles.specs.Worlds.{control_of};
 ghost use Rattle.pr_world.specs.inside.Participations.{IsShort};
-ghost use Rattle.pr_world.specs.inside.Auditing.{IsGuestJudged, IsJudged, control_by};
+ghost use Rattle.pr_world.specs.inside.Auditing.{IsAnswered, IsGuestJudged, IsJudged, control_by};
 
+use crate::refusing::refused;
 use pr_cdb::{Request, Status, decode, encode};
-use pr_roles::{Entry, Nexus, Role, Task, permits};
+use pr_roles::{Entry, How, Nexus, Role, Task, permits};
 use pr_script::{Machine, Next};
 use pr_unit::Unit;
 use std::alloc::{AllocError, Global};
@@ -38,11 +39,11 @@ impl Sender {
         }
     }
 
-    /// Whether it may have sent this entry, and the unit may have answered so. Where they may, they go past
-    /// it; else nothing changes.
-    pub(crate) fn sends(&mut self, unit: &mut Unit, role: &Role, entry: &Entry) -> bool
+    /// Whether it may have sent this entry, and may have been answered so. Where it may, it goes past the entry, as the unit
+    /// does; else nothing changes.
+    pub(crate) fn sends(&mut self, unit: &mut Unit, role: &Role, entry: &Entry, how: How) -> bool
         requires { entry.now.host < unit.old.registry.hosts }
-        ensures judged { IsJudged (control_by self.old) role.now.clauses.items unit.old entry.now result
+        ensures judged { IsJudged how (control_by self.old) role.now.clauses.items unit.old entry.now result
             (control_by self.new) unit.new }
     {
         match self {
@@ -54,7 +55,7 @@ impl Sender {
                 if entry.wire != encode(&command) {
                     return false;
                 }
-                if !unit.follow(entry.host, &entry.wire, &entry.reply) {
+                if !is_answered(unit, entry, how) {
                     return false;
                 }
                 if machine.take(&entry.reply).is_err() {
@@ -63,15 +64,15 @@ impl Sender {
                 true
             }
             Sender::Trapped(_) => false,
-            Sender::Guest => guest_sends(unit, role, entry),
+            Sender::Guest => guest_sends(unit, role, entry, how),
         }
     }
 }
 
-// Whether a guest with this role may have sent the entry, and the unit may have answered so.
-fn guest_sends(unit: &mut Unit, role: &Role, entry: &Entry) -> bool
+// Whether a guest with this role may have sent the entry, and may have been answered so.
+fn guest_sends(unit: &mut Unit, role: &Role, entry: &Entry, how: How) -> bool
     requires { entry.now.host < unit.old.registry.hosts }
-    ensures { IsGuestJudged role.now.clauses.items unit.old entry.now result unit.new }
+    ensures { IsGuestJudged how role.now.clauses.items unit.old entry.now result unit.new }
 {
     let cdb = entry.wire.cdb.as_slice();
     let params = entry.wire.params.as_slice();
@@ -83,7 +84,19 @@ fn guest_sends(unit: &mut Unit, role: &Role, entry: &Entry) -> bool
     if entry.reply.status == Status::Good && !is_permitted(role, unit, entry.host, request) {
         return false;
     }
-    unit.follow(entry.host, &entry.wire, &entry.reply)
+    is_answered(unit, entry, how)
+}
+
+// Whether the command may have been answered so: by the unit, or by a whole refusal.
+fn is_answered(unit: &mut Unit, entry: &Entry, how: How) -> bool
+    requires { entry.now.host < unit.old.registry.hosts }
+    ensures { IsAnswered how unit.old entry.now result unit.new }
+{
+    match how {
+        How::Plain => unit.follow(entry.host, &entry.wire, &entry.reply),
+        How::Busy => entry.reply == refused(Status::Busy),
+        How::Full => entry.reply == refused(Status::TaskFull),
+    }
 }
 
 // Whether the role permits the request to end GOOD.

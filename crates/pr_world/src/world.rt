@@ -10,7 +10,7 @@ use crate::act::Act;
 use crate::course::Course;
 use crate::end::End;
 use crate::turn::Turn;
-use pr_roles::{Entry, Nexus, Scenario, Task};
+use pr_roles::{How, Item, Nexus, Scenario, Task};
 use pr_script::end_word;
 use pr_unit::Unit;
 use pr_verify::Verified;
@@ -30,13 +30,13 @@ impl Model for World {
     ghost use Rattle.pr_unit.specs.contracts.unit.Unit as unit_code;
     ghost use Rattle.pr_script.specs.contracts.machine.Machine as machine_code;
     ghost use Rattle.pr_roles.specs.contracts.parts.Parts as parts_code;
-    ghost use Rattle.pr_roles.specs.contracts.entry.Entry as entry_code;
+    ghost use Rattle.pr_roles.specs.contracts.item.Item as item_code;
     ghost use Rattle.pr_world.specs.Progress.{Progress};
     ghost use Rattle.pr_world.specs.inside.ProgressCodes.{progress_code};
 
     ghost Value = { Progress };
 
-    ghost coded = { progress_code parts_code.the_row.coded unit_code.the_row.coded machine_code.the_row.coded entry_code.the_row.coded command_code.the_row.coded };
+    ghost coded = { progress_code parts_code.the_row.coded unit_code.the_row.coded machine_code.the_row.coded item_code.the_row.coded command_code.the_row.coded };
 
     ghost use Rattle.pr_roles.specs.Scenarios.{scenario_of};
     ghost use Rattle.pr_world.specs.inside.Participations.{schedule_of};
@@ -48,6 +48,7 @@ impl Model for World {
 }
 
 impl World {
+    ghost use Rattle.pr_roles.specs.declared.how.How.{How};
     ghost use Rattle.pr_roles.specs.Schedules.{Turn as IsTurn, plan};
     ghost use Rattle.pr_roles.specs.Worlds.{control};
     ghost use Rattle.pr_world.specs.Courses.{IsOneEvent};
@@ -67,15 +68,15 @@ impl World {
         }
     }
 
-    /// The turn of this nexus. It takes no memory.
+    /// The turn of this nexus, in which the unit answers. It takes no memory.
     ///
     /// Where the unit could report one of several attentions, it reports the lowest.
     pub fn step(&mut self, host: u8) -> Turn
         requires { host < length (scenario_of self.old.scenario).nexuses }
         ensures scenario { self.new.scenario ≡ self.old.scenario }
-        ensures turn { IsTurn (scenario_of self.old.scenario) self.old.schedule host self.new.schedule }
-        ensures reached { (steps : List ℕ) → IsReached (scenario_of self.old.scenario) steps self.old.schedule
-            → IsReached (scenario_of self.old.scenario) (steps ++ host ∷ []) self.new.schedule }
+        ensures turn { IsTurn (scenario_of self.old.scenario) self.old.schedule host How.Plain self.new.schedule }
+        ensures reached { (steps : List (ℕ × How)) → IsReached (scenario_of self.old.scenario) steps self.old.schedule
+            → IsReached (scenario_of self.old.scenario) (steps ++ (host, How.Plain) ∷ []) self.new.schedule }
         ensures sent { IfSent result (λ entry.
             IsOneEvent (scenario_of self.old.scenario) host entry self.old.schedule.world self.new.schedule.world) }
         ensures stopped { IfStopped result (λ word.
@@ -83,7 +84,27 @@ impl World {
         ensures rests { IfStopped result (λ word. self.new.schedule ≡ self.old.schedule) }
         ensures held { IfHeld result (PassesOver (scenario_of self.old.scenario) self.old.schedule host self.new.schedule) }
     {
-        match self.course.turn(self.verified.scenario(), host) {
+        self.step_as(host, How::Plain)
+    }
+
+    /// The turn of this nexus. Its command is answered so, where that is a refusal of which the scenario has one left for the
+    /// nexus; else by the unit, as in [`World::step`]. It takes no memory.
+    ///
+    /// A refusal changes nothing of the unit. A guest's command that is refused is used up, and never held back.
+    pub fn step_as(&mut self, host: u8, how: How) -> Turn
+        requires { host < length (scenario_of self.old.scenario).nexuses }
+        ensures scenario { self.new.scenario ≡ self.old.scenario }
+        ensures turn { IsTurn (scenario_of self.old.scenario) self.old.schedule host how self.new.schedule }
+        ensures reached { (steps : List (ℕ × How)) → IsReached (scenario_of self.old.scenario) steps self.old.schedule
+            → IsReached (scenario_of self.old.scenario) (steps ++ (host, how) ∷ []) self.new.schedule }
+        ensures sent { IfSent result (λ entry.
+            IsOneEvent (scenario_of self.old.scenario) host entry self.old.schedule.world self.new.schedule.world) }
+        ensures stopped { IfStopped result (λ word.
+            IsStopped (scenario_of self.old.scenario) self.old.schedule host word) }
+        ensures rests { IfStopped result (λ word. self.new.schedule ≡ self.old.schedule) }
+        ensures held { IfHeld result (PassesOver (scenario_of self.old.scenario) self.old.schedule host self.new.schedule) }
+    {
+        match self.course.turn(self.verified.scenario(), host, how) {
             Act::Sent(entry) => Turn::Sent(entry),
             Act::Stopped(word) => Turn::Stopped(word),
             Act::Finished => Turn::Stopped(end_word()),
@@ -100,12 +121,12 @@ impl World {
         self.verified.scenario()
     }
 
-    /// The commands that reached the unit, in order.
-    pub fn entries(&self) -> &[Entry]
-        ensures value { result.now ≡ self.now.schedule.world.entries }
-        ensures reached { (steps : List ℕ) × IsReached (scenario_of self.now.scenario) steps self.now.schedule }
+    /// What happened to the unit, in order.
+    pub fn history(&self) -> &[Item]
+        ensures value { result.now ≡ self.now.schedule.world.history }
+        ensures reached { (steps : List (ℕ × How)) × IsReached (scenario_of self.now.scenario) steps self.now.schedule }
     {
-        &self.course.entries
+        &self.course.history
     }
 
     /// The unit as it is.
@@ -124,8 +145,8 @@ impl World {
     }
 
     /// Its history and its unit, when it has no more turns to take.
-    pub fn into_parts(self) -> (Vec<Entry>, Unit)
-        ensures history { result.0.items ≡ self.schedule.world.entries }
+    pub fn into_parts(self) -> (Vec<Item>, Unit)
+        ensures history { result.0.items ≡ self.schedule.world.history }
         ensures unit { result.1 ≡ self.schedule.world.unit }
     {
         self.course.into_parts()

@@ -1,17 +1,22 @@
--- The entries that may come next in an audit.
+-- The items that may come next in an audit.
 use Rattle.std.specs.Prelude.{◌≡◌, ℕ, ◌≤◌, Bool, true, false, IsTrue, List, [], ◌∷◌, ◌++◌, Some, Ok, length, map}
 use Rattle.pr_cdb.specs.declared.codes.TheConstants.{MOST_CDB_LENGTH, PARAMETER_LIST_LENGTH}
 use Rattle.pr_cdb.specs.declared.command.Command.{Command}
+use Rattle.pr_cdb.specs.declared.reply.Status.{Status}
+use Rattle.pr_cdb.specs.declared.reply.Status.TheVariants as status
 use Rattle.pr_cdb.specs.declared.wire.Request.{Request}
 use Rattle.pr_cdb.specs.declared.wire.Request.TheVariants.{Plain}
 use Rattle.pr_cdb.specs.Requests.{request_of_wire, AreBytes}
 use Rattle.pr_cdb.specs.Spelling.{spelling}
 use Rattle.pr_unit.specs.UnitStates.{UnitState}
 use Rattle.pr_unit.specs.Replies.{is_good}
-use Rattle.pr_unit.specs.Steps.{Step}
 use Rattle.pr_script.specs.Scripts.{ready}
 use Rattle.pr_roles.specs.declared.role.Clause.{Clause}
 use Rattle.pr_roles.specs.declared.entry.Entry.{Entry}
+use Rattle.pr_roles.specs.declared.item.Item.{Item}
+use Rattle.pr_roles.specs.declared.how.How.{How}
+use Rattle.pr_roles.specs.declared.how.How.TheVariants as how
+use Rattle.pr_roles.specs.Answers.{Answers}
 use Rattle.pr_roles.specs.Permits.{is_permitted}
 use Rattle.pr_roles.specs.Scenarios.{Scenario}
 use Rattle.pr_roles.specs.Worlds.{World, Event, Happens, Control, Going, Trapped, Free, standing_of, control_after}
@@ -21,37 +26,50 @@ use Rattle.pr_world.specs.declared.sender.Sender.TheVariants as sender
 use Rattle.pr_world.specs.Courses.{is_planned}
 use Rattle.pr_world.specs.inside.Participations.{is_free}
 
+-- how it was answered, which its status tells
+abbrev pub how_of : Status → How
+how_of status.Good = how.Plain
+how_of status.CheckCondition = how.Plain
+how_of status.Conflict = how.Plain
+how_of status.Busy = how.Busy
+how_of status.TaskFull = how.Full
+
+-- True: what its bytes ask for may be answered so, and then the unit is in this state. False: it may not, and nothing changes.
+abbrev pub IsAnswered : How → UnitState → Entry → Bool → UnitState → Type 0
+IsAnswered k u e true v = (q : Request) → request_of_wire e.wire ≡ Ok q → Answers k u e.host q e.reply v
+IsAnswered k u e false v = (v ≡ u) × ((q : Request) (w : UnitState) → request_of_wire e.wire ≡ Ok q → Answers k u e.host q e.reply w → ⊥)
+
 -- ---- one nexus
 
--- the script's next command is spelled so, the unit may answer it so, and the script takes the reply
-pub record ScriptSends (k : Control) (u : UnitState) (e : Entry) (after : Control) (v : UnitState) : Type 0 where
+-- the script's next command is spelled so, it may be answered so, and the script takes the reply
+pub record ScriptSends (k : How) (c : Control) (u : UnitState) (e : Entry) (after : Control) (v : UnitState) : Type 0 where
   pub line : ℕ
   pub command : Command
-  pub ready : standing_of k ≡ Some (ready line command)
+  pub ready : standing_of c ≡ Some (ready line command)
   pub wire : e.wire ≡ spelling command
-  pub step : Step u e.host (Plain command) e.reply v
-  pub takes : after ≡ control_after line k e.reply
+  pub answer : Answers k u e.host (Plain command) e.reply v
+  pub takes : after ≡ control_after line c e.reply
 
--- the bytes are a request, the unit may answer it so, and where that is GOOD the role permits it
-pub record GuestSendsSo (clauses : List Clause) (u : UnitState) (e : Entry) (v : UnitState) : Type 0 where
+-- the bytes are a request, it may be answered so, and where that is GOOD the role permits it
+pub record GuestSendsSo (k : How) (clauses : List Clause) (u : UnitState) (e : Entry) (v : UnitState) : Type 0 where
   pub bytes : AreBytes e.wire.cdb.items × AreBytes e.wire.params.items
   pub lengths : (length e.wire.cdb.items ≤ MOST_CDB_LENGTH) × (length e.wire.params.items ≤ PARAMETER_LIST_LENGTH)
   pub request : Request
   pub read : request_of_wire e.wire ≡ Ok request
-  pub step : Step u e.host request e.reply v
+  pub answer : Answers k u e.host request e.reply v
   pub permitted : is_good e.reply ≡ true → IsTrue (is_permitted clauses u.registry e.host request)
 
 -- The entry may come next, of one that acts so under this role. Then it acts otherwise, and the unit is in another state.
-abbrev pub MayCome : Control → List Clause → UnitState → Entry → Control → UnitState → Type 0
-MayCome (Going l) clauses u e after v = ScriptSends (Going l) u e after v
-MayCome (Trapped line) clauses u e after v = ⊥
-MayCome Free clauses u e after v = GuestSendsSo clauses u e v × (after ≡ Free)
+abbrev pub MayCome : How → Control → List Clause → UnitState → Entry → Control → UnitState → Type 0
+MayCome k (Going l) clauses u e after v = ScriptSends k (Going l) u e after v
+MayCome k (Trapped line) clauses u e after v = ⊥
+MayCome k Free clauses u e after v = GuestSendsSo k clauses u e v × (after ≡ Free)
 
 -- True: it may come next, and this comes of it. False: it may not, whatever would come of it, and nothing changes.
-abbrev pub IsJudged : Control → List Clause → UnitState → Entry → Bool → Control → UnitState → Type 0
-IsJudged k clauses u e true after v = MayCome k clauses u e after v
-IsJudged k clauses u e false after v =
-    (after ≡ k) × (v ≡ u) × ((other : Control) (w : UnitState) → MayCome k clauses u e other w → ⊥)
+abbrev pub IsJudged : How → Control → List Clause → UnitState → Entry → Bool → Control → UnitState → Type 0
+IsJudged k c clauses u e true after v = MayCome k c clauses u e after v
+IsJudged k c clauses u e false after v =
+    (after ≡ c) × (v ≡ u) × ((other : Control) (w : UnitState) → MayCome k c clauses u e other w → ⊥)
 
 abbrev pub control_by : Sender → Control
 control_by (sender.Host l) = Going l
@@ -59,26 +77,26 @@ control_by (sender.Trapped line) = Trapped line
 control_by sender.Guest = Free
 
 -- the same of a guest
-abbrev pub IsGuestJudged : List Clause → UnitState → Entry → Bool → UnitState → Type 0
-IsGuestJudged clauses u e true v = GuestSendsSo clauses u e v
-IsGuestJudged clauses u e false v = (v ≡ u) × ((w : UnitState) → GuestSendsSo clauses u e w → ⊥)
+abbrev pub IsGuestJudged : How → List Clause → UnitState → Entry → Bool → UnitState → Type 0
+IsGuestJudged k clauses u e true v = GuestSendsSo k clauses u e v
+IsGuestJudged k clauses u e false v = (v ≡ u) × ((w : UnitState) → GuestSendsSo k clauses u e w → ⊥)
 
 -- ---- all of them
 
--- the world of an audit after these entries
-abbrev pub world_at : Auditor → List Entry → World
-world_at a entries = record { unit = a.unit; controls = map control_by a.senders.items; entries = entries }
+-- the world of an audit after this history
+abbrev pub world_at : Auditor → List Item → World
+world_at a history = record { unit = a.unit; controls = map control_by a.senders.items; history = history }
 
--- some event adds the entry
-pub record Adds (s : Scenario) (w : World) (e : Entry) (v : World) : Type 0 where
+-- some event adds the item
+pub record Adds (s : Scenario) (w : World) (i : Item) (v : World) : Type 0 where
   pub event : Event
   pub happens : Happens s w event v
-  pub added : v.entries ≡ w.entries ++ e ∷ []
+  pub added : v.history ≡ w.history ++ i ∷ []
 
 -- true: some event adds it, and whatever event does leads here; false: none does
-abbrev pub IsTried : Scenario → World → Entry → Bool → World → Type 0
-IsTried s w e true v = Adds s w e v × ((x : World) → Adds s w e x → x ≡ v)
-IsTried s w e false v = (x : World) → Adds s w e x → ⊥
+abbrev pub IsTried : Scenario → World → Item → Bool → World → Type 0
+IsTried s w i true v = Adds s w i v × ((x : World) → Adds s w i x → x ≡ v)
+IsTried s w i false v = (x : World) → Adds s w i x → ⊥
 
 -- there is one nexus for each that the scenario declares, and just the guests send what they like
 pub record ActFor (s : Scenario) (w : World) : Type 0 where

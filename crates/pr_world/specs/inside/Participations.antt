@@ -1,14 +1,17 @@
 -- What is left of each nexus at work, and one event of it.
-use Rattle.std.specs.Prelude.{◌≡◌, ℕ, ◌≤◌, Bool, true, false, List, [], Option, Some, None, length, map}
+use Rattle.std.specs.Prelude.{◌≡◌, ℕ, ◌≤◌, Bool, true, false, List, [], ◌∷◌, Option, Some, None, length, map}
 use Rattle.pr_cdb.specs.declared.command.Command.{Command}
 use Rattle.pr_cdb.specs.declared.wire.Request.TheVariants.{Plain}
 use Rattle.pr_cdb.specs.Requests.{plain_request, request_of_wire}
 use Rattle.pr_cdb.specs.Spelling.{spelling}
 use Rattle.pr_unit.specs.UnitStates.{UnitState}
-use Rattle.pr_unit.specs.Steps.{Step, LowestBy, decision}
 use Rattle.pr_script.specs.declared.limits.TheConstants.{MOST_OPEN}
 use Rattle.pr_script.specs.Depths.{depth_of_all}
 use Rattle.pr_roles.specs.declared.entry.Entry.{Entry}
+use Rattle.pr_roles.specs.declared.item.Item.{Item}
+use Rattle.pr_roles.specs.declared.item.Item.TheVariants.{Sent}
+use Rattle.pr_roles.specs.declared.how.How.{How}
+use Rattle.pr_roles.specs.Answers.{TakenAnswer}
 use Rattle.pr_roles.specs.declared.limits.TheConstants.{MOST_PLANNED}
 use Rattle.pr_roles.specs.Scenarios.{Scenario, Task, Scripted, Planned}
 use Rattle.pr_roles.specs.Worlds.{World, Control, Going, Trapped, Free, control_of, entry_of}
@@ -40,28 +43,27 @@ abbrev pub IsShort : Task → Type 0
 IsShort (Scripted script budget) = depth_of_all script ≤ MOST_OPEN
 IsShort (Planned commands) = length commands ≤ MOST_PLANNED
 
-abbrev pub schedule_by : UnitState → List Participation → List Entry → Schedule
-schedule_by unit participations entries = record {
-  world = record { unit = unit; controls = map (λ s. s.control) participations; entries = entries };
+abbrev pub schedule_by : UnitState → List Participation → List Item → Schedule
+schedule_by unit participations history = record {
+  world = record { unit = unit; controls = map (λ s. s.control) participations; history = history };
   plans = map (λ s. s.plan) participations;
 }
 
--- The command of h was spelled, executed and answered, by whichever of the attentions that may be reported; what was
--- spelled is read as the command.
-pub record IsSent (u : UnitState) (h : ℕ) (c : Command) (e : Entry) (v : UnitState) : Type 0 where
-  pub step : Step u h (Plain c) e.reply v
+-- The command of h was spelled, and answered so; what was spelled is read as the command.
+pub record IsSent (how : How) (u : UnitState) (h : ℕ) (c : Command) (e : Entry) (v : UnitState) : Type 0 where
+  pub taken : TakenAnswer how u h (Plain c) e.reply v
   pub entry : e ≡ entry_of h (spelling c) e.reply
   pub read : request_of_wire e.wire ≡ plain_request c
-
--- the same by this unit, which reports the lowest code where it may choose
-pub record IsSentHere (u : UnitState) (h : ℕ) (c : Command) (e : Entry) (v : UnitState) : Type 0 where
-  pub sent : IsSent u h c e v
-  pub lowest : LowestBy (decision u h (Plain c)) u h (Plain c) e.reply
 
 abbrev pub is_free : Control → Bool
 is_free (Going l) = false
 is_free (Trapped line) = false
 is_free Free = true
+
+-- what such an answer adds to the history
+abbrev pub items_of : Option Entry → List Item
+items_of None = []
+items_of (Some e) = Sent e ∷ []
 
 -- where an entry was sent, that is one event; else the world is as it was
 abbrev pub HappensBy : Scenario → ℕ → Option Entry → World → World → Type 0
@@ -74,4 +76,4 @@ pub record StandsFor (s : Scenario) (u : UnitState) (participations : List Parti
   pub tasks : map (λ x. is_free x.control) participations ≡ map (λ n. is_planned n.task) s.nexuses
 
 abbrev pub schedule_of : Course → Schedule
-schedule_of c = schedule_by c.unit (map participation_of c.participants.items) c.entries.items
+schedule_of c = schedule_by c.unit (map participation_of c.participants.items) c.history.items

@@ -5,12 +5,14 @@ use Rattle.pr_unit.specs.UnitStates.{UnitState}
 use Rattle.pr_script.specs.Scripts.{Standing, ready, stopped}
 use Rattle.pr_roles.specs.declared.role.Clause.{Clause}
 use Rattle.pr_roles.specs.declared.entry.Entry.{Entry}
+use Rattle.pr_roles.specs.declared.how.How.{How}
 use Rattle.pr_roles.specs.Scenarios.{Scenario, role}
 use Rattle.pr_roles.specs.Worlds.{Control, Going, Trapped, Free, control, standing_of, control_after}
-use Rattle.pr_roles.specs.Schedules.{Schedule, plan, is_held_back}
+use Rattle.pr_roles.specs.Answers.{how_now}
+use Rattle.pr_roles.specs.Schedules.{Schedule, plan, is_passed_over}
 use Rattle.pr_world.specs.declared.act.Act.{Act}
 use Rattle.pr_world.specs.declared.act.Act.TheVariants as act
-use Rattle.pr_world.specs.inside.Participations.{Participation, participation, IsSentHere}
+use Rattle.pr_world.specs.inside.Participations.{Participation, participation, IsSent}
 
 -- ---- which of the things that there are to do
 
@@ -37,18 +39,18 @@ host_does (Some (ready line c)) = sends
 host_does (Some (stopped word)) = stops word
 
 -- of a guest with this role, and this left of its plan
-abbrev pub guest_does : List Clause → UnitState → ℕ → List Command → Doing
-guest_does clauses u g [] = is_done
-guest_does clauses u g (c ∷ cs) = if is_held_back clauses u g c then passes else sends
+abbrev pub guest_does : How → List Clause → UnitState → ℕ → List Command → Doing
+guest_does how clauses u g [] = is_done
+guest_does how clauses u g (c ∷ cs) = if is_passed_over how clauses u g c then passes else sends
 
-abbrev pub does_as : Control → List Clause → UnitState → ℕ → List Command → Doing
-does_as (Going l) clauses u h planned = host_does (standing_of (Going l))
-does_as (Trapped line) clauses u h planned = is_trapped
-does_as Free clauses u h planned = guest_does clauses u h planned
+abbrev pub does_as : How → Control → List Clause → UnitState → ℕ → List Command → Doing
+does_as how (Going l) clauses u h planned = host_does (standing_of (Going l))
+does_as how (Trapped line) clauses u h planned = is_trapped
+does_as how Free clauses u h planned = guest_does how clauses u h planned
 
--- what h does, if this is its turn
-abbrev pub does : Scenario → Schedule → ℕ → Doing
-does s x h = does_as (control x.world h) (role s h) x.world.unit h (plan x h)
+-- what h does, if this is its turn, and it is to be answered so
+abbrev pub does : Scenario → Schedule → ℕ → How → Doing
+does s x h how = does_as (how_now s x.world.history h how) (control x.world h) (role s h) x.world.unit h (plan x h)
 
 -- ---- and what comes of it
 
@@ -65,30 +67,30 @@ abbrev pub Rests : UnitState → Participation → Participation → UnitState �
 Rests u x y v = (y ≡ x) × (v ≡ u)
 
 -- a host sends its command where it is ready, and takes the reply
-abbrev pub HostActs : Option Standing → ℕ → Participation → UnitState → Option Entry → Participation → UnitState → Type 0
-HostActs (Some (ready line c)) h x u (Some e) y v = IsSentHere u h c e v × (y ≡ participation (control_after line x.control e.reply) x.plan)
-HostActs (Some (ready line c)) h x u None y v = ⊥
-HostActs (Some (stopped word)) h x u (Some e) y v = ⊥
-HostActs (Some (stopped word)) h x u None y v = Rests u x y v
-HostActs None h x u (Some e) y v = ⊥
-HostActs None h x u None y v = Rests u x y v
+abbrev pub HostActs : How → Option Standing → ℕ → Participation → UnitState → Option Entry → Participation → UnitState → Type 0
+HostActs how (Some (ready line c)) h x u (Some e) y v = IsSent how u h c e v × (y ≡ participation (control_after line x.control e.reply) x.plan)
+HostActs how (Some (ready line c)) h x u None y v = ⊥
+HostActs how (Some (stopped word)) h x u (Some e) y v = ⊥
+HostActs how (Some (stopped word)) h x u None y v = Rests u x y v
+HostActs how None h x u (Some e) y v = ⊥
+HostActs how None h x u None y v = Rests u x y v
 
 -- a guest sends its next command, unless that is held back
-abbrev pub SendsOr : Bool → ℕ → UnitState → Command → Option Entry → UnitState → Type 0
-SendsOr true h u c (Some e) v = ⊥
-SendsOr true h u c None v = v ≡ u
-SendsOr false h u c (Some e) v = IsSentHere u h c e v
-SendsOr false h u c None v = ⊥
+abbrev pub SendsOr : How → Bool → ℕ → UnitState → Command → Option Entry → UnitState → Type 0
+SendsOr how true h u c (Some e) v = ⊥
+SendsOr how true h u c None v = v ≡ u
+SendsOr how false h u c (Some e) v = IsSent how u h c e v
+SendsOr how false h u c None v = ⊥
 
-abbrev pub GuestActs : List Clause → ℕ → List Command → UnitState → Option Entry → Participation → UnitState → Type 0
-GuestActs clauses h [] u (Some e) y v = ⊥
-GuestActs clauses h [] u None y v = Rests u (participation Free []) y v
-GuestActs clauses h (c ∷ cs) u e y v = SendsOr (is_held_back clauses u h c) h u c e v × (y ≡ participation Free cs)
+abbrev pub GuestActs : How → List Clause → ℕ → List Command → UnitState → Option Entry → Participation → UnitState → Type 0
+GuestActs how clauses h [] u (Some e) y v = ⊥
+GuestActs how clauses h [] u None y v = Rests u (participation Free []) y v
+GuestActs how clauses h (c ∷ cs) u e y v = SendsOr how (is_passed_over how clauses u h c) h u c e v × (y ≡ participation Free cs)
 
-abbrev pub ActsAs : Control → List Clause → ℕ → Participation → UnitState → Option Entry → Participation → UnitState → Type 0
-ActsAs (Going l) clauses h x u e y v = HostActs (standing_of (Going l)) h x u e y v
-ActsAs (Trapped line) clauses h x u e y v = HostActs None h x u e y v
-ActsAs Free clauses h x u e y v = GuestActs clauses h x.plan u e y v
+abbrev pub ActsAs : How → Control → List Clause → ℕ → Participation → UnitState → Option Entry → Participation → UnitState → Type 0
+ActsAs how (Going l) clauses h x u e y v = HostActs how (standing_of (Going l)) h x u e y v
+ActsAs how (Trapped line) clauses h x u e y v = HostActs how None h x u e y v
+ActsAs how Free clauses h x u e y v = GuestActs how clauses h x.plan u e y v
 
-abbrev pub Acts : List Clause → ℕ → Participation → UnitState → Option Entry → Participation → UnitState → Type 0
-Acts clauses h x u e y v = ActsAs x.control clauses h x u e y v
+abbrev pub Acts : How → List Clause → ℕ → Participation → UnitState → Option Entry → Participation → UnitState → Type 0
+Acts how clauses h x u e y v = ActsAs how x.control clauses h x u e y v

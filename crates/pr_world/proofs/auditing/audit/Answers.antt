@@ -9,11 +9,11 @@ admits-requires c = c.loop-index.invariant.acts
 
 pub returns-then-not-admits-clause-illegal : goal.returns-then-not-admits-clause-illegal
 returns-then-not-admits-clause-illegal c =
-    first_illegal _ _ _ _ _ c.loop-index-test.true c.index-entries-index.is c.loop-index.invariant c.if-not-admits.ensures.tried
+    first_illegal _ _ _ _ _ c.loop-index-test.true c.index-history-index.is c.loop-index.invariant c.if-not-admits.ensures.tried
 
 pub loop-index-preserved : goal.loop-index-preserved
 loop-index-preserved c =
-    known_more _ _ _ _ _ _ c.loop-index-test.true c.index-entries-index.is c.loop-index.invariant c.if-not-admits.ensures.tried c.if-not-admits.ensures.acts
+    known_more _ _ _ _ _ _ c.loop-index-test.true c.index-history-index.is c.loop-index.invariant c.if-not-admits.ensures.tried c.if-not-admits.ensures.acts
 
 pub returns-clause-legal : goal.returns-clause-legal
 returns-clause-legal c = known_all _ _ _ _ c.loop-index-test.false c.loop-index.invariant

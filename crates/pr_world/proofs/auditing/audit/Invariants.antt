@@ -3,6 +3,6 @@ use Rattle.pr_roles.specs.Scenarios.{scenario_of}
 use Rattle.pr_world.proofs.Knowing.{IsKnown}
 use Rattle.pr_world.proofs.auditing.audit.Given as goal
 
--- the audit is past the entries before this one
+-- the audit is past the history before this one
 abbrev pub invariant-loop-index : goal.invariant-loop-index
-invariant-loop-index l = IsKnown (scenario_of l.scenario) (take l.index l.entries) l.auditor
+invariant-loop-index l = IsKnown (scenario_of l.scenario) (take l.index l.history) l.auditor

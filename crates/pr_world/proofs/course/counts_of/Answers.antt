@@ -8,5 +8,5 @@ pub loop-host-preserved : goal.loop-host-preserved
 loop-host-preserved c =
     c.in_ok-push.ensures.items
     ∙ (ap (λ cs. cs ++ c.commands_by.result ∷ []) c.loop-host.invariant
-    ∙ (ap (λ k. map (λ h. commands_by c.args.entries.now h) (range_with_len 0 c.loop-host.host) ++ k ∷ []) c.commands_by.ensures
-    ∙ sym (map-range_with_len_more (λ h. commands_by c.args.entries.now h) 0 c.loop-host.host c.loop-host.host (omega (arith)))))
+    ∙ (ap (λ k. map (λ h. commands_by c.args.history.now h) (range_with_len 0 c.loop-host.host) ++ k ∷ []) c.commands_by.ensures
+    ∙ sym (map-range_with_len_more (λ h. commands_by c.args.history.now h) 0 c.loop-host.host c.loop-host.host (omega (arith)))))

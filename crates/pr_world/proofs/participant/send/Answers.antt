@@ -1,7 +1,14 @@
+use Rattle.std.proofs.Common.{ap, ◌∙◌}
 use Rattle.pr_cdb.specs.declared.wire.Request.TheVariants.{Plain}
+use Rattle.pr_unit.specs.UnitStates.{UnitState}
 use Rattle.pr_unit.proofs.Steps.{hosts-step}
 use Rattle.pr_world.proofs.Steps.{executed}
 use Rattle.pr_world.proofs.participant.send.Goals as goal
+use Rattle.pr_world.proofs.participant.send.Goals.{in-Plain+in-Ok, in-Busy, in-Full}
 
 pub returns-clause-hosts : goal.returns-clause-hosts
-returns-clause-hosts c = hosts-step _ _ (Plain c.args.command) _ _ (executed _ _ _ _ _ _ c.encode-wire.ensures.read_again c.in-Ok.ensures).step
+returns-clause-hosts c = elim c.match-how.branch [
+  | in-Plain+in-Ok w ↦ ap (λ (u : UnitState). u.registry.hosts) w.unit-is ∙ hosts-step _ _ (Plain c.args.command) _ _ (executed _ _ _ _ _ _ c.encode-wire.ensures.read_again w.in-Ok.ensures).step
+  | in-Busy w ↦ ap (λ (u : UnitState). u.registry.hosts) w.unit-is
+  | in-Full w ↦ ap (λ (u : UnitState). u.registry.hosts) w.unit-is
+]

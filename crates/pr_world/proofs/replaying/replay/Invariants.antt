@@ -1,7 +1,7 @@
 use Rattle.pr_roles.specs.Scenarios.{scenario_of}
-use Rattle.pr_world.proofs.Running.{IsRunning}
+use Rattle.pr_world.proofs.Running.{IsRunning, plain}
 use Rattle.pr_world.proofs.replaying.replay.Given as goal
 
 -- the turns so far
 abbrev pub invariant-loop-host : goal.invariant-loop-host
-invariant-loop-host l = IsRunning (scenario_of l.scenario) l.steps l.host-index l.course
+invariant-loop-host l = IsRunning (scenario_of l.scenario) (plain l.steps) l.host-index l.course

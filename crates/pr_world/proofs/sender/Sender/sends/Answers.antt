@@ -2,4 +2,4 @@ use Rattle.pr_world.proofs.Judging.{guest_judged}
 use Rattle.pr_world.proofs.sender.Sender.sends.Goals as goal
 
 pub returns-in-Guest : goal.returns-in-Guest
-returns-in-Guest c = record { judged = guest_judged _ _ _ _ _ _ c.in-Guest.is c.guest_sends.ensures }
+returns-in-Guest c = record { judged = guest_judged _ _ _ _ _ _ _ c.in-Guest.is c.guest_sends.ensures }
