@@ -1,13 +1,15 @@
 -- What a comparison of a world with the seats' lists says.
-use Rattle.std.proofs.Common.{◌≡◌, ℕ, suc, ◌+◌, ◌<◌, ◌≤◌, ◌==◌, Bool, true, false, IsTrue, List, [], ◌∷◌, ◌++◌, length, take, get_or, Option, Some, refl, sym, ap, ◌∙◌, subst, cond, arith}
-use Rattle.std.specs.Prelude.{◌↔◌, map}
-use Rattle.std.specs.List.{All, list_all, range_with_len}
-use Rattle.std.proofs.lemmas.Bool.{false≢true}
+use Rattle.std.proofs.Common.{◌≡◌, ℕ, ◌+◌, ◌<◌, ◌≤◌, ◌==◌, Bool, true, false, IsTrue, List, [], ◌∷◌, ◌++◌, length, take, get_or, Option, Some, None, refl, sym, ap, ◌∙◌, subst, arith}
+use Rattle.std.specs.Prelude.{◌↔◌, if◌then◌else◌, map, nat_lt}
+use Rattle.std.specs.List.{cons_option, list_all, range_with_len}
+use Rattle.std.proofs.lemmas.Bool.{and_parts, false≢true}
 use Rattle.std.proofs.lemmas.Bool.Decides.{nat_tests}
 use Rattle.std.proofs.lemmas.List.{get_or-map, length-map, map-append, map_more, take_all}
 use Rattle.std.proofs.lemmas.List.Folds.{list_all-map}
 use Rattle.std.proofs.lemmas.List.FromFn.{get_or-map-range_with_len, length-range_with_len, map-range_with_len_more}
 use Rattle.pr_roles.specs.declared.entry.Entry.{Entry}
+use Rattle.pr_roles.specs.declared.item.Item.{Item}
+use Rattle.pr_roles.specs.declared.item.Item.TheVariants.{Sent, Reset}
 use Rattle.pr_roles.specs.declared.parts.Parts.{Parts}
 use Rattle.pr_roles.specs.Scenarios.{Scenario, scenario_of}
 use Rattle.pr_roles.specs.Schedules.{Schedule, plan}
@@ -18,6 +20,7 @@ use Rattle.pr_world.specs.Ends.{Ending, ending, ending_of}
 use Rattle.pr_world.specs.Progress.{Progress}
 use Rattle.pr_shared.specs.Guests.{guests_of}
 use Rattle.pr_shared.specs.Histories.{IsLegalWorld, entries_by, entries_of}
+use Rattle.pr_shared.specs.inside.Senders.{is_sent_before}
 use Rattle.pr_shared.specs.Outcomes.{IsClosed, IsHalted, endings_in, is_over}
 
 -- ---- list by list
@@ -48,25 +51,25 @@ not_same s mine w p b not is tells = (
   λ closed. absurd (false≢true (sym not ∙ tells.1 (ap scenario_of is ∙ closed.scenario))),
 )
 
-pub not_own : {X : Type 0} (s : Scenario) (w : Progress) (xs : List X) (g : X → List Entry) (history : List Entry) (b : Bool) → b ≡ false → history ≡ w.schedule.world.entries
+pub not_own : {X : Type 0} (s : Scenario) (w : Progress) (xs : List X) (g : X → List Entry) (history : List Item) (b : Bool) → b ≡ false → history ≡ w.schedule.world.history
     → IsTrue b ↔ (entries_by (length xs) history ≡ map g xs) → IsTrue false ↔ IsClosed s (map g xs) w
 not_own s w xs g history b not is tells = (
   λ no. absurd (false≢true no),
-  λ closed. absurd (false≢true (sym not ∙ tells.1 (ap (entries_by (length xs)) is ∙ (sym (ap (λ n. entries_by n w.schedule.world.entries) (length-map xs g)) ∙ closed.own)))),
+  λ closed. absurd (false≢true (sym not ∙ tells.1 (ap (entries_by (length xs)) is ∙ (sym (ap (λ n. entries_by n w.schedule.world.history) (length-map xs g)) ∙ closed.own)))),
 )
 
 over_is : (s : Scenario) (w : Progress) (ends : List End) → map (λ e. Some (ending_of e)) ends ≡ endings_in s w.schedule → list_all (λ e. is_over (Some (ending_of e))) ends ≡ list_all is_over (endings_in s w.schedule)
 over_is s w ends are = sym (list_all-map is_over (λ e. Some (ending_of e)) ends) ∙ ap (list_all is_over) are
 
-pub just_over : {X : Type 0} (s : Scenario) (w : Progress) (p : Parts) (xs : List X) (g : X → List Entry) (history : List Entry) (ends : List End) (a b r : Bool) → a ≡ true → p ≡ w.scenario
-    → IsTrue a ↔ (scenario_of p ≡ s) → b ≡ true → history ≡ w.schedule.world.entries → IsTrue b ↔ (entries_by (length xs) history ≡ map g xs)
+pub just_over : {X : Type 0} (s : Scenario) (w : Progress) (p : Parts) (xs : List X) (g : X → List Entry) (history : List Item) (ends : List End) (a b r : Bool) → a ≡ true → p ≡ w.scenario
+    → IsTrue a ↔ (scenario_of p ≡ s) → b ≡ true → history ≡ w.schedule.world.history → IsTrue b ↔ (entries_by (length xs) history ≡ map g xs)
     → map (λ e. Some (ending_of e)) ends ≡ endings_in (scenario_of w.scenario) w.schedule → r ≡ list_all (λ e. is_over (Some (ending_of e))) ends → IsTrue r ↔ IsClosed s (map g xs) w
 just_over s w p xs g history ends a b r same is tells own is' tells' are over =
     let all = over ∙ over_is (scenario_of w.scenario) w ends are in (
       λ yes.
           record {
             scenario = sym (ap scenario_of is) ∙ tells.0 same;
-            own = ap (λ n. entries_by n w.schedule.world.entries) (length-map xs g) ∙ (sym (ap (entries_by (length xs)) is') ∙ tells'.0 own);
+            own = ap (λ n. entries_by n w.schedule.world.history) (length-map xs g) ∙ (sym (ap (entries_by (length xs)) is') ∙ tells'.0 own);
             over = sym all ∙ yes;
           },
       λ closed. all ∙ closed.over,
@@ -74,12 +77,13 @@ just_over s w p xs g history ends a b r same is tells own is' tells' are over =
 
 -- ---- who sent nothing
 
-pub none_past : (history : List Entry) (count h : ℕ) → All (λ e. e.host < count) history → count ≤ h → entries_of history h ≡ []
+pub none_past : (history : List Item) (count h : ℕ) → list_all (is_sent_before count) history ≡ true → count ≤ h → entries_of history h ≡ []
 none_past [] count h before past = refl
-none_past (e ∷ es) count h before past =
-    let less : e.host < count = before 0 e (omega arith) in
-    let other : (e.host == h) ≡ false = grind (arith, nat_tests) in
-    ap (λ b. cond b (e ∷ entries_of es h) (entries_of es h)) other ∙ none_past es count h (λ k d there. before (suc k) d (omega arith)) past
+none_past (Sent e ∷ items) count h before past =
+    let parts = and_parts (nat_lt e.host count) (list_all (is_sent_before count) items) before in
+    let other : (e.host == h) ≡ false = grind (arith, nat_tests, parts.0) in
+    ap (λ b. cons_option (if b then Some e else None) (entries_of items h)) other ∙ none_past items count h parts.1 past
+none_past (Reset ∷ items) count h before past = none_past items count h before past
 
 -- ---- how each stands
 
@@ -99,29 +103,29 @@ pub guests_length : (s : Scenario) (guests : List Bool) → guests_of s ≡ gues
 guests_length s guests are = sym (length-map s.nexuses (λ n. is_planned n.task)) ∙ ap length are
 
 -- so many lists, which are those of the seats, are what was sent
-own_lists : {X Y : Type 0} (lists xs : List X) (g : X → List Entry) (seats : List Y) (f : Y → List Entry) (sent history : List Entry) (n : ℕ) → lists ≡ xs → map g xs ≡ map f seats → length seats ≡ n
+own_lists : {X Y : Type 0} (lists xs : List X) (g : X → List Entry) (seats : List Y) (f : Y → List Entry) (sent history : List Item) (n : ℕ) → lists ≡ xs → map g xs ≡ map f seats → length seats ≡ n
     → history ≡ sent → entries_by (length lists) sent ≡ map g lists → entries_by n history ≡ map f seats
 own_lists lists xs g seats f sent history n same mine long is own =
     let all : length lists ≡ n = sym (length-map lists g) ∙ (ap length (ap (map g) same ∙ mine) ∙ (length-map seats f ∙ long)) in
     ap (entries_by n) is ∙ (sym (ap (λ k. entries_by k sent) all) ∙ (own ∙ (ap (map g) same ∙ mine)))
 
-pub closed_own : {X Y : Type 0} (s : Scenario) (w : Progress) (lists xs : List X) (g : X → List Entry) (seats : List Y) (f : Y → List Entry) (history : List Entry) (n : ℕ) → IsClosed s (map g lists) w
-    → lists ≡ xs → map g xs ≡ map f seats → length seats ≡ n → history ≡ w.schedule.world.entries → entries_by n history ≡ map f seats
+pub closed_own : {X Y : Type 0} (s : Scenario) (w : Progress) (lists xs : List X) (g : X → List Entry) (seats : List Y) (f : Y → List Entry) (history : List Item) (n : ℕ) → IsClosed s (map g lists) w
+    → lists ≡ xs → map g xs ≡ map f seats → length seats ≡ n → history ≡ w.schedule.world.history → entries_by n history ≡ map f seats
 closed_own s w lists xs g seats f history n closed same mine long is =
-    own_lists lists xs g seats f w.schedule.world.entries history n same mine long is (ap (λ k. entries_by k w.schedule.world.entries) (sym (length-map lists g)) ∙ closed.own)
+    own_lists lists xs g seats f w.schedule.world.history history n same mine long is (ap (λ k. entries_by k w.schedule.world.history) (sym (length-map lists g)) ∙ closed.own)
 
-pub halted_own : {X Y : Type 0} (lists xs : List X) (g : X → List Entry) (seats : List Y) (f : Y → List Entry) (sent known history : List Entry) (n : ℕ) → lists ≡ xs → map g xs ≡ map f seats
+pub halted_own : {X Y : Type 0} (lists xs : List X) (g : X → List Entry) (seats : List Y) (f : Y → List Entry) (sent known history : List Item) (n : ℕ) → lists ≡ xs → map g xs ≡ map f seats
     → length seats ≡ n → known ≡ sent → history ≡ sent → entries_by (length lists) known ≡ map g lists → entries_by n history ≡ map f seats
 halted_own lists xs g seats f sent known history n same mine long is is' own =
     own_lists lists xs g seats f sent history n same mine long is' (ap (entries_by (length lists)) (sym is) ∙ own)
 
 -- ---- a history that was halted
 
-pub halted : (s t : Scenario) (y : Schedule) (known history : List Entry) (count n : ℕ) → t ≡ s → IsLegalWorld t y → known ≡ y.world.entries → All (λ e. e.host < count) known → count ≡ n
-    → history ≡ y.world.entries → IsHalted s n history
+pub halted : (s t : Scenario) (y : Schedule) (known history : List Item) (count n : ℕ) → t ≡ s → IsLegalWorld t y → known ≡ y.world.history → list_all (is_sent_before count) known ≡ true → count ≡ n
+    → history ≡ y.world.history → IsHalted s n history
 halted s t y known history count n same legal is before all is' =
     let here : IsLegalWorld s y = subst (λ u. IsLegalWorld u y) same legal in
-    let less : All (λ e. e.host < n) history = subst (λ k. All (λ e. e.host < k) history) all (subst (All (λ e. e.host < count)) (is ∙ sym is') before) in
+    let less : list_all (is_sent_before n) history ≡ true = subst (λ k. list_all (is_sent_before k) history ≡ true) all (subst (λ items. list_all (is_sent_before count) items ≡ true) (is ∙ sym is') before) in
     record {
       start = here.1.start;
       first = here.1.first;

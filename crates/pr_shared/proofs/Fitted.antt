@@ -1,27 +1,19 @@
 -- What the nexuses of a scenario that fits are, as they are kept.
-use Rattle.std.proofs.Common.{◌≡◌, ℕ, zero, suc, ◌+◌, ◌<◌, ◌≤◌, ◌==◌, not, true, nat_le, Bool, List, [], ◌∷◌, length, refl, sym, ap, ◌∙◌, subst, get_or, arith}
-use Rattle.std.specs.Prelude.{map, bytes_eq, vec_len}
+use Rattle.std.proofs.Common.{◌≡◌, ℕ, zero, suc, ◌+◌, ◌<◌, ◌≤◌, true, Bool, List, [], ◌∷◌, length, refl, sym, ap, ◌∙◌, subst, get_or, arith}
+use Rattle.std.specs.Prelude.{map, vec_len}
 use Rattle.std.specs.List.{All, list_all}
 use Rattle.std.proofs.lemmas.Bool.{and_parts}
-use Rattle.std.proofs.lemmas.Bool.Decides.{nat_tests}
 use Rattle.std.proofs.lemmas.List.{length-map}
 use Rattle.pr_cdb.specs.declared.codes.TheConstants.{MOST_NEXUSES}
 use Rattle.pr_roles.specs.declared.parts.Nexus.{Nexus as NexusPart}
 use Rattle.pr_roles.specs.declared.parts.Parts.{Parts}
-use Rattle.pr_roles.specs.Fitting.{Fits, are_distinct, are_nexuses, is_nexus}
-use Rattle.pr_roles.specs.Scenarios.{Nexus, nexus_of, scenario_of, task_of}
+use Rattle.pr_roles.specs.Fitting.{Fits, is_nexus}
+use Rattle.pr_roles.proofs.Allowed.{each_nexus, few_parts}
+use Rattle.pr_roles.specs.Scenarios.{nexus_of, scenario_of, task_of}
 use Rattle.pr_world.specs.Courses.{is_planned}
 use Rattle.pr_world.specs.Rooms.{room_of}
 use Rattle.pr_world.proofs.Reserving.{room_of_nexus}
 use Rattle.pr_shared.specs.Guests.{guests_of}
-
-few : (keys : List ℕ) (ns : List Nexus) → are_nexuses keys ns ≡ true → length ns ≤ MOST_NEXUSES
-few keys ns is =
-    let within : nat_le (length ns) MOST_NEXUSES ≡ true = (and_parts (nat_le (length ns) MOST_NEXUSES) _ (and_parts (not (length ns == 0)) _ is).1).0 in
-    grind (arith, nat_tests)
-
-pub each : (keys : List ℕ) (ns : List Nexus) → are_nexuses keys ns ≡ true → list_all (is_nexus keys) ns ≡ true
-each keys ns is = (and_parts (are_distinct bytes_eq (map (λ n. n.name) ns)) _ (and_parts (nat_le (length ns) MOST_NEXUSES) _ (and_parts (not (length ns == 0)) _ is).1).1).1
 
 short_each : (keys : List ℕ) (ns : List NexusPart) (i : ℕ) (d : NexusPart) → list_all (is_nexus keys) (map nexus_of ns) ≡ true → i < length ns → room_of (task_of (get_or ns i d).task) ≤ 4096
 short_each keys [] i d all there = absurd (omega arith)
@@ -31,19 +23,18 @@ short_each keys (n ∷ ns) (suc i) d all there = short_each keys ns i d (and_par
 whole : (p q : Parts) (ns : List NexusPart) → q ≡ p → ns ≡ q.nexuses.items → ns ≡ p.nexuses.items
 whole p q ns same items = items ∙ ap (λ r. r.nexuses.items) same
 
--- ---- there are at most eight, and none has room for more than 4,096
+-- ---- there are at most as many as a unit knows, and none has room for more than 4,096
 
 pub few_nexuses : (p q : Parts) (ns : List NexusPart) → Fits (scenario_of p) → q ≡ p → ns ≡ q.nexuses.items → length ns ≤ MOST_NEXUSES
 unfolding scenario_of
 few_nexuses p q ns fits same items =
-    let within : length (map nexus_of p.nexuses.items) ≤ MOST_NEXUSES = few p.keys.items (map nexus_of p.nexuses.items) fits.nexuses in
-    omega (arith, within, length-map p.nexuses.items nexus_of, ap length (whole p q ns same items))
+    omega (arith, few_parts p fits, ap length (whole p q ns same items))
 
 pub short_nexuses : (p q : Parts) (ns : List NexusPart) → Fits (scenario_of p) → q ≡ p → ns ≡ q.nexuses.items → All (λ n. room_of (task_of n.task) ≤ 4096) ns
 unfolding scenario_of
 short_nexuses p q ns fits same items =
     subst (All (λ n. room_of (task_of n.task) ≤ 4096)) (sym (whole p q ns same items))
-    (λ i d there. short_each p.keys.items p.nexuses.items i d (each p.keys.items (map nexus_of p.nexuses.items) fits.nexuses) there)
+    (λ i d there. short_each p.keys.items p.nexuses.items i d (each_nexus (scenario_of p) fits) there)
 
 -- ---- as many as guests are told of
 

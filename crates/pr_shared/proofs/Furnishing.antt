@@ -41,5 +41,5 @@ paired_more xs ys x zs n z f g pushed there at is before =
 
 -- ---- nothing was sent at first
 
-pub none_sent : (s : Scenario) (y : Schedule) → IsReached s [] y → sent_in y.world.entries ≡ 0
-none_sent s y reached = ap (λ z. length z.world.entries) reached.scheduled
+pub none_sent : (s : Scenario) (y : Schedule) → IsReached s [] y → sent_in y.world.history ≡ 0
+none_sent s y reached = ap (λ z. sent_in z.world.history) reached.scheduled

@@ -1,68 +1,67 @@
--- A list compared, entry by entry, with those of a history that pass a test.
-use Rattle.std.proofs.Common.{◌≡◌, ℕ, suc, ◌+◌, ◌-◌, ◌<◌, ◌≤◌, ◌==◌, Bool, true, false, IsTrue, List, [], ◌∷◌, ◌++◌, length, take, drop, get_or, refl, sym, ap, ◌∙◌, cond, arith, length-append}
+-- A list compared, entry by entry, with what a function finds in the items of a history.
+use Rattle.std.proofs.Common.{◌≡◌, ℕ, suc, ◌+◌, ◌-◌, ◌<◌, ◌≤◌, ◌==◌, Bool, IsTrue, List, [], ◌∷◌, ◌++◌, length, take, drop, get_or, Option, Some, None, sym, ap, ◌∙◌, arith, length-append}
 use Rattle.std.specs.Prelude.{◌↔◌}
-use Rattle.std.specs.List.{filter}
+use Rattle.std.specs.List.{filter_map, cons_option}
 use Rattle.std.proofs.Math.Seq.{drop-cons}
 use Rattle.std.proofs.lemmas.Bool.Decides.{nat_tests}
-use Rattle.std.proofs.lemmas.List.{get_or-append_right, length-take-le, take-append-drop, take_all, take_more}
-use Rattle.std.proofs.lemmas.List.Elements.{filter-append}
+use Rattle.std.proofs.lemmas.List.{append-nil, get_or-append_right, length-take-le, take-append-drop, take_all, take_more}
+use Rattle.std.proofs.lemmas.List.Elements.{filter_map-append}
 
--- ---- one entry more of the history
+-- ---- one item more of the history
 
-filter_more : {X : Type 0} (p : X → Bool) (xs : List X) (i : ℕ) (x : X) (b : Bool) → i < length xs → x ≡ get_or xs i x → p x ≡ b
-    → filter p (take (i + 1) xs) ≡ filter p (take i xs) ++ cond b (x ∷ []) []
-filter_more p xs i x b there at is =
-    ap (filter p) (take_more xs i x there ∙ ap (λ y. take i xs ++ y ∷ []) (sym at)) ∙ (filter-append p (take i xs) (x ∷ []) ∙ ap (λ c. filter p (take i xs) ++ cond c (x ∷ []) []) is)
+found_more : {X Y : Type 0} (f : X → Option Y) (xs : List X) (i : ℕ) (x : X) (o : Option Y) → i < length xs → x ≡ get_or xs i x → f x ≡ o
+    → filter_map f (take (i + 1) xs) ≡ filter_map f (take i xs) ++ cons_option o []
+found_more f xs i x o there at is =
+    ap (filter_map f) (take_more xs i x there ∙ ap (λ y. take i xs ++ y ∷ []) (sym at))
+    ∙ (filter_map-append f (take i xs) (x ∷ []) ∙ ap (λ p. filter_map f (take i xs) ++ cons_option p []) is)
 
--- it passes, and is the next of the list
-pub passes_more : {X : Type 0} (p : X → Bool) (xs mine : List X) (i n : ℕ) (x y : X) → i < length xs → x ≡ get_or xs i x → p x ≡ true → n < length mine → y ≡ get_or mine n y → x ≡ y
-    → filter p (take i xs) ≡ take n mine → filter p (take (i + 1) xs) ≡ take (n + 1) mine
-passes_more p xs mine i n x y there at is within next same before =
-    filter_more p xs i x true there at is ∙ (ap (λ ys. ys ++ x ∷ []) before ∙ (ap (λ z. take n mine ++ z ∷ []) (same ∙ next) ∙ sym (take_more mine n y within)))
+-- what is found there is the next of the list
+pub passes_more : {X Y : Type 0} (f : X → Option Y) (xs : List X) (mine : List Y) (i n : ℕ) (x : X) (e y : Y) → i < length xs → x ≡ get_or xs i x → f x ≡ Some e → n < length mine → y ≡ get_or mine n y → e ≡ y
+    → filter_map f (take i xs) ≡ take n mine → filter_map f (take (i + 1) xs) ≡ take (n + 1) mine
+passes_more f xs mine i n x e y there at is within next same before =
+    found_more f xs i x (Some e) there at is
+    ∙ (ap (λ ys. ys ++ e ∷ []) before ∙ (ap (λ z. take n mine ++ z ∷ []) (same ∙ next) ∙ sym (take_more mine n y within)))
 
--- it doesn't pass
-pub fails_more : {X : Type 0} (p : X → Bool) (xs mine : List X) (i n : ℕ) (x : X) → i < length xs → x ≡ get_or xs i x → p x ≡ false
-    → filter p (take i xs) ≡ take n mine → filter p (take (i + 1) xs) ≡ take n mine
-fails_more p xs mine i n x there at is before = filter_more p xs i x false there at is ∙ (append_none (filter p (take i xs)) ∙ before)
-  where
-    append_none : {A : Type 0} (ys : List A) → ys ++ [] ≡ ys
-    append_none [] = refl
-    append_none (y ∷ ys) = ap (λ zs. y ∷ zs) (append_none ys)
+-- nothing is found there
+pub fails_more : {X Y : Type 0} (f : X → Option Y) (xs : List X) (mine : List Y) (i n : ℕ) (x : X) → i < length xs → x ≡ get_or xs i x → f x ≡ None
+    → filter_map f (take i xs) ≡ take n mine → filter_map f (take (i + 1) xs) ≡ take n mine
+fails_more f xs mine i n x there at is before = found_more f xs i x None there at is ∙ (append-nil (filter_map f (take i xs)) ∙ before)
 
 -- ---- where the list is another
 
--- what passes is what passed before, an entry that passes, and what passes after it
-filter_split : {X : Type 0} (p : X → Bool) (xs : List X) (i : ℕ) (x : X) → i < length xs → x ≡ get_or xs i x → p x ≡ true
-    → filter p xs ≡ filter p (take i xs) ++ x ∷ filter p (drop (suc i) xs)
-filter_split p xs i x there at is =
+-- what is found is what was found before, what is found here, and what is found after it
+found_split : {X Y : Type 0} (f : X → Option Y) (xs : List X) (i : ℕ) (x : X) (e : Y) → i < length xs → x ≡ get_or xs i x → f x ≡ Some e
+    → filter_map f xs ≡ filter_map f (take i xs) ++ e ∷ filter_map f (drop (suc i) xs)
+found_split f xs i x e there at is =
     let rest : drop i xs ≡ x ∷ drop (suc i) xs = drop-cons xs i x there ∙ ap (λ y. y ∷ drop (suc i) xs) (sym at) in
-    ap (filter p) (sym (take-append-drop i xs) ∙ ap (λ ys. take i xs ++ ys) rest)
-    ∙ (filter-append p (take i xs) (x ∷ drop (suc i) xs) ∙ ap (λ c. filter p (take i xs) ++ cond c (x ∷ filter p (drop (suc i) xs)) (filter p (drop (suc i) xs))) is)
+    ap (filter_map f) (sym (take-append-drop i xs) ∙ ap (λ ys. take i xs ++ ys) rest)
+    ∙ (filter_map-append f (take i xs) (x ∷ drop (suc i) xs) ∙ ap (λ o. filter_map f (take i xs) ++ cons_option o (filter_map f (drop (suc i) xs))) is)
 
 -- it has no next
-pub too_few : {X : Type 0} (p : X → Bool) (xs mine : List X) (i n : ℕ) (x : X) → i < length xs → x ≡ get_or xs i x → p x ≡ true → length mine ≤ n
-    → filter p (take i xs) ≡ take n mine → filter p xs ≡ mine → ⊥
-too_few p xs mine i n x there at is past before all =
-    let split : mine ≡ mine ++ x ∷ filter p (drop (suc i) xs) = sym all ∙ (filter_split p xs i x there at is ∙ ap (λ ys. ys ++ x ∷ filter p (drop (suc i) xs)) (before ∙ take_all n mine past)) in
-    let long : length mine ≡ length mine + length (x ∷ filter p (drop (suc i) xs)) = ap length split ∙ length-append mine (x ∷ filter p (drop (suc i) xs)) in
+pub too_few : {X Y : Type 0} (f : X → Option Y) (xs : List X) (mine : List Y) (i n : ℕ) (x : X) (e : Y) → i < length xs → x ≡ get_or xs i x → f x ≡ Some e → length mine ≤ n
+    → filter_map f (take i xs) ≡ take n mine → filter_map f xs ≡ mine → ⊥
+too_few f xs mine i n x e there at is past before all =
+    let rest = filter_map f (drop (suc i) xs) in
+    let split : mine ≡ mine ++ e ∷ rest = sym all ∙ (found_split f xs i x e there at is ∙ ap (λ ys. ys ++ e ∷ rest) (before ∙ take_all n mine past)) in
+    let long : length mine ≡ length mine + length (e ∷ rest) = ap length split ∙ length-append mine (e ∷ rest) in
     omega (arith, long)
 
 -- its next is another
-pub another_next : {X : Type 0} (p : X → Bool) (xs mine : List X) (i n : ℕ) (x y : X) → i < length xs → x ≡ get_or xs i x → p x ≡ true → n < length mine → y ≡ get_or mine n y
-    → filter p (take i xs) ≡ take n mine → filter p xs ≡ mine → x ≡ y
-another_next p xs mine i n x y there at is within next before all =
-    let rest = filter p (drop (suc i) xs) in
-    let split : mine ≡ take n mine ++ x ∷ rest = sym all ∙ (filter_split p xs i x there at is ∙ ap (λ ys. ys ++ x ∷ rest) before) in
+pub another_next : {X Y : Type 0} (f : X → Option Y) (xs : List X) (mine : List Y) (i n : ℕ) (x : X) (e y : Y) → i < length xs → x ≡ get_or xs i x → f x ≡ Some e → n < length mine → y ≡ get_or mine n y
+    → filter_map f (take i xs) ≡ take n mine → filter_map f xs ≡ mine → e ≡ y
+another_next f xs mine i n x e y there at is within next before all =
+    let rest = filter_map f (drop (suc i) xs) in
+    let split : mine ≡ take n mine ++ e ∷ rest = sym all ∙ (found_split f xs i x e there at is ∙ ap (λ ys. ys ++ e ∷ rest) before) in
     let long : length (take n mine) ≡ n = length-take-le n mine (omega arith) in
-    let here : get_or (take n mine ++ x ∷ rest) n y ≡ get_or (x ∷ rest) (n - n) y = get_or-append_right (take n mine) (x ∷ rest) n n y long (omega arith) in
+    let here : get_or (take n mine ++ e ∷ rest) n y ≡ get_or (e ∷ rest) (n - n) y = get_or-append_right (take n mine) (e ∷ rest) n n y long (omega arith) in
     let none : n - n ≡ 0 = omega arith in
-    sym (next ∙ (ap (λ ys. get_or ys n y) split ∙ (here ∙ ap (λ k. get_or (x ∷ rest) k y) none)))
+    sym (next ∙ (ap (λ ys. get_or ys n y) split ∙ (here ∙ ap (λ k. get_or (e ∷ rest) k y) none)))
 
 -- ---- at the end of the history
 
-pub all_passed : {X : Type 0} (p : X → Bool) (xs mine : List X) (i n : ℕ) (b : Bool) → length xs ≤ i → n ≤ length mine → b ≡ (n == length mine) → filter p (take i xs) ≡ take n mine
-    → IsTrue b ↔ (filter p xs ≡ mine)
-all_passed p xs mine i n b past within is before = (
+pub all_passed : {X Y : Type 0} (f : X → Option Y) (xs : List X) (mine : List Y) (i n : ℕ) (b : Bool) → length xs ≤ i → n ≤ length mine → b ≡ (n == length mine) → filter_map f (take i xs) ≡ take n mine
+    → IsTrue b ↔ (filter_map f xs ≡ mine)
+all_passed f xs mine i n b past within is before = (
   λ yes.
       let all : n ≡ length mine = grind (arith, nat_tests) in
       let most : length mine ≤ n = omega arith in
@@ -73,5 +72,5 @@ all_passed p xs mine i n b past within is before = (
       grind (arith, nat_tests),
 )
   where
-    whole : filter p xs ≡ take n mine
-    whole = ap (filter p) (sym (take_all i xs past)) ∙ before
+    whole : filter_map f xs ≡ take n mine
+    whole = ap (filter_map f) (sym (take_all i xs past)) ∙ before

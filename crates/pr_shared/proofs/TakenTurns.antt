@@ -5,6 +5,8 @@ use Rattle.std.specs.List.{slice_get}
 use Rattle.std.specs.Option.{option_map_or}
 use Rattle.std.proofs.lemmas.Option.{slice_get-map}
 use Rattle.pr_cdb.specs.declared.command.Command.{Command}
+use Rattle.pr_roles.specs.declared.how.How.{How}
+use Rattle.pr_roles.specs.Answers.{how_now}
 use Rattle.pr_roles.specs.Safety.{IsSafe}
 use Rattle.pr_roles.specs.Scenarios.{Scenario, Nexus, Task, Scripted, Planned, task}
 use Rattle.pr_roles.specs.Schedules.{Schedule, Turn as IsTurn, TurnBy}
@@ -16,7 +18,7 @@ use Rattle.pr_shared.specs.Guests.{guests_of}
 use Rattle.pr_shared.specs.Histories.{EndsLegally}
 
 -- what was sent ends the history that the turn leads to
-pub sent_legally : (guests : List Bool) (s t : Scenario) (h : ℕ) (x y : Schedule) (r : Turn) → guests_of s ≡ guests → t ≡ s → IsSafe t → (steps : List ℕ) × IsReached t steps y
+pub sent_legally : (guests : List Bool) (s t : Scenario) (h : ℕ) (x y : Schedule) (r : Turn) → guests_of s ≡ guests → t ≡ s → IsSafe t → (steps : List (ℕ × How)) × IsReached t steps y
     → IfSent r (λ e. IsOneEvent s h e x.world y.world) → IfSent r (EndsLegally guests)
 sent_legally guests s t h x y (turn.Sent e) guests_are same safe reached one = record {
   scenario = t;
@@ -24,7 +26,7 @@ sent_legally guests s t h x y (turn.Sent e) guests_are same safe reached one = r
   safe = safe;
   start = reached.1.start;
   first = reached.1.first;
-  before = x.world.entries;
+  before = x.world.history;
   legal = (reached.1.events, y.world, reached.1.run, one.added);
 }
 sent_legally guests s t h x y (turn.Stopped word) guests_are same safe reached one = tt
@@ -49,14 +51,14 @@ guest_by s h commands is = slice_get-map (λ n. is_planned n.task) s.nexuses h �
     by None same = let bad : None ≡ Some (Planned commands) = same in cc
     by (Some n) same = let here : n.task ≡ Planned commands = cc (same) in ap (λ t. Some (is_planned t)) here
 
-held_by : (s : Scenario) (x y : Schedule) (h : ℕ) (t : Option Task) → task s h ≡ t → TurnBy t s x h y → PassesOver s x h y → slice_get (guests_of s) h ≡ Some true
-held_by s x y h None is turned passes = absurd (passes_plans s x y h passes (ap (λ z. z.plans) turned))
-held_by s x y h (Some (Scripted script budget)) is turned passes = absurd (passes_plans s x y h passes turned.1)
-held_by s x y h (Some (Planned commands)) is turned passes = guest_by s h commands is
+held_by : (so : How) (s : Scenario) (x y : Schedule) (h : ℕ) (t : Option Task) → task s h ≡ t → TurnBy t s x h so y → PassesOver s x h y → slice_get (guests_of s) h ≡ Some true
+held_by so s x y h None is turned passes = absurd (passes_plans s x y h passes (ap (λ z. z.plans) turned))
+held_by so s x y h (Some (Scripted script budget)) is turned passes = absurd (passes_plans s x y h passes turned.1)
+held_by so s x y h (Some (Planned commands)) is turned passes = guest_by s h commands is
 
 -- just a guest passes over a command
-pub held_guest : (guests : List Bool) (s : Scenario) (x y : Schedule) (h : ℕ) (r : Turn) → guests_of s ≡ guests → IsTurn s x h y → IfHeld r (PassesOver s x h y)
+pub held_guest : (wanted : How) (guests : List Bool) (s : Scenario) (x y : Schedule) (h : ℕ) (r : Turn) → guests_of s ≡ guests → IsTurn s x h wanted y → IfHeld r (PassesOver s x h y)
     → IfHeld r (slice_get guests h ≡ Some true)
-held_guest guests s x y h (turn.Sent e) guests_are turned passes = tt
-held_guest guests s x y h (turn.Stopped word) guests_are turned passes = tt
-held_guest guests s x y h turn.Held guests_are turned passes = subst (λ gs. slice_get gs h ≡ Some true) guests_are (held_by s x y h (task s h) refl turned passes)
+held_guest wanted guests s x y h (turn.Sent e) guests_are turned passes = tt
+held_guest wanted guests s x y h (turn.Stopped word) guests_are turned passes = tt
+held_guest wanted guests s x y h turn.Held guests_are turned passes = subst (λ gs. slice_get gs h ≡ Some true) guests_are (held_by (how_now s x.world.history h wanted) s x y h (task s h) refl turned passes)

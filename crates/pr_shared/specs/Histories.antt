@@ -1,26 +1,35 @@
 -- Agrees with docs/FORMATS.md, 'Running'.
 -- What was sent, by all and by one, and what ends a legal history.
-use Rattle.std.specs.Prelude.{◌≡◌, ℕ, ◌==◌, Bool, List, [], ◌∷◌, ◌++◌, Some, length, map}
-use Rattle.std.specs.List.{filter, range_with_len}
+use Rattle.std.specs.Prelude.{◌≡◌, ℕ, Bool, true, false, List, [], ◌∷◌, ◌++◌, Some, map}
+use Rattle.std.specs.List.{count_by, filter_map, range_with_len}
 use Rattle.pr_unit.specs.UnitStates.{UnitState}
+use Rattle.pr_roles.specs.declared.how.How.{How}
 use Rattle.pr_roles.specs.declared.entry.Entry.{Entry}
+use Rattle.pr_roles.specs.declared.item.Item.{Item}
+use Rattle.pr_roles.specs.declared.item.Item.TheVariants.{Sent, Reset}
 use Rattle.pr_roles.specs.Scenarios.{Scenario}
 use Rattle.pr_roles.specs.Safety.{IsSafe, IsLegal}
+use Rattle.pr_roles.specs.Items.{entry_by}
 use Rattle.pr_roles.specs.Starts.{first_state}
 use Rattle.pr_roles.specs.Schedules.{Schedule}
 use Rattle.pr_world.specs.Courses.{IsReached}
 use Rattle.pr_shared.specs.Guests.{guests_of}
 
+-- a command, of whomever
+abbrev pub is_sent : Item → Bool
+is_sent (Sent e) = true
+is_sent Reset = false
+
 -- how many commands of a history were sent
-abbrev pub sent_in : List Entry → ℕ
-sent_in history = length history
+abbrev pub sent_in : List Item → ℕ
+sent_in history = count_by is_sent history
 
 -- the entries of h, in order
-abbrev pub entries_of : List Entry → ℕ → List Entry
-entries_of history h = filter (λ e. e.host == h) history
+abbrev pub entries_of : List Item → ℕ → List Entry
+entries_of history h = filter_map (entry_by h) history
 
 -- those of each of so many, by their numbers
-abbrev pub entries_by : ℕ → List Entry → List (List Entry)
+abbrev pub entries_by : ℕ → List Item → List (List Entry)
 entries_by n history = map (entries_of history) (range_with_len 0 n)
 
 -- The entry stands last in a history that is legal from the first start of a safe scenario with these guests.
@@ -30,9 +39,9 @@ pub record EndsLegally (guests : List Bool) (e : Entry) : Type 0 where
   pub safe : IsSafe scenario
   pub start : UnitState
   pub first : first_state scenario ≡ Some start
-  pub before : List Entry
-  pub legal : IsLegal scenario start (before ++ e ∷ [])
+  pub before : List Item
+  pub legal : IsLegal scenario start (before ++ Sent e ∷ [])
 
 -- Some turns led here, by a legal run, from the first start of the scenario.
 abbrev pub IsLegalWorld : Scenario → Schedule → Type 0
-IsLegalWorld s y = (steps : List ℕ) × IsReached s steps y
+IsLegalWorld s y = (steps : List (ℕ × How)) × IsReached s steps y

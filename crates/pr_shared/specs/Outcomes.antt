@@ -3,7 +3,9 @@
 use Rattle.std.specs.Prelude.{◌≡◌, ℕ, ◌≤◌, ◌==◌, Bool, true, false, IsTrue, List, [], Option, Some, None, length, map}
 use Rattle.std.specs.List.{list_all, range_with_len}
 use Rattle.pr_unit.specs.UnitStates.{UnitState}
+use Rattle.pr_roles.specs.declared.how.How.{How}
 use Rattle.pr_roles.specs.declared.entry.Entry.{Entry}
+use Rattle.pr_roles.specs.declared.item.Item.{Item}
 use Rattle.pr_roles.specs.Scenarios.{Scenario, scenario_of}
 use Rattle.pr_roles.specs.Safety.{IsLegal}
 use Rattle.pr_roles.specs.Schedules.{Schedule, plan}
@@ -33,10 +35,10 @@ AreOver s y = IsTrue (list_all is_over (endings_in s y))
 
 -- Turns led from the first start, by a legal run, to just this history, this unit and these ends, and all are over.
 pub record IsOutcome (s : Scenario) (o : Outcome) : Type 0 where
-  pub steps : List ℕ
+  pub steps : List (ℕ × How)
   pub last : Schedule
   pub reached : IsReached s steps last
-  pub history : o.history.items ≡ last.world.entries
+  pub history : o.history.items ≡ last.world.history
   pub unit : o.unit ≡ last.world.unit
   pub ends : map (λ e. Some (ending_of e)) o.ends.items ≡ endings_in s last
   pub over : AreOver s last
@@ -44,11 +46,11 @@ pub record IsOutcome (s : Scenario) (o : Outcome) : Type 0 where
 -- The world is one of this scenario, each of these lists is what its nexus sent, and all are over.
 pub record IsClosed (s : Scenario) (mine : List (List Entry)) (w : Progress) : Type 0 where
   pub scenario : scenario_of w.scenario ≡ s
-  pub own : entries_by (length mine) w.schedule.world.entries ≡ mine
+  pub own : entries_by (length mine) w.schedule.world.history ≡ mine
   pub over : AreOver (scenario_of w.scenario) w.schedule
 
 -- A history that is legal from the first start, to which only those before this one have sent.
-pub record IsHalted (s : Scenario) (host : ℕ) (history : List Entry) : Type 0 where
+pub record IsHalted (s : Scenario) (host : ℕ) (history : List Item) : Type 0 where
   pub start : UnitState
   pub first : first_state s ≡ Some start
   pub legal : IsLegal s start history

@@ -1,12 +1,12 @@
 -- Agrees with docs/FORMATS.md, 'Running'.
 -- What a run answers that came to no outcome.
 use Rattle.std.specs.Prelude.{ℕ, List}
-use Rattle.pr_roles.specs.declared.entry.Entry.{Entry}
+use Rattle.pr_roles.specs.declared.item.Item.{Item}
 use Rattle.pr_shared.specs.declared.run_error.RunError.{RunError}
 use Rattle.pr_shared.specs.declared.run_error.RunError.TheVariants as error
 
 -- of the nexus whose thread could not be started, and the history, if that is why
-abbrev pub IfSpawn : (ℕ → List Entry → Type 0) → RunError → Type 0
+abbrev pub IfSpawn : (ℕ → List Item → Type 0) → RunError → Type 0
 IfSpawn P error.Memory = Unit {0}
 IfSpawn P (error.Spawn host history) = P host history.items
 IfSpawn P error.Differs = Unit {0}

@@ -1,14 +1,15 @@
 //! Whether a world is closed: what it has is compared with what the seats have.
 
 ghost use Rattle.std.specs.Prelude.{◌≡◌, ◌↔◌, ◌<◌, ◌≤◌, Some, IsTrue, length, map, vec_len, vec_capacity};
-ghost use Rattle.std.specs.List.{All, list_all};
+ghost use Rattle.std.specs.List.{list_all};
 ghost use Rattle.pr_roles.specs.Scenarios.{scenario_of};
 ghost use Rattle.pr_world.specs.Ends.{ending_of};
 ghost use Rattle.pr_shared.specs.Histories.{entries_of, entries_by};
+ghost use Rattle.pr_shared.specs.inside.Senders.{is_sent_before};
 ghost use Rattle.pr_shared.specs.Outcomes.{AreOver, IsClosed, IsOutcome, endings_in, is_over};
 
 use crate::outcome::Outcome;
-use pr_roles::{Entry, Scenario};
+use pr_roles::{Entry, Item, Scenario};
 use pr_world::{End, World};
 
 /// Whether the world is one of this scenario, each list is what its nexus sent, and all are over.
@@ -25,14 +26,14 @@ pub(crate) fn is_closed(
     if !world.scenario().same(scenario) {
         return false;
     }
-    if !are_own(lists, world.entries()) {
+    if !are_own(lists, world.history()) {
         return false;
     }
     are_over(ends)
 }
 
 /// Whether each list is what its nexus sent.
-pub(crate) fn are_own(lists: &[Vec<Entry>], history: &[Entry]) -> bool
+pub(crate) fn are_own(lists: &[Vec<Entry>], history: &[Item]) -> bool
     ensures { IsTrue result
         ↔ (entries_by (length lists.now) history.now ≡ map (λ l. l.items) lists.now) }
 {
@@ -45,12 +46,12 @@ pub(crate) fn are_own(lists: &[Vec<Entry>], history: &[Entry]) -> bool
 }
 
 // Whether the list is what this nexus sent.
-fn is_own(host: usize, mine: &[Entry], history: &[Entry]) -> bool
+fn is_own(host: usize, mine: &[Entry], history: &[Item]) -> bool
     ensures { IsTrue result ↔ (entries_of history.now host ≡ mine.now) }
 {
     let mut count = 0;
-    for entry in history {
-        if usize::from(entry.host) == host {
+    for item in history {
+        if let Some(entry) = item.entry_by(host) {
             if count >= mine.len() {
                 return false;
             }
@@ -70,10 +71,20 @@ fn is_same(entry: &Entry, other: &Entry) -> bool
 }
 
 /// Whether only those before this one have sent anything.
-pub(crate) fn are_before(count: usize, history: &[Entry]) -> bool
-    ensures { IsTrue result ↔ All (λ e. e.host < count) history.now }
+pub(crate) fn are_before(count: usize, history: &[Item]) -> bool
+    ensures { result ≡ list_all (is_sent_before count) history.now }
 {
-    history.iter().all(|entry| usize::from(entry.host) < count)
+    history.iter().all(|item| is_before(item, count))
+}
+
+// A reset is nobody's.
+fn is_before(item: &Item, count: usize) -> bool
+    ensures { result ≡ is_sent_before count item.now }
+{
+    match item {
+        Item::Sent(entry) => usize::from(entry.host) < count,
+        Item::Reset => true,
+    }
 }
 
 // Whether each script is stopped, and each plan is done.
@@ -112,10 +123,10 @@ pub(crate) fn outcome_of(world: World, ends: Vec<End>) -> Outcome
     requires ends { map (λ e. Some (ending_of e)) ends.items ≡ endings_in (scenario_of world.scenario) world.schedule }
     requires over { AreOver (scenario_of world.scenario) world.schedule }
     ensures outcome { IsOutcome (scenario_of world.scenario) result }
-    ensures history { result.history.items ≡ world.schedule.world.entries }
+    ensures history { result.history.items ≡ world.schedule.world.history }
 {
     // By this reader a proof knows that the history is legal.
-    let _legal = world.entries();
+    let _legal = world.history();
     let (history, unit) = world.into_parts();
     Outcome {
         history,

@@ -1,12 +1,18 @@
 //! What is called round each turn of a run.
 
-use pr_world::Turn;
+use pr_world::{How, Turn};
 
 /// What a run calls round each turn, in the thread that takes the turn. The turns of a nexus are numbered from 1. A
 /// gate may wait, and so have threads meet.
 pub trait Gate: Sync {
     /// Before turn `n` of this nexus.
     fn before(&self, host: u8, n: u32);
+
+    /// How the command of turn `n` of this nexus is answered. Where it says a refusal, and the scenario has one left for the
+    /// nexus, that is the answer; else the unit answers.
+    fn how(&self, _host: u8, _n: u32) -> How {
+        How::Plain
+    }
 
     /// After turn `n` of this nexus, with what it answered.
     fn after(&self, host: u8, n: u32, turn: &Turn);

@@ -7,6 +7,7 @@ mod gate;
 mod gathering;
 mod kept;
 mod locked;
+mod mixing;
 mod outcome;
 mod round;
 mod run_error;
@@ -18,7 +19,7 @@ mod threads;
 
 pub use gate::{Gate, NoGate};
 pub use outcome::{Differs, Outcome};
-pub use pr_world::{End, Entry, Turn, World};
+pub use pr_world::{End, Entry, How, Item, Turn, World};
 pub use round::Round;
 pub use run_error::RunError;
 pub use running::run;

@@ -13,7 +13,7 @@ ghost use Rattle.pr_shared.specs.TurnAnswers.{added_by, is_stopped};
 use crate::gathering::gathered;
 use crate::round::Round;
 use crate::seat::Seat;
-use pr_world::{Entry, Turn, World};
+use pr_world::{Entry, How, Turn, World};
 use std::sync::ledger::{Book, Share};
 
 /// What stands behind the lock: the world with its history, and the book that counts the history's entries.
@@ -26,14 +26,14 @@ pub(crate) struct Locked<C: Round> {
     pub(crate) calls: Book<C>,
     pub(crate) rest: Share<C>,
     ghost guests: { guests_of (scenario_of world.scenario) ≡ C.guests },
-    ghost counted: { sent_in world.schedule.world.entries ≡ calls.total },
+    ghost counted: { sent_in world.schedule.world.history ≡ calls.total },
     ghost no_part: { rest.parts ≡ 0 },
     ghost no_amount: { rest.amount ≡ 0 },
 }
 
 impl<C: Round> Locked<C> {
-    /// The turn of the seat's nexus, which adds its entry to the world and to the seat.
-    pub(crate) fn turn(&mut self, seat: &mut Seat<C>) -> Turn
+    /// The turn of the seat's nexus, answered so where that may come, which adds its entry to the world and to the seat.
+    pub(crate) fn turn(&mut self, seat: &mut Seat<C>, how: How) -> Turn
         requires going { seat.old.ended ≡ false }
         requires room { vec_len seat.old.mine < vec_capacity seat.old.mine }
         ensures host { seat.new.host ≡ seat.old.host }
@@ -41,7 +41,7 @@ impl<C: Round> Locked<C> {
         ensures mine { seat.new.mine.items ≡ seat.old.mine.items ++ added_by result }
         ensures ended { seat.new.ended ≡ is_stopped result }
         ensures scenario { self.new.world.scenario ≡ self.old.world.scenario }
-        ensures turn { IsTurn (scenario_of self.old.world.scenario) self.old.world.schedule seat.old.host self.new.world.schedule }
+        ensures turn { IsTurn (scenario_of self.old.world.scenario) self.old.world.schedule seat.old.host how self.new.world.schedule }
         ensures sent { IfSent result (λ entry. IsOneEvent (scenario_of self.old.world.scenario) seat.old.host entry
             self.old.world.schedule.world self.new.world.schedule.world) }
         ensures legal { IfSent result (λ entry. EndsLegally C.guests entry) }
@@ -52,10 +52,10 @@ impl<C: Round> Locked<C> {
             seat.old.host self.new.world.schedule) }
         ensures guest { IfHeld result (slice_get C.guests seat.old.host ≡ Some true) }
     {
-        let turn = self.world.step(seat.host);
+        let turn = self.world.step_as(seat.host, how);
         // By these readers a proof knows that the world is safe, and its history legal.
         let _safe = self.world.scenario();
-        let _legal = self.world.entries();
+        let _legal = self.world.history();
         match &turn {
             Turn::Sent(entry) => {
                 self.calls.add(&mut seat.share, 1);
@@ -79,7 +79,7 @@ impl<C: Round> Locked<C> {
         requires room { vec_len seats ≤ vec_capacity lists }
         ensures guests { guests_of (scenario_of result.0.scenario) ≡ C.guests }
         ensures mine { map (λ l. l.items) result.1.items ≡ map (λ s. s.mine.items) seats.items }
-        ensures counted { sent_in result.0.schedule.world.entries ≡ sum_by (λ s. vec_len s.mine) seats.items }
+        ensures counted { sent_in result.0.schedule.world.history ≡ sum_by (λ s. vec_len s.mine) seats.items }
     {
         let Locked {
             world,

@@ -1,6 +1,6 @@
 //! What a run over threads comes to.
 
-use pr_roles::Entry;
+use pr_roles::{Entry, Item};
 use pr_unit::Unit;
 use pr_world::{End, World};
 
@@ -8,7 +8,7 @@ use pr_world::{End, World};
 #[derive(Debug, Drop)]
 pub struct Outcome {
     /// The commands that reached the unit, in order.
-    pub history: Vec<Entry>,
+    pub history: Vec<Item>,
 
     pub unit: Unit,
 

@@ -1,6 +1,6 @@
 //! Why a run came to no outcome.
 
-use pr_roles::Entry;
+use pr_roles::Item;
 use std::alloc::AllocError;
 use thiserror::Error;
 
@@ -13,7 +13,7 @@ pub enum RunError {
     /// The thread of this nexus could not be started, and for those after it none was tried. Those before it ran
     /// to their end, and this is their history.
     #[error("no thread for host {host}")]
-    Spawn { host: u8, history: Vec<Entry> },
+    Spawn { host: u8, history: Vec<Item> },
     /// The world and the seats don't belong together, or one of them has not come to its end.
     #[error("the world differs from the seats")]
     Differs,

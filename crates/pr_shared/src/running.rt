@@ -10,6 +10,7 @@ ghost use Rattle.pr_shared.specs.RunAnswers.{IfSpawn};
 ghost use Rattle.pr_shared.specs.inside.Starting.{StartedBut};
 
 use crate::gate::Gate;
+use crate::mixing::Mixing;
 use crate::outcome::Outcome;
 use crate::round::Round;
 use crate::run_error::RunError;
@@ -64,7 +65,8 @@ fn run_as<C: Round + Send + Sync, G: Gate, R: Threads + Wait + Sync>(
     let Ok((shared, seats)) = SharedWorld::<C>::begin(alloc, verified, blank) else {
         return Err(RunError::Memory);
     };
-    let (seats, failed) = in_threads(rt, &shared, gate, seats, started, back);
+    let mixing = Mixing::new(gate, nexuses);
+    let (seats, failed) = in_threads(rt, &shared, &mixing, seats, started, back);
     settled(shared, seats, failed)
 }
 

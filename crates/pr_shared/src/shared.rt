@@ -18,9 +18,9 @@ use crate::outcome::{Differs, Outcome};
 use crate::round::Round;
 use crate::seat::Seat;
 use crate::seating::seats_for;
-use pr_roles::{Entry, Scenario};
+use pr_roles::{Item, Scenario};
 use pr_verify::Verified;
-use pr_world::{Turn, World};
+use pr_world::{How, Turn, World};
 use std::alloc::{AllocError, Global};
 use std::sync::ledger::{Blank, Share};
 use std::sync::{Mutex, Wait};
@@ -68,7 +68,7 @@ impl<C: Round> SharedWorld<C> {
         Ok((SharedWorld { lock, kept }, seats))
     }
 
-    /// The turn of the seat's nexus. It waits for the lock, and takes no memory.
+    /// The turn of the seat's nexus, in which the unit answers. It waits for the lock, and takes no memory.
     ///
     /// An entry that it answers stands last in the seat's list. A turn that answers `Stopped` ends the seat.
     pub fn turn<R: Wait>(&self, rt: &R, seat: &mut Seat<C>) -> Turn
@@ -82,7 +82,23 @@ impl<C: Round> SharedWorld<C> {
         ensures legal { IfSent result (λ entry. EndsLegally C.guests entry) }
         ensures guest { IfHeld result (slice_get C.guests seat.old.host ≡ Some true) }
     {
-        self.lock.lock(rt).turn(seat)
+        self.turn_as(rt, seat, How::Plain)
+    }
+
+    /// The same, with the command answered so, where that is a refusal of which the scenario has one left for the nexus; else
+    /// by the unit. It waits for the lock, and takes no memory.
+    pub fn turn_as<R: Wait>(&self, rt: &R, seat: &mut Seat<C>, how: How) -> Turn
+        requires going { seat.old.ended ≡ false }
+        requires room { vec_len seat.old.mine < vec_capacity seat.old.mine }
+        ensures host { seat.new.host ≡ seat.old.host }
+        ensures room { vec_capacity seat.new.mine ≡ vec_capacity seat.old.mine }
+        ensures mine { seat.new.mine.items ≡ seat.old.mine.items ++ added_by result }
+        ensures ended { seat.new.ended ≡ is_stopped result }
+        ensures sender { IfSent result (λ entry. entry.host ≡ seat.old.host) }
+        ensures legal { IfSent result (λ entry. EndsLegally C.guests entry) }
+        ensures guest { IfHeld result (slice_get C.guests seat.old.host ≡ Some true) }
+    {
+        self.lock.lock(rt).turn(seat, how)
     }
 
     /// What the run came to, once each seat has ended. It takes no memory.
@@ -107,7 +123,7 @@ impl<C: Round> SharedWorld<C> {
         ensures legal { IfErr result (λ differs.
             IsLegalWorld (scenario_of differs.world.scenario) differs.world.schedule) }
         ensures total { IfErr result (λ differs.
-            sent_in differs.world.schedule.world.entries ≡ sum_by (λ s. vec_len s.mine) seats.items) }
+            sent_in differs.world.schedule.world.history ≡ sum_by (λ s. vec_len s.mine) seats.items) }
     {
         let SharedWorld { lock, kept } = self;
         let Kept {
@@ -117,7 +133,7 @@ impl<C: Round> SharedWorld<C> {
         } = kept;
         let (world, mine) = lock.into_inner().finish(seats, mine);
         // By this reader a proof knows that the history is legal.
-        let _legal = world.entries();
+        let _legal = world.history();
         let ends = ends_of(&world, ends);
         if !is_closed(&scenario, &world, &mine, &ends) {
             return Err(Differs { world, mine });
@@ -127,7 +143,7 @@ impl<C: Round> SharedWorld<C> {
 
     /// The history, where only these seats, the first ones, took turns. There is none where the world and the seats don't
     /// belong together.
-    pub(crate) fn halt(self, seats: Vec<Seat<C>>) -> Option<Vec<Entry>>
+    pub(crate) fn halt(self, seats: Vec<Seat<C>>) -> Option<Vec<Item>>
         requires { vec_len seats ≤ length C.guests }
         ensures halted { IfSome result (λ history.
             IsHalted (scenario_of self.kept.scenario) (vec_len seats) history.items) }
@@ -149,10 +165,10 @@ impl<C: Round> SharedWorld<C> {
         if !world.scenario().same(&scenario) {
             return None;
         }
-        if !are_own(&mine, world.entries()) {
+        if !are_own(&mine, world.history()) {
             return None;
         }
-        if !are_before(mine.len(), world.entries()) {
+        if !are_before(mine.len(), world.history()) {
             return None;
         }
         let (history, _) = world.into_parts();

@@ -111,7 +111,7 @@ fn work<C: Round, G: Gate, R: Wait>(
             break;
         }
         gate.before(host, n);
-        let turn = shared.turn(rt, &mut seat);
+        let turn = shared.turn_as(rt, &mut seat, gate.how(host, n));
         gate.after(host, n, &turn);
     }
     seat

@@ -1,25 +1,47 @@
-use Rattle.std.proofs.Common.{◌≡◌, ◌==◌, true, sym, ◌∙◌, arith}
+use Rattle.std.proofs.Common.{◌≡◌, ◌+◌, Some, None, take, sym, ap, subst, ◌∙◌, arith}
+use Rattle.std.specs.List.{filter_map}
+use Rattle.std.specs.Prelude.{option_map}
 use Rattle.std.proofs.lemmas.Bool.{false≢true}
-use Rattle.std.proofs.lemmas.Bool.Decides.{nat_tests}
-use Rattle.pr_roles.specs.declared.entry.Entry.{Entry}
-use Rattle.pr_shared.proofs.Matching.{another_next, too_few}
+use Rattle.pr_roles.specs.Items.{entry_by}
+use Rattle.pr_shared.proofs.Matching.{another_next, fails_more, passes_more, too_few}
 use Rattle.pr_shared.proofs.closing.is_own.Goals as goal
+use Rattle.pr_shared.proofs.closing.is_own.Goals.{in-Some+else-count-mine+else-not-is_same, in_default}
 
 pub returns-then-count-mine : goal.returns-then-count-mine
 returns-then-count-mine c =
-    let here : (c.entry-item.result.host == c.args.host) ≡ true = grind (arith, nat_tests) in (
+    let here : entry_by c.args.host c.item-item.result ≡ Some c.in-Some.entry.now = sym c.entry_by.ensures ∙ ap (option_map (λ e. e.now)) c.in-Some.is in (
       λ no. absurd (false≢true no),
       λ all.
-          absurd (too_few (λ (e : Entry). e.host == c.args.host) c.args.history.now c.args.mine.now c.loop-entry.entry-index c.loop-entry.count c.entry-item.result c.loop-entry-test.true c.entry-item.is here
-          c.if-count-mine.true c.loop-entry.invariant.own all),
+          absurd (too_few (entry_by c.args.host) c.args.history.now c.args.mine.now c.loop-item.item-index c.loop-item.count c.item-item.result c.in-Some.entry.now c.loop-item-test.true c.item-item.is here
+          c.if-count-mine.true c.loop-item.invariant.own all),
     )
 
 pub returns-then-not-is_same : goal.returns-then-not-is_same
 returns-then-not-is_same c =
-    let here : (c.entry-item.result.host == c.args.host) ≡ true = grind (arith, nat_tests) in (
+    let here : entry_by c.args.host c.item-item.result ≡ Some c.in-Some.entry.now = sym c.entry_by.ensures ∙ ap (option_map (λ e. e.now)) c.in-Some.is in (
       λ no. absurd (false≢true no),
       λ all.
           absurd (false≢true (sym c.if-not-is_same.true
-          ∙ c.is_same.ensures.1 (another_next (λ (e : Entry). e.host == c.args.host) c.args.history.now c.args.mine.now c.loop-entry.entry-index c.loop-entry.count c.entry-item.result c.index-mine-count.result
-          c.loop-entry-test.true c.entry-item.is here c.if-count-mine.false c.index-mine-count.is c.loop-entry.invariant.own all))),
+          ∙ c.is_same.ensures.1 (another_next (entry_by c.args.host) c.args.history.now c.args.mine.now c.loop-item.item-index c.loop-item.count c.item-item.result c.in-Some.entry.now c.index-mine-count.result
+          c.loop-item-test.true c.item-item.is here c.if-count-mine.false c.index-mine-count.is c.loop-item.invariant.own all))),
     )
+
+pub loop-item-preserved : goal.loop-item-preserved
+loop-item-preserved c = elim c.match-entry_by.branch [
+  | in-Some+else-count-mine+else-not-is_same w ↦
+      let here : entry_by c.args.host c.item-item.result ≡ Some w.in-Some.entry.now = sym c.entry_by.ensures ∙ ap (option_map (λ e. e.now)) w.in-Some.is in
+      let more =
+      passes_more (entry_by c.args.host) c.args.history.now c.args.mine.now c.loop-item.item-index c.loop-item.count c.item-item.result w.in-Some.entry.now w.index-mine-count.result
+      c.loop-item-test.true c.item-item.is here w.if-count-mine.false w.index-mine-count.is (w.is_same.ensures.0 w.if-not-is_same.false) c.loop-item.invariant.own in
+      record {
+        within = omega (arith, w.count-is, w.if-count-mine.false);
+        own = subst (λ n. filter_map (entry_by c.args.host) (take (c.loop-item.item-index + 1) c.args.history.now) ≡ take n c.args.mine.now) (sym w.count-is) more;
+      }
+  | in_default w ↦
+      let here : entry_by c.args.host c.item-item.result ≡ None = sym c.entry_by.ensures ∙ ap (option_map (λ e. e.now)) w.in_default.is in
+      let more = fails_more (entry_by c.args.host) c.args.history.now c.args.mine.now c.loop-item.item-index c.loop-item.count c.item-item.result c.loop-item-test.true c.item-item.is here c.loop-item.invariant.own in
+      record {
+        within = omega (arith, w.count-is, c.loop-item.invariant.within);
+        own = subst (λ n. filter_map (entry_by c.args.host) (take (c.loop-item.item-index + 1) c.args.history.now) ≡ take n c.args.mine.now) (sym w.count-is) more;
+      }
+]
