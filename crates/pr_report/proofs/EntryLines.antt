@@ -1,16 +1,39 @@
 -- The lines of entries.
-use Rattle.std.specs.Prelude.{◌≡◌, ◌==◌, ℕ, ◌+◌, ◌≤◌, nat_lt, false, List, length, Err}
-use Rattle.std.proofs.Common.{refl, arith}
-use Rattle.std.proofs.lemmas.Bool.Decides.{nat_tests}
+use Rattle.std.specs.Prelude.{◌≡◌, ◌≢◌, ◌==◌, ℕ, ◌+◌, ◌++◌, Bool, true, false, List, length, Err, bytes_eq}
+use Rattle.std.proofs.Common.{refl, sym, ap, ◌∙◌}
+use Rattle.std.proofs.lemmas.Bool.{false≢true}
+use Rattle.std.proofs.lemmas.List.{append_cancel_left}
+use Rattle.std.proofs.lemmas.Slice.Eq.{bytes_eq-Decides}
 use Rattle.pr_report.specs.declared.trace_error.TraceError.TheVariants.{Syntax}
 use Rattle.pr_report.specs.EntryWords.{exchange_in}
 use Rattle.pr_report.specs.TraceReadings.{entry_on, words}
 
-no_more : (m n : ℕ) → n ≤ m → nat_lt m n ≡ false
-no_more m n h = grind (arith, nat_tests)
-
 -- a line that does not have seven words
-pub not_seven : (names : List (List ℕ)) (index : ℕ) (line : List ℕ) → index ≤ 32768 → length line ≤ 1024 → (length (words line) == 7) ≡ false
-    → entry_on names index line ≡ Err (Syntax (index + 1))
+pub not_seven : (version : ℕ) (names : List (List ℕ)) (index : ℕ) (line : List ℕ) → (length (words line) == 7) ≡ false
+    → entry_on version names index line ≡ Err (Syntax (index + 1))
 unfolding entry_on exchange_in
-not_seven names index line h k e = rw (no_more 32768 index h, no_more 1024 (length line) k, e) refl
+not_seven version names index line e = rw e refl
+
+-- ---- a line that begins with a word
+
+-- nothing goes before this end
+pub no_rest : (line front end : List ℕ) → ((rest : List ℕ) → line ≢ front ++ rest) → false ≡ bytes_eq line (front ++ end)
+no_rest line front end none = sym (at (bytes_eq line (front ++ end)) refl)
+  where
+    at : (b : Bool) → bytes_eq line (front ++ end) ≡ b → bytes_eq line (front ++ end) ≡ false
+    at true is = absurd (none end ((bytes_eq-Decides line (front ++ end)).0 is))
+    at false is = is
+
+-- what goes before it is all but it
+pub by_rest : (line front rest end : List ℕ) → line ≡ front ++ rest → bytes_eq rest end ≡ bytes_eq line (front ++ end)
+by_rest line front rest end is = at (bytes_eq rest end) refl (bytes_eq line (front ++ end)) refl
+  where
+    at : (a : Bool) → bytes_eq rest end ≡ a → (b : Bool) → bytes_eq line (front ++ end) ≡ b → bytes_eq rest end ≡ bytes_eq line (front ++ end)
+    at true one true two = one ∙ sym two
+    at false one false two = one ∙ sym two
+    at true one false two =
+        let same = ap (λ ys. front ++ ys) ((bytes_eq-Decides rest end).0 one) in
+        absurd (false≢true (sym two ∙ (bytes_eq-Decides line (front ++ end)).1 (is ∙ same)))
+    at false one true two =
+        let whole = sym is ∙ (bytes_eq-Decides line (front ++ end)).0 two in
+        absurd (false≢true (sym one ∙ (bytes_eq-Decides rest end).1 (append_cancel_left front rest end whole)))

@@ -1,16 +1,21 @@
 -- What is read of the line in front, of which the end may not be at hand.
 use Rattle.std.proofs.Common.{◌≡◌, ℕ, ◌+◌, ◌-◌, ◌<◌, ◌≤◌, Bool, true, false, List, [], ◌∷◌, ◌++◌, length, take, drop, refl, sym, ap, ◌∙◌, arith, append_assoc, append-nil, length-append, length-take, inl, inr, subst}
-use Rattle.std.specs.Prelude.{◌&&◌, nat_lt, nat_le, bytes_eq, codes, Option, Some, None, Result, Ok, Err, IfSome}
+use Rattle.std.specs.Prelude.{◌==◌, ◌&&◌, if◌then◌else◌, nat_lt, nat_le, bytes_eq, codes, Option, Some, None, Result, Ok, Err, IfSome}
+use Rattle.std.specs.Fmt.{decimal}
 use Rattle.std.specs.Io.KnownBytes.{Keeps, prepend_known}
 use Rattle.std.proofs.lemmas.Bool.{cases_lt}
 use Rattle.std.proofs.lemmas.Bool.Decides.{nat_tests}
 use Rattle.std.proofs.lemmas.List.{take-take}
 use Rattle.std.proofs.lemmas.Slice.Eq.{bytes_eq-Decides}
-use Rattle.pr_roles.specs.declared.entry.Entry.{Entry}
+use Rattle.pr_roles.specs.declared.item.Item.{Item}
 use Rattle.pr_report.specs.declared.trace_error.TraceError.{TraceError}
 use Rattle.pr_report.specs.declared.trace_error.TraceError.TheVariants.{Syntax, UnknownName, TooLong, ReadFault, Memory}
-use Rattle.pr_report.specs.TraceReadings.{Faults, and_then, entries_of, entry_on, is_later, later_lines, lines, trace_in}
+use Rattle.pr_report.specs.TraceText.{first_line}
+use Rattle.pr_report.specs.declared.versions.TheConstants.{MOST_ITEMS_1, MOST_ITEMS_2}
+use Rattle.pr_report.specs.Versions.{most_items}
+use Rattle.pr_report.specs.TraceReadings.{Faults, and_then, items_of, item_on, is_later, later_lines, lines, trace_in}
 use Rattle.pr_report.specs.inside.LinesAhead.{Between, FindsLine, IsFront, Leads, StandsInFront}
+use Rattle.pr_report.proofs.SolidWords.{digits_word}
 
 -- ---- faults
 
@@ -82,8 +87,14 @@ unequal l word h = elim (bytes_eq l word) as (λ b. bytes_eq l word ≡ b → by
   | false ↦ λ e. e
 ] refl
 
-first_by_front : ByFront (λ l. bytes_eq l (codes "fence-trace 1"))
-first_by_front l m h k same = unequal l (codes "fence-trace 1") (omega arith) ∙ sym (unequal m (codes "fence-trace 1") (omega arith))
+first_short : (version : ℕ) → length (first_line version) ≤ 76
+unfolding first_line
+first_short version = omega (arith, length-append (codes "fence-trace ") (decimal version), (digits_word 10 version).short)
+
+first_by_front : (version : ℕ) → ByFront (λ l. bytes_eq l (first_line version))
+first_by_front version l m h k same =
+    let few = first_short version in
+    unequal l (first_line version) (omega arith) ∙ sym (unequal m (first_line version) (omega arith))
 
 -- ---- what is left
 
@@ -148,66 +159,107 @@ leads_same None = record { holds = tt }
 leads_same (Some text) = record { holds = refl }
 
 -- there is no line at all
-pub first_missing : (names : List (List ℕ)) {start : Option (List ℕ)} {held : List ℕ} {known : Option (List ℕ)} → FindsLine start held known None
-    → IfSome start (λ text. Faults (Syntax 1) (trace_in names (lines text)))
-first_missing names {start} f =
-    leads_fault (λ text. trace_in names (lines text)) (Syntax 1) (λ old more here none. ap (λ l. trace_in names (lines l)) (here ∙ none) ∙ ap (trace_in names) lines_none) (leads_same start) f
+pub first_missing : (version : ℕ) (names : List (List ℕ)) {start : Option (List ℕ)} {held : List ℕ} {known : Option (List ℕ)} → FindsLine start held known None
+    → IfSome start (λ text. Faults (Syntax 1) (trace_in version names (lines text)))
+first_missing version names {start} f =
+    leads_fault (λ text. trace_in version names (lines text)) (Syntax 1) (λ old more here none. ap (λ l. trace_in version names (lines l)) (here ∙ none) ∙ ap (trace_in version names) lines_none) (leads_same start) f
+
+trace_other : (version : ℕ) (names : List (List ℕ)) (l : List ℕ) (ls : List (List ℕ)) → bytes_eq l (first_line version) ≡ false → trace_in version names (l ∷ ls) ≡ Err (Syntax 1)
+trace_other version names l ls h = rw h refl
+
+trace_right : (version : ℕ) (names : List (List ℕ)) (l : List ℕ) (ls : List (List ℕ)) → bytes_eq l (first_line version) ≡ true → trace_in version names (l ∷ ls) ≡ items_of version names 0 ls
+trace_right version names l ls h = rw h refl
+
+-- the first line is right, and these lines follow it
+abbrev pub FirstRead : ℕ → List (List ℕ) → List ℕ → List ℕ → Type 0
+FirstRead version names old new = trace_in version names (lines old) ≡ items_of version names 0 (lines new)
+
+module _ (version : ℕ) (names : List (List ℕ)) {start : Option (List ℕ)} {held : List ℕ} {known : Option (List ℕ)} {n : ℕ} (found : FindsLine start held known (Some n)) where
+  first_same : (more : List ℕ) (f : IsFront held more n) → bytes_eq f.line (first_line version) ≡ bytes_eq (take n held) (first_line version)
+  first_same more f = by_front held more n f found.within (λ l. bytes_eq l (first_line version)) (first_by_front version)
+
+  -- another line is there
+  pub first_other : bytes_eq (take n held) (first_line version) ≡ false → IfSome start (λ text. Faults (Syntax 1) (trace_in version names (lines text)))
+  first_other h =
+      leads_fault (λ text. trace_in version names (lines text)) (Syntax 1)
+      (λ old more here f. ap (λ l. trace_in version names (lines l)) here ∙ (ap (trace_in version names) f.cut ∙ trace_other version names f.line f.others (first_same more f ∙ h)))
+      (leads_same start) found
+
+  module _ (h : bytes_eq (take n held) (first_line version) ≡ true) where
+    pub first_few : n ≤ 1024
+    first_few =
+        let few = first_short version in
+        let same = (bytes_eq-Decides (take n held) (first_line version)).0 h in
+        omega (arith, ap length same, length-take n held, found.within)
+
+    first_then : (more : List ℕ) (f : IsFront held more n) → trace_in version names (lines (held ++ more)) ≡ items_of version names 0 (lines (drop (n + 1) held ++ more))
+    first_then more f =
+        ap (trace_in version names) f.cut
+        ∙ (trace_right version names f.line f.others (first_same more f ∙ h) ∙ ap (items_of version names 0) (sym (f.whole first_few).1))
+
+    -- the line is right
+    pub first_right : {next : List ℕ} → next ≡ drop (n + 1) held → Leads (FirstRead version names) start (prepend_known next known)
+    first_right {next} is =
+        leads_on (FirstRead version names) next
+        (λ old more here f.
+        ap (λ l. trace_in version names (lines l)) here ∙ (first_then more f ∙ ap (λ l. items_of version names 0 (lines (l ++ more))) (sym is)))
+        (leads_same start) found
 
 -- ---- entries
 
-entry_by_front : (names : List (List ℕ)) (index : ℕ) → ByFront (entry_on names index)
-unfolding entry_on
-entry_by_front names index l m h k same = rw (many 1024 (length l) h, many 1024 (length m) k) refl
+entry_by_front : (version : ℕ) (names : List (List ℕ)) (index : ℕ) → ByFront (item_on version names index)
+unfolding item_on
+entry_by_front version names index l m h k same = rw (many 1024 (length l) h, many 1024 (length m) k) refl
 
 -- what is said of the entries that are left, behind these
-abbrev pub EntriesLeft : List (List ℕ) → List Entry → List ℕ → List ℕ → Type 0
-EntriesLeft names es old new = entries_of names 0 (lines old) ≡ and_then (entries_of names (length es) (lines new)) (λ more. Ok (es ++ more))
+abbrev pub EntriesLeft : ℕ → List (List ℕ) → List Item → List ℕ → List ℕ → Type 0
+EntriesLeft version names es old new = items_of version names 0 (lines old) ≡ and_then (items_of version names (length es) (lines new)) (λ more. Ok (es ++ more))
 
 -- these are all entries, and what is left are later lines
-abbrev pub EntriesAll : List (List ℕ) → List Entry → List ℕ → List ℕ → Type 0
-EntriesAll names es old new = entries_of names 0 (lines old) ≡ and_then (later_lines (length es) 0 (lines new)) (λ _. Ok es)
+abbrev pub EntriesAll : ℕ → List (List ℕ) → List Item → List ℕ → List ℕ → Type 0
+EntriesAll version names es old new = items_of version names 0 (lines old) ≡ and_then (later_lines (length es) 0 (lines new)) (λ _. Ok es)
 
 -- these entries stand in front
-abbrev onto : List Entry → Result (List Entry) TraceError → Result (List Entry) TraceError
+abbrev onto : List Item → Result (List Item) TraceError → Result (List Item) TraceError
 onto es r = and_then r (λ more. Ok (es ++ more))
 
-onto_later : (es : List Entry) (r : Result (Unit {0}) TraceError) → onto es (and_then r (λ _. Ok [])) ≡ and_then r (λ _. Ok es)
+onto_later : (es : List Item) (r : Result (Unit {0}) TraceError) → onto es (and_then r (λ _. Ok [])) ≡ and_then r (λ _. Ok es)
 onto_later es (Ok done) = ap (λ l. Ok l) (append-nil es)
 onto_later es (Err e) = refl
 
-onto_entry : (es : List Entry) (e : Entry) (r : Result (List Entry) TraceError) → onto es (and_then r (λ more. Ok (e ∷ more))) ≡ onto (es ++ e ∷ []) r
+onto_entry : (es : List Item) (e : Item) (r : Result (List Item) TraceError) → onto es (and_then r (λ more. Ok (e ∷ more))) ≡ onto (es ++ e ∷ []) r
 onto_entry es e (Ok more) = ap (λ l. Ok l) (sym (append_assoc es (e ∷ []) more))
 onto_entry es e (Err f) = refl
 
-module _ (names : List (List ℕ)) (others : ℕ) (l : List ℕ) (ls : List (List ℕ)) where
-  pub entries_later : is_later l ≡ true → entries_of names others (l ∷ ls) ≡ and_then (later_lines others 0 (l ∷ ls)) (λ _. Ok [])
+module _ (version : ℕ) (names : List (List ℕ)) (others : ℕ) (l : List ℕ) (ls : List (List ℕ)) where
+  pub entries_later : is_later l ≡ true → items_of version names others (l ∷ ls) ≡ and_then (later_lines others 0 (l ∷ ls)) (λ _. Ok [])
   entries_later h = rw h refl
 
-  entries_bad : (e : TraceError) → is_later l ≡ false → entry_on names (others + 1) l ≡ Err e → entries_of names others (l ∷ ls) ≡ Err e
+  entries_bad : (e : TraceError) → is_later l ≡ false → item_on version names (others + 1) l ≡ Err e → items_of version names others (l ∷ ls) ≡ Err e
   entries_bad e h k = rw (h, k) refl
 
-  entries_good : (e : Entry) → is_later l ≡ false → entry_on names (others + 1) l ≡ Ok e → entries_of names others (l ∷ ls) ≡ and_then (entries_of names (others + 1) ls) (λ es. Ok (e ∷ es))
+  entries_good : (e : Item) → is_later l ≡ false → item_on version names (others + 1) l ≡ Ok e → items_of version names others (l ∷ ls) ≡ and_then (items_of version names (others + 1) ls) (λ es. Ok (e ∷ es))
   entries_good e h k = rw (h, k) refl
 
-no_entry : (names : List (List ℕ)) (index : ℕ) (l : List ℕ) (e : Entry) → 1024 < length l → entry_on names index l ≡ Ok e → ⊥
-unfolding entry_on
-no_entry names index l e h k = elim (nat_lt 32768 index) as (λ b. nat_lt 32768 index ≡ b → ⊥) [
+no_entry : (version : ℕ) (names : List (List ℕ)) (index : ℕ) (l : List ℕ) (e : Item) → 1024 < length l → item_on version names index l ≡ Ok e → ⊥
+unfolding item_on
+no_entry version names index l e h k = elim (nat_lt (most_items version) index) as (λ b. nat_lt (most_items version) index ≡ b → ⊥) [
   | true ↦ λ over. let bad : Err TooLong ≡ Ok e = sym (rw over refl) ∙ k in cc
   | false ↦ λ within. let bad : Err (Syntax (index + 1)) ≡ Ok e = sym (rw (within, many 1024 (length l) h) refl) ∙ k in cc
 ] refl
 
 -- an entry's line is not too long
-pub entry_short : (names : List (List ℕ)) (index : ℕ) (l : List ℕ) (e : Entry) → entry_on names index l ≡ Ok e → length l ≤ 1024
-entry_short names index l e k = elim (cases_lt 1024 (length l)) [
-  | inl h ↦ absurd (no_entry names index l e h k)
+pub entry_short : (version : ℕ) (names : List (List ℕ)) (index : ℕ) (l : List ℕ) (e : Item) → item_on version names index l ≡ Ok e → length l ≤ 1024
+entry_short version names index l e k = elim (cases_lt 1024 (length l)) [
+  | inl h ↦ absurd (no_entry version names index l e h k)
   | inr h ↦ h
 ]
 
-module _ (names : List (List ℕ)) (es : List Entry) {start mid : Option (List ℕ)} {held : List ℕ} {known : Option (List ℕ)} (behind : Leads (EntriesLeft names es) start mid) where
+module _ (version : ℕ) (names : List (List ℕ)) (es : List Item) {start mid : Option (List ℕ)} {held : List ℕ} {known : Option (List ℕ)} (behind : Leads (EntriesLeft version names es) start mid) where
   -- nothing is left
-  pub entries_end : FindsLine mid held known None → Leads (EntriesAll names es) start (prepend_known held known)
+  pub entries_end : FindsLine mid held known None → Leads (EntriesAll version names es) start (prepend_known held known)
   entries_end f =
-      leads_on (EntriesAll names es) held
+      leads_on (EntriesAll version names es) held
       (λ old more here none.
       let is : lines (held ++ more) ≡ [] = ap lines none ∙ lines_none in
       here ∙ (rw (is, append-nil es) refl))
@@ -218,56 +270,62 @@ module _ (names : List (List ℕ)) (es : List Entry) {start mid : Option (List �
     later_same more f = by_front held more n f found.within is_later later_by_front
 
     -- a later line is left
-    pub entries_stop : is_later (take n held) ≡ true → Leads (EntriesAll names es) start (prepend_known held known)
+    pub entries_stop : is_later (take n held) ≡ true → Leads (EntriesAll version names es) start (prepend_known held known)
     entries_stop h =
-        leads_on (EntriesAll names es) held
+        leads_on (EntriesAll version names es) held
         (λ old more here f.
-        here ∙ (ap (λ ls. onto es (entries_of names (length es) ls)) f.cut ∙ (ap (onto es) (entries_later names (length es) f.line f.others (later_same more f ∙ h))
+        here ∙ (ap (λ ls. onto es (items_of version names (length es) ls)) f.cut ∙ (ap (onto es) (entries_later version names (length es) f.line f.others (later_same more f ∙ h))
         ∙ (onto_later es (later_lines (length es) 0 (f.line ∷ f.others)) ∙ ap (λ ls. and_then (later_lines (length es) 0 ls) (λ _. Ok es)) (sym f.cut)))))
         behind found
 
     -- a line has a fault
-    pub entries_fault : (e : TraceError) → is_later (take n held) ≡ false → entry_on names (length es + 1) (take n held) ≡ Err e → IfSome start (λ text. Faults e (entries_of names 0 (lines text)))
+    pub entries_fault : (e : TraceError) → is_later (take n held) ≡ false → item_on version names (length es + 1) (take n held) ≡ Err e → IfSome start (λ text. Faults e (items_of version names 0 (lines text)))
     entries_fault e h k =
-        leads_fault (λ text. entries_of names 0 (lines text)) e
+        leads_fault (λ text. items_of version names 0 (lines text)) e
         (λ old more here f.
-        let same = by_front held more n f found.within (entry_on names (length es + 1)) (entry_by_front names (length es + 1)) in
-        here ∙ (ap (λ ls. onto es (entries_of names (length es) ls)) f.cut ∙ ap (onto es) (entries_bad names (length es) f.line f.others e (later_same more f ∙ h) (same ∙ k))))
+        let same = by_front held more n f found.within (item_on version names (length es + 1)) (entry_by_front version names (length es + 1)) in
+        here ∙ (ap (λ ls. onto es (items_of version names (length es) ls)) f.cut ∙ ap (onto es) (entries_bad version names (length es) f.line f.others e (later_same more f ∙ h) (same ∙ k))))
         behind found
 
-    module _ (e : Entry) (h : is_later (take n held) ≡ false) (k : entry_on names (length es + 1) (take n held) ≡ Ok e) where
+    module _ (e : Item) (h : is_later (take n held) ≡ false) (k : item_on version names (length es + 1) (take n held) ≡ Ok e) where
       short : n ≤ 1024
-      short = omega (arith, entry_short names (length es + 1) (take n held) e k, length-take n held, found.within)
+      short = omega (arith, entry_short version names (length es + 1) (take n held) e k, length-take n held, found.within)
 
-      one_more : (more : List ℕ) (f : IsFront held more n) → onto es (entries_of names (length es) (lines (held ++ more))) ≡ onto (es ++ e ∷ []) (entries_of names (length (es ++ e ∷ [])) (lines (drop (n + 1) held ++ more)))
+      one_more : (more : List ℕ) (f : IsFront held more n) → onto es (items_of version names (length es) (lines (held ++ more))) ≡ onto (es ++ e ∷ []) (items_of version names (length (es ++ e ∷ [])) (lines (drop (n + 1) held ++ more)))
       one_more more f =
           let whole = f.whole short in
-          ap (λ ls. onto es (entries_of names (length es) ls)) (f.cut ∙ ap (λ l. l ∷ f.others) whole.0)
-          ∙ (ap (onto es) (entries_good names (length es) (take n held) f.others e h k)
-          ∙ (onto_entry es e (entries_of names (length es + 1) f.others)
-          ∙ (ap (λ m. onto (es ++ e ∷ []) (entries_of names m f.others)) (sym (length-append es (e ∷ [])))
-          ∙ ap (λ ls. onto (es ++ e ∷ []) (entries_of names (length (es ++ e ∷ [])) ls)) (sym whole.1))))
+          ap (λ ls. onto es (items_of version names (length es) ls)) (f.cut ∙ ap (λ l. l ∷ f.others) whole.0)
+          ∙ (ap (onto es) (entries_good version names (length es) (take n held) f.others e h k)
+          ∙ (onto_entry es e (items_of version names (length es + 1) f.others)
+          ∙ (ap (λ m. onto (es ++ e ∷ []) (items_of version names m f.others)) (sym (length-append es (e ∷ [])))
+          ∙ ap (λ ls. onto (es ++ e ∷ []) (items_of version names (length (es ++ e ∷ [])) ls)) (sym whole.1))))
 
       -- one entry more
-      pub entries_more : {next : List ℕ} {all : List Entry} → next ≡ drop (n + 1) held → all ≡ es ++ e ∷ [] → Leads (EntriesLeft names all) start (prepend_known next known)
+      pub entries_more : {next : List ℕ} {all : List Item} → next ≡ drop (n + 1) held → all ≡ es ++ e ∷ [] → Leads (EntriesLeft version names all) start (prepend_known next known)
       entries_more {next} {all} is those =
-          leads_on (EntriesLeft names all) next
+          leads_on (EntriesLeft version names all) next
           (λ old more here f.
-          here ∙ (one_more more f ∙ (ap (λ l. onto (es ++ e ∷ []) (entries_of names (length (es ++ e ∷ [])) (lines (l ++ more)))) (sym is)
-          ∙ ap (λ xs. onto xs (entries_of names (length xs) (lines (next ++ more)))) (sym those))))
+          here ∙ (one_more more f ∙ (ap (λ l. onto (es ++ e ∷ []) (items_of version names (length (es ++ e ∷ [])) (lines (l ++ more)))) (sym is)
+          ∙ ap (λ xs. onto xs (items_of version names (length xs) (lines (next ++ more)))) (sym those))))
           behind found
 
 -- ---- how many
 
-pub entry_few : (names : List (List ℕ)) (index : ℕ) (l : List ℕ) (e : Entry) → entry_on names index l ≡ Ok e → index ≤ 32768
-unfolding entry_on
-entry_few names index l e k = elim (cases_lt 32768 index) [
-  | inl h ↦ let bad : Err TooLong ≡ Ok e = sym (rw (many 32768 index h) refl) ∙ k in cc
+pub entry_few : (version : ℕ) (names : List (List ℕ)) (index : ℕ) (l : List ℕ) (e : Item) → item_on version names index l ≡ Ok e → index ≤ most_items version
+unfolding item_on
+entry_few version names index l e k = elim (cases_lt (most_items version) index) [
+  | inl h ↦ let bad : Err TooLong ≡ Ok e = sym (rw (many (most_items version) index h) refl) ∙ k in cc
   | inr h ↦ h
 ]
 
-pub one_longer : (es all : List Entry) (e : Entry) → all ≡ es ++ e ∷ [] → length all ≡ length es + 1
+pub one_longer : (es all : List Item) (e : Item) → all ≡ es ++ e ∷ [] → length all ≡ length es + 1
 one_longer es all e h = ap length h ∙ length-append es (e ∷ [])
 
-pub entries_fewer : (n m : ℕ) → n + 1 ≤ 32768 → m ≡ n + 1 → 32768 - m < 32768 - n
-entries_fewer n m h k = omega arith
+pub entries_fewer : (n m most : ℕ) → n + 1 ≤ most → m ≡ n + 1 → most - m < most - n
+entries_fewer n m most h k = omega arith
+
+pub entries_bounded : (version n : ℕ) → n ≤ most_items version → n ≤ MOST_ITEMS_2
+entries_bounded version n h = elim (version == 1) as (λ b. n ≤ (if b then MOST_ITEMS_1 else MOST_ITEMS_2) → n ≤ MOST_ITEMS_2) [
+  | true ↦ λ k. omega (arith, k)
+  | false ↦ λ k. k
+] h

@@ -1,5 +1,5 @@
 -- The hexadecimal digits of a number, one after another.
-use Rattle.std.proofs.Common.{◌≡◌, ℕ, zero, suc, ◌/◌, ◌%◌, ◌^◌, ◌<◌, ◌≤◌, false, cond, List, [], ◌∷◌, ◌++◌, refl, sym, ap, ◌∙◌, append_assoc, arith, ⊎_elim}
+use Rattle.std.proofs.Common.{◌≡◌, ℕ, zero, suc, ◌+◌, ◌/◌, ◌%◌, ◌^◌, ◌<◌, ◌≤◌, false, cond, List, [], ◌∷◌, ◌++◌, refl, sym, ap, ◌∙◌, length, subst, append_assoc, arith, ⊎_elim}
 use Rattle.std.proofs.lemmas.Bool.{eq-eqb, ne_eqb, cases_lt}
 use Rattle.std.specs.Fmt.{digits, digits_onto, digit_glyph}
 
@@ -35,3 +35,16 @@ pub digits_step : (n : ℕ) → 16 ≤ n → n < 2 ^ 64 → digits 16 false n �
 unfolding digits
 digits_step n h small =
     spell_next 63 n [] h ∙ spell_enough 62 63 (n / 16) (last_glyph n ∷ []) (omega arith) (omega arith) ∙ spell-append 64 (n / 16) (last_glyph n ∷ [])
+
+-- ---- how many
+
+spell_short : (k n : ℕ) (acc : List ℕ) → length (spell k n acc) ≤ k + length acc
+spell_short zero n acc = omega arith
+spell_short (suc k) n acc = ⊎_elim
+    (λ l. subst (λ ds. length ds ≤ suc k + length acc) (sym (spell_last k n acc l)) (omega arith))
+    (λ l. let rest = spell_short k (n / 16) (last_glyph n ∷ acc) in subst (λ ds. length ds ≤ suc k + length acc) (sym (spell_next k n acc l)) (omega (arith, rest)))
+    (cases_lt n 16)
+
+pub key_short : (n : ℕ) → n < 2 ^ 64 → length (digits 16 false n) ≤ 16
+unfolding digits
+key_short n small = subst (λ ds. length ds ≤ 16) (spell_enough 15 63 n [] (omega arith) (omega arith)) (spell_short 16 n [])

@@ -18,5 +18,3 @@ pub mod TraceNames
 pub mod EntriesBack
 pub mod TracesBack
 pub mod Taking
-pub mod RunScripts
-pub mod RunReplies

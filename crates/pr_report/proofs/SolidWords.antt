@@ -1,9 +1,9 @@
 -- The words of a trace: no byte of one is a space or a line feed, and none is long.
-use Rattle.std.proofs.Common.{◌≡◌, ℕ, zero, suc, ◌+◌, ◌*◌, ◌<◌, ◌≤◌, ◌/◌, ◌%◌, true, false, cond, List, [], ◌∷◌, ◌++◌, length, refl, sym, ap, ◌∙◌, arith, eqb, append_assoc, append-nil, length-append}
-use Rattle.std.specs.Prelude.{◌==◌}
+use Rattle.std.proofs.Common.{◌≡◌, ℕ, zero, suc, ◌+◌, ◌*◌, ◌<◌, ◌≤◌, ◌/◌, ◌%◌, Bool, true, false, cond, List, [], ◌∷◌, ◌++◌, length, refl, sym, ap, ◌∙◌, arith, eqb, append_assoc, append-nil, length-append}
+use Rattle.std.specs.Prelude.{◌==◌, nat_lt}
 use Rattle.std.specs.Fmt.{digits, digits_onto, digit_glyph}
-use Rattle.std.specs.List.{All, slice_split}
-use Rattle.std.proofs.lemmas.Bool.{ne_eqb}
+use Rattle.std.specs.List.{All, list_all, slice_split}
+use Rattle.std.proofs.lemmas.Bool.{and_parts, ne_eqb}
 use Rattle.std.proofs.lemmas.Bool.Decides.{nat_tests}
 use Rattle.std.proofs.lemmas.List.Elements.{All-cons, All-nil}
 use Rattle.std.proofs.lemmas.List.Splits.{slice_split_at, slice_split_none, length-slice_split}
@@ -130,10 +130,25 @@ line_cut w rest h =
     ap lines_of_parts (slice_split_at (λ b. b == 10) w 10 rest (clear_all w h) refl)
     ∙ first_part w (slice_split (λ b. b == 10) rest) (omega (arith, length-slice_split (λ b. b == 10) rest))
 
+pub bare_back : (first : List ℕ) (others : List (List ℕ)) (rest : List ℕ) → IsSolid first → AreSolid others → lines (bare first others ++ (10 ∷ rest)) ≡ bare first others ∷ lines rest
+bare_back first others rest h k = line_cut (bare first others) rest (clear_solid first (joined_by_spaces others) h (clear_spaced others k))
+
 pub line_back : (first : List ℕ) (others : List (List ℕ)) (rest : List ℕ) → IsSolid first → AreSolid others → lines (line first others ++ rest) ≡ bare first others ∷ lines rest
 unfolding line
 line_back first others rest h k =
     let whole : line first others ++ rest ≡ bare first others ++ (10 ∷ rest) =
     append_assoc first (joined_by_spaces others ++ (10 ∷ [])) rest
     ∙ (ap (λ l. first ++ l) (append_assoc (joined_by_spaces others) (10 ∷ []) rest) ∙ sym (append_assoc first (joined_by_spaces others) (10 ∷ rest))) in
-    ap lines whole ∙ line_cut (bare first others) rest (clear_solid first (joined_by_spaces others) h (clear_spaced others k))
+    ap lines whole ∙ bare_back first others rest h k
+
+-- ---- words that are known
+
+abbrev pub is_solid : List ℕ → Bool
+is_solid w = list_all (λ b. nat_lt 32 b) w
+
+above : (b : ℕ) → nat_lt 32 b ≡ true → 32 < b
+above b h = grind (arith, nat_tests)
+
+pub solid_by : (w : List ℕ) → is_solid w ≡ true → IsSolid w
+solid_by [] h = tt
+solid_by (b ∷ bs) h = let p = and_parts (nat_lt 32 b) (is_solid bs) h in (above b p.0, solid_by bs p.1)

@@ -1,8 +1,11 @@
 -- How many bytes are taken in several steps.
-use Rattle.std.proofs.Common.{◌≡◌, ℕ, ◌+◌, ◌≤◌, List, [], ◌++◌, length, drop, Option, arith, length-append, length-drop, ap}
+use Rattle.std.proofs.Common.{◌≡◌, ℕ, ◌+◌, ◌≤◌, List, [], ◌++◌, length, drop, Option, arith, length-append, length-drop, ap, subst}
 use Rattle.std.specs.Io.KnownBytes.{Keeps}
 use Rattle.std.proofs.KnownBytes.{Consumes-nil, Consumes-trans, Consumes-kept}
-use Rattle.pr_report.specs.BytesTaken.{LosesUpTo}
+use Rattle.pr_report.specs.BytesTaken.{LosesUpTo, bytes_of_lines, most_of_trace}
+use Rattle.pr_report.specs.Versions.{most_items}
+use Rattle.pr_report.specs.declared.ahead.TheConstants.{MOST_HELD}
+use Rattle.pr_report.specs.declared.trace_reading.TheConstants.{MOST_LATER_LINES}
 use Rattle.pr_report.specs.inside.LinesAhead.{Takes, bytes_held}
 use Rattle.pr_report.specs.declared.ahead.Ahead.{Ahead}
 
@@ -27,6 +30,11 @@ takes_drop {s} {m} {a} {b} held next u n h is l = record { lost = h.lost; taken 
 
 pub loses_up_to : {s m n : ℕ} {a b : Option (List ℕ)} (limit : ℕ) → Takes s a b m n → n + s ≤ limit → LosesUpTo limit a b
 loses_up_to limit h l = record { lost = h.lost; taken = h.taken; limited = omega (arith, h.counted) }
+
+-- what was taken of a trace, by the version that was read out
+pub loses_of_trace : {s m n : ℕ} {a b : Option (List ℕ)} (v w : ℕ) → v ≡ w → Takes s a b m n → s ≤ bytes_of_lines (1 + most_items v + MOST_LATER_LINES) → n ≤ MOST_HELD
+    → LosesUpTo (most_of_trace w) a b
+loses_of_trace {s} {m} {n} {a} {b} v w same taken few held = subst (λ x. LosesUpTo (most_of_trace x) a b) same (loses_up_to (most_of_trace v) taken (omega (arith, few, held)))
 
 pub held_few : (a : Ahead) → length (bytes_held a) ≤ 8192
 held_few a = omega (arith, length-drop a.start a.bytes.items, a.few)

@@ -10,7 +10,8 @@ use Rattle.std.proofs.lemmas.Slice.Eq.{bytes_eq-Decides}
 use Rattle.pr_cdb.specs.declared.codes.TheConstants.{MOST_NEXUSES}
 use Rattle.pr_script.specs.Names.{is_name, is_name_byte}
 use Rattle.pr_roles.specs.Scenarios.{Scenario, Nexus}
-use Rattle.pr_roles.specs.Fitting.{Fits, are_distinct, is_nexus, is_role, is_start, is_task}
+use Rattle.pr_roles.specs.Fitting.{most_declared, Fits, are_distinct, is_nexus, is_role, is_start, is_task}
+use Rattle.pr_roles.proofs.Allowed.{counted}
 use Rattle.pr_report.specs.TraceText.{name_of, names_in}
 use Rattle.pr_report.specs.TraceReadings.{number_of}
 use Rattle.pr_report.proofs.SolidWords.{IsSolid, IsWord}
@@ -87,9 +88,6 @@ number_back names h are k =
 
 -- ---- the names of a scenario
 
-few_names : (n : ℕ) → nat_le n MOST_NEXUSES ≡ true → n ≤ MOST_NEXUSES
-few_names n h = grind (arith, nat_tests)
-
 each_name : (keys : List ℕ) (ns : List Nexus) (h : ℕ) → list_all (is_nexus keys) ns ≡ true → h < length ns → is_name (name_of (map (λ n. n.name) ns) h) ≡ true
 each_name keys [] h e k = absurd (omega arith)
 each_name keys (n ∷ ns) zero e k =
@@ -100,11 +98,11 @@ pub names_fit : (s : Scenario) → Fits s → AreNames (names_in s)
 names_fit s fits =
     let ns = s.nexuses in
     let names = map (λ (n : Nexus). n.name) ns in
-    let rest = (and_parts (not (length ns == 0)) (nat_le (length ns) MOST_NEXUSES && (are_distinct bytes_eq names && list_all (is_nexus s.keys) ns)) fits.nexuses).1 in
-    let more = and_parts (nat_le (length ns) MOST_NEXUSES) (are_distinct bytes_eq names && list_all (is_nexus s.keys) ns) rest in
+    let rest = (and_parts (not (length ns == 0)) (nat_le (length ns) (most_declared s.version) && (are_distinct bytes_eq names && list_all (is_nexus s.keys) ns)) fits.nexuses).1 in
+    let more = and_parts (nat_le (length ns) (most_declared s.version)) (are_distinct bytes_eq names && list_all (is_nexus s.keys) ns) rest in
     let all = and_parts (are_distinct bytes_eq names) (list_all (is_nexus s.keys) ns) more.1 in
     record {
-      few = omega (arith, few_names (length ns) more.0, length-map ns (λ (n : Nexus). n.name));
+      few = omega (arith, (counted s fits).1, length-map ns (λ (n : Nexus). n.name));
       apart = all.0;
       each = λ h k. each_name s.keys ns h all.1 (omega (arith, length-map ns (λ (n : Nexus). n.name)));
     }

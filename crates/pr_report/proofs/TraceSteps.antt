@@ -4,9 +4,9 @@ use Rattle.std.proofs.Math.ListN.{drop_of_length-le}
 use Rattle.std.specs.Io.KnownBytes.{Appends}
 use Rattle.pr_report.specs.Written.{Wrote, FallsShort, Puts}
 use Rattle.pr_report.specs.PrintedLines.{line, joined_by_spaces, generation_word, registration_word}
-use Rattle.pr_report.specs.TraceText.{entry_line, entry_lines, ending_line, ending_lines, held_word, name_of, names_in, names_of, registration_words, trace_text, unit_line}
+use Rattle.pr_report.specs.TraceText.{item_line, item_lines, ending_line, ending_lines, first_line, held_word, name_of, names_in, names_of, registration_words, trace_text, unit_line}
 use Rattle.std.specs.Prelude.{map, slice_index}
-use Rattle.pr_roles.specs.declared.entry.Entry.{Entry}
+use Rattle.pr_roles.specs.declared.item.Item.{Item}
 use Rattle.pr_roles.specs.declared.parts.Nexus.{Nexus as NexusPart}
 use Rattle.pr_roles.specs.declared.parts.Parts.{Parts}
 use Rattle.pr_roles.specs.Scenarios.{scenario_of, nexus_of}
@@ -21,24 +21,24 @@ drop_here xs i x h e = rw add-one (drop-cons xs i x h ∙ ap (λ y. y ∷ drop (
 
 -- Entries.
 
-entry_lines_from : (names : List (List ℕ)) (es : List Entry) (i : ℕ) (e : Entry) → i < length es → e ≡ get_or es i e
-    → entry_lines i names (drop i es) ≡ entry_line (i + 1) names e ++ entry_lines (i + 1) names (drop (i + 1) es)
-entry_lines_from names es i e h is = rw (drop_here es i e h is) refl
+item_lines_from : (names : List (List ℕ)) (es : List Item) (i : ℕ) (e : Item) → i < length es → e ≡ get_or es i e
+    → item_lines i names (drop i es) ≡ item_line (i + 1) names e ++ item_lines (i + 1) names (drop (i + 1) es)
+item_lines_from names es i e h is = rw (drop_here es i e h is) refl
 
-entry_lines_end : (names : List (List ℕ)) (es : List Entry) (i : ℕ) → length es ≤ i → entry_lines i names (drop i es) ≡ []
-entry_lines_end names es i h = rw (drop_of_length-le es {i = i} h) refl
+item_lines_end : (names : List (List ℕ)) (es : List Item) (i : ℕ) → length es ≤ i → item_lines i names (drop i es) ≡ []
+item_lines_end names es i h = rw (drop_of_length-le es {i = i} h) refl
 
-pub entries_front : (old mid new : Option (List ℕ)) (text held : List ℕ) (names : List (List ℕ)) (es : List Entry) (i : ℕ) (e : Entry) → i < length es → e ≡ get_or es i e
-    → Wrote old mid text (held ++ entry_lines i names (drop i es)) → FallsShort mid new (held ++ entry_line (i + 1) names e) → FallsShort old new text
-entries_front old mid new text held names es i e h is w f = held_front _ _ _ _ held _ _ (rw (entry_lines_from names es i e h is) at w) f
+pub entries_front : (old mid new : Option (List ℕ)) (text held : List ℕ) (names : List (List ℕ)) (es : List Item) (i : ℕ) (e : Item) → i < length es → e ≡ get_or es i e
+    → Wrote old mid text (held ++ item_lines i names (drop i es)) → FallsShort mid new (held ++ item_line (i + 1) names e) → FallsShort old new text
+entries_front old mid new text held names es i e h is w f = held_front _ _ _ _ held _ _ (rw (item_lines_from names es i e h is) at w) f
 
-pub entries_more : (old mid new : Option (List ℕ)) (text held left : List ℕ) (names : List (List ℕ)) (es : List Entry) (i : ℕ) (e : Entry) → i < length es → e ≡ get_or es i e
-    → Wrote old mid text (held ++ entry_lines i names (drop i es)) → Wrote mid new (held ++ entry_line (i + 1) names e) left → Wrote old new text (left ++ entry_lines (i + 1) names (drop (i + 1) es))
-entries_more old mid new text held left names es i e h is w v = held_more _ _ _ _ held _ _ _ (rw (entry_lines_from names es i e h is) at w) v
+pub entries_more : (old mid new : Option (List ℕ)) (text held left : List ℕ) (names : List (List ℕ)) (es : List Item) (i : ℕ) (e : Item) → i < length es → e ≡ get_or es i e
+    → Wrote old mid text (held ++ item_lines i names (drop i es)) → Wrote mid new (held ++ item_line (i + 1) names e) left → Wrote old new text (left ++ item_lines (i + 1) names (drop (i + 1) es))
+entries_more old mid new text held left names es i e h is w v = held_more _ _ _ _ held _ _ _ (rw (item_lines_from names es i e h is) at w) v
 
-pub entries_end : (old new : Option (List ℕ)) (text held : List ℕ) (names : List (List ℕ)) (es : List Entry) (i : ℕ) → length es ≤ i
-    → Wrote old new text (held ++ entry_lines i names (drop i es)) → Wrote old new text held
-entries_end old new text held names es i h w = rw append-nil at (rw (entry_lines_end names es i h) at w)
+pub entries_end : (old new : Option (List ℕ)) (text held : List ℕ) (names : List (List ℕ)) (es : List Item) (i : ℕ) → length es ≤ i
+    → Wrote old new text (held ++ item_lines i names (drop i es)) → Wrote old new text held
+entries_end old new text held names es i h w = rw append-nil at (rw (item_lines_end names es i h) at w)
 
 -- Registrations.
 
@@ -96,14 +96,16 @@ ends_end old new text held names counts es i h w = rw append-nil at (rw (ending_
 
 -- The whole, in four parts.
 
-abbrev pub first_line : List ℕ
-first_line = line (codes "fence-trace") (codes "1" ∷ [])
+-- the first line, with its end
+abbrev pub head : ℕ → List ℕ
+head version = first_line version ++ codes "\n"
 
-pub first_front : (old new : Option (List ℕ)) (held rest : List ℕ) → held ≡ [] → FallsShort old new (held ++ first_line) → FallsShort old new (first_line ++ rest)
-first_front old new held rest e f = held_front old old new (first_line ++ rest) held first_line rest (held_first old (first_line ++ rest) held e) f
+module _ (version : ℕ) (old new : Option (List ℕ)) where
+  pub first_front : (held rest : List ℕ) → held ≡ [] → FallsShort old new (held ++ head version) → FallsShort old new (head version ++ rest)
+  first_front held rest e f = held_front old old new (head version ++ rest) held (head version) rest (held_first old (head version ++ rest) held e) f
 
-pub first_put : (old new : Option (List ℕ)) (held left rest : List ℕ) → held ≡ [] → Wrote old new (held ++ first_line) left → Wrote old new (first_line ++ rest) (left ++ rest)
-first_put old new held left rest e w = held_more old old new (first_line ++ rest) held first_line rest left (held_first old (first_line ++ rest) held e) w
+  pub first_put : (held left rest : List ℕ) → held ≡ [] → Wrote old new (held ++ head version) left → Wrote old new (head version ++ rest) (left ++ rest)
+  first_put held left rest e w = held_more old old new (head version ++ rest) held (head version) rest left (held_first old (head version ++ rest) held e) w
 
 -- Names.
 
@@ -115,10 +117,20 @@ pub names_of_scenario : (p : Parts) → names_of p.nexuses.items ≡ names_in (s
 unfolding scenario_of
 names_of_scenario p = names_of_nexuses p.nexuses.items
 
--- the trace of a scenario, whose names and registry were read out
-pub trace_of_parts : {E : Type 0} (old new : Option (List ℕ)) (p q : Parts) (nexuses : List NexusPart) (entries : List Entry) (u v : State) (ends : List End) (counts : List ℕ) (r : Result (Unit {0}) E)
-    → q ≡ p → nexuses ≡ q.nexuses.items → u ≡ v → Puts old new (trace_text (names_of nexuses) entries u (map ending_of ends) counts) r
-    → Puts old new (trace_text (names_in (scenario_of p)) entries v (map ending_of ends) counts) r
+version_of_scenario : (p : Parts) → p.version ≡ (scenario_of p).version
+unfolding scenario_of
+version_of_scenario p = refl
+
+-- the version of parts that were read out
+pub version_read : (p q : Parts) → q ≡ p → q.version ≡ (scenario_of p).version
+version_read p q same = ap (λ (o : Parts). o.version) same ∙ version_of_scenario p
+
+-- the trace of a scenario, whose version, names and registry were read out
+pub trace_of_parts : {E : Type 0} (old new : Option (List ℕ)) (p q : Parts) (nexuses : List NexusPart) (entries : List Item) (u v : State) (ends : List End) (counts : List ℕ) (r : Result (Unit {0}) E)
+    → q ≡ p → nexuses ≡ q.nexuses.items → u ≡ v → Puts old new (trace_text q.version (names_of nexuses) entries u (map ending_of ends) counts) r
+    → Puts old new (trace_text (scenario_of p).version (names_in (scenario_of p)) entries v (map ending_of ends) counts) r
 trace_of_parts old new p q nexuses entries u v ends counts r same items unit puts =
-    subst (λ w. Puts old new (trace_text (names_in (scenario_of p)) entries w (map ending_of ends) counts) r) unit
-    (subst (λ ns. Puts old new (trace_text ns entries u (map ending_of ends) counts) r) (ap names_of (items ∙ ap (λ o. o.nexuses.items) same) ∙ names_of_scenario p) puts)
+    let names = ap names_of (items ∙ ap (λ (o : Parts). o.nexuses.items) same) ∙ names_of_scenario p in
+    subst (λ w. Puts old new (trace_text (scenario_of p).version (names_in (scenario_of p)) entries w (map ending_of ends) counts) r) unit
+    (subst (λ ns. Puts old new (trace_text (scenario_of p).version ns entries u (map ending_of ends) counts) r) names
+    (subst (λ n. Puts old new (trace_text n (names_of nexuses) entries u (map ending_of ends) counts) r) (version_read p q same) puts))

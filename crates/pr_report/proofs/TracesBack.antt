@@ -1,5 +1,5 @@
 -- The text of a trace is read back.
-use Rattle.std.proofs.Common.{◌≡◌, ℕ, suc, ◌+◌, ◌*◌, ◌<◌, ◌≤◌, Bool, true, false, List, [], ◌∷◌, ◌++◌, length, refl, sym, ap, ◌∙◌, arith, length-append, subst}
+use Rattle.std.proofs.Common.{◌≡◌, ℕ, suc, ◌+◌, ◌*◌, ◌^◌, ◌<◌, ◌≤◌, Bool, true, false, List, [], ◌∷◌, ◌++◌, length, refl, sym, ap, ◌∙◌, arith, append_assoc, append-nil, length-append, subst}
 use Rattle.std.specs.Prelude.{nat_lt, nat_le, codes, Option, Some, None, Ok, slice_index}
 use Rattle.std.specs.Fmt.{decimal}
 use Rattle.std.specs.Int.{w32, to_be_bytes}
@@ -9,31 +9,23 @@ use Rattle.std.proofs.lemmas.Bool.Decides.{nat_tests}
 use Rattle.std.proofs.lemmas.List.Elements.{recursion_from_All}
 use Rattle.pr_registry.specs.declared.held.Held.{Held}
 use Rattle.pr_registry.specs.declared.held.Held.TheVariants.{One, All as Everybody}
-use Rattle.pr_registry.specs.Registrations.{State, key_of}
+use Rattle.pr_report.proofs.KeyDigits.{key_short}
+use Rattle.pr_registry.specs.Registrations.{IsWellFormed, State, key_of}
 use Rattle.pr_cdb.specs.Kinds.{code_of}
 use Rattle.pr_cdb.specs.declared.codes.TheConstants.{MOST_NEXUSES}
-use Rattle.pr_roles.specs.declared.entry.Entry.{Entry}
+use Rattle.pr_roles.specs.declared.item.Item.{Item}
 use Rattle.pr_world.specs.Ends.{Ending, stops, waits, traps, leaves}
 use Rattle.pr_report.specs.PrintedLines.{generation_word, key_or_dash, line, registration_word, joined_by_spaces}
-use Rattle.pr_report.specs.TraceText.{ending_line, ending_lines, entry_lines, held_word, name_of, names_in, registration_words, unit_line}
-use Rattle.pr_report.specs.TraceLaws.{IsEnding, IsEntry, WrittenTracesAreRead}
-use Rattle.pr_report.specs.TraceReadings.{and_then, entries_of, is_later, later_lines, lines, trace_in, trace_of}
+use Rattle.pr_report.specs.TraceText.{ending_line, ending_lines, item_lines, first_line, held_word, name_of, names_in, registration_words, unit_line}
+use Rattle.pr_report.specs.TraceLaws.{IsEnding, IsItem, WrittenTracesAreRead}
+use Rattle.pr_report.specs.TraceReadings.{and_then, items_of, is_later, later_lines, lines, trace_in, trace_of}
 use Rattle.pr_report.proofs.FrontLines.{entries_later}
-use Rattle.pr_report.proofs.SolidWords.{AreSolid, IsSolid, IsWord, bare, digits_word, line_back, pairs_word, spaced_none, spaced_word, word_both}
+use Rattle.pr_report.proofs.SolidWords.{is_solid, solid_by, AreSolid, IsSolid, IsWord, bare, bare_back, digits_word, line_back, pairs_word, spaced_none, spaced_word, word_both}
+use Rattle.pr_report.proofs.WordsBack.{same_bytes}
 use Rattle.pr_report.proofs.TraceNames.{AreNames, name_of_word, name_word, names_count, names_fit}
-use Rattle.pr_report.proofs.EntriesBack.{AreEntries, entries_back}
+use Rattle.pr_report.proofs.EntriesBack.{AreItems, items_back}
 
 -- ---- words that are known
-
-abbrev is_solid : List ℕ → Bool
-is_solid w = list_all (λ b. nat_lt 32 b) w
-
-above : (b : ℕ) → nat_lt 32 b ≡ true → 32 < b
-above b h = grind (arith, nat_tests)
-
-solid_by : (w : List ℕ) → is_solid w ≡ true → IsSolid w
-solid_by [] h = tt
-solid_by (b ∷ bs) h = let p = and_parts (nat_lt 32 b) (is_solid bs) h in (above b p.0, solid_by bs p.1)
 
 known : (n : ℕ) (w : List ℕ) → is_solid w ≡ true → length w ≤ n → IsWord n w
 known n w h k = record { solid = solid_by w h; short = k }
@@ -163,81 +155,106 @@ holder_are names (Some (One kind host)) are =
     (word_both 1 16 (codes ":") (name_of names host) (known 1 (codes ":") refl (omega arith)) (name_of_word names host are))
 holder_are names (Some (Everybody kind)) are = number_word (code_of kind)
 
-key_are : (key : Option ℕ) → IsWord 64 (key_or_dash key)
-key_are None = known 64 (codes "-") refl (omega arith)
-key_are (Some key) = digits_word 16 key
+-- a key of 64 bits has at most 16 digits
+abbrev IsShortKey : Option ℕ → Type 0
+IsShortKey None = Unit {0}
+IsShortKey (Some k) = k < 2 ^ 64
 
-registration_are : (name : List ℕ) (key : Option ℕ) → IsWord 16 name → IsWord 81 (registration_word name key)
-registration_are name key h = word_both 16 65 name (codes "=" ++ key_or_dash key) h (word_both 1 64 (codes "=") (key_or_dash key) (known 1 (codes "=") refl (omega arith)) (key_are key))
+key_are : (key : Option ℕ) → IsShortKey key → IsWord 16 (key_or_dash key)
+key_are None h = known 16 (codes "-") refl (omega arith)
+key_are (Some key) h = record { solid = (digits_word 16 key).solid; short = key_short key h }
 
-registrations_are : (u : State) (host : ℕ) (names : List (List ℕ)) → ((h : ℕ) → IsWord 16 (name_of names h)) → AreWords 81 (registration_words u host names)
-registrations_are u host [] h = tt
-registrations_are u host (name ∷ names) h = (registration_are name (key_of u host) (h 0), registrations_are u (host + 1) names (λ k. h (suc k)))
+short_key : (u : State) → IsWellFormed u → (h : ℕ) (o : Option ℕ) → key_of u h ≡ o → IsShortKey o
+short_key u formed h None is = tt
+short_key u formed h (Some k) is = (formed.keys h k is).1.1
+
+registration_are : (name : List ℕ) (key : Option ℕ) → IsWord 16 name → IsShortKey key → IsWord 33 (registration_word name key)
+registration_are name key h k = word_both 16 17 name (codes "=" ++ key_or_dash key) h (word_both 1 16 (codes "=") (key_or_dash key) (known 1 (codes "=") refl (omega arith)) (key_are key k))
+
+registrations_are : (u : State) (host : ℕ) (names : List (List ℕ)) → IsWellFormed u → ((h : ℕ) → IsWord 16 (name_of names h)) → AreWords 33 (registration_words u host names)
+registrations_are u host [] formed h = tt
+registrations_are u host (name ∷ names) formed h =
+    (registration_are name (key_of u host) (h 0) (short_key u formed host (key_of u host) refl), registrations_are u (host + 1) names formed (λ k. h (suc k)))
+
+registrations_short : (ws : List (List ℕ)) → AreWords 33 ws → length (joined_by_spaces ws) ≤ 34 * length ws
+registrations_short [] h = omega (arith, spaced_none)
+registrations_short (w ∷ ws) h = omega (arith, spaced_word 33 (34 * length ws) w ws h.0 (registrations_short ws h.1))
 
 registrations_count : (u : State) (host : ℕ) (names : List (List ℕ)) → length (registration_words u host names) ≡ length names
 registrations_count u host [] = refl
 registrations_count u host (name ∷ names) = ap suc (registrations_count u (host + 1) names)
 
-unit_cut : (names : List (List ℕ)) (u : State) (rest : List ℕ) → AreNames names → IsCut (unit_line names u) rest
+unit_cut : (names : List (List ℕ)) (u : State) (rest : List ℕ) → AreNames names → IsWellFormed u → IsCut (unit_line names u) rest
 unfolding unit_line
-unit_cut names u rest are =
+unit_cut names u rest are formed =
     let registered = registration_words u 0 names in
     let ws = generation_word u.generation ∷ held_word names u.held ∷ registered in
-    let each : AreWords 81 ws = (generation_are u.generation, (holder_are names u.held are, registrations_are u 0 names (λ h. name_of_word names h are))) in
-    let few : length ws ≤ 10 = omega (arith, registrations_count u 0 names, are.few) in
+    let generation = generation_are u.generation in
+    let held = holder_are names u.held are in
+    let each = registrations_are u 0 names formed (λ h. name_of_word names h are) in
     let first = known 5 (codes "unit") refl (omega arith) in
+    let long = spaced_word 81 (82 + 34 * length registered) (generation_word u.generation) (held_word names u.held ∷ registered) generation
+    (spaced_word 81 (34 * length registered) (held_word names u.held) registered held (registrations_short registered each)) in
     record {
       bare_line = bare (codes "unit") ws;
-      cut = later_cut (codes "unit") ws first each few rest;
+      cut = line_back (codes "unit") ws rest first.solid (generation.solid, (held.solid, are_solid 33 registered each));
       later = unit_later (joined_by_spaces ws);
-      short = later_short (codes "unit") ws first each few;
+      short = omega (arith, length-append (codes "unit") (joined_by_spaces ws), long, registrations_count u 0 names, are.few);
     }
 
 -- ---- the whole text
 
-first_bare : bare (codes "fence-trace") (codes "1" ∷ []) ≡ codes "fence-trace 1"
-unfolding joined_by_spaces
-first_bare = refl
+nothing_more : (version : ℕ) (names : List (List ℕ)) (items : ℕ) (l : List ℕ) (ls : List (List ℕ)) → is_later l ≡ true → later_lines items 0 (l ∷ ls) ≡ Ok tt → items_of version names items (l ∷ ls) ≡ Ok []
+nothing_more version names items l ls h k = entries_later version names items l ls h ∙ ap (λ r. and_then r (λ _. Ok [])) k
 
-nothing_more : (names : List (List ℕ)) (entries : ℕ) (l : List ℕ) (ls : List (List ℕ)) → is_later l ≡ true → later_lines entries 0 (l ∷ ls) ≡ Ok tt → entries_of names entries (l ∷ ls) ≡ Ok []
-nothing_more names entries l ls h k = entries_later names entries l ls h ∙ ap (λ r. and_then r (λ _. Ok [])) k
-
-behind_back : (names : List (List ℕ)) (entries : ℕ) (u : State) (ends : List Ending) (counts : List ℕ) → AreNames names → length ends ≤ MOST_NEXUSES → AreEndings ends
-    → entries_of names entries (lines (unit_line names u ++ ending_lines 0 names counts ends)) ≡ Ok []
-behind_back names entries u ends counts are short each =
+behind_back : (version : ℕ) (names : List (List ℕ)) (items : ℕ) (u : State) (ends : List Ending) (counts : List ℕ) → AreNames names → IsWellFormed u → length ends ≤ MOST_NEXUSES → AreEndings ends
+    → items_of version names items (lines (unit_line names u ++ ending_lines 0 names counts ends)) ≡ Ok []
+behind_back version names items u ends counts are formed short each =
     let rest = ending_lines 0 names counts ends in
-    let cut = unit_cut names u rest are in
+    let cut = unit_cut names u rest are formed in
     let more = endings_lines names counts ends 0 are each in
-    let good : later_lines entries 0 (cut.bare_line ∷ lines rest) ≡ Ok tt =
-    later_good entries 0 (cut.bare_line ∷ lines rest) ((cut.later, cut.short), more.later) (omega (arith, more.counted)) in
-    ap (entries_of names entries) cut.cut ∙ nothing_more names entries cut.bare_line (lines rest) cut.later good
+    let good : later_lines items 0 (cut.bare_line ∷ lines rest) ≡ Ok tt =
+    later_good items 0 (cut.bare_line ∷ lines rest) ((cut.later, cut.short), more.later) (omega (arith, more.counted)) in
+    ap (items_of version names items) cut.cut ∙ nothing_more version names items cut.bare_line (lines rest) cut.later good
 
-first_back : (names : List (List ℕ)) (rest : List ℕ) → trace_of names (line (codes "fence-trace") (codes "1" ∷ []) ++ rest) ≡ entries_of names 0 (lines rest)
+first_is : (version : ℕ) → first_line version ≡ bare (codes "fence-trace") (decimal version ∷ [])
+unfolding first_line joined_by_spaces
+first_is version = ap (λ w. codes "fence-trace " ++ w) (sym (append-nil (decimal version)))
+
+first_cut : (version : ℕ) (rest : List ℕ) → lines ((first_line version ++ codes "\n") ++ rest) ≡ first_line version ∷ lines rest
+first_cut version rest =
+    let solid = solid_by (codes "fence-trace") refl in
+    ap lines (append_assoc (first_line version) (codes "\n") rest)
+    ∙ (ap (λ w. lines (w ++ (10 ∷ rest))) (first_is version)
+    ∙ (bare_back (codes "fence-trace") (decimal version ∷ []) rest solid ((digits_word 10 version).solid, tt) ∙ ap (λ w. w ∷ lines rest) (sym (first_is version))))
+
+first_then : (version : ℕ) (names : List (List ℕ)) (rest : List ℕ) → trace_in version names (first_line version ∷ lines rest) ≡ items_of version names 0 (lines rest)
+first_then version names rest = rw (same_bytes (first_line version)) refl
+
+first_back : (version : ℕ) (names : List (List ℕ)) (rest : List ℕ) → trace_of version names ((first_line version ++ codes "\n") ++ rest) ≡ items_of version names 0 (lines rest)
 unfolding trace_of
-first_back names rest =
-    ap (trace_in names)
-    (line_back (codes "fence-trace") (codes "1" ∷ []) rest (solid_by (codes "fence-trace") refl) (solid_by (codes "1") refl, tt) ∙ ap (λ l. l ∷ lines rest) first_bare)
+first_back version names rest = ap (trace_in version names) (first_cut version rest) ∙ first_then version names rest
 
-by_recursion : (names : List (List ℕ)) (es : List Entry) → AllByRecursion (IsEntry (length names)) es → AreEntries names es
-by_recursion names [] h = tt
-by_recursion names (e ∷ es) h = (h.0, by_recursion names es h.1)
+by_recursion : (version : ℕ) (names : List (List ℕ)) (es : List Item) → AllByRecursion (IsItem version (length names)) es → AreItems version names es
+by_recursion version names [] h = tt
+by_recursion version names (e ∷ es) h = (h.0, by_recursion version names es h.1)
 
 endings_by_recursion : (es : List Ending) → AllByRecursion IsEnding es → AreEndings es
 endings_by_recursion [] h = tt
 endings_by_recursion (e ∷ es) h = (h.0, endings_by_recursion es h.1)
 
-all_entries : (names : List (List ℕ)) (n : ℕ) (es : List Entry) → n ≡ length names → All (IsEntry n) es → AreEntries names es
-all_entries names n es e h = by_recursion names es (recursion_from_All (IsEntry (length names)) es (subst (λ m. All (IsEntry m) es) e h))
+all_items : (version : ℕ) (names : List (List ℕ)) (n : ℕ) (es : List Item) → n ≡ length names → All (IsItem version n) es → AreItems version names es
+all_items version names n es e h = by_recursion version names es (recursion_from_All (IsItem version (length names)) es (subst (λ m. All (IsItem version m) es) e h))
 
 all_endings : (es : List Ending) → All IsEnding es → AreEndings es
 all_endings es h = endings_by_recursion es (recursion_from_All IsEnding es h)
 
 pub written_are_read : WrittenTracesAreRead
-written_are_read s es u ends counts fits each few ended all =
+written_are_read s es u ends counts fits formed each few ended all =
     let names = names_in s in
     let are = names_fit s fits in
     let rest = unit_line names u ++ ending_lines 0 names counts ends in
     let short : length ends ≤ MOST_NEXUSES = omega (arith, ended, names_count s, are.few) in
-    first_back names (entry_lines 0 names es ++ rest)
-    ∙ entries_back names es 0 rest are (all_entries names (length s.nexuses) es (sym (names_count s)) each) (omega arith)
-    (behind_back names (0 + length es) u ends counts are short (all_endings ends all))
+    first_back s.version names (item_lines 0 names es ++ rest)
+    ∙ items_back s.version names es 0 rest are (all_items s.version names (length s.nexuses) es (sym (names_count s)) each) (omega arith)
+    (behind_back s.version names (0 + length es) u ends counts are formed short (all_endings ends all))

@@ -14,5 +14,5 @@ pub replays_are_traced : ReplaysAreTraced
 replays_are_traced s y r is = record {
   ends = map ending_of r.ends.items;
   standing = seen_again r.ends.items ∙ is.ends;
-  text_is = λ i. trace_text (names_in s) (is.entries i) ((is.unit i).registry) (map ending_of r.ends.items) (is.counts i);
+  text_is = λ i. trace_text s.version (names_in s) (is.history i) ((is.unit i).registry) (map ending_of r.ends.items) (is.counts i);
 }

@@ -7,10 +7,11 @@ use Rattle.std.proofs.lemmas.Bool.Decides.{nat_tests}
 use Rattle.std.proofs.lemmas.Slice.Eq.{bytes_eq-Decides}
 use Rattle.pr_cdb.specs.declared.reply.Sense.{Sense}
 use Rattle.pr_cdb.specs.declared.reply.Status.{Status}
-use Rattle.pr_cdb.specs.declared.reply.Status.TheVariants.{Good, CheckCondition, Conflict}
+use Rattle.pr_cdb.specs.declared.reply.Status.TheVariants.{Good, CheckCondition, Conflict, Busy, TaskFull}
 use Rattle.pr_cdb.specs.Requests.{AreBytes}
 use Rattle.pr_cdb.specs.ReplyData.{sense_bytes, sense_in}
 use Rattle.pr_report.specs.PrintedLines.{pairs, pairs_or_dash}
+use Rattle.pr_report.specs.Versions.{has_status}
 use Rattle.pr_report.specs.TraceText.{sense_data, status_word}
 use Rattle.pr_report.specs.TraceLaws.{HasSense}
 use Rattle.pr_report.specs.EntryWords.{byte_in, bytes_in, pairs_in, sense_under, status_in, worth}
@@ -70,10 +71,12 @@ bytes_back most (b ∷ bs) h k = bytes_all most (pairs (b ∷ bs)) (b ∷ bs) (n
 
 -- ---- status and sense
 
-pub status_back : (t : Status) → status_in (status_word t) ≡ Some t
-status_back Good = refl
-status_back CheckCondition = refl
-status_back Conflict = refl
+pub status_back : (version : ℕ) (t : Status) → has_status version t ≡ true → status_in version (status_word t) ≡ Some t
+status_back version Good h = rw h refl
+status_back version CheckCondition h = rw h refl
+status_back version Conflict h = rw h refl
+status_back version Busy h = rw h refl
+status_back version TaskFull h = rw h refl
 
 sense_whole : (s : Sense) → s.key < 16 → sense_in (sense_bytes s) ≡ Some s
 unfolding sense_in sense_bytes
@@ -88,6 +91,10 @@ sense_back CheckCondition None h = absurd h
 sense_back CheckCondition (Some s) h = rw (sense_whole s h.0, same_bytes (sense_bytes s)) refl
 sense_back Conflict None h = refl
 sense_back Conflict (Some s) h = absurd h
+sense_back Busy None h = refl
+sense_back Busy (Some s) h = absurd h
+sense_back TaskFull None h = refl
+sense_back TaskFull (Some s) h = absurd h
 
 -- each is a byte
 abbrev pub EachByte : List ℕ → Type 0
@@ -115,6 +122,10 @@ data_are_bytes CheckCondition None h = absurd h
 data_are_bytes CheckCondition (Some s) h = are_bytes (sense_bytes s) (sense_each s h.1 h.2)
 data_are_bytes Conflict None h = are_bytes [] tt
 data_are_bytes Conflict (Some s) h = absurd h
+data_are_bytes Busy None h = are_bytes [] tt
+data_are_bytes Busy (Some s) h = absurd h
+data_are_bytes TaskFull None h = are_bytes [] tt
+data_are_bytes TaskFull (Some s) h = absurd h
 
 pub data_short : (s : Option Sense) → length (sense_data s) ≤ 18
 unfolding sense_bytes

@@ -3,7 +3,7 @@
 use Rattle.std.specs.Prelude.{ℕ, ◌+◌, ◌*◌, ◌≤◌, List, length, Option}
 use Rattle.std.specs.Io.KnownBytes.{Consumes}
 use Rattle.pr_report.specs.declared.ahead.TheConstants.{MOST_LINE_BYTES, MOST_HELD}
-use Rattle.pr_report.specs.declared.entry_reading.TheConstants.{MOST_ENTRIES}
+use Rattle.pr_report.specs.Versions.{most_items}
 use Rattle.pr_report.specs.declared.trace_reading.TheConstants.{MOST_LATER_LINES}
 
 -- the reader has lost some bytes from the front, no more than the limit
@@ -16,6 +16,11 @@ pub record LosesUpTo (limit : ℕ) (old new : Option (List ℕ)) : Type 0 where
 abbrev pub bytes_of_lines : ℕ → ℕ
 bytes_of_lines n = n * (MOST_LINE_BYTES + 1)
 
--- all that is taken of a trace: the first line, the entries, the lines behind them, and what is held and not looked at
-abbrev pub most_of_trace : ℕ
-most_of_trace = bytes_of_lines (1 + MOST_ENTRIES + MOST_LATER_LINES) + MOST_HELD
+-- all that is taken of a trace of this version: the first line, the entries, the lines behind them, and what is held and
+-- not looked at
+abbrev pub most_of_trace : ℕ → ℕ
+most_of_trace version = bytes_of_lines (1 + most_items version + MOST_LATER_LINES) + MOST_HELD
+
+-- all that is taken of a trace of any version: those of the second are the longest
+abbrev pub most_of_any_trace : ℕ
+most_of_any_trace = most_of_trace 2

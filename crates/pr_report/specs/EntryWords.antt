@@ -1,16 +1,18 @@
 -- Agrees with docs/FORMATS.md, 'Reading a trace'.
 -- What the words of an entry's line say: INDEX NAME CDB PARAMS STATUS SENSE BYTES.
 use Rattle.std.specs.Prelude.{ℕ, ◌+◌, ◌-◌, ◌*◌, ◌==◌, ◌&&◌, nat_lt, nat_le, if◌then◌else◌, List, [], ◌∷◌, length, slice_index_or, Option, Some, None, option_map, codes, bytes_eq, decimal}
-use Rattle.pr_cdb.specs.declared.codes.TheConstants.{MOST_CDB_LENGTH, PARAMETER_LIST_LENGTH, FIXED_SENSE_LENGTH, MOST_DATA_LENGTH}
+use Rattle.std.specs.List.{find}
+use Rattle.pr_cdb.specs.declared.codes.TheConstants.{MOST_CDB_LENGTH, PARAMETER_LIST_LENGTH, FIXED_SENSE_LENGTH}
 use Rattle.pr_cdb.specs.declared.reply.Reply.{Reply}
 use Rattle.pr_cdb.specs.declared.reply.Sense.{Sense}
 use Rattle.pr_cdb.specs.declared.reply.Status.{Status}
-use Rattle.pr_cdb.specs.declared.reply.Status.TheVariants.{Good, CheckCondition, Conflict}
+use Rattle.pr_cdb.specs.declared.reply.Status.TheVariants.{Good, CheckCondition, Conflict, Busy, TaskFull}
 use Rattle.pr_cdb.specs.declared.wire.Wire.{Wire}
 use Rattle.pr_cdb.specs.ReplyData.{sense_bytes, sense_in}
 use Rattle.pr_cdb.specs.Spelling.{wire_of}
 use Rattle.pr_unit.specs.Replies.{reply_of}
 use Rattle.pr_script.specs.Names.{is_digit, is_name}
+use Rattle.pr_report.specs.Versions.{has_status, most_data}
 use Rattle.pr_report.specs.TraceText.{status_word}
 use Rattle.pr_report.specs.Chain.{◌>>=◌}
 
@@ -46,11 +48,13 @@ abbrev pub wire_in : List ℕ → List ℕ → Option Wire
 wire_in cdb params =
     bytes_in MOST_CDB_LENGTH cdb >>= λ c. bytes_in PARAMETER_LIST_LENGTH params >>= λ p. if length c == 0 then None else Some (wire_of c p)
 
-abbrev pub status_in : List ℕ → Option Status
-status_in word =
-    if bytes_eq word (status_word Good) then Some Good else (
-    if bytes_eq word (status_word CheckCondition) then Some CheckCondition else (
-    if bytes_eq word (status_word Conflict) then Some Conflict else None))
+-- those of every version
+abbrev pub statuses : List Status
+statuses = Good ∷ CheckCondition ∷ Conflict ∷ Busy ∷ TaskFull ∷ []
+
+-- the status with this word, of those that the version has
+abbrev pub status_in : ℕ → List ℕ → Option Status
+status_in version word = find (λ status. bytes_eq word (status_word status) && has_status version status) statuses
 
 -- the sense of which these are the very bytes
 abbrev pub sense_of : List ℕ → Option Sense
@@ -65,11 +69,13 @@ abbrev pub sense_under : Status → List ℕ → Option (Option Sense)
 sense_under Good bytes = no_sense_in bytes
 sense_under CheckCondition bytes = option_map (λ s. Some s) (sense_of bytes)
 sense_under Conflict bytes = no_sense_in bytes
+sense_under Busy bytes = no_sense_in bytes
+sense_under TaskFull bytes = no_sense_in bytes
 
 -- the answer: STATUS, SENSE and BYTES
-abbrev pub reply_in : List ℕ → List ℕ → List ℕ → Option Reply
-reply_in status sense bytes =
-    status_in status >>= λ t. bytes_in FIXED_SENSE_LENGTH sense >>= λ sb. sense_under t sb >>= λ s. bytes_in MOST_DATA_LENGTH bytes >>= λ b. Some (reply_of t s b)
+abbrev pub reply_in : ℕ → List ℕ → List ℕ → List ℕ → Option Reply
+reply_in version status sense bytes =
+    status_in version status >>= λ t. bytes_in FIXED_SENSE_LENGTH sense >>= λ sb. sense_under t sb >>= λ s. bytes_in (most_data version) bytes >>= λ b. Some (reply_of t s b)
 
 -- ---- the whole line
 
@@ -78,9 +84,9 @@ abbrev pub word_at : List (List ℕ) → ℕ → List ℕ
 word_at words place = slice_index_or words place []
 
 -- what the words of the entry with this index say, where NAME has the form of a name, but for whose it is
-unfoldable pub exchange_in : ℕ → List (List ℕ) → Option (Wire × Reply)
-exchange_in index words =
+unfoldable pub exchange_in : ℕ → ℕ → List (List ℕ) → Option (Wire × Reply)
+exchange_in version index words =
     if length words == 7 && (bytes_eq (word_at words 0) (decimal index) && is_name (word_at words 1)) then
     (wire_in (word_at words 2) (word_at words 3) >>= λ wire.
-    reply_in (word_at words 4) (word_at words 5) (word_at words 6) >>= λ reply. Some (wire, reply))
+    reply_in version (word_at words 4) (word_at words 5) (word_at words 6) >>= λ reply. Some (wire, reply))
     else None

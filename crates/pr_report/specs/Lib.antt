@@ -1,6 +1,7 @@
 pub mod Written
 pub mod PrintedLines
 pub mod Printed
+pub mod Versions
 pub mod TraceText
 pub mod Traces
 pub mod Verdicts

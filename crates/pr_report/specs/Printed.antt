@@ -3,8 +3,8 @@
 use Rattle.std.specs.Prelude.{ℕ, List}
 use Rattle.std.specs.Fmt.{decimal}
 use Rattle.pr_report.specs.declared.printing.Word.{Word}
-use Rattle.pr_report.specs.declared.printing.Word.TheVariants.{Text, Number, Bytes, Key, Generation, Holder, Registration, ReservationKey, ServiceActionKey, ReservationType, Sense, Class, Attentions}
-use Rattle.pr_report.specs.PrintedLines.{pairs_or_dash, key_word, generation_word, holder_word, registration_word, reservation_key_word, service_action_key_word, type_word, sense_word, class_word, attentions_word}
+use Rattle.pr_report.specs.declared.printing.Word.TheVariants.{Text, Number, Bytes, Key, Generation, Holder, Registration, ReservationKey, ServiceActionKey, ReservationType, Class, Attentions}
+use Rattle.pr_report.specs.PrintedLines.{pairs_or_dash, key_word, generation_word, holder_word, registration_word, reservation_key_word, service_action_key_word, type_word, class_word, attentions_word}
 
 unfoldable pub printed_word : Word → List ℕ
 printed_word (Text text) = text.now
@@ -17,6 +17,5 @@ printed_word (Registration name key) = registration_word name.now key
 printed_word (ReservationKey key) = reservation_key_word key
 printed_word (ServiceActionKey key) = service_action_key_word key
 printed_word (ReservationType kind) = type_word kind
-printed_word (Sense sense) = sense_word sense
 printed_word (Class class) = class_word class
 printed_word (Attentions codes) = attentions_word codes.now

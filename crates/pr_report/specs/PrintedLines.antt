@@ -68,6 +68,8 @@ sense_word sense = digits 16 false sense.key ++ ((codes "/" ++ pair sense.asc) +
 abbrev pub class_word : Class → List ℕ
 class_word class.Good = codes "good"
 class_word class.Conflict = codes "conflict"
+class_word class.Busy = codes "busy"
+class_word class.Full = codes "full"
 class_word (class.Sense sense) = codes "sense " ++ sense_word sense
 
 -- a code of an attention, as `2a/05`

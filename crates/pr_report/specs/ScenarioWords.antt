@@ -5,8 +5,9 @@ use Rattle.pr_cdb.specs.declared.command.Command.{Command}
 use Rattle.pr_cdb.specs.declared.command.Command.TheVariants.{TestUnitReady, RequestSense, Read, Write, ReadKeys, ReadReservation, ReportCapabilities, Register, RegisterIgnore, Reserve, Release, Clear, Preempt, PreemptAbort}
 use Rattle.pr_cdb.specs.declared.command.Kind.{Kind}
 use Rattle.pr_script.specs.declared.script.Test.{Test}
-use Rattle.pr_script.specs.declared.script.Test.TheVariants.{Good, GoodHas, GoodHeld, GoodUnheld, Conflict, Attention, Sense}
-use Rattle.pr_report.specs.PrintedLines.{key_word, reservation_key_word, service_action_key_word, type_word, sense_word}
+use Rattle.pr_script.specs.declared.script.Test.TheVariants.{Good, GoodHas, GoodHeld, GoodUnheld, Conflict, Busy, Full, Attention, Sense}
+use Rattle.pr_domain.specs.declared.landing.Class.TheVariants as class
+use Rattle.pr_report.specs.PrintedLines.{key_word, reservation_key_word, service_action_key_word, type_word, class_word}
 
 -- ---- commands
 
@@ -45,11 +46,14 @@ command_words (PreemptAbort rk sark kind) = out_words (codes "--preempt-abort") 
 
 -- ---- arms
 
+-- what an arm asks of a reply; how that ended has the words of its class
 abbrev pub test_words : Test → List (List ℕ)
-test_words Good = codes "good" ∷ []
-test_words (GoodHas key) = codes "good" ∷ codes "has" ∷ key_word key ∷ []
-test_words (GoodHeld key) = codes "good" ∷ codes "held" ∷ key_word key ∷ []
-test_words GoodUnheld = codes "good" ∷ codes "unheld" ∷ []
-test_words Conflict = codes "conflict" ∷ []
+test_words Good = class_word class.Good ∷ []
+test_words (GoodHas key) = class_word class.Good ∷ codes "has" ∷ key_word key ∷ []
+test_words (GoodHeld key) = class_word class.Good ∷ codes "held" ∷ key_word key ∷ []
+test_words GoodUnheld = class_word class.Good ∷ codes "unheld" ∷ []
+test_words Conflict = class_word class.Conflict ∷ []
+test_words Busy = class_word class.Busy ∷ []
+test_words Full = class_word class.Full ∷ []
 test_words Attention = codes "attention" ∷ []
-test_words (Sense sense) = codes "sense" ∷ sense_word sense ∷ []
+test_words (Sense sense) = class_word (class.Sense sense) ∷ []

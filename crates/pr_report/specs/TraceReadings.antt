@@ -1,16 +1,19 @@
 -- Agrees with docs/FORMATS.md, 'Reading a trace'.
 -- What a trace text is read as: its entries, or its one fault.
-use Rattle.std.specs.Prelude.{◌≡◌, ℕ, Bool, ◌+◌, ◌==◌, ◌||◌, ◌&&◌, nat_eq, nat_lt, nat_le, if◌then◌else◌, List, [], ◌∷◌, length, position, codes, bytes_eq, Option, Some, None, Result, Ok, Err}
+use Rattle.std.specs.Prelude.{◌≡◌, ℕ, Bool, decimal, ◌++◌, ◌+◌, ◌==◌, ◌||◌, ◌&&◌, nat_eq, nat_lt, nat_le, if◌then◌else◌, List, [], ◌∷◌, length, position, codes, bytes_eq, Option, Some, None, Result, Ok, Err}
 use Rattle.std.specs.List.{slice_split, starts_with}
 use Rattle.pr_cdb.specs.declared.reply.Reply.{Reply}
 use Rattle.pr_cdb.specs.declared.wire.Wire.{Wire}
 use Rattle.pr_roles.specs.declared.entry.Entry.{Entry}
+use Rattle.pr_roles.specs.declared.item.Item.{Item}
+use Rattle.pr_roles.specs.declared.item.Item.TheVariants.{Sent, Reset}
 use Rattle.pr_roles.specs.Worlds.{entry_of}
 use Rattle.pr_report.specs.declared.ahead.TheConstants.{MOST_LINE_BYTES}
-use Rattle.pr_report.specs.declared.entry_reading.TheConstants.{MOST_ENTRIES}
+use Rattle.pr_report.specs.Versions.{has_resets, most_items}
 use Rattle.pr_report.specs.declared.trace_reading.TheConstants.{MOST_LATER_LINES}
 use Rattle.pr_report.specs.declared.trace_error.TraceError.{TraceError}
 use Rattle.pr_report.specs.declared.trace_error.TraceError.TheVariants.{Syntax, UnknownName, TooLong, ReadFault, Memory}
+use Rattle.pr_report.specs.TraceText.{first_line}
 use Rattle.pr_report.specs.EntryWords.{word_at, exchange_in}
 
 -- the second step, on what the first gave
@@ -49,40 +52,50 @@ entry_said names line name None = Err (Syntax line)
 entry_said names line name (Some x) = entry_from line (number_of names name) x
 
 -- the entry with this index: the first stands on line 2
-unfoldable pub entry_on : List (List ℕ) → ℕ → List ℕ → Result Entry TraceError
-entry_on names index line =
-    if nat_lt MOST_ENTRIES index then Err TooLong else (
-    if nat_lt MOST_LINE_BYTES (length line) then Err (Syntax (index + 1)) else
-    entry_said names (index + 1) (word_at (words line) 1) (exchange_in index (words line)))
+unfoldable pub entry_on : ℕ → List (List ℕ) → ℕ → List ℕ → Result Entry TraceError
+entry_on version names index line = entry_said names (index + 1) (word_at (words line) 1) (exchange_in version index (words line))
+
+-- ---- an item's line
+
+-- the line says that the unit was reset, in a version that has resets
+unfoldable pub is_reset_on : ℕ → ℕ → List ℕ → Bool
+is_reset_on version index line = has_resets version && bytes_eq line (decimal index ++ codes " reset")
+
+-- the item with this index
+unfoldable pub item_on : ℕ → List (List ℕ) → ℕ → List ℕ → Result Item TraceError
+item_on version names index line =
+    if nat_lt (most_items version) index then Err TooLong else (
+    if nat_lt MOST_LINE_BYTES (length line) then Err (Syntax (index + 1)) else (
+    if is_reset_on version index line then Ok Reset else and_then (entry_on version names index line) (λ e. Ok (Sent e))))
 
 -- ---- all lines
 
--- this is no entry, and no line behind it is
+-- this is no item, and no line behind it is
 unfoldable pub is_later : List ℕ → Bool
 is_later line =
     starts_with nat_eq line (codes "unit") || (starts_with nat_eq line (codes "host") || starts_with nat_eq line (codes "guest"))
 
--- the lines behind so many entries and so many other later lines
+-- the lines behind so many items and so many other later lines
 abbrev pub later_lines : ℕ → ℕ → List (List ℕ) → Result (Unit {0}) TraceError
-later_lines entries others [] = Ok tt
-later_lines entries others (l ∷ ls) =
+later_lines items others [] = Ok tt
+later_lines items others (l ∷ ls) =
     if nat_le MOST_LATER_LINES others then Err TooLong else (
-    if is_later l && nat_le (length l) MOST_LINE_BYTES then later_lines entries (others + 1) ls else Err (Syntax (entries + others + 2)))
+    if is_later l && nat_le (length l) MOST_LINE_BYTES then later_lines items (others + 1) ls else Err (Syntax (items + others + 2)))
 
--- the entries of the lines behind the first and so many other entries
-abbrev pub entries_of : List (List ℕ) → ℕ → List (List ℕ) → Result (List Entry) TraceError
-entries_of names others [] = Ok []
-entries_of names others (l ∷ ls) =
+-- the items of the lines behind the first and so many other items
+abbrev pub items_of : ℕ → List (List ℕ) → ℕ → List (List ℕ) → Result (List Item) TraceError
+items_of version names others [] = Ok []
+items_of version names others (l ∷ ls) =
     if is_later l then and_then (later_lines others 0 (l ∷ ls)) (λ _. Ok []) else
-    and_then (entry_on names (others + 1) l) (λ e. and_then (entries_of names (others + 1) ls) (λ es. Ok (e ∷ es)))
+    and_then (item_on version names (others + 1) l) (λ i. and_then (items_of version names (others + 1) ls) (λ is. Ok (i ∷ is)))
 
-abbrev pub trace_in : List (List ℕ) → List (List ℕ) → Result (List Entry) TraceError
-trace_in names [] = Err (Syntax 1)
-trace_in names (l ∷ ls) = if bytes_eq l (codes "fence-trace 1") then entries_of names 0 ls else Err (Syntax 1)
+abbrev pub trace_in : ℕ → List (List ℕ) → List (List ℕ) → Result (List Item) TraceError
+trace_in version names [] = Err (Syntax 1)
+trace_in version names (l ∷ ls) = if bytes_eq l (first_line version) then items_of version names 0 ls else Err (Syntax 1)
 
--- the entries of a trace text under these names, or its one fault
-unfoldable pub trace_of : List (List ℕ) → List ℕ → Result (List Entry) TraceError
-trace_of names text = trace_in names (lines text)
+-- the items of a trace text of this version under these names, or its one fault
+unfoldable pub trace_of : ℕ → List (List ℕ) → List ℕ → Result (List Item) TraceError
+trace_of version names text = trace_in version names (lines text)
 
 -- ---- the answer
 

@@ -1,17 +1,19 @@
 -- Agrees with docs/FORMATS.md, 'Trace text'.
--- The text of a trace: its first line, a line for each command that reached the unit, the unit as it ends, and
--- how each nexus ended.
+-- The text of a trace: its first line, a line for each command that reached the unit and for each reset, the unit as
+-- it ends, and how each nexus ended.
 use Rattle.std.specs.Prelude.{ℕ, ◌+◌, List, [], ◌∷◌, ◌++◌, map, codes, Option, None, Some, slice_index, slice_index_or}
 use Rattle.std.specs.Fmt.{decimal}
 use Rattle.pr_cdb.specs.declared.reply.Sense.{Sense}
 use Rattle.pr_cdb.specs.declared.reply.Status.{Status}
-use Rattle.pr_cdb.specs.declared.reply.Status.TheVariants.{Good, CheckCondition, Conflict}
+use Rattle.pr_cdb.specs.declared.reply.Status.TheVariants.{Good, CheckCondition, Conflict, Busy, TaskFull}
 use Rattle.pr_cdb.specs.Kinds.{code_of}
 use Rattle.pr_cdb.specs.ReplyData.{sense_bytes}
 use Rattle.pr_registry.specs.Registrations.{State, key_of}
 use Rattle.pr_registry.specs.declared.held.Held.{Held}
 use Rattle.pr_registry.specs.declared.held.Held.TheVariants.{One, All}
 use Rattle.pr_roles.specs.declared.entry.Entry.{Entry}
+use Rattle.pr_roles.specs.declared.item.Item.{Item}
+use Rattle.pr_roles.specs.declared.item.Item.TheVariants.{Sent, Reset}
 use Rattle.pr_roles.specs.declared.parts.Nexus.{Nexus as NexusPart}
 use Rattle.pr_roles.specs.Scenarios.{Scenario}
 use Rattle.pr_world.specs.Ends.{Ending, stops, waits, traps, leaves}
@@ -29,12 +31,20 @@ names_of nexuses = map (λ n. n.name.bytes) nexuses
 abbrev pub name_of : List (List ℕ) → ℕ → List ℕ
 name_of names host = slice_index_or names host []
 
--- Entries.
+-- The first line.
+
+-- without its end; a trace has the version of its scenario
+unfoldable pub first_line : ℕ → List ℕ
+first_line version = codes "fence-trace " ++ decimal version
+
+-- Commands, and resets of the unit.
 
 abbrev pub status_word : Status → List ℕ
 status_word Good = codes "00"
 status_word CheckCondition = codes "02"
 status_word Conflict = codes "18"
+status_word Busy = codes "08"
+status_word TaskFull = codes "28"
 
 -- the bytes of the sense, of which there are none where it is absent
 abbrev pub sense_data : Option Sense → List ℕ
@@ -52,10 +62,18 @@ entry_line index names e =
     ∷ pairs_or_dash e.reply.bytes.items
     ∷ [])
 
--- the lines of the entries that come after as many others
-abbrev pub entry_lines : ℕ → List (List ℕ) → List Entry → List ℕ
-entry_lines others names [] = []
-entry_lines others names (e ∷ es) = entry_line (others + 1) names e ++ entry_lines (others + 1) names es
+-- a reset
+unfoldable pub reset_line : ℕ → List ℕ
+reset_line index = line (decimal index) (codes "reset" ∷ [])
+
+abbrev pub item_line : ℕ → List (List ℕ) → Item → List ℕ
+item_line index names (Sent e) = entry_line index names e
+item_line index names Reset = reset_line index
+
+-- the lines of the items that come after as many others
+abbrev pub item_lines : ℕ → List (List ℕ) → List Item → List ℕ
+item_lines others names [] = []
+item_lines others names (i ∷ is) = item_line (others + 1) names i ++ item_lines (others + 1) names is
 
 -- The unit.
 
@@ -89,7 +107,7 @@ ending_lines host names counts [] = []
 ending_lines host names counts (e ∷ es) =
     ending_line (name_of names host) e (slice_index counts host) ++ ending_lines (host + 1) names counts es
 
-abbrev pub trace_text : List (List ℕ) → List Entry → State → List Ending → List ℕ → List ℕ
-trace_text names entries unit ends counts =
-    line (codes "fence-trace") (codes "1" ∷ [])
-    ++ (entry_lines 0 names entries ++ (unit_line names unit ++ ending_lines 0 names counts ends))
+abbrev pub trace_text : ℕ → List (List ℕ) → List Item → State → List Ending → List ℕ → List ℕ
+trace_text version names history unit ends counts =
+    (first_line version ++ codes "\n")
+    ++ (item_lines 0 names history ++ (unit_line names unit ++ ending_lines 0 names counts ends))

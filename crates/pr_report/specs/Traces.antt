@@ -12,10 +12,10 @@ use Rattle.pr_report.specs.TraceText.{names_in, trace_text}
 pub record IsTraceOf (s : Scenario) (y : Schedule) (text : List ℕ) : Type 0 where
   pub ends : List Ending
   pub standing : map (λ e. Some e) ends ≡ endings y.world.controls y.plans
-  pub text_is : text ≡ trace_text (names_in s) y.world.entries y.world.unit.registry ends (counts_in y)
+  pub text_is : text ≡ trace_text s.version (names_in s) y.world.history y.world.unit.registry ends (counts_in y)
 
 -- what a replay answers has the trace of its run
 abbrev pub ReplaysAreTraced : Type 0
 ReplaysAreTraced =
     (s : Scenario) (y : Schedule) (r : Replayed) → IsEndOf y r
-    → IsTraceOf s y (trace_text (names_in s) r.entries.items r.unit.registry (map ending_of r.ends.items) r.counts.items)
+    → IsTraceOf s y (trace_text s.version (names_in s) r.history.items r.unit.registry (map ending_of r.ends.items) r.counts.items)

@@ -20,14 +20,14 @@ IsReason (NotSound host at) = Unit {0}
 abbrev pub IsVerdict : Verdict → Type 0
 IsVerdict Accepted = Unit {0}
 IsVerdict (Refused refusal) = IsReason refusal
-IsVerdict (Legal entries) = Unit {0}
+IsVerdict (Legal items) = Unit {0}
 IsVerdict (Illegal place) = Unit {0}
 
 -- it answers no
 abbrev pub is_refusal : Verdict → Bool
 is_refusal Accepted = false
 is_refusal (Refused refusal) = true
-is_refusal (Legal entries) = false
+is_refusal (Legal items) = false
 is_refusal (Illegal place) = true
 
 -- a reason, the host of this name, and the line of its send
@@ -55,5 +55,5 @@ refused_line words = line (codes "refused") words
 abbrev pub verdict_text : List (List ℕ) → Verdict → List ℕ
 verdict_text names Accepted = line (codes "accepted") []
 verdict_text names (Refused refusal) = refused_line (reason_words names refusal)
-verdict_text names (Legal entries) = line (codes "legal") (decimal entries ∷ [])
+verdict_text names (Legal items) = line (codes "legal") (decimal items ∷ [])
 verdict_text names (Illegal place) = line (codes "illegal") (decimal place ∷ [])

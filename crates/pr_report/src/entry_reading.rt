@@ -1,24 +1,26 @@
 //! The entry that a line of a trace says.
 
-ghost use Rattle.std.specs.Prelude.{◌≡◌, ◌==◌, ◌∷◌, ◌≤◌, ◌<◌, [], false, length, map, option_map, position, bytes_eq, MatchOption, IfSome};
+ghost use Rattle.std.specs.Prelude.{◌≡◌, ◌==◌, ◌∷◌, ◌++◌, ◌≤◌, ◌<◌, [], codes, false, length, map, option_map, position, bytes_eq, MatchOption, IfSome};
 ghost use Rattle.pr_cdb.specs.declared.codes.TheConstants.{MOST_NEXUSES};
 ghost use Rattle.pr_report.specs.TraceText.{names_of};
-ghost use Rattle.pr_report.specs.EntryWords.{byte_in, bytes_in, exchange_in, reply_in, sense_of, sense_under, no_sense_in, status_in, wire_in, worth};
-ghost use Rattle.pr_report.specs.TraceReadings.{entry_on, number_of, words};
+ghost use Rattle.std.specs.Fmt.{decimal};
+ghost use Rattle.pr_report.specs.declared.versions.TheConstants.{MOST_ITEMS_2};
+ghost use Rattle.pr_report.specs.Versions.{most_data};
+ghost use Rattle.pr_report.specs.EntryWords.{byte_in, bytes_in, exchange_in, reply_in, sense_of, sense_under, no_sense_in, wire_in, worth};
+ghost use Rattle.pr_report.specs.TraceReadings.{entry_on, item_on, is_reset_on, number_of, words};
 ghost use Rattle.pr_report.specs.inside.SevenWords.{list_of_words, words_left};
 
 use crate::ahead::MOST_LINE_BYTES;
+use crate::status::status_in;
 use crate::trace_error::TraceError;
+use crate::versions::{has_resets, most_data, most_items};
 use arrayvec::ArrayVec;
 use itoa::Buffer;
-use pr_cdb::codes::FIXED_SENSE_LENGTH;
+use pr_cdb::codes::{FIXED_SENSE_LENGTH, MOST_DATA_LENGTH};
 use pr_cdb::{Reply, Sense, Status, Wire, decode_sense, encode_sense};
 use pr_roles::Nexus;
 use pr_script::is_name;
-use pr_world::Entry;
-
-/// The entries of a trace.
-pub const MOST_ENTRIES: u32 = 32_768;
+use pr_world::{Entry, Item};
 
 // The words of an entry's line.
 #[derive(Clone, Copy)]
@@ -32,23 +34,59 @@ pub(crate) struct EntryWords<'a> {
     bytes: &'a [u8],
 }
 
-/// The entry with this index, which counts from 1, or what is wrong with its line.
-#[tactic(auto, unfolding(crate::specs::TraceReadings::entry_on))]
-pub(crate) fn entry_on(nexuses: &[Nexus], index: u32, line: &[u8]) -> Result<Entry, TraceError>
+/// The item with this index, which counts from 1, or what is wrong with its line in a trace of this version.
+#[tactic(auto, unfolding(crate::specs::TraceReadings::item_on))]
+pub(crate) fn item_on(
+    version: u8,
+    nexuses: &[Nexus],
+    index: u32,
+    line: &[u8],
+) -> Result<Item, TraceError>
     requires { length nexuses.now ≤ MOST_NEXUSES }
-    ensures { result ≡ entry_on (names_of nexuses.now) index line.now }
+    ensures { result ≡ item_on version (names_of nexuses.now) index line.now }
 {
-    if index > MOST_ENTRIES {
+    if index > most_items(version) {
         return Err(TraceError::TooLong);
     }
-    let number = index + 1;
     if line.len() > MOST_LINE_BYTES {
-        return Err(TraceError::Syntax { line: number });
+        return Err(TraceError::Syntax { line: index + 1 });
     }
+    if is_reset_on(version, index, line) {
+        return Ok(Item::Reset);
+    }
+    let entry = entry_on(version, nexuses, index, line)?;
+    Ok(Item::Sent(entry))
+}
+
+// Whether the line says that the unit was reset, in a version that has resets.
+#[tactic(auto, unfolding(crate::specs::TraceReadings::is_reset_on))]
+fn is_reset_on(version: u8, index: u32, line: &[u8]) -> bool
+    ensures { result ≡ is_reset_on version index line.now }
+{
+    has_resets(version) && is_reset_line(index, line)
+}
+
+fn is_reset_line(index: u32, line: &[u8]) -> bool
+    ensures { result ≡ bytes_eq line.now (decimal index ++ codes " reset") }
+{
+    match line.strip_prefix(Buffer::new().format(index).as_bytes()) {
+        Some(rest) => rest == " reset".as_bytes(),
+        None => false,
+    }
+}
+
+// The entry that the line says.
+#[tactic(auto, unfolding(crate::specs::TraceReadings::entry_on))]
+fn entry_on(version: u8, nexuses: &[Nexus], index: u32, line: &[u8]) -> Result<Entry, TraceError>
+    requires few { length nexuses.now ≤ MOST_NEXUSES }
+    requires index { index ≤ MOST_ITEMS_2 }
+    ensures { result ≡ entry_on version (names_of nexuses.now) index line.now }
+{
+    let number = index + 1;
     let Some(words) = seven_words(line) else {
         return Err(TraceError::Syntax { line: number });
     };
-    let Some((wire, reply)) = exchange_in(index, &words) else {
+    let Some((wire, reply)) = exchange_in(version, index, &words) else {
         return Err(TraceError::Syntax { line: number });
     };
     match number_of(nexuses, words.name) {
@@ -101,8 +139,8 @@ fn space_in(line: &[u8]) -> Option<usize>
 
 // The command and its answer, where the words have the form of an entry's with this index.
 #[tactic(auto, unfolding(crate::specs::EntryWords::exchange_in))]
-fn exchange_in(index: u32, words: &EntryWords<'_>) -> Option<(Wire, Reply)>
-    ensures { result ≡ exchange_in index (list_of_words words.now) }
+fn exchange_in(version: u8, index: u32, words: &EntryWords<'_>) -> Option<(Wire, Reply)>
+    ensures { result ≡ exchange_in version index (list_of_words words.now) }
 {
     if words.index != Buffer::new().format(index).as_bytes() {
         return None;
@@ -111,7 +149,7 @@ fn exchange_in(index: u32, words: &EntryWords<'_>) -> Option<(Wire, Reply)>
         return None;
     }
     let wire = wire_in(words.cdb, words.params)?;
-    let reply = reply_in(words.status, words.sense, words.bytes)?;
+    let reply = reply_in(version, words.status, words.sense, words.bytes)?;
     Some((wire, reply))
 }
 
@@ -126,13 +164,13 @@ fn wire_in(cdb: &[u8], params: &[u8]) -> Option<Wire>
     Some(Wire { cdb, params })
 }
 
-fn reply_in(status: &[u8], sense: &[u8], bytes: &[u8]) -> Option<Reply>
-    ensures { result ≡ reply_in status.now sense.now bytes.now }
+fn reply_in(version: u8, status: &[u8], sense: &[u8], bytes: &[u8]) -> Option<Reply>
+    ensures { result ≡ reply_in version status.now sense.now bytes.now }
 {
-    let status = status_in(status)?;
+    let status = status_in(version, status)?;
     let sense = bytes_in::<FIXED_SENSE_LENGTH>(sense)?;
     let sense = sense_under(status, sense.as_slice())?;
-    let bytes = bytes_in(bytes)?;
+    let bytes = data_in(version, bytes)?;
     Some(Reply {
         status,
         sense,
@@ -140,25 +178,15 @@ fn reply_in(status: &[u8], sense: &[u8], bytes: &[u8]) -> Option<Reply>
     })
 }
 
-fn status_in(word: &[u8]) -> Option<Status>
-    ensures { result ≡ status_in word.now }
+// The data of a reply, no more than this version has.
+fn data_in(version: u8, word: &[u8]) -> Option<ArrayVec<u8, MOST_DATA_LENGTH>>
+    ensures { option_map (λ bytes. bytes.items) result ≡ bytes_in (most_data version) word.now }
 {
-    if is(word, "00") {
-        return Some(Status::Good);
+    let bytes = bytes_in::<MOST_DATA_LENGTH>(word)?;
+    if bytes.len() > most_data(version) {
+        return None;
     }
-    if is(word, "02") {
-        return Some(Status::CheckCondition);
-    }
-    if is(word, "18") {
-        return Some(Status::Conflict);
-    }
-    None
-}
-
-fn is(word: &[u8], text: &str) -> bool
-    ensures { result ≡ bytes_eq word.now text.now }
-{
-    word == text.as_bytes()
+    Some(bytes)
 }
 
 // With CHECK CONDITION a sense is there, and with no other status.
@@ -167,7 +195,7 @@ fn sense_under(status: Status, bytes: &[u8]) -> Option<Option<Sense>>
 {
     match status {
         Status::CheckCondition => Some(Some(sense_of(bytes)?)),
-        Status::Good | Status::Conflict => no_sense_in(bytes),
+        Status::Good | Status::Conflict | Status::Busy | Status::TaskFull => no_sense_in(bytes),
     }
 }
 
@@ -195,7 +223,7 @@ fn bytes_in<const N: usize>(word: &[u8]) -> Option<ArrayVec<u8, N>>
     ensures { option_map (λ bytes. bytes.items) result ≡ bytes_in N word.now }
 {
     let mut bytes = ArrayVec::new();
-    if is(word, "-") {
+    if is_dash(word) {
         return Some(bytes);
     }
     let mut rest = word;
@@ -211,6 +239,12 @@ fn bytes_in<const N: usize>(word: &[u8]) -> Option<ArrayVec<u8, N>>
         return None;
     }
     Some(bytes)
+}
+
+fn is_dash(word: &[u8]) -> bool
+    ensures { result ≡ bytes_eq word.now (codes "-") }
+{
+    word == "-".as_bytes()
 }
 
 fn byte_in(high: u8, low: u8) -> Option<u8>

@@ -7,14 +7,17 @@
 
 mod ahead;
 mod entry_reading;
+mod first_line;
 mod laws;
 mod outline;
 mod output;
 mod printing;
+mod status;
 mod trace;
 mod trace_error;
 mod trace_reading;
 mod verdict;
+mod versions;
 
 pub use entry_reading::number_of;
 pub use laws::{replays_are_traced, written_traces_are_read};

@@ -46,10 +46,7 @@ pub enum Word<'a> {
     /// The option of a command that gives the type of a reservation, as `--prout-type=5`.
     ReservationType(Kind),
 
-    /// The key, the additional sense code and its qualifier, as `6/2a/05`.
-    Sense(Sense),
-
-    /// How a reply ended, as `good`, `conflict` or `sense 6/2a/05`.
+    /// How a reply ended, as `good`, `busy` or `sense 6/2a/05`.
     Class(Class),
 
     /// Attentions by their codes, as `29/00+2a/05`, or `none` where there is none.
@@ -101,13 +98,12 @@ pub(crate) fn put_word<W: Write>(writer: &mut W, word: Word<'_>) -> Result<(), W
         Word::ReservationKey(key) => put_reservation_key(writer, key),
         Word::ServiceActionKey(key) => put_service_action_key(writer, key),
         Word::ReservationType(kind) => put_type(writer, kind),
-        Word::Sense(sense) => put_sense(writer, sense),
         Word::Class(class) => put_class(writer, class),
         Word::Attentions(attentions) => put_attentions(writer, attentions),
     }
 }
 
-fn put_number<W: Write>(writer: &mut W, number: u64) -> Result<(), WriteFault>
+pub(crate) fn put_number<W: Write>(writer: &mut W, number: u64) -> Result<(), WriteFault>
     ensures { Puts (W.contents writer.old) (W.contents writer.new) (decimal number) result }
 {
     put(writer, Buffer::new().format(number).as_bytes())
@@ -202,6 +198,8 @@ fn put_class<W: Write>(writer: &mut W, class: Class) -> Result<(), WriteFault>
     match class {
         Class::Good => put(writer, b"good"),
         Class::Conflict => put(writer, b"conflict"),
+        Class::Busy => put(writer, b"busy"),
+        Class::Full => put(writer, b"full"),
         Class::Sense(sense) => put_named_sense(writer, sense),
     }
 }

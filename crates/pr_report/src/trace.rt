@@ -11,27 +11,29 @@ ghost use Rattle.std.specs.Bool.{OnTrue, OnFalse};
 ghost use Rattle.std.specs.Fmt.{decimal};
 ghost use Rattle.pr_report.specs.Printed.{printed_word};
 ghost use Rattle.pr_report.specs.PrintedLines.{line, joined_by_spaces};
-ghost use Rattle.pr_report.specs.TraceText.{ending_line, ending_lines, entry_line, entry_lines, held_word, name_of, names_in, names_of, registration_words, sense_data, status_word, trace_text, unit_line};
+ghost use Rattle.pr_report.specs.TraceText.{ending_line, ending_lines, entry_line, held_word, item_line, item_lines, name_of, names_in, names_of, registration_words, reset_line, sense_data, trace_text, unit_line};
 
+use crate::first_line::put_first;
 use crate::output::{Page, WriteFault, put};
 use crate::printing::{Word, put_after_space, put_line, put_spaced, put_word};
+use crate::status::status_word;
 use arrayvec::ArrayVec;
 use pr_cdb::codes::FIXED_SENSE_LENGTH;
-use pr_cdb::{Sense, Status, encode_sense};
+use pr_cdb::{Sense, encode_sense};
 use pr_registry::{Held, Registry};
 use pr_roles::{Nexus, Scenario};
 use pr_unit::Unit;
-use pr_world::{End, Entry};
+use pr_world::{End, Entry, Item};
 use std::io::Write;
 
 /// A line of a trace.
 #[derive(Clone, Copy)]
 pub(crate) enum TraceLine<'a> {
-    /// The one above all others.
-    First,
+    /// The one above all others, of this version.
+    First(u8),
 
-    /// The entry that has this index.
-    Entry(u64, &'a Entry),
+    /// The item that has this index.
+    Item(u64, &'a Item),
 
     /// The unit as it is at last.
     Unit(&'a Registry),
@@ -40,53 +42,63 @@ pub(crate) enum TraceLine<'a> {
     End(&'a [u8], End, u32),
 }
 
-/// Writes the trace of a scenario: what was sent, the unit as it is at last, how each nexus stands,
+/// Writes the trace of a scenario: what happened to the unit, the unit as it is at last, how each nexus stands,
 /// and how many commands of each reached the unit. On a fault, what went out is a front of it, and not all.
+/// A trace has the version of its scenario.
 ///
 /// The ends and the counts stand in the order of the hosts' and guests' numbers. The writer is handed as many
 /// lines a call as a page holds, and is not called again once it has failed.
 pub fn write_trace<W: Write>(
     writer: &mut W,
     scenario: &Scenario,
-    entries: &[Entry],
+    history: &[Item],
     unit: &Unit,
     ends: &[End],
     counts: &[u32],
 ) -> Result<(), WriteFault>
-    ensures { Puts (W.contents writer.old) (W.contents writer.new) (trace_text (names_in (scenario_of scenario.now)) entries.now unit.now.registry (map ending_of ends.now) counts.now) result }
+    ensures { Puts (W.contents writer.old) (W.contents writer.new) (trace_text (scenario_of scenario.now).version (names_in (scenario_of scenario.now)) history.now unit.now.registry (map ending_of ends.now) counts.now) result }
 {
-    let nexuses = &scenario.parts().nexuses;
-    put_trace(writer, nexuses, entries, unit.registry(), ends, counts)
+    let parts = scenario.parts();
+    put_trace(
+        writer,
+        parts.version,
+        &parts.nexuses,
+        history,
+        unit.registry(),
+        ends,
+        counts,
+    )
 }
 
 fn put_trace<W: Write>(
     writer: &mut W,
+    version: u8,
     nexuses: &[Nexus],
-    entries: &[Entry],
+    history: &[Item],
     unit: &Registry,
     ends: &[End],
     counts: &[u32],
 ) -> Result<(), WriteFault>
-    ensures { Puts (W.contents writer.old) (W.contents writer.new) (trace_text (names_of nexuses.now) entries.now unit.now (map ending_of ends.now) counts.now) result }
+    ensures { Puts (W.contents writer.old) (W.contents writer.new) (trace_text version (names_of nexuses.now) history.now unit.now (map ending_of ends.now) counts.now) result }
 {
     let mut page = Page::new();
-    add_line(writer, &mut page, nexuses, &TraceLine::First)?;
-    add_entries(writer, &mut page, nexuses, entries)?;
+    add_line(writer, &mut page, nexuses, &TraceLine::First(version))?;
+    add_items(writer, &mut page, nexuses, history)?;
     add_line(writer, &mut page, nexuses, &TraceLine::Unit(unit))?;
     add_ends(writer, &mut page, nexuses, ends, counts)?;
     put(writer, page.as_slice())
 }
 
-fn add_entries<W: Write>(
+fn add_items<W: Write>(
     writer: &mut W,
     page: &mut Page,
     nexuses: &[Nexus],
-    entries: &[Entry],
+    history: &[Item],
 ) -> Result<(), WriteFault>
-    ensures { PutsAllBut (W.contents writer.old) (W.contents writer.new) (page.old.items ++ entry_lines 0 (names_of nexuses.now) entries.now) page.new.items result }
+    ensures { PutsAllBut (W.contents writer.old) (W.contents writer.new) (page.old.items ++ item_lines 0 (names_of nexuses.now) history.now) page.new.items result }
 {
-    for (others, entry) in entries.iter().enumerate() {
-        let line = TraceLine::Entry(others as u64 + 1, entry);
+    for (others, item) in history.iter().enumerate() {
+        let line = TraceLine::Item(others as u64 + 1, item);
         add_line(writer, page, nexuses, &line)?;
     }
     Ok(())
@@ -149,18 +161,32 @@ fn put_trace_line<W: Write>(
     ensures { Puts (W.contents writer.old) (W.contents writer.new) (line_text (names_of nexuses.now) line.now) result }
 {
     match line {
-        TraceLine::First => put_first(writer),
-        TraceLine::Entry(index, entry) => put_entry(writer, *index, nexuses, entry),
+        TraceLine::First(version) => put_first(writer, *version),
+        TraceLine::Item(index, item) => put_item(writer, *index, nexuses, item),
         TraceLine::Unit(unit) => put_unit(writer, nexuses, unit),
         TraceLine::End(name, end, sent) => put_end(writer, name, *end, *sent),
     }
 }
 
-#[tactic(auto, unfolding(crate::specs::Printed::printed_word))]
-fn put_first<W: Write>(writer: &mut W) -> Result<(), WriteFault>
-    ensures { Puts (W.contents writer.old) (W.contents writer.new) (line (codes "fence-trace") (codes "1" ∷ [])) result }
+fn put_item<W: Write>(
+    writer: &mut W,
+    index: u64,
+    nexuses: &[Nexus],
+    item: &Item,
+) -> Result<(), WriteFault>
+    ensures { Puts (W.contents writer.old) (W.contents writer.new) (item_line index (names_of nexuses.now) item.now) result }
 {
-    put_line(writer, Word::Text(b"fence-trace"), &[Word::Text(b"1")])
+    match item {
+        Item::Sent(entry) => put_entry(writer, index, nexuses, entry),
+        Item::Reset => put_reset(writer, index),
+    }
+}
+
+#[tactic(auto, unfolding(crate::specs::TraceText::reset_line, crate::specs::Printed::printed_word))]
+fn put_reset<W: Write>(writer: &mut W, index: u64) -> Result<(), WriteFault>
+    ensures { Puts (W.contents writer.old) (W.contents writer.new) (reset_line index) result }
+{
+    put_line(writer, Word::Number(index), &[Word::Text(b"reset")])
 }
 
 #[tactic(auto, unfolding(crate::specs::TraceText::entry_line, crate::specs::Printed::printed_word))]
@@ -191,16 +217,6 @@ pub(crate) fn name_of(nexuses: &[Nexus], host: usize) -> &[u8]
     match nexuses.get(host) {
         Some(nexus) => nexus.name.as_str().as_bytes(),
         None => b"",
-    }
-}
-
-fn status_word(status: Status) -> &'static [u8]
-    ensures { result.now ≡ status_word status }
-{
-    match status {
-        Status::Good => b"00",
-        Status::CheckCondition => b"02",
-        Status::Conflict => b"18",
     }
 }
 

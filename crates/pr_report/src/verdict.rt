@@ -26,10 +26,10 @@ pub enum Verdict {
     /// A script is refused, for this reason.
     Refused(Refusal),
 
-    /// The history is legal, and has so many entries.
-    Legal { entries: usize },
+    /// The history is legal, and has so many items.
+    Legal { items: usize },
 
-    /// The entry at this place, counted from 1, is the first that isn't legal.
+    /// The item at this place, counted from 1, is the first that isn't legal.
     Illegal { place: usize },
 }
 
@@ -58,7 +58,7 @@ pub fn write_verdict<W: Write>(
     match verdict {
         Verdict::Accepted => put_line(writer, Word::Text(b"accepted"), &[]),
         Verdict::Refused(refusal) => put_reason(writer, &scenario.parts().nexuses, *refusal),
-        Verdict::Legal { entries } => put_counted(writer, b"legal", *entries),
+        Verdict::Legal { items } => put_counted(writer, b"legal", *items),
         Verdict::Illegal { place } => put_counted(writer, b"illegal", *place),
     }
 }

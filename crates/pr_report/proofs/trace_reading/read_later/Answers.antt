@@ -6,7 +6,7 @@ use Rattle.pr_report.proofs.Taking.{takes_both, takes_drop}
 use Rattle.pr_report.proofs.trace_reading.read_later.Goals as goal
 
 pub returns-clause-ok : goal.returns-clause-ok
-returns-clause-ok g c = later_done c.args.entries c.loop-end.others c.loop-end.invariant.0 (rw c.in_default.is at c.in_ok-end.ensures.found)
+returns-clause-ok g c = later_done c.args.items c.loop-end.others c.loop-end.invariant.0 (rw c.in_default.is at c.in_ok-end.ensures.found)
 
 pub returns-in_err-end-clause-taken : goal.returns-in_err-end-clause-taken
 returns-in_err-end-clause-taken g c = takes_both 65600 c.loop-end.invariant.2 c.in_err-end.ensures.taken (omega arith)

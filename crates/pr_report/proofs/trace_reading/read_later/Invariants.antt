@@ -6,7 +6,7 @@ use Rattle.pr_report.proofs.trace_reading.read_later.Given as goal
 
 abbrev pub invariant-loop-end : goal.invariant-loop-end
 invariant-loop-end g l =
-    Leads (λ old new. later_lines l.entries 0 (lines old) ≡ later_lines l.entries l.others (lines new)) (bytes_left l.fn.ahead (g.R.Read.remaining l.fn.reader)) (bytes_left l.ahead (g.R.Read.remaining l.reader))
+    Leads (λ old new. later_lines l.items 0 (lines old) ≡ later_lines l.items l.others (lines new)) (bytes_left l.fn.ahead (g.R.Read.remaining l.fn.reader)) (bytes_left l.ahead (g.R.Read.remaining l.reader))
     × (l.others ≤ 64)
     × Takes (1025 * l.others) (g.R.Read.remaining l.fn.reader) (g.R.Read.remaining l.reader) (length (bytes_held l.fn.ahead)) (length (bytes_held l.ahead))
 
