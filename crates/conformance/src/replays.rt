@@ -94,7 +94,7 @@ fn the_longest_scenario_is_replayed(rt: HostRuntime) -> Result<(), Fail> {
     assert!(rt; steps.len() < 5_000);
     assert!(rt; are_below(number_of_nexuses(&scenario), &steps));
     let replayed = replay(alloc, &scenario, &steps)?;
-    assert_eq!(rt; replayed.entries.len(), 768);
+    assert_eq!(rt; replayed.history.len(), 768);
     let counts = [512, 0, 0, 0, 256, 0, 0, 0];
     assert_eq!(rt; replayed.counts.as_slice(), counts.as_slice());
     let stopped = End::Stopped(Word::from("end")?);

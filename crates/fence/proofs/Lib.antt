@@ -5,3 +5,4 @@ pub mod Auditing
 pub mod Reasons
 pub mod Performing
 pub mod Telling
+pub mod Taking

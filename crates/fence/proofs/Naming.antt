@@ -1,54 +1,54 @@
--- Steps, and the nexuses that they name.
-use Rattle.std.specs.Prelude.{◌≡◌, ℕ, ◌+◌, ◌<◌, ◌≤◌, List, [], ◌∷◌, ◌++◌, length, position, bytes_eq, cond, Option, Some, None, option_map, option_and_then}
+-- Words, and the steps that they are.
+use Rattle.std.specs.Prelude.{◌≡◌, ℕ, ◌<◌, ◌≤◌, List, [], ◌∷◌, ◌++◌, length, Option, Some, None, option_map, option_and_then}
 use Rattle.std.proofs.Common.{refl, sym, ap, ◌∙◌, zero, suc, arith}
 use Rattle.std.proofs.lemmas.List.Elements.{All-append}
 use Rattle.std.specs.List.{All}
 use Rattle.pr_cdb.specs.declared.codes.TheConstants.{MOST_NEXUSES}
+use Rattle.pr_roles.specs.declared.how.How.{How}
 use Rattle.pr_roles.specs.declared.parts.Parts.{Parts}
 use Rattle.pr_roles.specs.Scenarios.{scenario_of}
 use Rattle.pr_roles.specs.Fitting.{Fits}
 use Rattle.pr_roles.proofs.Allowed.{few_parts}
-use Rattle.pr_report.specs.TraceReadings.{number_of}
-use Rattle.fence.specs.Steps.{hosts_of}
+use Rattle.fence.specs.Steps.{step_in, steps_of}
 
--- what the first steps named stands in front of what the others name
-abbrev pub onto : List ℕ → Option (List ℕ) → Option (List ℕ)
-onto hosts rest = option_map (λ more. hosts ++ more) rest
+-- what the first words are stands in front of what the others are
+abbrev pub onto : List (ℕ × How) → Option (List (ℕ × How)) → Option (List (ℕ × How))
+onto steps rest = option_map (λ more. steps ++ more) rest
 
-append-assoc : (xs : List ℕ) (x : ℕ) (ys : List ℕ) → (xs ++ x ∷ []) ++ ys ≡ xs ++ x ∷ ys
+append-assoc : (xs : List (ℕ × How)) (x : ℕ × How) (ys : List (ℕ × How)) → (xs ++ x ∷ []) ++ ys ≡ xs ++ x ∷ ys
 append-assoc [] x ys = refl
 append-assoc (y ∷ xs) x ys = ap (λ l. y ∷ l) (append-assoc xs x ys)
 
-append-none : (xs : List ℕ) → xs ++ [] ≡ xs
+append-none : (xs : List (ℕ × How)) → xs ++ [] ≡ xs
 append-none [] = refl
 append-none (x ∷ xs) = ap (λ l. x ∷ l) (append-none xs)
 
-onto-more : (hosts : List ℕ) (h : ℕ) (rest : Option (List ℕ))
-    → onto hosts (option_map (λ hs. h ∷ hs) rest) ≡ onto (hosts ++ h ∷ []) rest
-onto-more hosts h None = refl
-onto-more hosts h (Some more) = ap Some (sym (append-assoc hosts h more))
+onto-more : (steps : List (ℕ × How)) (step : ℕ × How) (rest : Option (List (ℕ × How)))
+    → onto steps (option_map (λ more. step ∷ more) rest) ≡ onto (steps ++ step ∷ []) rest
+onto-more steps step None = refl
+onto-more steps step (Some more) = ap Some (sym (append-assoc steps step more))
 
--- a step that names h
-pub named_more : (names : List (List ℕ)) (w : List ℕ) (ws : List (List ℕ)) (h : ℕ) (hosts : List ℕ) → number_of names w ≡ Some h
-    → onto hosts (hosts_of names (w ∷ ws)) ≡ onto (hosts ++ h ∷ []) (hosts_of names ws)
-named_more names w ws h hosts number =
-    ap (λ o. onto hosts (option_and_then (λ h. option_map (λ hs. h ∷ hs) (hosts_of names ws)) o)) number ∙ onto-more hosts h (hosts_of names ws)
+-- a word that is a step
+pub named_more : (version : ℕ) (names : List (List ℕ)) (w : List ℕ) (ws : List (List ℕ)) (step : ℕ × How) (steps : List (ℕ × How)) → step_in version names w ≡ Some step
+    → onto steps (steps_of version names (w ∷ ws)) ≡ onto (steps ++ step ∷ []) (steps_of version names ws)
+named_more version names w ws step steps is =
+    ap (λ o. onto steps (option_and_then (λ s. option_map (λ more. s ∷ more) (steps_of version names ws)) o)) is ∙ onto-more steps step (steps_of version names ws)
 
--- a step that names nobody
-pub named_none : (names : List (List ℕ)) (w : List ℕ) (ws : List (List ℕ)) (hosts : List ℕ) → number_of names w ≡ None
-    → onto hosts (hosts_of names (w ∷ ws)) ≡ None
-named_none names w ws hosts number =
-    ap (λ o. onto hosts (option_and_then (λ h. option_map (λ hs. h ∷ hs) (hosts_of names ws)) o)) number
+-- one that is none
+pub named_none : (version : ℕ) (names : List (List ℕ)) (w : List ℕ) (ws : List (List ℕ)) (steps : List (ℕ × How)) → step_in version names w ≡ None
+    → onto steps (steps_of version names (w ∷ ws)) ≡ None
+named_none version names w ws steps none =
+    ap (λ o. onto steps (option_and_then (λ s. option_map (λ more. s ∷ more) (steps_of version names ws)) o)) none
 
--- all steps were looked at
-pub named_all : (names : List (List ℕ)) (hosts : List ℕ) → onto hosts (hosts_of names []) ≡ Some hosts
-named_all names hosts = ap Some (append-none hosts)
+-- all words were looked at
+pub named_all : (version : ℕ) (names : List (List ℕ)) (steps : List (ℕ × How)) → onto steps (steps_of version names []) ≡ Some steps
+named_all version names steps = ap Some (append-none steps)
 
--- one host more is there
-pub all_more : (n h : ℕ) (hosts : List ℕ) → All (λ host. host < n) hosts → h < n → All (λ host. host < n) (hosts ++ h ∷ [])
-all_more n h hosts all there = All-append (λ host. host < n) hosts (h ∷ []) all one
+-- one nexus more is there
+pub all_more : (n : ℕ) (step : ℕ × How) (steps : List (ℕ × How)) → All (λ s. s.0 < n) steps → step.0 < n → All (λ s. s.0 < n) (steps ++ step ∷ [])
+all_more n step steps all there = All-append (λ s. s.0 < n) steps (step ∷ []) all one
   where
-    one : All (λ host. host < n) (h ∷ [])
+    one : All (λ s. s.0 < n) (step ∷ [])
     one zero d short = there
     one (suc k) d short = absurd (omega (arith, short))
 

@@ -13,17 +13,17 @@ use Rattle.pr_roles.specs.Safety.{IsSafe}
 use Rattle.pr_roles.specs.Fitting.{Fits, is_nexus}
 use Rattle.pr_roles.specs.Worlds.{commands_by}
 use Rattle.pr_text.specs.Reading.{IsWrittenAs}
-use Rattle.pr_roles.specs.declared.entry.Entry.{Entry}
+use Rattle.pr_roles.specs.declared.item.Item.{Item}
 use Rattle.pr_world.specs.declared.end.End.{End}
 use Rattle.pr_world.specs.Ends.{ending_of}
 use Rattle.pr_world.specs.Rooms.{room_by}
+use Rattle.pr_roles.proofs.Allowed.{each_nexus}
 use Rattle.pr_world.proofs.Keeping.{sent_within}
 use Rattle.pr_world.proofs.Reserving.{room_of_nexus}
 use Rattle.pr_shared.specs.declared.outcome.Outcome.{Outcome}
 use Rattle.pr_shared.specs.Outcomes.{IsOutcome}
 use Rattle.pr_report.specs.TraceText.{name_of, names_in, names_of, trace_text}
 use Rattle.pr_report.specs.Written.{FallsShort}
-use Rattle.pr_shared.proofs.Fitted.{each}
 use Rattle.fence.specs.declared.fault.Fault.{Fault}
 use Rattle.fence.specs.declared.fault.Fault.TheVariants as fault
 use Rattle.fence.specs.Runs.{EndsRun, IsRunOf, counts_in, outcome_text}
@@ -77,24 +77,24 @@ room_in keys (n ∷ ns) zero fit = room_of_nexus keys n (and_parts (is_nexus key
 room_in keys (n ∷ ns) (suc h) fit = room_in keys ns h (and_parts (is_nexus keys n) (list_all (is_nexus keys) ns) fit).1
 
 pub short_rooms : (s : Scenario) (h : ℕ) → Fits s → room_by (task s h) ≤ 4096
-short_rooms s h fits = room_in s.keys s.nexuses h (each s.keys s.nexuses fits.nexuses)
+short_rooms s h fits = room_in s.keys s.nexuses h (each_nexus s fits)
 
 -- no nexus sends so many that there is no number for them
 pub few_sent : (s : Scenario) (o : Outcome) (h : ℕ) → Fits s → IsSafe s → IsOutcome s o → commands_by o.history.items h < 2 ^ 32
 few_sent s o h fits safe comes =
-    let kept : commands_by comes.last.world.entries h ≤ room_by (task s h) = sent_within s comes.steps comes.last safe comes.reached h in
+    let kept : commands_by comes.last.world.history h ≤ room_by (task s h) = sent_within s comes.steps comes.last safe comes.reached h in
     let here : commands_by o.history.items h ≤ room_by (task s h) = subst (λ es. commands_by es h ≤ room_by (task s h)) (sym comes.history) kept in
     omega (arith, here, short_rooms s h fits)
 
-pub counts_at : (s : Scenario) (o : Outcome) (history : List Entry) (n : ℕ) (counts : List ℕ) → counts ≡ map (λ h. commands_by history h) (range_with_len 0 n)
+pub counts_at : (s : Scenario) (o : Outcome) (history : List Item) (n : ℕ) (counts : List ℕ) → counts ≡ map (λ h. commands_by history h) (range_with_len 0 n)
     → history ≡ o.history.items → n ≡ length s.nexuses → counts ≡ counts_in s o.history.items
 counts_at s o history n counts is same all =
     is ∙ (ap (λ es. map (λ h. commands_by es h) (range_with_len 0 n)) same ∙ ap (λ n. map (λ h. commands_by o.history.items h) (range_with_len 0 n)) all)
 
-pub text_of_outcome : (s : Scenario) (o : Outcome) (history : List Entry) (ends : List End) (counts : List ℕ) → history ≡ o.history.items → ends ≡ o.ends.items
-    → counts ≡ counts_in s o.history.items → trace_text (names_in s) history o.unit.registry (map ending_of ends) counts ≡ outcome_text s o
+pub text_of_outcome : (s : Scenario) (o : Outcome) (history : List Item) (ends : List End) (counts : List ℕ) → history ≡ o.history.items → ends ≡ o.ends.items
+    → counts ≡ counts_in s o.history.items → trace_text s.version (names_in s) history o.unit.registry (map ending_of ends) counts ≡ outcome_text s o
 text_of_outcome s o history ends counts same ended counted =
-    λ i. trace_text (names_in s) (same i) o.unit.registry (map ending_of (ended i)) (counted i)
+    λ i. trace_text s.version (names_in s) (same i) o.unit.registry (map ending_of (ended i)) (counted i)
 
 -- ---- names
 

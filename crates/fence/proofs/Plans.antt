@@ -5,6 +5,7 @@ use Rattle.std.proofs.lemmas.Bool.{false≢true}
 use Rattle.std.proofs.lemmas.List.{length-map}
 use Rattle.std.proofs.lemmas.Bool.Decides.{nat_tests}
 use Rattle.std.proofs.lemmas.Option.{none-some, same_Some}
+use Rattle.pr_roles.specs.declared.how.How.{How}
 use Rattle.pr_roles.specs.declared.parts.Parts.{Parts}
 use Rattle.pr_roles.specs.Scenarios.{scenario_of}
 use Rattle.pr_roles.proofs.Apart.{names_of_parts, length_of_parts}
@@ -14,8 +15,7 @@ use Rattle.pr_world.specs.Replays.{IsReplayed}
 use Rattle.pr_report.specs.TraceText.{names_in, names_of}
 use Rattle.pr_report.proofs.Tracing.{replays_are_traced}
 use Rattle.fence.specs.declared.fault.Fault.TheVariants as fault
-use Rattle.pr_report.specs.TraceReadings.{number_of}
-use Rattle.fence.specs.Steps.{hosts_of, has_wrong_count}
+use Rattle.fence.specs.Steps.{step_in, steps_of, has_wrong_count}
 use Rattle.fence.specs.Replays.{IsTraceOf, IsUsageFault}
 use Rattle.fence.specs.inside.PlannedReplays.{planned_text, is_refused, IsPlanned}
 
@@ -24,31 +24,35 @@ pub names_of_scenario : (p : Parts) → names_of p.nexuses.items ≡ names_in (s
 unfolding scenario_of
 names_of_scenario p = sym (names_of_parts p.nexuses.items)
 
+pub version_of_scenario : (p : Parts) → p.version ≡ (scenario_of p).version
+unfolding scenario_of
+version_of_scenario p = refl
+
 pub nexuses_in : (p : Parts) → length (scenario_of p).nexuses ≡ length p.nexuses.items
 unfolding scenario_of
 nexuses_in p = length_of_parts p.nexuses.items
 
--- as many hosts are named as there are steps
-pub named_length : (ns words : List (List ℕ)) (hosts : List ℕ) → hosts_of ns words ≡ Some hosts → length hosts ≡ length words
-named_length ns [] hosts is = ap length (sym (same_Some _ _ is))
-named_length ns (w ∷ ws) hosts is = first (number_of ns w) is (named_length ns ws)
+-- there are as many steps as words
+pub named_length : (version : ℕ) (ns words : List (List ℕ)) (steps : List (ℕ × How)) → steps_of version ns words ≡ Some steps → length steps ≡ length words
+named_length version ns [] steps is = ap length (sym (same_Some _ _ is))
+named_length version ns (w ∷ ws) steps is = first (step_in version ns w) is (named_length version ns ws)
   where
-    rest : (h : ℕ) (o : Option (List ℕ)) → option_map (λ hs. h ∷ hs) o ≡ Some hosts → ((hs : List ℕ) → o ≡ Some hs → length hs ≡ length ws) → length hosts ≡ length (w ∷ ws)
-    rest h None is later = absurd (none-some hosts is)
+    rest : (h : ℕ × How) (o : Option (List (ℕ × How))) → option_map (λ hs. h ∷ hs) o ≡ Some steps → ((hs : List (ℕ × How)) → o ≡ Some hs → length hs ≡ length ws) → length steps ≡ length (w ∷ ws)
+    rest h None is later = absurd (none-some steps is)
     rest h (Some hs) is later = omega (arith, ap length (same_Some _ _ is), later hs refl)
 
-    first : (o : Option ℕ) → option_and_then (λ h. option_map (λ hs. h ∷ hs) (hosts_of ns ws)) o ≡ Some hosts
-        → ((hs : List ℕ) → hosts_of ns ws ≡ Some hs → length hs ≡ length ws) → length hosts ≡ length (w ∷ ws)
-    first None is later = absurd (none-some hosts is)
-    first (Some h) is later = rest h (hosts_of ns ws) is later
+    first : (o : Option (ℕ × How)) → option_and_then (λ h. option_map (λ hs. h ∷ hs) (steps_of version ns ws)) o ≡ Some steps
+        → ((hs : List (ℕ × How)) → steps_of version ns ws ≡ Some hs → length hs ≡ length ws) → length steps ≡ length (w ∷ ws)
+    first None is later = absurd (none-some steps is)
+    first (Some h) is later = rest h (steps_of version ns ws) is later
 
-planned_trace : (steps : List (List ℕ)) (text : List ℕ) (p : Parts) (r : Replayed) (hosts : List ℕ) → IsWrittenAs text (scenario_of p)
-    → hosts_of (names_in (scenario_of p)) steps ≡ Some hosts → IsReplayed (scenario_of p) hosts r
+planned_trace : (steps : List (List ℕ)) (text : List ℕ) (p : Parts) (r : Replayed) (turns : List (ℕ × How)) → IsWrittenAs text (scenario_of p)
+    → steps_of (scenario_of p).version (names_in (scenario_of p)) steps ≡ Some turns → IsReplayed (scenario_of p) turns r
     → IsTraceOf steps text (planned_text (record { scenario = p; replayed = r })) (is_refused (record { scenario = p; replayed = r }))
-planned_trace steps text p r hosts written named is = record {
+planned_trace steps text p r turns written named is = record {
   scenario = scenario_of p;
   read = written;
-  hosts = hosts;
+  turns = turns;
   named = named;
   start = is.start;
   first = is.first;
@@ -58,10 +62,10 @@ planned_trace steps text p r hosts written named is = record {
   refused_is = is.outcome.trapped;
 }
 
-pub planned : (steps : List (List ℕ)) (known : Option (List ℕ)) (p : Parts) (r : Replayed) (hosts : List ℕ) → has_wrong_count steps ≡ false
-    → IfSome known (λ text. IsWrittenAs text (scenario_of p)) → hosts_of (names_in (scenario_of p)) steps ≡ Some hosts → IsReplayed (scenario_of p) hosts r
+pub planned : (steps : List (List ℕ)) (known : Option (List ℕ)) (p : Parts) (r : Replayed) (turns : List (ℕ × How)) → has_wrong_count steps ≡ false
+    → IfSome known (λ text. IsWrittenAs text (scenario_of p)) → steps_of (scenario_of p).version (names_in (scenario_of p)) steps ≡ Some turns → IsReplayed (scenario_of p) turns r
     → IsPlanned steps known (Ok (record { scenario = p; replayed = r }))
-planned steps known p r hosts counted read named is = record {
+planned steps known p r turns counted read named is = record {
   plans = at known read;
   counted = λ wrong. absurd (false≢true (sym counted ∙ wrong));
 }
@@ -69,11 +73,11 @@ planned steps known p r hosts counted read named is = record {
     at : (known : Option (List ℕ)) → IfSome known (λ text. IsWrittenAs text (scenario_of p))
         → IfSome known (λ text. IsTraceOf steps text (planned_text (record { scenario = p; replayed = r })) (is_refused (record { scenario = p; replayed = r })))
     at None read = tt
-    at (Some text) read = planned_trace steps text p r hosts read named is
+    at (Some text) read = planned_trace steps text p r turns read named is
 
 -- a step is no name of the scenario
 pub unnamed : (steps : List (List ℕ)) (known : Option (List ℕ)) (p : Parts) → has_wrong_count steps ≡ false
-    → IfSome known (λ text. IsWrittenAs text (scenario_of p)) → hosts_of (names_in (scenario_of p)) steps ≡ None
+    → IfSome known (λ text. IsWrittenAs text (scenario_of p)) → steps_of (scenario_of p).version (names_in (scenario_of p)) steps ≡ None
     → IsPlanned steps known (Err fault.Usage)
 unnamed steps known p counted read none = record { plans = at known read; counted = λ wrong. refl }
   where

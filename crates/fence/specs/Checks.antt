@@ -18,7 +18,7 @@ use Rattle.fence.specs.Endings.{Outputs}
 abbrev pub Holds : Verdict → Scenario → Type 0
 Holds Accepted s = IsSafe s × HaveOutlines s
 Holds (Refused reason) s = IsFirstReason s reason
-Holds (Legal entries) s = ⊥
+Holds (Legal items) s = ⊥
 Holds (Illegal place) s = ⊥
 
 -- the text is a scenario, and this is the line of a verdict that holds of it

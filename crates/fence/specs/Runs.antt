@@ -2,7 +2,7 @@
 -- What `fence run` writes.
 use Rattle.std.specs.Prelude.{◌≡◌, ℕ, ◌<◌, Bool, true, false, List, length, map, Option, IfSome, Result}
 use Rattle.std.specs.List.{range_with_len}
-use Rattle.pr_roles.specs.declared.entry.Entry.{Entry}
+use Rattle.pr_roles.specs.declared.item.Item.{Item}
 use Rattle.pr_roles.specs.Scenarios.{Scenario}
 use Rattle.pr_roles.specs.Safety.{IsSafe}
 use Rattle.pr_roles.specs.Worlds.{commands_by}
@@ -19,12 +19,12 @@ use Rattle.fence.specs.declared.fault.Fault.{Fault}
 use Rattle.fence.specs.Endings.{Outputs}
 
 -- how many commands of each nexus reached the unit
-abbrev pub counts_in : Scenario → List Entry → List ℕ
+abbrev pub counts_in : Scenario → List Item → List ℕ
 counts_in s history = map (λ h. commands_by history h) (range_with_len 0 (length s.nexuses))
 
 abbrev pub outcome_text : Scenario → Outcome → List ℕ
 outcome_text s o =
-    trace_text (names_in s) o.history.items o.unit.registry (map ending_of o.ends.items) (counts_in s o.history.items)
+    trace_text s.version (names_in s) o.history.items o.unit.registry (map ending_of o.ends.items) (counts_in s o.history.items)
 
 -- the text is a scenario that is refused for its first reason, and this is the line of that verdict
 pub record IsRefusalOf (text line : List ℕ) : Type 0 where

@@ -1,13 +1,35 @@
 -- Agrees with docs/FORMATS.md, 'Replaying'.
--- The nexuses that the steps of a replay name.
-use Rattle.std.specs.Prelude.{ℕ, ◌==◌, ◌||◌, Bool, nat_lt, List, [], ◌∷◌, length, Option, Some, option_map, option_and_then}
+-- The steps of a replay: the nexuses that their words name, and how the commands of these are answered.
+use Rattle.std.specs.Prelude.{ℕ, ◌-◌, ◌==◌, ◌&&◌, ◌||◌, Bool, nat_lt, nat_le, if◌then◌else◌, List, [], ◌∷◌, length, take, drop, codes, bytes_eq, Option, Some, option_map, option_and_then}
+use Rattle.pr_roles.specs.declared.how.How.{How}
+use Rattle.pr_roles.specs.declared.how.How.TheVariants as how
 use Rattle.pr_report.specs.TraceReadings.{number_of}
 use Rattle.fence.specs.declared.replays.TheConstants.{MOST_STEPS}
 
--- the numbers of those that these words name
-abbrev pub hosts_of : List (List ℕ) → List (List ℕ) → Option (List ℕ)
-hosts_of names [] = Some []
-hosts_of names (word ∷ words) = option_and_then (λ h. option_map (λ hs. h ∷ hs) (hosts_of names words)) (number_of names word)
+-- where this ending would begin in the word
+abbrev pub front_of : List ℕ → List ℕ → ℕ
+front_of ending word = length word - length ending
+
+-- from version 2 on the word may have this ending, and has it
+abbrev pub has_ending : ℕ → List ℕ → List ℕ → Bool
+has_ending version ending word = nat_le 2 version && bytes_eq (drop (front_of ending word) word) ending
+
+-- what is asked for of the nexus with this name
+abbrev pub asked_of : List (List ℕ) → List ℕ → How → Option (ℕ × How)
+asked_of names name how = option_map (λ host. (host, how)) (number_of names name)
+
+-- `a` for a command of a that the unit answers, `a:busy` for one that BUSY answers, `a:full` for one that TASK SET FULL does
+unfoldable pub step_in : ℕ → List (List ℕ) → List ℕ → Option (ℕ × How)
+step_in version names word =
+    if has_ending version (codes ":busy") word then asked_of names (take (front_of (codes ":busy") word) word) how.Busy else (
+    if has_ending version (codes ":full") word then asked_of names (take (front_of (codes ":full") word) word) how.Full else
+    asked_of names word how.Plain)
+
+-- all of them
+abbrev pub steps_of : ℕ → List (List ℕ) → List (List ℕ) → Option (List (ℕ × How))
+steps_of version names [] = Some []
+steps_of version names (word ∷ words) =
+    option_and_then (λ step. option_map (λ steps. step ∷ steps) (steps_of version names words)) (step_in version names word)
 
 -- no step, or more than there may be
 abbrev pub has_wrong_count : List (List ℕ) → Bool

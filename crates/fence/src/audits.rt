@@ -6,10 +6,9 @@ ghost use Rattle.pr_roles.specs.Scenarios.{scenario_of};
 ghost use Rattle.pr_text.specs.declared.fault.ReadError.{ReadError};
 ghost use Rattle.pr_text.specs.declared.text.TheConstants.{MOST_BYTES};
 ghost use Rattle.pr_text.specs.BytesRead.{LosesUpTo};
-ghost use Rattle.pr_report.specs.BytesTaken.{LosesUpTo as TakesUpTo, most_of_trace};
 ghost use Rattle.pr_report.specs.Written.{Puts};
 ghost use Rattle.fence.specs.declared.fault.Fault.TheVariants.{Input, Memory};
-ghost use Rattle.fence.specs.Audits.{EndsAudit, Holds};
+ghost use Rattle.fence.specs.Audits.{EndsAudit, Holds, TakesOfTrace};
 ghost use Rattle.fence.specs.Endings.{IsCommand, told_of_end};
 ghost use Rattle.fence.specs.inside.Audited.{IsAudited};
 
@@ -18,15 +17,15 @@ use crate::fault::{Fault, Status};
 use pr_report::{Verdict, WriteFault, read_trace, write_verdict};
 use pr_roles::Scenario;
 use pr_text::read;
-use pr_world::{AuditError, Entry, audit};
+use pr_world::{AuditError, Item, audit};
 use std::alloc::Global;
 use std::io::{Read, Write};
 
-/// `fence audit`: reads a scenario and then a trace, and writes whether the entries of the trace are a legal history of
-/// the scenario from its first start, or which of them is the first that is not.
+/// `fence audit`: reads a scenario and then a trace, and writes whether the history of the trace is a legal one of
+/// the scenario from its first start, or the place of the first item that is not.
 ///
-/// Of the text at most 65,537 bytes are taken, and of the trace at most 33,662,017; none of the trace where the text is at
-/// fault. A fault is told in one line on `errors`, whose own faults change nothing.
+/// Of a text and a trace whose bytes the contract knows at most 65,537 and 33,662,017 are taken, in version 2 68,274,217; none of
+/// the trace where the text is at fault. A fault is told in one line on `errors`, whose own faults change nothing.
 pub fn do_audit<R: Read, T: Read, W: Write, E: Write>(
     alloc: Global,
     reader: &mut R,
@@ -36,7 +35,7 @@ pub fn do_audit<R: Read, T: Read, W: Write, E: Write>(
 ) -> Status
     ensures command { IsCommand (EndsAudit (R.remaining reader.old) (T.remaining trace.old) (T.remaining trace.new) (W.contents writer.old) (W.contents writer.new)) (E.contents errors.old) (E.contents errors.new) result }
     ensures limited { LosesUpTo (MOST_BYTES + 1) (R.remaining reader.old) (R.remaining reader.new) }
-    ensures limited_trace { TakesUpTo most_of_trace (T.remaining trace.old) (T.remaining trace.new) }
+    ensures limited_trace { TakesOfTrace (R.remaining reader.old) (T.remaining trace.old) (T.remaining trace.new) }
 {
     let (end, _) = audit_and_tell(alloc, reader, trace, writer, errors);
     status_of(end)
@@ -53,7 +52,7 @@ fn audit_and_tell<R: Read, T: Read, W: Write, E: Write>(
     ensures ends { EndsAudit (R.remaining reader.old) (T.remaining trace.old) (T.remaining trace.new) (W.contents writer.old) (W.contents writer.new) result.0 }
     ensures tells { Puts (E.contents errors.old) (E.contents errors.new) (told_of_end result.0) result.1 }
     ensures limited { LosesUpTo (MOST_BYTES + 1) (R.remaining reader.old) (R.remaining reader.new) }
-    ensures limited_trace { TakesUpTo most_of_trace (T.remaining trace.old) (T.remaining trace.new) }
+    ensures limited_trace { TakesOfTrace (R.remaining reader.old) (T.remaining trace.old) (T.remaining trace.new) }
 {
     let end = audit_texts(alloc, reader, trace, writer);
     let told = tell_end(errors, &end);
@@ -69,7 +68,7 @@ fn audit_texts<R: Read, T: Read, W: Write>(
 ) -> Result<bool, Fault>
     ensures ends { EndsAudit (R.remaining reader.old) (T.remaining trace.old) (T.remaining trace.new) (W.contents writer.old) (W.contents writer.new) result }
     ensures limited { LosesUpTo (MOST_BYTES + 1) (R.remaining reader.old) (R.remaining reader.new) }
-    ensures limited_trace { TakesUpTo most_of_trace (T.remaining trace.old) (T.remaining trace.new) }
+    ensures limited_trace { TakesOfTrace (R.remaining reader.old) (T.remaining trace.old) (T.remaining trace.new) }
 {
     let audited = examine(alloc, reader, trace)?;
     write_verdict(writer, &audited.scenario, &audited.verdict)?;
@@ -83,27 +82,28 @@ struct Audited {
     verdict: Verdict,
 }
 
-// Reads the scenario and the trace, and audits its entries.
+// Reads the scenario and the trace, and audits its history.
+#[tactic(auto, using(crate::proofs::Taking::untaken, crate::proofs::Taking::taken_by))]
 fn examine<R: Read, T: Read>(alloc: Global, reader: &mut R, trace: &mut T) -> Result<Audited, Fault>
     ensures audited { IsAudited (R.remaining reader.old) (T.remaining trace.old) result }
     ensures unread { (e : ReadError) → result ≡ Err (Input e) → Keeps (T.remaining trace.old) (T.remaining trace.new) }
     ensures limited { LosesUpTo (MOST_BYTES + 1) (R.remaining reader.old) (R.remaining reader.new) }
-    ensures limited_trace { TakesUpTo most_of_trace (T.remaining trace.old) (T.remaining trace.new) }
+    ensures limited_trace { TakesOfTrace (R.remaining reader.old) (T.remaining trace.old) (T.remaining trace.new) }
 {
     let scenario = read(alloc, reader)?;
-    let entries = read_trace(alloc, &scenario, trace)?;
-    let verdict = verdict_on(alloc, &scenario, &entries)?;
+    let history = read_trace(alloc, &scenario, trace)?;
+    let verdict = verdict_on(alloc, &scenario, &history)?;
     Ok(Audited { scenario, verdict })
 }
 
 // That memory was refused is a fault, and no verdict.
-fn verdict_on(alloc: Global, scenario: &Scenario, entries: &[Entry]) -> Result<Verdict, Fault>
-    ensures holds { IfOk result (λ verdict. Holds verdict (scenario_of scenario.now) entries.now) }
+fn verdict_on(alloc: Global, scenario: &Scenario, history: &[Item]) -> Result<Verdict, Fault>
+    ensures holds { IfOk result (λ verdict. Holds verdict (scenario_of scenario.now) history.now) }
     ensures fault { IfErr result (λ fault. fault ≡ Memory) }
 {
-    match audit(alloc, scenario, entries) {
+    match audit(alloc, scenario, history) {
         Ok(()) => Ok(Verdict::Legal {
-            entries: entries.len(),
+            items: history.len(),
         }),
         Err(AuditError::Illegal { place }) => Ok(Verdict::Illegal { place }),
         Err(AuditError::Memory) => Err(Fault::Memory),

@@ -19,7 +19,8 @@ use std::io::{Read, Write};
 
 /// `fence check`: reads a scenario, and writes the verdict on its scripts. It is accepted only where it is safe.
 ///
-/// Of the text at most 65,537 bytes are taken. A fault is told in one line on `errors`, whose own faults change nothing.
+/// Of a text whose bytes the contract knows at most 65,537 are taken. A fault is told in one line on `errors`, whose own
+/// faults change nothing.
 pub fn do_check<R: Read, W: Write, E: Write>(
     alloc: Global,
     reader: &mut R,

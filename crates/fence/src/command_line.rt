@@ -3,11 +3,11 @@
 use clap::{Arg, ArgAction, ArgMatches, Command, Error};
 use std::alloc::{AllocError, Global};
 
-// What the program is, which language it reads, and the kit that it is proved with.
-const VERSION: &str = "0.1.0 (language fence 1, proved with rattle-kit-13b)";
+// What the program is, which language it reads, and the kit for which its proofs are.
+const VERSION: &str = "0.1.0 (language fence 2, for rattle-kit-13f)";
 
 const STATUSES: &str =
-    "Exit status: 0 done, accepted or legal; 1 a script is refused or trapped, or a trace is illegal; 2 the command line is at fault, or this help; \
+    "Exit status: 0 done, accepted or legal; 1 a script is refused or trapped, or a trace is illegal; 2 the command line is at fault, or help or version was asked for; \
 3 input or output is at fault; 4 memory ran out, or a thread could not be started. A fault is told in one line on standard error.";
 
 const CHECK_CALL: &str = "For example: fence check preempted-writer.fence";
@@ -60,7 +60,9 @@ fn outline<'a>(alloc: Global) -> Result<Command<'a>, AllocError> {
 
 fn replay<'a>(alloc: Global) -> Result<Command<'a>, AllocError> {
     let steps = Arg::new(alloc, "STEP")
-        .help("The name of the host or guest whose turn is next, one word for each turn")
+        .help(
+            "The name of the host or guest whose turn is next, one word for each turn; in version 2 NAME:busy and NAME:full too",
+        )
         .action(ArgAction::Append)
         .num_args(1..)
         .required(true);

@@ -316,6 +316,8 @@ fn which_word(which: Which) -> &'static [u8]
         Which::Budget => b"Budget",
         Which::Roles => b"Roles",
         Which::Plan => b"Plan",
+        Which::Busy => b"Busy",
+        Which::Full => b"Full",
     }
 }
 

@@ -26,9 +26,11 @@ use crate::replays::do_replay;
 use crate::runs::do_run;
 use clap::ArgMatches;
 use clap::error::ErrorKind;
+use pr_text::ReadError;
 use std::alloc::{AllocError, Global};
 use std::fs::File;
 use std::io::{Read, Write};
+use std::os::fd::AsRawFd;
 use std::process::ExitCode;
 use std::sync::Wait;
 use std::thread::Threads;
@@ -177,7 +179,7 @@ fn audit_paths(rt: &HostRuntime, path: &str, trace: &str) -> Status {
     let mut output = rt.stdout();
     let mut errors = rt.stderr();
     if path == "-" {
-        return audit_trace(rt, &mut rt.stdin(), trace, &mut output, &mut errors);
+        return audit_input(rt, trace, &mut output, &mut errors);
     }
     match fs::open(rt, path) {
         Ok(mut file) => audit_trace(rt, &mut file, trace, &mut output, &mut errors),
@@ -185,7 +187,24 @@ fn audit_paths(rt: &HostRuntime, path: &str, trace: &str) -> Status {
     }
 }
 
-// The same, once the scenario's text can be read.
+// The same, of the scenario on standard input. Where that is closed, the trace got its descriptor, and what is read there
+// would be the trace.
+fn audit_input<W: Write, E: Write>(
+    rt: &HostRuntime,
+    trace: &str,
+    output: &mut W,
+    errors: &mut E,
+) -> Status {
+    match fs::open(rt, trace) {
+        Ok(file) if file.as_raw_fd() == rt.stdin().as_raw_fd() => {
+            fail(errors, Fault::Input(ReadError::ReadFault))
+        }
+        Ok(mut file) => do_audit(rt.alloc(), &mut rt.stdin(), &mut file, output, errors),
+        Err(error) => fail(errors, file_fault(&error)),
+    }
+}
+
+// The same, of a scenario that can be read.
 fn audit_trace<R: Read, W: Write, E: Write>(
     rt: &HostRuntime,
     reader: &mut R,

@@ -17,7 +17,8 @@ use std::io::{Read, Write};
 
 /// `fence outline`: reads a scenario, and writes what can be known at each send of its scripts, accepted or not.
 ///
-/// Of the text at most 65,537 bytes are taken. A fault is told in one line on `errors`, whose own faults change nothing.
+/// Of a text whose bytes the contract knows at most 65,537 are taken. A fault is told in one line on `errors`, whose own
+/// faults change nothing.
 pub fn do_outline<R: Read, W: Write, E: Write>(
     alloc: Global,
     reader: &mut R,

@@ -12,11 +12,11 @@ ghost use Rattle.fence.specs.inside.PlannedReplays.{IsPlanned};
 
 use crate::ending::{status_of, tell_end};
 use crate::fault::{Fault, Status};
-use crate::steps::hosts_of;
+use crate::steps::steps_of;
 use pr_report::{WriteFault, write_trace};
 use pr_roles::Scenario;
 use pr_text::read;
-use pr_world::{Replayed, replay};
+use pr_world::{Replayed, replay_as};
 use std::alloc::Global;
 use std::io::{Read, Write};
 
@@ -26,8 +26,10 @@ pub const MOST_STEPS: usize = 4_096;
 /// `fence replay`: reads a scenario, lets the named hosts take their turns in the order of the steps, and
 /// writes the trace.
 ///
-/// No step, or more than 4,096, is a usage fault before the text is read; a step that names no host is
-/// one after it. Of the text at most 65,537 bytes are taken. A fault is told in one line on `errors`, whose own faults change nothing.
+/// No step, or more than 4,096, is a usage fault before the text is read; a step that names no nexus is
+/// one after it. In a text of version 2 `a:busy` and `a:full` are steps of `a`, whose command is refused where the text has a
+/// refusal left. Of a text whose bytes the contract knows at most 65,537 are taken. A fault is told in one line on `errors`,
+/// whose own faults change nothing.
 pub fn do_replay<R: Read, W: Write, E: Write>(
     alloc: Global,
     steps: &[&str],
@@ -76,7 +78,7 @@ fn replay_text<R: Read, W: Write>(
     write_trace(
         writer,
         &plan.scenario,
-        &plan.replayed.entries,
+        &plan.replayed.history,
         &plan.replayed.unit,
         &plan.replayed.ends,
         &plan.replayed.counts,
@@ -101,10 +103,11 @@ fn plan<R: Read>(alloc: Global, steps: &[&str], reader: &mut R) -> Result<Planne
         return Err(Fault::Usage);
     }
     let scenario = read(alloc, reader)?;
-    let Some(hosts) = hosts_of(alloc, steps, &scenario.parts().nexuses)? else {
+    let parts = scenario.parts();
+    let Some(turns) = steps_of(alloc, steps, parts.version, &parts.nexuses)? else {
         return Err(Fault::Usage);
     };
-    let replayed = replay(alloc, &scenario, &hosts)?;
+    let replayed = replay_as(alloc, &scenario, &turns)?;
     Ok(Planned { scenario, replayed })
 }
 

@@ -23,7 +23,7 @@ use arrayvec::ArrayVec;
 use pr_cdb::codes::MOST_NEXUSES;
 use pr_report::{Verdict, WriteFault, write_trace, write_verdict};
 use pr_roles::{Nexus, Scenario, Word as Name};
-use pr_shared::{Entry, NoGate, Outcome, RunError, run};
+use pr_shared::{Item, NoGate, Outcome, RunError, run};
 use pr_text::read;
 use pr_verify::{NoCheckGate, Refused, Verified, verify_each};
 use pr_world::commands_by;
@@ -36,8 +36,8 @@ use std::thread::Threads;
 /// each nexus, until every script is stopped and every plan is done. Then it writes the trace. Of a scenario that is
 /// refused nothing is run, and the line of the verdict is written.
 ///
-/// Of the text at most 65,537 bytes are taken. A fault is told in one line on `errors`, whose own faults change nothing. It
-/// waits for the threads, and so may never return.
+/// Of a text whose bytes the contract knows at most 65,537 are taken. A fault is told in one line on `errors`, whose own
+/// faults change nothing. It waits for the threads, and so may never return.
 pub fn do_run<T: Threads + Wait + Sync, R: Read, W: Write, E: Write>(
     rt: &T,
     alloc: Global,
@@ -199,7 +199,7 @@ fn put_outcome<W: Write>(
 }
 
 // How many commands of each reached the unit.
-fn counts_of(history: &[Entry], nexuses: usize) -> ArrayVec<u32, MOST_NEXUSES>
+fn counts_of(history: &[Item], nexuses: usize) -> ArrayVec<u32, MOST_NEXUSES>
     requires few { nexuses ≤ MOST_NEXUSES }
     requires fit { (h : ℕ) → commands_by history.now h < 2 ^ 32 }
     ensures { result.items ≡ map (λ h. commands_by history.now h) (range_with_len 0 nexuses) }

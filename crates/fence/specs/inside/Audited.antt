@@ -1,6 +1,6 @@
 -- A history that was audited, and its verdict not written yet.
 use Rattle.std.specs.Prelude.{◌≡◌, ℕ, List, Option, IfSome, Result, Ok, Err}
-use Rattle.pr_roles.specs.declared.entry.Entry.{Entry}
+use Rattle.pr_roles.specs.declared.item.Item.{Item}
 use Rattle.pr_roles.specs.Scenarios.{scenario_of}
 use Rattle.pr_text.specs.declared.fault.ReadError.TheVariants as input
 use Rattle.pr_text.specs.Texts.{answer_of}
@@ -16,8 +16,8 @@ use Rattle.fence.specs.Audits.{Holds, IsTraceFault}
 -- the text is this scenario, and the verdict holds of the history that the trace is read as
 pub record IsOf (text trace : List ℕ) (a : Audited) : Type 0 where
   pub read : IsWrittenAs text (scenario_of a.scenario)
-  pub history : List Entry
-  pub traced : trace_of (names_in (scenario_of a.scenario)) trace ≡ Ok history
+  pub history : List Item
+  pub traced : trace_of (scenario_of a.scenario).version (names_in (scenario_of a.scenario)) trace ≡ Ok history
   pub holds : Holds a.verdict (scenario_of a.scenario) history
 
 -- the verdict on a text and a trace that are known, or their first fault

@@ -15,7 +15,7 @@ use Rattle.fence.specs.Replays.{IsTraceOf, IsUsageFault}
 -- the text of the trace of what is planned, and whether a host is trapped
 abbrev pub planned_text : Planned → List ℕ
 planned_text p =
-    trace_text (names_in (scenario_of p.scenario)) p.replayed.entries.items p.replayed.unit.registry (map ending_of p.replayed.ends.items) p.replayed.counts.items
+    trace_text (scenario_of p.scenario).version (names_in (scenario_of p.scenario)) p.replayed.history.items p.replayed.unit.registry (map ending_of p.replayed.ends.items) p.replayed.counts.items
 
 abbrev pub is_refused : Planned → Bool
 is_refused p = list_any is_trapped_end p.replayed.ends.items
