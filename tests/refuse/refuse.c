@@ -1,6 +1,6 @@
 /* Refuses one request for memory or for a thread: the one whose number REFUSE_AT gives, counted from 1 over all calls of
    malloc, calloc, realloc, aligned_alloc, posix_memalign and pthread_create, of all threads. It is preloaded before the C
-   library, and makes the file that REFUSE_MARK names when it refuses. */
+   library, and makes the file that REFUSE_MARK names when it refuses. Without REFUSE_AT the program says itself which. */
 #define _GNU_SOURCE
 #include <dlfcn.h>
 #include <errno.h>
@@ -10,14 +10,39 @@
 #include <stdlib.h>
 #include <unistd.h>
 
+/* What a program says of refusals it says by a request of at least 2 to the 40 bytes, which no program makes otherwise. With so
+   many times 2 to the 40 bytes, and N more:
+   1: the Nth request from here on is refused, and none where N is 0. The answer is no memory.
+   2: no more is counted. The answer is no memory where a request was refused since 1.
+   3: the answer is no memory where the number of requests that were counted has bit N. */
+enum { SAID_FROM = 40, REFUSE = 1, STOP = 2, COUNT = 3 };
+
+static atomic_bool counting;
+static atomic_bool refused;
 static atomic_ulong asked;
+static atomic_ulong refused_at;
+
+static void begin(unsigned long at)
+{
+    atomic_store(&asked, 0);
+    atomic_store(&refused, 0);
+    atomic_store(&refused_at, at);
+    atomic_store(&counting, 1);
+}
+
+static void __attribute__((constructor)) begin_at_once(void)
+{
+    const char *at = getenv("REFUSE_AT");
+    if (at)
+        begin(strtoul(at, NULL, 10));
+}
 
 static int is_refused(void)
 {
-    const char *at = getenv("REFUSE_AT");
     const char *mark = getenv("REFUSE_MARK");
-    if (!at || atomic_fetch_add(&asked, 1) + 1 != strtoul(at, NULL, 10))
+    if (!atomic_load(&counting) || atomic_fetch_add(&asked, 1) + 1 != atomic_load(&refused_at))
         return 0;
+    atomic_store(&refused, 1);
     if (mark)
         close(open(mark, O_WRONLY | O_CREAT, 0644));
     /* as the C library does it, which looks at this where it starts a thread */
@@ -27,8 +52,28 @@ static int is_refused(void)
 
 #define NEXT(name, type) ((type)dlsym(RTLD_NEXT, name))
 
+/* What is answered to a program that says something: whether there is no memory. */
+static int is_denied(size_t size)
+{
+    unsigned long number = size & (((size_t)1 << SAID_FROM) - 1);
+    switch (size >> SAID_FROM) {
+    case REFUSE:
+        begin(number);
+        return 1;
+    case STOP:
+        atomic_store(&counting, 0);
+        return atomic_load(&refused);
+    case COUNT:
+        return atomic_load(&asked) >> number & 1;
+    default:
+        return 1;
+    }
+}
+
 void *malloc(size_t size)
 {
+    if (size >> SAID_FROM)
+        return is_denied(size) ? NULL : NEXT("malloc", void *(*)(size_t))(1);
     return is_refused() ? NULL : NEXT("malloc", void *(*)(size_t))(size);
 }
 
