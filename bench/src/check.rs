@@ -1,5 +1,5 @@
 //! Times verdicts of the proved program beside a replay of one step of the same text, which reads the text and makes
-//! the scenario: a family of clusters of 2 to 8 nodes, and scenarios at the limits of the language. Of the longest of
+//! the scenario: a family of clusters of 2 to 16 nodes, and scenarios at the limits of the language. Of the longest of
 //! these it times verdicts with one thread beside those with a thread for each host, by a program that repeats them.
 
 use std::fs::{self, File};
@@ -12,7 +12,7 @@ const ROUNDS: u32 = 5;
 const TIMES: u32 = 20;
 /// The bytes of the longest texts.
 const LONGEST: usize = 65_000;
-const NAMES: [&str; 8] = ["a", "b", "c", "d", "e", "f", "g", "h"];
+const NAMES: [&str; 16] = ["a", "b", "c", "d", "e", "f", "g", "h", "i", "j", "k", "l", "m", "n", "o", "p"];
 const ARMS: &str = "on good\non conflict\non attention\ndone\n";
 
 #[repr(C)]
@@ -27,10 +27,17 @@ unsafe extern "C" {
     fn wait4(child: i32, status: *mut i32, options: i32, usage: *mut Usage) -> i32;
 }
 
+/// The first line of a text with so many hosts.
+fn first_line(hosts: usize) -> &'static str {
+    if hosts > 8 { "fence 2\n" } else { "fence 1\n" }
+}
+
 /// A cluster of so many nodes: each registers its own key, reserves, and writes, and may be preempted by every other one.
+/// There are twelve keys at most, so past the twelfth node they share the first ones.
 fn cluster(nodes: usize) -> String {
-    let mut text = String::from("fence 1\nkeys");
-    for node in 0..nodes {
+    let keys = nodes.min(12);
+    let mut text = format!("{}keys", first_line(nodes));
+    for node in 0..keys {
         text += &format!(" {}", key(node));
     }
     text += "\n";
@@ -40,7 +47,7 @@ fn cluster(nodes: usize) -> String {
     for (node, name) in NAMES[..nodes].iter().enumerate() {
         text += &format!("start {name} free {}\n", key(node));
         text += &format!("role {name} register {}\nrole {name} reserve 5\nrole {name} write\n", key(node));
-        for other in (0..nodes).filter(|other| *other != node) {
+        for other in (0..keys).filter(|other| *other != node) {
             text += &format!("role {name} preempt {} 5\n", key(other));
         }
     }
@@ -55,7 +62,7 @@ fn cluster(nodes: usize) -> String {
 
 /// The key of a node.
 fn key(node: usize) -> String {
-    format!("{:x}1", node + 10)
+    format!("{:x}1", node % 12 + 10)
 }
 
 /// A key of the scenarios at the limits, of which there are twelve.
@@ -63,13 +70,14 @@ fn twelfth(place: usize) -> String {
     format!("{:x}", place % 12 + 1)
 }
 
-/// A scenario at the limits: 8 hosts, 12 keys, 32 clauses a role, and scripts of as many sends as the bytes hold.
-fn limits(bytes: usize, alternatives: bool) -> (String, usize) {
-    let mut head = String::from("fence 1\nkeys 1 2 3 4 5 6 7 8 9 a b c\n");
-    for name in NAMES {
+/// A scenario at the limits: 8 or 16 hosts, 12 keys, 32 clauses a role, and scripts of as many sends as the bytes hold.
+fn limits(hosts: usize, bytes: usize, alternatives: bool) -> (String, usize) {
+    let names = &NAMES[..hosts];
+    let mut head = format!("{}keys 1 2 3 4 5 6 7 8 9 a b c\n", first_line(hosts));
+    for name in names {
         head += &format!("host {name}\n");
     }
-    for name in NAMES {
+    for name in names {
         if alternatives {
             head += &format!("start {name} free 1 2 3 4 5 6 7 8 9 a b c\n");
             head += &format!("pending {name} 29/00 2a/03 2a/04 2a/05\n");
@@ -89,17 +97,19 @@ fn limits(bytes: usize, alternatives: bool) -> (String, usize) {
     }
     if alternatives {
         head += "reservation none";
-        for kind in [1, 3, 5, 6] {
-            for name in NAMES {
+        // As many as a line has room for.
+        let kinds: &[u32] = if hosts > 8 { &[1, 3, 5] } else { &[1, 3, 5, 6] };
+        for kind in kinds {
+            for name in names {
                 head += &format!(" {kind}:{name}");
             }
         }
         head += " 7 8\n";
     }
-    let mut scripts = NAMES.map(|name| format!("script {name} budget 4096\n"));
-    let (mut taken, mut sends) = (head.len() + 8 * 26, 0);
+    let mut scripts: Vec<String> = names.iter().map(|name| format!("script {name} budget 4096\n")).collect();
+    let (mut taken, mut sends) = (head.len() + hosts * 26, 0);
     loop {
-        let (host, round) = (sends % 8, sends / 8);
+        let (host, round) = (sends % hosts, sends / hosts);
         let send = format!("send {}\n{ARMS}", command(host, round));
         if taken + send.len() > bytes {
             break;
@@ -205,17 +215,21 @@ fn side_by_side(program: &str, file: &str, what: &str, text: &str) {
 fn main() {
     let words: Vec<String> = std::env::args().collect();
     let (fence, file, repeating) = (&words[1], format!("{}/scenario", words[2]), &words[3]);
-    for nodes in 2..=8 {
+    for nodes in 2..=16 {
         compare(fence, &file, &format!("{nodes} nodes"), &cluster(nodes));
     }
     for bytes in [16_250, 32_500, LONGEST] {
         for (alternatives, start) in [(false, "free"), (true, "with every alternative")] {
-            let (text, sends) = limits(bytes, alternatives);
+            let (text, sends) = limits(8, bytes, alternatives);
             compare(fence, &file, &format!("8 hosts that start {start}, {sends} sends"), &text);
         }
     }
     for (alternatives, start) in [(false, "free"), (true, "with every alternative")] {
-        let (text, sends) = limits(LONGEST, alternatives);
+        let (text, sends) = limits(16, LONGEST, alternatives);
+        compare(fence, &file, &format!("16 hosts that start {start}, {sends} sends"), &text);
+    }
+    for (alternatives, start) in [(false, "free"), (true, "with every alternative")] {
+        let (text, sends) = limits(8, LONGEST, alternatives);
         side_by_side(repeating, &file, &format!("8 hosts that start {start}, {sends} sends"), &text);
     }
 }

@@ -50,30 +50,31 @@ unsafe extern "C" {
     fn unit_bench_executed(records: *const u8, length: usize) -> u64;
 }
 
-/// The number of hosts, the registrations of each of 8, the reservations and the pending attentions.
+/// The number of hosts, the registrations of each of 16, the reservations in two words, and the pending attentions.
 #[derive(Clone, Copy)]
-struct View([u64; 11]);
+struct View([u64; 20]);
 
 impl View {
     fn new(
         hosts: u64,
         registrations: impl Fn(u64) -> u64,
-        reservations: u64,
+        reservations: u128,
         pending: u64,
     ) -> Self {
-        let mut words = [0; 11];
+        let mut words = [0; 20];
         words[0] = hosts;
         for host in 0..hosts {
             words[1 + host as usize] = registrations(host);
         }
-        words[9] = reservations;
-        words[10] = pending;
+        words[17] = reservations as u64;
+        words[18] = (reservations >> 64) as u64;
+        words[19] = pending;
         View(words)
     }
 
     /// Everything is possible.
     fn full(hosts: u64) -> Self {
-        View::new(hosts, |_| bits(13), bits(hosts * 4 + 3), bits(16))
+        View::new(hosts, |_| registered(), bits(hosts * 4 + 3), bits(16) as u64)
     }
 
     /// Each may be registered with its own key or not, hold with type 5, and be preempted by any other.
@@ -95,17 +96,17 @@ impl View {
 
     /// Everything is possible, but that somebody is free or that nothing is reserved, and nothing is pending.
     fn busy(hosts: u64) -> Self {
-        View::new(hosts, |_| bits(13) - 1, bits(hosts * 4 + 3) - 1, 1)
+        View::new(hosts, |_| registered() - 1, bits(hosts * 4 + 3) - 1, 1)
     }
 
     /// Some registrations for each, some reservations and some attentions, many or few, as they are drawn.
     fn drawn(hosts: u64, draw: &mut Draw) -> Self {
-        let mut registrations = [0; 8];
+        let mut registrations = [0; 16];
         for words in &mut registrations {
-            *words = drawn_set(draw, 13);
+            *words = drawn_set(draw, 13) as u64;
         }
         let reservations = drawn_set(draw, hosts * 4 + 3);
-        let pending = drawn_set(draw, 16);
+        let pending = drawn_set(draw, 16) as u64;
         View::new(
             hosts,
             |host| registrations[host as usize],
@@ -117,17 +118,17 @@ impl View {
     /// Whoever is registered, one of the others but the host 1 holds alone, with type 3, and nothing is pending.
     fn held(hosts: u64) -> Self {
         let others = bits(hosts) & !2;
-        View::new(hosts, |_| bits(13), others << (1 + hosts), 1)
+        View::new(hosts, |_| registered(), others << (1 + hosts), 1)
     }
 }
 
 // A set that is not empty: all, most, half or few of so many numbers.
-fn drawn_set(draw: &mut Draw, count: u64) -> u64 {
+fn drawn_set(draw: &mut Draw, count: u64) -> u128 {
     let some = match draw.below(4) {
         0 => !0,
-        1 => draw.word() | draw.word(),
-        2 => draw.word(),
-        _ => draw.word() & draw.word() & draw.word(),
+        1 => wide(draw) | wide(draw),
+        2 => wide(draw),
+        _ => wide(draw) & wide(draw) & wide(draw),
     };
     let set = some & bits(count);
     if set == 0 {
@@ -137,13 +138,27 @@ fn drawn_set(draw: &mut Draw, count: u64) -> u64 {
     }
 }
 
-fn bits(count: u64) -> u64 {
+// Twice the time is allowed with more than 8 hosts, but where something is gained.
+fn sizes(hosts: u64) -> f64 {
+    if hosts > 8 { 2.0 } else { 1.0 }
+}
+
+fn wide(draw: &mut Draw) -> u128 {
+    u128::from(draw.word()) << 64 | u128::from(draw.word())
+}
+
+fn bits(count: u64) -> u128 {
     (1 << count) - 1
 }
 
-// The registration by the key of a host's own.
+// Free, or with any of the 12 keys.
+fn registered() -> u64 {
+    bits(13) as u64
+}
+
+// The registration by the key of a host's own; past the twelfth they share the first ones.
 fn own(host: u64) -> u64 {
-    1 << (host + 1)
+    1 << (host % 12 + 1)
 }
 
 const KINDS: [u8; 6] = [1, 3, 5, 6, 7, 8];
@@ -172,7 +187,7 @@ fn fencing_role(hosts: u64) -> Vec<u8> {
     let mut clauses = vec![0, 2, 0, 0, 1, 0, 5, 0, 6, 0, 0, 0, 7, 0, 0, 0];
     for host in 0..hosts {
         if host != 1 {
-            clauses.extend([4, host as u8 + 1, 5, 0]);
+            clauses.extend([4, (host % 12) as u8 + 1, 5, 0]);
         }
     }
     clauses
@@ -338,7 +353,7 @@ impl Bench {
         let (verb, goal) = if gains {
             ("gains", GAINED)
         } else {
-            ("gains nothing", NOTHING_GAINED)
+            ("gains nothing", NOTHING_GAINED * sizes(view.0[0]))
         };
         let seconds = self.time(|times| interfered(view, clauses, times));
         self.calls.push(Timed {
@@ -376,7 +391,7 @@ impl Bench {
             hosts: view.0[0],
             name: format!("outcomes, {}, {states} view", sending.name),
             seconds,
-            goal: OUTCOMES,
+            goal: OUTCOMES * sizes(view.0[0]),
         });
     }
 
@@ -430,7 +445,7 @@ fn measure(bench: &mut Bench, hosts: u64) {
 
 fn main() -> ExitCode {
     let mut bench = Bench::new();
-    for hosts in [2, 4, 8] {
+    for hosts in [2, 4, 8, 16] {
         measure(&mut bench, hosts);
     }
     if bench.report() {
