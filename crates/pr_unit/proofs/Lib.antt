@@ -7,3 +7,4 @@ pub mod Answered
 pub mod GoodSteps
 pub mod Quiet
 pub mod NeverBusy
+pub mod Resets

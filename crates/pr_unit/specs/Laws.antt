@@ -1,6 +1,6 @@
 -- Agrees with docs/MODEL.md, 'What a failed command changes'.
 -- What holds of every step.
-use Rattle.std.specs.Prelude.{◌≡◌, ◌≢◌, ℕ, ◌<◌, ◌⊎◌, Bool, true, false, IsTrue, None, Ok}
+use Rattle.std.specs.Prelude.{◌≡◌, ◌≢◌, ℕ, ◌<◌, ◌⊎◌, ◌==◌, ◌&&◌, ◌||◌, nat_lt, Bool, true, false, IsTrue, None, Ok}
 use Rattle.pr_cdb.specs.declared.command.Command.{Command}
 use Rattle.pr_cdb.specs.declared.command.Command.TheVariants.{TestUnitReady, RequestSense, Read, Write, ReadKeys, ReadReservation, ReportCapabilities, Register, RegisterIgnore, Reserve, Release, Clear, Preempt, PreemptAbort}
 use Rattle.pr_cdb.specs.declared.reply.Reply.{Reply}
@@ -8,7 +8,8 @@ use Rattle.pr_cdb.specs.declared.wire.Request.{Request}
 use Rattle.pr_cdb.specs.declared.wire.Request.TheVariants.{Plain, Faulty}
 use Rattle.pr_cdb.specs.Requests.{Fits, FitsWhereRead}
 use Rattle.pr_cdb.specs.Statuses.{is_busy_status, is_full_status}
-use Rattle.pr_unit.specs.UnitStates.{UnitState, IsWellFormed, is_pending, is_any_pending, effect}
+use Rattle.pr_unit.specs.Attentions.{power_on}
+use Rattle.pr_unit.specs.UnitStates.{UnitState, IsWellFormed, is_pending, is_any_pending, effect, reset}
 use Rattle.pr_unit.specs.Conflicts.{command_conflicts}
 use Rattle.pr_unit.specs.Faults.{command_fault}
 use Rattle.pr_unit.specs.Replies.{good, is_good, is_request_sense, data_of}
@@ -101,3 +102,12 @@ abbrev pub QuietSteps : Type 0
 QuietSteps =
     (u : UnitState) (h : ℕ) (q : Request) (r : Reply) (v : UnitState) → Step u h q r v
     → (is_good r ≡ false) ⊎ IsTrue (request_looks q) → IsQuiet u h v
+
+-- after a reset power on is pending for each host that is there, and else what was pending before
+abbrev pub ResetsTellEach : Type 0
+ResetsTellEach =
+    (u : UnitState) (h code : ℕ) → is_pending (reset u) h code ≡ (is_pending u h code || (nat_lt h u.registry.hosts && code == power_on))
+
+-- a reset leads from a well formed state to a well formed one
+abbrev pub ResetsAreWellFormed : Type 0
+ResetsAreWellFormed = (u : UnitState) → IsWellFormed u → IsWellFormed (reset u)

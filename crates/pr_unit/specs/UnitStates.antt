@@ -8,8 +8,8 @@ use Rattle.pr_cdb.specs.declared.command.Command.{Command}
 use Rattle.pr_registry.specs.declared.change.Change.{Change}
 use Rattle.pr_registry.specs.Registrations.{State, IsWellFormed as IsWellFormedRegistry}
 use Rattle.pr_registry.specs.Effects.{after, change}
-use Rattle.pr_attention.specs.Attentions.{Codes}
-use Rattle.pr_unit.specs.Attentions.{Pairs, table_pairs, attentions, is_attention, each_with, reservations_preempted, reservations_released, registrations_preempted}
+use Rattle.pr_attention.specs.Attentions.{Codes, no_code}
+use Rattle.pr_unit.specs.Attentions.{Pairs, table_pairs, pairs_where, attentions, is_attention, each_with, power_on, reservations_preempted, reservations_released, registrations_preempted}
 
 pub record UnitState : Type 0 where
   pub registry : State
@@ -50,3 +50,7 @@ effect u h c = record { registry = after u.registry h c; pending = pending_after
 -- the state once this code of h has been reported
 abbrev pub after_report : UnitState → ℕ → ℕ → UnitState
 after_report u h code = record u { pending = set.remove u.pending (h, code) }
+
+-- the state after a reset: power on is pending for each host, and nothing else is another (SAM-5, 'Logical unit reset')
+abbrev pub reset : UnitState → UnitState
+reset u = record u { pending = set.union u.pending (pairs_where u.registry.hosts (λ h. set.insert no_code power_on)) }

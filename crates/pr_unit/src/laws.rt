@@ -1,7 +1,7 @@
 //! Laws of the unit's behaviour, each the contract of a function with nothing to do.
 
 ghost use Rattle.pr_unit.specs.Capacity.{CapacityAgrees};
-ghost use Rattle.pr_unit.specs.Laws.{EffectsAreWellFormed, StepsAreWellFormed, StepsKeepHosts, EveryRequestHasAStep, GoodIsFixed, StepsAreNeverBusy, GoodStepsTakeEffect, FreeCommandsEndGood, QuietSteps};
+ghost use Rattle.pr_unit.specs.Laws.{EffectsAreWellFormed, StepsAreWellFormed, StepsKeepHosts, EveryRequestHasAStep, GoodIsFixed, StepsAreNeverBusy, GoodStepsTakeEffect, FreeCommandsEndGood, QuietSteps, ResetsTellEach, ResetsAreWellFormed};
 
 /// A command without conflict and fault leaves a well formed state well formed.
 pub fn effects_are_well_formed()
@@ -50,6 +50,16 @@ pub fn free_commands_end_good()
 /// for the sender.
 pub fn quiet_steps()
     ensures { QuietSteps }
+{}
+
+/// After a reset power on is pending for each host, and else what was pending before.
+pub fn resets_tell_each()
+    ensures { ResetsTellEach }
+{}
+
+/// A reset leads from a well formed state to a well formed one.
+pub fn resets_are_well_formed()
+    ensures { ResetsAreWellFormed }
 {}
 
 /// The unit has as many blocks as docs/MODEL.md says.

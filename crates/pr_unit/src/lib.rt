@@ -18,7 +18,7 @@ pub use conflicts::is_wrong_key;
 pub use faults::illegal;
 pub use laws::{
     capacity_agrees, effects_are_well_formed, every_request_has_a_step, free_commands_end_good,
-    good_is_fixed, good_steps_take_effect, quiet_steps, steps_are_never_busy,
-    steps_are_well_formed, steps_keep_hosts,
+    good_is_fixed, good_steps_take_effect, quiet_steps, resets_are_well_formed, resets_tell_each,
+    steps_are_never_busy, steps_are_well_formed, steps_keep_hosts,
 };
 pub use unit::{CAPACITY, Unit};

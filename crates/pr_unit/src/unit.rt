@@ -10,7 +10,8 @@ use crate::answers::answer;
 use crate::conflicts::command_conflicts;
 use crate::decision::{decide, ends_good};
 use crate::follows::follow;
-use pr_attention::Pending;
+use crate::pending_table;
+use pr_attention::{Attention, Pending};
 use pr_cdb::codes::MOST_NEXUSES;
 use pr_cdb::{Bad, Command, Reply, Request, Wire, decode};
 use pr_registry::Registry;
@@ -45,7 +46,7 @@ impl Unit {
     ghost use Rattle.pr_registry.specs.Registrations.{empty_registry};
     ghost use Rattle.pr_cdb.specs.declared.wire.Request.TheVariants.{Plain};
     ghost use Rattle.pr_cdb.specs.declared.reply.Reply.{Reply};
-    ghost use Rattle.pr_unit.specs.UnitStates.{UnitState, IsWellFormed, unit_of, is_pending, quiet_unit};
+    ghost use Rattle.pr_unit.specs.UnitStates.{UnitState, IsWellFormed, unit_of, is_pending, quiet_unit, reset};
     ghost use Rattle.pr_unit.specs.Replies.{is_good};
     ghost use Rattle.pr_unit.specs.Conflicts.{command_conflicts};
     ghost use Rattle.pr_unit.specs.Steps.{Step, Executes, decision, ends_good};
@@ -143,6 +144,14 @@ impl Unit {
             Ok(request) => follow(&mut self.registry, &mut self.pending, host, request, reply),
             Err(_) => false,
         }
+    }
+
+    /// Resets the unit (SAM-5, 'Logical unit reset'): power on becomes pending for each host. Whatever else is pending,
+    /// registrations, reservation and generation stay.
+    pub fn reset(&mut self)
+        ensures { self.new ≡ reset self.old }
+    {
+        pending_table::tell_all(&mut self.pending, self.registry.hosts(), Attention::PowerOn);
     }
 }
 

@@ -1,0 +1,15 @@
+use Rattle.std.proofs.Common.{sym, ap, ◌∙◌, subst}
+use Rattle.std.specs.FinSet as set
+use Rattle.pr_attention.specs.Attentions.{no_code}
+use Rattle.pr_unit.specs.Attentions.{Pairs, table_pairs, pairs_where, power_on}
+use Rattle.pr_unit.specs.UnitStates.{IsWellFormed, unit_of}
+use Rattle.pr_unit.proofs.Resets.{well_formed-reset}
+use Rattle.pr_unit.proofs.unit.Unit.reset.Goals as goal
+
+pub invariant_of-self : goal.invariant_of-self
+invariant_of-self c =
+    let registry = c.self.inside.registry in
+    let old = table_pairs c.self.inside.pending in
+    let told = c.tell_all.ensures ∙ ap (λ n. set.union old (pairs_where n (λ h. set.insert no_code power_on))) c.hosts.ensures.value in
+    subst (λ (pending : Pairs). IsWellFormed (record { registry = registry; pending = pending })) (sym told)
+    (well_formed-reset (unit_of registry c.self.inside.pending) c.self.invariant)
