@@ -6,3 +6,4 @@ pub mod Earliest
 pub mod Controls
 pub mod Refused
 pub mod FirstVersion
+pub mod Resetting

@@ -13,12 +13,12 @@ use Rattle.pr_unit.specs.UnitStates.{UnitState}
 use Rattle.pr_unit.proofs.NeverBusy.{steps_are_never_busy}
 use Rattle.pr_roles.specs.declared.entry.Entry.{Entry}
 use Rattle.pr_roles.specs.declared.item.Item.{Item}
-use Rattle.pr_roles.specs.declared.item.Item.TheVariants.{Sent}
+use Rattle.pr_roles.specs.declared.item.Item.TheVariants.{Sent, Reset}
 use Rattle.pr_roles.specs.declared.how.How.{How}
 use Rattle.pr_roles.specs.declared.how.How.TheVariants as how
 use Rattle.pr_roles.specs.Scenarios.{Scenario}
 use Rattle.pr_roles.specs.Answers.{Answers, is_refusal, is_refused, refusals_by, most_refusals, may_come}
-use Rattle.pr_roles.specs.Worlds.{World, Event, Host, Guest, Happens, Run, entry_of, world_from}
+use Rattle.pr_roles.specs.Worlds.{World, Event, Host, Guest, UnitReset, Happens, Run, entry_of, world_from}
 use Rattle.pr_roles.specs.Laws.{is_same_refusal, is_refused_in, RefusalsAreCounted, RefusalsAreDeclared}
 
 -- the status tells how a command was answered
@@ -44,6 +44,8 @@ refused_more s w (Guest g wire other) v sends h how =
     ap (λ (x : World). refusals_by x.history h how) sends.world
     ∙ counted_more w.history (entry_of g wire sends.reply) h how
     ∙ ap (λ b. refusals_by w.history h how + cond (g == h && b) 1 0) (told how other w.unit g sends.request sends.reply sends.unit sends.answer)
+refused_more s w UnitReset v resets h how =
+    ap (λ (x : World). refusals_by x.history h how) resets.world ∙ sum_by_push (λ x. cond (is_refused h how x) 1 0) w.history Reset
 
 run_counted : (s : Scenario) (w : World) (es : List Event) (v : World) → Run s w es v → (h : ℕ) (how : How)
     → refusals_by v.history h how ≡ refusals_by w.history h how + count_by (is_refused_in h how) es
@@ -82,6 +84,7 @@ refused_within : (s : Scenario) (w : World) (e : Event) (v : World) → Happens 
     → refusals_by w.history h how ≤ most_refusals s h how → refusals_by v.history h how ≤ most_refusals s h how
 refused_within s w (Host g other) v sends h how = one_more s w.history g h how other _ sends.room (refused_more s w (Host g other) v sends h how)
 refused_within s w (Guest g wire other) v sends h how = one_more s w.history g h how other _ sends.room (refused_more s w (Guest g wire other) v sends h how)
+refused_within s w UnitReset v resets h how = λ within. let more = refused_more s w UnitReset v resets h how in omega (arith, more, within)
 
 run_within : (s : Scenario) (w : World) (es : List Event) (v : World) → Run s w es v → (h : ℕ) (how : How)
     → refusals_by w.history h how ≤ most_refusals s h how → refusals_by v.history h how ≤ most_refusals s h how

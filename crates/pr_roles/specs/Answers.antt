@@ -28,8 +28,6 @@ TakenAnswer how.Plain u h q r v = TakenStep u h q r v
 TakenAnswer how.Busy u h q r v = (r ≡ busy) × (v ≡ u)
 TakenAnswer how.Full u h q r v = (r ≡ full) × (v ≡ u)
 
--- ---- which refusals may come
-
 abbrev pub is_among : Refusals → How → Bool
 is_among d how.Plain = true
 is_among d how.Busy = d.busy
@@ -40,8 +38,6 @@ pub record Answered (d : Refusals) (u : UnitState) (h : ℕ) (q : Request) (r : 
   pub how : How
   pub declared : IsTrue (is_among d how)
   pub answer : Answers how u h q r v
-
--- ---- how often
 
 -- the most answers of this kind that the scenario declares for h
 abbrev pub most_refusals : Scenario → ℕ → How → ℕ

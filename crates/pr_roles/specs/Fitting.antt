@@ -10,7 +10,7 @@ use Rattle.pr_script.specs.declared.limits.TheConstants.{MOST_BUDGET}
 use Rattle.pr_script.specs.Names.{is_name}
 use Rattle.pr_script.specs.Grammar.{is_declared, is_written_key, is_written, script_fits}
 use Rattle.pr_script.specs.Versions.{is_script_of}
-use Rattle.pr_roles.specs.declared.limits.TheConstants.{MOST_DECLARED_1, MOST_DECLARED_2, MOST_KEYS, MOST_CLAUSES, MOST_PLANNED, MOST_REFUSALS}
+use Rattle.pr_roles.specs.declared.limits.TheConstants.{MOST_DECLARED_1, MOST_DECLARED_2, MOST_KEYS, MOST_CLAUSES, MOST_PLANNED, MOST_REFUSALS, MOST_RESETS}
 use Rattle.pr_roles.specs.declared.role.Action.{Action}
 use Rattle.pr_roles.specs.declared.role.Action.TheVariants as action
 use Rattle.pr_roles.specs.declared.role.Clause.{Clause}
@@ -104,6 +104,10 @@ is_version version = version == 1 || version == 2
 abbrev pub is_count : ℕ → ℕ → Bool
 is_count version n = n == 0 || (version == 2 && nat_le n MOST_REFUSALS)
 
+-- no resets in version 1, and else not too many
+abbrev pub are_resets : ℕ → ℕ → Bool
+are_resets version n = n == 0 || (version == 2 && nat_le n MOST_RESETS)
+
 -- no arm that came with a later version
 abbrev pub is_task_of : ℕ → Task → Bool
 is_task_of version (Scripted script budget) = is_script_of version script
@@ -117,6 +121,7 @@ are_of version nexuses = list_all (λ n. is_count version n.busy && (is_count ve
 pub record Fits (s : Scenario) : Type 0 where
   pub version : IsTrue (is_version s.version)
   pub dated : IsTrue (are_of s.version s.nexuses)
+  pub resets : IsTrue (are_resets s.version s.resets)
   pub keys : AreDeclared s.keys
   pub reservations : IsTrue (are_reservations (length s.nexuses) s.reservations)
   pub nexuses : IsTrue (are_nexuses s.version s.keys s.nexuses)

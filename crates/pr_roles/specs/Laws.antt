@@ -1,12 +1,12 @@
 -- Agrees with docs/MODEL.md, 'Starts'.
--- Laws of starts, and of refusals.
+-- Laws of starts, of refusals, and of resets.
 use Rattle.std.specs.Prelude.{◌≡◌, ◌≤◌, ◌↔◌, ℕ, Bool, true, false, ◌==◌, ◌&&◌, IsTrue, List, Some, IsSome}
 use Rattle.std.specs.List.{slice_get, count_by}
 use Rattle.pr_roles.specs.declared.item.Item.{Item}
 use Rattle.pr_roles.specs.declared.how.How.{How}
 use Rattle.pr_roles.specs.declared.how.How.TheVariants as how
 use Rattle.pr_roles.specs.Answers.{refusals_by, most_refusals, may_come}
-use Rattle.pr_roles.specs.Worlds.{World, Event, Host, Guest, Run, world_from}
+use Rattle.pr_roles.specs.Worlds.{World, Event, Host, Guest, UnitReset, Run, world_from, resets_in, may_reset}
 use Rattle.pr_unit.specs.UnitStates.{UnitState}
 use Rattle.pr_roles.specs.Scenarios.{Scenario}
 use Rattle.pr_roles.specs.Fitting.{Fits}
@@ -40,6 +40,7 @@ is_same_refusal how.Full how.Full = true
 abbrev pub is_refused_in : ℕ → How → Event → Bool
 is_refused_in h how (Host g other) = g == h && is_same_refusal how other
 is_refused_in h how (Guest g wire other) = g == h && is_same_refusal how other
+is_refused_in h how UnitReset = false
 
 -- the history of a run tells how often a nexus was refused
 abbrev pub RefusalsAreCounted : Type 0
@@ -57,3 +58,24 @@ RefusalsAreDeclared =
 abbrev pub FirstVersionIsPlain : Type 0
 FirstVersionIsPlain =
     (s : Scenario) → Fits s → s.version ≡ 1 → (es : List Item) (h : ℕ) (k : How) → IsTrue (may_come s es h k) → k ≡ how.Plain
+
+-- ---- resets
+
+abbrev pub is_reset_event : Event → Bool
+is_reset_event (Host h how) = false
+is_reset_event (Guest g wire how) = false
+is_reset_event UnitReset = true
+
+-- the history of a run tells how often the unit was reset
+abbrev pub ResetsAreCounted : Type 0
+ResetsAreCounted =
+    (s : Scenario) (u : UnitState) (es : List Event) (w : World) → Run s (world_from s u) es w → resets_in w.history ≡ count_by is_reset_event es
+
+-- and in no run that is more often than the scenario has it
+abbrev pub ResetsAreDeclared : Type 0
+ResetsAreDeclared =
+    (s : Scenario) (u : UnitState) (es : List Event) (w : World) → Run s (world_from s u) es w → count_by is_reset_event es ≤ s.resets
+
+-- in a scenario of version 1 there is none
+abbrev pub FirstVersionHasNoReset : Type 0
+FirstVersionHasNoReset = (s : Scenario) → Fits s → s.version ≡ 1 → (es : List Item) → may_reset s es ≡ false

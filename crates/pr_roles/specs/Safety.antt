@@ -8,13 +8,14 @@ use Rattle.pr_roles.specs.declared.item.Item.{Item}
 use Rattle.pr_roles.specs.Permits.{is_permitted}
 use Rattle.pr_roles.specs.Scenarios.{Scenario, Task, Scripted, Planned, role, task}
 use Rattle.pr_roles.specs.Starts.{IsAllowedStart}
-use Rattle.pr_roles.specs.Worlds.{World, Event, Host, Guest, Happens, Run, control, is_trapped, world_from, commands_by}
+use Rattle.pr_roles.specs.Worlds.{World, Event, Host, Guest, UnitReset, Happens, Run, control, is_trapped, world_from, commands_by}
 
 -- a host's command that ends GOOD is one that its role permits, in the state just before it
 abbrev pub KeepsRole : (s : Scenario) (w : World) (e : Event) (v : World) → Happens s w e v → Type 0
 KeepsRole s w (Host h how) v sends =
     is_good sends.reply ≡ true → IsTrue (is_permitted (role s h) w.unit.registry h (Plain sends.command))
 KeepsRole s w (Guest g wire how) v sends = Unit {0}
+KeepsRole s w UnitReset v sends = Unit {0}
 
 -- so does each event of the run
 abbrev pub KeepsRoles : (s : Scenario) (w : World) (es : List Event) (v : World) → Run s w es v → Type 0

@@ -30,13 +30,14 @@ pub record Nexus : Type 0 where
   pub busy : ℕ
   pub full : ℕ
 
--- The version of its text, the declared keys, the reservations that there may be at the start, the generation of the first start, and
--- the nexuses in the order of their numbers.
+-- The version of its text, the declared keys, the reservations that there may be at the start, the generation of the first start, how
+-- often the unit may be reset, and the nexuses in the order of their numbers.
 pub record Scenario : Type 0 where
   pub version : ℕ
   pub keys : List ℕ
   pub reservations : List (Option Held)
   pub generation : ℕ
+  pub resets : ℕ
   pub nexuses : List Nexus
 
 abbrev pub nexus : Scenario → ℕ → Option Nexus
@@ -48,8 +49,6 @@ role s h = option_map_or (λ n. n.role) (nexus s h) []
 
 abbrev pub task : Scenario → ℕ → Option Task
 task s h = option_map_or (λ n. Some n.task) (nexus s h) None
-
--- ---- the parts of a scenario, as they are kept
 
 abbrev pub task_of : TaskPart → Task
 task_of (part.Scripted script budget) = Scripted (script_of script) budget
@@ -72,5 +71,6 @@ scenario_of p = record {
   keys = p.keys.items;
   reservations = p.reservations.items;
   generation = p.generation;
+  resets = p.resets;
   nexuses = map nexus_of p.nexuses.items;
 }

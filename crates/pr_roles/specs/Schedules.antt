@@ -1,6 +1,6 @@
 -- Agrees with docs/FORMATS.md, 'Replaying'.
--- Runs in which each turn belongs to a named nexus.
-use Rattle.std.specs.Prelude.{◌≡◌, ℕ, Bool, true, false, ◌&&◌, not, List, [], ◌∷◌, Option, Some, None, map, slice_set}
+-- Runs in which each turn belongs to a named nexus, or is a reset of the unit.
+use Rattle.std.specs.Prelude.{◌≡◌, ℕ, Bool, true, false, ◌&&◌, not, if◌then◌else◌, List, [], ◌∷◌, Option, Some, None, map, slice_set}
 use Rattle.std.specs.List.{slice_get}
 use Rattle.std.specs.Option.{option_map_or}
 use Rattle.pr_cdb.specs.declared.command.Command.{Command}
@@ -13,10 +13,12 @@ use Rattle.pr_script.specs.Scripts.{Standing, ready, stopped}
 use Rattle.pr_roles.specs.declared.role.Clause.{Clause}
 use Rattle.pr_roles.specs.declared.how.How.{How}
 use Rattle.pr_roles.specs.declared.how.How.TheVariants as how
+use Rattle.pr_roles.specs.declared.step.Step.{Step}
+use Rattle.pr_roles.specs.declared.step.Step.TheVariants as step
 use Rattle.pr_roles.specs.Answers.{TakenAnswer, how_now}
 use Rattle.pr_roles.specs.Permits.{is_permitted}
 use Rattle.pr_roles.specs.Scenarios.{Scenario, Task, Scripted, Planned, role, task}
-use Rattle.pr_roles.specs.Worlds.{World, control, standing_of, after, world_from}
+use Rattle.pr_roles.specs.Worlds.{World, control, standing_of, after, after_reset, may_reset, world_from}
 
 -- a world, and what is left of each guest's plan
 pub record Schedule : Type 0 where
@@ -68,10 +70,18 @@ TurnBy (Some (Planned commands)) s x h how y =
 abbrev pub Turn : Scenario → Schedule → ℕ → How → Schedule → Type 0
 Turn s x h how y = TurnBy (task s h) s x h (how_now s x.world.history h how) y
 
--- the turns of these, one after another
-abbrev pub ScheduledRun : Scenario → Schedule → List (ℕ × How) → Schedule → Type 0
+-- the unit is reset where that may still come, else nothing happens
+abbrev pub ResetTurn : Scenario → Schedule → Schedule → Type 0
+ResetTurn s x y = y ≡ (if may_reset s x.world.history then record x { world = after_reset x.world } else x)
+
+abbrev pub Advances : Scenario → Schedule → Step → Schedule → Type 0
+Advances s x (step.Of h how) y = Turn s x h how y
+Advances s x step.Reset y = ResetTurn s x y
+
+-- these, one after another
+abbrev pub ScheduledRun : Scenario → Schedule → List Step → Schedule → Type 0
 ScheduledRun s x [] y = y ≡ x
-ScheduledRun s x (step ∷ steps) y = (mid : Schedule) × Turn s x step.0 step.1 mid × ScheduledRun s mid steps y
+ScheduledRun s x (next ∷ rest) y = (mid : Schedule) × Advances s x next mid × ScheduledRun s mid rest y
 
 abbrev pub plan_of : Task → List Command
 plan_of (Scripted script budget) = []

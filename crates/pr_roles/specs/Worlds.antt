@@ -1,7 +1,7 @@
 -- Agrees with docs/MODEL.md, 'Worlds, events and runs'.
 -- A logical unit with the scripts that drive it, and what may happen to them. One event is one command of one
--- nexus: it is executed and answered, and a host's script takes the reply.
-use Rattle.std.specs.Prelude.{◌≡◌, ℕ, ◌≤◌, ◌==◌, Bool, true, false, IsTrue, List, [], ◌∷◌, ◌++◌, length, Option, Some, None, map, slice_set, Ok}
+-- nexus: it is executed and answered, and a host's script takes the reply. Or it is a reset of the unit.
+use Rattle.std.specs.Prelude.{◌≡◌, ℕ, ◌≤◌, ◌==◌, Bool, true, false, nat_lt, IsTrue, List, [], ◌∷◌, ◌++◌, length, Option, Some, None, map, slice_set, Ok}
 use Rattle.std.specs.List.{slice_get, count_by}
 use Rattle.std.specs.Option.{option_map_or}
 use Rattle.pr_cdb.specs.declared.codes.TheConstants.{MOST_CDB_LENGTH, PARAMETER_LIST_LENGTH}
@@ -12,7 +12,7 @@ use Rattle.pr_cdb.specs.declared.wire.Request.{Request}
 use Rattle.pr_cdb.specs.declared.wire.Request.TheVariants.{Plain}
 use Rattle.pr_cdb.specs.Requests.{request_of_wire, AreBytes}
 use Rattle.pr_cdb.specs.Spelling.{spelling}
-use Rattle.pr_unit.specs.UnitStates.{UnitState}
+use Rattle.pr_unit.specs.UnitStates.{UnitState, reset}
 use Rattle.pr_unit.specs.Replies.{is_good}
 use Rattle.pr_script.specs.Scripts.{Configuration, Standing, ready, standing_of_items, first_configuration}
 use Rattle.pr_script.specs.Takes.{take}
@@ -68,12 +68,15 @@ after w h line wire r unit = record {
   history = w.history ++ Sent (entry_of h wire r) ∷ [];
 }
 
--- ---- events
+-- the world once the unit was reset, which stands last in the history
+abbrev pub after_reset : World → World
+after_reset w = record w { unit = reset w.unit; history = w.history ++ Reset ∷ [] }
 
--- a host's script sends, or a guest sends these bytes, and is answered so
+-- a host's script sends, or a guest sends these bytes, and is answered so; or the unit is reset
 pub data Event : Type 0 where
   Host : ℕ → How → Event
   Guest : ℕ → Wire → How → Event
+  UnitReset : Event
 
 -- The command that host h is ready to send is answered so, as often as the scenario has it, and its script takes the reply.
 pub record HostSends (s : Scenario) (w : World) (h : ℕ) (how : How) (v : World) : Type 0 where
@@ -109,16 +112,31 @@ pub record GuestSends (s : Scenario) (w : World) (g : ℕ) (wire : Wire) (how : 
   pub permitted : is_good reply ≡ true → IsTrue (is_permitted (role s g) w.unit.registry g request)
   pub world : v ≡ after w g 0 wire reply unit
 
+abbrev pub is_reset : Item → Bool
+is_reset (Sent e) = false
+is_reset Reset = true
+
+-- how often the unit was reset, and whether it may be reset once more
+abbrev pub resets_in : List Item → ℕ
+resets_in history = count_by is_reset history
+
+abbrev pub may_reset : Scenario → List Item → Bool
+may_reset s history = nat_lt (resets_in history) s.resets
+
+-- A reset may come at any time, as often as the scenario has it.
+pub record IsReset (s : Scenario) (w v : World) : Type 0 where
+  pub room : IsTrue (may_reset s w.history)
+  pub world : v ≡ after_reset w
+
 abbrev pub Happens : Scenario → World → Event → World → Type 0
 Happens s w (Host h how) v = HostSends s w h how v
 Happens s w (Guest g wire how) v = GuestSends s w g wire how v
+Happens s w UnitReset v = IsReset s w v
 
 -- these events, one after another, lead from w to v
 abbrev pub Run : Scenario → World → List Event → World → Type 0
 Run s w [] v = v ≡ w
 Run s w (e ∷ es) v = (mid : World) × Happens s w e mid × Run s mid es v
-
--- ---- the beginning
 
 abbrev pub control_of : Task → Control
 control_of (Scripted script budget) = Going (first_configuration script)

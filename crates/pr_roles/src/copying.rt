@@ -21,6 +21,7 @@ impl Parts {
             keys: Vec::from_slice(alloc, &self.keys)?,
             reservations: Vec::from_slice(alloc, &self.reservations)?,
             generation: self.generation,
+            resets: self.resets,
             nexuses: copied_nexuses(alloc, &self.nexuses)?,
         })
     }
@@ -34,6 +35,7 @@ impl Parts {
             && same_keys(&self.keys, &other.keys)
             && same_reservations(&self.reservations, &other.reservations)
             && self.generation == other.generation
+            && self.resets == other.resets
             && same_nexuses(&self.nexuses, &other.nexuses)
     }
 }

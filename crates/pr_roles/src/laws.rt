@@ -1,7 +1,7 @@
-//! Laws of starts and of refusals, each the contract of a function with nothing to do.
+//! Laws of starts, of refusals and of resets, each the contract of a function with nothing to do.
 
 ghost use Rattle.pr_roles.specs.Limits.{LimitsAgree};
-ghost use Rattle.pr_roles.specs.Laws.{StartsAreFound, FirstStartsAreEarliest, RefusalsAreCounted, RefusalsAreDeclared, FirstVersionIsPlain};
+ghost use Rattle.pr_roles.specs.Laws.{StartsAreFound, FirstStartsAreEarliest, RefusalsAreCounted, RefusalsAreDeclared, FirstVersionIsPlain, ResetsAreCounted, ResetsAreDeclared, FirstVersionHasNoReset};
 
 /// Where parts fit, some state is allowed to start from exactly where the first start finds a reservation.
 pub fn starts_are_found()
@@ -31,4 +31,19 @@ pub fn refusals_are_declared()
 /// In a scenario of version 1 the unit answers each command.
 pub fn first_version_is_plain()
     ensures { FirstVersionIsPlain }
+{}
+
+/// The history of a run tells how often the unit was reset.
+pub fn resets_are_counted()
+    ensures { ResetsAreCounted }
+{}
+
+/// The unit is reset no more often than the scenario has it.
+pub fn resets_are_declared()
+    ensures { ResetsAreDeclared }
+{}
+
+/// In a scenario of version 1 there is no reset.
+pub fn first_version_has_no_reset()
+    ensures { FirstVersionHasNoReset }
 {}

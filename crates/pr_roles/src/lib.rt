@@ -17,6 +17,7 @@ mod parts;
 mod permitting;
 mod role;
 mod scenario;
+mod step;
 mod uniqueness;
 
 pub use entry::Entry;
@@ -24,12 +25,14 @@ pub use fitting::{are_alternatives, is_action};
 pub use how::{How, Refusals};
 pub use item::Item;
 pub use laws::{
-    first_starts_are_earliest, first_version_is_plain, limits_agree, refusals_are_counted,
-    refusals_are_declared, starts_are_found,
+    first_starts_are_earliest, first_version_has_no_reset, first_version_is_plain, limits_agree,
+    refusals_are_counted, refusals_are_declared, resets_are_counted, resets_are_declared,
+    starts_are_found,
 };
 pub use parts::{Nexus, Parts, Start, Task};
 pub use permitting::{is_always_permitted, names, permits};
 pub use pr_script::Word;
 pub use role::{Action, Clause, Condition, Role};
 pub use scenario::{Scenario, first_start};
+pub use step::Step;
 pub use uniqueness::{are_distinct, are_held_apart};

@@ -23,6 +23,9 @@ pub const MOST_CLAUSES: usize = 32;
 /// Refusals of one kind that a nexus may meet.
 pub const MOST_REFUSALS: u32 = 1_000;
 
+/// Resets of the unit during a run.
+pub const MOST_RESETS: u32 = 1_000;
+
 /// Commands of a guest's plan.
 pub const MOST_PLANNED: usize = 256;
 

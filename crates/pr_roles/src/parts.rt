@@ -48,5 +48,7 @@ pub struct Parts {
     pub reservations: Vec<Option<Held>>,
     /// The generation of the first start.
     pub generation: u32,
+    /// How often the unit may be reset during a run.
+    pub resets: u32,
     pub nexuses: Vec<Nexus>,
 }

@@ -1,0 +1,5 @@
+use Rattle.pr_roles.proofs.Resetting.{first_version_has_no_reset}
+use Rattle.pr_roles.proofs.laws.first_version_has_no_reset.Goals as goal
+
+pub returns : goal.returns
+returns c = first_version_has_no_reset
