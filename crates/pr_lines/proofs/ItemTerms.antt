@@ -22,7 +22,7 @@ use Rattle.pr_lines.specs.CommandWords.{spelled_of, spelled_in}
 use Rattle.pr_lines.specs.Clauses.{clause_of, good_of, test_of}
 use Rattle.pr_lines.specs.Chain.{each}
 use Rattle.pr_lines.specs.Lookups.{lookup}
-use Rattle.pr_lines.specs.ScenarioLines.{StartReservation, nobody, single, everybody, ScenarioLine, keys_line, nexus_line, start_line, pending_line, refusals_line, reservation_line, generation_line, role_line, script_line, plan_line, end_line, send_line, on_line, done_line, repeat_line, break_line, stop_line, command_line, fence_line, list_of, alternative_of, everybody_of, single_of, start_reservation_of, name_in, only_name, only_count, budget_in, fence_said, said_of_name, item_of, declares, states}
+use Rattle.pr_lines.specs.ScenarioLines.{StartReservation, nobody, single, everybody, ScenarioLine, keys_line, nexus_line, start_line, pending_line, refusals_line, reservation_line, generation_line, resets_line, role_line, script_line, plan_line, end_line, send_line, on_line, done_line, repeat_line, break_line, stop_line, command_line, fence_line, list_of, alternative_of, everybody_of, single_of, start_reservation_of, name_in, only_name, only_count, budget_in, fence_said, said_of_name, item_of, declares, states}
 use Rattle.pr_lines.specs.inside.Keywords.{keyword_of, said_simply, said_after, said_with}
 use Rattle.pr_lines.proofs.ItemWords.{by_keyword}
 use Rattle.pr_lines.proofs.NumberRoom.{digit_more, hex_some}
@@ -228,6 +228,7 @@ simply_sound keyword.Guest ws = map_if (λ x. is_name x ≡ true) Sound (λ name
 simply_sound keyword.Busy ws = refusals_sound refusal.Busy ws
 simply_sound keyword.Full ws = refusals_sound refusal.Full ws
 simply_sound keyword.Generation ws = map_if (λ _. Unit {0}) Sound (λ n. declares (generation_line n)) (option_and_then generation_of (only ws)) (any_if _) (λ x h. refl)
+simply_sound keyword.Resets ws = map_if (λ _. Unit {0}) Sound (λ n. declares (resets_line n)) (only_count ws) (any_if _) (λ x h. refl)
 simply_sound keyword.Role ws = bind_if (λ _. Unit {0}) Sound (λ r. option_map (λ clause. declares (role_line r.0 clause)) (clause_of r.1)) (name_in ws) (any_if _) (λ r h. map_if (λ _. Unit {0}) Sound (λ clause. declares (role_line r.0 clause)) (clause_of r.1) (any_if _) (λ x k. refl))
 simply_sound keyword.Script ws = bind_if (λ _. Unit {0}) Sound (λ r. option_map (λ budget. declares (script_line r.0 budget)) (budget_in r.1)) (name_in ws) (any_if _) (λ r h. map_if (λ _. Unit {0}) Sound (λ budget. declares (script_line r.0 budget)) (budget_in r.1) (any_if _) (λ x k. refl))
 simply_sound keyword.Plan ws = map_if (λ _. Unit {0}) Sound (λ name. declares (plan_line name)) (only_name ws) (any_if _) (λ x h. refl)
@@ -272,6 +273,7 @@ after_sound keyword.Guest ws = simply_sound keyword.Guest ws
 after_sound keyword.Busy ws = simply_sound keyword.Busy ws
 after_sound keyword.Full ws = simply_sound keyword.Full ws
 after_sound keyword.Generation ws = simply_sound keyword.Generation ws
+after_sound keyword.Resets ws = simply_sound keyword.Resets ws
 after_sound keyword.Role ws = simply_sound keyword.Role ws
 after_sound keyword.Script ws = simply_sound keyword.Script ws
 after_sound keyword.Plan ws = simply_sound keyword.Plan ws

@@ -25,7 +25,8 @@ pub data StartReservation : Type 0 where
   everybody : Kind → StartReservation
 
 -- A line outside scripts and plans, with the terms on it. A nexus is a guest where the flag says so, and a line of
--- refusals says how often one may come. A key, a count or a name need not be one that the text may have there.
+-- refusals or of resets says how often one may come. A key, a count or a name need not be one that the text may have
+-- there.
 pub data DeclaringLine : Type 0 where
   keys_line : List ℕ → DeclaringLine
   nexus_line : Bool → List ℕ → DeclaringLine
@@ -34,6 +35,7 @@ pub data DeclaringLine : Type 0 where
   refusals_line : Refusal → List ℕ → ℕ → DeclaringLine
   reservation_line : List StartReservation → DeclaringLine
   generation_line : ℕ → DeclaringLine
+  resets_line : ℕ → DeclaringLine
   role_line : List ℕ → Clause → DeclaringLine
   script_line : List ℕ → ℕ → DeclaringLine
   plan_line : List ℕ → DeclaringLine
@@ -122,6 +124,7 @@ item_of word ws =
     if bytes_eq word (codes "full") then said_of_name (λ name count. declares (refusals_line refusal.Full name count)) only_count ws else (
     if bytes_eq word (codes "reservation") then option_map (λ xs. declares (reservation_line xs)) (list_of start_reservation_of ws) else (
     if bytes_eq word (codes "generation") then option_map (λ n. declares (generation_line n)) (only ws >>= generation_of) else (
+    if bytes_eq word (codes "resets") then option_map (λ n. declares (resets_line n)) (only_count ws) else (
     if bytes_eq word (codes "role") then said_of_name (λ name clause. declares (role_line name clause)) clause_of ws else (
     if bytes_eq word (codes "script") then said_of_name (λ name budget. declares (script_line name budget)) budget_in ws else (
     if bytes_eq word (codes "plan") then option_map (λ name. declares (plan_line name)) (only_name ws) else (
@@ -132,4 +135,4 @@ item_of word ws =
     if bytes_eq word (codes "repeat") then option_map (λ n. states (repeat_line n)) (only_count ws) else (
     if bytes_eq word (codes "break") then if_alone (states break_line) ws else (
     if bytes_eq word (codes "stop") then option_map (λ word. states (stop_line word)) (only_name ws) else (
-    option_map (λ s. command_line s) (spelled_of word ws)))))))))))))))))))))
+    option_map (λ s. command_line s) (spelled_of word ws))))))))))))))))))))))

@@ -67,6 +67,8 @@ pub enum ScenarioLine {
     Reservation(Vec<StartReservation>),
     /// The generation of the first start.
     Generation(u32),
+    /// How often the unit may be reset during a run.
+    Resets(u64),
     /// One clause more of the role of the nexus with this name.
     Role(Word, Clause),
     /// A script begins, of the host with this name, and with this budget of commands.
@@ -134,6 +136,7 @@ fn said_simply(keyword: Keyword, rest: &[u8]) -> Option<ScenarioLine>
         Keyword::Busy => refusals_said(Refusal::Busy, rest),
         Keyword::Full => refusals_said(Refusal::Full, rest),
         Keyword::Generation => Some(ScenarioLine::Generation(generation_of(only(rest)?)?)),
+        Keyword::Resets => Some(ScenarioLine::Resets(only_count(rest)?)),
         Keyword::Role => role_said(rest),
         Keyword::Script => script_said(rest),
         Keyword::Plan => Some(ScenarioLine::Plan(only_name(rest)?)),

@@ -18,6 +18,7 @@ pub enum Keyword {
     Full,
     Reservation,
     Generation,
+    Resets,
     Role,
     Script,
     Plan,
@@ -31,7 +32,7 @@ pub enum Keyword {
 }
 
 /// The words that lines begin with (docs/FORMATS.md, 'The lines of a scenario').
-pub const KEYWORDS: [(&[u8], Keyword); 20] = [
+pub const KEYWORDS: [(&[u8], Keyword); 21] = [
     (b"fence", Keyword::Fence),
     (b"keys", Keyword::Keys),
     (b"host", Keyword::Host),
@@ -42,6 +43,7 @@ pub const KEYWORDS: [(&[u8], Keyword); 20] = [
     (b"full", Keyword::Full),
     (b"reservation", Keyword::Reservation),
     (b"generation", Keyword::Generation),
+    (b"resets", Keyword::Resets),
     (b"role", Keyword::Role),
     (b"script", Keyword::Script),
     (b"plan", Keyword::Plan),

@@ -15,7 +15,7 @@ impl ScenarioLine {
         ensures { result ≡ since (line_of_value self.now) }
     {
         match self {
-            ScenarioLine::Refusals(..) => 2,
+            ScenarioLine::Refusals(..) | ScenarioLine::Resets(_) => 2,
             ScenarioLine::On(test) => test.since(),
             ScenarioLine::Fence(_) => 1,
             ScenarioLine::Keys(_) | ScenarioLine::Host(_) | ScenarioLine::Guest(_) => 1,

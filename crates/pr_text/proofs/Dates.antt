@@ -7,7 +7,7 @@ use Rattle.std.proofs.lemmas.Bool.Decides.{nat_tests}
 use Rattle.std.proofs.Math.Bool.{and_assoc, and-true}
 use Rattle.pr_script.specs.Scripts.{Stmt, Stmts, Arms, sends, repeats, breaks, stops, none, more, no_arm, arm}
 use Rattle.pr_script.specs.Versions.{since as test_since, is_statement_of, is_script_of, are_arms_of}
-use Rattle.pr_roles.specs.Fitting.{is_version, is_count}
+use Rattle.pr_roles.specs.Fitting.{is_version, is_count, are_resets}
 use Rattle.pr_lines.specs.ScenarioLines.{states}
 use Rattle.pr_lines.specs.Versions.{since}
 use Rattle.pr_text.specs.ScriptLines.{ScriptLine, send_at, arm_on, block_done, repeat_of, break_out, stop_with, statement_lines, body_lines, arms_lines}
@@ -28,6 +28,9 @@ by_has n v h = grind (arith, nat_tests)
 
 pub count_kept : (v n : ℕ) → is_version v ≡ true → nat_lt v 2 ≡ false → (nat_le 1 n && nat_le n 1000) ≡ true → is_count v n ≡ true
 count_kept v n known new room = grind (arith, nat_tests)
+
+pub resets_kept : (v n : ℕ) → is_version v ≡ true → nat_lt v 2 ≡ false → (nat_le 1 n && nat_le n 1000) ≡ true → are_resets v n ≡ true
+resets_kept v n known new room = grind (arith, nat_tests)
 
 -- ---- the lines of a script
 

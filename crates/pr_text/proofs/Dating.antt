@@ -7,11 +7,11 @@ use Rattle.std.proofs.lemmas.List.Folds.{list_all-append}
 use Rattle.std.proofs.lemmas.List.{length-set}
 use Rattle.std.proofs.lemmas.Bool.{and_parts}
 use Rattle.std.proofs.lemmas.Bool.Decides.{nat_tests}
-use Rattle.pr_roles.specs.Fitting.{most_declared, is_count}
+use Rattle.pr_roles.specs.Fitting.{most_declared, is_count, are_resets}
 use Rattle.pr_lines.specs.declared.item.Refusal.{Refusal}
 use Rattle.pr_lines.specs.declared.item.Refusal.TheVariants as refusal
 use Rattle.pr_lines.specs.declared.spelling.ParsedCommand.{ParsedCommand}
-use Rattle.pr_lines.specs.ScenarioLines.{ScenarioLine, DeclaringLine, StatementLine, fence_line, declares, states, keys_line, nexus_line, start_line, pending_line, refusals_line, reservation_line, generation_line, role_line, script_line, plan_line, end_line, send_line, on_line, done_line, repeat_line, break_line, stop_line, command_line}
+use Rattle.pr_lines.specs.ScenarioLines.{ScenarioLine, DeclaringLine, StatementLine, fence_line, declares, states, keys_line, nexus_line, start_line, pending_line, refusals_line, reservation_line, generation_line, resets_line, role_line, script_line, plan_line, end_line, send_line, on_line, done_line, repeat_line, break_line, stop_line, command_line}
 use Rattle.pr_lines.specs.Versions.{declaring_since, statement_since, since}
 use Rattle.pr_script.specs.Versions.{since as test_since}
 use Rattle.pr_text.specs.declared.fault.Which.{Which}
@@ -26,7 +26,7 @@ use Rattle.pr_lines.proofs.ItemTerms.{is_item}
 use Rattle.pr_lines.proofs.Tests.{both}
 use Rattle.pr_text.proofs.SoundScripts.{not_no, passes, skips}
 use Rattle.pr_text.proofs.Trees.{le_true}
-use Rattle.pr_text.proofs.Dates.{by_has, count_kept}
+use Rattle.pr_text.proofs.Dates.{by_has, count_kept, resets_kept}
 
 -- ---- one nexus
 
@@ -56,9 +56,10 @@ named_dated : (d : Declared) (f : Declaration → Declaration) (o : Option ℕ) 
 named_dated d f None dated at each = dated
 named_dated d f (Some h) dated at each = record {
   version = dated.version;
+  resets = dated.resets;
   few = rw (nexus_long d.nexuses h f (slice_get d.nexuses h)) dated.few;
   each = nexus_dated (is_declared_of d.version) d.nexuses h f (slice_get d.nexuses h) each refl dated.each;
-  place = subst (IsPlaceOf d.version (with_nexus d h f).nexuses) (sym at) tt;
+  place = subst (IsPlaceOf d.version d.resets (with_nexus d h f).nexuses) (sym at) tt;
 }
 
 counted : (v : ℕ) (r : Refusal) (count : ℕ) (x : Declaration) → is_count v count ≡ true → is_declared_of v x ≡ true → is_declared_of v (with_count r count x) ≡ true
@@ -77,6 +78,7 @@ tasked v t x written h =
 tasked_dated : (d : Declared) (h : ℕ) (t : WrittenTask) → is_written_of d.version (Some t) ≡ true → IsDated d → IsDated (with_task d h t)
 tasked_dated d h t written dated = record {
   version = dated.version;
+  resets = dated.resets;
   few = rw (nexus_long d.nexuses h (λ x. record x { task = Some t }) (slice_get d.nexuses h)) dated.few;
   each = nexus_dated (is_declared_of d.version) d.nexuses h (λ x. record x { task = Some t }) (slice_get d.nexuses h) (λ x. tasked d.version t x written) refl dated.each;
   place = tt;
@@ -84,9 +86,9 @@ tasked_dated d h t written dated = record {
 
 -- ---- a line outside
 
-opened : (d : Declared) (g : ℕ → Place) (o : Option ℕ) → ((h : ℕ) → IsPlaceOf d.version d.nexuses (g h)) → IsDated d → IsDated (option_map_or (λ h. record d { place = g h }) o d)
+opened : (d : Declared) (g : ℕ → Place) (o : Option ℕ) → ((h : ℕ) → IsPlaceOf d.version d.resets d.nexuses (g h)) → IsDated d → IsDated (option_map_or (λ h. record d { place = g h }) o d)
 opened d g None is dated = dated
-opened d g (Some h) is dated = record { version = dated.version; few = dated.few; each = dated.each; place = is h }
+opened d g (Some h) is dated = record { version = dated.version; resets = dated.resets; few = dated.few; each = dated.each; place = is h }
 
 few_more : (n most : ℕ) → nat_le most n ≡ false → nat_le (n + 1) most ≡ true
 few_more n most h = grind (arith, nat_tests)
@@ -98,13 +100,14 @@ new_dated : (d : Declared) (x : Declaration) → is_declared_of d.version x ≡ 
     → IsDated (record d { nexuses = d.nexuses ++ x ∷ [] })
 new_dated d x is room at dated = record {
   version = dated.version;
+  resets = dated.resets;
   few = rw (one_long d.nexuses x) (few_more (length d.nexuses) (most_declared d.version) room);
   each = list_all-append (is_declared_of d.version) d.nexuses (x ∷ []) ∙ both _ _ dated.each (both _ _ is refl);
-  place = subst (IsPlaceOf d.version (d.nexuses ++ x ∷ [])) (sym at) tt;
+  place = subst (IsPlaceOf d.version d.resets (d.nexuses ++ x ∷ [])) (sym at) tt;
 }
 
 declared_dated : (n : ℕ) (l : DeclaringLine) (d : Declared) → d.place ≡ outside → nat_lt d.version (declaring_since l) ≡ false → past_limit d l ≡ None → IsDated d → IsDated (with_declared n d l)
-declared_dated n (keys_line keys) d at has few dated = record { version = dated.version; few = dated.few; each = dated.each; place = dated.place }
+declared_dated n (keys_line keys) d at has few dated = record { version = dated.version; resets = dated.resets; few = dated.few; each = dated.each; place = dated.place }
 declared_dated n (nexus_line guest name) d at has few dated =
     new_dated d _ refl (skips (nat_le (most_declared d.version) (length d.nexuses)) _ _ few).0 at dated
 declared_dated n (start_line name xs) d at has few dated = named_dated d (λ x. record x { start = Some xs }) (number_of d.nexuses name) dated at (λ x h. h)
@@ -113,8 +116,17 @@ declared_dated n (refusals_line r name count) d at has few dated =
     let room = skips (not (nat_le 1 count && nat_le count 1000)) _ _ few in
     let kept = count_kept d.version count dated.version has (not_no _ room.0) in
     named_dated d (with_count r count) (number_of d.nexuses name) dated at (λ x. counted d.version r count x kept)
-declared_dated n (reservation_line ws) d at has few dated = record { version = dated.version; few = dated.few; each = dated.each; place = dated.place }
-declared_dated n (generation_line g) d at has few dated = record { version = dated.version; few = dated.few; each = dated.each; place = dated.place }
+declared_dated n (reservation_line ws) d at has few dated = record { version = dated.version; resets = dated.resets; few = dated.few; each = dated.each; place = dated.place }
+declared_dated n (generation_line g) d at has few dated = record { version = dated.version; resets = dated.resets; few = dated.few; each = dated.each; place = dated.place }
+declared_dated n (resets_line count) d at has few dated =
+    let room = skips (not (nat_le 1 count && nat_le count 1000)) _ _ few in
+    record {
+      version = dated.version;
+      resets = resets_kept d.version count dated.version has (not_no _ room.0);
+      few = dated.few;
+      each = dated.each;
+      place = subst (IsPlaceOf d.version (Some count) d.nexuses) (sym at) tt;
+    }
 declared_dated n (role_line name clause) d at has few dated = named_dated d (λ x. record x { role = x.role ++ clause ∷ [] }) (number_of d.nexuses name) dated at (λ x h. h)
 declared_dated n (script_line name budget) d at has few dated = opened d (λ h. in_script (begun_script h budget)) (number_of d.nexuses name) (λ h. refl) dated
 declared_dated n (plan_line name) d at has few dated = opened d (λ h. in_plan h []) (number_of d.nexuses name) (λ h. tt) dated
@@ -133,20 +145,20 @@ stated_dated v n (repeat_line count) o has all = one_more v o.lines (repeat_of c
 stated_dated v n break_line o has all = one_more v o.lines break_out refl all
 stated_dated v n (stop_line word) o has all = one_more v o.lines (stop_with word) refl all
 
-in_script_dated : (v : ℕ) (xs : List Declaration) (n : ℕ) (l : StatementLine) (p : Place) → nat_lt v (statement_since l) ≡ false → IsPlaceOf v xs p
-    → IsPlaceOf v xs (of_script p (λ o. in_script (with_statement_line n l o)) p)
-in_script_dated v xs n l before_all has h = h
-in_script_dated v xs n l outside has h = tt
-in_script_dated v xs n l (in_script o) has h = stated_dated v n l o has h
-in_script_dated v xs n l (in_plan g commands) has h = tt
+in_script_dated : (v : ℕ) (r : Option ℕ) (xs : List Declaration) (n : ℕ) (l : StatementLine) (p : Place) → nat_lt v (statement_since l) ≡ false → IsPlaceOf v r xs p
+    → IsPlaceOf v r xs (of_script p (λ o. in_script (with_statement_line n l o)) p)
+in_script_dated v r xs n l before_all has h = h
+in_script_dated v r xs n l outside has h = tt
+in_script_dated v r xs n l (in_script o) has h = stated_dated v n l o has h
+in_script_dated v r xs n l (in_plan g commands) has h = tt
 
-in_plan_dated : (v : ℕ) (xs : List Declaration) (s : ParsedCommand) (p : Place) → IsPlaceOf v xs p → IsPlaceOf v xs (of_plan p (λ h commands. in_plan h (commands ++ s.command ∷ [])) p)
-in_plan_dated v xs s before_all h = h
-in_plan_dated v xs s outside h = tt
-in_plan_dated v xs s (in_script o) h = h
-in_plan_dated v xs s (in_plan g commands) h = tt
+in_plan_dated : (v : ℕ) (r : Option ℕ) (xs : List Declaration) (s : ParsedCommand) (p : Place) → IsPlaceOf v r xs p → IsPlaceOf v r xs (of_plan p (λ h commands. in_plan h (commands ++ s.command ∷ [])) p)
+in_plan_dated v r xs s before_all h = h
+in_plan_dated v r xs s outside h = tt
+in_plan_dated v r xs s (in_script o) h = h
+in_plan_dated v r xs s (in_plan g commands) h = tt
 
-ended_dated : (d : Declared) (p : Place) → IsPlaceOf d.version d.nexuses p → IsDated d
+ended_dated : (d : Declared) (p : Place) → IsPlaceOf d.version d.resets d.nexuses p → IsDated d
     → IsDated (by_place d d (λ o. with_task d o.host (scripted o.lines o.budget)) (λ h commands. with_task d h (planned commands)) p)
 ended_dated d before_all at dated = dated
 ended_dated d outside at dated = dated
@@ -161,11 +173,11 @@ outside_is outside h = refl
 outside_is (in_script o) h = cc
 outside_is (in_plan g commands) h = cc
 
-none_before : (v : ℕ) (xs : List Declaration) (p : Place) → is_before_all p ≡ true → IsPlaceOf v xs p → xs ≡ []
-none_before v xs before_all h at = at
-none_before v xs outside h at = cc
-none_before v xs (in_script o) h at = cc
-none_before v xs (in_plan g commands) h at = cc
+none_before : (v : ℕ) (r : Option ℕ) (xs : List Declaration) (p : Place) → is_before_all p ≡ true → IsPlaceOf v r xs p → (r ≡ None) × (xs ≡ [])
+none_before v r xs before_all h at = at
+none_before v r xs outside h at = cc
+none_before v r xs (in_script o) h at = cc
+none_before v r xs (in_plan g commands) h at = cc
 
 few_none : (version : ℕ) (xs : List Declaration) → xs ≡ [] → nat_le (length xs) (most_declared version) ≡ true
 few_none version xs none = ap (λ ys. nat_le (length ys) (most_declared version)) none ∙ le_true 0 (most_declared version) (omega arith)
@@ -182,15 +194,21 @@ stands_well n false false false false (Some w) h = cc
 line_dated : (n : ℕ) (i : ScenarioLine) (d : Declared) → is_item i ≡ true → nat_lt d.version (since i) ≡ false → standing_fault n d i ≡ None → IsDated d → IsDated (with_line n d i)
 line_dated n (fence_line version) d known has faultless dated =
     let well = stands_well n (not (is_before_all d.place)) false false false None faultless in
-    let none : d.nexuses ≡ [] = none_before d.version d.nexuses d.place (not_no _ well.0) dated.place in
-    record { version = known; few = few_none version d.nexuses none; each = ap (list_all (is_declared_of version)) none; place = tt }
+    let none = none_before d.version d.resets d.nexuses d.place (not_no _ well.0) dated.place in
+    record {
+      version = known;
+      resets = ap (λ r. are_resets version (unwrap_or r 0)) none.0;
+      few = few_none version d.nexuses none.1;
+      each = ap (list_all (is_declared_of version)) none.1;
+      place = tt;
+    }
 line_dated n (declares l) d known has faultless dated =
     let well = stands_well n (not (is_outside d.place)) (names_unknown d l) (keys_undeclared d l) (says_again d l) (past_limit d l) faultless in
     declared_dated n l d (outside_is d.place (not_no _ well.0)) has well.1 dated
 line_dated n (states l) d known has faultless dated =
-    record { version = dated.version; few = dated.few; each = dated.each; place = in_script_dated d.version d.nexuses n l d.place has dated.place }
+    record { version = dated.version; resets = dated.resets; few = dated.few; each = dated.each; place = in_script_dated d.version d.resets d.nexuses n l d.place has dated.place }
 line_dated n (command_line s) d known has faultless dated =
-    record { version = dated.version; few = dated.few; each = dated.each; place = in_plan_dated d.version d.nexuses s d.place dated.place }
+    record { version = dated.version; resets = dated.resets; few = dated.few; each = dated.each; place = in_plan_dated d.version d.resets d.nexuses s d.place dated.place }
 line_dated n end_line d known has faultless dated = ended_dated d d.place dated.place dated
 
 pub placed_dated : (n : ℕ) (i : ScenarioLine) (d e : Declared) → IsDated d → is_item i ≡ true → item_placed n i d ≡ Ok e → IsDated e

@@ -154,7 +154,7 @@ abbrev pub is_planned : Task → Bool
 is_planned (Scripted script budget) = false
 is_planned (Planned commands) = true
 
--- how often a refusal may come, if a line says it
+-- how often a refusal or a reset may come, if a line says it
 abbrev pub count_said : ℕ → Option ℕ
 count_said count = cond (count == 0) None (Some count)
 
@@ -165,8 +165,8 @@ count_same count = by (count == 0) refl
     by true is = let none : count ≡ 0 = grind (arith, nat_tests) in rw is (sym none)
     by false is = rw is refl
 
-abbrev pub placed : ℕ → Option (List ℕ) → Option (List (Option Held)) → Option ℕ → List Declaration → Place → Declared
-placed version keys vs g xs p = record { version = version; keys = keys; reservations = vs; generation = g; nexuses = xs; place = p }
+abbrev pub placed : ℕ → Option (List ℕ) → Option (List (Option Held)) → Option ℕ → Option ℕ → List Declaration → Place → Declared
+placed version keys vs g rs xs p = record { version = version; keys = keys; reservations = vs; generation = g; resets = rs; nexuses = xs; place = p }
 
 -- a nexus of which so much is said; and one of which nothing is said behind what may be pending
 abbrev pub staged : ℕ → List ℕ → Bool → Option (List (Option ℕ)) → Option Codes → Option ℕ → Option ℕ → List Clause → Option WrittenTask → Declaration
@@ -184,9 +184,9 @@ short_plan k m h = grind (arith, nat_tests)
 one_longer : {A : Type 0} (xs : List A) (x : A) (m top : ℕ) → length xs + suc m ≤ top → length (xs ++ x ∷ []) + m ≤ top
 one_longer xs x m top h = omega (arith, length-append xs (x ∷ []))
 
-module _ (n version : ℕ) (dated : is_version version ≡ true) (keys : Option (List ℕ)) (vs : Option (List (Option Held))) (g : Option ℕ) (before after : List Declaration) (name : List ℕ) (free : is_taken name before ≡ false) where
+module _ (n version : ℕ) (dated : is_version version ≡ true) (keys : Option (List ℕ)) (vs : Option (List (Option Held))) (g rs : Option ℕ) (before after : List Declaration) (name : List ℕ) (free : is_taken name before ≡ false) where
   abbrev with : Declaration → Place → Declared
-  with x p = placed version keys vs g (before ++ x ∷ after) p
+  with x p = placed version keys vs g rs (before ++ x ∷ after) p
 
   old : nat_lt version 1 ≡ false
   old = has_first version dated
@@ -376,10 +376,10 @@ full n x = staged n x.name (is_planned x.task) (Some x.start) (pending_kept (att
 abbrev pub is_nexus_of : ℕ → Nexus → Bool
 is_nexus_of version x = is_count version x.busy && (is_count version x.full && is_task_of version x.task)
 
-pub details_go : (n version : ℕ) → is_version version ≡ true → (keys : Option (List ℕ)) (vs : Option (List (Option Held))) (g : Option ℕ) (before after : List Declaration) (x : Nexus)
+pub details_go : (n version : ℕ) → is_version version ≡ true → (keys : Option (List ℕ)) (vs : Option (List (Option Held))) (g rs : Option ℕ) (before after : List Declaration) (x : Nexus)
     → is_taken x.name before ≡ false → is_nexus_of version x ≡ true → is_nexus (unwrap_or keys []) x ≡ true → AreAttentions x.pending
-    → all_said (details_said n x) (placed version keys vs g (before ++ bare n x ∷ after) outside) ≡ Ok (placed version keys vs g (before ++ full n x ∷ after) outside)
-details_go n version dated keys vs g before after x free has fits are =
+    → all_said (details_said n x) (placed version keys vs g rs (before ++ bare n x ∷ after) outside) ≡ Ok (placed version keys vs g rs (before ++ full n x ∷ after) outside)
+details_go n version dated keys vs g rs before after x free has fits are =
     let guest = is_planned x.task in
     let busies = and_parts (is_count version x.busy) _ has in
     let fulls = and_parts (is_count version x.full) _ busies.1 in
@@ -388,10 +388,10 @@ details_go n version dated keys vs g before after x free has fits are =
     let roles = and_parts (nat_le (length x.role) 32) _ parts.0 in
     let rest = and_parts (is_start (unwrap_or keys []) x.start) _ parts.1 in
     let start = and_parts (list_all (is_alternative (unwrap_or keys [])) x.start) _ (and_parts (not (length x.start == 0)) _ rest.0).1 in
-    said_first n (declares (start_line x.name x.start)) _ _ _ _ (has_first version dated) (start_goes n version dated keys vs g before after x.name free guest x.start start.0 start.1)
+    said_first n (declares (start_line x.name x.start)) _ _ _ _ (has_first version dated) (start_goes n version dated keys vs g rs before after x.name free guest x.start start.0 start.1)
     (said_on (pending_said n x.name (attentions_in x.pending)) _ _ _ _
-    (pending_goes n version dated keys vs g before after x.name free guest (Some x.start) (attentions_in x.pending) x.pending (attentions_apart x.pending) (attentions_are x.pending are))
-    (both_go n version dated keys vs g before after x.name free guest (Some x.start) pending x.busy x.full _ _ busies.0 fulls.0
+    (pending_goes n version dated keys vs g rs before after x.name free guest (Some x.start) (attentions_in x.pending) x.pending (attentions_apart x.pending) (attentions_are x.pending are))
+    (both_go n version dated keys vs g rs before after x.name free guest (Some x.start) pending x.busy x.full _ _ busies.0 fulls.0
     (said_on (map (λ c. line n (declares (role_line x.name c))) x.role) _ _ _ _
-    (roles_go n version dated keys vs g before after x.name free guest (Some x.start) pending (count_said x.busy) (count_said x.full) [] x.role roles.1 (let few_roles = true_le (length x.role) 32 roles.0 in omega arith))
-    (task_goes n version dated keys vs g before after x.name free x.task (Some x.start) pending (count_said x.busy) (count_said x.full) x.role fulls.1 rest.1))))
+    (roles_go n version dated keys vs g rs before after x.name free guest (Some x.start) pending (count_said x.busy) (count_said x.full) [] x.role roles.1 (let few_roles = true_le (length x.role) 32 roles.0 in omega arith))
+    (task_goes n version dated keys vs g rs before after x.name free x.task (Some x.start) pending (count_said x.busy) (count_said x.full) x.role fulls.1 rest.1))))

@@ -6,7 +6,7 @@ use Rattle.std.proofs.lemmas.List.{length-map}
 use Rattle.std.proofs.lemmas.Bool.{and_parts}
 use Rattle.std.proofs.lemmas.Simd.{map-map}
 use Rattle.pr_roles.specs.Scenarios.{Scenario, Nexus, Task, Scripted, Planned}
-use Rattle.pr_roles.specs.Fitting.{most_declared, Fits, is_nexus, is_role, is_start, is_task, is_version, is_count, is_task_of, are_of}
+use Rattle.pr_roles.specs.Fitting.{most_declared, Fits, is_nexus, is_role, is_start, is_task, is_version, is_count, are_resets, is_task_of, are_of}
 use Rattle.pr_script.specs.Names.{is_name}
 use Rattle.pr_text.specs.ScriptLines.{body_lines}
 use Rattle.pr_text.specs.Declarations.{WrittenTask, scripted, planned, Declaration, Declared, Place, before_all, outside, in_script, in_plan}
@@ -98,6 +98,7 @@ declared_fits n d s sound dated faultless kept =
     record {
       version = ap is_version kept.version ∙ dated.version;
       dated = ap (λ v. are_of v s.nexuses) kept.version ∙ each_has d.version s.nexuses d.nexuses kept.nexuses dated.each;
+      resets = ap (λ v. are_resets v s.resets) kept.version ∙ (ap (are_resets d.version) kept.resets ∙ dated.resets);
       keys = rw keys sound.keys;
       reservations = rw (kept.reservations, long) sound.reservations;
       nexuses = rw (long, named, keys) (

@@ -18,10 +18,10 @@ use Rattle.pr_lines.specs.Chain.{each}
 use Rattle.pr_lines.specs.Versions.{since}
 use Rattle.pr_text.specs.Declaring.{declared_keys, number_of, count_in, held_of}
 use Rattle.pr_text.specs.Faults.{and_then, unless}
-use Rattle.pr_lines.specs.ScenarioLines.{StartReservation, ScenarioLine, fence_line, keys_line, nexus_line, start_line, pending_line, refusals_line, reservation_line, generation_line, role_line, script_line, plan_line, end_line, command_line, DeclaringLine, StatementLine, declares, states}
+use Rattle.pr_lines.specs.ScenarioLines.{StartReservation, ScenarioLine, fence_line, keys_line, nexus_line, start_line, pending_line, refusals_line, reservation_line, generation_line, resets_line, role_line, script_line, plan_line, end_line, command_line, DeclaringLine, StatementLine, declares, states}
 use Rattle.pr_text.specs.LineFaults.{limit_of, statement_fault, command_fault, standing_fault}
 use Rattle.pr_text.specs.NextLine.{with_statement_line, with_more, with_line, item_placed}
-use Rattle.pr_text.specs.inside.Chains.{are_codes_distinct, declared_with, script_step, keys_placed, nexus_placed, start_placed, pending_placed, refusals_placed, reservation_placed, generation_placed, role_placed, script_placed, plan_placed, placed_first, placed_outside, placed_in_script, planned_step, placed_in_plan, placed_at, item_standing, item_taken}
+use Rattle.pr_text.specs.inside.Chains.{are_codes_distinct, declared_with, script_step, keys_placed, nexus_placed, start_placed, pending_placed, refusals_placed, reservation_placed, generation_placed, resets_placed, role_placed, script_placed, plan_placed, placed_first, placed_outside, placed_in_script, planned_step, placed_in_plan, placed_at, item_standing, item_taken}
 
 -- ---- tests one behind another
 
@@ -108,6 +108,10 @@ reservation_same n ws d = by_helds (each (held_of d.nexuses) ws) refl
     by_helds None is = rw is refl
     by_helds (Some vs) is = rw is (first (is_some d.reservations || not (are_distinct is_same_reservation vs)) _ None _)
 
+resets_same : (n count : ℕ) (d : Declared) → item_stood n (declares (resets_line count)) (at_place d outside) ≡ resets_placed n count (at_place d outside)
+unfolding item_stood resets_placed
+resets_same n count d = limited (is_some d.resets) (not (nat_le 1 count && nat_le count 1000)) _ n which.Resets _
+
 role_same : (n : ℕ) (name : List ℕ) (clause : Clause) (d : Declared) → item_stood n (declares (role_line name clause)) (at_place d outside) ≡ role_placed n name clause (at_place d outside)
 unfolding item_stood role_placed
 role_same n name clause d = by_number (number_of d.nexuses name) refl
@@ -164,6 +168,7 @@ declared_same n (pending_line name xs) d = pending_same n name xs d
 declared_same n (refusals_line r name count) d = refusals_same n r name count d
 declared_same n (reservation_line ws) d = reservation_same n ws d
 declared_same n (generation_line g) d = first (is_some d.generation) _ None _
+declared_same n (resets_line count) d = resets_same n count d
 declared_same n (role_line name clause) d = role_same n name clause d
 declared_same n (script_line name budget) d = script_same n name budget d
 declared_same n (plan_line name) d = plan_same n name d

@@ -140,17 +140,18 @@ nexuses_same [] (n ∷ ns) e = cc
 nexuses_same (m ∷ ms) [] e = cc
 nexuses_same (m ∷ ms) (n ∷ ns) e = same_nexuses m n ms ns (nexus_same m n (first_nexus _ _ _ _ e)) (nexuses_same ms ns (other_nexuses _ _ _ _ e))
 
-scenario_same : (s t : Scenario) → s.version ≡ t.version → s.keys ≡ t.keys → s.reservations ≡ t.reservations → s.generation ≡ t.generation → s.nexuses ≡ t.nexuses → s ≡ t
-scenario_same s t v a b c d =
-    ap (λ x. record { version = x; keys = s.keys; reservations = s.reservations; generation = s.generation; nexuses = s.nexuses }) v
-    ∙ (ap (λ x. record { version = t.version; keys = x; reservations = s.reservations; generation = s.generation; nexuses = s.nexuses }) a
-    ∙ (ap (λ x. record { version = t.version; keys = t.keys; reservations = x; generation = s.generation; nexuses = s.nexuses }) b
-    ∙ (ap (λ x. record { version = t.version; keys = t.keys; reservations = t.reservations; generation = x; nexuses = s.nexuses }) c
-    ∙ ap (λ x. record { version = t.version; keys = t.keys; reservations = t.reservations; generation = t.generation; nexuses = x }) d)))
+scenario_same : (s t : Scenario) → s.version ≡ t.version → s.keys ≡ t.keys → s.reservations ≡ t.reservations → s.generation ≡ t.generation → s.resets ≡ t.resets → s.nexuses ≡ t.nexuses → s ≡ t
+scenario_same s t v a b c r d =
+    ap (λ x. record { version = x; keys = s.keys; reservations = s.reservations; generation = s.generation; resets = s.resets; nexuses = s.nexuses }) v
+    ∙ (ap (λ x. record { version = t.version; keys = x; reservations = s.reservations; generation = s.generation; resets = s.resets; nexuses = s.nexuses }) a
+    ∙ (ap (λ x. record { version = t.version; keys = t.keys; reservations = x; generation = s.generation; resets = s.resets; nexuses = s.nexuses }) b
+    ∙ (ap (λ x. record { version = t.version; keys = t.keys; reservations = t.reservations; generation = x; resets = s.resets; nexuses = s.nexuses }) c
+    ∙ (ap (λ x. record { version = t.version; keys = t.keys; reservations = t.reservations; generation = t.generation; resets = x; nexuses = s.nexuses }) r
+    ∙ ap (λ x. record { version = t.version; keys = t.keys; reservations = t.reservations; generation = t.generation; resets = t.resets; nexuses = x }) d))))
 
 declared_same : (d : Declared) (s t : Scenario) → IsDeclaredBy d s → IsDeclaredBy d t → s ≡ t
 declared_same d s t p q =
-    scenario_same s t (p.version ∙ sym q.version) (p.keys ∙ sym q.keys) (p.reservations ∙ sym q.reservations) (p.generation ∙ sym q.generation)
+    scenario_same s t (p.version ∙ sym q.version) (p.keys ∙ sym q.keys) (p.reservations ∙ sym q.reservations) (p.generation ∙ sym q.generation) (p.resets ∙ sym q.resets)
     (nexuses_same s.nexuses t.nexuses (p.nexuses ∙ sym q.nexuses))
 
 along : (d e : Declared) (s t : Scenario) → d ≡ e → IsDeclaredBy d s → IsDeclaredBy e t → s ≡ t

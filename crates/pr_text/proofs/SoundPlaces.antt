@@ -18,12 +18,12 @@ use Rattle.pr_lines.specs.declared.item.Refusal.TheVariants as refusal
 use Rattle.pr_lines.specs.declared.spelling.ParsedCommand.{ParsedCommand}
 use Rattle.pr_text.specs.Faults.{and_then}
 use Rattle.pr_text.specs.Declarations.{OpenLines, WrittenTask, scripted, planned, Declaration, Place, before_all, outside, in_script, in_plan, Declared}
-use Rattle.pr_lines.specs.ScenarioLines.{ScenarioLine, keys_line, nexus_line, start_line, pending_line, refusals_line, reservation_line, generation_line, role_line, script_line, plan_line, end_line, command_line, fence_line, DeclaringLine, declares, states}
+use Rattle.pr_lines.specs.ScenarioLines.{ScenarioLine, keys_line, nexus_line, start_line, pending_line, refusals_line, reservation_line, generation_line, resets_line, role_line, script_line, plan_line, end_line, command_line, fence_line, DeclaringLine, declares, states}
 use Rattle.pr_text.specs.declared.fault.Which.TheVariants as which
 use Rattle.pr_text.specs.declared.fault.ReadError.TheVariants as fault
-use Rattle.pr_roles.specs.declared.limits.TheConstants.{MOST_REFUSALS}
+use Rattle.pr_roles.specs.declared.limits.TheConstants.{MOST_REFUSALS, MOST_RESETS}
 use Rattle.pr_text.specs.LineFaults.{limit_of, command_fault}
-use Rattle.pr_text.specs.inside.Chains.{script_step, declared_with, nexus_set, on_nexus, at_number, at_name, start_fault, start_at, start_placed, pending_at, pending_placed, refusals_at, refusals_placed, generation_placed, role_at, role_placed, script_fault, script_at, script_placed, plan_at, plan_placed, placed_first, placed_outside, script_ended, placed_in_script, planned_step, placed_in_plan, placed_at, item_standing, item_taken}
+use Rattle.pr_text.specs.inside.Chains.{script_step, declared_with, nexus_set, on_nexus, at_number, at_name, start_fault, start_at, start_placed, pending_at, pending_placed, refusals_at, refusals_placed, generation_placed, resets_placed, role_at, role_placed, script_fault, script_at, script_placed, plan_at, plan_placed, placed_first, placed_outside, script_ended, placed_in_script, planned_step, placed_in_plan, placed_at, item_standing, item_taken}
 use Rattle.pr_text.specs.Declaring.{declared_keys, number_of, count_in, codes_of, is_spelled}
 use Rattle.pr_text.specs.NextLine.{with_count, begun_script, with_task, item_placed}
 use Rattle.pr_text.specs.inside.Sound.{AreBegun, is_plan, IsTask, IsDeclaration, AreDeclarations, IsPlace, IsSound}
@@ -178,6 +178,23 @@ generation_sound n g d e at sound r =
       place = subst (IsPlace (declared_keys d) (n + 1)) (sym at) tt;
     })
 
+resets_sound : (n count : ℕ) (d e : Declared) → d.place ≡ outside → IsSound n d → resets_placed (n + 1) count d ≡ Ok e → IsSound (n + 1) e
+unfolding resets_placed
+resets_sound n count d e at sound r =
+    let past_room = not (nat_le 1 count && nat_le count MOST_RESETS) in
+    let limit = fault.Limit which.Resets (n + 1) in
+    let after : Result Declared ReadError = Ok (record d { resets = Some count }) in
+    let a = past (is_some d.resets) (fault.Repeated (n + 1)) (cond past_room (Err limit) after) e r in
+    let b = past past_room limit after e a.1 in
+    let same : record d { resets = Some count } ≡ e = ok_same _ _ b.1 in
+    subst (IsSound (n + 1)) same (record {
+      keys = sound.keys;
+      reservations = sound.reservations;
+      apart = sound.apart;
+      each = sound.each;
+      place = subst (IsPlace (declared_keys d) (n + 1)) (sym at) tt;
+    })
+
 begun_sound : (keys : List ℕ) (n h budget : ℕ) → (nat_le 1 budget && nat_le budget 4096) ≡ true → AreBegun keys n (begun_script h budget)
 begun_sound keys n h budget room = record { standing = refl; reaching = refl; counted = refl; short = refl; rising = refl; passed = refl; budget = room }
 
@@ -213,6 +230,7 @@ declared_sound n (pending_line name xs) d e at h s r = pending_sound n name xs d
 declared_sound n (refusals_line r name count) d e at h s q = refusals_sound n r name count d e at h q
 declared_sound n (reservation_line ws) d e at h s r = reservation_sound n ws d e at s h r
 declared_sound n (generation_line g) d e at h s r = generation_sound n g d e at h r
+declared_sound n (resets_line count) d e at h s r = resets_sound n count d e at h r
 declared_sound n (role_line name clause) d e at h s r = role_sound n name clause d e at h r
 declared_sound n (script_line name budget) d e at h s r = script_line_sound n name budget d e h r
 declared_sound n (plan_line name) d e at h s r = plan_line_sound n name d e h r

@@ -83,7 +83,7 @@ nothing_sound = record {
 }
 
 nothing_dated : IsDated nothing
-nothing_dated = record { version = refl; few = refl; each = refl; place = refl }
+nothing_dated = record { version = refl; resets = refl; few = refl; each = refl; place = (refl, refl) }
 
 pub read_sound : (text : List ℕ) (n : ℕ) (d : Declared) → AreRead text n d → IsSound n d × IsDated d
 read_sound text n d read =

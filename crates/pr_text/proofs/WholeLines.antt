@@ -11,21 +11,21 @@ use Rattle.pr_registry.specs.Registrations.{is_all}
 use Rattle.pr_attention.specs.Attentions.{AreAttentions}
 use Rattle.pr_roles.specs.Scenarios.{Nexus, Task, Scripted, Planned}
 use Rattle.pr_roles.specs.Starts.{first_under}
-use Rattle.pr_roles.specs.Fitting.{most_declared, AreDeclared, are_distinct, is_nexus, is_reservation, is_same_reservation, is_version, are_of}
+use Rattle.pr_roles.specs.Fitting.{most_declared, AreDeclared, are_distinct, is_nexus, is_reservation, is_same_reservation, is_version, are_resets, are_of}
 use Rattle.pr_roles.proofs.Allowed.{start_found}
 use Rattle.pr_lines.specs.Chain.{each}
 use Rattle.pr_lines.specs.Versions.{since}
-use Rattle.pr_lines.specs.ScenarioLines.{fence_line, keys_line, generation_line, reservation_line, declares}
-use Rattle.pr_text.specs.Declarations.{Declaration, outside, nothing}
+use Rattle.pr_lines.specs.ScenarioLines.{fence_line, keys_line, generation_line, resets_line, reservation_line, declares}
+use Rattle.pr_text.specs.Declarations.{Declaration, Declared, outside, nothing}
 use Rattle.pr_text.specs.Declaring.{number_of, held_of}
-use Rattle.pr_text.specs.inside.Chains.{keys_placed, nexus_placed, reservation_placed, generation_placed, item_standing}
+use Rattle.pr_text.specs.inside.Chains.{keys_placed, nexus_placed, reservation_placed, generation_placed, resets_placed, item_standing}
 use Rattle.pr_text.specs.Texts.{start_of, first_unscripted, end_placed}
 use Rattle.pr_text.specs.Reading.{nexus_written, nexus_declared}
 use Rattle.pr_text.specs.ScriptRoundTrip.{line, all_said}
-use Rattle.pr_text.specs.ScenarioRoundTrip.{task_line, details_said, keys_said, wanted_by, ScenariosHaveNoFault}
+use Rattle.pr_text.specs.ScenarioRoundTrip.{task_line, details_said, keys_said, resets_said, wanted_by, ScenariosHaveNoFault}
 use Rattle.pr_lines.proofs.Tests.{true_le, true_lt}
 use Rattle.pr_text.proofs.NamesApart.{names, is_taken, free_of, names_moved, itself, number_nowhere, number_there}
-use Rattle.pr_text.proofs.DetailLines.{said_on, said_first, pending_same, count_same, is_planned, placed, bare, full, is_nexus_of, details_go}
+use Rattle.pr_text.proofs.DetailLines.{said_on, said_first, pending_same, count_said, count_same, is_planned, placed, bare, full, is_nexus_of, details_go}
 use Rattle.pr_text.proofs.Dates.{has_first}
 
 all_first : {A : Type 0} (P : A → Type 0) (x : A) (xs : List A) → All P (x ∷ xs) → P x
@@ -34,9 +34,9 @@ all_first P x xs all = all 0 x (omega arith)
 all_rest : {A : Type 0} (P : A → Type 0) (x : A) (xs : List A) → All P (x ∷ xs) → All P xs
 all_rest P x xs all = λ k d below. all (suc k) d (omega arith)
 
--- ---- the version, the keys, and the generation
+-- ---- the version, the keys, the generation, and the resets
 
-fence_goes : (n version : ℕ) → item_standing n (fence_line version) nothing ≡ Ok (placed version None None None [] outside)
+fence_goes : (n version : ℕ) → item_standing n (fence_line version) nothing ≡ Ok (placed version None None None None [] outside)
 unfolding item_standing
 fence_goes n version = refl
 
@@ -52,20 +52,42 @@ not_over : (n m : ℕ) → nat_le n m ≡ true → nat_lt m n ≡ false
 not_over n m h = grind (arith, nat_tests)
 
 keys_go : (n version : ℕ) (keys : List ℕ) → are_distinct (λ j k. j == k) keys ≡ true → nat_lt 12 (length keys) ≡ false
-    → item_standing n (declares (keys_line keys)) (placed version None None None [] outside) ≡ Ok (placed version (Some keys) None None [] outside)
+    → item_standing n (declares (keys_line keys)) (placed version None None None None [] outside) ≡ Ok (placed version (Some keys) None None None [] outside)
 unfolding item_standing keys_placed
 keys_go n version keys once few = rw (once, few) refl
 
-keys_lines_go : (n version : ℕ) (keys : List ℕ) → is_version version ≡ true → AreDeclared keys → all_said (keys_said n keys) (placed version None None None [] outside) ≡ Ok (placed version (keys_kept keys) None None [] outside)
+keys_lines_go : (n version : ℕ) (keys : List ℕ) → is_version version ≡ true → AreDeclared keys → all_said (keys_said n keys) (placed version None None None None [] outside) ≡ Ok (placed version (keys_kept keys) None None None [] outside)
 keys_lines_go n version [] dated h = refl
 keys_lines_go n version (k ∷ ks) dated h =
     let parts = and_parts (nat_le (length (k ∷ ks)) 12) _ h.once in
     said_first n (declares (keys_line (k ∷ ks))) [] _ _ _ (has_first version dated) (keys_go n version (k ∷ ks) parts.1 (not_over (length (k ∷ ks)) 12 parts.0)) refl
 
 generation_goes : (n version generation : ℕ) (keys : Option (List ℕ)) (xs : List Declaration)
-    → item_standing n (declares (generation_line generation)) (placed version keys None None xs outside) ≡ Ok (placed version keys None (Some generation) xs outside)
+    → item_standing n (declares (generation_line generation)) (placed version keys None None None xs outside) ≡ Ok (placed version keys None (Some generation) None xs outside)
 unfolding item_standing generation_placed
 generation_goes n version generation keys xs = refl
+
+-- a version that has resets, and how many
+resets_new : (version count : ℕ) → are_resets version count ≡ true → (count == 0) ≡ false → nat_lt version 2 ≡ false
+resets_new version count may some = grind (arith, nat_tests)
+
+resets_room : (version count : ℕ) → are_resets version count ≡ true → (count == 0) ≡ false → (nat_le 1 count && nat_le count 1000) ≡ true
+resets_room version count may some = grind (arith, nat_tests)
+
+module _ (n version : ℕ) (keys : Option (List ℕ)) (g : Option ℕ) (xs : List Declaration) where
+  abbrev with_resets : Option ℕ → Declared
+  with_resets rs = placed version keys None g rs xs outside
+
+  resets_line_goes : (count : ℕ) → (nat_le 1 count && nat_le count 1000) ≡ true → item_standing n (declares (resets_line count)) (with_resets None) ≡ Ok (with_resets (Some count))
+  unfolding item_standing resets_placed
+  resets_line_goes count few = rw few refl
+
+  resets_go : (count : ℕ) → are_resets version count ≡ true → all_said (resets_said n count) (with_resets None) ≡ Ok (with_resets (count_said count))
+  resets_go count may = by (count == 0) refl
+    where
+      by : (b : Bool) → (count == 0) ≡ b → all_said (resets_said n count) (with_resets None) ≡ Ok (with_resets (count_said count))
+      by true is = rw is refl
+      by false is = rw is (said_first n (declares (resets_line count)) [] _ (with_resets (Some count)) _ (resets_new version count may is) (resets_line_goes count (resets_room version count may is)) refl)
 
 -- ---- nexuses
 
@@ -73,12 +95,12 @@ abbrev named : List Nexus → List (List ℕ)
 named ns = map (λ x. x.name) ns
 
 nexus_goes : (n version : ℕ) (keys : Option (List ℕ)) (before : List Declaration) (x : Nexus) → is_taken x.name before ≡ false → nat_le (most_declared version) (length before) ≡ false
-    → item_standing n (task_line x.name x.task) (placed version keys None None before outside) ≡ Ok (placed version keys None None (before ++ bare n x ∷ []) outside)
+    → item_standing n (task_line x.name x.task) (placed version keys None None None before outside) ≡ Ok (placed version keys None None None (before ++ bare n x ∷ []) outside)
 unfolding item_standing nexus_placed
 nexus_goes n version keys before x free few =
     by_task x.task refl
   where
-    by_task : (t : Task) → x.task ≡ t → item_standing n (task_line x.name x.task) (placed version keys None None before outside) ≡ Ok (placed version keys None None (before ++ bare n x ∷ []) outside)
+    by_task : (t : Task) → x.task ≡ t → item_standing n (task_line x.name x.task) (placed version keys None None None before outside) ≡ Ok (placed version keys None None None (before ++ bare n x ∷ []) outside)
     by_task (Scripted script budget) is = rw (is, number_nowhere before x.name free, few) refl
     by_task (Planned commands) is = rw (is, number_nowhere before x.name free, few) refl
 
@@ -98,27 +120,27 @@ since_task version name (Scripted script budget) dated = has_first version dated
 since_task version name (Planned commands) dated = has_first version dated
 
 nexuses_go : (n version : ℕ) (keys : Option (List ℕ)) (before : List Declaration) (ns : List Nexus) → is_version version ≡ true → are_distinct bytes_eq (names before ++ named ns) ≡ true → length before + length ns ≤ most_declared version
-    → all_said (map (λ x. line n (task_line x.name x.task)) ns) (placed version keys None None before outside) ≡ Ok (placed version keys None None (before ++ map (bare n) ns) outside)
-nexuses_go n version keys before [] dated apart few = ap (λ l. Ok (placed version keys None None l outside)) (sym (append-nil before))
+    → all_said (map (λ x. line n (task_line x.name x.task)) ns) (placed version keys None None None before outside) ≡ Ok (placed version keys None None None (before ++ map (bare n) ns) outside)
+nexuses_go n version keys before [] dated apart few = ap (λ l. Ok (placed version keys None None None l outside)) (sym (append-nil before))
 nexuses_go n version keys before (x ∷ ns) dated apart few =
     said_first n (task_line x.name x.task) (map (λ y. line n (task_line y.name y.task)) ns) _ _ _ (since_task version x.name x.task dated)
     (nexus_goes n version keys before x (free_of before x.name (named ns) apart) (room (length before) (length ns) (most_declared version) few))
     (nexuses_go n version keys (before ++ bare n x ∷ []) ns dated (still_apart before (bare n x) (named ns) apart) (room_left before (bare n x) (length ns) (most_declared version) few)
-    ∙ ap (λ l. Ok (placed version keys None None l outside)) (append_assoc before (bare n x ∷ []) (map (bare n) ns)))
+    ∙ ap (λ l. Ok (placed version keys None None None l outside)) (append_assoc before (bare n x ∷ []) (map (bare n) ns)))
 
-details_all : (n version : ℕ) (keys : Option (List ℕ)) (vs : Option (List (Option Held))) (g : Option ℕ) (before : List Declaration) (ns : List Nexus)
+details_all : (n version : ℕ) (keys : Option (List ℕ)) (vs : Option (List (Option Held))) (g rs : Option ℕ) (before : List Declaration) (ns : List Nexus)
     → is_version version ≡ true → are_of version ns ≡ true
     → are_distinct bytes_eq (names before ++ named ns) ≡ true → list_all (is_nexus (unwrap_or keys [])) ns ≡ true → All (λ x. AreAttentions x.pending) ns
-    → all_said (flat_map (details_said n) ns) (placed version keys vs g (before ++ map (bare n) ns) outside) ≡ Ok (placed version keys vs g (before ++ map (full n) ns) outside)
-details_all n version keys vs g before [] dated has apart fits are = refl
-details_all n version keys vs g before (x ∷ ns) dated has apart fits are =
+    → all_said (flat_map (details_said n) ns) (placed version keys vs g rs (before ++ map (bare n) ns) outside) ≡ Ok (placed version keys vs g rs (before ++ map (full n) ns) outside)
+details_all n version keys vs g rs before [] dated has apart fits are = refl
+details_all n version keys vs g rs before (x ∷ ns) dated has apart fits are =
     let parts = and_parts (is_nexus (unwrap_or keys []) x) _ fits in
     let have = and_parts (is_nexus_of version x) _ has in
-    said_on (details_said n x) (flat_map (details_said n) ns) _ (placed version keys vs g (before ++ full n x ∷ map (bare n) ns) outside) _
-    (details_go n version dated keys vs g before (map (bare n) ns) x (free_of before x.name (named ns) apart) have.0 parts.0 (all_first (λ y. AreAttentions y.pending) x ns are))
-    (ap (λ l. all_said (flat_map (details_said n) ns) (placed version keys vs g l outside)) (sym (append_assoc before (full n x ∷ []) (map (bare n) ns)))
-    ∙ (details_all n version keys vs g (before ++ full n x ∷ []) ns dated have.1 (still_apart before (full n x) (named ns) apart) parts.1 (all_rest (λ y. AreAttentions y.pending) x ns are)
-    ∙ ap (λ l. Ok (placed version keys vs g l outside)) (append_assoc before (full n x ∷ []) (map (full n) ns))))
+    said_on (details_said n x) (flat_map (details_said n) ns) _ (placed version keys vs g rs (before ++ full n x ∷ map (bare n) ns) outside) _
+    (details_go n version dated keys vs g rs before (map (bare n) ns) x (free_of before x.name (named ns) apart) have.0 parts.0 (all_first (λ y. AreAttentions y.pending) x ns are))
+    (ap (λ l. all_said (flat_map (details_said n) ns) (placed version keys vs g rs l outside)) (sym (append_assoc before (full n x ∷ []) (map (bare n) ns)))
+    ∙ (details_all n version keys vs g rs (before ++ full n x ∷ []) ns dated have.1 (still_apart before (full n x) (named ns) apart) parts.1 (all_rest (λ y. AreAttentions y.pending) x ns are)
+    ∙ ap (λ l. Ok (placed version keys vs g rs l outside)) (append_assoc before (full n x ∷ []) (map (full n) ns))))
 
 -- ---- reservations
 
@@ -149,11 +171,11 @@ helds_go n ns (v ∷ vs) apart fits =
     let parts = and_parts (is_reservation (length ns) v) _ fits in
     rw (held_goes n ns v apart parts.0, helds_go n ns vs apart parts.1) refl
 
-reservation_goes : (n version : ℕ) (keys : Option (List ℕ)) (g : Option ℕ) (ns : List Nexus) (vs : List (Option Held)) → are_distinct bytes_eq (named ns) ≡ true
+reservation_goes : (n version : ℕ) (keys : Option (List ℕ)) (g rs : Option ℕ) (ns : List Nexus) (vs : List (Option Held)) → are_distinct bytes_eq (named ns) ≡ true
     → list_all (is_reservation (length ns)) vs ≡ true → are_distinct is_same_reservation vs ≡ true
-    → item_standing n (declares (reservation_line (map (wanted_by ns) vs))) (placed version keys None g (map (bare n) ns) outside) ≡ Ok (placed version keys (Some vs) g (map (bare n) ns) outside)
+    → item_standing n (declares (reservation_line (map (wanted_by ns) vs))) (placed version keys None g rs (map (bare n) ns) outside) ≡ Ok (placed version keys (Some vs) g rs (map (bare n) ns) outside)
 unfolding item_standing reservation_placed
-reservation_goes n version keys g ns vs apart fits once = rw (helds_go n ns vs apart fits, once) refl
+reservation_goes n version keys g rs ns vs apart fits once = rw (helds_go n ns vs apart fits, once) refl
 
 -- ---- the end
 
@@ -173,10 +195,10 @@ some_there : {A B : Type 0} (f : A → B) (xs : List A) → not (length xs == 0)
 some_there f [] h = cc
 some_there f (x ∷ xs) h = grind (arith, nat_tests)
 
-ends : (n version : ℕ) (keys : Option (List ℕ)) (g : Option ℕ) (ns : List Nexus) (vs : List (Option Held)) → not (length ns == 0) ≡ true → is_some (first_under (map (λ x. x.start) ns) vs) ≡ true
-    → end_placed n (placed version keys (Some vs) g (map (full n) ns) outside) ≡ Ok (placed version keys (Some vs) g (map (full n) ns) outside)
+ends : (n version : ℕ) (keys : Option (List ℕ)) (g rs : Option ℕ) (ns : List Nexus) (vs : List (Option Held)) → not (length ns == 0) ≡ true → is_some (first_under (map (λ x. x.start) ns) vs) ≡ true
+    → end_placed n (placed version keys (Some vs) g rs (map (full n) ns) outside) ≡ Ok (placed version keys (Some vs) g rs (map (full n) ns) outside)
 unfolding end_placed
-ends n version keys g ns vs some startable = rw (some_there (full n) ns some, tasks_there n ns, starts_same n ns, startable) refl
+ends n version keys g rs ns vs some startable = rw (some_there (full n) ns some, tasks_there n ns, starts_same n ns, startable) refl
 
 written_same : (n : ℕ) (ns : List Nexus) → All (λ x. AreAttentions x.pending) ns → map nexus_written ns ≡ map nexus_declared (map (full n) ns)
 written_same n [] are = refl
@@ -191,6 +213,7 @@ written_same n (x ∷ ns) are =
 pub said : ScenariosHaveNoFault
 said n s fits can are =
     let keys = keys_kept s.keys in
+    let resets = count_said s.resets in
     let version = s.version in
     let dated = fits.version in
     let old = has_first version dated in
@@ -202,17 +225,18 @@ said n s fits can are =
     let behind = line n (declares (reservation_line (map (wanted_by s.nexuses) s.reservations))) ∷ flat_map (details_said n) s.nexuses in
     let each : list_all (is_nexus (unwrap_or keys [])) s.nexuses ≡ true = rw (keys_same s.keys) apart.1 in
     record {
-      declared = placed version keys (Some s.reservations) (Some s.generation) (map (full n) s.nexuses) outside;
+      declared = placed version keys (Some s.reservations) (Some s.generation) resets (map (full n) s.nexuses) outside;
       faultless =
           said_first n (fence_line version) _ nothing _ _ refl (fence_goes n version)
           (said_on (keys_said n s.keys) _ _ _ _ (keys_lines_go n version s.keys dated fits.keys)
           (said_on (map (λ x. line n (task_line x.name x.task)) s.nexuses) _ _ _ _ (nexuses_go n version keys [] s.nexuses dated apart.0 (omega arith))
-          (said_first n (declares (generation_line s.generation)) behind _ _ _ old (generation_goes n version s.generation keys (map (bare n) s.nexuses))
+          (said_first n (declares (generation_line s.generation)) (resets_said n s.resets ++ behind) _ _ _ old (generation_goes n version s.generation keys (map (bare n) s.nexuses))
+          (said_on (resets_said n s.resets) behind _ _ _ (resets_go n version keys (Some s.generation) (map (bare n) s.nexuses) s.resets fits.resets)
           (said_first n (declares (reservation_line (map (wanted_by s.nexuses) s.reservations))) _ _ _ _ old
-          (reservation_goes n version keys (Some s.generation) s.nexuses s.reservations apart.0 reserved.0 reserved.1)
-          (details_all n version keys (Some s.reservations) (Some s.generation) [] s.nexuses dated fits.dated apart.0 each are)))));
+          (reservation_goes n version keys (Some s.generation) resets s.nexuses s.reservations apart.0 reserved.0 reserved.1)
+          (details_all n version keys (Some s.reservations) (Some s.generation) resets [] s.nexuses dated fits.dated apart.0 each are))))));
       whole = record {
-        faultless = ends n version keys (Some s.generation) s.nexuses s.reservations parts.0 (start_found s can);
-        kept = record { version = refl; keys = sym (keys_same s.keys); reservations = refl; generation = refl; nexuses = written_same n s.nexuses are };
+        faultless = ends n version keys (Some s.generation) resets s.nexuses s.reservations parts.0 (start_found s can);
+        kept = record { version = refl; keys = sym (keys_same s.keys); reservations = refl; generation = refl; resets = sym (count_same s.resets); nexuses = written_same n s.nexuses are };
       };
     }

@@ -77,7 +77,7 @@ some_start : (s : Scenario) → Fits s → (o : Option (Option Held × List (Opt
 some_start s fits None is h = absurd (false≢true h)
 some_start s fits (Some first) is h =
     let zero : Scenario = record s { generation = 0 } in
-    let fits_zero : Fits zero = record { version = fits.version; dated = fits.dated; keys = fits.keys; reservations = fits.reservations; nexuses = fits.nexuses } in
+    let fits_zero : Fits zero = record { version = fits.version; dated = fits.dated; resets = fits.resets; keys = fits.keys; reservations = fits.reservations; nexuses = fits.nexuses } in
     let small : 0 < 2 ^ 32 = omega arith in
     let a = (first_allowed zero first.0 first.1 fits_zero small is).1 in
     record {

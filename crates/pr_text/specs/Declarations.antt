@@ -53,15 +53,17 @@ pub data Place : Type 0 where
   in_script : OpenLines → Place
   in_plan : ℕ → List Command → Place
 
--- The version is that of the text, and 1 before its first line.
+-- The version is that of the text, and 1 before its first line. The resets are how often the unit may be reset during
+-- a run.
 pub record Declared : Type 0 where
   pub version : ℕ
   pub keys : Option (List ℕ)
   pub reservations : Option (List (Option Held))
   pub generation : Option ℕ
+  pub resets : Option ℕ
   pub nexuses : List Declaration
   pub place : Place
 
 -- nothing is declared yet
 abbrev pub nothing : Declared
-nothing = record { version = 1; keys = None; reservations = None; generation = None; nexuses = []; place = before_all }
+nothing = record { version = 1; keys = None; reservations = None; generation = None; resets = None; nexuses = []; place = before_all }

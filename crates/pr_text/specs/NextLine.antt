@@ -11,7 +11,7 @@ use Rattle.pr_text.specs.Declarations.{WrittenTask, scripted, planned, Declarati
 use Rattle.pr_lines.specs.Chain.{each}
 use Rattle.pr_text.specs.Declaring.{number_of, codes_of, held_of}
 use Rattle.pr_text.specs.Faults.{unless}
-use Rattle.pr_lines.specs.ScenarioLines.{ScenarioLine, fence_line, keys_line, nexus_line, start_line, pending_line, refusals_line, reservation_line, generation_line, role_line, script_line, plan_line, end_line, send_line, on_line, done_line, repeat_line, break_line, stop_line, command_line, DeclaringLine, StatementLine, declares, states}
+use Rattle.pr_lines.specs.ScenarioLines.{ScenarioLine, fence_line, keys_line, nexus_line, start_line, pending_line, refusals_line, reservation_line, generation_line, resets_line, role_line, script_line, plan_line, end_line, send_line, on_line, done_line, repeat_line, break_line, stop_line, command_line, DeclaringLine, StatementLine, declares, states}
 use Rattle.pr_text.specs.LineFaults.{fault_at}
 use Rattle.pr_text.specs.ScriptLines.{ScriptLine, send_at, arm_on, block_done, repeat_of, break_out, stop_with}
 use Rattle.pr_text.specs.Standing.{by_place, of_plan, of_script, by_innermost}
@@ -82,6 +82,7 @@ with_declared n d (pending_line name xs) = with_named d name (λ x. record x { p
 with_declared n d (refusals_line r name count) = with_named d name (with_count r count)
 with_declared n d (reservation_line ws) = record d { reservations = each (held_of d.nexuses) ws }
 with_declared n d (generation_line g) = record d { generation = Some g }
+with_declared n d (resets_line count) = record d { resets = Some count }
 with_declared n d (role_line name clause) = with_named d name (λ x. record x { role = x.role ++ clause ∷ [] })
 with_declared n d (script_line name budget) = option_map_or (λ h. record d { place = in_script (begun_script h budget) }) (number_of d.nexuses name) d
 with_declared n d (plan_line name) = option_map_or (λ h. record d { place = in_plan h [] }) (number_of d.nexuses name) d

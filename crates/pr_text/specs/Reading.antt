@@ -41,12 +41,14 @@ nexus_declared x = record {
   full = unwrap_or x.full 0;
 }
 
--- The scenario is just what is declared: its scripts are written as the lines that were read.
+-- The scenario is just what is declared: its scripts are written as the lines that were read. Where no line says how
+-- often the unit may be reset, it is not reset.
 pub record IsDeclaredBy (d : Declared) (s : Scenario) : Type 0 where
   pub version : s.version ≡ d.version
   pub keys : s.keys ≡ unwrap_or d.keys []
   pub reservations : s.reservations ≡ reservations_of d
   pub generation : s.generation ≡ unwrap_or d.generation 0
+  pub resets : s.resets ≡ unwrap_or d.resets 0
   pub nexuses : map nexus_written s.nexuses ≡ map nexus_declared d.nexuses
 
 -- The text has no fault, and the scenario is what it declares.

@@ -15,7 +15,7 @@ use Rattle.pr_roles.specs.Fitting.{Fits}
 use Rattle.pr_lines.specs.declared.item.Refusal.{Refusal}
 use Rattle.pr_lines.specs.declared.item.Refusal.TheVariants as refusal
 use Rattle.pr_lines.specs.CommandWords.{without_keys}
-use Rattle.pr_lines.specs.ScenarioLines.{StartReservation, nobody, single, everybody, ScenarioLine, fence_line, keys_line, nexus_line, start_line, pending_line, refusals_line, reservation_line, generation_line, role_line, script_line, plan_line, end_line, command_line, declares}
+use Rattle.pr_lines.specs.ScenarioLines.{StartReservation, nobody, single, everybody, ScenarioLine, fence_line, keys_line, nexus_line, start_line, pending_line, refusals_line, reservation_line, generation_line, resets_line, role_line, script_line, plan_line, end_line, command_line, declares}
 use Rattle.pr_text.specs.ScriptLines.{body_lines}
 use Rattle.pr_text.specs.ScriptRoundTrip.{Line, line, script_said, all_said}
 use Rattle.pr_text.specs.Declarations.{Declared, nothing}
@@ -62,6 +62,10 @@ abbrev pub keys_said : ℕ → List ℕ → List Line
 keys_said n [] = []
 keys_said n (k ∷ ks) = line n (declares (keys_line (k ∷ ks))) ∷ []
 
+-- where the unit may not be reset, nothing is written
+abbrev pub resets_said : ℕ → ℕ → List Line
+resets_said n count = if count == 0 then [] else line n (declares (resets_line count)) ∷ []
+
 -- a reservation, whose single holder is named
 abbrev pub wanted_by : List Nexus → Option Held → StartReservation
 wanted_by nexuses None = nobody
@@ -74,8 +78,9 @@ lines_said n s =
     ∷ (keys_said n s.keys
     ++ (map (λ x. line n (task_line x.name x.task)) s.nexuses
     ++ (line n (declares (generation_line s.generation))
-    ∷ line n (declares (reservation_line (map (wanted_by s.nexuses) s.reservations)))
-    ∷ flat_map (details_said n) s.nexuses)))
+    ∷ (resets_said n s.resets
+    ++ (line n (declares (reservation_line (map (wanted_by s.nexuses) s.reservations)))
+    ∷ flat_map (details_said n) s.nexuses)))))
 
 -- What is declared is whole where the last line has this number, and the scenario is just that.
 pub record IsWhole (number : ℕ) (d : Declared) (s : Scenario) : Type 0 where

@@ -1,7 +1,7 @@
 //! What the lines so far declare.
 
 ghost use Rattle.std.specs.Prelude.{◌≡◌, ◌≤◌, ◌&&◌, nat_le, length};
-ghost use Rattle.pr_roles.specs.declared.limits.TheConstants.{MOST_DECLARED_2, MOST_REFUSALS};
+ghost use Rattle.pr_roles.specs.declared.limits.TheConstants.{MOST_DECLARED_2};
 ghost use Rattle.pr_text.specs.LineFaults.{limit_of};
 ghost use Rattle.pr_text.specs.inside.Steps.{Gives};
 ghost use Rattle.pr_text.specs.inside.Chains.{planned_step};
@@ -14,7 +14,9 @@ use pr_attention::Attention;
 use pr_cdb::Command;
 use pr_lines::{ParsedCommand, Refusal, ScenarioLine, StartReservation};
 use pr_registry::Held;
-use pr_roles::limits::{MOST_CLAUSES, MOST_KEYS, MOST_PLANNED, MOST_REFUSALS, most_declared};
+use pr_roles::limits::{
+    MOST_CLAUSES, MOST_KEYS, MOST_PLANNED, MOST_REFUSALS, MOST_RESETS, most_declared,
+};
 use pr_roles::{Clause, Task, Word, are_distinct, are_held_apart, is_action};
 use pr_script::Script;
 use std::alloc::{AllocError, Global};
@@ -40,6 +42,8 @@ pub struct Builder {
     pub keys: Option<Vec<u64>>,
     pub reservations: Option<Vec<Option<Held>>>,
     pub generation: Option<u32>,
+    /// How often the unit may be reset during a run.
+    pub resets: Option<u32>,
     pub nexuses: Vec<Draft>,
     pub place: Place,
     ghost few: { length nexuses.items ≤ MOST_DECLARED_2 },
@@ -54,7 +58,7 @@ impl Builder {
     ghost use Rattle.pr_text.specs.Declarations.{nothing};
     ghost use Rattle.pr_text.specs.Declaring.{declared_keys, number_of, held_of};
     ghost use Rattle.pr_lines.specs.Chain.{each};
-    ghost use Rattle.pr_text.specs.inside.Chains.{keys_placed, nexus_placed, start_placed, pending_placed, refusals_placed, reservation_placed, generation_placed, role_placed, script_placed, plan_placed};
+    ghost use Rattle.pr_text.specs.inside.Chains.{keys_placed, nexus_placed, start_placed, pending_placed, refusals_placed, reservation_placed, generation_placed, resets_placed, role_placed, script_placed, plan_placed};
     ghost use Rattle.pr_text.specs.inside.Drafts.{draft_seen, task_seen, declared_by};
     ghost use Rattle.pr_text.specs.inside.OpenScripts.{open_seen};
     ghost use Rattle.pr_text.specs.inside.Chains.{item_standing, placed_first, placed_outside, placed_in_script, placed_in_plan, script_ended};
@@ -69,6 +73,7 @@ impl Builder {
             keys: None,
             reservations: None,
             generation: None,
+            resets: None,
             nexuses: Vec::new(alloc),
             place: Place::BeforeAll,
         }
@@ -137,6 +142,7 @@ impl Builder {
             }
             ScenarioLine::Reservation(wanted) => self.reservation_line(alloc, line, &wanted),
             ScenarioLine::Generation(generation) => self.generation_line(line, generation),
+            ScenarioLine::Resets(count) => self.resets_line(line, count),
             ScenarioLine::Role(name, clause) => self.role_line(line, name, clause),
             ScenarioLine::Script(name, budget) => self.script_line(alloc, line, name, budget),
             ScenarioLine::Plan(name) => self.plan_line(alloc, line, name),
@@ -237,7 +243,7 @@ impl Builder {
         if nexus.count(refusal).is_some() {
             return Err(ReadError::Repeated { line });
         }
-        if !is_within(count) {
+        if !is_within(count, MOST_REFUSALS) {
             let which = limit_of(refusal);
             return Err(ReadError::Limit { which, line });
         }
@@ -272,6 +278,21 @@ impl Builder {
             return Err(ReadError::Repeated { line });
         }
         self.generation = Some(generation);
+        Ok(self)
+    }
+
+    #[tactic(auto, unfolding(crate::specs::inside::Chains::resets_placed))]
+    fn resets_line(mut self, line: u32, count: u64) -> Result<Self, ReadError>
+        ensures { Gives declared_by result (resets_placed line count (declared_by self)) }
+    {
+        if self.resets.is_some() {
+            return Err(ReadError::Repeated { line });
+        }
+        if !is_within(count, MOST_RESETS) {
+            let which = Which::Resets;
+            return Err(ReadError::Limit { which, line });
+        }
+        self.resets = Some(count as u32);
         Ok(self)
     }
 
@@ -459,11 +480,11 @@ impl Builder {
     }
 }
 
-// Whether a refusal may come so often.
-fn is_within(count: u64) -> bool
-    ensures { result ≡ (nat_le 1 count && nat_le count MOST_REFUSALS) }
+// Whether the count is from 1 to the most that there may be.
+fn is_within(count: u64, most: u32) -> bool
+    ensures { result ≡ (nat_le 1 count && nat_le count most) }
 {
-    count >= 1 && count <= u64::from(MOST_REFUSALS)
+    count >= 1 && count <= u64::from(most)
 }
 
 // The limit of how often the refusal may come.

@@ -64,6 +64,7 @@ impl Builder {
             keys,
             reservations,
             generation,
+            resets,
             nexuses,
             place: _,
         } = self;
@@ -72,6 +73,7 @@ impl Builder {
             keys: keys.unwrap_or(Vec::new(alloc)),
             reservations: or_none(alloc, reservations)?,
             generation: generation.unwrap_or(0),
+            resets: resets.unwrap_or(0),
             nexuses: nexuses_of(alloc, nexuses)?,
         })
     }

@@ -30,6 +30,8 @@ pub enum Which {
     Busy,
     /// 1 to 1,000 replies TASK SET FULL.
     Full,
+    /// 1 to 1,000 resets of the unit.
+    Resets,
 }
 
 /// Why a text is not read as a scenario. Lines count from 1.

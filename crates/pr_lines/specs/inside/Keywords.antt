@@ -7,7 +7,7 @@ use Rattle.pr_lines.specs.declared.keyword.TheConstants.{KEYWORDS}
 use Rattle.pr_lines.specs.Chain.{◌>>=◌}
 use Rattle.pr_lines.specs.Clauses.{clause_of, test_of}
 use Rattle.pr_lines.specs.CommandWords.{spelled_of, spelled_in}
-use Rattle.pr_lines.specs.ScenarioLines.{ScenarioLine, keys_line, nexus_line, reservation_line, generation_line, plan_line, end_line, send_line, on_line, done_line, repeat_line, break_line, stop_line, command_line, list_of, start_reservation_of, only_name, only_count, fence_said, start_line, pending_line, refusals_line, role_line, script_line, alternative_of, budget_in, said_of_name, declares, states}
+use Rattle.pr_lines.specs.ScenarioLines.{ScenarioLine, keys_line, nexus_line, reservation_line, generation_line, resets_line, plan_line, end_line, send_line, on_line, done_line, repeat_line, break_line, stop_line, command_line, list_of, start_reservation_of, only_name, only_count, fence_said, start_line, pending_line, refusals_line, role_line, script_line, alternative_of, budget_in, said_of_name, declares, states}
 use Rattle.pr_lines.specs.Lookups.{lookup}
 use Rattle.pr_lines.specs.TextLines.{only, if_alone}
 use Rattle.pr_lines.specs.WordTerms.{key_of, generation_of, code_of}
@@ -24,6 +24,7 @@ said_simply keyword.Guest ws = option_map (λ name. declares (nexus_line true na
 said_simply keyword.Busy ws = said_of_name (λ name count. declares (refusals_line refusal.Busy name count)) only_count ws
 said_simply keyword.Full ws = said_of_name (λ name count. declares (refusals_line refusal.Full name count)) only_count ws
 said_simply keyword.Generation ws = option_map (λ n. declares (generation_line n)) (only ws >>= generation_of)
+said_simply keyword.Resets ws = option_map (λ n. declares (resets_line n)) (only_count ws)
 said_simply keyword.Role ws = said_of_name (λ name clause. declares (role_line name clause)) clause_of ws
 said_simply keyword.Script ws = said_of_name (λ name budget. declares (script_line name budget)) budget_in ws
 said_simply keyword.Plan ws = option_map (λ name. declares (plan_line name)) (only_name ws)

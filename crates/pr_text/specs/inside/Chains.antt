@@ -10,7 +10,7 @@ use Rattle.pr_script.specs.Grammar.{stands_under, is_test_declared}
 use Rattle.pr_roles.specs.declared.role.Clause.{Clause}
 use Rattle.pr_roles.specs.Fitting.{most_declared, are_distinct, is_alternative, is_same_alternative, is_same_reservation, is_action}
 use Rattle.pr_script.specs.declared.limits.TheConstants.{MOST_STATEMENTS, MOST_ARMS, MOST_BUDGET}
-use Rattle.pr_roles.specs.declared.limits.TheConstants.{MOST_KEYS, MOST_CLAUSES, MOST_REFUSALS}
+use Rattle.pr_roles.specs.declared.limits.TheConstants.{MOST_KEYS, MOST_CLAUSES, MOST_REFUSALS, MOST_RESETS}
 use Rattle.pr_lines.specs.declared.item.Refusal.{Refusal}
 use Rattle.pr_lines.specs.declared.spelling.ParsedCommand.{ParsedCommand}
 use Rattle.pr_text.specs.declared.fault.ReadError.{ReadError}
@@ -20,7 +20,7 @@ use Rattle.pr_text.specs.Declarations.{scripted, planned, Declaration, OpenLines
 use Rattle.pr_lines.specs.Chain.{each}
 use Rattle.pr_text.specs.Declaring.{declared_keys, number_of, count_in, codes_of, held_of}
 use Rattle.pr_text.specs.Faults.{and_then, unless}
-use Rattle.pr_lines.specs.ScenarioLines.{StartReservation, ScenarioLine, fence_line, keys_line, nexus_line, start_line, pending_line, refusals_line, reservation_line, generation_line, role_line, script_line, plan_line, end_line, command_line, DeclaringLine, StatementLine, declares, states}
+use Rattle.pr_lines.specs.ScenarioLines.{StartReservation, ScenarioLine, fence_line, keys_line, nexus_line, start_line, pending_line, refusals_line, reservation_line, generation_line, resets_line, role_line, script_line, plan_line, end_line, command_line, DeclaringLine, StatementLine, declares, states}
 use Rattle.pr_lines.specs.Versions.{since}
 use Rattle.pr_text.specs.LineFaults.{limit_of, first_fault, statement_fault, command_fault}
 use Rattle.pr_text.specs.NextLine.{with_count, with_task, begun_script, with_statement_line}
@@ -103,6 +103,12 @@ unfoldable pub generation_placed : ℕ → ℕ → Declared → Result Declared 
 generation_placed n generation d =
     if is_some d.generation then Err (fault.Repeated n) else Ok (record d { generation = Some generation })
 
+unfoldable pub resets_placed : ℕ → ℕ → Declared → Result Declared ReadError
+resets_placed n count d =
+    if is_some d.resets then Err (fault.Repeated n) else (
+    if not (nat_le 1 count && nat_le count MOST_RESETS) then Err (fault.Limit which.Resets n) else
+    Ok (record d { resets = Some count }))
+
 abbrev pub role_at : ℕ → Clause → Declared → ℕ → Declaration → Result Declared ReadError
 role_at n clause d h x =
     if not (is_action (declared_keys d) clause.action) then Err (fault.UndeclaredKey n) else (
@@ -170,6 +176,7 @@ declared_with n (pending_line name xs) d = pending_placed n name xs d
 declared_with n (refusals_line r name count) d = refusals_placed n r name count d
 declared_with n (reservation_line ws) d = reservation_placed n ws d
 declared_with n (generation_line generation) d = generation_placed n generation d
+declared_with n (resets_line count) d = resets_placed n count d
 declared_with n (role_line name clause) d = role_placed n name clause d
 declared_with n (script_line name budget) d = script_placed n name budget d
 declared_with n (plan_line name) d = plan_placed n name d

@@ -40,6 +40,7 @@ declared_by b = record {
   keys = option_map (λ v. v.items) b.keys;
   reservations = option_map (λ v. v.items) b.reservations;
   generation = b.generation;
+  resets = b.resets;
   nexuses = map draft_seen b.nexuses.items;
   place = place_seen b.place;
 }

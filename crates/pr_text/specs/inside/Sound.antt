@@ -6,7 +6,7 @@ use Rattle.pr_script.specs.declared.script.Test.{Test}
 use Rattle.pr_script.specs.Names.{is_name}
 use Rattle.pr_script.specs.Grammar.{is_written, test_fits, rise_above}
 use Rattle.pr_script.specs.Versions.{since}
-use Rattle.pr_roles.specs.Fitting.{most_declared, AreDeclared, are_distinct, are_reservations, is_role, is_start, is_version, is_count}
+use Rattle.pr_roles.specs.Fitting.{most_declared, AreDeclared, are_distinct, are_reservations, is_role, is_start, is_version, is_count, are_resets}
 use Rattle.pr_script.specs.declared.limits.TheConstants.{MOST_STATEMENTS, MOST_ARMS, MOST_OPEN, MOST_TURNS, MOST_BUDGET}
 use Rattle.pr_roles.specs.declared.limits.TheConstants.{MOST_PLANNED}
 use Rattle.pr_text.specs.ScriptLines.{ScriptLine, send_at, arm_on, block_done, repeat_of, break_out, stop_with}
@@ -120,18 +120,19 @@ is_declared_of version x =
     is_count version (unwrap_or x.busy 0) && (is_count version (unwrap_or x.full 0) && is_written_of version x.task)
 
 -- nothing is declared before the version is said
-abbrev pub IsPlaceOf : ℕ → List Declaration → Place → Type 0
-IsPlaceOf version xs before_all = xs ≡ []
-IsPlaceOf version xs outside = Unit {0}
-IsPlaceOf version xs (in_script o) = list_all (is_line_of version) o.lines ≡ true
-IsPlaceOf version xs (in_plan h commands) = Unit {0}
+abbrev pub IsPlaceOf : ℕ → Option ℕ → List Declaration → Place → Type 0
+IsPlaceOf version resets xs before_all = (resets ≡ None) × (xs ≡ [])
+IsPlaceOf version resets xs outside = Unit {0}
+IsPlaceOf version resets xs (in_script o) = list_all (is_line_of version) o.lines ≡ true
+IsPlaceOf version resets xs (in_plan h commands) = Unit {0}
 
 -- what is declared is what the version has
 pub record IsDated (d : Declared) : Type 0 where
   pub version : is_version d.version ≡ true
+  pub resets : are_resets d.version (unwrap_or d.resets 0) ≡ true
   pub few : nat_le (length d.nexuses) (most_declared d.version) ≡ true
   pub each : list_all (is_declared_of d.version) d.nexuses ≡ true
-  pub place : IsPlaceOf d.version d.nexuses d.place
+  pub place : IsPlaceOf d.version d.resets d.nexuses d.place
 
 -- ---- the whole
 
