@@ -4,6 +4,7 @@ pub mod Arriving
 pub mod Asked
 pub mod Beginning
 pub mod Closed
+pub mod AfterReset
 pub mod Coming
 pub mod DataTaken
 pub mod Doing

@@ -1,10 +1,10 @@
 -- Agrees with docs/VIEWS.md, 'What becomes of a view'.
--- What others may make of the states that a view shows.
-use Rattle.std.specs.Prelude.{◌≡◌, ◌≢◌, ℕ, ◌<◌, true, IsTrue, List, Ok}
+-- What others, or a reset, may make of the states that a view shows.
+use Rattle.std.specs.Prelude.{◌≡◌, ◌≢◌, ℕ, ◌<◌, ◌==◌, Bool, true, not, IsTrue, List, length, Ok}
 use Rattle.pr_cdb.specs.declared.reply.Reply.{Reply}
 use Rattle.pr_cdb.specs.declared.wire.Request.{Request}
 use Rattle.pr_cdb.specs.Requests.{FitsWhereRead}
-use Rattle.pr_unit.specs.UnitStates.{UnitState}
+use Rattle.pr_unit.specs.UnitStates.{UnitState, reset}
 use Rattle.pr_unit.specs.Replies.{is_good}
 use Rattle.pr_unit.specs.Steps.{Step}
 use Rattle.pr_roles.specs.declared.role.Clause.{Clause}
@@ -36,10 +36,29 @@ pub record IsInterference (v : View) (role : List Clause) (sender : ℕ) (w : Vi
   pub cover : (u after : UnitState) → Shows v u → IsDone role sender u after → Shows w after
   pub only : (i : Item) → IsPossible w i → IsLeft v role sender i
 
--- a shown state stays one, whatever permitted requests of others end GOOD
+-- after a reset in a shown state this is so
+pub record IsLeftByReset (v : View) (i : Item) : Type 0 where
+  pub from : UnitState
+  pub shown : Shows v from
+  pub is : IsSo v.scope (reset from) i
+
+-- The view shows each shown state after a reset, and has nothing that is so in none of them.
+pub record IsAfterReset (v w : View) : Type 0 where
+  pub cover : (u : UnitState) → Shows v u → Shows w (reset u)
+  pub only : (i : Item) → IsPossible w i → IsLeftByReset v i
+
+-- the unit may be reset
+abbrev pub declares_resets : Scenario → Bool
+declares_resets s = not (s.resets == 0)
+
+-- What may become of a state while its owner sends nothing: a permitted request of another ends GOOD, or the unit is reset.
+pub data Becomes (s : Scenario) (own : ℕ) (u after : UnitState) : Type 0 where
+  by_another : (g : ℕ) → g < length s.nexuses → g ≢ own → IsDone (role s g) g u after → Becomes s own u after
+  by_reset : IsTrue (declares_resets s) → after ≡ reset u → Becomes s own u after
+
+-- whatever becomes of a shown state is shown
 abbrev pub IsClosed : Scenario → View → Type 0
-IsClosed s v =
-    (g : ℕ) (u after : UnitState) → g < v.scope.hosts → g ≢ v.scope.own → Shows v u → IsDone (role s g) g u after → Shows v after
+IsClosed s v = (u after : UnitState) → Shows v u → Becomes s v.scope.own u after → Shows v after
 
 -- the least closed view that has what the first has
 pub record IsClosure (s : Scenario) (v w : View) : Type 0 where
