@@ -13,7 +13,7 @@ use Rattle.pr_verify.specs.declared.places.Spot.{Spot}
 use Rattle.pr_verify.specs.declared.refusal.Refusal.{Refusal}
 use Rattle.pr_verify.specs.declared.refusal.Refusal.TheVariants.{NoArm, OutOfRole, OverBudget, Memory, NotSound}
 use Rattle.pr_verify.specs.Places.{Place, places_of}
-use Rattle.pr_verify.specs.Outlines.{Outline, IsOfScenario, StartsAt, ComesTo, IsLeftAt, IsAsked, at_start, by_itself, by_another, IsListed, IsSound, IsFitting, KeepsToRole}
+use Rattle.pr_verify.specs.Outlines.{Outline, IsOfScenario, StartsAt, ComesTo, IsLeftAt, IsAsked, at_start, by_itself, by_others, IsListed, IsSound, IsFitting, KeepsToRole}
 use Rattle.pr_verify.specs.Refusals.{first_difference, DiffersAt, LacksFirst, BreaksRole, LacksArmFirst, FitsAt, IsUnfitAt, IsRefusal}
 use Rattle.pr_verify.specs.inside.Listing.{place_of, IsPlaceWritten}
 use Rattle.pr_verify.specs.inside.Least.{least, EachOf}
@@ -79,7 +79,7 @@ module _ (s : Scenario) (script : Stmts) (o : Outline) (spots : List Spot) (plac
   all_asked line has u (by_itself p there asks) =
       let x = spot_at p there in
       each_listed (λ y. HasAll o (ComesTo s o (place_of y)) line) spots has.0.1 x.0 x.1 u (subst (λ q. ComesTo s o q line u) (sym x.2) asks)
-  all_asked line has u (by_another asks) = has.1 u asks
+  all_asked line has u (by_others asks) = has.1 u asks
 
   one_asked : (line : ℕ) → (Lacks o (StartsAt s script) line ⊎ Among (length spots) spots (λ x. Lacks o (ComesTo s o (place_of x)) line)) ⊎ Lacks o (IsLeftAt s o) line → Lacks o (IsAsked s script o) line
   one_asked line (inl (inl lacks)) = record { unit = lacks.unit; asks = at_start lacks.asks; missing = lacks.missing }
@@ -88,7 +88,7 @@ module _ (s : Scenario) (script : Stmts) (o : Outline) (spots : List Spot) (plac
     asks = by_itself (place_of one.element) (place_at one.element (listed_among (λ x. Lacks o (ComesTo s o (place_of x)) line) spots one)) one.is.asks;
     missing = one.is.missing;
   }
-  one_asked line (inr lacks) = record { unit = lacks.unit; asks = by_another lacks.asks; missing = lacks.missing }
+  one_asked line (inr lacks) = record { unit = lacks.unit; asks = by_others lacks.asks; missing = lacks.missing }
 
   pub lacking : (start own others : Option ℕ) → IsFirstLacking o (StartsAt s script) start → IsLackingOfSends s o (length spots) spots own → IsFirstLacking o (IsLeftAt s o) others
       → IsFirstLacking o (IsAsked s script o) (least (least start own) others)

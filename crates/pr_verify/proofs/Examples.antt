@@ -80,6 +80,7 @@ lacking = record {
   keys = [];
   reservations = None ∷ [];
   generation = 0;
+  resets = 0;
   nexuses = record { name = 0x61 ∷ []; role = []; start = None ∷ []; pending = no_code; task = Scripted (more (sends 1 TestUnitReady no_arm) none) 1; busy = 0; full = 0 } ∷ [];
 }
 

@@ -13,7 +13,7 @@ use Rattle.pr_cdb.specs.declared.wire.Request.TheVariants.{Plain}
 use Rattle.pr_cdb.specs.Requests.{Fits, FitsWhereRead}
 use Rattle.pr_cdb.specs.Spelling.{spelling}
 use Rattle.pr_cdb.proofs.ReadsInRange.{reads_fit}
-use Rattle.pr_unit.specs.UnitStates.{UnitState}
+use Rattle.pr_unit.specs.UnitStates.{UnitState, reset}
 use Rattle.pr_unit.specs.Replies.{is_good}
 use Rattle.pr_roles.specs.declared.how.How.{How}
 use Rattle.pr_roles.specs.declared.how.How.TheVariants as how
@@ -26,15 +26,15 @@ use Rattle.pr_roles.specs.Permits.{command_permitted}
 use Rattle.pr_roles.specs.declared.item.Item.{Item}
 use Rattle.pr_roles.specs.Scenarios.{Scenario, Task, Scripted, Planned, role, task}
 use Rattle.pr_roles.specs.Starts.{IsAllowedStart}
-use Rattle.pr_roles.specs.Worlds.{World, Going, Free, Event, Host, Guest, HostSends, GuestSends, Happens, Run, after, control, going_or_trapped, is_guest_task, commands_by, standing_of, control_after, world_from}
+use Rattle.pr_roles.specs.Worlds.{World, Going, Free, Event, Host, Guest, UnitReset, HostSends, GuestSends, IsReset, Happens, Run, after, after_reset, resets_in, control, going_or_trapped, is_guest_task, commands_by, standing_of, control_after, world_from}
 use Rattle.pr_roles.specs.Safety.{KeepsRole, KeepsRoles}
 use Rattle.pr_roles.proofs.Controls.{there, at_start as begins}
-use Rattle.pr_domain.specs.Interference.{IsDone}
+use Rattle.pr_domain.specs.Interference.{IsDone, declares_resets, by_another, by_reset}
 use Rattle.pr_verify.specs.Places.{Place, places_of, first_lines, follows}
-use Rattle.pr_verify.specs.Outlines.{AllSendsFit, HasOutline, HaveOutlines, IsShownAt, OnScripted, SendsFit, at_start, by_itself, by_another}
+use Rattle.pr_verify.specs.Outlines.{AllSendsFit, HasOutline, HaveOutlines, IsShownAt, OnScripted, SendsFit, at_start, by_itself, by_others}
 use Rattle.pr_verify.proofs.Leading.{Leads, leads_begun}
 use Rattle.pr_verify.proofs.Taking.{LeadsOn, IsReadyAt, ready_at}
-use Rattle.pr_verify.proofs.Spent.{IsWithinCost, sent_other, sent_own, within_cost_taken}
+use Rattle.pr_verify.proofs.Spent.{IsWithinCost, sent_other, sent_own, sent_reset, within_cost_taken}
 use Rattle.pr_verify.proofs.Unnoticed.{noticed}
 use Rattle.pr_verify.proofs.Controls.{nobody_at_start, control_other, control_going, control_free}
 
@@ -111,7 +111,7 @@ still_shown : (s : Scenario) (h g : ℕ) (script : Stmts) (budget : ℕ) (o : Ha
     → (v ≡ u) ⊎ IsDone (role s g) g u v → IsShownAt o.outline line u → IsShownAt o.outline line v
 still_shown s h g script budget o line u v other there (inl same) shown = subst (IsShownAt o.outline line) (sym same) shown
 still_shown s h g script budget o line u v other there (inr done) shown =
-    o.sound.shows line v (by_another (record { from = u; shown = shown; other = g; there = there; another = λ same. other (sym (same ∙ o.host)); done = done }))
+    o.sound.shows line v (by_others (record { from = u; shown = shown; becomes = by_another g there (λ same. other (sym (same ∙ o.host))) done }))
 
 others_kept : (s : Scenario) (g : ℕ) (w v : World) (h : ℕ) → IsMove s g w v → h ≢ g → (t : Option Task) → IsKeptBy t s w h → IsKeptBy t s v h
 others_kept s g w v h m other None free = m.controls h other ∙ free
@@ -254,11 +254,34 @@ guest_kept s w g wire k v happens kept = at (task s g) refl happens.guest (kept 
         let mine = subst (λ t. IsKeptBy t s left g) (sym is) (control_free w g 0 wire r u free) in
         subst (IsKept s) (sym happens.world) (all_kept s g w left moves kept mine)
 
+-- ---- a reset
+
+-- it leaves each script where it is, and its outline shows the unit still
+reset_keeps : (s : Scenario) (w : World) (h : ℕ) → IsTrue (declares_resets s) → (t : Option Task) → IsKeptBy t s w h → IsKeptBy t s (after_reset w) h
+reset_keeps s w h declared None free = free
+reset_keeps s w h declared (Some (Planned commands)) free = free
+reset_keeps s w h declared (Some (Scripted script budget)) course = record {
+  outlined = course.outlined;
+  fields = course.fields;
+  rest = course.rest;
+  going = course.going;
+  lines = course.lines;
+  leads = course.leads;
+  shown = λ line there.
+      course.outlined.sound.shows line (reset w.unit) (by_others (record { from = w.unit; shown = course.shown line there; becomes = by_reset declared refl }));
+  spent = subst (λ n. IsWithinCost n course.rest (cost_of_all script)) (sym (sent_reset w.history h)) course.spent;
+}
+
+reset_kept : (s : Scenario) (w v : World) → IsReset s w v → IsKept s w → IsKept s v
+reset_kept s w v happens kept =
+    subst (IsKept s) (sym happens.world) (λ h. reset_keeps s w h (some_left (resets_in w.history) s.resets happens.room) (task s h) (kept h))
+
 -- ---- runs
 
 event_kept : (s : Scenario) (w : World) (e : Event) (v : World) (happens : Happens s w e v) → IsKept s w → IsTurned s w e v happens
 event_kept s w (Host h k) v happens kept = host_kept s w h k v happens kept
 event_kept s w (Guest g wire k) v happens kept = (tt, guest_kept s w g wire k v happens kept)
+event_kept s w UnitReset v happens kept = (tt, reset_kept s w v happens kept)
 
 pub run_kept : (s : Scenario) (w : World) (es : List Event) (v : World) (run : Run s w es v) → IsKept s w → IsKept s v × KeepsRoles s w es v run
 run_kept s w [] v run kept = (subst (IsKept s) (sym run) kept, tt)

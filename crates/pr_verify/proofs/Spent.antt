@@ -8,7 +8,7 @@ use Rattle.pr_script.specs.Takes.{take}
 use Rattle.pr_script.specs.Costs.{commands, count_in, commands_sent as sends_on}
 use Rattle.pr_roles.specs.declared.entry.Entry.{Entry}
 use Rattle.pr_roles.specs.declared.item.Item.{Item}
-use Rattle.pr_roles.specs.declared.item.Item.TheVariants.{Sent}
+use Rattle.pr_roles.specs.declared.item.Item.TheVariants.{Sent, Reset}
 use Rattle.pr_roles.specs.Worlds.{commands_by, is_sent_by}
 
 pub sent_other : (es : List Item) (e : Entry) (h : ℕ) → h ≢ e.host → commands_by (es ++ Sent e ∷ []) h ≡ commands_by es h
@@ -24,6 +24,9 @@ sent_own es e h own =
     let more = sum_by_push (λ x. cond (is_sent_by h x) 1 0) es (Sent e) in
     let one = ap {B = ℕ} (λ b. cond b 1 0) same in
     omega (arith, more, one)
+
+pub sent_reset : (es : List Item) (h : ℕ) → commands_by (es ++ Reset ∷ []) h ≡ commands_by es h
+sent_reset es h = let more = sum_by_push (λ x. cond (is_sent_by h x) 1 0) es Reset in omega (arith, more)
 
 -- with these replies to come, what was sent and what is sent yet is within the cost
 abbrev pub IsWithinCost : ℕ → Configuration → ℕ → Type 0

@@ -42,9 +42,9 @@ use Rattle.pr_roles.specs.Starts.{IsAllowedStart, CanStart}
 use Rattle.pr_roles.specs.Safety.{IsSafe}
 use Rattle.pr_views.specs.Possibilities.{key_at, number_of}
 use Rattle.pr_views.specs.Views.{View, Shows}
-use Rattle.pr_domain.specs.Interference.{IsDone}
+use Rattle.pr_domain.specs.Interference.{IsDone, Becomes, by_another, by_reset}
 use Rattle.pr_verify.specs.Places.{Place, follows}
-use Rattle.pr_verify.specs.Outlines.{AllSendsFit, Outline, scope_in, IsOfScenario, IsShownAt, ShowsIn, ComesTo, IsLeftAt, IsAsked, at_start, by_itself, by_another, HasArms, KeepsToRole, HasOutline, HaveOutlines}
+use Rattle.pr_verify.specs.Outlines.{AllSendsFit, Outline, scope_in, IsOfScenario, IsShownAt, ShowsIn, ComesTo, IsLeftAt, IsAsked, at_start, by_itself, by_others, HasArms, KeepsToRole, HasOutline, HaveOutlines}
 use Rattle.pr_verify.proofs.Safe.{outlines_make_safe}
 
 -- ---- the scenario
@@ -59,7 +59,7 @@ abbrev guest : Nexus
 guest = record { name = 0x62 ∷ []; role = []; start = None ∷ []; pending = no_code; task = Planned []; busy = 0; full = 0 }
 
 abbrev waiting : Scenario
-waiting = record { version = 1; keys = []; reservations = None ∷ []; generation = 0; nexuses = host ∷ guest ∷ [] }
+waiting = record { version = 1; keys = []; reservations = None ∷ []; generation = 0; resets = 0; nexuses = host ∷ guest ∷ [] }
 
 -- its only place
 abbrev test_place : Place
@@ -239,12 +239,16 @@ comes_idle line u x =
 left_idle : (line : ℕ) (u : UnitState) → IsLeftAt waiting outline line u → IsShownAt outline line u
 left_idle line u x =
     let before = at_line line x.from x.shown in
-    shown_at line u (sym before.0) (others_idle x.other x.from u x.there x.another x.done before.1)
+    shown_at line u (sym before.0) (at x.becomes before.1)
+  where
+    at : Becomes waiting 0 x.from u → IsIdle x.from → IsIdle u
+    at (by_another g there another done) idle_before = others_idle g x.from u there another done idle_before
+    at (by_reset declared same) idle_before = absurd (false≢true declared)
 
 asked : (line : ℕ) (u : UnitState) → IsAsked waiting script outline line u → IsShownAt outline line u
 asked line u (at_start x) = shown_at line u (only 1 line x.first) (starts_idle u x.allowed)
 asked line u (by_itself p listed x) = comes_idle line u (subst (λ q. ComesTo waiting outline q line u) (sym (only test_place p listed)) x)
-asked line u (by_another x) = left_idle line u x
+asked line u (by_others x) = left_idle line u x
 
 has_arms : HasArms waiting outline test_place
 has_arms u r v shown answer = ap is_some (taken r (passes u r v (by_unit u r v answer) (at_line 1 u shown).1))

@@ -1,7 +1,7 @@
 -- Agrees with docs/VERDICTS.md, '`accepted`'.
 -- Outlines: what a host can know of the unit at each place of its script. A sound outline is an inductive invariant, and
 -- one that fits shows what safety asks of the host.
-use Rattle.std.specs.Prelude.{◌≡◌, ◌≢◌, ℕ, ◌<◌, ◌≤◌, ◌==◌, true, if◌then◌else◌, List, [], ◌∷◌, length, map, Option, Some, None, IsSome, IsTrue}
+use Rattle.std.specs.Prelude.{◌≡◌, ℕ, ◌<◌, ◌≤◌, ◌==◌, true, if◌then◌else◌, List, [], ◌∷◌, length, map, Option, Some, None, IsSome, IsTrue}
 use Rattle.std.specs.List.{Contains}
 use Rattle.pr_cdb.specs.declared.reply.Reply.{Reply}
 use Rattle.pr_cdb.specs.declared.wire.Request.TheVariants.{Plain}
@@ -17,7 +17,7 @@ use Rattle.pr_roles.specs.Scenarios.{Scenario, Task, Scripted, Planned, role, ta
 use Rattle.pr_roles.specs.Starts.{IsAllowedStart}
 use Rattle.pr_views.specs.Possibilities.{Scope}
 use Rattle.pr_views.specs.Views.{View, Shows}
-use Rattle.pr_domain.specs.Interference.{IsDone}
+use Rattle.pr_domain.specs.Interference.{Becomes}
 use Rattle.pr_verify.specs.Places.{Place, places_of, first_lines, follows}
 
 -- the views of a host, each by the line of its send
@@ -64,20 +64,17 @@ pub record ComesTo (s : Scenario) (o : Outline) (p : Place) (line : ℕ) (after 
   pub follows : follows p reply ≡ Some next
   pub there : Contains next line
 
--- from a state that is shown at this line, a command of another that ends GOOD and is permitted leads to this state
+-- from a state that is shown at this line, a permitted command of another that ends GOOD leads to this state, or a reset
 pub record IsLeftAt (s : Scenario) (o : Outline) (line : ℕ) (after : UnitState) : Type 0 where
   pub from : UnitState
   pub shown : IsShownAt o line from
-  pub other : ℕ
-  pub there : other < length s.nexuses
-  pub another : other ≢ o.host
-  pub done : IsDone (role s other) other from after
+  pub becomes : Becomes s o.host from after
 
 -- what the view at a line has to show
 pub data IsAsked (s : Scenario) (script : Stmts) (o : Outline) (line : ℕ) (u : UnitState) : Type 0 where
   at_start : StartsAt s script line u → IsAsked s script o line u
   by_itself : (p : Place) → Contains (places_of script) p → ComesTo s o p line u → IsAsked s script o line u
-  by_another : IsLeftAt s o line u → IsAsked s script o line u
+  by_others : IsLeftAt s o line u → IsAsked s script o line u
 
 -- there is one view for each send of the script, in order
 abbrev pub IsListed : Stmts → Outline → Type 0

@@ -1,4 +1,4 @@
-//! Whether the views of an outline stand whatever the others do.
+//! Whether the views of an outline stand whatever the others do, and through resets of the unit.
 
 ghost use Rattle.std.specs.Prelude.{◌≡◌, ◌<◌, ℕ, true, false, length, map, IsTrue, IfOk};
 ghost use Rattle.std.specs.List.{All, slice_get};
@@ -9,17 +9,17 @@ ghost use Rattle.pr_views.specs.Rooms.{view_of, IsMade, AreAlike};
 ghost use Rattle.pr_domain.specs.Interference.{IsClosed};
 ghost use Rattle.pr_verify.specs.Outlines.{IsLeftAt};
 ghost use Rattle.pr_verify.specs.Rooms.{outline_of, IsMadeFor};
-ghost use Rattle.pr_verify.specs.inside.Lacking.{IsFirstLacking, IsOpen, IsSameAsOne};
+ghost use Rattle.pr_verify.specs.inside.Lacking.{IsFirstLacking, IsOpen, IsSameAsOne, IsClosedTo, IsClosedToResets};
 
 use crate::nexus::nexus_in;
 use crate::outline::OutlineOf;
-use pr_domain::interfere;
+use pr_domain::{interfere, reset};
 use pr_roles::Scenario;
 use pr_sets::ViewSet;
 use pr_views::ViewOf;
 use std::alloc::{AllocError, Global};
 
-/// The first line whose view lacks a state to which a permitted command of another leads from one that it shows.
+/// The first line whose view lacks a state to which a permitted command of another or a reset leads from one that it shows.
 pub(crate) fn lacking_by_others<S: ViewSet>(
     alloc: Global,
     scenario: &Scenario,
@@ -54,7 +54,7 @@ fn is_one_of<S: ViewSet>(view: &ViewOf<S>, others: &[(u32, ViewOf<S>)]) -> bool
     false
 }
 
-// Whether the view shows each state to which a permitted command of another leads from one that it shows.
+// Whether the view shows each state to which a permitted command of another or a reset leads from one that it shows.
 fn is_closed<S: ViewSet>(
     alloc: Global,
     scenario: &Scenario,
@@ -66,6 +66,43 @@ fn is_closed<S: ViewSet>(
     requires keys { view.now.keys.items ≡ (scenario_of scenario.now).keys }
     requires hosts { view.now.hosts ≡ length (scenario_of scenario.now).nexuses }
     ensures closed { IfOk result (λ is. IsTrue is → IsClosed (scenario_of scenario.now) (view_of S.members own view.now)) }
+    ensures open { IfOk result (λ is. is ≡ false → IsOpen (scenario_of scenario.now) (view_of S.members own view.now)) }
+{
+    if !is_closed_to_resets(alloc, scenario, view)? {
+        return Ok(false);
+    }
+    is_closed_to_others(alloc, scenario, view, own)
+}
+
+// Whether it shows each shown state after a reset, where the scenario has any.
+fn is_closed_to_resets<S: ViewSet>(
+    alloc: Global,
+    scenario: &Scenario,
+    view: &ViewOf<S>,
+) -> Result<bool, AllocError>
+    requires { IsMade S.room view.now }
+    ensures closed { IfOk result (λ is. IsTrue is → (own : ℕ) → own < view.now.hosts → IsClosedToResets (scenario_of scenario.now) (view_of S.members own view.now)) }
+    ensures open { IfOk result (λ is. is ≡ false → (own : ℕ) → own < view.now.hosts → IsOpen (scenario_of scenario.now) (view_of S.members own view.now)) }
+{
+    if scenario.parts().resets == 0 {
+        return Ok(true);
+    }
+    let left = reset(alloc, view)?;
+    Ok(left.within(view))
+}
+
+// Whether it shows each state to which a permitted command of another leads from one that it shows.
+fn is_closed_to_others<S: ViewSet>(
+    alloc: Global,
+    scenario: &Scenario,
+    view: &ViewOf<S>,
+    own: u8,
+) -> Result<bool, AllocError>
+    requires made { IsMade S.room view.now }
+    requires own { own < view.now.hosts }
+    requires keys { view.now.keys.items ≡ (scenario_of scenario.now).keys }
+    requires hosts { view.now.hosts ≡ length (scenario_of scenario.now).nexuses }
+    ensures closed { IfOk result (λ is. IsTrue is → IsClosedTo view.now.hosts (scenario_of scenario.now) (view_of S.members own view.now)) }
     ensures open { IfOk result (λ is. is ≡ false → IsOpen (scenario_of scenario.now) (view_of S.members own view.now)) }
 {
     for other in 0..view.hosts {

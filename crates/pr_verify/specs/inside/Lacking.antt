@@ -1,12 +1,12 @@
 -- What the views of an outline have and lack, by where it comes from.
-use Rattle.std.specs.Prelude.{◌≢◌, ℕ, ◌<◌, List, length, Option, Some, None}
+use Rattle.std.specs.Prelude.{◌≢◌, ℕ, ◌<◌, IsTrue, List, Option, Some, None}
 use Rattle.std.specs.List.{slice_get, Contains}
-use Rattle.pr_unit.specs.UnitStates.{UnitState}
+use Rattle.pr_unit.specs.UnitStates.{UnitState, reset}
 use Rattle.pr_roles.specs.Scenarios.{Scenario, role}
 use Rattle.pr_views.specs.Views.{View, Shows, Within}
 use Rattle.pr_domain.specs.declared.landing.Landing.{Landing}
 use Rattle.pr_domain.specs.declared.landing.Landing.TheVariants.{Arm, NoArm}
-use Rattle.pr_domain.specs.Interference.{IsDone}
+use Rattle.pr_domain.specs.Interference.{IsDone, declares_resets, Becomes}
 use Rattle.pr_verify.specs.Outlines.{Outline, view_at, IsShownAt}
 use Rattle.pr_verify.specs.LeastOutlines.{IsWithinIn}
 use Rattle.pr_verify.specs.inside.Least.{IsLeast}
@@ -53,16 +53,21 @@ LacksNext o (Some lines) w line = LacksView o lines w line
 
 -- ---- others
 
--- from a state that the view shows, a command of another that ends GOOD and is permitted leads to one that it does not show
+-- from a state that the view shows, a permitted command of another or a reset leads to one that it does not show
 pub record IsOpen (s : Scenario) (v : View) : Type 0 where
   pub from : UnitState
   pub shown : Shows v from
-  pub other : ℕ
-  pub there : other < length s.nexuses
-  pub another : other ≢ v.scope.own
   pub after : UnitState
-  pub done : IsDone (role s other) other from after
+  pub becomes : Becomes s v.scope.own from after
   pub missing : ¬ Shows v after
+
+-- permitted commands of the first n of the others keep to the view
+abbrev pub IsClosedTo : ℕ → Scenario → View → Type 0
+IsClosedTo n s v = (g : ℕ) (u after : UnitState) → g < n → g ≢ v.scope.own → Shows v u → IsDone (role s g) g u after → Shows v after
+
+-- so do resets, where there are any
+abbrev pub IsClosedToResets : Scenario → View → Type 0
+IsClosedToResets s v = IsTrue (declares_resets s) → (u : UnitState) → Shows v u → Shows v (reset u)
 
 -- the same is possible in the view as in one of these
 pub record IsSameAsOne (v : View) (views : List View) : Type 0 where

@@ -1,65 +1,15 @@
-use Rattle.std.proofs.Common.{◌≡◌, ◌<◌, true, length, rules, sym, ◌∙◌, subst, arith}
-use Rattle.std.proofs.lemmas.Bool.{false≢true}
-use Rattle.pr_roles.specs.Fitting.{is_role}
 use Rattle.pr_roles.specs.Scenarios.{scenario_of}
 use Rattle.pr_views.specs.Rooms.{view_of}
-use Rattle.pr_views.proofs.Viewing.{fits}
-use Rattle.pr_verify.proofs.Begun.{any_own, scope_alike}
-use Rattle.pr_verify.proofs.Nexuses.{role_read, role_fits}
-use Rattle.pr_verify.proofs.Disturbed.{closed_to_none, closed_own, closed_one, open_by}
-use Rattle.pr_verify.proofs.others.is_closed.Goals.{then-other-own+in_ok-left+else-not-within, else-other-own}
+use Rattle.pr_verify.proofs.Disturbed.{is_closed, if_answered}
 use Rattle.pr_verify.proofs.others.is_closed.Goals as goal
 
-pub loop-other-init : goal.loop-other-init
-loop-other-init g c = closed_to_none (scenario_of c.args.scenario.now) (view_of g.S.ViewSet.members c.args.own c.args.view.now)
-
-pub nexus_in-requires : goal.nexus_in-requires
-nexus_in-requires g c = let same = c.requires.hosts in let small = c.loop-other-test.true in omega arith
-
-pub interfere-requires : goal.interfere-requires
-interfere-requires g c = (
-  search rules,
-  (
-    c.requires.made,
-    (
-      c.requires.own,
-      (
-        c.loop-other-test.true,
-        (
-          λ same. c.if-other-own.true (sym same),
-          subst (λ keys. is_role keys c.nexus_in.result.now.role.clauses.items ≡ true) (sym c.requires.keys)
-              (role_fits (scenario_of c.args.scenario.now) c.loop-other.other c.nexus_in.result.now c.nexus_in.ensures.nexus c.nexus_in.ensures.fits),
-        ),
-      ),
-    ),
-  ),
-)
-
-pub returns-then-not-within-clause-open : goal.returns-then-not-within-clause-open
-returns-then-not-within-clause-open g c denied =
-    let members = g.S.ViewSet.members in
-    let own = c.args.own in
-    let left = c.in_ok-left.left in
-    let view = c.args.view.now in
-    let there : c.loop-other.other < length (scenario_of c.args.scenario.now).nexuses = (let same = c.requires.hosts in let small = c.loop-other-test.true in omega arith) in
-    open_by (scenario_of c.args.scenario.now) (view_of members own view) c.loop-other.other c.nexus_in.result.now.role.clauses.items (view_of members own left) (scope_alike own view left c.in_ok-left.ensures.alike)
-    (fits members g.S.ViewSet.room g.met.S.ViewSet.below left own c.in_ok-left.ensures.made (subst (λ n. own < n) c.in_ok-left.ensures.alike.hosts c.requires.own)) there c.if-other-own.true
-    (role_read (scenario_of c.args.scenario.now) c.loop-other.other c.nexus_in.result.now c.nexus_in.ensures.nexus)
-    c.in_ok-left.ensures.interference (λ within. false≢true (sym c.if-not-within.true ∙ c.within.ensures.1 (any_own members g.S.ViewSet.room left view own within)))
-
-pub loop-other-preserved : goal.loop-other-preserved
-loop-other-preserved g c =
-    let members = g.S.ViewSet.members in
-    let own = c.args.own in
-    let view = c.args.view.now in
-    elim c.if-other-own.branch [
-      | then-other-own+in_ok-left+else-not-within w ↦
-          closed_one (scenario_of c.args.scenario.now) (view_of members own view) c.loop-other.other w.nexus_in.result.now.role.clauses.items (view_of members own w.in_ok-left.left)
-          (scope_alike own view w.in_ok-left.left w.in_ok-left.ensures.alike)
-          (role_read (scenario_of c.args.scenario.now) c.loop-other.other w.nexus_in.result.now w.nexus_in.ensures.nexus)
-          w.in_ok-left.ensures.interference (w.within.ensures.0 w.if-not-within.false own) c.loop-other.invariant
-      | else-other-own w ↦ closed_own (scenario_of c.args.scenario.now) (view_of members own view) c.loop-other.other w.if-other-own.false c.loop-other.invariant
-    ]
+pub returns-then-not-branch-clause-open : goal.returns-then-not-branch-clause-open
+returns-then-not-branch-clause-open g c denied = c.in_ok-is_closed_to_resets.ensures.open c.if-not-branch.true c.args.own c.requires.own
 
 pub returns-clause-closed : goal.returns-clause-closed
-returns-clause-closed g c is h u after small = c.loop-other.invariant h u after (omega arith)
+returns-clause-closed g c =
+    let s = scenario_of c.args.scenario.now in
+    let v = view_of g.S.ViewSet.members c.args.own c.args.view.now in
+    if_answered c.is_closed_to_others.result
+    (λ b others is. is_closed s v c.args.view.now.hosts c.requires.hosts (others is) (c.in_ok-is_closed_to_resets.ensures.closed c.if-not-branch.false c.args.own c.requires.own))
+    c.is_closed_to_others.ensures.closed

@@ -1,7 +1,7 @@
 use Rattle.pr_roles.specs.Scenarios.{scenario_of}
 use Rattle.pr_views.specs.Rooms.{view_of}
-use Rattle.pr_verify.proofs.Disturbed.{IsClosedTo}
-use Rattle.pr_verify.proofs.others.is_closed.Given as goal
+use Rattle.pr_verify.specs.inside.Lacking.{IsClosedTo}
+use Rattle.pr_verify.proofs.others.is_closed_to_others.Given as goal
 
 abbrev pub invariant-loop-other : goal.invariant-loop-other
 invariant-loop-other g l = IsClosedTo l.other (scenario_of l.scenario) (view_of g.S.ViewSet.members l.own l.view)

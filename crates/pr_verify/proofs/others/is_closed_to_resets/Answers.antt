@@ -1,0 +1,33 @@
+use Rattle.std.proofs.Common.{◌≢◌, ◌<◌, sym, ap, ◌∙◌, subst}
+use Rattle.std.proofs.lemmas.Bool.{false≢true}
+use Rattle.pr_roles.specs.declared.parts.Parts.{Parts}
+use Rattle.pr_roles.specs.Scenarios.{scenario_of}
+use Rattle.pr_views.specs.Rooms.{view_of}
+use Rattle.pr_views.proofs.Viewing.{fits}
+use Rattle.pr_domain.proofs.Roles.{no_resets, resets_declared}
+use Rattle.pr_verify.proofs.Begun.{any_own, scope_alike}
+use Rattle.pr_verify.proofs.Disturbed.{closed_reset, open_by_reset}
+use Rattle.pr_verify.proofs.others.is_closed_to_resets.Goals as goal
+
+pub returns-then-parts-eq0-clause-closed : goal.returns-then-parts-eq0-clause-closed
+returns-then-parts-eq0-clause-closed g c is own small declared =
+    let none = ap (λ (p : Parts). p.resets) (sym c.parts.ensures.value) ∙ c.if-parts-eq0.true in
+    absurd (false≢true (sym (no_resets c.args.scenario.now none) ∙ declared))
+
+pub returns-clause-closed : goal.returns-clause-closed
+returns-clause-closed g c is own small =
+    let members = g.S.ViewSet.members in
+    let view = c.args.view.now in
+    let left = c.in_ok-left.left in
+    closed_reset (scenario_of c.args.scenario.now) (view_of members own view) (view_of members own left) (scope_alike own view left c.in_ok-left.ensures.alike)
+    (c.in_ok-left.ensures.reset own small) (c.within.ensures.0 is own)
+
+pub returns-clause-open : goal.returns-clause-open
+returns-clause-open g c denied own small =
+    let members = g.S.ViewSet.members in
+    let view = c.args.view.now in
+    let left = c.in_ok-left.left in
+    let some : c.args.scenario.now.resets ≢ 0 = λ none. c.if-parts-eq0.false (ap (λ (p : Parts). p.resets) c.parts.ensures.value ∙ none) in
+    open_by_reset (scenario_of c.args.scenario.now) (view_of members own view) (view_of members own left) (scope_alike own view left c.in_ok-left.ensures.alike)
+    (fits members g.S.ViewSet.room g.met.S.ViewSet.below left own c.in_ok-left.ensures.made (subst (λ n. own < n) c.in_ok-left.ensures.alike.hosts small)) (resets_declared c.args.scenario.now some)
+    (c.in_ok-left.ensures.reset own small) (λ within. false≢true (sym denied ∙ c.within.ensures.1 (any_own members g.S.ViewSet.room left view own within)))
