@@ -26,7 +26,7 @@ use Rattle.pr_roles.specs.declared.how.How.{How}
 use Rattle.pr_roles.specs.declared.how.How.TheVariants as how
 use Rattle.pr_roles.specs.Answers.{Answers, may_come}
 use Rattle.pr_roles.specs.Scenarios.{Scenario, Nexus, Task, Scripted, Planned, role}
-use Rattle.pr_roles.specs.Worlds.{World, Control, Going, Trapped, Free, Event, Host, Guest, Happens, GuestSends, control, is_guest, is_guest_task, standing_of, control_after, entry_of, after as world_after}
+use Rattle.pr_roles.specs.Worlds.{World, Control, Going, Trapped, Free, Event, Host, Guest, UnitReset, Happens, GuestSends, control, is_guest, is_guest_task, standing_of, control_after, entry_of, after as world_after}
 use Rattle.pr_world.specs.Courses.{is_planned}
 use Rattle.pr_world.specs.inside.Participations.{is_free}
 use Rattle.pr_world.specs.inside.Auditing.{how_of, MayCome, IsJudged, Adds, IsTried, ActFor}
@@ -178,6 +178,8 @@ comes_by s w e x (Host h so) free sends added =
 comes_by s w e x (Guest g wire so) free sends added =
     let same = same_entry w.history x.history (entry_of g wire sends.reply) e (ap (λ z. z.history) sends.world) added in
     comes_as s w _ e x _ same (sym sends.world) (guest_comes so s w g wire x (free g sends.guest) sends)
+comes_by s w e x UnitReset free resets added =
+    let same = same_item w.history x.history Reset (Sent e) (ap (λ z. z.history) resets.world) added in cc
 
 -- ---- just the guests send what they like
 
@@ -252,16 +254,6 @@ none_past s w e x acts past adds =
     let nobody : is_guest s e.host ≡ false = ap (λ o. is_guest_task (option_map_or (λ n. Some n.task) o None)) (slice_get_past s.nexuses e.host past) in
     let bad : false ≡ true = sym nobody ∙ c.guest (ap is_free free) in
     cc
-
--- no event resets the unit
-none_resets : (s : Scenario) (w : World) (x : World) (event : Event) → Happens s w event x → x.history ≡ w.history ++ Reset ∷ [] → ⊥
-none_resets s w x (Host h so) sends added =
-    let same = same_item w.history x.history (Sent (entry_of h (spelling sends.command) sends.reply)) Reset (ap (λ z. z.history) sends.world) added in cc
-none_resets s w x (Guest g wire so) sends added =
-    let same = same_item w.history x.history (Sent (entry_of g wire sends.reply)) Reset (ap (λ z. z.history) sends.world) added in cc
-
-pub never_reset : (s : Scenario) (w : World) (x : World) → Adds s w Reset x → ⊥
-never_reset s w x adds = none_resets s w x adds.event adds.happens adds.added
 
 -- whatever the answer, there is still one for each that the scenario declares
 pub judged_acts : (s : Scenario) (w : World) (e : Entry) (k after : Control) (b : Bool) (v : UnitState) (es : List Item) → ActFor s w → get_or w.controls e.host k ≡ k

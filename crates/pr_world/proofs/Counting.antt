@@ -1,22 +1,14 @@
 -- The commands of a history counted by their senders.
 use Rattle.std.proofs.Common.{◌≡◌, ◌≢◌, ℕ, ◌+◌, ◌-◌, ◌<◌, ◌≤◌, ◌==◌, Bool, true, false, cond, List, [], ◌∷◌, ◌++◌, length, get_or, set, refl, sym, ap, ◌∙◌, subst, arith, get_or-set_same, get_or-set_other}
 use Rattle.std.specs.Prelude.{sum}
-use Rattle.std.specs.List.{count_by}
 use Rattle.std.proofs.lemmas.List.{get_or_past}
 use Rattle.std.proofs.lemmas.List.Sums.{sum_by-cons, sum_by-set, sum_by_push}
 use Rattle.std.proofs.lemmas.Bool.Decides.{nat_tests}
 use Rattle.pr_roles.specs.declared.entry.Entry.{Entry}
 use Rattle.pr_roles.specs.declared.item.Item.{Item}
 use Rattle.pr_roles.specs.declared.item.Item.TheVariants.{Sent, Reset}
-use Rattle.pr_roles.specs.Worlds.{commands_by, is_sent_by}
-
-abbrev pub is_reset : Item → Bool
-is_reset (Sent e) = false
-is_reset Reset = true
-
--- how often the unit was reset
-abbrev pub resets_in : List Item → ℕ
-resets_in history = count_by is_reset history
+use Rattle.pr_roles.specs.Worlds.{commands_by, is_sent_by, resets_in}
+use Rattle.pr_roles.proofs.Resetting.{resets-cons}
 
 -- ---- one item more
 
@@ -42,13 +34,7 @@ sent_other es e h other = omega (arith, sent-push es (Sent e) h, counts_other e 
 pub sent_own : (es : List Item) (e : Entry) (h : ℕ) → e.host ≡ h → commands_by (es ++ Sent e ∷ []) h ≡ commands_by es h + 1
 sent_own es e h own = sent-push es (Sent e) h ∙ ap (λ n. commands_by es h + n) (subst (λ k. counts (Sent e) k ≡ 1) own (counts_own e))
 
-resets-cons : (e : Item) (es : List Item) → resets_in (e ∷ es) ≡ cond (is_reset e) 1 0 + resets_in es
-resets-cons e es = sum_by-cons (λ x. cond (is_reset x) 1 0) e es
-
-pub resets-push : (es : List Item) (e : Item) → resets_in (es ++ e ∷ []) ≡ resets_in es + cond (is_reset e) 1 0
-resets-push es e = sum_by_push (λ x. cond (is_reset x) 1 0) es e
-
--- ---- no more than there is room for
+-- ---- no more than there is room for, but for resets
 
 -- room for one entry less of this sender
 abbrev pub lowered : List ℕ → ℕ → List ℕ

@@ -4,10 +4,10 @@ use Rattle.std.proofs.lemmas.List.{append-nil, append_assoc, take-append-drop}
 use Rattle.pr_cdb.specs.Spelling.{spelling}
 use Rattle.pr_unit.specs.UnitStates.{UnitState}
 use Rattle.pr_roles.specs.declared.item.Item.{Item}
-use Rattle.pr_roles.specs.declared.item.Item.TheVariants.{Sent}
+use Rattle.pr_roles.specs.declared.item.Item.TheVariants.{Sent, Reset}
 use Rattle.pr_roles.specs.Safety.{IsLegal}
 use Rattle.pr_roles.specs.Scenarios.{Scenario}
-use Rattle.pr_roles.specs.Worlds.{World, Event, Host, Guest, Happens, Run, entry_of, world_from}
+use Rattle.pr_roles.specs.Worlds.{World, Event, Host, Guest, UnitReset, Happens, Run, entry_of, world_from}
 use Rattle.pr_world.specs.inside.Auditing.{Adds}
 use Rattle.pr_world.proofs.Running.{run_then}
 
@@ -43,6 +43,7 @@ record HasAdded (w v : World) : Type 0 where
 has_added : (s : Scenario) (w : World) (event : Event) (v : World) → Happens s w event v → HasAdded w v
 has_added s w (Host h so) v sends = record { item = Sent (entry_of h (spelling sends.command) sends.reply); added = ap (λ x. x.history) sends.world }
 has_added s w (Guest g wire so) v sends = record { item = Sent (entry_of g wire sends.reply); added = ap (λ x. x.history) sends.world }
+has_added s w UnitReset v resets = record { item = Reset; added = ap (λ x. x.history) resets.world }
 
 record HasLast (s : Scenario) (w v : World) : Type 0 where
   pub before : World

@@ -1,6 +1,6 @@
 -- What is sent along a scheduled run is within the room for it.
 use Rattle.std.proofs.Common.{◌≡◌, ◌≢◌, ℕ, zero, suc, ◌+◌, ◌<◌, ◌≤◌, ◌==◌, Bool, true, false, nat_lt, List, [], ◌∷◌, ◌++◌, length, Option, Some, None, inl, inr, ◌⊎◌, get_or, length-set, refl, sym, ap, ◌∙◌, subst, arith}
-use Rattle.std.specs.Prelude.{map, slice_set, option_map, unwrap_or}
+use Rattle.std.specs.Prelude.{map, slice_set, option_map, unwrap_or, if◌then◌else◌}
 use Rattle.std.specs.List.{slice_get}
 use Rattle.std.specs.Option.{option_map_or}
 use Rattle.std.proofs.lemmas.Bool.Decides.{nat_tests}
@@ -14,20 +14,23 @@ use Rattle.pr_unit.proofs.Answered.{every_request_has_a_step}
 use Rattle.pr_script.specs.Scripts.{Stmts, Standing, ready, stopped}
 use Rattle.pr_roles.specs.declared.entry.Entry.{Entry}
 use Rattle.pr_roles.specs.declared.item.Item.{Item}
-use Rattle.pr_roles.specs.declared.item.Item.TheVariants.{Sent}
+use Rattle.pr_roles.specs.declared.item.Item.TheVariants.{Sent, Reset}
 use Rattle.pr_roles.specs.declared.how.How.{How}
 use Rattle.pr_roles.specs.declared.how.How.TheVariants as how
+use Rattle.pr_roles.specs.declared.step.Step.{Step}
+use Rattle.pr_roles.specs.declared.step.Step.TheVariants as step
 use Rattle.pr_roles.specs.Answers.{how_now}
 use Rattle.pr_roles.specs.declared.role.Clause.{Clause}
 use Rattle.pr_roles.specs.Scenarios.{Scenario, Nexus, Task, Scripted, Planned, nexus, role, task}
-use Rattle.pr_roles.specs.Worlds.{World, Event, Host, Guest, Happens, Run, HostSends, after, control, entry_of, commands_by, standing_of, world_from}
+use Rattle.pr_roles.specs.Worlds.{World, Host, HostSends, after, after_reset, control, entry_of, commands_by, may_reset, resets_in, standing_of, world_from}
 use Rattle.pr_roles.specs.Safety.{IsSafe, KeepsBudgetBy}
-use Rattle.pr_roles.specs.Schedules.{Schedule, Sends, SendsUnless, HostTurn, GuestTurn, TurnBy, ScheduledRun, is_passed_over, plan, plan_of, schedule_from}
+use Rattle.pr_roles.specs.Schedules.{Schedule, Sends, SendsUnless, HostTurn, GuestTurn, TurnBy, Advances, ScheduledRun, is_passed_over, plan, plan_of, schedule_from}
+use Rattle.pr_roles.proofs.Resetting.{run_within}
 use Rattle.pr_world.specs.Courses.{IsReached}
 use Rattle.pr_world.specs.inside.Turns.{does, sends as sending}
 use Rattle.pr_world.specs.Rooms.{room_of, room_by}
 use Rattle.pr_world.specs.inside.Workings.{rooms}
-use Rattle.pr_world.proofs.Counting.{resets_in, resets-push, sent_other, sent_own, all_have_room, one_has_room}
+use Rattle.pr_world.proofs.Counting.{sent-push, sent_other, sent_own, all_have_room, one_has_room}
 use Rattle.pr_world.proofs.Meaning.{HasItsTask, HostIsReady, GuestIsReady, means}
 use Rattle.pr_world.proofs.Running.{run_then}
 
@@ -143,6 +146,13 @@ turn_kept so s x y h (Some (Planned commands)) is turn kept =
     others_kept s x y h guest.0 (λ g other. ap (λ ps. plan_in ps g) turn.2 ∙ plan_other x.plans h g turn.0 other)
     (subst (λ t. KeepsPlanBy t (used y h)) (sym is) (omega (arith, guest.1, few, own))) kept
 
+-- a reset counts for nobody, and takes nothing from a plan
+reset_kept : (s : Scenario) (x y : Schedule) (b : Bool) → y ≡ (if b then record x { world = after_reset x.world } else x) → KeepsPlans s x → KeepsPlans s y
+unfolding KeepsPlans
+reset_kept s x y true turn kept g =
+    less_kept (task s g) (used y g) (used x g) (omega (arith, ap (λ z. used z g) turn, sent-push x.world.history Reset g)) (kept g)
+reset_kept s x y false turn kept g = subst (λ z. KeepsPlanBy (task s g) (used z g)) (sym turn) (kept g)
+
 -- ---- scheduled runs
 
 kept_at_first : (s : Scenario) (u : UnitState) → KeepsPlans s (schedule_from s u)
@@ -164,11 +174,15 @@ kept_at_first s u g = by (nexus s g) refl
         subst (λ o. KeepsPlanBy (option_map_or (λ n. Some n.task) o None) (used (schedule_from s u) g)) (sym is)
         (less_kept (Some n.task) (used (schedule_from s u) g) (length (plan_of n.task)) (omega (arith, ap length (begins (Some n) is))) (first n.task))
 
-run_kept : (s : Scenario) (x y : Schedule) (hs : List (ℕ × How)) → ScheduledRun s x hs y → KeepsPlans s x → KeepsPlans s y
-run_kept s x y [] run kept = subst (KeepsPlans s) (sym run) kept
-run_kept s x y (h ∷ hs) run kept = run_kept s run.0 y hs run.2 (turn_kept (how_now s x.world.history h.0 h.1) s x run.0 h.0 (task s h.0) refl run.1 kept)
+step_kept : (s : Scenario) (x y : Schedule) (next : Step) → Advances s x next y → KeepsPlans s x → KeepsPlans s y
+step_kept s x y (step.Of h wanted) turn kept = turn_kept (how_now s x.world.history h wanted) s x y h (task s h) refl turn kept
+step_kept s x y step.Reset turn kept = reset_kept s x y (may_reset s x.world.history) turn kept
 
-pub reached_keeps_plans : (s : Scenario) (steps : List (ℕ × How)) (y : Schedule) → IsReached s steps y → KeepsPlans s y
+run_kept : (s : Scenario) (x y : Schedule) (steps : List Step) → ScheduledRun s x steps y → KeepsPlans s x → KeepsPlans s y
+run_kept s x y [] run kept = subst (KeepsPlans s) (sym run) kept
+run_kept s x y (next ∷ steps) run kept = run_kept s run.0 y steps run.2 (step_kept s x run.0 next run.1 kept)
+
+pub reached_keeps_plans : (s : Scenario) (steps : List Step) (y : Schedule) → IsReached s steps y → KeepsPlans s y
 reached_keeps_plans s steps y reached = run_kept s (schedule_from s reached.start) y steps reached.scheduled (kept_at_first s reached.start)
 
 -- ---- hosts keep to their budgets
@@ -192,7 +206,7 @@ next_sends s w h at c is =
     )
 
 -- so of a safe scenario it is within the budget
-pub ready_has_room : (s : Scenario) (steps : List (ℕ × How)) (y : Schedule) (h at : ℕ) (c : Command) (script : Stmts) (budget : ℕ) → IsSafe s → IsReached s steps y
+pub ready_has_room : (s : Scenario) (steps : List Step) (y : Schedule) (h at : ℕ) (c : Command) (script : Stmts) (budget : ℕ) → IsSafe s → IsReached s steps y
     → task s h ≡ Some (Scripted script budget) → standing_of (control y.world h) ≡ Some (ready at c) → commands_by y.world.history h < budget
 unfolding IsSafe
 ready_has_room s steps y h at c script budget safe reached is stands =
@@ -203,7 +217,7 @@ ready_has_room s steps y h at c script budget safe reached is stands =
     omega (arith, few, next.2)
 
 -- In a scheduled run of a safe scenario nobody sends more than there is room for.
-pub sent_within : (s : Scenario) (steps : List (ℕ × How)) (y : Schedule) → IsSafe s → IsReached s steps y → (h : ℕ) → commands_by y.world.history h ≤ room_by (task s h)
+pub sent_within : (s : Scenario) (steps : List Step) (y : Schedule) → IsSafe s → IsReached s steps y → (h : ℕ) → commands_by y.world.history h ≤ room_by (task s h)
 unfolding IsSafe KeepsPlans
 sent_within s steps y safe reached h = by (task s h) (reached_keeps_plans s steps y reached h) ((safe reached.start reached.allowed reached.events y.world reached.run).0 h).1
   where
@@ -212,21 +226,9 @@ sent_within s steps y safe reached h = by (task s h) (reached_keeps_plans s step
     by (Some (Scripted script most)) plans budget = budget
     by (Some (Planned commands)) plans budget = omega (arith, plans)
 
--- No event resets the unit.
-unreset_more : (s : Scenario) (w : World) (e : Event) (v : World) → Happens s w e v → resets_in v.history ≡ resets_in w.history
-unreset_more s w (Host h so) v sends =
-    let more = resets-push w.history (Sent (entry_of h (spelling sends.command) sends.reply)) in
-    omega (arith, more, ap (λ x. resets_in x.history) sends.world)
-unreset_more s w (Guest g wire so) v sends =
-    let more = resets-push w.history (Sent (entry_of g wire sends.reply)) in
-    omega (arith, more, ap (λ x. resets_in x.history) sends.world)
-
-run_unreset : (s : Scenario) (w : World) (es : List Event) (v : World) → Run s w es v → resets_in v.history ≡ resets_in w.history
-run_unreset s w [] v run = ap (λ x. resets_in x.history) run
-run_unreset s w (e ∷ es) v run = run_unreset s run.0 es v run.2 ∙ unreset_more s w e run.0 run.1
-
-reached_unreset : (s : Scenario) (steps : List (ℕ × How)) (y : Schedule) → IsReached s steps y → resets_in y.world.history ≡ 0
-reached_unreset s steps y reached = run_unreset s (world_from s reached.start) reached.events y.world reached.run
+-- The unit is reset no more often than the scenario has it.
+resets_within : (s : Scenario) (steps : List Step) (y : Schedule) → IsReached s steps y → resets_in y.world.history ≤ s.resets
+resets_within s steps y reached = run_within s (world_from s reached.start) reached.events y.world reached.run (omega arith)
 
 -- The room of each, in the order of their numbers.
 pub room_at : (s : Scenario) (h : ℕ) → get_or (map (λ n. room_of n.task) s.nexuses) h 0 ≡ room_by (task s h)
@@ -237,26 +239,33 @@ room_at s h = at s.nexuses h
     at (n ∷ ns) zero = refl
     at (n ∷ ns) (suc h) = at ns h
 
-pub run_has_room : (s : Scenario) (steps : List (ℕ × How)) (y : Schedule) → IsSafe s → IsReached s steps y → length y.world.history ≤ rooms s
+pub run_has_room : (s : Scenario) (steps : List Step) (y : Schedule) → IsSafe s → IsReached s steps y → length y.world.history ≤ rooms s
 run_has_room s steps y safe reached =
     let few = all_have_room (map (λ n. room_of n.task) s.nexuses) y.world.history (λ h. omega (arith, room_at s h, sent_within s steps y safe reached h)) in
-    omega (arith, few, reached_unreset s steps y reached)
+    omega (arith, few, resets_within s steps y reached)
 
-pub next_has_room : (s : Scenario) (steps : List (ℕ × How)) (y : Schedule) (h : ℕ) → IsSafe s → IsReached s steps y → commands_by y.world.history h < room_by (task s h) → length y.world.history < rooms s
+pub next_has_room : (s : Scenario) (steps : List Step) (y : Schedule) (h : ℕ) → IsSafe s → IsReached s steps y → commands_by y.world.history h < room_by (task s h) → length y.world.history < rooms s
 next_has_room s steps y h safe reached less =
     let few = one_has_room (map (λ n. room_of n.task) s.nexuses) y.world.history h (λ g. omega (arith, room_at s g, sent_within s steps y safe reached g)) (omega (arith, room_at s h, less)) in
-    omega (arith, few, reached_unreset s steps y reached)
+    omega (arith, few, resets_within s steps y reached)
+
+-- a reset that may come finds room
+pub reset_has_room : (s : Scenario) (steps : List Step) (y : Schedule) → IsSafe s → IsReached s steps y → may_reset s y.world.history ≡ true → length y.world.history < rooms s
+reset_has_room s steps y safe reached may =
+    let few = all_have_room (map (λ n. room_of n.task) s.nexuses) y.world.history (λ h. omega (arith, room_at s h, sent_within s steps y safe reached h)) in
+    let left : resets_in y.world.history < s.resets = grind (arith, nat_tests) in
+    omega (arith, few, left)
 
 -- ---- a turn that sends finds room
 
-guest_has_room : (s : Scenario) (steps : List (ℕ × How)) (y : Schedule) (h : ℕ) (commands : List Command) (c : Command) (cs : List Command) → IsReached s steps y
+guest_has_room : (s : Scenario) (steps : List Step) (y : Schedule) (h : ℕ) (commands : List Command) (c : Command) (cs : List Command) → IsReached s steps y
     → task s h ≡ Some (Planned commands) → plan y h ≡ c ∷ cs → commands_by y.world.history h < length commands
 unfolding KeepsPlans
 guest_has_room s steps y h commands c cs reached is next =
     let few : used y h ≤ length commands = subst (λ t. KeepsPlanBy t (used y h)) is (reached_keeps_plans s steps y reached h) in
     omega (arith, few, ap length next)
 
-ready_below_room : (so : How) (s : Scenario) (steps : List (ℕ × How)) (y : Schedule) (h : ℕ) → IsSafe s → IsReached s steps y → HostIsReady s y h ⊎ GuestIsReady so s y h false
+ready_below_room : (so : How) (s : Scenario) (steps : List Step) (y : Schedule) (h : ℕ) → IsSafe s → IsReached s steps y → HostIsReady s y h ⊎ GuestIsReady so s y h false
     → commands_by y.world.history h < room_by (task s h)
 ready_below_room so s steps y h safe reached (inl host) =
     subst (λ t. commands_by y.world.history h < room_by t) (sym host.host.is)
@@ -265,7 +274,7 @@ ready_below_room so s steps y h safe reached (inr guest) =
     subst (λ t. commands_by y.world.history h < room_by t) (sym guest.guest.is)
     (guest_has_room s steps y h guest.guest.commands guest.command guest.left reached guest.guest.is guest.guest.has)
 
-pub turn_has_room : (wanted : How) (s : Scenario) (steps : List (ℕ × How)) (y : Schedule) (h : ℕ) → IsSafe s → IsReached s steps y → HasItsTask s y h → does s y h wanted ≡ sending
+pub turn_has_room : (wanted : How) (s : Scenario) (steps : List Step) (y : Schedule) (h : ℕ) → IsSafe s → IsReached s steps y → HasItsTask s y h → does s y h wanted ≡ sending
     → length y.world.history < rooms s
 turn_has_room wanted s steps y h safe reached has does_so =
     next_has_room s steps y h safe reached (ready_below_room (how_now s y.world.history h wanted) s steps y h safe reached (means wanted s y h sending has (sym does_so)))

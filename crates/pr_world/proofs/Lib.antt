@@ -12,6 +12,7 @@ pub mod Turning
 pub mod Beginning
 pub mod Trapping
 pub mod Running
+pub mod Resets
 pub mod Remaining
 pub mod SafeReplays
 pub mod Counting

@@ -1,5 +1,5 @@
 -- The room that is reserved is enough, and there are so many places.
-use Rattle.std.proofs.Common.{◌≡◌, ℕ, ◌*◌, ◌^◌, ◌<◌, ◌≤◌, true, nat_le, List, [], ◌∷◌, length, refl, ap, ◌∙◌, subst, arith}
+use Rattle.std.proofs.Common.{◌≡◌, ℕ, ◌+◌, ◌*◌, ◌≤◌, true, nat_le, List, [], ◌∷◌, length, refl, ap, ◌∙◌, subst, arith}
 use Rattle.std.specs.Prelude.{map, sum, vec_len, vec_capacity}
 use Rattle.std.specs.List.{list_all}
 use Rattle.std.proofs.lemmas.Bool.{and_parts}
@@ -16,8 +16,7 @@ use Rattle.pr_world.specs.declared.course.Course.{Course}
 use Rattle.pr_world.specs.Courses.{IsReached}
 use Rattle.pr_world.specs.inside.Participations.{StandsFor, schedule_of, participation_of}
 use Rattle.pr_world.specs.Rooms.{room_of}
-use Rattle.pr_world.specs.inside.Workings.{rooms}
-use Rattle.pr_world.specs.inside.Workings.{IsAtWork}
+use Rattle.pr_world.specs.inside.Workings.{commands_of, rooms, IsAtWork}
 
 room_of_task : (keys : List ℕ) (t : Task) → is_task keys t ≡ true → room_of t ≤ 4096
 room_of_task keys (Scripted script budget) fits =
@@ -38,23 +37,28 @@ rooms_in keys (n ∷ ns) fit =
     let parts = and_parts (is_nexus keys n) (list_all (is_nexus keys) ns) fit in
     omega (arith, sum_by-cons (λ x. x) (room_of n.task) (map (λ m. room_of m.task) ns), room_of_nexus keys n parts.0, rooms_in keys ns parts.1)
 
-few_rooms : (s : Scenario) → Fits s → sum (map (λ n. room_of n.task) s.nexuses) ≤ 65536
+few_rooms : (s : Scenario) → Fits s → commands_of s ≤ 65536
 few_rooms s fits = omega (arith, (counted s fits).1, rooms_in s.keys s.nexuses (each_nexus s fits))
 
 rooms_of_parts : (ns : List NexusPart) → map (λ n. room_of (task_of n.task)) ns ≡ map (λ n. room_of n.task) (map nexus_of ns)
 rooms_of_parts [] = refl
 rooms_of_parts (n ∷ ns) = ap (λ rs. room_of (task_of n.task) ∷ rs) (rooms_of_parts ns)
 
-pub rooms_are : (p q : Parts) (ns : List NexusPart) → q ≡ p → ns ≡ q.nexuses.items → sum (map (λ n. room_of (task_of n.task)) ns) ≡ rooms (scenario_of p)
+pub rooms_are : (p q : Parts) (ns : List NexusPart) → q ≡ p → ns ≡ q.nexuses.items → sum (map (λ n. room_of (task_of n.task)) ns) ≡ commands_of (scenario_of p)
 unfolding scenario_of
 rooms_are p q ns same items =
     ap (λ ms. sum (map (λ n. room_of (task_of n.task)) ms)) (items ∙ ap (λ r. r.nexuses.items) same) ∙ ap sum (rooms_of_parts p.nexuses.items)
 
-pub rooms_are_few : (p q : Parts) (ns : List NexusPart) → Fits (scenario_of p) → q ≡ p → ns ≡ q.nexuses.items → sum (map (λ n. room_of (task_of n.task)) ns) < 2 ^ 64
+pub rooms_are_few : (p q : Parts) (ns : List NexusPart) → Fits (scenario_of p) → q ≡ p → ns ≡ q.nexuses.items → sum (map (λ n. room_of (task_of n.task)) ns) ≤ 65536
 unfolding scenario_of
 rooms_are_few p q ns fits same items =
-    let few : rooms (scenario_of p) ≤ 65536 = few_rooms (scenario_of p) fits in
+    let few : commands_of (scenario_of p) ≤ 65536 = few_rooms (scenario_of p) fits in
     omega (arith, few, rooms_are p q ns same items)
+
+-- the room that is reserved, of the parts
+pub reserved : (p q : Parts) (ns : List NexusPart) (n : ℕ) → q ≡ p → ns ≡ q.nexuses.items → n ≡ sum (map (λ m. room_of (task_of m.task)) ns) → n + q.resets ≡ rooms (scenario_of p)
+unfolding scenario_of
+reserved p q ns n same items counted = ap (λ m. m + q.resets) (counted ∙ rooms_are p q ns same items) ∙ ap (λ r. commands_of (scenario_of p) + r.resets) same
 
 pub at_work_at_first : (p q : Parts) (c : Course) (room : ℕ) → q ≡ p → room ≡ rooms (scenario_of p) → IsReached (scenario_of q) [] (schedule_of c)
     → StandsFor (scenario_of q) c.unit (map participation_of c.participants.items) → (vec_len c.history ≡ 0) × (vec_capacity c.history ≡ room) → IsAtWork (scenario_of p) c

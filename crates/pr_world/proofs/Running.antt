@@ -1,4 +1,4 @@
--- Turns one after another, and what they come to.
+-- Turns and resets one after another, and what they come to.
 use Rattle.std.proofs.Common.{◌≡◌, ℕ, ◌+◌, ◌<◌, ◌≤◌, List, [], ◌∷◌, ◌++◌, length, take, Option, Some, None, Result, Ok, Err, refl, sym, ap, ◌∙◌, subst, get_or, arith}
 use Rattle.std.specs.Prelude.{map, vec_len, vec_capacity, IfOk}
 use Rattle.std.specs.List.{range_with_len}
@@ -8,10 +8,12 @@ use Rattle.std.proofs.Math.ListN.{get_or-map}
 use Rattle.pr_roles.specs.declared.item.Item.{Item}
 use Rattle.pr_roles.specs.Scenarios.{Scenario}
 use Rattle.pr_roles.specs.Worlds.{World, Event, Happens, Run, commands_by, world_from}
-use Rattle.pr_roles.specs.Schedules.{Schedule, Turn, ScheduledRun}
+use Rattle.pr_roles.specs.Schedules.{Schedule, Advances, Turn, ScheduledRun}
 use Rattle.pr_roles.specs.declared.entry.Entry.{Entry}
 use Rattle.pr_roles.specs.declared.how.How.{How}
 use Rattle.pr_roles.specs.declared.how.How.TheVariants as how
+use Rattle.pr_roles.specs.declared.step.Step.{Step}
+use Rattle.pr_roles.specs.declared.step.Step.TheVariants as step
 use Rattle.pr_world.specs.declared.course.Course.{Course}
 use Rattle.pr_world.specs.declared.participant.Participant.{Participant}
 use Rattle.pr_world.specs.declared.replaying.Replayed.{Replayed}
@@ -21,57 +23,66 @@ use Rattle.pr_world.specs.Ends.{ending_of, ending, endings}
 use Rattle.pr_world.proofs.Trapping.{trapped_ends}
 use Rattle.pr_world.specs.Replays.{IsEndOf, IsReplayed}
 
--- ---- one turn more
+-- ---- one step more
 
-pub scheduled_then : (s : Scenario) (x y z : Schedule) (hs : List (ℕ × How)) (h : ℕ × How) → ScheduledRun s x hs y → Turn s y h.0 h.1 z → ScheduledRun s x (hs ++ h ∷ []) z
-scheduled_then s x y z [] h run turn = (z, subst (λ w. Turn s w h.0 h.1 z) run turn, refl)
-scheduled_then s x y z (g ∷ hs) h run turn = (run.0, run.1, scheduled_then s run.0 y z hs h run.2 turn)
+pub scheduled_then : (s : Scenario) (x y z : Schedule) (steps : List Step) (next : Step) → ScheduledRun s x steps y → Advances s y next z → ScheduledRun s x (steps ++ next ∷ []) z
+scheduled_then s x y z [] next run advances = (z, subst (λ w. Advances s w next z) run advances, refl)
+scheduled_then s x y z (first ∷ steps) next run advances = (run.0, run.1, scheduled_then s run.0 y z steps next run.2 advances)
 
 pub run_then : (s : Scenario) (w v x : World) (es : List Event) (e : Event) → Run s w es v → Happens s v e x → Run s w (es ++ e ∷ []) x
 run_then s w v x [] e run happens = (x, subst (λ u. Happens s u e x) run happens, refl)
 run_then s w v x (f ∷ fs) e run happens = (run.0, run.1, run_then s run.0 v x fs e run.2 happens)
 
-pub reached_more : (s : Scenario) (steps : List (ℕ × How)) (x y : Schedule) (h : ℕ) (wanted : How) (o : Option Entry) → Turn s x h wanted y → HappensBy s h o x.world y.world → IsReached s steps x
-    → IsReached s (steps ++ (h, wanted) ∷ []) y
-reached_more s steps x y h wanted None turn same reached = record {
+-- a step that changes nothing of the world
+pub reached_still : (s : Scenario) (steps : List Step) (x y : Schedule) (next : Step) → Advances s x next y → y.world ≡ x.world → IsReached s steps x → IsReached s (steps ++ next ∷ []) y
+reached_still s steps x y next advances same reached = record {
   start = reached.start;
   first = reached.first;
   allowed = reached.allowed;
-  scheduled = scheduled_then s _ _ _ steps (h, wanted) reached.scheduled turn;
+  scheduled = scheduled_then s _ _ _ steps next reached.scheduled advances;
   events = reached.events;
   run = subst (λ w. Run s (world_from s reached.start) reached.events w) (sym same) reached.run;
 }
-reached_more s steps x y h wanted (Some e) turn one reached = record {
+
+-- a step that is one event
+pub reached_by : (s : Scenario) (steps : List Step) (x y : Schedule) (next : Step) (event : Event) → Advances s x next y → Happens s x.world event y.world → IsReached s steps x
+    → IsReached s (steps ++ next ∷ []) y
+reached_by s steps x y next event advances happens reached = record {
   start = reached.start;
   first = reached.first;
   allowed = reached.allowed;
-  scheduled = scheduled_then s _ _ _ steps (h, wanted) reached.scheduled turn;
-  events = reached.events ++ one.event ∷ [];
-  run = run_then s _ _ _ reached.events one.event reached.run one.happens;
+  scheduled = scheduled_then s _ _ _ steps next reached.scheduled advances;
+  events = reached.events ++ event ∷ [];
+  run = run_then s _ _ _ reached.events event reached.run happens;
 }
 
--- the turns before step i have led here, with room for one entry more at each step
-pub record IsRunning (s : Scenario) (steps : List (ℕ × How)) (i : ℕ) (c : Course) : Type 0 where
+pub reached_more : (s : Scenario) (steps : List Step) (x y : Schedule) (h : ℕ) (wanted : How) (o : Option Entry) → Turn s x h wanted y → HappensBy s h o x.world y.world → IsReached s steps x
+    → IsReached s (steps ++ step.Of h wanted ∷ []) y
+reached_more s steps x y h wanted None turn same reached = reached_still s steps x y (step.Of h wanted) turn same reached
+reached_more s steps x y h wanted (Some e) turn one reached = reached_by s steps x y (step.Of h wanted) one.event turn one.happens reached
+
+-- the steps before step i have led here, with room for one item more at each step
+pub record IsRunning (s : Scenario) (steps : List Step) (i : ℕ) (c : Course) : Type 0 where
   pub reached : IsReached s (take i steps) (schedule_of c)
   pub stands : StandsFor s c.unit (map participation_of c.participants.items)
   pub room : vec_capacity c.history ≡ length steps
   pub few : vec_len c.history ≤ i
 
-pub running_more : (s : Scenario) (steps : List (ℕ × How)) (i : ℕ) (or step : ℕ × How) (c d : Course) → i < length steps → IsRunning s steps i c
-    → step ≡ get_or steps i or → ((hs : List (ℕ × How)) → IsReached s hs (schedule_of c) → IsReached s (hs ++ step ∷ []) (schedule_of d))
+pub running_more : (s : Scenario) (steps : List Step) (i : ℕ) (or next : Step) (c d : Course) → i < length steps → IsRunning s steps i c
+    → next ≡ get_or steps i or → ((before : List Step) → IsReached s before (schedule_of c) → IsReached s (before ++ next ∷ []) (schedule_of d))
     → StandsFor s d.unit (map participation_of d.participants.items)
     → vec_capacity d.history ≡ vec_capacity c.history → vec_len d.history ≤ vec_len c.history + 1 → IsRunning s steps (i + 1) d
-running_more s steps i or step c d there running read more stands room few = record {
-  reached = subst (λ hs. IsReached s hs (schedule_of d)) (sym (take_more steps i or there ∙ ap (λ z. take i steps ++ z ∷ []) (sym read))) (more (take i steps) running.reached);
+running_more s steps i or next c d there running read more stands room few = record {
+  reached = subst (λ zs. IsReached s zs (schedule_of d)) (sym (take_more steps i or there ∙ ap (λ z. take i steps ++ z ∷ []) (sym read))) (more (take i steps) running.reached);
   stands = stands;
   room = room ∙ running.room;
   few = let before : vec_len c.history ≤ i = running.few in omega arith;
 }
 
-pub replayed : (s : Scenario) (steps : List (ℕ × How)) (i : ℕ) (c : Course) (r : Result Replayed AllocError) → IsRunning s steps i c → length steps ≤ i
+pub replayed : (s : Scenario) (steps : List Step) (i : ℕ) (c : Course) (r : Result Replayed AllocError) → IsRunning s steps i c → length steps ≤ i
     → IfOk r (IsEndOf (schedule_of c)) → IfOk r (IsReplayed s steps)
 replayed s steps i c (Ok r) running done outcome =
-    let here : IsReached s steps (schedule_of c) = subst (λ hs. IsReached s hs (schedule_of c)) (take_all i steps done) running.reached in
+    let here : IsReached s steps (schedule_of c) = subst (λ zs. IsReached s zs (schedule_of c)) (take_all i steps done) running.reached in
     record {
       start = here.start;
       first = here.first;
@@ -86,20 +97,20 @@ replayed s steps i c (Err e) running done outcome = outcome
 
 -- ---- turns that the unit answers
 
-abbrev pub plain : List ℕ → List (ℕ × How)
-plain hosts = map (λ host. (host, how.Plain)) hosts
+abbrev pub plain : List ℕ → List Step
+plain hosts = map (λ host. step.Of host how.Plain) hosts
 
 pub plain_more : (s : Scenario) (hosts : List ℕ) (i : ℕ) (c d : Course) → i < length hosts → IsRunning s (plain hosts) i c
-    → ((hs : List (ℕ × How)) → IsReached s hs (schedule_of c) → IsReached s (hs ++ (get_or hosts i 0, how.Plain) ∷ []) (schedule_of d))
+    → ((before : List Step) → IsReached s before (schedule_of c) → IsReached s (before ++ step.Of (get_or hosts i 0) how.Plain ∷ []) (schedule_of d))
     → StandsFor s d.unit (map participation_of d.participants.items)
     → vec_capacity d.history ≡ vec_capacity c.history → vec_len d.history ≤ vec_len c.history + 1 → IsRunning s (plain hosts) (i + 1) d
 plain_more s hosts i c d there running more stands room few =
-    running_more s (plain hosts) i (0, how.Plain) (get_or hosts i 0, how.Plain) c d (rw (length-map {B = ℕ × How} hosts (λ host. (host, how.Plain))) there) running
-    (sym (get_or-map (λ host. (host, how.Plain)) hosts i 0)) more stands room few
+    running_more s (plain hosts) i (step.Of 0 how.Plain) (step.Of (get_or hosts i 0) how.Plain) c d (rw (length-map hosts (λ host. step.Of host how.Plain)) there) running
+    (sym (get_or-map (λ host. step.Of host how.Plain) hosts i 0)) more stands room few
 
 pub plain_replayed : (s : Scenario) (hosts : List ℕ) (i : ℕ) (c : Course) (r : Result Replayed AllocError) → IsRunning s (plain hosts) i c → length hosts ≤ i
     → IfOk r (IsEndOf (schedule_of c)) → IfOk r (IsReplayed s (plain hosts))
-plain_replayed s hosts i c r running done outcome = replayed s (plain hosts) i c r running (rw (length-map {B = ℕ × How} hosts (λ host. (host, how.Plain))) done) outcome
+plain_replayed s hosts i c r running done outcome = replayed s (plain hosts) i c r running (rw (length-map hosts (λ host. step.Of host how.Plain)) done) outcome
 
 -- ---- how they stand
 

@@ -12,12 +12,12 @@ use Rattle.pr_unit.specs.UnitStates.{UnitState}
 use Rattle.pr_script.specs.Scripts.{Stmts}
 use Rattle.pr_roles.specs.Scenarios.{Scenario, Scripted, task}
 use Rattle.pr_roles.specs.Starts.{IsAllowedStart}
-use Rattle.pr_roles.specs.Worlds.{World, Event, Host, Guest, Happens, Control, Free, entry_of, is_guest_task, is_trapped, commands_by}
+use Rattle.pr_roles.specs.Worlds.{World, Event, Host, Guest, UnitReset, Happens, Control, Free, entry_of, is_guest_task, is_trapped, commands_by}
 use Rattle.pr_roles.specs.Safety.{IsSafe, IsLegal, KeepsBudgetBy}
 use Rattle.pr_roles.specs.declared.entry.Entry.{Entry}
 use Rattle.pr_roles.specs.declared.item.Item.{Item}
-use Rattle.pr_roles.specs.declared.item.Item.TheVariants.{Sent}
-use Rattle.pr_roles.specs.declared.how.How.{How}
+use Rattle.pr_roles.specs.declared.item.Item.TheVariants.{Sent, Reset}
+use Rattle.pr_roles.specs.declared.step.Step.{Step}
 use Rattle.pr_world.specs.declared.replaying.Replayed.{Replayed}
 use Rattle.pr_world.specs.Ends.{is_trapped_end}
 use Rattle.pr_world.specs.Laws.{IsPermittedAfter}
@@ -25,7 +25,7 @@ use Rattle.pr_world.specs.Replays.{IsReplayed}
 use Rattle.pr_world.proofs.Histories.{Reaches, last_same, legal_before, reached_before}
 use Rattle.pr_verify.proofs.Going.{safe_sends_are_fine}
 
-pub replay_is_legal : (s : Scenario) (steps : List (ℕ × How)) (r : Replayed) (x : IsReplayed s steps r) → IsLegal s x.start r.history.items
+pub replay_is_legal : (s : Scenario) (steps : List Step) (r : Replayed) (x : IsReplayed s steps r) → IsLegal s x.start r.history.items
 replay_is_legal s steps r x = (x.events, x.last.world, x.reached, sym x.outcome.history)
 
 -- where none at any place is trapped, none is
@@ -33,7 +33,7 @@ none_trapped : (ks : List Control) → ((h : ℕ) → is_trapped (option_map_or 
 none_trapped [] each = refl
 none_trapped (k ∷ ks) each = λ i. each zero i || none_trapped ks (λ h. each (suc h)) i
 
-pub safe_untrapped : (s : Scenario) (steps : List (ℕ × How)) (r : Replayed) → IsSafe s → IsReplayed s steps r → list_any is_trapped_end r.ends.items ≡ false
+pub safe_untrapped : (s : Scenario) (steps : List Step) (r : Replayed) → IsSafe s → IsReplayed s steps r → list_any is_trapped_end r.ends.items ≡ false
 unfolding IsSafe
 safe_untrapped s steps r safe x =
     x.outcome.trapped ∙ none_trapped x.last.world.controls (λ h. ((safe x.start x.allowed x.events x.last.world x.reached).0 h).0)
@@ -48,7 +48,7 @@ count_at es n h budget few = grind (arith, nat_tests, counted, uncounted)
     uncounted : (i : ℕ) → n ≤ i → slice_index (map (λ g. commands_by es g) (range_with_len 0 n)) i ≡ 0
     uncounted i past = get_or_past (map (λ g. commands_by es g) (range_with_len 0 n)) i 0 (rw (length-map-range_with_len (λ g. commands_by es g) 0 n) past)
 
-pub safe_budgets : (s : Scenario) (steps : List (ℕ × How)) (r : Replayed) → IsSafe s → IsReplayed s steps r → (h : ℕ) (script : Stmts) (budget : ℕ) → task s h ≡ Some (Scripted script budget)
+pub safe_budgets : (s : Scenario) (steps : List Step) (r : Replayed) → IsSafe s → IsReplayed s steps r → (h : ℕ) (script : Stmts) (budget : ℕ) → task s h ≡ Some (Scripted script budget)
     → slice_index r.counts.items h ≤ budget
 unfolding IsSafe
 safe_budgets s steps r safe x h script budget is =
@@ -83,8 +83,11 @@ permitted_after s u before e w v (Guest g wire so) safe allowed reaches sends ad
     let same = sent_same sent e (last_same w.history w.history (Sent sent) (Sent e) (sym (ap (λ x. x.history) sends.world) ∙ added)).1 in
     let here : task s g ≡ Some (Scripted script budget) = ap (λ (x : Entry). task s x.host) same ∙ is in
     absurd (false≢true (subst (λ t. IsTrue (is_guest_task t)) here sends.guest))
+permitted_after s u before e w v UnitReset safe allowed reaches resets added script budget is =
+    let same : Reset ≡ Sent e = (last_same w.history w.history Reset (Sent e) (sym (ap (λ x. x.history) resets.world) ∙ added)).1 in
+    cc
 
-pub safe_roles : (s : Scenario) (steps : List (ℕ × How)) (r : Replayed) → IsSafe s → (x : IsReplayed s steps r) → (before : List Item) (e : Entry) (rest : List Item) → r.history.items ≡ before ++ Sent e ∷ rest
+pub safe_roles : (s : Scenario) (steps : List Step) (r : Replayed) → IsSafe s → (x : IsReplayed s steps r) → (before : List Item) (e : Entry) (rest : List Item) → r.history.items ≡ before ++ Sent e ∷ rest
     → (script : Stmts) (budget : ℕ) → task s e.host ≡ Some (Scripted script budget) → IsPermittedAfter s x.start before e
 safe_roles s steps r safe x before e rest is =
     let one : before ++ Sent e ∷ rest ≡ (before ++ Sent e ∷ []) ++ rest = sym (append_assoc before (Sent e ∷ []) rest) in

@@ -1,14 +1,15 @@
 -- What a step answers is what its turn did.
-use Rattle.std.proofs.Common.{◌≡◌, ℕ, ◌<◌, IsTrue, List, [], ◌∷◌, ◌++◌, length, None, sym, ap, ◌∙◌, subst, arith}
+use Rattle.std.proofs.Common.{◌≡◌, ℕ, ◌<◌, true, IsTrue, List, [], ◌∷◌, ◌++◌, length, None, sym, ap, ◌∙◌, subst, arith}
 use Rattle.std.specs.Prelude.{map, codes, vec_len, vec_capacity}
 use Rattle.std.proofs.lemmas.Bool.{false≢true}
 use Rattle.arrayvec.specs.ArrayString.{ArrayString}
 use Rattle.pr_script.specs.Scripts.{stopped}
 use Rattle.pr_roles.specs.declared.parts.Parts.{Parts}
 use Rattle.pr_roles.specs.declared.how.How.{How}
+use Rattle.pr_roles.specs.declared.step.Step.{Step}
 use Rattle.pr_roles.specs.Scenarios.{Scenario, scenario_of}
 use Rattle.pr_roles.specs.Safety.{IsSafe}
-use Rattle.pr_roles.specs.Worlds.{control, is_trapped}
+use Rattle.pr_roles.specs.Worlds.{control, is_trapped, may_reset}
 use Rattle.pr_roles.specs.Schedules.{Turn as IsTurn}
 use Rattle.pr_world.specs.declared.act.Act.{Act}
 use Rattle.pr_world.specs.declared.act.Act.TheVariants as act
@@ -20,13 +21,13 @@ use Rattle.pr_world.specs.inside.Participations.{HappensBy, StandsFor, schedule_
 use Rattle.pr_world.specs.StepAnswers.{IfStopped, IfHeld, IsStopped, PassesOver}
 use Rattle.pr_world.specs.inside.Turns.{does, entry_in, sends, stops, is_done, passes, doing_of}
 use Rattle.pr_world.specs.inside.Workings.{IsAtWork}
-use Rattle.pr_world.proofs.Keeping.{turn_has_room}
+use Rattle.pr_world.proofs.Keeping.{reset_has_room, turn_has_room}
 use Rattle.pr_world.proofs.Meaning.{HasItsTask, has_its_task, means, stopped_is, stopped_rests, done_is, done_rests, passed_over}
 
 its_task_at : (s : Scenario) (c : Course) (h : ℕ) → IsAtWork s c → h < length s.nexuses → HasItsTask s (schedule_of c) h
 its_task_at s c h at_work there = has_its_task s c.unit (map participation_of c.participants.items) c.history.items h at_work.stands there
 
--- ---- before the turn
+-- ---- before the turn, or a reset
 
 pub step_has_room : (wanted : How) (p q : Parts) (c : Course) (h : ℕ) → q ≡ p → IsSafe (scenario_of p) → IsAtWork (scenario_of p) c → h < length (scenario_of p).nexuses
     → does (scenario_of q) (schedule_of c) h wanted ≡ sends → vec_len c.history < vec_capacity c.history
@@ -34,6 +35,13 @@ step_has_room wanted p q c h same safe at_work there does_so =
     let s = scenario_of p in
     let here : does s (schedule_of c) h wanted ≡ sends = subst (λ r. does (scenario_of r) (schedule_of c) h wanted ≡ sends) same does_so in
     let less = turn_has_room wanted s at_work.steps (schedule_of c) h safe at_work.reached (its_task_at s c h at_work there) here in
+    omega (arith, c.history.ok.0, at_work.room, less)
+
+pub reset_finds_room : (p q : Parts) (c : Course) → q ≡ p → IsSafe (scenario_of p) → IsAtWork (scenario_of p) c → may_reset (scenario_of q) c.history.items ≡ true
+    → vec_len c.history < vec_capacity c.history
+reset_finds_room p q c same safe at_work may =
+    let here : may_reset (scenario_of p) c.history.items ≡ true = subst (λ r. may_reset (scenario_of r) c.history.items ≡ true) same may in
+    let less = reset_has_room (scenario_of p) at_work.steps (schedule_of c) safe at_work.reached here in
     omega (arith, c.history.ok.0, at_work.room, less)
 
 pub never_trapped : (s : Scenario) (c : Course) (h : ℕ) → IsSafe s → IsAtWork s c → IsTrue (is_trapped (control (schedule_of c).world h)) → ⊥
@@ -61,12 +69,12 @@ is_turned wanted p q c d h a same at_work there does_so turn happens = record {
   happens = subst (λ r. HappensBy (scenario_of r) h (entry_in a) (schedule_of c).world (schedule_of d).world) same happens;
 }
 
-pub still_at_work : (p q : Parts) (c d : Course) (h : ℕ × How) → q ≡ p → IsAtWork (scenario_of p) c
-    → ((steps : List (ℕ × How)) → IsReached (scenario_of q) steps (schedule_of c) → IsReached (scenario_of q) (steps ++ h ∷ []) (schedule_of d))
+pub still_at_work : (p q : Parts) (c d : Course) (next : Step) → q ≡ p → IsAtWork (scenario_of p) c
+    → ((steps : List Step) → IsReached (scenario_of q) steps (schedule_of c) → IsReached (scenario_of q) (steps ++ next ∷ []) (schedule_of d))
     → StandsFor (scenario_of q) d.unit (map participation_of d.participants.items) → vec_capacity d.history ≡ vec_capacity c.history → IsAtWork (scenario_of p) d
-still_at_work p q c d h same at_work more stands room = record {
-  steps = at_work.steps ++ h ∷ [];
-  reached = subst (λ r. (steps : List (ℕ × How)) → IsReached (scenario_of r) steps (schedule_of c) → IsReached (scenario_of r) (steps ++ h ∷ []) (schedule_of d)) same more at_work.steps at_work.reached;
+still_at_work p q c d next same at_work more stands room = record {
+  steps = at_work.steps ++ next ∷ [];
+  reached = subst (λ r. (steps : List Step) → IsReached (scenario_of r) steps (schedule_of c) → IsReached (scenario_of r) (steps ++ next ∷ []) (schedule_of d)) same more at_work.steps at_work.reached;
   stands = subst (λ r. StandsFor (scenario_of r) d.unit (map participation_of d.participants.items)) same stands;
   room = room ∙ at_work.room;
 }

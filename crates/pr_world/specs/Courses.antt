@@ -4,7 +4,7 @@ use Rattle.std.specs.Prelude.{◌≡◌, ℕ, Bool, true, false, List, [], ◌�
 use Rattle.pr_unit.specs.UnitStates.{UnitState}
 use Rattle.pr_roles.specs.declared.entry.Entry.{Entry}
 use Rattle.pr_roles.specs.declared.item.Item.TheVariants.{Sent}
-use Rattle.pr_roles.specs.declared.how.How.{How}
+use Rattle.pr_roles.specs.declared.step.Step.{Step}
 use Rattle.pr_roles.specs.Scenarios.{Scenario, Task, Scripted, Planned}
 use Rattle.pr_roles.specs.Worlds.{World, Event, Happens, Run, world_from}
 use Rattle.pr_roles.specs.Starts.{IsAllowedStart, first_state}
@@ -21,9 +21,9 @@ pub record IsOneEvent (s : Scenario) (h : ℕ) (e : Entry) (w v : World) : Type 
   pub sender : e.host ≡ h
   pub added : v.history ≡ w.history ++ Sent e ∷ []
 
--- The turns of these steps led here from the first start, which the scenario allows. The history is that of a run,
+-- These steps led here from the first start, which the scenario allows. The history is that of a run,
 -- which leads from that start to the present world.
-pub record IsReached (s : Scenario) (steps : List (ℕ × How)) (y : Schedule) : Type 0 where
+pub record IsReached (s : Scenario) (steps : List Step) (y : Schedule) : Type 0 where
   pub start : UnitState
   pub first : first_state s ≡ Some start
   pub allowed : IsAllowedStart s start

@@ -13,6 +13,7 @@ use Rattle.pr_roles.specs.declared.entry.Entry.{Entry}
 use Rattle.pr_roles.specs.declared.item.Item.{Item}
 use Rattle.pr_roles.specs.declared.item.Item.TheVariants.{Sent}
 use Rattle.pr_roles.specs.declared.how.How.{How}
+use Rattle.pr_roles.specs.declared.step.Step.{Step}
 use Rattle.pr_roles.specs.Answers.{Answers}
 use Rattle.pr_roles.specs.Permits.{is_permitted}
 use Rattle.pr_roles.specs.Scenarios.{Scenario, Scripted, role, task}
@@ -27,17 +28,17 @@ use Rattle.pr_world.specs.Rooms.{room_by}
 
 -- the history of a replay is legal from its start
 abbrev pub ReplaysAreLegal : Type 0
-ReplaysAreLegal = (s : Scenario) (steps : List (ℕ × How)) (r : Replayed) (x : IsReplayed s steps r) → IsLegal s x.start r.history.items
+ReplaysAreLegal = (s : Scenario) (steps : List Step) (r : Replayed) (x : IsReplayed s steps r) → IsLegal s x.start r.history.items
 
 -- no host of a safe scenario is trapped in a replay
 abbrev pub SafeReplaysEndUntrapped : Type 0
 SafeReplaysEndUntrapped =
-    (s : Scenario) (steps : List (ℕ × How)) (r : Replayed) → IsSafe s → IsReplayed s steps r → list_any is_trapped_end r.ends.items ≡ false
+    (s : Scenario) (steps : List Step) (r : Replayed) → IsSafe s → IsReplayed s steps r → list_any is_trapped_end r.ends.items ≡ false
 
 -- in a replay of a safe scenario no host sends more commands than its budget
 abbrev pub SafeReplaysKeepBudgets : Type 0
 SafeReplaysKeepBudgets =
-    (s : Scenario) (steps : List (ℕ × How)) (r : Replayed) → IsSafe s → IsReplayed s steps r
+    (s : Scenario) (steps : List Step) (r : Replayed) → IsSafe s → IsReplayed s steps r
     → (h : ℕ) (script : Stmts) (budget : ℕ) → task s h ≡ Some (Scripted script budget) → slice_index r.counts.items h ≤ budget
 
 -- The history before this one have led to some state; in it the entry was answered, and where the answer is GOOD the
@@ -57,11 +58,11 @@ pub record IsPermittedAfter (s : Scenario) (start : UnitState) (before : List It
 -- in a replay of a safe scenario each entry of a host that ends GOOD is one that its role permits
 abbrev pub SafeReplaysKeepRoles : Type 0
 SafeReplaysKeepRoles =
-    (s : Scenario) (steps : List (ℕ × How)) (r : Replayed) → IsSafe s → (x : IsReplayed s steps r)
+    (s : Scenario) (steps : List Step) (r : Replayed) → IsSafe s → (x : IsReplayed s steps r)
     → (before : List Item) (e : Entry) (rest : List Item) → r.history.items ≡ before ++ Sent e ∷ rest
     → (script : Stmts) (budget : ℕ) → task s e.host ≡ Some (Scripted script budget) → IsPermittedAfter s x.start before e
 
--- where turns led in a safe scenario, no host has sent more than its budget, and no guest more than its plan has
+-- where turns and resets led in a safe scenario, no host has sent more than its budget, and no guest more than its plan has
 abbrev pub SafeSchedulesKeepToRooms : Type 0
 SafeSchedulesKeepToRooms =
-    (s : Scenario) (steps : List (ℕ × How)) (y : Schedule) → IsSafe s → IsReached s steps y → (h : ℕ) → commands_by y.world.history h ≤ room_by (task s h)
+    (s : Scenario) (steps : List Step) (y : Schedule) → IsSafe s → IsReached s steps y → (h : ℕ) → commands_by y.world.history h ≤ room_by (task s h)

@@ -1,15 +1,21 @@
 -- Agrees with docs/FORMATS.md, 'Replaying'.
 -- What a replay comes to.
-use Rattle.std.specs.Prelude.{◌≡◌, ℕ, List, Some, length, map}
+use Rattle.std.specs.Prelude.{◌≡◌, ℕ, ◌<◌, List, Some, length, map}
 use Rattle.std.specs.List.{list_any, range_with_len}
 use Rattle.pr_unit.specs.UnitStates.{UnitState}
-use Rattle.pr_roles.specs.declared.how.How.{How}
+use Rattle.pr_roles.specs.declared.step.Step.{Step}
+use Rattle.pr_roles.specs.declared.step.Step.TheVariants as step
 use Rattle.pr_roles.specs.Scenarios.{Scenario}
 use Rattle.pr_roles.specs.Starts.{IsAllowedStart, first_state}
 use Rattle.pr_roles.specs.Worlds.{Event, Run, is_trapped, commands_by, world_from}
 use Rattle.pr_roles.specs.Schedules.{Schedule, ScheduledRun, schedule_from}
 use Rattle.pr_world.specs.declared.replaying.Replayed.{Replayed}
 use Rattle.pr_world.specs.Ends.{ending_of, endings, is_trapped_end}
+
+-- whoever's turn it is, it is one of so many nexuses
+abbrev pub IsThere : ℕ → Step → Type 0
+IsThere n (step.Of host how) = host < n
+IsThere n step.Reset = Unit {0}
 
 -- how many commands of each nexus reached the unit
 abbrev pub counts_in : Schedule → List ℕ
@@ -26,7 +32,7 @@ pub record IsEndOf (y : Schedule) (r : Replayed) : Type 0 where
 
 -- The scheduled run of these steps from the first start, which the scenario allows, came to this. A run of the
 -- scenario leads from that start to the same world, so that what holds of every run holds of it.
-pub record IsReplayed (s : Scenario) (steps : List (ℕ × How)) (r : Replayed) : Type 0 where
+pub record IsReplayed (s : Scenario) (steps : List Step) (r : Replayed) : Type 0 where
   pub start : UnitState
   pub first : first_state s ≡ Some start
   pub allowed : IsAllowedStart s start

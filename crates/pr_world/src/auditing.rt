@@ -36,7 +36,7 @@ impl From<AllocError> for AuditError {
 /// A host's entry is legal where its script is ready to send just these bytes, and a guest's where the bytes
 /// are a request that its role permits, or that doesn't end GOOD. The unit may have answered so: where it
 /// may choose which attention it reports, any will do. Or the reply is BUSY or TASK SET FULL, no more often than the scenario
-/// declares for the nexus. Plans and budgets are no part of it.
+/// declares for the nexus. A reset is legal at any place, as often as the scenario declares. Plans and budgets are no part of it.
 pub fn audit(alloc: Global, scenario: &Scenario, history: &[Item]) -> Result<(), AuditError>
     ensures legal { IfOk result (λ _. IsLegalFromFirst (scenario_of scenario.now) history.now) }
     ensures illegal { IfErr result (Refuses (scenario_of scenario.now) history.now) }

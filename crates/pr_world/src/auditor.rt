@@ -7,6 +7,7 @@ ghost use Rattle.pr_roles.specs.Worlds.{control_of, world_from};
 ghost use Rattle.pr_world.specs.inside.Auditing.{ActFor, IsTried, control_by, how_of, world_at};
 
 use crate::refusing::may_come;
+use crate::resetting::may_reset;
 use crate::sender::Sender;
 use pr_cdb::Status;
 use pr_roles::{Entry, How, Item, Scenario, first_start};
@@ -35,7 +36,6 @@ impl Auditor {
     }
 
     /// Whether the item may come next after these, and then goes past it.
-    #[tactic(auto, using(crate::proofs::Adding::never_reset))]
     pub(crate) fn admits(&mut self, scenario: &Scenario, before: &[Item], item: &Item) -> bool
         requires { ActFor (scenario_of scenario.now) (world_at self.old []) }
         ensures tried { IsTried (scenario_of scenario.now) (world_at self.old before.now)
@@ -44,7 +44,7 @@ impl Auditor {
     {
         match item {
             Item::Sent(entry) => self.admits_sent(scenario, before, entry),
-            Item::Reset => false,
+            Item::Reset => self.admits_reset(scenario, before),
         }
     }
 
@@ -66,6 +66,20 @@ impl Auditor {
         }
         let role = &nexuses[index].role;
         self.senders[index].sends(&mut self.unit, role, entry, how)
+    }
+
+    // The same of a reset.
+    fn admits_reset(&mut self, scenario: &Scenario, before: &[Item]) -> bool
+        requires { ActFor (scenario_of scenario.now) (world_at self.old []) }
+        ensures tried { IsTried (scenario_of scenario.now) (world_at self.old before.now)
+            Item.Reset result (world_at self.new (before.now ++ Item.Reset ∷ [])) }
+        ensures acts { ActFor (scenario_of scenario.now) (world_at self.new []) }
+    {
+        let may = may_reset(scenario, before);
+        if may {
+            self.unit.reset();
+        }
+        may
     }
 }
 

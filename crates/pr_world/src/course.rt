@@ -1,23 +1,24 @@
-//! A scenario at work: its unit, its nexuses, and what was sent so far.
+//! A scenario at work: its unit, its nexuses, and what happened so far.
 
-ghost use Rattle.std.specs.Prelude.{◌≡◌, ◌<◌, ◌≤◌, ◌+◌, ◌^◌, ℕ, List, [], ◌∷◌, ◌++◌, Some, length, map, IfOk, vec_len, vec_capacity, IsTrue};
+ghost use Rattle.std.specs.Prelude.{◌≡◌, ◌<◌, ◌≤◌, ◌+◌, ◌^◌, true, List, [], ◌∷◌, ◌++◌, Some, length, map, IfOk, vec_len, vec_capacity, IsTrue};
 ghost use Rattle.std.specs.List.{range_with_len};
-ghost use Rattle.pr_roles.specs.declared.how.How.{How};
+ghost use Rattle.pr_roles.specs.declared.step.Step.{Step};
 ghost use Rattle.pr_roles.specs.Scenarios.{scenario_of};
-ghost use Rattle.pr_roles.specs.Schedules.{Turn, plan};
-ghost use Rattle.pr_roles.specs.Worlds.{control, is_trapped, commands_by};
+ghost use Rattle.pr_roles.specs.Schedules.{Turn, ResetTurn, plan};
+ghost use Rattle.pr_roles.specs.Worlds.{control, is_trapped, commands_by, may_reset};
 ghost use Rattle.pr_world.specs.Courses.{IsReached};
 ghost use Rattle.pr_world.specs.inside.Participations.{participation_of, participation_from, schedule_of, HappensBy, StandsFor};
 ghost use Rattle.pr_world.specs.inside.Turns.{doing_of, sends, does, entry_in};
 ghost use Rattle.pr_world.specs.Ends.{ending_of, ending};
-ghost use Rattle.pr_world.specs.Replays.{IsEndOf};
+ghost use Rattle.pr_world.specs.Replays.{IsEndOf, IsThere};
 
 use crate::act::Act;
 use crate::end::End;
 use crate::participant::Participant;
 use crate::refusing::how_now;
 use crate::replaying::Replayed;
-use pr_roles::{How, Item, Scenario, first_start};
+use crate::resetting::may_reset;
+use pr_roles::{How, Item, Scenario, Step, first_start};
 use pr_unit::Unit;
 use std::alloc::{AllocError, Global};
 
@@ -64,8 +65,8 @@ impl Course {
         ensures turn { Turn (scenario_of scenario.now) (schedule_of self.old) host how (schedule_of self.new) }
         ensures happens { HappensBy (scenario_of scenario.now) host (entry_in result)
             (schedule_of self.old).world (schedule_of self.new).world }
-        ensures reached { (steps : List (ℕ × How)) → IsReached (scenario_of scenario.now) steps (schedule_of self.old)
-            → IsReached (scenario_of scenario.now) (steps ++ (host, how) ∷ []) (schedule_of self.new) }
+        ensures reached { (steps : List Step) → IsReached (scenario_of scenario.now) steps (schedule_of self.old)
+            → IsReached (scenario_of scenario.now) (steps ++ Step.Of host how ∷ []) (schedule_of self.new) }
         ensures stands { StandsFor (scenario_of scenario.now) self.new.unit
             (map participation_of self.new.participants.items) }
         ensures length { vec_len self.new.history ≤ vec_len self.old.history + 1 }
@@ -79,6 +80,53 @@ impl Course {
             self.history.push_reserved(Item::Sent(entry.copy()));
         }
         act
+    }
+
+    /// Resets the unit, where a reset may still come; else it answers false, and nothing changes. It takes no memory, and room
+    /// for an item only where it resets.
+    pub(crate) fn reset(&mut self, scenario: &Scenario) -> bool
+        requires stands { StandsFor (scenario_of scenario.now) self.old.unit
+            (map participation_of self.old.participants.items) }
+        requires room { may_reset (scenario_of scenario.now) self.old.history.items ≡ true
+            → vec_len self.old.history < vec_capacity self.old.history }
+        ensures made { result ≡ may_reset (scenario_of scenario.now) self.old.history.items }
+        ensures turn { ResetTurn (scenario_of scenario.now) (schedule_of self.old) (schedule_of self.new) }
+        ensures reached { (steps : List Step) → IsReached (scenario_of scenario.now) steps (schedule_of self.old)
+            → IsReached (scenario_of scenario.now) (steps ++ Step.Reset ∷ []) (schedule_of self.new) }
+        ensures stands { StandsFor (scenario_of scenario.now) self.new.unit
+            (map participation_of self.new.participants.items) }
+        ensures length { vec_len self.new.history ≤ vec_len self.old.history + 1 }
+        ensures room { vec_capacity self.new.history ≡ vec_capacity self.old.history }
+    {
+        if !may_reset(scenario, &self.history) {
+            return false;
+        }
+        self.unit.reset();
+        self.history.push_reserved(Item::Reset);
+        true
+    }
+
+    /// Takes the step: the turn of a nexus, or a reset of the unit.
+    pub(crate) fn advance(&mut self, scenario: &Scenario, step: Step)
+        requires there { IsThere (length (scenario_of scenario.now).nexuses) step }
+        requires stands { StandsFor (scenario_of scenario.now) self.old.unit
+            (map participation_of self.old.participants.items) }
+        requires room { vec_len self.old.history < vec_capacity self.old.history }
+        ensures reached { (steps : List Step) → IsReached (scenario_of scenario.now) steps (schedule_of self.old)
+            → IsReached (scenario_of scenario.now) (steps ++ step ∷ []) (schedule_of self.new) }
+        ensures stands { StandsFor (scenario_of scenario.now) self.new.unit
+            (map participation_of self.new.participants.items) }
+        ensures length { vec_len self.new.history ≤ vec_len self.old.history + 1 }
+        ensures room { vec_capacity self.new.history ≡ vec_capacity self.old.history }
+    {
+        match step {
+            Step::Of(host, how) => {
+                self.turn(scenario, host, how);
+            }
+            Step::Reset => {
+                self.reset(scenario);
+            }
+        }
     }
 
     /// How the nexus stands.

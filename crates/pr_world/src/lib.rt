@@ -1,4 +1,4 @@
-//! Scenarios at work: the logical unit, and the scripts and plans that drive it, one turn after another.
+//! Scenarios at work: the logical unit, and the scripts and plans that drive it, one turn after another, with resets between.
 #![tactic(auto)]
 
 mod act;
@@ -11,6 +11,7 @@ mod participant;
 mod plan;
 mod refusing;
 mod replaying;
+mod resetting;
 mod sender;
 mod turn;
 mod world;
@@ -22,7 +23,7 @@ pub use laws::{
     replays_are_legal, safe_replays_end_untrapped, safe_replays_keep_budgets,
     safe_replays_keep_roles, safe_schedules_keep_to_rooms,
 };
-pub use pr_roles::{Entry, How, Item};
+pub use pr_roles::{Entry, How, Item, Step};
 pub use replaying::{Replayed, replay, replay_as};
 pub use turn::Turn;
 pub use world::{World, room_of};

@@ -1,14 +1,14 @@
-//! Replays: turns in an order that is given.
+//! Replays: turns and resets in an order that is given.
 
 ghost use Rattle.std.specs.Prelude.{◌≡◌, ◌<◌, ◌^◌, length, map, IfOk};
 ghost use Rattle.std.specs.List.{All, list_any};
 ghost use Rattle.pr_roles.specs.Scenarios.{scenario_of};
 ghost use Rattle.pr_world.specs.Ends.{is_trapped_end};
-ghost use Rattle.pr_world.specs.Replays.{IsReplayed};
+ghost use Rattle.pr_world.specs.Replays.{IsReplayed, IsThere};
 
 use crate::course::Course;
 use crate::end::End;
-use pr_roles::{How, Item, Scenario};
+use pr_roles::{How, Item, Scenario, Step};
 use pr_unit::Unit;
 use std::alloc::{AllocError, Global};
 
@@ -45,7 +45,7 @@ impl Replayed {
 pub fn replay(alloc: Global, scenario: &Scenario, steps: &[u8]) -> Result<Replayed, AllocError>
     requires there { All (λ host. host < length (scenario_of scenario.now).nexuses) steps.now }
     requires few { length steps.now < 2 ^ 32 }
-    ensures { IfOk result (IsReplayed (scenario_of scenario.now) (map (λ host. (host, How.Plain)) steps.now)) }
+    ensures { IfOk result (IsReplayed (scenario_of scenario.now) (map (λ host. Step.Of host How.Plain) steps.now)) }
 {
     let mut course = Course::begin(alloc, scenario, steps.len())?;
     for host in steps {
@@ -54,20 +54,18 @@ pub fn replay(alloc: Global, scenario: &Scenario, steps: &[u8]) -> Result<Replay
     course.outcome(alloc)
 }
 
-/// The same, where each step also says how the command is answered: by the unit, or by a refusal, if the scenario has one left
-/// for the nexus. Where it has none, the unit answers. A guest's command that is refused is used up, and never passed over.
-pub fn replay_as(
-    alloc: Global,
-    scenario: &Scenario,
-    steps: &[(u8, How)],
-) -> Result<Replayed, AllocError>
-    requires there { All (λ step. step.0 < length (scenario_of scenario.now).nexuses) steps.now }
+/// The same, where each turn's step also says how the command is answered: by the unit, or by a refusal, if the scenario has one
+/// left for the nexus. Where it has none, the unit answers. A guest's command that is refused is used up, and never passed over.
+///
+/// A step may also be a reset of the unit. Where the scenario has none left, it is passed over.
+pub fn replay_as(alloc: Global, scenario: &Scenario, steps: &[Step]) -> Result<Replayed, AllocError>
+    requires there { All (IsThere (length (scenario_of scenario.now).nexuses)) steps.now }
     requires few { length steps.now < 2 ^ 32 }
     ensures { IfOk result (IsReplayed (scenario_of scenario.now) steps.now) }
 {
     let mut course = Course::begin(alloc, scenario, steps.len())?;
-    for (host, how) in steps {
-        course.turn(scenario, *host, *how);
+    for step in steps {
+        course.advance(scenario, *step);
     }
     course.outcome(alloc)
 }

@@ -1,6 +1,6 @@
 //! A verified scenario at work.
 
-ghost use Rattle.std.specs.Prelude.{◌≡◌, ◌<◌, ◌^◌, ◌++◌, ◌∷◌, ℕ, List, [], Some, length, map, sum, IfOk, IfErr};
+ghost use Rattle.std.specs.Prelude.{◌≡◌, ◌<◌, ◌^◌, ◌++◌, ◌∷◌, true, false, List, [], Some, length, map, sum, IfOk, IfErr};
 ghost use Rattle.pr_roles.specs.Scenarios.{scenario_of, task_of};
 ghost use Rattle.pr_roles.specs.Safety.{IsSafe};
 ghost use Rattle.pr_world.specs.Courses.{IsReached};
@@ -10,15 +10,15 @@ use crate::act::Act;
 use crate::course::Course;
 use crate::end::End;
 use crate::turn::Turn;
-use pr_roles::{How, Item, Nexus, Scenario, Task};
+use pr_roles::{How, Item, Nexus, Scenario, Step, Task};
 use pr_script::end_word;
 use pr_unit::Unit;
 use pr_verify::Verified;
 use std::alloc::{AllocError, Global};
 use std::marker::Model;
 
-/// A verified scenario at work: what turns have led to from its first start. It has room for every command that can
-/// reach its unit, so that no turn takes memory.
+/// A verified scenario at work: what turns and resets have led to from its first start. It has room for every command that
+/// can reach its unit and for every reset, so that none of them takes memory.
 #[derive(Drop)]
 pub struct World {
     verified: Verified,
@@ -48,9 +48,9 @@ impl Model for World {
 }
 
 impl World {
-    ghost use Rattle.pr_roles.specs.declared.how.How.{How};
-    ghost use Rattle.pr_roles.specs.Schedules.{Turn as IsTurn, plan};
-    ghost use Rattle.pr_roles.specs.Worlds.{control};
+    ghost use Rattle.pr_roles.specs.declared.step.Step.{Step};
+    ghost use Rattle.pr_roles.specs.Schedules.{Turn as IsTurn, ResetTurn, plan};
+    ghost use Rattle.pr_roles.specs.Worlds.{IsReset, control, may_reset};
     ghost use Rattle.pr_world.specs.Courses.{IsOneEvent};
     ghost use Rattle.pr_world.specs.Ends.{ending, ending_of};
     ghost use Rattle.pr_world.specs.StepAnswers.{IfSent, IfStopped, IfHeld, IsStopped, PassesOver};
@@ -61,7 +61,8 @@ impl World {
         ensures first { IfOk result (λ world. IsReached (scenario_of verified) [] world.schedule) }
         ensures back { IfErr result (λ refused. refused.0 ≡ verified) }
     {
-        let room = room_for(&verified.scenario().parts().nexuses);
+        let parts = verified.scenario().parts();
+        let room = room_for(&parts.nexuses) + parts.resets as usize;
         match Course::begin(alloc, verified.scenario(), room) {
             Ok(course) => Ok(World { verified, course }),
             Err(refused) => Err((verified, refused)),
@@ -75,8 +76,8 @@ impl World {
         requires { host < length (scenario_of self.old.scenario).nexuses }
         ensures scenario { self.new.scenario ≡ self.old.scenario }
         ensures turn { IsTurn (scenario_of self.old.scenario) self.old.schedule host How.Plain self.new.schedule }
-        ensures reached { (steps : List (ℕ × How)) → IsReached (scenario_of self.old.scenario) steps self.old.schedule
-            → IsReached (scenario_of self.old.scenario) (steps ++ (host, How.Plain) ∷ []) self.new.schedule }
+        ensures reached { (steps : List Step) → IsReached (scenario_of self.old.scenario) steps self.old.schedule
+            → IsReached (scenario_of self.old.scenario) (steps ++ Step.Of host How.Plain ∷ []) self.new.schedule }
         ensures sent { IfSent result (λ entry.
             IsOneEvent (scenario_of self.old.scenario) host entry self.old.schedule.world self.new.schedule.world) }
         ensures stopped { IfStopped result (λ word.
@@ -95,8 +96,8 @@ impl World {
         requires { host < length (scenario_of self.old.scenario).nexuses }
         ensures scenario { self.new.scenario ≡ self.old.scenario }
         ensures turn { IsTurn (scenario_of self.old.scenario) self.old.schedule host how self.new.schedule }
-        ensures reached { (steps : List (ℕ × How)) → IsReached (scenario_of self.old.scenario) steps self.old.schedule
-            → IsReached (scenario_of self.old.scenario) (steps ++ (host, how) ∷ []) self.new.schedule }
+        ensures reached { (steps : List Step) → IsReached (scenario_of self.old.scenario) steps self.old.schedule
+            → IsReached (scenario_of self.old.scenario) (steps ++ Step.Of host how ∷ []) self.new.schedule }
         ensures sent { IfSent result (λ entry.
             IsOneEvent (scenario_of self.old.scenario) host entry self.old.schedule.world self.new.schedule.world) }
         ensures stopped { IfStopped result (λ word.
@@ -113,6 +114,20 @@ impl World {
         }
     }
 
+    /// Resets the unit, if fewer resets were made than the scenario declares; else it answers false, and nothing changes. It
+    /// takes no memory.
+    pub fn reset(&mut self) -> bool
+        ensures scenario { self.new.scenario ≡ self.old.scenario }
+        ensures made { result ≡ may_reset (scenario_of self.old.scenario) self.old.schedule.world.history }
+        ensures turn { ResetTurn (scenario_of self.old.scenario) self.old.schedule self.new.schedule }
+        ensures reached { (steps : List Step) → IsReached (scenario_of self.old.scenario) steps self.old.schedule
+            → IsReached (scenario_of self.old.scenario) (steps ++ Step.Reset ∷ []) self.new.schedule }
+        ensures reset { result ≡ true → IsReset (scenario_of self.old.scenario) self.old.schedule.world self.new.schedule.world }
+        ensures rests { result ≡ false → self.new.schedule ≡ self.old.schedule }
+    {
+        self.course.reset(self.verified.scenario())
+    }
+
     /// The verified scenario.
     pub fn scenario(&self) -> &Scenario
         ensures value { result.now ≡ self.now.scenario }
@@ -124,7 +139,7 @@ impl World {
     /// What happened to the unit, in order.
     pub fn history(&self) -> &[Item]
         ensures value { result.now ≡ self.now.schedule.world.history }
-        ensures reached { (steps : List (ℕ × How)) × IsReached (scenario_of self.now.scenario) steps self.now.schedule }
+        ensures reached { (steps : List Step) × IsReached (scenario_of self.now.scenario) steps self.now.schedule }
     {
         &self.course.history
     }

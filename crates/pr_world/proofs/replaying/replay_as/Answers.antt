@@ -2,9 +2,9 @@ use Rattle.std.proofs.Common.{refl}
 use Rattle.pr_world.proofs.Running.{running_more, replayed}
 use Rattle.pr_world.proofs.replaying.replay_as.Goals as goal
 
-pub loop-host-preserved : goal.loop-host-preserved
-loop-host-preserved c =
-    running_more _ _ _ _ _ _ _ c.loop-host-test.true c.loop-host.invariant refl c.turn.ensures.reached c.turn.ensures.stands c.turn.ensures.room c.turn.ensures.length
+pub loop-step-preserved : goal.loop-step-preserved
+loop-step-preserved c =
+    running_more _ _ _ _ _ _ _ c.loop-step-test.true c.loop-step.invariant refl c.advance.ensures.reached c.advance.ensures.stands c.advance.ensures.room c.advance.ensures.length
 
 pub returns : goal.returns
-returns c = replayed _ _ _ _ _ c.loop-host.invariant c.loop-host-test.false c.outcome.ensures
+returns c = replayed _ _ _ _ _ c.loop-step.invariant c.loop-step-test.false c.outcome.ensures

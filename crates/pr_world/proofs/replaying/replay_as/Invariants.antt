@@ -2,6 +2,6 @@ use Rattle.pr_roles.specs.Scenarios.{scenario_of}
 use Rattle.pr_world.proofs.Running.{IsRunning}
 use Rattle.pr_world.proofs.replaying.replay_as.Given as goal
 
--- the turns so far
-abbrev pub invariant-loop-host : goal.invariant-loop-host
-invariant-loop-host l = IsRunning (scenario_of l.scenario) l.steps l.host-index l.course
+-- the steps so far
+abbrev pub invariant-loop-step : goal.invariant-loop-step
+invariant-loop-step l = IsRunning (scenario_of l.scenario) l.steps l.step-index l.course

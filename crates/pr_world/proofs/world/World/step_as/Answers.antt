@@ -1,5 +1,6 @@
-use Rattle.std.proofs.Common.{◌<◌, ◌++◌, ◌∷◌, ℕ, List, [], length, ap, sym, subst}
-use Rattle.pr_roles.specs.declared.how.How.{How}
+use Rattle.std.proofs.Common.{◌<◌, ◌++◌, ◌∷◌, List, [], length, ap, sym, subst}
+use Rattle.pr_roles.specs.declared.step.Step.{Step}
+use Rattle.pr_roles.specs.declared.step.Step.TheVariants as step
 use Rattle.pr_roles.specs.Scenarios.{scenario_of}
 use Rattle.pr_world.specs.Courses.{IsReached}
 use Rattle.pr_world.specs.inside.Participations.{schedule_of}
@@ -21,7 +22,7 @@ invariant_of-self c = still_at_work _ _ _ _ _ c.scenario.ensures.value c.self.in
 pub returns-clause-reached : goal.returns-clause-reached
 returns-clause-reached c =
     rw (← c.self.view_is)
-    (subst (λ r. (steps : List (ℕ × How)) → IsReached (scenario_of r) steps (schedule_of c.self.inside.course) → IsReached (scenario_of r) (steps ++ (c.args.host, c.args.how) ∷ []) (schedule_of c.turn.new.self))
+    (subst (λ r. (steps : List Step) → IsReached (scenario_of r) steps (schedule_of c.self.inside.course) → IsReached (scenario_of r) (steps ++ step.Of c.args.host c.args.how ∷ []) (schedule_of c.turn.new.self))
     c.scenario.ensures.value c.turn.ensures.reached)
 
 pub returns-clause-stopped : goal.returns-clause-stopped
