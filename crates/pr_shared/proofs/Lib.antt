@@ -5,3 +5,4 @@ pub mod Matching
 pub mod Sending
 pub mod Starting
 pub mod TakenTurns
+pub mod Resets

@@ -6,6 +6,7 @@ use Rattle.std.specs.Option.{option_map_or}
 use Rattle.std.proofs.lemmas.Option.{slice_get-map}
 use Rattle.pr_cdb.specs.declared.command.Command.{Command}
 use Rattle.pr_roles.specs.declared.how.How.{How}
+use Rattle.pr_roles.specs.declared.step.Step.{Step}
 use Rattle.pr_roles.specs.Answers.{how_now}
 use Rattle.pr_roles.specs.Safety.{IsSafe}
 use Rattle.pr_roles.specs.Scenarios.{Scenario, Nexus, Task, Scripted, Planned, task}
@@ -18,7 +19,7 @@ use Rattle.pr_shared.specs.Guests.{guests_of}
 use Rattle.pr_shared.specs.Histories.{EndsLegally}
 
 -- what was sent ends the history that the turn leads to
-pub sent_legally : (guests : List Bool) (s t : Scenario) (h : ℕ) (x y : Schedule) (r : Turn) → guests_of s ≡ guests → t ≡ s → IsSafe t → (steps : List (ℕ × How)) × IsReached t steps y
+pub sent_legally : (guests : List Bool) (s t : Scenario) (h : ℕ) (x y : Schedule) (r : Turn) → guests_of s ≡ guests → t ≡ s → IsSafe t → (steps : List Step) × IsReached t steps y
     → IfSent r (λ e. IsOneEvent s h e x.world y.world) → IfSent r (EndsLegally guests)
 sent_legally guests s t h x y (turn.Sent e) guests_are same safe reached one = record {
   scenario = t;

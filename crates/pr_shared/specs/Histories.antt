@@ -3,7 +3,7 @@
 use Rattle.std.specs.Prelude.{◌≡◌, ℕ, Bool, true, false, List, [], ◌∷◌, ◌++◌, Some, map}
 use Rattle.std.specs.List.{count_by, filter_map, range_with_len}
 use Rattle.pr_unit.specs.UnitStates.{UnitState}
-use Rattle.pr_roles.specs.declared.how.How.{How}
+use Rattle.pr_roles.specs.declared.step.Step.{Step}
 use Rattle.pr_roles.specs.declared.entry.Entry.{Entry}
 use Rattle.pr_roles.specs.declared.item.Item.{Item}
 use Rattle.pr_roles.specs.declared.item.Item.TheVariants.{Sent, Reset}
@@ -44,4 +44,4 @@ pub record EndsLegally (guests : List Bool) (e : Entry) : Type 0 where
 
 -- Some turns led here, by a legal run, from the first start of the scenario.
 abbrev pub IsLegalWorld : Scenario → Schedule → Type 0
-IsLegalWorld s y = (steps : List (ℕ × How)) × IsReached s steps y
+IsLegalWorld s y = (steps : List Step) × IsReached s steps y

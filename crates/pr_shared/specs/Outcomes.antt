@@ -3,7 +3,7 @@
 use Rattle.std.specs.Prelude.{◌≡◌, ℕ, ◌≤◌, ◌==◌, Bool, true, false, IsTrue, List, [], Option, Some, None, length, map}
 use Rattle.std.specs.List.{list_all, range_with_len}
 use Rattle.pr_unit.specs.UnitStates.{UnitState}
-use Rattle.pr_roles.specs.declared.how.How.{How}
+use Rattle.pr_roles.specs.declared.step.Step.{Step}
 use Rattle.pr_roles.specs.declared.entry.Entry.{Entry}
 use Rattle.pr_roles.specs.declared.item.Item.{Item}
 use Rattle.pr_roles.specs.Scenarios.{Scenario, scenario_of}
@@ -35,7 +35,7 @@ AreOver s y = IsTrue (list_all is_over (endings_in s y))
 
 -- Turns led from the first start, by a legal run, to just this history, this unit and these ends, and all are over.
 pub record IsOutcome (s : Scenario) (o : Outcome) : Type 0 where
-  pub steps : List (ℕ × How)
+  pub steps : List Step
   pub last : Schedule
   pub reached : IsReached s steps last
   pub history : o.history.items ≡ last.world.history

@@ -14,6 +14,11 @@ pub trait Gate: Sync {
         How::Plain
     }
 
+    /// Whether the unit is reset just before turn `n` of this nexus. Where the scenario has no reset left, nothing happens.
+    fn resets(&self, _host: u8, _n: u32) -> bool {
+        false
+    }
+
     /// After turn `n` of this nexus, with what it answered.
     fn after(&self, host: u8, n: u32, turn: &Turn);
 }

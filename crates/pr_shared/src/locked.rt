@@ -3,7 +3,8 @@
 ghost use Rattle.std.specs.Prelude.{◌≡◌, ◌<◌, ◌≤◌, ◌++◌, true, false, Some, length, map, vec_len, vec_capacity};
 ghost use Rattle.std.specs.List.{slice_get, sum_by};
 ghost use Rattle.pr_roles.specs.Scenarios.{scenario_of};
-ghost use Rattle.pr_roles.specs.Schedules.{Turn as IsTurn};
+ghost use Rattle.pr_roles.specs.Schedules.{Turn as IsTurn, ResetTurn};
+ghost use Rattle.pr_roles.specs.Worlds.{may_reset};
 ghost use Rattle.pr_world.specs.Courses.{IsOneEvent};
 ghost use Rattle.pr_world.specs.StepAnswers.{IfSent, IfStopped, IfHeld, IsStopped, PassesOver};
 ghost use Rattle.pr_shared.specs.Guests.{guests_of};
@@ -65,6 +66,16 @@ impl<C: Round> Locked<C> {
             Turn::Held => {}
         }
         turn
+    }
+
+    /// Resets the unit where the scenario has one more reset, and says whether it did. No seat counts it.
+    #[tactic(auto, using(crate::proofs::Resets::counted_still))]
+    pub(crate) fn reset(&mut self) -> bool
+        ensures scenario { self.new.world.scenario ≡ self.old.world.scenario }
+        ensures made { result ≡ may_reset (scenario_of self.old.world.scenario) self.old.world.schedule.world.history }
+        ensures turn { ResetTurn (scenario_of self.old.world.scenario) self.old.world.schedule self.new.world.schedule }
+    {
+        self.world.reset()
     }
 
     /// The world, and the list of each seat. The ledger shows that the history has as many entries as the lists.

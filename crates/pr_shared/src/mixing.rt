@@ -47,6 +47,10 @@ impl<'a, G: Gate> Gate for Mixing<'a, G> {
         self.gate.how(host, n)
     }
 
+    fn resets(&self, host: u8, n: u32) -> bool {
+        self.gate.resets(host, n)
+    }
+
     fn after(&self, host: u8, n: u32, turn: &Turn) {
         self.gate.after(host, n, turn);
         self.progress.count(turn);

@@ -101,6 +101,12 @@ impl<C: Round> SharedWorld<C> {
         self.lock.lock(rt).turn(seat, how)
     }
 
+    /// Resets the unit (SAM-5, 'Logical unit reset'), if the scenario has one more reset left, and says whether it did. Else
+    /// nothing changes. It waits for the lock, and takes no memory.
+    pub fn reset<R: Wait>(&self, rt: &R) -> bool {
+        self.lock.lock(rt).reset()
+    }
+
     /// What the run came to, once each seat has ended. It takes no memory.
     ///
     /// It compares: the world has to be one of the scenario that `begin` was given, each seat's list has to be what its host

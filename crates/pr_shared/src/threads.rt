@@ -111,6 +111,9 @@ fn work<C: Round, G: Gate, R: Wait>(
             break;
         }
         gate.before(host, n);
+        if gate.resets(host, n) {
+            shared.reset(rt);
+        }
         let turn = shared.turn_as(rt, &mut seat, gate.how(host, n));
         gate.after(host, n, &turn);
     }
