@@ -5,7 +5,7 @@ use Rattle.std.proofs.lemmas.Bool.{false≢true}
 use Rattle.std.proofs.lemmas.List.{length-map}
 use Rattle.std.proofs.lemmas.Bool.Decides.{nat_tests}
 use Rattle.std.proofs.lemmas.Option.{none-some, same_Some}
-use Rattle.pr_roles.specs.declared.how.How.{How}
+use Rattle.pr_roles.specs.declared.step.Step.{Step}
 use Rattle.pr_roles.specs.declared.parts.Parts.{Parts}
 use Rattle.pr_roles.specs.Scenarios.{scenario_of}
 use Rattle.pr_roles.proofs.Apart.{names_of_parts, length_of_parts}
@@ -33,20 +33,20 @@ unfolding scenario_of
 nexuses_in p = length_of_parts p.nexuses.items
 
 -- there are as many steps as words
-pub named_length : (version : ℕ) (ns words : List (List ℕ)) (steps : List (ℕ × How)) → steps_of version ns words ≡ Some steps → length steps ≡ length words
+pub named_length : (version : ℕ) (ns words : List (List ℕ)) (steps : List Step) → steps_of version ns words ≡ Some steps → length steps ≡ length words
 named_length version ns [] steps is = ap length (sym (same_Some _ _ is))
 named_length version ns (w ∷ ws) steps is = first (step_in version ns w) is (named_length version ns ws)
   where
-    rest : (h : ℕ × How) (o : Option (List (ℕ × How))) → option_map (λ hs. h ∷ hs) o ≡ Some steps → ((hs : List (ℕ × How)) → o ≡ Some hs → length hs ≡ length ws) → length steps ≡ length (w ∷ ws)
+    rest : (h : Step) (o : Option (List Step)) → option_map (λ hs. h ∷ hs) o ≡ Some steps → ((hs : List Step) → o ≡ Some hs → length hs ≡ length ws) → length steps ≡ length (w ∷ ws)
     rest h None is later = absurd (none-some steps is)
     rest h (Some hs) is later = omega (arith, ap length (same_Some _ _ is), later hs refl)
 
-    first : (o : Option (ℕ × How)) → option_and_then (λ h. option_map (λ hs. h ∷ hs) (steps_of version ns ws)) o ≡ Some steps
-        → ((hs : List (ℕ × How)) → steps_of version ns ws ≡ Some hs → length hs ≡ length ws) → length steps ≡ length (w ∷ ws)
+    first : (o : Option Step) → option_and_then (λ h. option_map (λ hs. h ∷ hs) (steps_of version ns ws)) o ≡ Some steps
+        → ((hs : List Step) → steps_of version ns ws ≡ Some hs → length hs ≡ length ws) → length steps ≡ length (w ∷ ws)
     first None is later = absurd (none-some steps is)
     first (Some h) is later = rest h (steps_of version ns ws) is later
 
-planned_trace : (steps : List (List ℕ)) (text : List ℕ) (p : Parts) (r : Replayed) (turns : List (ℕ × How)) → IsWrittenAs text (scenario_of p)
+planned_trace : (steps : List (List ℕ)) (text : List ℕ) (p : Parts) (r : Replayed) (turns : List Step) → IsWrittenAs text (scenario_of p)
     → steps_of (scenario_of p).version (names_in (scenario_of p)) steps ≡ Some turns → IsReplayed (scenario_of p) turns r
     → IsTraceOf steps text (planned_text (record { scenario = p; replayed = r })) (is_refused (record { scenario = p; replayed = r }))
 planned_trace steps text p r turns written named is = record {
@@ -62,7 +62,7 @@ planned_trace steps text p r turns written named is = record {
   refused_is = is.outcome.trapped;
 }
 
-pub planned : (steps : List (List ℕ)) (known : Option (List ℕ)) (p : Parts) (r : Replayed) (turns : List (ℕ × How)) → has_wrong_count steps ≡ false
+pub planned : (steps : List (List ℕ)) (known : Option (List ℕ)) (p : Parts) (r : Replayed) (turns : List Step) → has_wrong_count steps ≡ false
     → IfSome known (λ text. IsWrittenAs text (scenario_of p)) → steps_of (scenario_of p).version (names_in (scenario_of p)) steps ≡ Some turns → IsReplayed (scenario_of p) turns r
     → IsPlanned steps known (Ok (record { scenario = p; replayed = r }))
 planned steps known p r turns counted read named is = record {

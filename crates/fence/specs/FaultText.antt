@@ -28,6 +28,7 @@ which_word which.Roles = codes "Roles"
 which_word which.Plan = codes "Plan"
 which_word which.Busy = codes "Busy"
 which_word which.Full = codes "Full"
+which_word which.Resets = codes "Resets"
 
 -- a fault of a whole text, and one of a line, by number and name; the first word tells which text
 abbrev pub of_whole : List ℕ → List ℕ → List ℕ → List (List ℕ)

@@ -3,7 +3,7 @@
 use Rattle.std.specs.Prelude.{◌≡◌, ℕ, Bool, true, false, IsTrue, List, Option, Some, None, IfSome, Result, Err}
 use Rattle.std.specs.List.{list_any}
 use Rattle.pr_unit.specs.UnitStates.{UnitState}
-use Rattle.pr_roles.specs.declared.how.How.{How}
+use Rattle.pr_roles.specs.declared.step.Step.{Step}
 use Rattle.pr_roles.specs.Scenarios.{Scenario}
 use Rattle.pr_roles.specs.Starts.{first_state}
 use Rattle.pr_roles.specs.Worlds.{is_trapped}
@@ -21,7 +21,7 @@ use Rattle.fence.specs.Steps.{steps_of, has_wrong_count}
 pub record IsTraceOf (steps : List (List ℕ)) (text trace : List ℕ) (refused : Bool) : Type 0 where
   pub scenario : Scenario
   pub read : IsWrittenAs text scenario
-  pub turns : List (ℕ × How)
+  pub turns : List Step
   pub named : steps_of scenario.version (names_in scenario) steps ≡ Some turns
   pub start : UnitState
   pub first : first_state scenario ≡ Some start

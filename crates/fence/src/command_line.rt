@@ -61,7 +61,7 @@ fn outline<'a>(alloc: Global) -> Result<Command<'a>, AllocError> {
 fn replay<'a>(alloc: Global) -> Result<Command<'a>, AllocError> {
     let steps = Arg::new(alloc, "STEP")
         .help(
-            "The name of the host or guest whose turn is next, one word for each turn; in version 2 NAME:busy and NAME:full too",
+            "The name of the host or guest whose turn is next, one word for each turn; in version 2 also NAME:busy, NAME:full and :reset",
         )
         .action(ArgAction::Append)
         .num_args(1..)

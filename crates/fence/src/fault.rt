@@ -318,6 +318,7 @@ fn which_word(which: Which) -> &'static [u8]
         Which::Plan => b"Plan",
         Which::Busy => b"Busy",
         Which::Full => b"Full",
+        Which::Resets => b"Resets",
     }
 }
 

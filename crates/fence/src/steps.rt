@@ -1,26 +1,27 @@
-//! The steps of a replay: names of nexuses, and how their commands are answered.
+//! The steps of a replay: names of nexuses, and how their commands are answered; or resets of the unit.
 
 ghost use Rattle.std.specs.Prelude.{◌≡◌, ◌<◌, ◌≤◌, IfOk, IfSome, codes, length, map, option_map, take};
 ghost use Rattle.std.specs.List.{All};
 ghost use Rattle.pr_cdb.specs.declared.codes.TheConstants.{MOST_NEXUSES};
+ghost use Rattle.pr_world.specs.Replays.{IsThere};
 ghost use Rattle.pr_report.specs.TraceText.{names_of};
-ghost use Rattle.fence.specs.Steps.{asked_of, front_of, has_ending, step_in, steps_of};
+ghost use Rattle.fence.specs.Steps.{asked_of, front_of, has_ending, is_reset_step, step_in, steps_of};
 
 use pr_report::number_of;
-use pr_roles::{How, Nexus};
+use pr_roles::{How, Nexus, Step};
 use std::alloc::{AllocError, Global};
 
-/// The numbers of the nexuses that the words name, each with how its command is answered: `a`, and from version 2 on `a:busy`
-/// and `a:full`. There are none where one of the words is no step.
+/// What the words ask for: the turn of a nexus, `a`, and from version 2 on `a:busy`, `a:full` and a reset, `:reset`. There are
+/// none where one of the words is no step.
 pub fn steps_of(
     alloc: Global,
     words: &[&str],
     version: u8,
     nexuses: &[Nexus],
-) -> Result<Option<Vec<(u8, How)>>, AllocError>
+) -> Result<Option<Vec<Step>>, AllocError>
     requires { length nexuses.now ≤ MOST_NEXUSES }
     ensures named { IfOk result (λ found. option_map (λ steps. steps.items) found ≡ steps_of version (names_of nexuses.now) (map (λ w. w.now) words.now)) }
-    ensures there { IfOk result (λ found. IfSome found (λ steps. All (λ step. step.0 < length nexuses.now) steps.items)) }
+    ensures there { IfOk result (λ found. IfSome found (λ steps. All (IsThere (length nexuses.now)) steps.items)) }
 {
     let mut steps = Vec::with_capacity(alloc, words.len())?;
     for word in words {
@@ -33,11 +34,14 @@ pub fn steps_of(
 }
 
 #[tactic(auto, unfolding(crate::specs::Steps::step_in))]
-fn step_in(version: u8, nexuses: &[Nexus], word: &[u8]) -> Option<(u8, How)>
+fn step_in(version: u8, nexuses: &[Nexus], word: &[u8]) -> Option<Step>
     requires { length nexuses.now ≤ MOST_NEXUSES }
     ensures step { result ≡ step_in version (names_of nexuses.now) word.now }
-    ensures there { IfSome result (λ step. step.0 < length nexuses.now) }
+    ensures there { IfSome result (IsThere (length nexuses.now)) }
 {
+    if is_reset_step(version, word) {
+        return Some(Step::Reset);
+    }
     if has_ending(version, ":busy", word) {
         return asked_of(nexuses, without(":busy", word), How::Busy);
     }
@@ -47,13 +51,20 @@ fn step_in(version: u8, nexuses: &[Nexus], word: &[u8]) -> Option<(u8, How)>
     asked_of(nexuses, word, How::Plain)
 }
 
-fn asked_of(nexuses: &[Nexus], name: &[u8], how: How) -> Option<(u8, How)>
+fn asked_of(nexuses: &[Nexus], name: &[u8], how: How) -> Option<Step>
     requires { length nexuses.now ≤ MOST_NEXUSES }
     ensures asked { result ≡ asked_of (names_of nexuses.now) name.now how }
-    ensures there { IfSome result (λ step. step.0 < length nexuses.now) }
+    ensures there { IfSome result (IsThere (length nexuses.now)) }
 {
     let host = number_of(nexuses, name)?;
-    Some((host, how))
+    Some(Step::Of(host, how))
+}
+
+// From version 2 on a word may ask for a reset.
+fn is_reset_step(version: u8, word: &[u8]) -> bool
+    ensures { result ≡ is_reset_step version word.now }
+{
+    version >= 2 && word == ":reset".as_bytes()
 }
 
 // From version 2 on the word may have this ending, and has it.

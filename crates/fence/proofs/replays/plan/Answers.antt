@@ -3,6 +3,7 @@ use Rattle.std.proofs.Common.{◌≡◌, ◌<◌, List, ℕ, length, Some, sym, 
 use Rattle.std.specs.Prelude.{map, option_map, IfSome}
 use Rattle.std.specs.List.{All}
 use Rattle.pr_roles.specs.Scenarios.{scenario_of}
+use Rattle.pr_world.specs.Replays.{IsThere}
 use Rattle.pr_report.specs.TraceText.{names_in, names_of}
 use Rattle.fence.specs.Steps.{steps_of}
 use Rattle.fence.proofs.Naming.{few_nexuses}
@@ -29,8 +30,8 @@ replay_as-requires-clause-there g c =
     let p = c.in_ok-scenario.scenario in
     let long : length c.deref.result.now ≡ length (scenario_of p).nexuses =
     ap length (c.deref.ensures.value ∙ ap (λ p. p.nexuses.items) c.parts-parts.ensures.value) ∙ sym (nexuses_in p) in
-    let here = subst (λ o. IfSome o (λ steps. All (λ s. s.0 < length c.deref.result.now) steps.items)) c.in-Some.is c.in_ok-turns.ensures.there in
-    subst (All (λ s. s.0 < length (scenario_of p).nexuses)) (sym c.deref-2.ensures.value) (subst (λ n. All (λ s. s.0 < n) c.in-Some.turns.items) long here)
+    let here = subst (λ o. IfSome o (λ steps. All (IsThere (length c.deref.result.now)) steps.items)) c.in-Some.is c.in_ok-turns.ensures.there in
+    subst (All (IsThere (length (scenario_of p).nexuses))) (sym c.deref-2.ensures.value) (subst (λ n. All (IsThere n) c.in-Some.turns.items) long here)
 
 pub replay_as-requires-clause-few : goal.replay_as-requires-clause-few
 replay_as-requires-clause-few g c =

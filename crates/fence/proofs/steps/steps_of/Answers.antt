@@ -3,6 +3,7 @@ use Rattle.std.proofs.Common.{◌<◌, ◌+◌, length, drop, sym, ap, ◌∙◌
 use Rattle.std.specs.Prelude.{map}
 use Rattle.std.specs.List.{All}
 use Rattle.std.proofs.lemmas.List.{drop_more}
+use Rattle.pr_world.specs.Replays.{IsThere}
 use Rattle.pr_report.specs.TraceText.{names_of}
 use Rattle.fence.specs.Steps.{steps_of}
 use Rattle.fence.proofs.Naming.{onto, named_more, named_none, all_more}
@@ -23,7 +24,7 @@ loop-word-preserved c =
     let more = named_more version names _ (map (λ w. w.now) (drop (c.loop-word.word-index + 1) c.args.words.now)) c.in-Some.step c.loop-word.steps.items (sym (rw c.as_bytes.ensures.value at c.step_in.ensures.step) ∙ c.in-Some.is) in
     let items = c.in_ok-push-in-Some.ensures.items in (
       c.loop-word.invariant.0 ∙ (this ∙ (more ∙ ap (λ l. onto l (steps_of version names (map (λ w. w.now) (drop (c.loop-word.word-index + 1) c.args.words.now)))) (sym items))),
-      subst (All (λ step. step.0 < length c.args.nexuses.now)) (sym items)
+      subst (All (IsThere (length c.args.nexuses.now))) (sym items)
           (all_more (length c.args.nexuses.now) c.in-Some.step c.loop-word.steps.items c.loop-word.invariant.1
-          (subst (λ o. IfSome o (λ step. step.0 < length c.args.nexuses.now)) c.in-Some.is c.step_in.ensures.there)),
+          (subst (λ o. IfSome o (IsThere (length c.args.nexuses.now))) c.in-Some.is c.step_in.ensures.there)),
     )
