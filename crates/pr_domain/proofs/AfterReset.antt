@@ -3,6 +3,7 @@ use Rattle.std.proofs.Common.{◌≡◌, ℕ, ◌<◌, Bool, true, false, ◌==�
 use Rattle.std.specs.FinSet as set
 use Rattle.std.proofs.lemmas.Bool.{and_parts}
 use Rattle.std.proofs.lemmas.Bool.Decides.{nat_tests}
+use Rattle.std.proofs.Math.Bool.{or_comm}
 use Rattle.pr_attention.specs.declared.attention.Attention.TheVariants.{PowerOn}
 use Rattle.pr_attention.specs.Attentions.{power_on}
 use Rattle.pr_attention.specs.Flagged.{codes_of}
@@ -29,18 +30,12 @@ so_after_reset s u q hosts own so = (or_flag-lt q PowerOn so.0, λ code. told co
     there : nat_lt s.own u.registry.hosts ≡ true
     there = let small : s.own < u.registry.hosts = subst (λ n. s.own < n) (sym hosts) own in grind (arith, nat_tests)
 
-    either_order : (a b : Bool) → (a || b) ≡ (b || a)
-    either_order true true = refl
-    either_order true false = refl
-    either_order false true = refl
-    either_order false false = refl
-
     told : (code : ℕ) → is_pending (reset u) s.own code ≡ set.contains (codes_of (bit_or q 1)) code
     told code =
         pending-reset u s.own code
         ∙ ap (λ b. is_pending u s.own code || (b && code == power_on)) there
         ∙ ap (λ b. b || code == power_on) (so.1 code)
-        ∙ either_order (set.contains (codes_of q) code) (code == power_on)
+        ∙ or_comm (set.contains (codes_of q) code) (code == power_on)
         ∙ sym (ap (λ (s : set.FinSet _). set.contains s code) (codes_of-or_flag q PowerOn) ∙ contains-insert_code (codes_of q) power_on code)
 
 below_all : (q : ℕ) (w : Word) → q < 16 → has w q ≡ true → first 16 w q ≡ true

@@ -90,6 +90,18 @@ impl Registry {
         })
     }
 
+    /// An equal one.
+    pub fn copy(&self) -> Self
+        ensures { result ≡ self.now }
+    {
+        Registry {
+            hosts: self.hosts,
+            slots: self.slots,
+            held: self.held,
+            generation: self.generation,
+        }
+    }
+
     /// How many hosts there are, at least 1 and at most [`MOST_NEXUSES`].
     pub fn hosts(&self) -> u8
         ensures value { result ≡ self.now.hosts }

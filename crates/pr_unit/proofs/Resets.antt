@@ -3,6 +3,7 @@ use Rattle.std.proofs.Common.{◌≡◌, ℕ, ◌<◌, ◌+◌, Bool, true, fals
 use Rattle.std.specs.FinSet as set
 use Rattle.std.proofs.lemmas.Bool.{false≢true}
 use Rattle.std.proofs.lemmas.Bool.Decides.{nat_tests}
+use Rattle.std.proofs.Math.Bool.{or-false}
 use Rattle.pr_sets.proofs.Members.{lt-suc}
 use Rattle.pr_attention.specs.Attentions.{no_code, is_attention}
 use Rattle.pr_attention.proofs.Sets.{contains-insert_code, contains-no_code}
@@ -14,14 +15,10 @@ use Rattle.pr_unit.proofs.Pairs.{same_pairs, contains-insert-pair, contains-unio
 abbrev every_host : ℕ → ℕ → Pairs
 every_host n code = pairs_where n (λ h. set.insert no_code code)
 
-or_false : (b : Bool) → (b || false) ≡ b
-or_false true = refl
-or_false false = refl
-
 contains-every_host : (n code q x : ℕ) → set.contains (every_host n code) (q, x) ≡ (nat_lt q n && x == code)
 contains-every_host n code q x =
     contains-pairs_where n (λ h. set.insert no_code code) q x
-    ∙ ap (λ b. nat_lt q n && b) (contains-insert_code no_code code x ∙ ap (λ b. x == code || b) (contains-no_code x) ∙ or_false (x == code))
+    ∙ ap (λ b. nat_lt q n && b) (contains-insert_code no_code code x ∙ ap (λ b. x == code || b) (contains-no_code x) ∙ or-false (x == code))
 
 contains-told : (old : Pairs) (n code q x : ℕ) → set.contains (set.union old (every_host n code)) (q, x) ≡ (set.contains old (q, x) || (nat_lt q n && x == code))
 contains-told old n code q x =
@@ -30,7 +27,7 @@ contains-told old n code q x =
 -- no host yet
 pub told_nobody : (old : Pairs) (code : ℕ) → old ≡ set.union old (every_host 0 code)
 told_nobody old code =
-    same_pairs _ _ (λ p. sym (contains-told old 0 code p.0 p.1 ∙ ap (λ b. set.contains old p || (b && p.1 == code)) (not_below p.0) ∙ or_false (set.contains old p)))
+    same_pairs _ _ (λ p. sym (contains-told old 0 code p.0 p.1 ∙ ap (λ b. set.contains old p || (b && p.1 == code)) (not_below p.0) ∙ or-false (set.contains old p)))
   where
     not_below : (q : ℕ) → nat_lt q 0 ≡ false
     not_below q = grind (arith, nat_tests)

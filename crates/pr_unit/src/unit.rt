@@ -88,6 +88,16 @@ impl Unit {
         })
     }
 
+    /// An equal one.
+    pub fn copy(&self) -> Self
+        ensures { result ≡ self.now }
+    {
+        Unit {
+            registry: self.registry.copy(),
+            pending: table_of(&self.pending),
+        }
+    }
+
     /// What is pending for the host.
     pub fn pending(&self, host: u8) -> &Pending
         requires { host < self.now.registry.hosts }
