@@ -8,7 +8,8 @@ use pr_cdb::codes::UNIT_ATTENTION;
 use pr_cdb::{Reply, Status, holder_of, keys_of};
 
 impl Test {
-    pub(crate) fn matches(self, reply: &Reply) -> bool
+    /// Whether an arm with this test takes the reply.
+    pub fn matches(self, reply: &Reply) -> bool
         ensures { result ≡ matches self reply.now }
     {
         let is_good = reply.status == Status::Good;
