@@ -6,7 +6,7 @@ use Rattle.std.proofs.lemmas.Option.{slice_get-get_or}
 use Rattle.pr_cdb.specs.declared.command.Command.{Command}
 use Rattle.pr_cdb.specs.declared.wire.Request.TheVariants.{Plain}
 use Rattle.pr_roles.specs.declared.how.Refusals.{Refusals}
-use Rattle.pr_roles.specs.Answers.{Answered}
+use Rattle.pr_roles.specs.DeclaredRefusals.{Answered}
 use Rattle.pr_script.specs.declared.script.Test.{Test}
 use Rattle.pr_sets.specs.Numbers.{Numbers}
 use Rattle.pr_views.specs.declared.possibilities.Possibilities.{Possibilities}

@@ -17,7 +17,8 @@ use Rattle.pr_unit.specs.Steps.{Step, Reports as ReportsSome}
 use Rattle.pr_roles.specs.declared.how.How.TheVariants as answer
 use Rattle.pr_roles.specs.declared.how.Refusals.{Refusals}
 use Rattle.pr_roles.specs.declared.how.How.{How}
-use Rattle.pr_roles.specs.Answers.{Answers, Answered, is_among}
+use Rattle.pr_roles.specs.Answers.{Answers}
+use Rattle.pr_roles.specs.DeclaredRefusals.{Answered, is_among}
 use Rattle.pr_domain.specs.declared.reporting.Refused.TheVariants as refused
 use Rattle.pr_domain.specs.inside.Reporting.{Ending, Reports, Conflicts, Fails, EndsGood, Refuses, IsReport, Ends, comes}
 

@@ -11,7 +11,7 @@ use Rattle.pr_unit.specs.Steps.{Step}
 use Rattle.pr_script.specs.declared.script.Test.{Test}
 use Rattle.pr_roles.specs.declared.role.Clause.{Clause}
 use Rattle.pr_roles.specs.declared.how.Refusals.{Refusals}
-use Rattle.pr_roles.specs.Answers.{Answered}
+use Rattle.pr_roles.specs.DeclaredRefusals.{Answered}
 use Rattle.pr_roles.specs.Permits.{command_permitted}
 use Rattle.pr_views.specs.Possibilities.{Item, IsSo}
 use Rattle.pr_views.specs.Views.{View, IsPossible, Shows}

@@ -1,6 +1,6 @@
 -- Agrees with docs/MODEL.md, 'Worlds, events and runs'.
 -- How a command may be answered: by a step of the unit, or by BUSY or TASK SET FULL, in which the unit has no part.
-use Rattle.std.specs.Prelude.{◌≡◌, ℕ, Bool, true, false, ◌==◌, ◌&&◌, not, nat_lt, IsTrue, List, if◌then◌else◌}
+use Rattle.std.specs.Prelude.{◌≡◌, ℕ, Bool, true, false, ◌==◌, ◌&&◌, nat_lt, List, if◌then◌else◌}
 use Rattle.std.specs.List.{count_by}
 use Rattle.std.specs.Option.{option_map_or}
 use Rattle.pr_cdb.specs.declared.reply.Reply.{Reply}
@@ -11,7 +11,6 @@ use Rattle.pr_unit.specs.Replies.{busy, full}
 use Rattle.pr_unit.specs.Steps.{Step, TakenStep}
 use Rattle.pr_roles.specs.declared.how.How.{How}
 use Rattle.pr_roles.specs.declared.how.How.TheVariants as how
-use Rattle.pr_roles.specs.declared.how.Refusals.{Refusals}
 use Rattle.pr_roles.specs.declared.item.Item.{Item}
 use Rattle.pr_roles.specs.declared.item.Item.TheVariants.{Sent, Reset}
 use Rattle.pr_roles.specs.Scenarios.{Scenario, nexus}
@@ -28,26 +27,11 @@ TakenAnswer how.Plain u h q r v = TakenStep u h q r v
 TakenAnswer how.Busy u h q r v = (r ≡ busy) × (v ≡ u)
 TakenAnswer how.Full u h q r v = (r ≡ full) × (v ≡ u)
 
-abbrev pub is_among : Refusals → How → Bool
-is_among d how.Plain = true
-is_among d how.Busy = d.busy
-is_among d how.Full = d.full
-
--- some answer of the unit, or one of these refusals
-pub record Answered (d : Refusals) (u : UnitState) (h : ℕ) (q : Request) (r : Reply) (v : UnitState) : Type 0 where
-  pub how : How
-  pub declared : IsTrue (is_among d how)
-  pub answer : Answers how u h q r v
-
 -- the most answers of this kind that the scenario declares for h
 abbrev pub most_refusals : Scenario → ℕ → How → ℕ
 most_refusals s h how.Plain = 0
 most_refusals s h how.Busy = option_map_or (λ n. n.busy) (nexus s h) 0
 most_refusals s h how.Full = option_map_or (λ n. n.full) (nexus s h) 0
-
--- a host or guest of the scenario may meet a refusal that is declared for it at all
-abbrev pub refusals_of : Scenario → ℕ → Refusals
-refusals_of s h = record { busy = not (most_refusals s h how.Busy == 0); full = not (most_refusals s h how.Full == 0) }
 
 abbrev pub is_refusal : How → Reply → Bool
 is_refusal how.Plain r = false

@@ -4,9 +4,11 @@ pub mod Starts
 pub mod Limits
 pub mod Fitting
 pub mod Answers
+pub mod DeclaredRefusals
 pub mod Worlds
 pub mod Items
 pub mod Schedules
 pub mod Safety
+pub mod Breaches
 pub mod Laws
 pub mod inside

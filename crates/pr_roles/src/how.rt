@@ -1,7 +1,7 @@
 //! How a command is answered.
 
 ghost use Rattle.std.specs.Prelude.{◌≡◌, ◌==◌, not};
-ghost use Rattle.pr_roles.specs.Answers.{is_among};
+ghost use Rattle.pr_roles.specs.DeclaredRefusals.{is_among};
 
 use crate::parts::Nexus;
 

@@ -17,7 +17,8 @@ use Rattle.pr_unit.specs.UnitStates.{UnitState, reset}
 use Rattle.pr_unit.specs.Replies.{is_good}
 use Rattle.pr_roles.specs.declared.how.How.{How}
 use Rattle.pr_roles.specs.declared.how.How.TheVariants as how
-use Rattle.pr_roles.specs.Answers.{Answers, Answered, refusals_of, refusals_by, most_refusals, may_come, is_among}
+use Rattle.pr_roles.specs.Answers.{Answers, refusals_by, most_refusals, may_come}
+use Rattle.pr_roles.specs.DeclaredRefusals.{Answered, refusals_of, is_among}
 use Rattle.pr_script.specs.Scripts.{Stmts, Configuration, ready, first_configuration}
 use Rattle.pr_script.specs.Takes.{take}
 use Rattle.pr_script.specs.Costs.{cost_of_all}

@@ -10,7 +10,7 @@ use Rattle.pr_unit.specs.UnitStates.{UnitState}
 use Rattle.pr_unit.specs.Steps.{Step}
 use Rattle.pr_script.specs.Scripts.{Stmts}
 use Rattle.pr_roles.specs.Permits.{command_permitted}
-use Rattle.pr_roles.specs.Answers.{Answered, refusals_of}
+use Rattle.pr_roles.specs.DeclaredRefusals.{Answered, refusals_of}
 use Rattle.pr_roles.specs.Scenarios.{Scenario, Scripted, role, task}
 use Rattle.pr_views.specs.Views.{View}
 use Rattle.pr_views.proofs.Showing.{shown_within}

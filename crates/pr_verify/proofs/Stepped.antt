@@ -7,7 +7,7 @@ use Rattle.pr_cdb.specs.declared.reply.Reply.{Reply}
 use Rattle.pr_cdb.specs.declared.wire.Request.TheVariants.{Plain}
 use Rattle.pr_unit.specs.UnitStates.{UnitState}
 use Rattle.pr_roles.specs.declared.how.Refusals.{Refusals}
-use Rattle.pr_roles.specs.Answers.{Answered, refusals_of}
+use Rattle.pr_roles.specs.DeclaredRefusals.{Answered, refusals_of}
 use Rattle.pr_roles.specs.Scenarios.{Scenario}
 use Rattle.pr_sets.specs.Numbers.{Numbers, AllBelow}
 use Rattle.pr_views.specs.declared.view.ViewOf.{ViewOf}

@@ -10,7 +10,7 @@ use Rattle.std.proofs.lemmas.List.Quantifiers.{all_pairs_push, position-Some}
 use Rattle.pr_script.specs.declared.script.Test.TheVariants as test
 use Rattle.pr_script.specs.Takes.{matches}
 use Rattle.pr_script.specs.Scripts.{Stmts}
-use Rattle.pr_roles.specs.Answers.{refusals_of}
+use Rattle.pr_roles.specs.DeclaredRefusals.{refusals_of}
 use Rattle.pr_roles.specs.Scenarios.{Scenario, Task, Scripted, Planned, role, task}
 use Rattle.pr_sets.specs.Numbers.{Numbers}
 use Rattle.pr_sets.specs.declared.word_set.WordSet.{WordSet}

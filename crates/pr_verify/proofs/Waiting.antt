@@ -35,7 +35,8 @@ use Rattle.pr_script.specs.Scripts.{Stmts, sends, repeats, none, more, no_arm, a
 use Rattle.pr_script.specs.Takes.{matches}
 use Rattle.pr_roles.specs.declared.how.How.{How}
 use Rattle.pr_roles.specs.declared.how.How.TheVariants as how
-use Rattle.pr_roles.specs.Answers.{Answers, Answered, refusals_of, is_among}
+use Rattle.pr_roles.specs.Answers.{Answers}
+use Rattle.pr_roles.specs.DeclaredRefusals.{Answered, refusals_of, is_among}
 use Rattle.pr_roles.specs.Permits.{is_permitted}
 use Rattle.pr_roles.specs.Scenarios.{Scenario, Nexus, Scripted, Planned, nexus, role}
 use Rattle.pr_roles.specs.Starts.{IsAllowedStart, CanStart}

@@ -11,7 +11,7 @@ use Rattle.pr_unit.specs.Steps.{Step}
 use Rattle.pr_script.specs.declared.limits.TheConstants.{MOST_BUDGET}
 use Rattle.pr_script.specs.Scripts.{Stmts}
 use Rattle.pr_script.specs.Costs.{cost_of_all}
-use Rattle.pr_roles.specs.Answers.{Answered, refusals_of}
+use Rattle.pr_roles.specs.DeclaredRefusals.{Answered, refusals_of}
 use Rattle.pr_roles.specs.Permits.{command_permitted}
 use Rattle.pr_roles.specs.Scenarios.{Scenario, role}
 use Rattle.pr_regions.specs.Readings.{first_test}

@@ -1,15 +1,15 @@
 //! The nexuses of a scenario.
 
 ghost use Rattle.std.specs.Prelude.{◌≡◌, ◌<◌, length, Some};
-ghost use Rattle.pr_roles.specs.Answers.{refusals_of};
+ghost use Rattle.pr_roles.specs.DeclaredRefusals.{refusals_of};
 ghost use Rattle.pr_roles.specs.Fitting.{Fits};
 ghost use Rattle.pr_roles.specs.Scenarios.{nexus, nexus_of, scenario_of};
 ghost use Rattle.pr_roles.specs.Starts.{CanStart};
 
 use pr_roles::{Nexus, Refusals, Scenario};
 
-/// One of them, as it is kept.
-pub(crate) fn nexus_in(scenario: &Scenario, host: u8) -> &Nexus
+/// The nexus with this number, as it is kept.
+pub fn nexus_in(scenario: &Scenario, host: u8) -> &Nexus
     requires { host < length (scenario_of scenario.now).nexuses }
     ensures nexus { nexus (scenario_of scenario.now) host ≡ Some (nexus_of result.now) }
     ensures fits { Fits (scenario_of scenario.now) }

@@ -4,7 +4,7 @@ ghost use Rattle.std.specs.Prelude.{◌≡◌, ◌<◌, true, length, map, optio
 ghost use Rattle.std.specs.List.{All};
 ghost use Rattle.pr_script.specs.Grammar.{rise_above};
 ghost use Rattle.pr_script.specs.Trees.{script_of};
-ghost use Rattle.pr_roles.specs.Answers.{refusals_of};
+ghost use Rattle.pr_roles.specs.DeclaredRefusals.{refusals_of};
 ghost use Rattle.pr_roles.specs.Scenarios.{scenario_of};
 ghost use Rattle.pr_roles.specs.Starts.{CanStart};
 ghost use Rattle.pr_views.specs.Rooms.{view_of, IsMade, AreAlike};

@@ -6,7 +6,7 @@ ghost use Rattle.pr_domain.specs.declared.landing.Class.{Class};
 ghost use Rattle.pr_domain.specs.declared.landing.Landing.TheVariants.{Arm};
 ghost use Rattle.pr_domain.specs.Outcomes.{AreOutcomes};
 ghost use Rattle.pr_script.specs.Grammar.{rise_above};
-ghost use Rattle.pr_roles.specs.Answers.{refusals_of};
+ghost use Rattle.pr_roles.specs.DeclaredRefusals.{refusals_of};
 ghost use Rattle.pr_roles.specs.Scenarios.{scenario_of, task};
 ghost use Rattle.pr_views.specs.Rooms.{view_of};
 ghost use Rattle.pr_verify.specs.Outlines.{OnScripted, view_at};

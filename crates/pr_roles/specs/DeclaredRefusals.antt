@@ -1,0 +1,26 @@
+-- Agrees with docs/MODEL.md, 'Worlds, events and runs'.
+-- Which of BUSY and TASK SET FULL a host or guest may meet at all, however often.
+use Rattle.std.specs.Prelude.{ℕ, Bool, true, ◌==◌, not, IsTrue}
+use Rattle.pr_cdb.specs.declared.reply.Reply.{Reply}
+use Rattle.pr_cdb.specs.declared.wire.Request.{Request}
+use Rattle.pr_unit.specs.UnitStates.{UnitState}
+use Rattle.pr_roles.specs.declared.how.How.{How}
+use Rattle.pr_roles.specs.declared.how.How.TheVariants as how
+use Rattle.pr_roles.specs.declared.how.Refusals.{Refusals}
+use Rattle.pr_roles.specs.Answers.{Answers, most_refusals}
+use Rattle.pr_roles.specs.Scenarios.{Scenario}
+
+abbrev pub is_among : Refusals → How → Bool
+is_among d how.Plain = true
+is_among d how.Busy = d.busy
+is_among d how.Full = d.full
+
+-- some answer of the unit, or one of these refusals
+pub record Answered (d : Refusals) (u : UnitState) (h : ℕ) (q : Request) (r : Reply) (v : UnitState) : Type 0 where
+  pub how : How
+  pub declared : IsTrue (is_among d how)
+  pub answer : Answers how u h q r v
+
+-- a host or guest of the scenario may meet a refusal that is declared for it at all
+abbrev pub refusals_of : Scenario → ℕ → Refusals
+refusals_of s h = record { busy = not (most_refusals s h how.Busy == 0); full = not (most_refusals s h how.Full == 0) }
