@@ -28,8 +28,8 @@ use Rattle.pr_roles.specs.Answers.{Answers, may_come}
 use Rattle.pr_roles.specs.Scenarios.{Scenario, Nexus, Task, Scripted, Planned, role}
 use Rattle.pr_roles.specs.Worlds.{World, Control, Going, Trapped, Free, Event, Host, Guest, UnitReset, Happens, GuestSends, control, is_guest, is_guest_task, standing_of, control_after, entry_of, after as world_after}
 use Rattle.pr_world.specs.Courses.{is_planned}
-use Rattle.pr_world.specs.inside.Participations.{is_free}
-use Rattle.pr_world.specs.inside.Auditing.{how_of, MayCome, IsJudged, Adds, IsTried, ActFor}
+use Rattle.pr_world.specs.Auditors.{is_free, Adds, IsTried, ActFor}
+use Rattle.pr_world.specs.inside.Auditing.{how_of, MayCome, IsJudged}
 use Rattle.pr_world.proofs.Judging.{may_fixed, free_judged, hosts_judged}
 
 -- the world after this entry, of one that acts so then
@@ -161,10 +161,10 @@ guest_comes so s w g wire x is sends =
     }
 
 -- the entry that was added is the one that the event added
-same_item : (es fs : List Item) (i j : Item) → fs ≡ es ++ i ∷ [] → fs ≡ es ++ j ∷ [] → i ≡ j
+pub same_item : (es fs : List Item) (i j : Item) → fs ≡ es ++ i ∷ [] → fs ≡ es ++ j ∷ [] → i ≡ j
 same_item es fs i j one two = let same : i ∷ [] ≡ j ∷ [] = append_cancel_left es (i ∷ []) (j ∷ []) (sym one ∙ two) in cc
 
-same_entry : (es fs : List Item) (d e : Entry) → fs ≡ es ++ Sent d ∷ [] → fs ≡ es ++ Sent e ∷ [] → d ≡ e
+pub same_entry : (es fs : List Item) (d e : Entry) → fs ≡ es ++ Sent d ∷ [] → fs ≡ es ++ Sent e ∷ [] → d ≡ e
 same_entry es fs d e one two = let same : Sent d ≡ Sent e = same_item es fs (Sent d) (Sent e) one two in cc
 
 comes_as : (s : Scenario) (w : World) (d e : Entry) (x y : World) → d ≡ e → y ≡ x → Comes s w d y → Comes s w e x
@@ -213,7 +213,7 @@ guest_by (Some k) (Some m) n same there free =
 tasks_at : (s : Scenario) (w : World) (h : ℕ) → ActFor s w → option_map is_free (slice_get w.controls h) ≡ option_map (λ n. is_planned n.task) (slice_get s.nexuses h)
 tasks_at s w h acts = sym (slice_get-map is_free w.controls h) ∙ (ap (λ l. slice_get l h) acts.tasks ∙ slice_get-map (λ n. is_planned n.task) s.nexuses h)
 
-guests_free : (s : Scenario) (w : World) → ActFor s w → (g : ℕ) → is_guest s g ≡ true → control w g ≡ Free
+pub guests_free : (s : Scenario) (w : World) → ActFor s w → (g : ℕ) → is_guest s g ≡ true → control w g ≡ Free
 guests_free s w acts g guest = free_by (slice_get w.controls g) (slice_get s.nexuses g) (tasks_at s w g acts) guest
 
 free_guests : (s : Scenario) (w : World) (h : ℕ) → ActFor s w → h < length s.nexuses → is_free (control w h) ≡ true → is_guest s h ≡ true

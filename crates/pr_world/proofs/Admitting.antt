@@ -14,13 +14,12 @@ use Rattle.pr_roles.specs.Answers.{may_come}
 use Rattle.pr_roles.specs.declared.parts.Nexus.{Nexus as NexusPart}
 use Rattle.pr_roles.specs.declared.parts.Parts.{Parts}
 use Rattle.pr_roles.specs.Scenarios.{Scenario, Nexus, role, scenario_of}
-use Rattle.pr_roles.specs.Starts.{IsAllowedStart}
 use Rattle.pr_roles.specs.Worlds.{World, Free, control, control_of}
 use Rattle.pr_domain.proofs.Roles.{count_of_parts}
 use Rattle.pr_world.specs.declared.sender.Sender.{Sender}
 use Rattle.pr_world.specs.Courses.{is_planned}
-use Rattle.pr_world.specs.inside.Participations.{is_free}
-use Rattle.pr_world.specs.inside.Auditing.{how_of, IsJudged, IsTried, Adds, ActFor, control_by}
+use Rattle.pr_world.specs.Auditors.{is_free, IsTried, Adds, ActFor, control_by}
+use Rattle.pr_world.specs.inside.Auditing.{how_of, IsJudged}
 use Rattle.pr_world.proofs.Beginning.{free_from}
 use Rattle.pr_world.proofs.Turning.{role_at}
 use Rattle.pr_world.proofs.Adding.{judged_tried, judged_acts, none_left, none_past}
@@ -34,8 +33,8 @@ tasks_begun : (ns : List Nexus) → map is_free (map (λ n. control_of n.task) n
 tasks_begun [] = refl
 tasks_begun (n ∷ ns) = λ i. free_from n.task i ∷ tasks_begun ns i
 
-pub begun_acts : (s : Scenario) (u : UnitState) (senders : List Sender) → IsAllowedStart s u → map control_by senders ≡ map (λ n. control_of n.task) s.nexuses → ActFor s (world_of u senders [])
-begun_acts s u senders allowed controls = record { hosts = allowed.hosts; tasks = ap (map is_free) controls ∙ tasks_begun s.nexuses }
+pub begun_acts : (s : Scenario) (u : UnitState) (senders : List Sender) → u.registry.hosts ≡ length s.nexuses → map control_by senders ≡ map (λ n. control_of n.task) s.nexuses → ActFor s (world_of u senders [])
+begun_acts s u senders hosts controls = record { hosts = hosts; tasks = ap (map is_free) controls ∙ tasks_begun s.nexuses }
 
 -- what was said of a world after one history holds after another
 others_acts : (s : Scenario) (u : UnitState) (senders : List Sender) (es fs : List Item) → ActFor s (world_of u senders es) → ActFor s (world_of u senders fs)

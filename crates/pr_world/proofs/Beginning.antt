@@ -17,7 +17,8 @@ use Rattle.pr_roles.specs.Worlds.{control_of}
 use Rattle.pr_roles.specs.Schedules.{plan_of}
 use Rattle.pr_unit.specs.UnitStates.{UnitState}
 use Rattle.pr_world.specs.Courses.{IsReached, is_planned}
-use Rattle.pr_world.specs.inside.Participations.{IsShort, Participation, StandsFor, schedule_by, participation_from, is_free}
+use Rattle.pr_world.specs.inside.Participations.{IsShort, Participation, StandsFor, schedule_by, participation_from}
+use Rattle.pr_world.specs.Auditors.{is_free}
 
 -- ---- what fits is short
 

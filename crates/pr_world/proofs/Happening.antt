@@ -24,7 +24,8 @@ use Rattle.pr_roles.specs.Scenarios.{Scenario, Task, Scripted, Planned, role}
 use Rattle.pr_roles.specs.Worlds.{Control, Going, Trapped, Free, Host, Guest, is_guest, is_guest_task, standing_of, control_after}
 use Rattle.pr_roles.specs.Schedules.{is_passed_over}
 use Rattle.pr_world.specs.Courses.{is_planned}
-use Rattle.pr_world.specs.inside.Participations.{items_of, HappensBy, Participation, StandsFor, is_free, participation}
+use Rattle.pr_world.specs.inside.Participations.{items_of, HappensBy, Participation, StandsFor, participation}
+use Rattle.pr_world.specs.Auditors.{is_free}
 use Rattle.pr_world.specs.inside.Turns.{Acts, ActsAs, GuestActs, HostActs, SendsOr}
 use Rattle.pr_world.proofs.Spelled.{are_bytes, are_short}
 use Rattle.pr_world.proofs.Participations.{at_participation, control_at, has_task, rests, with_participation, world_after, world_by}

@@ -8,7 +8,8 @@ use Rattle.pr_roles.specs.declared.item.Item.TheVariants.{Sent, Reset}
 use Rattle.pr_roles.specs.Safety.{IsLegal}
 use Rattle.pr_roles.specs.Scenarios.{Scenario}
 use Rattle.pr_roles.specs.Worlds.{World, Event, Host, Guest, UnitReset, Happens, Run, entry_of, world_from}
-use Rattle.pr_world.specs.inside.Auditing.{Adds}
+use Rattle.pr_world.specs.Auditors.{Adds}
+use Rattle.pr_world.specs.inside.Auditing.{Reaches}
 use Rattle.pr_world.proofs.Running.{run_then}
 
 -- ---- the last of a list
@@ -71,12 +72,6 @@ has_last s w v event (other ∷ events) run =
     }
 
 -- ---- worlds that a history leads to
-
--- some run from this start has this history, and leads to this world
-pub record Reaches (s : Scenario) (u : UnitState) (history : List Item) (w : World) : Type 0 where
-  pub events : List Event
-  pub run : Run s (world_from s u) events w
-  pub items : w.history ≡ history
 
 pub reached_legal : (s : Scenario) (u : UnitState) (history : List Item) (w : World) → Reaches s u history w → IsLegal s u history
 reached_legal s u history w reaches = (reaches.events, w, reaches.run, reaches.items)

@@ -14,8 +14,8 @@ use Rattle.pr_roles.specs.Answers.{Answers}
 use Rattle.pr_roles.specs.Worlds.{Control, Going, Trapped, Free, control_after}
 use Rattle.pr_world.specs.declared.sender.Sender.{Sender}
 use Rattle.pr_world.specs.declared.sender.Sender.TheVariants as sender
-use Rattle.pr_world.specs.inside.Participations.{is_free}
-use Rattle.pr_world.specs.inside.Auditing.{ScriptSends, GuestSendsSo, MayCome, IsGuestJudged, IsJudged, control_by}
+use Rattle.pr_world.specs.Auditors.{is_free, control_by}
+use Rattle.pr_world.specs.inside.Auditing.{ScriptSends, GuestSendsSo, MayCome, IsGuestJudged, IsJudged}
 use Rattle.pr_world.proofs.Fixed.{step_fixed}
 use Rattle.pr_world.proofs.Turning.{free_taken}
 

@@ -9,8 +9,9 @@ use Rattle.pr_roles.specs.Safety.{IsLegal}
 use Rattle.pr_roles.specs.Worlds.{World, world_from}
 use Rattle.pr_world.specs.declared.auditor.Auditor.{Auditor}
 use Rattle.pr_world.specs.Audits.{IsLegalFromFirst, IsFirstIllegal}
-use Rattle.pr_world.specs.inside.Auditing.{Adds, IsTried, ActFor, world_at}
-use Rattle.pr_world.proofs.Histories.{Reaches, reached_legal, reaches_more, reached_before, reached_at_first, legal_take}
+use Rattle.pr_world.specs.Auditors.{Adds, IsTried, ActFor, world_at}
+use Rattle.pr_world.specs.inside.Auditing.{Reaches}
+use Rattle.pr_world.proofs.Histories.{reached_legal, reaches_more, reached_before, reached_at_first, legal_take}
 
 -- whatever run from the first start has this history leads to the world of the audit, and some run does
 pub record IsKnown (s : Scenario) (history : List Item) (a : Auditor) : Type 0 where

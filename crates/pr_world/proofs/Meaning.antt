@@ -18,7 +18,8 @@ use Rattle.pr_roles.specs.Scenarios.{Scenario, Task, Scripted, Planned, role, ta
 use Rattle.pr_roles.specs.Worlds.{Control, Going, Trapped, Free, control, standing_of}
 use Rattle.pr_roles.specs.Schedules.{Schedule, GuestTurn, TurnBy, Turn, is_held_back, is_passed_over, plan}
 use Rattle.pr_world.specs.Courses.{is_planned}
-use Rattle.pr_world.specs.inside.Participations.{Participation, StandsFor, is_free, schedule_by}
+use Rattle.pr_world.specs.inside.Participations.{Participation, StandsFor, schedule_by}
+use Rattle.pr_world.specs.Auditors.{is_free}
 use Rattle.pr_world.specs.StepAnswers.{IsStopped, IsStoppedBy, PassesOver}
 use Rattle.pr_world.specs.inside.Turns.{Doing, sends, stops, is_trapped, is_done, passes, host_does, does, does_as}
 use Rattle.pr_world.proofs.Participations.{control_at, has_task}

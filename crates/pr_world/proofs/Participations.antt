@@ -17,7 +17,8 @@ use Rattle.pr_roles.specs.Scenarios.{Scenario, Nexus}
 use Rattle.pr_roles.specs.Worlds.{World, Free, control_after, control, after}
 use Rattle.pr_roles.specs.Schedules.{plan, Sends}
 use Rattle.pr_world.specs.Courses.{is_planned}
-use Rattle.pr_world.specs.inside.Participations.{Participation, schedule_by, IsSent, StandsFor, is_free}
+use Rattle.pr_world.specs.inside.Participations.{Participation, schedule_by, IsSent, StandsFor}
+use Rattle.pr_world.specs.Auditors.{is_free}
 
 -- ---- a participation among the participations
 

@@ -22,7 +22,8 @@ use Rattle.pr_world.specs.declared.replaying.Replayed.{Replayed}
 use Rattle.pr_world.specs.Ends.{is_trapped_end}
 use Rattle.pr_world.specs.Laws.{IsPermittedAfter}
 use Rattle.pr_world.specs.Replays.{IsReplayed}
-use Rattle.pr_world.proofs.Histories.{Reaches, last_same, legal_before, reached_before}
+use Rattle.pr_world.proofs.Histories.{last_same, legal_before, reached_before}
+use Rattle.pr_world.specs.inside.Auditing.{Reaches}
 use Rattle.pr_verify.proofs.Going.{safe_sends_are_fine}
 
 pub replay_is_legal : (s : Scenario) (steps : List Step) (r : Replayed) (x : IsReplayed s steps r) → IsLegal s x.start r.history.items

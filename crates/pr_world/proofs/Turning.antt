@@ -26,7 +26,8 @@ use Rattle.pr_roles.specs.Schedules.{HostTurn, SendsUnless, GuestTurn, TurnBy, T
 use Rattle.pr_domain.proofs.Roles.{count_of_parts}
 use Rattle.pr_world.specs.declared.participant.Participant.{Participant}
 use Rattle.pr_world.specs.Courses.{is_planned}
-use Rattle.pr_world.specs.inside.Participations.{items_of, Participation, participation, participation_of, schedule_by, StandsFor, HappensBy, is_free}
+use Rattle.pr_world.specs.inside.Participations.{items_of, Participation, participation, participation_of, schedule_by, StandsFor, HappensBy}
+use Rattle.pr_world.specs.Auditors.{is_free}
 use Rattle.pr_world.specs.Ends.{Ending, ending}
 use Rattle.pr_world.proofs.Participations.{at_participation, control_at, has_task, plan_at, rests, sends, with_participation, world_by}
 use Rattle.pr_world.proofs.Happening.{happens_at_participation}

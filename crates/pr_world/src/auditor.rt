@@ -1,22 +1,26 @@
-//! A scenario as an audit goes along it: its unit, and who may send what next.
+//! A scenario as a history of it is followed: its unit, and who may send what next.
 
-ghost use Rattle.std.specs.Prelude.{◌≡◌, [], ◌∷◌, ◌++◌, Some, map, IfOk};
+ghost use Rattle.std.specs.Prelude.{◌≡◌, ◌<◌, List, [], ◌∷◌, ◌++◌, Some, length, map, IfSome, IfOk};
+ghost use Rattle.pr_script.specs.Scripts.{ready};
 ghost use Rattle.pr_roles.specs.Scenarios.{scenario_of};
 ghost use Rattle.pr_roles.specs.Starts.{first_state};
-ghost use Rattle.pr_roles.specs.Worlds.{control_of, world_from};
-ghost use Rattle.pr_world.specs.inside.Auditing.{ActFor, IsTried, control_by, how_of, world_at};
+ghost use Rattle.pr_roles.specs.Worlds.{control, control_of, standing_of, world_from};
+ghost use Rattle.pr_world.specs.Ends.{ending, ending_of};
+ghost use Rattle.pr_world.specs.inside.Auditing.{how_of};
+ghost use Rattle.pr_world.specs.Auditors.{ActFor, IsTried, control_by, world_at};
 
+use crate::end::End;
 use crate::refusing::may_come;
 use crate::resetting::may_reset;
 use crate::sender::Sender;
-use pr_cdb::Status;
+use pr_cdb::{Command, Status};
 use pr_roles::{Entry, How, Item, Scenario, first_start};
 use pr_unit::Unit;
 use std::alloc::{AllocError, Global};
 
-/// A scenario as an audit goes along it.
+/// A scenario as a history of it is followed, item by item, from some state of the unit.
 #[derive(Drop)]
-pub(crate) struct Auditor {
+pub struct Auditor {
     unit: Unit,
     senders: Vec<Sender>,
 }
@@ -29,14 +33,30 @@ impl Auditor {
             world_at auditor [] ≡ world_from (scenario_of scenario.now) auditor.unit) }
         ensures acts { IfOk result (λ auditor. ActFor (scenario_of scenario.now) (world_at auditor [])) }
     {
+        let start = first_start(scenario);
+        Auditor::from_start(alloc, scenario, start)
+    }
+
+    /// The scenario over this unit, with each script at its beginning. There is one nexus for each that the scenario declares.
+    pub fn from_start(
+        alloc: Global,
+        scenario: &Scenario,
+        start: Unit,
+    ) -> Result<Auditor, AllocError>
+        requires { start.registry.hosts ≡ length (scenario_of scenario.now).nexuses }
+        ensures unit { IfOk result (λ auditor. auditor.unit ≡ start) }
+        ensures world { IfOk result (λ auditor.
+            world_at auditor [] ≡ world_from (scenario_of scenario.now) start) }
+        ensures acts { IfOk result (λ auditor. ActFor (scenario_of scenario.now) (world_at auditor [])) }
+    {
         Ok(Auditor {
-            unit: first_start(scenario),
+            unit: start,
             senders: senders_of(alloc, scenario)?,
         })
     }
 
     /// Whether the item may come next after these, and then goes past it.
-    pub(crate) fn admits(&mut self, scenario: &Scenario, before: &[Item], item: &Item) -> bool
+    pub fn admits(&mut self, scenario: &Scenario, before: &[Item], item: &Item) -> bool
         requires { ActFor (scenario_of scenario.now) (world_at self.old []) }
         ensures tried { IsTried (scenario_of scenario.now) (world_at self.old before.now)
             item.now result (world_at self.new (before.now ++ item.now ∷ [])) }
@@ -46,6 +66,31 @@ impl Auditor {
             Item::Sent(entry) => self.admits_sent(scenario, before, entry),
             Item::Reset => self.admits_reset(scenario, before),
         }
+    }
+
+    /// The unit as it is after what was admitted.
+    pub fn unit(&self) -> &Unit
+        ensures { result.now ≡ (world_at self.now []).unit }
+    {
+        &self.unit
+    }
+
+    /// The line of the send at which the host's script is ready, with its command; none of a script that is stopped or trapped,
+    /// nor of a guest.
+    pub fn next_command(&self, host: u8) -> Option<(u32, Command)>
+        requires { host < length (world_at self.now []).controls }
+        ensures { IfSome result (λ next. standing_of (control (world_at self.now []) host) ≡ Some (ready next.0 next.1)) }
+    {
+        self.senders[usize::from(host)].next_command()
+    }
+
+    /// How the nexus stands. A guest has not reached so many of its planned commands, whatever it has sent.
+    pub fn end(&self, host: u8, planned: u32) -> End
+        requires { host < length (world_at self.now []).controls }
+        ensures { (plan : List Command) → length plan ≡ planned
+            → ending (control (world_at self.now []) host) plan ≡ Some (ending_of result) }
+    {
+        self.senders[usize::from(host)].end(planned)
     }
 
     // The same of a command.

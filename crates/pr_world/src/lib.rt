@@ -17,6 +17,7 @@ mod turn;
 mod world;
 
 pub use auditing::{AuditError, audit};
+pub use auditor::Auditor;
 pub use course::commands_by;
 pub use end::End;
 pub use laws::{
@@ -24,6 +25,7 @@ pub use laws::{
     safe_replays_keep_roles, safe_schedules_keep_to_rooms,
 };
 pub use pr_roles::{Entry, How, Item, Step};
+pub use refusing::refused;
 pub use replaying::{Replayed, replay, replay_as};
 pub use turn::Turn;
 pub use world::{World, room_of};

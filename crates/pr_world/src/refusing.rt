@@ -65,7 +65,7 @@ fn is_refusal(how: How, reply: &Reply) -> bool
 }
 
 /// A reply of this status alone, as BUSY and TASK SET FULL are.
-pub(crate) fn refused(status: Status) -> Reply
+pub fn refused(status: Status) -> Reply
     ensures { result ≡ reply_of status None [] }
 {
     Reply {

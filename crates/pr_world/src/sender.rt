@@ -1,15 +1,19 @@
 //! The nexuses of an audit.
 
-ghost use Rattle.std.specs.Prelude.{◌≡◌, ◌<◌, ℕ, slice_index, IfOk};
+ghost use Rattle.std.specs.Prelude.{◌≡◌, ◌<◌, ℕ, List, Some, length, slice_index, IfOk, IfSome};
+ghost use Rattle.pr_script.specs.Scripts.{ready};
 ghost use Rattle.pr_cdb.specs.Requests.{AreBytes};
 ghost use Rattle.pr_roles.specs.Permits.{is_permitted};
 ghost use Rattle.pr_roles.specs.Scenarios.{task_of};
-ghost use Rattle.pr_roles.specs.Worlds.{control_of};
+ghost use Rattle.pr_roles.specs.Worlds.{control_of, standing_of};
+ghost use Rattle.pr_world.specs.Ends.{ending, ending_of};
 ghost use Rattle.pr_world.specs.inside.Participations.{IsShort};
-ghost use Rattle.pr_world.specs.inside.Auditing.{IsAnswered, IsGuestJudged, IsJudged, control_by};
+ghost use Rattle.pr_world.specs.inside.Auditing.{IsAnswered, IsGuestJudged, IsJudged};
+ghost use Rattle.pr_world.specs.Auditors.{control_by};
 
+use crate::end::End;
 use crate::refusing::refused;
-use pr_cdb::{Request, Status, decode, encode};
+use pr_cdb::{Command, Request, Status, decode, encode};
 use pr_roles::{Entry, How, Nexus, Role, Task, permits};
 use pr_script::{Machine, Next};
 use pr_unit::Unit;
@@ -36,6 +40,33 @@ impl Sender {
         match &nexus.task {
             Task::Scripted { script, .. } => Ok(Sender::Host(Machine::new(alloc, script)?)),
             Task::Planned(_) => Ok(Sender::Guest),
+        }
+    }
+
+    /// The line of the send at which the host's script is ready, with its command.
+    pub(crate) fn next_command(&self) -> Option<(u32, Command)>
+        ensures { IfSome result (λ next. standing_of (control_by self.now) ≡ Some (ready next.0 next.1)) }
+    {
+        match self {
+            Sender::Host(machine) => match machine.next() {
+                Next::Send { line, command } => Some((line, command)),
+                Next::Stopped(_) => None,
+            },
+            Sender::Trapped(_) | Sender::Guest => None,
+        }
+    }
+
+    /// How it stands. A guest has not reached so many of its planned commands.
+    pub(crate) fn end(&self, planned: u32) -> End
+        ensures { (plan : List Command) → length plan ≡ planned → ending (control_by self.now) plan ≡ Some (ending_of result) }
+    {
+        match self {
+            Sender::Host(machine) => match machine.next() {
+                Next::Send { line, .. } => End::Ready(line),
+                Next::Stopped(word) => End::Stopped(word),
+            },
+            Sender::Trapped(line) => End::Trapped(*line),
+            Sender::Guest => End::Left(planned),
         }
     }
 

@@ -19,12 +19,12 @@ use Rattle.pr_roles.specs.declared.how.How.TheVariants as how
 use Rattle.pr_roles.specs.Answers.{Answers}
 use Rattle.pr_roles.specs.Permits.{is_permitted}
 use Rattle.pr_roles.specs.Scenarios.{Scenario}
-use Rattle.pr_roles.specs.Worlds.{World, Event, Happens, Control, Going, Trapped, Free, standing_of, control_after}
+use Rattle.pr_roles.specs.Worlds.{World, Event, Run, Control, Going, Trapped, Free, standing_of, control_after, world_from}
 use Rattle.pr_world.specs.declared.auditor.Auditor.{Auditor}
 use Rattle.pr_world.specs.declared.sender.Sender.{Sender}
 use Rattle.pr_world.specs.declared.sender.Sender.TheVariants as sender
 use Rattle.pr_world.specs.Courses.{is_planned}
-use Rattle.pr_world.specs.inside.Participations.{is_free}
+use Rattle.pr_world.specs.Auditors.{is_free}
 
 -- how it was answered, which its status tells
 abbrev pub how_of : Status → How
@@ -71,11 +71,6 @@ IsJudged k c clauses u e true after v = MayCome k c clauses u e after v
 IsJudged k c clauses u e false after v =
     (after ≡ c) × (v ≡ u) × ((other : Control) (w : UnitState) → MayCome k c clauses u e other w → ⊥)
 
-abbrev pub control_by : Sender → Control
-control_by (sender.Host l) = Going l
-control_by (sender.Trapped line) = Trapped line
-control_by sender.Guest = Free
-
 -- the same of a guest
 abbrev pub IsGuestJudged : How → List Clause → UnitState → Entry → Bool → UnitState → Type 0
 IsGuestJudged k clauses u e true v = GuestSendsSo k clauses u e v
@@ -83,22 +78,8 @@ IsGuestJudged k clauses u e false v = (v ≡ u) × ((w : UnitState) → GuestSen
 
 -- ---- all of them
 
--- the world of an audit after this history
-abbrev pub world_at : Auditor → List Item → World
-world_at a history = record { unit = a.unit; controls = map control_by a.senders.items; history = history }
-
--- some event adds the item
-pub record Adds (s : Scenario) (w : World) (i : Item) (v : World) : Type 0 where
-  pub event : Event
-  pub happens : Happens s w event v
-  pub added : v.history ≡ w.history ++ i ∷ []
-
--- true: some event adds it, and whatever event does leads here; false: none does
-abbrev pub IsTried : Scenario → World → Item → Bool → World → Type 0
-IsTried s w i true v = Adds s w i v × ((x : World) → Adds s w i x → x ≡ v)
-IsTried s w i false v = (x : World) → Adds s w i x → ⊥
-
--- there is one nexus for each that the scenario declares, and just the guests send what they like
-pub record ActFor (s : Scenario) (w : World) : Type 0 where
-  pub hosts : w.unit.registry.hosts ≡ length s.nexuses
-  pub tasks : map is_free w.controls ≡ map (λ n. is_planned n.task) s.nexuses
+-- some run from this start has this history, and leads to this world
+pub record Reaches (s : Scenario) (u : UnitState) (history : List Item) (w : World) : Type 0 where
+  pub events : List Event
+  pub run : Run s (world_from s u) events w
+  pub items : w.history ≡ history

@@ -19,6 +19,7 @@ use Rattle.pr_roles.specs.Schedules.{Schedule, plan_of}
 use Rattle.pr_world.specs.declared.course.Course.{Course}
 use Rattle.pr_world.specs.declared.participant.Participant.{Participant}
 use Rattle.pr_world.specs.declared.participant.Participant.TheVariants as participant
+use Rattle.pr_world.specs.Auditors.{is_free}
 use Rattle.pr_world.specs.Courses.{is_planned, IsOneEvent}
 
 -- what one nexus does, and what is left of its plan
@@ -54,11 +55,6 @@ pub record IsSent (how : How) (u : UnitState) (h : ℕ) (c : Command) (e : Entry
   pub taken : TakenAnswer how u h (Plain c) e.reply v
   pub entry : e ≡ entry_of h (spelling c) e.reply
   pub read : request_of_wire e.wire ≡ plain_request c
-
-abbrev pub is_free : Control → Bool
-is_free (Going l) = false
-is_free (Trapped line) = false
-is_free Free = true
 
 -- what such an answer adds to the history
 abbrev pub items_of : Option Entry → List Item

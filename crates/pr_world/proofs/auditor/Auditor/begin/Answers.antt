@@ -1,5 +1,4 @@
-use Rattle.pr_world.proofs.Admitting.{begun_acts}
 use Rattle.pr_world.proofs.auditor.Auditor.begin.Goals as goal
 
-pub returns-clause-acts : goal.returns-clause-acts
-returns-clause-acts c = begun_acts _ _ _ c.first_start.ensures.allowed c.in_ok-senders_of.ensures
+pub from_start-requires : goal.from_start-requires
+from_start-requires c = c.first_start-start.ensures.allowed.hosts

@@ -1,0 +1,40 @@
+-- Agrees with docs/FORMATS.md, 'Auditing'.
+-- Histories that are followed item by item: which world they have led to, and what may come next.
+use Rattle.std.specs.Prelude.{◌≡◌, Bool, true, false, List, [], ◌∷◌, ◌++◌, length, map}
+use Rattle.pr_roles.specs.declared.item.Item.{Item}
+use Rattle.pr_roles.specs.Scenarios.{Scenario}
+use Rattle.pr_roles.specs.Worlds.{World, Event, Happens, Control, Going, Trapped, Free}
+use Rattle.pr_world.specs.declared.auditor.Auditor.{Auditor}
+use Rattle.pr_world.specs.declared.sender.Sender.{Sender}
+use Rattle.pr_world.specs.declared.sender.Sender.TheVariants as sender
+use Rattle.pr_world.specs.Courses.{is_planned}
+
+abbrev pub control_by : Sender → Control
+control_by (sender.Host l) = Going l
+control_by (sender.Trapped line) = Trapped line
+control_by sender.Guest = Free
+
+-- the world of an audit after this history
+abbrev pub world_at : Auditor → List Item → World
+world_at a history = record { unit = a.unit; controls = map control_by a.senders.items; history = history }
+
+-- some event adds the item
+pub record Adds (s : Scenario) (w : World) (i : Item) (v : World) : Type 0 where
+  pub event : Event
+  pub happens : Happens s w event v
+  pub added : v.history ≡ w.history ++ i ∷ []
+
+-- true: some event adds it, and whatever event does leads here; false: none does
+abbrev pub IsTried : Scenario → World → Item → Bool → World → Type 0
+IsTried s w i true v = Adds s w i v × ((x : World) → Adds s w i x → x ≡ v)
+IsTried s w i false v = (x : World) → Adds s w i x → ⊥
+
+abbrev pub is_free : Control → Bool
+is_free (Going l) = false
+is_free (Trapped line) = false
+is_free Free = true
+
+-- there is one nexus for each that the scenario declares, and just the guests send what they like
+pub record ActFor (s : Scenario) (w : World) : Type 0 where
+  pub hosts : w.unit.registry.hosts ≡ length s.nexuses
+  pub tasks : map is_free w.controls ≡ map (λ n. is_planned n.task) s.nexuses
