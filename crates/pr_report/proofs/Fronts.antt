@@ -143,3 +143,8 @@ held_over old mid new text held w f = wrote_front old mid new text held [] (rw (
 pub held_last : {E : Type 0} (old mid new : Option (List ℕ)) (text held : List ℕ) (r : Result (Unit {0}) E) → Wrote old mid text held → Puts mid new held r → Puts old new text r
 held_last old mid new text held (Ok done) w p = wrote_all old new text (wrote_more old mid new text held [] (rw (append-nil held) w) p)
 held_last old mid new text held (Err fault) w f = held_over old mid new text held w f
+
+-- the last text was put behind what was held, or the writer failed
+pub held_through : {E : Type 0} (old mid new : Option (List ℕ)) (text held left : List ℕ) (r : Result (Unit {0}) E) → Wrote old mid text held → PutsAllBut mid new held left r → PutsAllBut old new text left r
+held_through old mid new text held left (Ok done) w v = held_end old mid new text held left w v
+held_through old mid new text held left (Err fault) w f = held_over old mid new text held w f

@@ -4,7 +4,7 @@ use Rattle.std.proofs.Math.ListN.{drop_of_length-le}
 use Rattle.std.specs.Io.KnownBytes.{Appends}
 use Rattle.pr_report.specs.Written.{Wrote, FallsShort, Puts}
 use Rattle.pr_report.specs.PrintedLines.{line, joined_by_spaces, generation_word, registration_word}
-use Rattle.pr_report.specs.TraceText.{item_line, item_lines, ending_line, ending_lines, first_line, held_word, name_of, names_in, names_of, registration_words, trace_text, unit_line}
+use Rattle.pr_report.specs.TraceText.{item_line, item_lines, ending_line, ending_lines, first_line, held_word, name_of, names_in, names_of, registration_words, trace_body, trace_text, unit_line}
 use Rattle.std.specs.Prelude.{map, slice_index}
 use Rattle.pr_roles.specs.declared.item.Item.{Item}
 use Rattle.pr_roles.specs.declared.parts.Nexus.{Nexus as NexusPart}
@@ -134,3 +134,12 @@ trace_of_parts old new p q nexuses entries u v ends counts r same items unit put
     subst (λ w. Puts old new (trace_text (scenario_of p).version (names_in (scenario_of p)) entries w (map ending_of ends) counts) r) unit
     (subst (λ ns. Puts old new (trace_text (scenario_of p).version ns entries u (map ending_of ends) counts) r) names
     (subst (λ n. Puts old new (trace_text n (names_of nexuses) entries u (map ending_of ends) counts) r) (version_read p q same) puts))
+
+-- the same of the lines below the first one
+pub body_of_parts : {E : Type 0} (old new : Option (List ℕ)) (p q : Parts) (nexuses : List NexusPart) (entries : List Item) (u v : State) (ends : List End) (counts : List ℕ) (r : Result (Unit {0}) E)
+    → q ≡ p → nexuses ≡ q.nexuses.items → u ≡ v → Puts old new (trace_body (names_of nexuses) entries u (map ending_of ends) counts) r
+    → Puts old new (trace_body (names_in (scenario_of p)) entries v (map ending_of ends) counts) r
+body_of_parts old new p q nexuses entries u v ends counts r same items unit puts =
+    let names = ap names_of (items ∙ ap (λ (o : Parts). o.nexuses.items) same) ∙ names_of_scenario p in
+    subst (λ w. Puts old new (trace_body (names_in (scenario_of p)) entries w (map ending_of ends) counts) r) unit
+    (subst (λ ns. Puts old new (trace_body ns entries u (map ending_of ends) counts) r) names puts)

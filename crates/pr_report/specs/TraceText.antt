@@ -107,7 +107,9 @@ ending_lines host names counts [] = []
 ending_lines host names counts (e ∷ es) =
     ending_line (name_of names host) e (slice_index counts host) ++ ending_lines (host + 1) names counts es
 
+-- the lines below the first one
+abbrev pub trace_body : List (List ℕ) → List Item → State → List Ending → List ℕ → List ℕ
+trace_body names history unit ends counts = item_lines 0 names history ++ (unit_line names unit ++ ending_lines 0 names counts ends)
+
 abbrev pub trace_text : ℕ → List (List ℕ) → List Item → State → List Ending → List ℕ → List ℕ
-trace_text version names history unit ends counts =
-    (first_line version ++ codes "\n")
-    ++ (item_lines 0 names history ++ (unit_line names unit ++ ending_lines 0 names counts ends))
+trace_text version names history unit ends counts = (first_line version ++ codes "\n") ++ trace_body names history unit ends counts

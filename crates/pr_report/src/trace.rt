@@ -11,7 +11,7 @@ ghost use Rattle.std.specs.Bool.{OnTrue, OnFalse};
 ghost use Rattle.std.specs.Fmt.{decimal};
 ghost use Rattle.pr_report.specs.Printed.{printed_word};
 ghost use Rattle.pr_report.specs.PrintedLines.{line, joined_by_spaces};
-ghost use Rattle.pr_report.specs.TraceText.{ending_line, ending_lines, entry_line, held_word, item_line, item_lines, name_of, names_in, names_of, registration_words, reset_line, sense_data, trace_text, unit_line};
+ghost use Rattle.pr_report.specs.TraceText.{ending_line, ending_lines, entry_line, held_word, item_line, item_lines, name_of, names_in, names_of, registration_words, reset_line, sense_data, trace_body, trace_text, unit_line};
 
 use crate::first_line::put_first;
 use crate::output::{Page, WriteFault, put};
@@ -83,10 +83,61 @@ fn put_trace<W: Write>(
 {
     let mut page = Page::new();
     add_line(writer, &mut page, nexuses, &TraceLine::First(version))?;
-    add_items(writer, &mut page, nexuses, history)?;
-    add_line(writer, &mut page, nexuses, &TraceLine::Unit(unit))?;
-    add_ends(writer, &mut page, nexuses, ends, counts)?;
+    add_body(writer, &mut page, nexuses, history, unit, ends, counts)?;
     put(writer, page.as_slice())
+}
+
+/// Writes the lines of a trace below its first one, in the same way.
+pub fn write_trace_body<W: Write>(
+    writer: &mut W,
+    scenario: &Scenario,
+    history: &[Item],
+    unit: &Unit,
+    ends: &[End],
+    counts: &[u32],
+) -> Result<(), WriteFault>
+    ensures { Puts (W.contents writer.old) (W.contents writer.new) (trace_body (names_in (scenario_of scenario.now)) history.now unit.now.registry (map ending_of ends.now) counts.now) result }
+{
+    put_trace_body(
+        writer,
+        &scenario.parts().nexuses,
+        history,
+        unit.registry(),
+        ends,
+        counts,
+    )
+}
+
+fn put_trace_body<W: Write>(
+    writer: &mut W,
+    nexuses: &[Nexus],
+    history: &[Item],
+    unit: &Registry,
+    ends: &[End],
+    counts: &[u32],
+) -> Result<(), WriteFault>
+    ensures { Puts (W.contents writer.old) (W.contents writer.new) (trace_body (names_of nexuses.now) history.now unit.now (map ending_of ends.now) counts.now) result }
+{
+    let mut page = Page::new();
+    add_body(writer, &mut page, nexuses, history, unit, ends, counts)?;
+    put(writer, page.as_slice())
+}
+
+// The items, the unit and the ends.
+fn add_body<W: Write>(
+    writer: &mut W,
+    page: &mut Page,
+    nexuses: &[Nexus],
+    history: &[Item],
+    unit: &Registry,
+    ends: &[End],
+    counts: &[u32],
+) -> Result<(), WriteFault>
+    ensures { PutsAllBut (W.contents writer.old) (W.contents writer.new) (page.old.items ++ trace_body (names_of nexuses.now) history.now unit.now (map ending_of ends.now) counts.now) page.new.items result }
+{
+    add_items(writer, page, nexuses, history)?;
+    add_line(writer, page, nexuses, &TraceLine::Unit(unit))?;
+    add_ends(writer, page, nexuses, ends, counts)
 }
 
 fn add_items<W: Write>(
@@ -272,8 +323,9 @@ fn key_of(unit: &Registry, host: usize) -> Option<u64>
     }
 }
 
+/// The word for a reservation: its type and holder, as `5:a`, or its type, or `none`.
 #[tactic(auto, unfolding(crate::specs::Printed::printed_word))]
-pub(crate) fn held_word(nexuses: &[Nexus], held: Option<Held>) -> Word<'_>
+pub fn held_word(nexuses: &[Nexus], held: Option<Held>) -> Word<'_>
     ensures { printed_word result ≡ held_word (names_of nexuses.now) held }
 {
     match held {
