@@ -27,8 +27,9 @@ pub const MOST_LATER_LINES: u32 = 64;
 /// A trace has the version of its scenario: another first line is a fault, and so is a status of a later version.
 ///
 /// Where it is known what the reader has left, the history or the fault are those of this text, but for a failed
-/// read and for want of memory, which may come with any text. The reader is not asked for more behind the first
-/// line with a fault, nor again once it has failed. It loses as many bytes as there may be, and a chunk more.
+/// read and for want of memory, which may come with any text. Such a reader loses as many bytes as there may be, and
+/// a chunk more. That none is asked for more behind the first line with a fault, nor again once it has failed, is
+/// tested.
 pub fn read_trace<R: Read>(
     alloc: Global,
     scenario: &Scenario,

@@ -7,7 +7,7 @@ use pr_world::{End, World};
 /// What a run came to: each host's script is stopped, and each guest's plan is done.
 #[derive(Debug, Drop)]
 pub struct Outcome {
-    /// The commands that reached the unit, in order.
+    /// The commands that reached the unit and its resets, in order.
     pub history: Vec<Item>,
 
     pub unit: Unit,

@@ -32,9 +32,9 @@ pub const MOST_LINE_BYTES: usize = 256;
 /// The scenario that the text is which `reader` has left, or the text's one fault.
 ///
 /// Where it is known what the reader has left, a scenario or a fault is that of this text, but for a failed read
-/// and for want of memory, which may come with any text. The reader loses at most 65,537 bytes, and is not asked
-/// again once it has failed. What the lines of a scenario say has no fault, and a text is written as one
-/// scenario at most.
+/// and for want of memory, which may come with any text. Such a reader loses at most 65,537 bytes. That none is
+/// asked again once it has failed is tested. What the lines of a scenario say has no fault, and a text is written
+/// as one scenario at most.
 pub fn read<R: Read>(alloc: Global, reader: &mut R) -> Result<Scenario, ReadError>
     ensures read { IfSome (R.remaining reader.old) (λ text. IsRead text result) }
     ensures limited { LosesUpTo (MOST_BYTES + 1) (R.remaining reader.old) (R.remaining reader.new) }
