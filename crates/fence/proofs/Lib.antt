@@ -6,3 +6,4 @@ pub mod Reasons
 pub mod Performing
 pub mod Telling
 pub mod Taking
+pub mod Witnessing

@@ -1,6 +1,7 @@
 pub mod FaultText
 pub mod Endings
 pub mod Steps
+pub mod Witnesses
 pub mod Replays
 pub mod Checks
 pub mod Audits

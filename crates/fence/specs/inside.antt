@@ -2,3 +2,4 @@ pub mod Judgements
 pub mod Audited
 pub mod PlannedReplays
 pub mod Performances
+pub mod Witnessed

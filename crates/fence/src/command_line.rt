@@ -7,12 +7,14 @@ use std::alloc::{AllocError, Global};
 const VERSION: &str = "0.1.0 (language fence 2, for rattle-kit-13f)";
 
 const STATUSES: &str =
-    "Exit status: 0 done, accepted or legal; 1 a script is refused or trapped, or a trace is illegal; 2 the command line is at fault, or help or version was asked for; \
+    "Exit status: 0 done, accepted or legal, or no witness is found; 1 a script is refused or trapped, a witness is found, or a trace is illegal; 2 the command line is at fault, or help or version was asked for; \
 3 input or output is at fault; 4 memory ran out, or a thread could not be started. A fault is told in one line on standard error.";
 
 const CHECK_CALL: &str = "For example: fence check preempted-writer.fence";
 
 const OUTLINE_CALL: &str = "For example: fence outline missing-arm.fence";
+
+const WITNESS_CALL: &str = "For example: fence witness missing-arm.fence";
 
 const REPLAY_CALL: &str = "For example: fence replay preempted-writer.fence a a b a";
 
@@ -37,6 +39,7 @@ fn command<'a>(alloc: Global) -> Result<Command<'a>, AllocError> {
         .arg_required_else_help(true)
         .subcommand(check(alloc)?)?
         .subcommand(outline(alloc)?)?
+        .subcommand(witness(alloc)?)?
         .subcommand(replay(alloc)?)?
         .subcommand(run(alloc)?)?
         .subcommand(audit(alloc)?)
@@ -46,7 +49,7 @@ fn check<'a>(alloc: Global) -> Result<Command<'a>, AllocError> {
     Command::new(alloc, "check")
         .about("Verifies the scripts, and writes the verdict")
         .after_help(CHECK_CALL)
-        .arg(file(alloc))
+        .arg(files(alloc))
 }
 
 fn outline<'a>(alloc: Global) -> Result<Command<'a>, AllocError> {
@@ -55,6 +58,13 @@ fn outline<'a>(alloc: Global) -> Result<Command<'a>, AllocError> {
             "Writes what can be known of the unit at each send of the scripts, and which replies may come",
         )
         .after_help(OUTLINE_CALL)
+        .arg(file(alloc))
+}
+
+fn witness<'a>(alloc: Global) -> Result<Command<'a>, AllocError> {
+    Command::new(alloc, "witness")
+        .about("Searches for a run that shows why the scripts are refused, and writes it")
+        .after_help(WITNESS_CALL)
         .arg(file(alloc))
 }
 
@@ -91,6 +101,13 @@ fn audit<'a>(alloc: Global) -> Result<Command<'a>, AllocError> {
         .after_help(AUDIT_CALL)
         .arg(file(alloc))?
         .arg(trace)
+}
+
+fn files<'a>(alloc: Global) -> Arg<'a> {
+    file(alloc)
+        .help("The scenario; - is standard input. Of several each line is behind its path")
+        .action(ArgAction::Append)
+        .num_args(1..)
 }
 
 fn file<'a>(alloc: Global) -> Arg<'a> {

@@ -15,7 +15,9 @@ mod fault;
 mod outlines;
 mod replays;
 mod runs;
+mod several;
 mod steps;
+mod witnesses;
 
 use crate::audits::do_audit;
 use crate::checks::do_check;
@@ -24,6 +26,8 @@ use crate::fault::{Fault, Status, tell};
 use crate::outlines::do_outline;
 use crate::replays::do_replay;
 use crate::runs::do_run;
+use crate::several::{Line, put_labelled, worse};
+use crate::witnesses::do_witness;
 use clap::ArgMatches;
 use clap::error::ErrorKind;
 use pr_text::ReadError;
@@ -70,6 +74,7 @@ fn run_matches<T: Threads + Wait + Sync>(
     match matches.subcommand() {
         Some(("check", arguments)) => run_check(rt, arguments),
         Some(("outline", arguments)) => run_outline(rt, arguments),
+        Some(("witness", arguments)) => run_witness(rt, arguments),
         Some(("replay", arguments)) => run_replay(rt, arguments),
         Some(("run", arguments)) => run_threads(rt, threads, arguments),
         Some(("audit", arguments)) => run_audit(rt, arguments),
@@ -78,10 +83,11 @@ fn run_matches<T: Threads + Wait + Sync>(
 }
 
 fn run_check(rt: &HostRuntime, arguments: &ArgMatches<'_>) -> Status {
-    let Some(path) = arguments.get_str("FILE") else {
-        return fail(&mut rt.stderr(), Fault::Usage);
-    };
-    check_path(rt, path)
+    match arguments.get_strs("FILE") {
+        Some([path]) => check_path(rt, path, &mut rt.stdout(), &mut rt.stderr()),
+        Some(paths) => check_paths(rt, paths),
+        None => fail(&mut rt.stderr(), Fault::Usage),
+    }
 }
 
 fn run_outline(rt: &HostRuntime, arguments: &ArgMatches<'_>) -> Status {
@@ -89,6 +95,13 @@ fn run_outline(rt: &HostRuntime, arguments: &ArgMatches<'_>) -> Status {
         return fail(&mut rt.stderr(), Fault::Usage);
     };
     outline_path(rt, path)
+}
+
+fn run_witness(rt: &HostRuntime, arguments: &ArgMatches<'_>) -> Status {
+    let Some(path) = arguments.get_str("FILE") else {
+        return fail(&mut rt.stderr(), Fault::Usage);
+    };
+    witness_path(rt, path)
 }
 
 fn run_replay(rt: &HostRuntime, arguments: &ArgMatches<'_>) -> Status {
@@ -117,16 +130,35 @@ fn run_audit(rt: &HostRuntime, arguments: &ArgMatches<'_>) -> Status {
 }
 
 // `fence check FILE`, where `-` is standard input.
-fn check_path(rt: &HostRuntime, path: &str) -> Status {
-    let mut output = rt.stdout();
-    let mut errors = rt.stderr();
+fn check_path<W: Write, E: Write>(
+    rt: &HostRuntime,
+    path: &str,
+    output: &mut W,
+    errors: &mut E,
+) -> Status {
     if path == "-" {
-        return do_check(rt.alloc(), &mut rt.stdin(), &mut output, &mut errors);
+        return do_check(rt.alloc(), &mut rt.stdin(), output, errors);
     }
     match fs::open(rt, path) {
-        Ok(mut file) => do_check(rt.alloc(), &mut file, &mut output, &mut errors),
-        Err(error) => fail(&mut errors, file_fault(&error)),
+        Ok(mut file) => do_check(rt.alloc(), &mut file, output, errors),
+        Err(error) => fail(errors, file_fault(&error)),
     }
+}
+
+// `fence check FILE FILE ..`: each line behind its path, and the worst status.
+fn check_paths(rt: &HostRuntime, paths: &[&str]) -> Status {
+    let mut worst = Status::Done;
+    for path in paths {
+        let mut written = Line::new();
+        let mut told = Line::new();
+        let status = check_path(rt, path, &mut written, &mut told);
+        let (mut output, mut errors) = (rt.stdout(), rt.stderr());
+        worst = worse(
+            worst,
+            put_labelled(&mut output, &mut errors, path, &written, &told, status),
+        );
+    }
+    worst
 }
 
 // `fence outline FILE`, where `-` is standard input.
@@ -138,6 +170,19 @@ fn outline_path(rt: &HostRuntime, path: &str) -> Status {
     }
     match fs::open(rt, path) {
         Ok(mut file) => do_outline(rt.alloc(), &mut file, &mut output, &mut errors),
+        Err(error) => fail(&mut errors, file_fault(&error)),
+    }
+}
+
+// `fence witness FILE`, where `-` is standard input.
+fn witness_path(rt: &HostRuntime, path: &str) -> Status {
+    let mut output = rt.stdout();
+    let mut errors = rt.stderr();
+    if path == "-" {
+        return do_witness(rt.alloc(), &mut rt.stdin(), &mut output, &mut errors);
+    }
+    match fs::open(rt, path) {
+        Ok(mut file) => do_witness(rt.alloc(), &mut file, &mut output, &mut errors),
         Err(error) => fail(&mut errors, file_fault(&error)),
     }
 }

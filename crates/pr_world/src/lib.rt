@@ -18,7 +18,7 @@ mod world;
 
 pub use auditing::{AuditError, audit};
 pub use auditor::Auditor;
-pub use course::commands_by;
+pub use course::{commands_by, counts_of};
 pub use end::End;
 pub use laws::{
     replays_are_legal, safe_replays_end_untrapped, safe_replays_keep_budgets,

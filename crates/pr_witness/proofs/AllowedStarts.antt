@@ -1,0 +1,70 @@
+-- That a start is allowed.
+use Rattle.std.proofs.Common.{◌≡◌, ℕ, ◌+◌, ◌<◌, ◌≤◌, Bool, true, false, ◌==◌, IsTrue, List, length, Option, Some, None, refl, sym, ◌∙◌, subst, below_more, arith}
+use Rattle.std.specs.Prelude.{map, option_map}
+use Rattle.std.specs.FinSet as set
+use Rattle.std.specs.List.{slice_get, Contains}
+use Rattle.std.proofs.lemmas.Bool.Decides.{nat_tests}
+use Rattle.std.proofs.lemmas.List.{length-map}
+use Rattle.std.proofs.lemmas.Option.{none-some, same_Some, slice_get-map, slice_get_within}
+use Rattle.pr_attention.specs.Attentions.{AreAttentions, Codes, is_attention, power_on, reservations_preempted, reservations_released, registrations_preempted}
+use Rattle.pr_registry.specs.Registrations.{key_of}
+use Rattle.pr_unit.specs.UnitStates.{UnitState, IsWellFormed}
+use Rattle.pr_roles.specs.declared.parts.Nexus.{Nexus as NexusPart}
+use Rattle.pr_roles.specs.declared.parts.Parts.{Parts}
+use Rattle.pr_roles.specs.Scenarios.{Nexus, nexus_of, scenario_of}
+use Rattle.pr_roles.specs.Starts.{IsAllowedStart}
+use Rattle.pr_witness.specs.inside.Starting.{IsWithin, MayStart, MayStartBelow}
+
+-- ---- attentions
+
+-- of the four each is kept
+pub within : (codes most : Codes) → AreAttentions codes → (set.contains codes power_on ≡ true → set.contains most power_on ≡ true)
+    → (set.contains codes reservations_preempted ≡ true → set.contains most reservations_preempted ≡ true)
+    → (set.contains codes reservations_released ≡ true → set.contains most reservations_released ≡ true)
+    → (set.contains codes registrations_preempted ≡ true → set.contains most registrations_preempted ≡ true) → IsWithin codes most
+within codes most all one two three four code has =
+    by (code == power_on) refl (code == reservations_preempted) refl (code == reservations_released) refl (code == registrations_preempted) refl (all code has)
+  where
+    kept : (a : ℕ) → (code == a) ≡ true → (set.contains codes a ≡ true → set.contains most a ≡ true) → set.contains most code ≡ true
+    kept a is keeps =
+        let same : code ≡ a = grind (arith, nat_tests) in
+        subst (λ x. set.contains most x ≡ true) (sym same) (keeps (subst (λ x. set.contains codes x ≡ true) same has))
+
+    by : (p : Bool) → (code == power_on) ≡ p → (q : Bool) → (code == reservations_preempted) ≡ q → (r : Bool) → (code == reservations_released) ≡ r → (s : Bool) → (code == registrations_preempted) ≡ s
+        → IsTrue (is_attention code) → set.contains most code ≡ true
+    by true is q qs r rs s ss known = kept power_on is one
+    by false ps true is r rs s ss known = kept reservations_preempted is two
+    by false ps false qs true is s ss known = kept reservations_released is three
+    by false ps false qs false rs true is known = kept registrations_preempted is four
+    by false ps false qs false rs false ss known = let bad : false ≡ true = rw (ps, qs, rs, ss) at known in cc
+
+-- ---- nexuses
+
+-- one nexus more
+pub may_start_more : (ns : List NexusPart) (u : UnitState) (i : ℕ) (n : NexusPart) → slice_get ns i ≡ Some n → MayStart n u i → MayStartBelow ns u i → MayStartBelow ns u (i + 1)
+may_start_more ns u i n is may below = below_more _ i below (λ m at. subst (λ x. MayStart x u i) (same_Some _ _ (sym is ∙ at)) may)
+
+record Found (p : Parts) (u : UnitState) (h : ℕ) (n : Nexus) : Type 0 where
+  pub part : NexusPart
+  pub is : nexus_of part ≡ n
+  pub may : MayStart part u h
+
+found_nexus : (p : Parts) (u : UnitState) (top h : ℕ) (n : Nexus) → length p.nexuses.items ≤ top → MayStartBelow p.nexuses.items u top → slice_get (map nexus_of p.nexuses.items) h ≡ Some n → Found p u h n
+found_nexus p u top h n all below at = by (slice_get p.nexuses.items h) refl (sym (slice_get-map nexus_of p.nexuses.items h) ∙ at)
+  where
+    by : (o : Option NexusPart) → slice_get p.nexuses.items h ≡ o → option_map nexus_of o ≡ Some n → Found p u h n
+    by None is same = absurd (none-some n same)
+    by (Some m) is same =
+        let there : h < length p.nexuses.items = slice_get_within p.nexuses.items h m is in
+        record { part = m; is = same_Some _ _ same; may = below h (omega arith) m is }
+
+pub allowed : (p : Parts) (u : UnitState) → IsWellFormed u → u.registry.hosts ≡ length p.nexuses.items → Contains p.reservations.items u.registry.held
+    → MayStartBelow p.nexuses.items u u.registry.hosts → IsAllowedStart (scenario_of p) u
+unfolding scenario_of
+allowed p u formed hosts held below = record {
+  formed = formed;
+  hosts = hosts ∙ sym (length-map p.nexuses.items nexus_of);
+  registrations = λ h n at. let found = found_nexus p u u.registry.hosts h n (omega (arith, hosts)) below at in subst (λ (x : Nexus). Contains x.start (key_of u.registry h)) found.is found.may.registration;
+  reservation = held;
+  pending = λ h code n at has. let found = found_nexus p u u.registry.hosts h n (omega (arith, hosts)) below at in subst (λ (x : Nexus). set.contains x.pending code ≡ true) found.is (found.may.pending code has);
+}

@@ -1,0 +1,5 @@
+pub mod Refuting
+pub mod AllowedStarts
+pub mod Following
+pub mod Ending
+pub mod TextLines

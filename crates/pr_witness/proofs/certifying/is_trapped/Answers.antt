@@ -1,0 +1,17 @@
+use Rattle.std.proofs.Common.{◌≡◌, ℕ, [], Some, refl, ap, ◌∙◌, arith}
+use Rattle.std.proofs.lemmas.Bool.Decides.{nat_tests}
+use Rattle.pr_world.specs.declared.end.End.{End}
+use Rattle.pr_world.specs.Ends.{ending_of, traps}
+use Rattle.pr_world.proofs.Admitting.{within_parts}
+use Rattle.pr_witness.proofs.Ending.{trapped_from}
+use Rattle.pr_witness.proofs.Following.{control_there}
+use Rattle.pr_witness.proofs.certifying.is_trapped.Goals as goal
+
+pub end-requires : goal.end-requires
+end-requires c =
+    control_there _ _ _ c.requires (within_parts _ _ _ _ _ c.parts.ensures.value c.from.ensures c.len.ensures c.if-from-len.false)
+
+pub returns-in-Trapped : goal.returns-in-Trapped
+returns-in-Trapped c holds =
+    let same : c.in-Trapped.at ≡ c.args.line = grind (arith, nat_tests, holds) in
+    trapped_from _ _ (c.end.ensures [] refl ∙ ap (λ (e : End). Some (ending_of e)) c.in-Trapped.is ∙ ap (λ (at : ℕ). Some (traps at)) same)

@@ -1,0 +1,5 @@
+use Rattle.pr_witness.proofs.Refuting.{breaches_refute_safety}
+use Rattle.pr_witness.proofs.laws.breaches_refute_safety.Goals as goal
+
+pub returns : goal.returns
+returns c = breaches_refute_safety

@@ -1,0 +1,27 @@
+//! Runs that show why a scenario is refused: a search for one, which promises nothing, and a test of what it finds, which
+//! promises that it is a run of the scenario and what it breaks.
+#![tactic(auto)]
+
+mod allowed;
+mod answering;
+mod breach;
+mod certifying;
+mod hit;
+mod laws;
+mod marks;
+mod moves;
+mod program;
+mod retracing;
+mod scripted;
+mod searcher;
+mod searching;
+mod snapshot;
+mod starting;
+mod text;
+
+pub use allowed::is_allowed_start;
+pub use breach::{Breach, Broken};
+pub use certifying::certify;
+pub use laws::{breaches_are_legal, breaches_refute_safety};
+pub use searching::{Bound, Bounds, Finding, USUAL_BOUNDS, search};
+pub use text::write_witness;
