@@ -131,11 +131,7 @@ fn put_search<W: Write>(
 
 // That nothing was found among so many worlds, and the bound that was met.
 #[tactic(auto, unfolding(pr_report::specs::Printed::printed_word))]
-fn put_none<W: Write>(
-    writer: &mut W,
-    worlds: usize,
-    bound: Option<Bound>,
-) -> Result<(), WriteFault>
+fn put_none<W: Write>(writer: &mut W, worlds: usize, bound: Option<Bound>) -> Result<(), WriteFault>
     ensures { Puts (W.contents writer.old) (W.contents writer.new) (line (codes "none") (decimal worlds ∷ bound_words bound)) result }
 {
     let first = Word::Text(b"none");

@@ -1,5 +1,5 @@
 -- The scenario that was read, its steps, and its replay.
-use Rattle.std.proofs.Common.{◌≡◌, ◌<◌, List, ℕ, length, Some, sym, ap, ◌∙◌, subst, arith}
+use Rattle.std.proofs.Common.{◌≡◌, List, ℕ, length, Some, sym, ap, ◌∙◌, subst, arith}
 use Rattle.std.specs.Prelude.{map, option_map, IfSome}
 use Rattle.std.specs.List.{All}
 use Rattle.pr_roles.specs.Scenarios.{scenario_of}

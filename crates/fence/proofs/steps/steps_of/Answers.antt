@@ -1,5 +1,5 @@
 -- One word more.
-use Rattle.std.proofs.Common.{◌<◌, ◌+◌, length, drop, sym, ap, ◌∙◌, subst, IfSome}
+use Rattle.std.proofs.Common.{◌+◌, length, drop, sym, ap, ◌∙◌, subst, IfSome}
 use Rattle.std.specs.Prelude.{map}
 use Rattle.std.specs.List.{All}
 use Rattle.std.proofs.lemmas.List.{drop_more}

@@ -1,5 +1,5 @@
 -- The words before this one are the steps so far, whose nexuses are there.
-use Rattle.std.proofs.Common.{◌≡◌, ◌<◌, length, drop}
+use Rattle.std.proofs.Common.{◌≡◌, length, drop}
 use Rattle.std.specs.Prelude.{map}
 use Rattle.std.specs.List.{All}
 use Rattle.pr_world.specs.Replays.{IsThere}
