@@ -189,7 +189,11 @@ fn ends_of(alloc: Global, participants: &[Participant]) -> Result<Vec<End>, Allo
 }
 
 /// How many commands of each of so many hosts and guests are in the history.
-pub fn counts_of(alloc: Global, history: &[Item], participants: usize) -> Result<Vec<u32>, AllocError>
+pub fn counts_of(
+    alloc: Global,
+    history: &[Item],
+    participants: usize,
+) -> Result<Vec<u32>, AllocError>
     requires { length history.now < 2 ^ 32 }
     ensures { IfOk result (λ counts.
         counts.items ≡ map (λ h. commands_by history.now h) (range_with_len 0 participants)) }
