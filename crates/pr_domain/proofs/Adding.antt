@@ -5,6 +5,7 @@ use Rattle.std.proofs.lemmas.List.{get_or_default}
 use Rattle.pr_unit.specs.UnitStates.{UnitState}
 use Rattle.pr_sets.specs.declared.word.Word.{Word}
 use Rattle.pr_sets.specs.Words.{has}
+use Rattle.pr_sets.specs.Wides.{has_wide}
 use Rattle.pr_views.specs.declared.possibilities.Possibilities.{Possibilities}
 use Rattle.pr_views.specs.Possibilities.{Scope, Item, Registration, Reservation, Attentions}
 use Rattle.pr_views.specs.Views.{IsPossible}
@@ -67,7 +68,7 @@ adds_so s p q L M V W adds leads leaves = record {
 
 pub record IsJoined (old other new : Possibilities) : Type 0 where
   pub registrations : (g r : ℕ) → has_at new.registrations g r ≡ (has_at old.registrations g r || has_at other.registrations g r)
-  pub reservations : (x : ℕ) → has new.reservations x ≡ (has old.reservations x || has other.reservations x)
+  pub reservations : (x : ℕ) → has_wide new.reservations x ≡ (has_wide old.reservations x || has_wide other.reservations x)
   pub pending : (q : ℕ) → has new.pending q ≡ (has old.pending q || has other.pending q)
 
 or_left : (a b : Bool) → a ≡ true → (a || b) ≡ true
@@ -83,12 +84,12 @@ either false b is = inr is
 
 pub joined_old : (s : Scope) (old other new : Possibilities) (i : Item) → IsJoined old other new → IsPossible (view_in s old) i → IsPossible (view_in s new) i
 joined_old s old other new (Registration g r) joined is = (is.0, joined.registrations g r ∙ or_left _ (has_at other.registrations g r) is.1)
-joined_old s old other new (Reservation x) joined is = joined.reservations x ∙ or_left _ (has other.reservations x) is
+joined_old s old other new (Reservation x) joined is = joined.reservations x ∙ or_left _ (has_wide other.reservations x) is
 joined_old s old other new (Attentions q) joined is = joined.pending q ∙ or_left _ (has other.pending q) is
 
 pub joined_other : (s : Scope) (old other new : Possibilities) (i : Item) → IsJoined old other new → IsPossible (view_in s other) i → IsPossible (view_in s new) i
 joined_other s old other new (Registration g r) joined is = (is.0, joined.registrations g r ∙ or_right (has_at old.registrations g r) _ is.1)
-joined_other s old other new (Reservation x) joined is = joined.reservations x ∙ or_right (has old.reservations x) _ is
+joined_other s old other new (Reservation x) joined is = joined.reservations x ∙ or_right (has_wide old.reservations x) _ is
 joined_other s old other new (Attentions q) joined is = joined.pending q ∙ or_right (has old.pending q) _ is
 
 pub joined_either : (s : Scope) (old other new : Possibilities) (i : Item) → IsJoined old other new → IsPossible (view_in s new) i → IsPossible (view_in s old) i ⊎ IsPossible (view_in s other) i
@@ -98,7 +99,7 @@ joined_either s old other new (Registration g r) joined is =
     at : (has_at old.registrations g r ≡ true) ⊎ (has_at other.registrations g r ≡ true) → IsPossible (view_in s old) (Registration g r) ⊎ IsPossible (view_in s other) (Registration g r)
     at (inl had) = inl (is.0, had)
     at (inr had) = inr (is.0, had)
-joined_either s old other new (Reservation x) joined is = either (has old.reservations x) (has other.reservations x) (sym (joined.reservations x) ∙ is)
+joined_either s old other new (Reservation x) joined is = either (has_wide old.reservations x) (has_wide other.reservations x) (sym (joined.reservations x) ∙ is)
 joined_either s old other new (Attentions q) joined is = either (has old.pending q) (has other.pending q) (sym (joined.pending q) ∙ is)
 
 pub adds_after : (s : Scope) (view old after new : Possibilities) (place : Place) (senders : Word) (region : Region) (change : Change)

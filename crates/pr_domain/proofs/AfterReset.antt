@@ -1,5 +1,5 @@
 -- What a reset makes of a view.
-use Rattle.std.proofs.Common.{◌≡◌, ℕ, ◌<◌, Bool, true, false, ◌==◌, ◌&&◌, ◌||◌, nat_lt, refl, sym, ap, ◌∙◌, subst, arith, bit_or}
+use Rattle.std.proofs.Common.{◌≡◌, ℕ, ◌<◌, true, ◌==◌, ◌&&◌, ◌||◌, nat_lt, refl, sym, ap, ◌∙◌, subst, arith, bit_or}
 use Rattle.std.specs.FinSet as set
 use Rattle.std.proofs.lemmas.Bool.{and_parts}
 use Rattle.std.proofs.lemmas.Bool.Decides.{nat_tests}
@@ -13,6 +13,7 @@ use Rattle.pr_unit.specs.UnitStates.{UnitState, is_pending, reset}
 use Rattle.pr_unit.proofs.Resets.{pending-reset, well_formed-reset}
 use Rattle.pr_sets.specs.declared.word.Word.{Word}
 use Rattle.pr_sets.specs.Words.{has}
+use Rattle.pr_sets.specs.Wides.{has_wide}
 use Rattle.pr_views.specs.declared.possibilities.Possibilities.{Possibilities}
 use Rattle.pr_views.specs.Possibilities.{Scope, Item, Registration, Reservation, Attentions, IsSo, count_of_reservations}
 use Rattle.pr_views.specs.Views.{View, IsPossible, Shows}
@@ -57,7 +58,7 @@ is_after_reset s v kept left own is registrations reservations image = record { 
       reservation =
           let seen = shown.reservation in
           let had = is.all u (Reservation seen.0) shown seen.1.1 in
-          (seen.0, (subst (λ w. has w seen.0 ≡ true) (sym reservations) had, seen.1.1));
+          (seen.0, (subst (λ w. has_wide w seen.0 ≡ true) (sym reservations) had, seen.1.1));
       pending =
           let seen = shown.pending in
           let had = is.all u (Attentions seen.0) shown seen.1.1 in
@@ -69,7 +70,7 @@ is_after_reset s v kept left own is registrations reservations image = record { 
         let from = is.only (Registration g r) (got.0, subst (λ ws. has_at ws g r ≡ true) registrations got.1) in
         record { from = from.unit; shown = from.shown; is = from.is }
     only (Reservation x) got =
-        let from = is.only (Reservation x) (subst (λ w. has w x ≡ true) reservations got) in
+        let from = is.only (Reservation x) (subst (λ w. has_wide w x ≡ true) reservations got) in
         record { from = from.unit; shown = from.shown; is = from.is }
     only (Attentions n) got =
         let found = image.only n got in

@@ -31,6 +31,7 @@ use Rattle.pr_sets.specs.declared.word.Word.{Word}
 use Rattle.pr_sets.specs.Numbers.{Numbers}
 use Rattle.pr_views.specs.declared.view.ViewOf.{ViewOf}
 use Rattle.pr_sets.specs.Words.{has}
+use Rattle.pr_sets.specs.Wides.{has_wide}
 use Rattle.pr_views.specs.declared.possibilities.Possibilities.{Possibilities}
 use Rattle.pr_views.specs.Possibilities.{Item, Registration, Reservation, Attentions, place_of, number_of, count_of_reservations}
 use Rattle.pr_views.specs.Views.{View}
@@ -85,7 +86,7 @@ module _ (v : View) (c : Command) (tests : List Test) (ending : Ending) (l : Lan
     (way : IsWay v Left p) (told : IsTold v c tests ending l Left pending)
     (written : is_written v.scope.keys c ≡ true) (whole : FitsCommand c) (there : v.scope.own < v.scope.hosts) where
   -- its possibilities are numbers of registrations, reservations and attentions
-  pub range : (x n : ℕ) → has p.reservations x ≡ true → has pending n ≡ true → AreInRange v.scope.hosts v.scope.keys (record p { pending = pending })
+  pub range : (x n : ℕ) → has_wide p.reservations x ≡ true → has pending n ≡ true → AreInRange v.scope.hosts v.scope.keys (record p { pending = pending })
   range x n reserved pends = record {
     registrations = λ g r small has. (from_part v c tests ending l Left p pending way told (Registration g r) n has pends).2.is.1;
     reservations = λ y has.
@@ -107,7 +108,7 @@ module _ (v : View) (c : Command) (tests : List Test) (ending : Ending) (l : Lan
 
 -- what is known of a way to end
 pub record IsAddedBy (q : Sending) (ending : Ending) (This : Landing → Item → Type 0) (l : Landing) (p : Possibilities) (pending : Word) : Type 0 where
-  pub range : (x n : ℕ) → has p.reservations x ≡ true → has pending n ≡ true → AreInRange q.hosts q.keys.now (record p { pending = pending })
+  pub range : (x n : ℕ) → has_wide p.reservations x ≡ true → has pending n ≡ true → AreInRange q.hosts q.keys.now (record p { pending = pending })
   pub lands : (m : Landing) (i : Item) → ((m ≡ l) × IsOfWay (scope_of_sending q) p pending i) ↔ This m i
 
 module _ (q : Sending) (asked : IsAsked q) where
@@ -185,7 +186,7 @@ module _ (q : Sending) (asked : IsAsked q) where
 -- ---- what the code reads
 
 pub part_joined : (p free either : Possibilities) → ((g r : ℕ) → has_at either.registrations g r ≡ (has_at p.registrations g r || has_at free.registrations g r))
-    → ((x : ℕ) → has either.reservations x ≡ (has p.reservations x || has free.reservations x)) → (j : Item) → has_part either j ≡ (has_part p j || has_part free j)
+    → ((x : ℕ) → has_wide either.reservations x ≡ (has_wide p.reservations x || has_wide free.reservations x)) → (j : Item) → has_part either j ≡ (has_part p j || has_part free j)
 part_joined p free either registrations reservations (Registration g r) = registrations g r
 part_joined p free either registrations reservations (Reservation x) = reservations x
 part_joined p free either registrations reservations (Attentions q) = refl

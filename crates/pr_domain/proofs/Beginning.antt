@@ -10,7 +10,7 @@ use Rattle.pr_unit.specs.UnitStates.{UnitState, IsWellFormed, is_pending}
 use Rattle.pr_unit.proofs.Pairs.{contains-of_host}
 use Rattle.pr_roles.specs.Fitting.{is_reservation}
 use Rattle.pr_roles.specs.Scenarios.{Scenario, nexus}
-use Rattle.pr_sets.specs.Words.{has}
+use Rattle.pr_sets.specs.Wides.{has_wide}
 use Rattle.pr_views.specs.declared.possibilities.Possibilities.{Possibilities}
 use Rattle.pr_views.specs.Possibilities.{Scope, Item, Attentions, IsSo}
 use Rattle.pr_views.specs.Views.{Shows}
@@ -61,7 +61,7 @@ starts_so sc s p u i are shown so = record {
     registrations = λ g n is.
         let found = shown.registrations g (are.there g n is) in
         subst (Contains n.start) (sym found.1.1.2) ((are.registrations g found.0 n is found.1.1.1).0 found.1.0.1);
-    reservation = (are.reservations u.registry.held fits).0 (subst (λ x. has p.reservations x ≡ true) shown.reservation.1.1 shown.reservation.1.0);
+    reservation = (are.reservations u.registry.held fits).0 (subst (λ x. has_wide p.reservations x ≡ true) shown.reservation.1.1 shown.reservation.1.0);
     pending = λ h code n is pends.
         let parts = pending_alone s u q h code pends in
         (are.pending q n seen.0 (subst (λ g. nexus sc g ≡ Some n) parts.0 is)).0 shown.pending.1.0 code parts.1;

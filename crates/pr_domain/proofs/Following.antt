@@ -7,6 +7,7 @@ use Rattle.pr_unit.specs.UnitStates.{UnitState}
 use Rattle.pr_roles.specs.Fitting.{AreDeclared, are_distinct}
 use Rattle.pr_sets.specs.declared.word.Word.{Word}
 use Rattle.pr_sets.specs.Words.{has}
+use Rattle.pr_sets.specs.Wides.{has_wide}
 use Rattle.pr_views.specs.declared.possibilities.Possibilities.{Possibilities}
 use Rattle.pr_views.specs.Possibilities.{Scope, Item, Registration, Reservation, Attentions, IsSo}
 use Rattle.pr_views.specs.Views.{IsPossible}
@@ -37,7 +38,7 @@ becomes_so s sender c u w g r changes so = at (eqb_tells g sender)
 -- the possibilities are made of what is gathered
 pub record IsMadeOf (view : Possibilities) (own : ℕ) (place : Place) (change : Change) (words : List Word) (p : Possibilities) : Type 0 where
   pub registrations : (g : ℕ) → g < MOST_NEXUSES → IsImage (has_at words g) (becomes place.sender change g) (has_at p.registrations g)
-  pub reservation : (x : ℕ) → has p.reservations x ≡ (x == change.reservation)
+  pub reservation : (x : ℕ) → has_wide p.reservations x ≡ (x == change.reservation)
   pub owners : Word
   pub are_own : (r : ℕ) → has_at words own r ≡ has owners r
   pub told : AreTold change owners view.pending p.pending

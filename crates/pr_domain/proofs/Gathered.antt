@@ -13,6 +13,7 @@ use Rattle.pr_unit.specs.UnitStates.{UnitState, IsWellFormed}
 use Rattle.pr_roles.specs.Fitting.{is_reservation, AreDeclared, are_distinct}
 use Rattle.pr_sets.specs.declared.word.Word.{Word}
 use Rattle.pr_sets.specs.Words.{has}
+use Rattle.pr_sets.specs.Wides.{has_wide}
 use Rattle.pr_views.specs.declared.portion.Portion.{Portion}
 use Rattle.pr_views.specs.declared.possibilities.Possibilities.{Possibilities}
 use Rattle.pr_views.specs.Possibilities.{Scope, Registration, Reservation, IsSo}
@@ -116,7 +117,7 @@ pub is_portion : (s : Scope) (view : Possibilities) (place : Place) (senders : W
 is_portion s view place senders region p is proper of = record {
   sender = subst (λ n. n < s.hosts) (sym of.sender) (subst (λ n. place.sender < n) (sym is.hosts) is.sender);
   registrations = λ g r below has. (and_parts (has_at view.registrations g r) _ (sym (of.left g r (subst (λ n. g < n) is.hosts below)) ∙ has)).0;
-  reservation = subst (λ n. has view.reservations n ≡ true) (sym of.reservation) is.possible;
+  reservation = subst (λ n. has_wide view.reservations n ≡ true) (sym of.reservation) is.possible;
   holder = λ held fits number.
       let same = same_held s.hosts place.held held is.held fits (sym is.number ∙ sym of.reservation ∙ number) in
       gives s view place senders region p is proper of held same fits;

@@ -8,7 +8,7 @@ use Rattle.pr_unit.proofs.Steps.{well_formed-step, hosts-step}
 use Rattle.pr_roles.specs.declared.role.Clause.{Clause}
 use Rattle.pr_roles.specs.Permits.{names, holds}
 use Rattle.pr_roles.specs.Fitting.{is_action}
-use Rattle.pr_sets.specs.Words.{has}
+use Rattle.pr_sets.specs.Wides.{has_wide}
 use Rattle.pr_views.specs.declared.possibilities.Possibilities.{Possibilities}
 use Rattle.pr_views.specs.Possibilities.{Scope, Item, Registration, Reservation, Attentions, number_of, count_of_reservations}
 use Rattle.pr_views.specs.Views.{IsPossible, Shows}
@@ -43,7 +43,7 @@ first_more s view a b c clause sender n leaves before now =
     split u w led (inl same) = inr (subst (λ x. PlaceLeads (view_in s view) clause sender x u w) same.1 led.leads)
     split u w led (inr other) = inl (record { reservation = led.reservation; below = (let below = led.below in let differs = other.1 in omega arith); leads = led.leads })
 
-pub first_skips : (s : Scope) (view a b : Possibilities) (clause : Clause) (sender n : ℕ) (leaves : Item → Type 0) → has view.reservations n ≡ false
+pub first_skips : (s : Scope) (view a b : Possibilities) (clause : Clause) (sender n : ℕ) (leaves : Item → Type 0) → has_wide view.reservations n ≡ false
     → Adds s a b (FirstLeads n (view_in s view) clause sender) leaves → Adds s a b (FirstLeads (n + 1) (view_in s view) clause sender) leaves
 first_skips s view a b clause sender n leaves missing before =
     first_more s view a b b clause sender n leaves before (adds_nothing s b (PlaceLeads (view_in s view) clause sender n) leaves (λ u w led. none u w led))
@@ -51,7 +51,7 @@ first_skips s view a b clause sender n leaves missing before =
     none : (u w : UnitState) → PlaceLeads (view_in s view) clause sender n u w → ⊥
     none u w led =
         let seen = led.leads.shown.reservation in
-        false≢true (sym missing ∙ subst (λ x. has view.reservations x ≡ true) (one_reservation s u seen.0 n seen.1.1 led.leads.reserved) seen.1.0)
+        false≢true (sym missing ∙ subst (λ x. has_wide view.reservations x ≡ true) (one_reservation s u seen.0 n seen.1.1 led.leads.reserved) seen.1.0)
 
 -- ---- the whole
 

@@ -12,6 +12,7 @@ use Rattle.pr_unit.specs.Replies.{good, data_of}
 use Rattle.pr_script.specs.declared.script.Test.{Test}
 use Rattle.pr_sets.specs.declared.word.Word.{Word}
 use Rattle.pr_sets.specs.Words.{has}
+use Rattle.pr_sets.specs.Wides.{has_wide}
 use Rattle.pr_views.specs.declared.possibilities.Possibilities.{Possibilities}
 use Rattle.pr_views.specs.Possibilities.{Scope, Item, Registration, Reservation, Attentions, IsSo}
 use Rattle.pr_views.specs.Views.{View, Shows}
@@ -156,7 +157,7 @@ grows_good v c tests arm At old mid new p after shows done is then_is first seco
 
 pub part_here : (s : Scope) (view : Possibilities) (place : Place) (senders : Word) (region : Region) (words : List Word) (p : Possibilities) → IsPlace s view place
     → IsGathered (view_in s view) place senders region words → ((g r : ℕ) → place.hosts ≤ g → has_at words g r ≡ false)
-    → p.registrations ≡ words → ((x : ℕ) → has p.reservations x ≡ (x == place.reservation))
+    → p.registrations ≡ words → ((x : ℕ) → has_wide p.reservations x ≡ (x == place.reservation))
     → IsPart (view_in s view) (IsAt (view_in s view) place senders region) (λ u. u) p
 part_here s view place senders region words p is gathered beyond registrations reservations = record { all = all; only = only }
   where
@@ -188,7 +189,7 @@ pub part_after : (s : Scope) (c : Command) (change : Change) (view : Possibiliti
     → IsGathered (view_in s view) place senders region words → ((g r : ℕ) → place.hosts ≤ g → has_at words g r ≡ false)
     → ((g : ℕ) → IsImage (has_at words g) (becomes place.sender change g) (has_at after g))
     → ((u : UnitState) → IsAt (view_in s view) place senders region u → Changes s s.own change u (effect u s.own c))
-    → p.registrations ≡ after → ((x : ℕ) → has p.reservations x ≡ (x == change.reservation))
+    → p.registrations ≡ after → ((x : ℕ) → has_wide p.reservations x ≡ (x == change.reservation))
     → IsPart (view_in s view) (IsAt (view_in s view) place senders region) (λ u. effect u s.own c) p
 part_after s c change view place senders region words after p is own gathered beyond images changes registrations reservations = record { all = all; only = only }
   where
@@ -238,7 +239,7 @@ part_after s c change view place senders region words after p is own gathered be
 
 pub leaf_conflict : (s : Scope) (c : Command) (tests : List Test) (view : Possibilities) (place : Place) (senders : Word) (b : Branch) (arm : ℕ) (words : List Word) (here : Possibilities) (old new : Tally)
     → IsRight s c tests view place senders b arm → b.ending ≡ ending.Conflict → IsGathered (view_in s view) place senders b.region words → ((g r : ℕ) → place.hosts ≤ g → has_at words g r ≡ false)
-    → here.registrations ≡ words → ((x : ℕ) → has here.reservations x ≡ (x == place.reservation)) → IsAdded old 0 here new
+    → here.registrations ≡ words → ((x : ℕ) → has_wide here.reservations x ≡ (x == place.reservation)) → IsAdded old 0 here new
     → Grows (view_in s view) c tests old new (IsAt (view_in s view) place senders b.region)
 leaf_conflict s c tests view place senders b arm words here old new right ended gathered beyond registrations reservations added =
     grows_conflict (view_in s view) c tests (IsAt (view_in s view) place senders b.region) old new here (λ u at. at.shown)
@@ -247,7 +248,7 @@ leaf_conflict s c tests view place senders b arm words here old new right ended 
 
 pub leaf_fault : (s : Scope) (c : Command) (tests : List Test) (view : Possibilities) (place : Place) (senders : Word) (b : Branch) (arm : ℕ) (sense : Sense) (words : List Word) (here : Possibilities) (old mid new : Tally)
     → IsRight s c tests view place senders b arm → b.ending ≡ ending.Fault sense → IsGathered (view_in s view) place senders b.region words → ((g r : ℕ) → place.hosts ≤ g → has_at words g r ≡ false)
-    → here.registrations ≡ words → ((x : ℕ) → has here.reservations x ≡ (x == place.reservation)) → IsAdded old 1 here mid → IsAdded mid 2 here new
+    → here.registrations ≡ words → ((x : ℕ) → has_wide here.reservations x ≡ (x == place.reservation)) → IsAdded old 1 here mid → IsAdded mid 2 here new
     → Grows (view_in s view) c tests old new (IsAt (view_in s view) place senders b.region)
 leaf_fault s c tests view place senders b arm sense words here old mid new right ended gathered beyond registrations reservations first second =
     grows_fault (view_in s view) c tests sense (IsAt (view_in s view) place senders b.region) old mid new here (λ u at. at.shown)
@@ -257,9 +258,9 @@ leaf_fault s c tests view place senders b arm sense words here old mid new right
 pub leaf_good : (s : Scope) (c : Command) (tests : List Test) (view : Possibilities) (place : Place) (senders : Word) (b : Branch) (arm way : ℕ) (change : Change) (words changed : List Word) (here after : Possibilities) (old mid new : Tally)
     → IsRight s c tests view place senders b arm → b.ending ≡ ending.Good change → way ≡ suc (suc (suc arm))
     → IsGathered (view_in s view) place senders b.region words → ((g r : ℕ) → place.hosts ≤ g → has_at words g r ≡ false)
-    → here.registrations ≡ words → ((x : ℕ) → has here.reservations x ≡ (x == place.reservation))
+    → here.registrations ≡ words → ((x : ℕ) → has_wide here.reservations x ≡ (x == place.reservation))
     → ((g : ℕ) → IsImage (has_at words g) (becomes place.sender change g) (has_at changed g))
-    → after.registrations ≡ changed → ((x : ℕ) → has after.reservations x ≡ (x == change.reservation))
+    → after.registrations ≡ changed → ((x : ℕ) → has_wide after.reservations x ≡ (x == change.reservation))
     → IsAdded old 1 here mid → IsAdded mid way after new
     → Grows (view_in s view) c tests old new (IsAt (view_in s view) place senders b.region)
 leaf_good s c tests view place senders b arm way change words changed here after old mid new right ended is_way gathered beyond registrations reservations images then_registrations then_reservations first second =

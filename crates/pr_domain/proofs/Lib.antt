@@ -40,5 +40,6 @@ pub mod Unpending
 pub mod Viewed
 pub mod Walking
 pub mod Ways
+pub mod WhateverReserved
 pub mod Within
 pub mod Written

@@ -7,6 +7,7 @@ use Rattle.pr_sets.specs.Numbers.{Numbers}
 use Rattle.pr_views.specs.declared.view.ViewOf.{ViewOf}
 use Rattle.pr_sets.specs.declared.word.Word.{Word}
 use Rattle.pr_sets.specs.Words.{has}
+use Rattle.pr_sets.specs.Wides.{has_wide}
 use Rattle.pr_views.specs.declared.possibilities.Possibilities.{Possibilities}
 use Rattle.pr_views.specs.Possibilities.{Scope, Item, Registration, Reservation, Attentions}
 use Rattle.pr_views.specs.Views.{IsPossible}
@@ -206,7 +207,7 @@ possible_scope s t p same (Attentions q) is = is
 
 -- the view that is added is of the way
 pub added_way : {S : Type 0} (members : S → Numbers) (s : Scope) (way : Possibilities) (pending : Word) (landing : Landing) (v : ViewOf S) (x q : ℕ) → v.hosts ≡ s.hosts
-    → has way.reservations x ≡ true → has pending q ≡ true
+    → has_wide way.reservations x ≡ true → has pending q ≡ true
     → ((own : ℕ) (i : Item) → IsPossible (view_of members own v) i ↔ IsPossible (view_in (scope_of own v) (record way { pending = pending })) i)
     → (l : Landing) (i : Item) → ((l ≡ landing) × IsPossible (view_of members s.own v) i) ↔ ((l ≡ landing) × IsOfWay s way pending i)
 added_way members s way pending landing v x q hosts reserved pends same l i = (

@@ -1,6 +1,7 @@
 -- Where a command ends GOOD, and what a role says of it there.
-use Rattle.std.proofs.Common.{◌≡◌, ◌⊎◌, ◌↔◌, ℕ, zero, suc, ◌+◌, ◌<◌, ◌≤◌, Bool, true, false, ◌==◌, ◌&&◌, ◌||◌, not, IsTrue, List, [], ◌∷◌, length, Option, Some, None, is_some, IfSome, IfNone, refl, sym, ap, ◌∙◌, subst, inl, inr, arith}
+use Rattle.std.proofs.Common.{◌≡◌, ◌⊎◌, ◌↔◌, ℕ, zero, suc, ◌+◌, ◌<◌, ◌≤◌, Bool, true, false, ◌==◌, ◌&&◌, ◌||◌, not, IsTrue, List, [], ◌∷◌, length, Option, Some, None, is_some, IfSome, IfNone, refl, sym, ap, ◌∙◌, subst, inl, inr, arith, is_none}
 use Rattle.std.specs.List.{slice_get, list_any, All, Contains}
+use Rattle.std.proofs.lemmas.List.Folds.{Any-from_list_any, list_any-from_Any}
 use Rattle.std.proofs.lemmas.Bool.{and_parts, cases_eq, cases_order, false≢true, or_left}
 use Rattle.std.proofs.lemmas.Option.{same_Some}
 use Rattle.std.proofs.lemmas.Bool.Decides.{nat_tests}
@@ -21,6 +22,7 @@ use Rattle.pr_roles.specs.declared.role.Condition.TheVariants as condition
 use Rattle.pr_roles.specs.Permits.{names, holds, clause_permits}
 use Rattle.pr_sets.specs.declared.word.Word.{Word}
 use Rattle.pr_sets.specs.Words.{has}
+use Rattle.pr_sets.specs.Wides.{has_wide}
 use Rattle.pr_views.specs.declared.possibilities.Possibilities.{Possibilities}
 use Rattle.pr_views.specs.Possibilities.{Scope, Registration, Reservation, IsSo, key_at, count_of_reservations}
 use Rattle.pr_views.specs.Views.{View, Shows}
@@ -37,7 +39,7 @@ use Rattle.pr_regions.specs.Regions.{AreBranches, standing_of, Ends, IsProper as
 use Rattle.pr_domain.specs.declared.place.Place.{Place}
 use Rattle.pr_domain.specs.inside.Gathering.{IsPlace, IsUniform, IsProper, IsAt, IsGathered}
 use Rattle.pr_domain.specs.inside.Tallies.{IsRight, IsInOne, HasFirst, HasBoth, IsReserved, IsAsked}
-use Rattle.pr_domain.specs.inside.Permitting.{EndsGood, ArePermitted, scope_at, IsAsking, holds_reservation, holds_at, permits_at, IsReached, IsOneReached, IsOneRefused}
+use Rattle.pr_domain.specs.inside.Permitting.{EndsGood, ArePermitted, scope_at, IsAsking, holds_reservation, holds_at, permits_at, IsReached, IsOneReached, IsOneRefused, permits_always}
 use Rattle.pr_domain.proofs.Gathered.{few_keys, same_reservation}
 use Rattle.pr_domain.proofs.Growing.{listed_there}
 use Rattle.pr_domain.proofs.Asked.{only_uniform, asked_right, asked_covers, asked_back}
@@ -282,6 +284,25 @@ one_registration_permitted keys c view place purpose r w branches listed clauses
           },
     )
 
+-- where a clause permits it by the numbers, it is permitted wherever it ends GOOD
+pub permitted_by_clauses : (keys : List ℕ) (c : Command) (view : Possibilities) (place : Place) (r : ℕ) (clauses : List Clause) → IsThis keys c view place
+    → list_any (λ clause. permits_at clause c place r) clauses ≡ true
+    → ArePermitted (view_in (scope_at keys place.hosts place.sender) view) clauses c (HasBoth (scope_at keys place.hosts place.sender) place r)
+permitted_by_clauses keys c view place r clauses this is u shown both ends = by_numbers keys c view place r clauses u this shown both ∙ is
+
+-- where a clause permits it in every state, it is permitted
+pub permitted_always : (v : View) (c : Command) (clauses : List Clause) → list_any (λ clause. permits_always clause c) clauses ≡ true → ArePermitted v clauses c (λ u. Unit {0})
+permitted_always v c clauses is u shown among ends =
+    let found = Any-from_list_any (λ clause. permits_always clause c) clauses is in
+    list_any-from_Any (λ clause. clause_permits clause u.registry v.scope.own c) clauses (found.0, found.1, found.2, found.3, so found.1 found.4)
+  where
+    at : (condition : Option Condition) (named : Bool) → (is_none condition && named) ≡ true → (named && holds condition u.registry v.scope.own) ≡ true
+    at None named both = ap (λ b. b && true) both
+    at (Some condition) named both = absurd (false≢true both)
+
+    so : (clause : Clause) → permits_always clause c ≡ true → clause_permits clause u.registry v.scope.own c ≡ true
+    so clause both = at clause.condition (names clause.action c) both
+
 -- ---- one registration after another, and one reservation after another
 
 pub refused_as : (v : View) (clauses : List Clause) (c : Command) (A B : UnitState → Type 0) → ((u : UnitState) → A u → B u) → IsOneRefused v clauses c A → IsOneRefused v clauses c B
@@ -342,11 +363,11 @@ one_reservation_more s view clauses c n before here =
     at u one (inr other) = inl (record { reservation = one.reservation; below = (let e = one.below in let o : one.reservation < n = omega (arith, cases_order one.reservation n) in o); reserved = one.reserved })
 
 -- a reservation that the view has not
-pub not_shown : (s : Scope) (view : Possibilities) (clauses : List Clause) (c : Command) (x : ℕ) → has view.reservations x ≡ false
+pub not_shown : (s : Scope) (view : Possibilities) (clauses : List Clause) (c : Command) (x : ℕ) → has_wide view.reservations x ≡ false
     → ArePermitted (view_in s view) clauses c (λ u. IsSo s u (Reservation x))
 not_shown s view clauses c x none u shown so ends =
     let seen = shown.reservation in
-    absurd (false≢true (sym none ∙ subst (λ y. has view.reservations y ≡ true) (one_reservation s u seen.0 x seen.1.1 so) seen.1.0))
+    absurd (false≢true (sym none ∙ subst (λ y. has_wide view.reservations y ≡ true) (one_reservation s u seen.0 x seen.1.1 so) seen.1.0))
 
 pub each_reservation : (keys : List ℕ) (hosts sender : ℕ) (c : Command) (view : Possibilities) (clauses : List Clause) (n : ℕ) → IsAsking keys hosts sender c view → count_of_reservations hosts ≤ n
     → ArePermitted (view_in (scope_at keys hosts sender) view) clauses c (IsReserved (scope_at keys hosts sender) n)

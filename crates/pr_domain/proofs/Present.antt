@@ -7,6 +7,7 @@ use Rattle.pr_unit.specs.UnitStates.{UnitState}
 use Rattle.pr_script.specs.declared.script.Test.{Test}
 use Rattle.pr_sets.specs.declared.word.Word.{Word}
 use Rattle.pr_sets.specs.Words.{has}
+use Rattle.pr_sets.specs.Wides.{has_wide}
 use Rattle.pr_views.specs.declared.possibilities.Possibilities.{Possibilities}
 use Rattle.pr_views.specs.declared.portion.Portion.{Portion}
 use Rattle.pr_views.specs.Possibilities.{Scope, Item, Registration, Reservation, Attentions}
@@ -35,7 +36,7 @@ has_found t way hosts d found there within = record {
 
 -- what is so in the states of a region is in its portion
 pub tallied_there : (t : Tally) (way : ℕ) (s : Scope) (view : Possibilities) (place : Place) (senders : Word) (region : Region) (portion : Portion) (found : Possibilities) → IsPlace s view place → IsUniform senders
-    → IsPortionOf view place senders region portion → found.registrations ≡ portion.registrations → ((x : ℕ) → has found.reservations x ≡ (x == place.reservation)) → HasFound t way place.hosts found
+    → IsPortionOf view place senders region portion → found.registrations ≡ portion.registrations → ((x : ℕ) → has_wide found.reservations x ≡ (x == place.reservation)) → HasFound t way place.hosts found
     → (u : UnitState) (i : Item) → IsAt (view_in s view) place senders region u → IsRegistered s u i → has_tallied t way i ≡ true
 tallied_there t way s view place senders region portion found is uniform of registrations reservations has u (Registration g r) at so =
     has.registrations g r (subst (λ n. g < n) is.hosts so.0)

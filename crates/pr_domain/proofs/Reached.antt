@@ -23,6 +23,7 @@ use Rattle.pr_roles.specs.Permits.{names, holds}
 use Rattle.pr_roles.specs.Fitting.{is_action}
 use Rattle.pr_sets.specs.declared.word.Word.{Word}
 use Rattle.pr_sets.specs.Words.{has}
+use Rattle.pr_sets.specs.Wides.{has_wide}
 use Rattle.pr_views.specs.declared.possibilities.Possibilities.{Possibilities}
 use Rattle.pr_views.specs.Possibilities.{Scope, Item, Registration, Reservation, Attentions, IsSo, key_at, number_of, count_of_reservations}
 use Rattle.pr_views.specs.Views.{IsPossible, IsSeen, Shows}
@@ -91,7 +92,7 @@ module _ (s : Scope) (o : Onlooker) (place : Place) (clause : Clause) (reach : R
       let known = served u w (action.Register key) (Register j) led acts refl in
       within u w (Register j) known (register_within s place.sender reach u few is.other j (key_named s.keys j) known.named.0 known.named.1 gives)
 
-  pub unregister_reach : clause.action ≡ action.Unregister → has reach.given 0 ≡ true → ((holds_alone place.held place.sender || is_held_by_all place.held) ≡ true → has reach.reservations 0 ≡ true)
+  pub unregister_reach : clause.action ≡ action.Unregister → has reach.given 0 ≡ true → ((holds_alone place.held place.sender || is_held_by_all place.held) ≡ true → has_wide reach.reservations 0 ≡ true)
       → ((holds_alone place.held place.sender && is_told_of_loss place.held) ≡ true → (r : ℕ) → 1 ≤ r → r ≤ 12 → has reach.told_04 r ≡ true) → IsReachAt s o.view clause place reach
   unregister_reach acts gives ends tells u w led =
       let held = stands u w led in
@@ -99,15 +100,15 @@ module _ (s : Scope) (o : Onlooker) (place : Place) (clause : Clause) (reach : R
       (unregister_within s place.sender reach u few is.other gives (λ e. ends (subst (λ v. (holds_alone v place.sender || is_held_by_all v) ≡ true) held e))
       (λ e. tells (subst (λ v. (holds_alone v place.sender && is_told_of_loss v) ≡ true) held e)))
 
-  pub reserve_reach : (t : Kind) → clause.action ≡ action.Reserve t → (place.held ≡ None → has reach.reservations (number_of place.hosts (Some (new_reservation t place.sender))) ≡ true)
+  pub reserve_reach : (t : Kind) → clause.action ≡ action.Reserve t → (place.held ≡ None → has_wide reach.reservations (number_of place.hosts (Some (new_reservation t place.sender))) ≡ true)
       → IsReachAt s o.view clause place reach
   reserve_reach t acts takes u w led =
       within u w (Reserve t) (served u w (action.Reserve t) (Reserve t) led acts refl) (reserve_within s place.sender reach u few is.other t (λ none. here (takes (sym (stands u w led) ∙ none))))
     where
-      here : has reach.reservations (number_of place.hosts (Some (new_reservation t place.sender))) ≡ true → has reach.reservations (number_of s.hosts (Some (new_reservation t place.sender))) ≡ true
-      here = subst (λ n. has reach.reservations (number_of n (Some (new_reservation t place.sender))) ≡ true) (sym is.known.hosts)
+      here : has_wide reach.reservations (number_of place.hosts (Some (new_reservation t place.sender))) ≡ true → has_wide reach.reservations (number_of s.hosts (Some (new_reservation t place.sender))) ≡ true
+      here = subst (λ n. has_wide reach.reservations (number_of n (Some (new_reservation t place.sender))) ≡ true) (sym is.known.hosts)
 
-  pub release_reach : clause.action ≡ action.Release → ((holds_alone place.held place.sender || is_held_by_all place.held) ≡ true → has reach.reservations 0 ≡ true)
+  pub release_reach : clause.action ≡ action.Release → ((holds_alone place.held place.sender || is_held_by_all place.held) ≡ true → has_wide reach.reservations 0 ≡ true)
       → (((holds_alone place.held place.sender || is_held_by_all place.held) && is_told_of_loss place.held) ≡ true → (r : ℕ) → 1 ≤ r → r ≤ 12 → has reach.told_04 r ≡ true) → IsReachAt s o.view clause place reach
   release_reach acts ends tells u w led = at u.registry.held refl
     where
@@ -122,20 +123,20 @@ module _ (s : Scope) (o : Onlooker) (place : Place) (clause : Clause) (reach : R
           (release_within s place.sender reach u few is.other t (λ e. ends (subst (λ x. (holds_alone x place.sender || is_held_by_all x) ≡ true) held e))
           (λ e. tells (subst (λ x. ((holds_alone x place.sender || is_held_by_all x) && is_told_of_loss x) ≡ true) held e)))
 
-  pub clear_reach : clause.action ≡ action.Clear → has reach.given 0 ≡ true → ((r : ℕ) → 1 ≤ r → r ≤ 12 → has reach.removed r ≡ true) → has reach.reservations 0 ≡ true
+  pub clear_reach : clause.action ≡ action.Clear → has reach.given 0 ≡ true → ((r : ℕ) → 1 ≤ r → r ≤ 12 → has reach.removed r ≡ true) → has_wide reach.reservations 0 ≡ true
       → ((r : ℕ) → 1 ≤ r → r ≤ 12 → has reach.told_03 r ≡ true) → IsReachAt s o.view clause place reach
   clear_reach acts gives removes none tells u w led =
       within u w Clear (served u w action.Clear Clear led acts refl) (clear_within s place.sender reach u few is.other gives removes none tells)
 
   pub preempt_all_reach : (key : ℕ) (t : Kind) → clause.action ≡ action.Preempt key t → key ≡ 0 → (is_held_by_all place.held ≡ true → (r : ℕ) → 1 ≤ r → r ≤ 12 → has reach.removed r ≡ true)
-      → (is_held_by_all place.held ≡ true → has reach.reservations (number_of place.hosts (Some (new_reservation t place.sender))) ≡ true)
+      → (is_held_by_all place.held ≡ true → has_wide reach.reservations (number_of place.hosts (Some (new_reservation t place.sender))) ≡ true)
       → (is_held_by_all place.held ≡ true → (r : ℕ) → 1 ≤ r → r ≤ 12 → has reach.told_05 r ≡ true) → IsReachAt s o.view clause place reach
   preempt_all_reach key t acts zero_is removes takes tells u w led =
       let known = served u w (action.Preempt 0 t) (PreemptAll t) led (acts ∙ ap (λ k. action.Preempt k t) zero_is) refl in
       let all = by_all (illegal INVALID_FIELD_IN_PARAMETER_LIST 0) (is_held_by_all u.registry.held) known.whole in
       let here : is_held_by_all place.held ≡ true = ap is_held_by_all (sym (stands u w led)) ∙ all in
       within u w (PreemptAll t) known
-      (preempt_all_within s place.sender reach u few is.other t all (removes here) (subst (λ n. has reach.reservations (number_of n (Some (new_reservation t place.sender))) ≡ true) (sym is.known.hosts) (takes here)) (tells here))
+      (preempt_all_within s place.sender reach u few is.other t all (removes here) (subst (λ n. has_wide reach.reservations (number_of n (Some (new_reservation t place.sender))) ≡ true) (sym is.known.hosts) (takes here)) (tells here))
     where
       by_all : (sense : Sense) (b : Bool) → (if not b then Some sense else None) ≡ None → b ≡ true
       by_all sense true is = refl
@@ -143,8 +144,8 @@ module _ (s : Scope) (o : Onlooker) (place : Place) (clause : Clause) (reach : R
 
   pub preempt_key_reach : (key : ℕ) (t : Kind) → clause.action ≡ action.Preempt key t → key ≢ 0
       → (has_at o.view.registrations place.sender (number_in s.keys key) ≡ true → has reach.given 0 ≡ true)
-      → (is_held_by_all place.held ≡ true → has_at o.view.registrations place.sender (number_in s.keys key) ≡ true → MayAllGo o.view place (number_in s.keys key) → has reach.reservations 0 ≡ true) → has reach.removed (number_in s.keys key) ≡ true
-      → ((old : Kind) (g : ℕ) → place.held ≡ Some (One old g) → has_at o.view.registrations g (number_in s.keys key) ≡ true → has reach.reservations (number_of place.hosts (Some (new_reservation t place.sender))) ≡ true)
+      → (is_held_by_all place.held ≡ true → has_at o.view.registrations place.sender (number_in s.keys key) ≡ true → MayAllGo o.view place (number_in s.keys key) → has_wide reach.reservations 0 ≡ true) → has reach.removed (number_in s.keys key) ≡ true
+      → ((old : Kind) (g : ℕ) → place.held ≡ Some (One old g) → has_at o.view.registrations g (number_in s.keys key) ≡ true → has_wide reach.reservations (number_of place.hosts (Some (new_reservation t place.sender))) ≡ true)
       → ((old : Kind) (g : ℕ) → place.held ≡ Some (One old g) → has_at o.view.registrations g (number_in s.keys key) ≡ true → is_kind old t ≡ false
       → (r : ℕ) → 1 ≤ r → r ≤ 12 → r ≢ number_in s.keys key → has reach.told_04 r ≡ true)
       → has reach.told_05 (number_in s.keys key) ≡ true → IsReachAt s o.view clause place reach
@@ -198,8 +199,8 @@ module _ (s : Scope) (o : Onlooker) (place : Place) (clause : Clause) (reach : R
           let same : it.0 ≡ j = same_number_at s.keys it.0 j once it.1.1.1 small (sym it.1.1.2 ∙ has ∙ sym named) in
           subst (λ r. has_at o.view.registrations g r ≡ true) same it.1.0.1
 
-      here : has reach.reservations (number_of place.hosts (Some (new_reservation t place.sender))) ≡ true → has reach.reservations (number_of s.hosts (Some (new_reservation t place.sender))) ≡ true
-      here = subst (λ n. has reach.reservations (number_of n (Some (new_reservation t place.sender))) ≡ true) (sym is.known.hosts)
+      here : has_wide reach.reservations (number_of place.hosts (Some (new_reservation t place.sender))) ≡ true → has_wide reach.reservations (number_of s.hosts (Some (new_reservation t place.sender))) ≡ true
+      here = subst (λ n. has_wide reach.reservations (number_of n (Some (new_reservation t place.sender))) ≡ true) (sym is.known.hosts)
 
       nonzero : (keys : List ℕ) (j k : ℕ) → Each IsKey keys → key_at keys j ≡ Some k → (k == 0) ≡ false
       nonzero keys zero k each there = let bad : None ≡ Some k = there in cc
@@ -242,7 +243,7 @@ wider_within s from narrow wide u w wider is = record {
     removed n r (inl same) = inl same
     removed n r (inr gone) = inr (gone.0, wider.removed r gone.1)
 
-    reserved : (x : ℕ) → IsSo s u (Reservation x) ⊎ (has narrow.reservations x ≡ true) → IsSo s u (Reservation x) ⊎ (has wide.reservations x ≡ true)
+    reserved : (x : ℕ) → IsSo s u (Reservation x) ⊎ (has_wide narrow.reservations x ≡ true) → IsSo s u (Reservation x) ⊎ (has_wide wide.reservations x ≡ true)
     reserved x (inl before) = inl before
     reserved x (inr new) = inr (wider.reservations x new)
 
@@ -264,14 +265,14 @@ reach_more s view clause place n old here wide number before_wider here_wider be
     by (inl same) = wider_within s place.sender here wide u w here_wider (at u w (subst (λ y. PlaceLeads (view_in s view) clause place.sender y u w) (same.1 ∙ sym number) led))
     by (inr other) = wider_within s place.sender old wide u w before_wider (before x u w (let differs = other.1 in omega arith) led)
 
-pub reach_skips : (s : Scope) (view : Possibilities) (clause : Clause) (sender n : ℕ) (reach : Reach) → has view.reservations n ≡ false → IsReachBelow s view clause sender n reach
+pub reach_skips : (s : Scope) (view : Possibilities) (clause : Clause) (sender n : ℕ) (reach : Reach) → has_wide view.reservations n ≡ false → IsReachBelow s view clause sender n reach
     → IsReachBelow s view clause sender (n + 1) reach
 reach_skips s view clause sender n reach missing before x u w small led = by (eqb_tells x n)
   where
     by : (((x == n) ≡ true) × (x ≡ n)) ⊎ (((x == n) ≡ false) × (x ≢ n)) → IsWithin s sender reach u w
     by (inl same) =
         let seen = led.leads.shown.reservation in
-        absurd (false≢true (sym missing ∙ subst (λ y. has view.reservations y ≡ true) (one_reservation s u seen.0 x seen.1.1 led.leads.reserved ∙ same.1) seen.1.0))
+        absurd (false≢true (sym missing ∙ subst (λ y. has_wide view.reservations y ≡ true) (one_reservation s u seen.0 x seen.1.1 led.leads.reserved ∙ same.1) seen.1.0))
     by (inr other) = before x u w (let differs = other.1 in omega arith) led
 
 pub reach_all : (s : Scope) (o : Onlooker) (clause : Clause) (count : ℕ) (reach : Reach) → IsOnlooking s o → count ≡ count_of_reservations o.hosts
@@ -289,7 +290,7 @@ module _ (s : Scope) (o : Onlooker) (clause : Clause) (reach : Reach) (is : IsOn
   pub record AreWithin (most : Possibilities) : Type 0 where
     pub given : (n : ℕ) → has reach.given n ≡ true → has_at most.registrations o.other n ≡ true
     pub freed : (g r : ℕ) → g < MOST_NEXUSES → g ≢ o.other → has_at o.view.registrations g r ≡ true → has reach.removed r ≡ true → has_at most.registrations g 0 ≡ true
-    pub reservations : (x : ℕ) → has reach.reservations x ≡ true → has most.reservations x ≡ true
+    pub reservations : (x : ℕ) → has_wide reach.reservations x ≡ true → has_wide most.reservations x ≡ true
     pub pending : (r q n : ℕ) → has_at o.view.registrations s.own r ≡ true → has o.view.pending q ≡ true → q < 16 → IsTold reach r q n → has most.pending n ≡ true
 
   pub most_of_reach : (most : Possibilities) → IsReach s o.view clause o.other reach → AreWithin most → IsMost s o.view clause o.other most
@@ -362,9 +363,9 @@ module _ (s : Scope) (o : Onlooker) (clause : Clause) (reach : Reach) (is : IsOn
           at m same (inr possible) = inr (so.0, subst (λ r. has_at most.registrations g r ≡ true) same possible)
       items (Reservation y) so = at within_it.reservation.0 (within_it.reservation.1 ∙ sym so) within_it.reservation.2
         where
-          at : (z : ℕ) → z ≡ y → IsSo s u (Reservation z) ⊎ (has reach.reservations z ≡ true) → IsSo s u (Reservation y) ⊎ (has most.reservations y ≡ true)
+          at : (z : ℕ) → z ≡ y → IsSo s u (Reservation z) ⊎ (has_wide reach.reservations z ≡ true) → IsSo s u (Reservation y) ⊎ (has_wide most.reservations y ≡ true)
           at z same (inl before) = inl (subst (λ r. IsSo s u (Reservation r)) same before)
-          at z same (inr takes) = inr (subst (λ r. has most.reservations r ≡ true) same (are.reservations z takes))
+          at z same (inr takes) = inr (subst (λ r. has_wide most.reservations r ≡ true) same (are.reservations z takes))
       items (Attentions q) so = at told.0 (one_attentions s w told.0 q told.1 so) told.2
         where
           at : (n : ℕ) → n ≡ q → IsSo s u (Attentions n) ⊎ (has most.pending n ≡ true) → IsSo s u (Attentions q) ⊎ (has most.pending q ≡ true)

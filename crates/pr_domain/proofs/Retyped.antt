@@ -19,6 +19,7 @@ use Rattle.pr_script.specs.declared.grammar.TheConstants.{WRITTEN_LENGTH}
 use Rattle.pr_script.specs.Grammar.{is_read_keys, is_read_reservation, is_written, test_fits}
 use Rattle.pr_roles.specs.Fitting.{is_reservation}
 use Rattle.pr_sets.specs.Words.{has}
+use Rattle.pr_sets.specs.Wides.{has_wide}
 use Rattle.pr_views.specs.declared.possibilities.Possibilities.{Possibilities}
 use Rattle.pr_views.specs.Possibilities.{Scope, Item, Registration, Reservation, Attentions, IsSo, number_of}
 use Rattle.pr_views.specs.Views.{Shows}
@@ -59,7 +60,7 @@ holder_kept keys hosts (Some (All t)) (Some (One k h)) same fits has = absurd sa
 holder_kept keys hosts (Some (All t)) (Some (All k)) same fits has = (fits, has.1)
 
 shown_retyped : (s : Scope) (view : Possibilities) (u : UnitState) (w : Option Held) → Shows (view_in s view) u → AreTwins u.registry.held w → is_reservation s.hosts w ≡ true
-    → has view.reservations (number_of s.hosts w) ≡ true → Shows (view_in s view) (retyped u w)
+    → has_wide view.reservations (number_of s.hosts w) ≡ true → Shows (view_in s view) (retyped u w)
 shown_retyped s view u w shown same fits possible = record {
   formed = record {
     registry = record {
@@ -197,11 +198,11 @@ module _ (s : Scope) (view : Possibilities) (c : Command) (tests : List Test) (r
 
       shown_twin : (u : UnitState) → Shows (view_in s view) u → IsSo s u (Reservation n) → Shows (view_in s view) (retyped u twin.twin)
       shown_twin u shown so =
-          shown_retyped s view u twin.twin shown (under_twin u shown so) is_other.held (subst (λ y. has view.reservations y ≡ true) is_other.number twin.possible)
+          shown_retyped s view u twin.twin shown (under_twin u shown so) is_other.held (subst (λ y. has_wide view.reservations y ≡ true) is_other.number twin.possible)
 
       shown_place : (u : UnitState) → Shows (view_in s view) u → IsSo s u (Reservation x) → Shows (view_in s view) (retyped u place.held)
       shown_place u shown so =
-          shown_retyped s view u place.held shown (under_place u shown so) owners.is.held (subst (λ y. has view.reservations y ≡ true) owners.is.number owners.is.possible)
+          shown_retyped s view u place.held shown (under_place u shown so) owners.is.held (subst (λ y. has_wide view.reservations y ≡ true) owners.is.number owners.is.possible)
 
       itself : (y : ℕ) → (y == y) ≡ true
       itself y = grind (arith, nat_tests)

@@ -6,7 +6,9 @@ use Rattle.pr_registry.specs.declared.held.Held.{Held}
 use Rattle.pr_registry.specs.declared.held.Held.TheVariants.{One, All}
 use Rattle.pr_unit.specs.UnitStates.{UnitState}
 use Rattle.pr_sets.specs.declared.word.Word.{Word}
+use Rattle.pr_sets.specs.declared.wide.Wide.{Wide}
 use Rattle.pr_sets.specs.Words.{has}
+use Rattle.pr_sets.specs.Wides.{has_wide}
 use Rattle.pr_views.specs.declared.possibilities.Possibilities.{Possibilities}
 use Rattle.pr_roles.specs.Fitting.{is_reservation}
 use Rattle.pr_views.specs.Possibilities.{Scope, Item, Registration, Reservation, Attentions, IsSo, number_of}
@@ -61,8 +63,8 @@ at_everything s view place senders region u is all at = record {
 
 -- ---- what is gathered there
 
-pub is_shown : (s : Scope) (view : Possibilities) (place : Place) (senders : Word) (region : Region) (words : List Word) (x : Word) (q : ℕ) → IsPlace s view place → IsEverything region
-    → IsGathered (view_in s view) place senders region words → has view.pending q ≡ true → ((n : ℕ) → has x n ≡ (n == place.reservation))
+pub is_shown : (s : Scope) (view : Possibilities) (place : Place) (senders : Word) (region : Region) (words : List Word) (x : Wide) (q : ℕ) → IsPlace s view place → IsEverything region
+    → IsGathered (view_in s view) place senders region words → has view.pending q ≡ true → ((n : ℕ) → has_wide x n ≡ (n == place.reservation))
     → (p : Possibilities) → p.registrations ≡ words → p.reservations ≡ x → p.pending ≡ view.pending → IsShown s view place senders p
 is_shown s view place senders region words x q is everything gathered some only_x p are_words is_x is_pending = record { all = allows; only = only }
   where
@@ -70,7 +72,7 @@ is_shown s view place senders region words x q is everything gathered some only_
     all u at (Registration g r) so =
         (so.0, subst (λ w. has_at w g r ≡ true) (sym are_words) (gathered.all u g r (at_everything s view place senders region u is everything at) so))
     all u at (Reservation n) so =
-        subst (λ w. has w n ≡ true) (sym is_x) (only_x n ∙ subst (λ m. (n == m) ≡ true) (one_reservation s u n place.reservation so at.reservation) (itself n))
+        subst (λ w. has_wide w n ≡ true) (sym is_x) (only_x n ∙ subst (λ m. (n == m) ≡ true) (one_reservation s u n place.reservation so at.reservation) (itself n))
     all u at (Attentions n) so =
         let seen = at.shown.pending in
         subst (λ w. has w n ≡ true) (sym is_pending) (subst (λ m. has view.pending m ≡ true) (one_attentions s u seen.0 n seen.1.1 so) seen.1.0)
@@ -88,7 +90,7 @@ is_shown s view place senders region words x q is everything gathered some only_
         record { unit = met.unit; shown = met.at.shown; is = met.is }
     only (Reservation n) got =
         let met = gathered.some q some in
-        let same = same_number n place.reservation (sym (only_x n) ∙ subst (λ w. has w n ≡ true) is_x got) in
+        let same = same_number n place.reservation (sym (only_x n) ∙ subst (λ w. has_wide w n ≡ true) is_x got) in
         record { unit = met.unit; shown = met.at.shown; is = subst (λ m. IsSo s met.unit (Reservation m)) (sym same) met.at.reservation }
     only (Attentions n) got =
         let met = gathered.some n (subst (λ w. has w n ≡ true) is_pending got) in
@@ -150,7 +152,7 @@ below_more s view a b c n before now =
     split u led (inl same) = inr (led.shown, subst (λ x. IsSo s u (Reservation x)) same.1 led.is)
     split u led (inr other) = inl (record { shown = led.shown; reservation = led.reservation; below = (let below = led.below in let differs = other.1 in omega arith); is = led.is })
 
-pub below_skips : (s : Scope) (view a b : Possibilities) (n : ℕ) → has view.reservations n ≡ false → Adds s a b (λ _ u. IsShownBelow n (view_in s view) u) (IsShownSo (view_in s view))
+pub below_skips : (s : Scope) (view a b : Possibilities) (n : ℕ) → has_wide view.reservations n ≡ false → Adds s a b (λ _ u. IsShownBelow n (view_in s view) u) (IsShownSo (view_in s view))
     → Adds s a b (λ _ u. IsShownBelow (n + 1) (view_in s view) u) (IsShownSo (view_in s view))
 below_skips s view a b n missing before =
     below_more s view a b b n before (adds_nothing s b (λ _ u. Shows (view_in s view) u × IsSo s u (Reservation n)) (IsShownSo (view_in s view)) (λ _ u led. none u led.0 led.1))
@@ -158,9 +160,9 @@ below_skips s view a b n missing before =
     none : (u : UnitState) → Shows (view_in s view) u → IsSo s u (Reservation n) → ⊥
     none u shown so =
         let seen = shown.reservation in
-        false≢true (sym missing ∙ subst (λ x. has view.reservations x ≡ true) (one_reservation s u seen.0 n seen.1.1 so) seen.1.0)
+        false≢true (sym missing ∙ subst (λ x. has_wide view.reservations x ≡ true) (one_reservation s u seen.0 n seen.1.1 so) seen.1.0)
 
-pub is_kept : (s : Scope) (view none kept : Possibilities) (n : ℕ) → Fits (view_in s view) → ((i : Item) → IsPossible (view_in s none) i → ⊥) → ((x : ℕ) → has view.reservations x ≡ true → x < n)
+pub is_kept : (s : Scope) (view none kept : Possibilities) (n : ℕ) → Fits (view_in s view) → ((i : Item) → IsPossible (view_in s none) i → ⊥) → ((x : ℕ) → has_wide view.reservations x ≡ true → x < n)
     → Adds s none kept (λ _ u. IsShownBelow n (view_in s view) u) (IsShownSo (view_in s view)) → IsKept (view_in s view) (view_in s kept)
 is_kept s view none kept n fits nothing below adds = record {
   all = λ u i shown so.
@@ -175,13 +177,13 @@ is_kept s view none kept n fits nothing below adds = record {
 
 -- ---- the place of a reservation
 
-pub is_place : (s : Scope) (view : Possibilities) (place : Place) (hosts sender reservation : ℕ) → s.hosts ≡ hosts → Fits (view_in s view) → sender < hosts → has view.reservations reservation ≡ true
+pub is_place : (s : Scope) (view : Possibilities) (place : Place) (hosts sender reservation : ℕ) → s.hosts ≡ hosts → Fits (view_in s view) → sender < hosts → has_wide view.reservations reservation ≡ true
     → place.hosts ≡ hosts → place.sender ≡ sender → place.reservation ≡ reservation → reservation ≡ number_of hosts place.held → is_reservation hosts place.held ≡ true → IsPlace s view place
 is_place s view place hosts sender reservation same fits below possible is_hosts is_sender is_it number held = record {
   hosts = same ∙ sym is_hosts;
   fits = fits;
   sender = omega arith;
-  possible = subst (λ x. has view.reservations x ≡ true) (sym is_it) possible;
+  possible = subst (λ x. has_wide view.reservations x ≡ true) (sym is_it) possible;
   number = is_it ∙ number ∙ ap (λ n. number_of n place.held) (sym same);
   held = subst (λ n. is_reservation n place.held ≡ true) (sym same) held;
 }

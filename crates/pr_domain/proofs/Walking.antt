@@ -7,6 +7,7 @@ use Rattle.pr_unit.specs.UnitStates.{UnitState}
 use Rattle.pr_script.specs.declared.script.Test.{Test}
 use Rattle.pr_roles.specs.Fitting.{is_reservation}
 use Rattle.pr_sets.specs.Words.{has}
+use Rattle.pr_sets.specs.Wides.{has_wide}
 use Rattle.pr_views.specs.declared.possibilities.Possibilities.{Possibilities}
 use Rattle.pr_views.specs.Possibilities.{Scope, Item, Registration, Reservation, IsSo, number_of, count_of_reservations}
 use Rattle.pr_views.specs.Views.{View, Shows}
@@ -86,7 +87,7 @@ reservation_more s c tests view place n old mid new is number =
     })
 
 -- a reservation that the view has not does not stand
-pub reservation_skipped : (s : Scope) (c : Command) (tests : List Test) (view : Possibilities) (n : ℕ) (old mid : Tally) → has view.reservations n ≡ false
+pub reservation_skipped : (s : Scope) (c : Command) (tests : List Test) (view : Possibilities) (n : ℕ) (old mid : Tally) → has_wide view.reservations n ≡ false
     → Grows (view_in s view) c tests old mid (IsReserved s n) → Grows (view_in s view) c tests old mid (IsReserved s (n + 1))
 reservation_skipped s c tests view n old mid hasnt =
     grows_as (view_in s view) c tests old mid (IsReserved s n) (IsReserved s (n + 1))
@@ -100,7 +101,7 @@ reservation_skipped s c tests view n old mid hasnt =
     below : (u : UnitState) → Shows (view_in s view) u → (first : IsReserved s (n + 1) u) → (first.reservation ≡ n) ⊎ (first.reservation ≡ n → ⊥) → first.reservation < n
     below u shown first (inl same) =
         let stands : shown.reservation.0 ≡ n = shown.reservation.1.1 ∙ sym first.reserved ∙ same in
-        absurd (false≢true (sym hasnt ∙ subst (λ x. has view.reservations x ≡ true) stands shown.reservation.1.0))
+        absurd (false≢true (sym hasnt ∙ subst (λ x. has_wide view.reservations x ≡ true) stands shown.reservation.1.0))
     below u shown first (inr other) = let e = first.below in let o : first.reservation < n = omega (arith, cases_order first.reservation n) in o
 
 pub reservations_none : (s : Scope) (c : Command) (tests : List Test) (v : View) (t : Tally) → Grows v c tests t t (IsReserved s 0)
@@ -127,7 +128,7 @@ tally_of_all s hosts own keys c tests view n none t of all nothing grows = recor
 
 -- the place of a reservation
 pub place_of_number : (s : Scope) (hosts own : ℕ) (keys : List ℕ) (view : Possibilities) (x : ℕ) (held : Option Held) → IsOfScope s hosts own keys view → own < hosts
-    → has view.reservations x ≡ true → x ≡ number_of hosts held → is_reservation hosts held ≡ true
+    → has_wide view.reservations x ≡ true → x ≡ number_of hosts held → is_reservation hosts held ≡ true
     → IsOwners s keys view (record { hosts = hosts; sender = own; reservation = x; held = held })
 place_of_number s hosts own keys view x held of below has number fits = record {
   own = sym of.same_own;

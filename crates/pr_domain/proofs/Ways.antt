@@ -3,7 +3,7 @@ use Rattle.std.proofs.Common.{◌≡◌, ◌≢◌, ◌⊎◌, ℕ, ◌<◌, Boo
 use Rattle.std.specs.List.{slice_get}
 use Rattle.std.specs.Option.{option_map_or}
 use Rattle.std.proofs.lemmas.Bool.Decides.{eqb_tells}
-use Rattle.pr_sets.specs.Words.{has}
+use Rattle.pr_sets.specs.Wides.{has_wide}
 use Rattle.pr_views.specs.declared.possibilities.Possibilities.{Possibilities}
 use Rattle.pr_views.specs.Possibilities.{Item, Registration, Reservation, Attentions}
 use Rattle.pr_views.specs.Portions.{has_at}
@@ -12,7 +12,7 @@ use Rattle.pr_domain.specs.inside.Tallies.{has_part, has_tallied}
 
 pub way_added : (ways : List Possibilities) (way : ℕ) (old joined found : Possibilities) → way < length ways → slice_get ways way ≡ Some old
     → ((g r : ℕ) → has_at joined.registrations g r ≡ (has_at old.registrations g r || has_at found.registrations g r))
-    → ((x : ℕ) → has joined.reservations x ≡ (has old.reservations x || has found.reservations x))
+    → ((x : ℕ) → has_wide joined.reservations x ≡ (has_wide old.reservations x || has_wide found.reservations x))
     → (w : ℕ) (i : Item) → has_tallied (record { ways = slice_set ways way joined }) w i ≡ (has_tallied (record { ways = ways }) w i || (w == way && has_part found i))
 way_added ways way old joined found there is registrations reservations w i = at (eqb_tells w way)
   where

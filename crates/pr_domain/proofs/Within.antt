@@ -16,6 +16,7 @@ use Rattle.pr_registry.specs.Effects.{with_registration as register, held_by_res
 use Rattle.pr_registry.proofs.Sets.{get-without, contains-hosts_with, not_empty_from_some}
 use Rattle.pr_unit.specs.UnitStates.{UnitState}
 use Rattle.pr_sets.specs.Words.{has}
+use Rattle.pr_sets.specs.Wides.{has_wide}
 use Rattle.pr_views.specs.Possibilities.{Scope, key_at, number_of, Registration, IsSo}
 use Rattle.pr_regions.specs.declared.purpose.Purpose.TheVariants.{Unregister}
 use Rattle.pr_regions.specs.inside.Parts.{never, is_of_registrant, told_if, told_but, lost_if}
@@ -44,7 +45,7 @@ Tells reach r false true true = ⊥
 pub record IsInReach (hosts : ℕ) (reach : Reach) (u : State) (to : Option ℕ) (out : ℕ → Bool) (left : ℕ) (t3 t4 t5 : ℕ → Bool) : Type 0 where
   pub given : (j : ℕ) → to ≡ Some j → has reach.given j ≡ true
   pub removed : (r : ℕ) → r ≤ 12 → out r ≡ true → has reach.removed r ≡ true
-  pub reservation : (left ≡ number_of hosts u.held) ⊎ (has reach.reservations left ≡ true)
+  pub reservation : (left ≡ number_of hosts u.held) ⊎ (has_wide reach.reservations left ≡ true)
   pub told : (r : ℕ) → r ≤ 12 → Tells reach r (t3 r) (t4 r) (t5 r)
 
 told_one : (reach : Reach) (r q : ℕ) (a b c : Bool) → Tells reach r a b c → (bit_or q (flags a b c) ≡ q) ⊎ IsTold reach r q (bit_or q (flags a b c))
@@ -93,7 +94,7 @@ within_becomes s from reach u v t to out left t3 t4 t5 few apart becomes is = re
 
 module _ (s : Scope) (from : ℕ) (reach : Reach) (u : UnitState) where
   abbrev Stays : ℕ → Type 0
-  Stays left = (left ≡ number_of s.hosts u.registry.held) ⊎ (has reach.reservations left ≡ true)
+  Stays left = (left ≡ number_of s.hosts u.registry.held) ⊎ (has_wide reach.reservations left ≡ true)
 
   -- that nobody is told is in every reach
   told_none : (r : ℕ) → r ≤ 12 → Tells reach r false false false
@@ -113,9 +114,9 @@ module _ (s : Scope) (from : ℕ) (reach : Reach) (u : UnitState) where
   told_if_04 true tells (suc i) few = let is : is_of_registrant (suc i) ≡ true = grind (arith, nat_tests) in subst (λ b. Tells reach (suc i) false b false) (sym is) (tells refl (suc i) (omega arith) few)
 
   -- the reservation that is left is the one from before, or none where that is in reach
-  left_or_none : (o : Option Held) → (o ≡ u.registry.held) ⊎ ((o ≡ None) × (has reach.reservations 0 ≡ true)) → Stays (number_of s.hosts o)
+  left_or_none : (o : Option Held) → (o ≡ u.registry.held) ⊎ ((o ≡ None) × (has_wide reach.reservations 0 ≡ true)) → Stays (number_of s.hosts o)
   left_or_none o (inl same) = inl (ap (number_of s.hosts) same)
-  left_or_none o (inr ended) = inr (ap (λ v. has reach.reservations (number_of s.hosts v)) ended.0 ∙ ended.1)
+  left_or_none o (inr ended) = inr (ap (λ v. has_wide reach.reservations (number_of s.hosts v)) ended.0 ∙ ended.1)
 
   -- nothing is removed or given
   keeps : (left : ℕ) (t4 : ℕ → Bool) → Stays left → ((r : ℕ) → r ≤ 12 → Tells reach r false (t4 r) false) → IsInReach s.hosts reach u.registry None never left never t4 never
@@ -139,7 +140,7 @@ module _ (s : Scope) (from : ℕ) (reach : Reach) (u : UnitState) where
 
     -- what a registrant's unregistering ends and tells
     abbrev Ends : Type 0
-    Ends = (holds_alone u.registry.held from || is_held_by_all u.registry.held) ≡ true → has reach.reservations 0 ≡ true
+    Ends = (holds_alone u.registry.held from || is_held_by_all u.registry.held) ≡ true → has_wide reach.reservations 0 ≡ true
 
     abbrev Releases : Type 0
     Releases = (holds_alone u.registry.held from && is_told_of_loss u.registry.held) ≡ true → (r : ℕ) → 1 ≤ r → r ≤ 12 → has reach.told_04 r ≡ true
@@ -158,9 +159,9 @@ module _ (s : Scope) (from : ℕ) (reach : Reach) (u : UnitState) where
         })
       where
         Left : Option Held → Option Held → Type 0
-        Left o v = (o ≡ v) ⊎ ((o ≡ None) × (has reach.reservations 0 ≡ true))
+        Left o v = (o ≡ v) ⊎ ((o ≡ None) × (has_wide reach.reservations 0 ≡ true))
 
-        rest : (v : Option Held) → (is_held_by_all v ≡ true → has reach.reservations 0 ≡ true) → Left (held_by_rest (without u.registry.keys (just from)) v) v
+        rest : (v : Option Held) → (is_held_by_all v ≡ true → has_wide reach.reservations 0 ≡ true) → Left (held_by_rest (without u.registry.keys (just from)) v) v
         rest None ends = inl refl
         rest (Some (One t g)) ends = inl refl
         rest (Some (All t)) ends = at (is_empty (without u.registry.keys (just from)))
@@ -169,7 +170,7 @@ module _ (s : Scope) (from : ℕ) (reach : Reach) (u : UnitState) where
             at true = inr (refl, ends refl)
             at false = inl refl
 
-        left : (v : Option Held) (b : Bool) → ((b || is_held_by_all v) ≡ true → has reach.reservations 0 ≡ true) → Left (if b then None else held_by_rest (without u.registry.keys (just from)) v) v
+        left : (v : Option Held) (b : Bool) → ((b || is_held_by_all v) ≡ true → has_wide reach.reservations 0 ≡ true) → Left (if b then None else held_by_rest (without u.registry.keys (just from)) v) v
         left v true ends = inr (refl, ends refl)
         left v false ends = rest v ends
 
@@ -183,14 +184,14 @@ module _ (s : Scope) (from : ℕ) (reach : Reach) (u : UnitState) where
             let now = number_of s.hosts u.registry.held in
             within_becomes s from reach u u.registry no_change None never now never never never few apart (still s.keys s.hosts from u.registry u.registry (λ g. refl)) (keeps now never (inl refl) told_none)
 
-    pub reserve_within : (t : Kind) → (u.registry.held ≡ None → has reach.reservations (number_of s.hosts (Some (new_reservation t from))) ≡ true) → IsWithin s from reach u (then_in u (with_reservation u.registry from t) no_change)
+    pub reserve_within : (t : Kind) → (u.registry.held ≡ None → has_wide reach.reservations (number_of s.hosts (Some (new_reservation t from))) ≡ true) → IsWithin s from reach u (then_in u (with_reservation u.registry from t) no_change)
     reserve_within t takes =
         let now = number_of s.hosts (with_reservation u.registry from t).held in
         within_becomes s from reach u (with_reservation u.registry from t) no_change None never now never never never few apart (still s.keys s.hosts from u.registry (with_reservation u.registry from t) (λ g. refl))
         (keeps now never (at u.registry.held takes) told_none)
       where
-        at : (v : Option Held) → (v ≡ None → has reach.reservations (number_of s.hosts (Some (new_reservation t from))) ≡ true)
-            → (number_of s.hosts (held_or v (new_reservation t from)) ≡ number_of s.hosts v) ⊎ (has reach.reservations (number_of s.hosts (held_or v (new_reservation t from))) ≡ true)
+        at : (v : Option Held) → (v ≡ None → has_wide reach.reservations (number_of s.hosts (Some (new_reservation t from))) ≡ true)
+            → (number_of s.hosts (held_or v (new_reservation t from)) ≡ number_of s.hosts v) ⊎ (has_wide reach.reservations (number_of s.hosts (held_or v (new_reservation t from))) ≡ true)
         at None takes = inr (takes refl)
         at (Some v) takes = inl refl
 
@@ -216,7 +217,7 @@ module _ (s : Scope) (from : ℕ) (reach : Reach) (u : UnitState) where
             let parts = and_parts (is_released u.registry from t) (is_told_of_loss u.registry.held) is in
             and_from (holds_alone u.registry.held from || is_held_by_all u.registry.held) (is_told_of_loss u.registry.held) (holder parts.0) parts.1
 
-        at : (b : Bool) → is_released u.registry from t ≡ b → ((if b then None else u.registry.held) ≡ u.registry.held) ⊎ (((if b then None else u.registry.held) ≡ None) × (has reach.reservations 0 ≡ true))
+        at : (b : Bool) → is_released u.registry from t ≡ b → ((if b then None else u.registry.held) ≡ u.registry.held) ⊎ (((if b then None else u.registry.held) ≡ None) × (has_wide reach.reservations 0 ≡ true))
         at true is = inr (refl, ends (holder is))
         at false is = inl refl
 
@@ -225,7 +226,7 @@ module _ (s : Scope) (from : ℕ) (reach : Reach) (u : UnitState) where
     goes removes zero few is = absurd (false≢true is)
     goes removes (suc i) few is = removes (suc i) (omega arith) few
 
-    pub clear_within : has reach.given 0 ≡ true → ((r : ℕ) → 1 ≤ r → r ≤ 12 → has reach.removed r ≡ true) → has reach.reservations 0 ≡ true → ((r : ℕ) → 1 ≤ r → r ≤ 12 → has reach.told_03 r ≡ true)
+    pub clear_within : has reach.given 0 ≡ true → ((r : ℕ) → 1 ≤ r → r ≤ 12 → has reach.removed r ≡ true) → has_wide reach.reservations 0 ≡ true → ((r : ℕ) → 1 ≤ r → r ≤ 12 → has reach.told_03 r ≡ true)
         → IsWithin s from reach u (then_in u (after_clear u.registry) (change_on_clear u.registry from))
     clear_within gives removes none tells =
         within_becomes s from reach u (after_clear u.registry) (change_on_clear u.registry from) (Some 0) is_of_registrant 0 is_of_registrant never never few apart (on_clear s.keys s.hosts from u.registry)
@@ -237,7 +238,7 @@ module _ (s : Scope) (from : ℕ) (reach : Reach) (u : UnitState) where
         })
 
     pub preempt_all_within : (t : Kind) → is_held_by_all u.registry.held ≡ true → ((r : ℕ) → 1 ≤ r → r ≤ 12 → has reach.removed r ≡ true)
-        → has reach.reservations (number_of s.hosts (Some (new_reservation t from))) ≡ true → ((r : ℕ) → 1 ≤ r → r ≤ 12 → has reach.told_05 r ≡ true)
+        → has_wide reach.reservations (number_of s.hosts (Some (new_reservation t from))) ≡ true → ((r : ℕ) → 1 ≤ r → r ≤ 12 → has reach.told_05 r ≡ true)
         → IsWithin s from reach u (then_in u (after_preempt u.registry from 0 (Some t)) (change_on_preempt u.registry from 0 (Some t)))
     preempt_all_within t all removes takes tells =
         let left = number_of s.hosts (Some (new_reservation t from)) in
@@ -261,8 +262,8 @@ module _ (s : Scope) (from : ℕ) (reach : Reach) (u : UnitState) where
 
     -- whoever has the key j, which the sender may have itself, goes
     pub preempt_key_within : (j k r : ℕ) (t : Kind) → AreDistinct s.keys → j ≤ length s.keys → key_at s.keys j ≡ Some k → (k == 0) ≡ false → IsSo s u (Registration from r) → is_registered u.registry from ≡ true
-        → (r ≡ j → has reach.given 0 ≡ true) → (is_held_by_all u.registry.held ≡ true → r ≡ j → AllGo j → has reach.reservations 0 ≡ true) → has reach.removed j ≡ true
-        → ((old : Kind) (g : ℕ) → u.registry.held ≡ Some (One old g) → key_of u.registry g ≡ Some k → has reach.reservations (number_of s.hosts (Some (new_reservation t from))) ≡ true)
+        → (r ≡ j → has reach.given 0 ≡ true) → (is_held_by_all u.registry.held ≡ true → r ≡ j → AllGo j → has_wide reach.reservations 0 ≡ true) → has reach.removed j ≡ true
+        → ((old : Kind) (g : ℕ) → u.registry.held ≡ Some (One old g) → key_of u.registry g ≡ Some k → has_wide reach.reservations (number_of s.hosts (Some (new_reservation t from))) ≡ true)
         → ((old : Kind) (g : ℕ) → u.registry.held ≡ Some (One old g) → key_of u.registry g ≡ Some k → is_kind old t ≡ false → (n : ℕ) → 1 ≤ n → n ≤ 12 → n ≢ j → has reach.told_04 n ≡ true)
         → has reach.told_05 j ≡ true
         → IsWithin s from reach u (then_in u (after_preempt u.registry from k (Some t)) (change_on_preempt u.registry from k (Some t)))
@@ -371,13 +372,13 @@ module _ (s : Scope) (from : ℕ) (reach : Reach) (u : UnitState) where
                 let there = get-without u.registry.keys (hosts_with u.registry.keys k) g ∙ ap (λ b. if b then None else map.get u.registry.keys g) kept ∙ is in
                 absurd (false≢true (sym (not_empty_from_some rest g m there) ∙ empty))
 
-        left_rest : (v : Option Held) → (is_held_by_all v ≡ true → r ≡ j → AllGo j → has reach.reservations 0 ≡ true) → (own ≡ true) ⊎ (own ≡ false) → (number_of s.hosts (held_by_rest rest v) ≡ number_of s.hosts v) ⊎ (has reach.reservations (number_of s.hosts (held_by_rest rest v)) ≡ true)
+        left_rest : (v : Option Held) → (is_held_by_all v ≡ true → r ≡ j → AllGo j → has_wide reach.reservations 0 ≡ true) → (own ≡ true) ⊎ (own ≡ false) → (number_of s.hosts (held_by_rest rest v) ≡ number_of s.hosts v) ⊎ (has_wide reach.reservations (number_of s.hosts (held_by_rest rest v)) ≡ true)
         left_rest None ends mine_or_not = inl refl
         left_rest (Some (One t g)) ends mine_or_not = inl refl
         left_rest (Some (All t)) ends (inr other) = inl (ap (λ b. number_of s.hosts (if b then None else Some (All t))) (stays other))
         left_rest (Some (All t)) ends (inl same) = by (is_empty rest) refl
           where
-            by : (b : Bool) → is_empty rest ≡ b → (number_of s.hosts (if b then None else Some (All t)) ≡ number_of s.hosts (Some (All t))) ⊎ (has reach.reservations (number_of s.hosts (if b then None else Some (All t))) ≡ true)
+            by : (b : Bool) → is_empty rest ≡ b → (number_of s.hosts (if b then None else Some (All t)) ≡ number_of s.hosts (Some (All t))) ⊎ (has_wide reach.reservations (number_of s.hosts (if b then None else Some (All t))) ≡ true)
             by true empty = let is : r ≡ j = grind (arith, nat_tests) in inr (ends refl is (all_go empty))
             by false some = inl refl
 

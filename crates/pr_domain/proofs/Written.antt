@@ -19,6 +19,7 @@ use Rattle.pr_roles.specs.inside.StoredStarts.{start_of}
 use Rattle.pr_roles.proofs.Allowed.{counted, each_nexus}
 use Rattle.pr_roles.proofs.Starting.{all_pass, slice_get_contains}
 use Rattle.pr_sets.specs.Words.{has}
+use Rattle.pr_sets.specs.Wides.{has_wide}
 use Rattle.pr_views.specs.declared.possibilities.Possibilities.{Possibilities}
 use Rattle.pr_views.specs.Possibilities.{key_at, number_of, count_of_reservations, count_of_attentions}
 use Rattle.pr_views.specs.Portions.{has_at}
@@ -155,7 +156,7 @@ pub record AreWritten (hosts own : ℕ) (parts : Parts) (p : Possibilities) : Ty
   pub nexus : NexusPart
   pub there : slice_get parts.nexuses.items own ≡ Some nexus
   pub registrations : (g r : ℕ) → has_at p.registrations g r ≡ may_have parts.keys.items parts.nexuses.items g r
-  pub reservations : (x : ℕ) → has p.reservations x ≡ has_reservation hosts parts.reservations.items x
+  pub reservations : (x : ℕ) → has_wide p.reservations x ≡ has_reservation hosts parts.reservations.items x
   pub few : (q : ℕ) → has p.pending q ≡ true → q < count_of_attentions
   pub pending : (q : ℕ) → q < count_of_attentions → (has p.pending q ≡ true) ↔ AreAmong (codes_of q) nexus.pending
 
@@ -172,7 +173,7 @@ are_alternatives hosts own parts p fits many are = record {
       through (has_at p.registrations g r) (has_alternative keys n.start r) (are.registrations g r ∙ may_have_at keys parts.nexuses.items g r n is)
       (alternative_tells keys n.start r fits.keys (start_fits (scenario_of parts) g n fits is) small);
   reservations = λ held ok.
-      through (has p.reservations (number_of hosts held)) (has_reservation hosts parts.reservations.items (number_of hosts held)) (are.reservations (number_of hosts held))
+      through (has_wide p.reservations (number_of hosts held)) (has_reservation hosts parts.reservations.items (number_of hosts held)) (are.reservations (number_of hosts held))
       (reservation_tells hosts parts.reservations.items held (subst (λ m. list_all (is_reservation m) parts.reservations.items ≡ true) many (reservations_at parts fits)) ok);
   pending = λ q n small is. subst (λ (codes : Codes). (has p.pending q ≡ true) ↔ AreAmong (codes_of q) codes) (ap (λ (m : Nexus). m.pending) (one n is)) (are.pending q small);
 }

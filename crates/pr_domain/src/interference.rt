@@ -66,7 +66,10 @@ impl Onlooker {
         requires action { IsClause keys.now clause.now }
         ensures { (s : Scope) → IsOnlooking s self.now → s.keys ≡ keys.now → Adds s answer.old answer.new (FirstLeads (count_of_reservations self.now.hosts) (view_in s self.now.view) clause.now self.now.other) (ClauseLeaves (view_in s self.now.view) clause.now self.now.other) }
     {
-        let most = self.most(clause, keys);
+        if !gains(self.hosts, answer, &self.most(&self.widest(clause, keys))) {
+            return;
+        }
+        let most = self.most(&self.reach(clause, keys));
         for reservation in 0..count_of_reservations(self.hosts) {
             if !gains(self.hosts, answer, &most) {
                 return;

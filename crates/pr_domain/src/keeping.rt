@@ -16,7 +16,7 @@ ghost use Rattle.pr_domain.specs.inside.Keeping.{IsShownSo, IsShownAt, IsShown, 
 
 use crate::place::Place;
 use pr_regions::{Region, every_key, reservation_at};
-use pr_sets::Word;
+use pr_sets::{Wide, Word};
 use pr_views::{MOST_REGISTRATIONS, Possibilities};
 
 /// What is so in some state that the view shows, of so many nexuses.
@@ -90,7 +90,7 @@ impl Place {
         };
         Some(Possibilities {
             registrations,
-            reservations: Word::only(self.reservation),
+            reservations: Wide::only(self.reservation),
             pending: view.pending,
         })
     }

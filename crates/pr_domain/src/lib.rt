@@ -24,6 +24,7 @@ mod starting;
 mod tally;
 mod tallying;
 mod twins;
+mod widest;
 
 pub use attentions::is_among;
 pub use closing::close;

@@ -14,7 +14,7 @@ ghost use Rattle.pr_domain.specs.inside.Interfering.{IsWatched, IsAfter, Adds, A
 use crate::changed::{attentions_after, registrations_after};
 use crate::place::Place;
 use pr_regions::{Branch, Change, Ending, Region};
-use pr_sets::Word;
+use pr_sets::{Wide, Word};
 use pr_views::Possibilities;
 
 /// The owner of a view, who looks on while another sends commands.
@@ -52,7 +52,7 @@ impl Onlooker {
         let owners = words[usize::from(self.own)];
         Some(Possibilities {
             registrations: registrations_after(&words, place.sender, change),
-            reservations: Word::only(change.reservation),
+            reservations: Wide::only(change.reservation),
             pending: attentions_after(owners, self.view.pending, change),
         })
     }

@@ -13,7 +13,7 @@ ghost use Rattle.pr_regions.specs.Regions.{IsProper as IsProperBranch};
 ghost use Rattle.pr_domain.specs.Outcomes.{IsPermittedIn, IsRefusedIn};
 ghost use Rattle.pr_domain.specs.inside.Gathering.{IsPlace, IsUniform, IsProper};
 ghost use Rattle.pr_domain.specs.inside.Tallies.{HasBoth};
-ghost use Rattle.pr_domain.specs.inside.Permitting.{ArePermitted, IsOneRefused, scope_at, IsAsking, holds_reservation, holds_at, permits_at, IsReached, IsOneReached};
+ghost use Rattle.pr_domain.specs.inside.Permitting.{ArePermitted, IsOneRefused, scope_at, IsAsking, holds_reservation, holds_at, permits_at, IsReached, IsOneReached, permits_always};
 
 use crate::place::Place;
 use pr_cdb::Command;
@@ -63,6 +63,9 @@ fn is_permitted_under_each(
     ensures permitted { IsTrue result → ArePermitted (view_in (scope_at keys.now hosts sender) view.now) clauses.now command (λ u. Unit {0}) }
     ensures refused { result ≡ false → IsOneRefused (view_in (scope_at keys.now hosts sender) view.now) clauses.now command (λ u. Unit {0}) }
 {
+    if is_one_unconditional(clauses, command) {
+        return true;
+    }
     let mut reservation = 0;
     while reservation < hosts * 4 + 3 {
         if view.reservations.has(reservation) {
@@ -80,6 +83,21 @@ fn is_permitted_under_each(
         reservation += 1;
     }
     true
+}
+
+// Whether some clause permits the command whatever the state.
+fn is_one_unconditional(clauses: &[Clause], command: Command) -> bool
+    ensures { result ≡ list_any (λ clause. permits_always clause command) clauses.now }
+{
+    clauses
+        .iter()
+        .any(|clause| permits_always(*clause, command))
+}
+
+fn permits_always(clause: Clause, command: Command) -> bool
+    ensures { result ≡ permits_always clause command }
+{
+    clause.condition.is_none() && names(clause.action, command)
 }
 
 // Whether some clause permits it with each registration with which it can end GOOD at this place.
@@ -124,6 +142,9 @@ fn is_permitted_with(
     if !possible.has(registration) {
         return true;
     }
+    if is_one_permitting(clauses, command, place, registration) {
+        return true;
+    }
     if is_refused(key_at(keys, registration), command) {
         return true;
     }
@@ -131,7 +152,6 @@ fn is_permitted_with(
     let standing = standing_of(purpose, registration);
     let branches = branches(place.hosts, purpose, place.held, place.sender, standing);
     !is_one_reached(view, place, Word::only(registration), &branches)
-        || is_one_permitting(clauses, command, place, registration)
 }
 
 // The key of a registration, if it has one.

@@ -1,6 +1,7 @@
 //! The states that a view shows, one part after another.
 
-ghost use Rattle.std.specs.Prelude.{◌≡◌, ◌<◌, ◌≤◌, ℕ, Bool, true, false, ◌&&◌, IfSome, IfNone};
+ghost use Rattle.std.specs.Prelude.{◌≡◌, ◌≢◌, ◌⊎◌, ◌<◌, ◌≤◌, ℕ, Bool, true, false, ◌&&◌, IfSome, IfNone};
+ghost use Rattle.pr_registry.specs.Registrations.{holds_alone};
 ghost use Rattle.pr_registry.specs.Changes.{is_held_by_all};
 ghost use Rattle.pr_sets.specs.Words.{has};
 ghost use Rattle.pr_unit.specs.UnitStates.{UnitState};
@@ -59,20 +60,55 @@ impl Place {
         }
     }
 
-    // What the portion leaves to each.
+    // What the portion leaves to each: one rule for all, but for the sender and for who holds alone.
     fn left(&self, view: &Possibilities, senders: Word, region: &Region) -> [Word; MOST_NEXUSES]
         requires hosts { (1 ≤ self.now.hosts) × (self.now.hosts ≤ MOST_NEXUSES) }
         ensures left { (g r : ℕ) → g < self.now.hosts → has_at result g r ≡ (has_at view.now.registrations g r && passes self.now senders region.now g r) }
         ensures beyond { (g r : ℕ) → self.now.hosts ≤ g → has_at result g r ≡ false }
     {
         let mut words = [Word::none(); MOST_NEXUSES];
-        let mut g = 0;
-        while g < self.hosts {
+        for host in 0..usize::from(self.hosts) {
+            words[host] = view.registrations[host].and(region.others);
+        }
+        self.leave_to_holder(&mut words, view, senders, region);
+        self.leave_to(&mut words, self.sender, view, senders, region);
+        words
+    }
+
+    // Puts what the portion leaves to who holds alone, if one does, into its place.
+    fn leave_to_holder(
+        &self,
+        words: &mut [Word; MOST_NEXUSES],
+        view: &Possibilities,
+        senders: Word,
+        region: &Region,
+    )
+        requires hosts { self.now.hosts ≤ MOST_NEXUSES }
+        ensures holder { (g r : ℕ) → g < self.now.hosts → holds_alone self.now.held g ≡ true → has_at words.new g r ≡ (has_at view.now.registrations g r && passes self.now senders region.now g r) }
+        ensures others { (g r : ℕ) → (holds_alone self.now.held g ≡ false) ⊎ (self.now.hosts ≤ g) → has_at words.new g r ≡ has_at words.old g r }
+    {
+        if let Some(Held::One(_, holder)) = self.held {
+            self.leave_to(words, holder, view, senders, region);
+        }
+    }
+
+    // Puts what the portion leaves to one of them into its place.
+    fn leave_to(
+        &self,
+        words: &mut [Word; MOST_NEXUSES],
+        g: u8,
+        view: &Possibilities,
+        senders: Word,
+        region: &Region,
+    )
+        requires hosts { self.now.hosts ≤ MOST_NEXUSES }
+        ensures here { g < self.now.hosts → (r : ℕ) → has_at words.new g r ≡ (has_at view.now.registrations g r && passes self.now senders region.now g r) }
+        ensures others { (h r : ℕ) → (h ≢ g) ⊎ (self.now.hosts ≤ g) → has_at words.new h r ≡ has_at words.old h r }
+    {
+        if g < self.hosts {
             let i = usize::from(g);
             words[i] = self.left_to(g, view.registrations[i], senders, region);
-            g += 1;
         }
-        words
     }
 
     // What it leaves to one of them.

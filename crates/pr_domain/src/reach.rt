@@ -6,6 +6,7 @@ ghost use Rattle.pr_registry.specs.Registrations.{new_reservation, holds_alone, 
 ghost use Rattle.pr_registry.specs.Changes.{is_held_by_all, is_told_of_loss};
 ghost use Rattle.pr_roles.specs.declared.limits.TheConstants.{MOST_KEYS};
 ghost use Rattle.pr_sets.specs.Words.{has};
+ghost use Rattle.pr_sets.specs.Wides.{has_wide};
 ghost use Rattle.pr_views.specs.Possibilities.{number_of};
 ghost use Rattle.pr_domain.specs.inside.Reaching.{IsWider};
 
@@ -13,7 +14,7 @@ use crate::place::Place;
 use pr_cdb::Kind;
 use pr_regions::{every_key, reservation_number};
 use pr_registry::{Held, is_all};
-use pr_sets::Word;
+use pr_sets::{Wide, Word};
 
 /// What a command gives, removes and tells at most.
 #[derive(Clone, Copy)]
@@ -23,7 +24,7 @@ pub(crate) struct Reach {
     /// The registrations that others may lose.
     pub(crate) removed: Word,
     /// The reservations that may come of it.
-    pub(crate) reservations: Word,
+    pub(crate) reservations: Wide,
     /// With which registrations others may be told that reservations were preempted.
     pub(crate) told_03: Word,
     /// With which registrations others may be told that reservations were released.
@@ -39,7 +40,7 @@ impl Reach {
         Reach {
             given: none,
             removed: none,
-            reservations: none,
+            reservations: Wide::none(),
             told_03: none,
             told_04: none,
             told_05: none,
@@ -75,7 +76,7 @@ impl Reach {
     /// To be registered no more.
     pub(crate) fn of_unregistering(place: &Place) -> Reach
         ensures given { has result.given 0 ≡ true }
-        ensures ended { (holds_alone place.now.held place.now.sender || is_held_by_all place.now.held) ≡ true → has result.reservations 0 ≡ true }
+        ensures ended { (holds_alone place.now.held place.now.sender || is_held_by_all place.now.held) ≡ true → has_wide result.reservations 0 ≡ true }
         ensures told { (holds_alone place.now.held place.now.sender && is_told_of_loss place.now.held) ≡ true → (r : ℕ) → 1 ≤ r → r ≤ MOST_KEYS → has result.told_04 r ≡ true }
     {
         let going = Reach {
@@ -84,12 +85,12 @@ impl Reach {
         };
         match place.held {
             Some(Held::One(kind, holder)) if holder == place.sender => Reach {
-                reservations: none_alone(),
+                reservations: no_reservation(),
                 told_04: those_told(kind),
                 ..going
             },
             Some(Held::All(_)) => Reach {
-                reservations: none_alone(),
+                reservations: no_reservation(),
                 ..going
             },
             _ => going,
@@ -100,7 +101,7 @@ impl Reach {
     pub(crate) fn of_reserving(place: &Place, kind: Kind) -> Reach
         requires hosts { place.now.hosts ≤ MOST_NEXUSES }
         requires sender { place.now.sender < place.now.hosts }
-        ensures { place.now.held ≡ None → has result.reservations (number_of place.now.hosts (Some (new_reservation kind place.now.sender))) ≡ true }
+        ensures { place.now.held ≡ None → has_wide result.reservations (number_of place.now.hosts (Some (new_reservation kind place.now.sender))) ≡ true }
     {
         match place.held {
             None => Reach {
@@ -113,17 +114,17 @@ impl Reach {
 
     /// To release the reservation that stands.
     pub(crate) fn of_releasing(place: &Place) -> Reach
-        ensures ended { (holds_alone place.now.held place.now.sender || is_held_by_all place.now.held) ≡ true → has result.reservations 0 ≡ true }
+        ensures ended { (holds_alone place.now.held place.now.sender || is_held_by_all place.now.held) ≡ true → has_wide result.reservations 0 ≡ true }
         ensures told { ((holds_alone place.now.held place.now.sender || is_held_by_all place.now.held) && is_told_of_loss place.now.held) ≡ true → (r : ℕ) → 1 ≤ r → r ≤ MOST_KEYS → has result.told_04 r ≡ true }
     {
         match place.held {
             Some(Held::One(kind, holder)) if holder == place.sender => Reach {
-                reservations: none_alone(),
+                reservations: no_reservation(),
                 told_04: those_told(kind),
                 ..Reach::none()
             },
             Some(Held::All(kind)) => Reach {
-                reservations: none_alone(),
+                reservations: no_reservation(),
                 told_04: those_told(kind),
                 ..Reach::none()
             },
@@ -135,13 +136,13 @@ impl Reach {
     pub(crate) fn of_clearing() -> Reach
         ensures given { has result.given 0 ≡ true }
         ensures removed { (r : ℕ) → 1 ≤ r → r ≤ MOST_KEYS → has result.removed r ≡ true }
-        ensures reservations { has result.reservations 0 ≡ true }
+        ensures reservations { has_wide result.reservations 0 ≡ true }
         ensures told { (r : ℕ) → 1 ≤ r → r ≤ MOST_KEYS → has result.told_03 r ≡ true }
     {
         Reach {
             given: none_alone(),
             removed: every_key(),
-            reservations: none_alone(),
+            reservations: no_reservation(),
             told_03: every_key(),
             ..Reach::none()
         }
@@ -152,7 +153,7 @@ impl Reach {
         requires hosts { place.now.hosts ≤ MOST_NEXUSES }
         requires sender { place.now.sender < place.now.hosts }
         ensures removed { is_held_by_all place.now.held ≡ true → (r : ℕ) → 1 ≤ r → r ≤ MOST_KEYS → has result.removed r ≡ true }
-        ensures reservations { is_held_by_all place.now.held ≡ true → has result.reservations (number_of place.now.hosts (Some (new_reservation kind place.now.sender))) ≡ true }
+        ensures reservations { is_held_by_all place.now.held ≡ true → has_wide result.reservations (number_of place.now.hosts (Some (new_reservation kind place.now.sender))) ≡ true }
         ensures told { is_held_by_all place.now.held ≡ true → (r : ℕ) → 1 ≤ r → r ≤ MOST_KEYS → has result.told_05 r ≡ true }
     {
         match place.held {
@@ -169,25 +170,32 @@ impl Reach {
 
 impl Place {
     /// The reservation of this type that the sender establishes.
-    pub(crate) fn new_reservation(&self, kind: Kind) -> Word
+    pub(crate) fn new_reservation(&self, kind: Kind) -> Wide
         requires hosts { self.now.hosts ≤ MOST_NEXUSES }
         requires sender { self.now.sender < self.now.hosts }
-        ensures { has result (number_of self.now.hosts (Some (new_reservation kind self.now.sender))) ≡ true }
+        ensures { has_wide result (number_of self.now.hosts (Some (new_reservation kind self.now.sender))) ≡ true }
     {
         let held = if is_all(kind) {
             Held::All(kind)
         } else {
             Held::One(kind, self.sender)
         };
-        Word::only(reservation_number(self.hosts, Some(held)))
+        Wide::only(reservation_number(self.hosts, Some(held)))
     }
 }
 
-/// The number of no registration, which is that of no reservation too.
+/// The number of no registration.
 pub(crate) fn none_alone() -> Word
     ensures { has result 0 ≡ true }
 {
     Word::only(0)
+}
+
+/// The number of no reservation.
+pub(crate) fn no_reservation() -> Wide
+    ensures { has_wide result 0 ≡ true }
+{
+    Wide::only(0)
 }
 
 // With which registrations others are told of the loss of a reservation of this type.

@@ -6,8 +6,10 @@ ghost use Rattle.pr_registry.specs.declared.held.Held.TheVariants.{One};
 ghost use Rattle.pr_registry.specs.Registrations.{new_reservation};
 ghost use Rattle.pr_registry.specs.Changes.{is_kind, is_held_by_all};
 ghost use Rattle.pr_roles.specs.declared.limits.TheConstants.{MOST_KEYS};
+ghost use Rattle.pr_roles.specs.declared.role.Clause.{Clause as ClauseOf};
 ghost use Rattle.pr_roles.specs.Fitting.{is_action, is_reservation};
 ghost use Rattle.pr_sets.specs.Words.{has};
+ghost use Rattle.pr_sets.specs.Wides.{has_wide};
 ghost use Rattle.pr_views.specs.declared.view.TheConstants.{ATTENTION_SETS};
 ghost use Rattle.pr_views.specs.Possibilities.{Scope, number_of};
 ghost use Rattle.pr_views.specs.Portions.{has_at};
@@ -21,38 +23,34 @@ use crate::clauses::holds;
 use crate::keeping::count_of_reservations;
 use crate::onlooker::Onlooker;
 use crate::place::Place;
-use crate::reach::{Reach, none_alone};
+use crate::reach::{Reach, no_reservation, none_alone};
 use pr_cdb::Kind;
 use pr_cdb::codes::MOST_NEXUSES;
 use pr_regions::{every_key, number_in};
 use pr_registry::Held;
 use pr_roles::{Action, Clause};
-use pr_sets::Word;
+use pr_sets::{Wide, Word};
 use pr_views::{
     Possibilities, REGISTRATIONS_PREEMPTED_BIT, RESERVATIONS_PREEMPTED_BIT,
     RESERVATIONS_RELEASED_BIT,
 };
 
 impl Onlooker {
-    /// What a command of this clause can leave at most, beside what was so before it.
-    pub(crate) fn most(&self, clause: &Clause, keys: &[u64]) -> Possibilities
-        requires hosts { (1 ≤ self.now.hosts) × (self.now.hosts ≤ MOST_NEXUSES) }
-        requires own { self.now.own < self.now.hosts }
-        requires other { self.now.other < self.now.hosts }
-        requires keys { length keys.now ≤ MOST_KEYS }
-        requires action { IsClause keys.now clause.now }
-        ensures { (s : Scope) → IsOnlooking s self.now → s.keys ≡ keys.now → IsMost s self.now.view clause.now self.now.other result }
+    /// What a command that reaches no more than this can leave at most, beside what was so before it.
+    pub(crate) fn most(&self, reach: &Reach) -> Possibilities
+        requires own { self.now.own < MOST_NEXUSES }
+        requires other { self.now.other < MOST_NEXUSES }
+        ensures { (s : Scope) (clause : ClauseOf) → IsOnlooking s self.now → IsReach s self.now.view clause self.now.other reach.now → IsMost s self.now.view clause self.now.other result }
     {
-        let reach = self.reach(clause, keys);
         Possibilities {
-            registrations: self.registrations_within(&reach),
+            registrations: self.registrations_within(reach),
             reservations: reach.reservations,
-            pending: self.pending_within(&reach),
+            pending: self.pending_within(reach),
         }
     }
 
-    // What it reaches under the reservations that are possible.
-    fn reach(&self, clause: &Clause, keys: &[u64]) -> Reach
+    /// What a command of this clause reaches under the reservations that are possible.
+    pub(crate) fn reach(&self, clause: &Clause, keys: &[u64]) -> Reach
         requires hosts { (1 ≤ self.now.hosts) × (self.now.hosts ≤ MOST_NEXUSES) }
         requires other { self.now.other < self.now.hosts }
         requires keys { length keys.now ≤ MOST_KEYS }
@@ -106,9 +104,9 @@ impl Onlooker {
         requires held { IsTrue (is_reservation place.now.hosts place.now.held) }
         requires key { key ≤ MOST_KEYS }
         ensures given { has_at self.now.view.registrations place.now.sender key ≡ true → has result.given 0 ≡ true }
-        ensures ended { is_held_by_all place.now.held ≡ true → has_at self.now.view.registrations place.now.sender key ≡ true → MayAllGo self.now.view place.now key → has result.reservations 0 ≡ true }
+        ensures ended { is_held_by_all place.now.held ≡ true → has_at self.now.view.registrations place.now.sender key ≡ true → MayAllGo self.now.view place.now key → has_wide result.reservations 0 ≡ true }
         ensures removed { has result.removed key ≡ true }
-        ensures replaced { (old : KindOf) (holder : ℕ) → place.now.held ≡ Some (One old holder) → has_at self.now.view.registrations holder key ≡ true → has result.reservations (number_of place.now.hosts (Some (new_reservation kind place.now.sender))) ≡ true }
+        ensures replaced { (old : KindOf) (holder : ℕ) → place.now.held ≡ Some (One old holder) → has_at self.now.view.registrations holder key ≡ true → has_wide result.reservations (number_of place.now.hosts (Some (new_reservation kind place.now.sender))) ≡ true }
         ensures told_04 { (old : KindOf) (holder : ℕ) → place.now.held ≡ Some (One old holder) → has_at self.now.view.registrations holder key ≡ true → is_kind old kind ≡ false → (r : ℕ) → 1 ≤ r → r ≤ MOST_KEYS → r ≢ key → has result.told_04 r ≡ true }
         ensures told_05 { has result.told_05 key ≡ true }
     {
@@ -127,7 +125,7 @@ impl Onlooker {
                 ..removing
             },
             Some(Held::All(_)) if is_own => Reach {
-                reservations: none_if(self.may_all_go(place, key)),
+                reservations: no_reservation_if(self.may_all_go(place, key)),
                 ..removing
             },
             _ => removing,
@@ -157,8 +155,8 @@ impl Onlooker {
         self.may_have(host, 0) || self.may_have(host, key)
     }
 
-    // Whether a nexus may have this registration.
-    fn may_have(&self, host: u8, registration: u8) -> bool
+    /// Whether a nexus may have this registration.
+    pub(crate) fn may_have(&self, host: u8, registration: u8) -> bool
         requires host { host < MOST_NEXUSES }
         requires registration { registration ≤ MOST_KEYS }
         ensures { result ≡ has_at self.now.view.registrations host registration }
@@ -229,11 +227,18 @@ fn number_named(action: Action, keys: &[u64]) -> u8
     }
 }
 
-// That number, if this is so.
-fn none_if(is: bool) -> Word
+/// The number of no registration, if this is so.
+pub(crate) fn none_if(is: bool) -> Word
     ensures { IsTrue is → has result 0 ≡ true }
 {
     if is { none_alone() } else { Word::none() }
+}
+
+// The number of no reservation, if this is so.
+fn no_reservation_if(is: bool) -> Wide
+    ensures { IsTrue is → has_wide result 0 ≡ true }
+{
+    if is { no_reservation() } else { Wide::none() }
 }
 
 // With which registrations others are told that a reservation was released which one of another type replaced.

@@ -12,6 +12,7 @@ ghost use Rattle.pr_script.specs.Grammar.{is_written, test_fits};
 ghost use Rattle.pr_unit.specs.Faults.{command_fault};
 ghost use Rattle.pr_unit.specs.Replies.{report};
 ghost use Rattle.pr_sets.specs.Words.{has};
+ghost use Rattle.pr_sets.specs.Wides.{has_wide};
 ghost use Rattle.pr_views.specs.Rooms.{view_of, AreInRange};
 ghost use Rattle.pr_views.specs.Possibilities.{IsScope};
 ghost use Rattle.pr_domain.specs.Landings.{IsClass};
@@ -131,7 +132,7 @@ impl Sending<'_> {
         pending: Word,
     ) -> Result<(), AllocError>
         requires scope { IsScope (scope_of_sending self.now) }
-        requires range { (x q : ℕ) → has way.now.reservations x ≡ true → has pending q ≡ true → AreInRange self.now.hosts self.now.keys.now (record way.now { pending = pending }) }
+        requires range { (x q : ℕ) → has_wide way.now.reservations x ≡ true → has pending q ≡ true → AreInRange self.now.hosts self.now.keys.now (record way.now { pending = pending }) }
         requires kept { AreKeptFor S.members S.room self.now outcomes.old.items }
         ensures kept { OnOk result (AreKeptFor S.members S.room self.now outcomes.new.items) }
         ensures more { OnOk result (AreMore S.members self.now.sender outcomes.old.items (λ l i. (l ≡ landing) × IsOfWay (scope_of_sending self.now) way.now pending i) outcomes.new.items) }

@@ -7,6 +7,7 @@ ghost use Rattle.pr_roles.specs.declared.limits.TheConstants.{MOST_KEYS};
 ghost use Rattle.pr_roles.specs.Fitting.{Fits as FitsAll, is_reservation};
 ghost use Rattle.pr_roles.specs.Scenarios.{scenario_of};
 ghost use Rattle.pr_sets.specs.Words.{has};
+ghost use Rattle.pr_sets.specs.Wides.{has_wide};
 ghost use Rattle.pr_views.specs.Views.{Fits};
 ghost use Rattle.pr_views.specs.Portions.{has_at, view_in};
 ghost use Rattle.pr_views.specs.Rooms.{view_of, IsMade, AreInRange};
@@ -21,7 +22,7 @@ use pr_cdb::codes::MOST_NEXUSES;
 use pr_regions::{number_in, reservation_number};
 use pr_registry::Held;
 use pr_roles::{Nexus, Parts, Scenario};
-use pr_sets::{ViewSet, Word};
+use pr_sets::{ViewSet, Wide, Word};
 use pr_views::{ATTENTION_SETS, Possibilities, ViewOf};
 use std::alloc::{AllocError, Global};
 
@@ -107,12 +108,12 @@ fn registration_in(keys: &[u64], key: Option<u64>) -> u8
 }
 
 // The numbers of these reservations.
-fn reservations(hosts: u8, reservations: &[Option<Held>]) -> Word
+fn reservations(hosts: u8, reservations: &[Option<Held>]) -> Wide
     requires hosts { hosts ≤ MOST_NEXUSES }
     requires fit { IsTrue (list_all (is_reservation hosts) reservations.now) }
-    ensures { (x : ℕ) → has result x ≡ has_reservation hosts reservations.now x }
+    ensures { (x : ℕ) → has_wide result x ≡ has_reservation hosts reservations.now x }
 {
-    let mut numbers = Word::none();
+    let mut numbers = Wide::none();
     for held in reservations {
         numbers = numbers.with(reservation_number(hosts, *held));
     }

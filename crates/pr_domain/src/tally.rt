@@ -4,6 +4,7 @@ ghost use Rattle.std.specs.Prelude.{◌≡◌, ◌<◌, ◌≤◌, ℕ, false, I
 ghost use Rattle.pr_cdb.specs.declared.codes.TheConstants.{MOST_NEXUSES};
 ghost use Rattle.pr_sets.specs.Numbers.{most};
 ghost use Rattle.pr_sets.specs.Words.{has};
+ghost use Rattle.pr_sets.specs.Wides.{has_wide};
 ghost use Rattle.pr_views.specs.Possibilities.{Item};
 ghost use Rattle.pr_domain.specs.inside.Tallies.{has_part, has_tallied, HasFound};
 ghost use Rattle.pr_domain.specs.inside.Twins.{has_with_twin};
@@ -64,7 +65,7 @@ fn with_twin(found: &Possibilities, twin: u8, reservation: u8) -> Possibilities
     requires twin { twin < most }
     requires reservation { reservation < most }
     ensures registrations { result.registrations ≡ found.now.registrations }
-    ensures reservations { (x : ℕ) → has result.reservations x ≡ (has found.now.reservations x || (x == reservation && has found.now.reservations twin)) }
+    ensures reservations { (x : ℕ) → has_wide result.reservations x ≡ (has_wide found.now.reservations x || (x == reservation && has_wide found.now.reservations twin)) }
 {
     let mut joined = *found;
     if found.reservations.has(twin) {

@@ -10,6 +10,7 @@ ghost use Rattle.std.specs.List.{All};
 ghost use Rattle.pr_regions.specs.declared.region.Branch.{Branch as BranchOf};
 ghost use Rattle.pr_sets.specs.Numbers.{most};
 ghost use Rattle.pr_sets.specs.Words.{has};
+ghost use Rattle.pr_sets.specs.Wides.{has_wide};
 ghost use Rattle.pr_cdb.specs.declared.command.Command.{Command as CommandOf};
 ghost use Rattle.pr_script.specs.declared.script.Test.{Test as TestOf};
 ghost use Rattle.pr_unit.specs.UnitStates.{UnitState};
@@ -34,18 +35,18 @@ use pr_regions::{
 };
 use pr_script::Test;
 use pr_script::limits::MOST_ARMS;
-use pr_sets::Word;
+use pr_sets::{Wide, Word};
 use pr_views::{MOST_REGISTRATIONS, Possibilities};
 
 // These registrations under this reservation.
 fn part(registrations: [Word; MOST_NEXUSES], reservation: u8) -> Possibilities
     requires { reservation < most }
     ensures registrations { result.registrations ≡ registrations }
-    ensures reservations { (x : ℕ) → has result.reservations x ≡ (x == reservation) }
+    ensures reservations { (x : ℕ) → has_wide result.reservations x ≡ (x == reservation) }
 {
     Possibilities {
         registrations,
-        reservations: Word::only(reservation),
+        reservations: Wide::only(reservation),
         pending: Word::none(),
     }
 }

@@ -1,4 +1,5 @@
 pub mod Words
+pub mod Wides
 pub mod Members
 pub mod Placed
 pub mod Bits

@@ -1,4 +1,5 @@
 pub mod Numbers
 pub mod Words
+pub mod Wides
 pub mod Kept
 pub mod Laws

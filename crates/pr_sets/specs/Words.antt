@@ -1,8 +1,12 @@
 -- Agrees with docs/VIEWS.md, 'What a view has'.
--- A set of numbers below 128 as the bits of a word.
+-- A set of numbers below 16 as the bits of a word.
 use Rattle.std.specs.Prelude.{◌≡◌, ℕ, ◌≤◌, Bool, true, ◌==◌}
 use Rattle.std.specs.Int.{bit_at}
 use Rattle.pr_sets.specs.declared.word.Word.{Word}
+
+-- how many numbers there can be in a word: from 0 up to this bound
+abbrev pub word_size : ℕ
+word_size = 16
 
 -- n is in the set
 abbrev pub has : Word → ℕ → Bool

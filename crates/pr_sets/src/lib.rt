@@ -7,6 +7,7 @@
 mod laws;
 mod list_set;
 mod view_set;
+mod wide;
 mod word;
 mod word_set;
 
@@ -16,5 +17,6 @@ pub use laws::{
 };
 pub use list_set::ListSet;
 pub use view_set::{MOST, ViewSet};
-pub use word::Word;
+pub use wide::Wide;
+pub use word::{WORD_SIZE, Word};
 pub use word_set::WordSet;

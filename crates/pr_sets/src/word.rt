@@ -1,13 +1,15 @@
-//! A set of numbers below 128, as the bits of a word.
+//! A set of numbers below 16, as the bits of a word.
 
 ghost use Rattle.std.specs.Prelude.{◌≡◌, ◌<◌, ◌≤◌, ℕ, false, ◌==◌, ◌&&◌, ◌||◌, not, nat_lt, IfSome, IfNone, IsTrue};
-ghost use Rattle.pr_sets.specs.Numbers.{most};
-ghost use Rattle.pr_sets.specs.Words.{has, IsLeast};
+ghost use Rattle.pr_sets.specs.Words.{has, IsLeast, word_size};
 
-/// A set of numbers below 128, for reckoning with whole sets at a time.
+/// The bound of a word: its numbers are below it.
+pub const WORD_SIZE: u8 = 16;
+
+/// A set of numbers below 16, for reckoning with whole sets at a time.
 #[derive(Clone, Copy, PartialEq, Eq)]
 pub struct Word {
-    bits: u128,
+    bits: u16,
 }
 
 impl Word {
@@ -20,20 +22,20 @@ impl Word {
 
     /// Every number below the size.
     pub fn below(size: u8) -> Self
-        requires { size ≤ most }
+        requires { size ≤ word_size }
         ensures { (n : ℕ) → has result n ≡ nat_lt n size }
     {
         if size == 0 {
             return Word { bits: 0 };
         }
         Word {
-            bits: u128::MAX >> (128 - size),
+            bits: u16::MAX >> (WORD_SIZE - size),
         }
     }
 
     /// This number alone.
     pub fn only(n: u8) -> Self
-        requires { n < most }
+        requires { n < word_size }
         ensures { (m : ℕ) → has result m ≡ (m == n) }
     {
         Word { bits: 1 << n }
@@ -41,7 +43,7 @@ impl Word {
 
     /// The set and this number.
     pub fn with(self, n: u8) -> Self
-        requires { n < most }
+        requires { n < word_size }
         ensures { (m : ℕ) → has result m ≡ (m == n || has self m) }
     {
         Word {
@@ -51,7 +53,7 @@ impl Word {
 
     /// The set without this number.
     pub fn without(self, n: u8) -> Self
-        requires { n < most }
+        requires { n < word_size }
         ensures { (m : ℕ) → has result m ≡ (not (m == n) && has self m) }
     {
         Word {
@@ -88,7 +90,7 @@ impl Word {
 
     /// Whether the number is in the set.
     pub fn has(self, n: u8) -> bool
-        requires { n < most }
+        requires { n < word_size }
         ensures { result ≡ has self n }
     {
         self.bits >> n & 1 == 1

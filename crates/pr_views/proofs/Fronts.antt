@@ -4,9 +4,7 @@ use Rattle.std.specs.FinSet as set
 use Rattle.std.proofs.lemmas.Bool.{lt-ltb, le-ltb}
 use Rattle.std.proofs.lemmas.Bool.Decides.{nat_tests, eqb_tells}
 use Rattle.pr_registry.proofs.Sets.{contains-insert}
-use Rattle.pr_sets.specs.declared.word.Word.{Word}
 use Rattle.pr_sets.specs.Numbers.{Numbers}
-use Rattle.pr_sets.specs.Words.{has}
 
 -- q says what p says of each number below n, and no of the others
 abbrev pub IsFront : (ℕ → Bool) → (ℕ → Bool) → ℕ → Type 0
@@ -52,8 +50,8 @@ front_all q p n front below m = front m ∙ at (p m) refl
     at true says = ap (λ b. p m && b) (lt-ltb m n (below m says)) ∙ and_true (p m)
     at false denies = ap (λ b. b && nat_lt m n) denies ∙ sym denies
 
--- ---- sets of a word's numbers
+-- ---- sets of the numbers of which a test says yes
 
-pub added : (s t : Numbers) (word : Word) (n : ℕ) → IsFront (set.contains s) (has word) n → has word n ≡ true → t ≡ set.insert s n → IsFront (set.contains t) (has word) (n + 1)
-added s t word n front there is =
-    front_more (set.contains s) (set.contains t) (has word) n front there (λ m. ap (λ u. set.contains u m) is ∙ contains-insert s n m)
+pub added : (s t : Numbers) (p : ℕ → Bool) (n : ℕ) → IsFront (set.contains s) p n → p n ≡ true → t ≡ set.insert s n → IsFront (set.contains t) p (n + 1)
+added s t p n front there is =
+    front_more (set.contains s) (set.contains t) p n front there (λ m. ap (λ u. set.contains u m) is ∙ contains-insert s n m)

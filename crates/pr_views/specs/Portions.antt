@@ -9,6 +9,7 @@ use Rattle.pr_unit.specs.UnitStates.{UnitState}
 use Rattle.pr_roles.specs.Fitting.{is_reservation}
 use Rattle.pr_sets.specs.declared.word.Word.{Word}
 use Rattle.pr_sets.specs.Words.{has}
+use Rattle.pr_sets.specs.Wides.{has_wide}
 use Rattle.pr_views.specs.declared.portion.Portion.{Portion}
 use Rattle.pr_views.specs.declared.possibilities.Possibilities.{Possibilities}
 use Rattle.pr_views.specs.Possibilities.{Scope, Item, Registration, Reservation, Attentions, IsSo, number_of}
@@ -20,7 +21,7 @@ has_at words g n = option_map_or (λ w. has w n) (slice_get words g) false
 
 -- the view that possibilities are, to whom they belong
 abbrev pub view_in : Scope → Possibilities → View
-view_in s p = record { scope = s; registrations = has_at p.registrations; reservations = has p.reservations; pending = has p.pending }
+view_in s p = record { scope = s; registrations = has_at p.registrations; reservations = has_wide p.reservations; pending = has p.pending }
 
 -- some nexus but the sender has a registration that passes, if there is a test
 abbrev pub HasSomebody : Scope → UnitState → ℕ → Option (ℕ → Bool) → Type 0

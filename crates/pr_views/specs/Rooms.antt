@@ -10,6 +10,7 @@ use Rattle.pr_sets.specs.Numbers.{Numbers}
 use Rattle.pr_views.specs.declared.view.ViewOf.{ViewOf}
 use Rattle.pr_views.specs.Possibilities.{Scope, count_of_reservations, count_of_attentions}
 use Rattle.pr_sets.specs.Words.{has}
+use Rattle.pr_sets.specs.Wides.{has_wide}
 use Rattle.pr_views.specs.declared.possibilities.Possibilities.{Possibilities}
 use Rattle.pr_views.specs.Views.{View}
 use Rattle.pr_views.specs.Portions.{has_at}
@@ -46,5 +47,5 @@ pub record AreAlike {S : Type 0} (v w : ViewOf S) : Type 0 where
 -- the possibilities are ones of so many nexuses and these keys
 pub record AreInRange (hosts : ℕ) (keys : List ℕ) (p : Possibilities) : Type 0 where
   pub registrations : (g r : ℕ) → g < hosts → has_at p.registrations g r ≡ true → r ≤ length keys
-  pub reservations : (x : ℕ) → has p.reservations x ≡ true → x < count_of_reservations hosts
+  pub reservations : (x : ℕ) → has_wide p.reservations x ≡ true → x < count_of_reservations hosts
   pub pending : (q : ℕ) → has p.pending q ≡ true → q < count_of_attentions

@@ -10,7 +10,8 @@ ghost use Rattle.pr_views.specs.inside.Room.{HasRoom};
 
 use crate::possibilities::Possibilities;
 use crate::sets::{
-    are_empty, are_within, empty_sets, have_room, set_of, sets_of, word_of, words_of,
+    are_empty, are_within, empty_sets, have_room, set_of, sets_of, wide_of, wide_set_of, word_of,
+    words_of,
 };
 use arrayvec::ArrayVec;
 use pr_cdb::codes::MOST_NEXUSES;
@@ -97,7 +98,7 @@ impl<S: ViewSet> ViewOf<S> {
             hosts,
             &possibilities.registrations,
         )?;
-        let reservations = set_of(
+        let reservations = wide_set_of(
             alloc,
             count_of_reservations(hosts),
             possibilities.reservations,
@@ -121,7 +122,7 @@ impl<S: ViewSet> ViewOf<S> {
     {
         Possibilities {
             registrations: words_of(&self.registrations, self.hosts),
-            reservations: word_of(&self.reservations),
+            reservations: wide_of(&self.reservations),
             pending: word_of(&self.pending),
         }
     }

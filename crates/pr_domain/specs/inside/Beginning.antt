@@ -12,6 +12,7 @@ use Rattle.pr_roles.specs.Fitting.{is_reservation}
 use Rattle.pr_roles.specs.Scenarios.{Scenario, Nexus, nexus}
 use Rattle.pr_roles.specs.inside.StoredStarts.{start_of}
 use Rattle.pr_sets.specs.Words.{has}
+use Rattle.pr_sets.specs.Wides.{has_wide}
 use Rattle.pr_views.specs.declared.possibilities.Possibilities.{Possibilities}
 use Rattle.pr_views.specs.Possibilities.{Scope, key_at, number_of, count_of_attentions}
 use Rattle.pr_views.specs.Portions.{has_at}
@@ -47,5 +48,5 @@ pub record AreAlternatives (sc : Scenario) (s : Scope) (p : Possibilities) : Typ
   pub hosts : s.hosts ≡ length sc.nexuses
   pub there : (g : ℕ) (n : Nexus) → nexus sc g ≡ Some n → g < s.hosts
   pub registrations : (g r : ℕ) (n : Nexus) → nexus sc g ≡ Some n → r ≤ length s.keys → (has_at p.registrations g r ≡ true) ↔ Contains n.start (key_at s.keys r)
-  pub reservations : (held : Option Held) → is_reservation s.hosts held ≡ true → (has p.reservations (number_of s.hosts held) ≡ true) ↔ Contains sc.reservations held
+  pub reservations : (held : Option Held) → is_reservation s.hosts held ≡ true → (has_wide p.reservations (number_of s.hosts held) ≡ true) ↔ Contains sc.reservations held
   pub pending : (q : ℕ) (n : Nexus) → q < count_of_attentions → nexus sc s.own ≡ Some n → (has p.pending q ≡ true) ↔ AreAmong (codes_of q) n.pending

@@ -7,6 +7,7 @@ use Rattle.pr_roles.specs.declared.limits.TheConstants.{MOST_KEYS}
 use Rattle.pr_roles.specs.Fitting.{is_reservation}
 use Rattle.pr_sets.specs.declared.word.Word.{Word}
 use Rattle.pr_sets.specs.Words.{has}
+use Rattle.pr_sets.specs.Wides.{has_wide}
 use Rattle.pr_views.specs.declared.portion.Portion.{Portion}
 use Rattle.pr_views.specs.declared.possibilities.Possibilities.{Possibilities}
 use Rattle.pr_views.specs.Possibilities.{Scope, Registration, Reservation, Attentions, IsSo, number_of}
@@ -21,7 +22,7 @@ pub record IsPlace (s : Scope) (view : Possibilities) (place : Place) : Type 0 w
   pub hosts : s.hosts ≡ place.hosts
   pub fits : Fits (view_in s view)
   pub sender : place.sender < place.hosts
-  pub possible : has view.reservations place.reservation ≡ true
+  pub possible : has_wide view.reservations place.reservation ≡ true
   pub number : place.reservation ≡ number_of s.hosts place.held
   pub held : is_reservation s.hosts place.held ≡ true
 

@@ -1,5 +1,5 @@
 -- Whether a role permits a host's command, wherever the command ends GOOD.
-use Rattle.std.specs.Prelude.{◌≡◌, ℕ, ◌<◌, Bool, true, false, not, ◌==◌, ◌&&◌, IsTrue, List, Option, Some, None, is_some}
+use Rattle.std.specs.Prelude.{◌≡◌, ℕ, ◌<◌, Bool, true, false, not, ◌==◌, ◌&&◌, IsTrue, List, Option, Some, None, is_some, is_none}
 use Rattle.std.specs.List.{list_any, slice_get}
 use Rattle.pr_cdb.specs.declared.command.Command.{Command}
 use Rattle.pr_registry.specs.declared.held.Held.{Held}
@@ -70,6 +70,10 @@ holds_at None place r = true
 holds_at (Some condition.Registered) place r = not (r == 0)
 holds_at (Some condition.Holder) place r = holds_reservation place.held place.sender r
 holds_at (Some condition.Reserved) place r = is_some place.held
+
+-- the clause permits the command in every state
+abbrev pub permits_always : Clause → Command → Bool
+permits_always clause c = is_none clause.condition && names clause.action c
 
 abbrev pub permits_at : Clause → Command → Place → ℕ → Bool
 permits_at clause c place r = names clause.action c && holds_at clause.condition place r

@@ -21,6 +21,7 @@ use Rattle.pr_roles.specs.declared.how.Refusals.{Refusals}
 use Rattle.pr_sets.specs.declared.word.Word.{Word}
 use Rattle.pr_sets.specs.Numbers.{Numbers}
 use Rattle.pr_sets.specs.Words.{has}
+use Rattle.pr_sets.specs.Wides.{has_wide}
 use Rattle.pr_views.specs.declared.possibilities.Possibilities.{Possibilities}
 use Rattle.pr_views.specs.declared.view.ViewOf.{ViewOf}
 use Rattle.pr_views.specs.Possibilities.{Scope, Item, IsSo, count_of_attentions}
@@ -219,6 +220,6 @@ LandsGoodBelow v c tests bound l i = (arm : ℕ) × (arm < bound) × LandsGood v
 -- a possibility of registrations and reservation as one way to end leaves them, and of these attentions, where
 -- there is some of each
 pub record IsOfWay (s : Scope) (way : Possibilities) (pending : Word) (i : Item) : Type 0 where
-  pub reserved : (x : ℕ) × (has way.reservations x ≡ true)
+  pub reserved : (x : ℕ) × (has_wide way.reservations x ≡ true)
   pub pends : (q : ℕ) × (has pending q ≡ true)
   pub possible : IsPossible (view_in s (record way { pending = pending })) i

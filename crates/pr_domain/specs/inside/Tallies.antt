@@ -10,7 +10,7 @@ use Rattle.pr_unit.specs.Faults.{command_fault}
 use Rattle.pr_unit.specs.Replies.{good, data_of}
 use Rattle.pr_script.specs.declared.script.Test.{Test}
 use Rattle.pr_script.specs.Grammar.{is_read_keys, is_read_reservation}
-use Rattle.pr_sets.specs.Words.{has}
+use Rattle.pr_sets.specs.Wides.{has_wide}
 use Rattle.pr_views.specs.declared.possibilities.Possibilities.{Possibilities}
 use Rattle.pr_views.specs.Possibilities.{key_at, Scope, Item, Registration, Reservation, Attentions, IsSo}
 use Rattle.pr_views.specs.Views.{View, Shows, Fits}
@@ -40,7 +40,7 @@ IsRegistered s u (Attentions q) = ⊥
 -- the possibilities have this of the registrations and the reservation
 abbrev pub has_part : Possibilities → Item → Bool
 has_part p (Registration g r) = has_at p.registrations g r
-has_part p (Reservation x) = has p.reservations x
+has_part p (Reservation x) = has_wide p.reservations x
 has_part p (Attentions q) = false
 
 abbrev pub has_tallied : Tally → ℕ → Item → Bool
@@ -53,7 +53,7 @@ IsNothing t = (way : ℕ) (i : Item) → has_tallied t way i ≡ false
 -- it has these registrations and reservations of the way
 pub record HasFound (t : Tally) (way hosts : ℕ) (found : Possibilities) : Type 0 where
   pub registrations : (g r : ℕ) → g < hosts → has_at found.registrations g r ≡ true → has_tallied t way (Registration g r) ≡ true
-  pub reservations : (x : ℕ) → has found.reservations x ≡ true → has_tallied t way (Reservation x) ≡ true
+  pub reservations : (x : ℕ) → has_wide found.reservations x ≡ true → has_tallied t way (Reservation x) ≡ true
 
 -- GOOD is told apart by the arm that takes the data, if one does
 abbrev pub arm_of : ℕ → Option ℕ

@@ -3,7 +3,7 @@ use Rattle.std.specs.Prelude.{◌≡◌, ℕ, ◌<◌, Bool, true, ◌==◌, ◌
 use Rattle.pr_registry.specs.declared.held.Held.{Held}
 use Rattle.pr_registry.specs.declared.held.Held.TheVariants.{One, All}
 use Rattle.pr_roles.specs.Fitting.{is_reservation}
-use Rattle.pr_sets.specs.Words.{has}
+use Rattle.pr_sets.specs.Wides.{has_wide}
 use Rattle.pr_views.specs.declared.possibilities.Possibilities.{Possibilities}
 use Rattle.pr_views.specs.Possibilities.{Item, Registration, Reservation, Attentions, number_of}
 use Rattle.pr_domain.specs.declared.place.Place.{Place}
@@ -23,7 +23,7 @@ AreTwins (Some (All t)) (Some (All k)) = Unit {0}
 -- x is a reservation of the view before the one of the place, and has the same holders
 pub record IsTwin (view : Possibilities) (place : Place) (x : ℕ) : Type 0 where
   pub below : x < place.reservation
-  pub possible : has view.reservations x ≡ true
+  pub possible : has_wide view.reservations x ≡ true
   pub twin : Option Held
   pub number : x ≡ number_of place.hosts twin
   pub fits : is_reservation place.hosts twin ≡ true

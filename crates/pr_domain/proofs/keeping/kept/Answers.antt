@@ -1,6 +1,7 @@
 use Rattle.std.proofs.Common.{◌≡◌, ℕ, ◌+◌, ◌<◌, false, sym, ◌∙◌, subst, arith}
 use Rattle.std.proofs.lemmas.Bool.{false≢true}
 use Rattle.pr_sets.specs.Words.{has}
+use Rattle.pr_sets.specs.Wides.{has_wide}
 use Rattle.pr_views.specs.declared.possibilities.Possibilities.{Possibilities}
 use Rattle.pr_views.specs.Possibilities.{Scope, IsSo, Item, Registration, Reservation, Attentions, count_of_reservations}
 use Rattle.pr_views.specs.Views.{IsPossible, Shows}
@@ -30,7 +31,7 @@ loop-reservation-preserved c s same fits =
           (below_skips s view none c.loop-reservation.kept n (sym c.has.ensures ∙ w.if-has.false) (c.loop-reservation.invariant s same fits))
     ]
 
-nothing : (s : Scope) (p : Possibilities) → ((g r : ℕ) → has_at p.registrations g r ≡ false) → ((x : ℕ) → has p.reservations x ≡ false) → ((q : ℕ) → has p.pending q ≡ false) → (i : Item)
+nothing : (s : Scope) (p : Possibilities) → ((g r : ℕ) → has_at p.registrations g r ≡ false) → ((x : ℕ) → has_wide p.reservations x ≡ false) → ((q : ℕ) → has p.pending q ≡ false) → (i : Item)
     → IsPossible (view_in s p) i → ⊥
 nothing s p no_registration no_reservation no_pending (Registration g r) is = false≢true (sym (no_registration g r) ∙ is.1)
 nothing s p no_registration no_reservation no_pending (Reservation x) is = false≢true (sym (no_reservation x) ∙ is)

@@ -1,7 +1,7 @@
 use Rattle.std.proofs.Common.{◌≡◌, ℕ, take}
-use Rattle.pr_sets.specs.Words.{has}
+use Rattle.pr_sets.specs.Wides.{has_wide}
 use Rattle.pr_domain.specs.inside.Beginning.{has_reservation}
 use Rattle.pr_domain.proofs.starting.reservations.Given as goal
 
 abbrev pub invariant-loop-held : goal.invariant-loop-held
-invariant-loop-held l = (x : ℕ) → has l.numbers x ≡ has_reservation l.hosts (take l.held-index l.reservations) x
+invariant-loop-held l = (x : ℕ) → has_wide l.numbers x ≡ has_reservation l.hosts (take l.held-index l.reservations) x

@@ -18,7 +18,7 @@ loop-n-preserved g c =
     elim c.if-has.branch [
       | then-has+in_ok-add w ↦ record {
         room = ap g.S.ViewSet.room w.numbers-is ∙ w.add.ensures.room ∙ c.loop-n.invariant.room;
-        members = added (members c.loop-n.numbers) (members c.if-has.numbers) c.args.word c.loop-n.n c.loop-n.invariant.members (sym c.has.ensures ∙ w.if-has.true)
+        members = added (members c.loop-n.numbers) (members c.if-has.numbers) (has c.args.word) c.loop-n.n c.loop-n.invariant.members (sym c.has.ensures ∙ w.if-has.true)
             (ap members w.numbers-is ∙ w.in_ok-add.ensures.ok);
       }
       | else-has w ↦ record {

@@ -43,5 +43,14 @@ returns c s is same =
 
 pub returns-then-not-gains : goal.returns-then-not-gains
 returns-then-not-gains c s is same =
-    adds_most s c.args.self.now c.args.clause.now c.args.answer.now c.loop-reservation.answer c.most-most.result c.loop-reservation.reservation (count_of_reservations c.args.self.now.hosts)
-    (c.requires.shown s is same) (c.most-most.ensures s is same) (c.if-not-gains.ensures.none refl s is.hosts) (c.loop-reservation.invariant s is same)
+    let o = c.args.self.now in
+    let clause = c.args.clause.now in
+    adds_most s o clause c.args.answer.now c.args.answer.now c.most.result 0 (count_of_reservations o.hosts) (c.requires.shown s is same)
+    (c.most.ensures s clause is (c.widest.ensures s is same)) (c.if-not-gains.ensures.none refl s is.hosts) (first_none s c.args.answer.now o.view clause o.other (ClauseLeaves (view_in s o.view) clause o.other))
+
+pub returns-then-not-gains-2 : goal.returns-then-not-gains-2
+returns-then-not-gains-2 c s is same =
+    let o = c.args.self.now in
+    let clause = c.args.clause.now in
+    adds_most s o clause c.args.answer.now c.loop-reservation.answer c.most-most.result c.loop-reservation.reservation (count_of_reservations o.hosts)
+    (c.requires.shown s is same) (c.most-most.ensures s clause is (c.reach.ensures s is same)) (c.if-not-gains-2.ensures.none refl s is.hosts) (c.loop-reservation.invariant s is same)

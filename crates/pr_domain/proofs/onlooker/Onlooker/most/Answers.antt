@@ -4,9 +4,9 @@ use Rattle.pr_domain.proofs.Reached.{most_of_reach}
 use Rattle.pr_domain.proofs.onlooker.Onlooker.most.Goals as goal
 
 pub returns : goal.returns
-returns c s is same =
+returns c s clause is reaches =
     let o = c.args.self.now in
-    most_of_reach s o c.args.clause.now c.reach-reach.result is _ (c.reach-reach.ensures s is same)
+    most_of_reach s o clause c.args.reach.now is _ reaches
     (record {
       given = c.registrations_within.ensures.given;
       freed = c.registrations_within.ensures.freed;

@@ -4,6 +4,7 @@ use Rattle.pr_registry.specs.declared.held.Held.TheVariants.{One}
 use Rattle.pr_registry.specs.Registrations.{new_reservation}
 use Rattle.pr_registry.specs.Changes.{is_kind, is_held_by_all}
 use Rattle.pr_sets.specs.Words.{has}
+use Rattle.pr_sets.specs.Wides.{has_wide}
 use Rattle.pr_views.specs.Possibilities.{number_of}
 use Rattle.pr_views.specs.Portions.{has_at}
 use Rattle.pr_regions.specs.Purposes.{number_in}
@@ -52,9 +53,9 @@ returns-else-key-eq0 c s is fits number =
     let same : c.args.number ≡ number_in s.keys key = sym number ∙ ap (number_named s.keys) c.in-Preempt.is in
     preempt_key_reach s o place c.args.clause.now reach is fits key kind c.in-Preempt.is c.if-key-eq0.false
     (subst (λ j. has_at o.view.registrations place.sender j ≡ true → has reach.given 0 ≡ true) same facts.given)
-    (subst (λ j. is_held_by_all place.held ≡ true → has_at o.view.registrations place.sender j ≡ true → MayAllGo o.view place j → has reach.reservations 0 ≡ true) same facts.ended)
+    (subst (λ j. is_held_by_all place.held ≡ true → has_at o.view.registrations place.sender j ≡ true → MayAllGo o.view place j → has_wide reach.reservations 0 ≡ true) same facts.ended)
     (subst (λ j. has reach.removed j ≡ true) same facts.removed)
-    (subst (λ j. (old : Kind) (g : ℕ) → place.held ≡ Some (One old g) → has_at o.view.registrations g j ≡ true → has reach.reservations (number_of place.hosts (Some (new_reservation kind place.sender))) ≡ true)
+    (subst (λ j. (old : Kind) (g : ℕ) → place.held ≡ Some (One old g) → has_at o.view.registrations g j ≡ true → has_wide reach.reservations (number_of place.hosts (Some (new_reservation kind place.sender))) ≡ true)
     same facts.replaced)
     (subst (λ j. (old : Kind) (g : ℕ) → place.held ≡ Some (One old g) → has_at o.view.registrations g j ≡ true → is_kind old kind ≡ false → (r : ℕ) → 1 ≤ r → r ≤ 12 → r ≢ j → has reach.told_04 r ≡ true)
     same facts.told_04)

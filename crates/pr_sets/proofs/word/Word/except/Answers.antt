@@ -4,6 +4,6 @@ use Rattle.pr_sets.proofs.word.Word.except.Goals as goal
 
 pub returns : goal.returns
 returns c m =
-    let fits : c.args.self.bits < 2 ^ 128 = omega arith in
-    let other_fits : c.args.other.bits < 2 ^ 128 = omega arith in
+    let fits : c.args.self.bits < 2 ^ 16 = omega arith in
+    let other_fits : c.args.other.bits < 2 ^ 16 = omega arith in
     has-except c.args.self.bits c.args.other.bits m fits other_fits

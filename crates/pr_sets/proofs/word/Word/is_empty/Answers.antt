@@ -1,11 +1,11 @@
 use Rattle.std.proofs.Common.{◌^◌, ◌<◌, arith}
-use Rattle.std.specs.Int.{w128, trailing_zeros}
+use Rattle.std.specs.Int.{w16, trailing_zeros}
 use Rattle.std.proofs.lemmas.Bool.Decides.{nat_tests}
 use Rattle.pr_sets.proofs.Words.{least_there}
 use Rattle.pr_sets.proofs.word.Word.is_empty.Goals as goal
 
 pub returns-clause-filled : goal.returns-clause-filled
 returns-clause-filled c filled =
-    let fits : c.args.self.bits < 2 ^ 128 = omega arith in
+    let fits : c.args.self.bits < 2 ^ 16 = omega arith in
     let some : 0 < c.args.self.bits = grind (arith, nat_tests) in
-    (trailing_zeros w128 c.args.self.bits, (least_there c.args.self some fits).there)
+    (trailing_zeros w16 c.args.self.bits, (least_there c.args.self some fits).there)

@@ -4,5 +4,5 @@ use Rattle.pr_sets.proofs.word.Word.without.Goals as goal
 
 pub returns : goal.returns
 returns c m =
-    let fits : c.args.self.bits < 2 ^ 128 = omega arith in
+    let fits : c.args.self.bits < 2 ^ 16 = omega arith in
     has-without c.args.self.bits c.args.n m fits c.requires

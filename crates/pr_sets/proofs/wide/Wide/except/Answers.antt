@@ -1,0 +1,9 @@
+use Rattle.std.proofs.Common.{◌^◌, ◌<◌, arith}
+use Rattle.pr_sets.proofs.Wides.{has-except}
+use Rattle.pr_sets.proofs.wide.Wide.except.Goals as goal
+
+pub returns : goal.returns
+returns c m =
+    let fits : c.args.self.bits < 2 ^ 128 = omega arith in
+    let other_fits : c.args.other.bits < 2 ^ 128 = omega arith in
+    has-except c.args.self.bits c.args.other.bits m fits other_fits

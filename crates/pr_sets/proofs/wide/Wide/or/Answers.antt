@@ -1,0 +1,5 @@
+use Rattle.pr_sets.proofs.Wides.{has-or}
+use Rattle.pr_sets.proofs.wide.Wide.or.Goals as goal
+
+pub returns : goal.returns
+returns c m = has-or c.args.self.bits c.args.other.bits m

@@ -1,0 +1,73 @@
+//! A set of numbers below 128, as the bits of a wide word.
+
+ghost use Rattle.std.specs.Prelude.{◌≡◌, ◌<◌, ℕ, false, ◌==◌, ◌&&◌, ◌||◌, not, IsTrue};
+ghost use Rattle.pr_sets.specs.Numbers.{most};
+ghost use Rattle.pr_sets.specs.Wides.{has_wide};
+
+/// A set of numbers below 128, for reckoning with whole sets at a time. Sets of numbers below 16 take an eighth of its room
+/// as a [`Word`](crate::Word).
+#[derive(Clone, Copy, PartialEq, Eq)]
+pub struct Wide {
+    bits: u128,
+}
+
+impl Wide {
+    /// No number.
+    pub fn none() -> Self
+        ensures { (n : ℕ) → has_wide result n ≡ false }
+    {
+        Wide { bits: 0 }
+    }
+
+    /// This number alone.
+    pub fn only(n: u8) -> Self
+        requires { n < most }
+        ensures { (m : ℕ) → has_wide result m ≡ (m == n) }
+    {
+        Wide { bits: 1 << n }
+    }
+
+    /// The set and this number.
+    pub fn with(self, n: u8) -> Self
+        requires { n < most }
+        ensures { (m : ℕ) → has_wide result m ≡ (m == n || has_wide self m) }
+    {
+        Wide {
+            bits: self.bits | 1 << n,
+        }
+    }
+
+    /// What either set has.
+    pub fn or(self, other: Wide) -> Self
+        ensures { (m : ℕ) → has_wide result m ≡ (has_wide self m || has_wide other m) }
+    {
+        Wide {
+            bits: self.bits | other.bits,
+        }
+    }
+
+    /// What the other set does not have.
+    pub fn except(self, other: Wide) -> Self
+        ensures { (m : ℕ) → has_wide result m ≡ (has_wide self m && not (has_wide other m)) }
+    {
+        Wide {
+            bits: self.bits & !other.bits,
+        }
+    }
+
+    /// Whether the number is in the set.
+    pub fn has(self, n: u8) -> bool
+        requires { n < most }
+        ensures { result ≡ has_wide self n }
+    {
+        self.bits >> n & 1 == 1
+    }
+
+    /// Whether the set has no number.
+    pub fn is_empty(self) -> bool
+        ensures empty { IsTrue result → (m : ℕ) → has_wide self m ≡ false }
+        ensures filled { result ≡ false → (m : ℕ) × IsTrue (has_wide self m) }
+    {
+        self.bits == 0
+    }
+}

@@ -1,0 +1,11 @@
+use Rattle.std.proofs.Common.{◌≡◌}
+use Rattle.std.specs.FinSet as set
+use Rattle.pr_sets.specs.Wides.{has_wide}
+use Rattle.pr_views.proofs.Fronts.{IsFront}
+use Rattle.pr_views.proofs.sets.wide_set_of.Given as goal
+
+abbrev pub invariant-loop-n : goal.invariant-loop-n
+invariant-loop-n g l = record {
+  room : g.S.ViewSet.room l.numbers ≡ l.size;
+  members : IsFront (set.contains (g.S.ViewSet.members l.numbers)) (has_wide l.word) l.n;
+}
