@@ -15,11 +15,14 @@ use Rattle.pr_views.specs.Views.{IsPossible, Shows}
 use Rattle.pr_views.specs.Portions.{view_in}
 use Rattle.pr_views.proofs.Numbering.{one_reservation}
 use Rattle.pr_domain.specs.Interference.{IsDone, IsLeft, IsInterference}
+use Rattle.pr_domain.specs.inside.Closing.{IsWidened}
+use Rattle.pr_domain.specs.inside.Reaching.{HasShown}
 use Rattle.pr_domain.specs.declared.onlooker.Onlooker.{Onlooker}
 use Rattle.pr_domain.specs.inside.Interfering.{IsOnlooking, Allows, Adds, Among, ClauseLeads, ClauseLeaves}
 use Rattle.pr_domain.specs.inside.Clauses.{IsClause, PlaceLeads, FirstLeads}
 use Rattle.pr_domain.specs.inside.Keeping.{IsKept}
 use Rattle.pr_domain.proofs.Adding.{adds_both, adds_nothing}
+use Rattle.pr_domain.proofs.Closed.{shown_possible}
 use Rattle.pr_domain.proofs.Unpending.{IsLike, so_like}
 use Rattle.pr_domain.proofs.Doing.{kept_left, clause_left, done_leads}
 use Rattle.pr_domain.proofs.Meaning.{IsMeant, meant}
@@ -67,15 +70,20 @@ shows_allowed s p u formed hosts allows = record {
   pending = (allows.pending.0, (allows.items (Attentions allows.pending.0) allows.pending.1, allows.pending.1));
 }
 
-pub is_interference : (s : Scope) (o : Onlooker) (role : List Clause) (kept answer : Possibilities) → IsOnlooking s o → All (IsClause s.keys) role → IsKept (view_in s o.view) (view_in s kept)
-    → Adds s kept answer (λ u w. Among (length role) role (λ clause. FirstLeads (count_of_reservations s.hosts) (view_in s o.view) clause o.other u w))
+-- what is so in a shown state is possible in the view
+pub has_what_it_shows : (s : Scope) (o : Onlooker) → IsOnlooking s o → HasShown s o.view o.view
+has_what_it_shows s o is u i shown so = shown_possible (view_in s o.view) u i is.fits.scope shown so
+
+-- where the answer has what is shown, and what the clauses lead to, it shows what is done
+interference_covers : (s : Scope) (o : Onlooker) (role : List Clause) (old answer : Possibilities) → IsOnlooking s o → All (IsClause s.keys) role → HasShown s o.view old
+    → Adds s old answer (λ u w. Among (length role) role (λ clause. FirstLeads (count_of_reservations s.hosts) (view_in s o.view) clause o.other u w))
     (λ i. Among (length role) role (λ clause. ClauseLeaves (view_in s o.view) clause o.other i))
-    → IsInterference (view_in s o.view) role o.other (view_in s answer)
-is_interference s o role kept answer is declared keeps adds = record { cover = cover; only = λ i got. only i (adds.only i got) }
+    → (u w : UnitState) → Shows (view_in s o.view) u → IsDone role o.other u w → Shows (view_in s answer) w
+interference_covers s o role old answer is declared has_shown adds = cover
   where
     alike : (u w : UnitState) → Shows (view_in s o.view) u → IsLike s.own u w → Allows s answer w
     alike u w shown like = record {
-      items = λ i so. adds.kept i (keeps.all u i shown (so_like s w u i (like_back s.own u w like) so));
+      items = λ i so. adds.kept i (has_shown u i shown (so_like s w u i (like_back s.own u w like) so));
       numbered = λ g there. let seen = shown.registrations g there in (seen.0, so_like s u w (Registration g seen.0) like seen.1.1);
       pending = (shown.pending.0, so_like s u w (Attentions shown.pending.0) like shown.pending.1.1);
     }
@@ -115,6 +123,31 @@ is_interference s o role kept answer is declared keeps adds = record { cover = c
         (hosts-step u o.other done.request done.reply w done.step ∙ shown.hosts)
         (allows u w shown (done_leads (view_in s o.view) role o.other u w is.other shown done))
 
+pub is_interference : (s : Scope) (o : Onlooker) (role : List Clause) (kept answer : Possibilities) → IsOnlooking s o → All (IsClause s.keys) role → IsKept (view_in s o.view) (view_in s kept)
+    → Adds s kept answer (λ u w. Among (length role) role (λ clause. FirstLeads (count_of_reservations s.hosts) (view_in s o.view) clause o.other u w))
+    (λ i. Among (length role) role (λ clause. ClauseLeaves (view_in s o.view) clause o.other i))
+    → IsInterference (view_in s o.view) role o.other (view_in s answer)
+is_interference s o role kept answer is declared keeps adds = record {
+  cover = interference_covers s o role kept answer is declared keeps.all adds;
+  only = λ i got. only i (adds.only i got);
+}
+  where
     only : (i : Item) → IsPossible (view_in s kept) i ⊎ Among (length role) role (λ clause. ClauseLeaves (view_in s o.view) clause o.other i) → IsLeft (view_in s o.view) role o.other i
     only i (inl had) = let shown = keeps.only i had in kept_left (view_in s o.view) role o.other shown.unit i is.other shown.shown shown.is
     only i (inr left) = clause_left (view_in s o.view) role o.other i is.other left
+
+-- so the view with what the clauses lead to is widened
+pub is_widened : (s : Scope) (o : Onlooker) (role : List Clause) (answer : Possibilities) → IsOnlooking s o → All (IsClause s.keys) role
+    → Adds s o.view answer (λ u w. Among (length role) role (λ clause. FirstLeads (count_of_reservations s.hosts) (view_in s o.view) clause o.other u w))
+    (λ i. Among (length role) role (λ clause. ClauseLeaves (view_in s o.view) clause o.other i))
+    → IsWidened (view_in s o.view) role o.other (view_in s answer)
+is_widened s o role answer is declared adds = record {
+  contains = adds.kept;
+  cover = interference_covers s o role o.view answer is declared (has_what_it_shows s o is) adds;
+  only = λ i got. only i (adds.only i got);
+}
+  where
+    only : (i : Item) → IsPossible (view_in s o.view) i ⊎ Among (length role) role (λ clause. ClauseLeaves (view_in s o.view) clause o.other i)
+        → IsPossible (view_in s o.view) i ⊎ IsLeft (view_in s o.view) role o.other i
+    only i (inl had) = inl had
+    only i (inr left) = inr (clause_left (view_in s o.view) role o.other i is.other left)

@@ -13,6 +13,7 @@ ghost use Rattle.pr_regions.specs.Purposes.{HasNumber};
 ghost use Rattle.pr_domain.specs.inside.Interfering.{IsOnlooking, IsWatched, Adds, Among, ClauseLeaves};
 ghost use Rattle.pr_domain.specs.Interference.{IsInterference};
 ghost use Rattle.pr_domain.specs.inside.Reaching.{HasShown};
+ghost use Rattle.pr_domain.specs.inside.Closing.{IsWidened};
 ghost use Rattle.pr_domain.specs.inside.Clauses.{purpose_for, IsClause, StandingLeads, PlaceLeads, FirstLeads};
 
 use crate::clauses::{may_send, purpose_for, senders};
@@ -37,6 +38,21 @@ impl Onlooker {
         ensures { (s : Scope) → IsOnlooking s self.now → s.keys ≡ keys.now → IsInterference (view_in s self.now.view) clauses.now self.now.other (view_in s result) }
     {
         let mut answer = kept(self.hosts, &self.view);
+        self.add_role(&mut answer, clauses, keys);
+        answer
+    }
+
+    /// What is possible, and what is possible after any request of the other that ends GOOD and that its role, these clauses,
+    /// permits.
+    pub(crate) fn widened(&self, clauses: &[Clause], keys: &[u64]) -> Possibilities
+        requires hosts { (1 ≤ self.now.hosts) × (self.now.hosts ≤ MOST_NEXUSES) }
+        requires own { self.now.own < self.now.hosts }
+        requires other { self.now.other < self.now.hosts }
+        requires keys { length keys.now ≤ MOST_KEYS }
+        requires actions { All (IsClause keys.now) clauses.now }
+        ensures { (s : Scope) → IsOnlooking s self.now → s.keys ≡ keys.now → IsWidened (view_in s self.now.view) clauses.now self.now.other (view_in s result) }
+    {
+        let mut answer = self.view;
         self.add_role(&mut answer, clauses, keys);
         answer
     }
