@@ -9,15 +9,12 @@ use std::io::Write;
 /// The line of a text that has this number, counted from 1, without its end.
 pub fn line_in(text: &[u8], number: u32) -> Option<&[u8]> {
     let mut rest = text;
-    let mut left = number;
-    while let Some((line, others)) = next_line(rest) {
-        if left <= 1 {
-            return Some(line);
-        }
-        left -= 1;
+    for _ in 1..number {
+        let (_, others) = next_line(rest)?;
         rest = others;
     }
-    None
+    let (line, _) = next_line(rest)?;
+    Some(line)
 }
 
 /// Writes the line of a text that has this number behind the number, as `17 | stop ok`. A byte that is no text is written as `?`.

@@ -50,45 +50,47 @@ pub fn put_end<W: Write>(
     end: End,
     sent: u32,
 ) -> Result<(), WriteFault> {
-    let sent = Word::Number(u64::from(sent));
     match end {
-        End::Stopped(word) => put_line(
-            writer,
-            Word::Text(b"host"),
-            &[
-                Word::Text(name),
-                Word::Text(b"stopped with the word"),
-                Word::Text(word.as_str().as_bytes()),
-                Word::Text(b"and sent"),
-                sent,
-            ],
-        ),
-        End::Ready(line) => put_line(
-            writer,
-            Word::Text(b"host"),
-            &[
-                Word::Text(name),
-                Word::Text(b"is ready at line"),
-                Word::Number(u64::from(line)),
-                Word::Text(b"and sent"),
-                sent,
-            ],
-        ),
-        End::Trapped(line) => put_line(
-            writer,
-            Word::Text(b"host"),
-            &[
-                Word::Text(name),
-                Word::Text(b"is trapped at line"),
-                Word::Number(u64::from(line)),
-                Word::Text(b"and sent"),
-                sent,
-            ],
-        ),
+        End::Stopped(word) => {
+            let word = Word::Text(word.as_str().as_bytes());
+            put_host(writer, name, b"stopped with the word", word, sent)
+        }
+        End::Ready(line) => {
+            let line = Word::Number(u64::from(line));
+            put_host(writer, name, b"is ready at line", line, sent)
+        }
+        End::Trapped(line) => {
+            let line = Word::Number(u64::from(line));
+            put_host(writer, name, b"is trapped at line", line, sent)
+        }
         End::Left(_) => put_line(
             writer,
             Word::Text(b"guest"),
-            &[Word::Text(name), Word::Text(b"sent"), sent],
+            &[
+                Word::Text(name),
+                Word::Text(b"sent"),
+                Word::Number(u64::from(sent)),
+            ],
         ),
     }
+}
+
+fn put_host<'a, W: Write>(
+    writer: &mut W,
+    name: &'a [u8],
+    how: &'a [u8],
+    what: Word<'a>,
+    sent: u32,
+) -> Result<(), WriteFault> {
+    put_line(
+        writer,
+        Word::Text(b"host"),
+        &[
+            Word::Text(name),
+            Word::Text(how),
+            what,
+            Word::Text(b"and sent"),
+            Word::Number(u64::from(sent)),
+        ],
+    )
 }

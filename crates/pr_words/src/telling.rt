@@ -1,5 +1,10 @@
 //! What is told of a history: beside each item, and in place of the first that isn't legal.
 
+ghost use Rattle.std.specs.Prelude.{◌≡◌, ◌<◌, [], true, length, IfOk};
+ghost use Rattle.pr_roles.specs.Scenarios.{scenario_of};
+ghost use Rattle.pr_world.specs.Auditors.{ActFor, world_at};
+ghost use Rattle.pr_words.specs.Tellings.{IsTold};
+
 use pr_cdb::{Command, Reply, Status, decode, encode};
 use pr_roles::{Entry, Item, Scenario, first_start, permits};
 use pr_unit::Unit;
@@ -72,7 +77,9 @@ pub fn telling_of(
     alloc: Global,
     scenario: &Scenario,
     history: &[Item],
-) -> Result<Telling, AllocError> {
+) -> Result<Telling, AllocError>
+    ensures { IfOk result (λ telling. IsTold (scenario_of scenario.now) history.now telling.illegal) }
+{
     let illegal = match audit(alloc, scenario, history) {
         Ok(()) => None,
         Err(AuditError::Illegal { place }) => Some(place),
@@ -100,7 +107,10 @@ fn follow(
     auditor: &mut Auditor,
     scenario: &Scenario,
     history: &[Item],
-) -> Result<(Vec<Note>, Option<Instead>), AllocError> {
+) -> Result<(Vec<Note>, Option<Instead>), AllocError>
+    requires { ActFor (scenario_of scenario.now) (world_at auditor.old []) }
+    ensures { ActFor (scenario_of scenario.now) (world_at auditor.new []) }
+{
     let mut notes = Vec::new(alloc);
     for (index, item) in history.iter().enumerate() {
         let note = note_on(auditor, scenario, item);
@@ -112,9 +122,11 @@ fn follow(
     Ok((notes, None))
 }
 
-fn note_on(auditor: &Auditor, scenario: &Scenario, item: &Item) -> Note {
+fn note_on(auditor: &Auditor, scenario: &Scenario, item: &Item) -> Note
+    requires { ActFor (scenario_of scenario.now) (world_at auditor.now []) }
+{
     match item {
-        Item::Sent(entry) if usize::from(entry.host) < scenario.parts().nexuses.len() => {
+        Item::Sent(entry) if is_declared(scenario, entry.host) => {
             note_on_entry(auditor, scenario, entry)
         }
         Item::Sent(_) | Item::Reset => Note {
@@ -124,7 +136,17 @@ fn note_on(auditor: &Auditor, scenario: &Scenario, item: &Item) -> Note {
     }
 }
 
-fn note_on_entry(auditor: &Auditor, scenario: &Scenario, entry: &Entry) -> Note {
+// Whether the scenario declares a nexus of this number.
+fn is_declared(scenario: &Scenario, host: u8) -> bool
+    ensures { result ≡ true → host < length (scenario_of scenario.now).nexuses }
+{
+    usize::from(host) < scenario.parts().nexuses.len()
+}
+
+fn note_on_entry(auditor: &Auditor, scenario: &Scenario, entry: &Entry) -> Note
+    requires acts { ActFor (scenario_of scenario.now) (world_at auditor.now []) }
+    requires there { entry.now.host < length (scenario_of scenario.now).nexuses }
+{
     match auditor.next_command(entry.host) {
         Some((line, command)) if entry.wire == encode(&command) => Note {
             line: Some(line),
@@ -144,12 +166,14 @@ fn note_on_entry(auditor: &Auditor, scenario: &Scenario, entry: &Entry) -> Note 
 }
 
 // What would have been in place of the item.
-fn instead_of(auditor: &Auditor, scenario: &Scenario, item: &Item) -> Instead {
+fn instead_of(auditor: &Auditor, scenario: &Scenario, item: &Item) -> Instead
+    requires { ActFor (scenario_of scenario.now) (world_at auditor.now []) }
+{
     let entry = match item {
         Item::Sent(entry) => entry,
         Item::Reset => return Instead::Resets(scenario.parts().resets),
     };
-    if usize::from(entry.host) >= scenario.parts().nexuses.len() {
+    if !is_declared(scenario, entry.host) {
         return Instead::NotModelled;
     }
     match auditor.end(entry.host, 0) {
@@ -161,7 +185,10 @@ fn instead_of(auditor: &Auditor, scenario: &Scenario, item: &Item) -> Instead {
 }
 
 // The same of a host whose script goes on.
-fn instead_of_sending(auditor: &Auditor, scenario: &Scenario, entry: &Entry) -> Instead {
+fn instead_of_sending(auditor: &Auditor, scenario: &Scenario, entry: &Entry) -> Instead
+    requires acts { ActFor (scenario_of scenario.now) (world_at auditor.now []) }
+    requires there { entry.now.host < length (scenario_of scenario.now).nexuses }
+{
     match auditor.next_command(entry.host) {
         Some((line, command)) if entry.wire != encode(&command) => {
             Instead::Sending { line, command }
@@ -171,7 +198,10 @@ fn instead_of_sending(auditor: &Auditor, scenario: &Scenario, entry: &Entry) -> 
 }
 
 // The same of what was answered.
-fn instead_of_reply(auditor: &Auditor, scenario: &Scenario, entry: &Entry) -> Instead {
+fn instead_of_reply(auditor: &Auditor, scenario: &Scenario, entry: &Entry) -> Instead
+    requires acts { ActFor (scenario_of scenario.now) (world_at auditor.now []) }
+    requires there { entry.now.host < length (scenario_of scenario.now).nexuses }
+{
     let nexus = nexus_in(scenario, entry.host);
     match entry.reply.status {
         Status::Busy => return Instead::Refusals(nexus.busy),
@@ -191,7 +221,9 @@ fn ends_of(
     alloc: Global,
     auditor: &Auditor,
     scenario: &Scenario,
-) -> Result<Vec<End>, AllocError> {
+) -> Result<Vec<End>, AllocError>
+    requires { ActFor (scenario_of scenario.now) (world_at auditor.now []) }
+{
     let mut ends = Vec::with_capacity(alloc, scenario.parts().nexuses.len())?;
     for host in 0..auditor.unit().registry().hosts() {
         ends.push(auditor.end(host, 0))?;
