@@ -1,50 +1,78 @@
 //! `fence explain FILE`, over any reader, writer and error writer.
 
-use crate::checks::settled;
+ghost use Rattle.std.specs.Prelude.{◌+◌};
+ghost use Rattle.pr_text.specs.declared.text.TheConstants.{MOST_BYTES};
+ghost use Rattle.pr_text.specs.BytesRead.{LosesUpTo};
+ghost use Rattle.pr_report.specs.Written.{Puts};
+ghost use Rattle.fence.specs.Endings.{IsCommand, told_of_end};
+ghost use Rattle.fence.specs.Explanations.{EndsTold};
+ghost use Rattle.fence.specs.inside.Judgements.{IsJudged};
+
+use crate::checks::{put_judgement, settled};
 use crate::ending::{status_of, tell_end};
 use crate::fault::{Fault, Status};
-use pr_faults::write_text_fault;
-use pr_report::{Verdict, write_verdict};
-use pr_text::read_with_text;
-use pr_verify::verify;
+use crate::told::read_and_tell;
+use pr_report::WriteFault;
+use pr_verify::{Refused, Verified, verify};
 use std::alloc::Global;
 use std::io::{Read, Write};
 
 /// `fence explain FILE`: reads a scenario, and writes in words what its verdict means, or its fault.
 ///
-/// The status is that of `fence check`, and so is the line on `errors` that tells a fault.
+/// The status is that of `fence check`, and so is the line on `errors` that tells a fault. Of a text whose bytes the contract
+/// knows at most 65,537 are taken.
 pub fn do_explain<R: Read, W: Write, E: Write>(
     alloc: Global,
     reader: &mut R,
     writer: &mut W,
     errors: &mut E,
-) -> Status {
-    let end = explain_text(alloc, reader, writer);
-    let _ = tell_end(errors, &end);
+) -> Status
+    ensures command { IsCommand (EndsTold (R.remaining reader.old)) (E.contents errors.old) (E.contents errors.new) result }
+    ensures limited { LosesUpTo (MOST_BYTES + 1) (R.remaining reader.old) (R.remaining reader.new) }
+{
+    let (end, _) = explain_and_tell(alloc, reader, writer, errors);
     status_of(end)
 }
 
-// Reads the scenario, and tells its fault or its verdict: whether that is a refusal.
+// The explanation, and what became of the line that tells its fault.
+fn explain_and_tell<R: Read, W: Write, E: Write>(
+    alloc: Global,
+    reader: &mut R,
+    writer: &mut W,
+    errors: &mut E,
+) -> (Result<bool, Fault>, Result<(), WriteFault>)
+    ensures ends { EndsTold (R.remaining reader.old) result.0 }
+    ensures tells { Puts (E.contents errors.old) (E.contents errors.new) (told_of_end result.0) result.1 }
+    ensures limited { LosesUpTo (MOST_BYTES + 1) (R.remaining reader.old) (R.remaining reader.new) }
+{
+    let end = explain_text(alloc, reader, writer);
+    let told = tell_end(errors, &end);
+    (end, told)
+}
+
+// Judges, and then writes: whether the scenario is refused.
 fn explain_text<R: Read, W: Write>(
     alloc: Global,
     reader: &mut R,
     writer: &mut W,
-) -> Result<bool, Fault> {
-    let (text, scenario) = read_with_text(alloc, reader);
-    match scenario {
-        Ok(scenario) => match settled(verify(alloc, scenario))? {
-            Ok(verified) => {
-                write_verdict(writer, verified.scenario(), &Verdict::Accepted)?;
-                Ok(false)
-            }
-            Err(refused) => {
-                write_verdict(writer, &refused.scenario, &Verdict::Refused(refused.refusal))?;
-                Ok(true)
-            }
-        },
-        Err(error) => {
-            let _ = write_text_fault(writer, &text, error);
-            Err(Fault::from(error))
-        }
-    }
+) -> Result<bool, Fault>
+    ensures ends { EndsTold (R.remaining reader.old) result }
+    ensures limited { LosesUpTo (MOST_BYTES + 1) (R.remaining reader.old) (R.remaining reader.new) }
+{
+    let judgement = judge(alloc, reader, writer)?;
+    put_judgement(writer, &judgement)?;
+    Ok(judgement.is_err())
+}
+
+// Reads the text and verifies its scenario. Of a fault the words go out.
+fn judge<R: Read, W: Write>(
+    alloc: Global,
+    reader: &mut R,
+    writer: &mut W,
+) -> Result<Result<Verified, Refused>, Fault>
+    ensures judged { IsJudged (R.remaining reader.old) result }
+    ensures limited { LosesUpTo (MOST_BYTES + 1) (R.remaining reader.old) (R.remaining reader.new) }
+{
+    let (_, scenario) = read_and_tell(alloc, reader, writer);
+    settled(verify(alloc, scenario?))
 }

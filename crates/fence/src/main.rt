@@ -18,6 +18,7 @@ mod replays;
 mod runs;
 mod several;
 mod steps;
+mod told;
 mod traced;
 mod witnesses;
 
