@@ -35,6 +35,7 @@ use crate::traced::do_explain_trace;
 use crate::witnesses::do_witness;
 use clap::ArgMatches;
 use clap::error::ErrorKind;
+use pr_report::TraceError;
 use pr_text::ReadError;
 use std::alloc::{AllocError, Global};
 use std::fs::File;
@@ -290,7 +291,7 @@ fn explain_path(rt: &HostRuntime, path: &str) -> Status {
     }
 }
 
-// `fence explain FILE TRACE`, where `-` is standard input for the first. Both are opened before either is read.
+// `fence explain FILE TRACE`, where `-` is standard input for one of them. Both are opened before either is read.
 fn explain_trace_paths(rt: &HostRuntime, path: &str, trace: &str) -> Status {
     let mut output = rt.stdout();
     let mut errors = rt.stderr();
@@ -298,9 +299,23 @@ fn explain_trace_paths(rt: &HostRuntime, path: &str, trace: &str) -> Status {
         return explain_trace_input(rt, trace, &mut output, &mut errors);
     }
     match fs::open(rt, path) {
+        Ok(mut file) if trace == "-" => explain_input(rt, &mut file, &mut output, &mut errors),
         Ok(mut file) => explain_trace(rt, &mut file, trace, &mut output, &mut errors),
         Err(error) => fail(&mut errors, file_fault(&error)),
     }
+}
+
+// The same, of the trace on standard input. Where that is closed, the scenario got its descriptor.
+fn explain_input<W: Write, E: Write>(
+    rt: &HostRuntime,
+    file: &mut File,
+    output: &mut W,
+    errors: &mut E,
+) -> Status {
+    if file.as_raw_fd() == rt.stdin().as_raw_fd() {
+        return fail(errors, Fault::Trace(TraceError::ReadFault));
+    }
+    do_explain_trace(rt.alloc(), file, &mut rt.stdin(), output, errors)
 }
 
 // The same, of the scenario on standard input. Where that is closed, the trace got its descriptor.

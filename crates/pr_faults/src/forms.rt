@@ -38,7 +38,9 @@ pub enum Stands {
 }
 
 const VERSIONS: [&[u8]; 2] = [b"1", b"2"];
+
 const BUDGET: [&[u8]; 1] = [b"budget"];
+
 const CLAUSES: [&[u8]; 8] = [
     b"register",
     b"unregister",
@@ -49,6 +51,7 @@ const CLAUSES: [&[u8]; 8] = [
     b"read",
     b"write",
 ];
+
 const ARMS: [&[u8]; 6] = [
     b"good",
     b"conflict",
@@ -61,7 +64,7 @@ const ARMS: [&[u8]; 6] = [
 /// The form of a line of a plan.
 pub const COMMAND: Form = Form {
     word: b"COMMAND",
-    text: b"test-unit-ready, request-sense, read LBA COUNT, write LBA COUNT, or the options of sg_persist, as --in --read-keys or --out --register --param-sark=KEY",
+    text: b"test-unit-ready, request-sense, read LBA COUNT, write LBA COUNT, --in with --read-keys, --read-reservation or --report-capabilities, or --out with --register, --register-ignore, --reserve, --release, --clear, --preempt or --preempt-abort and what it wants of --param-rk=KEY, --param-sark=KEY and --prout-type=T",
     slots: &[Slot::Part],
     is_open: true,
     stands: Stands::InScript,
@@ -176,7 +179,7 @@ pub const FORMS: [Form; 21] = [
     },
     Form {
         word: b"send",
-        text: b"send COMMAND",
+        text: b"send COMMAND, where COMMAND is test-unit-ready, request-sense, read LBA COUNT, write LBA COUNT, --in with --read-keys, --read-reservation or --report-capabilities, or --out with --register, --register-ignore, --reserve, --release, --clear, --preempt or --preempt-abort and what it wants of --param-rk=KEY, --param-sark=KEY and --prout-type=T",
         slots: &[Slot::Part],
         is_open: true,
         stands: Stands::InScript,

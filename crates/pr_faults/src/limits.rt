@@ -14,8 +14,11 @@ pub fn limit_words(which: Which) -> &'static [u8] {
         Which::Budget => b"A budget is 1 to 4096.\n",
         Which::Roles => b"A role has at most 32 clauses.\n",
         Which::Plan => b"A plan has at most 256 commands.\n",
-        Which::Busy => b"BUSY may come 1 to 1000 times; where it never comes, the line is left out.\n",
-        Which::Full => b"TASK SET FULL may come 1 to 1000 times; where it never comes, the line is left out.\n",
-        Which::Resets => b"The unit may be reset 1 to 1000 times; where it never is, the line is left out.\n",
+        Which::Busy =>
+            b"BUSY may come 1 to 1000 times; where it never comes, the line is left out.\n",
+        Which::Full =>
+            b"TASK SET FULL may come 1 to 1000 times; where it never comes, the line is left out.\n",
+        Which::Resets =>
+            b"The unit may be reset 1 to 1000 times; where it never is, the line is left out.\n",
     }
 }

@@ -58,6 +58,7 @@ pub const COMMAND_WORDS: [&[u8]; 16] = [
 ];
 
 const CODES: [&[u8]; 4] = [b"29/00", b"2a/03", b"2a/04", b"2a/05"];
+
 const TYPES: [&[u8]; 6] = [b"1", b"3", b"5", b"6", b"7", b"8"];
 
 impl Slot {
@@ -91,7 +92,8 @@ impl Slot {
     /// What is wanted there, for people.
     pub fn wanted(self) -> &'static [u8] {
         match self {
-            Slot::Name => b"a lower case letter, and up to 15 lower case letters, digits and hyphens",
+            Slot::Name =>
+                b"a lower case letter, and up to 15 lower case letters, digits and hyphens",
             Slot::Key => b"a key: 1 to 16 hexadecimal digits, and not zero",
             Slot::Start => b"free or a key",
             Slot::Count => b"a number of at most 10 decimal digits",

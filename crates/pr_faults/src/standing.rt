@@ -67,7 +67,8 @@ pub fn tell_syntax<W: Write>(writer: &mut W, text: &[u8], number: u32) -> Result
     }
 }
 
-const NO_VERSION: &[u8] = b"The first line with words is fence 1 or fence 2, and the text has none.\n";
+const NO_VERSION: &[u8] =
+    b"The first line with words is fence 1 or fence 2, and the text has none.\n";
 
 // Why the line may not stand there, if its first word shows it.
 fn reason_of(open: &Open, words: &Words<'_>) -> Option<Reason> {
@@ -97,7 +98,8 @@ fn reason_outside(open: &Open, form: Option<&Form>, words: &Words<'_>) -> Option
         Stands::InScript | Stands::End => Some(Reason::Outside),
         Stands::First => None,
         Stands::Outside if open.is_version_1 && is_new(form.word) => Some(Reason::Version),
-        Stands::Outside if is(form.word, b"host") && words.len() == 2 && is_name(word_at(words, 1)) => {
+        Stands::Outside
+            if is(form.word, b"host") && words.len() == 2 && is_name(word_at(words, 1)) => {
             Some(Reason::NoScript)
         }
         Stands::Outside => None,
@@ -139,7 +141,9 @@ fn reason_in_block(
         (Some(block), b"on") if block.is_repeat => Some(Reason::Unclosed(block)),
         (Some(_), b"on") if open.is_version_1 && is_new(word_at(words, 1)) => Some(Reason::Version),
         (Some(_), b"on" | b"done") => None,
-        (Some(block), _) if !block.is_repeat && !block.is_begun => Some(Reason::Armless(block.line)),
+        (Some(block), _) if !block.is_repeat && !block.is_begun => Some(Reason::Armless(
+            block.line,
+        )),
         (Some(block), b"break" | b"stop") if block.is_repeat && !block.is_begun => {
             Some(Reason::FirstOfRepeat(block.line))
         }
@@ -148,28 +152,62 @@ fn reason_in_block(
     }
 }
 
-fn tell_reason<W: Write>(
-    writer: &mut W,
-    text: &[u8],
-    reason: Reason,
-) -> Result<(), WriteFault> {
+fn tell_reason<W: Write>(writer: &mut W, text: &[u8], reason: Reason) -> Result<(), WriteFault> {
     let (before, line, after): (&[u8], u32, &[u8]) = match reason {
-        Reason::NotFirst => return put(writer, b"The first line with words is fence 1 or fence 2.\n"),
-        Reason::Outside => return put(writer, b"No script is open here: a statement stands between a line script NAME budget N and its end.\n"),
-        Reason::Version => return put(writer, b"This came with version 2: the text begins with fence 1, and would have to begin with fence 2.\n"),
+        Reason::NotFirst => return put(
+            writer,
+            b"The first line with words is fence 1 or fence 2.\n",
+        ),
+        Reason::Outside => return put(
+            writer,
+            b"No script is open here: a statement stands between a line script NAME budget N and its end.\n",
+        ),
+        Reason::Version => return put(
+            writer,
+            b"This came with version 2: the text begins with fence 1, and would have to begin with fence 2.\n",
+        ),
         Reason::NoSend => return put(writer, b"No send is open here whose arm it could be.\n"),
-        Reason::NothingOpen => return put(writer, b"No send and no repeat is open here that it could close.\n"),
+        Reason::NothingOpen => return put(
+            writer,
+            b"No send and no repeat is open here that it could close.\n",
+        ),
         Reason::NoRepeat => return put(writer, b"No repeat is open here that it could leave.\n"),
-        Reason::NoScript => return put(writer, b"The host has no script: add one, script NAME budget N to end, or make it a guest.\n"),
-        Reason::InPlan(line) => (b"The plan of ", line, b" is open: each of its lines is a command, and end closes it."),
+        Reason::NoScript => return put(
+            writer,
+            b"The host has no script: add one, script NAME budget N to end, or make it a guest.\n",
+        ),
+        Reason::InPlan(line) => (
+            b"The plan of ",
+            line,
+            b" is open: each of its lines is a command, and end closes it.",
+        ),
         Reason::InScript(line) => (b"The script of ", line, b" is open, and end closes it."),
-        Reason::Armless(line) => (b"The send of ", line, b" has no arm yet: behind it stands on ARM, or done. What is done after any reply stands behind done."),
-        Reason::FirstOfRepeat(line) => (b"The first statement of the repeat of ", line, b" is a send or a repeat."),
-        Reason::Unclosed(block) if block.is_repeat => (b"The repeat of ", block.line, b" is open, and done closes it first."),
-        Reason::Unclosed(block) => (b"The send of ", block.line, b" is open, and done closes it first."),
+        Reason::Armless(line) => (
+            b"The send of ",
+            line,
+            b" has no arm yet: behind it stands on ARM, or done. What is done after any reply stands behind done.",
+        ),
+        Reason::FirstOfRepeat(line) => (
+            b"The first statement of the repeat of ",
+            line,
+            b" is a send or a repeat.",
+        ),
+        Reason::Unclosed(block) if block.is_repeat => (
+            b"The repeat of ",
+            block.line,
+            b" is open, and done closes it first.",
+        ),
+        Reason::Unclosed(block) => (
+            b"The send of ",
+            block.line,
+            b" is open, and done closes it first.",
+        ),
     };
     put_source_line(writer, text, line)?;
-    say(writer, &[Part::Text(before), Part::Line(line), Part::Text(after)])
+    say(
+        writer,
+        &[Part::Text(before), Part::Line(line), Part::Text(after)],
+    )
 }
 
 // The line's own form is not kept.
@@ -242,20 +280,38 @@ fn tell_misfit<W: Write>(
         }
         Some(Misfit::Missing(slot)) => say(
             writer,
-            &[Part::Text(b"A word is missing: "), Part::Text(slot.wanted())],
+            &[
+                Part::Text(b"A word is missing: "),
+                Part::Text(slot.wanted()),
+            ],
         )?,
         None => {}
     }
-    say(writer, &[Part::Text(b"The form is: "), Part::Text(form.text)])
+    say(
+        writer,
+        &[Part::Text(b"The form is: "), Part::Text(form.text)],
+    )
 }
 
-// What is wanted in place of the word.
+// What is wanted in place of the word, where the form does not say it.
 fn tell_wanted<W: Write>(writer: &mut W, word: &[u8], slot: Slot) -> Result<(), WriteFault> {
-    match nearest(word, slot.words()) {
-        Some(near) => say(
+    match (nearest(word, slot.words()), slot) {
+        (Some(near), _) => say(
             writer,
-            &[Part::Text(b"The nearest word is "), Part::Text(near), Part::Text(b".")],
+            &[
+                Part::Text(b"The nearest word is "),
+                Part::Text(near),
+                Part::Text(b"."),
+            ],
         ),
-        None => say(writer, &[Part::Text(b"Wanted is "), Part::Text(slot.wanted()), Part::Text(b".")]),
+        (None, Slot::One(_)) => Ok(()),
+        (None, _) => say(
+            writer,
+            &[
+                Part::Text(b"Wanted is "),
+                Part::Text(slot.wanted()),
+                Part::Text(b"."),
+            ],
+        ),
     }
 }

@@ -11,7 +11,8 @@ use pr_text::ReadError;
 use pr_words::{line_in, put_carets, put_source_line};
 use std::io::Write;
 
-/// Writes what a fault of this text means: its line, with carets where the word is known, and sentences.
+/// Writes what a fault of this text means: its line, with carets where the word is known, and sentences. Where memory ran out
+/// there is nothing to write.
 pub fn write_text_fault<W: Write>(
     writer: &mut W,
     text: &[u8],
@@ -31,16 +32,22 @@ pub fn write_text_fault<W: Write>(
         ReadError::Repeated { line } => tell_repeated(writer, text, line),
         ReadError::Unclosed { line } => tell_unclosed(writer, text, line),
         ReadError::ReadFault => put(writer, READ_FAULT),
-        ReadError::Memory => put(writer, MEMORY),
+        ReadError::Memory => Ok(()),
         ReadError::EmptyStart => tell_empty_start(writer, text),
     }
 }
 
-const TOO_LARGE: &[u8] = b"The text has more than 65536 bytes, which is the most that a scenario may have. Is it one?\n";
-const READ_FAULT: &[u8] = b"The text could not be read to its end: the path is a directory, standard input is closed, or the medium has a fault.\n";
-const MEMORY: &[u8] = b"The system gave no memory.\n";
-const NOT_ASCII: &[u8] = b"A line has tabs, spaces and printing ASCII characters alone, in comments too.\n";
-const EMPTY_START: &[u8] = b"No alternative of the reservation can be true together with what the start lines say: a single holder is registered, and where all registrants hold, somebody is. Who has no start line starts free.\n";
+const TOO_LARGE: &[u8] =
+    b"The text has more than 65536 bytes, which is the most that a scenario may have. Is it one?\n";
+
+const READ_FAULT: &[u8] =
+    b"The text could not be read to its end: the path is a directory, standard input is closed, or the medium has a fault.\n";
+
+const NOT_ASCII: &[u8] =
+    b"A line has tabs, spaces and printing ASCII characters alone, in comments too.\n";
+
+const EMPTY_START: &[u8] =
+    b"No alternative of the reservation can be true together with what the start lines say: a single holder is registered, and where all registrants hold, somebody is. Who has no start line starts free.\n";
 
 fn tell_not_ascii<W: Write>(writer: &mut W, text: &[u8], number: u32) -> Result<(), WriteFault> {
     put_source_line(writer, text, number)?;
@@ -60,8 +67,8 @@ fn tell_too_long<W: Write>(writer: &mut W, text: &[u8], number: u32) -> Result<(
     say(
         writer,
         &[
-            Part::Text(b"The "),
-            Part::Line(number),
+            Part::Text(b"Line "),
+            Part::Number(u64::from(number)),
             Part::Text(b" has "),
             Part::Number(line.len() as u64),
             Part::Text(b" bytes, and a line has 256 at most, in comments too."),
@@ -72,11 +79,19 @@ fn tell_too_long<W: Write>(writer: &mut W, text: &[u8], number: u32) -> Result<(
 fn tell_unclosed<W: Write>(writer: &mut W, text: &[u8], number: u32) -> Result<(), WriteFault> {
     let open = Open::above(text, number.saturating_add(1));
     if let Some(block) = open.innermost() {
-        let what: &[u8] = if block.is_repeat { b"The repeat of " } else { b"The send of " };
+        let what: &[u8] = if block.is_repeat {
+            b"The repeat of "
+        } else {
+            b"The send of "
+        };
         put_source_line(writer, text, block.line)?;
         say(
             writer,
-            &[Part::Text(what), Part::Line(block.line), Part::Text(b" has no done.")],
+            &[
+                Part::Text(what),
+                Part::Line(block.line),
+                Part::Text(b" has no done."),
+            ],
         )?;
     }
     let (what, line): (&[u8], u32) = match open.place {
@@ -87,7 +102,11 @@ fn tell_unclosed<W: Write>(writer: &mut W, text: &[u8], number: u32) -> Result<(
     put_source_line(writer, text, line)?;
     say(
         writer,
-        &[Part::Text(what), Part::Line(line), Part::Text(b" has no end.")],
+        &[
+            Part::Text(what),
+            Part::Line(line),
+            Part::Text(b" has no end."),
+        ],
     )
 }
 

@@ -61,7 +61,11 @@ fn tell_undeclared_name<W: Write>(
 ) -> Result<(), WriteFault> {
     say(
         writer,
-        &[Part::Text(b"No line above declares "), Part::Text(name), Part::Text(b".")],
+        &[
+            Part::Text(b"No line above declares "),
+            Part::Text(name),
+            Part::Text(b"."),
+        ],
     )?;
     if let Some(line) = declaration(text, u32::MAX, name) {
         return say(
@@ -108,7 +112,13 @@ fn tell_wrong_kind<W: Write>(
     let declared = declaration(text, number, name).unwrap_or(0);
     say(
         writer,
-        &[Part::Text(name), Part::Text(b", of "), Part::Line(declared), Part::Text(b","), Part::Text(kind)],
+        &[
+            Part::Text(name),
+            Part::Text(b", of "),
+            Part::Line(declared),
+            Part::Text(b","),
+            Part::Text(kind),
+        ],
     )
 }
 
@@ -157,7 +167,11 @@ fn tell_not_among<W: Write>(
     match nearest_key(text, number, key) {
         Some(near) => say(
             writer,
-            &[Part::Text(b"The nearest is "), Part::Text(near), Part::Text(b".")],
+            &[
+                Part::Text(b"The nearest is "),
+                Part::Text(near),
+                Part::Text(b"."),
+            ],
         ),
         None => put_source_line(writer, text, declared),
     }
@@ -188,7 +202,9 @@ fn key_of(word: Placed<'_>, is_key: bool) -> Option<Placed<'_>> {
     match option_key(word.text) {
         Some(text) => Some(Placed {
             text,
-            first: word.first.saturating_add(word.text.len().saturating_sub(text.len())),
+            first: word
+                .first
+                .saturating_add(word.text.len().saturating_sub(text.len())),
         }),
         None if is_key => Some(word),
         None => None,
@@ -196,11 +212,7 @@ fn key_of(word: Placed<'_>, is_key: bool) -> Option<Placed<'_>> {
 }
 
 /// Tells the line of this number, which says again what may be said once.
-pub fn tell_repeated<W: Write>(
-    writer: &mut W,
-    text: &[u8],
-    number: u32,
-) -> Result<(), WriteFault> {
+pub fn tell_repeated<W: Write>(writer: &mut W, text: &[u8], number: u32) -> Result<(), WriteFault> {
     let line = line_in(text, number).unwrap_or(b"");
     let words = words_in(line);
     if let Some(earlier) = earlier_line(text, number, &words) {
@@ -209,9 +221,11 @@ pub fn tell_repeated<W: Write>(
         return say(
             writer,
             &[
-                Part::Text(b"The "),
-                Part::Line(earlier),
-                Part::Text(b" says it already. Alternatives stand on one line; delete one of the two."),
+                Part::Text(b"Line "),
+                Part::Number(u64::from(earlier)),
+                Part::Text(
+                    b" says it already. Delete one of the two; alternatives stand on one line.",
+                ),
             ],
         );
     }
@@ -237,7 +251,11 @@ fn earlier_line(text: &[u8], number: u32, words: &Words<'_>) -> Option<u32> {
 // The first word that is a key or a word that stands further to the left.
 fn second_time<'a>(words: &Words<'a>) -> Option<Placed<'a>> {
     for (place, word) in words.iter().enumerate() {
-        let is_again = words.iter().take(place).skip(1).any(|other| is_same(other.text, word.text));
+        let is_again = words
+            .iter()
+            .take(place)
+            .skip(1)
+            .any(|other| is_same(other.text, word.text));
         if is_again {
             return Some(*word);
         }

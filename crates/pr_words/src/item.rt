@@ -36,7 +36,10 @@ fn put_entry<W: Write>(
 ) -> Result<(), WriteFault> {
     put_spaced(writer, &[Word::Text(name_of(nexuses, entry.host))])?;
     if let Some(line) = line {
-        put_spaced(writer, &[Word::Text(b"line"), Word::Number(u64::from(line))])?;
+        put_spaced(
+            writer,
+            &[Word::Text(b"line"), Word::Number(u64::from(line))],
+        )?;
     }
     put(writer, b" ")?;
     put_request(writer, &entry.wire)?;

@@ -1,15 +1,21 @@
 //! Replies in words.
 
 use crate::sense::put_sense;
-use pr_cdb::{Command, Reply, Request, Sense, Status, Wire, decode, decode_sense, holder_of, keys_of};
+use pr_cdb::{
+    Command, Reply, Request, Sense, Status, Wire, decode, decode_sense, holder_of, keys_of,
+};
 use pr_domain::Class;
 use pr_report::{Word, WriteFault, put, put_spaced};
 use std::io::Write;
 
 const GOOD: &[u8] = b"GOOD";
+
 const CONFLICT: &[u8] = b"RESERVATION CONFLICT";
+
 const BUSY: &[u8] = b"BUSY";
+
 const FULL: &[u8] = b"TASK SET FULL";
+
 const CHECK_CONDITION: &[u8] = b"CHECK CONDITION";
 
 /// Writes how a reply ends, as `GOOD` or `CHECK CONDITION 6/2a/05 (registrations preempted)`.
@@ -24,11 +30,7 @@ pub fn put_class<W: Write>(writer: &mut W, class: Class) -> Result<(), WriteFaul
 }
 
 /// Writes the reply to a command with these bytes, as `GOOD, generation 2, keys a1 b2`.
-pub fn put_reply<W: Write>(
-    writer: &mut W,
-    wire: &Wire,
-    reply: &Reply,
-) -> Result<(), WriteFault> {
+pub fn put_reply<W: Write>(writer: &mut W, wire: &Wire, reply: &Reply) -> Result<(), WriteFault> {
     match reply.status {
         Status::Good => put_good(writer, wire, reply.bytes.as_slice()),
         Status::CheckCondition => put_check_condition(writer, reply.sense),
@@ -38,10 +40,7 @@ pub fn put_reply<W: Write>(
     }
 }
 
-fn put_check_condition<W: Write>(
-    writer: &mut W,
-    sense: Option<Sense>,
-) -> Result<(), WriteFault> {
+fn put_check_condition<W: Write>(writer: &mut W, sense: Option<Sense>) -> Result<(), WriteFault> {
     put(writer, CHECK_CONDITION)?;
     match sense {
         Some(sense) => {

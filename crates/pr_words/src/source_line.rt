@@ -58,7 +58,11 @@ pub fn put_carets<W: Write>(
 
 // What stands for the byte where people read it.
 fn shown(byte: u8) -> u8 {
-    if byte == b'\t' || (b' '..=b'~').contains(&byte) { byte } else { b'?' }
+    if byte == b'\t' || (b' '..=b'~').contains(&byte) {
+        byte
+    } else {
+        b'?'
+    }
 }
 
 // What is as wide as the byte.

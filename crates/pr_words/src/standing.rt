@@ -38,7 +38,10 @@ fn put_registration<W: Write>(
 ) -> Result<(), WriteFault> {
     put(writer, b",")?;
     match key {
-        Some(key) => put_spaced(writer, &[Word::Text(name), Word::Text(b"has"), Word::Key(key)]),
+        Some(key) => put_spaced(
+            writer,
+            &[Word::Text(name), Word::Text(b"has"), Word::Key(key)],
+        ),
         None => put_spaced(writer, &[Word::Text(name), Word::Text(b"not registered")]),
     }
 }

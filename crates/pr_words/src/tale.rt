@@ -148,16 +148,28 @@ fn put_refusals<W: Write>(
         Status::Busy => b"busy".as_slice(),
         Status::TaskFull | Status::Good | Status::CheckCondition | Status::Conflict => b"full",
     };
+    if most == 0 {
+        put(writer, b"the scenario has no line")?;
+        return put_spaced(writer, &[Word::Text(word), Word::Text(name)]);
+    }
     put(writer, b"the scenario declares")?;
     put_spaced(writer, &[Word::Text(word), Word::Text(name)])?;
     put_most(writer, most)
 }
 
 fn put_resets<W: Write>(writer: &mut W, instead: &Instead) -> Result<(), WriteFault> {
-    put(writer, b"the scenario declares resets")?;
     match instead {
-        Instead::Resets(most) => put_most(writer, *most),
-        _ => Ok(()),
+        Instead::Resets(0) => put(writer, b"the scenario has no line resets"),
+        Instead::Resets(most) => {
+            put(writer, b"the scenario declares resets")?;
+            put_most(writer, *most)
+        }
+        Instead::Answer(_)
+        | Instead::Sending { .. }
+        | Instead::Nothing(_)
+        | Instead::NotModelled
+        | Instead::NotPermitted
+        | Instead::Refusals(_) => Ok(()),
     }
 }
 

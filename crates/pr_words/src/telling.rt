@@ -217,11 +217,7 @@ fn instead_of_reply(auditor: &Auditor, scenario: &Scenario, entry: &Entry) -> In
 }
 
 // How each nexus stands.
-fn ends_of(
-    alloc: Global,
-    auditor: &Auditor,
-    scenario: &Scenario,
-) -> Result<Vec<End>, AllocError>
+fn ends_of(alloc: Global, auditor: &Auditor, scenario: &Scenario) -> Result<Vec<End>, AllocError>
     requires { ActFor (scenario_of scenario.now) (world_at auditor.now []) }
 {
     let mut ends = Vec::with_capacity(alloc, scenario.parts().nexuses.len())?;
