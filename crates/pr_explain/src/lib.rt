@@ -1,0 +1,35 @@
+//! What `fence explain` says of a scenario's verdict: a plan of it, which is proved, and its words, which are tested.
+//!
+//! [`explanation`] makes the plan: the verdict, what a host can know where it is refused, a run that shows why, and what each
+//! script costs. [`write_explanation`] says it in words, with lines of the scenario's text.
+#![tactic(auto)]
+
+mod accepting;
+mod advice;
+mod blocks;
+mod costs;
+mod covering;
+mod explanation;
+mod keys;
+mod lint;
+mod lint_words;
+mod linting;
+mod planning;
+mod possible;
+mod refusing;
+mod running;
+mod saying;
+mod senders;
+mod source;
+mod writing;
+
+pub use costs::{Cost, costs};
+pub use covering::covers;
+pub use explanation::Explanation;
+pub use keys::{names_key, waits_for_key};
+pub use lint::Lint;
+pub use linting::lints;
+pub use planning::explanation;
+pub use senders::Sender;
+pub use source::lines_of;
+pub use writing::write_explanation;
