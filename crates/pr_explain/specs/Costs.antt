@@ -4,7 +4,7 @@ use Rattle.std.specs.Prelude.{◌+◌, min, Option, Some, None}
 use Rattle.pr_script.specs.declared.limits.TheConstants.{MOST_BUDGET}
 use Rattle.pr_script.specs.Costs.{cost_of_all}
 use Rattle.pr_roles.specs.Scenarios.{Task, Scripted, Planned}
-use Rattle.pr_explain.specs.declared.costs.Cost.{Cost}
+use Rattle.pr_explain.specs.declared.costing.Cost.{Cost}
 
 -- a guest has no script
 abbrev pub cost_of : Task → Option Cost

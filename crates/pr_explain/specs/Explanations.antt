@@ -10,8 +10,8 @@ use Rattle.pr_verify.specs.Rooms.{table_of}
 use Rattle.pr_verify.specs.Tables.{AreTables}
 use Rattle.pr_verify.specs.Verdicts.{IsFirstReason}
 use Rattle.pr_witness.specs.Breaches.{IsFound}
-use Rattle.pr_explain.specs.declared.explanation.Explanation.{Explanation}
-use Rattle.pr_explain.specs.declared.explanation.Explanation.TheVariants.{Accepted, Refused}
+use Rattle.pr_explain.specs.declared.plan.Explanation.{Explanation}
+use Rattle.pr_explain.specs.declared.plan.Explanation.TheVariants.{Accepted, Refused}
 use Rattle.pr_explain.specs.Costs.{cost_of}
 
 abbrev pub scenario_in : Explanation → Parts

@@ -1,6 +1,6 @@
 //! What is said of a scenario that is accepted.
 
-use crate::costs::Cost;
+use crate::costing::Cost;
 use crate::lint::Lint;
 use crate::lint_words::put_lint;
 use crate::saying::{Part, name, number, say};

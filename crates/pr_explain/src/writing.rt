@@ -1,7 +1,7 @@
 //! An explanation in words.
 
 use crate::accepting::put_accepted;
-use crate::explanation::Explanation;
+use crate::plan::Explanation;
 use crate::refusing::put_refused;
 use pr_report::WriteFault;
 use std::io::Write;

@@ -2,7 +2,7 @@
 
 ghost use Rattle.std.specs.Prelude.{◌≡◌};
 
-use crate::costs::Cost;
+use crate::costing::Cost;
 use crate::lint::Lint;
 use crate::senders::Sender;
 use pr_roles::Scenario;
