@@ -2,7 +2,7 @@
 
 use crate::costing::Cost;
 use crate::lint::Lint;
-use crate::lint_words::put_lint;
+use crate::lint_words::{is_meant, put_lint};
 use crate::saying::{Part, name, number, say};
 use pr_report::{WriteFault, put};
 use pr_roles::Scenario;
@@ -59,11 +59,15 @@ fn put_lints<W: Write>(
     scenario: &Scenario,
     lints: &[Lint],
 ) -> Result<(), WriteFault> {
-    if lints.is_empty() {
-        return Ok(());
-    }
-    put(writer, b"\nWorth a look, though it changes no verdict:\n")?;
+    let mut is_first = true;
     for lint in lints {
+        if is_meant(lines, *lint) {
+            continue;
+        }
+        if is_first {
+            put(writer, b"\nWorth a look, though it changes no verdict:\n")?;
+            is_first = false;
+        }
         put_lint(writer, lines, &scenario.parts().nexuses, *lint)?;
     }
     Ok(())

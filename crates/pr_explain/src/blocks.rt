@@ -47,3 +47,22 @@ pub(crate) fn arm_of(lines: &[&[u8]], first: usize, arm: usize) -> usize {
     }
     first
 }
+
+/// Whether the arm on the line with this index begins with a send without arms, which says that it is never sent.
+pub(crate) fn is_denied(lines: &[&[u8]], arm: usize) -> bool {
+    let mut is_in_send = false;
+    for (index, line) in lines.iter().enumerate() {
+        let word = first_word(line);
+        if index <= arm || word.is_empty() {
+            continue;
+        }
+        if is_in_send {
+            return is(word, "done");
+        }
+        if !is(word, "send") {
+            return false;
+        }
+        is_in_send = true;
+    }
+    false
+}

@@ -5,7 +5,7 @@ use pr_roles::{Action, Nexus, Task};
 use pr_script::Test;
 
 /// Whether the command has this key in one of its fields.
-pub fn names_key(command: &Command, key: u64) -> bool {
+pub(crate) fn names_key(command: &Command, key: u64) -> bool {
     match *command {
         Command::Register { rk, sark }
         | Command::Preempt { rk, sark, .. }
@@ -25,7 +25,7 @@ pub fn names_key(command: &Command, key: u64) -> bool {
 }
 
 /// Whether the arm waits for this key.
-pub fn waits_for_key(test: Test, key: u64) -> bool {
+pub(crate) fn waits_for_key(test: Test, key: u64) -> bool {
     match test {
         Test::GoodHas(known) | Test::GoodHeld(known) => known == key,
         Test::Good

@@ -25,9 +25,7 @@ mod writing;
 
 pub use costing::{Cost, costs};
 pub use covering::covers;
-pub use keys::{names_key, waits_for_key};
 pub use lint::Lint;
-pub use linting::lints;
 pub use plan::Explanation;
 pub use planning::explanation;
 pub use senders::Sender;

@@ -1,6 +1,6 @@
 //! What is worth a look, in words.
 
-use crate::blocks::arm_of;
+use crate::blocks::{arm_of, is_denied};
 use crate::lint::Lint;
 use crate::saying::{Part, line_number, name, say};
 use crate::source::{keys_line, line_of};
@@ -36,6 +36,17 @@ pub(crate) fn put_lint<W: Write>(
         } => put_covered(writer, lines, index_of(line), arm, above),
         Lint::NotNeeded { host, clause } => put_not_needed(writer, lines, nexuses, host, clause),
         Lint::NotUsed { key } => put_not_used(writer, lines, key),
+    }
+}
+
+/// Whether it says of itself that it is never taken: an arm that begins with a send without arms.
+pub(crate) fn is_meant(lines: &[&[u8]], lint: Lint) -> bool {
+    match lint {
+        Lint::NeverTaken { line, arm, .. } => is_denied(lines, arm_of(lines, index_of(line), arm)),
+        Lint::NeverSent { .. }
+        | Lint::Covered { .. }
+        | Lint::NotNeeded { .. }
+        | Lint::NotUsed { .. } => false,
     }
 }
 

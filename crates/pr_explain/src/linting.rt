@@ -10,7 +10,7 @@ use std::alloc::{AllocError, Global};
 
 /// What is worth a look: by the tables of its scripts, arms that no reply takes, clauses of roles that no command of the script
 /// needs, and keys that nothing uses. It promises nothing of what it finds.
-pub fn lints(
+pub(crate) fn lints(
     alloc: Global,
     scenario: &Scenario,
     tables: &[Table],

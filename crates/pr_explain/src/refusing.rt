@@ -4,7 +4,7 @@ use crate::advice::put_advice;
 use crate::blocks::{depth_behind, end_of};
 use crate::lint_words::{index_of, put_numbered};
 use crate::possible::put_possible;
-use crate::running::put_run;
+use crate::running::put_finding;
 use crate::saying::{Part, name, number, say};
 use crate::senders::Sender;
 use crate::source::{first_word, line_of};
@@ -14,7 +14,7 @@ use pr_report::{Verdict, WriteFault, put, write_verdict};
 use pr_roles::{Nexus, Scenario};
 use pr_verify::{Refusal, Row, Table};
 use pr_views::View;
-use pr_witness::{Bound, Finding};
+use pr_witness::Finding;
 use pr_words::{name_of, put_class, put_command};
 use std::io::Write;
 
@@ -34,7 +34,7 @@ pub(crate) fn put_refused<W: Write>(
     put(writer, b"\n")?;
     let nexuses = &scenario.parts().nexuses;
     put_reason(writer, lines, nexuses, refusal, tables)?;
-    put_finding(writer, lines, nexuses, finding, senders)?;
+    put_finding(writer, lines, nexuses, refusal, finding, senders)?;
     put_advice(writer, lines, nexuses, refusal, tables)
 }
 
@@ -188,53 +188,4 @@ pub(crate) fn row_at(tables: &[Table], host: u8, line: u32) -> Option<&Row> {
         }
     }
     None
-}
-
-fn put_finding<W: Write>(
-    writer: &mut W,
-    lines: &[&[u8]],
-    nexuses: &[Nexus],
-    finding: &Finding,
-    senders: &[Sender],
-) -> Result<(), WriteFault> {
-    match finding {
-        Finding::Found { breach, is_told } => {
-            put(
-                writer,
-                if *is_told {
-                    b"\nIt comes to that, from this start:\n".as_slice()
-                } else {
-                    b"\nNo run was found that shows just this. But from this start it comes to something else, which is
-refused once this is mended:\n"
-                },
-            )?;
-            put_run(writer, lines, nexuses, breach, senders)
-        }
-        Finding::Nothing { worlds, bound } => put_nothing(writer, *worlds, *bound),
-    }
-}
-
-fn put_nothing<W: Write>(
-    writer: &mut W,
-    worlds: usize,
-    bound: Option<Bound>,
-) -> Result<(), WriteFault> {
-    say(
-        writer,
-        &[
-            Part::Text(b"\nNo run that shows it was found, among"),
-            number(worlds as u64),
-            Part::Text(b" states of disk and scripts"),
-            Part::Text(match bound {
-                None => b", and these were all that the search looks at",
-                Some(Bound::Worlds) => b", the most that the search looks at",
-                Some(Bound::Depth) => b", as long as runs may be in the search",
-                Some(Bound::Waiting) => b", as many as the search has memory for",
-            }),
-            Part::Text(
-                b".\nMost often such a script is safe, and refused for what a view can't see: see 'Safe, and refused all
-the same' in docs/VERDICTS.md.\n",
-            ),
-        ],
-    )
 }
