@@ -12,7 +12,7 @@ use crate::plan::Explanation;
 use crate::senders::{Sender, senders};
 use pr_roles::Scenario;
 use pr_sets::{ViewSet, WordSet};
-use pr_verify::{Refusal, Refused, Verified, tables, verify};
+use pr_verify::{Refusal, Verified, tables, verify};
 use pr_witness::{Finding, USUAL_BOUNDS, search};
 use std::alloc::{AllocError, Global};
 
@@ -25,7 +25,7 @@ pub fn explanation(alloc: Global, scenario: Scenario) -> Result<Explanation, All
 {
     match verify(alloc, scenario) {
         Ok(verified) => accepted(alloc, verified),
-        Err(Refused { scenario, refusal }) => refused(alloc, scenario, refusal),
+        Err(against) => refused(alloc, against.scenario, against.refusal),
     }
 }
 
