@@ -95,7 +95,7 @@ pub(crate) fn settled(
 }
 
 #[tactic(auto, using(crate::proofs::Reasons::is_reason))]
-pub(crate) fn put_judgement<W: Write>(
+fn put_judgement<W: Write>(
     writer: &mut W,
     judgement: &Result<Verified, Refused>,
 ) -> Result<(), WriteFault>

@@ -6,14 +6,12 @@ ghost use Rattle.pr_text.specs.BytesRead.{LosesUpTo};
 ghost use Rattle.pr_report.specs.Written.{Puts};
 ghost use Rattle.fence.specs.Endings.{IsCommand, told_of_end};
 ghost use Rattle.fence.specs.Explanations.{EndsTold};
-ghost use Rattle.fence.specs.inside.Judgements.{IsJudged};
 
-use crate::checks::{put_judgement, settled};
 use crate::ending::{status_of, tell_end};
 use crate::fault::{Fault, Status};
 use crate::told::read_and_tell;
+use pr_explain::{explanation, lines_of, write_explanation};
 use pr_report::WriteFault;
-use pr_verify::{Refused, Verified, verify};
 use std::alloc::Global;
 use std::io::{Read, Write};
 
@@ -50,7 +48,8 @@ fn explain_and_tell<R: Read, W: Write, E: Write>(
     (end, told)
 }
 
-// Judges, and then writes: whether the scenario is refused.
+// Reads the text, plans what is said of its scenario, and then writes: whether that is refused. Of a fault of the text the words go
+// out before its line.
 fn explain_text<R: Read, W: Write>(
     alloc: Global,
     reader: &mut R,
@@ -59,20 +58,10 @@ fn explain_text<R: Read, W: Write>(
     ensures ends { EndsTold (R.remaining reader.old) result }
     ensures limited { LosesUpTo (MOST_BYTES + 1) (R.remaining reader.old) (R.remaining reader.new) }
 {
-    let judgement = judge(alloc, reader, writer)?;
-    put_judgement(writer, &judgement)?;
-    Ok(judgement.is_err())
-}
-
-// Reads the text and verifies its scenario. Of a fault the words go out.
-fn judge<R: Read, W: Write>(
-    alloc: Global,
-    reader: &mut R,
-    writer: &mut W,
-) -> Result<Result<Verified, Refused>, Fault>
-    ensures judged { IsJudged (R.remaining reader.old) result }
-    ensures limited { LosesUpTo (MOST_BYTES + 1) (R.remaining reader.old) (R.remaining reader.new) }
-{
-    let (_, scenario) = read_and_tell(alloc, reader, writer);
-    settled(verify(alloc, scenario?))
+    let (text, scenario) = read_and_tell(alloc, reader, writer);
+    let scenario = scenario?;
+    let lines = lines_of(alloc, &text)?;
+    let explanation = explanation(alloc, scenario)?;
+    write_explanation(writer, &lines, &explanation)?;
+    Ok(explanation.is_refusal())
 }
