@@ -11,7 +11,7 @@ use Rattle.fence.specs.declared.fault.Fault.TheVariants as fault
 use Rattle.fence.specs.Checks.{EndsCheck, IsVerdictOf}
 use Rattle.fence.specs.inside.Judgements.{Judgement, Stands, judgement_text, scenario_in}
 
-verdict_of : (text : List ℕ) (j : Judgement) (refused : Bool) → IsWrittenAs text (scenario_of (scenario_in j)) → Stands j → refused ≡ is_err j
+pub verdict_of : (text : List ℕ) (j : Judgement) (refused : Bool) → IsWrittenAs text (scenario_of (scenario_in j)) → Stands j → refused ≡ is_err j
     → IsVerdictOf text (judgement_text j) refused
 verdict_of text (Ok verified) refused written stands is = record {
   scenario = scenario_of verified;

@@ -7,3 +7,4 @@ pub mod Performing
 pub mod Telling
 pub mod Taking
 pub mod Witnessing
+pub mod Explained

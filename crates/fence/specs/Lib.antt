@@ -7,4 +7,5 @@ pub mod Checks
 pub mod Audits
 pub mod Runs
 pub mod Outlines
+pub mod Explanations
 pub mod inside

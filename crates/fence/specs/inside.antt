@@ -3,3 +3,4 @@ pub mod Audited
 pub mod PlannedReplays
 pub mod Performances
 pub mod Witnessed
+pub mod Traced

@@ -22,8 +22,12 @@ const RUN_CALL: &str = "For example: fence run race.fence";
 
 const AUDIT_CALL: &str = "For example: fence audit preempted-writer.fence preempted-writer.1.trace";
 
+const EXPLAIN_CALL: &str =
+    "For example: fence explain missing-arm.fence, or fence explain missing-arm.fence missing-arm.1.trace";
+
 /// What the words of a command line say: the subcommand `check` or `outline` with its `FILE`, `replay` with its `FILE` and
-/// one `STEP` or more, `run` with its `FILE`, or `audit` with its `FILE` and its `TRACE`.
+/// one `STEP` or more, `run` with its `FILE`, `audit` with its `FILE` and its `TRACE`, or `explain` with its `FILE` and at most
+/// one `TRACE`.
 pub fn matches_of<'a>(alloc: Global, words: &'a [String]) -> Result<ArgMatches<'a>, Error> {
     command(alloc)?.try_get_matches_from(words)
 }
@@ -42,7 +46,8 @@ fn command<'a>(alloc: Global) -> Result<Command<'a>, AllocError> {
         .subcommand(witness(alloc)?)?
         .subcommand(replay(alloc)?)?
         .subcommand(run(alloc)?)?
-        .subcommand(audit(alloc)?)
+        .subcommand(audit(alloc)?)?
+        .subcommand(explain(alloc)?)
 }
 
 fn check<'a>(alloc: Global) -> Result<Command<'a>, AllocError> {
@@ -99,6 +104,19 @@ fn audit<'a>(alloc: Global) -> Result<Command<'a>, AllocError> {
             "Says whether the commands and replies of a trace may have happened, or which is the first that may not",
         )
         .after_help(AUDIT_CALL)
+        .arg(file(alloc))?
+        .arg(trace)
+}
+
+fn explain<'a>(alloc: Global) -> Result<Command<'a>, AllocError> {
+    let trace = Arg::new(alloc, "TRACE").help(
+        "A trace of it, which is explained in place of the verdict; - is standard input, where FILE is none",
+    );
+    Command::new(alloc, "explain")
+        .about(
+            "Says in words, for people, what a fault or a verdict means, or what happens in a trace",
+        )
+        .after_help(EXPLAIN_CALL)
         .arg(file(alloc))?
         .arg(trace)
 }

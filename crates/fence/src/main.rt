@@ -11,25 +11,31 @@ mod audits;
 mod checks;
 mod command_line;
 mod ending;
+mod explaining;
 mod fault;
 mod outlines;
 mod replays;
 mod runs;
 mod several;
 mod steps;
+mod told;
+mod traced;
 mod witnesses;
 
 use crate::audits::do_audit;
 use crate::checks::do_check;
 use crate::command_line::matches_of;
+use crate::explaining::do_explain;
 use crate::fault::{Fault, Status, tell};
 use crate::outlines::do_outline;
 use crate::replays::do_replay;
 use crate::runs::do_run;
 use crate::several::{Line, put_labelled, worse};
+use crate::traced::do_explain_trace;
 use crate::witnesses::do_witness;
 use clap::ArgMatches;
 use clap::error::ErrorKind;
+use pr_report::TraceError;
 use pr_text::ReadError;
 use std::alloc::{AllocError, Global};
 use std::fs::File;
@@ -78,6 +84,7 @@ fn run_matches<T: Threads + Wait + Sync>(
         Some(("replay", arguments)) => run_replay(rt, arguments),
         Some(("run", arguments)) => run_threads(rt, threads, arguments),
         Some(("audit", arguments)) => run_audit(rt, arguments),
+        Some(("explain", arguments)) => run_explain(rt, arguments),
         _ => fail(&mut rt.stderr(), Fault::Usage),
     }
 }
@@ -127,6 +134,14 @@ fn run_audit(rt: &HostRuntime, arguments: &ArgMatches<'_>) -> Status {
         return fail(&mut rt.stderr(), Fault::Usage);
     };
     audit_paths(rt, path, trace)
+}
+
+fn run_explain(rt: &HostRuntime, arguments: &ArgMatches<'_>) -> Status {
+    match (arguments.get_str("FILE"), arguments.get_str("TRACE")) {
+        (Some(path), Some(trace)) => explain_trace_paths(rt, path, trace),
+        (Some(path), None) => explain_path(rt, path),
+        (None, _) => fail(&mut rt.stderr(), Fault::Usage),
+    }
 }
 
 // `fence check FILE`, where `-` is standard input.
@@ -259,6 +274,76 @@ fn audit_trace<R: Read, W: Write, E: Write>(
 ) -> Status {
     match fs::open(rt, trace) {
         Ok(mut file) => do_audit(rt.alloc(), reader, &mut file, output, errors),
+        Err(error) => fail(errors, file_fault(&error)),
+    }
+}
+
+// `fence explain FILE`, where `-` is standard input.
+fn explain_path(rt: &HostRuntime, path: &str) -> Status {
+    let mut output = rt.stdout();
+    let mut errors = rt.stderr();
+    if path == "-" {
+        return do_explain(rt.alloc(), &mut rt.stdin(), &mut output, &mut errors);
+    }
+    match fs::open(rt, path) {
+        Ok(mut file) => do_explain(rt.alloc(), &mut file, &mut output, &mut errors),
+        Err(error) => fail(&mut errors, file_fault(&error)),
+    }
+}
+
+// `fence explain FILE TRACE`, where `-` is standard input for one of them. Both are opened before either is read.
+fn explain_trace_paths(rt: &HostRuntime, path: &str, trace: &str) -> Status {
+    let mut output = rt.stdout();
+    let mut errors = rt.stderr();
+    if path == "-" {
+        return explain_trace_input(rt, trace, &mut output, &mut errors);
+    }
+    match fs::open(rt, path) {
+        Ok(mut file) if trace == "-" => explain_input(rt, &mut file, &mut output, &mut errors),
+        Ok(mut file) => explain_trace(rt, &mut file, trace, &mut output, &mut errors),
+        Err(error) => fail(&mut errors, file_fault(&error)),
+    }
+}
+
+// The same, of the trace on standard input. Where that is closed, the scenario got its descriptor.
+fn explain_input<W: Write, E: Write>(
+    rt: &HostRuntime,
+    file: &mut File,
+    output: &mut W,
+    errors: &mut E,
+) -> Status {
+    if file.as_raw_fd() == rt.stdin().as_raw_fd() {
+        return fail(errors, Fault::Trace(TraceError::ReadFault));
+    }
+    do_explain_trace(rt.alloc(), file, &mut rt.stdin(), output, errors)
+}
+
+// The same, of the scenario on standard input. Where that is closed, the trace got its descriptor.
+fn explain_trace_input<W: Write, E: Write>(
+    rt: &HostRuntime,
+    trace: &str,
+    output: &mut W,
+    errors: &mut E,
+) -> Status {
+    match fs::open(rt, trace) {
+        Ok(file) if file.as_raw_fd() == rt.stdin().as_raw_fd() => {
+            fail(errors, Fault::Input(ReadError::ReadFault))
+        }
+        Ok(mut file) => do_explain_trace(rt.alloc(), &mut rt.stdin(), &mut file, output, errors),
+        Err(error) => fail(errors, file_fault(&error)),
+    }
+}
+
+// The same, of a scenario that can be read.
+fn explain_trace<R: Read, W: Write, E: Write>(
+    rt: &HostRuntime,
+    reader: &mut R,
+    trace: &str,
+    output: &mut W,
+    errors: &mut E,
+) -> Status {
+    match fs::open(rt, trace) {
+        Ok(mut file) => do_explain_trace(rt.alloc(), reader, &mut file, output, errors),
         Err(error) => fail(errors, file_fault(&error)),
     }
 }

@@ -20,4 +20,4 @@ pub use laws::{
     scenarios_have_no_fault, scripts_have_no_fault, texts_are_written_once,
     the_first_fault_decides, what_is_written_fits,
 };
-pub use text::{of_text, read};
+pub use text::{of_text, read, read_with_text};

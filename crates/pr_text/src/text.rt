@@ -45,6 +45,23 @@ pub fn read<R: Read>(alloc: Global, reader: &mut R) -> Result<Scenario, ReadErro
     of_text(alloc, &text)
 }
 
+/// The same, with the bytes of the text: those that were read, or none where reading failed.
+pub fn read_with_text<R: Read>(
+    alloc: Global,
+    reader: &mut R,
+) -> (Vec<u8>, Result<Scenario, ReadError>)
+    ensures read { IfSome (R.remaining reader.old) (λ text. IsRead text result.1) }
+    ensures limited { LosesUpTo (MOST_BYTES + 1) (R.remaining reader.old) (R.remaining reader.new) }
+{
+    match all_bytes(alloc, reader, MOST_BYTES + 1) {
+        Ok(text) => {
+            let scenario = of_text(alloc, &text);
+            (text, scenario)
+        }
+        Err(error) => (Vec::new(alloc), Err(error)),
+    }
+}
+
 /// The scenario that the text is, or the text's one fault.
 pub fn of_text(alloc: Global, text: &[u8]) -> Result<Scenario, ReadError>
     ensures found { IfOk result (λ scenario. IsWrittenAs text.now (scenario_of scenario)) }

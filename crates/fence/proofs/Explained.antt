@@ -1,0 +1,59 @@
+-- What is told of texts and traces, where it is known what the readers have.
+use Rattle.std.proofs.Common.{◌≡◌, ℕ, Bool, List, Option, Some, None, refl}
+use Rattle.std.specs.Prelude.{◌↔◌, false, IfSome, Ok, is_some}
+use Rattle.pr_sets.specs.Numbers.{Numbers}
+use Rattle.pr_sets.specs.declared.word_set.WordSet.{WordSet}
+use Rattle.pr_roles.specs.declared.parts.Parts.{Parts}
+use Rattle.pr_roles.specs.Scenarios.{scenario_of}
+use Rattle.pr_text.specs.Reading.{IsWrittenAs}
+use Rattle.pr_verify.specs.Outlines.{HaveOutlines}
+use Rattle.pr_report.specs.TraceText.{names_in}
+use Rattle.pr_report.specs.Verdicts.{verdict_text}
+use Rattle.pr_report.specs.declared.verdict.Verdict.TheVariants as verdict
+use Rattle.pr_explain.specs.declared.plan.Explanation.{Explanation}
+use Rattle.pr_explain.specs.declared.plan.Explanation.TheVariants.{Accepted, Refused}
+use Rattle.pr_explain.specs.Explanations.{Holds, is_refusal}
+use Rattle.fence.specs.declared.traced.Traced.{Traced}
+use Rattle.fence.specs.Explanations.{EndsTold, EndsTraceTold}
+use Rattle.fence.specs.inside.Traced.{IsOf}
+
+pub told_trace : (known traced : Option (List ℕ)) (t : Traced) (is_illegal : Bool) → IfSome known (λ text. IfSome traced (λ trace. IsOf text trace t))
+    → is_illegal ≡ is_some t.telling.illegal → EndsTraceTold known traced (Ok is_illegal)
+told_trace None traced t is_illegal is answers = tt
+told_trace (Some text) None t is_illegal is answers = tt
+told_trace (Some text) (Some trace) t is_illegal is answers = record {
+  scenario = scenario_of t.scenario;
+  read = is.read;
+  history = t.history.items;
+  traced = is.traced;
+  illegal = t.telling.illegal;
+  told = is.told;
+  answers = answers;
+}
+
+-- the verdict that a plan of what is said tells
+pub told_plan : (known : Option (List ℕ)) (members : WordSet → Numbers) (p : Parts) (e : Explanation) (refused : Bool) → IfSome known (λ text. IsWrittenAs text (scenario_of p))
+    → (is_refusal e ≡ false) ↔ HaveOutlines (scenario_of p) → Holds members (scenario_of p) e → refused ≡ is_refusal e → EndsTold known (Ok refused)
+told_plan None members p e refused read exact holds is = tt
+told_plan (Some text) members p (Accepted verified costs lints) refused read exact holds is = (
+  verdict_text (names_in (scenario_of p)) verdict.Accepted,
+  record {
+    scenario = scenario_of p;
+    read = read;
+    verdict = verdict.Accepted;
+    holds = (holds.0, exact.0 refl);
+    line_is = refl;
+    refused_is = is;
+  },
+)
+told_plan (Some text) members p (Refused scenario refusal tables finding senders) refused read exact holds is = (
+  verdict_text (names_in (scenario_of p)) (verdict.Refused refusal),
+  record {
+    scenario = scenario_of p;
+    read = read;
+    verdict = verdict.Refused refusal;
+    holds = holds.0;
+    line_is = refl;
+    refused_is = is;
+  },
+)

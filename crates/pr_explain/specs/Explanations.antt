@@ -1,0 +1,30 @@
+-- Agrees with docs/VERDICTS.md, 'In words: `fence explain`'.
+-- What is said of a scenario: that it is accepted, or that it is refused and why.
+use Rattle.std.specs.Prelude.{◌≡◌, Bool, true, false, map}
+use Rattle.pr_sets.specs.declared.word_set.WordSet.{WordSet}
+use Rattle.pr_sets.specs.Numbers.{Numbers}
+use Rattle.pr_roles.specs.declared.parts.Parts.{Parts}
+use Rattle.pr_roles.specs.Scenarios.{Scenario}
+use Rattle.pr_roles.specs.Safety.{IsSafe}
+use Rattle.pr_verify.specs.Rooms.{table_of}
+use Rattle.pr_verify.specs.Tables.{AreTables}
+use Rattle.pr_verify.specs.Verdicts.{IsFirstReason}
+use Rattle.pr_witness.specs.Breaches.{IsFound}
+use Rattle.pr_explain.specs.declared.plan.Explanation.{Explanation}
+use Rattle.pr_explain.specs.declared.plan.Explanation.TheVariants.{Accepted, Refused}
+use Rattle.pr_explain.specs.Costs.{cost_of}
+
+abbrev pub scenario_in : Explanation → Parts
+scenario_in (Accepted verified costs lints) = verified
+scenario_in (Refused scenario refusal tables finding senders) = scenario
+
+abbrev pub is_refusal : Explanation → Bool
+is_refusal (Accepted verified costs lints) = false
+is_refusal (Refused scenario refusal tables finding senders) = true
+
+-- Of one that is accepted: it is safe, and these are the costs of its scripts. Of one that is refused: this is the first reason
+-- that the least sound outlines show, the tables are of these outlines, and a run that was found breaks what safety says.
+abbrev pub Holds : (WordSet → Numbers) → Scenario → Explanation → Type 0
+Holds members s (Accepted verified costs lints) = IsSafe s × (costs.items ≡ map (λ n. cost_of n.task) s.nexuses)
+Holds members s (Refused scenario refusal tables finding senders) =
+    IsFirstReason s refusal × AreTables s (map (table_of members) tables.items) × IsFound s finding

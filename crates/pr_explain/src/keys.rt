@@ -1,0 +1,73 @@
+//! Which keys commands, arms and roles name.
+
+use pr_cdb::Command;
+use pr_roles::{Action, Nexus, Task};
+use pr_script::Test;
+
+/// Whether the command has this key in one of its fields.
+pub(crate) fn names_key(command: &Command, key: u64) -> bool {
+    match *command {
+        Command::Register { rk, sark }
+        | Command::Preempt { rk, sark, .. }
+        | Command::PreemptAbort { rk, sark, .. } => rk == key || sark == key,
+        Command::RegisterIgnore { sark } => sark == key,
+        Command::Reserve { rk, .. } | Command::Release { rk, .. } | Command::Clear { rk } => {
+            rk == key
+        }
+        Command::TestUnitReady
+        | Command::RequestSense
+        | Command::Read { .. }
+        | Command::Write { .. }
+        | Command::ReadKeys { .. }
+        | Command::ReadReservation { .. }
+        | Command::ReportCapabilities { .. } => false,
+    }
+}
+
+/// Whether the arm waits for this key.
+pub(crate) fn waits_for_key(test: Test, key: u64) -> bool {
+    match test {
+        Test::GoodHas(known) | Test::GoodHeld(known) => known == key,
+        Test::Good
+        | Test::GoodUnheld
+        | Test::Conflict
+        | Test::Busy
+        | Test::Full
+        | Test::Attention
+        | Test::Sense(_) => false,
+    }
+}
+
+fn permits_key(action: Action, key: u64) -> bool {
+    match action {
+        Action::Register(known) | Action::Preempt(known, _) => known == key,
+        Action::Unregister
+        | Action::Reserve(_)
+        | Action::Release
+        | Action::Clear
+        | Action::Read
+        | Action::Write => false,
+    }
+}
+
+/// Whether the start, the role or the plan of the nexus names this key.
+pub(crate) fn declares_key(nexus: &Nexus, key: u64) -> bool {
+    starts_with_key(&nexus.start.alternatives, key)
+        || nexus
+            .role
+            .clauses
+            .iter()
+            .any(|clause| permits_key(clause.action, key))
+        || plans_key(&nexus.task, key)
+}
+
+fn starts_with_key(alternatives: &[Option<u64>], key: u64) -> bool {
+    alternatives.iter().any(|known| *known == Some(key))
+}
+
+fn plans_key(task: &Task, key: u64) -> bool {
+    match task {
+        Task::Scripted { .. } => false,
+        Task::Planned(commands) => commands.iter().any(|command| names_key(command, key)),
+    }
+}

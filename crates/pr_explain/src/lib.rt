@@ -1,0 +1,33 @@
+//! What `fence explain` says of a scenario's verdict: a plan of it, which is proved, and its words, which are tested.
+//!
+//! [`explanation`] makes the plan: the verdict, what a host can know where it is refused, a run that shows why, and what each
+//! script costs. [`write_explanation`] says it in words, with lines of the scenario's text.
+#![tactic(auto)]
+
+mod accepting;
+mod advice;
+mod blocks;
+mod costing;
+mod covering;
+mod keys;
+mod lint;
+mod lint_words;
+mod linting;
+mod plan;
+mod planning;
+mod possible;
+mod refusing;
+mod running;
+mod saying;
+mod senders;
+mod source;
+mod writing;
+
+pub use costing::{Cost, costs};
+pub use covering::covers;
+pub use lint::Lint;
+pub use plan::Explanation;
+pub use planning::explanation;
+pub use senders::Sender;
+pub use source::lines_of;
+pub use writing::write_explanation;

@@ -1,0 +1,33 @@
+//! What is worth a look in a scenario that is accepted.
+
+/// What is worth a look, and changes no verdict.
+#[derive(Clone, Copy, Debug, PartialEq, Eq)]
+pub enum Lint {
+    /// The script never comes to the send on this line.
+    NeverSent {
+        host: u8,
+        line: u32,
+    },
+    /// No reply takes this arm of the send on this line, counted from 0.
+    NeverTaken {
+        host: u8,
+        line: u32,
+        arm: usize,
+    },
+    /// An arm above takes all that this one waits for.
+    Covered {
+        host: u8,
+        line: u32,
+        arm: usize,
+        above: usize,
+    },
+    /// No command of the host's script is one that this clause of its role names.
+    NotNeeded {
+        host: u8,
+        clause: usize,
+    },
+    /// Nothing uses this declared key.
+    NotUsed {
+        key: u64,
+    },
+}

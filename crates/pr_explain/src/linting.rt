@@ -1,0 +1,103 @@
+//! What is worth a look in a scenario that is accepted.
+
+use crate::covering::covers;
+use crate::keys::{declares_key, names_key, waits_for_key};
+use crate::lint::Lint;
+use pr_roles::{Action, Nexus, Scenario, names};
+use pr_script::Test;
+use pr_verify::{Row, Table};
+use std::alloc::{AllocError, Global};
+
+/// What is worth a look: by the tables of its scripts, arms that no reply takes, clauses of roles that no command of the script
+/// needs, and keys that nothing uses. It promises nothing of what it finds.
+pub(crate) fn lints(
+    alloc: Global,
+    scenario: &Scenario,
+    tables: &[Table],
+) -> Result<Vec<Lint>, AllocError> {
+    let mut lints = Vec::new(alloc);
+    for table in tables {
+        add_of_sends(&mut lints, table)?;
+        add_of_role(&mut lints, &scenario.parts().nexuses, table)?;
+    }
+    for key in &scenario.parts().keys {
+        if !is_used(&scenario.parts().nexuses, tables, *key) {
+            lints.push(Lint::NotUsed { key: *key })?;
+        }
+    }
+    Ok(lints)
+}
+
+fn add_of_sends(lints: &mut Vec<Lint>, table: &Table) -> Result<(), AllocError> {
+    let host = table.outline.host;
+    for (place, row) in table.rows.iter().enumerate() {
+        if let Some((line, _)) = table.outline.views.get(place) {
+            add_of_send(lints, host, *line, row)?;
+        }
+    }
+    Ok(())
+}
+
+// A send without arms says itself that it is never sent.
+fn add_of_send(lints: &mut Vec<Lint>, host: u8, line: u32, row: &Row) -> Result<(), AllocError> {
+    if row.tests.is_empty() {
+        return Ok(());
+    }
+    if row.arms.is_empty() && row.unarmed.is_empty() {
+        lints.push(Lint::NeverSent { host, line })?;
+        return Ok(());
+    }
+    for (arm, test) in row.tests.iter().enumerate() {
+        if let Some(above) = first_covering(&row.tests, arm, *test) {
+            lints.push(Lint::Covered {
+                host,
+                line,
+                arm,
+                above,
+            })?;
+        } else if !row.arms.contains(&arm) {
+            lints.push(Lint::NeverTaken { host, line, arm })?;
+        }
+    }
+    Ok(())
+}
+
+// The first of the arms above this one that takes all that it waits for.
+fn first_covering(tests: &[Test], arm: usize, test: Test) -> Option<usize> {
+    for (above, other) in tests.iter().enumerate() {
+        if above < arm && covers(*other, test) {
+            return Some(above);
+        }
+    }
+    None
+}
+
+fn add_of_role(lints: &mut Vec<Lint>, nexuses: &[Nexus], table: &Table) -> Result<(), AllocError> {
+    let host = table.outline.host;
+    let Some(nexus) = nexuses.get(usize::from(host)) else {
+        return Ok(());
+    };
+    for (clause, permitted) in nexus.role.clauses.iter().enumerate() {
+        if !is_needed(&table.rows, permitted.action) {
+            lints.push(Lint::NotNeeded { host, clause })?;
+        }
+    }
+    Ok(())
+}
+
+// Whether the action names one of the commands.
+fn is_needed(rows: &[Row], action: Action) -> bool {
+    rows.iter().any(|row| names(action, row.command))
+}
+
+fn is_used(nexuses: &[Nexus], tables: &[Table], key: u64) -> bool {
+    nexuses.iter().any(|nexus| declares_key(nexus, key))
+        || tables.iter().any(|table| is_sent(&table.rows, key))
+}
+
+// Whether one of the sends or their arms names the key.
+fn is_sent(rows: &[Row], key: u64) -> bool {
+    rows.iter().any(|row| {
+        names_key(&row.command, key) || row.tests.iter().any(|test| waits_for_key(*test, key))
+    })
+}

@@ -1,0 +1,46 @@
+//! What is said of a scenario.
+
+ghost use Rattle.std.specs.Prelude.{◌≡◌};
+
+use crate::costing::Cost;
+use crate::lint::Lint;
+use crate::senders::Sender;
+use pr_roles::Scenario;
+use pr_verify::{Refusal, Table, Verified};
+use pr_witness::Finding;
+
+/// What is said of a scenario.
+#[derive(Drop)]
+pub enum Explanation {
+    /// It is accepted.
+    Accepted {
+        verified: Verified,
+        /// Of each nexus that has a script, what that costs.
+        costs: Vec<Option<Cost>>,
+        lints: Vec<Lint>,
+    },
+    /// It is refused.
+    Refused {
+        scenario: Scenario,
+        refusal: Refusal,
+        /// What is known at each send of each script.
+        tables: Vec<Table>,
+        finding: Finding,
+        /// Of each item of the run that was found, by what it was sent.
+        senders: Vec<Sender>,
+    },
+}
+
+impl Explanation {
+    ghost use Rattle.pr_explain.specs.Explanations.{is_refusal};
+
+    /// Whether the scenario is refused.
+    pub fn is_refusal(&self) -> bool
+        ensures { result ≡ is_refusal self.now }
+    {
+        match self {
+            Explanation::Accepted { .. } => false,
+            Explanation::Refused { .. } => true,
+        }
+    }
+}

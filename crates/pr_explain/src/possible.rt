@@ -1,0 +1,131 @@
+//! What a host can know at a send, in words.
+
+use crate::saying::{Part, name, say};
+use pr_attention::Attention;
+use pr_cdb::codes::MOST_NEXUSES;
+use pr_domain::is_among;
+use pr_regions::reservation_at;
+use pr_report::{Word, WriteFault, put, put_spaced};
+use pr_roles::Nexus;
+use pr_sets::{ViewSet, WordSet};
+use pr_views::{ATTENTION_SETS, View};
+use pr_words::{put_held, put_sense};
+use std::io::Write;
+
+/// Writes what is possible in the view of this name: the registrations of each nexus, the reservations, and what waits for the
+/// owner of the view. Each list stands by itself.
+pub(crate) fn put_possible<W: Write>(
+    writer: &mut W,
+    nexuses: &[Nexus],
+    owner: &[u8],
+    view: &View,
+) -> Result<(), WriteFault> {
+    for (number, nexus) in nexuses.iter().enumerate() {
+        if let Some(registrations) = view.registrations.get(number) {
+            put_registrations(
+                writer,
+                nexus.name.as_str().as_bytes(),
+                &view.keys,
+                registrations,
+            )?;
+        }
+    }
+    put_reservations(writer, nexuses, view)?;
+    put_waiting(writer, owner, &view.pending)
+}
+
+// With what the nexus of this name may be registered: 0 stands for nothing, and each key for its place from 1 on.
+fn put_registrations<W: Write>(
+    writer: &mut W,
+    nexus: &[u8],
+    keys: &[u64],
+    registrations: &WordSet,
+) -> Result<(), WriteFault> {
+    say(writer, &[Part::Text(b" "), name(nexus)])?;
+    let mut is_first = true;
+    if registrations.has(0) {
+        put(writer, b" is not registered")?;
+        is_first = false;
+    }
+    let mut number: u8 = 0;
+    for key in keys {
+        number = number.saturating_add(1);
+        if registrations.has(number) {
+            put_or(writer, is_first)?;
+            put_spaced(writer, &[Word::Text(b"has"), Word::Key(*key)])?;
+            is_first = false;
+        }
+    }
+    put(writer, b"\n")
+}
+
+fn put_reservations<W: Write>(
+    writer: &mut W,
+    nexuses: &[Nexus],
+    view: &View,
+) -> Result<(), WriteFault> {
+    let hosts = view.hosts;
+    if hosts == 0 || usize::from(hosts) > MOST_NEXUSES {
+        return Ok(());
+    }
+    put(writer, b" ")?;
+    let mut is_first = true;
+    for number in 0..hosts * 4 + 3 {
+        if view.reservations.has(number) {
+            put_or(writer, is_first)?;
+            put(writer, b" ")?;
+            put_held(writer, nexuses, reservation_at(hosts, number))?;
+            is_first = false;
+        }
+    }
+    put(writer, b"\n")
+}
+
+// What may wait for the host of this name, by the number of each set of attentions.
+fn put_waiting<W: Write>(
+    writer: &mut W,
+    owner: &[u8],
+    pending: &WordSet,
+) -> Result<(), WriteFault> {
+    say(writer, &[Part::Text(b"  for"), name(owner)])?;
+    let mut is_first = true;
+    for number in 0..ATTENTION_SETS {
+        if pending.has(number) {
+            put_or(writer, is_first)?;
+            put_attentions(writer, number)?;
+            is_first = false;
+        }
+    }
+    put(writer, b"\n")
+}
+
+fn put_attentions<W: Write>(writer: &mut W, attentions: u8) -> Result<(), WriteFault> {
+    if attentions == 0 {
+        return put(writer, b" nothing waits");
+    }
+    let mut is_first = true;
+    for attention in Attention::ALL {
+        if is_among(attention, attentions) {
+            put(writer, if is_first { b" " } else { b" and " })?;
+            put_sense(writer, attention.sense())?;
+            is_first = false;
+        }
+    }
+    put(
+        writer,
+        if attentions.count_ones() == 1 {
+            b" waits"
+        } else {
+            b" wait"
+        },
+    )
+}
+
+// What stands before each of several that may be, but the first.
+fn put_or<W: Write>(writer: &mut W, is_first: bool) -> Result<(), WriteFault> {
+    if is_first {
+        Ok(())
+    } else {
+        put(writer, b", or")
+    }
+}

@@ -1,0 +1,39 @@
+//! Sentences to a writer.
+
+use pr_report::{Word, WriteFault, put, put_spaced};
+use std::io::Write;
+
+/// A part of a sentence.
+#[derive(Clone, Copy)]
+pub(crate) enum Part<'a> {
+    /// This very text.
+    Text(&'a [u8]),
+    /// The word, after a space.
+    Spaced(Word<'a>),
+}
+
+/// Writes the parts one behind the other.
+pub(crate) fn say<W: Write>(writer: &mut W, parts: &[Part<'_>]) -> Result<(), WriteFault> {
+    for part in parts {
+        match part {
+            Part::Text(text) => put(writer, text)?,
+            Part::Spaced(word) => put_spaced(writer, &[*word])?,
+        }
+    }
+    Ok(())
+}
+
+/// A name, after a space.
+pub(crate) fn name(text: &[u8]) -> Part<'_> {
+    Part::Spaced(Word::Text(text))
+}
+
+/// A number, after a space.
+pub(crate) fn number(value: u64) -> Part<'static> {
+    Part::Spaced(Word::Number(value))
+}
+
+/// The number of the line with this index, after a space.
+pub(crate) fn line_number(index: usize) -> Part<'static> {
+    Part::Spaced(Word::Number((index as u64).saturating_add(1)))
+}

@@ -1,0 +1,29 @@
+//! An explanation in words.
+
+use crate::accepting::put_accepted;
+use crate::plan::Explanation;
+use crate::refusing::put_refused;
+use pr_report::WriteFault;
+use std::io::Write;
+
+/// Writes what is said of a scenario whose text has these lines. On a fault, the writer is not called again.
+pub fn write_explanation<W: Write>(
+    writer: &mut W,
+    lines: &[&[u8]],
+    explanation: &Explanation,
+) -> Result<(), WriteFault> {
+    match explanation {
+        Explanation::Accepted {
+            verified,
+            costs,
+            lints,
+        } => put_accepted(writer, lines, verified.scenario(), costs, lints),
+        Explanation::Refused {
+            scenario,
+            refusal,
+            tables,
+            finding,
+            senders,
+        } => put_refused(writer, lines, scenario, *refusal, tables, finding, senders),
+    }
+}

@@ -1,0 +1,99 @@
+//! How the unit and each nexus stand, in words.
+
+use crate::held::put_held;
+use pr_registry::Registry;
+use pr_report::{Word, WriteFault, put, put_line, put_spaced};
+use pr_roles::Nexus;
+use pr_world::End;
+use std::io::Write;
+
+/// The name of a nexus, by its number; empty where there is none.
+pub fn name_of(nexuses: &[Nexus], host: u8) -> &[u8] {
+    match nexuses.get(usize::from(host)) {
+        Some(nexus) => nexus.name.as_str().as_bytes(),
+        None => b"",
+    }
+}
+
+/// Writes the line of the unit: its generation, its reservation, and who is registered with which key.
+pub fn put_unit<W: Write>(
+    writer: &mut W,
+    nexuses: &[Nexus],
+    unit: &Registry,
+) -> Result<(), WriteFault> {
+    put(writer, b"unit generation")?;
+    put_spaced(writer, &[Word::Number(u64::from(unit.generation()))])?;
+    put(writer, b", ")?;
+    put_held(writer, nexuses, unit.held())?;
+    for host in 0..unit.hosts() {
+        put_registration(writer, name_of(nexuses, host), unit.key(host))?;
+    }
+    put(writer, b"\n")
+}
+
+fn put_registration<W: Write>(
+    writer: &mut W,
+    name: &[u8],
+    key: Option<u64>,
+) -> Result<(), WriteFault> {
+    put(writer, b",")?;
+    match key {
+        Some(key) => put_spaced(
+            writer,
+            &[Word::Text(name), Word::Text(b"has"), Word::Key(key)],
+        ),
+        None => put_spaced(writer, &[Word::Text(name), Word::Text(b"not registered")]),
+    }
+}
+
+/// Writes the line of how a nexus stands, and how many of its commands reached the unit.
+pub fn put_end<W: Write>(
+    writer: &mut W,
+    name: &[u8],
+    end: End,
+    sent: u32,
+) -> Result<(), WriteFault> {
+    match end {
+        End::Stopped(word) => {
+            let word = Word::Text(word.as_str().as_bytes());
+            put_host(writer, name, b"stopped with the word", word, sent)
+        }
+        End::Ready(line) => {
+            let line = Word::Number(u64::from(line));
+            put_host(writer, name, b"is ready at line", line, sent)
+        }
+        End::Trapped(line) => {
+            let line = Word::Number(u64::from(line));
+            put_host(writer, name, b"is trapped at line", line, sent)
+        }
+        End::Left(_) => put_line(
+            writer,
+            Word::Text(b"guest"),
+            &[
+                Word::Text(name),
+                Word::Text(b"sent"),
+                Word::Number(u64::from(sent)),
+            ],
+        ),
+    }
+}
+
+fn put_host<'a, W: Write>(
+    writer: &mut W,
+    name: &'a [u8],
+    how: &'a [u8],
+    what: Word<'a>,
+    sent: u32,
+) -> Result<(), WriteFault> {
+    put_line(
+        writer,
+        Word::Text(b"host"),
+        &[
+            Word::Text(name),
+            Word::Text(how),
+            what,
+            Word::Text(b"and sent"),
+            Word::Number(u64::from(sent)),
+        ],
+    )
+}

@@ -1,0 +1,191 @@
+//! A history in words.
+
+use crate::command::put_command;
+use crate::item::put_item;
+use crate::numbers::put_number;
+use crate::reply::put_reply;
+use crate::standing::{name_of, put_end, put_unit};
+use crate::telling::{Instead, Note, Telling};
+use pr_cdb::Status;
+use pr_report::{Word, WriteFault, put, put_line, put_spaced};
+use pr_roles::{Entry, Item, Nexus, Scenario};
+use pr_world::End;
+use std::io::Write;
+
+/// Writes a history as it is told: each item in front of the first that isn't legal, with the line of the script that it comes
+/// from; whether the history is legal, and what would have been in place of an item that isn't; the unit, and how each nexus
+/// stands. A trace's own last lines are not told.
+pub fn write_telling<W: Write>(
+    writer: &mut W,
+    scenario: &Scenario,
+    history: &[Item],
+    telling: &Telling,
+) -> Result<(), WriteFault> {
+    let nexuses = &scenario.parts().nexuses;
+    put_items(writer, nexuses, history, &telling.notes)?;
+    put_verdict(writer, nexuses, history, telling)?;
+    put_unit(writer, nexuses, telling.unit.registry())?;
+    put_ends(writer, nexuses, &telling.ends, &telling.counts)
+}
+
+fn put_items<W: Write>(
+    writer: &mut W,
+    nexuses: &[Nexus],
+    history: &[Item],
+    notes: &[Note],
+) -> Result<(), WriteFault> {
+    for (others, (item, note)) in history.iter().zip(notes).enumerate() {
+        put_item(writer, nexuses, others as u64 + 1, item, note.line)?;
+        if let (Item::Sent(entry), true) = (item, note.is_out_of_role) {
+            put_out_of_role(writer, name_of(nexuses, entry.host))?;
+        }
+    }
+    Ok(())
+}
+
+fn put_out_of_role<W: Write>(writer: &mut W, name: &[u8]) -> Result<(), WriteFault> {
+    put_line(
+        writer,
+        Word::Text(b"  which the role of"),
+        &[
+            Word::Text(name),
+            Word::Text(b"does not permit to end GOOD there"),
+        ],
+    )
+}
+
+// Whether it is legal, and why not.
+fn put_verdict<W: Write>(
+    writer: &mut W,
+    nexuses: &[Nexus],
+    history: &[Item],
+    telling: &Telling,
+) -> Result<(), WriteFault> {
+    let Some(place) = telling.illegal else {
+        let items = Word::Number(history.len() as u64);
+        return put_line(writer, Word::Text(b"legal"), &[items]);
+    };
+    let item = history.get(place.saturating_sub(1));
+    if let Some(item) = item {
+        put_item(writer, nexuses, place as u64, item, None)?;
+    }
+    put(writer, b"illegal ")?;
+    put_number(writer, place as u64)?;
+    if let (Some(item), Some(instead)) = (item, &telling.instead) {
+        put(writer, b": ")?;
+        put_instead(writer, nexuses, item, instead)?;
+    }
+    put(writer, b"\n")
+}
+
+fn put_instead<W: Write>(
+    writer: &mut W,
+    nexuses: &[Nexus],
+    item: &Item,
+    instead: &Instead,
+) -> Result<(), WriteFault> {
+    match item {
+        Item::Sent(entry) => put_instead_of(writer, name_of(nexuses, entry.host), entry, instead),
+        Item::Reset => put_resets(writer, instead),
+    }
+}
+
+fn put_instead_of<W: Write>(
+    writer: &mut W,
+    name: &[u8],
+    entry: &Entry,
+    instead: &Instead,
+) -> Result<(), WriteFault> {
+    match instead {
+        Instead::Answer(reply) => {
+            put(writer, b"the model would have answered ")?;
+            put_reply(writer, &entry.wire, reply)
+        }
+        Instead::Sending { line, command } => {
+            put(writer, b"the script of")?;
+            let line = Word::Number(u64::from(*line));
+            put_spaced(writer, &[Word::Text(name), Word::Text(b"is at line"), line])?;
+            put(writer, b", and would have sent ")?;
+            put_command(writer, command)
+        }
+        Instead::Nothing(end) => put_nothing(writer, name, *end),
+        Instead::NotModelled => put(writer, b"the model has no such command"),
+        Instead::NotPermitted => {
+            put(writer, b"the role of")?;
+            put_spaced(writer, &[Word::Text(name)])?;
+            put(writer, b" does not permit that this ends GOOD there")
+        }
+        Instead::Refusals(most) => put_refusals(writer, name, entry.reply.status, *most),
+        Instead::Resets(_) => Ok(()),
+    }
+}
+
+fn put_nothing<W: Write>(writer: &mut W, name: &[u8], end: End) -> Result<(), WriteFault> {
+    put(writer, b"the script of")?;
+    put_spaced(writer, &[Word::Text(name)])?;
+    match end {
+        End::Stopped(word) => {
+            put(writer, b" has stopped with the word")?;
+            put_spaced(writer, &[Word::Text(word.as_str().as_bytes())])?;
+        }
+        End::Ready(line) | End::Trapped(line) => {
+            put(writer, b" has no arm for the reply at line")?;
+            put_spaced(writer, &[Word::Number(u64::from(line))])?;
+        }
+        End::Left(_) => {}
+    }
+    put(writer, b", and sends nothing more")
+}
+
+// How often such a refusal comes at most.
+fn put_refusals<W: Write>(
+    writer: &mut W,
+    name: &[u8],
+    status: Status,
+    most: u32,
+) -> Result<(), WriteFault> {
+    let word = match status {
+        Status::Busy => b"busy".as_slice(),
+        Status::TaskFull | Status::Good | Status::CheckCondition | Status::Conflict => b"full",
+    };
+    if most == 0 {
+        put(writer, b"the scenario has no line")?;
+        return put_spaced(writer, &[Word::Text(word), Word::Text(name)]);
+    }
+    put(writer, b"the scenario declares")?;
+    put_spaced(writer, &[Word::Text(word), Word::Text(name)])?;
+    put_most(writer, most)
+}
+
+fn put_resets<W: Write>(writer: &mut W, instead: &Instead) -> Result<(), WriteFault> {
+    match instead {
+        Instead::Resets(0) => put(writer, b"the scenario has no line resets"),
+        Instead::Resets(most) => {
+            put(writer, b"the scenario declares resets")?;
+            put_most(writer, *most)
+        }
+        Instead::Answer(_)
+        | Instead::Sending { .. }
+        | Instead::Nothing(_)
+        | Instead::NotModelled
+        | Instead::NotPermitted
+        | Instead::Refusals(_) => Ok(()),
+    }
+}
+
+fn put_most<W: Write>(writer: &mut W, most: u32) -> Result<(), WriteFault> {
+    put_spaced(writer, &[Word::Number(u64::from(most))])?;
+    put(writer, b", and no more")
+}
+
+fn put_ends<W: Write>(
+    writer: &mut W,
+    nexuses: &[Nexus],
+    ends: &[End],
+    counts: &[u32],
+) -> Result<(), WriteFault> {
+    for (nexus, (end, count)) in nexuses.iter().zip(ends.iter().zip(counts)) {
+        put_end(writer, nexus.name.as_str().as_bytes(), *end, *count)?;
+    }
+    Ok(())
+}

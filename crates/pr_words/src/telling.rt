@@ -1,0 +1,228 @@
+//! What is told of a history: beside each item, and in place of the first that isn't legal.
+
+ghost use Rattle.std.specs.Prelude.{◌≡◌, ◌<◌, [], true, length, IfOk};
+ghost use Rattle.pr_roles.specs.Scenarios.{scenario_of};
+ghost use Rattle.pr_world.specs.Auditors.{ActFor, world_at};
+ghost use Rattle.pr_words.specs.Tellings.{IsTold};
+
+use pr_cdb::{Command, Reply, Status, decode, encode};
+use pr_roles::{Entry, Item, Scenario, first_start, permits};
+use pr_unit::Unit;
+use pr_verify::nexus_in;
+use pr_world::{AuditError, Auditor, End, audit, counts_of};
+use std::alloc::{AllocError, Global};
+
+/// The most items of a history whose commands are counted: as many as a trace may have.
+const MOST_ITEMS: usize = 66_536;
+
+/// What stands beside an item.
+#[derive(Clone, Copy, Debug, PartialEq, Eq)]
+pub struct Note {
+    /// The line of the send that it is a command of.
+    pub line: Option<u32>,
+
+    /// It is a host's command that ended GOOD, which its role does not permit at that moment.
+    pub is_out_of_role: bool,
+}
+
+/// What would have been in place of an item that isn't legal.
+#[derive(Drop)]
+pub enum Instead {
+    /// The model would have answered so.
+    Answer(Reply),
+
+    /// The host's script would have sent this, from this line.
+    Sending { line: u32, command: Command },
+
+    /// The host sends nothing more.
+    Nothing(End),
+
+    /// The bytes are no command that the model knows.
+    NotModelled,
+
+    /// The guest's role does not permit that such a command ends GOOD.
+    NotPermitted,
+
+    /// Such a refusal comes so often at most.
+    Refusals(u32),
+
+    /// Resets come so often at most.
+    Resets(u32),
+}
+
+/// A history as it is told.
+#[derive(Drop)]
+pub struct Telling {
+    /// The place of the first item that isn't legal, counted from 1.
+    pub illegal: Option<usize>,
+
+    /// What stands beside each item in front of that.
+    pub notes: Vec<Note>,
+
+    /// What would have been in place of that.
+    pub instead: Option<Instead>,
+
+    /// The unit as it is in front of that, or at the end.
+    pub unit: Unit,
+
+    /// How each nexus stands there.
+    pub ends: Vec<End>,
+
+    /// How many commands of each reached the unit.
+    pub counts: Vec<u32>,
+}
+
+/// What is told of this history of the scenario, from its first start.
+pub fn telling_of(
+    alloc: Global,
+    scenario: &Scenario,
+    history: &[Item],
+) -> Result<Telling, AllocError>
+    ensures { IfOk result (λ telling. IsTold (scenario_of scenario.now) history.now telling.illegal) }
+{
+    let illegal = match audit(alloc, scenario, history) {
+        Ok(()) => None,
+        Err(AuditError::Illegal { place }) => Some(place),
+        Err(AuditError::Memory) => return Err(AllocError),
+    };
+    let mut auditor = Auditor::from_start(alloc, scenario, first_start(scenario))?;
+    let (notes, instead) = follow(alloc, &mut auditor, scenario, history)?;
+    let told = history.len().min(notes.len()).min(MOST_ITEMS);
+    let ends = ends_of(alloc, &auditor, scenario)?;
+    let counts = counts_of(alloc, &history[..told], scenario.parts().nexuses.len())?;
+    let unit = auditor.unit().copy();
+    Ok(Telling {
+        illegal,
+        notes,
+        instead,
+        unit,
+        ends,
+        counts,
+    })
+}
+
+// What stands beside each item that may come, and what would have been in place of the first that may not.
+fn follow(
+    alloc: Global,
+    auditor: &mut Auditor,
+    scenario: &Scenario,
+    history: &[Item],
+) -> Result<(Vec<Note>, Option<Instead>), AllocError>
+    requires { ActFor (scenario_of scenario.now) (world_at auditor.old []) }
+    ensures { ActFor (scenario_of scenario.now) (world_at auditor.new []) }
+{
+    let mut notes = Vec::new(alloc);
+    for (index, item) in history.iter().enumerate() {
+        let note = note_on(auditor, scenario, item);
+        if !auditor.admits(scenario, &history[..index], item) {
+            return Ok((notes, Some(instead_of(auditor, scenario, item))));
+        }
+        notes.push(note)?;
+    }
+    Ok((notes, None))
+}
+
+fn note_on(auditor: &Auditor, scenario: &Scenario, item: &Item) -> Note
+    requires { ActFor (scenario_of scenario.now) (world_at auditor.now []) }
+{
+    match item {
+        Item::Sent(entry) if is_declared(scenario, entry.host) => {
+            note_on_entry(auditor, scenario, entry)
+        }
+        Item::Sent(_) | Item::Reset => Note {
+            line: None,
+            is_out_of_role: false,
+        },
+    }
+}
+
+// Whether the scenario declares a nexus of this number.
+fn is_declared(scenario: &Scenario, host: u8) -> bool
+    ensures { result ≡ true → host < length (scenario_of scenario.now).nexuses }
+{
+    usize::from(host) < scenario.parts().nexuses.len()
+}
+
+fn note_on_entry(auditor: &Auditor, scenario: &Scenario, entry: &Entry) -> Note
+    requires acts { ActFor (scenario_of scenario.now) (world_at auditor.now []) }
+    requires there { entry.now.host < length (scenario_of scenario.now).nexuses }
+{
+    match auditor.next_command(entry.host) {
+        Some((line, command)) if entry.wire == encode(&command) => Note {
+            line: Some(line),
+            is_out_of_role: entry.reply.status == Status::Good
+                && !permits(
+                    &nexus_in(scenario, entry.host).role,
+                    auditor.unit(),
+                    entry.host,
+                    &command,
+                ),
+        },
+        Some(_) | None => Note {
+            line: None,
+            is_out_of_role: false,
+        },
+    }
+}
+
+// What would have been in place of the item.
+fn instead_of(auditor: &Auditor, scenario: &Scenario, item: &Item) -> Instead
+    requires { ActFor (scenario_of scenario.now) (world_at auditor.now []) }
+{
+    let entry = match item {
+        Item::Sent(entry) => entry,
+        Item::Reset => return Instead::Resets(scenario.parts().resets),
+    };
+    if !is_declared(scenario, entry.host) {
+        return Instead::NotModelled;
+    }
+    match auditor.end(entry.host, 0) {
+        End::Ready(_) => instead_of_sending(auditor, scenario, entry),
+        End::Left(_) => instead_of_reply(auditor, scenario, entry),
+        End::Stopped(word) => Instead::Nothing(End::Stopped(word)),
+        End::Trapped(line) => Instead::Nothing(End::Trapped(line)),
+    }
+}
+
+// The same of a host whose script goes on.
+fn instead_of_sending(auditor: &Auditor, scenario: &Scenario, entry: &Entry) -> Instead
+    requires acts { ActFor (scenario_of scenario.now) (world_at auditor.now []) }
+    requires there { entry.now.host < length (scenario_of scenario.now).nexuses }
+{
+    match auditor.next_command(entry.host) {
+        Some((line, command)) if entry.wire != encode(&command) => {
+            Instead::Sending { line, command }
+        }
+        Some(_) | None => instead_of_reply(auditor, scenario, entry),
+    }
+}
+
+// The same of what was answered.
+fn instead_of_reply(auditor: &Auditor, scenario: &Scenario, entry: &Entry) -> Instead
+    requires acts { ActFor (scenario_of scenario.now) (world_at auditor.now []) }
+    requires there { entry.now.host < length (scenario_of scenario.now).nexuses }
+{
+    let nexus = nexus_in(scenario, entry.host);
+    match entry.reply.status {
+        Status::Busy => return Instead::Refusals(nexus.busy),
+        Status::TaskFull => return Instead::Refusals(nexus.full),
+        Status::Good | Status::CheckCondition | Status::Conflict => {}
+    }
+    let mut unit = auditor.unit().copy();
+    match unit.execute(entry.host, &entry.wire) {
+        Ok(reply) if reply == entry.reply => Instead::NotPermitted,
+        Ok(reply) => Instead::Answer(reply),
+        Err(_) => Instead::NotModelled,
+    }
+}
+
+// How each nexus stands.
+fn ends_of(alloc: Global, auditor: &Auditor, scenario: &Scenario) -> Result<Vec<End>, AllocError>
+    requires { ActFor (scenario_of scenario.now) (world_at auditor.now []) }
+{
+    let mut ends = Vec::with_capacity(alloc, scenario.parts().nexuses.len())?;
+    for host in 0..auditor.unit().registry().hosts() {
+        ends.push(auditor.end(host, 0))?;
+    }
+    Ok(ends)
+}
