@@ -15,6 +15,7 @@ mod retracing;
 mod scripted;
 mod searcher;
 mod searching;
+mod seen;
 mod snapshot;
 mod starting;
 mod text;
