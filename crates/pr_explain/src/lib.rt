@@ -28,6 +28,6 @@ pub use covering::covers;
 pub use lint::Lint;
 pub use plan::Explanation;
 pub use planning::explanation;
-pub use senders::Sender;
+pub use senders::SentBy;
 pub use source::lines_of;
 pub use writing::write_explanation;

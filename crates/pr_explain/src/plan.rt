@@ -4,7 +4,7 @@ ghost use Rattle.std.specs.Prelude.{◌≡◌};
 
 use crate::costing::Cost;
 use crate::lint::Lint;
-use crate::senders::Sender;
+use crate::senders::SentBy;
 use pr_roles::Scenario;
 use pr_verify::{Refusal, Table, Verified};
 use pr_witness::Finding;
@@ -27,7 +27,7 @@ pub enum Explanation {
         tables: Vec<Table>,
         finding: Finding,
         /// Of each item of the run that was found, by what it was sent.
-        senders: Vec<Sender>,
+        senders: Vec<SentBy>,
     },
 }
 

@@ -9,7 +9,7 @@ ghost use Rattle.pr_explain.specs.Explanations.{Holds, is_refusal, scenario_in};
 use crate::costing::costs;
 use crate::linting::lints;
 use crate::plan::Explanation;
-use crate::senders::{Sender, senders};
+use crate::senders::{SentBy, senders};
 use pr_roles::Scenario;
 use pr_sets::{ViewSet, WordSet};
 use pr_verify::{Refusal, Verified, tables, verify};
@@ -74,7 +74,7 @@ fn senders_of(
     alloc: Global,
     scenario: &Scenario,
     finding: &Finding,
-) -> Result<Vec<Sender>, AllocError> {
+) -> Result<Vec<SentBy>, AllocError> {
     match finding {
         Finding::Found { breach, .. } => senders(alloc, scenario, &breach.history),
         Finding::Nothing { .. } => Ok(Vec::new(alloc)),

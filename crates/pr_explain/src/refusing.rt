@@ -6,7 +6,7 @@ use crate::lint_words::{index_of, put_numbered};
 use crate::possible::put_possible;
 use crate::running::put_finding;
 use crate::saying::{Part, name, number, say};
-use crate::senders::Sender;
+use crate::senders::SentBy;
 use crate::source::{first_word, line_of};
 use pr_cdb::Command;
 use pr_domain::Class;
@@ -25,7 +25,7 @@ pub(crate) fn put_refused<W: Write>(
     refusal: Refusal,
     tables: &[Table],
     finding: &Finding,
-    senders: &[Sender],
+    senders: &[SentBy],
 ) -> Result<(), WriteFault> {
     if refusal == Refusal::Memory {
         return Ok(());

@@ -2,7 +2,7 @@
 
 use crate::lint_words::put_numbered;
 use crate::saying::{Part, name, number, say};
-use crate::senders::Sender;
+use crate::senders::SentBy;
 use crate::source::line_of;
 use pr_attention::{Attention, Pending};
 use pr_report::{WriteFault, put};
@@ -20,7 +20,7 @@ pub(crate) fn put_finding<W: Write>(
     nexuses: &[Nexus],
     refusal: Refusal,
     finding: &Finding,
-    senders: &[Sender],
+    senders: &[SentBy],
 ) -> Result<(), WriteFault> {
     match finding {
         Finding::Found { breach, is_told } => {
@@ -118,14 +118,14 @@ fn put_run<W: Write>(
     lines: &[&[u8]],
     nexuses: &[Nexus],
     breach: &Breach,
-    senders: &[Sender],
+    senders: &[SentBy],
 ) -> Result<(), WriteFault> {
     put_unit(writer, nexuses, breach.start.registry())?;
     put_all_waiting(writer, nexuses, &breach.start)?;
     for (index, item) in breach.history.iter().enumerate() {
         let line = match senders.get(index) {
-            Some(Sender::Line(line)) => Some(*line),
-            Some(Sender::Clause(_) | Sender::Nothing) | None => None,
+            Some(SentBy::Line(line)) => Some(*line),
+            Some(SentBy::Clause(_) | SentBy::Nothing) | None => None,
         };
         put_item(
             writer,
@@ -210,10 +210,10 @@ fn put_permissions<W: Write>(
     lines: &[&[u8]],
     nexuses: &[Nexus],
     history: &[Item],
-    senders: &[Sender],
+    senders: &[SentBy],
 ) -> Result<(), WriteFault> {
     for (index, item) in history.iter().enumerate() {
-        let (Item::Sent(entry), Some(Sender::Clause(clause))) = (item, senders.get(index)) else {
+        let (Item::Sent(entry), Some(SentBy::Clause(clause))) = (item, senders.get(index)) else {
             continue;
         };
         let guest = name_of(nexuses, entry.host);

@@ -19,7 +19,7 @@ pub struct Block {
 
 /// What a line stands in.
 #[derive(Clone, Copy, PartialEq, Eq)]
-pub enum Place {
+pub enum Section {
     /// No line with words is above it.
     Top,
     Outside,
@@ -34,7 +34,7 @@ pub enum Place {
 /// Where the lines above one lead.
 #[derive(Drop)]
 pub struct Open {
-    pub place: Place,
+    pub place: Section,
     pub is_version_1: bool,
     blocks: ArrayVec<Block, 20>,
 }
@@ -43,7 +43,7 @@ impl Open {
     /// What is open above the line of this number.
     pub fn above(text: &[u8], number: u32) -> Self {
         let mut open = Open {
-            place: Place::Top,
+            place: Section::Top,
             is_version_1: false,
             blocks: ArrayVec::new(),
         };
@@ -65,27 +65,27 @@ impl Open {
             return;
         }
         match self.place {
-            Place::Top => {
+            Section::Top => {
                 self.is_version_1 = is(word_at(&words, 1), b"1");
-                self.place = Place::Outside;
+                self.place = Section::Outside;
             }
-            Place::Outside => self.go_past_outside(line, word_at(&words, 0)),
-            Place::Script(_) => self.go_past_statement(line, word_at(&words, 0)),
-            Place::Plan(_) => self.go_past_end(word_at(&words, 0)),
+            Section::Outside => self.go_past_outside(line, word_at(&words, 0)),
+            Section::Script(_) => self.go_past_statement(line, word_at(&words, 0)),
+            Section::Plan(_) => self.go_past_end(word_at(&words, 0)),
         }
     }
 
     fn go_past_outside(&mut self, line: u32, word: &[u8]) {
         match word {
-            b"script" => self.place = Place::Script(line),
-            b"plan" => self.place = Place::Plan(line),
+            b"script" => self.place = Section::Script(line),
+            b"plan" => self.place = Section::Plan(line),
             _ => {}
         }
     }
 
     fn go_past_end(&mut self, word: &[u8]) {
         if is(word, b"end") {
-            self.place = Place::Outside;
+            self.place = Section::Outside;
         }
     }
 
@@ -94,7 +94,7 @@ impl Open {
             b"done" => {
                 let _ = self.blocks.pop();
             }
-            b"end" => self.place = Place::Outside,
+            b"end" => self.place = Section::Outside,
             b"send" => self.begin(line, false),
             b"repeat" => self.begin(line, true),
             _ => self.mark(),

@@ -3,8 +3,8 @@
 use crate::forms::{COMMAND, FORMS, Form, Stands, form_of};
 use crate::misfit::{Misfit, first_misfit};
 use crate::nearest::{edits, nearest};
-use crate::open::{Block, Open, Place};
-use crate::saying::{Part, say};
+use crate::open::{Block, Open, Section};
+use crate::saying::{Said, say};
 use crate::slots::Slot;
 use crate::unknown::put_word_carets;
 use crate::words::{Placed, Words, is, word_at, words_in};
@@ -75,11 +75,11 @@ fn reason_of(open: &Open, words: &Words<'_>) -> Option<Reason> {
     let first = word_at(words, 0);
     let form = form_of(first);
     match open.place {
-        Place::Top if !is(first, b"fence") => Some(Reason::NotFirst),
-        Place::Top => None,
-        Place::Outside => reason_outside(open, form, words),
-        Place::Script(line) => reason_in_script(open, line, form, words),
-        Place::Plan(line) => match form {
+        Section::Top if !is(first, b"fence") => Some(Reason::NotFirst),
+        Section::Top => None,
+        Section::Outside => reason_outside(open, form, words),
+        Section::Script(line) => reason_in_script(open, line, form, words),
+        Section::Plan(line) => match form {
             Some(form) if form.stands != Stands::End && !is_command(first) => {
                 Some(Reason::InPlan(line))
             }
@@ -206,7 +206,7 @@ fn tell_reason<W: Write>(writer: &mut W, text: &[u8], reason: Reason) -> Result<
     put_source_line(writer, text, line)?;
     say(
         writer,
-        &[Part::Text(before), Part::Line(line), Part::Text(after)],
+        &[Said::Text(before), Said::Line(line), Said::Text(after)],
     )
 }
 
@@ -224,7 +224,7 @@ fn tell_form<W: Write>(
         None => &[],
     };
     match (open.place, form_of(first.text)) {
-        (Place::Plan(_), _) => tell_misfit(writer, number, line, &COMMAND, words.as_slice()),
+        (Section::Plan(_), _) => tell_misfit(writer, number, line, &COMMAND, words.as_slice()),
         (_, Some(form)) => tell_misfit(writer, number, line, form, behind),
         (_, None) => {
             put_word_carets(writer, number, line, first)?;
@@ -238,10 +238,10 @@ fn tell_no_line<W: Write>(writer: &mut W, word: &[u8]) -> Result<(), WriteFault>
         Some(form) => say(
             writer,
             &[
-                Part::Text(b"No line begins so. The nearest word is "),
-                Part::Text(form.word),
-                Part::Text(b": "),
-                Part::Text(form.text),
+                Said::Text(b"No line begins so. The nearest word is "),
+                Said::Text(form.word),
+                Said::Text(b": "),
+                Said::Text(form.text),
             ],
         ),
         None => put(writer, b"No line begins so.\n"),
@@ -281,15 +281,15 @@ fn tell_misfit<W: Write>(
         Some(Misfit::Missing(slot)) => say(
             writer,
             &[
-                Part::Text(b"A word is missing: "),
-                Part::Text(slot.wanted()),
+                Said::Text(b"A word is missing: "),
+                Said::Text(slot.wanted()),
             ],
         )?,
         None => {}
     }
     say(
         writer,
-        &[Part::Text(b"The form is: "), Part::Text(form.text)],
+        &[Said::Text(b"The form is: "), Said::Text(form.text)],
     )
 }
 
@@ -299,18 +299,18 @@ fn tell_wanted<W: Write>(writer: &mut W, word: &[u8], slot: Slot) -> Result<(), 
         (Some(near), _) => say(
             writer,
             &[
-                Part::Text(b"The nearest word is "),
-                Part::Text(near),
-                Part::Text(b"."),
+                Said::Text(b"The nearest word is "),
+                Said::Text(near),
+                Said::Text(b"."),
             ],
         ),
         (None, Slot::One(_)) => Ok(()),
         (None, _) => say(
             writer,
             &[
-                Part::Text(b"Wanted is "),
-                Part::Text(slot.wanted()),
-                Part::Text(b"."),
+                Said::Text(b"Wanted is "),
+                Said::Text(slot.wanted()),
+                Said::Text(b"."),
             ],
         ),
     }

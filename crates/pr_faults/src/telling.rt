@@ -2,8 +2,8 @@
 
 use crate::declared::line_of;
 use crate::limits::limit_words;
-use crate::open::{Open, Place};
-use crate::saying::{Part, say};
+use crate::open::{Open, Section};
+use crate::saying::{Said, say};
 use crate::standing::tell_syntax;
 use crate::unknown::{tell_repeated, tell_undeclared, tell_unknown};
 use pr_report::{WriteFault, put};
@@ -67,11 +67,11 @@ fn tell_too_long<W: Write>(writer: &mut W, text: &[u8], number: u32) -> Result<(
     say(
         writer,
         &[
-            Part::Text(b"Line "),
-            Part::Number(u64::from(number)),
-            Part::Text(b" has "),
-            Part::Number(line.len() as u64),
-            Part::Text(b" bytes, and a line has 256 at most, in comments too."),
+            Said::Text(b"Line "),
+            Said::Number(u64::from(number)),
+            Said::Text(b" has "),
+            Said::Number(line.len() as u64),
+            Said::Text(b" bytes, and a line has 256 at most, in comments too."),
         ],
     )
 }
@@ -88,24 +88,24 @@ fn tell_unclosed<W: Write>(writer: &mut W, text: &[u8], number: u32) -> Result<(
         say(
             writer,
             &[
-                Part::Text(what),
-                Part::Line(block.line),
-                Part::Text(b" has no done."),
+                Said::Text(what),
+                Said::Line(block.line),
+                Said::Text(b" has no done."),
             ],
         )?;
     }
     let (what, line): (&[u8], u32) = match open.place {
-        Place::Script(line) => (b"The script of ", line),
-        Place::Plan(line) => (b"The plan of ", line),
-        Place::Top | Place::Outside => return Ok(()),
+        Section::Script(line) => (b"The script of ", line),
+        Section::Plan(line) => (b"The plan of ", line),
+        Section::Top | Section::Outside => return Ok(()),
     };
     put_source_line(writer, text, line)?;
     say(
         writer,
         &[
-            Part::Text(what),
-            Part::Line(line),
-            Part::Text(b" has no end."),
+            Said::Text(what),
+            Said::Line(line),
+            Said::Text(b" has no end."),
         ],
     )
 }

@@ -1,7 +1,7 @@
 //! Names and keys that are not declared, and what is said again.
 
 use crate::declared::{declaration, is_declared, keys_line, line_of, nearest_key, nearest_name};
-use crate::saying::{Part, say};
+use crate::saying::{Said, say};
 use crate::slots::option_key;
 use crate::words::{Placed, Words, is, key_in, word_at, words_in};
 use pr_report::{WriteFault, put};
@@ -62,18 +62,18 @@ fn tell_undeclared_name<W: Write>(
     say(
         writer,
         &[
-            Part::Text(b"No line above declares "),
-            Part::Text(name),
-            Part::Text(b"."),
+            Said::Text(b"No line above declares "),
+            Said::Text(name),
+            Said::Text(b"."),
         ],
     )?;
     if let Some(line) = declaration(text, u32::MAX, name) {
         return say(
             writer,
             &[
-                Part::Text(b"It is declared further down, on "),
-                Part::Line(line),
-                Part::Text(b": a line that declares stands above those that use it."),
+                Said::Text(b"It is declared further down, on "),
+                Said::Line(line),
+                Said::Text(b": a line that declares stands above those that use it."),
             ],
         );
     }
@@ -81,11 +81,11 @@ fn tell_undeclared_name<W: Write>(
         Some(near) => say(
             writer,
             &[
-                Part::Text(b"The nearest name is "),
-                Part::Text(near.word),
-                Part::Text(b", of "),
-                Part::Line(near.line),
-                Part::Text(b"."),
+                Said::Text(b"The nearest name is "),
+                Said::Text(near.word),
+                Said::Text(b", of "),
+                Said::Line(near.line),
+                Said::Text(b"."),
             ],
         ),
         None => put(writer, b"Declare it by a line host NAME or guest NAME.\n"),
@@ -113,11 +113,11 @@ fn tell_wrong_kind<W: Write>(
     say(
         writer,
         &[
-            Part::Text(name),
-            Part::Text(b", of "),
-            Part::Line(declared),
-            Part::Text(b","),
-            Part::Text(kind),
+            Said::Text(name),
+            Said::Text(b", of "),
+            Said::Line(declared),
+            Said::Text(b","),
+            Said::Text(kind),
         ],
     )
 }
@@ -139,8 +139,8 @@ pub fn tell_undeclared<W: Write>(
         None => say(
             writer,
             &[
-                Part::Text(b"No line above declares keys; one would be: keys "),
-                Part::Text(key.text),
+                Said::Text(b"No line above declares keys; one would be: keys "),
+                Said::Text(key.text),
             ],
         ),
     }
@@ -157,20 +157,20 @@ fn tell_not_among<W: Write>(
     say(
         writer,
         &[
-            Part::Text(b"The keys of "),
-            Part::Line(declared),
-            Part::Text(b" are others than "),
-            Part::Text(key),
-            Part::Text(b"."),
+            Said::Text(b"The keys of "),
+            Said::Line(declared),
+            Said::Text(b" are others than "),
+            Said::Text(key),
+            Said::Text(b"."),
         ],
     )?;
     match nearest_key(text, number, key) {
         Some(near) => say(
             writer,
             &[
-                Part::Text(b"The nearest is "),
-                Part::Text(near),
-                Part::Text(b"."),
+                Said::Text(b"The nearest is "),
+                Said::Text(near),
+                Said::Text(b"."),
             ],
         ),
         None => put_source_line(writer, text, declared),
@@ -221,9 +221,9 @@ pub fn tell_repeated<W: Write>(writer: &mut W, text: &[u8], number: u32) -> Resu
         return say(
             writer,
             &[
-                Part::Text(b"Line "),
-                Part::Number(u64::from(earlier)),
-                Part::Text(
+                Said::Text(b"Line "),
+                Said::Number(u64::from(earlier)),
+                Said::Text(
                     b" says it already. Delete one of the two; alternatives stand on one line.",
                 ),
             ],
