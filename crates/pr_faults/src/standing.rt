@@ -16,39 +16,77 @@ use std::io::Write;
 /// Why a line may not stand where it stands.
 #[derive(Clone, Copy)]
 enum Reason {
-    /// No line with words is above it, and it is not that of the version.
-    NotFirst,
+    /// One sentence says it.
+    Said(&'static [u8]),
 
+    /// Another line makes it so, which stands between these words.
+    Line(&'static [u8], u32, &'static [u8]),
+}
+
+const NOT_FIRST: Reason = Reason::Said(b"The first line with words is fence 1 or fence 2.\n");
+
+const OUTSIDE: Reason = Reason::Said(
+    b"No script is open here: a statement stands between a line script NAME budget N and its end.\n",
+);
+
+const VERSION: Reason = Reason::Said(
+    b"This came with version 2: the text begins with fence 1, and would have to begin with fence 2.\n",
+);
+
+const NO_SEND: Reason = Reason::Said(b"No send is open here whose arm it could be.\n");
+
+const NOTHING_OPEN: Reason = Reason::Said(
+    b"No send and no repeat is open here that it could close.\n",
+);
+
+const NO_REPEAT: Reason = Reason::Said(b"No repeat is open here that it could leave.\n");
+
+const NO_SCRIPT: Reason = Reason::Said(
+    b"The host has no script: add one, script NAME budget N to end, or make it a guest.\n",
+);
+
+impl Reason {
     /// It stands in the plan of this line.
-    InPlan(u32),
+    fn in_plan(line: u32) -> Self {
+        Reason::Line(
+            b"The plan of ",
+            line,
+            b" is open: each of its lines is a command, and end closes it.",
+        )
+    }
 
     /// It stands in the script of this line.
-    InScript(u32),
-
-    /// It stands outside scripts.
-    Outside,
-
-    /// It is one of version 2.
-    Version,
+    fn in_script(line: u32) -> Self {
+        Reason::Line(b"The script of ", line, b" is open, and end closes it.")
+    }
 
     /// The send has no arm yet.
-    Armless(u32),
-
-    /// The block is open.
-    Unclosed(Block),
-
-    /// No send is open, or nothing is.
-    NoSend,
-    NothingOpen,
-
-    /// No repeat is open.
-    NoRepeat,
+    fn armless(line: u32) -> Self {
+        Reason::Line(
+            b"The send of ",
+            line,
+            b" has no arm yet: behind it stands on ARM, or done. What is done after any reply stands behind done.",
+        )
+    }
 
     /// It would be the first statement of the repeat.
-    FirstOfRepeat(u32),
+    fn first_of_repeat(line: u32) -> Self {
+        Reason::Line(
+            b"The first statement of the repeat of ",
+            line,
+            b" is a send or a repeat.",
+        )
+    }
 
-    /// A host that has no script.
-    NoScript,
+    /// The block is open.
+    fn unclosed(block: Block) -> Self {
+        let before: &[u8] = if block.is_repeat {
+            b"The repeat of "
+        } else {
+            b"The send of "
+        };
+        Reason::Line(before, block.line, b" is open, and done closes it first.")
+    }
 }
 
 /// Tells the line of this number, which has the form of none, or of one that may not stand there.
@@ -75,13 +113,13 @@ fn reason_of(open: &Open, words: &Words<'_>) -> Option<Reason> {
     let first = word_at(words, 0);
     let form = form_of(first);
     match open.place {
-        Place::Top if !is(first, b"fence") => Some(Reason::NotFirst),
+        Place::Top if !is(first, b"fence") => Some(NOT_FIRST),
         Place::Top => None,
         Place::Outside => reason_outside(open, form, words),
         Place::Script(line) => reason_in_script(open, line, form, words),
         Place::Plan(line) => match form {
             Some(form) if form.stands != Stands::End && !is_command(first) => {
-                Some(Reason::InPlan(line))
+                Some(Reason::in_plan(line))
             }
             Some(_) | None => None,
         },
@@ -95,12 +133,12 @@ fn is_command(word: &[u8]) -> bool {
 fn reason_outside(open: &Open, form: Option<&Form>, words: &Words<'_>) -> Option<Reason> {
     let form = form?;
     match form.stands {
-        Stands::InScript | Stands::End => Some(Reason::Outside),
+        Stands::InScript | Stands::End => Some(OUTSIDE),
         Stands::First => None,
-        Stands::Outside if open.is_version_1 && is_new(form.word) => Some(Reason::Version),
+        Stands::Outside if open.is_version_1 && is_new(form.word) => Some(VERSION),
         Stands::Outside
             if is(form.word, b"host") && words.len() == 2 && is_name(word_at(words, 1)) => {
-            Some(Reason::NoScript)
+            Some(NO_SCRIPT)
         }
         Stands::Outside => None,
     }
@@ -121,10 +159,10 @@ fn reason_in_script(
     let innermost = open.innermost();
     match form.stands {
         Stands::First | Stands::Outside => match innermost {
-            Some(block) => Some(Reason::Unclosed(block)),
-            None => Some(Reason::InScript(line)),
+            Some(block) => Some(Reason::unclosed(block)),
+            None => Some(Reason::in_script(line)),
         },
-        Stands::End => innermost.map(Reason::Unclosed),
+        Stands::End => innermost.map(Reason::unclosed),
         Stands::InScript => reason_in_block(open, innermost, form, words),
     }
 }
@@ -136,78 +174,33 @@ fn reason_in_block(
     words: &Words<'_>,
 ) -> Option<Reason> {
     match (innermost, form.word) {
-        (None, b"on") => Some(Reason::NoSend),
-        (None, b"done") => Some(Reason::NothingOpen),
-        (Some(block), b"on") if block.is_repeat => Some(Reason::Unclosed(block)),
-        (Some(_), b"on") if open.is_version_1 && is_new(word_at(words, 1)) => Some(Reason::Version),
+        (None, b"on") => Some(NO_SEND),
+        (None, b"done") => Some(NOTHING_OPEN),
+        (Some(block), b"on") if block.is_repeat => Some(Reason::unclosed(block)),
+        (Some(_), b"on") if open.is_version_1 && is_new(word_at(words, 1)) => Some(VERSION),
         (Some(_), b"on" | b"done") => None,
-        (Some(block), _) if !block.is_repeat && !block.is_begun => Some(Reason::Armless(
+        (Some(block), _) if !block.is_repeat && !block.is_begun => Some(Reason::armless(
             block.line,
         )),
         (Some(block), b"break" | b"stop") if block.is_repeat && !block.is_begun => {
-            Some(Reason::FirstOfRepeat(block.line))
+            Some(Reason::first_of_repeat(block.line))
         }
-        (_, b"break") if !open.is_in_repeat() => Some(Reason::NoRepeat),
+        (_, b"break") if !open.is_in_repeat() => Some(NO_REPEAT),
         (Some(_) | None, _) => None,
     }
 }
 
 fn tell_reason<W: Write>(writer: &mut W, text: &[u8], reason: Reason) -> Result<(), WriteFault> {
-    let (before, line, after): (&[u8], u32, &[u8]) = match reason {
-        Reason::NotFirst => return put(
-            writer,
-            b"The first line with words is fence 1 or fence 2.\n",
-        ),
-        Reason::Outside => return put(
-            writer,
-            b"No script is open here: a statement stands between a line script NAME budget N and its end.\n",
-        ),
-        Reason::Version => return put(
-            writer,
-            b"This came with version 2: the text begins with fence 1, and would have to begin with fence 2.\n",
-        ),
-        Reason::NoSend => return put(writer, b"No send is open here whose arm it could be.\n"),
-        Reason::NothingOpen => return put(
-            writer,
-            b"No send and no repeat is open here that it could close.\n",
-        ),
-        Reason::NoRepeat => return put(writer, b"No repeat is open here that it could leave.\n"),
-        Reason::NoScript => return put(
-            writer,
-            b"The host has no script: add one, script NAME budget N to end, or make it a guest.\n",
-        ),
-        Reason::InPlan(line) => (
-            b"The plan of ",
-            line,
-            b" is open: each of its lines is a command, and end closes it.",
-        ),
-        Reason::InScript(line) => (b"The script of ", line, b" is open, and end closes it."),
-        Reason::Armless(line) => (
-            b"The send of ",
-            line,
-            b" has no arm yet: behind it stands on ARM, or done. What is done after any reply stands behind done.",
-        ),
-        Reason::FirstOfRepeat(line) => (
-            b"The first statement of the repeat of ",
-            line,
-            b" is a send or a repeat.",
-        ),
-        Reason::Unclosed(block) if block.is_repeat => (
-            b"The repeat of ",
-            block.line,
-            b" is open, and done closes it first.",
-        ),
-        Reason::Unclosed(block) => (
-            b"The send of ",
-            block.line,
-            b" is open, and done closes it first.",
-        ),
-    };
-    put_source_line(writer, text, line)?;
-    say(
-        writer,
-        &[Part::Text(before), Part::Line(line), Part::Text(after)],
-    )
+    match reason {
+        Reason::Said(sentence) => put(writer, sentence),
+        Reason::Line(before, line, after) => {
+            put_source_line(writer, text, line)?;
+            say(
+                writer,
+                &[Part::Text(before), Part::Line(line), Part::Text(after)],
+            )
+        }
+    }
 }
 
 // The line's own form is not kept.
