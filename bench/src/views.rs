@@ -209,7 +209,9 @@ fn drawn_role(draw: &mut Draw) -> Vec<u8> {
         } else {
             0
         };
-        clauses.extend([action, draw.below(13) as u8, draw.one_of(&KINDS), condition]);
+        // (a key that is registered is not zero)
+        let key = if action == 0 { 1 + draw.below(12) } else { draw.below(13) };
+        clauses.extend([action, key as u8, draw.one_of(&KINDS), condition]);
     }
     clauses
 }
