@@ -10,6 +10,7 @@ pub mod Cuts
 pub mod PairBytes
 pub mod EntryLines
 pub mod LinesInFront
+pub mod FirstBytes
 pub mod FrontLines
 pub mod WholeTraces
 pub mod SolidWords

@@ -1,8 +1,7 @@
 -- Bytes that pairs of digits write.
-use Rattle.std.specs.Prelude.{◌≡◌, ◌==◌, ℕ, ◌<◌, ◌≤◌, nat_lt, nat_le, ◌&&◌, Bool, true, false, cond, if◌then◌else◌, List, [], ◌∷◌, ◌++◌, length, Option, Some, None, option_map, bytes_eq, codes}
+use Rattle.std.specs.Prelude.{◌≡◌, ℕ, ◌<◌, ◌≤◌, nat_lt, nat_le, ◌&&◌, true, false, cond, List, [], ◌∷◌, ◌++◌, length, Option, Some, None, option_map, bytes_eq, codes}
 use Rattle.std.proofs.lemmas.List.{take_rest}
-use Rattle.std.proofs.Common.{refl, sym, ap, ◌∙◌, ◌-◌, arith, inl, inr, take, drop, get_or, append_assoc, append-nil, length-append}
-use Rattle.std.proofs.lemmas.Bool.{cases_lt}
+use Rattle.std.proofs.Common.{refl, sym, ap, ◌∙◌, ◌-◌, arith, take, drop, get_or, append_assoc, append-nil, length-append}
 use Rattle.std.proofs.lemmas.Bool.Decides.{nat_tests}
 use Rattle.pr_report.specs.Chain.{◌>>=◌}
 use Rattle.pr_report.specs.EntryWords.{byte_in, pairs_in, bytes_in}
@@ -94,65 +93,3 @@ pub pairs_full : (most : ℕ) (word items rest : List ℕ) (b : ℕ) → bytes_e
     → 2 ≤ length rest → byte_in (get_or rest 0 0) (get_or rest 1 0) ≡ Some b → length items ≡ most → bytes_in most word ≡ None
 pairs_full most word items rest b dash inv h e full =
     bytes_over most word (items ++ b ∷ []) (pairs_in (drop 2 rest)) dash (inv.0 ∙ pair_more items rest b h e) (omega (arith, length-append items (b ∷ [])))
-
-pub is_full : (n most : ℕ) → (n == most) ≡ true → n ≡ most
-is_full n most h = grind (arith, nat_tests)
-
-pub is_open : (n most : ℕ) → n ≤ most → (n == most) ≡ false → n < most
-is_open n most h k = grind (arith, nat_tests)
-
--- ---- room for fewer
-
-too_long : (m n : ℕ) → m < n → (nat_lt m n ≡ true) × ((nat_le n m ≡ false) × (nat_lt 0 n ≡ true))
-too_long m n h = (grind (arith, nat_tests), (grind (arith, nat_tests), grind (arith, nat_tests)))
-
-fits_in : (m n : ℕ) → n ≤ m → (nat_lt m n ≡ false) × (nat_le n m ≡ true)
-fits_in m n h = (grind (arith, nat_tests), grind (arith, nat_tests))
-
--- the bytes, if there is room for so many
-abbrev few : ℕ → List ℕ → Option (List ℕ)
-few most bytes = if nat_lt most (length bytes) then None else Some bytes
-
-abbrev some_few : ℕ → List ℕ → Option (List ℕ)
-some_few most bytes = if nat_lt 0 (length bytes) && nat_le (length bytes) most then Some bytes else None
-
-by_length : (m n : ℕ) (bs : List ℕ) → m ≤ n → some_few m bs ≡ (some_few n bs >>= few m)
-by_length m n bs h = elim (cases_lt m (length bs)) [
-  | inl more ↦
-      let o = too_long m (length bs) more in
-      let none : (b : Bool) → ((if b then Some bs else None) >>= few m) ≡ None =
-      λ b. elim b as (λ b. ((if b then Some bs else None) >>= few m) ≡ None) [
-        | true ↦ rw o.0 refl
-        | false ↦ refl
-      ] in
-      rw (o.1.0, o.1.1) (sym (none (nat_le (length bs) n)))
-  | inr fits ↦
-      let w = fits_in m (length bs) fits in
-      let v = fits_in n (length bs) (omega arith) in
-      elim (nat_lt 0 (length bs)) as (λ b. (if b && nat_le (length bs) m then Some bs else None) ≡ ((if b && nat_le (length bs) n then Some bs else None) >>= few m)) [
-        | true ↦ rw (w.1, v.1, w.0) refl
-        | false ↦ refl
-      ]
-]
-
--- what a word writes where there is room for fewer bytes
-pub fewer_bytes : (m n : ℕ) (word : List ℕ) → m ≤ n → bytes_in m word ≡ (bytes_in n word >>= few m)
-unfolding bytes_in
-fewer_bytes m n word h = elim (bytes_eq word (codes "-"))
-    as (λ b. (if b then Some [] else (pairs_in word >>= some_few m)) ≡ ((if b then Some [] else (pairs_in word >>= some_few n)) >>= few m)) [
-      | true ↦ rw (fits_in m 0 (omega arith)).0 refl
-      | false ↦ elim (pairs_in word) as (λ o. (o >>= some_few m) ≡ ((o >>= some_few n) >>= few m)) [
-        | None ↦ refl
-        | Some bs ↦ by_length m n bs h
-      ]
-    ]
-
-module _ (m n : ℕ) (word : List ℕ) (h : m ≤ n) where
-  pub none_read : None ≡ bytes_in n word → None ≡ bytes_in m word
-  none_read is = sym (fewer_bytes m n word h ∙ ap (λ o. o >>= few m) (sym is))
-
-  pub too_many_read : (bytes : List ℕ) → Some bytes ≡ bytes_in n word → m < length bytes → None ≡ bytes_in m word
-  too_many_read bytes is more = sym (fewer_bytes m n word h ∙ (ap (λ o. o >>= few m) (sym is) ∙ ap (λ b. if b then None else Some bytes) (too_long m (length bytes) more).0))
-
-  pub few_read : (bytes : List ℕ) → Some bytes ≡ bytes_in n word → length bytes ≤ m → Some bytes ≡ bytes_in m word
-  few_read bytes is fits = sym (fewer_bytes m n word h ∙ (ap (λ o. o >>= few m) (sym is) ∙ ap (λ b. if b then None else Some bytes) (fits_in m (length bytes) fits).0))

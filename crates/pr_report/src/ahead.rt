@@ -5,6 +5,7 @@ ghost use Rattle.pr_report.specs.declared.ahead.TheConstants.{MOST_HELD};
 
 use crate::trace_error::TraceError;
 use arrayvec::ArrayVec;
+use memchr::memchr;
 use std::io::Read;
 
 /// How many bytes a line of a trace may have, without its end.
@@ -120,5 +121,5 @@ impl Ahead {
 fn line_feed_in(bytes: &[u8]) -> Option<usize>
     ensures { result ≡ position (λ b. b == 10) bytes.now }
 {
-    bytes.iter().position(|byte| *byte == b'\n')
+    memchr(b'\n', bytes)
 }

@@ -1,14 +1,14 @@
 //! The entry that a line of a trace says.
 
-ghost use Rattle.std.specs.Prelude.{◌≡◌, ◌==◌, ◌∷◌, ◌++◌, ◌≤◌, ◌<◌, [], codes, false, length, map, option_map, position, bytes_eq, MatchOption, IfSome};
+ghost use Rattle.std.specs.Prelude.{◌≡◌, ◌==◌, ◌∷◌, ◌++◌, ◌≤◌, ◌<◌, [], Some, None, Ok, codes, false, length, map, position, bytes_eq, MatchOption, IfSome};
 ghost use Rattle.pr_cdb.specs.declared.codes.TheConstants.{MOST_NEXUSES};
 ghost use Rattle.pr_report.specs.TraceText.{names_of};
 ghost use Rattle.std.specs.Fmt.{decimal};
 ghost use Rattle.pr_report.specs.declared.versions.TheConstants.{MOST_ITEMS_2};
-ghost use Rattle.pr_report.specs.Versions.{most_data};
+ghost use Rattle.pr_cdb.specs.Spelling.{wire_of};
 ghost use Rattle.pr_report.specs.EntryWords.{byte_in, bytes_in, exchange_in, reply_in, sense_of, sense_under, no_sense_in, wire_in, worth};
-ghost use Rattle.pr_report.specs.TraceReadings.{entry_on, item_on, is_reset_on, number_of, words};
-ghost use Rattle.pr_report.specs.inside.SevenWords.{list_of_words, words_left};
+ghost use Rattle.pr_report.specs.TraceReadings.{and_then, entry_on, item_on, is_reset_on, number_of, words};
+ghost use Rattle.pr_report.specs.inside.SevenWords.{list_of_words, sense_said, words_left};
 
 use crate::ahead::MOST_LINE_BYTES;
 use crate::status::status_in;
@@ -16,7 +16,7 @@ use crate::trace_error::TraceError;
 use crate::versions::{has_resets, most_data, most_items};
 use arrayvec::ArrayVec;
 use itoa::Buffer;
-use pr_cdb::codes::{FIXED_SENSE_LENGTH, MOST_DATA_LENGTH};
+use pr_cdb::codes::{FIXED_SENSE_LENGTH, MOST_CDB_LENGTH, PARAMETER_LIST_LENGTH};
 use pr_cdb::{Reply, Sense, Status, Wire, decode_sense, encode_sense};
 use pr_roles::Nexus;
 use pr_script::is_name;
@@ -54,8 +54,7 @@ pub(crate) fn item_on(
     if is_reset_on(version, index, line) {
         return Ok(Item::Reset);
     }
-    let entry = entry_on(version, nexuses, index, line)?;
-    Ok(Item::Sent(entry))
+    sent_on(version, nexuses, index, line)
 }
 
 // Whether the line says that the unit was reset, in a version that has resets.
@@ -75,22 +74,31 @@ fn is_reset_line(index: u32, line: &[u8]) -> bool
     }
 }
 
-// The entry that the line says.
+// The item of a command that the line says.
 #[tactic(auto, unfolding(crate::specs::TraceReadings::entry_on))]
-fn entry_on(version: u8, nexuses: &[Nexus], index: u32, line: &[u8]) -> Result<Entry, TraceError>
+fn sent_on(version: u8, nexuses: &[Nexus], index: u32, line: &[u8]) -> Result<Item, TraceError>
     requires few { length nexuses.now ≤ MOST_NEXUSES }
     requires index { index ≤ MOST_ITEMS_2 }
-    ensures { result ≡ entry_on version (names_of nexuses.now) index line.now }
+    ensures { result ≡ and_then (entry_on version (names_of nexuses.now) index line.now) (λ e. Ok (Item.Sent e)) }
 {
     let number = index + 1;
     let Some(words) = seven_words(line) else {
         return Err(TraceError::Syntax { line: number });
     };
-    let Some((wire, reply)) = exchange_in(version, index, &words) else {
-        return Err(TraceError::Syntax { line: number });
+    let mut wire = Wire {
+        cdb: ArrayVec::new(),
+        params: ArrayVec::new(),
     };
+    let mut reply = Reply {
+        status: Status::Good,
+        sense: None,
+        bytes: ArrayVec::new(),
+    };
+    if exchange_into(version, index, &words, &mut wire, &mut reply).is_none() {
+        return Err(TraceError::Syntax { line: number });
+    }
     match number_of(nexuses, words.name) {
-        Some(host) => Ok(Entry { host, wire, reply }),
+        Some(host) => Ok(Item::Sent(Entry { host, wire, reply })),
         None => Err(TraceError::UnknownName { line: number }),
     }
 }
@@ -137,10 +145,20 @@ fn space_in(line: &[u8]) -> Option<usize>
     line.iter().position(|byte| *byte == b' ')
 }
 
-// The command and its answer, where the words have the form of an entry's with this index.
+// Reads the command and its answer, where the words have the form of an entry's with this index. It reads into what the
+// caller has, which is empty yet: a reply has room for 136 bytes, and each function that handed it on would copy them.
 #[tactic(auto, unfolding(crate::specs::EntryWords::exchange_in))]
-fn exchange_in(version: u8, index: u32, words: &EntryWords<'_>) -> Option<(Wire, Reply)>
-    ensures { result ≡ exchange_in version index (list_of_words words.now) }
+fn exchange_into(
+    version: u8,
+    index: u32,
+    words: &EntryWords<'_>,
+    wire: &mut Wire,
+    reply: &mut Reply,
+) -> Option<()>
+    requires no_wire { wire.old ≡ wire_of [] [] }
+    requires no_data { reply.old.bytes.items ≡ [] }
+    ensures { MatchOption result (exchange_in version index (list_of_words words.now) ≡ None)
+        (λ _. exchange_in version index (list_of_words words.now) ≡ Some (wire.new, reply.new)) }
 {
     if words.index != Buffer::new().format(index).as_bytes() {
         return None;
@@ -148,45 +166,42 @@ fn exchange_in(version: u8, index: u32, words: &EntryWords<'_>) -> Option<(Wire,
     if !is_name(words.name) {
         return None;
     }
-    let wire = wire_in(words.cdb, words.params)?;
-    let reply = reply_in(version, words.status, words.sense, words.bytes)?;
-    Some((wire, reply))
+    wire_into(words.cdb, words.params, wire)?;
+    reply_into(version, words.status, words.sense, words.bytes, reply)
 }
 
-fn wire_in(cdb: &[u8], params: &[u8]) -> Option<Wire>
-    ensures { result ≡ wire_in cdb.now params.now }
+fn wire_into(cdb: &[u8], params: &[u8], wire: &mut Wire) -> Option<()>
+    requires { wire.old ≡ wire_of [] [] }
+    ensures { MatchOption result (wire_in cdb.now params.now ≡ None) (λ _. wire_in cdb.now params.now ≡ Some wire.new) }
 {
-    let cdb = bytes_in(cdb)?;
-    let params = bytes_in(params)?;
-    if cdb.is_empty() {
-        return None;
-    }
-    Some(Wire { cdb, params })
+    bytes_into(MOST_CDB_LENGTH, cdb, &mut wire.cdb)?;
+    bytes_into(PARAMETER_LIST_LENGTH, params, &mut wire.params)?;
+    if wire.cdb.is_empty() { None } else { Some(()) }
 }
 
-fn reply_in(version: u8, status: &[u8], sense: &[u8], bytes: &[u8]) -> Option<Reply>
-    ensures { result ≡ reply_in version status.now sense.now bytes.now }
+fn reply_into(
+    version: u8,
+    status: &[u8],
+    sense: &[u8],
+    bytes: &[u8],
+    reply: &mut Reply,
+) -> Option<()>
+    requires { reply.old.bytes.items ≡ [] }
+    ensures { MatchOption result (reply_in version status.now sense.now bytes.now ≡ None)
+        (λ _. reply_in version status.now sense.now bytes.now ≡ Some reply.new) }
 {
-    let status = status_in(version, status)?;
-    let sense = bytes_in::<FIXED_SENSE_LENGTH>(sense)?;
-    let sense = sense_under(status, sense.as_slice())?;
-    let bytes = data_in(version, bytes)?;
-    Some(Reply {
-        status,
-        sense,
-        bytes,
-    })
+    reply.status = status_in(version, status)?;
+    reply.sense = sense_said(reply.status, sense)?;
+    bytes_into(most_data(version), bytes, &mut reply.bytes)
 }
 
-// The data of a reply, no more than this version has.
-fn data_in(version: u8, word: &[u8]) -> Option<ArrayVec<u8, MOST_DATA_LENGTH>>
-    ensures { option_map (λ bytes. bytes.items) result ≡ bytes_in (most_data version) word.now }
+// The sense that the word says under this status.
+fn sense_said(status: Status, word: &[u8]) -> Option<Option<Sense>>
+    ensures { result ≡ sense_said status word.now }
 {
-    let bytes = bytes_in::<MOST_DATA_LENGTH>(word)?;
-    if bytes.len() > most_data(version) {
-        return None;
-    }
-    Some(bytes)
+    let mut bytes = ArrayVec::<u8, FIXED_SENSE_LENGTH>::new();
+    bytes_into(FIXED_SENSE_LENGTH, word, &mut bytes)?;
+    sense_under(status, bytes.as_slice())
 }
 
 // With CHECK CONDITION a sense is there, and with no other status.
@@ -217,19 +232,20 @@ fn sense_of(bytes: &[u8]) -> Option<Sense>
     }
 }
 
-// The bytes that the word writes, at most as many as there is room for.
+// Reads the bytes that the word writes, so many at most.
 #[tactic(auto, unfolding(crate::specs::EntryWords::bytes_in))]
-fn bytes_in<const N: usize>(word: &[u8]) -> Option<ArrayVec<u8, N>>
-    ensures { option_map (λ bytes. bytes.items) result ≡ bytes_in N word.now }
+fn bytes_into<const N: usize>(most: usize, word: &[u8], bytes: &mut ArrayVec<u8, N>) -> Option<()>
+    requires room { most ≤ N }
+    requires empty { bytes.old.items ≡ [] }
+    ensures { MatchOption result (bytes_in most word.now ≡ None) (λ _. bytes_in most word.now ≡ Some bytes.new.items) }
 {
-    let mut bytes = ArrayVec::new();
     if is_dash(word) {
-        return Some(bytes);
+        return Some(());
     }
     let mut rest = word;
     while rest.len() >= 2 {
         let byte = byte_in(rest[0], rest[1])?;
-        if bytes.is_full() {
+        if bytes.len() == most {
             return None;
         }
         bytes.push(byte);
@@ -238,7 +254,7 @@ fn bytes_in<const N: usize>(word: &[u8]) -> Option<ArrayVec<u8, N>>
     if bytes.is_empty() || !rest.is_empty() {
         return None;
     }
-    Some(bytes)
+    Some(())
 }
 
 fn is_dash(word: &[u8]) -> bool

@@ -14,6 +14,7 @@ use crate::ahead::{Ahead, MOST_LINE_BYTES};
 use crate::entry_reading::item_on;
 use crate::first_line::is_first;
 use crate::trace_error::TraceError;
+use crate::versions::most_items;
 use pr_roles::{Nexus, Scenario};
 use pr_world::Item;
 use std::alloc::Global;
@@ -78,7 +79,8 @@ fn read_items<R: Read>(
     ensures few { IfOk result (λ history. length history.items ≤ most_items version) }
     ensures fault { IfSome (bytes_left ahead.old (R.remaining reader.old)) (λ text. IfErr result (λ e. Faults e (items_of version (names_of nexuses.now) 0 (lines text)))) }
 {
-    let mut history = Vec::new(alloc);
+    // With room for all that may come nothing is copied as it grows; room that nothing is written into takes no memory.
+    let mut history = Vec::with_capacity(alloc, most_items(version) as usize)?;
     while let Some(end) = ahead.next_line(reader)? {
         let line = &ahead.as_slice()[..end];
         if is_later(line) {
@@ -118,7 +120,10 @@ fn read_later<R: Read>(items: u32, ahead: &mut Ahead, reader: &mut R) -> Result<
 fn is_later(line: &[u8]) -> bool
     ensures { result ≡ is_later line.now }
 {
-    line.starts_with("unit".as_bytes())
-        || line.starts_with("host".as_bytes())
-        || line.starts_with("guest".as_bytes())
+    match line.first() {
+        Some(b'u') => line.starts_with("unit".as_bytes()),
+        Some(b'h') => line.starts_with("host".as_bytes()),
+        Some(b'g') => line.starts_with("guest".as_bytes()),
+        _ => false,
+    }
 }

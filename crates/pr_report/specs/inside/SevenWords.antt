@@ -2,6 +2,11 @@
 use Rattle.std.specs.Prelude.{ℕ, List, [], ◌∷◌, Option, Some, None}
 use Rattle.std.specs.Borrow.{Bor}
 use Rattle.pr_report.specs.declared.entry_reading.EntryWords.{EntryWords}
+use Rattle.pr_cdb.specs.declared.codes.TheConstants.{FIXED_SENSE_LENGTH}
+use Rattle.pr_cdb.specs.declared.reply.Sense.{Sense}
+use Rattle.pr_cdb.specs.declared.reply.Status.{Status}
+use Rattle.pr_report.specs.Chain.{◌>>=◌}
+use Rattle.pr_report.specs.EntryWords.{bytes_in, sense_under}
 use Rattle.pr_report.specs.TraceReadings.{words}
 
 -- the words that are left, where there may be no more
@@ -12,3 +17,7 @@ words_left (Some rest) = words rest.now
 -- in their order
 abbrev pub list_of_words : EntryWords → List (List ℕ)
 list_of_words w = w.index.now ∷ w.name.now ∷ w.cdb.now ∷ w.params.now ∷ w.status.now ∷ w.sense.now ∷ w.bytes.now ∷ []
+
+-- the sense that the word says under this status
+abbrev pub sense_said : Status → List ℕ → Option (Option Sense)
+sense_said status word = bytes_in FIXED_SENSE_LENGTH word >>= sense_under status

@@ -52,7 +52,7 @@ pub returns-clause-taken : goal.returns-clause-taken
 returns-clause-taken g c = takes_both (bytes_of_lines (most_items c.args.version)) c.loop-history.invariant.2 c.in_ok-end.ensures.taken (omega arith)
 
 pub returns-clause-ok : goal.returns-clause-ok
-returns-clause-ok g c = elim c.match-branch-2.branch [
+returns-clause-ok g c = elim c.match-branch-3.branch [
   | in-Some+then-is_later w ↦
       entries_stop c.args.version (names_of c.args.nexuses.now) c.loop-history.history.items c.loop-history.invariant.0 (rw w.in-Some.is at c.in_ok-end.ensures.found) (rw w.as_slice.ensures at (sym w.is_later.ensures ∙ w.if-is_later.true))
   | in_default w ↦ entries_end c.args.version (names_of c.args.nexuses.now) c.loop-history.history.items c.loop-history.invariant.0 (rw w.in_default.is at c.in_ok-end.ensures.found)

@@ -1,8 +1,0 @@
-use Rattle.std.proofs.Common.{sym}
-use Rattle.pr_report.specs.TraceText.{names_of}
-use Rattle.pr_report.proofs.EntryLines.{not_seven}
-use Rattle.pr_report.proofs.entry_reading.entry_on.Goals as goal
-
-pub returns-in_default : goal.returns-in_default
-returns-in_default c =
-    sym (not_seven c.args.version (names_of c.args.nexuses.now) c.args.index c.args.line.now c.in_default.ensures)
