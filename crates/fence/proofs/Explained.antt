@@ -1,6 +1,6 @@
--- What is told of texts and traces, where it is known what the readers have.
+-- What is told of texts, where it is known what the readers have.
 use Rattle.std.proofs.Common.{◌≡◌, ℕ, Bool, List, Option, Some, None, refl}
-use Rattle.std.specs.Prelude.{◌↔◌, false, IfSome, Ok, is_some}
+use Rattle.std.specs.Prelude.{◌↔◌, false, IfSome, Ok}
 use Rattle.pr_sets.specs.Numbers.{Numbers}
 use Rattle.pr_sets.specs.declared.word_set.WordSet.{WordSet}
 use Rattle.pr_roles.specs.declared.parts.Parts.{Parts}
@@ -13,23 +13,7 @@ use Rattle.pr_report.specs.declared.verdict.Verdict.TheVariants as verdict
 use Rattle.pr_explain.specs.declared.plan.Explanation.{Explanation}
 use Rattle.pr_explain.specs.declared.plan.Explanation.TheVariants.{Accepted, Refused}
 use Rattle.pr_explain.specs.Explanations.{Holds, is_refusal}
-use Rattle.fence.specs.declared.traced.Traced.{Traced}
-use Rattle.fence.specs.Explanations.{EndsTold, EndsTraceTold}
-use Rattle.fence.specs.inside.Traced.{IsOf}
-
-pub told_trace : (known traced : Option (List ℕ)) (t : Traced) (is_illegal : Bool) → IfSome known (λ text. IfSome traced (λ trace. IsOf text trace t))
-    → is_illegal ≡ is_some t.telling.illegal → EndsTraceTold known traced (Ok is_illegal)
-told_trace None traced t is_illegal is answers = tt
-told_trace (Some text) None t is_illegal is answers = tt
-told_trace (Some text) (Some trace) t is_illegal is answers = record {
-  scenario = scenario_of t.scenario;
-  read = is.read;
-  history = t.history.items;
-  traced = is.traced;
-  illegal = t.telling.illegal;
-  told = is.told;
-  answers = answers;
-}
+use Rattle.fence.specs.Explanations.{EndsTold}
 
 -- the verdict that a plan of what is said tells
 pub told_plan : (known : Option (List ℕ)) (members : WordSet → Numbers) (p : Parts) (e : Explanation) (refused : Bool) → IfSome known (λ text. IsWrittenAs text (scenario_of p))

@@ -1,7 +1,7 @@
 -- Bytes that pairs of digits write.
-use Rattle.std.specs.Prelude.{◌≡◌, ℕ, ◌<◌, ◌≤◌, nat_lt, nat_le, ◌&&◌, true, false, cond, List, [], ◌∷◌, ◌++◌, length, Option, Some, None, option_map, bytes_eq, codes}
-use Rattle.std.proofs.lemmas.List.{take_rest}
-use Rattle.std.proofs.Common.{refl, sym, ap, ◌∙◌, ◌-◌, arith, take, drop, get_or, append_assoc, append-nil, length-append}
+use Rattle.std.specs.Prelude.{◌≡◌, ◌==◌, ℕ, zero, suc, ◌+◌, ◌*◌, ◌/◌, ◌<◌, ◌≤◌, nat_lt, nat_le, ◌&&◌, true, false, cond, List, [], ◌∷◌, ◌++◌, length, Option, Some, None, option_map, bytes_eq, codes}
+use Rattle.std.specs.Simd.{first_chunks}
+use Rattle.std.proofs.Common.{refl, sym, ap, ◌∙◌, arith, ◌⊎◌, inl, inr, take, drop, drop-drop, get_or, append_assoc, length-drop}
 use Rattle.std.proofs.lemmas.Bool.Decides.{nat_tests}
 use Rattle.pr_report.specs.Chain.{◌>>=◌}
 use Rattle.pr_report.specs.EntryWords.{byte_in, pairs_in, bytes_in}
@@ -31,16 +31,6 @@ pair_more items rest b h e = ap (onto items) (first_pair rest h) ∙ rw e (onto_
 pub pair_bad : (items rest : List ℕ) → 2 ≤ length rest → byte_in (get_or rest 0 0) (get_or rest 1 0) ≡ None → onto items (pairs_in rest) ≡ None
 pair_bad items rest h e = ap (onto items) (first_pair rest h) ∙ rw e refl
 
--- a single digit is left, or nothing
-pub half_pair : (items rest : List ℕ) → length rest < 2 → 0 < length rest → onto items (pairs_in rest) ≡ None
-half_pair items [] h k = absurd (omega arith)
-half_pair items (d ∷ []) h k = refl
-half_pair items (x ∷ y ∷ ds) h k = absurd (omega arith)
-
-pub no_pair : (items rest : List ℕ) → length rest ≡ 0 → onto items (pairs_in rest) ≡ Some items
-no_pair items [] h = ap (λ l. Some l) (append-nil items)
-no_pair items (d ∷ ds) h = absurd (omega arith)
-
 -- ---- how many
 
 abbrev counted : ℕ → List ℕ → Option (List ℕ)
@@ -69,27 +59,78 @@ counted_many most bytes h = grind (arith, nat_tests)
 pub bytes_all : (most : ℕ) (word bytes : List ℕ) → bytes_eq word (codes "-") ≡ false → pairs_in word ≡ Some bytes → 0 < length bytes → length bytes ≤ most → bytes_in most word ≡ Some bytes
 bytes_all most word bytes h e k m = bytes_pairs most word (Some bytes) h e ∙ counted_all most bytes k m
 
-pub bytes_empty : (most : ℕ) (word bytes : List ℕ) → bytes_eq word (codes "-") ≡ false → pairs_in word ≡ Some bytes → length bytes ≡ 0 → bytes_in most word ≡ None
-bytes_empty most word bytes h e k = bytes_pairs most word (Some bytes) h e ∙ counted_empty most bytes k
+-- ---- the word in twos
 
-over : (most : ℕ) (items : List ℕ) (o : Option (List ℕ)) → most < length items → (onto items o >>= counted most) ≡ None
-over most items None h = refl
-over most items (Some others) h = counted_many most (items ++ others) (omega (arith, length-append items others))
+twice : (i : ℕ) → (2 + 2 * i ≡ 2 * suc i) × (2 * i + 2 ≡ 2 * (i + 1))
+twice i = (omega arith, omega arith)
 
-pub bytes_over : (most : ℕ) (word items : List ℕ) (o : Option (List ℕ)) → bytes_eq word (codes "-") ≡ false → pairs_in word ≡ onto items o → most < length items → bytes_in most word ≡ None
-bytes_over most word items o h e k = bytes_pairs most word (onto items o) h e ∙ over most items o k
+-- the pair at this place
+pair_at : (n i : ℕ) (xs : List ℕ) → i < n → 2 * n ≤ length xs → get_or (first_chunks 2 n xs) i [] ≡ take 2 (drop (2 * i) xs)
+pair_at zero i xs h k = absurd (omega arith)
+pair_at (suc n) zero xs h k = refl
+pair_at (suc n) (suc i) (x ∷ y ∷ xs) h k =
+    pair_at n i xs (omega arith) (omega arith) ∙ ap (take 2) (drop-drop (2 * i) 2 (x ∷ y ∷ xs) ∙ ap (λ m. drop m (x ∷ y ∷ xs)) (twice i).0)
+pair_at (suc n) (suc i) [] h k = absurd (omega arith)
+pair_at (suc n) (suc i) (x ∷ []) h k = absurd (omega arith)
 
--- one pair more, as the loop goes on
-pub pairs_preserved : (most : ℕ) (word items next rest : List ℕ) (b : ℕ) → (pairs_in word ≡ onto items (pairs_in rest)) × (length items ≤ most)
-    → 2 ≤ length rest → byte_in (get_or rest 0 0) (get_or rest 1 0) ≡ Some b → length items < most → next ≡ items ++ b ∷ []
-    → (pairs_in word ≡ onto next (pairs_in (take (length rest - 2) (drop 2 rest)))) × (length next ≤ most)
-pairs_preserved most word items next rest b inv h e room is = (
-  inv.0 ∙ pair_more items rest b h e ∙ ap (λ l. onto l (pairs_in (drop 2 rest))) (sym is) ∙ ap (λ l. onto next (pairs_in l)) (sym (take_rest rest 2)),
-  omega (arith, ap length is, length-append items (b ∷ [])),
-)
+digits_of : (xs : List ℕ) → 2 ≤ length xs → (get_or (take 2 xs) 0 0 ≡ get_or xs 0 0) × (get_or (take 2 xs) 1 0 ≡ get_or xs 1 0)
+digits_of [] h = absurd (omega arith)
+digits_of (x ∷ []) h = absurd (omega arith)
+digits_of (x ∷ y ∷ xs) h = (refl, refl)
 
--- one pair more than there is room for
-pub pairs_full : (most : ℕ) (word items rest : List ℕ) (b : ℕ) → bytes_eq word (codes "-") ≡ false → (pairs_in word ≡ onto items (pairs_in rest)) × (length items ≤ most)
-    → 2 ≤ length rest → byte_in (get_or rest 0 0) (get_or rest 1 0) ≡ Some b → length items ≡ most → bytes_in most word ≡ None
-pairs_full most word items rest b dash inv h e full =
-    bytes_over most word (items ++ b ∷ []) (pairs_in (drop 2 rest)) dash (inv.0 ∙ pair_more items rest b h e) (omega (arith, length-append items (b ∷ [])))
+module _ (word items : List ℕ) (pairs : List (List ℕ)) (i : ℕ) (cut : pairs ≡ first_chunks 2 (length word / 2) word) (before : i < length word / 2) where
+  there : 2 ≤ length (drop (2 * i) word)
+  there = omega (arith, length-drop (2 * i) word)
+
+  pair_is : get_or pairs i [] ≡ take 2 (drop (2 * i) word)
+  pair_is = ap (λ ps. get_or ps i []) cut ∙ pair_at (length word / 2) i word before (omega arith)
+
+  byte_is : byte_in (get_or (get_or pairs i []) 0 0) (get_or (get_or pairs i []) 1 0) ≡ byte_in (get_or (drop (2 * i) word) 0 0) (get_or (drop (2 * i) word) 1 0)
+  byte_is = let digits = digits_of (drop (2 * i) word) there in rw (pair_is, digits.0, digits.1) refl
+
+  pub next_pair : (b : ℕ) (next : List ℕ) → pairs_in word ≡ onto items (pairs_in (drop (2 * i) word)) → byte_in (get_or (get_or pairs i []) 0 0) (get_or (get_or pairs i []) 1 0) ≡ Some b
+      → next ≡ items ++ b ∷ [] → pairs_in word ≡ onto next (pairs_in (drop (2 * (i + 1)) word))
+  next_pair b next so_far is more =
+      so_far ∙ pair_more items (drop (2 * i) word) b there (sym byte_is ∙ is) ∙ rw (sym more, drop-drop 2 (2 * i) word, (twice i).1) refl
+
+  pub no_pair_there : pairs_in word ≡ onto items (pairs_in (drop (2 * i) word)) → byte_in (get_or (get_or pairs i []) 0 0) (get_or (get_or pairs i []) 1 0) ≡ None → pairs_in word ≡ None
+  no_pair_there so_far is = so_far ∙ pair_bad items (drop (2 * i) word) there (sym byte_is ∙ is)
+
+-- ---- how many there are
+
+bytes_or : Option (List ℕ) → List ℕ
+bytes_or None = []
+bytes_or (Some bytes) = bytes
+
+some_is : {x y : List ℕ} → Some x ≡ Some y → x ≡ y
+unfolding bytes_or
+some_is is = ap bytes_or is
+
+pairs_length : (word bs : List ℕ) → pairs_in word ≡ Some bs → length word ≡ 2 * length bs
+pairs_length [] bs is = omega (arith, ap length (some_is is))
+pairs_length (d ∷ []) bs is = let bad : None ≡ Some bs = is in cc
+pairs_length (h ∷ l ∷ ds) bs is = of_byte (pairs_length ds) (byte_in h l) refl (pairs_in ds) refl
+  where
+    of_byte : ((others : List ℕ) → pairs_in ds ≡ Some others → length ds ≡ 2 * length others) → (b : Option ℕ) → byte_in h l ≡ b → (o : Option (List ℕ)) → pairs_in ds ≡ o → length (h ∷ l ∷ ds) ≡ 2 * length bs
+    of_byte rest None e o f = let bad : None ≡ Some bs = sym (first_pair (h ∷ l ∷ ds) (omega arith) ∙ rw e refl) ∙ is in cc
+    of_byte rest (Some b) e None f = let bad : None ≡ Some bs = sym (first_pair (h ∷ l ∷ ds) (omega arith) ∙ rw (e, f) refl) ∙ is in cc
+    of_byte rest (Some b) e (Some others) f =
+        let whole : b ∷ others ≡ bs = some_is (sym (first_pair (h ∷ l ∷ ds) (omega arith) ∙ rw (e, f) refl) ∙ is) in
+        omega (arith, ap length whole, rest others f)
+
+pub none_left : (n : ℕ) → (n == 0) ≡ true → n ≡ 0
+none_left n h = grind (arith, nat_tests)
+
+pub some_left : (n : ℕ) → (n == 0) ≡ false → 1 ≤ n
+some_left n h = grind (arith, nat_tests)
+
+-- a word of which no number of bytes that may be is the half
+pub no_bytes : (most : ℕ) (word : List ℕ) → bytes_eq word (codes "-") ≡ false → ((bs : List ℕ) → length word ≡ 2 * length bs → (length bs ≡ 0) ⊎ (most < length bs)) → bytes_in most word ≡ None
+no_bytes most word dash none = at (pairs_in word) refl
+  where
+    at : (o : Option (List ℕ)) → pairs_in word ≡ o → bytes_in most word ≡ None
+    at None is = bytes_none most word dash is
+    at (Some bs) is = elim (none bs (pairs_length word bs is)) [
+      | inl empty ↦ bytes_pairs most word (Some bs) dash is ∙ counted_empty most bs empty
+      | inr many ↦ bytes_pairs most word (Some bs) dash is ∙ counted_many most bs many
+    ]

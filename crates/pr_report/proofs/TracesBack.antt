@@ -1,10 +1,9 @@
 -- The text of a trace is read back.
-use Rattle.std.proofs.Common.{◌≡◌, ℕ, suc, ◌+◌, ◌*◌, ◌^◌, ◌<◌, ◌≤◌, Bool, true, false, List, [], ◌∷◌, ◌++◌, length, refl, sym, ap, ◌∙◌, arith, append_assoc, append-nil, length-append, subst}
-use Rattle.std.specs.Prelude.{nat_lt, nat_le, codes, Option, Some, None, Ok, slice_index}
+use Rattle.std.proofs.Common.{◌≡◌, ℕ, suc, ◌+◌, ◌*◌, ◌^◌, ◌<◌, ◌≤◌, true, false, List, [], ◌∷◌, ◌++◌, length, refl, sym, ap, ◌∙◌, arith, append_assoc, append-nil, length-append, subst}
+use Rattle.std.specs.Prelude.{nat_le, codes, Option, Some, None, Ok, slice_index}
 use Rattle.std.specs.Fmt.{decimal}
 use Rattle.std.specs.Int.{w32, to_be_bytes}
-use Rattle.std.specs.List.{All, AllByRecursion, list_all}
-use Rattle.std.proofs.lemmas.Bool.{and_parts}
+use Rattle.std.specs.List.{All, AllByRecursion}
 use Rattle.std.proofs.lemmas.Bool.Decides.{nat_tests}
 use Rattle.std.proofs.lemmas.List.Elements.{recursion_from_All}
 use Rattle.pr_registry.specs.declared.held.Held.{Held}
@@ -20,7 +19,7 @@ use Rattle.pr_report.specs.TraceText.{ending_line, ending_lines, item_lines, fir
 use Rattle.pr_report.specs.TraceLaws.{IsEnding, IsItem, WrittenTracesAreRead}
 use Rattle.pr_report.specs.TraceReadings.{and_then, items_of, is_later, later_lines, lines, trace_in, trace_of}
 use Rattle.pr_report.proofs.FrontLines.{entries_later}
-use Rattle.pr_report.proofs.SolidWords.{is_solid, solid_by, AreSolid, IsSolid, IsWord, bare, bare_back, digits_word, line_back, pairs_word, spaced_none, spaced_word, word_both}
+use Rattle.pr_report.proofs.SolidWords.{is_solid, solid_by, AreSolid, IsWord, bare, bare_back, digits_word, line_back, pairs_word, spaced_none, spaced_word, word_both}
 use Rattle.pr_report.proofs.WordsBack.{same_bytes}
 use Rattle.pr_report.proofs.TraceNames.{AreNames, name_of_word, name_word, names_count, names_fit}
 use Rattle.pr_report.proofs.EntriesBack.{AreItems, items_back}

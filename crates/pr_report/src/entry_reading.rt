@@ -1,14 +1,14 @@
 //! The entry that a line of a trace says.
 
-ghost use Rattle.std.specs.Prelude.{◌≡◌, ◌==◌, ◌∷◌, ◌++◌, ◌≤◌, ◌<◌, [], Some, None, Ok, codes, false, length, map, position, bytes_eq, MatchOption, IfSome};
+ghost use Rattle.std.specs.Prelude.{◌≡◌, ◌==◌, ◌∷◌, ◌++◌, ◌≤◌, ◌<◌, [], Some, None, Ok, codes, false, length, map, position, bytes_eq, ◌&&◌, MatchBool, MatchOption, IfSome};
 ghost use Rattle.pr_cdb.specs.declared.codes.TheConstants.{MOST_NEXUSES};
 ghost use Rattle.pr_report.specs.TraceText.{names_of};
 ghost use Rattle.std.specs.Fmt.{decimal};
 ghost use Rattle.pr_report.specs.declared.versions.TheConstants.{MOST_ITEMS_2};
-ghost use Rattle.pr_cdb.specs.Spelling.{wire_of};
-ghost use Rattle.pr_report.specs.EntryWords.{byte_in, bytes_in, exchange_in, reply_in, sense_of, sense_under, no_sense_in, wire_in, worth};
+ghost use Rattle.pr_report.specs.EntryWords.{byte_in, bytes_in, sense_of, sense_under, no_sense_in, worth};
+ghost use Rattle.pr_script.specs.Names.{is_name};
 ghost use Rattle.pr_report.specs.TraceReadings.{and_then, entry_on, item_on, is_reset_on, number_of, words};
-ghost use Rattle.pr_report.specs.inside.SevenWords.{list_of_words, sense_said, words_left};
+ghost use Rattle.pr_report.specs.inside.SevenWords.{answer_in, list_of_words, words_left};
 
 use crate::ahead::MOST_LINE_BYTES;
 use crate::status::status_in;
@@ -75,7 +75,7 @@ fn is_reset_line(index: u32, line: &[u8]) -> bool
 }
 
 // The item of a command that the line says.
-#[tactic(auto, unfolding(crate::specs::TraceReadings::entry_on))]
+#[tactic(auto, unfolding(crate::specs::TraceReadings::entry_on, crate::specs::EntryWords::exchange_in))]
 fn sent_on(version: u8, nexuses: &[Nexus], index: u32, line: &[u8]) -> Result<Item, TraceError>
     requires few { length nexuses.now ≤ MOST_NEXUSES }
     requires index { index ≤ MOST_ITEMS_2 }
@@ -85,22 +85,34 @@ fn sent_on(version: u8, nexuses: &[Nexus], index: u32, line: &[u8]) -> Result<It
     let Some(words) = seven_words(line) else {
         return Err(TraceError::Syntax { line: number });
     };
+    if !is_named(index, &words) {
+        return Err(TraceError::Syntax { line: number });
+    }
+    let Some((status, sense)) = answer_in(version, words.status, words.sense) else {
+        return Err(TraceError::Syntax { line: number });
+    };
     let mut wire = Wire {
         cdb: ArrayVec::new(),
         params: ArrayVec::new(),
     };
-    let mut reply = Reply {
-        status: Status::Good,
-        sense: None,
-        bytes: ArrayVec::new(),
-    };
-    if exchange_into(version, index, &words, &mut wire, &mut reply).is_none() {
+    if !bytes_into(MOST_CDB_LENGTH, words.cdb, &mut wire.cdb)
+        || !bytes_into(PARAMETER_LIST_LENGTH, words.params, &mut wire.params)
+        || wire.cdb.is_empty()
+    {
         return Err(TraceError::Syntax { line: number });
     }
-    match number_of(nexuses, words.name) {
-        Some(host) => Ok(Item::Sent(Entry { host, wire, reply })),
-        None => Err(TraceError::UnknownName { line: number }),
+    let mut reply = Reply {
+        status,
+        sense,
+        bytes: ArrayVec::new(),
+    };
+    if !bytes_into(most_data(version), words.bytes, &mut reply.bytes) {
+        return Err(TraceError::Syntax { line: number });
     }
+    let Some(host) = number_of(nexuses, words.name) else {
+        return Err(TraceError::UnknownName { line: number });
+    };
+    Ok(Item::Sent(Entry { host, wire, reply }))
 }
 
 // The line's words, if there are just seven.
@@ -145,63 +157,24 @@ fn space_in(line: &[u8]) -> Option<usize>
     line.iter().position(|byte| *byte == b' ')
 }
 
-// Reads the command and its answer, where the words have the form of an entry's with this index. It reads into what the
-// caller has, which is empty yet: a reply has room for 136 bytes, and each function that handed it on would copy them.
-#[tactic(auto, unfolding(crate::specs::EntryWords::exchange_in))]
-fn exchange_into(
-    version: u8,
-    index: u32,
-    words: &EntryWords<'_>,
-    wire: &mut Wire,
-    reply: &mut Reply,
-) -> Option<()>
-    requires no_wire { wire.old ≡ wire_of [] [] }
-    requires no_data { reply.old.bytes.items ≡ [] }
-    ensures { MatchOption result (exchange_in version index (list_of_words words.now) ≡ None)
-        (λ _. exchange_in version index (list_of_words words.now) ≡ Some (wire.new, reply.new)) }
+// Whether the words begin as those of the entry with this index do.
+fn is_named(index: u32, words: &EntryWords<'_>) -> bool
+    ensures { result ≡ (bytes_eq words.now.index.now (decimal index) && is_name words.now.name.now) }
 {
-    if words.index != Buffer::new().format(index).as_bytes() {
-        return None;
-    }
-    if !is_name(words.name) {
-        return None;
-    }
-    wire_into(words.cdb, words.params, wire)?;
-    reply_into(version, words.status, words.sense, words.bytes, reply)
+    words.index == Buffer::new().format(index).as_bytes() && is_name(words.name)
 }
 
-fn wire_into(cdb: &[u8], params: &[u8], wire: &mut Wire) -> Option<()>
-    requires { wire.old ≡ wire_of [] [] }
-    ensures { MatchOption result (wire_in cdb.now params.now ≡ None) (λ _. wire_in cdb.now params.now ≡ Some wire.new) }
+// The status and the sense of the answer.
+fn answer_in(version: u8, status: &[u8], sense: &[u8]) -> Option<(Status, Option<Sense>)>
+    ensures { result ≡ answer_in version status.now sense.now }
 {
-    bytes_into(MOST_CDB_LENGTH, cdb, &mut wire.cdb)?;
-    bytes_into(PARAMETER_LIST_LENGTH, params, &mut wire.params)?;
-    if wire.cdb.is_empty() { None } else { Some(()) }
-}
-
-fn reply_into(
-    version: u8,
-    status: &[u8],
-    sense: &[u8],
-    bytes: &[u8],
-    reply: &mut Reply,
-) -> Option<()>
-    requires { reply.old.bytes.items ≡ [] }
-    ensures { MatchOption result (reply_in version status.now sense.now bytes.now ≡ None)
-        (λ _. reply_in version status.now sense.now bytes.now ≡ Some reply.new) }
-{
-    reply.status = status_in(version, status)?;
-    reply.sense = sense_said(reply.status, sense)?;
-    bytes_into(most_data(version), bytes, &mut reply.bytes)
-}
-
-// The sense that the word says under this status.
-fn sense_said(status: Status, word: &[u8]) -> Option<Option<Sense>>
-    ensures { result ≡ sense_said status word.now }
-{
+    let status = status_in(version, status)?;
     let mut bytes = ArrayVec::<u8, FIXED_SENSE_LENGTH>::new();
-    bytes_into(FIXED_SENSE_LENGTH, word, &mut bytes)?;
-    sense_under(status, bytes.as_slice())
+    if !bytes_into(FIXED_SENSE_LENGTH, sense, &mut bytes) {
+        return None;
+    }
+    let sense = sense_under(status, bytes.as_slice())?;
+    Some((status, sense))
 }
 
 // With CHECK CONDITION a sense is there, and with no other status.
@@ -232,35 +205,34 @@ fn sense_of(bytes: &[u8]) -> Option<Sense>
     }
 }
 
-// Reads the bytes that the word writes, so many at most.
+// Reads the bytes that the word writes, so many at most, where the caller wants them: a reply has room for 136 bytes, and
+// each function that handed it on would copy them.
 #[tactic(auto, unfolding(crate::specs::EntryWords::bytes_in))]
-fn bytes_into<const N: usize>(most: usize, word: &[u8], bytes: &mut ArrayVec<u8, N>) -> Option<()>
+fn bytes_into<const N: usize>(most: usize, word: &[u8], bytes: &mut ArrayVec<u8, N>) -> bool
     requires room { most ≤ N }
     requires empty { bytes.old.items ≡ [] }
-    ensures { MatchOption result (bytes_in most word.now ≡ None) (λ _. bytes_in most word.now ≡ Some bytes.new.items) }
+    ensures { MatchBool result (bytes_in most word.now ≡ Some bytes.new.items) (bytes_in most word.now ≡ None) }
 {
     if is_dash(word) {
-        return Some(());
+        return true;
     }
-    let mut rest = word;
-    while rest.len() >= 2 {
-        let byte = byte_in(rest[0], rest[1])?;
-        if bytes.len() == most {
-            return None;
-        }
+    let (pairs, rest) = word.as_chunks::<2>();
+    if pairs.is_empty() || pairs.len() > most || !rest.is_empty() {
+        return false;
+    }
+    for pair in pairs {
+        let Some(byte) = byte_in(pair[0], pair[1]) else {
+            return false;
+        };
         bytes.push(byte);
-        rest = &rest[2..];
     }
-    if bytes.is_empty() || !rest.is_empty() {
-        return None;
-    }
-    Some(())
+    true
 }
 
 fn is_dash(word: &[u8]) -> bool
     ensures { result ≡ bytes_eq word.now (codes "-") }
 {
-    word == "-".as_bytes()
+    word.len() == 1 && word[0] == b'-'
 }
 
 fn byte_in(high: u8, low: u8) -> Option<u8>

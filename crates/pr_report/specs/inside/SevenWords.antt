@@ -6,7 +6,7 @@ use Rattle.pr_cdb.specs.declared.codes.TheConstants.{FIXED_SENSE_LENGTH}
 use Rattle.pr_cdb.specs.declared.reply.Sense.{Sense}
 use Rattle.pr_cdb.specs.declared.reply.Status.{Status}
 use Rattle.pr_report.specs.Chain.{◌>>=◌}
-use Rattle.pr_report.specs.EntryWords.{bytes_in, sense_under}
+use Rattle.pr_report.specs.EntryWords.{bytes_in, sense_under, status_in}
 use Rattle.pr_report.specs.TraceReadings.{words}
 
 -- the words that are left, where there may be no more
@@ -18,6 +18,6 @@ words_left (Some rest) = words rest.now
 abbrev pub list_of_words : EntryWords → List (List ℕ)
 list_of_words w = w.index.now ∷ w.name.now ∷ w.cdb.now ∷ w.params.now ∷ w.status.now ∷ w.sense.now ∷ w.bytes.now ∷ []
 
--- the sense that the word says under this status
-abbrev pub sense_said : Status → List ℕ → Option (Option Sense)
-sense_said status word = bytes_in FIXED_SENSE_LENGTH word >>= sense_under status
+-- the status and the sense of an answer
+abbrev pub answer_in : ℕ → List ℕ → List ℕ → Option (Status × Option Sense)
+answer_in version status sense = status_in version status >>= λ t. bytes_in FIXED_SENSE_LENGTH sense >>= λ bytes. sense_under t bytes >>= λ s. Some (t, s)

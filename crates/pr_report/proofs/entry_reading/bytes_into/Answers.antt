@@ -1,20 +1,32 @@
-use Rattle.std.proofs.Common.{length, sym, ap, ◌∙◌, arith}
+use Rattle.std.proofs.Common.{[], ◌∷◌, length, sym, ap, ◌∙◌, arith, inl, inr, length-append}
+use Rattle.pr_report.proofs.PairBytes.{bytes_none, next_pair, no_bytes, no_pair_there, none_left, onto_none, some_left}
 use Rattle.pr_report.specs.EntryWords.{pairs_in}
-use Rattle.pr_report.proofs.PairBytes.{onto, onto_none, pairs_full, pairs_preserved}
+use Rattle.pr_report.proofs.PairBytes.{onto}
 use Rattle.pr_report.proofs.entry_reading.bytes_into.Goals as goal
+use Rattle.pr_report.proofs.entry_reading.bytes_into.Goals.{then-is_empty-via-then-is_empty, then-is_empty-via-else-is_empty+then-pairs-most, then-is_empty-via-else-is_empty+else-pairs-most+then-not-is_empty}
 
-pub loop-rest-init : goal.loop-rest-init
-loop-rest-init g c = (
+pub returns-then-is_empty : goal.returns-then-is_empty
+returns-then-is_empty g c = no_bytes c.args.most c.args.word.now (sym c.is_dash.ensures ∙ c.if-is_dash.false) (λ bs half. elim c.then-is_empty.branch [
+  | then-is_empty-via-then-is_empty w ↦ inl (omega (arith, half, c.as_chunks.ensures.front_len, none_left _ (sym c.is_empty.ensures ∙ w.if-is_empty.true)))
+  | then-is_empty-via-else-is_empty+then-pairs-most w ↦ inr (omega (arith, half, c.as_chunks.ensures.front_len, w.if-pairs-most.true))
+  | then-is_empty-via-else-is_empty+else-pairs-most+then-not-is_empty w ↦ inl (omega (arith, half, c.as_chunks.ensures.back_len, some_left _ (sym w.if-not-is_empty.ensures)))
+])
+
+pub loop-pair-init : goal.loop-pair-init
+loop-pair-init g c = (
   onto_none (pairs_in c.args.word.now) ∙ ap (λ items. onto items (pairs_in c.args.word.now)) (sym c.requires.empty),
-  omega (arith, ap length c.requires.empty),
+  ap length c.requires.empty,
 )
 
-pub returns-then-len-most : goal.returns-then-len-most
-returns-then-len-most g c =
-    pairs_full _ c.args.word.now _ _ c.in_ok-byte.byte (sym c.is_dash.ensures ∙ c.if-is_dash.false) c.loop-rest.invariant c.loop-rest-test.true (sym c.byte_in.ensures ∙ c.in_ok-byte.was)
-    (omega (arith, c.if-len-most.true, c.len.ensures.value))
+pub returns-in_default : goal.returns-in_default
+returns-in_default g c =
+    bytes_none c.args.most c.args.word.now (sym c.is_dash.ensures ∙ c.if-is_dash.false)
+    (no_pair_there c.args.word.now c.loop-pair.bytes.items c.as_chunks.result.0.now c.loop-pair.pair-index c.as_chunks.ensures.front (omega (arith, c.loop-pair-test.true, c.as_chunks.ensures.front_len))
+    c.loop-pair.invariant.0 (sym c.byte_in.ensures ∙ c.in_default.is))
 
-pub loop-rest-preserved : goal.loop-rest-preserved
-loop-rest-preserved g c =
-    pairs_preserved _ c.args.word.now _ _ _ c.in_ok-byte.byte c.loop-rest.invariant c.loop-rest-test.true (sym c.byte_in.ensures ∙ c.in_ok-byte.was)
-    (omega (arith, c.loop-rest.invariant.1, c.if-len-most.false, c.len.ensures.value)) c.push.ensures.items
+pub loop-pair-preserved : goal.loop-pair-preserved
+loop-pair-preserved g c = (
+  next_pair c.args.word.now c.loop-pair.bytes.items c.as_chunks.result.0.now c.loop-pair.pair-index c.as_chunks.ensures.front (omega (arith, c.loop-pair-test.true, c.as_chunks.ensures.front_len))
+      c.in-Some.byte c.push.new.self.items c.loop-pair.invariant.0 (sym c.byte_in.ensures ∙ c.in-Some.is) c.push.ensures.items,
+  omega (arith, c.loop-pair.invariant.1, ap length c.push.ensures.items, length-append c.loop-pair.bytes.items (c.in-Some.byte ∷ [])),
+)
