@@ -33,7 +33,7 @@ pub(crate) fn kind_of(held: Held) -> Kind
     }
 }
 
-// Whether a sender that stands so holds the reservation.
+// Whether a sender whose registration matches so holds the reservation.
 fn holds(held: Held, sender: u8, standing: Standing) -> bool
     ensures { result ≡ holds held sender standing }
 {

@@ -10,7 +10,7 @@ pub struct Region {
     pub holder: Word,
     /// The registrations that each of the others may have.
     pub others: Word,
-    /// The registrations of which one other than the sender must have one. That of none is not among them.
+    /// If it is there, some nexus other than the sender is registered with one of these, so 0, which is no key's number, is not in it.
     pub somebody: Option<Word>,
 }
 

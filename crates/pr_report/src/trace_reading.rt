@@ -65,7 +65,7 @@ fn read_first<R: Read>(version: u8, ahead: &mut Ahead, reader: &mut R) -> Result
     Ok(())
 }
 
-// Reads the items, up to the first line that is none.
+// Reads items until a line that is none: there the unit's line begins, or a fault.
 fn read_items<R: Read>(
     alloc: Global,
     version: u8,

@@ -1,4 +1,7 @@
 //! Which parts make a scenario.
+//!
+//! `Parts::fits`, with what belongs to it, is for who makes a scenario otherwise than by reading a text. No command of the program
+//! calls it.
 
 ghost use Rattle.std.specs.Prelude.{◌≡◌, ◌&&◌, ◌↔◌, ◌<◌, ◌≤◌, IsTrue, length, map, bytes_eq};
 ghost use Rattle.std.specs.List.{All, list_all, list_any};

@@ -1,4 +1,6 @@
 //! How many statements a script has, and the order of its sends' lines.
+//!
+//! What is asked of the order of lines, `Script::fits` alone asks, which no command of the program calls.
 
 ghost use Rattle.std.specs.Prelude.{◌≡◌, ◌+◌, min, nat_le};
 ghost use Rattle.pr_script.specs.declared.limits.TheConstants.{MOST_STATEMENTS};

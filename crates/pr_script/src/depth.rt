@@ -1,4 +1,6 @@
 //! How deep a script nests.
+//!
+//! No command of the program asks for it: it is for who makes a script otherwise than by reading a text.
 
 ghost use Rattle.std.specs.Prelude.{◌≡◌, ◌+◌, min};
 ghost use Rattle.pr_script.specs.declared.limits.TheConstants.{MOST_OPEN};

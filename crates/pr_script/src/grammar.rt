@@ -1,4 +1,7 @@
 //! Which scripts may be written.
+//!
+//! `Script::fits`, with what belongs to it, is for who makes a script otherwise than by reading a text. No command of the program
+//! calls it.
 
 ghost use Rattle.std.specs.Prelude.{◌≡◌, ◌≤◌, ◌<◌, ◌+◌, ◌&&◌, nat_lt, is_some};
 ghost use Rattle.pr_script.specs.declared.limits.TheConstants.{MOST_OPEN};

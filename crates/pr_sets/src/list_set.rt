@@ -1,4 +1,6 @@
 //! Sets as sorted lists.
+//!
+//! No command of the program uses them. They are a second kind of `ViewSet`, so that vectors and benches can compare the two.
 
 ghost use Rattle.std.specs.Prelude.{◌≡◌, ◌+◌, ◌<◌, ◌≤◌, vec_len};
 ghost use Rattle.std.specs.List.Sorted.{IsStrictlyIncreasing};

@@ -118,7 +118,7 @@ pub(crate) fn ends_of(world: &World, mut ends: Vec<End>) -> Vec<End>
     ends
 }
 
-/// What a world comes to in which all are over.
+/// The outcome of a world in which no script and no plan has anything left to send.
 pub(crate) fn outcome_of(world: World, ends: Vec<End>) -> Outcome
     requires ends { map (λ e. Some (ending_of e)) ends.items ≡ endings_in (scenario_of world.scenario) world.schedule }
     requires over { AreOver (scenario_of world.scenario) world.schedule }

@@ -3,8 +3,9 @@
 use std::marker::Brand;
 use std::sync::ledger::Ledger;
 
-/// Which run it is. A round names the ledger that counts the entries, and says of each nexus, by its number,
-/// whether it is a guest. Contracts alone see it: a function over a round is called with [`Brand`], and that call picks it.
+/// The name of a run, as a type, so that a seat of one run can't be used with the lock of another. It names the ledger that counts
+/// the run's entries, and says of each nexus, by its number, whether it is a guest. Contracts alone see it: a function over a round
+/// is called with [`Brand`], and that call picks it.
 pub trait Round: Ledger {
     ghost use Rattle.std.specs.Prelude.{Bool, List};
 

@@ -115,8 +115,7 @@ impl Unit {
         &self.registry
     }
 
-    /// Whether the command of the host would end in RESERVATION CONFLICT, were no power on to be
-    /// reported.
+    /// Whether the command of the host conflicts with the reservation. A power on that is pending would be reported first.
     pub fn conflicts(&self, host: u8, command: &Command) -> bool
         requires { host < self.now.registry.hosts }
         ensures { result ≡ command_conflicts self.now.registry host command.now }

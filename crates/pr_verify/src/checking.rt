@@ -1,4 +1,7 @@
 //! Whether an outline carries the script of its host.
+//!
+//! No command of the program calls `check_outline`: it is for outlines that were not inferred here. `verify` infers its own, of which
+//! it is proved that they are sound.
 
 ghost use Rattle.std.specs.Prelude.{◌≡◌, ℕ, ◌<◌, ◌≤◌, true, min, length, map, OnOk, IfErr};
 ghost use Rattle.std.specs.List.{Contains};

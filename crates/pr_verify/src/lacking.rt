@@ -1,4 +1,6 @@
 //! Which view of an outline is the first that lacks a possibility.
+//!
+//! Only `check_outline` asks for it, which no command of the program calls.
 
 ghost use Rattle.std.specs.Prelude.{◌≡◌, ◌<◌, ◌↔◌, length, map, option_map, IsTrue, IfOk, IfSome};
 ghost use Rattle.std.specs.List.{All, Contains};

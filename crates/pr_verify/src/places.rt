@@ -53,8 +53,7 @@ fn lines(alloc: Global, head: Head, after: &[u32], broken: &[u32]) -> Result<Vec
     }
 }
 
-// The lines after the body of a repeat that is run so often, by those past the repeat: where it begins once more, and
-// those.
+// The lines that may come after the body of a repeat: the body's first ones, if it is run twice or more, and those past the repeat.
 fn lines_round(
     alloc: Global,
     count: u32,

@@ -68,7 +68,7 @@ pub(crate) fn first_unsound<S: ViewSet>(
     Ok(least(least(start, own), others))
 }
 
-/// Of the first send that does not fit, how it does not.
+/// The first send whose command the role doesn't permit, or of which no arm takes some reply.
 pub(crate) fn first_misfit<S: ViewSet>(
     alloc: Global,
     scenario: &Scenario,

@@ -120,7 +120,7 @@ fn rows<S: ViewSet>(
     Ok(rows)
 }
 
-// Of one send, by the view of its line and what its command comes to there.
+// The row of one send: the view at its line, and how its command may end there.
 fn row_of_spot<S: ViewSet>(
     alloc: Global,
     scenario: &Scenario,

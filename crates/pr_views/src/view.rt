@@ -1,4 +1,6 @@
 //! Views.
+//!
+//! `ViewOf::fits` is for who makes a view otherwise than by what this library answers. No command of the program calls it.
 
 ghost use Rattle.std.specs.Prelude.{◌≡◌, ◌<◌, ◌≤◌, ◌+◌, ◌↔◌, ◌⊎◌, ℕ, true, false, length, IsTrue, IfOk, OnOk, OnErr};
 ghost use Rattle.pr_roles.specs.Fitting.{AreDeclared};

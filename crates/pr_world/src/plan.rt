@@ -24,7 +24,7 @@ impl Plan {
         })
     }
 
-    /// The next command, which is then left no more.
+    /// Takes the next command out of the plan.
     pub(crate) fn next(&mut self) -> Option<Command>
         ensures { MatchOption result
             ((self.old.commands.items ≡ []) × (self.new.commands.items ≡ []))
