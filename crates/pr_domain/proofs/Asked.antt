@@ -44,7 +44,7 @@ only_uniform r w only none m there =
 pub sender_is : (s : Scope) (view : Possibilities) (place : Place) (r : ℕ) (w : Word) (region : Region) (u : UnitState) → IsPlace s view place → ((m : ℕ) → has w m ≡ (m == r))
     → IsAt (view_in s view) place w region u → IsSo s u (Registration place.sender r)
 sender_is s view place r w region u is only at =
-    let below : place.sender < s.hosts = subst (λ n. place.sender < n) (sym is.hosts) is.sender in
+    let below : place.sender < s.hosts = subst (λ n. place.sender < n) (sym is.hosts) place.there in
     let seen = at.shown.registrations place.sender below in
     let same : seen.0 ≡ r = (let tells = sym (only seen.0) ∙ at.sender seen.0 seen.1.1 in grind (arith, nat_tests)) in
     subst (λ n. IsSo s u (Registration place.sender n)) same seen.1.1
@@ -54,7 +54,7 @@ meets : (s : Scope) (c : Command) (tests : List Test) (view : Possibilities) (pl
     → Shows (view_in s view) u → HasBoth s place r u → Meets s purpose place.held place.sender (standing_of purpose r) u c
 meets s c tests view place purpose arm r u asked shown both = record {
   scope = asked.is.fits.scope;
-  below = subst (λ n. place.sender < n) (sym asked.is.hosts) asked.is.sender;
+  below = subst (λ n. place.sender < n) (sym asked.is.hosts) place.there;
   formed = shown.formed;
   hosts = shown.hosts;
   numbered = λ g below. let seen = shown.registrations g below in (seen.0, seen.1.1);

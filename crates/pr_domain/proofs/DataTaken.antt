@@ -39,7 +39,7 @@ use Rattle.pr_domain.specs.inside.Tallies.{arm_of, way_of, Grows, IsRight, HasBo
 use Rattle.pr_domain.specs.declared.landing.Class.TheVariants as class
 use Rattle.pr_domain.specs.inside.Reporting.{looks, takes, AreBlind}
 use Rattle.pr_domain.proofs.Matching.{first_of_class}
-use Rattle.pr_domain.proofs.Gathered.{same_reservation}
+use Rattle.pr_domain.proofs.Gathered.{same_reservation, number_at}
 use Rattle.pr_domain.proofs.Growing.{grows_then, grows_from_none}
 use Rattle.pr_domain.proofs.Asked.{only_uniform, sender_is}
 
@@ -114,12 +114,12 @@ ends_so : (s : Scope) (view : Possibilities) (place : Place) (r : ℕ) (c : Comm
     → (change : Change) → Does change None never place.reservation never never never → (u : UnitState) → Shows (view_in s view) u → HasBoth s place r u → Ends s s.own (ending.Good change) u c
 ends_so s view place r c asks accepted own is change does u shown both =
     subst (λ n. Ends s n (ending.Good change) u c) own
-    (same_ends s Look place.held place.sender (standing_of Look r) u c s.hosts change tt meets refl refl refl refl refl (subst (λ x. Does change None never x never never never) is.number does))
+    (same_ends s Look place.held place.sender (standing_of Look r) u c s.hosts change tt meets refl refl refl refl refl (subst (λ x. Does change None never x never never never) (number_at s view place is) does))
   where
     meets : Meets s Look place.held place.sender (standing_of Look r) u c
     meets = record {
       scope = is.fits.scope;
-      below = subst (λ n. place.sender < n) (sym is.hosts) is.sender;
+      below = subst (λ n. place.sender < n) (sym is.hosts) place.there;
       formed = shown.formed;
       hosts = shown.hosts;
       numbered = λ g below. let seen = shown.registrations g below in (seen.0, seen.1.1);

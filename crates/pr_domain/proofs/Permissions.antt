@@ -337,7 +337,7 @@ one_registration_more s view clauses c place n before here =
 pub not_registered : (keys : List ℕ) (c : Command) (view : Possibilities) (place : Place) (clauses : List Clause) (r : ℕ) → IsThis keys c view place → has_at view.registrations place.sender r ≡ false
     → ArePermitted (view_in (scope_at keys place.hosts place.sender) view) clauses c (HasBoth (scope_at keys place.hosts place.sender) place r)
 not_registered keys c view place clauses r this none u shown both ends =
-    let seen = shown.registrations place.sender this.is.sender in
+    let seen = shown.registrations place.sender place.there in
     let same = one_registration (scope_at keys place.hosts place.sender) u place.sender seen.0 r this.asking.fits.scope seen.1.1 both.registered in
     absurd (false≢true (sym none ∙ subst (λ n. has_at view.registrations place.sender n ≡ true) same seen.1.0.1))
 
@@ -345,7 +345,7 @@ pub each_registration : (keys : List ℕ) (c : Command) (view : Possibilities) (
     → ArePermitted (view_in (scope_at keys place.hosts place.sender) view) clauses c (HasFirst (scope_at keys place.hosts place.sender) place 13)
     → ArePermitted (view_in (scope_at keys place.hosts place.sender) view) clauses c (λ u. IsSo (scope_at keys place.hosts place.sender) u (Reservation place.reservation))
 each_registration keys c view place clauses this permitted u shown reserved ends =
-    let seen = shown.registrations place.sender this.is.sender in
+    let seen = shown.registrations place.sender place.there in
     let few = few_keys keys this.asking.fits.scope.keys in
     let small = seen.1.1.1 in
     permitted u shown (record { registration = seen.0; below = omega arith; reserved = reserved; registered = seen.1.1 }) ends

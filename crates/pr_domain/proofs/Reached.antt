@@ -177,7 +177,7 @@ module _ (s : Scope) (o : Onlooker) (place : Place) (clause : Clause) (reach : R
       shown = led.leads.shown
 
       seen : (r : ℕ) × IsSeen (view_in s o.view) u (Registration place.sender r)
-      seen = shown.registrations place.sender (subst (λ n. place.sender < n) (sym is.known.hosts) is.known.sender)
+      seen = shown.registrations place.sender (subst (λ n. place.sender < n) (sym is.known.hosts) place.there)
 
       mine : seen.0 ≡ j → has_at o.view.registrations place.sender j ≡ true
       mine same = subst (λ r. has_at o.view.registrations place.sender r ≡ true) same seen.1.0.1

@@ -31,7 +31,7 @@ use Rattle.pr_domain.specs.declared.tally.Tally.{Tally}
 use Rattle.pr_domain.specs.inside.Gathering.{IsPlace}
 use Rattle.pr_domain.specs.inside.Tallies.{IsRegistered, has_tallied, IsNothing, Leaves, IsFound, Grows, IsReserved, IsOwners}
 use Rattle.pr_domain.specs.inside.Twins.{AreTwins, IsTwin, has_with_twin}
-use Rattle.pr_domain.proofs.Gathered.{same_reservation}
+use Rattle.pr_domain.proofs.Gathered.{same_reservation, number_at, held_at}
 use Rattle.pr_domain.proofs.Landed.{still_registered}
 
 -- the same state with this reservation
@@ -177,16 +177,19 @@ module _ (s : Scope) (view : Possibilities) (c : Command) (tests : List Test) (r
 
       -- the place of the twin
       other : Place
-      other = record place { reservation = x; held = twin.twin }
+      other = record place {
+        reservation = x;
+        held = twin.twin;
+        below = (let before = twin.below in let last = place.below in omega arith);
+        number = twin.number;
+        fits = twin.fits;
+      }
 
       is_other : IsPlace s view other
       is_other = record {
         hosts = owners.is.hosts;
         fits = owners.is.fits;
-        sender = owners.is.sender;
         possible = twin.possible;
-        number = twin.number ∙ ap (λ h. number_of h twin.twin) (sym owners.is.hosts);
-        held = subst (λ h. is_reservation h twin.twin ≡ true) (sym owners.is.hosts) twin.fits;
       }
 
       -- a state under the one reservation, and the same under the other
@@ -198,11 +201,11 @@ module _ (s : Scope) (view : Possibilities) (c : Command) (tests : List Test) (r
 
       shown_twin : (u : UnitState) → Shows (view_in s view) u → IsSo s u (Reservation n) → Shows (view_in s view) (retyped u twin.twin)
       shown_twin u shown so =
-          shown_retyped s view u twin.twin shown (under_twin u shown so) is_other.held (subst (λ y. has_wide view.reservations y ≡ true) is_other.number twin.possible)
+          shown_retyped s view u twin.twin shown (under_twin u shown so) (held_at s view other is_other) (subst (λ y. has_wide view.reservations y ≡ true) (number_at s view other is_other) twin.possible)
 
       shown_place : (u : UnitState) → Shows (view_in s view) u → IsSo s u (Reservation x) → Shows (view_in s view) (retyped u place.held)
       shown_place u shown so =
-          shown_retyped s view u place.held shown (under_place u shown so) owners.is.held (subst (λ y. has_wide view.reservations y ≡ true) owners.is.number owners.is.possible)
+          shown_retyped s view u place.held shown (under_place u shown so) (held_at s view place owners.is) (subst (λ y. has_wide view.reservations y ≡ true) (number_at s view place owners.is) owners.is.possible)
 
       itself : (y : ℕ) → (y == y) ≡ true
       itself y = grind (arith, nat_tests)
@@ -210,12 +213,12 @@ module _ (s : Scope) (view : Possibilities) (c : Command) (tests : List Test) (r
       here : (u : UnitState) (way : ℕ) (i : Item) → Shows (view_in s view) u → IsSo s u (Reservation n) → Leaves s c tests way u i → has_tallied new way i ≡ true
       here u way (Registration g r) shown so leaves =
           let also = shown_twin u shown so in
-          kept way (Registration g r) (grows.all (retyped u twin.twin) way (Registration g r) also (record { reservation = x; below = twin.below; reserved = is_other.number })
+          kept way (Registration g r) (grows.all (retyped u twin.twin) way (Registration g r) also (record { reservation = x; below = twin.below; reserved = number_at s view other is_other })
           (leaves_alike u twin.twin way (Registration g r) (Registration g r) shown also (under_twin u shown so) leaves (left_there s c tests reads u way (Registration g r) leaves)))
       here u way (Reservation y) shown so leaves =
           let also = shown_twin u shown so in
-          let had = grows.all (retyped u twin.twin) way (Reservation x) also (record { reservation = x; below = twin.below; reserved = is_other.number })
-          (leaves_alike u twin.twin way (Reservation y) (Reservation x) shown also (under_twin u shown so) leaves is_other.number) in
+          let had = grows.all (retyped u twin.twin) way (Reservation x) also (record { reservation = x; below = twin.below; reserved = number_at s view other is_other })
+          (leaves_alike u twin.twin way (Reservation y) (Reservation x) shown also (under_twin u shown so) leaves (number_at s view other is_other)) in
           let same : y ≡ n = left_there s c tests reads u way (Reservation y) leaves ∙ sym so in
           joined way (Reservation y)
           ∙ or_right (has_tallied old way (Reservation y)) (y == n && has_tallied old way (Reservation x)) (and_from (y == n) (has_tallied old way (Reservation x)) (subst (λ z. (y == z) ≡ true) same (itself y)) had)
@@ -251,8 +254,8 @@ module _ (s : Scope) (view : Possibilities) (c : Command) (tests : List Test) (r
           inr (record {
             unit = retyped u place.held;
             shown = also;
-            among = record { reservation = n; below = omega arith; reserved = owners.is.number };
-            leaves = leaves_alike u place.held way (Reservation x) (Reservation n) found.shown also (under_place u found.shown so) found.leaves owners.is.number;
+            among = record { reservation = n; below = omega arith; reserved = number_at s view place owners.is };
+            leaves = leaves_alike u place.held way (Reservation x) (Reservation n) found.shown also (under_place u found.shown so) found.leaves (number_at s view place owners.is);
             pending = found.pending;
           })
 

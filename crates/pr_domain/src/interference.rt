@@ -4,7 +4,7 @@ ghost use Rattle.std.specs.Prelude.{◌≡◌, ◌≢◌, ◌<◌, ◌≤◌, �
 ghost use Rattle.std.specs.List.{All};
 ghost use Rattle.pr_cdb.specs.declared.codes.TheConstants.{MOST_NEXUSES};
 ghost use Rattle.pr_roles.specs.declared.limits.TheConstants.{MOST_KEYS};
-ghost use Rattle.pr_roles.specs.Fitting.{is_action, is_reservation, is_role};
+ghost use Rattle.pr_roles.specs.Fitting.{is_action, is_role};
 ghost use Rattle.pr_sets.specs.Words.{has};
 ghost use Rattle.pr_views.specs.Possibilities.{Scope, count_of_reservations};
 ghost use Rattle.pr_views.specs.Portions.{has_at, view_in};
@@ -100,9 +100,6 @@ impl Onlooker {
     // Under one reservation.
     fn add_place(&self, answer: &mut Possibilities, place: &Place, clause: &Clause, keys: &[u64])
         requires own { self.now.own < MOST_NEXUSES }
-        requires hosts { (1 ≤ place.now.hosts) × (place.now.hosts ≤ MOST_NEXUSES) }
-        requires sender { place.now.sender < place.now.hosts }
-        requires held { IsTrue (is_reservation place.now.hosts place.now.held) }
         requires keys { length keys.now ≤ MOST_KEYS }
         requires action { is_action keys.now clause.now.action ≡ true }
         ensures { (s : Scope) → IsWatched s self.now place.now → s.keys ≡ keys.now → Adds s answer.old answer.new (PlaceLeads (view_in s self.now.view) clause.now place.now.sender place.now.reservation) (ClauseLeaves (view_in s self.now.view) clause.now place.now.sender) }
@@ -124,9 +121,6 @@ impl Onlooker {
         standing: Standing,
     )
         requires own { self.now.own < MOST_NEXUSES }
-        requires hosts { (1 ≤ place.now.hosts) × (place.now.hosts ≤ MOST_NEXUSES) }
-        requires sender { place.now.sender < place.now.hosts }
-        requires held { IsTrue (is_reservation place.now.hosts place.now.held) }
         requires number { HasNumber purpose }
         ensures { (s : Scope) → IsWatched s self.now place.now → is_action s.keys clause.now.action ≡ true → purpose_for s.keys clause.now.action place.now.held ≡ Some purpose → Adds s answer.old answer.new (StandingLeads (view_in s self.now.view) clause.now place.now.sender place.now.reservation purpose standing) (ClauseLeaves (view_in s self.now.view) clause.now place.now.sender) }
     {

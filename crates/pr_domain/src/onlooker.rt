@@ -1,6 +1,6 @@
 //! What becomes of a view while another sends commands.
 
-ghost use Rattle.std.specs.Prelude.{◌≡◌, ◌≢◌, ◌<◌, ◌≤◌, ℕ, length, IfSome, IfNone};
+ghost use Rattle.std.specs.Prelude.{◌<◌, length, IfSome, IfNone};
 ghost use Rattle.std.specs.List.{All};
 ghost use Rattle.pr_cdb.specs.declared.codes.TheConstants.{MOST_NEXUSES};
 ghost use Rattle.pr_unit.specs.UnitStates.{UnitState};
@@ -39,8 +39,6 @@ impl Onlooker {
         change: &Change,
     ) -> Option<Possibilities>
         requires own { self.now.own < MOST_NEXUSES }
-        requires hosts { (1 ≤ place.now.hosts) × (place.now.hosts ≤ MOST_NEXUSES) }
-        requires sender { place.now.sender < place.now.hosts }
         requires room { HasRoom place.now.hosts (ending.Good change.now) }
         ensures some { IfSome result (λ p. (s : Scope) → IsWatched s self.now place.now → IsUniform senders → IsProper region.now → IsAfter s self.now.view place.now senders region.now change.now p) }
         ensures none { IfNone result ((s : Scope) → IsWatched s self.now place.now → IsUniform senders → IsProper region.now → (u : UnitState) → IsAt (view_in s self.now.view) place.now senders region.now u → ⊥) }
@@ -67,8 +65,6 @@ impl Onlooker {
         branches: &[Branch],
     )
         requires own { self.now.own < MOST_NEXUSES }
-        requires hosts { (1 ≤ place.now.hosts) × (place.now.hosts ≤ MOST_NEXUSES) }
-        requires sender { place.now.sender < place.now.hosts }
         requires room { All (BranchHasRoom place.now.hosts) branches.now }
         ensures { (s : Scope) → IsWatched s self.now place.now → IsUniform senders → All IsProperBranch branches.now → Adds s answer.old answer.new (λ u w. Among (length branches.now) branches.now (λ b. IsLedBy s self.now.view place.now senders b u w)) (λ i. Among (length branches.now) branches.now (λ b. IsLeftBy s self.now.view place.now senders b i)) }
     {
@@ -79,8 +75,6 @@ impl Onlooker {
 
     fn add_branch(&self, answer: &mut Possibilities, place: &Place, senders: Word, branch: &Branch)
         requires own { self.now.own < MOST_NEXUSES }
-        requires hosts { (1 ≤ place.now.hosts) × (place.now.hosts ≤ MOST_NEXUSES) }
-        requires sender { place.now.sender < place.now.hosts }
         requires room { BranchHasRoom place.now.hosts branch.now }
         ensures { (s : Scope) → IsWatched s self.now place.now → IsUniform senders → IsProperBranch branch.now → Adds s answer.old answer.new (IsLedBy s self.now.view place.now senders branch.now) (IsLeftBy s self.now.view place.now senders branch.now) }
     {

@@ -4,18 +4,15 @@ ghost use Rattle.std.specs.Prelude.{◌≡◌, ◌<◌, ◌≤◌, ◌+◌, ℕ,
 ghost use Rattle.pr_script.specs.Grammar.{is_written, test_fits, is_read_keys, is_read_reservation};
 ghost use Rattle.pr_views.specs.Possibilities.{key_at};
 ghost use Rattle.pr_roles.specs.Fitting.{AreDeclared};
-ghost use Rattle.pr_roles.specs.Fitting.{is_reservation};
 ghost use Rattle.pr_regions.specs.Purposes.{HasNumber};
 ghost use Rattle.std.specs.List.{All};
-ghost use Rattle.pr_regions.specs.declared.region.Branch.{Branch as BranchOf};
 ghost use Rattle.pr_sets.specs.Numbers.{most};
-ghost use Rattle.pr_sets.specs.Words.{has};
 ghost use Rattle.pr_sets.specs.Wides.{has_wide};
 ghost use Rattle.pr_cdb.specs.declared.command.Command.{Command as CommandOf};
 ghost use Rattle.pr_script.specs.declared.script.Test.{Test as TestOf};
 ghost use Rattle.pr_unit.specs.UnitStates.{UnitState};
 ghost use Rattle.pr_roles.specs.declared.limits.TheConstants.{MOST_KEYS};
-ghost use Rattle.pr_views.specs.Possibilities.{Scope, Item, count_of_reservations};
+ghost use Rattle.pr_views.specs.Possibilities.{Scope, Item};
 ghost use Rattle.pr_views.specs.Portions.{view_in};
 ghost use Rattle.pr_regions.specs.Regions.{HasRoom};
 ghost use Rattle.pr_domain.specs.declared.tally.Tally.{Tally as TallyOf};
@@ -31,7 +28,7 @@ use pr_cdb::Command;
 use pr_cdb::codes::MOST_NEXUSES;
 use pr_regions::{
     Branch, Change, Ending, Purpose, Reading, Region, branches, is_refused, purpose_of, readings,
-    reservation_at, standing_of,
+    standing_of,
 };
 use pr_script::Test;
 use pr_script::limits::MOST_ARMS;
@@ -60,9 +57,6 @@ fn add_branch(
     branch: &Branch,
     arm: usize,
 )
-    requires hosts { (1 ≤ place.hosts) × (place.hosts ≤ MOST_NEXUSES) }
-    requires sender { place.sender < place.hosts }
-    requires reservation { place.reservation < count_of_reservations place.hosts }
     requires room { HasRoom place.hosts branch.now.ending }
     requires arm { arm ≤ MOST_ARMS }
     ensures { (s : Scope) (c : CommandOf) (tests : List TestOf) → IsRight s c tests view.now place senders branch.now arm → Grows (view_in s view.now) c tests tally.old tally.new (IsAt (view_in s view.now) place senders branch.now.region) }
@@ -94,9 +88,6 @@ fn add_branches(
     branches: &[Branch],
     arm: usize,
 )
-    requires hosts { (1 ≤ place.hosts) × (place.hosts ≤ MOST_NEXUSES) }
-    requires sender { place.sender < place.hosts }
-    requires reservation { place.reservation < count_of_reservations place.hosts }
     requires room { All (λ b. HasRoom place.hosts b.ending) branches.now }
     requires arm { arm ≤ MOST_ARMS }
     ensures { (s : Scope) (c : CommandOf) (tests : List TestOf) → AreRight s c tests view.now place senders branches.now arm → Grows (view_in s view.now) c tests tally.old tally.new (IsInOne (view_in s view.now) place senders branches.now (length branches.now)) }
@@ -117,10 +108,6 @@ fn add_accepted(
     arm: usize,
     registration: u8,
 )
-    requires hosts { (1 ≤ place.hosts) × (place.hosts ≤ MOST_NEXUSES) }
-    requires sender { place.sender < place.hosts }
-    requires reservation { place.reservation < count_of_reservations place.hosts }
-    requires held { IsTrue (is_reservation place.hosts place.held) }
     requires number { HasNumber purpose }
     requires arm { arm ≤ MOST_ARMS }
     requires registration { registration ≤ MOST_KEYS }
@@ -133,9 +120,6 @@ fn add_accepted(
 
 // Adds those in which its reservation key is not accepted.
 fn add_refused(tally: &mut Tally, view: &Possibilities, place: Place, registration: u8)
-    requires hosts { (1 ≤ place.hosts) × (place.hosts ≤ MOST_NEXUSES) }
-    requires sender { place.sender < place.hosts }
-    requires reservation { place.reservation < count_of_reservations place.hosts }
     requires registration { registration ≤ MOST_KEYS }
     ensures { (s : Scope) (c : CommandOf) (tests : List TestOf) → IsRefusedAt s c view.now place registration → Grows (view_in s view.now) c tests tally.old tally.new (HasBoth s place registration) }
 {
@@ -173,9 +157,6 @@ fn is_tallied(
     region: &Region,
     arm: usize,
 ) -> bool
-    requires hosts { (1 ≤ place.hosts) × (place.hosts ≤ MOST_NEXUSES) }
-    requires sender { place.sender < place.hosts }
-    requires reservation { place.reservation < count_of_reservations place.hosts }
     requires arm { arm ≤ MOST_ARMS }
     ensures { IsTrue result → (s : Scope) → IsPlace s view.now place → IsUniform senders → (u : UnitState) (i : Item) → IsAt (view_in s view.now) place senders region.now u → IsRegistered s u i → (has_tallied tally.now 1 i ≡ true) × (has_tallied tally.now (3 + arm) i ≡ true) }
 {
@@ -192,9 +173,6 @@ fn add_reading(
     registration: u8,
     reading: &Reading,
 )
-    requires hosts { (1 ≤ place.hosts) × (place.hosts ≤ MOST_NEXUSES) }
-    requires sender { place.sender < place.hosts }
-    requires reservation { place.reservation < count_of_reservations place.hosts }
     requires registration { registration ≤ MOST_KEYS }
     ensures { (s : Scope) (c : CommandOf) (tests : List TestOf) → IsRightReading s c tests view.now place registration reading.now → Grows (view_in s view.now) c tests tally.old tally.new (IsReadAt s view.now place registration reading.now) }
 {
@@ -227,9 +205,6 @@ fn add_readings(
     registration: u8,
     readings: &[Reading],
 )
-    requires hosts { (1 ≤ place.hosts) × (place.hosts ≤ MOST_NEXUSES) }
-    requires sender { place.sender < place.hosts }
-    requires reservation { place.reservation < count_of_reservations place.hosts }
     requires registration { registration ≤ MOST_KEYS }
     ensures { (s : Scope) (c : CommandOf) (tests : List TestOf) → AreRightReadings s c tests view.now place registration readings.now → Grows (view_in s view.now) c tests tally.old tally.new (IsReadFirst s view.now place registration readings.now (length readings.now)) }
 {
@@ -270,10 +245,6 @@ fn add_registration(
     tests: &[Test],
     registration: u8,
 )
-    requires hosts { (1 ≤ place.hosts) × (place.hosts ≤ MOST_NEXUSES) }
-    requires sender { place.sender < place.hosts }
-    requires reservation { place.reservation < count_of_reservations place.hosts }
-    requires held { IsTrue (is_reservation place.hosts place.held) }
     requires keys { AreDeclared keys.now }
     requires written { IsTrue (is_written keys.now command) }
     requires tests { All (λ t. test_fits keys.now command t ≡ true) tests.now }
@@ -308,10 +279,6 @@ fn add_place(
     command: Command,
     tests: &[Test],
 )
-    requires hosts { (1 ≤ place.hosts) × (place.hosts ≤ MOST_NEXUSES) }
-    requires sender { place.sender < place.hosts }
-    requires reservation { place.reservation < count_of_reservations place.hosts }
-    requires held { IsTrue (is_reservation place.hosts place.held) }
     requires keys { AreDeclared keys.now }
     requires few_keys { length keys.now ≤ MOST_KEYS }
     requires written { IsTrue (is_written keys.now command) }
@@ -340,10 +307,6 @@ fn add_reservation(
     command: Command,
     tests: &[Test],
 )
-    requires hosts { (1 ≤ place.hosts) × (place.hosts ≤ MOST_NEXUSES) }
-    requires sender { place.sender < place.hosts }
-    requires reservation { place.reservation < count_of_reservations place.hosts }
-    requires held { IsTrue (is_reservation place.hosts place.held) }
     requires keys { AreDeclared keys.now }
     requires few_keys { length keys.now ≤ MOST_KEYS }
     requires written { IsTrue (is_written keys.now command) }
@@ -382,12 +345,7 @@ pub(crate) fn tally(
     let mut reservation = 0;
     while reservation < hosts * 4 + 3 {
         if view.reservations.has(reservation) {
-            let place = Place {
-                hosts,
-                sender: own,
-                reservation,
-                held: reservation_at(hosts, reservation),
-            };
+            let place = Place::of(hosts, own, reservation);
             add_reservation(&mut tally, view, place, keys, command, tests);
         }
         reservation += 1;

@@ -1,7 +1,7 @@
 use Rattle.std.proofs.Common.{◌≡◌, ◌+◌, ◌*◌, sym, ◌∙◌, subst, arith}
 use Rattle.pr_views.specs.Portions.{view_in}
 use Rattle.pr_domain.specs.inside.Tallies.{Grows, IsReserved}
-use Rattle.pr_domain.proofs.Walking.{reservation_skipped, place_of_number, tally_of_all}
+use Rattle.pr_domain.proofs.Walking.{reservation_skipped, is_owners, tally_of_all}
 use Rattle.pr_domain.proofs.tallying.tally.Goals as goal
 use Rattle.pr_domain.proofs.tallying.tally.Goals.{then-has, else-has}
 
@@ -12,9 +12,12 @@ loop-reservation-preserved c = (
       let before = c.loop-reservation.invariant.0 s of in
       elim c.if-has.branch [
         | then-has w ↦
-            let owners = place_of_number s c.args.hosts c.args.own c.args.keys.now c.args.view.now n w.reservation_at.result of c.requires.own (sym c.has.ensures ∙ w.if-has.true) w.reservation_at.ensures.number w.reservation_at.ensures.fits in
+            let is_it = w.of-place.ensures.reservation in
+            let owners = is_owners s c.args.hosts c.args.own c.args.keys.now c.args.view.now n w.of-place.result of (sym c.has.ensures ∙ w.if-has.true) w.of-place.ensures.hosts w.of-place.ensures.sender is_it in
             subst (λ t. Grows (view_in s c.args.view.now) c.args.command c.args.tests.now c.none-tally.result t (IsReserved s (n + 1))) (sym w.tally-is)
-            (w.add_reservation.ensures s c.none-tally.result owners c.none-tally.ensures before)
+            (subst (λ m. Grows (view_in s c.args.view.now) c.args.command c.args.tests.now c.none-tally.result w.add_reservation.new.tally (IsReserved s (m + 1))) is_it
+            (w.add_reservation.ensures s c.none-tally.result owners c.none-tally.ensures
+            (subst (λ m. Grows (view_in s c.args.view.now) c.args.command c.args.tests.now c.none-tally.result c.loop-reservation.tally (IsReserved s m)) (sym is_it) before)))
         | else-has w ↦ subst (λ t. Grows (view_in s c.args.view.now) c.args.command c.args.tests.now c.none-tally.result t (IsReserved s (n + 1))) (sym w.tally-is)
             (reservation_skipped s c.args.command c.args.tests.now c.args.view.now n c.none-tally.result c.loop-reservation.tally (sym c.has.ensures ∙ w.if-has.false) before)
       ],

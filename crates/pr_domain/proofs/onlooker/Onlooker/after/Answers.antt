@@ -13,7 +13,7 @@ returns-clause-some c s is uniform proper =
     let gathered = c.in_ok-words.ensures.some s is.known uniform proper in
     is_after s c.args.self.now c.args.place.now c.args.senders c.args.region.now c.args.change.now words
     (record { registrations = c.registrations_after.result; reservations = c.only.result; pending = c.attentions_after.result }) pends.0 is
-    (let most = c.requires.hosts.1 in let same = is.known.hosts in omega arith) gathered pends.1
+    (let most = c.args.place.now.few in let same = is.known.hosts in omega arith) gathered pends.1
     (record {
       registrations = λ g small. c.registrations_after.ensures g;
       reservation = c.only.ensures;
