@@ -110,21 +110,13 @@ asked_back s c tests view place purpose arm r w branches asked only n u shown on
 -- ---- a key that is not accepted
 
 -- it is a conflict
-refused_conflicts : (u : State) (h : ℕ) (c : Command) → is_refused (key_of u h) c ≡ true → command_conflicts u h c ≡ true
-refused_conflicts u h command.TestUnitReady is = is
-refused_conflicts u h command.RequestSense is = is
+pub refused_conflicts : (u : State) (h : ℕ) (c : Command) → is_refused (key_of u h) c ≡ true → command_conflicts u h c ≡ true
 refused_conflicts u h (command.Read lba blocks) is = absurd (false≢true is)
 refused_conflicts u h (command.Write lba blocks) is = absurd (false≢true is)
-refused_conflicts u h (command.ReadKeys alloc) is = is
-refused_conflicts u h (command.ReadReservation alloc) is = is
-refused_conflicts u h (command.ReportCapabilities alloc) is = is
-refused_conflicts u h (command.Register rk sark) is = is
-refused_conflicts u h (command.RegisterIgnore sark) is = is
 refused_conflicts u h (command.Reserve rk kind) is = or_left (not (is_key (key_of u h) rk)) (conflicts_with_reserve u h u.held kind) is
-refused_conflicts u h (command.Release rk kind) is = is
-refused_conflicts u h (command.Clear rk) is = is
 refused_conflicts u h (command.Preempt rk sark kind) is = or_left (not (is_key (key_of u h) rk)) (not (sark == 0) && has_no_registrant u.keys sark) is
 refused_conflicts u h (command.PreemptAbort rk sark kind) is = or_left (not (is_key (key_of u h) rk)) (not (sark == 0) && has_no_registrant u.keys sark) is
+refused_conflicts u h _ is = is
 
 few_keys : (keys : List ℕ) → AreDeclared keys → length keys ≤ 12
 few_keys keys declared = leb-true (length keys) 12 (and_parts (nat_le (length keys) 12) (are_distinct (λ j k. j == k) keys) declared.once).0

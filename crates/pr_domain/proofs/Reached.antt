@@ -9,7 +9,7 @@ use Rattle.pr_cdb.specs.declared.command.Kind.{Kind}
 use Rattle.pr_cdb.specs.declared.reply.Sense.{Sense}
 use Rattle.pr_cdb.specs.declared.codes.TheConstants.{MOST_NEXUSES, INVALID_FIELD_IN_PARAMETER_LIST}
 use Rattle.pr_registry.specs.declared.held.Held.{Held}
-use Rattle.pr_registry.specs.declared.held.Held.TheVariants.{One, All}
+use Rattle.pr_registry.specs.declared.held.Held.TheVariants.{One}
 use Rattle.pr_registry.specs.Registrations.{IsKey, key_of, is_registered, new_reservation, holds_alone, kind_of}
 use Rattle.pr_registry.specs.Changes.{is_kind, is_held_by_all, is_told_of_loss}
 use Rattle.pr_unit.specs.UnitStates.{UnitState}
@@ -218,12 +218,10 @@ module _ (s : Scope) (o : Onlooker) (place : Place) (clause : Clause) (reach : R
       absurd (false≢true (sym none ∙ registered_too clause.condition place.held (is_registered u.registry place.sender) meets))
     where
       registered_too : (condition : Option Condition) (v : Option Held) (b : Bool) → holds_as condition v place.sender b ≡ true → holds_as condition v place.sender true ≡ true
-      registered_too None v b meets = refl
-      registered_too (Some condition.Registered) v b meets = refl
       registered_too (Some condition.Holder) None b meets = meets
       registered_too (Some condition.Holder) (Some (One t h)) b meets = meets
-      registered_too (Some condition.Holder) (Some (All t)) b meets = refl
       registered_too (Some condition.Reserved) v b meets = meets
+      registered_too _ _ b meets = refl
 
 -- ---- reservation after reservation
 

@@ -39,25 +39,17 @@ abbrev pub retyped : UnitState → Option Held → UnitState
 retyped u held = record u { registry = record u.registry { held = held } }
 
 turned : (v w : Option Held) → AreTwins v w → AreTwins w v
-turned None w same = absurd same
-turned (Some (One t g)) None same = absurd same
 turned (Some (One t g)) (Some (One k h)) same = sym same
-turned (Some (One t g)) (Some (All k)) same = absurd same
-turned (Some (All t)) None same = absurd same
-turned (Some (All t)) (Some (One k h)) same = absurd same
 turned (Some (All t)) (Some (All k)) same = tt
+turned _ _ same = absurd same
 
 -- ---- it is shown as well
 
 holder_kept : (keys : Keys) (hosts : ℕ) (v w : Option Held) → AreTwins v w → is_reservation hosts w ≡ true → HasHolder keys v → HasHolder keys w
-holder_kept keys hosts None w same fits has = absurd same
-holder_kept keys hosts (Some (One t g)) None same fits has = absurd same
 holder_kept keys hosts (Some (One t g)) (Some (One k h)) same fits has =
     (not-true (is_all k) (and_parts (not (is_all k)) (nat_lt h hosts) fits).0, subst (λ n. map.contains_key keys n ≡ true) same has.1)
-holder_kept keys hosts (Some (One t g)) (Some (All k)) same fits has = absurd same
-holder_kept keys hosts (Some (All t)) None same fits has = absurd same
-holder_kept keys hosts (Some (All t)) (Some (One k h)) same fits has = absurd same
 holder_kept keys hosts (Some (All t)) (Some (All k)) same fits has = (fits, has.1)
+holder_kept keys hosts _ _ same fits has = absurd same
 
 shown_retyped : (s : Scope) (view : Possibilities) (u : UnitState) (w : Option Held) → Shows (view_in s view) u → AreTwins u.registry.held w → is_reservation s.hosts w ≡ true
     → has_wide view.reservations (number_of s.hosts w) ≡ true → Shows (view_in s view) (retyped u w)
@@ -86,20 +78,9 @@ pub record OnlyReads (s : Scope) (c : Command) (u : UnitState) : Type 0 where
   pub still : (effect u s.own c).registry ≡ u.registry
 
 pub only_reads : (s : Scope) (c : Command) (u : UnitState) → (is_read_keys c || is_read_reservation c) ≡ true → OnlyReads s c u
-only_reads s command.TestUnitReady u reads = absurd (false≢true reads)
-only_reads s command.RequestSense u reads = absurd (false≢true reads)
-only_reads s (command.Read lba blocks) u reads = absurd (false≢true reads)
-only_reads s (command.Write lba blocks) u reads = absurd (false≢true reads)
 only_reads s (command.ReadKeys alloc) u reads = record { free = refl; whole = refl; still = refl }
 only_reads s (command.ReadReservation alloc) u reads = record { free = refl; whole = refl; still = refl }
-only_reads s (command.ReportCapabilities alloc) u reads = absurd (false≢true reads)
-only_reads s (command.Register rk sark) u reads = absurd (false≢true reads)
-only_reads s (command.RegisterIgnore sark) u reads = absurd (false≢true reads)
-only_reads s (command.Reserve rk kind) u reads = absurd (false≢true reads)
-only_reads s (command.Release rk kind) u reads = absurd (false≢true reads)
-only_reads s (command.Clear rk) u reads = absurd (false≢true reads)
-only_reads s (command.Preempt rk sark kind) u reads = absurd (false≢true reads)
-only_reads s (command.PreemptAbort rk sark kind) u reads = absurd (false≢true reads)
+only_reads s _ u reads = absurd (false≢true reads)
 
 -- what is left is what is there
 pub left_there : (s : Scope) (c : Command) (tests : List Test) → (is_read_keys c || is_read_reservation c) ≡ true → (u : UnitState) (way : ℕ) (i : Item) → Leaves s c tests way u i → IsRegistered s u i
@@ -110,13 +91,9 @@ left_there s c tests reads u (suc (suc (suc n))) i leaves = still_registered s u
 
 -- the key of the reservation that is read
 same_key : (keys : Keys) (v w : Option Held) → AreTwins v w → option_map (λ r. r.0) (reservation keys w) ≡ option_map (λ r. r.0) (reservation keys v)
-same_key keys None w same = absurd same
-same_key keys (Some (One t g)) None same = absurd same
 same_key keys (Some (One t g)) (Some (One k h)) same = ap (λ n. Some (unwrap_or (map.get keys n) 0)) (sym same)
-same_key keys (Some (One t g)) (Some (All k)) same = absurd same
-same_key keys (Some (All t)) None same = absurd same
-same_key keys (Some (All t)) (Some (One k h)) same = absurd same
 same_key keys (Some (All t)) (Some (All k)) same = refl
+same_key keys _ _ same = absurd same
 
 module _ (s : Scope) (view : Possibilities) (c : Command) (tests : List Test) (reads : (is_read_keys c || is_read_reservation c) ≡ true) (written : is_written s.keys c ≡ true)
     (fit : Each (λ t. test_fits s.keys c t ≡ true) tests) where
@@ -127,24 +104,13 @@ module _ (s : Scope) (view : Possibilities) (c : Command) (tests : List Test) (r
     where
       at : (c : Command) → (is_read_keys c || is_read_reservation c) ≡ true → is_written s.keys c ≡ true → Each (λ t. test_fits s.keys c t ≡ true) tests
           → first_test tests (good (data_of (retyped u w).registry c)) ≡ first_test tests (good (data_of u.registry c))
-      at command.TestUnitReady reads written fit = absurd (false≢true reads)
-      at command.RequestSense reads written fit = absurd (false≢true reads)
-      at (command.Read lba blocks) reads written fit = absurd (false≢true reads)
-      at (command.Write lba blocks) reads written fit = absurd (false≢true reads)
       at (command.ReadKeys alloc) reads written fit = refl
       at (command.ReadReservation alloc) reads written fit =
           let whole : alloc ≡ WRITTEN_LENGTH = grind (arith, nat_tests) in
           let key = key_in u.registry in
           subst (λ n. first_test tests (good (data_of (retyped u w).registry (command.ReadReservation n))) ≡ first_test tests (good (data_of u.registry (command.ReadReservation n)))) (sym whole)
           (first_found s.keys (retyped u w) tests key also.formed.registry fit (same_key u.registry.keys u.registry.held w same) ∙ sym (first_found s.keys u tests key shown.formed.registry fit refl))
-      at (command.ReportCapabilities alloc) reads written fit = absurd (false≢true reads)
-      at (command.Register rk sark) reads written fit = absurd (false≢true reads)
-      at (command.RegisterIgnore sark) reads written fit = absurd (false≢true reads)
-      at (command.Reserve rk kind) reads written fit = absurd (false≢true reads)
-      at (command.Release rk kind) reads written fit = absurd (false≢true reads)
-      at (command.Clear rk) reads written fit = absurd (false≢true reads)
-      at (command.Preempt rk sark kind) reads written fit = absurd (false≢true reads)
-      at (command.PreemptAbort rk sark kind) reads written fit = absurd (false≢true reads)
+      at _ reads written fit = absurd (false≢true reads)
 
   -- it goes the same way, and leaves what is there
   leaves_alike : (u : UnitState) (w : Option Held) (way : ℕ) (i j : Item) → Shows (view_in s view) u → Shows (view_in s view) (retyped u w) → AreTwins u.registry.held w
