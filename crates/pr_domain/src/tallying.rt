@@ -2,6 +2,7 @@
 
 ghost use Rattle.std.specs.Prelude.{◌≡◌, ◌<◌, ◌≤◌, ◌+◌, ℕ, List, ◌==◌, ◌||◌, length, IsTrue, true, IfSome, IfNone};
 ghost use Rattle.pr_script.specs.Grammar.{is_written, test_fits, is_read_keys, is_read_reservation};
+ghost use Rattle.pr_script.specs.declared.limits.TheConstants.{MOST_ARMS};
 ghost use Rattle.pr_views.specs.Possibilities.{key_at};
 ghost use Rattle.pr_roles.specs.Fitting.{AreDeclared};
 ghost use Rattle.pr_regions.specs.Purposes.{HasNumber};
@@ -34,6 +35,19 @@ use pr_script::Test;
 use pr_script::limits::MOST_ARMS;
 use pr_sets::{Wide, Word};
 use pr_views::{MOST_REGISTRATIONS, Possibilities};
+
+/// What the owner asks: a command, and the tests of its send, written with these keys.
+#[derive(Clone, Copy)]
+pub(crate) struct TestedCommand<'a> {
+    pub(crate) keys: &'a [u64],
+    pub(crate) command: Command,
+    pub(crate) tests: &'a [Test],
+    ghost declared: { AreDeclared keys.now },
+    ghost few_keys: { length keys.now ≤ MOST_KEYS },
+    ghost written: { is_written keys.now command ≡ true },
+    ghost fit: { All (λ t. test_fits keys.now command t ≡ true) tests.now },
+    ghost few: { length tests.now ≤ MOST_ARMS },
+}
 
 // These registrations under this reservation.
 fn part(registrations: [Word; MOST_NEXUSES], reservation: u8) -> Possibilities
@@ -240,30 +254,31 @@ fn add_registration(
     tally: &mut Tally,
     view: &Possibilities,
     place: Place,
-    keys: &[u64],
-    command: Command,
-    tests: &[Test],
+    asked: &TestedCommand,
     registration: u8,
 )
-    requires keys { AreDeclared keys.now }
-    requires written { IsTrue (is_written keys.now command) }
-    requires tests { All (λ t. test_fits keys.now command t ≡ true) tests.now }
-    requires few { length tests.now ≤ MOST_ARMS }
-    requires registration { registration ≤ length keys.now }
-    ensures { (s : Scope) → IsOwners s keys.now view.now place → Grows (view_in s view.now) command tests.now tally.old tally.new (HasBoth s place registration) }
+    requires registration { registration ≤ length asked.now.keys.now }
+    ensures { (s : Scope) → IsOwners s asked.now.keys.now view.now place → Grows (view_in s view.now) asked.now.command asked.now.tests.now tally.old tally.new (HasBoth s place registration) }
 {
-    if is_refused(key_at(keys, registration), command) {
+    if is_refused(key_at(asked.keys, registration), asked.command) {
         add_refused(tally, view, place, registration);
-    } else if is_reading(command) {
-        let readings = readings(tests, command, keys, place.held, place.sender, registration);
+    } else if is_reading(asked.command) {
+        let readings = readings(
+            asked.tests,
+            asked.command,
+            asked.keys,
+            place.held,
+            place.sender,
+            registration,
+        );
         add_readings(tally, view, place, registration, &readings);
     } else {
-        let arm = way_of(first_arm(tests, Class::Good));
+        let arm = way_of(first_arm(asked.tests, Class::Good));
         add_accepted(
             tally,
             view,
             place,
-            purpose_of(command, keys),
+            purpose_of(asked.command, asked.keys),
             arm,
             registration,
         );
@@ -271,27 +286,15 @@ fn add_registration(
 }
 
 // Adds the states under one reservation.
-fn add_place(
-    tally: &mut Tally,
-    view: &Possibilities,
-    place: Place,
-    keys: &[u64],
-    command: Command,
-    tests: &[Test],
-)
-    requires keys { AreDeclared keys.now }
-    requires few_keys { length keys.now ≤ MOST_KEYS }
-    requires written { IsTrue (is_written keys.now command) }
-    requires tests { All (λ t. test_fits keys.now command t ≡ true) tests.now }
-    requires few { length tests.now ≤ MOST_ARMS }
-    ensures { (s : Scope) → IsOwners s keys.now view.now place → Grows (view_in s view.now) command tests.now tally.old tally.new (HasFirst s place (length keys.now + 1)) }
+fn add_place(tally: &mut Tally, view: &Possibilities, place: Place, asked: &TestedCommand)
+    ensures { (s : Scope) → IsOwners s asked.now.keys.now view.now place → Grows (view_in s view.now) asked.now.command asked.now.tests.now tally.old tally.new (HasFirst s place (length asked.now.keys.now + 1)) }
 {
-    let registrations = keys.len() as u8 + 1;
+    let registrations = asked.keys.len() as u8 + 1;
     let possible = view.registrations[usize::from(place.sender)];
     let mut registration = 0;
     while registration < registrations {
         if possible.has(registration) {
-            add_registration(tally, view, place, keys, command, tests, registration);
+            add_registration(tally, view, place, asked, registration);
         }
         registration += 1;
     }
@@ -299,54 +302,30 @@ fn add_place(
 
 // Adds the states under one reservation to those under all that come before it. Commands that read end alike under
 // reservations with the same holders.
-fn add_reservation(
-    tally: &mut Tally,
-    view: &Possibilities,
-    place: Place,
-    keys: &[u64],
-    command: Command,
-    tests: &[Test],
-)
-    requires keys { AreDeclared keys.now }
-    requires few_keys { length keys.now ≤ MOST_KEYS }
-    requires written { IsTrue (is_written keys.now command) }
-    requires tests { All (λ t. test_fits keys.now command t ≡ true) tests.now }
-    requires few { length tests.now ≤ MOST_ARMS }
-    ensures { (s : Scope) (none : TallyOf) → IsOwners s keys.now view.now place → IsNothing none → Grows (view_in s view.now) command tests.now none tally.old (IsReserved s place.reservation) → Grows (view_in s view.now) command tests.now none tally.new (IsReserved s (place.reservation + 1)) }
+fn add_reservation(tally: &mut Tally, view: &Possibilities, place: Place, asked: &TestedCommand)
+    ensures { (s : Scope) (none : TallyOf) → IsOwners s asked.now.keys.now view.now place → IsNothing none → Grows (view_in s view.now) asked.now.command asked.now.tests.now none tally.old (IsReserved s place.reservation) → Grows (view_in s view.now) asked.now.command asked.now.tests.now none tally.new (IsReserved s (place.reservation + 1)) }
 {
-    if is_reading(command) {
+    if is_reading(asked.command) {
         if let Some(twin) = place.twin(view) {
             tally.add_twin(twin, place.reservation);
             return;
         }
     }
-    add_place(tally, view, place, keys, command, tests);
+    add_place(tally, view, place, asked);
 }
 
 /// How the owner's command ends in each of the states that the view shows, and what is so then.
-pub(crate) fn tally(
-    view: &Possibilities,
-    keys: &[u64],
-    hosts: u8,
-    own: u8,
-    command: Command,
-    tests: &[Test],
-) -> Tally
+pub(crate) fn tally(view: &Possibilities, hosts: u8, own: u8, asked: &TestedCommand) -> Tally
     requires hosts { (1 ≤ hosts) × (hosts ≤ MOST_NEXUSES) }
     requires own { own < hosts }
-    requires keys { AreDeclared keys.now }
-    requires few_keys { length keys.now ≤ MOST_KEYS }
-    requires written { IsTrue (is_written keys.now command) }
-    requires tests { All (λ t. test_fits keys.now command t ≡ true) tests.now }
-    requires few { length tests.now ≤ MOST_ARMS }
-    ensures { (s : Scope) → IsOfScope s hosts own keys.now view.now → IsTally (view_in s view.now) command tests.now result }
+    ensures { (s : Scope) → IsOfScope s hosts own asked.now.keys.now view.now → IsTally (view_in s view.now) asked.now.command asked.now.tests.now result }
 {
     let mut tally = Tally::none();
     let mut reservation = 0;
     while reservation < hosts * 4 + 3 {
         if view.reservations.has(reservation) {
             let place = Place::of(hosts, own, reservation);
-            add_reservation(&mut tally, view, place, keys, command, tests);
+            add_reservation(&mut tally, view, place, asked);
         }
         reservation += 1;
     }
