@@ -310,7 +310,7 @@ module _ (s : Scope) (o : Onlooker) (clause : Clause) (reach : Reach) (is : IsOn
 
       sent : HasNumber o.other
       sent =
-          let seen = shown.registrations o.other (subst (λ n. o.other < n) (sym is.hosts) is.there) in
+          let seen = shown.registrations o.other (subst (λ n. o.other < n) (sym is.hosts) o.other_there) in
           let found = within_it.sender seen.0 seen.1.1 in
           (found.0, found.1, at found.0 seen.0 seen.1.1 found.2)
         where

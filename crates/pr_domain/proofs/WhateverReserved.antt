@@ -1,10 +1,9 @@
 -- What a command reaches whatever is reserved.
-use Rattle.std.proofs.Common.{◌≡◌, ◌≢◌, ◌⊎◌, ℕ, ◌<◌, ◌≤◌, Bool, true, false, ◌==◌, ◌&&◌, ◌||◌, not, Option, Some, None, refl, sym, ap, ◌∙◌, subst, inl, inr, arith}
+use Rattle.std.proofs.Common.{◌≡◌, ◌≢◌, ◌⊎◌, ℕ, ◌<◌, Bool, true, false, ◌==◌, ◌&&◌, ◌||◌, not, Option, Some, None, refl, sym, ap, ◌∙◌, subst, inl, inr, arith}
 use Rattle.std.proofs.lemmas.Bool.{false≢true, lt-ltb}
 use Rattle.std.proofs.lemmas.Bool.Decides.{nat_tests, eqb_tells}
 use Rattle.std.proofs.lemmas.Option.{same_Some}
 use Rattle.pr_cdb.specs.declared.command.Kind.{Kind}
-use Rattle.pr_cdb.specs.declared.codes.TheConstants.{MOST_NEXUSES}
 use Rattle.pr_registry.specs.declared.held.Held.{Held}
 use Rattle.pr_registry.specs.declared.held.Held.TheVariants.{One, All}
 use Rattle.pr_registry.specs.Registrations.{new_reservation, is_all}
@@ -39,9 +38,9 @@ reach_of_places s o clause reach is each x u w led =
           sender = o.other;
           reservation = x;
           held = held_at s.hosts x;
-          some = subst (λ n. 1 ≤ n) is.hosts is.fits.scope.hosts.0;
-          few = subst (λ n. n ≤ MOST_NEXUSES) is.hosts is.fits.scope.hosts.1;
-          there = is.there;
+          some = o.some;
+          few = o.few;
+          there = o.other_there;
           below = subst (λ n. x < count_of_reservations n) is.hosts below;
           number = subst (λ n. x ≡ number_of n (held_at s.hosts x)) is.hosts numbered.1;
           fits = subst (λ n. is_reservation n (held_at s.hosts x) ≡ true) is.hosts numbered.0;

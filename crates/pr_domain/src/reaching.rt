@@ -38,8 +38,6 @@ use pr_views::{
 impl Onlooker {
     /// What a command that reaches no more than this can leave at most, beside what was so before it.
     pub(crate) fn most(&self, reach: &Reach) -> Possibilities
-        requires own { self.now.own < MOST_NEXUSES }
-        requires other { self.now.other < MOST_NEXUSES }
         ensures { (s : Scope) (clause : ClauseOf) → IsOnlooking s self.now → IsReach s self.now.view clause self.now.other reach.now → IsMost s self.now.view clause self.now.other result }
     {
         Possibilities {
@@ -51,8 +49,6 @@ impl Onlooker {
 
     /// What a command of this clause reaches under the reservations that are possible.
     pub(crate) fn reach(&self, clause: &Clause, keys: &[u64]) -> Reach
-        requires hosts { (1 ≤ self.now.hosts) × (self.now.hosts ≤ MOST_NEXUSES) }
-        requires other { self.now.other < self.now.hosts }
         requires keys { length keys.now ≤ MOST_KEYS }
         requires action { IsClause keys.now clause.now }
         ensures { (s : Scope) → IsOnlooking s self.now → s.keys ≡ keys.now → IsReach s self.now.view clause.now self.now.other result }
@@ -159,7 +155,6 @@ impl Onlooker {
 
     // The registrations that are in reach.
     fn registrations_within(&self, reach: &Reach) -> [Word; MOST_NEXUSES]
-        requires other { self.now.other < MOST_NEXUSES }
         ensures given { (n : ℕ) → has reach.now.given n ≡ true → has_at result self.now.other n ≡ true }
         ensures freed { (g r : ℕ) → g < MOST_NEXUSES → g ≢ self.now.other → has_at self.now.view.registrations g r ≡ true → has reach.now.removed r ≡ true → has_at result g 0 ≡ true }
     {
@@ -177,7 +172,6 @@ impl Onlooker {
 
     // The attentions that are in reach.
     fn pending_within(&self, reach: &Reach) -> Word
-        requires own { self.now.own < MOST_NEXUSES }
         ensures { (r q n : ℕ) → has_at self.now.view.registrations self.now.own r ≡ true → has self.now.view.pending q ≡ true → q < ATTENTION_SETS → IsTold reach.now r q n → has result n ≡ true }
     {
         let owners = self.view.registrations[usize::from(self.own)];
