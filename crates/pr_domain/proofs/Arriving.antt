@@ -7,14 +7,14 @@ use Rattle.std.proofs.lemmas.List.Quantifiers.{position-Some}
 use Rattle.std.proofs.lemmas.Nat.{row_fits}
 use Rattle.std.proofs.Math.Nat.{mul_comm}
 use Rattle.pr_cdb.specs.declared.command.Kind.{Kind}
-use Rattle.pr_cdb.specs.declared.command.Kind.TheVariants.{WriteExclusive, ExclusiveAccess, WriteExclusiveRegistrantsOnly, ExclusiveAccessRegistrantsOnly, WriteExclusiveAllRegistrants, ExclusiveAccessAllRegistrants}
+use Rattle.pr_cdb.specs.declared.command.Kind.TheVariants.{WriteExclusive, WriteExclusiveAllRegistrants, ExclusiveAccessAllRegistrants}
 use Rattle.pr_cdb.specs.declared.command.Command.{Command}
 use Rattle.pr_cdb.specs.declared.reply.Reply.{Reply}
 use Rattle.pr_cdb.specs.declared.reply.Sense.{Sense}
 use Rattle.pr_cdb.specs.declared.wire.Request.TheVariants.{Plain}
 use Rattle.pr_cdb.specs.Requests.{Fits as FitsCommand}
 use Rattle.pr_attention.specs.declared.attention.Attention.{Attention}
-use Rattle.pr_attention.specs.declared.attention.Attention.TheVariants.{PowerOn, ReservationsPreempted, ReservationsReleased, RegistrationsPreempted}
+use Rattle.pr_attention.specs.declared.attention.Attention.TheVariants.{PowerOn}
 use Rattle.pr_attention.specs.Attentions.{power_on, code_of}
 use Rattle.pr_registry.specs.declared.held.Held.{Held}
 use Rattle.pr_registry.specs.declared.held.Held.TheVariants.{One, All}
@@ -55,19 +55,12 @@ use Rattle.pr_domain.proofs.EachWay.{way_of_tally, either_way, told_power_on, to
 
 few_places : (kind : Kind) → place_of kind < 4
 few_places WriteExclusive = lit< tt
-few_places ExclusiveAccess = lit< tt
-few_places WriteExclusiveRegistrantsOnly = lit< tt
-few_places ExclusiveAccessRegistrantsOnly = lit< tt
-few_places WriteExclusiveAllRegistrants = lit< tt
-few_places ExclusiveAccessAllRegistrants = lit< tt
+few_places _ = lit< tt
 
 two_places : (kind : Kind) → is_all kind ≡ true → place_of kind < 2
-two_places WriteExclusive is = absurd (false≢true is)
-two_places ExclusiveAccess is = absurd (false≢true is)
-two_places WriteExclusiveRegistrantsOnly is = absurd (false≢true is)
-two_places ExclusiveAccessRegistrantsOnly is = absurd (false≢true is)
 two_places WriteExclusiveAllRegistrants is = lit< tt
 two_places ExclusiveAccessAllRegistrants is = lit< tt
+two_places _ is = absurd (false≢true is)
 
 number_below : (hosts : ℕ) (held : Option Held) → is_reservation hosts held ≡ true → number_of hosts held < count_of_reservations hosts
 number_below hosts None is = omega arith
@@ -140,9 +133,7 @@ module _ (q : Sending) (asked : IsAsked q) where
 
   may : (a : Attention) → IsLater a → (u : UnitState) → MayReport q.command q.sender u a ↔ ((is_pending u q.sender power_on ≡ false) × (command_conflicts u.registry q.sender q.command ≡ false))
   may PowerOn later u = absurd later
-  may ReservationsPreempted later u = (λ x. x, λ x. x)
-  may ReservationsReleased later u = (λ x. x, λ x. x)
-  may RegistrationsPreempted later u = (λ x. x, λ x. x)
+  may _ later u = (λ x. x, λ x. x)
 
   pub adds_report : (a : Attention) (l : Landing) (p : Possibilities) (calm left : Word) → IsLater a → slice_get q.tally.now.ways 1 ≡ Some p → AreCalm q.known calm → AreReported 16 calm a left
       → IsLanding q.tests.now (report (Plain q.command) (code_of a)) l → IsAddedBy q (Reports a) (LandsBy (view_of_sending q) q.command q.tests.now (Reports a)) l p left

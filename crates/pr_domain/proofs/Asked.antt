@@ -44,7 +44,7 @@ only_uniform r w only none m there =
 pub sender_is : (s : Scope) (view : Possibilities) (place : Place) (r : ℕ) (w : Word) (region : Region) (u : UnitState) → IsPlace s view place → ((m : ℕ) → has w m ≡ (m == r))
     → IsAt (view_in s view) place w region u → IsSo s u (Registration place.sender r)
 sender_is s view place r w region u is only at =
-    let below : place.sender < s.hosts = subst (λ n. place.sender < n) (sym is.hosts) is.sender in
+    let below : place.sender < s.hosts = subst (λ n. place.sender < n) (sym is.hosts) place.there in
     let seen = at.shown.registrations place.sender below in
     let same : seen.0 ≡ r = (let tells = sym (only seen.0) ∙ at.sender seen.0 seen.1.1 in grind (arith, nat_tests)) in
     subst (λ n. IsSo s u (Registration place.sender n)) same seen.1.1
@@ -54,7 +54,7 @@ meets : (s : Scope) (c : Command) (tests : List Test) (view : Possibilities) (pl
     → Shows (view_in s view) u → HasBoth s place r u → Meets s purpose place.held place.sender (standing_of purpose r) u c
 meets s c tests view place purpose arm r u asked shown both = record {
   scope = asked.is.fits.scope;
-  below = subst (λ n. place.sender < n) (sym asked.is.hosts) asked.is.sender;
+  below = subst (λ n. place.sender < n) (sym asked.is.hosts) place.there;
   formed = shown.formed;
   hosts = shown.hosts;
   numbered = λ g below. let seen = shown.registrations g below in (seen.0, seen.1.1);
@@ -110,21 +110,13 @@ asked_back s c tests view place purpose arm r w branches asked only n u shown on
 -- ---- a key that is not accepted
 
 -- it is a conflict
-refused_conflicts : (u : State) (h : ℕ) (c : Command) → is_refused (key_of u h) c ≡ true → command_conflicts u h c ≡ true
-refused_conflicts u h command.TestUnitReady is = is
-refused_conflicts u h command.RequestSense is = is
+pub refused_conflicts : (u : State) (h : ℕ) (c : Command) → is_refused (key_of u h) c ≡ true → command_conflicts u h c ≡ true
 refused_conflicts u h (command.Read lba blocks) is = absurd (false≢true is)
 refused_conflicts u h (command.Write lba blocks) is = absurd (false≢true is)
-refused_conflicts u h (command.ReadKeys alloc) is = is
-refused_conflicts u h (command.ReadReservation alloc) is = is
-refused_conflicts u h (command.ReportCapabilities alloc) is = is
-refused_conflicts u h (command.Register rk sark) is = is
-refused_conflicts u h (command.RegisterIgnore sark) is = is
 refused_conflicts u h (command.Reserve rk kind) is = or_left (not (is_key (key_of u h) rk)) (conflicts_with_reserve u h u.held kind) is
-refused_conflicts u h (command.Release rk kind) is = is
-refused_conflicts u h (command.Clear rk) is = is
 refused_conflicts u h (command.Preempt rk sark kind) is = or_left (not (is_key (key_of u h) rk)) (not (sark == 0) && has_no_registrant u.keys sark) is
 refused_conflicts u h (command.PreemptAbort rk sark kind) is = or_left (not (is_key (key_of u h) rk)) (not (sark == 0) && has_no_registrant u.keys sark) is
+refused_conflicts u h _ is = is
 
 few_keys : (keys : List ℕ) → AreDeclared keys → length keys ≤ 12
 few_keys keys declared = leb-true (length keys) 12 (and_parts (nat_le (length keys) 12) (are_distinct (λ j k. j == k) keys) declared.once).0

@@ -39,7 +39,7 @@ use Rattle.pr_domain.specs.inside.Tallies.{arm_of, way_of, Grows, IsRight, HasBo
 use Rattle.pr_domain.specs.declared.landing.Class.TheVariants as class
 use Rattle.pr_domain.specs.inside.Reporting.{looks, takes, AreBlind}
 use Rattle.pr_domain.proofs.Matching.{first_of_class}
-use Rattle.pr_domain.proofs.Gathered.{same_reservation}
+use Rattle.pr_domain.proofs.Gathered.{same_reservation, number_at}
 use Rattle.pr_domain.proofs.Growing.{grows_then, grows_from_none}
 use Rattle.pr_domain.proofs.Asked.{only_uniform, sender_is}
 
@@ -114,12 +114,12 @@ ends_so : (s : Scope) (view : Possibilities) (place : Place) (r : ℕ) (c : Comm
     → (change : Change) → Does change None never place.reservation never never never → (u : UnitState) → Shows (view_in s view) u → HasBoth s place r u → Ends s s.own (ending.Good change) u c
 ends_so s view place r c asks accepted own is change does u shown both =
     subst (λ n. Ends s n (ending.Good change) u c) own
-    (same_ends s Look place.held place.sender (standing_of Look r) u c s.hosts change tt meets refl refl refl refl refl (subst (λ x. Does change None never x never never never) is.number does))
+    (same_ends s Look place.held place.sender (standing_of Look r) u c s.hosts change tt meets refl refl refl refl refl (subst (λ x. Does change None never x never never never) (number_at s view place is) does))
   where
     meets : Meets s Look place.held place.sender (standing_of Look r) u c
     meets = record {
       scope = is.fits.scope;
-      below = subst (λ n. place.sender < n) (sym is.hosts) is.sender;
+      below = subst (λ n. place.sender < n) (sym is.hosts) place.there;
       formed = shown.formed;
       hosts = shown.hosts;
       numbered = λ g below. let seen = shown.registrations g below in (seen.0, seen.1.1);
@@ -132,20 +132,9 @@ ends_so s view place r c asks accepted own is change does u shown both =
 -- such a command only looks
 look_ends : (s : Scope) (view : Possibilities) (place : Place) (r : ℕ) (c : Command) → (is_read_keys c || is_read_reservation c) ≡ true → place.sender ≡ s.own → IsPlace s view place
     → (change : Change) → Does change None never place.reservation never never never → (u : UnitState) → Shows (view_in s view) u → HasBoth s place r u → Ends s s.own (ending.Good change) u c
-look_ends s view place r command.TestUnitReady reads own is change does u shown both = absurd (false≢true reads)
-look_ends s view place r command.RequestSense reads own is change does u shown both = absurd (false≢true reads)
-look_ends s view place r (command.Read lba blocks) reads own is change does u shown both = absurd (false≢true reads)
-look_ends s view place r (command.Write lba blocks) reads own is change does u shown both = absurd (false≢true reads)
 look_ends s view place r (command.ReadKeys alloc) reads own is change does u shown both = ends_so s view place r (command.ReadKeys alloc) refl (λ k. refl) own is change does u shown both
 look_ends s view place r (command.ReadReservation alloc) reads own is change does u shown both = ends_so s view place r (command.ReadReservation alloc) refl (λ k. refl) own is change does u shown both
-look_ends s view place r (command.ReportCapabilities alloc) reads own is change does u shown both = absurd (false≢true reads)
-look_ends s view place r (command.Register rk sark) reads own is change does u shown both = absurd (false≢true reads)
-look_ends s view place r (command.RegisterIgnore sark) reads own is change does u shown both = absurd (false≢true reads)
-look_ends s view place r (command.Reserve rk kind) reads own is change does u shown both = absurd (false≢true reads)
-look_ends s view place r (command.Release rk kind) reads own is change does u shown both = absurd (false≢true reads)
-look_ends s view place r (command.Clear rk) reads own is change does u shown both = absurd (false≢true reads)
-look_ends s view place r (command.Preempt rk sark kind) reads own is change does u shown both = absurd (false≢true reads)
-look_ends s view place r (command.PreemptAbort rk sark kind) reads own is change does u shown both = absurd (false≢true reads)
+look_ends s view place r _ reads own is change does u shown both = absurd (false≢true reads)
 
 pub right_readings : (s : Scope) (keys : List ℕ) (c : Command) (tests : List Test) (view : Possibilities) (place : Place) (r : ℕ) (readings : List Reading) → IsOwners s keys view place
     → (is_read_keys c || is_read_reservation c) ≡ true → length tests ≤ 16 → ((hosts : ℕ) → AreReadings keys hosts tests c place.held place.sender r readings)
@@ -191,15 +180,10 @@ blind keys c tests none fit = All-weaker (λ t. test_fits keys c t ≡ true) (λ
     neither = or_neither (is_read_keys c) (is_read_reservation c) none
 
     each : (t : Test) → test_fits keys c t ≡ true → looks t ≡ false
-    each test.Good is = refl
     each (test.GoodHas key) is = absurd (false≢true (sym neither.0 ∙ (and_parts (is_read_keys c) (is_declared keys key) is).0))
     each (test.GoodHeld key) is = absurd (false≢true (sym neither.1 ∙ (and_parts (is_read_reservation c) (is_written_key keys key) is).0))
     each test.GoodUnheld is = absurd (false≢true (sym neither.1 ∙ (and_parts (is_read_reservation c) true is).0))
-    each test.Conflict is = refl
-    each test.Busy is = refl
-    each test.Full is = refl
-    each test.Attention is = refl
-    each (test.Sense wanted) is = refl
+    each _ is = refl
 
 pub arm_taken : (keys : List ℕ) (c : Command) (tests : List Test) (arm : Option ℕ) (way : ℕ) (u : State) → (is_read_keys c || is_read_reservation c) ≡ false → All (λ t. test_fits keys c t ≡ true) tests
     → length tests ≤ 16 → arm ≡ position (λ t. takes t class.Good) tests → (IfSome arm (λ n. n < 16) → way ≡ way_of arm) → IfNone arm (way ≡ 0)

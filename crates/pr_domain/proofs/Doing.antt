@@ -94,13 +94,6 @@ pub record Serves (c : Command) : Type 0 where
   pub looks : request_looks (Plain c) ≡ false
 
 looks_or_serves : (c : Command) → IsTrue (request_looks (Plain c)) ⊎ Serves c
-looks_or_serves command.TestUnitReady = inl refl
-looks_or_serves command.RequestSense = inl refl
-looks_or_serves (command.Read lba blocks) = inl refl
-looks_or_serves (command.Write lba blocks) = inl refl
-looks_or_serves (command.ReadKeys alloc) = inl refl
-looks_or_serves (command.ReadReservation alloc) = inl refl
-looks_or_serves (command.ReportCapabilities alloc) = inl refl
 looks_or_serves (command.Register rk sark) = inr (record { clause = refl; acts = refl; looks = refl })
 looks_or_serves (command.RegisterIgnore sark) = inr (record { clause = refl; acts = refl; looks = refl })
 looks_or_serves (command.Reserve rk kind) = inr (record { clause = refl; acts = refl; looks = refl })
@@ -108,6 +101,7 @@ looks_or_serves (command.Release rk kind) = inr (record { clause = refl; acts = 
 looks_or_serves (command.Clear rk) = inr (record { clause = refl; acts = refl; looks = refl })
 looks_or_serves (command.Preempt rk sark kind) = inr (record { clause = refl; acts = refl; looks = refl })
 looks_or_serves (command.PreemptAbort rk sark kind) = inr (record { clause = refl; acts = refl; looks = refl })
+looks_or_serves _ = inl refl
 
 pub done_leads : (v : View) (role : List Clause) (sender : ℕ) (u w : UnitState) → v.scope.own ≢ sender → Shows v u → IsDone role sender u w
     → IsLike v.scope.own u w ⊎ Among (length role) role (λ clause. ClauseLeads v clause sender u w)

@@ -16,7 +16,7 @@ use Rattle.pr_sets.specs.Words.{has}
 use Rattle.pr_sets.specs.Wides.{has_wide}
 use Rattle.pr_views.specs.declared.portion.Portion.{Portion}
 use Rattle.pr_views.specs.declared.possibilities.Possibilities.{Possibilities}
-use Rattle.pr_views.specs.Possibilities.{Scope, Registration, Reservation, IsSo}
+use Rattle.pr_views.specs.Possibilities.{Scope, Registration, Reservation, IsSo, number_of}
 use Rattle.pr_views.specs.Views.{IsSeen, Shows}
 use Rattle.pr_views.specs.Portions.{has_at, view_in, TestsRegistered, IsPortion, IsIn, GivesHolder, HasSomebody}
 use Rattle.pr_views.proofs.Numbering.{same_held, reservation_of, one_registration}
@@ -28,6 +28,13 @@ use Rattle.pr_domain.specs.inside.Gathering.{IsPlace, IsUniform, IsProper, IsAt,
 and_false : (b : Bool) → (b && false) ≡ false
 and_false true = refl
 and_false false = refl
+
+-- the number of its reservation, and that this is one, in the view's scope
+pub number_at : (s : Scope) (view : Possibilities) (place : Place) → IsPlace s view place → place.reservation ≡ number_of s.hosts place.held
+number_at s view place is = subst (λ n. place.reservation ≡ number_of n place.held) (sym is.hosts) place.number
+
+pub held_at : (s : Scope) (view : Possibilities) (place : Place) → IsPlace s view place → is_reservation s.hosts place.held ≡ true
+held_at s view place is = subst (λ n. is_reservation n place.held ≡ true) (sym is.hosts) place.fits
 
 passed_sender : (place : Place) (senders : Word) (region : Region) (r : ℕ) → passes place senders region place.sender r ≡ true → has senders r ≡ true
 passed_sender place senders region r is =
@@ -97,7 +104,7 @@ gives s view place senders region p is proper of (Some (All kind)) held fits = a
 
     at : (b : Bool) → has senders 0 ≡ b → (has_at p.registrations p.sender 0 ≡ false) ⊎ TestsRegistered p.somebody
     at false none = inl (subst (λ n. has_at p.registrations n 0 ≡ false) (sym of.sender)
-        (of.left place.sender 0 is.sender ∙ ap (λ b. has_at view.registrations place.sender 0 && b) (unsent none) ∙ and_false (has_at view.registrations place.sender 0)))
+        (of.left place.sender 0 place.there ∙ ap (λ b. has_at view.registrations place.sender 0 && b) (unsent none) ∙ and_false (has_at view.registrations place.sender 0)))
       where
         unsent : has senders 0 ≡ false → passes place senders region place.sender 0 ≡ false
         unsent none =
@@ -115,11 +122,11 @@ gives s view place senders region p is proper of (Some (All kind)) held fits = a
 pub is_portion : (s : Scope) (view : Possibilities) (place : Place) (senders : Word) (region : Region) (p : Portion) → IsPlace s view place → IsProper region
     → IsPortionOf view place senders region p → IsPortion (view_in s view) p
 is_portion s view place senders region p is proper of = record {
-  sender = subst (λ n. n < s.hosts) (sym of.sender) (subst (λ n. place.sender < n) (sym is.hosts) is.sender);
+  sender = subst (λ n. n < s.hosts) (sym of.sender) (subst (λ n. place.sender < n) (sym is.hosts) place.there);
   registrations = λ g r below has. (and_parts (has_at view.registrations g r) _ (sym (of.left g r (subst (λ n. g < n) is.hosts below)) ∙ has)).0;
   reservation = subst (λ n. has_wide view.reservations n ≡ true) (sym of.reservation) is.possible;
   holder = λ held fits number.
-      let same = same_held s.hosts place.held held is.held fits (sym is.number ∙ sym of.reservation ∙ number) in
+      let same = same_held s.hosts place.held held (held_at s view place is) fits (sym (number_at s view place is) ∙ sym of.reservation ∙ number) in
       gives s view place senders region p is proper of held same fits;
 }
 
@@ -130,7 +137,7 @@ pub same_reservation : (s : Scope) (view : Possibilities) (place : Place) (u : U
     → u.registry.held ≡ place.held
 same_reservation s view place u is shown so =
     let fits = subst (λ n. is_reservation n u.registry.held ≡ true) shown.hosts (reservation_of u.registry shown.formed.registry) in
-    same_held s.hosts u.registry.held place.held fits is.held (sym so ∙ is.number)
+    same_held s.hosts u.registry.held place.held fits (held_at s view place is) (sym so ∙ number_at s view place is)
 
 pub at_from_in : (s : Scope) (view : Possibilities) (place : Place) (senders : Word) (region : Region) (p : Portion) → IsPlace s view place
     → IsPortionOf view place senders region p → (u : UnitState) → IsIn (view_in s view) p u → IsAt (view_in s view) place senders region u

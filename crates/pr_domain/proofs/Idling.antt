@@ -50,20 +50,8 @@ zero_from_idle s u formed idle = (omega arith, λ code. false_from_ne_true (is_p
 -- ---- what ends GOOD
 
 looks_not : (c : Command) → is_always_permitted c ≡ false → is_request_sense (Plain c) ≡ false
-looks_not command.TestUnitReady is = refl
 looks_not command.RequestSense is = absurd (false≢true (sym is))
-looks_not (command.Read lba blocks) is = refl
-looks_not (command.Write lba blocks) is = refl
-looks_not (command.ReadKeys alloc) is = refl
-looks_not (command.ReadReservation alloc) is = refl
-looks_not (command.ReportCapabilities alloc) is = refl
-looks_not (command.Register rk sark) is = refl
-looks_not (command.RegisterIgnore sark) is = refl
-looks_not (command.Reserve rk kind) is = refl
-looks_not (command.Release rk kind) is = refl
-looks_not (command.Clear rk) is = refl
-looks_not (command.Preempt rk sark kind) is = refl
-looks_not (command.PreemptAbort rk sark kind) is = refl
+looks_not _ is = refl
 
 -- where something is pending, it does not end GOOD
 busy_is_not_good : (u : UnitState) (h : ℕ) (c : Command) (on conflict : Bool) → is_pending u h power_on ≡ on → command_conflicts u.registry h c ≡ conflict → is_any_pending u h ≡ true

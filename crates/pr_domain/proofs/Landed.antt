@@ -3,6 +3,7 @@ use Rattle.std.proofs.Common.{◌≡◌, ◌⊎◌, ◌↔◌, ℕ, ◌-◌, ◌
 use Rattle.std.proofs.lemmas.Option.{same_Some}
 use Rattle.pr_cdb.specs.declared.command.Command.{Command}
 use Rattle.pr_cdb.specs.declared.reply.Reply.{Reply}
+use Rattle.pr_cdb.specs.declared.reply.Status.{Status}
 use Rattle.pr_cdb.specs.declared.reply.Status.TheVariants as status
 use Rattle.pr_cdb.specs.declared.wire.Request.TheVariants.{Plain}
 use Rattle.pr_cdb.specs.Requests.{Fits as FitsCommand}
@@ -34,32 +35,25 @@ use Rattle.pr_domain.proofs.Owner.{after_reported, untold_pending, IsNumbered, n
 
 -- ---- a reply lands in one place
 
+-- the status of a reply of each class
+abbrev status_of : Class → Status
+status_of Good = status.Good
+status_of Conflict = status.Conflict
+status_of Busy = status.Busy
+status_of Full = status.TaskFull
+status_of (WithSense s) = status.CheckCondition
+
+has_status : (r : Reply) (class : Class) → IsClass r class → r.status ≡ status_of class
+has_status r (WithSense s) is = is.0
+has_status r _ is = is
+
 pub one_class : (r : Reply) (a b : Class) → IsClass r a → IsClass r b → a ≡ b
 one_class r Good Good is also = refl
-one_class r Good Conflict is also = let bad : status.Good ≡ status.Conflict = sym is ∙ also in cc
-one_class r Good Busy is also = let bad : status.Good ≡ status.Busy = sym is ∙ also in cc
-one_class r Good Full is also = let bad : status.Good ≡ status.TaskFull = sym is ∙ also in cc
-one_class r Good (WithSense s) is also = let bad : status.Good ≡ status.CheckCondition = sym is ∙ also.0 in cc
-one_class r Conflict Good is also = let bad : status.Conflict ≡ status.Good = sym is ∙ also in cc
 one_class r Conflict Conflict is also = refl
-one_class r Conflict Busy is also = let bad : status.Conflict ≡ status.Busy = sym is ∙ also in cc
-one_class r Conflict Full is also = let bad : status.Conflict ≡ status.TaskFull = sym is ∙ also in cc
-one_class r Conflict (WithSense s) is also = let bad : status.Conflict ≡ status.CheckCondition = sym is ∙ also.0 in cc
-one_class r Busy Good is also = let bad : status.Busy ≡ status.Good = sym is ∙ also in cc
-one_class r Busy Conflict is also = let bad : status.Busy ≡ status.Conflict = sym is ∙ also in cc
 one_class r Busy Busy is also = refl
-one_class r Busy Full is also = let bad : status.Busy ≡ status.TaskFull = sym is ∙ also in cc
-one_class r Busy (WithSense s) is also = let bad : status.Busy ≡ status.CheckCondition = sym is ∙ also.0 in cc
-one_class r Full Good is also = let bad : status.TaskFull ≡ status.Good = sym is ∙ also in cc
-one_class r Full Conflict is also = let bad : status.TaskFull ≡ status.Conflict = sym is ∙ also in cc
-one_class r Full Busy is also = let bad : status.TaskFull ≡ status.Busy = sym is ∙ also in cc
 one_class r Full Full is also = refl
-one_class r Full (WithSense s) is also = let bad : status.TaskFull ≡ status.CheckCondition = sym is ∙ also.0 in cc
-one_class r (WithSense s) Good is also = let bad : status.CheckCondition ≡ status.Good = sym is.0 ∙ also in cc
-one_class r (WithSense s) Conflict is also = let bad : status.CheckCondition ≡ status.Conflict = sym is.0 ∙ also in cc
-one_class r (WithSense s) Busy is also = let bad : status.CheckCondition ≡ status.Busy = sym is.0 ∙ also in cc
-one_class r (WithSense s) Full is also = let bad : status.CheckCondition ≡ status.TaskFull = sym is.0 ∙ also in cc
 one_class r (WithSense s) (WithSense t) is also = ap WithSense (same_Some s t (sym is.1 ∙ also.1))
+one_class r a b is also = let bad : status_of a ≡ status_of b = sym (has_status r a is) ∙ has_status r b also in cc
 
 pub one_landing : (tests : List Test) (r : Reply) (l m : Landing) → IsLanding tests r l → IsLanding tests r m → l ≡ m
 one_landing tests r (Arm a) (Arm b) is also = ap Arm (same_Some a b (sym is ∙ also))

@@ -118,7 +118,7 @@ interference_covers s o role old answer is declared has_shown adds = cover
 
     cover : (u w : UnitState) → Shows (view_in s o.view) u → IsDone role o.other u w → Shows (view_in s answer) w
     cover u w shown done =
-        let there : o.other < u.registry.hosts = subst (λ n. o.other < n) (sym (shown.hosts ∙ is.hosts)) is.there in
+        let there : o.other < u.registry.hosts = subst (λ n. o.other < n) (sym (shown.hosts ∙ is.hosts)) o.other_there in
         shows_allowed s answer w (well_formed-step u o.other done.request done.reply w shown.formed there done.fits done.step)
         (hosts-step u o.other done.request done.reply w done.step ∙ shown.hosts)
         (allows u w shown (done_leads (view_in s o.view) role o.other u w is.other shown done))

@@ -20,58 +20,42 @@ and_false false = refl
 
 matches_good : (t : Test) (r : Reply) → IsClass r Good → looks t ≡ false → matches t r ≡ takes t Good
 matches_good test.Good r is blind = ap is_good_status is
-matches_good (test.GoodHas key) r is blind = absurd (false≢true (sym blind))
-matches_good (test.GoodHeld key) r is blind = absurd (false≢true (sym blind))
-matches_good test.GoodUnheld r is blind = absurd (false≢true (sym blind))
 matches_good test.Conflict r is blind = ap is_conflict_status is
 matches_good test.Busy r is blind = ap is_busy_status is
 matches_good test.Full r is blind = ap is_full_status is
 matches_good test.Attention r is blind = ap (λ s. is_check_status s && is_attention r.sense) is
 matches_good (test.Sense wanted) r is blind = ap (λ s. is_check_status s && is_sense r.sense wanted) is
+matches_good _ r is blind = absurd (false≢true (sym blind))
 
 matches_conflict : (t : Test) (r : Reply) → IsClass r Conflict → matches t r ≡ takes t Conflict
 matches_conflict test.Good r is = ap is_good_status is
-matches_conflict (test.GoodHas key) r is = rw is refl
-matches_conflict (test.GoodHeld key) r is = rw is refl
-matches_conflict test.GoodUnheld r is = rw is refl
 matches_conflict test.Conflict r is = ap is_conflict_status is
 matches_conflict test.Busy r is = ap is_busy_status is
 matches_conflict test.Full r is = ap is_full_status is
-matches_conflict test.Attention r is = rw is refl
-matches_conflict (test.Sense wanted) r is = rw is refl
+matches_conflict _ r is = rw is refl
 
 matches_busy : (t : Test) (r : Reply) → IsClass r Busy → matches t r ≡ takes t Busy
 matches_busy test.Good r is = ap is_good_status is
 matches_busy test.Conflict r is = ap is_conflict_status is
 matches_busy test.Busy r is = ap is_busy_status is
 matches_busy test.Full r is = ap is_full_status is
-matches_busy (test.GoodHas key) r is = rw is refl
-matches_busy (test.GoodHeld key) r is = rw is refl
-matches_busy test.GoodUnheld r is = rw is refl
-matches_busy test.Attention r is = rw is refl
-matches_busy (test.Sense wanted) r is = rw is refl
+matches_busy _ r is = rw is refl
 
 matches_full : (t : Test) (r : Reply) → IsClass r Full → matches t r ≡ takes t Full
 matches_full test.Good r is = ap is_good_status is
 matches_full test.Conflict r is = ap is_conflict_status is
 matches_full test.Busy r is = ap is_busy_status is
 matches_full test.Full r is = ap is_full_status is
-matches_full (test.GoodHas key) r is = rw is refl
-matches_full (test.GoodHeld key) r is = rw is refl
-matches_full test.GoodUnheld r is = rw is refl
-matches_full test.Attention r is = rw is refl
-matches_full (test.Sense wanted) r is = rw is refl
+matches_full _ r is = rw is refl
 
 matches_sense : (t : Test) (r : Reply) (s : Sense) → IsClass r (WithSense s) → matches t r ≡ takes t (WithSense s)
 matches_sense test.Good r s is = ap is_good_status is.0
-matches_sense (test.GoodHas key) r s is = rw is.0 refl
-matches_sense (test.GoodHeld key) r s is = rw is.0 refl
-matches_sense test.GoodUnheld r s is = rw is.0 refl
 matches_sense test.Conflict r s is = ap is_conflict_status is.0
 matches_sense test.Busy r s is = ap is_busy_status is.0
 matches_sense test.Full r s is = ap is_full_status is.0
 matches_sense test.Attention r s is = (λ i. is_check_status (is.0 i) && is_attention (is.1 i))
 matches_sense (test.Sense wanted) r s is = (λ i. is_check_status (is.0 i) && is_sense (is.1 i) wanted)
+matches_sense _ r s is = rw is.0 refl
 
 -- tests that say the same of each element find the same first one
 same_count : {X : Type 0} (p q : X → Bool) (xs : List X) → ((i : ℕ) (d : X) → i < length xs → p (get_or xs i d) ≡ q (get_or xs i d)) → position_or_len p xs ≡ position_or_len q xs

@@ -4,7 +4,7 @@ use Rattle.std.specs.FinSet as set
 use Rattle.std.proofs.lemmas.Bool.{and_parts, false≢true}
 use Rattle.std.proofs.lemmas.Bool.Decides.{nat_tests}
 use Rattle.pr_cdb.specs.declared.command.Kind.{Kind}
-use Rattle.pr_cdb.specs.declared.command.Kind.TheVariants.{WriteExclusive, ExclusiveAccess, WriteExclusiveRegistrantsOnly, ExclusiveAccessRegistrantsOnly, WriteExclusiveAllRegistrants, ExclusiveAccessAllRegistrants}
+use Rattle.pr_cdb.specs.declared.command.Kind.TheVariants.{WriteExclusive}
 use Rattle.pr_cdb.specs.declared.command.Command.{Command}
 use Rattle.pr_cdb.specs.declared.command.Command.TheVariants as command
 use Rattle.pr_cdb.specs.declared.wire.Request.TheVariants.{Plain}
@@ -34,11 +34,7 @@ use Rattle.pr_domain.proofs.Unpending.{IsLike}
 kind_back : (k : Kind) → kind_of_code (code_of k) ≡ Some k
 unfolding kind_of_code
 kind_back WriteExclusive = refl
-kind_back ExclusiveAccess = refl
-kind_back WriteExclusiveRegistrantsOnly = refl
-kind_back ExclusiveAccessRegistrantsOnly = refl
-kind_back WriteExclusiveAllRegistrants = refl
-kind_back ExclusiveAccessAllRegistrants = refl
+kind_back _ = refl
 
 same_number : (a b : ℕ) → (a == b) ≡ true → a ≡ b
 same_number a b is = grind (arith, nat_tests)
@@ -137,57 +133,11 @@ meant keys a (command.ReadReservation alloc) u h declared fits acts named = absu
 meant keys a (command.ReportCapabilities alloc) u h declared fits acts named = absurd (false≢true (sym acts))
 meant keys (action.Register key) (command.Register rk sark) u h declared fits acts named = inl (is_meant keys (action.Register key) (command.Register rk sark) u (Register (number_in keys key)) refl (registers_key keys sark key declared fits named))
 meant keys action.Unregister (command.Register rk sark) u h declared fits acts named = inl (is_meant keys action.Unregister (command.Register rk sark) u Unregister refl (unregisters keys sark named))
-meant keys (action.Reserve t) (command.Register rk sark) u h declared fits acts named = absurd (false≢true named)
-meant keys action.Release (command.Register rk sark) u h declared fits acts named = absurd (false≢true named)
-meant keys action.Clear (command.Register rk sark) u h declared fits acts named = absurd (false≢true named)
-meant keys (action.Preempt key t) (command.Register rk sark) u h declared fits acts named = absurd (false≢true named)
-meant keys action.Read (command.Register rk sark) u h declared fits acts named = absurd (false≢true named)
-meant keys action.Write (command.Register rk sark) u h declared fits acts named = absurd (false≢true named)
 meant keys (action.Register key) (command.RegisterIgnore sark) u h declared fits acts named = inl (is_meant keys (action.Register key) (command.RegisterIgnore sark) u (Register (number_in keys key)) refl (registers_key keys sark key declared fits named))
 meant keys action.Unregister (command.RegisterIgnore sark) u h declared fits acts named = inl (is_meant keys action.Unregister (command.RegisterIgnore sark) u Unregister refl (unregisters keys sark named))
-meant keys (action.Reserve t) (command.RegisterIgnore sark) u h declared fits acts named = absurd (false≢true named)
-meant keys action.Release (command.RegisterIgnore sark) u h declared fits acts named = absurd (false≢true named)
-meant keys action.Clear (command.RegisterIgnore sark) u h declared fits acts named = absurd (false≢true named)
-meant keys (action.Preempt key t) (command.RegisterIgnore sark) u h declared fits acts named = absurd (false≢true named)
-meant keys action.Read (command.RegisterIgnore sark) u h declared fits acts named = absurd (false≢true named)
-meant keys action.Write (command.RegisterIgnore sark) u h declared fits acts named = absurd (false≢true named)
-meant keys (action.Register key) (command.Reserve rk kind) u h declared fits acts named = absurd (false≢true named)
-meant keys action.Unregister (command.Reserve rk kind) u h declared fits acts named = absurd (false≢true named)
 meant keys (action.Reserve t) (command.Reserve rk kind) u h declared fits acts named = inl (is_meant keys (action.Reserve t) (command.Reserve rk kind) u (Reserve t) refl (ap (λ k. Some (Reserve k)) (same_kind kind t named)))
-meant keys action.Release (command.Reserve rk kind) u h declared fits acts named = absurd (false≢true named)
-meant keys action.Clear (command.Reserve rk kind) u h declared fits acts named = absurd (false≢true named)
-meant keys (action.Preempt key t) (command.Reserve rk kind) u h declared fits acts named = absurd (false≢true named)
-meant keys action.Read (command.Reserve rk kind) u h declared fits acts named = absurd (false≢true named)
-meant keys action.Write (command.Reserve rk kind) u h declared fits acts named = absurd (false≢true named)
-meant keys (action.Register key) (command.Release rk kind) u h declared fits acts named = absurd (false≢true named)
-meant keys action.Unregister (command.Release rk kind) u h declared fits acts named = absurd (false≢true named)
-meant keys (action.Reserve t) (command.Release rk kind) u h declared fits acts named = absurd (false≢true named)
 meant keys action.Release (command.Release rk kind) u h declared fits acts named = released_as keys u h rk kind
-meant keys action.Clear (command.Release rk kind) u h declared fits acts named = absurd (false≢true named)
-meant keys (action.Preempt key t) (command.Release rk kind) u h declared fits acts named = absurd (false≢true named)
-meant keys action.Read (command.Release rk kind) u h declared fits acts named = absurd (false≢true named)
-meant keys action.Write (command.Release rk kind) u h declared fits acts named = absurd (false≢true named)
-meant keys (action.Register key) (command.Clear rk) u h declared fits acts named = absurd (false≢true named)
-meant keys action.Unregister (command.Clear rk) u h declared fits acts named = absurd (false≢true named)
-meant keys (action.Reserve t) (command.Clear rk) u h declared fits acts named = absurd (false≢true named)
-meant keys action.Release (command.Clear rk) u h declared fits acts named = absurd (false≢true named)
 meant keys action.Clear (command.Clear rk) u h declared fits acts named = inl (is_meant keys action.Clear (command.Clear rk) u Clear refl refl)
-meant keys (action.Preempt key t) (command.Clear rk) u h declared fits acts named = absurd (false≢true named)
-meant keys action.Read (command.Clear rk) u h declared fits acts named = absurd (false≢true named)
-meant keys action.Write (command.Clear rk) u h declared fits acts named = absurd (false≢true named)
-meant keys (action.Register key) (command.Preempt rk sark kind) u h declared fits acts named = absurd (false≢true named)
-meant keys action.Unregister (command.Preempt rk sark kind) u h declared fits acts named = absurd (false≢true named)
-meant keys (action.Reserve t) (command.Preempt rk sark kind) u h declared fits acts named = absurd (false≢true named)
-meant keys action.Release (command.Preempt rk sark kind) u h declared fits acts named = absurd (false≢true named)
-meant keys action.Clear (command.Preempt rk sark kind) u h declared fits acts named = absurd (false≢true named)
 meant keys (action.Preempt key t) (command.Preempt rk sark kind) u h declared fits acts named = inl (is_meant keys (action.Preempt key t) (command.Preempt rk sark kind) u (purpose_of_preempt keys key t) refl (preempts_key keys sark key kind t named))
-meant keys action.Read (command.Preempt rk sark kind) u h declared fits acts named = absurd (false≢true named)
-meant keys action.Write (command.Preempt rk sark kind) u h declared fits acts named = absurd (false≢true named)
-meant keys (action.Register key) (command.PreemptAbort rk sark kind) u h declared fits acts named = absurd (false≢true named)
-meant keys action.Unregister (command.PreemptAbort rk sark kind) u h declared fits acts named = absurd (false≢true named)
-meant keys (action.Reserve t) (command.PreemptAbort rk sark kind) u h declared fits acts named = absurd (false≢true named)
-meant keys action.Release (command.PreemptAbort rk sark kind) u h declared fits acts named = absurd (false≢true named)
-meant keys action.Clear (command.PreemptAbort rk sark kind) u h declared fits acts named = absurd (false≢true named)
 meant keys (action.Preempt key t) (command.PreemptAbort rk sark kind) u h declared fits acts named = inl (is_meant keys (action.Preempt key t) (command.PreemptAbort rk sark kind) u (purpose_of_preempt keys key t) refl (preempts_key keys sark key kind t named))
-meant keys action.Read (command.PreemptAbort rk sark kind) u h declared fits acts named = absurd (false≢true named)
-meant keys action.Write (command.PreemptAbort rk sark kind) u h declared fits acts named = absurd (false≢true named)
+meant keys _ _ u h declared fits acts named = absurd (false≢true named)

@@ -8,7 +8,7 @@ use Rattle.std.proofs.lemmas.Bool.Decides.{nat_tests}
 use Rattle.std.proofs.lemmas.Option.{slice_get_within}
 use Rattle.pr_cdb.specs.declared.command.Kind.{Kind}
 use Rattle.pr_cdb.specs.declared.command.Command.{Command}
-use Rattle.pr_cdb.specs.declared.command.Command.TheVariants.{TestUnitReady, RequestSense, Read, Write, ReadKeys, ReadReservation, ReportCapabilities, Register, RegisterIgnore, Reserve, Release, Clear, Preempt, PreemptAbort}
+use Rattle.pr_cdb.specs.declared.command.Command.TheVariants.{Register, RegisterIgnore, Release, Clear, Preempt, PreemptAbort}
 use Rattle.pr_attention.specs.declared.attention.Attention.{Attention}
 use Rattle.pr_attention.specs.Attentions.{power_on, reservations_preempted, reservations_released, registrations_preempted, code_of}
 use Rattle.pr_attention.specs.Flagged.{codes_of}
@@ -99,16 +99,8 @@ preempting u h sark kind =
     }
 
 pub untold : (u : State) (h : ℕ) (c : Command) → IsUntold (change u h c) h
-untold u h TestUnitReady = nobody_told h
-untold u h RequestSense = nobody_told h
-untold u h (Read lba blocks) = nobody_told h
-untold u h (Write lba blocks) = nobody_told h
-untold u h (ReadKeys alloc) = nobody_told h
-untold u h (ReadReservation alloc) = nobody_told h
-untold u h (ReportCapabilities alloc) = nobody_told h
 untold u h (Register rk sark) = registering u h (sark == 0 && is_registered u h)
 untold u h (RegisterIgnore sark) = registering u h (sark == 0 && is_registered u h)
-untold u h (Reserve rk kind) = nobody_told h
 untold u h (Release rk kind) = record {
   untold_03 = contains-nobody h;
   untold_04 = none_if (others u h) h (is_released u h kind && is_told_of_loss u.held) (contains-others_itself u h);
@@ -117,6 +109,7 @@ untold u h (Release rk kind) = record {
 untold u h (Clear rk) = record { untold_03 = contains-others_itself u h; untold_04 = contains-nobody h; untold_05 = contains-nobody h }
 untold u h (Preempt rk sark kind) = preempting u h sark kind
 untold u h (PreemptAbort rk sark kind) = preempting u h sark kind
+untold u h _ = nobody_told h
 
 pub untold_pending : (s : Scope) (u : UnitState) (c : Command) (q : ℕ) → IsSo s u (Attentions q) → IsSo s (effect u s.own c) (Attentions q)
 untold_pending s u c q so =
@@ -175,17 +168,9 @@ numbered_preempt keys u h sark g is = numbered_without keys u.keys (removed_by_p
 
 -- what a text can write registers declared keys alone
 pub numbered_after : (keys : List ℕ) (u : State) (h : ℕ) (c : Command) (g : ℕ) → is_written keys c ≡ true → IsNumbered keys (key_of u g) → IsNumbered keys (key_of (after u h c) g)
-numbered_after keys u h TestUnitReady g written is = is
-numbered_after keys u h RequestSense g written is = is
-numbered_after keys u h (Read lba blocks) g written is = is
-numbered_after keys u h (Write lba blocks) g written is = is
-numbered_after keys u h (ReadKeys alloc) g written is = is
-numbered_after keys u h (ReadReservation alloc) g written is = is
-numbered_after keys u h (ReportCapabilities alloc) g written is = is
 numbered_after keys u h (Register rk sark) g written is = numbered_register keys u h sark g (and_parts (is_written_key keys rk) _ written).1 is
 numbered_after keys u h (RegisterIgnore sark) g written is = numbered_register keys u h sark g written is
-numbered_after keys u h (Reserve rk kind) g written is = is
-numbered_after keys u h (Release rk kind) g written is = is
 numbered_after keys u h (Clear rk) g written is = subst (IsNumbered keys) (sym (get-empty g)) (numbered_none keys)
 numbered_after keys u h (Preempt rk sark kind) g written is = numbered_preempt keys u h sark g is
 numbered_after keys u h (PreemptAbort rk sark kind) g written is = numbered_preempt keys u h sark g is
+numbered_after keys u h _ g written is = is

@@ -2,7 +2,7 @@
 use Rattle.std.proofs.Common.{◌≡◌, ◌⊎◌, ◌↔◌, ℕ, zero, suc, ◌+◌, ◌<◌, ◌≤◌, Bool, true, false, ◌==◌, ◌&&◌, ◌||◌, not, IsTrue, List, [], ◌∷◌, length, Option, Some, None, is_some, IfSome, IfNone, refl, sym, ap, ◌∙◌, subst, inl, inr, arith, is_none}
 use Rattle.std.specs.List.{slice_get, list_any, All, Contains}
 use Rattle.std.proofs.lemmas.List.Folds.{Any-from_list_any, list_any-from_Any}
-use Rattle.std.proofs.lemmas.Bool.{and_parts, cases_eq, cases_order, false≢true, or_left}
+use Rattle.std.proofs.lemmas.Bool.{and_parts, cases_eq, cases_order, false≢true}
 use Rattle.std.proofs.lemmas.Option.{same_Some}
 use Rattle.std.proofs.lemmas.Bool.Decides.{nat_tests}
 use Rattle.pr_cdb.specs.declared.command.Command.{Command}
@@ -10,11 +10,8 @@ use Rattle.pr_cdb.specs.declared.command.Command.TheVariants as command
 use Rattle.pr_cdb.specs.declared.reply.Sense.{Sense}
 use Rattle.pr_registry.specs.declared.held.Held.{Held}
 use Rattle.pr_registry.specs.declared.held.Held.TheVariants.{One, All as Everybody}
-use Rattle.pr_registry.specs.Hosts.{has_no_registrant}
-use Rattle.pr_registry.specs.Changes.{conflicts_with_reserve}
 use Rattle.pr_registry.specs.Registrations.{State, key_of, is_registered, is_holder_of}
 use Rattle.pr_unit.specs.UnitStates.{UnitState}
-use Rattle.pr_unit.specs.Conflicts.{command_conflicts, lacks_key}
 use Rattle.pr_script.specs.Grammar.{is_written, is_written_key}
 use Rattle.pr_roles.specs.declared.role.Clause.{Clause}
 use Rattle.pr_roles.specs.declared.role.Condition.{Condition}
@@ -42,60 +39,21 @@ use Rattle.pr_domain.specs.inside.Tallies.{IsRight, IsInOne, HasFirst, HasBoth, 
 use Rattle.pr_domain.specs.inside.Permitting.{EndsGood, ArePermitted, scope_at, IsAsking, holds_reservation, holds_at, permits_at, IsReached, IsOneReached, IsOneRefused, permits_always}
 use Rattle.pr_domain.proofs.Gathered.{few_keys, same_reservation}
 use Rattle.pr_domain.proofs.Growing.{listed_there}
-use Rattle.pr_domain.proofs.Asked.{only_uniform, asked_right, asked_covers, asked_back}
+use Rattle.pr_domain.proofs.Asked.{only_uniform, asked_right, asked_covers, asked_back, refused_conflicts}
 
 -- ---- what a text can write
 
 pub written_typed : (keys : List ℕ) (c : Command) → is_written keys c ≡ true → IsTrue (is_some (purpose_of keys c))
-written_typed keys command.TestUnitReady is = refl
-written_typed keys command.RequestSense is = refl
-written_typed keys (command.Read lba blocks) is = refl
-written_typed keys (command.Write lba blocks) is = refl
-written_typed keys (command.ReadKeys alloc) is = refl
-written_typed keys (command.ReadReservation alloc) is = refl
-written_typed keys (command.ReportCapabilities alloc) is = refl
-written_typed keys (command.Register rk sark) is = refl
-written_typed keys (command.RegisterIgnore sark) is = refl
-written_typed keys (command.Reserve rk kind) is = refl
-written_typed keys (command.Release rk kind) is = refl
-written_typed keys (command.Clear rk) is = refl
-written_typed keys (command.Preempt rk sark (Some kind)) is = refl
 written_typed keys (command.Preempt rk sark None) is = (and_parts _ _ (and_parts (is_written_key keys rk) _ is).1).1
-written_typed keys (command.PreemptAbort rk sark (Some kind)) is = refl
 written_typed keys (command.PreemptAbort rk sark None) is = (and_parts _ _ (and_parts (is_written_key keys rk) _ is).1).1
+written_typed keys _ is = refl
 
 pub written_names : (keys : List ℕ) (c : Command) → is_written keys c ≡ true → names_written keys c ≡ true
-written_names keys command.TestUnitReady is = refl
-written_names keys command.RequestSense is = refl
-written_names keys (command.Read lba blocks) is = refl
-written_names keys (command.Write lba blocks) is = refl
-written_names keys (command.ReadKeys alloc) is = refl
-written_names keys (command.ReadReservation alloc) is = refl
-written_names keys (command.ReportCapabilities alloc) is = refl
 written_names keys (command.Register rk sark) is = (and_parts (is_written_key keys rk) (is_written_key keys sark) is).1
 written_names keys (command.RegisterIgnore sark) is = is
-written_names keys (command.Reserve rk kind) is = refl
-written_names keys (command.Release rk kind) is = refl
-written_names keys (command.Clear rk) is = refl
 written_names keys (command.Preempt rk sark kind) is = (and_parts (is_written_key keys sark) (is_some kind) (and_parts (is_written_key keys rk) _ is).1).0
 written_names keys (command.PreemptAbort rk sark kind) is = (and_parts (is_written_key keys sark) (is_some kind) (and_parts (is_written_key keys rk) _ is).1).0
-
--- what is refused conflicts
-refused_conflicts : (u : State) (h : ℕ) (c : Command) → is_refused (key_of u h) c ≡ true → command_conflicts u h c ≡ true
-refused_conflicts u h command.TestUnitReady is = absurd (false≢true is)
-refused_conflicts u h command.RequestSense is = absurd (false≢true is)
-refused_conflicts u h (command.Read lba blocks) is = absurd (false≢true is)
-refused_conflicts u h (command.Write lba blocks) is = absurd (false≢true is)
-refused_conflicts u h (command.ReadKeys alloc) is = absurd (false≢true is)
-refused_conflicts u h (command.ReadReservation alloc) is = absurd (false≢true is)
-refused_conflicts u h (command.ReportCapabilities alloc) is = absurd (false≢true is)
-refused_conflicts u h (command.Register rk sark) is = is
-refused_conflicts u h (command.RegisterIgnore sark) is = absurd (false≢true is)
-refused_conflicts u h (command.Reserve rk kind) is = or_left (lacks_key u h rk) (conflicts_with_reserve u h u.held kind) is
-refused_conflicts u h (command.Release rk kind) is = is
-refused_conflicts u h (command.Clear rk) is = is
-refused_conflicts u h (command.Preempt rk sark kind) is = or_left (lacks_key u h rk) (not (sark == 0) && has_no_registrant u.keys sark) is
-refused_conflicts u h (command.PreemptAbort rk sark kind) is = or_left (lacks_key u h rk) (not (sark == 0) && has_no_registrant u.keys sark) is
+written_names keys _ is = refl
 
 -- ---- branches
 
@@ -337,7 +295,7 @@ one_registration_more s view clauses c place n before here =
 pub not_registered : (keys : List ℕ) (c : Command) (view : Possibilities) (place : Place) (clauses : List Clause) (r : ℕ) → IsThis keys c view place → has_at view.registrations place.sender r ≡ false
     → ArePermitted (view_in (scope_at keys place.hosts place.sender) view) clauses c (HasBoth (scope_at keys place.hosts place.sender) place r)
 not_registered keys c view place clauses r this none u shown both ends =
-    let seen = shown.registrations place.sender this.is.sender in
+    let seen = shown.registrations place.sender place.there in
     let same = one_registration (scope_at keys place.hosts place.sender) u place.sender seen.0 r this.asking.fits.scope seen.1.1 both.registered in
     absurd (false≢true (sym none ∙ subst (λ n. has_at view.registrations place.sender n ≡ true) same seen.1.0.1))
 
@@ -345,7 +303,7 @@ pub each_registration : (keys : List ℕ) (c : Command) (view : Possibilities) (
     → ArePermitted (view_in (scope_at keys place.hosts place.sender) view) clauses c (HasFirst (scope_at keys place.hosts place.sender) place 13)
     → ArePermitted (view_in (scope_at keys place.hosts place.sender) view) clauses c (λ u. IsSo (scope_at keys place.hosts place.sender) u (Reservation place.reservation))
 each_registration keys c view place clauses this permitted u shown reserved ends =
-    let seen = shown.registrations place.sender this.is.sender in
+    let seen = shown.registrations place.sender place.there in
     let few = few_keys keys this.asking.fits.scope.keys in
     let small = seen.1.1.1 in
     permitted u shown (record { registration = seen.0; below = omega arith; reserved = reserved; registered = seen.1.1 }) ends

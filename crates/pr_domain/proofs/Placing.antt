@@ -75,7 +75,7 @@ pub by_standing : (s : Scope) (o : Onlooker) (place : Place) (clause : Clause) (
 by_standing s o place clause p u w is leads = at (standing_of p seen.0) refl
   where
     below : place.sender < s.hosts
-    below = subst (λ n. place.sender < n) (sym is.known.hosts) is.known.sender
+    below = subst (λ n. place.sender < n) (sym is.known.hosts) place.there
 
     seen : (r : ℕ) × IsSo s u (Registration place.sender r)
     seen = let there = leads.shown.registrations place.sender below in (there.0, there.1.1)

@@ -9,7 +9,7 @@ use Rattle.pr_cdb.specs.declared.command.Kind.{Kind}
 use Rattle.pr_cdb.specs.declared.reply.Sense.{Sense}
 use Rattle.pr_cdb.specs.declared.codes.TheConstants.{MOST_NEXUSES, INVALID_FIELD_IN_PARAMETER_LIST}
 use Rattle.pr_registry.specs.declared.held.Held.{Held}
-use Rattle.pr_registry.specs.declared.held.Held.TheVariants.{One, All}
+use Rattle.pr_registry.specs.declared.held.Held.TheVariants.{One}
 use Rattle.pr_registry.specs.Registrations.{IsKey, key_of, is_registered, new_reservation, holds_alone, kind_of}
 use Rattle.pr_registry.specs.Changes.{is_kind, is_held_by_all, is_told_of_loss}
 use Rattle.pr_unit.specs.UnitStates.{UnitState}
@@ -177,7 +177,7 @@ module _ (s : Scope) (o : Onlooker) (place : Place) (clause : Clause) (reach : R
       shown = led.leads.shown
 
       seen : (r : ℕ) × IsSeen (view_in s o.view) u (Registration place.sender r)
-      seen = shown.registrations place.sender (subst (λ n. place.sender < n) (sym is.known.hosts) is.known.sender)
+      seen = shown.registrations place.sender (subst (λ n. place.sender < n) (sym is.known.hosts) place.there)
 
       mine : seen.0 ≡ j → has_at o.view.registrations place.sender j ≡ true
       mine same = subst (λ r. has_at o.view.registrations place.sender r ≡ true) same seen.1.0.1
@@ -218,12 +218,10 @@ module _ (s : Scope) (o : Onlooker) (place : Place) (clause : Clause) (reach : R
       absurd (false≢true (sym none ∙ registered_too clause.condition place.held (is_registered u.registry place.sender) meets))
     where
       registered_too : (condition : Option Condition) (v : Option Held) (b : Bool) → holds_as condition v place.sender b ≡ true → holds_as condition v place.sender true ≡ true
-      registered_too None v b meets = refl
-      registered_too (Some condition.Registered) v b meets = refl
       registered_too (Some condition.Holder) None b meets = meets
       registered_too (Some condition.Holder) (Some (One t h)) b meets = meets
-      registered_too (Some condition.Holder) (Some (All t)) b meets = refl
       registered_too (Some condition.Reserved) v b meets = meets
+      registered_too _ _ b meets = refl
 
 -- ---- reservation after reservation
 
@@ -312,7 +310,7 @@ module _ (s : Scope) (o : Onlooker) (clause : Clause) (reach : Reach) (is : IsOn
 
       sent : HasNumber o.other
       sent =
-          let seen = shown.registrations o.other (subst (λ n. o.other < n) (sym is.hosts) is.there) in
+          let seen = shown.registrations o.other (subst (λ n. o.other < n) (sym is.hosts) o.other_there) in
           let found = within_it.sender seen.0 seen.1.1 in
           (found.0, found.1, at found.0 seen.0 seen.1.1 found.2)
         where

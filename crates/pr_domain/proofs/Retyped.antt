@@ -31,7 +31,7 @@ use Rattle.pr_domain.specs.declared.tally.Tally.{Tally}
 use Rattle.pr_domain.specs.inside.Gathering.{IsPlace}
 use Rattle.pr_domain.specs.inside.Tallies.{IsRegistered, has_tallied, IsNothing, Leaves, IsFound, Grows, IsReserved, IsOwners}
 use Rattle.pr_domain.specs.inside.Twins.{AreTwins, IsTwin, has_with_twin}
-use Rattle.pr_domain.proofs.Gathered.{same_reservation}
+use Rattle.pr_domain.proofs.Gathered.{same_reservation, number_at, held_at}
 use Rattle.pr_domain.proofs.Landed.{still_registered}
 
 -- the same state with this reservation
@@ -39,25 +39,17 @@ abbrev pub retyped : UnitState → Option Held → UnitState
 retyped u held = record u { registry = record u.registry { held = held } }
 
 turned : (v w : Option Held) → AreTwins v w → AreTwins w v
-turned None w same = absurd same
-turned (Some (One t g)) None same = absurd same
 turned (Some (One t g)) (Some (One k h)) same = sym same
-turned (Some (One t g)) (Some (All k)) same = absurd same
-turned (Some (All t)) None same = absurd same
-turned (Some (All t)) (Some (One k h)) same = absurd same
 turned (Some (All t)) (Some (All k)) same = tt
+turned _ _ same = absurd same
 
 -- ---- it is shown as well
 
 holder_kept : (keys : Keys) (hosts : ℕ) (v w : Option Held) → AreTwins v w → is_reservation hosts w ≡ true → HasHolder keys v → HasHolder keys w
-holder_kept keys hosts None w same fits has = absurd same
-holder_kept keys hosts (Some (One t g)) None same fits has = absurd same
 holder_kept keys hosts (Some (One t g)) (Some (One k h)) same fits has =
     (not-true (is_all k) (and_parts (not (is_all k)) (nat_lt h hosts) fits).0, subst (λ n. map.contains_key keys n ≡ true) same has.1)
-holder_kept keys hosts (Some (One t g)) (Some (All k)) same fits has = absurd same
-holder_kept keys hosts (Some (All t)) None same fits has = absurd same
-holder_kept keys hosts (Some (All t)) (Some (One k h)) same fits has = absurd same
 holder_kept keys hosts (Some (All t)) (Some (All k)) same fits has = (fits, has.1)
+holder_kept keys hosts _ _ same fits has = absurd same
 
 shown_retyped : (s : Scope) (view : Possibilities) (u : UnitState) (w : Option Held) → Shows (view_in s view) u → AreTwins u.registry.held w → is_reservation s.hosts w ≡ true
     → has_wide view.reservations (number_of s.hosts w) ≡ true → Shows (view_in s view) (retyped u w)
@@ -86,20 +78,9 @@ pub record OnlyReads (s : Scope) (c : Command) (u : UnitState) : Type 0 where
   pub still : (effect u s.own c).registry ≡ u.registry
 
 pub only_reads : (s : Scope) (c : Command) (u : UnitState) → (is_read_keys c || is_read_reservation c) ≡ true → OnlyReads s c u
-only_reads s command.TestUnitReady u reads = absurd (false≢true reads)
-only_reads s command.RequestSense u reads = absurd (false≢true reads)
-only_reads s (command.Read lba blocks) u reads = absurd (false≢true reads)
-only_reads s (command.Write lba blocks) u reads = absurd (false≢true reads)
 only_reads s (command.ReadKeys alloc) u reads = record { free = refl; whole = refl; still = refl }
 only_reads s (command.ReadReservation alloc) u reads = record { free = refl; whole = refl; still = refl }
-only_reads s (command.ReportCapabilities alloc) u reads = absurd (false≢true reads)
-only_reads s (command.Register rk sark) u reads = absurd (false≢true reads)
-only_reads s (command.RegisterIgnore sark) u reads = absurd (false≢true reads)
-only_reads s (command.Reserve rk kind) u reads = absurd (false≢true reads)
-only_reads s (command.Release rk kind) u reads = absurd (false≢true reads)
-only_reads s (command.Clear rk) u reads = absurd (false≢true reads)
-only_reads s (command.Preempt rk sark kind) u reads = absurd (false≢true reads)
-only_reads s (command.PreemptAbort rk sark kind) u reads = absurd (false≢true reads)
+only_reads s _ u reads = absurd (false≢true reads)
 
 -- what is left is what is there
 pub left_there : (s : Scope) (c : Command) (tests : List Test) → (is_read_keys c || is_read_reservation c) ≡ true → (u : UnitState) (way : ℕ) (i : Item) → Leaves s c tests way u i → IsRegistered s u i
@@ -110,13 +91,9 @@ left_there s c tests reads u (suc (suc (suc n))) i leaves = still_registered s u
 
 -- the key of the reservation that is read
 same_key : (keys : Keys) (v w : Option Held) → AreTwins v w → option_map (λ r. r.0) (reservation keys w) ≡ option_map (λ r. r.0) (reservation keys v)
-same_key keys None w same = absurd same
-same_key keys (Some (One t g)) None same = absurd same
 same_key keys (Some (One t g)) (Some (One k h)) same = ap (λ n. Some (unwrap_or (map.get keys n) 0)) (sym same)
-same_key keys (Some (One t g)) (Some (All k)) same = absurd same
-same_key keys (Some (All t)) None same = absurd same
-same_key keys (Some (All t)) (Some (One k h)) same = absurd same
 same_key keys (Some (All t)) (Some (All k)) same = refl
+same_key keys _ _ same = absurd same
 
 module _ (s : Scope) (view : Possibilities) (c : Command) (tests : List Test) (reads : (is_read_keys c || is_read_reservation c) ≡ true) (written : is_written s.keys c ≡ true)
     (fit : Each (λ t. test_fits s.keys c t ≡ true) tests) where
@@ -127,24 +104,13 @@ module _ (s : Scope) (view : Possibilities) (c : Command) (tests : List Test) (r
     where
       at : (c : Command) → (is_read_keys c || is_read_reservation c) ≡ true → is_written s.keys c ≡ true → Each (λ t. test_fits s.keys c t ≡ true) tests
           → first_test tests (good (data_of (retyped u w).registry c)) ≡ first_test tests (good (data_of u.registry c))
-      at command.TestUnitReady reads written fit = absurd (false≢true reads)
-      at command.RequestSense reads written fit = absurd (false≢true reads)
-      at (command.Read lba blocks) reads written fit = absurd (false≢true reads)
-      at (command.Write lba blocks) reads written fit = absurd (false≢true reads)
       at (command.ReadKeys alloc) reads written fit = refl
       at (command.ReadReservation alloc) reads written fit =
           let whole : alloc ≡ WRITTEN_LENGTH = grind (arith, nat_tests) in
           let key = key_in u.registry in
           subst (λ n. first_test tests (good (data_of (retyped u w).registry (command.ReadReservation n))) ≡ first_test tests (good (data_of u.registry (command.ReadReservation n)))) (sym whole)
           (first_found s.keys (retyped u w) tests key also.formed.registry fit (same_key u.registry.keys u.registry.held w same) ∙ sym (first_found s.keys u tests key shown.formed.registry fit refl))
-      at (command.ReportCapabilities alloc) reads written fit = absurd (false≢true reads)
-      at (command.Register rk sark) reads written fit = absurd (false≢true reads)
-      at (command.RegisterIgnore sark) reads written fit = absurd (false≢true reads)
-      at (command.Reserve rk kind) reads written fit = absurd (false≢true reads)
-      at (command.Release rk kind) reads written fit = absurd (false≢true reads)
-      at (command.Clear rk) reads written fit = absurd (false≢true reads)
-      at (command.Preempt rk sark kind) reads written fit = absurd (false≢true reads)
-      at (command.PreemptAbort rk sark kind) reads written fit = absurd (false≢true reads)
+      at _ reads written fit = absurd (false≢true reads)
 
   -- it goes the same way, and leaves what is there
   leaves_alike : (u : UnitState) (w : Option Held) (way : ℕ) (i j : Item) → Shows (view_in s view) u → Shows (view_in s view) (retyped u w) → AreTwins u.registry.held w
@@ -177,16 +143,19 @@ module _ (s : Scope) (view : Possibilities) (c : Command) (tests : List Test) (r
 
       -- the place of the twin
       other : Place
-      other = record place { reservation = x; held = twin.twin }
+      other = record place {
+        reservation = x;
+        held = twin.twin;
+        below = (let before = twin.below in let last = place.below in omega arith);
+        number = twin.number;
+        fits = twin.fits;
+      }
 
       is_other : IsPlace s view other
       is_other = record {
         hosts = owners.is.hosts;
         fits = owners.is.fits;
-        sender = owners.is.sender;
         possible = twin.possible;
-        number = twin.number ∙ ap (λ h. number_of h twin.twin) (sym owners.is.hosts);
-        held = subst (λ h. is_reservation h twin.twin ≡ true) (sym owners.is.hosts) twin.fits;
       }
 
       -- a state under the one reservation, and the same under the other
@@ -198,11 +167,11 @@ module _ (s : Scope) (view : Possibilities) (c : Command) (tests : List Test) (r
 
       shown_twin : (u : UnitState) → Shows (view_in s view) u → IsSo s u (Reservation n) → Shows (view_in s view) (retyped u twin.twin)
       shown_twin u shown so =
-          shown_retyped s view u twin.twin shown (under_twin u shown so) is_other.held (subst (λ y. has_wide view.reservations y ≡ true) is_other.number twin.possible)
+          shown_retyped s view u twin.twin shown (under_twin u shown so) (held_at s view other is_other) (subst (λ y. has_wide view.reservations y ≡ true) (number_at s view other is_other) twin.possible)
 
       shown_place : (u : UnitState) → Shows (view_in s view) u → IsSo s u (Reservation x) → Shows (view_in s view) (retyped u place.held)
       shown_place u shown so =
-          shown_retyped s view u place.held shown (under_place u shown so) owners.is.held (subst (λ y. has_wide view.reservations y ≡ true) owners.is.number owners.is.possible)
+          shown_retyped s view u place.held shown (under_place u shown so) (held_at s view place owners.is) (subst (λ y. has_wide view.reservations y ≡ true) (number_at s view place owners.is) owners.is.possible)
 
       itself : (y : ℕ) → (y == y) ≡ true
       itself y = grind (arith, nat_tests)
@@ -210,12 +179,12 @@ module _ (s : Scope) (view : Possibilities) (c : Command) (tests : List Test) (r
       here : (u : UnitState) (way : ℕ) (i : Item) → Shows (view_in s view) u → IsSo s u (Reservation n) → Leaves s c tests way u i → has_tallied new way i ≡ true
       here u way (Registration g r) shown so leaves =
           let also = shown_twin u shown so in
-          kept way (Registration g r) (grows.all (retyped u twin.twin) way (Registration g r) also (record { reservation = x; below = twin.below; reserved = is_other.number })
+          kept way (Registration g r) (grows.all (retyped u twin.twin) way (Registration g r) also (record { reservation = x; below = twin.below; reserved = number_at s view other is_other })
           (leaves_alike u twin.twin way (Registration g r) (Registration g r) shown also (under_twin u shown so) leaves (left_there s c tests reads u way (Registration g r) leaves)))
       here u way (Reservation y) shown so leaves =
           let also = shown_twin u shown so in
-          let had = grows.all (retyped u twin.twin) way (Reservation x) also (record { reservation = x; below = twin.below; reserved = is_other.number })
-          (leaves_alike u twin.twin way (Reservation y) (Reservation x) shown also (under_twin u shown so) leaves is_other.number) in
+          let had = grows.all (retyped u twin.twin) way (Reservation x) also (record { reservation = x; below = twin.below; reserved = number_at s view other is_other })
+          (leaves_alike u twin.twin way (Reservation y) (Reservation x) shown also (under_twin u shown so) leaves (number_at s view other is_other)) in
           let same : y ≡ n = left_there s c tests reads u way (Reservation y) leaves ∙ sym so in
           joined way (Reservation y)
           ∙ or_right (has_tallied old way (Reservation y)) (y == n && has_tallied old way (Reservation x)) (and_from (y == n) (has_tallied old way (Reservation x)) (subst (λ z. (y == z) ≡ true) same (itself y)) had)
@@ -251,8 +220,8 @@ module _ (s : Scope) (view : Possibilities) (c : Command) (tests : List Test) (r
           inr (record {
             unit = retyped u place.held;
             shown = also;
-            among = record { reservation = n; below = omega arith; reserved = owners.is.number };
-            leaves = leaves_alike u place.held way (Reservation x) (Reservation n) found.shown also (under_place u found.shown so) found.leaves owners.is.number;
+            among = record { reservation = n; below = omega arith; reserved = number_at s view place owners.is };
+            leaves = leaves_alike u place.held way (Reservation x) (Reservation n) found.shown also (under_place u found.shown so) found.leaves (number_at s view place owners.is);
             pending = found.pending;
           })
 

@@ -1,5 +1,5 @@
 -- What is so in the states that a view shows, reservation by reservation.
-use Rattle.std.proofs.Common.{◌≡◌, ◌≢◌, ℕ, zero, suc, ◌+◌, ◌<◌, ◌≤◌, Bool, true, false, ◌==◌, if◌then◌else◌, List, Option, Some, None, option_map, sym, ap, ◌∙◌, subst, inl, inr, ◌⊎◌, arith}
+use Rattle.std.proofs.Common.{◌≡◌, ◌≢◌, ℕ, zero, suc, ◌+◌, ◌<◌, ◌≤◌, Bool, true, false, ◌==◌, if◌then◌else◌, List, Option, Some, None, option_map, sym, ◌∙◌, subst, inl, inr, ◌⊎◌, arith}
 use Rattle.std.proofs.lemmas.Bool.{false≢true}
 use Rattle.std.proofs.lemmas.Bool.Decides.{nat_tests, eqb_tells}
 use Rattle.pr_registry.specs.declared.held.Held.{Held}
@@ -10,8 +10,7 @@ use Rattle.pr_sets.specs.declared.wide.Wide.{Wide}
 use Rattle.pr_sets.specs.Words.{has}
 use Rattle.pr_sets.specs.Wides.{has_wide}
 use Rattle.pr_views.specs.declared.possibilities.Possibilities.{Possibilities}
-use Rattle.pr_roles.specs.Fitting.{is_reservation}
-use Rattle.pr_views.specs.Possibilities.{Scope, Item, Registration, Reservation, Attentions, IsSo, number_of}
+use Rattle.pr_views.specs.Possibilities.{Scope, Item, Registration, Reservation, Attentions, IsSo}
 use Rattle.pr_views.specs.Views.{IsPossible, Shows, Fits}
 use Rattle.pr_views.specs.Portions.{has_at, view_in, HasSomebody}
 use Rattle.pr_views.proofs.Numbering.{one_registration, one_reservation, one_attentions}
@@ -122,7 +121,7 @@ adds_place s view a b c place none keys is is_none are_keys first second =
     split u shown reserved = at seen.0 seen.1
       where
         below : place.sender < s.hosts
-        below = subst (λ n. place.sender < n) (sym is.hosts) is.sender
+        below = subst (λ n. place.sender < n) (sym is.hosts) place.there
 
         seen : (r : ℕ) × IsSo s u (Registration place.sender r)
         seen = let there = shown.registrations place.sender below in (there.0, there.1.1)
@@ -177,15 +176,12 @@ is_kept s view none kept n fits nothing below adds = record {
 
 -- ---- the place of a reservation
 
-pub is_place : (s : Scope) (view : Possibilities) (place : Place) (hosts sender reservation : ℕ) → s.hosts ≡ hosts → Fits (view_in s view) → sender < hosts → has_wide view.reservations reservation ≡ true
-    → place.hosts ≡ hosts → place.sender ≡ sender → place.reservation ≡ reservation → reservation ≡ number_of hosts place.held → is_reservation hosts place.held ≡ true → IsPlace s view place
-is_place s view place hosts sender reservation same fits below possible is_hosts is_sender is_it number held = record {
+pub is_place : (s : Scope) (view : Possibilities) (place : Place) (hosts reservation : ℕ) → s.hosts ≡ hosts → Fits (view_in s view) → has_wide view.reservations reservation ≡ true
+    → place.hosts ≡ hosts → place.reservation ≡ reservation → IsPlace s view place
+is_place s view place hosts reservation same fits possible is_hosts is_it = record {
   hosts = same ∙ sym is_hosts;
   fits = fits;
-  sender = omega arith;
   possible = subst (λ x. has_wide view.reservations x ≡ true) (sym is_it) possible;
-  number = is_it ∙ number ∙ ap (λ n. number_of n place.held) (sym same);
-  held = subst (λ n. is_reservation n place.held ≡ true) (sym same) held;
 }
 
 pub none_uniform : (w : Word) → ((r : ℕ) → has w r ≡ (r == 0)) → IsUniform w

@@ -40,20 +40,13 @@ first_false false b is = refl
 
 -- what does not conflict is not refused
 pub not_refused : (u : State) (h : ℕ) (c : Command) → command_conflicts u h c ≡ false → is_refused (key_of u h) c ≡ false
-not_refused u h command.TestUnitReady free = refl
-not_refused u h command.RequestSense free = refl
-not_refused u h (command.Read lba blocks) free = refl
-not_refused u h (command.Write lba blocks) free = refl
-not_refused u h (command.ReadKeys alloc) free = refl
-not_refused u h (command.ReadReservation alloc) free = refl
-not_refused u h (command.ReportCapabilities alloc) free = refl
 not_refused u h (command.Register rk sark) free = free
-not_refused u h (command.RegisterIgnore sark) free = refl
 not_refused u h (command.Reserve rk kind) free = first_false (lacks_key u h rk) (conflicts_with_reserve u h u.held kind) free
 not_refused u h (command.Release rk kind) free = free
 not_refused u h (command.Clear rk) free = free
 not_refused u h (command.Preempt rk sark kind) free = first_false (lacks_key u h rk) (not (sark == 0) && has_no_registrant u.keys sark) free
 not_refused u h (command.PreemptAbort rk sark kind) free = first_false (lacks_key u h rk) (not (sark == 0) && has_no_registrant u.keys sark) free
+not_refused u h _ free = refl
 
 -- a purpose that admits strangers
 admits : (p q : Purpose) → Some q ≡ Some p → refuses_strangers q ≡ false → refuses_strangers p ≡ true → false ≡ true
@@ -67,13 +60,8 @@ registering_admits keys sark = at (sark == 0)
     at false = refl
 
 pub strangers_refused : (keys : List ℕ) (c : Command) (p : Purpose) → purpose_of keys c ≡ Some p → refuses_strangers p ≡ true → is_refused None c ≡ true
-strangers_refused keys command.TestUnitReady p is refuses = admits p Look is refl refuses
-strangers_refused keys command.RequestSense p is refuses = admits p Look is refl refuses
 strangers_refused keys (command.Read lba blocks) p is refuses = admits p (purpose.Read (is_in_range lba blocks)) is refl refuses
 strangers_refused keys (command.Write lba blocks) p is refuses = admits p (purpose.Write (is_in_range lba blocks)) is refl refuses
-strangers_refused keys (command.ReadKeys alloc) p is refuses = admits p Look is refl refuses
-strangers_refused keys (command.ReadReservation alloc) p is refuses = admits p Look is refl refuses
-strangers_refused keys (command.ReportCapabilities alloc) p is refuses = admits p Look is refl refuses
 strangers_refused keys (command.Register rk sark) p is refuses = absurd (false≢true (admits p (purpose_of_register keys sark) is (registering_admits keys sark) refuses))
 strangers_refused keys (command.RegisterIgnore sark) p is refuses = absurd (false≢true (admits p (purpose_of_register keys sark) is (registering_admits keys sark) refuses))
 strangers_refused keys (command.Reserve rk kind) p is refuses = refl
@@ -81,6 +69,7 @@ strangers_refused keys (command.Release rk kind) p is refuses = refl
 strangers_refused keys (command.Clear rk) p is refuses = refl
 strangers_refused keys (command.Preempt rk sark kind) p is refuses = refl
 strangers_refused keys (command.PreemptAbort rk sark kind) p is refuses = refl
+strangers_refused keys _ p is refuses = admits p Look is refl refuses
 
 -- ---- a command of a clause
 
@@ -157,10 +146,8 @@ pub spells_stranger : (keys : List ℕ) (a : Action) (held : Option Held) (p : P
 spells_stranger keys (action.Register key) held p declared fits admits meant = spells_register keys key None p declared fits meant
 spells_stranger keys action.Unregister held p declared fits admits meant = spells_unregister keys None p meant
 spells_stranger keys (action.Reserve kind) held p declared fits admits meant = absurd (false≢true (refused p (Reserve kind) meant refl admits))
-spells_stranger keys action.Release None p declared fits admits meant = let bad : None ≡ Some p = meant in cc
 spells_stranger keys action.Release (Some v) p declared fits admits meant = absurd (false≢true (refused p (Release (kind_of v)) meant refl admits))
 spells_stranger keys action.Clear held p declared fits admits meant = absurd (false≢true (refused p Clear meant refl admits))
 spells_stranger keys (action.Preempt key kind) held p declared fits admits meant =
     absurd (false≢true (refused p (purpose_of_preempt keys key kind) meant (preempting_refuses keys key kind) admits))
-spells_stranger keys action.Read held p declared fits admits meant = let bad : None ≡ Some p = meant in cc
-spells_stranger keys action.Write held p declared fits admits meant = let bad : None ≡ Some p = meant in cc
+spells_stranger keys _ _ p declared fits admits meant = let bad : None ≡ Some p = meant in cc

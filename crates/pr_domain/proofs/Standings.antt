@@ -94,7 +94,7 @@ none_send s o place clause p standing u w is none leads = false≢true (sym none
     leading = leads.leads.free
 
     below : place.sender < s.hosts
-    below = subst (λ n. place.sender < n) (sym is.known.hosts) is.known.sender
+    below = subst (λ n. place.sender < n) (sym is.known.hosts) place.there
 
     key : HasKey u.registry place.sender standing
     key = let seen = leads.leads.shown.registrations place.sender below in has_key s p standing place.sender seen.0 u seen.1.1 (leads.stands seen.0 seen.1.1)
@@ -123,7 +123,7 @@ none_send s o place clause p standing u w is none leads = false≢true (sym none
 pub none_among : (s : Scope) (o : Onlooker) (place : Place) (clause : Clause) (p : Purpose) (standing : Standing) (senders : Word) (u w : UnitState) → IsWatched s o place → AreSenders p standing senders
     → ((r : ℕ) → has_at o.view.registrations place.sender r ≡ true → has senders r ≡ false) → StandingLeads (view_in s o.view) clause place.sender place.reservation p standing u w → ⊥
 none_among s o place clause p standing senders u w is are none leads =
-    let seen = leads.leads.shown.registrations place.sender (subst (λ n. place.sender < n) (sym is.known.hosts) is.known.sender) in
+    let seen = leads.leads.shown.registrations place.sender (subst (λ n. place.sender < n) (sym is.known.hosts) place.there) in
     let few : seen.0 ≤ 12 = (let few = few_keys s.keys is.known.fits.scope.keys in let small = seen.1.1.1 in omega arith) in
     false≢true (sym (none seen.0 seen.1.0.1) ∙ are.all seen.0 few (leads.stands seen.0 seen.1.1))
 
@@ -134,7 +134,7 @@ meets : (s : Scope) (o : Onlooker) (place : Place) (p : Purpose) (standing : Sta
     → purpose_of s.keys c ≡ Some p → is_refused (key_of u.registry place.sender) c ≡ false → Meets s p place.held place.sender standing u c
 meets s o place p standing u c is shown reserved stands asked accepted = record {
   scope = is.known.fits.scope;
-  below = subst (λ n. place.sender < n) (sym is.known.hosts) is.known.sender;
+  below = subst (λ n. place.sender < n) (sym is.known.hosts) place.there;
   formed = shown.formed;
   hosts = shown.hosts;
   numbered = λ g there. let seen = shown.registrations g there in (seen.0, seen.1.1);
@@ -218,7 +218,7 @@ left_by_branches s o place clause p standing senders branches i is are right fit
     at = among.is.changed.at
 
     below : place.sender < s.hosts
-    below = subst (λ n. place.sender < n) (sym is.known.hosts) is.known.sender
+    below = subst (λ n. place.sender < n) (sym is.known.hosts) place.there
 
     stands : (r : ℕ) → IsSo s u (Registration place.sender r) → standing_of p r ≡ standing
     stands r so = are.only r (at.sender r so)

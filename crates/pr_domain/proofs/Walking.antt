@@ -1,19 +1,18 @@
 -- The states that a view shows, by their reservation and the owner's registration, one after another.
-use Rattle.std.proofs.Common.{◌≡◌, ◌⊎◌, ℕ, ◌+◌, ◌<◌, true, false, List, length, Option, sym, ap, ◌∙◌, subst, inl, inr, arith}
+use Rattle.std.proofs.Common.{◌≡◌, ◌⊎◌, ℕ, ◌+◌, ◌<◌, true, false, List, length, sym, ◌∙◌, subst, inl, inr, arith}
 use Rattle.std.proofs.lemmas.Bool.{cases_eq, cases_order, false≢true}
 use Rattle.pr_cdb.specs.declared.command.Command.{Command}
-use Rattle.pr_registry.specs.declared.held.Held.{Held}
 use Rattle.pr_unit.specs.UnitStates.{UnitState}
 use Rattle.pr_script.specs.declared.script.Test.{Test}
-use Rattle.pr_roles.specs.Fitting.{is_reservation}
 use Rattle.pr_sets.specs.Words.{has}
 use Rattle.pr_sets.specs.Wides.{has_wide}
 use Rattle.pr_views.specs.declared.possibilities.Possibilities.{Possibilities}
-use Rattle.pr_views.specs.Possibilities.{Scope, Item, Registration, Reservation, IsSo, number_of, count_of_reservations}
+use Rattle.pr_views.specs.Possibilities.{Scope, Item, Registration, Reservation, IsSo, count_of_reservations}
 use Rattle.pr_views.specs.Views.{View, Shows}
 use Rattle.pr_views.specs.Portions.{has_at, view_in}
 use Rattle.pr_views.proofs.Numbering.{one_registration}
 use Rattle.pr_domain.specs.declared.place.Place.{Place}
+use Rattle.pr_domain.proofs.Shown.{is_place}
 use Rattle.pr_domain.specs.declared.tally.Tally.{Tally}
 use Rattle.pr_domain.specs.inside.Gathering.{IsPlace}
 use Rattle.pr_domain.specs.inside.Tallies.{has_tallied, Grows, IsFound, HasBoth, HasFirst, IsReserved, IsOwners, IsOfScope, IsTally}
@@ -50,7 +49,7 @@ registration_skipped s c tests view place n old mid is hasnt first =
   where
     nobody : (u : UnitState) → Shows (view_in s view) u → HasBoth s place n u → ⊥
     nobody u shown both =
-        let below : place.sender < s.hosts = subst (λ m. place.sender < m) (sym is.hosts) is.sender in
+        let below : place.sender < s.hosts = subst (λ m. place.sender < m) (sym is.hosts) place.there in
         let seen = shown.registrations place.sender below in
         let same = one_registration s u place.sender seen.0 n is.fits.scope seen.1.1 both.registered in
         false≢true (sym hasnt ∙ subst (λ r. has_at view.registrations place.sender r ≡ true) same seen.1.0.1)
@@ -64,7 +63,7 @@ registrations_none s c tests v place t = grows_from_none v c tests t (HasFirst s
 under : (s : Scope) (view : Possibilities) (place : Place) (u : UnitState) → IsPlace s view place → Shows (view_in s view) u → IsSo s u (Reservation place.reservation)
     → HasFirst s place (length s.keys + 1) u
 under s view place u is shown so =
-    let below : place.sender < s.hosts = subst (λ m. place.sender < m) (sym is.hosts) is.sender in
+    let below : place.sender < s.hosts = subst (λ m. place.sender < m) (sym is.hosts) place.there in
     let seen = shown.registrations place.sender below in
     record { registration = seen.0; below = (let few = seen.1.1.1 in omega arith); reserved = so; registered = seen.1.1 }
 
@@ -127,18 +126,10 @@ tally_of_all s hosts own keys c tests view n none t of all nothing grows = recor
     found way i q (inr is) = record { unit = is.unit; shown = is.shown; among = tt; leaves = is.leaves; pending = is.pending }
 
 -- the place of a reservation
-pub place_of_number : (s : Scope) (hosts own : ℕ) (keys : List ℕ) (view : Possibilities) (x : ℕ) (held : Option Held) → IsOfScope s hosts own keys view → own < hosts
-    → has_wide view.reservations x ≡ true → x ≡ number_of hosts held → is_reservation hosts held ≡ true
-    → IsOwners s keys view (record { hosts = hosts; sender = own; reservation = x; held = held })
-place_of_number s hosts own keys view x held of below has number fits = record {
-  own = sym of.same_own;
+pub is_owners : (s : Scope) (hosts own : ℕ) (keys : List ℕ) (view : Possibilities) (x : ℕ) (place : Place) → IsOfScope s hosts own keys view → has_wide view.reservations x ≡ true
+    → place.hosts ≡ hosts → place.sender ≡ own → place.reservation ≡ x → IsOwners s keys view place
+is_owners s hosts own keys view x place of has is_hosts is_sender is_it = record {
+  own = is_sender ∙ sym of.same_own;
   same_keys = of.same_keys;
-  is = record {
-    hosts = of.same_hosts;
-    fits = of.fits;
-    sender = below;
-    possible = has;
-    number = number ∙ ap (λ h. number_of h held) (sym of.same_hosts);
-    held = subst (λ h. is_reservation h held ≡ true) (sym of.same_hosts) fits;
-  };
+  is = is_place s view place hosts x of.same_hosts of.fits has is_hosts is_it;
 }

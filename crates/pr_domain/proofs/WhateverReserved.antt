@@ -12,7 +12,7 @@ use Rattle.pr_roles.specs.declared.role.Clause.{Clause}
 use Rattle.pr_roles.specs.Fitting.{is_reservation}
 use Rattle.pr_sets.specs.declared.wide.Wide.{Wide}
 use Rattle.pr_sets.specs.Wides.{has_wide}
-use Rattle.pr_views.specs.Possibilities.{Scope, number_of}
+use Rattle.pr_views.specs.Possibilities.{Scope, number_of, count_of_reservations}
 use Rattle.pr_views.proofs.Numbering.{one_reservation, held_at, number_of-held_at, same_held}
 use Rattle.pr_domain.specs.declared.place.Place.{Place}
 use Rattle.pr_domain.specs.declared.onlooker.Onlooker.{Onlooker}
@@ -24,26 +24,32 @@ use Rattle.pr_domain.specs.inside.Reaching.{IsReach, IsReachAt, IsOfOneType, Are
 pub reach_of_places : (s : Scope) (o : Onlooker) (clause : Clause) (reach : Reach) → IsOnlooking s o
     → ((place : Place) → place.hosts ≡ o.hosts → place.sender ≡ o.other → IsWatched s o place → IsReachAt s o.view clause place reach) → IsReach s o.view clause o.other reach
 reach_of_places s o clause reach is each x u w led =
-    let seen = led.leads.shown.reservation in
-    let same = one_reservation s u seen.0 x seen.1.1 led.leads.reserved in
-    let possible : has_wide o.view.reservations x ≡ true = subst (λ y. has_wide o.view.reservations y ≡ true) same seen.1.0 in
-    let numbered = number_of-held_at s.hosts x is.fits.scope.hosts.0 (is.fits.reservations x possible) in
-    each place refl refl (record {
-      known = record { hosts = is.hosts; fits = is.fits; sender = is.there; possible = possible; number = numbered.1; held = numbered.0 };
-      own = is.own;
-      other = is.other;
-    }) u w led
+    each place refl refl (record { known = record { hosts = is.hosts; fits = is.fits; possible = possible }; own = is.own; other = is.other }) u w led
   where
+    possible : has_wide o.view.reservations x ≡ true
+    possible = (let seen = led.leads.shown.reservation in subst (λ y. has_wide o.view.reservations y ≡ true) (one_reservation s u seen.0 x seen.1.1 led.leads.reserved) seen.1.0)
+
     place : Place
-    place = record { hosts = o.hosts; sender = o.other; reservation = x; held = held_at s.hosts x }
+    place =
+        let below = is.fits.reservations x possible in
+        let numbered = number_of-held_at s.hosts x is.fits.scope.hosts.0 below in
+        record {
+          hosts = o.hosts;
+          sender = o.other;
+          reservation = x;
+          held = held_at s.hosts x;
+          some = o.some;
+          few = o.few;
+          there = o.other_there;
+          below = subst (λ n. x < count_of_reservations n) is.hosts below;
+          number = subst (λ n. x ≡ number_of n (held_at s.hosts x)) is.hosts numbered.1;
+          fits = subst (λ n. is_reservation n (held_at s.hosts x) ≡ true) is.hosts numbered.0;
+        }
 
 module _ (s : Scope) (o : Onlooker) (place : Place) (is : IsWatched s o place) where
   -- the reservation of a place is possible by its number
   pub possible_by_number : has_wide o.view.reservations (number_of place.hosts place.held) ≡ true
-  possible_by_number = subst (λ x. has_wide o.view.reservations x ≡ true) (is.known.number ∙ ap (λ n. number_of n place.held) is.known.hosts) is.known.possible
-
-  pub fits_by_number : is_reservation place.hosts place.held ≡ true
-  fits_by_number = subst (λ n. is_reservation n place.held ≡ true) is.known.hosts is.known.held
+  possible_by_number = subst (λ x. has_wide o.view.reservations x ≡ true) place.number is.known.possible
 
   -- where all registrants hold, a reservation of all registrants is possible
   pub shared_possible : {X : Type 0} → is_held_by_all place.held ≡ true
@@ -54,13 +60,13 @@ module _ (s : Scope) (o : Onlooker) (place : Place) (is : IsWatched s o place) w
       at None none = absurd (false≢true (ap is_held_by_all (sym none) ∙ all))
       at (Some (One t h)) one = absurd (false≢true (ap is_held_by_all (sym one) ∙ all))
       at (Some (All t)) shared =
-          from t (ap (is_reservation place.hosts) (sym shared) ∙ fits_by_number) (subst (λ v. has_wide o.view.reservations (number_of place.hosts v) ≡ true) shared possible_by_number)
+          from t (ap (is_reservation place.hosts) (sym shared) ∙ place.fits) (subst (λ v. has_wide o.view.reservations (number_of place.hosts v) ≡ true) shared possible_by_number)
 
   -- so is that of a holder
   pub single_possible : (old : Kind) (holder : ℕ) → place.held ≡ Some (One old holder)
       → (is_reservation place.hosts (Some (One old holder)) ≡ true) × (has_wide o.view.reservations (number_of place.hosts (Some (One old holder))) ≡ true)
   single_possible old holder holds = (
-    ap (is_reservation place.hosts) (sym holds) ∙ fits_by_number,
+    ap (is_reservation place.hosts) (sym holds) ∙ place.fits,
     subst (λ v. has_wide o.view.reservations (number_of place.hosts v) ≡ true) holds possible_by_number,
   )
 

@@ -37,9 +37,7 @@ Tells reach r false false false = Unit {0}
 Tells reach r true false false = has reach.told_03 r ≡ true
 Tells reach r false true false = has reach.told_04 r ≡ true
 Tells reach r false false true = has reach.told_05 r ≡ true
-Tells reach r true true c = ⊥
-Tells reach r true false true = ⊥
-Tells reach r false true true = ⊥
+Tells reach r _ _ _ = ⊥
 
 -- what a registry becomes is in reach
 pub record IsInReach (hosts : ℕ) (reach : Reach) (u : State) (to : Option ℕ) (out : ℕ → Bool) (left : ℕ) (t3 t4 t5 : ℕ → Bool) : Type 0 where
@@ -53,9 +51,7 @@ told_one reach r q false false false tells = inl (or_zero_r q)
 told_one reach r q true false false tells = inr (inl (tells, refl))
 told_one reach r q false true false tells = inr (inr (inl (tells, refl)))
 told_one reach r q false false true tells = inr (inr (inr (tells, refl)))
-told_one reach r q true true c tells = absurd tells
-told_one reach r q true false true tells = absurd tells
-told_one reach r q false true true tells = absurd tells
+told_one reach r q _ _ _ tells = absurd tells
 
 pub within_becomes : (s : Scope) (from : ℕ) (reach : Reach) (u : UnitState) (v : State) (t : Told) (to : Option ℕ) (out : ℕ → Bool) (left : ℕ) (t3 t4 t5 : ℕ → Bool)
     → length s.keys ≤ 12 → s.own ≢ from → Becomes s.keys s.hosts from to out left t3 t4 t5 u.registry v t → IsInReach s.hosts reach u.registry to out left t3 t4 t5

@@ -3,7 +3,6 @@
 ghost use Rattle.std.specs.Prelude.{◌≡◌, ◌≤◌, ◌==◌, ℕ, false, length, IfSome};
 ghost use Rattle.std.specs.Option.{option_map_or};
 ghost use Rattle.pr_roles.specs.declared.limits.TheConstants.{MOST_KEYS};
-ghost use Rattle.pr_sets.specs.Words.{has};
 ghost use Rattle.pr_regions.specs.Purposes.{HasNumber};
 ghost use Rattle.pr_regions.specs.Regions.{names};
 ghost use Rattle.pr_domain.specs.inside.Clauses.{purpose_for, holds_as, may_send as may_send_as, is_registered_as, refuses_strangers, AreSenders};

@@ -4,7 +4,7 @@ ghost use Rattle.std.specs.Prelude.{◌≡◌, ◌≢◌, ◌<◌, ◌≤◌, �
 ghost use Rattle.std.specs.List.{All};
 ghost use Rattle.pr_cdb.specs.declared.codes.TheConstants.{MOST_NEXUSES};
 ghost use Rattle.pr_roles.specs.declared.limits.TheConstants.{MOST_KEYS};
-ghost use Rattle.pr_roles.specs.Fitting.{is_action, is_reservation, is_role};
+ghost use Rattle.pr_roles.specs.Fitting.{is_action, is_role};
 ghost use Rattle.pr_sets.specs.Words.{has};
 ghost use Rattle.pr_views.specs.Possibilities.{Scope, count_of_reservations};
 ghost use Rattle.pr_views.specs.Portions.{has_at, view_in};
@@ -30,9 +30,6 @@ use std::alloc::{AllocError, Global};
 impl Onlooker {
     /// What is possible after any request of the other that ends GOOD and that its role, these clauses, permits.
     pub(crate) fn interfered(&self, clauses: &[Clause], keys: &[u64]) -> Possibilities
-        requires hosts { (1 ≤ self.now.hosts) × (self.now.hosts ≤ MOST_NEXUSES) }
-        requires own { self.now.own < self.now.hosts }
-        requires other { self.now.other < self.now.hosts }
         requires keys { length keys.now ≤ MOST_KEYS }
         requires actions { All (IsClause keys.now) clauses.now }
         ensures { (s : Scope) → IsOnlooking s self.now → s.keys ≡ keys.now → IsInterference (view_in s self.now.view) clauses.now self.now.other (view_in s result) }
@@ -45,9 +42,6 @@ impl Onlooker {
     /// What is possible, and what is possible after any request of the other that ends GOOD and that its role, these clauses,
     /// permits.
     pub(crate) fn widened(&self, clauses: &[Clause], keys: &[u64]) -> Possibilities
-        requires hosts { (1 ≤ self.now.hosts) × (self.now.hosts ≤ MOST_NEXUSES) }
-        requires own { self.now.own < self.now.hosts }
-        requires other { self.now.other < self.now.hosts }
         requires keys { length keys.now ≤ MOST_KEYS }
         requires actions { All (IsClause keys.now) clauses.now }
         ensures { (s : Scope) → IsOnlooking s self.now → s.keys ≡ keys.now → IsWidened (view_in s self.now.view) clauses.now self.now.other (view_in s result) }
@@ -60,9 +54,6 @@ impl Onlooker {
     // Adds what is possible after a command of one of the clauses, where the answer has what is shown.
     fn add_role(&self, answer: &mut Possibilities, clauses: &[Clause], keys: &[u64])
         requires shown { (s : Scope) → IsOnlooking s self.now → s.keys ≡ keys.now → HasShown s self.now.view answer.old }
-        requires hosts { (1 ≤ self.now.hosts) × (self.now.hosts ≤ MOST_NEXUSES) }
-        requires own { self.now.own < self.now.hosts }
-        requires other { self.now.other < self.now.hosts }
         requires keys { length keys.now ≤ MOST_KEYS }
         requires actions { All (IsClause keys.now) clauses.now }
         ensures { (s : Scope) → IsOnlooking s self.now → s.keys ≡ keys.now → Adds s answer.old answer.new (λ u w. Among (length clauses.now) clauses.now (λ clause. FirstLeads (count_of_reservations self.now.hosts) (view_in s self.now.view) clause self.now.other u w)) (λ i. Among (length clauses.now) clauses.now (λ clause. ClauseLeaves (view_in s self.now.view) clause self.now.other i)) }
@@ -75,9 +66,6 @@ impl Onlooker {
     // Adds what is possible after a command of this clause, until the answer has the most that it can leave.
     fn add_clause(&self, answer: &mut Possibilities, clause: &Clause, keys: &[u64])
         requires shown { (s : Scope) → IsOnlooking s self.now → s.keys ≡ keys.now → HasShown s self.now.view answer.old }
-        requires hosts { (1 ≤ self.now.hosts) × (self.now.hosts ≤ MOST_NEXUSES) }
-        requires own { self.now.own < self.now.hosts }
-        requires other { self.now.other < self.now.hosts }
         requires keys { length keys.now ≤ MOST_KEYS }
         requires action { IsClause keys.now clause.now }
         ensures { (s : Scope) → IsOnlooking s self.now → s.keys ≡ keys.now → Adds s answer.old answer.new (FirstLeads (count_of_reservations self.now.hosts) (view_in s self.now.view) clause.now self.now.other) (ClauseLeaves (view_in s self.now.view) clause.now self.now.other) }
@@ -99,10 +87,6 @@ impl Onlooker {
 
     // Under one reservation.
     fn add_place(&self, answer: &mut Possibilities, place: &Place, clause: &Clause, keys: &[u64])
-        requires own { self.now.own < MOST_NEXUSES }
-        requires hosts { (1 ≤ place.now.hosts) × (place.now.hosts ≤ MOST_NEXUSES) }
-        requires sender { place.now.sender < place.now.hosts }
-        requires held { IsTrue (is_reservation place.now.hosts place.now.held) }
         requires keys { length keys.now ≤ MOST_KEYS }
         requires action { is_action keys.now clause.now.action ≡ true }
         ensures { (s : Scope) → IsWatched s self.now place.now → s.keys ≡ keys.now → Adds s answer.old answer.new (PlaceLeads (view_in s self.now.view) clause.now place.now.sender place.now.reservation) (ClauseLeaves (view_in s self.now.view) clause.now place.now.sender) }
@@ -123,11 +107,7 @@ impl Onlooker {
         purpose: Purpose,
         standing: Standing,
     )
-        requires own { self.now.own < MOST_NEXUSES }
-        requires hosts { (1 ≤ place.now.hosts) × (place.now.hosts ≤ MOST_NEXUSES) }
-        requires sender { place.now.sender < place.now.hosts }
-        requires held { IsTrue (is_reservation place.now.hosts place.now.held) }
-        requires number { HasNumber purpose }
+        requires { HasNumber purpose }
         ensures { (s : Scope) → IsWatched s self.now place.now → is_action s.keys clause.now.action ≡ true → purpose_for s.keys clause.now.action place.now.held ≡ Some purpose → Adds s answer.old answer.new (StandingLeads (view_in s self.now.view) clause.now place.now.sender place.now.reservation purpose standing) (ClauseLeaves (view_in s self.now.view) clause.now place.now.sender) }
     {
         let senders = senders(purpose, standing);

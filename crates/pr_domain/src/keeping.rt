@@ -1,13 +1,11 @@
 //! What of a view's possibilities is so in some state that it shows.
 
-ghost use Rattle.std.specs.Prelude.{◌≡◌, ◌≤◌, ◌<◌, ◌+◌, ◌*◌, ℕ, true, None, IfSome, IfNone, IsTrue};
+ghost use Rattle.std.specs.Prelude.{◌≡◌, ◌≤◌, ◌<◌, ◌+◌, ◌*◌, ℕ, true, None, IfSome, IfNone};
 ghost use Rattle.pr_cdb.specs.declared.codes.TheConstants.{MOST_NEXUSES};
 ghost use Rattle.pr_unit.specs.UnitStates.{UnitState};
 ghost use Rattle.pr_roles.specs.declared.limits.TheConstants.{MOST_KEYS};
-ghost use Rattle.pr_roles.specs.Fitting.{is_reservation};
-ghost use Rattle.pr_sets.specs.Numbers.{most};
 ghost use Rattle.pr_sets.specs.Words.{has};
-ghost use Rattle.pr_views.specs.Possibilities.{Scope, number_of, count_of_reservations};
+ghost use Rattle.pr_views.specs.Possibilities.{Scope, count_of_reservations};
 ghost use Rattle.pr_views.specs.Views.{Fits};
 ghost use Rattle.pr_views.specs.Portions.{view_in};
 ghost use Rattle.pr_domain.specs.inside.Gathering.{IsPlace, IsUniform};
@@ -47,12 +45,11 @@ impl Place {
     /// The place of this reservation.
     pub(crate) fn of(hosts: u8, sender: u8, reservation: u8) -> Place
         requires hosts { (1 ≤ hosts) × (hosts ≤ MOST_NEXUSES) }
+        requires sender { sender < hosts }
         requires below { reservation < count_of_reservations hosts }
         ensures hosts { result.hosts ≡ hosts }
         ensures sender { result.sender ≡ sender }
         ensures reservation { result.reservation ≡ reservation }
-        ensures number { reservation ≡ number_of hosts result.held }
-        ensures held { IsTrue (is_reservation hosts result.held) }
     {
         Place {
             hosts,
@@ -64,9 +61,6 @@ impl Place {
 
     // Adds what is so in some state of the place in which the sender has one of these registrations.
     fn add_kept(&self, kept: &mut Possibilities, view: &Possibilities, senders: Word)
-        requires hosts { (1 ≤ self.now.hosts) × (self.now.hosts ≤ MOST_NEXUSES) }
-        requires sender { self.now.sender < self.now.hosts }
-        requires reservation { self.now.reservation < most }
         ensures { (s : Scope) → IsPlace s view.now self.now → IsUniform senders → Adds s kept.old kept.new (λ _ u. IsShownAt (view_in s view.now) self.now senders u) (IsShownSo (view_in s view.now)) }
     {
         if let Some(shown) = self.shown(view, senders) {
@@ -76,9 +70,6 @@ impl Place {
 
     // What is so in those states, if there are any.
     fn shown(&self, view: &Possibilities, senders: Word) -> Option<Possibilities>
-        requires hosts { (1 ≤ self.now.hosts) × (self.now.hosts ≤ MOST_NEXUSES) }
-        requires sender { self.now.sender < self.now.hosts }
-        requires reservation { self.now.reservation < most }
         ensures some { IfSome result (λ p. (s : Scope) → IsPlace s view.now self.now → IsUniform senders → IsShown s view.now self.now senders p) }
         ensures none { IfNone result ((s : Scope) → IsPlace s view.now self.now → IsUniform senders → (u : UnitState) → IsShownAt (view_in s view.now) self.now senders u → ⊥) }
     {

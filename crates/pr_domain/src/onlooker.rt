@@ -1,15 +1,7 @@
 //! What becomes of a view while another sends commands.
 
-ghost use Rattle.std.specs.Prelude.{◌≡◌, ◌≢◌, ◌<◌, ◌≤◌, ℕ, length, IfSome, IfNone};
-ghost use Rattle.std.specs.List.{All};
+ghost use Rattle.std.specs.Prelude.{◌<◌, ◌≤◌, length, IfSome, IfNone};
 ghost use Rattle.pr_cdb.specs.declared.codes.TheConstants.{MOST_NEXUSES};
-ghost use Rattle.pr_unit.specs.UnitStates.{UnitState};
-ghost use Rattle.pr_views.specs.Possibilities.{Scope};
-ghost use Rattle.pr_views.specs.Portions.{view_in};
-ghost use Rattle.pr_regions.specs.Regions.{HasRoom};
-ghost use Rattle.pr_regions.specs.declared.region.Ending.TheVariants as ending;
-ghost use Rattle.pr_domain.specs.inside.Gathering.{IsUniform, IsProper, IsAt};
-ghost use Rattle.pr_domain.specs.inside.Interfering.{IsWatched, IsAfter, Adds, Among, IsLedBy, IsLeftBy, IsProperBranch, BranchHasRoom};
 
 use crate::changed::{attentions_after, registrations_after};
 use crate::place::Place;
@@ -18,7 +10,7 @@ use pr_sets::{Wide, Word};
 use pr_views::Possibilities;
 
 /// The owner of a view, who looks on while another sends commands.
-#[derive(Clone, Copy, PartialEq, Eq)]
+#[derive(Clone, Copy)]
 pub(crate) struct Onlooker {
     /// How many nexuses there are.
     pub(crate) hosts: u8,
@@ -26,9 +18,22 @@ pub(crate) struct Onlooker {
     /// Who sends commands.
     pub(crate) other: u8,
     pub(crate) view: Possibilities,
+    ghost some: { 1 ≤ hosts },
+    ghost few: { hosts ≤ MOST_NEXUSES },
+    ghost own_there: { own < hosts },
+    ghost other_there: { other < hosts },
 }
 
 impl Onlooker {
+    ghost use Rattle.std.specs.List.{All};
+    ghost use Rattle.pr_unit.specs.UnitStates.{UnitState};
+    ghost use Rattle.pr_views.specs.Possibilities.{Scope};
+    ghost use Rattle.pr_views.specs.Portions.{view_in};
+    ghost use Rattle.pr_regions.specs.Regions.{HasRoom};
+    ghost use Rattle.pr_regions.specs.declared.region.Ending.TheVariants as ending;
+    ghost use Rattle.pr_domain.specs.inside.Gathering.{IsUniform, IsProper, IsAt};
+    ghost use Rattle.pr_domain.specs.inside.Interfering.{IsWatched, IsAfter, Adds, Among, IsLedBy, IsLeftBy, IsProperBranch, BranchHasRoom};
+
     /// What is possible once a command has this effect in the states of the region in which its sender has one of
     /// these registrations; none where the view shows no such state.
     pub(crate) fn after(
@@ -38,9 +43,6 @@ impl Onlooker {
         region: &Region,
         change: &Change,
     ) -> Option<Possibilities>
-        requires own { self.now.own < MOST_NEXUSES }
-        requires hosts { (1 ≤ place.now.hosts) × (place.now.hosts ≤ MOST_NEXUSES) }
-        requires sender { place.now.sender < place.now.hosts }
         requires room { HasRoom place.now.hosts (ending.Good change.now) }
         ensures some { IfSome result (λ p. (s : Scope) → IsWatched s self.now place.now → IsUniform senders → IsProper region.now → IsAfter s self.now.view place.now senders region.now change.now p) }
         ensures none { IfNone result ((s : Scope) → IsWatched s self.now place.now → IsUniform senders → IsProper region.now → (u : UnitState) → IsAt (view_in s self.now.view) place.now senders region.now u → ⊥) }
@@ -66,9 +68,6 @@ impl Onlooker {
         senders: Word,
         branches: &[Branch],
     )
-        requires own { self.now.own < MOST_NEXUSES }
-        requires hosts { (1 ≤ place.now.hosts) × (place.now.hosts ≤ MOST_NEXUSES) }
-        requires sender { place.now.sender < place.now.hosts }
         requires room { All (BranchHasRoom place.now.hosts) branches.now }
         ensures { (s : Scope) → IsWatched s self.now place.now → IsUniform senders → All IsProperBranch branches.now → Adds s answer.old answer.new (λ u w. Among (length branches.now) branches.now (λ b. IsLedBy s self.now.view place.now senders b u w)) (λ i. Among (length branches.now) branches.now (λ b. IsLeftBy s self.now.view place.now senders b i)) }
     {
@@ -78,9 +77,6 @@ impl Onlooker {
     }
 
     fn add_branch(&self, answer: &mut Possibilities, place: &Place, senders: Word, branch: &Branch)
-        requires own { self.now.own < MOST_NEXUSES }
-        requires hosts { (1 ≤ place.now.hosts) × (place.now.hosts ≤ MOST_NEXUSES) }
-        requires sender { place.now.sender < place.now.hosts }
         requires room { BranchHasRoom place.now.hosts branch.now }
         ensures { (s : Scope) → IsWatched s self.now place.now → IsUniform senders → IsProperBranch branch.now → Adds s answer.old answer.new (IsLedBy s self.now.view place.now senders branch.now) (IsLeftBy s self.now.view place.now senders branch.now) }
     {

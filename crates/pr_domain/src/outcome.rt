@@ -10,7 +10,7 @@ ghost use Rattle.pr_domain.specs.Outcomes.{AreOutcomes};
 
 use crate::landing::Landing;
 use crate::reporting::{Sending, fault_of};
-use crate::tallying::tally;
+use crate::tallying::{TestedCommand, tally};
 use pr_cdb::Command;
 use pr_roles::Refusals;
 use pr_script::Test;
@@ -66,7 +66,12 @@ pub fn outcomes<S: ViewSet>(
 {
     let keys: &[u64] = &view.keys;
     let known = view.possibilities();
-    let tally = tally(&known, keys, view.hosts, host, *command, tests);
+    let asked = TestedCommand {
+        keys,
+        command: *command,
+        tests,
+    };
+    let tally = tally(&known, view.hosts, host, &asked);
     is_whole(*command);
     let sending = Sending {
         keys,

@@ -2,7 +2,6 @@
 
 ghost use Rattle.std.specs.Prelude.{◌≡◌, ◌<◌, ◌≤◌, ◌↔◌, IsTrue, length, true, false};
 ghost use Rattle.std.specs.List.{list_any, All};
-ghost use Rattle.pr_cdb.specs.declared.codes.TheConstants.{MOST_NEXUSES};
 ghost use Rattle.pr_script.specs.Grammar.{is_written};
 ghost use Rattle.pr_roles.specs.declared.limits.TheConstants.{MOST_KEYS};
 ghost use Rattle.pr_sets.specs.Words.{has};
@@ -166,8 +165,6 @@ fn key_at(keys: &[u64], registration: u8) -> Option<u64>
 
 // Whether one of the branches ends GOOD in some state of the view.
 fn is_one_reached(view: &Possibilities, place: Place, senders: Word, branches: &[Branch]) -> bool
-    requires hosts { (1 ≤ place.hosts) × (place.hosts ≤ MOST_NEXUSES) }
-    requires sender { place.sender < place.hosts }
     ensures { (s : Scope) → IsPlace s view.now place → IsUniform senders → has view.now.pending 0 ≡ true → All IsProperBranch branches.now → (IsTrue result ↔ IsOneReached (view_in s view.now) place senders branches.now (length branches.now)) }
 {
     let mut i = 0;
@@ -182,8 +179,6 @@ fn is_one_reached(view: &Possibilities, place: Place, senders: Word, branches: &
 
 // Whether the branch ends GOOD in some state of the view, in which nothing is pending for its owner.
 fn is_reached(view: &Possibilities, place: Place, senders: Word, branch: &Branch) -> bool
-    requires hosts { (1 ≤ place.hosts) × (place.hosts ≤ MOST_NEXUSES) }
-    requires sender { place.sender < place.hosts }
     ensures { (s : Scope) → IsPlace s view.now place → IsUniform senders → has view.now.pending 0 ≡ true → IsProper branch.now.region → (IsTrue result ↔ IsReached (view_in s view.now) place senders branch.now) }
 {
     match branch.ending {

@@ -1,13 +1,9 @@
 //! The states that a view shows, one part after another.
 
-ghost use Rattle.std.specs.Prelude.{◌≡◌, ◌≢◌, ◌⊎◌, ◌<◌, ◌≤◌, ℕ, Bool, true, false, ◌&&◌, IfSome, IfNone};
-ghost use Rattle.pr_registry.specs.Registrations.{holds_alone};
-ghost use Rattle.pr_registry.specs.Changes.{is_held_by_all};
-ghost use Rattle.pr_sets.specs.Words.{has};
-ghost use Rattle.pr_unit.specs.UnitStates.{UnitState};
-ghost use Rattle.pr_views.specs.Possibilities.{Scope};
-ghost use Rattle.pr_views.specs.Portions.{has_at, view_in};
-ghost use Rattle.pr_domain.specs.inside.Gathering.{IsPlace, IsUniform, IsProper, IsAt, IsGathered, passes, IsLeftTo, HasTest};
+ghost use Rattle.std.specs.Prelude.{◌≡◌, ◌≢◌, ◌⊎◌, ◌<◌, ◌≤◌, ℕ, true, false, ◌&&◌, IfSome, IfNone};
+ghost use Rattle.pr_cdb.specs.declared.codes.TheConstants.{MOST_NEXUSES};
+ghost use Rattle.pr_roles.specs.Fitting.{is_reservation};
+ghost use Rattle.pr_views.specs.Possibilities.{number_of, count_of_reservations};
 
 use pr_cdb::codes::MOST_NEXUSES;
 use pr_regions::{Region, every_key};
@@ -16,16 +12,32 @@ use pr_sets::Word;
 use pr_views::{Portion, Possibilities};
 
 /// One reservation of a view, and who sends a command under it.
-#[derive(Clone, Copy, PartialEq, Eq)]
+///
+/// What holds of every place is said once, here, so that no function that is given one has to ask for it.
+#[derive(Clone, Copy)]
 pub(crate) struct Place {
     pub(crate) hosts: u8,
     pub(crate) sender: u8,
     /// The reservation, by its number.
     pub(crate) reservation: u8,
     pub(crate) held: Option<Held>,
+    ghost some: { 1 ≤ hosts },
+    ghost few: { hosts ≤ MOST_NEXUSES },
+    ghost there: { sender < hosts },
+    ghost below: { reservation < count_of_reservations hosts },
+    ghost number: { reservation ≡ number_of hosts held },
+    ghost fits: { is_reservation hosts held ≡ true },
 }
 
 impl Place {
+    ghost use Rattle.pr_registry.specs.Registrations.{holds_alone};
+    ghost use Rattle.pr_registry.specs.Changes.{is_held_by_all};
+    ghost use Rattle.pr_sets.specs.Words.{has};
+    ghost use Rattle.pr_unit.specs.UnitStates.{UnitState};
+    ghost use Rattle.pr_views.specs.Possibilities.{Scope};
+    ghost use Rattle.pr_views.specs.Portions.{has_at, view_in};
+    ghost use Rattle.pr_domain.specs.inside.Gathering.{IsPlace, IsUniform, IsProper, IsAt, IsGathered, passes, IsLeftTo, HasTest};
+
     /// What each nexus has in the states of this region in which the sender has one of these
     /// registrations; none where the view shows no such state.
     pub(crate) fn gather(
@@ -34,8 +46,6 @@ impl Place {
         senders: Word,
         region: &Region,
     ) -> Option<[Word; MOST_NEXUSES]>
-        requires hosts { (1 ≤ self.now.hosts) × (self.now.hosts ≤ MOST_NEXUSES) }
-        requires sender { self.now.sender < self.now.hosts }
         ensures some { IfSome result (λ words. (s : Scope) → IsPlace s view.now self.now → IsUniform senders → IsProper region.now → IsGathered (view_in s view.now) self.now senders region.now words) }
         ensures beyond { IfSome result (λ words. (g r : ℕ) → self.now.hosts ≤ g → has_at words g r ≡ false) }
         ensures none { IfNone result ((s : Scope) → IsPlace s view.now self.now → IsUniform senders → IsProper region.now → (u : UnitState) → IsAt (view_in s view.now) self.now senders region.now u → ⊥) }
@@ -45,7 +55,6 @@ impl Place {
 
     /// The portion of the view that those states are.
     pub(crate) fn portion(&self, view: &Possibilities, senders: Word, region: &Region) -> Portion
-        requires hosts { (1 ≤ self.now.hosts) × (self.now.hosts ≤ MOST_NEXUSES) }
         ensures sender { result.sender ≡ self.now.sender }
         ensures reservation { result.reservation ≡ self.now.reservation }
         ensures left { IsLeftTo view.now self.now senders region.now result }
@@ -62,7 +71,6 @@ impl Place {
 
     // What the portion leaves to each: one rule for all, but for the sender and for who holds alone.
     fn left(&self, view: &Possibilities, senders: Word, region: &Region) -> [Word; MOST_NEXUSES]
-        requires hosts { (1 ≤ self.now.hosts) × (self.now.hosts ≤ MOST_NEXUSES) }
         ensures left { (g r : ℕ) → g < self.now.hosts → has_at result g r ≡ (has_at view.now.registrations g r && passes self.now senders region.now g r) }
         ensures beyond { (g r : ℕ) → self.now.hosts ≤ g → has_at result g r ≡ false }
     {
@@ -83,7 +91,6 @@ impl Place {
         senders: Word,
         region: &Region,
     )
-        requires hosts { self.now.hosts ≤ MOST_NEXUSES }
         ensures holder { (g r : ℕ) → g < self.now.hosts → holds_alone self.now.held g ≡ true → has_at words.new g r ≡ (has_at view.now.registrations g r && passes self.now senders region.now g r) }
         ensures others { (g r : ℕ) → (holds_alone self.now.held g ≡ false) ⊎ (self.now.hosts ≤ g) → has_at words.new g r ≡ has_at words.old g r }
     {
@@ -101,7 +108,6 @@ impl Place {
         senders: Word,
         region: &Region,
     )
-        requires hosts { self.now.hosts ≤ MOST_NEXUSES }
         ensures here { g < self.now.hosts → (r : ℕ) → has_at words.new g r ≡ (has_at view.now.registrations g r && passes self.now senders region.now g r) }
         ensures others { (h r : ℕ) → (h ≢ g) ⊎ (self.now.hosts ≤ g) → has_at words.new h r ≡ has_at words.old h r }
     {

@@ -1,7 +1,6 @@
 //! What a command gives, removes and tells at most.
 
-ghost use Rattle.std.specs.Prelude.{◌≡◌, ◌<◌, ◌≤◌, ◌||◌, ◌&&◌, ℕ, Some, None, true};
-ghost use Rattle.pr_cdb.specs.declared.codes.TheConstants.{MOST_NEXUSES};
+ghost use Rattle.std.specs.Prelude.{◌≡◌, ◌≤◌, ◌||◌, ◌&&◌, ℕ, Some, None, true};
 ghost use Rattle.pr_registry.specs.Registrations.{new_reservation, holds_alone, is_for_registrants as is_for_registrants_as};
 ghost use Rattle.pr_registry.specs.Changes.{is_held_by_all, is_told_of_loss};
 ghost use Rattle.pr_roles.specs.declared.limits.TheConstants.{MOST_KEYS};
@@ -99,8 +98,6 @@ impl Reach {
 
     /// To establish a reservation of this type.
     pub(crate) fn of_reserving(place: &Place, kind: Kind) -> Reach
-        requires hosts { place.now.hosts ≤ MOST_NEXUSES }
-        requires sender { place.now.sender < place.now.hosts }
         ensures { place.now.held ≡ None → has_wide result.reservations (number_of place.now.hosts (Some (new_reservation kind place.now.sender))) ≡ true }
     {
         match place.held {
@@ -150,8 +147,6 @@ impl Reach {
 
     /// To preempt all others, where all registrants hold.
     pub(crate) fn of_preempting_all(place: &Place, kind: Kind) -> Reach
-        requires hosts { place.now.hosts ≤ MOST_NEXUSES }
-        requires sender { place.now.sender < place.now.hosts }
         ensures removed { is_held_by_all place.now.held ≡ true → (r : ℕ) → 1 ≤ r → r ≤ MOST_KEYS → has result.removed r ≡ true }
         ensures reservations { is_held_by_all place.now.held ≡ true → has_wide result.reservations (number_of place.now.hosts (Some (new_reservation kind place.now.sender))) ≡ true }
         ensures told { is_held_by_all place.now.held ≡ true → (r : ℕ) → 1 ≤ r → r ≤ MOST_KEYS → has result.told_05 r ≡ true }
@@ -171,8 +166,6 @@ impl Reach {
 impl Place {
     /// The reservation of this type that the sender establishes.
     pub(crate) fn new_reservation(&self, kind: Kind) -> Wide
-        requires hosts { self.now.hosts ≤ MOST_NEXUSES }
-        requires sender { self.now.sender < self.now.hosts }
         ensures { has_wide result (number_of self.now.hosts (Some (new_reservation kind self.now.sender))) ≡ true }
     {
         let held = if is_all(kind) {

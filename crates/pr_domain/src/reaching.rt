@@ -1,13 +1,13 @@
 //! What a command can leave at most.
 
-ghost use Rattle.std.specs.Prelude.{◌≡◌, ◌≢◌, ◌⊎◌, ◌<◌, ◌≤◌, ◌==◌, ◌&&◌, ◌||◌, ℕ, Some, true, false, not, length, bit_or, IsTrue};
+ghost use Rattle.std.specs.Prelude.{◌≡◌, ◌≢◌, ◌<◌, ◌≤◌, ◌==◌, ◌&&◌, ◌||◌, ℕ, Some, true, false, length, bit_or, IsTrue};
 ghost use Rattle.pr_cdb.specs.declared.command.Kind.{Kind as KindOf};
 ghost use Rattle.pr_registry.specs.declared.held.Held.TheVariants.{One};
 ghost use Rattle.pr_registry.specs.Registrations.{new_reservation};
 ghost use Rattle.pr_registry.specs.Changes.{is_kind, is_held_by_all};
 ghost use Rattle.pr_roles.specs.declared.limits.TheConstants.{MOST_KEYS};
 ghost use Rattle.pr_roles.specs.declared.role.Clause.{Clause as ClauseOf};
-ghost use Rattle.pr_roles.specs.Fitting.{is_action, is_reservation};
+ghost use Rattle.pr_roles.specs.Fitting.{is_action};
 ghost use Rattle.pr_sets.specs.Words.{has};
 ghost use Rattle.pr_sets.specs.Wides.{has_wide};
 ghost use Rattle.pr_views.specs.declared.view.TheConstants.{ATTENTION_SETS};
@@ -38,8 +38,6 @@ use pr_views::{
 impl Onlooker {
     /// What a command that reaches no more than this can leave at most, beside what was so before it.
     pub(crate) fn most(&self, reach: &Reach) -> Possibilities
-        requires own { self.now.own < MOST_NEXUSES }
-        requires other { self.now.other < MOST_NEXUSES }
         ensures { (s : Scope) (clause : ClauseOf) → IsOnlooking s self.now → IsReach s self.now.view clause self.now.other reach.now → IsMost s self.now.view clause self.now.other result }
     {
         Possibilities {
@@ -51,8 +49,6 @@ impl Onlooker {
 
     /// What a command of this clause reaches under the reservations that are possible.
     pub(crate) fn reach(&self, clause: &Clause, keys: &[u64]) -> Reach
-        requires hosts { (1 ≤ self.now.hosts) × (self.now.hosts ≤ MOST_NEXUSES) }
-        requires other { self.now.other < self.now.hosts }
         requires keys { length keys.now ≤ MOST_KEYS }
         requires action { IsClause keys.now clause.now }
         ensures { (s : Scope) → IsOnlooking s self.now → s.keys ≡ keys.now → IsReach s self.now.view clause.now self.now.other result }
@@ -70,9 +66,6 @@ impl Onlooker {
 
     // Under one reservation, where its key has this number.
     fn reach_at(&self, place: &Place, clause: &Clause, number: u8) -> Reach
-        requires hosts { (1 ≤ place.now.hosts) × (place.now.hosts ≤ MOST_NEXUSES) }
-        requires sender { place.now.sender < place.now.hosts }
-        requires held { IsTrue (is_reservation place.now.hosts place.now.held) }
         requires number { number ≤ MOST_KEYS }
         ensures { (s : Scope) → IsWatched s self.now place.now → is_action s.keys clause.now.action ≡ true → number_named s.keys clause.now.action ≡ number → IsReachAt s self.now.view clause.now place.now result }
     {
@@ -99,9 +92,6 @@ impl Onlooker {
     // To preempt the key of this number: whoever has it goes, the reservation of a holder that has it is replaced, and
     // that of all registrants ends where nobody is left.
     fn reach_of_preempting(&self, place: &Place, key: u8, kind: Kind) -> Reach
-        requires hosts { place.now.hosts ≤ MOST_NEXUSES }
-        requires sender { place.now.sender < place.now.hosts }
-        requires held { IsTrue (is_reservation place.now.hosts place.now.held) }
         requires key { key ≤ MOST_KEYS }
         ensures given { has_at self.now.view.registrations place.now.sender key ≡ true → has result.given 0 ≡ true }
         ensures ended { is_held_by_all place.now.held ≡ true → has_at self.now.view.registrations place.now.sender key ≡ true → MayAllGo self.now.view place.now key → has_wide result.reservations 0 ≡ true }
@@ -134,7 +124,6 @@ impl Onlooker {
 
     // Whether each but the sender may be free or have the key of this number.
     fn may_all_go(&self, place: &Place, key: u8) -> bool
-        requires hosts { place.now.hosts ≤ MOST_NEXUSES }
         requires key { key ≤ MOST_KEYS }
         ensures { MayAllGo self.now.view place.now key → IsTrue result }
     {
@@ -166,7 +155,6 @@ impl Onlooker {
 
     // The registrations that are in reach.
     fn registrations_within(&self, reach: &Reach) -> [Word; MOST_NEXUSES]
-        requires other { self.now.other < MOST_NEXUSES }
         ensures given { (n : ℕ) → has reach.now.given n ≡ true → has_at result self.now.other n ≡ true }
         ensures freed { (g r : ℕ) → g < MOST_NEXUSES → g ≢ self.now.other → has_at self.now.view.registrations g r ≡ true → has reach.now.removed r ≡ true → has_at result g 0 ≡ true }
     {
@@ -184,7 +172,6 @@ impl Onlooker {
 
     // The attentions that are in reach.
     fn pending_within(&self, reach: &Reach) -> Word
-        requires own { self.now.own < MOST_NEXUSES }
         ensures { (r q n : ℕ) → has_at self.now.view.registrations self.now.own r ≡ true → has self.now.view.pending q ≡ true → q < ATTENTION_SETS → IsTold reach.now r q n → has result n ≡ true }
     {
         let owners = self.view.registrations[usize::from(self.own)];

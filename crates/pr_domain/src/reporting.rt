@@ -1,10 +1,9 @@
 //! The outcomes of a command, from the tally of its ways to end.
 
-ghost use Rattle.std.specs.Prelude.{◌≡◌, ◌<◌, ◌≤◌, ℕ, true, List, map, IfOk, OnOk, IsTrue, Some};
+ghost use Rattle.std.specs.Prelude.{◌≡◌, ◌<◌, ℕ, true, List, map, IfOk, OnOk, IsTrue, Some};
 ghost use Rattle.std.specs.List.{All, slice_get};
 ghost use Rattle.pr_cdb.specs.declared.reply.Sense.{Sense};
 ghost use Rattle.pr_attention.specs.Attentions.{code_of};
-ghost use Rattle.pr_attention.specs.declared.attention.Attention.{Attention as AttentionOf};
 ghost use Rattle.pr_cdb.specs.declared.wire.Request.TheVariants.{Plain};
 ghost use Rattle.pr_registry.specs.Registrations.{State};
 ghost use Rattle.pr_script.specs.declared.script.Test.{Test};

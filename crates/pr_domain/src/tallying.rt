@@ -2,20 +2,18 @@
 
 ghost use Rattle.std.specs.Prelude.{◌≡◌, ◌<◌, ◌≤◌, ◌+◌, ℕ, List, ◌==◌, ◌||◌, length, IsTrue, true, IfSome, IfNone};
 ghost use Rattle.pr_script.specs.Grammar.{is_written, test_fits, is_read_keys, is_read_reservation};
+ghost use Rattle.pr_script.specs.declared.limits.TheConstants.{MOST_ARMS};
 ghost use Rattle.pr_views.specs.Possibilities.{key_at};
 ghost use Rattle.pr_roles.specs.Fitting.{AreDeclared};
-ghost use Rattle.pr_roles.specs.Fitting.{is_reservation};
 ghost use Rattle.pr_regions.specs.Purposes.{HasNumber};
 ghost use Rattle.std.specs.List.{All};
-ghost use Rattle.pr_regions.specs.declared.region.Branch.{Branch as BranchOf};
 ghost use Rattle.pr_sets.specs.Numbers.{most};
-ghost use Rattle.pr_sets.specs.Words.{has};
 ghost use Rattle.pr_sets.specs.Wides.{has_wide};
 ghost use Rattle.pr_cdb.specs.declared.command.Command.{Command as CommandOf};
 ghost use Rattle.pr_script.specs.declared.script.Test.{Test as TestOf};
 ghost use Rattle.pr_unit.specs.UnitStates.{UnitState};
 ghost use Rattle.pr_roles.specs.declared.limits.TheConstants.{MOST_KEYS};
-ghost use Rattle.pr_views.specs.Possibilities.{Scope, Item, count_of_reservations};
+ghost use Rattle.pr_views.specs.Possibilities.{Scope, Item};
 ghost use Rattle.pr_views.specs.Portions.{view_in};
 ghost use Rattle.pr_regions.specs.Regions.{HasRoom};
 ghost use Rattle.pr_domain.specs.declared.tally.Tally.{Tally as TallyOf};
@@ -31,12 +29,25 @@ use pr_cdb::Command;
 use pr_cdb::codes::MOST_NEXUSES;
 use pr_regions::{
     Branch, Change, Ending, Purpose, Reading, Region, branches, is_refused, purpose_of, readings,
-    reservation_at, standing_of,
+    standing_of,
 };
 use pr_script::Test;
 use pr_script::limits::MOST_ARMS;
 use pr_sets::{Wide, Word};
 use pr_views::{MOST_REGISTRATIONS, Possibilities};
+
+/// What the owner asks: a command, and the tests of its send, written with these keys.
+#[derive(Clone, Copy)]
+pub(crate) struct TestedCommand<'a> {
+    pub(crate) keys: &'a [u64],
+    pub(crate) command: Command,
+    pub(crate) tests: &'a [Test],
+    ghost declared: { AreDeclared keys.now },
+    ghost few_keys: { length keys.now ≤ MOST_KEYS },
+    ghost written: { is_written keys.now command ≡ true },
+    ghost fit: { All (λ t. test_fits keys.now command t ≡ true) tests.now },
+    ghost few: { length tests.now ≤ MOST_ARMS },
+}
 
 // These registrations under this reservation.
 fn part(registrations: [Word; MOST_NEXUSES], reservation: u8) -> Possibilities
@@ -60,9 +71,6 @@ fn add_branch(
     branch: &Branch,
     arm: usize,
 )
-    requires hosts { (1 ≤ place.hosts) × (place.hosts ≤ MOST_NEXUSES) }
-    requires sender { place.sender < place.hosts }
-    requires reservation { place.reservation < count_of_reservations place.hosts }
     requires room { HasRoom place.hosts branch.now.ending }
     requires arm { arm ≤ MOST_ARMS }
     ensures { (s : Scope) (c : CommandOf) (tests : List TestOf) → IsRight s c tests view.now place senders branch.now arm → Grows (view_in s view.now) c tests tally.old tally.new (IsAt (view_in s view.now) place senders branch.now.region) }
@@ -94,9 +102,6 @@ fn add_branches(
     branches: &[Branch],
     arm: usize,
 )
-    requires hosts { (1 ≤ place.hosts) × (place.hosts ≤ MOST_NEXUSES) }
-    requires sender { place.sender < place.hosts }
-    requires reservation { place.reservation < count_of_reservations place.hosts }
     requires room { All (λ b. HasRoom place.hosts b.ending) branches.now }
     requires arm { arm ≤ MOST_ARMS }
     ensures { (s : Scope) (c : CommandOf) (tests : List TestOf) → AreRight s c tests view.now place senders branches.now arm → Grows (view_in s view.now) c tests tally.old tally.new (IsInOne (view_in s view.now) place senders branches.now (length branches.now)) }
@@ -117,10 +122,6 @@ fn add_accepted(
     arm: usize,
     registration: u8,
 )
-    requires hosts { (1 ≤ place.hosts) × (place.hosts ≤ MOST_NEXUSES) }
-    requires sender { place.sender < place.hosts }
-    requires reservation { place.reservation < count_of_reservations place.hosts }
-    requires held { IsTrue (is_reservation place.hosts place.held) }
     requires number { HasNumber purpose }
     requires arm { arm ≤ MOST_ARMS }
     requires registration { registration ≤ MOST_KEYS }
@@ -133,9 +134,6 @@ fn add_accepted(
 
 // Adds those in which its reservation key is not accepted.
 fn add_refused(tally: &mut Tally, view: &Possibilities, place: Place, registration: u8)
-    requires hosts { (1 ≤ place.hosts) × (place.hosts ≤ MOST_NEXUSES) }
-    requires sender { place.sender < place.hosts }
-    requires reservation { place.reservation < count_of_reservations place.hosts }
     requires registration { registration ≤ MOST_KEYS }
     ensures { (s : Scope) (c : CommandOf) (tests : List TestOf) → IsRefusedAt s c view.now place registration → Grows (view_in s view.now) c tests tally.old tally.new (HasBoth s place registration) }
 {
@@ -173,9 +171,6 @@ fn is_tallied(
     region: &Region,
     arm: usize,
 ) -> bool
-    requires hosts { (1 ≤ place.hosts) × (place.hosts ≤ MOST_NEXUSES) }
-    requires sender { place.sender < place.hosts }
-    requires reservation { place.reservation < count_of_reservations place.hosts }
     requires arm { arm ≤ MOST_ARMS }
     ensures { IsTrue result → (s : Scope) → IsPlace s view.now place → IsUniform senders → (u : UnitState) (i : Item) → IsAt (view_in s view.now) place senders region.now u → IsRegistered s u i → (has_tallied tally.now 1 i ≡ true) × (has_tallied tally.now (3 + arm) i ≡ true) }
 {
@@ -192,9 +187,6 @@ fn add_reading(
     registration: u8,
     reading: &Reading,
 )
-    requires hosts { (1 ≤ place.hosts) × (place.hosts ≤ MOST_NEXUSES) }
-    requires sender { place.sender < place.hosts }
-    requires reservation { place.reservation < count_of_reservations place.hosts }
     requires registration { registration ≤ MOST_KEYS }
     ensures { (s : Scope) (c : CommandOf) (tests : List TestOf) → IsRightReading s c tests view.now place registration reading.now → Grows (view_in s view.now) c tests tally.old tally.new (IsReadAt s view.now place registration reading.now) }
 {
@@ -227,9 +219,6 @@ fn add_readings(
     registration: u8,
     readings: &[Reading],
 )
-    requires hosts { (1 ≤ place.hosts) × (place.hosts ≤ MOST_NEXUSES) }
-    requires sender { place.sender < place.hosts }
-    requires reservation { place.reservation < count_of_reservations place.hosts }
     requires registration { registration ≤ MOST_KEYS }
     ensures { (s : Scope) (c : CommandOf) (tests : List TestOf) → AreRightReadings s c tests view.now place registration readings.now → Grows (view_in s view.now) c tests tally.old tally.new (IsReadFirst s view.now place registration readings.now (length readings.now)) }
 {
@@ -265,34 +254,31 @@ fn add_registration(
     tally: &mut Tally,
     view: &Possibilities,
     place: Place,
-    keys: &[u64],
-    command: Command,
-    tests: &[Test],
+    asked: &TestedCommand,
     registration: u8,
 )
-    requires hosts { (1 ≤ place.hosts) × (place.hosts ≤ MOST_NEXUSES) }
-    requires sender { place.sender < place.hosts }
-    requires reservation { place.reservation < count_of_reservations place.hosts }
-    requires held { IsTrue (is_reservation place.hosts place.held) }
-    requires keys { AreDeclared keys.now }
-    requires written { IsTrue (is_written keys.now command) }
-    requires tests { All (λ t. test_fits keys.now command t ≡ true) tests.now }
-    requires few { length tests.now ≤ MOST_ARMS }
-    requires registration { registration ≤ length keys.now }
-    ensures { (s : Scope) → IsOwners s keys.now view.now place → Grows (view_in s view.now) command tests.now tally.old tally.new (HasBoth s place registration) }
+    requires registration { registration ≤ length asked.now.keys.now }
+    ensures { (s : Scope) → IsOwners s asked.now.keys.now view.now place → Grows (view_in s view.now) asked.now.command asked.now.tests.now tally.old tally.new (HasBoth s place registration) }
 {
-    if is_refused(key_at(keys, registration), command) {
+    if is_refused(key_at(asked.keys, registration), asked.command) {
         add_refused(tally, view, place, registration);
-    } else if is_reading(command) {
-        let readings = readings(tests, command, keys, place.held, place.sender, registration);
+    } else if is_reading(asked.command) {
+        let readings = readings(
+            asked.tests,
+            asked.command,
+            asked.keys,
+            place.held,
+            place.sender,
+            registration,
+        );
         add_readings(tally, view, place, registration, &readings);
     } else {
-        let arm = way_of(first_arm(tests, Class::Good));
+        let arm = way_of(first_arm(asked.tests, Class::Good));
         add_accepted(
             tally,
             view,
             place,
-            purpose_of(command, keys),
+            purpose_of(asked.command, asked.keys),
             arm,
             registration,
         );
@@ -300,31 +286,15 @@ fn add_registration(
 }
 
 // Adds the states under one reservation.
-fn add_place(
-    tally: &mut Tally,
-    view: &Possibilities,
-    place: Place,
-    keys: &[u64],
-    command: Command,
-    tests: &[Test],
-)
-    requires hosts { (1 ≤ place.hosts) × (place.hosts ≤ MOST_NEXUSES) }
-    requires sender { place.sender < place.hosts }
-    requires reservation { place.reservation < count_of_reservations place.hosts }
-    requires held { IsTrue (is_reservation place.hosts place.held) }
-    requires keys { AreDeclared keys.now }
-    requires few_keys { length keys.now ≤ MOST_KEYS }
-    requires written { IsTrue (is_written keys.now command) }
-    requires tests { All (λ t. test_fits keys.now command t ≡ true) tests.now }
-    requires few { length tests.now ≤ MOST_ARMS }
-    ensures { (s : Scope) → IsOwners s keys.now view.now place → Grows (view_in s view.now) command tests.now tally.old tally.new (HasFirst s place (length keys.now + 1)) }
+fn add_place(tally: &mut Tally, view: &Possibilities, place: Place, asked: &TestedCommand)
+    ensures { (s : Scope) → IsOwners s asked.now.keys.now view.now place → Grows (view_in s view.now) asked.now.command asked.now.tests.now tally.old tally.new (HasFirst s place (length asked.now.keys.now + 1)) }
 {
-    let registrations = keys.len() as u8 + 1;
+    let registrations = asked.keys.len() as u8 + 1;
     let possible = view.registrations[usize::from(place.sender)];
     let mut registration = 0;
     while registration < registrations {
         if possible.has(registration) {
-            add_registration(tally, view, place, keys, command, tests, registration);
+            add_registration(tally, view, place, asked, registration);
         }
         registration += 1;
     }
@@ -332,63 +302,30 @@ fn add_place(
 
 // Adds the states under one reservation to those under all that come before it. Commands that read end alike under
 // reservations with the same holders.
-fn add_reservation(
-    tally: &mut Tally,
-    view: &Possibilities,
-    place: Place,
-    keys: &[u64],
-    command: Command,
-    tests: &[Test],
-)
-    requires hosts { (1 ≤ place.hosts) × (place.hosts ≤ MOST_NEXUSES) }
-    requires sender { place.sender < place.hosts }
-    requires reservation { place.reservation < count_of_reservations place.hosts }
-    requires held { IsTrue (is_reservation place.hosts place.held) }
-    requires keys { AreDeclared keys.now }
-    requires few_keys { length keys.now ≤ MOST_KEYS }
-    requires written { IsTrue (is_written keys.now command) }
-    requires tests { All (λ t. test_fits keys.now command t ≡ true) tests.now }
-    requires few { length tests.now ≤ MOST_ARMS }
-    ensures { (s : Scope) (none : TallyOf) → IsOwners s keys.now view.now place → IsNothing none → Grows (view_in s view.now) command tests.now none tally.old (IsReserved s place.reservation) → Grows (view_in s view.now) command tests.now none tally.new (IsReserved s (place.reservation + 1)) }
+fn add_reservation(tally: &mut Tally, view: &Possibilities, place: Place, asked: &TestedCommand)
+    ensures { (s : Scope) (none : TallyOf) → IsOwners s asked.now.keys.now view.now place → IsNothing none → Grows (view_in s view.now) asked.now.command asked.now.tests.now none tally.old (IsReserved s place.reservation) → Grows (view_in s view.now) asked.now.command asked.now.tests.now none tally.new (IsReserved s (place.reservation + 1)) }
 {
-    if is_reading(command) {
+    if is_reading(asked.command) {
         if let Some(twin) = place.twin(view) {
             tally.add_twin(twin, place.reservation);
             return;
         }
     }
-    add_place(tally, view, place, keys, command, tests);
+    add_place(tally, view, place, asked);
 }
 
 /// How the owner's command ends in each of the states that the view shows, and what is so then.
-pub(crate) fn tally(
-    view: &Possibilities,
-    keys: &[u64],
-    hosts: u8,
-    own: u8,
-    command: Command,
-    tests: &[Test],
-) -> Tally
+pub(crate) fn tally(view: &Possibilities, hosts: u8, own: u8, asked: &TestedCommand) -> Tally
     requires hosts { (1 ≤ hosts) × (hosts ≤ MOST_NEXUSES) }
     requires own { own < hosts }
-    requires keys { AreDeclared keys.now }
-    requires few_keys { length keys.now ≤ MOST_KEYS }
-    requires written { IsTrue (is_written keys.now command) }
-    requires tests { All (λ t. test_fits keys.now command t ≡ true) tests.now }
-    requires few { length tests.now ≤ MOST_ARMS }
-    ensures { (s : Scope) → IsOfScope s hosts own keys.now view.now → IsTally (view_in s view.now) command tests.now result }
+    ensures { (s : Scope) → IsOfScope s hosts own asked.now.keys.now view.now → IsTally (view_in s view.now) asked.now.command asked.now.tests.now result }
 {
     let mut tally = Tally::none();
     let mut reservation = 0;
     while reservation < hosts * 4 + 3 {
         if view.reservations.has(reservation) {
-            let place = Place {
-                hosts,
-                sender: own,
-                reservation,
-                held: reservation_at(hosts, reservation),
-            };
-            add_reservation(&mut tally, view, place, keys, command, tests);
+            let place = Place::of(hosts, own, reservation);
+            add_reservation(&mut tally, view, place, asked);
         }
         reservation += 1;
     }

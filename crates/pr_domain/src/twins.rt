@@ -1,8 +1,6 @@
 //! Reservations that have the same holders, and differ in type alone.
 
-ghost use Rattle.std.specs.Prelude.{◌≡◌, ◌<◌, ◌≤◌, IsTrue, IfSome};
-ghost use Rattle.pr_cdb.specs.declared.codes.TheConstants.{MOST_NEXUSES};
-ghost use Rattle.pr_views.specs.Possibilities.{count_of_reservations};
+ghost use Rattle.std.specs.Prelude.{◌<◌, IsTrue, IfSome};
 ghost use Rattle.pr_domain.specs.inside.Twins.{AreTwins, IsTwin};
 
 use crate::place::Place;
@@ -13,8 +11,6 @@ use pr_views::Possibilities;
 impl Place {
     /// The first reservation of the view that has the same holders as this one, if it comes before it.
     pub(crate) fn twin(&self, view: &Possibilities) -> Option<u8>
-        requires hosts { (1 ≤ self.now.hosts) × (self.now.hosts ≤ MOST_NEXUSES) }
-        requires reservation { self.now.reservation < count_of_reservations self.now.hosts }
         ensures { IfSome result (IsTwin view.now self.now) }
     {
         for reservation in 0..self.reservation {

@@ -30,8 +30,6 @@ impl Onlooker {
     /// What a command of this clause reaches at most, whatever is reserved: no less than [`reach`](Onlooker::reach), and soon
     /// found.
     pub(crate) fn widest(&self, clause: &Clause, keys: &[u64]) -> Reach
-        requires hosts { (1 ≤ self.now.hosts) × (self.now.hosts ≤ MOST_NEXUSES) }
-        requires other { self.now.other < self.now.hosts }
         requires keys { length keys.now ≤ MOST_KEYS }
         requires action { IsClause keys.now clause.now }
         ensures { (s : Scope) → IsOnlooking s self.now → s.keys ≡ keys.now → IsReach s self.now.view clause.now self.now.other result }
@@ -55,8 +53,6 @@ impl Onlooker {
 
     // To establish a reservation.
     fn widest_of_reserving(&self, kind: Kind) -> Reach
-        requires hosts { self.now.hosts ≤ MOST_NEXUSES }
-        requires other { self.now.other < self.now.hosts }
         ensures { has_wide result.reservations (number_of self.now.hosts (Some (new_reservation kind self.now.other))) ≡ true }
     {
         Reach {
@@ -67,8 +63,6 @@ impl Onlooker {
 
     // To preempt all others.
     fn widest_of_preempting_all(&self, kind: Kind) -> Reach
-        requires hosts { self.now.hosts ≤ MOST_NEXUSES }
-        requires other { self.now.other < self.now.hosts }
         ensures removed { (r : ℕ) → 1 ≤ r → r ≤ MOST_KEYS → has result.removed r ≡ true }
         ensures reservations { has_wide result.reservations (number_of self.now.hosts (Some (new_reservation kind self.now.other))) ≡ true }
         ensures told { (r : ℕ) → 1 ≤ r → r ≤ MOST_KEYS → has result.told_05 r ≡ true }
@@ -83,8 +77,6 @@ impl Onlooker {
 
     // To preempt the key of this number.
     fn widest_of_preempting(&self, key: u8, kind: Kind) -> Reach
-        requires hosts { self.now.hosts ≤ MOST_NEXUSES }
-        requires other { self.now.other < self.now.hosts }
         requires key { key ≤ MOST_KEYS }
         ensures given { has_at self.now.view.registrations self.now.other key ≡ true → has result.given 0 ≡ true }
         ensures ended { (t : KindOf) → is_all t ≡ true → has_wide self.now.view.reservations (number_of self.now.hosts (Some (All t))) ≡ true → has_wide result.reservations 0 ≡ true }
@@ -111,8 +103,6 @@ impl Onlooker {
 
     // The reservation of this type that the other establishes, and none where one of all registrants may end.
     fn established_or_ended(&self, kind: Kind) -> Wide
-        requires hosts { self.now.hosts ≤ MOST_NEXUSES }
-        requires other { self.now.other < self.now.hosts }
         ensures established { has_wide result (number_of self.now.hosts (Some (new_reservation kind self.now.other))) ≡ true }
         ensures ended { (t : KindOf) → is_all t ≡ true → has_wide self.now.view.reservations (number_of self.now.hosts (Some (All t))) ≡ true → has_wide result 0 ≡ true }
     {
@@ -126,8 +116,6 @@ impl Onlooker {
 
     // The reservation of this type that the other establishes.
     fn established(&self, kind: Kind) -> Wide
-        requires hosts { self.now.hosts ≤ MOST_NEXUSES }
-        requires other { self.now.other < self.now.hosts }
         ensures { has_wide result (number_of self.now.hosts (Some (new_reservation kind self.now.other))) ≡ true }
     {
         Wide::only(reservation_number(self.hosts, Some(new_reservation(kind, self.other))))
@@ -135,7 +123,6 @@ impl Onlooker {
 
     // Whether a reservation of all registrants is possible.
     fn may_all_hold(&self) -> bool
-        requires { self.now.hosts ≤ MOST_NEXUSES }
         ensures { (t : KindOf) → is_all t ≡ true → has_wide self.now.view.reservations (number_of self.now.hosts (Some (All t))) ≡ true → IsTrue result }
     {
         let possible = self.view.reservations;
@@ -145,7 +132,6 @@ impl Onlooker {
 
     // Whether a reservation with one holder is possible that is of another type.
     fn may_be_of_another_type(&self, kind: Kind) -> bool
-        requires { self.now.hosts ≤ MOST_NEXUSES }
         ensures { result ≡ false → (old : KindOf) (holder : ℕ) → is_reservation self.now.hosts (Some (One old holder)) ≡ true
             → has_wide self.now.view.reservations (number_of self.now.hosts (Some (One old holder))) ≡ true → is_kind old kind ≡ true }
     {

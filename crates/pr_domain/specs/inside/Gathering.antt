@@ -4,27 +4,23 @@ use Rattle.pr_registry.specs.Registrations.{holds_alone}
 use Rattle.pr_registry.specs.Changes.{is_held_by_all}
 use Rattle.pr_unit.specs.UnitStates.{UnitState}
 use Rattle.pr_roles.specs.declared.limits.TheConstants.{MOST_KEYS}
-use Rattle.pr_roles.specs.Fitting.{is_reservation}
 use Rattle.pr_sets.specs.declared.word.Word.{Word}
 use Rattle.pr_sets.specs.Words.{has}
 use Rattle.pr_sets.specs.Wides.{has_wide}
 use Rattle.pr_views.specs.declared.portion.Portion.{Portion}
 use Rattle.pr_views.specs.declared.possibilities.Possibilities.{Possibilities}
-use Rattle.pr_views.specs.Possibilities.{Scope, Registration, Reservation, Attentions, IsSo, number_of}
+use Rattle.pr_views.specs.Possibilities.{Scope, Registration, Reservation, Attentions, IsSo}
 use Rattle.pr_views.specs.Views.{View, Shows, Fits}
 use Rattle.pr_views.specs.Portions.{has_at, view_in}
 use Rattle.pr_regions.specs.declared.region.Region.{Region}
 use Rattle.pr_regions.specs.Regions.{IsInRegion, IsUntestedOrRegistered, filter_of}
 use Rattle.pr_domain.specs.declared.place.Place.{Place}
 
--- the place is one of this view: its reservation is possible, and it is the one of that number
+-- the place is one of this view: its reservation is possible
 pub record IsPlace (s : Scope) (view : Possibilities) (place : Place) : Type 0 where
   pub hosts : s.hosts ≡ place.hosts
   pub fits : Fits (view_in s view)
-  pub sender : place.sender < place.hosts
   pub possible : has_wide view.reservations place.reservation ≡ true
-  pub number : place.reservation ≡ number_of s.hosts place.held
-  pub held : is_reservation s.hosts place.held ≡ true
 
 -- a sender that may be unregistered here is nothing else
 abbrev pub IsUniform : Word → Type 0

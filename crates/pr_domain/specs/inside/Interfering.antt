@@ -29,12 +29,11 @@ pub record IsWatched (s : Scope) (o : Onlooker) (place : Place) : Type 0 where
   pub own : s.own ≡ o.own
   pub other : s.own ≢ place.sender
 
--- it is a view of the onlooker's, and the other is one of those that are there
+-- it is a view of the onlooker's
 pub record IsOnlooking (s : Scope) (o : Onlooker) : Type 0 where
   pub hosts : s.hosts ≡ o.hosts
   pub own : s.own ≡ o.own
   pub other : s.own ≢ o.other
-  pub there : o.other < o.hosts
   pub fits : Fits (view_in s o.view)
 
 -- what is so in the state is possible, and each of its parts has a number

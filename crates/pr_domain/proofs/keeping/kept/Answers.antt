@@ -20,8 +20,7 @@ loop-reservation-preserved c s same fits =
     elim c.if-has.branch [
       | then-has w ↦
           let place = w.of-place.result in
-          let here = is_place s view place c.args.hosts 0 n same fits (omega arith) (sym c.has.ensures ∙ w.if-has.true) w.of-place.ensures.hosts w.of-place.ensures.sender w.of-place.ensures.reservation
-          w.of-place.ensures.number w.of-place.ensures.held in
+          let here = is_place s view place c.args.hosts n same fits (sym c.has.ensures ∙ w.if-has.true) w.of-place.ensures.hosts w.of-place.ensures.reservation in
           let added = adds_place s view c.loop-reservation.kept w.add_kept.new.kept w.add_kept-then-has.new.kept place w.only.result w.every_key.result here w.only.ensures w.every_key.ensures.keys
           (w.add_kept.ensures s here (none_uniform w.only.result w.only.ensures)) (w.add_kept-then-has.ensures s here (keys_uniform w.every_key.result w.every_key.ensures.none)) in
           subst (λ p. Adds s none p (λ _ u. IsShownBelow (n + 1) (view_in s view) u) (IsShownSo (view_in s view))) (sym w.kept-is)

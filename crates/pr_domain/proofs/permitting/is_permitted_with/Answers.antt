@@ -9,7 +9,7 @@ use Rattle.pr_domain.proofs.permitting.is_permitted_with.Goals as goal
 pub returns-then-not-has-clause-permitted : goal.returns-then-not-has-clause-permitted
 returns-then-not-has-clause-permitted c is =
     let words = c.args.view.now.registrations in
-    let within : c.args.place.sender < length words = (let below = c.requires.place.sender in let few = c.requires.asking.fits.scope.hosts in omega arith) in
+    let within : c.args.place.sender < length words = (let below = c.args.place.there in let few = c.args.place.few in omega arith) in
     let read = subst (λ i. c.has.result ≡ has (slice_index_or words i (record { bits = 0 })) c.args.registration) c.from.ensures c.has.ensures in
     not_registered c.args.keys.now c.args.command c.args.view.now c.args.place c.args.clauses.now c.args.registration (record { asking = c.requires.asking; is = c.requires.place })
     (holds_at-get_or (λ w. has w c.args.registration) words c.args.place.sender (record { bits = 0 }) within ∙ sym read ∙ c.if-not-has.true)

@@ -11,27 +11,27 @@ use Rattle.pr_domain.proofs.DataTaken.{right_readings, readings_cover, arm_taken
 use Rattle.pr_domain.proofs.Growing.{grows_as}
 use Rattle.pr_domain.proofs.tallying.add_registration.Goals as goal
 
-are : (c : goal.After-add_readings) (hosts : ℕ) → AreReadings c.args.keys.now hosts c.args.tests.now c.args.command c.args.place.held c.args.place.sender c.args.registration c.deref.result.now
-are c hosts = subst (λ l. AreReadings c.args.keys.now hosts c.args.tests.now c.args.command c.args.place.held c.args.place.sender c.args.registration l) (sym c.deref.ensures.0) (c.readings-readings.ensures.right hosts)
+are : (c : goal.After-add_readings) (hosts : ℕ) → AreReadings c.args.asked.now.keys.now hosts c.args.asked.now.tests.now c.args.asked.now.command c.args.place.held c.args.place.sender c.args.registration c.deref.result.now
+are c hosts = subst (λ l. AreReadings c.args.asked.now.keys.now hosts c.args.asked.now.tests.now c.args.asked.now.command c.args.place.held c.args.place.sender c.args.registration l) (sym c.deref.ensures.0) (c.readings-readings.ensures.right hosts)
 
 proper : (c : goal.After-add_readings) (b : Reading) → Contains c.deref.result.now b → IsProperReading b
 proper c b there = All-contains IsProperReading c.deref.result.now b (subst (λ l. All IsProperReading l) (sym c.deref.ensures.0) c.readings-readings.ensures.proper) there
 
 pub returns-then-is_reading : goal.returns-then-is_reading
 returns-then-is_reading c s owners =
-    grows_as (view_in s c.args.view.now) c.args.command c.args.tests.now c.args.tally.now c.add_readings.new.tally
+    grows_as (view_in s c.args.view.now) c.args.asked.now.command c.args.asked.now.tests.now c.args.tally.now c.add_readings.new.tally
     (IsReadFirst s c.args.view.now c.args.place c.args.registration c.deref.result.now (length c.deref.result.now)) (HasBoth s c.args.place c.args.registration)
     (λ u shown first. first.at.0)
-    (λ u shown both. readings_cover s c.args.keys.now c.args.command c.args.tests.now c.args.view.now c.args.place c.args.registration c.deref.result.now owners (are c) u shown both)
-    (c.add_readings.ensures s c.args.command c.args.tests.now (right_readings s c.args.keys.now c.args.command c.args.tests.now c.args.view.now c.args.place c.args.registration c.deref.result.now owners
-    (sym c.is_reading.ensures ∙ c.if-is_reading.true) c.requires.few (are c) (proper c)))
+    (λ u shown both. readings_cover s c.args.asked.now.keys.now c.args.asked.now.command c.args.asked.now.tests.now c.args.view.now c.args.place c.args.registration c.deref.result.now owners (are c) u shown both)
+    (c.add_readings.ensures s c.args.asked.now.command c.args.asked.now.tests.now (right_readings s c.args.asked.now.keys.now c.args.asked.now.command c.args.asked.now.tests.now c.args.view.now c.args.place c.args.registration c.deref.result.now owners
+    (sym c.is_reading.ensures ∙ c.if-is_reading.true) c.args.asked.now.few (are c) (proper c)))
 
 pub returns-else-is_reading : goal.returns-else-is_reading
-returns-else-is_reading c s owners = c.add_accepted.ensures s c.args.command c.args.tests.now (record {
+returns-else-is_reading c s owners = c.add_accepted.ensures s c.args.asked.now.command c.args.asked.now.tests.now (record {
   own = owners.own;
   is = owners.is;
-  asks = ap (λ k. purpose_of k c.args.command) owners.same_keys ∙ sym c.purpose_of.ensures.purpose;
-  accepted = ap (λ k. is_refused (key_at k c.args.registration) c.args.command) owners.same_keys ∙ ap (λ k. is_refused k c.args.command) (sym c.key_at.ensures) ∙ sym c.is_refused.ensures ∙ c.if-is_refused.false;
-  taken = λ u. arm_taken c.args.keys.now c.args.command c.args.tests.now c.first_arm.result c.way_of-arm.result u (sym c.is_reading.ensures ∙ c.if-is_reading.false) c.requires.tests c.requires.few
+  asks = ap (λ k. purpose_of k c.args.asked.now.command) owners.same_keys ∙ sym c.purpose_of.ensures.purpose;
+  accepted = ap (λ k. is_refused (key_at k c.args.registration) c.args.asked.now.command) owners.same_keys ∙ ap (λ k. is_refused k c.args.asked.now.command) (sym c.key_at.ensures) ∙ sym c.is_refused.ensures ∙ c.if-is_refused.false;
+  taken = λ u. arm_taken c.args.asked.now.keys.now c.args.asked.now.command c.args.asked.now.tests.now c.first_arm.result c.way_of-arm.result u (sym c.is_reading.ensures ∙ c.if-is_reading.false) c.args.asked.now.fit c.args.asked.now.few
       c.first_arm.ensures c.way_of-arm.ensures.way c.way_of-arm.ensures.none;
 })

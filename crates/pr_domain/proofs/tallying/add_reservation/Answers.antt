@@ -9,15 +9,15 @@ use Rattle.pr_domain.proofs.tallying.add_reservation.Goals as goal
 
 pub returns-in-Some : goal.returns-in-Some
 returns-in-Some c s none owners nothing before =
-    let command = c.args.command in
-    let tests = c.args.tests.now in
-    let written : is_written s.keys command ≡ true = subst (λ k. is_written k command ≡ true) (sym owners.same_keys) c.requires.written in
-    let fit : All (λ t. test_fits s.keys command t ≡ true) tests = subst (λ k. All (λ t. test_fits k command t ≡ true) tests) (sym owners.same_keys) c.requires.tests in
-    twin_grows s c.args.view.now command tests (sym c.is_reading.ensures ∙ c.if-is_reading.true) written fit c.args.keys.now c.args.place c.in-Some.twin none c.args.tally.now c.add_twin.new.self owners c.in-Some.ensures
+    let command = c.args.asked.now.command in
+    let tests = c.args.asked.now.tests.now in
+    let written : is_written s.keys command ≡ true = subst (λ k. is_written k command ≡ true) (sym owners.same_keys) c.args.asked.now.written in
+    let fit : All (λ t. test_fits s.keys command t ≡ true) tests = subst (λ k. All (λ t. test_fits k command t ≡ true) tests) (sym owners.same_keys) c.args.asked.now.fit in
+    twin_grows s c.args.view.now command tests (sym c.is_reading.ensures ∙ c.if-is_reading.true) written fit c.args.asked.now.keys.now c.args.place c.in-Some.twin none c.args.tally.now c.add_twin.new.self owners c.in-Some.ensures
     nothing c.add_twin.ensures before
 
 pub returns : goal.returns
 returns c s none owners nothing before =
     let place = c.args.place in
-    reservation_more s c.args.command c.args.tests.now c.args.view.now place place.reservation none c.args.tally.now c.add_place.new.tally owners.is refl before
-    (subst (λ k. Grows (view_in s c.args.view.now) c.args.command c.args.tests.now c.args.tally.now c.add_place.new.tally (HasFirst s place (length k + 1))) (sym owners.same_keys) (c.add_place.ensures s owners))
+    reservation_more s c.args.asked.now.command c.args.asked.now.tests.now c.args.view.now place place.reservation none c.args.tally.now c.add_place.new.tally owners.is refl before
+    (subst (λ k. Grows (view_in s c.args.view.now) c.args.asked.now.command c.args.asked.now.tests.now c.args.tally.now c.add_place.new.tally (HasFirst s place (length k + 1))) (sym owners.same_keys) (c.add_place.ensures s owners))

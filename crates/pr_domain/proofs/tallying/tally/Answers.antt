@@ -1,7 +1,7 @@
 use Rattle.std.proofs.Common.{◌≡◌, ◌+◌, ◌*◌, sym, ◌∙◌, subst, arith}
 use Rattle.pr_views.specs.Portions.{view_in}
 use Rattle.pr_domain.specs.inside.Tallies.{Grows, IsReserved}
-use Rattle.pr_domain.proofs.Walking.{reservation_skipped, place_of_number, tally_of_all}
+use Rattle.pr_domain.proofs.Walking.{reservation_skipped, is_owners, tally_of_all}
 use Rattle.pr_domain.proofs.tallying.tally.Goals as goal
 use Rattle.pr_domain.proofs.tallying.tally.Goals.{then-has, else-has}
 
@@ -12,11 +12,14 @@ loop-reservation-preserved c = (
       let before = c.loop-reservation.invariant.0 s of in
       elim c.if-has.branch [
         | then-has w ↦
-            let owners = place_of_number s c.args.hosts c.args.own c.args.keys.now c.args.view.now n w.reservation_at.result of c.requires.own (sym c.has.ensures ∙ w.if-has.true) w.reservation_at.ensures.number w.reservation_at.ensures.fits in
-            subst (λ t. Grows (view_in s c.args.view.now) c.args.command c.args.tests.now c.none-tally.result t (IsReserved s (n + 1))) (sym w.tally-is)
-            (w.add_reservation.ensures s c.none-tally.result owners c.none-tally.ensures before)
-        | else-has w ↦ subst (λ t. Grows (view_in s c.args.view.now) c.args.command c.args.tests.now c.none-tally.result t (IsReserved s (n + 1))) (sym w.tally-is)
-            (reservation_skipped s c.args.command c.args.tests.now c.args.view.now n c.none-tally.result c.loop-reservation.tally (sym c.has.ensures ∙ w.if-has.false) before)
+            let is_it = w.of-place.ensures.reservation in
+            let owners = is_owners s c.args.hosts c.args.own c.args.asked.now.keys.now c.args.view.now n w.of-place.result of (sym c.has.ensures ∙ w.if-has.true) w.of-place.ensures.hosts w.of-place.ensures.sender is_it in
+            subst (λ t. Grows (view_in s c.args.view.now) c.args.asked.now.command c.args.asked.now.tests.now c.none-tally.result t (IsReserved s (n + 1))) (sym w.tally-is)
+            (subst (λ m. Grows (view_in s c.args.view.now) c.args.asked.now.command c.args.asked.now.tests.now c.none-tally.result w.add_reservation.new.tally (IsReserved s (m + 1))) is_it
+            (w.add_reservation.ensures s c.none-tally.result owners c.none-tally.ensures
+            (subst (λ m. Grows (view_in s c.args.view.now) c.args.asked.now.command c.args.asked.now.tests.now c.none-tally.result c.loop-reservation.tally (IsReserved s m)) (sym is_it) before)))
+        | else-has w ↦ subst (λ t. Grows (view_in s c.args.view.now) c.args.asked.now.command c.args.asked.now.tests.now c.none-tally.result t (IsReserved s (n + 1))) (sym w.tally-is)
+            (reservation_skipped s c.args.asked.now.command c.args.asked.now.tests.now c.args.view.now n c.none-tally.result c.loop-reservation.tally (sym c.has.ensures ∙ w.if-has.false) before)
       ],
   omega arith,
 )
@@ -24,5 +27,5 @@ loop-reservation-preserved c = (
 pub returns : goal.returns
 returns c s of =
     let all : c.loop-reservation.reservation ≡ c.args.hosts * 4 + 3 = (let e = c.loop-reservation.invariant.1 in omega arith) in
-    tally_of_all s c.args.hosts c.args.own c.args.keys.now c.args.command c.args.tests.now c.args.view.now c.loop-reservation.reservation c.none-tally.result c.loop-reservation.tally of all
+    tally_of_all s c.args.hosts c.args.own c.args.asked.now.keys.now c.args.asked.now.command c.args.asked.now.tests.now c.args.view.now c.loop-reservation.reservation c.none-tally.result c.loop-reservation.tally of all
     c.none-tally.ensures (c.loop-reservation.invariant.0 s of)

@@ -7,16 +7,16 @@ use Rattle.pr_domain.proofs.Adding.{adds_nothing}
 use Rattle.pr_domain.proofs.Placing.{has_number, none_meant, adds_standings}
 use Rattle.pr_domain.proofs.onlooker.Onlooker.add_place.Goals as goal
 
-pub add_standing-requires-clause-number : goal.add_standing-requires-clause-number
-add_standing-requires-clause-number c =
+pub add_standing-requires : goal.add_standing-requires
+add_standing-requires c =
     has_number c.args.keys.now c.args.clause.now.action c.args.place.now.held c.in-Some.purpose c.requires.keys c.requires.action (sym c.purpose_for.ensures ∙ c.in-Some.is)
 
-pub add_standing-requires-in-Some-clause-number : goal.add_standing-requires-in-Some-clause-number
-add_standing-requires-in-Some-clause-number c =
+pub add_standing-requires-in-Some : goal.add_standing-requires-in-Some
+add_standing-requires-in-Some c =
     has_number c.args.keys.now c.args.clause.now.action c.args.place.now.held c.in-Some.purpose c.requires.keys c.requires.action (sym c.purpose_for.ensures ∙ c.in-Some.is)
 
-pub add_standing-requires-in-Some-2-clause-number : goal.add_standing-requires-in-Some-2-clause-number
-add_standing-requires-in-Some-2-clause-number c =
+pub add_standing-requires-in-Some-2 : goal.add_standing-requires-in-Some-2
+add_standing-requires-in-Some-2 c =
     has_number c.args.keys.now c.args.clause.now.action c.args.place.now.held c.in-Some.purpose c.requires.keys c.requires.action (sym c.purpose_for.ensures ∙ c.in-Some.is)
 
 pub returns-in-Some : goal.returns-in-Some

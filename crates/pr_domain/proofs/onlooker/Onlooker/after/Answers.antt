@@ -9,11 +9,11 @@ returns-clause-some c s is uniform proper =
     let pends = c.is_empty.ensures.filled c.if-is_empty.false in
     let words = c.in_ok-words.words in
     let own : c.from.result ≡ s.own = c.from.ensures ∙ sym is.own in
-    let there : s.own < length words = (let few = c.requires.own in let same = is.own in omega arith) in
+    let there : s.own < length words = (let small = c.args.self.now.own_there in let few = c.args.self.now.few in let same = is.own in omega arith) in
     let gathered = c.in_ok-words.ensures.some s is.known uniform proper in
     is_after s c.args.self.now c.args.place.now c.args.senders c.args.region.now c.args.change.now words
     (record { registrations = c.registrations_after.result; reservations = c.only.result; pending = c.attentions_after.result }) pends.0 is
-    (let most = c.requires.hosts.1 in let same = is.known.hosts in omega arith) gathered pends.1
+    (let most = c.args.place.now.few in let same = is.known.hosts in omega arith) gathered pends.1
     (record {
       registrations = λ g small. c.registrations_after.ensures g;
       reservation = c.only.ensures;

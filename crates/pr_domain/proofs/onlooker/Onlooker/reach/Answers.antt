@@ -18,8 +18,7 @@ loop-reservation-preserved c s is same =
     elim c.if-has.branch [
       | then-has w ↦
           let place = w.of-place.result in
-          let here = is_place s o.view place o.hosts o.other n is.hosts is.fits is.there (sym c.has.ensures ∙ w.if-has.true) w.of-place.ensures.hosts w.of-place.ensures.sender w.of-place.ensures.reservation
-          w.of-place.ensures.number w.of-place.ensures.held in
+          let here = is_place s o.view place o.hosts n is.hosts is.fits (sym c.has.ensures ∙ w.if-has.true) w.of-place.ensures.hosts w.of-place.ensures.reservation in
           let watched : IsWatched s o place = record { known = here; own = is.own; other = λ equal. is.other (equal ∙ w.of-place.ensures.sender) } in
           let fits : is_action s.keys clause.action ≡ true = subst (λ k. is_action k clause.action ≡ true) (sym same) c.requires.action in
           let number : number_named s.keys clause.action ≡ c.number_named-number.result = ap (λ k. number_named k clause.action) same ∙ sym c.number_named-number.ensures.number in
