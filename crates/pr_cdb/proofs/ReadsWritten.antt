@@ -2,9 +2,9 @@
 use Rattle.std.proofs.Common.{◌≡◌, Option, Some, None, refl}
 use Rattle.std.proofs.lemmas.Nat.{from_be_bytes-to_be_bytes_2, from_be_bytes-to_be_bytes_4, from_be_bytes-to_be_bytes_8}
 use Rattle.pr_cdb.specs.declared.command.Kind.{Kind}
-use Rattle.pr_cdb.specs.declared.command.Kind.TheVariants.{WriteExclusive, ExclusiveAccess, WriteExclusiveRegistrantsOnly, ExclusiveAccessRegistrantsOnly, WriteExclusiveAllRegistrants, ExclusiveAccessAllRegistrants}
+use Rattle.pr_cdb.specs.declared.command.Kind.TheVariants.{WriteExclusive}
 use Rattle.pr_cdb.specs.declared.command.Command.{Command}
-use Rattle.pr_cdb.specs.declared.command.Command.TheVariants.{TestUnitReady, RequestSense, Read, Write, ReadKeys, ReadReservation, ReportCapabilities, Register, RegisterIgnore, Reserve, Release, Clear, Preempt, PreemptAbort}
+use Rattle.pr_cdb.specs.declared.command.Command.TheVariants.{Read, Write, ReadKeys, ReadReservation, ReportCapabilities, Register, RegisterIgnore, Reserve, Release, Clear, Preempt, PreemptAbort}
 use Rattle.pr_cdb.specs.Kinds.{code_of, kind_of_code}
 use Rattle.pr_cdb.specs.Bytes.{be16, be32, be64}
 use Rattle.pr_cdb.specs.Requests.{request_of, named_command, reserve_out, kind_of_byte, length_of, has_refused_flag, plain_request, request_of_wire, Fits}
@@ -13,11 +13,7 @@ use Rattle.pr_cdb.specs.Spelling.{spelling, kind_byte}
 kind_of_byte-code_of : (k : Kind) → kind_of_byte (code_of k) ≡ Some k
 unfolding kind_of_byte kind_of_code
 kind_of_byte-code_of WriteExclusive = refl
-kind_of_byte-code_of ExclusiveAccess = refl
-kind_of_byte-code_of WriteExclusiveRegistrantsOnly = refl
-kind_of_byte-code_of ExclusiveAccessRegistrantsOnly = refl
-kind_of_byte-code_of WriteExclusiveAllRegistrants = refl
-kind_of_byte-code_of ExclusiveAccessAllRegistrants = refl
+kind_of_byte-code_of _ = refl
 
 kind_of_byte-kind_byte : (kind : Option Kind) → kind_of_byte (kind_byte kind) ≡ kind
 unfolding kind_of_byte kind_of_code
@@ -26,8 +22,6 @@ kind_of_byte-kind_byte (Some k) = kind_of_byte-code_of k
 
 pub written_is_read : (c : Command) → Fits c → request_of_wire (spelling c) ≡ plain_request c
 unfolding request_of named_command reserve_out length_of has_refused_flag be16 be32 be64 spelling
-written_is_read TestUnitReady fits = refl
-written_is_read RequestSense fits = refl
 written_is_read (Read lba blocks) fits = rw (from_be_bytes-to_be_bytes_4 lba fits.0, from_be_bytes-to_be_bytes_2 blocks fits.1) refl
 written_is_read (Write lba blocks) fits = rw (from_be_bytes-to_be_bytes_4 lba fits.0, from_be_bytes-to_be_bytes_2 blocks fits.1) refl
 written_is_read (ReadKeys alloc) fits = rw (from_be_bytes-to_be_bytes_2 alloc fits) refl
@@ -40,3 +34,4 @@ written_is_read (Release rk kind) fits = rw (kind_of_byte-code_of kind, from_be_
 written_is_read (Clear rk) fits = rw (from_be_bytes-to_be_bytes_8 rk fits) refl
 written_is_read (Preempt rk sark kind) fits = rw (kind_of_byte-kind_byte kind, from_be_bytes-to_be_bytes_8 rk fits.0, from_be_bytes-to_be_bytes_8 sark fits.1) refl
 written_is_read (PreemptAbort rk sark kind) fits = rw (kind_of_byte-kind_byte kind, from_be_bytes-to_be_bytes_8 rk fits.0, from_be_bytes-to_be_bytes_8 sark fits.1) refl
+written_is_read _ fits = refl

@@ -239,10 +239,7 @@ simply_sound keyword.Done ws = keep_if Sound (is_end ws) (states done_line) (λ 
 simply_sound keyword.Repeat ws = map_if (λ _. Unit {0}) Sound (λ n. states (repeat_line n)) (option_and_then count_of (only ws)) (any_if _) (λ x h. refl)
 simply_sound keyword.Break ws = keep_if Sound (is_end ws) (states break_line) (λ e. refl)
 simply_sound keyword.Stop ws = map_if (λ x. is_name x ≡ true) Sound (λ word. states (stop_line word)) (only_name ws) (only_name_sound ws) (λ x h. h)
-simply_sound keyword.Keys ws = tt
-simply_sound keyword.Start ws = tt
-simply_sound keyword.Pending ws = tt
-simply_sound keyword.Reservation ws = tt
+simply_sound _ ws = tt
 
 start_sound : (ws : List (List ℕ)) → IfSome (said_of_name (λ name xs. declares (start_line name xs)) (list_of alternative_of) ws) Sound
 start_sound ws = bind_if (λ _. Unit {0}) Sound (λ r. option_map (λ xs. declares (start_line r.0 xs)) (list_of alternative_of r.1)) (name_in ws) (any_if _)
@@ -267,23 +264,7 @@ after_sound keyword.Keys ws = map_if (λ ys. list_all is_key ys ≡ true) Sound 
 after_sound keyword.Start ws = start_sound ws
 after_sound keyword.Pending ws = pending_sound ws
 after_sound keyword.Reservation ws = reservation_sound ws
-after_sound keyword.Fence ws = simply_sound keyword.Fence ws
-after_sound keyword.Host ws = simply_sound keyword.Host ws
-after_sound keyword.Guest ws = simply_sound keyword.Guest ws
-after_sound keyword.Busy ws = simply_sound keyword.Busy ws
-after_sound keyword.Full ws = simply_sound keyword.Full ws
-after_sound keyword.Generation ws = simply_sound keyword.Generation ws
-after_sound keyword.Resets ws = simply_sound keyword.Resets ws
-after_sound keyword.Role ws = simply_sound keyword.Role ws
-after_sound keyword.Script ws = simply_sound keyword.Script ws
-after_sound keyword.Plan ws = simply_sound keyword.Plan ws
-after_sound keyword.End ws = simply_sound keyword.End ws
-after_sound keyword.Send ws = simply_sound keyword.Send ws
-after_sound keyword.On ws = simply_sound keyword.On ws
-after_sound keyword.Done ws = simply_sound keyword.Done ws
-after_sound keyword.Repeat ws = simply_sound keyword.Repeat ws
-after_sound keyword.Break ws = simply_sound keyword.Break ws
-after_sound keyword.Stop ws = simply_sound keyword.Stop ws
+after_sound k ws = simply_sound k ws
 
 said_sound : (o : Option Keyword) (w : List ℕ) (ws : List (List ℕ)) → IfSome (said_with o w ws) Sound
 said_sound (Some k) w ws = after_sound k ws

@@ -1,7 +1,7 @@
 -- How commands that read and write blocks end.
 use Rattle.std.proofs.Common.{◌≡◌, ℕ, Bool, true, false, not, if◌then◌else◌, List, Option, Some, None, refl, sym, ap, ◌∙◌}
 use Rattle.pr_cdb.specs.declared.command.Kind.{Kind}
-use Rattle.pr_cdb.specs.declared.command.Kind.TheVariants.{WriteExclusive, ExclusiveAccess, WriteExclusiveRegistrantsOnly, ExclusiveAccessRegistrantsOnly, WriteExclusiveAllRegistrants, ExclusiveAccessAllRegistrants}
+use Rattle.pr_cdb.specs.declared.command.Kind.TheVariants.{WriteExclusive, ExclusiveAccess, ExclusiveAccessRegistrantsOnly, ExclusiveAccessAllRegistrants}
 use Rattle.pr_cdb.specs.declared.command.Command.{Command}
 use Rattle.pr_cdb.specs.declared.reply.Sense.{Sense}
 use Rattle.pr_cdb.specs.declared.codes.TheConstants.{LOGICAL_BLOCK_ADDRESS_OUT_OF_RANGE}
@@ -29,21 +29,16 @@ IsOut u h standing = not (is_registered u h) ≡ is_unregistered standing
 
 shut_out-reading : (u : State) (h : ℕ) (standing : Standing) (v : Held) (t : Kind) → is_holder u h ≡ holds v h standing → IsOut u h standing
     → is_denied u h (read_access t) ≡ keeps_from_reading t v h standing
-shut_out-reading u h standing v WriteExclusive holder out = refl
 shut_out-reading u h standing v ExclusiveAccess holder out = ap not holder
-shut_out-reading u h standing v WriteExclusiveRegistrantsOnly holder out = refl
 shut_out-reading u h standing v ExclusiveAccessRegistrantsOnly holder out = out
-shut_out-reading u h standing v WriteExclusiveAllRegistrants holder out = refl
 shut_out-reading u h standing v ExclusiveAccessAllRegistrants holder out = out
+shut_out-reading u h standing v _ holder out = refl
 
 shut_out-writing : (u : State) (h : ℕ) (standing : Standing) (v : Held) (t : Kind) → is_holder u h ≡ holds v h standing → IsOut u h standing
     → is_denied u h (write_access t) ≡ keeps_from_writing t v h standing
 shut_out-writing u h standing v WriteExclusive holder out = ap not holder
 shut_out-writing u h standing v ExclusiveAccess holder out = ap not holder
-shut_out-writing u h standing v WriteExclusiveRegistrantsOnly holder out = out
-shut_out-writing u h standing v ExclusiveAccessRegistrantsOnly holder out = out
-shut_out-writing u h standing v WriteExclusiveAllRegistrants holder out = out
-shut_out-writing u h standing v ExclusiveAccessAllRegistrants holder out = out
+shut_out-writing u h standing v _ holder out = out
 
 out : (s : Scope) (p : Purpose) (held : Option Held) (sender : ℕ) (standing : Standing) (u : UnitState) (c : Command) → Meets s p held sender standing u c → IsOut u.registry sender standing
 out s p held sender standing u c m = ap not (registered_or_not s p held sender standing u c m) ∙ twice (is_unregistered standing)

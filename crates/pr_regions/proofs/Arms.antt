@@ -1,7 +1,7 @@
 -- Which arm takes the data of READ KEYS, one arm after another.
 use Rattle.std.proofs.Common.{◌≡◌, ◌≢◌, ℕ, zero, suc, ◌+◌, ◌≤◌, ◌<◌, Bool, true, false, ◌==◌, ◌&&◌, not, nat_lt, cond, if◌then◌else◌, List, [], ◌∷◌, ◌++◌, length, get_or, Option, Some, None, refl, sym, ap, ◌∙◌, subst, inl, inr, ◌⊎◌, arith, length-append}
 use Rattle.std.specs.List.{Contains, position}
-use Rattle.std.proofs.lemmas.Bool.{and_parts}
+use Rattle.std.proofs.lemmas.Bool.{and_parts, not-true}
 use Rattle.std.proofs.lemmas.Bool.Decides.{nat_tests, eqb_tells}
 use Rattle.std.proofs.lemmas.List.Sums.{position_or_len_is}
 use Rattle.std.proofs.lemmas.List.Elements.{Contains-push}
@@ -146,14 +146,10 @@ so_far_skip keys hosts held sender own c tests i readings left t so_far small is
 abbrev pub asked_at : Word → Word → ℕ → Reading
 asked_at left w i = record { region = asking left w; arm = Some i }
 
-not_true : (b : Bool) → not b ≡ true → b ≡ false
-not_true true is = sym is
-not_true false is = refl
-
 -- whoever is left has another key, and was left before
 was_left : (left rest : Word) (j r : ℕ) → ((m : ℕ) → has rest m ≡ (not (m == j) && has left m)) → has rest r ≡ true → (only j r ≡ false) × (has left r ≡ true)
 was_left left rest j r remains is =
-    let parts = and_parts (not (r == j)) (has left r) (sym (remains r) ∙ is) in (not_true (only j r) parts.0, parts.1)
+    let parts = and_parts (not (r == j)) (has left r) (sym (remains r) ∙ is) in (not-true (only j r) parts.0, parts.1)
 
 more_covered : (s : Scope) (u : UnitState) (sender i j : ℕ) (readings : List Reading) (left w rest : Word) → IsScope s → HasThose w (only j) → ((m : ℕ) → has rest m ≡ (not (m == j) && has left m))
     → IsRead s sender readings u ⊎ IsInRegion s sender (open_to left) u → HasSomebody s u sender (Some (only j)) ⊎ HasNobody s u sender (only j)

@@ -32,35 +32,22 @@ key_named keys j = unwrap_or (key_at keys j) 0
 
 -- an accepted command of this purpose ends in RESERVATION CONFLICT
 abbrev pub conflicts_for : List ℕ → State → ℕ → Purpose → Bool
-conflicts_for keys u h Look = false
 conflicts_for keys u h (Read ranges) = access_conflicts u h u.held read_access
 conflicts_for keys u h (Write ranges) = access_conflicts u h u.held write_access
-conflicts_for keys u h (Register j) = false
-conflicts_for keys u h Unregister = false
 conflicts_for keys u h (Reserve t) = conflicts_with_reserve u h u.held t
-conflicts_for keys u h (Release t) = false
-conflicts_for keys u h Clear = false
-conflicts_for keys u h (PreemptAll t) = false
 conflicts_for keys u h (Preempt j t) = has_no_registrant u.keys (key_named keys j)
+conflicts_for keys u h _ = false
 
 -- its own fault
 abbrev pub fault_for : State → ℕ → Purpose → Option Sense
-fault_for u h Look = None
 fault_for u h (Read ranges) = if ranges then None else Some (illegal LOGICAL_BLOCK_ADDRESS_OUT_OF_RANGE 0)
 fault_for u h (Write ranges) = if ranges then None else Some (illegal LOGICAL_BLOCK_ADDRESS_OUT_OF_RANGE 0)
-fault_for u h (Register j) = None
-fault_for u h Unregister = None
-fault_for u h (Reserve t) = None
 fault_for u h (Release t) = release_fault u h t
-fault_for u h Clear = None
 fault_for u h (PreemptAll t) = if not (is_held_by_all u.held) then Some (illegal INVALID_FIELD_IN_PARAMETER_LIST 0) else None
-fault_for u h (Preempt j t) = None
+fault_for u h _ = None
 
 -- the registry once it has ended GOOD
 abbrev pub after_for : List ℕ → State → ℕ → Purpose → State
-after_for keys u h Look = u
-after_for keys u h (Read ranges) = u
-after_for keys u h (Write ranges) = u
 after_for keys u h (Register j) = with_registration u h (key_named keys j)
 after_for keys u h Unregister = if is_registered u h then without_registration u h else u
 after_for keys u h (Reserve t) = with_reservation u h t
@@ -68,45 +55,31 @@ after_for keys u h (Release t) = after_release u h t
 after_for keys u h Clear = after_clear u
 after_for keys u h (PreemptAll t) = after_preempt u h 0 (Some t)
 after_for keys u h (Preempt j t) = after_preempt u h (key_named keys j) (Some t)
+after_for keys u h _ = u
 
 -- whom it then removes and tells
 abbrev pub change_for : List ℕ → State → ℕ → Purpose → Change
-change_for keys u h Look = no_change
-change_for keys u h (Read ranges) = no_change
-change_for keys u h (Write ranges) = no_change
-change_for keys u h (Register j) = no_change
 change_for keys u h Unregister = if is_registered u h then change_on_unregister u h else no_change
-change_for keys u h (Reserve t) = no_change
 change_for keys u h (Release t) = change_on_release u h t
 change_for keys u h Clear = change_on_clear u h
 change_for keys u h (PreemptAll t) = change_on_preempt u h 0 (Some t)
 change_for keys u h (Preempt j t) = change_on_preempt u h (key_named keys j) (Some t)
+change_for keys u h _ = no_change
 
 -- the number that the purpose names is a key's
 abbrev pub IsNamed : List ℕ → Purpose → Type 0
-IsNamed keys Look = Unit {0}
-IsNamed keys (Read ranges) = Unit {0}
-IsNamed keys (Write ranges) = Unit {0}
 IsNamed keys (Register j) = (j ≤ length keys) × (key_at keys j ≡ Some (key_named keys j))
-IsNamed keys Unregister = Unit {0}
-IsNamed keys (Reserve t) = Unit {0}
-IsNamed keys (Release t) = Unit {0}
-IsNamed keys Clear = Unit {0}
-IsNamed keys (PreemptAll t) = Unit {0}
 IsNamed keys (Preempt j t) = (j ≤ length keys) × (key_at keys j ≡ Some (key_named keys j))
+IsNamed keys _ = Unit {0}
 
 -- what the purpose asks of the sender's registration
 abbrev pub IsOwned : State → ℕ → Purpose → Type 0
-IsOwned u h Look = Unit {0}
-IsOwned u h (Read ranges) = Unit {0}
-IsOwned u h (Write ranges) = Unit {0}
-IsOwned u h (Register j) = Unit {0}
-IsOwned u h Unregister = Unit {0}
 IsOwned u h (Reserve t) = is_registered u h ≡ true
 IsOwned u h (Release t) = is_registered u h ≡ true
 IsOwned u h Clear = is_registered u h ≡ true
 IsOwned u h (PreemptAll t) = is_registered u h ≡ true
 IsOwned u h (Preempt j t) = is_registered u h ≡ true
+IsOwned u h _ = Unit {0}
 
 -- an accepted command that ends so is of this purpose
 pub record IsAsked (keys : List ℕ) (u : State) (h : ℕ) (p : Purpose) (conflicts : Bool) (fault : Option Sense) (v : State) (told : Change) : Type 0 where
@@ -285,13 +258,8 @@ preempts keys u h rk sark t p has same accepted = at (sark == 0) refl p has (pur
 
 pub asked : (keys : List ℕ) (u : State) (h : ℕ) (p : Purpose) (c : Command) → HasNumber p → purpose_of keys c ≡ Some p → is_refused (key_of u h) c ≡ false
     → IsAsked keys u h p (command_conflicts u h c) (command_fault u h c) (after u h c) (change u h c)
-asked keys u h p command.TestUnitReady has same accepted = looks keys u h p same
-asked keys u h p command.RequestSense has same accepted = looks keys u h p same
 asked keys u h p (command.Read lba blocks) has same accepted = reads keys u h lba blocks p same
 asked keys u h p (command.Write lba blocks) has same accepted = writes keys u h lba blocks p same
-asked keys u h p (command.ReadKeys alloc) has same accepted = looks keys u h p same
-asked keys u h p (command.ReadReservation alloc) has same accepted = looks keys u h p same
-asked keys u h p (command.ReportCapabilities alloc) has same accepted = looks keys u h p same
 asked keys u h p (command.Register rk sark) has same accepted = registers keys u h sark p (is_wrong_key (key_of u h) rk) has same accepted
 asked keys u h p (command.RegisterIgnore sark) has same accepted = registers keys u h sark p false has same refl
 asked keys u h p (command.Reserve rk kind) has same accepted = reserves keys u h rk kind p same accepted
@@ -301,3 +269,4 @@ asked keys u h p (command.Preempt rk sark (Some kind)) has same accepted = preem
 asked keys u h p (command.PreemptAbort rk sark (Some kind)) has same accepted = preempts keys u h rk sark kind p has same accepted
 asked keys u h p (command.Preempt rk sark None) has same accepted = let bad : None ≡ Some p = same in cc
 asked keys u h p (command.PreemptAbort rk sark None) has same accepted = let bad : None ≡ Some p = same in cc
+asked keys u h p _ has same accepted = looks keys u h p same

@@ -13,7 +13,7 @@ use Rattle.pr_registry.proofs.Sets.{contains-nobody, contains-just, contains-rem
 use Rattle.pr_views.specs.Possibilities.{key_at, number_of}
 use Rattle.pr_regions.specs.declared.region.Change.{Change}
 use Rattle.pr_regions.specs.inside.Parts.{Does, never, is_of_registrant, told_if}
-use Rattle.pr_regions.proofs.Unique.{AreDistinct, is_some-key_at, same_number_at}
+use Rattle.pr_regions.proofs.Unique.{same_itself, AreDistinct, is_some-key_at, same_number_at}
 use Rattle.pr_regions.proofs.Acting.{Is, Acts}
 
 -- the registry becomes this, as tests of registrations say
@@ -50,9 +50,6 @@ acts keys hosts from to out left t3 t4 t5 u v t c few does b = record {
 pub other_host : (g from : ℕ) → g ≢ from → (g == from) ≡ false
 other_host g from other = grind (arith, nat_tests)
 
-same_host : (g : ℕ) → (g == g) ≡ true
-same_host g = grind (arith, nat_tests)
-
 -- the registrants are the hosts whose registration is not 0
 pub is_registered-number : (keys : List ℕ) (u : State) (g r : ℕ) → Is keys u g r → is_registered u g ≡ is_of_registrant r
 is_registered-number keys u g r is = ap is_some is.key ∙ is_some-key_at keys r is.known
@@ -63,7 +60,7 @@ contains-others keys u from g r other is =
     ∙ contains-hosts_in u.keys g ∙ is_registered-number keys u g r is
 
 pub not_itself : (s : Hosts) (h : ℕ) → set.contains (set.remove s h) h ≡ false
-not_itself s h = contains-remove s h h ∙ ap (λ b. not b && set.contains s h) (same_host h)
+not_itself s h = contains-remove s h h ∙ ap (λ b. not b && set.contains s h) (same_itself h)
 
 pub contains-others_itself : (u : State) (from : ℕ) → set.contains (others u from) from ≡ false
 contains-others_itself u from = not_itself (registrants u) from
@@ -81,7 +78,7 @@ is_key-number keys u g r j k once fits named is = ap (λ o. is_key o k) is.key �
         by (inr unequal) = unequal.0
 
     at : (((r == j) ≡ true) × (r ≡ j)) ⊎ (((r == j) ≡ false) × (r ≢ j)) → is_key (key_at keys r) k ≡ (r == j)
-    at (inl same) = ap (λ n. is_key (key_at keys n) k) same.1 ∙ ap (λ o. is_key o k) named ∙ same_host k ∙ sym same.0
+    at (inl same) = ap (λ n. is_key (key_at keys n) k) same.1 ∙ ap (λ o. is_key o k) named ∙ same_itself k ∙ sym same.0
     at (inr other) = differs (key_at keys r) (λ there. same_number_at keys r j once is.known fits (there ∙ sym named)) other.1 ∙ sym other.0
 
 contains-others_if : (keys : List ℕ) (u : State) (from g r : ℕ) (b : Bool) → g ≢ from → Is keys u g r → set.contains (if b then others u from else nobody) g ≡ told_if b r
@@ -126,7 +123,7 @@ on_release keys hosts from t u = record {
 pub on_register : (keys : List ℕ) (hosts from j k : ℕ) (u : State) → j ≤ length keys → key_at keys j ≡ Some k
     → Becomes keys hosts from (Some j) never (number_of hosts u.held) never never never u (register u from k) no_change
 on_register keys hosts from j k u fits named = record {
-  sender = λ r is. record { known = fits; key = get-insert u.keys from k from ∙ ap (λ b. cond b (Some k) (map.get u.keys from)) (same_host from) ∙ sym named };
+  sender = λ r is. record { known = fits; key = get-insert u.keys from k from ∙ ap (λ b. cond b (Some k) (map.get u.keys from)) (same_itself from) ∙ sym named };
   others = λ g r other is. get-insert u.keys from k g ∙ ap (λ b. cond b (Some k) (map.get u.keys g)) (other_host g from other);
   reservation = refl;
   told_03 = λ g r other is. contains-nobody g;
@@ -162,7 +159,7 @@ pub on_unregister : (keys : List ℕ) (hosts from : ℕ) (u : State)
 on_unregister keys hosts from u = record {
   sender = λ r is. record {
     known = omega arith;
-    key = get-without u.keys (just from) from ∙ ap (λ b. if b then None else map.get u.keys from) (contains-just from from ∙ same_host from);
+    key = get-without u.keys (just from) from ∙ ap (λ b. if b then None else map.get u.keys from) (contains-just from from ∙ same_itself from);
   };
   others = λ g r other is. get-without u.keys (just from) g ∙ ap (λ b. if b then None else map.get u.keys g) (contains-just from g ∙ other_host g from other);
   reservation = refl;

@@ -1,7 +1,7 @@
 -- The branches of a command that preempts a key.
 use Rattle.std.proofs.Common.{◌≡◌, ◌≢◌, ℕ, ◌≤◌, Bool, true, false, ◌==◌, ◌&&◌, ◌||◌, not, if◌then◌else◌, [], ◌∷◌, Option, Some, None, is_some, refl, sym, ap, ◌∙◌, subst, inl, inr, ◌⊎◌, arith}
 use Rattle.std.specs.FinMap as map
-use Rattle.std.proofs.lemmas.Bool.{false≢true}
+use Rattle.std.proofs.lemmas.Bool.{false≢true, not-true}
 use Rattle.std.proofs.lemmas.Bool.Decides.{nat_tests, eqb_tells}
 use Rattle.pr_cdb.specs.declared.command.Kind.{Kind}
 use Rattle.pr_cdb.specs.declared.command.Command.{Command}
@@ -30,12 +30,8 @@ use Rattle.pr_regions.proofs.Keyed.{HasKeys, keys_of, has_key, key_is, number_or
 
 -- ---- tests
 
-pub not_true : (b : Bool) → not b ≡ true → b ≡ false
-not_true true is = sym is
-not_true false is = refl
-
 but_others : (j r : ℕ) → but j r ≡ true → only j r ≡ false
-but_others j r is = not_true (only j r) is
+but_others j r is = not-true (only j r) is
 
 others_but : (j r : ℕ) → only j r ≡ false → but j r ≡ true
 others_but j r is = ap not is
@@ -44,9 +40,8 @@ pub none_is_not : (j : ℕ) → 1 ≤ j → only j 0 ≡ false
 none_is_not j some = grind (arith, nat_tests)
 
 pub both_not : (a b : Bool) → (not a && not b) ≡ true → (a ≡ false) × (b ≡ false)
-both_not true b is = absurd (false≢true is)
-both_not false true is = absurd (false≢true is)
 both_not false false is = (refl, refl)
+both_not _ _ is = absurd (false≢true is)
 
 either_is : (a b : Bool) → (not a && not b) ≡ false → (b || a) ≡ true
 either_is true true is = refl
@@ -62,20 +57,15 @@ not_either a b one other = λ i. not (one i) && not (other i)
 other_place : (h g : ℕ) → g ≢ h → (h == g) ≡ false
 other_place h g other = grind (arith, nat_tests)
 
-pub same_place : (h : ℕ) → (h == h) ≡ true
-same_place h = grind (arith, nat_tests)
-
 -- to a single holder but the sender nothing is left apart
 not_holder : (holder others : ℕ → Bool) (held : Option Held) (sender g r : ℕ) → IsNotAnothers held sender → g ≢ sender → left_to holder others held g r ≡ others r
-not_holder holder others None sender g r own other = refl
 not_holder holder others (Some (One t h)) sender g r own other =
     ap (λ b. if b then holder r else others r) (other_place h g (λ same. other (same ∙ own)))
-not_holder holder others (Some (All t)) sender g r own other = refl
+not_holder holder others _ sender g r own other = refl
 
 all_own : (held : Option Held) (sender : ℕ) → is_held_by_all held ≡ true → IsNotAnothers held sender
-all_own None sender all = tt
 all_own (Some (One t h)) sender all = absurd (false≢true all)
-all_own (Some (All t)) sender all = tt
+all_own _ sender all = tt
 
 -- where no other host holds alone and the sender has another key, no single holder has the key
 not_holders : (s : Scope) (j : ℕ) (t : Kind) (held : Option Held) (sender : ℕ) (standing : Standing) (u : UnitState) (c : Command) → Meets s (Preempt j t) held sender standing u c
@@ -89,15 +79,13 @@ not_holders s j t held sender standing u c m keys other own =
         has_key s j sender standing u sender it.number keys (m.below, it.is.known, it.is.key) ∙ keys.own it.number it.is ∙ other
 
     at : (v : Option Held) → IsNotAnothers v sender → IsNotHolders u.registry.keys v (key_named s.keys j)
-    at None own = tt
     at (Some (One t h)) own = ap (λ g. is_key (map.get u.registry.keys g) (key_named s.keys j)) own ∙ differs
-    at (Some (All t)) own = tt
+    at _ own = tt
 
 -- all registrants hold: no single holder has the key
 nobodys_alone : (keys : Keys) (held : Option Held) (k : ℕ) → is_held_by_all held ≡ true → IsNotHolders keys held k
-nobodys_alone keys None k all = tt
 nobodys_alone keys (Some (One t h)) k all = absurd (false≢true all)
-nobodys_alone keys (Some (All t)) k all = tt
+nobodys_alone keys _ k all = tt
 
 -- the sender has the key that it names
 pub own_key : (s : Scope) (j : ℕ) (t : Kind) (held : Option Held) (sender : ℕ) (standing : Standing) (u : UnitState) (c : Command) → Meets s (Preempt j t) held sender standing u c

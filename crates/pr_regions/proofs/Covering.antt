@@ -4,7 +4,7 @@ use Rattle.std.specs.List.{All as Each, Contains}
 use Rattle.std.proofs.lemmas.Bool.Decides.{eqb_tells}
 use Rattle.pr_cdb.specs.declared.command.Command.{Command}
 use Rattle.pr_registry.specs.declared.held.Held.{Held}
-use Rattle.pr_registry.specs.declared.held.Held.TheVariants.{One, All}
+use Rattle.pr_registry.specs.declared.held.Held.TheVariants.{One}
 use Rattle.pr_unit.specs.UnitStates.{UnitState}
 use Rattle.pr_sets.specs.declared.word.Word.{Word}
 use Rattle.pr_sets.specs.Words.{has}
@@ -42,19 +42,17 @@ listed P xs x each there = subst P there.2 (each there.0 x there.1)
 
 -- what a region leaves to g, as tests
 abbrev pub left_to : (ℕ → Bool) → (ℕ → Bool) → Option Held → ℕ → ℕ → Bool
-left_to holder others None g r = others r
 left_to holder others (Some (One kind h)) g r = if h == g then holder r else others r
-left_to holder others (Some (All kind)) g r = others r
+left_to holder others _ g r = others r
 
 filtered : (region : Region) (holder others : ℕ → Bool) (test : Option (ℕ → Bool)) (held : Option Held) (g r : ℕ) → Leaves region holder others test → r ≤ 12
     → has (filter_of region held g) r ≡ left_to holder others held g r
-filtered region holder others test None g r leaves few = leaves.to_others r few
-filtered region holder others test (Some (All kind)) g r leaves few = leaves.to_others r few
 filtered region holder others test (Some (One kind h)) g r leaves few = at (h == g)
   where
     at : (b : Bool) → has (if b then region.holder else region.others) r ≡ (if b then holder r else others r)
     at true = leaves.to_holder r few
     at false = leaves.to_others r few
+filtered region holder others test _ g r leaves few = leaves.to_others r few
 
 pub record IsThere (s : Scope) (sender : ℕ) (holder others : ℕ → Bool) (test : Option (ℕ → Bool)) (u : UnitState) : Type 0 where
   pub registrations : (g r : ℕ) → g ≢ sender → IsSo s u (Registration g r) → left_to holder others u.registry.held g r ≡ true
@@ -63,20 +61,18 @@ pub record IsThere (s : Scope) (sender : ℕ) (holder others : ℕ → Bool) (te
 somebody_there : (s : Scope) (u : UnitState) (sender : ℕ) (somebody : Option Word) (test : Option (ℕ → Bool)) → length s.keys ≤ 12 → IsTest somebody test
     → HasSomebody s u sender test → HasSomebody s u sender (option_map has somebody)
 somebody_there s u sender None None few tests there = tt
-somebody_there s u sender None (Some passes) few tests there = absurd tests
-somebody_there s u sender (Some w) None few tests there = absurd tests
 somebody_there s u sender (Some w) (Some passes) few tests there =
     let known = there.3.1 in
     (there.0, there.1, there.2, there.3, tests there.1 (omega arith) ∙ there.4)
+somebody_there s u sender _ _ few tests there = absurd tests
 
 somebody_here : (s : Scope) (u : UnitState) (sender : ℕ) (somebody : Option Word) (test : Option (ℕ → Bool)) → length s.keys ≤ 12 → IsTest somebody test
     → HasSomebody s u sender (option_map has somebody) → HasSomebody s u sender test
 somebody_here s u sender None None few tests there = tt
-somebody_here s u sender None (Some passes) few tests there = absurd tests
-somebody_here s u sender (Some w) None few tests there = absurd tests
 somebody_here s u sender (Some w) (Some passes) few tests there =
     let known = there.3.1 in
     (there.0, there.1, there.2, there.3, sym (tests there.1 (omega arith)) ∙ there.4)
+somebody_here s u sender _ _ few tests there = absurd tests
 
 pub in_region : (s : Scope) (u : UnitState) (sender : ℕ) (region : Region) (holder others : ℕ → Bool) (test : Option (ℕ → Bool)) → length s.keys ≤ 12
     → Leaves region holder others test → IsThere s sender holder others test u → IsInRegion s sender region u
@@ -157,13 +153,12 @@ somebody_or_nobody s p held sender standing u c passes m = somebody_or_none s u 
 
 -- where every registration is left to everybody
 pub everyone : (held : Option Held) (g r : ℕ) → left_to any any held g r ≡ true
-everyone None g r = refl
-everyone (Some (All kind)) g r = refl
 everyone (Some (One kind h)) g r = at (h == g)
   where
     at : (b : Bool) → (if b then true else true) ≡ true
     at true = refl
     at false = refl
+everyone _ g r = refl
 
 -- a test that none does not pass is proper
 pub untested : (somebody : Option Word) → IsTest somebody None → IsUntestedOrRegistered somebody

@@ -1,7 +1,7 @@
 -- The branches of a command that preempts a key while another host holds the reservation alone.
 use Rattle.std.proofs.Common.{◌≡◌, ◌≢◌, ℕ, ◌<◌, Bool, true, false, ◌==◌, not, if◌then◌else◌, IsTrue, [], ◌∷◌, Option, Some, None, is_some, refl, sym, ap, ◌∙◌, subst, inl, inr, ◌⊎◌, arith}
 use Rattle.std.specs.FinMap as map
-use Rattle.std.proofs.lemmas.Bool.{false≢true}
+use Rattle.std.proofs.lemmas.Bool.{false≢true, not-true}
 use Rattle.std.proofs.lemmas.Bool.Decides.{nat_tests}
 use Rattle.pr_cdb.specs.declared.command.Kind.{Kind}
 use Rattle.pr_cdb.specs.declared.command.Command.{Command}
@@ -22,12 +22,12 @@ use Rattle.pr_regions.specs.declared.purpose.Standing.{Standing}
 use Rattle.pr_regions.specs.Purposes.{HasNumber}
 use Rattle.pr_regions.specs.Regions.{Meets, IsInRegion, IsCovered, HasRoom}
 use Rattle.pr_regions.specs.inside.Parts.{any, never, is_of_registrant, only, but, another, told_but, lost_if, is_named, Leaves, Does, EndsIn, Tell}
-use Rattle.pr_regions.proofs.Unique.{few_keys, one_registration}
+use Rattle.pr_regions.proofs.Unique.{same_itself, few_keys, one_registration}
 use Rattle.pr_regions.proofs.Asking.{key_named}
 use Rattle.pr_regions.proofs.Becoming.{is_registered-number}
 use Rattle.pr_regions.proofs.Covering.{left_to, in_region, from_region, HasNobody, somebody_or_nobody, each_of_two, each_of_three, untested, tested, tell}
 use Rattle.pr_regions.proofs.Keyed.{HasKeys, keys_of, has_key, key_is, IsNotHolders, replaced_ends, removed_ends, nobody_ends}
-use Rattle.pr_regions.proofs.Choosing.{both_not, not_either, not_true, none_is_not, same_place, own_key, does_so}
+use Rattle.pr_regions.proofs.Choosing.{both_not, not_either, none_is_not, own_key, does_so}
 
 -- the reservation of h alone
 abbrev pub held_by : Kind → ℕ → Option Held
@@ -50,7 +50,7 @@ holder_number s j t old h sender standing u c m = at (key_of u.registry h) refl 
 
 -- what is left to the holder, and to the others
 left_to_holder : (holder others : ℕ → Bool) (old : Kind) (h r : ℕ) → left_to holder others (held_by old h) h r ≡ holder r
-left_to_holder holder others old h r = ap (λ b. if b then holder r else others r) (same_place h)
+left_to_holder holder others old h r = ap (λ b. if b then holder r else others r) (same_itself h)
 
 left_to_each : (holder others : ℕ → Bool) (old : Kind) (h g r : ℕ) → ((h == g) ≡ true → holder r ≡ true) → ((h == g) ≡ false → others r ≡ true) → left_to holder others (held_by old h) g r ≡ true
 left_to_each holder others old h g r one other = at (h == g) refl
@@ -63,11 +63,11 @@ another_is_not : (j r : ℕ) → another j r ≡ true → only j r ≡ false
 another_is_not j r is = (both_not (r == 0) (only j r) is).1
 
 is_another : (j r : ℕ) → is_of_registrant r ≡ true → only j r ≡ false → another j r ≡ true
-is_another j r some other = not_either (r == 0) (only j r) (not_true (r == 0) some) other
+is_another j r some other = not_either (r == 0) (only j r) (not-true (r == 0) some) other
 
 another_or_but : (j r : ℕ) (b : Bool) → (if b then another j r else but j r) ≡ true → only j r ≡ false
 another_or_but j r true is = another_is_not j r is
-another_or_but j r false is = not_true (only j r) is
+another_or_but j r false is = not-true (only j r) is
 
 -- ---- in each region
 

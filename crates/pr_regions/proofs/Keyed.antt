@@ -26,16 +26,13 @@ use Rattle.pr_regions.specs.declared.purpose.Standing.TheVariants.{Named, Other}
 use Rattle.pr_regions.specs.Purposes.{HasNumber}
 use Rattle.pr_regions.specs.Regions.{standing_of, Meets, Ends}
 use Rattle.pr_regions.specs.inside.Parts.{never, only, told_but, lost_if, is_named, Does}
-use Rattle.pr_regions.proofs.Unique.{AreDistinct, are_distinct_keys}
+use Rattle.pr_regions.proofs.Unique.{same_itself, AreDistinct, are_distinct_keys}
 use Rattle.pr_regions.proofs.Asking.{key_named}
 use Rattle.pr_regions.proofs.Acting.{Is}
 use Rattle.pr_regions.proofs.Becoming.{is_key-number}
 use Rattle.pr_regions.proofs.Preempted.{in_case, on_preempt_holder, on_preempt_key}
 use Rattle.pr_regions.proofs.Meeting.{sender_of, asks, conflict_ends, good_ends, leaves}
 use Rattle.pr_regions.proofs.Covering.{HasNobody}
-
-same_itself : (k : ℕ) → (k == k) ≡ true
-same_itself k = grind (arith, nat_tests)
 
 -- ---- whether a key is anybody's
 
@@ -138,9 +135,8 @@ none_left u k each = is_empty_from_none (without u.keys (hosts_with u.keys k)) (
     at g (inr has) = get-without u.keys (hosts_with u.keys k) g ∙ ap (λ b. if b then None else map.get u.keys g) (contains-hosts_with u.keys k g ∙ has)
 
 pub rest_stays : (rest : Keys) (held : Option Held) → is_empty rest ≡ false → held_by_rest rest held ≡ held
-rest_stays rest None some = refl
-rest_stays rest (Some (One t h)) some = refl
 rest_stays rest (Some (All t)) some = ap (λ b. if b then None else Some (All t)) some
+rest_stays rest _ some = refl
 
 -- a key that is left by a number
 pub number_left : (s : Scope) (j : ℕ) (sender : ℕ) (standing : Standing) (u : UnitState) (g r : ℕ) → HasKeys s j sender standing u → IsSo s u (Registration g r) → is_registered u.registry g ≡ true
@@ -162,9 +158,8 @@ sender_left s j t held sender standing u c m keys other =
 
 -- no single holder has the key
 abbrev pub IsNotHolders : Keys → Option Held → ℕ → Type 0
-IsNotHolders keys None k = Unit {0}
 IsNotHolders keys (Some (One t h)) k = is_key (map.get keys h) k ≡ false
-IsNotHolders keys (Some (All t)) k = Unit {0}
+IsNotHolders keys _ k = Unit {0}
 
 pub removes : (keys : Keys) (held : Option Held) (k : ℕ) → (k == 0) ≡ false → IsNotHolders keys held k → preempt_case keys held k ≡ RemovesKey
 removes keys None k nonzero other = refl

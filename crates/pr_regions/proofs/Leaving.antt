@@ -71,30 +71,26 @@ held_without : (u : State) (h : ℕ) → is_held_by_all u.held ≡ false → (wi
 held_without u h other = at u.held other
   where
     at : (v : Option Held) → is_held_by_all v ≡ false → (if holds_alone v h then None else held_by_rest (without u.keys (just h)) v) ≡ (if holds_alone v h then None else v)
-    at None other = refl
-    at (Some (One t g)) other = refl
     at (Some (All t)) other = absurd (false≢true (sym other))
+    at _ other = refl
 
 held_by_some : (u : State) (h : ℕ) → is_held_by_all u.held ≡ true → is_empty (without u.keys (just h)) ≡ false → (without_registration u h).held ≡ u.held
 held_by_some u h all some = at u.held all
   where
     at : (v : Option Held) → is_held_by_all v ≡ true → (if holds_alone v h then None else held_by_rest (without u.keys (just h)) v) ≡ v
-    at None all = absurd (false≢true all)
-    at (Some (One t g)) all = absurd (false≢true all)
     at (Some (All t)) all = ap (λ b. if b then None else Some (All t)) some
+    at _ all = absurd (false≢true all)
 
 held_by_none : (u : State) (h : ℕ) → is_held_by_all u.held ≡ true → is_empty (without u.keys (just h)) ≡ true → (without_registration u h).held ≡ None
 held_by_none u h all none = at u.held all
   where
     at : (v : Option Held) → is_held_by_all v ≡ true → (if holds_alone v h then None else held_by_rest (without u.keys (just h)) v) ≡ None
-    at None all = absurd (false≢true all)
-    at (Some (One t g)) all = absurd (false≢true all)
     at (Some (All t)) all = ap (λ b. if b then None else Some (All t)) none
+    at _ all = absurd (false≢true all)
 
 alone_of_all : (v : Option Held) (h : ℕ) → is_held_by_all v ≡ true → holds_alone v h ≡ false
-alone_of_all None h all = refl
 alone_of_all (Some (One t g)) h all = absurd (false≢true all)
-alone_of_all (Some (All t)) h all = refl
+alone_of_all _ h all = refl
 
 -- ---- how it ends
 
@@ -176,9 +172,8 @@ tell_unregistered hosts held sender standing b d stays ends all present leaves_b
   where
     -- no single holder is treated apart
     everyones : (v : Option Held) (g r : ℕ) → is_held_by_all v ≡ true → left_to any (only 0) v g r ≡ only 0 r
-    everyones None g r all = refl
     everyones (Some (One t h)) g r all = absurd (false≢true all)
-    everyones (Some (All t)) g r all = refl
+    everyones _ g r all = refl
 
     not_registered : (r : ℕ) → only 0 r ≡ true → is_of_registrant r ≡ false
     not_registered r is = ap not is

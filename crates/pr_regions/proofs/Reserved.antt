@@ -27,7 +27,7 @@ use Rattle.pr_regions.specs.Regions.{IsInRegion}
 use Rattle.pr_regions.specs.Readings.{first_test, IsRead, AreReadings}
 use Rattle.pr_regions.specs.inside.Parts.{any, only, is_of_registrant, Leaves}
 use Rattle.pr_regions.specs.inside.Reads.{IsKnown, answer, passes_held, AreHeldSoFar}
-use Rattle.pr_regions.proofs.Unique.{few_keys, one_registration}
+use Rattle.pr_regions.proofs.Unique.{same_itself, few_keys, one_registration}
 use Rattle.pr_regions.proofs.Becoming.{is_registered-number}
 use Rattle.pr_regions.proofs.Contents.{holder_read}
 use Rattle.pr_regions.proofs.Covering.{left_to, everyone, in_region, from_region}
@@ -65,17 +65,12 @@ unheld_by_data (Some r) = refl
 
 finds : (keys : List ℕ) (u : UnitState) (t : Test) → IsWellFormed u.registry → test_fits keys (ReadReservation WRITTEN_LENGTH) t ≡ true
     → matches t (answer u (ReadReservation WRITTEN_LENGTH)) ≡ passes_held (key_in u.registry) t
-finds keys u test.Good w fits = refl
 finds keys u (test.GoodHas k) w fits = absurd (false≢true fits)
 finds keys u (test.GoodHeld k) w fits =
     ap (λ o. is_held_by o k) (holder_read u.registry.generation (reservation u.registry.keys u.registry.held) (key_fits u.registry w)) ∙ held_by_data (reservation u.registry.keys u.registry.held) k
 finds keys u test.GoodUnheld w fits =
     ap is_unheld (holder_read u.registry.generation (reservation u.registry.keys u.registry.held) (key_fits u.registry w)) ∙ unheld_by_data (reservation u.registry.keys u.registry.held)
-finds keys u test.Conflict w fits = refl
-finds keys u test.Busy w fits = refl
-finds keys u test.Full w fits = refl
-finds keys u test.Attention w fits = refl
-finds keys u (test.Sense sense) w fits = refl
+finds keys u _ w fits = refl
 
 -- two tests that agree on a list pass it alike
 prefix_alike : {X : Type 0} (p q : X → Bool) (xs : List X) → All (λ x. p x ≡ q x) xs → prefix_len (λ x. not (p x)) xs ≡ prefix_len (λ x. not (q x)) xs
@@ -153,9 +148,6 @@ held_number keys hosts kind h sender own s u known =
     at (Some k) is there =
         let it = known.numbered h (subst (λ n. h < n) known.registry (known.formed.registry.keys h k is).0) in
         record { number = it.0; so = it.1; some = positive it.0 (sym (is_registered-number s.keys u.registry h it.0 (record { known = it.1.1; key = it.1.2 })) ∙ there) }
-
-same_itself : (h : ℕ) → (h == h) ≡ true
-same_itself h = grind (arith, nat_tests)
 
 -- where the holder has the number n, whoever is left n to it is in the region
 holder_in_region : (keys : List ℕ) (hosts : ℕ) (kind : Kind) (h sender own : ℕ) (s : Scope) (u : UnitState) (n : ℕ) → IsKnown keys hosts (held_by kind h) sender own s u → IsSo s u (Registration h n)

@@ -5,7 +5,7 @@ use Rattle.pr_cdb.specs.declared.command.Kind.{Kind}
 use Rattle.pr_cdb.specs.declared.command.Command.{Command}
 use Rattle.pr_cdb.specs.declared.codes.TheConstants.{INVALID_FIELD_IN_PARAMETER_LIST, INVALID_RELEASE_OF_PERSISTENT_RESERVATION}
 use Rattle.pr_registry.specs.declared.held.Held.{Held}
-use Rattle.pr_registry.specs.declared.held.Held.TheVariants.{One, All}
+use Rattle.pr_registry.specs.declared.held.Held.TheVariants.{All}
 use Rattle.pr_registry.specs.Hosts.{Keys}
 use Rattle.pr_registry.specs.Registrations.{is_holder_of, kind_of, new_reservation, is_for_registrants}
 use Rattle.pr_registry.specs.Changes.{ReplacesAll, preempt_case, is_kind, is_held_as, conflicts_with_reserve, is_released, is_told_of_loss, is_held_by_all}
@@ -190,9 +190,8 @@ preempt_all_fault hosts t held sender standing other = record {
 
 -- then the reservation is replaced
 replaces_all : (keys : Keys) (held : Option Held) → is_held_by_all held ≡ true → preempt_case keys held 0 ≡ ReplacesAll
-replaces_all keys None is = absurd (false≢true is)
-replaces_all keys (Some (One t g)) is = absurd (false≢true is)
 replaces_all keys (Some (All t)) is = refl
+replaces_all keys _ is = absurd (false≢true is)
 
 pub preempt_all_good : (hosts : ℕ) (t : Kind) (held : Option Held) (sender : ℕ) (standing : Standing) (change : Change) → is_held_by_all held ≡ true
     → Does change None is_of_registrant (number_of hosts (Some (new_reservation t sender))) never never is_of_registrant → HasRoom hosts (Good change) → AlwaysEnds hosts (PreemptAll t) held sender standing (Good change)

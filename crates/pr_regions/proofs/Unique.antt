@@ -33,7 +33,7 @@ any_of_place p (y ∷ xs) (suc i) x there passes =
     or_true true = refl
     or_true false = refl
 
-same_itself : (k : ℕ) → (k == k) ≡ true
+pub same_itself : (k : ℕ) → (k == k) ≡ true
 same_itself k = grind (arith, nat_tests)
 
 not_there_again : (x : ℕ) (xs : List ℕ) (i : ℕ) → AreDistinct (x ∷ xs) → slice_get xs i ≡ Some x → zero ≡ suc i
@@ -116,29 +116,19 @@ shared_at (suc n) = ExclusiveAccessAllRegistrants
 
 single_there : (kind : Kind) → is_all kind ≡ false → single_at (place_of kind) ≡ kind
 unfolding single_at
-single_there WriteExclusive is = refl
-single_there ExclusiveAccess is = refl
-single_there WriteExclusiveRegistrantsOnly is = refl
-single_there ExclusiveAccessRegistrantsOnly is = refl
 single_there WriteExclusiveAllRegistrants is = absurd (false≢true (sym is))
 single_there ExclusiveAccessAllRegistrants is = absurd (false≢true (sym is))
+single_there _ is = refl
 
 shared_there : (kind : Kind) → is_all kind ≡ true → shared_at (place_of kind) ≡ kind
 unfolding shared_at
-shared_there WriteExclusive is = absurd (false≢true is)
-shared_there ExclusiveAccess is = absurd (false≢true is)
-shared_there WriteExclusiveRegistrantsOnly is = absurd (false≢true is)
-shared_there ExclusiveAccessRegistrantsOnly is = absurd (false≢true is)
 shared_there WriteExclusiveAllRegistrants is = refl
 shared_there ExclusiveAccessAllRegistrants is = refl
+shared_there _ is = absurd (false≢true is)
 
 few_places : (kind : Kind) → place_of kind ≤ 3
 few_places WriteExclusive = omega arith
-few_places ExclusiveAccess = omega arith
-few_places WriteExclusiveRegistrantsOnly = omega arith
-few_places ExclusiveAccessRegistrantsOnly = omega arith
-few_places WriteExclusiveAllRegistrants = omega arith
-few_places ExclusiveAccessAllRegistrants = omega arith
+few_places _ = omega arith
 
 -- a single holder is one of the hosts
 holder_fits : (hosts : ℕ) (kind : Kind) (h : ℕ) → IsTrue (is_reservation hosts (Some (One kind h))) → (is_all kind ≡ false) × (h < hosts)

@@ -70,9 +70,8 @@ get-map_where (suc n) f q =
     more_some false l k x h = refl
 
     more_none : (e l : Bool) (x : Option ℕ) → (e ≡ true → x ≡ None) → cond l x None ≡ cond (e || l) x None
-    more_none true true x h = refl
     more_none true false x h = sym (h refl)
-    more_none false l x h = refl
+    more_none _ _ x h = refl
 
 -- ---- hosts and their keys
 

@@ -135,9 +135,8 @@ keys-without u removed w q j is = at (set.contains removed q) (sym (get-without 
     at false some = w.keys q j some
 
 abbrev IsKept : Hosts → Option Held → Type 0
-IsKept removed None = Unit {0}
 IsKept removed (Some (One t g)) = set.contains removed g ≡ false
-IsKept removed (Some (All t)) = Unit {0}
+IsKept removed _ = Unit {0}
 
 contains_key-without : (keys : Keys) (removed : Hosts) (g : ℕ) → set.contains removed g ≡ false → map.contains_key (without keys removed) g ≡ map.contains_key keys g
 contains_key-without keys removed g kept = ap is_some (get-without keys removed g ∙ ap (λ b. cond b None (map.get keys g)) kept)
@@ -225,14 +224,13 @@ contains-remove_itself s h = contains-remove s h h ∙ ap (λ b. not b && set.co
 
 -- where a key is merely removed, a single holder has another
 IsKept-removed : (keys : Keys) (held : Option Held) (h sark : ℕ) → (case : Case) → preempt_case keys held sark ≡ case → case ≡ RemovesKey → IsKept (removed_by_preempt keys h sark case) held
-IsKept-removed keys None h sark case is removes = tt
-IsKept-removed keys (Some (All t)) h sark case is removes = tt
 IsKept-removed keys (Some (One t g)) h sark case is removes =
     rw removes (contains-hosts_with keys sark g ∙ at (is_key (map.get keys g) sark) (is ∙ removes))
   where
     at : (b : Bool) → (if b then ReplacesHolder t else RemovesKey) ≡ RemovesKey → b ≡ false
     at true replaces = let bad : ReplacesHolder t ≡ RemovesKey = replaces in cc
     at false replaces = refl
+IsKept-removed keys _ h sark case is removes = tt
 
 HasHolder-preempted : (u : State) (h sark : ℕ) (kind : Option Kind) (case : Case) → preempt_case u.keys u.held sark ≡ case → HasHolder u.keys u.held → IsTrue (is_registered u h) → HasKindIfReplacing kind case
     → HasHolder (without u.keys (removed_by_preempt u.keys h sark case)) (held_after_preempt (without u.keys (removed_by_preempt u.keys h sark case)) u.held h kind case)

@@ -104,9 +104,8 @@ pub all_below : (slots : List (Option ℕ)) (removed : Hosts) (q : ℕ)
 all_below slots removed q = at (nat_lt q MOST_NEXUSES) (set.contains removed q) refl
   where
     at : (l b : Bool) → nat_lt q MOST_NEXUSES ≡ l → (if l && b then None else map.get (table_keys MOST_NEXUSES slots) q) ≡ (if b then None else map.get (table_keys MOST_NEXUSES slots) q)
-    at true b inside = refl
     at false true outside = get-table_keys_past slots q (grind (arith, nat_tests))
-    at false false outside = refl
+    at _ _ _ = refl
 
 less_more : (q n : ℕ) → nat_lt q (n + 1) ≡ (q == n || nat_lt q n)
 less_more q n = grind (arith, nat_tests)
@@ -128,6 +127,5 @@ keeps_more removed n q o is =
     ∙ ap (λ b. if b && set.contains removed q then None else o) (sym (less_more q n))
   where
     at : (e l b : Bool) → (e ≡ true → b ≡ false) → (if l && b then None else o) ≡ (if (e || l) && b then None else o)
-    at true true b there = refl
     at true false b there = rw (there refl) refl
-    at false l b there = refl
+    at _ _ b there = refl

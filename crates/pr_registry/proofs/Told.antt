@@ -5,7 +5,7 @@ use Rattle.std.specs.FinMap as map
 use Rattle.std.proofs.lemmas.Bool.{and_parts, false≢true}
 use Rattle.pr_cdb.specs.declared.command.Kind.{Kind}
 use Rattle.pr_cdb.specs.declared.command.Command.{Command}
-use Rattle.pr_cdb.specs.declared.command.Command.TheVariants.{TestUnitReady, RequestSense, Read, Write, ReadKeys, ReadReservation, ReportCapabilities, Register, RegisterIgnore, Reserve, Release, Clear, Preempt, PreemptAbort}
+use Rattle.pr_cdb.specs.declared.command.Command.TheVariants.{Register, RegisterIgnore, Release, Clear, Preempt, PreemptAbort}
 use Rattle.pr_registry.specs.declared.change.Change.{Change}
 use Rattle.pr_registry.specs.Hosts.{Hosts, nobody, is_key, hosts_in, hosts_with}
 use Rattle.pr_registry.specs.Registrations.{State, is_registered, others, registrants, holds_alone}
@@ -91,11 +91,4 @@ tells_registrants u h (Release rk kind) = record {
 tells_registrants u h (Clear rk) = record { told_03 = AreRegistered-others u h; told_04 = AreRegistered-nobody u; told_05 = AreRegistered-nobody u }
 tells_registrants u h (Preempt rk sark kind) = tells_on_preempt u h sark kind
 tells_registrants u h (PreemptAbort rk sark kind) = tells_on_preempt u h sark kind
-tells_registrants u h (Reserve rk kind) = tells_nobody u
-tells_registrants u h TestUnitReady = tells_nobody u
-tells_registrants u h RequestSense = tells_nobody u
-tells_registrants u h (Read lba blocks) = tells_nobody u
-tells_registrants u h (Write lba blocks) = tells_nobody u
-tells_registrants u h (ReadKeys alloc) = tells_nobody u
-tells_registrants u h (ReadReservation alloc) = tells_nobody u
-tells_registrants u h (ReportCapabilities alloc) = tells_nobody u
+tells_registrants u h _ = tells_nobody u

@@ -25,11 +25,9 @@ use Rattle.pr_roles.specs.Laws.{is_same_refusal, is_refused_in, RefusalsAreCount
 pub told : (how other : How) (u : UnitState) (h : ℕ) (q : Request) (r : Reply) (v : UnitState) → Answers other u h q r v → is_refusal how r ≡ is_same_refusal how other
 told how.Plain other u h q r v is = refl
 told how.Busy how.Plain u h q r v is = (steps_are_never_busy u h q r v is).0
-told how.Busy how.Busy u h q r v is = ap (λ x. is_busy_status x.status) is.0
-told how.Busy how.Full u h q r v is = ap (λ x. is_busy_status x.status) is.0
 told how.Full how.Plain u h q r v is = (steps_are_never_busy u h q r v is).1
-told how.Full how.Busy u h q r v is = ap (λ x. is_full_status x.status) is.0
-told how.Full how.Full u h q r v is = ap (λ x. is_full_status x.status) is.0
+told how.Busy _ u h q r v is = ap (λ x. is_busy_status x.status) is.0
+told how.Full _ u h q r v is = ap (λ x. is_full_status x.status) is.0
 
 counted_more : (es : List Item) (e : Entry) (h : ℕ) (how : How) → refusals_by (es ++ Sent e ∷ []) h how ≡ refusals_by es h how + cond (e.host == h && is_refusal how e.reply) 1 0
 counted_more es e h how = sum_by_push (λ x. cond (is_refused h how x) 1 0) es (Sent e)
@@ -59,13 +57,9 @@ run_counted s w (e ∷ es) v run h how =
 -- ---- no more than are declared
 
 has_room : (s : Scenario) (es : List Item) (h : ℕ) (how other : How) → is_same_refusal how other ≡ true → IsTrue (may_come s es h other) → refusals_by es h how < most_refusals s h how
-has_room s es h how.Plain other same room = absurd (false≢true same)
-has_room s es h how.Busy how.Plain same room = absurd (false≢true same)
 has_room s es h how.Busy how.Busy same room = grind (arith, nat_tests)
-has_room s es h how.Busy how.Full same room = absurd (false≢true same)
-has_room s es h how.Full how.Plain same room = absurd (false≢true same)
-has_room s es h how.Full how.Busy same room = absurd (false≢true same)
 has_room s es h how.Full how.Full same room = grind (arith, nat_tests)
+has_room s es h _ _ same room = absurd (false≢true same)
 
 -- an event in which g is answered so, where that may still come
 one_more : (s : Scenario) (es : List Item) (g h : ℕ) (how other : How) (n : ℕ) → IsTrue (may_come s es g other)

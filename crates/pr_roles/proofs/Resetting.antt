@@ -33,12 +33,11 @@ run_counted s w (e ∷ es) v run =
     omega (arith, first, rest, split)
 
 pub one_within : (s : Scenario) (w : World) (e : Event) (v : World) → Happens s w e v → resets_in w.history ≤ s.resets → resets_in v.history ≤ s.resets
-one_within s w (Host g other) v sends within = let more = resets_more s w (Host g other) v sends in omega (arith, more, within)
-one_within s w (Guest g wire other) v sends within = let more = resets_more s w (Guest g wire other) v sends in omega (arith, more, within)
 one_within s w UnitReset v resets within =
     let more = resets_more s w UnitReset v resets in
     let room : resets_in w.history < s.resets = let may = resets.room in grind (arith, nat_tests) in
     omega (arith, more, room)
+one_within s w e v sends within = let more = resets_more s w e v sends in omega (arith, more, within)
 
 pub run_within : (s : Scenario) (w : World) (es : List Event) (v : World) → Run s w es v → resets_in w.history ≤ s.resets → resets_in v.history ≤ s.resets
 run_within s w [] v run within = subst (λ (x : World). resets_in x.history ≤ s.resets) (sym run) within

@@ -65,9 +65,8 @@ Chosen _ _ = ⊥
 pub chosen_length : (all : Starts) (keys : List (Option ℕ)) → Chosen all keys → length keys ≡ length all
 unfolding Chosen
 chosen_length [] [] chosen = refl
-chosen_length [] (k ∷ keys) chosen = absurd chosen
-chosen_length (ks ∷ all) [] chosen = absurd chosen
 chosen_length (ks ∷ all) (k ∷ keys) chosen = omega (arith, chosen_length all keys chosen.1)
+chosen_length _ _ chosen = absurd chosen
 
 pub chosen_at : (all : Starts) (keys : List (Option ℕ)) (h : ℕ) (ks : List (Option ℕ)) → Chosen all keys → slice_get all h ≡ Some ks → Contains ks (slice_index_or keys h None)
 unfolding Chosen

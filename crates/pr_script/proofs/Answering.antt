@@ -10,7 +10,7 @@ use Rattle.pr_script.specs.declared.rows.Step.{Step}
 use Rattle.pr_script.specs.declared.rows.Step.TheVariants.{Send}
 use Rattle.pr_script.specs.declared.rows.ArmTarget.{ArmTarget}
 use Rattle.pr_script.specs.declared.advance.LoopFrame.{LoopFrame}
-use Rattle.pr_script.specs.Scripts.{Stmt, Stmts, Arms, sends, repeats, breaks, stops, none, more, no_arm, arm, Configuration, statement, before, settled_form, is_ready, IsReady}
+use Rattle.pr_script.specs.Scripts.{Stmt, Stmts, Arms, sends, none, more, no_arm, arm, Configuration, statement, before, settled_form, is_ready, IsReady}
 use Rattle.pr_script.specs.Takes.{matches, first_match, take}
 use Rattle.pr_script.specs.Depths.{depth_of_all, depth_of_arms}
 use Rattle.pr_script.specs.inside.Program.{concatenation, without_end, open_configuration, place, arms_at, step_at, meanings, deepest, open_count, AreJumps, IsStep, IsTable}
@@ -27,9 +27,7 @@ ready_above rows at ready ends =
 
 first_alone : (s : Stmt) (l : Configuration) → is_ready (statement s ∷ l) ≡ is_ready (statement s ∷ [])
 first_alone (sends n c a) l = refl
-first_alone (repeats n b) l = refl
-first_alone breaks l = refl
-first_alone (stops w) l = refl
+first_alone _ l = refl
 
 -- readiness is the first statement's alone
 pub ready_place : (b : Stmts) (ms : List Stmts) (opens : List LoopFrame) → IsReady (before b (open_configuration ms opens)) → IsReady (before b [])

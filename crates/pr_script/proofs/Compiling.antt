@@ -10,7 +10,7 @@ use Rattle.pr_script.specs.declared.script.Statement.{Statement}
 use Rattle.pr_script.specs.declared.script.Arm.{Arm}
 use Rattle.pr_script.specs.declared.rows.Instruction.{Instruction}
 use Rattle.pr_script.specs.declared.rows.Step.{Step}
-use Rattle.pr_script.specs.declared.rows.Step.TheVariants.{Send, Repeat, Break, Stop}
+use Rattle.pr_script.specs.declared.rows.Step.TheVariants.{Send, Repeat}
 use Rattle.pr_script.specs.declared.rows.ArmTarget.{ArmTarget}
 use Rattle.pr_script.specs.Scripts.{Stmt, Stmts, Arms, sends, repeats, none, more, no_arm, arm, before}
 use Rattle.pr_script.specs.Depths.{depth_of_all}
@@ -65,14 +65,12 @@ module _ (ms ms' : List Stmts) (top wider next : ℕ) (agree : (k : ℕ) → k �
   step_alike : (step : Step) → IsStep ms top next step → IsStep ms' wider next step
   step_alike (Send line command arms) h = jumps_alike arms.items h
   step_alike (Repeat count body) h = omega (arith, h)
-  step_alike Break h = tt
-  step_alike (Stop word) h = tt
+  step_alike _ h = tt
 
   step_at_alike : (step : Step) → IsStep ms top next step → step_at ms' next step ≡ step_at ms next step
   step_at_alike (Send line command arms) h = ap (sends line command) (arms_alike arms.items h)
   step_at_alike (Repeat count body) h = ap (repeats count) (agree body h)
-  step_at_alike Break h = refl
-  step_at_alike (Stop word) h = refl
+  step_at_alike _ h = refl
 
 row_alike : (ms ms' : List Stmts) (top : ℕ) (row : Instruction) → ((k : ℕ) → k ≤ top + 1 → place ms' k ≡ place ms k) → IsRow ms top row → IsRow ms' top row
 row_alike ms ms' top row agree is =

@@ -1,7 +1,7 @@
 -- What is still to do comes to rest.
 use Rattle.std.specs.Prelude.{◌≡◌, ℕ, zero, suc, ◌+◌, ◌<◌, ◌≤◌, ◌⊎◌, true, [], ◌∷◌, drop, is_some}
 use Rattle.std.proofs.Common.{refl, sym, ap, subst, ◌∙◌, inl, inr, arith}
-use Rattle.pr_script.specs.Scripts.{Stmts, sends, repeats, breaks, stops, none, more, statement, mark, Configuration, before, turn, past_mark, becomes, work_of_all, work, becomes_often, settled_form, standing_of_items}
+use Rattle.pr_script.specs.Scripts.{Stmts, repeats, breaks, none, more, statement, mark, Configuration, before, turn, past_mark, becomes, work_of_all, work, becomes_often, settled_form, standing_of_items}
 use Rattle.pr_script.specs.Laws.{Settles}
 
 pub work-before : (b : Stmts) (l : Configuration) → work (before b l) ≡ work_of_all b + work l
@@ -20,13 +20,11 @@ work-past_mark (mark ∷ l) = omega (arith, work-drop l)
 
 -- an unfolding leaves what rests, and else makes less of the work
 pub rests : (l : Configuration) → (becomes l ≡ l) ⊎ (work (becomes l) < work l)
-rests [] = inl refl
 rests (mark ∷ l) = inr (omega arith)
-rests ((statement (sends n c a)) ∷ l) = inl refl
 rests ((statement (repeats zero b)) ∷ l) = inr (omega arith)
 rests ((statement (repeats (suc n) b)) ∷ l) = inr (omega (arith, work-before b (mark ∷ statement (repeats n b) ∷ l)))
 rests ((statement breaks) ∷ l) = inr (omega (arith, work-past_mark l))
-rests ((statement (stops w)) ∷ l) = inl refl
+rests _ = inl refl
 
 -- what rests stays
 at_rest : (n : ℕ) (l : Configuration) → becomes l ≡ l → becomes_often n l ≡ l
@@ -97,12 +95,10 @@ no_mark_rests l m e is = moves (mark ∷ m) (subst (λ k. becomes k ≡ k) is e)
 
 -- what rests is ready or stopped
 rest_stands : (l : Configuration) → becomes l ≡ l → is_some (standing_of_items l) ≡ true
-rest_stands [] e = refl
 rest_stands (mark ∷ m) e = absurd (no_mark_rests (mark ∷ m) m e refl)
-rest_stands ((statement (sends n c a)) ∷ m) e = refl
 rest_stands ((statement (repeats n b)) ∷ m) e = absurd (no_repeat_rests (statement (repeats n b) ∷ m) n b m e refl)
 rest_stands ((statement breaks) ∷ m) e = absurd (no_break_rests (statement breaks ∷ m) m e refl)
-rest_stands ((statement (stops w)) ∷ m) e = refl
+rest_stands _ e = refl
 
 pub settles : Settles
 settles l = (settled_rests l, rest_stands (settled_form l) (settled_rests l))

@@ -3,7 +3,7 @@ use Rattle.std.specs.Prelude.{◌≡◌, ℕ, ◌+◌, ◌≤◌, true, ◌&&◌
 use Rattle.std.proofs.Common.{arith}
 use Rattle.std.proofs.lemmas.Bool.{and_parts, ltb-true}
 use Rattle.pr_cdb.specs.declared.command.Command.{Command}
-use Rattle.pr_script.specs.Scripts.{Stmt, Stmts, Arms, sends, repeats, breaks, stops, none, more, no_arm, arm}
+use Rattle.pr_script.specs.Scripts.{Stmt, Stmts, Arms, sends, repeats, none, more, no_arm, arm}
 use Rattle.pr_script.specs.Depths.{depth_of, depth_of_all, depth_of_arms}
 use Rattle.pr_script.specs.Grammar.{statement_fits, statements_fit, arms_fit, is_send_written, is_repeat_written, test_fits, script_fits}
 
@@ -14,8 +14,7 @@ mutual
   deep keys r s (repeats n b) below fits =
       let parts = and_parts (nat_lt r 8) (statements_fit keys (r + 1) s b) (and_parts (is_repeat_written n b) _ fits).1 in
       omega (arith, deep_all keys (r + 1) s b (omega (arith, ltb-true r 8 parts.0)) parts.1)
-  deep keys r s breaks below fits = omega arith
-  deep keys r s (stops w) below fits = omega arith
+  deep keys r s _ below fits = omega arith
 
   deep_all : (keys : List ℕ) (r s : ℕ) (b : Stmts) → r ≤ 8 → statements_fit keys r s b ≡ true → r + depth_of_all b ≤ 8
   deep_all keys r s none below fits = omega arith

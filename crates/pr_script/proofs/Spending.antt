@@ -1,8 +1,8 @@
 -- A script sends at most as many commands as it costs.
-use Rattle.std.specs.Prelude.{◌≡◌, ℕ, zero, suc, ◌+◌, ◌≤◌, List, [], ◌∷◌, Some, option_map, true, false, drop, max, if◌then◌else◌}
+use Rattle.std.specs.Prelude.{◌≡◌, ℕ, suc, ◌+◌, ◌≤◌, List, [], ◌∷◌, Some, option_map, true, false, drop, max, if◌then◌else◌}
 use Rattle.std.proofs.Common.{arith}
 use Rattle.pr_cdb.specs.declared.reply.Reply.{Reply}
-use Rattle.pr_script.specs.Scripts.{Stmts, Arms, sends, repeats, breaks, stops, none, more, no_arm, arm, statement, mark, Configuration, before, past_mark, becomes, settled_form, first_configuration}
+use Rattle.pr_script.specs.Scripts.{Stmts, Arms, sends, repeats, breaks, none, more, no_arm, arm, statement, mark, Configuration, before, past_mark, becomes, settled_form, first_configuration}
 use Rattle.pr_script.specs.Takes.{matches, first_match}
 use Rattle.pr_script.specs.Costs.{cost_of, cost_of_all, greatest, commands_sent, count_in, commands_sent}
 use Rattle.pr_script.specs.Laws.{CostBoundsSends}
@@ -34,13 +34,9 @@ cost_in-past_mark (mark ∷ l) = omega (arith, cost_in-drop l)
 -- an unfolding costs no more
 cost_in-becomes : (l : Configuration) → cost_in (becomes l) ≤ cost_in l
 unfolding cost_in
-cost_in-becomes [] = omega arith
-cost_in-becomes (mark ∷ l) = omega arith
-cost_in-becomes ((statement (sends n c a)) ∷ l) = omega arith
-cost_in-becomes ((statement (repeats zero b)) ∷ l) = omega arith
 cost_in-becomes ((statement (repeats (suc n) b)) ∷ l) = omega (arith, cost_in-before b (mark ∷ statement (repeats n b) ∷ l))
 cost_in-becomes ((statement breaks) ∷ l) = omega (arith, cost_in-past_mark l)
-cost_in-becomes ((statement (stops w)) ∷ l) = omega arith
+cost_in-becomes _ = omega arith
 
 cost_in-settled : (l : Configuration) → cost_in (settled_form l) ≤ cost_in l
 cost_in-settled l = kept (λ m. cost_in m ≤ cost_in l) (λ m h. omega (arith, cost_in-becomes m)) l (omega arith)
@@ -57,13 +53,8 @@ through_arms rs r l within (arm test body rest) =
 
 sent_within_cost : (rs : List Reply) (l : Configuration) → commands_sent rs l ≤ cost_in l
 unfolding cost_in
-sent_within_cost [] l = omega arith
-sent_within_cost (r ∷ rs) [] = omega arith
-sent_within_cost (r ∷ rs) (mark ∷ l) = omega arith
 sent_within_cost (r ∷ rs) ((statement (sends n c a)) ∷ l) = omega (arith, through_arms rs r l (sent_within_cost rs) a)
-sent_within_cost (r ∷ rs) ((statement (repeats n b)) ∷ l) = omega arith
-sent_within_cost (r ∷ rs) ((statement breaks) ∷ l) = omega arith
-sent_within_cost (r ∷ rs) ((statement (stops w)) ∷ l) = omega arith
+sent_within_cost _ _ = omega arith
 
 pub cost_bounds_sends : CostBoundsSends
 unfolding cost_in

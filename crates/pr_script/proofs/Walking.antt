@@ -25,9 +25,8 @@ open_count-before none l = refl
 open_count-before (more s b) l = open_count-before b l
 
 open_count-le-deepest : (l : Configuration) → open_count l ≤ deepest l
-open_count-le-deepest [] = omega arith
 open_count-le-deepest ((statement s) ∷ l) = omega (arith, open_count-le-deepest l)
-open_count-le-deepest (mark ∷ l) = omega arith
+open_count-le-deepest _ = omega arith
 
 pub deepest-before : (b : Stmts) (l : Configuration) → deepest (before b l) ≡ max (open_count l + depth_of_all b) (deepest l)
 deepest-before none l = omega (arith, open_count-le-deepest l)

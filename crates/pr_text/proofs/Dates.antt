@@ -5,12 +5,12 @@ use Rattle.std.proofs.Common.{refl, sym, ap, ◌∙◌, arith}
 use Rattle.std.proofs.lemmas.List.Folds.{list_all-append}
 use Rattle.std.proofs.lemmas.Bool.Decides.{nat_tests}
 use Rattle.std.proofs.Math.Bool.{and_assoc, and-true}
-use Rattle.pr_script.specs.Scripts.{Stmt, Stmts, Arms, sends, repeats, breaks, stops, none, more, no_arm, arm}
+use Rattle.pr_script.specs.Scripts.{Stmt, Stmts, Arms, sends, repeats, none, more, no_arm, arm}
 use Rattle.pr_script.specs.Versions.{since as test_since, is_statement_of, is_script_of, are_arms_of}
 use Rattle.pr_roles.specs.Fitting.{is_version, is_count, are_resets}
 use Rattle.pr_lines.specs.ScenarioLines.{states}
 use Rattle.pr_lines.specs.Versions.{since}
-use Rattle.pr_text.specs.ScriptLines.{ScriptLine, send_at, arm_on, block_done, repeat_of, break_out, stop_with, statement_lines, body_lines, arms_lines}
+use Rattle.pr_text.specs.ScriptLines.{ScriptLine, arm_on, block_done, statement_lines, body_lines, arms_lines}
 use Rattle.pr_text.specs.ScriptRoundTrip.{said_by}
 use Rattle.pr_text.specs.inside.Sound.{is_line_of}
 
@@ -38,8 +38,7 @@ mutual
   statement_dated : (v : ℕ) (x : Stmt) → list_all (is_line_of v) (statement_lines x) ≡ is_statement_of v x
   statement_dated v (sends n c a) = list_all-append (is_line_of v) (arms_lines a) (block_done ∷ []) ∙ (and-true (list_all (is_line_of v) (arms_lines a)) ∙ arms_dated v a)
   statement_dated v (repeats n b) = list_all-append (is_line_of v) (body_lines b) (block_done ∷ []) ∙ (and-true (list_all (is_line_of v) (body_lines b)) ∙ body_dated v b)
-  statement_dated v breaks = refl
-  statement_dated v (stops w) = refl
+  statement_dated v _ = refl
 
   pub body_dated : (v : ℕ) (b : Stmts) → list_all (is_line_of v) (body_lines b) ≡ is_script_of v b
   body_dated v none = refl
@@ -56,9 +55,5 @@ mutual
 
 -- a version has what such a line says
 pub has_line : (v : ℕ) (l : ScriptLine) → is_version v ≡ true → is_line_of v l ≡ true → nat_lt v (since (states (said_by l))) ≡ false
-has_line v (send_at n c) known h = has_first v known
 has_line v (arm_on t) known h = has_by (test_since t) v h
-has_line v block_done known h = has_first v known
-has_line v (repeat_of n) known h = has_first v known
-has_line v break_out known h = has_first v known
-has_line v (stop_with word) known h = has_first v known
+has_line v _ known h = has_first v known

@@ -2,7 +2,7 @@
 use Rattle.std.specs.Prelude.{◌≡◌, ℕ, zero, suc, ◌+◌, Bool, true, false, ◌&&◌, not, nat_lt, nat_le, List, [], ◌∷◌, ◌++◌, length, Option, Some, None, unwrap_or, slice_set, Ok}
 use Rattle.std.specs.List.{list_all, slice_get}
 use Rattle.std.specs.Option.{option_map_or}
-use Rattle.std.proofs.Common.{refl, sym, subst, ap, ◌∙◌, arith, length-append}
+use Rattle.std.proofs.Common.{refl, sym, subst, ap, ◌∙◌, arith}
 use Rattle.std.proofs.lemmas.List.Folds.{list_all-append}
 use Rattle.std.proofs.lemmas.List.{length-set}
 use Rattle.std.proofs.lemmas.Bool.{and_parts}
@@ -11,7 +11,7 @@ use Rattle.pr_roles.specs.Fitting.{most_declared, is_count, are_resets}
 use Rattle.pr_lines.specs.declared.item.Refusal.{Refusal}
 use Rattle.pr_lines.specs.declared.item.Refusal.TheVariants as refusal
 use Rattle.pr_lines.specs.declared.spelling.ParsedCommand.{ParsedCommand}
-use Rattle.pr_lines.specs.ScenarioLines.{ScenarioLine, DeclaringLine, StatementLine, fence_line, declares, states, keys_line, nexus_line, start_line, pending_line, refusals_line, reservation_line, generation_line, resets_line, role_line, script_line, plan_line, end_line, send_line, on_line, done_line, repeat_line, break_line, stop_line, command_line}
+use Rattle.pr_lines.specs.ScenarioLines.{ScenarioLine, DeclaringLine, StatementLine, fence_line, declares, states, nexus_line, start_line, pending_line, refusals_line, resets_line, role_line, script_line, plan_line, end_line, send_line, on_line, done_line, repeat_line, break_line, stop_line, command_line}
 use Rattle.pr_lines.specs.Versions.{declaring_since, statement_since, since}
 use Rattle.pr_script.specs.Versions.{since as test_since}
 use Rattle.pr_text.specs.declared.fault.Which.{Which}
@@ -24,6 +24,7 @@ use Rattle.pr_text.specs.NextLine.{with_nexus, with_count, with_task, begun_scri
 use Rattle.pr_text.specs.inside.Sound.{is_line_of, is_written_of, is_declared_of, IsPlaceOf, IsDated}
 use Rattle.pr_lines.proofs.ItemTerms.{is_item}
 use Rattle.pr_lines.proofs.Tests.{both}
+use Rattle.pr_text.proofs.SoundLists.{one_long}
 use Rattle.pr_text.proofs.SoundScripts.{not_no, passes, skips}
 use Rattle.pr_text.proofs.Trees.{le_true}
 use Rattle.pr_text.proofs.Dates.{by_has, count_kept, resets_kept}
@@ -93,9 +94,6 @@ opened d g (Some h) is dated = record { version = dated.version; resets = dated.
 few_more : (n most : ℕ) → nat_le most n ≡ false → nat_le (n + 1) most ≡ true
 few_more n most h = grind (arith, nat_tests)
 
-one_long : (xs : List Declaration) (x : Declaration) → length (xs ++ x ∷ []) ≡ length xs + 1
-one_long xs x = omega (arith, length-append xs (x ∷ []))
-
 new_dated : (d : Declared) (x : Declaration) → is_declared_of d.version x ≡ true → nat_le (most_declared d.version) (length d.nexuses) ≡ false → d.place ≡ outside → IsDated d
     → IsDated (record d { nexuses = d.nexuses ++ x ∷ [] })
 new_dated d x is room at dated = record {
@@ -107,7 +105,6 @@ new_dated d x is room at dated = record {
 }
 
 declared_dated : (n : ℕ) (l : DeclaringLine) (d : Declared) → d.place ≡ outside → nat_lt d.version (declaring_since l) ≡ false → past_limit d l ≡ None → IsDated d → IsDated (with_declared n d l)
-declared_dated n (keys_line keys) d at has few dated = record { version = dated.version; resets = dated.resets; few = dated.few; each = dated.each; place = dated.place }
 declared_dated n (nexus_line guest name) d at has few dated =
     new_dated d _ refl (skips (nat_le (most_declared d.version) (length d.nexuses)) _ _ few).0 at dated
 declared_dated n (start_line name xs) d at has few dated = named_dated d (λ x. record x { start = Some xs }) (number_of d.nexuses name) dated at (λ x h. h)
@@ -116,8 +113,6 @@ declared_dated n (refusals_line r name count) d at has few dated =
     let room = skips (not (nat_le 1 count && nat_le count 1000)) _ _ few in
     let kept = count_kept d.version count dated.version has (not_no _ room.0) in
     named_dated d (with_count r count) (number_of d.nexuses name) dated at (λ x. counted d.version r count x kept)
-declared_dated n (reservation_line ws) d at has few dated = record { version = dated.version; resets = dated.resets; few = dated.few; each = dated.each; place = dated.place }
-declared_dated n (generation_line g) d at has few dated = record { version = dated.version; resets = dated.resets; few = dated.few; each = dated.each; place = dated.place }
 declared_dated n (resets_line count) d at has few dated =
     let room = skips (not (nat_le 1 count && nat_le count 1000)) _ _ few in
     record {
@@ -130,6 +125,7 @@ declared_dated n (resets_line count) d at has few dated =
 declared_dated n (role_line name clause) d at has few dated = named_dated d (λ x. record x { role = x.role ++ clause ∷ [] }) (number_of d.nexuses name) dated at (λ x h. h)
 declared_dated n (script_line name budget) d at has few dated = opened d (λ h. in_script (begun_script h budget)) (number_of d.nexuses name) (λ h. refl) dated
 declared_dated n (plan_line name) d at has few dated = opened d (λ h. in_plan h []) (number_of d.nexuses name) (λ h. tt) dated
+declared_dated n _ d at has few dated = record { version = dated.version; resets = dated.resets; few = dated.few; each = dated.each; place = dated.place }
 
 -- ---- a line of a script or plan
 
@@ -148,48 +144,37 @@ stated_dated v n (stop_line word) o has all = one_more v o.lines (stop_with word
 in_script_dated : (v : ℕ) (r : Option ℕ) (xs : List Declaration) (n : ℕ) (l : StatementLine) (p : Place) → nat_lt v (statement_since l) ≡ false → IsPlaceOf v r xs p
     → IsPlaceOf v r xs (of_script p (λ o. in_script (with_statement_line n l o)) p)
 in_script_dated v r xs n l before_all has h = h
-in_script_dated v r xs n l outside has h = tt
 in_script_dated v r xs n l (in_script o) has h = stated_dated v n l o has h
-in_script_dated v r xs n l (in_plan g commands) has h = tt
+in_script_dated v r xs n l _ has h = tt
 
 in_plan_dated : (v : ℕ) (r : Option ℕ) (xs : List Declaration) (s : ParsedCommand) (p : Place) → IsPlaceOf v r xs p → IsPlaceOf v r xs (of_plan p (λ h commands. in_plan h (commands ++ s.command ∷ [])) p)
-in_plan_dated v r xs s before_all h = h
 in_plan_dated v r xs s outside h = tt
-in_plan_dated v r xs s (in_script o) h = h
 in_plan_dated v r xs s (in_plan g commands) h = tt
+in_plan_dated v r xs s _ h = h
 
 ended_dated : (d : Declared) (p : Place) → IsPlaceOf d.version d.resets d.nexuses p → IsDated d
     → IsDated (by_place d d (λ o. with_task d o.host (scripted o.lines o.budget)) (λ h commands. with_task d h (planned commands)) p)
-ended_dated d before_all at dated = dated
-ended_dated d outside at dated = dated
 ended_dated d (in_script o) at dated = tasked_dated d o.host (scripted o.lines o.budget) at dated
 ended_dated d (in_plan h commands) at dated = tasked_dated d h (planned commands) refl dated
+ended_dated d _ at dated = dated
 
 -- ---- any line
 
 outside_is : (p : Place) → is_outside p ≡ true → p ≡ outside
-outside_is before_all h = cc
 outside_is outside h = refl
-outside_is (in_script o) h = cc
-outside_is (in_plan g commands) h = cc
+outside_is _ h = cc
 
 none_before : (v : ℕ) (r : Option ℕ) (xs : List Declaration) (p : Place) → is_before_all p ≡ true → IsPlaceOf v r xs p → (r ≡ None) × (xs ≡ [])
 none_before v r xs before_all h at = at
-none_before v r xs outside h at = cc
-none_before v r xs (in_script o) h at = cc
-none_before v r xs (in_plan g commands) h at = cc
+none_before v r xs _ h at = cc
 
 few_none : (version : ℕ) (xs : List Declaration) → xs ≡ [] → nat_le (length xs) (most_declared version) ≡ true
 few_none version xs none = ap (λ ys. nat_le (length ys) (most_declared version)) none ∙ le_true 0 (most_declared version) (omega arith)
 
 -- a line without fault stands well, and keeps its limit
 stands_well : (n : ℕ) (misplaced unknown undeclared again : Bool) (limit : Option Which) → first_fault n misplaced unknown undeclared again limit ≡ None → (misplaced ≡ false) × (limit ≡ None)
-stands_well n true unknown undeclared again limit h = cc
-stands_well n false true undeclared again limit h = cc
-stands_well n false false true again limit h = cc
-stands_well n false false false true limit h = cc
 stands_well n false false false false None h = (refl, refl)
-stands_well n false false false false (Some w) h = cc
+stands_well n _ _ _ _ _ h = cc
 
 line_dated : (n : ℕ) (i : ScenarioLine) (d : Declared) → is_item i ≡ true → nat_lt d.version (since i) ≡ false → standing_fault n d i ≡ None → IsDated d → IsDated (with_line n d i)
 line_dated n (fence_line version) d known has faultless dated =

@@ -181,7 +181,7 @@ short_role k m h = grind (arith, nat_tests)
 short_plan : (k m : ℕ) → k + suc m ≤ 256 → nat_le 256 k ≡ false
 short_plan k m h = grind (arith, nat_tests)
 
-one_longer : {A : Type 0} (xs : List A) (x : A) (m top : ℕ) → length xs + suc m ≤ top → length (xs ++ x ∷ []) + m ≤ top
+pub one_longer : {A : Type 0} (xs : List A) (x : A) (m top : ℕ) → length xs + suc m ≤ top → length (xs ++ x ∷ []) + m ≤ top
 one_longer xs x m top h = omega (arith, length-append xs (x ∷ []))
 
 module _ (n version : ℕ) (dated : is_version version ≡ true) (keys : Option (List ℕ)) (vs : Option (List (Option Held))) (g rs : Option ℕ) (before after : List Declaration) (name : List ℕ) (free : is_taken name before ≡ false) where

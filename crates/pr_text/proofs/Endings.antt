@@ -4,7 +4,7 @@ use Rattle.std.specs.Option.{option_map_or}
 use Rattle.std.proofs.Common.{refl}
 use Rattle.pr_text.specs.declared.fault.ReadError.{ReadError}
 use Rattle.pr_text.specs.declared.fault.ReadError.TheVariants as fault
-use Rattle.pr_text.specs.Declarations.{Place, before_all, outside, in_script, in_plan, Declared}
+use Rattle.pr_text.specs.Declarations.{Place, outside, Declared}
 use Rattle.pr_text.specs.Faults.{and_then, unless}
 use Rattle.pr_text.specs.Texts.{first_unscripted, starts_somewhere, end_placed}
 use Rattle.pr_text.specs.inside.Endings.{missing_at, missing_fault, start_result}
@@ -16,19 +16,16 @@ last false d = refl
 in_turn : (b : Bool) (o : Option ℕ) (e : ReadError) (d : Declared)
     → unless (cond b (Some e) (option_map_or (λ line. Some (fault.Syntax line)) o (cond (starts_somewhere d) None (Some fault.EmptyStart)))) d
     ≡ and_then (unless (cond b (Some e) (option_map (λ line. fault.Syntax line) o)) d) start_result
-in_turn true o e d = refl
-in_turn false (Some line) e d = refl
 in_turn false None e d = last (starts_somewhere d) d
+in_turn _ _ e d = refl
 
 abbrev at_place : Declared → Place → Declared
 at_place d p = record d { place = p }
 
 ended_at : (n : ℕ) (d : Declared) (p : Place) → end_placed n (at_place d p) ≡ and_then (unless (missing_at n (at_place d p) p) (at_place d p)) start_result
 unfolding end_placed
-ended_at n d before_all = refl
 ended_at n d outside = in_turn (length d.nexuses == 0) (first_unscripted d.nexuses) _ (at_place d outside)
-ended_at n d (in_script o) = refl
-ended_at n d (in_plan h commands) = refl
+ended_at n d _ = refl
 
 pub ended_in_turn : (n : ℕ) (d : Declared) → end_placed n d ≡ and_then (unless (missing_fault n d) d) start_result
 ended_in_turn n d = ended_at n d d.place

@@ -12,10 +12,11 @@ use Rattle.pr_text.specs.ScriptLines.{body_lines}
 use Rattle.pr_text.specs.Declarations.{WrittenTask, scripted, planned, Declaration, Declared, Place, before_all, outside, in_script, in_plan}
 use Rattle.pr_text.specs.Declaring.{declared_keys}
 use Rattle.pr_text.specs.inside.Endings.{missing_fault, missing_at}
-use Rattle.pr_text.specs.Reading.{WrittenNexus, task_written, nexus_written, nexus_declared, IsDeclaredBy}
+use Rattle.pr_text.specs.Reading.{task_written, nexus_written, nexus_declared, IsDeclaredBy}
 use Rattle.pr_text.specs.inside.Sound.{IsTask, IsDeclaration, AreDeclarations, IsSound, is_written_of, is_declared_of, IsDated}
 use Rattle.pr_lines.proofs.Tests.{both}
 use Rattle.pr_text.proofs.Trees.{whole_fits}
+use Rattle.pr_text.proofs.OneReading.{head_same, tail_same}
 use Rattle.pr_text.proofs.Dates.{body_dated}
 
 -- ---- one nexus
@@ -56,12 +57,6 @@ nexus_has v n x e h =
     both _ _ (ap (λ w. is_count v w.full) e ∙ rest.0) (task_has v n.task x.task (ap (λ w. w.task) e) rest.1))
 
 -- ---- all of them
-
-head_same : (a b : WrittenNexus) (more bs : List WrittenNexus) → a ∷ more ≡ b ∷ bs → a ≡ b
-head_same a b more bs e = cc
-
-tail_same : (a b : WrittenNexus) (more bs : List WrittenNexus) → a ∷ more ≡ b ∷ bs → more ≡ bs
-tail_same a b more bs e = cc
 
 each_fits : (keys : List ℕ) (ns : List Nexus) (xs : List Declaration) → map nexus_written ns ≡ map nexus_declared xs → AreDeclarations keys xs → list_all (is_nexus keys) ns ≡ true
 each_fits keys [] xs e h = refl

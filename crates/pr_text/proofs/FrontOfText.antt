@@ -5,7 +5,7 @@ use Rattle.std.proofs.lemmas.Bool.{cases_lt}
 use Rattle.pr_roles.specs.declared.parts.Parts.{Parts}
 use Rattle.pr_roles.specs.Scenarios.{scenario_of}
 use Rattle.pr_text.specs.declared.fault.ReadError.{ReadError}
-use Rattle.pr_text.specs.declared.fault.ReadError.TheVariants.{TooLarge, NotAscii, LineTooLong, Syntax, UnknownName, Limit, UndeclaredKey, Repeated, Unclosed, ReadFault, Memory, EmptyStart}
+use Rattle.pr_text.specs.declared.fault.ReadError.TheVariants.{ReadFault, Memory}
 use Rattle.pr_text.specs.inside.Steps.{ReadsUpTo}
 use Rattle.pr_text.specs.Faults.{Fails}
 use Rattle.pr_text.specs.Texts.{answer_of}
@@ -22,18 +22,9 @@ answer_of_front bytes rest ended =
 read_along : (text bytes : List ℕ) (r : Result Parts ReadError) → answer_of text ≡ answer_of bytes
     → IfOk r (λ p. IsWrittenAs bytes (scenario_of p)) → IfErr r (λ e. Fails e (answer_of bytes)) → IsRead text r
 read_along text bytes (Ok parts) e h k = record { declared = h.declared; faultless = e ∙ h.faultless; kept = h.kept }
-read_along text bytes (Err TooLarge) e h k = e ∙ k
-read_along text bytes (Err (NotAscii n)) e h k = e ∙ k
-read_along text bytes (Err (LineTooLong n)) e h k = e ∙ k
-read_along text bytes (Err (Syntax n)) e h k = e ∙ k
-read_along text bytes (Err (UnknownName n)) e h k = e ∙ k
-read_along text bytes (Err (Limit w n)) e h k = e ∙ k
-read_along text bytes (Err (UndeclaredKey n)) e h k = e ∙ k
-read_along text bytes (Err (Repeated n)) e h k = e ∙ k
-read_along text bytes (Err (Unclosed n)) e h k = e ∙ k
 read_along text bytes (Err ReadFault) e h k = tt
 read_along text bytes (Err Memory) e h k = tt
-read_along text bytes (Err EmptyStart) e h k = e ∙ k
+read_along text bytes _ e h k = e ∙ k
 
 -- what is read of the first bytes is read of the whole
 pub read_front : (old new : Option (List ℕ)) (bytes : List ℕ) (r : Result Parts ReadError) → ReadsUpTo 65537 old new bytes

@@ -175,21 +175,15 @@ declared_same n (plan_line name) d = plan_same n name d
 
 outside_same : (n : ℕ) (i : ScenarioLine) (d : Declared) → item_stood n i (at_place d outside) ≡ placed_outside n i (at_place d outside)
 unfolding item_stood
-outside_same n (fence_line version) d = refl
 outside_same n (declares l) d = declared_same n l d
-outside_same n (states l) d = refl
-outside_same n (command_line s) d = refl
-outside_same n end_line d = refl
+outside_same n _ d = refl
 
 -- ---- the first line
 
 first_same : (n : ℕ) (i : ScenarioLine) (d : Declared) → item_stood n i (at_place d before_all) ≡ placed_first n i (at_place d before_all)
 unfolding item_stood
 first_same n (fence_line version) d = refl
-first_same n (declares l) d = refl
-first_same n (states l) d = refl
-first_same n (command_line s) d = refl
-first_same n end_line d = refl
+first_same n _ d = refl
 
 -- ---- scripts
 
@@ -208,11 +202,9 @@ ends false e a = refl
 
 in_script_same : (n : ℕ) (i : ScenarioLine) (o : OpenLines) (d : Declared) → item_stood n i (at_place d (in_script o)) ≡ placed_in_script n o i (at_place d (in_script o))
 unfolding item_stood
-in_script_same n (fence_line version) o d = refl
-in_script_same n (declares l) o d = refl
 in_script_same n (states l) o d = stated_same n l o d
-in_script_same n (command_line s) o d = refl
 in_script_same n end_line o d = ends (length o.blocks == 0) _ _
+in_script_same n _ o d = refl
 
 -- ---- plans
 
@@ -224,11 +216,8 @@ command_same n h commands s d =
 
 in_plan_same : (n h : ℕ) (commands : List Command) (i : ScenarioLine) (d : Declared) → item_stood n i (at_place d (in_plan h commands)) ≡ placed_in_plan n h commands i (at_place d (in_plan h commands))
 unfolding item_stood
-in_plan_same n h commands (fence_line version) d = refl
-in_plan_same n h commands (declares l) d = refl
-in_plan_same n h commands (states l) d = refl
 in_plan_same n h commands (command_line s) d = command_same n h commands s d
-in_plan_same n h commands end_line d = refl
+in_plan_same n h commands _ d = refl
 
 -- ---- any line
 

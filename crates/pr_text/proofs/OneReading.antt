@@ -9,7 +9,7 @@ use Rattle.pr_roles.specs.Scenarios.{Scenario, Nexus, Task, Scripted, Planned}
 use Rattle.pr_text.specs.ScriptLines.{ScriptLine, send_at, arm_on, block_done, repeat_of, stop_with, statement_lines, body_lines, arms_lines}
 use Rattle.pr_text.specs.Declarations.{scripted, Declared}
 use Rattle.pr_text.specs.inside.Sound.{is_statement}
-use Rattle.pr_text.specs.Reading.{WrittenNexus, task_written, nexus_written, IsDeclaredBy, IsWrittenAs}
+use Rattle.pr_text.specs.Reading.{task_written, nexus_written, IsDeclaredBy, IsWrittenAs}
 use Rattle.pr_text.proofs.SoundScripts.{ok_same}
 
 -- the first of the lines begins a statement
@@ -19,9 +19,7 @@ leads (l ∷ ls) = is_statement l
 
 statement_leads : (x : Stmt) (ls : List ScriptLine) → leads (statement_lines x ++ ls) ≡ true
 statement_leads (sends n c a) ls = refl
-statement_leads (repeats n b) ls = refl
-statement_leads breaks ls = refl
-statement_leads (stops w) ls = refl
+statement_leads _ ls = refl
 
 -- what stands behind the body of an arm begins no statement
 arms_lead : (a : Arms) (ls : List ScriptLine) → leads (arms_lines a ++ block_done ∷ ls) ≡ false
@@ -32,7 +30,7 @@ record Same {A : Type 0} (x y : A) (u v : List ScriptLine) : Type 0 where
   first : x ≡ y
   rest : u ≡ v
 
-tail_same : (k l : ScriptLine) (u v : List ScriptLine) → k ∷ u ≡ l ∷ v → u ≡ v
+pub tail_same : {A : Type 0} (k l : A) (u v : List A) → k ∷ u ≡ l ∷ v → u ≡ v
 tail_same k l u v e = cc
 
 assoc : (a b c d : List ScriptLine) (u v : List ScriptLine) → (a ++ b) ++ u ≡ (c ++ d) ++ v → a ++ (b ++ u) ≡ c ++ (d ++ v)
@@ -50,7 +48,7 @@ same_arm t s a b x y e f g = cc
 same_more : (x y : Stmt) (a b : Stmts) → x ≡ y → a ≡ b → more x a ≡ more y b
 same_more x y a b e f = cc
 
-head_same : (k l : ScriptLine) (u v : List ScriptLine) → k ∷ u ≡ l ∷ v → k ≡ l
+pub head_same : {A : Type 0} (k l : A) (u v : List A) → k ∷ u ≡ l ∷ v → k ≡ l
 head_same k l u v e = cc
 
 same_stops : (w z : List ℕ) → stop_with w ≡ stop_with z → stops w ≡ stops z
@@ -61,23 +59,12 @@ mutual
   statement_same (sends n c a) (sends m d b) u v e =
       let inner = arms_same a b u v (assoc (arms_lines a) (block_done ∷ []) (arms_lines b) (block_done ∷ []) u v (tail_same _ _ _ _ e)) in
       record { first = same_sends n m c d a b (head_same _ _ _ _ e) inner.first; rest = inner.rest }
-  statement_same (sends n c a) (repeats m b) u v e = cc
-  statement_same (sends n c a) breaks u v e = cc
-  statement_same (sends n c a) (stops w) u v e = cc
-  statement_same (repeats n a) (sends m d b) u v e = cc
   statement_same (repeats n a) (repeats m b) u v e =
       let inner = body_same a b (block_done ∷ u) (block_done ∷ v) refl refl (assoc (body_lines a) (block_done ∷ []) (body_lines b) (block_done ∷ []) u v (tail_same _ _ _ _ e)) in
       record { first = same_repeats n m a b (head_same _ _ _ _ e) inner.first; rest = tail_same _ _ _ _ inner.rest }
-  statement_same (repeats n a) breaks u v e = cc
-  statement_same (repeats n a) (stops w) u v e = cc
-  statement_same breaks (sends m d b) u v e = cc
-  statement_same breaks (repeats m b) u v e = cc
   statement_same breaks breaks u v e = record { first = refl; rest = tail_same _ _ _ _ e }
-  statement_same breaks (stops w) u v e = cc
-  statement_same (stops w) (sends m d b) u v e = cc
-  statement_same (stops w) (repeats m b) u v e = cc
-  statement_same (stops w) breaks u v e = cc
   statement_same (stops w) (stops z) u v e = record { first = same_stops w z (head_same _ _ _ _ e); rest = tail_same _ _ _ _ e }
+  statement_same _ _ u v e = cc
 
   body_same : (a b : Stmts) (u v : List ScriptLine) → leads u ≡ false → leads v ≡ false → body_lines a ++ u ≡ body_lines b ++ v → Same a b u v
   body_same none none u v p q e = record { first = refl; rest = e }
@@ -92,13 +79,12 @@ mutual
 
   arms_same : (a b : Arms) (u v : List ScriptLine) → arms_lines a ++ block_done ∷ u ≡ arms_lines b ++ block_done ∷ v → Same a b u v
   arms_same no_arm no_arm u v e = record { first = refl; rest = tail_same _ _ _ _ e }
-  arms_same no_arm (arm s d y) u v e = cc
-  arms_same (arm t c x) no_arm u v e = cc
   arms_same (arm t c x) (arm s d y) u v e =
       let inner = body_same c d (arms_lines x ++ block_done ∷ u) (arms_lines y ++ block_done ∷ v) (arms_lead x u) (arms_lead y v)
       (assoc (body_lines c) (arms_lines x) (body_lines d) (arms_lines y) (block_done ∷ u) (block_done ∷ v) (tail_same _ _ _ _ e)) in
       let later = arms_same x y u v inner.rest in
       record { first = same_arm t s c d x y (head_same _ _ _ _ e) inner.first later.first; rest = later.rest }
+  arms_same _ _ u v e = cc
 
 script_same : (a b : Stmts) → body_lines a ≡ body_lines b → a ≡ b
 script_same a b e = (body_same a b [] [] refl refl (append-nil (body_lines a) ∙ (e ∙ sym (append-nil (body_lines b))))).first
@@ -125,20 +111,13 @@ nexus_same m n e =
     ap (λ w. record { name = w.name; role = w.role; start = w.start; pending = w.pending; task = m.task; busy = w.busy; full = w.full }) e
     ∙ ap (λ t. record { name = n.name; role = n.role; start = n.start; pending = n.pending; task = t; busy = n.busy; full = n.full }) (task_same m.task n.task (ap (λ w. w.task) e))
 
-first_nexus : (x y : WrittenNexus) (xs ys : List WrittenNexus) → x ∷ xs ≡ y ∷ ys → x ≡ y
-first_nexus x y xs ys e = cc
-
-other_nexuses : (x y : WrittenNexus) (xs ys : List WrittenNexus) → x ∷ xs ≡ y ∷ ys → xs ≡ ys
-other_nexuses x y xs ys e = cc
-
 same_nexuses : (m n : Nexus) (ms ns : List Nexus) → m ≡ n → ms ≡ ns → m ∷ ms ≡ n ∷ ns
 same_nexuses m n ms ns e f = cc
 
 nexuses_same : (ms ns : List Nexus) → map nexus_written ms ≡ map nexus_written ns → ms ≡ ns
 nexuses_same [] [] e = refl
-nexuses_same [] (n ∷ ns) e = cc
-nexuses_same (m ∷ ms) [] e = cc
-nexuses_same (m ∷ ms) (n ∷ ns) e = same_nexuses m n ms ns (nexus_same m n (first_nexus _ _ _ _ e)) (nexuses_same ms ns (other_nexuses _ _ _ _ e))
+nexuses_same (m ∷ ms) (n ∷ ns) e = same_nexuses m n ms ns (nexus_same m n (head_same _ _ _ _ e)) (nexuses_same ms ns (tail_same _ _ _ _ e))
+nexuses_same _ _ e = cc
 
 scenario_same : (s t : Scenario) → s.version ≡ t.version → s.keys ≡ t.keys → s.reservations ≡ t.reservations → s.generation ≡ t.generation → s.resets ≡ t.resets → s.nexuses ≡ t.nexuses → s ≡ t
 scenario_same s t v a b c r d =

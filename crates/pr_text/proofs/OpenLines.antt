@@ -3,7 +3,7 @@ use Rattle.std.proofs.Common.{◌≡◌, ℕ, suc, ◌+◌, Bool, true, false, c
 use Rattle.std.specs.Prelude.{◌==◌, count_by, fold, Option, Some, None}
 use Rattle.std.specs.List.{flat_map}
 use Rattle.std.proofs.lemmas.List.Concat.{flat_map-append}
-use Rattle.std.proofs.lemmas.List.Sums.{fold-append, sum_by-cons}
+use Rattle.std.proofs.lemmas.List.Sums.{fold-append}
 use Rattle.std.proofs.lemmas.Bool.Decides.{nat_tests}
 use Rattle.pr_cdb.specs.declared.command.Command.{Command}
 use Rattle.pr_script.specs.declared.script.Script.{Script}
@@ -21,6 +21,7 @@ use Rattle.pr_text.specs.ScriptLines.{ScriptLine, send_at, arm_on, block_done, r
 use Rattle.pr_text.specs.Declarations.{OpenBlock}
 use Rattle.pr_text.specs.Standing.{is_repeating, is_sending, awaits_arm}
 use Rattle.pr_text.specs.inside.OpenScripts.{with_armless, armless_lines, lines_in, arm_lines, opener_lines, frame_lines, block_of, block_by, blocks_in}
+use Rattle.pr_text.proofs.Trees.{count-cons}
 
 -- ---- what statements are written as
 
@@ -86,9 +87,6 @@ closes outer f body s e =
     ∙ (joined (flat_map frame_lines outer) (lines_in f.body.items) (opener_lines f.opener) (lines_in body) ∙ ap (λ ls. ((ls ++ lines_in body) ++ []) ++ block_done ∷ []) (sym whole))
 
 -- ---- how many blocks are open
-
-count-cons : {X : Type 0} (p : X → Bool) (x : X) (xs : List X) → count_by p (x ∷ xs) ≡ cond (p x) 1 0 + count_by p xs
-count-cons p x xs = sum_by-cons (λ y. cond (p y) 1 0) x xs
 
 blocks_from : (p : OpenBlock → Bool) (acc : List OpenBlock) (frames : List OpenBody) → count_by p (fold (λ blocks f. block_of f ∷ blocks) acc frames) ≡ count_by p acc + count_by (λ f. p (block_of f)) frames
 blocks_from p acc [] = omega arith

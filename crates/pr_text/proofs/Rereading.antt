@@ -104,25 +104,18 @@ after_one true = refl
 after_one false = refl
 
 follows_in_arm : (b : Stmts) (c : Command) (j : ℕ) (bs : List OpenBlock) (g : Bool) → may_follow b (sending c j ∷ bs) g ≡ true
-follows_in_arm none c j bs g = refl
 follows_in_arm (more (sends n d a) rest) c j bs g = refl
-follows_in_arm (more (repeats n b) rest) c j bs g = refl
-follows_in_arm (more breaks rest) c j bs g = refl
-follows_in_arm (more (stops w) rest) c j bs g = refl
+follows_in_arm _ c j bs g = refl
 
 follows_one : (b : Stmts) (bs : List OpenBlock) → may_follow b bs true ≡ true
-follows_one none bs = refl
-follows_one (more (sends n d a) rest) bs = refl
-follows_one (more (repeats n b) rest) bs = refl
 follows_one (more breaks rest) bs = after_one (is_in_repeat bs)
 follows_one (more (stops w) rest) bs = after_one (is_in_repeat bs)
+follows_one _ bs = refl
 
 follows_repeat : (b : Stmts) (bs : List OpenBlock) (g : Bool) → begins_body b ≡ true → may_follow b bs g ≡ true
-follows_repeat none bs g h = refl
-follows_repeat (more (sends n d a) rest) bs g h = refl
-follows_repeat (more (repeats n b) rest) bs g h = refl
 follows_repeat (more breaks rest) bs g h = cc
 follows_repeat (more (stops w) rest) bs g h = cc
+follows_repeat _ bs g h = refl
 
 begun_by : (b : Stmts) (g : Bool) → begins_body b ≡ true → begun_after b g ≡ true
 begun_by none g h = cc
@@ -133,11 +126,8 @@ begun_still none = refl
 begun_still (more x rest) = refl
 
 follows_first : (b : Stmts) → may_follow b [] false ≡ true
-follows_first none = refl
 follows_first (more (sends n d a) rest) = refl
-follows_first (more (repeats n b) rest) = refl
-follows_first (more breaks rest) = refl
-follows_first (more (stops w) rest) = refl
+follows_first _ = refl
 
 -- ---- counts
 
@@ -264,11 +254,7 @@ taken : (n : ℕ) (d : Declared) (l : ScriptLine) (o : OpenLines)
     → item_standing (number_of_line n l) (states (said_by l)) (within d o) ≡ and_then (script_step (number_of_line n l) (declared_keys d) (said_by l) o) (λ q. Ok (within d q))
 unfolding item_standing
 taken n d (send_at m c) o = refl
-taken n d (arm_on t) o = refl
-taken n d block_done o = refl
-taken n d (repeat_of count) o = refl
-taken n d break_out o = refl
-taken n d (stop_with word) o = refl
+taken n d _ o = refl
 
 step_then : (n : ℕ) (d : Declared) (r : Result OpenLines ReadError) (ls : List ScriptLine)
     → ((o : OpenLines) → all_said (script_said n ls) (within d o) ≡ and_then (all_stepped n (declared_keys d) ls o) (λ q. Ok (within d q)))

@@ -21,9 +21,9 @@ use Rattle.pr_roles.specs.declared.role.Action.{Action}
 use Rattle.pr_roles.specs.declared.role.Action.TheVariants as action
 use Rattle.pr_roles.specs.declared.role.Clause.{Clause}
 use Rattle.pr_roles.specs.Fitting.{are_distinct, are_reservations, is_reservation, is_action, is_role, is_alternative, is_start}
-use Rattle.pr_text.specs.ScriptLines.{ScriptLine, send_at, arm_on, block_done, repeat_of, break_out, stop_with}
+use Rattle.pr_text.specs.ScriptLines.{ScriptLine, send_at, arm_on}
 use Rattle.pr_text.specs.Standing.{awaits_arm}
-use Rattle.pr_text.specs.Declarations.{OpenBlock, repeating, sending, WrittenTask, scripted, planned, Declaration, outside, Declared}
+use Rattle.pr_text.specs.Declarations.{OpenBlock, sending, WrittenTask, scripted, planned, Declaration, outside, Declared}
 use Rattle.pr_lines.specs.ScenarioLines.{StartReservation, nobody, single, everybody}
 use Rattle.pr_lines.specs.Chain.{each}
 use Rattle.pr_text.specs.Declaring.{declared_keys, number_of, held_of}
@@ -58,10 +58,6 @@ module _ (keys : List ℕ) where
       both _ _ (written_key j parts.0) (both _ _ (written_key k rest.0) rest.1)
 
   written_more : (c : Command) → is_written [] c ≡ true → is_written keys c ≡ true
-  written_more command.TestUnitReady h = refl
-  written_more command.RequestSense h = refl
-  written_more (command.Read lba blocks) h = refl
-  written_more (command.Write lba blocks) h = refl
   written_more (command.ReadKeys alloc) h = h
   written_more (command.ReadReservation alloc) h = h
   written_more (command.ReportCapabilities alloc) h = h
@@ -72,22 +68,18 @@ module _ (keys : List ℕ) where
   written_more (command.Clear rk) h = written_key rk h
   written_more (command.Preempt rk sark kind) h = preempt_keys rk sark (is_some kind) h
   written_more (command.PreemptAbort rk sark kind) h = preempt_keys rk sark (is_some kind) h
+  written_more _ h = refl
 
   test_more : (c : Command) (t : Test) → test_fits [] c t ≡ true → test_fits keys c t ≡ true
-  test_more c test.Good h = refl
   test_more c (test.GoodHas key) h = absurd (false≢true (and_parts (is_read_keys c) _ h).1)
   test_more c (test.GoodHeld key) h = let parts = and_parts (is_read_reservation c) _ h in both _ _ parts.0 (written_key key parts.1)
   test_more c test.GoodUnheld h = h
-  test_more c test.Conflict h = refl
-  test_more c test.Busy h = refl
-  test_more c test.Full h = refl
-  test_more c test.Attention h = refl
   test_more c (test.Sense sense) h = h
+  test_more c _ h = refl
 
   arm_more : (t : Test) (bs : List OpenBlock) → may_arm [] t bs ≡ true → may_arm keys t bs ≡ true
-  arm_more t [] h = h
-  arm_more t (repeating ∷ bs) h = h
   arm_more t ((sending c arms) ∷ bs) h = let parts = and_parts (test_fits [] c t) _ h in both _ _ (test_more c t parts.0) parts.1
+  arm_more t _ h = h
 
   line_more : (s : Reached) (l : ScriptLine) → may [] s l ≡ true → may keys s l ≡ true
   line_more s (send_at n c) h =
@@ -95,10 +87,7 @@ module _ (keys : List ℕ) where
       let rest = and_parts (is_written [] c) _ parts.1 in
       both _ _ parts.0 (both _ _ (written_more c rest.0) rest.1)
   line_more s (arm_on t) h = arm_more t s.blocks h
-  line_more s block_done h = h
-  line_more s (repeat_of n) h = h
-  line_more s break_out h = h
-  line_more s (stop_with word) h = h
+  line_more s _ h = h
 
   lines_more : (s : Reached) (ls : List ScriptLine) → may_all [] s ls ≡ true → may_all keys s ls ≡ true
   lines_more s [] h = refl
@@ -111,13 +100,8 @@ module _ (keys : List ℕ) where
 
   action_more : (a : Action) → is_action [] a ≡ true → is_action keys a ≡ true
   action_more (action.Register key) h = cc
-  action_more action.Unregister h = refl
-  action_more (action.Reserve kind) h = refl
-  action_more action.Release h = refl
-  action_more action.Clear h = refl
   action_more (action.Preempt key kind) h = written_key key h
-  action_more action.Read h = refl
-  action_more action.Write h = refl
+  action_more _ h = refl
 
   alternative_more : (o : Option ℕ) → is_alternative [] o ≡ true → is_alternative keys o ≡ true
   alternative_more None h = refl
@@ -252,7 +236,7 @@ declarations_with keys (y ∷ xs) x all is = (all.0, declarations_with keys xs x
 abbrev new_nexus : ℕ → Bool → List ℕ → Declaration
 new_nexus n guest name = record { name = name; line = n; is_guest = guest; start = None; pending = None; busy = None; full = None; role = []; task = None }
 
-one_long : (xs : List Declaration) (x : Declaration) → length (xs ++ x ∷ []) ≡ length xs + 1
+pub one_long : (xs : List Declaration) (x : Declaration) → length (xs ++ x ∷ []) ≡ length xs + 1
 one_long xs x = omega (arith, length-append xs (x ∷ []))
 
 pub nexus_sound : (n : ℕ) (guest : Bool) (name : List ℕ) (d e : Declared) → d.place ≡ outside → is_name name ≡ true → IsSound n d → nexus_placed (n + 1) guest name d ≡ Ok e → IsSound (n + 1) e
@@ -290,14 +274,13 @@ helds_then : (xs : List Declaration) (w : StartReservation) (ws : List StartRese
     → ((vs : List (Option Held)) → p ≡ Some vs → (list_all (is_reservation (length xs)) vs ≡ true) × (length vs ≡ length ws))
     → option_and_then (λ v. option_map (λ vs. v ∷ vs) p) o ≡ Some us
     → (list_all (is_reservation (length xs)) us ≡ true) × (length us ≡ length (w ∷ ws))
-helds_then xs w ws us None p is s later e = cc
-helds_then xs w ws us (Some v) None is s later e = cc
 helds_then xs w ws us (Some v) (Some vs) is s later e =
     let same : v ∷ vs ≡ us = cc in
     let rest = later vs refl in (
       subst (λ ys. list_all (is_reservation (length xs)) ys ≡ true) same (both _ _ (held_sound xs w v s is) rest.0),
       subst (λ ys. length ys ≡ length (w ∷ ws)) same (omega (arith, rest.1)),
     )
+helds_then xs w ws us _ _ is s later e = cc
 
 helds_sound : (xs : List Declaration) (ws : List StartReservation) (us : List (Option Held)) → list_all is_wanted ws ≡ true
     → each (held_of xs) ws ≡ Some us → (list_all (is_reservation (length xs)) us ≡ true) × (length us ≡ length ws)

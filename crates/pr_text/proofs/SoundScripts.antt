@@ -14,7 +14,7 @@ use Rattle.pr_text.specs.declared.fault.ReadError.{ReadError}
 use Rattle.pr_lines.specs.declared.spelling.ParsedCommand.{ParsedCommand}
 use Rattle.pr_text.specs.Faults.{unless}
 use Rattle.pr_text.specs.ScriptLines.{ScriptLine, send_at, arm_on, block_done, repeat_of, break_out, stop_with}
-use Rattle.pr_text.specs.Declarations.{OpenBlock, repeating, sending, OpenLines}
+use Rattle.pr_text.specs.Declarations.{OpenBlock, sending, OpenLines}
 use Rattle.pr_lines.specs.ScenarioLines.{StatementLine, states, send_line, on_line, done_line, repeat_line, break_line, stop_line}
 use Rattle.pr_text.specs.Standing.{by_innermost, is_repeating, is_sending, awaits_arm, awaits_more, may_close}
 use Rattle.pr_text.specs.NextLine.{with_statement_line}
@@ -145,10 +145,8 @@ skips false e o h = (refl, h)
 -- what the line of a script or plan is not, where it has no fault
 pub faultless : (n : ℕ) (misplaced undeclared : Bool) (past : Option Which) → first_fault n misplaced false undeclared false past ≡ None
     → (misplaced ≡ false) × ((undeclared ≡ false) × (past ≡ None))
-faultless n true undeclared past h = cc
-faultless n false true past h = cc
 faultless n false false None h = (refl, (refl, refl))
-faultless n false false (Some w) h = cc
+faultless n _ _ _ h = cc
 
 send_sound : (keys : List ℕ) (n : ℕ) (s : ParsedCommand) (o p : OpenLines) → AreBegun keys n o → script_step (n + 1) keys (send_line s) o ≡ Ok p → AreBegun keys (n + 1) p
 unfolding script_step
@@ -232,14 +230,13 @@ arm_fault_under n keys t bs =
 
 on_blocks : (keys : List ℕ) (n : ℕ) (t : Test) (o p : OpenLines) (bs : List OpenBlock) → o.blocks ≡ bs → has_sense_digit t ≡ true → AreBegun keys n o
     → unless (arm_fault_under (n + 1) keys t bs) (armed o t bs) ≡ Ok p → AreBegun keys (n + 1) p
-on_blocks keys n t o p [] e sound h r = cc
-on_blocks keys n t o p (repeating ∷ bs) e sound h r = cc
 on_blocks keys n t o p ((sending c k) ∷ bs) e sound h r =
     let after : OpenLines = armed o t (sending c k ∷ bs) in
     let a = passes (arm_fault (n + 1) keys t c k) after p r in
     let stands : may keys (state_of o) (arm_on t) ≡ true = rw e (arm_true (n + 1) keys t c k sound a.0) in
     let steps : state_of after ≡ next (state_of o) (arm_on t) = rw e refl in
     subst (AreBegun keys (n + 1)) a.1 (plain_more keys n o after (arm_on t) h refl refl refl stands steps (omega arith) (true_le o.statements 512 h.short))
+on_blocks keys n t o p _ e sound h r = cc
 
 on_sound : (keys : List ℕ) (n : ℕ) (t : Test) (o p : OpenLines) → has_sense_digit t ≡ true → AreBegun keys n o → script_step (n + 1) keys (on_line t) o ≡ Ok p → AreBegun keys (n + 1) p
 unfolding script_step

@@ -8,7 +8,7 @@ use Rattle.pr_text.specs.declared.fault.ReadError.TheVariants.{NotAscii, LineToo
 use Rattle.pr_text.specs.declared.fault.ReadError.TheVariants as fault
 use Rattle.pr_text.specs.Faults.{and_then}
 use Rattle.pr_lines.specs.TextLines.{is_text, words}
-use Rattle.pr_text.specs.Declarations.{Place, before_all, outside, in_script, in_plan, Declared, nothing}
+use Rattle.pr_text.specs.Declarations.{Place, in_script, in_plan, Declared, nothing}
 use Rattle.pr_lines.specs.ScenarioLines.{ScenarioLine, item_of}
 use Rattle.pr_text.specs.Declaring.{declared_keys}
 use Rattle.pr_text.specs.NextLine.{item_placed}
@@ -27,10 +27,9 @@ Sound n d = IsSound n d × IsDated d
 -- ---- one line
 
 later_place : (keys : List ℕ) (n : ℕ) (p : Place) → IsPlace keys n p → IsPlace keys (n + 1) p
-later_place keys n before_all h = tt
-later_place keys n outside h = tt
 later_place keys n (in_script o) h = later_begun keys n o h
 later_place keys n (in_plan g commands) h = h
+later_place keys n _ h = tt
 
 later : (n : ℕ) (d : Declared) → IsSound n d → IsSound (n + 1) d
 later n d h = record {

@@ -50,11 +50,9 @@ record StandArms (keys : List ℕ) (fits : Bool) (n : ℕ) (bs : List OpenBlock)
 
 -- the first statement of a repeat
 begins : (keys : List ℕ) (b : Stmts) (bs : List OpenBlock) (rest : List ScriptLine) → May keys (repeating ∷ bs) false (body_lines b ++ block_done ∷ rest) → begins_body b ≡ true
-begins keys none bs rest h = h
 begins keys (more (sends n c a) ss) bs rest h = refl
 begins keys (more (repeats n b) ss) bs rest h = refl
-begins keys (more breaks ss) bs rest h = h
-begins keys (more (stops w) ss) bs rest h = h
+begins keys _ bs rest h = h
 
 mutual
   statement_stands : (keys : List ℕ) (x : Stmt) (bs : List OpenBlock) (begun : Bool) (rest : List ScriptLine) (r s : ℕ)
@@ -137,8 +135,7 @@ mutual
       omega (arith, arms_counted a, counted-cons (send_at n c) (arms_lines a ++ block_done ∷ []), counted-append (arms_lines a) (block_done ∷ []), counted-cons block_done [])
   statement_counted (repeats n b) =
       omega (arith, body_counted b, counted-cons (repeat_of n) (body_lines b ++ block_done ∷ []), counted-append (body_lines b) (block_done ∷ []), counted-cons block_done [])
-  statement_counted breaks = refl
-  statement_counted (stops w) = refl
+  statement_counted _ = refl
 
   body_counted : (b : Stmts) → counted (body_lines b) ≡ count_of_all b
   body_counted none = refl
@@ -164,8 +161,7 @@ mutual
   statement_sends : (x : Stmt) → sends_in (statement_lines x) ≡ lines_of x
   statement_sends (sends n c a) = ap (λ l. n ∷ l) (sends-append (arms_lines a) (block_done ∷ []) ∙ (append-nil (sends_in (arms_lines a)) ∙ arms_sends a))
   statement_sends (repeats n b) = sends-append (body_lines b) (block_done ∷ []) ∙ (append-nil (sends_in (body_lines b)) ∙ body_sends b)
-  statement_sends breaks = refl
-  statement_sends (stops w) = refl
+  statement_sends _ = refl
 
   body_sends : (b : Stmts) → sends_in (body_lines b) ≡ lines_of_all b
   body_sends none = refl

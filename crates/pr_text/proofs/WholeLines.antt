@@ -6,7 +6,7 @@ use Rattle.std.proofs.Common.{refl, sym, ap, ◌∙◌, arith, append_assoc, app
 use Rattle.std.proofs.lemmas.Bool.{and_parts}
 use Rattle.std.proofs.lemmas.Bool.Decides.{nat_tests}
 use Rattle.pr_registry.specs.declared.held.Held.{Held}
-use Rattle.pr_registry.specs.declared.held.Held.TheVariants.{One, All as Everybody}
+use Rattle.pr_registry.specs.declared.held.Held.TheVariants.{One}
 use Rattle.pr_registry.specs.Registrations.{is_all}
 use Rattle.pr_attention.specs.Attentions.{AreAttentions}
 use Rattle.pr_roles.specs.Scenarios.{Nexus, Task, Scripted, Planned}
@@ -25,8 +25,8 @@ use Rattle.pr_text.specs.ScriptRoundTrip.{line, all_said}
 use Rattle.pr_text.specs.ScenarioRoundTrip.{task_line, details_said, keys_said, resets_said, wanted_by, ScenariosHaveNoFault}
 use Rattle.pr_lines.proofs.Tests.{true_le, true_lt}
 use Rattle.pr_text.proofs.NamesApart.{names, is_taken, free_of, names_moved, itself, number_nowhere, number_there}
-use Rattle.pr_text.proofs.DetailLines.{said_on, said_first, pending_same, count_said, count_same, is_planned, placed, bare, full, is_nexus_of, details_go}
-use Rattle.pr_text.proofs.Dates.{has_first}
+use Rattle.pr_text.proofs.DetailLines.{one_longer, said_on, said_first, pending_same, count_said, count_same, is_planned, placed, bare, full, is_nexus_of, details_go}
+use Rattle.pr_text.proofs.Dates.{has_by, has_first}
 
 all_first : {A : Type 0} (P : A → Type 0) (x : A) (xs : List A) → All P (x ∷ xs) → P x
 all_first P x xs all = all 0 x (omega arith)
@@ -48,9 +48,6 @@ keys_same : (keys : List ℕ) → unwrap_or (keys_kept keys) [] ≡ keys
 keys_same [] = refl
 keys_same (k ∷ ks) = refl
 
-not_over : (n m : ℕ) → nat_le n m ≡ true → nat_lt m n ≡ false
-not_over n m h = grind (arith, nat_tests)
-
 keys_go : (n version : ℕ) (keys : List ℕ) → are_distinct (λ j k. j == k) keys ≡ true → nat_lt 12 (length keys) ≡ false
     → item_standing n (declares (keys_line keys)) (placed version None None None None [] outside) ≡ Ok (placed version (Some keys) None None None [] outside)
 unfolding item_standing keys_placed
@@ -60,7 +57,7 @@ keys_lines_go : (n version : ℕ) (keys : List ℕ) → is_version version ≡ t
 keys_lines_go n version [] dated h = refl
 keys_lines_go n version (k ∷ ks) dated h =
     let parts = and_parts (nat_le (length (k ∷ ks)) 12) _ h.once in
-    said_first n (declares (keys_line (k ∷ ks))) [] _ _ _ (has_first version dated) (keys_go n version (k ∷ ks) parts.1 (not_over (length (k ∷ ks)) 12 parts.0)) refl
+    said_first n (declares (keys_line (k ∷ ks))) [] _ _ _ (has_first version dated) (keys_go n version (k ∷ ks) parts.1 (has_by (length (k ∷ ks)) 12 parts.0)) refl
 
 generation_goes : (n version generation : ℕ) (keys : Option (List ℕ)) (xs : List Declaration)
     → item_standing n (declares (generation_line generation)) (placed version keys None None None xs outside) ≡ Ok (placed version keys None (Some generation) None xs outside)
@@ -107,9 +104,6 @@ nexus_goes n version keys before x free few =
 room : (k m most : ℕ) → k + suc m ≤ most → nat_le most k ≡ false
 room k m most h = grind (arith, nat_tests)
 
-room_left : {A : Type 0} (xs : List A) (x : A) (m most : ℕ) → length xs + suc m ≤ most → length (xs ++ x ∷ []) + m ≤ most
-room_left xs x m most h = omega (arith, length-append xs (x ∷ []))
-
 -- the names stay apart when one more of them is declared
 still_apart : (before : List Declaration) (d : Declaration) (rest : List (List ℕ)) → are_distinct bytes_eq (names before ++ d.name ∷ rest) ≡ true
     → are_distinct bytes_eq (names (before ++ d ∷ []) ++ rest) ≡ true
@@ -125,7 +119,7 @@ nexuses_go n version keys before [] dated apart few = ap (λ l. Ok (placed versi
 nexuses_go n version keys before (x ∷ ns) dated apart few =
     said_first n (task_line x.name x.task) (map (λ y. line n (task_line y.name y.task)) ns) _ _ _ (since_task version x.name x.task dated)
     (nexus_goes n version keys before x (free_of before x.name (named ns) apart) (room (length before) (length ns) (most_declared version) few))
-    (nexuses_go n version keys (before ++ bare n x ∷ []) ns dated (still_apart before (bare n x) (named ns) apart) (room_left before (bare n x) (length ns) (most_declared version) few)
+    (nexuses_go n version keys (before ++ bare n x ∷ []) ns dated (still_apart before (bare n x) (named ns) apart) (one_longer before (bare n x) (length ns) (most_declared version) few)
     ∙ ap (λ l. Ok (placed version keys None None None l outside)) (append_assoc before (bare n x ∷ []) (map (bare n) ns)))
 
 details_all : (n version : ℕ) (keys : Option (List ℕ)) (vs : Option (List (Option Held))) (g rs : Option ℕ) (before : List Declaration) (ns : List Nexus)
@@ -158,11 +152,10 @@ number_at n before (x ∷ ns) (suc h) apart below =
 
 held_goes : (n : ℕ) (ns : List Nexus) (v : Option Held) → are_distinct bytes_eq (named ns) ≡ true → is_reservation (length ns) v ≡ true
     → held_of (map (bare n) ns) (wanted_by ns v) ≡ Some v
-held_goes n ns None apart h = refl
 held_goes n ns (Some (One kind h)) apart fits =
     let below = true_lt h (length ns) (and_parts (not (is_all kind)) _ fits).1 in
     ap (λ o. option_map (λ m. Some (One kind m)) o) (number_at n [] ns h apart below) ∙ ap (λ m. Some (Some (One kind m))) (omega arith)
-held_goes n ns (Some (Everybody kind)) apart h = refl
+held_goes n ns _ apart h = refl
 
 helds_go : (n : ℕ) (ns : List Nexus) (vs : List (Option Held)) → are_distinct bytes_eq (named ns) ≡ true → list_all (is_reservation (length ns)) vs ≡ true
     → each (held_of (map (bare n) ns)) (map (wanted_by ns) vs) ≡ Some vs

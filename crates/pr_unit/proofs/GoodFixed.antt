@@ -8,7 +8,7 @@ use Rattle.pr_unit.specs.Attentions.{power_on, attention_sense}
 use Rattle.pr_unit.specs.UnitStates.{UnitState}
 use Rattle.pr_unit.specs.Replies.{is_good, good, check, report, is_request_sense}
 use Rattle.pr_unit.specs.declared.decision.Decision.{Decision}
-use Rattle.pr_unit.specs.declared.decision.Decision.TheVariants.{PowerOn, Conflicting, Attention, AtFault, Done}
+use Rattle.pr_unit.specs.declared.decision.Decision.TheVariants.{PowerOn, Attention, Done}
 use Rattle.pr_unit.specs.Steps.{StepBy, IsDone, Step, decision, ends_good}
 use Rattle.pr_unit.specs.Laws.{GoodIsFixed}
 
@@ -26,10 +26,9 @@ done u h (Faulty sense) r v step = absurd step
 
 by_decision : (l : Decision) (u : UnitState) (h : ℕ) (q : Request) (r : Reply) (v : UnitState) → StepBy l u h q r v → is_good r ≡ ends_good l q
 by_decision PowerOn u h q r v step = ap is_good step.0 ∙ good-report q power_on
-by_decision Conflicting u h q r v step = ap is_good step.0
 by_decision Attention u h q r v step = ap is_good step.reply ∙ good-report q step.code
-by_decision (AtFault sense) u h q r v step = ap is_good step.0
 by_decision Done u h q r v step = done u h q r v step
+by_decision _ u h q r v step = ap is_good step.0
 
 pub good_by_decision : (u : UnitState) (h : ℕ) (q : Request) (r : Reply) (v : UnitState) → Step u h q r v → is_good r ≡ ends_good (decision u h q) q
 good_by_decision u h q r v step = by_decision (decision u h q) u h q r v step

@@ -24,13 +24,12 @@ good_effect u h c r v step good looks = by_decision (decision u h (Plain c)) ref
     refused is = absurd (false≢true is)
 
     by_decision : (l : Decision) → decision u h (Plain c) ≡ l → StepBy l u h (Plain c) r v → ends_good l (Plain c) ≡ true → TakesEffect u h c r v
-    by_decision PowerOn is step ends = refused (sym looks ∙ ends)
     by_decision Conflicting is step ends = refused ends
-    by_decision Attention is step ends = refused (sym looks ∙ ends)
     by_decision (AtFault sense) is step ends = refused ends
     by_decision Done is step ends =
         let parts = done_is_free u h (Plain c) is in
         record { free = parts.0; whole = parts.1; reply = step.0; after = step.1 }
+    by_decision _ is step ends = refused (sym looks ∙ ends)
 
 pub free_is_done : (u : UnitState) (h : ℕ) (c : Command) → is_any_pending u h ≡ false → command_conflicts u.registry h c ≡ false → command_fault u.registry h c ≡ None → decision u h (Plain c) ≡ Done
 free_is_done u h c none free whole =

@@ -2,14 +2,14 @@
 use Rattle.std.proofs.Common.{◌≡◌, ℕ, Bool, true, false, if◌then◌else◌, refl}
 use Rattle.pr_cdb.specs.declared.reply.Reply.{Reply}
 use Rattle.pr_cdb.specs.declared.wire.Request.{Request}
-use Rattle.pr_cdb.specs.declared.wire.Request.TheVariants.{Plain, Faulty}
+use Rattle.pr_cdb.specs.declared.wire.Request.TheVariants.{Faulty}
 use Rattle.pr_cdb.specs.ReplyData.{sense_bytes}
 use Rattle.pr_cdb.specs.Statuses.{is_busy_status, is_full_status}
 use Rattle.pr_unit.specs.Attentions.{power_on, attention_sense}
 use Rattle.pr_unit.specs.UnitStates.{UnitState}
 use Rattle.pr_unit.specs.Replies.{good, check, report, is_request_sense}
 use Rattle.pr_unit.specs.declared.decision.Decision.{Decision}
-use Rattle.pr_unit.specs.declared.decision.Decision.TheVariants.{PowerOn, Conflicting, Attention, AtFault, Done}
+use Rattle.pr_unit.specs.declared.decision.Decision.TheVariants.{PowerOn, Attention, Done}
 use Rattle.pr_unit.specs.Steps.{StepBy, decision}
 use Rattle.pr_unit.specs.Laws.{StepsAreNeverBusy}
 
@@ -28,11 +28,9 @@ reported q code = at (is_request_sense q)
 
 by_decision : (l : Decision) (u : UnitState) (h : ℕ) (q : Request) (r : Reply) (v : UnitState) → StepBy l u h q r v → IsOwn r
 by_decision PowerOn u h q r v step = own_by r _ step.0 (reported q power_on)
-by_decision Conflicting u h q r v step = own_by r _ step.0 (refl, refl)
 by_decision Attention u h q r v step = own_by r _ step.reply (reported q step.code)
-by_decision (AtFault sense) u h q r v step = own_by r _ step.0 (refl, refl)
-by_decision Done u h (Plain c) r v step = own_by r _ step.0 (refl, refl)
 by_decision Done u h (Faulty sense) r v step = absurd step
+by_decision _ u h _ r v step = own_by r _ step.0 (refl, refl)
 
 pub steps_are_never_busy : StepsAreNeverBusy
 steps_are_never_busy u h q r v step = by_decision (decision u h q) u h q r v step

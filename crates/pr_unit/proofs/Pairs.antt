@@ -51,9 +51,8 @@ pair_tied p q =
     last Greater = refl
 
     at : (r s : Ordering) → is_eq (ordering_then r (ordering_then s Equal)) ≡ (is_eq r && is_eq s)
-    at Less s = refl
     at Equal s = last s
-    at Greater s = refl
+    at _ s = refl
 
 pub contains-none : (p : ℕ × ℕ) → set.contains (set.empty {R = pair_cmp}) p ≡ false
 contains-none p = set.contains-empty pair_cmp p
@@ -168,9 +167,8 @@ contains-table_pairs-set table h codes q x whole small =
     ∙ ap (λ b. if q == h then set.contains codes x else b) (sym (contains-table_pairs table q x))
   where
     swapped : (e l : Bool) → (e ≡ true → l ≡ true) → (l && set.contains (if e then codes else place table q) x) ≡ (if e then set.contains codes x else (l && set.contains (place table q) x))
-    swapped true true h = refl
     swapped true false h = absurd (false≢true (h refl))
-    swapped false l h = refl
+    swapped _ _ h = refl
 
 pub table_pairs-insert : (table : List Codes) (h : ℕ) (codes : Codes) (code : ℕ) → length table ≡ MOST_NEXUSES → h < MOST_NEXUSES → codes ≡ set.insert (place table h) code
     → table_pairs (slice_set table h codes) ≡ set.insert (table_pairs table) (h, code)

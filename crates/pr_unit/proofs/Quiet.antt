@@ -4,13 +4,13 @@ use Rattle.std.specs.FinSet as set
 use Rattle.std.proofs.lemmas.Bool.{false≢true, and_parts}
 use Rattle.std.proofs.lemmas.Bool.Decides.{nat_tests}
 use Rattle.pr_cdb.specs.declared.command.Command.{Command}
-use Rattle.pr_cdb.specs.declared.command.Command.TheVariants.{TestUnitReady, RequestSense, Read, Write, ReadKeys, ReadReservation, ReportCapabilities, Register, RegisterIgnore, Reserve, Release, Clear, Preempt, PreemptAbort}
+use Rattle.pr_cdb.specs.declared.command.Command.TheVariants.{Register, RegisterIgnore, Reserve, Release, Clear, Preempt, PreemptAbort}
 use Rattle.pr_cdb.specs.declared.wire.Request.{Request}
 use Rattle.pr_cdb.specs.declared.wire.Request.TheVariants.{Plain, Faulty}
 use Rattle.pr_registry.specs.Hosts.{nobody}
 use Rattle.pr_registry.specs.Changes.{no_change}
 use Rattle.pr_unit.specs.declared.decision.Decision.{Decision}
-use Rattle.pr_unit.specs.declared.decision.Decision.TheVariants.{PowerOn, Conflicting, Attention, AtFault, Done}
+use Rattle.pr_unit.specs.declared.decision.Decision.TheVariants.{PowerOn, Attention, Done}
 use Rattle.pr_unit.specs.Attentions.{Pairs, power_on, each_with, reservations_preempted, reservations_released, registrations_preempted}
 use Rattle.pr_unit.specs.UnitStates.{UnitState, effect, after_report, pending_after}
 use Rattle.pr_unit.specs.Replies.{is_good}
@@ -53,13 +53,6 @@ reported-quiet u h code = record {
 
 -- the effect of a command that only looks
 effect-looking : (u : UnitState) (h : ℕ) (c : Command) → IsTrue (request_looks (Plain c)) → effect u h c ≡ u
-effect-looking u h TestUnitReady looks = ap (λ (p : Pairs). record u { pending = p }) (told-no_change u.pending)
-effect-looking u h RequestSense looks = ap (λ (p : Pairs). record u { pending = p }) (told-no_change u.pending)
-effect-looking u h (Read lba blocks) looks = ap (λ (p : Pairs). record u { pending = p }) (told-no_change u.pending)
-effect-looking u h (Write lba blocks) looks = ap (λ (p : Pairs). record u { pending = p }) (told-no_change u.pending)
-effect-looking u h (ReadKeys alloc) looks = ap (λ (p : Pairs). record u { pending = p }) (told-no_change u.pending)
-effect-looking u h (ReadReservation alloc) looks = ap (λ (p : Pairs). record u { pending = p }) (told-no_change u.pending)
-effect-looking u h (ReportCapabilities alloc) looks = ap (λ (p : Pairs). record u { pending = p }) (told-no_change u.pending)
 effect-looking u h (Register rk sark) looks = absurd (false≢true looks)
 effect-looking u h (RegisterIgnore sark) looks = absurd (false≢true looks)
 effect-looking u h (Reserve rk kind) looks = absurd (false≢true looks)
@@ -67,6 +60,7 @@ effect-looking u h (Release rk kind) looks = absurd (false≢true looks)
 effect-looking u h (Clear rk) looks = absurd (false≢true looks)
 effect-looking u h (Preempt rk sark kind) looks = absurd (false≢true looks)
 effect-looking u h (PreemptAbort rk sark kind) looks = absurd (false≢true looks)
+effect-looking u h _ looks = ap (λ (p : Pairs). record u { pending = p }) (told-no_change u.pending)
 
 pub quiet_steps : QuietSteps
 quiet_steps u h q r v step why = by_decision (decision u h q) step
@@ -82,7 +76,6 @@ quiet_steps u h q r v step why = by_decision (decision u h q) step
 
     by_decision : (l : Decision) → StepBy l u h q r v → IsQuiet u h v
     by_decision PowerOn step = to (after_report u h power_on) step.1 (reported-quiet u h power_on)
-    by_decision Conflicting step = to u step.1 (same-quiet u h)
     by_decision Attention step = to (after_report u h step.code) step.after (reported-quiet u h step.code)
-    by_decision (AtFault sense) step = to u step.1 (same-quiet u h)
     by_decision Done step = looking q step why
+    by_decision _ step = to u step.1 (same-quiet u h)

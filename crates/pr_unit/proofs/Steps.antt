@@ -47,10 +47,9 @@ well_formed-step u h q r v w there fits step = by_decision (decision u h q) refl
 
     by_decision : (l : Decision) → decision u h q ≡ l → StepBy l u h q r v → IsWellFormed v
     by_decision PowerOn is step = subst IsWellFormed (sym step.1) (well_formed-reported u h power_on w)
-    by_decision Conflicting is step = subst IsWellFormed (sym step.1) w
     by_decision Attention is step = subst IsWellFormed (sym step.after) (well_formed-reported u h step.code w)
-    by_decision (AtFault sense) is step = subst IsWellFormed (sym step.1) w
     by_decision Done is step = by_request q fits is step
+    by_decision _ is step = subst IsWellFormed (sym step.1) w
 
 pub well_formed-followed : (u : UnitState) (h : ℕ) (q : Request) (r : Reply) (follows : Bool) (v : UnitState) → IsWellFormed u → h < u.registry.hosts → FitsWhereRead (Ok q)
     → IsFollowed u h q r follows v → IsWellFormed v
@@ -69,7 +68,6 @@ hosts-step u h q r v step = by_decision (decision u h q) step
 
     by_decision : (l : Decision) → StepBy l u h q r v → v.registry.hosts ≡ u.registry.hosts
     by_decision PowerOn step = same (after_report u h power_on) step.1
-    by_decision Conflicting step = same u step.1
     by_decision Attention step = same (after_report u h step.code) step.after
-    by_decision (AtFault sense) step = same u step.1
     by_decision Done step = by_request q step
+    by_decision _ step = same u step.1

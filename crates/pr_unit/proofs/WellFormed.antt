@@ -6,12 +6,12 @@ use Rattle.std.proofs.lemmas.Bool.Decides.{nat_tests}
 use Rattle.pr_cdb.specs.declared.codes.TheConstants.{MOST_NEXUSES}
 use Rattle.pr_cdb.specs.declared.command.Kind.{Kind}
 use Rattle.pr_cdb.specs.declared.command.Command.{Command}
-use Rattle.pr_cdb.specs.declared.command.Command.TheVariants.{TestUnitReady, RequestSense, Read, Write, ReadKeys, ReadReservation, ReportCapabilities, Register, RegisterIgnore, Reserve, Release, Clear, Preempt, PreemptAbort}
+use Rattle.pr_cdb.specs.declared.command.Command.TheVariants.{Register, RegisterIgnore, Reserve, Release, Clear, Preempt, PreemptAbort}
 use Rattle.pr_cdb.specs.Requests.{Fits}
 use Rattle.pr_registry.specs.declared.change.Change.{Change}
 use Rattle.pr_registry.specs.Hosts.{Hosts, is_key, has_no_registrant}
 use Rattle.pr_registry.specs.Registrations.{State, key_of, is_registered, IsKey, IsWellFormed as IsWellFormedRegistry}
-use Rattle.pr_registry.specs.Changes.{Case, ReplacesAll, ReplacesHolder, RemovesKey, conflicts_with_reserve, is_held_by_all, preempt_case, is_replacing, HasKindIfReplacing}
+use Rattle.pr_registry.specs.Changes.{Case, RemovesKey, conflicts_with_reserve, is_held_by_all, preempt_case, is_replacing, HasKindIfReplacing}
 use Rattle.pr_registry.specs.Effects.{after, after_register, change, with_registration, without_registration}
 use Rattle.pr_registry.proofs.States.{well_formed-registered, well_formed-unregistered, well_formed-reserved, well_formed-released, well_formed-cleared, well_formed-preempted}
 use Rattle.pr_registry.proofs.Told.{AreRegistered, tells_registrants}
@@ -43,9 +43,8 @@ has_kind u sark kind none = at (sark == 0 && not (is_held_by_all u.held)) kind (
         → HasKindIfReplacing kind case
     at true kind case is = let bad : Some (illegal 0x26 0x00) ≡ None = is in cc
     at false (Some t) case is = λ _. refl
-    at false None ReplacesAll is = let bad : Some (illegal 0x24 0x00) ≡ None = is in cc
-    at false None (ReplacesHolder s) is = let bad : Some (illegal 0x24 0x00) ≡ None = is in cc
     at false None RemovesKey is = λ replaces. absurd (false≢true replaces)
+    at false None _ is = let bad : Some (illegal 0x24 0x00) ≡ None = is in cc
 
 well_formed-after_register : (u : State) (h key : ℕ) → IsWellFormedRegistry u → h < u.hosts → key < 2 ^ 64 → IsWellFormedRegistry (after_register u h key)
 well_formed-after_register u h key w there fits = at (key == 0) (is_registered u h) refl
@@ -67,13 +66,7 @@ well_formed-after u h (Preempt rk sark kind) w there fits free whole =
     well_formed-preempted u h sark kind w (registered_by_key u h rk (first_false (lacks_key u h rk) (not (sark == 0) && has_no_registrant u.keys sark) free)) (has_kind u sark kind whole)
 well_formed-after u h (PreemptAbort rk sark kind) w there fits free whole =
     well_formed-preempted u h sark kind w (registered_by_key u h rk (first_false (lacks_key u h rk) (not (sark == 0) && has_no_registrant u.keys sark) free)) (has_kind u sark kind whole)
-well_formed-after u h TestUnitReady w there fits free whole = w
-well_formed-after u h RequestSense w there fits free whole = w
-well_formed-after u h (Read lba blocks) w there fits free whole = w
-well_formed-after u h (Write lba blocks) w there fits free whole = w
-well_formed-after u h (ReadKeys alloc) w there fits free whole = w
-well_formed-after u h (ReadReservation alloc) w there fits free whole = w
-well_formed-after u h (ReportCapabilities alloc) w there fits free whole = w
+well_formed-after u h _ w there fits free whole = w
 
 -- no command changes how many hosts there are
 hosts-after_register : (u : State) (h key : ℕ) → (after_register u h key).hosts ≡ u.hosts
@@ -87,18 +80,7 @@ hosts-after_register u h key = at (key == 0) (is_registered u h)
 pub hosts-after : (u : State) (h : ℕ) (c : Command) → (after u h c).hosts ≡ u.hosts
 hosts-after u h (Register rk sark) = hosts-after_register u h sark
 hosts-after u h (RegisterIgnore sark) = hosts-after_register u h sark
-hosts-after u h (Reserve rk kind) = refl
-hosts-after u h (Release rk kind) = refl
-hosts-after u h (Clear rk) = refl
-hosts-after u h (Preempt rk sark kind) = refl
-hosts-after u h (PreemptAbort rk sark kind) = refl
-hosts-after u h TestUnitReady = refl
-hosts-after u h RequestSense = refl
-hosts-after u h (Read lba blocks) = refl
-hosts-after u h (Write lba blocks) = refl
-hosts-after u h (ReadKeys alloc) = refl
-hosts-after u h (ReadReservation alloc) = refl
-hosts-after u h (ReportCapabilities alloc) = refl
+hosts-after u h _ = refl
 
 -- a registrant is a host that is there
 in_range : (u : State) (q : ℕ) → IsWellFormedRegistry u → is_registered u q ≡ true → q < u.hosts

@@ -11,7 +11,7 @@ use Rattle.pr_views.specs.Views.{View}
 use Rattle.pr_domain.specs.inside.Interfering.{Among}
 use Rattle.pr_verify.specs.declared.places.Spot.{Spot}
 use Rattle.pr_verify.specs.declared.refusal.Refusal.{Refusal}
-use Rattle.pr_verify.specs.declared.refusal.Refusal.TheVariants.{NoArm, OutOfRole, OverBudget, Memory, NotSound}
+use Rattle.pr_verify.specs.declared.refusal.Refusal.TheVariants.{NoArm, OutOfRole}
 use Rattle.pr_verify.specs.Places.{Place, places_of}
 use Rattle.pr_verify.specs.Outlines.{Outline, IsOfScenario, StartsAt, ComesTo, IsLeftAt, IsAsked, at_start, by_itself, by_others, IsListed, IsSound, IsFitting, KeepsToRole}
 use Rattle.pr_verify.specs.Refusals.{first_difference, DiffersAt, LacksFirst, BreaksRole, LacksArmFirst, FitsAt, IsUnfitAt, IsRefusal}
@@ -149,6 +149,4 @@ module _ (s : Scenario) (script : Stmts) (o : Outline) (spots : List Spot) (plac
       at : (r : Refusal) → refusal ≡ r → IsReason s o (place_of one.spot) r → IsRefusal s script budget o r
       at (NoArm host line class) is reason = (reason.0, unfit (λ p. KeepsToRole s o p × LacksArmFirst s o p class) line reason.1 (reason.2, reason.3))
       at (OutOfRole host line) is reason = (reason.0, unfit (BreaksRole s o) line reason.1 reason.2)
-      at (OverBudget host cost) is reason = absurd reason
-      at Memory is reason = absurd reason
-      at (NotSound host line) is reason = absurd reason
+      at _ is reason = absurd reason

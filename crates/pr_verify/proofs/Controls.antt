@@ -1,5 +1,5 @@
 -- What the nexuses do at the beginning, and after a command of one of them.
-use Rattle.std.proofs.Common.{◌≡◌, ◌≢◌, ℕ, zero, suc, List, [], ◌∷◌, Option, Some, None, refl, ap, ◌∙◌}
+use Rattle.std.proofs.Common.{◌≡◌, ◌≢◌, ℕ, zero, suc, List, ◌∷◌, Option, Some, None, refl, ap, ◌∙◌}
 use Rattle.std.specs.Prelude.{option_map, slice_set}
 use Rattle.std.specs.List.{slice_get}
 use Rattle.std.specs.Option.{option_map_or}
@@ -22,16 +22,13 @@ nobody_at_start s u h is = at (nexus s h) refl is
 -- ---- after a command
 
 at_itself : (cs : List Control) (h : ℕ) (x : Control) → slice_get (slice_set cs h x) h ≡ option_map (λ c. x) (slice_get cs h)
-at_itself [] h x = refl
-at_itself (c ∷ cs) zero x = refl
 at_itself (c ∷ cs) (suc h) x = at_itself cs h x
+at_itself _ _ x = refl
 
 at_another : (cs : List Control) (g h : ℕ) (x : Control) → h ≢ g → slice_get (slice_set cs g x) h ≡ slice_get cs h
-at_another [] g h x other = refl
 at_another (c ∷ cs) zero zero x other = absurd (other refl)
-at_another (c ∷ cs) zero (suc h) x other = refl
-at_another (c ∷ cs) (suc g) zero x other = refl
 at_another (c ∷ cs) (suc g) (suc h) x other = at_another cs g h x (λ same. other (ap suc same))
+at_another _ _ _ x other = refl
 
 pub control_other : (w : World) (g line : ℕ) (wire : Wire) (r : Reply) (u : UnitState) (h : ℕ) → h ≢ g → control (after w g line wire r u) h ≡ control w h
 control_other w g line wire r u h other = ap (λ o. option_map_or (λ c. c) o Free) (at_another w.controls g h (control_after line (control w g) r) other)

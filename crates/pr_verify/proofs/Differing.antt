@@ -72,13 +72,10 @@ module _ {A B : Type 0} (f : A → ℕ) (g : B → ℕ) where
 
   -- the first ends there
   pub second_longer : (n : ℕ) (xs : List A) (ys : List B) (e : B) → length xs ≡ n → n < length ys → Agree n xs ys → first_difference (map f xs) (map g ys) ≡ Some (g (slice_index_or ys n e))
-  second_longer zero [] [] e whole more agree = absurd (omega arith)
   second_longer zero [] (y ∷ ys) e whole more agree = refl
-  second_longer (suc n) [] ys e whole more agree = absurd (omega arith)
-  second_longer zero (x ∷ xs) ys e whole more agree = absurd (omega arith)
-  second_longer (suc n) (x ∷ xs) [] e whole more agree = absurd (omega arith)
   second_longer (suc n) (x ∷ xs) (y ∷ ys) e whole more agree =
       same_head x y xs ys (agree 0 x y (omega arith)) ∙ second_longer n xs ys e (omega arith) (omega arith) (rest_agrees n x y xs ys agree)
+  second_longer _ _ _ e whole more agree = absurd (omega arith)
 
   -- both do
   pub as_long : (n : ℕ) (xs : List A) (ys : List B) → length xs ≡ n → length ys ≡ n → Agree n xs ys → first_difference (map f xs) (map g ys) ≡ None

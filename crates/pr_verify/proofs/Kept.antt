@@ -53,9 +53,8 @@ pub record IsOnCourse (s : Scenario) (h : ℕ) (script : Stmts) (budget : ℕ) (
   pub spent : IsWithinCost (commands_by w.history h) rest (cost_of_all script)
 
 abbrev pub IsKeptBy : Option Task → Scenario → World → ℕ → Type 0
-IsKeptBy None s w h = control w h ≡ Free
 IsKeptBy (Some (Scripted script budget)) s w h = IsOnCourse s h script budget w
-IsKeptBy (Some (Planned commands)) s w h = control w h ≡ Free
+IsKeptBy _ s w h = control w h ≡ Free
 
 abbrev pub IsKept : Scenario → World → Type 0
 IsKept s w = (h : ℕ) → IsKeptBy (task s h) s w h
@@ -115,8 +114,6 @@ still_shown s h g script budget o line u v other there (inr done) shown =
     o.sound.shows line v (by_others (record { from = u; shown = shown; becomes = by_another g there (λ same. other (sym (same ∙ o.host))) done }))
 
 others_kept : (s : Scenario) (g : ℕ) (w v : World) (h : ℕ) → IsMove s g w v → h ≢ g → (t : Option Task) → IsKeptBy t s w h → IsKeptBy t s v h
-others_kept s g w v h m other None free = m.controls h other ∙ free
-others_kept s g w v h m other (Some (Planned commands)) free = m.controls h other ∙ free
 others_kept s g w v h m other (Some (Scripted script budget)) course = record {
   outlined = course.outlined;
   fields = course.fields;
@@ -127,6 +124,7 @@ others_kept s g w v h m other (Some (Scripted script budget)) course = record {
   shown = λ line there. still_shown s h g script budget course.outlined line w.unit v.unit other m.there m.unit (course.shown line there);
   spent = subst (λ n. IsWithinCost n course.rest (cost_of_all script)) (sym (m.sent h other)) course.spent;
 }
+others_kept s g w v h m other _ free = m.controls h other ∙ free
 
 all_kept : (s : Scenario) (g : ℕ) (w v : World) → IsMove s g w v → IsKept s w → IsKeptBy (task s g) s v g → IsKept s v
 all_kept s g w v m kept own h = at (eqb_tells h g)
@@ -143,8 +141,7 @@ some_left n m less = grind (arith, nat_tests)
 -- what may come is declared
 may_be : (s : Scenario) (es : List Item) (h : ℕ) (k : How) → IsTrue (may_come s es h k) → IsTrue (is_among (refusals_of s h) k)
 may_be s es h how.Plain room = refl
-may_be s es h how.Busy room = some_left (refusals_by es h how.Busy) (most_refusals s h how.Busy) room
-may_be s es h how.Full room = some_left (refusals_by es h how.Full) (most_refusals s h how.Full) room
+may_be s es h k room = some_left (refusals_by es h k) (most_refusals s h k) room
 
 -- the command of the host at this place, sent from a state that its outline shows there
 record IsOwnStep (s : Scenario) (h : ℕ) (script : Stmts) (budget : ℕ) (o : HasOutline s h script budget) (p : Place) (u : UnitState) (r : Reply) (v : UnitState) : Type 0 where
@@ -185,8 +182,7 @@ permitted_here s h script budget o p u c r v own is good = at own.how own.answer
     at how.Plain step =
         subst (λ d. IsTrue (command_permitted (role s h) u.registry h d)) is
         (subst (λ g. IsTrue (command_permitted (role s g) u.registry g p.command)) o.host (o.fitting.role p own.listed u r v own.shown step good))
-    at how.Busy refused = absurd (false≢true (ap is_good (sym refused.0) ∙ good))
-    at how.Full refused = absurd (false≢true (ap is_good (sym refused.0) ∙ good))
+    at _ refused = absurd (false≢true (ap is_good (sym refused.0) ∙ good))
 
 own_kept : (s : Scenario) (h : ℕ) (script : Stmts) (budget : ℕ) (w : World) (x : IsOnCourse s h script budget w) (n : ℕ) (c : Command) (wire : Wire) (r : Reply) (u : UnitState)
     (at : IsReadyAt (places_of script) x.lines x.rest n c) → IsOwnStep s h script budget x.outlined at.place w.unit r u → IsOnCourse s h script budget (after w h n wire r u)
@@ -221,8 +217,6 @@ host_kept s w h k v happens kept = at (task s h) refl (kept h)
     idle free = absurd (none-some (ready happens.line happens.command) (ap standing_of (sym free) ∙ happens.ready))
 
     at : (t : Option Task) → task s h ≡ t → IsKeptBy t s w h → IsTurned s w (Host h k) v happens
-    at None is free = idle free
-    at (Some (Planned commands)) is free = idle free
     at (Some (Scripted script budget)) is x =
         let c = happens.command in
         let r = happens.reply in
@@ -236,6 +230,7 @@ host_kept s w h k v happens kept = at (task s h) refl (kept h)
         let left = after w h happens.line (spelling c) r u in
         let mine = subst (λ t. IsKeptBy t s left h) (sym is) course in
         (permitted, subst (IsKept s) (sym happens.world) (all_kept s h w left moves kept mine))
+    at _ is free = idle free
 
 -- ---- a guest's event
 
@@ -243,8 +238,6 @@ guest_kept : (s : Scenario) (w : World) (g : ℕ) (wire : Wire) (k : How) (v : W
 guest_kept s w g wire k v happens kept = at (task s g) refl happens.guest (kept g)
   where
     at : (t : Option Task) → task s g ≡ t → IsTrue (is_guest_task t) → IsKeptBy t s w g → IsKept s v
-    at None is guest free = absurd (false≢true guest)
-    at (Some (Scripted script budget)) is guest course = absurd (false≢true guest)
     at (Some (Planned commands)) is guest free =
         let q = happens.request in
         let r = happens.reply in
@@ -254,13 +247,12 @@ guest_kept s w g wire k v happens kept = at (task s g) refl happens.guest (kept 
         let left = after w g 0 wire r u in
         let mine = subst (λ t. IsKeptBy t s left g) (sym is) (control_free w g 0 wire r u free) in
         subst (IsKept s) (sym happens.world) (all_kept s g w left moves kept mine)
+    at _ is guest _ = absurd (false≢true guest)
 
 -- ---- a reset
 
 -- it leaves each script where it is, and its outline shows the unit still
 reset_keeps : (s : Scenario) (w : World) (h : ℕ) → IsTrue (declares_resets s) → (t : Option Task) → IsKeptBy t s w h → IsKeptBy t s (after_reset w) h
-reset_keeps s w h declared None free = free
-reset_keeps s w h declared (Some (Planned commands)) free = free
 reset_keeps s w h declared (Some (Scripted script budget)) course = record {
   outlined = course.outlined;
   fields = course.fields;
@@ -272,6 +264,7 @@ reset_keeps s w h declared (Some (Scripted script budget)) course = record {
       course.outlined.sound.shows line (reset w.unit) (by_others (record { from = w.unit; shown = course.shown line there; becomes = by_reset declared refl }));
   spent = subst (λ n. IsWithinCost n course.rest (cost_of_all script)) (sym (sent_reset w.history h)) course.spent;
 }
+reset_keeps s w h declared _ free = free
 
 reset_kept : (s : Scenario) (w v : World) → IsReset s w v → IsKept s w → IsKept s v
 reset_kept s w v happens kept =

@@ -48,10 +48,9 @@ GoesOn all (stops w) now left broken = Unit {0}
 
 -- the same of what is still to do; a break leaves all up to the first mark, and the repeat after it
 abbrev pub Goes : List Place → Configuration → List ℕ → List ℕ → Type 0
-Goes all [] now broken = Unit {0}
 Goes all ((statement s) ∷ l) now broken = (left : List ℕ) × GoesOn all s now left broken × Goes all l left broken
-Goes all (mark ∷ []) now broken = Unit {0}
 Goes all (mark ∷ (i ∷ l)) now broken = (out : List ℕ) × Goes all (i ∷ l) now out × Goes all l broken out
+Goes all _ now broken = Unit {0}
 
 abbrev pub Leads : List Place → List ℕ → Configuration → Type 0
 Leads all now l = (broken : List ℕ) × Goes all l now broken
@@ -61,15 +60,11 @@ Leads all now l = (broken : List ℕ) × Goes all l now broken
 -- of a repeat that is run once, and of one that is run again
 enters_once : (h : Head) (left broken : List ℕ) → IsWithin (lines_of h left left) (lines_of (out_of h) left broken)
 enters_once (Line n) left broken m there = there
-enters_once Falls left broken m there = there
-enters_once Breaks left broken m there = there
-enters_once Stops left broken m there = there
+enters_once _ left broken m there = there
 
 enters : (h : Head) (left broken : List ℕ) → IsWithin (lines_of h (lines_of h left left ++ left) left) (lines_of (out_of h) left broken)
-enters (Line n) left broken m there = there
 enters Falls left broken m there = twice_within left m there
-enters Breaks left broken m there = there
-enters Stops left broken m there = there
+enters _ left broken m there = there
 
 enters_again : (h : Head) (left : List ℕ) → IsWithin (lines_of h (lines_of h left left ++ left) left) (lines_of h left left ++ left)
 enters_again (Line n) left m there = Contains-append_left (n ∷ []) left m there
@@ -79,7 +74,6 @@ enters_again Stops left m there = none_within left m there
 
 goes_on : (all : List Place) (s : Stmt) (left broken : List ℕ) → IsWithin (places_in s left broken) all → GoesOn all s (lines_of (head_of s) left broken) left broken
 goes_on all (sends n c a) left broken placed = (contains_first n [], placed)
-goes_on all (repeats zero b) left broken placed = λ m there. there
 goes_on all (repeats (suc zero) b) left broken placed = record {
   inner = left;
   first = enters_once (head_of_all b) left broken;
@@ -94,14 +88,12 @@ goes_on all (repeats (suc (suc k)) b) left broken placed = record {
   again = λ more. enters_again (head_of_all b) left;
   placed = placed;
 }
-goes_on all breaks left broken placed = λ m there. there
 goes_on all (stops w) left broken placed = tt
+goes_on all _ left broken placed = λ m there. there
 
 lines_then : (h g : Head) (after broken : List ℕ) → lines_of (then_head h g) after broken ≡ lines_of h (lines_of g after broken) broken
 lines_then (Line n) g after broken = refl
-lines_then Falls g after broken = refl
-lines_then Breaks g after broken = refl
-lines_then Stops g after broken = refl
+lines_then _ g after broken = refl
 
 -- statements before what goes on from the lines after them
 pub goes_before : (all : List Place) (b : Stmts) (l : Configuration) (after broken : List ℕ) → IsWithin (places b after broken) all → Goes all l after broken
@@ -119,7 +111,6 @@ goes_before all (more s rest) l after broken placed goes =
 
 wider_on : (all : List Place) (s : Stmt) (now wide left broken : List ℕ) → IsWithin now wide → GoesOn all s now left broken → GoesOn all s wide left broken
 wider_on all (sends n c a) now wide left broken within goes = (within n goes.0, goes.1)
-wider_on all (repeats zero b) now wide left broken within goes = λ m there. within m (goes m there)
 wider_on all (repeats (suc k) b) now wide left broken within goes = record {
   inner = goes.inner;
   first = λ m there. within m (goes.first m there);
@@ -127,23 +118,21 @@ wider_on all (repeats (suc k) b) now wide left broken within goes = record {
   again = goes.again;
   placed = goes.placed;
 }
-wider_on all breaks now wide left broken within goes = λ m there. within m (goes m there)
 wider_on all (stops w) now wide left broken within goes = tt
+wider_on all _ now wide left broken within goes = λ m there. within m (goes m there)
 
 wider : (all : List Place) (l : Configuration) (now wide broken : List ℕ) → IsWithin now wide → Goes all l now broken → Goes all l wide broken
-wider all [] now wide broken within goes = tt
 wider all ((statement s) ∷ l) now wide broken within goes = (goes.0, wider_on all s now wide goes.0 broken within goes.1, goes.2)
-wider all (mark ∷ []) now wide broken within goes = tt
 wider all (mark ∷ (i ∷ l)) now wide broken within goes = (goes.0, wider all (i ∷ l) now wide goes.0 within goes.1, goes.2)
+wider all _ now wide broken within goes = tt
 
 -- ---- each unfolding keeps the lines
 
 -- a break leads to the lines after the repeat that it leaves
 goes_past : (all : List Place) (l : Configuration) (now broken : List ℕ) → Goes all l now broken → Leads all broken (past_mark l)
-goes_past all [] now broken goes = ([], tt)
 goes_past all ((statement s) ∷ l) now broken goes = goes_past all l goes.0 broken goes.2
-goes_past all (mark ∷ []) now broken goes = ([], tt)
 goes_past all (mark ∷ (i ∷ l)) now broken goes = (goes.0, goes.2)
+goes_past all _ now broken goes = ([], tt)
 
 -- at the end of a turn comes the repeat with one turn less
 goes_again : (all : List Place) (k : ℕ) (b : Stmts) (now left broken : List ℕ) (t : Turns all k b now left) → GoesOn all (repeats k b) t.inner left broken
@@ -163,16 +152,14 @@ leads_turn all k b l now left broken t rest =
     (left, wider all (before b (mark ∷ statement (repeats k b) ∷ l)) (first_of b t.inner left) now left t.first (goes_before all b (mark ∷ statement (repeats k b) ∷ l) t.inner left t.placed turn))
 
 leads_becomes : (all : List Place) (now : List ℕ) (l : Configuration) → Leads all now l → Leads all now (becomes l)
-leads_becomes all now [] leads = leads
 leads_becomes all now (mark ∷ []) leads = ([], tt)
 leads_becomes all now (mark ∷ (i ∷ l)) leads = (leads.1.0, leads.1.1)
-leads_becomes all now ((statement (sends n c a)) ∷ l) leads = leads
 leads_becomes all now ((statement (repeats zero b)) ∷ l) leads = (leads.0, wider all l leads.1.0 now leads.0 leads.1.1 leads.1.2)
 leads_becomes all now ((statement (repeats (suc k) b)) ∷ l) leads = leads_turn all k b l now leads.1.0 leads.0 leads.1.1 leads.1.2
 leads_becomes all now ((statement breaks) ∷ l) leads =
     let past = goes_past all l leads.1.0 leads.0 leads.1.2 in
     (past.0, wider all (past_mark l) leads.0 now past.0 leads.1.1 past.1)
-leads_becomes all now ((statement (stops w)) ∷ l) leads = leads
+leads_becomes all now _ leads = leads
 
 pub leads_settled : (all : List Place) (now : List ℕ) (l : Configuration) → Leads all now l → Leads all now (settled_form l)
 leads_settled all now l leads = kept (Leads all now) (leads_becomes all now) l leads

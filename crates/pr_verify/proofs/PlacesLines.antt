@@ -5,7 +5,7 @@ use Rattle.std.proofs.Common.{refl, sym, ap, subst, ◌∙◌, inl, inr, arith}
 use Rattle.std.proofs.lemmas.Bool.{and_parts, ltb-true}
 use Rattle.std.proofs.lemmas.List.{map-append}
 use Rattle.std.proofs.lemmas.List.Elements.{Contains-append_cases, Contains-append_left, Contains-append_right}
-use Rattle.pr_script.specs.Scripts.{Stmt, Stmts, Arms, sends, repeats, breaks, stops, none, more, no_arm, arm}
+use Rattle.pr_script.specs.Scripts.{Stmt, Stmts, Arms, sends, repeats, none, more, no_arm, arm}
 use Rattle.pr_script.specs.Grammar as grammar
 use Rattle.pr_script.specs.Grammar.{lines_of_all, lines_of_arms, rise_above, statements_fit, count_of_all, script_fits}
 use Rattle.pr_verify.specs.declared.head.Head.{Head}
@@ -23,8 +23,7 @@ mutual
   lines_in : (s : Stmt) (after broken : List ℕ) → map line_of (places_in s after broken) ≡ grammar.lines_of s
   lines_in (sends n c a) after broken = ap (λ ls. n ∷ ls) (lines_in_arms a after broken)
   lines_in (repeats n b) after broken = lines_among b (round n b after) after
-  lines_in breaks after broken = refl
-  lines_in (stops w) after broken = refl
+  lines_in _ after broken = refl
 
   lines_among : (b : Stmts) (after broken : List ℕ) → map line_of (places b after broken) ≡ lines_of_all b
   lines_among none after broken = refl
@@ -60,26 +59,21 @@ above_all m (n ∷ ns) (suc k) d rise small =
 
 -- so a later one is greater
 pub later_line : (m : ℕ) (ls : List ℕ) (j k d e : ℕ) → rise_above m ls ≡ true → j < k → k < length ls → slice_index_or ls j d < slice_index_or ls k e
-later_line m [] j k d e rise before small = absurd (omega arith)
-later_line m (n ∷ ns) zero zero d e rise before small = absurd (omega arith)
 later_line m (n ∷ ns) zero (suc k) d e rise before small = above_all n ns k e (and_parts (nat_lt m n) (rise_above n ns) rise).1 (omega arith)
-later_line m (n ∷ ns) (suc j) zero d e rise before small = absurd (omega arith)
 later_line m (n ∷ ns) (suc j) (suc k) d e rise before small =
     later_line n ns j k d e (and_parts (nat_lt m n) (rise_above n ns) rise).1 (omega arith) (omega arith)
+later_line m _ _ _ d e rise before small = absurd (omega arith)
 
 -- ---- the first line is one of them
 
 line_before : (h k : Head) (n : ℕ) → then_head h k ≡ Line n → (h ≡ Line n) ⊎ (k ≡ Line n)
 line_before (Line m) k n is = inl is
 line_before Falls k n is = inr is
-line_before Breaks k n is = cc
-line_before Stops k n is = cc
+line_before _ k n is = cc
 
 line_inside : (h : Head) (n : ℕ) → out_of h ≡ Line n → h ≡ Line n
 line_inside (Line m) n is = is
-line_inside Falls n is = cc
-line_inside Breaks n is = cc
-line_inside Stops n is = cc
+line_inside _ n is = cc
 
 same_line : (m n : ℕ) → Line m ≡ Line n → m ≡ n
 same_line m n is = cc
@@ -90,10 +84,8 @@ at_first n ls m is = (0, omega arith, is)
 mutual
   head_in_statement : (s : Stmt) (n : ℕ) → head_of s ≡ Line n → Contains (grammar.lines_of s) n
   head_in_statement (sends m c a) n is = at_first m (lines_of_arms a) n (same_line m n is)
-  head_in_statement (repeats zero b) n is = cc
   head_in_statement (repeats (suc k) b) n is = head_in_statements b n (line_inside (head_of_all b) n is)
-  head_in_statement breaks n is = cc
-  head_in_statement (stops w) n is = cc
+  head_in_statement _ n is = cc
 
   head_in_statements : (b : Stmts) (n : ℕ) → head_of_all b ≡ Line n → Contains (lines_of_all b) n
   head_in_statements none n is = cc
@@ -122,9 +114,8 @@ both_among : (ls ms all : List ℕ) → AreAmong ls all → AreAmong ms all → 
 both_among ls ms all one two n there = elim (Contains-append_cases ls ms n there) [ inl here ↦ one n here | inr later ↦ two n later ]
 
 round_among : (k : ℕ) (b : Stmts) (past all : List ℕ) → AreAmong (lines_of_all b) all → AreAmong past all → AreAmong (round k b past) all
-round_among zero b past all mine out = out
-round_among (suc zero) b past all mine out = out
 round_among (suc (suc k)) b past all mine out = both_among (first_of b past past) past all (first_among b past past all mine out out) out
+round_among _ b past all mine out = out
 
 next_among : (a : Arms) (after broken all : List ℕ) → AreAmong (lines_of_arms a) all → AreAmong after all → AreAmong broken all
     → (ls : List ℕ) → Contains (next_of a after broken) ls → AreAmong ls all
@@ -151,8 +142,7 @@ mutual
       ]
   from_statement (repeats k b) after broken all mine then_these or_those p there =
       from_statements b (round k b after) after all mine (round_among k b after all mine then_these) then_these p there
-  from_statement breaks after broken all mine then_these or_those p there = nothing_in p there
-  from_statement (stops w) after broken all mine then_these or_those p there = nothing_in p there
+  from_statement _ after broken all mine then_these or_those p there = nothing_in p there
 
   from_statements : (b : Stmts) (after broken all : List ℕ) → AreAmong (lines_of_all b) all → AreAmong after all → AreAmong broken all
       → (p : Place) → Contains (places b after broken) p → LeadsTo all p

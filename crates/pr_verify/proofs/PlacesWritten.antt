@@ -5,7 +5,7 @@ use Rattle.std.proofs.Common.{refl, subst, inl, inr, arith}
 use Rattle.std.proofs.lemmas.Bool.{and_parts, leb-true}
 use Rattle.std.proofs.lemmas.List.Elements.{All-nil, All-cons, Contains-append_cases}
 use Rattle.pr_cdb.specs.declared.command.Command.{Command}
-use Rattle.pr_script.specs.Scripts.{Stmt, Stmts, Arms, sends, repeats, breaks, stops, none, more, no_arm, arm}
+use Rattle.pr_script.specs.Scripts.{Stmt, Stmts, Arms, sends, repeats, none, more, no_arm, arm}
 use Rattle.pr_script.specs.Grammar.{test_fits, statement_fits, statements_fit, arms_fit, is_written, is_send_written, is_repeat_written, count_of_arms, script_fits}
 use Rattle.pr_verify.specs.Places.{Place, place, places, places_in, places_of_arms, places_of, first_of, round, tests_of, next_of}
 use Rattle.pr_verify.specs.inside.Listing.{IsPlaceWritten}
@@ -64,8 +64,7 @@ mutual
   in_statement keys r s (repeats n b) after broken fits p there =
       let parts = and_parts (is_repeat_written n b) (nat_lt r 8 && statements_fit keys (r + 1) s b) fits in
       in_statements keys (r + 1) s b (round n b after) after (and_parts (nat_lt r 8) (statements_fit keys (r + 1) s b) parts.1).1 p there
-  in_statement keys r s breaks after broken fits p there = nothing_in p there
-  in_statement keys r s (stops w) after broken fits p there = nothing_in p there
+  in_statement keys r s _ after broken fits p there = nothing_in p there
 
   in_statements : (keys : List ℕ) (r s : ℕ) (b : Stmts) (after broken : List ℕ) → statements_fit keys r s b ≡ true
       → (p : Place) → Contains (places b after broken) p → IsPlaceWritten keys p

@@ -62,8 +62,7 @@ reasons_are_final s h script budget (OutOfRole host line) reason one =
 reasons_are_final s h script budget (NoArm host line class) reason one =
     let unfit = reason.shown.1 in
     arm_lacking s h script budget reason.outline unfit.place class reason.host reason.least unfit.listed unfit.unfit.1.lacks one
-reasons_are_final s h script budget Memory reason one = reason
-reasons_are_final s h script budget (NotSound host line) reason one = reason
+reasons_are_final s h script budget _ reason one = reason
 
 -- ---- of a scenario
 
@@ -75,11 +74,9 @@ first_is_final s refusal first have =
 
 -- a refused scenario has no outlines that are sound and fit
 pub none_fit : (s : Scenario) (refusal : Refusal) → IsVerdict s refusal → refusal ≢ Memory → HaveOutlines s → ⊥
-none_fit s (NoArm host line class) first real have = first_is_final s (NoArm host line class) first have
-none_fit s (OutOfRole host line) first real have = first_is_final s (OutOfRole host line) first have
-none_fit s (OverBudget host cost) first real have = first_is_final s (OverBudget host cost) first have
 none_fit s Memory first real have = real refl
 none_fit s (NotSound host line) first real have = first
+none_fit s refusal first real have = first_is_final s refusal first have
 
 -- the first of the hosts with a reason
 pub is_verdict : (s : Scenario) (h : ℕ) (refusal : Refusal) → (refusal ≢ Memory → HasReason s h refusal) → ((g : ℕ) → g < h → OnScripted (task s g) (HasOutline s g)) → IsVerdict s refusal
@@ -106,8 +103,7 @@ module _ (s : Scenario) (h : ℕ) (script : Stmts) (budget : ℕ) (is : task s h
   never_unsound line (inr first) = first.lacks.missing (least.sound.shows line first.lacks.unit first.lacks.asked)
 
   pub has_reason : (refusal : Refusal) → IsRefusal s script budget o refusal → refusal ≢ Memory → HasReason s h refusal
-  has_reason (NoArm g line class) refused real = record { script = script; budget = budget; is = is; reason = record { outline = o; host = host; least = least; shown = refused } }
-  has_reason (OutOfRole g line) refused real = record { script = script; budget = budget; is = is; reason = record { outline = o; host = host; least = least; shown = refused } }
   has_reason (OverBudget g cost) refused real = record { script = script; budget = budget; is = is; reason = (refused.0 ∙ host, refused.1, refused.2) }
   has_reason Memory refused real = absurd (real refl)
   has_reason (NotSound g line) refused real = absurd (never_unsound line refused.2)
+  has_reason _ refused real = record { script = script; budget = budget; is = is; reason = record { outline = o; host = host; least = least; shown = refused } }

@@ -1,6 +1,6 @@
 -- Outlines make a scenario safe.
-use Rattle.std.proofs.Common.{◌≡◌, ℕ, [], Option, Some, None, false, ap, arith}
-use Rattle.pr_roles.specs.Scenarios.{Scenario, Task, Scripted, Planned, task}
+use Rattle.std.proofs.Common.{◌≡◌, ℕ, [], Option, Some, false, ap, arith}
+use Rattle.pr_roles.specs.Scenarios.{Scenario, Task, Scripted, task}
 use Rattle.pr_roles.specs.Worlds.{World, control, is_trapped, world_from}
 use Rattle.pr_roles.specs.Safety.{IsSafe, KeepsBudgetBy}
 use Rattle.pr_verify.specs.Laws.{OutlinesMakeSafe}
@@ -8,12 +8,11 @@ use Rattle.pr_verify.proofs.Kept.{IsKeptBy, kept_at_start, run_kept}
 
 -- a script on its course isn't trapped, and is within its budget
 on_course_is_fine : (s : Scenario) (w : World) (h : ℕ) (t : Option Task) → IsKeptBy t s w h → (is_trapped (control w h) ≡ false) × KeepsBudgetBy t w h
-on_course_is_fine s w h None free = (ap is_trapped free, tt)
 on_course_is_fine s w h (Some (Scripted script budget)) x =
     let within = x.spent [] in
     let cost = x.outlined.fitting.cost in
     (ap is_trapped x.going, omega arith)
-on_course_is_fine s w h (Some (Planned commands)) free = (ap is_trapped free, tt)
+on_course_is_fine s w h _ free = (ap is_trapped free, tt)
 
 pub outlines_make_safe : OutlinesMakeSafe
 unfolding IsSafe

@@ -11,7 +11,7 @@ use Rattle.pr_script.specs.declared.script.Test.TheVariants as test
 use Rattle.pr_script.specs.Takes.{matches}
 use Rattle.pr_script.specs.Scripts.{Stmts}
 use Rattle.pr_roles.specs.DeclaredRefusals.{refusals_of}
-use Rattle.pr_roles.specs.Scenarios.{Scenario, Task, Scripted, Planned, role, task}
+use Rattle.pr_roles.specs.Scenarios.{Scenario, Task, Scripted, role, task}
 use Rattle.pr_sets.specs.Numbers.{Numbers}
 use Rattle.pr_sets.specs.declared.word_set.WordSet.{WordSet}
 use Rattle.pr_views.specs.declared.view.ViewOf.{ViewOf}
@@ -123,34 +123,15 @@ in_range_more xs n x small read here before class one = at (among_back (λ o. o.
 -- a class is known by its number
 pub class_alone : (a b : Class) → IsInRange a → IsInRange b → class_number a ≡ class_number b → a ≡ b
 class_alone Good Good one two same = refl
-class_alone Good Conflict one two same = absurd (omega arith)
-class_alone Good Busy one two same = absurd (omega arith)
-class_alone Good Full one two same = absurd (omega arith)
-class_alone Good (Sense t) one two same = absurd (omega arith)
-class_alone Conflict Good one two same = absurd (omega arith)
 class_alone Conflict Conflict one two same = refl
-class_alone Conflict Busy one two same = absurd (omega arith)
-class_alone Conflict Full one two same = absurd (omega arith)
-class_alone Conflict (Sense t) one two same = absurd (omega arith)
-class_alone Busy Good one two same = absurd (omega arith)
-class_alone Busy Conflict one two same = absurd (omega arith)
 class_alone Busy Busy one two same = refl
-class_alone Busy Full one two same = absurd (omega arith)
-class_alone Busy (Sense t) one two same = absurd (omega arith)
-class_alone Full Good one two same = absurd (omega arith)
-class_alone Full Conflict one two same = absurd (omega arith)
-class_alone Full Busy one two same = absurd (omega arith)
 class_alone Full Full one two same = refl
-class_alone Full (Sense t) one two same = absurd (omega arith)
-class_alone (Sense s) Good one two same = absurd (omega arith)
-class_alone (Sense s) Conflict one two same = absurd (omega arith)
-class_alone (Sense s) Busy one two same = absurd (omega arith)
-class_alone (Sense s) Full one two same = absurd (omega arith)
 class_alone (Sense s) (Sense t) one two same =
     let key : s.key ≡ t.key = omega (arith, one.0, one.1, one.2, two.0, two.1, two.2) in
     let asc : s.asc ≡ t.asc = omega (arith, one.0, one.1, one.2, two.0, two.1, two.2) in
     let ascq : s.ascq ≡ t.ascq = omega (arith, one.0, one.1, one.2, two.0, two.1, two.2) in
     λ i. Sense (record { key = key i; asc = asc i; ascq = ascq i })
+class_alone _ _ one two same = absurd (omega arith)
 
 -- ---- the row
 
@@ -219,9 +200,8 @@ module _ (s : Scenario) (o : Outline) (p : Place) (v : View) (here : IsHere o p 
 
 pub zip_push : {A B : Type 0} (R : A → B → Type 0) (xs : List A) (ys : List B) (x : A) (y : B) → AllZip R xs ys → R x y → AllZip R (xs ++ x ∷ []) (ys ++ y ∷ [])
 zip_push R [] [] x y all one = (one, tt)
-zip_push R [] (b ∷ ys) x y all one = absurd all
-zip_push R (a ∷ xs) [] x y all one = absurd all
 zip_push R (a ∷ xs) (b ∷ ys) x y all one = (all.0, zip_push R xs ys x y all.1 one)
+zip_push R _ _ x y all one = absurd all
 
 pub zip_more : {A B : Type 0} (R : A → B → Type 0) (xs : List A) (ys : List B) (i : ℕ) (x : A) (y : B) → i < length xs → x ≡ get_or xs i x → AllZip R (take i xs) ys → R x y
     → AllZip R (take (i + 1) xs) (ys ++ y ∷ [])
@@ -230,23 +210,20 @@ zip_more R xs ys i x y small read all one =
 
 pub zip_map : {A B C D : Type 0} (R : C → D → Type 0) (f : A → C) (g : B → D) (xs : List A) (ys : List B) → AllZip (λ x y. R (f x) (g y)) xs ys → AllZip R (map f xs) (map g ys)
 zip_map R f g [] [] all = tt
-zip_map R f g [] (y ∷ ys) all = absurd all
-zip_map R f g (x ∷ xs) [] all = absurd all
 zip_map R f g (x ∷ xs) (y ∷ ys) all = (all.0, zip_map R f g xs ys all.1)
+zip_map R f g _ _ all = absurd all
 
 pub zip_length : {A B : Type 0} (R : A → B → Type 0) (xs : List A) (ys : List B) → AllZip R xs ys → length ys ≡ length xs
 zip_length R [] [] all = refl
-zip_length R [] (y ∷ ys) all = absurd all
-zip_length R (x ∷ xs) [] all = absurd all
 zip_length R (x ∷ xs) (y ∷ ys) all = ap suc (zip_length R xs ys all.1)
+zip_length R _ _ all = absurd all
 
 -- ---- tables, host by host
 
 -- what holds of the script holds of this one
 pub of_script : (t : Option Task) (script : Stmts) (P : Stmts → Type 0) → IsScripted t → OnScripted t (λ b n. script ≡ b) → OnScripted t (λ b n. P b) → P script
-of_script None script P scripted same all = absurd scripted
 of_script (Some (Scripted b n)) script P scripted same all = subst P (sym same) all
-of_script (Some (Planned commands)) script P scripted same all = absurd scripted
+of_script _ script P scripted same all = absurd scripted
 
 -- the views of an outline that is listed stand at the lines of the sends
 pub lines_listed : {S : Type 0} (members : S → Numbers) (o : OutlineBy (ViewOf S)) (script : Stmts) (spots : List Spot) → map place_of spots ≡ places_of script → IsListed script (outline_of members o)

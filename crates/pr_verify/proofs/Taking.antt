@@ -8,7 +8,7 @@ use Rattle.std.proofs.lemmas.Option.{none-some, option_and_then_some, same_Some}
 use Rattle.pr_cdb.specs.declared.command.Command.{Command}
 use Rattle.pr_cdb.specs.declared.reply.Reply.{Reply}
 use Rattle.pr_script.specs.declared.script.Test.TheVariants as test
-use Rattle.pr_script.specs.Scripts.{Stmts, Arms, sends, repeats, breaks, stops, no_arm, arm, statement, mark, Configuration, ready, stopped, before, settled_form, standing_of_items}
+use Rattle.pr_script.specs.Scripts.{Stmts, Arms, sends, stops, no_arm, arm, statement, Configuration, ready, stopped, before, settled_form, standing_of_items}
 use Rattle.pr_script.specs.Takes.{matches, first_match, take}
 use Rattle.pr_script.specs.Costs.{commands}
 use Rattle.pr_roles.proofs.Starting.{contains_first}
@@ -79,13 +79,11 @@ ready_send all now n c a l leads =
 
 pub ready_at : (all : List Place) (now : List ℕ) (l : Configuration) (n : ℕ) (c : Command) → Leads all now l → standing_of_items l ≡ Some (ready n c) → IsReadyAt all now l n c
 ready_at all now [] n c leads is = let bad : Some (stopped (codes "end")) ≡ Some (ready n c) = is in cc
-ready_at all now (mark ∷ l) n c leads is = absurd (none-some (ready n c) is)
 ready_at all now ((statement (sends m d a)) ∷ l) n c leads is =
     let same = same_Some (ready m d) (ready n c) is in
     let line : m ≡ n = cc in
     let command : d ≡ c = cc in
     subst (λ x. IsReadyAt all now (statement (sends m d a) ∷ l) x c) line
     (subst (λ x. IsReadyAt all now (statement (sends m d a) ∷ l) m x) command (ready_send all now m d a l leads))
-ready_at all now ((statement (repeats k b)) ∷ l) n c leads is = absurd (none-some (ready n c) is)
-ready_at all now ((statement breaks) ∷ l) n c leads is = absurd (none-some (ready n c) is)
 ready_at all now ((statement (stops w)) ∷ l) n c leads is = let bad : Some (stopped w) ≡ Some (ready n c) = is in cc
+ready_at all now _ n c leads is = absurd (none-some (ready n c) is)

@@ -58,10 +58,9 @@ unnoticed role g u q r v step bad = at (is_pending u g power_on) (conflicts u.re
 -- what an answer is to the others
 pub noticed : (role : List Clause) (how : How) (g : ℕ) (u : UnitState) (q : Request) (r : Reply) (v : UnitState) → FitsWhereRead (Ok q) → Answers how u g q r v
     → (is_good r ≡ true → IsTrue (is_permitted role u.registry g q)) → (v ≡ u) ⊎ IsDone role g u v
-noticed role how.Busy g u q r v fits is permitted = inl is.1
-noticed role how.Full g u q r v fits is permitted = inl is.1
 noticed role how.Plain g u q r v fits step permitted = at (is_good r) refl
   where
     at : (b : Bool) → is_good r ≡ b → (v ≡ u) ⊎ IsDone role g u v
     at true good = inr (record { request = q; fits = fits; reply = r; step = step; good = good; permitted = permitted good })
     at false bad = unnoticed role g u q r v step bad
+noticed role _ g u q r v fits is permitted = inl is.1

@@ -6,10 +6,10 @@ use Rattle.std.specs.FinSet as set
 use Rattle.std.specs.List.{Contains}
 use Rattle.std.proofs.lemmas.Bool.{false≢true}
 use Rattle.std.proofs.lemmas.Option.{none-some, same_Some}
-use Rattle.pr_cdb.specs.declared.command.Command.TheVariants.{TestUnitReady, RequestSense, Read, Write, ReadKeys, ReadReservation, ReportCapabilities, Register, RegisterIgnore, Reserve, Release, Clear, Preempt, PreemptAbort}
+use Rattle.pr_cdb.specs.declared.command.Command.TheVariants.{TestUnitReady, Register, RegisterIgnore, Reserve, Release, Clear, Preempt, PreemptAbort}
 use Rattle.pr_cdb.specs.declared.reply.Reply.{Reply}
 use Rattle.pr_cdb.specs.declared.wire.Request.{Request}
-use Rattle.pr_cdb.specs.declared.wire.Request.TheVariants.{Plain, Faulty}
+use Rattle.pr_cdb.specs.declared.wire.Request.TheVariants.{Plain}
 use Rattle.pr_cdb.specs.Requests.{Fits}
 use Rattle.pr_attention.specs.Attentions.{no_code, power_on, reservations_preempted, reservations_released, registrations_preempted}
 use Rattle.pr_attention.specs.Flagged.{codes_of}
@@ -146,14 +146,6 @@ no_role (suc (suc g)) = refl
 
 -- without a clause only what looks is permitted
 looks : (u : State) (g : ℕ) (q : Request) → is_permitted [] u g q ≡ true → IsTrue (request_looks q)
-looks u g (Faulty sense) permitted = refl
-looks u g (Plain TestUnitReady) permitted = refl
-looks u g (Plain RequestSense) permitted = refl
-looks u g (Plain (Read lba blocks)) permitted = refl
-looks u g (Plain (Write lba blocks)) permitted = refl
-looks u g (Plain (ReadKeys alloc)) permitted = refl
-looks u g (Plain (ReadReservation alloc)) permitted = refl
-looks u g (Plain (ReportCapabilities alloc)) permitted = refl
 looks u g (Plain (Register rk sark)) permitted = permitted
 looks u g (Plain (RegisterIgnore sark)) permitted = permitted
 looks u g (Plain (Reserve rk kind)) permitted = permitted
@@ -161,6 +153,7 @@ looks u g (Plain (Release rk kind)) permitted = permitted
 looks u g (Plain (Clear rk)) permitted = permitted
 looks u g (Plain (Preempt rk sark kind)) permitted = permitted
 looks u g (Plain (PreemptAbort rk sark kind)) permitted = permitted
+looks u g _ permitted = refl
 
 others_idle : (g : ℕ) (u v : UnitState) → g < 2 → g ≢ 0 → IsDone (role waiting g) g u v → IsIdle u → IsIdle v
 others_idle g u v there other done i =
@@ -185,8 +178,7 @@ by_unit u r v x = at x.how x.declared x.answer
   where
     at : (k : How) → IsTrue (is_among (refusals_of waiting 0) k) → Answers k u 0 (Plain TestUnitReady) r v → Step u 0 (Plain TestUnitReady) r v
     at how.Plain declared step = step
-    at how.Busy declared refused = absurd (false≢true declared)
-    at how.Full declared refused = absurd (false≢true declared)
+    at _ declared refused = absurd (false≢true declared)
 
 passes : (u : UnitState) (r : Reply) (v : UnitState) → Step u 0 (Plain TestUnitReady) r v → IsIdle u → matches Good r ≡ true
 passes u r v step i =

@@ -89,32 +89,22 @@ held_at hosts zero = None
 held_at hosts (suc n) = held_after hosts n (nat_lt n (hosts * 4))
 
 single_placed : (kind : Kind) → is_all kind ≡ false → (place_of kind < 4) × (single_at (place_of kind) ≡ kind)
-single_placed WriteExclusive is = (omega arith, refl)
-single_placed ExclusiveAccess is = (omega arith, refl)
-single_placed WriteExclusiveRegistrantsOnly is = (omega arith, refl)
-single_placed ExclusiveAccessRegistrantsOnly is = (omega arith, refl)
 single_placed WriteExclusiveAllRegistrants is = absurd (false≢true (sym is))
 single_placed ExclusiveAccessAllRegistrants is = absurd (false≢true (sym is))
+single_placed _ is = (omega arith, refl)
 
 shared_placed : (kind : Kind) → is_all kind ≡ true → shared_at (place_of kind) ≡ kind
-shared_placed WriteExclusive is = absurd (false≢true is)
-shared_placed ExclusiveAccess is = absurd (false≢true is)
-shared_placed WriteExclusiveRegistrantsOnly is = absurd (false≢true is)
-shared_placed ExclusiveAccessRegistrantsOnly is = absurd (false≢true is)
 shared_placed WriteExclusiveAllRegistrants is = refl
 shared_placed ExclusiveAccessAllRegistrants is = refl
+shared_placed _ is = absurd (false≢true is)
 
 place_single : (n : ℕ) → n < 4 → (place_of (single_at n) ≡ n) × (is_all (single_at n) ≡ false)
-place_single zero small = (refl, refl)
-place_single (suc zero) small = (refl, refl)
-place_single (suc (suc zero)) small = (refl, refl)
-place_single (suc (suc (suc zero))) small = (refl, refl)
 place_single (suc (suc (suc (suc n)))) small = absurd (omega arith)
+place_single _ small = (refl, refl)
 
 place_shared : (n : ℕ) → n < 2 → (place_of (shared_at n) ≡ n) × (is_all (shared_at n) ≡ true)
-place_shared zero small = (refl, refl)
-place_shared (suc zero) small = (refl, refl)
 place_shared (suc (suc n)) small = absurd (omega arith)
+place_shared _ small = (refl, refl)
 
 row-lt : (hosts p h : ℕ) → p < 4 → h < hosts → hosts * p + h < hosts * 4
 row-lt hosts p h small there =

@@ -35,11 +35,9 @@ get_same (x ∷ xs) zero y there = refl
 get_same (x ∷ xs) (suc i) y there = get_same xs i y (omega arith)
 
 pub get_other : {X : Type 0} (xs : List X) (i g : ℕ) (y : X) → g ≢ i → slice_get (slice_set xs i y) g ≡ slice_get xs g
-get_other [] i g y differs = refl
 get_other (x ∷ xs) zero zero y differs = absurd (differs refl)
-get_other (x ∷ xs) zero (suc g) y differs = refl
-get_other (x ∷ xs) (suc i) zero y differs = refl
 get_other (x ∷ xs) (suc i) (suc g) y differs = get_other xs i g y (λ e. differs (ap suc e))
+get_other _ _ _ y differs = refl
 
 pub holds_at_written : {X : Type 0} (p : X → Bool) (xs : List X) (i : ℕ) (y : X) → i < length xs → holds_at p (slice_set xs i y) i ≡ p y
 holds_at_written p xs i y there = ap (λ o. option_map_or p o false) (get_same xs i y there)

@@ -92,17 +92,14 @@ adds_by so s w e Free after v is guest room may =
 -- ---- what an event adds may come
 
 by_unit : (t : Status) → is_busy_status t ≡ false → is_full_status t ≡ false → how.Plain ≡ how_of t
-by_unit status.Good busy full = refl
-by_unit status.CheckCondition busy full = refl
-by_unit status.Conflict busy full = refl
 by_unit status.Busy busy full = absurd (false≢true (sym busy))
 by_unit status.TaskFull busy full = absurd (false≢true (sym full))
+by_unit _ busy full = refl
 
 -- the status tells how a command was answered
 told_how : (so : How) (u : UnitState) (h : ℕ) (q : Request) (r : Reply) (v : UnitState) → Answers so u h q r v → so ≡ how_of r.status
 told_how how.Plain u h q r v step = let never = steps_are_never_busy u h q r v step in by_unit r.status never.0 never.1
-told_how how.Busy u h q r v refused = ap (λ (x : Reply). how_of x.status) (sym refused.0)
-told_how how.Full u h q r v refused = ap (λ (x : Reply). how_of x.status) (sym refused.0)
+told_how _ u h q r v refused = ap (λ (x : Reply). how_of x.status) (sym refused.0)
 
 -- the entry may come, and leads to this world; who sends what it likes is a guest
 record Comes (s : Scenario) (w : World) (e : Entry) (x : World) : Type 0 where
@@ -133,8 +130,7 @@ host_comes so s w h line c r v (Going l) is stands room answer =
       guest = λ free. let bad : false ≡ true = sym (ap is_free is) ∙ free in cc;
       world = refl;
     }
-host_comes so s w h line c r v (Trapped at) is stands room answer = let bad : None ≡ Some (ready line c) = stands in cc
-host_comes so s w h line c r v Free is stands room answer = let bad : None ≡ Some (ready line c) = stands in cc
+host_comes so s w h line c r v _ is stands room answer = let bad : None ≡ Some (ready line c) = stands in cc
 
 guest_comes : (so : How) (s : Scenario) (w : World) (g : ℕ) (wire : Wire) (x : World) → control w g ≡ Free → (sends : GuestSends s w g wire so x)
     → Comes s w (entry_of g wire sends.reply) (world_after w g 0 wire sends.reply sends.unit)
@@ -184,9 +180,8 @@ comes_by s w e x UnitReset free resets added =
 -- ---- just the guests send what they like
 
 free_control : (k : Control) → is_free k ≡ true → k ≡ Free
-free_control (Going l) is = let bad : false ≡ true = is in cc
-free_control (Trapped line) is = let bad : false ≡ true = is in cc
 free_control Free is = refl
+free_control _ is = let bad : false ≡ true = is in cc
 
 planned_guest : (t : Task) → is_guest_task (Some t) ≡ is_planned t
 planned_guest (Scripted script budget) = refl

@@ -35,8 +35,7 @@ use Rattle.pr_world.proofs.Participations.{at_participation, control_at, has_tas
 -- what this unit answers, it may answer
 pub answer_taken : (so : How) (u : UnitState) (h : ℕ) (q : Request) (r : Reply) (v : UnitState) → TakenAnswer so u h q r v → Answers so u h q r v
 answer_taken how.Plain u h q r v taken = taken.step
-answer_taken how.Busy u h q r v taken = taken
-answer_taken how.Full u h q r v taken = taken
+answer_taken _ u h q r v taken = taken
 
 -- ---- hosts
 
@@ -59,13 +58,11 @@ hosts_happen so s (Some (ready at c)) u v xs es h (Some e) x y there seated is r
       sender = ap (λ f. f.host) acts.0.entry;
       added = refl;
     }
-hosts_happen so s (Some (ready at c)) u v xs es h None x y there seated is room acts = absurd acts
-hosts_happen so s (Some (stopped w)) u v xs es h (Some e) x y there seated is room acts = absurd acts
 hosts_happen so s (Some (stopped w)) u v xs es h None x y there seated is room acts =
     (rests u v xs es h x y seated (ap (λ t. t.control) acts.0) acts.1)
-hosts_happen so s None u v xs es h (Some e) x y there seated is room acts = absurd acts
 hosts_happen so s None u v xs es h None x y there seated is room acts =
     (rests u v xs es h x y seated (ap (λ t. t.control) acts.0) acts.1)
+hosts_happen so s _ u v xs es h _ x y there seated is room acts = absurd acts
 
 -- ---- guests
 
@@ -78,16 +75,13 @@ permitted_if_good false permitted held is = let bad : false ≡ true = is in cc
 may_end_good : (so : How) (clauses : List Clause) (u : UnitState) (h : ℕ) (c : Command) (r : Reply) (v : UnitState) → is_passed_over so clauses u h c ≡ false → Answers so u h (Plain c) r v → is_good r ≡ true
     → IsTrue (is_permitted clauses u.registry h (Plain c))
 may_end_good how.Plain clauses u h c r v held step good = permitted_if_good _ _ held (sym (good_by_decision u h (Plain c) r v step) ∙ good)
-may_end_good how.Busy clauses u h c r v held refused good = absurd (false≢true (ap is_good (sym refused.0) ∙ good))
-may_end_good how.Full clauses u h c r v held refused good = absurd (false≢true (ap is_good (sym refused.0) ∙ good))
+may_end_good _ clauses u h c r v held refused good = absurd (false≢true (ap is_good (sym refused.0) ∙ good))
 
 guest_sends : (so : How) (s : Scenario) (b : Bool) (u v : UnitState) (xs : List Participation) (es : List Item) (h : ℕ) (c : Command) (e : Option Entry) (x y : Participation) → h < length xs → get_or xs h x ≡ x
     → is_guest s h ≡ true → x.control ≡ Free → y.control ≡ Free → IsTrue (may_come s es h so) → is_passed_over so (role s h) u h c ≡ b → SendsOr so b h u c e v
     → HappensBy s h e (world_by u xs es) (world_by v (with_participation xs h y) (es ++ items_of e))
-guest_sends so s true u v xs es h c (Some e) x y there seated guest free still room held acts = absurd acts
 guest_sends so s true u v xs es h c None x y there seated guest free still room held acts =
     (rests u v xs es h x y seated (still ∙ sym free) acts)
-guest_sends so s false u v xs es h c None x y there seated guest free still room held acts = absurd acts
 guest_sends so s false u v xs es h c (Some e) x y there seated guest free still room held acts =
     let wire : e.wire ≡ spelling c = ap (λ f. f.wire) acts.entry in
     record {
@@ -108,6 +102,7 @@ guest_sends so s false u v xs es h c (Some e) x y there seated guest free still 
       sender = ap (λ f. f.host) acts.entry;
       added = refl;
     }
+guest_sends so s _ u v xs es h c _ x y there seated guest free still room held acts = absurd acts
 
 guests_happen : (so : How) (s : Scenario) (planned : List Command) (u v : UnitState) (xs : List Participation) (es : List Item) (h : ℕ) (e : Option Entry) (x y : Participation) → h < length xs → get_or xs h x ≡ x
     → is_guest s h ≡ true → x.control ≡ Free → IsTrue (may_come s es h so) → GuestActs so (role s h) h planned u e y v → HappensBy s h e (world_by u xs es) (world_by v (with_participation xs h y) (es ++ items_of e))

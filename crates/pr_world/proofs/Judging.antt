@@ -34,8 +34,7 @@ guest_judged so x clauses u e b v is judged =
 
 answer_fixed : (so : How) (u : UnitState) (h : ℕ) (q : Request) (r : Reply) (v w : UnitState) → Answers so u h q r v → Answers so u h q r w → v ≡ w
 answer_fixed how.Plain u h q r v w one two = step_fixed u h q r v w one two
-answer_fixed how.Busy u h q r v w one two = one.1 ∙ sym two.1
-answer_fixed how.Full u h q r v w one two = one.1 ∙ sym two.1
+answer_fixed _ u h q r v w one two = one.1 ∙ sym two.1
 
 script_fixed : (so : How) (k : Control) (u : UnitState) (e : Entry) (after other : Control) (v w : UnitState) → ScriptSends so k u e after v → ScriptSends so k u e other w → (other ≡ after) × (w ≡ v)
 script_fixed so k u e after other v w one two =
@@ -62,8 +61,7 @@ may_fixed so Free clauses u e after other v w one two = (two.1 ∙ sym one.1, gu
 
 pub hosts-answer : (so : How) (u : UnitState) (h : ℕ) (q : Request) (r : Reply) (v : UnitState) → Answers so u h q r v → v.registry.hosts ≡ u.registry.hosts
 hosts-answer how.Plain u h q r v step = hosts-step u h q r v step
-hosts-answer how.Busy u h q r v refused = ap (λ (x : UnitState). x.registry.hosts) refused.1
-hosts-answer how.Full u h q r v refused = ap (λ (x : UnitState). x.registry.hosts) refused.1
+hosts-answer _ u h q r v refused = ap (λ (x : UnitState). x.registry.hosts) refused.1
 
 pub free_judged : (so : How) (k : Control) (clauses : List Clause) (u : UnitState) (e : Entry) (b : Bool) (after : Control) (v : UnitState) → IsJudged so k clauses u e b after v → is_free after ≡ is_free k
 free_judged so k clauses u e false after v judged = ap is_free judged.0

@@ -1,5 +1,5 @@
 -- What is sent along a scheduled run is within the room for it.
-use Rattle.std.proofs.Common.{◌≡◌, ◌≢◌, ℕ, zero, suc, ◌+◌, ◌<◌, ◌≤◌, ◌==◌, Bool, true, false, nat_lt, List, [], ◌∷◌, ◌++◌, length, Option, Some, None, inl, inr, ◌⊎◌, get_or, length-set, refl, sym, ap, ◌∙◌, subst, arith}
+use Rattle.std.proofs.Common.{◌≡◌, ◌≢◌, ℕ, suc, ◌+◌, ◌<◌, ◌≤◌, ◌==◌, Bool, true, false, nat_lt, List, [], ◌∷◌, ◌++◌, length, Option, Some, None, inl, inr, ◌⊎◌, get_or, length-set, refl, sym, ap, ◌∙◌, subst, arith}
 use Rattle.std.specs.Prelude.{map, slice_set, option_map, unwrap_or, if◌then◌else◌}
 use Rattle.std.specs.List.{slice_get}
 use Rattle.std.specs.Option.{option_map_or}
@@ -11,7 +11,7 @@ use Rattle.pr_cdb.specs.Spelling.{spelling}
 use Rattle.pr_cdb.specs.declared.wire.Request.TheVariants.{Plain}
 use Rattle.pr_unit.specs.UnitStates.{UnitState}
 use Rattle.pr_unit.proofs.Answered.{every_request_has_a_step}
-use Rattle.pr_script.specs.Scripts.{Stmts, Standing, ready, stopped}
+use Rattle.pr_script.specs.Scripts.{Stmts, Standing, ready}
 use Rattle.pr_roles.specs.declared.entry.Entry.{Entry}
 use Rattle.pr_roles.specs.declared.item.Item.{Item}
 use Rattle.pr_roles.specs.declared.item.Item.TheVariants.{Sent, Reset}
@@ -50,9 +50,8 @@ KeepsPlans s x = (g : ℕ) → KeepsPlanBy (task s g) (used x g)
 
 -- less of it is within it too
 less_kept : (t : Option Task) (m n : ℕ) → m ≤ n → KeepsPlanBy t n → KeepsPlanBy t m
-less_kept None m n less kept = omega arith
 less_kept (Some (Scripted script budget)) m n less kept = tt
-less_kept (Some (Planned commands)) m n less kept = omega arith
+less_kept _ m n less kept = omega arith
 
 -- what is left of a plan, in a list of plans
 abbrev pub plan_in : List (List Command) → ℕ → List Command
@@ -94,8 +93,7 @@ same_grows w v h same = inl (ap (λ x. x.history) same)
 
 host_grows : (so : How) (o : Option Standing) (w v : World) (h : ℕ) → HostTurn o w h so v → Grows w.history h v.history
 host_grows so (Some (ready at c)) w v h turn = sends_grows so w v h at c turn
-host_grows so (Some (stopped word)) w v h turn = same_grows w v h turn
-host_grows so None w v h turn = same_grows w v h turn
+host_grows so _ w v h turn = same_grows w v h turn
 
 -- of another as many were sent, and of h at most one more
 grown_other : (es fs : List Item) (h g : ℕ) → g ≢ h → Grows es h fs → commands_by fs g ≡ commands_by es g
@@ -222,9 +220,8 @@ unfolding IsSafe KeepsPlans
 sent_within s steps y safe reached h = by (task s h) (reached_keeps_plans s steps y reached h) ((safe reached.start reached.allowed reached.events y.world reached.run).0 h).1
   where
     by : (t : Option Task) → KeepsPlanBy t (used y h) → KeepsBudgetBy t y.world h → commands_by y.world.history h ≤ room_by t
-    by None plans budget = omega (arith, plans)
     by (Some (Scripted script most)) plans budget = budget
-    by (Some (Planned commands)) plans budget = omega (arith, plans)
+    by _ plans budget = omega (arith, plans)
 
 -- The unit is reset no more often than the scenario has it.
 resets_within : (s : Scenario) (steps : List Step) (y : Schedule) → IsReached s steps y → resets_in y.world.history ≤ s.resets
@@ -235,9 +232,8 @@ pub room_at : (s : Scenario) (h : ℕ) → get_or (map (λ n. room_of n.task) s.
 room_at s h = at s.nexuses h
   where
     at : (ns : List Nexus) (h : ℕ) → get_or (map (λ n. room_of n.task) ns) h 0 ≡ room_by (option_map_or (λ n. Some n.task) (slice_get ns h) None)
-    at [] h = refl
-    at (n ∷ ns) zero = refl
     at (n ∷ ns) (suc h) = at ns h
+    at _ _ = refl
 
 pub run_has_room : (s : Scenario) (steps : List Step) (y : Schedule) → IsSafe s → IsReached s steps y → length y.world.history ≤ rooms s
 run_has_room s steps y safe reached =

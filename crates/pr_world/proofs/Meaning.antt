@@ -96,8 +96,6 @@ means_by so s x h (Scripted script budget) (Going l) planned is goes left fits =
     host (Some (stopped word)) at = record { script = script; budget = budget; is = is; stands = ap standing_of goes ∙ at }
 means_by so s x h (Scripted script budget) (Trapped line) planned is goes left fits = tt
 means_by so s x h (Scripted script budget) Free planned is goes left fits = let bad : false ≡ true = fits in cc
-means_by so s x h (Planned commands) (Going l) planned is goes left fits = let bad : true ≡ false = fits in cc
-means_by so s x h (Planned commands) (Trapped line) planned is goes left fits = let bad : true ≡ false = fits in cc
 means_by so s x h (Planned commands) Free [] is goes left fits = record { commands = commands; is = is; has = left }
 means_by so s x h (Planned commands) Free (c ∷ cs) is goes left fits = by (is_passed_over so (role s h) x.world.unit h c) refl
   where
@@ -107,6 +105,7 @@ means_by so s x h (Planned commands) Free (c ∷ cs) is goes left fits = by (is_
     by : (b : Bool) → is_passed_over so (role s h) x.world.unit h c ≡ b → Means so (if b then passes else sends) s x h
     by true held = guest true held
     by false held = inr (guest false held)
+means_by so s x h (Planned commands) _ planned is goes left fits = let bad : true ≡ false = fits in cc
 
 pub means : (wanted : How) (s : Scenario) (x : Schedule) (h : ℕ) (d : Doing) → HasItsTask s x h → d ≡ does s x h wanted → Means (how_now s x.world.history h wanted) d s x h
 means wanted s x h d has is = subst (λ d. Means (how_now s x.world.history h wanted) d s x h) (sym is) (means_by (how_now s x.world.history h wanted) s x h has.its_task (control x.world h) (plan x h) has.is refl refl has.fits)
@@ -146,8 +145,7 @@ done_rests wanted s x y h guest turn same =
 -- just what the unit would answer is passed over
 held_back : (so : How) (clauses : List Clause) (u : UnitState) (h : ℕ) (c : Command) → is_passed_over so clauses u h c ≡ true → is_held_back clauses u h c ≡ true
 held_back how.Plain clauses u h c is = is
-held_back how.Busy clauses u h c is = absurd (false≢true is)
-held_back how.Full clauses u h c is = absurd (false≢true is)
+held_back _ clauses u h c is = absurd (false≢true is)
 
 pub passed_over : (wanted : How) (s : Scenario) (x y : Schedule) (h : ℕ) → GuestIsReady (how_now s x.world.history h wanted) s x h true → Turn s x h wanted y → y.world ≡ x.world → PassesOver s x h y
 passed_over wanted s x y h guest turn same =

@@ -4,7 +4,7 @@ use Rattle.std.specs.List.{list_all}
 use Rattle.std.proofs.lemmas.Bool.Decides.{nat_tests}
 use Rattle.std.specs.Int.{w16, w32, w64, byte_at, bytes_high_first, to_be_bytes}
 use Rattle.pr_cdb.specs.declared.command.Kind.{Kind}
-use Rattle.pr_cdb.specs.declared.command.Kind.TheVariants.{WriteExclusive, ExclusiveAccess, WriteExclusiveRegistrantsOnly, ExclusiveAccessRegistrantsOnly, WriteExclusiveAllRegistrants, ExclusiveAccessAllRegistrants}
+use Rattle.pr_cdb.specs.declared.command.Kind.TheVariants.{WriteExclusive}
 use Rattle.pr_cdb.specs.declared.command.Command.{Command}
 use Rattle.pr_cdb.specs.declared.command.Command.TheVariants.{TestUnitReady, RequestSense, Read, Write, ReadKeys, ReadReservation, ReportCapabilities, Register, RegisterIgnore, Reserve, Release, Clear, Preempt, PreemptAbort}
 use Rattle.pr_cdb.specs.Kinds.{code_of}
@@ -43,11 +43,7 @@ literal (b ∷ bs) is = at (nat_lt b 256) (list_all (λ x. nat_lt x 256) bs) ref
 
 pub code_small : (kind : Kind) → code_of kind < 256
 code_small WriteExclusive = omega arith
-code_small ExclusiveAccess = omega arith
-code_small WriteExclusiveRegistrantsOnly = omega arith
-code_small ExclusiveAccessRegistrantsOnly = omega arith
-code_small WriteExclusiveAllRegistrants = omega arith
-code_small ExclusiveAccessAllRegistrants = omega arith
+code_small _ = omega arith
 
 kind_small : (kind : Option Kind) → kind_byte kind < 256
 kind_small None = omega arith
@@ -94,16 +90,4 @@ are_bytes (RegisterIgnore sark) = told 0x06 0 0 sark (omega arith) (omega arith)
 pub are_short : (c : Command) → (length (spelling c).cdb.items ≤ 16) × (length (spelling c).params.items ≤ 24)
 unfolding spelling
 are_short TestUnitReady = (omega arith, omega arith)
-are_short RequestSense = (omega arith, omega arith)
-are_short (Read lba blocks) = (omega arith, omega arith)
-are_short (Write lba blocks) = (omega arith, omega arith)
-are_short (ReadKeys alloc) = (omega arith, omega arith)
-are_short (ReadReservation alloc) = (omega arith, omega arith)
-are_short (ReportCapabilities alloc) = (omega arith, omega arith)
-are_short (Register rk sark) = (omega arith, omega arith)
-are_short (Reserve rk kind) = (omega arith, omega arith)
-are_short (Release rk kind) = (omega arith, omega arith)
-are_short (Clear rk) = (omega arith, omega arith)
-are_short (Preempt rk sark kind) = (omega arith, omega arith)
-are_short (PreemptAbort rk sark kind) = (omega arith, omega arith)
-are_short (RegisterIgnore sark) = (omega arith, omega arith)
+are_short _ = (omega arith, omega arith)

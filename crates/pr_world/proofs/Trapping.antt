@@ -5,7 +5,7 @@ use Rattle.std.specs.Prelude.{map}
 use Rattle.std.specs.List.{list_any}
 use Rattle.pr_cdb.specs.declared.command.Command.{Command}
 use Rattle.pr_script.specs.Scripts.{Standing, ready, stopped, standing_of_items}
-use Rattle.pr_roles.specs.Worlds.{Control, Going, Trapped, Free, is_trapped}
+use Rattle.pr_roles.specs.Worlds.{Control, Going, is_trapped}
 use Rattle.pr_world.specs.declared.end.End.{End}
 use Rattle.pr_world.specs.declared.end.End.TheVariants as end
 use Rattle.pr_world.specs.declared.participant.Participant.{Participant}
@@ -18,9 +18,7 @@ is_trap _ = false
 
 trap_seen : (e : End) → is_trapped_end e ≡ is_trap (ending_of e)
 trap_seen (end.Stopped word) = refl
-trap_seen (end.Ready line) = refl
-trap_seen (end.Trapped line) = refl
-trap_seen (end.Left planned) = refl
+trap_seen _ = refl
 
 standing_untrapped : (o : Option Standing) (x : Ending) → ending_by o ≡ Some x → is_trap x ≡ false
 standing_untrapped None x is = let bad : None ≡ Some x = is in cc
@@ -29,8 +27,7 @@ standing_untrapped (Some (stopped w)) x is = let same : stops w ≡ x = same_Som
 
 trap_of : (k : Control) (plan : List Command) (x : Ending) → ending k plan ≡ Some x → is_trap x ≡ is_trapped k
 trap_of (Going l) plan x is = standing_untrapped (standing_of_items l) x is
-trap_of (Trapped line) plan x is = ap is_trap (sym (same_Some _ _ is))
-trap_of Free plan x is = ap is_trap (sym (same_Some _ _ is))
+trap_of _ plan x is = ap is_trap (sym (same_Some _ _ is))
 
 -- some end is a trapped one just where some host is trapped
 pub trapped_ends : (ps : List Participant) (es : List End) → map (λ e. Some (ending_of e)) es ≡ map (λ p. ending (participation_of p).control (participation_of p).plan) ps

@@ -43,23 +43,20 @@ host_turn so (Some (ready line c)) u v xs es h (Some e) x y there at acts = (
   sends so u v xs es h line c e x y (at_participation xs h x there at) acts.0 (ap (λ s. s.control) acts.1),
   map-set_same (λ s. s.plan) xs h y x (ap (λ s. s.plan) acts.1 ∙ ap (λ s. s.plan) (sym at)),
 )
-host_turn so (Some (ready line c)) u v xs es h None x y there at acts = absurd acts
-host_turn so (Some (stopped w)) u v xs es h (Some e) x y there at acts = absurd acts
 host_turn so (Some (stopped w)) u v xs es h None x y there at acts =
     (rests u v xs es h x y at (ap (λ s. s.control) acts.0) acts.1, map-set_same (λ s. s.plan) xs h y x (ap (λ s. s.plan) (acts.0 ∙ sym at)))
-host_turn so None u v xs es h (Some e) x y there at acts = absurd acts
 host_turn so None u v xs es h None x y there at acts =
     (rests u v xs es h x y at (ap (λ s. s.control) acts.0) acts.1, map-set_same (λ s. s.plan) xs h y x (ap (λ s. s.plan) (acts.0 ∙ sym at)))
+host_turn so _ u v xs es h _ x y there at acts = absurd acts
 
 -- ---- guests
 
 sends_unless : (so : How) (b : Bool) (u v : UnitState) (xs : List Participation) (es : List Item) (h : ℕ) (c : Command) (e : Option Entry) (x y : Participation) → h < length xs → get_or xs h x ≡ x
     → x.control ≡ Free → y.control ≡ Free → SendsOr so b h u c e v → SendsUnless b (world_by u xs es) h c so (world_by v (with_participation xs h y) (es ++ items_of e))
-sends_unless so true u v xs es h c (Some e) x y there at free still acts = absurd acts
 sends_unless so true u v xs es h c None x y there at free still acts = rests u v xs es h x y at (still ∙ sym free) acts
 sends_unless so false u v xs es h c (Some e) x y there at free still acts =
     sends so u v xs es h 0 c e x y (at_participation xs h x there at) acts (still ∙ ap (λ k. control_after 0 k e.reply) (sym free))
-sends_unless so false u v xs es h c None x y there at free still acts = absurd acts
+sends_unless so _ u v xs es h c _ x y there at free still acts = absurd acts
 
 guest_turn : (so : How) (clauses : List Clause) (planned : List Command) (u v : UnitState) (xs : List Participation) (es : List Item) (h : ℕ) (e : Option Entry) (x y : Participation) → h < length xs
     → get_or xs h x ≡ x → x.control ≡ Free → GuestActs so clauses h planned u e y v
@@ -84,13 +81,12 @@ turn_by so (Scripted script budget) (Trapped line) s u v xs es h e p y there at 
     let x = participation (Trapped line) p in
     subst (λ k. HostTurn (standing_of k) (world_by u xs es) h so (world_by v (with_participation xs h y) (es ++ items_of e)) × (map (λ s. s.plan) (with_participation xs h y) ≡ map (λ s. s.plan) xs))
     (sym (control_at u xs es h x (at_participation xs h x there at))) (host_turn so None u v xs es h e x y there at acts)
-turn_by so (Planned commands) (Going l) s u v xs es h e p y there at fits acts = let bad : true ≡ false = fits in cc
-turn_by so (Planned commands) (Trapped line) s u v xs es h e p y there at fits acts = let bad : true ≡ false = fits in cc
 turn_by so (Planned commands) Free s u v xs es h e p y there at fits acts =
     let x = participation Free p in
     let turn = subst (λ cs. GuestTurn (role s h) cs (world_by u xs es) h so (world_by v (with_participation xs h y) (es ++ items_of e)) y.plan)
     (sym (plan_at u xs es h x (at_participation xs h x there at))) (guest_turn so (role s h) p u v xs es h e x y there at refl acts) in
     (y.plan, turn, map-set (λ s. s.plan) xs h y)
+turn_by so (Planned commands) _ s u v xs es h e p y there at fits acts = let bad : true ≡ false = fits in cc
 
 pub turn_of_seats : (wanted : How) (s : Scenario) (u v : UnitState) (xs : List Participation) (es : List Item) (h : ℕ) (e : Option Entry) (x y : Participation) → StandsFor s u xs → h < length xs
     → get_or xs h x ≡ x → Acts (how_now s es h wanted) (role s h) h x u e y v → Turn s (schedule_by u xs es) h wanted (schedule_by v (with_participation xs h y) (es ++ items_of e))
@@ -111,11 +107,9 @@ free_taken line l r = at (take l r)
 free_host : (so : How) (o : Option Standing) (h : ℕ) (x : Participation) (u : UnitState) (e : Option Entry) (y : Participation) (v : UnitState) → ((line : ℕ) (r : Reply) → is_free (control_after line x.control r) ≡ is_free x.control)
     → HostActs so o h x u e y v → is_free y.control ≡ is_free x.control
 free_host so (Some (ready line c)) h x u (Some e) y v same acts = ap (λ s. is_free s.control) acts.1 ∙ same line e.reply
-free_host so (Some (ready line c)) h x u None y v same acts = absurd acts
-free_host so (Some (stopped w)) h x u (Some e) y v same acts = absurd acts
 free_host so (Some (stopped w)) h x u None y v same acts = ap (λ s. is_free s.control) acts.0
-free_host so None h x u (Some e) y v same acts = absurd acts
 free_host so None h x u None y v same acts = ap (λ s. is_free s.control) acts.0
+free_host so _ h x u _ y v same acts = absurd acts
 
 free_guest : (so : How) (clauses : List Clause) (h : ℕ) (planned : List Command) (u : UnitState) (e : Option Entry) (y : Participation) (v : UnitState) → GuestActs so clauses h planned u e y v → is_free y.control ≡ true
 free_guest so clauses h [] u (Some e) y v acts = absurd acts
@@ -204,10 +198,7 @@ entry_added es fs x e added is = added ∙ ap (λ o. es ++ items_of o) is
 -- a turn that sends an entry is one that sends
 pub sends_entry : (a : Act) (e : Entry) → Some e ≡ entry_in a → doing_of a ≡ sending
 sends_entry (act.Sent x) e is = refl
-sends_entry (act.Stopped word) e is = let bad : Some e ≡ None = is in cc
-sends_entry act.Trapped e is = let bad : Some e ≡ None = is in cc
-sends_entry act.Finished e is = let bad : Some e ≡ None = is in cc
-sends_entry act.Held e is = let bad : Some e ≡ None = is in cc
+sends_entry _ e is = let bad : Some e ≡ None = is in cc
 
 -- what h would do is found at its participation, before its turn
 pub doing_at : (so wanted : How) (p q : Parts) (u : UnitState) (ps : List Participant) (es : List Item) (h i : ℕ) (d : Doing) (n : NexusPart) (x : Participant)

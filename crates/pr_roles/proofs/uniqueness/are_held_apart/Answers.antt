@@ -17,13 +17,9 @@ same_kind s t = search rules
 
 same : (x y : Option Held) → option_eq held.eq-value.it x y ≡ is_same_reservation x y
 same None None = refl
-same None (Some y) = refl
-same (Some (One s g)) None = refl
-same (Some (All s)) None = refl
 same (Some (One s g)) (Some (One t h)) = ap (λ b. b && g == h) (same_kind s t)
-same (Some (One s g)) (Some (All t)) = refl
-same (Some (All s)) (Some (One t h)) = refl
 same (Some (All s)) (Some (All t)) = same_kind s t
+same _ _ = refl
 
 pub returns : goal.returns
 returns c = c.are_distinct.ensures ∙ distinct_same _ is_same_reservation same c.args.reservations.now
