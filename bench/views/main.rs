@@ -2,7 +2,9 @@
 //! least time by the least time that a command of the workload takes.
 
 #[allow(dead_code)]
+#[path = "../unit/plain.rs"]
 mod plain;
+#[path = "../unit/workload.rs"]
 mod workload;
 
 use workload::Draw;
