@@ -8,7 +8,7 @@ use Rattle.pr_text.specs.Reading.{IsWrittenAs}
 use Rattle.pr_report.specs.PrintedLines.{line}
 use Rattle.pr_report.specs.TraceText.{names_in}
 use Rattle.pr_witness.specs.declared.searching.Bound.{Bound}
-use Rattle.pr_witness.specs.declared.searching.Bound.TheVariants.{Worlds, Depth, Waiting}
+use Rattle.pr_witness.specs.declared.searching.Bound.TheVariants.{Worlds, Depth, Memory}
 use Rattle.pr_witness.specs.declared.searching.Finding.{Finding}
 use Rattle.pr_witness.specs.declared.searching.Finding.TheVariants.{Found, Nothing}
 use Rattle.pr_witness.specs.Breaches.{IsFound}
@@ -21,7 +21,7 @@ abbrev pub bound_words : Option Bound → List (List ℕ)
 bound_words None = []
 bound_words (Some Worlds) = codes "worlds" ∷ []
 bound_words (Some Depth) = codes "depth" ∷ []
-bound_words (Some Waiting) = codes "memory" ∷ []
+bound_words (Some Memory) = codes "memory" ∷ []
 
 -- the scenario is accepted, so that there is nothing to search for; or it was searched
 pub data Answer : Type 0 where

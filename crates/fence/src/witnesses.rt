@@ -140,6 +140,6 @@ fn put_none<W: Write>(writer: &mut W, worlds: usize, bound: Option<Bound>) -> Re
         None => put_line(writer, first, &[worlds]),
         Some(Bound::Worlds) => put_line(writer, first, &[worlds, Word::Text(b"worlds")]),
         Some(Bound::Depth) => put_line(writer, first, &[worlds, Word::Text(b"depth")]),
-        Some(Bound::Waiting) => put_line(writer, first, &[worlds, Word::Text(b"memory")]),
+        Some(Bound::Memory) => put_line(writer, first, &[worlds, Word::Text(b"memory")]),
     }
 }

@@ -60,7 +60,7 @@ the same' in docs/VERDICTS.md.\n",
                 Some(Bound::Worlds) => b". The search looks at no more; another may show it.\n",
                 Some(Bound::Depth) =>
                     b". The search looks at no longer runs; one of these may show it.\n",
-                Some(Bound::Waiting) =>
+                Some(Bound::Memory) =>
                     b". The search has no memory for more; another may show it.\n",
             }),
         ],

@@ -13,6 +13,7 @@ mod mixer;
 mod moves;
 mod program;
 mod retracing;
+mod room;
 mod scripted;
 mod searcher;
 mod searching;
