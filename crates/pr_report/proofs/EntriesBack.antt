@@ -8,7 +8,7 @@ use Rattle.std.proofs.lemmas.Bool.Decides.{nat_tests}
 use Rattle.pr_cdb.specs.declared.codes.TheConstants.{MOST_DATA_LENGTH}
 use Rattle.pr_cdb.specs.declared.reply.Reply.{Reply}
 use Rattle.pr_cdb.specs.declared.reply.Status.{Status}
-use Rattle.pr_cdb.specs.declared.reply.Status.TheVariants.{Good, CheckCondition, Conflict, Busy, TaskFull}
+use Rattle.pr_cdb.specs.declared.reply.Status.TheVariants.{Good}
 use Rattle.pr_cdb.specs.declared.wire.Wire.{Wire}
 use Rattle.pr_cdb.specs.Requests.{AreBytes}
 use Rattle.pr_roles.specs.declared.entry.Entry.{Entry}
@@ -80,17 +80,13 @@ reset_back version names index has h =
 
 none_of : (a b : Bool) → (b ≡ true → ⊥) → (a && b) ≡ false
 none_of true true none = absurd (none refl)
-none_of true false none = refl
-none_of false b none = refl
+none_of _ _ none = refl
 
 -- ---- its line
 
 status_solid : (t : Status) → IsWord 2 (status_word t)
 status_solid Good = record { solid = (omega arith, (omega arith, tt)); short = omega arith }
-status_solid CheckCondition = record { solid = (omega arith, (omega arith, tt)); short = omega arith }
-status_solid Conflict = record { solid = (omega arith, (omega arith, tt)); short = omega arith }
-status_solid Busy = record { solid = (omega arith, (omega arith, tt)); short = omega arith }
-status_solid TaskFull = record { solid = (omega arith, (omega arith, tt)); short = omega arith }
+status_solid _ = record { solid = (omega arith, (omega arith, tt)); short = omega arith }
 
 module _ (version : ℕ) (names : List (List ℕ)) (e : Entry) (are : AreNames names) (is : IsEntry version (length names) e) where
   cdb_word : IsWord 32 (pairs_or_dash e.wire.cdb.items)

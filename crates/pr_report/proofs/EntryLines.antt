@@ -29,11 +29,10 @@ pub by_rest : (line front rest end : List ℕ) → line ≡ front ++ rest → by
 by_rest line front rest end is = at (bytes_eq rest end) refl (bytes_eq line (front ++ end)) refl
   where
     at : (a : Bool) → bytes_eq rest end ≡ a → (b : Bool) → bytes_eq line (front ++ end) ≡ b → bytes_eq rest end ≡ bytes_eq line (front ++ end)
-    at true one true two = one ∙ sym two
-    at false one false two = one ∙ sym two
     at true one false two =
         let same = ap (λ ys. front ++ ys) ((bytes_eq-Decides rest end).0 one) in
         absurd (false≢true (sym two ∙ (bytes_eq-Decides line (front ++ end)).1 (is ∙ same)))
     at false one true two =
         let whole = sym is ∙ (bytes_eq-Decides line (front ++ end)).0 two in
         absurd (false≢true (sym one ∙ (bytes_eq-Decides rest end).1 (append_cancel_left front rest end whole)))
+    at _ one _ two = one ∙ sym two

@@ -9,7 +9,7 @@ use Rattle.std.proofs.lemmas.List.{take-take}
 use Rattle.std.proofs.lemmas.Slice.Eq.{bytes_eq-Decides}
 use Rattle.pr_roles.specs.declared.item.Item.{Item}
 use Rattle.pr_report.specs.declared.trace_error.TraceError.{TraceError}
-use Rattle.pr_report.specs.declared.trace_error.TraceError.TheVariants.{Syntax, UnknownName, TooLong, ReadFault, Memory}
+use Rattle.pr_report.specs.declared.trace_error.TraceError.TheVariants.{Syntax, TooLong, ReadFault, Memory}
 use Rattle.pr_report.specs.TraceText.{first_line}
 use Rattle.pr_report.specs.declared.versions.TheConstants.{MOST_ITEMS_1, MOST_ITEMS_2}
 use Rattle.pr_report.specs.Versions.{most_items}
@@ -20,11 +20,9 @@ use Rattle.pr_report.proofs.SolidWords.{digits_word}
 -- ---- faults
 
 pub faults_same : {A : Type 0} (e : TraceError) (r : Result A TraceError) → r ≡ Err e → Faults e r
-faults_same (Syntax n) r h = h
-faults_same (UnknownName n) r h = h
-faults_same TooLong r h = h
 faults_same ReadFault r h = tt
 faults_same Memory r h = tt
+faults_same _ r h = h
 
 -- this fault may come with any text
 pub faults_any : {A : Type 0} (e : TraceError) (known : Option (List ℕ)) (f : List ℕ → Result A TraceError) → e ≡ ReadFault → IfSome known (λ text. Faults e (f text))
@@ -72,9 +70,6 @@ below n h k = nat_le_false 64 n (omega arith)
 too_long : (n : ℕ) → 1024 < n → nat_le n 1024 ≡ false
 too_long n h = grind (arith, nat_tests)
 
-fits : (n : ℕ) → n ≤ 1024 → nat_le n 1024 ≡ true
-fits n h = grind (arith, nat_tests)
-
 and_false : (b : Bool) → (b && false) ≡ false
 and_false true = refl
 and_false false = refl
@@ -98,7 +93,7 @@ first_by_front version l m h k same =
 
 -- ---- what is left
 
-lines_none : lines [] ≡ []
+pub lines_none : lines [] ≡ []
 unfolding lines
 lines_none = refl
 

@@ -24,12 +24,11 @@ spell-append (suc k) n acc = ⊎_elim
 
 -- more digits than are needed change nothing
 spell_enough : (j k n : ℕ) (acc : List ℕ) → n < 16 ^ suc j → n < 16 ^ suc k → spell (suc j) n acc ≡ spell (suc k) n acc
-spell_enough zero k n acc p q = spell_last zero n acc (omega arith) ∙ sym (spell_last k n acc (omega arith))
-spell_enough (suc j) zero n acc p q = spell_last (suc j) n acc (omega arith) ∙ sym (spell_last zero n acc (omega arith))
 spell_enough (suc j) (suc k) n acc p q = ⊎_elim
     (λ l. spell_last (suc j) n acc l ∙ sym (spell_last (suc k) n acc l))
     (λ l. spell_next (suc j) n acc l ∙ spell_enough j k (n / 16) (last_glyph n ∷ acc) (omega arith) (omega arith) ∙ sym (spell_next (suc k) n acc l))
     (cases_lt n 16)
+spell_enough j k n acc p q = spell_last j n acc (omega arith) ∙ sym (spell_last k n acc (omega arith))
 
 pub digits_step : (n : ℕ) → 16 ≤ n → n < 2 ^ 64 → digits 16 false n ≡ digits 16 false (n / 16) ++ (digit_glyph false (n % 16) ∷ [])
 unfolding digits

@@ -16,7 +16,7 @@ use Rattle.pr_report.proofs.Cuts.{none_passes, missing_at}
 abbrev is_end : ℕ → Bool
 is_end b = b == 10
 
-lines_more : (part : List ℕ) (parts : List (List ℕ)) → 0 < length parts → lines_of_parts (part ∷ parts) ≡ part ∷ lines_of_parts parts
+pub lines_more : (part : List ℕ) (parts : List (List ℕ)) → 0 < length parts → lines_of_parts (part ∷ parts) ≡ part ∷ lines_of_parts parts
 lines_more part [] h = absurd (omega arith)
 lines_more part (next ∷ parts) h = refl
 

@@ -66,17 +66,14 @@ twice i = (omega arith, omega arith)
 
 -- the pair at this place
 pair_at : (n i : ℕ) (xs : List ℕ) → i < n → 2 * n ≤ length xs → get_or (first_chunks 2 n xs) i [] ≡ take 2 (drop (2 * i) xs)
-pair_at zero i xs h k = absurd (omega arith)
 pair_at (suc n) zero xs h k = refl
 pair_at (suc n) (suc i) (x ∷ y ∷ xs) h k =
     pair_at n i xs (omega arith) (omega arith) ∙ ap (take 2) (drop-drop (2 * i) 2 (x ∷ y ∷ xs) ∙ ap (λ m. drop m (x ∷ y ∷ xs)) (twice i).0)
-pair_at (suc n) (suc i) [] h k = absurd (omega arith)
-pair_at (suc n) (suc i) (x ∷ []) h k = absurd (omega arith)
+pair_at _ _ _ h k = absurd (omega arith)
 
 digits_of : (xs : List ℕ) → 2 ≤ length xs → (get_or (take 2 xs) 0 0 ≡ get_or xs 0 0) × (get_or (take 2 xs) 1 0 ≡ get_or xs 1 0)
-digits_of [] h = absurd (omega arith)
-digits_of (x ∷ []) h = absurd (omega arith)
 digits_of (x ∷ y ∷ xs) h = (refl, refl)
+digits_of _ h = absurd (omega arith)
 
 module _ (word items : List ℕ) (pairs : List (List ℕ)) (i : ℕ) (cut : pairs ≡ first_chunks 2 (length word / 2) word) (before : i < length word / 2) where
   there : 2 ≤ length (drop (2 * i) word)

@@ -9,6 +9,7 @@ use Rattle.std.proofs.lemmas.List.Elements.{All-cons, All-nil}
 use Rattle.std.proofs.lemmas.List.Splits.{slice_split_at, slice_split_none, length-slice_split}
 use Rattle.pr_report.specs.PrintedLines.{line, pairs, pairs_or_dash, joined_by_spaces}
 use Rattle.pr_report.specs.TraceReadings.{lines, lines_of_parts, words}
+use Rattle.pr_report.proofs.LinesInFront.{lines_more}
 
 -- no byte is a space, or before it among the characters
 abbrev pub IsSolid : List ℕ → Type 0
@@ -120,15 +121,11 @@ clear_all : (w : List ℕ) → IsClear w → All (λ b. (b == 10) ≡ false) w
 clear_all [] k = All-nil (λ b. (b == 10) ≡ false)
 clear_all (b ∷ bs) k = All-cons (λ b. (b == 10) ≡ false) b bs (ne_eqb b 10 (λ e. omega arith)) (clear_all bs k.1)
 
-first_part : (part : List ℕ) (parts : List (List ℕ)) → 0 < length parts → lines_of_parts (part ∷ parts) ≡ part ∷ lines_of_parts parts
-first_part part [] h = absurd (omega arith)
-first_part part (next ∷ parts) h = refl
-
 line_cut : (w rest : List ℕ) → IsClear w → lines (w ++ (10 ∷ rest)) ≡ w ∷ lines rest
 unfolding lines
 line_cut w rest h =
     ap lines_of_parts (slice_split_at (λ b. b == 10) w 10 rest (clear_all w h) refl)
-    ∙ first_part w (slice_split (λ b. b == 10) rest) (omega (arith, length-slice_split (λ b. b == 10) rest))
+    ∙ lines_more w (slice_split (λ b. b == 10) rest) (omega (arith, length-slice_split (λ b. b == 10) rest))
 
 pub bare_back : (first : List ℕ) (others : List (List ℕ)) (rest : List ℕ) → IsSolid first → AreSolid others → lines (bare first others ++ (10 ∷ rest)) ≡ bare first others ∷ lines rest
 bare_back first others rest h k = line_cut (bare first others) rest (clear_solid first (joined_by_spaces others) h (clear_spaced others k))

@@ -18,7 +18,7 @@ use Rattle.pr_report.specs.PrintedLines.{generation_word, key_or_dash, line, reg
 use Rattle.pr_report.specs.TraceText.{ending_line, ending_lines, item_lines, first_line, held_word, name_of, names_in, registration_words, unit_line}
 use Rattle.pr_report.specs.TraceLaws.{IsEnding, IsItem, WrittenTracesAreRead}
 use Rattle.pr_report.specs.TraceReadings.{and_then, items_of, is_later, later_lines, lines, trace_in, trace_of}
-use Rattle.pr_report.proofs.FrontLines.{entries_later}
+use Rattle.pr_report.proofs.FrontLines.{entries_later, lines_none}
 use Rattle.pr_report.proofs.SolidWords.{is_solid, solid_by, AreSolid, IsWord, bare, bare_back, digits_word, line_back, pairs_word, spaced_none, spaced_word, word_both}
 use Rattle.pr_report.proofs.WordsBack.{same_bytes}
 use Rattle.pr_report.proofs.TraceNames.{AreNames, name_of_word, name_word, names_count, names_fit}
@@ -122,17 +122,13 @@ abbrev AreEndings : List Ending → Type 0
 AreEndings [] = Unit {0}
 AreEndings (e ∷ es) = IsEnding e × AreEndings es
 
-lines_nothing : lines [] ≡ []
-unfolding lines
-lines_nothing = refl
-
 -- as many lines as there are ends, each of which may stand there
 record AreLines (text : List ℕ) (count : ℕ) : Type 0 where
   pub later : AreLater (lines text)
   pub counted : length (lines text) ≡ count
 
 endings_lines : (names : List (List ℕ)) (counts : List ℕ) (es : List Ending) (host : ℕ) → AreNames names → AreEndings es → AreLines (ending_lines host names counts es) (length es)
-endings_lines names counts [] host are h = record { later = rw lines_nothing tt; counted = ap length lines_nothing }
+endings_lines names counts [] host are h = record { later = rw lines_none tt; counted = ap length lines_none }
 endings_lines names counts (e ∷ es) host are h =
     let rest = ending_lines (host + 1) names counts es in
     let cut = ending_cut (name_of names host) rest e (slice_index counts host) (name_of_word names host are) h.0 in

@@ -11,7 +11,7 @@ use Rattle.pr_roles.specs.Scenarios.{scenario_of}
 use Rattle.pr_roles.specs.Fitting.{Fits}
 use Rattle.pr_roles.proofs.Allowed.{few_parts}
 use Rattle.pr_report.specs.declared.trace_error.TraceError.{TraceError}
-use Rattle.pr_report.specs.declared.trace_error.TraceError.TheVariants.{Syntax, UnknownName, TooLong, ReadFault, Memory}
+use Rattle.pr_report.specs.declared.trace_error.TraceError.TheVariants.{ReadFault, Memory}
 use Rattle.pr_report.specs.TraceText.{names_in, names_of}
 use Rattle.pr_report.specs.TraceReadings.{Faults, and_then, items_of, later_lines, lines, trace_in, trace_of}
 use Rattle.pr_report.specs.inside.LinesAhead.{Between, Leads}
@@ -22,11 +22,9 @@ faults_along : {A : Type 0} (e : TraceError) (r s : Result A TraceError) → r �
 faults_along e r s h f = rw h f
 
 faults_then : {A B : Type 0} (e : TraceError) (r : Result A TraceError) (f : A → Result B TraceError) → Faults e r → Faults e (and_then r f)
-faults_then (Syntax n) r f h = ap (λ q. and_then q f) h
-faults_then (UnknownName n) r f h = ap (λ q. and_then q f) h
-faults_then TooLong r f h = ap (λ q. and_then q f) h
 faults_then ReadFault r f h = tt
 faults_then Memory r f h = tt
+faults_then _ r f h = ap (λ q. and_then q f) h
 
 module _ (version : ℕ) (names : List (List ℕ)) where
   first_by : (start mid : Option (List ℕ)) (e : TraceError) → Between (FirstRead version names) start mid → IfSome mid (λ text. Faults e (items_of version names 0 (lines text)))

@@ -73,10 +73,7 @@ bytes_back most (b ∷ bs) h k = bytes_all most (pairs (b ∷ bs)) (b ∷ bs) (n
 
 pub status_back : (version : ℕ) (t : Status) → has_status version t ≡ true → status_in version (status_word t) ≡ Some t
 status_back version Good h = rw h refl
-status_back version CheckCondition h = rw h refl
-status_back version Conflict h = rw h refl
-status_back version Busy h = rw h refl
-status_back version TaskFull h = rw h refl
+status_back version _ h = rw h refl
 
 sense_whole : (s : Sense) → s.key < 16 → sense_in (sense_bytes s) ≡ Some s
 unfolding sense_in sense_bytes
@@ -86,15 +83,11 @@ sense_whole s h =
 
 pub sense_back : (t : Status) (s : Option Sense) → HasSense t s → sense_under t (sense_data s) ≡ Some s
 sense_back Good None h = refl
-sense_back Good (Some s) h = absurd h
-sense_back CheckCondition None h = absurd h
 sense_back CheckCondition (Some s) h = rw (sense_whole s h.0, same_bytes (sense_bytes s)) refl
 sense_back Conflict None h = refl
-sense_back Conflict (Some s) h = absurd h
 sense_back Busy None h = refl
-sense_back Busy (Some s) h = absurd h
 sense_back TaskFull None h = refl
-sense_back TaskFull (Some s) h = absurd h
+sense_back _ _ h = absurd h
 
 -- each is a byte
 abbrev pub EachByte : List ℕ → Type 0
@@ -117,15 +110,11 @@ sense_each s h k =
 
 pub data_are_bytes : (t : Status) (s : Option Sense) → HasSense t s → AreBytes (sense_data s)
 data_are_bytes Good None h = are_bytes [] tt
-data_are_bytes Good (Some s) h = absurd h
-data_are_bytes CheckCondition None h = absurd h
 data_are_bytes CheckCondition (Some s) h = are_bytes (sense_bytes s) (sense_each s h.1 h.2)
 data_are_bytes Conflict None h = are_bytes [] tt
-data_are_bytes Conflict (Some s) h = absurd h
 data_are_bytes Busy None h = are_bytes [] tt
-data_are_bytes Busy (Some s) h = absurd h
 data_are_bytes TaskFull None h = are_bytes [] tt
-data_are_bytes TaskFull (Some s) h = absurd h
+data_are_bytes _ _ h = absurd h
 
 pub data_short : (s : Option Sense) → length (sense_data s) ≤ 18
 unfolding sense_bytes
