@@ -53,7 +53,8 @@ pub fn decode(cdb: &[u8], params: &[u8]) -> Result<Request, Bad>
 
 /// What every two byte lists are read as has its fields in their types' ranges.
 pub fn reads_in_range()
-    ensures { (cdb params : List ℕ) → AreBytes cdb → AreBytes params → FitsWhereRead (request_of cdb params) }
+    ensures { (cdb params : List ℕ) → AreBytes cdb → AreBytes params
+        → FitsWhereRead (request_of cdb params) }
 {}
 
 // How many bytes a command with this operation code has, or 0 where the unit has no such command.

@@ -10,7 +10,8 @@ use pr_script::Test;
 /// Whether an arm with the first test takes each reply that one with the second waits for. It says no of two that are only the
 /// same under one command.
 pub fn covers(above: Test, below: Test) -> bool
-    ensures { result ≡ true → (reply : Reply) → matches below reply ≡ true → matches above reply ≡ true }
+    ensures { result ≡ true → (reply : Reply) → matches below reply ≡ true
+        → matches above reply ≡ true }
 {
     match (above, below) {
         (Test::Good, Test::Good | Test::GoodHas(_) | Test::GoodHeld(_) | Test::GoodUnheld) => true,

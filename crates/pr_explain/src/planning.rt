@@ -20,7 +20,8 @@ use std::alloc::{AllocError, Global};
 /// reason, what its hosts can know at each send, and a run that shows why, if the search finds one.
 pub fn explanation(alloc: Global, scenario: Scenario) -> Result<Explanation, AllocError>
     ensures scenario { IfOk result (λ e. scenario_in e ≡ scenario) }
-    ensures accepted { IfOk result (λ e. (is_refusal e ≡ false) ↔ HaveOutlines (scenario_of scenario)) }
+    ensures accepted { IfOk result (λ e. (is_refusal e ≡ false)
+        ↔ HaveOutlines (scenario_of scenario)) }
     ensures holds { IfOk result (Holds ⟦<WordSet as ViewSet>⟧.members (scenario_of scenario)) }
 {
     match verify(alloc, scenario) {

@@ -47,7 +47,8 @@ fn action_in(line: &[u8]) -> Option<(Action, &[u8])>
 
 #[tactic(auto, unfolding(crate::specs::Clauses::action_named))]
 fn action_named<'a>(word: &[u8], rest: &'a [u8]) -> Option<(Action, &'a [u8])>
-    ensures { option_map (λ r. (r.0, words r.1.now)) result ≡ action_named word.now (words rest.now) }
+    ensures { option_map (λ r. (r.0, words r.1.now)) result
+        ≡ action_named word.now (words rest.now) }
 {
     if is(word, "register") {
         return registering(rest);
@@ -62,7 +63,8 @@ fn action_named<'a>(word: &[u8], rest: &'a [u8]) -> Option<(Action, &'a [u8])>
 }
 
 fn registering(line: &[u8]) -> Option<(Action, &[u8])>
-    ensures { option_map (λ r. (r.0, words r.1.now)) result ≡ acting_on (λ key. action.Register key) key_of (words line.now) }
+    ensures { option_map (λ r. (r.0, words r.1.now)) result
+        ≡ acting_on (λ key. action.Register key) key_of (words line.now) }
 {
     let (word, rest) = next_word(line)?;
     let key = key_of(word)?;
@@ -70,7 +72,8 @@ fn registering(line: &[u8]) -> Option<(Action, &[u8])>
 }
 
 fn reserving(line: &[u8]) -> Option<(Action, &[u8])>
-    ensures { option_map (λ r. (r.0, words r.1.now)) result ≡ acting_on (λ kind. action.Reserve kind) kind_of (words line.now) }
+    ensures { option_map (λ r. (r.0, words r.1.now)) result
+        ≡ acting_on (λ kind. action.Reserve kind) kind_of (words line.now) }
 {
     let (word, rest) = next_word(line)?;
     let kind = kind_of(word)?;
@@ -86,7 +89,8 @@ fn preempt_of(line: &[u8]) -> Option<(Action, &[u8])>
 }
 
 fn preempting_with(key: u64, line: &[u8]) -> Option<(Action, &[u8])>
-    ensures { option_map (λ r. (r.0, words r.1.now)) result ≡ acting_on (λ kind. action.Preempt key kind) kind_of (words line.now) }
+    ensures { option_map (λ r. (r.0, words r.1.now)) result
+        ≡ acting_on (λ kind. action.Preempt key kind) kind_of (words line.now) }
 {
     let (word, rest) = next_word(line)?;
     let kind = kind_of(word)?;

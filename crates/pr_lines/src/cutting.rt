@@ -14,7 +14,8 @@ const CARRIAGE_RETURN: u8 = b'\r';
 /// A line ends with a line feed, or with a carriage return before one (docs/FORMATS.md, 'Lines and words'). The
 /// last line may lack its end.
 pub fn next_line(text: &[u8]) -> Option<(&[u8], &[u8])>
-    ensures lines { MatchOption result (lines text.now ≡ []) (λ r. lines text.now ≡ r.0.now ∷ lines r.1.now) }
+    ensures lines { MatchOption result (lines text.now ≡ [])
+        (λ r. lines text.now ≡ r.0.now ∷ lines r.1.now) }
     ensures shorter { IfSome result (λ r. length r.1.now < length text.now) }
 {
     let Some(end) = line_feed_in(text) else {
@@ -69,7 +70,8 @@ fn is_blank(byte: u8) -> bool
 /// line and has no words (docs/FORMATS.md, 'Lines and words').
 #[tactic(auto, using(crate::proofs::LineCuts::words_empty, crate::proofs::LineCuts::words_comment, crate::proofs::LineCuts::words_word, crate::proofs::LineCuts::words_none))]
 pub fn next_word(line: &[u8]) -> Option<(&[u8], &[u8])>
-    ensures words { MatchOption result (words line.now ≡ []) (λ r. words line.now ≡ r.0.now ∷ words r.1.now) }
+    ensures words { MatchOption result (words line.now ≡ [])
+        (λ r. words line.now ≡ r.0.now ∷ words r.1.now) }
     ensures shorter { IfSome result (λ r. length r.1.now < length line.now) }
 {
     let mut rest = line;

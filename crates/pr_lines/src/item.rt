@@ -100,7 +100,8 @@ pub enum ScenarioLine {
 /// memory for a list.
 #[tactic(auto, using(crate::proofs::ItemWords::by_keyword))]
 pub fn item_of(alloc: Global, word: &[u8], rest: &[u8]) -> Result<Option<ScenarioLine>, AllocError>
-    ensures { IfOk result (λ item. option_map line_of_value item ≡ item_of word.now (words rest.now)) }
+    ensures { IfOk result (λ item. option_map line_of_value item
+        ≡ item_of word.now (words rest.now)) }
 {
     match keyword_of(word) {
         Some(keyword) => said_after(alloc, keyword, rest),
@@ -114,7 +115,8 @@ fn said_after(
     keyword: Keyword,
     rest: &[u8],
 ) -> Result<Option<ScenarioLine>, AllocError>
-    ensures { IfOk result (λ item. option_map line_of_value item ≡ said_after keyword (words rest.now)) }
+    ensures { IfOk result (λ item. option_map line_of_value item
+        ≡ said_after keyword (words rest.now)) }
 {
     match keyword {
         Keyword::Keys => keys_said(alloc, rest),
@@ -166,7 +168,9 @@ fn fence_said(rest: &[u8]) -> Option<ScenarioLine>
 }
 
 fn refusals_said(refusal: Refusal, rest: &[u8]) -> Option<ScenarioLine>
-    ensures { option_map line_of_value result ≡ said_of_name (λ name count. declares (refusals_line refusal name count)) only_count (words rest.now) }
+    ensures { option_map line_of_value result
+        ≡ said_of_name (λ name count. declares (refusals_line refusal name count)) only_count
+        (words rest.now) }
 {
     let Some((name, others)) = name_in(rest) else {
         return None;
@@ -176,7 +180,9 @@ fn refusals_said(refusal: Refusal, rest: &[u8]) -> Option<ScenarioLine>
 }
 
 fn role_said(rest: &[u8]) -> Option<ScenarioLine>
-    ensures { option_map line_of_value result ≡ said_of_name (λ name clause. declares (role_line name clause)) clause_of (words rest.now) }
+    ensures { option_map line_of_value result
+        ≡ said_of_name (λ name clause. declares (role_line name clause)) clause_of
+        (words rest.now) }
 {
     let Some((name, others)) = name_in(rest) else {
         return None;
@@ -186,7 +192,9 @@ fn role_said(rest: &[u8]) -> Option<ScenarioLine>
 }
 
 fn script_said(rest: &[u8]) -> Option<ScenarioLine>
-    ensures { option_map line_of_value result ≡ said_of_name (λ name budget. declares (script_line name budget)) budget_in (words rest.now) }
+    ensures { option_map line_of_value result
+        ≡ said_of_name (λ name budget. declares (script_line name budget))
+        budget_in (words rest.now) }
 {
     let Some((name, others)) = name_in(rest) else {
         return None;
@@ -230,14 +238,17 @@ fn only_count(line: &[u8]) -> Option<u64>
 }
 
 fn keys_said(alloc: Global, rest: &[u8]) -> Result<Option<ScenarioLine>, AllocError>
-    ensures { IfOk result (λ item. option_map line_of_value item ≡ option_map (λ keys. declares (keys_line keys)) (list_of key_of (words rest.now))) }
+    ensures { IfOk result (λ item. option_map line_of_value item
+        ≡ option_map (λ keys. declares (keys_line keys)) (list_of key_of (words rest.now))) }
 {
     let keys = keys_in(alloc, rest)?;
     Ok(keys.map(ScenarioLine::Keys))
 }
 
 fn start_said(alloc: Global, rest: &[u8]) -> Result<Option<ScenarioLine>, AllocError>
-    ensures { IfOk result (λ item. option_map line_of_value item ≡ said_of_name (λ name xs. declares (start_line name xs)) (list_of alternative_of) (words rest.now)) }
+    ensures { IfOk result (λ item. option_map line_of_value item
+        ≡ said_of_name (λ name xs. declares (start_line name xs)) (list_of alternative_of)
+        (words rest.now)) }
 {
     let Some((name, others)) = name_in(rest) else {
         return Ok(None);
@@ -247,7 +258,9 @@ fn start_said(alloc: Global, rest: &[u8]) -> Result<Option<ScenarioLine>, AllocE
 }
 
 fn pending_said(alloc: Global, rest: &[u8]) -> Result<Option<ScenarioLine>, AllocError>
-    ensures { IfOk result (λ item. option_map line_of_value item ≡ said_of_name (λ name xs. declares (pending_line name xs)) (list_of code_of) (words rest.now)) }
+    ensures { IfOk result (λ item. option_map line_of_value item
+        ≡ said_of_name (λ name xs. declares (pending_line name xs)) (list_of code_of)
+        (words rest.now)) }
 {
     let Some((name, others)) = name_in(rest) else {
         return Ok(None);
@@ -257,7 +270,9 @@ fn pending_said(alloc: Global, rest: &[u8]) -> Result<Option<ScenarioLine>, Allo
 }
 
 fn reservation_said(alloc: Global, rest: &[u8]) -> Result<Option<ScenarioLine>, AllocError>
-    ensures { IfOk result (λ item. option_map line_of_value item ≡ option_map (λ xs. declares (reservation_line xs)) (list_of start_reservation_of (words rest.now))) }
+    ensures { IfOk result (λ item. option_map line_of_value item
+        ≡ option_map (λ xs. declares (reservation_line xs))
+        (list_of start_reservation_of (words rest.now))) }
 {
     let wanted = wanted_in(alloc, rest)?;
     Ok(wanted.map(ScenarioLine::Reservation))
@@ -265,7 +280,8 @@ fn reservation_said(alloc: Global, rest: &[u8]) -> Result<Option<ScenarioLine>, 
 
 #[tactic(auto, using(crate::proofs::Lists::each_same))]
 fn keys_in(alloc: Global, line: &[u8]) -> Result<Option<Vec<u64>>, AllocError>
-    ensures { IfOk result (λ keys. option_map (λ v. v.items) keys ≡ list_of key_of (words line.now)) }
+    ensures { IfOk result (λ keys. option_map (λ v. v.items) keys
+        ≡ list_of key_of (words line.now)) }
 {
     if is_end(line) {
         return Ok(None);
@@ -284,7 +300,8 @@ fn keys_in(alloc: Global, line: &[u8]) -> Result<Option<Vec<u64>>, AllocError>
 
 #[tactic(auto, using(crate::proofs::Lists::each_same))]
 fn alternatives_in(alloc: Global, line: &[u8]) -> Result<Option<Vec<Option<u64>>>, AllocError>
-    ensures { IfOk result (λ xs. option_map (λ v. v.items) xs ≡ list_of alternative_of (words line.now)) }
+    ensures { IfOk result (λ xs. option_map (λ v. v.items) xs
+        ≡ list_of alternative_of (words line.now)) }
 {
     if is_end(line) {
         return Ok(None);
@@ -332,7 +349,8 @@ fn attentions_in(alloc: Global, line: &[u8]) -> Result<Option<Vec<Attention>>, A
 
 #[tactic(auto, using(crate::proofs::Lists::each_same))]
 fn wanted_in(alloc: Global, line: &[u8]) -> Result<Option<Vec<StartReservation>>, AllocError>
-    ensures { IfOk result (λ xs. option_map (λ v. map wanted_seen v.items) xs ≡ list_of start_reservation_of (words line.now)) }
+    ensures { IfOk result (λ xs. option_map (λ v. map wanted_seen v.items) xs
+        ≡ list_of start_reservation_of (words line.now)) }
 {
     if is_end(line) {
         return Ok(None);

@@ -125,7 +125,8 @@ impl Written {
 
     // Whether neither a key nor a type is written.
     fn is_bare(&self) -> bool
-        ensures { result ≡ (is_none self.now.rk && (is_none self.now.sark && is_none self.now.kind)) }
+        ensures { result ≡ (is_none self.now.rk
+            && (is_none self.now.sark && is_none self.now.kind)) }
     {
         self.rk.is_none() && self.sark.is_none() && self.kind.is_none()
     }

@@ -61,8 +61,9 @@ pub(crate) fn three(first: Branch, second: Branch, third: Branch) -> ArrayVec<Br
 
 // The same ending in all states.
 pub(crate) fn ending_everywhere(ending: Ending) -> ArrayVec<Branch, 3>
-    ensures { (hosts : ℕ) (purpose : Purpose) (held : Option Held) (sender : ℕ) (standing : Standing) →
-        AlwaysEnds hosts purpose held sender standing ending → Tell hosts purpose held sender standing result.items }
+    ensures { (hosts : ℕ) (purpose : Purpose) (held : Option Held) (sender : ℕ)
+        (standing : Standing) → AlwaysEnds hosts purpose held sender standing ending
+        → Tell hosts purpose held sender standing result.items }
 {
     one(Branch {
         region: Region::whole(),

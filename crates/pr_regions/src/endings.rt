@@ -72,7 +72,8 @@ pub(crate) fn no_change(hosts: u8, held: Option<Held>) -> Change
 pub(crate) fn look_ending(hosts: u8, held: Option<Held>) -> Ending
     requires few { hosts ≤ MOST_NEXUSES }
     requires fits { IsTrue (is_reservation hosts held) }
-    ensures { (sender : ℕ) (standing : Standing) → AlwaysEnds hosts Purpose.Look held sender standing result }
+    ensures { (sender : ℕ) (standing : Standing)
+        → AlwaysEnds hosts Purpose.Look held sender standing result }
 {
     Ending::Good(no_change(hosts, held))
 }
@@ -118,8 +119,12 @@ pub(crate) fn transfer_ending(
 ) -> Ending
     requires few { hosts ≤ MOST_NEXUSES }
     requires fits { IsTrue (is_reservation hosts held) }
-    ensures reading { (sender : ℕ) (standing : Standing) → is_kept ≡ is_kept_from keeps_from_reading held sender standing → AlwaysEnds hosts (Purpose.Read in_range) held sender standing result }
-    ensures writing { (sender : ℕ) (standing : Standing) → is_kept ≡ is_kept_from keeps_from_writing held sender standing → AlwaysEnds hosts (Purpose.Write in_range) held sender standing result }
+    ensures reading { (sender : ℕ) (standing : Standing)
+        → is_kept ≡ is_kept_from keeps_from_reading held sender standing
+        → AlwaysEnds hosts (Purpose.Read in_range) held sender standing result }
+    ensures writing { (sender : ℕ) (standing : Standing)
+        → is_kept ≡ is_kept_from keeps_from_writing held sender standing
+        → AlwaysEnds hosts (Purpose.Write in_range) held sender standing result }
 {
     if is_kept {
         Ending::Conflict
@@ -135,7 +140,8 @@ pub(crate) fn register_ending(hosts: u8, key: u8, held: Option<Held>) -> Ending
     requires few { hosts ≤ MOST_NEXUSES }
     requires fits { IsTrue (is_reservation hosts held) }
     requires key { HasNumber (Purpose.Register key) }
-    ensures { (sender : ℕ) (standing : Standing) → AlwaysEnds hosts (Purpose.Register key) held sender standing result }
+    ensures { (sender : ℕ) (standing : Standing)
+        → AlwaysEnds hosts (Purpose.Register key) held sender standing result }
 {
     Ending::Good(Change {
         sender: Some(key),
@@ -207,7 +213,8 @@ pub(crate) fn release_ending(
 
 /// To remove the reservation and every registration.
 pub(crate) fn clear_ending() -> Ending
-    ensures { (hosts : ℕ) (held : Option HeldOf) (sender : ℕ) (standing : Standing) → AlwaysEnds hosts Purpose.Clear held sender standing result }
+    ensures { (hosts : ℕ) (held : Option HeldOf) (sender : ℕ) (standing : Standing)
+        → AlwaysEnds hosts Purpose.Clear held sender standing result }
 {
     Ending::Good(Change {
         sender: Some(0),
@@ -221,7 +228,8 @@ pub(crate) fn clear_ending() -> Ending
 pub(crate) fn preempt_all_ending(hosts: u8, kind: Kind, held: Option<Held>, sender: u8) -> Ending
     requires few { hosts ≤ MOST_NEXUSES }
     requires there { sender < hosts }
-    ensures { (standing : Standing) → AlwaysEnds hosts (Purpose.PreemptAll kind) held sender standing result }
+    ensures { (standing : Standing) → AlwaysEnds hosts (Purpose.PreemptAll kind) held sender
+        standing result }
 {
     if !is_held_by_all(held) {
         return Ending::Fault(illegal(INVALID_FIELD_IN_PARAMETER_LIST, 0));

@@ -42,7 +42,9 @@ impl Default for Reading {
 fn asked_by(test: Test, keys: &[u64], registration: u8) -> Ask
     requires few { length keys.now ≤ MOST_KEYS }
     requires fits { test_fits keys.now (Command.ReadKeys WRITTEN_LENGTH) test ≡ true }
-    ensures asked { (hosts : ℕ) (held : Option Held) (sender : ℕ) → IsAsked keys.now hosts held sender registration (Command.ReadKeys WRITTEN_LENGTH) test result }
+    ensures asked { (hosts : ℕ) (held : Option Held) (sender : ℕ)
+        → IsAsked keys.now hosts held sender registration (Command.ReadKeys WRITTEN_LENGTH) test
+        result }
     ensures small { HasFewer result }
 {
     match test {
@@ -80,9 +82,11 @@ fn open_to(left: Word) -> Region
 pub(crate) fn key_readings(tests: &[Test], keys: &[u64], registration: u8) -> ArrayVec<Reading, 17>
     requires few { length keys.now ≤ MOST_KEYS }
     requires arms { length tests.now ≤ MOST_ARMS }
-    requires fits { All (λ test. test_fits keys.now (Command.ReadKeys WRITTEN_LENGTH) test ≡ true) tests.now }
+    requires fits { All (λ test. test_fits keys.now (Command.ReadKeys WRITTEN_LENGTH) test ≡ true)
+        tests.now }
     ensures right { (hosts : ℕ) (held : Option Held) (sender : ℕ)
-        → AreReadings keys.now hosts tests.now (Command.ReadKeys WRITTEN_LENGTH) held sender registration result.items }
+        → AreReadings keys.now hosts tests.now (Command.ReadKeys WRITTEN_LENGTH) held sender
+        registration result.items }
     ensures proper { All IsProperReading result.items }
 {
     let mut readings = ArrayVec::new();

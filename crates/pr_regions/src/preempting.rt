@@ -27,8 +27,9 @@ fn replacement_change(hosts: u8, key: u8, old: Kind, kind: Kind, sender: u8) -> 
     requires few { hosts ≤ MOST_NEXUSES }
     requires there { sender < hosts }
     requires key { key ≤ MOST_KEYS }
-    ensures change { Does result None (only key) (number_of hosts (Some (new_reservation kind sender)))
-        never (told_but (not (is_kind old kind)) key) (only key) }
+    ensures change { Does result None (only key)
+        (number_of hosts (Some (new_reservation kind sender))) never
+        (told_but (not (is_kind old kind)) key) (only key) }
     ensures room { HasRoom hosts (Ending.Good result) }
 {
     let mut change = Change {
@@ -63,8 +64,9 @@ fn preempting_others(hosts: u8, key: u8, held: Option<Held>) -> ArrayVec<Branch,
     requires few { hosts ≤ MOST_NEXUSES }
     requires fits { IsTrue (is_reservation hosts held) }
     requires key { (1 ≤ key) × (key ≤ MOST_KEYS) }
-    ensures { (kind : KindOf) (sender : ℕ) (standing : Standing) → is_named standing ≡ false → IsNotAnothers held sender
-        → Tell hosts (Purpose.Preempt key kind) held sender standing result.items }
+    ensures { (kind : KindOf) (sender : ℕ) (standing : Standing) → is_named standing ≡ false
+        → IsNotAnothers held sender → Tell hosts (Purpose.Preempt key kind) held sender standing
+        result.items }
 {
     let somebody_has = Branch {
         region: Region {
@@ -87,7 +89,8 @@ fn preempting_others(hosts: u8, key: u8, held: Option<Held>) -> ArrayVec<Branch,
 fn preempting_unheld(hosts: u8, key: u8, standing: Standing) -> ArrayVec<Branch, 3>
     requires few { hosts ≤ MOST_NEXUSES }
     requires key { (1 ≤ key) × (key ≤ MOST_KEYS) }
-    ensures { (kind : KindOf) (sender : ℕ) → Tell hosts (Purpose.Preempt key kind) None sender standing result.items }
+    ensures { (kind : KindOf) (sender : ℕ)
+        → Tell hosts (Purpose.Preempt key kind) None sender standing result.items }
 {
     if standing.is_named() {
         ending_everywhere(Ending::Good(removal_change(key, true, 0)))
@@ -137,7 +140,8 @@ fn preempting_holder(
     requires fits { IsTrue (is_reservation hosts (Some (Held.One old holder))) }
     requires apart { holder ≢ sender }
     requires key { (1 ≤ key) × (key ≤ MOST_KEYS) }
-    ensures { Tell hosts (Purpose.Preempt key kind) (Some (Held.One old holder)) sender standing result.items }
+    ensures { Tell hosts (Purpose.Preempt key kind) (Some (Held.One old holder)) sender standing
+        result.items }
 {
     let number = reservation_number(hosts, Some(Held::One(old, holder)));
     let holder_has = Branch {
@@ -189,7 +193,8 @@ fn preempting_single(
     requires there { sender < hosts }
     requires fits { IsTrue (is_reservation hosts (Some (Held.One old holder))) }
     requires key { (1 ≤ key) × (key ≤ MOST_KEYS) }
-    ensures { Tell hosts (Purpose.Preempt key kind) (Some (Held.One old holder)) sender standing result.items }
+    ensures { Tell hosts (Purpose.Preempt key kind) (Some (Held.One old holder)) sender standing
+        result.items }
 {
     if holder != sender {
         preempting_holder(hosts, key, kind, old, holder, sender, standing)
@@ -205,7 +210,8 @@ fn preempting_registrants(hosts: u8, key: u8, old: Kind, standing: Standing) -> 
     requires few { hosts ≤ MOST_NEXUSES }
     requires fits { IsTrue (is_reservation hosts (Some (Held.All old))) }
     requires key { (1 ≤ key) × (key ≤ MOST_KEYS) }
-    ensures { (kind : KindOf) (sender : ℕ) → Tell hosts (Purpose.Preempt key kind) (Some (Held.All old)) sender standing result.items }
+    ensures { (kind : KindOf) (sender : ℕ)
+        → Tell hosts (Purpose.Preempt key kind) (Some (Held.All old)) sender standing result.items }
 {
     let held = Some(Held::All(old));
     if standing.is_named() {

@@ -31,7 +31,8 @@ pub fn readings(
     requires written { IsTrue (is_written keys.now command) }
     requires fits { All (λ test. IsTrue (test_fits keys.now command test)) tests.now }
     requires known { registration ≤ length keys.now }
-    ensures right { (hosts : ℕ) → AreReadings keys.now hosts tests.now command held sender registration result.items }
+    ensures right { (hosts : ℕ) → AreReadings keys.now hosts tests.now command held sender
+        registration result.items }
     ensures proper { All IsProperReading result.items }
 {
     match command {

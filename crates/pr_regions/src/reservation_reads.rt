@@ -70,9 +70,11 @@ fn everywhere(arm: Option<usize>) -> ArrayVec<Reading, 17>
 // By the key of another host that holds the reservation alone.
 fn by_holder(tests: &[Test], keys: &[u64]) -> ArrayVec<Reading, 17>
     requires few { length keys.now ≤ MOST_KEYS }
-    requires fits { All (λ test. test_fits keys.now (Command.ReadReservation WRITTEN_LENGTH) test ≡ true) tests.now }
+    requires fits { All (λ test. test_fits keys.now (Command.ReadReservation WRITTEN_LENGTH) test
+        ≡ true) tests.now }
     ensures right { (hosts : ℕ) (kind : KindOf) (holder sender own : ℕ) → holder ≢ sender
-        → AreReadings keys.now hosts tests.now (Command.ReadReservation WRITTEN_LENGTH) (Some (Held.One kind holder)) sender own result.items }
+        → AreReadings keys.now hosts tests.now (Command.ReadReservation WRITTEN_LENGTH)
+        (Some (Held.One kind holder)) sender own result.items }
     ensures proper { All IsProperReading result.items }
 {
     let mut readings = ArrayVec::new();
@@ -97,9 +99,11 @@ fn held_readings(
     registration: u8,
 ) -> ArrayVec<Reading, 17>
     requires few { length keys.now ≤ MOST_KEYS }
-    requires fits { All (λ test. test_fits keys.now (Command.ReadReservation WRITTEN_LENGTH) test ≡ true) tests.now }
+    requires fits { All (λ test. test_fits keys.now (Command.ReadReservation WRITTEN_LENGTH) test
+        ≡ true) tests.now }
     requires known { registration ≤ length keys.now }
-    ensures right { (hosts : ℕ) → AreReadings keys.now hosts tests.now (Command.ReadReservation WRITTEN_LENGTH) (Some held) sender registration result.items }
+    ensures right { (hosts : ℕ) → AreReadings keys.now hosts tests.now
+        (Command.ReadReservation WRITTEN_LENGTH) (Some held) sender registration result.items }
     ensures proper { All IsProperReading result.items }
 {
     match held {
@@ -123,9 +127,11 @@ pub(crate) fn reservation_readings(
     registration: u8,
 ) -> ArrayVec<Reading, 17>
     requires few { length keys.now ≤ MOST_KEYS }
-    requires fits { All (λ test. test_fits keys.now (Command.ReadReservation WRITTEN_LENGTH) test ≡ true) tests.now }
+    requires fits { All (λ test. test_fits keys.now (Command.ReadReservation WRITTEN_LENGTH) test
+        ≡ true) tests.now }
     requires known { registration ≤ length keys.now }
-    ensures right { (hosts : ℕ) → AreReadings keys.now hosts tests.now (Command.ReadReservation WRITTEN_LENGTH) held sender registration result.items }
+    ensures right { (hosts : ℕ) → AreReadings keys.now hosts tests.now
+        (Command.ReadReservation WRITTEN_LENGTH) held sender registration result.items }
     ensures proper { All IsProperReading result.items }
 {
     match held {

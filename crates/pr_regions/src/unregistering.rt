@@ -22,8 +22,9 @@ use pr_sets::Word;
 fn unregister_change(hosts: u8, held: Option<Held>, sender: u8) -> Change
     requires few { hosts ≤ MOST_NEXUSES }
     requires fits { IsTrue (is_reservation hosts held) }
-    ensures change { Does result (Some 0) never (number_of hosts (if holds_alone held sender then None else held))
-        never (told_if (holds_alone held sender && is_told_of_loss held)) never }
+    ensures change { Does result (Some 0) never
+        (number_of hosts (if holds_alone held sender then None else held)) never
+        (told_if (holds_alone held sender && is_told_of_loss held)) never }
     ensures room { HasRoom hosts (Ending.Good result) }
 {
     let left = match held {
@@ -41,7 +42,8 @@ fn unregistering_registrant(hosts: u8, held: Option<Held>) -> ArrayVec<Branch, 3
     requires few { hosts ≤ MOST_NEXUSES }
     requires fits { IsTrue (is_reservation hosts held) }
     requires all { is_held_by_all held ≡ true }
-    ensures { (sender : ℕ) (standing : Standing) → is_unregistered standing ≡ false → Tell hosts Purpose.Unregister held sender standing result.items }
+    ensures { (sender : ℕ) (standing : Standing) → is_unregistered standing ≡ false
+        → Tell hosts Purpose.Unregister held sender standing result.items }
 {
     let others_stay = Branch {
         region: Region {

@@ -73,7 +73,8 @@ pub(crate) fn removed_by_preempt(
     case: Case,
 ) -> HostSet
     requires { host < MOST_NEXUSES }
-    ensures { result ≡ removed_by_preempt (table_keys MOST_NEXUSES slots.now) host sark (case_of case) }
+    ensures { result ≡ removed_by_preempt (table_keys MOST_NEXUSES slots.now) host sark
+        (case_of case) }
 {
     match case {
         Case::ReplacesAll => table::registrants(slots).without(host),
@@ -100,7 +101,8 @@ pub(crate) fn held_after_preempt(
     kind: Option<Kind>,
     case: Case,
 ) -> Option<Held>
-    ensures { result ≡ held_after_preempt (table_keys MOST_NEXUSES rest.now) held host kind (case_of case) }
+    ensures { result ≡ held_after_preempt (table_keys MOST_NEXUSES rest.now) held host kind
+        (case_of case) }
 {
     match case {
         Case::ReplacesAll => established_if(kind, host),

@@ -232,8 +232,8 @@ pub(crate) fn held_after_unregister(
     held: Option<Held>,
     host: u8,
 ) -> Option<Held>
-    ensures { result
-        ≡ (if holds_alone held host then None else held_by_rest (table_keys MOST_NEXUSES slots.now) held) }
+    ensures { result ≡ (if holds_alone held host then None else held_by_rest
+        (table_keys MOST_NEXUSES slots.now) held) }
 {
     if holds_alone(held, host) {
         return None;
@@ -244,7 +244,8 @@ pub(crate) fn held_after_unregister(
 /// Gives the host this key.
 pub(crate) fn insert(slots: &mut [Option<u64>; MOST_NEXUSES], host: u8, key: u64)
     requires { host < MOST_NEXUSES }
-    ensures { table_keys MOST_NEXUSES slots.new ≡ map.insert (table_keys MOST_NEXUSES slots.old) host key }
+    ensures { table_keys MOST_NEXUSES slots.new
+        ≡ map.insert (table_keys MOST_NEXUSES slots.old) host key }
 {
     slots[usize::from(host)] = Some(key);
 }
@@ -252,14 +253,16 @@ pub(crate) fn insert(slots: &mut [Option<u64>; MOST_NEXUSES], host: u8, key: u64
 /// Takes the host's key away.
 pub(crate) fn remove(slots: &mut [Option<u64>; MOST_NEXUSES], host: u8)
     requires { host < MOST_NEXUSES }
-    ensures { table_keys MOST_NEXUSES slots.new ≡ without (table_keys MOST_NEXUSES slots.old) (just host) }
+    ensures { table_keys MOST_NEXUSES slots.new
+        ≡ without (table_keys MOST_NEXUSES slots.old) (just host) }
 {
     slots[usize::from(host)] = None;
 }
 
 /// Takes the keys of these hosts away.
 pub(crate) fn remove_all(slots: &mut [Option<u64>; MOST_NEXUSES], removed: &HostSet)
-    ensures { table_keys MOST_NEXUSES slots.new ≡ without (table_keys MOST_NEXUSES slots.old) removed.now }
+    ensures { table_keys MOST_NEXUSES slots.new
+        ≡ without (table_keys MOST_NEXUSES slots.old) removed.now }
 {
     for host in 0..MOST_NEXUSES as u8 {
         if removed.has(host) {

@@ -50,8 +50,11 @@ impl Ahead {
     /// How many bytes the line in front has without its end, or how many of them are at hand where they are more
     /// than a line may have; none where the reader has nothing left.
     pub(crate) fn next_line<R: Read>(&mut self, reader: &mut R) -> Result<Option<usize>, TraceError>
-        ensures found { IfOk result (λ found. FindsLine (bytes_left self.old (R.remaining reader.old)) (bytes_held self.new) (R.remaining reader.new) found) }
-        ensures taken { Takes 0 (R.remaining reader.old) (R.remaining reader.new) (length (bytes_held self.old)) (length (bytes_held self.new)) }
+        ensures found { IfOk result (λ found. FindsLine
+            (bytes_left self.old (R.remaining reader.old)) (bytes_held self.new)
+            (R.remaining reader.new) found) }
+        ensures taken { Takes 0 (R.remaining reader.old) (R.remaining reader.new)
+            (length (bytes_held self.old)) (length (bytes_held self.new)) }
         ensures fault { IfErr result (λ e. e ≡ TraceError.ReadFault) }
     {
         loop {
@@ -93,10 +96,14 @@ impl Ahead {
     // Whether the reader had more.
     fn read_more<R: Read>(&mut self, reader: &mut R) -> Result<bool, TraceError>
         requires { length (bytes_held self.old) ≤ MOST_LINE_BYTES }
-        ensures kept { OnOk result (Keeps (bytes_left self.old (R.remaining reader.old)) (bytes_left self.new (R.remaining reader.new))) }
-        ensures taken { Takes 0 (R.remaining reader.old) (R.remaining reader.new) (length (bytes_held self.old)) (length (bytes_held self.new)) }
+        ensures kept { OnOk result (Keeps (bytes_left self.old (R.remaining reader.old))
+            (bytes_left self.new (R.remaining reader.new))) }
+        ensures taken { Takes 0 (R.remaining reader.old) (R.remaining reader.new)
+            (length (bytes_held self.old)) (length (bytes_held self.new)) }
         ensures fault { IfErr result (λ e. e ≡ TraceError.ReadFault) }
-        ensures grown { IfOk result (λ more. MatchBool more (length (bytes_held self.old) < length (bytes_held self.new)) ((bytes_held self.new ≡ bytes_held self.old) × IsAtEnd (R.remaining reader.new))) }
+        ensures grown { IfOk result (λ more. MatchBool more
+            (length (bytes_held self.old) < length (bytes_held self.new))
+            ((bytes_held self.new ≡ bytes_held self.old) × IsAtEnd (R.remaining reader.new))) }
     {
         let mut chunk = [0; CHUNK];
         let Ok(count) = reader.read(&mut chunk) else {

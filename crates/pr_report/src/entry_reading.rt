@@ -79,7 +79,8 @@ fn is_reset_line(index: u32, line: &[u8]) -> bool
 fn sent_on(version: u8, nexuses: &[Nexus], index: u32, line: &[u8]) -> Result<Item, TraceError>
     requires few { length nexuses.now ≤ MOST_NEXUSES }
     requires index { index ≤ MOST_ITEMS_2 }
-    ensures { result ≡ and_then (entry_on version (names_of nexuses.now) index line.now) (λ e. Ok (Item.Sent e)) }
+    ensures { result ≡ and_then (entry_on version (names_of nexuses.now) index line.now)
+        (λ e. Ok (Item.Sent e)) }
 {
     let number = index + 1;
     let Some(words) = seven_words(line) else {
@@ -117,7 +118,8 @@ fn sent_on(version: u8, nexuses: &[Nexus], index: u32, line: &[u8]) -> Result<It
 
 // The line's words, if there are just seven.
 fn seven_words(line: &[u8]) -> Option<EntryWords<'_>>
-    ensures { MatchOption result ((length (words line.now) == 7) ≡ false) (λ w. words line.now ≡ list_of_words w) }
+    ensures { MatchOption result ((length (words line.now) == 7) ≡ false)
+        (λ w. words line.now ≡ list_of_words w) }
 {
     let (index, rest) = next_word(Some(line))?;
     let (name, rest) = next_word(rest)?;
@@ -142,7 +144,8 @@ fn seven_words(line: &[u8]) -> Option<EntryWords<'_>>
 
 // The first word of what is left, and what stands behind the space after it.
 fn next_word(rest: Option<&[u8]>) -> Option<(&[u8], Option<&[u8]>)>
-    ensures { MatchOption result (words_left rest.entry ≡ []) (λ r. words_left rest.entry ≡ r.0.now ∷ words_left r.1) }
+    ensures { MatchOption result (words_left rest.entry ≡ [])
+        (λ r. words_left rest.entry ≡ r.0.now ∷ words_left r.1) }
 {
     let line = rest?;
     match space_in(line) {
@@ -159,7 +162,8 @@ fn space_in(line: &[u8]) -> Option<usize>
 
 // Whether the words begin as those of the entry with this index do.
 fn is_named(index: u32, words: &EntryWords<'_>) -> bool
-    ensures { result ≡ (bytes_eq words.now.index.now (decimal index) && is_name words.now.name.now) }
+    ensures { result ≡ (bytes_eq words.now.index.now (decimal index)
+        && is_name words.now.name.now) }
 {
     words.index == Buffer::new().format(index).as_bytes() && is_name(words.name)
 }
@@ -211,7 +215,8 @@ fn sense_of(bytes: &[u8]) -> Option<Sense>
 fn bytes_into<const N: usize>(most: usize, word: &[u8], bytes: &mut ArrayVec<u8, N>) -> bool
     requires room { most ≤ N }
     requires empty { bytes.old.items ≡ [] }
-    ensures { MatchBool result (bytes_in most word.now ≡ Some bytes.new.items) (bytes_in most word.now ≡ None) }
+    ensures { MatchBool result (bytes_in most word.now ≡ Some bytes.new.items)
+        (bytes_in most word.now ≡ None) }
 {
     if is_dash(word) {
         return true;

@@ -14,7 +14,8 @@ const BEGINNING: &[u8] = b"fence-trace ";
 
 /// Writes the first line of a trace of this version.
 pub(crate) fn put_first<W: Write>(writer: &mut W, version: u8) -> Result<(), WriteFault>
-    ensures { Puts (W.contents writer.old) (W.contents writer.new) (first_line version ++ codes "\n") result }
+    ensures { Puts (W.contents writer.old) (W.contents writer.new)
+        (first_line version ++ codes "\n") result }
 {
     put(writer, BEGINNING)?;
     put_number(writer, u64::from(version))?;

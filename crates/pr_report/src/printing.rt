@@ -59,7 +59,8 @@ pub fn put_line<W: Write>(
     first: Word<'_>,
     others: &[Word<'_>],
 ) -> Result<(), WriteFault>
-    ensures { Puts (W.contents writer.old) (W.contents writer.new) (line (printed_word first.entry) (map printed_word others.now)) result }
+    ensures { Puts (W.contents writer.old) (W.contents writer.new)
+        (line (printed_word first.entry) (map printed_word others.now)) result }
 {
     put_word(writer, first)?;
     put_spaced(writer, others)?;
@@ -68,7 +69,8 @@ pub fn put_line<W: Write>(
 
 /// Writes each word after a space.
 pub fn put_spaced<W: Write>(writer: &mut W, words: &[Word<'_>]) -> Result<(), WriteFault>
-    ensures { Puts (W.contents writer.old) (W.contents writer.new) (joined_by_spaces (map printed_word words.now)) result }
+    ensures { Puts (W.contents writer.old) (W.contents writer.new)
+        (joined_by_spaces (map printed_word words.now)) result }
 {
     for word in words {
         put_after_space(writer, *word)?;
@@ -77,7 +79,8 @@ pub fn put_spaced<W: Write>(writer: &mut W, words: &[Word<'_>]) -> Result<(), Wr
 }
 
 pub(crate) fn put_after_space<W: Write>(writer: &mut W, word: Word<'_>) -> Result<(), WriteFault>
-    ensures { Puts (W.contents writer.old) (W.contents writer.new) (codes " " ++ printed_word word.entry) result }
+    ensures { Puts (W.contents writer.old) (W.contents writer.new)
+        (codes " " ++ printed_word word.entry) result }
 {
     put(writer, b" ")?;
     put_word(writer, word)
@@ -85,7 +88,8 @@ pub(crate) fn put_after_space<W: Write>(writer: &mut W, word: Word<'_>) -> Resul
 
 #[tactic(auto, unfolding(crate::specs::Printed::printed_word))]
 pub(crate) fn put_word<W: Write>(writer: &mut W, word: Word<'_>) -> Result<(), WriteFault>
-    ensures { Puts (W.contents writer.old) (W.contents writer.new) (printed_word word.entry) result }
+    ensures { Puts (W.contents writer.old) (W.contents writer.new) (printed_word word.entry)
+        result }
 {
     match word {
         Word::Text(text) => put(writer, text),
@@ -110,7 +114,8 @@ pub(crate) fn put_number<W: Write>(writer: &mut W, number: u64) -> Result<(), Wr
 }
 
 fn put_pairs_or_dash<W: Write>(writer: &mut W, bytes: &[u8]) -> Result<(), WriteFault>
-    ensures { Puts (W.contents writer.old) (W.contents writer.new) (pairs_or_dash bytes.now) result }
+    ensures { Puts (W.contents writer.old) (W.contents writer.new) (pairs_or_dash bytes.now)
+        result }
 {
     if bytes.is_empty() {
         put(writer, b"-")
@@ -129,7 +134,8 @@ fn put_pairs<W: Write>(writer: &mut W, bytes: &[u8]) -> Result<(), WriteFault>
 }
 
 fn put_holder<W: Write>(writer: &mut W, kind: Kind, name: &[u8]) -> Result<(), WriteFault>
-    ensures { Puts (W.contents writer.old) (W.contents writer.new) (holder_word kind name.now) result }
+    ensures { Puts (W.contents writer.old) (W.contents writer.new) (holder_word kind name.now)
+        result }
 {
     put_kind(writer, kind)?;
     put(writer, b":")?;
@@ -147,7 +153,8 @@ fn put_registration<W: Write>(
     name: &[u8],
     key: Option<u64>,
 ) -> Result<(), WriteFault>
-    ensures { Puts (W.contents writer.old) (W.contents writer.new) (registration_word name.now key) result }
+    ensures { Puts (W.contents writer.old) (W.contents writer.new) (registration_word name.now key)
+        result }
 {
     put(writer, name)?;
     put(writer, b"=")?;
@@ -164,14 +171,16 @@ fn put_key_or_dash<W: Write>(writer: &mut W, key: Option<u64>) -> Result<(), Wri
 }
 
 fn put_reservation_key<W: Write>(writer: &mut W, key: u64) -> Result<(), WriteFault>
-    ensures { Puts (W.contents writer.old) (W.contents writer.new) (reservation_key_word key) result }
+    ensures { Puts (W.contents writer.old) (W.contents writer.new) (reservation_key_word key)
+        result }
 {
     put(writer, b"--param-rk=")?;
     put_digits(writer, key)
 }
 
 fn put_service_action_key<W: Write>(writer: &mut W, key: u64) -> Result<(), WriteFault>
-    ensures { Puts (W.contents writer.old) (W.contents writer.new) (service_action_key_word key) result }
+    ensures { Puts (W.contents writer.old) (W.contents writer.new) (service_action_key_word key)
+        result }
 {
     put(writer, b"--param-sark=")?;
     put_digits(writer, key)
@@ -205,14 +214,16 @@ fn put_class<W: Write>(writer: &mut W, class: Class) -> Result<(), WriteFault>
 }
 
 fn put_named_sense<W: Write>(writer: &mut W, sense: Sense) -> Result<(), WriteFault>
-    ensures { Puts (W.contents writer.old) (W.contents writer.new) (codes "sense " ++ sense_word sense) result }
+    ensures { Puts (W.contents writer.old) (W.contents writer.new)
+        (codes "sense " ++ sense_word sense) result }
 {
     put(writer, b"sense ")?;
     put_sense(writer, sense)
 }
 
 fn put_attentions<W: Write>(writer: &mut W, codes: &[u16]) -> Result<(), WriteFault>
-    ensures { Puts (W.contents writer.old) (W.contents writer.new) (attentions_word codes.now) result }
+    ensures { Puts (W.contents writer.old) (W.contents writer.new) (attentions_word codes.now)
+        result }
 {
     let Some((first, others)) = codes.split_first() else {
         return put(writer, b"none");
@@ -222,7 +233,8 @@ fn put_attentions<W: Write>(writer: &mut W, codes: &[u16]) -> Result<(), WriteFa
 }
 
 fn put_more_attentions<W: Write>(writer: &mut W, codes: &[u16]) -> Result<(), WriteFault>
-    ensures { Puts (W.contents writer.old) (W.contents writer.new) (more_attentions_word codes.now) result }
+    ensures { Puts (W.contents writer.old) (W.contents writer.new) (more_attentions_word codes.now)
+        result }
 {
     for code in codes {
         put_after_plus(writer, *code)?;
@@ -231,7 +243,8 @@ fn put_more_attentions<W: Write>(writer: &mut W, codes: &[u16]) -> Result<(), Wr
 }
 
 fn put_after_plus<W: Write>(writer: &mut W, code: u16) -> Result<(), WriteFault>
-    ensures { Puts (W.contents writer.old) (W.contents writer.new) (codes "+" ++ attention_word code) result }
+    ensures { Puts (W.contents writer.old) (W.contents writer.new)
+        (codes "+" ++ attention_word code) result }
 {
     put(writer, b"+")?;
     put_attention(writer, code)

@@ -56,7 +56,9 @@ pub fn write_trace<W: Write>(
     ends: &[End],
     counts: &[u32],
 ) -> Result<(), WriteFault>
-    ensures { Puts (W.contents writer.old) (W.contents writer.new) (trace_text (scenario_of scenario.now).version (names_in (scenario_of scenario.now)) history.now unit.now.registry (map ending_of ends.now) counts.now) result }
+    ensures { Puts (W.contents writer.old) (W.contents writer.new)
+        (trace_text (scenario_of scenario.now).version (names_in (scenario_of scenario.now))
+        history.now unit.now.registry (map ending_of ends.now) counts.now) result }
 {
     let parts = scenario.parts();
     put_trace(
@@ -79,7 +81,9 @@ fn put_trace<W: Write>(
     ends: &[End],
     counts: &[u32],
 ) -> Result<(), WriteFault>
-    ensures { Puts (W.contents writer.old) (W.contents writer.new) (trace_text version (names_of nexuses.now) history.now unit.now (map ending_of ends.now) counts.now) result }
+    ensures { Puts (W.contents writer.old) (W.contents writer.new)
+        (trace_text version (names_of nexuses.now) history.now unit.now (map ending_of ends.now)
+        counts.now) result }
 {
     let mut page = Page::new();
     add_line(writer, &mut page, nexuses, &TraceLine::First(version))?;
@@ -96,7 +100,9 @@ pub fn write_trace_body<W: Write>(
     ends: &[End],
     counts: &[u32],
 ) -> Result<(), WriteFault>
-    ensures { Puts (W.contents writer.old) (W.contents writer.new) (trace_body (names_in (scenario_of scenario.now)) history.now unit.now.registry (map ending_of ends.now) counts.now) result }
+    ensures { Puts (W.contents writer.old) (W.contents writer.new)
+        (trace_body (names_in (scenario_of scenario.now)) history.now unit.now.registry
+        (map ending_of ends.now) counts.now) result }
 {
     put_trace_body(
         writer,
@@ -116,7 +122,9 @@ fn put_trace_body<W: Write>(
     ends: &[End],
     counts: &[u32],
 ) -> Result<(), WriteFault>
-    ensures { Puts (W.contents writer.old) (W.contents writer.new) (trace_body (names_of nexuses.now) history.now unit.now (map ending_of ends.now) counts.now) result }
+    ensures { Puts (W.contents writer.old) (W.contents writer.new)
+        (trace_body (names_of nexuses.now) history.now unit.now (map ending_of ends.now) counts.now)
+        result }
 {
     let mut page = Page::new();
     add_body(writer, &mut page, nexuses, history, unit, ends, counts)?;
@@ -133,7 +141,9 @@ fn add_body<W: Write>(
     ends: &[End],
     counts: &[u32],
 ) -> Result<(), WriteFault>
-    ensures { PutsAllBut (W.contents writer.old) (W.contents writer.new) (page.old.items ++ trace_body (names_of nexuses.now) history.now unit.now (map ending_of ends.now) counts.now) page.new.items result }
+    ensures { PutsAllBut (W.contents writer.old) (W.contents writer.new)
+        (page.old.items ++ trace_body (names_of nexuses.now) history.now unit.now
+        (map ending_of ends.now) counts.now) page.new.items result }
 {
     add_items(writer, page, nexuses, history)?;
     add_line(writer, page, nexuses, &TraceLine::Unit(unit))?;
@@ -146,7 +156,8 @@ fn add_items<W: Write>(
     nexuses: &[Nexus],
     history: &[Item],
 ) -> Result<(), WriteFault>
-    ensures { PutsAllBut (W.contents writer.old) (W.contents writer.new) (page.old.items ++ item_lines 0 (names_of nexuses.now) history.now) page.new.items result }
+    ensures { PutsAllBut (W.contents writer.old) (W.contents writer.new)
+        (page.old.items ++ item_lines 0 (names_of nexuses.now) history.now) page.new.items result }
 {
     for (others, item) in history.iter().enumerate() {
         let line = TraceLine::Item(others as u64 + 1, item);
@@ -162,7 +173,9 @@ fn add_ends<W: Write>(
     ends: &[End],
     counts: &[u32],
 ) -> Result<(), WriteFault>
-    ensures { PutsAllBut (W.contents writer.old) (W.contents writer.new) (page.old.items ++ ending_lines 0 (names_of nexuses.now) counts.now (map ending_of ends.now)) page.new.items result }
+    ensures { PutsAllBut (W.contents writer.old) (W.contents writer.new)
+        (page.old.items ++ ending_lines 0 (names_of nexuses.now) counts.now
+        (map ending_of ends.now)) page.new.items result }
 {
     for (host, end) in ends.iter().enumerate() {
         let line = TraceLine::End(name_of(nexuses, host), *end, count_of(counts, host));
@@ -178,7 +191,8 @@ fn add_line<W: Write>(
     nexuses: &[Nexus],
     line: &TraceLine<'_>,
 ) -> Result<(), WriteFault>
-    ensures { PutsAllBut (W.contents writer.old) (W.contents writer.new) (page.old.items ++ line_text (names_of nexuses.now) line.now) page.new.items result }
+    ensures { PutsAllBut (W.contents writer.old) (W.contents writer.new)
+        (page.old.items ++ line_text (names_of nexuses.now) line.now) page.new.items result }
 {
     if has_added(page, nexuses, line) {
         return Ok(());
@@ -193,7 +207,8 @@ fn add_line<W: Write>(
 
 // Whether the page had room for the line, which is on it then.
 fn has_added(page: &mut Page, nexuses: &[Nexus], line: &TraceLine<'_>) -> bool
-    ensures added { OnTrue result (page.new.items ≡ page.old.items ++ line_text (names_of nexuses.now) line.now) }
+    ensures added { OnTrue result (page.new.items
+        ≡ page.old.items ++ line_text (names_of nexuses.now) line.now) }
     ensures full { OnFalse result (page.new.items ≡ page.old.items) }
 {
     let before = page.len();
@@ -209,7 +224,8 @@ fn put_trace_line<W: Write>(
     nexuses: &[Nexus],
     line: &TraceLine<'_>,
 ) -> Result<(), WriteFault>
-    ensures { Puts (W.contents writer.old) (W.contents writer.new) (line_text (names_of nexuses.now) line.now) result }
+    ensures { Puts (W.contents writer.old) (W.contents writer.new)
+        (line_text (names_of nexuses.now) line.now) result }
 {
     match line {
         TraceLine::First(version) => put_first(writer, *version),
@@ -225,7 +241,8 @@ fn put_item<W: Write>(
     nexuses: &[Nexus],
     item: &Item,
 ) -> Result<(), WriteFault>
-    ensures { Puts (W.contents writer.old) (W.contents writer.new) (item_line index (names_of nexuses.now) item.now) result }
+    ensures { Puts (W.contents writer.old) (W.contents writer.new)
+        (item_line index (names_of nexuses.now) item.now) result }
 {
     match item {
         Item::Sent(entry) => put_entry(writer, index, nexuses, entry),
@@ -247,7 +264,8 @@ fn put_entry<W: Write>(
     nexuses: &[Nexus],
     entry: &Entry,
 ) -> Result<(), WriteFault>
-    ensures { Puts (W.contents writer.old) (W.contents writer.new) (entry_line index (names_of nexuses.now) entry.now) result }
+    ensures { Puts (W.contents writer.old) (W.contents writer.new)
+        (entry_line index (names_of nexuses.now) entry.now) result }
 {
     let sense = sense_data(entry.reply.sense);
     let words = [
@@ -281,7 +299,8 @@ fn sense_data(sense: Option<Sense>) -> ArrayVec<u8, FIXED_SENSE_LENGTH>
 }
 
 fn put_unit<W: Write>(writer: &mut W, nexuses: &[Nexus], unit: &Registry) -> Result<(), WriteFault>
-    ensures { Puts (W.contents writer.old) (W.contents writer.new) (unit_line (names_of nexuses.now) unit.now) result }
+    ensures { Puts (W.contents writer.old) (W.contents writer.new)
+        (unit_line (names_of nexuses.now) unit.now) result }
 {
     put_word(writer, Word::Text(b"unit"))?;
     put_spaced(
@@ -301,7 +320,8 @@ fn put_registrations<W: Write>(
     nexuses: &[Nexus],
     unit: &Registry,
 ) -> Result<(), WriteFault>
-    ensures { Puts (W.contents writer.old) (W.contents writer.new) (joined_by_spaces (registration_words unit.now 0 (names_of nexuses.now))) result }
+    ensures { Puts (W.contents writer.old) (W.contents writer.new)
+        (joined_by_spaces (registration_words unit.now 0 (names_of nexuses.now))) result }
 {
     for (host, nexus) in nexuses.iter().enumerate() {
         put_after_space(
@@ -347,7 +367,8 @@ fn count_of(counts: &[u32], host: usize) -> u32
 
 #[tactic(auto, unfolding(crate::specs::TraceText::ending_line, crate::specs::Printed::printed_word))]
 fn put_end<W: Write>(writer: &mut W, name: &[u8], end: End, sent: u32) -> Result<(), WriteFault>
-    ensures { Puts (W.contents writer.old) (W.contents writer.new) (ending_line name.now (ending_of end) sent) result }
+    ensures { Puts (W.contents writer.old) (W.contents writer.new)
+        (ending_line name.now (ending_of end) sent) result }
 {
     match end {
         End::Stopped(word) => {
@@ -378,7 +399,9 @@ fn put_ending<'a, W: Write>(
     what: Word<'a>,
     sent: u32,
 ) -> Result<(), WriteFault>
-    ensures { Puts (W.contents writer.old) (W.contents writer.new) (line role.now (name.now ∷ how.now ∷ printed_word what.entry ∷ codes "sent" ∷ decimal sent ∷ [])) result }
+    ensures { Puts (W.contents writer.old) (W.contents writer.new)
+        (line role.now (name.now ∷ how.now ∷ printed_word what.entry ∷ codes "sent" ∷ decimal sent
+        ∷ [])) result }
 {
     put_line(
         writer,

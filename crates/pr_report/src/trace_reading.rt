@@ -36,9 +36,14 @@ pub fn read_trace<R: Read>(
     scenario: &Scenario,
     reader: &mut R,
 ) -> Result<Vec<Item>, TraceError>
-    ensures read { IfSome (R.remaining reader.old) (λ text. IfOk result (λ history. trace_of (scenario_of scenario.now).version (names_in (scenario_of scenario.now)) text ≡ Ok history.items)) }
-    ensures fault { IfSome (R.remaining reader.old) (λ text. IfErr result (λ e. Faults e (trace_of (scenario_of scenario.now).version (names_in (scenario_of scenario.now)) text))) }
-    ensures limited { LosesUpTo (most_of_trace (scenario_of scenario.now).version) (R.remaining reader.old) (R.remaining reader.new) }
+    ensures read { IfSome (R.remaining reader.old)
+        (λ text. IfOk result (λ history. trace_of (scenario_of scenario.now).version
+        (names_in (scenario_of scenario.now)) text ≡ Ok history.items)) }
+    ensures fault { IfSome (R.remaining reader.old)
+        (λ text. IfErr result (λ e. Faults e
+        (trace_of (scenario_of scenario.now).version (names_in (scenario_of scenario.now)) text))) }
+    ensures limited { LosesUpTo (most_of_trace (scenario_of scenario.now).version)
+        (R.remaining reader.old) (R.remaining reader.new) }
 {
     let parts = scenario.parts();
     let version = parts.version;
@@ -51,9 +56,15 @@ pub fn read_trace<R: Read>(
 
 // Reads the line above all others.
 fn read_first<R: Read>(version: u8, ahead: &mut Ahead, reader: &mut R) -> Result<(), TraceError>
-    ensures taken { Takes (bytes_of_lines 1) (R.remaining reader.old) (R.remaining reader.new) (length (bytes_held ahead.old)) (length (bytes_held ahead.new)) }
-    ensures ok { (names : List (List ℕ)) → OnOk result (Leads (λ old new. trace_in version names (lines old) ≡ items_of version names 0 (lines new)) (bytes_left ahead.old (R.remaining reader.old)) (bytes_left ahead.new (R.remaining reader.new))) }
-    ensures fault { (names : List (List ℕ)) → IfSome (bytes_left ahead.old (R.remaining reader.old)) (λ text. IfErr result (λ e. Faults e (trace_in version names (lines text)))) }
+    ensures taken { Takes (bytes_of_lines 1) (R.remaining reader.old) (R.remaining reader.new)
+        (length (bytes_held ahead.old)) (length (bytes_held ahead.new)) }
+    ensures ok { (names : List (List ℕ)) → OnOk result
+        (Leads (λ old new. trace_in version names (lines old)
+        ≡ items_of version names 0 (lines new)) (bytes_left ahead.old (R.remaining reader.old))
+        (bytes_left ahead.new (R.remaining reader.new))) }
+    ensures fault { (names : List (List ℕ))
+        → IfSome (bytes_left ahead.old (R.remaining reader.old))
+        (λ text. IfErr result (λ e. Faults e (trace_in version names (lines text)))) }
 {
     let Some(end) = ahead.next_line(reader)? else {
         return Err(TraceError::Syntax { line: 1 });
@@ -74,10 +85,17 @@ fn read_items<R: Read>(
     reader: &mut R,
 ) -> Result<Vec<Item>, TraceError>
     requires { length nexuses.now ≤ MOST_NEXUSES }
-    ensures taken { Takes (bytes_of_lines (most_items version)) (R.remaining reader.old) (R.remaining reader.new) (length (bytes_held ahead.old)) (length (bytes_held ahead.new)) }
-    ensures ok { IfOk result (λ history. Leads (λ old new. items_of version (names_of nexuses.now) 0 (lines old) ≡ and_then (later_lines (length history.items) 0 (lines new)) (λ _. Ok history.items)) (bytes_left ahead.old (R.remaining reader.old)) (bytes_left ahead.new (R.remaining reader.new))) }
+    ensures taken { Takes (bytes_of_lines (most_items version)) (R.remaining reader.old)
+        (R.remaining reader.new) (length (bytes_held ahead.old)) (length (bytes_held ahead.new)) }
+    ensures ok { IfOk result (λ history. Leads
+        (λ old new. items_of version (names_of nexuses.now) 0 (lines old)
+        ≡ and_then (later_lines (length history.items) 0 (lines new)) (λ _. Ok history.items))
+        (bytes_left ahead.old (R.remaining reader.old))
+        (bytes_left ahead.new (R.remaining reader.new))) }
     ensures few { IfOk result (λ history. length history.items ≤ most_items version) }
-    ensures fault { IfSome (bytes_left ahead.old (R.remaining reader.old)) (λ text. IfErr result (λ e. Faults e (items_of version (names_of nexuses.now) 0 (lines text)))) }
+    ensures fault { IfSome (bytes_left ahead.old (R.remaining reader.old))
+        (λ text. IfErr result (λ e. Faults e
+        (items_of version (names_of nexuses.now) 0 (lines text)))) }
 {
     // With room for all that may come nothing is copied as it grows; room that nothing is written into takes no memory.
     let mut history = Vec::with_capacity(alloc, most_items(version) as usize)?;
@@ -96,9 +114,12 @@ fn read_items<R: Read>(
 // Reads the lines behind so many items.
 fn read_later<R: Read>(items: u32, ahead: &mut Ahead, reader: &mut R) -> Result<(), TraceError>
     requires { items ≤ MOST_ITEMS_2 }
-    ensures taken { Takes (bytes_of_lines MOST_LATER_LINES) (R.remaining reader.old) (R.remaining reader.new) (length (bytes_held ahead.old)) (length (bytes_held ahead.new)) }
-    ensures ok { IfSome (bytes_left ahead.old (R.remaining reader.old)) (λ text. OnOk result (later_lines items 0 (lines text) ≡ Ok tt)) }
-    ensures fault { IfSome (bytes_left ahead.old (R.remaining reader.old)) (λ text. IfErr result (λ e. Faults e (later_lines items 0 (lines text)))) }
+    ensures taken { Takes (bytes_of_lines MOST_LATER_LINES) (R.remaining reader.old)
+        (R.remaining reader.new) (length (bytes_held ahead.old)) (length (bytes_held ahead.new)) }
+    ensures ok { IfSome (bytes_left ahead.old (R.remaining reader.old))
+        (λ text. OnOk result (later_lines items 0 (lines text) ≡ Ok tt)) }
+    ensures fault { IfSome (bytes_left ahead.old (R.remaining reader.old))
+        (λ text. IfErr result (λ e. Faults e (later_lines items 0 (lines text)))) }
 {
     let mut others = 0;
     while let Some(end) = ahead.next_line(reader)? {

@@ -53,7 +53,8 @@ pub fn write_verdict<W: Write>(
     verdict: &Verdict,
 ) -> Result<(), WriteFault>
     requires { IsVerdict verdict.now }
-    ensures { Puts (W.contents writer.old) (W.contents writer.new) (verdict_text (names_in (scenario_of scenario.now)) verdict.now) result }
+    ensures { Puts (W.contents writer.old) (W.contents writer.new)
+        (verdict_text (names_in (scenario_of scenario.now)) verdict.now) result }
 {
     match verdict {
         Verdict::Accepted => put_line(writer, Word::Text(b"accepted"), &[]),
@@ -66,7 +67,8 @@ pub fn write_verdict<W: Write>(
 // The line of a word and a number.
 #[tactic(auto, unfolding(crate::specs::Printed::printed_word))]
 fn put_counted<W: Write>(writer: &mut W, word: &[u8], number: usize) -> Result<(), WriteFault>
-    ensures { Puts (W.contents writer.old) (W.contents writer.new) (line word.now (decimal number ∷ [])) result }
+    ensures { Puts (W.contents writer.old) (W.contents writer.new)
+        (line word.now (decimal number ∷ [])) result }
 {
     put_line(writer, Word::Text(word), &[Word::Number(number as u64)])
 }
@@ -77,7 +79,8 @@ fn put_reason<W: Write>(
     refusal: Refusal,
 ) -> Result<(), WriteFault>
     requires { IsReason refusal }
-    ensures { Puts (W.contents writer.old) (W.contents writer.new) (refused_line (reason_words (names_of nexuses.now) refusal)) result }
+    ensures { Puts (W.contents writer.old) (W.contents writer.new)
+        (refused_line (reason_words (names_of nexuses.now) refusal)) result }
 {
     match refusal {
         Refusal::NoArm { host, line, class } => {
@@ -113,7 +116,8 @@ fn put_no_arm<W: Write>(
     line: u32,
     class: Class,
 ) -> Result<(), WriteFault>
-    ensures { Puts (W.contents writer.old) (W.contents writer.new) (refused_line (no_arm_words name.now line (class_word class))) result }
+    ensures { Puts (W.contents writer.old) (W.contents writer.new)
+        (refused_line (no_arm_words name.now line (class_word class))) result }
 {
     put_refused(
         writer,
@@ -136,7 +140,8 @@ fn put_place<'a, W: Write>(
     name: &'a [u8],
     line: u32,
 ) -> Result<(), WriteFault>
-    ensures { Puts (W.contents writer.old) (W.contents writer.new) (refused_line (place_words reason.now name.now line)) result }
+    ensures { Puts (W.contents writer.old) (W.contents writer.new)
+        (refused_line (place_words reason.now name.now line)) result }
 {
     put_refused(
         writer,
@@ -152,7 +157,8 @@ fn put_place<'a, W: Write>(
 
 #[tactic(auto, unfolding(crate::specs::Printed::printed_word))]
 fn put_over_budget<W: Write>(writer: &mut W, name: &[u8], cost: u64) -> Result<(), WriteFault>
-    ensures { Puts (W.contents writer.old) (W.contents writer.new) (refused_line (over_budget_words name.now cost)) result }
+    ensures { Puts (W.contents writer.old) (W.contents writer.new)
+        (refused_line (over_budget_words name.now cost)) result }
 {
     put_refused(
         writer,
@@ -169,7 +175,8 @@ fn put_over_budget<W: Write>(writer: &mut W, name: &[u8], cost: u64) -> Result<(
 // The line with these words after the first.
 #[tactic(auto, unfolding(crate::specs::Printed::printed_word))]
 fn put_refused<W: Write>(writer: &mut W, words: &[Word<'_>]) -> Result<(), WriteFault>
-    ensures { Puts (W.contents writer.old) (W.contents writer.new) (refused_line (map printed_word words.now)) result }
+    ensures { Puts (W.contents writer.old) (W.contents writer.new)
+        (refused_line (map printed_word words.now)) result }
 {
     put_line(writer, Word::Text(b"refused"), words)
 }

@@ -22,9 +22,11 @@ impl Parts {
     /// The registry of the first start: `None` where no state is allowed.
     pub(crate) fn first_registry(&self) -> Option<Registry>
         requires { Fits (scenario_of self.now) }
-        ensures value { option_map (λ registry. quiet_unit registry) result ≡ first_state (scenario_of self.now) }
+        ensures value { option_map (λ registry. quiet_unit registry) result
+            ≡ first_state (scenario_of self.now) }
         ensures exactly { IsSome result ↔ CanStart (scenario_of self.now) }
-        ensures allowed { IfSome result (λ registry. IsAllowedStart (scenario_of self.now) (quiet_unit registry)) }
+        ensures allowed { IfSome result (λ registry. IsAllowedStart (scenario_of self.now)
+            (quiet_unit registry)) }
     {
         let (held, keys) = first_under(&self.nexuses, &self.reservations)?;
         registry_of(&keys, held, self.generation)
@@ -42,7 +44,8 @@ fn registry_of(keys: &[Option<u64>], held: Option<Held>, generation: u32) -> Opt
 // The first of the reservations that can be well formed, with the registrations under it.
 fn first_under(nexuses: &[Nexus], reservations: &[Option<Held>]) -> Option<(Option<Held>, Keys)>
     requires { length nexuses.now ≤ MOST_NEXUSES }
-    ensures { option_map (λ first. (first.0, first.1.items)) result ≡ first_under (map start_of nexuses.now) reservations.now }
+    ensures { option_map (λ first. (first.0, first.1.items)) result
+        ≡ first_under (map start_of nexuses.now) reservations.now }
 {
     for held in reservations {
         if let Some(keys) = keys_under(nexuses, *held) {
@@ -90,7 +93,8 @@ fn first_of(start: &Start) -> Option<u64>
 #[tactic(auto, using(crate::proofs::Starting::start_at))]
 fn with_key(nexuses: &[Nexus], keys: Keys, host: usize) -> Option<Keys>
     requires { length nexuses.now ≡ length keys.items }
-    ensures { option_map (λ keys. keys.items) result ≡ with_key (map start_of nexuses.now) keys.items host }
+    ensures { option_map (λ keys. keys.items) result
+        ≡ with_key (map start_of nexuses.now) keys.items host }
 {
     let nexus = nexuses.get(host)?;
     let key = first_key(&nexus.start)?;
@@ -110,7 +114,8 @@ fn registered(mut keys: Keys, host: usize, key: u64) -> Keys
 #[tactic(auto, using(crate::proofs::Starting::position_of_starts))]
 fn with_registrant(nexuses: &[Nexus], keys: Keys) -> Option<Keys>
     requires { length nexuses.now ≡ length keys.items }
-    ensures { option_map (λ keys. keys.items) result ≡ with_registrant (map start_of nexuses.now) keys.items }
+    ensures { option_map (λ keys. keys.items) result
+        ≡ with_registrant (map start_of nexuses.now) keys.items }
 {
     if is_any_registered(&keys) {
         return Some(keys);

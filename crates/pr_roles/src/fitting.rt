@@ -65,13 +65,15 @@ fn are_of(version: u8, nexuses: &[Nexus]) -> bool
 }
 
 fn are_all_of(version: u8, nexuses: &[Nexus]) -> bool
-    ensures { result ≡ list_all (λ n. is_count version n.busy && (is_count version n.full && is_task_of version (task_of n.task))) nexuses.now }
+    ensures { result ≡ list_all (λ n. is_count version n.busy
+        && (is_count version n.full && is_task_of version (task_of n.task))) nexuses.now }
 {
     nexuses.iter().all(|nexus| is_of(version, nexus))
 }
 
 fn is_of(version: u8, nexus: &Nexus) -> bool
-    ensures { result ≡ (is_count version nexus.now.busy && (is_count version nexus.now.full && is_task_of version (task_of nexus.now.task))) }
+    ensures { result ≡ (is_count version nexus.now.busy
+        && (is_count version nexus.now.full && is_task_of version (task_of nexus.now.task))) }
 {
     is_count(version, nexus.busy)
         && is_count(version, nexus.full)

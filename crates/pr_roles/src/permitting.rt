@@ -33,7 +33,8 @@ pub fn is_always_permitted(command: Command) -> bool
 
 fn is_permitted_by(clauses: &[Clause], registry: &Registry, host: u8, command: Command) -> bool
     requires { host < registry.now.hosts }
-    ensures { result ≡ list_any (λ clause. clause_permits clause registry.now host command) clauses.now }
+    ensures { result ≡ list_any (λ clause. clause_permits clause registry.now host command)
+        clauses.now }
 {
     clauses
         .iter()

@@ -44,7 +44,8 @@ pub(crate) fn settle(rows: &[Instruction], from: usize, opens: &mut Loops) -> us
 fn advance(rows: &[Instruction], at: usize, opens: &mut Loops) -> Option<usize>
     requires { IsPlaced rows.now at opens.old.items }
     ensures placed { IfSome result (λ to. IsPlaced rows.now to opens.new.items) }
-    ensures leads { IfSome result (λ to. Leads (configuration (meanings rows.now) at opens.old.items)
+    ensures leads { IfSome result (λ to. Leads
+        (configuration (meanings rows.now) at opens.old.items)
         (configuration (meanings rows.now) to opens.new.items)) }
     ensures rests { IfNone result (becomes (configuration (meanings rows.now) at opens.old.items)
         ≡ configuration (meanings rows.now) at opens.old.items) }
@@ -74,7 +75,8 @@ fn advance(rows: &[Instruction], at: usize, opens: &mut Loops) -> Option<usize>
 fn repeat_or_exit(again: LoopFrame, opens: &mut Loops) -> usize
     requires { 0 < again.left → array_vec_len opens.old < MOST_OPEN }
     ensures to { (ms : List Stmts) → configuration ms result opens.new.items
-        ≡ turn again.left (place ms again.body) (before (place ms again.next) (open_configuration ms opens.old.items)) }
+        ≡ turn again.left (place ms again.body)
+        (before (place ms again.next) (open_configuration ms opens.old.items)) }
     ensures within { (top : ℕ) → again.body ≤ top → again.next ≤ top → AreLoops top opens.old.items
         → (result ≤ top) × AreLoops top opens.new.items }
 {
@@ -92,8 +94,10 @@ fn repeat_or_exit(again: LoopFrame, opens: &mut Loops) -> usize
 // Goes on after the innermost repeat.
 fn exit_loop(opens: &mut Loops) -> usize
     ensures to { (ms : List Stmts) → place ms 0 ≡ none
-        → configuration ms result opens.new.items ≡ past_mark (open_configuration ms opens.old.items) }
-    ensures within { (top : ℕ) → AreLoops top opens.old.items → (result ≤ top) × AreLoops top opens.new.items }
+        → configuration ms result opens.new.items
+        ≡ past_mark (open_configuration ms opens.old.items) }
+    ensures within { (top : ℕ) → AreLoops top opens.old.items
+        → (result ≤ top) × AreLoops top opens.new.items }
 {
     match opens.pop() {
         Some(left) => left.next,

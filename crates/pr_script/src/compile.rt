@@ -20,7 +20,8 @@ pub(crate) fn compile(
 ) -> Result<usize, AllocError>
     requires table { IsTable rows.old.items }
     requires within { next ≤ length rows.old.items }
-    ensures { IfOk result (λ first. IsCompiled rows.old.items rows.new.items (statements_in statements.now) next first) }
+    ensures { IfOk result (λ first. IsCompiled rows.old.items rows.new.items
+        (statements_in statements.now) next first) }
 {
     let mut place = next;
     for i in (0..statements.len()).rev() {
@@ -40,7 +41,8 @@ fn compile_step(
 ) -> Result<Step, AllocError>
     requires table { IsTable rows.old.items }
     requires within { next ≤ length rows.old.items }
-    ensures { IfOk result (λ step. IsStepCompiled rows.old.items rows.new.items (statement_of statement.now) next step) }
+    ensures { IfOk result (λ step. IsStepCompiled rows.old.items rows.new.items
+        (statement_of statement.now) next step) }
 {
     match statement {
         Statement::Send {
@@ -76,7 +78,8 @@ fn compile_arms(
 ) -> Result<Vec<ArmTarget>, AllocError>
     requires table { IsTable rows.old.items }
     requires within { next ≤ length rows.old.items }
-    ensures { IfOk result (λ jumps. AreArmsCompiled rows.old.items rows.new.items (arms_in arms.now) next jumps.items) }
+    ensures { IfOk result (λ jumps. AreArmsCompiled rows.old.items rows.new.items (arms_in arms.now)
+        next jumps.items) }
 {
     let mut jumps = Vec::with_capacity(alloc, arms.len())?;
     for arm in arms {

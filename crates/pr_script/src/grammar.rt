@@ -62,7 +62,9 @@ fn statement_fits(keys: &[u64], repeated: u32, sent: u32, statement: &Statement)
 fn send_fits(keys: &[u64], repeated: u32, sent: u32, command: Command, arms: &[Arm]) -> bool
     requires repeats { repeated ≤ MOST_OPEN }
     requires sends { sent ≤ MOST_OPEN }
-    ensures { result ≡ (is_send_written keys.now command (arms_in arms.now) && (nat_lt sent MOST_OPEN && arms_fit keys.now repeated (sent + 1) command (arms_in arms.now))) }
+    ensures { result ≡ (is_send_written keys.now command (arms_in arms.now)
+        && (nat_lt sent MOST_OPEN && arms_fit keys.now repeated (sent + 1) command
+        (arms_in arms.now))) }
 {
     is_send_written(keys, command, arms)
         && sent < MOST_OPEN
@@ -73,7 +75,9 @@ fn send_fits(keys: &[u64], repeated: u32, sent: u32, command: Command, arms: &[A
 fn repeat_fits(keys: &[u64], repeated: u32, sent: u32, count: u32, body: &Script) -> bool
     requires repeats { repeated ≤ MOST_OPEN }
     requires sends { sent ≤ MOST_OPEN }
-    ensures { result ≡ (is_repeat_written count (script_of body.now) && (nat_lt repeated MOST_OPEN && statements_fit keys.now (repeated + 1) sent (script_of body.now))) }
+    ensures { result ≡ (is_repeat_written count (script_of body.now)
+        && (nat_lt repeated MOST_OPEN && statements_fit keys.now (repeated + 1) sent
+        (script_of body.now))) }
 {
     is_repeat_written(count, body)
         && repeated < MOST_OPEN
@@ -97,7 +101,8 @@ fn arms_fit(keys: &[u64], repeated: u32, sent: u32, command: Command, arms: &[Ar
 fn arm_fits(keys: &[u64], repeated: u32, sent: u32, command: Command, arm: &Arm) -> bool
     requires repeats { repeated ≤ MOST_OPEN }
     requires sends { sent ≤ MOST_OPEN }
-    ensures { result ≡ (test_fits keys.now command arm.now.test && statements_fit keys.now repeated sent (script_of arm.now.body)) }
+    ensures { result ≡ (test_fits keys.now command arm.now.test
+        && statements_fit keys.now repeated sent (script_of arm.now.body)) }
 {
     test_fits(keys, command, arm.test) && statements_fit(keys, repeated, sent, &arm.body)
 }
@@ -191,7 +196,8 @@ pub fn is_written(keys: &[u64], command: Command) -> bool
 }
 
 fn is_preempt_written(keys: &[u64], rk: u64, sark: u64, kind: Option<Kind>) -> bool
-    ensures { result ≡ (is_written_key keys.now rk && (is_written_key keys.now sark && is_some kind)) }
+    ensures { result ≡ (is_written_key keys.now rk
+        && (is_written_key keys.now sark && is_some kind)) }
 {
     is_written_key(keys, rk) && is_written_key(keys, sark) && kind.is_some()
 }

@@ -186,7 +186,8 @@ fn copied_arms(alloc: Global, arms: &[Arm]) -> Result<Vec<Arm>, AllocError>
 impl Arm {
     #[cycle(same)]
     fn same(&self, other: &Arm) -> bool
-        ensures { IsTrue result ↔ ((self.now.test ≡ other.now.test) × (script_of self.now.body ≡ script_of other.now.body)) }
+        ensures { IsTrue result ↔ ((self.now.test ≡ other.now.test)
+            × (script_of self.now.body ≡ script_of other.now.body)) }
     {
         self.test == other.test && self.body.same(&other.body)
     }

@@ -65,7 +65,8 @@ fn are_arms_of(version: u8, arms: &[Arm]) -> bool
 
 #[cycle(dating)]
 fn is_arm_of(version: u8, arm: &Arm) -> bool
-    ensures { result ≡ (nat_le (since arm.now.test) version && is_script_of version (script_of arm.now.body)) }
+    ensures { result ≡ (nat_le (since arm.now.test) version
+        && is_script_of version (script_of arm.now.body)) }
 {
     arm.test.since() <= version && is_script_of(version, &arm.body)
 }

@@ -28,7 +28,8 @@ impl ListSet {
         requires below { n < self.old.size }
         requires room { vec_len self.old.numbers < vec_capacity self.old.numbers }
         ensures size { self.new.size ≡ self.old.size }
-        ensures members { numbers_in self.new.numbers.items ≡ set.insert (numbers_in self.old.numbers.items) n }
+        ensures members { numbers_in self.new.numbers.items
+            ≡ set.insert (numbers_in self.old.numbers.items) n }
         ensures len { vec_len self.new.numbers ≤ vec_len self.old.numbers + 1 }
         ensures capacity { vec_capacity self.new.numbers ≡ vec_capacity self.old.numbers }
     {

@@ -41,7 +41,8 @@ pub trait ViewSet: Sized + Drop {
     fn join(&mut self, other: &Self) -> Result<(), AllocError>
         requires alike { room other.now ≡ room self.old }
         ensures room { room self.new ≡ room self.old }
-        ensures ok { OnOk result (members self.new ≡ set.union (members self.old) (members other.now)) }
+        ensures ok { OnOk result (members self.new
+            ≡ set.union (members self.old) (members other.now)) }
         ensures err { OnErr result (members self.new ≡ members self.old) };
 
     /// Whether each member is one of the other set's.

@@ -34,7 +34,8 @@ impl ViewSet for WordSet {
         requires below { n < self.old.size }
         ensures room { self.new.size ≡ self.old.size }
         ensures ok { IsOk result }
-        ensures members { numbers_of_bits self.new.bits ≡ set.insert (numbers_of_bits self.old.bits) n }
+        ensures members { numbers_of_bits self.new.bits
+            ≡ set.insert (numbers_of_bits self.old.bits) n }
     {
         self.bits |= 1 << n;
         Ok(())
@@ -48,7 +49,8 @@ impl ViewSet for WordSet {
         requires alike { other.now.size ≡ self.old.size }
         ensures room { self.new.size ≡ self.old.size }
         ensures ok { IsOk result }
-        ensures members { numbers_of_bits self.new.bits ≡ set.union (numbers_of_bits self.old.bits) (numbers_of_bits other.now.bits) }
+        ensures members { numbers_of_bits self.new.bits
+            ≡ set.union (numbers_of_bits self.old.bits) (numbers_of_bits other.now.bits) }
     {
         self.bits |= other.bits;
         Ok(())

@@ -19,7 +19,8 @@ pub(crate) fn is_closed(
     lists: &[Vec<Entry>],
     ends: &[End],
 ) -> bool
-    requires { map (λ e. Some (ending_of e)) ends.now ≡ endings_in (scenario_of world.now.scenario) world.now.schedule }
+    requires { map (λ e. Some (ending_of e)) ends.now
+        ≡ endings_in (scenario_of world.now.scenario) world.now.schedule }
     ensures { IsTrue result
         ↔ IsClosed (scenario_of scenario.now) (map (λ l. l.items) lists.now) world.now }
 {
@@ -120,7 +121,8 @@ pub(crate) fn ends_of(world: &World, mut ends: Vec<End>) -> Vec<End>
 
 /// The outcome of a world in which no script and no plan has anything left to send.
 pub(crate) fn outcome_of(world: World, ends: Vec<End>) -> Outcome
-    requires ends { map (λ e. Some (ending_of e)) ends.items ≡ endings_in (scenario_of world.scenario) world.schedule }
+    requires ends { map (λ e. Some (ending_of e)) ends.items
+        ≡ endings_in (scenario_of world.scenario) world.schedule }
     requires over { AreOver (scenario_of world.scenario) world.schedule }
     ensures outcome { IsOutcome (scenario_of world.scenario) result }
     ensures history { result.history.items ≡ world.schedule.world.history }

@@ -42,15 +42,18 @@ impl<C: Round> Locked<C> {
         ensures mine { seat.new.mine.items ≡ seat.old.mine.items ++ added_by result }
         ensures ended { seat.new.ended ≡ is_stopped result }
         ensures scenario { self.new.world.scenario ≡ self.old.world.scenario }
-        ensures turn { IsTurn (scenario_of self.old.world.scenario) self.old.world.schedule seat.old.host how self.new.world.schedule }
-        ensures sent { IfSent result (λ entry. IsOneEvent (scenario_of self.old.world.scenario) seat.old.host entry
-            self.old.world.schedule.world self.new.world.schedule.world) }
+        ensures turn { IsTurn (scenario_of self.old.world.scenario) self.old.world.schedule
+            seat.old.host how self.new.world.schedule }
+        ensures sent { IfSent result (λ entry. IsOneEvent (scenario_of self.old.world.scenario)
+            seat.old.host entry self.old.world.schedule.world self.new.world.schedule.world) }
         ensures legal { IfSent result (λ entry. EndsLegally C.guests entry) }
-        ensures stopped { IfStopped result (λ word.
-            IsStopped (scenario_of self.old.world.scenario) self.old.world.schedule seat.old.host word) }
-        ensures rests { IfStopped result (λ word. self.new.world.schedule ≡ self.old.world.schedule) }
-        ensures held { IfHeld result (PassesOver (scenario_of self.old.world.scenario) self.old.world.schedule
-            seat.old.host self.new.world.schedule) }
+        ensures stopped { IfStopped result
+            (λ word. IsStopped (scenario_of self.old.world.scenario) self.old.world.schedule
+            seat.old.host word) }
+        ensures rests { IfStopped result (λ word. self.new.world.schedule
+            ≡ self.old.world.schedule) }
+        ensures held { IfHeld result (PassesOver (scenario_of self.old.world.scenario)
+            self.old.world.schedule seat.old.host self.new.world.schedule) }
         ensures guest { IfHeld result (slice_get C.guests seat.old.host ≡ Some true) }
     {
         let turn = self.world.step_as(seat.host, how);
@@ -72,8 +75,10 @@ impl<C: Round> Locked<C> {
     #[tactic(auto, using(crate::proofs::Resets::counted_still))]
     pub(crate) fn reset(&mut self) -> bool
         ensures scenario { self.new.world.scenario ≡ self.old.world.scenario }
-        ensures made { result ≡ may_reset (scenario_of self.old.world.scenario) self.old.world.schedule.world.history }
-        ensures turn { ResetTurn (scenario_of self.old.world.scenario) self.old.world.schedule self.new.world.schedule }
+        ensures made { result ≡ may_reset (scenario_of self.old.world.scenario)
+            self.old.world.schedule.world.history }
+        ensures turn { ResetTurn (scenario_of self.old.world.scenario) self.old.world.schedule
+            self.new.world.schedule }
     {
         self.world.reset()
     }
@@ -90,7 +95,8 @@ impl<C: Round> Locked<C> {
         requires room { vec_len seats ≤ vec_capacity lists }
         ensures guests { guests_of (scenario_of result.0.scenario) ≡ C.guests }
         ensures mine { map (λ l. l.items) result.1.items ≡ map (λ s. s.mine.items) seats.items }
-        ensures counted { sent_in result.0.schedule.world.history ≡ sum_by (λ s. vec_len s.mine) seats.items }
+        ensures counted { sent_in result.0.schedule.world.history
+            ≡ sum_by (λ s. vec_len s.mine) seats.items }
     {
         let Locked {
             world,

@@ -36,7 +36,8 @@ pub fn run<G: Gate, R: Threads + Wait + Sync>(
     gate: &G,
 ) -> Result<Outcome, RunError>
     ensures outcome { IfOk result (IsOutcome (scenario_of verified)) }
-    ensures known { IfErr result (IfSpawn (λ host history. host < length (scenario_of verified).nexuses)) }
+    ensures known { IfErr result (IfSpawn
+        (λ host history. host < length (scenario_of verified).nexuses)) }
     ensures halted { IfErr result (IfSpawn (IsHalted (scenario_of verified))) }
 {
     let nexuses = verified.scenario().parts().nexuses.len();
@@ -56,7 +57,8 @@ fn run_as<C: Round + Send + Sync, G: Gate, R: Threads + Wait + Sync>(
     requires guests { guests_of (scenario_of verified) ≡ C.guests }
     requires one_each { blank.parts ≡ length C.guests }
     ensures outcome { IfOk result (IsOutcome (scenario_of verified)) }
-    ensures known { IfErr result (IfSpawn (λ host history. host < length (scenario_of verified).nexuses)) }
+    ensures known { IfErr result (IfSpawn
+        (λ host history. host < length (scenario_of verified).nexuses)) }
     ensures halted { IfErr result (IfSpawn (IsHalted (scenario_of verified))) }
 {
     let nexuses = verified.scenario().parts().nexuses.len();
@@ -77,13 +79,15 @@ fn settled<C: Round>(
     failed: Option<u8>,
 ) -> Result<Outcome, RunError>
     requires parts { C.parts ≡ length C.guests }
-    requires started { StartedBut failed (map (λ s. s.host) seats.items) (range_with_len 0 (length C.guests)) }
+    requires started { StartedBut failed (map (λ s. s.host) seats.items)
+        (range_with_len 0 (length C.guests)) }
     ensures outcome { IfOk result (IsOutcome (scenario_of shared.kept.scenario)) }
     ensures own { IfOk result (λ outcome.
         entries_by (length C.guests) outcome.history.items ≡ map (λ s. s.mine.items) seats.items) }
     ensures known { IfErr result (IfSpawn (λ host history. host < length C.guests)) }
     ensures halted { IfErr result (IfSpawn (IsHalted (scenario_of shared.kept.scenario))) }
-    ensures sent { IfErr result (IfSpawn (λ host history. entries_by host history ≡ map (λ s. s.mine.items) seats.items)) }
+    ensures sent { IfErr result (IfSpawn (λ host history. entries_by host history
+        ≡ map (λ s. s.mine.items) seats.items)) }
 {
     if let Some(host) = failed {
         return match shared.halt(seats) {

@@ -41,7 +41,8 @@ impl<C: Round> Seat<C> {
         ensures host { IfOk result (λ seat. seat.host ≡ host) }
         ensures going { IfOk result (λ seat. seat.ended ≡ false) }
         ensures empty { IfOk result (λ seat. seat.mine.items ≡ []) }
-        ensures room { IfOk result (λ seat. vec_capacity seat.mine ≡ room_of (task_of task.now) + 1) }
+        ensures room { IfOk result (λ seat. vec_capacity seat.mine
+            ≡ room_of (task_of task.now) + 1) }
     {
         let mine = Vec::with_capacity(alloc, room_of(task) + 1)?;
         Ok(Seat {

@@ -24,11 +24,12 @@ pub(crate) fn seats_for<C: Round>(
     requires known { length nexuses.now ≡ length C.guests }
     requires parts { all.old.parts ≡ length nexuses.now }
     requires amount { all.old.amount ≡ 0 }
-    ensures in_order { IfOk result (λ seats. map (λ s. s.host) seats.items ≡ range_with_len 0 (length nexuses.now)) }
+    ensures in_order { IfOk result (λ seats. map (λ s. s.host) seats.items
+        ≡ range_with_len 0 (length nexuses.now)) }
     ensures going { IfOk result (λ seats. All (λ s. s.ended ≡ false) seats.items) }
     ensures empty { IfOk result (λ seats. All (λ s. s.mine.items ≡ []) seats.items) }
-    ensures room { IfOk result (λ seats.
-        map (λ s. vec_capacity s.mine) seats.items ≡ map (λ n. room_of (task_of n.task) + 1) nexuses.now) }
+    ensures room { IfOk result (λ seats. map (λ s. vec_capacity s.mine) seats.items
+        ≡ map (λ n. room_of (task_of n.task) + 1) nexuses.now) }
     ensures parts { OnOk result (all.new.parts ≡ 0) }
     ensures amount { OnOk result (all.new.amount ≡ 0) }
 {

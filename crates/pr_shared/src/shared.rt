@@ -50,8 +50,10 @@ impl<C: Round> SharedWorld<C> {
         requires parts { blank.parts ≡ C.parts }
         requires guests { guests_of (scenario_of verified) ≡ C.guests }
         requires one_each { blank.parts ≡ length C.guests }
-        ensures scenario { IfOk result (λ made. scenario_of made.0.kept.scenario ≡ scenario_of verified) }
-        ensures in_order { IfOk result (λ made. map (λ s. s.host) made.1.items ≡ range_with_len 0 (length C.guests)) }
+        ensures scenario { IfOk result (λ made. scenario_of made.0.kept.scenario
+            ≡ scenario_of verified) }
+        ensures in_order { IfOk result (λ made. map (λ s. s.host) made.1.items
+            ≡ range_with_len 0 (length C.guests)) }
         ensures going { IfOk result (λ made. All (λ s. s.ended ≡ false) made.1.items) }
         ensures empty { IfOk result (λ made. All (λ s. s.mine.items ≡ []) made.1.items) }
         ensures room { IfOk result (λ made. map (λ s. vec_capacity s.mine) made.1.items
@@ -118,18 +120,18 @@ impl<C: Round> SharedWorld<C> {
         requires in_order { map (λ s. s.host) seats.items ≡ range_with_len 0 (length C.guests) }
         requires ended { All (λ s. s.ended ≡ true) seats.items }
         ensures outcome { IfOk result (IsOutcome (scenario_of self.kept.scenario)) }
-        ensures own { IfOk result (λ outcome.
-            entries_by (length C.guests) outcome.history.items ≡ map (λ s. s.mine.items) seats.items) }
+        ensures own { IfOk result (λ outcome. entries_by (length C.guests) outcome.history.items
+            ≡ map (λ s. s.mine.items) seats.items) }
         ensures counted { IfOk result (λ outcome.
             sent_in outcome.history.items ≡ sum_by (λ s. vec_len s.mine) seats.items) }
-        ensures cause { IfErr result (λ differs.
-            ¬ IsClosed (scenario_of self.kept.scenario) (map (λ l. l.items) differs.mine.items) differs.world) }
+        ensures cause { IfErr result (λ differs. ¬ IsClosed (scenario_of self.kept.scenario)
+            (map (λ l. l.items) differs.mine.items) differs.world) }
         ensures mine { IfErr result (λ differs.
             map (λ l. l.items) differs.mine.items ≡ map (λ s. s.mine.items) seats.items) }
         ensures legal { IfErr result (λ differs.
             IsLegalWorld (scenario_of differs.world.scenario) differs.world.schedule) }
-        ensures total { IfErr result (λ differs.
-            sent_in differs.world.schedule.world.history ≡ sum_by (λ s. vec_len s.mine) seats.items) }
+        ensures total { IfErr result (λ differs. sent_in differs.world.schedule.world.history
+            ≡ sum_by (λ s. vec_len s.mine) seats.items) }
     {
         let SharedWorld { lock, kept } = self;
         let Kept {
@@ -191,8 +193,10 @@ fn furnished<C: Round>(
     requires guests { guests_of (scenario_of scenario.now) ≡ C.guests }
     requires parts { all.old.parts ≡ length C.guests }
     requires amount { all.old.amount ≡ 0 }
-    ensures scenario { IfOk result (λ made. scenario_of made.0.scenario ≡ scenario_of scenario.now) }
-    ensures in_order { IfOk result (λ made. map (λ s. s.host) made.1.items ≡ range_with_len 0 (length C.guests)) }
+    ensures scenario { IfOk result (λ made. scenario_of made.0.scenario
+        ≡ scenario_of scenario.now) }
+    ensures in_order { IfOk result (λ made. map (λ s. s.host) made.1.items
+        ≡ range_with_len 0 (length C.guests)) }
     ensures going { IfOk result (λ made. All (λ s. s.ended ≡ false) made.1.items) }
     ensures empty { IfOk result (λ made. All (λ s. s.mine.items ≡ []) made.1.items) }
     ensures room { IfOk result (λ made. map (λ s. vec_capacity s.mine) made.1.items

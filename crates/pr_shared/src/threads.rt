@@ -38,7 +38,8 @@ pub(crate) fn in_threads<'a, C: Round + Send + Sync, G: Gate, R: Threads + Wait 
     requires none_back { vec_len back ≡ 0 }
     requires room_to_start { vec_len seats ≤ vec_capacity started }
     requires room_back { vec_len seats ≤ vec_capacity back }
-    ensures { StartedBut result.1 (map (λ s. s.host) result.0.items) (map (λ s. s.host) seats.items) }
+    ensures { StartedBut result.1 (map (λ s. s.host) result.0.items)
+        (map (λ s. s.host) seats.items) }
 {
     thread::scope(
         thread::scope_env(),
@@ -48,7 +49,8 @@ pub(crate) fn in_threads<'a, C: Round + Send + Sync, G: Gate, R: Threads + Wait 
             requires none_back { vec_len back ≡ 0 }
             requires room_to_start { vec_len seats ≤ vec_capacity started }
             requires room_back { vec_len seats ≤ vec_capacity back }
-            ensures { StartedBut result.1 (map (λ s. s.host) result.0.items) (map (λ s. s.host) seats.items) }
+            ensures { StartedBut result.1 (map (λ s. s.host) result.0.items)
+                (map (λ s. s.host) seats.items) }
         {
             let (started, failed) = start_all(scope, rt, shared, gate, seats, started);
             (join_all(rt, started, back), failed)
@@ -67,7 +69,8 @@ fn start_all<'s, 'a: 's, C: Round + Send + Sync, G: Gate, R: Threads + Wait + Sy
 ) -> (Vec<Started<C>>, Option<u8>)
     requires none { vec_len started ≡ 0 }
     requires room { vec_len seats ≤ vec_capacity started }
-    ensures started { StartedBut result.1 (map (λ h. h.promise.0) result.0.items) (map (λ s. s.host) seats.items) }
+    ensures started { StartedBut result.1 (map (λ h. h.promise.0) result.0.items)
+        (map (λ s. s.host) seats.items) }
     ensures few { vec_len result.0 ≤ vec_len seats }
 {
     for seat in seats {

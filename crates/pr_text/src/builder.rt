@@ -82,7 +82,8 @@ impl Builder {
     /// What is declared with one line more.
     #[tactic(auto, unfolding(crate::specs::inside::Chains::item_taken), using(crate::proofs::LineOrder::in_order))]
     pub fn with_item(self, alloc: Global, line: u32, item: ScenarioLine) -> Result<Self, ReadError>
-        ensures { Gives declared_by result (item_placed line (line_of_value item) (declared_by self)) }
+        ensures { Gives declared_by result
+            (item_placed line (line_of_value item) (declared_by self)) }
     {
         if self.is_before(&item) {
             return Err(ReadError::Syntax { line });
@@ -105,7 +106,8 @@ impl Builder {
         line: u32,
         item: ScenarioLine,
     ) -> Result<Self, ReadError>
-        ensures { Gives declared_by result (item_standing line (line_of_value item) (declared_by self)) }
+        ensures { Gives declared_by result
+            (item_standing line (line_of_value item) (declared_by self)) }
     {
         match mem::replace(&mut self.place, Place::Outside) {
             Place::BeforeAll => self.first_line(line, item),
@@ -117,7 +119,8 @@ impl Builder {
 
     fn first_line(mut self, line: u32, item: ScenarioLine) -> Result<Self, ReadError>
         requires { self.place ≡ Outside }
-        ensures { Gives declared_by result (placed_first line (line_of_value item) (declared_by self)) }
+        ensures { Gives declared_by result
+            (placed_first line (line_of_value item) (declared_by self)) }
     {
         match item {
             ScenarioLine::Fence(version) => {
@@ -129,7 +132,8 @@ impl Builder {
     }
 
     fn line_outside(self, alloc: Global, line: u32, item: ScenarioLine) -> Result<Self, ReadError>
-        ensures { Gives declared_by result (placed_outside line (line_of_value item) (declared_by self)) }
+        ensures { Gives declared_by result
+            (placed_outside line (line_of_value item) (declared_by self)) }
     {
         match item {
             ScenarioLine::Keys(keys) => self.keys_line(line, keys),
@@ -173,7 +177,8 @@ impl Builder {
         is_guest: bool,
         name: Word,
     ) -> Result<Self, ReadError>
-        ensures { Gives declared_by result (nexus_placed line is_guest name.bytes (declared_by self)) }
+        ensures { Gives declared_by result
+            (nexus_placed line is_guest name.bytes (declared_by self)) }
     {
         if self.number_of(&name).is_some() {
             return Err(ReadError::Repeated { line });
@@ -193,7 +198,8 @@ impl Builder {
         name: Word,
         alternatives: Vec<Option<u64>>,
     ) -> Result<Self, ReadError>
-        ensures { Gives declared_by result (start_placed line name.bytes alternatives.items (declared_by self)) }
+        ensures { Gives declared_by result
+            (start_placed line name.bytes alternatives.items (declared_by self)) }
     {
         let Some(number) = self.number_of(&name) else {
             return Err(ReadError::UnknownName { line });
@@ -213,7 +219,8 @@ impl Builder {
         name: Word,
         attentions: &[Attention],
     ) -> Result<Self, ReadError>
-        ensures { Gives declared_by result (pending_placed line name.bytes attentions.now (declared_by self)) }
+        ensures { Gives declared_by result
+            (pending_placed line name.bytes attentions.now (declared_by self)) }
     {
         let Some(number) = self.number_of(&name) else {
             return Err(ReadError::UnknownName { line });
@@ -234,7 +241,8 @@ impl Builder {
         name: Word,
         count: u64,
     ) -> Result<Self, ReadError>
-        ensures { Gives declared_by result (refusals_placed line refusal name.bytes count (declared_by self)) }
+        ensures { Gives declared_by result
+            (refusals_placed line refusal name.bytes count (declared_by self)) }
     {
         let Some(number) = self.number_of(&name) else {
             return Err(ReadError::UnknownName { line });
@@ -258,7 +266,8 @@ impl Builder {
         line: u32,
         wanted: &[StartReservation],
     ) -> Result<Self, ReadError>
-        ensures { Gives declared_by result (reservation_placed line (map wanted_seen wanted.now) (declared_by self)) }
+        ensures { Gives declared_by result
+            (reservation_placed line (map wanted_seen wanted.now) (declared_by self)) }
     {
         let Some(reservations) = self.reservations_of(alloc, wanted)? else {
             return Err(ReadError::UnknownName { line });
@@ -323,7 +332,8 @@ impl Builder {
         name: Word,
         budget: u64,
     ) -> Result<Self, ReadError>
-        ensures { Gives declared_by result (script_placed line name.bytes budget (declared_by self)) }
+        ensures { Gives declared_by result
+            (script_placed line name.bytes budget (declared_by self)) }
     {
         let Some(host) = self.number_of(&name) else {
             return Err(ReadError::UnknownName { line });
@@ -362,7 +372,8 @@ impl Builder {
         item: ScenarioLine,
     ) -> Result<Self, ReadError>
         requires { self.place ≡ Outside }
-        ensures { Gives declared_by result (placed_in_script line (open_seen script) (line_of_value item) (declared_by self)) }
+        ensures { Gives declared_by result
+            (placed_in_script line (open_seen script) (line_of_value item) (declared_by self)) }
     {
         if let ScenarioLine::End = item {
             return self.script_end(line, script);
@@ -375,7 +386,8 @@ impl Builder {
     #[tactic(auto, using(crate::proofs::OpenLines::closed_lines))]
     fn script_end(mut self, line: u32, script: OpenScript) -> Result<Self, ReadError>
         requires { self.place ≡ Outside }
-        ensures { Gives declared_by result (script_ended line (open_seen script) (declared_by self)) }
+        ensures { Gives declared_by result
+            (script_ended line (open_seen script) (declared_by self)) }
     {
         if !script.is_closed() {
             return Err(ReadError::Syntax { line });
@@ -400,7 +412,8 @@ impl Builder {
         item: ScenarioLine,
     ) -> Result<Self, ReadError>
         requires { self.place ≡ Outside }
-        ensures { Gives declared_by result (placed_in_plan line guest commands.items (line_of_value item) (declared_by self)) }
+        ensures { Gives declared_by result
+            (placed_in_plan line guest commands.items (line_of_value item) (declared_by self)) }
     {
         match item {
             ScenarioLine::Command(spelled) => {
@@ -452,7 +465,8 @@ impl Builder {
         alloc: Global,
         wanted: &[StartReservation],
     ) -> Result<Option<Vec<Option<Held>>>, AllocError>
-        ensures { IfOk result (λ vs. option_map (λ v. v.items) vs ≡ each (held_of (map draft_seen self.now.nexuses.items)) (map wanted_seen wanted.now)) }
+        ensures { IfOk result (λ vs. option_map (λ v. v.items) vs
+            ≡ each (held_of (map draft_seen self.now.nexuses.items)) (map wanted_seen wanted.now)) }
     {
         let mut reservations = Vec::new(alloc);
         let mut rest = wanted;
@@ -467,7 +481,8 @@ impl Builder {
     }
 
     fn held_of(&self, wanted: &StartReservation) -> Option<Option<Held>>
-        ensures { result ≡ held_of (map draft_seen self.now.nexuses.items) (wanted_seen wanted.now) }
+        ensures { result ≡ held_of (map draft_seen self.now.nexuses.items)
+            (wanted_seen wanted.now) }
     {
         match wanted {
             StartReservation::Nobody => Some(None),

@@ -29,7 +29,8 @@ impl Builder {
     pub fn finished(self, alloc: Global, number: u32) -> Result<Scenario, ReadError>
         requires sound { IsSound number (declared_by self) }
         requires dated { IsDated (declared_by self) }
-        ensures found { IfOk result (λ scenario. IsWhole number (declared_by self) (scenario_of scenario)) }
+        ensures found { IfOk result (λ scenario. IsWhole number (declared_by self)
+            (scenario_of scenario)) }
         ensures fault { IfErr result (λ e. Fails e (end_placed number (declared_by self))) }
     {
         if let Some(fault) = self.missing_fault(number) {
@@ -56,7 +57,8 @@ impl Builder {
     // The parts that are declared.
     #[tactic(auto, unfolding(pr_roles::specs::Scenarios::scenario_of))]
     fn parts(self, alloc: Global) -> Result<Parts, AllocError>
-        ensures declared { IfOk result (λ parts. IsDeclaredBy (declared_by self) (scenario_of parts)) }
+        ensures declared { IfOk result (λ parts. IsDeclaredBy (declared_by self)
+            (scenario_of parts)) }
         ensures room { IfOk result (λ parts. parts.generation < 2 ^ 32) }
     {
         let Builder {
@@ -110,7 +112,8 @@ fn or_none<T: Drop>(
     alloc: Global,
     alternatives: Option<Vec<Option<T>>>,
 ) -> Result<Vec<Option<T>>, AllocError>
-    ensures { IfOk result (λ v. v.items ≡ unwrap_or (option_map (λ xs. xs.items) alternatives) (None ∷ [])) }
+    ensures { IfOk result (λ v. v.items ≡ unwrap_or (option_map (λ xs. xs.items) alternatives)
+        (None ∷ [])) }
 {
     match alternatives {
         Some(alternatives) => Ok(alternatives),
@@ -123,7 +126,8 @@ fn or_none<T: Drop>(
 }
 
 fn nexuses_of(alloc: Global, drafts: Vec<Draft>) -> Result<Vec<Nexus>, AllocError>
-    ensures { IfOk result (λ v. map nexus_written (map nexus_of v.items) ≡ map nexus_declared (map draft_seen drafts.items)) }
+    ensures { IfOk result (λ v. map nexus_written (map nexus_of v.items)
+        ≡ map nexus_declared (map draft_seen drafts.items)) }
 {
     let mut nexuses = Vec::new(alloc);
     for draft in drafts {
@@ -133,7 +137,8 @@ fn nexuses_of(alloc: Global, drafts: Vec<Draft>) -> Result<Vec<Nexus>, AllocErro
 }
 
 fn nexus_of(alloc: Global, draft: Draft) -> Result<Nexus, AllocError>
-    ensures { IfOk result (λ nexus. nexus_written (nexus_of nexus) ≡ nexus_declared (draft_seen draft)) }
+    ensures { IfOk result (λ nexus. nexus_written (nexus_of nexus)
+        ≡ nexus_declared (draft_seen draft)) }
 {
     let Draft {
         name,

@@ -74,7 +74,8 @@ impl OpenScript {
 
     /// A script without statements.
     pub fn new(alloc: Global, host: usize, budget: u32) -> Self
-        ensures { open_seen result ≡ record { host = host; budget = budget; lines = []; statements = 0; blocks = []; begun = false } }
+        ensures { open_seen result ≡ record
+            { host = host; budget = budget; lines = []; statements = 0; blocks = []; begun = false } }
     {
         OpenScript {
             host,
@@ -95,7 +96,8 @@ impl OpenScript {
         keys: &[u64],
         item: ScenarioLine,
     ) -> Result<Self, ReadError>
-        ensures { Gives open_seen result (line_step line keys.now (line_of_value item) (open_seen self)) }
+        ensures { Gives open_seen result (line_step line keys.now (line_of_value item)
+            (open_seen self)) }
     {
         match item {
             ScenarioLine::Send(spelled) => self.send(line, keys, spelled),
@@ -171,7 +173,8 @@ impl OpenScript {
 
     #[tactic(auto, unfolding(crate::specs::inside::Chains::script_step))]
     fn send(mut self, line: u32, keys: &[u64], spelled: ParsedCommand) -> Result<Self, ReadError>
-        ensures { Gives open_seen result (script_step line keys.now (send_line spelled) (open_seen self)) }
+        ensures { Gives open_seen result (script_step line keys.now (send_line spelled)
+            (open_seen self)) }
     {
         if self.awaits_arm() {
             return Err(ReadError::Syntax { line });
@@ -197,7 +200,8 @@ impl OpenScript {
 
     #[tactic(auto, unfolding(crate::specs::inside::Chains::script_step))]
     fn repeat(self, alloc: Global, line: u32, count: u64) -> Result<Self, ReadError>
-        ensures { Gives open_seen result (script_step line [] (repeat_line count) (open_seen self)) }
+        ensures { Gives open_seen result (script_step line [] (repeat_line count)
+            (open_seen self)) }
     {
         if self.awaits_arm() {
             return Err(ReadError::Syntax { line });
@@ -236,7 +240,8 @@ impl OpenScript {
     }
 
     fn on(self, alloc: Global, line: u32, keys: &[u64], test: Test) -> Result<Self, ReadError>
-        ensures { Gives open_seen result (script_step line keys.now (on_line test) (open_seen self)) }
+        ensures { Gives open_seen result (script_step line keys.now (on_line test)
+            (open_seen self)) }
     {
         match self.armless {
             Some(send) => self.first_arm(alloc, line, keys, send, test),
@@ -254,7 +259,8 @@ impl OpenScript {
         test: Test,
     ) -> Result<Self, ReadError>
         requires { self.armless ≡ Some send }
-        ensures { Gives open_seen result (script_step line keys.now (on_line test) (open_seen self)) }
+        ensures { Gives open_seen result (script_step line keys.now (on_line test)
+            (open_seen self)) }
     {
         if let Some(fault) = arm_fault(line, keys, send.command, 0, test) {
             return Err(fault);
@@ -278,7 +284,8 @@ impl OpenScript {
         test: Test,
     ) -> Result<Self, ReadError>
         requires { self.armless ≡ None }
-        ensures { Gives open_seen result (script_step line keys.now (on_line test) (open_seen self)) }
+        ensures { Gives open_seen result (script_step line keys.now (on_line test)
+            (open_seen self)) }
     {
         let Some(OpenBody { body, opener }) = self.outer.pop() else {
             return Err(ReadError::Syntax { line });
@@ -376,7 +383,8 @@ impl OpenScript {
 
     #[tactic(auto, unfolding(crate::specs::inside::Chains::script_step))]
     fn stop(mut self, line: u32, word: Word) -> Result<Self, ReadError>
-        ensures { Gives open_seen result (script_step line [] (stop_line word.bytes) (open_seen self)) }
+        ensures { Gives open_seen result (script_step line [] (stop_line word.bytes)
+            (open_seen self)) }
     {
         if self.awaits_more() {
             return Err(ReadError::Syntax { line });
@@ -404,7 +412,8 @@ fn is_repeat(opener: &BlockHead) -> bool
 // The statement that the opener and its body are.
 #[tactic(auto, using(crate::proofs::OpenLines::closed_repeat, crate::proofs::OpenLines::closed_send))]
 fn statement_of_block(opener: BlockHead, body: Script) -> Result<Statement, AllocError>
-    ensures { IfOk result (λ s. statement_lines (statement_of s) ≡ opener_lines opener ++ (lines_in body.statements.items ++ block_done ∷ [])) }
+    ensures { IfOk result (λ s. statement_lines (statement_of s)
+        ≡ opener_lines opener ++ (lines_in body.statements.items ++ block_done ∷ [])) }
 {
     match opener {
         BlockHead::Repeat { count } => Ok(Statement::Repeat { count, body }),

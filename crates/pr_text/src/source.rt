@@ -16,9 +16,11 @@ use std::io::Read;
 /// It never asks for more than `limit` bytes in all, and asks nothing again after an error. It fails where the
 /// reader does, or for want of memory.
 pub fn all_bytes<R: Read>(alloc: Global, reader: &mut R, limit: usize) -> Result<Vec<u8>, ReadError>
-    ensures ok { IfOk result (λ bytes. ReadsUpTo limit (R.remaining reader.old) (R.remaining reader.new) bytes.items) }
+    ensures ok { IfOk result (λ bytes. ReadsUpTo limit (R.remaining reader.old)
+        (R.remaining reader.new) bytes.items) }
     ensures err { OnErr result (LosesUpTo limit (R.remaining reader.old) (R.remaining reader.new)) }
-    ensures fault { IfErr result (λ e. (step : Result Declared ReadError) → FailsOrUnread (Unit {0}) e step) }
+    ensures fault { IfErr result (λ e. (step : Result Declared ReadError)
+        → FailsOrUnread (Unit {0}) e step) }
 {
     let mut bytes = Vec::new(alloc);
     let mut buffer = [0; 8_192];

@@ -30,7 +30,8 @@ pub(crate) fn answer(
 ) -> Reply
     requires there { host < registry.old.hosts }
     requires well_formed { IsWellFormed registry.old }
-    ensures { TakenStep (unit_of registry.old pendings.old) host request result (unit_of registry.new pendings.new) }
+    ensures { TakenStep (unit_of registry.old pendings.old) host request result
+        (unit_of registry.new pendings.new) }
 {
     match decide(registry, pendings, host, request) {
         Decision::PowerOn => report(pendings, host, request, Attention::PowerOn),
@@ -56,7 +57,8 @@ pub(crate) fn report(
 ) -> Reply
     requires { host < MOST_NEXUSES }
     ensures reply { result ≡ report request (code_of attention) }
-    ensures table { table_pairs pendings.new ≡ set.remove (table_pairs pendings.old) (host, code_of attention) }
+    ensures table { table_pairs pendings.new
+        ≡ set.remove (table_pairs pendings.old) (host, code_of attention) }
 {
     pending_table::remove(pendings, host, attention);
     report_of(request, attention)
@@ -85,7 +87,8 @@ pub(crate) fn perform(
     requires free { command_conflicts registry.old host command ≡ false }
     requires whole { command_fault registry.old host command ≡ None }
     ensures reply { result ≡ good (data_of registry.old command) }
-    ensures state { unit_of registry.new pendings.new ≡ effect (unit_of registry.old pendings.old) host command }
+    ensures state { unit_of registry.new pendings.new
+        ≡ effect (unit_of registry.old pendings.old) host command }
 {
     let bytes = data(registry, command);
     let change = serve(registry, host, command);

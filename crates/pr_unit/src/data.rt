@@ -69,7 +69,8 @@ fn capabilities_up_to(alloc: u16) -> ArrayVec<u8, MOST_DATA_LENGTH>
 // The data of REQUEST SENSE where no attention is pending.
 #[inline(never)]
 fn nothing_to_report() -> ArrayVec<u8, MOST_DATA_LENGTH>
-    ensures { result.items ≡ sense_bytes (record { key = NO_SENSE; asc = NO_ADDITIONAL_SENSE_INFORMATION; ascq = 0 }) }
+    ensures { result.items ≡ sense_bytes (record
+        { key = NO_SENSE; asc = NO_ADDITIONAL_SENSE_INFORMATION; ascq = 0 }) }
 {
     copied(&encode_sense(&Sense {
         key: NO_SENSE,

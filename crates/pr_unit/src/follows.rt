@@ -28,7 +28,8 @@ pub(crate) fn follow(
 ) -> bool
     requires there { host < registry.old.hosts }
     requires well_formed { IsWellFormed (unit_of registry.old pendings.old) }
-    ensures { IsFollowed (unit_of registry.old pendings.old) host request reply.now result (unit_of registry.new pendings.new) }
+    ensures { IsFollowed (unit_of registry.old pendings.old) host request reply.now result
+        (unit_of registry.new pendings.new) }
 {
     match decide(registry, pendings, host, request) {
         Decision::PowerOn => {
@@ -53,7 +54,8 @@ fn follow_any_report(
     reply: &Reply,
 ) -> bool
     requires { host < MOST_NEXUSES }
-    ensures { IsAnyReported (unit_of registry.now pendings.old) host request reply.now result (unit_of registry.now pendings.new) }
+    ensures { IsAnyReported (unit_of registry.now pendings.old) host request reply.now result
+        (unit_of registry.now pendings.new) }
 {
     follow_report(registry, pendings, host, request, reply, Attention::PowerOn)
         || follow_report(
@@ -92,7 +94,8 @@ fn follow_report(
     attention: Attention,
 ) -> bool
     requires { host < MOST_NEXUSES }
-    ensures { IsReported (unit_of registry.now pendings.old) host request reply.now (code_of attention) result (unit_of registry.now pendings.new) }
+    ensures { IsReported (unit_of registry.now pendings.old) host request reply.now
+        (code_of attention) result (unit_of registry.now pendings.new) }
 {
     let _ = registry;
     let follows = pending_table::has(pendings, host, attention)
@@ -115,7 +118,8 @@ fn follow_good(
     requires well_formed { IsWellFormed (unit_of registry.old pendings.old) }
     requires free { command_conflicts registry.old host command ≡ false }
     requires whole { command_fault registry.old host command ≡ None }
-    ensures { IsDoneSo (unit_of registry.old pendings.old) host command reply.now result (unit_of registry.new pendings.new) }
+    ensures { IsDoneSo (unit_of registry.old pendings.old) host command reply.now result
+        (unit_of registry.new pendings.new) }
 {
     let follows = *reply == reply::good(data(registry, command));
     if follows {

@@ -23,7 +23,8 @@ pub(crate) fn has(pendings: &[Pending; MOST_NEXUSES], host: u8, attention: Atten
 /// The attention with the lowest code of those that are pending for the host.
 pub(crate) fn lowest(pendings: &[Pending; MOST_NEXUSES], host: u8) -> Option<Attention>
     requires { host < MOST_NEXUSES }
-    ensures some { IfSome result (λ attention. IsLowestOf (table_pairs pendings.now) host (code_of attention)) }
+    ensures some { IfSome result (λ attention. IsLowestOf (table_pairs pendings.now) host
+        (code_of attention)) }
     ensures none { IsNone result ↔ HasNone (table_pairs pendings.now) host }
 {
     let pending = &pendings[usize::from(host)];
@@ -44,7 +45,8 @@ pub(crate) fn has_any(pendings: &[Pending; MOST_NEXUSES], host: u8) -> bool
 /// Makes the attention pending for the host.
 pub(crate) fn add(pendings: &mut [Pending; MOST_NEXUSES], host: u8, attention: Attention)
     requires { host < MOST_NEXUSES }
-    ensures { table_pairs pendings.new ≡ set.insert (table_pairs pendings.old) (host, code_of attention) }
+    ensures { table_pairs pendings.new ≡ set.insert (table_pairs pendings.old)
+        (host, code_of attention) }
 {
     let pending = &mut pendings[usize::from(host)];
     pending.add(attention);
@@ -53,7 +55,8 @@ pub(crate) fn add(pendings: &mut [Pending; MOST_NEXUSES], host: u8, attention: A
 /// Takes the attention away from the host.
 pub(crate) fn remove(pendings: &mut [Pending; MOST_NEXUSES], host: u8, attention: Attention)
     requires { host < MOST_NEXUSES }
-    ensures { table_pairs pendings.new ≡ set.remove (table_pairs pendings.old) (host, code_of attention) }
+    ensures { table_pairs pendings.new ≡ set.remove (table_pairs pendings.old)
+        (host, code_of attention) }
 {
     let pending = &mut pendings[usize::from(host)];
     pending.remove(attention);
@@ -62,7 +65,8 @@ pub(crate) fn remove(pendings: &mut [Pending; MOST_NEXUSES], host: u8, attention
 /// Makes the attention pending for each of the hosts.
 pub(crate) fn tell(pendings: &mut [Pending; MOST_NEXUSES], hosts: &HostSet, attention: Attention)
     requires { AreBelow MOST_NEXUSES hosts.now }
-    ensures { table_pairs pendings.new ≡ set.union (table_pairs pendings.old) (each_with hosts.now (code_of attention)) }
+    ensures { table_pairs pendings.new ≡ set.union (table_pairs pendings.old)
+        (each_with hosts.now (code_of attention)) }
 {
     for host in 0..MOST_NEXUSES as u8 {
         if hosts.has(host) {
@@ -74,7 +78,8 @@ pub(crate) fn tell(pendings: &mut [Pending; MOST_NEXUSES], hosts: &HostSet, atte
 /// Makes the attention pending for each of so many hosts.
 pub(crate) fn tell_all(pendings: &mut [Pending; MOST_NEXUSES], hosts: u8, attention: Attention)
     requires { hosts ≤ MOST_NEXUSES }
-    ensures { table_pairs pendings.new ≡ set.union (table_pairs pendings.old) (pairs_where hosts (λ h. set.insert no_code (code_of attention))) }
+    ensures { table_pairs pendings.new ≡ set.union (table_pairs pendings.old)
+        (pairs_where hosts (λ h. set.insert no_code (code_of attention))) }
 {
     for host in 0..hosts {
         add(pendings, host, attention);

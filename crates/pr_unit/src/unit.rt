@@ -126,8 +126,10 @@ impl Unit {
     /// Whether the command of the host would end GOOD now.
     pub fn would_end_good(&self, host: u8, command: &Command) -> bool
         requires { host < self.now.registry.hosts }
-        ensures value { result ≡ ends_good (decision self.now host (Plain command.now)) (Plain command.now) }
-        ensures steps { (reply : Reply) (after : UnitState) → Step self.now host (Plain command.now) reply after → is_good reply ≡ result }
+        ensures value { result ≡ ends_good (decision self.now host (Plain command.now))
+            (Plain command.now) }
+        ensures steps { (reply : Reply) (after : UnitState)
+            → Step self.now host (Plain command.now) reply after → is_good reply ≡ result }
     {
         let request = Request::Plain(*command);
         let decision = decide(&self.registry, &self.pending, host, request);
@@ -167,7 +169,8 @@ impl Unit {
 // A place for each host, as many as [`MOST_NEXUSES`], with nothing pending for those that are not there.
 fn table_of(pendings: &[Pending]) -> [Pending; MOST_NEXUSES]
     ensures value { table_pairs result ≡ table_pairs pendings.now }
-    ensures members { (host code : ℕ) → set.contains (table_pairs result) (host, code) ≡ true → (host < length pendings.now) × IsTrue (is_attention code) }
+    ensures members { (host code : ℕ) → set.contains (table_pairs result) (host, code) ≡ true
+        → (host < length pendings.now) × IsTrue (is_attention code) }
 {
     let mut table = nothing_pending();
     for host in 0..MOST_NEXUSES {

@@ -65,7 +65,8 @@ impl<S: ViewSet> Questions<'_, ViewOf<S>> {
         requires there { place < length self.now.spots.now }
         requires known { AreAnswersTo S.members S.room self.now known.old.items }
         ensures known { OnOk result (AreAnswersTo S.members S.room self.now known.new.items) }
-        ensures answer { IfOk result (IsAnsweredAt S.members S.room self.now place known.new.items) }
+        ensures answer { IfOk result (IsAnsweredAt S.members S.room self.now place
+            known.new.items) }
     {
         if let Some(number) = self.place_of(known, place) {
             return Ok(number);

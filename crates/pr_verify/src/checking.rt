@@ -37,9 +37,16 @@ pub fn check_outline<S: ViewSet>(
 ) -> Result<(), Refusal>
     requires scripted { IsScripted (task (scenario_of scenario.now) outline.now.host) }
     requires made { IsMadeFor S.room (scenario_of scenario.now) outline.now }
-    ensures sound { OnOk result (OnScripted (task (scenario_of scenario.now) outline.now.host) (λ script budget. IsSound (scenario_of scenario.now) script (outline_of S.members outline.now))) }
-    ensures fitting { OnOk result (OnScripted (task (scenario_of scenario.now) outline.now.host) (λ script budget. IsFitting (scenario_of scenario.now) script budget (outline_of S.members outline.now))) }
-    ensures refusal { IfErr result (λ refusal. OnScripted (task (scenario_of scenario.now) outline.now.host) (λ script budget. IsRefusal (scenario_of scenario.now) script budget (outline_of S.members outline.now) refusal)) }
+    ensures sound { OnOk result (OnScripted (task (scenario_of scenario.now) outline.now.host)
+        (λ script budget. IsSound (scenario_of scenario.now) script
+        (outline_of S.members outline.now))) }
+    ensures fitting { OnOk result (OnScripted (task (scenario_of scenario.now) outline.now.host)
+        (λ script budget. IsFitting (scenario_of scenario.now) script budget
+        (outline_of S.members outline.now))) }
+    ensures refusal { IfErr result (λ refusal. OnScripted
+        (task (scenario_of scenario.now) outline.now.host)
+        (λ script budget. IsRefusal (scenario_of scenario.now) script budget
+        (outline_of S.members outline.now) refusal)) }
 {
     match &nexus_in(scenario, outline.host).task {
         Task::Scripted { script, budget } => {
@@ -55,7 +62,9 @@ pub fn check_outline<S: ViewSet>(
 pub(crate) fn check_cost(script: &Script, budget: u32, host: u8) -> Result<(), Refusal>
     requires { budget ≤ MOST_BUDGET }
     ensures within { OnOk result (cost_of_all (script_of script.now) ≤ budget) }
-    ensures over { IfErr result (λ refusal. (budget < cost_of_all (script_of script.now)) × (refusal ≡ Refusal.OverBudget host (min past_budgets (cost_of_all (script_of script.now))))) }
+    ensures over { IfErr result (λ refusal. (budget < cost_of_all (script_of script.now))
+        × (refusal ≡ Refusal.OverBudget host
+        (min past_budgets (cost_of_all (script_of script.now))))) }
 {
     let cost = cost(script);
     if cost > u64::from(budget) {
@@ -75,8 +84,12 @@ fn check_sound<S: ViewSet>(
     requires written { script_fits (scenario_of scenario.now).keys (script_of script.now) ≡ true }
     requires starts { CanStart (scenario_of scenario.now) }
     requires made { IsMadeFor S.room (scenario_of scenario.now) outline.now }
-    ensures sound { OnOk result (IsSound (scenario_of scenario.now) (script_of script.now) (outline_of S.members outline.now)) }
-    ensures refusal { IfErr result (λ refusal. (budget : ℕ) → cost_of_all (script_of script.now) ≤ budget → IsRefusal (scenario_of scenario.now) (script_of script.now) budget (outline_of S.members outline.now) refusal) }
+    ensures sound { OnOk result (IsSound (scenario_of scenario.now) (script_of script.now)
+        (outline_of S.members outline.now)) }
+    ensures refusal { IfErr result (λ refusal. (budget : ℕ)
+        → cost_of_all (script_of script.now) ≤ budget
+        → IsRefusal (scenario_of scenario.now) (script_of script.now) budget
+        (outline_of S.members outline.now) refusal) }
 {
     let host = outline.host;
     let spots = spots(alloc, script)?;
@@ -99,10 +112,17 @@ pub(crate) fn check_fit<S: ViewSet>(
     requires host { outline.now.host < length (scenario_of scenario.now).nexuses }
     requires written { script_fits (scenario_of scenario.now).keys (script_of script.now) ≡ true }
     requires made { IsMadeFor S.room (scenario_of scenario.now) outline.now }
-    requires sound { IsSound (scenario_of scenario.now) (script_of script.now) (outline_of S.members outline.now) }
-    ensures fields { OnOk result ((p : Place) → Contains (places_of (script_of script.now)) p → Fits p.command) }
-    ensures fitting { OnOk result ((budget : ℕ) → cost_of_all (script_of script.now) ≤ budget → IsFitting (scenario_of scenario.now) (script_of script.now) budget (outline_of S.members outline.now)) }
-    ensures refusal { IfErr result (λ refusal. (budget : ℕ) → cost_of_all (script_of script.now) ≤ budget → IsRefusal (scenario_of scenario.now) (script_of script.now) budget (outline_of S.members outline.now) refusal) }
+    requires sound { IsSound (scenario_of scenario.now) (script_of script.now)
+        (outline_of S.members outline.now) }
+    ensures fields { OnOk result ((p : Place) → Contains (places_of (script_of script.now)) p
+        → Fits p.command) }
+    ensures fitting { OnOk result ((budget : ℕ) → cost_of_all (script_of script.now) ≤ budget
+        → IsFitting (scenario_of scenario.now) (script_of script.now) budget
+        (outline_of S.members outline.now)) }
+    ensures refusal { IfErr result (λ refusal. (budget : ℕ)
+        → cost_of_all (script_of script.now) ≤ budget
+        → IsRefusal (scenario_of scenario.now) (script_of script.now) budget
+        (outline_of S.members outline.now) refusal) }
 {
     let spots = spots(alloc, script)?;
     match first_misfit(alloc, scenario, outline, &spots)? {

@@ -36,7 +36,8 @@ pub fn verify_each<G: CheckGate, R: Threads + Wait + Sync>(
     ensures outlines { IfOk result (λ verified. HaveOutlines (scenario_of verified)) }
     ensures back { IfErr result (λ refused. refused.scenario ≡ scenario) }
     ensures verdict { IfErr result (λ refused. IsVerdict (scenario_of scenario) refused.refusal) }
-    ensures none { IfErr result (λ refused. refused.refusal ≢ Refusal.Memory → ¬ HaveOutlines (scenario_of scenario)) }
+    ensures none { IfErr result (λ refused. refused.refusal ≢ Refusal.Memory
+        → ¬ HaveOutlines (scenario_of scenario)) }
 {
     let checked = check_each(rt, alloc, &scenario, gate);
     verdict_on(scenario, checked)
@@ -105,7 +106,8 @@ fn in_threads<'a, G: CheckGate, R: Threads + Wait + Sync>(
     requires none_checked { vec_len checks ≡ 0 }
     requires room_to_begin { length (scenario_of scenario.now).nexuses ≤ vec_capacity begun }
     requires room_to_check { length (scenario_of scenario.now).nexuses ≤ vec_capacity checks }
-    ensures { IsAnswerBefore (scenario_of scenario.now) (length (scenario_of scenario.now).nexuses) result }
+    ensures { IsAnswerBefore (scenario_of scenario.now) (length (scenario_of scenario.now).nexuses)
+        result }
 {
     thread::scope(
         thread::scope_env(),
@@ -113,9 +115,12 @@ fn in_threads<'a, G: CheckGate, R: Threads + Wait + Sync>(
         |scope| -> Result<(), Refusal>
             requires none_begun { vec_len begun ≡ 0 }
             requires none_checked { vec_len checks ≡ 0 }
-            requires room_to_begin { length (scenario_of scenario.now).nexuses ≤ vec_capacity begun }
-            requires room_to_check { length (scenario_of scenario.now).nexuses ≤ vec_capacity checks }
-            ensures { IsAnswerBefore (scenario_of scenario.entry.now) (length (scenario_of scenario.entry.now).nexuses) result }
+            requires room_to_begin { length (scenario_of scenario.now).nexuses ≤ vec_capacity
+                begun }
+            requires room_to_check { length (scenario_of scenario.now).nexuses ≤ vec_capacity
+                checks }
+            ensures { IsAnswerBefore (scenario_of scenario.entry.now)
+                (length (scenario_of scenario.entry.now).nexuses) result }
         {
             let begun = begin_all(scope, alloc, scenario, gate, begun);
             let checks = make_rest(alloc, scenario, gate, begun, checks);

@@ -41,7 +41,10 @@ pub(crate) fn first_lacking<S: ViewSet>(
 ) -> Option<u32>
     requires made { IsMade S.room known.now }
     requires alike { All (λ e. IsMade S.room e.1 × AreAlike known.now e.1) outline.now.views.items }
-    ensures { IsLeast (HasView (outline_of S.members outline.now) lines.now (view_of S.members outline.now.host known.now)) (LacksView (outline_of S.members outline.now) lines.now (view_of S.members outline.now.host known.now)) result }
+    ensures { IsLeast (HasView (outline_of S.members outline.now) lines.now
+        (view_of S.members outline.now.host known.now))
+        (LacksView (outline_of S.members outline.now) lines.now
+        (view_of S.members outline.now.host known.now)) result }
 {
     let mut first = None;
     for line in lines {
@@ -56,7 +59,8 @@ pub(crate) fn first_lacking<S: ViewSet>(
 fn has_within<S: ViewSet>(outline: &OutlineOf<S>, line: u32, known: &ViewOf<S>) -> bool
     requires made { IsMade S.room known.now }
     requires alike { All (λ e. IsMade S.room e.1 × AreAlike known.now e.1) outline.now.views.items }
-    ensures { IsTrue result ↔ IsWithinIn (view_of S.members outline.now.host known.now) (view_at (outline_of S.members outline.now).views line) }
+    ensures { IsTrue result ↔ IsWithinIn (view_of S.members outline.now.host known.now)
+        (view_at (outline_of S.members outline.now).views line) }
 {
     match view_at(outline, line) {
         None => false,
@@ -66,7 +70,8 @@ fn has_within<S: ViewSet>(outline: &OutlineOf<S>, line: u32, known: &ViewOf<S>) 
 
 // The view at this line.
 fn view_at<S: ViewSet>(outline: &OutlineOf<S>, line: u32) -> Option<&ViewOf<S>>
-    ensures value { view_at (outline_of S.members outline.now).views line ≡ option_map (λ v. view_of S.members outline.now.host v.now) result }
+    ensures value { view_at (outline_of S.members outline.now).views line
+        ≡ option_map (λ v. view_of S.members outline.now.host v.now) result }
     ensures listed { IfSome result (λ v. Contains (map (λ e. e.1) outline.now.views.items) v.now) }
 {
     for (at, view) in &outline.views {
@@ -88,7 +93,9 @@ pub(crate) fn lacking_at_start<S: ViewSet>(
     requires starts { CanStart (scenario_of scenario.now) }
     requires host { outline.now.host < length (scenario_of scenario.now).nexuses }
     requires made { IsMadeFor S.room (scenario_of scenario.now) outline.now }
-    ensures { IfOk result (λ first. (script : Stmts) → first_lines script ≡ lines.now → IsFirstLacking (outline_of S.members outline.now) (StartsAt (scenario_of scenario.now) script) first) }
+    ensures { IfOk result (λ first. (script : Stmts) → first_lines script ≡ lines.now
+        → IsFirstLacking (outline_of S.members outline.now)
+        (StartsAt (scenario_of scenario.now) script) first) }
 {
     let start = of_start(alloc, scenario, outline.host)?;
     Ok(first_lacking(outline, &start, lines))

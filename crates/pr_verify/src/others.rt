@@ -28,7 +28,8 @@ pub(crate) fn lacking_by_others<S: ViewSet>(
     requires host { outline.now.host < length (scenario_of scenario.now).nexuses }
     requires made { IsMadeFor S.room (scenario_of scenario.now) outline.now }
     requires rise { rise_above 0 (map (λ e. e.0) outline.now.views.items) ≡ true }
-    ensures { IfOk result (IsFirstLacking (outline_of S.members outline.now) (IsLeftAt (scenario_of scenario.now) (outline_of S.members outline.now))) }
+    ensures { IfOk result (IsFirstLacking (outline_of S.members outline.now)
+        (IsLeftAt (scenario_of scenario.now) (outline_of S.members outline.now))) }
 {
     for (i, entry) in outline.views.iter().enumerate() {
         // What was found of an equal view before holds of this one.
@@ -44,7 +45,8 @@ pub(crate) fn lacking_by_others<S: ViewSet>(
 fn is_one_of<S: ViewSet>(view: &ViewOf<S>, others: &[(u32, ViewOf<S>)]) -> bool
     requires made { IsMade S.room view.now }
     requires others { All (λ e. IsMade S.room e.1 × AreAlike view.now e.1) others.now }
-    ensures { IsTrue result → (own : ℕ) → IsSameAsOne (view_of S.members own view.now) (map (λ e. view_of S.members own e.1) others.now) }
+    ensures { IsTrue result → (own : ℕ) → IsSameAsOne (view_of S.members own view.now)
+        (map (λ e. view_of S.members own e.1) others.now) }
 {
     for (_, other) in others {
         if view.within(other) && other.within(view) {
@@ -65,8 +67,10 @@ fn is_closed<S: ViewSet>(
     requires own { own < view.now.hosts }
     requires keys { view.now.keys.items ≡ (scenario_of scenario.now).keys }
     requires hosts { view.now.hosts ≡ length (scenario_of scenario.now).nexuses }
-    ensures closed { IfOk result (λ is. IsTrue is → IsClosed (scenario_of scenario.now) (view_of S.members own view.now)) }
-    ensures open { IfOk result (λ is. is ≡ false → IsOpen (scenario_of scenario.now) (view_of S.members own view.now)) }
+    ensures closed { IfOk result (λ is. IsTrue is
+        → IsClosed (scenario_of scenario.now) (view_of S.members own view.now)) }
+    ensures open { IfOk result (λ is. is ≡ false
+        → IsOpen (scenario_of scenario.now) (view_of S.members own view.now)) }
 {
     if !is_closed_to_resets(alloc, scenario, view)? {
         return Ok(false);
@@ -81,8 +85,10 @@ fn is_closed_to_resets<S: ViewSet>(
     view: &ViewOf<S>,
 ) -> Result<bool, AllocError>
     requires { IsMade S.room view.now }
-    ensures closed { IfOk result (λ is. IsTrue is → (own : ℕ) → own < view.now.hosts → IsClosedToResets (scenario_of scenario.now) (view_of S.members own view.now)) }
-    ensures open { IfOk result (λ is. is ≡ false → (own : ℕ) → own < view.now.hosts → IsOpen (scenario_of scenario.now) (view_of S.members own view.now)) }
+    ensures closed { IfOk result (λ is. IsTrue is → (own : ℕ) → own < view.now.hosts
+        → IsClosedToResets (scenario_of scenario.now) (view_of S.members own view.now)) }
+    ensures open { IfOk result (λ is. is ≡ false → (own : ℕ) → own < view.now.hosts
+        → IsOpen (scenario_of scenario.now) (view_of S.members own view.now)) }
 {
     if scenario.parts().resets == 0 {
         return Ok(true);
@@ -102,8 +108,10 @@ fn is_closed_to_others<S: ViewSet>(
     requires own { own < view.now.hosts }
     requires keys { view.now.keys.items ≡ (scenario_of scenario.now).keys }
     requires hosts { view.now.hosts ≡ length (scenario_of scenario.now).nexuses }
-    ensures closed { IfOk result (λ is. IsTrue is → IsClosedTo view.now.hosts (scenario_of scenario.now) (view_of S.members own view.now)) }
-    ensures open { IfOk result (λ is. is ≡ false → IsOpen (scenario_of scenario.now) (view_of S.members own view.now)) }
+    ensures closed { IfOk result (λ is. IsTrue is
+        → IsClosedTo view.now.hosts (scenario_of scenario.now) (view_of S.members own view.now)) }
+    ensures open { IfOk result (λ is. is ≡ false
+        → IsOpen (scenario_of scenario.now) (view_of S.members own view.now)) }
 {
     for other in 0..view.hosts {
         if other != own {

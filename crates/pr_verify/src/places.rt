@@ -26,8 +26,10 @@ pub(crate) struct Spot {
 
 /// The sends of a script, in the order of their lines.
 pub(crate) fn spots(alloc: Global, script: &Script) -> Result<Vec<Spot>, AllocError>
-    ensures places { IfOk result (λ spots. map place_of spots.items ≡ places_of (script_of script.now)) }
-    ensures fields { OnOk result ((p : Place) → Contains (places_of (script_of script.now)) p → Fits p.command) }
+    ensures places { IfOk result (λ spots. map place_of spots.items
+        ≡ places_of (script_of script.now)) }
+    ensures fields { OnOk result ((p : Place) → Contains (places_of (script_of script.now)) p
+        → Fits p.command) }
 {
     let mut spots = Vec::new(alloc);
     list(alloc, &mut spots, &script.statements, &[], &[])?;
@@ -88,7 +90,8 @@ fn next_in(
     after: &[u32],
     broken: &[u32],
 ) -> Result<Vec<Vec<u32>>, AllocError>
-    ensures { IfOk result (λ next. map (λ lines. lines.items) next.items ≡ next_of (arms_in arms.now) after.now broken.now) }
+    ensures { IfOk result (λ next. map (λ lines. lines.items) next.items
+        ≡ next_of (arms_in arms.now) after.now broken.now) }
 {
     let mut next = Vec::with_capacity(alloc, arms.len())?;
     for arm in arms {
@@ -106,7 +109,9 @@ fn list(
     after: &[u32],
     broken: &[u32],
 ) -> Result<(), AllocError>
-    ensures listed { OnOk result (map place_of spots.new.items ≡ map place_of spots.old.items ++ places (statements_in statements.now) after.now broken.now) }
+    ensures listed { OnOk result (map place_of spots.new.items
+        ≡ map place_of spots.old.items ++ places (statements_in statements.now) after.now
+        broken.now) }
     ensures fields { OnOk result (AreInRange spots.old.items → AreInRange spots.new.items) }
 {
     for (i, statement) in statements.iter().enumerate() {
@@ -129,7 +134,9 @@ fn list_at(
     after: &[u32],
     broken: &[u32],
 ) -> Result<(), AllocError>
-    ensures listed { OnOk result (map place_of spots.new.items ≡ map place_of spots.old.items ++ places_in (statement_of statement.now) after.now broken.now) }
+    ensures listed { OnOk result (map place_of spots.new.items
+        ≡ map place_of spots.old.items ++ places_in (statement_of statement.now) after.now
+        broken.now) }
     ensures fields { OnOk result (AreInRange spots.old.items → AreInRange spots.new.items) }
 {
     match statement {
@@ -164,7 +171,8 @@ fn list_arms(
     after: &[u32],
     broken: &[u32],
 ) -> Result<(), AllocError>
-    ensures listed { OnOk result (map place_of spots.new.items ≡ map place_of spots.old.items ++ places_of_arms (arms_in arms.now) after.now broken.now) }
+    ensures listed { OnOk result (map place_of spots.new.items
+        ≡ map place_of spots.old.items ++ places_of_arms (arms_in arms.now) after.now broken.now) }
     ensures fields { OnOk result (AreInRange spots.old.items → AreInRange spots.new.items) }
 {
     for arm in arms {

@@ -45,10 +45,13 @@ pub(crate) fn first_unsound<S: ViewSet>(
     requires host { outline.now.host < length (scenario_of scenario.now).nexuses }
     requires made { IsMadeFor S.room (scenario_of scenario.now) outline.now }
     requires places { map place_of spots.now ≡ places_of (script_of script.now) }
-    requires written { All (λ p. IsPlaceWritten (scenario_of scenario.now).keys (place_of p)) spots.now }
+    requires written { All (λ p. IsPlaceWritten (scenario_of scenario.now).keys (place_of p))
+        spots.now }
     requires listed { map (λ e. e.0) outline.now.views.items ≡ map (λ p. p.line) spots.now }
     requires rise { rise_above 0 (map (λ e. e.0) outline.now.views.items) ≡ true }
-    ensures { IfOk result (IsFirstLacking (outline_of S.members outline.now) (IsAsked (scenario_of scenario.now) (script_of script.now) (outline_of S.members outline.now))) }
+    ensures { IfOk result (IsFirstLacking (outline_of S.members outline.now)
+        (IsAsked (scenario_of scenario.now) (script_of script.now)
+        (outline_of S.members outline.now))) }
 {
     let firsts = first_lines(alloc, script)?;
     let start = lacking_at_start(alloc, scenario, outline, &firsts)?;
@@ -77,10 +80,12 @@ pub(crate) fn first_misfit<S: ViewSet>(
 ) -> Result<Option<Refusal>, AllocError>
     requires host { outline.now.host < length (scenario_of scenario.now).nexuses }
     requires made { IsMadeFor S.room (scenario_of scenario.now) outline.now }
-    requires written { All (λ p. IsPlaceWritten (scenario_of scenario.now).keys (place_of p)) spots.now }
+    requires written { All (λ p. IsPlaceWritten (scenario_of scenario.now).keys (place_of p))
+        spots.now }
     requires listed { map (λ e. e.0) outline.now.views.items ≡ map (λ p. p.line) spots.now }
     requires rise { rise_above 0 (map (λ e. e.0) outline.now.views.items) ≡ true }
-    ensures { IfOk result (IsFirstMisfit (scenario_of scenario.now) (outline_of S.members outline.now) (length spots.now) spots.now) }
+    ensures { IfOk result (IsFirstMisfit (scenario_of scenario.now)
+        (outline_of S.members outline.now) (length spots.now) spots.now) }
 {
     let questions = Questions {
         scenario,
@@ -105,8 +110,15 @@ fn lacking_after<S: ViewSet>(
     next: &[Vec<u32>],
 ) -> Option<u32>
     requires made { All (λ o. IsMade S.room o.1) outcomes.now }
-    requires alike { All (λ o. All (λ e. IsMade S.room e.1 × AreAlike o.1 e.1) outline.now.views.items) outcomes.now }
-    ensures { IsLeastAmong (length outcomes.now) outcomes.now (λ o. HasNext (outline_of S.members outline.now) (lines_after (map (λ lines. lines.items) next.now) o.0) (view_of S.members outline.now.host o.1)) (λ o. LacksNext (outline_of S.members outline.now) (lines_after (map (λ lines. lines.items) next.now) o.0) (view_of S.members outline.now.host o.1)) result }
+    requires alike { All (λ o. All (λ e. IsMade S.room e.1 × AreAlike o.1 e.1)
+        outline.now.views.items) outcomes.now }
+    ensures { IsLeastAmong (length outcomes.now) outcomes.now
+        (λ o. HasNext (outline_of S.members outline.now)
+        (lines_after (map (λ lines. lines.items) next.now) o.0)
+        (view_of S.members outline.now.host o.1))
+        (λ o. LacksNext (outline_of S.members outline.now)
+        (lines_after (map (λ lines. lines.items) next.now) o.0)
+        (view_of S.members outline.now.host o.1)) result }
 {
     let mut first = None;
     for (landing, left) in outcomes {
@@ -119,7 +131,8 @@ fn lacking_after<S: ViewSet>(
 
 // The lines at which the script may be ready after this landing.
 fn lines_after(landing: Landing, next: &[Vec<u32>]) -> Option<&[u32]>
-    ensures { option_map (λ lines. lines.now) result ≡ lines_after (map (λ lines. lines.items) next.now) landing }
+    ensures { option_map (λ lines. lines.now) result
+        ≡ lines_after (map (λ lines. lines.items) next.now) landing }
 {
     match landing {
         Landing::Arm(arm) => next.get(arm).map(|lines| lines.as_slice()),
@@ -138,9 +151,14 @@ fn misfit<S: ViewSet>(
     requires host { outline.now.host < length (scenario_of scenario.now).nexuses }
     requires written { IsPlaceWritten (scenario_of scenario.now).keys (place_of spot.now) }
     requires view { IsMadeAs S.room (scenario_of scenario.now) view.now }
-    requires here { view_at (outline_of S.members outline.now).views spot.now.line ≡ Some (view_of S.members outline.now.host view.now) }
-    requires outcomes { AreOutcomes (view_of S.members outline.now.host view.now) (refusals_of (scenario_of scenario.now) outline.now.host) spot.now.command spot.now.tests.items (map (λ o. (o.0, view_of S.members outline.now.host o.1)) outcomes.now) }
-    ensures { IsMisfit (scenario_of scenario.now) (outline_of S.members outline.now) (place_of spot.now) result }
+    requires here { view_at (outline_of S.members outline.now).views spot.now.line
+        ≡ Some (view_of S.members outline.now.host view.now) }
+    requires outcomes { AreOutcomes (view_of S.members outline.now.host view.now)
+        (refusals_of (scenario_of scenario.now) outline.now.host) spot.now.command
+        spot.now.tests.items (map (λ o. (o.0, view_of S.members outline.now.host o.1))
+        outcomes.now) }
+    ensures { IsMisfit (scenario_of scenario.now) (outline_of S.members outline.now)
+        (place_of spot.now) result }
 {
     let host = outline.host;
     let line = spot.line;

@@ -54,9 +54,13 @@ pub struct Table {
 
 /// For each host that has a script, in order: its least sound outline, and what its command may come to at each send.
 pub fn tables(alloc: Global, scenario: &Scenario) -> Result<Vec<Table>, AllocError>
-    ensures tables { IfOk result (λ tables. AreTables (scenario_of scenario.now) (map (table_of ⟦<WordSet as ViewSet>⟧.members) tables.items)) }
-    ensures made { IfOk result (λ tables. All (λ t. IsMadeFor ⟦<WordSet as ViewSet>⟧.room (scenario_of scenario.now) t.outline) tables.items) }
-    ensures rows { IfOk result (λ tables. All (λ t. length t.rows.items ≡ length t.outline.views.items) tables.items) }
+    ensures tables { IfOk result (λ tables. AreTables (scenario_of scenario.now)
+        (map (table_of ⟦<WordSet as ViewSet>⟧.members) tables.items)) }
+    ensures made { IfOk result (λ tables. All
+        (λ t. IsMadeFor ⟦<WordSet as ViewSet>⟧.room (scenario_of scenario.now) t.outline)
+        tables.items) }
+    ensures rows { IfOk result (λ tables. All
+        (λ t. length t.rows.items ≡ length t.outline.views.items) tables.items) }
 {
     let mut tables = Vec::new(alloc);
     let hosts = scenario.parts().nexuses.len() as u8;
@@ -72,8 +76,11 @@ pub fn tables(alloc: Global, scenario: &Scenario) -> Result<Vec<Table>, AllocErr
 fn table_of_host(alloc: Global, scenario: &Scenario, host: u8) -> Result<Table, AllocError>
     requires scripted { IsScripted (task (scenario_of scenario.now) host) }
     ensures host { IfOk result (λ t. t.outline.host ≡ host) }
-    ensures table { IfOk result (λ t. OnScripted (task (scenario_of scenario.now) host) (λ script budget. IsTable (scenario_of scenario.now) script (table_of ⟦<WordSet as ViewSet>⟧.members t))) }
-    ensures made { IfOk result (λ t. IsMadeFor ⟦<WordSet as ViewSet>⟧.room (scenario_of scenario.now) t.outline) }
+    ensures table { IfOk result (λ t. OnScripted (task (scenario_of scenario.now) host)
+        (λ script budget. IsTable (scenario_of scenario.now) script
+        (table_of ⟦<WordSet as ViewSet>⟧.members t))) }
+    ensures made { IfOk result (λ t. IsMadeFor ⟦<WordSet as ViewSet>⟧.room
+        (scenario_of scenario.now) t.outline) }
     ensures rows { IfOk result (λ t. length t.rows.items ≡ length t.outline.views.items) }
 {
     let script = script_in(scenario, host);
@@ -92,10 +99,13 @@ fn rows<S: ViewSet>(
 ) -> Result<Vec<Row>, AllocError>
     requires host { outline.now.host < length (scenario_of scenario.now).nexuses }
     requires made { IsMadeFor S.room (scenario_of scenario.now) outline.now }
-    requires written { All (λ p. IsPlaceWritten (scenario_of scenario.now).keys (place_of p)) spots.now }
+    requires written { All (λ p. IsPlaceWritten (scenario_of scenario.now).keys (place_of p))
+        spots.now }
     requires listed { map (λ e. e.0) outline.now.views.items ≡ map (λ p. p.line) spots.now }
     requires rise { rise_above 0 (map (λ e. e.0) outline.now.views.items) ≡ true }
-    ensures { IfOk result (λ rows. AllZip (λ p r. IsRow (scenario_of scenario.now) (outline_of S.members outline.now) (place_of p) (row_of r)) spots.now rows.items) }
+    ensures { IfOk result (λ rows. AllZip
+        (λ p r. IsRow (scenario_of scenario.now) (outline_of S.members outline.now) (place_of p)
+        (row_of r)) spots.now rows.items) }
 {
     let questions = Questions {
         scenario,
@@ -132,9 +142,14 @@ fn row_of_spot<S: ViewSet>(
     requires host { outline.now.host < length (scenario_of scenario.now).nexuses }
     requires written { IsPlaceWritten (scenario_of scenario.now).keys (place_of spot.now) }
     requires view { IsMadeAs S.room (scenario_of scenario.now) view.now }
-    requires here { view_at (outline_of S.members outline.now).views spot.now.line ≡ Some (view_of S.members outline.now.host view.now) }
-    requires outcomes { AreOutcomes (view_of S.members outline.now.host view.now) (refusals_of (scenario_of scenario.now) outline.now.host) spot.now.command spot.now.tests.items (map (λ o. (o.0, view_of S.members outline.now.host o.1)) outcomes.now) }
-    ensures { IfOk result (λ row. IsRow (scenario_of scenario.now) (outline_of S.members outline.now) (place_of spot.now) (row_of row)) }
+    requires here { view_at (outline_of S.members outline.now).views spot.now.line
+        ≡ Some (view_of S.members outline.now.host view.now) }
+    requires outcomes { AreOutcomes (view_of S.members outline.now.host view.now)
+        (refusals_of (scenario_of scenario.now) outline.now.host) spot.now.command
+        spot.now.tests.items (map (λ o. (o.0, view_of S.members outline.now.host o.1))
+        outcomes.now) }
+    ensures { IfOk result (λ row. IsRow (scenario_of scenario.now)
+        (outline_of S.members outline.now) (place_of spot.now) (row_of row)) }
 {
     let role = &nexus_in(scenario, outline.host).role;
     let permitted = permitted(view, role, outline.host, &spot.command);
@@ -156,7 +171,8 @@ fn arms_taken<S: ViewSet>(
     outcomes: &[(Landing, ViewOf<S>)],
     count: usize,
 ) -> Result<Vec<usize>, AllocError>
-    ensures each { IfOk result (λ arms. (n : ℕ) → Contains arms.items n ↔ ((n < count) × Contains (map (λ o. o.0) outcomes.now) (Arm n))) }
+    ensures each { IfOk result (λ arms. (n : ℕ)
+        → Contains arms.items n ↔ ((n < count) × Contains (map (λ o. o.0) outcomes.now) (Arm n))) }
     ensures rise { IfOk result (λ arms. AllPairs (λ m n. m < n) arms.items) }
 {
     let mut arms = Vec::new(alloc);
@@ -184,8 +200,10 @@ fn unarmed<S: ViewSet>(
     alloc: Global,
     outcomes: &[(Landing, ViewOf<S>)],
 ) -> Result<Vec<Class>, AllocError>
-    ensures each { IfOk result (λ classes. (class : Class) → Contains classes.items class ↔ IsUnarmed (length outcomes.now) outcomes.now class) }
-    ensures rise { IfOk result (λ classes. AllPairs (λ c d. class_number c < class_number d) classes.items) }
+    ensures each { IfOk result (λ classes. (class : Class)
+        → Contains classes.items class ↔ IsUnarmed (length outcomes.now) outcomes.now class) }
+    ensures rise { IfOk result (λ classes. AllPairs (λ c d. class_number c < class_number d)
+        classes.items) }
 {
     are_in_range(outcomes);
     let mut classes = Vec::new(alloc);
@@ -199,7 +217,8 @@ fn unarmed<S: ViewSet>(
 
 // The senses have their fields in the ranges of their types, as each match knows. So no two have one number.
 fn are_in_range<S: ViewSet>(outcomes: &[(Landing, ViewOf<S>)])
-    ensures { (class : Class) → IsUnarmed (length outcomes.now) outcomes.now class → IsInRange class }
+    ensures { (class : Class) → IsUnarmed (length outcomes.now) outcomes.now class
+        → IsInRange class }
 {
     for (landing, _) in outcomes {
         if let Landing::NoArm(class) = landing {

@@ -66,7 +66,8 @@ pub fn verify(alloc: Global, scenario: Scenario) -> Result<Verified, Refused>
     ensures outlines { IfOk result (λ verified. HaveOutlines (scenario_of verified)) }
     ensures back { IfErr result (λ refused. refused.scenario ≡ scenario) }
     ensures verdict { IfErr result (λ refused. IsVerdict (scenario_of scenario) refused.refusal) }
-    ensures none { IfErr result (λ refused. refused.refusal ≢ Refusal.Memory → ¬ HaveOutlines (scenario_of scenario)) }
+    ensures none { IfErr result (λ refused. refused.refusal ≢ Refusal.Memory
+        → ¬ HaveOutlines (scenario_of scenario)) }
 {
     let checked = check_hosts(alloc, &scenario);
     verdict_on(scenario, checked)
@@ -85,7 +86,8 @@ pub(crate) fn verdict_on(
     ensures outlines { IfOk result (λ verified. HaveOutlines (scenario_of verified)) }
     ensures back { IfErr result (λ refused. refused.scenario ≡ scenario) }
     ensures verdict { IfErr result (λ refused. IsVerdict (scenario_of scenario) refused.refusal) }
-    ensures none { IfErr result (λ refused. refused.refusal ≢ Refusal.Memory → ¬ HaveOutlines (scenario_of scenario)) }
+    ensures none { IfErr result (λ refused. refused.refusal ≢ Refusal.Memory
+        → ¬ HaveOutlines (scenario_of scenario)) }
 {
     match checked {
         Ok(()) => {
@@ -113,9 +115,12 @@ fn check_hosts(alloc: Global, scenario: &Scenario) -> Result<(), Refusal>
 /// inferred of it. What is inferred is sound as it comes, so only whether it fits is asked.
 pub(crate) fn check_host(alloc: Global, scenario: &Scenario, host: u8) -> Result<(), Refusal>
     requires { host < length (scenario_of scenario.now).nexuses }
-    ensures outline { OnOk result (OnScripted (task (scenario_of scenario.now) host) (HasOutline (scenario_of scenario.now) host)) }
-    ensures fields { OnOk result (OnScripted (task (scenario_of scenario.now) host) (λ script budget. SendsFit script)) }
-    ensures reason { IfErr result (λ refusal. refusal ≢ Refusal.Memory → HasReason (scenario_of scenario.now) host refusal) }
+    ensures outline { OnOk result (OnScripted (task (scenario_of scenario.now) host)
+        (HasOutline (scenario_of scenario.now) host)) }
+    ensures fields { OnOk result (OnScripted (task (scenario_of scenario.now) host)
+        (λ script budget. SendsFit script)) }
+    ensures reason { IfErr result (λ refusal. refusal ≢ Refusal.Memory
+        → HasReason (scenario_of scenario.now) host refusal) }
 {
     match &nexus_in(scenario, host).task {
         Task::Scripted { script, budget } => {

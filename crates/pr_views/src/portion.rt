@@ -30,8 +30,10 @@ impl Portion {
     pub fn projected(&self, hosts: u8) -> Option<[Word; MOST_NEXUSES]>
         requires few { (1 ≤ hosts) × (hosts ≤ MOST_NEXUSES) }
         requires sender { self.now.sender < hosts }
-        ensures some { IfSome result (λ words. (v : View) → v.scope.hosts ≡ hosts → Fits v → IsPortion v self.now → IsProjected v self.now words) }
-        ensures none { IfNone result ((v : View) → v.scope.hosts ≡ hosts → Fits v → IsPortion v self.now → (u : UnitState) → IsIn v self.now u → ⊥) }
+        ensures some { IfSome result (λ words. (v : View) → v.scope.hosts ≡ hosts → Fits v
+            → IsPortion v self.now → IsProjected v self.now words) }
+        ensures none { IfNone result ((v : View) → v.scope.hosts ≡ hosts → Fits v
+            → IsPortion v self.now → (u : UnitState) → IsIn v self.now u → ⊥) }
         ensures within { IfSome result (λ words. AreWithin words self.now.registrations) }
         ensures filled { IfSome result (AreFilled hosts) }
     {
@@ -88,8 +90,10 @@ impl Portion {
     // What each has left where this one must pass the test.
     fn passed_by(&self, test: Word, host: u8) -> [Word; MOST_NEXUSES]
         requires { host < MOST_NEXUSES }
-        ensures here { (r : ℕ) → has_at result host r ≡ (has_at self.now.registrations host r && has test r) }
-        ensures others { (g r : ℕ) → g ≢ host → has_at result g r ≡ has_at self.now.registrations g r }
+        ensures here { (r : ℕ) → has_at result host r
+            ≡ (has_at self.now.registrations host r && has test r) }
+        ensures others { (g r : ℕ) → g ≢ host
+            → has_at result g r ≡ has_at self.now.registrations g r }
     {
         let mut words = self.registrations;
         words[usize::from(host)] = words[usize::from(host)].and(test);

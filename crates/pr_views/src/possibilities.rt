@@ -33,9 +33,13 @@ impl Possibilities {
 
     /// Adds what is possible in the other.
     pub fn join(&mut self, other: &Possibilities)
-        ensures registrations { (g r : ℕ) → has_at self.new.registrations g r ≡ (has_at self.old.registrations g r || has_at other.now.registrations g r) }
-        ensures reservations { (x : ℕ) → has_wide self.new.reservations x ≡ (has_wide self.old.reservations x || has_wide other.now.reservations x) }
-        ensures pending { (q : ℕ) → has self.new.pending q ≡ (has self.old.pending q || has other.now.pending q) }
+        ensures registrations { (g r : ℕ)
+            → has_at self.new.registrations g r
+            ≡ (has_at self.old.registrations g r || has_at other.now.registrations g r) }
+        ensures reservations { (x : ℕ) → has_wide self.new.reservations x
+            ≡ (has_wide self.old.reservations x || has_wide other.now.reservations x) }
+        ensures pending { (q : ℕ) → has self.new.pending q
+            ≡ (has self.old.pending q || has other.now.pending q) }
     {
         for host in 0..MOST_NEXUSES {
             self.registrations[host] = self.registrations[host].or(other.registrations[host]);

@@ -72,7 +72,8 @@ pub(crate) fn sets_of<S: ViewSet>(
     requires count { count ≤ MOST_NEXUSES }
     requires below { (g n : ℕ) → g < count → has_at words.now g n ≡ true → n < size }
     ensures room { IfOk result (All (λ s. S.room s ≡ size)) }
-    ensures members { IfOk result (λ sets. (g n : ℕ) → g < count → contains_at S.members sets g n ≡ has_at words.now g n) }
+    ensures members { IfOk result (λ sets. (g n : ℕ) → g < count
+        → contains_at S.members sets g n ≡ has_at words.now g n) }
 {
     let mut sets = empty_sets(alloc, size);
     for host in 0..count {
@@ -131,8 +132,10 @@ pub(crate) fn are_within<S: ViewSet>(
     count: u8,
 ) -> bool
     requires count { count ≤ MOST_NEXUSES }
-    requires alike { (k : ℕ) (d : S) → k < length sets.now → k < length others.now → S.room (slice_index_or others.now k d) ≡ S.room (slice_index_or sets.now k d) }
-    ensures { IsTrue result ↔ ((g n : ℕ) → g < count → contains_at S.members sets.now g n ≡ true → contains_at S.members others.now g n ≡ true) }
+    requires alike { (k : ℕ) (d : S) → k < length sets.now → k < length others.now
+        → S.room (slice_index_or others.now k d) ≡ S.room (slice_index_or sets.now k d) }
+    ensures { IsTrue result ↔ ((g n : ℕ) → g < count → contains_at S.members sets.now g n ≡ true
+        → contains_at S.members others.now g n ≡ true) }
 {
     for host in 0..count {
         let place = usize::from(host);

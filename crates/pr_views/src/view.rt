@@ -92,7 +92,9 @@ impl<S: ViewSet> ViewOf<S> {
         ensures made { IfOk result (IsMade S.room) }
         ensures keys { IfOk result (λ v. v.keys.items ≡ keys.now) }
         ensures hosts { IfOk result (λ v. v.hosts ≡ hosts) }
-        ensures same { IfOk result (λ v. (own : ℕ) (i : Item) → IsPossible (view_of S.members own v) i ↔ IsPossible (view_in (scope_of own v) possibilities.now) i) }
+        ensures same { IfOk result (λ v. (own : ℕ) (i : Item)
+            → IsPossible (view_of S.members own v) i
+            ↔ IsPossible (view_in (scope_of own v) possibilities.now) i) }
     {
         let registrations = sets_of(
             alloc,
@@ -118,7 +120,9 @@ impl<S: ViewSet> ViewOf<S> {
     /// What is possible in the view, as words. Those past the nexuses that are there are empty.
     pub fn possibilities(&self) -> Possibilities
         requires { IsMade S.room self.now }
-        ensures same { (own : ℕ) (i : Item) → IsPossible (view_in (scope_of own self.now) result) i ↔ IsPossible (view_of S.members own self.now) i }
+        ensures same { (own : ℕ) (i : Item)
+            → IsPossible (view_in (scope_of own self.now) result) i
+            ↔ IsPossible (view_of S.members own self.now) i }
         ensures past { (g r : ℕ) → self.now.hosts ≤ g → has_at result.registrations g r ≡ false }
         ensures range { AreInRange self.now.hosts self.now.keys.items result }
     {
@@ -136,7 +140,10 @@ impl<S: ViewSet> ViewOf<S> {
         requires alike { AreAlike self.old other.now }
         ensures made { IsMade S.room self.new }
         ensures alike { AreAlike self.old self.new }
-        ensures ok { OnOk result ((own : ℕ) (i : Item) → IsPossible (view_of S.members own self.new) i ↔ (IsPossible (view_of S.members own self.old) i ⊎ IsPossible (view_of S.members own other.now) i)) }
+        ensures ok { OnOk result ((own : ℕ) (i : Item)
+            → IsPossible (view_of S.members own self.new) i
+            ↔ (IsPossible (view_of S.members own self.old) i
+            ⊎ IsPossible (view_of S.members own other.now) i)) }
         ensures err { OnErr result (self.new ≡ self.old) }
     {
         let mut either = self.possibilities();
@@ -150,7 +157,8 @@ impl<S: ViewSet> ViewOf<S> {
         requires made { IsMade S.room self.now }
         requires other { IsMade S.room other.now }
         requires alike { AreAlike self.now other.now }
-        ensures { IsTrue result ↔ ((own : ℕ) → Within (view_of S.members own self.now) (view_of S.members own other.now)) }
+        ensures { IsTrue result ↔ ((own : ℕ)
+            → Within (view_of S.members own self.now) (view_of S.members own other.now)) }
     {
         are_within(&self.registrations, &other.registrations, self.hosts)
             && self.reservations.within(&other.reservations)
@@ -160,7 +168,8 @@ impl<S: ViewSet> ViewOf<S> {
     /// Whether nothing is possible in the view.
     pub fn is_empty(&self) -> bool
         requires { IsMade S.room self.now }
-        ensures { IsTrue result ↔ ((own : ℕ) (i : Item) → ¬ IsPossible (view_of S.members own self.now) i) }
+        ensures { IsTrue result ↔ ((own : ℕ) (i : Item)
+            → ¬ IsPossible (view_of S.members own self.now) i) }
     {
         are_empty(&self.registrations, self.hosts)
             && self.reservations.is_empty()

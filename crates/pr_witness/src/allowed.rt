@@ -71,7 +71,8 @@ fn is_within(pending: &Pending, most: &Pending) -> bool
 
 // Whether the attention is in the other set, if it is in the one.
 fn is_kept(pending: &Pending, most: &Pending, attention: Attention) -> bool
-    ensures kept { result ≡ true → set.contains pending.now (code_of attention) ≡ true → set.contains most.now (code_of attention) ≡ true }
+    ensures kept { result ≡ true → set.contains pending.now (code_of attention) ≡ true
+        → set.contains most.now (code_of attention) ≡ true }
     ensures members { AreAttentions pending.now }
 {
     !pending.has(attention) || most.has(attention)

@@ -58,8 +58,10 @@ fn breaks(auditor: &mut Auditor, scenario: &Scenario, history: &[Item], broken: 
     requires acts { ActFor (scenario_of scenario.now) (world_at auditor.old []) }
     requires short { length history.now < 2 ^ 32 }
     ensures acts { ActFor (scenario_of scenario.now) (world_at auditor.new []) }
-    ensures broken { result ≡ true → (u : UnitState) → IsFollowed (scenario_of scenario.now) u [] (world_at auditor.old [])
-        → IsBroken (scenario_of scenario.now) u history.now (world_at auditor.new history.now) (broken_of broken) }
+    ensures broken { result ≡ true → (u : UnitState)
+        → IsFollowed (scenario_of scenario.now) u [] (world_at auditor.old [])
+        → IsBroken (scenario_of scenario.now) u history.now (world_at auditor.new history.now)
+        (broken_of broken) }
 {
     let Some((last, before)) = history.split_last() else {
         return false;
@@ -76,7 +78,8 @@ fn breaks(auditor: &mut Auditor, scenario: &Scenario, history: &[Item], broken: 
 fn admits_all(auditor: &mut Auditor, scenario: &Scenario, items: &[Item]) -> bool
     requires { ActFor (scenario_of scenario.now) (world_at auditor.old []) }
     ensures acts { ActFor (scenario_of scenario.now) (world_at auditor.new []) }
-    ensures followed { result ≡ true → (u : UnitState) → IsFollowed (scenario_of scenario.now) u [] (world_at auditor.old [])
+    ensures followed { result ≡ true → (u : UnitState)
+        → IsFollowed (scenario_of scenario.now) u [] (world_at auditor.old [])
         → IsFollowed (scenario_of scenario.now) u items.now (world_at auditor.new items.now) }
 {
     for (index, item) in items.iter().enumerate() {
@@ -90,7 +93,8 @@ fn admits_all(auditor: &mut Auditor, scenario: &Scenario, items: &[Item]) -> boo
 // Whether the item is the host's command of this line, which ends GOOD, and the host's role does not permit that now.
 fn is_forbidden(auditor: &Auditor, scenario: &Scenario, item: &Item, broken: Broken) -> bool
     requires { ActFor (scenario_of scenario.now) (world_at auditor.now []) }
-    ensures { result ≡ true → IsForbidden (scenario_of scenario.now) (world_at auditor.now []) item.now (broken_of broken) }
+    ensures { result ≡ true → IsForbidden (scenario_of scenario.now) (world_at auditor.now [])
+        item.now (broken_of broken) }
 {
     let (Item::Sent(entry), Broken::OutOfRole { host, line }) = (item, broken) else {
         return false;
@@ -111,7 +115,9 @@ fn is_forbidden(auditor: &Auditor, scenario: &Scenario, item: &Item, broken: Bro
 fn is_broken(auditor: &Auditor, scenario: &Scenario, history: &[Item], broken: Broken) -> bool
     requires acts { ActFor (scenario_of scenario.now) (world_at auditor.now []) }
     requires short { length history.now < 2 ^ 32 }
-    ensures { result ≡ true → (u : UnitState) → Breaks (scenario_of scenario.now) u (world_at auditor.now history.now) (broken_of broken) }
+    ensures { result ≡ true → (u : UnitState)
+        → Breaks (scenario_of scenario.now) u (world_at auditor.now history.now)
+        (broken_of broken) }
 {
     match broken {
         Broken::NoArm { host, line } => is_trapped(auditor, scenario, host, line),
@@ -150,7 +156,8 @@ fn is_over_budget(scenario: &Scenario, history: &[Item], host: u8) -> bool
 fn ends_of(alloc: Global, auditor: &Auditor, scenario: &Scenario) -> Result<Vec<End>, AllocError>
     requires { ActFor (scenario_of scenario.now) (world_at auditor.now []) }
     ensures { IfOk result (λ ends. map (λ e. Some (ending_of e)) ends.items
-        ≡ endings (world_at auditor.now []).controls (map (λ n. plan_of n.task) (scenario_of scenario.now).nexuses)) }
+        ≡ endings (world_at auditor.now []).controls
+        (map (λ n. plan_of n.task) (scenario_of scenario.now).nexuses)) }
 {
     let mut ends = Vec::new(alloc);
     for host in 0..auditor.unit().registry().hosts() {

@@ -78,7 +78,8 @@ pub fn telling_of(
     scenario: &Scenario,
     history: &[Item],
 ) -> Result<Telling, AllocError>
-    ensures { IfOk result (λ telling. IsTold (scenario_of scenario.now) history.now telling.illegal) }
+    ensures { IfOk result (λ telling. IsTold (scenario_of scenario.now) history.now
+        telling.illegal) }
 {
     let illegal = match audit(alloc, scenario, history) {
         Ok(()) => None,

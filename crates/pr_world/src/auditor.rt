@@ -28,10 +28,12 @@ pub struct Auditor {
 impl Auditor {
     /// The scenario at its first start.
     pub(crate) fn begin(alloc: Global, scenario: &Scenario) -> Result<Auditor, AllocError>
-        ensures first { IfOk result (λ auditor. first_state (scenario_of scenario.now) ≡ Some auditor.unit) }
+        ensures first { IfOk result (λ auditor. first_state (scenario_of scenario.now)
+            ≡ Some auditor.unit) }
         ensures world { IfOk result (λ auditor.
             world_at auditor [] ≡ world_from (scenario_of scenario.now) auditor.unit) }
-        ensures acts { IfOk result (λ auditor. ActFor (scenario_of scenario.now) (world_at auditor [])) }
+        ensures acts { IfOk result (λ auditor. ActFor (scenario_of scenario.now)
+            (world_at auditor [])) }
     {
         let start = first_start(scenario);
         Auditor::from_start(alloc, scenario, start)
@@ -47,7 +49,8 @@ impl Auditor {
         ensures unit { IfOk result (λ auditor. auditor.unit ≡ start) }
         ensures world { IfOk result (λ auditor.
             world_at auditor [] ≡ world_from (scenario_of scenario.now) start) }
-        ensures acts { IfOk result (λ auditor. ActFor (scenario_of scenario.now) (world_at auditor [])) }
+        ensures acts { IfOk result (λ auditor. ActFor (scenario_of scenario.now)
+            (world_at auditor [])) }
     {
         Ok(Auditor {
             unit: start,
@@ -79,7 +82,8 @@ impl Auditor {
     /// nor of a guest.
     pub fn next_command(&self, host: u8) -> Option<(u32, Command)>
         requires { host < length (world_at self.now []).controls }
-        ensures { IfSome result (λ next. standing_of (control (world_at self.now []) host) ≡ Some (ready next.0 next.1)) }
+        ensures { IfSome result (λ next. standing_of (control (world_at self.now []) host)
+            ≡ Some (ready next.0 next.1)) }
     {
         self.senders[usize::from(host)].next_command()
     }
@@ -97,7 +101,8 @@ impl Auditor {
     fn admits_sent(&mut self, scenario: &Scenario, before: &[Item], entry: &Entry) -> bool
         requires { ActFor (scenario_of scenario.now) (world_at self.old []) }
         ensures tried { IsTried (scenario_of scenario.now) (world_at self.old before.now)
-            (Item.Sent entry.now) result (world_at self.new (before.now ++ Item.Sent entry.now ∷ [])) }
+            (Item.Sent entry.now) result (world_at self.new
+            (before.now ++ Item.Sent entry.now ∷ [])) }
         ensures acts { ActFor (scenario_of scenario.now) (world_at self.new []) }
     {
         let index = usize::from(entry.host);
@@ -142,8 +147,8 @@ fn how_of(status: Status) -> How
 // Each host and guest at its beginning.
 #[tactic(auto, unfolding(pr_roles::specs::Scenarios::scenario_of))]
 fn senders_of(alloc: Global, scenario: &Scenario) -> Result<Vec<Sender>, AllocError>
-    ensures { IfOk result (λ senders.
-        map control_by senders.items ≡ map (λ n. control_of n.task) (scenario_of scenario.now).nexuses) }
+    ensures { IfOk result (λ senders. map control_by senders.items
+        ≡ map (λ n. control_of n.task) (scenario_of scenario.now).nexuses) }
 {
     let nexuses = &scenario.parts().nexuses;
     let mut senders = Vec::with_capacity(alloc, nexuses.len())?;

@@ -37,9 +37,10 @@ impl Course {
         scenario: &Scenario,
         room: usize,
     ) -> Result<Course, AllocError>
-        ensures reached { IfOk result (λ course. IsReached (scenario_of scenario.now) [] (schedule_of course)) }
-        ensures stands { IfOk result (λ course.
-            StandsFor (scenario_of scenario.now) course.unit (map participation_of course.participants.items)) }
+        ensures reached { IfOk result (λ course. IsReached (scenario_of scenario.now) []
+            (schedule_of course)) }
+        ensures stands { IfOk result (λ course. StandsFor (scenario_of scenario.now) course.unit
+            (map participation_of course.participants.items)) }
         ensures room { IfOk result (λ course.
             (vec_len course.history ≡ 0) × (vec_capacity course.history ≡ room)) }
     {
@@ -62,11 +63,14 @@ impl Course {
             ≡ does (scenario_of scenario.now) (schedule_of self.old) host how }
         ensures trapped { result ≡ Act.Trapped
             → IsTrue (is_trapped (control (schedule_of self.old).world host)) }
-        ensures turn { Turn (scenario_of scenario.now) (schedule_of self.old) host how (schedule_of self.new) }
+        ensures turn { Turn (scenario_of scenario.now) (schedule_of self.old) host how
+            (schedule_of self.new) }
         ensures happens { HappensBy (scenario_of scenario.now) host (entry_in result)
             (schedule_of self.old).world (schedule_of self.new).world }
-        ensures reached { (steps : List Step) → IsReached (scenario_of scenario.now) steps (schedule_of self.old)
-            → IsReached (scenario_of scenario.now) (steps ++ Step.Of host how ∷ []) (schedule_of self.new) }
+        ensures reached { (steps : List Step)
+            → IsReached (scenario_of scenario.now) steps (schedule_of self.old)
+            → IsReached (scenario_of scenario.now) (steps ++ Step.Of host how ∷ [])
+            (schedule_of self.new) }
         ensures stands { StandsFor (scenario_of scenario.now) self.new.unit
             (map participation_of self.new.participants.items) }
         ensures length { vec_len self.new.history ≤ vec_len self.old.history + 1 }
@@ -90,9 +94,12 @@ impl Course {
         requires room { may_reset (scenario_of scenario.now) self.old.history.items ≡ true
             → vec_len self.old.history < vec_capacity self.old.history }
         ensures made { result ≡ may_reset (scenario_of scenario.now) self.old.history.items }
-        ensures turn { ResetTurn (scenario_of scenario.now) (schedule_of self.old) (schedule_of self.new) }
-        ensures reached { (steps : List Step) → IsReached (scenario_of scenario.now) steps (schedule_of self.old)
-            → IsReached (scenario_of scenario.now) (steps ++ Step.Reset ∷ []) (schedule_of self.new) }
+        ensures turn { ResetTurn (scenario_of scenario.now) (schedule_of self.old)
+            (schedule_of self.new) }
+        ensures reached { (steps : List Step)
+            → IsReached (scenario_of scenario.now) steps (schedule_of self.old)
+            → IsReached (scenario_of scenario.now) (steps ++ Step.Reset ∷ [])
+            (schedule_of self.new) }
         ensures stands { StandsFor (scenario_of scenario.now) self.new.unit
             (map participation_of self.new.participants.items) }
         ensures length { vec_len self.new.history ≤ vec_len self.old.history + 1 }
@@ -112,7 +119,8 @@ impl Course {
         requires stands { StandsFor (scenario_of scenario.now) self.old.unit
             (map participation_of self.old.participants.items) }
         requires room { vec_len self.old.history < vec_capacity self.old.history }
-        ensures reached { (steps : List Step) → IsReached (scenario_of scenario.now) steps (schedule_of self.old)
+        ensures reached { (steps : List Step)
+            → IsReached (scenario_of scenario.now) steps (schedule_of self.old)
             → IsReached (scenario_of scenario.now) (steps ++ step ∷ []) (schedule_of self.new) }
         ensures stands { StandsFor (scenario_of scenario.now) self.new.unit
             (map participation_of self.new.participants.items) }
@@ -132,8 +140,8 @@ impl Course {
     /// How the nexus stands.
     pub(crate) fn end(&self, host: u8) -> End
         requires { host < vec_len self.now.participants }
-        ensures { ending (control (schedule_of self.now).world host) (plan (schedule_of self.now) host)
-            ≡ Some (ending_of result) }
+        ensures { ending (control (schedule_of self.now).world host)
+            (plan (schedule_of self.now) host) ≡ Some (ending_of result) }
     {
         self.participants[usize::from(host)].end()
     }
@@ -165,8 +173,8 @@ impl Course {
 // Each host and guest at its beginning.
 #[tactic(auto, unfolding(pr_roles::specs::Scenarios::scenario_of))]
 fn participants_of(alloc: Global, scenario: &Scenario) -> Result<Vec<Participant>, AllocError>
-    ensures { IfOk result (λ participants.
-        map participation_of participants.items ≡ map (λ n. participation_from n.task) (scenario_of scenario.now).nexuses) }
+    ensures { IfOk result (λ participants. map participation_of participants.items
+        ≡ map (λ n. participation_from n.task) (scenario_of scenario.now).nexuses) }
 {
     let nexuses = &scenario.parts().nexuses;
     let mut participants = Vec::with_capacity(alloc, nexuses.len())?;
@@ -179,7 +187,8 @@ fn participants_of(alloc: Global, scenario: &Scenario) -> Result<Vec<Participant
 // How each stands.
 fn ends_of(alloc: Global, participants: &[Participant]) -> Result<Vec<End>, AllocError>
     ensures { IfOk result (λ ends. map (λ e. Some (ending_of e)) ends.items
-        ≡ map (λ p. ending (participation_of p).control (participation_of p).plan) participants.now) }
+        ≡ map (λ p. ending (participation_of p).control (participation_of p).plan)
+        participants.now) }
 {
     let mut ends = Vec::with_capacity(alloc, participants.len())?;
     for participant in participants {

@@ -35,7 +35,8 @@ impl Participant {
     /// The nexus at its beginning.
     pub(crate) fn new(alloc: Global, nexus: &Nexus) -> Result<Participant, AllocError>
         requires { IsShort (task_of nexus.now.task) }
-        ensures { IfOk result (λ participant. participation_of participant ≡ participation_from (task_of nexus.now.task)) }
+        ensures { IfOk result (λ participant. participation_of participant
+            ≡ participation_from (task_of nexus.now.task)) }
     {
         match &nexus.task {
             Task::Scripted { script, .. } => Ok(Participant::Host(Machine::new(alloc, script)?)),
@@ -48,9 +49,10 @@ impl Participant {
         requires { host < unit.old.registry.hosts }
         ensures does { doing_of result ≡ does_as how (participation_of self.old).control
             role.now.clauses.items unit.old host (participation_of self.old).plan }
-        ensures acts { Acts how role.now.clauses.items host
-            (participation_of self.old) unit.old (entry_in result) (participation_of self.new) unit.new }
-        ensures trapped { result ≡ Act.Trapped → IsTrue (is_trapped (participation_of self.old).control) }
+        ensures acts { Acts how role.now.clauses.items host (participation_of self.old) unit.old
+            (entry_in result) (participation_of self.new) unit.new }
+        ensures trapped { result ≡ Act.Trapped
+            → IsTrue (is_trapped (participation_of self.old).control) }
         ensures hosts { unit.new.registry.hosts ≡ unit.old.registry.hosts }
     {
         match self {
@@ -80,7 +82,8 @@ impl Participant {
 
     /// How it stands.
     pub(crate) fn end(&self) -> End
-        ensures { ending (participation_of self.now).control (participation_of self.now).plan ≡ Some (ending_of result) }
+        ensures { ending (participation_of self.now).control (participation_of self.now).plan
+            ≡ Some (ending_of result) }
     {
         match self {
             Participant::Host(machine) => match machine.next() {

@@ -45,7 +45,8 @@ impl Replayed {
 pub fn replay(alloc: Global, scenario: &Scenario, steps: &[u8]) -> Result<Replayed, AllocError>
     requires there { All (λ host. host < length (scenario_of scenario.now).nexuses) steps.now }
     requires few { length steps.now < 2 ^ 32 }
-    ensures { IfOk result (IsReplayed (scenario_of scenario.now) (map (λ host. Step.Of host How.Plain) steps.now)) }
+    ensures { IfOk result (IsReplayed (scenario_of scenario.now)
+        (map (λ host. Step.Of host How.Plain) steps.now)) }
 {
     let mut course = Course::begin(alloc, scenario, steps.len())?;
     for host in steps {

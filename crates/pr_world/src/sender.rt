@@ -45,7 +45,8 @@ impl Sender {
 
     /// The line of the send at which the host's script is ready, with its command.
     pub(crate) fn next_command(&self) -> Option<(u32, Command)>
-        ensures { IfSome result (λ next. standing_of (control_by self.now) ≡ Some (ready next.0 next.1)) }
+        ensures { IfSome result (λ next. standing_of (control_by self.now)
+            ≡ Some (ready next.0 next.1)) }
     {
         match self {
             Sender::Host(machine) => match machine.next() {
@@ -58,7 +59,8 @@ impl Sender {
 
     /// How it stands. A guest has not reached so many of its planned commands.
     pub(crate) fn end(&self, planned: u32) -> End
-        ensures { (plan : List Command) → length plan ≡ planned → ending (control_by self.now) plan ≡ Some (ending_of result) }
+        ensures { (plan : List Command) → length plan ≡ planned
+            → ending (control_by self.now) plan ≡ Some (ending_of result) }
     {
         match self {
             Sender::Host(machine) => match machine.next() {
@@ -74,8 +76,8 @@ impl Sender {
     /// does; else nothing changes.
     pub(crate) fn sends(&mut self, unit: &mut Unit, role: &Role, entry: &Entry, how: How) -> bool
         requires { entry.now.host < unit.old.registry.hosts }
-        ensures judged { IsJudged how (control_by self.old) role.now.clauses.items unit.old entry.now result
-            (control_by self.new) unit.new }
+        ensures judged { IsJudged how (control_by self.old) role.now.clauses.items unit.old
+            entry.now result (control_by self.new) unit.new }
     {
         match self {
             Sender::Host(machine) => {

@@ -75,15 +75,19 @@ impl World {
     pub fn step(&mut self, host: u8) -> Turn
         requires { host < length (scenario_of self.old.scenario).nexuses }
         ensures scenario { self.new.scenario ≡ self.old.scenario }
-        ensures turn { IsTurn (scenario_of self.old.scenario) self.old.schedule host How.Plain self.new.schedule }
-        ensures reached { (steps : List Step) → IsReached (scenario_of self.old.scenario) steps self.old.schedule
-            → IsReached (scenario_of self.old.scenario) (steps ++ Step.Of host How.Plain ∷ []) self.new.schedule }
-        ensures sent { IfSent result (λ entry.
-            IsOneEvent (scenario_of self.old.scenario) host entry self.old.schedule.world self.new.schedule.world) }
+        ensures turn { IsTurn (scenario_of self.old.scenario) self.old.schedule host
+            How.Plain self.new.schedule }
+        ensures reached { (steps : List Step)
+            → IsReached (scenario_of self.old.scenario) steps self.old.schedule
+            → IsReached (scenario_of self.old.scenario) (steps ++ Step.Of host How.Plain ∷ [])
+            self.new.schedule }
+        ensures sent { IfSent result (λ entry. IsOneEvent (scenario_of self.old.scenario) host entry
+            self.old.schedule.world self.new.schedule.world) }
         ensures stopped { IfStopped result (λ word.
             IsStopped (scenario_of self.old.scenario) self.old.schedule host word) }
         ensures rests { IfStopped result (λ word. self.new.schedule ≡ self.old.schedule) }
-        ensures held { IfHeld result (PassesOver (scenario_of self.old.scenario) self.old.schedule host self.new.schedule) }
+        ensures held { IfHeld result (PassesOver (scenario_of self.old.scenario) self.old.schedule
+            host self.new.schedule) }
     {
         self.step_as(host, How::Plain)
     }
@@ -95,15 +99,19 @@ impl World {
     pub fn step_as(&mut self, host: u8, how: How) -> Turn
         requires { host < length (scenario_of self.old.scenario).nexuses }
         ensures scenario { self.new.scenario ≡ self.old.scenario }
-        ensures turn { IsTurn (scenario_of self.old.scenario) self.old.schedule host how self.new.schedule }
-        ensures reached { (steps : List Step) → IsReached (scenario_of self.old.scenario) steps self.old.schedule
-            → IsReached (scenario_of self.old.scenario) (steps ++ Step.Of host how ∷ []) self.new.schedule }
-        ensures sent { IfSent result (λ entry.
-            IsOneEvent (scenario_of self.old.scenario) host entry self.old.schedule.world self.new.schedule.world) }
+        ensures turn { IsTurn (scenario_of self.old.scenario) self.old.schedule host how
+            self.new.schedule }
+        ensures reached { (steps : List Step)
+            → IsReached (scenario_of self.old.scenario) steps self.old.schedule
+            → IsReached (scenario_of self.old.scenario) (steps ++ Step.Of host how ∷ [])
+            self.new.schedule }
+        ensures sent { IfSent result (λ entry. IsOneEvent (scenario_of self.old.scenario) host entry
+            self.old.schedule.world self.new.schedule.world) }
         ensures stopped { IfStopped result (λ word.
             IsStopped (scenario_of self.old.scenario) self.old.schedule host word) }
         ensures rests { IfStopped result (λ word. self.new.schedule ≡ self.old.schedule) }
-        ensures held { IfHeld result (PassesOver (scenario_of self.old.scenario) self.old.schedule host self.new.schedule) }
+        ensures held { IfHeld result (PassesOver (scenario_of self.old.scenario) self.old.schedule
+            host self.new.schedule) }
     {
         match self.course.turn(self.verified.scenario(), host, how) {
             Act::Sent(entry) => Turn::Sent(entry),
@@ -118,11 +126,16 @@ impl World {
     /// takes no memory.
     pub fn reset(&mut self) -> bool
         ensures scenario { self.new.scenario ≡ self.old.scenario }
-        ensures made { result ≡ may_reset (scenario_of self.old.scenario) self.old.schedule.world.history }
-        ensures turn { ResetTurn (scenario_of self.old.scenario) self.old.schedule self.new.schedule }
-        ensures reached { (steps : List Step) → IsReached (scenario_of self.old.scenario) steps self.old.schedule
-            → IsReached (scenario_of self.old.scenario) (steps ++ Step.Reset ∷ []) self.new.schedule }
-        ensures reset { result ≡ true → IsReset (scenario_of self.old.scenario) self.old.schedule.world self.new.schedule.world }
+        ensures made { result ≡ may_reset (scenario_of self.old.scenario)
+            self.old.schedule.world.history }
+        ensures turn { ResetTurn (scenario_of self.old.scenario) self.old.schedule
+            self.new.schedule }
+        ensures reached { (steps : List Step)
+            → IsReached (scenario_of self.old.scenario) steps self.old.schedule
+            → IsReached (scenario_of self.old.scenario) (steps ++ Step.Reset ∷ [])
+            self.new.schedule }
+        ensures reset { result ≡ true → IsReset (scenario_of self.old.scenario)
+            self.old.schedule.world self.new.schedule.world }
         ensures rests { result ≡ false → self.new.schedule ≡ self.old.schedule }
     {
         self.course.reset(self.verified.scenario())
@@ -139,7 +152,8 @@ impl World {
     /// What happened to the unit, in order.
     pub fn history(&self) -> &[Item]
         ensures value { result.now ≡ self.now.schedule.world.history }
-        ensures reached { (steps : List Step) × IsReached (scenario_of self.now.scenario) steps self.now.schedule }
+        ensures reached { (steps : List Step)
+            × IsReached (scenario_of self.now.scenario) steps self.now.schedule }
     {
         &self.course.history
     }
@@ -154,7 +168,8 @@ impl World {
     /// How the nexus stands.
     pub fn end(&self, host: u8) -> End
         requires { host < length (scenario_of self.now.scenario).nexuses }
-        ensures { ending (control self.now.schedule.world host) (plan self.now.schedule host) ≡ Some (ending_of result) }
+        ensures { ending (control self.now.schedule.world host) (plan self.now.schedule host)
+            ≡ Some (ending_of result) }
     {
         self.course.end(host)
     }
