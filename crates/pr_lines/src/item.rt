@@ -193,8 +193,8 @@ fn role_said(rest: &[u8]) -> Option<ScenarioLine>
 
 fn script_said(rest: &[u8]) -> Option<ScenarioLine>
     ensures { option_map line_of_value result
-        ≡ said_of_name (λ name budget. declares (script_line name budget))
-        budget_in (words rest.now) }
+        ≡ said_of_name (λ name budget. declares (script_line name budget)) budget_in
+        (words rest.now) }
 {
     let Some((name, others)) = name_in(rest) else {
         return None;

@@ -84,8 +84,8 @@ pub(crate) fn is_empty(slots: &[Option<u64>; MOST_NEXUSES]) -> bool
 
 /// Whether each key is in range: none is zero.
 pub(crate) fn are_keys(slots: &[Option<u64>]) -> bool
-    ensures { IsTrue result
-        ↔ ((i : ℕ) → i < length slots.now → IsKeyOrNone (slice_index_or slots.now i None)) }
+    ensures { IsTrue result ↔ ((i : ℕ) → i < length slots.now
+        → IsKeyOrNone (slice_index_or slots.now i None)) }
 {
     for slot in slots {
         if let Some(key) = *slot {

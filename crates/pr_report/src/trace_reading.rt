@@ -41,7 +41,8 @@ pub fn read_trace<R: Read>(
         (names_in (scenario_of scenario.now)) text ≡ Ok history.items)) }
     ensures fault { IfSome (R.remaining reader.old)
         (λ text. IfErr result (λ e. Faults e
-        (trace_of (scenario_of scenario.now).version (names_in (scenario_of scenario.now)) text))) }
+        (trace_of (scenario_of scenario.now).version (names_in (scenario_of scenario.now))
+        text))) }
     ensures limited { LosesUpTo (most_of_trace (scenario_of scenario.now).version)
         (R.remaining reader.old) (R.remaining reader.new) }
 {
@@ -60,7 +61,8 @@ fn read_first<R: Read>(version: u8, ahead: &mut Ahead, reader: &mut R) -> Result
         (length (bytes_held ahead.old)) (length (bytes_held ahead.new)) }
     ensures ok { (names : List (List ℕ)) → OnOk result
         (Leads (λ old new. trace_in version names (lines old)
-        ≡ items_of version names 0 (lines new)) (bytes_left ahead.old (R.remaining reader.old))
+        ≡ items_of version names 0 (lines new))
+        (bytes_left ahead.old (R.remaining reader.old))
         (bytes_left ahead.new (R.remaining reader.new))) }
     ensures fault { (names : List (List ℕ))
         → IfSome (bytes_left ahead.old (R.remaining reader.old))
@@ -89,8 +91,8 @@ fn read_items<R: Read>(
         (R.remaining reader.new) (length (bytes_held ahead.old)) (length (bytes_held ahead.new)) }
     ensures ok { IfOk result (λ history. Leads
         (λ old new. items_of version (names_of nexuses.now) 0 (lines old)
-        ≡ and_then (later_lines (length history.items) 0 (lines new)) (λ _. Ok history.items))
-        (bytes_left ahead.old (R.remaining reader.old))
+        ≡ and_then (later_lines (length history.items) 0 (lines new))
+        (λ _. Ok history.items)) (bytes_left ahead.old (R.remaining reader.old))
         (bytes_left ahead.new (R.remaining reader.new))) }
     ensures few { IfOk result (λ history. length history.items ≤ most_items version) }
     ensures fault { IfSome (bytes_left ahead.old (R.remaining reader.old))

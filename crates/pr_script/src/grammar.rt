@@ -76,8 +76,8 @@ fn repeat_fits(keys: &[u64], repeated: u32, sent: u32, count: u32, body: &Script
     requires repeats { repeated ≤ MOST_OPEN }
     requires sends { sent ≤ MOST_OPEN }
     ensures { result ≡ (is_repeat_written count (script_of body.now)
-        && (nat_lt repeated MOST_OPEN && statements_fit keys.now (repeated + 1) sent
-        (script_of body.now))) }
+        && (nat_lt repeated MOST_OPEN
+        && statements_fit keys.now (repeated + 1) sent (script_of body.now))) }
 {
     is_repeat_written(count, body)
         && repeated < MOST_OPEN

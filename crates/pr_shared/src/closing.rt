@@ -21,8 +21,8 @@ pub(crate) fn is_closed(
 ) -> bool
     requires { map (λ e. Some (ending_of e)) ends.now
         ≡ endings_in (scenario_of world.now.scenario) world.now.schedule }
-    ensures { IsTrue result
-        ↔ IsClosed (scenario_of scenario.now) (map (λ l. l.items) lists.now) world.now }
+    ensures { IsTrue result ↔ IsClosed (scenario_of scenario.now) (map (λ l. l.items) lists.now)
+        world.now }
 {
     if !world.scenario().same(scenario) {
         return false;
@@ -35,8 +35,8 @@ pub(crate) fn is_closed(
 
 /// Whether each list is what its nexus sent.
 pub(crate) fn are_own(lists: &[Vec<Entry>], history: &[Item]) -> bool
-    ensures { IsTrue result
-        ↔ (entries_by (length lists.now) history.now ≡ map (λ l. l.items) lists.now) }
+    ensures { IsTrue result ↔ (entries_by (length lists.now) history.now
+        ≡ map (λ l. l.items) lists.now) }
 {
     for (host, mine) in lists.iter().enumerate() {
         if !is_own(host, mine, history) {

@@ -82,8 +82,8 @@ fn settled<C: Round>(
     requires started { StartedBut failed (map (λ s. s.host) seats.items)
         (range_with_len 0 (length C.guests)) }
     ensures outcome { IfOk result (IsOutcome (scenario_of shared.kept.scenario)) }
-    ensures own { IfOk result (λ outcome.
-        entries_by (length C.guests) outcome.history.items ≡ map (λ s. s.mine.items) seats.items) }
+    ensures own { IfOk result (λ outcome. entries_by (length C.guests) outcome.history.items
+        ≡ map (λ s. s.mine.items) seats.items) }
     ensures known { IfErr result (IfSpawn (λ host history. host < length C.guests)) }
     ensures halted { IfErr result (IfSpawn (IsHalted (scenario_of shared.kept.scenario))) }
     ensures sent { IfErr result (IfSpawn (λ host history. entries_by host history

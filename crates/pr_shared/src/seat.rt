@@ -83,8 +83,8 @@ impl<C: Round> Seat<C> {
 
     /// Whether it may take a turn: it has not ended, and there is room for an entry.
     pub fn may_turn(&self) -> bool
-        ensures { IsTrue result
-            ↔ ((self.now.ended ≡ false) × (vec_len self.now.mine < vec_capacity self.now.mine)) }
+        ensures { IsTrue result ↔ ((self.now.ended ≡ false)
+            × (vec_len self.now.mine < vec_capacity self.now.mine)) }
     {
         !self.ended && self.mine.len() < self.mine.capacity()
     }

@@ -122,14 +122,14 @@ impl<C: Round> SharedWorld<C> {
         ensures outcome { IfOk result (IsOutcome (scenario_of self.kept.scenario)) }
         ensures own { IfOk result (λ outcome. entries_by (length C.guests) outcome.history.items
             ≡ map (λ s. s.mine.items) seats.items) }
-        ensures counted { IfOk result (λ outcome.
-            sent_in outcome.history.items ≡ sum_by (λ s. vec_len s.mine) seats.items) }
+        ensures counted { IfOk result (λ outcome. sent_in outcome.history.items
+            ≡ sum_by (λ s. vec_len s.mine) seats.items) }
         ensures cause { IfErr result (λ differs. ¬ IsClosed (scenario_of self.kept.scenario)
             (map (λ l. l.items) differs.mine.items) differs.world) }
-        ensures mine { IfErr result (λ differs.
-            map (λ l. l.items) differs.mine.items ≡ map (λ s. s.mine.items) seats.items) }
-        ensures legal { IfErr result (λ differs.
-            IsLegalWorld (scenario_of differs.world.scenario) differs.world.schedule) }
+        ensures mine { IfErr result (λ differs. map (λ l. l.items) differs.mine.items
+            ≡ map (λ s. s.mine.items) seats.items) }
+        ensures legal { IfErr result (λ differs. IsLegalWorld (scenario_of differs.world.scenario)
+            differs.world.schedule) }
         ensures total { IfErr result (λ differs. sent_in differs.world.schedule.world.history
             ≡ sum_by (λ s. vec_len s.mine) seats.items) }
     {
@@ -153,10 +153,10 @@ impl<C: Round> SharedWorld<C> {
     /// belong together.
     pub(crate) fn halt(self, seats: Vec<Seat<C>>) -> Option<Vec<Item>>
         requires { vec_len seats ≤ length C.guests }
-        ensures halted { IfSome result (λ history.
-            IsHalted (scenario_of self.kept.scenario) (vec_len seats) history.items) }
-        ensures own { IfSome result (λ history.
-            entries_by (vec_len seats) history.items ≡ map (λ s. s.mine.items) seats.items) }
+        ensures halted { IfSome result (λ history. IsHalted (scenario_of self.kept.scenario)
+            (vec_len seats) history.items) }
+        ensures own { IfSome result (λ history. entries_by (vec_len seats) history.items
+            ≡ map (λ s. s.mine.items) seats.items) }
     {
         let SharedWorld { lock, kept } = self;
         let Kept {

@@ -466,7 +466,8 @@ impl Builder {
         wanted: &[StartReservation],
     ) -> Result<Option<Vec<Option<Held>>>, AllocError>
         ensures { IfOk result (λ vs. option_map (λ v. v.items) vs
-            ≡ each (held_of (map draft_seen self.now.nexuses.items)) (map wanted_seen wanted.now)) }
+            ≡ each (held_of (map draft_seen self.now.nexuses.items))
+            (map wanted_seen wanted.now)) }
     {
         let mut reservations = Vec::new(alloc);
         let mut rest = wanted;

@@ -36,8 +36,17 @@ impl Draft {
 
     /// A nexus of which nothing more is said yet.
     pub fn new(alloc: Global, name: Word, line: u32, is_guest: bool) -> Self
-        ensures { draft_seen result ≡ record
-            { name = name.bytes; line = line; is_guest = is_guest; start = None; pending = None; busy = None; full = None; role = []; task = None } }
+        ensures { draft_seen result ≡ record {
+          name = name.bytes;
+          line = line;
+          is_guest = is_guest;
+          start = None;
+          pending = None;
+          busy = None;
+          full = None;
+          role = [];
+          task = None;
+        } }
     {
         Draft {
             name,

@@ -74,8 +74,14 @@ impl OpenScript {
 
     /// A script without statements.
     pub fn new(alloc: Global, host: usize, budget: u32) -> Self
-        ensures { open_seen result ≡ record
-            { host = host; budget = budget; lines = []; statements = 0; blocks = []; begun = false } }
+        ensures { open_seen result ≡ record {
+          host = host;
+          budget = budget;
+          lines = [];
+          statements = 0;
+          blocks = [];
+          begun = false;
+        } }
     {
         OpenScript {
             host,

@@ -109,7 +109,8 @@ fn is_closed_to_others<S: ViewSet>(
     requires keys { view.now.keys.items ≡ (scenario_of scenario.now).keys }
     requires hosts { view.now.hosts ≡ length (scenario_of scenario.now).nexuses }
     ensures closed { IfOk result (λ is. IsTrue is
-        → IsClosedTo view.now.hosts (scenario_of scenario.now) (view_of S.members own view.now)) }
+        → IsClosedTo view.now.hosts (scenario_of scenario.now)
+        (view_of S.members own view.now)) }
     ensures open { IfOk result (λ is. is ≡ false
         → IsOpen (scenario_of scenario.now) (view_of S.members own view.now)) }
 {

@@ -110,8 +110,8 @@ fn list(
     broken: &[u32],
 ) -> Result<(), AllocError>
     ensures listed { OnOk result (map place_of spots.new.items
-        ≡ map place_of spots.old.items ++ places (statements_in statements.now) after.now
-        broken.now) }
+        ≡ map place_of spots.old.items
+        ++ places (statements_in statements.now) after.now broken.now) }
     ensures fields { OnOk result (AreInRange spots.old.items → AreInRange spots.new.items) }
 {
     for (i, statement) in statements.iter().enumerate() {
@@ -135,8 +135,8 @@ fn list_at(
     broken: &[u32],
 ) -> Result<(), AllocError>
     ensures listed { OnOk result (map place_of spots.new.items
-        ≡ map place_of spots.old.items ++ places_in (statement_of statement.now) after.now
-        broken.now) }
+        ≡ map place_of spots.old.items
+        ++ places_in (statement_of statement.now) after.now broken.now) }
     ensures fields { OnOk result (AreInRange spots.old.items → AreInRange spots.new.items) }
 {
     match statement {
@@ -172,7 +172,8 @@ fn list_arms(
     broken: &[u32],
 ) -> Result<(), AllocError>
     ensures listed { OnOk result (map place_of spots.new.items
-        ≡ map place_of spots.old.items ++ places_of_arms (arms_in arms.now) after.now broken.now) }
+        ≡ map place_of spots.old.items
+        ++ places_of_arms (arms_in arms.now) after.now broken.now) }
     ensures fields { OnOk result (AreInRange spots.old.items → AreInRange spots.new.items) }
 {
     for arm in arms {

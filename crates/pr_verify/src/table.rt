@@ -172,7 +172,8 @@ fn arms_taken<S: ViewSet>(
     count: usize,
 ) -> Result<Vec<usize>, AllocError>
     ensures each { IfOk result (λ arms. (n : ℕ)
-        → Contains arms.items n ↔ ((n < count) × Contains (map (λ o. o.0) outcomes.now) (Arm n))) }
+        → Contains arms.items n ↔ ((n < count)
+        × Contains (map (λ o. o.0) outcomes.now) (Arm n))) }
     ensures rise { IfOk result (λ arms. AllPairs (λ m n. m < n) arms.items) }
 {
     let mut arms = Vec::new(alloc);

@@ -30,8 +30,8 @@ impl Auditor {
     pub(crate) fn begin(alloc: Global, scenario: &Scenario) -> Result<Auditor, AllocError>
         ensures first { IfOk result (λ auditor. first_state (scenario_of scenario.now)
             ≡ Some auditor.unit) }
-        ensures world { IfOk result (λ auditor.
-            world_at auditor [] ≡ world_from (scenario_of scenario.now) auditor.unit) }
+        ensures world { IfOk result (λ auditor. world_at auditor []
+            ≡ world_from (scenario_of scenario.now) auditor.unit) }
         ensures acts { IfOk result (λ auditor. ActFor (scenario_of scenario.now)
             (world_at auditor [])) }
     {
@@ -47,8 +47,8 @@ impl Auditor {
     ) -> Result<Auditor, AllocError>
         requires { start.registry.hosts ≡ length (scenario_of scenario.now).nexuses }
         ensures unit { IfOk result (λ auditor. auditor.unit ≡ start) }
-        ensures world { IfOk result (λ auditor.
-            world_at auditor [] ≡ world_from (scenario_of scenario.now) start) }
+        ensures world { IfOk result (λ auditor. world_at auditor []
+            ≡ world_from (scenario_of scenario.now) start) }
         ensures acts { IfOk result (λ auditor. ActFor (scenario_of scenario.now)
             (world_at auditor [])) }
     {
@@ -61,8 +61,8 @@ impl Auditor {
     /// Whether the item may come next after these, and then goes past it.
     pub fn admits(&mut self, scenario: &Scenario, before: &[Item], item: &Item) -> bool
         requires { ActFor (scenario_of scenario.now) (world_at self.old []) }
-        ensures tried { IsTried (scenario_of scenario.now) (world_at self.old before.now)
-            item.now result (world_at self.new (before.now ++ item.now ∷ [])) }
+        ensures tried { IsTried (scenario_of scenario.now) (world_at self.old before.now) item.now
+            result (world_at self.new (before.now ++ item.now ∷ [])) }
         ensures acts { ActFor (scenario_of scenario.now) (world_at self.new []) }
     {
         match item {
@@ -121,8 +121,8 @@ impl Auditor {
     // The same of a reset.
     fn admits_reset(&mut self, scenario: &Scenario, before: &[Item]) -> bool
         requires { ActFor (scenario_of scenario.now) (world_at self.old []) }
-        ensures tried { IsTried (scenario_of scenario.now) (world_at self.old before.now)
-            Item.Reset result (world_at self.new (before.now ++ Item.Reset ∷ [])) }
+        ensures tried { IsTried (scenario_of scenario.now) (world_at self.old before.now) Item.Reset
+            result (world_at self.new (before.now ++ Item.Reset ∷ [])) }
         ensures acts { ActFor (scenario_of scenario.now) (world_at self.new []) }
     {
         let may = may_reset(scenario, before);

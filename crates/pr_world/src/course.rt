@@ -41,8 +41,8 @@ impl Course {
             (schedule_of course)) }
         ensures stands { IfOk result (λ course. StandsFor (scenario_of scenario.now) course.unit
             (map participation_of course.participants.items)) }
-        ensures room { IfOk result (λ course.
-            (vec_len course.history ≡ 0) × (vec_capacity course.history ≡ room)) }
+        ensures room { IfOk result (λ course. (vec_len course.history ≡ 0)
+            × (vec_capacity course.history ≡ room)) }
     {
         Ok(Course {
             unit: first_start(scenario),
@@ -59,8 +59,8 @@ impl Course {
             (map participation_of self.old.participants.items) }
         requires room { does (scenario_of scenario.now) (schedule_of self.old) host how ≡ sends
             → vec_len self.old.history < vec_capacity self.old.history }
-        ensures does { doing_of result
-            ≡ does (scenario_of scenario.now) (schedule_of self.old) host how }
+        ensures does { doing_of result ≡ does (scenario_of scenario.now) (schedule_of self.old) host
+            how }
         ensures trapped { result ≡ Act.Trapped
             → IsTrue (is_trapped (control (schedule_of self.old).world host)) }
         ensures turn { Turn (scenario_of scenario.now) (schedule_of self.old) host how
@@ -204,8 +204,8 @@ pub fn counts_of(
     participants: usize,
 ) -> Result<Vec<u32>, AllocError>
     requires { length history.now < 2 ^ 32 }
-    ensures { IfOk result (λ counts.
-        counts.items ≡ map (λ h. commands_by history.now h) (range_with_len 0 participants)) }
+    ensures { IfOk result (λ counts. counts.items
+        ≡ map (λ h. commands_by history.now h) (range_with_len 0 participants)) }
 {
     let mut counts = Vec::with_capacity(alloc, participants)?;
     for host in 0..participants {

@@ -26,8 +26,8 @@ impl Plan {
 
     /// Takes the next command out of the plan.
     pub(crate) fn next(&mut self) -> Option<Command>
-        ensures { MatchOption result
-            ((self.old.commands.items ≡ []) × (self.new.commands.items ≡ []))
+        ensures { MatchOption result ((self.old.commands.items ≡ [])
+            × (self.new.commands.items ≡ []))
             (λ command. self.old.commands.items ≡ command ∷ self.new.commands.items) }
     {
         self.commands.pop_front()

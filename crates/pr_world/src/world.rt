@@ -75,16 +75,16 @@ impl World {
     pub fn step(&mut self, host: u8) -> Turn
         requires { host < length (scenario_of self.old.scenario).nexuses }
         ensures scenario { self.new.scenario ≡ self.old.scenario }
-        ensures turn { IsTurn (scenario_of self.old.scenario) self.old.schedule host
-            How.Plain self.new.schedule }
+        ensures turn { IsTurn (scenario_of self.old.scenario) self.old.schedule host How.Plain
+            self.new.schedule }
         ensures reached { (steps : List Step)
             → IsReached (scenario_of self.old.scenario) steps self.old.schedule
             → IsReached (scenario_of self.old.scenario) (steps ++ Step.Of host How.Plain ∷ [])
             self.new.schedule }
         ensures sent { IfSent result (λ entry. IsOneEvent (scenario_of self.old.scenario) host entry
             self.old.schedule.world self.new.schedule.world) }
-        ensures stopped { IfStopped result (λ word.
-            IsStopped (scenario_of self.old.scenario) self.old.schedule host word) }
+        ensures stopped { IfStopped result
+            (λ word. IsStopped (scenario_of self.old.scenario) self.old.schedule host word) }
         ensures rests { IfStopped result (λ word. self.new.schedule ≡ self.old.schedule) }
         ensures held { IfHeld result (PassesOver (scenario_of self.old.scenario) self.old.schedule
             host self.new.schedule) }
@@ -107,8 +107,8 @@ impl World {
             self.new.schedule }
         ensures sent { IfSent result (λ entry. IsOneEvent (scenario_of self.old.scenario) host entry
             self.old.schedule.world self.new.schedule.world) }
-        ensures stopped { IfStopped result (λ word.
-            IsStopped (scenario_of self.old.scenario) self.old.schedule host word) }
+        ensures stopped { IfStopped result
+            (λ word. IsStopped (scenario_of self.old.scenario) self.old.schedule host word) }
         ensures rests { IfStopped result (λ word. self.new.schedule ≡ self.old.schedule) }
         ensures held { IfHeld result (PassesOver (scenario_of self.old.scenario) self.old.schedule
             host self.new.schedule) }
