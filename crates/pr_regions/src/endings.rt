@@ -3,7 +3,7 @@
 ghost use Rattle.std.specs.Prelude.{◌≡◌, ◌≤◌, ◌<◌, ℕ, IsTrue, None, Option};
 ghost use Rattle.pr_cdb.specs.declared.codes.TheConstants.{MOST_NEXUSES};
 ghost use Rattle.pr_registry.specs.declared.held.Held.{Held as HeldOf};
-ghost use Rattle.pr_registry.specs.Registrations.{kind_of, is_for_registrants};
+ghost use Rattle.pr_registry.specs.Registrations.{is_for_registrants};
 ghost use Rattle.pr_roles.specs.Fitting.{is_reservation};
 ghost use Rattle.pr_views.specs.Possibilities.{number_of, count_of_reservations};
 ghost use Rattle.pr_regions.specs.Purposes.{HasNumber};
@@ -19,19 +19,9 @@ use pr_cdb::codes::{
     INVALID_FIELD_IN_PARAMETER_LIST, INVALID_RELEASE_OF_PERSISTENT_RESERVATION,
     LOGICAL_BLOCK_ADDRESS_OUT_OF_RANGE,
 };
-use pr_registry::{Held, is_for_registrants, is_held_by_all, is_kind, new_reservation};
+use pr_registry::{Held, is_for_registrants, is_held_by_all, is_kind, kind_of, new_reservation};
 use pr_sets::Word;
 use pr_unit::illegal;
-
-// The type of a reservation.
-pub(crate) fn kind_of(held: Held) -> Kind
-    ensures { result ≡ kind_of held }
-{
-    match held {
-        Held::One(kind, _) => kind,
-        Held::All(kind) => kind,
-    }
-}
 
 // Whether a sender whose registration matches so holds the reservation.
 fn holds(held: Held, sender: u8, standing: Standing) -> bool

@@ -16,4 +16,4 @@ pub use change::Change;
 pub use held::Held;
 pub use host_set::HostSet;
 pub use registry::Registry;
-pub use table::{is_all, is_for_registrants, is_held_by_all, is_kind, new_reservation};
+pub use table::{is_all, is_for_registrants, is_held_by_all, is_kind, kind_of, new_reservation};

@@ -2,10 +2,9 @@
 
 ghost use Rattle.std.specs.Prelude.{◌≡◌, ◌<◌};
 ghost use Rattle.pr_unit.specs.Conflicts.{read_access, write_access, is_denied, access_conflicts};
-ghost use Rattle.pr_registry.specs.Registrations.{kind_of};
 
 use pr_cdb::Kind;
-use pr_registry::{Held, Registry};
+use pr_registry::{Registry, kind_of};
 
 /// To whom a reservation leaves an access to the medium (SPC-4, 'Reservations').
 #[derive(Clone, Copy, PartialEq, Eq)]
@@ -39,14 +38,6 @@ fn write_access(kind: Kind) -> Access
         | Kind::ExclusiveAccessRegistrantsOnly
         | Kind::WriteExclusiveAllRegistrants
         | Kind::ExclusiveAccessAllRegistrants => Access::Registrants,
-    }
-}
-
-fn kind_of(held: Held) -> Kind
-    ensures { result ≡ kind_of held }
-{
-    match held {
-        Held::One(kind, _) | Held::All(kind) => kind,
     }
 }
 
