@@ -1,13 +1,9 @@
 -- What is added for each way in which a command can end.
-use Rattle.std.proofs.Common.{◌≡◌, ◌≢◌, ◌⊎◌, ◌↔◌, ℕ, zero, suc, ◌+◌, ◌-◌, ◌<◌, ◌≤◌, Bool, true, false, IsTrue, ◌==◌, ◌||◌, not, nat_lt, List, length, Option, Some, None, refl, sym, ap, ◌∙◌, subst, inl, inr, lit<, arith}
+use Rattle.std.proofs.Common.{◌≡◌, ◌≢◌, ◌⊎◌, ◌↔◌, ℕ, zero, suc, ◌+◌, ◌-◌, ◌<◌, ◌≤◌, Bool, true, false, IsTrue, ◌==◌, ◌||◌, List, length, Some, refl, sym, ap, ◌∙◌, subst, inl, inr, lit<, arith}
 use Rattle.std.specs.List.{slice_get}
-use Rattle.std.proofs.lemmas.Bool.{and_parts, false≢true, ltb-true}
+use Rattle.std.proofs.lemmas.Bool.{false≢true}
 use Rattle.std.proofs.lemmas.Bool.Decides.{eqb_tells}
 use Rattle.std.proofs.lemmas.List.Quantifiers.{position-Some}
-use Rattle.std.proofs.lemmas.Nat.{row_fits}
-use Rattle.std.proofs.Math.Nat.{mul_comm}
-use Rattle.pr_cdb.specs.declared.command.Kind.{Kind}
-use Rattle.pr_cdb.specs.declared.command.Kind.TheVariants.{WriteExclusive, WriteExclusiveAllRegistrants, ExclusiveAccessAllRegistrants}
 use Rattle.pr_cdb.specs.declared.command.Command.{Command}
 use Rattle.pr_cdb.specs.declared.reply.Reply.{Reply}
 use Rattle.pr_cdb.specs.declared.reply.Sense.{Sense}
@@ -16,9 +12,6 @@ use Rattle.pr_cdb.specs.Requests.{Fits as FitsCommand}
 use Rattle.pr_attention.specs.declared.attention.Attention.{Attention}
 use Rattle.pr_attention.specs.declared.attention.Attention.TheVariants.{PowerOn}
 use Rattle.pr_attention.specs.Attentions.{power_on, code_of}
-use Rattle.pr_registry.specs.declared.held.Held.{Held}
-use Rattle.pr_registry.specs.declared.held.Held.TheVariants.{One, All}
-use Rattle.pr_registry.specs.Registrations.{is_all}
 use Rattle.pr_unit.specs.UnitStates.{UnitState, is_pending}
 use Rattle.pr_unit.specs.Conflicts.{command_conflicts}
 use Rattle.pr_unit.specs.Faults.{command_fault}
@@ -33,7 +26,7 @@ use Rattle.pr_views.specs.declared.view.ViewOf.{ViewOf}
 use Rattle.pr_sets.specs.Words.{has}
 use Rattle.pr_sets.specs.Wides.{has_wide}
 use Rattle.pr_views.specs.declared.possibilities.Possibilities.{Possibilities}
-use Rattle.pr_views.specs.Possibilities.{Item, Registration, Reservation, Attentions, place_of, number_of, count_of_reservations}
+use Rattle.pr_views.specs.Possibilities.{Item, Registration, Reservation, Attentions, count_of_reservations}
 use Rattle.pr_views.specs.Views.{View}
 use Rattle.pr_views.specs.Portions.{has_at}
 use Rattle.pr_views.specs.Rooms.{AreInRange}
@@ -49,29 +42,8 @@ use Rattle.pr_domain.specs.declared.reporting.Refused.{Refused}
 use Rattle.pr_domain.specs.inside.Reporting.{AreReported, AreCalm, AreQuiet, Ending, Reports, Conflicts, Fails, EndsGood, Refuses, refusal, MayReport, Ends, LandsBy, LandsGood, IsLater, IsOfWay, LandsGoodBelow, AreMore, HasOutcome, landing_at}
 use Rattle.pr_domain.specs.inside.Sendings.{scope_of_sending, view_of_sending, IsAsked}
 use Rattle.pr_domain.proofs.Landed.{one_class, one_landing, settled, IsWay, IsTold, from_part, way_lands}
+use Rattle.pr_domain.proofs.Viewed.{number_below}
 use Rattle.pr_domain.proofs.EachWay.{way_of_tally, either_way, told_power_on, told_later, told_conflict, told_refusal, told_fault, told_good}
-
--- ---- the numbers of reservations
-
-few_places : (kind : Kind) → place_of kind < 4
-few_places WriteExclusive = lit< tt
-few_places _ = lit< tt
-
-two_places : (kind : Kind) → is_all kind ≡ true → place_of kind < 2
-two_places WriteExclusiveAllRegistrants is = lit< tt
-two_places ExclusiveAccessAllRegistrants is = lit< tt
-two_places _ is = absurd (false≢true is)
-
-number_below : (hosts : ℕ) (held : Option Held) → is_reservation hosts held ≡ true → number_of hosts held < count_of_reservations hosts
-number_below hosts None is = omega arith
-number_below hosts (Some (One kind h)) is =
-    let small = ltb-true h hosts (and_parts (not (is_all kind)) (nat_lt h hosts) is).1 in
-    let same : hosts ≤ hosts = omega arith in
-    let rows = row_fits (place_of kind) hosts 4 hosts (few_places kind) same in
-    let turned = mul_comm (place_of kind) hosts in
-    let also = mul_comm 4 hosts in
-    omega arith
-number_below hosts (Some (All kind)) is = let small = two_places kind is in omega arith
 
 -- ---- one way
 

@@ -1,7 +1,7 @@
 -- What a sender with one registration asks for, and how that ends.
-use Rattle.std.proofs.Common.{◌≡◌, ℕ, ◌<◌, ◌≤◌, Bool, true, false, ◌==◌, ◌&&◌, not, if◌then◌else◌, option_map, nat_lt, nat_le, List, length, Option, Some, None, sym, ap, ◌∙◌, subst, arith}
+use Rattle.std.proofs.Common.{◌≡◌, ℕ, ◌<◌, Bool, true, false, ◌==◌, ◌&&◌, not, if◌then◌else◌, option_map, nat_lt, List, length, Option, Some, None, sym, ap, ◌∙◌, subst, arith}
 use Rattle.std.specs.List.{Contains}
-use Rattle.std.proofs.lemmas.Bool.{false≢true, or_left, lt-ltb, and_parts, leb-true}
+use Rattle.std.proofs.lemmas.Bool.{false≢true, or_left, lt-ltb}
 use Rattle.std.proofs.lemmas.Bool.Decides.{nat_tests}
 use Rattle.std.proofs.lemmas.Option.{slice_get-get_or}
 use Rattle.pr_cdb.specs.declared.command.Command.{Command}
@@ -14,7 +14,6 @@ use Rattle.pr_registry.specs.Changes.{conflicts_with_reserve}
 use Rattle.pr_unit.specs.UnitStates.{UnitState}
 use Rattle.pr_unit.specs.Conflicts.{command_conflicts}
 use Rattle.pr_script.specs.declared.script.Test.{Test}
-use Rattle.pr_roles.specs.Fitting.{AreDeclared, are_distinct}
 use Rattle.pr_sets.specs.declared.word.Word.{Word}
 use Rattle.pr_sets.specs.Words.{has}
 use Rattle.pr_views.specs.declared.possibilities.Possibilities.{Possibilities}
@@ -31,7 +30,7 @@ use Rattle.pr_regions.specs.Regions.{AreBranches, Meets, filter_of, standing_of,
 use Rattle.pr_domain.specs.declared.place.Place.{Place}
 use Rattle.pr_domain.specs.inside.Gathering.{IsPlace, IsUniform, IsAt}
 use Rattle.pr_domain.specs.inside.Tallies.{IsRight, AreRight, IsInOne, HasBoth, IsAsked, IsRefusedAt}
-use Rattle.pr_domain.proofs.Gathered.{same_reservation}
+use Rattle.pr_domain.proofs.Gathered.{few_keys, same_reservation}
 
 -- a sender with this registration alone
 pub only_uniform : (r : ℕ) (w : Word) → ((m : ℕ) → has w m ≡ (m == r)) → IsUniform w
@@ -117,9 +116,6 @@ refused_conflicts u h (command.Reserve rk kind) is = or_left (not (is_key (key_o
 refused_conflicts u h (command.Preempt rk sark kind) is = or_left (not (is_key (key_of u h) rk)) (not (sark == 0) && has_no_registrant u.keys sark) is
 refused_conflicts u h (command.PreemptAbort rk sark kind) is = or_left (not (is_key (key_of u h) rk)) (not (sark == 0) && has_no_registrant u.keys sark) is
 refused_conflicts u h _ is = is
-
-few_keys : (keys : List ℕ) → AreDeclared keys → length keys ≤ 12
-few_keys keys declared = leb-true (length keys) 12 (and_parts (nat_le (length keys) 12) (are_distinct (λ j k. j == k) keys) declared.once).0
 
 -- every state is in the region that leaves anything
 pub anywhere : (s : Scope) (view : Possibilities) (place : Place) (r : ℕ) (w any : Word) (region : Region) (u : UnitState) → IsPlace s view place → ((m : ℕ) → has w m ≡ (m == r))

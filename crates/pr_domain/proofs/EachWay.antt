@@ -32,7 +32,8 @@ use Rattle.pr_domain.specs.Landings.{IsLanding}
 use Rattle.pr_domain.specs.inside.Tallies.{IsRegistered, has_part, has_tallied, arm_of, Leaves, IsTally}
 use Rattle.pr_domain.specs.declared.reporting.Refused.{Refused}
 use Rattle.pr_domain.specs.inside.Reporting.{AreReported, AreCalm, AreQuiet, Reports, Conflicts, Fails, EndsGood, Refuses, MayReport, landing_at, refusal}
-use Rattle.pr_domain.proofs.Owner.{after_reported, reported_after, quiet_number, number_quiet, untold_pending}
+use Rattle.pr_domain.proofs.Owner.{after_reported, reported_after, quiet_number, untold_pending}
+use Rattle.pr_domain.proofs.Idling.{idle_from_zero}
 use Rattle.pr_domain.proofs.Landed.{so_from_registered, still_registered, IsWay, IsTold}
 
 -- ---- what a tally has
@@ -203,7 +204,7 @@ module _ (s : Scope) (known : Possibilities) (c : Command) (tests : List Test) (
               record {
                 reply = check sense;
                 after = u;
-                ends = (number_quiet s u (subst (λ m. IsSo s u (Attentions m)) known.1 pending), so.0, sense, some.1 ∙ ap (λ x. Some x) (fixed u some.0 some.1), refl, refl);
+                ends = (idle_from_zero s u (subst (λ m. IsSo s u (Attentions m)) known.1 pending), so.0, sense, some.1 ∙ ap (λ x. Some x) (fixed u some.0 some.1), refl, refl);
                 landing = landing;
                 is = so_from_registered s u j so.2;
                 left = pending;
@@ -230,7 +231,7 @@ module _ (s : Scope) (known : Possibilities) (c : Command) (tests : List Test) (
           λ u j shown so pending. record {
             reply = good (data_of u.registry c);
             after = effect u s.own c;
-            ends = (number_quiet s u (subst (λ m. IsSo s u (Attentions m)) known.1 pending), so.0, so.1, refl, refl);
+            ends = (idle_from_zero s u (subst (λ m. IsSo s u (Attentions m)) known.1 pending), so.0, so.1, refl, refl);
             landing = subst (IsLanding tests (good (data_of u.registry c))) (sym is_landing) (lands_at arm u so.2);
             is = so_from_registered s (effect u s.own c) j so.3;
             left = untold_pending s u c n pending;

@@ -10,7 +10,7 @@ use Rattle.pr_cdb.specs.declared.command.Kind.{Kind}
 use Rattle.pr_cdb.specs.declared.command.Command.{Command}
 use Rattle.pr_cdb.specs.declared.command.Command.TheVariants.{Register, RegisterIgnore, Release, Clear, Preempt, PreemptAbort}
 use Rattle.pr_attention.specs.declared.attention.Attention.{Attention}
-use Rattle.pr_attention.specs.Attentions.{power_on, reservations_preempted, reservations_released, registrations_preempted, code_of}
+use Rattle.pr_attention.specs.Attentions.{code_of}
 use Rattle.pr_attention.specs.Flagged.{codes_of}
 use Rattle.pr_attention.proofs.Sets.{same_codes, contains-no_code, contains-remove_code}
 use Rattle.pr_attention.proofs.Bits.{same_bits, codes_of-zero, AreAttentions-codes_of}
@@ -58,13 +58,6 @@ quiet_number s u q so quiet =
     none code = false_from_ne_true _ (λ there.
         let a = which code (AreAttentions-codes_of q code there) in
         false≢true (sym quiet ∙ any_pending u s.own a.0 (ap (is_pending u s.own) (sym a.1) ∙ so.1 code ∙ there)))
-
-pub number_quiet : (s : Scope) (u : UnitState) → IsSo s u (Attentions 0) → is_any_pending u s.own ≡ false
-number_quiet s u so =
-    rw (none power_on, none reservations_preempted, none reservations_released, none registrations_preempted) refl
-  where
-    none : (code : ℕ) → is_pending u s.own code ≡ false
-    none code = so.1 code ∙ ap (λ t. set.contains t code) codes_of-zero ∙ contains-no_code code
 
 -- ---- who ends GOOD is not told
 
