@@ -1,25 +1,10 @@
 -- How commands that read and write blocks end.
-use Rattle.std.proofs.Common.{◌≡◌, ℕ, Bool, true, false, not, if◌then◌else◌, List, Option, Some, None, refl, sym, ap, ◌∙◌}
-use Rattle.pr_cdb.specs.declared.command.Kind.{Kind}
+use Rattle.pr_regions.proofs.Common.{◌≡◌, ℕ, Bool, true, false, not, List, if◌then◌else◌, Some, None, Option, sym, refl, ap, ◌∙◌, Kind, Command, Sense, Held, State, is_registered, kind_of, no_change, UnitState, illegal, Scope, number_of, Change, Conflict, Fault, Good, Purpose, Read, Write, Standing, HasNumber, Meets, HasRoom, Does, AlwaysEnds, never, is_unregistered, holds}
 use Rattle.pr_cdb.specs.declared.command.Kind.TheVariants.{WriteExclusive, ExclusiveAccess, ExclusiveAccessRegistrantsOnly, ExclusiveAccessAllRegistrants}
-use Rattle.pr_cdb.specs.declared.command.Command.{Command}
-use Rattle.pr_cdb.specs.declared.reply.Sense.{Sense}
 use Rattle.pr_cdb.specs.declared.codes.TheConstants.{LOGICAL_BLOCK_ADDRESS_OUT_OF_RANGE}
-use Rattle.pr_registry.specs.declared.held.Held.{Held}
-use Rattle.pr_registry.specs.Registrations.{State, is_registered, is_holder, kind_of}
-use Rattle.pr_registry.specs.Changes.{no_change}
-use Rattle.pr_unit.specs.UnitStates.{UnitState}
+use Rattle.pr_registry.specs.Registrations.{is_holder}
 use Rattle.pr_unit.specs.Conflicts.{access_conflicts, is_denied, read_access, write_access}
-use Rattle.pr_unit.specs.Faults.{illegal}
-use Rattle.pr_views.specs.Possibilities.{Scope, number_of}
-use Rattle.pr_regions.specs.declared.region.Change.{Change}
-use Rattle.pr_regions.specs.declared.region.Ending.TheVariants.{Conflict, Fault, Good}
-use Rattle.pr_regions.specs.declared.purpose.Purpose.{Purpose}
-use Rattle.pr_regions.specs.declared.purpose.Purpose.TheVariants.{Read, Write}
-use Rattle.pr_regions.specs.declared.purpose.Standing.{Standing}
-use Rattle.pr_regions.specs.Purposes.{HasNumber}
-use Rattle.pr_regions.specs.Regions.{Meets, HasRoom}
-use Rattle.pr_regions.specs.inside.Parts.{Does, AlwaysEnds, never, is_unregistered, holds, keeps_from_reading, keeps_from_writing, is_kept_from}
+use Rattle.pr_regions.specs.inside.Parts.{keeps_from_reading, keeps_from_writing, is_kept_from}
 use Rattle.pr_regions.proofs.Asking.{conflicts_for, fault_for, after_for, change_for}
 use Rattle.pr_regions.proofs.Meeting.{registered_or_not, is_holder-standing, conflict_ends, fault_ends, same_ends}
 

@@ -1,13 +1,8 @@
 -- What becomes of a state, by what a change says, registration by registration.
-use Rattle.std.proofs.Common.{◌≡◌, ◌≢◌, ℕ, ◌≤◌, Bool, true, false, if◌then◌else◌, List, length, None, unwrap_or, refl, sym, ap, ◌∙◌, arith}
+use Rattle.pr_regions.proofs.Common.{◌≡◌, ℕ, ◌≤◌, Bool, true, false, ◌≢◌, List, length, if◌then◌else◌, None, unwrap_or, sym, refl, ap, ◌∙◌, arith, State, key_of, UnitState, Scope, number_of, key_at, codes_of, has, Change}
 use Rattle.std.specs.FinSet as set
 use Rattle.pr_registry.specs.declared.change.Change.{Change as Told}
-use Rattle.pr_registry.specs.Registrations.{State, key_of}
-use Rattle.pr_attention.specs.Flagged.{codes_of}
-use Rattle.pr_unit.specs.UnitStates.{UnitState, pending_after, is_pending}
-use Rattle.pr_sets.specs.Words.{has}
-use Rattle.pr_views.specs.Possibilities.{Scope, key_at, number_of}
-use Rattle.pr_regions.specs.declared.region.Change.{Change}
+use Rattle.pr_unit.specs.UnitStates.{pending_after, is_pending}
 use Rattle.pr_regions.specs.Regions.{Changes}
 use Rattle.pr_regions.proofs.Telling.{is_pending_after, contains-told, contains-codes_told, told-lt}
 

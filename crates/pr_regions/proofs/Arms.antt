@@ -1,27 +1,18 @@
 -- Which arm takes the data of READ KEYS, one arm after another.
-use Rattle.std.proofs.Common.{◌≡◌, ◌≢◌, ℕ, zero, suc, ◌+◌, ◌≤◌, ◌<◌, Bool, true, false, ◌==◌, ◌&&◌, not, nat_lt, cond, if◌then◌else◌, List, [], ◌∷◌, ◌++◌, length, get_or, Option, Some, None, refl, sym, ap, ◌∙◌, subst, inl, inr, ◌⊎◌, arith, length-append}
-use Rattle.std.specs.List.{Contains, position}
-use Rattle.std.proofs.lemmas.Bool.{and_parts, not-true}
-use Rattle.std.proofs.lemmas.Bool.Decides.{nat_tests, eqb_tells}
+use Rattle.pr_regions.proofs.Common.{◌≡◌, ℕ, zero, suc, ◌+◌, ◌<◌, ◌≤◌, Bool, true, false, cond, not, ◌&&◌, ◌≢◌, ◌⊎◌, List, [], ◌∷◌, ◌++◌, length, get_or, if◌then◌else◌, nat_lt, ◌==◌, Some, None, Option, sym, refl, ap, ◌∙◌, subst, inl, inr, arith, length-append, position, not-true, nat_tests, eqb_tells, Command, Held, UnitState, Scope, IsScope, Registration, IsSo, has, matches, Word, HasSomebody, IsInRegion, any, only, IsKnown, answer}
+use Rattle.std.specs.List.{Contains}
+use Rattle.std.proofs.lemmas.Bool.{and_parts}
 use Rattle.std.proofs.lemmas.List.Sums.{position_or_len_is}
 use Rattle.std.proofs.lemmas.List.Elements.{Contains-push}
-use Rattle.pr_cdb.specs.declared.command.Command.{Command}
-use Rattle.pr_registry.specs.declared.held.Held.{Held}
 use Rattle.pr_registry.specs.declared.held.Held.TheVariants.{One, All as Everybody}
-use Rattle.pr_unit.specs.UnitStates.{UnitState}
 use Rattle.pr_script.specs.declared.script.Test.{Test}
-use Rattle.pr_script.specs.Takes.{matches}
-use Rattle.pr_sets.specs.declared.word.Word.{Word}
-use Rattle.pr_sets.specs.Words.{has}
-use Rattle.pr_views.specs.Possibilities.{Scope, IsScope, Registration, IsSo}
-use Rattle.pr_views.specs.Portions.{HasSomebody}
 use Rattle.pr_regions.specs.declared.region.Region.{Region}
 use Rattle.pr_regions.specs.declared.region.Reading.{Reading}
 use Rattle.pr_regions.specs.declared.key_reads.Ask.TheVariants.{Always, Never, Somebody}
-use Rattle.pr_regions.specs.Regions.{filter_of, IsInRegion}
+use Rattle.pr_regions.specs.Regions.{filter_of}
 use Rattle.pr_regions.specs.Readings.{first_test, IsRead, AreReadings}
-use Rattle.pr_regions.specs.inside.Parts.{HasThose, any, only}
-use Rattle.pr_regions.specs.inside.Reads.{IsKnown, answer, HasNobody, IsAsked, open_to, AreReadSoFar}
+use Rattle.pr_regions.specs.inside.Parts.{HasThose}
+use Rattle.pr_regions.specs.inside.Reads.{HasNobody, IsAsked, open_to, AreReadSoFar}
 use Rattle.pr_regions.proofs.Unique.{few_keys}
 use Rattle.pr_regions.proofs.Covering.{somebody_or_none}
 

@@ -1,20 +1,8 @@
 -- What a test of READ KEYS asks of the others' registrations.
-use Rattle.std.proofs.Common.{◌≡◌, ◌≢◌, ℕ, ◌≤◌, ◌<◌, true, false, ◌==◌, List, length, Option, Some, refl, sym, ap, ◌∙◌, subst, inl, inr, ◌⊎◌, arith}
-use Rattle.std.proofs.lemmas.Bool.{false≢true}
-use Rattle.std.proofs.lemmas.Bool.Decides.{nat_tests, eqb_tells}
-use Rattle.pr_cdb.specs.declared.command.Command.TheVariants.{ReadKeys}
-use Rattle.pr_registry.specs.declared.held.Held.{Held}
-use Rattle.pr_registry.specs.Registrations.{key_of}
-use Rattle.pr_unit.specs.UnitStates.{UnitState}
+use Rattle.pr_regions.proofs.Common.{◌≡◌, ℕ, ◌<◌, ◌≤◌, true, false, ◌≢◌, ◌⊎◌, List, length, ◌==◌, Some, Option, sym, refl, ap, ◌∙◌, subst, inl, inr, arith, false≢true, nat_tests, eqb_tells, Held, key_of, UnitState, Scope, key_at, Registration, IsSo, matches, HasSomebody, ReadKeys, WRITTEN_LENGTH, number_in, only, IsKnown, answer}
 use Rattle.pr_script.specs.declared.script.Test.TheVariants.{GoodHas}
-use Rattle.pr_script.specs.declared.grammar.TheConstants.{WRITTEN_LENGTH}
 use Rattle.pr_script.specs.Grammar.{test_fits}
-use Rattle.pr_script.specs.Takes.{matches}
-use Rattle.pr_views.specs.Possibilities.{Scope, Registration, IsSo, key_at}
-use Rattle.pr_views.specs.Portions.{HasSomebody}
-use Rattle.pr_regions.specs.Purposes.{number_in}
-use Rattle.pr_regions.specs.inside.Parts.{only}
-use Rattle.pr_regions.specs.inside.Reads.{IsKnown, answer, HasNobody}
+use Rattle.pr_regions.specs.inside.Reads.{HasNobody}
 use Rattle.pr_regions.proofs.Unique.{are_distinct_keys, same_number_at, one_registration}
 use Rattle.pr_regions.proofs.Asking.{number_named, declared_number}
 use Rattle.pr_regions.proofs.Contents.{key_read, key_not_read}

@@ -1,30 +1,21 @@
 -- What each purpose does in a state, whichever command asks for it.
-use Rattle.std.proofs.Common.{◌≡◌, ℕ, suc, ◌+◌, ◌<◌, ◌≤◌, Bool, true, false, ◌==◌, ◌&&◌, ◌||◌, not, nat_lt, nat_le, cond, if◌then◌else◌, List, [], ◌∷◌, length, Option, Some, None, is_some, unwrap_or, get_or, refl, sym, ap, ◌∙◌, subst, arith}
-use Rattle.std.specs.List.{position, position_or_len, list_any}
+use Rattle.pr_regions.proofs.Common.{◌≡◌, ℕ, suc, ◌+◌, ◌<◌, ◌≤◌, Bool, true, false, cond, not, ◌&&◌, ◌||◌, List, [], ◌∷◌, length, get_or, is_some, if◌then◌else◌, nat_lt, nat_le, ◌==◌, Some, None, Option, unwrap_or, sym, refl, ap, ◌∙◌, subst, arith, position, list_any, false≢true, nat_tests, Kind, Command, Sense, State, is_registered, key_of, no_change, is_held_by_all, change_on_unregister, illegal, key_at, is_key, Purpose, Read, Write, Look, Register, Unregister, Reserve, Release, Clear, PreemptAll, Preempt, HasNumber, number_in}
+use Rattle.std.specs.List.{position_or_len}
 use Rattle.std.specs.Option.{option_map_or}
 use Rattle.std.specs.List.{slice_get}
-use Rattle.std.proofs.lemmas.Bool.{false≢true}
-use Rattle.std.proofs.lemmas.Bool.Decides.{nat_tests}
 use Rattle.std.proofs.lemmas.List.Quantifiers.{position-Some}
 use Rattle.std.proofs.lemmas.Option.{slice_get-get_or}
 use Rattle.pr_script.specs.Grammar.{is_declared, is_written_key}
-use Rattle.pr_cdb.specs.declared.command.Kind.{Kind}
-use Rattle.pr_cdb.specs.declared.command.Command.{Command}
 use Rattle.pr_cdb.specs.declared.command.Command.TheVariants as command
-use Rattle.pr_cdb.specs.declared.reply.Sense.{Sense}
 use Rattle.pr_cdb.specs.declared.codes.TheConstants.{LOGICAL_BLOCK_ADDRESS_OUT_OF_RANGE, INVALID_FIELD_IN_PARAMETER_LIST}
 use Rattle.pr_registry.specs.declared.change.Change.{Change}
-use Rattle.pr_registry.specs.Hosts.{has_no_registrant, is_key}
-use Rattle.pr_registry.specs.Registrations.{State, key_of, is_registered}
-use Rattle.pr_registry.specs.Changes.{no_change, conflicts_with_reserve, is_held_by_all, change_on_unregister, change_on_release, change_on_clear, change_on_preempt}
+use Rattle.pr_registry.specs.Hosts.{has_no_registrant}
+use Rattle.pr_registry.specs.Changes.{conflicts_with_reserve, change_on_release, change_on_clear, change_on_preempt}
 use Rattle.pr_registry.specs.Effects.{with_registration, without_registration, with_reservation, after_release, after_clear, after_preempt, after, change, after_register, change_on_register}
 use Rattle.pr_unit.specs.Conflicts.{access_conflicts, read_access, write_access, is_wrong_key, preempt_conflicts, command_conflicts}
 use Rattle.pr_unit.specs.declared.unit.TheConstants.{CAPACITY}
-use Rattle.pr_unit.specs.Faults.{illegal, release_fault, range_fault, preempt_fault, command_fault}
-use Rattle.pr_views.specs.Possibilities.{key_at}
-use Rattle.pr_regions.specs.declared.purpose.Purpose.{Purpose}
-use Rattle.pr_regions.specs.declared.purpose.Purpose.TheVariants.{Look, Read, Write, Register, Unregister, Reserve, Release, Clear, PreemptAll, Preempt}
-use Rattle.pr_regions.specs.Purposes.{number_in, is_in_range, purpose_of_register, purpose_of_preempt, HasNumber, purpose_of, is_refused}
+use Rattle.pr_unit.specs.Faults.{release_fault, range_fault, preempt_fault, command_fault}
+use Rattle.pr_regions.specs.Purposes.{is_in_range, purpose_of_register, purpose_of_preempt, purpose_of, is_refused}
 
 -- the key of this number, if there is one
 abbrev pub key_named : List ℕ → ℕ → ℕ

@@ -1,18 +1,13 @@
 -- What each service action makes of a registry, registration by registration.
-use Rattle.std.proofs.Common.{◌≡◌, ◌≢◌, ℕ, zero, suc, ◌≤◌, Bool, true, false, ◌==◌, ◌&&◌, not, cond, if◌then◌else◌, List, length, Option, Some, None, is_some, unwrap_or, refl, sym, ap, ◌∙◌, subst, inl, inr, ◌⊎◌, arith}
+use Rattle.pr_regions.proofs.Common.{◌≡◌, ℕ, zero, suc, ◌≤◌, Bool, true, false, cond, not, ◌&&◌, ◌≢◌, ◌⊎◌, List, length, is_some, if◌then◌else◌, ◌==◌, Some, None, Option, unwrap_or, sym, refl, ap, ◌∙◌, subst, inl, inr, arith, nat_tests, eqb_tells, Kind, State, is_registered, key_of, no_change, change_on_unregister, is_told_of_loss, number_of, key_at, is_key, Hosts, nobody, contains-nobody, get-without, Change, Does, never, is_of_registrant, told_if}
 use Rattle.std.specs.FinSet as set
 use Rattle.std.specs.FinMap as map
-use Rattle.std.proofs.lemmas.Bool.Decides.{nat_tests, eqb_tells}
-use Rattle.pr_cdb.specs.declared.command.Kind.{Kind}
 use Rattle.pr_registry.specs.declared.change.Change.{Change as Told}
-use Rattle.pr_registry.specs.Hosts.{Hosts, nobody, just, is_key}
-use Rattle.pr_registry.specs.Registrations.{State, key_of, is_registered, others, registrants, holds_alone}
-use Rattle.pr_registry.specs.Changes.{no_change, is_told_of_loss, is_released, change_on_unregister, change_on_release, change_on_clear}
+use Rattle.pr_registry.specs.Hosts.{just}
+use Rattle.pr_registry.specs.Registrations.{others, registrants, holds_alone}
+use Rattle.pr_registry.specs.Changes.{is_released, change_on_release, change_on_clear}
 use Rattle.pr_registry.specs.Effects.{with_registration as register, without_registration, after_release, after_clear}
-use Rattle.pr_registry.proofs.Sets.{contains-nobody, contains-just, contains-remove, contains-hosts_in, get-insert, get-empty, get-without}
-use Rattle.pr_views.specs.Possibilities.{key_at, number_of}
-use Rattle.pr_regions.specs.declared.region.Change.{Change}
-use Rattle.pr_regions.specs.inside.Parts.{Does, never, is_of_registrant, told_if}
+use Rattle.pr_registry.proofs.Sets.{contains-just, contains-remove, contains-hosts_in, get-insert, get-empty}
 use Rattle.pr_regions.proofs.Unique.{same_itself, AreDistinct, is_some-key_at, same_number_at}
 use Rattle.pr_regions.proofs.Acting.{Is, Acts}
 

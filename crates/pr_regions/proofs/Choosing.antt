@@ -1,27 +1,7 @@
 -- The branches of a command that preempts a key.
-use Rattle.std.proofs.Common.{◌≡◌, ◌≢◌, ℕ, ◌≤◌, Bool, true, false, ◌==◌, ◌&&◌, ◌||◌, not, if◌then◌else◌, [], ◌∷◌, Option, Some, None, is_some, refl, sym, ap, ◌∙◌, subst, inl, inr, ◌⊎◌, arith}
+use Rattle.pr_regions.proofs.Common.{◌≡◌, ℕ, ◌≤◌, Bool, true, false, not, ◌&&◌, ◌||◌, ◌≢◌, ◌⊎◌, [], ◌∷◌, is_some, if◌then◌else◌, ◌==◌, Some, None, Option, sym, refl, ap, ◌∙◌, subst, inl, inr, arith, not-true, false≢true, nat_tests, eqb_tells, Kind, Command, Held, is_registered, key_of, new_reservation, is_held_by_all, is_kind, UnitState, Scope, number_of, key_at, Registration, IsSo, HasSomebody, is_key, Keys, without, hosts_with, is_empty, held_by_rest, One, All, Change, Conflict, Good, Preempt, Standing, HasNumber, Meets, HasRoom, IsCovered, Does, AlwaysEnds, never, any, only, but, another, told_but, lost_if, is_named, Leaves, EndsIn, Tell, Branch}
 use Rattle.std.specs.FinMap as map
-use Rattle.std.proofs.lemmas.Bool.{false≢true, not-true}
-use Rattle.std.proofs.lemmas.Bool.Decides.{nat_tests, eqb_tells}
-use Rattle.pr_cdb.specs.declared.command.Kind.{Kind}
-use Rattle.pr_cdb.specs.declared.command.Command.{Command}
-use Rattle.pr_registry.specs.declared.held.Held.{Held}
-use Rattle.pr_registry.specs.declared.held.Held.TheVariants.{One, All}
-use Rattle.pr_registry.specs.Hosts.{Keys, without, hosts_with, is_key, is_empty}
-use Rattle.pr_registry.specs.Registrations.{key_of, is_registered, new_reservation}
-use Rattle.pr_registry.specs.Changes.{is_kind, is_held_by_all}
-use Rattle.pr_registry.specs.Effects.{held_by_rest}
-use Rattle.pr_unit.specs.UnitStates.{UnitState}
-use Rattle.pr_views.specs.Possibilities.{Scope, Registration, IsSo, key_at, number_of}
-use Rattle.pr_views.specs.Portions.{HasSomebody}
-use Rattle.pr_regions.specs.declared.region.Change.{Change}
-use Rattle.pr_regions.specs.declared.region.Ending.TheVariants.{Good, Conflict}
-use Rattle.pr_regions.specs.declared.region.Branch.{Branch}
-use Rattle.pr_regions.specs.declared.purpose.Purpose.TheVariants.{Preempt}
-use Rattle.pr_regions.specs.declared.purpose.Standing.{Standing}
-use Rattle.pr_regions.specs.Purposes.{HasNumber}
-use Rattle.pr_regions.specs.Regions.{Meets, IsCovered, HasRoom}
-use Rattle.pr_regions.specs.inside.Parts.{any, never, only, but, another, free_or, told_but, lost_if, is_named, IsNotAnothers, Leaves, Does, AlwaysEnds, EndsIn, Tell}
+use Rattle.pr_regions.specs.inside.Parts.{free_or, IsNotAnothers}
 use Rattle.pr_regions.proofs.Unique.{few_keys, is_some-key_at}
 use Rattle.pr_regions.proofs.Asking.{key_named}
 use Rattle.pr_regions.proofs.Meeting.{sender_of}

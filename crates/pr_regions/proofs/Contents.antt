@@ -1,19 +1,16 @@
 -- The data of READ KEYS and READ RESERVATION, read back.
-use Rattle.std.proofs.Common.{◌≡◌, ◌≢◌, ℕ, zero, suc, ◌+◌, ◌*◌, ◌≤◌, ◌<◌, ◌^◌, Bool, true, false, ◌==◌, ◌||◌, nat_lt, nat_le, if◌then◌else◌, List, [], ◌∷◌, ◌++◌, length, slice_index, Option, Some, None, refl, sym, ap, ◌∙◌, inl, inr, ◌⊎◌, arith, add-one, length-append, lit<}
+use Rattle.pr_regions.proofs.Common.{◌≡◌, ℕ, zero, suc, ◌+◌, ◌*◌, ◌^◌, ◌<◌, ◌≤◌, Bool, true, false, ◌||◌, ◌≢◌, ◌⊎◌, List, [], ◌∷◌, ◌++◌, length, if◌then◌else◌, nat_lt, nat_le, ◌==◌, slice_index, Some, None, Option, sym, refl, ap, ◌∙◌, inl, inr, add-one, arith, lit<, length-append, list_any, false≢true, nat_tests, eqb_tells, Kind, State, key_of}
 use Rattle.std.specs.Int.{w32, w64, to_be_bytes}
 use Rattle.std.specs.FinMap as map
-use Rattle.std.specs.List.{list_any, flat_map}
-use Rattle.std.proofs.lemmas.Bool.{false≢true}
-use Rattle.std.proofs.lemmas.Bool.Decides.{nat_tests, eqb_tells}
+use Rattle.std.specs.List.{flat_map}
 use Rattle.std.proofs.lemmas.List.{take_all}
 use Rattle.std.proofs.lemmas.List.Folds.{list_any-append}
-use Rattle.pr_cdb.specs.declared.command.Kind.{Kind}
 use Rattle.pr_cdb.specs.ReplyData.{keys_bytes, keys_in, reservation_bytes, holder, holder_in, cut}
 use Rattle.pr_cdb.specs.inside.KeyWidths.{HasKey}
 use Rattle.pr_cdb.proofs.ReadsData.{keys_in-keys_bytes, holder_in-reservation_bytes}
 use Rattle.pr_cdb.specs.declared.codes.TheConstants.{MOST_NEXUSES}
 use Rattle.pr_registry.specs.Hosts.{map_where}
-use Rattle.pr_registry.specs.Registrations.{State, key_of, IsWellFormed}
+use Rattle.pr_registry.specs.Registrations.{IsWellFormed}
 use Rattle.pr_registry.proofs.Sets.{same_keys, get-map_where}
 use Rattle.pr_registry.proofs.Values.{values-map_where-some, values-map_where-none, values-map_where-zero}
 

@@ -1,21 +1,9 @@
 -- Branches that tell how a command ends, by their regions.
-use Rattle.std.proofs.Common.{◌≡◌, ◌≢◌, ℕ, zero, suc, ◌≤◌, ◌<◌, Bool, true, false, ◌==◌, if◌then◌else◌, List, [], ◌∷◌, length, Option, Some, None, option_map, refl, sym, ap, ◌∙◌, subst, inl, inr, ◌⊎◌, arith}
+use Rattle.pr_regions.proofs.Common.{◌≡◌, ℕ, zero, suc, ◌<◌, ◌≤◌, Bool, true, false, ◌≢◌, ◌⊎◌, List, [], ◌∷◌, length, if◌then◌else◌, ◌==◌, Some, None, Option, option_map, sym, refl, ap, ◌∙◌, subst, inl, inr, arith, eqb_tells, Command, Held, UnitState, Scope, IsScope, Registration, IsSo, has, Word, HasSomebody, One, Purpose, Standing, Meets, IsInRegion, IsCovered, AlwaysEnds, any, Leaves, EndsIn, Tell, Branch}
 use Rattle.std.specs.List.{All as Each, Contains}
-use Rattle.std.proofs.lemmas.Bool.Decides.{eqb_tells}
-use Rattle.pr_cdb.specs.declared.command.Command.{Command}
-use Rattle.pr_registry.specs.declared.held.Held.{Held}
-use Rattle.pr_registry.specs.declared.held.Held.TheVariants.{One}
-use Rattle.pr_unit.specs.UnitStates.{UnitState}
-use Rattle.pr_sets.specs.declared.word.Word.{Word}
-use Rattle.pr_sets.specs.Words.{has}
-use Rattle.pr_views.specs.Possibilities.{Scope, IsScope, Registration, IsSo}
-use Rattle.pr_views.specs.Portions.{HasSomebody}
 use Rattle.pr_regions.specs.declared.region.Region.{Region}
-use Rattle.pr_regions.specs.declared.region.Branch.{Branch}
-use Rattle.pr_regions.specs.declared.purpose.Purpose.{Purpose}
-use Rattle.pr_regions.specs.declared.purpose.Standing.{Standing}
-use Rattle.pr_regions.specs.Regions.{Meets, filter_of, IsInRegion, IsCovered, IsUntestedOrRegistered}
-use Rattle.pr_regions.specs.inside.Parts.{any, IsTest, Leaves, AlwaysEnds, EndsIn, Tell}
+use Rattle.pr_regions.specs.Regions.{filter_of, IsUntestedOrRegistered}
+use Rattle.pr_regions.specs.inside.Parts.{IsTest}
 use Rattle.pr_regions.proofs.Unique.{few_keys, one_registration}
 
 -- ---- lists of one to three

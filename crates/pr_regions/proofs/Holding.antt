@@ -1,27 +1,7 @@
 -- The branches of a command that preempts a key while another host holds the reservation alone.
-use Rattle.std.proofs.Common.{◌≡◌, ◌≢◌, ℕ, ◌<◌, Bool, true, false, ◌==◌, not, if◌then◌else◌, IsTrue, [], ◌∷◌, Option, Some, None, is_some, refl, sym, ap, ◌∙◌, subst, inl, inr, ◌⊎◌, arith}
+use Rattle.pr_regions.proofs.Common.{◌≡◌, ℕ, ◌<◌, Bool, true, false, not, ◌≢◌, ◌⊎◌, [], ◌∷◌, is_some, if◌then◌else◌, IsTrue, ◌==◌, Some, None, Option, sym, refl, ap, ◌∙◌, subst, inl, inr, arith, not-true, false≢true, nat_tests, Kind, Command, Held, key_of, new_reservation, is_kind, UnitState, Scope, number_of, Registration, IsSo, HasSomebody, is_key, Keys, held_by_rest, One, Change, Conflict, Good, Preempt, Standing, HasNumber, Meets, HasRoom, IsInRegion, IsCovered, Does, never, any, only, is_of_registrant, but, another, told_but, lost_if, is_named, Leaves, EndsIn, Tell, Branch}
 use Rattle.std.specs.FinMap as map
-use Rattle.std.proofs.lemmas.Bool.{false≢true, not-true}
-use Rattle.std.proofs.lemmas.Bool.Decides.{nat_tests}
-use Rattle.pr_cdb.specs.declared.command.Kind.{Kind}
-use Rattle.pr_cdb.specs.declared.command.Command.{Command}
-use Rattle.pr_registry.specs.declared.held.Held.{Held}
-use Rattle.pr_registry.specs.declared.held.Held.TheVariants.{One}
-use Rattle.pr_registry.specs.Hosts.{Keys, is_key}
-use Rattle.pr_registry.specs.Registrations.{HasHolder, key_of, new_reservation}
-use Rattle.pr_registry.specs.Changes.{is_kind}
-use Rattle.pr_registry.specs.Effects.{held_by_rest}
-use Rattle.pr_unit.specs.UnitStates.{UnitState}
-use Rattle.pr_views.specs.Possibilities.{Scope, Registration, IsSo, number_of}
-use Rattle.pr_views.specs.Portions.{HasSomebody}
-use Rattle.pr_regions.specs.declared.region.Change.{Change}
-use Rattle.pr_regions.specs.declared.region.Ending.TheVariants.{Good, Conflict}
-use Rattle.pr_regions.specs.declared.region.Branch.{Branch}
-use Rattle.pr_regions.specs.declared.purpose.Purpose.TheVariants.{Preempt}
-use Rattle.pr_regions.specs.declared.purpose.Standing.{Standing}
-use Rattle.pr_regions.specs.Purposes.{HasNumber}
-use Rattle.pr_regions.specs.Regions.{Meets, IsInRegion, IsCovered, HasRoom}
-use Rattle.pr_regions.specs.inside.Parts.{any, never, is_of_registrant, only, but, another, told_but, lost_if, is_named, Leaves, Does, EndsIn, Tell}
+use Rattle.pr_registry.specs.Registrations.{HasHolder}
 use Rattle.pr_regions.proofs.Unique.{same_itself, few_keys, one_registration}
 use Rattle.pr_regions.proofs.Asking.{key_named}
 use Rattle.pr_regions.proofs.Becoming.{is_registered-number}

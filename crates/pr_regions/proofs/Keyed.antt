@@ -1,31 +1,16 @@
 -- Who has the key that a PREEMPT names, and what that makes of the command.
-use Rattle.std.proofs.Common.{◌≡◌, ◌≢◌, ℕ, zero, suc, ◌≤◌, ◌<◌, Bool, true, false, ◌==◌, not, if◌then◌else◌, List, length, Option, Some, None, is_some, get_or, refl, sym, ap, ◌∙◌, subst, inl, inr, ◌⊎◌, arith}
+use Rattle.pr_regions.proofs.Common.{◌≡◌, ℕ, zero, suc, ◌<◌, ◌≤◌, Bool, true, false, not, ◌≢◌, ◌⊎◌, List, length, get_or, is_some, if◌then◌else◌, ◌==◌, Some, None, Option, sym, refl, ap, ◌∙◌, subst, inl, inr, arith, false≢true, nat_tests, eqb_tells, Kind, Command, Held, State, is_registered, key_of, new_reservation, is_kind, ReplacesAll, preempt_case, UnitState, Scope, number_of, key_at, Registration, IsSo, is_key, Hosts, nobody, Keys, without, hosts_with, is_empty, held_by_rest, contains-nobody, get-without, One, All, Change, Conflict, Good, Preempt, Standing, HasNumber, Meets, Ends, Does, never, only, told_but, lost_if, is_named}
 use Rattle.std.specs.FinMap as map
 use Rattle.std.specs.FinSet as set
 use Rattle.std.specs.Ordering.{nat_cmp}
 use Rattle.std.specs.List.{All as Each}
-use Rattle.std.proofs.lemmas.Bool.{false≢true}
-use Rattle.std.proofs.lemmas.Bool.Decides.{nat_tests, eqb_tells}
 use Rattle.std.proofs.lemmas.Option.{slice_get_within, get_or_from_slice_get}
-use Rattle.pr_cdb.specs.declared.command.Kind.{Kind}
-use Rattle.pr_cdb.specs.declared.command.Command.{Command}
-use Rattle.pr_registry.specs.declared.held.Held.{Held}
-use Rattle.pr_registry.specs.declared.held.Held.TheVariants.{One, All}
-use Rattle.pr_registry.specs.Hosts.{Keys, Hosts, nobody, without, hosts_with, is_key, has_no_registrant, is_empty}
-use Rattle.pr_registry.specs.Registrations.{State, IsKey, key_of, is_registered, new_reservation}
-use Rattle.pr_registry.specs.Changes.{ReplacesAll, ReplacesHolder, RemovesKey, preempt_case, is_kind}
-use Rattle.pr_registry.specs.Effects.{held_by_rest}
-use Rattle.pr_registry.proofs.Sets.{same_hosts, contains-nobody, contains-hosts_with, get-without, is_empty_from_none, not_empty_from_some}
-use Rattle.pr_unit.specs.UnitStates.{UnitState}
-use Rattle.pr_views.specs.Possibilities.{Scope, Registration, IsSo, key_at, number_of}
-use Rattle.pr_regions.specs.declared.region.Change.{Change}
-use Rattle.pr_regions.specs.declared.region.Ending.TheVariants.{Good, Conflict}
-use Rattle.pr_regions.specs.declared.purpose.Purpose.TheVariants.{Preempt}
-use Rattle.pr_regions.specs.declared.purpose.Standing.{Standing}
+use Rattle.pr_registry.specs.Hosts.{has_no_registrant}
+use Rattle.pr_registry.specs.Registrations.{IsKey}
+use Rattle.pr_registry.specs.Changes.{ReplacesHolder, RemovesKey}
+use Rattle.pr_registry.proofs.Sets.{same_hosts, contains-hosts_with, is_empty_from_none, not_empty_from_some}
 use Rattle.pr_regions.specs.declared.purpose.Standing.TheVariants.{Named, Other}
-use Rattle.pr_regions.specs.Purposes.{HasNumber}
-use Rattle.pr_regions.specs.Regions.{standing_of, Meets, Ends}
-use Rattle.pr_regions.specs.inside.Parts.{never, only, told_but, lost_if, is_named, Does}
+use Rattle.pr_regions.specs.Regions.{standing_of}
 use Rattle.pr_regions.proofs.Unique.{same_itself, AreDistinct, are_distinct_keys}
 use Rattle.pr_regions.proofs.Asking.{key_named}
 use Rattle.pr_regions.proofs.Acting.{Is}

@@ -1,27 +1,10 @@
 -- How a command ends by which its sender is registered no more.
-use Rattle.std.proofs.Common.{◌≡◌, ◌≢◌, ℕ, zero, suc, ◌<◌, Bool, true, false, ◌==◌, ◌&&◌, not, if◌then◌else◌, [], ◌∷◌, Option, Some, None, is_some, refl, sym, ap, ◌∙◌, subst, inl, inr, ◌⊎◌, arith}
+use Rattle.pr_regions.proofs.Common.{◌≡◌, ℕ, zero, suc, ◌<◌, Bool, true, false, not, ◌&&◌, ◌≢◌, ◌⊎◌, [], ◌∷◌, is_some, if◌then◌else◌, ◌==◌, Some, None, Option, sym, refl, ap, ◌∙◌, subst, inl, inr, arith, false≢true, eqb_tells, Command, Held, State, is_registered, key_of, no_change, is_held_by_all, change_on_unregister, is_told_of_loss, UnitState, Scope, number_of, Registration, IsSo, HasSomebody, without, is_empty, held_by_rest, get-without, One, All, Change, Good, Purpose, Unregister, Standing, Meets, HasRoom, IsCovered, Ends, Does, AlwaysEnds, never, is_unregistered, any, only, is_of_registrant, told_if, Leaves, EndsIn, Tell, Branch}
 use Rattle.std.specs.FinMap as map
-use Rattle.std.proofs.lemmas.Bool.{false≢true}
-use Rattle.std.proofs.lemmas.Bool.Decides.{eqb_tells}
-use Rattle.pr_cdb.specs.declared.command.Command.{Command}
-use Rattle.pr_registry.specs.declared.held.Held.{Held}
-use Rattle.pr_registry.specs.declared.held.Held.TheVariants.{One, All}
-use Rattle.pr_registry.specs.Hosts.{just, without, is_empty}
-use Rattle.pr_registry.specs.Registrations.{State, key_of, is_registered, holds_alone}
-use Rattle.pr_registry.specs.Changes.{is_held_by_all, is_told_of_loss, no_change, change_on_unregister}
-use Rattle.pr_registry.specs.Effects.{held_by_rest, without_registration}
-use Rattle.pr_registry.proofs.Sets.{contains-just, get-without, is_empty_from_none, not_empty_from_some}
-use Rattle.pr_unit.specs.UnitStates.{UnitState}
-use Rattle.pr_views.specs.Possibilities.{Scope, Registration, IsSo, number_of}
-use Rattle.pr_views.specs.Portions.{HasSomebody}
-use Rattle.pr_regions.specs.declared.region.Change.{Change}
-use Rattle.pr_regions.specs.declared.region.Ending.TheVariants.{Good}
-use Rattle.pr_regions.specs.declared.region.Branch.{Branch}
-use Rattle.pr_regions.specs.declared.purpose.Purpose.{Purpose}
-use Rattle.pr_regions.specs.declared.purpose.Purpose.TheVariants.{Unregister}
-use Rattle.pr_regions.specs.declared.purpose.Standing.{Standing}
-use Rattle.pr_regions.specs.Regions.{Meets, Ends, IsCovered, HasRoom}
-use Rattle.pr_regions.specs.inside.Parts.{any, never, is_of_registrant, only, told_if, is_unregistered, Leaves, Does, AlwaysEnds, EndsIn, Tell}
+use Rattle.pr_registry.specs.Hosts.{just}
+use Rattle.pr_registry.specs.Registrations.{holds_alone}
+use Rattle.pr_registry.specs.Effects.{without_registration}
+use Rattle.pr_registry.proofs.Sets.{contains-just, is_empty_from_none, not_empty_from_some}
 use Rattle.pr_regions.proofs.Unique.{few_keys, key_there}
 use Rattle.pr_regions.proofs.Asking.{after_for, change_for}
 use Rattle.pr_regions.proofs.Becoming.{Becomes, on_unregister, other_host, is_registered-number}

@@ -1,3 +1,4 @@
+pub mod Common
 pub mod Unique
 pub mod Asking
 pub mod Telling

@@ -1,26 +1,13 @@
 -- How a command ends in a state that meets what is known, by its purpose.
-use Rattle.std.proofs.Common.{◌≡◌, ℕ, zero, suc, ◌≤◌, ◌<◌, Bool, true, false, not, if◌then◌else◌, Option, Some, None, unwrap_or, refl, sym, ap, ◌∙◌, subst, arith}
-use Rattle.std.proofs.lemmas.Bool.Decides.{nat_tests}
-use Rattle.pr_cdb.specs.declared.command.Command.{Command}
-use Rattle.pr_cdb.specs.declared.reply.Sense.{Sense}
-use Rattle.pr_registry.specs.declared.held.Held.{Held}
-use Rattle.pr_registry.specs.declared.held.Held.TheVariants.{One, All}
+use Rattle.pr_regions.proofs.Common.{◌≡◌, ℕ, zero, suc, ◌<◌, ◌≤◌, Bool, true, false, not, if◌then◌else◌, Some, None, Option, unwrap_or, sym, refl, ap, ◌∙◌, subst, arith, nat_tests, Command, Sense, Held, State, is_registered, no_change, UnitState, Scope, number_of, One, All, Change, Conflict, Fault, Good, Purpose, Standing, HasNumber, Meets, HasRoom, Ends, Does, never, is_unregistered, holds, is_of_registrant}
 use Rattle.pr_registry.specs.declared.change.Change.{Change as Told}
-use Rattle.pr_registry.specs.Registrations.{State, is_registered, is_holder}
-use Rattle.pr_registry.specs.Changes.{no_change}
+use Rattle.pr_registry.specs.Registrations.{is_holder}
 use Rattle.pr_registry.specs.Effects.{after, change}
-use Rattle.pr_unit.specs.UnitStates.{UnitState}
 use Rattle.pr_unit.specs.Conflicts.{command_conflicts}
 use Rattle.pr_unit.specs.Faults.{command_fault}
-use Rattle.pr_views.specs.Possibilities.{Scope, number_of, count_of_reservations}
-use Rattle.pr_regions.specs.declared.region.Change.{Change}
-use Rattle.pr_regions.specs.declared.region.Ending.TheVariants.{Conflict, Fault, Good}
-use Rattle.pr_regions.specs.declared.purpose.Purpose.{Purpose}
-use Rattle.pr_regions.specs.declared.purpose.Standing.{Standing}
+use Rattle.pr_views.specs.Possibilities.{count_of_reservations}
 use Rattle.pr_regions.specs.declared.purpose.Standing.TheVariants.{Named, Other}
-use Rattle.pr_regions.specs.Purposes.{HasNumber}
-use Rattle.pr_regions.specs.Regions.{names, standing_of, Meets, Ends, HasRoom}
-use Rattle.pr_regions.specs.inside.Parts.{Does, never, is_of_registrant, is_unregistered, holds}
+use Rattle.pr_regions.specs.Regions.{names, standing_of}
 use Rattle.pr_regions.proofs.Unique.{few_keys}
 use Rattle.pr_regions.proofs.Asking.{conflicts_for, fault_for, after_for, change_for, IsAsked, asked}
 use Rattle.pr_regions.proofs.Acting.{Is, Acts, changes}

@@ -1,16 +1,13 @@
 -- What PREEMPT makes of a registry, by its case.
-use Rattle.std.proofs.Common.{◌≡◌, ◌≢◌, ℕ, ◌≤◌, Bool, true, false, ◌==◌, ◌&&◌, not, if◌then◌else◌, List, length, Option, Some, None, unwrap_or, refl, sym, ap, ◌∙◌, subst, arith}
+use Rattle.pr_regions.proofs.Common.{◌≡◌, ℕ, ◌≤◌, Bool, true, false, not, ◌&&◌, ◌≢◌, List, length, if◌then◌else◌, ◌==◌, Some, None, Option, unwrap_or, sym, refl, ap, ◌∙◌, subst, arith, Kind, State, key_of, new_reservation, no_change, is_kind, ReplacesAll, preempt_case, number_of, key_at, Hosts, nobody, without, hosts_with, held_by_rest, contains-nobody, get-without, never, is_of_registrant, told_but, lost_if}
 use Rattle.std.specs.FinSet as set
 use Rattle.std.specs.FinMap as map
-use Rattle.pr_cdb.specs.declared.command.Kind.{Kind}
 use Rattle.pr_registry.specs.declared.change.Change.{Change as Told}
-use Rattle.pr_registry.specs.Hosts.{Hosts, nobody, hosts_in, hosts_with, without}
-use Rattle.pr_registry.specs.Registrations.{State, key_of, others, new_reservation}
-use Rattle.pr_registry.specs.Changes.{Case, ReplacesAll, ReplacesHolder, RemovesKey, no_change, is_kind, preempt_case, removed_by_preempt, is_new_type, change_on_preempt}
-use Rattle.pr_registry.specs.Effects.{next, held_by_rest, held_after_preempt, after_preempt}
-use Rattle.pr_registry.proofs.Sets.{contains-nobody, contains-remove, contains-difference, contains-hosts_with, get-without}
-use Rattle.pr_views.specs.Possibilities.{key_at, number_of}
-use Rattle.pr_regions.specs.inside.Parts.{never, is_of_registrant, told_but, lost_if}
+use Rattle.pr_registry.specs.Hosts.{hosts_in}
+use Rattle.pr_registry.specs.Registrations.{others}
+use Rattle.pr_registry.specs.Changes.{Case, ReplacesHolder, RemovesKey, removed_by_preempt, is_new_type, change_on_preempt}
+use Rattle.pr_registry.specs.Effects.{next, held_after_preempt, after_preempt}
+use Rattle.pr_registry.proofs.Sets.{contains-remove, contains-difference, contains-hosts_with}
 use Rattle.pr_regions.proofs.Unique.{AreDistinct}
 use Rattle.pr_regions.proofs.Acting.{Is}
 use Rattle.pr_regions.proofs.Becoming.{Becomes, contains-others, contains-others_itself, is_key-number, other_host, not_itself}

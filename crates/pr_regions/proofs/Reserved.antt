@@ -1,32 +1,21 @@
 -- Which arm takes the data of READ RESERVATION.
-use Rattle.std.proofs.Common.{◌≡◌, ◌≢◌, ℕ, zero, suc, ◌+◌, ◌≤◌, ◌<◌, ◌^◌, Bool, true, false, ◌==◌, not, nat_lt, cond, if◌then◌else◌, IsTrue, List, [], ◌∷◌, ◌++◌, length, get_or, Option, Some, None, is_some, is_none, option_map, unwrap_or, refl, sym, ap, ◌∙◌, subst, inl, inr, ◌⊎◌, arith, lit<}
-use Rattle.std.specs.List.{All, Contains, position, prefix_len}
-use Rattle.std.proofs.lemmas.Bool.{false≢true}
-use Rattle.std.proofs.lemmas.Bool.Decides.{nat_tests, eqb_tells}
+use Rattle.pr_regions.proofs.Common.{◌≡◌, ℕ, zero, suc, ◌+◌, ◌^◌, ◌<◌, ◌≤◌, Bool, true, false, cond, not, ◌≢◌, ◌⊎◌, List, [], ◌∷◌, ◌++◌, length, get_or, is_some, is_none, if◌then◌else◌, IsTrue, nat_lt, ◌==◌, Some, None, Option, option_map, unwrap_or, sym, refl, ap, ◌∙◌, subst, inl, inr, arith, lit<, position, false≢true, nat_tests, eqb_tells, Kind, Command, Held, State, key_of, UnitState, Scope, key_at, Registration, IsSo, matches, WRITTEN_LENGTH, is_key, IsInRegion, any, only, is_of_registrant, Leaves, IsKnown, answer}
+use Rattle.std.specs.List.{All, Contains, prefix_len}
 use Rattle.std.proofs.lemmas.Option.{slice_get-get_or}
 use Rattle.std.proofs.lemmas.List.Elements.{Contains-push}
-use Rattle.pr_cdb.specs.declared.command.Kind.{Kind}
-use Rattle.pr_cdb.specs.declared.command.Command.{Command}
 use Rattle.pr_cdb.specs.declared.command.Command.TheVariants.{ReadReservation}
 use Rattle.pr_cdb.specs.ReplyData.{holder}
 use Rattle.pr_cdb.specs.inside.KeyWidths.{HasKey}
-use Rattle.pr_registry.specs.declared.held.Held.{Held}
 use Rattle.pr_registry.specs.declared.held.Held.TheVariants.{One, All as Everybody}
-use Rattle.pr_registry.specs.Hosts.{is_key}
-use Rattle.pr_registry.specs.Registrations.{State, HasHolder, key_of, IsWellFormed}
-use Rattle.pr_unit.specs.UnitStates.{UnitState}
+use Rattle.pr_registry.specs.Registrations.{HasHolder, IsWellFormed}
 use Rattle.pr_unit.specs.Replies.{reservation}
 use Rattle.pr_script.specs.declared.script.Test.{Test}
 use Rattle.pr_script.specs.declared.script.Test.TheVariants as test
-use Rattle.pr_script.specs.declared.grammar.TheConstants.{WRITTEN_LENGTH}
 use Rattle.pr_script.specs.Grammar.{test_fits}
-use Rattle.pr_script.specs.Takes.{matches, is_held_by, is_unheld}
-use Rattle.pr_views.specs.Possibilities.{Scope, Registration, IsSo, key_at}
+use Rattle.pr_script.specs.Takes.{is_held_by, is_unheld}
 use Rattle.pr_regions.specs.declared.region.Reading.{Reading}
-use Rattle.pr_regions.specs.Regions.{IsInRegion}
 use Rattle.pr_regions.specs.Readings.{first_test, IsRead, AreReadings}
-use Rattle.pr_regions.specs.inside.Parts.{any, only, is_of_registrant, Leaves}
-use Rattle.pr_regions.specs.inside.Reads.{IsKnown, answer, passes_held, AreHeldSoFar}
+use Rattle.pr_regions.specs.inside.Reads.{passes_held, AreHeldSoFar}
 use Rattle.pr_regions.proofs.Unique.{same_itself, few_keys, one_registration}
 use Rattle.pr_regions.proofs.Becoming.{is_registered-number}
 use Rattle.pr_regions.proofs.Contents.{holder_read}

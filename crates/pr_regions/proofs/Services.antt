@@ -1,25 +1,10 @@
 -- How the service actions that do not depend on who else is registered end.
-use Rattle.std.proofs.Common.{◌≡◌, ℕ, true, false, ◌&&◌, not, if◌then◌else◌, Option, Some, None, refl, sym, ap, ◌∙◌}
-use Rattle.std.proofs.lemmas.Bool.{false≢true}
-use Rattle.pr_cdb.specs.declared.command.Kind.{Kind}
-use Rattle.pr_cdb.specs.declared.command.Command.{Command}
+use Rattle.pr_regions.proofs.Common.{◌≡◌, ℕ, true, false, not, ◌&&◌, if◌then◌else◌, Some, None, Option, sym, refl, ap, ◌∙◌, false≢true, Kind, Command, Held, kind_of, new_reservation, is_held_by_all, is_told_of_loss, is_kind, ReplacesAll, preempt_case, UnitState, illegal, Scope, number_of, Keys, All, Change, Conflict, Fault, Good, Register, Reserve, Release, Clear, PreemptAll, Standing, HasNumber, Meets, HasRoom, Ends, Does, AlwaysEnds, never, holds, is_of_registrant, told_if}
 use Rattle.pr_cdb.specs.declared.codes.TheConstants.{INVALID_FIELD_IN_PARAMETER_LIST, INVALID_RELEASE_OF_PERSISTENT_RESERVATION}
-use Rattle.pr_registry.specs.declared.held.Held.{Held}
-use Rattle.pr_registry.specs.declared.held.Held.TheVariants.{All}
-use Rattle.pr_registry.specs.Hosts.{Keys}
-use Rattle.pr_registry.specs.Registrations.{is_holder_of, kind_of, new_reservation, is_for_registrants}
-use Rattle.pr_registry.specs.Changes.{ReplacesAll, preempt_case, is_kind, is_held_as, conflicts_with_reserve, is_released, is_told_of_loss, is_held_by_all}
+use Rattle.pr_registry.specs.Registrations.{is_holder_of, is_for_registrants}
+use Rattle.pr_registry.specs.Changes.{is_held_as, conflicts_with_reserve, is_released}
 use Rattle.pr_registry.specs.Effects.{held_or, with_reservation, after_release}
-use Rattle.pr_unit.specs.UnitStates.{UnitState}
-use Rattle.pr_unit.specs.Faults.{illegal, release_fault}
-use Rattle.pr_views.specs.Possibilities.{Scope, number_of}
-use Rattle.pr_regions.specs.declared.region.Change.{Change}
-use Rattle.pr_regions.specs.declared.region.Ending.TheVariants.{Conflict, Fault, Good}
-use Rattle.pr_regions.specs.declared.purpose.Purpose.TheVariants.{Register, Reserve, Release, Clear, PreemptAll}
-use Rattle.pr_regions.specs.declared.purpose.Standing.{Standing}
-use Rattle.pr_regions.specs.Purposes.{HasNumber}
-use Rattle.pr_regions.specs.Regions.{Meets, Ends, HasRoom}
-use Rattle.pr_regions.specs.inside.Parts.{Does, AlwaysEnds, never, is_of_registrant, told_if, holds}
+use Rattle.pr_unit.specs.Faults.{release_fault}
 use Rattle.pr_regions.proofs.Asking.{key_named}
 use Rattle.pr_regions.proofs.Becoming.{still, on_register, on_release, on_clear}
 use Rattle.pr_regions.proofs.Preempted.{in_case, on_preempt_all}

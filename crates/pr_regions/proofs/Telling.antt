@@ -1,13 +1,12 @@
 -- The attentions of an owner that has been told, as a number.
-use Rattle.std.proofs.Common.{◌≡◌, ◌≢◌, ℕ, ◌+◌, ◌<◌, Bool, true, false, ◌==◌, ◌&&◌, ◌||◌, max, refl, sym, ap, ◌∙◌, subst, inl, inr, ◌⊎◌, arith, lit<, bit_or}
+use Rattle.pr_regions.proofs.Common.{◌≡◌, ℕ, ◌+◌, ◌<◌, max, Bool, true, false, ◌&&◌, ◌||◌, ◌≢◌, ◌⊎◌, ◌==◌, bit_or, sym, refl, ap, ◌∙◌, subst, inl, inr, arith, lit<, nat_tests, eqb_tells, codes_of}
 use Rattle.std.specs.Int.{bit_at}
 use Rattle.std.specs.FinSet as set
-use Rattle.std.proofs.lemmas.Bool.Decides.{nat_tests, eqb_tells}
 use Rattle.std.proofs.lemmas.Nat.{or_lt}
 use Rattle.std.proofs.lemmas.Nat.Bits.{bit_at_or, bit_at-lt}
 use Rattle.pr_cdb.specs.declared.codes.TheConstants.{POWER_ON, RESERVATIONS_PREEMPTED, RESERVATIONS_RELEASED, REGISTRATIONS_PREEMPTED}
 use Rattle.pr_attention.specs.Attentions.{is_attention}
-use Rattle.pr_attention.specs.Flagged.{codes_of, place_of}
+use Rattle.pr_attention.specs.Flagged.{place_of}
 use Rattle.pr_attention.proofs.Bits.{contains-codes_of}
 use Rattle.pr_registry.specs.declared.change.Change.{Change}
 use Rattle.pr_unit.specs.Attentions.{Pairs, each_with, reservations_preempted, reservations_released, registrations_preempted}

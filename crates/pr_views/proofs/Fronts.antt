@@ -1,8 +1,7 @@
 -- Tests that say of the numbers below a bound what another test says, and no of the rest.
-use Rattle.std.proofs.Common.{◌≡◌, ◌≢◌, ℕ, ◌+◌, ◌<◌, Bool, true, false, ◌==◌, ◌&&◌, ◌||◌, nat_lt, refl, sym, ap, ◌∙◌, inl, inr, ◌⊎◌, arith}
+use Rattle.pr_views.proofs.Common.{◌≡◌, ℕ, ◌+◌, ◌<◌, Bool, true, false, ◌&&◌, ◌||◌, ◌≢◌, ◌⊎◌, nat_lt, ◌==◌, sym, refl, ap, ◌∙◌, inl, inr, arith, lt-ltb, le-ltb, nat_tests}
 use Rattle.std.specs.FinSet as set
-use Rattle.std.proofs.lemmas.Bool.{lt-ltb, le-ltb}
-use Rattle.std.proofs.lemmas.Bool.Decides.{nat_tests, eqb_tells}
+use Rattle.std.proofs.lemmas.Bool.Decides.{eqb_tells}
 use Rattle.pr_registry.proofs.Sets.{contains-insert}
 use Rattle.pr_sets.specs.Numbers.{Numbers}
 

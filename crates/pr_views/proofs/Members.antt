@@ -1,13 +1,8 @@
 -- What lists of sets contain at a place.
-use Rattle.std.proofs.Common.{◌≡◌, ◌↔◌, ℕ, ◌+◌, ◌<◌, Bool, true, false, IsTrue, List, length, slice_index_or, slice_set, sym, ap, ◌∙◌, arith}
+use Rattle.pr_views.proofs.Common.{◌≡◌, ℕ, ◌+◌, ◌<◌, Bool, true, false, ◌↔◌, List, length, IsTrue, slice_index_or, slice_set, sym, ap, ◌∙◌, arith, false≢true, contains-nobody, Word, has, has_at, contains_at}
 use Rattle.std.specs.FinSet as set
-use Rattle.std.proofs.lemmas.Bool.{false≢true}
-use Rattle.pr_registry.proofs.Sets.{same_hosts, contains-nobody}
-use Rattle.pr_sets.specs.declared.word.Word.{Word}
+use Rattle.pr_registry.proofs.Sets.{same_hosts}
 use Rattle.pr_sets.specs.Numbers.{Numbers, Within}
-use Rattle.pr_sets.specs.Words.{has}
-use Rattle.pr_views.specs.Portions.{has_at}
-use Rattle.pr_views.specs.Rooms.{contains_at}
 use Rattle.pr_views.proofs.Places.{holds_at-get_or, holds_at_written, holds_at_kept, below_more}
 
 module _ {S : Type 0} (members : S → Numbers) (sets : List S) where

@@ -1,9 +1,8 @@
 -- Each registration, reservation and set of attentions has one number, and each number below the bound is one's.
-use Rattle.std.proofs.Common.{◌≡◌, ℕ, zero, suc, ◌+◌, ◌-◌, ◌*◌, ◌/◌, ◌%◌, ◌<◌, ◌≤◌, Bool, true, false, ◌==◌, ◌||◌, not, nat_lt, nat_le, IsTrue, List, [], ◌∷◌, length, Option, Some, None, is_some, refl, sym, ap, ◌∙◌, arith, one-add}
+use Rattle.pr_views.proofs.Common.{◌≡◌, ℕ, zero, suc, ◌+◌, ◌-◌, ◌*◌, ◌/◌, ◌%◌, ◌<◌, ◌≤◌, Bool, true, false, not, ◌||◌, List, [], ◌∷◌, length, is_some, IsTrue, nat_lt, nat_le, ◌==◌, Some, None, Option, sym, refl, ap, ◌∙◌, one-add, arith, lt-ltb, le-ltb, false≢true, and_parts, ltb-true, nat_tests, slice_get, Held, One, All, is_all, UnitState, AreDeclared, is_reservation, Registration, Reservation, Attentions, IsSo}
 use Rattle.std.specs.FinMap as map
-use Rattle.std.specs.List.{slice_get, list_any}
-use Rattle.std.proofs.lemmas.Bool.{and_parts, and_from, false≢true, not-true, or_right, ltb-true, ltb-false, lt-ltb, le-ltb}
-use Rattle.std.proofs.lemmas.Bool.Decides.{nat_tests}
+use Rattle.std.specs.List.{list_any}
+use Rattle.std.proofs.lemmas.Bool.{and_from, not-true, or_right, ltb-false}
 use Rattle.std.proofs.lemmas.Option.{same_Some}
 use Rattle.std.proofs.lemmas.Nat.{div-mul-add, mod-mul-add, div-add-mod', div_below, mod_below, row_fits}
 use Rattle.std.proofs.Math.Nat.{mul_comm}
@@ -12,12 +11,9 @@ use Rattle.pr_cdb.specs.declared.command.Kind.TheVariants.{WriteExclusive, Exclu
 use Rattle.pr_attention.specs.Flagged.{codes_of}
 use Rattle.pr_attention.proofs.Sets.{same_codes}
 use Rattle.pr_attention.proofs.Bits.{same_bits}
-use Rattle.pr_registry.specs.declared.held.Held.{Held}
-use Rattle.pr_registry.specs.declared.held.Held.TheVariants.{One, All}
-use Rattle.pr_registry.specs.Registrations.{State, IsWellFormed, HasHolder, is_all}
-use Rattle.pr_unit.specs.UnitStates.{UnitState}
-use Rattle.pr_roles.specs.Fitting.{AreDeclared, are_distinct, is_reservation}
-use Rattle.pr_views.specs.Possibilities.{Scope, IsScope, key_at, place_of, number_of, count_of_reservations, Registration, Reservation, Attentions, IsSo}
+use Rattle.pr_registry.specs.Registrations.{State, IsWellFormed, HasHolder}
+use Rattle.pr_roles.specs.Fitting.{are_distinct}
+use Rattle.pr_views.specs.Possibilities.{Scope, IsScope, key_at, place_of, number_of, count_of_reservations}
 
 -- ---- registrations
 

@@ -1,13 +1,8 @@
 -- What lists of words have at a place.
-use Rattle.std.proofs.Common.{◌≡◌, ◌≢◌, ℕ, zero, suc, ◌+◌, ◌<◌, ◌≤◌, Bool, true, false, ◌&&◌, ◌||◌, nat_lt, IsTrue, List, [], ◌∷◌, length, slice_index_or, slice_set, Some, refl, sym, ap, ◌∙◌, subst, inl, inr, ◌⊎◌, arith}
-use Rattle.std.specs.List.{slice_get}
+use Rattle.pr_views.proofs.Common.{◌≡◌, ℕ, zero, suc, ◌+◌, ◌<◌, ◌≤◌, Bool, true, false, ◌&&◌, ◌||◌, ◌≢◌, ◌⊎◌, List, [], ◌∷◌, length, IsTrue, nat_lt, slice_index_or, slice_set, Some, sym, refl, ap, ◌∙◌, subst, inl, inr, arith, lt-ltb, le-ltb, cases_lt, nat_tests, slice_get, Word, has, has_at, AreFilled}
 use Rattle.std.specs.Option.{option_map_or}
-use Rattle.std.proofs.lemmas.Bool.{cases_lt, cases_eq, cases_order, lt-ltb, le-ltb}
-use Rattle.std.proofs.lemmas.Bool.Decides.{nat_tests}
+use Rattle.std.proofs.lemmas.Bool.{cases_eq, cases_order}
 use Rattle.std.proofs.lemmas.Option.{slice_get-get_or, slice_get_past}
-use Rattle.pr_sets.specs.declared.word.Word.{Word}
-use Rattle.pr_sets.specs.Words.{has}
-use Rattle.pr_views.specs.Portions.{has_at, AreFilled}
 
 -- what a test says at a place, and no past the end
 abbrev pub holds_at : {X : Type 0} → (X → Bool) → List X → ℕ → Bool

@@ -1,18 +1,10 @@
 -- What each nexus has in the states of a portion.
-use Rattle.std.proofs.Common.{◌≡◌, ◌≢◌, ℕ, ◌+◌, ◌<◌, ◌≤◌, true, false, ◌==◌, ◌&&◌, not, nat_lt, if◌then◌else◌, IfSome, IfNone, List, Option, Some, None, is_some, refl, sym, ap, ◌∙◌, subst, inl, inr, ◌⊎◌, option_map, arith}
-use Rattle.std.proofs.lemmas.Bool.{and_parts, and_from, false≢true, ltb-true, cases_lt, cases_eq, cases_order}
+use Rattle.pr_views.proofs.Common.{◌≡◌, ℕ, ◌+◌, ◌<◌, ◌≤◌, true, false, not, ◌&&◌, ◌≢◌, ◌⊎◌, List, is_some, IfSome, IfNone, if◌then◌else◌, nat_lt, ◌==◌, Some, None, Option, option_map, sym, refl, ap, ◌∙◌, subst, inl, inr, arith, false≢true, and_parts, ltb-true, cases_lt, Word, has, Held, One, All, is_all, UnitState, is_reservation, has_at, AreFilled, Registration, IsSo, Fits}
+use Rattle.std.proofs.lemmas.Bool.{and_from, cases_eq, cases_order}
 use Rattle.std.proofs.lemmas.Bool.Decides.{eqb_tells}
-use Rattle.pr_registry.specs.declared.held.Held.{Held}
-use Rattle.pr_registry.specs.declared.held.Held.TheVariants.{One, All}
-use Rattle.pr_registry.specs.Registrations.{is_all}
-use Rattle.pr_unit.specs.UnitStates.{UnitState}
-use Rattle.pr_roles.specs.Fitting.{is_reservation}
-use Rattle.pr_sets.specs.declared.word.Word.{Word}
-use Rattle.pr_sets.specs.Words.{has}
 use Rattle.pr_views.specs.declared.portion.Portion.{Portion}
-use Rattle.pr_views.specs.Possibilities.{Registration, IsSo}
-use Rattle.pr_views.specs.Views.{View, Fits}
-use Rattle.pr_views.specs.Portions.{has_at, HasSomebody, IsIn, IsTogether, TestsRegistered, GivesHolder, IsPortion, AreFilled, IsProjected}
+use Rattle.pr_views.specs.Views.{View}
+use Rattle.pr_views.specs.Portions.{HasSomebody, IsIn, IsTogether, TestsRegistered, GivesHolder, IsPortion, IsProjected}
 use Rattle.pr_views.specs.inside.Passing.{LacksOne, CanPass, CannotPass, NonePasses, IsFirstPassing}
 use Rattle.pr_views.proofs.Numbering.{held_at, number_of-held_at, one_registration}
 use Rattle.pr_views.proofs.Showing.{state_of, registration-state_of, attentions-state_of, IsHeldBy, shown}

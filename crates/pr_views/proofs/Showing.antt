@@ -1,23 +1,20 @@
 -- A state that a view shows, from what is chosen for each nexus, a reservation and the owner's attentions.
-use Rattle.std.proofs.Common.{◌≡◌, ◌≢◌, ℕ, zero, suc, ◌<◌, ◌≤◌, Bool, true, false, ◌==◌, ◌&&◌, not, nat_lt, cond, IsTrue, List, length, Option, Some, None, is_some, refl, sym, ap, ◌∙◌, subst, lit<}
+use Rattle.pr_views.proofs.Common.{◌≡◌, ℕ, zero, suc, ◌<◌, ◌≤◌, Bool, true, false, cond, not, ◌&&◌, ◌≢◌, List, length, is_some, IsTrue, nat_lt, ◌==◌, Some, None, Option, sym, refl, ap, ◌∙◌, subst, lit<, lt-ltb, and_parts, ltb-true, Held, One, All, is_all, UnitState, AreDeclared, is_reservation, Registration, Reservation, Attentions, IsSo, Fits}
 use Rattle.std.specs.FinSet as set
-use Rattle.std.proofs.lemmas.Bool.{and_parts, not-true, ltb-true, lt-ltb}
+use Rattle.std.proofs.lemmas.Bool.{not-true}
 use Rattle.std.proofs.lemmas.Option.{slice_get_within, get_or_from_slice_get}
 use Rattle.pr_attention.specs.Attentions.{is_attention}
 use Rattle.pr_attention.specs.Flagged.{codes_of}
 use Rattle.pr_attention.proofs.Bits.{AreAttentions-codes_of}
-use Rattle.pr_registry.specs.declared.held.Held.{Held}
-use Rattle.pr_registry.specs.declared.held.Held.TheVariants.{One, All}
 use Rattle.pr_registry.specs.Hosts.{map_where}
-use Rattle.pr_registry.specs.Registrations.{HasHolder, IsKey, key_of, is_all}
+use Rattle.pr_registry.specs.Registrations.{HasHolder, IsKey, key_of}
 use Rattle.pr_registry.proofs.Sets.{get-map_where, not_empty_from_some}
 use Rattle.pr_registry.proofs.Tables.{eq_itself, same_number}
 use Rattle.pr_unit.specs.Attentions.{of_host}
-use Rattle.pr_unit.specs.UnitStates.{UnitState, IsWellFormed}
+use Rattle.pr_unit.specs.UnitStates.{IsWellFormed}
 use Rattle.pr_unit.proofs.Pairs.{contains-of_host}
-use Rattle.pr_roles.specs.Fitting.{AreDeclared, is_reservation}
-use Rattle.pr_views.specs.Possibilities.{Scope, IsScope, key_at, number_of, count_of_attentions, Registration, Reservation, Attentions, IsSo}
-use Rattle.pr_views.specs.Views.{View, Shows, Fits, Within}
+use Rattle.pr_views.specs.Possibilities.{Scope, IsScope, key_at, number_of, count_of_attentions}
+use Rattle.pr_views.specs.Views.{View, Shows, Within}
 use Rattle.pr_views.proofs.Numbering.{key_there}
 
 -- The state of these choices: of each nexus the registration of this number, the reservation, and of the

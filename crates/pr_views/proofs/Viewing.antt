@@ -1,21 +1,19 @@
 -- What is possible in the view that a value of the program is.
-use Rattle.std.proofs.Common.{◌≡◌, ℕ, ◌+◌, ◌<◌, ◌≤◌, true, false, List, length, Option, Some, None, refl, sym, ap, ◌∙◌, subst, inl, inr, ◌⊎◌, arith}
+use Rattle.pr_views.proofs.Common.{◌≡◌, ℕ, ◌+◌, ◌<◌, ◌≤◌, true, false, ◌⊎◌, List, length, Some, None, Option, sym, refl, ap, ◌∙◌, subst, inl, inr, arith, false≢true, cases_lt, slice_get, contains-nobody, has, AreDeclared, has_at, contains_at, Registration, Reservation, Attentions, Fits}
 use Rattle.std.specs.FinSet as set
-use Rattle.std.specs.List.{slice_get, All}
+use Rattle.std.specs.List.{All}
 use Rattle.std.specs.Option.{option_map_or}
-use Rattle.std.proofs.lemmas.Bool.{false_from_ne_true, false≢true, cases_lt}
+use Rattle.std.proofs.lemmas.Bool.{false_from_ne_true}
 use Rattle.std.proofs.lemmas.Option.{slice_get_within, get_or_from_slice_get}
 use Rattle.pr_cdb.specs.declared.codes.TheConstants.{MOST_NEXUSES}
-use Rattle.pr_registry.proofs.Sets.{same_hosts, contains-nobody}
-use Rattle.pr_roles.specs.Fitting.{AreDeclared}
+use Rattle.pr_registry.proofs.Sets.{same_hosts}
 use Rattle.pr_sets.specs.Numbers.{Numbers, Within as WithinNumbers, AllBelow}
-use Rattle.pr_sets.specs.Words.{has}
 use Rattle.pr_views.specs.declared.view.ViewOf.{ViewOf}
 use Rattle.pr_views.specs.declared.possibilities.Possibilities.{Possibilities}
-use Rattle.pr_views.specs.Possibilities.{Item, Registration, Reservation, Attentions}
-use Rattle.pr_views.specs.Views.{IsPossible, Within, Fits}
-use Rattle.pr_views.specs.Portions.{has_at, view_in}
-use Rattle.pr_views.specs.Rooms.{contains_at, view_of, IsMade, AreInRange}
+use Rattle.pr_views.specs.Possibilities.{Item}
+use Rattle.pr_views.specs.Views.{IsPossible, Within}
+use Rattle.pr_views.specs.Portions.{view_in}
+use Rattle.pr_views.specs.Rooms.{view_of, IsMade, AreInRange}
 
 -- what holds of each element holds of one that is read
 read : {X : Type 0} (P : X → Type 0) (xs : List X) (i : ℕ) (x : X) → All P xs → slice_get xs i ≡ Some x → P x

@@ -1,5 +1,4 @@
-use Rattle.std.proofs.Common.{◌≡◌, ◌≤◌, false, ◌==◌, sym, subst, arith}
-use Rattle.std.proofs.lemmas.Bool.Decides.{nat_tests}
+use Rattle.pr_regions.proofs.Common.{◌≡◌, ◌≤◌, false, ◌==◌, sym, subst, arith, nat_tests}
 use Rattle.pr_regions.proofs.Asking.{written_number}
 use Rattle.pr_regions.proofs.commands.purpose_of_register.Goals as goal
 

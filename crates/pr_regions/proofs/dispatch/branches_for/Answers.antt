@@ -1,4 +1,4 @@
-use Rattle.pr_regions.specs.declared.purpose.Purpose.TheVariants.{Look, Read, Write, Register, Reserve, Release, Clear, PreemptAll}
+use Rattle.pr_regions.proofs.Common.{Read, Write, Look, Register, Reserve, Release, Clear, PreemptAll}
 use Rattle.pr_regions.proofs.dispatch.branches_for.Goals as goal
 
 pub returns-in-Look : goal.returns-in-Look

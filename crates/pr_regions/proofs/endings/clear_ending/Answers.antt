@@ -1,4 +1,4 @@
-use Rattle.std.proofs.Common.{refl, arith}
+use Rattle.pr_regions.proofs.Common.{refl, arith}
 use Rattle.pr_regions.proofs.Keys.{keys_those}
 use Rattle.pr_regions.proofs.Services.{clear_good}
 use Rattle.pr_regions.proofs.endings.clear_ending.Goals as goal

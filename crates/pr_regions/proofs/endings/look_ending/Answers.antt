@@ -1,5 +1,4 @@
-use Rattle.std.proofs.Common.{refl}
-use Rattle.pr_regions.specs.declared.purpose.Purpose.TheVariants.{Look}
+use Rattle.pr_regions.proofs.Common.{refl, Look}
 use Rattle.pr_regions.proofs.Meeting.{same_ends}
 use Rattle.pr_regions.proofs.endings.look_ending.Goals as goal
 

@@ -1,6 +1,4 @@
-use Rattle.std.proofs.Common.{Some, sym, ◌∙◌, ap}
-use Rattle.pr_registry.specs.declared.held.Held.{Held}
-use Rattle.pr_views.specs.Possibilities.{number_of}
+use Rattle.pr_regions.proofs.Common.{Some, sym, ap, ◌∙◌, Held, number_of}
 use Rattle.pr_regions.proofs.Keys.{keys_those}
 use Rattle.pr_regions.proofs.Services.{preempt_all_good, preempt_all_fault}
 use Rattle.pr_regions.proofs.endings.preempt_all_ending.Goals as goal

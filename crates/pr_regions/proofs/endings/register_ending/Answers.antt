@@ -1,4 +1,4 @@
-use Rattle.std.proofs.Common.{refl}
+use Rattle.pr_regions.proofs.Common.{refl}
 use Rattle.pr_regions.proofs.Services.{register_good}
 use Rattle.pr_regions.proofs.endings.register_ending.Goals as goal
 

@@ -1,6 +1,4 @@
-use Rattle.std.proofs.Common.{None, sym, ap, ◌∙◌, arith}
-use Rattle.pr_registry.specs.Changes.{is_kind}
-use Rattle.pr_regions.specs.inside.Parts.{never}
+use Rattle.pr_regions.proofs.Common.{None, sym, ap, ◌∙◌, arith, is_kind, never}
 use Rattle.pr_regions.proofs.Meeting.{has_room}
 use Rattle.pr_regions.proofs.Services.{release_none, release_others, release_good}
 use Rattle.pr_regions.proofs.endings.release_ending.Goals as goal

@@ -1,4 +1,4 @@
-use Rattle.pr_regions.specs.declared.purpose.Purpose.TheVariants.{Read, Write}
+use Rattle.pr_regions.proofs.Common.{Read, Write}
 use Rattle.pr_regions.proofs.Accesses.{is_read, is_write, move_conflicts, move_fails, move_goes}
 use Rattle.pr_regions.proofs.endings.transfer_ending.Goals as goal
 

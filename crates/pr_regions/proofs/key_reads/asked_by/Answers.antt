@@ -1,5 +1,4 @@
-use Rattle.std.proofs.Common.{◌≡◌, ◌≢◌, ◌≤◌, sym, arith, subst}
-use Rattle.pr_regions.specs.Purposes.{number_in}
+use Rattle.pr_regions.proofs.Common.{◌≡◌, ◌≤◌, ◌≢◌, sym, subst, arith, number_in}
 use Rattle.pr_regions.proofs.Asking.{declared_number}
 use Rattle.pr_regions.proofs.Asked.{always_there, there_with_somebody, not_there_with_nobody}
 use Rattle.pr_regions.proofs.key_reads.asked_by.Goals as goal

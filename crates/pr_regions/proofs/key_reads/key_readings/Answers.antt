@@ -1,8 +1,5 @@
-use Rattle.std.proofs.Common.{◌<◌, length, ◌∙◌, length-append, arith}
+use Rattle.pr_regions.proofs.Common.{◌<◌, length, ◌∙◌, arith, length-append, ReadKeys, WRITTEN_LENGTH, IsProperReading}
 use Rattle.std.proofs.lemmas.List.Elements.{All-push}
-use Rattle.pr_cdb.specs.declared.command.Command.TheVariants.{ReadKeys}
-use Rattle.pr_script.specs.declared.grammar.TheConstants.{WRITTEN_LENGTH}
-use Rattle.pr_regions.specs.Readings.{IsProperReading}
 use Rattle.pr_regions.proofs.Choosing.{none_is_not}
 use Rattle.pr_regions.proofs.Arms.{read_alike, so_far_skip, so_far_more, read_always, read_by_none}
 use Rattle.pr_regions.proofs.key_reads.key_readings.Goals as goal

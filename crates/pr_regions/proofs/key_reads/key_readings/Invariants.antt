@@ -1,9 +1,5 @@
-use Rattle.std.proofs.Common.{ℕ, Option, length, ◌≤◌}
-use Rattle.pr_cdb.specs.declared.command.Command.TheVariants.{ReadKeys}
-use Rattle.pr_registry.specs.declared.held.Held.{Held}
-use Rattle.pr_script.specs.declared.grammar.TheConstants.{WRITTEN_LENGTH}
+use Rattle.pr_regions.proofs.Common.{ℕ, ◌≤◌, length, Option, Held, ReadKeys, WRITTEN_LENGTH, IsProperReading}
 use Rattle.std.specs.List.{All}
-use Rattle.pr_regions.specs.Readings.{IsProperReading}
 use Rattle.pr_regions.specs.inside.Reads.{AreReadSoFar}
 use Rattle.pr_regions.proofs.key_reads.key_readings.Given as goal
 

@@ -1,4 +1,4 @@
-use Rattle.std.proofs.Common.{rules}
+use Rattle.pr_regions.proofs.Common.{rules}
 use Rattle.pr_regions.proofs.preempting.preempt_branches.Goals as goal
 
 pub returns-in-None : goal.returns-in-None

@@ -1,6 +1,4 @@
-use Rattle.std.proofs.Common.{None, Some, sym, ◌∙◌, refl, arith}
-use Rattle.pr_views.specs.Possibilities.{number_of}
-use Rattle.pr_regions.specs.inside.Parts.{any, never, only, but, another, Leaves}
+use Rattle.pr_regions.proofs.Common.{Some, None, sym, refl, ◌∙◌, arith, number_of, never, any, only, but, another, Leaves}
 use Rattle.pr_regions.proofs.Meeting.{leaves, has_room}
 use Rattle.pr_regions.proofs.Holding.{held_by, holders_key, own_key_goes, somebodys_key_goes, nobodys_key, tell_own_single, tell_other_single}
 use Rattle.pr_regions.proofs.preempting.preempting_holder.Goals as goal

@@ -1,6 +1,4 @@
-use Rattle.std.proofs.Common.{Some, refl, arith}
-use Rattle.pr_views.specs.Possibilities.{number_of}
-use Rattle.pr_regions.specs.inside.Parts.{never, only}
+use Rattle.pr_regions.proofs.Common.{Some, refl, arith, number_of, never, only}
 use Rattle.pr_regions.proofs.Meeting.{leaves, has_room}
 use Rattle.pr_regions.proofs.Choosing.{tell_own}
 use Rattle.pr_regions.proofs.preempting.preempting_own.Goals as goal

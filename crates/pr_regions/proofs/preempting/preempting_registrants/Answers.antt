@@ -1,4 +1,4 @@
-use Rattle.std.proofs.Common.{sym, ◌∙◌}
+use Rattle.pr_regions.proofs.Common.{sym, ◌∙◌}
 use Rattle.pr_regions.proofs.preempting.preempting_registrants.Goals as goal
 
 pub returns-then-is_named : goal.returns-then-is_named

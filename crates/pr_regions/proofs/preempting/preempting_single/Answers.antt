@@ -1,5 +1,4 @@
-use Rattle.std.proofs.Common.{◌≡◌, sym, ◌∙◌, arith}
-use Rattle.pr_regions.specs.declared.purpose.Purpose.TheVariants.{Preempt}
+use Rattle.pr_regions.proofs.Common.{◌≡◌, sym, ◌∙◌, arith, Preempt}
 use Rattle.pr_regions.proofs.Choosing.{own_single}
 use Rattle.pr_regions.proofs.Holding.{held_by}
 use Rattle.pr_regions.proofs.preempting.preempting_single.Goals as goal

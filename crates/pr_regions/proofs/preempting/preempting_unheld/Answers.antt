@@ -1,6 +1,4 @@
-use Rattle.std.proofs.Common.{None, Some, sym, ◌∙◌, arith}
-use Rattle.pr_regions.specs.declared.purpose.Purpose.TheVariants.{Preempt}
-use Rattle.pr_regions.specs.inside.Parts.{never, only}
+use Rattle.pr_regions.proofs.Common.{Some, None, sym, ◌∙◌, arith, Preempt, never, only}
 use Rattle.pr_regions.proofs.Meeting.{has_room}
 use Rattle.pr_regions.proofs.Choosing.{own_unheld}
 use Rattle.pr_regions.proofs.preempting.preempting_unheld.Goals as goal

@@ -1,6 +1,5 @@
-use Rattle.std.proofs.Common.{◌<◌, length, length-append, arith}
+use Rattle.pr_regions.proofs.Common.{◌<◌, length, arith, length-append, IsProperReading}
 use Rattle.std.proofs.lemmas.List.Elements.{All-push}
-use Rattle.pr_regions.specs.Readings.{IsProperReading}
 use Rattle.pr_regions.proofs.Covering.{untested}
 use Rattle.pr_regions.proofs.Arms.{read_alike}
 use Rattle.pr_regions.proofs.Reserved.{held_more, held_all}

@@ -1,9 +1,6 @@
-use Rattle.std.proofs.Common.{ℕ, length, ◌≤◌, ◌≢◌}
-use Rattle.pr_cdb.specs.declared.command.Kind.{Kind}
+use Rattle.pr_regions.proofs.Common.{ℕ, ◌≤◌, ◌≢◌, length, Kind, WRITTEN_LENGTH, IsProperReading}
 use Rattle.pr_cdb.specs.declared.command.Command.TheVariants.{ReadReservation}
-use Rattle.pr_script.specs.declared.grammar.TheConstants.{WRITTEN_LENGTH}
 use Rattle.std.specs.List.{All}
-use Rattle.pr_regions.specs.Readings.{IsProperReading}
 use Rattle.pr_regions.specs.inside.Reads.{AreHeldSoFar}
 use Rattle.pr_regions.proofs.reservation_reads.by_holder.Given as goal
 

@@ -1,5 +1,4 @@
-use Rattle.std.proofs.Common.{◌≡◌, ◌≢◌, Some, unwrap_or, ap, ◌∙◌, arith}
-use Rattle.pr_views.specs.Possibilities.{key_at}
+use Rattle.pr_regions.proofs.Common.{◌≡◌, ◌≢◌, Some, unwrap_or, ap, ◌∙◌, arith, key_at}
 use Rattle.pr_regions.proofs.Reserved.{read_everywhere, key_of_all, key_of_sender}
 use Rattle.pr_regions.proofs.reservation_reads.held_readings.Goals as goal
 

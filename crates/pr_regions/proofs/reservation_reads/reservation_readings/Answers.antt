@@ -1,4 +1,4 @@
-use Rattle.std.proofs.Common.{None, ◌∙◌}
+use Rattle.pr_regions.proofs.Common.{None, ◌∙◌}
 use Rattle.pr_regions.proofs.Reserved.{read_everywhere, key_of_none}
 use Rattle.pr_regions.proofs.reservation_reads.reservation_readings.Goals as goal
 

@@ -1,5 +1,4 @@
-use Rattle.std.proofs.Common.{sym, ◌∙◌}
-use Rattle.pr_regions.specs.declared.purpose.Purpose.TheVariants.{Unregister}
+use Rattle.pr_regions.proofs.Common.{sym, ◌∙◌, Unregister}
 use Rattle.pr_regions.proofs.Leaving.{unregister_absent, unregister_good}
 use Rattle.pr_regions.proofs.unregistering.unregister_branches.Goals as goal
 

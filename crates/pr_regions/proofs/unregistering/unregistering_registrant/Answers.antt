@@ -1,4 +1,4 @@
-use Rattle.std.proofs.Common.{refl, arith}
+use Rattle.pr_regions.proofs.Common.{refl, arith}
 use Rattle.pr_regions.proofs.Keys.{keys_those}
 use Rattle.pr_regions.proofs.Leaving.{tell_unregistered}
 use Rattle.pr_regions.proofs.unregistering.unregistering_registrant.Goals as goal

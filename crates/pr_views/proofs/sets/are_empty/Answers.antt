@@ -1,5 +1,4 @@
-use Rattle.std.proofs.Common.{arith}
-use Rattle.std.proofs.lemmas.Bool.{false≢true}
+use Rattle.pr_views.proofs.Common.{arith, false≢true}
 use Rattle.pr_views.proofs.Members.{empty_more, not_empty}
 use Rattle.pr_views.proofs.sets.are_empty.Goals as goal
 

@@ -1,5 +1,4 @@
-use Rattle.std.proofs.Common.{◌≡◌, ℕ, ◌<◌, false}
-use Rattle.pr_views.specs.Rooms.{contains_at}
+use Rattle.pr_views.proofs.Common.{◌≡◌, ℕ, ◌<◌, false, contains_at}
 use Rattle.pr_views.proofs.sets.are_empty.Given as goal
 
 abbrev pub invariant-loop-host : goal.invariant-loop-host

@@ -1,5 +1,4 @@
-use Rattle.std.proofs.Common.{◌≡◌, ℕ, ◌<◌, true}
-use Rattle.pr_views.specs.Rooms.{contains_at}
+use Rattle.pr_views.proofs.Common.{◌≡◌, ℕ, ◌<◌, true, contains_at}
 use Rattle.pr_views.proofs.sets.are_within.Given as goal
 
 abbrev pub invariant-loop-host : goal.invariant-loop-host

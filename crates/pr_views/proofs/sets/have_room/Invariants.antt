@@ -1,4 +1,4 @@
-use Rattle.std.proofs.Common.{◌≡◌}
+use Rattle.pr_views.proofs.Common.{◌≡◌}
 use Rattle.std.specs.List.{AllWithin}
 use Rattle.pr_views.proofs.sets.have_room.Given as goal
 

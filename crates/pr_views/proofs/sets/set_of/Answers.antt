@@ -1,7 +1,5 @@
-use Rattle.std.proofs.Common.{sym, ap, ◌∙◌}
+use Rattle.pr_views.proofs.Common.{sym, ap, ◌∙◌, contains-nobody, has}
 use Rattle.std.specs.FinSet as set
-use Rattle.pr_sets.specs.Words.{has}
-use Rattle.pr_registry.proofs.Sets.{contains-nobody}
 use Rattle.pr_views.proofs.Fronts.{front_none, front_skips, added}
 use Rattle.pr_views.proofs.sets.set_of.Goals.{then-has+in_ok-add, else-has}
 use Rattle.pr_views.proofs.sets.set_of.Goals as goal

@@ -1,6 +1,5 @@
-use Rattle.std.proofs.Common.{◌≡◌}
+use Rattle.pr_views.proofs.Common.{◌≡◌, has}
 use Rattle.std.specs.FinSet as set
-use Rattle.pr_sets.specs.Words.{has}
 use Rattle.pr_views.proofs.Fronts.{IsFront}
 use Rattle.pr_views.proofs.sets.set_of.Given as goal
 

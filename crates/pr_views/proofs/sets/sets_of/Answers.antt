@@ -1,6 +1,5 @@
-use Rattle.std.proofs.Common.{◌≡◌, ◌∙◌, arith}
+use Rattle.pr_views.proofs.Common.{◌≡◌, ◌∙◌, arith, has}
 use Rattle.std.proofs.lemmas.List.Elements.{All-set}
-use Rattle.pr_sets.specs.Words.{has}
 use Rattle.pr_views.proofs.Places.{holds_at-get_or}
 use Rattle.pr_views.proofs.Members.{sets_more}
 use Rattle.pr_views.proofs.sets.sets_of.Goals as goal

@@ -1,7 +1,5 @@
-use Rattle.std.proofs.Common.{◌≡◌, ℕ, ◌<◌}
+use Rattle.pr_views.proofs.Common.{◌≡◌, ℕ, ◌<◌, has_at, contains_at}
 use Rattle.std.specs.List.{All}
-use Rattle.pr_views.specs.Portions.{has_at}
-use Rattle.pr_views.specs.Rooms.{contains_at}
 use Rattle.pr_views.proofs.sets.sets_of.Given as goal
 
 abbrev pub invariant-loop-host : goal.invariant-loop-host

@@ -1,5 +1,5 @@
 use Rattle.std.specs.FinSet as set
-use Rattle.pr_sets.specs.Wides.{has_wide}
+use Rattle.pr_views.proofs.Common.{has_wide}
 use Rattle.pr_views.proofs.Fronts.{IsFront}
 use Rattle.pr_views.proofs.sets.wide_of.Given as goal
 

@@ -1,7 +1,5 @@
-use Rattle.std.proofs.Common.{sym, ap, ◌∙◌}
+use Rattle.pr_views.proofs.Common.{sym, ap, ◌∙◌, contains-nobody, has_wide}
 use Rattle.std.specs.FinSet as set
-use Rattle.pr_sets.specs.Wides.{has_wide}
-use Rattle.pr_registry.proofs.Sets.{contains-nobody}
 use Rattle.pr_views.proofs.Fronts.{front_none, front_skips, added}
 use Rattle.pr_views.proofs.sets.wide_set_of.Goals.{then-has+in_ok-add, else-has}
 use Rattle.pr_views.proofs.sets.wide_set_of.Goals as goal

@@ -1,5 +1,5 @@
 use Rattle.std.specs.FinSet as set
-use Rattle.pr_sets.specs.Words.{has}
+use Rattle.pr_views.proofs.Common.{has}
 use Rattle.pr_views.proofs.Fronts.{IsFront}
 use Rattle.pr_views.proofs.sets.word_of.Given as goal
 

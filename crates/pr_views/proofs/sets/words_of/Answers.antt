@@ -1,5 +1,4 @@
-use Rattle.std.proofs.Common.{◌∙◌, arith, length-set}
-use Rattle.pr_sets.specs.Words.{has}
+use Rattle.pr_views.proofs.Common.{◌∙◌, arith, length-set, has}
 use Rattle.pr_views.proofs.Places.{holds_at_kept}
 use Rattle.pr_views.proofs.Members.{words_more}
 use Rattle.pr_views.proofs.sets.words_of.Goals as goal

@@ -1,7 +1,5 @@
-use Rattle.std.proofs.Common.{◌≡◌, ℕ, length, ◌<◌, ◌≤◌, false}
+use Rattle.pr_views.proofs.Common.{◌≡◌, ℕ, ◌<◌, ◌≤◌, false, length, has_at, contains_at}
 use Rattle.pr_cdb.specs.declared.codes.TheConstants.{MOST_NEXUSES}
-use Rattle.pr_views.specs.Portions.{has_at}
-use Rattle.pr_views.specs.Rooms.{contains_at}
 use Rattle.pr_views.proofs.sets.words_of.Given as goal
 
 abbrev pub invariant-loop-host : goal.invariant-loop-host

@@ -1,4 +1,4 @@
-use Rattle.std.proofs.Common.{◌≡◌, take}
+use Rattle.pr_views.proofs.Common.{◌≡◌, take}
 use Rattle.pr_views.proofs.view.copied.Given as goal
 
 abbrev pub invariant-loop-key : goal.invariant-loop-key

@@ -1,4 +1,4 @@
-use Rattle.std.proofs.Common.{arith}
+use Rattle.pr_views.proofs.Common.{arith}
 use Rattle.pr_views.proofs.Places.{filled_more}
 use Rattle.pr_views.proofs.portion.Portion.is_filled.Goals as goal
 

@@ -1,4 +1,4 @@
-use Rattle.std.proofs.Common.{sym, ◌∙◌}
+use Rattle.pr_views.proofs.Common.{sym, ◌∙◌}
 use Rattle.pr_views.proofs.Projecting.{untested_of, several_of, one_of, filled_by_one, none_of_lacking, none_of_failing}
 use Rattle.pr_views.proofs.portion.Portion.projected.Goals as goal
 

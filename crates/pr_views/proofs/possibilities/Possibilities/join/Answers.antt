@@ -1,4 +1,4 @@
-use Rattle.std.proofs.Common.{arith}
+use Rattle.pr_views.proofs.Common.{arith}
 use Rattle.pr_views.proofs.Places.{joined_more, joined_all}
 use Rattle.pr_views.proofs.possibilities.Possibilities.join.Goals as goal
 

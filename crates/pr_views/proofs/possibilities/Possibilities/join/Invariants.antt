@@ -1,5 +1,4 @@
-use Rattle.std.proofs.Common.{◌≡◌, ℕ, ◌||◌, ◌&&◌, nat_lt}
-use Rattle.pr_views.specs.Portions.{has_at}
+use Rattle.pr_views.proofs.Common.{◌≡◌, ℕ, ◌&&◌, ◌||◌, nat_lt, has_at}
 use Rattle.pr_views.proofs.possibilities.Possibilities.join.Given as goal
 
 abbrev pub invariant-loop-host : goal.invariant-loop-host

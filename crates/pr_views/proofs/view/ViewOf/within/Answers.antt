@@ -1,5 +1,4 @@
-use Rattle.std.proofs.Common.{◌+◌, length, sym, ap, ◌∙◌, arith, rules}
-use Rattle.std.proofs.lemmas.Bool.{false≢true}
+use Rattle.pr_views.proofs.Common.{◌+◌, length, sym, ap, ◌∙◌, arith, rules, false≢true}
 use Rattle.pr_views.proofs.Viewing.{view_within, registrations_within, reservations_within, attentions_within}
 use Rattle.pr_views.proofs.view.ViewOf.within.Goals.{then-are_within, else-are_within}
 use Rattle.pr_views.proofs.view.ViewOf.within.Goals as goal
