@@ -1,7 +1,15 @@
 //! The numbers of the standards, each law the contract of a function with nothing to do: a number that is changed in the code
 //! fails here, though the definitions cite it by its name.
 
+ghost use Rattle.pr_cdb.specs.Requests.{Fits};
 ghost use Rattle.pr_cdb.specs.Codes.{OperationCodesAgree, ServiceActionsAgree, SenseCodesAgree, LengthsAgree};
+
+use crate::command::Command;
+
+/// The fields of a command are in the ranges of their types. A proof has it from here, where it needs that of a command.
+pub fn in_range(command: Command)
+    ensures { Fits command }
+{}
 
 /// The operation codes are the standards'.
 pub fn operation_codes_agree()

@@ -19,7 +19,9 @@ mod wire;
 mod writing;
 
 pub use command::{Command, Kind};
-pub use laws::{lengths_agree, operation_codes_agree, sense_codes_agree, service_actions_agree};
+pub use laws::{
+    in_range, lengths_agree, operation_codes_agree, sense_codes_agree, service_actions_agree,
+};
 pub use parameter_data::{capabilities, holder_of, keys_data, keys_of, reservation_data};
 pub use reading::{decode, reads_in_range};
 pub use reply::{Reply, Sense, Status};

@@ -11,7 +11,7 @@ use pr_cdb::codes::UNIT_ATTENTION;
 use pr_script::Test;
 
 impl Class {
-    // Whether the test matches the replies of the class, where it does not look at their data.
+    // Whether the test takes replies of the class by status and sense alone. One that looks at data takes none so.
     fn is_taken_by(self, test: Test) -> bool
         ensures { result ≡ takes test self }
     {
@@ -47,7 +47,8 @@ pub(crate) fn first_arm(tests: &[Test], class: Class) -> Option<usize>
 
 /// Where a reply of this class goes on whose data no test looks at.
 pub(crate) fn landing_of(tests: &[Test], class: Class) -> Landing
-    ensures { (r : Reply) → IsClass r class → AreBlind tests.now class → IsLanding tests.now r result }
+    ensures { (r : Reply) → IsClass r class → AreBlind tests.now class
+        → IsLanding tests.now r result }
 {
     match first_arm(tests, class) {
         Some(arm) => Landing::Arm(arm),

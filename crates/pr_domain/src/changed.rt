@@ -22,7 +22,8 @@ pub(crate) fn registrations_after(
     change: &Change,
 ) -> [Word; MOST_NEXUSES]
     requires { unwrap_or change.now.sender 0 ≤ MOST_KEYS }
-    ensures { (g : ℕ) → IsImage (has_at words.now g) (becomes sender change.now g) (has_at result g) }
+    ensures { (g : ℕ) → IsImage (has_at words.now g) (becomes sender change.now g)
+        (has_at result g) }
 {
     let mut after = *words;
     let from = usize::from(sender);
@@ -36,7 +37,7 @@ pub(crate) fn registrations_after(
     after
 }
 
-// The sender's: another one where the change gives it.
+// The sender's registrations after the change.
 fn with_given(word: Word, to: Option<u8>) -> Word
     requires { unwrap_or to 0 ≤ MOST_KEYS }
     ensures { IsImage (has word) (λ r. unwrap_or to r) (has result) }

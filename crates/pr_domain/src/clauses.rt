@@ -33,7 +33,7 @@ pub(crate) fn purpose_for(action: Action, keys: &[u64], held: Option<Held>) -> O
     }
 }
 
-/// Whether a sender that stands so meets the condition, and is not refused as a stranger.
+/// Whether a sender whose registration matches so meets the condition, and is not refused as a stranger.
 pub(crate) fn may_send(
     condition: Option<Condition>,
     purpose: Purpose,

@@ -21,8 +21,10 @@ fn are_same(landing: Landing, other: Landing) -> bool
 
 // The place of the outcome with this landing.
 fn place_of<S: ViewSet>(outcomes: &[(Landing, ViewOf<S>)], landing: Landing) -> Option<usize>
-    ensures some { IfSome result (λ k. (v : ViewOf S) × (slice_get outcomes.now k ≡ Some (landing, v))) }
-    ensures none { IfNone result ((k : ℕ) (v : ViewOf S) → slice_get outcomes.now k ≢ Some (landing, v)) }
+    ensures some { IfSome result (λ k. (v : ViewOf S)
+        × (slice_get outcomes.now k ≡ Some (landing, v))) }
+    ensures none { IfNone result ((k : ℕ) (v : ViewOf S)
+        → slice_get outcomes.now k ≢ Some (landing, v)) }
 {
     for (place, outcome) in outcomes.iter().enumerate() {
         if are_same(outcome.0, landing) {
@@ -42,8 +44,11 @@ pub(crate) fn put<S: ViewSet>(
     requires made { IsMade S.room view }
     requires some { (own : ℕ) → (i : Item) × IsPossible (view_of S.members own view) i }
     requires kept { AreKept S.members S.room view.hosts view.keys.items outcomes.old.items }
-    ensures kept { OnOk result (AreKept S.members S.room view.hosts view.keys.items outcomes.new.items) }
-    ensures more { OnOk result ((own : ℕ) → AreMore S.members own outcomes.old.items (λ l i. (l ≡ landing) × IsPossible (view_of S.members own view) i) outcomes.new.items) }
+    ensures kept { OnOk result (AreKept S.members S.room view.hosts view.keys.items
+        outcomes.new.items) }
+    ensures more { OnOk result ((own : ℕ)
+        → AreMore S.members own outcomes.old.items
+        (λ l i. (l ≡ landing) × IsPossible (view_of S.members own view) i) outcomes.new.items) }
 {
     match place_of(outcomes, landing) {
         Some(place) => outcomes[place].1.join(alloc, &view)?,

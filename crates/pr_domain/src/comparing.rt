@@ -16,7 +16,8 @@ use pr_views::Possibilities;
 pub(crate) fn gains(hosts: u8, old: &Possibilities, new: &Possibilities) -> bool
     requires { hosts ≤ MOST_NEXUSES }
     ensures gained { IsTrue result → (s : Scope) → s.hosts ≡ hosts → IsNew s old.now new.now }
-    ensures none { result ≡ false → (s : Scope) → s.hosts ≡ hosts → Within (view_in s new.now) (view_in s old.now) }
+    ensures none { result ≡ false → (s : Scope) → s.hosts ≡ hosts
+        → Within (view_in s new.now) (view_in s old.now) }
 {
     for host in 0..usize::from(hosts) {
         if exceeds(new.registrations[host], old.registrations[host]) {

@@ -32,7 +32,9 @@ impl Onlooker {
     pub(crate) fn interfered(&self, clauses: &[Clause], keys: &[u64]) -> Possibilities
         requires keys { length keys.now ≤ MOST_KEYS }
         requires actions { All (IsClause keys.now) clauses.now }
-        ensures { (s : Scope) → IsOnlooking s self.now → s.keys ≡ keys.now → IsInterference (view_in s self.now.view) clauses.now self.now.other (view_in s result) }
+        ensures { (s : Scope) → IsOnlooking s self.now → s.keys ≡ keys.now
+            → IsInterference (view_in s self.now.view) clauses.now self.now.other
+            (view_in s result) }
     {
         let mut answer = kept(self.hosts, &self.view);
         self.add_role(&mut answer, clauses, keys);
@@ -44,7 +46,8 @@ impl Onlooker {
     pub(crate) fn widened(&self, clauses: &[Clause], keys: &[u64]) -> Possibilities
         requires keys { length keys.now ≤ MOST_KEYS }
         requires actions { All (IsClause keys.now) clauses.now }
-        ensures { (s : Scope) → IsOnlooking s self.now → s.keys ≡ keys.now → IsWidened (view_in s self.now.view) clauses.now self.now.other (view_in s result) }
+        ensures { (s : Scope) → IsOnlooking s self.now → s.keys ≡ keys.now
+            → IsWidened (view_in s self.now.view) clauses.now self.now.other (view_in s result) }
     {
         let mut answer = self.view;
         self.add_role(&mut answer, clauses, keys);
@@ -53,10 +56,16 @@ impl Onlooker {
 
     // Adds what is possible after a command of one of the clauses, where the answer has what is shown.
     fn add_role(&self, answer: &mut Possibilities, clauses: &[Clause], keys: &[u64])
-        requires shown { (s : Scope) → IsOnlooking s self.now → s.keys ≡ keys.now → HasShown s self.now.view answer.old }
+        requires shown { (s : Scope) → IsOnlooking s self.now → s.keys ≡ keys.now
+            → HasShown s self.now.view answer.old }
         requires keys { length keys.now ≤ MOST_KEYS }
         requires actions { All (IsClause keys.now) clauses.now }
-        ensures { (s : Scope) → IsOnlooking s self.now → s.keys ≡ keys.now → Adds s answer.old answer.new (λ u w. Among (length clauses.now) clauses.now (λ clause. FirstLeads (count_of_reservations self.now.hosts) (view_in s self.now.view) clause self.now.other u w)) (λ i. Among (length clauses.now) clauses.now (λ clause. ClauseLeaves (view_in s self.now.view) clause self.now.other i)) }
+        ensures { (s : Scope) → IsOnlooking s self.now → s.keys ≡ keys.now
+            → Adds s answer.old answer.new
+            (λ u w. Among (length clauses.now) clauses.now
+            (λ clause. FirstLeads (count_of_reservations self.now.hosts) (view_in s self.now.view)
+            clause self.now.other u w)) (λ i. Among (length clauses.now) clauses.now
+            (λ clause. ClauseLeaves (view_in s self.now.view) clause self.now.other i)) }
     {
         for clause in clauses {
             self.add_clause(answer, clause, keys);
@@ -65,10 +74,14 @@ impl Onlooker {
 
     // Adds what is possible after a command of this clause, until the answer has the most that it can leave.
     fn add_clause(&self, answer: &mut Possibilities, clause: &Clause, keys: &[u64])
-        requires shown { (s : Scope) → IsOnlooking s self.now → s.keys ≡ keys.now → HasShown s self.now.view answer.old }
+        requires shown { (s : Scope) → IsOnlooking s self.now → s.keys ≡ keys.now
+            → HasShown s self.now.view answer.old }
         requires keys { length keys.now ≤ MOST_KEYS }
         requires action { IsClause keys.now clause.now }
-        ensures { (s : Scope) → IsOnlooking s self.now → s.keys ≡ keys.now → Adds s answer.old answer.new (FirstLeads (count_of_reservations self.now.hosts) (view_in s self.now.view) clause.now self.now.other) (ClauseLeaves (view_in s self.now.view) clause.now self.now.other) }
+        ensures { (s : Scope) → IsOnlooking s self.now → s.keys ≡ keys.now
+            → Adds s answer.old answer.new
+            (FirstLeads (count_of_reservations self.now.hosts) (view_in s self.now.view) clause.now
+            self.now.other) (ClauseLeaves (view_in s self.now.view) clause.now self.now.other) }
     {
         if !gains(self.hosts, answer, &self.most(&self.widest(clause, keys))) {
             return;
@@ -89,7 +102,10 @@ impl Onlooker {
     fn add_place(&self, answer: &mut Possibilities, place: &Place, clause: &Clause, keys: &[u64])
         requires keys { length keys.now ≤ MOST_KEYS }
         requires action { is_action keys.now clause.now.action ≡ true }
-        ensures { (s : Scope) → IsWatched s self.now place.now → s.keys ≡ keys.now → Adds s answer.old answer.new (PlaceLeads (view_in s self.now.view) clause.now place.now.sender place.now.reservation) (ClauseLeaves (view_in s self.now.view) clause.now place.now.sender) }
+        ensures { (s : Scope) → IsWatched s self.now place.now → s.keys ≡ keys.now
+            → Adds s answer.old answer.new
+            (PlaceLeads (view_in s self.now.view) clause.now place.now.sender place.now.reservation)
+            (ClauseLeaves (view_in s self.now.view) clause.now place.now.sender) }
     {
         if let Some(purpose) = purpose_for(clause.action, keys, place.held) {
             self.add_standing(answer, place, clause, purpose, Standing::Unregistered);
@@ -98,7 +114,7 @@ impl Onlooker {
         }
     }
 
-    // By a sender that stands so.
+    // Adds what a sender leaves whose registration matches the purpose so.
     fn add_standing(
         &self,
         answer: &mut Possibilities,
@@ -108,7 +124,13 @@ impl Onlooker {
         standing: Standing,
     )
         requires { HasNumber purpose }
-        ensures { (s : Scope) → IsWatched s self.now place.now → is_action s.keys clause.now.action ≡ true → purpose_for s.keys clause.now.action place.now.held ≡ Some purpose → Adds s answer.old answer.new (StandingLeads (view_in s self.now.view) clause.now place.now.sender place.now.reservation purpose standing) (ClauseLeaves (view_in s self.now.view) clause.now place.now.sender) }
+        ensures { (s : Scope) → IsWatched s self.now place.now
+            → is_action s.keys clause.now.action ≡ true
+            → purpose_for s.keys clause.now.action place.now.held ≡ Some purpose
+            → Adds s answer.old answer.new
+            (StandingLeads (view_in s self.now.view) clause.now place.now.sender
+            place.now.reservation purpose standing)
+            (ClauseLeaves (view_in s self.now.view) clause.now place.now.sender) }
     {
         let senders = senders(purpose, standing);
         if !self.may_be_among(place.sender, senders) {
@@ -123,7 +145,8 @@ impl Onlooker {
     // Whether a nexus may have one of these registrations.
     fn may_be_among(&self, host: u8, registrations: Word) -> bool
         requires { host < MOST_NEXUSES }
-        ensures { result ≡ false → (r : ℕ) → has_at self.now.view.registrations host r ≡ true → has registrations r ≡ false }
+        ensures { result ≡ false → (r : ℕ) → has_at self.now.view.registrations host r ≡ true
+            → has registrations r ≡ false }
     {
         !self.view.registrations[usize::from(host)]
             .and(registrations)
@@ -147,7 +170,8 @@ pub fn interfere<S: ViewSet>(
     requires role { IsTrue (is_role view.now.keys.items role.now.clauses.items) }
     ensures made { IfOk result (IsMade S.room) }
     ensures alike { IfOk result (AreAlike view.now) }
-    ensures interference { IfOk result (λ w. IsInterference (view_of S.members own view.now) role.now.clauses.items other (view_of S.members own w)) }
+    ensures interference { IfOk result (λ w. IsInterference (view_of S.members own view.now)
+        role.now.clauses.items other (view_of S.members own w)) }
 {
     let left = left_by(view, own, other, role);
     ViewOf::of(alloc, &view.keys, view.hosts, &left)
@@ -161,7 +185,8 @@ fn left_by<S: ViewSet>(view: &ViewOf<S>, own: u8, other: u8, role: &Role) -> Pos
     requires apart { own ≢ other }
     requires role { IsTrue (is_role view.now.keys.items role.now.clauses.items) }
     ensures range { AreInRange view.now.hosts view.now.keys.items result }
-    ensures interference { IsInterference (view_of S.members own view.now) role.now.clauses.items other (view_in (scope_of own view.now) result) }
+    ensures interference { IsInterference (view_of S.members own view.now) role.now.clauses.items
+        other (view_in (scope_of own view.now) result) }
 {
     let onlooker = Onlooker {
         hosts: view.hosts,

@@ -17,10 +17,11 @@ use pr_regions::{Region, every_key, reservation_at};
 use pr_sets::{Wide, Word};
 use pr_views::{MOST_REGISTRATIONS, Possibilities};
 
-/// What is so in some state that the view shows, of so many nexuses.
+/// The view without the possibilities that none of the states that it shows has.
 pub(crate) fn kept(hosts: u8, view: &Possibilities) -> Possibilities
     requires hosts { (1 ≤ hosts) × (hosts ≤ MOST_NEXUSES) }
-    ensures { (s : Scope) → s.hosts ≡ hosts → Fits (view_in s view.now) → IsKept (view_in s view.now) (view_in s result) }
+    ensures { (s : Scope) → s.hosts ≡ hosts → Fits (view_in s view.now)
+        → IsKept (view_in s view.now) (view_in s result) }
 {
     let mut kept = Possibilities::none();
     for reservation in 0..count_of_reservations(hosts) {
@@ -61,7 +62,9 @@ impl Place {
 
     // Adds what is so in some state of the place in which the sender has one of these registrations.
     fn add_kept(&self, kept: &mut Possibilities, view: &Possibilities, senders: Word)
-        ensures { (s : Scope) → IsPlace s view.now self.now → IsUniform senders → Adds s kept.old kept.new (λ _ u. IsShownAt (view_in s view.now) self.now senders u) (IsShownSo (view_in s view.now)) }
+        ensures { (s : Scope) → IsPlace s view.now self.now → IsUniform senders
+            → Adds s kept.old kept.new (λ _ u. IsShownAt (view_in s view.now) self.now senders u)
+            (IsShownSo (view_in s view.now)) }
     {
         if let Some(shown) = self.shown(view, senders) {
             kept.join(&shown);
@@ -70,8 +73,10 @@ impl Place {
 
     // What is so in those states, if there are any.
     fn shown(&self, view: &Possibilities, senders: Word) -> Option<Possibilities>
-        ensures some { IfSome result (λ p. (s : Scope) → IsPlace s view.now self.now → IsUniform senders → IsShown s view.now self.now senders p) }
-        ensures none { IfNone result ((s : Scope) → IsPlace s view.now self.now → IsUniform senders → (u : UnitState) → IsShownAt (view_in s view.now) self.now senders u → ⊥) }
+        ensures some { IfSome result (λ p. (s : Scope) → IsPlace s view.now self.now
+            → IsUniform senders → IsShown s view.now self.now senders p) }
+        ensures none { IfNone result ((s : Scope) → IsPlace s view.now self.now → IsUniform senders
+            → (u : UnitState) → IsShownAt (view_in s view.now) self.now senders u → ⊥) }
     {
         if view.pending.is_empty() {
             return None;

@@ -44,8 +44,12 @@ impl Onlooker {
         change: &Change,
     ) -> Option<Possibilities>
         requires room { HasRoom place.now.hosts (ending.Good change.now) }
-        ensures some { IfSome result (λ p. (s : Scope) → IsWatched s self.now place.now → IsUniform senders → IsProper region.now → IsAfter s self.now.view place.now senders region.now change.now p) }
-        ensures none { IfNone result ((s : Scope) → IsWatched s self.now place.now → IsUniform senders → IsProper region.now → (u : UnitState) → IsAt (view_in s self.now.view) place.now senders region.now u → ⊥) }
+        ensures some { IfSome result (λ p. (s : Scope) → IsWatched s self.now place.now
+            → IsUniform senders → IsProper region.now
+            → IsAfter s self.now.view place.now senders region.now change.now p) }
+        ensures none { IfNone result ((s : Scope) → IsWatched s self.now place.now
+            → IsUniform senders → IsProper region.now → (u : UnitState)
+            → IsAt (view_in s self.now.view) place.now senders region.now u → ⊥) }
     {
         if self.view.pending.is_empty() {
             return None;
@@ -69,7 +73,13 @@ impl Onlooker {
         branches: &[Branch],
     )
         requires room { All (BranchHasRoom place.now.hosts) branches.now }
-        ensures { (s : Scope) → IsWatched s self.now place.now → IsUniform senders → All IsProperBranch branches.now → Adds s answer.old answer.new (λ u w. Among (length branches.now) branches.now (λ b. IsLedBy s self.now.view place.now senders b u w)) (λ i. Among (length branches.now) branches.now (λ b. IsLeftBy s self.now.view place.now senders b i)) }
+        ensures { (s : Scope) → IsWatched s self.now place.now → IsUniform senders
+            → All IsProperBranch branches.now
+            → Adds s answer.old answer.new
+            (λ u w. Among (length branches.now) branches.now
+            (λ b. IsLedBy s self.now.view place.now senders b u w))
+            (λ i. Among (length branches.now) branches.now
+            (λ b. IsLeftBy s self.now.view place.now senders b i)) }
     {
         for branch in branches {
             self.add_branch(answer, place, senders, branch);
@@ -78,7 +88,10 @@ impl Onlooker {
 
     fn add_branch(&self, answer: &mut Possibilities, place: &Place, senders: Word, branch: &Branch)
         requires room { BranchHasRoom place.now.hosts branch.now }
-        ensures { (s : Scope) → IsWatched s self.now place.now → IsUniform senders → IsProperBranch branch.now → Adds s answer.old answer.new (IsLedBy s self.now.view place.now senders branch.now) (IsLeftBy s self.now.view place.now senders branch.now) }
+        ensures { (s : Scope) → IsWatched s self.now place.now → IsUniform senders
+            → IsProperBranch branch.now → Adds s answer.old answer.new
+            (IsLedBy s self.now.view place.now senders branch.now)
+            (IsLeftBy s self.now.view place.now senders branch.now) }
     {
         if let Ending::Good(change) = branch.ending {
             if let Some(after) = self.after(place, senders, &branch.region, &change) {

@@ -28,8 +28,10 @@ pub fn permitted<S: ViewSet>(view: &ViewOf<S>, role: &Role, host: u8, command: &
     requires made { IsMade S.room view.now }
     requires host { host < view.now.hosts }
     requires written { IsTrue (is_written view.now.keys.items command.now) }
-    ensures permitted { IsTrue result → IsPermittedIn (view_of S.members host view.now) role.now.clauses.items command.now }
-    ensures refused { result ≡ false → IsRefusedIn (view_of S.members host view.now) role.now.clauses.items command.now }
+    ensures permitted { IsTrue result → IsPermittedIn (view_of S.members host view.now)
+        role.now.clauses.items command.now }
+    ensures refused { result ≡ false → IsRefusedIn (view_of S.members host view.now)
+        role.now.clauses.items command.now }
 {
     if is_always_permitted(*command) {
         return true;
@@ -59,8 +61,10 @@ fn is_permitted_under_each(
     command: Command,
 ) -> bool
     requires asking { IsAsking keys.now hosts sender command view.now }
-    ensures permitted { IsTrue result → ArePermitted (view_in (scope_at keys.now hosts sender) view.now) clauses.now command (λ u. Unit {0}) }
-    ensures refused { result ≡ false → IsOneRefused (view_in (scope_at keys.now hosts sender) view.now) clauses.now command (λ u. Unit {0}) }
+    ensures permitted { IsTrue result → ArePermitted
+        (view_in (scope_at keys.now hosts sender) view.now) clauses.now command (λ u. Unit {0}) }
+    ensures refused { result ≡ false → IsOneRefused
+        (view_in (scope_at keys.now hosts sender) view.now) clauses.now command (λ u. Unit {0}) }
 {
     if is_one_unconditional(clauses, command) {
         return true;
@@ -109,8 +113,12 @@ fn is_permitted_at(
 ) -> bool
     requires asking { IsAsking keys.now place.hosts place.sender command view.now }
     requires place { IsPlace (scope_at keys.now place.hosts place.sender) view.now place }
-    ensures permitted { IsTrue result → ArePermitted (view_in (scope_at keys.now place.hosts place.sender) view.now) clauses.now command (λ u. IsSo (scope_at keys.now place.hosts place.sender) u (Reservation place.reservation)) }
-    ensures refused { result ≡ false → IsOneRefused (view_in (scope_at keys.now place.hosts place.sender) view.now) clauses.now command (λ u. IsSo (scope_at keys.now place.hosts place.sender) u (Reservation place.reservation)) }
+    ensures permitted { IsTrue result → ArePermitted
+        (view_in (scope_at keys.now place.hosts place.sender) view.now) clauses.now command
+        (λ u. IsSo (scope_at keys.now place.hosts place.sender) u (Reservation place.reservation)) }
+    ensures refused { result ≡ false → IsOneRefused
+        (view_in (scope_at keys.now place.hosts place.sender) view.now) clauses.now command
+        (λ u. IsSo (scope_at keys.now place.hosts place.sender) u (Reservation place.reservation)) }
 {
     let mut registration = 0;
     while registration < MOST_REGISTRATIONS {
@@ -134,8 +142,12 @@ fn is_permitted_with(
     requires asking { IsAsking keys.now place.hosts place.sender command view.now }
     requires place { IsPlace (scope_at keys.now place.hosts place.sender) view.now place }
     requires registration { registration ≤ MOST_KEYS }
-    ensures permitted { IsTrue result → ArePermitted (view_in (scope_at keys.now place.hosts place.sender) view.now) clauses.now command (HasBoth (scope_at keys.now place.hosts place.sender) place registration) }
-    ensures refused { result ≡ false → IsOneRefused (view_in (scope_at keys.now place.hosts place.sender) view.now) clauses.now command (HasBoth (scope_at keys.now place.hosts place.sender) place registration) }
+    ensures permitted { IsTrue result → ArePermitted
+        (view_in (scope_at keys.now place.hosts place.sender) view.now) clauses.now command
+        (HasBoth (scope_at keys.now place.hosts place.sender) place registration) }
+    ensures refused { result ≡ false → IsOneRefused
+        (view_in (scope_at keys.now place.hosts place.sender) view.now) clauses.now command
+        (HasBoth (scope_at keys.now place.hosts place.sender) place registration) }
 {
     let possible = view.registrations[usize::from(place.sender)];
     if !possible.has(registration) {
@@ -165,7 +177,10 @@ fn key_at(keys: &[u64], registration: u8) -> Option<u64>
 
 // Whether one of the branches ends GOOD in some state of the view.
 fn is_one_reached(view: &Possibilities, place: Place, senders: Word, branches: &[Branch]) -> bool
-    ensures { (s : Scope) → IsPlace s view.now place → IsUniform senders → has view.now.pending 0 ≡ true → All IsProperBranch branches.now → (IsTrue result ↔ IsOneReached (view_in s view.now) place senders branches.now (length branches.now)) }
+    ensures { (s : Scope) → IsPlace s view.now place → IsUniform senders
+        → has view.now.pending 0 ≡ true → All IsProperBranch branches.now
+        → (IsTrue result ↔ IsOneReached (view_in s view.now) place senders branches.now
+        (length branches.now)) }
 {
     let mut i = 0;
     while i < branches.len() {
@@ -179,7 +194,9 @@ fn is_one_reached(view: &Possibilities, place: Place, senders: Word, branches: &
 
 // Whether the branch ends GOOD in some state of the view, in which nothing is pending for its owner.
 fn is_reached(view: &Possibilities, place: Place, senders: Word, branch: &Branch) -> bool
-    ensures { (s : Scope) → IsPlace s view.now place → IsUniform senders → has view.now.pending 0 ≡ true → IsProper branch.now.region → (IsTrue result ↔ IsReached (view_in s view.now) place senders branch.now) }
+    ensures { (s : Scope) → IsPlace s view.now place → IsUniform senders
+        → has view.now.pending 0 ≡ true → IsProper branch.now.region
+        → (IsTrue result ↔ IsReached (view_in s view.now) place senders branch.now) }
 {
     match branch.ending {
         Ending::Conflict | Ending::Fault(_) => false,
@@ -189,7 +206,8 @@ fn is_reached(view: &Possibilities, place: Place, senders: Word, branch: &Branch
 
 // Whether some clause permits the command to the sender of the place, with this registration.
 fn is_one_permitting(clauses: &[Clause], command: Command, place: Place, registration: u8) -> bool
-    ensures { result ≡ list_any (λ clause. permits_at clause command place registration) clauses.now }
+    ensures { result ≡ list_any (λ clause. permits_at clause command place registration)
+        clauses.now }
 {
     clauses
         .iter()

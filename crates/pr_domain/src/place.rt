@@ -46,9 +46,14 @@ impl Place {
         senders: Word,
         region: &Region,
     ) -> Option<[Word; MOST_NEXUSES]>
-        ensures some { IfSome result (λ words. (s : Scope) → IsPlace s view.now self.now → IsUniform senders → IsProper region.now → IsGathered (view_in s view.now) self.now senders region.now words) }
-        ensures beyond { IfSome result (λ words. (g r : ℕ) → self.now.hosts ≤ g → has_at words g r ≡ false) }
-        ensures none { IfNone result ((s : Scope) → IsPlace s view.now self.now → IsUniform senders → IsProper region.now → (u : UnitState) → IsAt (view_in s view.now) self.now senders region.now u → ⊥) }
+        ensures some { IfSome result (λ words. (s : Scope) → IsPlace s view.now self.now
+            → IsUniform senders → IsProper region.now
+            → IsGathered (view_in s view.now) self.now senders region.now words) }
+        ensures beyond { IfSome result (λ words. (g r : ℕ) → self.now.hosts ≤ g
+            → has_at words g r ≡ false) }
+        ensures none { IfNone result ((s : Scope) → IsPlace s view.now self.now → IsUniform senders
+            → IsProper region.now → (u : UnitState)
+            → IsAt (view_in s view.now) self.now senders region.now u → ⊥) }
     {
         self.portion(view, senders, region).projected(self.hosts)
     }
@@ -71,7 +76,9 @@ impl Place {
 
     // What the portion leaves to each: one rule for all, but for the sender and for who holds alone.
     fn left(&self, view: &Possibilities, senders: Word, region: &Region) -> [Word; MOST_NEXUSES]
-        ensures left { (g r : ℕ) → g < self.now.hosts → has_at result g r ≡ (has_at view.now.registrations g r && passes self.now senders region.now g r) }
+        ensures left { (g r : ℕ) → g < self.now.hosts
+            → has_at result g r ≡ (has_at view.now.registrations g r
+            && passes self.now senders region.now g r) }
         ensures beyond { (g r : ℕ) → self.now.hosts ≤ g → has_at result g r ≡ false }
     {
         let mut words = [Word::none(); MOST_NEXUSES];
@@ -91,8 +98,11 @@ impl Place {
         senders: Word,
         region: &Region,
     )
-        ensures holder { (g r : ℕ) → g < self.now.hosts → holds_alone self.now.held g ≡ true → has_at words.new g r ≡ (has_at view.now.registrations g r && passes self.now senders region.now g r) }
-        ensures others { (g r : ℕ) → (holds_alone self.now.held g ≡ false) ⊎ (self.now.hosts ≤ g) → has_at words.new g r ≡ has_at words.old g r }
+        ensures holder { (g r : ℕ) → g < self.now.hosts → holds_alone self.now.held g ≡ true
+            → has_at words.new g r ≡ (has_at view.now.registrations g r
+            && passes self.now senders region.now g r) }
+        ensures others { (g r : ℕ) → (holds_alone self.now.held g ≡ false) ⊎ (self.now.hosts ≤ g)
+            → has_at words.new g r ≡ has_at words.old g r }
     {
         if let Some(Held::One(_, holder)) = self.held {
             self.leave_to(words, holder, view, senders, region);
@@ -108,8 +118,11 @@ impl Place {
         senders: Word,
         region: &Region,
     )
-        ensures here { g < self.now.hosts → (r : ℕ) → has_at words.new g r ≡ (has_at view.now.registrations g r && passes self.now senders region.now g r) }
-        ensures others { (h r : ℕ) → (h ≢ g) ⊎ (self.now.hosts ≤ g) → has_at words.new h r ≡ has_at words.old h r }
+        ensures here { g < self.now.hosts → (r : ℕ)
+            → has_at words.new g r ≡ (has_at view.now.registrations g r
+            && passes self.now senders region.now g r) }
+        ensures others { (h r : ℕ) → (h ≢ g) ⊎ (self.now.hosts ≤ g)
+            → has_at words.new h r ≡ has_at words.old h r }
     {
         if g < self.hosts {
             let i = usize::from(g);
@@ -133,7 +146,7 @@ impl Place {
         if alone { left.without(0) } else { left }
     }
 
-    // Where all registrants hold and the sender is none, somebody else must be registered.
+    // Under types 7 and 8 all registrants hold the reservation. So where the sender is none, somebody else is registered.
     fn somebody(&self, senders: Word, somebody: Option<Word>) -> Option<Word>
         ensures { HasTest self.now senders somebody result }
     {

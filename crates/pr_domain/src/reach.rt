@@ -75,8 +75,11 @@ impl Reach {
     /// To be registered no more.
     pub(crate) fn of_unregistering(place: &Place) -> Reach
         ensures given { has result.given 0 ≡ true }
-        ensures ended { (holds_alone place.now.held place.now.sender || is_held_by_all place.now.held) ≡ true → has_wide result.reservations 0 ≡ true }
-        ensures told { (holds_alone place.now.held place.now.sender && is_told_of_loss place.now.held) ≡ true → (r : ℕ) → 1 ≤ r → r ≤ MOST_KEYS → has result.told_04 r ≡ true }
+        ensures ended { (holds_alone place.now.held place.now.sender
+            || is_held_by_all place.now.held) ≡ true → has_wide result.reservations 0 ≡ true }
+        ensures told { (holds_alone place.now.held place.now.sender
+            && is_told_of_loss place.now.held) ≡ true → (r : ℕ) → 1 ≤ r → r ≤ MOST_KEYS
+            → has result.told_04 r ≡ true }
     {
         let going = Reach {
             given: none_alone(),
@@ -98,7 +101,8 @@ impl Reach {
 
     /// To establish a reservation of this type.
     pub(crate) fn of_reserving(place: &Place, kind: Kind) -> Reach
-        ensures { place.now.held ≡ None → has_wide result.reservations (number_of place.now.hosts (Some (new_reservation kind place.now.sender))) ≡ true }
+        ensures { place.now.held ≡ None → has_wide result.reservations
+            (number_of place.now.hosts (Some (new_reservation kind place.now.sender))) ≡ true }
     {
         match place.held {
             None => Reach {
@@ -111,8 +115,11 @@ impl Reach {
 
     /// To release the reservation that stands.
     pub(crate) fn of_releasing(place: &Place) -> Reach
-        ensures ended { (holds_alone place.now.held place.now.sender || is_held_by_all place.now.held) ≡ true → has_wide result.reservations 0 ≡ true }
-        ensures told { ((holds_alone place.now.held place.now.sender || is_held_by_all place.now.held) && is_told_of_loss place.now.held) ≡ true → (r : ℕ) → 1 ≤ r → r ≤ MOST_KEYS → has result.told_04 r ≡ true }
+        ensures ended { (holds_alone place.now.held place.now.sender
+            || is_held_by_all place.now.held) ≡ true → has_wide result.reservations 0 ≡ true }
+        ensures told { ((holds_alone place.now.held place.now.sender
+            || is_held_by_all place.now.held) && is_told_of_loss place.now.held) ≡ true → (r : ℕ)
+            → 1 ≤ r → r ≤ MOST_KEYS → has result.told_04 r ≡ true }
     {
         match place.held {
             Some(Held::One(kind, holder)) if holder == place.sender => Reach {
@@ -147,9 +154,13 @@ impl Reach {
 
     /// To preempt all others, where all registrants hold.
     pub(crate) fn of_preempting_all(place: &Place, kind: Kind) -> Reach
-        ensures removed { is_held_by_all place.now.held ≡ true → (r : ℕ) → 1 ≤ r → r ≤ MOST_KEYS → has result.removed r ≡ true }
-        ensures reservations { is_held_by_all place.now.held ≡ true → has_wide result.reservations (number_of place.now.hosts (Some (new_reservation kind place.now.sender))) ≡ true }
-        ensures told { is_held_by_all place.now.held ≡ true → (r : ℕ) → 1 ≤ r → r ≤ MOST_KEYS → has result.told_05 r ≡ true }
+        ensures removed { is_held_by_all place.now.held ≡ true → (r : ℕ) → 1 ≤ r → r ≤ MOST_KEYS
+            → has result.removed r ≡ true }
+        ensures reservations { is_held_by_all place.now.held ≡ true
+            → has_wide result.reservations
+            (number_of place.now.hosts (Some (new_reservation kind place.now.sender))) ≡ true }
+        ensures told { is_held_by_all place.now.held ≡ true → (r : ℕ) → 1 ≤ r → r ≤ MOST_KEYS
+            → has result.told_05 r ≡ true }
     {
         match place.held {
             Some(Held::All(_)) => Reach {
@@ -166,7 +177,8 @@ impl Reach {
 impl Place {
     /// The reservation of this type that the sender establishes.
     pub(crate) fn new_reservation(&self, kind: Kind) -> Wide
-        ensures { has_wide result (number_of self.now.hosts (Some (new_reservation kind self.now.sender))) ≡ true }
+        ensures { has_wide result (number_of self.now.hosts
+            (Some (new_reservation kind self.now.sender))) ≡ true }
     {
         let held = if is_all(kind) {
             Held::All(kind)
@@ -193,7 +205,8 @@ pub(crate) fn no_reservation() -> Wide
 
 // With which registrations others are told of the loss of a reservation of this type.
 fn those_told(kind: Kind) -> Word
-    ensures { is_for_registrants_as kind ≡ true → (r : ℕ) → 1 ≤ r → r ≤ MOST_KEYS → has result r ≡ true }
+    ensures { is_for_registrants_as kind ≡ true → (r : ℕ) → 1 ≤ r → r ≤ MOST_KEYS
+        → has result r ≡ true }
 {
     match kind {
         Kind::WriteExclusive | Kind::ExclusiveAccess => Word::none(),

@@ -38,7 +38,9 @@ use pr_views::{
 impl Onlooker {
     /// What a command that reaches no more than this can leave at most, beside what was so before it.
     pub(crate) fn most(&self, reach: &Reach) -> Possibilities
-        ensures { (s : Scope) (clause : ClauseOf) → IsOnlooking s self.now → IsReach s self.now.view clause self.now.other reach.now → IsMost s self.now.view clause self.now.other result }
+        ensures { (s : Scope) (clause : ClauseOf) → IsOnlooking s self.now
+            → IsReach s self.now.view clause self.now.other reach.now
+            → IsMost s self.now.view clause self.now.other result }
     {
         Possibilities {
             registrations: self.registrations_within(reach),
@@ -51,7 +53,8 @@ impl Onlooker {
     pub(crate) fn reach(&self, clause: &Clause, keys: &[u64]) -> Reach
         requires keys { length keys.now ≤ MOST_KEYS }
         requires action { IsClause keys.now clause.now }
-        ensures { (s : Scope) → IsOnlooking s self.now → s.keys ≡ keys.now → IsReach s self.now.view clause.now self.now.other result }
+        ensures { (s : Scope) → IsOnlooking s self.now → s.keys ≡ keys.now
+            → IsReach s self.now.view clause.now self.now.other result }
     {
         let number = number_named(clause.action, keys);
         let mut reach = Reach::none();
@@ -67,7 +70,10 @@ impl Onlooker {
     // Under one reservation, where its key has this number.
     fn reach_at(&self, place: &Place, clause: &Clause, number: u8) -> Reach
         requires number { number ≤ MOST_KEYS }
-        ensures { (s : Scope) → IsWatched s self.now place.now → is_action s.keys clause.now.action ≡ true → number_named s.keys clause.now.action ≡ number → IsReachAt s self.now.view clause.now place.now result }
+        ensures { (s : Scope) → IsWatched s self.now place.now
+            → is_action s.keys clause.now.action ≡ true
+            → number_named s.keys clause.now.action ≡ number
+            → IsReachAt s self.now.view clause.now place.now result }
     {
         if !holds(clause.condition, place, true) {
             return Reach::none();
@@ -93,11 +99,19 @@ impl Onlooker {
     // that of all registrants ends where nobody is left.
     fn reach_of_preempting(&self, place: &Place, key: u8, kind: Kind) -> Reach
         requires key { key ≤ MOST_KEYS }
-        ensures given { has_at self.now.view.registrations place.now.sender key ≡ true → has result.given 0 ≡ true }
-        ensures ended { is_held_by_all place.now.held ≡ true → has_at self.now.view.registrations place.now.sender key ≡ true → MayAllGo self.now.view place.now key → has_wide result.reservations 0 ≡ true }
+        ensures given { has_at self.now.view.registrations place.now.sender key ≡ true
+            → has result.given 0 ≡ true }
+        ensures ended { is_held_by_all place.now.held ≡ true
+            → has_at self.now.view.registrations place.now.sender key ≡ true
+            → MayAllGo self.now.view place.now key → has_wide result.reservations 0 ≡ true }
         ensures removed { has result.removed key ≡ true }
-        ensures replaced { (old : KindOf) (holder : ℕ) → place.now.held ≡ Some (One old holder) → has_at self.now.view.registrations holder key ≡ true → has_wide result.reservations (number_of place.now.hosts (Some (new_reservation kind place.now.sender))) ≡ true }
-        ensures told_04 { (old : KindOf) (holder : ℕ) → place.now.held ≡ Some (One old holder) → has_at self.now.view.registrations holder key ≡ true → is_kind old kind ≡ false → (r : ℕ) → 1 ≤ r → r ≤ MOST_KEYS → r ≢ key → has result.told_04 r ≡ true }
+        ensures replaced { (old : KindOf) (holder : ℕ) → place.now.held ≡ Some (One old holder)
+            → has_at self.now.view.registrations holder key ≡ true
+            → has_wide result.reservations
+            (number_of place.now.hosts (Some (new_reservation kind place.now.sender))) ≡ true }
+        ensures told_04 { (old : KindOf) (holder : ℕ) → place.now.held ≡ Some (One old holder)
+            → has_at self.now.view.registrations holder key ≡ true → is_kind old kind ≡ false
+            → (r : ℕ) → 1 ≤ r → r ≤ MOST_KEYS → r ≢ key → has result.told_04 r ≡ true }
         ensures told_05 { has result.told_05 key ≡ true }
     {
         let named = Word::only(key);
@@ -139,7 +153,8 @@ impl Onlooker {
     fn may_go(&self, host: u8, key: u8) -> bool
         requires host { host < MOST_NEXUSES }
         requires key { key ≤ MOST_KEYS }
-        ensures { result ≡ (has_at self.now.view.registrations host 0 || has_at self.now.view.registrations host key) }
+        ensures { result ≡ (has_at self.now.view.registrations host 0
+            || has_at self.now.view.registrations host key) }
     {
         self.may_have(host, 0) || self.may_have(host, key)
     }
@@ -155,8 +170,11 @@ impl Onlooker {
 
     // The registrations that are in reach.
     fn registrations_within(&self, reach: &Reach) -> [Word; MOST_NEXUSES]
-        ensures given { (n : ℕ) → has reach.now.given n ≡ true → has_at result self.now.other n ≡ true }
-        ensures freed { (g r : ℕ) → g < MOST_NEXUSES → g ≢ self.now.other → has_at self.now.view.registrations g r ≡ true → has reach.now.removed r ≡ true → has_at result g 0 ≡ true }
+        ensures given { (n : ℕ) → has reach.now.given n ≡ true
+            → has_at result self.now.other n ≡ true }
+        ensures freed { (g r : ℕ) → g < MOST_NEXUSES → g ≢ self.now.other
+            → has_at self.now.view.registrations g r ≡ true → has reach.now.removed r ≡ true
+            → has_at result g 0 ≡ true }
     {
         let mut words = [Word::none(); MOST_NEXUSES];
         let sender = usize::from(self.other);
@@ -172,7 +190,9 @@ impl Onlooker {
 
     // The attentions that are in reach.
     fn pending_within(&self, reach: &Reach) -> Word
-        ensures { (r q n : ℕ) → has_at self.now.view.registrations self.now.own r ≡ true → has self.now.view.pending q ≡ true → q < ATTENTION_SETS → IsTold reach.now r q n → has result n ≡ true }
+        ensures { (r q n : ℕ) → has_at self.now.view.registrations self.now.own r ≡ true
+            → has self.now.view.pending q ≡ true → q < ATTENTION_SETS → IsTold reach.now r q n
+            → has result n ≡ true }
     {
         let owners = self.view.registrations[usize::from(self.own)];
         let preempted = attentions_told(
@@ -231,7 +251,8 @@ fn no_reservation_if(is: bool) -> Wide
 // With which registrations others are told that a reservation was released which one of another type replaced.
 fn told_of_another(old: Kind, kind: Kind, key: u8) -> Word
     requires { key ≤ MOST_KEYS }
-    ensures { is_kind old kind ≡ false → (r : ℕ) → 1 ≤ r → r ≤ MOST_KEYS → r ≢ key → has result r ≡ true }
+    ensures { is_kind old kind ≡ false → (r : ℕ) → 1 ≤ r → r ≤ MOST_KEYS → r ≢ key
+        → has result r ≡ true }
 {
     if old == kind {
         Word::none()
@@ -243,7 +264,8 @@ fn told_of_another(old: Kind, kind: Kind, key: u8) -> Word
 // The attentions with these bits besides, if an owner with one of the registrations can be told.
 fn attentions_told(owners: Word, told: Word, pending: Word, mark: u8) -> Word
     requires { mark < ATTENTION_SETS }
-    ensures { (r q : ℕ) → has owners r ≡ true → has told r ≡ true → has pending q ≡ true → q < ATTENTION_SETS → has result (bit_or q mark) ≡ true }
+    ensures { (r q : ℕ) → has owners r ≡ true → has told r ≡ true → has pending q ≡ true
+        → q < ATTENTION_SETS → has result (bit_or q mark) ≡ true }
 {
     if owners.and(told).is_empty() {
         Word::none()

@@ -40,7 +40,8 @@ use std::alloc::{AllocError, Global};
 // How the report of an attention ends.
 fn class_of_report(command: &Command, attention: Attention) -> Class
     ensures class { IsClass (report (Plain command.now) (code_of attention)) result }
-    ensures blind { (keys : List ℕ) (tests : List Test) → All (λ t. test_fits keys command.now t ≡ true) tests → AreBlind tests result }
+    ensures blind { (keys : List ℕ) (tests : List Test)
+        → All (λ t. test_fits keys command.now t ≡ true) tests → AreBlind tests result }
 {
     match command {
         Command::RequestSense => Class::Good,
@@ -69,7 +70,8 @@ impl Refused {
 
 /// The sense of the command's fault, where it can be at fault.
 pub(crate) fn fault_of(command: &Command) -> Option<Sense>
-    ensures { (keys : List ℕ) (u : State) (h : ℕ) (x : Sense) → is_written keys command.now ≡ true → command_fault u h command.now ≡ Some x → result ≡ Some x }
+    ensures { (keys : List ℕ) (u : State) (h : ℕ) (x : Sense) → is_written keys command.now ≡ true
+        → command_fault u h command.now ≡ Some x → result ≡ Some x }
 {
     match command {
         Command::Read { .. } | Command::Write { .. } => Some(illegal(
@@ -131,10 +133,13 @@ impl Sending<'_> {
         pending: Word,
     ) -> Result<(), AllocError>
         requires scope { IsScope (scope_of_sending self.now) }
-        requires range { (x q : ℕ) → has_wide way.now.reservations x ≡ true → has pending q ≡ true → AreInRange self.now.hosts self.now.keys.now (record way.now { pending = pending }) }
+        requires range { (x q : ℕ) → has_wide way.now.reservations x ≡ true → has pending q ≡ true
+            → AreInRange self.now.hosts self.now.keys.now (record way.now { pending = pending }) }
         requires kept { AreKeptFor S.members S.room self.now outcomes.old.items }
         ensures kept { OnOk result (AreKeptFor S.members S.room self.now outcomes.new.items) }
-        ensures more { OnOk result (AreMore S.members self.now.sender outcomes.old.items (λ l i. (l ≡ landing) × IsOfWay (scope_of_sending self.now) way.now pending i) outcomes.new.items) }
+        ensures more { OnOk result (AreMore S.members self.now.sender outcomes.old.items
+            (λ l i. (l ≡ landing) × IsOfWay (scope_of_sending self.now) way.now pending i)
+            outcomes.new.items) }
     {
         if way.reservations.is_empty() || pending.is_empty() {
             return Ok(());
@@ -154,7 +159,9 @@ impl Sending<'_> {
         requires asked { IsAsked self.now }
         requires kept { AreKeptFor S.members S.room self.now outcomes.old.items }
         ensures kept { OnOk result (AreKeptFor S.members S.room self.now outcomes.new.items) }
-        ensures more { OnOk result (AreMore S.members self.now.sender outcomes.old.items (LandsBy (view_of_sending self.now) self.now.command self.now.tests.now (Reports Attention.PowerOn)) outcomes.new.items) }
+        ensures more { OnOk result (AreMore S.members self.now.sender outcomes.old.items
+            (LandsBy (view_of_sending self.now) self.now.command self.now.tests.now
+            (Reports Attention.PowerOn)) outcomes.new.items) }
     {
         let class = class_of_report(&self.command, Attention::PowerOn);
         let landing = landing_of(self.tests, class);
@@ -177,7 +184,9 @@ impl Sending<'_> {
         requires later { IsLater attention }
         requires kept { AreKeptFor S.members S.room self.now outcomes.old.items }
         ensures kept { OnOk result (AreKeptFor S.members S.room self.now outcomes.new.items) }
-        ensures more { OnOk result (AreMore S.members self.now.sender outcomes.old.items (LandsBy (view_of_sending self.now) self.now.command self.now.tests.now (Reports attention)) outcomes.new.items) }
+        ensures more { OnOk result (AreMore S.members self.now.sender outcomes.old.items
+            (LandsBy (view_of_sending self.now) self.now.command self.now.tests.now
+            (Reports attention)) outcomes.new.items) }
     {
         let class = class_of_report(&self.command, attention);
         let landing = landing_of(self.tests, class);
@@ -195,7 +204,9 @@ impl Sending<'_> {
         requires asked { IsAsked self.now }
         requires kept { AreKeptFor S.members S.room self.now outcomes.old.items }
         ensures kept { OnOk result (AreKeptFor S.members S.room self.now outcomes.new.items) }
-        ensures more { OnOk result (AreMore S.members self.now.sender outcomes.old.items (LandsBy (view_of_sending self.now) self.now.command self.now.tests.now Conflicts) outcomes.new.items) }
+        ensures more { OnOk result (AreMore S.members self.now.sender outcomes.old.items
+            (LandsBy (view_of_sending self.now) self.now.command self.now.tests.now Conflicts)
+            outcomes.new.items) }
     {
         let landing = landing_of(self.tests, Class::Conflict);
         self.add(alloc, outcomes, landing, &self.tally.way(0), self.calm())?;
@@ -212,7 +223,9 @@ impl Sending<'_> {
         requires asked { IsAsked self.now }
         requires kept { AreKeptFor S.members S.room self.now outcomes.old.items }
         ensures kept { OnOk result (AreKeptFor S.members S.room self.now outcomes.new.items) }
-        ensures more { OnOk result (AreMore S.members self.now.sender outcomes.old.items (LandsBy (view_of_sending self.now) self.now.command self.now.tests.now (Refuses refused)) outcomes.new.items) }
+        ensures more { OnOk result (AreMore S.members self.now.sender outcomes.old.items
+            (LandsBy (view_of_sending self.now) self.now.command self.now.tests.now
+            (Refuses refused)) outcomes.new.items) }
     {
         let class = refused.class();
         let landing = landing_of(self.tests, class);
@@ -234,7 +247,9 @@ impl Sending<'_> {
         requires asked { IsAsked self.now }
         requires kept { AreKeptFor S.members S.room self.now outcomes.old.items }
         ensures kept { OnOk result (AreKeptFor S.members S.room self.now outcomes.new.items) }
-        ensures more { OnOk result (AreMore S.members self.now.sender outcomes.old.items (λ l i. IsTrue declared × LandsBy (view_of_sending self.now) self.now.command self.now.tests.now (Refuses refused) l i) outcomes.new.items) }
+        ensures more { OnOk result (AreMore S.members self.now.sender outcomes.old.items
+            (λ l i. IsTrue declared × LandsBy (view_of_sending self.now) self.now.command
+            self.now.tests.now (Refuses refused) l i) outcomes.new.items) }
     {
         if !declared {
             return Ok(());
@@ -252,7 +267,9 @@ impl Sending<'_> {
         requires asked { IsAsked self.now }
         requires kept { AreKeptFor S.members S.room self.now outcomes.old.items }
         ensures kept { OnOk result (AreKeptFor S.members S.room self.now outcomes.new.items) }
-        ensures more { OnOk result (AreMore S.members self.now.sender outcomes.old.items (LandsBy (view_of_sending self.now) self.now.command self.now.tests.now Fails) outcomes.new.items) }
+        ensures more { OnOk result (AreMore S.members self.now.sender outcomes.old.items
+            (LandsBy (view_of_sending self.now) self.now.command self.now.tests.now Fails)
+            outcomes.new.items) }
     {
         let Some(sense) = self.fault else {
             return Ok(());
@@ -273,7 +290,9 @@ impl Sending<'_> {
         requires there { arm < 17 }
         requires kept { AreKeptFor S.members S.room self.now outcomes.old.items }
         ensures kept { OnOk result (AreKeptFor S.members S.room self.now outcomes.new.items) }
-        ensures more { OnOk result (AreMore S.members self.now.sender outcomes.old.items (LandsGood (view_of_sending self.now) self.now.command self.now.tests.now arm) outcomes.new.items) }
+        ensures more { OnOk result (AreMore S.members self.now.sender outcomes.old.items
+            (LandsGood (view_of_sending self.now) self.now.command self.now.tests.now arm)
+            outcomes.new.items) }
     {
         let landing = if arm == 0 {
             Landing::NoArm(Class::Good)
@@ -299,7 +318,9 @@ impl Sending<'_> {
         requires asked { IsAsked self.now }
         requires kept { AreKeptFor S.members S.room self.now outcomes.old.items }
         ensures kept { OnOk result (AreKeptFor S.members S.room self.now outcomes.new.items) }
-        ensures more { OnOk result (AreMore S.members self.now.sender outcomes.old.items (LandsBy (view_of_sending self.now) self.now.command self.now.tests.now EndsGood) outcomes.new.items) }
+        ensures more { OnOk result (AreMore S.members self.now.sender outcomes.old.items
+            (LandsBy (view_of_sending self.now) self.now.command self.now.tests.now EndsGood)
+            outcomes.new.items) }
     {
         for arm in 0..17 {
             self.add_good(alloc, outcomes, arm)?;
@@ -313,8 +334,11 @@ impl Sending<'_> {
         alloc: Global,
     ) -> Result<Vec<(Landing, ViewOf<S>)>, AllocError>
         requires { IsAsked self.now }
-        ensures outcomes { IfOk result (λ outcomes. AreOutcomes (view_of_sending self.now) self.now.refusals self.now.command self.now.tests.now (map (λ o. (o.0, view_of S.members self.now.sender o.1)) outcomes.items)) }
-        ensures kept { IfOk result (λ outcomes. AreKeptFor S.members S.room self.now outcomes.items) }
+        ensures outcomes { IfOk result (λ outcomes. AreOutcomes (view_of_sending self.now)
+            self.now.refusals self.now.command self.now.tests.now
+            (map (λ o. (o.0, view_of S.members self.now.sender o.1)) outcomes.items)) }
+        ensures kept { IfOk result (λ outcomes. AreKeptFor S.members S.room self.now
+            outcomes.items) }
     {
         let mut outcomes = Vec::new(alloc);
         self.add_all_good(alloc, &mut outcomes)?;

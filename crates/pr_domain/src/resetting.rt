@@ -20,7 +20,8 @@ pub fn reset<S: ViewSet>(alloc: Global, view: &ViewOf<S>) -> Result<ViewOf<S>, A
     requires { IsMade S.room view.now }
     ensures made { IfOk result (IsMade S.room) }
     ensures alike { IfOk result (AreAlike view.now) }
-    ensures reset { IfOk result (λ w. (own : ℕ) → own < view.now.hosts → IsAfterReset (view_of S.members own view.now) (view_of S.members own w)) }
+    ensures reset { IfOk result (λ w. (own : ℕ) → own < view.now.hosts
+        → IsAfterReset (view_of S.members own view.now) (view_of S.members own w)) }
 {
     let left = left_by_reset(view);
     ViewOf::of(alloc, &view.keys, view.hosts, &left)
@@ -30,7 +31,8 @@ pub fn reset<S: ViewSet>(alloc: Global, view: &ViewOf<S>) -> Result<ViewOf<S>, A
 fn left_by_reset<S: ViewSet>(view: &ViewOf<S>) -> Possibilities
     requires { IsMade S.room view.now }
     ensures range { AreInRange view.now.hosts view.now.keys.items result }
-    ensures reset { (own : ℕ) → own < view.now.hosts → IsAfterReset (view_of S.members own view.now) (view_in (scope_of own view.now) result) }
+    ensures reset { (own : ℕ) → own < view.now.hosts
+        → IsAfterReset (view_of S.members own view.now) (view_in (scope_of own view.now) result) }
 {
     after_reset(view.hosts, &view.possibilities())
 }
@@ -38,7 +40,8 @@ fn left_by_reset<S: ViewSet>(view: &ViewOf<S>) -> Possibilities
 /// What is so in some shown state, with power on among what is pending for the owner.
 pub(crate) fn after_reset(hosts: u8, view: &Possibilities) -> Possibilities
     requires { (1 ≤ hosts) × (hosts ≤ MOST_NEXUSES) }
-    ensures { (s : Scope) → s.hosts ≡ hosts → Fits (view_in s view.now) → IsAfterReset (view_in s view.now) (view_in s result) }
+    ensures { (s : Scope) → s.hosts ≡ hosts → Fits (view_in s view.now)
+        → IsAfterReset (view_in s view.now) (view_in s result) }
 {
     let mut left = kept(hosts, view);
     left.pending = attentions_with(left.pending, POWER_ON_BIT);

@@ -36,7 +36,8 @@ pub fn of_start<S: ViewSet>(
     ensures made { IfOk result (IsMade S.room) }
     ensures keys { IfOk result (λ v. v.keys.items ≡ (scenario_of scenario.now).keys) }
     ensures hosts { IfOk result (λ v. v.hosts ≡ length (scenario_of scenario.now).nexuses) }
-    ensures start { IfOk result (λ v. IsOfStart (scenario_of scenario.now) (view_of S.members own v)) }
+    ensures start { IfOk result (λ v. IsOfStart (scenario_of scenario.now)
+        (view_of S.members own v)) }
 {
     let parts = scenario.parts();
     let hosts = parts.nexuses.len() as u8;
@@ -44,13 +45,14 @@ pub fn of_start<S: ViewSet>(
     ViewOf::of(alloc, &parts.keys, hosts, &words)
 }
 
-// What is so in some state that they may start from.
+// The possibilities of the states from which these may start.
 fn starts(hosts: u8, own: u8, parts: &Parts) -> Possibilities
     requires own { own < hosts }
     requires nexuses { length parts.now.nexuses.items ≡ hosts }
     requires parts { FitsAll (scenario_of parts.now) }
     ensures range { AreInRange hosts parts.now.keys.items result }
-    ensures start { IsOfStart (scenario_of parts.now) (view_in (scope_in own hosts parts.now) result) }
+    ensures start { IsOfStart (scenario_of parts.now)
+        (view_in (scope_in own hosts parts.now) result) }
 {
     // With some of them no state is well formed, as where a holder has no key.
     kept(hosts, &alternatives(hosts, own, parts))
@@ -61,7 +63,8 @@ fn alternatives(hosts: u8, own: u8, parts: &Parts) -> Possibilities
     requires own { own < hosts }
     requires nexuses { length parts.now.nexuses.items ≡ hosts }
     requires parts { FitsAll (scenario_of parts.now) }
-    ensures alternatives { AreAlternatives (scenario_of parts.now) (scope_in own hosts parts.now) result }
+    ensures alternatives { AreAlternatives (scenario_of parts.now) (scope_in own hosts parts.now)
+        result }
     ensures fits { Fits (view_in (scope_in own hosts parts.now) result) }
 {
     Possibilities {
@@ -123,7 +126,8 @@ fn reservations(hosts: u8, reservations: &[Option<Held>]) -> Wide
 // The sets of attentions that are within the written one.
 fn sets_within(written: &Pending) -> Word
     ensures few { (q : ℕ) → has result q ≡ true → q < ATTENTION_SETS }
-    ensures within { (q : ℕ) → q < ATTENTION_SETS → (has result q ≡ true) ↔ AreAmong (codes_of q) written.now }
+    ensures within { (q : ℕ) → q < ATTENTION_SETS
+        → (has result q ≡ true) ↔ AreAmong (codes_of q) written.now }
 {
     let mut sets = Word::none();
     for attentions in 0..ATTENTION_SETS {

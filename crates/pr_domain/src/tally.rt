@@ -12,8 +12,8 @@ ghost use Rattle.pr_domain.specs.inside.Twins.{has_with_twin};
 use crate::comparing::gains;
 use pr_views::Possibilities;
 
-/// For each way in which a command can end, what is so of the registrations and the reservation then: in a
-/// conflict, without a conflict, at fault, and GOOD with the data taken by no arm or by each of 16.
+/// The possible registrations and reservations after each kind of ending: in a conflict, without a conflict, at fault, and GOOD
+/// with the data taken by no arm or by each of 16.
 #[derive(Clone, Copy, PartialEq, Eq)]
 pub(crate) struct Tally {
     pub(crate) ways: [Possibilities; 20],
@@ -32,7 +32,8 @@ impl Tally {
     /// Adds what is found of this way.
     pub(crate) fn add(&mut self, way: usize, found: &Possibilities)
         requires { way < 20 }
-        ensures { (w : ℕ) (i : Item) → has_tallied self.new w i ≡ (has_tallied self.old w i || (w == way && has_part found.now i)) }
+        ensures { (w : ℕ) (i : Item) → has_tallied self.new w i
+            ≡ (has_tallied self.old w i || (w == way && has_part found.now i)) }
     {
         let mut joined = self.ways[way];
         joined.join(found);
@@ -52,7 +53,8 @@ impl Tally {
     pub(crate) fn add_twin(&mut self, twin: u8, reservation: u8)
         requires twin { twin < most }
         requires reservation { reservation < most }
-        ensures { (way : ℕ) (i : Item) → has_tallied self.new way i ≡ has_with_twin self.old twin reservation way i }
+        ensures { (way : ℕ) (i : Item) → has_tallied self.new way i
+            ≡ has_with_twin self.old twin reservation way i }
     {
         for way in 0..20 {
             self.ways[way] = with_twin(&self.ways[way], twin, reservation);
@@ -65,7 +67,9 @@ fn with_twin(found: &Possibilities, twin: u8, reservation: u8) -> Possibilities
     requires twin { twin < most }
     requires reservation { reservation < most }
     ensures registrations { result.registrations ≡ found.now.registrations }
-    ensures reservations { (x : ℕ) → has_wide result.reservations x ≡ (has_wide found.now.reservations x || (x == reservation && has_wide found.now.reservations twin)) }
+    ensures reservations { (x : ℕ) → has_wide result.reservations x
+        ≡ (has_wide found.now.reservations x
+        || (x == reservation && has_wide found.now.reservations twin)) }
 {
     let mut joined = *found;
     if found.reservations.has(twin) {

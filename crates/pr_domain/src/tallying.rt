@@ -1,4 +1,4 @@
-//! The tally of a view: how a command of its owner ends in each of the states that it shows, and what is so then.
+//! The tally of a view: the possible endings of a command of its owner, each with the possible states after it.
 
 ghost use Rattle.std.specs.Prelude.{◌≡◌, ◌<◌, ◌≤◌, ◌+◌, ℕ, List, ◌==◌, ◌||◌, length, IsTrue, true, IfSome, IfNone};
 ghost use Rattle.pr_script.specs.Grammar.{is_written, test_fits, is_read_keys, is_read_reservation};
@@ -73,7 +73,10 @@ fn add_branch(
 )
     requires room { HasRoom place.hosts branch.now.ending }
     requires arm { arm ≤ MOST_ARMS }
-    ensures { (s : Scope) (c : CommandOf) (tests : List TestOf) → IsRight s c tests view.now place senders branch.now arm → Grows (view_in s view.now) c tests tally.old tally.new (IsAt (view_in s view.now) place senders branch.now.region) }
+    ensures { (s : Scope) (c : CommandOf) (tests : List TestOf)
+        → IsRight s c tests view.now place senders branch.now arm
+        → Grows (view_in s view.now) c tests tally.old tally.new
+        (IsAt (view_in s view.now) place senders branch.now.region) }
 {
     let Some(registrations) = place.gather(view, senders, &branch.region) else {
         return;
@@ -104,7 +107,10 @@ fn add_branches(
 )
     requires room { All (λ b. HasRoom place.hosts b.ending) branches.now }
     requires arm { arm ≤ MOST_ARMS }
-    ensures { (s : Scope) (c : CommandOf) (tests : List TestOf) → AreRight s c tests view.now place senders branches.now arm → Grows (view_in s view.now) c tests tally.old tally.new (IsInOne (view_in s view.now) place senders branches.now (length branches.now)) }
+    ensures { (s : Scope) (c : CommandOf) (tests : List TestOf)
+        → AreRight s c tests view.now place senders branches.now arm
+        → Grows (view_in s view.now) c tests tally.old tally.new
+        (IsInOne (view_in s view.now) place senders branches.now (length branches.now)) }
 {
     let mut i = 0;
     while i < branches.len() {
@@ -125,7 +131,9 @@ fn add_accepted(
     requires number { HasNumber purpose }
     requires arm { arm ≤ MOST_ARMS }
     requires registration { registration ≤ MOST_KEYS }
-    ensures { (s : Scope) (c : CommandOf) (tests : List TestOf) → IsAsked s c tests view.now place purpose arm registration → Grows (view_in s view.now) c tests tally.old tally.new (HasBoth s place registration) }
+    ensures { (s : Scope) (c : CommandOf) (tests : List TestOf)
+        → IsAsked s c tests view.now place purpose arm registration
+        → Grows (view_in s view.now) c tests tally.old tally.new (HasBoth s place registration) }
 {
     let standing = standing_of(purpose, registration);
     let branches = branches(place.hosts, purpose, place.held, place.sender, standing);
@@ -135,7 +143,9 @@ fn add_accepted(
 // Adds those in which its reservation key is not accepted.
 fn add_refused(tally: &mut Tally, view: &Possibilities, place: Place, registration: u8)
     requires registration { registration ≤ MOST_KEYS }
-    ensures { (s : Scope) (c : CommandOf) (tests : List TestOf) → IsRefusedAt s c view.now place registration → Grows (view_in s view.now) c tests tally.old tally.new (HasBoth s place registration) }
+    ensures { (s : Scope) (c : CommandOf) (tests : List TestOf)
+        → IsRefusedAt s c view.now place registration
+        → Grows (view_in s view.now) c tests tally.old tally.new (HasBoth s place registration) }
 {
     let anything = Word::below(MOST_REGISTRATIONS);
     let region = Region {
@@ -172,7 +182,10 @@ fn is_tallied(
     arm: usize,
 ) -> bool
     requires arm { arm ≤ MOST_ARMS }
-    ensures { IsTrue result → (s : Scope) → IsPlace s view.now place → IsUniform senders → (u : UnitState) (i : Item) → IsAt (view_in s view.now) place senders region.now u → IsRegistered s u i → (has_tallied tally.now 1 i ≡ true) × (has_tallied tally.now (3 + arm) i ≡ true) }
+    ensures { IsTrue result → (s : Scope) → IsPlace s view.now place → IsUniform senders
+        → (u : UnitState) (i : Item) → IsAt (view_in s view.now) place senders region.now u
+        → IsRegistered s u i → (has_tallied tally.now 1 i ≡ true)
+        × (has_tallied tally.now (3 + arm) i ≡ true) }
 {
     let portion = place.portion(view, senders, region);
     let found = part(portion.registrations, place.reservation);
@@ -188,7 +201,10 @@ fn add_reading(
     reading: &Reading,
 )
     requires registration { registration ≤ MOST_KEYS }
-    ensures { (s : Scope) (c : CommandOf) (tests : List TestOf) → IsRightReading s c tests view.now place registration reading.now → Grows (view_in s view.now) c tests tally.old tally.new (IsReadAt s view.now place registration reading.now) }
+    ensures { (s : Scope) (c : CommandOf) (tests : List TestOf)
+        → IsRightReading s c tests view.now place registration reading.now
+        → Grows (view_in s view.now) c tests tally.old tally.new
+        (IsReadAt s view.now place registration reading.now) }
 {
     let senders = Word::only(registration);
     let way = way_of(reading.arm);
@@ -211,7 +227,7 @@ fn add_reading(
     add_branch(tally, view, place, senders, &branch, way);
 }
 
-// Adds those of all readings.
+// Adds the states of every reading.
 fn add_readings(
     tally: &mut Tally,
     view: &Possibilities,
@@ -220,7 +236,10 @@ fn add_readings(
     readings: &[Reading],
 )
     requires registration { registration ≤ MOST_KEYS }
-    ensures { (s : Scope) (c : CommandOf) (tests : List TestOf) → AreRightReadings s c tests view.now place registration readings.now → Grows (view_in s view.now) c tests tally.old tally.new (IsReadFirst s view.now place registration readings.now (length readings.now)) }
+    ensures { (s : Scope) (c : CommandOf) (tests : List TestOf)
+        → AreRightReadings s c tests view.now place registration readings.now
+        → Grows (view_in s view.now) c tests tally.old tally.new
+        (IsReadFirst s view.now place registration readings.now (length readings.now)) }
 {
     let mut i = 0;
     while i < readings.len() {
@@ -258,7 +277,9 @@ fn add_registration(
     registration: u8,
 )
     requires registration { registration ≤ length asked.now.keys.now }
-    ensures { (s : Scope) → IsOwners s asked.now.keys.now view.now place → Grows (view_in s view.now) asked.now.command asked.now.tests.now tally.old tally.new (HasBoth s place registration) }
+    ensures { (s : Scope) → IsOwners s asked.now.keys.now view.now place
+        → Grows (view_in s view.now) asked.now.command asked.now.tests.now tally.old tally.new
+        (HasBoth s place registration) }
 {
     if is_refused(key_at(asked.keys, registration), asked.command) {
         add_refused(tally, view, place, registration);
@@ -287,7 +308,9 @@ fn add_registration(
 
 // Adds the states under one reservation.
 fn add_place(tally: &mut Tally, view: &Possibilities, place: Place, asked: &TestedCommand)
-    ensures { (s : Scope) → IsOwners s asked.now.keys.now view.now place → Grows (view_in s view.now) asked.now.command asked.now.tests.now tally.old tally.new (HasFirst s place (length asked.now.keys.now + 1)) }
+    ensures { (s : Scope) → IsOwners s asked.now.keys.now view.now place
+        → Grows (view_in s view.now) asked.now.command asked.now.tests.now tally.old tally.new
+        (HasFirst s place (length asked.now.keys.now + 1)) }
 {
     let registrations = asked.keys.len() as u8 + 1;
     let possible = view.registrations[usize::from(place.sender)];
@@ -303,7 +326,11 @@ fn add_place(tally: &mut Tally, view: &Possibilities, place: Place, asked: &Test
 // Adds the states under one reservation to those under all that come before it. Commands that read end alike under
 // reservations with the same holders.
 fn add_reservation(tally: &mut Tally, view: &Possibilities, place: Place, asked: &TestedCommand)
-    ensures { (s : Scope) (none : TallyOf) → IsOwners s asked.now.keys.now view.now place → IsNothing none → Grows (view_in s view.now) asked.now.command asked.now.tests.now none tally.old (IsReserved s place.reservation) → Grows (view_in s view.now) asked.now.command asked.now.tests.now none tally.new (IsReserved s (place.reservation + 1)) }
+    ensures { (s : Scope) (none : TallyOf) → IsOwners s asked.now.keys.now view.now place
+        → IsNothing none → Grows (view_in s view.now) asked.now.command asked.now.tests.now none
+        tally.old (IsReserved s place.reservation)
+        → Grows (view_in s view.now) asked.now.command asked.now.tests.now none tally.new
+        (IsReserved s (place.reservation + 1)) }
 {
     if is_reading(asked.command) {
         if let Some(twin) = place.twin(view) {
@@ -314,11 +341,12 @@ fn add_reservation(tally: &mut Tally, view: &Possibilities, place: Place, asked:
     add_place(tally, view, place, asked);
 }
 
-/// How the owner's command ends in each of the states that the view shows, and what is so then.
+/// The possible endings of the owner's command, each with the possible states after it.
 pub(crate) fn tally(view: &Possibilities, hosts: u8, own: u8, asked: &TestedCommand) -> Tally
     requires hosts { (1 ≤ hosts) × (hosts ≤ MOST_NEXUSES) }
     requires own { own < hosts }
-    ensures { (s : Scope) → IsOfScope s hosts own asked.now.keys.now view.now → IsTally (view_in s view.now) asked.now.command asked.now.tests.now result }
+    ensures { (s : Scope) → IsOfScope s hosts own asked.now.keys.now view.now
+        → IsTally (view_in s view.now) asked.now.command asked.now.tests.now result }
 {
     let mut tally = Tally::none();
     let mut reservation = 0;

@@ -32,7 +32,8 @@ impl Onlooker {
     pub(crate) fn widest(&self, clause: &Clause, keys: &[u64]) -> Reach
         requires keys { length keys.now ≤ MOST_KEYS }
         requires action { IsClause keys.now clause.now }
-        ensures { (s : Scope) → IsOnlooking s self.now → s.keys ≡ keys.now → IsReach s self.now.view clause.now self.now.other result }
+        ensures { (s : Scope) → IsOnlooking s self.now → s.keys ≡ keys.now
+            → IsReach s self.now.view clause.now self.now.other result }
     {
         match clause.action {
             Action::Register(key) => Reach::of_registering(number_in(keys, key)),
@@ -53,7 +54,8 @@ impl Onlooker {
 
     // To establish a reservation.
     fn widest_of_reserving(&self, kind: Kind) -> Reach
-        ensures { has_wide result.reservations (number_of self.now.hosts (Some (new_reservation kind self.now.other))) ≡ true }
+        ensures { has_wide result.reservations
+            (number_of self.now.hosts (Some (new_reservation kind self.now.other))) ≡ true }
     {
         Reach {
             reservations: self.established(kind),
@@ -64,7 +66,8 @@ impl Onlooker {
     // To preempt all others.
     fn widest_of_preempting_all(&self, kind: Kind) -> Reach
         ensures removed { (r : ℕ) → 1 ≤ r → r ≤ MOST_KEYS → has result.removed r ≡ true }
-        ensures reservations { has_wide result.reservations (number_of self.now.hosts (Some (new_reservation kind self.now.other))) ≡ true }
+        ensures reservations { has_wide result.reservations
+            (number_of self.now.hosts (Some (new_reservation kind self.now.other))) ≡ true }
         ensures told { (r : ℕ) → 1 ≤ r → r ≤ MOST_KEYS → has result.told_05 r ≡ true }
     {
         Reach {
@@ -78,12 +81,19 @@ impl Onlooker {
     // To preempt the key of this number.
     fn widest_of_preempting(&self, key: u8, kind: Kind) -> Reach
         requires key { key ≤ MOST_KEYS }
-        ensures given { has_at self.now.view.registrations self.now.other key ≡ true → has result.given 0 ≡ true }
-        ensures ended { (t : KindOf) → is_all t ≡ true → has_wide self.now.view.reservations (number_of self.now.hosts (Some (All t))) ≡ true → has_wide result.reservations 0 ≡ true }
+        ensures given { has_at self.now.view.registrations self.now.other key ≡ true
+            → has result.given 0 ≡ true }
+        ensures ended { (t : KindOf) → is_all t ≡ true
+            → has_wide self.now.view.reservations (number_of self.now.hosts (Some (All t))) ≡ true
+            → has_wide result.reservations 0 ≡ true }
         ensures removed { has result.removed key ≡ true }
-        ensures replaced { has_wide result.reservations (number_of self.now.hosts (Some (new_reservation kind self.now.other))) ≡ true }
-        ensures told_04 { (old : KindOf) (holder : ℕ) → is_reservation self.now.hosts (Some (One old holder)) ≡ true → has_wide self.now.view.reservations (number_of self.now.hosts (Some (One old holder))) ≡ true
-            → is_kind old kind ≡ false → (r : ℕ) → 1 ≤ r → r ≤ MOST_KEYS → r ≢ key → has result.told_04 r ≡ true }
+        ensures replaced { has_wide result.reservations
+            (number_of self.now.hosts (Some (new_reservation kind self.now.other))) ≡ true }
+        ensures told_04 { (old : KindOf) (holder : ℕ)
+            → is_reservation self.now.hosts (Some (One old holder)) ≡ true
+            → has_wide self.now.view.reservations (number_of self.now.hosts (Some (One old holder)))
+            ≡ true → is_kind old kind ≡ false → (r : ℕ) → 1 ≤ r → r ≤ MOST_KEYS → r ≢ key
+            → has result.told_04 r ≡ true }
         ensures told_05 { has result.told_05 key ≡ true }
     {
         let named = Word::only(key);
@@ -103,8 +113,11 @@ impl Onlooker {
 
     // The reservation of this type that the other establishes, and none where one of all registrants may end.
     fn established_or_ended(&self, kind: Kind) -> Wide
-        ensures established { has_wide result (number_of self.now.hosts (Some (new_reservation kind self.now.other))) ≡ true }
-        ensures ended { (t : KindOf) → is_all t ≡ true → has_wide self.now.view.reservations (number_of self.now.hosts (Some (All t))) ≡ true → has_wide result 0 ≡ true }
+        ensures established { has_wide result
+            (number_of self.now.hosts (Some (new_reservation kind self.now.other))) ≡ true }
+        ensures ended { (t : KindOf) → is_all t ≡ true
+            → has_wide self.now.view.reservations (number_of self.now.hosts (Some (All t))) ≡ true
+            → has_wide result 0 ≡ true }
     {
         let established = self.established(kind);
         if self.may_all_hold() {
@@ -116,14 +129,17 @@ impl Onlooker {
 
     // The reservation of this type that the other establishes.
     fn established(&self, kind: Kind) -> Wide
-        ensures { has_wide result (number_of self.now.hosts (Some (new_reservation kind self.now.other))) ≡ true }
+        ensures { has_wide result (number_of self.now.hosts
+            (Some (new_reservation kind self.now.other))) ≡ true }
     {
         Wide::only(reservation_number(self.hosts, Some(new_reservation(kind, self.other))))
     }
 
     // Whether a reservation of all registrants is possible.
     fn may_all_hold(&self) -> bool
-        ensures { (t : KindOf) → is_all t ≡ true → has_wide self.now.view.reservations (number_of self.now.hosts (Some (All t))) ≡ true → IsTrue result }
+        ensures { (t : KindOf) → is_all t ≡ true
+            → has_wide self.now.view.reservations (number_of self.now.hosts (Some (All t))) ≡ true
+            → IsTrue result }
     {
         let possible = self.view.reservations;
         possible.has(shared(self.hosts, Kind::WriteExclusiveAllRegistrants))
@@ -132,8 +148,10 @@ impl Onlooker {
 
     // Whether a reservation with one holder is possible that is of another type.
     fn may_be_of_another_type(&self, kind: Kind) -> bool
-        ensures { result ≡ false → (old : KindOf) (holder : ℕ) → is_reservation self.now.hosts (Some (One old holder)) ≡ true
-            → has_wide self.now.view.reservations (number_of self.now.hosts (Some (One old holder))) ≡ true → is_kind old kind ≡ true }
+        ensures { result ≡ false → (old : KindOf) (holder : ℕ)
+            → is_reservation self.now.hosts (Some (One old holder)) ≡ true
+            → has_wide self.now.view.reservations (number_of self.now.hosts (Some (One old holder)))
+            ≡ true → is_kind old kind ≡ true }
     {
         let alike = of_one_type(self.hosts, kind);
         !self.view.reservations.except(alike).is_empty()

@@ -9,7 +9,7 @@ ghost use Rattle.pr_verify.specs.Places.{Place, places, places_in, places_of_arm
 ghost use Rattle.pr_verify.specs.inside.Listing.{place_of, AreInRange};
 
 use crate::head::{Head, head_in};
-use pr_cdb::Command;
+use pr_cdb::{Command, in_range};
 use pr_script::{Arm, Script, Statement, Test};
 use std::alloc::{AllocError, Global};
 
@@ -120,11 +120,6 @@ fn list(
     }
     Ok(())
 }
-
-// The fields of a command are in the ranges of their types.
-fn in_range(command: Command)
-    ensures { Fits command }
-{}
 
 #[cycle(list)]
 fn list_at(

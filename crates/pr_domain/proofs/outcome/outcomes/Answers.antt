@@ -21,7 +21,7 @@ outcomes-requires g c =
       record {
         fits = fits;
         written = written;
-        whole = c.is_whole.ensures;
+        whole = c.in_range.ensures;
         fault = λ u h x is. c.fault_of.ensures keys u h x written is;
         tests = subst (λ ks. All (λ t. test_fits ks c.args.command.now t ≡ true) c.args.tests.now) (sym same) c.requires.tests;
         few = c.requires.few;
