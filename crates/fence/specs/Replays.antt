@@ -5,7 +5,7 @@ use Rattle.std.specs.List.{list_any}
 use Rattle.pr_unit.specs.UnitStates.{UnitState}
 use Rattle.pr_roles.specs.declared.step.Step.{Step}
 use Rattle.pr_roles.specs.Scenarios.{Scenario}
-use Rattle.pr_roles.specs.Starts.{first_state}
+use Rattle.pr_roles.specs.FirstStarts.{first_state}
 use Rattle.pr_roles.specs.Worlds.{is_trapped}
 use Rattle.pr_roles.specs.Schedules.{Schedule, ScheduledRun, schedule_from}
 use Rattle.pr_text.specs.Reading.{IsWrittenAs}

@@ -7,7 +7,8 @@ use Rattle.pr_cdb.specs.declared.command.Command.{Command}
 use Rattle.pr_cdb.specs.declared.wire.Request.{Request}
 use Rattle.pr_cdb.specs.declared.wire.Bad.{Bad}
 use Rattle.pr_cdb.specs.Bytes.{be16, be32, be64, has_flag}
-use Rattle.pr_cdb.specs.Requests.{request_of, named_command, reserve_out, kind_of_byte, length_of, has_refused_flag, plain_request, illegal, Fits, FitsWhereRead, AreBytes}
+use Rattle.pr_cdb.specs.Requests.{request_of, named_command, reserve_out, kind_of_byte, length_of, has_refused_flag, plain_request, illegal, AreBytes}
+use Rattle.pr_cdb.specs.Ranges.{Fits, FitsWhereRead}
 
 pub be16-lt : (bytes : List ℕ) (i : ℕ) → AreBytes bytes → be16 bytes i < 2 ^ 16
 unfolding be16

@@ -7,7 +7,8 @@ use Rattle.pr_cdb.specs.declared.command.Command.{Command}
 use Rattle.pr_cdb.specs.declared.command.Command.TheVariants.{Read, Write, ReadKeys, ReadReservation, ReportCapabilities, Register, RegisterIgnore, Reserve, Release, Clear, Preempt, PreemptAbort}
 use Rattle.pr_cdb.specs.Kinds.{code_of, kind_of_code}
 use Rattle.pr_cdb.specs.Bytes.{be16, be32, be64}
-use Rattle.pr_cdb.specs.Requests.{request_of, named_command, reserve_out, kind_of_byte, length_of, has_refused_flag, plain_request, request_of_wire, Fits}
+use Rattle.pr_cdb.specs.Requests.{request_of, named_command, reserve_out, kind_of_byte, length_of, has_refused_flag, plain_request, request_of_wire}
+use Rattle.pr_cdb.specs.Ranges.{Fits}
 use Rattle.pr_cdb.specs.Spelling.{spelling, kind_byte}
 
 kind_of_byte-code_of : (k : Kind) → kind_of_byte (code_of k) ≡ Some k

@@ -2,6 +2,7 @@ pub mod Codes
 pub mod Kinds
 pub mod Bytes
 pub mod Requests
+pub mod Ranges
 pub mod Spelling
 pub mod ReplyData
 pub mod Statuses

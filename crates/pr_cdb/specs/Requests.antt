@@ -1,6 +1,6 @@
 -- Agrees with SPC-4, 'PERSISTENT RESERVE IN command', 'PERSISTENT RESERVE OUT command'; docs/FORMATS.md, 'How bytes are read'.
 -- What two byte lists, a command descriptor block and a parameter list, ask of the logical unit.
-use Rattle.std.specs.Prelude.{ℕ, ◌/◌, ◌%◌, ◌<◌, ◌^◌, Bool, ◌==◌, ◌&&◌, ◌||◌, not, nat_lt, if◌then◌else◌, List, length, slice_index, Option, Some, None, is_none, option_map, Result, Ok, Err}
+use Rattle.std.specs.Prelude.{ℕ, ◌/◌, ◌%◌, ◌<◌, Bool, ◌==◌, ◌&&◌, ◌||◌, not, nat_lt, if◌then◌else◌, List, length, slice_index, Option, Some, None, is_none, option_map, Result, Ok, Err}
 use Rattle.std.specs.Option.{option_map_or}
 use Rattle.pr_cdb.specs.declared.codes.TheConstants.{TEST_UNIT_READY, REQUEST_SENSE, INQUIRY, READ_10, WRITE_10, PERSISTENT_RESERVE_IN, PERSISTENT_RESERVE_OUT, REPORT_LUNS, READ_KEYS, READ_RESERVATION, REGISTER, RESERVE, RELEASE, CLEAR, PREEMPT, PREEMPT_AND_ABORT, REGISTER_AND_IGNORE_EXISTING_KEY, REPORT_CAPABILITIES, SPEC_I_PT, ALL_TG_PT, APTPL, DESC, ILLEGAL_REQUEST, PARAMETER_LIST_LENGTH_ERROR, INVALID_COMMAND_OPERATION_CODE, INVALID_FIELD_IN_CDB, INVALID_FIELD_IN_PARAMETER_LIST, SIX_BYTE_CDB, TEN_BYTE_CDB, PARAMETER_LIST_LENGTH, FIXED_SENSE_LENGTH}
 use Rattle.pr_cdb.specs.declared.command.Kind.{Kind}
@@ -97,29 +97,6 @@ request_of cdb params =
 -- what a command as it travels asks for
 abbrev pub request_of_wire : Wire → Result Request Bad
 request_of_wire wire = request_of wire.cdb.items wire.params.items
-
--- each field of the command is in its type's range
-abbrev pub Fits : Command → Type 0
-Fits TestUnitReady = Unit {0}
-Fits RequestSense = Unit {0}
-Fits (Read lba blocks) = (lba < 2 ^ 32) × (blocks < 2 ^ 16)
-Fits (Write lba blocks) = (lba < 2 ^ 32) × (blocks < 2 ^ 16)
-Fits (ReadKeys alloc) = alloc < 2 ^ 16
-Fits (ReadReservation alloc) = alloc < 2 ^ 16
-Fits (ReportCapabilities alloc) = alloc < 2 ^ 16
-Fits (Register rk sark) = (rk < 2 ^ 64) × (sark < 2 ^ 64)
-Fits (RegisterIgnore sark) = sark < 2 ^ 64
-Fits (Reserve rk kind) = rk < 2 ^ 64
-Fits (Release rk kind) = rk < 2 ^ 64
-Fits (Clear rk) = rk < 2 ^ 64
-Fits (Preempt rk sark kind) = (rk < 2 ^ 64) × (sark < 2 ^ 64)
-Fits (PreemptAbort rk sark kind) = (rk < 2 ^ 64) × (sark < 2 ^ 64)
-
--- a command that is read has its fields in range
-abbrev pub FitsWhereRead : Result Request Bad → Type 0
-FitsWhereRead (Ok (Plain c)) = Fits c
-FitsWhereRead (Ok (Faulty sense)) = Unit {0}
-FitsWhereRead (Err bad) = Unit {0}
 
 -- each number of the list is a byte
 abbrev pub AreBytes : List ℕ → Type 0

@@ -1,7 +1,7 @@
 //! The numbers of the standards, each law the contract of a function with nothing to do: a number that is changed in the code
 //! fails here, though the definitions cite it by its name.
 
-ghost use Rattle.pr_cdb.specs.Requests.{Fits};
+ghost use Rattle.pr_cdb.specs.Ranges.{Fits};
 ghost use Rattle.pr_cdb.specs.Codes.{OperationCodesAgree, ServiceActionsAgree, SenseCodesAgree, LengthsAgree};
 
 use crate::command::Command;

@@ -3,7 +3,8 @@
 ghost use Rattle.std.specs.Prelude.{◌≡◌, ◌+◌, ◌≤◌, ◌≢◌, List, ℕ, length, slice_index};
 ghost use Rattle.pr_cdb.specs.Kinds.{kind_of_code};
 ghost use Rattle.pr_cdb.specs.Bytes.{be16, be32, be64};
-ghost use Rattle.pr_cdb.specs.Requests.{request_of, named_command, length_of, kind_of_byte, has_refused_flag, reserve_out, AreBytes, FitsWhereRead};
+ghost use Rattle.pr_cdb.specs.Requests.{request_of, named_command, length_of, kind_of_byte, has_refused_flag, reserve_out, AreBytes};
+ghost use Rattle.pr_cdb.specs.Ranges.{FitsWhereRead};
 
 use crate::codes::{
     ALL_TG_PT, APTPL, CLEAR, DESC, FIXED_SENSE_LENGTH, ILLEGAL_REQUEST, INQUIRY,

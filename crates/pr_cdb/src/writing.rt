@@ -1,7 +1,8 @@
 //! Writing a command's bytes.
 
 ghost use Rattle.std.specs.Prelude.{◌≡◌, ◌≤◌, ◌<◌, length};
-ghost use Rattle.pr_cdb.specs.Requests.{plain_request, request_of_wire, Fits};
+ghost use Rattle.pr_cdb.specs.Requests.{plain_request, request_of_wire};
+ghost use Rattle.pr_cdb.specs.Ranges.{Fits};
 ghost use Rattle.pr_cdb.specs.Spelling.{spelling, wire_of, kind_byte, six, transfer, reserve_in, reserve_out};
 
 use crate::codes::{

@@ -6,7 +6,7 @@ use Rattle.pr_cdb.specs.declared.command.Command.{Command}
 use Rattle.pr_cdb.specs.declared.command.Command.TheVariants as command
 use Rattle.pr_cdb.specs.declared.wire.Request.{Request}
 use Rattle.pr_cdb.specs.declared.wire.Request.TheVariants.{Plain, Faulty}
-use Rattle.pr_cdb.specs.Requests.{FitsWhereRead}
+use Rattle.pr_cdb.specs.Ranges.{FitsWhereRead}
 use Rattle.std.specs.Prelude.{Ok}
 use Rattle.pr_unit.specs.UnitStates.{UnitState, effect}
 use Rattle.pr_unit.specs.Replies.{good, is_request_sense, data_of}

@@ -15,7 +15,8 @@ use Rattle.pr_attention.proofs.Sets.{contains-no_code}
 use Rattle.pr_unit.specs.UnitStates.{UnitState, IsWellFormed, is_pending, is_any_pending}
 use Rattle.pr_unit.specs.Conflicts.{command_conflicts}
 use Rattle.pr_unit.specs.Replies.{good, is_good, is_request_sense}
-use Rattle.pr_unit.specs.Steps.{Step, decision, ends_good}
+use Rattle.pr_unit.specs.Steps.{Step, decision}
+use Rattle.pr_unit.specs.TakenSteps.{ends_good}
 use Rattle.pr_unit.proofs.GoodFixed.{good_by_decision}
 use Rattle.pr_unit.proofs.GoodSteps.{good_effect, good_step}
 use Rattle.pr_roles.specs.declared.role.Clause.{Clause}

@@ -6,7 +6,7 @@ use Rattle.pr_cdb.specs.declared.reply.Reply.{Reply}
 use Rattle.pr_cdb.specs.declared.reply.Status.{Status}
 use Rattle.pr_cdb.specs.declared.reply.Status.TheVariants as status
 use Rattle.pr_cdb.specs.declared.wire.Request.TheVariants.{Plain}
-use Rattle.pr_cdb.specs.Requests.{Fits as FitsCommand}
+use Rattle.pr_cdb.specs.Ranges.{Fits as FitsCommand}
 use Rattle.pr_attention.specs.declared.attention.Attention.{Attention}
 use Rattle.pr_attention.specs.Attentions.{code_of}
 use Rattle.pr_registry.specs.Registrations.{State, key_of}

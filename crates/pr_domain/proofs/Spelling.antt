@@ -7,7 +7,7 @@ use Rattle.pr_cdb.specs.declared.command.Command.{Command}
 use Rattle.pr_cdb.specs.declared.command.Command.TheVariants as command
 use Rattle.pr_cdb.specs.declared.wire.Request.TheVariants.{Plain}
 use Rattle.pr_cdb.specs.Kinds.{code_of}
-use Rattle.pr_cdb.specs.Requests.{Fits}
+use Rattle.pr_cdb.specs.Ranges.{Fits}
 use Rattle.pr_registry.specs.declared.held.Held.{Held}
 use Rattle.pr_registry.specs.Registrations.{State, IsKey, key_of, kind_of}
 use Rattle.pr_registry.specs.Changes.{is_kind, conflicts_with_reserve}

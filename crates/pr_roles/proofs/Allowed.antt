@@ -22,7 +22,8 @@ use Rattle.pr_roles.specs.declared.parts.Nexus.{Nexus as NexusPart}
 use Rattle.pr_roles.specs.declared.parts.Parts.{Parts}
 use Rattle.pr_roles.specs.Scenarios.{Scenario, Nexus, nexus, nexus_of, scenario_of}
 use Rattle.pr_roles.specs.Fitting.{Fits, most_declared, is_reservation, is_nexus, is_role, is_start, is_task, is_alternative, are_distinct, is_same_reservation}
-use Rattle.pr_roles.specs.Starts.{IsAllowedStart, CanStart, starts, first_state, keys_under, first_under}
+use Rattle.pr_roles.specs.Starts.{IsAllowedStart, CanStart}
+use Rattle.pr_roles.specs.FirstStarts.{starts, first_state, keys_under, first_under}
 use Rattle.pr_roles.specs.inside.StoredStarts.{start_of}
 use Rattle.pr_roles.proofs.Apart.{length_of_parts}
 use Rattle.pr_roles.proofs.Starting.{chosen_length, chosen_at, AreOffered, all_pass, declared_key, slice_get_contains}

@@ -10,7 +10,8 @@ use Rattle.pr_registry.specs.Registrations.{state_from}
 use Rattle.pr_unit.specs.UnitStates.{quiet_unit}
 use Rattle.pr_roles.specs.Scenarios.{Scenario}
 use Rattle.pr_roles.specs.Fitting.{Fits}
-use Rattle.pr_roles.specs.Starts.{Starts, CanStart, starts, keys_under, first_under}
+use Rattle.pr_roles.specs.Starts.{CanStart}
+use Rattle.pr_roles.specs.FirstStarts.{Starts, starts, keys_under, first_under}
 use Rattle.pr_roles.specs.Laws.{StartsAreFound, FirstStartsAreEarliest}
 use Rattle.pr_roles.proofs.Allowed.{first_allowed, found_under, start_found}
 

@@ -10,7 +10,7 @@ use Rattle.std.proofs.lemmas.Iterator.Adapters.{position_from-zero}
 use Rattle.pr_cdb.specs.declared.command.Kind.{Kind}
 use Rattle.pr_registry.specs.declared.held.Held.{Held}
 use Rattle.pr_registry.specs.declared.held.Held.TheVariants.{One, All}
-use Rattle.pr_roles.specs.Starts.{Starts, first_of, first_key, with_key, keys_under, first_under}
+use Rattle.pr_roles.specs.FirstStarts.{Starts, first_of, first_key, with_key, keys_under, first_under}
 use Rattle.pr_roles.proofs.Starting.{Chosen, chosen_length, chosen_set, AreOffered, firsts_chosen, first_key_there, first_key_found, contains_first, contains_more}
 
 -- the list has a key at h

@@ -9,7 +9,7 @@ use Rattle.std.proofs.lemmas.Option.{slice_get-map, none-some, same_Some}
 use Rattle.pr_registry.specs.Registrations.{IsKey}
 use Rattle.pr_script.specs.Grammar.{is_declared}
 use Rattle.pr_roles.specs.declared.parts.Nexus.{Nexus as NexusPart}
-use Rattle.pr_roles.specs.Starts.{Starts, first_of, first_key}
+use Rattle.pr_roles.specs.FirstStarts.{Starts, first_of, first_key}
 use Rattle.pr_roles.specs.inside.StoredStarts.{start_of}
 
 -- ---- where a test first passes

@@ -8,7 +8,7 @@ use Rattle.pr_cdb.specs.declared.wire.Request.{Request}
 use Rattle.pr_cdb.specs.Statuses.{is_busy_status, is_full_status}
 use Rattle.pr_unit.specs.UnitStates.{UnitState}
 use Rattle.pr_unit.specs.Replies.{busy, full}
-use Rattle.pr_unit.specs.Steps.{Step, TakenStep}
+use Rattle.pr_unit.specs.Steps.{Step}
 use Rattle.pr_roles.specs.declared.how.How.{How}
 use Rattle.pr_roles.specs.declared.how.How.TheVariants as how
 use Rattle.pr_roles.specs.declared.item.Item.{Item}
@@ -20,12 +20,6 @@ abbrev pub Answers : How → UnitState → ℕ → Request → Reply → UnitSta
 Answers how.Plain u h q r v = Step u h q r v
 Answers how.Busy u h q r v = (r ≡ busy) × (v ≡ u)
 Answers how.Full u h q r v = (r ≡ full) × (v ≡ u)
-
--- so this unit answers, which reports the lowest code where it may choose
-abbrev pub TakenAnswer : How → UnitState → ℕ → Request → Reply → UnitState → Type 0
-TakenAnswer how.Plain u h q r v = TakenStep u h q r v
-TakenAnswer how.Busy u h q r v = (r ≡ busy) × (v ≡ u)
-TakenAnswer how.Full u h q r v = (r ≡ full) × (v ≡ u)
 
 -- the most answers of this kind that the scenario declares for h
 abbrev pub most_refusals : Scenario → ℕ → How → ℕ

@@ -10,7 +10,8 @@ use Rattle.pr_roles.specs.Worlds.{World, Event, Host, Guest, UnitReset, Run, wor
 use Rattle.pr_unit.specs.UnitStates.{UnitState}
 use Rattle.pr_roles.specs.Scenarios.{Scenario}
 use Rattle.pr_roles.specs.Fitting.{Fits}
-use Rattle.pr_roles.specs.Starts.{IsAllowedStart, CanStart, starts, first_under, first_state}
+use Rattle.pr_roles.specs.Starts.{IsAllowedStart, CanStart}
+use Rattle.pr_roles.specs.FirstStarts.{starts, first_under, first_state}
 
 -- Some state is allowed to start from exactly where one of the reservations can be well formed.
 abbrev pub StartsAreFound : Type 0

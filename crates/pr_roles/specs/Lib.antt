@@ -1,6 +1,7 @@
 pub mod Permits
 pub mod Scenarios
 pub mod Starts
+pub mod FirstStarts
 pub mod Limits
 pub mod Fitting
 pub mod Answers

@@ -5,17 +5,20 @@ use Rattle.std.specs.List.{slice_get}
 use Rattle.std.specs.Option.{option_map_or}
 use Rattle.pr_cdb.specs.declared.command.Command.{Command}
 use Rattle.pr_cdb.specs.declared.reply.Reply.{Reply}
+use Rattle.pr_cdb.specs.declared.wire.Request.{Request}
 use Rattle.pr_cdb.specs.declared.wire.Request.TheVariants.{Plain}
 use Rattle.pr_cdb.specs.Spelling.{spelling}
 use Rattle.pr_unit.specs.UnitStates.{UnitState}
-use Rattle.pr_unit.specs.Steps.{decision, ends_good}
+use Rattle.pr_unit.specs.Steps.{decision}
+use Rattle.pr_unit.specs.Replies.{busy, full}
+use Rattle.pr_unit.specs.TakenSteps.{TakenStep, ends_good}
 use Rattle.pr_script.specs.Scripts.{Standing, ready, stopped}
 use Rattle.pr_roles.specs.declared.role.Clause.{Clause}
 use Rattle.pr_roles.specs.declared.how.How.{How}
 use Rattle.pr_roles.specs.declared.how.How.TheVariants as how
 use Rattle.pr_roles.specs.declared.step.Step.{Step}
 use Rattle.pr_roles.specs.declared.step.Step.TheVariants as step
-use Rattle.pr_roles.specs.Answers.{TakenAnswer, how_now}
+use Rattle.pr_roles.specs.Answers.{how_now}
 use Rattle.pr_roles.specs.Permits.{is_permitted}
 use Rattle.pr_roles.specs.Scenarios.{Scenario, Task, Scripted, Planned, role, task}
 use Rattle.pr_roles.specs.Worlds.{World, control, standing_of, after, after_reset, may_reset, world_from}
@@ -28,7 +31,13 @@ pub record Schedule : Type 0 where
 abbrev pub plan : Schedule → ℕ → List Command
 plan x g = option_map_or (λ p. p) (slice_get x.plans g) []
 
--- the command is answered so; the unit reports the lowest code where it may choose
+-- The unit answers a request so: where it may choose, it reports the lowest code.
+abbrev pub TakenAnswer : How → UnitState → ℕ → Request → Reply → UnitState → Type 0
+TakenAnswer how.Plain u h q r v = TakenStep u h q r v
+TakenAnswer how.Busy u h q r v = (r ≡ busy) × (v ≡ u)
+TakenAnswer how.Full u h q r v = (r ≡ full) × (v ≡ u)
+
+-- the command is answered so
 pub record Sends (w : World) (h at : ℕ) (command : Command) (how : How) (v : World) : Type 0 where
   pub reply : Reply
   pub unit : UnitState

@@ -7,7 +7,8 @@ ghost use Rattle.pr_registry.specs.Registrations.{IsWellFormed, state_from};
 ghost use Rattle.pr_unit.specs.UnitStates.{quiet_unit};
 ghost use Rattle.pr_roles.specs.Scenarios.{scenario_of};
 ghost use Rattle.pr_roles.specs.Fitting.{Fits};
-ghost use Rattle.pr_roles.specs.Starts.{CanStart, IsAllowedStart, first_of, first_key, with_key, with_registrant, keys_under, first_under, first_state};
+ghost use Rattle.pr_roles.specs.Starts.{CanStart, IsAllowedStart};
+ghost use Rattle.pr_roles.specs.FirstStarts.{first_of, first_key, with_key, with_registrant, keys_under, first_under, first_state};
 ghost use Rattle.pr_roles.specs.inside.StoredStarts.{start_of};
 
 use crate::parts::{Nexus, Parts, Start};

@@ -3,7 +3,8 @@
 ghost use Rattle.std.specs.Prelude.{◌≡◌, ◌↔◌, Some, IsTrue, IfOk, IfErr, IsOk};
 ghost use Rattle.pr_roles.specs.Scenarios.{scenario_of};
 ghost use Rattle.pr_roles.specs.Fitting.{Fits};
-ghost use Rattle.pr_roles.specs.Starts.{CanStart, IsAllowedStart, first_state};
+ghost use Rattle.pr_roles.specs.Starts.{CanStart, IsAllowedStart};
+ghost use Rattle.pr_roles.specs.FirstStarts.{first_state};
 
 use crate::parts::Parts;
 use pr_unit::Unit;

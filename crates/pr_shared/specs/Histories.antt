@@ -10,7 +10,7 @@ use Rattle.pr_roles.specs.declared.item.Item.TheVariants.{Sent, Reset}
 use Rattle.pr_roles.specs.Scenarios.{Scenario}
 use Rattle.pr_roles.specs.Safety.{IsSafe, IsLegal}
 use Rattle.pr_roles.specs.Items.{entry_by}
-use Rattle.pr_roles.specs.Starts.{first_state}
+use Rattle.pr_roles.specs.FirstStarts.{first_state}
 use Rattle.pr_roles.specs.Schedules.{Schedule}
 use Rattle.pr_world.specs.Courses.{IsReached}
 use Rattle.pr_shared.specs.Guests.{guests_of}

@@ -9,7 +9,7 @@ use Rattle.pr_roles.specs.declared.item.Item.{Item}
 use Rattle.pr_roles.specs.Scenarios.{Scenario, scenario_of}
 use Rattle.pr_roles.specs.Safety.{IsLegal}
 use Rattle.pr_roles.specs.Schedules.{Schedule, plan}
-use Rattle.pr_roles.specs.Starts.{first_state}
+use Rattle.pr_roles.specs.FirstStarts.{first_state}
 use Rattle.pr_roles.specs.Worlds.{control}
 use Rattle.pr_world.specs.Courses.{IsReached}
 use Rattle.pr_world.specs.Ends.{Ending, stops, waits, traps, leaves, ending, ending_of}

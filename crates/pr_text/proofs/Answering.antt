@@ -7,7 +7,8 @@ use Rattle.std.proofs.lemmas.Simd.{map-map}
 use Rattle.pr_registry.specs.declared.held.Held.{Held}
 use Rattle.pr_roles.specs.Scenarios.{Scenario}
 use Rattle.pr_roles.specs.Fitting.{Fits}
-use Rattle.pr_roles.specs.Starts.{CanStart, starts, first_under}
+use Rattle.pr_roles.specs.Starts.{CanStart}
+use Rattle.pr_roles.specs.FirstStarts.{starts, first_under}
 use Rattle.pr_roles.proofs.Allowed.{start_found, first_allowed}
 use Rattle.pr_text.specs.declared.fault.ReadError.{ReadError}
 use Rattle.pr_text.specs.declared.fault.ReadError.TheVariants.{TooLarge, EmptyStart}

@@ -10,7 +10,7 @@ use Rattle.pr_registry.specs.declared.held.Held.TheVariants.{One}
 use Rattle.pr_registry.specs.Registrations.{is_all}
 use Rattle.pr_attention.specs.Attentions.{AreAttentions}
 use Rattle.pr_roles.specs.Scenarios.{Nexus, Task, Scripted, Planned}
-use Rattle.pr_roles.specs.Starts.{first_under}
+use Rattle.pr_roles.specs.FirstStarts.{first_under}
 use Rattle.pr_roles.specs.Fitting.{most_declared, AreDeclared, are_distinct, is_nexus, is_reservation, is_same_reservation, is_version, are_resets, are_of}
 use Rattle.pr_roles.proofs.Allowed.{start_found}
 use Rattle.pr_lines.specs.Chain.{each}

@@ -4,7 +4,7 @@ use Rattle.std.specs.Prelude.{ℕ, List, length, Option, [], ◌∷◌, Some, if
 use Rattle.std.specs.Option.{option_map_or}
 use Rattle.std.specs.Str.Lines.{lines}
 use Rattle.pr_registry.specs.declared.held.Held.{Held}
-use Rattle.pr_roles.specs.Starts.{first_under}
+use Rattle.pr_roles.specs.FirstStarts.{first_under}
 use Rattle.pr_text.specs.declared.text.TheConstants.{MOST_BYTES, MOST_LINE_BYTES}
 use Rattle.pr_text.specs.declared.fault.ReadError.{ReadError}
 use Rattle.pr_text.specs.declared.fault.Which.TheVariants as which

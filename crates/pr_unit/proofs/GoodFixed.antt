@@ -9,7 +9,8 @@ use Rattle.pr_unit.specs.UnitStates.{UnitState}
 use Rattle.pr_unit.specs.Replies.{is_good, good, check, report, is_request_sense}
 use Rattle.pr_unit.specs.declared.decision.Decision.{Decision}
 use Rattle.pr_unit.specs.declared.decision.Decision.TheVariants.{PowerOn, Attention, Done}
-use Rattle.pr_unit.specs.Steps.{StepBy, IsDone, Step, decision, ends_good}
+use Rattle.pr_unit.specs.Steps.{StepBy, IsDone, Step, decision}
+use Rattle.pr_unit.specs.TakenSteps.{ends_good}
 use Rattle.pr_unit.specs.Laws.{GoodIsFixed}
 
 -- every report of an attention ends alike

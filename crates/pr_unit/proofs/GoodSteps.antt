@@ -12,7 +12,8 @@ use Rattle.pr_unit.specs.UnitStates.{UnitState, is_pending, is_any_pending, effe
 use Rattle.pr_unit.specs.Conflicts.{command_conflicts}
 use Rattle.pr_unit.specs.Faults.{command_fault}
 use Rattle.pr_unit.specs.Replies.{good, data_of}
-use Rattle.pr_unit.specs.Steps.{StepBy, decision, last_decision, ends_good}
+use Rattle.pr_unit.specs.Steps.{StepBy, decision, last_decision}
+use Rattle.pr_unit.specs.TakenSteps.{ends_good}
 use Rattle.pr_unit.specs.Laws.{TakesEffect, GoodStepsTakeEffect, FreeCommandsEndGood}
 use Rattle.pr_unit.proofs.GoodFixed.{good_by_decision}
 use Rattle.pr_unit.proofs.Steps.{done_is_free}

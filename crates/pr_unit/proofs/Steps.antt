@@ -7,7 +7,7 @@ use Rattle.pr_cdb.specs.declared.reply.Sense.{Sense}
 use Rattle.pr_cdb.specs.declared.reply.Reply.{Reply}
 use Rattle.pr_cdb.specs.declared.wire.Request.{Request}
 use Rattle.pr_cdb.specs.declared.wire.Request.TheVariants.{Plain, Faulty}
-use Rattle.pr_cdb.specs.Requests.{FitsWhereRead}
+use Rattle.pr_cdb.specs.Ranges.{FitsWhereRead}
 use Rattle.pr_unit.specs.declared.decision.Decision.{Decision}
 use Rattle.pr_unit.specs.declared.decision.Decision.TheVariants.{PowerOn, Conflicting, Attention, AtFault, Done}
 use Rattle.pr_unit.specs.Attentions.{power_on}

@@ -7,7 +7,7 @@ use Rattle.pr_cdb.specs.declared.codes.TheConstants.{MOST_NEXUSES}
 use Rattle.pr_cdb.specs.declared.command.Kind.{Kind}
 use Rattle.pr_cdb.specs.declared.command.Command.{Command}
 use Rattle.pr_cdb.specs.declared.command.Command.TheVariants.{Register, RegisterIgnore, Reserve, Release, Clear, Preempt, PreemptAbort}
-use Rattle.pr_cdb.specs.Requests.{Fits}
+use Rattle.pr_cdb.specs.Ranges.{Fits}
 use Rattle.pr_registry.specs.declared.change.Change.{Change}
 use Rattle.pr_registry.specs.Hosts.{Hosts, is_key, has_no_registrant}
 use Rattle.pr_registry.specs.Registrations.{State, key_of, is_registered, IsKey, IsWellFormed as IsWellFormedRegistry}

@@ -6,7 +6,7 @@ use Rattle.pr_cdb.specs.declared.command.Command.TheVariants.{TestUnitReady, Req
 use Rattle.pr_cdb.specs.declared.reply.Reply.{Reply}
 use Rattle.pr_cdb.specs.declared.wire.Request.{Request}
 use Rattle.pr_cdb.specs.declared.wire.Request.TheVariants.{Plain, Faulty}
-use Rattle.pr_cdb.specs.Requests.{Fits, FitsWhereRead}
+use Rattle.pr_cdb.specs.Ranges.{Fits, FitsWhereRead}
 use Rattle.pr_cdb.specs.Statuses.{is_busy_status, is_full_status}
 use Rattle.pr_unit.specs.Attentions.{power_on}
 use Rattle.pr_unit.specs.UnitStates.{UnitState, IsWellFormed, is_pending, is_any_pending, effect, reset}

@@ -5,6 +5,7 @@ pub mod Conflicts
 pub mod Faults
 pub mod Replies
 pub mod Steps
+pub mod TakenSteps
 pub mod Follows
 pub mod Laws
 pub mod inside

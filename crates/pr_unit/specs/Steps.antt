@@ -1,18 +1,17 @@
 -- Agrees with SAM-5, 'Status precedence'; docs/MODEL.md, 'The order in which a request is answered'.
 -- What the logical unit may answer to a request, and the state that it is in then.
-use Rattle.std.specs.Prelude.{◌≡◌, ℕ, ◌≤◌, Bool, true, false, IsTrue, if◌then◌else◌, Option, Some, None, Result, Ok, Err}
+use Rattle.std.specs.Prelude.{◌≡◌, ℕ, IsTrue, if◌then◌else◌, Option, Some, None}
 use Rattle.pr_cdb.specs.declared.reply.Sense.{Sense}
 use Rattle.pr_cdb.specs.declared.reply.Reply.{Reply}
 use Rattle.pr_cdb.specs.declared.wire.Request.{Request}
 use Rattle.pr_cdb.specs.declared.wire.Request.TheVariants.{Plain, Faulty}
-use Rattle.pr_cdb.specs.declared.wire.Bad.{Bad}
 use Rattle.pr_unit.specs.declared.decision.Decision.{Decision}
 use Rattle.pr_unit.specs.declared.decision.Decision.TheVariants.{PowerOn, Conflicting, Attention, AtFault, Done}
 use Rattle.pr_unit.specs.Attentions.{power_on}
 use Rattle.pr_unit.specs.UnitStates.{UnitState, is_pending, is_any_pending, effect, after_report}
 use Rattle.pr_unit.specs.Conflicts.{conflicts}
 use Rattle.pr_unit.specs.Faults.{fault}
-use Rattle.pr_unit.specs.Replies.{good, check, conflict, report, is_request_sense, data_of}
+use Rattle.pr_unit.specs.Replies.{good, check, conflict, report, data_of}
 
 -- what decides how a request ends: a fault of its own, or nothing
 abbrev pub last_decision : Option Sense → Decision
@@ -50,38 +49,3 @@ StepBy Done u h q r u' = IsDone u h q r u'
 -- In state u, the request q of host h may be answered with r, and then the state is u'.
 abbrev pub Step : UnitState → ℕ → Request → Reply → UnitState → Type 0
 Step u h q r u' = StepBy (decision u h q) u h q r u'
-
--- whether a request that is decided so ends GOOD
-abbrev pub ends_good : Decision → Request → Bool
-ends_good PowerOn q = is_request_sense q
-ends_good Conflicting q = false
-ends_good Attention q = is_request_sense q
-ends_good (AtFault sense) q = false
-ends_good Done q = true
-
--- of the attentions that are pending, the reply reports the lowest
-pub record ReportsLowest (u : UnitState) (h : ℕ) (q : Request) (r : Reply) : Type 0 where
-  pub code : ℕ
-  pub pending : IsTrue (is_pending u h code)
-  pub reply : r ≡ report q code
-  pub least : (other : ℕ) → is_pending u h other ≡ true → code ≤ other
-
-abbrev pub LowestBy : Decision → UnitState → ℕ → Request → Reply → Type 0
-LowestBy PowerOn u h q r = Unit {0}
-LowestBy Conflicting u h q r = Unit {0}
-LowestBy Attention u h q r = ReportsLowest u h q r
-LowestBy (AtFault sense) u h q r = Unit {0}
-LowestBy Done u h q r = Unit {0}
-
--- The step that this unit takes: where it may choose, it reports the lowest code.
-pub record TakenStep (u : UnitState) (h : ℕ) (q : Request) (r : Reply) (u' : UnitState) : Type 0 where
-  pub step : Step u h q r u'
-  pub lowest : LowestBy (decision u h q) u h q r
-
--- In state u, this unit answers the bytes of a command of host h so, and then the state is u'. Bytes that
--- are no request change nothing.
-abbrev pub Executes : UnitState → ℕ → Result Request Bad → Result Reply Bad → UnitState → Type 0
-Executes u h (Ok q) (Ok r) u' = TakenStep u h q r u'
-Executes u h (Err bad) (Err b) u' = (b ≡ bad) × (u' ≡ u)
-Executes u h (Ok q) (Err bad) u' = ⊥
-Executes u h (Err bad) (Ok r) u' = ⊥

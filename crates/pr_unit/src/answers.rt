@@ -10,7 +10,7 @@ ghost use Rattle.pr_unit.specs.UnitStates.{unit_of, effect};
 ghost use Rattle.pr_unit.specs.Conflicts.{command_conflicts};
 ghost use Rattle.pr_unit.specs.Faults.{command_fault};
 ghost use Rattle.pr_unit.specs.Replies.{good, report, data_of};
-ghost use Rattle.pr_unit.specs.Steps.{TakenStep};
+ghost use Rattle.pr_unit.specs.TakenSteps.{TakenStep};
 
 use crate::data::data;
 use crate::decision::{Decision, decide};

@@ -2,7 +2,8 @@
 
 ghost use Rattle.std.specs.Prelude.{◌≡◌, ◌<◌};
 ghost use Rattle.pr_unit.specs.UnitStates.{unit_of};
-ghost use Rattle.pr_unit.specs.Steps.{decision, ends_good};
+ghost use Rattle.pr_unit.specs.Steps.{decision};
+ghost use Rattle.pr_unit.specs.TakenSteps.{ends_good};
 ghost use Rattle.pr_unit.specs.Conflicts.{conflicts};
 ghost use Rattle.pr_unit.specs.Faults.{fault};
 

@@ -49,7 +49,8 @@ impl Unit {
     ghost use Rattle.pr_unit.specs.UnitStates.{UnitState, IsWellFormed, unit_of, is_pending, quiet_unit, reset};
     ghost use Rattle.pr_unit.specs.Replies.{is_good};
     ghost use Rattle.pr_unit.specs.Conflicts.{command_conflicts};
-    ghost use Rattle.pr_unit.specs.Steps.{Step, Executes, decision, ends_good};
+    ghost use Rattle.pr_unit.specs.Steps.{Step, decision};
+    ghost use Rattle.pr_unit.specs.TakenSteps.{Executes, ends_good};
     ghost use Rattle.pr_unit.specs.Follows.{Follows};
 
     /// A unit of so many hosts with nothing registered, reserved or pending, and generation 0.

@@ -10,7 +10,7 @@ use Rattle.pr_cdb.specs.declared.command.Command.{Command}
 use Rattle.pr_cdb.specs.declared.reply.Reply.{Reply}
 use Rattle.pr_cdb.specs.declared.wire.Wire.{Wire}
 use Rattle.pr_cdb.specs.declared.wire.Request.TheVariants.{Plain}
-use Rattle.pr_cdb.specs.Requests.{Fits, FitsWhereRead}
+use Rattle.pr_cdb.specs.Ranges.{Fits, FitsWhereRead}
 use Rattle.pr_cdb.specs.Spelling.{spelling}
 use Rattle.pr_cdb.proofs.ReadsInRange.{reads_fit}
 use Rattle.pr_unit.specs.UnitStates.{UnitState, reset}

@@ -4,7 +4,7 @@ use Rattle.std.proofs.Common.{refl, ap, ◌∙◌, append_assoc}
 use Rattle.std.proofs.lemmas.List.{map_push}
 use Rattle.std.specs.List.{Contains}
 use Rattle.std.proofs.lemmas.List.Elements.{All-nil, All-cons, All-append, All-map, All-contains}
-use Rattle.pr_cdb.specs.Requests.{Fits}
+use Rattle.pr_cdb.specs.Ranges.{Fits}
 use Rattle.pr_cdb.specs.declared.command.Command.{Command}
 use Rattle.pr_script.specs.declared.script.Test.{Test}
 use Rattle.pr_script.specs.Scripts.{Stmts, Arms, sends, repeats}

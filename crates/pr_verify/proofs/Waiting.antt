@@ -10,7 +10,7 @@ use Rattle.pr_cdb.specs.declared.command.Command.TheVariants.{TestUnitReady, Reg
 use Rattle.pr_cdb.specs.declared.reply.Reply.{Reply}
 use Rattle.pr_cdb.specs.declared.wire.Request.{Request}
 use Rattle.pr_cdb.specs.declared.wire.Request.TheVariants.{Plain}
-use Rattle.pr_cdb.specs.Requests.{Fits}
+use Rattle.pr_cdb.specs.Ranges.{Fits}
 use Rattle.pr_attention.specs.Attentions.{no_code, power_on, reservations_preempted, reservations_released, registrations_preempted}
 use Rattle.pr_attention.specs.Flagged.{codes_of}
 use Rattle.pr_attention.proofs.Bits.{codes_of-zero}

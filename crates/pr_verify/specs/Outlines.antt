@@ -5,7 +5,7 @@ use Rattle.std.specs.Prelude.{◌≡◌, ℕ, ◌<◌, ◌≤◌, ◌==◌, true
 use Rattle.std.specs.List.{Contains}
 use Rattle.pr_cdb.specs.declared.reply.Reply.{Reply}
 use Rattle.pr_cdb.specs.declared.wire.Request.TheVariants.{Plain}
-use Rattle.pr_cdb.specs.Requests.{Fits}
+use Rattle.pr_cdb.specs.Ranges.{Fits}
 use Rattle.pr_unit.specs.UnitStates.{UnitState}
 use Rattle.pr_unit.specs.Replies.{is_good}
 use Rattle.pr_unit.specs.Steps.{Step}

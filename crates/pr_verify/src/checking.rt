@@ -5,7 +5,7 @@
 
 ghost use Rattle.std.specs.Prelude.{◌≡◌, ℕ, ◌<◌, ◌≤◌, true, min, length, map, OnOk, IfErr};
 ghost use Rattle.std.specs.List.{Contains};
-ghost use Rattle.pr_cdb.specs.Requests.{Fits};
+ghost use Rattle.pr_cdb.specs.Ranges.{Fits};
 ghost use Rattle.pr_script.specs.declared.limits.TheConstants.{MOST_BUDGET};
 ghost use Rattle.pr_script.specs.Costs.{cost_of_all};
 ghost use Rattle.pr_script.specs.Grammar.{script_fits};

@@ -2,7 +2,7 @@
 
 ghost use Rattle.std.specs.Prelude.{◌≡◌, ◌++◌, IfOk, OnOk, map};
 ghost use Rattle.std.specs.List.{Contains};
-ghost use Rattle.pr_cdb.specs.Requests.{Fits};
+ghost use Rattle.pr_cdb.specs.Ranges.{Fits};
 ghost use Rattle.pr_script.specs.Trees.{script_of, statement_of, statements_in};
 ghost use Rattle.pr_script.specs.inside.ArmLists.{arms_in};
 ghost use Rattle.pr_verify.specs.Places.{Place, places, places_in, places_of_arms, places_of, first_lines, lines_of, round, tests_of, next_of};

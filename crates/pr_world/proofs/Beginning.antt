@@ -12,7 +12,8 @@ use Rattle.pr_roles.specs.Scenarios.{Scenario, Nexus, Task, Scripted, Planned, n
 use Rattle.pr_script.specs.Names.{is_name}
 use Rattle.pr_roles.specs.Fitting.{Fits, is_nexus, is_role, is_start, is_task}
 use Rattle.pr_roles.proofs.Allowed.{each_nexus}
-use Rattle.pr_roles.specs.Starts.{IsAllowedStart, first_state}
+use Rattle.pr_roles.specs.Starts.{IsAllowedStart}
+use Rattle.pr_roles.specs.FirstStarts.{first_state}
 use Rattle.pr_roles.specs.Worlds.{control_of}
 use Rattle.pr_roles.specs.Schedules.{plan_of}
 use Rattle.pr_unit.specs.UnitStates.{UnitState}

@@ -18,11 +18,11 @@ use Rattle.pr_roles.specs.declared.entry.Entry.{Entry}
 use Rattle.pr_roles.specs.declared.role.Clause.{Clause}
 use Rattle.pr_roles.specs.declared.how.How.{How}
 use Rattle.pr_roles.specs.declared.how.How.TheVariants as how
-use Rattle.pr_roles.specs.Answers.{Answers, TakenAnswer, may_come, how_now}
+use Rattle.pr_roles.specs.Answers.{Answers, may_come, how_now}
 use Rattle.pr_roles.specs.Permits.{is_permitted}
 use Rattle.pr_roles.specs.Scenarios.{Scenario, Task, Scripted, Planned, role}
 use Rattle.pr_roles.specs.Worlds.{Control, Going, Trapped, Free, Host, Guest, is_guest, is_guest_task, standing_of, control_after}
-use Rattle.pr_roles.specs.Schedules.{is_passed_over}
+use Rattle.pr_roles.specs.Schedules.{TakenAnswer, is_passed_over}
 use Rattle.pr_world.specs.Courses.{is_planned}
 use Rattle.pr_world.specs.inside.Participations.{items_of, HappensBy, Participation, StandsFor, participation}
 use Rattle.pr_world.specs.Auditors.{is_free}

@@ -4,7 +4,7 @@ use Rattle.std.proofs.lemmas.List.{take_all, take_more, take-take}
 use Rattle.pr_unit.specs.UnitStates.{UnitState}
 use Rattle.pr_roles.specs.declared.item.Item.{Item}
 use Rattle.pr_roles.specs.Scenarios.{Scenario}
-use Rattle.pr_roles.specs.Starts.{first_state}
+use Rattle.pr_roles.specs.FirstStarts.{first_state}
 use Rattle.pr_roles.specs.Safety.{IsLegal}
 use Rattle.pr_roles.specs.Worlds.{World, world_from}
 use Rattle.pr_world.specs.declared.auditor.Auditor.{Auditor}

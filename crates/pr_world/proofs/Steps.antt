@@ -7,7 +7,7 @@ use Rattle.pr_cdb.specs.declared.wire.Request.{Request}
 use Rattle.pr_cdb.specs.declared.wire.Request.TheVariants.{Plain}
 use Rattle.pr_cdb.specs.Requests.{plain_request}
 use Rattle.pr_unit.specs.UnitStates.{UnitState}
-use Rattle.pr_unit.specs.Steps.{TakenStep, Executes}
+use Rattle.pr_unit.specs.TakenSteps.{TakenStep, Executes}
 
 pub executed : (u : UnitState) (h : ℕ) (c : Command) (q : Result Request Bad) (r : Reply) (v : UnitState) → q ≡ plain_request c → Executes u h q (Ok r) v → TakenStep u h (Plain c) r v
 executed u h c q r v is executes = subst (λ q. Executes u h q (Ok r) v) is executes

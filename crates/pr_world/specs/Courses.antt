@@ -7,7 +7,8 @@ use Rattle.pr_roles.specs.declared.item.Item.TheVariants.{Sent}
 use Rattle.pr_roles.specs.declared.step.Step.{Step}
 use Rattle.pr_roles.specs.Scenarios.{Scenario, Task, Scripted, Planned}
 use Rattle.pr_roles.specs.Worlds.{World, Event, Happens, Run, world_from}
-use Rattle.pr_roles.specs.Starts.{IsAllowedStart, first_state}
+use Rattle.pr_roles.specs.Starts.{IsAllowedStart}
+use Rattle.pr_roles.specs.FirstStarts.{first_state}
 use Rattle.pr_roles.specs.Schedules.{Schedule, ScheduledRun, schedule_from}
 
 abbrev pub is_planned : Task → Bool

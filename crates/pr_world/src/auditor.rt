@@ -3,7 +3,7 @@
 ghost use Rattle.std.specs.Prelude.{◌≡◌, ◌<◌, List, [], ◌∷◌, ◌++◌, Some, length, map, IfSome, IfOk};
 ghost use Rattle.pr_script.specs.Scripts.{ready};
 ghost use Rattle.pr_roles.specs.Scenarios.{scenario_of};
-ghost use Rattle.pr_roles.specs.Starts.{first_state};
+ghost use Rattle.pr_roles.specs.FirstStarts.{first_state};
 ghost use Rattle.pr_roles.specs.Worlds.{control, control_of, standing_of, world_from};
 ghost use Rattle.pr_world.specs.Ends.{ending, ending_of};
 ghost use Rattle.pr_world.specs.inside.Auditing.{how_of};

@@ -1,7 +1,7 @@
 -- What is known of a command whose outcomes are to be found.
 use Rattle.std.specs.Prelude.{◌≡◌, ℕ, ◌≤◌, true, List, length, Some}
 use Rattle.std.specs.List.{All}
-use Rattle.pr_cdb.specs.Requests.{Fits as FitsCommand}
+use Rattle.pr_cdb.specs.Ranges.{Fits as FitsCommand}
 use Rattle.pr_cdb.specs.declared.reply.Sense.{Sense}
 use Rattle.pr_registry.specs.Registrations.{State}
 use Rattle.pr_unit.specs.Faults.{command_fault}

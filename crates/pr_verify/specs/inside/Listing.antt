@@ -1,7 +1,7 @@
 -- The places of a script, as the code lists them.
 use Rattle.std.specs.Prelude.{◌≡◌, ℕ, ◌≤◌, true, IsTrue, List, length, map}
 use Rattle.std.specs.List.{All, Contains}
-use Rattle.pr_cdb.specs.Requests.{Fits}
+use Rattle.pr_cdb.specs.Ranges.{Fits}
 use Rattle.pr_script.specs.declared.limits.TheConstants.{MOST_ARMS}
 use Rattle.pr_script.specs.Grammar.{is_written, test_fits}
 use Rattle.pr_verify.specs.declared.places.Spot.{Spot}

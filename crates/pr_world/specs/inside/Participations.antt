@@ -11,11 +11,10 @@ use Rattle.pr_roles.specs.declared.entry.Entry.{Entry}
 use Rattle.pr_roles.specs.declared.item.Item.{Item}
 use Rattle.pr_roles.specs.declared.item.Item.TheVariants.{Sent}
 use Rattle.pr_roles.specs.declared.how.How.{How}
-use Rattle.pr_roles.specs.Answers.{TakenAnswer}
 use Rattle.pr_roles.specs.declared.limits.TheConstants.{MOST_PLANNED}
 use Rattle.pr_roles.specs.Scenarios.{Scenario, Task, Scripted, Planned}
 use Rattle.pr_roles.specs.Worlds.{World, Control, Going, Trapped, Free, control_of, entry_of}
-use Rattle.pr_roles.specs.Schedules.{Schedule, plan_of}
+use Rattle.pr_roles.specs.Schedules.{TakenAnswer, Schedule, plan_of}
 use Rattle.pr_world.specs.declared.course.Course.{Course}
 use Rattle.pr_world.specs.declared.participant.Participant.{Participant}
 use Rattle.pr_world.specs.declared.participant.Participant.TheVariants as participant

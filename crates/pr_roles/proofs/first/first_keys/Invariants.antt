@@ -1,6 +1,6 @@
 use Rattle.std.proofs.Common.{◌≡◌, take}
 use Rattle.std.specs.Prelude.{map}
-use Rattle.pr_roles.specs.Starts.{first_of}
+use Rattle.pr_roles.specs.FirstStarts.{first_of}
 use Rattle.pr_roles.specs.inside.StoredStarts.{start_of}
 use Rattle.pr_roles.proofs.first.first_keys.Given as goal
 
