@@ -2,15 +2,17 @@
 
 ghost use Rattle.std.specs.Prelude.{◌≡◌, ◌∷◌, [], codes, map};
 ghost use Rattle.std.specs.Fmt.{decimal};
+ghost use Rattle.std.specs.IoError.{error_kind};
 ghost use Rattle.pr_report.specs.Written.{AppendsFront, Puts};
 ghost use Rattle.pr_report.specs.Printed.{printed_word};
 ghost use Rattle.pr_report.specs.PrintedLines.{line};
-ghost use Rattle.fence.specs.FaultText.{exit_status_of, fault_text, status_of, told_line, input_words, trace_words, of_whole, at_line, which_word};
+ghost use Rattle.fence.specs.FaultText.{args_fault, exit_status_of, fault_text, open_fault, status_of, told_line, input_words, trace_words, of_whole, at_line, which_word};
 
 use pr_report::{TraceError, Word, WriteFault, put_line};
 use pr_roles::Word as Name;
 use pr_text::{ReadError, Which};
 use std::alloc::{AllocError, AllocFailed};
+use std::io;
 use std::io::Write;
 
 /// Why a command of the program came to nothing.
@@ -151,6 +153,28 @@ impl<T: Drop> From<AllocFailed<T>> for Fault {
 
     fn from(_refused: AllocFailed<T>) -> Self {
         Fault::Memory
+    }
+}
+
+/// Why the words of the command line were not to be had: one that is not text is a wrong argument.
+pub fn args_fault(error: &io::Error) -> Fault
+    ensures { result ≡ args_fault (error_kind error.now) }
+{
+    if error.kind() == io::ErrorKind::OutOfMemory {
+        Fault::Memory
+    } else {
+        Fault::Usage
+    }
+}
+
+/// Why a path was not opened.
+pub fn file_fault(error: &io::Error) -> Fault
+    ensures { result ≡ open_fault (error_kind error.now) }
+{
+    if error.kind() == io::ErrorKind::OutOfMemory {
+        Fault::Memory
+    } else {
+        Fault::File
     }
 }
 
