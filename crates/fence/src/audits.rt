@@ -6,15 +6,14 @@ ghost use Rattle.pr_roles.specs.Scenarios.{scenario_of};
 ghost use Rattle.pr_text.specs.declared.fault.ReadError.{ReadError};
 ghost use Rattle.pr_text.specs.declared.text.TheConstants.{MOST_BYTES};
 ghost use Rattle.pr_text.specs.BytesRead.{LosesUpTo};
-ghost use Rattle.pr_report.specs.Written.{Puts};
 ghost use Rattle.fence.specs.declared.fault.Fault.TheVariants.{Input, Memory};
 ghost use Rattle.fence.specs.Audits.{EndsAudit, Holds, TakesOfTrace};
-ghost use Rattle.fence.specs.Endings.{IsCommand, told_of_end};
+ghost use Rattle.fence.specs.Endings.{IsCommand};
 ghost use Rattle.fence.specs.inside.Audited.{IsAudited};
 
-use crate::ending::{status_of, tell_end};
+use crate::ending::ended;
 use crate::fault::{Fault, Status};
-use pr_report::{Verdict, WriteFault, read_trace, write_verdict};
+use pr_report::{Verdict, read_trace, write_verdict};
 use pr_roles::Scenario;
 use pr_text::read;
 use pr_world::{AuditError, Item, audit};
@@ -37,26 +36,8 @@ pub fn do_audit<R: Read, T: Read, W: Write, E: Write>(
     ensures limited { LosesUpTo (MOST_BYTES + 1) (R.remaining reader.old) (R.remaining reader.new) }
     ensures limited_trace { TakesOfTrace (R.remaining reader.old) (T.remaining trace.old) (T.remaining trace.new) }
 {
-    let (end, _) = audit_and_tell(alloc, reader, trace, writer, errors);
-    status_of(end)
-}
-
-// The audit, and what became of the line that tells its fault.
-fn audit_and_tell<R: Read, T: Read, W: Write, E: Write>(
-    alloc: Global,
-    reader: &mut R,
-    trace: &mut T,
-    writer: &mut W,
-    errors: &mut E,
-) -> (Result<bool, Fault>, Result<(), WriteFault>)
-    ensures ends { EndsAudit (R.remaining reader.old) (T.remaining trace.old) (T.remaining trace.new) (W.contents writer.old) (W.contents writer.new) result.0 }
-    ensures tells { Puts (E.contents errors.old) (E.contents errors.new) (told_of_end result.0) result.1 }
-    ensures limited { LosesUpTo (MOST_BYTES + 1) (R.remaining reader.old) (R.remaining reader.new) }
-    ensures limited_trace { TakesOfTrace (R.remaining reader.old) (T.remaining trace.old) (T.remaining trace.new) }
-{
     let end = audit_texts(alloc, reader, trace, writer);
-    let told = tell_end(errors, &end);
-    (end, told)
+    ended(errors, end)
 }
 
 // Audits, and then writes: whether the history is illegal.

@@ -4,12 +4,12 @@ ghost use Rattle.std.specs.Prelude.{◌≡◌, ◌+◌, IfErr, IfOk};
 ghost use Rattle.pr_text.specs.declared.text.TheConstants.{MOST_BYTES};
 ghost use Rattle.pr_text.specs.BytesRead.{LosesUpTo};
 ghost use Rattle.pr_report.specs.Written.{Puts};
-ghost use Rattle.fence.specs.Endings.{IsCommand, told_of_end};
+ghost use Rattle.fence.specs.Endings.{IsCommand};
 ghost use Rattle.fence.specs.Checks.{EndsCheck};
 ghost use Rattle.fence.specs.declared.fault.Fault.TheVariants.{Memory};
 ghost use Rattle.fence.specs.inside.Judgements.{IsJudged, IsVerified, Stands, judgement_text};
 
-use crate::ending::{status_of, tell_end};
+use crate::ending::ended;
 use crate::fault::{Fault, Status};
 use pr_report::{Verdict, WriteFault, write_verdict};
 use pr_text::read;
@@ -30,24 +30,8 @@ pub fn do_check<R: Read, W: Write, E: Write>(
     ensures command { IsCommand (EndsCheck (R.remaining reader.old) (W.contents writer.old) (W.contents writer.new)) (E.contents errors.old) (E.contents errors.new) result }
     ensures limited { LosesUpTo (MOST_BYTES + 1) (R.remaining reader.old) (R.remaining reader.new) }
 {
-    let (end, _) = check_and_tell(alloc, reader, writer, errors);
-    status_of(end)
-}
-
-// The check, and what became of the line that tells its fault.
-fn check_and_tell<R: Read, W: Write, E: Write>(
-    alloc: Global,
-    reader: &mut R,
-    writer: &mut W,
-    errors: &mut E,
-) -> (Result<bool, Fault>, Result<(), WriteFault>)
-    ensures ends { EndsCheck (R.remaining reader.old) (W.contents writer.old) (W.contents writer.new) result.0 }
-    ensures tells { Puts (E.contents errors.old) (E.contents errors.new) (told_of_end result.0) result.1 }
-    ensures limited { LosesUpTo (MOST_BYTES + 1) (R.remaining reader.old) (R.remaining reader.new) }
-{
     let end = check_text(alloc, reader, writer);
-    let told = tell_end(errors, &end);
-    (end, told)
+    ended(errors, end)
 }
 
 // Judges, and then writes: whether the scenario is refused.

@@ -3,15 +3,13 @@
 ghost use Rattle.std.specs.Prelude.{◌+◌};
 ghost use Rattle.pr_text.specs.declared.text.TheConstants.{MOST_BYTES};
 ghost use Rattle.pr_text.specs.BytesRead.{LosesUpTo};
-ghost use Rattle.pr_report.specs.Written.{Puts};
-ghost use Rattle.fence.specs.Endings.{IsCommand, told_of_end};
+ghost use Rattle.fence.specs.Endings.{IsCommand};
 ghost use Rattle.fence.specs.Explanations.{EndsTold};
 
-use crate::ending::{status_of, tell_end};
+use crate::ending::ended;
 use crate::fault::{Fault, Status};
 use crate::told::read_and_tell;
 use pr_explain::{explanation, lines_of, write_explanation};
-use pr_report::WriteFault;
 use std::alloc::Global;
 use std::io::{Read, Write};
 
@@ -28,24 +26,8 @@ pub fn do_explain<R: Read, W: Write, E: Write>(
     ensures command { IsCommand (EndsTold (R.remaining reader.old)) (E.contents errors.old) (E.contents errors.new) result }
     ensures limited { LosesUpTo (MOST_BYTES + 1) (R.remaining reader.old) (R.remaining reader.new) }
 {
-    let (end, _) = explain_and_tell(alloc, reader, writer, errors);
-    status_of(end)
-}
-
-// The explanation, and what became of the line that tells its fault.
-fn explain_and_tell<R: Read, W: Write, E: Write>(
-    alloc: Global,
-    reader: &mut R,
-    writer: &mut W,
-    errors: &mut E,
-) -> (Result<bool, Fault>, Result<(), WriteFault>)
-    ensures ends { EndsTold (R.remaining reader.old) result.0 }
-    ensures tells { Puts (E.contents errors.old) (E.contents errors.new) (told_of_end result.0) result.1 }
-    ensures limited { LosesUpTo (MOST_BYTES + 1) (R.remaining reader.old) (R.remaining reader.new) }
-{
     let end = explain_text(alloc, reader, writer);
-    let told = tell_end(errors, &end);
-    (end, told)
+    ended(errors, end)
 }
 
 // Reads the text, plans what is said of its scenario, and then writes: whether that is refused. Of a fault of the text the words go

@@ -3,13 +3,12 @@
 ghost use Rattle.std.specs.Prelude.{◌+◌};
 ghost use Rattle.pr_text.specs.declared.text.TheConstants.{MOST_BYTES};
 ghost use Rattle.pr_text.specs.BytesRead.{LosesUpTo};
-ghost use Rattle.pr_report.specs.Written.{Puts};
-ghost use Rattle.fence.specs.Endings.{IsCommand, told_of_end};
+ghost use Rattle.fence.specs.Endings.{IsCommand};
 ghost use Rattle.fence.specs.Outlines.{EndsOutline};
 
-use crate::ending::{status_of, tell_end};
+use crate::ending::ended;
 use crate::fault::{Fault, Status};
-use pr_report::{WriteFault, write_outlines};
+use pr_report::write_outlines;
 use pr_text::read;
 use pr_verify::tables;
 use std::alloc::Global;
@@ -28,24 +27,8 @@ pub fn do_outline<R: Read, W: Write, E: Write>(
     ensures command { IsCommand (EndsOutline (R.remaining reader.old) (W.contents writer.old) (W.contents writer.new)) (E.contents errors.old) (E.contents errors.new) result }
     ensures limited { LosesUpTo (MOST_BYTES + 1) (R.remaining reader.old) (R.remaining reader.new) }
 {
-    let (end, _) = outline_and_tell(alloc, reader, writer, errors);
-    status_of(end)
-}
-
-// The outlines, and what became of the line that tells a fault.
-fn outline_and_tell<R: Read, W: Write, E: Write>(
-    alloc: Global,
-    reader: &mut R,
-    writer: &mut W,
-    errors: &mut E,
-) -> (Result<bool, Fault>, Result<(), WriteFault>)
-    ensures ends { EndsOutline (R.remaining reader.old) (W.contents writer.old) (W.contents writer.new) result.0 }
-    ensures tells { Puts (E.contents errors.old) (E.contents errors.new) (told_of_end result.0) result.1 }
-    ensures limited { LosesUpTo (MOST_BYTES + 1) (R.remaining reader.old) (R.remaining reader.new) }
-{
     let end = outline_text(alloc, reader, writer);
-    let told = tell_end(errors, &end);
-    (end, told)
+    ended(errors, end)
 }
 
 // Infers all outlines, and then writes.

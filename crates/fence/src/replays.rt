@@ -4,16 +4,15 @@ ghost use Rattle.std.specs.Prelude.{◌≡◌, ◌+◌, IsTrue, map};
 ghost use Rattle.std.specs.Io.KnownBytes.{Keeps};
 ghost use Rattle.pr_text.specs.declared.text.TheConstants.{MOST_BYTES};
 ghost use Rattle.pr_text.specs.BytesRead.{LosesUpTo};
-ghost use Rattle.pr_report.specs.Written.{Puts};
-ghost use Rattle.fence.specs.Endings.{IsCommand, told_of_end};
+ghost use Rattle.fence.specs.Endings.{IsCommand};
 ghost use Rattle.fence.specs.Steps.{has_wrong_count};
 ghost use Rattle.fence.specs.Replays.{EndsReplay};
 ghost use Rattle.fence.specs.inside.PlannedReplays.{IsPlanned};
 
-use crate::ending::{status_of, tell_end};
+use crate::ending::ended;
 use crate::fault::{Fault, Status};
 use crate::steps::steps_of;
-use pr_report::{WriteFault, write_trace};
+use pr_report::write_trace;
 use pr_roles::Scenario;
 use pr_text::read;
 use pr_world::{Replayed, replay_as};
@@ -41,26 +40,8 @@ pub fn do_replay<R: Read, W: Write, E: Write>(
     ensures limited { LosesUpTo (MOST_BYTES + 1) (R.remaining reader.old) (R.remaining reader.new) }
     ensures unread { IsTrue (has_wrong_count (map (λ s. s.now) steps.now)) → Keeps (R.remaining reader.old) (R.remaining reader.new) }
 {
-    let (end, _) = replay_and_tell(alloc, steps, reader, writer, errors);
-    status_of(end)
-}
-
-// The replay, and what became of the line that tells its fault.
-fn replay_and_tell<R: Read, W: Write, E: Write>(
-    alloc: Global,
-    steps: &[&str],
-    reader: &mut R,
-    writer: &mut W,
-    errors: &mut E,
-) -> (Result<bool, Fault>, Result<(), WriteFault>)
-    ensures ends { EndsReplay (map (λ s. s.now) steps.now) (R.remaining reader.old) (W.contents writer.old) (W.contents writer.new) result.0 }
-    ensures tells { Puts (E.contents errors.old) (E.contents errors.new) (told_of_end result.0) result.1 }
-    ensures limited { LosesUpTo (MOST_BYTES + 1) (R.remaining reader.old) (R.remaining reader.new) }
-    ensures unread { IsTrue (has_wrong_count (map (λ s. s.now) steps.now)) → Keeps (R.remaining reader.old) (R.remaining reader.new) }
-{
     let end = replay_text(alloc, steps, reader, writer);
-    let told = tell_end(errors, &end);
-    (end, told)
+    ended(errors, end)
 }
 
 // Plans, and then writes: whether a host is trapped.

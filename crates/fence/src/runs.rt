@@ -11,13 +11,13 @@ ghost use Rattle.pr_shared.specs.Outcomes.{IsOutcome};
 ghost use Rattle.pr_shared.specs.RunAnswers.{IfSpawn};
 ghost use Rattle.pr_report.specs.TraceText.{name_of, names_of};
 ghost use Rattle.pr_report.specs.Written.{Puts};
-ghost use Rattle.fence.specs.Endings.{IsCommand, told_of_end};
+ghost use Rattle.fence.specs.Endings.{IsCommand};
 ghost use Rattle.fence.specs.Runs.{EndsRun, outcome_text};
 ghost use Rattle.fence.specs.inside.Judgements.{IsJudged};
 ghost use Rattle.fence.specs.inside.Performances.{IsFaultFor, IsPerformed, IsRunFault, Stands, performed_text};
 
 use crate::checks::settled;
-use crate::ending::{status_of, tell_end};
+use crate::ending::ended;
 use crate::fault::{Fault, Status};
 use arrayvec::ArrayVec;
 use pr_cdb::codes::MOST_NEXUSES;
@@ -48,25 +48,8 @@ pub fn do_run<T: Threads + Wait + Sync, R: Read, W: Write, E: Write>(
     ensures command { IsCommand (EndsRun (R.remaining reader.old) (W.contents writer.old) (W.contents writer.new)) (E.contents errors.old) (E.contents errors.new) result }
     ensures limited { LosesUpTo (MOST_BYTES + 1) (R.remaining reader.old) (R.remaining reader.new) }
 {
-    let (end, _) = run_and_tell(rt, alloc, reader, writer, errors);
-    status_of(end)
-}
-
-// The run, and what became of the line that tells its fault.
-fn run_and_tell<T: Threads + Wait + Sync, R: Read, W: Write, E: Write>(
-    rt: &T,
-    alloc: Global,
-    reader: &mut R,
-    writer: &mut W,
-    errors: &mut E,
-) -> (Result<bool, Fault>, Result<(), WriteFault>)
-    ensures ends { EndsRun (R.remaining reader.old) (W.contents writer.old) (W.contents writer.new) result.0 }
-    ensures tells { Puts (E.contents errors.old) (E.contents errors.new) (told_of_end result.0) result.1 }
-    ensures limited { LosesUpTo (MOST_BYTES + 1) (R.remaining reader.old) (R.remaining reader.new) }
-{
     let end = run_text(rt, alloc, reader, writer);
-    let told = tell_end(errors, &end);
-    (end, told)
+    ended(errors, end)
 }
 
 // Runs, and then writes: whether the scenario is refused.

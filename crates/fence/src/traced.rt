@@ -3,16 +3,14 @@
 ghost use Rattle.std.specs.Prelude.{◌+◌};
 ghost use Rattle.pr_text.specs.declared.text.TheConstants.{MOST_BYTES};
 ghost use Rattle.pr_text.specs.BytesRead.{LosesUpTo};
-ghost use Rattle.pr_report.specs.Written.{Puts};
 ghost use Rattle.fence.specs.Audits.{TakesOfTrace};
-ghost use Rattle.fence.specs.Endings.{IsCommand, told_of_end};
+ghost use Rattle.fence.specs.Endings.{IsCommand};
 ghost use Rattle.fence.specs.Explanations.{EndsTraceTold};
 ghost use Rattle.fence.specs.inside.Traced.{IsTraced};
 
-use crate::ending::{status_of, tell_end};
+use crate::ending::ended;
 use crate::fault::{Fault, Status};
 use crate::told::{read_and_tell, read_trace_and_tell};
-use pr_report::WriteFault;
 use pr_roles::Scenario;
 use pr_words::{Telling, telling_of, write_telling};
 use pr_world::Item;
@@ -35,26 +33,8 @@ pub fn do_explain_trace<R: Read, T: Read, W: Write, E: Write>(
     ensures limited { LosesUpTo (MOST_BYTES + 1) (R.remaining reader.old) (R.remaining reader.new) }
     ensures limited_trace { TakesOfTrace (R.remaining reader.old) (T.remaining trace.old) (T.remaining trace.new) }
 {
-    let (end, _) = explain_and_tell(alloc, reader, trace, writer, errors);
-    status_of(end)
-}
-
-// The explanation, and what became of the line that tells its fault.
-fn explain_and_tell<R: Read, T: Read, W: Write, E: Write>(
-    alloc: Global,
-    reader: &mut R,
-    trace: &mut T,
-    writer: &mut W,
-    errors: &mut E,
-) -> (Result<bool, Fault>, Result<(), WriteFault>)
-    ensures ends { EndsTraceTold (R.remaining reader.old) (T.remaining trace.old) result.0 }
-    ensures tells { Puts (E.contents errors.old) (E.contents errors.new) (told_of_end result.0) result.1 }
-    ensures limited { LosesUpTo (MOST_BYTES + 1) (R.remaining reader.old) (R.remaining reader.new) }
-    ensures limited_trace { TakesOfTrace (R.remaining reader.old) (T.remaining trace.old) (T.remaining trace.new) }
-{
     let end = explain_texts(alloc, reader, trace, writer);
-    let told = tell_end(errors, &end);
-    (end, told)
+    ended(errors, end)
 }
 
 // Plans what is told, and then writes it: whether the history is illegal.

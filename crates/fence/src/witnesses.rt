@@ -8,12 +8,12 @@ ghost use Rattle.pr_text.specs.BytesRead.{LosesUpTo};
 ghost use Rattle.pr_report.specs.PrintedLines.{line};
 ghost use Rattle.pr_report.specs.TraceText.{names_in};
 ghost use Rattle.pr_report.specs.Written.{Puts};
-ghost use Rattle.fence.specs.Endings.{IsCommand, told_of_end};
+ghost use Rattle.fence.specs.Endings.{IsCommand};
 ghost use Rattle.fence.specs.Witnesses.{EndsWitness, answer_text, bound_words, is_breach, search_text};
 ghost use Rattle.fence.specs.inside.Witnessed.{IsWitnessed, Stands, answer_in, scenario_in};
 
 use crate::checks::settled;
-use crate::ending::{status_of, tell_end};
+use crate::ending::ended;
 use crate::fault::{Fault, Status};
 use pr_report::{Verdict, Word, WriteFault, put_line, write_verdict};
 use pr_roles::Scenario;
@@ -44,24 +44,8 @@ pub fn do_witness<R: Read, W: Write, E: Write>(
     ensures command { IsCommand (EndsWitness (R.remaining reader.old) (W.contents writer.old) (W.contents writer.new)) (E.contents errors.old) (E.contents errors.new) result }
     ensures limited { LosesUpTo (MOST_BYTES + 1) (R.remaining reader.old) (R.remaining reader.new) }
 {
-    let (end, _) = witness_and_tell(alloc, reader, writer, errors);
-    status_of(end)
-}
-
-// The witness, and what became of the line that tells a fault.
-fn witness_and_tell<R: Read, W: Write, E: Write>(
-    alloc: Global,
-    reader: &mut R,
-    writer: &mut W,
-    errors: &mut E,
-) -> (Result<bool, Fault>, Result<(), WriteFault>)
-    ensures ends { EndsWitness (R.remaining reader.old) (W.contents writer.old) (W.contents writer.new) result.0 }
-    ensures tells { Puts (E.contents errors.old) (E.contents errors.new) (told_of_end result.0) result.1 }
-    ensures limited { LosesUpTo (MOST_BYTES + 1) (R.remaining reader.old) (R.remaining reader.new) }
-{
     let end = witness_text(alloc, reader, writer);
-    let told = tell_end(errors, &end);
-    (end, told)
+    ended(errors, end)
 }
 
 // Searches, and then writes: whether a breach was found.
