@@ -32,9 +32,12 @@ pub fn do_audit<R: Read, T: Read, W: Write, E: Write>(
     writer: &mut W,
     errors: &mut E,
 ) -> Status
-    ensures command { IsCommand (EndsAudit (R.remaining reader.old) (T.remaining trace.old) (T.remaining trace.new) (W.contents writer.old) (W.contents writer.new)) (E.contents errors.old) (E.contents errors.new) result }
+    ensures command { IsCommand (EndsAudit (R.remaining reader.old) (T.remaining trace.old)
+        (T.remaining trace.new) (W.contents writer.old) (W.contents writer.new))
+        (E.contents errors.old) (E.contents errors.new) result }
     ensures limited { LosesUpTo (MOST_BYTES + 1) (R.remaining reader.old) (R.remaining reader.new) }
-    ensures limited_trace { TakesOfTrace (R.remaining reader.old) (T.remaining trace.old) (T.remaining trace.new) }
+    ensures limited_trace { TakesOfTrace (R.remaining reader.old) (T.remaining trace.old)
+        (T.remaining trace.new) }
 {
     let end = audit_texts(alloc, reader, trace, writer);
     ended(errors, end)
@@ -47,9 +50,11 @@ fn audit_texts<R: Read, T: Read, W: Write>(
     trace: &mut T,
     writer: &mut W,
 ) -> Result<bool, Fault>
-    ensures ends { EndsAudit (R.remaining reader.old) (T.remaining trace.old) (T.remaining trace.new) (W.contents writer.old) (W.contents writer.new) result }
+    ensures ends { EndsAudit (R.remaining reader.old) (T.remaining trace.old)
+        (T.remaining trace.new) (W.contents writer.old) (W.contents writer.new) result }
     ensures limited { LosesUpTo (MOST_BYTES + 1) (R.remaining reader.old) (R.remaining reader.new) }
-    ensures limited_trace { TakesOfTrace (R.remaining reader.old) (T.remaining trace.old) (T.remaining trace.new) }
+    ensures limited_trace { TakesOfTrace (R.remaining reader.old) (T.remaining trace.old)
+        (T.remaining trace.new) }
 {
     let audited = examine(alloc, reader, trace)?;
     write_verdict(writer, &audited.scenario, &audited.verdict)?;
@@ -67,9 +72,11 @@ struct Audited {
 #[tactic(auto, using(crate::proofs::Taking::untaken, crate::proofs::Taking::taken_by))]
 fn examine<R: Read, T: Read>(alloc: Global, reader: &mut R, trace: &mut T) -> Result<Audited, Fault>
     ensures audited { IsAudited (R.remaining reader.old) (T.remaining trace.old) result }
-    ensures unread { (e : ReadError) → result ≡ Err (Input e) → Keeps (T.remaining trace.old) (T.remaining trace.new) }
+    ensures unread { (e : ReadError) → result ≡ Err (Input e)
+        → Keeps (T.remaining trace.old) (T.remaining trace.new) }
     ensures limited { LosesUpTo (MOST_BYTES + 1) (R.remaining reader.old) (R.remaining reader.new) }
-    ensures limited_trace { TakesOfTrace (R.remaining reader.old) (T.remaining trace.old) (T.remaining trace.new) }
+    ensures limited_trace { TakesOfTrace (R.remaining reader.old) (T.remaining trace.old)
+        (T.remaining trace.new) }
 {
     let scenario = read(alloc, reader)?;
     let history = read_trace(alloc, &scenario, trace)?;

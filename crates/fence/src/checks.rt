@@ -27,7 +27,8 @@ pub fn do_check<R: Read, W: Write, E: Write>(
     writer: &mut W,
     errors: &mut E,
 ) -> Status
-    ensures command { IsCommand (EndsCheck (R.remaining reader.old) (W.contents writer.old) (W.contents writer.new)) (E.contents errors.old) (E.contents errors.new) result }
+    ensures command { IsCommand (EndsCheck (R.remaining reader.old) (W.contents writer.old)
+        (W.contents writer.new)) (E.contents errors.old) (E.contents errors.new) result }
     ensures limited { LosesUpTo (MOST_BYTES + 1) (R.remaining reader.old) (R.remaining reader.new) }
 {
     let end = check_text(alloc, reader, writer);
@@ -40,7 +41,8 @@ fn check_text<R: Read, W: Write>(
     reader: &mut R,
     writer: &mut W,
 ) -> Result<bool, Fault>
-    ensures ends { EndsCheck (R.remaining reader.old) (W.contents writer.old) (W.contents writer.new) result }
+    ensures ends { EndsCheck (R.remaining reader.old) (W.contents writer.old)
+        (W.contents writer.new) result }
     ensures limited { LosesUpTo (MOST_BYTES + 1) (R.remaining reader.old) (R.remaining reader.new) }
 {
     let judgement = judge(alloc, reader)?;
@@ -84,7 +86,8 @@ fn put_judgement<W: Write>(
     judgement: &Result<Verified, Refused>,
 ) -> Result<(), WriteFault>
     requires { Stands judgement.now }
-    ensures { Puts (W.contents writer.old) (W.contents writer.new) (judgement_text judgement.now) result }
+    ensures { Puts (W.contents writer.old) (W.contents writer.new) (judgement_text judgement.now)
+        result }
 {
     match judgement {
         Ok(verified) => write_verdict(writer, verified.scenario(), &Verdict::Accepted),

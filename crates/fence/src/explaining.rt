@@ -23,7 +23,8 @@ pub fn do_explain<R: Read, W: Write, E: Write>(
     writer: &mut W,
     errors: &mut E,
 ) -> Status
-    ensures command { IsCommand (EndsTold (R.remaining reader.old)) (E.contents errors.old) (E.contents errors.new) result }
+    ensures command { IsCommand (EndsTold (R.remaining reader.old)) (E.contents errors.old)
+        (E.contents errors.new) result }
     ensures limited { LosesUpTo (MOST_BYTES + 1) (R.remaining reader.old) (R.remaining reader.new) }
 {
     let end = explain_text(alloc, reader, writer);

@@ -256,7 +256,8 @@ fn trace_row(error: TraceError) -> FaultRow
 // The line for a fault of this text, which is the input or the trace.
 #[tactic(auto, unfolding(pr_report::specs::Printed::printed_word))]
 fn put_row<W: Write>(errors: &mut W, text: &[u8], row: FaultRow) -> Result<(), WriteFault>
-    ensures { Puts (W.contents errors.old) (W.contents errors.new) (told_line (row_words text.now row)) result }
+    ensures { Puts (W.contents errors.old) (W.contents errors.new)
+        (told_line (row_words text.now row)) result }
 {
     let text = Word::Text(text);
     match row {
@@ -310,7 +311,8 @@ fn which_word(which: Which) -> &'static [u8]
 // The line with these words after the program's name.
 #[tactic(auto, unfolding(pr_report::specs::Printed::printed_word))]
 fn put_told<W: Write>(errors: &mut W, words: &[Word<'_>]) -> Result<(), WriteFault>
-    ensures { Puts (W.contents errors.old) (W.contents errors.new) (told_line (map printed_word words.now)) result }
+    ensures { Puts (W.contents errors.old) (W.contents errors.new)
+        (told_line (map printed_word words.now)) result }
 {
     put_line(errors, Word::Text(b"fence:"), words)
 }

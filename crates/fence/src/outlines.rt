@@ -24,7 +24,8 @@ pub fn do_outline<R: Read, W: Write, E: Write>(
     writer: &mut W,
     errors: &mut E,
 ) -> Status
-    ensures command { IsCommand (EndsOutline (R.remaining reader.old) (W.contents writer.old) (W.contents writer.new)) (E.contents errors.old) (E.contents errors.new) result }
+    ensures command { IsCommand (EndsOutline (R.remaining reader.old) (W.contents writer.old)
+        (W.contents writer.new)) (E.contents errors.old) (E.contents errors.new) result }
     ensures limited { LosesUpTo (MOST_BYTES + 1) (R.remaining reader.old) (R.remaining reader.new) }
 {
     let end = outline_text(alloc, reader, writer);
@@ -37,7 +38,8 @@ fn outline_text<R: Read, W: Write>(
     reader: &mut R,
     writer: &mut W,
 ) -> Result<bool, Fault>
-    ensures ends { EndsOutline (R.remaining reader.old) (W.contents writer.old) (W.contents writer.new) result }
+    ensures ends { EndsOutline (R.remaining reader.old) (W.contents writer.old)
+        (W.contents writer.new) result }
     ensures limited { LosesUpTo (MOST_BYTES + 1) (R.remaining reader.old) (R.remaining reader.new) }
 {
     let scenario = read(alloc, reader)?;

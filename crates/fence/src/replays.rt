@@ -36,9 +36,12 @@ pub fn do_replay<R: Read, W: Write, E: Write>(
     writer: &mut W,
     errors: &mut E,
 ) -> Status
-    ensures command { IsCommand (EndsReplay (map (λ s. s.now) steps.now) (R.remaining reader.old) (W.contents writer.old) (W.contents writer.new)) (E.contents errors.old) (E.contents errors.new) result }
+    ensures command { IsCommand (EndsReplay (map (λ s. s.now) steps.now) (R.remaining reader.old)
+        (W.contents writer.old) (W.contents writer.new)) (E.contents errors.old)
+        (E.contents errors.new) result }
     ensures limited { LosesUpTo (MOST_BYTES + 1) (R.remaining reader.old) (R.remaining reader.new) }
-    ensures unread { IsTrue (has_wrong_count (map (λ s. s.now) steps.now)) → Keeps (R.remaining reader.old) (R.remaining reader.new) }
+    ensures unread { IsTrue (has_wrong_count (map (λ s. s.now) steps.now))
+        → Keeps (R.remaining reader.old) (R.remaining reader.new) }
 {
     let end = replay_text(alloc, steps, reader, writer);
     ended(errors, end)
@@ -51,9 +54,11 @@ fn replay_text<R: Read, W: Write>(
     reader: &mut R,
     writer: &mut W,
 ) -> Result<bool, Fault>
-    ensures ends { EndsReplay (map (λ s. s.now) steps.now) (R.remaining reader.old) (W.contents writer.old) (W.contents writer.new) result }
+    ensures ends { EndsReplay (map (λ s. s.now) steps.now) (R.remaining reader.old)
+        (W.contents writer.old) (W.contents writer.new) result }
     ensures limited { LosesUpTo (MOST_BYTES + 1) (R.remaining reader.old) (R.remaining reader.new) }
-    ensures unread { IsTrue (has_wrong_count (map (λ s. s.now) steps.now)) → Keeps (R.remaining reader.old) (R.remaining reader.new) }
+    ensures unread { IsTrue (has_wrong_count (map (λ s. s.now) steps.now))
+        → Keeps (R.remaining reader.old) (R.remaining reader.new) }
 {
     let plan = plan(alloc, steps, reader)?;
     write_trace(
@@ -78,7 +83,8 @@ struct Planned {
 fn plan<R: Read>(alloc: Global, steps: &[&str], reader: &mut R) -> Result<Planned, Fault>
     ensures planned { IsPlanned (map (λ s. s.now) steps.now) (R.remaining reader.old) result }
     ensures limited { LosesUpTo (MOST_BYTES + 1) (R.remaining reader.old) (R.remaining reader.new) }
-    ensures unread { IsTrue (has_wrong_count (map (λ s. s.now) steps.now)) → Keeps (R.remaining reader.old) (R.remaining reader.new) }
+    ensures unread { IsTrue (has_wrong_count (map (λ s. s.now) steps.now))
+        → Keeps (R.remaining reader.old) (R.remaining reader.new) }
 {
     if has_wrong_count(steps) {
         return Err(Fault::Usage);

@@ -45,7 +45,8 @@ pub fn do_run<T: Threads + Wait + Sync, R: Read, W: Write, E: Write>(
     writer: &mut W,
     errors: &mut E,
 ) -> Status
-    ensures command { IsCommand (EndsRun (R.remaining reader.old) (W.contents writer.old) (W.contents writer.new)) (E.contents errors.old) (E.contents errors.new) result }
+    ensures command { IsCommand (EndsRun (R.remaining reader.old) (W.contents writer.old)
+        (W.contents writer.new)) (E.contents errors.old) (E.contents errors.new) result }
     ensures limited { LosesUpTo (MOST_BYTES + 1) (R.remaining reader.old) (R.remaining reader.new) }
 {
     let end = run_text(rt, alloc, reader, writer);
@@ -59,7 +60,8 @@ fn run_text<T: Threads + Wait + Sync, R: Read, W: Write>(
     reader: &mut R,
     writer: &mut W,
 ) -> Result<bool, Fault>
-    ensures ends { EndsRun (R.remaining reader.old) (W.contents writer.old) (W.contents writer.new) result }
+    ensures ends { EndsRun (R.remaining reader.old) (W.contents writer.old) (W.contents writer.new)
+        result }
     ensures limited { LosesUpTo (MOST_BYTES + 1) (R.remaining reader.old) (R.remaining reader.new) }
 {
     let performed = perform(rt, alloc, reader)?;
@@ -124,7 +126,8 @@ fn run_verified<T: Threads + Wait + Sync>(
 }
 
 fn fault_for(scenario: &Scenario, error: &RunError) -> Fault
-    requires { IfSpawn (λ host history. host < length (scenario_of scenario.now).nexuses) error.now }
+    requires { IfSpawn (λ host history. host < length (scenario_of scenario.now).nexuses)
+        error.now }
     ensures exact { IsFaultFor (scenario_of scenario.now) error.now result }
     ensures known { IsRunFault (scenario_of scenario.now) result }
 {
@@ -149,7 +152,8 @@ fn put_performed<W: Write>(
     performed: &Result<Ran, Refused>,
 ) -> Result<(), WriteFault>
     requires { Stands performed.now }
-    ensures { Puts (W.contents writer.old) (W.contents writer.new) (performed_text performed.now) result }
+    ensures { Puts (W.contents writer.old) (W.contents writer.new) (performed_text performed.now)
+        result }
 {
     match performed {
         Ok(ran) => put_outcome(writer, &ran.scenario, &ran.outcome),
@@ -168,7 +172,8 @@ fn put_outcome<W: Write>(
 ) -> Result<(), WriteFault>
     requires safe { IsSafe (scenario_of scenario.now) }
     requires comes { IsOutcome (scenario_of scenario.now) outcome.now }
-    ensures { Puts (W.contents writer.old) (W.contents writer.new) (outcome_text (scenario_of scenario.now) outcome.now) result }
+    ensures { Puts (W.contents writer.old) (W.contents writer.new)
+        (outcome_text (scenario_of scenario.now) outcome.now) result }
 {
     let counts = counts_of(&outcome.history, scenario.parts().nexuses.len());
     write_trace(

@@ -20,8 +20,10 @@ pub fn steps_of(
     nexuses: &[Nexus],
 ) -> Result<Option<Vec<Step>>, AllocError>
     requires { length nexuses.now ≤ MOST_NEXUSES }
-    ensures named { IfOk result (λ found. option_map (λ steps. steps.items) found ≡ steps_of version (names_of nexuses.now) (map (λ w. w.now) words.now)) }
-    ensures there { IfOk result (λ found. IfSome found (λ steps. All (IsThere (length nexuses.now)) steps.items)) }
+    ensures named { IfOk result (λ found. option_map (λ steps. steps.items) found
+        ≡ steps_of version (names_of nexuses.now) (map (λ w. w.now) words.now)) }
+    ensures there { IfOk result (λ found. IfSome found
+        (λ steps. All (IsThere (length nexuses.now)) steps.items)) }
 {
     let mut steps = Vec::with_capacity(alloc, words.len())?;
     for word in words {

@@ -25,7 +25,8 @@ pub fn read_and_tell<R: Read, W: Write>(
     writer: &mut W,
 ) -> (Vec<u8>, Result<Scenario, ReadError>)
     ensures read { IfSome (R.remaining reader.old) (λ text. IsRead text result.1) }
-    ensures limited { text.LosesUpTo (MOST_BYTES + 1) (R.remaining reader.old) (R.remaining reader.new) }
+    ensures limited { text.LosesUpTo (MOST_BYTES + 1) (R.remaining reader.old)
+        (R.remaining reader.new) }
 {
     let (text, scenario) = read_with_text(alloc, reader);
     if let Err(error) = &scenario {
@@ -41,9 +42,14 @@ pub fn read_trace_and_tell<R: Read, W: Write>(
     reader: &mut R,
     writer: &mut W,
 ) -> Result<Vec<Item>, TraceError>
-    ensures read { IfSome (R.remaining reader.old) (λ text. IfOk result (λ history. trace_of (scenario_of scenario.now).version (names_in (scenario_of scenario.now)) text ≡ Ok history.items)) }
-    ensures fault { IfSome (R.remaining reader.old) (λ text. IfErr result (λ e. Faults e (trace_of (scenario_of scenario.now).version (names_in (scenario_of scenario.now)) text))) }
-    ensures limited { LosesUpTo (most_of_trace (scenario_of scenario.now).version) (R.remaining reader.old) (R.remaining reader.new) }
+    ensures read { IfSome (R.remaining reader.old)
+        (λ text. IfOk result (λ history. trace_of (scenario_of scenario.now).version
+        (names_in (scenario_of scenario.now)) text ≡ Ok history.items)) }
+    ensures fault { IfSome (R.remaining reader.old)
+        (λ text. IfErr result (λ e. Faults e
+        (trace_of (scenario_of scenario.now).version (names_in (scenario_of scenario.now)) text))) }
+    ensures limited { LosesUpTo (most_of_trace (scenario_of scenario.now).version)
+        (R.remaining reader.old) (R.remaining reader.new) }
 {
     let history = read_trace(alloc, scenario, reader);
     if let Err(error) = &history {

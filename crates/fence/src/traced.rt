@@ -29,9 +29,11 @@ pub fn do_explain_trace<R: Read, T: Read, W: Write, E: Write>(
     writer: &mut W,
     errors: &mut E,
 ) -> Status
-    ensures command { IsCommand (EndsTraceTold (R.remaining reader.old) (T.remaining trace.old)) (E.contents errors.old) (E.contents errors.new) result }
+    ensures command { IsCommand (EndsTraceTold (R.remaining reader.old) (T.remaining trace.old))
+        (E.contents errors.old) (E.contents errors.new) result }
     ensures limited { LosesUpTo (MOST_BYTES + 1) (R.remaining reader.old) (R.remaining reader.new) }
-    ensures limited_trace { TakesOfTrace (R.remaining reader.old) (T.remaining trace.old) (T.remaining trace.new) }
+    ensures limited_trace { TakesOfTrace (R.remaining reader.old) (T.remaining trace.old)
+        (T.remaining trace.new) }
 {
     let end = explain_texts(alloc, reader, trace, writer);
     ended(errors, end)
@@ -46,7 +48,8 @@ fn explain_texts<R: Read, T: Read, W: Write>(
 ) -> Result<bool, Fault>
     ensures ends { EndsTraceTold (R.remaining reader.old) (T.remaining trace.old) result }
     ensures limited { LosesUpTo (MOST_BYTES + 1) (R.remaining reader.old) (R.remaining reader.new) }
-    ensures limited_trace { TakesOfTrace (R.remaining reader.old) (T.remaining trace.old) (T.remaining trace.new) }
+    ensures limited_trace { TakesOfTrace (R.remaining reader.old) (T.remaining trace.old)
+        (T.remaining trace.new) }
 {
     let traced = plan(alloc, reader, trace, writer)?;
     write_telling(writer, &traced.scenario, &traced.history, &traced.telling)?;
@@ -71,7 +74,8 @@ fn plan<R: Read, T: Read, W: Write>(
 ) -> Result<Traced, Fault>
     ensures traced { IsTraced (R.remaining reader.old) (T.remaining trace.old) result }
     ensures limited { LosesUpTo (MOST_BYTES + 1) (R.remaining reader.old) (R.remaining reader.new) }
-    ensures limited_trace { TakesOfTrace (R.remaining reader.old) (T.remaining trace.old) (T.remaining trace.new) }
+    ensures limited_trace { TakesOfTrace (R.remaining reader.old) (T.remaining trace.old)
+        (T.remaining trace.new) }
 {
     let (_, scenario) = read_and_tell(alloc, reader, writer);
     let scenario = scenario?;

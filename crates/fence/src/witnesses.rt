@@ -41,7 +41,8 @@ pub fn do_witness<R: Read, W: Write, E: Write>(
     writer: &mut W,
     errors: &mut E,
 ) -> Status
-    ensures command { IsCommand (EndsWitness (R.remaining reader.old) (W.contents writer.old) (W.contents writer.new)) (E.contents errors.old) (E.contents errors.new) result }
+    ensures command { IsCommand (EndsWitness (R.remaining reader.old) (W.contents writer.old)
+        (W.contents writer.new)) (E.contents errors.old) (E.contents errors.new) result }
     ensures limited { LosesUpTo (MOST_BYTES + 1) (R.remaining reader.old) (R.remaining reader.new) }
 {
     let end = witness_text(alloc, reader, writer);
@@ -54,7 +55,8 @@ fn witness_text<R: Read, W: Write>(
     reader: &mut R,
     writer: &mut W,
 ) -> Result<bool, Fault>
-    ensures ends { EndsWitness (R.remaining reader.old) (W.contents writer.old) (W.contents writer.new) result }
+    ensures ends { EndsWitness (R.remaining reader.old) (W.contents writer.old)
+        (W.contents writer.new) result }
     ensures limited { LosesUpTo (MOST_BYTES + 1) (R.remaining reader.old) (R.remaining reader.new) }
 {
     let witnessed = witness(alloc, reader)?;
@@ -90,7 +92,9 @@ fn is_breach(witnessed: &Witnessed) -> bool
 }
 
 fn put_witnessed<W: Write>(writer: &mut W, witnessed: &Witnessed) -> Result<(), WriteFault>
-    ensures { Puts (W.contents writer.old) (W.contents writer.new) (answer_text (names_in (scenario_of (scenario_in witnessed.now))) (answer_in witnessed.now)) result }
+    ensures { Puts (W.contents writer.old) (W.contents writer.new)
+        (answer_text (names_in (scenario_of (scenario_in witnessed.now))) (answer_in witnessed.now))
+        result }
 {
     match witnessed {
         Witnessed::Accepted(verified) => {
@@ -105,7 +109,8 @@ fn put_search<W: Write>(
     scenario: &Scenario,
     search: &Finding,
 ) -> Result<(), WriteFault>
-    ensures { Puts (W.contents writer.old) (W.contents writer.new) (search_text (names_in (scenario_of scenario.now)) search.now) result }
+    ensures { Puts (W.contents writer.old) (W.contents writer.new)
+        (search_text (names_in (scenario_of scenario.now)) search.now) result }
 {
     match search {
         Finding::Found { breach, is_told } => write_witness(writer, scenario, breach, *is_told),
@@ -116,7 +121,8 @@ fn put_search<W: Write>(
 // That nothing was found among so many worlds, and the bound that was met.
 #[tactic(auto, unfolding(pr_report::specs::Printed::printed_word))]
 fn put_none<W: Write>(writer: &mut W, worlds: usize, bound: Option<Bound>) -> Result<(), WriteFault>
-    ensures { Puts (W.contents writer.old) (W.contents writer.new) (line (codes "none") (decimal worlds ∷ bound_words bound)) result }
+    ensures { Puts (W.contents writer.old) (W.contents writer.new)
+        (line (codes "none") (decimal worlds ∷ bound_words bound)) result }
 {
     let first = Word::Text(b"none");
     let worlds = Word::Number(worlds as u64);
