@@ -1,6 +1,6 @@
 -- Agrees with docs/MODEL.md, 'Starts'.
 -- The first of the states that a scenario may start from: a replay begins there.
-use Rattle.std.specs.Prelude.{ℕ, if◌then◌else◌, List, ◌∷◌, Option, Some, None, is_some, option_map, option_and_then, map, position, slice_set}
+use Rattle.std.specs.Prelude.{ℕ, if◌then◌else◌, List, [], ◌∷◌, Option, Some, None, is_some, option_map, option_and_then, map, position, slice_set}
 use Rattle.std.specs.List.{slice_get, list_any}
 use Rattle.std.specs.Option.{option_or}
 use Rattle.pr_registry.specs.declared.held.Held.{Held}
