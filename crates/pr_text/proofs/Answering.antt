@@ -1,23 +1,12 @@
 -- What a text answers, from what its lines declare.
-use Rattle.std.specs.Prelude.{◌≡◌, ℕ, ◌<◌, ◌≤◌, ◌^◌, true, false, nat_lt, List, length, map, Option, Some, None, is_some, Result, Ok, Err, IfOk, IfErr}
-use Rattle.std.specs.Str.Lines.{lines}
-use Rattle.std.proofs.Common.{refl, sym, ap, ◌∙◌, arith}
-use Rattle.std.proofs.lemmas.Bool.Decides.{nat_tests}
+use Rattle.pr_text.proofs.Common.{◌≡◌, ℕ, ◌^◌, ◌<◌, ◌≤◌, true, false, List, map, length, is_some, IfOk, IfErr, nat_lt, Some, None, Ok, Err, Option, Result, sym, refl, ap, ◌∙◌, arith, lines, nat_tests, Held, Fits, Scenario, first_under, Declared, nothing, and_then, Fails, nexus_written, nexus_declared, IsDeclaredBy, IsWrittenAs, all_placed, start_of, starts_somewhere, end_placed, answer_of, ReadError, missing_fault}
 use Rattle.std.proofs.lemmas.Simd.{map-map}
-use Rattle.pr_registry.specs.declared.held.Held.{Held}
-use Rattle.pr_roles.specs.Scenarios.{Scenario}
-use Rattle.pr_roles.specs.Fitting.{Fits}
 use Rattle.pr_roles.specs.Starts.{CanStart}
-use Rattle.pr_roles.specs.FirstStarts.{starts, first_under}
+use Rattle.pr_roles.specs.FirstStarts.{starts}
 use Rattle.pr_roles.proofs.Allowed.{start_found, first_allowed}
-use Rattle.pr_text.specs.declared.fault.ReadError.{ReadError}
 use Rattle.pr_text.specs.declared.fault.ReadError.TheVariants.{TooLarge, EmptyStart}
-use Rattle.pr_text.specs.Faults.{and_then, Fails}
-use Rattle.pr_text.specs.Declarations.{Declared, nothing}
-use Rattle.pr_text.specs.Texts.{all_placed, end_placed, answer_of_lines, answer_of, start_of, reservations_of, starts_somewhere}
-use Rattle.pr_text.specs.Reading.{nexus_written, nexus_declared, IsDeclaredBy, IsWrittenAs}
+use Rattle.pr_text.specs.Texts.{answer_of_lines, reservations_of}
 use Rattle.pr_text.specs.ScenarioRoundTrip.{IsWhole}
-use Rattle.pr_text.specs.inside.Endings.{missing_fault}
 use Rattle.pr_text.specs.inside.Steps.{AreRead}
 use Rattle.pr_text.proofs.Endings.{ended_in_turn}
 use Rattle.pr_text.proofs.Steps.{fails_same, fails_first}

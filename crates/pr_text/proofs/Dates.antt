@@ -1,18 +1,8 @@
 -- A version has the lines of a script where it has its arms.
-use Rattle.std.specs.Prelude.{◌≡◌, ℕ, true, false, ◌&&◌, nat_lt, nat_le, [], ◌∷◌}
-use Rattle.std.specs.List.{list_all}
-use Rattle.std.proofs.Common.{refl, sym, ap, ◌∙◌, arith}
-use Rattle.std.proofs.lemmas.List.Folds.{list_all-append}
-use Rattle.std.proofs.lemmas.Bool.Decides.{nat_tests}
+use Rattle.pr_text.proofs.Common.{◌≡◌, ℕ, true, false, ◌&&◌, [], ◌∷◌, nat_lt, nat_le, sym, refl, ap, ◌∙◌, arith, list_all, nat_tests, list_all-append, Stmt, Stmts, Arms, sends, repeats, none, more, no_arm, arm, is_version, is_count, are_resets, states, since, ScriptLine, arm_on, block_done, statement_lines, body_lines, arms_lines, is_line_of}
 use Rattle.std.proofs.Math.Bool.{and_assoc, and-true}
-use Rattle.pr_script.specs.Scripts.{Stmt, Stmts, Arms, sends, repeats, none, more, no_arm, arm}
 use Rattle.pr_script.specs.Versions.{since as test_since, is_statement_of, is_script_of, are_arms_of}
-use Rattle.pr_roles.specs.Fitting.{is_version, is_count, are_resets}
-use Rattle.pr_lines.specs.ScenarioLines.{states}
-use Rattle.pr_lines.specs.Versions.{since}
-use Rattle.pr_text.specs.ScriptLines.{ScriptLine, arm_on, block_done, statement_lines, body_lines, arms_lines}
 use Rattle.pr_text.specs.ScriptRoundTrip.{said_by}
-use Rattle.pr_text.specs.inside.Sound.{is_line_of}
 
 -- ---- numbers
 

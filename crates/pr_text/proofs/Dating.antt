@@ -1,29 +1,13 @@
 -- What is declared with one line more is what the version has.
-use Rattle.std.specs.Prelude.{◌≡◌, ℕ, zero, suc, ◌+◌, Bool, true, false, ◌&&◌, not, nat_lt, nat_le, List, [], ◌∷◌, ◌++◌, length, Option, Some, None, unwrap_or, slice_set, Ok}
-use Rattle.std.specs.List.{list_all, slice_get}
-use Rattle.std.specs.Option.{option_map_or}
-use Rattle.std.proofs.Common.{refl, sym, subst, ap, ◌∙◌, arith}
-use Rattle.std.proofs.lemmas.List.Folds.{list_all-append}
+use Rattle.pr_text.proofs.Common.{◌≡◌, ℕ, zero, suc, ◌+◌, Bool, true, false, not, ◌&&◌, List, [], ◌∷◌, ◌++◌, length, nat_lt, nat_le, slice_set, Some, None, Ok, Option, sym, refl, ap, ◌∙◌, subst, arith, list_all, slice_get, option_map_or, unwrap_or, and_parts, nat_tests, list_all-append, is_count, are_resets, most_declared, states, ScenarioLine, DeclaringLine, StatementLine, fence_line, declares, nexus_line, start_line, pending_line, refusals_line, resets_line, role_line, script_line, plan_line, end_line, send_line, on_line, done_line, repeat_line, break_line, stop_line, command_line, since, Refusal, ParsedCommand, is_item, both, Declared, WrittenTask, scripted, planned, Declaration, OpenLines, Place, before_all, outside, in_script, in_plan, codes_of, number_of, with_count, with_task, begun_script, with_statement_line, item_placed, ScriptLine, arm_on, block_done, send_at, repeat_of, break_out, stop_with, Which, is_line_of, IsDated}
 use Rattle.std.proofs.lemmas.List.{length-set}
-use Rattle.std.proofs.lemmas.Bool.{and_parts}
-use Rattle.std.proofs.lemmas.Bool.Decides.{nat_tests}
-use Rattle.pr_roles.specs.Fitting.{most_declared, is_count, are_resets}
-use Rattle.pr_lines.specs.declared.item.Refusal.{Refusal}
 use Rattle.pr_lines.specs.declared.item.Refusal.TheVariants as refusal
-use Rattle.pr_lines.specs.declared.spelling.ParsedCommand.{ParsedCommand}
-use Rattle.pr_lines.specs.ScenarioLines.{ScenarioLine, DeclaringLine, StatementLine, fence_line, declares, states, nexus_line, start_line, pending_line, refusals_line, resets_line, role_line, script_line, plan_line, end_line, send_line, on_line, done_line, repeat_line, break_line, stop_line, command_line}
-use Rattle.pr_lines.specs.Versions.{declaring_since, statement_since, since}
+use Rattle.pr_lines.specs.Versions.{declaring_since, statement_since}
 use Rattle.pr_script.specs.Versions.{since as test_since}
-use Rattle.pr_text.specs.declared.fault.Which.{Which}
-use Rattle.pr_text.specs.ScriptLines.{ScriptLine, send_at, arm_on, block_done, repeat_of, break_out, stop_with}
-use Rattle.pr_text.specs.Declarations.{WrittenTask, scripted, planned, Declaration, OpenLines, Place, before_all, outside, in_script, in_plan, Declared}
-use Rattle.pr_text.specs.Declaring.{number_of, codes_of}
 use Rattle.pr_text.specs.Standing.{by_place, is_before_all, is_outside, of_script, of_plan}
 use Rattle.pr_text.specs.LineFaults.{past_limit, names_unknown, keys_undeclared, says_again, first_fault, standing_fault, fault_at}
-use Rattle.pr_text.specs.NextLine.{with_nexus, with_count, with_task, begun_script, with_statement_line, with_declared, with_line, item_placed}
-use Rattle.pr_text.specs.inside.Sound.{is_line_of, is_written_of, is_declared_of, IsPlaceOf, IsDated}
-use Rattle.pr_lines.proofs.ItemTerms.{is_item}
-use Rattle.pr_lines.proofs.Tests.{both}
+use Rattle.pr_text.specs.NextLine.{with_nexus, with_declared, with_line}
+use Rattle.pr_text.specs.inside.Sound.{is_written_of, is_declared_of, IsPlaceOf}
 use Rattle.pr_text.proofs.SoundLists.{one_long}
 use Rattle.pr_text.proofs.SoundScripts.{not_no, passes, skips}
 use Rattle.pr_text.proofs.Trees.{le_true}

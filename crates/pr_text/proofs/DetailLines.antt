@@ -1,38 +1,17 @@
 -- The lines of one nexus have no fault.
-use Rattle.std.specs.Prelude.{◌≡◌, ℕ, suc, ◌+◌, ◌≤◌, ◌==◌, Bool, true, false, cond, ◌&&◌, ◌||◌, not, nat_lt, nat_le, is_some, List, [], ◌∷◌, ◌++◌, length, map, filter, fold, Option, Some, None, unwrap_or, bytes_eq, Result, Ok, Err}
+use Rattle.pr_text.proofs.Common.{◌≡◌, ℕ, suc, ◌+◌, ◌≤◌, Bool, true, false, cond, not, ◌&&◌, ◌||◌, List, [], ◌∷◌, ◌++◌, map, length, is_some, nat_lt, nat_le, ◌==◌, Some, None, Ok, Err, fold, filter, Option, Result, bytes_eq, sym, refl, ap, ◌∙◌, append_assoc, append-nil, arith, length-append, list_all, list_any, unwrap_or, and_parts, nat_tests, Command, Attention, Held, is_written, is_name, is_version, is_count, are_distinct, is_action, is_role, is_start, is_nexus, Nexus, Task, Scripted, Planned, Clause, ScenarioLine, declares, start_line, pending_line, refusals_line, role_line, script_line, plan_line, end_line, command_line, since, Refusal, both, true_le, Declared, WrittenTask, scripted, planned, Declaration, OpenLines, Place, outside, in_script, in_plan, codes_of, count_in, and_then, with_count, with_task, begun_script, item_placed, task_written, body_lines, all_said, ReadError, are_codes_distinct, start_placed, pending_placed, refusals_placed, role_placed, script_placed, plan_placed, planned_step, item_standing}
 use Rattle.std.specs.FinSet as set
-use Rattle.std.specs.List.{list_all, list_any}
-use Rattle.std.proofs.Common.{refl, sym, ap, ◌∙◌, arith, append_assoc, append-nil, length-append}
 use Rattle.std.proofs.Math.Seq.{set-append_seam}
-use Rattle.std.proofs.lemmas.Bool.{and_parts}
-use Rattle.std.proofs.lemmas.Bool.Decides.{nat_tests}
-use Rattle.pr_cdb.specs.declared.command.Command.{Command}
-use Rattle.pr_registry.specs.declared.held.Held.{Held}
-use Rattle.pr_attention.specs.declared.attention.Attention.{Attention}
 use Rattle.pr_attention.specs.declared.attention.Attention.TheVariants.{PowerOn, ReservationsPreempted, ReservationsReleased, RegistrationsPreempted}
 use Rattle.pr_attention.specs.Attentions.{Codes, no_code, code_of, is_attention, AreAttentions}
 use Rattle.pr_attention.proofs.Sets.{same_codes, contains-no_code, contains-insert_code}
-use Rattle.pr_script.specs.Names.{is_name}
-use Rattle.pr_script.specs.Grammar.{is_written, script_fits}
-use Rattle.pr_roles.specs.declared.role.Clause.{Clause}
-use Rattle.pr_roles.specs.Scenarios.{Nexus, Task, Scripted, Planned}
-use Rattle.pr_roles.specs.Fitting.{are_distinct, is_action, is_role, is_alternative, is_same_alternative, is_start, is_task, is_nexus, is_version, is_count, is_task_of}
-use Rattle.pr_text.specs.declared.fault.ReadError.{ReadError}
-use Rattle.pr_text.specs.Faults.{and_then}
-use Rattle.pr_lines.specs.declared.item.Refusal.{Refusal}
+use Rattle.pr_script.specs.Grammar.{script_fits}
+use Rattle.pr_roles.specs.Fitting.{is_alternative, is_same_alternative, is_task, is_task_of}
 use Rattle.pr_lines.specs.declared.item.Refusal.TheVariants as refusal
-use Rattle.pr_lines.specs.Versions.{since}
 use Rattle.pr_lines.specs.CommandWords.{without_keys}
-use Rattle.pr_lines.specs.ScenarioLines.{ScenarioLine, start_line, pending_line, refusals_line, role_line, script_line, plan_line, end_line, command_line, declares}
-use Rattle.pr_text.specs.ScriptLines.{body_lines}
-use Rattle.pr_text.specs.inside.Chains.{are_codes_distinct, at_name, start_at, start_placed, pending_at, pending_placed, refusals_at, refusals_placed, role_at, role_placed, script_at, script_placed, plan_at, plan_placed, planned_step, item_standing}
-use Rattle.pr_text.specs.Declarations.{Declaration, WrittenTask, scripted, planned, OpenLines, Place, outside, in_script, in_plan, Declared}
-use Rattle.pr_text.specs.Declaring.{count_in, codes_of}
-use Rattle.pr_text.specs.NextLine.{with_count, begun_script, with_task, item_placed}
-use Rattle.pr_text.specs.Reading.{task_written}
-use Rattle.pr_text.specs.ScriptRoundTrip.{Line, line, all_said, script_said}
+use Rattle.pr_text.specs.inside.Chains.{at_name, start_at, pending_at, refusals_at, role_at, script_at, plan_at}
+use Rattle.pr_text.specs.ScriptRoundTrip.{Line, line, script_said}
 use Rattle.pr_text.specs.ScenarioRoundTrip.{attentions_in, pending_said, refusals_said, task_said, details_said}
-use Rattle.pr_lines.proofs.Tests.{both, true_le}
 use Rattle.pr_text.proofs.Trees.{no_not}
 use Rattle.pr_text.proofs.SoundScripts.{or_no, no_true}
 use Rattle.pr_text.proofs.Rereading.{goes, reread}

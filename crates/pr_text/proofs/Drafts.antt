@@ -1,18 +1,9 @@
 -- What is declared of nexuses, by their numbers.
-use Rattle.std.specs.Prelude.{◌≡◌, ℕ, ◌+◌, ◌<◌, Bool, cond, List, [], ◌∷◌, length, map, Option, Some, option_map, position, bytes_eq, slice_index_or, slice_set}
-use Rattle.std.specs.List.{slice_get, position_from}
-use Rattle.std.proofs.Common.{refl, sym, ap, ◌∙◌}
-use Rattle.std.proofs.lemmas.Iterator.Adapters.{position_from-zero}
+use Rattle.pr_text.proofs.Common.{◌≡◌, ℕ, ◌+◌, ◌<◌, Bool, cond, List, [], ◌∷◌, map, length, slice_index_or, slice_set, Some, Option, option_map, position, bytes_eq, sym, refl, ap, ◌∙◌, slice_get, position_from, position_from-zero, Declared, Declaration, declared_keys, number_of, Fails, ReadError, start_fault, start_placed, draft_seen}
 use Rattle.std.proofs.lemmas.List.{map-set}
 use Rattle.std.proofs.lemmas.Option.{slice_get-map, slice_get-get_or}
 use Rattle.pr_text.specs.declared.draft.Draft.{Draft}
-use Rattle.pr_text.specs.declared.fault.ReadError.{ReadError}
-use Rattle.pr_text.specs.Faults.{Fails}
-use Rattle.pr_text.specs.Declarations.{Declaration, Declared}
-use Rattle.pr_text.specs.Declaring.{declared_keys, number_of}
-use Rattle.pr_text.specs.inside.Chains.{start_fault, start_placed}
 use Rattle.pr_text.proofs.Steps.{fails_same}
-use Rattle.pr_text.specs.inside.Drafts.{draft_seen}
 
 pub found : (xs : List Draft) (h : ℕ) (d : Draft) → h < length xs → slice_get (map draft_seen xs) h ≡ Some (draft_seen (slice_index_or xs h d))
 found xs h d within = slice_get-map draft_seen xs h ∙ ap (λ o. option_map draft_seen o) (slice_get-get_or xs h d within)

@@ -1,13 +1,7 @@
 -- What is wrong after the last line is what is missing, or else that there is no start.
-use Rattle.std.specs.Prelude.{◌≡◌, ℕ, length, Option, Some, option_map, None, Bool, false, ◌==◌, true, Ok, Err, cond}
-use Rattle.std.specs.Option.{option_map_or}
-use Rattle.std.proofs.Common.{refl}
-use Rattle.pr_text.specs.declared.fault.ReadError.{ReadError}
+use Rattle.pr_text.proofs.Common.{◌≡◌, ℕ, Bool, true, false, cond, length, ◌==◌, Some, None, Ok, Err, Option, option_map, refl, option_map_or, Declared, Place, outside, and_then, unless, starts_somewhere, first_unscripted, end_placed, ReadError, missing_fault}
 use Rattle.pr_text.specs.declared.fault.ReadError.TheVariants as fault
-use Rattle.pr_text.specs.Declarations.{Place, outside, Declared}
-use Rattle.pr_text.specs.Faults.{and_then, unless}
-use Rattle.pr_text.specs.Texts.{first_unscripted, starts_somewhere, end_placed}
-use Rattle.pr_text.specs.inside.Endings.{missing_at, missing_fault, start_result}
+use Rattle.pr_text.specs.inside.Endings.{missing_at, start_result}
 
 last : (b : Bool) (d : Declared) → unless (cond b None (Some fault.EmptyStart)) d ≡ cond b (Ok d) (Err fault.EmptyStart)
 last true d = refl

@@ -1,20 +1,10 @@
 -- What is declared fits.
-use Rattle.std.specs.Prelude.{◌≡◌, ℕ, Bool, true, false, cond, ◌==◌, ◌&&◌, not, nat_le, List, [], ◌∷◌, length, map, Option, Some, None, unwrap_or}
-use Rattle.std.specs.List.{list_all}
-use Rattle.std.proofs.Common.{refl, sym, subst, ap, ◌∙◌}
+use Rattle.pr_text.proofs.Common.{◌≡◌, ℕ, Bool, true, false, cond, not, ◌&&◌, List, [], ◌∷◌, map, length, nat_le, ◌==◌, Some, None, Option, sym, refl, ap, ◌∙◌, subst, list_all, unwrap_or, and_parts, is_name, Fits, is_version, is_count, are_resets, most_declared, is_role, is_start, is_nexus, Scenario, Nexus, Task, Scripted, Planned, both, Declared, WrittenTask, scripted, planned, Declaration, Place, before_all, outside, in_script, in_plan, declared_keys, nexus_written, nexus_declared, IsDeclaredBy, task_written, body_lines, missing_fault, IsDated, IsTask, IsDeclaration, AreDeclarations, IsSound}
 use Rattle.std.proofs.lemmas.List.{length-map}
-use Rattle.std.proofs.lemmas.Bool.{and_parts}
 use Rattle.std.proofs.lemmas.Simd.{map-map}
-use Rattle.pr_roles.specs.Scenarios.{Scenario, Nexus, Task, Scripted, Planned}
-use Rattle.pr_roles.specs.Fitting.{most_declared, Fits, is_nexus, is_role, is_start, is_task, is_version, is_count, are_resets, is_task_of, are_of}
-use Rattle.pr_script.specs.Names.{is_name}
-use Rattle.pr_text.specs.ScriptLines.{body_lines}
-use Rattle.pr_text.specs.Declarations.{WrittenTask, scripted, planned, Declaration, Declared, Place, before_all, outside, in_script, in_plan}
-use Rattle.pr_text.specs.Declaring.{declared_keys}
-use Rattle.pr_text.specs.inside.Endings.{missing_fault, missing_at}
-use Rattle.pr_text.specs.Reading.{task_written, nexus_written, nexus_declared, IsDeclaredBy}
-use Rattle.pr_text.specs.inside.Sound.{IsTask, IsDeclaration, AreDeclarations, IsSound, is_written_of, is_declared_of, IsDated}
-use Rattle.pr_lines.proofs.Tests.{both}
+use Rattle.pr_roles.specs.Fitting.{is_task, is_task_of, are_of}
+use Rattle.pr_text.specs.inside.Endings.{missing_at}
+use Rattle.pr_text.specs.inside.Sound.{is_written_of, is_declared_of}
 use Rattle.pr_text.proofs.Trees.{whole_fits}
 use Rattle.pr_text.proofs.OneReading.{head_same, tail_same}
 use Rattle.pr_text.proofs.Dates.{body_dated}

@@ -1,15 +1,10 @@
 -- What a text says is settled by its first 65537 bytes.
-use Rattle.std.specs.Prelude.{◌≡◌, ℕ, ◌<◌, List, [], ◌++◌, length, Option, Some, None, Result, Ok, Err, IfSome, IfOk, IfErr}
-use Rattle.std.proofs.Common.{sym, ap, ◌∙◌, inl, inr, arith, length-append, append-nil}
+use Rattle.pr_text.proofs.Common.{◌≡◌, ℕ, ◌<◌, List, [], ◌++◌, length, IfSome, IfOk, IfErr, Some, None, Ok, Err, Option, Result, sym, ap, ◌∙◌, inl, inr, append-nil, arith, length-append, scenario_of, Fails, IsWrittenAs, answer_of, ReadError}
 use Rattle.std.proofs.lemmas.Bool.{cases_lt}
 use Rattle.pr_roles.specs.declared.parts.Parts.{Parts}
-use Rattle.pr_roles.specs.Scenarios.{scenario_of}
-use Rattle.pr_text.specs.declared.fault.ReadError.{ReadError}
 use Rattle.pr_text.specs.declared.fault.ReadError.TheVariants.{ReadFault, Memory}
 use Rattle.pr_text.specs.inside.Steps.{ReadsUpTo}
-use Rattle.pr_text.specs.Faults.{Fails}
-use Rattle.pr_text.specs.Texts.{answer_of}
-use Rattle.pr_text.specs.Reading.{IsWrittenAs, IsRead}
+use Rattle.pr_text.specs.Reading.{IsRead}
 use Rattle.pr_text.proofs.Answering.{too_large}
 
 answer_of_front : (bytes rest : List ℕ) → (length bytes < 65537 → rest ≡ []) → answer_of (bytes ++ rest) ≡ answer_of bytes

@@ -1,3 +1,4 @@
+pub mod Common
 pub mod ReadBytes
 pub mod Steps
 pub mod Endings

@@ -1,27 +1,12 @@
 -- The faults of a line in their order, as the tests that the reader makes.
-use Rattle.std.specs.Prelude.{◌≡◌, ℕ, List, length, Option, [], ◌∷◌, Some, None, option_map, Bool, Result, ◌&&◌, false, ◌==◌, ◌||◌, not, nat_lt, nat_le, ◌++◌, is_some, Ok, Err, true, cond}
-use Rattle.std.specs.List.{slice_get}
-use Rattle.std.proofs.Common.{refl, ap, ◌∙◌}
-use Rattle.pr_cdb.specs.declared.command.Command.{Command}
-use Rattle.pr_registry.specs.declared.held.Held.{Held}
-use Rattle.pr_attention.specs.declared.attention.Attention.{Attention}
-use Rattle.pr_roles.specs.declared.role.Clause.{Clause}
-use Rattle.pr_roles.specs.Fitting.{most_declared, are_distinct, is_same_reservation, is_action}
-use Rattle.pr_text.specs.declared.fault.Which.{Which}
-use Rattle.pr_lines.specs.declared.spelling.ParsedCommand.{ParsedCommand}
-use Rattle.pr_text.specs.declared.fault.ReadError.{ReadError}
+use Rattle.pr_text.proofs.Common.{◌≡◌, ℕ, Bool, true, false, cond, not, ◌&&◌, ◌||◌, List, [], ◌∷◌, ◌++◌, length, is_some, nat_lt, nat_le, ◌==◌, Some, None, Ok, Err, Option, Result, option_map, refl, ap, ◌∙◌, slice_get, Command, Attention, Held, most_declared, are_distinct, is_action, Clause, each, states, ScenarioLine, DeclaringLine, StatementLine, fence_line, declares, nexus_line, start_line, pending_line, refusals_line, resets_line, role_line, script_line, plan_line, end_line, command_line, keys_line, reservation_line, generation_line, since, Refusal, ParsedCommand, Declared, Declaration, OpenLines, Place, before_all, outside, in_script, in_plan, count_in, declared_keys, held_of, number_of, and_then, unless, with_statement_line, item_placed, ReadError, Which, are_codes_distinct, start_placed, pending_placed, refusals_placed, role_placed, script_placed, plan_placed, planned_step, item_standing, script_step, keys_placed, nexus_placed, reservation_placed, generation_placed, resets_placed}
+use Rattle.pr_roles.specs.Fitting.{is_same_reservation}
 use Rattle.pr_text.specs.declared.fault.Which.TheVariants as which
 use Rattle.pr_text.specs.declared.fault.ReadError.TheVariants as fault
-use Rattle.pr_text.specs.Declarations.{Declaration, OpenLines, Place, before_all, outside, in_script, in_plan, Declared}
-use Rattle.pr_lines.specs.declared.item.Refusal.{Refusal}
-use Rattle.pr_lines.specs.Chain.{each}
-use Rattle.pr_lines.specs.Versions.{since}
-use Rattle.pr_text.specs.Declaring.{declared_keys, number_of, count_in, held_of}
-use Rattle.pr_text.specs.Faults.{and_then, unless}
-use Rattle.pr_lines.specs.ScenarioLines.{StartReservation, ScenarioLine, fence_line, keys_line, nexus_line, start_line, pending_line, refusals_line, reservation_line, generation_line, resets_line, role_line, script_line, plan_line, end_line, command_line, DeclaringLine, StatementLine, declares, states}
+use Rattle.pr_lines.specs.ScenarioLines.{StartReservation}
 use Rattle.pr_text.specs.LineFaults.{limit_of, statement_fault, command_fault, standing_fault}
-use Rattle.pr_text.specs.NextLine.{with_statement_line, with_more, with_line, item_placed}
-use Rattle.pr_text.specs.inside.Chains.{are_codes_distinct, declared_with, script_step, keys_placed, nexus_placed, start_placed, pending_placed, refusals_placed, reservation_placed, generation_placed, resets_placed, role_placed, script_placed, plan_placed, placed_first, placed_outside, placed_in_script, planned_step, placed_in_plan, placed_at, item_standing, item_taken}
+use Rattle.pr_text.specs.NextLine.{with_more, with_line}
+use Rattle.pr_text.specs.inside.Chains.{declared_with, placed_first, placed_outside, placed_in_script, placed_in_plan, placed_at, item_taken}
 
 -- ---- tests one behind another
 

@@ -1,15 +1,8 @@
 -- Where a name that is declared once is found.
-use Rattle.std.specs.Prelude.{◌≡◌, ℕ, ◌+◌, Bool, true, false, cond, ◌||◌, not, List, [], ◌∷◌, ◌++◌, length, map, Some, None, is_some, position, bytes_eq}
-use Rattle.std.specs.List.{slice_get, list_any, position_from}
-use Rattle.std.proofs.Common.{refl, sym, ap, ◌∙◌, arith, append_assoc}
-use Rattle.std.proofs.lemmas.Bool.{and_parts}
+use Rattle.pr_text.proofs.Common.{◌≡◌, ℕ, ◌+◌, Bool, true, false, cond, not, ◌||◌, List, [], ◌∷◌, ◌++◌, map, length, is_some, Some, None, position, bytes_eq, sym, refl, ap, ◌∙◌, append_assoc, arith, slice_get, list_any, position_from, and_parts, position_from-zero, are_distinct, Declaration, number_of}
 use Rattle.std.proofs.lemmas.List.{map-append}
 use Rattle.std.proofs.lemmas.List.Folds.{list_any-append}
-use Rattle.std.proofs.lemmas.Iterator.Adapters.{position_from-zero}
 use Rattle.std.proofs.lemmas.Slice.Eq.{bytes_eq-Decides}
-use Rattle.pr_roles.specs.Fitting.{are_distinct}
-use Rattle.pr_text.specs.Declarations.{Declaration}
-use Rattle.pr_text.specs.Declaring.{number_of}
 use Rattle.pr_text.proofs.Trees.{no_not}
 use Rattle.pr_text.proofs.SoundScripts.{or_no}
 use Rattle.pr_text.proofs.SoundLists.{other_way}

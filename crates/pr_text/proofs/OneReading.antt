@@ -1,15 +1,5 @@
 -- One list of lines is written as one script, and one text as one scenario.
-use Rattle.std.specs.Prelude.{◌≡◌, ℕ, Bool, true, false, List, [], ◌∷◌, ◌++◌, map}
-use Rattle.std.proofs.Common.{refl, sym, subst, ap, ◌∙◌, append_assoc, append-nil}
-use Rattle.std.proofs.lemmas.Bool.{false≢true}
-use Rattle.pr_cdb.specs.declared.command.Command.{Command}
-use Rattle.pr_script.specs.declared.script.Test.{Test}
-use Rattle.pr_script.specs.Scripts.{Stmt, Stmts, Arms, sends, repeats, breaks, stops, none, more, no_arm, arm}
-use Rattle.pr_roles.specs.Scenarios.{Scenario, Nexus, Task, Scripted, Planned}
-use Rattle.pr_text.specs.ScriptLines.{ScriptLine, send_at, arm_on, block_done, repeat_of, stop_with, statement_lines, body_lines, arms_lines}
-use Rattle.pr_text.specs.Declarations.{scripted, Declared}
-use Rattle.pr_text.specs.inside.Sound.{is_statement}
-use Rattle.pr_text.specs.Reading.{task_written, nexus_written, IsDeclaredBy, IsWrittenAs}
+use Rattle.pr_text.proofs.Common.{◌≡◌, ℕ, Bool, true, false, List, [], ◌∷◌, ◌++◌, map, sym, refl, ap, ◌∙◌, subst, append_assoc, append-nil, false≢true, Command, Stmt, Stmts, Arms, sends, repeats, none, more, no_arm, arm, breaks, stops, Test, Scenario, Nexus, Task, Scripted, Planned, Declared, scripted, nexus_written, IsDeclaredBy, IsWrittenAs, task_written, ScriptLine, arm_on, block_done, statement_lines, body_lines, arms_lines, send_at, repeat_of, stop_with, is_statement}
 use Rattle.pr_text.proofs.SoundScripts.{ok_same}
 
 -- the first of the lines begins a statement

@@ -1,11 +1,8 @@
 -- The lines and blocks of a script that is open.
-use Rattle.std.proofs.Common.{◌≡◌, ℕ, suc, ◌+◌, Bool, true, false, cond, not, List, [], ◌∷◌, ◌++◌, length, refl, sym, ap, ◌∙◌, append_assoc, append-nil, zero-add, Vec, Global, arith}
-use Rattle.std.specs.Prelude.{◌==◌, count_by, fold, Option, Some, None}
+use Rattle.pr_text.proofs.Common.{◌≡◌, ℕ, suc, ◌+◌, Bool, true, false, cond, not, List, [], ◌∷◌, ◌++◌, length, ◌==◌, Some, None, fold, count_by, Option, Vec, Global, sym, refl, ap, ◌∙◌, append_assoc, append-nil, zero-add, arith, nat_tests, Command, OpenBlock, ScriptLine, arm_on, block_done, statement_lines, body_lines, arms_lines, send_at, repeat_of, is_repeating, is_sending, awaits_arm}
 use Rattle.std.specs.List.{flat_map}
 use Rattle.std.proofs.lemmas.List.Concat.{flat_map-append}
 use Rattle.std.proofs.lemmas.List.Sums.{fold-append}
-use Rattle.std.proofs.lemmas.Bool.Decides.{nat_tests}
-use Rattle.pr_cdb.specs.declared.command.Command.{Command}
 use Rattle.pr_script.specs.declared.script.Script.{Script}
 use Rattle.pr_script.specs.declared.script.Statement.{Statement}
 use Rattle.pr_script.specs.declared.script.Statement.TheVariants.{Send, Repeat}
@@ -17,9 +14,6 @@ use Rattle.pr_text.specs.declared.open_script.SendWithoutArm.{SendWithoutArm}
 use Rattle.pr_text.specs.declared.open_script.OpenBody.{OpenBody}
 use Rattle.pr_text.specs.declared.open_script.BlockHead.{BlockHead}
 use Rattle.pr_text.specs.declared.open_script.BlockHead.TheVariants as opener
-use Rattle.pr_text.specs.ScriptLines.{ScriptLine, send_at, arm_on, block_done, repeat_of, statement_lines, body_lines, arms_lines}
-use Rattle.pr_text.specs.Declarations.{OpenBlock}
-use Rattle.pr_text.specs.Standing.{is_repeating, is_sending, awaits_arm}
 use Rattle.pr_text.specs.inside.OpenScripts.{with_armless, armless_lines, lines_in, arm_lines, opener_lines, frame_lines, block_of, block_by, blocks_in}
 use Rattle.pr_text.proofs.Trees.{count-cons}
 

@@ -1,5 +1,5 @@
 -- Reading bytes in parts.
-use Rattle.std.proofs.Common.{ℕ, ◌+◌, ◌≤◌, List, ◌++◌, length, Option, Some, None, Ok, Err, Result, OnErr, arith, length-append, append_assoc, ◌∙◌, ap, sym}
+use Rattle.pr_text.proofs.Common.{ℕ, ◌+◌, ◌≤◌, List, ◌++◌, length, OnErr, Some, None, Ok, Err, Option, Result, sym, ap, ◌∙◌, append_assoc, arith, length-append}
 use Rattle.std.specs.Io.KnownBytes.{Consumes}
 use Rattle.pr_text.specs.BytesRead.{LosesUpTo}
 

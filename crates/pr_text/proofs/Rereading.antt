@@ -1,30 +1,14 @@
 -- The lines of a script that fits have no fault.
-use Rattle.std.specs.Prelude.{◌≡◌, ℕ, ◌+◌, ◌≤◌, ◌==◌, Bool, true, false, ◌&&◌, not, nat_lt, nat_le, List, [], ◌∷◌, ◌++◌, count_by, Result, Ok, Err}
-use Rattle.std.specs.List.{list_all}
-use Rattle.std.proofs.Common.{refl, sym, ap, ◌∙◌, arith, append_assoc, append-nil}
-use Rattle.std.proofs.lemmas.Bool.{and_parts}
-use Rattle.std.proofs.lemmas.Bool.Decides.{nat_tests}
-use Rattle.pr_cdb.specs.declared.command.Command.{Command}
-use Rattle.pr_script.specs.declared.script.Test.{Test}
-use Rattle.pr_script.specs.Scripts.{Stmt, Stmts, Arms, sends, repeats, breaks, stops, none, more, no_arm, arm}
-use Rattle.pr_script.specs.Grammar.{is_written, stands_under, is_test_declared, has_sense_digit, test_fits, count_of_arms, begins_body, is_send_written, is_repeat_written, statement_fits, statements_fit, arms_fit, count_of, count_of_all, count_in_arms}
-use Rattle.pr_roles.specs.Fitting.{is_version}
-use Rattle.pr_text.specs.declared.fault.ReadError.{ReadError}
-use Rattle.pr_text.specs.Faults.{and_then}
+use Rattle.pr_text.proofs.Common.{◌≡◌, ℕ, ◌+◌, ◌≤◌, Bool, true, false, not, ◌&&◌, List, [], ◌∷◌, ◌++◌, nat_lt, nat_le, ◌==◌, Ok, Err, count_by, Result, sym, refl, ap, ◌∙◌, append_assoc, append-nil, arith, list_all, and_parts, nat_tests, Command, is_written, test_fits, Stmt, Stmts, Arms, sends, repeats, none, more, no_arm, arm, breaks, stops, Test, is_version, states, send_line, on_line, done_line, repeat_line, break_line, stop_line, both, true_le, Declared, OpenLines, OpenBlock, sending, declared_keys, and_then, begun_script, ScriptLine, arm_on, block_done, statement_lines, body_lines, arms_lines, send_at, repeat_of, break_out, stop_with, all_said, is_repeating, is_sending, awaits_arm, ReadError, item_standing, script_step, is_line_of}
+use Rattle.pr_script.specs.Grammar.{stands_under, is_test_declared, has_sense_digit, count_of_arms, begins_body, is_send_written, is_repeat_written, statement_fits, statements_fit, arms_fit, count_of, count_of_all, count_in_arms}
 use Rattle.pr_lines.specs.CommandWords.{without_keys}
-use Rattle.pr_text.specs.ScriptLines.{ScriptLine, send_at, arm_on, block_done, repeat_of, break_out, stop_with, statement_lines, body_lines, arms_lines}
-use Rattle.pr_text.specs.Declarations.{OpenBlock, repeating, sending, OpenLines, Declared}
-use Rattle.pr_text.specs.Standing.{is_repeating, is_sending, awaits_arm, is_in_repeat, may_close}
-use Rattle.pr_lines.specs.ScenarioLines.{states, send_line, on_line, done_line, repeat_line, break_line, stop_line}
-use Rattle.pr_text.specs.inside.Chains.{all_stepped, script_step, item_standing}
-use Rattle.pr_text.specs.Declaring.{declared_keys}
-use Rattle.pr_text.specs.ScriptRoundTrip.{ScriptsHaveNoFault, said_by, number_of_line, script_said, all_said, within}
-use Rattle.pr_lines.proofs.Tests.{both, true_le}
+use Rattle.pr_text.specs.Declarations.{repeating}
+use Rattle.pr_text.specs.Standing.{is_in_repeat, may_close}
+use Rattle.pr_text.specs.inside.Chains.{all_stepped}
+use Rattle.pr_text.specs.ScriptRoundTrip.{ScriptsHaveNoFault, said_by, number_of_line, script_said, within}
 use Rattle.pr_text.proofs.Trees.{no_not, one_more, as_many}
 use Rattle.pr_text.proofs.LineOrder.{in_version}
 use Rattle.pr_text.proofs.Dates.{body_dated, has_line}
-use Rattle.pr_text.specs.inside.Sound.{is_line_of}
-use Rattle.pr_text.specs.NextLine.{begun_script}
 
 -- an open script by its parts
 abbrev open_at : ℕ → ℕ → List ScriptLine → ℕ → List OpenBlock → Bool → OpenLines

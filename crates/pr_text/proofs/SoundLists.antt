@@ -1,37 +1,21 @@
 -- Keys, nexuses, and reservations stay sound with one line more.
-use Rattle.std.specs.Prelude.{◌≡◌, ℕ, suc, ◌+◌, ◌<◌, ◌==◌, Bool, true, false, cond, ◌&&◌, ◌||◌, not, nat_lt, nat_le, List, [], ◌∷◌, ◌++◌, length, map, Option, Some, None, is_some, option_map, option_and_then, unwrap_or, position, bytes_eq, Ok}
-use Rattle.std.specs.List.{list_all, list_any, position_from}
-use Rattle.std.proofs.Common.{refl, sym, subst, ap, ◌∙◌, arith, length-append}
+use Rattle.pr_text.proofs.Common.{◌≡◌, ℕ, suc, ◌+◌, ◌<◌, Bool, true, false, cond, not, ◌&&◌, ◌||◌, List, [], ◌∷◌, ◌++◌, map, length, is_some, nat_lt, nat_le, ◌==◌, Some, None, Ok, Option, option_map, position, option_and_then, bytes_eq, sym, refl, ap, ◌∙◌, subst, arith, length-append, list_all, list_any, position_from, unwrap_or, and_parts, false≢true, nat_tests, position_from-zero, Command, Held, is_written, test_fits, is_name, Test, are_distinct, is_action, is_role, is_start, Clause, each, both, Declared, WrittenTask, scripted, planned, Declaration, outside, OpenBlock, sending, declared_keys, held_of, number_of, ScriptLine, arm_on, send_at, awaits_arm, start_of, keys_placed, nexus_placed, reservation_placed, IsTask, IsDeclaration, AreDeclarations, IsSound, Reached, may, may_all, IsPlace}
 use Rattle.std.proofs.lemmas.List.Sums.{AllPass-from_list_all}
-use Rattle.std.proofs.lemmas.Iterator.Adapters.{position_from-zero}
-use Rattle.std.proofs.lemmas.Bool.{and_parts, false≢true}
-use Rattle.std.proofs.lemmas.Bool.Decides.{nat_tests}
 use Rattle.std.proofs.lemmas.Slice.Eq.{bytes_eq-Decides}
 use Rattle.pr_cdb.specs.declared.command.Kind.{Kind}
-use Rattle.pr_cdb.specs.declared.command.Command.{Command}
 use Rattle.pr_cdb.specs.declared.command.Command.TheVariants as command
-use Rattle.pr_registry.specs.declared.held.Held.{Held}
 use Rattle.pr_registry.specs.declared.held.Held.TheVariants.{One, All as Everybody}
 use Rattle.pr_registry.specs.Registrations.{IsKey, is_all}
-use Rattle.pr_script.specs.declared.script.Test.{Test}
 use Rattle.pr_script.specs.declared.script.Test.TheVariants as test
-use Rattle.pr_script.specs.Names.{is_name}
-use Rattle.pr_script.specs.Grammar.{is_written, is_written_key, is_declared, is_read_keys, is_read_reservation, test_fits}
+use Rattle.pr_script.specs.Grammar.{is_written_key, is_declared, is_read_keys, is_read_reservation}
 use Rattle.pr_roles.specs.declared.role.Action.{Action}
 use Rattle.pr_roles.specs.declared.role.Action.TheVariants as action
-use Rattle.pr_roles.specs.declared.role.Clause.{Clause}
-use Rattle.pr_roles.specs.Fitting.{are_distinct, are_reservations, is_reservation, is_action, is_role, is_alternative, is_start}
-use Rattle.pr_text.specs.ScriptLines.{ScriptLine, send_at, arm_on}
-use Rattle.pr_text.specs.Standing.{awaits_arm}
-use Rattle.pr_text.specs.Declarations.{OpenBlock, sending, WrittenTask, scripted, planned, Declaration, outside, Declared}
+use Rattle.pr_roles.specs.Fitting.{are_reservations, is_reservation, is_alternative}
 use Rattle.pr_lines.specs.ScenarioLines.{StartReservation, nobody, single, everybody}
-use Rattle.pr_lines.specs.Chain.{each}
-use Rattle.pr_text.specs.Declaring.{declared_keys, number_of, held_of}
-use Rattle.pr_text.specs.inside.Chains.{keys_placed, nexus_placed, reservations_at, reservation_placed}
-use Rattle.pr_text.specs.Texts.{start_of, reservations_of}
-use Rattle.pr_text.specs.inside.Sound.{Reached, at_first, may, may_arm, may_all, next, IsTask, IsDeclaration, AreDeclarations, IsPlace, IsSound}
+use Rattle.pr_text.specs.inside.Chains.{reservations_at}
+use Rattle.pr_text.specs.Texts.{reservations_of}
+use Rattle.pr_text.specs.inside.Sound.{at_first, may_arm, next}
 use Rattle.pr_lines.proofs.ItemTerms.{is_key, is_wanted}
-use Rattle.pr_lines.proofs.Tests.{both}
 use Rattle.pr_text.proofs.SoundScripts.{ok_same, past, not_no, or_no, lt_true}
 
 all_more : {A : Type 0} (p q : A → Bool) → ((x : A) → p x ≡ true → q x ≡ true) → (xs : List A) → list_all p xs ≡ true → list_all q xs ≡ true

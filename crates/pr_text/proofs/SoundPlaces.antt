@@ -1,34 +1,14 @@
 -- What is declared stays sound with one line more.
-use Rattle.std.specs.Prelude.{cond, ◌≡◌, ℕ, zero, suc, ◌+◌, ◌≤◌, ◌==◌, true, false, ◌&&◌, not, nat_le, List, [], ◌∷◌, ◌++◌, length, map, Option, Some, None, is_some, slice_set, Result, Ok, Err}
-use Rattle.std.specs.List.{slice_get}
-use Rattle.std.proofs.Common.{refl, sym, subst, ap, ◌∙◌, arith, length-append}
+use Rattle.pr_text.proofs.Common.{◌≡◌, ℕ, zero, suc, ◌+◌, ◌≤◌, true, false, cond, not, ◌&&◌, List, [], ◌∷◌, ◌++◌, map, length, is_some, nat_le, ◌==◌, slice_set, Some, None, Ok, Err, Option, Result, sym, refl, ap, ◌∙◌, subst, arith, length-append, slice_get, and_parts, nat_tests, list_all-append, Command, Attention, is_written, is_name, is_action, is_role, Clause, states, ScenarioLine, DeclaringLine, fence_line, declares, nexus_line, start_line, pending_line, refusals_line, resets_line, role_line, script_line, plan_line, end_line, command_line, keys_line, reservation_line, generation_line, Refusal, ParsedCommand, is_item, both, Declared, WrittenTask, scripted, planned, Declaration, OpenLines, Place, before_all, outside, in_script, in_plan, codes_of, count_in, declared_keys, number_of, and_then, with_count, with_task, begun_script, item_placed, ReadError, start_fault, start_placed, pending_placed, refusals_placed, role_placed, script_placed, plan_placed, planned_step, item_standing, script_step, generation_placed, resets_placed, IsTask, IsDeclaration, AreDeclarations, IsSound, IsPlace}
 use Rattle.std.proofs.lemmas.List.{length-set}
-use Rattle.std.proofs.lemmas.List.Folds.{list_all-append}
-use Rattle.std.proofs.lemmas.Bool.{and_parts}
-use Rattle.std.proofs.lemmas.Bool.Decides.{nat_tests}
-use Rattle.pr_cdb.specs.declared.command.Command.{Command}
-use Rattle.pr_attention.specs.declared.attention.Attention.{Attention}
-use Rattle.pr_script.specs.Names.{is_name}
-use Rattle.pr_script.specs.Grammar.{is_written}
-use Rattle.pr_roles.specs.declared.role.Clause.{Clause}
-use Rattle.pr_roles.specs.Fitting.{is_action, is_role}
-use Rattle.pr_text.specs.declared.fault.ReadError.{ReadError}
-use Rattle.pr_lines.specs.declared.item.Refusal.{Refusal}
 use Rattle.pr_lines.specs.declared.item.Refusal.TheVariants as refusal
-use Rattle.pr_lines.specs.declared.spelling.ParsedCommand.{ParsedCommand}
-use Rattle.pr_text.specs.Faults.{and_then}
-use Rattle.pr_text.specs.Declarations.{OpenLines, WrittenTask, scripted, planned, Declaration, Place, before_all, outside, in_script, in_plan, Declared}
-use Rattle.pr_lines.specs.ScenarioLines.{ScenarioLine, keys_line, nexus_line, start_line, pending_line, refusals_line, reservation_line, generation_line, resets_line, role_line, script_line, plan_line, end_line, command_line, fence_line, DeclaringLine, declares, states}
 use Rattle.pr_text.specs.declared.fault.Which.TheVariants as which
 use Rattle.pr_text.specs.declared.fault.ReadError.TheVariants as fault
 use Rattle.pr_roles.specs.declared.limits.TheConstants.{MOST_REFUSALS, MOST_RESETS}
 use Rattle.pr_text.specs.LineFaults.{limit_of, command_fault}
-use Rattle.pr_text.specs.inside.Chains.{script_step, declared_with, nexus_set, on_nexus, at_number, at_name, start_fault, start_at, start_placed, pending_at, pending_placed, refusals_at, refusals_placed, generation_placed, resets_placed, role_at, role_placed, script_fault, script_at, script_placed, plan_at, plan_placed, placed_first, placed_outside, script_ended, placed_in_script, planned_step, placed_in_plan, placed_at, item_standing, item_taken}
-use Rattle.pr_text.specs.Declaring.{declared_keys, number_of, count_in, codes_of, is_spelled}
-use Rattle.pr_text.specs.NextLine.{with_count, begun_script, with_task, item_placed}
-use Rattle.pr_text.specs.inside.Sound.{AreBegun, is_plan, IsTask, IsDeclaration, AreDeclarations, IsPlace, IsSound}
-use Rattle.pr_lines.proofs.ItemTerms.{is_item}
-use Rattle.pr_lines.proofs.Tests.{both}
+use Rattle.pr_text.specs.inside.Chains.{declared_with, nexus_set, on_nexus, at_number, at_name, start_at, pending_at, refusals_at, role_at, script_fault, script_at, plan_at, placed_first, placed_outside, script_ended, placed_in_script, placed_in_plan, placed_at, item_taken}
+use Rattle.pr_text.specs.Declaring.{is_spelled}
+use Rattle.pr_text.specs.inside.Sound.{AreBegun, is_plan}
 use Rattle.pr_text.proofs.Trees.{le_true}
 use Rattle.pr_text.proofs.SoundScripts.{faultless, ok_same, past, not_no, or_no, kept, passes, skips, script_sound}
 use Rattle.pr_text.proofs.SoundLists.{keys_sound, nexus_sound, reservation_sound}

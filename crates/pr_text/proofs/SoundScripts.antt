@@ -1,31 +1,13 @@
 -- The lines of an open script may stand where they do, with one line more.
-use Rattle.std.specs.Prelude.{◌≡◌, ℕ, ◌+◌, ◌<◌, ◌≤◌, ◌==◌, Bool, true, false, cond, ◌&&◌, ◌||◌, not, nat_lt, nat_le, List, [], ◌∷◌, ◌++◌, drop, Option, Some, None, count_by, Result, Ok, Err}
-use Rattle.std.specs.List.{list_all}
-use Rattle.std.proofs.Common.{refl, sym, subst, ap, ◌∙◌, arith, append-nil}
-use Rattle.std.proofs.lemmas.List.Folds.{list_all-append}
+use Rattle.pr_text.proofs.Common.{◌≡◌, ℕ, ◌+◌, ◌<◌, ◌≤◌, Bool, true, false, cond, not, ◌&&◌, ◌||◌, List, [], ◌∷◌, ◌++◌, drop, nat_lt, nat_le, ◌==◌, Some, None, Ok, Err, count_by, Option, Result, sym, refl, ap, ◌∙◌, subst, append-nil, arith, list_all, and_parts, nat_tests, list_all-append, Command, is_written, test_fits, is_name, Test, states, StatementLine, send_line, on_line, done_line, repeat_line, break_line, stop_line, ParsedCommand, is_item, both, true_le, OpenLines, OpenBlock, sending, unless, with_statement_line, ScriptLine, arm_on, block_done, send_at, repeat_of, break_out, stop_with, is_repeating, is_sending, awaits_arm, ReadError, Which, script_step, is_statement, Reached, may, may_all}
 use Rattle.std.proofs.lemmas.List.Sums.{fold-append, sum_by-append}
-use Rattle.std.proofs.lemmas.Bool.{and_parts}
-use Rattle.std.proofs.lemmas.Bool.Decides.{nat_tests}
-use Rattle.pr_cdb.specs.declared.command.Command.{Command}
-use Rattle.pr_script.specs.declared.script.Test.{Test}
-use Rattle.pr_script.specs.Names.{is_name}
-use Rattle.pr_script.specs.Grammar.{is_written, stands_under, is_test_declared, has_sense_digit, test_fits, rise_above}
-use Rattle.pr_text.specs.declared.fault.ReadError.{ReadError}
-use Rattle.pr_lines.specs.declared.spelling.ParsedCommand.{ParsedCommand}
-use Rattle.pr_text.specs.Faults.{unless}
-use Rattle.pr_text.specs.ScriptLines.{ScriptLine, send_at, arm_on, block_done, repeat_of, break_out, stop_with}
-use Rattle.pr_text.specs.Declarations.{OpenBlock, sending, OpenLines}
-use Rattle.pr_lines.specs.ScenarioLines.{StatementLine, states, send_line, on_line, done_line, repeat_line, break_line, stop_line}
-use Rattle.pr_text.specs.Standing.{by_innermost, is_repeating, is_sending, awaits_arm, awaits_more, may_close}
-use Rattle.pr_text.specs.NextLine.{with_statement_line}
-use Rattle.pr_text.specs.inside.Chains.{arm_fault, script_step}
+use Rattle.pr_script.specs.Grammar.{stands_under, is_test_declared, has_sense_digit, rise_above}
+use Rattle.pr_text.specs.Standing.{by_innermost, awaits_more, may_close}
+use Rattle.pr_text.specs.inside.Chains.{arm_fault}
 use Rattle.pr_text.specs.LineFaults.{out_of_place, past_limit_in, first_fault, statement_fault}
-use Rattle.pr_text.specs.declared.fault.Which.{Which}
 use Rattle.pr_text.specs.declared.fault.Which.TheVariants as which
 use Rattle.pr_text.specs.Declaring.{is_spelled}
-use Rattle.pr_text.specs.inside.Sound.{Reached, at_first, may, may_state, may_all, next, reach_after, is_statement, sends_in, AreBegun}
-use Rattle.pr_lines.proofs.ItemTerms.{is_item}
-use Rattle.pr_lines.proofs.Tests.{both, true_le}
+use Rattle.pr_text.specs.inside.Sound.{at_first, may_state, next, reach_after, sends_in, AreBegun}
 use Rattle.pr_text.proofs.Trees.{le_true, count-cons, sends-append}
 
 -- ---- one line more

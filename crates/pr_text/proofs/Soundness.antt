@@ -1,21 +1,12 @@
 -- What lines declare is sound.
-use Rattle.std.specs.Prelude.{◌≡◌, ℕ, ◌+◌, Bool, true, false, cond, not, nat_lt, List, [], ◌∷◌, length, Option, Some, None, IfSome, Result, Ok, Err}
-use Rattle.std.specs.Str.Lines.{lines}
-use Rattle.std.specs.Option.{option_map_or}
-use Rattle.std.proofs.Common.{refl, sym, subst, arith}
-use Rattle.pr_text.specs.declared.fault.ReadError.{ReadError}
+use Rattle.pr_text.proofs.Common.{◌≡◌, ℕ, ◌+◌, Bool, true, false, cond, not, List, [], ◌∷◌, length, IfSome, nat_lt, Some, None, Ok, Err, Option, Result, sym, refl, subst, arith, option_map_or, lines, ScenarioLine, is_item, Declared, nothing, Place, in_script, in_plan, declared_keys, and_then, item_placed, all_placed, ReadError, IsDated, IsSound, IsPlace}
 use Rattle.pr_text.specs.declared.fault.ReadError.TheVariants.{NotAscii, LineTooLong}
 use Rattle.pr_text.specs.declared.fault.ReadError.TheVariants as fault
-use Rattle.pr_text.specs.Faults.{and_then}
 use Rattle.pr_lines.specs.TextLines.{is_text, words}
-use Rattle.pr_text.specs.Declarations.{Place, in_script, in_plan, Declared, nothing}
-use Rattle.pr_lines.specs.ScenarioLines.{ScenarioLine, item_of}
-use Rattle.pr_text.specs.Declaring.{declared_keys}
-use Rattle.pr_text.specs.NextLine.{item_placed}
-use Rattle.pr_text.specs.Texts.{line_placed, words_placed, all_placed}
+use Rattle.pr_lines.specs.ScenarioLines.{item_of}
+use Rattle.pr_text.specs.Texts.{line_placed, words_placed}
 use Rattle.pr_text.specs.inside.Steps.{AreRead}
-use Rattle.pr_text.specs.inside.Sound.{IsPlace, IsSound, IsDated}
-use Rattle.pr_lines.proofs.ItemTerms.{is_item, item_sound}
+use Rattle.pr_lines.proofs.ItemTerms.{item_sound}
 use Rattle.pr_text.proofs.SoundScripts.{later_begun}
 use Rattle.pr_text.proofs.SoundPlaces.{placed_sound}
 use Rattle.pr_text.proofs.Dating.{placed_dated}

@@ -1,8 +1,6 @@
 -- What a call answers where a step of it fails.
-use Rattle.std.proofs.Common.{Result, Err, refl, ap}
-use Rattle.pr_text.specs.declared.fault.ReadError.{ReadError}
+use Rattle.pr_text.proofs.Common.{Err, Result, refl, ap, and_then, Fails, ReadError}
 use Rattle.pr_text.specs.declared.fault.ReadError.TheVariants.{Memory}
-use Rattle.pr_text.specs.Faults.{and_then, Fails}
 
 pub fails_same : (A : Type 0) (e : ReadError) → Fails {A = A} e (Err e)
 fails_same A Memory = tt

@@ -1,17 +1,10 @@
 -- Scripts whose lines may stand where they do follow the grammar.
-use Rattle.std.specs.Prelude.{◌≡◌, ℕ, suc, ◌+◌, ◌≤◌, Bool, true, false, cond, ◌&&◌, not, nat_lt, nat_le, List, [], ◌∷◌, ◌++◌, count_by}
-use Rattle.std.proofs.Common.{refl, subst, ap, ◌∙◌, append_assoc, append-nil, arith}
-use Rattle.std.proofs.lemmas.Bool.{and_parts}
-use Rattle.std.proofs.lemmas.Bool.Decides.{nat_tests}
+use Rattle.pr_text.proofs.Common.{◌≡◌, ℕ, suc, ◌+◌, ◌≤◌, Bool, true, false, cond, not, ◌&&◌, List, [], ◌∷◌, ◌++◌, nat_lt, nat_le, count_by, refl, ap, ◌∙◌, subst, append_assoc, append-nil, arith, and_parts, nat_tests, Command, is_written, test_fits, Stmt, Stmts, Arms, sends, repeats, none, more, no_arm, arm, breaks, stops, both, OpenBlock, sending, ScriptLine, arm_on, block_done, statement_lines, body_lines, arms_lines, send_at, repeat_of, break_out, stop_with, is_repeating, is_sending, awaits_arm, is_statement, Reached, may, may_all}
 use Rattle.std.proofs.lemmas.List.Sums.{sum_by-cons, sum_by-append}
-use Rattle.pr_cdb.specs.declared.command.Command.{Command}
-use Rattle.pr_script.specs.Scripts.{Stmt, Stmts, Arms, sends, repeats, breaks, stops, none, more, no_arm, arm}
-use Rattle.pr_script.specs.Grammar.{is_written, test_fits, count_of_arms, begins_body, statement_fits, statements_fit, arms_fit, count_of, count_of_all, count_in_arms, lines_of, lines_of_all, lines_of_arms, rise_above, script_fits}
-use Rattle.pr_text.specs.ScriptLines.{ScriptLine, send_at, arm_on, block_done, repeat_of, break_out, stop_with, statement_lines, body_lines, arms_lines}
-use Rattle.pr_text.specs.Declarations.{OpenBlock, repeating, sending}
-use Rattle.pr_text.specs.Standing.{is_repeating, is_sending, awaits_arm}
-use Rattle.pr_text.specs.inside.Sound.{Reached, may, may_state, may_all, is_statement, sends_in, AreWhole}
-use Rattle.pr_lines.proofs.Tests.{both, true_lt}
+use Rattle.pr_script.specs.Grammar.{count_of_arms, begins_body, statement_fits, statements_fit, arms_fit, count_of, count_of_all, count_in_arms, lines_of, lines_of_all, lines_of_arms, rise_above, script_fits}
+use Rattle.pr_text.specs.Declarations.{repeating}
+use Rattle.pr_text.specs.inside.Sound.{may_state, sends_in, AreWhole}
+use Rattle.pr_lines.proofs.Tests.{true_lt}
 
 pub no_not : (b : Bool) → not b ≡ true → b ≡ false
 no_not true h = cc

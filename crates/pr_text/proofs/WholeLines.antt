@@ -1,29 +1,14 @@
 -- The lines of a whole scenario have no fault.
-use Rattle.std.specs.Prelude.{◌≡◌, ℕ, zero, suc, ◌+◌, ◌<◌, ◌≤◌, ◌==◌, Bool, true, false, ◌&&◌, not, nat_lt, nat_le, List, [], ◌∷◌, ◌++◌, length, map, Option, Some, None, is_some, option_map, unwrap_or, bytes_eq, Ok}
-use Rattle.std.specs.List.{All, list_all, flat_map, slice_get}
-use Rattle.std.specs.Option.{option_map_or}
-use Rattle.std.proofs.Common.{refl, sym, ap, ◌∙◌, arith, append_assoc, append-nil, length-append}
-use Rattle.std.proofs.lemmas.Bool.{and_parts}
-use Rattle.std.proofs.lemmas.Bool.Decides.{nat_tests}
-use Rattle.pr_registry.specs.declared.held.Held.{Held}
+use Rattle.pr_text.proofs.Common.{◌≡◌, ℕ, zero, suc, ◌+◌, ◌<◌, ◌≤◌, Bool, true, false, not, ◌&&◌, List, [], ◌∷◌, ◌++◌, map, length, is_some, nat_lt, nat_le, ◌==◌, Some, None, Ok, Option, option_map, bytes_eq, sym, refl, ap, ◌∙◌, append_assoc, append-nil, arith, length-append, list_all, slice_get, option_map_or, unwrap_or, and_parts, nat_tests, Held, is_version, are_resets, most_declared, are_distinct, is_nexus, Nexus, Task, Scripted, Planned, first_under, each, fence_line, declares, resets_line, keys_line, reservation_line, generation_line, since, true_le, Declared, nothing, Declaration, outside, held_of, number_of, nexus_written, nexus_declared, all_said, start_of, first_unscripted, end_placed, item_standing, keys_placed, nexus_placed, reservation_placed, generation_placed, resets_placed}
+use Rattle.std.specs.List.{All, flat_map}
 use Rattle.pr_registry.specs.declared.held.Held.TheVariants.{One}
 use Rattle.pr_registry.specs.Registrations.{is_all}
 use Rattle.pr_attention.specs.Attentions.{AreAttentions}
-use Rattle.pr_roles.specs.Scenarios.{Nexus, Task, Scripted, Planned}
-use Rattle.pr_roles.specs.FirstStarts.{first_under}
-use Rattle.pr_roles.specs.Fitting.{most_declared, AreDeclared, are_distinct, is_nexus, is_reservation, is_same_reservation, is_version, are_resets, are_of}
+use Rattle.pr_roles.specs.Fitting.{AreDeclared, is_reservation, is_same_reservation, are_of}
 use Rattle.pr_roles.proofs.Allowed.{start_found}
-use Rattle.pr_lines.specs.Chain.{each}
-use Rattle.pr_lines.specs.Versions.{since}
-use Rattle.pr_lines.specs.ScenarioLines.{fence_line, keys_line, generation_line, resets_line, reservation_line, declares}
-use Rattle.pr_text.specs.Declarations.{Declaration, Declared, outside, nothing}
-use Rattle.pr_text.specs.Declaring.{number_of, held_of}
-use Rattle.pr_text.specs.inside.Chains.{keys_placed, nexus_placed, reservation_placed, generation_placed, resets_placed, item_standing}
-use Rattle.pr_text.specs.Texts.{start_of, first_unscripted, end_placed}
-use Rattle.pr_text.specs.Reading.{nexus_written, nexus_declared}
-use Rattle.pr_text.specs.ScriptRoundTrip.{line, all_said}
+use Rattle.pr_text.specs.ScriptRoundTrip.{line}
 use Rattle.pr_text.specs.ScenarioRoundTrip.{task_line, details_said, keys_said, resets_said, wanted_by, ScenariosHaveNoFault}
-use Rattle.pr_lines.proofs.Tests.{true_le, true_lt}
+use Rattle.pr_lines.proofs.Tests.{true_lt}
 use Rattle.pr_text.proofs.NamesApart.{names, is_taken, free_of, names_moved, itself, number_nowhere, number_there}
 use Rattle.pr_text.proofs.DetailLines.{one_longer, said_on, said_first, pending_same, count_said, count_same, is_planned, placed, bare, full, is_nexus_of, details_go}
 use Rattle.pr_text.proofs.Dates.{has_by, has_first}

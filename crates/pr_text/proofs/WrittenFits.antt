@@ -1,23 +1,12 @@
 -- What is written fits, and the first fault decides.
-use Rattle.std.specs.Prelude.{◌≡◌, ℕ, ◌+◌, ◌<◌, ◌^◌, Bool, true, false, cond, List, [], ◌∷◌, ◌++◌, length, Option, Some, None, is_some, Result, Ok, Err}
-use Rattle.std.specs.Str.Lines.{lines}
-use Rattle.std.proofs.Common.{refl, sym, subst, ap, ◌∙◌, arith}
-use Rattle.std.proofs.lemmas.Bool.{false≢true}
-use Rattle.pr_registry.specs.declared.held.Held.{Held}
-use Rattle.pr_roles.specs.Scenarios.{Scenario}
-use Rattle.pr_roles.specs.Fitting.{Fits}
+use Rattle.pr_text.proofs.Common.{◌≡◌, ℕ, ◌+◌, ◌^◌, ◌<◌, Bool, true, false, cond, List, [], ◌∷◌, ◌++◌, length, is_some, Some, None, Ok, Err, Option, Result, sym, refl, ap, ◌∙◌, subst, arith, lines, false≢true, Held, Fits, Scenario, first_under, Declared, nothing, and_then, unless, IsDeclaredBy, all_placed, starts_somewhere, end_placed, answer_of, ReadError, missing_fault, IsDated, IsSound}
 use Rattle.pr_roles.specs.Starts.{CanStart}
-use Rattle.pr_roles.specs.FirstStarts.{starts, first_under}
+use Rattle.pr_roles.specs.FirstStarts.{starts}
 use Rattle.pr_roles.proofs.Allowed.{first_allowed}
-use Rattle.pr_text.specs.declared.fault.ReadError.{ReadError}
 use Rattle.pr_text.specs.declared.fault.ReadError.TheVariants.{EmptyStart}
-use Rattle.pr_text.specs.Faults.{and_then, unless}
-use Rattle.pr_text.specs.Declarations.{Declared, nothing}
-use Rattle.pr_text.specs.Texts.{line_placed, all_placed, starts_somewhere, end_placed, answer_of_lines, answer_of}
-use Rattle.pr_text.specs.inside.Endings.{missing_fault, start_result}
+use Rattle.pr_text.specs.Texts.{line_placed, answer_of_lines}
+use Rattle.pr_text.specs.inside.Endings.{start_result}
 use Rattle.pr_text.proofs.Endings.{ended_in_turn}
-use Rattle.pr_text.specs.Reading.{IsDeclaredBy}
-use Rattle.pr_text.specs.inside.Sound.{IsSound, IsDated}
 use Rattle.pr_text.specs.Laws.{WhatIsWrittenFits, FirstFaultDecides}
 use Rattle.pr_text.proofs.Answering.{start_same}
 use Rattle.pr_text.proofs.Fitting.{declared_fits}

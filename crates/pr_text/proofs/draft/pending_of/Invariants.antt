@@ -1,5 +1,4 @@
-use Rattle.std.proofs.Common.{◌≡◌, take}
-use Rattle.pr_text.specs.Declaring.{codes_of}
+use Rattle.pr_text.proofs.Common.{◌≡◌, take, codes_of}
 use Rattle.pr_text.proofs.draft.pending_of.Given as goal
 
 abbrev pub invariant-loop-attention : goal.invariant-loop-attention

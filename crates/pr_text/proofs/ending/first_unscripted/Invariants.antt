@@ -1,6 +1,4 @@
-use Rattle.std.proofs.Common.{◌≡◌, length, map}
-use Rattle.pr_text.specs.Texts.{first_unscripted}
-use Rattle.pr_text.specs.inside.Drafts.{draft_seen}
+use Rattle.pr_text.proofs.Common.{◌≡◌, map, length, first_unscripted, draft_seen}
 use Rattle.pr_text.proofs.ending.first_unscripted.Given as goal
 
 abbrev pub invariant-loop-first : goal.invariant-loop-first

@@ -1,7 +1,5 @@
-use Rattle.std.proofs.Common.{◌≡◌, map}
+use Rattle.pr_text.proofs.Common.{◌≡◌, map, nexus_written, nexus_declared, draft_seen}
 use Rattle.pr_roles.specs.Scenarios.{nexus_of}
-use Rattle.pr_text.specs.inside.Drafts.{draft_seen}
-use Rattle.pr_text.specs.Reading.{nexus_written, nexus_declared}
 use Rattle.pr_text.proofs.ending.nexuses_of.Given as goal
 
 abbrev pub invariant-loop-draft : goal.invariant-loop-draft

@@ -1,5 +1,4 @@
-use Rattle.std.proofs.Common.{[], ◌∷◌, ◌++◌, sym, ap, ◌∙◌}
-use Rattle.pr_text.specs.ScriptLines.{block_done}
+use Rattle.pr_text.proofs.Common.{[], ◌∷◌, ◌++◌, sym, ap, ◌∙◌, block_done}
 use Rattle.pr_text.specs.inside.OpenScripts.{opener_lines, lines_in}
 use Rattle.pr_text.proofs.OpenLines.{closed_repeat, closed_send}
 use Rattle.pr_text.proofs.open_script.statement_of_block.Goals as goal

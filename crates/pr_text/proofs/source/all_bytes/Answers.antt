@@ -1,4 +1,4 @@
-use Rattle.std.proofs.Common.{arith}
+use Rattle.pr_text.proofs.Common.{arith}
 use Rattle.std.proofs.lemmas.Grind.{common_steps}
 use Rattle.pr_text.proofs.ReadBytes.{on_err, loses_both}
 use Rattle.pr_text.proofs.source.all_bytes.Goals as goal

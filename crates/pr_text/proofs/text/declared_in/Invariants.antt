@@ -1,8 +1,4 @@
-use Rattle.std.proofs.Common.{◌≡◌, ◌+◌, ◌≤◌, length}
-use Rattle.std.specs.Str.Lines.{lines}
-use Rattle.pr_text.specs.Declarations.{nothing}
-use Rattle.pr_text.specs.inside.Drafts.{declared_by}
-use Rattle.pr_text.specs.Texts.{all_placed}
+use Rattle.pr_text.proofs.Common.{◌≡◌, ◌+◌, ◌≤◌, length, lines, nothing, all_placed, declared_by}
 use Rattle.pr_text.proofs.text.declared_in.Given as goal
 
 -- the lines that are left, behind those that were read

@@ -1,6 +1,5 @@
 use Rattle.std.proofs.lemmas.Result.{err_from_is_err_and}
-use Rattle.pr_roles.specs.Scenarios.{scenario_of}
-use Rattle.pr_text.specs.inside.Drafts.{declared_by}
+use Rattle.pr_text.proofs.Common.{scenario_of, declared_by}
 use Rattle.pr_text.proofs.Answering.{too_large, fails_early, fails_late, written_ok}
 use Rattle.pr_text.proofs.Soundness.{read_sound}
 use Rattle.pr_text.proofs.text.of_text.Goals as goal

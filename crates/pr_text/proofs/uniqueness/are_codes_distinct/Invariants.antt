@@ -1,5 +1,4 @@
-use Rattle.std.proofs.Common.{◌≡◌, length}
-use Rattle.pr_text.specs.inside.Chains.{are_codes_distinct}
+use Rattle.pr_text.proofs.Common.{◌≡◌, length, are_codes_distinct}
 use Rattle.pr_text.proofs.uniqueness.are_codes_distinct.Given as goal
 
 abbrev pub invariant-loop-first : goal.invariant-loop-first

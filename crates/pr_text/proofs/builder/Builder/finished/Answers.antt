@@ -1,9 +1,4 @@
-use Rattle.std.proofs.Common.{◌≡◌, None, refl, sym, ◌∙◌}
-use Rattle.std.proofs.lemmas.Bool.{false≢true}
-use Rattle.pr_roles.specs.Scenarios.{scenario_of}
-use Rattle.pr_roles.specs.Fitting.{Fits}
-use Rattle.pr_text.specs.inside.Drafts.{declared_by}
-use Rattle.pr_text.specs.inside.Endings.{missing_fault}
+use Rattle.pr_text.proofs.Common.{◌≡◌, None, sym, refl, ◌∙◌, false≢true, Fits, scenario_of, declared_by, missing_fault}
 use Rattle.pr_text.proofs.Answering.{whole, empty, fails_end}
 use Rattle.pr_text.proofs.Fitting.{declared_fits}
 use Rattle.pr_text.proofs.builder.Builder.finished.Goals as goal

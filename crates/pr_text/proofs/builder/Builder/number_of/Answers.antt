@@ -1,4 +1,4 @@
-use Rattle.pr_text.specs.Declaring.{number_of}
+use Rattle.pr_text.proofs.Common.{number_of}
 use Rattle.pr_text.proofs.Drafts.{position_of}
 use Rattle.pr_text.proofs.builder.Builder.number_of.Goals as goal
 

@@ -1,9 +1,6 @@
-use Rattle.std.proofs.Common.{◌≡◌, length, map}
-use Rattle.pr_lines.specs.Chain.{each}
-use Rattle.pr_text.specs.Declaring.{held_of}
+use Rattle.pr_text.proofs.Common.{◌≡◌, map, length, each, held_of, draft_seen}
 use Rattle.pr_lines.specs.inside.Lists.{each_onto}
 use Rattle.pr_lines.specs.LineValues.{wanted_seen}
-use Rattle.pr_text.specs.inside.Drafts.{draft_seen}
 use Rattle.pr_text.proofs.builder.Builder.reservations_of.Given as goal
 
 -- the reservations that are left, behind those so far

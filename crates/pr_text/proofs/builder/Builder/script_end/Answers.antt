@@ -1,5 +1,4 @@
-use Rattle.std.proofs.Common.{◌≡◌, true, Ok, sym, ap, ◌∙◌, length}
-use Rattle.std.specs.Prelude.{◌==◌}
+use Rattle.pr_text.proofs.Common.{◌≡◌, true, length, ◌==◌, Ok, sym, ap, ◌∙◌}
 use Rattle.pr_text.specs.inside.OpenScripts.{open_seen}
 use Rattle.pr_text.proofs.OpenLines.{closed_lines}
 use Rattle.pr_text.proofs.builder.Builder.script_end.Goals as goal

@@ -1,9 +1,4 @@
-use Rattle.std.proofs.Common.{◌≡◌, Some, sym, ap, ◌∙◌, arith}
-use Rattle.std.specs.Prelude.{map}
-use Rattle.std.specs.List.{slice_get}
-use Rattle.pr_text.specs.Declaring.{number_of, declared_keys}
-use Rattle.pr_text.specs.inside.Chains.{start_fault}
-use Rattle.pr_text.specs.inside.Drafts.{declared_by, draft_seen}
+use Rattle.pr_text.proofs.Common.{◌≡◌, map, Some, sym, ap, ◌∙◌, arith, slice_get, declared_keys, number_of, start_fault, draft_seen, declared_by}
 use Rattle.pr_text.proofs.Drafts.{found, start_fails}
 use Rattle.pr_text.proofs.builder.Builder.start_line.Goals as goal
 
