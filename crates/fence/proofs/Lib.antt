@@ -4,7 +4,6 @@ pub mod Judging
 pub mod Auditing
 pub mod Reasons
 pub mod Performing
-pub mod Telling
 pub mod Taking
 pub mod Witnessing
 pub mod Explained

@@ -4,3 +4,4 @@ pub mod PlannedReplays
 pub mod Performances
 pub mod Witnessed
 pub mod Traced
+pub mod FaultRows

@@ -1,12 +1,11 @@
 //! What a command of the program can end in, and the one line that says so.
 
-ghost use Rattle.std.specs.Prelude.{◌≡◌, ◌∷◌, [], codes, map};
-ghost use Rattle.std.specs.Fmt.{decimal};
+ghost use Rattle.std.specs.Prelude.{◌≡◌, codes, map};
 ghost use Rattle.std.specs.IoError.{error_kind};
 ghost use Rattle.pr_report.specs.Written.{AppendsFront, Puts};
 ghost use Rattle.pr_report.specs.Printed.{printed_word};
-ghost use Rattle.pr_report.specs.PrintedLines.{line};
-ghost use Rattle.fence.specs.FaultText.{args_fault, exit_status_of, fault_text, open_fault, status_of, told_line, input_words, trace_words, of_whole, at_line, which_word};
+ghost use Rattle.fence.specs.FaultText.{args_fault, exit_status_of, fault_text, input_words, open_fault, status_of, told_line, trace_words, which_word};
+ghost use Rattle.fence.specs.inside.FaultRows.{row_words};
 
 use pr_report::{TraceError, Word, WriteFault, put_line};
 use pr_roles::Word as Name;
@@ -193,138 +192,99 @@ pub fn put_fault<W: Write>(errors: &mut W, fault: &Fault) -> Result<(), WriteFau
     match fault {
         Fault::Usage => put_told(errors, &[Word::Text(b"usage")]),
         Fault::File => put_told(errors, &[Word::Text(b"file")]),
-        Fault::Input(error) => put_input(errors, *error),
-        Fault::Trace(error) => put_trace(errors, *error),
-        Fault::Thread(name) => put_thread(errors, name),
+        Fault::Input(error) => put_row(errors, b"input", input_row(*error)),
+        Fault::Trace(error) => put_row(errors, b"trace", trace_row(*error)),
+        Fault::Thread(name) => put_told(
+            errors,
+            &[Word::Text(b"thread"), Word::Text(name.as_str().as_bytes())],
+        ),
         Fault::History => put_told(errors, &[Word::Text(b"history")]),
         Fault::Memory => put_told(errors, &[Word::Text(b"memory")]),
         Fault::Output => put_told(errors, &[Word::Text(b"output")]),
     }
 }
 
-fn put_input<W: Write>(errors: &mut W, error: ReadError) -> Result<(), WriteFault>
-    ensures { Puts (W.contents errors.old) (W.contents errors.new) (told_line (input_words error)) result }
+/// A row of the tables below: what the line for a fault of a text says of it.
+enum FaultRow {
+    /// The number and the name of a fault of the whole text.
+    Whole(&'static [u8], &'static [u8]),
+
+    /// Those of a fault of a line, and which line.
+    Line(&'static [u8], &'static [u8], u32),
+
+    /// Those of a line past a limit, which limit, and which line.
+    Limit(&'static [u8], &'static [u8], Which, u32),
+
+    /// Memory ran out, which is no fault of the text and told without its number.
+    Memory,
+}
+
+// The faults of a scenario's text, in the order of their numbers.
+fn input_row(error: ReadError) -> FaultRow
+    ensures { row_words (codes "input") result ≡ input_words error }
 {
     match error {
-        ReadError::TooLarge => put_of_whole(errors, b"input", b"1", b"TooLarge"),
-        ReadError::NotAscii { line } => put_at_line(errors, b"input", b"2", b"NotAscii", line),
-        ReadError::LineTooLong { line } => put_at_line(
-            errors,
-            b"input",
-            b"3",
-            b"LineTooLong",
-            line,
-        ),
-        ReadError::Syntax { line } => put_at_line(errors, b"input", b"4", b"Syntax", line),
-        ReadError::UnknownName { line } => put_at_line(
-            errors,
-            b"input",
-            b"5",
-            b"UnknownName",
-            line,
-        ),
-        ReadError::Limit { which, line } => put_limit(errors, which, line),
-        ReadError::UndeclaredKey { line } => put_at_line(
-            errors,
-            b"input",
-            b"7",
-            b"UndeclaredKey",
-            line,
-        ),
-        ReadError::Repeated { line } => put_at_line(errors, b"input", b"8", b"Repeated", line),
-        ReadError::Unclosed { line } => put_at_line(errors, b"input", b"9", b"Unclosed", line),
-        ReadError::ReadFault => put_of_whole(errors, b"input", b"10", b"ReadFault"),
-        ReadError::Memory => put_memory(errors),
-        ReadError::EmptyStart => put_of_whole(errors, b"input", b"12", b"EmptyStart"),
+        ReadError::TooLarge => FaultRow::Whole(b"1", b"TooLarge"),
+        ReadError::NotAscii { line } => FaultRow::Line(b"2", b"NotAscii", line),
+        ReadError::LineTooLong { line } => FaultRow::Line(b"3", b"LineTooLong", line),
+        ReadError::Syntax { line } => FaultRow::Line(b"4", b"Syntax", line),
+        ReadError::UnknownName { line } => FaultRow::Line(b"5", b"UnknownName", line),
+        ReadError::Limit { which, line } => FaultRow::Limit(b"6", b"Limit", which, line),
+        ReadError::UndeclaredKey { line } => FaultRow::Line(b"7", b"UndeclaredKey", line),
+        ReadError::Repeated { line } => FaultRow::Line(b"8", b"Repeated", line),
+        ReadError::Unclosed { line } => FaultRow::Line(b"9", b"Unclosed", line),
+        ReadError::ReadFault => FaultRow::Whole(b"10", b"ReadFault"),
+        ReadError::Memory => FaultRow::Memory,
+        ReadError::EmptyStart => FaultRow::Whole(b"12", b"EmptyStart"),
     }
 }
 
-#[tactic(auto, unfolding(pr_report::specs::Printed::printed_word))]
-fn put_memory<W: Write>(errors: &mut W) -> Result<(), WriteFault>
-    ensures { Puts (W.contents errors.old) (W.contents errors.new) (told_line (codes "memory" ∷ [])) result }
-{
-    put_told(errors, &[Word::Text(b"memory")])
-}
-
-fn put_trace<W: Write>(errors: &mut W, error: TraceError) -> Result<(), WriteFault>
-    ensures { Puts (W.contents errors.old) (W.contents errors.new) (told_line (trace_words error)) result }
+// Those of a trace.
+fn trace_row(error: TraceError) -> FaultRow
+    ensures { row_words (codes "trace") result ≡ trace_words error }
 {
     match error {
-        TraceError::Syntax { line } => put_at_line(errors, b"trace", b"1", b"Syntax", line),
-        TraceError::UnknownName { line } => {
-            put_at_line(errors, b"trace", b"2", b"UnknownName", line)
+        TraceError::Syntax { line } => FaultRow::Line(b"1", b"Syntax", line),
+        TraceError::UnknownName { line } => FaultRow::Line(b"2", b"UnknownName", line),
+        TraceError::TooLong => FaultRow::Whole(b"3", b"TooLong"),
+        TraceError::ReadFault => FaultRow::Whole(b"4", b"ReadFault"),
+        TraceError::Memory => FaultRow::Memory,
+    }
+}
+
+// The line for a fault of this text, which is the input or the trace.
+#[tactic(auto, unfolding(pr_report::specs::Printed::printed_word))]
+fn put_row<W: Write>(errors: &mut W, text: &[u8], row: FaultRow) -> Result<(), WriteFault>
+    ensures { Puts (W.contents errors.old) (W.contents errors.new) (told_line (row_words text.now row)) result }
+{
+    let text = Word::Text(text);
+    match row {
+        FaultRow::Whole(number, name) => {
+            put_told(errors, &[text, Word::Text(number), Word::Text(name)])
         }
-        TraceError::TooLong => put_of_whole(errors, b"trace", b"3", b"TooLong"),
-        TraceError::ReadFault => put_of_whole(errors, b"trace", b"4", b"ReadFault"),
-        TraceError::Memory => put_memory(errors),
+        FaultRow::Line(number, name, line) => put_told(
+            errors,
+            &[
+                text,
+                Word::Text(number),
+                Word::Text(name),
+                Word::Text(b"line"),
+                Word::Number(u64::from(line)),
+            ],
+        ),
+        FaultRow::Limit(number, name, which, line) => put_told(
+            errors,
+            &[
+                text,
+                Word::Text(number),
+                Word::Text(name),
+                Word::Text(which_word(which)),
+                Word::Text(b"line"),
+                Word::Number(u64::from(line)),
+            ],
+        ),
+        FaultRow::Memory => put_told(errors, &[Word::Text(b"memory")]),
     }
-}
-
-// Whose thread could not be started.
-#[tactic(auto, unfolding(pr_report::specs::Printed::printed_word))]
-fn put_thread<W: Write>(errors: &mut W, name: &Name) -> Result<(), WriteFault>
-    ensures { Puts (W.contents errors.old) (W.contents errors.new) (told_line (codes "thread" ∷ name.now.bytes ∷ [])) result }
-{
-    put_told(
-        errors,
-        &[Word::Text(b"thread"), Word::Text(name.as_str().as_bytes())],
-    )
-}
-
-// A fault of a whole text, which is the input or the trace.
-#[tactic(auto, unfolding(pr_report::specs::Printed::printed_word))]
-fn put_of_whole<'a, W: Write>(
-    errors: &mut W,
-    which: &'a [u8],
-    number: &'a [u8],
-    name: &'a [u8],
-) -> Result<(), WriteFault>
-    ensures { Puts (W.contents errors.old) (W.contents errors.new) (told_line (of_whole which.now number.now name.now)) result }
-{
-    put_told(
-        errors,
-        &[Word::Text(which), Word::Text(number), Word::Text(name)],
-    )
-}
-
-// A fault of a line.
-#[tactic(auto, unfolding(pr_report::specs::Printed::printed_word))]
-fn put_at_line<'a, W: Write>(
-    errors: &mut W,
-    which: &'a [u8],
-    number: &'a [u8],
-    name: &'a [u8],
-    line: u32,
-) -> Result<(), WriteFault>
-    ensures { Puts (W.contents errors.old) (W.contents errors.new) (told_line (at_line which.now number.now name.now line)) result }
-{
-    put_told(
-        errors,
-        &[
-            Word::Text(which),
-            Word::Text(number),
-            Word::Text(name),
-            Word::Text(b"line"),
-            Word::Number(u64::from(line)),
-        ],
-    )
-}
-
-#[tactic(auto, unfolding(pr_report::specs::Printed::printed_word))]
-fn put_limit<W: Write>(errors: &mut W, which: Which, line: u32) -> Result<(), WriteFault>
-    ensures { Puts (W.contents errors.old) (W.contents errors.new) (told_line (codes "input" ∷ codes "6" ∷ codes "Limit" ∷ which_word which ∷ codes "line" ∷ decimal line ∷ [])) result }
-{
-    put_told(
-        errors,
-        &[
-            Word::Text(b"input"),
-            Word::Text(b"6"),
-            Word::Text(b"Limit"),
-            Word::Text(which_word(which)),
-            Word::Text(b"line"),
-            Word::Number(u64::from(line)),
-        ],
-    )
 }
 
 fn which_word(which: Which) -> &'static [u8]
