@@ -4,7 +4,6 @@ ghost use Rattle.std.specs.Prelude.{◌≡◌, codes, map};
 ghost use Rattle.std.specs.IoError.{error_kind};
 ghost use Rattle.pr_report.specs.Written.{AppendsFront, Puts};
 ghost use Rattle.pr_report.specs.Printed.{printed_word};
-ghost use Rattle.pr_report.specs.PrintedLines.{line};
 ghost use Rattle.fence.specs.FaultText.{args_fault, exit_status_of, fault_text, input_words, open_fault, status_of, told_line, trace_words, which_word};
 ghost use Rattle.fence.specs.inside.FaultRows.{row_words};
 
