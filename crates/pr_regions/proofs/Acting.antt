@@ -1,5 +1,5 @@
 -- What becomes of a state, by what a change says, registration by registration.
-use Rattle.pr_regions.proofs.Common.{◌≡◌, ℕ, ◌≤◌, Bool, true, false, ◌≢◌, List, length, if◌then◌else◌, None, unwrap_or, sym, refl, ap, ◌∙◌, arith, State, key_of, UnitState, Scope, number_of, key_at, codes_of, has, Change}
+use Rattle.pr_regions.proofs.Common.{◌≡◌, ℕ, ◌≤◌, Bool, true, false, ◌≢◌, List, length, if◌then◌else◌, None, unwrap_or, sym, refl, ap, ◌∙◌, arith, has, codes_of, State, key_of, UnitState, Scope, number_of, key_at, Change}
 use Rattle.std.specs.FinSet as set
 use Rattle.pr_registry.specs.declared.change.Change.{Change as Told}
 use Rattle.pr_unit.specs.UnitStates.{pending_after, is_pending}

@@ -1,5 +1,5 @@
 -- Which arm takes the data of READ KEYS, one arm after another.
-use Rattle.pr_regions.proofs.Common.{◌≡◌, ℕ, zero, suc, ◌+◌, ◌<◌, ◌≤◌, Bool, true, false, cond, not, ◌&&◌, ◌≢◌, ◌⊎◌, List, [], ◌∷◌, ◌++◌, length, get_or, if◌then◌else◌, nat_lt, ◌==◌, Some, None, Option, sym, refl, ap, ◌∙◌, subst, inl, inr, arith, length-append, position, not-true, nat_tests, eqb_tells, Command, Held, UnitState, Scope, IsScope, Registration, IsSo, has, matches, Word, HasSomebody, IsInRegion, any, only, IsKnown, answer}
+use Rattle.pr_regions.proofs.Common.{◌≡◌, ℕ, zero, suc, ◌+◌, ◌<◌, ◌≤◌, Bool, true, false, cond, not, ◌&&◌, ◌≢◌, ◌⊎◌, List, [], ◌∷◌, ◌++◌, length, get_or, if◌then◌else◌, nat_lt, ◌==◌, Some, None, Option, sym, refl, ap, ◌∙◌, subst, inl, inr, arith, length-append, position, not-true, nat_tests, eqb_tells, has, Word, Command, Held, UnitState, matches, HasSomebody, Scope, IsScope, Registration, IsSo, IsInRegion, any, only, IsKnown, answer}
 use Rattle.std.specs.List.{Contains}
 use Rattle.std.proofs.lemmas.Bool.{and_parts}
 use Rattle.std.proofs.lemmas.List.Sums.{position_or_len_is}

@@ -1,5 +1,5 @@
 -- What a test of READ KEYS asks of the others' registrations.
-use Rattle.pr_regions.proofs.Common.{◌≡◌, ℕ, ◌<◌, ◌≤◌, true, false, ◌≢◌, ◌⊎◌, List, length, ◌==◌, Some, Option, sym, refl, ap, ◌∙◌, subst, inl, inr, arith, false≢true, nat_tests, eqb_tells, Held, key_of, UnitState, Scope, key_at, Registration, IsSo, matches, HasSomebody, ReadKeys, WRITTEN_LENGTH, number_in, only, IsKnown, answer}
+use Rattle.pr_regions.proofs.Common.{◌≡◌, ℕ, ◌<◌, ◌≤◌, true, false, ◌≢◌, ◌⊎◌, List, length, ◌==◌, Some, Option, sym, refl, ap, ◌∙◌, subst, inl, inr, arith, false≢true, nat_tests, eqb_tells, ReadKeys, key_of, Held, UnitState, matches, WRITTEN_LENGTH, HasSomebody, Scope, key_at, Registration, IsSo, number_in, only, IsKnown, answer}
 use Rattle.pr_script.specs.declared.script.Test.TheVariants.{GoodHas}
 use Rattle.pr_script.specs.Grammar.{test_fits}
 use Rattle.pr_regions.specs.inside.Reads.{HasNobody}

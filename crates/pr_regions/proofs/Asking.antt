@@ -1,5 +1,5 @@
 -- What each purpose does in a state, whichever command asks for it.
-use Rattle.pr_regions.proofs.Common.{◌≡◌, ℕ, suc, ◌+◌, ◌<◌, ◌≤◌, Bool, true, false, cond, not, ◌&&◌, ◌||◌, List, [], ◌∷◌, length, get_or, is_some, if◌then◌else◌, nat_lt, nat_le, ◌==◌, Some, None, Option, unwrap_or, sym, refl, ap, ◌∙◌, subst, arith, position, list_any, false≢true, nat_tests, Kind, Command, Sense, State, is_registered, key_of, no_change, is_held_by_all, change_on_unregister, illegal, key_at, is_key, Purpose, Read, Write, Look, Register, Unregister, Reserve, Release, Clear, PreemptAll, Preempt, HasNumber, number_in}
+use Rattle.pr_regions.proofs.Common.{◌≡◌, ℕ, suc, ◌+◌, ◌<◌, ◌≤◌, Bool, true, false, cond, not, ◌&&◌, ◌||◌, List, [], ◌∷◌, length, get_or, is_some, if◌then◌else◌, nat_lt, nat_le, ◌==◌, Some, None, Option, unwrap_or, sym, refl, ap, ◌∙◌, subst, arith, position, list_any, false≢true, nat_tests, Command, Kind, Sense, no_change, is_held_by_all, change_on_unregister, is_key, State, is_registered, key_of, illegal, key_at, HasNumber, number_in, Purpose, Read, Write, Look, Register, Unregister, Reserve, Release, Clear, PreemptAll, Preempt}
 use Rattle.std.specs.List.{position_or_len}
 use Rattle.std.specs.Option.{option_map_or}
 use Rattle.std.specs.List.{slice_get}

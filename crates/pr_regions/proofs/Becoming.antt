@@ -1,5 +1,5 @@
 -- What each service action makes of a registry, registration by registration.
-use Rattle.pr_regions.proofs.Common.{◌≡◌, ℕ, zero, suc, ◌≤◌, Bool, true, false, cond, not, ◌&&◌, ◌≢◌, ◌⊎◌, List, length, is_some, if◌then◌else◌, ◌==◌, Some, None, Option, unwrap_or, sym, refl, ap, ◌∙◌, subst, inl, inr, arith, nat_tests, eqb_tells, Kind, State, is_registered, key_of, no_change, change_on_unregister, is_told_of_loss, number_of, key_at, is_key, Hosts, nobody, contains-nobody, get-without, Change, Does, never, is_of_registrant, told_if}
+use Rattle.pr_regions.proofs.Common.{◌≡◌, ℕ, zero, suc, ◌≤◌, Bool, true, false, cond, not, ◌&&◌, ◌≢◌, ◌⊎◌, List, length, is_some, if◌then◌else◌, ◌==◌, Some, None, Option, unwrap_or, sym, refl, ap, ◌∙◌, subst, inl, inr, arith, nat_tests, eqb_tells, Kind, no_change, change_on_unregister, is_told_of_loss, is_key, Hosts, nobody, State, is_registered, key_of, contains-nobody, get-without, number_of, key_at, Change, Does, never, is_of_registrant, told_if}
 use Rattle.std.specs.FinSet as set
 use Rattle.std.specs.FinMap as map
 use Rattle.pr_registry.specs.declared.change.Change.{Change as Told}

@@ -1,5 +1,5 @@
 -- The branches of a command that preempts a key.
-use Rattle.pr_regions.proofs.Common.{◌≡◌, ℕ, ◌≤◌, Bool, true, false, not, ◌&&◌, ◌||◌, ◌≢◌, ◌⊎◌, [], ◌∷◌, is_some, if◌then◌else◌, ◌==◌, Some, None, Option, sym, refl, ap, ◌∙◌, subst, inl, inr, arith, not-true, false≢true, nat_tests, eqb_tells, Kind, Command, Held, is_registered, key_of, new_reservation, is_held_by_all, is_kind, UnitState, Scope, number_of, key_at, Registration, IsSo, HasSomebody, is_key, Keys, without, hosts_with, is_empty, held_by_rest, One, All, Change, Conflict, Good, Preempt, Standing, HasNumber, Meets, HasRoom, IsCovered, Does, AlwaysEnds, never, any, only, but, another, told_but, lost_if, is_named, Leaves, EndsIn, Tell, Branch}
+use Rattle.pr_regions.proofs.Common.{◌≡◌, ℕ, ◌≤◌, Bool, true, false, not, ◌&&◌, ◌||◌, ◌≢◌, ◌⊎◌, [], ◌∷◌, is_some, if◌then◌else◌, ◌==◌, Some, None, Option, sym, refl, ap, ◌∙◌, subst, inl, inr, arith, not-true, false≢true, nat_tests, eqb_tells, Command, Kind, is_held_by_all, is_kind, held_by_rest, is_key, Keys, without, hosts_with, is_empty, is_registered, key_of, new_reservation, Held, One, All, UnitState, HasSomebody, Scope, number_of, key_at, Registration, IsSo, HasNumber, Meets, HasRoom, IsCovered, Preempt, Standing, Branch, Change, Conflict, Good, Does, AlwaysEnds, never, any, only, but, another, told_but, lost_if, is_named, Leaves, EndsIn, Tell}
 use Rattle.std.specs.FinMap as map
 use Rattle.pr_regions.specs.inside.Parts.{free_or, IsNotAnothers}
 use Rattle.pr_regions.proofs.Unique.{few_keys, is_some-key_at}

@@ -3,34 +3,34 @@ pub use Rattle.std.proofs.Common.{◌≡◌, ℕ, zero, suc, ◌+◌, ◌*◌, �
 pub use Rattle.std.specs.List.{position, list_any}
 pub use Rattle.std.proofs.lemmas.Bool.{not-true, false≢true}
 pub use Rattle.std.proofs.lemmas.Bool.Decides.{nat_tests, eqb_tells}
-pub use Rattle.pr_cdb.specs.declared.command.Kind.{Kind}
-pub use Rattle.pr_cdb.specs.declared.command.Command.{Command}
-pub use Rattle.pr_cdb.specs.declared.reply.Sense.{Sense}
-pub use Rattle.pr_registry.specs.declared.held.Held.{Held}
-pub use Rattle.pr_registry.specs.Registrations.{State, is_registered, kind_of, key_of, new_reservation}
-pub use Rattle.pr_registry.specs.Changes.{no_change, is_held_by_all, change_on_unregister, is_told_of_loss, is_kind, ReplacesAll, preempt_case}
-pub use Rattle.pr_unit.specs.UnitStates.{UnitState}
-pub use Rattle.pr_unit.specs.Faults.{illegal}
-pub use Rattle.pr_views.specs.Possibilities.{Scope, number_of, key_at, IsScope, Registration, IsSo}
-pub use Rattle.pr_attention.specs.Flagged.{codes_of}
 pub use Rattle.pr_sets.specs.Words.{has}
-pub use Rattle.pr_script.specs.Takes.{matches}
 pub use Rattle.pr_sets.specs.declared.word.Word.{Word}
-pub use Rattle.pr_views.specs.Portions.{HasSomebody}
+pub use Rattle.pr_cdb.specs.declared.command.Command.{Command}
 pub use Rattle.pr_cdb.specs.declared.command.Command.TheVariants.{ReadKeys}
-pub use Rattle.pr_script.specs.declared.grammar.TheConstants.{WRITTEN_LENGTH}
-pub use Rattle.pr_registry.specs.Hosts.{is_key, Hosts, nobody, Keys, without, hosts_with, is_empty}
+pub use Rattle.pr_cdb.specs.declared.command.Kind.{Kind}
+pub use Rattle.pr_cdb.specs.declared.reply.Sense.{Sense}
+pub use Rattle.pr_attention.specs.Flagged.{codes_of}
+pub use Rattle.pr_registry.specs.Changes.{no_change, is_held_by_all, change_on_unregister, is_told_of_loss, is_kind, ReplacesAll, preempt_case}
 pub use Rattle.pr_registry.specs.Effects.{held_by_rest}
-pub use Rattle.pr_registry.proofs.Sets.{contains-nobody, get-without}
+pub use Rattle.pr_registry.specs.Hosts.{is_key, Hosts, nobody, Keys, without, hosts_with, is_empty}
+pub use Rattle.pr_registry.specs.Registrations.{State, is_registered, kind_of, key_of, new_reservation}
+pub use Rattle.pr_registry.specs.declared.held.Held.{Held}
 pub use Rattle.pr_registry.specs.declared.held.Held.TheVariants.{One, All}
-pub use Rattle.pr_regions.specs.declared.region.Change.{Change}
-pub use Rattle.pr_regions.specs.declared.region.Ending.TheVariants.{Conflict, Fault, Good}
+pub use Rattle.pr_registry.proofs.Sets.{contains-nobody, get-without}
+pub use Rattle.pr_unit.specs.Faults.{illegal}
+pub use Rattle.pr_unit.specs.UnitStates.{UnitState}
+pub use Rattle.pr_script.specs.Takes.{matches}
+pub use Rattle.pr_script.specs.declared.grammar.TheConstants.{WRITTEN_LENGTH}
+pub use Rattle.pr_views.specs.Portions.{HasSomebody}
+pub use Rattle.pr_views.specs.Possibilities.{Scope, number_of, key_at, IsScope, Registration, IsSo}
+pub use Rattle.pr_regions.specs.Purposes.{HasNumber, number_in}
+pub use Rattle.pr_regions.specs.Readings.{IsProperReading}
+pub use Rattle.pr_regions.specs.Regions.{Meets, HasRoom, IsInRegion, IsCovered, Ends}
 pub use Rattle.pr_regions.specs.declared.purpose.Purpose.{Purpose}
 pub use Rattle.pr_regions.specs.declared.purpose.Purpose.TheVariants.{Read, Write, Look, Register, Unregister, Reserve, Release, Clear, PreemptAll, Preempt}
 pub use Rattle.pr_regions.specs.declared.purpose.Standing.{Standing}
-pub use Rattle.pr_regions.specs.Purposes.{HasNumber, number_in}
-pub use Rattle.pr_regions.specs.Regions.{Meets, HasRoom, IsInRegion, IsCovered, Ends}
-pub use Rattle.pr_regions.specs.inside.Parts.{Does, AlwaysEnds, never, is_unregistered, holds, any, only, is_of_registrant, told_if, but, another, told_but, lost_if, is_named, Leaves, EndsIn, Tell}
-pub use Rattle.pr_regions.specs.Readings.{IsProperReading}
-pub use Rattle.pr_regions.specs.inside.Reads.{IsKnown, answer}
 pub use Rattle.pr_regions.specs.declared.region.Branch.{Branch}
+pub use Rattle.pr_regions.specs.declared.region.Change.{Change}
+pub use Rattle.pr_regions.specs.declared.region.Ending.TheVariants.{Conflict, Fault, Good}
+pub use Rattle.pr_regions.specs.inside.Parts.{Does, AlwaysEnds, never, is_unregistered, holds, any, only, is_of_registrant, told_if, but, another, told_but, lost_if, is_named, Leaves, EndsIn, Tell}
+pub use Rattle.pr_regions.specs.inside.Reads.{IsKnown, answer}

@@ -1,5 +1,5 @@
 -- Branches that tell how a command ends, by their regions.
-use Rattle.pr_regions.proofs.Common.{◌≡◌, ℕ, zero, suc, ◌<◌, ◌≤◌, Bool, true, false, ◌≢◌, ◌⊎◌, List, [], ◌∷◌, length, if◌then◌else◌, ◌==◌, Some, None, Option, option_map, sym, refl, ap, ◌∙◌, subst, inl, inr, arith, eqb_tells, Command, Held, UnitState, Scope, IsScope, Registration, IsSo, has, Word, HasSomebody, One, Purpose, Standing, Meets, IsInRegion, IsCovered, AlwaysEnds, any, Leaves, EndsIn, Tell, Branch}
+use Rattle.pr_regions.proofs.Common.{◌≡◌, ℕ, zero, suc, ◌<◌, ◌≤◌, Bool, true, false, ◌≢◌, ◌⊎◌, List, [], ◌∷◌, length, if◌then◌else◌, ◌==◌, Some, None, Option, option_map, sym, refl, ap, ◌∙◌, subst, inl, inr, arith, eqb_tells, has, Word, Command, Held, One, UnitState, HasSomebody, Scope, IsScope, Registration, IsSo, Meets, IsInRegion, IsCovered, Purpose, Standing, Branch, AlwaysEnds, any, Leaves, EndsIn, Tell}
 use Rattle.std.specs.List.{All as Each, Contains}
 use Rattle.pr_regions.specs.declared.region.Region.{Region}
 use Rattle.pr_regions.specs.Regions.{filter_of, IsUntestedOrRegistered}

@@ -1,5 +1,5 @@
 -- How a command ends in a state that meets what is known, by its purpose.
-use Rattle.pr_regions.proofs.Common.{◌≡◌, ℕ, zero, suc, ◌<◌, ◌≤◌, Bool, true, false, not, if◌then◌else◌, Some, None, Option, unwrap_or, sym, refl, ap, ◌∙◌, subst, arith, nat_tests, Command, Sense, Held, State, is_registered, no_change, UnitState, Scope, number_of, One, All, Change, Conflict, Fault, Good, Purpose, Standing, HasNumber, Meets, HasRoom, Ends, Does, never, is_unregistered, holds, is_of_registrant}
+use Rattle.pr_regions.proofs.Common.{◌≡◌, ℕ, zero, suc, ◌<◌, ◌≤◌, Bool, true, false, not, if◌then◌else◌, Some, None, Option, unwrap_or, sym, refl, ap, ◌∙◌, subst, arith, nat_tests, Command, Sense, no_change, State, is_registered, Held, One, All, UnitState, Scope, number_of, HasNumber, Meets, HasRoom, Ends, Purpose, Standing, Change, Conflict, Fault, Good, Does, never, is_unregistered, holds, is_of_registrant}
 use Rattle.pr_registry.specs.declared.change.Change.{Change as Told}
 use Rattle.pr_registry.specs.Registrations.{is_holder}
 use Rattle.pr_registry.specs.Effects.{after, change}

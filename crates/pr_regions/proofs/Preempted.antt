@@ -1,5 +1,5 @@
 -- What PREEMPT makes of a registry, by its case.
-use Rattle.pr_regions.proofs.Common.{◌≡◌, ℕ, ◌≤◌, Bool, true, false, not, ◌&&◌, ◌≢◌, List, length, if◌then◌else◌, ◌==◌, Some, None, Option, unwrap_or, sym, refl, ap, ◌∙◌, subst, arith, Kind, State, key_of, new_reservation, no_change, is_kind, ReplacesAll, preempt_case, number_of, key_at, Hosts, nobody, without, hosts_with, held_by_rest, contains-nobody, get-without, never, is_of_registrant, told_but, lost_if}
+use Rattle.pr_regions.proofs.Common.{◌≡◌, ℕ, ◌≤◌, Bool, true, false, not, ◌&&◌, ◌≢◌, List, length, if◌then◌else◌, ◌==◌, Some, None, Option, unwrap_or, sym, refl, ap, ◌∙◌, subst, arith, Kind, no_change, is_kind, ReplacesAll, preempt_case, held_by_rest, Hosts, nobody, without, hosts_with, State, key_of, new_reservation, contains-nobody, get-without, number_of, key_at, never, is_of_registrant, told_but, lost_if}
 use Rattle.std.specs.FinSet as set
 use Rattle.std.specs.FinMap as map
 use Rattle.pr_registry.specs.declared.change.Change.{Change as Told}

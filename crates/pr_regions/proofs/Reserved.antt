@@ -1,5 +1,5 @@
 -- Which arm takes the data of READ RESERVATION.
-use Rattle.pr_regions.proofs.Common.{◌≡◌, ℕ, zero, suc, ◌+◌, ◌^◌, ◌<◌, ◌≤◌, Bool, true, false, cond, not, ◌≢◌, ◌⊎◌, List, [], ◌∷◌, ◌++◌, length, get_or, is_some, is_none, if◌then◌else◌, IsTrue, nat_lt, ◌==◌, Some, None, Option, option_map, unwrap_or, sym, refl, ap, ◌∙◌, subst, inl, inr, arith, lit<, position, false≢true, nat_tests, eqb_tells, Kind, Command, Held, State, key_of, UnitState, Scope, key_at, Registration, IsSo, matches, WRITTEN_LENGTH, is_key, IsInRegion, any, only, is_of_registrant, Leaves, IsKnown, answer}
+use Rattle.pr_regions.proofs.Common.{◌≡◌, ℕ, zero, suc, ◌+◌, ◌^◌, ◌<◌, ◌≤◌, Bool, true, false, cond, not, ◌≢◌, ◌⊎◌, List, [], ◌∷◌, ◌++◌, length, get_or, is_some, is_none, if◌then◌else◌, IsTrue, nat_lt, ◌==◌, Some, None, Option, option_map, unwrap_or, sym, refl, ap, ◌∙◌, subst, inl, inr, arith, lit<, position, false≢true, nat_tests, eqb_tells, Command, Kind, is_key, State, key_of, Held, UnitState, matches, WRITTEN_LENGTH, Scope, key_at, Registration, IsSo, IsInRegion, any, only, is_of_registrant, Leaves, IsKnown, answer}
 use Rattle.std.specs.List.{All, Contains, prefix_len}
 use Rattle.std.proofs.lemmas.Option.{slice_get-get_or}
 use Rattle.std.proofs.lemmas.List.Elements.{Contains-push}

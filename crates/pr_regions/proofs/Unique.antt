@@ -1,5 +1,5 @@
 -- A registration, a reservation and a set of attentions each have one number.
-use Rattle.pr_regions.proofs.Common.{◌≡◌, ℕ, zero, suc, ◌+◌, ◌*◌, ◌<◌, ◌≤◌, Bool, true, false, not, ◌||◌, ◌⊎◌, List, [], ◌∷◌, length, is_some, IsTrue, nat_lt, nat_le, ◌==◌, Some, None, Option, sym, refl, ap, ◌∙◌, inl, inr, arith, list_any, false≢true, nat_tests, Kind, Held, UnitState, Scope, number_of, key_at, IsScope, Registration, IsSo, codes_of}
+use Rattle.pr_regions.proofs.Common.{◌≡◌, ℕ, zero, suc, ◌+◌, ◌*◌, ◌<◌, ◌≤◌, Bool, true, false, not, ◌||◌, ◌⊎◌, List, [], ◌∷◌, length, is_some, IsTrue, nat_lt, nat_le, ◌==◌, Some, None, Option, sym, refl, ap, ◌∙◌, inl, inr, arith, list_any, false≢true, nat_tests, Kind, codes_of, Held, UnitState, Scope, number_of, key_at, IsScope, Registration, IsSo}
 use Rattle.std.specs.List.{slice_get}
 use Rattle.std.proofs.lemmas.Bool.{and_parts}
 use Rattle.std.proofs.lemmas.Bool.Decides.{leb_tells}

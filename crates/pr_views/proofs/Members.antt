@@ -1,5 +1,5 @@
 -- What lists of sets contain at a place.
-use Rattle.pr_views.proofs.Common.{◌≡◌, ℕ, ◌+◌, ◌<◌, Bool, true, false, ◌↔◌, List, length, IsTrue, slice_index_or, slice_set, sym, ap, ◌∙◌, arith, false≢true, contains-nobody, Word, has, has_at, contains_at}
+use Rattle.pr_views.proofs.Common.{◌≡◌, ℕ, ◌+◌, ◌<◌, Bool, true, false, ◌↔◌, List, length, IsTrue, slice_index_or, slice_set, sym, ap, ◌∙◌, arith, false≢true, has, Word, contains-nobody, has_at, contains_at}
 use Rattle.std.specs.FinSet as set
 use Rattle.pr_registry.proofs.Sets.{same_hosts}
 use Rattle.pr_sets.specs.Numbers.{Numbers, Within}

@@ -1,5 +1,5 @@
 -- Each registration, reservation and set of attentions has one number, and each number below the bound is one's.
-use Rattle.pr_views.proofs.Common.{◌≡◌, ℕ, zero, suc, ◌+◌, ◌-◌, ◌*◌, ◌/◌, ◌%◌, ◌<◌, ◌≤◌, Bool, true, false, not, ◌||◌, List, [], ◌∷◌, length, is_some, IsTrue, nat_lt, nat_le, ◌==◌, Some, None, Option, sym, refl, ap, ◌∙◌, one-add, arith, lt-ltb, le-ltb, false≢true, and_parts, ltb-true, nat_tests, slice_get, Held, One, All, is_all, UnitState, AreDeclared, is_reservation, Registration, Reservation, Attentions, IsSo}
+use Rattle.pr_views.proofs.Common.{◌≡◌, ℕ, zero, suc, ◌+◌, ◌-◌, ◌*◌, ◌/◌, ◌%◌, ◌<◌, ◌≤◌, Bool, true, false, not, ◌||◌, List, [], ◌∷◌, length, is_some, IsTrue, nat_lt, nat_le, ◌==◌, Some, None, Option, sym, refl, ap, ◌∙◌, one-add, arith, slice_get, lt-ltb, le-ltb, false≢true, and_parts, ltb-true, nat_tests, is_all, Held, One, All, UnitState, AreDeclared, is_reservation, Registration, Reservation, Attentions, IsSo}
 use Rattle.std.specs.FinMap as map
 use Rattle.std.specs.List.{list_any}
 use Rattle.std.proofs.lemmas.Bool.{and_from, not-true, or_right, ltb-false}

@@ -1,5 +1,5 @@
 -- What lists of words have at a place.
-use Rattle.pr_views.proofs.Common.{◌≡◌, ℕ, zero, suc, ◌+◌, ◌<◌, ◌≤◌, Bool, true, false, ◌&&◌, ◌||◌, ◌≢◌, ◌⊎◌, List, [], ◌∷◌, length, IsTrue, nat_lt, slice_index_or, slice_set, Some, sym, refl, ap, ◌∙◌, subst, inl, inr, arith, lt-ltb, le-ltb, cases_lt, nat_tests, slice_get, Word, has, has_at, AreFilled}
+use Rattle.pr_views.proofs.Common.{◌≡◌, ℕ, zero, suc, ◌+◌, ◌<◌, ◌≤◌, Bool, true, false, ◌&&◌, ◌||◌, ◌≢◌, ◌⊎◌, List, [], ◌∷◌, length, IsTrue, nat_lt, slice_index_or, slice_set, Some, sym, refl, ap, ◌∙◌, subst, inl, inr, arith, slice_get, lt-ltb, le-ltb, cases_lt, nat_tests, has, Word, has_at, AreFilled}
 use Rattle.std.specs.Option.{option_map_or}
 use Rattle.std.proofs.lemmas.Bool.{cases_eq, cases_order}
 use Rattle.std.proofs.lemmas.Option.{slice_get-get_or, slice_get_past}

@@ -1,5 +1,5 @@
 -- What each nexus has in the states of a portion.
-use Rattle.pr_views.proofs.Common.{◌≡◌, ℕ, ◌+◌, ◌<◌, ◌≤◌, true, false, not, ◌&&◌, ◌≢◌, ◌⊎◌, List, is_some, IfSome, IfNone, if◌then◌else◌, nat_lt, ◌==◌, Some, None, Option, option_map, sym, refl, ap, ◌∙◌, subst, inl, inr, arith, false≢true, and_parts, ltb-true, cases_lt, Word, has, Held, One, All, is_all, UnitState, is_reservation, has_at, AreFilled, Registration, IsSo, Fits}
+use Rattle.pr_views.proofs.Common.{◌≡◌, ℕ, ◌+◌, ◌<◌, ◌≤◌, true, false, not, ◌&&◌, ◌≢◌, ◌⊎◌, List, is_some, IfSome, IfNone, if◌then◌else◌, nat_lt, ◌==◌, Some, None, Option, option_map, sym, refl, ap, ◌∙◌, subst, inl, inr, arith, false≢true, and_parts, ltb-true, cases_lt, has, Word, is_all, Held, One, All, UnitState, is_reservation, has_at, AreFilled, Registration, IsSo, Fits}
 use Rattle.std.proofs.lemmas.Bool.{and_from, cases_eq, cases_order}
 use Rattle.std.proofs.lemmas.Bool.Decides.{eqb_tells}
 use Rattle.pr_views.specs.declared.portion.Portion.{Portion}

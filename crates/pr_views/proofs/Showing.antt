@@ -1,5 +1,5 @@
 -- A state that a view shows, from what is chosen for each nexus, a reservation and the owner's attentions.
-use Rattle.pr_views.proofs.Common.{◌≡◌, ℕ, zero, suc, ◌<◌, ◌≤◌, Bool, true, false, cond, not, ◌&&◌, ◌≢◌, List, length, is_some, IsTrue, nat_lt, ◌==◌, Some, None, Option, sym, refl, ap, ◌∙◌, subst, lit<, lt-ltb, and_parts, ltb-true, Held, One, All, is_all, UnitState, AreDeclared, is_reservation, Registration, Reservation, Attentions, IsSo, Fits}
+use Rattle.pr_views.proofs.Common.{◌≡◌, ℕ, zero, suc, ◌<◌, ◌≤◌, Bool, true, false, cond, not, ◌&&◌, ◌≢◌, List, length, is_some, IsTrue, nat_lt, ◌==◌, Some, None, Option, sym, refl, ap, ◌∙◌, subst, lit<, lt-ltb, and_parts, ltb-true, is_all, Held, One, All, UnitState, AreDeclared, is_reservation, Registration, Reservation, Attentions, IsSo, Fits}
 use Rattle.std.specs.FinSet as set
 use Rattle.std.proofs.lemmas.Bool.{not-true}
 use Rattle.std.proofs.lemmas.Option.{slice_get_within, get_or_from_slice_get}

@@ -1,5 +1,5 @@
 -- What is possible in the view that a value of the program is.
-use Rattle.pr_views.proofs.Common.{◌≡◌, ℕ, ◌+◌, ◌<◌, ◌≤◌, true, false, ◌⊎◌, List, length, Some, None, Option, sym, refl, ap, ◌∙◌, subst, inl, inr, arith, false≢true, cases_lt, slice_get, contains-nobody, has, AreDeclared, has_at, contains_at, Registration, Reservation, Attentions, Fits}
+use Rattle.pr_views.proofs.Common.{◌≡◌, ℕ, ◌+◌, ◌<◌, ◌≤◌, true, false, ◌⊎◌, List, length, Some, None, Option, sym, refl, ap, ◌∙◌, subst, inl, inr, arith, slice_get, false≢true, cases_lt, has, contains-nobody, AreDeclared, has_at, Registration, Reservation, Attentions, contains_at, Fits}
 use Rattle.std.specs.FinSet as set
 use Rattle.std.specs.List.{All}
 use Rattle.std.specs.Option.{option_map_or}

@@ -1,4 +1,4 @@
-use Rattle.pr_regions.proofs.Common.{ℕ, ◌≤◌, length, Option, Held, ReadKeys, WRITTEN_LENGTH, IsProperReading}
+use Rattle.pr_regions.proofs.Common.{ℕ, ◌≤◌, length, Option, ReadKeys, Held, WRITTEN_LENGTH, IsProperReading}
 use Rattle.std.specs.List.{All}
 use Rattle.pr_regions.specs.inside.Reads.{AreReadSoFar}
 use Rattle.pr_regions.proofs.key_reads.key_readings.Given as goal

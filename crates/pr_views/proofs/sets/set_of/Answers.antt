@@ -1,4 +1,4 @@
-use Rattle.pr_views.proofs.Common.{sym, ap, ◌∙◌, contains-nobody, has}
+use Rattle.pr_views.proofs.Common.{sym, ap, ◌∙◌, has, contains-nobody}
 use Rattle.std.specs.FinSet as set
 use Rattle.pr_views.proofs.Fronts.{front_none, front_skips, added}
 use Rattle.pr_views.proofs.sets.set_of.Goals.{then-has+in_ok-add, else-has}

@@ -1,4 +1,4 @@
-use Rattle.pr_views.proofs.Common.{sym, ap, ◌∙◌, contains-nobody, has_wide}
+use Rattle.pr_views.proofs.Common.{sym, ap, ◌∙◌, has_wide, contains-nobody}
 use Rattle.std.specs.FinSet as set
 use Rattle.pr_views.proofs.Fronts.{front_none, front_skips, added}
 use Rattle.pr_views.proofs.sets.wide_set_of.Goals.{then-has+in_ok-add, else-has}
