@@ -1,15 +1,14 @@
 //! How the commands end whose ending does not depend on who else is registered.
 
-ghost use Rattle.std.specs.Prelude.{◌≡◌, ◌≤◌, ◌<◌, ℕ, IsTrue, None, Option};
-ghost use Rattle.pr_cdb.specs.declared.codes.TheConstants.{MOST_NEXUSES};
+ghost use Rattle.std.specs.Prelude.{◌≡◌, ℕ, None, Option, Some};
 ghost use Rattle.pr_registry.specs.declared.held.Held.{Held as HeldOf};
-ghost use Rattle.pr_registry.specs.Registrations.{is_for_registrants};
-ghost use Rattle.pr_roles.specs.Fitting.{is_reservation};
-ghost use Rattle.pr_views.specs.Possibilities.{number_of, count_of_reservations};
+ghost use Rattle.pr_registry.specs.Registrations.{is_for_registrants, new_reservation};
+ghost use Rattle.pr_views.specs.Possibilities.{number_of};
 ghost use Rattle.pr_regions.specs.Purposes.{HasNumber};
 ghost use Rattle.pr_regions.specs.Regions.{HasRoom};
-ghost use Rattle.pr_regions.specs.inside.Parts.{Does, AlwaysEnds, never, told_if, holds, keeps_from_reading, keeps_from_writing, is_kept_from};
+ghost use Rattle.pr_regions.specs.inside.Parts.{Does, AlwaysEnds, EndsFor, never, told_if, holds, keeps_from_reading, keeps_from_writing, is_kept_from};
 
+use crate::initiator::Initiator;
 use crate::numbers::reservation_number;
 use crate::purpose::{Purpose, Standing};
 use crate::region::{Change, Ending};
@@ -48,115 +47,100 @@ pub(crate) fn change_to_reservation(reservation: u8) -> Change
     }
 }
 
-// No change while this reservation stands.
-pub(crate) fn no_change(hosts: u8, held: Option<Held>) -> Change
-    requires few { hosts ≤ MOST_NEXUSES }
-    requires fits { IsTrue (is_reservation hosts held) }
-    ensures change { Does result None never (number_of hosts held) never never never }
-    ensures room { HasRoom hosts (Ending.Good result) }
+// A change to the reservation of this type that the sender comes to hold.
+pub(crate) fn new_change(sender: Initiator, kind: Kind) -> Change
+    ensures change { Does result None never
+        (number_of sender.hosts (Some (new_reservation kind sender.number))) never never never }
+    ensures room { HasRoom sender.hosts (Ending.Good result) }
 {
-    change_to_reservation(reservation_number(hosts, held))
+    let held = new_reservation(kind, sender.number);
+    change_to_reservation(reservation_number(sender.hosts, Some(held)))
+}
+
+// No change.
+pub(crate) fn no_change(sender: Initiator) -> Change
+    ensures change { Does result None never (number_of sender.hosts sender.held) never never
+        never }
+    ensures room { HasRoom sender.hosts (Ending.Good result) }
+{
+    change_to_reservation(reservation_number(sender.hosts, sender.held))
 }
 
 /// To look.
-pub(crate) fn look_ending(hosts: u8, held: Option<Held>) -> Ending
-    requires few { hosts ≤ MOST_NEXUSES }
-    requires fits { IsTrue (is_reservation hosts held) }
-    ensures { (sender : ℕ) (standing : Standing)
-        → AlwaysEnds hosts Purpose.Look held sender standing result }
+pub(crate) fn look_ending(sender: Initiator) -> Ending
+    ensures { EndsFor sender Purpose.Look result }
 {
-    Ending::Good(no_change(hosts, held))
+    Ending::Good(no_change(sender))
 }
 
 /// Whether the reservation keeps the sender from reading.
-pub(crate) fn keeps_from_reading(held: Option<Held>, sender: u8, standing: Standing) -> bool
-    ensures { result ≡ is_kept_from keeps_from_reading held sender standing }
+pub(crate) fn keeps_from_reading(sender: Initiator) -> bool
+    ensures { result ≡ is_kept_from keeps_from_reading sender.held sender.number sender.standing }
 {
-    let Some(held) = held else {
+    let Some(held) = sender.held else {
         return false;
     };
     match kind_of(held) {
         Kind::WriteExclusive
         | Kind::WriteExclusiveRegistrantsOnly
         | Kind::WriteExclusiveAllRegistrants => false,
-        Kind::ExclusiveAccess => !holds(held, sender, standing),
+        Kind::ExclusiveAccess => !holds(held, sender.number, sender.standing),
         Kind::ExclusiveAccessRegistrantsOnly | Kind::ExclusiveAccessAllRegistrants => {
-            standing == Standing::Unregistered
+            sender.standing == Standing::Unregistered
         }
     }
 }
 
 /// Whether the reservation keeps the sender from writing.
-pub(crate) fn keeps_from_writing(held: Option<Held>, sender: u8, standing: Standing) -> bool
-    ensures { result ≡ is_kept_from keeps_from_writing held sender standing }
+pub(crate) fn keeps_from_writing(sender: Initiator) -> bool
+    ensures { result ≡ is_kept_from keeps_from_writing sender.held sender.number sender.standing }
 {
-    let Some(held) = held else {
+    let Some(held) = sender.held else {
         return false;
     };
     if is_for_registrants(kind_of(held)) {
-        standing == Standing::Unregistered
+        sender.standing == Standing::Unregistered
     } else {
-        !holds(held, sender, standing)
+        !holds(held, sender.number, sender.standing)
     }
 }
 
 /// To read or to write blocks, from which the reservation keeps the sender or not.
-pub(crate) fn transfer_ending(
-    hosts: u8,
-    is_kept: bool,
-    in_range: bool,
-    held: Option<Held>,
-) -> Ending
-    requires few { hosts ≤ MOST_NEXUSES }
-    requires fits { IsTrue (is_reservation hosts held) }
-    ensures reading { (sender : ℕ) (standing : Standing)
-        → is_kept ≡ is_kept_from keeps_from_reading held sender standing
-        → AlwaysEnds hosts (Purpose.Read in_range) held sender standing result }
-    ensures writing { (sender : ℕ) (standing : Standing)
-        → is_kept ≡ is_kept_from keeps_from_writing held sender standing
-        → AlwaysEnds hosts (Purpose.Write in_range) held sender standing result }
+pub(crate) fn transfer_ending(sender: Initiator, is_kept: bool, in_range: bool) -> Ending
+    ensures reading { is_kept ≡ is_kept_from keeps_from_reading sender.held sender.number
+        sender.standing → EndsFor sender (Purpose.Read in_range) result }
+    ensures writing { is_kept ≡ is_kept_from keeps_from_writing sender.held sender.number
+        sender.standing → EndsFor sender (Purpose.Write in_range) result }
 {
     if is_kept {
         Ending::Conflict
     } else if in_range {
-        Ending::Good(no_change(hosts, held))
+        Ending::Good(no_change(sender))
     } else {
         Ending::Fault(illegal(LOGICAL_BLOCK_ADDRESS_OUT_OF_RANGE, 0))
     }
 }
 
 /// To be registered with the key of this number.
-pub(crate) fn register_ending(hosts: u8, key: u8, held: Option<Held>) -> Ending
-    requires few { hosts ≤ MOST_NEXUSES }
-    requires fits { IsTrue (is_reservation hosts held) }
-    requires key { HasNumber (Purpose.Register key) }
-    ensures { (sender : ℕ) (standing : Standing)
-        → AlwaysEnds hosts (Purpose.Register key) held sender standing result }
+pub(crate) fn register_ending(sender: Initiator, key: u8) -> Ending
+    requires { HasNumber (Purpose.Register key) }
+    ensures { EndsFor sender (Purpose.Register key) result }
 {
     Ending::Good(Change {
         sender: Some(key),
-        ..no_change(hosts, held)
+        ..no_change(sender)
     })
 }
 
 /// To establish a reservation of this type.
-pub(crate) fn reserve_ending(
-    hosts: u8,
-    kind: Kind,
-    held: Option<Held>,
-    sender: u8,
-    standing: Standing,
-) -> Ending
-    requires few { hosts ≤ MOST_NEXUSES }
-    requires there { sender < hosts }
-    requires fits { IsTrue (is_reservation hosts held) }
-    ensures { AlwaysEnds hosts (Purpose.Reserve kind) held sender standing result }
+pub(crate) fn reserve_ending(sender: Initiator, kind: Kind) -> Ending
+    ensures { EndsFor sender (Purpose.Reserve kind) result }
 {
-    let Some(held) = held else {
-        return Ending::Good(no_change(hosts, Some(new_reservation(kind, sender))));
+    let Some(held) = sender.held else {
+        return Ending::Good(new_change(sender, kind));
     };
-    if holds(held, sender, standing) && is_kind(kind_of(held), kind) {
-        Ending::Good(no_change(hosts, Some(held)))
+    if holds(held, sender.number, sender.standing) && is_kind(kind_of(held), kind) {
+        Ending::Good(no_change(sender))
     } else {
         Ending::Conflict
     }
@@ -175,22 +159,14 @@ pub(crate) fn release_change(kind: Kind) -> Change
 }
 
 /// To release a reservation of this type.
-pub(crate) fn release_ending(
-    hosts: u8,
-    kind: Kind,
-    held: Option<Held>,
-    sender: u8,
-    standing: Standing,
-) -> Ending
-    requires few { hosts ≤ MOST_NEXUSES }
-    requires fits { IsTrue (is_reservation hosts held) }
-    ensures { AlwaysEnds hosts (Purpose.Release kind) held sender standing result }
+pub(crate) fn release_ending(sender: Initiator, kind: Kind) -> Ending
+    ensures { EndsFor sender (Purpose.Release kind) result }
 {
-    let Some(held) = held else {
-        return Ending::Good(no_change(hosts, None));
+    let Some(held) = sender.held else {
+        return Ending::Good(no_change(sender));
     };
-    if !holds(held, sender, standing) {
-        Ending::Good(no_change(hosts, Some(held)))
+    if !holds(held, sender.number, sender.standing) {
+        Ending::Good(no_change(sender))
     } else if is_kind(kind_of(held), kind) {
         Ending::Good(release_change(kind_of(held)))
     } else {
@@ -215,18 +191,15 @@ pub(crate) fn clear_ending() -> Ending
 }
 
 /// To preempt all other registrations.
-pub(crate) fn preempt_all_ending(hosts: u8, kind: Kind, held: Option<Held>, sender: u8) -> Ending
-    requires few { hosts ≤ MOST_NEXUSES }
-    requires there { sender < hosts }
-    ensures { (standing : Standing) → AlwaysEnds hosts (Purpose.PreemptAll kind) held sender
-        standing result }
+pub(crate) fn preempt_all_ending(sender: Initiator, kind: Kind) -> Ending
+    ensures { EndsFor sender (Purpose.PreemptAll kind) result }
 {
-    if !is_held_by_all(held) {
+    if !is_held_by_all(sender.held) {
         return Ending::Fault(illegal(INVALID_FIELD_IN_PARAMETER_LIST, 0));
     }
     Ending::Good(Change {
         removed: every_key(),
         told_05: every_key(),
-        ..no_change(hosts, Some(new_reservation(kind, sender)))
+        ..new_change(sender, kind)
     })
 }

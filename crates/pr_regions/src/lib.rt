@@ -5,6 +5,7 @@ mod branching;
 mod commands;
 mod dispatch;
 mod endings;
+mod initiator;
 mod key_reads;
 mod numbers;
 mod preempting;

@@ -17,8 +17,11 @@ use Rattle.pr_regions.specs.declared.region.Change.{Change}
 use Rattle.pr_regions.specs.declared.region.Ending.{Ending}
 use Rattle.pr_regions.specs.declared.region.Branch.{Branch}
 use Rattle.pr_regions.specs.declared.purpose.Purpose.{Purpose}
+use Rattle.pr_regions.specs.declared.purpose.Purpose.TheVariants.{Preempt}
 use Rattle.pr_regions.specs.declared.purpose.Standing.{Standing}
 use Rattle.pr_regions.specs.declared.purpose.Standing.TheVariants.{Unregistered, Named, Other}
+use Rattle.pr_regions.specs.declared.initiator.Initiator.{Initiator}
+use Rattle.pr_regions.specs.declared.initiator.Preemption.{Preemption}
 use Rattle.pr_regions.specs.Regions.{Meets, IsInRegion, Ends, AreBranches, IsProper, HasRoom}
 
 -- ---- words
@@ -153,3 +156,15 @@ pub record Tell (hosts : ℕ) (purpose : Purpose) (held : Option Held) (sender :
   pub right : AreBranches hosts purpose held sender standing branches
   pub proper : All IsProper branches
   pub fits : All (λ b. HasRoom hosts b.ending) branches
+
+-- so it ends for this sender
+abbrev pub EndsFor : Initiator → Purpose → Ending → Type 0
+EndsFor s purpose ending = AlwaysEnds s.hosts purpose s.held s.number s.standing ending
+
+-- the branches tell how it ends for this sender
+abbrev pub TellFor : Initiator → Purpose → List Branch → Type 0
+TellFor s purpose branches = Tell s.hosts purpose s.held s.number s.standing branches
+
+-- the branches tell how this preemption ends
+abbrev pub TellPreempted : Preemption → List Branch → Type 0
+TellPreempted p branches = TellFor p.sender (Preempt p.key p.kind) branches

@@ -1,22 +1,22 @@
-use Rattle.pr_regions.proofs.Common.{Some, sym, ap, ◌∙◌, Held, number_of}
+use Rattle.pr_regions.proofs.Common.{sym, ◌∙◌}
 use Rattle.pr_regions.proofs.Keys.{keys_those}
 use Rattle.pr_regions.proofs.Services.{preempt_all_good, preempt_all_fault}
 use Rattle.pr_regions.proofs.endings.preempt_all_ending.Goals as goal
 
 pub returns-then-not-is_held_by_all : goal.returns-then-not-is_held_by_all
-returns-then-not-is_held_by_all c standing =
-    rw c.illegal.ensures (preempt_all_fault c.args.hosts c.args.kind c.args.held c.args.sender standing (sym c.is_held_by_all.ensures ∙ c.if-not-is_held_by_all.true))
+returns-then-not-is_held_by_all c =
+    rw c.illegal.ensures (preempt_all_fault c.args.sender.hosts c.args.kind c.args.sender.held c.args.sender.number c.args.sender.standing (sym c.is_held_by_all.ensures ∙ c.if-not-is_held_by_all.true))
 
 pub returns : goal.returns
-returns c standing =
-    let change = c.no_change.ensures.change in
-    preempt_all_good c.args.hosts c.args.kind c.args.held c.args.sender standing _ (sym c.is_held_by_all.ensures ∙ c.if-not-is_held_by_all.false)
+returns c =
+    let change = c.new_change.ensures.change in
+    preempt_all_good c.args.sender.hosts c.args.kind c.args.sender.held c.args.sender.number c.args.sender.standing _ (sym c.is_held_by_all.ensures ∙ c.if-not-is_held_by_all.false)
     (record {
       sender = change.sender;
       removed = (keys_those c.every_key.result c.every_key.ensures.keys c.every_key.ensures.none);
-      reservation = change.reservation ∙ ap (λ (v : Held). number_of c.args.hosts (Some v)) c.new_reservation.ensures;
+      reservation = change.reservation;
       told_03 = change.told_03;
       told_04 = change.told_04;
       told_05 = (keys_those c.every_key-2.result c.every_key-2.ensures.keys c.every_key-2.ensures.none);
     })
-    c.no_change.ensures.room
+    c.new_change.ensures.room

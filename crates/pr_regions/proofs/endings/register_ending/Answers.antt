@@ -3,8 +3,8 @@ use Rattle.pr_regions.proofs.Services.{register_good}
 use Rattle.pr_regions.proofs.endings.register_ending.Goals as goal
 
 pub returns : goal.returns
-returns c sender standing =
+returns c =
     let change = c.no_change.ensures.change in
-    register_good c.args.hosts c.args.key c.args.held sender standing _ c.requires.key
+    register_good c.args.sender.hosts c.args.key c.args.sender.held c.args.sender.number c.args.sender.standing _ c.requires
     (record { sender = refl; removed = change.removed; reservation = change.reservation; told_03 = change.told_03; told_04 = change.told_04; told_05 = change.told_05 })
-    (c.requires.key.1, c.no_change.ensures.room.1)
+    (c.requires.1, c.no_change.ensures.room.1)

@@ -1,23 +1,23 @@
-use Rattle.pr_regions.proofs.Common.{◌≡◌, Bool, true, false, ◌&&◌, sym, refl, ap, ◌∙◌, is_kind, kind_of, holds}
+use Rattle.pr_regions.proofs.Common.{◌≡◌, Bool, true, false, ◌&&◌, None, sym, refl, ap, subst, ◌∙◌, is_kind, kind_of, number_of, holds, never, Does}
 use Rattle.pr_regions.proofs.Services.{reserve_new, reserve_same, reserve_conflict}
 use Rattle.pr_regions.proofs.endings.reserve_ending.Goals as goal
 use Rattle.pr_regions.proofs.endings.reserve_ending.Goals.{else-holds-via-then-holds+else-is_kind, else-holds-via-else-holds}
 
 pub returns-in_default : goal.returns-in_default
 returns-in_default c =
-    reserve_new c.args.hosts c.args.kind c.args.held c.args.sender c.args.standing c.no_change.result c.in_default.is (rw (← c.new_reservation.ensures) c.no_change.ensures.change) c.no_change.ensures.room
+    reserve_new c.args.sender.hosts c.args.kind c.args.sender.held c.args.sender.number c.args.sender.standing c.new_change.result c.in_default.is c.new_change.ensures.change c.new_change.ensures.room
 
 pub returns-then-is_kind : goal.returns-then-is_kind
 returns-then-is_kind c =
-    reserve_same c.args.hosts c.args.kind c.args.held c.in-Some.held c.args.sender c.args.standing c.no_change-then-is_kind.result c.in-Some.is
+    reserve_same c.args.sender.hosts c.args.kind c.args.sender.held c.in-Some.held c.args.sender.number c.args.sender.standing c.no_change.result c.in-Some.is
     (sym c.holds.ensures ∙ c.if-holds.true) (ap (λ t. is_kind t c.args.kind) (sym c.kind_of.ensures) ∙ sym c.is_kind.ensures ∙ c.if-is_kind.true)
-    c.no_change-then-is_kind.ensures.change c.no_change-then-is_kind.ensures.room
+    (subst (λ v. Does c.no_change.result None never (number_of c.args.sender.hosts v) never never never) c.in-Some.is c.no_change.ensures.change) c.no_change.ensures.room
 
 pub returns-else-holds : goal.returns-else-holds
 returns-else-holds c =
-    let holder = holds c.in-Some.held c.args.sender c.args.standing in
+    let holder = holds c.in-Some.held c.args.sender.number c.args.sender.standing in
     let same = is_kind (kind_of c.in-Some.held) c.args.kind in
-    reserve_conflict c.args.hosts c.args.kind c.args.held c.in-Some.held c.args.sender c.args.standing c.in-Some.is
+    reserve_conflict c.args.sender.hosts c.args.kind c.args.sender.held c.in-Some.held c.args.sender.number c.args.sender.standing c.in-Some.is
     (elim c.else-holds.branch [
       | else-holds-via-then-holds+else-is_kind w ↦ and_false holder same (ap (λ t. is_kind t c.args.kind) (sym w.kind_of.ensures) ∙ sym w.is_kind.ensures ∙ w.if-is_kind.false)
       | else-holds-via-else-holds w ↦ ap (λ b. b && same) (sym c.holds.ensures ∙ w.if-holds.false)

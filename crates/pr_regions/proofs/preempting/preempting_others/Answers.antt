@@ -4,11 +4,13 @@ use Rattle.pr_regions.proofs.Choosing.{tell_others}
 use Rattle.pr_regions.proofs.preempting.preempting_others.Goals as goal
 
 pub returns : goal.returns
-returns c kind sender standing other own =
-    let j = c.args.key in
-    let left = number_of c.args.hosts c.args.held in
-    let does = leaves c.removal_change.result None (only j) c.reservation_number.result left never never (only j) c.reservation_number.ensures.number c.removal_change.ensures in
-    rw c.two.ensures (tell_others c.args.hosts j kind c.args.held sender standing _ _ c.removal_change.result c.requires.key other own
+returns c =
+    let p = c.args.asked in
+    let s = p.sender in
+    let j = p.key in
+    let left = number_of s.hosts s.held in
+    let does = leaves c.removal_change.result None (only j) c.reservation_number-number.result left never never (only j) c.reservation_number-number.ensures.number c.removal_change.ensures in
+    rw c.two.ensures (tell_others s.hosts j p.kind s.held s.number s.standing _ _ c.removal_change.result (p.some, p.most) c.requires.other c.requires.own
     (record { to_holder = c.whole.ensures.to_holder; to_others = c.whole.ensures.to_others; tested = λ r few. c.only.ensures r }) refl does
-    (has_room c.args.hosts c.removal_change.result None (only j) c.reservation_number.result never never (only j) c.removal_change.ensures (omega arith) c.reservation_number.ensures.below)
+    (has_room s.hosts c.removal_change.result None (only j) c.reservation_number-number.result never never (only j) c.removal_change.ensures (omega arith) c.reservation_number-number.ensures.below)
     (record { to_holder = c.whole-2.ensures.to_holder; to_others = c.anything_but.ensures; tested = c.whole-2.ensures.tested }) refl)

@@ -5,11 +5,9 @@ use Rattle.pr_regions.proofs.preempting.preempting_single.Goals as goal
 
 pub returns-then-is_named : goal.returns-then-is_named
 returns-then-is_named c =
-    let j = c.args.key in
-    let same : c.args.holder ≡ c.args.sender = omega arith in
-    c.ending_everywhere.ensures c.args.hosts (Preempt j c.args.kind) (held_by c.args.old c.args.holder) c.args.sender c.args.standing
-    (own_single c.args.hosts j c.args.kind c.args.old c.args.holder c.args.sender c.args.standing c.replacement_change.result c.requires.key (sym c.is_named.ensures ∙ c.if-is_named.true) same
-    c.replacement_change.ensures.change c.replacement_change.ensures.room)
-
-pub returns-else-is_named : goal.returns-else-is_named
-returns-else-is_named c = c.preempting_others.ensures c.args.kind c.args.sender c.args.standing (sym c.is_named.ensures ∙ c.if-is_named.false) (omega arith)
+    let p = c.args.asked in
+    let s = p.sender in
+    let same : c.args.holder ≡ s.number = omega arith in
+    rw c.requires (c.ending_everywhere.ensures s.hosts (Preempt p.key p.kind) (held_by c.args.old c.args.holder) s.number s.standing
+    (own_single s.hosts p.key p.kind c.args.old c.args.holder s.number s.standing c.replacement_change.result (p.some, p.most) (sym c.is_named.ensures ∙ c.if-is_named.true) same
+    c.replacement_change.ensures.change c.replacement_change.ensures.room))

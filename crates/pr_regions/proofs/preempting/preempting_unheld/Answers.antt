@@ -4,11 +4,10 @@ use Rattle.pr_regions.proofs.Choosing.{own_unheld}
 use Rattle.pr_regions.proofs.preempting.preempting_unheld.Goals as goal
 
 pub returns-then-is_named : goal.returns-then-is_named
-returns-then-is_named c kind sender =
-    let j = c.args.key in
-    c.ending_everywhere.ensures c.args.hosts (Preempt j kind) None sender c.args.standing
-    (own_unheld c.args.hosts j kind sender c.args.standing c.removal_change.result c.requires.key (sym c.is_named.ensures ∙ c.if-is_named.true) c.removal_change.ensures
-    (has_room c.args.hosts c.removal_change.result (Some 0) (only j) 0 never never (only j) c.removal_change.ensures (omega arith) (omega arith)))
-
-pub returns-else-is_named : goal.returns-else-is_named
-returns-else-is_named c kind sender = c.preempting_others.ensures kind sender c.args.standing (sym c.is_named.ensures ∙ c.if-is_named.false) tt
+returns-then-is_named c =
+    let p = c.args.asked in
+    let s = p.sender in
+    let j = p.key in
+    rw c.requires (c.ending_everywhere.ensures s.hosts (Preempt j p.kind) None s.number s.standing
+    (own_unheld s.hosts j p.kind s.number s.standing c.removal_change.result (p.some, p.most) (sym c.is_named.ensures ∙ c.if-is_named.true) c.removal_change.ensures
+    (has_room s.hosts c.removal_change.result (Some 0) (only j) 0 never never (only j) c.removal_change.ensures (omega arith) (omega arith))))

@@ -4,15 +4,11 @@ use Rattle.pr_regions.proofs.unregistering.unregister_branches.Goals as goal
 
 pub returns-then-is_unregistered : goal.returns-then-is_unregistered
 returns-then-is_unregistered c =
-    c.ending_everywhere.ensures c.args.hosts Unregister c.args.held c.args.sender c.args.standing
-    (unregister_absent c.args.hosts c.args.held c.args.sender c.args.standing c.no_change.result (sym c.is_unregistered.ensures ∙ c.if-is_unregistered.true) c.no_change.ensures.change c.no_change.ensures.room)
-
-pub returns-then-is_held_by_all : goal.returns-then-is_held_by_all
-returns-then-is_held_by_all c =
-    c.unregistering_registrant.ensures c.args.sender c.args.standing (sym c.is_unregistered.ensures ∙ c.if-is_unregistered.false)
+    c.ending_everywhere.ensures c.args.sender.hosts Unregister c.args.sender.held c.args.sender.number c.args.sender.standing
+    (unregister_absent c.args.sender.hosts c.args.sender.held c.args.sender.number c.args.sender.standing c.no_change.result (sym c.is_unregistered.ensures ∙ c.if-is_unregistered.true) c.no_change.ensures.change c.no_change.ensures.room)
 
 pub returns-else-is_held_by_all : goal.returns-else-is_held_by_all
 returns-else-is_held_by_all c =
-    c.ending_everywhere-else-is_held_by_all.ensures c.args.hosts Unregister c.args.held c.args.sender c.args.standing
-    (unregister_good c.args.hosts c.args.held c.args.sender c.args.standing c.unregister_change.result (sym c.is_unregistered.ensures ∙ c.if-is_unregistered.false)
+    c.ending_everywhere-else-is_held_by_all.ensures c.args.sender.hosts Unregister c.args.sender.held c.args.sender.number c.args.sender.standing
+    (unregister_good c.args.sender.hosts c.args.sender.held c.args.sender.number c.args.sender.standing c.unregister_change.result (sym c.is_unregistered.ensures ∙ c.if-is_unregistered.false)
     (sym c.is_held_by_all.ensures ∙ c.if-is_held_by_all.false) c.unregister_change.ensures.change c.unregister_change.ensures.room)

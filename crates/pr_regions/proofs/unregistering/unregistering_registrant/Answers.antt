@@ -4,10 +4,10 @@ use Rattle.pr_regions.proofs.Leaving.{tell_unregistered}
 use Rattle.pr_regions.proofs.unregistering.unregistering_registrant.Goals as goal
 
 pub returns : goal.returns
-returns c sender standing present =
+returns c =
     let stays = c.no_change.ensures.change in
     let none = c.change_to_reservation.ensures in
-    rw c.two.ensures (tell_unregistered c.args.hosts c.args.held sender standing _ _ _ _ c.requires.all present
+    rw c.two.ensures (tell_unregistered c.args.sender.hosts c.args.sender.held c.args.sender.number c.args.sender.standing _ _ _ _ c.requires.all c.requires.registered
     (record { to_holder = c.whole.ensures.to_holder; to_others = c.whole.ensures.to_others; tested = (keys_those c.every_key.result c.every_key.ensures.keys c.every_key.ensures.none) }) refl
     (record { sender = refl; removed = stays.removed; reservation = stays.reservation; told_03 = stays.told_03; told_04 = stays.told_04; told_05 = stays.told_05 })
     (omega arith, c.no_change.ensures.room.1)
