@@ -1,9 +1,1 @@
-pub mod Naming
-pub mod Plans
-pub mod Judging
-pub mod Auditing
-pub mod Reasons
-pub mod Performing
-pub mod Taking
-pub mod Witnessing
 pub mod Explained

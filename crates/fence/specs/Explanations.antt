@@ -9,10 +9,10 @@ use Rattle.pr_text.specs.Reading.{IsWrittenAs}
 use Rattle.pr_report.specs.TraceReadings.{trace_of}
 use Rattle.pr_report.specs.TraceText.{names_in}
 use Rattle.pr_words.specs.Tellings.{IsTold}
-use Rattle.fence.specs.declared.fault.Fault.{Fault}
-use Rattle.fence.specs.declared.fault.Fault.TheVariants as fault
-use Rattle.fence.specs.Audits.{IsTraceFault}
-use Rattle.fence.specs.Checks.{IsVerdictOf}
+use Rattle.pr_commands.specs.declared.fault.Fault.{Fault}
+use Rattle.pr_commands.specs.declared.fault.Fault.TheVariants as fault
+use Rattle.pr_commands.specs.Audits.{IsTraceFault}
+use Rattle.pr_commands.specs.Checks.{IsVerdictOf}
 
 -- the text is a scenario, the trace is read as a history under its names, and what is told of it says whether it is illegal
 pub record IsTraceTold (trace text : List ℕ) (is_illegal : Bool) : Type 0 where

@@ -1,11 +1,2 @@
-pub mod FaultText
-pub mod Endings
-pub mod Steps
-pub mod Witnesses
-pub mod Replays
-pub mod Checks
-pub mod Audits
-pub mod Runs
-pub mod Outlines
 pub mod Explanations
 pub mod inside

@@ -1,7 +1,1 @@
-pub mod Judgements
-pub mod Audited
-pub mod PlannedReplays
-pub mod Performances
-pub mod Witnessed
 pub mod Traced
-pub mod FaultRows

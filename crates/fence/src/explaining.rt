@@ -3,12 +3,11 @@
 ghost use Rattle.std.specs.Prelude.{◌+◌};
 ghost use Rattle.pr_text.specs.declared.text.TheConstants.{MOST_BYTES};
 ghost use Rattle.pr_text.specs.BytesRead.{LosesUpTo};
-ghost use Rattle.fence.specs.Endings.{IsCommand};
+ghost use Rattle.pr_commands.specs.Endings.{IsCommand};
 ghost use Rattle.fence.specs.Explanations.{EndsTold};
 
-use crate::ending::ended;
-use crate::fault::{Fault, Status};
 use crate::told::read_and_tell;
+use pr_commands::{Fault, Status, ended};
 use pr_explain::{explanation, lines_of, write_explanation};
 use std::alloc::Global;
 use std::io::{Read, Write};

@@ -2,37 +2,23 @@
 //! with a trace of the commands and replies, and audits such traces, its own or another target's.
 #![tactic(auto)]
 
-mod audits;
-mod checks;
 mod command_line;
-mod ending;
 mod explaining;
-mod fault;
-mod outlines;
-mod replays;
-mod runs;
 mod several;
 mod source;
-mod steps;
 mod told;
 mod traced;
-mod witnesses;
 
-use crate::audits::do_audit;
-use crate::checks::do_check;
 use crate::command_line::matches_of;
-use crate::ending::ended;
 use crate::explaining::do_explain;
-use crate::fault::{Fault, Status, args_fault};
-use crate::outlines::do_outline;
-use crate::replays::do_replay;
-use crate::runs::do_run;
 use crate::several::{Line, put_labelled, worse};
 use crate::source::{Source, apart, open, open_file};
 use crate::traced::do_explain_trace;
-use crate::witnesses::do_witness;
 use clap::ArgMatches;
 use clap::error::ErrorKind;
+use pr_commands::{
+    Fault, Status, args_fault, do_audit, do_check, do_outline, do_replay, do_run, do_witness, ended,
+};
 use std::io::Write;
 use std::process::ExitCode;
 use std::sync::Wait;

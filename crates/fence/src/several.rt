@@ -1,7 +1,7 @@
 //! Several scenarios in one command: each line that one of them writes or tells has the path of its text before it.
 
-use crate::fault::{Fault, Status, tell};
 use arrayvec::ArrayVec;
+use pr_commands::{Fault, Status, tell};
 use pr_report::{WriteFault, put};
 use std::io::Write;
 

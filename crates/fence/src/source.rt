@@ -1,6 +1,6 @@
 //! Where the texts of a command come from: files, and standard input.
 
-use crate::fault::{Fault, file_fault};
+use pr_commands::{Fault, file_fault};
 use pr_report::TraceError;
 use pr_text::ReadError;
 use std::fs::File;

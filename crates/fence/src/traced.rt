@@ -3,14 +3,13 @@
 ghost use Rattle.std.specs.Prelude.{◌+◌};
 ghost use Rattle.pr_text.specs.declared.text.TheConstants.{MOST_BYTES};
 ghost use Rattle.pr_text.specs.BytesRead.{LosesUpTo};
-ghost use Rattle.fence.specs.Audits.{TakesOfTrace};
-ghost use Rattle.fence.specs.Endings.{IsCommand};
+ghost use Rattle.pr_commands.specs.Audits.{TakesOfTrace};
+ghost use Rattle.pr_commands.specs.Endings.{IsCommand};
 ghost use Rattle.fence.specs.Explanations.{EndsTraceTold};
 ghost use Rattle.fence.specs.inside.Traced.{IsTraced};
 
-use crate::ending::ended;
-use crate::fault::{Fault, Status};
 use crate::told::{read_and_tell, read_trace_and_tell};
+use pr_commands::{Fault, Status, ended};
 use pr_roles::Scenario;
 use pr_words::{Telling, telling_of, write_telling};
 use pr_world::Item;
@@ -65,7 +64,7 @@ struct Traced {
 }
 
 // Reads the scenario and the trace, and plans what is told of its history. Of a fault the words go out.
-#[tactic(auto, using(crate::proofs::Taking::untaken, crate::proofs::Taking::taken_by))]
+#[tactic(auto, using(pr_commands::proofs::Taking::untaken, pr_commands::proofs::Taking::taken_by))]
 fn plan<R: Read, T: Read, W: Write>(
     alloc: Global,
     reader: &mut R,

@@ -2,4 +2,3 @@ pub mod Refuting
 pub mod AllowedStarts
 pub mod Following
 pub mod Ending
-pub mod TextLines

@@ -1,3 +1,3 @@
 pub mod Breaches
-pub mod WitnessText
+pub mod Classes
 pub mod inside

@@ -22,11 +22,10 @@ mod sequels;
 mod small_unit;
 mod snapshot;
 mod starting;
-mod text;
 
 pub use allowed::is_allowed_start;
 pub use breach::{Breach, Broken};
 pub use certifying::certify;
+pub use hit::class_of;
 pub use laws::{breaches_are_legal, breaches_refute_safety};
 pub use searching::{Bound, Bounds, Finding, USUAL_BOUNDS, search};
-pub use text::write_witness;

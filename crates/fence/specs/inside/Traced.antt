@@ -8,9 +8,9 @@ use Rattle.pr_report.specs.TraceReadings.{trace_of}
 use Rattle.pr_report.specs.TraceText.{names_in}
 use Rattle.pr_words.specs.Tellings.{IsTold}
 use Rattle.fence.specs.declared.traced.Traced.{Traced}
-use Rattle.fence.specs.declared.fault.Fault.{Fault}
-use Rattle.fence.specs.declared.fault.Fault.TheVariants as fault
-use Rattle.fence.specs.Audits.{IsTraceFault}
+use Rattle.pr_commands.specs.declared.fault.Fault.{Fault}
+use Rattle.pr_commands.specs.declared.fault.Fault.TheVariants as fault
+use Rattle.pr_commands.specs.Audits.{IsTraceFault}
 
 -- the text is this scenario, the trace is read as this history, and what is told of it holds
 pub record IsOf (text trace : List ℕ) (t : Traced) : Type 0 where

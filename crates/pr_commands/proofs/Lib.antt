@@ -1,0 +1,9 @@
+pub mod Naming
+pub mod Plans
+pub mod Judging
+pub mod Auditing
+pub mod Reasons
+pub mod Performing
+pub mod Taking
+pub mod WitnessLines
+pub mod Witnessing

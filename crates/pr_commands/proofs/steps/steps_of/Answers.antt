@@ -1,0 +1,30 @@
+-- One word more.
+use Rattle.std.proofs.Common.{◌+◌, length, drop, sym, ap, ◌∙◌, subst, IfSome}
+use Rattle.std.specs.Prelude.{map}
+use Rattle.std.specs.List.{All}
+use Rattle.std.proofs.lemmas.List.{drop_more}
+use Rattle.pr_world.specs.Replays.{IsThere}
+use Rattle.pr_report.specs.TraceText.{names_of}
+use Rattle.pr_commands.specs.Steps.{steps_of}
+use Rattle.pr_commands.proofs.Naming.{onto, named_more, named_none, all_more}
+use Rattle.pr_commands.proofs.steps.steps_of.Goals as goal
+
+pub returns-in-None-clause-named : goal.returns-in-None-clause-named
+returns-in-None-clause-named c =
+    let version = c.args.version in
+    let names = names_of c.args.nexuses.now in
+    let this = ap (λ ss. onto c.loop-word.steps.items (steps_of version names (map (λ w. w.now) ss))) (drop_more c.args.words.now c.loop-word.word-index _ c.loop-word-test.true) in
+    sym (c.loop-word.invariant.0 ∙ (this ∙ named_none version names _ _ c.loop-word.steps.items (sym (rw c.as_bytes.ensures.value at c.step_in.ensures.step) ∙ c.in-None.is)))
+
+pub loop-word-preserved : goal.loop-word-preserved
+loop-word-preserved c =
+    let version = c.args.version in
+    let names = names_of c.args.nexuses.now in
+    let this = ap (λ ss. onto c.loop-word.steps.items (steps_of version names (map (λ w. w.now) ss))) (drop_more c.args.words.now c.loop-word.word-index _ c.loop-word-test.true) in
+    let more = named_more version names _ (map (λ w. w.now) (drop (c.loop-word.word-index + 1) c.args.words.now)) c.in-Some.step c.loop-word.steps.items (sym (rw c.as_bytes.ensures.value at c.step_in.ensures.step) ∙ c.in-Some.is) in
+    let items = c.in_ok-push-in-Some.ensures.items in (
+      c.loop-word.invariant.0 ∙ (this ∙ (more ∙ ap (λ l. onto l (steps_of version names (map (λ w. w.now) (drop (c.loop-word.word-index + 1) c.args.words.now)))) (sym items))),
+      subst (All (IsThere (length c.args.nexuses.now))) (sym items)
+          (all_more (length c.args.nexuses.now) c.in-Some.step c.loop-word.steps.items c.loop-word.invariant.1
+          (subst (λ o. IfSome o (IsThere (length c.args.nexuses.now))) c.in-Some.is c.step_in.ensures.there)),
+    )

@@ -1,0 +1,14 @@
+-- The words before this one are the steps so far, whose nexuses are there.
+use Rattle.std.proofs.Common.{◌≡◌, length, drop}
+use Rattle.std.specs.Prelude.{map}
+use Rattle.std.specs.List.{All}
+use Rattle.pr_world.specs.Replays.{IsThere}
+use Rattle.pr_report.specs.TraceText.{names_of}
+use Rattle.pr_commands.specs.Steps.{steps_of}
+use Rattle.pr_commands.proofs.Naming.{onto}
+use Rattle.pr_commands.proofs.steps.steps_of.Given as goal
+
+abbrev pub invariant-loop-word : goal.invariant-loop-word
+invariant-loop-word l =
+    (steps_of l.version (names_of l.nexuses) (map (λ w. w.now) l.words) ≡ onto l.steps.items (steps_of l.version (names_of l.nexuses) (map (λ w. w.now) (drop l.word-index l.words))))
+    × All (IsThere (length l.nexuses)) l.steps.items

@@ -1,0 +1,47 @@
+-- Agrees with docs/FORMATS.md, 'Fault lines and exit statuses'.
+-- How a command of the program ends that answers a text: with its answer, which may be a refusal, or with a fault.
+use Rattle.std.specs.Prelude.{◌≡◌, ℕ, Bool, if◌then◌else◌, List, [], Option, IfSome, Result, Ok, Err}
+use Rattle.std.specs.Io.KnownBytes.{Appends, Keeps}
+use Rattle.pr_text.specs.declared.fault.ReadError.TheVariants as input
+use Rattle.pr_text.specs.Texts.{answer_of}
+use Rattle.pr_report.specs.Written.{AppendsFront, FallsShort}
+use Rattle.pr_report.specs.declared.trace_error.TraceError.{TraceError}
+use Rattle.pr_commands.specs.declared.fault.Fault.{Fault}
+use Rattle.pr_commands.specs.declared.fault.Fault.TheVariants as fault
+use Rattle.pr_commands.specs.declared.fault.Status.{Status}
+use Rattle.pr_commands.specs.declared.fault.Status.TheVariants as status
+use Rattle.pr_commands.specs.FaultText.{fault_text, status_of}
+
+-- What goes to the output, by how the command ends: over a text that is known, the whole answer and nothing else, or a
+-- front of it, or nothing. A reader or memory may fail on any text. `Answers` says which answer a text has, and whether
+-- it is a refusal; `Misused`, that the words after the command's name are at fault; `Untraced`, that a trace has this fault;
+-- `Unstarted`, that this is the name of one whose thread was not started; `Differs`, that a run's history may be at fault.
+abbrev pub Outputs : (List ℕ → List ℕ → Bool → Type 0) → Type 0 → (TraceError → Type 0) → (List ℕ → Type 0) → Type 0 → Option (List ℕ) → Option (List ℕ) → Option (List ℕ) → Result Bool Fault → Type 0
+Outputs Answers Misused Untraced Unstarted Differs known old new (Ok refused) =
+    IfSome known (λ text. (answer : List ℕ) × Answers text answer refused × Appends old new answer)
+Outputs Answers Misused Untraced Unstarted Differs known old new (Err fault.Output) =
+    IfSome known (λ text. (answer : List ℕ) × (refused : Bool) × Answers text answer refused × FallsShort old new answer)
+Outputs Answers Misused Untraced Unstarted Differs known old new (Err fault.Memory) = Keeps old new
+Outputs Answers Misused Untraced Unstarted Differs known old new (Err fault.Usage) = Misused × Keeps old new
+Outputs Answers Misused Untraced Unstarted Differs known old new (Err (fault.Input input.ReadFault)) = Keeps old new
+Outputs Answers Misused Untraced Unstarted Differs known old new (Err (fault.Input e)) = IfSome known (λ text. answer_of text ≡ Err e) × Keeps old new
+Outputs Answers Misused Untraced Unstarted Differs known old new (Err (fault.Trace e)) = Untraced e × Keeps old new
+Outputs Answers Misused Untraced Unstarted Differs known old new (Err (fault.Thread name)) = Unstarted name.bytes × Keeps old new
+Outputs Answers Misused Untraced Unstarted Differs known old new (Err fault.History) = Differs × Keeps old new
+Outputs Answers Misused Untraced Unstarted Differs known old new (Err fault.File) = ⊥
+
+abbrev pub status_of_end : Result Bool Fault → Status
+status_of_end (Ok refused) = if refused then status.Refused else status.Done
+status_of_end (Err f) = status_of f
+
+-- what is told of a fault
+abbrev pub told_of_end : Result Bool Fault → List ℕ
+told_of_end (Ok refused) = []
+told_of_end (Err f) = fault_text f
+
+-- the command's end, the line on its error output, of which the end may be missing, and its status
+pub record IsCommand (Ends : Result Bool Fault → Type 0) (old_errors new_errors : Option (List ℕ)) (answer : Status) : Type 0 where
+  pub end : Result Bool Fault
+  pub ends : Ends end
+  pub tells : AppendsFront old_errors new_errors (told_of_end end)
+  pub answers : answer ≡ status_of_end end

@@ -1,0 +1,11 @@
+pub mod FaultText
+pub mod Endings
+pub mod Steps
+pub mod WitnessText
+pub mod Witnesses
+pub mod Replays
+pub mod Checks
+pub mod Audits
+pub mod Runs
+pub mod Outlines
+pub mod inside

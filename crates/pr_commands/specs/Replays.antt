@@ -1,0 +1,42 @@
+-- Agrees with docs/FORMATS.md, 'Replaying'.
+-- What `fence replay` writes.
+use Rattle.std.specs.Prelude.{◌≡◌, ℕ, Bool, true, false, IsTrue, List, Option, Some, None, IfSome, Result, Err}
+use Rattle.std.specs.List.{list_any}
+use Rattle.pr_unit.specs.UnitStates.{UnitState}
+use Rattle.pr_roles.specs.declared.step.Step.{Step}
+use Rattle.pr_roles.specs.Scenarios.{Scenario}
+use Rattle.pr_roles.specs.FirstStarts.{first_state}
+use Rattle.pr_roles.specs.Worlds.{is_trapped}
+use Rattle.pr_roles.specs.Schedules.{Schedule, ScheduledRun, schedule_from}
+use Rattle.pr_text.specs.Reading.{IsWrittenAs}
+use Rattle.pr_report.specs.TraceText.{names_in}
+use Rattle.pr_report.specs.Traces.{IsTraceOf as IsTraceOfSchedule}
+use Rattle.pr_commands.specs.declared.fault.Fault.{Fault}
+use Rattle.pr_commands.specs.declared.fault.Fault.TheVariants as fault
+use Rattle.pr_commands.specs.Endings.{Outputs}
+use Rattle.pr_commands.specs.Steps.{steps_of, has_wrong_count}
+
+-- The text is a scenario, the steps name its nexuses, and this is the trace of their scheduled
+-- run from the first start; it is refused where a host is trapped.
+pub record IsTraceOf (steps : List (List ℕ)) (text trace : List ℕ) (refused : Bool) : Type 0 where
+  pub scenario : Scenario
+  pub read : IsWrittenAs text scenario
+  pub turns : List Step
+  pub named : steps_of scenario.version (names_in scenario) steps ≡ Some turns
+  pub start : UnitState
+  pub first : first_state scenario ≡ Some start
+  pub last : Schedule
+  pub run : ScheduledRun scenario (schedule_from scenario start) turns last
+  pub trace_is : IsTraceOfSchedule scenario last trace
+  pub refused_is : refused ≡ list_any is_trapped last.world.controls
+
+-- The steps are at fault: there are too few or too many, or the text is a scenario and one of them is no step
+-- of it.
+abbrev pub IsUsageFault : List (List ℕ) → List ℕ → Bool → Type 0
+IsUsageFault steps text true = Unit {0}
+IsUsageFault steps text false = (s : Scenario) × IsWrittenAs text s × (steps_of s.version (names_in s) steps ≡ None)
+
+-- what goes to the output, and that a wrong number of steps is a usage fault whatever the reader has
+pub record EndsReplay (steps : List (List ℕ)) (known old new : Option (List ℕ)) (r : Result Bool Fault) : Type 0 where
+  pub outputs : Outputs (IsTraceOf steps) (IfSome known (λ text. IsUsageFault steps text (has_wrong_count steps))) (λ e. ⊥) (λ name. ⊥) ⊥ known old new r
+  pub counted : IsTrue (has_wrong_count steps) → r ≡ Err fault.Usage

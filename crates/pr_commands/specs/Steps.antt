@@ -1,0 +1,44 @@
+-- Agrees with docs/FORMATS.md, 'Replaying'.
+-- The steps of a replay: the nexuses that their words name, and how the commands of these are answered; or a reset.
+use Rattle.std.specs.Prelude.{ℕ, ◌-◌, ◌==◌, ◌&&◌, ◌||◌, Bool, nat_lt, nat_le, if◌then◌else◌, List, [], ◌∷◌, length, take, drop, codes, bytes_eq, Option, Some, option_map, option_and_then}
+use Rattle.pr_roles.specs.declared.how.How.{How}
+use Rattle.pr_roles.specs.declared.how.How.TheVariants as how
+use Rattle.pr_roles.specs.declared.step.Step.{Step}
+use Rattle.pr_roles.specs.declared.step.Step.TheVariants.{Of, Reset}
+use Rattle.pr_report.specs.TraceReadings.{number_of}
+use Rattle.pr_commands.specs.declared.replays.TheConstants.{MOST_STEPS}
+
+-- where this ending would begin in the word
+abbrev pub front_of : List ℕ → List ℕ → ℕ
+front_of ending word = length word - length ending
+
+-- from version 2 on the word may have this ending, and has it
+abbrev pub has_ending : ℕ → List ℕ → List ℕ → Bool
+has_ending version ending word = nat_le 2 version && bytes_eq (drop (front_of ending word) word) ending
+
+-- what is asked for of the nexus with this name
+abbrev pub asked_of : List (List ℕ) → List ℕ → How → Option Step
+asked_of names name how = option_map (λ host. Of host how) (number_of names name)
+
+-- from version 2 on a word may ask for a reset of the unit
+abbrev pub is_reset_step : ℕ → List ℕ → Bool
+is_reset_step version word = nat_le 2 version && bytes_eq word (codes ":reset")
+
+-- `:reset` for a reset; `a` for a command of a that the unit answers, `a:busy` for one that BUSY answers, `a:full` for one that
+-- TASK SET FULL does
+unfoldable pub step_in : ℕ → List (List ℕ) → List ℕ → Option Step
+step_in version names word =
+    if is_reset_step version word then Some Reset else (
+    if has_ending version (codes ":busy") word then asked_of names (take (front_of (codes ":busy") word) word) how.Busy else (
+    if has_ending version (codes ":full") word then asked_of names (take (front_of (codes ":full") word) word) how.Full else
+    asked_of names word how.Plain))
+
+-- all of them
+abbrev pub steps_of : ℕ → List (List ℕ) → List (List ℕ) → Option (List Step)
+steps_of version names [] = Some []
+steps_of version names (word ∷ words) =
+    option_and_then (λ step. option_map (λ steps. step ∷ steps) (steps_of version names words)) (step_in version names word)
+
+-- no step, or more than there may be
+abbrev pub has_wrong_count : List (List ℕ) → Bool
+has_wrong_count steps = length steps == 0 || nat_lt MOST_STEPS (length steps)

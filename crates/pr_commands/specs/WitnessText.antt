@@ -1,0 +1,97 @@
+-- Agrees with docs/FORMATS.md, 'Witness text'.
+-- The text of a witness: what is broken, the state from which the run starts, and the run as a trace has it.
+use Rattle.std.specs.Prelude.{ℕ, ◌-◌, ◌==◌, Bool, true, false, ◌||◌, if◌then◌else◌, List, [], ◌∷◌, ◌++◌, codes, length, map, slice_index, Option, None, Some}
+use Rattle.std.specs.Fmt.{decimal}
+use Rattle.std.specs.List.{flat_map, range_with_len, slice_get}
+use Rattle.std.specs.Option.{option_map_or}
+use Rattle.pr_cdb.specs.declared.reply.Reply.{Reply}
+use Rattle.pr_cdb.specs.declared.reply.Sense.{Sense}
+use Rattle.pr_cdb.specs.declared.reply.Status.{Status}
+use Rattle.pr_cdb.specs.declared.reply.Status.TheVariants as status
+use Rattle.pr_attention.specs.Attentions.{power_on, reservations_preempted, reservations_released, registrations_preempted}
+use Rattle.pr_domain.specs.declared.landing.Class.{Class}
+use Rattle.pr_domain.specs.declared.landing.Class.TheVariants as class
+use Rattle.pr_registry.specs.Registrations.{State, key_of}
+use Rattle.pr_unit.specs.UnitStates.{UnitState, is_pending}
+use Rattle.pr_roles.specs.declared.item.Item.{Item}
+use Rattle.pr_roles.specs.declared.item.Item.TheVariants.{Sent, Reset}
+use Rattle.pr_world.specs.Ends.{ending_of}
+use Rattle.pr_report.specs.PrintedLines.{line, attention_word, class_word, generation_word, key_word}
+use Rattle.pr_report.specs.TraceText.{held_word, name_of, trace_body}
+use Rattle.pr_report.specs.Verdicts.{no_arm_words, place_words}
+use Rattle.pr_witness.specs.declared.breach.Breach.{Breach}
+use Rattle.pr_witness.specs.declared.breach.Broken.{Broken as Told}
+use Rattle.pr_witness.specs.declared.breach.Broken.TheVariants.{NoArm, OutOfRole, OverBudget}
+
+-- What is broken.
+
+abbrev pub told_word : Bool → List ℕ
+told_word true = codes "told"
+told_word false = codes "other"
+
+-- a reset ends GOOD
+abbrev pub item_class : Item → Class
+item_class (Sent e) = class_of e.reply
+item_class Reset = class.Good
+
+-- how the last of them ended
+abbrev pub last_class : List Item → Class
+last_class history = option_map_or item_class (slice_get history (length history - 1)) class.Good
+
+-- in the words of a verdict; of a budget, how many commands were sent
+abbrev pub broken_words : List (List ℕ) → Told → List Item → List ℕ → List (List ℕ)
+broken_words names (NoArm host at) history counts = no_arm_words (name_of names host) at (class_word (last_class history))
+broken_words names (OutOfRole host at) history counts = place_words (codes "OutOfRole") (name_of names host) at
+broken_words names (OverBudget host) history counts =
+    codes "OverBudget" ∷ codes "host" ∷ name_of names host ∷ codes "sent" ∷ decimal (slice_index counts host) ∷ []
+
+-- The start, in the words of a scenario's own lines.
+
+abbrev pub start_word : Option ℕ → List ℕ
+start_word None = codes "free"
+start_word (Some key) = key_word key
+
+abbrev pub start_line : List (List ℕ) → State → ℕ → List ℕ
+start_line names unit host = line (codes "start") (name_of names host ∷ start_word (key_of unit host) ∷ [])
+
+-- a code that is pending, after a space
+abbrev pub code_word : (ℕ → Bool) → ℕ → List ℕ
+code_word pending code = if pending code then codes " " ++ attention_word code else []
+
+abbrev pub has_any : (ℕ → Bool) → Bool
+has_any pending = pending power_on || pending reservations_preempted || pending reservations_released || pending registrations_preempted
+
+-- the codes that are pending, the lowest first, and the line's end
+abbrev pub code_words : (ℕ → Bool) → List ℕ
+code_words pending =
+    code_word pending power_on ++ (code_word pending reservations_preempted
+    ++ (code_word pending reservations_released ++ (code_word pending registrations_preempted ++ codes "\n")))
+
+abbrev pub some_pending_line : List ℕ → (ℕ → Bool) → List ℕ
+some_pending_line name pending = codes "pending " ++ (name ++ code_words pending)
+
+-- there is no line where nothing is pending
+abbrev pub pending_line : List ℕ → (ℕ → Bool) → List ℕ
+pending_line name pending = if has_any pending then some_pending_line name pending else []
+
+abbrev pub generation_line : ℕ → List ℕ
+generation_line generation = if generation == 0 then [] else line (codes "generation") (generation_word generation ∷ [])
+
+abbrev pub start_lines : List (List ℕ) → UnitState → List ℕ
+start_lines names u = flat_map (start_line names u.registry) (range_with_len 0 u.registry.hosts)
+
+abbrev pub pending_lines : List (List ℕ) → UnitState → List ℕ
+pending_lines names u = flat_map (λ host. pending_line (name_of names host) (is_pending u host)) (range_with_len 0 u.registry.hosts)
+
+-- what stands above the items
+abbrev pub witness_head : List (List ℕ) → Breach → Bool → List ℕ
+witness_head names b told =
+    codes "fence-witness 1\n"
+    ++ (line (told_word told) (broken_words names b.broken b.history.items b.counts.items)
+    ++ (start_lines names b.start
+    ++ (pending_lines names b.start
+    ++ (line (codes "reservation") (held_word names b.start.registry.held ∷ [])
+    ++ generation_line b.start.registry.generation))))
+
+abbrev pub witness_text : List (List ℕ) → Breach → Bool → List ℕ
+witness_text names b told = witness_head names b told ++ trace_body names b.history.items b.unit.registry (map ending_of b.ends.items) b.counts.items

@@ -1,0 +1,63 @@
+-- Agrees with docs/FORMATS.md, 'Witnesses'.
+-- What `fence witness` writes.
+use Rattle.std.specs.Prelude.{◌≡◌, ℕ, Bool, true, false, List, [], ◌∷◌, codes, Option, None, Some, Result}
+use Rattle.std.specs.Fmt.{decimal}
+use Rattle.pr_roles.specs.Scenarios.{Scenario}
+use Rattle.pr_roles.specs.Safety.{IsSafe}
+use Rattle.pr_text.specs.Reading.{IsWrittenAs}
+use Rattle.pr_report.specs.PrintedLines.{line}
+use Rattle.pr_report.specs.TraceText.{names_in}
+use Rattle.pr_witness.specs.declared.searching.Bound.{Bound}
+use Rattle.pr_witness.specs.declared.searching.Bound.TheVariants.{Worlds, Depth, Memory}
+use Rattle.pr_witness.specs.declared.searching.Finding.{Finding}
+use Rattle.pr_witness.specs.declared.searching.Finding.TheVariants.{Found, Nothing}
+use Rattle.pr_witness.specs.Breaches.{IsFound}
+use Rattle.pr_commands.specs.WitnessText.{witness_text}
+use Rattle.pr_commands.specs.declared.fault.Fault.{Fault}
+use Rattle.pr_commands.specs.Endings.{Outputs}
+
+-- the bound that ended a search, if one did
+abbrev pub bound_words : Option Bound → List (List ℕ)
+bound_words None = []
+bound_words (Some Worlds) = codes "worlds" ∷ []
+bound_words (Some Depth) = codes "depth" ∷ []
+bound_words (Some Memory) = codes "memory" ∷ []
+
+-- the scenario is accepted, so that there is nothing to search for; or it was searched
+pub data Answer : Type 0 where
+  accepted : Answer
+  searched : Finding → Answer
+
+abbrev pub Holds : Answer → Scenario → Type 0
+Holds accepted s = IsSafe s
+Holds (searched search) s = IsFound s search
+
+abbrev pub search_text : List (List ℕ) → Finding → List ℕ
+search_text names (Found breach is_told) = witness_text names breach is_told
+search_text names (Nothing worlds bound) = line (codes "none") (decimal worlds ∷ bound_words bound)
+
+abbrev pub answer_text : List (List ℕ) → Answer → List ℕ
+answer_text names accepted = line (codes "accepted") []
+answer_text names (searched search) = search_text names search
+
+abbrev pub is_found : Finding → Bool
+is_found (Found breach is_told) = true
+is_found (Nothing worlds bound) = false
+
+-- a breach was found
+abbrev pub is_breach : Answer → Bool
+is_breach accepted = false
+is_breach (searched search) = is_found search
+
+-- the text is a scenario, and these are the lines of an answer that holds of it
+pub record IsWitnessOf (text lines : List ℕ) (refused : Bool) : Type 0 where
+  pub scenario : Scenario
+  pub read : IsWrittenAs text scenario
+  pub answer : Answer
+  pub holds : Holds answer scenario
+  pub lines_are : lines ≡ answer_text (names_in scenario) answer
+  pub refused_is : refused ≡ is_breach answer
+
+-- What goes to the output. There are no words after the command's name that could be at fault, no trace and no thread.
+abbrev pub EndsWitness : Option (List ℕ) → Option (List ℕ) → Option (List ℕ) → Result Bool Fault → Type 0
+EndsWitness known old new r = Outputs IsWitnessOf ⊥ (λ e. ⊥) (λ name. ⊥) ⊥ known old new r

@@ -1,0 +1,6 @@
+pub mod Judgements
+pub mod Audited
+pub mod PlannedReplays
+pub mod Performances
+pub mod Witnessed
+pub mod FaultRows

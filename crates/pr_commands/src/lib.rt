@@ -1,0 +1,25 @@
+//! The commands of the program as calls, from bytes to bytes: each reads its texts, plans its answer, and then writes it, or tells
+//! its one fault in a line. The program over them opens what they read, and `fence explain` stands there.
+#![tactic(auto)]
+
+mod audits;
+mod checks;
+mod ending;
+mod fault;
+mod outlines;
+mod replays;
+mod runs;
+mod steps;
+mod witness_text;
+mod witnesses;
+
+pub use audits::do_audit;
+pub use checks::do_check;
+pub use ending::ended;
+pub use fault::{Fault, Status, args_fault, file_fault, tell};
+pub use outlines::do_outline;
+pub use replays::{MOST_STEPS, do_replay};
+pub use runs::do_run;
+pub use steps::steps_of;
+pub use witness_text::write_witness;
+pub use witnesses::do_witness;

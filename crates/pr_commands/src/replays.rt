@@ -1,0 +1,107 @@
+//! `fence replay`, over any reader, writer and error writer.
+
+ghost use Rattle.std.specs.Prelude.{◌≡◌, ◌+◌, IsTrue, map};
+ghost use Rattle.std.specs.Io.KnownBytes.{Keeps};
+ghost use Rattle.pr_text.specs.declared.text.TheConstants.{MOST_BYTES};
+ghost use Rattle.pr_text.specs.BytesRead.{LosesUpTo};
+ghost use Rattle.pr_commands.specs.Endings.{IsCommand};
+ghost use Rattle.pr_commands.specs.Steps.{has_wrong_count};
+ghost use Rattle.pr_commands.specs.Replays.{EndsReplay};
+ghost use Rattle.pr_commands.specs.inside.PlannedReplays.{IsPlanned};
+
+use crate::ending::ended;
+use crate::fault::{Fault, Status};
+use crate::steps::steps_of;
+use pr_report::write_trace;
+use pr_roles::Scenario;
+use pr_text::read;
+use pr_world::{Replayed, replay_as};
+use std::alloc::Global;
+use std::io::{Read, Write};
+
+/// The steps of a replay.
+pub const MOST_STEPS: usize = 4_096;
+
+/// `fence replay`: reads a scenario, lets the named hosts take their turns in the order of the steps, and
+/// writes the trace.
+///
+/// No step, or more than 4,096, is a usage fault before the text is read; a step that names no nexus is
+/// one after it. In a text of version 2 `a:busy` and `a:full` are steps of `a`, whose command is refused where the text has a
+/// refusal left, and `:reset` is a reset of the unit, passed over where the text has none left. Of a text whose bytes the
+/// contract knows at most 65,537 are taken. A fault is told in one line on `errors`, whose own faults change nothing.
+pub fn do_replay<R: Read, W: Write, E: Write>(
+    alloc: Global,
+    steps: &[&str],
+    reader: &mut R,
+    writer: &mut W,
+    errors: &mut E,
+) -> Status
+    ensures command { IsCommand (EndsReplay (map (λ s. s.now) steps.now) (R.remaining reader.old)
+        (W.contents writer.old) (W.contents writer.new)) (E.contents errors.old)
+        (E.contents errors.new) result }
+    ensures limited { LosesUpTo (MOST_BYTES + 1) (R.remaining reader.old) (R.remaining reader.new) }
+    ensures unread { IsTrue (has_wrong_count (map (λ s. s.now) steps.now))
+        → Keeps (R.remaining reader.old) (R.remaining reader.new) }
+{
+    let end = replay_text(alloc, steps, reader, writer);
+    ended(errors, end)
+}
+
+// Plans, and then writes: whether a host is trapped.
+fn replay_text<R: Read, W: Write>(
+    alloc: Global,
+    steps: &[&str],
+    reader: &mut R,
+    writer: &mut W,
+) -> Result<bool, Fault>
+    ensures ends { EndsReplay (map (λ s. s.now) steps.now) (R.remaining reader.old)
+        (W.contents writer.old) (W.contents writer.new) result }
+    ensures limited { LosesUpTo (MOST_BYTES + 1) (R.remaining reader.old) (R.remaining reader.new) }
+    ensures unread { IsTrue (has_wrong_count (map (λ s. s.now) steps.now))
+        → Keeps (R.remaining reader.old) (R.remaining reader.new) }
+{
+    let plan = plan(alloc, steps, reader)?;
+    write_trace(
+        writer,
+        &plan.scenario,
+        &plan.replayed.history,
+        &plan.replayed.unit,
+        &plan.replayed.ends,
+        &plan.replayed.counts,
+    )?;
+    Ok(plan.replayed.is_trapped())
+}
+
+/// A replay that is done and not written.
+#[derive(Drop)]
+struct Planned {
+    scenario: Scenario,
+    replayed: Replayed,
+}
+
+// Reads the text and replays the steps, or answers their first fault.
+fn plan<R: Read>(alloc: Global, steps: &[&str], reader: &mut R) -> Result<Planned, Fault>
+    ensures planned { IsPlanned (map (λ s. s.now) steps.now) (R.remaining reader.old) result }
+    ensures limited { LosesUpTo (MOST_BYTES + 1) (R.remaining reader.old) (R.remaining reader.new) }
+    ensures unread { IsTrue (has_wrong_count (map (λ s. s.now) steps.now))
+        → Keeps (R.remaining reader.old) (R.remaining reader.new) }
+{
+    if has_wrong_count(steps) {
+        return Err(Fault::Usage);
+    }
+    let scenario = read(alloc, reader)?;
+    let parts = scenario.parts();
+    let Some(turns) = steps_of(alloc, steps, parts.version, &parts.nexuses)? else {
+        return Err(Fault::Usage);
+    };
+    let replayed = replay_as(alloc, &scenario, &turns)?;
+    Ok(Planned { scenario, replayed })
+}
+
+// No step, or more than 4,096.
+#[tactic(auto, using(crate::proofs::Plans::wrong_count))]
+fn has_wrong_count(steps: &[&str]) -> bool
+    ensures { result ≡ has_wrong_count (map (λ s. s.now) steps.now) }
+{
+    steps.is_empty() || steps.len() > MOST_STEPS
+}

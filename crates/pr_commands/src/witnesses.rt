@@ -1,0 +1,136 @@
+//! `fence witness`, over any reader, writer and error writer.
+
+ghost use Rattle.std.specs.Prelude.{◌≡◌, ◌+◌, ◌∷◌, codes};
+ghost use Rattle.std.specs.Fmt.{decimal};
+ghost use Rattle.pr_roles.specs.Scenarios.{scenario_of};
+ghost use Rattle.pr_text.specs.declared.text.TheConstants.{MOST_BYTES};
+ghost use Rattle.pr_text.specs.BytesRead.{LosesUpTo};
+ghost use Rattle.pr_report.specs.PrintedLines.{line};
+ghost use Rattle.pr_report.specs.TraceText.{names_in};
+ghost use Rattle.pr_report.specs.Written.{Puts};
+ghost use Rattle.pr_commands.specs.Endings.{IsCommand};
+ghost use Rattle.pr_commands.specs.Witnesses.{EndsWitness, answer_text, bound_words, is_breach, search_text};
+ghost use Rattle.pr_commands.specs.inside.Witnessed.{IsWitnessed, Stands, answer_in, scenario_in};
+
+use crate::checks::settled;
+use crate::ending::ended;
+use crate::fault::{Fault, Status};
+use crate::witness_text::write_witness;
+use pr_report::{Verdict, Word, WriteFault, put_line, write_verdict};
+use pr_roles::Scenario;
+use pr_text::read;
+use pr_verify::{Verified, verify};
+use pr_witness::{Bound, Finding, USUAL_BOUNDS, search};
+use std::alloc::Global;
+use std::io::{Read, Write};
+
+/// A scenario that was verified, or searched for a run that shows why it is refused.
+#[derive(Drop)]
+enum Witnessed {
+    Accepted(Verified),
+    Searched { scenario: Scenario, search: Finding },
+}
+
+/// `fence witness`: reads a scenario, and where it is refused writes a run that breaks what its verdict tells, or else any run
+/// that breaks something, if the search finds one. What it writes as such a run is one.
+///
+/// Of a text whose bytes the contract knows at most 65,537 are taken. A fault is told in one line on `errors`, whose own
+/// faults change nothing.
+pub fn do_witness<R: Read, W: Write, E: Write>(
+    alloc: Global,
+    reader: &mut R,
+    writer: &mut W,
+    errors: &mut E,
+) -> Status
+    ensures command { IsCommand (EndsWitness (R.remaining reader.old) (W.contents writer.old)
+        (W.contents writer.new)) (E.contents errors.old) (E.contents errors.new) result }
+    ensures limited { LosesUpTo (MOST_BYTES + 1) (R.remaining reader.old) (R.remaining reader.new) }
+{
+    let end = witness_text(alloc, reader, writer);
+    ended(errors, end)
+}
+
+// Searches, and then writes: whether a breach was found.
+fn witness_text<R: Read, W: Write>(
+    alloc: Global,
+    reader: &mut R,
+    writer: &mut W,
+) -> Result<bool, Fault>
+    ensures ends { EndsWitness (R.remaining reader.old) (W.contents writer.old)
+        (W.contents writer.new) result }
+    ensures limited { LosesUpTo (MOST_BYTES + 1) (R.remaining reader.old) (R.remaining reader.new) }
+{
+    let witnessed = witness(alloc, reader)?;
+    put_witnessed(writer, &witnessed)?;
+    Ok(is_breach(&witnessed))
+}
+
+// Reads the text, verifies its scenario, and searches it where it is refused.
+fn witness<R: Read>(alloc: Global, reader: &mut R) -> Result<Witnessed, Fault>
+    ensures witnessed { IsWitnessed (R.remaining reader.old) result }
+    ensures limited { LosesUpTo (MOST_BYTES + 1) (R.remaining reader.old) (R.remaining reader.new) }
+{
+    let scenario = read(alloc, reader)?;
+    match settled(verify(alloc, scenario))? {
+        Ok(verified) => Ok(Witnessed::Accepted(verified)),
+        Err(refused) => {
+            let search = search(alloc, &refused.scenario, &refused.refusal, USUAL_BOUNDS)?;
+            Ok(Witnessed::Searched {
+                scenario: refused.scenario,
+                search,
+            })
+        }
+    }
+}
+
+fn is_breach(witnessed: &Witnessed) -> bool
+    ensures { result ≡ is_breach (answer_in witnessed.now) }
+{
+    match witnessed {
+        Witnessed::Accepted(_) => false,
+        Witnessed::Searched { search, .. } => matches!(search, Finding::Found { .. }),
+    }
+}
+
+fn put_witnessed<W: Write>(writer: &mut W, witnessed: &Witnessed) -> Result<(), WriteFault>
+    ensures { Puts (W.contents writer.old) (W.contents writer.new)
+        (answer_text (names_in (scenario_of (scenario_in witnessed.now))) (answer_in witnessed.now))
+        result }
+{
+    match witnessed {
+        Witnessed::Accepted(verified) => {
+            write_verdict(writer, verified.scenario(), &Verdict::Accepted)
+        }
+        Witnessed::Searched { scenario, search } => put_search(writer, scenario, search),
+    }
+}
+
+fn put_search<W: Write>(
+    writer: &mut W,
+    scenario: &Scenario,
+    search: &Finding,
+) -> Result<(), WriteFault>
+    ensures { Puts (W.contents writer.old) (W.contents writer.new)
+        (search_text (names_in (scenario_of scenario.now)) search.now) result }
+{
+    match search {
+        Finding::Found { breach, is_told } => write_witness(writer, scenario, breach, *is_told),
+        Finding::Nothing { worlds, bound } => put_none(writer, *worlds, *bound),
+    }
+}
+
+// That nothing was found among so many worlds, and the bound that was met.
+#[tactic(auto, unfolding(pr_report::specs::Printed::printed_word))]
+fn put_none<W: Write>(writer: &mut W, worlds: usize, bound: Option<Bound>) -> Result<(), WriteFault>
+    ensures { Puts (W.contents writer.old) (W.contents writer.new)
+        (line (codes "none") (decimal worlds ∷ bound_words bound)) result }
+{
+    let first = Word::Text(b"none");
+    let worlds = Word::Number(worlds as u64);
+    match bound {
+        None => put_line(writer, first, &[worlds]),
+        Some(Bound::Worlds) => put_line(writer, first, &[worlds, Word::Text(b"worlds")]),
+        Some(Bound::Depth) => put_line(writer, first, &[worlds, Word::Text(b"depth")]),
+        Some(Bound::Memory) => put_line(writer, first, &[worlds, Word::Text(b"memory")]),
+    }
+}

@@ -1,6 +1,0 @@
-use Rattle.pr_report.specs.Printed.{printed_word}
-use Rattle.pr_witness.proofs.text.put_over_budget.Goals as goal
-
-pub returns : goal.returns
-unfolding printed_word
-returns g c = rw c.from.ensures at c.put_line.ensures
