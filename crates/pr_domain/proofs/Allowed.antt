@@ -13,12 +13,12 @@ use Rattle.pr_views.specs.Views.{View, Shows}
 use Rattle.pr_views.specs.Portions.{view_in}
 use Rattle.pr_views.specs.Rooms.{AreInRange}
 use Rattle.pr_views.proofs.Numbering.{reservation_of}
-use Rattle.pr_domain.specs.Interference.{IsOfStart}
+use Rattle.pr_domain.specs.Starting.{IsOfStart}
 use Rattle.pr_domain.specs.inside.Beginning.{AreAlternatives, registration_in}
-use Rattle.pr_domain.specs.inside.Keeping.{IsKept, IsShownSo}
+use Rattle.pr_regions.specs.Keeping.{IsKept, IsShownSo}
 use Rattle.pr_domain.proofs.Beginning.{starts_so}
 use Rattle.pr_domain.proofs.Subsets.{numbered}
-use Rattle.pr_domain.proofs.Viewed.{IsSame, shows_within, reservation_below}
+use Rattle.pr_regions.proofs.Viewed.{IsSame, shows_within, reservation_below}
 use Rattle.pr_domain.proofs.Written.{registration_below, registration_tells, start_fits}
 
 some_nexus : (ns : List Nexus) (g : ℕ) → g < length ns → (n : Nexus) × (slice_get ns g ≡ Some n)

@@ -42,7 +42,7 @@ use Rattle.pr_domain.specs.declared.reporting.Refused.{Refused}
 use Rattle.pr_domain.specs.inside.Reporting.{AreReported, AreCalm, AreQuiet, Ending, Reports, Conflicts, Fails, EndsGood, Refuses, refusal, MayReport, Ends, LandsBy, LandsGood, IsLater, IsOfWay, LandsGoodBelow, AreMore, HasOutcome, landing_at}
 use Rattle.pr_domain.specs.inside.Sendings.{scope_of_sending, view_of_sending, IsAsked}
 use Rattle.pr_domain.proofs.Landed.{one_class, one_landing, settled, IsWay, IsTold, from_part, way_lands}
-use Rattle.pr_domain.proofs.Viewed.{number_below}
+use Rattle.pr_regions.proofs.Viewed.{number_below}
 use Rattle.pr_domain.proofs.EachWay.{way_of_tally, either_way, told_power_on, told_later, told_conflict, told_refusal, told_fault, told_good}
 
 -- ---- one way

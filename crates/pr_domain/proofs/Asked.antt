@@ -27,10 +27,10 @@ use Rattle.pr_regions.specs.declared.region.Region.{Region}
 use Rattle.pr_regions.specs.declared.region.Ending.TheVariants as ending
 use Rattle.pr_regions.specs.Purposes.{is_refused}
 use Rattle.pr_regions.specs.Regions.{AreBranches, Meets, filter_of, standing_of, Ends, IsUntestedOrRegistered, IsProper as IsProperBranch}
-use Rattle.pr_domain.specs.declared.place.Place.{Place}
-use Rattle.pr_domain.specs.inside.Gathering.{IsPlace, IsUniform, IsAt}
+use Rattle.pr_regions.specs.declared.place.Place.{Place}
+use Rattle.pr_regions.specs.Gathering.{IsPlace, IsUniform, IsAt}
 use Rattle.pr_domain.specs.inside.Tallies.{IsRight, AreRight, IsInOne, HasBoth, IsAsked, IsRefusedAt}
-use Rattle.pr_domain.proofs.Gathered.{few_keys, same_reservation}
+use Rattle.pr_regions.proofs.Gathered.{few_keys, same_reservation}
 
 -- a sender with this registration alone
 pub only_uniform : (r : ℕ) (w : Word) → ((m : ℕ) → has w m ≡ (m == r)) → IsUniform w

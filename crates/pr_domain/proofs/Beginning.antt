@@ -16,9 +16,9 @@ use Rattle.pr_views.specs.Possibilities.{Scope, Item, Attentions, IsSo}
 use Rattle.pr_views.specs.Views.{Shows}
 use Rattle.pr_views.specs.Portions.{view_in}
 use Rattle.pr_views.proofs.Numbering.{reservation_of}
-use Rattle.pr_domain.specs.Interference.{StartsSo}
+use Rattle.pr_domain.specs.Starting.{StartsSo}
 use Rattle.pr_domain.specs.inside.Beginning.{AreAlternatives}
-use Rattle.pr_domain.proofs.Unpending.{IsLike, so_like}
+use Rattle.pr_regions.proofs.Like.{IsLike, so_like}
 
 -- the same state, with nothing pending for any but the owner
 abbrev pub alone : UnitState → ℕ → ℕ → UnitState

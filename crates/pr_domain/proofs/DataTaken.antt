@@ -32,14 +32,14 @@ use Rattle.pr_regions.specs.Purposes.{is_refused, purpose_of}
 use Rattle.pr_regions.specs.Readings.{first_test, AreReadings, IsProperReading}
 use Rattle.pr_regions.specs.Regions.{Ends, Meets, IsInRegion, standing_of}
 use Rattle.pr_regions.proofs.Meeting.{same_ends}
-use Rattle.pr_domain.specs.declared.place.Place.{Place}
+use Rattle.pr_regions.specs.declared.place.Place.{Place}
 use Rattle.pr_domain.specs.declared.tally.Tally.{Tally}
-use Rattle.pr_domain.specs.inside.Gathering.{IsPlace, IsProper, IsAt}
+use Rattle.pr_regions.specs.Gathering.{IsPlace, IsProper, IsAt}
 use Rattle.pr_domain.specs.inside.Tallies.{arm_of, way_of, Grows, IsRight, HasBoth, IsOwners, IsReadAt, IsReadFirst, IsRightReading, AreRightReadings}
 use Rattle.pr_domain.specs.declared.landing.Class.TheVariants as class
 use Rattle.pr_domain.specs.inside.Reporting.{looks, takes, AreBlind}
 use Rattle.pr_domain.proofs.Matching.{first_of_class}
-use Rattle.pr_domain.proofs.Gathered.{same_reservation, number_at}
+use Rattle.pr_regions.proofs.Gathered.{same_reservation, number_at}
 use Rattle.pr_domain.proofs.Growing.{grows_then, grows_from_none}
 use Rattle.pr_domain.proofs.Asked.{only_uniform, sender_is}
 

@@ -12,9 +12,9 @@ use Rattle.pr_views.specs.Possibilities.{Scope, Item}
 use Rattle.pr_views.specs.Views.{View, Shows}
 use Rattle.pr_views.specs.Portions.{view_in}
 use Rattle.pr_regions.specs.declared.region.Branch.{Branch}
-use Rattle.pr_domain.specs.declared.place.Place.{Place}
+use Rattle.pr_regions.specs.declared.place.Place.{Place}
 use Rattle.pr_domain.specs.declared.tally.Tally.{Tally}
-use Rattle.pr_domain.specs.inside.Gathering.{IsAt}
+use Rattle.pr_regions.specs.Gathering.{IsAt}
 use Rattle.pr_domain.specs.inside.Tallies.{has_tallied, Leaves, IsFound, Grows, IsInOne}
 
 -- found among these, and so among those

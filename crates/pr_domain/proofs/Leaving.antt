@@ -24,10 +24,10 @@ use Rattle.pr_regions.specs.declared.region.Ending.TheVariants as ending
 use Rattle.pr_regions.specs.declared.region.Region.{Region}
 use Rattle.pr_regions.specs.Readings.{first_test}
 use Rattle.pr_regions.specs.Regions.{Ends, Changes}
-use Rattle.pr_domain.specs.declared.place.Place.{Place}
+use Rattle.pr_regions.specs.declared.place.Place.{Place}
 use Rattle.pr_domain.specs.declared.tally.Tally.{Tally}
-use Rattle.pr_domain.specs.inside.Gathering.{IsPlace, IsAt, IsGathered}
-use Rattle.pr_domain.specs.inside.Images.{IsImage, becomes, registration_left}
+use Rattle.pr_regions.specs.Gathering.{IsPlace, IsAt, IsGathered}
+use Rattle.pr_regions.specs.Images.{IsImage, becomes, registration_left}
 use Rattle.pr_domain.specs.inside.Tallies.{IsRegistered, has_part, has_tallied, arm_of, Leaves, IsFound, Grows, IsRight}
 
 -- the possibilities are what is so, of registrations and reservation, after these states become others

@@ -33,11 +33,11 @@ use Rattle.pr_regions.specs.declared.region.Ending.{Ending}
 use Rattle.pr_regions.specs.declared.region.Ending.TheVariants as ending
 use Rattle.pr_regions.specs.Purposes.{is_refused, purpose_of, names_written}
 use Rattle.pr_regions.specs.Regions.{AreBranches, standing_of, Ends, IsProper as IsProperBranch}
-use Rattle.pr_domain.specs.declared.place.Place.{Place}
-use Rattle.pr_domain.specs.inside.Gathering.{IsPlace, IsUniform, IsProper, IsAt, IsGathered}
+use Rattle.pr_regions.specs.declared.place.Place.{Place}
+use Rattle.pr_regions.specs.Gathering.{IsPlace, IsUniform, IsProper, IsAt, IsGathered}
 use Rattle.pr_domain.specs.inside.Tallies.{IsRight, IsInOne, HasFirst, HasBoth, IsReserved, IsAsked}
 use Rattle.pr_domain.specs.inside.Permitting.{EndsGood, ArePermitted, scope_at, IsAsking, holds_reservation, holds_at, permits_at, IsReached, IsOneReached, IsOneRefused, permits_always}
-use Rattle.pr_domain.proofs.Gathered.{few_keys, same_reservation}
+use Rattle.pr_regions.proofs.Gathered.{few_keys, same_reservation}
 use Rattle.pr_domain.proofs.Growing.{listed_there}
 use Rattle.pr_domain.proofs.Asked.{only_uniform, asked_right, asked_covers, asked_back, refused_conflicts}
 

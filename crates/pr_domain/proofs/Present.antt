@@ -9,18 +9,16 @@ use Rattle.pr_sets.specs.declared.word.Word.{Word}
 use Rattle.pr_sets.specs.Words.{has}
 use Rattle.pr_sets.specs.Wides.{has_wide}
 use Rattle.pr_views.specs.declared.possibilities.Possibilities.{Possibilities}
-use Rattle.pr_views.specs.declared.portion.Portion.{Portion}
-use Rattle.pr_views.specs.Possibilities.{Scope, Item, Registration, Reservation, Attentions}
+use Rattle.pr_views.specs.Possibilities.{Scope, Item, Registration, Reservation, Attentions, IsSo}
 use Rattle.pr_views.specs.Views.{Shows, Within}
 use Rattle.pr_views.specs.Portions.{has_at, view_in}
 use Rattle.pr_views.proofs.Places.{holds_at-get_or}
 use Rattle.pr_regions.specs.declared.region.Region.{Region}
 use Rattle.pr_regions.specs.declared.region.Reading.{Reading}
-use Rattle.pr_domain.specs.declared.place.Place.{Place}
+use Rattle.pr_regions.specs.declared.place.Place.{Place}
 use Rattle.pr_domain.specs.declared.tally.Tally.{Tally}
-use Rattle.pr_domain.specs.inside.Gathering.{IsPlace, IsUniform, IsAt}
+use Rattle.pr_regions.specs.Gathering.{IsPlace, IsAt}
 use Rattle.pr_domain.specs.inside.Tallies.{IsRegistered, has_part, has_tallied, HasFound, arm_of, way_of, Leaves, Grows, IsReadAt, IsRightReading}
-use Rattle.pr_domain.proofs.Gathered.{IsPortionOf, in_from_at}
 use Rattle.pr_domain.proofs.DataTaken.{arm_way, at_read}
 use Rattle.pr_domain.proofs.Retyped.{OnlyReads, only_reads, left_there}
 
@@ -34,17 +32,16 @@ has_found t way hosts d found there within = record {
     any : Scope
     any = record { own = 0; hosts = hosts; keys = [] }
 
--- what is so in the states of a region is in its portion
-pub tallied_there : (t : Tally) (way : ℕ) (s : Scope) (view : Possibilities) (place : Place) (senders : Word) (region : Region) (portion : Portion) (found : Possibilities) → IsPlace s view place → IsUniform senders
-    → IsPortionOf view place senders region portion → found.registrations ≡ portion.registrations → ((x : ℕ) → has_wide found.reservations x ≡ (x == place.reservation)) → HasFound t way place.hosts found
-    → (u : UnitState) (i : Item) → IsAt (view_in s view) place senders region u → IsRegistered s u i → has_tallied t way i ≡ true
-tallied_there t way s view place senders region portion found is uniform of registrations reservations has u (Registration g r) at so =
-    has.registrations g r (subst (λ n. g < n) is.hosts so.0)
-    (subst (λ ws. has_at ws g r ≡ true) (sym registrations) ((in_from_at s view place senders region portion is uniform of u at).registrations g r so))
-tallied_there t way s view place senders region portion found is uniform of registrations reservations has u (Reservation x) at so =
+-- what is so in the states of a region is among what each has there at most
+pub tallied_there : (t : Tally) (way : ℕ) (s : Scope) (view : Possibilities) (place : Place) (senders : Word) (region : Region) (most : List Word) (found : Possibilities) → IsPlace s view place
+    → found.registrations ≡ most → ((x : ℕ) → has_wide found.reservations x ≡ (x == place.reservation)) → HasFound t way place.hosts found
+    → (u : UnitState) (i : Item) → IsAt (view_in s view) place senders region u → ((g r : ℕ) → IsSo s u (Registration g r) → has_at most g r ≡ true) → IsRegistered s u i → has_tallied t way i ≡ true
+tallied_there t way s view place senders region most found is registrations reservations has u (Registration g r) at there so =
+    has.registrations g r (subst (λ n. g < n) is.hosts so.0) (subst (λ ws. has_at ws g r ≡ true) (sym registrations) (there g r so))
+tallied_there t way s view place senders region most found is registrations reservations has u (Reservation x) at there so =
     let same : x ≡ place.reservation = so ∙ sym at.reservation in
     has.reservations x (reservations x ∙ grind (arith, nat_tests))
-tallied_there t way s view place senders region portion found is uniform of registrations reservations has u (Attentions q) at so = absurd so
+tallied_there t way s view place senders region most found is registrations reservations has u (Attentions q) at there so = absurd so
 
 -- a reading whose states are there adds nothing
 pub reading_there : (s : Scope) (c : Command) (tests : List Test) (view : Possibilities) (place : Place) (r : ℕ) (w : Word) (b : Reading) (way : ℕ) (t : Tally) → IsRightReading s c tests view place r b

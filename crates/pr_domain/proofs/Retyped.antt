@@ -26,12 +26,12 @@ use Rattle.pr_views.specs.Views.{Shows}
 use Rattle.pr_views.specs.Portions.{view_in}
 use Rattle.pr_regions.specs.Readings.{first_test}
 use Rattle.pr_regions.proofs.Reserved.{key_in, first_found}
-use Rattle.pr_domain.specs.declared.place.Place.{Place}
+use Rattle.pr_regions.specs.declared.place.Place.{Place}
 use Rattle.pr_domain.specs.declared.tally.Tally.{Tally}
-use Rattle.pr_domain.specs.inside.Gathering.{IsPlace}
+use Rattle.pr_regions.specs.Gathering.{IsPlace}
 use Rattle.pr_domain.specs.inside.Tallies.{IsRegistered, has_tallied, IsNothing, Leaves, IsFound, Grows, IsReserved, IsOwners}
 use Rattle.pr_domain.specs.inside.Twins.{AreTwins, IsTwin, has_with_twin}
-use Rattle.pr_domain.proofs.Gathered.{same_reservation, number_at, held_at}
+use Rattle.pr_regions.proofs.Gathered.{same_reservation, number_at, held_at}
 use Rattle.pr_domain.proofs.Landed.{still_registered}
 
 -- the same state with this reservation

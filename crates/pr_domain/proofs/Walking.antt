@@ -11,10 +11,10 @@ use Rattle.pr_views.specs.Possibilities.{Scope, Item, Registration, Reservation,
 use Rattle.pr_views.specs.Views.{View, Shows}
 use Rattle.pr_views.specs.Portions.{has_at, view_in}
 use Rattle.pr_views.proofs.Numbering.{one_registration}
-use Rattle.pr_domain.specs.declared.place.Place.{Place}
-use Rattle.pr_domain.proofs.Shown.{is_place}
+use Rattle.pr_regions.specs.declared.place.Place.{Place}
+use Rattle.pr_regions.proofs.Shown.{is_place}
 use Rattle.pr_domain.specs.declared.tally.Tally.{Tally}
-use Rattle.pr_domain.specs.inside.Gathering.{IsPlace}
+use Rattle.pr_regions.specs.Gathering.{IsPlace}
 use Rattle.pr_domain.specs.inside.Tallies.{has_tallied, Grows, IsFound, HasBoth, HasFirst, IsReserved, IsOwners, IsOfScope, IsTally}
 use Rattle.pr_domain.proofs.Growing.{grows_as, grows_then, grows_from_none}
 

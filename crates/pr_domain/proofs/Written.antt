@@ -27,10 +27,9 @@ use Rattle.pr_views.specs.Rooms.{AreInRange}
 use Rattle.pr_views.proofs.Numbering.{same_held, same_registration}
 use Rattle.pr_regions.specs.Purposes.{number_in}
 use Rattle.pr_regions.proofs.Asking.{number_named, declared_number}
-use Rattle.pr_domain.specs.inside.Beginning.{AreAlternatives, AreAmong, registration_in, has_alternative, may_have, has_reservation}
-use Rattle.pr_domain.specs.inside.Closing.{scope_in}
-use Rattle.pr_domain.proofs.Roles.{count_of_parts}
-use Rattle.pr_domain.proofs.Viewed.{number_below}
+use Rattle.pr_domain.specs.inside.Beginning.{AreAlternatives, AreAmong, registration_in, has_alternative, may_have, has_reservation, scope_in}
+use Rattle.pr_regions.proofs.PartsOf.{count_of_parts}
+use Rattle.pr_regions.proofs.Viewed.{number_below}
 
 same_number : (a b : ℕ) → (a == b) ≡ true → a ≡ b
 same_number a b is = grind (arith, nat_tests)

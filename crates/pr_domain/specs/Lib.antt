@@ -1,4 +1,4 @@
 pub mod Landings
 pub mod Outcomes
-pub mod Interference
+pub mod Starting
 pub mod inside

@@ -1,12 +1,5 @@
 pub mod Beginning
-pub mod Clauses
-pub mod Closing
-pub mod Gathering
-pub mod Images
-pub mod Interfering
-pub mod Keeping
 pub mod Permitting
-pub mod Reaching
 pub mod Reporting
 pub mod Sendings
 pub mod Tallies

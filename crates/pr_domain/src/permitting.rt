@@ -10,13 +10,14 @@ ghost use Rattle.pr_views.specs.Portions.{view_in};
 ghost use Rattle.pr_views.specs.Rooms.{view_of, IsMade};
 ghost use Rattle.pr_regions.specs.Regions.{IsProper as IsProperBranch};
 ghost use Rattle.pr_domain.specs.Outcomes.{IsPermittedIn, IsRefusedIn};
-ghost use Rattle.pr_domain.specs.inside.Gathering.{IsPlace, IsUniform, IsProper};
+ghost use Rattle.pr_regions.specs.Gathering.{IsPlace, IsUniform, IsProper};
 ghost use Rattle.pr_domain.specs.inside.Tallies.{HasBoth};
 ghost use Rattle.pr_domain.specs.inside.Permitting.{ArePermitted, IsOneRefused, scope_at, IsAsking, holds_reservation, holds_at, permits_at, IsReached, IsOneReached, permits_always};
 
-use crate::place::Place;
 use pr_cdb::Command;
-use pr_regions::{Branch, Ending, branches, is_refused, purpose_of, reservation_at, standing_of};
+use pr_regions::{
+    Branch, Ending, Place, branches, is_refused, purpose_of, reservation_at, standing_of,
+};
 use pr_registry::Held;
 use pr_roles::{Clause, Condition, Role, is_always_permitted, names};
 use pr_sets::{ViewSet, Word};

@@ -11,15 +11,13 @@ ghost use Rattle.pr_sets.specs.Wides.{has_wide};
 ghost use Rattle.pr_views.specs.Views.{Fits};
 ghost use Rattle.pr_views.specs.Portions.{has_at, view_in};
 ghost use Rattle.pr_views.specs.Rooms.{view_of, IsMade, AreInRange};
-ghost use Rattle.pr_domain.specs.Interference.{IsOfStart};
-ghost use Rattle.pr_domain.specs.inside.Beginning.{AreAlternatives, AreAmong, stays, registration_in, has_alternative, may_have, has_reservation};
-ghost use Rattle.pr_domain.specs.inside.Closing.{scope_in};
+ghost use Rattle.pr_domain.specs.Starting.{IsOfStart};
+ghost use Rattle.pr_domain.specs.inside.Beginning.{AreAlternatives, AreAmong, stays, registration_in, has_alternative, may_have, has_reservation, scope_in};
 
 use crate::attentions::is_among;
-use crate::keeping::kept;
 use pr_attention::{Attention, Pending};
 use pr_cdb::codes::MOST_NEXUSES;
-use pr_regions::{number_in, reservation_number};
+use pr_regions::{kept, number_in, reservation_number};
 use pr_registry::Held;
 use pr_roles::{Nexus, Parts, Scenario};
 use pr_sets::{ViewSet, Wide, Word};

@@ -9,7 +9,7 @@ ghost use Rattle.pr_views.specs.Possibilities.{Item};
 ghost use Rattle.pr_domain.specs.inside.Tallies.{has_part, has_tallied, HasFound};
 ghost use Rattle.pr_domain.specs.inside.Twins.{has_with_twin};
 
-use crate::comparing::gains;
+use pr_regions::gains;
 use pr_views::Possibilities;
 
 /// The possible registrations and reservations after each kind of ending: in a conflict, without a conflict, at fault, and GOOD

@@ -3,7 +3,7 @@
 ghost use Rattle.std.specs.Prelude.{◌≡◌, ◌<◌, ◌≤◌, ◌+◌, ℕ, List, ◌==◌, ◌||◌, length, IsTrue, true, IfSome, IfNone};
 ghost use Rattle.pr_script.specs.Grammar.{is_written, test_fits, is_read_keys, is_read_reservation};
 ghost use Rattle.pr_script.specs.declared.limits.TheConstants.{MOST_ARMS};
-ghost use Rattle.pr_views.specs.Possibilities.{key_at};
+ghost use Rattle.pr_views.specs.Possibilities.{key_at, Scope, Item};
 ghost use Rattle.pr_roles.specs.Fitting.{AreDeclared};
 ghost use Rattle.pr_regions.specs.Purposes.{HasNumber};
 ghost use Rattle.std.specs.List.{All};
@@ -13,23 +13,21 @@ ghost use Rattle.pr_cdb.specs.declared.command.Command.{Command as CommandOf};
 ghost use Rattle.pr_script.specs.declared.script.Test.{Test as TestOf};
 ghost use Rattle.pr_unit.specs.UnitStates.{UnitState};
 ghost use Rattle.pr_roles.specs.declared.limits.TheConstants.{MOST_KEYS};
-ghost use Rattle.pr_views.specs.Possibilities.{Scope, Item};
 ghost use Rattle.pr_views.specs.Portions.{view_in};
 ghost use Rattle.pr_regions.specs.Regions.{HasRoom};
 ghost use Rattle.pr_domain.specs.declared.tally.Tally.{Tally as TallyOf};
-ghost use Rattle.pr_domain.specs.inside.Gathering.{IsPlace, IsUniform, IsAt};
+ghost use Rattle.pr_regions.specs.Gathering.{IsPlace, IsUniform, IsAt};
 ghost use Rattle.pr_domain.specs.inside.Tallies.{IsRegistered, has_tallied, Grows, IsRight, AreRight, IsInOne, HasBoth, HasFirst, IsReserved, IsAsked, IsRefusedAt, IsOwners, IsOfScope, IsNothing, IsTally, IsRightReading, AreRightReadings, IsReadAt, IsReadFirst, way_of};
 
 use crate::arms::first_arm;
-use crate::changed::registrations_after;
 use crate::landing::Class;
-use crate::place::Place;
 use crate::tally::Tally;
+use crate::twins::twin_of;
 use pr_cdb::Command;
 use pr_cdb::codes::MOST_NEXUSES;
 use pr_regions::{
-    Branch, Change, Ending, Purpose, Reading, Region, branches, is_refused, purpose_of, readings,
-    standing_of,
+    Branch, Change, Ending, Place, Purpose, Reading, Region, branches, is_refused, purpose_of,
+    readings, registrations_after, standing_of,
 };
 use pr_script::Test;
 use pr_script::limits::MOST_ARMS;
@@ -187,8 +185,8 @@ fn is_tallied(
         → IsRegistered s u i → (has_tallied tally.now 1 i ≡ true)
         × (has_tallied tally.now (3 + arm) i ≡ true) }
 {
-    let portion = place.portion(view, senders, region);
-    let found = part(portion.registrations, place.reservation);
+    let most = place.gathered_at_most(view, senders, region);
+    let found = part(most, place.reservation);
     tally.has(1, place.hosts, &found) && tally.has(3 + arm, place.hosts, &found)
 }
 
@@ -333,7 +331,7 @@ fn add_reservation(tally: &mut Tally, view: &Possibilities, place: Place, asked:
         (IsReserved s (place.reservation + 1)) }
 {
     if is_reading(asked.command) {
-        if let Some(twin) = place.twin(view) {
+        if let Some(twin) = twin_of(&place, view) {
             tally.add_twin(twin, place.reservation);
             return;
         }

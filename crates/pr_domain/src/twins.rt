@@ -3,26 +3,23 @@
 ghost use Rattle.std.specs.Prelude.{◌<◌, IsTrue, IfSome};
 ghost use Rattle.pr_domain.specs.inside.Twins.{AreTwins, IsTwin};
 
-use crate::place::Place;
-use pr_regions::reservation_at;
+use pr_regions::{Place, reservation_at};
 use pr_registry::Held;
 use pr_views::Possibilities;
 
-impl Place {
-    /// The first reservation of the view that has the same holders as this one, if it comes before it.
-    pub(crate) fn twin(&self, view: &Possibilities) -> Option<u8>
-        ensures { IfSome result (IsTwin view.now self.now) }
-    {
-        for reservation in 0..self.reservation {
-            if view.reservations.has(reservation) {
-                let held = reservation_at(self.hosts, reservation);
-                if have_same_holders(held, self.held) {
-                    return Some(reservation);
-                }
+/// The first reservation of the view that has the same holders as that of the place, if it comes before it.
+pub(crate) fn twin_of(place: &Place, view: &Possibilities) -> Option<u8>
+    ensures { IfSome result (IsTwin view.now place.now) }
+{
+    for reservation in 0..place.reservation {
+        if view.reservations.has(reservation) {
+            let held = reservation_at(place.hosts, reservation);
+            if have_same_holders(held, place.held) {
+                return Some(reservation);
             }
         }
-        None
     }
+    None
 }
 
 // Whether the same host holds both alone, or all registrants hold both.

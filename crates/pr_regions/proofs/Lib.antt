@@ -18,3 +18,12 @@ pub mod Asked
 pub mod Arms
 pub mod Reserved
 pub mod Keys
+pub mod Gathered
+pub mod Places
+pub mod Shown
+pub mod Adding
+pub mod Images
+pub mod Gaining
+pub mod Viewed
+pub mod Like
+pub mod PartsOf

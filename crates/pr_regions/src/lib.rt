@@ -1,13 +1,17 @@
-//! How each command ends, region by region of the states that a view shows.
+//! How each command ends, region by region of the states that a view shows; and what of a view is so in those states.
 #![tactic(auto)]
 
 mod branching;
+mod changed;
 mod commands;
+mod comparing;
 mod dispatch;
 mod endings;
 mod initiator;
+mod keeping;
 mod key_reads;
 mod numbers;
+mod place;
 mod preempting;
 mod purpose;
 mod reads;
@@ -16,9 +20,13 @@ mod reservation_reads;
 mod unregistering;
 mod words;
 
+pub use changed::registrations_after;
 pub use commands::{is_refused, number_in, purpose_of, standing_of};
+pub use comparing::gains;
 pub use dispatch::branches;
-pub use numbers::{reservation_at, reservation_number};
+pub use keeping::kept;
+pub use numbers::{count_of_reservations, reservation_at, reservation_number};
+pub use place::Place;
 pub use purpose::{Purpose, Standing};
 pub use reads::readings;
 pub use region::{Branch, Change, Ending, Reading, Region};

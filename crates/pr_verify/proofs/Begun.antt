@@ -10,7 +10,7 @@ use Rattle.pr_views.specs.declared.view.ViewOf.{ViewOf}
 use Rattle.pr_views.specs.Possibilities.{Scope, Registration, Reservation, Attentions}
 use Rattle.pr_views.specs.Views.{View, Fits, Within}
 use Rattle.pr_views.specs.Rooms.{scope_of, view_of, IsMade, AreAlike}
-use Rattle.pr_domain.specs.Interference.{IsOfStart}
+use Rattle.pr_domain.specs.Starting.{IsOfStart}
 use Rattle.pr_verify.specs.declared.outline.OutlineBy.{OutlineBy}
 use Rattle.pr_verify.specs.Places.{first_lines}
 use Rattle.pr_verify.specs.Outlines.{Outline, view_at, scope_in, StartsAt}

@@ -8,7 +8,7 @@ use Rattle.pr_script.specs.Costs.{cost_of_all}
 use Rattle.pr_script.specs.Grammar.{rise_above, script_fits}
 use Rattle.pr_roles.specs.Scenarios.{Scenario}
 use Rattle.pr_views.specs.Views.{View}
-use Rattle.pr_domain.specs.inside.Interfering.{Among}
+use Rattle.pr_interference.specs.inside.Interfering.{Among}
 use Rattle.pr_verify.specs.declared.places.Spot.{Spot}
 use Rattle.pr_verify.specs.declared.refusal.Refusal.{Refusal}
 use Rattle.pr_verify.specs.declared.refusal.Refusal.TheVariants.{NoArm, OutOfRole}

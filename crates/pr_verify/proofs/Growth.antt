@@ -3,9 +3,9 @@ use Rattle.std.proofs.Common.{◌≡◌, ℕ, ◌+◌, ◌<◌, ◌≤◌, Bool,
 use Rattle.std.proofs.lemmas.Bool.{and_parts, ltb-true, lt-ltb, cases_lt}
 use Rattle.pr_views.specs.Possibilities.{Registration, Reservation, Attentions}
 use Rattle.pr_views.specs.Views.{View, Within, Fits}
-use Rattle.pr_domain.specs.inside.Closing.{count_of_lacking, count_of_all_lacking}
-use Rattle.pr_domain.proofs.Closed.{Passes, lacking_less, lacking_fewer, lacking_all_less, lacking_all_fewer}
-use Rattle.pr_domain.proofs.Following.{few_keys}
+use Rattle.pr_interference.specs.inside.Closing.{count_of_lacking, count_of_all_lacking}
+use Rattle.pr_interference.proofs.Closed.{Passes, lacking_less, lacking_fewer, lacking_all_less, lacking_all_fewer}
+use Rattle.pr_regions.proofs.Gathered.{few_keys}
 use Rattle.pr_verify.specs.inside.Inferring.{has_registration, lacks}
 use Rattle.pr_sets.specs.Numbers.{most}
 

@@ -30,7 +30,7 @@ use Rattle.pr_roles.specs.Starts.{IsAllowedStart}
 use Rattle.pr_roles.specs.Worlds.{World, Going, Free, Event, Host, Guest, UnitReset, HostSends, GuestSends, IsReset, Happens, Run, after, after_reset, resets_in, control, going_or_trapped, is_guest_task, commands_by, standing_of, control_after, world_from}
 use Rattle.pr_roles.specs.Safety.{KeepsRole, KeepsRoles}
 use Rattle.pr_roles.proofs.Controls.{there, at_start as begins}
-use Rattle.pr_domain.specs.Interference.{IsDone, declares_resets, by_another, by_reset}
+use Rattle.pr_interference.specs.Interference.{IsDone, declares_resets, by_another, by_reset}
 use Rattle.pr_verify.specs.Places.{Place, places_of, first_lines, follows}
 use Rattle.pr_verify.specs.Outlines.{AllSendsFit, HasOutline, HaveOutlines, IsShownAt, OnScripted, SendsFit, at_start, by_itself, by_others}
 use Rattle.pr_verify.proofs.Leading.{Leads, leads_begun}

@@ -6,7 +6,7 @@ use Rattle.std.proofs.lemmas.List.{get_or_default}
 use Rattle.std.proofs.lemmas.List.Elements.{All-map, All-contains}
 use Rattle.pr_views.specs.declared.view.ViewOf.{ViewOf}
 use Rattle.pr_views.specs.Views.{View}
-use Rattle.pr_domain.specs.inside.Interfering.{Among}
+use Rattle.pr_interference.specs.inside.Interfering.{Among}
 use Rattle.pr_verify.specs.Outlines.{Outline, view_at}
 use Rattle.pr_verify.specs.inside.Least.{IsFirst, IsLeast, least, EachOf, IsLeastAmong}
 use Rattle.pr_verify.specs.LeastOutlines.{IsWithinIn}

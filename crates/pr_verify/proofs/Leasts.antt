@@ -3,7 +3,7 @@ use Rattle.std.proofs.Common.{◌≡◌, ℕ, ◌+◌, ◌<◌, ◌≤◌, min, 
 use Rattle.std.specs.List.{Contains}
 use Rattle.std.proofs.lemmas.List.{get_or_default}
 use Rattle.std.proofs.lemmas.Bool.{cases_eq, cases_order, cases_lt}
-use Rattle.pr_domain.specs.inside.Interfering.{Among}
+use Rattle.pr_interference.specs.inside.Interfering.{Among}
 use Rattle.pr_verify.specs.inside.Least.{IsFirst, IsLeast, least, EachOf, IsLeastAmong}
 
 -- ---- of two kinds

@@ -6,7 +6,7 @@ use Rattle.pr_unit.specs.UnitStates.{UnitState}
 use Rattle.pr_views.specs.Possibilities.{Scope, IsScope, Item, Registration, Reservation, Attentions, IsSo, count_of_reservations, count_of_attentions}
 use Rattle.pr_views.specs.Views.{View, IsPossible, Shows, Fits, Within}
 use Rattle.pr_views.proofs.Showing.{shown_within}
-use Rattle.pr_domain.proofs.Closed.{shown_possible}
+use Rattle.pr_interference.proofs.Closed.{shown_possible}
 use Rattle.pr_verify.specs.Outlines.{ShowsIn}
 use Rattle.pr_verify.specs.LeastOutlines.{IsWithinIn}
 

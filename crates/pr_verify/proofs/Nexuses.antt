@@ -12,7 +12,7 @@ use Rattle.pr_cdb.specs.declared.command.Command.{Command}
 use Rattle.pr_script.specs.declared.script.Script.{Script}
 use Rattle.pr_script.specs.Grammar.{script_fits}
 use Rattle.pr_script.specs.Trees.{script_of}
-use Rattle.pr_domain.proofs.Roles.{nexus_fits}
+use Rattle.pr_interference.proofs.Roles.{nexus_fits}
 use Rattle.pr_verify.specs.Rooms.{IsScripted}
 
 -- a host that is scripted is there

@@ -19,7 +19,7 @@ use Rattle.pr_domain.specs.declared.landing.Landing.{Landing}
 use Rattle.pr_domain.specs.declared.landing.Landing.TheVariants.{Arm, NoArm}
 use Rattle.pr_domain.specs.Landings.{IsLanding}
 use Rattle.pr_domain.specs.Outcomes.{Outcome, IsExpected, AreOutcomes}
-use Rattle.pr_domain.specs.inside.Interfering.{Among}
+use Rattle.pr_interference.specs.inside.Interfering.{Among}
 use Rattle.pr_verify.specs.Places.{Place}
 use Rattle.pr_verify.specs.declared.outline.OutlineBy.{OutlineBy}
 use Rattle.pr_verify.specs.Outlines.{Outline, view_at, scope_in, IsShownAt, ComesTo}

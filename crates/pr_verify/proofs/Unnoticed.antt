@@ -21,7 +21,7 @@ use Rattle.pr_roles.specs.declared.how.How.{How}
 use Rattle.pr_roles.specs.declared.how.How.TheVariants as how
 use Rattle.pr_roles.specs.Answers.{Answers}
 use Rattle.pr_roles.specs.Permits.{is_permitted}
-use Rattle.pr_domain.specs.Interference.{IsDone}
+use Rattle.pr_interference.specs.Interference.{IsDone}
 
 -- the REQUEST SENSE that reports this attention
 senses_power_on : (u : UnitState) (g : ℕ) (v : UnitState) → is_pending u g power_on ≡ true → v ≡ after_report u g power_on → Step u g (Plain RequestSense) (report (Plain RequestSense) power_on) v

@@ -43,7 +43,7 @@ use Rattle.pr_roles.specs.Starts.{IsAllowedStart, CanStart}
 use Rattle.pr_roles.specs.Safety.{IsSafe}
 use Rattle.pr_views.specs.Possibilities.{key_at, number_of}
 use Rattle.pr_views.specs.Views.{View, Shows}
-use Rattle.pr_domain.specs.Interference.{IsDone, Becomes, by_another, by_reset}
+use Rattle.pr_interference.specs.Interference.{IsDone, Becomes, by_another, by_reset}
 use Rattle.pr_verify.specs.Places.{Place, follows}
 use Rattle.pr_verify.specs.Outlines.{AllSendsFit, Outline, scope_in, IsOfScenario, IsShownAt, ShowsIn, ComesTo, IsLeftAt, IsAsked, at_start, by_itself, by_others, HasArms, KeepsToRole, HasOutline, HaveOutlines}
 use Rattle.pr_verify.proofs.Safe.{outlines_make_safe}

@@ -6,14 +6,14 @@ ghost use Rattle.pr_script.specs.Grammar.{rise_above};
 ghost use Rattle.pr_roles.specs.Scenarios.{scenario_of};
 ghost use Rattle.pr_views.specs.Views.{Within};
 ghost use Rattle.pr_views.specs.Rooms.{view_of, IsMade, AreAlike};
-ghost use Rattle.pr_domain.specs.Interference.{IsClosed};
+ghost use Rattle.pr_interference.specs.Interference.{IsClosed};
 ghost use Rattle.pr_verify.specs.Outlines.{IsLeftAt};
 ghost use Rattle.pr_verify.specs.Rooms.{outline_of, IsMadeFor};
 ghost use Rattle.pr_verify.specs.inside.Lacking.{IsFirstLacking, IsOpen, IsSameAsOne, IsClosedTo, IsClosedToResets};
 
 use crate::nexus::nexus_in;
 use crate::outline::OutlineOf;
-use pr_domain::{interfere, reset};
+use pr_interference::{interfere, reset};
 use pr_roles::Scenario;
 use pr_sets::ViewSet;
 use pr_views::ViewOf;

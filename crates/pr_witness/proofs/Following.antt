@@ -25,7 +25,7 @@ use Rattle.pr_world.specs.declared.auditor.Auditor.{Auditor}
 use Rattle.pr_world.specs.Auditors.{Adds, ActFor, IsTried, is_free, world_at}
 use Rattle.pr_world.specs.Courses.{is_planned}
 use Rattle.pr_world.specs.Ends.{ending_of, endings}
-use Rattle.pr_domain.proofs.Roles.{count_of_parts}
+use Rattle.pr_regions.proofs.PartsOf.{count_of_parts}
 use Rattle.pr_world.proofs.Adding.{guests_free, same_entry, same_item}
 use Rattle.pr_world.proofs.Histories.{reaches_more}
 use Rattle.pr_witness.specs.declared.breach.Breach.{Breach}

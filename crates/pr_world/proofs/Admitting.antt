@@ -15,7 +15,7 @@ use Rattle.pr_roles.specs.declared.parts.Nexus.{Nexus as NexusPart}
 use Rattle.pr_roles.specs.declared.parts.Parts.{Parts}
 use Rattle.pr_roles.specs.Scenarios.{Scenario, Nexus, role, scenario_of}
 use Rattle.pr_roles.specs.Worlds.{World, Free, control, control_of}
-use Rattle.pr_domain.proofs.Roles.{count_of_parts}
+use Rattle.pr_regions.proofs.PartsOf.{count_of_parts}
 use Rattle.pr_world.specs.declared.sender.Sender.{Sender}
 use Rattle.pr_world.specs.Courses.{is_planned}
 use Rattle.pr_world.specs.Auditors.{is_free, IsTried, Adds, ActFor, control_by}

@@ -7,7 +7,8 @@ use Rattle.pr_roles.specs.declared.parts.Nexus.{Nexus as NexusPart}
 use Rattle.pr_roles.specs.declared.parts.Parts.{Parts}
 use Rattle.pr_roles.specs.Answers.{refusals_by, may_come}
 use Rattle.pr_roles.specs.Scenarios.{nexus, nexus_of, scenario_of}
-use Rattle.pr_domain.proofs.Roles.{nexus_at, count_of_parts}
+use Rattle.pr_interference.proofs.Roles.{nexus_at}
+use Rattle.pr_regions.proofs.PartsOf.{count_of_parts}
 
 -- the part at this place is that of the nexus
 named : (p q : Parts) (h i : ℕ) (n : NexusPart) → h < length (scenario_of p).nexuses → q ≡ p → i ≡ h → n ≡ slice_index_or q.nexuses.items i n → nexus (scenario_of p) h ≡ Some (nexus_of n)

@@ -23,7 +23,7 @@ use Rattle.pr_roles.specs.declared.parts.Parts.{Parts}
 use Rattle.pr_roles.specs.Scenarios.{Scenario, Task, Scripted, Planned, nexus, role, nexus_of, scenario_of}
 use Rattle.pr_roles.specs.Worlds.{Control, Going, Trapped, Free, control, is_trapped, standing_of, going_or_trapped, control_after}
 use Rattle.pr_roles.specs.Schedules.{HostTurn, SendsUnless, GuestTurn, TurnBy, Turn, is_passed_over, plan}
-use Rattle.pr_domain.proofs.Roles.{count_of_parts}
+use Rattle.pr_regions.proofs.PartsOf.{count_of_parts}
 use Rattle.pr_world.specs.declared.participant.Participant.{Participant}
 use Rattle.pr_world.specs.Courses.{is_planned}
 use Rattle.pr_world.specs.inside.Participations.{items_of, Participation, participation, participation_of, schedule_by, StandsFor, HappensBy}

@@ -8,6 +8,7 @@ use Rattle.pr_attention.specs.Attentions.{Codes, code_of}
 use Rattle.pr_attention.specs.Flagged.{codes_of}
 use Rattle.pr_registry.specs.declared.held.Held.{Held}
 use Rattle.pr_roles.specs.declared.parts.Nexus.{Nexus as NexusPart}
+use Rattle.pr_roles.specs.declared.parts.Parts.{Parts}
 use Rattle.pr_roles.specs.Fitting.{is_reservation}
 use Rattle.pr_roles.specs.Scenarios.{Scenario, Nexus, nexus}
 use Rattle.pr_roles.specs.inside.StoredStarts.{start_of}
@@ -17,6 +18,10 @@ use Rattle.pr_views.specs.declared.possibilities.Possibilities.{Possibilities}
 use Rattle.pr_views.specs.Possibilities.{Scope, key_at, number_of, count_of_attentions}
 use Rattle.pr_views.specs.Portions.{has_at}
 use Rattle.pr_regions.specs.Purposes.{number_in}
+
+-- whose view it is, in these parts
+abbrev pub scope_in : ℕ → ℕ → Parts → Scope
+scope_in own hosts parts = record { own = own; hosts = hosts; keys = parts.keys.items }
 
 -- the number of a registration: 0 for none, and from 1 for the declared keys
 abbrev pub registration_in : List ℕ → Option ℕ → ℕ

@@ -21,8 +21,8 @@ use Rattle.pr_views.specs.Portions.{view_in}
 use Rattle.pr_regions.specs.declared.region.Branch.{Branch}
 use Rattle.pr_regions.specs.declared.region.Change.{Change}
 use Rattle.pr_regions.specs.declared.region.Ending.TheVariants.{Good}
-use Rattle.pr_domain.specs.declared.place.Place.{Place}
-use Rattle.pr_domain.specs.inside.Gathering.{IsThere}
+use Rattle.pr_regions.specs.declared.place.Place.{Place}
+use Rattle.pr_regions.specs.Gathering.{IsThere}
 
 -- nothing is pending for the owner, and its command neither conflicts nor is at fault
 pub record EndsGood (s : Scope) (c : Command) (u : UnitState) : Type 0 where

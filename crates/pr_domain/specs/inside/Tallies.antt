@@ -27,9 +27,9 @@ use Rattle.pr_script.specs.declared.limits.TheConstants.{MOST_ARMS}
 use Rattle.pr_regions.specs.declared.purpose.Purpose.{Purpose}
 use Rattle.pr_regions.specs.Purposes.{purpose_of, is_refused}
 use Rattle.pr_regions.specs.Regions.{Ends, IsInRegion, IsUntestedOrRegistered}
-use Rattle.pr_domain.specs.declared.place.Place.{Place}
+use Rattle.pr_regions.specs.declared.place.Place.{Place}
 use Rattle.pr_domain.specs.declared.tally.Tally.{Tally}
-use Rattle.pr_domain.specs.inside.Gathering.{IsPlace, IsUniform, IsProper, IsAt}
+use Rattle.pr_regions.specs.Gathering.{IsPlace, IsUniform, IsProper, IsAt}
 
 -- it is so of the registrations and the reservation
 abbrev pub IsRegistered : Scope → UnitState → Item → Type 0

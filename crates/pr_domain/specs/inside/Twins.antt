@@ -6,7 +6,7 @@ use Rattle.pr_roles.specs.Fitting.{is_reservation}
 use Rattle.pr_sets.specs.Wides.{has_wide}
 use Rattle.pr_views.specs.declared.possibilities.Possibilities.{Possibilities}
 use Rattle.pr_views.specs.Possibilities.{Item, Registration, Reservation, Attentions, number_of}
-use Rattle.pr_domain.specs.declared.place.Place.{Place}
+use Rattle.pr_regions.specs.declared.place.Place.{Place}
 use Rattle.pr_domain.specs.declared.tally.Tally.{Tally}
 use Rattle.pr_domain.specs.inside.Tallies.{has_tallied}
 

@@ -6,7 +6,7 @@ use Rattle.pr_roles.specs.Scenarios.{Scenario, role}
 use Rattle.pr_views.specs.Views.{View, Shows, Within}
 use Rattle.pr_domain.specs.declared.landing.Landing.{Landing}
 use Rattle.pr_domain.specs.declared.landing.Landing.TheVariants.{Arm, NoArm}
-use Rattle.pr_domain.specs.Interference.{IsDone, declares_resets, Becomes}
+use Rattle.pr_interference.specs.Interference.{IsDone, declares_resets, Becomes}
 use Rattle.pr_verify.specs.Outlines.{Outline, view_at, IsShownAt}
 use Rattle.pr_verify.specs.LeastOutlines.{IsWithinIn}
 use Rattle.pr_verify.specs.inside.Least.{IsLeast}

@@ -6,7 +6,7 @@ use Rattle.pr_views.specs.Rooms.{IsMade}
 use Rattle.pr_domain.specs.declared.landing.Landing.{Landing}
 use Rattle.pr_domain.specs.declared.landing.Landing.TheVariants as landing
 use Rattle.pr_domain.specs.declared.landing.Class.{Class}
-use Rattle.pr_domain.specs.inside.Interfering.{Among}
+use Rattle.pr_interference.specs.inside.Interfering.{Among}
 use Rattle.pr_verify.specs.declared.places.Spot.{Spot}
 use Rattle.pr_verify.specs.declared.refusal.Refusal.{Refusal}
 use Rattle.pr_verify.specs.declared.refusal.Refusal.TheVariants.{NoArm, OutOfRole, OverBudget, Memory, NotSound}

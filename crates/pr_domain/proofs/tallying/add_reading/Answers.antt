@@ -2,7 +2,7 @@ use Rattle.std.proofs.Common.{refl, None}
 use Rattle.pr_views.specs.Portions.{view_in}
 use Rattle.pr_regions.specs.declared.region.Change.{Change}
 use Rattle.pr_regions.specs.inside.Parts.{Does, never}
-use Rattle.pr_domain.specs.inside.Gathering.{IsAt}
+use Rattle.pr_regions.specs.Gathering.{IsAt}
 use Rattle.pr_domain.specs.inside.Tallies.{IsReadAt}
 use Rattle.pr_domain.proofs.DataTaken.{reading_right, read_at, at_read}
 use Rattle.pr_domain.proofs.Asked.{only_uniform}

@@ -1,7 +1,7 @@
 use Rattle.std.proofs.Common.{◌<◌, ◌≤◌, length, map, slice_index_or, take, rules, sym, ap, ◌∙◌, subst, arith}
 use Rattle.pr_roles.specs.Scenarios.{scenario_of}
 use Rattle.pr_views.specs.Rooms.{view_of}
-use Rattle.pr_domain.specs.Interference.{IsClosed}
+use Rattle.pr_interference.specs.Interference.{IsClosed}
 use Rattle.pr_verify.specs.inside.Lacking.{IsSameAsOne}
 use Rattle.pr_verify.proofs.Begun.{scoped, entry_made, alike_before, scope_same, listed_scope}
 use Rattle.pr_verify.proofs.Disturbed.{all_closed, open_first, closed_as}

@@ -1,8 +1,0 @@
-use Rattle.std.proofs.Common.{◌≡◌}
-use Rattle.pr_views.specs.Possibilities.{Scope}
-use Rattle.pr_domain.specs.inside.Interfering.{IsOnlooking}
-use Rattle.pr_domain.proofs.Reached.{IsReachBelow}
-use Rattle.pr_domain.proofs.onlooker.Onlooker.reach.Given as goal
-
-abbrev pub invariant-loop-reservation : goal.invariant-loop-reservation
-invariant-loop-reservation l = (s : Scope) → IsOnlooking s l.self → s.keys ≡ l.keys → IsReachBelow s l.self.view l.clause l.self.other l.reservation l.reach

@@ -1,0 +1,5 @@
+use Rattle.pr_interference.specs.inside.Marks.{AreMarked}
+use Rattle.pr_interference.proofs.marking.attentions_after.Given as goal
+
+abbrev pub invariant-loop-mark : goal.invariant-loop-mark
+invariant-loop-mark l = AreMarked l.mark l.marks l.pending l.told

@@ -1,0 +1,18 @@
+use Rattle.std.proofs.Common.{length, sym, subst}
+use Rattle.std.specs.List.{All}
+use Rattle.pr_views.specs.Possibilities.{count_of_reservations}
+use Rattle.pr_views.specs.Portions.{view_in}
+use Rattle.pr_regions.specs.inside.Adding.{Adds}
+use Rattle.pr_interference.specs.inside.Interfering.{Among, ClauseLeaves}
+use Rattle.pr_interference.specs.inside.Clauses.{IsClause, FirstLeads}
+use Rattle.pr_interference.proofs.Leading.{is_interference}
+use Rattle.pr_interference.proofs.onlooker.Onlooker.interfered.Goals as goal
+
+pub returns : goal.returns
+returns c s is same =
+    let o = c.args.self.now in
+    let clauses = c.args.clauses.now in
+    is_interference s o clauses c.kept-answer.result c.add_role.new.answer is
+    (subst (λ k. All (IsClause k) clauses) (sym same) c.requires.actions) (c.kept-answer.ensures s is.hosts is.fits)
+    (subst (λ n. Adds s c.kept-answer.result c.add_role.new.answer (λ u w. Among (length clauses) clauses (λ clause. FirstLeads (count_of_reservations n) (view_in s o.view) clause o.other u w))
+    (λ i. Among (length clauses) clauses (λ clause. ClauseLeaves (view_in s o.view) clause o.other i))) (sym is.hosts) (c.add_role.ensures s is same))

@@ -1,0 +1,8 @@
+use Rattle.std.proofs.Common.{◌≡◌}
+use Rattle.pr_views.specs.Possibilities.{Scope}
+use Rattle.pr_interference.specs.inside.Interfering.{IsOnlooking}
+use Rattle.pr_interference.proofs.Reached.{IsReachBelow}
+use Rattle.pr_interference.proofs.onlooker.Onlooker.reach.Given as goal
+
+abbrev pub invariant-loop-reservation : goal.invariant-loop-reservation
+invariant-loop-reservation l = (s : Scope) → IsOnlooking s l.self → s.keys ≡ l.keys → IsReachBelow s l.self.view l.clause l.self.other l.reservation l.reach

@@ -1,0 +1,12 @@
+use Rattle.std.proofs.Common.{◌≡◌, ◌≢◌, ◌<◌, ℕ, true, length}
+use Rattle.pr_cdb.specs.declared.codes.TheConstants.{MOST_NEXUSES}
+use Rattle.pr_sets.specs.Words.{has}
+use Rattle.pr_views.specs.Portions.{has_at}
+use Rattle.pr_interference.proofs.onlooker.Onlooker.registrations_within.Given as goal
+
+abbrev pub invariant-loop-host : goal.invariant-loop-host
+invariant-loop-host l = record {
+  given : (n : ℕ) → l.self.other < l.host → has l.reach.given n ≡ true → has_at l.words l.self.other n ≡ true;
+  freed : (g r : ℕ) → g < l.host → g ≢ l.self.other → has_at l.self.view.registrations g r ≡ true → has l.reach.removed r ≡ true → has_at l.words g 0 ≡ true;
+  size : length l.words ≡ MOST_NEXUSES;
+}

@@ -1,0 +1,20 @@
+use Rattle.std.proofs.Common.{length, sym, subst}
+use Rattle.std.specs.List.{All}
+use Rattle.pr_views.specs.Possibilities.{count_of_reservations}
+use Rattle.pr_views.specs.Portions.{view_in}
+use Rattle.pr_regions.specs.inside.Adding.{Adds}
+use Rattle.pr_interference.specs.inside.Interfering.{Among, ClauseLeaves}
+use Rattle.pr_interference.specs.inside.Clauses.{IsClause, FirstLeads}
+use Rattle.pr_interference.proofs.Leading.{is_widened, has_what_it_shows}
+use Rattle.pr_interference.proofs.onlooker.Onlooker.widened.Goals as goal
+
+pub add_role-requires-clause-shown : goal.add_role-requires-clause-shown
+add_role-requires-clause-shown c s is same = has_what_it_shows s c.args.self.now is
+
+pub returns : goal.returns
+returns c s is same =
+    let o = c.args.self.now in
+    let clauses = c.args.clauses.now in
+    is_widened s o clauses c.add_role.new.answer is (subst (λ k. All (IsClause k) clauses) (sym same) c.requires.actions)
+    (subst (λ n. Adds s o.view c.add_role.new.answer (λ u w. Among (length clauses) clauses (λ clause. FirstLeads (count_of_reservations n) (view_in s o.view) clause o.other u w))
+    (λ i. Among (length clauses) clauses (λ clause. ClauseLeaves (view_in s o.view) clause o.other i))) (sym is.hosts) (c.add_role.ensures s is same))

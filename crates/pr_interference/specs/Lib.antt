@@ -1,0 +1,2 @@
+pub mod Interference
+pub mod inside

@@ -1,0 +1,5 @@
+pub mod Clauses
+pub mod Closing
+pub mod Interfering
+pub mod Marks
+pub mod Reaching

@@ -1,0 +1,107 @@
+-- What the clauses of a role ask for, reservation by reservation and standing by standing.
+use Rattle.std.specs.Prelude.{◌≡◌, ℕ, ◌<◌, ◌≤◌, Bool, true, false, not, ◌==◌, ◌&&◌, ◌||◌, List, Option, Some, None, option_map, is_some}
+use Rattle.pr_cdb.specs.declared.command.Command.{Command}
+use Rattle.pr_registry.specs.declared.held.Held.{Held}
+use Rattle.pr_registry.specs.declared.held.Held.TheVariants.{One, All}
+use Rattle.pr_registry.specs.Registrations.{kind_of}
+use Rattle.pr_unit.specs.UnitStates.{UnitState, effect}
+use Rattle.pr_roles.specs.declared.limits.TheConstants.{MOST_KEYS}
+use Rattle.pr_roles.specs.declared.role.Action.{Action}
+use Rattle.pr_roles.specs.declared.role.Action.TheVariants as action
+use Rattle.pr_roles.specs.declared.role.Condition.{Condition}
+use Rattle.pr_roles.specs.declared.role.Condition.TheVariants as condition
+use Rattle.pr_roles.specs.declared.role.Clause.{Clause}
+use Rattle.pr_roles.specs.Fitting.{is_action}
+use Rattle.pr_sets.specs.declared.word.Word.{Word}
+use Rattle.pr_sets.specs.Words.{has}
+use Rattle.pr_views.specs.Possibilities.{Registration, Reservation, IsSo}
+use Rattle.pr_views.specs.Views.{View, Shows}
+use Rattle.pr_regions.specs.declared.purpose.Purpose.{Purpose}
+use Rattle.pr_regions.specs.declared.purpose.Purpose.TheVariants.{Look, Read, Write, Register, Unregister, Reserve, Release, Clear, PreemptAll, Preempt}
+use Rattle.pr_regions.specs.declared.purpose.Standing.{Standing}
+use Rattle.pr_regions.specs.declared.purpose.Standing.TheVariants.{Unregistered, Named, Other}
+use Rattle.pr_regions.specs.Purposes.{number_in, purpose_of_preempt, purpose_of}
+use Rattle.pr_regions.specs.Regions.{standing_of}
+use Rattle.pr_interference.specs.inside.Interfering.{IsFree}
+
+-- What a clause of this action asks for under a reservation, if it changes anything: a RELEASE releases the type that
+-- stands.
+abbrev pub purpose_for : List ℕ → Action → Option Held → Option Purpose
+purpose_for keys (action.Register key) held = Some (Register (number_in keys key))
+purpose_for keys action.Unregister held = Some Unregister
+purpose_for keys (action.Reserve kind) held = Some (Reserve kind)
+purpose_for keys action.Release held = option_map (λ v. Release (kind_of v)) held
+purpose_for keys action.Clear held = Some Clear
+purpose_for keys (action.Preempt key kind) held = Some (purpose_of_preempt keys key kind)
+purpose_for keys action.Read held = None
+purpose_for keys action.Write held = None
+
+-- the keys that the clause names are declared
+abbrev pub IsClause : List ℕ → Clause → Type 0
+IsClause keys clause = is_action keys clause.action ≡ true
+
+-- a sender that is not registered is refused
+abbrev pub refuses_strangers : Purpose → Bool
+refuses_strangers Look = false
+refuses_strangers (Read ranges) = false
+refuses_strangers (Write ranges) = false
+refuses_strangers (Register j) = false
+refuses_strangers Unregister = false
+refuses_strangers (Reserve kind) = true
+refuses_strangers (Release kind) = true
+refuses_strangers Clear = true
+refuses_strangers (PreemptAll kind) = true
+refuses_strangers (Preempt j kind) = true
+
+abbrev pub is_registered_as : Standing → Bool
+is_registered_as Unregistered = false
+is_registered_as Named = true
+is_registered_as Other = true
+
+-- the sender holds the reservation, by whether it is registered
+abbrev pub is_holder_as : Option Held → ℕ → Bool → Bool
+is_holder_as None sender registered = false
+is_holder_as (Some (One kind h)) sender registered = h == sender
+is_holder_as (Some (All kind)) sender registered = registered
+
+abbrev pub holds_as : Option Condition → Option Held → ℕ → Bool → Bool
+holds_as None held sender registered = true
+holds_as (Some condition.Registered) held sender registered = registered
+holds_as (Some condition.Holder) held sender registered = is_holder_as held sender registered
+holds_as (Some condition.Reserved) held sender registered = is_some held
+
+-- a sender that stands so meets the condition, and is not refused as a stranger
+abbrev pub may_send : Option Condition → Purpose → Option Held → ℕ → Standing → Bool
+may_send condition purpose held sender standing =
+    holds_as condition held sender (is_registered_as standing) && (is_registered_as standing || not (refuses_strangers purpose))
+
+-- the word has the registrations with which a sender stands so
+pub record AreSenders (purpose : Purpose) (standing : Standing) (word : Word) : Type 0 where
+  pub all : (r : ℕ) → r ≤ MOST_KEYS → standing_of purpose r ≡ standing → has word r ≡ true
+  pub only : (r : ℕ) → has word r ≡ true → standing_of purpose r ≡ standing
+
+-- Under this reservation, a command of the clause for this purpose leads so from a shown state.
+pub record PurposeLeads (v : View) (clause : Clause) (sender : ℕ) (reservation : ℕ) (purpose : Purpose) (u w : UnitState) : Type 0 where
+  pub shown : Shows v u
+  pub reserved : IsSo v.scope u (Reservation reservation)
+  pub command : Command
+  pub free : IsFree clause sender u command
+  pub asked : purpose_of v.scope.keys command ≡ Some purpose
+  pub after : w ≡ effect u sender command
+
+-- a sender that stands so
+pub record StandingLeads (v : View) (clause : Clause) (sender : ℕ) (reservation : ℕ) (purpose : Purpose) (standing : Standing) (u w : UnitState) : Type 0 where
+  pub leads : PurposeLeads v clause sender reservation purpose u w
+  pub stands : (r : ℕ) → IsSo v.scope u (Registration sender r) → standing_of purpose r ≡ standing
+
+-- under this reservation, by what the clause asks for there
+pub record PlaceLeads (v : View) (clause : Clause) (sender : ℕ) (reservation : ℕ) (u w : UnitState) : Type 0 where
+  pub purpose : Purpose
+  pub meant : purpose_for v.scope.keys clause.action u.registry.held ≡ Some purpose
+  pub leads : PurposeLeads v clause sender reservation purpose u w
+
+-- under one of the first reservations
+pub record FirstLeads (n : ℕ) (v : View) (clause : Clause) (sender : ℕ) (u w : UnitState) : Type 0 where
+  pub reservation : ℕ
+  pub below : reservation < n
+  pub leads : PlaceLeads v clause sender reservation u w

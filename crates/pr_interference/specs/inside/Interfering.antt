@@ -1,0 +1,103 @@
+-- What the steps of another add to possibilities.
+use Rattle.std.specs.Prelude.{◌≡◌, ◌≢◌, ℕ, ◌<◌, true, false, None, List, slice_index_or}
+use Rattle.pr_cdb.specs.declared.command.Command.{Command}
+use Rattle.pr_cdb.specs.declared.wire.Request.TheVariants.{Plain}
+use Rattle.pr_cdb.specs.Ranges.{Fits as IsCommand}
+use Rattle.pr_unit.specs.UnitStates.{UnitState, effect}
+use Rattle.pr_unit.specs.Conflicts.{command_conflicts}
+use Rattle.pr_unit.specs.Faults.{command_fault}
+use Rattle.pr_unit.specs.Laws.{request_looks}
+use Rattle.pr_roles.specs.declared.role.Clause.{Clause}
+use Rattle.pr_roles.specs.Permits.{clause_permits}
+use Rattle.pr_sets.specs.declared.word.Word.{Word}
+use Rattle.pr_views.specs.declared.possibilities.Possibilities.{Possibilities}
+use Rattle.pr_views.specs.Possibilities.{Scope, Item, IsSo}
+use Rattle.pr_views.specs.Views.{View, IsPossible, Shows, Fits}
+use Rattle.pr_views.specs.Portions.{view_in}
+use Rattle.pr_regions.specs.declared.region.Region.{Region}
+use Rattle.pr_regions.specs.declared.region.Change.{Change}
+use Rattle.pr_regions.specs.declared.region.Ending.TheVariants as ending
+use Rattle.pr_regions.specs.declared.region.Branch.{Branch}
+use Rattle.pr_regions.specs.Regions.{Changes, HasRoom}
+use Rattle.pr_regions.specs.declared.place.Place.{Place}
+use Rattle.pr_interference.specs.declared.onlooker.Onlooker.{Onlooker}
+use Rattle.pr_regions.specs.Gathering.{IsPlace, IsProper, IsAt}
+use Rattle.pr_regions.specs.inside.Adding.{Allows}
+
+-- it is a place of the onlooker's view, and its sender is another
+pub record IsWatched (s : Scope) (o : Onlooker) (place : Place) : Type 0 where
+  pub known : IsPlace s o.view place
+  pub own : s.own ≡ o.own
+  pub other : s.own ≢ place.sender
+
+-- it is a view of the onlooker's
+pub record IsOnlooking (s : Scope) (o : Onlooker) : Type 0 where
+  pub hosts : s.hosts ≡ o.hosts
+  pub own : s.own ≡ o.own
+  pub other : s.own ≢ o.other
+  pub fits : Fits (view_in s o.view)
+
+-- after the change in some state of the region, this is so
+pub record IsChanged (s : Scope) (view : Possibilities) (place : Place) (senders : Word) (region : Region) (change : Change) (i : Item) : Type 0 where
+  pub from : UnitState
+  pub at : IsAt (view_in s view) place senders region from
+  pub is : (w : UnitState) → Changes s place.sender change from w → IsSo s w i
+
+-- the possibilities are those of the states that the change leads to
+pub record IsAfter (s : Scope) (view : Possibilities) (place : Place) (senders : Word) (region : Region) (change : Change) (after : Possibilities) : Type 0 where
+  pub all : (u w : UnitState) → IsAt (view_in s view) place senders region u → Changes s place.sender change u w → Allows s after w
+  pub only : (i : Item) → IsPossible (view_in s after) i → IsChanged s view place senders region change i
+
+-- it holds of one of the first elements
+pub record Among {X : Type 0} (n : ℕ) (xs : List X) (holds : X → Type 0) : Type 0 where
+  pub element : X
+  pub place : ℕ
+  pub below : place < n
+  pub there : slice_index_or xs place element ≡ element
+  pub is : holds element
+
+-- ---- branches
+
+-- a branch that ends GOOD leads so from a state of its region
+pub record IsLedBy (s : Scope) (view : Possibilities) (place : Place) (senders : Word) (branch : Branch) (u w : UnitState) : Type 0 where
+  pub change : Change
+  pub good : branch.ending ≡ ending.Good change
+  pub at : IsAt (view_in s view) place senders branch.region u
+  pub changes : Changes s place.sender change u w
+
+-- it leaves this behind in a state of its region
+pub record IsLeftBy (s : Scope) (view : Possibilities) (place : Place) (senders : Word) (branch : Branch) (i : Item) : Type 0 where
+  pub change : Change
+  pub good : branch.ending ≡ ending.Good change
+  pub changed : IsChanged s view place senders branch.region change i
+
+abbrev pub IsProperBranch : Branch → Type 0
+IsProperBranch branch = IsProper branch.region
+
+abbrev pub BranchHasRoom : ℕ → Branch → Type 0
+BranchHasRoom hosts branch = HasRoom hosts branch.ending
+
+-- ---- clauses
+
+-- a service action that the clause permits, and that ends GOOD once nothing is pending for its sender
+pub record IsFree (clause : Clause) (sender : ℕ) (u : UnitState) (c : Command) : Type 0 where
+  pub fits : IsCommand c
+  pub acts : request_looks (Plain c) ≡ false
+  pub permitted : clause_permits clause u.registry sender c ≡ true
+  pub free : command_conflicts u.registry sender c ≡ false
+  pub whole : command_fault u.registry sender c ≡ None
+
+-- such a command leads so from a shown state
+pub record ClauseLeads (v : View) (clause : Clause) (sender : ℕ) (u w : UnitState) : Type 0 where
+  pub shown : Shows v u
+  pub command : Command
+  pub free : IsFree clause sender u command
+  pub after : w ≡ effect u sender command
+
+-- it leaves this behind
+pub record ClauseLeaves (v : View) (clause : Clause) (sender : ℕ) (i : Item) : Type 0 where
+  pub from : UnitState
+  pub shown : Shows v from
+  pub command : Command
+  pub free : IsFree clause sender from command
+  pub is : IsSo v.scope (effect from sender command) i

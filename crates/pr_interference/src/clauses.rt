@@ -1,0 +1,122 @@
+//! What the clauses of a role ask for.
+
+ghost use Rattle.std.specs.Prelude.{◌≡◌, ◌≤◌, ◌==◌, ℕ, false, length, IfSome};
+ghost use Rattle.std.specs.Option.{option_map_or};
+ghost use Rattle.pr_roles.specs.declared.limits.TheConstants.{MOST_KEYS};
+ghost use Rattle.pr_regions.specs.Purposes.{HasNumber};
+ghost use Rattle.pr_regions.specs.Regions.{names};
+ghost use Rattle.pr_interference.specs.inside.Clauses.{purpose_for, holds_as, may_send as may_send_as, is_registered_as, refuses_strangers, AreSenders};
+
+use pr_regions::{Place, Purpose, Standing, every_key, number_in};
+use pr_registry::Held;
+use pr_roles::{Action, Condition};
+use pr_sets::Word;
+
+/// What a clause of this action asks for under a reservation, if it changes anything.
+pub(crate) fn purpose_for(action: Action, keys: &[u64], held: Option<Held>) -> Option<Purpose>
+    requires { length keys.now ≤ MOST_KEYS }
+    ensures { result ≡ purpose_for keys.now action held }
+{
+    match action {
+        Action::Register(key) => Some(Purpose::Register(number_in(keys, key))),
+        Action::Unregister => Some(Purpose::Unregister),
+        Action::Reserve(kind) => Some(Purpose::Reserve(kind)),
+        Action::Release => match held {
+            Some(Held::One(kind, _)) | Some(Held::All(kind)) => Some(Purpose::Release(kind)),
+            None => None,
+        },
+        Action::Clear => Some(Purpose::Clear),
+        Action::Preempt(0, kind) => Some(Purpose::PreemptAll(kind)),
+        Action::Preempt(key, kind) => Some(Purpose::Preempt(number_in(keys, key), kind)),
+        Action::Read | Action::Write => None,
+    }
+}
+
+/// Whether a sender whose registration matches so meets the condition, and is not refused as a stranger.
+pub(crate) fn may_send(
+    condition: Option<Condition>,
+    purpose: Purpose,
+    place: &Place,
+    standing: Standing,
+) -> bool
+    ensures { result ≡ may_send_as condition purpose place.now.held place.now.sender standing }
+{
+    let is_registered = is_registered(standing);
+    holds(condition, place, is_registered) && (is_registered || !refuses_strangers(purpose))
+}
+
+fn is_registered(standing: Standing) -> bool
+    ensures { result ≡ is_registered_as standing }
+{
+    match standing {
+        Standing::Unregistered => false,
+        Standing::Named | Standing::Other => true,
+    }
+}
+
+/// Whether a sender meets the condition, by whether it is registered.
+pub(crate) fn holds(condition: Option<Condition>, place: &Place, is_registered: bool) -> bool
+    ensures { result ≡ holds_as condition place.now.held place.now.sender is_registered }
+{
+    match condition {
+        None => true,
+        Some(Condition::Registered) => is_registered,
+        Some(Condition::Holder) => match place.held {
+            None => false,
+            Some(Held::One(_, holder)) => holder == place.sender,
+            Some(Held::All(_)) => is_registered,
+        },
+        Some(Condition::Reserved) => place.held.is_some(),
+    }
+}
+
+// Whether a sender that is not registered is refused for its key.
+fn refuses_strangers(purpose: Purpose) -> bool
+    ensures { result ≡ refuses_strangers purpose }
+{
+    match purpose {
+        Purpose::Look
+        | Purpose::Read(_)
+        | Purpose::Write(_)
+        | Purpose::Register(_)
+        | Purpose::Unregister => false,
+        Purpose::Reserve(_)
+        | Purpose::Release(_)
+        | Purpose::Clear
+        | Purpose::PreemptAll(_)
+        | Purpose::Preempt(_, _) => true,
+    }
+}
+
+/// The registrations with which a sender stands so.
+pub(crate) fn senders(purpose: Purpose, standing: Standing) -> Word
+    requires { HasNumber purpose }
+    ensures { AreSenders purpose standing result }
+{
+    match (standing, key_named(purpose)) {
+        (Standing::Unregistered, _) => Word::only(0),
+        (Standing::Named, Some(key)) => Word::only(key),
+        (Standing::Named, None) => Word::none(),
+        (Standing::Other, Some(key)) => every_key().without(key),
+        (Standing::Other, None) => every_key(),
+    }
+}
+
+// The key that a command for this names, by its number.
+fn key_named(purpose: Purpose) -> Option<u8>
+    requires { HasNumber purpose }
+    ensures number { (r : ℕ) → names purpose r ≡ option_map_or (λ j. r == j) result false }
+    ensures few { IfSome result (λ j. (1 ≤ j) × (j ≤ MOST_KEYS)) }
+{
+    match purpose {
+        Purpose::Register(key) | Purpose::Preempt(key, _) => Some(key),
+        Purpose::Look
+        | Purpose::Read(_)
+        | Purpose::Write(_)
+        | Purpose::Unregister
+        | Purpose::Reserve(_)
+        | Purpose::Release(_)
+        | Purpose::Clear
+        | Purpose::PreemptAll(_) => None,
+    }
+}

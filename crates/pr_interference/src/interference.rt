@@ -1,0 +1,196 @@
+//! What others may make of the states that a view shows.
+
+ghost use Rattle.std.specs.Prelude.{◌≡◌, ◌≢◌, ◌<◌, ◌≤◌, ℕ, true, false, length, IsTrue, IfOk, Some};
+ghost use Rattle.std.specs.List.{All};
+ghost use Rattle.pr_cdb.specs.declared.codes.TheConstants.{MOST_NEXUSES};
+ghost use Rattle.pr_roles.specs.declared.limits.TheConstants.{MOST_KEYS};
+ghost use Rattle.pr_roles.specs.Fitting.{is_action, is_role};
+ghost use Rattle.pr_sets.specs.Words.{has};
+ghost use Rattle.pr_views.specs.Possibilities.{Scope, count_of_reservations};
+ghost use Rattle.pr_views.specs.Portions.{has_at, view_in};
+ghost use Rattle.pr_views.specs.Rooms.{scope_of, view_of, IsMade, AreAlike, AreInRange};
+ghost use Rattle.pr_regions.specs.Purposes.{HasNumber};
+ghost use Rattle.pr_interference.specs.inside.Interfering.{IsOnlooking, IsWatched, Among, ClauseLeaves};
+ghost use Rattle.pr_regions.specs.inside.Adding.{Adds};
+ghost use Rattle.pr_interference.specs.Interference.{IsInterference};
+ghost use Rattle.pr_interference.specs.inside.Reaching.{HasShown};
+ghost use Rattle.pr_interference.specs.inside.Closing.{IsWidened};
+ghost use Rattle.pr_interference.specs.inside.Clauses.{purpose_for, IsClause, StandingLeads, PlaceLeads, FirstLeads};
+
+use crate::clauses::{may_send, purpose_for, senders};
+use crate::onlooker::Onlooker;
+use pr_regions::{Place, Purpose, Standing, branches, count_of_reservations, gains, kept};
+use pr_roles::{Clause, Role};
+use pr_sets::{ViewSet, Word};
+use pr_views::{Possibilities, ViewOf};
+use std::alloc::{AllocError, Global};
+
+impl Onlooker {
+    /// What is possible after any request of the other that ends GOOD and that its role, these clauses, permits.
+    pub(crate) fn interfered(&self, clauses: &[Clause], keys: &[u64]) -> Possibilities
+        requires keys { length keys.now ≤ MOST_KEYS }
+        requires actions { All (IsClause keys.now) clauses.now }
+        ensures { (s : Scope) → IsOnlooking s self.now → s.keys ≡ keys.now
+            → IsInterference (view_in s self.now.view) clauses.now self.now.other
+            (view_in s result) }
+    {
+        let mut answer = kept(self.hosts, &self.view);
+        self.add_role(&mut answer, clauses, keys);
+        answer
+    }
+
+    /// What is possible, and what is possible after any request of the other that ends GOOD and that its role, these clauses,
+    /// permits.
+    pub(crate) fn widened(&self, clauses: &[Clause], keys: &[u64]) -> Possibilities
+        requires keys { length keys.now ≤ MOST_KEYS }
+        requires actions { All (IsClause keys.now) clauses.now }
+        ensures { (s : Scope) → IsOnlooking s self.now → s.keys ≡ keys.now
+            → IsWidened (view_in s self.now.view) clauses.now self.now.other (view_in s result) }
+    {
+        let mut answer = self.view;
+        self.add_role(&mut answer, clauses, keys);
+        answer
+    }
+
+    // Adds what is possible after a command of one of the clauses, where the answer has what is shown.
+    fn add_role(&self, answer: &mut Possibilities, clauses: &[Clause], keys: &[u64])
+        requires shown { (s : Scope) → IsOnlooking s self.now → s.keys ≡ keys.now
+            → HasShown s self.now.view answer.old }
+        requires keys { length keys.now ≤ MOST_KEYS }
+        requires actions { All (IsClause keys.now) clauses.now }
+        ensures { (s : Scope) → IsOnlooking s self.now → s.keys ≡ keys.now
+            → Adds s answer.old answer.new
+            (λ u w. Among (length clauses.now) clauses.now
+            (λ clause. FirstLeads (count_of_reservations self.now.hosts) (view_in s self.now.view)
+            clause self.now.other u w)) (λ i. Among (length clauses.now) clauses.now
+            (λ clause. ClauseLeaves (view_in s self.now.view) clause self.now.other i)) }
+    {
+        for clause in clauses {
+            self.add_clause(answer, clause, keys);
+        }
+    }
+
+    // Adds what is possible after a command of this clause, until the answer has the most that it can leave.
+    fn add_clause(&self, answer: &mut Possibilities, clause: &Clause, keys: &[u64])
+        requires shown { (s : Scope) → IsOnlooking s self.now → s.keys ≡ keys.now
+            → HasShown s self.now.view answer.old }
+        requires keys { length keys.now ≤ MOST_KEYS }
+        requires action { IsClause keys.now clause.now }
+        ensures { (s : Scope) → IsOnlooking s self.now → s.keys ≡ keys.now
+            → Adds s answer.old answer.new
+            (FirstLeads (count_of_reservations self.now.hosts) (view_in s self.now.view) clause.now
+            self.now.other) (ClauseLeaves (view_in s self.now.view) clause.now self.now.other) }
+    {
+        if !gains(self.hosts, answer, &self.most(&self.widest(clause, keys))) {
+            return;
+        }
+        let most = self.most(&self.reach(clause, keys));
+        for reservation in 0..count_of_reservations(self.hosts) {
+            if !gains(self.hosts, answer, &most) {
+                return;
+            }
+            if self.view.reservations.has(reservation) {
+                let place = Place::of(self.hosts, self.other, reservation);
+                self.add_place(answer, &place, clause, keys);
+            }
+        }
+    }
+
+    // Under one reservation.
+    fn add_place(&self, answer: &mut Possibilities, place: &Place, clause: &Clause, keys: &[u64])
+        requires keys { length keys.now ≤ MOST_KEYS }
+        requires action { is_action keys.now clause.now.action ≡ true }
+        ensures { (s : Scope) → IsWatched s self.now place.now → s.keys ≡ keys.now
+            → Adds s answer.old answer.new
+            (PlaceLeads (view_in s self.now.view) clause.now place.now.sender place.now.reservation)
+            (ClauseLeaves (view_in s self.now.view) clause.now place.now.sender) }
+    {
+        if let Some(purpose) = purpose_for(clause.action, keys, place.held) {
+            self.add_standing(answer, place, clause, purpose, Standing::Unregistered);
+            self.add_standing(answer, place, clause, purpose, Standing::Named);
+            self.add_standing(answer, place, clause, purpose, Standing::Other);
+        }
+    }
+
+    // Adds what a sender leaves whose registration matches the purpose so.
+    fn add_standing(
+        &self,
+        answer: &mut Possibilities,
+        place: &Place,
+        clause: &Clause,
+        purpose: Purpose,
+        standing: Standing,
+    )
+        requires { HasNumber purpose }
+        ensures { (s : Scope) → IsWatched s self.now place.now
+            → is_action s.keys clause.now.action ≡ true
+            → purpose_for s.keys clause.now.action place.now.held ≡ Some purpose
+            → Adds s answer.old answer.new
+            (StandingLeads (view_in s self.now.view) clause.now place.now.sender
+            place.now.reservation purpose standing)
+            (ClauseLeaves (view_in s self.now.view) clause.now place.now.sender) }
+    {
+        let senders = senders(purpose, standing);
+        if !self.may_be_among(place.sender, senders) {
+            return;
+        }
+        if may_send(clause.condition, purpose, place, standing) {
+            let branches = branches(place.hosts, purpose, place.held, place.sender, standing);
+            self.add_branches(answer, place, senders, &branches);
+        }
+    }
+
+    // Whether a nexus may have one of these registrations.
+    fn may_be_among(&self, host: u8, registrations: Word) -> bool
+        requires { host < MOST_NEXUSES }
+        ensures { result ≡ false → (r : ℕ) → has_at self.now.view.registrations host r ≡ true
+            → has registrations r ≡ false }
+    {
+        !self.view.registrations[usize::from(host)]
+            .and(registrations)
+            .is_empty()
+    }
+}
+
+/// The view of the states that a request of another leads to from a shown one, where it ends GOOD and the other's role
+/// permits it. What is pending for the other is unknown, and so such a request may always be one that changes nothing.
+pub fn interfere<S: ViewSet>(
+    alloc: Global,
+    view: &ViewOf<S>,
+    own: u8,
+    other: u8,
+    role: &Role,
+) -> Result<ViewOf<S>, AllocError>
+    requires made { IsMade S.room view.now }
+    requires own { own < view.now.hosts }
+    requires other { other < view.now.hosts }
+    requires apart { own ≢ other }
+    requires role { IsTrue (is_role view.now.keys.items role.now.clauses.items) }
+    ensures made { IfOk result (IsMade S.room) }
+    ensures alike { IfOk result (AreAlike view.now) }
+    ensures interference { IfOk result (λ w. IsInterference (view_of S.members own view.now)
+        role.now.clauses.items other (view_of S.members own w)) }
+{
+    let left = left_by(view, own, other, role);
+    ViewOf::of(alloc, &view.keys, view.hosts, &left)
+}
+
+// What is possible after such a request.
+fn left_by<S: ViewSet>(view: &ViewOf<S>, own: u8, other: u8, role: &Role) -> Possibilities
+    requires made { IsMade S.room view.now }
+    requires own { own < view.now.hosts }
+    requires other { other < view.now.hosts }
+    requires apart { own ≢ other }
+    requires role { IsTrue (is_role view.now.keys.items role.now.clauses.items) }
+    ensures range { AreInRange view.now.hosts view.now.keys.items result }
+    ensures interference { IsInterference (view_of S.members own view.now) role.now.clauses.items
+        other (view_in (scope_of own view.now) result) }
+{
+    let onlooker = Onlooker {
+        hosts: view.hosts,
+        own,
+        other,
+        view: view.possibilities(),
+    };
+    onlooker.interfered(&role.clauses, &view.keys)
+}

@@ -1,0 +1,102 @@
+//! What becomes of a view while another sends commands.
+
+ghost use Rattle.std.specs.Prelude.{◌<◌, ◌≤◌, length, IfSome, IfNone};
+ghost use Rattle.pr_cdb.specs.declared.codes.TheConstants.{MOST_NEXUSES};
+
+use crate::marking::attentions_after;
+use pr_regions::{Branch, Change, Ending, Place, Region, registrations_after};
+use pr_sets::{Wide, Word};
+use pr_views::Possibilities;
+
+/// The owner of a view, who looks on while another sends commands.
+#[derive(Clone, Copy)]
+pub(crate) struct Onlooker {
+    /// How many nexuses there are.
+    pub(crate) hosts: u8,
+    pub(crate) own: u8,
+    /// Who sends commands.
+    pub(crate) other: u8,
+    pub(crate) view: Possibilities,
+    ghost some: { 1 ≤ hosts },
+    ghost few: { hosts ≤ MOST_NEXUSES },
+    ghost own_there: { own < hosts },
+    ghost other_there: { other < hosts },
+}
+
+impl Onlooker {
+    ghost use Rattle.std.specs.List.{All};
+    ghost use Rattle.pr_unit.specs.UnitStates.{UnitState};
+    ghost use Rattle.pr_views.specs.Possibilities.{Scope};
+    ghost use Rattle.pr_views.specs.Portions.{view_in};
+    ghost use Rattle.pr_regions.specs.Regions.{HasRoom};
+    ghost use Rattle.pr_regions.specs.declared.region.Ending.TheVariants as ending;
+    ghost use Rattle.pr_regions.specs.Gathering.{IsUniform, IsProper, IsAt};
+    ghost use Rattle.pr_interference.specs.inside.Interfering.{IsWatched, IsAfter, Among, IsLedBy, IsLeftBy, IsProperBranch, BranchHasRoom};
+    ghost use Rattle.pr_regions.specs.inside.Adding.{Adds};
+
+    /// What is possible once a command has this effect in the states of the region in which its sender has one of
+    /// these registrations; none where the view shows no such state.
+    pub(crate) fn after(
+        &self,
+        place: &Place,
+        senders: Word,
+        region: &Region,
+        change: &Change,
+    ) -> Option<Possibilities>
+        requires room { HasRoom place.now.hosts (ending.Good change.now) }
+        ensures some { IfSome result (λ p. (s : Scope) → IsWatched s self.now place.now
+            → IsUniform senders → IsProper region.now
+            → IsAfter s self.now.view place.now senders region.now change.now p) }
+        ensures none { IfNone result ((s : Scope) → IsWatched s self.now place.now
+            → IsUniform senders → IsProper region.now → (u : UnitState)
+            → IsAt (view_in s self.now.view) place.now senders region.now u → ⊥) }
+    {
+        if self.view.pending.is_empty() {
+            return None;
+        }
+        let words = place.gather(&self.view, senders, region)?;
+        let owners = words[usize::from(self.own)];
+        Some(Possibilities {
+            registrations: registrations_after(&words, place.sender, change),
+            reservations: Wide::only(change.reservation),
+            pending: attentions_after(owners, self.view.pending, change),
+        })
+    }
+
+    /// Adds what is possible after the branches that end GOOD, of those in which the sender has one of these
+    /// registrations.
+    pub(crate) fn add_branches(
+        &self,
+        answer: &mut Possibilities,
+        place: &Place,
+        senders: Word,
+        branches: &[Branch],
+    )
+        requires room { All (BranchHasRoom place.now.hosts) branches.now }
+        ensures { (s : Scope) → IsWatched s self.now place.now → IsUniform senders
+            → All IsProperBranch branches.now
+            → Adds s answer.old answer.new
+            (λ u w. Among (length branches.now) branches.now
+            (λ b. IsLedBy s self.now.view place.now senders b u w))
+            (λ i. Among (length branches.now) branches.now
+            (λ b. IsLeftBy s self.now.view place.now senders b i)) }
+    {
+        for branch in branches {
+            self.add_branch(answer, place, senders, branch);
+        }
+    }
+
+    fn add_branch(&self, answer: &mut Possibilities, place: &Place, senders: Word, branch: &Branch)
+        requires room { BranchHasRoom place.now.hosts branch.now }
+        ensures { (s : Scope) → IsWatched s self.now place.now → IsUniform senders
+            → IsProperBranch branch.now → Adds s answer.old answer.new
+            (IsLedBy s self.now.view place.now senders branch.now)
+            (IsLeftBy s self.now.view place.now senders branch.now) }
+    {
+        if let Ending::Good(change) = branch.ending {
+            if let Some(after) = self.after(place, senders, &branch.region, &change) {
+                answer.join(&after);
+            }
+        }
+    }
+}

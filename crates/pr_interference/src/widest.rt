@@ -1,0 +1,208 @@
+//! What a command can leave at most, whatever is reserved: found without a walk through the reservations.
+
+ghost use Rattle.std.specs.Prelude.{◌≡◌, ◌≢◌, ◌≤◌, ◌<◌, ℕ, Some, true, false, length, IsTrue};
+ghost use Rattle.pr_cdb.specs.declared.codes.TheConstants.{MOST_NEXUSES};
+ghost use Rattle.pr_cdb.specs.declared.command.Kind.{Kind as KindOf};
+ghost use Rattle.pr_registry.specs.declared.held.Held.TheVariants.{One, All};
+ghost use Rattle.pr_registry.specs.Registrations.{is_all, new_reservation};
+ghost use Rattle.pr_registry.specs.Changes.{is_kind};
+ghost use Rattle.pr_roles.specs.declared.limits.TheConstants.{MOST_KEYS};
+ghost use Rattle.pr_roles.specs.Fitting.{is_reservation};
+ghost use Rattle.pr_sets.specs.Numbers.{most};
+ghost use Rattle.pr_sets.specs.Words.{has};
+ghost use Rattle.pr_sets.specs.Wides.{has_wide};
+ghost use Rattle.pr_views.specs.Possibilities.{Scope, number_of};
+ghost use Rattle.pr_views.specs.Portions.{has_at};
+ghost use Rattle.pr_interference.specs.inside.Clauses.{IsClause};
+ghost use Rattle.pr_interference.specs.inside.Interfering.{IsOnlooking};
+ghost use Rattle.pr_interference.specs.inside.Reaching.{IsReach, AreOfOneType};
+
+use crate::onlooker::Onlooker;
+use crate::reach::{Reach, no_reservation, none_alone};
+use crate::reaching::none_if;
+use pr_cdb::Kind;
+use pr_regions::{every_key, number_in, reservation_number};
+use pr_registry::{Held, is_all, new_reservation};
+use pr_roles::{Action, Clause};
+use pr_sets::{Wide, Word};
+
+impl Onlooker {
+    /// What a command of this clause reaches at most, whatever is reserved: no less than [`reach`](Onlooker::reach), and soon
+    /// found.
+    pub(crate) fn widest(&self, clause: &Clause, keys: &[u64]) -> Reach
+        requires keys { length keys.now ≤ MOST_KEYS }
+        requires action { IsClause keys.now clause.now }
+        ensures { (s : Scope) → IsOnlooking s self.now → s.keys ≡ keys.now
+            → IsReach s self.now.view clause.now self.now.other result }
+    {
+        match clause.action {
+            Action::Register(key) => Reach::of_registering(number_in(keys, key)),
+            Action::Unregister => widest_of_losing(),
+            Action::Reserve(kind) => self.widest_of_reserving(kind),
+            Action::Release => widest_of_losing(),
+            Action::Clear => Reach::of_clearing(),
+            Action::Preempt(key, kind) => {
+                if key == 0 {
+                    self.widest_of_preempting_all(kind)
+                } else {
+                    self.widest_of_preempting(number_in(keys, key), kind)
+                }
+            }
+            Action::Read | Action::Write => Reach::none(),
+        }
+    }
+
+    // To establish a reservation.
+    fn widest_of_reserving(&self, kind: Kind) -> Reach
+        ensures { has_wide result.reservations
+            (number_of self.now.hosts (Some (new_reservation kind self.now.other))) ≡ true }
+    {
+        Reach {
+            reservations: self.established(kind),
+            ..Reach::none()
+        }
+    }
+
+    // To preempt all others.
+    fn widest_of_preempting_all(&self, kind: Kind) -> Reach
+        ensures removed { (r : ℕ) → 1 ≤ r → r ≤ MOST_KEYS → has result.removed r ≡ true }
+        ensures reservations { has_wide result.reservations
+            (number_of self.now.hosts (Some (new_reservation kind self.now.other))) ≡ true }
+        ensures told { (r : ℕ) → 1 ≤ r → r ≤ MOST_KEYS → has result.told_05 r ≡ true }
+    {
+        Reach {
+            removed: every_key(),
+            reservations: self.established(kind),
+            told_05: every_key(),
+            ..Reach::none()
+        }
+    }
+
+    // To preempt the key of this number.
+    fn widest_of_preempting(&self, key: u8, kind: Kind) -> Reach
+        requires key { key ≤ MOST_KEYS }
+        ensures given { has_at self.now.view.registrations self.now.other key ≡ true
+            → has result.given 0 ≡ true }
+        ensures ended { (t : KindOf) → is_all t ≡ true
+            → has_wide self.now.view.reservations (number_of self.now.hosts (Some (All t))) ≡ true
+            → has_wide result.reservations 0 ≡ true }
+        ensures removed { has result.removed key ≡ true }
+        ensures replaced { has_wide result.reservations
+            (number_of self.now.hosts (Some (new_reservation kind self.now.other))) ≡ true }
+        ensures told_04 { (old : KindOf) (holder : ℕ)
+            → is_reservation self.now.hosts (Some (One old holder)) ≡ true
+            → has_wide self.now.view.reservations (number_of self.now.hosts (Some (One old holder)))
+            ≡ true → is_kind old kind ≡ false → (r : ℕ) → 1 ≤ r → r ≤ MOST_KEYS → r ≢ key
+            → has result.told_04 r ≡ true }
+        ensures told_05 { has result.told_05 key ≡ true }
+    {
+        let named = Word::only(key);
+        Reach {
+            given: none_if(self.may_have(self.other, key)),
+            removed: named,
+            reservations: self.established_or_ended(kind),
+            told_04: if self.may_be_of_another_type(kind) {
+                every_key().without(key)
+            } else {
+                Word::none()
+            },
+            told_05: named,
+            ..Reach::none()
+        }
+    }
+
+    // The reservation of this type that the other establishes, and none where one of all registrants may end.
+    fn established_or_ended(&self, kind: Kind) -> Wide
+        ensures established { has_wide result
+            (number_of self.now.hosts (Some (new_reservation kind self.now.other))) ≡ true }
+        ensures ended { (t : KindOf) → is_all t ≡ true
+            → has_wide self.now.view.reservations (number_of self.now.hosts (Some (All t))) ≡ true
+            → has_wide result 0 ≡ true }
+    {
+        let established = self.established(kind);
+        if self.may_all_hold() {
+            established.with(0)
+        } else {
+            established
+        }
+    }
+
+    // The reservation of this type that the other establishes.
+    fn established(&self, kind: Kind) -> Wide
+        ensures { has_wide result (number_of self.now.hosts
+            (Some (new_reservation kind self.now.other))) ≡ true }
+    {
+        Wide::only(reservation_number(self.hosts, Some(new_reservation(kind, self.other))))
+    }
+
+    // Whether a reservation of all registrants is possible.
+    fn may_all_hold(&self) -> bool
+        ensures { (t : KindOf) → is_all t ≡ true
+            → has_wide self.now.view.reservations (number_of self.now.hosts (Some (All t))) ≡ true
+            → IsTrue result }
+    {
+        let possible = self.view.reservations;
+        possible.has(shared(self.hosts, Kind::WriteExclusiveAllRegistrants))
+            || possible.has(shared(self.hosts, Kind::ExclusiveAccessAllRegistrants))
+    }
+
+    // Whether a reservation with one holder is possible that is of another type.
+    fn may_be_of_another_type(&self, kind: Kind) -> bool
+        ensures { result ≡ false → (old : KindOf) (holder : ℕ)
+            → is_reservation self.now.hosts (Some (One old holder)) ≡ true
+            → has_wide self.now.view.reservations (number_of self.now.hosts (Some (One old holder)))
+            ≡ true → is_kind old kind ≡ true }
+    {
+        let alike = of_one_type(self.hosts, kind);
+        !self.view.reservations.except(alike).is_empty()
+    }
+}
+
+// To be registered no more, or to release a reservation.
+fn widest_of_losing() -> Reach
+    ensures given { has result.given 0 ≡ true }
+    ensures ended { has_wide result.reservations 0 ≡ true }
+    ensures told { (r : ℕ) → 1 ≤ r → r ≤ MOST_KEYS → has result.told_04 r ≡ true }
+{
+    Reach {
+        given: none_alone(),
+        reservations: no_reservation(),
+        told_04: every_key(),
+        ..Reach::none()
+    }
+}
+
+// The number of a reservation of all registrants.
+fn shared(hosts: u8, kind: Kind) -> u8
+    requires hosts { hosts ≤ MOST_NEXUSES }
+    requires all { is_all kind ≡ true }
+    ensures number { result ≡ number_of hosts (Some (All kind)) }
+    ensures few { result < most }
+{
+    reservation_number(hosts, Some(Held::All(kind)))
+}
+
+// No reservation, and those of all registrants.
+fn without_holder(hosts: u8) -> Wide
+    requires { hosts ≤ MOST_NEXUSES }
+    ensures { (kind : KindOf) → AreOfOneType hosts kind result }
+{
+    Wide::only(0)
+        .with(shared(hosts, Kind::WriteExclusiveAllRegistrants))
+        .with(shared(hosts, Kind::ExclusiveAccessAllRegistrants))
+}
+
+// The reservations that are of no other type with one holder.
+fn of_one_type(hosts: u8, kind: Kind) -> Wide
+    requires { hosts ≤ MOST_NEXUSES }
+    ensures { AreOfOneType hosts kind result }
+{
+    let mut alike = without_holder(hosts);
+    if is_all(kind) {
+        return alike;
+    }
+    for holder in 0..hosts {
+        alike = alike.with(reservation_number(hosts, Some(Held::One(kind, holder))));
+    }
+    alike
+}

@@ -1,0 +1,78 @@
+-- What is added to possibilities, step by step.
+use Rattle.pr_regions.proofs.Common.{◌≡◌, ℕ, Bool, true, false, ◌||◌, refl, sym, ◌∙◌, inl, inr, ◌⊎◌, UnitState, has, Scope, Registration}
+use Rattle.pr_sets.specs.Wides.{has_wide}
+use Rattle.pr_views.specs.declared.possibilities.Possibilities.{Possibilities}
+use Rattle.pr_views.specs.Possibilities.{Item, Reservation, Attentions}
+use Rattle.pr_views.specs.Views.{IsPossible}
+use Rattle.pr_views.specs.Portions.{has_at, view_in}
+use Rattle.pr_regions.specs.inside.Adding.{Allows, Adds}
+
+pub grown : (s : Scope) (p q : Possibilities) (u : UnitState) → ((i : Item) → IsPossible (view_in s p) i → IsPossible (view_in s q) i) → Allows s p u → Allows s q u
+grown s p q u grows allows = record { items = λ i so. grows i (allows.items i so); numbered = allows.numbered; pending = allows.pending }
+
+-- nothing is added
+pub adds_nothing : (s : Scope) (p : Possibilities) (leads : UnitState → UnitState → Type 0) (leaves : Item → Type 0) → ((u w : UnitState) → leads u w → ⊥) → Adds s p p leads leaves
+adds_nothing s p leads leaves none = record {
+  kept = λ i is. is;
+  all = λ u w led. absurd (none u w led);
+  only = λ i is. inl is;
+}
+
+-- one after the other
+pub adds_both : (s : Scope) (p q r : Possibilities) (L M N : UnitState → UnitState → Type 0) (V W X : Item → Type 0) → Adds s p q L V → Adds s q r M W
+    → ((u w : UnitState) → N u w → L u w ⊎ M u w) → ((i : Item) → V i → X i) → ((i : Item) → W i → X i) → Adds s p r N X
+adds_both s p q r L M N V W X before then_ splits left right = record {
+  kept = λ i is. then_.kept i (before.kept i is);
+  all = λ u w led. all u w (splits u w led);
+  only = λ i is. only i (then_.only i is);
+}
+  where
+    all : (u w : UnitState) → L u w ⊎ M u w → Allows s r w
+    all u w (inl led) = grown s q r w then_.kept (before.all u w led)
+    all u w (inr led) = then_.all u w led
+
+    first : (i : Item) → IsPossible (view_in s p) i ⊎ V i → IsPossible (view_in s p) i ⊎ X i
+    first i (inl is) = inl is
+    first i (inr is) = inr (left i is)
+
+    only : (i : Item) → IsPossible (view_in s q) i ⊎ W i → IsPossible (view_in s p) i ⊎ X i
+    only i (inl is) = first i (before.only i is)
+    only i (inr is) = inr (right i is)
+
+-- ---- joined possibilities
+
+pub record IsJoined (old other new : Possibilities) : Type 0 where
+  pub registrations : (g r : ℕ) → has_at new.registrations g r ≡ (has_at old.registrations g r || has_at other.registrations g r)
+  pub reservations : (x : ℕ) → has_wide new.reservations x ≡ (has_wide old.reservations x || has_wide other.reservations x)
+  pub pending : (q : ℕ) → has new.pending q ≡ (has old.pending q || has other.pending q)
+
+or_left : (a b : Bool) → a ≡ true → (a || b) ≡ true
+or_left a b is = rw is refl
+
+or_right : (a b : Bool) → b ≡ true → (a || b) ≡ true
+or_right true b is = refl
+or_right false b is = is
+
+either : (a b : Bool) → (a || b) ≡ true → (a ≡ true) ⊎ (b ≡ true)
+either true b is = inl refl
+either false b is = inr is
+
+pub joined_old : (s : Scope) (old other new : Possibilities) (i : Item) → IsJoined old other new → IsPossible (view_in s old) i → IsPossible (view_in s new) i
+joined_old s old other new (Registration g r) joined is = (is.0, joined.registrations g r ∙ or_left _ (has_at other.registrations g r) is.1)
+joined_old s old other new (Reservation x) joined is = joined.reservations x ∙ or_left _ (has_wide other.reservations x) is
+joined_old s old other new (Attentions q) joined is = joined.pending q ∙ or_left _ (has other.pending q) is
+
+pub joined_other : (s : Scope) (old other new : Possibilities) (i : Item) → IsJoined old other new → IsPossible (view_in s other) i → IsPossible (view_in s new) i
+joined_other s old other new (Registration g r) joined is = (is.0, joined.registrations g r ∙ or_right (has_at old.registrations g r) _ is.1)
+joined_other s old other new (Reservation x) joined is = joined.reservations x ∙ or_right (has_wide old.reservations x) _ is
+joined_other s old other new (Attentions q) joined is = joined.pending q ∙ or_right (has old.pending q) _ is
+
+pub joined_either : (s : Scope) (old other new : Possibilities) (i : Item) → IsJoined old other new → IsPossible (view_in s new) i → IsPossible (view_in s old) i ⊎ IsPossible (view_in s other) i
+joined_either s old other new (Registration g r) joined is =
+    at (either (has_at old.registrations g r) (has_at other.registrations g r) (sym (joined.registrations g r) ∙ is.1))
+  where
+    at : (has_at old.registrations g r ≡ true) ⊎ (has_at other.registrations g r ≡ true) → IsPossible (view_in s old) (Registration g r) ⊎ IsPossible (view_in s other) (Registration g r)
+    at (inl had) = inl (is.0, had)
+    at (inr had) = inr (is.0, had)
+joined_either s old other new (Reservation x) joined is = either (has_wide old.reservations x) (has_wide other.reservations x) (sym (joined.reservations x) ∙ is)
+joined_either s old other new (Attentions q) joined is = either (has old.pending q) (has other.pending q) (sym (joined.pending q) ∙ is)

@@ -1,0 +1,11 @@
+use Rattle.pr_regions.proofs.Common.{◌≡◌, Scope}
+use Rattle.pr_views.specs.Views.{Fits}
+use Rattle.pr_views.specs.Portions.{view_in}
+use Rattle.pr_regions.specs.inside.Adding.{Adds}
+use Rattle.pr_regions.specs.inside.Showing.{IsShownBelow}
+use Rattle.pr_regions.specs.Keeping.{IsShownSo}
+use Rattle.pr_regions.proofs.keeping.kept.Given as goal
+
+abbrev pub invariant-loop-reservation : goal.invariant-loop-reservation
+invariant-loop-reservation l = (s : Scope) → s.hosts ≡ l.hosts → Fits (view_in s l.view)
+    → Adds s l.initial.kept l.kept (λ _ u. IsShownBelow l.reservation (view_in s l.view) u) (IsShownSo (view_in s l.view))

@@ -1,0 +1,30 @@
+-- What of a view's possibilities is so in some state that it shows, one place after another.
+use Rattle.std.specs.Prelude.{◌≡◌, ℕ, ◌<◌, true}
+use Rattle.pr_unit.specs.UnitStates.{UnitState}
+use Rattle.pr_sets.specs.declared.word.Word.{Word}
+use Rattle.pr_sets.specs.Words.{has}
+use Rattle.pr_views.specs.declared.possibilities.Possibilities.{Possibilities}
+use Rattle.pr_views.specs.Portions.{view_in}
+use Rattle.pr_views.specs.Possibilities.{Scope, Item, Registration, Reservation, IsSo}
+use Rattle.pr_views.specs.Views.{View, IsPossible, Shows}
+use Rattle.pr_regions.specs.declared.place.Place.{Place}
+use Rattle.pr_regions.specs.Keeping.{IsShownSo}
+use Rattle.pr_regions.specs.inside.Adding.{Allows}
+
+-- a shown state with the reservation of this place, in which the sender has one of these registrations
+pub record IsShownAt (v : View) (place : Place) (senders : Word) (u : UnitState) : Type 0 where
+  pub shown : Shows v u
+  pub reservation : IsSo v.scope u (Reservation place.reservation)
+  pub sender : (r : ℕ) → IsSo v.scope u (Registration place.sender r) → has senders r ≡ true
+
+-- the possibilities are what is so in those states
+pub record IsShown (s : Scope) (view : Possibilities) (place : Place) (senders : Word) (shown : Possibilities) : Type 0 where
+  pub all : (u : UnitState) → IsShownAt (view_in s view) place senders u → Allows s shown u
+  pub only : (i : Item) → IsPossible (view_in s shown) i → IsShownSo (view_in s view) i
+
+-- a shown state with one of the first reservations
+pub record IsShownBelow (n : ℕ) (v : View) (u : UnitState) : Type 0 where
+  pub shown : Shows v u
+  pub reservation : ℕ
+  pub below : reservation < n
+  pub is : IsSo v.scope u (Reservation reservation)

@@ -1,0 +1,85 @@
+//! What of a view's possibilities is so in some state that it shows.
+
+ghost use Rattle.std.specs.Prelude.{◌≡◌, ◌≤◌, ℕ, true, None, IfSome, IfNone};
+ghost use Rattle.pr_cdb.specs.declared.codes.TheConstants.{MOST_NEXUSES};
+ghost use Rattle.pr_unit.specs.UnitStates.{UnitState};
+ghost use Rattle.pr_roles.specs.declared.limits.TheConstants.{MOST_KEYS};
+ghost use Rattle.pr_sets.specs.Words.{has};
+ghost use Rattle.pr_views.specs.Possibilities.{Scope, count_of_reservations};
+ghost use Rattle.pr_views.specs.Views.{Fits};
+ghost use Rattle.pr_views.specs.Portions.{view_in};
+ghost use Rattle.pr_regions.specs.Gathering.{IsPlace, IsUniform};
+ghost use Rattle.pr_regions.specs.inside.Adding.{Adds};
+ghost use Rattle.pr_regions.specs.Keeping.{IsShownSo, IsKept};
+ghost use Rattle.pr_regions.specs.inside.Showing.{IsShownAt, IsShown};
+
+use crate::numbers::count_of_reservations;
+use crate::place::Place;
+use crate::region::Region;
+use crate::words::every_key;
+use pr_sets::{Wide, Word};
+use pr_views::{MOST_REGISTRATIONS, Possibilities};
+
+/// The view without the possibilities that none of the states that it shows has.
+pub fn kept(hosts: u8, view: &Possibilities) -> Possibilities
+    requires hosts { (1 ≤ hosts) × (hosts ≤ MOST_NEXUSES) }
+    ensures { (s : Scope) → s.hosts ≡ hosts → Fits (view_in s view.now)
+        → IsKept (view_in s view.now) (view_in s result) }
+{
+    let mut kept = Possibilities::none();
+    for reservation in 0..count_of_reservations(hosts) {
+        if view.reservations.has(reservation) {
+            let place = Place::of(hosts, 0, reservation);
+            place.add_kept(&mut kept, view, Word::only(0));
+            place.add_kept(&mut kept, view, every_key());
+        }
+    }
+    kept
+}
+
+impl Place {
+    // Adds what is so in some state of the place in which the sender has one of these registrations.
+    fn add_kept(&self, kept: &mut Possibilities, view: &Possibilities, senders: Word)
+        ensures { (s : Scope) → IsPlace s view.now self.now → IsUniform senders
+            → Adds s kept.old kept.new (λ _ u. IsShownAt (view_in s view.now) self.now senders u)
+            (IsShownSo (view_in s view.now)) }
+    {
+        if let Some(shown) = self.shown(view, senders) {
+            kept.join(&shown);
+        }
+    }
+
+    // What is so in those states, if there are any.
+    fn shown(&self, view: &Possibilities, senders: Word) -> Option<Possibilities>
+        ensures some { IfSome result (λ p. (s : Scope) → IsPlace s view.now self.now
+            → IsUniform senders → IsShown s view.now self.now senders p) }
+        ensures none { IfNone result ((s : Scope) → IsPlace s view.now self.now → IsUniform senders
+            → (u : UnitState) → IsShownAt (view_in s view.now) self.now senders u → ⊥) }
+    {
+        if view.pending.is_empty() {
+            return None;
+        }
+        let Some(registrations) = self.gather(view, senders, &region_of_all()) else {
+            return None;
+        };
+        Some(Possibilities {
+            registrations,
+            reservations: Wide::only(self.reservation),
+            pending: view.pending,
+        })
+    }
+}
+
+// The region of every state.
+fn region_of_all() -> Region
+    ensures holder { (r : ℕ) → r ≤ MOST_KEYS → has result.holder r ≡ true }
+    ensures others { (r : ℕ) → r ≤ MOST_KEYS → has result.others r ≡ true }
+    ensures somebody { result.somebody ≡ None }
+{
+    let all = Word::below(MOST_REGISTRATIONS);
+    Region {
+        holder: all,
+        others: all,
+        somebody: None,
+    }
+}
