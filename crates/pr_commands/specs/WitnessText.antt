@@ -4,10 +4,6 @@ use Rattle.std.specs.Prelude.{ℕ, ◌-◌, ◌==◌, Bool, true, false, ◌||�
 use Rattle.std.specs.Fmt.{decimal}
 use Rattle.std.specs.List.{flat_map, range_with_len, slice_get}
 use Rattle.std.specs.Option.{option_map_or}
-use Rattle.pr_cdb.specs.declared.reply.Reply.{Reply}
-use Rattle.pr_cdb.specs.declared.reply.Sense.{Sense}
-use Rattle.pr_cdb.specs.declared.reply.Status.{Status}
-use Rattle.pr_cdb.specs.declared.reply.Status.TheVariants as status
 use Rattle.pr_attention.specs.Attentions.{power_on, reservations_preempted, reservations_released, registrations_preempted}
 use Rattle.pr_domain.specs.declared.landing.Class.{Class}
 use Rattle.pr_domain.specs.declared.landing.Class.TheVariants as class
@@ -22,6 +18,7 @@ use Rattle.pr_report.specs.Verdicts.{no_arm_words, place_words}
 use Rattle.pr_witness.specs.declared.breach.Breach.{Breach}
 use Rattle.pr_witness.specs.declared.breach.Broken.{Broken as Told}
 use Rattle.pr_witness.specs.declared.breach.Broken.TheVariants.{NoArm, OutOfRole, OverBudget}
+use Rattle.pr_witness.specs.Classes.{class_of}
 
 -- What is broken.
 
