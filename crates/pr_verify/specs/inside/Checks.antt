@@ -47,6 +47,10 @@ IsAnswerBefore s n answer =
     OnOk answer ((h : ℕ) → h < n → OnScripted (task s h) (HasOutline s h))
     × (OnOk answer ((h : ℕ) → h < n → OnScripted (task s h) (λ script budget. SendsFit script)) × IfErr answer (IsVerdict s))
 
+-- so all of its hosts
+abbrev pub IsAnswerForAll : Scenario → Result (Unit {0}) Refusal → Type 0
+IsAnswerForAll s answer = IsAnswerBefore s (length s.nexuses) answer
+
 -- So do all of these checks together, of whichever scenario they are.
 abbrev pub ComeTo : List Check → Result (Unit {0}) Refusal → Type 0
 ComeTo checks answer = (s : Scenario) → EachFrom (IsCheckFor s) 0 checks → IsAnswerBefore s (length checks) answer
