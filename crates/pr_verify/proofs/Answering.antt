@@ -17,9 +17,9 @@ use Rattle.pr_verify.specs.declared.known.Answer.{Answer}
 use Rattle.pr_verify.specs.declared.places.Spot.{Spot}
 use Rattle.pr_verify.specs.Rooms.{IsMadeFor}
 use Rattle.pr_verify.specs.inside.Asked.{refusals_for, AreAsked, IsAnswerTo, AreAnswersTo, IsAskedBefore, IsAnsweredAt}
-use Rattle.pr_verify.specs.inside.Inferring.{IsOf, AreWritten}
+use Rattle.pr_verify.specs.inside.Inferring.{IsOf}
 use Rattle.pr_verify.specs.inside.Known.{ComesTo, AskTheSame, IsAnswer, IsAnswerAt, AreEqual}
-use Rattle.pr_verify.specs.inside.Listing.{place_of, IsPlaceWritten}
+use Rattle.pr_verify.specs.inside.Listing.{place_of, IsPlaceWritten, AreWritten}
 use Rattle.pr_verify.proofs.Mapped.{element}
 use Rattle.pr_verify.proofs.Recalled.{found, read_is, answer_is, answered_at}
 use Rattle.pr_verify.proofs.Rising.{as_many}

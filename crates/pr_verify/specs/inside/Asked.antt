@@ -9,7 +9,8 @@ use Rattle.pr_views.specs.declared.view.ViewOf.{ViewOf}
 use Rattle.pr_verify.specs.declared.answers.Questions.{Questions}
 use Rattle.pr_verify.specs.declared.known.Answer.{Answer}
 use Rattle.pr_verify.specs.declared.places.Spot.{Spot}
-use Rattle.pr_verify.specs.inside.Inferring.{AreOf, AreWritten}
+use Rattle.pr_verify.specs.inside.Inferring.{AreOf}
+use Rattle.pr_verify.specs.inside.Listing.{AreWritten}
 use Rattle.pr_verify.specs.inside.Known.{AskTheSame, IsAnswer, IsAnswerAt, AreEqual}
 
 -- ---- questions
