@@ -4,31 +4,40 @@ use Rattle.std.specs.List.{slice_get, All}
 use Rattle.pr_sets.specs.Numbers.{Numbers}
 use Rattle.pr_roles.specs.declared.how.Refusals.{Refusals}
 use Rattle.pr_roles.specs.DeclaredRefusals.{refusals_of}
-use Rattle.pr_roles.specs.Scenarios.{scenario_of}
+use Rattle.pr_roles.specs.Scenarios.{Scenario, scenario_of}
 use Rattle.pr_views.specs.declared.view.ViewOf.{ViewOf}
+use Rattle.pr_views.specs.Views.{View}
+use Rattle.pr_views.specs.Rooms.{view_of}
+use Rattle.pr_domain.specs.declared.landing.Landing.{Landing}
 use Rattle.pr_verify.specs.declared.answers.Questions.{Questions}
 use Rattle.pr_verify.specs.declared.known.Answer.{Answer}
 use Rattle.pr_verify.specs.declared.places.Spot.{Spot}
-use Rattle.pr_verify.specs.inside.Inferring.{AreOf}
-use Rattle.pr_verify.specs.inside.Listing.{AreWritten}
-use Rattle.pr_verify.specs.inside.Known.{AskTheSame, IsAnswer, IsAnswerAt, AreEqual}
+use Rattle.pr_verify.specs.Outlines.{Outline, view_at}
+use Rattle.pr_verify.specs.Rooms.{outline_of, IsMadeFor}
+use Rattle.pr_verify.specs.inside.Known.{ComesTo, AskTheSame, IsAnswer, IsAnswerAt, AreEqual}
+use Rattle.pr_verify.specs.inside.Listing.{place_of, IsPlaceWritten}
+use Rattle.pr_verify.specs.inside.Reviewing.{IsMadeAs}
 
 -- ---- questions
 
--- the refusals that the sends may meet
-abbrev pub refusals_for : {S : Type 0} → Questions (ViewOf S) → Refusals
-refusals_for q = refusals_of (scenario_of q.scenario.now) q.outline.now.host
+-- of what scenario they are, and of what outline
+abbrev pub scenario_in : {V : Type 0} → Questions V → Scenario
+scenario_in q = scenario_of q.scenario.now
 
--- for each send there is a view, all of the same keys and of as many nexuses; the host is one of them and of the scenario's, and
--- the sends can stand in a text with those keys
-pub record AreAsked {S : Type 0} (room : S → ℕ) (q : Questions (ViewOf S)) : Type 0 where
-  pub keys : List ℕ
-  pub hosts : ℕ
-  pub kind : AreOf room keys hosts q.outline.now.views.items
-  pub host : q.outline.now.host < hosts
-  pub declared : q.outline.now.host < length (scenario_of q.scenario.now).nexuses
-  pub written : AreWritten keys q.spots.now
-  pub each : length q.outline.now.views.items ≡ length q.spots.now
+abbrev pub outline_in : {S : Type 0} → (S → Numbers) → Questions (ViewOf S) → Outline
+outline_in members q = outline_of members q.outline.now
+
+-- the view, as its host knows it
+abbrev pub view_in : {S : Type 0} → (S → Numbers) → Questions (ViewOf S) → ViewOf S → View
+view_in members q v = view_of members q.outline.now.host v
+
+-- the refusals that the sends may meet
+abbrev pub refusals_for : {V : Type 0} → Questions V → Refusals
+refusals_for q = refusals_of (scenario_in q) q.outline.now.host
+
+-- the views can be ones of the scenario
+abbrev pub AreMade : {S : Type 0} → (S → ℕ) → Questions (ViewOf S) → Type 0
+AreMade room q = IsMadeFor room (scenario_in q) q.outline.now
 
 -- the two places ask the same, in views with the same possibilities
 pub record IsSameQuestion {S : Type 0} (members : S → Numbers) (q : Questions (ViewOf S)) (place other : ℕ) : Type 0 where
@@ -44,6 +53,13 @@ pub record IsAnswerTo {S : Type 0} (members : S → Numbers) (room : S → ℕ) 
 
 abbrev pub AreAnswersTo : {S : Type 0} → (S → Numbers) → (S → ℕ) → Questions (ViewOf S) → List (Answer (ViewOf S)) → Type 0
 AreAnswersTo members room q known = All (IsAnswerTo members room q) known
+
+-- these are what the command of the send comes to in the view, which is the one at its line
+pub record IsAnswered {S : Type 0} (members : S → Numbers) (room : S → ℕ) (q : Questions (ViewOf S)) (v : ViewOf S) (p : Spot) (xs : List (Landing × ViewOf S)) : Type 0 where
+  pub written : IsPlaceWritten (scenario_in q).keys (place_of p)
+  pub view : IsMadeAs room (scenario_in q) v
+  pub here : view_at (outline_in members q).views p.line ≡ Some (view_in members q v)
+  pub outcomes : ComesTo members q.outline.now.host (refusals_for q) v p xs
 
 -- this place of the list has the answer to an equal question
 pub record IsAskedBefore {S : Type 0} (members : S → Numbers) (q : Questions (ViewOf S)) (place : ℕ) (known : List (Answer (ViewOf S))) (k : ℕ) : Type 0 where
