@@ -4,17 +4,14 @@
 //! it is proved that they are sound.
 
 ghost use Rattle.std.specs.Prelude.{◌≡◌, ℕ, ◌<◌, ◌≤◌, min, map, OnOk, IfErr};
-ghost use Rattle.std.specs.List.{Contains};
-ghost use Rattle.pr_cdb.specs.Ranges.{Fits};
 ghost use Rattle.pr_script.specs.declared.limits.TheConstants.{MOST_BUDGET};
 ghost use Rattle.pr_script.specs.Costs.{cost_of_all};
 ghost use Rattle.pr_script.specs.Trees.{script_of};
 ghost use Rattle.pr_roles.specs.Scenarios.{scenario_of, task};
 ghost use Rattle.pr_roles.specs.Starts.{CanStart};
-ghost use Rattle.pr_verify.specs.Places.{Place, places_of};
-ghost use Rattle.pr_verify.specs.Outlines.{OnScripted, IsSound, IsFitting};
+ghost use Rattle.pr_verify.specs.Outlines.{IsSound, IsFitting, SendsFit};
 ghost use Rattle.pr_verify.specs.Refusals.{IsRefusal, past_budgets, first_difference};
-ghost use Rattle.pr_verify.specs.Rooms.{outline_of, IsMadeFor, IsScripted};
+ghost use Rattle.pr_verify.specs.Rooms.{outline_of, IsFittingFor, IsMadeFor, IsRefusalFor, IsScripted, IsSoundFor};
 ghost use Rattle.pr_verify.specs.inside.Reviewing.{CanCheck};
 
 use crate::answers::Questions;
@@ -38,16 +35,10 @@ pub fn check_outline<S: ViewSet>(
 ) -> Result<(), Refusal>
     requires scripted { IsScripted (task (scenario_of scenario.now) outline.now.host) }
     requires made { IsMadeFor S.room (scenario_of scenario.now) outline.now }
-    ensures sound { OnOk result (OnScripted (task (scenario_of scenario.now) outline.now.host)
-        (λ script budget. IsSound (scenario_of scenario.now) script
-        (outline_of S.members outline.now))) }
-    ensures fitting { OnOk result (OnScripted (task (scenario_of scenario.now) outline.now.host)
-        (λ script budget. IsFitting (scenario_of scenario.now) script budget
-        (outline_of S.members outline.now))) }
-    ensures refusal { IfErr result (λ refusal. OnScripted
-        (task (scenario_of scenario.now) outline.now.host)
-        (λ script budget. IsRefusal (scenario_of scenario.now) script budget
-        (outline_of S.members outline.now) refusal)) }
+    ensures sound { OnOk result (IsSoundFor S.members (scenario_of scenario.now) outline.now) }
+    ensures fitting { OnOk result (IsFittingFor S.members (scenario_of scenario.now) outline.now) }
+    ensures refusal { IfErr result (IsRefusalFor S.members (scenario_of scenario.now)
+        outline.now) }
 {
     match &nexus_in(scenario, outline.host).task {
         Task::Scripted { script, budget } => {
@@ -116,8 +107,7 @@ pub(crate) fn check_fit<S: ViewSet>(
     requires able { CanCheck S.room (scenario_of scenario.now) (script_of script.now) outline.now }
     requires sound { IsSound (scenario_of scenario.now) (script_of script.now)
         (outline_of S.members outline.now) }
-    ensures fields { OnOk result ((p : Place) → Contains (places_of (script_of script.now)) p
-        → Fits p.command) }
+    ensures fields { OnOk result (SendsFit (script_of script.now)) }
     ensures fitting { OnOk result ((budget : ℕ) → cost_of_all (script_of script.now) ≤ budget
         → IsFitting (scenario_of scenario.now) (script_of script.now) budget
         (outline_of S.members outline.now)) }

@@ -1,10 +1,10 @@
 //! The verdict on a scenario whose hosts are checked side by side.
 
-ghost use Rattle.std.specs.Prelude.{◌≡◌, ◌≢◌, ℕ, ◌<◌, ◌≤◌, length, IfOk, IfErr, OnOk, vec_len, vec_capacity};
+ghost use Rattle.std.specs.Prelude.{◌≡◌, ◌<◌, ◌≤◌, length, IfOk, IfErr, OnOk, vec_len, vec_capacity};
 ghost use Rattle.pr_roles.specs.Scenarios.{scenario_of};
 ghost use Rattle.pr_roles.specs.Safety.{IsSafe};
 ghost use Rattle.pr_verify.specs.Outlines.{AllSendsFit, HaveOutlines};
-ghost use Rattle.pr_verify.specs.Verdicts.{IsVerdict};
+ghost use Rattle.pr_verify.specs.Verdicts.{IsFinal, IsVerdict};
 ghost use Rattle.pr_verify.specs.inside.Checks.{ComeTo, EachFrom, IsAnswerFor, IsAnswerForAll, IsBegunFor, IsCheckFor};
 
 use crate::check_gate::CheckGate;
@@ -36,8 +36,7 @@ pub fn verify_each<G: CheckGate, R: Threads + Wait + Sync>(
     ensures outlines { IfOk result (λ verified. HaveOutlines (scenario_of verified)) }
     ensures back { IfErr result (λ refused. refused.scenario ≡ scenario) }
     ensures verdict { IfErr result (λ refused. IsVerdict (scenario_of scenario) refused.refusal) }
-    ensures none { IfErr result (λ refused. refused.refusal ≢ Refusal.Memory
-        → ¬ HaveOutlines (scenario_of scenario)) }
+    ensures none { IfErr result (λ refused. IsFinal (scenario_of scenario) refused.refusal) }
 {
     let checked = check_each(rt, alloc, &scenario, gate);
     verdict_on(scenario, checked)

@@ -4,16 +4,14 @@
 
 ghost use Rattle.std.specs.Prelude.{◌≡◌, ◌↔◌, map, option_map, IsTrue, IfOk, IfSome};
 ghost use Rattle.std.specs.List.{Contains};
-ghost use Rattle.pr_script.specs.Scripts.{Stmts};
 ghost use Rattle.pr_roles.specs.Starts.{CanStart};
 ghost use Rattle.pr_views.specs.Rooms.{view_of};
-ghost use Rattle.pr_verify.specs.Places.{first_lines};
-ghost use Rattle.pr_verify.specs.Outlines.{view_at, StartsAt};
+ghost use Rattle.pr_verify.specs.Outlines.{view_at};
 ghost use Rattle.pr_verify.specs.Rooms.{outline_of};
-ghost use Rattle.pr_verify.specs.inside.Asked.{AreMade, outline_in, scenario_in};
-ghost use Rattle.pr_verify.specs.inside.Least.{IsLeast, least};
+ghost use Rattle.pr_verify.specs.inside.Asked.{AreMade, IsFirstUnstarted, scenario_in};
+ghost use Rattle.pr_verify.specs.inside.Least.{least};
 ghost use Rattle.pr_verify.specs.LeastOutlines.{IsWithinIn};
-ghost use Rattle.pr_verify.specs.inside.Lacking.{CanCompare, IsFirstLacking, HasView, LacksView};
+ghost use Rattle.pr_verify.specs.inside.Lacking.{CanCompare, IsFirstWithout};
 
 use crate::answers::Questions;
 use crate::outline::OutlineOf;
@@ -40,10 +38,8 @@ pub(crate) fn first_lacking<S: ViewSet>(
     lines: &[u32],
 ) -> Option<u32>
     requires { CanCompare S.room outline.now.views.items known.now }
-    ensures { IsLeast (HasView (outline_of S.members outline.now) lines.now
-        (view_of S.members outline.now.host known.now))
-        (LacksView (outline_of S.members outline.now) lines.now
-        (view_of S.members outline.now.host known.now)) result }
+    ensures { IsFirstWithout (outline_of S.members outline.now) lines.now
+        (view_of S.members outline.now.host known.now) result }
 {
     let mut first = None;
     for line in lines {
@@ -89,9 +85,7 @@ pub(crate) fn lacking_at_start<S: ViewSet>(
 ) -> Result<Option<u32>, AllocError>
     requires starts { CanStart (scenario_in asked.now) }
     requires made { AreMade S.room asked.now }
-    ensures { IfOk result (λ first. (script : Stmts) → first_lines script ≡ lines.now
-        → IsFirstLacking (outline_in S.members asked.now) (StartsAt (scenario_in asked.now) script)
-        first) }
+    ensures { IfOk result (IsFirstUnstarted S.members asked.now lines.now) }
 {
     let outline = asked.outline;
     let start = of_start(alloc, asked.scenario, outline.host)?;

@@ -3,10 +3,8 @@
 ghost use Rattle.std.specs.Prelude.{◌≡◌, ◌<◌, ℕ, false, map, IsTrue, IfOk};
 ghost use Rattle.pr_roles.specs.Scenarios.{scenario_of};
 ghost use Rattle.pr_views.specs.Rooms.{view_of, IsMade};
-ghost use Rattle.pr_domain.specs.Interference.{IsClosed};
-ghost use Rattle.pr_verify.specs.Outlines.{IsLeftAt};
-ghost use Rattle.pr_verify.specs.inside.Asked.{AreMade, outline_in, scenario_in, view_in};
-ghost use Rattle.pr_verify.specs.inside.Lacking.{CanCompare, IsFirstLacking, IsOpen, IsSameAsOne, IsClosedTo, IsClosedToResets};
+ghost use Rattle.pr_verify.specs.inside.Asked.{AreMade, IsClosedIn, IsFirstLeft, IsOpenIn, scenario_in, view_in};
+ghost use Rattle.pr_verify.specs.inside.Lacking.{CanCompare, IsOpen, IsSameAsOne, IsClosedTo, IsClosedToResets};
 ghost use Rattle.pr_verify.specs.inside.Reviewing.{IsMadeAs};
 
 use crate::answers::Questions;
@@ -23,8 +21,7 @@ pub(crate) fn lacking_by_others<S: ViewSet>(
     asked: &Questions<ViewOf<S>>,
 ) -> Result<Option<u32>, AllocError>
     requires { AreMade S.room asked.now }
-    ensures { IfOk result (IsFirstLacking (outline_in S.members asked.now)
-        (IsLeftAt (scenario_in asked.now) (outline_in S.members asked.now))) }
+    ensures { IfOk result (IsFirstLeft S.members asked.now) }
 {
     let outline = asked.outline;
     for (i, entry) in outline.views.iter().enumerate() {
@@ -58,10 +55,8 @@ fn is_closed<S: ViewSet>(
     view: &ViewOf<S>,
 ) -> Result<bool, AllocError>
     requires { IsMadeAs S.room (scenario_in asked.now) view.now }
-    ensures closed { IfOk result (λ is. IsTrue is
-        → IsClosed (scenario_in asked.now) (view_in S.members asked.now view.now)) }
-    ensures open { IfOk result (λ is. is ≡ false
-        → IsOpen (scenario_in asked.now) (view_in S.members asked.now view.now)) }
+    ensures closed { IfOk result (λ is. IsTrue is → IsClosedIn S.members asked.now view.now) }
+    ensures open { IfOk result (λ is. is ≡ false → IsOpenIn S.members asked.now view.now) }
 {
     if !is_closed_to_resets(alloc, asked.scenario, view)? {
         return Ok(false);
@@ -97,8 +92,7 @@ fn is_closed_to_others<S: ViewSet>(
     requires { IsMadeAs S.room (scenario_in asked.now) view.now }
     ensures closed { IfOk result (λ is. IsTrue is → IsClosedTo view.now.hosts
         (scenario_in asked.now) (view_in S.members asked.now view.now)) }
-    ensures open { IfOk result (λ is. is ≡ false
-        → IsOpen (scenario_in asked.now) (view_in S.members asked.now view.now)) }
+    ensures open { IfOk result (λ is. is ≡ false → IsOpenIn S.members asked.now view.now) }
 {
     let own = asked.outline.host;
     for other in 0..view.hosts {

@@ -6,14 +6,13 @@ ghost use Rattle.pr_script.specs.Trees.{script_of};
 ghost use Rattle.pr_roles.specs.Starts.{CanStart};
 ghost use Rattle.pr_views.specs.Rooms.{view_of};
 ghost use Rattle.pr_verify.specs.Places.{places_of};
-ghost use Rattle.pr_verify.specs.Outlines.{IsAsked};
 ghost use Rattle.pr_verify.specs.Refusals.{class_number};
 ghost use Rattle.pr_verify.specs.Rooms.{outline_of};
-ghost use Rattle.pr_verify.specs.inside.Asked.{AreMade, IsAnswered, outline_in, scenario_in};
+ghost use Rattle.pr_verify.specs.inside.Asked.{AreMade, IsAnswered, IsFirstMisfitIn, IsFirstUnsound, IsMisfitIn, scenario_in};
 ghost use Rattle.pr_verify.specs.inside.Listing.{place_of};
 ghost use Rattle.pr_verify.specs.inside.Least.{IsLeastAmong};
-ghost use Rattle.pr_verify.specs.inside.Lacking.{CanCompare, IsFirstLacking, lines_after, HasNext, LacksNext};
-ghost use Rattle.pr_verify.specs.inside.Reviewing.{IsMisfit, IsFirstMisfit, IsFirstUnarmed, earlier, earlier_from};
+ghost use Rattle.pr_verify.specs.inside.Lacking.{CanCompare, lines_after, HasNext, LacksNext};
+ghost use Rattle.pr_verify.specs.inside.Reviewing.{IsFirstUnarmed, earlier, earlier_from};
 
 use crate::answers::Questions;
 use crate::lacking::{first_lacking, lacking_at_start, least};
@@ -38,9 +37,7 @@ pub(crate) fn first_unsound<S: ViewSet>(
     requires starts { CanStart (scenario_in asked.now) }
     requires made { AreMade S.room asked.now }
     requires places { map place_of asked.now.spots.now ≡ places_of (script_of script.now) }
-    ensures { IfOk result (IsFirstLacking (outline_in S.members asked.now)
-        (IsAsked (scenario_in asked.now) (script_of script.now)
-        (outline_in S.members asked.now))) }
+    ensures { IfOk result (IsFirstUnsound S.members asked.now (script_of script.now)) }
 {
     let firsts = first_lines(alloc, script)?;
     let start = lacking_at_start(alloc, asked, &firsts)?;
@@ -61,8 +58,7 @@ pub(crate) fn first_misfit<S: ViewSet>(
     asked: &Questions<ViewOf<S>>,
 ) -> Result<Option<Refusal>, AllocError>
     requires { AreMade S.room asked.now }
-    ensures { IfOk result (IsFirstMisfit (scenario_in asked.now) (outline_in S.members asked.now)
-        (length asked.now.spots.now) asked.now.spots.now) }
+    ensures { IfOk result (IsFirstMisfitIn S.members asked.now) }
 {
     let mut known = Vec::new(alloc);
     for (i, spot) in asked.spots.iter().enumerate() {
@@ -118,8 +114,7 @@ fn misfit<S: ViewSet>(
     outcomes: &[(Landing, ViewOf<S>)],
 ) -> Option<Refusal>
     requires { IsAnswered S.members S.room asked.now view.now spot.now outcomes.now }
-    ensures { IsMisfit (scenario_in asked.now) (outline_in S.members asked.now)
-        (place_of spot.now) result }
+    ensures { IsMisfitIn S.members asked.now spot.now result }
 {
     let host = asked.outline.host;
     let line = spot.line;

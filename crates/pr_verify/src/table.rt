@@ -5,14 +5,12 @@ ghost use Rattle.std.specs.List.{All, AllPairs, AllZip, Contains};
 ghost use Rattle.pr_domain.specs.declared.landing.Class.{Class};
 ghost use Rattle.pr_domain.specs.declared.landing.Landing.TheVariants.{Arm};
 ghost use Rattle.pr_roles.specs.Scenarios.{scenario_of, task};
-ghost use Rattle.pr_verify.specs.Outlines.{OnScripted};
 ghost use Rattle.pr_verify.specs.Refusals.{class_number};
-ghost use Rattle.pr_verify.specs.Rooms.{IsMadeFor, IsScripted, row_of, table_of};
-ghost use Rattle.pr_verify.specs.Tables.{AreTables, IsRow, IsTable};
-ghost use Rattle.pr_verify.specs.inside.Asked.{AreMade, IsAnswered, outline_in, scenario_in};
-ghost use Rattle.pr_verify.specs.inside.Listing.{place_of};
+ghost use Rattle.pr_verify.specs.Rooms.{IsMadeFor, IsScripted, table_of};
+ghost use Rattle.pr_verify.specs.Tables.{AreTables};
+ghost use Rattle.pr_verify.specs.inside.Asked.{AreMade, IsAnswered, IsRowIn};
 ghost use Rattle.pr_verify.specs.inside.Reviewing.{IsUnarmed};
-ghost use Rattle.pr_verify.specs.inside.Tabling.{IsInRange};
+ghost use Rattle.pr_verify.specs.inside.Tabling.{IsInRange, IsTableFor};
 
 use crate::answers::Questions;
 use crate::inferring::{has_script, infer, script_in};
@@ -73,9 +71,8 @@ pub fn tables(alloc: Global, scenario: &Scenario) -> Result<Vec<Table>, AllocErr
 fn table_of_host(alloc: Global, scenario: &Scenario, host: u8) -> Result<Table, AllocError>
     requires { IsScripted (task (scenario_of scenario.now) host) }
     ensures host { IfOk result (λ t. t.outline.host ≡ host) }
-    ensures table { IfOk result (λ t. OnScripted (task (scenario_of scenario.now) host)
-        (λ script budget. IsTable (scenario_of scenario.now) script
-        (table_of ⟦<WordSet as ViewSet>⟧.members t))) }
+    ensures table { IfOk result (IsTableFor ⟦<WordSet as ViewSet>⟧.members
+        (scenario_of scenario.now) host) }
     ensures made { IfOk result (λ t. IsMadeFor ⟦<WordSet as ViewSet>⟧.room
         (scenario_of scenario.now) t.outline) }
     ensures rows { IfOk result (λ t. length t.rows.items ≡ length t.outline.views.items) }
@@ -95,9 +92,8 @@ fn table_of_host(alloc: Global, scenario: &Scenario, host: u8) -> Result<Table, 
 // A row for each send.
 fn rows<S: ViewSet>(alloc: Global, asked: &Questions<ViewOf<S>>) -> Result<Vec<Row>, AllocError>
     requires { AreMade S.room asked.now }
-    ensures { IfOk result (λ rows. AllZip
-        (λ p r. IsRow (scenario_in asked.now) (outline_in S.members asked.now) (place_of p)
-        (row_of r)) asked.now.spots.now rows.items) }
+    ensures { IfOk result (λ rows. AllZip (IsRowIn S.members asked.now) asked.now.spots.now
+        rows.items) }
 {
     let mut known = Vec::new(alloc);
     let mut rows = Vec::new(alloc);
@@ -119,8 +115,7 @@ fn row_of_spot<S: ViewSet>(
     outcomes: &[(Landing, ViewOf<S>)],
 ) -> Result<Row, AllocError>
     requires { IsAnswered S.members S.room asked.now view.now spot.now outcomes.now }
-    ensures { IfOk result (λ row. IsRow (scenario_in asked.now) (outline_in S.members asked.now)
-        (place_of spot.now) (row_of row)) }
+    ensures { IfOk result (IsRowIn S.members asked.now spot.now) }
 {
     let host = asked.outline.host;
     let role = &nexus_in(asked.scenario, host).role;

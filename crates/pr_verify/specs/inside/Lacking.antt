@@ -44,6 +44,10 @@ pub record CanCompare {S : Type 0} (room : S → ℕ) (views : List (ℕ × View
   pub made : IsMade room v
   pub alike : All (λ e. IsMade room e.1 × AreAlike v e.1) views
 
+-- the first of them at which there is no such view
+abbrev pub IsFirstWithout : Outline → List ℕ → View → Option ℕ → Type 0
+IsFirstWithout o lines w = IsLeast (HasView o lines w) (LacksView o lines w)
+
 -- the lines at which the script may be ready after a landing
 abbrev pub lines_after : List (List ℕ) → Landing → Option (List ℕ)
 lines_after next (Arm n) = slice_get next n
