@@ -5,7 +5,6 @@ use Rattle.std.proofs.lemmas.Option.{same_Some, slice_get_within, slice_get_read
 use Rattle.pr_cdb.specs.declared.command.Command.{Command}
 use Rattle.pr_script.specs.declared.script.Test.{Test}
 use Rattle.pr_roles.specs.declared.how.Refusals.{Refusals}
-use Rattle.pr_roles.specs.Scenarios.{scenario_of}
 use Rattle.pr_sets.specs.Numbers.{Numbers}
 use Rattle.pr_views.specs.declared.view.ViewOf.{ViewOf}
 use Rattle.pr_views.specs.Rooms.{view_of, scope_of, IsMade, AreAlike}
@@ -15,14 +14,13 @@ use Rattle.pr_domain.proofs.Coming.{same_outcomes}
 use Rattle.pr_verify.specs.declared.answers.Questions.{Questions}
 use Rattle.pr_verify.specs.declared.known.Answer.{Answer}
 use Rattle.pr_verify.specs.declared.places.Spot.{Spot}
-use Rattle.pr_verify.specs.Rooms.{IsMadeFor}
-use Rattle.pr_verify.specs.inside.Asked.{refusals_for, AreAsked, IsAnswerTo, AreAnswersTo, IsAskedBefore, IsAnsweredAt}
-use Rattle.pr_verify.specs.inside.Inferring.{IsOf, AreWritten}
+use Rattle.pr_verify.specs.inside.Asked.{scenario_in, refusals_for, AreMade, IsSameQuestion, IsAnswered, IsAnswerTo, AreAnswersTo, IsAskedBefore, IsAnsweredAt}
+use Rattle.pr_verify.specs.inside.Inferring.{IsOf}
 use Rattle.pr_verify.specs.inside.Known.{ComesTo, AskTheSame, IsAnswer, IsAnswerAt, AreEqual}
 use Rattle.pr_verify.specs.inside.Listing.{place_of, IsPlaceWritten}
 use Rattle.pr_verify.proofs.Mapped.{element}
 use Rattle.pr_verify.proofs.Recalled.{found, read_is, answer_is, answered_at}
-use Rattle.pr_verify.proofs.Rising.{as_many}
+use Rattle.pr_verify.proofs.Rising.{as_many, view_at_same}
 use Rattle.pr_verify.proofs.Sketches.{item_is}
 
 -- ---- views
@@ -39,34 +37,47 @@ comes_to_equal {S} members own d v w p q outcomes keys hosts equal same is =
 
 -- ---- questions
 
--- those of a script, and of an outline of the scenario
-pub asked_in : {S : Type 0} (room : S → ℕ) (q : Questions (ViewOf S)) → q.outline.now.host < length (scenario_of q.scenario.now).nexuses → IsMadeFor room (scenario_of q.scenario.now) q.outline.now → AreWritten (scenario_of q.scenario.now).keys q.spots.now
-    → map (λ e. e.0) q.outline.now.views.items ≡ map (λ p. p.line) q.spots.now → AreAsked room q
-asked_in room q host made written listed = record {
-  keys = (scenario_of q.scenario.now).keys;
-  hosts = length (scenario_of q.scenario.now).nexuses;
-  kind = made;
-  host = host;
-  declared = host;
-  written = written;
-  each = as_many (λ (p : Spot). p.line) q.outline.now.views.items q.spots.now listed;
+-- the host is one of those of which a view speaks that can be one of the scenario
+pub own_there : {S : Type 0} (q : Questions (ViewOf S)) (v : ViewOf S) → v.hosts ≡ length (scenario_in q).nexuses → q.outline.now.host < v.hosts
+own_there q v same = subst (λ n. q.outline.now.host < n) (sym same) q.declared
+
+-- there is a view for each send
+each : {S : Type 0} (q : Questions (ViewOf S)) → length q.outline.now.views.items ≡ length q.spots.now
+each q = as_many (λ (p : Spot). p.line) q.outline.now.views.items q.spots.now q.listed
+
+pub has_view : {S : Type 0} (q : Questions (ViewOf S)) (place : ℕ) → place < length q.spots.now → place < length q.outline.now.views.items
+has_view q place small = subst (λ n. place < n) (sym (each q)) small
+
+-- the same is asked at two places, by what is read there
+pub same_question : {S : Type 0} (members : S → Numbers) (q : Questions (ViewOf S)) (place other : ℕ) → place < length q.spots.now → other < length q.spots.now
+    → (p r : Spot) → p ≡ get_or q.spots.now place p → r ≡ get_or q.spots.now other r → AskTheSame p r
+    → (d e : ℕ × ViewOf S) → d ≡ get_or q.outline.now.views.items place d → e ≡ get_or q.outline.now.views.items other e → AreEqual members d.1 e.1 → IsSameQuestion members q place other
+same_question {S} members q place other one two p r here there same d e shown also equal = record {
+  sends = λ x y is too.
+      subst (λ (z : Spot). AskTheSame z y) (at q.spots.now place p x one here is) (subst (AskTheSame p) (at q.spots.now other r y two there too) same);
+  views = λ x y is too.
+      subst (λ (z : ℕ × ViewOf S). AreEqual members z.1 y.1) (at q.outline.now.views.items place d x (has_view q place one) shown is)
+      (subst (λ (z : ℕ × ViewOf S). AreEqual members d.1 z.1) (at q.outline.now.views.items other e y (has_view q other two) also too) equal);
 }
+  where
+    at : {X : Type 0} (xs : List X) (k : ℕ) (x y : X) → k < length xs → x ≡ get_or xs k x → slice_get xs k ≡ Some y → x ≡ y
+    at xs k x y small read is = same_Some x y (sym (slice_get_read xs (length xs) k x refl small read) ∙ is)
 
-module _ {S : Type 0} (members : S → Numbers) (room : S → ℕ) (q : Questions (ViewOf S)) (asked : AreAsked room q) (place : ℕ) (small : place < length q.spots.now) where
-  pub has_view : place < length q.outline.now.views.items
-  has_view = subst (λ n. place < n) (sym asked.each) small
+module _ {S : Type 0} (members : S → Numbers) (room : S → ℕ) (q : Questions (ViewOf S)) (asked : AreMade room q) (place : ℕ) (small : place < length q.spots.now) where
+  viewed : place < length q.outline.now.views.items
+  viewed = has_view q place small
 
-  pub kind_at : (e : ℕ × ViewOf S) → e ≡ get_or q.outline.now.views.items place e → IsOf room asked.keys asked.hosts e.1
-  kind_at e read = item_is (λ (x : ℕ × ViewOf S). IsOf room asked.keys asked.hosts x.1) q.outline.now.views.items place e asked.kind has_view read
+  pub kind_at : (e : ℕ × ViewOf S) → e ≡ get_or q.outline.now.views.items place e → IsOf room (scenario_in q).keys (length (scenario_in q).nexuses) e.1
+  kind_at e read = item_is (λ (x : ℕ × ViewOf S). IsOf room (scenario_in q).keys (length (scenario_in q).nexuses) x.1) q.outline.now.views.items place e asked viewed read
 
   -- in the words of the view there
   pub host_at : (e : ℕ × ViewOf S) → e ≡ get_or q.outline.now.views.items place e → q.outline.now.host < e.1.hosts
-  host_at e read = subst (λ n. q.outline.now.host < n) (sym (kind_at e read).2) asked.host
+  host_at e read = own_there q e.1 (kind_at e read).2
 
   pub written_at : (p : Spot) (e : ℕ × ViewOf S) → p ≡ get_or q.spots.now place p → e ≡ get_or q.outline.now.views.items place e → IsPlaceWritten e.1.keys.items (place_of p)
   written_at p e read also =
       subst (λ keys. IsPlaceWritten keys (place_of p)) (sym (kind_at e also).1)
-      (item_is (λ r. IsPlaceWritten asked.keys (place_of r)) q.spots.now place p asked.written small read)
+      (item_is (λ r. IsPlaceWritten (scenario_in q).keys (place_of r)) q.spots.now place p q.written small read)
 
   -- an answer that was found
   pub recalled : (known : List (Answer (ViewOf S))) (k : ℕ) → AreAnswersTo members room q known → IsAskedBefore members q place known k → IsAnsweredAt members room q place known k
@@ -75,12 +86,12 @@ module _ {S : Type 0} (members : S → Numbers) (room : S → ℕ) (q : Question
       let to = found (IsAnswerTo members room q) known k a all before.there in
       let views = q.outline.now.views.items in
       let d = get_or views a.spot e in
-      let there : slice_get views a.spot ≡ Some d = slice_get-get_or views a.spot e (subst (λ n. a.spot < n) (sym asked.each) to.there) in
+      let there : slice_get views a.spot ≡ Some d = slice_get-get_or views a.spot e (subst (λ n. a.spot < n) (sym (each q)) to.there) in
       let is = to.answer d there in
       let r = get_or q.spots.now a.spot p in
       let sent : slice_get q.spots.now a.spot ≡ Some r = slice_get-get_or q.spots.now a.spot p to.there in
-      let one : IsOf room asked.keys asked.hosts d.1 = found (λ (x : ℕ × ViewOf S). IsOf room asked.keys asked.hosts x.1) views a.spot d asked.kind there in
-      let two : IsOf room asked.keys asked.hosts e.1 = found (λ (x : ℕ × ViewOf S). IsOf room asked.keys asked.hosts x.1) views place e asked.kind shown in
+      let one : IsOf room (scenario_in q).keys (length (scenario_in q).nexuses) d.1 = found (λ (x : ℕ × ViewOf S). IsOf room (scenario_in q).keys (length (scenario_in q).nexuses) x.1) views a.spot d asked there in
+      let two : IsOf room (scenario_in q).keys (length (scenario_in q).nexuses) e.1 = found (λ (x : ℕ × ViewOf S). IsOf room (scenario_in q).keys (length (scenario_in q).nexuses) x.1) views place e asked shown in
       let keys : d.1.keys.items ≡ e.1.keys.items = one.1 ∙ sym two.1 in
       let hosts : d.1.hosts ≡ e.1.hosts = one.2 ∙ sym two.2 in
       record {
@@ -95,12 +106,12 @@ module _ {S : Type 0} (members : S → Numbers) (room : S → ℕ) (q : Question
     answer_for : (p : Spot) (e : ℕ × ViewOf S) → p ≡ get_or q.spots.now place p → e ≡ get_or q.outline.now.views.items place e → IsAnswerAt members room q.outline.now.host (refusals_for q) p e.1 known k
     answer_for p e sent shown =
         at p e (slice_get_read q.spots.now (length q.spots.now) place p refl small sent)
-        (slice_get_read q.outline.now.views.items (length q.outline.now.views.items) place e refl has_view shown)
+        (slice_get_read q.outline.now.views.items (length q.outline.now.views.items) place e refl viewed shown)
 
     pub answer_within : k < length known
     answer_within =
         let p = element q.spots.now place small in
-        let e = element q.outline.now.views.items place has_view in
+        let e = element q.outline.now.views.items place viewed in
         let is = answer_for p.0 e.0 (sym p.1) (sym e.1) in slice_get_within known k is.answer is.there
 
     -- the outcomes that are read there
@@ -116,15 +127,24 @@ module _ {S : Type 0} (members : S → Numbers) (room : S → ℕ) (q : Question
           subst (All (λ (o : Landing × ViewOf S). IsMade room o.1 × AreAlike e.1 o.1)) (sym the_outcomes)
           (λ i x within. let of = (answer_for p e sent shown).kind i x within in (of.0, record { keys = sym of.1; hosts = sym of.2 }))
 
-      pub outcomes_read : ComesTo members q.outline.now.host (refusals_for q) e.1 p xs
+      outcomes_read : ComesTo members q.outline.now.host (refusals_for q) e.1 p xs
       outcomes_read = subst (ComesTo members q.outline.now.host (refusals_for q) e.1 p) (sym the_outcomes) (answer_for p e sent shown).outcomes
+
+      -- so the send is answered
+      pub answered_here : IsAnswered members room q e.1 p xs
+      answered_here = record {
+        written = item_is (λ r. IsPlaceWritten (scenario_in q).keys (place_of r)) q.spots.now place p q.written small sent;
+        view = let is = kind_at e shown in record { made = is.0; keys = is.1; hosts = is.2 };
+        here = view_at_same (λ (r : Spot). r.line) q.outline.now.views.items q.spots.now q.listed (view_of members q.outline.now.host) 0 place e p q.rise small shown sent;
+        outcomes = outcomes_read;
+      }
 
   -- a new answer
   module _ (p : Spot) (e : ℕ × ViewOf S) (sent : p ≡ get_or q.spots.now place p) (shown : e ≡ get_or q.outline.now.views.items place e) (a : Answer (ViewOf S)) (asks : a.spot ≡ place)
       (made : All (λ o. IsMade room o.1 × AreAlike e.1 o.1) a.outcomes.items) (tests : List Test) (same : tests ≡ p.tests.items)
       (d : Refusals) (may : d ≡ refusals_for q) (outcomes : AreOutcomes (view_of members q.outline.now.host e.1) d p.command tests (map (λ o. (o.0, view_of members q.outline.now.host o.1)) a.outcomes.items)) where
     the_entry : (x : ℕ × ViewOf S) → slice_get q.outline.now.views.items place ≡ Some x → e ≡ x
-    the_entry x is = same_Some e x (sym (slice_get_read q.outline.now.views.items (length q.outline.now.views.items) place e refl has_view shown) ∙ is)
+    the_entry x is = same_Some e x (sym (slice_get_read q.outline.now.views.items (length q.outline.now.views.items) place e refl viewed shown) ∙ is)
 
     pub answer_to : IsAnswerTo members room q a
     answer_to = record {

@@ -16,7 +16,7 @@ use Rattle.pr_verify.specs.Places.{first_lines}
 use Rattle.pr_verify.specs.Outlines.{Outline, view_at, scope_in, StartsAt}
 use Rattle.pr_verify.specs.Rooms.{outline_of, IsMadeFor}
 use Rattle.pr_verify.specs.inside.Least.{IsLeast}
-use Rattle.pr_verify.specs.inside.Lacking.{HasAll, Lacks, IsFirstLacking, HasView, LacksView}
+use Rattle.pr_verify.specs.inside.Lacking.{CanCompare, HasAll, Lacks, IsFirstLacking, HasView, LacksView}
 use Rattle.pr_verify.specs.inside.Reviewing.{IsMadeAs}
 use Rattle.pr_verify.proofs.Leasts.{least_as}
 use Rattle.pr_verify.proofs.Missing.{IsExact, lacks_from_missing, shown_by_within}
@@ -72,18 +72,19 @@ module _ {S : Type 0} (members : S → Numbers) (room : S → ℕ) where
       let is = All-contains (λ e. IsMade room e.1 × (e.1.keys.items ≡ s.keys) × (e.1.hosts ≡ length s.nexuses)) o.views.items x made there in
       scope_same s o.host x.1 is.1 is.2
 
-  -- those before it are alike
-  pub alike_before : (s : Scenario) (o : OutlineBy (ViewOf S)) (xs : List (ℕ × ViewOf S)) (i : ℕ) (v : ViewOf S) → xs ≡ o.views.items → IsMadeFor room s o → IsMadeAs room s v
-      → All (λ e. IsMade room e.1 × AreAlike v e.1) (take i xs)
-  alike_before s o xs i v same made is =
-      All-take (λ e. IsMade room e.1 × AreAlike v e.1) i xs (subst (All (λ e. IsMade room e.1 × AreAlike v e.1)) (sym same) (alike s o v made is.keys is.hosts))
+  -- it can be compared with those before it
+  pub compared_before : (s : Scenario) (o : OutlineBy (ViewOf S)) (xs : List (ℕ × ViewOf S)) (i : ℕ) (v : ViewOf S) → xs ≡ o.views.items → IsMadeFor room s o → IsMadeAs room s v → CanCompare room (take i xs) v
+  compared_before s o xs i v same made is = record {
+    made = is.made;
+    alike = All-take (λ e. IsMade room e.1 × AreAlike v e.1) i xs (subst (All (λ e. IsMade room e.1 × AreAlike v e.1)) (sym same) (alike s o v made is.keys is.hosts));
+  }
 
-  -- views that are alike to one of the scenario are alike to each
-  pub each_alike : {X : Type 0} (s : Scenario) (o : OutlineBy (ViewOf S)) (v : ViewOf S) (xs : List (X × ViewOf S)) → IsMadeFor room s o → IsMadeAs room s v → All (λ x. IsMade room x.1 × AreAlike v x.1) xs
-      → All (λ x. All (λ e. IsMade room e.1 × AreAlike x.1 e.1) o.views.items) xs
-  each_alike s o v xs made is =
-      All-weaker (λ x. IsMade room x.1 × AreAlike v x.1) (λ x. All (λ e. IsMade room e.1 × AreAlike x.1 e.1) o.views.items)
-      (λ x same. alike s o x.1 made (sym same.1.keys ∙ is.keys) (sym same.1.hosts ∙ is.hosts)) xs
+  -- views that are alike to one of the scenario can be compared with each
+  pub each_compared : {X : Type 0} (s : Scenario) (o : OutlineBy (ViewOf S)) (v : ViewOf S) (xs : List (X × ViewOf S)) → IsMadeFor room s o → IsMadeAs room s v → All (λ x. IsMade room x.1 × AreAlike v x.1) xs
+      → All (λ x. CanCompare room o.views.items x.1) xs
+  each_compared s o v xs made is =
+      All-weaker (λ x. IsMade room x.1 × AreAlike v x.1) (λ x. CanCompare room o.views.items x.1)
+      (λ x same. record { made = same.0; alike = alike s o x.1 made (sym same.1.keys ∙ is.keys) (sym same.1.hosts ∙ is.hosts) }) xs
 
   -- whose views they are does not matter
   pub any_own : (v w : ViewOf S) (own : ℕ) → Within (view_of members own v) (view_of members own w) → (other : ℕ) → Within (view_of members other v) (view_of members other w)

@@ -119,14 +119,22 @@ OnScripted None P = Unit {0}
 OnScripted (Some (Scripted script budget)) P = P script budget
 OnScripted (Some (Planned commands)) P = Unit {0}
 
+-- so it has, if it has a script
+abbrev pub IsCarried : Scenario → ℕ → Type 0
+IsCarried s h = OnScripted (task s h) (HasOutline s h)
+
 -- so has each scripted host
 abbrev pub HaveOutlines : Scenario → Type 0
-HaveOutlines s = (h : ℕ) → h < length s.nexuses → OnScripted (task s h) (HasOutline s h)
+HaveOutlines s = (h : ℕ) → h < length s.nexuses → IsCarried s h
 
 -- the fields of what a script sends are in the ranges of their types, as those of each command that is a value are
 abbrev pub SendsFit : Stmts → Type 0
 SendsFit script = (p : Place) → Contains (places_of script) p → Fits p.command
 
--- so of each script
+-- so of a host's script, if it has one
+abbrev pub HostSendsFit : Scenario → ℕ → Type 0
+HostSendsFit s h = OnScripted (task s h) (λ script budget. SendsFit script)
+
+-- so of each
 abbrev pub AllSendsFit : Scenario → Type 0
-AllSendsFit s = (h : ℕ) → h < length s.nexuses → OnScripted (task s h) (λ script budget. SendsFit script)
+AllSendsFit s = (h : ℕ) → h < length s.nexuses → HostSendsFit s h

@@ -6,11 +6,14 @@ use Rattle.pr_sets.specs.Numbers.{Numbers}
 use Rattle.pr_sets.specs.declared.word_set.WordSet.{WordSet}
 use Rattle.pr_views.specs.declared.view.ViewOf.{ViewOf}
 use Rattle.pr_views.specs.Rooms.{view_of, IsMade}
-use Rattle.pr_roles.specs.Scenarios.{Scenario, Task, Scripted, Planned}
+use Rattle.pr_roles.specs.Scenarios.{Scenario, Task, Scripted, Planned, task}
 use Rattle.pr_verify.specs.declared.outline.OutlineBy.{OutlineBy}
+use Rattle.pr_verify.specs.declared.refusal.Refusal.{Refusal}
 use Rattle.pr_verify.specs.declared.table.Row.{Row as KeptRow}
 use Rattle.pr_verify.specs.declared.table.Table.{Table as KeptTable}
-use Rattle.pr_verify.specs.Outlines.{Outline}
+use Rattle.pr_verify.specs.Outlines.{Outline, OnScripted, IsListed, IsSound, IsFitting}
+use Rattle.pr_verify.specs.LeastOutlines.{IsLeastSound}
+use Rattle.pr_verify.specs.Refusals.{IsRefusal}
 use Rattle.pr_verify.specs.Tables.{Row, Table}
 
 -- the outline, by what the members of each set are
@@ -33,3 +36,22 @@ row_of r = record { command = r.command; tests = r.tests.items; permitted = r.pe
 
 abbrev pub table_of : (WordSet → Numbers) → KeptTable → Table
 table_of members t = record { outline = outline_of members t.outline; rows = map row_of t.rows.items }
+
+-- ---- what holds of them, by the script of a host, if it has one
+
+-- there is one view for each of its sends, and the outline is the least sound one
+abbrev pub IsListedFor : {S : Type 0} → (S → Numbers) → Scenario → ℕ → OutlineBy (ViewOf S) → Type 0
+IsListedFor members s h o = OnScripted (task s h) (λ script budget. IsListed script (outline_of members o))
+
+abbrev pub IsLeastFor : {S : Type 0} → (S → Numbers) → Scenario → ℕ → OutlineBy (ViewOf S) → Type 0
+IsLeastFor members s h o = OnScripted (task s h) (λ script budget. IsLeastSound s script (outline_of members o))
+
+-- an outline of its own host is sound, it fits, and this is the first reason against it
+abbrev pub IsSoundFor : {S : Type 0} → (S → Numbers) → Scenario → OutlineBy (ViewOf S) → Type 0
+IsSoundFor members s o = OnScripted (task s o.host) (λ script budget. IsSound s script (outline_of members o))
+
+abbrev pub IsFittingFor : {S : Type 0} → (S → Numbers) → Scenario → OutlineBy (ViewOf S) → Type 0
+IsFittingFor members s o = OnScripted (task s o.host) (λ script budget. IsFitting s script budget (outline_of members o))
+
+abbrev pub IsRefusalFor : {S : Type 0} → (S → Numbers) → Scenario → OutlineBy (ViewOf S) → Refusal → Type 0
+IsRefusalFor members s o refusal = OnScripted (task s o.host) (λ script budget. IsRefusal s script budget (outline_of members o) refusal)

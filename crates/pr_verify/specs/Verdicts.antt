@@ -1,12 +1,12 @@
 -- Agrees with docs/VERDICTS.md, 'What a refusal promises'.
 -- Why a scenario is refused: the first reason that the least sound outlines show.
-use Rattle.std.specs.Prelude.{◌≡◌, ℕ, ◌<◌, min, Some}
+use Rattle.std.specs.Prelude.{◌≡◌, ◌≢◌, ℕ, ◌<◌, min, Some}
 use Rattle.pr_script.specs.Scripts.{Stmts}
 use Rattle.pr_script.specs.Costs.{cost_of_all}
 use Rattle.pr_roles.specs.Scenarios.{Scenario, Scripted, task}
 use Rattle.pr_verify.specs.declared.refusal.Refusal.{Refusal}
 use Rattle.pr_verify.specs.declared.refusal.Refusal.TheVariants.{NoArm, OutOfRole, OverBudget, Memory, NotSound}
-use Rattle.pr_verify.specs.Outlines.{Outline, OnScripted, HasOutline}
+use Rattle.pr_verify.specs.Outlines.{Outline, IsCarried, HaveOutlines}
 use Rattle.pr_verify.specs.LeastOutlines.{IsLeastSound}
 use Rattle.pr_verify.specs.Refusals.{IsRefusal, past_budgets}
 
@@ -37,7 +37,11 @@ pub record HasReason (s : Scenario) (h : ℕ) (refusal : Refusal) : Type 0 where
 pub record IsFirstReason (s : Scenario) (refusal : Refusal) : Type 0 where
   pub host : ℕ
   pub reason : HasReason s host refusal
-  pub before : (h : ℕ) → h < host → OnScripted (task s h) (HasOutline s h)
+  pub before : (h : ℕ) → h < host → IsCarried s h
+
+-- no sound outlines of the scripted hosts fit, unless memory was refused
+abbrev pub IsFinal : Scenario → Refusal → Type 0
+IsFinal s refusal = refusal ≢ Memory → ¬ HaveOutlines s
 
 -- what a refusal says: the first reason, unless memory was refused
 abbrev pub IsVerdict : Scenario → Refusal → Type 0

@@ -1,8 +1,9 @@
 //! What the sends of a script come to in the views of an outline, where equal questions are asked once.
 
-ghost use Rattle.std.specs.Prelude.{◌≡◌, ◌<◌, length, IsTrue, IfOk, IfSome, OnOk};
-ghost use Rattle.std.specs.List.{All};
-ghost use Rattle.pr_verify.specs.inside.Asked.{AreAsked, IsSameQuestion, AreAnswersTo, IsAskedBefore, IsAnsweredAt};
+ghost use Rattle.std.specs.Prelude.{◌≡◌, ◌<◌, true, length, map};
+ghost use Rattle.pr_script.specs.Grammar.{rise_above};
+ghost use Rattle.pr_roles.specs.Scenarios.{scenario_of};
+ghost use Rattle.pr_verify.specs.inside.Listing.{AreWritten};
 
 use crate::known::{Answer, ask_the_same};
 use crate::nexus::refusals_in;
@@ -14,19 +15,27 @@ use pr_sets::ViewSet;
 use pr_views::ViewOf;
 use std::alloc::{AllocError, Global};
 
-/// The sends of a script, and the outline that has a view for each.
+/// The sends of a host's script, which can stand in a text with the scenario's keys, and an outline that has a view for each.
 #[derive(Drop)]
 pub(crate) struct Questions<'a, V> {
     pub(crate) scenario: &'a Scenario,
     pub(crate) outline: &'a OutlineBy<V>,
     pub(crate) spots: &'a [Spot],
+    ghost declared: { outline.now.host < length (scenario_of scenario.now).nexuses },
+    ghost written: { AreWritten (scenario_of scenario.now).keys spots.now },
+    ghost listed: { map (λ e. e.0) outline.now.views.items ≡ map (λ p. p.line) spots.now },
+    ghost rise: { rise_above 0 (map (λ e. e.0) outline.now.views.items) ≡ true },
 }
 
 impl<S: ViewSet> Questions<'_, ViewOf<S>> {
+    ghost use Rattle.std.specs.Prelude.{IsTrue, IfOk, IfSome, OnOk};
+    ghost use Rattle.std.specs.List.{All};
+    ghost use Rattle.pr_verify.specs.inside.Asked.{AreMade, IsSameQuestion, AreAnswersTo, IsAskedBefore, IsAnsweredAt};
+
     // Whether the two places ask the same in views with the same possibilities. Few sends are of one command, so commands
     // are compared first.
     fn are_same(&self, place: usize, other: usize) -> bool
-        requires asked { AreAsked S.room self.now }
+        requires made { AreMade S.room self.now }
         requires place { place < length self.now.spots.now }
         requires other { other < length self.now.spots.now }
         ensures { IsTrue result → IsSameQuestion S.members self.now place other }
@@ -41,7 +50,7 @@ impl<S: ViewSet> Questions<'_, ViewOf<S>> {
 
     // Where an equal question was answered.
     fn place_of(&self, known: &[Answer<ViewOf<S>>], place: usize) -> Option<usize>
-        requires asked { AreAsked S.room self.now }
+        requires made { AreMade S.room self.now }
         requires there { place < length self.now.spots.now }
         requires known { All (λ a. a.spot < length self.now.spots.now) known.now }
         ensures { IfSome result (IsAskedBefore S.members self.now place known.now) }
@@ -61,7 +70,7 @@ impl<S: ViewSet> Questions<'_, ViewOf<S>> {
         known: &mut Vec<Answer<ViewOf<S>>>,
         place: usize,
     ) -> Result<usize, AllocError>
-        requires asked { AreAsked S.room self.now }
+        requires made { AreMade S.room self.now }
         requires there { place < length self.now.spots.now }
         requires known { AreAnswersTo S.members S.room self.now known.old.items }
         ensures known { OnOk result (AreAnswersTo S.members S.room self.now known.new.items) }

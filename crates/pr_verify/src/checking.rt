@@ -3,20 +3,18 @@
 //! No command of the program calls `check_outline`: it is for outlines that were not inferred here. `verify` infers its own, of which
 //! it is proved that they are sound.
 
-ghost use Rattle.std.specs.Prelude.{◌≡◌, ℕ, ◌<◌, ◌≤◌, true, min, length, map, OnOk, IfErr};
-ghost use Rattle.std.specs.List.{Contains};
-ghost use Rattle.pr_cdb.specs.Ranges.{Fits};
+ghost use Rattle.std.specs.Prelude.{◌≡◌, ℕ, ◌<◌, ◌≤◌, min, map, OnOk, IfErr};
 ghost use Rattle.pr_script.specs.declared.limits.TheConstants.{MOST_BUDGET};
 ghost use Rattle.pr_script.specs.Costs.{cost_of_all};
-ghost use Rattle.pr_script.specs.Grammar.{script_fits};
 ghost use Rattle.pr_script.specs.Trees.{script_of};
 ghost use Rattle.pr_roles.specs.Scenarios.{scenario_of, task};
 ghost use Rattle.pr_roles.specs.Starts.{CanStart};
-ghost use Rattle.pr_verify.specs.Places.{Place, places_of};
-ghost use Rattle.pr_verify.specs.Outlines.{OnScripted, IsSound, IsFitting};
+ghost use Rattle.pr_verify.specs.Outlines.{IsSound, IsFitting, SendsFit};
 ghost use Rattle.pr_verify.specs.Refusals.{IsRefusal, past_budgets, first_difference};
-ghost use Rattle.pr_verify.specs.Rooms.{outline_of, IsMadeFor, IsScripted};
+ghost use Rattle.pr_verify.specs.Rooms.{outline_of, IsFittingFor, IsMadeFor, IsRefusalFor, IsScripted, IsSoundFor};
+ghost use Rattle.pr_verify.specs.inside.Reviewing.{CanCheck};
 
+use crate::answers::Questions;
 use crate::nexus::nexus_in;
 use crate::outline::OutlineOf;
 use crate::places::{Spot, spots};
@@ -37,16 +35,10 @@ pub fn check_outline<S: ViewSet>(
 ) -> Result<(), Refusal>
     requires scripted { IsScripted (task (scenario_of scenario.now) outline.now.host) }
     requires made { IsMadeFor S.room (scenario_of scenario.now) outline.now }
-    ensures sound { OnOk result (OnScripted (task (scenario_of scenario.now) outline.now.host)
-        (λ script budget. IsSound (scenario_of scenario.now) script
-        (outline_of S.members outline.now))) }
-    ensures fitting { OnOk result (OnScripted (task (scenario_of scenario.now) outline.now.host)
-        (λ script budget. IsFitting (scenario_of scenario.now) script budget
-        (outline_of S.members outline.now))) }
-    ensures refusal { IfErr result (λ refusal. OnScripted
-        (task (scenario_of scenario.now) outline.now.host)
-        (λ script budget. IsRefusal (scenario_of scenario.now) script budget
-        (outline_of S.members outline.now) refusal)) }
+    ensures sound { OnOk result (IsSoundFor S.members (scenario_of scenario.now) outline.now) }
+    ensures fitting { OnOk result (IsFittingFor S.members (scenario_of scenario.now) outline.now) }
+    ensures refusal { IfErr result (IsRefusalFor S.members (scenario_of scenario.now)
+        outline.now) }
 {
     match &nexus_in(scenario, outline.host).task {
         Task::Scripted { script, budget } => {
@@ -80,10 +72,8 @@ fn check_sound<S: ViewSet>(
     script: &Script,
     outline: &OutlineOf<S>,
 ) -> Result<(), Refusal>
-    requires host { outline.now.host < length (scenario_of scenario.now).nexuses }
-    requires written { script_fits (scenario_of scenario.now).keys (script_of script.now) ≡ true }
     requires starts { CanStart (scenario_of scenario.now) }
-    requires made { IsMadeFor S.room (scenario_of scenario.now) outline.now }
+    requires able { CanCheck S.room (scenario_of scenario.now) (script_of script.now) outline.now }
     ensures sound { OnOk result (IsSound (scenario_of scenario.now) (script_of script.now)
         (outline_of S.members outline.now)) }
     ensures refusal { IfErr result (λ refusal. (budget : ℕ)
@@ -96,7 +86,12 @@ fn check_sound<S: ViewSet>(
     if let Some(line) = first_difference(&outline.views, &spots) {
         return Err(Refusal::NotSound { host, line });
     }
-    match first_unsound(alloc, scenario, script, outline, &spots)? {
+    let questions = Questions {
+        scenario,
+        outline,
+        spots: &spots,
+    };
+    match first_unsound(alloc, script, &questions)? {
         None => Ok(()),
         Some(line) => Err(Refusal::NotSound { host, line }),
     }
@@ -109,13 +104,10 @@ pub(crate) fn check_fit<S: ViewSet>(
     script: &Script,
     outline: &OutlineOf<S>,
 ) -> Result<(), Refusal>
-    requires host { outline.now.host < length (scenario_of scenario.now).nexuses }
-    requires written { script_fits (scenario_of scenario.now).keys (script_of script.now) ≡ true }
-    requires made { IsMadeFor S.room (scenario_of scenario.now) outline.now }
+    requires able { CanCheck S.room (scenario_of scenario.now) (script_of script.now) outline.now }
     requires sound { IsSound (scenario_of scenario.now) (script_of script.now)
         (outline_of S.members outline.now) }
-    ensures fields { OnOk result ((p : Place) → Contains (places_of (script_of script.now)) p
-        → Fits p.command) }
+    ensures fields { OnOk result (SendsFit (script_of script.now)) }
     ensures fitting { OnOk result ((budget : ℕ) → cost_of_all (script_of script.now) ≤ budget
         → IsFitting (scenario_of scenario.now) (script_of script.now) budget
         (outline_of S.members outline.now)) }
@@ -125,7 +117,12 @@ pub(crate) fn check_fit<S: ViewSet>(
         (outline_of S.members outline.now) refusal) }
 {
     let spots = spots(alloc, script)?;
-    match first_misfit(alloc, scenario, outline, &spots)? {
+    let questions = Questions {
+        scenario,
+        outline,
+        spots: &spots,
+    };
+    match first_misfit(alloc, &questions)? {
         None => Ok(()),
         Some(refusal) => Err(refusal),
     }

@@ -1,18 +1,18 @@
 //! The verdict on a scenario whose hosts are checked side by side.
 
-ghost use Rattle.std.specs.Prelude.{◌≡◌, ◌≢◌, ℕ, ◌<◌, ◌≤◌, length, IfOk, IfErr, OnOk, vec_len, vec_capacity};
+ghost use Rattle.std.specs.Prelude.{◌≡◌, ◌<◌, ◌≤◌, length, IfOk, IfErr, OnOk, vec_len, vec_capacity};
 ghost use Rattle.pr_roles.specs.Scenarios.{scenario_of};
 ghost use Rattle.pr_roles.specs.Safety.{IsSafe};
 ghost use Rattle.pr_verify.specs.Outlines.{AllSendsFit, HaveOutlines};
-ghost use Rattle.pr_verify.specs.Verdicts.{IsVerdict};
-ghost use Rattle.pr_verify.specs.inside.Checks.{ComeTo, EachFrom, IsAnswerBefore, IsAnswerFor, IsBegunFor, IsCheckFor};
+ghost use Rattle.pr_verify.specs.Verdicts.{IsFinal, IsVerdict};
+ghost use Rattle.pr_verify.specs.inside.Checks.{ComeTo, EachFrom, IsAnswerFor, IsAnswerForAll, IsBegunFor, IsCheckFor};
 
 use crate::check_gate::CheckGate;
 use crate::inferring::has_script;
 use crate::refusal::Refusal;
 use crate::verifying::{Refused, Verified, check_host, verdict_on};
 use pr_roles::Scenario;
-use std::alloc::Global;
+use std::alloc::{AllocError, Global};
 use std::snapshot::Snapshot;
 use std::sync::Wait;
 use std::thread;
@@ -36,8 +36,7 @@ pub fn verify_each<G: CheckGate, R: Threads + Wait + Sync>(
     ensures outlines { IfOk result (λ verified. HaveOutlines (scenario_of verified)) }
     ensures back { IfErr result (λ refused. refused.scenario ≡ scenario) }
     ensures verdict { IfErr result (λ refused. IsVerdict (scenario_of scenario) refused.refusal) }
-    ensures none { IfErr result (λ refused. refused.refusal ≢ Refusal.Memory
-        → ¬ HaveOutlines (scenario_of scenario)) }
+    ensures none { IfErr result (λ refused. IsFinal (scenario_of scenario) refused.refusal) }
 {
     let checked = check_each(rt, alloc, &scenario, gate);
     verdict_on(scenario, checked)
@@ -75,6 +74,30 @@ enum Check {
     Made(Result<(), Refusal>),
 }
 
+/// The lists of the checks of so many hosts, before the first is begun. Each has room for all.
+#[derive(Drop)]
+struct Lists {
+    hosts: u8,
+    begun: Vec<Begun>,
+    checks: Vec<Check>,
+    ghost none_begun: { vec_len begun ≡ 0 },
+    ghost none_checked: { vec_len checks ≡ 0 },
+    ghost room_to_begin: { hosts ≤ vec_capacity begun },
+    ghost room_to_check: { hosts ≤ vec_capacity checks },
+}
+
+impl Lists {
+    fn with_room(alloc: Global, hosts: u8) -> Result<Self, AllocError>
+        ensures { IfOk result (λ lists. lists.hosts ≡ hosts) }
+    {
+        Ok(Lists {
+            hosts,
+            begun: Vec::with_capacity(alloc, usize::from(hosts))?,
+            checks: Vec::with_capacity(alloc, usize::from(hosts))?,
+        })
+    }
+}
+
 // Whether each scripted host has an outline that is sound and fits; else the first reason against one. The lists take
 // their memory before any thread is started.
 fn check_each<G: CheckGate, R: Threads + Wait + Sync>(
@@ -87,66 +110,55 @@ fn check_each<G: CheckGate, R: Threads + Wait + Sync>(
     ensures fields { OnOk result (AllSendsFit (scenario_of scenario.now)) }
     ensures verdict { IfErr result (IsVerdict (scenario_of scenario.now)) }
 {
-    let hosts = scenario.parts().nexuses.len();
-    let begun = Vec::with_capacity(alloc, hosts)?;
-    let checks = Vec::with_capacity(alloc, hosts)?;
-    in_threads(rt, alloc, scenario, gate, begun, checks)
+    let hosts = scenario.parts().nexuses.len() as u8;
+    let lists = Lists::with_room(alloc, hosts)?;
+    in_threads(rt, alloc, scenario, gate, lists)
 }
 
-// The same, with room in the lists for all hosts.
+// The same, with these lists.
 fn in_threads<'a, G: CheckGate, R: Threads + Wait + Sync>(
     rt: &'a R,
     alloc: Global,
     scenario: &'a Scenario,
     gate: &'a G,
-    begun: Vec<Begun>,
-    checks: Vec<Check>,
+    lists: Lists,
 ) -> Result<(), Refusal>
-    requires none_begun { vec_len begun ≡ 0 }
-    requires none_checked { vec_len checks ≡ 0 }
-    requires room_to_begin { length (scenario_of scenario.now).nexuses ≤ vec_capacity begun }
-    requires room_to_check { length (scenario_of scenario.now).nexuses ≤ vec_capacity checks }
-    ensures { IsAnswerBefore (scenario_of scenario.now) (length (scenario_of scenario.now).nexuses)
-        result }
+    requires { lists.hosts ≡ length (scenario_of scenario.now).nexuses }
+    ensures { IsAnswerForAll (scenario_of scenario.now) result }
 {
     thread::scope(
         thread::scope_env(),
         rt,
         |scope| -> Result<(), Refusal>
-            requires none_begun { vec_len begun ≡ 0 }
-            requires none_checked { vec_len checks ≡ 0 }
-            requires room_to_begin { length (scenario_of scenario.now).nexuses ≤ vec_capacity
-                begun }
-            requires room_to_check { length (scenario_of scenario.now).nexuses ≤ vec_capacity
-                checks }
-            ensures { IsAnswerBefore (scenario_of scenario.entry.now)
-                (length (scenario_of scenario.entry.now).nexuses) result }
+            requires { lists.hosts ≡ length (scenario_of scenario.now).nexuses }
+            ensures { IsAnswerForAll (scenario_of scenario.entry.now) result }
         {
-            let begun = begin_all(scope, alloc, scenario, gate, begun);
+            let (begun, checks) = begin_all(scope, alloc, scenario, gate, lists);
             let checks = make_rest(alloc, scenario, gate, begun, checks);
             join_all(rt, checks)
         },
     )
 }
 
-// Begins the check of each host, in order.
+// Begins the check of each host, in order. The other list is handed back as it is.
 fn begin_all<'s, 'a: 's, G: CheckGate>(
     scope: &'s Scope<'s, &'a ()>,
     alloc: Global,
     scenario: &'a Scenario,
     gate: &'a G,
-    mut begun: Vec<Begun>,
-) -> Vec<Begun>
-    requires none { vec_len begun ≡ 0 }
-    requires room { length (scenario_of scenario.now).nexuses ≤ vec_capacity begun }
-    ensures all { vec_len result ≡ length (scenario_of scenario.now).nexuses }
-    ensures each { EachFrom (IsBegunFor (scenario_of scenario.now)) 0 result.items }
+    lists: Lists,
+) -> (Vec<Begun>, Vec<Check>)
+    requires { lists.hosts ≡ length (scenario_of scenario.now).nexuses }
+    ensures all { vec_len result.0 ≡ length (scenario_of scenario.now).nexuses }
+    ensures each { EachFrom (IsBegunFor (scenario_of scenario.now)) 0 result.0.items }
+    ensures none { vec_len result.1 ≡ 0 }
+    ensures room { vec_len result.0 ≤ vec_capacity result.1 }
 {
-    let hosts = scenario.parts().nexuses.len() as u8;
-    for host in 0..hosts {
+    let mut begun = lists.begun;
+    for host in 0..lists.hosts {
         begun.push_reserved(begin(scope, alloc, scenario, gate, host));
     }
-    begun
+    (begun, lists.checks)
 }
 
 // Begins the check of a scripted host in a thread of its own, if that can be started.

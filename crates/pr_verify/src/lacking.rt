@@ -2,22 +2,20 @@
 //!
 //! Only `check_outline` asks for it, which no command of the program calls.
 
-ghost use Rattle.std.specs.Prelude.{◌≡◌, ◌<◌, ◌↔◌, length, map, option_map, IsTrue, IfOk, IfSome};
-ghost use Rattle.std.specs.List.{All, Contains};
-ghost use Rattle.pr_script.specs.Scripts.{Stmts};
-ghost use Rattle.pr_roles.specs.Scenarios.{scenario_of};
+ghost use Rattle.std.specs.Prelude.{◌≡◌, ◌↔◌, map, option_map, IsTrue, IfOk, IfSome};
+ghost use Rattle.std.specs.List.{Contains};
 ghost use Rattle.pr_roles.specs.Starts.{CanStart};
-ghost use Rattle.pr_views.specs.Rooms.{view_of, IsMade, AreAlike};
-ghost use Rattle.pr_verify.specs.Places.{first_lines};
-ghost use Rattle.pr_verify.specs.Outlines.{view_at, StartsAt};
-ghost use Rattle.pr_verify.specs.Rooms.{outline_of, IsMadeFor};
-ghost use Rattle.pr_verify.specs.inside.Least.{IsLeast, least};
+ghost use Rattle.pr_views.specs.Rooms.{view_of};
+ghost use Rattle.pr_verify.specs.Outlines.{view_at};
+ghost use Rattle.pr_verify.specs.Rooms.{outline_of};
+ghost use Rattle.pr_verify.specs.inside.Asked.{AreMade, IsFirstUnstarted, scenario_in};
+ghost use Rattle.pr_verify.specs.inside.Least.{least};
 ghost use Rattle.pr_verify.specs.LeastOutlines.{IsWithinIn};
-ghost use Rattle.pr_verify.specs.inside.Lacking.{IsFirstLacking, HasView, LacksView};
+ghost use Rattle.pr_verify.specs.inside.Lacking.{CanCompare, IsFirstWithout};
 
+use crate::answers::Questions;
 use crate::outline::OutlineOf;
 use pr_domain::of_start;
-use pr_roles::Scenario;
 use pr_sets::ViewSet;
 use pr_views::ViewOf;
 use std::alloc::{AllocError, Global};
@@ -39,12 +37,9 @@ pub(crate) fn first_lacking<S: ViewSet>(
     known: &ViewOf<S>,
     lines: &[u32],
 ) -> Option<u32>
-    requires made { IsMade S.room known.now }
-    requires alike { All (λ e. IsMade S.room e.1 × AreAlike known.now e.1) outline.now.views.items }
-    ensures { IsLeast (HasView (outline_of S.members outline.now) lines.now
-        (view_of S.members outline.now.host known.now))
-        (LacksView (outline_of S.members outline.now) lines.now
-        (view_of S.members outline.now.host known.now)) result }
+    requires { CanCompare S.room outline.now.views.items known.now }
+    ensures { IsFirstWithout (outline_of S.members outline.now) lines.now
+        (view_of S.members outline.now.host known.now) result }
 {
     let mut first = None;
     for line in lines {
@@ -57,8 +52,7 @@ pub(crate) fn first_lacking<S: ViewSet>(
 
 // Whether the outline has a view at this line in which everything is possible that is possible in this one.
 fn has_within<S: ViewSet>(outline: &OutlineOf<S>, line: u32, known: &ViewOf<S>) -> bool
-    requires made { IsMade S.room known.now }
-    requires alike { All (λ e. IsMade S.room e.1 × AreAlike known.now e.1) outline.now.views.items }
+    requires { CanCompare S.room outline.now.views.items known.now }
     ensures { IsTrue result ↔ IsWithinIn (view_of S.members outline.now.host known.now)
         (view_at (outline_of S.members outline.now).views line) }
 {
@@ -86,17 +80,14 @@ fn view_at<S: ViewSet>(outline: &OutlineOf<S>, line: u32) -> Option<&ViewOf<S>>
 /// start from.
 pub(crate) fn lacking_at_start<S: ViewSet>(
     alloc: Global,
-    scenario: &Scenario,
-    outline: &OutlineOf<S>,
+    asked: &Questions<ViewOf<S>>,
     lines: &[u32],
 ) -> Result<Option<u32>, AllocError>
-    requires starts { CanStart (scenario_of scenario.now) }
-    requires host { outline.now.host < length (scenario_of scenario.now).nexuses }
-    requires made { IsMadeFor S.room (scenario_of scenario.now) outline.now }
-    ensures { IfOk result (λ first. (script : Stmts) → first_lines script ≡ lines.now
-        → IsFirstLacking (outline_of S.members outline.now)
-        (StartsAt (scenario_of scenario.now) script) first) }
+    requires starts { CanStart (scenario_in asked.now) }
+    requires made { AreMade S.room asked.now }
+    ensures { IfOk result (IsFirstUnstarted S.members asked.now lines.now) }
 {
-    let start = of_start(alloc, scenario, outline.host)?;
+    let outline = asked.outline;
+    let start = of_start(alloc, asked.scenario, outline.host)?;
     Ok(first_lacking(outline, &start, lines))
 }

@@ -1,11 +1,10 @@
 //! The sends of a script, and where its arms lead.
 
 ghost use Rattle.std.specs.Prelude.{◌≡◌, ◌++◌, IfOk, OnOk, map};
-ghost use Rattle.std.specs.List.{Contains};
-ghost use Rattle.pr_cdb.specs.Ranges.{Fits};
 ghost use Rattle.pr_script.specs.Trees.{script_of, statement_of, statements_in};
 ghost use Rattle.pr_script.specs.inside.ArmLists.{arms_in};
-ghost use Rattle.pr_verify.specs.Places.{Place, places, places_in, places_of_arms, places_of, first_lines, lines_of, round, tests_of, next_of};
+ghost use Rattle.pr_verify.specs.Places.{places, places_in, places_of_arms, places_of, first_lines, lines_of, round, tests_of, next_of};
+ghost use Rattle.pr_verify.specs.Outlines.{SendsFit};
 ghost use Rattle.pr_verify.specs.inside.Listing.{place_of, AreInRange};
 
 use crate::head::{Head, head_in};
@@ -28,8 +27,7 @@ pub(crate) struct Spot {
 pub(crate) fn spots(alloc: Global, script: &Script) -> Result<Vec<Spot>, AllocError>
     ensures places { IfOk result (λ spots. map place_of spots.items
         ≡ places_of (script_of script.now)) }
-    ensures fields { OnOk result ((p : Place) → Contains (places_of (script_of script.now)) p
-        → Fits p.command) }
+    ensures fields { OnOk result (SendsFit (script_of script.now)) }
 {
     let mut spots = Vec::new(alloc);
     list(alloc, &mut spots, &script.statements, &[], &[])?;

@@ -1,22 +1,18 @@
 //! The first view of an outline that is not sound, and the first send that does not fit.
 
-ghost use Rattle.std.specs.Prelude.{◌≡◌, ◌<◌, true, length, map, option_map, IsTrue, IfOk, Some};
+ghost use Rattle.std.specs.Prelude.{◌≡◌, length, map, option_map, IfOk};
 ghost use Rattle.std.specs.List.{All};
-ghost use Rattle.pr_script.specs.Grammar.{rise_above};
 ghost use Rattle.pr_script.specs.Trees.{script_of};
-ghost use Rattle.pr_roles.specs.DeclaredRefusals.{refusals_of};
-ghost use Rattle.pr_roles.specs.Scenarios.{scenario_of};
 ghost use Rattle.pr_roles.specs.Starts.{CanStart};
-ghost use Rattle.pr_views.specs.Rooms.{view_of, IsMade, AreAlike};
-ghost use Rattle.pr_domain.specs.Outcomes.{AreOutcomes};
+ghost use Rattle.pr_views.specs.Rooms.{view_of};
 ghost use Rattle.pr_verify.specs.Places.{places_of};
-ghost use Rattle.pr_verify.specs.Outlines.{view_at, IsAsked};
 ghost use Rattle.pr_verify.specs.Refusals.{class_number};
-ghost use Rattle.pr_verify.specs.Rooms.{outline_of, IsMadeFor};
-ghost use Rattle.pr_verify.specs.inside.Listing.{place_of, IsPlaceWritten};
+ghost use Rattle.pr_verify.specs.Rooms.{outline_of};
+ghost use Rattle.pr_verify.specs.inside.Asked.{AreMade, IsAnswered, IsFirstMisfitIn, IsFirstUnsound, IsMisfitIn, scenario_in};
+ghost use Rattle.pr_verify.specs.inside.Listing.{place_of};
 ghost use Rattle.pr_verify.specs.inside.Least.{IsLeastAmong};
-ghost use Rattle.pr_verify.specs.inside.Lacking.{IsFirstLacking, lines_after, HasNext, LacksNext};
-ghost use Rattle.pr_verify.specs.inside.Reviewing.{IsMadeAs, IsMisfit, IsFirstMisfit, IsFirstUnarmed, earlier, earlier_from};
+ghost use Rattle.pr_verify.specs.inside.Lacking.{CanCompare, lines_after, HasNext, LacksNext};
+ghost use Rattle.pr_verify.specs.inside.Reviewing.{IsFirstUnarmed, earlier, earlier_from};
 
 use crate::answers::Questions;
 use crate::lacking::{first_lacking, lacking_at_start, least};
@@ -26,7 +22,6 @@ use crate::outline::OutlineOf;
 use crate::places::{Spot, first_lines};
 use crate::refusal::Refusal;
 use pr_domain::{Class, Landing, permitted};
-use pr_roles::Scenario;
 use pr_script::Script;
 use pr_sets::ViewSet;
 use pr_views::ViewOf;
@@ -36,37 +31,23 @@ use std::alloc::{AllocError, Global};
 /// others leave.
 pub(crate) fn first_unsound<S: ViewSet>(
     alloc: Global,
-    scenario: &Scenario,
     script: &Script,
-    outline: &OutlineOf<S>,
-    spots: &[Spot],
+    asked: &Questions<ViewOf<S>>,
 ) -> Result<Option<u32>, AllocError>
-    requires starts { CanStart (scenario_of scenario.now) }
-    requires host { outline.now.host < length (scenario_of scenario.now).nexuses }
-    requires made { IsMadeFor S.room (scenario_of scenario.now) outline.now }
-    requires places { map place_of spots.now ≡ places_of (script_of script.now) }
-    requires written { All (λ p. IsPlaceWritten (scenario_of scenario.now).keys (place_of p))
-        spots.now }
-    requires listed { map (λ e. e.0) outline.now.views.items ≡ map (λ p. p.line) spots.now }
-    requires rise { rise_above 0 (map (λ e. e.0) outline.now.views.items) ≡ true }
-    ensures { IfOk result (IsFirstLacking (outline_of S.members outline.now)
-        (IsAsked (scenario_of scenario.now) (script_of script.now)
-        (outline_of S.members outline.now))) }
+    requires starts { CanStart (scenario_in asked.now) }
+    requires made { AreMade S.room asked.now }
+    requires places { map place_of asked.now.spots.now ≡ places_of (script_of script.now) }
+    ensures { IfOk result (IsFirstUnsound S.members asked.now (script_of script.now)) }
 {
     let firsts = first_lines(alloc, script)?;
-    let start = lacking_at_start(alloc, scenario, outline, &firsts)?;
-    let others = lacking_by_others(alloc, scenario, outline)?;
-    let questions = Questions {
-        scenario,
-        outline,
-        spots,
-    };
+    let start = lacking_at_start(alloc, asked, &firsts)?;
+    let others = lacking_by_others(alloc, asked)?;
     let mut known = Vec::new(alloc);
     let mut own = None;
-    for (i, spot) in spots.iter().enumerate() {
-        let answer = questions.answer(alloc, &mut known, i)?;
+    for (i, spot) in asked.spots.iter().enumerate() {
+        let answer = asked.answer(alloc, &mut known, i)?;
         let outcomes = &known[answer].outcomes;
-        own = least(own, lacking_after(outline, outcomes, &spot.next));
+        own = least(own, lacking_after(asked.outline, outcomes, &spot.next));
     }
     Ok(least(least(start, own), others))
 }
@@ -74,29 +55,16 @@ pub(crate) fn first_unsound<S: ViewSet>(
 /// The first send whose command the role doesn't permit, or of which no arm takes some reply.
 pub(crate) fn first_misfit<S: ViewSet>(
     alloc: Global,
-    scenario: &Scenario,
-    outline: &OutlineOf<S>,
-    spots: &[Spot],
+    asked: &Questions<ViewOf<S>>,
 ) -> Result<Option<Refusal>, AllocError>
-    requires host { outline.now.host < length (scenario_of scenario.now).nexuses }
-    requires made { IsMadeFor S.room (scenario_of scenario.now) outline.now }
-    requires written { All (λ p. IsPlaceWritten (scenario_of scenario.now).keys (place_of p))
-        spots.now }
-    requires listed { map (λ e. e.0) outline.now.views.items ≡ map (λ p. p.line) spots.now }
-    requires rise { rise_above 0 (map (λ e. e.0) outline.now.views.items) ≡ true }
-    ensures { IfOk result (IsFirstMisfit (scenario_of scenario.now)
-        (outline_of S.members outline.now) (length spots.now) spots.now) }
+    requires { AreMade S.room asked.now }
+    ensures { IfOk result (IsFirstMisfitIn S.members asked.now) }
 {
-    let questions = Questions {
-        scenario,
-        outline,
-        spots,
-    };
     let mut known = Vec::new(alloc);
-    for (i, spot) in spots.iter().enumerate() {
-        let answer = questions.answer(alloc, &mut known, i)?;
+    for (i, spot) in asked.spots.iter().enumerate() {
+        let answer = asked.answer(alloc, &mut known, i)?;
         let outcomes = &known[answer].outcomes;
-        if let Some(refusal) = misfit(scenario, outline, &outline.views[i].1, spot, outcomes) {
+        if let Some(refusal) = misfit(asked, &asked.outline.views[i].1, spot, outcomes) {
             return Ok(Some(refusal));
         }
     }
@@ -109,9 +77,7 @@ fn lacking_after<S: ViewSet>(
     outcomes: &[(Landing, ViewOf<S>)],
     next: &[Vec<u32>],
 ) -> Option<u32>
-    requires made { All (λ o. IsMade S.room o.1) outcomes.now }
-    requires alike { All (λ o. All (λ e. IsMade S.room e.1 × AreAlike o.1 e.1)
-        outline.now.views.items) outcomes.now }
+    requires { All (λ o. CanCompare S.room outline.now.views.items o.1) outcomes.now }
     ensures { IsLeastAmong (length outcomes.now) outcomes.now
         (λ o. HasNext (outline_of S.members outline.now)
         (lines_after (map (λ lines. lines.items) next.now) o.0)
@@ -142,27 +108,17 @@ fn lines_after(landing: Landing, next: &[Vec<u32>]) -> Option<&[u32]>
 
 // How the send does not fit, if it does not: its role comes first, then the first class of replies without an arm.
 fn misfit<S: ViewSet>(
-    scenario: &Scenario,
-    outline: &OutlineOf<S>,
+    asked: &Questions<ViewOf<S>>,
     view: &ViewOf<S>,
     spot: &Spot,
     outcomes: &[(Landing, ViewOf<S>)],
 ) -> Option<Refusal>
-    requires host { outline.now.host < length (scenario_of scenario.now).nexuses }
-    requires written { IsPlaceWritten (scenario_of scenario.now).keys (place_of spot.now) }
-    requires view { IsMadeAs S.room (scenario_of scenario.now) view.now }
-    requires here { view_at (outline_of S.members outline.now).views spot.now.line
-        ≡ Some (view_of S.members outline.now.host view.now) }
-    requires outcomes { AreOutcomes (view_of S.members outline.now.host view.now)
-        (refusals_of (scenario_of scenario.now) outline.now.host) spot.now.command
-        spot.now.tests.items (map (λ o. (o.0, view_of S.members outline.now.host o.1))
-        outcomes.now) }
-    ensures { IsMisfit (scenario_of scenario.now) (outline_of S.members outline.now)
-        (place_of spot.now) result }
+    requires { IsAnswered S.members S.room asked.now view.now spot.now outcomes.now }
+    ensures { IsMisfitIn S.members asked.now spot.now result }
 {
-    let host = outline.host;
+    let host = asked.outline.host;
     let line = spot.line;
-    let role = &nexus_in(scenario, host).role;
+    let role = &nexus_in(asked.scenario, host).role;
     if !permitted(view, role, host, &spot.command) {
         return Some(Refusal::OutOfRole { host, line });
     }

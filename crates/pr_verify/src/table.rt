@@ -1,26 +1,21 @@
 //! What is known at the sends of scripts, as tables.
 
-ghost use Rattle.std.specs.Prelude.{◌≡◌, ◌<◌, ◌↔◌, ℕ, true, length, map, IsTrue, IfOk, Some};
+ghost use Rattle.std.specs.Prelude.{◌≡◌, ◌<◌, ◌↔◌, ℕ, length, map, IsTrue, IfOk};
 ghost use Rattle.std.specs.List.{All, AllPairs, AllZip, Contains};
 ghost use Rattle.pr_domain.specs.declared.landing.Class.{Class};
 ghost use Rattle.pr_domain.specs.declared.landing.Landing.TheVariants.{Arm};
-ghost use Rattle.pr_domain.specs.Outcomes.{AreOutcomes};
-ghost use Rattle.pr_script.specs.Grammar.{rise_above};
-ghost use Rattle.pr_roles.specs.DeclaredRefusals.{refusals_of};
 ghost use Rattle.pr_roles.specs.Scenarios.{scenario_of, task};
-ghost use Rattle.pr_views.specs.Rooms.{view_of};
-ghost use Rattle.pr_verify.specs.Outlines.{OnScripted, view_at};
 ghost use Rattle.pr_verify.specs.Refusals.{class_number};
-ghost use Rattle.pr_verify.specs.Rooms.{IsMadeFor, IsScripted, outline_of, row_of, table_of};
-ghost use Rattle.pr_verify.specs.Tables.{AreTables, IsRow, IsTable};
-ghost use Rattle.pr_verify.specs.inside.Listing.{place_of, IsPlaceWritten};
-ghost use Rattle.pr_verify.specs.inside.Reviewing.{IsMadeAs, IsUnarmed};
-ghost use Rattle.pr_verify.specs.inside.Tabling.{IsInRange};
+ghost use Rattle.pr_verify.specs.Rooms.{IsMadeFor, IsScripted, table_of};
+ghost use Rattle.pr_verify.specs.Tables.{AreTables};
+ghost use Rattle.pr_verify.specs.inside.Asked.{AreMade, IsAnswered, IsRowIn};
+ghost use Rattle.pr_verify.specs.inside.Reviewing.{IsUnarmed};
+ghost use Rattle.pr_verify.specs.inside.Tabling.{IsInRange, IsTableFor};
 
 use crate::answers::Questions;
 use crate::inferring::{has_script, infer, script_in};
 use crate::nexus::nexus_in;
-use crate::outline::{Outline, OutlineOf};
+use crate::outline::Outline;
 use crate::places::{Spot, spots};
 use crate::reviewing::{first_unarmed, number_of};
 use pr_cdb::Command;
@@ -74,11 +69,10 @@ pub fn tables(alloc: Global, scenario: &Scenario) -> Result<Vec<Table>, AllocErr
 
 // The table of a host that has a script.
 fn table_of_host(alloc: Global, scenario: &Scenario, host: u8) -> Result<Table, AllocError>
-    requires scripted { IsScripted (task (scenario_of scenario.now) host) }
+    requires { IsScripted (task (scenario_of scenario.now) host) }
     ensures host { IfOk result (λ t. t.outline.host ≡ host) }
-    ensures table { IfOk result (λ t. OnScripted (task (scenario_of scenario.now) host)
-        (λ script budget. IsTable (scenario_of scenario.now) script
-        (table_of ⟦<WordSet as ViewSet>⟧.members t))) }
+    ensures table { IfOk result (IsTableFor ⟦<WordSet as ViewSet>⟧.members
+        (scenario_of scenario.now) host) }
     ensures made { IfOk result (λ t. IsMadeFor ⟦<WordSet as ViewSet>⟧.room
         (scenario_of scenario.now) t.outline) }
     ensures rows { IfOk result (λ t. length t.rows.items ≡ length t.outline.views.items) }
@@ -86,45 +80,27 @@ fn table_of_host(alloc: Global, scenario: &Scenario, host: u8) -> Result<Table, 
     let script = script_in(scenario, host);
     let spots = spots(alloc, script)?;
     let outline = infer(alloc, scenario, host)?;
-    let rows = rows(alloc, scenario, &outline, &spots)?;
+    let questions = Questions {
+        scenario,
+        outline: &outline,
+        spots: &spots,
+    };
+    let rows = rows(alloc, &questions)?;
     Ok(Table { outline, rows })
 }
 
 // A row for each send.
-fn rows<S: ViewSet>(
-    alloc: Global,
-    scenario: &Scenario,
-    outline: &OutlineOf<S>,
-    spots: &[Spot],
-) -> Result<Vec<Row>, AllocError>
-    requires host { outline.now.host < length (scenario_of scenario.now).nexuses }
-    requires made { IsMadeFor S.room (scenario_of scenario.now) outline.now }
-    requires written { All (λ p. IsPlaceWritten (scenario_of scenario.now).keys (place_of p))
-        spots.now }
-    requires listed { map (λ e. e.0) outline.now.views.items ≡ map (λ p. p.line) spots.now }
-    requires rise { rise_above 0 (map (λ e. e.0) outline.now.views.items) ≡ true }
-    ensures { IfOk result (λ rows. AllZip
-        (λ p r. IsRow (scenario_of scenario.now) (outline_of S.members outline.now) (place_of p)
-        (row_of r)) spots.now rows.items) }
+fn rows<S: ViewSet>(alloc: Global, asked: &Questions<ViewOf<S>>) -> Result<Vec<Row>, AllocError>
+    requires { AreMade S.room asked.now }
+    ensures { IfOk result (λ rows. AllZip (IsRowIn S.members asked.now) asked.now.spots.now
+        rows.items) }
 {
-    let questions = Questions {
-        scenario,
-        outline,
-        spots,
-    };
     let mut known = Vec::new(alloc);
     let mut rows = Vec::new(alloc);
-    for (i, spot) in spots.iter().enumerate() {
-        let answer = questions.answer(alloc, &mut known, i)?;
+    for (i, spot) in asked.spots.iter().enumerate() {
+        let answer = asked.answer(alloc, &mut known, i)?;
         let outcomes = &known[answer].outcomes;
-        let row = row_of_spot(
-            alloc,
-            scenario,
-            outline,
-            &outline.views[i].1,
-            spot,
-            outcomes,
-        )?;
+        let row = row_of_spot(alloc, asked, &asked.outline.views[i].1, spot, outcomes)?;
         rows.push(row)?;
     }
     Ok(rows)
@@ -133,26 +109,17 @@ fn rows<S: ViewSet>(
 // The row of one send: the view at its line, and how its command may end there.
 fn row_of_spot<S: ViewSet>(
     alloc: Global,
-    scenario: &Scenario,
-    outline: &OutlineOf<S>,
+    asked: &Questions<ViewOf<S>>,
     view: &ViewOf<S>,
     spot: &Spot,
     outcomes: &[(Landing, ViewOf<S>)],
 ) -> Result<Row, AllocError>
-    requires host { outline.now.host < length (scenario_of scenario.now).nexuses }
-    requires written { IsPlaceWritten (scenario_of scenario.now).keys (place_of spot.now) }
-    requires view { IsMadeAs S.room (scenario_of scenario.now) view.now }
-    requires here { view_at (outline_of S.members outline.now).views spot.now.line
-        ≡ Some (view_of S.members outline.now.host view.now) }
-    requires outcomes { AreOutcomes (view_of S.members outline.now.host view.now)
-        (refusals_of (scenario_of scenario.now) outline.now.host) spot.now.command
-        spot.now.tests.items (map (λ o. (o.0, view_of S.members outline.now.host o.1))
-        outcomes.now) }
-    ensures { IfOk result (λ row. IsRow (scenario_of scenario.now)
-        (outline_of S.members outline.now) (place_of spot.now) (row_of row)) }
+    requires { IsAnswered S.members S.room asked.now view.now spot.now outcomes.now }
+    ensures { IfOk result (IsRowIn S.members asked.now spot.now) }
 {
-    let role = &nexus_in(scenario, outline.host).role;
-    let permitted = permitted(view, role, outline.host, &spot.command);
+    let host = asked.outline.host;
+    let role = &nexus_in(asked.scenario, host).role;
+    let permitted = permitted(view, role, host, &spot.command);
     let tests = Vec::from_slice(alloc, &spot.tests)?;
     let arms = arms_taken(alloc, outcomes, spot.tests.len())?;
     let unarmed = unarmed(alloc, outcomes)?;

@@ -1,10 +1,11 @@
 //! The verdict on a scenario.
 
-ghost use Rattle.std.specs.Prelude.{◌≡◌, ◌≢◌, ℕ, ◌<◌, length, IfOk, IfErr, OnOk};
-ghost use Rattle.pr_roles.specs.Scenarios.{scenario_of, task};
+ghost use Rattle.std.specs.Prelude.{◌≡◌, ◌<◌, length, IfOk, IfErr, OnOk};
+ghost use Rattle.pr_roles.specs.Scenarios.{scenario_of};
 ghost use Rattle.pr_roles.specs.Safety.{IsSafe};
-ghost use Rattle.pr_verify.specs.Outlines.{AllSendsFit, HasOutline, HaveOutlines, OnScripted, SendsFit};
-ghost use Rattle.pr_verify.specs.Verdicts.{HasReason, IsVerdict};
+ghost use Rattle.pr_verify.specs.Outlines.{AllSendsFit, HaveOutlines, HostSendsFit, IsCarried};
+ghost use Rattle.pr_verify.specs.Verdicts.{IsFinal, IsVerdict};
+ghost use Rattle.pr_verify.specs.inside.Checks.{IsReasonOf};
 
 use crate::checking::{check_cost, check_fit};
 use crate::inferring::infer;
@@ -66,8 +67,7 @@ pub fn verify(alloc: Global, scenario: Scenario) -> Result<Verified, Refused>
     ensures outlines { IfOk result (λ verified. HaveOutlines (scenario_of verified)) }
     ensures back { IfErr result (λ refused. refused.scenario ≡ scenario) }
     ensures verdict { IfErr result (λ refused. IsVerdict (scenario_of scenario) refused.refusal) }
-    ensures none { IfErr result (λ refused. refused.refusal ≢ Refusal.Memory
-        → ¬ HaveOutlines (scenario_of scenario)) }
+    ensures none { IfErr result (λ refused. IsFinal (scenario_of scenario) refused.refusal) }
 {
     let checked = check_hosts(alloc, &scenario);
     verdict_on(scenario, checked)
@@ -86,8 +86,7 @@ pub(crate) fn verdict_on(
     ensures outlines { IfOk result (λ verified. HaveOutlines (scenario_of verified)) }
     ensures back { IfErr result (λ refused. refused.scenario ≡ scenario) }
     ensures verdict { IfErr result (λ refused. IsVerdict (scenario_of scenario) refused.refusal) }
-    ensures none { IfErr result (λ refused. refused.refusal ≢ Refusal.Memory
-        → ¬ HaveOutlines (scenario_of scenario)) }
+    ensures none { IfErr result (λ refused. IsFinal (scenario_of scenario) refused.refusal) }
 {
     match checked {
         Ok(()) => {
@@ -115,12 +114,9 @@ fn check_hosts(alloc: Global, scenario: &Scenario) -> Result<(), Refusal>
 /// inferred of it. What is inferred is sound as it comes, so only whether it fits is asked.
 pub(crate) fn check_host(alloc: Global, scenario: &Scenario, host: u8) -> Result<(), Refusal>
     requires { host < length (scenario_of scenario.now).nexuses }
-    ensures outline { OnOk result (OnScripted (task (scenario_of scenario.now) host)
-        (HasOutline (scenario_of scenario.now) host)) }
-    ensures fields { OnOk result (OnScripted (task (scenario_of scenario.now) host)
-        (λ script budget. SendsFit script)) }
-    ensures reason { IfErr result (λ refusal. refusal ≢ Refusal.Memory
-        → HasReason (scenario_of scenario.now) host refusal) }
+    ensures outline { OnOk result (IsCarried (scenario_of scenario.now) host) }
+    ensures fields { OnOk result (HostSendsFit (scenario_of scenario.now) host) }
+    ensures reason { IfErr result (IsReasonOf (scenario_of scenario.now) host) }
 {
     match &nexus_in(scenario, host).task {
         Task::Scripted { script, budget } => {

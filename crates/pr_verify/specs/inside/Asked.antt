@@ -1,33 +1,50 @@
 -- What the sends of a script come to in the views of an outline, where equal questions are asked once.
-use Rattle.std.specs.Prelude.{◌≡◌, ℕ, ◌<◌, List, length, Some}
+use Rattle.std.specs.Prelude.{◌≡◌, ℕ, ◌<◌, List, length, Option, Some}
 use Rattle.std.specs.List.{slice_get, All}
 use Rattle.pr_sets.specs.Numbers.{Numbers}
+use Rattle.pr_script.specs.Scripts.{Stmts}
 use Rattle.pr_roles.specs.declared.how.Refusals.{Refusals}
 use Rattle.pr_roles.specs.DeclaredRefusals.{refusals_of}
-use Rattle.pr_roles.specs.Scenarios.{scenario_of}
+use Rattle.pr_roles.specs.Scenarios.{Scenario, scenario_of}
 use Rattle.pr_views.specs.declared.view.ViewOf.{ViewOf}
+use Rattle.pr_views.specs.Views.{View}
+use Rattle.pr_views.specs.Rooms.{view_of}
+use Rattle.pr_domain.specs.declared.landing.Landing.{Landing}
+use Rattle.pr_interference.specs.Interference.{IsClosed}
 use Rattle.pr_verify.specs.declared.answers.Questions.{Questions}
 use Rattle.pr_verify.specs.declared.known.Answer.{Answer}
 use Rattle.pr_verify.specs.declared.places.Spot.{Spot}
-use Rattle.pr_verify.specs.inside.Inferring.{AreOf, AreWritten}
-use Rattle.pr_verify.specs.inside.Known.{AskTheSame, IsAnswer, IsAnswerAt, AreEqual}
+use Rattle.pr_verify.specs.declared.refusal.Refusal.{Refusal}
+use Rattle.pr_verify.specs.declared.table.Row.{Row}
+use Rattle.pr_verify.specs.Outlines.{Outline, view_at, IsAsked, IsLeftAt, StartsAt}
+use Rattle.pr_verify.specs.Places.{first_lines}
+use Rattle.pr_verify.specs.Rooms.{outline_of, row_of, IsMadeFor}
+use Rattle.pr_verify.specs.Tables.{IsRow}
+use Rattle.pr_verify.specs.inside.Known.{ComesTo, AskTheSame, IsAnswer, IsAnswerAt, AreEqual}
+use Rattle.pr_verify.specs.inside.Listing.{place_of, IsPlaceWritten}
+use Rattle.pr_verify.specs.inside.Lacking.{IsFirstLacking, IsOpen}
+use Rattle.pr_verify.specs.inside.Reviewing.{IsMadeAs, IsMisfit, IsFirstMisfit}
 
 -- ---- questions
 
--- the refusals that the sends may meet
-abbrev pub refusals_for : {S : Type 0} → Questions (ViewOf S) → Refusals
-refusals_for q = refusals_of (scenario_of q.scenario.now) q.outline.now.host
+-- of what scenario they are, and of what outline
+abbrev pub scenario_in : {V : Type 0} → Questions V → Scenario
+scenario_in q = scenario_of q.scenario.now
 
--- for each send there is a view, all of the same keys and of as many nexuses; the host is one of them and of the scenario's, and
--- the sends can stand in a text with those keys
-pub record AreAsked {S : Type 0} (room : S → ℕ) (q : Questions (ViewOf S)) : Type 0 where
-  pub keys : List ℕ
-  pub hosts : ℕ
-  pub kind : AreOf room keys hosts q.outline.now.views.items
-  pub host : q.outline.now.host < hosts
-  pub declared : q.outline.now.host < length (scenario_of q.scenario.now).nexuses
-  pub written : AreWritten keys q.spots.now
-  pub each : length q.outline.now.views.items ≡ length q.spots.now
+abbrev pub outline_in : {S : Type 0} → (S → Numbers) → Questions (ViewOf S) → Outline
+outline_in members q = outline_of members q.outline.now
+
+-- the view, as its host knows it
+abbrev pub view_in : {S : Type 0} → (S → Numbers) → Questions (ViewOf S) → ViewOf S → View
+view_in members q v = view_of members q.outline.now.host v
+
+-- the refusals that the sends may meet
+abbrev pub refusals_for : {V : Type 0} → Questions V → Refusals
+refusals_for q = refusals_of (scenario_in q) q.outline.now.host
+
+-- the views can be ones of the scenario
+abbrev pub AreMade : {S : Type 0} → (S → ℕ) → Questions (ViewOf S) → Type 0
+AreMade room q = IsMadeFor room (scenario_in q) q.outline.now
 
 -- the two places ask the same, in views with the same possibilities
 pub record IsSameQuestion {S : Type 0} (members : S → Numbers) (q : Questions (ViewOf S)) (place other : ℕ) : Type 0 where
@@ -44,6 +61,13 @@ pub record IsAnswerTo {S : Type 0} (members : S → Numbers) (room : S → ℕ) 
 abbrev pub AreAnswersTo : {S : Type 0} → (S → Numbers) → (S → ℕ) → Questions (ViewOf S) → List (Answer (ViewOf S)) → Type 0
 AreAnswersTo members room q known = All (IsAnswerTo members room q) known
 
+-- these are what the command of the send comes to in the view, which is the one at its line
+pub record IsAnswered {S : Type 0} (members : S → Numbers) (room : S → ℕ) (q : Questions (ViewOf S)) (v : ViewOf S) (p : Spot) (xs : List (Landing × ViewOf S)) : Type 0 where
+  pub written : IsPlaceWritten (scenario_in q).keys (place_of p)
+  pub view : IsMadeAs room (scenario_in q) v
+  pub here : view_at (outline_in members q).views p.line ≡ Some (view_in members q v)
+  pub outcomes : ComesTo members q.outline.now.host (refusals_for q) v p xs
+
 -- this place of the list has the answer to an equal question
 pub record IsAskedBefore {S : Type 0} (members : S → Numbers) (q : Questions (ViewOf S)) (place : ℕ) (known : List (Answer (ViewOf S))) (k : ℕ) : Type 0 where
   pub answer : Answer (ViewOf S)
@@ -55,3 +79,34 @@ abbrev pub IsAnsweredAt : {S : Type 0} → (S → Numbers) → (S → ℕ) → Q
 IsAnsweredAt {S} members room q place known k =
     (p : Spot) (e : ℕ × ViewOf S) → slice_get q.spots.now place ≡ Some p → slice_get q.outline.now.views.items place ≡ Some e
     → IsAnswerAt members room q.outline.now.host (refusals_for q) p e.1 known k
+
+-- ---- what is found
+
+-- the first line whose view lacks a state that it has to show; an allowed start, where the script begins with one of these lines;
+-- what the others leave
+abbrev pub IsFirstUnsound : {S : Type 0} → (S → Numbers) → Questions (ViewOf S) → Stmts → Option ℕ → Type 0
+IsFirstUnsound members q script = IsFirstLacking (outline_in members q) (IsAsked (scenario_in q) script (outline_in members q))
+
+abbrev pub IsFirstUnstarted : {S : Type 0} → (S → Numbers) → Questions (ViewOf S) → List ℕ → Option ℕ → Type 0
+IsFirstUnstarted members q lines first = (script : Stmts) → first_lines script ≡ lines → IsFirstLacking (outline_in members q) (StartsAt (scenario_in q) script) first
+
+abbrev pub IsFirstLeft : {S : Type 0} → (S → Numbers) → Questions (ViewOf S) → Option ℕ → Type 0
+IsFirstLeft members q = IsFirstLacking (outline_in members q) (IsLeftAt (scenario_in q) (outline_in members q))
+
+-- the view keeps to what others do, or it does not
+abbrev pub IsClosedIn : {S : Type 0} → (S → Numbers) → Questions (ViewOf S) → ViewOf S → Type 0
+IsClosedIn members q v = IsClosed (scenario_in q) (view_in members q v)
+
+abbrev pub IsOpenIn : {S : Type 0} → (S → Numbers) → Questions (ViewOf S) → ViewOf S → Type 0
+IsOpenIn members q v = IsOpen (scenario_in q) (view_in members q v)
+
+-- how a send does not fit, if it does not, and the first that does not
+abbrev pub IsMisfitIn : {S : Type 0} → (S → Numbers) → Questions (ViewOf S) → Spot → Option Refusal → Type 0
+IsMisfitIn members q p = IsMisfit (scenario_in q) (outline_in members q) (place_of p)
+
+abbrev pub IsFirstMisfitIn : {S : Type 0} → (S → Numbers) → Questions (ViewOf S) → Option Refusal → Type 0
+IsFirstMisfitIn members q = IsFirstMisfit (scenario_in q) (outline_in members q) (length q.spots.now) q.spots.now
+
+-- the row of a send
+abbrev pub IsRowIn : {S : Type 0} → (S → Numbers) → Questions (ViewOf S) → Spot → Row → Type 0
+IsRowIn members q p r = IsRow (scenario_in q) (outline_in members q) (place_of p) (row_of r)

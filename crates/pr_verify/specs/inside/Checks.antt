@@ -1,6 +1,6 @@
 -- The checks of hosts that are made side by side: what each says, where it is made, and what they come to.
 use Rattle.std.specs.Prelude.{◌≡◌, ◌≢◌, ℕ, ◌+◌, ◌<◌, List, length, slice_index_or, Result, IfErr, OnOk}
-use Rattle.pr_roles.specs.Scenarios.{Scenario, scenario_of, task}
+use Rattle.pr_roles.specs.Scenarios.{Scenario, scenario_of}
 use Rattle.pr_verify.specs.declared.each.Begun.{Begun}
 use Rattle.pr_verify.specs.declared.each.Begun.TheVariants as begun
 use Rattle.pr_verify.specs.declared.each.Check.{Check}
@@ -8,15 +8,18 @@ use Rattle.pr_verify.specs.declared.each.Check.TheVariants as check
 use Rattle.pr_verify.specs.declared.each.CheckOf.{CheckOf}
 use Rattle.pr_verify.specs.declared.refusal.Refusal.{Refusal}
 use Rattle.pr_verify.specs.declared.refusal.Refusal.TheVariants.{Memory}
-use Rattle.pr_verify.specs.Outlines.{OnScripted, HasOutline, SendsFit}
+use Rattle.pr_verify.specs.Outlines.{IsCarried, HostSendsFit}
 use Rattle.pr_verify.specs.Verdicts.{HasReason, IsVerdict}
+
+-- the host has this reason against it, unless memory was refused
+abbrev pub IsReasonOf : Scenario → ℕ → Refusal → Type 0
+IsReasonOf s h refusal = refusal ≢ Memory → HasReason s h refusal
 
 -- What the check of a host says: the host has an outline that is sound and fits, if it is scripted, and what it sends is in
 -- range; else a reason against it, unless memory was refused.
 abbrev pub IsAnswerFor : Scenario → ℕ → Result (Unit {0}) Refusal → Type 0
 IsAnswerFor s h answer =
-    OnOk answer (OnScripted (task s h) (HasOutline s h))
-    × (OnOk answer (OnScripted (task s h) (λ script budget. SendsFit script)) × IfErr answer (λ refusal. refusal ≢ Memory → HasReason s h refusal))
+    OnOk answer (IsCarried s h) × (OnOk answer (HostSendsFit s h) × IfErr answer (IsReasonOf s h))
 
 -- ---- where it is made
 
@@ -44,8 +47,11 @@ EachFrom {X} P n xs = (i : ℕ) (d : X) → i < length xs → P (n + i) (slice_i
 -- reason against one, or memory was refused.
 abbrev pub IsAnswerBefore : Scenario → ℕ → Result (Unit {0}) Refusal → Type 0
 IsAnswerBefore s n answer =
-    OnOk answer ((h : ℕ) → h < n → OnScripted (task s h) (HasOutline s h))
-    × (OnOk answer ((h : ℕ) → h < n → OnScripted (task s h) (λ script budget. SendsFit script)) × IfErr answer (IsVerdict s))
+    OnOk answer ((h : ℕ) → h < n → IsCarried s h) × (OnOk answer ((h : ℕ) → h < n → HostSendsFit s h) × IfErr answer (IsVerdict s))
+
+-- so all of its hosts
+abbrev pub IsAnswerForAll : Scenario → Result (Unit {0}) Refusal → Type 0
+IsAnswerForAll s answer = IsAnswerBefore s (length s.nexuses) answer
 
 -- So do all of these checks together, of whichever scenario they are.
 abbrev pub ComeTo : List Check → Result (Unit {0}) Refusal → Type 0

@@ -1,9 +1,11 @@
 -- What the views of an outline have and lack, by where it comes from.
 use Rattle.std.specs.Prelude.{◌≢◌, ℕ, ◌<◌, IsTrue, List, Option, Some, None}
-use Rattle.std.specs.List.{slice_get, Contains}
+use Rattle.std.specs.List.{slice_get, All, Contains}
 use Rattle.pr_unit.specs.UnitStates.{UnitState, reset}
 use Rattle.pr_roles.specs.Scenarios.{Scenario, role}
+use Rattle.pr_views.specs.declared.view.ViewOf.{ViewOf}
 use Rattle.pr_views.specs.Views.{View, Shows, Within}
+use Rattle.pr_views.specs.Rooms.{IsMade, AreAlike}
 use Rattle.pr_domain.specs.declared.landing.Landing.{Landing}
 use Rattle.pr_domain.specs.declared.landing.Landing.TheVariants.{Arm, NoArm}
 use Rattle.pr_interference.specs.Interference.{IsDone, declares_resets, Becomes}
@@ -36,6 +38,15 @@ HasView o lines w line = Contains lines line → IsWithinIn w (view_at o.views l
 pub record LacksView (o : Outline) (lines : List ℕ) (w : View) (line : ℕ) : Type 0 where
   pub listed : Contains lines line
   pub missing : ¬ IsWithinIn w (view_at o.views line)
+
+-- the view can be compared with each of these
+pub record CanCompare {S : Type 0} (room : S → ℕ) (views : List (ℕ × ViewOf S)) (v : ViewOf S) : Type 0 where
+  pub made : IsMade room v
+  pub alike : All (λ e. IsMade room e.1 × AreAlike v e.1) views
+
+-- the first of them at which there is no such view
+abbrev pub IsFirstWithout : Outline → List ℕ → View → Option ℕ → Type 0
+IsFirstWithout o lines w = IsLeast (HasView o lines w) (LacksView o lines w)
 
 -- the lines at which the script may be ready after a landing
 abbrev pub lines_after : List (List ℕ) → Landing → Option (List ℕ)

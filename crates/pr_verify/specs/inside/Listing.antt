@@ -22,6 +22,10 @@ pub record IsPlaceWritten (keys : List ℕ) (p : Place) : Type 0 where
   pub few : length p.tests ≤ MOST_ARMS
   pub next : length p.next ≡ length p.tests
 
+-- so can each of the sends
+abbrev pub AreWritten : List ℕ → List Spot → Type 0
+AreWritten keys spots = All (λ p. IsPlaceWritten keys (place_of p)) spots
+
 -- each of these lines is one of those
 abbrev pub AreAmong : List ℕ → List ℕ → Type 0
 AreAmong lines all = (n : ℕ) → Contains lines n → Contains all n

@@ -1,5 +1,7 @@
 -- What is found at the sends of a script, one after another.
-use Rattle.std.specs.Prelude.{◌≡◌, ℕ, ◌<◌, ◌≤◌, nat_le, if◌then◌else◌, List, length, Option, Some, None, slice_index_or}
+use Rattle.std.specs.Prelude.{◌≡◌, ℕ, ◌<◌, ◌≤◌, true, nat_le, if◌then◌else◌, List, length, Option, Some, None, slice_index_or}
+use Rattle.pr_script.specs.Grammar.{script_fits}
+use Rattle.pr_script.specs.Scripts.{Stmts}
 use Rattle.pr_roles.specs.Scenarios.{Scenario}
 use Rattle.pr_views.specs.declared.view.ViewOf.{ViewOf}
 use Rattle.pr_views.specs.Rooms.{IsMade}
@@ -7,12 +9,14 @@ use Rattle.pr_domain.specs.declared.landing.Landing.{Landing}
 use Rattle.pr_domain.specs.declared.landing.Landing.TheVariants as landing
 use Rattle.pr_domain.specs.declared.landing.Class.{Class}
 use Rattle.pr_interference.specs.inside.Interfering.{Among}
+use Rattle.pr_verify.specs.declared.outline.OutlineBy.{OutlineBy}
 use Rattle.pr_verify.specs.declared.places.Spot.{Spot}
 use Rattle.pr_verify.specs.declared.refusal.Refusal.{Refusal}
 use Rattle.pr_verify.specs.declared.refusal.Refusal.TheVariants.{NoArm, OutOfRole, OverBudget, Memory, NotSound}
 use Rattle.pr_verify.specs.Places.{Place}
 use Rattle.pr_verify.specs.Outlines.{Outline, ComesTo, KeepsToRole}
 use Rattle.pr_verify.specs.Refusals.{class_number, FitsAt, BreaksRole, LacksArmFirst}
+use Rattle.pr_verify.specs.Rooms.{IsMadeFor}
 use Rattle.pr_verify.specs.inside.Least.{EachOf, IsLeastAmong}
 use Rattle.pr_verify.specs.inside.Lacking.{HasAll, Lacks}
 use Rattle.pr_verify.specs.inside.Listing.{place_of}
@@ -22,6 +26,12 @@ pub record IsMadeAs {S : Type 0} (room : S → ℕ) (s : Scenario) (v : ViewOf S
   pub made : IsMade room v
   pub keys : v.keys.items ≡ s.keys
   pub hosts : v.hosts ≡ length s.nexuses
+
+-- the views can be ones of this scenario, the host is one of its nexuses, and the script can stand in a text with its keys
+pub record CanCheck {S : Type 0} (room : S → ℕ) (s : Scenario) (script : Stmts) (o : OutlineBy (ViewOf S)) : Type 0 where
+  pub host : o.host < length s.nexuses
+  pub written : script_fits s.keys script ≡ true
+  pub made : IsMadeFor room s o
 
 -- ---- what the views lack
 

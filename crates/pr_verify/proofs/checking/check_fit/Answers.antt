@@ -1,40 +1,30 @@
-use Rattle.std.proofs.Common.{◌≡◌, ℕ, List, length, map, rules, sym, ap, ◌∙◌, subst}
-use Rattle.std.specs.List.{All}
+use Rattle.std.proofs.Common.{◌≡◌, ℕ, List, length, map, sym, ap, ◌∙◌, subst}
 use Rattle.pr_script.specs.Grammar.{rise_above}
 use Rattle.pr_script.specs.Trees.{script_of}
 use Rattle.pr_roles.specs.Scenarios.{scenario_of}
 use Rattle.pr_views.specs.declared.view.ViewOf.{ViewOf}
 use Rattle.pr_verify.specs.declared.places.Spot.{Spot}
 use Rattle.pr_verify.specs.Rooms.{outline_of}
-use Rattle.pr_verify.specs.inside.Listing.{place_of, IsPlaceWritten}
+use Rattle.pr_verify.specs.inside.Listing.{AreWritten}
 use Rattle.pr_verify.specs.inside.Reviewing.{IsFirstMisfit}
 use Rattle.pr_verify.proofs.Checked.{spots_rise, spots_written, is_fitting, is_refusal}
 use Rattle.pr_verify.proofs.Tabled.{lines_listed}
 use Rattle.pr_verify.proofs.checking.check_fit.Goals as goal
 
-pub first_misfit-requires : goal.first_misfit-requires
-first_misfit-requires g c =
-    let s = scenario_of c.args.scenario.now in
-    let script = script_of c.args.script.now in
-    let views = c.args.outline.now.views.items in
-    let spots = c.in_ok-spots.spots.items in
-    let places = c.in_ok-spots.ensures.places in
-    let same = lines_listed g.S.ViewSet.members c.args.outline.now script spots places c.requires.sound.listed in (
-      search rules,
-      (
-        c.requires.host,
-        (
-          c.requires.made,
-          (
-            subst (All (λ x. IsPlaceWritten s.keys (place_of x))) (sym c.deref.ensures.value) (spots_written script spots places s.keys c.requires.written),
-            (
-              subst (λ (xs : List Spot). map (λ (e : ℕ × ViewOf g.row.S.Denot). e.0) views ≡ map (λ x. x.line) xs) (sym c.deref.ensures.value) same,
-              ap (rise_above 0) same ∙ spots_rise script spots places s.keys c.requires.written,
-            ),
-          ),
-        ),
-      ),
-    )
+pub invariant_of-questions-clause-written : goal.invariant_of-questions-clause-written
+invariant_of-questions-clause-written g c =
+    let keys = (scenario_of c.args.scenario.now).keys in
+    subst (AreWritten keys) (sym c.deref.ensures.value) (spots_written (script_of c.args.script.now) c.in_ok-spots.spots.items c.in_ok-spots.ensures.places keys c.requires.able.written)
+
+pub invariant_of-questions-clause-listed : goal.invariant_of-questions-clause-listed
+invariant_of-questions-clause-listed g c =
+    subst (λ (xs : List Spot). map (λ (e : ℕ × ViewOf g.row.S.Denot). e.0) c.args.outline.now.views.items ≡ map (λ x. x.line) xs) (sym c.deref.ensures.value)
+    (lines_listed g.S.ViewSet.members c.args.outline.now (script_of c.args.script.now) c.in_ok-spots.spots.items c.in_ok-spots.ensures.places c.requires.sound.listed)
+
+pub invariant_of-questions-clause-rise : goal.invariant_of-questions-clause-rise
+invariant_of-questions-clause-rise g c =
+    ap (rise_above 0) (lines_listed g.S.ViewSet.members c.args.outline.now (script_of c.args.script.now) c.in_ok-spots.spots.items c.in_ok-spots.ensures.places c.requires.sound.listed)
+    ∙ spots_rise (script_of c.args.script.now) c.in_ok-spots.spots.items c.in_ok-spots.ensures.places (scenario_of c.args.scenario.now).keys c.requires.able.written
 
 pub returns-in-None-clause-fitting : goal.returns-in-None-clause-fitting
 returns-in-None-clause-fitting g c budget cost =
@@ -52,4 +42,4 @@ returns-clause-refusal g c budget cost =
     let spots = c.in_ok-spots.spots.items in
     let places = c.in_ok-spots.ensures.places in
     let found = subst (λ xs. IsFirstMisfit s o (length xs) xs c.in_ok-first_misfit.field-0) c.deref.ensures.value c.in_ok-first_misfit.ensures in
-    is_refusal s script o spots places budget c.in-Some.refusal (spots_rise script spots places s.keys c.requires.written) cost c.requires.sound (subst (IsFirstMisfit s o (length spots) spots) c.in-Some.is found)
+    is_refusal s script o spots places budget c.in-Some.refusal (spots_rise script spots places s.keys c.requires.able.written) cost c.requires.sound (subst (IsFirstMisfit s o (length spots) spots) c.in-Some.is found)

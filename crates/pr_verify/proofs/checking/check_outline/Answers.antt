@@ -27,14 +27,14 @@ check_sound-requires g c =
     let host = c.args.outline.now.host in
     let there = scripted_there (scenario_of c.args.scenario.now) host c.requires.scripted in
     let fits = scripted_fits (scenario_of c.args.scenario.now) host c.nexus_in.result.now c.nexus_in.ensures.nexus c.in-Scripted.script c.in-Scripted.budget c.in-Scripted.is c.nexus_in.ensures.fits in
-    (search rules, (there, (fits.0, (c.nexus_in.ensures.starts, c.requires.made))))
+    (search rules, (c.nexus_in.ensures.starts, record { host = there; written = fits.0; made = c.requires.made }))
 
 pub check_fit-requires : goal.check_fit-requires
 check_fit-requires g c =
     let host = c.args.outline.now.host in
     let there = scripted_there (scenario_of c.args.scenario.now) host c.requires.scripted in
     let fits = scripted_fits (scenario_of c.args.scenario.now) host c.nexus_in.result.now c.nexus_in.ensures.nexus c.in-Scripted.script c.in-Scripted.budget c.in-Scripted.is c.nexus_in.ensures.fits in
-    (search rules, (there, (fits.0, (c.requires.made, c.in_ok-check_sound-in-Scripted.ensures.sound))))
+    (search rules, (record { host = there; written = fits.0; made = c.requires.made }, c.in_ok-check_sound-in-Scripted.ensures.sound))
 
 pub unreachable-requires : goal.unreachable-requires
 unreachable-requires g c =

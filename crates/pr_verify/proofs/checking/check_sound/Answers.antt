@@ -1,5 +1,4 @@
 use Rattle.std.proofs.Common.{◌≡◌, ℕ, List, map, Some, rules, refl, sym, ap, ◌∙◌, subst, inl, inr}
-use Rattle.std.specs.List.{All}
 use Rattle.pr_script.specs.Trees.{script_of}
 use Rattle.pr_script.specs.Grammar.{rise_above}
 use Rattle.pr_roles.specs.Scenarios.{scenario_of}
@@ -9,7 +8,7 @@ use Rattle.pr_verify.specs.declared.places.Spot.{Spot}
 use Rattle.pr_verify.specs.Places.{places_of}
 use Rattle.pr_verify.specs.Outlines.{IsAsked}
 use Rattle.pr_verify.specs.Rooms.{outline_of}
-use Rattle.pr_verify.specs.inside.Listing.{place_of, IsPlaceWritten}
+use Rattle.pr_verify.specs.inside.Listing.{place_of, AreWritten}
 use Rattle.pr_verify.specs.inside.Lacking.{IsFirstLacking}
 use Rattle.pr_verify.proofs.Checked.{spots_rise, spots_written, is_listed, differs_at, differing_read, same_lines, is_sound, lacks_first}
 use Rattle.pr_verify.proofs.Begun.{scoped}
@@ -23,32 +22,24 @@ returns-in-Some-clause-refusal g c budget cost =
     let is = differing_read c.deref.result.now views c.deref-2.result.now spots (Some c.in-Some.line) c.deref.ensures.value c.deref-2.ensures.value c.in-Some.ensures in
     (refl, cost, inl (differs_at (script_of c.args.script.now) spots c.in_ok-spots.ensures.places (view_of g.S.ViewSet.members host) views host c.in-Some.line is))
 
+pub invariant_of-questions-clause-written : goal.invariant_of-questions-clause-written
+invariant_of-questions-clause-written g c =
+    let keys = (scenario_of c.args.scenario.now).keys in
+    subst (AreWritten keys) (sym c.deref-3.ensures.value) (spots_written (script_of c.args.script.now) c.in_ok-spots.spots.items c.in_ok-spots.ensures.places keys c.requires.able.written)
+
+pub invariant_of-questions-clause-listed : goal.invariant_of-questions-clause-listed
+invariant_of-questions-clause-listed g c =
+    subst (λ (xs : List Spot). map (λ (e : ℕ × ViewOf g.row.S.Denot). e.0) c.args.outline.now.views.items ≡ map (λ x. x.line) xs) (sym c.deref-3.ensures.value)
+    (same_lines c.deref.result.now c.args.outline.now.views.items c.deref-2.result.now c.in_ok-spots.spots.items c.first_difference.result c.deref.ensures.value c.deref-2.ensures.value c.first_difference.ensures c.in_default.is)
+
+pub invariant_of-questions-clause-rise : goal.invariant_of-questions-clause-rise
+invariant_of-questions-clause-rise g c =
+    ap (rise_above 0) (same_lines c.deref.result.now c.args.outline.now.views.items c.deref-2.result.now c.in_ok-spots.spots.items c.first_difference.result c.deref.ensures.value c.deref-2.ensures.value c.first_difference.ensures c.in_default.is)
+    ∙ spots_rise (script_of c.args.script.now) c.in_ok-spots.spots.items c.in_ok-spots.ensures.places (scenario_of c.args.scenario.now).keys c.requires.able.written
+
 pub first_unsound-requires : goal.first_unsound-requires
 first_unsound-requires g c =
-    let s = scenario_of c.args.scenario.now in
-    let script = script_of c.args.script.now in
-    let spots = c.in_ok-spots.spots.items in
-    let places = c.in_ok-spots.ensures.places in
-    let same = same_lines c.deref.result.now c.args.outline.now.views.items c.deref-2.result.now spots c.first_difference.result c.deref.ensures.value c.deref-2.ensures.value c.first_difference.ensures c.in_default.is in
-    let rise = ap (rise_above 0) same ∙ spots_rise script spots places s.keys c.requires.written in (
-      search rules,
-      (
-        c.requires.starts,
-        (
-          c.requires.host,
-          (
-            c.requires.made,
-            (
-              subst (λ (xs : List Spot). map place_of xs ≡ places_of script) (sym c.deref-3.ensures.value) places,
-              (
-                subst (All (λ x. IsPlaceWritten s.keys (place_of x))) (sym c.deref-3.ensures.value) (spots_written script spots places s.keys c.requires.written),
-                (subst (λ (xs : List Spot). map (λ (e : ℕ × ViewOf g.row.S.Denot). e.0) c.args.outline.now.views.items ≡ map (λ x. x.line) xs) (sym c.deref-3.ensures.value) same, rise),
-              ),
-            ),
-          ),
-        ),
-      ),
-    )
+    (search rules, (c.requires.starts, (c.requires.able.made, subst (λ (xs : List Spot). map place_of xs ≡ places_of (script_of c.args.script.now)) (sym c.deref-3.ensures.value) c.in_ok-spots.ensures.places)))
 
 pub returns-in-None-clause-sound : goal.returns-in-None-clause-sound
 returns-in-None-clause-sound g c =
@@ -61,7 +52,7 @@ returns-in-None-clause-sound g c =
     let places = c.in_ok-spots.ensures.places in
     let same = same_lines c.deref.result.now views c.deref-2.result.now spots c.first_difference.result c.deref.ensures.value c.deref-2.ensures.value c.first_difference.ensures c.in_default.is in
     let found = subst (IsFirstLacking o (IsAsked s script o)) c.in-None.is c.in_ok-first_unsound.ensures in
-    is_sound s script o spots places (is_listed script spots places (view_of g.S.ViewSet.members host) views host same) (scoped g.S.ViewSet.members g.S.ViewSet.room s c.args.outline.now c.requires.made) found
+    is_sound s script o spots places (is_listed script spots places (view_of g.S.ViewSet.members host) views host same) (scoped g.S.ViewSet.members g.S.ViewSet.room s c.args.outline.now c.requires.able.made) found
 
 pub returns-clause-refusal : goal.returns-clause-refusal
 returns-clause-refusal g c budget cost =

@@ -1,4 +1,4 @@
-use Rattle.std.specs.Prelude.{◌≡◌, vec_len, vec_capacity}
+use Rattle.std.specs.Prelude.{◌≡◌, ◌≤◌, vec_len, vec_capacity}
 use Rattle.pr_roles.specs.Scenarios.{scenario_of}
 use Rattle.pr_verify.specs.inside.Checks.{EachFrom, IsBegunFor}
 use Rattle.pr_verify.proofs.each.begin_all.Given as goal
@@ -7,6 +7,6 @@ use Rattle.pr_verify.proofs.each.begin_all.Given as goal
 abbrev pub invariant-loop-host : goal.invariant-loop-host
 invariant-loop-host g l = record {
   len : vec_len l.begun ≡ l.host;
-  room : vec_capacity l.begun ≡ vec_capacity l.fn.begun;
+  room : l.fn.lists.hosts ≤ vec_capacity l.begun;
   each : EachFrom (IsBegunFor (scenario_of l.scenario)) 0 l.begun.items;
 }

@@ -2,12 +2,10 @@ use Rattle.std.proofs.Common.{arith}
 use Rattle.pr_domain.proofs.Written.{are_counted}
 use Rattle.pr_verify.proofs.each.check_each.Goals as goal
 
-pub in_threads-requires-clause-room_to_begin : goal.in_threads-requires-clause-room_to_begin
-in_threads-requires-clause-room_to_begin g c κs within =
-    let all = (are_counted c.args.scenario.now c.parts.result.now c.len-hosts.result c.parts.ensures.value c.parts.ensures.fits c.len-hosts.ensures).nexuses in
-    omega (arith, all, c.in_ok-begun.ensures.exact)
+pub overflow_cast-hosts : goal.overflow_cast-hosts
+overflow_cast-hosts g c = let few = (are_counted c.args.scenario.now c.parts.result.now c.len-hosts.result c.parts.ensures.value c.parts.ensures.fits c.len-hosts.ensures).few.1 in omega arith
 
-pub in_threads-requires-clause-room_to_check : goal.in_threads-requires-clause-room_to_check
-in_threads-requires-clause-room_to_check g c κs within =
+pub in_threads-requires-after_bounds : goal.in_threads-requires-after_bounds
+in_threads-requires-after_bounds g c κs within =
     let all = (are_counted c.args.scenario.now c.parts.result.now c.len-hosts.result c.parts.ensures.value c.parts.ensures.fits c.len-hosts.ensures).nexuses in
-    omega (arith, all, c.in_ok-checks.ensures.exact)
+    omega (arith, all, c.in_ok-lists.ensures)

@@ -1,15 +1,16 @@
 use Rattle.pr_roles.specs.Scenarios.{scenario_of}
 use Rattle.pr_views.specs.Rooms.{view_of}
 use Rattle.pr_verify.proofs.Disturbed.{is_closed, if_answered}
+use Rattle.pr_verify.proofs.Answering.{own_there}
 use Rattle.pr_verify.proofs.others.is_closed.Goals as goal
 
 pub returns-then-not-branch-clause-open : goal.returns-then-not-branch-clause-open
-returns-then-not-branch-clause-open g c denied = c.in_ok-is_closed_to_resets.ensures.open c.if-not-branch.true c.args.own c.requires.own
+returns-then-not-branch-clause-open g c denied = c.in_ok-is_closed_to_resets.ensures.open c.if-not-branch.true c.args.asked.now.outline.now.host (own_there c.args.asked.now c.args.view.now c.requires.hosts)
 
 pub returns-clause-closed : goal.returns-clause-closed
 returns-clause-closed g c =
-    let s = scenario_of c.args.scenario.now in
-    let v = view_of g.S.ViewSet.members c.args.own c.args.view.now in
+    let s = scenario_of c.args.asked.now.scenario.now in
+    let v = view_of g.S.ViewSet.members c.args.asked.now.outline.now.host c.args.view.now in
     if_answered c.is_closed_to_others.result
-    (λ b others is. is_closed s v c.args.view.now.hosts c.requires.hosts (others is) (c.in_ok-is_closed_to_resets.ensures.closed c.if-not-branch.false c.args.own c.requires.own))
+    (λ b others is. is_closed s v c.args.view.now.hosts c.requires.hosts (others is) (c.in_ok-is_closed_to_resets.ensures.closed c.if-not-branch.false c.args.asked.now.outline.now.host (own_there c.args.asked.now c.args.view.now c.requires.hosts)))
     c.is_closed_to_others.ensures.closed

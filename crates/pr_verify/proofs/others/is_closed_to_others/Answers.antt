@@ -4,6 +4,7 @@ use Rattle.pr_roles.specs.Fitting.{is_role}
 use Rattle.pr_roles.specs.Scenarios.{scenario_of}
 use Rattle.pr_views.specs.Rooms.{view_of}
 use Rattle.pr_views.proofs.Viewing.{fits}
+use Rattle.pr_verify.proofs.Answering.{own_there}
 use Rattle.pr_verify.proofs.Begun.{any_own, scope_alike}
 use Rattle.pr_verify.proofs.Nexuses.{role_read, role_fits}
 use Rattle.pr_verify.proofs.Disturbed.{closed_to_none, closed_own, closed_one, open_by}
@@ -11,7 +12,7 @@ use Rattle.pr_verify.proofs.others.is_closed_to_others.Goals.{then-other-own+in_
 use Rattle.pr_verify.proofs.others.is_closed_to_others.Goals as goal
 
 pub loop-other-init : goal.loop-other-init
-loop-other-init g c = closed_to_none (scenario_of c.args.scenario.now) (view_of g.S.ViewSet.members c.args.own c.args.view.now)
+loop-other-init g c = closed_to_none (scenario_of c.args.asked.now.scenario.now) (view_of g.S.ViewSet.members c.args.asked.now.outline.now.host c.args.view.now)
 
 pub nexus_in-requires : goal.nexus_in-requires
 nexus_in-requires g c = let same = c.requires.hosts in let small = c.loop-other-test.true in omega arith
@@ -22,13 +23,13 @@ interfere-requires g c = (
   (
     c.requires.made,
     (
-      c.requires.own,
+      own_there c.args.asked.now c.args.view.now c.requires.hosts,
       (
         c.loop-other-test.true,
         (
           λ same. c.if-other-own.true (sym same),
           subst (λ keys. is_role keys c.nexus_in.result.now.role.clauses.items ≡ true) (sym c.requires.keys)
-              (role_fits (scenario_of c.args.scenario.now) c.loop-other.other c.nexus_in.result.now c.nexus_in.ensures.nexus c.nexus_in.ensures.fits),
+              (role_fits (scenario_of c.args.asked.now.scenario.now) c.loop-other.other c.nexus_in.result.now c.nexus_in.ensures.nexus c.nexus_in.ensures.fits),
         ),
       ),
     ),
@@ -38,27 +39,27 @@ interfere-requires g c = (
 pub returns-then-not-within-clause-open : goal.returns-then-not-within-clause-open
 returns-then-not-within-clause-open g c denied =
     let members = g.S.ViewSet.members in
-    let own = c.args.own in
+    let own = c.args.asked.now.outline.now.host in
     let left = c.in_ok-left.left in
     let view = c.args.view.now in
-    let there : c.loop-other.other < length (scenario_of c.args.scenario.now).nexuses = (let same = c.requires.hosts in let small = c.loop-other-test.true in omega arith) in
-    open_by (scenario_of c.args.scenario.now) (view_of members own view) c.loop-other.other c.nexus_in.result.now.role.clauses.items (view_of members own left) (scope_alike own view left c.in_ok-left.ensures.alike)
-    (fits members g.S.ViewSet.room g.met.S.ViewSet.below left own c.in_ok-left.ensures.made (subst (λ n. own < n) c.in_ok-left.ensures.alike.hosts c.requires.own)) there c.if-other-own.true
-    (role_read (scenario_of c.args.scenario.now) c.loop-other.other c.nexus_in.result.now c.nexus_in.ensures.nexus)
+    let there : c.loop-other.other < length (scenario_of c.args.asked.now.scenario.now).nexuses = (let same = c.requires.hosts in let small = c.loop-other-test.true in omega arith) in
+    open_by (scenario_of c.args.asked.now.scenario.now) (view_of members own view) c.loop-other.other c.nexus_in.result.now.role.clauses.items (view_of members own left) (scope_alike own view left c.in_ok-left.ensures.alike)
+    (fits members g.S.ViewSet.room g.met.S.ViewSet.below left own c.in_ok-left.ensures.made (subst (λ n. own < n) c.in_ok-left.ensures.alike.hosts (own_there c.args.asked.now c.args.view.now c.requires.hosts))) there c.if-other-own.true
+    (role_read (scenario_of c.args.asked.now.scenario.now) c.loop-other.other c.nexus_in.result.now c.nexus_in.ensures.nexus)
     c.in_ok-left.ensures.interference (λ within. false≢true (sym c.if-not-within.true ∙ c.within.ensures.1 (any_own members g.S.ViewSet.room left view own within)))
 
 pub loop-other-preserved : goal.loop-other-preserved
 loop-other-preserved g c =
     let members = g.S.ViewSet.members in
-    let own = c.args.own in
+    let own = c.args.asked.now.outline.now.host in
     let view = c.args.view.now in
     elim c.if-other-own.branch [
       | then-other-own+in_ok-left+else-not-within w ↦
-          closed_one (scenario_of c.args.scenario.now) (view_of members own view) c.loop-other.other w.nexus_in.result.now.role.clauses.items (view_of members own w.in_ok-left.left)
+          closed_one (scenario_of c.args.asked.now.scenario.now) (view_of members own view) c.loop-other.other w.nexus_in.result.now.role.clauses.items (view_of members own w.in_ok-left.left)
           (scope_alike own view w.in_ok-left.left w.in_ok-left.ensures.alike)
-          (role_read (scenario_of c.args.scenario.now) c.loop-other.other w.nexus_in.result.now w.nexus_in.ensures.nexus)
+          (role_read (scenario_of c.args.asked.now.scenario.now) c.loop-other.other w.nexus_in.result.now w.nexus_in.ensures.nexus)
           w.in_ok-left.ensures.interference (w.within.ensures.0 w.if-not-within.false own) c.loop-other.invariant
-      | else-other-own w ↦ closed_own (scenario_of c.args.scenario.now) (view_of members own view) c.loop-other.other w.if-other-own.false c.loop-other.invariant
+      | else-other-own w ↦ closed_own (scenario_of c.args.asked.now.scenario.now) (view_of members own view) c.loop-other.other w.if-other-own.false c.loop-other.invariant
     ]
 
 pub returns-clause-closed : goal.returns-clause-closed

@@ -1,11 +1,10 @@
 use Rattle.std.proofs.Common.{◌≡◌, ◌+◌, length, map, rules, sym, ◌∙◌, subst, arith}
-use Rattle.std.specs.List.{All}
 use Rattle.pr_views.specs.declared.view.ViewOf.{ViewOf}
-use Rattle.pr_views.specs.Rooms.{view_of, IsMade, AreAlike}
+use Rattle.pr_views.specs.Rooms.{view_of}
 use Rattle.pr_domain.specs.declared.landing.Landing.{Landing}
 use Rattle.pr_verify.specs.Rooms.{outline_of}
 use Rattle.pr_verify.specs.inside.Least.{IsLeast, IsLeastAmong}
-use Rattle.pr_verify.specs.inside.Lacking.{lines_after, HasNext, LacksNext}
+use Rattle.pr_verify.specs.inside.Lacking.{CanCompare, lines_after, HasNext, LacksNext}
 use Rattle.pr_verify.proofs.Leasts.{least_none, least_more, least_same}
 use Rattle.pr_verify.proofs.reviewing.lacking_after.Goals.{in-Some, in_default}
 use Rattle.pr_verify.proofs.reviewing.lacking_after.Goals as goal
@@ -21,10 +20,7 @@ loop-landing-init g c =
 pub first_lacking-requires : goal.first_lacking-requires
 first_lacking-requires g c =
     let x = c.loop-landing-item.result in
-    let made = subst (λ (o : Landing × ViewOf g.row.S.Denot). IsMade g.S.ViewSet.room o.1) (sym c.loop-landing-item.is) (c.requires.made c.loop-landing.landing-index x c.loop-landing-test.true) in
-    let alike = subst (λ (o : Landing × ViewOf g.row.S.Denot). All (λ e. IsMade g.S.ViewSet.room e.1 × AreAlike o.1 e.1) c.args.outline.now.views.items) (sym c.loop-landing-item.is)
-    (c.requires.alike c.loop-landing.landing-index x c.loop-landing-test.true) in
-    (search rules, (made, alike))
+    (search rules, subst (λ (o : Landing × ViewOf g.row.S.Denot). CanCompare g.S.ViewSet.room c.args.outline.now.views.items o.1) (sym c.loop-landing-item.is) (c.requires c.loop-landing.landing-index x c.loop-landing-test.true))
 
 pub loop-landing-preserved : goal.loop-landing-preserved
 loop-landing-preserved g c =

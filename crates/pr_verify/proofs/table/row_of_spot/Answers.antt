@@ -16,9 +16,9 @@ use Rattle.pr_verify.proofs.table.row_of_spot.Goals as goal
 pub returns : goal.returns
 returns g c =
     let members = g.S.ViewSet.members in
-    let s = scenario_of c.args.scenario.now in
-    let o = outline_of members c.args.outline.now in
-    let own = c.args.outline.now.host in
+    let s = scenario_of c.args.asked.now.scenario.now in
+    let o = outline_of members c.args.asked.now.outline.now in
+    let own = c.args.asked.now.outline.now.host in
     let v = view_of members own c.args.view.now in
     let p = place_of c.args.spot.now in
     let xs = c.args.outcomes.now in

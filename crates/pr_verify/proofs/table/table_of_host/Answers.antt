@@ -1,5 +1,5 @@
-use Rattle.std.proofs.Common.{◌≡◌, ◌<◌, length, map, List, rules, sym, ap, ◌∙◌, subst, ℕ}
-use Rattle.std.specs.List.{All, AllZip}
+use Rattle.std.proofs.Common.{◌≡◌, ◌<◌, length, map, List, sym, ap, ◌∙◌, subst, ℕ}
+use Rattle.std.specs.List.{AllZip}
 use Rattle.pr_script.specs.Grammar.{rise_above}
 use Rattle.pr_script.specs.Trees.{script_of}
 use Rattle.pr_roles.specs.Scenarios.{scenario_of, task}
@@ -13,36 +13,33 @@ use Rattle.pr_verify.specs.Rooms.{outline_of, row_of}
 use Rattle.pr_verify.specs.Tables.{IsRow, IsTable}
 use Rattle.pr_verify.specs.declared.places.Spot.{Spot}
 use Rattle.pr_verify.specs.declared.table.Row.{Row}
-use Rattle.pr_verify.specs.inside.Listing.{place_of, IsPlaceWritten}
+use Rattle.pr_verify.specs.inside.Listing.{place_of, AreWritten}
 use Rattle.pr_verify.proofs.Checked.{spots_rise, spots_written}
 use Rattle.pr_verify.proofs.Rising.{as_many}
 use Rattle.pr_verify.proofs.Tasked.{on_scripted}
 use Rattle.pr_verify.proofs.Tabled.{of_script, lines_listed, zip_map, zip_length}
 use Rattle.pr_verify.proofs.table.table_of_host.Goals as goal
 
-pub rows-requires : goal.rows-requires
-rows-requires c =
-    let s = scenario_of c.args.scenario.now in
-    let script = script_of c.script_in-script.result.now in
-    let spots = c.in_ok-spots.spots.items in
-    let same = lines_listed (members-value).it c.in_ok-outline.outline script spots c.in_ok-spots.ensures.places
-    (of_script (task s c.args.host) script (λ b. IsListed b (outline_of (members-value).it c.in_ok-outline.outline)) c.requires.scripted c.script_in-script.ensures.script c.in_ok-outline.ensures.listed) in
-    let fits = c.script_in-script.ensures.fits in (
-      search rules,
-      (
-        subst (λ h. h < length s.nexuses) (sym c.in_ok-outline.ensures.host) c.script_in-script.ensures.there,
-        (
-          c.in_ok-outline.ensures.made,
-          (
-            subst (All (λ x. IsPlaceWritten s.keys (place_of x))) (sym c.deref.ensures.value) (spots_written script spots c.in_ok-spots.ensures.places s.keys fits),
-            (
-              subst (λ (xs : List Spot). map (λ (e : ℕ × ViewOf WordSet). e.0) c.in_ok-outline.outline.views.items ≡ map (λ x. x.line) xs) (sym c.deref.ensures.value) same,
-              ap (rise_above 0) same ∙ spots_rise script spots c.in_ok-spots.ensures.places s.keys fits,
-            ),
-          ),
-        ),
-      ),
-    )
+pub invariant_of-questions-clause-declared : goal.invariant_of-questions-clause-declared
+invariant_of-questions-clause-declared c = subst (λ h. h < length (scenario_of c.args.scenario.now).nexuses) (sym c.in_ok-outline.ensures.host) c.script_in-script.ensures.there
+
+pub invariant_of-questions-clause-written : goal.invariant_of-questions-clause-written
+invariant_of-questions-clause-written c =
+    let keys = (scenario_of c.args.scenario.now).keys in
+    subst (AreWritten keys) (sym c.deref.ensures.value)
+    (spots_written (script_of c.script_in-script.result.now) c.in_ok-spots.spots.items c.in_ok-spots.ensures.places keys c.script_in-script.ensures.fits)
+
+pub invariant_of-questions-clause-listed : goal.invariant_of-questions-clause-listed
+invariant_of-questions-clause-listed c =
+    let same = lines_listed (members-value).it c.in_ok-outline.outline (script_of c.script_in-script.result.now) c.in_ok-spots.spots.items c.in_ok-spots.ensures.places
+    (of_script (task (scenario_of c.args.scenario.now) c.args.host) (script_of c.script_in-script.result.now) (λ b. IsListed b (outline_of (members-value).it c.in_ok-outline.outline)) c.requires c.script_in-script.ensures.script c.in_ok-outline.ensures.listed) in
+    subst (λ (xs : List Spot). map (λ (e : ℕ × ViewOf WordSet). e.0) c.in_ok-outline.outline.views.items ≡ map (λ x. x.line) xs) (sym c.deref.ensures.value) same
+
+pub invariant_of-questions-clause-rise : goal.invariant_of-questions-clause-rise
+invariant_of-questions-clause-rise c =
+    let same = lines_listed (members-value).it c.in_ok-outline.outline (script_of c.script_in-script.result.now) c.in_ok-spots.spots.items c.in_ok-spots.ensures.places
+    (of_script (task (scenario_of c.args.scenario.now) c.args.host) (script_of c.script_in-script.result.now) (λ b. IsListed b (outline_of (members-value).it c.in_ok-outline.outline)) c.requires c.script_in-script.ensures.script c.in_ok-outline.ensures.listed) in
+    ap (rise_above 0) same ∙ spots_rise (script_of c.script_in-script.result.now) c.in_ok-spots.spots.items c.in_ok-spots.ensures.places (scenario_of c.args.scenario.now).keys c.script_in-script.ensures.fits
 
 pub returns-clause-table : goal.returns-clause-table
 returns-clause-table c =
@@ -52,7 +49,7 @@ returns-clause-table c =
     let spots = c.in_ok-spots.spots.items in
     let o = outline_of (members-value).it c.in_ok-outline.outline in
     let rows = c.in_ok-rows.rows.items in
-    let least = of_script t script (λ b. IsLeastSound s b o) c.requires.scripted c.script_in-script.ensures.script c.in_ok-outline.ensures.least in
+    let least = of_script t script (λ b. IsLeastSound s b o) c.requires c.script_in-script.ensures.script c.in_ok-outline.ensures.least in
     let all = subst (λ (xs : List Spot). AllZip (λ p r. IsRow s o (place_of p) (row_of r)) xs rows) c.deref.ensures.value c.in_ok-rows.ensures in
     let is : IsTable s script (record { outline = o; rows = map row_of rows }) = record {
       least = least;
@@ -67,7 +64,7 @@ returns-clause-rows c =
     let spots = c.in_ok-spots.spots.items in
     let o = outline_of (members-value).it c.in_ok-outline.outline in
     let listed = lines_listed (members-value).it c.in_ok-outline.outline script spots c.in_ok-spots.ensures.places
-    (of_script (task s c.args.host) script (λ b. IsListed b (outline_of (members-value).it c.in_ok-outline.outline)) c.requires.scripted c.script_in-script.ensures.script c.in_ok-outline.ensures.listed) in
+    (of_script (task s c.args.host) script (λ b. IsListed b (outline_of (members-value).it c.in_ok-outline.outline)) c.requires c.script_in-script.ensures.script c.in_ok-outline.ensures.listed) in
     let R = λ (p : Spot) (r : Row). IsRow (scenario_of c.args.scenario.now) o (place_of p) (row_of r) in
     zip_length R c.deref.result.now c.in_ok-rows.rows.items c.in_ok-rows.ensures ∙ ap length c.deref.ensures.value
     ∙ sym (as_many (λ (p : Spot). p.line) c.in_ok-outline.outline.views.items spots listed)

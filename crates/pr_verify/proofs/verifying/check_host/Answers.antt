@@ -37,7 +37,7 @@ check_fit-requires c =
     let fits = scripted_fits s c.args.host n c.nexus_in.ensures.nexus c.in-Scripted.script c.in-Scripted.budget c.in-Scripted.is c.nexus_in.ensures.fits in
     let same = c.in_ok-outline-in-Scripted.ensures.host in
     let least = subst (λ t. OnScripted t (λ b n. IsLeastSound s b o)) is c.in_ok-outline-in-Scripted.ensures.least in
-    (search rules, (omega (arith, c.requires), (fits.0, (c.in_ok-outline-in-Scripted.ensures.made, least.sound))))
+    (search rules, (record { host = omega (arith, c.requires); written = fits.0; made = c.in_ok-outline-in-Scripted.ensures.made }, least.sound))
 
 pub returns-in_ok-outline-in-Scripted-clause-outline : goal.returns-in_ok-outline-in-Scripted-clause-outline
 returns-in_ok-outline-in-Scripted-clause-outline c =
