@@ -1,3 +1,3 @@
-pub mod Sets
-pub mod Lowest
 pub mod Bits
+pub mod LowestCodes
+pub mod Sets

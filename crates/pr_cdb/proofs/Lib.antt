@@ -1,3 +1,3 @@
-pub mod ReadsInRange
-pub mod ReadsWritten
-pub mod ReadsData
+pub mod CommandRoundTrip
+pub mod FieldRanges
+pub mod ReplyRoundTrip

@@ -1,9 +1,6 @@
-pub mod Naming
-pub mod Plans
-pub mod Judging
-pub mod Auditing
-pub mod Reasons
-pub mod Performing
-pub mod Taking
-pub mod WitnessLines
-pub mod Witnessing
+pub mod Audits
+pub mod Checks
+pub mod Replays
+pub mod Runs
+pub mod Steps
+pub mod Witnesses

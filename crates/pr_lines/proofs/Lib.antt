@@ -1,7 +1,5 @@
+pub mod Chain
+pub mod ScenarioLines
 pub mod Tests
-pub mod LineCuts
-pub mod NumberRoom
-pub mod NameText
-pub mod Lists
-pub mod ItemWords
-pub mod ItemTerms
+pub mod TextLines
+pub mod WordTerms

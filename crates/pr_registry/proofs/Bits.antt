@@ -2,7 +2,7 @@
 use Rattle.std.proofs.Common.{◌≡◌, ℕ, ◌-◌, ◌*◌, ◌%◌, ◌^◌, ◌<◌, ◌==◌, w16, sym, ap, ◌∙◌, bit_or, bit_and}
 use Rattle.std.specs.Int.{bit_at}
 use Rattle.std.specs.FinSet as set
-use Rattle.pr_sets.proofs.Placed.{placed, placed-insert, placed-remove, placed-difference, placed-zero, zero_from_empty}
+use Rattle.pr_sets.proofs.BitPlaces.{placed, placed-insert, placed-remove, placed-difference, placed-zero, zero_from_empty}
 use Rattle.pr_registry.specs.Hosts.{Hosts, nobody}
 use Rattle.pr_registry.specs.inside.HostBits.{hosts_where}
 use Rattle.pr_registry.proofs.Sets.{hosts_where-numbers_where}

@@ -1,6 +1,6 @@
-pub mod Sets
 pub mod Bits
-pub mod Tables
+pub mod KeyValues
+pub mod Sets
 pub mod States
-pub mod Told
-pub mod Values
+pub mod Tables
+pub mod ToldRegistrants

@@ -1,9 +1,5 @@
-pub mod Apart
-pub mod Starting
-pub mod Reserving
-pub mod Allowed
-pub mod Earliest
-pub mod Controls
-pub mod Refused
-pub mod FirstVersion
-pub mod Resetting
+pub mod FirstStarts
+pub mod Fitting
+pub mod Laws
+pub mod Starts
+pub mod Worlds

@@ -8,7 +8,7 @@ use Rattle.std.proofs.lemmas.Nat.Bits.{bit_at_and, bit_at_not, bit_at-zero, bit_
 use Rattle.std.proofs.Math.Nat.{div-div-eq-div-mul}
 use Rattle.pr_sets.specs.Numbers.{Has, Within, IsNext, HasNoneFrom}
 use Rattle.pr_sets.specs.Kept.{numbers_of_bits}
-use Rattle.pr_sets.proofs.Placed.{below_from, zero_from, contains-placed, contains-placed_below, contains-placed_clear}
+use Rattle.pr_sets.proofs.BitPlaces.{below_from, zero_from, contains-placed, contains-placed_below, contains-placed_clear}
 
 -- ---- one place and one bit
 

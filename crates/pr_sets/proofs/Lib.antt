@@ -1,7 +1,7 @@
-pub mod Words
-pub mod Wides
-pub mod Members
-pub mod Placed
+pub mod BitPlaces
 pub mod Bits
-pub mod Lists
 pub mod Lattice
+pub mod Lists
+pub mod Members
+pub mod Wides
+pub mod Words

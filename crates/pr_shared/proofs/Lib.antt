@@ -1,8 +1,6 @@
-pub mod Comparing
-pub mod Fitted
-pub mod Furnishing
-pub mod Matching
-pub mod Sending
+pub mod Guests
+pub mod Histories
+pub mod Outcomes
+pub mod SendableSeats
+pub mod Senders
 pub mod Starting
-pub mod TakenTurns
-pub mod Resets

@@ -1,10 +1,4 @@
-pub mod Pairs
-pub mod WellFormed
-pub mod GoodFixed
-pub mod Rows
+pub mod Attentions
 pub mod Steps
-pub mod Answered
-pub mod GoodSteps
-pub mod Quiet
-pub mod NeverBusy
-pub mod Resets
+pub mod TakenSteps
+pub mod UnitStates

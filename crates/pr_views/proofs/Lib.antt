@@ -1,8 +1,5 @@
 pub mod Common
-pub mod Numbering
-pub mod Showing
-pub mod Places
-pub mod Projecting
-pub mod Fronts
-pub mod Members
-pub mod Viewing
+pub mod Portions
+pub mod Possibilities
+pub mod Room
+pub mod Views

@@ -1,4 +1,4 @@
-pub mod Refuting
 pub mod AllowedStarts
-pub mod Following
-pub mod Ending
+pub mod Ends
+pub mod FollowedHistories
+pub mod Refutations

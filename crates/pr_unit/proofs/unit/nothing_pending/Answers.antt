@@ -5,7 +5,7 @@ use Rattle.pr_cdb.specs.declared.codes.TheConstants.{MOST_NEXUSES}
 use Rattle.pr_attention.specs.Attentions.{Codes, no_code}
 use Rattle.pr_attention.proofs.Sets.{contains-no_code}
 use Rattle.pr_unit.specs.Attentions.{place, table_pairs}
-use Rattle.pr_unit.proofs.Pairs.{same_pairs, contains-none, contains-table_pairs}
+use Rattle.pr_unit.proofs.Attentions.Pairs.{same_pairs, contains-none, contains-table_pairs}
 use Rattle.pr_unit.proofs.unit.nothing_pending.Goals as goal
 
 -- a table of nothing has nothing at any place, nor past its end

@@ -6,7 +6,7 @@ use Rattle.pr_cdb.specs.declared.codes.TheConstants.{MOST_NEXUSES}
 use Rattle.pr_attention.specs.Attentions.{Codes, AreAttentions}
 use Rattle.pr_attention.proofs.Sets.{contains-no_code}
 use Rattle.pr_unit.specs.Attentions.{place, table_pairs}
-use Rattle.pr_unit.proofs.Pairs.{same_pairs, same_number, contains-table_pairs, place-set}
+use Rattle.pr_unit.proofs.Attentions.Pairs.{same_pairs, same_number, contains-table_pairs, place-set}
 use Rattle.pr_unit.proofs.unit.table_of.Goals as goal
 
 -- where a table has a code, it has a place

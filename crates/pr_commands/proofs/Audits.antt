@@ -1,0 +1,2 @@
+pub mod BytesTaken
+pub mod Verdicts

@@ -1,0 +1,2 @@
+pub mod IdleCommands
+pub mod Permissions

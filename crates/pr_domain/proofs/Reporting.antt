@@ -1,0 +1,6 @@
+pub mod AttentionSets
+pub mod Ends
+pub mod FoundWords
+pub mod MatchingTests
+pub mod OutcomeLists
+pub mod OwnerStates

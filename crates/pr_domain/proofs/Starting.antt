@@ -1,0 +1,4 @@
+pub mod AllowedStarts
+pub mod CodeSubsets
+pub mod ShownStarts
+pub mod WrittenNumbers

@@ -1,0 +1,10 @@
+pub mod DataArms
+pub mod EndingWays
+pub mod Gains
+pub mod Growth
+pub mod Origins
+pub mod Possibilities
+pub mod PresentStates
+pub mod RegionStates
+pub mod Requests
+pub mod ShownStates

@@ -1,0 +1,2 @@
+pub mod ClosedViews
+pub mod Rounds

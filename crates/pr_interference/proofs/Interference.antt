@@ -1,0 +1,4 @@
+pub mod AlikeViews
+pub mod Conduct
+pub mod Nexuses
+pub mod PendingStates

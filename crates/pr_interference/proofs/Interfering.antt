@@ -1,0 +1,5 @@
+pub mod Additions
+pub mod Changes
+pub mod Placements
+pub mod RoleEffects
+pub mod Standings

@@ -1,0 +1,2 @@
+pub mod NameText
+pub mod NumberRoom

@@ -1,0 +1,2 @@
+pub mod GatheredStates
+pub mod WordArrays

@@ -1,0 +1,4 @@
+pub mod Contents
+pub mod KeyArms
+pub mod KeyTests
+pub mod ReservationArms

@@ -1,0 +1,5 @@
+pub mod ChangedStates
+pub mod Effects
+pub mod KeyHolders
+pub mod PreemptCases
+pub mod ToldAttentions

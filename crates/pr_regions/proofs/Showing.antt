@@ -1,0 +1,5 @@
+pub mod AlikeStates
+pub mod AlikeViews
+pub mod Numbers
+pub mod ScenarioParts
+pub mod ShownStates

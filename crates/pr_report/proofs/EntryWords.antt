@@ -1,0 +1,2 @@
+pub mod KeyDigits
+pub mod PairBytes

@@ -1,0 +1,3 @@
+pub mod EntriesInFront
+pub mod FirstBytes
+pub mod LinesInFront

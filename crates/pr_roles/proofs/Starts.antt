@@ -1,0 +1,2 @@
+pub mod AllowedStarts
+pub mod Reservations

@@ -1,0 +1,4 @@
+pub mod OpenRepeats
+pub mod Places
+pub mod Successors
+pub mod Tables

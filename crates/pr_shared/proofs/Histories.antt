@@ -1,0 +1,3 @@
+pub mod Resets
+pub mod Seats
+pub mod Turns

@@ -1,0 +1,3 @@
+pub mod NexusLines
+pub mod Uniqueness
+pub mod WholeLines

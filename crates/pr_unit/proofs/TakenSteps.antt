@@ -1,0 +1,2 @@
+pub mod Determinism
+pub mod GoodSteps

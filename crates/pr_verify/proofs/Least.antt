@@ -1,0 +1,2 @@
+pub mod Disturbances
+pub mod FirstLines

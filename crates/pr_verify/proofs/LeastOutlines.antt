@@ -1,0 +1,2 @@
+pub mod MissingViews
+pub mod Possibilities

@@ -1,0 +1,7 @@
+pub mod Checks
+pub mod Controls
+pub mod Events
+pub mod LineOrder
+pub mod Lookups
+pub mod UnnoticedCommands
+pub mod WorkedExample

@@ -1,0 +1,4 @@
+pub mod Findings
+pub mod FittingPlaces
+pub mod OwnCommands
+pub mod Starts

@@ -1,0 +1,3 @@
+pub mod MappedLists
+pub mod Nexuses
+pub mod Scripts

@@ -1,0 +1,5 @@
+pub mod Beginnings
+pub mod Bounds
+pub mod Outlines
+pub mod SettledPlaces
+pub mod Visits

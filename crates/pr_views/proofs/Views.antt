@@ -1,0 +1,2 @@
+pub mod ShownStates
+pub mod Values

@@ -1,0 +1,4 @@
+pub mod Additions
+pub mod Admissions
+pub mod FixedStates
+pub mod RefusalsLeft

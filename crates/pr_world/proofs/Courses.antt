@@ -1,0 +1,4 @@
+pub mod Counts
+pub mod SpelledBytes
+pub mod SpelledCommands
+pub mod Starts
