@@ -10,8 +10,7 @@ ghost use Rattle.pr_verify.specs.Outlines.{view_at};
 ghost use Rattle.pr_verify.specs.Rooms.{outline_of};
 ghost use Rattle.pr_verify.specs.inside.Asked.{AreMade, IsFirstUnstarted, scenario_in};
 ghost use Rattle.pr_verify.specs.inside.Least.{least};
-ghost use Rattle.pr_verify.specs.LeastOutlines.{IsWithinIn};
-ghost use Rattle.pr_verify.specs.inside.Lacking.{CanCompare, IsFirstWithout};
+ghost use Rattle.pr_verify.specs.inside.Lacking.{CanCompare, IsFirstWithout, IsWithinAt};
 
 use crate::answers::Questions;
 use crate::outline::OutlineOf;
@@ -38,8 +37,7 @@ pub(crate) fn first_lacking<S: ViewSet>(
     lines: &[u32],
 ) -> Option<u32>
     requires { CanCompare S.room outline.now.views.items known.now }
-    ensures { IsFirstWithout (outline_of S.members outline.now) lines.now
-        (view_of S.members outline.now.host known.now) result }
+    ensures { IsFirstWithout S.members outline.now known.now lines.now result }
 {
     let mut first = None;
     for line in lines {
@@ -53,8 +51,7 @@ pub(crate) fn first_lacking<S: ViewSet>(
 // Whether the outline has a view at this line in which everything is possible that is possible in this one.
 fn has_within<S: ViewSet>(outline: &OutlineOf<S>, line: u32, known: &ViewOf<S>) -> bool
     requires { CanCompare S.room outline.now.views.items known.now }
-    ensures { IsTrue result ↔ IsWithinIn (view_of S.members outline.now.host known.now)
-        (view_at (outline_of S.members outline.now).views line) }
+    ensures { IsTrue result ↔ IsWithinAt S.members outline.now known.now line }
 {
     match view_at(outline, line) {
         None => false,

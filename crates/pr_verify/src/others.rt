@@ -1,10 +1,10 @@
 //! Whether the views of an outline stand whatever the others do, and through resets of the unit.
 
-ghost use Rattle.std.specs.Prelude.{◌≡◌, ◌<◌, ℕ, false, map, IsTrue, IfOk};
+ghost use Rattle.std.specs.Prelude.{◌≡◌, ℕ, false, map, IsTrue, IfOk};
 ghost use Rattle.pr_roles.specs.Scenarios.{scenario_of};
 ghost use Rattle.pr_views.specs.Rooms.{view_of, IsMade};
-ghost use Rattle.pr_verify.specs.inside.Asked.{AreMade, IsClosedIn, IsFirstLeft, IsOpenIn, scenario_in, view_in};
-ghost use Rattle.pr_verify.specs.inside.Lacking.{CanCompare, IsOpen, IsSameAsOne, IsClosedTo, IsClosedToResets};
+ghost use Rattle.pr_verify.specs.inside.Asked.{AreMade, IsClosedIn, IsClosedToOthersIn, IsFirstLeft, IsOpenIn, scenario_in};
+ghost use Rattle.pr_verify.specs.inside.Lacking.{CanCompare, IsClosedToResetsOfAny, IsOpenOfAny, IsSameAsOne};
 ghost use Rattle.pr_verify.specs.inside.Reviewing.{IsMadeAs};
 
 use crate::answers::Questions;
@@ -71,10 +71,10 @@ fn is_closed_to_resets<S: ViewSet>(
     view: &ViewOf<S>,
 ) -> Result<bool, AllocError>
     requires { IsMade S.room view.now }
-    ensures closed { IfOk result (λ is. IsTrue is → (own : ℕ) → own < view.now.hosts
-        → IsClosedToResets (scenario_of scenario.now) (view_of S.members own view.now)) }
-    ensures open { IfOk result (λ is. is ≡ false → (own : ℕ) → own < view.now.hosts
-        → IsOpen (scenario_of scenario.now) (view_of S.members own view.now)) }
+    ensures closed { IfOk result (λ is. IsTrue is
+        → IsClosedToResetsOfAny S.members (scenario_of scenario.now) view.now) }
+    ensures open { IfOk result (λ is. is ≡ false
+        → IsOpenOfAny S.members (scenario_of scenario.now) view.now) }
 {
     if scenario.parts().resets == 0 {
         return Ok(true);
@@ -90,8 +90,8 @@ fn is_closed_to_others<S: ViewSet>(
     view: &ViewOf<S>,
 ) -> Result<bool, AllocError>
     requires { IsMadeAs S.room (scenario_in asked.now) view.now }
-    ensures closed { IfOk result (λ is. IsTrue is → IsClosedTo view.now.hosts
-        (scenario_in asked.now) (view_in S.members asked.now view.now)) }
+    ensures closed { IfOk result (λ is. IsTrue is
+        → IsClosedToOthersIn S.members asked.now view.now) }
     ensures open { IfOk result (λ is. is ≡ false → IsOpenIn S.members asked.now view.now) }
 {
     let own = asked.outline.host;

@@ -4,14 +4,11 @@ ghost use Rattle.std.specs.Prelude.{◌≡◌, length, map, option_map, IfOk};
 ghost use Rattle.std.specs.List.{All};
 ghost use Rattle.pr_script.specs.Trees.{script_of};
 ghost use Rattle.pr_roles.specs.Starts.{CanStart};
-ghost use Rattle.pr_views.specs.Rooms.{view_of};
 ghost use Rattle.pr_verify.specs.Places.{places_of};
 ghost use Rattle.pr_verify.specs.Refusals.{class_number};
-ghost use Rattle.pr_verify.specs.Rooms.{outline_of};
 ghost use Rattle.pr_verify.specs.inside.Asked.{AreMade, IsAnswered, IsFirstMisfitIn, IsFirstUnsound, IsMisfitIn, scenario_in};
 ghost use Rattle.pr_verify.specs.inside.Listing.{place_of};
-ghost use Rattle.pr_verify.specs.inside.Least.{IsLeastAmong};
-ghost use Rattle.pr_verify.specs.inside.Lacking.{CanCompare, lines_after, HasNext, LacksNext};
+ghost use Rattle.pr_verify.specs.inside.Lacking.{CanCompare, IsFirstWithoutAfter, lines_after};
 ghost use Rattle.pr_verify.specs.inside.Reviewing.{IsFirstUnarmed, earlier, earlier_from};
 
 use crate::answers::Questions;
@@ -78,13 +75,8 @@ fn lacking_after<S: ViewSet>(
     next: &[Vec<u32>],
 ) -> Option<u32>
     requires { All (λ o. CanCompare S.room outline.now.views.items o.1) outcomes.now }
-    ensures { IsLeastAmong (length outcomes.now) outcomes.now
-        (λ o. HasNext (outline_of S.members outline.now)
-        (lines_after (map (λ lines. lines.items) next.now) o.0)
-        (view_of S.members outline.now.host o.1))
-        (λ o. LacksNext (outline_of S.members outline.now)
-        (lines_after (map (λ lines. lines.items) next.now) o.0)
-        (view_of S.members outline.now.host o.1)) result }
+    ensures { IsFirstWithoutAfter S.members outline.now
+        (map (λ lines. lines.items) next.now) outcomes.now result }
 {
     let mut first = None;
     for (landing, left) in outcomes {

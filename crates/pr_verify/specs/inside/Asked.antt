@@ -22,7 +22,7 @@ use Rattle.pr_verify.specs.Rooms.{outline_of, row_of, IsMadeFor}
 use Rattle.pr_verify.specs.Tables.{IsRow}
 use Rattle.pr_verify.specs.inside.Known.{ComesTo, AskTheSame, IsAnswer, IsAnswerAt, AreEqual}
 use Rattle.pr_verify.specs.inside.Listing.{place_of, IsPlaceWritten}
-use Rattle.pr_verify.specs.inside.Lacking.{IsFirstLacking, IsOpen}
+use Rattle.pr_verify.specs.inside.Lacking.{IsFirstLacking, IsClosedTo, IsOpen}
 use Rattle.pr_verify.specs.inside.Reviewing.{IsMadeAs, IsMisfit, IsFirstMisfit}
 
 -- ---- questions
@@ -96,6 +96,9 @@ IsFirstLeft members q = IsFirstLacking (outline_in members q) (IsLeftAt (scenari
 -- the view keeps to what others do, or it does not
 abbrev pub IsClosedIn : {S : Type 0} → (S → Numbers) → Questions (ViewOf S) → ViewOf S → Type 0
 IsClosedIn members q v = IsClosed (scenario_in q) (view_in members q v)
+
+abbrev pub IsClosedToOthersIn : {S : Type 0} → (S → Numbers) → Questions (ViewOf S) → ViewOf S → Type 0
+IsClosedToOthersIn members q v = IsClosedTo v.hosts (scenario_in q) (view_in members q v)
 
 abbrev pub IsOpenIn : {S : Type 0} → (S → Numbers) → Questions (ViewOf S) → ViewOf S → Type 0
 IsOpenIn members q v = IsOpen (scenario_in q) (view_in members q v)

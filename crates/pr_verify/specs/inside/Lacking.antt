@@ -1,17 +1,20 @@
 -- What the views of an outline have and lack, by where it comes from.
-use Rattle.std.specs.Prelude.{◌≢◌, ℕ, ◌<◌, IsTrue, List, Option, Some, None}
+use Rattle.std.specs.Prelude.{◌≢◌, ℕ, ◌<◌, IsTrue, List, length, Option, Some, None}
 use Rattle.std.specs.List.{slice_get, All, Contains}
 use Rattle.pr_unit.specs.UnitStates.{UnitState, reset}
 use Rattle.pr_roles.specs.Scenarios.{Scenario, role}
+use Rattle.pr_sets.specs.Numbers.{Numbers}
 use Rattle.pr_views.specs.declared.view.ViewOf.{ViewOf}
 use Rattle.pr_views.specs.Views.{View, Shows, Within}
-use Rattle.pr_views.specs.Rooms.{IsMade, AreAlike}
+use Rattle.pr_views.specs.Rooms.{view_of, IsMade, AreAlike}
 use Rattle.pr_domain.specs.declared.landing.Landing.{Landing}
 use Rattle.pr_domain.specs.declared.landing.Landing.TheVariants.{Arm, NoArm}
 use Rattle.pr_interference.specs.Interference.{IsDone, declares_resets, Becomes}
+use Rattle.pr_verify.specs.declared.outline.OutlineBy.{OutlineBy}
 use Rattle.pr_verify.specs.Outlines.{Outline, view_at, IsShownAt}
 use Rattle.pr_verify.specs.LeastOutlines.{IsWithinIn}
-use Rattle.pr_verify.specs.inside.Least.{IsLeast}
+use Rattle.pr_verify.specs.Rooms.{outline_of}
+use Rattle.pr_verify.specs.inside.Least.{IsLeast, IsLeastAmong}
 
 -- ---- states
 
@@ -44,9 +47,14 @@ pub record CanCompare {S : Type 0} (room : S → ℕ) (views : List (ℕ × View
   pub made : IsMade room v
   pub alike : All (λ e. IsMade room e.1 × AreAlike v e.1) views
 
--- the first of them at which there is no such view
-abbrev pub IsFirstWithout : Outline → List ℕ → View → Option ℕ → Type 0
-IsFirstWithout o lines w = IsLeast (HasView o lines w) (LacksView o lines w)
+-- the view at the line has what is possible in this one, as they are kept
+abbrev pub IsWithinAt : {S : Type 0} → (S → Numbers) → OutlineBy (ViewOf S) → ViewOf S → ℕ → Type 0
+IsWithinAt members o v line = IsWithinIn (view_of members o.host v) (view_at (outline_of members o).views line)
+
+-- the first of these lines at which it has not
+abbrev pub IsFirstWithout : {S : Type 0} → (S → Numbers) → OutlineBy (ViewOf S) → ViewOf S → List ℕ → Option ℕ → Type 0
+IsFirstWithout members o v lines =
+    IsLeast (HasView (outline_of members o) lines (view_of members o.host v)) (LacksView (outline_of members o) lines (view_of members o.host v))
 
 -- the lines at which the script may be ready after a landing
 abbrev pub lines_after : List (List ℕ) → Landing → Option (List ℕ)
@@ -61,6 +69,13 @@ HasNext o (Some lines) w line = HasView o lines w line
 abbrev pub LacksNext : Outline → Option (List ℕ) → View → ℕ → Type 0
 LacksNext o None w line = ⊥
 LacksNext o (Some lines) w line = LacksView o lines w line
+
+-- the first of the lines after an outcome at which the view there has not what is possible in the outcome's
+abbrev pub IsFirstWithoutAfter : {S : Type 0} → (S → Numbers) → OutlineBy (ViewOf S) → List (List ℕ) → List (Landing × ViewOf S) → Option ℕ → Type 0
+IsFirstWithoutAfter members o next outcomes =
+    IsLeastAmong (length outcomes) outcomes
+    (λ x. HasNext (outline_of members o) (lines_after next x.0) (view_of members o.host x.1))
+    (λ x. LacksNext (outline_of members o) (lines_after next x.0) (view_of members o.host x.1))
 
 -- ---- others
 
@@ -79,6 +94,13 @@ IsClosedTo n s v = (g : ℕ) (u after : UnitState) → g < n → g ≢ v.scope.o
 -- so do resets, where there are any
 abbrev pub IsClosedToResets : Scenario → View → Type 0
 IsClosedToResets s v = IsTrue (declares_resets s) → (u : UnitState) → Shows v u → Shows v (reset u)
+
+-- a view as it is kept, whoever of its nexuses owns it
+abbrev pub IsClosedToResetsOfAny : {S : Type 0} → (S → Numbers) → Scenario → ViewOf S → Type 0
+IsClosedToResetsOfAny members s v = (own : ℕ) → own < v.hosts → IsClosedToResets s (view_of members own v)
+
+abbrev pub IsOpenOfAny : {S : Type 0} → (S → Numbers) → Scenario → ViewOf S → Type 0
+IsOpenOfAny members s v = (own : ℕ) → own < v.hosts → IsOpen s (view_of members own v)
 
 -- the same is possible in the view as in one of these
 pub record IsSameAsOne (v : View) (views : List View) : Type 0 where
