@@ -25,9 +25,9 @@ const AUDIT_CALL: &str = "For example: fence audit preempted-writer.fence preemp
 const EXPLAIN_CALL: &str =
     "For example: fence explain missing-arm.fence, or fence explain missing-arm.fence missing-arm.1.trace";
 
-/// What the words of a command line say: the subcommand `check` or `outline` with its `FILE`, `replay` with its `FILE` and
-/// one `STEP` or more, `run` with its `FILE`, `audit` with its `FILE` and its `TRACE`, or `explain` with its `FILE` and at most
-/// one `TRACE`.
+/// What the words of a command line say: the subcommand `check` with one `FILE` or more, `outline`, `witness` or `run` with its
+/// `FILE`, `replay` with its `FILE` and one `STEP` or more, `audit` with its `FILE` and its `TRACE`, or `explain` with its `FILE`
+/// and at most one `TRACE`.
 pub fn matches_of<'a>(alloc: Global, words: &'a [String]) -> Result<ArgMatches<'a>, Error> {
     command(alloc)?.try_get_matches_from(words)
 }

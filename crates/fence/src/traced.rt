@@ -64,7 +64,7 @@ struct Traced {
 }
 
 // Reads the scenario and the trace, and plans what is told of its history. Of a fault the words go out.
-#[tactic(auto, using(pr_commands::proofs::Audits::BytesTaken::untaken, pr_commands::proofs::Audits::BytesTaken::taken_by))]
+#[tactic(auto, using(pr_commands::proofs::lemmas::Audits::BytesTaken::untaken, pr_commands::proofs::lemmas::Audits::BytesTaken::taken_by))]
 fn plan<R: Read, T: Read, W: Write>(
     alloc: Global,
     reader: &mut R,

@@ -69,7 +69,7 @@ struct Audited {
 }
 
 // Reads the scenario and the trace, and audits its history.
-#[tactic(auto, using(crate::proofs::Audits::BytesTaken::untaken, crate::proofs::Audits::BytesTaken::taken_by))]
+#[tactic(auto, using(crate::proofs::lemmas::Audits::BytesTaken::untaken, crate::proofs::lemmas::Audits::BytesTaken::taken_by))]
 fn examine<R: Read, T: Read>(alloc: Global, reader: &mut R, trace: &mut T) -> Result<Audited, Fault>
     ensures audited { IsAudited (R.remaining reader.old) (T.remaining trace.old) result }
     ensures unread { (e : ReadError) → result ≡ Err (Input e)

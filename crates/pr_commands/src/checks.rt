@@ -60,7 +60,7 @@ fn judge<R: Read>(alloc: Global, reader: &mut R) -> Result<Result<Verified, Refu
 }
 
 /// What a verification comes to. That memory was refused is a fault, and no refusal of a script.
-#[tactic(auto, using(crate::proofs::Checks::Reasons::first_reason))]
+#[tactic(auto, using(crate::proofs::lemmas::Checks::Reasons::first_reason))]
 pub(crate) fn settled(
     judgement: Result<Verified, Refused>,
 ) -> Result<Result<Verified, Refused>, Fault>
@@ -80,7 +80,7 @@ pub(crate) fn settled(
     }
 }
 
-#[tactic(auto, using(crate::proofs::Checks::Reasons::is_reason))]
+#[tactic(auto, using(crate::proofs::lemmas::Checks::Reasons::is_reason))]
 fn put_judgement<W: Write>(
     writer: &mut W,
     judgement: &Result<Verified, Refused>,

@@ -99,7 +99,7 @@ fn plan<R: Read>(alloc: Global, steps: &[&str], reader: &mut R) -> Result<Planne
 }
 
 // No step, or more than 4,096.
-#[tactic(auto, using(crate::proofs::Replays::Plans::wrong_count))]
+#[tactic(auto, using(crate::proofs::lemmas::Replays::Plans::wrong_count))]
 fn has_wrong_count(steps: &[&str]) -> bool
     ensures { result ≡ has_wrong_count (map (λ s. s.now) steps.now) }
 {

@@ -77,7 +77,7 @@ struct Ran {
 }
 
 // Reads the text, and runs its scenario where that is accepted.
-#[tactic(auto, using(crate::proofs::Runs::Outcomes::fault_performed, crate::proofs::Runs::Outcomes::run_performed, crate::proofs::Runs::Outcomes::refusal_performed))]
+#[tactic(auto, using(crate::proofs::lemmas::Runs::Outcomes::fault_performed, crate::proofs::lemmas::Runs::Outcomes::run_performed, crate::proofs::lemmas::Runs::Outcomes::refusal_performed))]
 fn perform<T: Threads + Wait + Sync, R: Read>(
     rt: &T,
     alloc: Global,
@@ -138,7 +138,7 @@ fn fault_for(scenario: &Scenario, error: &RunError) -> Fault
     }
 }
 
-#[tactic(auto, using(crate::proofs::Runs::Outcomes::named_there))]
+#[tactic(auto, using(crate::proofs::lemmas::Runs::Outcomes::named_there))]
 fn name_at(nexuses: &[Nexus], host: u8) -> Name
     requires { host < length nexuses.now }
     ensures { result.bytes ≡ name_of (names_of nexuses.now) host }
@@ -146,7 +146,7 @@ fn name_at(nexuses: &[Nexus], host: u8) -> Name
     nexuses[usize::from(host)].name
 }
 
-#[tactic(auto, using(crate::proofs::Checks::Reasons::is_reason))]
+#[tactic(auto, using(crate::proofs::lemmas::Checks::Reasons::is_reason))]
 fn put_performed<W: Write>(
     writer: &mut W,
     performed: &Result<Ran, Refused>,
@@ -164,7 +164,7 @@ fn put_performed<W: Write>(
     }
 }
 
-#[tactic(auto, using(crate::proofs::Replays::Plans::nexuses_in, crate::proofs::Steps::Words::few_nexuses))]
+#[tactic(auto, using(crate::proofs::lemmas::Replays::Plans::nexuses_in, crate::proofs::lemmas::Steps::Words::few_nexuses))]
 fn put_outcome<W: Write>(
     writer: &mut W,
     scenario: &Scenario,

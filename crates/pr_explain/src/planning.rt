@@ -47,7 +47,7 @@ fn accepted(alloc: Global, verified: Verified) -> Result<Explanation, AllocError
 }
 
 // That memory was refused is no reason.
-#[tactic(auto, using(crate::proofs::Reasons::first_reason))]
+#[tactic(auto, using(crate::proofs::lemmas::Reasons::first_reason))]
 fn refused(alloc: Global, scenario: Scenario, refusal: Refusal) -> Result<Explanation, AllocError>
     requires { IsVerdict (scenario_of scenario) refusal }
     ensures scenario { IfOk result (λ e. scenario_in e ≡ scenario) }

@@ -1,4 +1,4 @@
-//! What becomes of a view while another sends commands.
+//! One who watches another's commands, and what is known of both.
 
 ghost use Rattle.std.specs.Prelude.{◌<◌, ◌≤◌, length, IfSome, IfNone};
 ghost use Rattle.pr_cdb.specs.declared.codes.TheConstants.{MOST_NEXUSES};

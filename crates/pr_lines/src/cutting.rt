@@ -68,7 +68,7 @@ fn is_blank(byte: u8) -> bool
 ///
 /// Words stand between tabs and spaces. One that begins with `#` begins a comment, which goes to the end of the
 /// line and has no words (docs/FORMATS.md, 'Lines and words').
-#[tactic(auto, using(crate::proofs::TextLines::Cuts::words_empty, crate::proofs::TextLines::Cuts::words_comment, crate::proofs::TextLines::Cuts::words_word, crate::proofs::TextLines::Cuts::words_none))]
+#[tactic(auto, using(crate::proofs::lemmas::TextLines::Cuts::words_empty, crate::proofs::lemmas::TextLines::Cuts::words_comment, crate::proofs::lemmas::TextLines::Cuts::words_word, crate::proofs::lemmas::TextLines::Cuts::words_none))]
 pub fn next_word(line: &[u8]) -> Option<(&[u8], &[u8])>
     ensures words { MatchOption result (words line.now ≡ [])
         (λ r. words line.now ≡ r.0.now ∷ words r.1.now) }

@@ -98,7 +98,7 @@ pub enum ScenarioLine {
 ///
 /// A line whose first word is none of those that lines begin with is a command of a plan. The one error is want of
 /// memory for a list.
-#[tactic(auto, using(crate::proofs::ScenarioLines::Words::by_keyword))]
+#[tactic(auto, using(crate::proofs::lemmas::ScenarioLines::Words::by_keyword))]
 pub fn item_of(alloc: Global, word: &[u8], rest: &[u8]) -> Result<Option<ScenarioLine>, AllocError>
     ensures { IfOk result (λ item. option_map line_of_value item
         ≡ item_of word.now (words rest.now)) }
@@ -278,7 +278,7 @@ fn reservation_said(alloc: Global, rest: &[u8]) -> Result<Option<ScenarioLine>, 
     Ok(wanted.map(ScenarioLine::Reservation))
 }
 
-#[tactic(auto, using(crate::proofs::Chain::Lists::each_same))]
+#[tactic(auto, using(crate::proofs::lemmas::Chain::Lists::each_same))]
 fn keys_in(alloc: Global, line: &[u8]) -> Result<Option<Vec<u64>>, AllocError>
     ensures { IfOk result (λ keys. option_map (λ v. v.items) keys
         ≡ list_of key_of (words line.now)) }
@@ -298,7 +298,7 @@ fn keys_in(alloc: Global, line: &[u8]) -> Result<Option<Vec<u64>>, AllocError>
     Ok(Some(keys))
 }
 
-#[tactic(auto, using(crate::proofs::Chain::Lists::each_same))]
+#[tactic(auto, using(crate::proofs::lemmas::Chain::Lists::each_same))]
 fn alternatives_in(alloc: Global, line: &[u8]) -> Result<Option<Vec<Option<u64>>>, AllocError>
     ensures { IfOk result (λ xs. option_map (λ v. v.items) xs
         ≡ list_of alternative_of (words line.now)) }
@@ -328,7 +328,7 @@ fn alternative_of(word: &[u8]) -> Option<Option<u64>>
     Some(Some(key))
 }
 
-#[tactic(auto, using(crate::proofs::Chain::Lists::each_same))]
+#[tactic(auto, using(crate::proofs::lemmas::Chain::Lists::each_same))]
 fn attentions_in(alloc: Global, line: &[u8]) -> Result<Option<Vec<Attention>>, AllocError>
     ensures { IfOk result (λ xs. option_map (λ v. v.items) xs ≡ list_of code_of (words line.now)) }
 {
@@ -347,7 +347,7 @@ fn attentions_in(alloc: Global, line: &[u8]) -> Result<Option<Vec<Attention>>, A
     Ok(Some(attentions))
 }
 
-#[tactic(auto, using(crate::proofs::Chain::Lists::each_same))]
+#[tactic(auto, using(crate::proofs::lemmas::Chain::Lists::each_same))]
 fn wanted_in(alloc: Global, line: &[u8]) -> Result<Option<Vec<StartReservation>>, AllocError>
     ensures { IfOk result (λ xs. option_map (λ v. map wanted_seen v.items) xs
         ≡ list_of start_reservation_of (words line.now)) }

@@ -12,7 +12,7 @@ use pr_roles::Word;
 use pr_script::is_name;
 
 /// The name that the word is: 1 to 16 lower case letters, digits and hyphens, a letter first.
-#[tactic(auto, unfolding(crate::specs::WordTerms::name_of), using(crate::proofs::WordTerms::NameText::name_is_text, crate::proofs::WordTerms::NameText::name_is_short))]
+#[tactic(auto, unfolding(crate::specs::WordTerms::name_of), using(crate::proofs::lemmas::WordTerms::NameText::name_is_text, crate::proofs::lemmas::WordTerms::NameText::name_is_short))]
 pub fn name_of(word: &[u8]) -> Option<Word>
     ensures { option_map (λ name. name.bytes) result ≡ name_of word.now }
 {
@@ -65,7 +65,7 @@ pub fn generation_of(word: &[u8]) -> Option<u32>
 }
 
 // The number that the word is: 1 to so many hexadecimal digits.
-#[tactic(auto, using(crate::proofs::WordTerms::NumberRoom::hex_room))]
+#[tactic(auto, using(crate::proofs::lemmas::WordTerms::NumberRoom::hex_room))]
 fn hexadecimal(most: usize, word: &[u8]) -> Option<u64>
     requires { most ≤ 16 }
     ensures value { result ≡ hexadecimal most word.now }
@@ -78,7 +78,7 @@ fn hexadecimal(most: usize, word: &[u8]) -> Option<u64>
 }
 
 /// The count that the word is: 1 to 10 decimal digits.
-#[tactic(auto, unfolding(crate::specs::WordTerms::count_of), using(crate::proofs::WordTerms::NumberRoom::decimal_room))]
+#[tactic(auto, unfolding(crate::specs::WordTerms::count_of), using(crate::proofs::lemmas::WordTerms::NumberRoom::decimal_room))]
 pub fn count_of(word: &[u8]) -> Option<u64>
     ensures { result ≡ count_of word.now }
 {
@@ -113,7 +113,7 @@ pub fn amount_of(most: u64, word: &[u8]) -> Option<u64>
 }
 
 // The number that the digits write to this base.
-#[tactic(auto, unfolding(crate::specs::WordTerms::number), using(crate::proofs::WordTerms::NumberRoom::digit_more, crate::proofs::WordTerms::NumberRoom::digit_fits))]
+#[tactic(auto, unfolding(crate::specs::WordTerms::number), using(crate::proofs::lemmas::WordTerms::NumberRoom::digit_more, crate::proofs::lemmas::WordTerms::NumberRoom::digit_fits))]
 fn number(base: u64, digits: &[u8]) -> Option<u64>
     requires { base ^ length digits.now ≤ 2 ^ 64 }
     ensures value { result ≡ number base digits.now }

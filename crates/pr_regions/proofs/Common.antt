@@ -16,7 +16,7 @@ pub use Rattle.pr_registry.specs.Hosts.{is_key, Hosts, nobody, Keys, without, ho
 pub use Rattle.pr_registry.specs.Registrations.{State, is_registered, kind_of, key_of, new_reservation}
 pub use Rattle.pr_registry.specs.declared.held.Held.{Held}
 pub use Rattle.pr_registry.specs.declared.held.Held.TheVariants.{One, All}
-pub use Rattle.pr_registry.proofs.Sets.{contains-nobody, get-without}
+pub use Rattle.pr_registry.proofs.lemmas.Sets.{contains-nobody, get-without}
 pub use Rattle.pr_unit.specs.Faults.{illegal}
 pub use Rattle.pr_unit.specs.UnitStates.{UnitState}
 pub use Rattle.pr_script.specs.Takes.{matches}

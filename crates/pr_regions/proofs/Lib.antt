@@ -1,9 +1,2 @@
 pub mod Common
-pub mod Images
-pub mod Keeping
-pub mod Parts
-pub mod Portions
-pub mod Purposes
-pub mod Readings
-pub mod Regions
-pub mod Showing
+pub mod lemmas

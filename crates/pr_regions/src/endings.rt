@@ -147,7 +147,7 @@ pub(crate) fn reserve_ending(sender: Initiator, kind: Kind) -> Ending
 }
 
 // What ending a reservation of this type changes: registrants who lose their access are told.
-#[tactic(auto, using(crate::proofs::Parts::Keys::keys_those))]
+#[tactic(auto, using(crate::proofs::lemmas::Parts::Keys::keys_those))]
 pub(crate) fn release_change(kind: Kind) -> Change
     ensures { Does result None never 0 never (told_if (is_for_registrants kind)) never }
 {

@@ -1,4 +1,4 @@
-//! The states that a view shows, one part after another.
+//! A reservation of a view, with who sends under it, and what each nexus has there.
 
 ghost use Rattle.std.specs.Prelude.{◌≡◌, ◌≢◌, ◌⊎◌, ◌<◌, ◌≤◌, ℕ, true, false, ◌&&◌, IfSome, IfNone};
 ghost use Rattle.pr_cdb.specs.declared.codes.TheConstants.{MOST_NEXUSES};

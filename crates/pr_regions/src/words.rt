@@ -32,7 +32,7 @@ pub(crate) fn anything_but(registration: u8) -> Word
 }
 
 // Every key but the one of this number.
-#[tactic(auto, using(crate::proofs::Parts::Keys::keys_those))]
+#[tactic(auto, using(crate::proofs::lemmas::Parts::Keys::keys_those))]
 pub(crate) fn another_than(key: u8) -> Word
     requires { key ≤ MOST_KEYS }
     ensures { HasThose result (another key) }

@@ -91,7 +91,7 @@ fn first_of(start: &Start) -> Option<u64>
 }
 
 // The nexus is registered with the first of its keys, if it has one.
-#[tactic(auto, using(crate::proofs::FirstStarts::Existence::start_at))]
+#[tactic(auto, using(crate::proofs::lemmas::FirstStarts::Existence::start_at))]
 fn with_key(nexuses: &[Nexus], keys: Keys, host: usize) -> Option<Keys>
     requires { length nexuses.now ≡ length keys.items }
     ensures { option_map (λ keys. keys.items) result
@@ -112,7 +112,7 @@ fn registered(mut keys: Keys, host: usize, key: u64) -> Keys
 }
 
 // Some nexus is registered, or else the first that can be is.
-#[tactic(auto, using(crate::proofs::FirstStarts::Existence::position_of_starts))]
+#[tactic(auto, using(crate::proofs::lemmas::FirstStarts::Existence::position_of_starts))]
 fn with_registrant(nexuses: &[Nexus], keys: Keys) -> Option<Keys>
     requires { length nexuses.now ≡ length keys.items }
     ensures { option_map (λ keys. keys.items) result

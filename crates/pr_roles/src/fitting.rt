@@ -25,7 +25,7 @@ impl Parts {
     /// Whether the parts can be those of a text: every limit is kept, keys are not zero and each that is
     /// written is declared, names differ, reservations have holders that are there, scripts follow the
     /// grammar of statements, with sends whose lines rise, and nothing is there that came after the version.
-    #[tactic(auto, unfolding(crate::specs::Scenarios::scenario_of), using(crate::proofs::Fitting::DistinctLists::length_of_parts))]
+    #[tactic(auto, unfolding(crate::specs::Scenarios::scenario_of), using(crate::proofs::lemmas::Fitting::DistinctLists::length_of_parts))]
     pub fn fits(&self) -> bool
         ensures { IsTrue result ↔ Fits (scenario_of self.now) }
     {
@@ -57,7 +57,7 @@ fn are_resets(version: u8, resets: u32) -> bool
 }
 
 // What this version of texts has.
-#[tactic(auto, using(crate::proofs::Fitting::DistinctLists::all_of_parts))]
+#[tactic(auto, using(crate::proofs::lemmas::Fitting::DistinctLists::all_of_parts))]
 fn are_of(version: u8, nexuses: &[Nexus]) -> bool
     ensures { result ≡ are_of version (map nexus_of nexuses.now) }
 {
@@ -131,7 +131,7 @@ fn is_reservation(hosts: usize, held: Option<Held>) -> bool
     }
 }
 
-#[tactic(auto, using(crate::proofs::Fitting::DistinctLists::all_of_parts, crate::proofs::Fitting::DistinctLists::names_of_parts, crate::proofs::Fitting::DistinctLists::length_of_parts))]
+#[tactic(auto, using(crate::proofs::lemmas::Fitting::DistinctLists::all_of_parts, crate::proofs::lemmas::Fitting::DistinctLists::names_of_parts, crate::proofs::lemmas::Fitting::DistinctLists::length_of_parts))]
 fn are_nexuses(version: u8, keys: &[u64], nexuses: &[Nexus]) -> bool
     ensures { result ≡ are_nexuses version keys.now (map nexus_of nexuses.now) }
 {

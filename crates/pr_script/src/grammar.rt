@@ -107,7 +107,7 @@ fn arm_fits(keys: &[u64], repeated: u32, sent: u32, command: Command, arm: &Arm)
     test_fits(keys, command, arm.test) && statements_fit(keys, repeated, sent, &arm.body)
 }
 
-#[tactic(auto, using(crate::proofs::Versions::Statements::arms_counted))]
+#[tactic(auto, using(crate::proofs::lemmas::Versions::Statements::arms_counted))]
 fn is_send_written(keys: &[u64], command: Command, arms: &[Arm]) -> bool
     ensures { result ≡ is_send_written keys.now command (arms_in arms.now) }
 {

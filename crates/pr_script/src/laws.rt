@@ -9,13 +9,13 @@ pub fn settles()
 {}
 
 /// Whatever the replies are, and however many, a script sends at most as many commands as it costs.
-#[tactic(auto, using(crate::proofs::Costs::Budgets::cost_bounds_sends))]
+#[tactic(auto, using(crate::proofs::lemmas::Costs::Budgets::cost_bounds_sends))]
 pub fn cost_bounds_sends()
     ensures { CostBoundsSends }
 {}
 
 /// A script that may stand in a text nests no deeper than a [`Machine`](crate::Machine) has room for.
-#[tactic(auto, using(crate::proofs::Depths::FittingScripts::shallow))]
+#[tactic(auto, using(crate::proofs::lemmas::Depths::FittingScripts::shallow))]
 pub fn fitting_is_shallow()
     ensures { FittingIsShallow }
 {}

@@ -72,7 +72,7 @@ impl<C: Round> Locked<C> {
     }
 
     /// Resets the unit where the scenario has one more reset, and says whether it did. No seat counts it.
-    #[tactic(auto, using(crate::proofs::Histories::Resets::counted_still))]
+    #[tactic(auto, using(crate::proofs::lemmas::Histories::Resets::counted_still))]
     pub(crate) fn reset(&mut self) -> bool
         ensures scenario { self.new.world.scenario ≡ self.old.world.scenario }
         ensures made { result ≡ may_reset (scenario_of self.old.world.scenario)

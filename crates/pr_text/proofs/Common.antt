@@ -25,8 +25,8 @@ pub use Rattle.pr_lines.specs.ScenarioLines.{states, ScenarioLine, DeclaringLine
 pub use Rattle.pr_lines.specs.Versions.{since}
 pub use Rattle.pr_lines.specs.declared.item.Refusal.{Refusal}
 pub use Rattle.pr_lines.specs.declared.spelling.ParsedCommand.{ParsedCommand}
-pub use Rattle.pr_lines.proofs.ScenarioLines.Terms.{is_item}
-pub use Rattle.pr_lines.proofs.Tests.{both, true_le}
+pub use Rattle.pr_lines.proofs.lemmas.ScenarioLines.Terms.{is_item}
+pub use Rattle.pr_lines.proofs.lemmas.Tests.{both, true_le}
 pub use Rattle.pr_text.specs.Declarations.{Declared, nothing, WrittenTask, scripted, planned, Declaration, OpenLines, Place, before_all, outside, in_script, in_plan, OpenBlock, sending}
 pub use Rattle.pr_text.specs.Declaring.{codes_of, count_in, declared_keys, held_of}
 unfoldable pub use Rattle.pr_text.specs.Declaring.{number_of}

@@ -80,7 +80,7 @@ impl Builder {
     }
 
     /// What is declared with one line more.
-    #[tactic(auto, unfolding(crate::specs::inside::Chains::item_taken), using(crate::proofs::LineFaults::Order::in_order))]
+    #[tactic(auto, unfolding(crate::specs::inside::Chains::item_taken), using(crate::proofs::lemmas::LineFaults::Order::in_order))]
     pub fn with_item(self, alloc: Global, line: u32, item: ScenarioLine) -> Result<Self, ReadError>
         ensures { Gives declared_by result
             (item_placed line (line_of_value item) (declared_by self)) }
@@ -191,7 +191,7 @@ impl Builder {
         Ok(self)
     }
 
-    #[tactic(auto, unfolding(crate::specs::inside::Chains::start_placed), using(crate::proofs::Steps::Failures::fails_same, crate::proofs::Drafts::Numbers::found, crate::proofs::Drafts::Numbers::changed))]
+    #[tactic(auto, unfolding(crate::specs::inside::Chains::start_placed), using(crate::proofs::lemmas::Steps::Failures::fails_same, crate::proofs::lemmas::Drafts::Numbers::found, crate::proofs::lemmas::Drafts::Numbers::changed))]
     fn start_line(
         mut self,
         line: u32,
@@ -212,7 +212,7 @@ impl Builder {
         Ok(self)
     }
 
-    #[tactic(auto, unfolding(crate::specs::inside::Chains::pending_placed), using(crate::proofs::Drafts::Numbers::found, crate::proofs::Drafts::Numbers::changed))]
+    #[tactic(auto, unfolding(crate::specs::inside::Chains::pending_placed), using(crate::proofs::lemmas::Drafts::Numbers::found, crate::proofs::lemmas::Drafts::Numbers::changed))]
     fn pending_line(
         mut self,
         line: u32,
@@ -233,7 +233,7 @@ impl Builder {
         Ok(self)
     }
 
-    #[tactic(auto, unfolding(crate::specs::inside::Chains::refusals_placed), using(crate::proofs::Drafts::Numbers::found, crate::proofs::Drafts::Numbers::changed))]
+    #[tactic(auto, unfolding(crate::specs::inside::Chains::refusals_placed), using(crate::proofs::lemmas::Drafts::Numbers::found, crate::proofs::lemmas::Drafts::Numbers::changed))]
     fn refusals_line(
         mut self,
         line: u32,
@@ -305,7 +305,7 @@ impl Builder {
         Ok(self)
     }
 
-    #[tactic(auto, unfolding(crate::specs::inside::Chains::role_placed), using(crate::proofs::Drafts::Numbers::found, crate::proofs::Drafts::Numbers::changed))]
+    #[tactic(auto, unfolding(crate::specs::inside::Chains::role_placed), using(crate::proofs::lemmas::Drafts::Numbers::found, crate::proofs::lemmas::Drafts::Numbers::changed))]
     fn role_line(mut self, line: u32, name: Word, clause: Clause) -> Result<Self, ReadError>
         ensures { Gives declared_by result (role_placed line name.bytes clause (declared_by self)) }
     {
@@ -324,7 +324,7 @@ impl Builder {
         Ok(self)
     }
 
-    #[tactic(auto, unfolding(crate::specs::inside::Chains::script_placed), using(crate::proofs::Steps::Failures::fails_same, crate::proofs::Drafts::Numbers::found))]
+    #[tactic(auto, unfolding(crate::specs::inside::Chains::script_placed), using(crate::proofs::lemmas::Steps::Failures::fails_same, crate::proofs::lemmas::Drafts::Numbers::found))]
     fn script_line(
         mut self,
         alloc: Global,
@@ -345,7 +345,7 @@ impl Builder {
         Ok(self)
     }
 
-    #[tactic(auto, unfolding(crate::specs::inside::Chains::plan_placed), using(crate::proofs::Drafts::Numbers::found))]
+    #[tactic(auto, unfolding(crate::specs::inside::Chains::plan_placed), using(crate::proofs::lemmas::Drafts::Numbers::found))]
     fn plan_line(mut self, alloc: Global, line: u32, name: Word) -> Result<Self, ReadError>
         ensures { Gives declared_by result (plan_placed line name.bytes (declared_by self)) }
     {
@@ -363,7 +363,7 @@ impl Builder {
         Ok(self)
     }
 
-    #[tactic(auto, using(crate::proofs::Steps::Failures::fails_first))]
+    #[tactic(auto, using(crate::proofs::lemmas::Steps::Failures::fails_first))]
     fn line_in_script(
         mut self,
         alloc: Global,
@@ -383,7 +383,7 @@ impl Builder {
         Ok(self)
     }
 
-    #[tactic(auto, using(crate::proofs::OpenScripts::Lines::closed_lines))]
+    #[tactic(auto, using(crate::proofs::lemmas::OpenScripts::Lines::closed_lines))]
     fn script_end(mut self, line: u32, script: OpenScript) -> Result<Self, ReadError>
         requires { self.place ≡ Outside }
         ensures { Gives declared_by result
@@ -403,7 +403,7 @@ impl Builder {
         Ok(self)
     }
 
-    #[tactic(auto, using(crate::proofs::Steps::Failures::fails_first))]
+    #[tactic(auto, using(crate::proofs::lemmas::Steps::Failures::fails_first))]
     fn line_in_plan(
         mut self,
         line: u32,
@@ -430,7 +430,7 @@ impl Builder {
     }
 
     // The nexus with this number has its task.
-    #[tactic(auto, using(crate::proofs::Drafts::Numbers::found, crate::proofs::Drafts::Numbers::changed))]
+    #[tactic(auto, using(crate::proofs::lemmas::Drafts::Numbers::found, crate::proofs::lemmas::Drafts::Numbers::changed))]
     fn set_task(&mut self, number: usize, task: Task)
         requires { self.old.place ≡ Outside }
         ensures { declared_by self.new ≡ with_task (declared_by self.old) number (task_seen task) }
@@ -459,7 +459,7 @@ impl Builder {
     }
 
     // The reservations, if the holders are declared.
-    #[tactic(auto, using(pr_lines::proofs::Chain::Lists::each_same))]
+    #[tactic(auto, using(pr_lines::proofs::lemmas::Chain::Lists::each_same))]
     fn reservations_of(
         &self,
         alloc: Global,

@@ -117,14 +117,14 @@ impl OpenScript {
     }
 
     /// Whether no block is open.
-    #[tactic(auto, using(crate::proofs::OpenScripts::Lines::length_blocks))]
+    #[tactic(auto, using(crate::proofs::lemmas::OpenScripts::Lines::length_blocks))]
     pub fn is_closed(&self) -> bool
         ensures { result ≡ (length (open_seen self.now).blocks == 0) }
     {
         self.armless.is_none() && self.outer.is_empty()
     }
 
-    #[tactic(auto, using(crate::proofs::OpenScripts::Lines::armed))]
+    #[tactic(auto, using(crate::proofs::lemmas::OpenScripts::Lines::armed))]
     fn awaits_arm(&self) -> bool
         ensures { result ≡ awaits_arm (open_seen self.now).blocks }
     {
@@ -155,7 +155,7 @@ impl OpenScript {
     }
 
     // How many repeats are open.
-    #[tactic(auto, using(crate::proofs::OpenScripts::Lines::count_repeats))]
+    #[tactic(auto, using(crate::proofs::lemmas::OpenScripts::Lines::count_repeats))]
     fn open_repeats(&self) -> usize
         ensures { result ≡ count_by is_repeating (open_seen self.now).blocks }
     {
@@ -166,7 +166,7 @@ impl OpenScript {
     }
 
     // How many sends are open, where each has an arm.
-    #[tactic(auto, using(crate::proofs::OpenScripts::Lines::count_sends))]
+    #[tactic(auto, using(crate::proofs::lemmas::OpenScripts::Lines::count_sends))]
     fn open_sends(&self) -> usize
         requires { self.now.armless ≡ None }
         ensures { result ≡ count_by is_sending (open_seen self.now).blocks }
@@ -235,7 +235,7 @@ impl OpenScript {
     }
 
     // The script in which a body is open too.
-    #[tactic(auto, using(crate::proofs::OpenScripts::Lines::more_blocks, crate::proofs::OpenScripts::Lines::more_lines))]
+    #[tactic(auto, using(crate::proofs::lemmas::OpenScripts::Lines::more_blocks, crate::proofs::lemmas::OpenScripts::Lines::more_lines))]
     fn with_block(mut self, alloc: Global, opener: BlockHead) -> Result<Self, AllocError>
         requires { self.armless ≡ None }
         ensures { IfOk result (λ after. open_seen after ≡ opened_in opener (open_seen self)) }
@@ -255,7 +255,7 @@ impl OpenScript {
         }
     }
 
-    #[tactic(auto, unfolding(crate::specs::inside::Chains::script_step), using(crate::proofs::Steps::Failures::fails_same, crate::proofs::OpenScripts::Lines::first_arm))]
+    #[tactic(auto, unfolding(crate::specs::inside::Chains::script_step), using(crate::proofs::lemmas::Steps::Failures::fails_same, crate::proofs::lemmas::OpenScripts::Lines::first_arm))]
     fn first_arm(
         mut self,
         alloc: Global,
@@ -281,7 +281,7 @@ impl OpenScript {
         Ok(self.with_block(alloc, opener)?)
     }
 
-    #[tactic(auto, unfolding(crate::specs::inside::Chains::script_step), using(crate::proofs::Steps::Failures::fails_same))]
+    #[tactic(auto, unfolding(crate::specs::inside::Chains::script_step), using(crate::proofs::lemmas::Steps::Failures::fails_same))]
     fn next_arm(
         mut self,
         alloc: Global,
@@ -333,7 +333,7 @@ impl OpenScript {
     }
 
     // The end of a send without arms.
-    #[tactic(auto, unfolding(crate::specs::inside::Chains::script_step), using(crate::proofs::OpenScripts::Lines::armless_closes))]
+    #[tactic(auto, unfolding(crate::specs::inside::Chains::script_step), using(crate::proofs::lemmas::OpenScripts::Lines::armless_closes))]
     fn armless_done(
         mut self,
         alloc: Global,
@@ -416,7 +416,7 @@ fn is_repeat(opener: &BlockHead) -> bool
 }
 
 // The statement that the opener and its body are.
-#[tactic(auto, using(crate::proofs::OpenScripts::Lines::closed_repeat, crate::proofs::OpenScripts::Lines::closed_send))]
+#[tactic(auto, using(crate::proofs::lemmas::OpenScripts::Lines::closed_repeat, crate::proofs::lemmas::OpenScripts::Lines::closed_send))]
 fn statement_of_block(opener: BlockHead, body: Script) -> Result<Statement, AllocError>
     ensures { IfOk result (λ s. statement_lines (statement_of s)
         ≡ opener_lines opener ++ (lines_in body.statements.items ++ block_done ∷ [])) }

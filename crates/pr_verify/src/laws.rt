@@ -4,19 +4,19 @@ ghost use Rattle.pr_verify.specs.Laws.{OutlinesMakeSafe, ReasonsAreFinal, RunsGo
 
 /// Outlines that are sound and fit, one for each scripted host, make a scenario safe, if the fields of what is sent are in the
 /// ranges of their types.
-#[tactic(auto, using(crate::proofs::Laws::Safety::outlines_make_safe))]
+#[tactic(auto, using(crate::proofs::lemmas::Laws::Safety::outlines_make_safe))]
 pub fn outlines_make_safe()
     ensures { OutlinesMakeSafe }
 {}
 
 /// A host with a reason against it has no outline that is sound and fits.
-#[tactic(auto, using(crate::proofs::Verdicts::Reasons::reasons_are_final))]
+#[tactic(auto, using(crate::proofs::lemmas::Verdicts::Reasons::reasons_are_final))]
 pub fn reasons_are_final()
     ensures { ReasonsAreFinal }
 {}
 
 /// A run and one event more are a run.
-#[tactic(auto, using(crate::proofs::Laws::Runs::runs_go_on))]
+#[tactic(auto, using(crate::proofs::lemmas::Laws::Runs::runs_go_on))]
 pub fn runs_go_on()
     ensures { RunsGoOn }
 {}

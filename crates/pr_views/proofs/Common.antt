@@ -9,7 +9,7 @@ pub use Rattle.pr_sets.specs.declared.word.Word.{Word}
 pub use Rattle.pr_registry.specs.Registrations.{is_all}
 pub use Rattle.pr_registry.specs.declared.held.Held.{Held}
 pub use Rattle.pr_registry.specs.declared.held.Held.TheVariants.{One, All}
-pub use Rattle.pr_registry.proofs.Sets.{contains-nobody}
+pub use Rattle.pr_registry.proofs.lemmas.Sets.{contains-nobody}
 pub use Rattle.pr_unit.specs.UnitStates.{UnitState}
 pub use Rattle.pr_roles.specs.Fitting.{AreDeclared, is_reservation}
 pub use Rattle.pr_views.specs.Portions.{has_at, AreFilled}

@@ -1,5 +1,2 @@
 pub mod Common
-pub mod Portions
-pub mod Possibilities
-pub mod Room
-pub mod Views
+pub mod lemmas

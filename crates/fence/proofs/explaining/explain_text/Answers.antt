@@ -4,7 +4,7 @@ use Rattle.pr_sets.specs.contracts.word_set.WordSetViewSet.TheImpl.{members-valu
 use Rattle.pr_roles.specs.declared.parts.Parts.{Parts}
 use Rattle.pr_text.specs.declared.fault.ReadError.{ReadError}
 use Rattle.pr_text.specs.Reading.{IsRead}
-use Rattle.fence.proofs.Explained.{told_plan}
+use Rattle.fence.proofs.lemmas.Explained.{told_plan}
 use Rattle.fence.proofs.explaining.explain_text.Goals as goal
 
 pub returns-clause-ends : goal.returns-clause-ends

@@ -1,6 +1,6 @@
 use Rattle.std.proofs.Common.{ap, ◌∙◌}
 use Rattle.pr_cdb.specs.ReplyData.{holder_in}
-use Rattle.pr_cdb.proofs.ReplyRoundTrip.{holder_in-reservation_bytes}
+use Rattle.pr_cdb.proofs.lemmas.ReplyRoundTrip.{holder_in-reservation_bytes}
 use Rattle.pr_cdb.proofs.parameter_data.reservation_data.Goals as goal
 
 pub returns-clause-read_again : goal.returns-clause-read_again

@@ -1,4 +1,4 @@
-use Rattle.pr_cdb.proofs.FieldRanges.{reads_fit}
+use Rattle.pr_cdb.proofs.lemmas.FieldRanges.{reads_fit}
 use Rattle.pr_cdb.proofs.reading.reads_in_range.Goals as goal
 
 pub returns : goal.returns

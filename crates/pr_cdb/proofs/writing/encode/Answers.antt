@@ -1,6 +1,6 @@
 use Rattle.std.proofs.Common.{ap, ◌∙◌}
 use Rattle.pr_cdb.specs.Requests.{request_of_wire}
-use Rattle.pr_cdb.proofs.CommandRoundTrip.{written_is_read}
+use Rattle.pr_cdb.proofs.lemmas.CommandRoundTrip.{written_is_read}
 use Rattle.pr_cdb.proofs.writing.encode.Goals as goal
 
 pub returns-clause-read_again : goal.returns-clause-read_again

@@ -1,4 +1,4 @@
-use Rattle.pr_commands.proofs.Audits.Verdicts.{cut_audit}
+use Rattle.pr_commands.proofs.lemmas.Audits.Verdicts.{cut_audit}
 use Rattle.pr_commands.proofs.audits.audit_texts.Goals as goal
 
 pub returns-in_err-write_verdict-clause-ends : goal.returns-in_err-write_verdict-clause-ends

@@ -1,4 +1,4 @@
-use Rattle.pr_commands.proofs.Checks.Verdicts.{cut_verdict, whole_verdict}
+use Rattle.pr_commands.proofs.lemmas.Checks.Verdicts.{cut_verdict, whole_verdict}
 use Rattle.pr_commands.proofs.checks.check_text.Goals as goal
 
 pub returns-in_err-put_judgement-clause-ends : goal.returns-in_err-put_judgement-clause-ends

@@ -1,4 +1,4 @@
-use Rattle.pr_commands.proofs.Runs.Outcomes.{cut_run, whole_run}
+use Rattle.pr_commands.proofs.lemmas.Runs.Outcomes.{cut_run, whole_run}
 use Rattle.pr_commands.proofs.runs.run_text.Goals as goal
 
 pub returns-in_err-put_performed-clause-ends : goal.returns-in_err-put_performed-clause-ends

@@ -6,7 +6,7 @@ use Rattle.pr_registry.specs.Registrations.{State}
 use Rattle.pr_report.specs.PrintedLines.{line}
 use Rattle.pr_report.specs.TraceText.{held_word, names_of}
 use Rattle.pr_report.specs.Written.{FallsShort, Puts}
-use Rattle.pr_report.proofs.Written.Fronts.{front_first, front_then, puts_err, puts_last}
+use Rattle.pr_report.proofs.lemmas.Written.Fronts.{front_first, front_then, puts_err, puts_last}
 use Rattle.pr_commands.specs.WitnessText.{broken_words, generation_line, pending_lines, start_lines, told_word}
 use Rattle.pr_commands.proofs.witness_text.put_head.Goals as goal
 

@@ -5,9 +5,9 @@ use Rattle.pr_registry.specs.Registrations.{State, key_of}
 use Rattle.pr_report.specs.PrintedLines.{line}
 use Rattle.pr_report.specs.TraceText.{name_of, names_of}
 use Rattle.pr_report.specs.Written.{FallsShort}
-use Rattle.pr_report.proofs.Written.Fronts.{puts_err}
+use Rattle.pr_report.proofs.lemmas.Written.Fronts.{puts_err}
 use Rattle.pr_commands.specs.WitnessText.{start_line, start_word}
-use Rattle.pr_commands.proofs.Witnesses.Lines.{line_front, line_more, lines_over}
+use Rattle.pr_commands.proofs.lemmas.Witnesses.Lines.{line_front, line_more, lines_over}
 use Rattle.pr_commands.proofs.witness_text.put_starts.Goals as goal
 
 pub returns-in_err-put_start : goal.returns-in_err-put_start

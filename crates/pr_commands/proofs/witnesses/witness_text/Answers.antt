@@ -1,4 +1,4 @@
-use Rattle.pr_commands.proofs.Witnesses.Verdicts.{cut_witness, whole_witness}
+use Rattle.pr_commands.proofs.lemmas.Witnesses.Verdicts.{cut_witness, whole_witness}
 use Rattle.pr_commands.proofs.witnesses.witness_text.Goals as goal
 
 pub returns-in_err-put_witnessed-clause-ends : goal.returns-in_err-put_witnessed-clause-ends

@@ -1,5 +1,5 @@
 use Rattle.std.proofs.Common.{sym, ◌∙◌}
-use Rattle.pr_domain.proofs.Reporting.MatchingTests.{first_of_class}
+use Rattle.pr_domain.proofs.lemmas.Reporting.MatchingTests.{first_of_class}
 use Rattle.pr_domain.proofs.arms.landing_of.Goals as goal
 
 pub returns-in-Some : goal.returns-in-Some

@@ -2,7 +2,7 @@ use Rattle.std.proofs.Common.{◌≡◌, ◌==◌, sym, subst, bit_and}
 use Rattle.std.specs.FinSet as set
 use Rattle.pr_attention.specs.Attentions.{code_of}
 use Rattle.pr_attention.specs.Flagged.{codes_of}
-use Rattle.pr_attention.proofs.Bits.{has_flag}
+use Rattle.pr_attention.proofs.lemmas.Bits.{has_flag}
 use Rattle.pr_domain.proofs.attentions.is_among.Goals as goal
 
 pub returns : goal.returns

@@ -2,7 +2,7 @@ use Rattle.std.proofs.Common.{◌≡◌, ◌-◌, sym, subst, bit_and}
 use Rattle.std.specs.FinSet as set
 use Rattle.pr_attention.specs.Attentions.{code_of}
 use Rattle.pr_attention.specs.Flagged.{codes_of}
-use Rattle.pr_attention.proofs.Bits.{codes_of-without_flag}
+use Rattle.pr_attention.proofs.lemmas.Bits.{codes_of-without_flag}
 use Rattle.pr_domain.proofs.attentions.without.Goals as goal
 
 pub returns-clause-codes : goal.returns-clause-codes

@@ -2,7 +2,7 @@ use Rattle.std.proofs.Common.{◌≡◌, length, Some, refl, sym, ap, ◌∙◌,
 use Rattle.std.specs.List.{slice_get}
 use Rattle.std.proofs.lemmas.Bool.{false≢true}
 use Rattle.std.proofs.lemmas.Option.{slice_get_read, slice_get_within}
-use Rattle.pr_domain.proofs.Reporting.OutcomeLists.{none_more}
+use Rattle.pr_domain.proofs.lemmas.Reporting.OutcomeLists.{none_more}
 use Rattle.pr_domain.proofs.collecting.place_of.Goals as goal
 
 pub returns-then-are_same-clause-some : goal.returns-then-are_same-clause-some

@@ -4,7 +4,7 @@ use Rattle.pr_views.specs.Views.{IsPossible}
 use Rattle.pr_views.specs.Rooms.{view_of}
 use Rattle.pr_domain.specs.declared.landing.Landing.{Landing}
 use Rattle.pr_domain.specs.inside.Reporting.{AreMore}
-use Rattle.pr_domain.proofs.Reporting.OutcomeLists.{read_there, kept_pushed, more_pushed, kept_joined, more_joined}
+use Rattle.pr_domain.proofs.lemmas.Reporting.OutcomeLists.{read_there, kept_pushed, more_pushed, kept_joined, more_joined}
 use Rattle.pr_domain.proofs.collecting.put.Goals as goal
 
 pub join-requires : goal.join-requires

@@ -5,8 +5,8 @@ use Rattle.pr_views.specs.Possibilities.{Scope}
 use Rattle.pr_views.specs.Portions.{view_in}
 use Rattle.pr_views.specs.Rooms.{scope_of, view_of, AreInRange}
 use Rattle.pr_roles.specs.Fitting.{AreDeclared}
-use Rattle.pr_domain.proofs.Reporting.OutcomeLists.{possible_scope}
-use Rattle.pr_domain.proofs.Reporting.FoundWords.{same_outcomes, fits_in, all_made}
+use Rattle.pr_domain.proofs.lemmas.Reporting.OutcomeLists.{possible_scope}
+use Rattle.pr_domain.proofs.lemmas.Reporting.FoundWords.{same_outcomes, fits_in, all_made}
 use Rattle.pr_domain.proofs.outcome.outcomes.Goals as goal
 
 pub outcomes-requires : goal.outcomes-requires

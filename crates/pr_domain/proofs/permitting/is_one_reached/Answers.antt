@@ -2,7 +2,7 @@ use Rattle.std.proofs.Common.{sym, ◌∙◌, refl, arith}
 use Rattle.std.proofs.lemmas.Bool.{false≢true}
 use Rattle.std.proofs.lemmas.Option.{slice_get-get_or}
 use Rattle.pr_views.specs.Portions.{view_in}
-use Rattle.pr_domain.proofs.Permitting.Permissions.{more_unreached}
+use Rattle.pr_domain.proofs.lemmas.Permitting.Permissions.{more_unreached}
 use Rattle.pr_domain.proofs.permitting.is_one_reached.Goals as goal
 
 pub returns-then-is_reached : goal.returns-then-is_reached

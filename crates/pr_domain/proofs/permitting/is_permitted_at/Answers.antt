@@ -3,7 +3,7 @@ use Rattle.pr_views.specs.Portions.{view_in}
 use Rattle.pr_views.specs.Possibilities.{Reservation, IsSo}
 use Rattle.pr_domain.specs.inside.Tallies.{HasFirst, HasBoth}
 use Rattle.pr_domain.specs.inside.Permitting.{ArePermitted, scope_at}
-use Rattle.pr_domain.proofs.Permitting.Permissions.{each_registration, refused_as}
+use Rattle.pr_domain.proofs.lemmas.Permitting.Permissions.{each_registration, refused_as}
 use Rattle.pr_domain.proofs.permitting.is_permitted_at.Goals as goal
 
 pub returns-then-not-is_permitted_with-clause-refused : goal.returns-then-not-is_permitted_with-clause-refused

@@ -1,4 +1,4 @@
-use Rattle.pr_domain.proofs.Permitting.Permissions.{is_reached}
+use Rattle.pr_domain.proofs.lemmas.Permitting.Permissions.{is_reached}
 use Rattle.pr_domain.proofs.permitting.is_reached.Goals as goal
 
 pub returns-in-Good : goal.returns-in-Good

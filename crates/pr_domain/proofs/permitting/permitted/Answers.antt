@@ -1,5 +1,5 @@
 use Rattle.std.proofs.Common.{refl, sym, ◌∙◌}
-use Rattle.pr_domain.proofs.Permitting.IdleCommands.{permitted_of_busy, permitted_of_words, refused_of_words}
+use Rattle.pr_domain.proofs.lemmas.Permitting.IdleCommands.{permitted_of_busy, permitted_of_words, refused_of_words}
 use Rattle.pr_views.specs.Rooms.{view_of}
 use Rattle.pr_domain.proofs.permitting.permitted.Goals as goal
 

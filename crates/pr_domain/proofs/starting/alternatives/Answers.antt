@@ -4,10 +4,10 @@ use Rattle.std.proofs.lemmas.Option.{slice_get-get_or}
 use Rattle.pr_cdb.specs.declared.codes.TheConstants.{MOST_NEXUSES}
 use Rattle.pr_roles.specs.Fitting.{is_reservation}
 use Rattle.pr_views.specs.declared.possibilities.Possibilities.{Possibilities}
-use Rattle.pr_views.proofs.Views.Values.{words_fit}
+use Rattle.pr_views.proofs.lemmas.Views.Values.{words_fit}
 use Rattle.pr_domain.specs.inside.Beginning.{may_have, has_reservation}
-use Rattle.pr_regions.proofs.Showing.ScenarioParts.{few_of_parts, keys_of_parts}
-use Rattle.pr_domain.proofs.Starting.WrittenNumbers.{AreWritten, few_nexuses, reservations_at, are_alternatives, written_in_range, written_past}
+use Rattle.pr_regions.proofs.lemmas.Showing.ScenarioParts.{few_of_parts, keys_of_parts}
+use Rattle.pr_domain.proofs.lemmas.Starting.WrittenNumbers.{AreWritten, few_nexuses, reservations_at, are_alternatives, written_in_range, written_past}
 use Rattle.pr_domain.proofs.starting.alternatives.Goals as goal
 
 pub registrations-requires-clause-keys : goal.registrations-requires-clause-keys

@@ -6,10 +6,10 @@ use Rattle.pr_views.specs.Portions.{view_in}
 use Rattle.pr_views.specs.Rooms.{AreInRange, scope_of, view_of}
 use Rattle.pr_domain.specs.Starting.{IsOfStart}
 use Rattle.pr_domain.specs.inside.Beginning.{scope_in}
-use Rattle.pr_domain.proofs.Starting.AllowedStarts.{start_same}
-use Rattle.pr_regions.proofs.Showing.ScenarioParts.{keys_are, keys_of_parts}
-use Rattle.pr_regions.proofs.Showing.AlikeViews.{same_views, if_ok}
-use Rattle.pr_domain.proofs.Starting.WrittenNumbers.{AreCounted, are_counted}
+use Rattle.pr_domain.proofs.lemmas.Starting.AllowedStarts.{start_same}
+use Rattle.pr_regions.proofs.lemmas.Showing.ScenarioParts.{keys_are, keys_of_parts}
+use Rattle.pr_regions.proofs.lemmas.Showing.AlikeViews.{same_views, if_ok}
+use Rattle.pr_domain.proofs.lemmas.Starting.WrittenNumbers.{AreCounted, are_counted}
 use Rattle.pr_domain.proofs.starting.of_start.Given as given
 use Rattle.pr_domain.proofs.starting.of_start.Goals as goal
 

@@ -1,4 +1,4 @@
-use Rattle.pr_domain.proofs.Starting.CodeSubsets.{AreWithin}
+use Rattle.pr_domain.proofs.lemmas.Starting.CodeSubsets.{AreWithin}
 use Rattle.pr_domain.proofs.starting.sets_within.Given as goal
 
 abbrev pub invariant-loop-attentions : goal.invariant-loop-attentions

@@ -3,8 +3,8 @@ use Rattle.pr_roles.specs.Scenarios.{scenario_of}
 use Rattle.pr_views.specs.Portions.{view_in}
 use Rattle.pr_domain.specs.inside.Beginning.{scope_in}
 use Rattle.pr_regions.specs.Keeping.{IsKept}
-use Rattle.pr_domain.proofs.Starting.AllowedStarts.{kept_of_start, kept_in_range}
-use Rattle.pr_regions.proofs.Showing.ScenarioParts.{keys_are}
+use Rattle.pr_domain.proofs.lemmas.Starting.AllowedStarts.{kept_of_start, kept_in_range}
+use Rattle.pr_regions.proofs.lemmas.Showing.ScenarioParts.{keys_are}
 use Rattle.pr_domain.proofs.starting.starts.Goals as goal
 
 is_kept : (c : goal.After-kept) → IsKept (view_in (scope_in c.args.own c.args.hosts c.args.parts.now) c.alternatives.result) (view_in (scope_in c.args.own c.args.hosts c.args.parts.now) c.kept.result)

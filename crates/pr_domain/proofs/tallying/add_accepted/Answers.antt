@@ -5,8 +5,8 @@ use Rattle.pr_views.specs.Portions.{view_in}
 use Rattle.pr_regions.specs.declared.region.Branch.{Branch}
 use Rattle.pr_regions.specs.Regions.{AreBranches, IsProper, standing_of}
 use Rattle.pr_domain.specs.inside.Tallies.{IsInOne, HasBoth}
-use Rattle.pr_domain.proofs.Tallies.Requests.{asked_right, asked_covers, asked_back}
-use Rattle.pr_domain.proofs.Tallies.Growth.{grows_as}
+use Rattle.pr_domain.proofs.lemmas.Tallies.Requests.{asked_right, asked_covers, asked_back}
+use Rattle.pr_domain.proofs.lemmas.Tallies.Growth.{grows_as}
 use Rattle.pr_domain.proofs.tallying.add_accepted.Goals as goal
 
 are : (c : goal.After-add_branches) → AreBranches c.args.place.hosts c.args.purpose c.args.place.held c.args.place.sender (standing_of c.args.purpose c.args.registration) c.deref.result.now

@@ -1,5 +1,5 @@
 use Rattle.std.proofs.Common.{◌≡◌, ◌+◌, suc, arith}
-use Rattle.pr_domain.proofs.Tallies.RegionStates.{leaf_conflict, leaf_fault, leaf_good}
+use Rattle.pr_domain.proofs.lemmas.Tallies.RegionStates.{leaf_conflict, leaf_fault, leaf_good}
 use Rattle.pr_domain.proofs.tallying.add_branch.Goals as goal
 
 pub returns-in-Conflict : goal.returns-in-Conflict

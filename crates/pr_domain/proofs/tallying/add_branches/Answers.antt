@@ -2,7 +2,7 @@ use Rattle.std.proofs.Common.{◌≡◌, length, subst, arith}
 use Rattle.std.proofs.lemmas.Option.{slice_get-get_or}
 use Rattle.pr_views.specs.Portions.{view_in}
 use Rattle.pr_domain.specs.inside.Tallies.{Grows, IsInOne}
-use Rattle.pr_domain.proofs.Tallies.Growth.{branches_more, listed_there}
+use Rattle.pr_domain.proofs.lemmas.Tallies.Growth.{branches_more, listed_there}
 use Rattle.pr_domain.proofs.tallying.add_branches.Goals as goal
 
 pub loop-i-preserved : goal.loop-i-preserved

@@ -4,10 +4,10 @@ use Rattle.pr_regions.specs.declared.region.Change.{Change}
 use Rattle.pr_regions.specs.inside.Parts.{Does, never}
 use Rattle.pr_regions.specs.Gathering.{IsAt}
 use Rattle.pr_domain.specs.inside.Tallies.{IsReadAt}
-use Rattle.pr_domain.proofs.Tallies.DataArms.{reading_right, read_at, at_read}
-use Rattle.pr_domain.proofs.Tallies.Requests.{only_uniform}
-use Rattle.pr_domain.proofs.Tallies.Growth.{grows_as}
-use Rattle.pr_domain.proofs.Tallies.PresentStates.{reading_there}
+use Rattle.pr_domain.proofs.lemmas.Tallies.DataArms.{reading_right, read_at, at_read}
+use Rattle.pr_domain.proofs.lemmas.Tallies.Requests.{only_uniform}
+use Rattle.pr_domain.proofs.lemmas.Tallies.Growth.{grows_as}
+use Rattle.pr_domain.proofs.lemmas.Tallies.PresentStates.{reading_there}
 use Rattle.pr_domain.proofs.tallying.add_reading.Goals as goal
 
 abbrev kept : (c : goal.After-add_branch) → Change

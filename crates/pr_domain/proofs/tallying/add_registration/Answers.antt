@@ -7,8 +7,8 @@ use Rattle.pr_regions.specs.declared.region.Reading.{Reading}
 use Rattle.pr_regions.specs.Purposes.{is_refused, purpose_of}
 use Rattle.pr_regions.specs.Readings.{AreReadings, IsProperReading}
 use Rattle.pr_domain.specs.inside.Tallies.{HasBoth, IsReadFirst}
-use Rattle.pr_domain.proofs.Tallies.DataArms.{right_readings, readings_cover, arm_taken}
-use Rattle.pr_domain.proofs.Tallies.Growth.{grows_as}
+use Rattle.pr_domain.proofs.lemmas.Tallies.DataArms.{right_readings, readings_cover, arm_taken}
+use Rattle.pr_domain.proofs.lemmas.Tallies.Growth.{grows_as}
 use Rattle.pr_domain.proofs.tallying.add_registration.Goals as goal
 
 are : (c : goal.After-add_readings) (hosts : ℕ) → AreReadings c.args.asked.now.keys.now hosts c.args.asked.now.tests.now c.args.asked.now.command c.args.place.held c.args.place.sender c.args.registration c.deref.result.now

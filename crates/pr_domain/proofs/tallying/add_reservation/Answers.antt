@@ -3,8 +3,8 @@ use Rattle.std.specs.List.{All}
 use Rattle.pr_script.specs.Grammar.{is_written, test_fits}
 use Rattle.pr_views.specs.Portions.{view_in}
 use Rattle.pr_domain.specs.inside.Tallies.{Grows, HasFirst}
-use Rattle.pr_domain.proofs.Twins.RetypedStates.{twin_grows}
-use Rattle.pr_domain.proofs.Tallies.ShownStates.{reservation_more}
+use Rattle.pr_domain.proofs.lemmas.Twins.RetypedStates.{twin_grows}
+use Rattle.pr_domain.proofs.lemmas.Tallies.ShownStates.{reservation_more}
 use Rattle.pr_domain.proofs.tallying.add_reservation.Goals as goal
 
 pub returns-in-Some : goal.returns-in-Some

@@ -1,4 +1,4 @@
-use Rattle.pr_domain.proofs.Tallies.PresentStates.{tallied_there}
+use Rattle.pr_domain.proofs.lemmas.Tallies.PresentStates.{tallied_there}
 use Rattle.pr_domain.proofs.tallying.is_tallied.Goals as goal
 
 pub returns-then-has : goal.returns-then-has

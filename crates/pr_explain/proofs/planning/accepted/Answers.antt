@@ -3,7 +3,7 @@ use Rattle.pr_roles.specs.declared.parts.Nexus.{Nexus}
 use Rattle.pr_roles.specs.declared.parts.Parts.{Parts}
 use Rattle.pr_roles.specs.Scenarios.{task_of}
 use Rattle.pr_explain.specs.Costs.{cost_of}
-use Rattle.pr_explain.proofs.ScriptCosts.{costs_in}
+use Rattle.pr_explain.proofs.lemmas.ScriptCosts.{costs_in}
 use Rattle.pr_explain.proofs.planning.accepted.Goals as goal
 
 pub returns-clause-holds : goal.returns-clause-holds

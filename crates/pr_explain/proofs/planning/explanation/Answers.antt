@@ -1,6 +1,6 @@
 use Rattle.pr_roles.specs.Scenarios.{scenario_of}
 use Rattle.pr_verify.specs.Outlines.{HaveOutlines}
-use Rattle.pr_explain.proofs.Reasons.{never_accepted}
+use Rattle.pr_explain.proofs.lemmas.Reasons.{never_accepted}
 use Rattle.pr_explain.proofs.planning.explanation.Goals as goal
 
 pub returns-in-Err-clause-accepted : goal.returns-in-Err-clause-accepted

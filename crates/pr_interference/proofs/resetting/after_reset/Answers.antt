@@ -1,5 +1,5 @@
 use Rattle.std.proofs.Common.{refl}
-use Rattle.pr_interference.proofs.Marks.Resets.{is_after_reset}
+use Rattle.pr_interference.proofs.lemmas.Marks.Resets.{is_after_reset}
 use Rattle.pr_interference.proofs.resetting.after_reset.Goals as goal
 
 pub returns : goal.returns

@@ -1,8 +1,8 @@
 use Rattle.std.proofs.Common.{◌≡◌, refl, ◌∙◌}
 use Rattle.pr_views.specs.Portions.{view_in}
 use Rattle.pr_views.specs.Rooms.{scope_of, view_of}
-use Rattle.pr_regions.proofs.Showing.AlikeViews.{same_views, if_ok}
-use Rattle.pr_interference.proofs.Marks.Resets.{after_reset_same}
+use Rattle.pr_regions.proofs.lemmas.Showing.AlikeViews.{same_views, if_ok}
+use Rattle.pr_interference.proofs.lemmas.Marks.Resets.{after_reset_same}
 use Rattle.pr_interference.proofs.resetting.reset.Goals as goal
 
 pub returns-clause-reset : goal.returns-clause-reset

@@ -1,6 +1,6 @@
 use Rattle.std.proofs.Common.{◌∙◌, sym, refl}
 use Rattle.std.proofs.lemmas.List.{take_rest}
-use Rattle.pr_lines.proofs.TextLines.Cuts.{lines_first, lines_last}
+use Rattle.pr_lines.proofs.lemmas.TextLines.Cuts.{lines_first, lines_last}
 use Rattle.pr_lines.proofs.cutting.next_line.Goals as goal
 
 pub returns-clause-lines : goal.returns-clause-lines

@@ -1,6 +1,6 @@
 use Rattle.std.proofs.Common.{◌≡◌, get_or}
 use Rattle.pr_lines.specs.WordTerms.{worth}
-use Rattle.pr_lines.proofs.WordTerms.NumberRoom.{none_past}
+use Rattle.pr_lines.proofs.lemmas.WordTerms.NumberRoom.{none_past}
 use Rattle.pr_lines.proofs.terms.amount_of.Goals as goal
 
 pub returns-then-value-most-clause-value : goal.returns-then-value-most-clause-value

@@ -1,5 +1,5 @@
 use Rattle.std.proofs.Common.{length}
-use Rattle.pr_lines.proofs.WordTerms.NumberRoom.{hex_some}
+use Rattle.pr_lines.proofs.lemmas.WordTerms.NumberRoom.{hex_some}
 use Rattle.pr_lines.proofs.terms.hexadecimal.Goals as goal
 
 pub returns-clause-below : goal.returns-clause-below

@@ -1,5 +1,5 @@
 use Rattle.std.proofs.Common.{◌+◌, ◌*◌, ◌<◌, ◌^◌, arith, length}
-use Rattle.pr_lines.proofs.WordTerms.NumberRoom.{digit_fits}
+use Rattle.pr_lines.proofs.lemmas.WordTerms.NumberRoom.{digit_fits}
 use Rattle.pr_lines.proofs.terms.number.Goals as goal
 
 fits : (c : goal.Else-worth-base) → c.args.base * c.loop-digit.value + c.from-worth.result < 2 ^ 64

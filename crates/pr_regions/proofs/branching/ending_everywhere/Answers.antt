@@ -1,4 +1,4 @@
-use Rattle.pr_regions.proofs.Parts.Branches.{tell_alone}
+use Rattle.pr_regions.proofs.lemmas.Parts.Branches.{tell_alone}
 use Rattle.pr_regions.proofs.branching.ending_everywhere.Goals as goal
 
 pub returns : goal.returns

@@ -1,5 +1,5 @@
 use Rattle.pr_regions.proofs.Common.{◌≡◌, ◌≤◌, false, ◌==◌, sym, subst, arith, nat_tests}
-use Rattle.pr_regions.proofs.Purposes.Conduct.{written_number}
+use Rattle.pr_regions.proofs.lemmas.Purposes.Conduct.{written_number}
 use Rattle.pr_regions.proofs.commands.purpose_of_preempt.Goals as goal
 
 pub returns-else-sark-eq0-clause-number : goal.returns-else-sark-eq0-clause-number

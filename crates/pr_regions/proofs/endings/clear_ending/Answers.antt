@@ -1,6 +1,6 @@
 use Rattle.pr_regions.proofs.Common.{refl, arith}
-use Rattle.pr_regions.proofs.Parts.Keys.{keys_those}
-use Rattle.pr_regions.proofs.Parts.Services.{clear_good}
+use Rattle.pr_regions.proofs.lemmas.Parts.Keys.{keys_those}
+use Rattle.pr_regions.proofs.lemmas.Parts.Services.{clear_good}
 use Rattle.pr_regions.proofs.endings.clear_ending.Goals as goal
 
 pub returns : goal.returns

@@ -1,5 +1,5 @@
 use Rattle.pr_regions.proofs.Common.{refl, Look}
-use Rattle.pr_regions.proofs.Parts.Endings.{same_ends}
+use Rattle.pr_regions.proofs.lemmas.Parts.Endings.{same_ends}
 use Rattle.pr_regions.proofs.endings.look_ending.Goals as goal
 
 pub returns : goal.returns

@@ -1,6 +1,6 @@
 use Rattle.pr_regions.proofs.Common.{sym, ◌∙◌}
-use Rattle.pr_regions.proofs.Parts.Keys.{keys_those}
-use Rattle.pr_regions.proofs.Parts.Services.{preempt_all_good, preempt_all_fault}
+use Rattle.pr_regions.proofs.lemmas.Parts.Keys.{keys_those}
+use Rattle.pr_regions.proofs.lemmas.Parts.Services.{preempt_all_good, preempt_all_fault}
 use Rattle.pr_regions.proofs.endings.preempt_all_ending.Goals as goal
 
 pub returns-then-not-is_held_by_all : goal.returns-then-not-is_held_by_all

@@ -1,5 +1,5 @@
 use Rattle.pr_regions.proofs.Common.{refl}
-use Rattle.pr_regions.proofs.Parts.Services.{register_good}
+use Rattle.pr_regions.proofs.lemmas.Parts.Services.{register_good}
 use Rattle.pr_regions.proofs.endings.register_ending.Goals as goal
 
 pub returns : goal.returns

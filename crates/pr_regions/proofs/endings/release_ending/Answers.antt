@@ -1,6 +1,6 @@
 use Rattle.pr_regions.proofs.Common.{None, sym, ap, subst, ◌∙◌, arith, is_kind, number_of, never, Does}
-use Rattle.pr_regions.proofs.Parts.Endings.{has_room}
-use Rattle.pr_regions.proofs.Parts.Services.{release_none, release_others, release_good}
+use Rattle.pr_regions.proofs.lemmas.Parts.Endings.{has_room}
+use Rattle.pr_regions.proofs.lemmas.Parts.Services.{release_none, release_others, release_good}
 use Rattle.pr_regions.proofs.endings.release_ending.Goals as goal
 
 pub returns-in_default : goal.returns-in_default

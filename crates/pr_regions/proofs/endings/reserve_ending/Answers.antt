@@ -1,5 +1,5 @@
 use Rattle.pr_regions.proofs.Common.{◌≡◌, Bool, true, false, ◌&&◌, None, sym, refl, ap, subst, ◌∙◌, is_kind, kind_of, number_of, holds, never, Does}
-use Rattle.pr_regions.proofs.Parts.Services.{reserve_new, reserve_same, reserve_conflict}
+use Rattle.pr_regions.proofs.lemmas.Parts.Services.{reserve_new, reserve_same, reserve_conflict}
 use Rattle.pr_regions.proofs.endings.reserve_ending.Goals as goal
 use Rattle.pr_regions.proofs.endings.reserve_ending.Goals.{else-holds-via-then-holds+else-is_kind, else-holds-via-else-holds}
 

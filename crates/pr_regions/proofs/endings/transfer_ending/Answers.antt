@@ -1,5 +1,5 @@
 use Rattle.pr_regions.proofs.Common.{Read, Write}
-use Rattle.pr_regions.proofs.Parts.Transfers.{is_read, is_write, move_conflicts, move_fails, move_goes}
+use Rattle.pr_regions.proofs.lemmas.Parts.Transfers.{is_read, is_write, move_conflicts, move_fails, move_goes}
 use Rattle.pr_regions.proofs.endings.transfer_ending.Goals as goal
 
 pub returns-then-is_kept-clause-reading : goal.returns-then-is_kept-clause-reading

@@ -7,7 +7,7 @@ use Rattle.pr_views.specs.Portions.{has_at, view_in}
 use Rattle.pr_regions.specs.inside.Adding.{Adds}
 use Rattle.pr_regions.specs.inside.Showing.{IsShownBelow}
 use Rattle.pr_regions.specs.Keeping.{IsShownSo}
-use Rattle.pr_regions.proofs.Showing.ShownStates.{adds_place, below_more, below_skips, is_kept, is_place, none_uniform, keys_uniform}
+use Rattle.pr_regions.proofs.lemmas.Showing.ShownStates.{adds_place, below_more, below_skips, is_kept, is_place, none_uniform, keys_uniform}
 use Rattle.pr_regions.proofs.keeping.kept.Goals.{then-has, else-has}
 use Rattle.pr_regions.proofs.keeping.kept.Goals as goal
 

@@ -1,6 +1,6 @@
 use Rattle.pr_regions.proofs.Common.{◌≡◌, ◌≤◌, ◌≢◌, sym, subst, arith, number_in}
-use Rattle.pr_regions.proofs.Purposes.Conduct.{declared_number}
-use Rattle.pr_regions.proofs.Readings.KeyTests.{always_there, there_with_somebody, not_there_with_nobody}
+use Rattle.pr_regions.proofs.lemmas.Purposes.Conduct.{declared_number}
+use Rattle.pr_regions.proofs.lemmas.Readings.KeyTests.{always_there, there_with_somebody, not_there_with_nobody}
 use Rattle.pr_regions.proofs.key_reads.asked_by.Goals as goal
 
 pub returns-then-number-registration-clause-asked : goal.returns-then-number-registration-clause-asked

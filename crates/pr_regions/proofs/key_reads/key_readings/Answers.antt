@@ -1,7 +1,7 @@
 use Rattle.pr_regions.proofs.Common.{◌<◌, length, ◌∙◌, arith, length-append, ReadKeys, WRITTEN_LENGTH, IsProperReading}
 use Rattle.std.proofs.lemmas.List.Elements.{All-push}
-use Rattle.pr_regions.proofs.Parts.Preemption.{none_is_not}
-use Rattle.pr_regions.proofs.Readings.KeyArms.{read_alike, so_far_skip, so_far_more, read_always, read_by_none}
+use Rattle.pr_regions.proofs.lemmas.Parts.Preemption.{none_is_not}
+use Rattle.pr_regions.proofs.lemmas.Readings.KeyArms.{read_alike, so_far_skip, so_far_more, read_always, read_by_none}
 use Rattle.pr_regions.proofs.key_reads.key_readings.Goals as goal
 use Rattle.pr_regions.proofs.key_reads.key_readings.Goals.{in-Never, in-Somebody}
 

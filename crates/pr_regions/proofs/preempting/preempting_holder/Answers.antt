@@ -1,7 +1,7 @@
 use Rattle.pr_regions.proofs.Common.{◌≤◌, Some, None, sym, refl, ap, ◌∙◌, arith, number_of, never, any, only, but, another, Leaves}
 use Rattle.pr_roles.specs.declared.limits.TheConstants.{MOST_KEYS}
-use Rattle.pr_regions.proofs.Parts.Endings.{leaves, has_room}
-use Rattle.pr_regions.proofs.Parts.HeldPreemption.{held_by, holders_key, own_key_goes, somebodys_key_goes, nobodys_key, tell_own_single, tell_other_single}
+use Rattle.pr_regions.proofs.lemmas.Parts.Endings.{leaves, has_room}
+use Rattle.pr_regions.proofs.lemmas.Parts.HeldPreemption.{held_by, holders_key, own_key_goes, somebodys_key_goes, nobodys_key, tell_own_single, tell_other_single}
 use Rattle.pr_regions.proofs.preempting.preempting_holder.Goals as goal
 
 pub returns-then-is_named : goal.returns-then-is_named

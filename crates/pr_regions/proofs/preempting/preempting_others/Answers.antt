@@ -1,6 +1,6 @@
 use Rattle.pr_regions.proofs.Common.{None, refl, arith, number_of, never, only}
-use Rattle.pr_regions.proofs.Parts.Endings.{leaves, has_room}
-use Rattle.pr_regions.proofs.Parts.Preemption.{tell_others}
+use Rattle.pr_regions.proofs.lemmas.Parts.Endings.{leaves, has_room}
+use Rattle.pr_regions.proofs.lemmas.Parts.Preemption.{tell_others}
 use Rattle.pr_regions.proofs.preempting.preempting_others.Goals as goal
 
 pub returns : goal.returns

@@ -1,6 +1,6 @@
 use Rattle.pr_regions.proofs.Common.{◌≡◌, sym, ◌∙◌, arith, Preempt}
-use Rattle.pr_regions.proofs.Parts.Preemption.{own_single}
-use Rattle.pr_regions.proofs.Parts.HeldPreemption.{held_by}
+use Rattle.pr_regions.proofs.lemmas.Parts.Preemption.{own_single}
+use Rattle.pr_regions.proofs.lemmas.Parts.HeldPreemption.{held_by}
 use Rattle.pr_regions.proofs.preempting.preempting_single.Goals as goal
 
 pub returns-then-is_named : goal.returns-then-is_named

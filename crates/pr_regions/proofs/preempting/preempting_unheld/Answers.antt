@@ -1,6 +1,6 @@
 use Rattle.pr_regions.proofs.Common.{Some, None, sym, ◌∙◌, arith, Preempt, never, only}
-use Rattle.pr_regions.proofs.Parts.Endings.{has_room}
-use Rattle.pr_regions.proofs.Parts.Preemption.{own_unheld}
+use Rattle.pr_regions.proofs.lemmas.Parts.Endings.{has_room}
+use Rattle.pr_regions.proofs.lemmas.Parts.Preemption.{own_unheld}
 use Rattle.pr_regions.proofs.preempting.preempting_unheld.Goals as goal
 
 pub returns-then-is_named : goal.returns-then-is_named

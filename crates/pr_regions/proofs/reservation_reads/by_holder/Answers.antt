@@ -1,8 +1,8 @@
 use Rattle.pr_regions.proofs.Common.{◌<◌, length, arith, length-append, IsProperReading}
 use Rattle.std.proofs.lemmas.List.Elements.{All-push}
-use Rattle.pr_regions.proofs.Parts.Branches.{untested}
-use Rattle.pr_regions.proofs.Readings.KeyArms.{read_alike}
-use Rattle.pr_regions.proofs.Readings.ReservationArms.{held_more, held_all}
+use Rattle.pr_regions.proofs.lemmas.Parts.Branches.{untested}
+use Rattle.pr_regions.proofs.lemmas.Readings.KeyArms.{read_alike}
+use Rattle.pr_regions.proofs.lemmas.Readings.ReservationArms.{held_more, held_all}
 use Rattle.pr_regions.proofs.reservation_reads.by_holder.Goals as goal
 
 pub loop-place-preserved : goal.loop-place-preserved

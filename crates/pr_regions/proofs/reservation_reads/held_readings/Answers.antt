@@ -1,5 +1,5 @@
 use Rattle.pr_regions.proofs.Common.{◌≡◌, ◌≢◌, Some, unwrap_or, ap, ◌∙◌, arith, key_at}
-use Rattle.pr_regions.proofs.Readings.ReservationArms.{read_everywhere, key_of_all, key_of_sender}
+use Rattle.pr_regions.proofs.lemmas.Readings.ReservationArms.{read_everywhere, key_of_all, key_of_sender}
 use Rattle.pr_regions.proofs.reservation_reads.held_readings.Goals as goal
 
 pub returns-in-All-clause-right : goal.returns-in-All-clause-right

@@ -1,5 +1,5 @@
 use Rattle.pr_regions.proofs.Common.{None, ◌∙◌}
-use Rattle.pr_regions.proofs.Readings.ReservationArms.{read_everywhere, key_of_none}
+use Rattle.pr_regions.proofs.lemmas.Readings.ReservationArms.{read_everywhere, key_of_none}
 use Rattle.pr_regions.proofs.reservation_reads.reservation_readings.Goals as goal
 
 pub returns-in-None-clause-right : goal.returns-in-None-clause-right

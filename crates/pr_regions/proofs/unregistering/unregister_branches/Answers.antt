@@ -1,5 +1,5 @@
 use Rattle.pr_regions.proofs.Common.{sym, ◌∙◌, Unregister}
-use Rattle.pr_regions.proofs.Parts.Unregistration.{unregister_absent, unregister_good}
+use Rattle.pr_regions.proofs.lemmas.Parts.Unregistration.{unregister_absent, unregister_good}
 use Rattle.pr_regions.proofs.unregistering.unregister_branches.Goals as goal
 
 pub returns-then-is_unregistered : goal.returns-then-is_unregistered

@@ -1,6 +1,6 @@
 use Rattle.pr_regions.proofs.Common.{refl, arith}
-use Rattle.pr_regions.proofs.Parts.Keys.{keys_those}
-use Rattle.pr_regions.proofs.Parts.Unregistration.{tell_unregistered}
+use Rattle.pr_regions.proofs.lemmas.Parts.Keys.{keys_those}
+use Rattle.pr_regions.proofs.lemmas.Parts.Unregistration.{tell_unregistered}
 use Rattle.pr_regions.proofs.unregistering.unregistering_registrant.Goals as goal
 
 pub returns : goal.returns

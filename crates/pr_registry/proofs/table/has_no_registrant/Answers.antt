@@ -1,6 +1,6 @@
 use Rattle.std.proofs.Common.{◌==◌, ap, ◌∙◌}
 use Rattle.std.specs.FinSet as set
-use Rattle.pr_registry.proofs.Sets.{len-is_nobody}
+use Rattle.pr_registry.proofs.lemmas.Sets.{len-is_nobody}
 use Rattle.pr_registry.proofs.table.has_no_registrant.Goals as goal
 
 pub returns : goal.returns

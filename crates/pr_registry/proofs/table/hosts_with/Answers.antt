@@ -2,8 +2,8 @@ use Rattle.std.proofs.Common.{◌≡◌, ap, sym, ◌∙◌, arith}
 use Rattle.std.specs.FinSet as set
 use Rattle.pr_cdb.specs.declared.codes.TheConstants.{MOST_NEXUSES}
 use Rattle.pr_registry.specs.inside.HostBits.{hosts_where}
-use Rattle.pr_registry.proofs.Sets.{hosts_where-none, hosts_where-takes, hosts_where-skips}
-use Rattle.pr_registry.proofs.Tables.{has_key, hosts_where-has_key}
+use Rattle.pr_registry.proofs.lemmas.Sets.{hosts_where-none, hosts_where-takes, hosts_where-skips}
+use Rattle.pr_registry.proofs.lemmas.Tables.{has_key, hosts_where-has_key}
 use Rattle.pr_registry.proofs.table.hosts_with.Goals as goal
 use Rattle.pr_registry.proofs.table.hosts_with.Goals.{then-has_key, else-has_key}
 

@@ -1,6 +1,6 @@
 use Rattle.std.proofs.Common.{sym, ◌∙◌, arith}
 use Rattle.pr_cdb.specs.declared.codes.TheConstants.{MOST_NEXUSES}
-use Rattle.pr_registry.proofs.Tables.{is_empty-table_keys, not_empty-table_keys}
+use Rattle.pr_registry.proofs.lemmas.Tables.{is_empty-table_keys, not_empty-table_keys}
 use Rattle.pr_registry.proofs.table.is_empty.Goals as goal
 
 pub returns-then-is_some : goal.returns-then-is_some

@@ -1,5 +1,5 @@
 use Rattle.std.proofs.Common.{◌≡◌, ℕ, ◌<◌, None}
-use Rattle.pr_registry.proofs.Tables.{slot}
+use Rattle.pr_registry.proofs.lemmas.Tables.{slot}
 use Rattle.pr_registry.proofs.table.is_empty.Given as goal
 
 abbrev pub invariant-loop-slot : goal.invariant-loop-slot

@@ -3,7 +3,7 @@ use Rattle.std.specs.FinMap as map
 use Rattle.std.proofs.lemmas.Bool.Decides.{nat_tests}
 use Rattle.pr_cdb.specs.declared.codes.TheConstants.{MOST_NEXUSES}
 use Rattle.pr_registry.specs.Registrations.{table_keys}
-use Rattle.pr_registry.proofs.Tables.{contains_key-table_keys, contains_key-table_keys_past}
+use Rattle.pr_registry.proofs.lemmas.Tables.{contains_key-table_keys, contains_key-table_keys_past}
 use Rattle.pr_registry.proofs.table.is_registered.Goals as goal
 
 pub returns-then-place-lt-MOST_NEXUSES : goal.returns-then-place-lt-MOST_NEXUSES

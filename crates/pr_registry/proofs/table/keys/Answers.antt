@@ -1,7 +1,7 @@
 use Rattle.std.proofs.Common.{length, sym, ap, ◌∙◌, arith, ◌++◌, [], ◌∷◌, List, ℕ}
 use Rattle.arrayvec.specs.ArrayVec.{ArrayVec}
-use Rattle.pr_registry.proofs.Tables.{slot}
-use Rattle.pr_registry.proofs.KeyValues.{values-map_where-zero, values-map_where-some, values-map_where-none}
+use Rattle.pr_registry.proofs.lemmas.Tables.{slot}
+use Rattle.pr_registry.proofs.lemmas.KeyValues.{values-map_where-zero, values-map_where-some, values-map_where-none}
 use Rattle.pr_registry.proofs.table.keys.Goals as goal
 use Rattle.pr_registry.proofs.table.keys.Goals.{in-Some, in-None}
 

@@ -1,7 +1,7 @@
 use Rattle.std.proofs.Common.{◌≡◌, ◌≤◌, length}
 use Rattle.std.specs.FinMap as map
 use Rattle.pr_registry.specs.Hosts.{map_where}
-use Rattle.pr_registry.proofs.Tables.{slot}
+use Rattle.pr_registry.proofs.lemmas.Tables.{slot}
 use Rattle.pr_registry.proofs.table.keys.Given as goal
 
 abbrev pub invariant-loop-slot : goal.invariant-loop-slot

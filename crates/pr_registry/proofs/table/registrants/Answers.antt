@@ -4,8 +4,8 @@ use Rattle.std.specs.FinMap as map
 use Rattle.pr_cdb.specs.declared.codes.TheConstants.{MOST_NEXUSES}
 use Rattle.pr_registry.specs.inside.HostBits.{hosts_where}
 use Rattle.pr_registry.specs.Registrations.{table_keys}
-use Rattle.pr_registry.proofs.Sets.{hosts_where-none, hosts_where-takes, hosts_where-skips}
-use Rattle.pr_registry.proofs.Tables.{hosts_where-is_registered}
+use Rattle.pr_registry.proofs.lemmas.Sets.{hosts_where-none, hosts_where-takes, hosts_where-skips}
+use Rattle.pr_registry.proofs.lemmas.Tables.{hosts_where-is_registered}
 use Rattle.pr_registry.proofs.table.registrants.Goals as goal
 use Rattle.pr_registry.proofs.table.registrants.Goals.{then-is_registered, else-is_registered}
 

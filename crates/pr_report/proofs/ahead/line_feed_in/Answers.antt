@@ -1,5 +1,5 @@
 use Rattle.memchr.specs.Find.{is_byte}
-use Rattle.pr_report.proofs.LinesAhead.FirstBytes.{first_is_position}
+use Rattle.pr_report.proofs.lemmas.LinesAhead.FirstBytes.{first_is_position}
 use Rattle.pr_report.proofs.ahead.line_feed_in.Goals as goal
 
 pub returns : goal.returns

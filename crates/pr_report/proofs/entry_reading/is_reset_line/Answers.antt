@@ -2,7 +2,7 @@ use Rattle.std.proofs.Common.{◌∙◌, ◌++◌, ap, codes}
 use Rattle.std.specs.Prelude.{bytes_eq}
 use Rattle.std.proofs.lemmas.Bool.Decides.{Decides-eqb}
 use Rattle.std.proofs.lemmas.Slice.Eq.{strip_prefix_is}
-use Rattle.pr_report.proofs.TraceReadings.EntryLines.{no_rest, by_rest}
+use Rattle.pr_report.proofs.lemmas.TraceReadings.EntryLines.{no_rest, by_rest}
 use Rattle.pr_report.proofs.entry_reading.is_reset_line.Goals as goal
 
 pub returns-in-Some : goal.returns-in-Some

@@ -1,7 +1,7 @@
 use Rattle.std.proofs.Common.{sym, ap, ◌∙◌}
 use Rattle.std.proofs.lemmas.List.{take_rest}
 use Rattle.pr_report.specs.inside.SevenWords.{words_left}
-use Rattle.pr_report.proofs.TraceReadings.Cuts.{words_first, words_last}
+use Rattle.pr_report.proofs.lemmas.TraceReadings.Cuts.{words_first, words_last}
 use Rattle.pr_report.proofs.entry_reading.next_word.Goals as goal
 
 pub returns-in-Some : goal.returns-in-Some

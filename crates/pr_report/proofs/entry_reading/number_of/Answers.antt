@@ -1,6 +1,6 @@
 -- A place among the nexuses is one among their names.
 use Rattle.std.proofs.Common.{sym, ◌∙◌}
-use Rattle.pr_report.proofs.TraceReadings.NexusNames.{place_in_names}
+use Rattle.pr_report.proofs.lemmas.TraceReadings.NexusNames.{place_in_names}
 use Rattle.pr_report.proofs.entry_reading.number_of.Goals as goal
 
 pub returns-in_err-host-clause-number : goal.returns-in_err-host-clause-number

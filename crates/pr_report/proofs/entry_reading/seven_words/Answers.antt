@@ -1,5 +1,5 @@
 use Rattle.std.proofs.Common.{sym, ◌∙◌}
-use Rattle.pr_report.proofs.TraceReadings.Cuts.{some_left, too_many}
+use Rattle.pr_report.proofs.lemmas.TraceReadings.Cuts.{some_left, too_many}
 use Rattle.pr_report.proofs.entry_reading.seven_words.Goals as goal
 
 pub returns-then-is_some : goal.returns-then-is_some

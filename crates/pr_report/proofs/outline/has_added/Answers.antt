@@ -5,7 +5,7 @@ use Rattle.pr_views.specs.Rooms.{view_of}
 use Rattle.pr_verify.specs.Rooms.{row_of}
 use Rattle.pr_report.specs.TraceText.{names_of}
 use Rattle.pr_report.specs.OutlineText.{send_text}
-use Rattle.pr_report.proofs.OutlineText.Sends.{page_grown, page_kept}
+use Rattle.pr_report.proofs.lemmas.OutlineText.Sends.{page_grown, page_kept}
 use Rattle.pr_report.proofs.outline.has_added.Goals as goal
 
 pub returns-then-not-is_added-clause-full : goal.returns-then-not-is_added-clause-full

@@ -6,8 +6,8 @@ use Rattle.pr_registry.specs.declared.held.Held.TheVariants.{One}
 use Rattle.pr_sets.specs.Kept.{numbers_of_bits}
 use Rattle.pr_views.specs.Possibilities.{number_of}
 use Rattle.pr_report.specs.TraceText.{held_word, names_of}
-use Rattle.pr_report.proofs.Written.Fronts.{puts_err}
-use Rattle.pr_report.proofs.Written.Possibilities.{range_here, range_end, shown_end, shown_front, shown_more}
+use Rattle.pr_report.proofs.lemmas.Written.Fronts.{puts_err}
+use Rattle.pr_report.proofs.lemmas.Written.Possibilities.{range_here, range_end, shown_end, shown_front, shown_more}
 use Rattle.pr_report.proofs.outline.put_held_by.Goals as goal
 
 pub returns-in_err-put_reservation : goal.returns-in_err-put_reservation

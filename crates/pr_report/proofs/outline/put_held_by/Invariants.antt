@@ -8,7 +8,7 @@ use Rattle.pr_sets.specs.Kept.{numbers_of_bits}
 use Rattle.pr_views.specs.Possibilities.{number_of}
 use Rattle.pr_report.specs.Written.{Wrote}
 use Rattle.pr_report.specs.TraceText.{held_word, names_of}
-use Rattle.pr_report.proofs.Written.Possibilities.{shown}
+use Rattle.pr_report.proofs.lemmas.Written.Possibilities.{shown}
 use Rattle.pr_report.proofs.outline.put_held_by.Given as goal
 
 abbrev pub invariant-loop-holder : goal.invariant-loop-holder

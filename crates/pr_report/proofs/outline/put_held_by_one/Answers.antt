@@ -7,8 +7,8 @@ use Rattle.pr_sets.specs.Kept.{numbers_of_bits}
 use Rattle.pr_views.specs.Possibilities.{number_of}
 use Rattle.pr_report.specs.TraceText.{held_word, names_of}
 use Rattle.pr_report.specs.OutlineText.{held_by_one}
-use Rattle.pr_report.proofs.Written.Fronts.{front_first, front_then, puts_err, puts_last}
-use Rattle.pr_report.proofs.Written.Possibilities.{four_pieces, puts_as}
+use Rattle.pr_report.proofs.lemmas.Written.Fronts.{front_first, front_then, puts_err, puts_last}
+use Rattle.pr_report.proofs.lemmas.Written.Possibilities.{four_pieces, puts_as}
 use Rattle.pr_report.proofs.outline.put_held_by_one.Goals as goal
 
 pub returns-in_err-put_held_by : goal.returns-in_err-put_held_by

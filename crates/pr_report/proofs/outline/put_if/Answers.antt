@@ -1,6 +1,6 @@
 use Rattle.std.proofs.Common.{append-nil}
 use Rattle.pr_report.specs.PrintedLines.{joined_by_spaces}
-use Rattle.pr_report.proofs.Written.Fronts.{appends_nothing}
+use Rattle.pr_report.proofs.lemmas.Written.Fronts.{appends_nothing}
 use Rattle.pr_report.proofs.outline.put_if.Goals as goal
 
 pub returns-then-is_possible : goal.returns-then-is_possible

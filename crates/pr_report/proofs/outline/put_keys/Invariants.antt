@@ -5,7 +5,7 @@ use Rattle.pr_sets.specs.Kept.{numbers_of_bits}
 use Rattle.pr_views.specs.Possibilities.{key_at}
 use Rattle.pr_report.specs.Written.{Wrote}
 use Rattle.pr_report.specs.OutlineText.{free_or_key}
-use Rattle.pr_report.proofs.Written.Possibilities.{shown}
+use Rattle.pr_report.proofs.lemmas.Written.Possibilities.{shown}
 use Rattle.pr_report.proofs.outline.put_keys.Given as goal
 
 abbrev pub invariant-loop-number : goal.invariant-loop-number

@@ -5,8 +5,8 @@ use Rattle.pr_views.specs.Possibilities.{count_of_attentions}
 use Rattle.pr_report.specs.Printed.{printed_word}
 use Rattle.pr_report.specs.PrintedLines.{attentions_word}
 use Rattle.pr_report.specs.OutlineText.{codes_in}
-use Rattle.pr_report.proofs.Written.Fronts.{puts_err}
-use Rattle.pr_report.proofs.Written.Possibilities.{possible_front, possible_more, range_here, range_end, shown_end}
+use Rattle.pr_report.proofs.lemmas.Written.Fronts.{puts_err}
+use Rattle.pr_report.proofs.lemmas.Written.Possibilities.{possible_front, possible_more, range_here, range_end, shown_end}
 use Rattle.pr_report.proofs.outline.put_pending.Goals as goal
 
 pub returns-in_err-put_if : goal.returns-in_err-put_if

@@ -6,7 +6,7 @@ use Rattle.pr_views.specs.Possibilities.{count_of_attentions}
 use Rattle.pr_report.specs.Written.{Wrote}
 use Rattle.pr_report.specs.PrintedLines.{attentions_word}
 use Rattle.pr_report.specs.OutlineText.{codes_in}
-use Rattle.pr_report.proofs.Written.Possibilities.{shown}
+use Rattle.pr_report.proofs.lemmas.Written.Possibilities.{shown}
 use Rattle.pr_report.proofs.outline.put_pending.Given as goal
 
 abbrev pub invariant-loop-number : goal.invariant-loop-number

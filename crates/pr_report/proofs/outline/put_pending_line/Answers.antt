@@ -6,8 +6,8 @@ use Rattle.pr_views.specs.Possibilities.{count_of_attentions}
 use Rattle.pr_report.specs.Printed.{printed_word}
 use Rattle.pr_report.specs.PrintedLines.{attentions_word}
 use Rattle.pr_report.specs.OutlineText.{codes_in, pending_line}
-use Rattle.pr_report.proofs.Written.Fronts.{front_first, front_then, puts_err, puts_last}
-use Rattle.pr_report.proofs.Written.Possibilities.{line_pieces, puts_as}
+use Rattle.pr_report.proofs.lemmas.Written.Fronts.{front_first, front_then, puts_err, puts_last}
+use Rattle.pr_report.proofs.lemmas.Written.Possibilities.{line_pieces, puts_as}
 use Rattle.pr_report.proofs.outline.put_pending_line.Goals as goal
 
 pub returns-in_err-begin_item : goal.returns-in_err-begin_item

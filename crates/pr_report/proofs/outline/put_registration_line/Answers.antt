@@ -1,9 +1,9 @@
 use Rattle.std.proofs.Common.{ap, ◌∙◌}
 use Rattle.pr_report.specs.Printed.{printed_word}
 use Rattle.pr_report.specs.TraceText.{name_of, names_of}
-use Rattle.pr_report.proofs.Written.Fronts.{front_first, front_then, puts_err, puts_last}
-use Rattle.pr_report.proofs.OutlineText.Sends.{registration_begins, registration_pieces}
-use Rattle.pr_report.proofs.Written.Possibilities.{puts_as}
+use Rattle.pr_report.proofs.lemmas.Written.Fronts.{front_first, front_then, puts_err, puts_last}
+use Rattle.pr_report.proofs.lemmas.OutlineText.Sends.{registration_begins, registration_pieces}
+use Rattle.pr_report.proofs.lemmas.Written.Possibilities.{puts_as}
 use Rattle.pr_report.proofs.outline.put_registration_line.Goals as goal
 
 pub returns-in_err-begin_item : goal.returns-in_err-begin_item

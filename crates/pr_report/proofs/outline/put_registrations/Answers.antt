@@ -3,8 +3,8 @@ use Rattle.pr_sets.specs.Kept.{numbers_of_bits}
 use Rattle.pr_views.specs.Rooms.{view_of}
 use Rattle.pr_report.specs.TraceText.{names_of}
 use Rattle.pr_report.specs.OutlineText.{registration_line}
-use Rattle.pr_report.proofs.Written.Fronts.{puts_err}
-use Rattle.pr_report.proofs.Written.Possibilities.{each_end, each_front, each_more, range_here, range_end}
+use Rattle.pr_report.proofs.lemmas.Written.Fronts.{puts_err}
+use Rattle.pr_report.proofs.lemmas.Written.Possibilities.{each_end, each_front, each_more, range_here, range_end}
 use Rattle.pr_report.proofs.outline.put_registrations.Goals as goal
 
 pub returns-in_err-put_registration_line : goal.returns-in_err-put_registration_line

@@ -5,8 +5,8 @@ use Rattle.pr_views.specs.Rooms.{view_of}
 use Rattle.pr_report.specs.Printed.{printed_word}
 use Rattle.pr_report.specs.TraceText.{held_word, names_of}
 use Rattle.pr_report.specs.OutlineText.{possible_of, reservation_line, reservations}
-use Rattle.pr_report.proofs.Written.Fronts.{front_first, front_then, puts_err, puts_last}
-use Rattle.pr_report.proofs.Written.Possibilities.{line_pieces, puts_as}
+use Rattle.pr_report.proofs.lemmas.Written.Fronts.{front_first, front_then, puts_err, puts_last}
+use Rattle.pr_report.proofs.lemmas.Written.Possibilities.{line_pieces, puts_as}
 use Rattle.pr_report.proofs.outline.put_reservation_line.Goals as goal
 
 pub returns-in_err-begin_item : goal.returns-in_err-begin_item

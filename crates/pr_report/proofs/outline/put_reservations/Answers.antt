@@ -10,8 +10,8 @@ use Rattle.pr_sets.specs.Kept.{numbers_of_bits}
 use Rattle.pr_views.specs.Possibilities.{number_of}
 use Rattle.pr_report.specs.TraceText.{held_word, names_of}
 use Rattle.pr_report.specs.OutlineText.{held_by_one, kinds_of_one}
-use Rattle.pr_report.proofs.Written.Fronts.{front_first, front_then, puts_err, puts_last}
-use Rattle.pr_report.proofs.Written.Possibilities.{ends_pieces, puts_as}
+use Rattle.pr_report.proofs.lemmas.Written.Fronts.{front_first, front_then, puts_err, puts_last}
+use Rattle.pr_report.proofs.lemmas.Written.Possibilities.{ends_pieces, puts_as}
 use Rattle.pr_report.proofs.outline.put_reservations.Goals as goal
 
 pub returns-in_err-put_reservation : goal.returns-in_err-put_reservation

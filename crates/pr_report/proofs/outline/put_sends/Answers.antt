@@ -2,8 +2,8 @@ use Rattle.std.proofs.Common.{◌≤◌, length, map, subst}
 use Rattle.pr_verify.specs.Rooms.{row_of}
 use Rattle.pr_report.specs.TraceText.{names_of}
 use Rattle.pr_report.specs.OutlineText.{sends_text}
-use Rattle.pr_report.proofs.Written.Fronts.{held_first, held_last, puts_err}
-use Rattle.pr_report.proofs.OutlineText.Sends.{line_and_view, sends_end, sends_front, sends_more}
+use Rattle.pr_report.proofs.lemmas.Written.Fronts.{held_first, held_last, puts_err}
+use Rattle.pr_report.proofs.lemmas.OutlineText.Sends.{line_and_view, sends_end, sends_front, sends_more}
 use Rattle.pr_report.proofs.outline.put_sends.Goals as goal
 
 pub loop-place-init : goal.loop-place-init

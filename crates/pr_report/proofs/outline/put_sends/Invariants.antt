@@ -3,7 +3,7 @@ use Rattle.pr_verify.specs.Rooms.{row_of}
 use Rattle.pr_report.specs.Written.{Wrote}
 use Rattle.pr_report.specs.TraceText.{names_of}
 use Rattle.pr_report.specs.OutlineText.{sends_text}
-use Rattle.pr_report.proofs.OutlineText.Sends.{line_and_view}
+use Rattle.pr_report.proofs.lemmas.OutlineText.Sends.{line_and_view}
 use Rattle.pr_report.proofs.outline.put_sends.Given as goal
 
 abbrev pub invariant-loop-place : goal.invariant-loop-place

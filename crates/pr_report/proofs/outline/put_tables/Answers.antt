@@ -4,9 +4,9 @@ use Rattle.pr_sets.specs.Kept.{numbers_of_bits}
 use Rattle.pr_verify.specs.Rooms.{table_of}
 use Rattle.pr_report.specs.TraceText.{names_of}
 use Rattle.pr_report.specs.OutlineText.{table_text}
-use Rattle.pr_report.proofs.Written.Fronts.{puts_err}
-use Rattle.pr_report.proofs.Written.Possibilities.{each_front, each_more}
-use Rattle.pr_report.proofs.TraceText.Lines.{drop_here}
+use Rattle.pr_report.proofs.lemmas.Written.Fronts.{puts_err}
+use Rattle.pr_report.proofs.lemmas.Written.Possibilities.{each_front, each_more}
+use Rattle.pr_report.proofs.lemmas.TraceText.Lines.{drop_here}
 use Rattle.pr_report.proofs.outline.put_tables.Goals as goal
 
 pub returns-in_err-put_table : goal.returns-in_err-put_table

@@ -1,4 +1,4 @@
-use Rattle.pr_report.proofs.OutlineText.Sends.{outlines_of_parts}
+use Rattle.pr_report.proofs.lemmas.OutlineText.Sends.{outlines_of_parts}
 use Rattle.pr_report.proofs.outline.write_outlines.Goals as goal
 
 pub returns : goal.returns

@@ -1,4 +1,4 @@
-use Rattle.pr_report.proofs.Written.Fronts.{wrote_some}
+use Rattle.pr_report.proofs.lemmas.Written.Fronts.{wrote_some}
 use Rattle.pr_report.proofs.output.put.Goals as goal
 
 pub loop-rest-preserved : goal.loop-rest-preserved

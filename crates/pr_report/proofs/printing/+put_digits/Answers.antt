@@ -1,7 +1,7 @@
-use Rattle.pr_report.proofs.Written.Fronts.{front_first, puts_err, puts_last}
+use Rattle.pr_report.proofs.lemmas.Written.Fronts.{front_first, puts_err, puts_last}
 use Rattle.std.proofs.lemmas.Fmt.{hex_one_digit}
 use Rattle.std.proofs.Common.{arith, false}
-use Rattle.pr_report.proofs.EntryWords.KeyDigits.{digits_step}
+use Rattle.pr_report.proofs.lemmas.EntryWords.KeyDigits.{digits_step}
 use Rattle.pr_report.proofs.printing.+put_digits.Goals as goal
 
 pub returns-then-number-lt16 : goal.returns-then-number-lt16

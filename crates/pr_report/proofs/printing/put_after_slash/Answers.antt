@@ -1,4 +1,4 @@
-use Rattle.pr_report.proofs.Written.Fronts.{front_first, puts_err, puts_last}
+use Rattle.pr_report.proofs.lemmas.Written.Fronts.{front_first, puts_err, puts_last}
 use Rattle.pr_report.proofs.printing.put_after_slash.Goals as goal
 
 pub returns-in_err-put : goal.returns-in_err-put

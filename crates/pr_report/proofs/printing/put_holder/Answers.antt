@@ -1,4 +1,4 @@
-use Rattle.pr_report.proofs.Written.Fronts.{front_first, front_then, puts_err, puts_last}
+use Rattle.pr_report.proofs.lemmas.Written.Fronts.{front_first, front_then, puts_err, puts_last}
 use Rattle.pr_report.proofs.printing.put_holder.Goals as goal
 
 pub returns-in_err-put_kind : goal.returns-in_err-put_kind

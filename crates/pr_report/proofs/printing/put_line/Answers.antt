@@ -1,4 +1,4 @@
-use Rattle.pr_report.proofs.Written.Fronts.{front_first, front_then, puts_err, puts_last}
+use Rattle.pr_report.proofs.lemmas.Written.Fronts.{front_first, front_then, puts_err, puts_last}
 use Rattle.pr_report.specs.PrintedLines.{line}
 use Rattle.pr_report.proofs.printing.put_line.Goals as goal
 

@@ -5,7 +5,7 @@ use Rattle.pr_report.specs.Written.{Wrote, FallsShort}
 use Rattle.pr_report.specs.PrintedLines.{joined_by_spaces}
 use Rattle.pr_report.specs.Printed.{printed_word}
 use Rattle.pr_report.specs.declared.printing.Word.{Word}
-use Rattle.pr_report.proofs.Written.Fronts.{puts_err, wrote_all, wrote_front, wrote_more}
+use Rattle.pr_report.proofs.lemmas.Written.Fronts.{puts_err, wrote_all, wrote_front, wrote_more}
 use Rattle.pr_report.proofs.printing.put_spaced.Goals as goal
 
 spaced_from : (words : List Word) (i : ℕ) (d : Word) → i < length words → joined_by_spaces (map printed_word (drop i words)) ≡ (32 ∷ printed_word (get_or words i d)) ++ joined_by_spaces (map printed_word (drop (i + 1) words))

@@ -1,5 +1,5 @@
 use Rattle.std.proofs.Common.{codes}
-use Rattle.pr_report.proofs.Written.Fronts.{front_first, puts_err, puts_last}
+use Rattle.pr_report.proofs.lemmas.Written.Fronts.{front_first, puts_err, puts_last}
 use Rattle.pr_report.proofs.printing.put_type.Goals as goal
 
 pub returns-in_err-put : goal.returns-in_err-put

@@ -2,7 +2,7 @@ use Rattle.std.proofs.Common.{refl}
 use Rattle.std.specs.Prelude.{◌++◌, map}
 use Rattle.pr_world.specs.Ends.{ending_of}
 use Rattle.pr_report.specs.TraceText.{ending_lines, item_lines, names_of, unit_line}
-use Rattle.pr_report.proofs.Written.Fronts.{held_all, held_err, held_front, held_more, held_through}
+use Rattle.pr_report.proofs.lemmas.Written.Fronts.{held_all, held_err, held_front, held_more, held_through}
 use Rattle.pr_report.proofs.trace.add_body.Goals as goal
 
 pub returns-in_err-add_items : goal.returns-in_err-add_items

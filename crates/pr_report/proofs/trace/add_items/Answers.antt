@@ -1,7 +1,7 @@
 use Rattle.std.proofs.Common.{refl}
 use Rattle.pr_report.specs.TraceText.{names_of}
-use Rattle.pr_report.proofs.Written.Fronts.{held_all, held_err}
-use Rattle.pr_report.proofs.TraceText.Lines.{entries_front, entries_more, entries_end}
+use Rattle.pr_report.proofs.lemmas.Written.Fronts.{held_all, held_err}
+use Rattle.pr_report.proofs.lemmas.TraceText.Lines.{entries_front, entries_more, entries_end}
 use Rattle.pr_report.proofs.trace.add_items.Goals as goal
 
 pub loop-others-init : goal.loop-others-init

@@ -1,6 +1,6 @@
 use Rattle.pr_report.specs.Printed.{printed_word}
-use Rattle.pr_report.proofs.Written.Fronts.{puts_err, wrote_all}
-use Rattle.pr_report.proofs.TraceText.Lines.{registrations_front, registrations_more, registrations_end}
+use Rattle.pr_report.proofs.lemmas.Written.Fronts.{puts_err, wrote_all}
+use Rattle.pr_report.proofs.lemmas.TraceText.Lines.{registrations_front, registrations_more, registrations_end}
 use Rattle.pr_report.proofs.trace.put_registrations.Goals as goal
 
 pub returns-in_err-put_after_space : goal.returns-in_err-put_after_space

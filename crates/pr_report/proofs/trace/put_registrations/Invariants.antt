@@ -1,6 +1,6 @@
 use Rattle.std.proofs.Common.{drop}
 use Rattle.pr_report.specs.Written.{Wrote}
-use Rattle.pr_report.proofs.TraceText.Lines.{registrations}
+use Rattle.pr_report.proofs.lemmas.TraceText.Lines.{registrations}
 use Rattle.pr_report.proofs.trace.put_registrations.Given as goal
 
 abbrev pub invariant-loop-host : goal.invariant-loop-host

@@ -1,8 +1,8 @@
 use Rattle.std.specs.Prelude.{map}
 use Rattle.pr_world.specs.Ends.{ending_of}
 use Rattle.pr_report.specs.TraceText.{names_of, trace_body}
-use Rattle.pr_report.proofs.Written.Fronts.{held_end, held_last, held_over, puts_err}
-use Rattle.pr_report.proofs.TraceText.Lines.{first_front, first_put}
+use Rattle.pr_report.proofs.lemmas.Written.Fronts.{held_end, held_last, held_over, puts_err}
+use Rattle.pr_report.proofs.lemmas.TraceText.Lines.{first_front, first_put}
 use Rattle.pr_report.proofs.trace.put_trace.Goals as goal
 
 pub returns-in_err-add_line : goal.returns-in_err-add_line

@@ -1,4 +1,4 @@
-use Rattle.pr_report.proofs.TraceText.Lines.{trace_of_parts}
+use Rattle.pr_report.proofs.lemmas.TraceText.Lines.{trace_of_parts}
 use Rattle.pr_report.proofs.trace.write_trace.Goals as goal
 
 pub returns : goal.returns

@@ -1,4 +1,4 @@
-use Rattle.pr_report.proofs.TraceText.Lines.{body_of_parts}
+use Rattle.pr_report.proofs.lemmas.TraceText.Lines.{body_of_parts}
 use Rattle.pr_report.proofs.trace.write_trace_body.Goals as goal
 
 pub returns : goal.returns

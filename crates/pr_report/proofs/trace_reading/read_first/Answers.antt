@@ -2,8 +2,8 @@ use Rattle.std.proofs.Common.{◌≡◌, ◌+◌, true, [], take, sym, ◌∙◌
 use Rattle.std.specs.Prelude.{bytes_eq}
 use Rattle.pr_report.specs.TraceText.{first_line}
 use Rattle.pr_report.specs.inside.LinesAhead.{bytes_held}
-use Rattle.pr_report.proofs.LinesAhead.EntriesInFront.{first_few, first_missing, first_other, first_right}
-use Rattle.pr_report.proofs.BytesTaken.Sums.{takes_drop}
+use Rattle.pr_report.proofs.lemmas.LinesAhead.EntriesInFront.{first_few, first_missing, first_other, first_right}
+use Rattle.pr_report.proofs.lemmas.BytesTaken.Sums.{takes_drop}
 use Rattle.pr_report.proofs.trace_reading.read_first.Given.{Over}
 use Rattle.pr_report.proofs.trace_reading.read_first.Goals as goal
 

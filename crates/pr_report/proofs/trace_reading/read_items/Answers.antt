@@ -5,8 +5,8 @@ use Rattle.pr_report.specs.Versions.{most_items}
 use Rattle.pr_report.specs.BytesTaken.{bytes_of_lines}
 use Rattle.pr_report.specs.TraceReadings.{item_on, is_later}
 use Rattle.pr_report.specs.inside.LinesAhead.{bytes_held}
-use Rattle.pr_report.proofs.LinesAhead.EntriesInFront.{entries_bounded, entries_end, entries_fault, entries_fewer, entries_more, entries_stop, entry_few, entry_short, one_longer}
-use Rattle.pr_report.proofs.BytesTaken.Sums.{takes_both, takes_drop}
+use Rattle.pr_report.proofs.lemmas.LinesAhead.EntriesInFront.{entries_bounded, entries_end, entries_fault, entries_fewer, entries_more, entries_stop, entry_few, entry_short, one_longer}
+use Rattle.pr_report.proofs.lemmas.BytesTaken.Sums.{takes_both, takes_drop}
 use Rattle.pr_report.proofs.trace_reading.read_items.Given.{Over}
 use Rattle.pr_report.proofs.trace_reading.read_items.Goals as goal
 use Rattle.pr_report.proofs.trace_reading.read_items.Goals.{in-Some+then-is_later, in_default}

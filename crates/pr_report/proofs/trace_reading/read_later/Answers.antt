@@ -1,8 +1,8 @@
 use Rattle.std.proofs.Common.{◌+◌, ◌*◌, arith}
 use Rattle.std.proofs.lemmas.Grind.{common_steps}
 use Rattle.pr_report.specs.inside.LinesAhead.{bytes_held}
-use Rattle.pr_report.proofs.LinesAhead.EntriesInFront.{later_done}
-use Rattle.pr_report.proofs.BytesTaken.Sums.{takes_both, takes_drop}
+use Rattle.pr_report.proofs.lemmas.LinesAhead.EntriesInFront.{later_done}
+use Rattle.pr_report.proofs.lemmas.BytesTaken.Sums.{takes_both, takes_drop}
 use Rattle.pr_report.proofs.trace_reading.read_later.Goals as goal
 
 pub returns-clause-ok : goal.returns-clause-ok

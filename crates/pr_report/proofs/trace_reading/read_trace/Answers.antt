@@ -5,10 +5,10 @@ use Rattle.pr_report.specs.TraceText.{names_in, names_of}
 use Rattle.pr_report.specs.declared.trace_reading.TheConstants.{MOST_LATER_LINES}
 use Rattle.pr_report.specs.Versions.{most_items}
 use Rattle.pr_report.specs.BytesTaken.{bytes_of_lines}
-use Rattle.pr_report.proofs.LinesAhead.EntriesInFront.{entries_bounded}
-use Rattle.pr_report.proofs.BytesTaken.Sums.{held_few, loses_of_trace, takes_both}
-use Rattle.pr_report.proofs.TraceText.Lines.{version_read}
-use Rattle.pr_report.proofs.TraceReadings.WholeTraces.{all_read, entry_fault, few_nexuses, first_fault, later_fault, names_read}
+use Rattle.pr_report.proofs.lemmas.LinesAhead.EntriesInFront.{entries_bounded}
+use Rattle.pr_report.proofs.lemmas.BytesTaken.Sums.{held_few, loses_of_trace, takes_both}
+use Rattle.pr_report.proofs.lemmas.TraceText.Lines.{version_read}
+use Rattle.pr_report.proofs.lemmas.TraceReadings.WholeTraces.{all_read, entry_fault, few_nexuses, first_fault, later_fault, names_read}
 use Rattle.pr_report.proofs.trace_reading.read_trace.Goals as goal
 
 pub returns-in_err-read_first-clause-fault : goal.returns-in_err-read_first-clause-fault

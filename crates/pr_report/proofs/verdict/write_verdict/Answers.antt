@@ -1,5 +1,5 @@
 use Rattle.pr_report.specs.Printed.{printed_word}
-use Rattle.pr_report.proofs.Verdicts.RefusalLines.{refusal_of_parts}
+use Rattle.pr_report.proofs.lemmas.Verdicts.RefusalLines.{refusal_of_parts}
 use Rattle.pr_report.proofs.verdict.write_verdict.Goals as goal
 
 pub returns-in-Accepted : goal.returns-in-Accepted

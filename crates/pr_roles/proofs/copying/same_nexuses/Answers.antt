@@ -2,7 +2,7 @@
 use Rattle.std.proofs.lemmas.Bool.{false≢true}
 use Rattle.std.proofs.Common.{◌∙◌, ap, sym, length, arith}
 use Rattle.pr_roles.specs.Scenarios.{nexus_of}
-use Rattle.pr_roles.proofs.Fitting.DistinctLists.{part_at, length_of_parts}
+use Rattle.pr_roles.proofs.lemmas.Fitting.DistinctLists.{part_at, length_of_parts}
 use Rattle.pr_roles.proofs.copying.same_nexuses.Goals as goal
 
 pub returns-then-not-same : goal.returns-then-not-same

@@ -2,7 +2,7 @@
 use Rattle.std.proofs.Common.{ap, sym, ◌∙◌}
 use Rattle.std.specs.Prelude.{map, bytes_eq}
 use Rattle.pr_roles.specs.Fitting.{are_distinct}
-use Rattle.pr_roles.proofs.Fitting.DistinctLists.{named_again, named_once}
+use Rattle.pr_roles.proofs.lemmas.Fitting.DistinctLists.{named_again, named_once}
 use Rattle.pr_roles.proofs.fitting.are_named_apart.Goals as goal
 
 pub returns-then-is_named_among : goal.returns-then-is_named_among

@@ -1,4 +1,4 @@
-use Rattle.pr_roles.proofs.Starts.Reservations
+use Rattle.pr_roles.proofs.lemmas.Starts.Reservations
 use Rattle.pr_roles.proofs.laws.first_starts_are_earliest.Goals as goal
 
 pub returns : goal.returns

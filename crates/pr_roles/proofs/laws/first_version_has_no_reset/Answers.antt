@@ -1,4 +1,4 @@
-use Rattle.pr_roles.proofs.Worlds.Resets.{first_version_has_no_reset}
+use Rattle.pr_roles.proofs.lemmas.Worlds.Resets.{first_version_has_no_reset}
 use Rattle.pr_roles.proofs.laws.first_version_has_no_reset.Goals as goal
 
 pub returns : goal.returns

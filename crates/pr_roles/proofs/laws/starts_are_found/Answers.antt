@@ -1,4 +1,4 @@
-use Rattle.pr_roles.proofs.Starts.Reservations
+use Rattle.pr_roles.proofs.lemmas.Starts.Reservations
 use Rattle.pr_roles.proofs.laws.starts_are_found.Goals as goal
 
 pub returns : goal.returns

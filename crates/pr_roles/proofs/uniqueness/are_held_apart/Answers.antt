@@ -9,7 +9,7 @@ use Rattle.pr_cdb.specs.declared.command.Kind.{Kind}
 use Rattle.pr_cdb.specs.contracts.command.KindPartialEq.TheImpl as kind
 use Rattle.pr_registry.specs.Changes.{is_kind}
 use Rattle.pr_roles.specs.Fitting.{is_same_reservation}
-use Rattle.pr_roles.proofs.Fitting.DistinctLists.{distinct_same}
+use Rattle.pr_roles.proofs.lemmas.Fitting.DistinctLists.{distinct_same}
 use Rattle.pr_roles.proofs.uniqueness.are_held_apart.Goals as goal
 
 same_kind : (s t : Kind) → kind.eq-value.it s t ≡ is_kind s t

@@ -1,8 +1,8 @@
 -- Where one advance leads from the end of a body, from a repeat and from a break.
 use Rattle.std.proofs.Common.{length}
 use Rattle.pr_script.specs.inside.Program.{meanings}
-use Rattle.pr_script.proofs.Program.Places.{place-zero}
-use Rattle.pr_script.proofs.Program.Successors.{if_none, end_rests, placed_on, room_again, places_again, leads_again, next_within, body_within, room_in, leads_in, leads_out}
+use Rattle.pr_script.proofs.lemmas.Program.Places.{place-zero}
+use Rattle.pr_script.proofs.lemmas.Program.Successors.{if_none, end_rests, placed_on, room_again, places_again, leads_again, next_within, body_within, room_in, leads_in, leads_out}
 use Rattle.pr_script.proofs.advance.advance.Goals as goal
 
 pub returns-in_err-again-clause-rests : goal.returns-in_err-again-clause-rests

@@ -1,7 +1,7 @@
 -- The repeat that is left names places of the table.
 use Rattle.std.proofs.Common.{subst}
 use Rattle.pr_script.specs.inside.Program.{AreLoops}
-use Rattle.pr_script.proofs.Program.OpenRepeats.{opens_less}
+use Rattle.pr_script.proofs.lemmas.Program.OpenRepeats.{opens_less}
 use Rattle.pr_script.proofs.advance.exit_loop.Goals as goal
 
 pub returns-in-Some-clause-within : goal.returns-in-Some-clause-within

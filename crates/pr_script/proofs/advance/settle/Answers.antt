@@ -1,7 +1,7 @@
 -- Where advancing ends, what is still to do rests.
 use Rattle.std.proofs.Common.{ap, sym, ◌∙◌}
 use Rattle.pr_script.specs.inside.Program.{meanings, configuration}
-use Rattle.pr_script.proofs.Next.Settlement.{settled-rest}
+use Rattle.pr_script.proofs.lemmas.Next.Settlement.{settled-rest}
 use Rattle.pr_script.proofs.advance.settle.Goals as goal
 
 pub returns-clause-reached : goal.returns-clause-reached

@@ -3,8 +3,8 @@ use Rattle.std.proofs.Common.{◌≡◌, ◌+◌, ◌-◌, take, drop, ap, sym, 
 use Rattle.pr_script.specs.Trees.{statement_of, statements_in}
 use Rattle.pr_script.specs.inside.ArmLists.{arms_in}
 use Rattle.pr_script.specs.inside.Compiled.{IsCompiled, AreArmsCompiled}
-use Rattle.pr_script.proofs.Trees.Equations.{tree_send, tree_repeat}
-use Rattle.pr_script.proofs.Program.Tables.{laid_more, arms_laid_more, send_laid, repeat_laid}
+use Rattle.pr_script.proofs.lemmas.Trees.Equations.{tree_send, tree_repeat}
+use Rattle.pr_script.proofs.lemmas.Program.Tables.{laid_more, arms_laid_more, send_laid, repeat_laid}
 use Rattle.pr_script.proofs.compile.+compile.Goals as goal
 
 pub compile_step-returns-in_ok-arms-in-Send : goal.compile_step-returns-in_ok-arms-in-Send

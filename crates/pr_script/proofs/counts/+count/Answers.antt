@@ -3,8 +3,8 @@ use Rattle.std.proofs.Common.{min, ap, ◌∙◌, arith}
 use Rattle.pr_script.specs.Grammar.{count_of, count_in_arms}
 use Rattle.pr_script.specs.Trees.{statement_of}
 use Rattle.pr_script.specs.inside.ArmLists.{arms_in}
-use Rattle.pr_script.proofs.Trees.Equations.{tree_send, tree_repeat}
-use Rattle.pr_script.proofs.Versions.Statements.{count_taken, arms_count_taken}
+use Rattle.pr_script.proofs.lemmas.Trees.Equations.{tree_send, tree_repeat}
+use Rattle.pr_script.proofs.lemmas.Versions.Statements.{count_taken, arms_count_taken}
 use Rattle.pr_script.proofs.counts.+count.Goals as goal
 
 pub count-loop-statement-preserved : goal.count-loop-statement-preserved

@@ -5,8 +5,8 @@ use Rattle.pr_script.specs.Grammar.{lines_of, lines_of_all, lines_of_arms}
 use Rattle.pr_script.specs.inside.Climbs.{last_of_climb}
 use Rattle.pr_script.specs.Trees.{statement_of, statements_in, script_of}
 use Rattle.pr_script.specs.inside.ArmLists.{arms_in}
-use Rattle.pr_script.proofs.Trees.Equations.{tree_send, tree_repeat}
-use Rattle.pr_script.proofs.Versions.Statements.{then, lines_taken, arm_lines_taken, lines_fallen, arm_lines_fallen, climbed_above}
+use Rattle.pr_script.proofs.lemmas.Trees.Equations.{tree_send, tree_repeat}
+use Rattle.pr_script.proofs.lemmas.Versions.Statements.{then, lines_taken, arm_lines_taken, lines_fallen, arm_lines_fallen, climbed_above}
 use Rattle.pr_script.proofs.counts.+lines.Goals as goal
 
 pub last_line-loop-statement-preserved : goal.last_line-loop-statement-preserved

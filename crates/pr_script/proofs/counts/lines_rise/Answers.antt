@@ -3,7 +3,7 @@ use Rattle.std.proofs.Common.{ap, ◌∙◌}
 use Rattle.std.specs.Prelude.{is_some}
 use Rattle.pr_script.specs.Grammar.{lines_of_all}
 use Rattle.pr_script.specs.Trees.{script_of}
-use Rattle.pr_script.proofs.Versions.Statements.{risen}
+use Rattle.pr_script.proofs.lemmas.Versions.Statements.{risen}
 use Rattle.pr_script.proofs.counts.lines_rise.Goals as goal
 
 pub returns : goal.returns

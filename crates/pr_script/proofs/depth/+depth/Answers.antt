@@ -3,8 +3,8 @@ use Rattle.std.proofs.Common.{min, ap, ◌∙◌, arith}
 use Rattle.pr_script.specs.Depths.{depth_of, depth_of_arms}
 use Rattle.pr_script.specs.Trees.{statement_of}
 use Rattle.pr_script.specs.inside.ArmLists.{arms_in}
-use Rattle.pr_script.proofs.Trees.Equations.{tree_send, tree_repeat}
-use Rattle.pr_script.proofs.Trees.ListTails.{depth_taken, depth_of_arms_taken}
+use Rattle.pr_script.proofs.lemmas.Trees.Equations.{tree_send, tree_repeat}
+use Rattle.pr_script.proofs.lemmas.Trees.ListTails.{depth_taken, depth_of_arms_taken}
 use Rattle.pr_script.proofs.depth.+depth.Goals as goal
 
 pub repeat_depth-loop-statement-preserved : goal.repeat_depth-loop-statement-preserved

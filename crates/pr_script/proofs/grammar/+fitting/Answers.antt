@@ -3,8 +3,8 @@ use Rattle.std.proofs.Common.{◌+◌, ◌&&◌, nat_lt, ap, ◌∙◌, sym}
 use Rattle.pr_script.specs.Grammar.{statement_fits, arms_fit, is_send_written}
 use Rattle.pr_script.specs.Trees.{statement_of}
 use Rattle.pr_script.specs.inside.ArmLists.{arms_in}
-use Rattle.pr_script.proofs.Trees.Equations.{tree_send, tree_repeat}
-use Rattle.pr_script.proofs.Versions.Statements.{fit_taken, arms_taken, and_one, and_none}
+use Rattle.pr_script.proofs.lemmas.Trees.Equations.{tree_send, tree_repeat}
+use Rattle.pr_script.proofs.lemmas.Versions.Statements.{fit_taken, arms_taken, and_one, and_none}
 use Rattle.pr_script.proofs.grammar.+fitting.Goals as goal
 use Rattle.pr_script.proofs.grammar.+fitting.Goals.{statements_fit-then-fit, statements_fit-else-fit, arms_fit-then-fit, arms_fit-else-fit}
 

@@ -1,4 +1,4 @@
-use Rattle.pr_script.proofs.Next.Settlement
+use Rattle.pr_script.proofs.lemmas.Next.Settlement
 use Rattle.pr_script.proofs.laws.settles.Goals as goal
 
 pub returns : goal.returns

@@ -3,8 +3,8 @@ use Rattle.std.proofs.Common.{ap, sym, ◌∙◌, refl}
 use Rattle.pr_script.specs.Scripts.{sends, repeats}
 use Rattle.pr_script.specs.Trees.{statement_of, statements_in}
 use Rattle.pr_script.specs.inside.ArmLists.{arms_in}
-use Rattle.pr_script.proofs.Trees.Equations.{tree_send, tree_repeat}
-use Rattle.pr_script.proofs.Trees.ListTails.{statements_taken, arms_taken}
+use Rattle.pr_script.proofs.lemmas.Trees.Equations.{tree_send, tree_repeat}
+use Rattle.pr_script.proofs.lemmas.Trees.ListTails.{statements_taken, arms_taken}
 use Rattle.pr_script.proofs.script.+copy.Goals as goal
 
 pub Statement::copy-returns-in_ok-arms-in-Send : goal.Statement::copy-returns-in_ok-arms-in-Send

@@ -2,8 +2,8 @@
 use Rattle.std.proofs.Common.{◌≡◌, ◌<◌, length, get_or, IsTrue, ap, subst, ◌∙◌, arith}
 use Rattle.pr_script.specs.Trees.{statement_of}
 use Rattle.pr_script.specs.inside.ArmLists.{arms_in}
-use Rattle.pr_script.proofs.Trees.Equations.{tree_send, tree_repeat}
-use Rattle.pr_script.proofs.Trees.Equality.{refuted, not_both, same_length, same_arm_count, same_statement, same_arm, same_so_far, same_arms_so_far, sends_alike, repeats_alike}
+use Rattle.pr_script.proofs.lemmas.Trees.Equations.{tree_send, tree_repeat}
+use Rattle.pr_script.proofs.lemmas.Trees.Equality.{refuted, not_both, same_length, same_arm_count, same_statement, same_arm, same_so_far, same_arms_so_far, sends_alike, repeats_alike}
 use Rattle.pr_script.proofs.script.+same.Goals as goal
 
 pub Script::same-returns-then-len : goal.Script::same-returns-then-len

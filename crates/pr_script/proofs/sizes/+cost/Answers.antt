@@ -3,9 +3,9 @@ use Rattle.std.proofs.Common.{◌*◌, min, ap, ◌∙◌, sym, arith}
 use Rattle.pr_script.specs.Costs.{cost_of, cost_of_all, greatest}
 use Rattle.pr_script.specs.Trees.{statement_of, script_of}
 use Rattle.pr_script.specs.inside.ArmLists.{arms_in}
-use Rattle.pr_script.proofs.Trees.Equations.{tree_send, tree_repeat}
-use Rattle.pr_script.proofs.Trees.ListTails.{cost_taken, greatest_taken}
-use Rattle.pr_script.proofs.Costs.Products.{cut_product}
+use Rattle.pr_script.proofs.lemmas.Trees.Equations.{tree_send, tree_repeat}
+use Rattle.pr_script.proofs.lemmas.Trees.ListTails.{cost_taken, greatest_taken}
+use Rattle.pr_script.proofs.lemmas.Costs.Products.{cut_product}
 use Rattle.pr_script.proofs.sizes.+cost.Goals as goal
 
 pub cost-loop-statement-preserved : goal.cost-loop-statement-preserved

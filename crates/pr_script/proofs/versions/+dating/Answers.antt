@@ -3,8 +3,8 @@ use Rattle.std.proofs.Common.{ap, ◌∙◌, sym}
 use Rattle.pr_script.specs.Versions.{is_statement_of, are_arms_of}
 use Rattle.pr_script.specs.Trees.{statement_of}
 use Rattle.pr_script.specs.inside.ArmLists.{arms_in}
-use Rattle.pr_script.proofs.Trees.Equations.{tree_send, tree_repeat}
-use Rattle.pr_script.proofs.Versions.Statements.{dated_taken, arms_dated_taken, and_one, and_none}
+use Rattle.pr_script.proofs.lemmas.Trees.Equations.{tree_send, tree_repeat}
+use Rattle.pr_script.proofs.lemmas.Versions.Statements.{dated_taken, arms_dated_taken, and_one, and_none}
 use Rattle.pr_script.proofs.versions.+dating.Goals as goal
 use Rattle.pr_script.proofs.versions.+dating.Goals.{is_script_of-then-are, is_script_of-else-are, are_arms_of-then-are, are_arms_of-else-are}
 

@@ -1,7 +1,7 @@
 use Rattle.std.proofs.Common.{sym, ◌∙◌}
 use Rattle.std.proofs.lemmas.Bool.{false≢true}
 use Rattle.pr_shared.specs.Histories.{entries_of}
-use Rattle.pr_shared.proofs.Outcomes.Comparisons.{own_at, own_more}
+use Rattle.pr_shared.proofs.lemmas.Outcomes.Comparisons.{own_at, own_more}
 use Rattle.pr_shared.proofs.closing.are_own.Goals as goal
 
 pub returns-then-not-is_own : goal.returns-then-not-is_own

@@ -1,7 +1,7 @@
 use Rattle.std.proofs.Common.{◌≡◌, length, refl, ◌∙◌, arith}
 use Rattle.pr_roles.specs.Scenarios.{scenario_of}
-use Rattle.pr_shared.proofs.Outcomes.Comparisons.{all_ends, ends_more}
-use Rattle.pr_shared.proofs.Guests.Nexuses.{few_nexuses, number_of_nexuses}
+use Rattle.pr_shared.proofs.lemmas.Outcomes.Comparisons.{all_ends, ends_more}
+use Rattle.pr_shared.proofs.lemmas.Guests.Nexuses.{few_nexuses, number_of_nexuses}
 use Rattle.pr_shared.proofs.closing.ends_of.Goals as goal
 
 pub overflow_cast-host : goal.overflow_cast-host

@@ -1,5 +1,5 @@
 use Rattle.pr_roles.specs.Scenarios.{scenario_of}
-use Rattle.pr_shared.proofs.Outcomes.Comparisons.{just_over}
+use Rattle.pr_shared.proofs.lemmas.Outcomes.Comparisons.{just_over}
 use Rattle.pr_shared.proofs.closing.is_closed.Goals as goal
 
 pub returns : goal.returns

@@ -3,7 +3,7 @@ use Rattle.std.specs.List.{filter_map}
 use Rattle.std.specs.Prelude.{option_map}
 use Rattle.std.proofs.lemmas.Bool.{false≢true}
 use Rattle.pr_roles.specs.Items.{entry_by}
-use Rattle.pr_shared.proofs.Senders.EntryLists.{another_next, fails_more, passes_more, too_few}
+use Rattle.pr_shared.proofs.lemmas.Senders.EntryLists.{another_next, fails_more, passes_more, too_few}
 use Rattle.pr_shared.proofs.closing.is_own.Goals as goal
 use Rattle.pr_shared.proofs.closing.is_own.Goals.{in-Some+else-count-mine+else-not-is_same, in_default}
 

@@ -1,5 +1,5 @@
 use Rattle.std.proofs.Common.{refl, ◌∙◌, arith}
-use Rattle.pr_shared.proofs.Guests.Nexuses.{number_of_guests}
+use Rattle.pr_shared.proofs.lemmas.Guests.Nexuses.{number_of_guests}
 use Rattle.pr_shared.proofs.running.run.Goals as goal
 
 pub run_as-requires-clause-one_each : goal.run_as-requires-clause-one_each

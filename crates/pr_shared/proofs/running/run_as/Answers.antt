@@ -1,6 +1,6 @@
 use Rattle.std.proofs.Common.{◌∙◌, arith}
-use Rattle.pr_shared.proofs.Outcomes.Comparisons.{ordered_length}
-use Rattle.pr_shared.proofs.Guests.Nexuses.{number_of_guests}
+use Rattle.pr_shared.proofs.lemmas.Outcomes.Comparisons.{ordered_length}
+use Rattle.pr_shared.proofs.lemmas.Guests.Nexuses.{number_of_guests}
 use Rattle.pr_shared.proofs.running.run_as.Goals as goal
 
 pub in_threads-seats-requires-clause-room_to_start : goal.in_threads-seats-requires-clause-room_to_start

@@ -3,7 +3,7 @@ use Rattle.std.specs.Prelude.{◌≡◌, map}
 use Rattle.pr_roles.specs.Scenarios.{scenario_of}
 use Rattle.pr_shared.specs.Histories.{entries_by}
 use Rattle.pr_shared.specs.Outcomes.{IsHalted}
-use Rattle.pr_shared.proofs.Starting.Threads.{failed_next}
+use Rattle.pr_shared.proofs.lemmas.Starting.Threads.{failed_next}
 use Rattle.pr_shared.proofs.running.settled.Goals as goal
 
 pub halt-requires : goal.halt-requires

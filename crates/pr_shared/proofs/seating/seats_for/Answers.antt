@@ -2,7 +2,7 @@ use Rattle.std.proofs.Common.{arith}
 use Rattle.std.specs.Prelude.{◌≡◌, ◌+◌, [], false, vec_capacity}
 use Rattle.pr_roles.specs.Scenarios.{task_of}
 use Rattle.pr_world.specs.Rooms.{room_of}
-use Rattle.pr_shared.proofs.Histories.Seats.{all_more, numbered_more, paired_more}
+use Rattle.pr_shared.proofs.lemmas.Histories.Seats.{all_more, numbered_more, paired_more}
 use Rattle.pr_shared.proofs.seating.seats_for.Goals as goal
 
 pub loop-host-preserved : goal.loop-host-preserved

@@ -1,6 +1,6 @@
 use Rattle.std.proofs.Common.{ap, sym, ◌∙◌}
 use Rattle.std.specs.List.{range_with_len}
-use Rattle.pr_shared.proofs.Guests.Nexuses.{few_nexuses, known_nexuses, rooms_are, short_nexuses}
+use Rattle.pr_shared.proofs.lemmas.Guests.Nexuses.{few_nexuses, known_nexuses, rooms_are, short_nexuses}
 use Rattle.pr_shared.proofs.shared.furnished.Goals as goal
 
 pub seats_for-requires-clause-few : goal.seats_for-requires-clause-few

@@ -1,6 +1,6 @@
 use contract.Lifetimes.{Lfts}
 use denote.Param.Send.{IsSend, IsSync, sendable, param_send}
-use Rattle.pr_shared.proofs.SendableSeats.{shared_sync}
+use Rattle.pr_shared.proofs.lemmas.SendableSeats.{shared_sync}
 use Rattle.pr_shared.proofs.seat.Seat.TheSendSync as seat
 use Rattle.pr_shared.specs.contracts.threads.start_all.{G-row, R-row}
 use Rattle.pr_shared.proofs.threads.start_all.Given.{Over}

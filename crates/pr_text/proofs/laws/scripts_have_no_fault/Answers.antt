@@ -1,4 +1,4 @@
-use Rattle.pr_text.proofs.ScriptRoundTrip.Lines.{reread}
+use Rattle.pr_text.proofs.lemmas.ScriptRoundTrip.Lines.{reread}
 use Rattle.pr_text.proofs.laws.scripts_have_no_fault.Goals as goal
 
 pub returns : goal.returns

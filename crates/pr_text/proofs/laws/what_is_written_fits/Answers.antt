@@ -1,4 +1,4 @@
-use Rattle.pr_text.proofs.Laws.WrittenTexts.{what_is_written_fits}
+use Rattle.pr_text.proofs.lemmas.Laws.WrittenTexts.{what_is_written_fits}
 use Rattle.pr_text.proofs.laws.what_is_written_fits.Goals as goal
 
 pub returns : goal.returns

@@ -1,6 +1,6 @@
 use Rattle.pr_text.proofs.Common.{[], ◌∷◌, ◌++◌, sym, ap, ◌∙◌, block_done}
 use Rattle.pr_text.specs.inside.OpenScripts.{opener_lines, lines_in}
-use Rattle.pr_text.proofs.OpenScripts.Lines.{closed_repeat, closed_send}
+use Rattle.pr_text.proofs.lemmas.OpenScripts.Lines.{closed_repeat, closed_send}
 use Rattle.pr_text.proofs.open_script.statement_of_block.Goals as goal
 
 pub returns-in-Repeat : goal.returns-in-Repeat

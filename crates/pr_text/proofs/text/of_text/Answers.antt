@@ -1,7 +1,7 @@
 use Rattle.std.proofs.lemmas.Result.{err_from_is_err_and}
 use Rattle.pr_text.proofs.Common.{scenario_of, declared_by}
-use Rattle.pr_text.proofs.Texts.Readings.{too_large, fails_early, fails_late, written_ok}
-use Rattle.pr_text.proofs.Sound.Texts.{read_sound}
+use Rattle.pr_text.proofs.lemmas.Texts.Readings.{too_large, fails_early, fails_late, written_ok}
+use Rattle.pr_text.proofs.lemmas.Sound.Texts.{read_sound}
 use Rattle.pr_text.proofs.text.of_text.Goals as goal
 
 pub returns-then-text-gt-MOST_BYTES-clause-fault : goal.returns-then-text-gt-MOST_BYTES-clause-fault

@@ -1,6 +1,6 @@
-use Rattle.pr_text.proofs.Reading.Fronts.{read_front}
-use Rattle.pr_text.proofs.ScenarioRoundTrip.Uniqueness.{written_once}
-use Rattle.pr_text.proofs.ScenarioRoundTrip.WholeLines.{said}
+use Rattle.pr_text.proofs.lemmas.Reading.Fronts.{read_front}
+use Rattle.pr_text.proofs.lemmas.ScenarioRoundTrip.Uniqueness.{written_once}
+use Rattle.pr_text.proofs.lemmas.ScenarioRoundTrip.WholeLines.{said}
 use Rattle.pr_text.proofs.text.read.Goals as goal
 
 pub returns-clause-read : goal.returns-clause-read

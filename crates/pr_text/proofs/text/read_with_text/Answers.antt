@@ -1,4 +1,4 @@
-use Rattle.pr_text.proofs.Reading.Fronts.{read_front}
+use Rattle.pr_text.proofs.lemmas.Reading.Fronts.{read_front}
 use Rattle.pr_text.proofs.text.read_with_text.Goals as goal
 
 pub returns-in-Ok-clause-read : goal.returns-in-Ok-clause-read

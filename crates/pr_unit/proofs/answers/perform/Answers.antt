@@ -1,4 +1,4 @@
-use Rattle.pr_unit.proofs.UnitStates.Effects.{tells_below}
+use Rattle.pr_unit.proofs.lemmas.UnitStates.Effects.{tells_below}
 use Rattle.pr_unit.proofs.answers.perform.Goals as goal
 
 pub tell_change-requires : goal.tell_change-requires

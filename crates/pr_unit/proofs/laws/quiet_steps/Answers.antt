@@ -1,4 +1,4 @@
-use Rattle.pr_unit.proofs.Steps.QuietSteps.{quiet_steps}
+use Rattle.pr_unit.proofs.lemmas.Steps.QuietSteps.{quiet_steps}
 use Rattle.pr_unit.proofs.laws.quiet_steps.Goals as goal
 
 pub returns : goal.returns

@@ -1,4 +1,4 @@
-use Rattle.pr_unit.proofs.Attentions.Resets.{well_formed-reset}
+use Rattle.pr_unit.proofs.lemmas.Attentions.Resets.{well_formed-reset}
 use Rattle.pr_unit.proofs.laws.resets_are_well_formed.Goals as goal
 
 pub returns : goal.returns

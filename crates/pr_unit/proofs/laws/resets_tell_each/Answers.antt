@@ -1,4 +1,4 @@
-use Rattle.pr_unit.proofs.Attentions.Resets.{pending-reset}
+use Rattle.pr_unit.proofs.lemmas.Attentions.Resets.{pending-reset}
 use Rattle.pr_unit.proofs.laws.resets_tell_each.Goals as goal
 
 pub returns : goal.returns

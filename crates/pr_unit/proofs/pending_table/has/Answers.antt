@@ -3,7 +3,7 @@ use Rattle.std.specs.FinSet as set
 use Rattle.pr_cdb.specs.declared.codes.TheConstants.{MOST_NEXUSES}
 use Rattle.pr_attention.specs.Attentions.{code_of}
 use Rattle.pr_unit.specs.Attentions.{table_pairs}
-use Rattle.pr_unit.proofs.Attentions.Pairs.{place_read, contains-table_pairs_in}
+use Rattle.pr_unit.proofs.lemmas.Attentions.Pairs.{place_read, contains-table_pairs_in}
 use Rattle.pr_unit.proofs.pending_table.has.Goals as goal
 
 pub returns : goal.returns

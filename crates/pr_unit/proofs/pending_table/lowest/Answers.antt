@@ -3,9 +3,9 @@ use Rattle.std.specs.FinSet as set
 use Rattle.std.proofs.lemmas.Option.{IfSome_then}
 use Rattle.pr_cdb.specs.declared.codes.TheConstants.{MOST_NEXUSES}
 use Rattle.pr_attention.specs.Attentions.{code_of}
-use Rattle.pr_attention.proofs.Sets.{same_codes, contains-no_code}
+use Rattle.pr_attention.proofs.lemmas.Sets.{same_codes, contains-no_code}
 use Rattle.pr_unit.specs.Attentions.{table_pairs}
-use Rattle.pr_unit.proofs.Attentions.Pairs.{place_read, contains-table_pairs_in}
+use Rattle.pr_unit.proofs.lemmas.Attentions.Pairs.{place_read, contains-table_pairs_in}
 use Rattle.pr_unit.proofs.pending_table.lowest.Goals as goal
 
 -- what the host has at its place is what is pending for it

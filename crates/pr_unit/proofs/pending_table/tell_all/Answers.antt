@@ -2,7 +2,7 @@ use Rattle.std.proofs.Common.{ap, ◌∙◌}
 use Rattle.std.specs.FinSet as set
 use Rattle.pr_attention.specs.Attentions.{code_of}
 use Rattle.pr_unit.specs.Attentions.{Pairs, table_pairs}
-use Rattle.pr_unit.proofs.Attentions.Resets.{told_nobody, told_one}
+use Rattle.pr_unit.proofs.lemmas.Attentions.Resets.{told_nobody, told_one}
 use Rattle.pr_unit.proofs.pending_table.tell_all.Goals as goal
 
 pub loop-host-init : goal.loop-host-init

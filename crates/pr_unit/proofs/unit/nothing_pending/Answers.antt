@@ -3,9 +3,9 @@ use Rattle.std.specs.FinSet as set
 use Rattle.std.specs.List.{All}
 use Rattle.pr_cdb.specs.declared.codes.TheConstants.{MOST_NEXUSES}
 use Rattle.pr_attention.specs.Attentions.{Codes, no_code}
-use Rattle.pr_attention.proofs.Sets.{contains-no_code}
+use Rattle.pr_attention.proofs.lemmas.Sets.{contains-no_code}
 use Rattle.pr_unit.specs.Attentions.{place, table_pairs}
-use Rattle.pr_unit.proofs.Attentions.Pairs.{same_pairs, contains-none, contains-table_pairs}
+use Rattle.pr_unit.proofs.lemmas.Attentions.Pairs.{same_pairs, contains-none, contains-table_pairs}
 use Rattle.pr_unit.proofs.unit.nothing_pending.Goals as goal
 
 -- a table of nothing has nothing at any place, nor past its end

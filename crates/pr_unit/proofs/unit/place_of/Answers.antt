@@ -1,6 +1,6 @@
 use Rattle.std.proofs.Common.{sym, subst}
 use Rattle.pr_attention.specs.Attentions.{AreAttentions}
-use Rattle.pr_attention.proofs.Sets.{AreAttentions-no_code}
+use Rattle.pr_attention.proofs.lemmas.Sets.{AreAttentions-no_code}
 use Rattle.pr_unit.proofs.unit.place_of.Goals as goal
 
 pub returns-in-None-clause-members : goal.returns-in-None-clause-members

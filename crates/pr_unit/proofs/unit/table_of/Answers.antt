@@ -4,9 +4,9 @@ use Rattle.std.proofs.lemmas.Bool.{and_parts, false≢true}
 use Rattle.std.proofs.lemmas.Bool.Decides.{nat_tests}
 use Rattle.pr_cdb.specs.declared.codes.TheConstants.{MOST_NEXUSES}
 use Rattle.pr_attention.specs.Attentions.{Codes, AreAttentions}
-use Rattle.pr_attention.proofs.Sets.{contains-no_code}
+use Rattle.pr_attention.proofs.lemmas.Sets.{contains-no_code}
 use Rattle.pr_unit.specs.Attentions.{place, table_pairs}
-use Rattle.pr_unit.proofs.Attentions.Pairs.{same_pairs, same_number, contains-table_pairs, place-set}
+use Rattle.pr_unit.proofs.lemmas.Attentions.Pairs.{same_pairs, same_number, contains-table_pairs, place-set}
 use Rattle.pr_unit.proofs.unit.table_of.Goals as goal
 
 -- where a table has a code, it has a place

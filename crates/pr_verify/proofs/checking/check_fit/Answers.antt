@@ -7,8 +7,8 @@ use Rattle.pr_verify.specs.declared.places.Spot.{Spot}
 use Rattle.pr_verify.specs.Rooms.{outline_of}
 use Rattle.pr_verify.specs.inside.Listing.{AreWritten}
 use Rattle.pr_verify.specs.inside.Reviewing.{IsFirstMisfit}
-use Rattle.pr_verify.proofs.Reviewing.Findings.{spots_rise, spots_written, is_fitting, is_refusal}
-use Rattle.pr_verify.proofs.Tabling.Rows.{lines_listed}
+use Rattle.pr_verify.proofs.lemmas.Reviewing.Findings.{spots_rise, spots_written, is_fitting, is_refusal}
+use Rattle.pr_verify.proofs.lemmas.Tabling.Rows.{lines_listed}
 use Rattle.pr_verify.proofs.checking.check_fit.Goals as goal
 
 pub invariant_of-questions-clause-written : goal.invariant_of-questions-clause-written

@@ -9,8 +9,8 @@ use Rattle.pr_verify.specs.declared.refusal.Refusal.{Refusal}
 use Rattle.pr_verify.specs.declared.refusal.Refusal.TheVariants.{OverBudget}
 use Rattle.pr_verify.specs.Refusals.{IsRefusal, past_budgets}
 use Rattle.pr_verify.specs.Rooms.{outline_of}
-use Rattle.pr_verify.proofs.Rooms.Nexuses.{scripted_there, scripted_task, scripted_fits, planned_not}
-use Rattle.pr_verify.proofs.Rooms.Scripts.{on_script}
+use Rattle.pr_verify.proofs.lemmas.Rooms.Nexuses.{scripted_there, scripted_task, scripted_fits, planned_not}
+use Rattle.pr_verify.proofs.lemmas.Rooms.Scripts.{on_script}
 use Rattle.pr_verify.proofs.checking.check_outline.Goals as goal
 
 pub nexus_in-requires : goal.nexus_in-requires

@@ -10,8 +10,8 @@ use Rattle.pr_verify.specs.Outlines.{IsAsked}
 use Rattle.pr_verify.specs.Rooms.{outline_of}
 use Rattle.pr_verify.specs.inside.Listing.{place_of, AreWritten}
 use Rattle.pr_verify.specs.inside.Lacking.{IsFirstLacking}
-use Rattle.pr_verify.proofs.Reviewing.Findings.{spots_rise, spots_written, is_listed, differs_at, differing_read, same_lines, is_sound, lacks_first}
-use Rattle.pr_verify.proofs.Reviewing.Starts.{scoped}
+use Rattle.pr_verify.proofs.lemmas.Reviewing.Findings.{spots_rise, spots_written, is_listed, differs_at, differing_read, same_lines, is_sound, lacks_first}
+use Rattle.pr_verify.proofs.lemmas.Reviewing.Starts.{scoped}
 use Rattle.pr_verify.proofs.checking.check_sound.Goals as goal
 
 pub returns-in-Some-clause-refusal : goal.returns-in-Some-clause-refusal

@@ -1,7 +1,7 @@
 use Rattle.pr_views.specs.Rooms.{view_of}
 use Rattle.pr_verify.specs.Rooms.{outline_of}
 use Rattle.pr_verify.specs.inside.Least.{IsLeastAmong}
-use Rattle.pr_verify.proofs.LeastOutlines.MissingViews.{HasAt, LacksAt}
+use Rattle.pr_verify.proofs.lemmas.LeastOutlines.MissingViews.{HasAt, LacksAt}
 use Rattle.pr_verify.proofs.lacking.first_lacking.Given as goal
 
 abbrev pub invariant-loop-line : goal.invariant-loop-line

@@ -1,6 +1,6 @@
 use Rattle.std.proofs.Common.{rules}
 use Rattle.pr_views.specs.Rooms.{IsMade, AreAlike}
-use Rattle.pr_verify.proofs.LeastOutlines.MissingViews.{of_entry}
+use Rattle.pr_verify.proofs.lemmas.LeastOutlines.MissingViews.{of_entry}
 use Rattle.pr_verify.proofs.lacking.has_within.Goals as goal
 
 pub within-requires : goal.within-requires

@@ -1,9 +1,9 @@
 use Rattle.std.proofs.Common.{◌<◌, rules, sym, subst}
 use Rattle.pr_roles.specs.Scenarios.{scenario_of}
 use Rattle.pr_views.specs.Rooms.{view_of}
-use Rattle.pr_views.proofs.Views.Values.{fits}
+use Rattle.pr_views.proofs.lemmas.Views.Values.{fits}
 use Rattle.pr_verify.specs.Rooms.{outline_of}
-use Rattle.pr_verify.proofs.Reviewing.Starts.{AreScoped, scope_same, scoped, alike, lacks_start}
+use Rattle.pr_verify.proofs.lemmas.Reviewing.Starts.{AreScoped, scope_same, scoped, alike, lacks_start}
 use Rattle.pr_verify.proofs.lacking.lacking_at_start.Goals as goal
 
 pub first_lacking-requires : goal.first_lacking-requires

@@ -1,7 +1,7 @@
 use Rattle.std.proofs.Common.{Some, ap, ◌∙◌, sym, arith}
 use Rattle.pr_views.specs.Rooms.{view_of}
 use Rattle.pr_verify.specs.Outlines.{view_at}
-use Rattle.pr_verify.proofs.Outlines.Lookups.{entries, view_at_found, view_at_none, other_more}
+use Rattle.pr_verify.proofs.lemmas.Outlines.Lookups.{entries, view_at_found, view_at_none, other_more}
 use Rattle.pr_verify.proofs.lacking.view_at.Goals as goal
 
 pub loop-at-init : goal.loop-at-init

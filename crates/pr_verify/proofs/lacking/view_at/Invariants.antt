@@ -1,5 +1,5 @@
 use Rattle.pr_views.specs.Rooms.{view_of}
-use Rattle.pr_verify.proofs.Outlines.Lookups.{AreOther}
+use Rattle.pr_verify.proofs.lemmas.Outlines.Lookups.{AreOther}
 use Rattle.pr_verify.proofs.lacking.view_at.Given as goal
 
 abbrev pub invariant-loop-at : goal.invariant-loop-at

@@ -2,8 +2,8 @@ use Rattle.std.proofs.Common.{◌≡◌, ◌<◌, ℕ, length, slice_index_or, S
 use Rattle.pr_roles.specs.declared.parts.Nexus.{Nexus}
 use Rattle.pr_roles.specs.declared.parts.Parts.{Parts}
 use Rattle.pr_roles.specs.Scenarios.{nexus_of}
-use Rattle.pr_interference.proofs.Interference.Nexuses.{nexus_at}
-use Rattle.pr_regions.proofs.Showing.ScenarioParts.{count_of_parts}
+use Rattle.pr_interference.proofs.lemmas.Interference.Nexuses.{nexus_at}
+use Rattle.pr_regions.proofs.lemmas.Showing.ScenarioParts.{count_of_parts}
 use Rattle.pr_verify.proofs.nexus.nexus_in.Goals as goal
 
 pub index-requires : goal.index-requires

@@ -3,11 +3,11 @@ use Rattle.std.proofs.lemmas.Bool.{false≢true}
 use Rattle.pr_roles.specs.Fitting.{is_role}
 use Rattle.pr_roles.specs.Scenarios.{scenario_of}
 use Rattle.pr_views.specs.Rooms.{view_of}
-use Rattle.pr_views.proofs.Views.Values.{fits}
-use Rattle.pr_verify.proofs.Known.Questions.{own_there}
-use Rattle.pr_verify.proofs.Reviewing.Starts.{any_own, scope_alike}
-use Rattle.pr_verify.proofs.Rooms.Nexuses.{role_read, role_fits}
-use Rattle.pr_verify.proofs.Least.Disturbances.{closed_to_none, closed_own, closed_one, open_by}
+use Rattle.pr_views.proofs.lemmas.Views.Values.{fits}
+use Rattle.pr_verify.proofs.lemmas.Known.Questions.{own_there}
+use Rattle.pr_verify.proofs.lemmas.Reviewing.Starts.{any_own, scope_alike}
+use Rattle.pr_verify.proofs.lemmas.Rooms.Nexuses.{role_read, role_fits}
+use Rattle.pr_verify.proofs.lemmas.Least.Disturbances.{closed_to_none, closed_own, closed_one, open_by}
 use Rattle.pr_verify.proofs.others.is_closed_to_others.Goals.{then-other-own+in_ok-left+else-not-within, else-other-own}
 use Rattle.pr_verify.proofs.others.is_closed_to_others.Goals as goal
 

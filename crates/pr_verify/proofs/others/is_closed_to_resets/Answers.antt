@@ -3,10 +3,10 @@ use Rattle.std.proofs.lemmas.Bool.{false≢true}
 use Rattle.pr_roles.specs.declared.parts.Parts.{Parts}
 use Rattle.pr_roles.specs.Scenarios.{scenario_of}
 use Rattle.pr_views.specs.Rooms.{view_of}
-use Rattle.pr_views.proofs.Views.Values.{fits}
-use Rattle.pr_interference.proofs.Interference.Nexuses.{no_resets, resets_declared}
-use Rattle.pr_verify.proofs.Reviewing.Starts.{any_own, scope_alike}
-use Rattle.pr_verify.proofs.Least.Disturbances.{closed_reset, open_by_reset}
+use Rattle.pr_views.proofs.lemmas.Views.Values.{fits}
+use Rattle.pr_interference.proofs.lemmas.Interference.Nexuses.{no_resets, resets_declared}
+use Rattle.pr_verify.proofs.lemmas.Reviewing.Starts.{any_own, scope_alike}
+use Rattle.pr_verify.proofs.lemmas.Least.Disturbances.{closed_reset, open_by_reset}
 use Rattle.pr_verify.proofs.others.is_closed_to_resets.Goals as goal
 
 pub returns-then-parts-eq0-clause-closed : goal.returns-then-parts-eq0-clause-closed

@@ -3,9 +3,9 @@ use Rattle.pr_roles.specs.Scenarios.{scenario_of}
 use Rattle.pr_views.specs.Rooms.{view_of}
 use Rattle.pr_interference.specs.Interference.{IsClosed}
 use Rattle.pr_verify.specs.inside.Lacking.{IsSameAsOne}
-use Rattle.pr_verify.proofs.Reviewing.Starts.{scoped, entry_made, compared_before, scope_same, listed_scope}
-use Rattle.pr_verify.proofs.Least.Disturbances.{all_closed, open_first, closed_as}
-use Rattle.pr_verify.proofs.Least.FirstLines.{each_more}
+use Rattle.pr_verify.proofs.lemmas.Reviewing.Starts.{scoped, entry_made, compared_before, scope_same, listed_scope}
+use Rattle.pr_verify.proofs.lemmas.Least.Disturbances.{all_closed, open_first, closed_as}
+use Rattle.pr_verify.proofs.lemmas.Least.FirstLines.{each_more}
 use Rattle.pr_verify.proofs.others.lacking_by_others.Goals.{else-not-known-via-then-not-known+in_ok-is_closed+else-not-branch, else-not-known-via-else-not-known}
 use Rattle.pr_verify.proofs.others.lacking_by_others.Goals as goal
 

@@ -3,10 +3,10 @@ use Rattle.std.proofs.Common.{◌∙◌, ◌++◌, ap, sym, map}
 use Rattle.std.proofs.lemmas.Result.{on_ok_weaker}
 use Rattle.pr_script.specs.Trees.{statement_of, statements_in, script_of}
 use Rattle.pr_script.specs.inside.ArmLists.{arms_in}
-use Rattle.pr_script.proofs.Trees.Equations.{tree_send, tree_repeat}
+use Rattle.pr_script.proofs.lemmas.Trees.Equations.{tree_send, tree_repeat}
 use Rattle.pr_verify.specs.Places.{places, places_in, places_of_arms, round, tests_of, next_of}
 use Rattle.pr_verify.specs.inside.Listing.{place_of}
-use Rattle.pr_verify.proofs.Listing.Statements.{send_listed, repeat_listed, one_more_in_range}
+use Rattle.pr_verify.proofs.lemmas.Listing.Statements.{send_listed, repeat_listed, one_more_in_range}
 use Rattle.pr_verify.proofs.places.+list.Goals as goal
 
 pub list_at-returns-in_ok-push-in-Send-clause-listed : goal.list_at-returns-in_ok-push-in-Send-clause-listed

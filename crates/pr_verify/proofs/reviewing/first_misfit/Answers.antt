@@ -7,8 +7,8 @@ use Rattle.pr_verify.specs.declared.places.Spot.{Spot}
 use Rattle.pr_verify.specs.inside.Asked.{IsAnswerTo, AreAnswersTo}
 use Rattle.pr_verify.specs.inside.Least.{EachOf}
 use Rattle.pr_verify.specs.inside.Listing.{place_of}
-use Rattle.pr_verify.proofs.Least.FirstLines.{each_none, each_more}
-use Rattle.pr_verify.proofs.Known.Questions.{has_view, answer_within, answered_here}
+use Rattle.pr_verify.proofs.lemmas.Least.FirstLines.{each_none, each_more}
+use Rattle.pr_verify.proofs.lemmas.Known.Questions.{has_view, answer_within, answered_here}
 use Rattle.pr_verify.proofs.reviewing.first_misfit.Goals as goal
 
 pub loop-i-init : goal.loop-i-init

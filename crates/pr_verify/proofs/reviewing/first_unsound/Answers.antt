@@ -10,12 +10,12 @@ use Rattle.pr_verify.specs.inside.Lacking.{HasAll, Lacks, IsFirstLacking, lines_
 use Rattle.pr_verify.specs.inside.Least.{least, IsLeastAmong}
 use Rattle.pr_verify.specs.inside.Asked.{scenario_in, outline_in, view_in, IsAnswerTo, AreAnswersTo}
 use Rattle.pr_verify.specs.inside.Reviewing.{IsLackingOfSends}
-use Rattle.pr_verify.proofs.Least.FirstLines.{least_none, least_more}
-use Rattle.pr_verify.proofs.Reviewing.Starts.{each_compared}
-use Rattle.pr_verify.proofs.Rooms.MappedLists.{element}
-use Rattle.pr_verify.proofs.Known.Questions.{has_view, answer_within, kind_read, answered_here}
-use Rattle.pr_verify.proofs.Reviewing.Findings.{lacking}
-use Rattle.pr_verify.proofs.Reviewing.OwnCommands.{lacks_by_send}
+use Rattle.pr_verify.proofs.lemmas.Least.FirstLines.{least_none, least_more}
+use Rattle.pr_verify.proofs.lemmas.Reviewing.Starts.{each_compared}
+use Rattle.pr_verify.proofs.lemmas.Rooms.MappedLists.{element}
+use Rattle.pr_verify.proofs.lemmas.Known.Questions.{has_view, answer_within, kind_read, answered_here}
+use Rattle.pr_verify.proofs.lemmas.Reviewing.Findings.{lacking}
+use Rattle.pr_verify.proofs.lemmas.Reviewing.OwnCommands.{lacks_by_send}
 use Rattle.pr_verify.proofs.reviewing.first_unsound.Goals as goal
 
 pub loop-i-init : goal.loop-i-init

@@ -5,7 +5,7 @@ use Rattle.pr_domain.specs.declared.landing.Landing.{Landing}
 use Rattle.pr_verify.specs.Rooms.{outline_of}
 use Rattle.pr_verify.specs.inside.Least.{IsLeast, IsLeastAmong}
 use Rattle.pr_verify.specs.inside.Lacking.{CanCompare, lines_after, HasNext, LacksNext}
-use Rattle.pr_verify.proofs.Least.FirstLines.{least_none, least_more, least_same}
+use Rattle.pr_verify.proofs.lemmas.Least.FirstLines.{least_none, least_more, least_same}
 use Rattle.pr_verify.proofs.reviewing.lacking_after.Goals.{in-Some, in_default}
 use Rattle.pr_verify.proofs.reviewing.lacking_after.Goals as goal
 

@@ -5,8 +5,8 @@ use Rattle.pr_domain.specs.Outcomes.{IsPermittedIn, IsRefusedIn}
 use Rattle.pr_verify.specs.Rooms.{outline_of}
 use Rattle.pr_verify.specs.inside.Listing.{place_of}
 use Rattle.pr_verify.specs.inside.Reviewing.{IsMisfit}
-use Rattle.pr_verify.proofs.Rooms.Nexuses.{role_read}
-use Rattle.pr_verify.proofs.Reviewing.FittingPlaces.{IsHere, keeps_role, breaks_role, has_arms, lacks_arm_first}
+use Rattle.pr_verify.proofs.lemmas.Rooms.Nexuses.{role_read}
+use Rattle.pr_verify.proofs.lemmas.Reviewing.FittingPlaces.{IsHere, keeps_role, breaks_role, has_arms, lacks_arm_first}
 use Rattle.pr_verify.proofs.reviewing.misfit.Goals as goal
 
 pub returns-then-not-permitted : goal.returns-then-not-permitted

@@ -2,8 +2,8 @@ use Rattle.std.proofs.Common.{◌≡◌, true, false, length, subst, arith}
 use Rattle.pr_domain.specs.declared.landing.Landing.{Landing}
 use Rattle.pr_views.specs.declared.view.ViewOf.{ViewOf}
 use Rattle.pr_verify.specs.inside.Least.{EachOf}
-use Rattle.pr_verify.proofs.Least.FirstLines.{each_listed}
-use Rattle.pr_verify.proofs.Rooms.MappedLists.{unmapped}
+use Rattle.pr_verify.proofs.lemmas.Least.FirstLines.{each_listed}
+use Rattle.pr_verify.proofs.lemmas.Rooms.MappedLists.{unmapped}
 use Rattle.pr_verify.proofs.table.lands_in.Goals as goal
 
 pub returns : goal.returns

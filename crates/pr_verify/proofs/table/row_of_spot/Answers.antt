@@ -8,9 +8,9 @@ use Rattle.pr_domain.specs.declared.landing.Landing.TheVariants.{Arm}
 use Rattle.pr_domain.specs.Outcomes.{IsPermittedIn, IsRefusedIn}
 use Rattle.pr_verify.specs.Rooms.{outline_of}
 use Rattle.pr_verify.specs.inside.Listing.{place_of}
-use Rattle.pr_verify.proofs.Rooms.Nexuses.{role_read}
-use Rattle.pr_verify.proofs.Reviewing.FittingPlaces.{IsHere}
-use Rattle.pr_verify.proofs.Tabling.Rows.{AreBelow, row_is}
+use Rattle.pr_verify.proofs.lemmas.Rooms.Nexuses.{role_read}
+use Rattle.pr_verify.proofs.lemmas.Reviewing.FittingPlaces.{IsHere}
+use Rattle.pr_verify.proofs.lemmas.Tabling.Rows.{AreBelow, row_is}
 use Rattle.pr_verify.proofs.table.row_of_spot.Goals as goal
 
 pub returns : goal.returns

@@ -7,8 +7,8 @@ use Rattle.pr_verify.specs.Tables.{IsRow}
 use Rattle.pr_verify.specs.declared.places.Spot.{Spot}
 use Rattle.pr_verify.specs.declared.table.Row.{Row}
 use Rattle.pr_verify.specs.inside.Listing.{place_of}
-use Rattle.pr_verify.proofs.Known.Questions.{has_view, answer_within, answered_here}
-use Rattle.pr_verify.proofs.Tabling.Rows.{zip_more}
+use Rattle.pr_verify.proofs.lemmas.Known.Questions.{has_view, answer_within, answered_here}
+use Rattle.pr_verify.proofs.lemmas.Tabling.Rows.{zip_more}
 use Rattle.pr_verify.proofs.table.rows.Goals as goal
 
 pub answer-requires : goal.answer-requires

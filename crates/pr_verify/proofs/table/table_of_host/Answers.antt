@@ -14,10 +14,10 @@ use Rattle.pr_verify.specs.Tables.{IsRow, IsTable}
 use Rattle.pr_verify.specs.declared.places.Spot.{Spot}
 use Rattle.pr_verify.specs.declared.table.Row.{Row}
 use Rattle.pr_verify.specs.inside.Listing.{place_of, AreWritten}
-use Rattle.pr_verify.proofs.Reviewing.Findings.{spots_rise, spots_written}
-use Rattle.pr_verify.proofs.Outlines.LineOrder.{as_many}
-use Rattle.pr_verify.proofs.Rooms.Scripts.{on_scripted}
-use Rattle.pr_verify.proofs.Tabling.Rows.{of_script, lines_listed, zip_map, zip_length}
+use Rattle.pr_verify.proofs.lemmas.Reviewing.Findings.{spots_rise, spots_written}
+use Rattle.pr_verify.proofs.lemmas.Outlines.LineOrder.{as_many}
+use Rattle.pr_verify.proofs.lemmas.Rooms.Scripts.{on_scripted}
+use Rattle.pr_verify.proofs.lemmas.Tabling.Rows.{of_script, lines_listed, zip_map, zip_length}
 use Rattle.pr_verify.proofs.table.table_of_host.Goals as goal
 
 pub invariant_of-questions-clause-declared : goal.invariant_of-questions-clause-declared

@@ -1,9 +1,9 @@
 use Rattle.std.proofs.Common.{◌≡◌, ◌+◌, length, sym, ap, ◌∙◌, subst, arith, Vec, Global}
 use Rattle.pr_roles.specs.Scenarios.{scenario_of}
-use Rattle.pr_domain.proofs.Starting.WrittenNumbers.{are_counted}
+use Rattle.pr_domain.proofs.lemmas.Starting.WrittenNumbers.{are_counted}
 use Rattle.pr_sets.specs.contracts.word_set.WordSetViewSet.TheImpl.{members-value, room-value}
 use Rattle.pr_verify.specs.declared.table.Table.{Table}
-use Rattle.pr_verify.proofs.Tabling.Rows.{AreBeforeHost, one_table, no_table, are_tables}
+use Rattle.pr_verify.proofs.lemmas.Tabling.Rows.{AreBeforeHost, one_table, no_table, are_tables}
 use Rattle.pr_verify.proofs.table.tables.Goals.{then-has_script+in_ok-table_of_host+in_ok-push, else-has_script}
 use Rattle.pr_verify.proofs.table.tables.Goals as goal
 

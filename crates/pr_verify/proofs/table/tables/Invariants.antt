@@ -1,6 +1,6 @@
 use Rattle.pr_roles.specs.Scenarios.{scenario_of}
 use Rattle.pr_sets.specs.contracts.word_set.WordSetViewSet.TheImpl.{members-value, room-value}
-use Rattle.pr_verify.proofs.Tabling.Rows.{AreBeforeHost}
+use Rattle.pr_verify.proofs.lemmas.Tabling.Rows.{AreBeforeHost}
 use Rattle.pr_verify.proofs.table.tables.Given as goal
 
 -- as after the nexuses before this one

@@ -3,7 +3,7 @@ use Rattle.std.specs.List.{AllPairs}
 use Rattle.pr_domain.specs.declared.landing.Class.{Class}
 use Rattle.pr_verify.specs.Refusals.{class_number}
 use Rattle.pr_verify.specs.inside.Reviewing.{IsUnarmed}
-use Rattle.pr_verify.proofs.Tabling.Rows.{AreBefore, before_more, before_rise, all_before, class_alone}
+use Rattle.pr_verify.proofs.lemmas.Tabling.Rows.{AreBefore, before_more, before_rise, all_before, class_alone}
 use Rattle.pr_verify.proofs.table.unarmed.Goals as goal
 
 pub loop-class-preserved : goal.loop-class-preserved

@@ -2,7 +2,7 @@ use Rattle.std.proofs.Common.{◌<◌, ◌-◌, length}
 use Rattle.std.specs.List.{AllPairs}
 use Rattle.pr_verify.specs.Refusals.{class_number}
 use Rattle.pr_verify.specs.inside.Reviewing.{IsUnarmed}
-use Rattle.pr_verify.proofs.Tabling.Rows.{AreBefore}
+use Rattle.pr_verify.proofs.lemmas.Tabling.Rows.{AreBefore}
 use Rattle.pr_verify.proofs.table.unarmed.Given as goal
 
 abbrev pub invariant-loop-class : goal.invariant-loop-class

@@ -8,15 +8,15 @@ use Rattle.pr_verify.specs.LeastOutlines.{IsLeastSound}
 use Rattle.pr_verify.specs.Refusals.{IsRefusal}
 use Rattle.pr_verify.specs.Verdicts.{HasReason}
 use Rattle.pr_verify.specs.Rooms.{outline_of}
-use Rattle.pr_verify.proofs.Verdicts.Reasons.{has_reason}
+use Rattle.pr_verify.proofs.lemmas.Verdicts.Reasons.{has_reason}
 use Rattle.pr_roles.specs.Scenarios.{scenario_of, task, task_of}
 use Rattle.pr_script.specs.Scripts.{Stmts}
 use Rattle.pr_script.specs.Trees.{script_of}
 use Rattle.pr_verify.specs.Outlines.{OnScripted, HasOutline, SendsFit}
 use Rattle.pr_verify.specs.Rooms.{IsScripted}
-use Rattle.pr_verify.proofs.Rooms.Nexuses.{scripted_task, scripted_fits, task_read}
-use Rattle.pr_verify.proofs.Rooms.Scripts.{on_script}
-use Rattle.pr_verify.proofs.Outlines.Checks.{has_outline, one_ok}
+use Rattle.pr_verify.proofs.lemmas.Rooms.Nexuses.{scripted_task, scripted_fits, task_read}
+use Rattle.pr_verify.proofs.lemmas.Rooms.Scripts.{on_script}
+use Rattle.pr_verify.proofs.lemmas.Outlines.Checks.{has_outline, one_ok}
 use Rattle.pr_verify.proofs.verifying.check_host.Goals as goal
 
 pub check_cost-requires : goal.check_cost-requires

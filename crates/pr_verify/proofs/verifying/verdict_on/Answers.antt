@@ -1,7 +1,7 @@
 use Rattle.pr_roles.specs.Scenarios.{scenario_of}
 use Rattle.std.proofs.lemmas.Result.{IfErr-at_err}
 use Rattle.pr_verify.specs.Verdicts.{IsVerdict}
-use Rattle.pr_verify.proofs.Verdicts.Reasons.{none_fit}
+use Rattle.pr_verify.proofs.lemmas.Verdicts.Reasons.{none_fit}
 use Rattle.pr_verify.proofs.verifying.verdict_on.Goals as goal
 
 pub returns-in-Err-clause-none : goal.returns-in-Err-clause-none

@@ -5,7 +5,7 @@ use Rattle.pr_registry.specs.Registrations.{State}
 use Rattle.pr_roles.specs.declared.parts.Nexus.{Nexus}
 use Rattle.pr_roles.specs.declared.parts.Parts.{Parts}
 use Rattle.pr_witness.specs.inside.Starting.{MayStartBelow}
-use Rattle.pr_witness.proofs.AllowedStarts.{allowed}
+use Rattle.pr_witness.proofs.lemmas.AllowedStarts.{allowed}
 use Rattle.pr_witness.proofs.allowed.is_allowed_start.Goals as goal
 
 pub returns-then-may_hold : goal.returns-then-may_hold

@@ -1,4 +1,4 @@
-use Rattle.pr_witness.proofs.FollowedHistories.{followed_more}
+use Rattle.pr_witness.proofs.lemmas.FollowedHistories.{followed_more}
 use Rattle.pr_witness.proofs.certifying.admits_all.Goals as goal
 
 pub loop-index-preserved : goal.loop-index-preserved

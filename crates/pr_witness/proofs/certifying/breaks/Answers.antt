@@ -1,5 +1,5 @@
 use Rattle.std.proofs.Common.{refl}
-use Rattle.pr_witness.proofs.FollowedHistories.{followed_whole, forbidden_whole}
+use Rattle.pr_witness.proofs.lemmas.FollowedHistories.{followed_whole, forbidden_whole}
 use Rattle.pr_witness.proofs.certifying.breaks.Goals as goal
 
 pub returns-then-is_forbidden-clause-broken : goal.returns-then-is_forbidden-clause-broken

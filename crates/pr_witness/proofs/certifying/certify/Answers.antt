@@ -3,7 +3,7 @@ use Rattle.std.specs.Prelude.{map}
 use Rattle.std.specs.List.{range_with_len}
 use Rattle.pr_roles.specs.declared.item.Item.{Item}
 use Rattle.pr_roles.specs.Worlds.{commands_by}
-use Rattle.pr_witness.proofs.FollowedHistories.{breach_from, parts_count}
+use Rattle.pr_witness.proofs.lemmas.FollowedHistories.{breach_from, parts_count}
 use Rattle.pr_witness.proofs.certifying.certify.Goals as goal
 
 pub returns : goal.returns

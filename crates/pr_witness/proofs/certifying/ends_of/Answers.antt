@@ -7,7 +7,7 @@ use Rattle.pr_roles.specs.Scenarios.{scenario_of}
 use Rattle.pr_world.specs.declared.end.End.{End}
 use Rattle.pr_world.specs.Auditors.{world_at}
 use Rattle.pr_world.specs.Ends.{Ending, ending_of}
-use Rattle.pr_witness.proofs.Ends.{all_endings, endings_more, endings_over, plan_short}
+use Rattle.pr_witness.proofs.lemmas.Ends.{all_endings, endings_more, endings_over, plan_short}
 use Rattle.pr_witness.proofs.certifying.ends_of.Goals as goal
 
 pub planned-requires : goal.planned-requires

@@ -1,8 +1,8 @@
 use Rattle.std.proofs.Common.{◌<◌, length, ap, ◌∙◌, arith}
 use Rattle.pr_roles.specs.Scenarios.{scenario_of}
 use Rattle.pr_unit.specs.UnitStates.{UnitState}
-use Rattle.pr_world.proofs.Auditors.Admissions.{within_parts}
-use Rattle.pr_witness.proofs.FollowedHistories.{control_there}
+use Rattle.pr_world.proofs.lemmas.Auditors.Admissions.{within_parts}
+use Rattle.pr_witness.proofs.lemmas.FollowedHistories.{control_there}
 use Rattle.pr_witness.proofs.certifying.is_forbidden.Goals as goal
 
 pub next_command-requires : goal.next_command-requires

@@ -2,9 +2,9 @@ use Rattle.std.proofs.Common.{◌≡◌, ℕ, [], Some, refl, ap, ◌∙◌, ari
 use Rattle.std.proofs.lemmas.Bool.Decides.{nat_tests}
 use Rattle.pr_world.specs.declared.end.End.{End}
 use Rattle.pr_world.specs.Ends.{ending_of, traps}
-use Rattle.pr_world.proofs.Auditors.Admissions.{within_parts}
-use Rattle.pr_witness.proofs.Ends.{trapped_from}
-use Rattle.pr_witness.proofs.FollowedHistories.{control_there}
+use Rattle.pr_world.proofs.lemmas.Auditors.Admissions.{within_parts}
+use Rattle.pr_witness.proofs.lemmas.Ends.{trapped_from}
+use Rattle.pr_witness.proofs.lemmas.FollowedHistories.{control_there}
 use Rattle.pr_witness.proofs.certifying.is_trapped.Goals as goal
 
 pub end-requires : goal.end-requires

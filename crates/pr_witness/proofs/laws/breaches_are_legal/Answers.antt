@@ -1,4 +1,4 @@
-use Rattle.pr_witness.proofs.Refutations.{breaches_are_legal}
+use Rattle.pr_witness.proofs.lemmas.Refutations.{breaches_are_legal}
 use Rattle.pr_witness.proofs.laws.breaches_are_legal.Goals as goal
 
 pub returns : goal.returns

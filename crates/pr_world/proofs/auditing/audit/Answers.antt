@@ -1,4 +1,4 @@
-use Rattle.pr_world.proofs.Audits.KnownWorlds.{known_first, known_more, known_all, first_illegal}
+use Rattle.pr_world.proofs.lemmas.Audits.KnownWorlds.{known_first, known_more, known_all, first_illegal}
 use Rattle.pr_world.proofs.auditing.audit.Goals as goal
 
 pub loop-index-init : goal.loop-index-init

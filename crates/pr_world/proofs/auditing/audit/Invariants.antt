@@ -1,6 +1,6 @@
 use Rattle.std.proofs.Common.{take}
 use Rattle.pr_roles.specs.Scenarios.{scenario_of}
-use Rattle.pr_world.proofs.Audits.KnownWorlds.{IsKnown}
+use Rattle.pr_world.proofs.lemmas.Audits.KnownWorlds.{IsKnown}
 use Rattle.pr_world.proofs.auditing.audit.Given as goal
 
 -- the audit is past the history before this one

@@ -1,4 +1,4 @@
-use Rattle.pr_world.proofs.Courses.Starts.{short_at}
+use Rattle.pr_world.proofs.lemmas.Courses.Starts.{short_at}
 use Rattle.pr_world.proofs.auditor.senders_of.Goals as goal
 
 pub new-requires : goal.new-requires

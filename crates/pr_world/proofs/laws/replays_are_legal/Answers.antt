@@ -1,4 +1,4 @@
-use Rattle.pr_world.proofs.Laws.Replays.{replay_is_legal}
+use Rattle.pr_world.proofs.lemmas.Laws.Replays.{replay_is_legal}
 use Rattle.pr_world.proofs.laws.replays_are_legal.Goals as goal
 
 pub returns : goal.returns

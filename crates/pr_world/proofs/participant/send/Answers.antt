@@ -1,8 +1,8 @@
 use Rattle.std.proofs.Common.{ap, ◌∙◌}
 use Rattle.pr_cdb.specs.declared.wire.Request.TheVariants.{Plain}
 use Rattle.pr_unit.specs.UnitStates.{UnitState}
-use Rattle.pr_unit.proofs.Steps.WellFormedSteps.{hosts-step}
-use Rattle.pr_world.proofs.Courses.SpelledCommands.{executed}
+use Rattle.pr_unit.proofs.lemmas.Steps.WellFormedSteps.{hosts-step}
+use Rattle.pr_world.proofs.lemmas.Courses.SpelledCommands.{executed}
 use Rattle.pr_world.proofs.participant.send.Goals as goal
 use Rattle.pr_world.proofs.participant.send.Goals.{in-Plain+in-Ok, in-Busy, in-Full}
 

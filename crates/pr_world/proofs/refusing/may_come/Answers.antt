@@ -1,8 +1,8 @@
 use Rattle.std.proofs.Common.{◌≡◌, nat_lt, sym, ap, ◌∙◌, subst}
 use Rattle.pr_roles.specs.Answers.{refusals_by, may_come}
 use Rattle.pr_roles.specs.Scenarios.{scenario_of}
-use Rattle.pr_world.proofs.Auditors.RefusalsLeft.{busy_left, full_left}
-use Rattle.pr_world.proofs.Turns.Schedules.{nexus_within}
+use Rattle.pr_world.proofs.lemmas.Auditors.RefusalsLeft.{busy_left, full_left}
+use Rattle.pr_world.proofs.lemmas.Turns.Schedules.{nexus_within}
 use Rattle.pr_world.proofs.refusing.may_come.Goals as goal
 
 pub index-nexus-requires : goal.index-nexus-requires

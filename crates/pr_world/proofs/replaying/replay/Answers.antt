@@ -1,4 +1,4 @@
-use Rattle.pr_world.proofs.Replays.Runs.{plain_more, plain_replayed}
+use Rattle.pr_world.proofs.lemmas.Replays.Runs.{plain_more, plain_replayed}
 use Rattle.pr_world.proofs.replaying.replay.Goals as goal
 
 pub loop-host-preserved : goal.loop-host-preserved

@@ -1,5 +1,5 @@
 use Rattle.pr_roles.specs.Scenarios.{scenario_of}
-use Rattle.pr_world.proofs.Replays.Runs.{IsRunning, plain}
+use Rattle.pr_world.proofs.lemmas.Replays.Runs.{IsRunning, plain}
 use Rattle.pr_world.proofs.replaying.replay.Given as goal
 
 -- the turns so far

@@ -1,5 +1,5 @@
 use Rattle.std.proofs.Common.{refl}
-use Rattle.pr_world.proofs.Replays.Runs.{running_more, replayed}
+use Rattle.pr_world.proofs.lemmas.Replays.Runs.{running_more, replayed}
 use Rattle.pr_world.proofs.replaying.replay_as.Goals as goal
 
 pub loop-step-preserved : goal.loop-step-preserved

@@ -1,5 +1,5 @@
 use Rattle.pr_roles.specs.Scenarios.{scenario_of}
-use Rattle.pr_world.proofs.Replays.Runs.{IsRunning}
+use Rattle.pr_world.proofs.lemmas.Replays.Runs.{IsRunning}
 use Rattle.pr_world.proofs.replaying.replay_as.Given as goal
 
 -- the steps so far

@@ -2,7 +2,7 @@ use Rattle.std.proofs.Common.{◌≡◌, ap, ◌∙◌, bit_or}
 use Rattle.std.specs.FinSet as set
 use Rattle.pr_attention.specs.Attentions.{code_of}
 use Rattle.pr_attention.specs.Flagged.{codes_of}
-use Rattle.pr_attention.proofs.Bits.{flag_of, or_flag-lt, codes_of-or_flag}
+use Rattle.pr_attention.proofs.lemmas.Bits.{flag_of, or_flag-lt, codes_of-or_flag}
 use Rattle.pr_attention.proofs.pending.Pending.add.Goals as goal
 
 bits : (c : goal.After-insert) → c.insert.new.self.0 ≡ bit_or c.self.inside.flags.0 (flag_of c.args.attention)

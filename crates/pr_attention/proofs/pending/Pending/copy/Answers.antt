@@ -1,4 +1,4 @@
-use Rattle.pr_attention.proofs.Bits.{AreAttentions-codes_of}
+use Rattle.pr_attention.proofs.lemmas.Bits.{AreAttentions-codes_of}
 use Rattle.pr_attention.proofs.pending.Pending.copy.Goals as goal
 
 pub returns-clause-members : goal.returns-clause-members

@@ -1,7 +1,7 @@
 use Rattle.std.proofs.Common.{ap, ◌∙◌, ◌==◌, bit_and}
 use Rattle.std.specs.FinSet as set
 use Rattle.pr_attention.specs.Attentions.{code_of}
-use Rattle.pr_attention.proofs.Bits.{has_flag, AreAttentions-codes_of}
+use Rattle.pr_attention.proofs.lemmas.Bits.{has_flag, AreAttentions-codes_of}
 use Rattle.pr_attention.proofs.pending.Pending.has.Goals as goal
 
 pub returns-clause-value : goal.returns-clause-value

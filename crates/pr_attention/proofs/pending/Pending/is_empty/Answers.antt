@@ -1,7 +1,7 @@
 use Rattle.std.proofs.Common.{◌≡◌, sym, ap, ◌∙◌, lit<, arith}
 use Rattle.std.proofs.lemmas.Bool.Decides.{nat_tests}
 use Rattle.pr_attention.specs.Flagged.{codes_of}
-use Rattle.pr_attention.proofs.Bits.{codes_of-zero, same_bits, AreAttentions-codes_of}
+use Rattle.pr_attention.proofs.lemmas.Bits.{codes_of-zero, same_bits, AreAttentions-codes_of}
 use Rattle.pr_attention.proofs.pending.Pending.is_empty.Goals as goal
 
 pub returns-clause-value : goal.returns-clause-value

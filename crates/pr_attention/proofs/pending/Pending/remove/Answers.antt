@@ -3,7 +3,7 @@ use Rattle.std.specs.FinSet as set
 use Rattle.bitflags.specs.Sets.{without}
 use Rattle.pr_attention.specs.Attentions.{code_of}
 use Rattle.pr_attention.specs.Flagged.{codes_of}
-use Rattle.pr_attention.proofs.Bits.{flag_of, without_flag-lt, codes_of-without_flag}
+use Rattle.pr_attention.proofs.lemmas.Bits.{flag_of, without_flag-lt, codes_of-without_flag}
 use Rattle.pr_attention.proofs.pending.Pending.remove.Goals as goal
 
 bits : (c : goal.After-remove) → c.remove.new.self.0 ≡ without 8 c.self.inside.flags.0 (flag_of c.args.attention)

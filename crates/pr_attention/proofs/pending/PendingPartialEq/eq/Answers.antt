@@ -1,6 +1,6 @@
 use Rattle.std.proofs.Common.{◌≡◌, ◌∙◌}
 use Rattle.pr_attention.specs.SameCodes.{is_same, is_same-tells}
-use Rattle.pr_attention.proofs.Bits.{is_same-codes_of}
+use Rattle.pr_attention.proofs.lemmas.Bits.{is_same-codes_of}
 use Rattle.pr_attention.proofs.pending.PendingPartialEq.eq.Goals as goal
 
 value : (c : goal.After-eq) → c.eq.result ≡ is_same c.args.self.now c.args.other.now

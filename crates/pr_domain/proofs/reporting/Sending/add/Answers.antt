@@ -4,7 +4,7 @@ use Rattle.pr_views.specs.Views.{IsPossible}
 use Rattle.pr_views.specs.Rooms.{view_of}
 use Rattle.pr_domain.specs.inside.Reporting.{IsOfWay}
 use Rattle.pr_domain.specs.inside.Sendings.{scope_of_sending}
-use Rattle.pr_domain.proofs.Reporting.OutcomeLists.{more_by, added_way, kept_for}
+use Rattle.pr_domain.proofs.lemmas.Reporting.OutcomeLists.{more_by, added_way, kept_for}
 use Rattle.pr_domain.proofs.reporting.Sending.add.Goals as goal
 
 pub put-requires : goal.put-requires

@@ -1,8 +1,8 @@
 use Rattle.std.proofs.Common.{arith}
 use Rattle.pr_domain.specs.inside.Reporting.{LandsBy, LandsGoodBelow, EndsGood}
 use Rattle.pr_domain.specs.inside.Sendings.{view_of_sending}
-use Rattle.pr_domain.proofs.Reporting.OutcomeLists.{more_by}
-use Rattle.pr_domain.proofs.Tallies.EndingWays.{good_more, good_all}
+use Rattle.pr_domain.proofs.lemmas.Reporting.OutcomeLists.{more_by}
+use Rattle.pr_domain.proofs.lemmas.Tallies.EndingWays.{good_more, good_all}
 use Rattle.pr_domain.proofs.reporting.Sending.add_all_good.Goals as goal
 
 pub loop-arm-preserved : goal.loop-arm-preserved

@@ -2,8 +2,8 @@ use Rattle.std.proofs.Common.{◌≡◌, rules, refl}
 use Rattle.pr_unit.specs.Replies.{conflict}
 use Rattle.pr_domain.specs.inside.Reporting.{IsOfWay, LandsBy, Conflicts}
 use Rattle.pr_domain.specs.inside.Sendings.{scope_of_sending, view_of_sending}
-use Rattle.pr_domain.proofs.Reporting.OutcomeLists.{more_by}
-use Rattle.pr_domain.proofs.Tallies.EndingWays.{adds_conflict}
+use Rattle.pr_domain.proofs.lemmas.Reporting.OutcomeLists.{more_by}
+use Rattle.pr_domain.proofs.lemmas.Tallies.EndingWays.{adds_conflict}
 use Rattle.pr_domain.proofs.reporting.Sending.add_conflict.Goals as goal
 
 pub add-requires : goal.add-requires

@@ -1,6 +1,6 @@
 use Rattle.pr_domain.specs.inside.Reporting.{LandsBy, Refuses}
 use Rattle.pr_domain.specs.inside.Sendings.{view_of_sending}
-use Rattle.pr_domain.proofs.Tallies.EndingWays.{more_declared}
+use Rattle.pr_domain.proofs.lemmas.Tallies.EndingWays.{more_declared}
 use Rattle.pr_domain.proofs.reporting.Sending.add_declared.Goals as goal
 
 pub returns-clause-more : goal.returns-clause-more

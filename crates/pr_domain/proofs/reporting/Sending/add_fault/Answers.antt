@@ -3,8 +3,8 @@ use Rattle.std.proofs.lemmas.Option.{same_Some}
 use Rattle.pr_unit.specs.Replies.{check}
 use Rattle.pr_domain.specs.inside.Reporting.{IsOfWay, LandsBy, Fails}
 use Rattle.pr_domain.specs.inside.Sendings.{scope_of_sending, view_of_sending}
-use Rattle.pr_domain.proofs.Reporting.OutcomeLists.{more_by}
-use Rattle.pr_domain.proofs.Tallies.EndingWays.{adds_fault}
+use Rattle.pr_domain.proofs.lemmas.Reporting.OutcomeLists.{more_by}
+use Rattle.pr_domain.proofs.lemmas.Tallies.EndingWays.{adds_fault}
 use Rattle.pr_domain.proofs.reporting.Sending.add_fault.Goals as goal
 
 pub add-requires : goal.add-requires

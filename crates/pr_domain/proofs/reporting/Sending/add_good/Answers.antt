@@ -2,8 +2,8 @@ use Rattle.std.proofs.Common.{◌≡◌, suc, Some, rules, sym, ap, ◌∙◌}
 use Rattle.std.specs.List.{slice_get}
 use Rattle.pr_domain.specs.inside.Reporting.{IsOfWay, LandsGood, landing_at}
 use Rattle.pr_domain.specs.inside.Sendings.{scope_of_sending, view_of_sending}
-use Rattle.pr_domain.proofs.Reporting.OutcomeLists.{more_by}
-use Rattle.pr_domain.proofs.Tallies.EndingWays.{adds_good, three_more, at_arm}
+use Rattle.pr_domain.proofs.lemmas.Reporting.OutcomeLists.{more_by}
+use Rattle.pr_domain.proofs.lemmas.Tallies.EndingWays.{adds_good, three_more, at_arm}
 use Rattle.pr_domain.proofs.reporting.Sending.add_good.Goals.{then-arm-eq0, else-arm-eq0}
 use Rattle.pr_domain.proofs.reporting.Sending.add_good.Goals as goal
 

@@ -5,8 +5,8 @@ use Rattle.pr_attention.specs.Attentions.{power_on}
 use Rattle.pr_unit.specs.Replies.{report}
 use Rattle.pr_domain.specs.inside.Reporting.{IsOfWay, LandsBy, Reports}
 use Rattle.pr_domain.specs.inside.Sendings.{scope_of_sending, view_of_sending}
-use Rattle.pr_domain.proofs.Reporting.OutcomeLists.{more_by}
-use Rattle.pr_domain.proofs.Tallies.EndingWays.{adds_power_on, part_joined}
+use Rattle.pr_domain.proofs.lemmas.Reporting.OutcomeLists.{more_by}
+use Rattle.pr_domain.proofs.lemmas.Tallies.EndingWays.{adds_power_on, part_joined}
 use Rattle.pr_domain.proofs.reporting.Sending.add_power_on.Goals as goal
 
 pub add-requires : goal.add-requires

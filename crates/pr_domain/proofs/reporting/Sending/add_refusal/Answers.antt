@@ -1,8 +1,8 @@
 use Rattle.std.proofs.Common.{◌≡◌, rules}
 use Rattle.pr_domain.specs.inside.Reporting.{IsOfWay, LandsBy, Refuses, refusal}
 use Rattle.pr_domain.specs.inside.Sendings.{scope_of_sending, view_of_sending}
-use Rattle.pr_domain.proofs.Reporting.OutcomeLists.{more_by}
-use Rattle.pr_domain.proofs.Tallies.EndingWays.{adds_refusal, part_joined}
+use Rattle.pr_domain.proofs.lemmas.Reporting.OutcomeLists.{more_by}
+use Rattle.pr_domain.proofs.lemmas.Tallies.EndingWays.{adds_refusal, part_joined}
 use Rattle.pr_domain.proofs.reporting.Sending.add_refusal.Goals as goal
 
 pub add-requires : goal.add-requires

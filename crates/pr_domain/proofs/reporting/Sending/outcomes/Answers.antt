@@ -1,5 +1,5 @@
 use Rattle.pr_domain.specs.inside.Sendings.{view_of_sending}
-use Rattle.pr_domain.proofs.Outcomes.Coverage.{are_outcomes, all_ways}
+use Rattle.pr_domain.proofs.lemmas.Outcomes.Coverage.{are_outcomes, all_ways}
 use Rattle.pr_domain.proofs.reporting.Sending.outcomes.Goals as goal
 
 pub returns-clause-outcomes : goal.returns-clause-outcomes

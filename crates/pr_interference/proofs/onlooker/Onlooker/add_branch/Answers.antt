@@ -1,4 +1,4 @@
-use Rattle.pr_interference.proofs.Interfering.Additions.{adds_branch}
+use Rattle.pr_interference.proofs.lemmas.Interfering.Additions.{adds_branch}
 use Rattle.pr_interference.proofs.onlooker.Onlooker.add_branch.Goals as goal
 
 pub returns-in-Some : goal.returns-in-Some

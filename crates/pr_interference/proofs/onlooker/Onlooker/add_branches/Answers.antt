@@ -4,7 +4,7 @@ use Rattle.pr_regions.specs.declared.region.Branch.{Branch}
 use Rattle.pr_regions.specs.declared.region.Ending.TheVariants as ending
 use Rattle.pr_regions.specs.inside.Adding.{Adds}
 use Rattle.pr_interference.specs.inside.Interfering.{Among, IsLedBy, IsLeftBy}
-use Rattle.pr_interference.proofs.Interfering.Additions.{adds_element}
+use Rattle.pr_interference.proofs.lemmas.Interfering.Additions.{adds_element}
 use Rattle.pr_interference.proofs.onlooker.Onlooker.add_branches.Goals as goal
 
 pub loop-branch-preserved : goal.loop-branch-preserved

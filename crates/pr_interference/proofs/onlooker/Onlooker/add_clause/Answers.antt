@@ -4,9 +4,9 @@ use Rattle.pr_views.specs.Portions.{view_in}
 use Rattle.pr_interference.specs.inside.Interfering.{IsWatched, ClauseLeaves}
 use Rattle.pr_regions.specs.inside.Adding.{Adds}
 use Rattle.pr_interference.specs.inside.Clauses.{PlaceLeads, FirstLeads}
-use Rattle.pr_interference.proofs.Interfering.RoleEffects.{first_none, first_more, first_skips}
-use Rattle.pr_regions.proofs.Showing.ShownStates.{is_place}
-use Rattle.pr_interference.proofs.Reaching.Bounds.{adds_most}
+use Rattle.pr_interference.proofs.lemmas.Interfering.RoleEffects.{first_none, first_more, first_skips}
+use Rattle.pr_regions.proofs.lemmas.Showing.ShownStates.{is_place}
+use Rattle.pr_interference.proofs.lemmas.Reaching.Bounds.{adds_most}
 use Rattle.pr_interference.proofs.onlooker.Onlooker.add_clause.Goals.{then-has, else-has}
 use Rattle.pr_interference.proofs.onlooker.Onlooker.add_clause.Goals as goal
 

@@ -3,8 +3,8 @@ use Rattle.pr_views.specs.Portions.{view_in}
 use Rattle.pr_roles.specs.Fitting.{is_action}
 use Rattle.pr_interference.specs.inside.Interfering.{ClauseLeaves}
 use Rattle.pr_interference.specs.inside.Clauses.{purpose_for, PlaceLeads}
-use Rattle.pr_regions.proofs.Keeping.Additions.{adds_nothing}
-use Rattle.pr_interference.proofs.Interfering.Placements.{has_number, none_meant, adds_standings}
+use Rattle.pr_regions.proofs.lemmas.Keeping.Additions.{adds_nothing}
+use Rattle.pr_interference.proofs.lemmas.Interfering.Placements.{has_number, none_meant, adds_standings}
 use Rattle.pr_interference.proofs.onlooker.Onlooker.add_place.Goals as goal
 
 pub add_standing-requires : goal.add_standing-requires

@@ -5,7 +5,7 @@ use Rattle.pr_views.specs.Portions.{view_in}
 use Rattle.pr_regions.specs.inside.Adding.{Adds}
 use Rattle.pr_interference.specs.inside.Interfering.{Among, ClauseLeaves}
 use Rattle.pr_interference.specs.inside.Clauses.{FirstLeads}
-use Rattle.pr_interference.proofs.Interfering.Additions.{adds_element}
+use Rattle.pr_interference.proofs.lemmas.Interfering.Additions.{adds_element}
 use Rattle.pr_interference.proofs.onlooker.Onlooker.add_role.Goals as goal
 
 pub loop-clause-preserved : goal.loop-clause-preserved

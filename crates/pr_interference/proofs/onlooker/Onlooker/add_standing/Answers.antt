@@ -4,9 +4,9 @@ use Rattle.pr_views.specs.Portions.{view_in}
 use Rattle.pr_regions.specs.inside.Adding.{Adds}
 use Rattle.pr_interference.specs.inside.Interfering.{Among, IsLedBy, IsLeftBy, IsProperBranch, ClauseLeaves}
 use Rattle.pr_interference.specs.inside.Clauses.{StandingLeads}
-use Rattle.pr_interference.proofs.Interfering.Additions.{adds_so}
-use Rattle.pr_regions.proofs.Keeping.Additions.{adds_nothing}
-use Rattle.pr_interference.proofs.Interfering.Standings.{uniform, none_send, none_among, led_by_branches, left_by_branches}
+use Rattle.pr_interference.proofs.lemmas.Interfering.Additions.{adds_so}
+use Rattle.pr_regions.proofs.lemmas.Keeping.Additions.{adds_nothing}
+use Rattle.pr_interference.proofs.lemmas.Interfering.Standings.{uniform, none_send, none_among, led_by_branches, left_by_branches}
 use Rattle.pr_interference.proofs.onlooker.Onlooker.add_standing.Goals as goal
 
 pub returns-then-may_send : goal.returns-then-may_send

@@ -5,7 +5,7 @@ use Rattle.pr_views.specs.Portions.{view_in}
 use Rattle.pr_regions.specs.inside.Adding.{Adds}
 use Rattle.pr_interference.specs.inside.Interfering.{Among, ClauseLeaves}
 use Rattle.pr_interference.specs.inside.Clauses.{IsClause, FirstLeads}
-use Rattle.pr_interference.proofs.Interfering.RoleEffects.{is_interference}
+use Rattle.pr_interference.proofs.lemmas.Interfering.RoleEffects.{is_interference}
 use Rattle.pr_interference.proofs.onlooker.Onlooker.interfered.Goals as goal
 
 pub returns : goal.returns

@@ -1,6 +1,6 @@
 use Rattle.std.proofs.Common.{◌≡◌, Bool, not, false, true, refl, sym}
 use Rattle.std.proofs.lemmas.Bool.{false≢true}
-use Rattle.pr_interference.proofs.Reaching.WidestBounds.{of_one_type}
+use Rattle.pr_interference.proofs.lemmas.Reaching.WidestBounds.{of_one_type}
 use Rattle.pr_interference.proofs.onlooker.Onlooker.may_be_of_another_type.Goals as goal
 
 emptied : (b : Bool) → not b ≡ false → b ≡ true

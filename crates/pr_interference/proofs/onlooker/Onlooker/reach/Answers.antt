@@ -2,8 +2,8 @@ use Rattle.std.proofs.Common.{◌≡◌, ◌+◌, true, sym, ap, ◌∙◌, subs
 use Rattle.pr_roles.specs.Fitting.{is_action}
 use Rattle.pr_interference.specs.inside.Interfering.{IsWatched}
 use Rattle.pr_interference.specs.inside.Reaching.{number_named}
-use Rattle.pr_regions.proofs.Showing.ShownStates.{is_place}
-use Rattle.pr_interference.proofs.Reaching.Bounds.{IsReachBelow, reach_more, reach_skips, reach_all}
+use Rattle.pr_regions.proofs.lemmas.Showing.ShownStates.{is_place}
+use Rattle.pr_interference.proofs.lemmas.Reaching.Bounds.{IsReachBelow, reach_more, reach_skips, reach_all}
 use Rattle.pr_interference.proofs.onlooker.Onlooker.reach.Goals.{then-has, else-has}
 use Rattle.pr_interference.proofs.onlooker.Onlooker.reach.Goals as goal
 

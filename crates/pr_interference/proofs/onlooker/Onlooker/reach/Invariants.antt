@@ -1,7 +1,7 @@
 use Rattle.std.proofs.Common.{◌≡◌}
 use Rattle.pr_views.specs.Possibilities.{Scope}
 use Rattle.pr_interference.specs.inside.Interfering.{IsOnlooking}
-use Rattle.pr_interference.proofs.Reaching.Bounds.{IsReachBelow}
+use Rattle.pr_interference.proofs.lemmas.Reaching.Bounds.{IsReachBelow}
 use Rattle.pr_interference.proofs.onlooker.Onlooker.reach.Given as goal
 
 abbrev pub invariant-loop-reservation : goal.invariant-loop-reservation

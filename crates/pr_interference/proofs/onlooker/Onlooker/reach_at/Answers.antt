@@ -9,7 +9,7 @@ use Rattle.pr_views.specs.Possibilities.{number_of}
 use Rattle.pr_views.specs.Portions.{has_at}
 use Rattle.pr_regions.specs.Purposes.{number_in}
 use Rattle.pr_interference.specs.inside.Reaching.{MayAllGo, number_named}
-use Rattle.pr_interference.proofs.Reaching.Bounds.{register_reach, unregister_reach, reserve_reach, release_reach, clear_reach, preempt_all_reach, preempt_key_reach, forbidden_reach}
+use Rattle.pr_interference.proofs.lemmas.Reaching.Bounds.{register_reach, unregister_reach, reserve_reach, release_reach, clear_reach, preempt_all_reach, preempt_key_reach, forbidden_reach}
 use Rattle.pr_interference.proofs.onlooker.Onlooker.reach_at.Goals as goal
 
 pub returns-then-not-holds : goal.returns-then-not-holds

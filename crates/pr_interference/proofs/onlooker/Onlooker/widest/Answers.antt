@@ -9,8 +9,8 @@ use Rattle.pr_views.specs.Possibilities.{number_of}
 use Rattle.pr_regions.specs.declared.place.Place.{Place}
 use Rattle.pr_interference.specs.declared.onlooker.Onlooker.{Onlooker}
 use Rattle.pr_regions.specs.Purposes.{number_in}
-use Rattle.pr_interference.proofs.Reaching.Bounds.{register_reach, unregister_reach, reserve_reach, release_reach, clear_reach, preempt_all_reach, preempt_key_reach}
-use Rattle.pr_interference.proofs.Reaching.WidestBounds.{reach_of_places, established_at, shared_possible, single_possible}
+use Rattle.pr_interference.proofs.lemmas.Reaching.Bounds.{register_reach, unregister_reach, reserve_reach, release_reach, clear_reach, preempt_all_reach, preempt_key_reach}
+use Rattle.pr_interference.proofs.lemmas.Reaching.WidestBounds.{reach_of_places, established_at, shared_possible, single_possible}
 use Rattle.pr_interference.proofs.onlooker.Onlooker.widest.Goals as goal
 
 possible_in : (o : Onlooker) (place : Place) → place.hosts ≡ o.hosts → (held : Option Held) → has_wide o.view.reservations (number_of place.hosts held) ≡ true → has_wide o.view.reservations (number_of o.hosts held) ≡ true

@@ -1,4 +1,4 @@
-use Rattle.pr_regions.proofs.Showing.ShownStates.{adds_shown}
+use Rattle.pr_regions.proofs.lemmas.Showing.ShownStates.{adds_shown}
 use Rattle.pr_regions.proofs.place.Place.add_kept.Goals as goal
 
 pub returns-in-Some : goal.returns-in-Some

@@ -1,6 +1,6 @@
 use Rattle.std.proofs.lemmas.Option.{IfSome_then}
 use Rattle.pr_views.specs.Portions.{view_in}
-use Rattle.pr_regions.proofs.Portions.GatheredStates.{IsPortionOf, is_portion, at_from_in, in_from_at, if_none}
+use Rattle.pr_regions.proofs.lemmas.Portions.GatheredStates.{IsPortionOf, is_portion, at_from_in, in_from_at, if_none}
 use Rattle.pr_regions.proofs.place.Place.gather.Goals as goal
 
 is_of : (c : goal.After-projected) → IsPortionOf c.args.view.now c.args.self.now c.args.senders c.args.region.now c.portion.result

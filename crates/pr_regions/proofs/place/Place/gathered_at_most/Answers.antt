@@ -1,4 +1,4 @@
-use Rattle.pr_regions.proofs.Portions.GatheredStates.{IsPortionOf, in_from_at}
+use Rattle.pr_regions.proofs.lemmas.Portions.GatheredStates.{IsPortionOf, in_from_at}
 use Rattle.pr_regions.proofs.place.Place.gathered_at_most.Goals as goal
 
 pub returns : goal.returns

@@ -1,5 +1,5 @@
 use Rattle.pr_regions.proofs.Common.{refl}
-use Rattle.pr_regions.proofs.Showing.ShownStates.{IsEverything, everything_proper, at_everything, is_shown}
+use Rattle.pr_regions.proofs.lemmas.Showing.ShownStates.{IsEverything, everything_proper, at_everything, is_shown}
 use Rattle.pr_regions.proofs.place.Place.shown.Goals as goal
 
 pub returns-in_default-clause-none : goal.returns-in_default-clause-none

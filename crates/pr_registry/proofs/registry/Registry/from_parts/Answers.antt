@@ -2,7 +2,7 @@ use Rattle.std.proofs.Common.{◌≤◌, length, sym, subst, ◌∙◌, refl, ar
 use Rattle.std.proofs.lemmas.Bool.{false≢true}
 use Rattle.std.proofs.lemmas.Bool.Decides.{nat_tests}
 use Rattle.pr_registry.specs.Registrations.{HasHolder, IsWellFormed, state_from}
-use Rattle.pr_registry.proofs.States.{are_keys-from, well_formed-from}
+use Rattle.pr_registry.proofs.lemmas.States.{are_keys-from, well_formed-from}
 use Rattle.pr_registry.proofs.registry.Registry.from_parts.Goals as goal
 
 pub returns-then-not-are_keys-clause-exactly : goal.returns-then-not-are_keys-clause-exactly

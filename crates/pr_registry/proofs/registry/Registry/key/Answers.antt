@@ -1,7 +1,7 @@
 use Rattle.std.proofs.Common.{◌<◌, ap, sym, ◌∙◌, arith}
 use Rattle.pr_cdb.specs.declared.codes.TheConstants.{MOST_NEXUSES}
 use Rattle.pr_registry.specs.Registrations.{State, key_of}
-use Rattle.pr_registry.proofs.Tables.{slot, get-table_keys_in}
+use Rattle.pr_registry.proofs.lemmas.Tables.{slot, get-table_keys_in}
 use Rattle.pr_registry.proofs.registry.Registry.key.Goals as goal
 
 pub returns : goal.returns

@@ -4,7 +4,7 @@ use Rattle.pr_registry.specs.Registrations.{IsWellFormed, is_registered}
 use Rattle.pr_registry.specs.inside.TableStates.{state_of}
 use Rattle.pr_registry.specs.Changes.{preempt_case, removed_by_preempt, HasKindIfReplacing}
 use Rattle.pr_registry.specs.inside.Cases.{case_of}
-use Rattle.pr_registry.proofs.States.{state_of-preempted, well_formed-preempted}
+use Rattle.pr_registry.proofs.lemmas.States.{state_of-preempted, well_formed-preempted}
 use Rattle.pr_registry.proofs.registry.Registry.preempt.Goals as goal
 
 pub invariant_of-self : goal.invariant_of-self

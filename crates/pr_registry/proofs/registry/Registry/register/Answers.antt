@@ -2,7 +2,7 @@ use Rattle.std.proofs.Common.{◌<◌, sym, ap, subst, ◌∙◌, arith}
 use Rattle.pr_registry.specs.Registrations.{State, IsKey, IsWellFormed}
 use Rattle.pr_registry.specs.inside.TableStates.{state_of}
 use Rattle.pr_registry.specs.Effects.{with_registration}
-use Rattle.pr_registry.proofs.States.{state_of-registered, well_formed-registered}
+use Rattle.pr_registry.proofs.lemmas.States.{state_of-registered, well_formed-registered}
 use Rattle.pr_registry.proofs.registry.Registry.register.Goals as goal
 
 pub invariant_of-self : goal.invariant_of-self

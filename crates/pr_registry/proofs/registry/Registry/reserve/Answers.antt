@@ -1,7 +1,7 @@
 use Rattle.std.proofs.Common.{IsTrue, sym, subst, ◌∙◌, ap, not}
 use Rattle.pr_registry.specs.Registrations.{IsWellFormed, is_registered}
 use Rattle.pr_registry.specs.inside.TableStates.{state_of}
-use Rattle.pr_registry.proofs.States.{state_of-reserved, well_formed-reserved}
+use Rattle.pr_registry.proofs.lemmas.States.{state_of-reserved, well_formed-reserved}
 use Rattle.pr_registry.proofs.registry.Registry.reserve.Goals as goal
 
 pub invariant_of-self : goal.invariant_of-self

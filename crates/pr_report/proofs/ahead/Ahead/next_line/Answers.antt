@@ -1,8 +1,8 @@
 use Rattle.std.proofs.Common.{◌<◌, length, sym, ◌∙◌, arith}
 use Rattle.std.proofs.KnownBytes.{Keeps-trans}
 use Rattle.pr_report.specs.inside.LinesAhead.{bytes_held, bytes_left}
-use Rattle.pr_report.proofs.LinesAhead.LinesInFront.{finds_at_end, finds_at_hand}
-use Rattle.pr_report.proofs.BytesTaken.Sums.{takes_both}
+use Rattle.pr_report.proofs.lemmas.LinesAhead.LinesInFront.{finds_at_end, finds_at_hand}
+use Rattle.pr_report.proofs.lemmas.BytesTaken.Sums.{takes_both}
 use Rattle.pr_report.proofs.ahead.Ahead.next_line.Goals as goal
 
 pub returns-in-Some-clause-found : goal.returns-in-Some-clause-found

@@ -1,5 +1,5 @@
 use Rattle.std.proofs.Common.{◌∙◌}
-use Rattle.pr_sets.proofs.Lists.{has_by_search}
+use Rattle.pr_sets.proofs.lemmas.Lists.{has_by_search}
 use Rattle.pr_sets.proofs.list_set.ListSetViewSet.has.Goals as goal
 
 pub returns : goal.returns

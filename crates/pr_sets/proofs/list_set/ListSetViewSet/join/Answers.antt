@@ -1,7 +1,7 @@
 use Rattle.std.proofs.Common.{◌≡◌, ◌<◌, ℕ, List, length, get_or, refl, sym, ap, subst, ◌∙◌, arith}
 use Rattle.std.specs.FinSet as set
 use Rattle.pr_sets.specs.Kept.{numbers_in}
-use Rattle.pr_sets.proofs.Lists.{has_at, union_none, union_more}
+use Rattle.pr_sets.proofs.lemmas.Lists.{has_at, union_none, union_more}
 use Rattle.pr_sets.proofs.list_set.ListSetViewSet.join.Goals as goal
 
 pub loop-n-init : goal.loop-n-init

@@ -1,7 +1,7 @@
 use Rattle.std.proofs.Common.{◌≡◌, ◌∙◌, ℕ, List, nat_lt, slice_get, subst, sym, rules, of_calls}
 use Rattle.std.specs.List.Sorted.{IsStrictlyIncreasing}
 use Rattle.std.proofs.lemmas.List.Sorted.{IsPartitionPoint-from_clause}
-use Rattle.pr_sets.proofs.Lists.{IsStart, tests_fall, got, answers_some, answers_none}
+use Rattle.pr_sets.proofs.lemmas.Lists.{IsStart, tests_fall, got, answers_some, answers_none}
 use Rattle.pr_sets.proofs.list_set.ListSetViewSet.next.Goals as goal
 
 found : (c : goal.After-copied) → c.copied.result ≡ slice_get c.args.self.now.numbers.items c.partition_point-at.result

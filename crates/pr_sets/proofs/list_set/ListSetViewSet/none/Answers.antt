@@ -1,5 +1,5 @@
 use Rattle.std.proofs.Common.{ap, length, arith}
-use Rattle.pr_sets.proofs.Members.{AllBelow-empty}
+use Rattle.pr_sets.proofs.lemmas.Members.{AllBelow-empty}
 use Rattle.pr_sets.proofs.list_set.ListSetViewSet.none.Goals as goal
 
 pub invariant_of-result-clause-sorted : goal.invariant_of-result-clause-sorted

@@ -4,7 +4,7 @@ use Rattle.std.specs.List.{list_all}
 use Rattle.std.proofs.lemmas.Iterator.{YieldsList-from_slice}
 use Rattle.std.proofs.lemmas.Iterator.Search.{all_from_yields_List}
 use Rattle.pr_sets.specs.Kept.{numbers_in}
-use Rattle.pr_sets.proofs.Lists.{Within-from_all, all_from_Within}
+use Rattle.pr_sets.proofs.lemmas.Lists.{Within-from_all, all_from_Within}
 use Rattle.pr_sets.proofs.list_set.ListSetViewSet.within.Goals as goal
 
 answer : (c : goal.After-all) → c.all.result ≡ list_all (set.contains (numbers_in c.args.other.now.numbers.items)) c.args.self.now.numbers.items

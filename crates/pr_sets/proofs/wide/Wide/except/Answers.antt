@@ -1,5 +1,5 @@
 use Rattle.std.proofs.Common.{◌^◌, ◌<◌, arith}
-use Rattle.pr_sets.proofs.Wides.{has-except}
+use Rattle.pr_sets.proofs.lemmas.Wides.{has-except}
 use Rattle.pr_sets.proofs.wide.Wide.except.Goals as goal
 
 pub returns : goal.returns

@@ -1,4 +1,4 @@
-use Rattle.pr_sets.proofs.Wides.{has-only}
+use Rattle.pr_sets.proofs.lemmas.Wides.{has-only}
 use Rattle.pr_sets.proofs.wide.Wide.only.Goals as goal
 
 pub returns : goal.returns

@@ -1,4 +1,4 @@
-use Rattle.pr_sets.proofs.Wides.{has-with}
+use Rattle.pr_sets.proofs.lemmas.Wides.{has-with}
 use Rattle.pr_sets.proofs.wide.Wide.with.Goals as goal
 
 pub returns : goal.returns

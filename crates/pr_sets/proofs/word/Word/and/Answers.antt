@@ -1,4 +1,4 @@
-use Rattle.pr_sets.proofs.Words.{has-and}
+use Rattle.pr_sets.proofs.lemmas.Words.{has-and}
 use Rattle.pr_sets.proofs.word.Word.and.Goals as goal
 
 pub returns : goal.returns

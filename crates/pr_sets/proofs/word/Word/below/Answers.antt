@@ -1,4 +1,4 @@
-use Rattle.pr_sets.proofs.Words.{has-below}
+use Rattle.pr_sets.proofs.lemmas.Words.{has-below}
 use Rattle.pr_sets.proofs.word.Word.below.Goals as goal
 
 pub returns : goal.returns

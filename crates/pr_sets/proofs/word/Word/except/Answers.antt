@@ -1,5 +1,5 @@
 use Rattle.std.proofs.Common.{◌^◌, ◌<◌, arith}
-use Rattle.pr_sets.proofs.Words.{has-except}
+use Rattle.pr_sets.proofs.lemmas.Words.{has-except}
 use Rattle.pr_sets.proofs.word.Word.except.Goals as goal
 
 pub returns : goal.returns

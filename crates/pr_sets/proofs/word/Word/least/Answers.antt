@@ -1,5 +1,5 @@
 use Rattle.std.proofs.Common.{◌^◌, ◌<◌, arith}
-use Rattle.pr_sets.proofs.Words.{least_there}
+use Rattle.pr_sets.proofs.lemmas.Words.{least_there}
 use Rattle.pr_sets.proofs.word.Word.least.Goals as goal
 
 pub returns-clause-some : goal.returns-clause-some

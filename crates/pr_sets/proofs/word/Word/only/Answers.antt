@@ -1,4 +1,4 @@
-use Rattle.pr_sets.proofs.Words.{has-only}
+use Rattle.pr_sets.proofs.lemmas.Words.{has-only}
 use Rattle.pr_sets.proofs.word.Word.only.Goals as goal
 
 pub returns : goal.returns

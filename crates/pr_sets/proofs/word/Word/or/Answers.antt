@@ -1,4 +1,4 @@
-use Rattle.pr_sets.proofs.Words.{has-or}
+use Rattle.pr_sets.proofs.lemmas.Words.{has-or}
 use Rattle.pr_sets.proofs.word.Word.or.Goals as goal
 
 pub returns : goal.returns

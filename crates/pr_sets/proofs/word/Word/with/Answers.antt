@@ -1,4 +1,4 @@
-use Rattle.pr_sets.proofs.Words.{has-with}
+use Rattle.pr_sets.proofs.lemmas.Words.{has-with}
 use Rattle.pr_sets.proofs.word.Word.with.Goals as goal
 
 pub returns : goal.returns

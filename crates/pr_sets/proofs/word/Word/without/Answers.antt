@@ -1,5 +1,5 @@
 use Rattle.std.proofs.Common.{◌^◌, ◌<◌, arith}
-use Rattle.pr_sets.proofs.Words.{has-without}
+use Rattle.pr_sets.proofs.lemmas.Words.{has-without}
 use Rattle.pr_sets.proofs.word.Word.without.Goals as goal
 
 pub returns : goal.returns

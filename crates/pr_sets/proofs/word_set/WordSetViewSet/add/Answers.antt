@@ -1,7 +1,7 @@
 use Rattle.std.proofs.Common.{arith}
 use Rattle.std.specs.Int.{w128}
-use Rattle.pr_sets.proofs.Members.{AllBelow-insert}
-use Rattle.pr_sets.proofs.BitPlaces.{placed-insert}
+use Rattle.pr_sets.proofs.lemmas.Members.{AllBelow-insert}
+use Rattle.pr_sets.proofs.lemmas.BitPlaces.{placed-insert}
 use Rattle.pr_sets.proofs.word_set.WordSetViewSet.add.Goals as goal
 
 pub invariant_of-self-clause-below : goal.invariant_of-self-clause-below

@@ -1,5 +1,5 @@
 use Rattle.std.specs.Int.{w128}
-use Rattle.pr_sets.proofs.BitPlaces.{placed-tested}
+use Rattle.pr_sets.proofs.lemmas.BitPlaces.{placed-tested}
 use Rattle.pr_sets.proofs.word_set.WordSetViewSet.has.Goals as goal
 
 pub returns-then-n-lt-MOST : goal.returns-then-n-lt-MOST

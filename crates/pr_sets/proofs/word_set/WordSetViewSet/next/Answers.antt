@@ -1,6 +1,6 @@
 use Rattle.std.proofs.Common.{◌<◌, ◌/◌, ◌^◌, refl, arith}
 use Rattle.std.proofs.Math.Nat.{div-le_self}
-use Rattle.pr_sets.proofs.Bits.{none_from_zero, next_by_zeros}
+use Rattle.pr_sets.proofs.lemmas.Bits.{none_from_zero, next_by_zeros}
 use Rattle.pr_sets.proofs.word_set.WordSetViewSet.next.Goals as goal
 
 pub returns-then-rest-eq0-clause-none : goal.returns-then-rest-eq0-clause-none

@@ -1,6 +1,6 @@
 use Rattle.std.specs.Int.{w128}
-use Rattle.pr_sets.proofs.Members.{AllBelow-empty}
-use Rattle.pr_sets.proofs.BitPlaces.{placed-zero}
+use Rattle.pr_sets.proofs.lemmas.Members.{AllBelow-empty}
+use Rattle.pr_sets.proofs.lemmas.BitPlaces.{placed-zero}
 use Rattle.pr_sets.proofs.word_set.WordSetViewSet.none.Goals as goal
 
 pub invariant_of-result-clause-below : goal.invariant_of-result-clause-below

@@ -2,7 +2,7 @@ use Rattle.std.proofs.Common.{◌≡◌, ◌<◌, ◌^◌, arith, bit_and}
 use Rattle.std.specs.Int.{w128, bit_not}
 use Rattle.std.proofs.lemmas.Bool.Decides.{nat_tests}
 use Rattle.std.proofs.lemmas.Nat.{and_le_l}
-use Rattle.pr_sets.proofs.Bits.{within_from_none_left, none_left_from_within}
+use Rattle.pr_sets.proofs.lemmas.Bits.{within_from_none_left, none_left_from_within}
 use Rattle.pr_sets.proofs.word_set.WordSetViewSet.within.Goals as goal
 
 pub returns : goal.returns

@@ -1,5 +1,5 @@
 use Rattle.std.proofs.Common.{◌∙◌}
-use Rattle.pr_shared.proofs.Guests.Nexuses.{number_of_nexuses}
+use Rattle.pr_shared.proofs.lemmas.Guests.Nexuses.{number_of_nexuses}
 use Rattle.pr_shared.proofs.kept.Kept.of.Goals as goal
 
 pub invariant_of-result : goal.invariant_of-result

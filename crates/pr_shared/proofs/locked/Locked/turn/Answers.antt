@@ -1,6 +1,6 @@
 use Rattle.std.proofs.Common.{ap}
 use Rattle.pr_roles.specs.Scenarios.{scenario_of}
-use Rattle.pr_shared.proofs.Histories.Turns.{sent_legally, held_guest}
+use Rattle.pr_shared.proofs.lemmas.Histories.Turns.{sent_legally, held_guest}
 use Rattle.pr_shared.proofs.locked.Locked.turn.Goals as goal
 
 pub returns-in-Sent-clause-legal : goal.returns-in-Sent-clause-legal

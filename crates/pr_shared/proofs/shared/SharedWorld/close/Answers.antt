@@ -1,6 +1,6 @@
 use Rattle.std.proofs.Common.{◌∙◌, arith}
 use Rattle.pr_roles.specs.Scenarios.{scenario_of}
-use Rattle.pr_shared.proofs.Outcomes.Comparisons.{closed_own, guests_length, ordered_length}
+use Rattle.pr_shared.proofs.lemmas.Outcomes.Comparisons.{closed_own, guests_length, ordered_length}
 use Rattle.pr_shared.proofs.shared.SharedWorld.close.Goals as goal
 
 pub finish-world-requires-clause-one_each : goal.finish-world-requires-clause-one_each

@@ -1,7 +1,7 @@
 use Rattle.std.proofs.Common.{◌≡◌, length, ap, sym, ◌∙◌}
 use Rattle.std.proofs.lemmas.List.{length-map}
 use Rattle.pr_roles.specs.Scenarios.{scenario_of}
-use Rattle.pr_shared.proofs.Outcomes.Comparisons.{halted, halted_own}
+use Rattle.pr_shared.proofs.lemmas.Outcomes.Comparisons.{halted, halted_own}
 use Rattle.pr_shared.proofs.shared.SharedWorld.halt.Goals as goal
 
 pub returns-clause-halted : goal.returns-clause-halted

@@ -1,6 +1,6 @@
 use Rattle.pr_text.proofs.Common.{◌≡◌, None, sym, refl, ◌∙◌, false≢true, Fits, scenario_of, declared_by, missing_fault}
-use Rattle.pr_text.proofs.Texts.Readings.{whole, empty, fails_end}
-use Rattle.pr_text.proofs.Sound.FittingParts.{declared_fits}
+use Rattle.pr_text.proofs.lemmas.Texts.Readings.{whole, empty, fails_end}
+use Rattle.pr_text.proofs.lemmas.Sound.FittingParts.{declared_fits}
 use Rattle.pr_text.proofs.builder.Builder.finished.Goals as goal
 
 pub returns-in-Some-clause-fault : goal.returns-in-Some-clause-fault

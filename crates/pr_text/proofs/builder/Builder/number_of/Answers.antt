@@ -1,5 +1,5 @@
 use Rattle.pr_text.proofs.Common.{number_of}
-use Rattle.pr_text.proofs.Drafts.Numbers.{position_of}
+use Rattle.pr_text.proofs.lemmas.Drafts.Numbers.{position_of}
 use Rattle.pr_text.proofs.builder.Builder.number_of.Goals as goal
 
 pub returns-clause-value : goal.returns-clause-value

@@ -1,6 +1,6 @@
 use Rattle.pr_text.proofs.Common.{◌≡◌, true, length, ◌==◌, Ok, sym, ap, ◌∙◌}
 use Rattle.pr_text.specs.inside.OpenScripts.{open_seen}
-use Rattle.pr_text.proofs.OpenScripts.Lines.{closed_lines}
+use Rattle.pr_text.proofs.lemmas.OpenScripts.Lines.{closed_lines}
 use Rattle.pr_text.proofs.builder.Builder.script_end.Goals as goal
 
 pub returns : goal.returns

@@ -1,5 +1,5 @@
 use Rattle.pr_text.proofs.Common.{◌≡◌, map, Some, sym, ap, ◌∙◌, arith, slice_get, declared_keys, number_of, start_fault, draft_seen, declared_by}
-use Rattle.pr_text.proofs.Drafts.Numbers.{found, start_fails}
+use Rattle.pr_text.proofs.lemmas.Drafts.Numbers.{found, start_fails}
 use Rattle.pr_text.proofs.builder.Builder.start_line.Goals as goal
 
 pub returns-in-Some-start_fault : goal.returns-in-Some-start_fault

@@ -1,6 +1,6 @@
 use Rattle.pr_text.proofs.Common.{sym, ◌∙◌, declared_by}
 use Rattle.pr_lines.specs.LineValues.{line_of_value}
-use Rattle.pr_text.proofs.LineFaults.Order.{in_version}
+use Rattle.pr_text.proofs.lemmas.LineFaults.Order.{in_version}
 use Rattle.pr_text.proofs.builder.Builder.with_item.Goals as goal
 
 pub returns : goal.returns

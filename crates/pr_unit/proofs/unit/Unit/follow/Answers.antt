@@ -1,6 +1,6 @@
 use Rattle.std.proofs.Common.{◌<◌, sym, subst}
 use Rattle.pr_unit.specs.UnitStates.{UnitState, unit_of}
-use Rattle.pr_unit.proofs.Steps.WellFormedSteps.{well_formed-followed}
+use Rattle.pr_unit.proofs.lemmas.Steps.WellFormedSteps.{well_formed-followed}
 use Rattle.pr_unit.proofs.unit.Unit.follow.Goals as goal
 
 pub invariant_of-self : goal.invariant_of-self

@@ -1,7 +1,7 @@
 use Rattle.std.proofs.Common.{sym, ap, ◌∙◌}
 use Rattle.std.specs.FinSet as set
 use Rattle.std.proofs.lemmas.Bool.{false≢true}
-use Rattle.pr_unit.proofs.Attentions.Pairs.{contains-none}
+use Rattle.pr_unit.proofs.lemmas.Attentions.Pairs.{contains-none}
 use Rattle.pr_unit.proofs.unit.Unit.of.Goals as goal
 
 pub invariant_of-result : goal.invariant_of-result

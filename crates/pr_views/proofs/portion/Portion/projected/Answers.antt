@@ -1,5 +1,5 @@
 use Rattle.pr_views.proofs.Common.{sym, ◌∙◌}
-use Rattle.pr_views.proofs.Portions.Projections.{untested_of, several_of, one_of, filled_by_one, none_of_lacking, none_of_failing}
+use Rattle.pr_views.proofs.lemmas.Portions.Projections.{untested_of, several_of, one_of, filled_by_one, none_of_lacking, none_of_failing}
 use Rattle.pr_views.proofs.portion.Portion.projected.Goals as goal
 
 pub returns-then-not-is_filled-clause-none : goal.returns-then-not-is_filled-clause-none

@@ -1,5 +1,5 @@
 use Rattle.pr_views.proofs.Common.{sym, ◌∙◌, false≢true}
-use Rattle.pr_views.proofs.Views.Values.{nothing_possible, no_registrations, no_reservations, no_attentions}
+use Rattle.pr_views.proofs.lemmas.Views.Values.{nothing_possible, no_registrations, no_reservations, no_attentions}
 use Rattle.pr_views.proofs.view.ViewOf.is_empty.Goals.{then-are_empty, else-are_empty}
 use Rattle.pr_views.proofs.view.ViewOf.is_empty.Goals as goal
 

@@ -1,4 +1,4 @@
-use Rattle.pr_views.proofs.Views.Values.{contains_none, nothing_possible}
+use Rattle.pr_views.proofs.lemmas.Views.Values.{contains_none, nothing_possible}
 use Rattle.pr_views.proofs.view.ViewOf.nothing.Goals as goal
 
 pub returns-clause-none : goal.returns-clause-none

@@ -1,5 +1,5 @@
 use Rattle.pr_views.proofs.Common.{◌+◌, length, sym, ap, ◌∙◌, arith, rules, false≢true}
-use Rattle.pr_views.proofs.Views.Values.{view_within, registrations_within, reservations_within, attentions_within}
+use Rattle.pr_views.proofs.lemmas.Views.Values.{view_within, registrations_within, reservations_within, attentions_within}
 use Rattle.pr_views.proofs.view.ViewOf.within.Goals.{then-are_within, else-are_within}
 use Rattle.pr_views.proofs.view.ViewOf.within.Goals as goal
 

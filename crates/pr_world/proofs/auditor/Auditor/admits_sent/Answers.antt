@@ -1,5 +1,5 @@
 use Rattle.std.proofs.Common.{sym, ◌∙◌}
-use Rattle.pr_world.proofs.Auditors.Admissions.{nobody_tried, none_tried, within_parts, sender_within, sender_tried, sender_acts}
+use Rattle.pr_world.proofs.lemmas.Auditors.Admissions.{nobody_tried, none_tried, within_parts, sender_within, sender_tried, sender_acts}
 use Rattle.pr_world.proofs.auditor.Auditor.admits_sent.Goals as goal
 
 pub returns-then-index-len-clause-tried : goal.returns-then-index-len-clause-tried

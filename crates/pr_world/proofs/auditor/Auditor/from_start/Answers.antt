@@ -1,4 +1,4 @@
-use Rattle.pr_world.proofs.Auditors.Admissions.{begun_acts}
+use Rattle.pr_world.proofs.lemmas.Auditors.Admissions.{begun_acts}
 use Rattle.pr_world.proofs.auditor.Auditor.from_start.Goals as goal
 
 pub returns-clause-acts : goal.returns-clause-acts

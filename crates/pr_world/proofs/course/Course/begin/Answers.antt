@@ -1,4 +1,4 @@
-use Rattle.pr_world.proofs.Courses.Starts.{begun, stands_at_first}
+use Rattle.pr_world.proofs.lemmas.Courses.Starts.{begun, stands_at_first}
 use Rattle.pr_world.proofs.course.Course.begin.Goals as goal
 
 pub returns-clause-reached : goal.returns-clause-reached

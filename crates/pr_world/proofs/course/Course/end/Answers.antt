@@ -1,5 +1,5 @@
 use Rattle.std.proofs.Common.{arith}
-use Rattle.pr_world.proofs.Turns.Schedules.{end_here}
+use Rattle.pr_world.proofs.lemmas.Turns.Schedules.{end_here}
 use Rattle.pr_world.proofs.course.Course.end.Goals as goal
 
 pub returns : goal.returns

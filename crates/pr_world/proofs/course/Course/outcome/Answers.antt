@@ -1,5 +1,5 @@
 use Rattle.std.proofs.Common.{refl}
-use Rattle.pr_world.proofs.Replays.Runs.{outcome_of}
+use Rattle.pr_world.proofs.lemmas.Replays.Runs.{outcome_of}
 use Rattle.pr_world.proofs.course.Course.outcome.Goals as goal
 
 pub returns : goal.returns

@@ -1,4 +1,4 @@
-use Rattle.pr_world.proofs.Auditing.Judgements.{guest_judged}
+use Rattle.pr_world.proofs.lemmas.Auditing.Judgements.{guest_judged}
 use Rattle.pr_world.proofs.sender.Sender.sends.Goals as goal
 
 pub returns-in-Guest : goal.returns-in-Guest

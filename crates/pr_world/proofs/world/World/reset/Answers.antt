@@ -4,7 +4,7 @@ use Rattle.pr_roles.specs.declared.step.Step.TheVariants as step
 use Rattle.pr_roles.specs.Scenarios.{scenario_of}
 use Rattle.pr_world.specs.Courses.{IsReached}
 use Rattle.pr_world.specs.inside.Participations.{schedule_of}
-use Rattle.pr_world.proofs.StepAnswers.Turns.{reset_finds_room, still_at_work}
+use Rattle.pr_world.proofs.lemmas.StepAnswers.Turns.{reset_finds_room, still_at_work}
 use Rattle.pr_world.proofs.world.World.reset.Goals as goal
 
 pub reset-requires-clause-room : goal.reset-requires-clause-room

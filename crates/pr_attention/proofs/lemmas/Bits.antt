@@ -1,0 +1,166 @@
+-- A set of codes as the bits of a number.
+use Rattle.std.proofs.Common.{◌≡◌, ◌≢◌, ℕ, zero, suc, ◌-◌, ◌*◌, ◌%◌, ◌^◌, ◌<◌, Bool, true, false, ◌==◌, ◌&&◌, ◌||◌, not, w8, refl, sym, ap, ◌∙◌, inl, inr, ◌⊎◌, get_or, lit<, arith, bit_or, bit_and}
+use Rattle.std.specs.Int.{bit_at, bit_not}
+use Rattle.std.specs.Ordering.{nat_cmp, eq_by_cmp}
+use Rattle.std.specs.Cmp.{nat_cmp_total, unsigned_tied, both_ways}
+use Rattle.std.specs.FinSet as set
+use Rattle.std.specs.FinSet.{nat_cmp-IsAntisymmetric}
+use Rattle.std.specs.List.{list_any}
+use Rattle.std.proofs.lemmas.Bool.{and_parts}
+use Rattle.std.proofs.lemmas.Bool.Decides.{nat_tests, eqb_tells}
+use Rattle.std.proofs.lemmas.Nat.{or_lt, and_le_l}
+use Rattle.std.proofs.lemmas.Nat.Bits.{bit_at_or, bit_at-pow_same, bit_at-pow_other, bit_at_clear_same, bit_at_clear_other, bit_at-zero, bit_at-lt, and_pow, same_from_bits_below}
+use Rattle.bitflags.specs.Sets.{without}
+use Rattle.pr_attention.specs.declared.attention.Attention.{Attention}
+use Rattle.pr_attention.specs.declared.attention.Attention.TheVariants.{PowerOn, ReservationsPreempted, ReservationsReleased, RegistrationsPreempted}
+use Rattle.pr_attention.specs.Attentions.{attentions, is_attention, code_of, no_code, AreAttentions}
+use Rattle.pr_attention.specs.SameCodes.{is_same, is_same-tells}
+use Rattle.pr_attention.specs.Flagged.{place_of, codes_of}
+use Rattle.pr_attention.proofs.lemmas.Sets.{same_codes, contains-no_code, contains-insert_code, contains-remove_code, is_attention-code_of}
+
+-- the bit of an attention, as a number
+abbrev pub flag_of : Attention → ℕ
+flag_of a = 2 ^ place_of (code_of a)
+
+pub contains-codes_of : (bits q : ℕ) → set.contains (codes_of bits) q ≡ (is_attention q && (bit_at bits (place_of q) == 1))
+unfolding codes_of
+contains-codes_of bits q =
+    set.contains-retain (set.from_list attentions) (λ code. bit_at bits (place_of code) == 1) q (λ x tie. ap (λ code. bit_at bits (place_of code) == 1) (sym (nat_cmp-IsAntisymmetric q x tie)))
+    ∙ ap (λ b. b && (bit_at bits (place_of q) == 1)) (set.contains-from_list nat_cmp_total attentions q ∙ alike)
+  where
+    alike : list_any (eq_by_cmp nat_cmp q) attentions ≡ is_attention q
+    alike = λ i. unsigned_tied q 0x2900 i || (unsigned_tied q 0x2a03 i || (unsigned_tied q 0x2a04 i || (unsigned_tied q 0x2a05 i || false)))
+
+-- ---- places
+
+-- each code is at its place
+at_place : (q : ℕ) → is_attention q ≡ true → get_or attentions (place_of q) 0 ≡ q
+at_place q is = grind (arith, nat_tests)
+
+few_places : (q : ℕ) → place_of q < 4
+few_places q = grind (arith, nat_tests)
+
+other_place : (q code : ℕ) → is_attention q ≡ true → is_attention code ≡ true → q ≢ code → place_of q ≢ place_of code
+other_place q code is also other same = other (sym (at_place q is) ∙ ap (λ k. get_or attentions k 0) same ∙ at_place code also)
+
+-- ---- one flag
+
+pub flag_of-lt : (a : Attention) → flag_of a < 16
+flag_of-lt PowerOn = lit< tt
+flag_of-lt ReservationsPreempted = lit< tt
+flag_of-lt ReservationsReleased = lit< tt
+flag_of-lt RegistrationsPreempted = lit< tt
+
+pub or_flag-lt : (bits : ℕ) (a : Attention) → bits < 16 → bit_or bits (flag_of a) < 16
+or_flag-lt bits a few = or_lt 4 bits (flag_of a) few (flag_of-lt a)
+
+pub without_flag-lt : (bits : ℕ) (a : Attention) → bits < 16 → without 8 bits (flag_of a) < 16
+without_flag-lt bits a few = omega (arith, and_le_l bits (2 ^ 8 - 1 - flag_of a))
+
+-- the bits of all but this flag
+mask : (a : Attention) → 2 ^ 8 - 1 - flag_of a ≡ bit_not w8 (1 * 2 ^ place_of (code_of a) % 2 ^ 8)
+mask PowerOn = refl
+mask ReservationsPreempted = refl
+mask ReservationsReleased = refl
+mask RegistrationsPreempted = refl
+
+pub has_flag : (bits : ℕ) (a : Attention) → (bit_and bits (flag_of a) == flag_of a) ≡ set.contains (codes_of bits) (code_of a)
+has_flag bits a =
+    ap (λ n. n == flag_of a) (and_pow bits (place_of (code_of a))) ∙ at a (bit_at bits (place_of (code_of a)))
+    ∙ sym (contains-codes_of bits (code_of a) ∙ ap (λ b. b && (bit_at bits (place_of (code_of a)) == 1)) (is_attention-code_of a))
+  where
+    at : (a : Attention) (bit : ℕ) → (bit * flag_of a == flag_of a) ≡ (bit == 1)
+    at PowerOn bit = grind (arith, nat_tests)
+    at ReservationsPreempted bit = grind (arith, nat_tests)
+    at ReservationsReleased bit = grind (arith, nat_tests)
+    at RegistrationsPreempted bit = grind (arith, nat_tests)
+
+-- ---- the sets after a change
+
+pub codes_of-or_flag : (bits : ℕ) (a : Attention) → codes_of (bit_or bits (flag_of a)) ≡ set.insert (codes_of bits) (code_of a)
+codes_of-or_flag bits a =
+    same_codes _ _ (λ q. contains-codes_of (bit_or bits (flag_of a)) q ∙ at q (is_attention q) refl (eqb_tells q (code_of a))
+    ∙ ap (λ b. q == code_of a || b) (sym (contains-codes_of bits q)) ∙ sym (contains-insert_code (codes_of bits) (code_of a) q))
+  where
+    bit : (q : ℕ) → ℕ
+    bit q = bit_at (bit_or bits (flag_of a)) (place_of q)
+
+    at : (q : ℕ) (known : Bool) → is_attention q ≡ known → (((q == code_of a) ≡ true) × (q ≡ code_of a)) ⊎ (((q == code_of a) ≡ false) × (q ≢ code_of a))
+        → (is_attention q && (bit_at (bit_or bits (flag_of a)) (place_of q) == 1)) ≡ (q == code_of a || (is_attention q && (bit_at bits (place_of q) == 1)))
+    at q known is (inl same) =
+        let here : place_of q ≡ place_of (code_of a) = ap place_of same.1 in
+        let set_bit = bit_at-pow_same (place_of (code_of a)) in
+        let few = bit_at-lt bits (place_of (code_of a)) in
+        let there : bit_at (bit_or bits (flag_of a)) (place_of (code_of a)) ≡ 1 = bit_at_or bits (flag_of a) (place_of (code_of a)) ∙ omega arith in
+        let attention : is_attention q ≡ true = ap is_attention same.1 ∙ is_attention-code_of a in
+        rw same.0 (rw attention (rw here (ap (λ n. n == 1) there)))
+    at q false is (inr other) = rw other.0 (rw is refl)
+    at q true is (inr other) =
+        let clear = bit_at-pow_other (place_of (code_of a)) (place_of q) (other_place q (code_of a) is (is_attention-code_of a) other.1) in
+        let kept : bit_at (bit_or bits (flag_of a)) (place_of q) ≡ bit_at bits (place_of q) = bit_at_or bits (flag_of a) (place_of q) ∙ omega arith in
+        rw other.0 (rw kept refl)
+
+pub codes_of-without_flag : (bits : ℕ) (a : Attention) → codes_of (without 8 bits (flag_of a)) ≡ set.remove (codes_of bits) (code_of a)
+codes_of-without_flag bits a =
+    ap (λ m. codes_of (bit_and bits m)) (mask a)
+    ∙ same_codes _ _ (λ q. contains-codes_of left q ∙ at q (is_attention q) refl (eqb_tells q (code_of a))
+    ∙ ap (λ b. not (q == code_of a) && b) (sym (contains-codes_of bits q)) ∙ sym (contains-remove_code (codes_of bits) (code_of a) q))
+  where
+    left : ℕ
+    left = bit_and bits (bit_not w8 (1 * 2 ^ place_of (code_of a) % 2 ^ 8))
+
+    few : place_of (code_of a) < 8
+    few = omega (arith, few_places (code_of a))
+
+    at : (q : ℕ) (known : Bool) → is_attention q ≡ known → (((q == code_of a) ≡ true) × (q ≡ code_of a)) ⊎ (((q == code_of a) ≡ false) × (q ≢ code_of a))
+        → (is_attention q && (bit_at left (place_of q) == 1)) ≡ (not (q == code_of a) && (is_attention q && (bit_at bits (place_of q) == 1)))
+    at q known is (inl same) =
+        let here : place_of q ≡ place_of (code_of a) = ap place_of same.1 in
+        let attention : is_attention q ≡ true = ap is_attention same.1 ∙ is_attention-code_of a in
+        rw same.0 (rw attention (rw here (ap (λ n. n == 1) (bit_at_clear_same w8 bits (place_of (code_of a)) few))))
+    at q false is (inr other) = rw other.0 (rw is refl)
+    at q true is (inr other) =
+        let kept : bit_at left (place_of q) ≡ bit_at bits (place_of q) =
+        bit_at_clear_other w8 bits (place_of (code_of a)) few (place_of q) (omega (arith, few_places q)) (other_place q (code_of a) is (is_attention-code_of a) other.1) in
+        rw other.0 (rw kept refl)
+
+pub codes_of-zero : codes_of 0 ≡ no_code
+codes_of-zero =
+    same_codes _ _ (λ q. contains-codes_of 0 q ∙ ap (λ n. is_attention q && (n == 1)) (bit_at-zero (place_of q)) ∙ none (is_attention q) ∙ sym (contains-no_code q))
+  where
+    none : (b : Bool) → (b && false) ≡ false
+    none true = refl
+    none false = refl
+
+-- ---- what a set says of its bits
+
+pub AreAttentions-codes_of : (bits : ℕ) → AreAttentions (codes_of bits)
+AreAttentions-codes_of bits q there =
+    (and_parts (is_attention q) (bit_at bits (place_of q) == 1) (sym (contains-codes_of bits q) ∙ there)).0
+
+pub same_bits : (m n : ℕ) → m < 16 → n < 16 → codes_of m ≡ codes_of n → m ≡ n
+same_bits m n few_m few_n same =
+    same_from_bits_below 4 m n few_m few_n at
+  where
+    bit : (a : Attention) → (bit_at m (place_of (code_of a)) == 1) ≡ (bit_at n (place_of (code_of a)) == 1)
+    bit a =
+        let attention = is_attention-code_of a in
+        ap (λ b. b && (bit_at m (place_of (code_of a)) == 1)) (sym attention) ∙ sym (contains-codes_of m (code_of a))
+        ∙ ap (λ s. set.contains s (code_of a)) same
+        ∙ contains-codes_of n (code_of a) ∙ ap (λ b. b && (bit_at n (place_of (code_of a)) == 1)) attention
+
+    from : (i : ℕ) → (bit_at m i == 1) ≡ (bit_at n i == 1) → bit_at m i ≡ bit_at n i
+    from i tests = let few = bit_at-lt m i in let also = bit_at-lt n i in grind (arith, nat_tests)
+
+    at : (i : ℕ) → i < 4 → bit_at m i ≡ bit_at n i
+    at zero small = from 0 (bit PowerOn)
+    at (suc zero) small = from 1 (bit ReservationsPreempted)
+    at (suc (suc zero)) small = from 2 (bit ReservationsReleased)
+    at (suc (suc (suc zero))) small = from 3 (bit RegistrationsPreempted)
+    at (suc (suc (suc (suc i)))) small = absurd (omega arith)
+
+pub is_same-codes_of : (m n : ℕ) → m < 16 → n < 16 → (m == n) ≡ is_same (codes_of m) (codes_of n)
+is_same-codes_of m n few_m few_n =
+    both_ways (m == n) (is_same (codes_of m) (codes_of n))
+    (λ same. let equal : m ≡ n = grind (arith, nat_tests) in (is_same-tells (codes_of m) (codes_of n)).1 (ap codes_of equal))
+    (λ same. let equal : m ≡ n = same_bits m n few_m few_n ((is_same-tells (codes_of m) (codes_of n)).0 same) in grind (arith, nat_tests))

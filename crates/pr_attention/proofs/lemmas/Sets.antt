@@ -1,0 +1,52 @@
+-- What sets of codes contain, and that they are equal where they contain the same.
+use Rattle.std.proofs.Common.{◌≡◌, ℕ, Bool, true, false, ◌==◌, ◌&&◌, ◌||◌, not, IsTrue, refl, sym, ap, ◌∙◌, arith}
+use Rattle.std.specs.FinSet as set
+use Rattle.std.specs.List.{list_any}
+use Rattle.std.proofs.lemmas.Bool.Decides.{nat_tests}
+pub use Rattle.pr_sets.proofs.lemmas.Members.{same_numbers as same_codes, contains-empty as contains-no_code, contains-insert as contains-insert_code, contains-remove as contains-remove_code}
+use Rattle.pr_attention.specs.declared.attention.Attention.{Attention}
+use Rattle.pr_attention.specs.declared.attention.Attention.TheVariants.{PowerOn, ReservationsPreempted, ReservationsReleased, RegistrationsPreempted}
+use Rattle.pr_attention.specs.Attentions.{power_on, reservations_preempted, reservations_released, registrations_preempted, attentions, is_attention, code_of, Codes, no_code, AreAttentions}
+
+-- what a set of codes contains after a change
+pub ruleset code_reads = (contains-no_code, contains-insert_code, contains-remove_code)
+
+-- ---- whether any of the four codes is there
+
+pub any-no_code : list_any (set.contains no_code) attentions ≡ false
+any-no_code =
+    rw (contains-no_code power_on, contains-no_code reservations_preempted, contains-no_code reservations_released, contains-no_code registrations_preempted) refl
+
+pub any-from_member : (s : Codes) (code : ℕ) → AreAttentions s → set.contains s code ≡ true → list_any (set.contains s) attentions ≡ true
+any-from_member s code are there = let known = are code there in grind (arith, nat_tests)
+
+-- ---- the members stay among the four codes
+
+pub is_attention-code_of : (a : Attention) → IsTrue (is_attention (code_of a))
+is_attention-code_of PowerOn = refl
+is_attention-code_of ReservationsPreempted = refl
+is_attention-code_of ReservationsReleased = refl
+is_attention-code_of RegistrationsPreempted = refl
+
+pub AreAttentions-no_code : AreAttentions no_code
+AreAttentions-no_code q there = let none = contains-no_code q in cc
+
+pub AreAttentions-insert : (s : Codes) (a : Attention) → AreAttentions s → AreAttentions (set.insert s (code_of a))
+AreAttentions-insert s a are q there =
+    at (q == code_of a) refl
+  where
+    known : (q == code_of a || set.contains s q) ≡ true
+    known = sym (contains-insert_code s (code_of a) q) ∙ there
+
+    at : (b : Bool) → (q == code_of a) ≡ b → IsTrue (is_attention q)
+    at true is = let same : q ≡ code_of a = grind (arith, nat_tests) in rw same (is_attention-code_of a)
+    at false is = are q (sym (ap (λ b. b || set.contains s q) is) ∙ known)
+
+pub AreAttentions-remove : (s : Codes) (code : ℕ) → AreAttentions s → AreAttentions (set.remove s code)
+AreAttentions-remove s code are q there =
+    at (not (q == code)) (set.contains s q) refl (sym (contains-remove_code s code q) ∙ there)
+  where
+    at : (b c : Bool) → set.contains s q ≡ c → (b && c) ≡ true → IsTrue (is_attention q)
+    at true true is _ = are q is
+    at true false is both = cc
+    at false c is both = cc

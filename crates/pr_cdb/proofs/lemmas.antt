@@ -1,0 +1,3 @@
+pub mod CommandRoundTrip
+pub mod FieldRanges
+pub mod ReplyRoundTrip

@@ -1,0 +1,6 @@
+pub mod Audits
+pub mod Checks
+pub mod Replays
+pub mod Runs
+pub mod Steps
+pub mod Witnesses

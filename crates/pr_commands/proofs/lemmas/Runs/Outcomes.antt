@@ -1,0 +1,141 @@
+-- A scenario that was run or refused, and what is written of it.
+use Rattle.std.proofs.Common.{◌≡◌, ℕ, ◌^◌, ◌<◌, ◌≤◌, Bool, true, List, [], ◌∷◌, zero, suc, Option, Some, None, Result, Ok, Err, refl, sym, ap, ◌∙◌, subst, arith}
+use Rattle.std.specs.Prelude.{IfSome, IsErrAnd, is_err, length, map, slice_index_or}
+use Rattle.std.specs.List.{list_all, range_with_len, slice_get}
+use Rattle.std.specs.Option.{option_map_or}
+use Rattle.std.specs.Io.KnownBytes.{Appends}
+use Rattle.std.proofs.lemmas.Bool.{and_parts}
+use Rattle.pr_roles.specs.declared.parts.Nexus.{Nexus as NexusPart}
+use Rattle.pr_roles.specs.declared.parts.Parts.{Parts}
+use Rattle.pr_verify.specs.declared.verifying.Refused.{Refused}
+use Rattle.pr_roles.specs.Scenarios.{Nexus, Scenario, scenario_of, task}
+use Rattle.pr_roles.specs.Safety.{IsSafe}
+use Rattle.pr_roles.specs.Fitting.{Fits, is_nexus}
+use Rattle.pr_roles.specs.Worlds.{commands_by}
+use Rattle.pr_text.specs.Reading.{IsWrittenAs}
+use Rattle.pr_roles.specs.declared.item.Item.{Item}
+use Rattle.pr_world.specs.declared.end.End.{End}
+use Rattle.pr_world.specs.Ends.{ending_of}
+use Rattle.pr_world.specs.Rooms.{room_by}
+use Rattle.pr_roles.proofs.lemmas.Starts.AllowedStarts.{each_nexus}
+use Rattle.pr_world.proofs.lemmas.Workings.Room.{sent_within}
+use Rattle.pr_world.proofs.lemmas.Workings.Reserves.{room_of_nexus}
+use Rattle.pr_shared.specs.declared.outcome.Outcome.{Outcome}
+use Rattle.pr_shared.specs.Outcomes.{IsOutcome}
+use Rattle.pr_report.specs.TraceText.{name_of, names_in, names_of, trace_text}
+use Rattle.pr_report.specs.Written.{FallsShort}
+use Rattle.pr_commands.specs.declared.fault.Fault.{Fault}
+use Rattle.pr_commands.specs.declared.fault.Fault.TheVariants as fault
+use Rattle.pr_commands.specs.Runs.{EndsRun, IsRunOf, counts_in, outcome_text}
+use Rattle.pr_commands.specs.inside.Performances.{Performed, IsPerformed, IsRunFault, Stands, performed_text, scenario_in}
+use Rattle.pr_commands.specs.inside.Judgements.{Judgement, Stands as Judged, scenario_in as judged_in}
+use Rattle.pr_commands.specs.declared.runs.Ran.{Ran}
+
+-- ---- what is written
+
+run_of : (text : List ℕ) (p : Performed) → IsWrittenAs text (scenario_of (scenario_in p)) → Stands p → IsRunOf text (performed_text p) (is_err p)
+run_of text (Ok ran) written stands = record {
+  scenario = scenario_of ran.scenario;
+  read = written;
+  safe = stands.0;
+  outcome = ran.outcome;
+  comes = stands.1;
+  trace_is = refl;
+}
+run_of text (Err back) written stands = record {
+  scenario = scenario_of back.scenario;
+  read = written;
+  reason = back.refusal;
+  first = stands;
+  line_is = refl;
+}
+
+pub whole_run : (known old new : Option (List ℕ)) (p : Performed) (refused : Bool) → IfSome known (λ text. IsWrittenAs text (scenario_of (scenario_in p))) → Stands p
+    → refused ≡ is_err p → Appends old new (performed_text p) → EndsRun known old new (Ok refused)
+whole_run None old new p refused read stands is wrote = tt
+whole_run (Some text) old new p refused read stands is wrote =
+    (performed_text p, subst (IsRunOf text (performed_text p)) (sym is) (run_of text p read stands), wrote)
+
+front_of_run : (known old new : Option (List ℕ)) (p : Performed) → IfSome known (λ text. IsWrittenAs text (scenario_of (scenario_in p))) → Stands p
+    → FallsShort old new (performed_text p) → EndsRun known old new (Err fault.Output)
+front_of_run None old new p read stands short = tt
+front_of_run (Some text) old new p read stands short = (performed_text p, is_err p, run_of text p read stands, short)
+
+-- the writer failed
+pub cut_run : (known old new : Option (List ℕ)) (p : Performed) (r : Result Bool Fault) → IfSome known (λ text. IsWrittenAs text (scenario_of (scenario_in p))) → Stands p
+    → FallsShort old new (performed_text p) → IsErrAnd r (λ f. f ≡ fault.Output) → EndsRun known old new r
+cut_run known old new p (Ok refused) read stands short failed = absurd failed
+cut_run known old new p (Err f) read stands short failed =
+    subst (λ f. EndsRun known old new (Err f)) (sym failed) (front_of_run known old new p read stands short)
+
+-- ---- counts
+
+room_in : (keys : List ℕ) (ns : List Nexus) (h : ℕ) → list_all (is_nexus keys) ns ≡ true
+    → room_by (option_map_or (λ n. Some n.task) (slice_get ns h) None) ≤ 4096
+room_in keys [] h fit = omega arith
+room_in keys (n ∷ ns) zero fit = room_of_nexus keys n (and_parts (is_nexus keys n) (list_all (is_nexus keys) ns) fit).0
+room_in keys (n ∷ ns) (suc h) fit = room_in keys ns h (and_parts (is_nexus keys n) (list_all (is_nexus keys) ns) fit).1
+
+pub short_rooms : (s : Scenario) (h : ℕ) → Fits s → room_by (task s h) ≤ 4096
+short_rooms s h fits = room_in s.keys s.nexuses h (each_nexus s fits)
+
+-- no nexus sends so many that there is no number for them
+pub few_sent : (s : Scenario) (o : Outcome) (h : ℕ) → Fits s → IsSafe s → IsOutcome s o → commands_by o.history.items h < 2 ^ 32
+few_sent s o h fits safe comes =
+    let kept : commands_by comes.last.world.history h ≤ room_by (task s h) = sent_within s comes.steps comes.last safe comes.reached h in
+    let here : commands_by o.history.items h ≤ room_by (task s h) = subst (λ es. commands_by es h ≤ room_by (task s h)) (sym comes.history) kept in
+    omega (arith, here, short_rooms s h fits)
+
+pub counts_at : (s : Scenario) (o : Outcome) (history : List Item) (n : ℕ) (counts : List ℕ) → counts ≡ map (λ h. commands_by history h) (range_with_len 0 n)
+    → history ≡ o.history.items → n ≡ length s.nexuses → counts ≡ counts_in s o.history.items
+counts_at s o history n counts is same all =
+    is ∙ (ap (λ es. map (λ h. commands_by es h) (range_with_len 0 n)) same ∙ ap (λ n. map (λ h. commands_by o.history.items h) (range_with_len 0 n)) all)
+
+pub text_of_outcome : (s : Scenario) (o : Outcome) (history : List Item) (ends : List End) (counts : List ℕ) → history ≡ o.history.items → ends ≡ o.ends.items
+    → counts ≡ counts_in s o.history.items → trace_text s.version (names_in s) history o.unit.registry (map ending_of ends) counts ≡ outcome_text s o
+text_of_outcome s o history ends counts same ended counted =
+    λ i. trace_text s.version (names_in s) (same i) o.unit.registry (map ending_of (ended i)) (counted i)
+
+-- ---- names
+
+pub named_there : (ns : List NexusPart) (h : ℕ) (d : NexusPart) → h < length ns → name_of (names_of ns) h ≡ (slice_index_or ns h d).name.bytes
+named_there [] h d there = absurd (omega (arith, there))
+named_there (n ∷ ns) zero d there = refl
+named_there (n ∷ ns) (suc h) d there = named_there ns h d (omega (arith, there))
+
+-- ---- what was judged is performed
+
+pub refusal_performed : (known : Option (List ℕ)) (j : Judgement) (back : Refused) → j ≡ Err back
+    → IfSome known (λ text. IsWrittenAs text (scenario_of (judged_in j))) × Judged j → IsPerformed known (Ok (Err back))
+refusal_performed known j back same judged =
+    subst (λ j. IfSome known (λ text. IsWrittenAs text (scenario_of (judged_in j))) × Judged j) same judged
+
+pub run_performed : (known : Option (List ℕ)) (j : Judgement) (v : Parts) (ran : Ran) → j ≡ Ok v
+    → IfSome known (λ text. IsWrittenAs text (scenario_of (judged_in j))) × Judged j → scenario_of ran.scenario ≡ scenario_of v
+    → IsOutcome (scenario_of v) ran.outcome → IsPerformed known (Ok (Ok ran))
+run_performed known j v ran same judged copied comes =
+    let here = subst (λ j. IfSome known (λ text. IsWrittenAs text (scenario_of (judged_in j))) × Judged j) same judged in (
+      subst (λ s. IfSome known (λ text. IsWrittenAs text s)) (sym copied) here.0,
+      (subst IsSafe (sym copied) here.1.0, subst (λ s. IsOutcome s ran.outcome) (sym copied) comes),
+    )
+
+-- ---- faults
+
+fault_in : (known : Option (List ℕ)) (s : Scenario) (f : Fault) → IfSome known (λ text. IsWrittenAs text s) → IsSafe s → IsRunFault s f
+    → IsPerformed known (Err f)
+fault_in known s fault.Usage read safe is = absurd is
+fault_in known s fault.File read safe is = absurd is
+fault_in known s (fault.Input e) read safe is = absurd is
+fault_in known s (fault.Trace e) read safe is = absurd is
+fault_in None s (fault.Thread name) read safe is = tt
+fault_in (Some text) s (fault.Thread name) read safe is =
+    record { scenario = s; read = read; safe = safe; host = is.0; there = is.1; name_is = is.2 }
+fault_in known s fault.History read safe is = tt
+fault_in known s fault.Memory read safe is = tt
+fault_in known s fault.Output read safe is = absurd is
+
+pub fault_performed : (known : Option (List ℕ)) (j : Judgement) (v : Parts) (f : Fault) → j ≡ Ok v
+    → IfSome known (λ text. IsWrittenAs text (scenario_of (judged_in j))) × Judged j → IsRunFault (scenario_of v) f → IsPerformed known (Err f)
+fault_performed known j v f same judged is =
+    let here = subst (λ j. IfSome known (λ text. IsWrittenAs text (scenario_of (judged_in j))) × Judged j) same judged in
+    fault_in known (scenario_of v) f here.0 here.1.0 is

@@ -1,0 +1,59 @@
+-- Words, and the steps that they are.
+use Rattle.std.specs.Prelude.{◌≡◌, ℕ, ◌≤◌, List, [], ◌∷◌, ◌++◌, length, Option, Some, None, option_map, option_and_then}
+use Rattle.std.proofs.Common.{refl, sym, ap, ◌∙◌, zero, suc, arith}
+use Rattle.std.proofs.lemmas.List.Elements.{All-append}
+use Rattle.std.specs.List.{All}
+use Rattle.pr_cdb.specs.declared.codes.TheConstants.{MOST_NEXUSES}
+use Rattle.pr_roles.specs.declared.step.Step.{Step}
+use Rattle.pr_world.specs.Replays.{IsThere}
+use Rattle.pr_roles.specs.declared.parts.Parts.{Parts}
+use Rattle.pr_roles.specs.Scenarios.{scenario_of}
+use Rattle.pr_roles.specs.Fitting.{Fits}
+use Rattle.pr_roles.proofs.lemmas.Starts.AllowedStarts.{few_parts}
+use Rattle.pr_commands.specs.Steps.{step_in, steps_of}
+
+-- what the first words are stands in front of what the others are
+abbrev pub onto : List Step → Option (List Step) → Option (List Step)
+onto steps rest = option_map (λ more. steps ++ more) rest
+
+append-assoc : (xs : List Step) (x : Step) (ys : List Step) → (xs ++ x ∷ []) ++ ys ≡ xs ++ x ∷ ys
+append-assoc [] x ys = refl
+append-assoc (y ∷ xs) x ys = ap (λ l. y ∷ l) (append-assoc xs x ys)
+
+append-none : (xs : List Step) → xs ++ [] ≡ xs
+append-none [] = refl
+append-none (x ∷ xs) = ap (λ l. x ∷ l) (append-none xs)
+
+onto-more : (steps : List Step) (step : Step) (rest : Option (List Step))
+    → onto steps (option_map (λ more. step ∷ more) rest) ≡ onto (steps ++ step ∷ []) rest
+onto-more steps step None = refl
+onto-more steps step (Some more) = ap Some (sym (append-assoc steps step more))
+
+-- a word that is a step
+pub named_more : (version : ℕ) (names : List (List ℕ)) (w : List ℕ) (ws : List (List ℕ)) (step : Step) (steps : List Step) → step_in version names w ≡ Some step
+    → onto steps (steps_of version names (w ∷ ws)) ≡ onto (steps ++ step ∷ []) (steps_of version names ws)
+named_more version names w ws step steps is =
+    ap (λ o. onto steps (option_and_then (λ s. option_map (λ more. s ∷ more) (steps_of version names ws)) o)) is ∙ onto-more steps step (steps_of version names ws)
+
+-- one that is none
+pub named_none : (version : ℕ) (names : List (List ℕ)) (w : List ℕ) (ws : List (List ℕ)) (steps : List Step) → step_in version names w ≡ None
+    → onto steps (steps_of version names (w ∷ ws)) ≡ None
+named_none version names w ws steps none =
+    ap (λ o. onto steps (option_and_then (λ s. option_map (λ more. s ∷ more) (steps_of version names ws)) o)) none
+
+-- all words were looked at
+pub named_all : (version : ℕ) (names : List (List ℕ)) (steps : List Step) → onto steps (steps_of version names []) ≡ Some steps
+named_all version names steps = ap Some (append-none steps)
+
+-- one nexus more is there
+pub all_more : (n : ℕ) (step : Step) (steps : List Step) → All (IsThere n) steps → IsThere n step → All (IsThere n) (steps ++ step ∷ [])
+all_more n step steps all there = All-append (IsThere n) steps (step ∷ []) all one
+  where
+    one : All (IsThere n) (step ∷ [])
+    one zero d short = there
+    one (suc k) d short = absurd (omega (arith, short))
+
+-- ---- the parts of a scenario
+
+pub few_nexuses : (p : Parts) → Fits (scenario_of p) → length p.nexuses.items ≤ MOST_NEXUSES
+few_nexuses p fits = few_parts p fits

@@ -1,0 +1,37 @@
+-- How the lines of a witness go out, one for each nexus.
+use Rattle.std.proofs.Common.{◌≡◌, ℕ, ◌+◌, ◌<◌, ◌≤◌, Bool, List, ◌++◌, drop, length, Option, refl, ap, ◌∙◌, subst, zero-add, arith}
+use Rattle.std.specs.List.{flat_map, range_with_len}
+use Rattle.std.specs.Io.KnownBytes.{Appends}
+use Rattle.std.proofs.lemmas.List.FromFn.{get_or-range_with_len, length-range_with_len}
+use Rattle.pr_attention.specs.Attentions.{power_on, reservations_preempted, reservations_released, registrations_preempted}
+use Rattle.pr_report.specs.Written.{FallsShort, Wrote}
+use Rattle.pr_report.proofs.lemmas.Written.Fronts.{flat_map_end, flat_map_from, wrote_all, wrote_front, wrote_more}
+use Rattle.pr_commands.specs.WitnessText.{pending_line}
+
+module _ (f : ℕ → List ℕ) (n i : ℕ) (old mid new : Option (List ℕ)) where
+  lines_from : i < n → flat_map f (drop i (range_with_len 0 n)) ≡ f i ++ flat_map f (drop (i + 1) (range_with_len 0 n))
+  lines_from there =
+      let all : length (range_with_len 0 n) ≡ n = length-range_with_len 0 n in
+      flat_map_from f (range_with_len 0 n) i 0 (omega arith)
+      ∙ ap (λ k. f k ++ flat_map f (drop (i + 1) (range_with_len 0 n))) (get_or-range_with_len 0 n i 0 there ∙ zero-add i)
+
+  pub line_front : i < n → Wrote old mid (flat_map f (range_with_len 0 n)) (flat_map f (drop i (range_with_len 0 n))) → FallsShort mid new (f i) → FallsShort old new (flat_map f (range_with_len 0 n))
+  line_front there wrote short =
+      wrote_front old mid new (flat_map f (range_with_len 0 n)) (f i) (flat_map f (drop (i + 1) (range_with_len 0 n)))
+      (subst (λ r. Wrote old mid (flat_map f (range_with_len 0 n)) r) (lines_from there) wrote) short
+
+  pub line_more : i < n → Wrote old mid (flat_map f (range_with_len 0 n)) (flat_map f (drop i (range_with_len 0 n))) → Appends mid new (f i)
+      → Wrote old new (flat_map f (range_with_len 0 n)) (flat_map f (drop (i + 1) (range_with_len 0 n)))
+  line_more there wrote appends =
+      wrote_more old mid new (flat_map f (range_with_len 0 n)) (f i) (flat_map f (drop (i + 1) (range_with_len 0 n)))
+      (subst (λ r. Wrote old mid (flat_map f (range_with_len 0 n)) r) (lines_from there) wrote) appends
+
+  pub lines_over : n ≤ i → Wrote old mid (flat_map f (range_with_len 0 n)) (flat_map f (drop i (range_with_len 0 n))) → Appends old mid (flat_map f (range_with_len 0 n))
+  lines_over past wrote =
+      let all : length (range_with_len 0 n) ≡ n = length-range_with_len 0 n in
+      wrote_all old mid (flat_map f (range_with_len 0 n))
+      (subst (λ r. Wrote old mid (flat_map f (range_with_len 0 n)) r) (flat_map_end f (range_with_len 0 n) i (omega arith)) wrote)
+
+-- the same codes are pending
+pub pending_same : (name : List ℕ) (p q : ℕ → Bool) → ((code : ℕ) → p code ≡ q code) → pending_line name p ≡ pending_line name q
+pending_same name p q same = rw (same power_on, same reservations_preempted, same reservations_released, same registrations_preempted) refl

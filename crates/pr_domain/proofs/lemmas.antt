@@ -1,0 +1,6 @@
+pub mod Outcomes
+pub mod Permitting
+pub mod Reporting
+pub mod Starting
+pub mod Tallies
+pub mod Twins

@@ -1,0 +1,336 @@
+-- Where a command ends GOOD, and what a role says of it there.
+use Rattle.std.proofs.Common.{◌≡◌, ◌⊎◌, ◌↔◌, ℕ, zero, suc, ◌+◌, ◌<◌, ◌≤◌, Bool, true, false, ◌==◌, ◌&&◌, ◌||◌, not, IsTrue, List, [], ◌∷◌, length, Option, Some, None, is_some, IfSome, IfNone, refl, sym, ap, ◌∙◌, subst, inl, inr, arith, is_none}
+use Rattle.std.specs.List.{slice_get, list_any, All, Contains}
+use Rattle.std.proofs.lemmas.List.Folds.{Any-from_list_any, list_any-from_Any}
+use Rattle.std.proofs.lemmas.Bool.{and_parts, cases_eq, cases_order, false≢true}
+use Rattle.std.proofs.lemmas.Option.{same_Some}
+use Rattle.std.proofs.lemmas.Bool.Decides.{nat_tests}
+use Rattle.pr_cdb.specs.declared.command.Command.{Command}
+use Rattle.pr_cdb.specs.declared.command.Command.TheVariants as command
+use Rattle.pr_cdb.specs.declared.reply.Sense.{Sense}
+use Rattle.pr_registry.specs.declared.held.Held.{Held}
+use Rattle.pr_registry.specs.declared.held.Held.TheVariants.{One, All as Everybody}
+use Rattle.pr_registry.specs.Registrations.{State, key_of, is_registered, is_holder_of}
+use Rattle.pr_unit.specs.UnitStates.{UnitState}
+use Rattle.pr_script.specs.Grammar.{is_written, is_written_key}
+use Rattle.pr_roles.specs.declared.role.Clause.{Clause}
+use Rattle.pr_roles.specs.declared.role.Condition.{Condition}
+use Rattle.pr_roles.specs.declared.role.Condition.TheVariants as condition
+use Rattle.pr_roles.specs.Permits.{names, holds, clause_permits}
+use Rattle.pr_sets.specs.declared.word.Word.{Word}
+use Rattle.pr_sets.specs.Words.{has}
+use Rattle.pr_sets.specs.Wides.{has_wide}
+use Rattle.pr_views.specs.declared.possibilities.Possibilities.{Possibilities}
+use Rattle.pr_views.specs.Possibilities.{Scope, Registration, Reservation, IsSo, key_at, count_of_reservations}
+use Rattle.pr_views.specs.Views.{View, Shows}
+use Rattle.pr_views.specs.Portions.{has_at, view_in}
+use Rattle.pr_views.proofs.lemmas.Possibilities.Numbers.{key_there, one_registration, one_reservation}
+use Rattle.pr_regions.specs.declared.purpose.Purpose.{Purpose}
+use Rattle.pr_regions.specs.declared.purpose.Standing.{Standing}
+use Rattle.pr_regions.specs.declared.region.Branch.{Branch}
+use Rattle.pr_regions.specs.declared.region.Change.{Change}
+use Rattle.pr_regions.specs.declared.region.Ending.{Ending}
+use Rattle.pr_regions.specs.declared.region.Ending.TheVariants as ending
+use Rattle.pr_regions.specs.Purposes.{is_refused, purpose_of, names_written}
+use Rattle.pr_regions.specs.Regions.{AreBranches, standing_of, Ends, IsProper as IsProperBranch}
+use Rattle.pr_regions.specs.declared.place.Place.{Place}
+use Rattle.pr_regions.specs.Gathering.{IsPlace, IsUniform, IsProper, IsAt, IsGathered}
+use Rattle.pr_domain.specs.inside.Tallies.{IsRight, IsInOne, HasFirst, HasBoth, IsReserved, IsAsked}
+use Rattle.pr_domain.specs.inside.Permitting.{EndsGood, ArePermitted, scope_at, IsAsking, holds_reservation, holds_at, permits_at, IsReached, IsOneReached, IsOneRefused, permits_always}
+use Rattle.pr_regions.proofs.lemmas.Portions.GatheredStates.{few_keys, same_reservation}
+use Rattle.pr_domain.proofs.lemmas.Tallies.Growth.{listed_there}
+use Rattle.pr_domain.proofs.lemmas.Tallies.Requests.{only_uniform, asked_right, asked_covers, asked_back, refused_conflicts}
+
+-- ---- what a text can write
+
+pub written_typed : (keys : List ℕ) (c : Command) → is_written keys c ≡ true → IsTrue (is_some (purpose_of keys c))
+written_typed keys (command.Preempt rk sark None) is = (and_parts _ _ (and_parts (is_written_key keys rk) _ is).1).1
+written_typed keys (command.PreemptAbort rk sark None) is = (and_parts _ _ (and_parts (is_written_key keys rk) _ is).1).1
+written_typed keys _ is = refl
+
+pub written_names : (keys : List ℕ) (c : Command) → is_written keys c ≡ true → names_written keys c ≡ true
+written_names keys (command.Register rk sark) is = (and_parts (is_written_key keys rk) (is_written_key keys sark) is).1
+written_names keys (command.RegisterIgnore sark) is = is
+written_names keys (command.Preempt rk sark kind) is = (and_parts (is_written_key keys sark) (is_some kind) (and_parts (is_written_key keys rk) _ is).1).0
+written_names keys (command.PreemptAbort rk sark kind) is = (and_parts (is_written_key keys sark) (is_some kind) (and_parts (is_written_key keys rk) _ is).1).0
+written_names keys _ is = refl
+
+-- ---- branches
+
+pub is_reached : (s : Scope) (view : Possibilities) (place : Place) (senders : Word) (b : Branch) (change : Change) (o : Option (List Word)) (there : Bool)
+    → IsPlace s view place → IsUniform senders → has view.pending 0 ≡ true → IsProper b.region → b.ending ≡ ending.Good change → there ≡ is_some o
+    → IfSome o (λ words. (t : Scope) → IsPlace t view place → IsUniform senders → IsProper b.region → IsGathered (view_in t view) place senders b.region words)
+    → IfNone o ((t : Scope) → IsPlace t view place → IsUniform senders → IsProper b.region → (u : UnitState) → IsAt (view_in t view) place senders b.region u → ⊥)
+    → IsTrue there ↔ IsReached (view_in s view) place senders b
+is_reached s view place senders b change (Some words) there is uniform idle proper good tells some none =
+    (λ yes. record { change = change; good = good; there = (some s is uniform proper).some 0 idle }, λ reached. tells)
+is_reached s view place senders b change None there is uniform idle proper good tells some none =
+    (λ yes. absurd (false≢true (sym tells ∙ yes)), λ reached. absurd (none s is uniform proper reached.there.unit reached.there.at))
+
+pub more_unreached : (v : View) (place : Place) (senders : Word) (branches : List Branch) (n : ℕ) (b : Branch) → slice_get branches n ≡ Some b
+    → (IsOneReached v place senders branches n → ⊥) → (IsReached v place senders b → ⊥) → IsOneReached v place senders branches (n + 1) → ⊥
+more_unreached v place senders branches n b is before here one = at (cases_eq one.index n)
+  where
+    at : (one.index ≡ n) ⊎ (one.index ≡ n → ⊥) → ⊥
+    at (inl same) =
+        let branch : one.branch ≡ b = same_Some one.branch b (sym one.listed ∙ ap (slice_get branches) same ∙ is) in
+        here (subst (λ x. IsReached v place senders x) branch one.reached)
+    at (inr other) =
+        before (record { branch = one.branch; index = one.index; below = (let e = one.below in let o : one.index < n = omega (arith, cases_order one.index n) in o); listed = one.listed; reached = one.reached })
+
+-- ---- clauses
+
+holder_same : (u : State) (place : Place) (keys : List ℕ) (r : ℕ) (held : Option Held) → place.held ≡ held → is_registered u place.sender ≡ not (r == 0)
+    → is_holder_of u.keys held place.sender ≡ holds_reservation held place.sender r
+holder_same u place keys r None is registered = refl
+holder_same u place keys r (Some (One kind h)) is registered = refl
+holder_same u place keys r (Some (Everybody kind)) is registered = registered
+
+registered_same : (u : State) (keys : List ℕ) (h r : ℕ) → r ≤ length keys → key_of u h ≡ key_at keys r → is_registered u h ≡ not (r == 0)
+registered_same u keys h zero small is = ap is_some is
+registered_same u keys h (suc i) small is =
+    let some : not (suc i == 0) ≡ true = grind (arith, nat_tests) in
+    ap is_some (is ∙ (key_there keys i small).1) ∙ sym some
+
+-- in such a state the condition holds exactly where it does by the numbers
+holds_same : (u : State) (place : Place) (keys : List ℕ) (r : ℕ) (o : Option Condition) → u.held ≡ place.held → r ≤ length keys → key_of u place.sender ≡ key_at keys r
+    → holds o u place.sender ≡ holds_at o place r
+holds_same u place keys r None held small is = refl
+holds_same u place keys r (Some condition.Registered) held small is = registered_same u keys place.sender r small is
+holds_same u place keys r (Some condition.Holder) held small is =
+    ap (λ v. is_holder_of u.keys v place.sender) held ∙ holder_same u place keys r place.held refl (registered_same u keys place.sender r small is)
+holds_same u place keys r (Some condition.Reserved) held small is = ap is_some held
+
+permits_same : (u : State) (place : Place) (keys : List ℕ) (r : ℕ) (c : Command) (clauses : List Clause) → u.held ≡ place.held → r ≤ length keys → key_of u place.sender ≡ key_at keys r
+    → list_any (λ clause. clause_permits clause u place.sender c) clauses ≡ list_any (λ clause. permits_at clause c place r) clauses
+permits_same u place keys r c [] held small is = refl
+permits_same u place keys r c (clause ∷ rest) held small is =
+    ap (λ b. (names clause.action c && b) || list_any (λ x. clause_permits x u place.sender c) rest) (holds_same u place keys r clause.condition held small is)
+    ∙ ap (λ b. permits_at clause c place r || b) (permits_same u place keys r c rest held small is)
+
+-- ---- one registration
+
+-- what is known of a command and its sender at a place
+pub record IsThis (keys : List ℕ) (c : Command) (view : Possibilities) (place : Place) : Type 0 where
+  pub asking : IsAsking keys place.hosts place.sender c view
+  pub is : IsPlace (scope_at keys place.hosts place.sender) view place
+
+by_numbers : (keys : List ℕ) (c : Command) (view : Possibilities) (place : Place) (r : ℕ) (clauses : List Clause) (u : UnitState) → IsThis keys c view place
+    → Shows (view_in (scope_at keys place.hosts place.sender) view) u → HasBoth (scope_at keys place.hosts place.sender) place r u
+    → list_any (λ clause. clause_permits clause u.registry place.sender c) clauses ≡ list_any (λ clause. permits_at clause c place r) clauses
+by_numbers keys c view place r clauses u this shown both =
+    permits_same u.registry place keys r c clauses (same_reservation (scope_at keys place.hosts place.sender) view place u this.is shown both.reserved) both.registered.1 both.registered.2
+
+pub refused_permitted : (keys : List ℕ) (c : Command) (view : Possibilities) (place : Place) (r : ℕ) (clauses : List Clause) → is_refused (key_at keys r) c ≡ true
+    → ArePermitted (view_in (scope_at keys place.hosts place.sender) view) clauses c (HasBoth (scope_at keys place.hosts place.sender) place r)
+refused_permitted keys c view place r clauses refused u shown both ends =
+    absurd (false≢true (sym ends.free ∙ refused_conflicts u.registry place.sender c (subst (λ k. is_refused k c ≡ true) (sym both.registered.2) refused)))
+
+asked : (keys : List ℕ) (c : Command) (view : Possibilities) (place : Place) (purpose : Purpose) (r : ℕ) → IsThis keys c view place → purpose_of keys c ≡ Some purpose → is_refused (key_at keys r) c ≡ false
+    → IsAsked (scope_at keys place.hosts place.sender) c [] view place purpose 0 r
+asked keys c view place purpose r this asks accepted = record { own = refl; is = this.is; asks = asks; accepted = accepted; taken = λ u. refl }
+
+-- a state in which it ends GOOD is in the region of a branch that does
+reached_where_good : (keys : List ℕ) (c : Command) (view : Possibilities) (place : Place) (purpose : Purpose) (r : ℕ) (w : Word) (branches : List Branch)
+    → IsThis keys c view place → purpose_of keys c ≡ Some purpose → is_refused (key_at keys r) c ≡ false → ((m : ℕ) → has w m ≡ (m == r))
+    → AreBranches place.hosts purpose place.held place.sender (standing_of purpose r) branches → ((b : Branch) → Contains branches b → IsProperBranch b)
+    → (u : UnitState) → Shows (view_in (scope_at keys place.hosts place.sender) view) u → HasBoth (scope_at keys place.hosts place.sender) place r u
+    → EndsGood (scope_at keys place.hosts place.sender) c u → IsOneReached (view_in (scope_at keys place.hosts place.sender) view) place w branches (length branches)
+reached_where_good keys c view place purpose r w branches this asks accepted only are proper u shown both ends =
+    by_ending one.branch.ending refl (right.ends u one.at)
+  where
+    s : Scope
+    s = scope_at keys place.hosts place.sender
+
+    known : IsAsked (scope_at keys place.hosts place.sender) c [] view place purpose 0 r
+    known = asked keys c view place purpose r this asks accepted
+
+    one : IsInOne (view_in (scope_at keys place.hosts place.sender) view) place w branches (length branches) u
+    one = asked_covers s c [] view place purpose 0 r w branches known only are u shown both
+
+    right : IsRight (scope_at keys place.hosts place.sender) c [] view place w one.branch 0
+    right = asked_right s c [] view place purpose 0 r w branches known only are proper one.branch (listed_there branches one.index one.branch one.listed)
+
+    none_some : (sense : Sense) → None ≡ Some sense → ⊥
+    none_some sense same = let bad : None ≡ Some sense = same in cc
+
+    by_ending : (e : Ending) → one.branch.ending ≡ e → Ends (scope_at keys place.hosts place.sender) place.sender e u c
+        → IsOneReached (view_in (scope_at keys place.hosts place.sender) view) place w branches (length branches)
+    by_ending ending.Conflict is ended = absurd (false≢true (sym ends.free ∙ ended))
+    by_ending (ending.Fault sense) is ended = absurd (none_some sense (sym ends.whole ∙ ended.1))
+    by_ending (ending.Good change) is ended =
+        record {
+          branch = one.branch;
+          index = one.index;
+          below = one.below;
+          listed = one.listed;
+          reached = record { change = change; good = is; there = record { unit = u; at = one.at; pending = ends.idle } };
+        }
+
+-- and the other way round
+pub record IsGoodWith (keys : List ℕ) (c : Command) (view : Possibilities) (place : Place) (r : ℕ) : Type 0 where
+  pub unit : UnitState
+  pub shown : Shows (view_in (scope_at keys place.hosts place.sender) view) unit
+  pub both : HasBoth (scope_at keys place.hosts place.sender) place r unit
+  pub ends : EndsGood (scope_at keys place.hosts place.sender) c unit
+
+good_where_reached : (keys : List ℕ) (c : Command) (view : Possibilities) (place : Place) (purpose : Purpose) (r : ℕ) (w : Word) (branches : List Branch)
+    → IsThis keys c view place → purpose_of keys c ≡ Some purpose → is_refused (key_at keys r) c ≡ false → ((m : ℕ) → has w m ≡ (m == r))
+    → AreBranches place.hosts purpose place.held place.sender (standing_of purpose r) branches → ((b : Branch) → Contains branches b → IsProperBranch b)
+    → IsOneReached (view_in (scope_at keys place.hosts place.sender) view) place w branches (length branches) → IsGoodWith keys c view place r
+good_where_reached keys c view place purpose r w branches this asks accepted only are proper one = record {
+  unit = one.reached.there.unit;
+  shown = one.reached.there.at.shown;
+  both = asked_back s c [] view place purpose 0 r w branches known only (length branches) one.reached.there.unit one.reached.there.at.shown
+      (record { index = one.index; below = one.below; branch = one.branch; listed = one.listed; at = one.reached.there.at });
+  ends = record { idle = one.reached.there.pending; free = ended.0; whole = ended.1 };
+}
+  where
+    s : Scope
+    s = scope_at keys place.hosts place.sender
+
+    known : IsAsked (scope_at keys place.hosts place.sender) c [] view place purpose 0 r
+    known = asked keys c view place purpose r this asks accepted
+
+    right : IsRight (scope_at keys place.hosts place.sender) c [] view place w one.branch 0
+    right = asked_right s c [] view place purpose 0 r w branches known only are proper one.branch (listed_there branches one.index one.branch one.listed)
+
+    ended : Ends (scope_at keys place.hosts place.sender) place.sender (ending.Good one.reached.change) one.reached.there.unit c
+    ended = subst (λ e. Ends (scope_at keys place.hosts place.sender) place.sender e one.reached.there.unit c) one.reached.good (right.ends one.reached.there.unit one.reached.there.at)
+
+pub one_registration_permitted : (keys : List ℕ) (c : Command) (view : Possibilities) (place : Place) (purpose : Purpose) (r : ℕ) (w : Word) (branches listed : List Branch) (clauses : List Clause) (standing : Standing) (key : Option ℕ) (refused reached result : Bool)
+    → IsThis keys c view place → Some purpose ≡ purpose_of keys c → key ≡ key_at keys r → refused ≡ is_refused key c → refused ≡ false → ((m : ℕ) → has w m ≡ (m == r))
+    → standing ≡ standing_of purpose r → AreBranches place.hosts purpose place.held place.sender standing listed → All IsProperBranch listed → branches ≡ listed
+    → (IsUniform w → All IsProperBranch branches → IsTrue reached ↔ IsOneReached (view_in (scope_at keys place.hosts place.sender) view) place w branches (length branches))
+    → result ≡ (not reached || list_any (λ clause. permits_at clause c place r) clauses)
+    → (IsTrue result → ArePermitted (view_in (scope_at keys place.hosts place.sender) view) clauses c (HasBoth (scope_at keys place.hosts place.sender) place r))
+    × (result ≡ false → IsOneRefused (view_in (scope_at keys place.hosts place.sender) view) clauses c (HasBoth (scope_at keys place.hosts place.sender) place r))
+one_registration_permitted keys c view place purpose r w branches listed clauses standing key refused reached result this asks keyed tells accepted only stands are proper same reaches says =
+    at reached (reaches (only_uniform r w only) all) says
+  where
+    all : All IsProperBranch branches
+    all = subst (λ l. All IsProperBranch l) (sym same) proper
+
+    each : (b : Branch) → Contains branches b → IsProperBranch b
+    each b there = subst IsProperBranch there.2 (all there.0 b there.1)
+
+    right : AreBranches place.hosts purpose place.held place.sender (standing_of purpose r) branches
+    right = subst (λ l. AreBranches place.hosts purpose place.held place.sender (standing_of purpose r) l) (sym same)
+        (subst (λ t. AreBranches place.hosts purpose place.held place.sender t listed) stands are)
+
+    taken : is_refused (key_at keys r) c ≡ false
+    taken = ap (λ k. is_refused k c) (sym keyed) ∙ sym tells ∙ accepted
+
+    at : (b : Bool) → IsTrue b ↔ IsOneReached (view_in (scope_at keys place.hosts place.sender) view) place w branches (length branches)
+        → result ≡ (not b || list_any (λ clause. permits_at clause c place r) clauses)
+        → (IsTrue result → ArePermitted (view_in (scope_at keys place.hosts place.sender) view) clauses c (HasBoth (scope_at keys place.hosts place.sender) place r))
+        × (result ≡ false → IsOneRefused (view_in (scope_at keys place.hosts place.sender) view) clauses c (HasBoth (scope_at keys place.hosts place.sender) place r))
+    at false reaches says = (
+      λ is u shown both ends. absurd (false≢true (reaches.1 (reached_where_good keys c view place purpose r w branches this (sym asks) taken only right each u shown both ends))),
+      λ denied. absurd (false≢true (sym denied ∙ says)),
+    )
+    at true reaches says = (
+      λ is u shown both ends. by_numbers keys c view place r clauses u this shown both ∙ sym says ∙ is,
+      λ denied.
+          let good = good_where_reached keys c view place purpose r w branches this (sym asks) taken only right each (reaches.0 refl) in
+          record {
+            unit = good.unit;
+            shown = good.shown;
+            among = good.both;
+            ends = good.ends;
+            refused = by_numbers keys c view place r clauses good.unit this good.shown good.both ∙ sym says ∙ denied;
+          },
+    )
+
+-- where a clause permits it by the numbers, it is permitted wherever it ends GOOD
+pub permitted_by_clauses : (keys : List ℕ) (c : Command) (view : Possibilities) (place : Place) (r : ℕ) (clauses : List Clause) → IsThis keys c view place
+    → list_any (λ clause. permits_at clause c place r) clauses ≡ true
+    → ArePermitted (view_in (scope_at keys place.hosts place.sender) view) clauses c (HasBoth (scope_at keys place.hosts place.sender) place r)
+permitted_by_clauses keys c view place r clauses this is u shown both ends = by_numbers keys c view place r clauses u this shown both ∙ is
+
+-- where a clause permits it in every state, it is permitted
+pub permitted_always : (v : View) (c : Command) (clauses : List Clause) → list_any (λ clause. permits_always clause c) clauses ≡ true → ArePermitted v clauses c (λ u. Unit {0})
+permitted_always v c clauses is u shown among ends =
+    let found = Any-from_list_any (λ clause. permits_always clause c) clauses is in
+    list_any-from_Any (λ clause. clause_permits clause u.registry v.scope.own c) clauses (found.0, found.1, found.2, found.3, so found.1 found.4)
+  where
+    at : (condition : Option Condition) (named : Bool) → (is_none condition && named) ≡ true → (named && holds condition u.registry v.scope.own) ≡ true
+    at None named both = ap (λ b. b && true) both
+    at (Some condition) named both = absurd (false≢true both)
+
+    so : (clause : Clause) → permits_always clause c ≡ true → clause_permits clause u.registry v.scope.own c ≡ true
+    so clause both = at clause.condition (names clause.action c) both
+
+-- ---- one registration after another, and one reservation after another
+
+pub refused_as : (v : View) (clauses : List Clause) (c : Command) (A B : UnitState → Type 0) → ((u : UnitState) → A u → B u) → IsOneRefused v clauses c A → IsOneRefused v clauses c B
+refused_as v clauses c A B from one = record { unit = one.unit; shown = one.shown; among = from one.unit one.among; ends = one.ends; refused = one.refused }
+
+pub permitted_as : (v : View) (clauses : List Clause) (c : Command) (A B : UnitState → Type 0) → ((u : UnitState) → Shows v u → B u → A u)
+    → ArePermitted v clauses c A → ArePermitted v clauses c B
+permitted_as v clauses c A B from permitted u shown among ends = permitted u shown (from u shown among) ends
+
+permitted_both : (v : View) (clauses : List Clause) (c : Command) (A B C : UnitState → Type 0) → ((u : UnitState) → Shows v u → C u → A u ⊎ B u)
+    → ArePermitted v clauses c A → ArePermitted v clauses c B → ArePermitted v clauses c C
+permitted_both v clauses c A B C either first second u shown among ends = at (either u shown among)
+  where
+    at : A u ⊎ B u → IsTrue (list_any (λ clause. clause_permits clause u.registry v.scope.own c) clauses)
+    at (inl a) = first u shown a ends
+    at (inr b) = second u shown b ends
+
+pub no_registration_yet : (s : Scope) (view : Possibilities) (clauses : List Clause) (c : Command) (place : Place) → ArePermitted (view_in s view) clauses c (HasFirst s place 0)
+no_registration_yet s view clauses c place u shown among ends = let below = among.below in absurd (omega arith)
+
+pub one_registration_more : (s : Scope) (view : Possibilities) (clauses : List Clause) (c : Command) (place : Place) (n : ℕ) → ArePermitted (view_in s view) clauses c (HasFirst s place n)
+    → ArePermitted (view_in s view) clauses c (HasBoth s place n) → ArePermitted (view_in s view) clauses c (HasFirst s place (n + 1))
+one_registration_more s view clauses c place n before here =
+    permitted_both (view_in s view) clauses c (HasFirst s place n) (HasBoth s place n) (HasFirst s place (n + 1)) (λ u shown first. at u first (cases_eq first.registration n)) before here
+  where
+    at : (u : UnitState) (first : HasFirst s place (n + 1) u) → (first.registration ≡ n) ⊎ (first.registration ≡ n → ⊥) → HasFirst s place n u ⊎ HasBoth s place n u
+    at u first (inl same) = inr (record { reserved = first.reserved; registered = subst (λ r. IsSo s u (Registration place.sender r)) same first.registered })
+    at u first (inr other) =
+        inl (record { registration = first.registration; below = (let e = first.below in let o : first.registration < n = omega (arith, cases_order first.registration n) in o); reserved = first.reserved; registered = first.registered })
+
+-- a registration that the sender has not
+pub not_registered : (keys : List ℕ) (c : Command) (view : Possibilities) (place : Place) (clauses : List Clause) (r : ℕ) → IsThis keys c view place → has_at view.registrations place.sender r ≡ false
+    → ArePermitted (view_in (scope_at keys place.hosts place.sender) view) clauses c (HasBoth (scope_at keys place.hosts place.sender) place r)
+not_registered keys c view place clauses r this none u shown both ends =
+    let seen = shown.registrations place.sender place.there in
+    let same = one_registration (scope_at keys place.hosts place.sender) u place.sender seen.0 r this.asking.fits.scope seen.1.1 both.registered in
+    absurd (false≢true (sym none ∙ subst (λ n. has_at view.registrations place.sender n ≡ true) same seen.1.0.1))
+
+pub each_registration : (keys : List ℕ) (c : Command) (view : Possibilities) (place : Place) (clauses : List Clause) → IsThis keys c view place
+    → ArePermitted (view_in (scope_at keys place.hosts place.sender) view) clauses c (HasFirst (scope_at keys place.hosts place.sender) place 13)
+    → ArePermitted (view_in (scope_at keys place.hosts place.sender) view) clauses c (λ u. IsSo (scope_at keys place.hosts place.sender) u (Reservation place.reservation))
+each_registration keys c view place clauses this permitted u shown reserved ends =
+    let seen = shown.registrations place.sender place.there in
+    let few = few_keys keys this.asking.fits.scope.keys in
+    let small = seen.1.1.1 in
+    permitted u shown (record { registration = seen.0; below = omega arith; reserved = reserved; registered = seen.1.1 }) ends
+
+pub no_reservation_yet : (s : Scope) (view : Possibilities) (clauses : List Clause) (c : Command) → ArePermitted (view_in s view) clauses c (IsReserved s 0)
+no_reservation_yet s view clauses c u shown among ends = let below = among.below in absurd (omega arith)
+
+pub one_reservation_more : (s : Scope) (view : Possibilities) (clauses : List Clause) (c : Command) (n : ℕ) → ArePermitted (view_in s view) clauses c (IsReserved s n)
+    → ArePermitted (view_in s view) clauses c (λ u. IsSo s u (Reservation n)) → ArePermitted (view_in s view) clauses c (IsReserved s (n + 1))
+one_reservation_more s view clauses c n before here =
+    permitted_both (view_in s view) clauses c (IsReserved s n) (λ u. IsSo s u (Reservation n)) (IsReserved s (n + 1)) (λ u shown one. at u one (cases_eq one.reservation n)) before here
+  where
+    at : (u : UnitState) (one : IsReserved s (n + 1) u) → (one.reservation ≡ n) ⊎ (one.reservation ≡ n → ⊥) → IsReserved s n u ⊎ IsSo s u (Reservation n)
+    at u one (inl same) = inr (subst (λ x. IsSo s u (Reservation x)) same one.reserved)
+    at u one (inr other) = inl (record { reservation = one.reservation; below = (let e = one.below in let o : one.reservation < n = omega (arith, cases_order one.reservation n) in o); reserved = one.reserved })
+
+-- a reservation that the view has not
+pub not_shown : (s : Scope) (view : Possibilities) (clauses : List Clause) (c : Command) (x : ℕ) → has_wide view.reservations x ≡ false
+    → ArePermitted (view_in s view) clauses c (λ u. IsSo s u (Reservation x))
+not_shown s view clauses c x none u shown so ends =
+    let seen = shown.reservation in
+    absurd (false≢true (sym none ∙ subst (λ y. has_wide view.reservations y ≡ true) (one_reservation s u seen.0 x seen.1.1 so) seen.1.0))
+
+pub each_reservation : (keys : List ℕ) (hosts sender : ℕ) (c : Command) (view : Possibilities) (clauses : List Clause) (n : ℕ) → IsAsking keys hosts sender c view → count_of_reservations hosts ≤ n
+    → ArePermitted (view_in (scope_at keys hosts sender) view) clauses c (IsReserved (scope_at keys hosts sender) n)
+    → ArePermitted (view_in (scope_at keys hosts sender) view) clauses c (λ u. Unit {0})
+each_reservation keys hosts sender c view clauses n asking all permitted u shown among ends =
+    let seen = shown.reservation in
+    let below = asking.fits.reservations seen.0 seen.1.0 in
+    permitted u shown (record { reservation = seen.0; below = omega arith; reserved = seen.1.1 }) ends

@@ -1,0 +1,69 @@
+-- Sets of attentions as numbers, once one of them was reported.
+use Rattle.std.proofs.Common.{◌≡◌, ◌≢◌, ◌⊎◌, ℕ, ◌+◌, ◌<◌, Bool, true, false, ◌==◌, ◌&&◌, ◌||◌, refl, sym, ap, ◌∙◌, subst, inl, inr, arith}
+use Rattle.std.specs.FinSet as set
+use Rattle.std.proofs.lemmas.Bool.{or_cases, or_left, or_right, false≢true}
+use Rattle.std.proofs.lemmas.Bool.Decides.{nat_tests, eqb_tells}
+use Rattle.pr_attention.specs.declared.attention.Attention.{Attention}
+use Rattle.pr_attention.specs.Attentions.{code_of}
+use Rattle.pr_attention.specs.Flagged.{codes_of}
+use Rattle.pr_attention.proofs.lemmas.Bits.{same_bits}
+use Rattle.pr_sets.specs.declared.word.Word.{Word}
+use Rattle.pr_sets.specs.Words.{has}
+use Rattle.pr_domain.specs.inside.Reporting.{IsAfter, AreReported}
+
+pub reported_none : (pending : Word) (a : Attention) (left : Word) → ((n : ℕ) → has left n ≡ false) → AreReported 0 pending a left
+reported_none pending a left none = record {
+  all = λ q n below there after. absurd (omega arith);
+  only = λ n there. absurd (false≢true (sym (none n) ∙ there));
+}
+
+-- one set more in which it is
+pub reported_more : (bound : ℕ) (pending : Word) (a : Attention) (left new : Word) (m : ℕ) → AreReported bound pending a left → has pending bound ≡ true → IsAfter bound a m
+    → ((n : ℕ) → has new n ≡ (n == m || has left n)) → AreReported (bound + 1) pending a new
+reported_more bound pending a left new m before there after is = record { all = all; only = λ n has. only n (or_cases (n == m) _ (sym (is n) ∙ has)) }
+  where
+    all : (q n : ℕ) → q < bound + 1 → has pending q ≡ true → IsAfter q a n → has new n ≡ true
+    all q n below possible follows = at (eqb_tells q bound)
+      where
+        at : (((q == bound) ≡ true) × (q ≡ bound)) ⊎ (((q == bound) ≡ false) × (q ≢ bound)) → has new n ≡ true
+        at (inl same) =
+            let equal : n ≡ m = same_bits n m follows.0 after.0 (follows.2 ∙ ap (λ k. set.remove (codes_of k) (code_of a)) same.1 ∙ sym after.2) in
+            let tells : (n == m) ≡ true = grind (arith, nat_tests) in
+            is n ∙ or_left (n == m) (has left n) tells
+        at (inr other) = is n ∙ or_right (n == m) (has left n) (before.all q n (let differs = other.1 in omega arith) possible follows)
+
+    only : (n : ℕ) → ((n == m) ≡ true) ⊎ (has left n ≡ true) → (q : ℕ) × (q < bound + 1) × (has pending q ≡ true) × IsAfter q a n
+    only n (inl tells) =
+        let equal : n ≡ m = grind (arith, nat_tests) in
+        (bound, omega arith, there, subst (λ k. IsAfter bound a k) (sym equal) after)
+    only n (inr old) =
+        let found = before.only n old in
+        (found.0, (let below = found.1 in omega arith), found.2, found.3)
+
+-- one set more that is not possible, or in which it is not
+pub reported_skips : (bound : ℕ) (pending : Word) (a : Attention) (left : Word) → AreReported bound pending a left
+    → (has pending bound && set.contains (codes_of bound) (code_of a)) ≡ false → AreReported (bound + 1) pending a left
+reported_skips bound pending a left before none = record {
+  all = all;
+  only = λ n has. let found = before.only n has in (found.0, (let below = found.1 in omega arith), found.2, found.3);
+}
+  where
+    never : (x y : Bool) → (x && y) ≡ false → x ≡ true → y ≡ true → ⊥
+    never true true is also too = absurd (false≢true (sym is))
+    never true false is also too = absurd (false≢true too)
+    never false y is also too = absurd (false≢true also)
+
+    all : (q n : ℕ) → q < bound + 1 → has pending q ≡ true → IsAfter q a n → has left n ≡ true
+    all q n below possible follows = at (eqb_tells q bound)
+      where
+        at : (((q == bound) ≡ true) × (q ≡ bound)) ⊎ (((q == bound) ≡ false) × (q ≢ bound)) → has left n ≡ true
+        at (inl same) =
+            absurd (never _ _ none (ap (has pending) (sym same.1) ∙ possible) (ap (λ k. set.contains (codes_of k) (code_of a)) (sym same.1) ∙ follows.1))
+        at (inr other) = before.all q n (let differs = other.1 in omega arith) possible follows
+
+pub neither_first : (x y : Bool) → x ≡ false → (x && y) ≡ false
+neither_first x y is = ap (λ b. b && y) is
+
+pub neither_second : (x y : Bool) → y ≡ false → (x && y) ≡ false
+neither_second true y is = is
+neither_second false y is = refl

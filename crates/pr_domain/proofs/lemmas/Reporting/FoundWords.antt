@@ -1,0 +1,64 @@
+-- The outcomes that are found in words are those of the view.
+use Rattle.std.proofs.Common.{◌≡◌, ◌⊎◌, ℕ, ◌<◌, ◌≤◌, true, false, List, length, get_or, sym, ◌∙◌, subst, inl, inr}
+use Rattle.std.specs.List.{All}
+use Rattle.std.proofs.lemmas.Bool.{false≢true, cases_lt}
+use Rattle.std.proofs.lemmas.Option.{slice_get-get_or}
+use Rattle.pr_cdb.specs.declared.command.Command.{Command}
+use Rattle.pr_cdb.specs.declared.wire.Request.TheVariants.{Plain}
+use Rattle.pr_roles.specs.declared.how.Refusals.{Refusals}
+use Rattle.pr_roles.specs.DeclaredRefusals.{Answered}
+use Rattle.pr_script.specs.declared.script.Test.{Test}
+use Rattle.pr_sets.specs.Numbers.{Numbers}
+use Rattle.pr_views.specs.declared.possibilities.Possibilities.{Possibilities}
+use Rattle.pr_views.specs.declared.view.ViewOf.{ViewOf}
+use Rattle.pr_views.specs.Possibilities.{Scope, IsScope, IsSo}
+use Rattle.pr_views.specs.Views.{View, Fits, Within}
+use Rattle.pr_views.specs.Portions.{has_at, view_in}
+use Rattle.pr_views.specs.Rooms.{IsMade, AreAlike, AreInRange}
+use Rattle.pr_views.proofs.lemmas.Views.ShownStates.{shown_within}
+use Rattle.pr_domain.specs.declared.landing.Landing.{Landing}
+use Rattle.pr_domain.specs.Outcomes.{Outcome, AreOutcomes}
+use Rattle.pr_domain.specs.inside.Reporting.{AreKept}
+
+-- they are also those of another view with the same possibilities
+pub same_outcomes : (v w : View) (d : Refusals) (c : Command) (tests : List Test) (outcomes : List Outcome) → v.scope ≡ w.scope → Within v w → Within w v
+    → AreOutcomes v d c tests outcomes → AreOutcomes w d c tests outcomes
+same_outcomes v w d c tests outcomes same there back are = record {
+  cover = λ u r x shown step.
+      are.cover u r x (shown_within w v u (sym same) back shown) (subst (λ (s : Scope). Answered d u s.own (Plain c) r x) (sym same) step);
+  only = λ o i listed possible.
+      let lands = are.only o i listed possible in
+      record {
+        from = lands.from;
+        shown = shown_within v w lands.from same there lands.shown;
+        reply = lands.reply;
+        after = lands.after;
+        answer = subst (λ (s : Scope). Answered d lands.from s.own (Plain c) lands.reply lands.after) same lands.answer;
+        landing = lands.landing;
+        is = subst (λ (s : Scope). IsSo s lands.after i) same lands.is;
+      };
+  come = are.come;
+  once = are.once;
+}
+
+-- the possibilities fit
+pub fits_in : (s : Scope) (known : Possibilities) → IsScope s → ((g r : ℕ) → s.hosts ≤ g → has_at known.registrations g r ≡ false) → AreInRange s.hosts s.keys known → Fits (view_in s known)
+fits_in s known scope past range = record {
+  scope = scope;
+  registrations = λ g r has. at g r has (cases_lt g s.hosts);
+  reservations = range.reservations;
+  pending = range.pending;
+}
+  where
+    at : (g r : ℕ) → has_at known.registrations g r ≡ true → (g < s.hosts) ⊎ (s.hosts ≤ g) → r ≤ length s.keys
+    at g r has (inl small) = range.registrations g r small has
+    at g r has (inr beyond) = absurd (false≢true (sym (past g r beyond) ∙ has))
+
+-- each outcome's view is made, and alike the first one
+pub all_made : {S : Type 0} (members : S → Numbers) (room : S → ℕ) (v : ViewOf S) (keys : List ℕ) (outcomes : List (Landing × ViewOf S)) → keys ≡ v.keys.items
+    → AreKept members room v.hosts keys outcomes → All (λ o. IsMade room o.1 × AreAlike v o.1) outcomes
+all_made {S = S} members room v keys outcomes same kept i d within =
+    let o : Landing × ViewOf S = get_or outcomes i d in
+    let there = slice_get-get_or outcomes i d within in
+    let alike = kept.alike i o.0 o.1 there in
+    (kept.made i o.0 o.1 there, record { keys = sym same ∙ sym alike.0; hosts = sym alike.1 })

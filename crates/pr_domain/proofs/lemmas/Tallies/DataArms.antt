@@ -1,0 +1,199 @@
+-- READ KEYS and READ RESERVATION: which arm takes their data.
+use Rattle.std.proofs.Common.{◌≡◌, ◌⊎◌, ℕ, ◌+◌, ◌<◌, ◌≤◌, Bool, true, false, ◌==◌, ◌||◌, IfSome, IfNone, List, length, position, Option, Some, None, refl, sym, ap, ◌∙◌, subst, inl, inr, arith}
+use Rattle.std.specs.List.{slice_get, Contains, All}
+use Rattle.std.proofs.lemmas.List.Elements.{All-weaker}
+use Rattle.std.proofs.lemmas.Bool.{cases_eq, cases_order, false≢true, and_parts}
+use Rattle.std.proofs.lemmas.Bool.Decides.{nat_tests}
+use Rattle.std.proofs.lemmas.List.Quantifiers.{position-Some}
+use Rattle.std.proofs.lemmas.Option.{same_Some, slice_get-get_or}
+use Rattle.pr_cdb.specs.declared.command.Command.{Command}
+use Rattle.pr_cdb.specs.declared.command.Command.TheVariants as command
+use Rattle.pr_registry.specs.Registrations.{State, key_of}
+use Rattle.pr_unit.specs.UnitStates.{UnitState}
+use Rattle.pr_unit.specs.Replies.{good, data_of}
+use Rattle.pr_script.specs.declared.script.Test.{Test}
+use Rattle.pr_script.specs.declared.script.Test.TheVariants as test
+use Rattle.pr_script.specs.Takes.{matches}
+use Rattle.pr_script.specs.Grammar.{is_read_keys, is_read_reservation, test_fits, is_declared, is_written_key}
+use Rattle.pr_sets.specs.declared.word.Word.{Word}
+use Rattle.pr_sets.specs.Words.{has}
+use Rattle.pr_views.specs.declared.possibilities.Possibilities.{Possibilities}
+use Rattle.pr_views.specs.Possibilities.{Scope}
+use Rattle.pr_views.specs.Views.{Shows}
+use Rattle.pr_views.specs.Portions.{view_in}
+use Rattle.pr_views.proofs.lemmas.Possibilities.Numbers.{one_registration}
+use Rattle.pr_regions.specs.declared.purpose.Purpose.TheVariants.{Look}
+use Rattle.pr_regions.specs.declared.region.Branch.{Branch}
+use Rattle.pr_regions.specs.declared.region.Change.{Change}
+use Rattle.pr_regions.specs.declared.region.Reading.{Reading}
+use Rattle.pr_regions.specs.declared.region.Ending.TheVariants as ending
+use Rattle.pr_regions.specs.inside.Parts.{Does, never}
+use Rattle.pr_regions.specs.Purposes.{is_refused, purpose_of}
+use Rattle.pr_regions.specs.Readings.{first_test, AreReadings, IsProperReading}
+use Rattle.pr_regions.specs.Regions.{Ends, Meets, IsInRegion, standing_of}
+use Rattle.pr_regions.proofs.lemmas.Parts.Endings.{same_ends}
+use Rattle.pr_regions.specs.declared.place.Place.{Place}
+use Rattle.pr_domain.specs.declared.tally.Tally.{Tally}
+use Rattle.pr_regions.specs.Gathering.{IsPlace, IsProper, IsAt}
+use Rattle.pr_domain.specs.inside.Tallies.{arm_of, way_of, Grows, IsRight, HasBoth, IsOwners, IsReadAt, IsReadFirst, IsRightReading, AreRightReadings}
+use Rattle.pr_domain.specs.declared.landing.Class.TheVariants as class
+use Rattle.pr_domain.specs.inside.Reporting.{looks, takes, AreBlind}
+use Rattle.pr_domain.proofs.lemmas.Reporting.MatchingTests.{first_of_class}
+use Rattle.pr_regions.proofs.lemmas.Portions.GatheredStates.{same_reservation, number_at}
+use Rattle.pr_domain.proofs.lemmas.Tallies.Growth.{grows_then, grows_from_none}
+use Rattle.pr_domain.proofs.lemmas.Tallies.Requests.{only_uniform, sender_is}
+
+-- the way is that of the arm
+pub arm_way : (tests : List Test) (u : UnitState) (c : Command) (arm : Option ℕ) (way : ℕ) → length tests ≤ 16 → (IfSome arm (λ n. n < 16) → way ≡ way_of arm) → IfNone arm (way ≡ 0)
+    → first_test tests (good (data_of u.registry c)) ≡ arm → first_test tests (good (data_of u.registry c)) ≡ arm_of way
+arm_way tests u c None way few some none is = is ∙ ap arm_of (sym none)
+arm_way tests u c (Some n) way few some none is =
+    let found = position-Some (λ t. matches t (good (data_of u.registry c))) tests n test.Good is in
+    let small : n < 16 = (let e = found.0 in omega arith) in
+    is ∙ ap arm_of (sym (some small))
+
+pub reading_right : (s : Scope) (c : Command) (tests : List Test) (view : Possibilities) (place : Place) (r : ℕ) (w : Word) (b : Reading) (branch : Branch) (change : Change) (way : ℕ)
+    → IsRightReading s c tests view place r b → ((m : ℕ) → has w m ≡ (m == r)) → branch.region ≡ b.region → branch.ending ≡ ending.Good change
+    → Does change None never place.reservation never never never
+    → (IfSome b.arm (λ n. n < 16) → way ≡ way_of b.arm) → IfNone b.arm (way ≡ 0) → IsRight s c tests view place w branch way
+reading_right s c tests view place r w b branch change way right only region ends does some none = record {
+  own = right.own;
+  is = right.is;
+  uniform = only_uniform r w only;
+  proper = subst (λ x. IsProper x) (sym region) right.proper;
+  ends = λ u at. subst (λ e. Ends s s.own e u c) (sym ends) (right.looks change does u at.shown (both u at));
+  taken = λ u at free. arm_way tests u c b.arm way right.few some none (right.taken u at.shown (both u at, subst (λ x. IsInRegion s place.sender x u) region at.inside));
+}
+  where
+    both : (u : UnitState) → IsAt (view_in s view) place w branch.region u → HasBoth s place r u
+    both u at = record { reserved = at.reservation; registered = sender_is s view place r w branch.region u right.is only at }
+
+pub read_at : (s : Scope) (view : Possibilities) (place : Place) (r : ℕ) (w : Word) (b : Reading) (u : UnitState) → IsPlace s view place → ((m : ℕ) → has w m ≡ (m == r))
+    → IsAt (view_in s view) place w b.region u → IsReadAt s view place r b u
+read_at s view place r w b u is only at = (record { reserved = at.reservation; registered = sender_is s view place r w b.region u is only at }, at.inside)
+
+pub at_read : (s : Scope) (view : Possibilities) (place : Place) (r : ℕ) (w : Word) (b : Reading) (u : UnitState) → IsPlace s view place → ((m : ℕ) → has w m ≡ (m == r))
+    → Shows (view_in s view) u → IsReadAt s view place r b u → IsAt (view_in s view) place w b.region u
+at_read s view place r w b u is only shown read = record {
+  shown = shown;
+  reservation = read.0.reserved;
+  sender = λ t so. let same = one_registration s u place.sender t r is.fits.scope so read.0.registered in only t ∙ grind (arith, nat_tests);
+  inside = read.1;
+}
+
+-- one reading more
+pub readings_more : (s : Scope) (c : Command) (tests : List Test) (view : Possibilities) (place : Place) (r : ℕ) (readings : List Reading) (n : ℕ) (b : Reading) (old mid new : Tally)
+    → slice_get readings n ≡ Some b → Grows (view_in s view) c tests old mid (IsReadFirst s view place r readings n) → Grows (view_in s view) c tests mid new (IsReadAt s view place r b)
+    → Grows (view_in s view) c tests old new (IsReadFirst s view place r readings (n + 1))
+readings_more s c tests view place r readings n b old mid new is =
+    grows_then (view_in s view) c tests old mid new (IsReadFirst s view place r readings n) (IsReadAt s view place r b) (IsReadFirst s view place r readings (n + 1))
+    (λ u shown first. record { index = first.index; below = (let e = first.below in omega arith); reading = first.reading; listed = first.listed; at = first.at })
+    (λ u shown at. record { index = n; below = omega arith; reading = b; listed = is; at = at })
+    (λ u shown first. either u first (cases_eq first.index n))
+  where
+    either : (u : UnitState) (first : IsReadFirst s view place r readings (n + 1) u) → (first.index ≡ n) ⊎ (first.index ≡ n → ⊥) → IsReadFirst s view place r readings n u ⊎ IsReadAt s view place r b u
+    either u first (inl same) =
+        let one : first.reading ≡ b = same_Some first.reading b (sym first.listed ∙ ap (slice_get readings) same ∙ is) in
+        inr (subst (λ x. IsReadAt s view place r x u) one first.at)
+    either u first (inr other) = inl (record {
+      index = first.index;
+      below = (let e = first.below in let o : first.index < n = omega (arith, cases_order first.index n) in o);
+      reading = first.reading;
+      listed = first.listed;
+      at = first.at;
+    })
+
+pub readings_none : (s : Scope) (c : Command) (tests : List Test) (view : Possibilities) (place : Place) (r : ℕ) (readings : List Reading) (t : Tally)
+    → Grows (view_in s view) c tests t t (IsReadFirst s view place r readings 0)
+readings_none s c tests view place r readings t = grows_from_none (view_in s view) c tests t (IsReadFirst s view place r readings 0) (λ u shown first. absurd (let e = first.below in omega arith))
+
+-- ---- what is known of them
+
+-- a command whose purpose is to look, and whose key is accepted
+ends_so : (s : Scope) (view : Possibilities) (place : Place) (r : ℕ) (c : Command) → purpose_of s.keys c ≡ Some Look → ((k : Option ℕ) → is_refused k c ≡ false) → place.sender ≡ s.own → IsPlace s view place
+    → (change : Change) → Does change None never place.reservation never never never → (u : UnitState) → Shows (view_in s view) u → HasBoth s place r u → Ends s s.own (ending.Good change) u c
+ends_so s view place r c asks accepted own is change does u shown both =
+    subst (λ n. Ends s n (ending.Good change) u c) own
+    (same_ends s Look place.held place.sender (standing_of Look r) u c s.hosts change tt meets refl refl refl refl refl (subst (λ x. Does change None never x never never never) (number_at s view place is) does))
+  where
+    meets : Meets s Look place.held place.sender (standing_of Look r) u c
+    meets = record {
+      scope = is.fits.scope;
+      below = subst (λ n. place.sender < n) (sym is.hosts) place.there;
+      formed = shown.formed;
+      hosts = shown.hosts;
+      numbered = λ g below. let seen = shown.registrations g below in (seen.0, seen.1.1);
+      held = same_reservation s view place u is shown both.reserved;
+      standing = λ t so. ap (standing_of Look) (one_registration s u place.sender t r is.fits.scope so both.registered);
+      purpose = asks;
+      accepted = accepted (key_of u.registry place.sender);
+    }
+
+-- such a command only looks
+look_ends : (s : Scope) (view : Possibilities) (place : Place) (r : ℕ) (c : Command) → (is_read_keys c || is_read_reservation c) ≡ true → place.sender ≡ s.own → IsPlace s view place
+    → (change : Change) → Does change None never place.reservation never never never → (u : UnitState) → Shows (view_in s view) u → HasBoth s place r u → Ends s s.own (ending.Good change) u c
+look_ends s view place r (command.ReadKeys alloc) reads own is change does u shown both = ends_so s view place r (command.ReadKeys alloc) refl (λ k. refl) own is change does u shown both
+look_ends s view place r (command.ReadReservation alloc) reads own is change does u shown both = ends_so s view place r (command.ReadReservation alloc) refl (λ k. refl) own is change does u shown both
+look_ends s view place r _ reads own is change does u shown both = absurd (false≢true reads)
+
+pub right_readings : (s : Scope) (keys : List ℕ) (c : Command) (tests : List Test) (view : Possibilities) (place : Place) (r : ℕ) (readings : List Reading) → IsOwners s keys view place
+    → (is_read_keys c || is_read_reservation c) ≡ true → length tests ≤ 16 → ((hosts : ℕ) → AreReadings keys hosts tests c place.held place.sender r readings)
+    → ((b : Reading) → Contains readings b → IsProperReading b) → AreRightReadings s c tests view place r readings
+right_readings s keys c tests view place r readings owners reads few are proper b listed = record {
+  own = owners.own;
+  is = owners.is;
+  few = few;
+  reads = reads;
+  proper = proper b listed;
+  looks = look_ends s view place r c reads owners.own owners.is;
+  taken = λ u shown at.
+      (are s.hosts).right s u b owners.same_keys refl owners.is.fits.scope shown.formed shown.hosts (λ g below. let seen = shown.registrations g below in (seen.0, seen.1.1))
+      (same_reservation s view place u owners.is shown at.0.reserved) at.0.registered listed at.1;
+}
+
+pub readings_cover : (s : Scope) (keys : List ℕ) (c : Command) (tests : List Test) (view : Possibilities) (place : Place) (r : ℕ) (readings : List Reading) → IsOwners s keys view place
+    → ((hosts : ℕ) → AreReadings keys hosts tests c place.held place.sender r readings)
+    → (u : UnitState) → Shows (view_in s view) u → HasBoth s place r u → IsReadFirst s view place r readings (length readings) u
+readings_cover s keys c tests view place r readings owners are u shown both =
+    let read = (are s.hosts).covered s u owners.same_keys refl owners.is.fits.scope shown.formed shown.hosts (λ g below. let seen = shown.registrations g below in (seen.0, seen.1.1))
+    (same_reservation s view place u owners.is shown both.reserved) both.registered in
+    record {
+      index = read.listed.0;
+      below = read.listed.1;
+      reading = read.reading;
+      listed = slice_get-get_or readings read.listed.0 read.reading read.listed.1 ∙ ap (λ b. Some b) read.listed.2;
+      at = (both, read.inside);
+    }
+
+-- ---- the other commands
+
+or_neither : (a b : Bool) → (a || b) ≡ false → (a ≡ false) × (b ≡ false)
+or_neither false false is = (refl, refl)
+or_neither false true is = absurd (false≢true (sym is))
+or_neither true b is = absurd (false≢true (sym is))
+
+-- no test looks at the data of a command that returns none of it
+blind : (keys : List ℕ) (c : Command) (tests : List Test) → (is_read_keys c || is_read_reservation c) ≡ false → All (λ t. test_fits keys c t ≡ true) tests → AreBlind tests class.Good
+blind keys c tests none fit = All-weaker (λ t. test_fits keys c t ≡ true) (λ t. looks t ≡ false) each tests fit
+  where
+    neither : (is_read_keys c ≡ false) × (is_read_reservation c ≡ false)
+    neither = or_neither (is_read_keys c) (is_read_reservation c) none
+
+    each : (t : Test) → test_fits keys c t ≡ true → looks t ≡ false
+    each (test.GoodHas key) is = absurd (false≢true (sym neither.0 ∙ (and_parts (is_read_keys c) (is_declared keys key) is).0))
+    each (test.GoodHeld key) is = absurd (false≢true (sym neither.1 ∙ (and_parts (is_read_reservation c) (is_written_key keys key) is).0))
+    each test.GoodUnheld is = absurd (false≢true (sym neither.1 ∙ (and_parts (is_read_reservation c) true is).0))
+    each _ is = refl
+
+pub arm_taken : (keys : List ℕ) (c : Command) (tests : List Test) (arm : Option ℕ) (way : ℕ) (u : State) → (is_read_keys c || is_read_reservation c) ≡ false → All (λ t. test_fits keys c t ≡ true) tests
+    → length tests ≤ 16 → arm ≡ position (λ t. takes t class.Good) tests → (IfSome arm (λ n. n < 16) → way ≡ way_of arm) → IfNone arm (way ≡ 0)
+    → first_test tests (good (data_of u c)) ≡ arm_of way
+arm_taken keys c tests arm way u none fit few is some nothing =
+    first_of_class tests class.Good (good (data_of u c)) refl (blind keys c tests none fit) ∙ at arm is some nothing
+  where
+    at : (arm : Option ℕ) → arm ≡ position (λ t. takes t class.Good) tests → (IfSome arm (λ n. n < 16) → way ≡ way_of arm) → IfNone arm (way ≡ 0) → position (λ t. takes t class.Good) tests ≡ arm_of way
+    at None is some nothing = sym is ∙ ap arm_of (sym nothing)
+    at (Some n) is some nothing =
+        let found = position-Some (λ t. takes t class.Good) tests n test.Good (sym is) in
+        let small : n < 16 = (let e = found.0 in omega arith) in
+        sym is ∙ ap arm_of (sym (some small))

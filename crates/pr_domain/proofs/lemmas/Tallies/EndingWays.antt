@@ -1,0 +1,220 @@
+-- What is added for each way in which a command can end.
+use Rattle.std.proofs.Common.{◌≡◌, ◌≢◌, ◌⊎◌, ◌↔◌, ℕ, zero, suc, ◌+◌, ◌-◌, ◌<◌, ◌≤◌, Bool, true, false, IsTrue, ◌==◌, ◌||◌, List, length, Some, refl, sym, ap, ◌∙◌, subst, inl, inr, lit<, arith}
+use Rattle.std.specs.List.{slice_get}
+use Rattle.std.proofs.lemmas.Bool.{false≢true}
+use Rattle.std.proofs.lemmas.Bool.Decides.{eqb_tells}
+use Rattle.std.proofs.lemmas.List.Quantifiers.{position-Some}
+use Rattle.pr_cdb.specs.declared.command.Command.{Command}
+use Rattle.pr_cdb.specs.declared.reply.Reply.{Reply}
+use Rattle.pr_cdb.specs.declared.reply.Sense.{Sense}
+use Rattle.pr_cdb.specs.declared.wire.Request.TheVariants.{Plain}
+use Rattle.pr_cdb.specs.Ranges.{Fits as FitsCommand}
+use Rattle.pr_attention.specs.declared.attention.Attention.{Attention}
+use Rattle.pr_attention.specs.declared.attention.Attention.TheVariants.{PowerOn}
+use Rattle.pr_attention.specs.Attentions.{power_on, code_of}
+use Rattle.pr_unit.specs.UnitStates.{UnitState, is_pending}
+use Rattle.pr_unit.specs.Conflicts.{command_conflicts}
+use Rattle.pr_unit.specs.Faults.{command_fault}
+use Rattle.pr_unit.specs.Replies.{good, check, conflict, report}
+use Rattle.pr_script.specs.declared.script.Test.{Test}
+use Rattle.pr_script.specs.declared.script.Test.TheVariants as test
+use Rattle.pr_script.specs.Grammar.{is_written}
+use Rattle.pr_roles.specs.Fitting.{is_reservation}
+use Rattle.pr_sets.specs.declared.word.Word.{Word}
+use Rattle.pr_sets.specs.Numbers.{Numbers}
+use Rattle.pr_views.specs.declared.view.ViewOf.{ViewOf}
+use Rattle.pr_sets.specs.Words.{has}
+use Rattle.pr_sets.specs.Wides.{has_wide}
+use Rattle.pr_views.specs.declared.possibilities.Possibilities.{Possibilities}
+use Rattle.pr_views.specs.Possibilities.{Item, Registration, Reservation, Attentions, count_of_reservations}
+use Rattle.pr_views.specs.Views.{View}
+use Rattle.pr_views.specs.Portions.{has_at}
+use Rattle.pr_views.specs.Rooms.{AreInRange}
+use Rattle.pr_views.proofs.lemmas.Possibilities.Numbers.{reservation_of}
+use Rattle.pr_domain.specs.declared.landing.Landing.{Landing}
+use Rattle.pr_domain.specs.declared.landing.Landing.TheVariants.{Arm, NoArm}
+use Rattle.pr_domain.specs.declared.landing.Class.TheVariants.{Good}
+use Rattle.pr_script.specs.Takes.{matches}
+use Rattle.pr_domain.specs.declared.reporting.Sending.{Sending}
+use Rattle.pr_domain.specs.Landings.{IsClass, IsLanding}
+use Rattle.pr_domain.specs.inside.Tallies.{IsRegistered, has_part, Leaves}
+use Rattle.pr_domain.specs.declared.reporting.Refused.{Refused}
+use Rattle.pr_domain.specs.inside.Reporting.{AreReported, AreCalm, AreQuiet, Ending, Reports, Conflicts, Fails, EndsGood, Refuses, refusal, MayReport, Ends, LandsBy, LandsGood, IsLater, IsOfWay, LandsGoodBelow, AreMore, HasOutcome, landing_at}
+use Rattle.pr_domain.specs.inside.Sendings.{scope_of_sending, view_of_sending, IsAsked}
+use Rattle.pr_domain.proofs.lemmas.Tallies.Origins.{one_class, one_landing, settled, IsWay, IsTold, from_part, way_lands}
+use Rattle.pr_regions.proofs.lemmas.Showing.AlikeViews.{number_below}
+use Rattle.pr_domain.proofs.lemmas.Tallies.Possibilities.{way_of_tally, either_way, told_power_on, told_later, told_conflict, told_refusal, told_fault, told_good}
+
+-- ---- one way
+
+module _ (v : View) (c : Command) (tests : List Test) (ending : Ending) (l : Landing) (Left : UnitState → Item → Type 0) (p : Possibilities) (pending : Word)
+    (way : IsWay v Left p) (told : IsTold v c tests ending l Left pending)
+    (written : is_written v.scope.keys c ≡ true) (whole : FitsCommand c) (there : v.scope.own < v.scope.hosts) where
+  -- its possibilities are numbers of registrations, reservations and attentions
+  pub range : (x n : ℕ) → has_wide p.reservations x ≡ true → has pending n ≡ true → AreInRange v.scope.hosts v.scope.keys (record p { pending = pending })
+  range x n reserved pends = record {
+    registrations = λ g r small has. (from_part v c tests ending l Left p pending way told (Registration g r) n has pends).2.is.1;
+    reservations = λ y has.
+        let from = from_part v c tests ending l Left p pending way told (Reservation y) n has pends in
+        let after = settled v c written whole there ending from.0 from.2.reply from.2.after from.1 from.2.ends in
+        let number = from.2.is in
+        subst (λ m. m < count_of_reservations v.scope.hosts) (sym number)
+        (number_below v.scope.hosts from.2.after.registry.held (subst (λ m. is_reservation m from.2.after.registry.held ≡ true) after.hosts (reservation_of from.2.after.registry after.formed.registry)));
+    pending = λ m has. (from_part v c tests ending l Left p pending way told (Reservation x) m reserved has).2.left.0;
+  }
+
+  -- where each reply of this way lands there
+  pub lands_so : ((u : UnitState) (r : Reply) (w : UnitState) → Ends ending c v.scope.own u r w → IsLanding tests r l)
+      → (m : Landing) (i : Item) → ((m ≡ l) × IsOfWay v.scope p pending i) ↔ LandsBy v c tests ending m i
+  lands_so landing m i = (
+    λ is. ((way_lands v c tests ending l Left p pending way told written whole there m i).0 is).1,
+    λ by. (way_lands v c tests ending l Left p pending way told written whole there m i).1 (one_landing tests by.reply m l by.landing (landing by.from by.reply by.after by.ends), by),
+  )
+
+-- what is known of a way to end
+pub record IsAddedBy (q : Sending) (ending : Ending) (This : Landing → Item → Type 0) (l : Landing) (p : Possibilities) (pending : Word) : Type 0 where
+  pub range : (x n : ℕ) → has_wide p.reservations x ≡ true → has pending n ≡ true → AreInRange q.hosts q.keys.now (record p { pending = pending })
+  pub lands : (m : Landing) (i : Item) → ((m ≡ l) × IsOfWay (scope_of_sending q) p pending i) ↔ This m i
+
+module _ (q : Sending) (asked : IsAsked q) where
+  by_reply : (ending : Ending) (l : Landing) (Left : UnitState → Item → Type 0) (p : Possibilities) (pending : Word) → IsWay (view_of_sending q) Left p → IsTold (view_of_sending q) q.command q.tests.now ending l Left pending
+      → ((u : UnitState) (r : Reply) (w : UnitState) → Ends ending q.command q.sender u r w → IsLanding q.tests.now r l)
+      → IsAddedBy q ending (LandsBy (view_of_sending q) q.command q.tests.now ending) l p pending
+  by_reply ending l Left p pending way told landing = record {
+    range = range (view_of_sending q) q.command q.tests.now ending l Left p pending way told asked.written asked.whole asked.fits.scope.own;
+    lands = lands_so (view_of_sending q) q.command q.tests.now ending l Left p pending way told asked.written asked.whole asked.fits.scope.own landing;
+  }
+
+  pub adds_power_on : (l : Landing) (p free either : Possibilities) (left : Word) → slice_get q.tally.now.ways 0 ≡ Some p → slice_get q.tally.now.ways 1 ≡ Some free
+      → ((j : Item) → has_part either j ≡ (has_part p j || has_part free j)) → AreReported 16 q.known.pending PowerOn left → IsLanding q.tests.now (report (Plain q.command) power_on) l
+      → IsAddedBy q (Reports PowerOn) (LandsBy (view_of_sending q) q.command q.tests.now (Reports PowerOn)) l either left
+  adds_power_on l p free either left first second is are landing =
+      by_reply (Reports PowerOn) l (IsRegistered (scope_of_sending q)) either left
+      (either_way (view_of_sending q) q.command q.tests.now q.tally.now p free either asked.tally first second is)
+      (told_power_on (scope_of_sending q) q.known q.command q.tests.now l left are landing)
+      (λ u r w ends. subst (λ x. IsLanding q.tests.now x l) (sym ends.1.1) landing)
+
+  pub adds_refusal : (refused : Refused) (l : Landing) (p free either : Possibilities) → slice_get q.tally.now.ways 0 ≡ Some p → slice_get q.tally.now.ways 1 ≡ Some free
+      → ((j : Item) → has_part either j ≡ (has_part p j || has_part free j)) → IsLanding q.tests.now (refusal refused) l
+      → IsAddedBy q (Refuses refused) (LandsBy (view_of_sending q) q.command q.tests.now (Refuses refused)) l either q.known.pending
+  adds_refusal refused l p free either first second is landing =
+      by_reply (Refuses refused) l (IsRegistered (scope_of_sending q)) either q.known.pending
+      (either_way (view_of_sending q) q.command q.tests.now q.tally.now p free either asked.tally first second is)
+      (told_refusal (scope_of_sending q) q.known q.command q.tests.now l refused landing)
+      (λ u r w ends. subst (λ x. IsLanding q.tests.now x l) (sym ends.0) landing)
+
+  may : (a : Attention) → IsLater a → (u : UnitState) → MayReport q.command q.sender u a ↔ ((is_pending u q.sender power_on ≡ false) × (command_conflicts u.registry q.sender q.command ≡ false))
+  may PowerOn later u = absurd later
+  may _ later u = (λ x. x, λ x. x)
+
+  pub adds_report : (a : Attention) (l : Landing) (p : Possibilities) (calm left : Word) → IsLater a → slice_get q.tally.now.ways 1 ≡ Some p → AreCalm q.known calm → AreReported 16 calm a left
+      → IsLanding q.tests.now (report (Plain q.command) (code_of a)) l → IsAddedBy q (Reports a) (LandsBy (view_of_sending q) q.command q.tests.now (Reports a)) l p left
+  adds_report a l p calm left later second calms are landing =
+      by_reply (Reports a) l (Leaves (scope_of_sending q) q.command q.tests.now 1) p left
+      (way_of_tally (view_of_sending q) q.command q.tests.now q.tally.now 1 p asked.tally second)
+      (told_later (scope_of_sending q) q.known q.command q.tests.now l a calm left (may a later) calms are landing)
+      (λ u r w ends. subst (λ x. IsLanding q.tests.now x l) (sym ends.1.1) landing)
+
+  pub adds_conflict : (l : Landing) (p : Possibilities) (calm : Word) → slice_get q.tally.now.ways 0 ≡ Some p → AreCalm q.known calm → IsLanding q.tests.now conflict l
+      → IsAddedBy q Conflicts (LandsBy (view_of_sending q) q.command q.tests.now Conflicts) l p calm
+  adds_conflict l p calm first calms landing =
+      by_reply Conflicts l (Leaves (scope_of_sending q) q.command q.tests.now 0) p calm
+      (way_of_tally (view_of_sending q) q.command q.tests.now q.tally.now 0 p asked.tally first)
+      (told_conflict (scope_of_sending q) q.known q.command q.tests.now l calm calms landing)
+      (λ u r w ends. subst (λ x. IsLanding q.tests.now x l) (sym ends.2) landing)
+
+  pub adds_fault : (l : Landing) (p : Possibilities) (quiet : Word) (sense : Sense) → slice_get q.tally.now.ways 2 ≡ Some p → AreQuiet q.known quiet
+      → ((u : UnitState) (x : Sense) → command_fault u.registry q.sender q.command ≡ Some x → x ≡ sense) → IsLanding q.tests.now (check sense) l
+      → IsAddedBy q Fails (LandsBy (view_of_sending q) q.command q.tests.now Fails) l p quiet
+  adds_fault l p quiet sense third quiets fixed landing =
+      by_reply Fails l (Leaves (scope_of_sending q) q.command q.tests.now 2) p quiet
+      (way_of_tally (view_of_sending q) q.command q.tests.now q.tally.now 2 p asked.tally third)
+      (told_fault (scope_of_sending q) q.known q.command q.tests.now l quiet sense quiets fixed landing)
+      (λ u r w ends. subst (λ x. IsLanding q.tests.now x l) (sym (ends.4 ∙ ap check (fixed u ends.2 ends.3))) landing)
+
+  pub adds_good : (l : Landing) (p : Possibilities) (quiet : Word) (arm : ℕ) → slice_get q.tally.now.ways (suc (suc (suc arm))) ≡ Some p → AreQuiet q.known quiet → l ≡ landing_at arm
+      → IsAddedBy q EndsGood (LandsGood (view_of_sending q) q.command q.tests.now arm) l p quiet
+  adds_good l p quiet arm there quiets is_landing =
+      let v = view_of_sending q in
+      let Left = Leaves (scope_of_sending q) q.command q.tests.now (suc (suc (suc arm))) in
+      let way = way_of_tally v q.command q.tests.now q.tally.now (suc (suc (suc arm))) p asked.tally there in
+      let told = told_good (scope_of_sending q) q.known q.command q.tests.now l quiet arm quiets is_landing in
+      record {
+        range = range v q.command q.tests.now EndsGood l Left p quiet way told asked.written asked.whole asked.fits.scope.own;
+        lands = λ m i.
+            let both = way_lands v q.command q.tests.now EndsGood l Left p quiet way told asked.written asked.whole asked.fits.scope.own m i in
+            (λ is. let so = both.0 is in (so.0 ∙ is_landing, so.1), λ is. both.1 (is.0 ∙ sym is_landing, is.1));
+      }
+
+-- ---- what the code reads
+
+pub part_joined : (p free either : Possibilities) → ((g r : ℕ) → has_at either.registrations g r ≡ (has_at p.registrations g r || has_at free.registrations g r))
+    → ((x : ℕ) → has_wide either.reservations x ≡ (has_wide p.reservations x || has_wide free.reservations x)) → (j : Item) → has_part either j ≡ (has_part p j || has_part free j)
+part_joined p free either registrations reservations (Registration g r) = registrations g r
+part_joined p free either registrations reservations (Reservation x) = reservations x
+part_joined p free either registrations reservations (Attentions q) = refl
+
+pub three_more : (n : ℕ) → suc (suc (suc n)) ≡ 3 + n
+three_more n = omega arith
+
+pub at_arm : (n : ℕ) → (n ≡ 0 → ⊥) → Arm (n - 1) ≡ landing_at n
+at_arm zero some = absurd (some refl)
+at_arm (suc n) some = ap Arm (omega arith)
+
+-- ---- GOOD with the data taken by each arm
+
+pub good_more : {S : Type 0} (members : S → Numbers) (own : ℕ) (old mid new : List (Landing × ViewOf S)) (v : View) (c : Command) (tests : List Test) (arm : ℕ)
+    → AreMore members own old (LandsGoodBelow v c tests arm) mid → AreMore members own mid (LandsGood v c tests arm) new → AreMore members own old (LandsGoodBelow v c tests (arm + 1)) new
+good_more members own old mid new v c tests arm first second l i = (λ has. late ((second l i).0 has), back)
+  where
+    early : HasOutcome members own old l i ⊎ LandsGoodBelow v c tests arm l i → HasOutcome members own old l i ⊎ LandsGoodBelow v c tests (arm + 1) l i
+    early (inl before) = inl before
+    early (inr lands) = inr (lands.0, (let small = lands.1 in omega arith), lands.2)
+
+    late : HasOutcome members own mid l i ⊎ LandsGood v c tests arm l i → HasOutcome members own old l i ⊎ LandsGoodBelow v c tests (arm + 1) l i
+    late (inl before) = early ((first l i).0 before)
+    late (inr lands) = inr (arm, omega arith, lands)
+
+    back : HasOutcome members own old l i ⊎ LandsGoodBelow v c tests (arm + 1) l i → HasOutcome members own new l i
+    back (inl before) = (second l i).1 (inl ((first l i).1 (inl before)))
+    back (inr lands) = at (eqb_tells lands.0 arm)
+      where
+        at : (((lands.0 == arm) ≡ true) × (lands.0 ≡ arm)) ⊎ (((lands.0 == arm) ≡ false) × (lands.0 ≢ arm)) → HasOutcome members own new l i
+        at (inl same) = (second l i).1 (inr (subst (λ n. LandsGood v c tests n l i) same.1 lands.2))
+        at (inr other) = (second l i).1 (inl ((first l i).1 (inr (lands.0, (let small = lands.1 in let differs = other.1 in omega arith), lands.2))))
+
+arm_of_landing : (tests : List Test) (r : Reply) (l : Landing) → length tests ≤ 16 → IsClass r Good → IsLanding tests r l → (arm : ℕ) × (arm < 17) × (l ≡ landing_at arm)
+arm_of_landing tests r (Arm n) few good is =
+    let small = (position-Some (λ t. matches t r) tests n test.Good is).0 in
+    (suc n, omega arith, refl)
+arm_of_landing tests r (NoArm class) few good is = (0, lit< tt, ap NoArm (one_class r class Good is.1 good))
+
+pub good_all : (v : View) (c : Command) (tests : List Test) (bound : ℕ) → length tests ≤ 16 → 17 ≤ bound → (l : Landing) (i : Item) → LandsGoodBelow v c tests bound l i ↔ LandsBy v c tests EndsGood l i
+good_all v c tests bound few all l i = (
+  λ lands. lands.2.1,
+  λ by.
+      let arm = arm_of_landing tests by.reply l few (ap (λ (r : Reply). r.status) by.ends.3) by.landing in
+      (arm.0, (let small = arm.1 in omega arith), (arm.2, by)),
+)
+
+-- ---- a refusal that is declared, or is not
+
+pub more_declared : {S : Type 0} (members : S → Numbers) (own : ℕ) (old new : List (Landing × ViewOf S)) (declared : Bool) (This : Landing → Item → Type 0) → declared ≡ true
+    → AreMore members own old This new → AreMore members own old (λ l i. IsTrue declared × This l i) new
+more_declared members own old new declared This is more l i = (λ has. on ((more l i).0 has), λ x. (more l i).1 (off x))
+  where
+    on : HasOutcome members own old l i ⊎ This l i → HasOutcome members own old l i ⊎ (IsTrue declared × This l i)
+    on (inl before) = inl before
+    on (inr this) = inr (is, this)
+
+    off : HasOutcome members own old l i ⊎ (IsTrue declared × This l i) → HasOutcome members own old l i ⊎ This l i
+    off (inl before) = inl before
+    off (inr this) = inr this.1
+
+pub none_declared : {S : Type 0} (members : S → Numbers) (own : ℕ) (old : List (Landing × ViewOf S)) (declared : Bool) (This : Landing → Item → Type 0) → declared ≡ false
+    → AreMore members own old (λ l i. IsTrue declared × This l i) old
+none_declared members own old declared This is l i = (λ has. inl has, off)
+  where
+    off : HasOutcome members own old l i ⊎ (IsTrue declared × This l i) → HasOutcome members own old l i
+    off (inl before) = before
+    off (inr this) = absurd (false≢true (sym is ∙ this.0))

@@ -1,0 +1,162 @@
+-- What a sender with one registration asks for, and how that ends.
+use Rattle.std.proofs.Common.{◌≡◌, ℕ, ◌<◌, Bool, true, false, ◌==◌, ◌&&◌, not, if◌then◌else◌, option_map, nat_lt, List, length, Option, Some, None, sym, ap, ◌∙◌, subst, arith}
+use Rattle.std.specs.List.{Contains}
+use Rattle.std.proofs.lemmas.Bool.{false≢true, or_left, lt-ltb}
+use Rattle.std.proofs.lemmas.Bool.Decides.{nat_tests}
+use Rattle.std.proofs.lemmas.Option.{slice_get-get_or}
+use Rattle.pr_cdb.specs.declared.command.Command.{Command}
+use Rattle.pr_cdb.specs.declared.command.Command.TheVariants as command
+use Rattle.pr_registry.specs.declared.held.Held.{Held}
+use Rattle.pr_registry.specs.declared.held.Held.TheVariants.{One, All as Everybody}
+use Rattle.pr_registry.specs.Hosts.{is_key, has_no_registrant}
+use Rattle.pr_registry.specs.Registrations.{State, key_of}
+use Rattle.pr_registry.specs.Changes.{conflicts_with_reserve}
+use Rattle.pr_unit.specs.UnitStates.{UnitState}
+use Rattle.pr_unit.specs.Conflicts.{command_conflicts}
+use Rattle.pr_script.specs.declared.script.Test.{Test}
+use Rattle.pr_sets.specs.declared.word.Word.{Word}
+use Rattle.pr_sets.specs.Words.{has}
+use Rattle.pr_views.specs.declared.possibilities.Possibilities.{Possibilities}
+use Rattle.pr_views.specs.Possibilities.{Scope, Registration, IsSo}
+use Rattle.pr_views.specs.Views.{Shows}
+use Rattle.pr_views.specs.Portions.{view_in, HasSomebody}
+use Rattle.pr_views.proofs.lemmas.Possibilities.Numbers.{one_registration}
+use Rattle.pr_regions.specs.declared.purpose.Purpose.{Purpose}
+use Rattle.pr_regions.specs.declared.region.Branch.{Branch}
+use Rattle.pr_regions.specs.declared.region.Region.{Region}
+use Rattle.pr_regions.specs.declared.region.Ending.TheVariants as ending
+use Rattle.pr_regions.specs.Purposes.{is_refused}
+use Rattle.pr_regions.specs.Regions.{AreBranches, Meets, filter_of, standing_of, Ends, IsUntestedOrRegistered, IsProper as IsProperBranch}
+use Rattle.pr_regions.specs.declared.place.Place.{Place}
+use Rattle.pr_regions.specs.Gathering.{IsPlace, IsUniform, IsAt}
+use Rattle.pr_domain.specs.inside.Tallies.{IsRight, AreRight, IsInOne, HasBoth, IsAsked, IsRefusedAt}
+use Rattle.pr_regions.proofs.lemmas.Portions.GatheredStates.{few_keys, same_reservation}
+
+-- a sender with this registration alone
+pub only_uniform : (r : ℕ) (w : Word) → ((m : ℕ) → has w m ≡ (m == r)) → IsUniform w
+only_uniform r w only none m there =
+    let zero_is : 0 ≡ r = (let tells = sym (only 0) ∙ none in grind (arith, nat_tests)) in
+    let m_is : m ≡ r = (let tells = sym (only m) ∙ there in grind (arith, nat_tests)) in
+    m_is ∙ sym zero_is
+
+-- the sender's registration in a state where it is among those of the word
+pub sender_is : (s : Scope) (view : Possibilities) (place : Place) (r : ℕ) (w : Word) (region : Region) (u : UnitState) → IsPlace s view place → ((m : ℕ) → has w m ≡ (m == r))
+    → IsAt (view_in s view) place w region u → IsSo s u (Registration place.sender r)
+sender_is s view place r w region u is only at =
+    let below : place.sender < s.hosts = subst (λ n. place.sender < n) (sym is.hosts) place.there in
+    let seen = at.shown.registrations place.sender below in
+    let same : seen.0 ≡ r = (let tells = sym (only seen.0) ∙ at.sender seen.0 seen.1.1 in grind (arith, nat_tests)) in
+    subst (λ n. IsSo s u (Registration place.sender n)) same seen.1.1
+
+-- the command as the branches see it
+meets : (s : Scope) (c : Command) (tests : List Test) (view : Possibilities) (place : Place) (purpose : Purpose) (arm r : ℕ) (u : UnitState) → IsAsked s c tests view place purpose arm r
+    → Shows (view_in s view) u → HasBoth s place r u → Meets s purpose place.held place.sender (standing_of purpose r) u c
+meets s c tests view place purpose arm r u asked shown both = record {
+  scope = asked.is.fits.scope;
+  below = subst (λ n. place.sender < n) (sym asked.is.hosts) place.there;
+  formed = shown.formed;
+  hosts = shown.hosts;
+  numbered = λ g below. let seen = shown.registrations g below in (seen.0, seen.1.1);
+  held = same_reservation s view place u asked.is shown both.reserved;
+  standing = λ t so. ap (standing_of purpose) (one_registration s u place.sender t r asked.is.fits.scope so both.registered);
+  purpose = asked.asks;
+  accepted = subst (λ k. is_refused k c ≡ false) (sym both.registered.2) asked.accepted;
+}
+
+pub asked_right : (s : Scope) (c : Command) (tests : List Test) (view : Possibilities) (place : Place) (purpose : Purpose) (arm r : ℕ) (w : Word) (branches : List Branch)
+    → IsAsked s c tests view place purpose arm r → ((m : ℕ) → has w m ≡ (m == r)) → AreBranches place.hosts purpose place.held place.sender (standing_of purpose r) branches
+    → ((b : Branch) → Contains branches b → IsProperBranch b) → AreRight s c tests view place w branches arm
+asked_right s c tests view place purpose arm r w branches asked only are proper b listed = record {
+  own = asked.own;
+  is = asked.is;
+  uniform = only_uniform r w only;
+  proper = proper b listed;
+  ends = λ u at.
+      let both : HasBoth s place r u = record { reserved = at.reservation; registered = sender_is s view place r w b.region u asked.is only at } in
+      let decided = are s u c asked.is.hosts (meets s c tests view place purpose arm r u asked at.shown both) in
+      subst (λ n. Ends s n b.ending u c) asked.own (decided.right b listed at.inside);
+  taken = λ u at free. asked.taken u.registry;
+}
+
+-- each state with this registration is in the region of one of the branches, and the other way round
+pub asked_covers : (s : Scope) (c : Command) (tests : List Test) (view : Possibilities) (place : Place) (purpose : Purpose) (arm r : ℕ) (w : Word) (branches : List Branch)
+    → IsAsked s c tests view place purpose arm r → ((m : ℕ) → has w m ≡ (m == r)) → AreBranches place.hosts purpose place.held place.sender (standing_of purpose r) branches
+    → (u : UnitState) → Shows (view_in s view) u → HasBoth s place r u → IsInOne (view_in s view) place w branches (length branches) u
+asked_covers s c tests view place purpose arm r w branches asked only are u shown both =
+    let decided = are s u c asked.is.hosts (meets s c tests view place purpose arm r u asked shown both) in
+    let covered = decided.covered in
+    record {
+      index = covered.listed.0;
+      below = covered.listed.1;
+      branch = covered.branch;
+      listed = slice_get-get_or branches covered.listed.0 covered.branch covered.listed.1 ∙ ap (λ b. Some b) covered.listed.2;
+      at = record {
+        shown = shown;
+        reservation = both.reserved;
+        sender = λ t so.
+            let same = one_registration s u place.sender t r asked.is.fits.scope so both.registered in
+            only t ∙ grind (arith, nat_tests);
+        inside = covered.inside;
+      };
+    }
+
+pub asked_back : (s : Scope) (c : Command) (tests : List Test) (view : Possibilities) (place : Place) (purpose : Purpose) (arm r : ℕ) (w : Word) (branches : List Branch)
+    → IsAsked s c tests view place purpose arm r → ((m : ℕ) → has w m ≡ (m == r)) → (n : ℕ)
+    → (u : UnitState) → Shows (view_in s view) u → IsInOne (view_in s view) place w branches n u → HasBoth s place r u
+asked_back s c tests view place purpose arm r w branches asked only n u shown one =
+    record { reserved = one.at.reservation; registered = sender_is s view place r w one.branch.region u asked.is only one.at }
+
+-- ---- a key that is not accepted
+
+-- it is a conflict
+pub refused_conflicts : (u : State) (h : ℕ) (c : Command) → is_refused (key_of u h) c ≡ true → command_conflicts u h c ≡ true
+refused_conflicts u h (command.Read lba blocks) is = absurd (false≢true is)
+refused_conflicts u h (command.Write lba blocks) is = absurd (false≢true is)
+refused_conflicts u h (command.Reserve rk kind) is = or_left (not (is_key (key_of u h) rk)) (conflicts_with_reserve u h u.held kind) is
+refused_conflicts u h (command.Preempt rk sark kind) is = or_left (not (is_key (key_of u h) rk)) (not (sark == 0) && has_no_registrant u.keys sark) is
+refused_conflicts u h (command.PreemptAbort rk sark kind) is = or_left (not (is_key (key_of u h) rk)) (not (sark == 0) && has_no_registrant u.keys sark) is
+refused_conflicts u h _ is = is
+
+-- every state is in the region that leaves anything
+pub anywhere : (s : Scope) (view : Possibilities) (place : Place) (r : ℕ) (w any : Word) (region : Region) (u : UnitState) → IsPlace s view place → ((m : ℕ) → has w m ≡ (m == r))
+    → ((n : ℕ) → has any n ≡ nat_lt n 13) → region.holder ≡ any → region.others ≡ any → region.somebody ≡ None
+    → Shows (view_in s view) u → HasBoth s place r u → IsAt (view_in s view) place w region u
+anywhere s view place r w any region u is only below holder others none shown both = record {
+  shown = shown;
+  reservation = both.reserved;
+  sender = λ t so. let same = one_registration s u place.sender t r is.fits.scope so both.registered in only t ∙ grind (arith, nat_tests);
+  inside = record {
+    registrations = λ g n other so. passes n (let few = few_keys s.keys is.fits.scope.keys in let small = so.1 in omega arith) u.registry.held g;
+    somebody = subst (λ o. HasSomebody s u place.sender (option_map has o)) (sym none) tt;
+  };
+}
+  where
+    passes : (n : ℕ) → n < 13 → (v : Option Held) (g : ℕ) → has (filter_of region v g) n ≡ true
+    passes n small None g = ap (λ x. has x n) others ∙ below n ∙ lt-ltb n 13 small
+    passes n small (Some (One kind h)) g = pick (h == g)
+      where
+        pick : (b : Bool) → has (if b then region.holder else region.others) n ≡ true
+        pick true = ap (λ x. has x n) holder ∙ below n ∙ lt-ltb n 13 small
+        pick false = ap (λ x. has x n) others ∙ below n ∙ lt-ltb n 13 small
+    passes n small (Some (Everybody kind)) g = ap (λ x. has x n) others ∙ below n ∙ lt-ltb n 13 small
+
+pub refused_right : (s : Scope) (c : Command) (tests : List Test) (view : Possibilities) (place : Place) (r : ℕ) (w : Word) (b : Branch) (arm : ℕ)
+    → IsRefusedAt s c view place r → ((m : ℕ) → has w m ≡ (m == r)) → b.ending ≡ ending.Conflict → b.region.somebody ≡ None → IsRight s c tests view place w b arm
+refused_right s c tests view place r w b arm refused only conflict untested = record {
+  own = refused.own;
+  is = refused.is;
+  uniform = only_uniform r w only;
+  proper = subst IsUntestedOrRegistered (sym untested) tt;
+  ends = λ u at. subst (λ e. Ends s s.own e u c) (sym conflict) (conflicts u at);
+  taken = λ u at free. absurd (false≢true (sym free ∙ conflicts u at));
+}
+  where
+    conflicts : (u : UnitState) → IsAt (view_in s view) place w b.region u → command_conflicts u.registry s.own c ≡ true
+    conflicts u at =
+        let so = sender_is s view place r w b.region u refused.is only at in
+        subst (λ n. command_conflicts u.registry n c ≡ true) refused.own
+        (refused_conflicts u.registry place.sender c (subst (λ k. is_refused k c ≡ true) (sym so.2) refused.refused))
+
+pub refused_back : (s : Scope) (c : Command) (view : Possibilities) (place : Place) (r : ℕ) (w : Word) (region : Region) → IsRefusedAt s c view place r → ((m : ℕ) → has w m ≡ (m == r))
+    → (u : UnitState) → IsAt (view_in s view) place w region u → HasBoth s place r u
+refused_back s c view place r w region refused only u at = record { reserved = at.reservation; registered = sender_is s view place r w region u refused.is only at }

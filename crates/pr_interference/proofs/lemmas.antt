@@ -1,0 +1,6 @@
+pub mod Clauses
+pub mod Closing
+pub mod Interference
+pub mod Interfering
+pub mod Marks
+pub mod Reaching

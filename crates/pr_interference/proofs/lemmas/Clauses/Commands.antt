@@ -1,0 +1,143 @@
+-- What a command that a clause names asks for, and a command of each clause.
+use Rattle.std.proofs.Common.{◌≡◌, ℕ, Bool, true, false, ◌==◌, ◌&&◌, if◌then◌else◌, List, Option, Some, None, option_map, refl, sym, ap, ◌∙◌, subst, inl, inr, ◌⊎◌, arith}
+use Rattle.std.specs.FinSet as set
+use Rattle.std.proofs.lemmas.Bool.{and_parts, false≢true}
+use Rattle.std.proofs.lemmas.Bool.Decides.{nat_tests}
+use Rattle.pr_cdb.specs.declared.command.Kind.{Kind}
+use Rattle.pr_cdb.specs.declared.command.Kind.TheVariants.{WriteExclusive}
+use Rattle.pr_cdb.specs.declared.command.Command.{Command}
+use Rattle.pr_cdb.specs.declared.command.Command.TheVariants as command
+use Rattle.pr_cdb.specs.declared.wire.Request.TheVariants.{Plain}
+use Rattle.pr_cdb.specs.Kinds.{code_of, kind_of_code}
+use Rattle.pr_registry.specs.declared.held.Held.{Held}
+use Rattle.pr_registry.specs.Hosts.{Hosts, nobody}
+use Rattle.pr_registry.specs.Registrations.{IsKey, others, is_holder, kind_of}
+use Rattle.pr_registry.specs.Changes.{no_change, is_kind, is_held_as, is_released, is_told_of_loss}
+use Rattle.pr_registry.proofs.lemmas.Sets.{contains-nobody}
+use Rattle.pr_unit.specs.UnitStates.{UnitState, effect}
+use Rattle.pr_unit.specs.Laws.{request_looks}
+use Rattle.pr_roles.specs.declared.role.Action.{Action}
+use Rattle.pr_roles.specs.declared.role.Action.TheVariants as action
+use Rattle.pr_roles.specs.Permits.{names, is_preempting}
+use Rattle.pr_roles.specs.Fitting.{AreDeclared, is_action}
+use Rattle.pr_script.specs.Grammar.{is_declared}
+use Rattle.pr_regions.specs.declared.purpose.Purpose.{Purpose}
+use Rattle.pr_regions.specs.declared.purpose.Purpose.TheVariants.{Register, Unregister, Reserve, Release, Clear}
+use Rattle.pr_regions.specs.Purposes.{number_in, purpose_of_register, purpose_of_preempt, purpose_of}
+use Rattle.pr_regions.proofs.lemmas.Regions.ToldAttentions.{contains-told, is_pending_after}
+use Rattle.pr_interference.specs.inside.Clauses.{purpose_for}
+use Rattle.pr_interference.proofs.lemmas.Interference.Conduct.{any_found}
+use Rattle.pr_regions.proofs.lemmas.Showing.AlikeStates.{IsLike}
+
+-- ---- types and keys
+
+kind_back : (k : Kind) → kind_of_code (code_of k) ≡ Some k
+unfolding kind_of_code
+kind_back WriteExclusive = refl
+kind_back _ = refl
+
+same_number : (a b : ℕ) → (a == b) ≡ true → a ≡ b
+same_number a b is = grind (arith, nat_tests)
+
+itself : (a : ℕ) → (a == a) ≡ true
+itself a = grind (arith, nat_tests)
+
+pub same_kind : (s t : Kind) → is_kind s t ≡ true → s ≡ t
+same_kind s t is =
+    let both : Some s ≡ Some t = sym (kind_back s) ∙ ap kind_of_code (same_number (code_of s) (code_of t) is) ∙ kind_back t in cc
+
+pub declared_key : (keys : List ℕ) (key : ℕ) → AreDeclared keys → is_declared keys key ≡ true → IsKey key
+declared_key keys key declared is =
+    let found = any_found (λ k. k == key) keys is in
+    subst IsKey (found.there ∙ same_number found.element key found.is) (declared.each found.place found.element found.below)
+
+not_zero : (key : ℕ) → IsKey key → (key == 0) ≡ false
+not_zero key is = let some = is.0 in grind (arith, nat_tests)
+
+-- ---- what is meant
+
+pub record IsMeant (keys : List ℕ) (a : Action) (held : Option Held) (c : Command) : Type 0 where
+  pub purpose : Purpose
+  pub meant : purpose_for keys a held ≡ Some purpose
+  pub asked : purpose_of keys c ≡ Some purpose
+
+abbrev HasNoEffect : UnitState → ℕ → Command → Type 0
+HasNoEffect u h c = (own : ℕ) → IsLike own u (effect u h c)
+
+no_told : (told : Hosts) (b : Bool) → b ≡ false → (q : ℕ) → set.contains (if b then told else nobody) q ≡ false
+no_told told b is q = ap (λ x. set.contains (if x then told else nobody) q) is ∙ contains-nobody q
+
+no_more : (b : Bool) (code : ℕ) → is_pending_after b false false false code ≡ b
+no_more true code = refl
+no_more false code = refl
+
+-- a RELEASE that releases nothing
+unreleased : (u : UnitState) (h rk : ℕ) (kind : Kind) → is_released u.registry h kind ≡ false → HasNoEffect u h (command.Release rk kind)
+unreleased u h rk kind none own = record {
+  registry = ap (λ b. record u.registry { held = if b then None else u.registry.held }) none;
+  pending = λ code.
+      let tells : Hosts = if is_released u.registry h kind && is_told_of_loss u.registry.held then others u.registry h else nobody in
+      let quiet : (is_released u.registry h kind && is_told_of_loss u.registry.held) ≡ false = ap (λ b. b && is_told_of_loss u.registry.held) none in
+      contains-told u.pending (record no_change { told_04 = tells }) own code
+      ∙ ap (λ b. is_pending_after (set.contains u.pending (own, code)) b (set.contains tells own) b code) (contains-nobody own)
+      ∙ ap (λ b. is_pending_after (set.contains u.pending (own, code)) false b false code) (no_told (others u.registry h) _ quiet own)
+      ∙ no_more (set.contains u.pending (own, code)) code;
+}
+
+releases : (keys : List ℕ) (u : UnitState) (h rk : ℕ) (kind : Kind) (held : Option Held) → u.registry.held ≡ held
+    → IsMeant keys action.Release held (command.Release rk kind) ⊎ HasNoEffect u h (command.Release rk kind)
+releases keys u h rk kind None is = inr (unreleased u h rk kind (ap (λ v. is_holder u.registry h && is_held_as v kind) is ∙ and_false (is_holder u.registry h)))
+  where
+    and_false : (b : Bool) → (b && false) ≡ false
+    and_false true = refl
+    and_false false = refl
+releases keys u h rk kind (Some v) is = at (is_kind (kind_of v) kind) refl
+  where
+    and_false : (b : Bool) → (b && false) ≡ false
+    and_false true = refl
+    and_false false = refl
+
+    at : (b : Bool) → is_kind (kind_of v) kind ≡ b → IsMeant keys action.Release (Some v) (command.Release rk kind) ⊎ HasNoEffect u h (command.Release rk kind)
+    at true same = inl (record { purpose = Release (kind_of v); meant = refl; asked = ap (λ k. Some (Release k)) (sym (same_kind (kind_of v) kind same)) })
+    at false other = inr (unreleased u h rk kind (ap (λ w. is_holder u.registry h && is_held_as w kind) is ∙ ap (λ b. is_holder u.registry h && b) other ∙ and_false (is_holder u.registry h)))
+
+pub registers_key : (keys : List ℕ) (sark key : ℕ) → AreDeclared keys → is_declared keys key ≡ true → (sark == key) ≡ true → Some (purpose_of_register keys sark) ≡ Some (Register (number_in keys key))
+registers_key keys sark key declared is same =
+    ap (λ k. Some (purpose_of_register keys k)) (same_number sark key same)
+    ∙ ap (λ b. Some (if b then Unregister else Register (number_in keys key))) (not_zero key (declared_key keys key declared is))
+
+unregisters : (keys : List ℕ) (sark : ℕ) → (sark == 0) ≡ true → Some (purpose_of_register keys sark) ≡ Some Unregister
+unregisters keys sark same = ap (λ b. Some (if b then Unregister else Register (number_in keys sark))) same
+
+preempts_key : (keys : List ℕ) (sark key : ℕ) (kind : Option Kind) (t : Kind) → is_preempting sark kind key t ≡ true → option_map (λ k. purpose_of_preempt keys sark k) kind ≡ Some (purpose_of_preempt keys key t)
+preempts_key keys sark key None t is = absurd (false≢true is)
+preempts_key keys sark key (Some k) t is =
+    let parts = and_parts (sark == key) (is_kind k t) is in
+    (λ i. Some (purpose_of_preempt keys (same_number sark key parts.0 i) (same_kind k t parts.1 i)))
+
+is_meant : (keys : List ℕ) (a : Action) (c : Command) (u : UnitState) (p : Purpose) → purpose_for keys a u.registry.held ≡ Some p → purpose_of keys c ≡ Some p → IsMeant keys a u.registry.held c
+is_meant keys a c u p meant asked = record { purpose = p; meant = meant; asked = asked }
+
+released_as : (keys : List ℕ) (u : UnitState) (h rk : ℕ) (kind : Kind) → IsMeant keys action.Release u.registry.held (command.Release rk kind) ⊎ HasNoEffect u h (command.Release rk kind)
+released_as keys u h rk kind = releases keys u h rk kind u.registry.held refl
+
+-- a service action that a clause names asks for what the clause means, or has no effect
+pub meant : (keys : List ℕ) (a : Action) (c : Command) (u : UnitState) (h : ℕ) → AreDeclared keys → is_action keys a ≡ true → request_looks (Plain c) ≡ false → names a c ≡ true
+    → IsMeant keys a u.registry.held c ⊎ HasNoEffect u h c
+meant keys a command.TestUnitReady u h declared fits acts named = absurd (false≢true (sym acts))
+meant keys a command.RequestSense u h declared fits acts named = absurd (false≢true (sym acts))
+meant keys a (command.Read lba blocks) u h declared fits acts named = absurd (false≢true (sym acts))
+meant keys a (command.Write lba blocks) u h declared fits acts named = absurd (false≢true (sym acts))
+meant keys a (command.ReadKeys alloc) u h declared fits acts named = absurd (false≢true (sym acts))
+meant keys a (command.ReadReservation alloc) u h declared fits acts named = absurd (false≢true (sym acts))
+meant keys a (command.ReportCapabilities alloc) u h declared fits acts named = absurd (false≢true (sym acts))
+meant keys (action.Register key) (command.Register rk sark) u h declared fits acts named = inl (is_meant keys (action.Register key) (command.Register rk sark) u (Register (number_in keys key)) refl (registers_key keys sark key declared fits named))
+meant keys action.Unregister (command.Register rk sark) u h declared fits acts named = inl (is_meant keys action.Unregister (command.Register rk sark) u Unregister refl (unregisters keys sark named))
+meant keys (action.Register key) (command.RegisterIgnore sark) u h declared fits acts named = inl (is_meant keys (action.Register key) (command.RegisterIgnore sark) u (Register (number_in keys key)) refl (registers_key keys sark key declared fits named))
+meant keys action.Unregister (command.RegisterIgnore sark) u h declared fits acts named = inl (is_meant keys action.Unregister (command.RegisterIgnore sark) u Unregister refl (unregisters keys sark named))
+meant keys (action.Reserve t) (command.Reserve rk kind) u h declared fits acts named = inl (is_meant keys (action.Reserve t) (command.Reserve rk kind) u (Reserve t) refl (ap (λ k. Some (Reserve k)) (same_kind kind t named)))
+meant keys action.Release (command.Release rk kind) u h declared fits acts named = released_as keys u h rk kind
+meant keys action.Clear (command.Clear rk) u h declared fits acts named = inl (is_meant keys action.Clear (command.Clear rk) u Clear refl refl)
+meant keys (action.Preempt key t) (command.Preempt rk sark kind) u h declared fits acts named = inl (is_meant keys (action.Preempt key t) (command.Preempt rk sark kind) u (purpose_of_preempt keys key t) refl (preempts_key keys sark key kind t named))
+meant keys (action.Preempt key t) (command.PreemptAbort rk sark kind) u h declared fits acts named = inl (is_meant keys (action.Preempt key t) (command.PreemptAbort rk sark kind) u (purpose_of_preempt keys key t) refl (preempts_key keys sark key kind t named))
+meant keys _ _ u h declared fits acts named = absurd (false≢true named)

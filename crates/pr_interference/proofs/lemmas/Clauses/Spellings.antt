@@ -1,0 +1,153 @@
+-- A command of each clause, with the sender's own key; and which commands are refused for their key.
+use Rattle.std.proofs.Common.{◌≡◌, ℕ, ◌<◌, ◌^◌, Bool, true, false, ◌==◌, ◌&&◌, ◌||◌, not, if◌then◌else◌, List, Option, Some, None, refl, sym, ap, ◌∙◌, subst, arith, lit<}
+use Rattle.std.proofs.lemmas.Bool.{and_from, false≢true}
+use Rattle.std.proofs.lemmas.Bool.Decides.{nat_tests}
+use Rattle.pr_cdb.specs.declared.command.Kind.{Kind}
+use Rattle.pr_cdb.specs.declared.command.Command.{Command}
+use Rattle.pr_cdb.specs.declared.command.Command.TheVariants as command
+use Rattle.pr_cdb.specs.declared.wire.Request.TheVariants.{Plain}
+use Rattle.pr_cdb.specs.Kinds.{code_of}
+use Rattle.pr_cdb.specs.Ranges.{Fits}
+use Rattle.pr_registry.specs.declared.held.Held.{Held}
+use Rattle.pr_registry.specs.Registrations.{State, IsKey, key_of, kind_of}
+use Rattle.pr_registry.specs.Changes.{is_kind, conflicts_with_reserve}
+use Rattle.pr_registry.specs.Hosts.{has_no_registrant}
+use Rattle.pr_unit.specs.Conflicts.{lacks_key, command_conflicts}
+use Rattle.pr_unit.specs.Laws.{request_looks}
+use Rattle.pr_roles.specs.declared.role.Action.{Action}
+use Rattle.pr_roles.specs.declared.role.Action.TheVariants as action
+use Rattle.pr_roles.specs.Permits.{names}
+use Rattle.pr_roles.specs.Fitting.{AreDeclared, is_action}
+use Rattle.pr_script.specs.Grammar.{is_declared, is_written_key}
+use Rattle.pr_regions.specs.declared.purpose.Purpose.{Purpose}
+use Rattle.pr_regions.specs.declared.purpose.Purpose.TheVariants as purpose
+use Rattle.pr_regions.specs.declared.purpose.Purpose.TheVariants.{Look, Register, Unregister, Reserve, Release, Clear, PreemptAll, Preempt}
+use Rattle.pr_regions.specs.Purposes.{number_in, purpose_of_register, purpose_of_preempt, purpose_of, is_refused, is_in_range}
+use Rattle.pr_interference.specs.inside.Clauses.{purpose_for, refuses_strangers}
+use Rattle.pr_interference.proofs.lemmas.Clauses.Commands.{declared_key, registers_key}
+
+same_number : (a b : ℕ) → (a == b) ≡ true → a ≡ b
+same_number a b is = grind (arith, nat_tests)
+
+itself : (a : ℕ) → (a == a) ≡ true
+itself a = grind (arith, nat_tests)
+
+-- ---- refused commands
+
+first_false : (a b : Bool) → (a || b) ≡ false → a ≡ false
+first_false true b is = is
+first_false false b is = refl
+
+-- what does not conflict is not refused
+pub not_refused : (u : State) (h : ℕ) (c : Command) → command_conflicts u h c ≡ false → is_refused (key_of u h) c ≡ false
+not_refused u h (command.Register rk sark) free = free
+not_refused u h (command.Reserve rk kind) free = first_false (lacks_key u h rk) (conflicts_with_reserve u h u.held kind) free
+not_refused u h (command.Release rk kind) free = free
+not_refused u h (command.Clear rk) free = free
+not_refused u h (command.Preempt rk sark kind) free = first_false (lacks_key u h rk) (not (sark == 0) && has_no_registrant u.keys sark) free
+not_refused u h (command.PreemptAbort rk sark kind) free = first_false (lacks_key u h rk) (not (sark == 0) && has_no_registrant u.keys sark) free
+not_refused u h _ free = refl
+
+-- a purpose that admits strangers
+admits : (p q : Purpose) → Some q ≡ Some p → refuses_strangers q ≡ false → refuses_strangers p ≡ true → false ≡ true
+admits p q same is refuses = let e : q ≡ p = cc in sym is ∙ ap refuses_strangers e ∙ refuses
+
+registering_admits : (keys : List ℕ) (sark : ℕ) → refuses_strangers (purpose_of_register keys sark) ≡ false
+registering_admits keys sark = at (sark == 0)
+  where
+    at : (b : Bool) → refuses_strangers (if b then Unregister else Register (number_in keys sark)) ≡ false
+    at true = refl
+    at false = refl
+
+pub strangers_refused : (keys : List ℕ) (c : Command) (p : Purpose) → purpose_of keys c ≡ Some p → refuses_strangers p ≡ true → is_refused None c ≡ true
+strangers_refused keys (command.Read lba blocks) p is refuses = admits p (purpose.Read (is_in_range lba blocks)) is refl refuses
+strangers_refused keys (command.Write lba blocks) p is refuses = admits p (purpose.Write (is_in_range lba blocks)) is refl refuses
+strangers_refused keys (command.Register rk sark) p is refuses = absurd (false≢true (admits p (purpose_of_register keys sark) is (registering_admits keys sark) refuses))
+strangers_refused keys (command.RegisterIgnore sark) p is refuses = absurd (false≢true (admits p (purpose_of_register keys sark) is (registering_admits keys sark) refuses))
+strangers_refused keys (command.Reserve rk kind) p is refuses = refl
+strangers_refused keys (command.Release rk kind) p is refuses = refl
+strangers_refused keys (command.Clear rk) p is refuses = refl
+strangers_refused keys (command.Preempt rk sark kind) p is refuses = refl
+strangers_refused keys (command.PreemptAbort rk sark kind) p is refuses = refl
+strangers_refused keys _ p is refuses = admits p Look is refl refuses
+
+-- ---- a command of a clause
+
+pub record Spells (keys : List ℕ) (a : Action) (key : Option ℕ) (p : Purpose) : Type 0 where
+  pub command : Command
+  pub fits : Fits command
+  pub acts : request_looks (Plain command) ≡ false
+  pub named : names a command ≡ true
+  pub asked : purpose_of keys command ≡ Some p
+  pub accepted : is_refused key command ≡ false
+
+written_few : (keys : List ℕ) (key : ℕ) → AreDeclared keys → is_written_key keys key ≡ true → key < 2 ^ 64
+written_few keys key declared is = at (key == 0) refl is
+  where
+    at : (b : Bool) → (key == 0) ≡ b → (b || is_declared keys key) ≡ true → key < 2 ^ 64
+    at true zero any = subst (λ n. n < 2 ^ 64) (sym (same_number key 0 zero)) (lit< tt)
+    at false other any = (declared_key keys key declared any).1
+
+spells_register : (keys : List ℕ) (key : ℕ) (own : Option ℕ) (p : Purpose) → AreDeclared keys → is_declared keys key ≡ true → Some (Register (number_in keys key)) ≡ Some p
+    → Spells keys (action.Register key) own p
+spells_register keys key own p declared fits meant = record {
+  command = command.RegisterIgnore key;
+  fits = (declared_key keys key declared fits).1;
+  acts = refl;
+  named = itself key;
+  asked = registers_key keys key key declared fits (itself key) ∙ meant;
+  accepted = refl;
+}
+
+spells_unregister : (keys : List ℕ) (own : Option ℕ) (p : Purpose) → Some Unregister ≡ Some p → Spells keys action.Unregister own p
+spells_unregister keys own p meant = record {
+  command = command.RegisterIgnore 0;
+  fits = lit< tt;
+  acts = refl;
+  named = refl;
+  asked = meant;
+  accepted = refl;
+}
+
+-- by a sender that is registered
+pub spells : (keys : List ℕ) (a : Action) (held : Option Held) (rk : ℕ) (p : Purpose) → AreDeclared keys → is_action keys a ≡ true → IsKey rk → purpose_for keys a held ≡ Some p → Spells keys a (Some rk) p
+spells keys (action.Register key) held rk p declared fits own meant = spells_register keys key (Some rk) p declared fits meant
+spells keys action.Unregister held rk p declared fits own meant = spells_unregister keys (Some rk) p meant
+spells keys (action.Reserve kind) held rk p declared fits own meant =
+    record { command = command.Reserve rk kind; fits = own.1; acts = refl; named = itself (code_of kind); asked = meant; accepted = ap not (itself rk) }
+spells keys action.Release None rk p declared fits own meant = let bad : None ≡ Some p = meant in cc
+spells keys action.Release (Some v) rk p declared fits own meant =
+    record { command = command.Release rk (kind_of v); fits = own.1; acts = refl; named = refl; asked = meant; accepted = ap not (itself rk) }
+spells keys action.Clear held rk p declared fits own meant =
+    record { command = command.Clear rk; fits = own.1; acts = refl; named = refl; asked = meant; accepted = ap not (itself rk) }
+spells keys (action.Preempt key kind) held rk p declared fits own meant = record {
+  command = command.Preempt rk key (Some kind);
+  fits = (own.1, written_few keys key declared fits);
+  acts = refl;
+  named = and_from (key == key) (is_kind kind kind) (itself key) (itself (code_of kind));
+  asked = meant;
+  accepted = ap not (itself rk);
+}
+spells keys action.Read held rk p declared fits own meant = let bad : None ≡ Some p = meant in cc
+spells keys action.Write held rk p declared fits own meant = let bad : None ≡ Some p = meant in cc
+
+refused : (p q : Purpose) → Some q ≡ Some p → refuses_strangers q ≡ true → refuses_strangers p ≡ false → false ≡ true
+refused p q same is admits = let e : q ≡ p = cc in sym admits ∙ sym (ap refuses_strangers e) ∙ is
+
+preempting_refuses : (keys : List ℕ) (key : ℕ) (kind : Kind) → refuses_strangers (purpose_of_preempt keys key kind) ≡ true
+preempting_refuses keys key kind = at (key == 0)
+  where
+    at : (b : Bool) → refuses_strangers (if b then PreemptAll kind else Preempt (number_in keys key) kind) ≡ true
+    at true = refl
+    at false = refl
+
+-- by a stranger
+pub spells_stranger : (keys : List ℕ) (a : Action) (held : Option Held) (p : Purpose) → AreDeclared keys → is_action keys a ≡ true → refuses_strangers p ≡ false → purpose_for keys a held ≡ Some p → Spells keys a None p
+spells_stranger keys (action.Register key) held p declared fits admits meant = spells_register keys key None p declared fits meant
+spells_stranger keys action.Unregister held p declared fits admits meant = spells_unregister keys None p meant
+spells_stranger keys (action.Reserve kind) held p declared fits admits meant = absurd (false≢true (refused p (Reserve kind) meant refl admits))
+spells_stranger keys action.Release (Some v) p declared fits admits meant = absurd (false≢true (refused p (Release (kind_of v)) meant refl admits))
+spells_stranger keys action.Clear held p declared fits admits meant = absurd (false≢true (refused p Clear meant refl admits))
+spells_stranger keys (action.Preempt key kind) held p declared fits admits meant =
+    absurd (false≢true (refused p (purpose_of_preempt keys key kind) meant (preempting_refuses keys key kind) admits))
+spells_stranger keys _ _ p declared fits admits meant = let bad : None ≡ Some p = meant in cc

@@ -1,0 +1,99 @@
+-- What is added to possibilities, step by step.
+use Rattle.std.proofs.Common.{◌≡◌, ◌≢◌, ℕ, ◌+◌, ◌<◌, true, false, ◌==◌, List, length, slice_index_or, sym, ap, ◌∙◌, subst, inl, inr, ◌⊎◌, arith}
+use Rattle.std.proofs.lemmas.Bool.Decides.{eqb_tells}
+use Rattle.std.proofs.lemmas.List.{get_or_default}
+use Rattle.pr_unit.specs.UnitStates.{UnitState}
+use Rattle.pr_sets.specs.declared.word.Word.{Word}
+use Rattle.pr_views.specs.declared.possibilities.Possibilities.{Possibilities}
+use Rattle.pr_views.specs.Possibilities.{Scope, Item}
+use Rattle.pr_views.specs.Views.{IsPossible}
+use Rattle.pr_views.specs.Portions.{view_in}
+use Rattle.pr_regions.specs.declared.region.Region.{Region}
+use Rattle.pr_regions.specs.declared.region.Change.{Change}
+use Rattle.pr_regions.specs.declared.region.Ending.TheVariants as ending
+use Rattle.pr_regions.specs.declared.region.Branch.{Branch}
+use Rattle.pr_regions.specs.Regions.{Changes}
+use Rattle.pr_regions.specs.declared.place.Place.{Place}
+use Rattle.pr_regions.specs.Gathering.{IsAt}
+use Rattle.pr_regions.specs.inside.Adding.{Adds}
+use Rattle.pr_interference.specs.inside.Interfering.{Among, IsAfter, IsChanged, IsLedBy, IsLeftBy}
+use Rattle.pr_regions.proofs.lemmas.Keeping.Additions.{grown, adds_both, IsJoined, joined_old, joined_other, joined_either}
+
+-- the same, said otherwise
+pub adds_so : (s : Scope) (p q : Possibilities) (L M : UnitState → UnitState → Type 0) (V W : Item → Type 0) → Adds s p q L V
+    → ((u w : UnitState) → M u w → L u w) → ((i : Item) → V i → W i) → Adds s p q M W
+adds_so s p q L M V W adds leads leaves = record {
+  kept = adds.kept;
+  all = λ u w led. adds.all u w (leads u w led);
+  only = λ i is. only i (adds.only i is);
+}
+  where
+    only : (i : Item) → IsPossible (view_in s p) i ⊎ V i → IsPossible (view_in s p) i ⊎ W i
+    only i (inl is) = inl is
+    only i (inr is) = inr (leaves i is)
+
+pub adds_after : (s : Scope) (view old after new : Possibilities) (place : Place) (senders : Word) (region : Region) (change : Change)
+    → IsAfter s view place senders region change after → IsJoined old after new
+    → Adds s old new (λ u w. IsAt (view_in s view) place senders region u × Changes s place.sender change u w) (IsChanged s view place senders region change)
+adds_after s view old after new place senders region change is joined = record {
+  kept = λ i had. joined_old s old after new i joined had;
+  all = λ u w led. grown s after new w (λ i so. joined_other s old after new i joined so) (is.all u w led.0 led.1);
+  only = λ i got. only i (joined_either s old after new i joined got);
+}
+  where
+    only : (i : Item) → IsPossible (view_in s old) i ⊎ IsPossible (view_in s after) i → IsPossible (view_in s old) i ⊎ IsChanged s view place senders region change i
+    only i (inl had) = inl had
+    only i (inr got) = inr (is.only i got)
+
+-- ---- the elements of a list, one after another
+
+pub among_wider : {X : Type 0} (n : ℕ) (xs : List X) (holds : X → Type 0) → Among n xs holds → Among (n + 1) xs holds
+among_wider n xs holds among = record {
+  element = among.element;
+  place = among.place;
+  below = (let below = among.below in omega arith);
+  there = among.there;
+  is = among.is;
+}
+
+pub among_last : {X : Type 0} (n : ℕ) (xs : List X) (x : X) (holds : X → Type 0) → slice_index_or xs n x ≡ x → holds x → Among (n + 1) xs holds
+among_last n xs x holds there is = record { element = x; place = n; below = omega arith; there = there; is = is }
+
+pub among_either : {X : Type 0} (n : ℕ) (xs : List X) (x : X) (holds : X → Type 0) → n < length xs → slice_index_or xs n x ≡ x → Among (n + 1) xs holds → Among n xs holds ⊎ holds x
+among_either n xs x holds small there among = at (eqb_tells among.place n)
+  where
+    at : (((among.place == n) ≡ true) × (among.place ≡ n)) ⊎ (((among.place == n) ≡ false) × (among.place ≢ n)) → Among n xs holds ⊎ holds x
+    at (inl same) = inr (subst holds (sym among.there ∙ ap (λ k. slice_index_or xs k among.element) same.1 ∙ get_or_default xs n among.element x small ∙ there) among.is)
+    at (inr other) = inl (record {
+      element = among.element;
+      place = among.place;
+      below = (let below = among.below in let differs = other.1 in omega arith);
+      there = among.there;
+      is = among.is;
+    })
+
+-- one element more
+pub adds_element : {X : Type 0} (s : Scope) (p q r : Possibilities) (n : ℕ) (xs : List X) (x : X) (leads : X → UnitState → UnitState → Type 0) (leaves : X → Item → Type 0)
+    → n < length xs → slice_index_or xs n x ≡ x
+    → Adds s p q (λ u w. Among n xs (λ y. leads y u w)) (λ i. Among n xs (λ y. leaves y i)) → Adds s q r (leads x) (leaves x)
+    → Adds s p r (λ u w. Among (n + 1) xs (λ y. leads y u w)) (λ i. Among (n + 1) xs (λ y. leaves y i))
+adds_element s p q r n xs x leads leaves small there before now =
+    adds_both s p q r (λ u w. Among n xs (λ y. leads y u w)) (leads x) (λ u w. Among (n + 1) xs (λ y. leads y u w))
+    (λ i. Among n xs (λ y. leaves y i)) (leaves x) (λ i. Among (n + 1) xs (λ y. leaves y i)) before now
+    (λ u w among. among_either n xs x (λ y. leads y u w) small there among)
+    (λ i among. among_wider n xs (λ y. leaves y i) among)
+    (λ i is. among_last n xs x (λ y. leaves y i) there is)
+
+-- ---- a branch
+
+pub adds_branch : (s : Scope) (view old after new : Possibilities) (place : Place) (senders : Word) (branch : Branch) (change : Change) → branch.ending ≡ ending.Good change
+    → IsAfter s view place senders branch.region change after → IsJoined old after new → Adds s old new (IsLedBy s view place senders branch) (IsLeftBy s view place senders branch)
+adds_branch s view old after new place senders branch change good is joined =
+    adds_so s old new (λ u w. IsAt (view_in s view) place senders branch.region u × Changes s place.sender change u w) (IsLedBy s view place senders branch)
+    (IsChanged s view place senders branch.region change) (IsLeftBy s view place senders branch)
+    (adds_after s view old after new place senders branch.region change is joined)
+    (λ u w led. (led.at, subst (λ c. Changes s place.sender c u w) (same led.change led.good) led.changes))
+    (λ i changed. record { change = change; good = good; changed = changed })
+  where
+    same : (c : Change) → branch.ending ≡ ending.Good c → c ≡ change
+    same c is = let both : ending.Good c ≡ ending.Good change = sym is ∙ good in cc

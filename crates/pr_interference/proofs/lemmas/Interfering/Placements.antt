@@ -1,0 +1,125 @@
+-- What a clause leads to under one reservation, whatever its sender's standing.
+use Rattle.std.proofs.Common.{◌≡◌, ℕ, suc, ◌+◌, ◌<◌, ◌≤◌, Bool, true, false, ◌==◌, ◌||◌, if◌then◌else◌, List, [], ◌∷◌, length, Option, Some, None, refl, sym, ap, ◌∙◌, subst, cond, inl, inr, ◌⊎◌, arith}
+use Rattle.std.specs.List.{list_any, position_from}
+use Rattle.std.specs.Option.{option_map_or}
+use Rattle.std.proofs.lemmas.Bool.{false≢true}
+use Rattle.std.proofs.lemmas.List.Quantifiers.{position-Some}
+use Rattle.std.proofs.lemmas.Iterator.Adapters.{position_from-zero}
+use Rattle.pr_registry.specs.declared.held.Held.{Held}
+use Rattle.pr_registry.specs.Registrations.{kind_of}
+use Rattle.pr_unit.specs.UnitStates.{UnitState}
+use Rattle.pr_roles.specs.declared.role.Action.{Action}
+use Rattle.pr_roles.specs.declared.role.Action.TheVariants as action
+use Rattle.pr_roles.specs.declared.role.Clause.{Clause}
+use Rattle.pr_roles.specs.Fitting.{is_action}
+use Rattle.pr_script.specs.Grammar.{is_declared}
+use Rattle.pr_views.specs.declared.possibilities.Possibilities.{Possibilities}
+use Rattle.pr_views.specs.Possibilities.{Scope, Item, Registration, IsSo}
+use Rattle.pr_views.specs.Portions.{view_in}
+use Rattle.pr_views.proofs.lemmas.Possibilities.Numbers.{one_registration}
+use Rattle.pr_regions.specs.declared.purpose.Purpose.{Purpose}
+use Rattle.pr_regions.specs.declared.purpose.Purpose.TheVariants.{Register, Unregister, Reserve, Release, Clear, PreemptAll, Preempt}
+use Rattle.pr_regions.specs.declared.purpose.Standing.{Standing}
+use Rattle.pr_regions.specs.declared.purpose.Standing.TheVariants.{Unregistered, Named, Other}
+use Rattle.pr_regions.specs.Purposes.{HasNumber, number_in, purpose_of_preempt}
+use Rattle.pr_regions.specs.Regions.{standing_of}
+use Rattle.pr_regions.specs.declared.place.Place.{Place}
+use Rattle.pr_interference.specs.declared.onlooker.Onlooker.{Onlooker}
+use Rattle.pr_interference.specs.inside.Interfering.{IsWatched}
+use Rattle.pr_regions.specs.inside.Adding.{Adds}
+use Rattle.pr_interference.specs.inside.Clauses.{purpose_for, PurposeLeads, StandingLeads, PlaceLeads}
+use Rattle.pr_regions.proofs.lemmas.Keeping.Additions.{adds_both}
+use Rattle.pr_regions.proofs.lemmas.Portions.GatheredStates.{same_reservation}
+
+-- ---- the numbers of declared keys
+
+found_from : (p : ℕ → Bool) (n : ℕ) (xs : List ℕ) → list_any p xs ≡ true → (i : ℕ) × (position_from p n xs ≡ Some i)
+found_from p n [] is = absurd (false≢true is)
+found_from p n (x ∷ xs) is = at (p x) refl is (λ any. found_from p (n + 1) xs any)
+  where
+    at : (b : Bool) → p x ≡ b → (b || list_any p xs) ≡ true → (list_any p xs ≡ true → (i : ℕ) × (position_from p (n + 1) xs ≡ Some i)) → (i : ℕ) × (position_from p n (x ∷ xs) ≡ Some i)
+    at true passes any rest = (n, ap (λ b. cond b (Some n) (position_from p (n + 1) xs)) passes)
+    at false fails any rest = let found = rest any in (found.0, ap (λ b. cond b (Some n) (position_from p (n + 1) xs)) fails ∙ found.1)
+
+declared_number : (keys : List ℕ) (key : ℕ) → length keys ≤ 12 → is_declared keys key ≡ true → (1 ≤ number_in keys key) × (number_in keys key ≤ 12)
+declared_number keys key few is =
+    let found = found_from (λ k. k == key) 0 keys is in
+    let at = position_from-zero (λ k. k == key) keys ∙ found.1 in
+    let small = (position-Some (λ k. k == key) keys found.0 0 at).0 in
+    let number : number_in keys key ≡ suc found.0 = ap (λ o. option_map_or suc o 0) at in
+    (omega arith, omega arith)
+
+numbered : (p q : Purpose) → Some q ≡ Some p → HasNumber q → HasNumber p
+numbered p q same has = let e : q ≡ p = cc in subst HasNumber e has
+
+pub has_number : (keys : List ℕ) (a : Action) (held : Option Held) (p : Purpose) → length keys ≤ 12 → is_action keys a ≡ true → purpose_for keys a held ≡ Some p → HasNumber p
+has_number keys (action.Register key) held p few fits meant = numbered p (Register (number_in keys key)) meant (declared_number keys key few fits)
+has_number keys action.Unregister held p few fits meant = numbered p Unregister meant tt
+has_number keys (action.Reserve kind) held p few fits meant = numbered p (Reserve kind) meant tt
+has_number keys action.Release None p few fits meant = let bad : None ≡ Some p = meant in cc
+has_number keys action.Release (Some v) p few fits meant = numbered p (Release (kind_of v)) meant tt
+has_number keys action.Clear held p few fits meant = numbered p Clear meant tt
+has_number keys (action.Preempt key kind) held p few fits meant = numbered p (purpose_of_preempt keys key kind) meant (at (key == 0) fits)
+  where
+    at : (b : Bool) → (b || is_declared keys key) ≡ true → HasNumber (if b then PreemptAll kind else Preempt (number_in keys key) kind)
+    at true fits = tt
+    at false fits = declared_number keys key few fits
+has_number keys action.Read held p few fits meant = let bad : None ≡ Some p = meant in cc
+has_number keys action.Write held p few fits meant = let bad : None ≡ Some p = meant in cc
+
+-- ---- the three standings
+
+pub by_standing : (s : Scope) (o : Onlooker) (place : Place) (clause : Clause) (p : Purpose) (u w : UnitState) → IsWatched s o place
+    → PurposeLeads (view_in s o.view) clause place.sender place.reservation p u w
+    → (StandingLeads (view_in s o.view) clause place.sender place.reservation p Unregistered u w ⊎ StandingLeads (view_in s o.view) clause place.sender place.reservation p Named u w)
+    ⊎ StandingLeads (view_in s o.view) clause place.sender place.reservation p Other u w
+by_standing s o place clause p u w is leads = at (standing_of p seen.0) refl
+  where
+    below : place.sender < s.hosts
+    below = subst (λ n. place.sender < n) (sym is.known.hosts) place.there
+
+    seen : (r : ℕ) × IsSo s u (Registration place.sender r)
+    seen = let there = leads.shown.registrations place.sender below in (there.0, there.1.1)
+
+    so : (standing : Standing) → standing_of p seen.0 ≡ standing → StandingLeads (view_in s o.view) clause place.sender place.reservation p standing u w
+    so standing stands = record {
+      leads = leads;
+      stands = λ r it. subst (λ n. standing_of p n ≡ standing) (one_registration s u place.sender seen.0 r is.known.fits.scope seen.1 it) stands;
+    }
+
+    at : (standing : Standing) → standing_of p seen.0 ≡ standing
+        → (StandingLeads (view_in s o.view) clause place.sender place.reservation p Unregistered u w ⊎ StandingLeads (view_in s o.view) clause place.sender place.reservation p Named u w)
+        ⊎ StandingLeads (view_in s o.view) clause place.sender place.reservation p Other u w
+    at Unregistered stands = inl (inl (so Unregistered stands))
+    at Named stands = inl (inr (so Named stands))
+    at Other stands = inr (so Other stands)
+
+same_meant : (s : Scope) (o : Onlooker) (place : Place) (clause : Clause) (keys : List ℕ) (u w : UnitState) → IsWatched s o place → s.keys ≡ keys
+    → (leads : PlaceLeads (view_in s o.view) clause place.sender place.reservation u w) → purpose_for keys clause.action place.held ≡ Some leads.purpose
+same_meant s o place clause keys u w is same leads =
+    subst (λ v. purpose_for keys clause.action v ≡ Some leads.purpose) (same_reservation s o.view place u is.known leads.leads.shown leads.leads.reserved)
+    (subst (λ k. purpose_for k clause.action u.registry.held ≡ Some leads.purpose) same leads.meant)
+
+pub none_meant : (s : Scope) (o : Onlooker) (place : Place) (clause : Clause) (keys : List ℕ) (u w : UnitState) → IsWatched s o place → s.keys ≡ keys → purpose_for keys clause.action place.held ≡ None
+    → PlaceLeads (view_in s o.view) clause place.sender place.reservation u w → ⊥
+none_meant s o place clause keys u w is same none leads = let bad : None ≡ Some leads.purpose = sym none ∙ same_meant s o place clause keys u w is same leads in cc
+
+pub adds_standings : (s : Scope) (o : Onlooker) (place : Place) (clause : Clause) (keys : List ℕ) (p : Purpose) (a b c d : Possibilities) (leaves : Item → Type 0) → IsWatched s o place → s.keys ≡ keys
+    → purpose_for keys clause.action place.held ≡ Some p
+    → Adds s a b (StandingLeads (view_in s o.view) clause place.sender place.reservation p Unregistered) leaves
+    → Adds s b c (StandingLeads (view_in s o.view) clause place.sender place.reservation p Named) leaves
+    → Adds s c d (StandingLeads (view_in s o.view) clause place.sender place.reservation p Other) leaves
+    → Adds s a d (PlaceLeads (view_in s o.view) clause place.sender place.reservation) leaves
+adds_standings s o place clause keys p a b c d leaves is same meant first second third =
+    let L = StandingLeads (view_in s o.view) clause place.sender place.reservation p Unregistered in
+    let M = StandingLeads (view_in s o.view) clause place.sender place.reservation p Named in
+    let N = StandingLeads (view_in s o.view) clause place.sender place.reservation p Other in
+    adds_both s a c d (λ u w. L u w ⊎ M u w) N (PlaceLeads (view_in s o.view) clause place.sender place.reservation) leaves leaves leaves
+    (adds_both s a b c L M (λ u w. L u w ⊎ M u w) leaves leaves leaves first second (λ u w led. led) (λ i left. left) (λ i left. left))
+    third (λ u w led. by_standing s o place clause p u w is (as_meant u w led)) (λ i left. left) (λ i left. left)
+  where
+    as_meant : (u w : UnitState) → PlaceLeads (view_in s o.view) clause place.sender place.reservation u w → PurposeLeads (view_in s o.view) clause place.sender place.reservation p u w
+    as_meant u w led =
+        let both : Some led.purpose ≡ Some p = sym (same_meant s o place clause keys u w is same led) ∙ meant in
+        let e : led.purpose ≡ p = cc in
+        subst (λ q. PurposeLeads (view_in s o.view) clause place.sender place.reservation q u w) e led.leads

@@ -1,0 +1,5 @@
+pub mod Chain
+pub mod ScenarioLines
+pub mod Tests
+pub mod TextLines
+pub mod WordTerms

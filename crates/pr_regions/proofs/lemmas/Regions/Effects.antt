@@ -1,0 +1,167 @@
+-- What each service action makes of a registry, registration by registration.
+use Rattle.pr_regions.proofs.Common.{◌≡◌, ℕ, zero, suc, ◌≤◌, Bool, true, false, cond, not, ◌&&◌, ◌≢◌, ◌⊎◌, List, length, is_some, if◌then◌else◌, ◌==◌, Some, None, Option, unwrap_or, sym, refl, ap, ◌∙◌, subst, inl, inr, arith, nat_tests, eqb_tells, Kind, no_change, change_on_unregister, is_told_of_loss, is_key, Hosts, nobody, State, is_registered, key_of, contains-nobody, get-without, number_of, key_at, Change, Does, never, is_of_registrant, told_if}
+use Rattle.std.specs.FinSet as set
+use Rattle.std.specs.FinMap as map
+use Rattle.pr_registry.specs.declared.change.Change.{Change as Told}
+use Rattle.pr_registry.specs.Hosts.{just}
+use Rattle.pr_registry.specs.Registrations.{others, registrants, holds_alone}
+use Rattle.pr_registry.specs.Changes.{is_released, change_on_release, change_on_clear}
+use Rattle.pr_registry.specs.Effects.{with_registration as register, without_registration, after_release, after_clear}
+use Rattle.pr_registry.proofs.lemmas.Sets.{contains-just, contains-remove, contains-hosts_in, get-insert, get-empty}
+use Rattle.pr_regions.proofs.lemmas.Showing.Numbers.{same_itself, AreDistinct, is_some-key_at, same_number_at}
+use Rattle.pr_regions.proofs.lemmas.Regions.ChangedStates.{Is, Acts}
+
+-- the registry becomes this, as tests of registrations say
+pub record Becomes (keys : List ℕ) (hosts from : ℕ) (to : Option ℕ) (out : ℕ → Bool) (left : ℕ) (tells_03 tells_04 tells_05 : ℕ → Bool) (u v : State) (t : Told) : Type 0 where
+  pub sender : (r : ℕ) → Is keys u from r → Is keys v from (unwrap_or to r)
+  pub others : (g r : ℕ) → g ≢ from → Is keys u g r → key_of v g ≡ (if out r then None else key_of u g)
+  pub reservation : left ≡ number_of hosts v.held
+  pub told_03 : (g r : ℕ) → g ≢ from → Is keys u g r → set.contains t.told_03 g ≡ tells_03 r
+  pub told_04 : (g r : ℕ) → g ≢ from → Is keys u g r → set.contains t.told_04 g ≡ tells_04 r
+  pub told_05 : (g r : ℕ) → g ≢ from → Is keys u g r → set.contains t.told_05 g ≡ tells_05 r
+  pub untold_03 : set.contains t.told_03 from ≡ false
+  pub untold_04 : set.contains t.told_04 from ≡ false
+  pub untold_05 : set.contains t.told_05 from ≡ false
+
+pub acts : (keys : List ℕ) (hosts from : ℕ) (to : Option ℕ) (out : ℕ → Bool) (left : ℕ) (t3 t4 t5 : ℕ → Bool) (u v : State) (t : Told) (c : Change)
+    → length keys ≤ 12 → Does c to out left t3 t4 t5 → Becomes keys hosts from to out left t3 t4 t5 u v t → Acts keys hosts from c u v t
+acts keys hosts from to out left t3 t4 t5 u v t c few does b = record {
+  sender = λ r is. subst (λ (o : Option ℕ). Is keys v from (unwrap_or o r)) (sym does.sender) (b.sender r is);
+  others = λ g r other is. b.others g r other is ∙ ap (λ x. if x then None else key_of u g) (sym (does.removed r (within r is)));
+  reservation = does.reservation ∙ b.reservation;
+  told_03 = λ g r other is. b.told_03 g r other is ∙ sym (does.told_03 r (within r is));
+  told_04 = λ g r other is. b.told_04 g r other is ∙ sym (does.told_04 r (within r is));
+  told_05 = λ g r other is. b.told_05 g r other is ∙ sym (does.told_05 r (within r is));
+  untold_03 = b.untold_03;
+  untold_04 = b.untold_04;
+  untold_05 = b.untold_05;
+}
+  where
+    within : (r : ℕ) {g : ℕ} → Is keys u g r → r ≤ 12
+    within r is = let small = is.known in omega arith
+
+-- ---- who is told
+
+pub other_host : (g from : ℕ) → g ≢ from → (g == from) ≡ false
+other_host g from other = grind (arith, nat_tests)
+
+-- the registrants are the hosts whose registration is not 0
+pub is_registered-number : (keys : List ℕ) (u : State) (g r : ℕ) → Is keys u g r → is_registered u g ≡ is_of_registrant r
+is_registered-number keys u g r is = ap is_some is.key ∙ is_some-key_at keys r is.known
+
+pub contains-others : (keys : List ℕ) (u : State) (from g r : ℕ) → g ≢ from → Is keys u g r → set.contains (others u from) g ≡ is_of_registrant r
+contains-others keys u from g r other is =
+    contains-remove (registrants u) from g ∙ ap (λ b. not b && set.contains (registrants u) g) (other_host g from other)
+    ∙ contains-hosts_in u.keys g ∙ is_registered-number keys u g r is
+
+pub not_itself : (s : Hosts) (h : ℕ) → set.contains (set.remove s h) h ≡ false
+not_itself s h = contains-remove s h h ∙ ap (λ b. not b && set.contains s h) (same_itself h)
+
+pub contains-others_itself : (u : State) (from : ℕ) → set.contains (others u from) from ≡ false
+contains-others_itself u from = not_itself (registrants u) from
+
+-- the hosts with a key are those whose registration has its number
+pub is_key-number : (keys : List ℕ) (u : State) (g r j k : ℕ) → AreDistinct keys → j ≤ length keys → key_at keys j ≡ Some k → Is keys u g r → is_key (key_of u g) k ≡ (r == j)
+is_key-number keys u g r j k once fits named is = ap (λ o. is_key o k) is.key ∙ at (eqb_tells r j)
+  where
+    differs : (o : Option ℕ) → (o ≡ Some k → r ≡ j) → r ≢ j → is_key o k ≡ false
+    differs None same other = refl
+    differs (Some m) same other = by (eqb_tells m k)
+      where
+        by : (((m == k) ≡ true) × (m ≡ k)) ⊎ (((m == k) ≡ false) × (m ≢ k)) → (m == k) ≡ false
+        by (inl equal) = absurd (other (same (ap Some equal.1)))
+        by (inr unequal) = unequal.0
+
+    at : (((r == j) ≡ true) × (r ≡ j)) ⊎ (((r == j) ≡ false) × (r ≢ j)) → is_key (key_at keys r) k ≡ (r == j)
+    at (inl same) = ap (λ n. is_key (key_at keys n) k) same.1 ∙ ap (λ o. is_key o k) named ∙ same_itself k ∙ sym same.0
+    at (inr other) = differs (key_at keys r) (λ there. same_number_at keys r j once is.known fits (there ∙ sym named)) other.1 ∙ sym other.0
+
+contains-others_if : (keys : List ℕ) (u : State) (from g r : ℕ) (b : Bool) → g ≢ from → Is keys u g r → set.contains (if b then others u from else nobody) g ≡ told_if b r
+contains-others_if keys u from g r true other is = contains-others keys u from g r other is
+contains-others_if keys u from g r false other is = contains-nobody g
+
+contains-others_if_itself : (u : State) (from : ℕ) (b : Bool) → set.contains (if b then others u from else nobody) from ≡ false
+contains-others_if_itself u from true = contains-others_itself u from
+contains-others_if_itself u from false = contains-nobody from
+
+-- ---- where the registrations stay
+
+pub still : (keys : List ℕ) (hosts from : ℕ) (u v : State) → ((g : ℕ) → key_of v g ≡ key_of u g) → Becomes keys hosts from None never (number_of hosts v.held) never never never u v no_change
+still keys hosts from u v same = record {
+  sender = λ r is. record { known = is.known; key = same from ∙ is.key };
+  others = λ g r other is. same g;
+  reservation = refl;
+  told_03 = λ g r other is. contains-nobody g;
+  told_04 = λ g r other is. contains-nobody g;
+  told_05 = λ g r other is. contains-nobody g;
+  untold_03 = contains-nobody from;
+  untold_04 = contains-nobody from;
+  untold_05 = contains-nobody from;
+}
+
+pub on_release : (keys : List ℕ) (hosts from : ℕ) (t : Kind) (u : State)
+    → Becomes keys hosts from None never (number_of hosts (after_release u from t).held) never (told_if (is_released u from t && is_told_of_loss u.held)) never u (after_release u from t) (change_on_release u from t)
+on_release keys hosts from t u = record {
+  sender = λ r is. record { known = is.known; key = is.key };
+  others = λ g r other is. refl;
+  reservation = refl;
+  told_03 = λ g r other is. contains-nobody g;
+  told_04 = λ g r other is. contains-others_if keys u from g r (is_released u from t && is_told_of_loss u.held) other is;
+  told_05 = λ g r other is. contains-nobody g;
+  untold_03 = contains-nobody from;
+  untold_04 = contains-others_if_itself u from (is_released u from t && is_told_of_loss u.held);
+  untold_05 = contains-nobody from;
+}
+
+-- ---- where some change
+
+pub on_register : (keys : List ℕ) (hosts from j k : ℕ) (u : State) → j ≤ length keys → key_at keys j ≡ Some k
+    → Becomes keys hosts from (Some j) never (number_of hosts u.held) never never never u (register u from k) no_change
+on_register keys hosts from j k u fits named = record {
+  sender = λ r is. record { known = fits; key = get-insert u.keys from k from ∙ ap (λ b. cond b (Some k) (map.get u.keys from)) (same_itself from) ∙ sym named };
+  others = λ g r other is. get-insert u.keys from k g ∙ ap (λ b. cond b (Some k) (map.get u.keys g)) (other_host g from other);
+  reservation = refl;
+  told_03 = λ g r other is. contains-nobody g;
+  told_04 = λ g r other is. contains-nobody g;
+  told_05 = λ g r other is. contains-nobody g;
+  untold_03 = contains-nobody from;
+  untold_04 = contains-nobody from;
+  untold_05 = contains-nobody from;
+}
+
+pub on_clear : (keys : List ℕ) (hosts from : ℕ) (u : State) → Becomes keys hosts from (Some 0) is_of_registrant 0 is_of_registrant never never u (after_clear u) (change_on_clear u from)
+on_clear keys hosts from u = record {
+  sender = λ r is. record { known = omega arith; key = get-empty from };
+  others = λ g r other is. get-empty g ∙ none keys g r is;
+  reservation = refl;
+  told_03 = λ g r other is. contains-others keys u from g r other is;
+  told_04 = λ g r other is. contains-nobody g;
+  told_05 = λ g r other is. contains-nobody g;
+  untold_03 = contains-others_itself u from;
+  untold_04 = contains-nobody from;
+  untold_05 = contains-nobody from;
+}
+  where
+    none : (keys : List ℕ) (g r : ℕ) → Is keys u g r → None ≡ (if is_of_registrant r then None else key_of u g)
+    none keys g zero is = sym is.key
+    none keys g (suc i) is = ap (λ b. if b then None else key_of u g) (sym (not_zero i))
+      where
+        not_zero : (i : ℕ) → is_of_registrant (suc i) ≡ true
+        not_zero i = grind (arith, nat_tests)
+
+pub on_unregister : (keys : List ℕ) (hosts from : ℕ) (u : State)
+    → Becomes keys hosts from (Some 0) never (number_of hosts (without_registration u from).held) never (told_if (holds_alone u.held from && is_told_of_loss u.held)) never u (without_registration u from) (change_on_unregister u from)
+on_unregister keys hosts from u = record {
+  sender = λ r is. record {
+    known = omega arith;
+    key = get-without u.keys (just from) from ∙ ap (λ b. if b then None else map.get u.keys from) (contains-just from from ∙ same_itself from);
+  };
+  others = λ g r other is. get-without u.keys (just from) g ∙ ap (λ b. if b then None else map.get u.keys g) (contains-just from g ∙ other_host g from other);
+  reservation = refl;
+  told_03 = λ g r other is. contains-nobody g;
+  told_04 = λ g r other is. contains-others_if keys u from g r (holds_alone u.held from && is_told_of_loss u.held) other is;
+  told_05 = λ g r other is. contains-nobody g;
+  untold_03 = contains-nobody from;
+  untold_04 = contains-others_if_itself u from (holds_alone u.held from && is_told_of_loss u.held);
+  untold_05 = contains-nobody from;
+}

@@ -1,0 +1,6 @@
+pub mod Bits
+pub mod KeyValues
+pub mod Sets
+pub mod States
+pub mod Tables
+pub mod ToldRegistrants

@@ -1,0 +1,10 @@
+pub mod BytesTaken
+pub mod EntryWords
+pub mod LinesAhead
+pub mod OutlineText
+pub mod TraceLaws
+pub mod TraceReadings
+pub mod TraceText
+pub mod Traces
+pub mod Verdicts
+pub mod Written

@@ -1,0 +1,132 @@
+-- Outlines go out one send after another.
+use Rattle.std.proofs.Common.{Bool, false, codes, Some, ◌≡◌, ℕ, ◌+◌, ◌<◌, ◌≤◌, List, [], ◌∷◌, ◌++◌, Option, Result, Ok, Err, take, length, drop, get_or, map, refl, sym, ap, ◌∙◌, subst, append-nil}
+use Rattle.std.specs.Bool.{OnFalse, OnTrue}
+use Rattle.std.specs.Result.{is_ok}
+use Rattle.std.specs.FinSet as set
+use Rattle.std.specs.List.{filter, range_with_len, slice_get}
+use Rattle.std.specs.Option.{option_map_or}
+use Rattle.std.proofs.lemmas.List.{take_at}
+use Rattle.std.proofs.Math.ListN.{drop_of_length-le}
+use Rattle.pr_roles.specs.declared.parts.Nexus.{Nexus as NexusPart}
+use Rattle.pr_roles.specs.declared.parts.Parts.{Parts}
+use Rattle.pr_roles.specs.Scenarios.{scenario_of}
+use Rattle.pr_sets.specs.declared.word_set.WordSet.{WordSet}
+use Rattle.pr_sets.specs.Kept.{numbers_of_bits}
+use Rattle.pr_views.specs.declared.view.ViewOf.{ViewOf}
+use Rattle.pr_views.specs.Possibilities.{key_at}
+use Rattle.pr_views.specs.Views.{View}
+use Rattle.pr_views.specs.Rooms.{contains_at, view_of}
+use Rattle.pr_verify.specs.declared.table.Row.{Row as KeptRow}
+use Rattle.pr_verify.specs.Tables.{Table}
+use Rattle.pr_verify.specs.Rooms.{row_of}
+use Rattle.pr_report.specs.Written.{Wrote, FallsShort, Puts}
+use Rattle.pr_report.specs.PrintedLines.{joined_by_spaces}
+use Rattle.pr_report.specs.TraceText.{name_of, names_in, names_of}
+use Rattle.pr_report.specs.OutlineText.{free_or_key, outlines_text, registration_line, send_text, sends_text}
+use Rattle.pr_report.proofs.lemmas.Written.Fronts.{held_front, held_more}
+use Rattle.pr_report.proofs.lemmas.Written.Possibilities.{line_pieces, shown}
+use Rattle.pr_report.proofs.lemmas.TraceText.Lines.{drop_here, names_of_scenario}
+
+-- the line of a send, and what its view is for this host
+abbrev pub line_and_view : ℕ → ℕ × ViewOf WordSet → ℕ × View
+line_and_view host e = (e.0, view_of (λ (s : WordSet). numbers_of_bits s.bits) host e.1)
+
+-- ---- the line of a host's or guest's registrations
+
+abbrev pub is_member : WordSet → ℕ → Bool
+is_member s n = set.contains (numbers_of_bits s.bits) n
+
+-- the words of those registrations that are in a set
+abbrev pub key_words : List ℕ → WordSet → List ℕ
+key_words keys s = shown (λ r. free_or_key (key_at keys r)) (is_member s) (range_with_len 0 (length keys + 1))
+
+own_set : (sets : List WordSet) (g : ℕ) (s : WordSet) → slice_get sets g ≡ Some s
+    → contains_at (λ (t : WordSet). numbers_of_bits t.bits) sets g ≡ is_member s
+own_set sets g s at = ap (λ o. (λ (n : ℕ). option_map_or (λ (t : WordSet). set.contains (numbers_of_bits t.bits) n) o false)) at
+
+-- the words of those that the view has
+abbrev pub keys_of : ViewOf WordSet → ℕ → List ℕ
+keys_of v g = shown (λ r. free_or_key (key_at v.keys.items r)) (contains_at (λ (t : WordSet). numbers_of_bits t.bits) v.registrations g) (range_with_len 0 (length v.keys.items + 1))
+
+-- the pieces in which it goes out
+pub registration_begins : (names : List (List ℕ)) (own : ℕ) (v : ViewOf WordSet) (g : ℕ) (name : List ℕ) → name ≡ name_of names g
+    → registration_line names (view_of (λ (t : WordSet). numbers_of_bits t.bits) own v) g
+    ≡ codes " " ++ (joined_by_spaces (codes "registration" ∷ name ∷ []) ++ (keys_of v g ++ 10 ∷ []))
+unfolding registration_line
+registration_begins names own v g name called =
+    line_pieces (codes " ") (codes "registration" ∷ name_of names g ∷ [])
+    (map (λ r. free_or_key (key_at v.keys.items r)) (filter (contains_at (λ (t : WordSet). numbers_of_bits t.bits) v.registrations g) (range_with_len 0 (length v.keys.items + 1))))
+    ∙ ap (λ n. codes " " ++ (joined_by_spaces (codes "registration" ∷ n ∷ []) ++ (keys_of v g ++ 10 ∷ []))) (sym called)
+
+pub registration_pieces : (names : List (List ℕ)) (own : ℕ) (v : ViewOf WordSet) (g : ℕ) (s : WordSet) (keys name : List ℕ)
+    → slice_get v.registrations g ≡ Some s → keys ≡ v.keys.items → name ≡ name_of names g
+    → registration_line names (view_of (λ (t : WordSet). numbers_of_bits t.bits) own v) g
+    ≡ codes " " ++ (joined_by_spaces (codes "registration" ∷ name ∷ []) ++ (key_words keys s ++ 10 ∷ []))
+registration_pieces names own v g s keys name at same called =
+    let begun = λ (rest : List ℕ). codes " " ++ (joined_by_spaces (codes "registration" ∷ name ∷ []) ++ (rest ++ 10 ∷ [])) in
+    registration_begins names own v g name called
+    ∙ (ap (λ p. begun (shown (λ r. free_or_key (key_at v.keys.items r)) p (range_with_len 0 (length v.keys.items + 1)))) (own_set v.registrations g s at)
+    ∙ ap (λ ks. begun (key_words ks s)) (sym same))
+
+-- ---- sends
+
+sends_here : (names : List (List ℕ)) (host : ℕ) (vs : List (ℕ × ViewOf WordSet)) (rs : List KeptRow) (i : ℕ) (v : ℕ × ViewOf WordSet) (r : KeptRow)
+    → i < length vs → v ≡ get_or vs i v → i < length rs → r ≡ get_or rs i r
+    → sends_text names (map (line_and_view host) (drop i vs)) (map row_of (drop i rs))
+    ≡ send_text names v.0 (line_and_view host v).1 (row_of r) ++ sends_text names (map (line_and_view host) (drop (i + 1) vs)) (map row_of (drop (i + 1) rs))
+sends_here names host vs rs i v r h is k has =
+    ap (λ l. sends_text names (map (line_and_view host) l) (map row_of (drop i rs))) (drop_here vs i v h is)
+    ∙ ap (λ l. sends_text names (map (line_and_view host) (v ∷ drop (i + 1) vs)) (map row_of l)) (drop_here rs i r k has)
+
+-- each goes to the page behind what is held there
+module _ (names : List (List ℕ)) (host : ℕ) (vs : List (ℕ × ViewOf WordSet)) (rs read : List KeptRow) (i : ℕ) (v : ℕ × ViewOf WordSet) (r : KeptRow)
+    (same : read ≡ rs) (each : length rs ≡ length vs) (there : i < length read) (is : v ≡ get_or vs i v) (has : r ≡ get_or read i r) where
+  row_there : i < length rs
+  row_there = subst (λ l. i < length l) same there
+
+  here : sends_text names (map (line_and_view host) (drop i vs)) (map row_of (drop i rs))
+      ≡ send_text names v.0 (line_and_view host v).1 (row_of r) ++ sends_text names (map (line_and_view host) (drop (i + 1) vs)) (map row_of (drop (i + 1) rs))
+  here = sends_here names host vs rs i v r (subst (λ n. i < n) each row_there) is row_there (has ∙ ap (λ l. get_or l i r) same)
+
+  module _ (old mid new : Option (List ℕ)) (text held : List ℕ) (w : Wrote old mid text (held ++ sends_text names (map (line_and_view host) (drop i vs)) (map row_of (drop i rs)))) where
+    pub sends_more : (left : List ℕ) → Wrote mid new (held ++ send_text names v.0 (line_and_view host v).1 (row_of r)) left
+        → Wrote old new text (left ++ sends_text names (map (line_and_view host) (drop (i + 1) vs)) (map row_of (drop (i + 1) rs)))
+    sends_more left p = held_more old mid new text held _ _ left (subst (λ l. Wrote old mid text (held ++ l)) here w) p
+
+    pub sends_front : FallsShort mid new (held ++ send_text names v.0 (line_and_view host v).1 (row_of r)) → FallsShort old new text
+    sends_front p = held_front old mid new text held _ _ (subst (λ l. Wrote old mid text (held ++ l)) here w) p
+
+no_sends : (names : List (List ℕ)) (views : List (ℕ × View)) → sends_text names views [] ≡ []
+no_sends names [] = refl
+no_sends names (view ∷ views) = refl
+
+pub sends_end : (old new : Option (List ℕ)) (text held : List ℕ) (names : List (List ℕ)) (host : ℕ) (vs : List (ℕ × ViewOf WordSet)) (rs : List KeptRow) (i : ℕ) → length rs ≤ i
+    → Wrote old new text (held ++ sends_text names (map (line_and_view host) (drop i vs)) (map row_of (drop i rs))) → Wrote old new text held
+sends_end old new text held names host vs rs i h w =
+    subst (λ l. Wrote old new text l)
+    (ap (λ l. held ++ sends_text names (map (line_and_view host) (drop i vs)) (map row_of l)) (drop_of_length-le rs {i = i} h)
+    ∙ (ap (λ l. held ++ l) (no_sends names (map (line_and_view host) (drop i vs))) ∙ append-nil held)) w
+
+-- ---- a page
+
+-- a text that found no room leaves the page as it was, once that is cut again
+pub page_kept : {E : Type 0} (old new cut text : List ℕ) (n : ℕ) (r : Result (Unit {0}) E) (b : Bool) → Puts (Some old) (Some new) text r → b ≡ is_ok r → n ≡ length old → cut ≡ take n new
+    → OnFalse b (cut ≡ old)
+page_kept old new cut text n (Ok done) b p e is at = subst (λ x. OnFalse x (cut ≡ old)) (sym e) tt
+page_kept old new cut text n (Err fault) b p e is at =
+    subst (λ x. OnFalse x (cut ≡ old)) (sym e)
+    (at ∙ (ap (λ k. take k new) is ∙ (ap (λ l. take (length old) l) p.wrote.appended ∙ take_at old p.wrote.front (length old) refl)))
+
+pub page_grown : {E : Type 0} (old new : List ℕ) (text : ℕ → List ℕ) (r : Result (Unit {0}) E) (b : Bool) → ((own : ℕ) → Puts (Some old) (Some new) (text own) r) → b ≡ is_ok r
+    → OnTrue b ((own : ℕ) → new ≡ old ++ text own)
+page_grown old new text (Ok done) b p e = subst (λ x. OnTrue x ((own : ℕ) → new ≡ old ++ text own)) (sym e) p
+page_grown old new text (Err fault) b p e = subst (λ x. OnTrue x ((own : ℕ) → new ≡ old ++ text own)) (sym e) tt
+
+-- ---- the whole
+
+-- the text of a scenario's outlines, whose names were read out
+pub outlines_of_parts : {E : Type 0} (old new : Option (List ℕ)) (p q : Parts) (nexuses : List NexusPart) (tables : List Table) (r : Result (Unit {0}) E)
+    → q ≡ p → nexuses ≡ q.nexuses.items → Puts old new (outlines_text (names_of nexuses) tables) r
+    → Puts old new (outlines_text (names_in (scenario_of p)) tables) r
+outlines_of_parts old new p q nexuses tables r same items puts =
+    subst (λ names. Puts old new (outlines_text names tables) r) (ap names_of (items ∙ ap (λ o. o.nexuses.items) same) ∙ names_of_scenario p) puts

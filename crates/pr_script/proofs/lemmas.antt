@@ -1,0 +1,7 @@
+pub mod Costs
+pub mod Depths
+pub mod Next
+pub mod Program
+pub mod Takes
+pub mod Trees
+pub mod Versions

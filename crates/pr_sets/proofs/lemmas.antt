@@ -1,0 +1,7 @@
+pub mod BitPlaces
+pub mod Bits
+pub mod Lattice
+pub mod Lists
+pub mod Members
+pub mod Wides
+pub mod Words

@@ -1,0 +1,14 @@
+pub mod BytesRead
+pub mod Declarations
+pub mod Drafts
+pub mod Endings
+pub mod Laws
+pub mod LineFaults
+pub mod OpenScripts
+pub mod Reading
+pub mod ScenarioRoundTrip
+pub mod ScriptRoundTrip
+pub mod Sound
+pub mod Standing
+pub mod Steps
+pub mod Texts

@@ -1,0 +1,88 @@
+-- What is written fits, and the first fault decides.
+use Rattle.pr_text.proofs.Common.{◌≡◌, ℕ, ◌+◌, ◌^◌, ◌<◌, Bool, true, false, cond, List, [], ◌∷◌, ◌++◌, length, is_some, Some, None, Ok, Err, Option, Result, sym, refl, ap, ◌∙◌, subst, arith, lines, false≢true, Held, Fits, Scenario, first_under, Declared, nothing, and_then, unless, IsDeclaredBy, all_placed, starts_somewhere, end_placed, answer_of, ReadError, missing_fault, IsDated, IsSound}
+use Rattle.pr_roles.specs.Starts.{CanStart}
+use Rattle.pr_roles.specs.FirstStarts.{starts}
+use Rattle.pr_roles.proofs.lemmas.Starts.AllowedStarts.{first_allowed}
+use Rattle.pr_text.specs.declared.fault.ReadError.TheVariants.{EmptyStart}
+use Rattle.pr_text.specs.Texts.{line_placed, answer_of_lines}
+use Rattle.pr_text.specs.inside.Endings.{start_result}
+use Rattle.pr_text.proofs.lemmas.Endings.Faults.{ended_in_turn}
+use Rattle.pr_text.specs.Laws.{WhatIsWrittenFits, FirstFaultDecides}
+use Rattle.pr_text.proofs.lemmas.Texts.Readings.{start_same}
+use Rattle.pr_text.proofs.lemmas.Sound.FittingParts.{declared_fits}
+use Rattle.pr_text.proofs.lemmas.Sound.Texts.{passed, read_sound}
+
+-- ---- the first fault
+
+behind : (r : Result Declared ReadError) (f g : Declared → Result Declared ReadError) (e : ReadError)
+    → ((d : Declared) → f d ≡ Err e → g d ≡ Err e) → and_then r f ≡ Err e → and_then r g ≡ Err e
+behind (Ok d) f g e later h = later d h
+behind (Err x) f g e later h = h
+
+decided : (ls more : List (List ℕ)) (n : ℕ) (d : Declared) (e : ReadError) → all_placed n ls d ≡ Err e → all_placed n (ls ++ more) d ≡ Err e
+decided [] more n d e h = cc
+decided (l ∷ ls) more n d e h =
+    behind (line_placed (n + 1) l d) (λ x. all_placed (n + 1) ls x) (λ x. all_placed (n + 1) (ls ++ more) x) e (λ x p. decided ls more (n + 1) x e p) h
+
+pub first_fault_decides : FirstFaultDecides
+unfolding answer_of_lines
+first_fault_decides ls more e h = ap (λ r. and_then r (end_placed (length (ls ++ more)))) (decided ls more 0 nothing e h)
+
+-- ---- what is written
+
+-- the lines declare this, and it ends well
+record IsFinished (r : Result Declared ReadError) (n : ℕ) (e : Declared) : Type 0 where
+  declared : Declared
+  placed : r ≡ Ok declared
+  ends : end_placed n declared ≡ Ok e
+
+finished_by : (r : Result Declared ReadError) (n : ℕ) (e : Declared) → and_then r (end_placed n) ≡ Ok e → IsFinished r n e
+finished_by (Ok d) n e h = record { declared = d; placed = refl; ends = h }
+finished_by (Err x) n e h = cc
+
+answer_finished : (text : List ℕ) (d : Declared) → answer_of text ≡ Ok d → IsFinished (all_placed 0 (lines text) nothing) (length (lines text)) d
+unfolding answer_of answer_of_lines
+answer_finished text d h = finished_by _ _ _ (passed _ _ _ _ h)
+
+record EndsWell (o : Option ReadError) (d e : Declared) : Type 0 where
+  faultless : o ≡ None
+  starting : starts_somewhere d ≡ true
+  same : d ≡ e
+
+started_by : (b : Bool) (d e : Declared) → cond b (Ok d) (Err EmptyStart) ≡ Ok e → (b ≡ true) × (d ≡ e)
+started_by true d e h = (refl, cc)
+started_by false d e h = cc
+
+ends_by : (o : Option ReadError) (d e : Declared) → and_then (unless o d) start_result ≡ Ok e → EndsWell o d e
+ends_by None d e h =
+    let s = started_by (starts_somewhere d) d e h in
+    record { faultless = refl; starting = s.0; same = s.1 }
+ends_by (Some x) d e h = cc
+
+ends_well : (n : ℕ) (d e : Declared) → end_placed n d ≡ Ok e → EndsWell (missing_fault n d) d e
+ends_well n d e h = ends_by (missing_fault n d) d e (sym (ended_in_turn n d) ∙ h)
+
+-- The generation is no part of what makes a state an allowed one: the state found has the generation 0.
+some_start : (s : Scenario) → Fits s → (o : Option (Option Held × List (Option ℕ))) → first_under (starts s) s.reservations ≡ o → is_some o ≡ true → CanStart s
+some_start s fits None is h = absurd (false≢true h)
+some_start s fits (Some first) is h =
+    let zero : Scenario = record s { generation = 0 } in
+    let fits_zero : Fits zero = record { version = fits.version; dated = fits.dated; resets = fits.resets; keys = fits.keys; reservations = fits.reservations; nexuses = fits.nexuses } in
+    let small : 0 < 2 ^ 32 = omega arith in
+    let a = (first_allowed zero first.0 first.1 fits_zero small is).1 in
+    record {
+      unit = _;
+      allowed = record { formed = a.formed; hosts = a.hosts; registrations = a.registrations; reservation = a.reservation; pending = a.pending };
+    }
+
+can_start : (d : Declared) (s : Scenario) → IsDeclaredBy d s → Fits s → starts_somewhere d ≡ true → CanStart s
+can_start d s kept fits h = some_start s fits (first_under (starts s) s.reservations) refl (ap (λ o. is_some o) (start_same d s kept) ∙ h)
+
+pub what_is_written_fits : WhatIsWrittenFits
+what_is_written_fits text s is =
+    let f = answer_finished text is.declared is.faultless in
+    let well = ends_well (length (lines text)) f.declared is.declared f.ends in
+    let sound : IsSound (length (lines text)) f.declared × IsDated f.declared = read_sound text (length (lines text)) f.declared (record { placed = f.placed; counted = refl }) in
+    let kept : IsDeclaredBy f.declared s = subst (λ d. IsDeclaredBy d s) (sym well.same) is.kept in
+    let fits = declared_fits (length (lines text)) f.declared s sound.0 sound.1 well.faultless kept in
+    (fits, can_start f.declared s kept fits well.starting)

@@ -1,0 +1,4 @@
+pub mod Attentions
+pub mod Steps
+pub mod TakenSteps
+pub mod UnitStates

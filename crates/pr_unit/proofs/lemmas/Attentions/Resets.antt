@@ -1,0 +1,66 @@
+-- What a reset makes pending.
+use Rattle.std.proofs.Common.{◌≡◌, ℕ, ◌<◌, ◌+◌, Bool, true, false, ◌==◌, ◌&&◌, ◌||◌, nat_lt, IsTrue, refl, sym, ap, ◌∙◌, add-one, arith}
+use Rattle.std.specs.FinSet as set
+use Rattle.std.proofs.lemmas.Bool.{false≢true}
+use Rattle.std.proofs.lemmas.Bool.Decides.{nat_tests}
+use Rattle.std.proofs.Math.Bool.{or-false}
+use Rattle.pr_sets.proofs.lemmas.Members.{lt-suc}
+use Rattle.pr_attention.specs.Attentions.{no_code, is_attention}
+use Rattle.pr_attention.proofs.lemmas.Sets.{contains-insert_code, contains-no_code}
+use Rattle.pr_unit.specs.Attentions.{Pairs, pairs_where, power_on}
+use Rattle.pr_unit.specs.Laws.{ResetsTellEach, ResetsAreWellFormed}
+use Rattle.pr_unit.proofs.lemmas.Attentions.Pairs.{same_pairs, contains-insert-pair, contains-union-pairs, contains-pairs_where}
+
+-- this code for each host below n
+abbrev every_host : ℕ → ℕ → Pairs
+every_host n code = pairs_where n (λ h. set.insert no_code code)
+
+contains-every_host : (n code q x : ℕ) → set.contains (every_host n code) (q, x) ≡ (nat_lt q n && x == code)
+contains-every_host n code q x =
+    contains-pairs_where n (λ h. set.insert no_code code) q x
+    ∙ ap (λ b. nat_lt q n && b) (contains-insert_code no_code code x ∙ ap (λ b. x == code || b) (contains-no_code x) ∙ or-false (x == code))
+
+contains-told : (old : Pairs) (n code q x : ℕ) → set.contains (set.union old (every_host n code)) (q, x) ≡ (set.contains old (q, x) || (nat_lt q n && x == code))
+contains-told old n code q x =
+    contains-union-pairs old (every_host n code) (q, x) ∙ ap (λ b. set.contains old (q, x) || b) (contains-every_host n code q x)
+
+-- no host yet
+pub told_nobody : (old : Pairs) (code : ℕ) → old ≡ set.union old (every_host 0 code)
+told_nobody old code =
+    same_pairs _ _ (λ p. sym (contains-told old 0 code p.0 p.1 ∙ ap (λ b. set.contains old p || (b && p.1 == code)) (not_below p.0) ∙ or-false (set.contains old p)))
+  where
+    not_below : (q : ℕ) → nat_lt q 0 ≡ false
+    not_below q = grind (arith, nat_tests)
+
+-- one host more
+pub told_one : (old : Pairs) (code n : ℕ) → set.insert (set.union old (every_host n code)) (n, code) ≡ set.union old (every_host (n + 1) code)
+told_one old code n =
+    same_pairs _ _ (λ p. contains-insert-pair (set.union old (every_host n code)) (n, code) p
+    ∙ ap (λ b. (p.0 == n && p.1 == code) || b) (contains-told old n code p.0 p.1)
+    ∙ at (p.0 == n) (p.1 == code) (set.contains old p) (nat_lt p.0 n)
+    ∙ ap (λ b. set.contains old p || (b && p.1 == code)) (sym (rw add-one (lt-suc p.0 n)))
+    ∙ sym (contains-told old (n + 1) code p.0 p.1))
+  where
+    at : (e c o l : Bool) → ((e && c) || (o || (l && c))) ≡ (o || ((e || l) && c))
+    at true true true l = refl
+    at true true false l = refl
+    at true false true l = refl
+    at true false false true = refl
+    at true false false false = refl
+    at false c o l = refl
+
+pub pending-reset : ResetsTellEach
+pending-reset u h code = contains-told u.pending u.registry.hosts power_on h code
+
+pub well_formed-reset : ResetsAreWellFormed
+well_formed-reset u w = record {
+  registry = w.registry;
+  pending = λ h code is. at h code (set.contains u.pending (h, code)) (nat_lt h u.registry.hosts) (code == power_on) refl refl refl (sym (pending-reset u h code) ∙ is);
+}
+  where
+    at : (h code : ℕ) (o l c : Bool) → set.contains u.pending (h, code) ≡ o → nat_lt h u.registry.hosts ≡ l → (code == power_on) ≡ c → (o || (l && c)) ≡ true
+        → (h < u.registry.hosts) × IsTrue (is_attention code)
+    at h code true l c there below is both = w.pending h code there
+    at h code false true true there below is both = (grind (arith, nat_tests), let same : code ≡ power_on = grind (arith, nat_tests) in rw same refl)
+    at h code false true false there below is both = absurd (false≢true both)
+    at h code false false c there below is both = absurd (false≢true both)

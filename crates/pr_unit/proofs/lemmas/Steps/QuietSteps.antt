@@ -1,0 +1,81 @@
+-- What does not end GOOD, and what only looks, changes at most what is pending for the sender.
+use Rattle.std.proofs.Common.{◌≡◌, ◌≢◌, ℕ, Bool, true, false, ◌==◌, ◌&&◌, ◌||◌, not, IsTrue, ◌⊎◌, inl, inr, refl, sym, ap, ◌∙◌, subst, arith}
+use Rattle.std.specs.FinSet as set
+use Rattle.std.proofs.lemmas.Bool.{false≢true, and_parts}
+use Rattle.std.proofs.lemmas.Bool.Decides.{nat_tests}
+use Rattle.pr_cdb.specs.declared.command.Command.{Command}
+use Rattle.pr_cdb.specs.declared.command.Command.TheVariants.{Register, RegisterIgnore, Reserve, Release, Clear, Preempt, PreemptAbort}
+use Rattle.pr_cdb.specs.declared.wire.Request.{Request}
+use Rattle.pr_cdb.specs.declared.wire.Request.TheVariants.{Plain, Faulty}
+use Rattle.pr_registry.specs.Hosts.{nobody}
+use Rattle.pr_registry.specs.Changes.{no_change}
+use Rattle.pr_unit.specs.declared.decision.Decision.{Decision}
+use Rattle.pr_unit.specs.declared.decision.Decision.TheVariants.{PowerOn, Attention, Done}
+use Rattle.pr_unit.specs.Attentions.{Pairs, power_on, each_with, reservations_preempted, reservations_released, registrations_preempted}
+use Rattle.pr_unit.specs.UnitStates.{UnitState, effect, after_report, pending_after}
+use Rattle.pr_unit.specs.Replies.{is_good}
+use Rattle.pr_unit.specs.Steps.{StepBy, decision}
+use Rattle.pr_unit.specs.Laws.{IsQuiet, request_looks, QuietSteps}
+use Rattle.pr_unit.proofs.lemmas.Attentions.Pairs.{same_pairs, contains-union-pairs, contains-each_with, contains-remove-pair}
+
+-- nobody is told
+each_with-nobody : (code : ℕ) (pending : Pairs) → set.union pending (each_with nobody code) ≡ pending
+each_with-nobody code pending =
+    same_pairs _ _ (λ p. contains-union-pairs pending (each_with nobody code) p
+    ∙ ap (λ b. set.contains pending p || b) (contains-each_with nobody code p.0 p.1 ∙ ap (λ b. b && p.1 == code) (set.contains-empty _ p.0))
+    ∙ or_false (set.contains pending p))
+  where
+    or_false : (b : Bool) → (b || false) ≡ b
+    or_false true = refl
+    or_false false = refl
+
+told-no_change : (pending : Pairs) → pending_after pending no_change ≡ pending
+told-no_change pending =
+    each_with-nobody registrations_preempted (set.union (set.union pending (each_with nobody reservations_preempted)) (each_with nobody reservations_released))
+    ∙ each_with-nobody reservations_released (set.union pending (each_with nobody reservations_preempted))
+    ∙ each_with-nobody reservations_preempted pending
+
+-- the same state is quiet
+same-quiet : (u : UnitState) (h : ℕ) → IsQuiet u h u
+same-quiet u h = record { registry = refl; others = λ other code differs. refl; own = λ code is. is }
+
+-- one attention less
+reported-quiet : (u : UnitState) (h code : ℕ) → IsQuiet u h (after_report u h code)
+reported-quiet u h code = record {
+  registry = refl;
+  others = λ other x differs. contains-remove-pair u.pending (h, code) (other, x)
+      ∙ ap (λ b. not (b && x == code) && set.contains u.pending (other, x)) (not_same other h differs);
+  own = λ x is. (and_parts (not (h == h && x == code)) (set.contains u.pending (h, x)) (sym (contains-remove-pair u.pending (h, code) (h, x)) ∙ is)).1;
+}
+  where
+    not_same : (a b : ℕ) → a ≢ b → (a == b) ≡ false
+    not_same a b differs = grind (arith, nat_tests)
+
+-- the effect of a command that only looks
+effect-looking : (u : UnitState) (h : ℕ) (c : Command) → IsTrue (request_looks (Plain c)) → effect u h c ≡ u
+effect-looking u h (Register rk sark) looks = absurd (false≢true looks)
+effect-looking u h (RegisterIgnore sark) looks = absurd (false≢true looks)
+effect-looking u h (Reserve rk kind) looks = absurd (false≢true looks)
+effect-looking u h (Release rk kind) looks = absurd (false≢true looks)
+effect-looking u h (Clear rk) looks = absurd (false≢true looks)
+effect-looking u h (Preempt rk sark kind) looks = absurd (false≢true looks)
+effect-looking u h (PreemptAbort rk sark kind) looks = absurd (false≢true looks)
+effect-looking u h _ looks = ap (λ (p : Pairs). record u { pending = p }) (told-no_change u.pending)
+
+pub quiet_steps : QuietSteps
+quiet_steps u h q r v step why = by_decision (decision u h q) step
+  where
+    to : (w : UnitState) → v ≡ w → IsQuiet u h w → IsQuiet u h v
+    to w is quiet = subst (IsQuiet u h) (sym is) quiet
+
+    -- what ends GOOD only looks
+    looking : (q : Request) → StepBy Done u h q r v → (is_good r ≡ false) ⊎ IsTrue (request_looks q) → IsQuiet u h v
+    looking (Faulty sense) step why = absurd step
+    looking (Plain c) step (inl bad) = absurd (false≢true (sym bad ∙ ap is_good step.0))
+    looking (Plain c) step (inr looks) = to u (step.1 ∙ effect-looking u h c looks) (same-quiet u h)
+
+    by_decision : (l : Decision) → StepBy l u h q r v → IsQuiet u h v
+    by_decision PowerOn step = to (after_report u h power_on) step.1 (reported-quiet u h power_on)
+    by_decision Attention step = to (after_report u h step.code) step.after (reported-quiet u h step.code)
+    by_decision Done step = looking q step why
+    by_decision _ step = to u step.1 (same-quiet u h)

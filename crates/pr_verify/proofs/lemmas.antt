@@ -1,0 +1,16 @@
+pub mod Checks
+pub mod Gaining
+pub mod Inferring
+pub mod Known
+pub mod Laws
+pub mod Least
+pub mod LeastOutlines
+pub mod Listing
+pub mod Outlines
+pub mod Places
+pub mod Refusals
+pub mod Reviewing
+pub mod Rooms
+pub mod Tabling
+pub mod Underway
+pub mod Verdicts

@@ -1,0 +1,21 @@
+-- Outlines make a scenario safe.
+use Rattle.std.proofs.Common.{◌≡◌, ℕ, [], Option, Some, false, ap, arith}
+use Rattle.pr_roles.specs.Scenarios.{Scenario, Task, Scripted, task}
+use Rattle.pr_roles.specs.Worlds.{World, control, is_trapped, world_from}
+use Rattle.pr_roles.specs.Safety.{IsSafe, KeepsBudgetBy}
+use Rattle.pr_verify.specs.Laws.{OutlinesMakeSafe}
+use Rattle.pr_verify.proofs.lemmas.Outlines.Events.{IsKeptBy, kept_at_start, run_kept}
+
+-- a script on its course isn't trapped, and is within its budget
+on_course_is_fine : (s : Scenario) (w : World) (h : ℕ) (t : Option Task) → IsKeptBy t s w h → (is_trapped (control w h) ≡ false) × KeepsBudgetBy t w h
+on_course_is_fine s w h (Some (Scripted script budget)) x =
+    let within = x.spent [] in
+    let cost = x.outlined.fitting.cost in
+    (ap is_trapped x.going, omega arith)
+on_course_is_fine s w h _ free = (ap is_trapped free, tt)
+
+pub outlines_make_safe : OutlinesMakeSafe
+unfolding IsSafe
+outlines_make_safe s fields have u allowed es w run =
+    let all = run_kept s (world_from s u) es w run (kept_at_start s u fields have allowed) in
+    (λ h. on_course_is_fine s w h (task s h) (all.0 h), all.1)

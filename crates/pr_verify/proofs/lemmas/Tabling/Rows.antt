@@ -1,0 +1,284 @@
+-- The row of a place, by the outcomes of its command.
+use Rattle.std.proofs.Common.{◌≡◌, ◌↔◌, ℕ, suc, ◌+◌, ◌<◌, ◌≤◌, Bool, true, false, IsTrue, List, [], ◌∷◌, ◌++◌, length, map, get_or, slice_index_or, take, Option, Some, None, refl, sym, ap, ◌∙◌, subst, inl, inr, ◌⊎◌, arith}
+use Rattle.std.specs.List.{All, AllPairs, AllZip, Contains, filter, range_with_len}
+use Rattle.std.proofs.lemmas.List.{map-append, map-id, take_more}
+use Rattle.std.proofs.lemmas.List.FromFn.{map-range_with_len_more}
+use Rattle.std.proofs.lemmas.Bool.{cases_lt}
+use Rattle.std.proofs.lemmas.List.Elements.{All-map, All-push, filter-append, Contains-append_left, Contains-push, Contains-push_cases, Contains-get_or}
+use Rattle.std.proofs.lemmas.Simd.{map-map}
+use Rattle.std.proofs.lemmas.List.Quantifiers.{all_pairs_push, position-Some}
+use Rattle.pr_script.specs.declared.script.Test.TheVariants as test
+use Rattle.pr_script.specs.Takes.{matches}
+use Rattle.pr_script.specs.Scripts.{Stmts}
+use Rattle.pr_roles.specs.DeclaredRefusals.{refusals_of}
+use Rattle.pr_roles.specs.Scenarios.{Scenario, Task, Scripted, role, task}
+use Rattle.pr_sets.specs.Numbers.{Numbers}
+use Rattle.pr_sets.specs.declared.word_set.WordSet.{WordSet}
+use Rattle.pr_views.specs.declared.view.ViewOf.{ViewOf}
+use Rattle.pr_views.specs.Views.{View}
+use Rattle.pr_views.specs.Rooms.{view_of}
+use Rattle.pr_domain.specs.declared.landing.Class.{Class}
+use Rattle.pr_domain.specs.declared.landing.Class.TheVariants.{Good, Conflict, Busy, Full, Sense}
+use Rattle.pr_domain.specs.declared.landing.Landing.{Landing}
+use Rattle.pr_domain.specs.declared.landing.Landing.TheVariants.{Arm, NoArm}
+use Rattle.pr_domain.specs.Landings.{IsLanding}
+use Rattle.pr_domain.specs.Outcomes.{Outcome, IsExpected, AreOutcomes, IsPermittedIn, IsRefusedIn}
+use Rattle.pr_verify.specs.declared.outline.OutlineBy.{OutlineBy}
+use Rattle.pr_verify.specs.declared.places.Spot.{Spot}
+use Rattle.pr_verify.specs.Places.{Place, places_of}
+use Rattle.pr_verify.specs.Outlines.{Outline, OnScripted, KeepsToRole, IsListed}
+use Rattle.pr_verify.specs.Rooms.{outline_of, table_of, IsMadeFor, IsScripted}
+use Rattle.pr_verify.specs.Refusals.{class_number}
+use Rattle.pr_verify.specs.Tables.{TakesArm, Row, IsRow, Table, IsTable, AreTables, has_script}
+use Rattle.pr_verify.specs.declared.table.Table.{Table as KeptTable}
+use Rattle.pr_verify.specs.inside.Reviewing.{IsUnarmed}
+use Rattle.pr_verify.specs.inside.Tabling.{IsInRange}
+use Rattle.pr_verify.specs.inside.Listing.{place_of}
+use Rattle.pr_verify.proofs.lemmas.Reviewing.Findings.{place_lines}
+use Rattle.pr_verify.proofs.lemmas.Reviewing.FittingPlaces.{IsHere, shown_here, shown_there, answer_own, answer_host, keeps_role, breaks_role, lacks_arm, lacking_listed}
+use Rattle.pr_verify.proofs.lemmas.Least.FirstLines.{among_back}
+use Rattle.pr_verify.proofs.lemmas.Rooms.MappedLists.{mapped, unmapped}
+
+-- ---- lists that rise
+
+-- those below k of which it holds
+abbrev pub AreBelow : (ℕ → Type 0) → ℕ → List ℕ → Type 0
+AreBelow P k xs = (n : ℕ) → Contains xs n ↔ ((n < k) × P n)
+
+module _ (P : ℕ → Type 0) (k : ℕ) (xs : List ℕ) (each : AreBelow P k xs) where
+  pub below_same : (P k → ⊥) → AreBelow P (k + 1) xs
+  below_same none n = (
+    λ there. let e = (each n).0 there in let less : n < k + 1 = let m = e.0 in omega arith in (less, e.1),
+    λ is. at is (cases_lt n k),
+  )
+    where
+      at : (n < k + 1) × P n → (n < k) ⊎ (k ≤ n) → Contains xs n
+      at is (inl less) = (each n).1 (less, is.1)
+      at is (inr more) = let m = is.0 in let same : n ≡ k = omega arith in absurd (none (subst P same is.1))
+
+  pub below_more : P k → AreBelow P (k + 1) (xs ++ k ∷ [])
+  below_more one n = (
+    λ there. from (Contains-push_cases xs k n there),
+    λ is. at is (cases_lt n k),
+  )
+    where
+      from : Contains xs n ⊎ (k ≡ n) → (n < k + 1) × P n
+      from (inl there) = let e = (each n).0 there in let less : n < k + 1 = let m = e.0 in omega arith in (less, e.1)
+      from (inr same) = let less : n < k + 1 = omega arith in (less, subst P same one)
+
+      at : (n < k + 1) × P n → (n < k) ⊎ (k ≤ n) → Contains (xs ++ k ∷ []) n
+      at is (inl less) = Contains-append_left xs (k ∷ []) n ((each n).1 (less, is.1))
+      at is (inr more) = let m = is.0 in let same : k ≡ n = omega arith in subst (Contains (xs ++ k ∷ [])) same (Contains-push xs k)
+
+  pub rise_more : AllPairs (λ m n. m < n) xs → AllPairs (λ m n. m < n) (xs ++ k ∷ [])
+  rise_more up = all_pairs_push (λ m n. m < n) xs k up (λ j d small. ((each (get_or xs j d)).0 (Contains-get_or xs j d small)).0)
+
+-- ---- classes without an arm
+
+-- those with a smaller number
+abbrev pub AreBefore : (Class → Type 0) → ℕ → List Class → Type 0
+AreBefore P from cs = (class : Class) → Contains cs class ↔ ((class_number class < from) × P class)
+
+module _ (P : Class → Type 0) (from : ℕ) (cs : List Class) (each : AreBefore P from cs) (next : Class) (is : P next) (late : from ≤ class_number next)
+    (first : (other : Class) → P other → from ≤ class_number other → class_number next ≤ class_number other)
+    (alone : (other : Class) → P other → class_number other ≡ class_number next → other ≡ next) where
+  pub before_more : AreBefore P (class_number next + 1) (cs ++ next ∷ [])
+  before_more class = (
+    λ there. at (Contains-push_cases cs next class there),
+    λ has. back has (cases_lt (class_number class) from),
+  )
+    where
+      at : Contains cs class ⊎ (next ≡ class) → (class_number class < class_number next + 1) × P class
+      at (inl there) = let e = (each class).0 there in let less : class_number class < class_number next + 1 = let m = e.0 in omega arith in (less, e.1)
+      at (inr same) = let e = ap class_number same in let less : class_number class < class_number next + 1 = omega arith in (less, subst P same is)
+
+      back : (class_number class < class_number next + 1) × P class → (class_number class < from) ⊎ (from ≤ class_number class) → Contains (cs ++ next ∷ []) class
+      back has (inl less) = Contains-append_left cs (next ∷ []) class ((each class).1 (less, has.1))
+      back has (inr more) =
+          let low = first class has.1 more in
+          let high = has.0 in
+          let same : class_number class ≡ class_number next = omega arith in
+          subst (Contains (cs ++ next ∷ [])) (sym (alone class has.1 same)) (Contains-push cs next)
+
+  pub before_rise : AllPairs (λ c d. class_number c < class_number d) cs → AllPairs (λ c d. class_number c < class_number d) (cs ++ next ∷ [])
+  before_rise up = all_pairs_push (λ c d. class_number c < class_number d) cs next up (λ j d small. let e = ((each (get_or cs j d)).0 (Contains-get_or cs j d small)).0 in omega arith)
+
+-- those before whose number no class is left are all
+pub all_before : (P : Class → Type 0) (from : ℕ) (cs : List Class) → AreBefore P from cs → ((class : Class) → P class → from ≤ class_number class → ⊥) → (class : Class) → Contains cs class ↔ P class
+all_before P from cs each none class = (λ there. ((each class).0 there).1, λ is. at is (cases_lt (class_number class) from))
+  where
+    at : P class → (class_number class < from) ⊎ (from ≤ class_number class) → Contains cs class
+    at is (inl less) = (each class).1 (less, is)
+    at is (inr more) = absurd (none class is more)
+
+-- one more in range
+pub in_range_more : {S : Type 0} (xs : List (Landing × ViewOf S)) (n : ℕ) (x : Landing × ViewOf S) → n < length xs → x ≡ slice_index_or xs n x → ((class : Class) → x.0 ≡ NoArm class → IsInRange class)
+    → ((class : Class) → IsUnarmed n xs class → IsInRange class) → (class : Class) → IsUnarmed (n + 1) xs class → IsInRange class
+in_range_more xs n x small read here before class one = at (among_back (λ o. o.0 ≡ NoArm class) xs n x small read one)
+  where
+    at : IsUnarmed n xs class ⊎ (x.0 ≡ NoArm class) → IsInRange class
+    at (inl other) = before class other
+    at (inr is) = here class is
+
+-- a class is known by its number
+pub class_alone : (a b : Class) → IsInRange a → IsInRange b → class_number a ≡ class_number b → a ≡ b
+class_alone Good Good one two same = refl
+class_alone Conflict Conflict one two same = refl
+class_alone Busy Busy one two same = refl
+class_alone Full Full one two same = refl
+class_alone (Sense s) (Sense t) one two same =
+    let key : s.key ≡ t.key = omega (arith, one.0, one.1, one.2, two.0, two.1, two.2) in
+    let asc : s.asc ≡ t.asc = omega (arith, one.0, one.1, one.2, two.0, two.1, two.2) in
+    let ascq : s.ascq ≡ t.ascq = omega (arith, one.0, one.1, one.2, two.0, two.1, two.2) in
+    λ i. Sense (record { key = key i; asc = asc i; ascq = ascq i })
+class_alone _ _ one two same = absurd (omega arith)
+
+-- ---- the row
+
+module _ (s : Scenario) (o : Outline) (p : Place) (v : View) (here : IsHere o p v) {S : Type 0} (members : S → Numbers) (own : ℕ) (xs : List (Landing × ViewOf S))
+    (are : AreOutcomes v (refusals_of s o.host) p.command p.tests (map (λ x. (x.0, view_of members own x.1)) xs)) where
+  landing_listed : (outcome : Outcome) (l : Landing) → Contains (map (λ x. (x.0, view_of members own x.1)) xs) outcome → outcome.0 ≡ l → Contains (map (λ x. x.0) xs) l
+  landing_listed outcome l listed is =
+      let one = unmapped (λ x. (x.0, view_of members own x.1)) xs outcome listed in
+      subst (Contains (map (λ x. x.0) xs)) (ap (λ (y : Outcome). y.0) one.2 ∙ is) (mapped (λ x. x.0) xs one.0 one.1)
+
+  arm_listed : (n : ℕ) → TakesArm s o p n → Contains (map (λ x. x.0) xs) (Arm n)
+  arm_listed n takes = at one.outcome.0 refl one.landing
+    where
+      one : IsExpected (map (λ x. (x.0, view_of members own x.1)) xs) p.tests takes.reply takes.after
+      one = are.cover takes.from takes.reply takes.after (shown_here s o p v here takes.from takes.shown) (answer_own s o p v here takes.from takes.reply takes.after takes.answer)
+
+      at : (l : Landing) → one.outcome.0 ≡ l → IsLanding p.tests takes.reply l → Contains (map (λ x. x.0) xs) (Arm n)
+      at (Arm m) is first =
+          let same : Some m ≡ Some n = sym first ∙ takes.taken in
+          let e : m ≡ n = cc in
+          landing_listed one.outcome (Arm n) one.listed (is ∙ ap (λ k. Arm k) e)
+      at (NoArm class) is ends = let bad : None ≡ Some n = sym ends.0 ∙ takes.taken in cc
+
+  takes_arm : (n : ℕ) → Contains (map (λ x. x.0) xs) (Arm n) → TakesArm s o p n
+  takes_arm n listed =
+      let one = unmapped (λ (x : Landing × ViewOf S). x.0) xs (Arm n) listed in
+      let there = mapped (λ (x : Landing × ViewOf S). (x.0, view_of members own x.1)) xs one.0 one.1 in
+      let come = are.come (one.0.0, view_of members own one.0.1) there in
+      let lands = are.only (one.0.0, view_of members own one.0.1) come.0 there come.1 in
+      record {
+        from = lands.from;
+        shown = shown_there s o p v here lands.from lands.shown;
+        reply = lands.reply;
+        after = lands.after;
+        answer = answer_host s o p v here lands.from lands.reply lands.after lands.answer;
+        taken = subst (IsLanding p.tests lands.reply) one.2 lands.landing;
+      }
+
+  small_arm : (n : ℕ) → TakesArm s o p n → n < length p.tests
+  small_arm n takes = (position-Some (λ t. matches t takes.reply) p.tests n test.Good takes.taken).0
+
+  permitted_is : (b : Bool) → (IsTrue b → IsPermittedIn v (role s o.host) p.command) → (b ≡ false → IsRefusedIn v (role s o.host) p.command) → IsTrue b ↔ KeepsToRole s o p
+  permitted_is true keep break = (λ is. keeps_role s o p v here (keep refl), λ keeps. refl)
+  permitted_is false keep break = (
+    λ is. let bad : false ≡ true = is in cc,
+    λ keeps.
+        let breaks = breaks_role s o p v here (break refl) in
+        let is = keeps breaks.from breaks.reply breaks.after breaks.shown breaks.step breaks.good in
+        let bad : true ≡ false = sym is ∙ breaks.refused in cc,
+  )
+
+  pub row_is : (r : Row) → r.command ≡ p.command → r.tests ≡ p.tests → (IsTrue r.permitted → IsPermittedIn v (role s o.host) p.command) → (r.permitted ≡ false → IsRefusedIn v (role s o.host) p.command)
+      → AreBelow (λ n. Contains (map (λ x. x.0) xs) (Arm n)) (length p.tests) r.arms → AllPairs (λ m n. m < n) r.arms → ((class : Class) → Contains r.unarmed class ↔ IsUnarmed (length xs) xs class)
+      → AllPairs (λ c d. class_number c < class_number d) r.unarmed → IsRow s o p r
+  row_is r command tests keep break arms arms_rise unarmed unarmed_rise = record {
+    command = command;
+    tests = tests;
+    permitted = permitted_is r.permitted keep break;
+    arms = λ n. (λ there. takes_arm n ((arms n).0 there).1, λ takes. (arms n).1 (small_arm n takes, arm_listed n takes));
+    arms_rise = arms_rise;
+    unarmed = λ class. (λ there. lacks_arm s o p v here members own xs are class ((unarmed class).0 there), λ lacks. (unarmed class).1 (lacking_listed s o p v here members own xs are class lacks));
+    unarmed_rise = unarmed_rise;
+  }
+
+-- ---- rows, one after another
+
+pub zip_push : {A B : Type 0} (R : A → B → Type 0) (xs : List A) (ys : List B) (x : A) (y : B) → AllZip R xs ys → R x y → AllZip R (xs ++ x ∷ []) (ys ++ y ∷ [])
+zip_push R [] [] x y all one = (one, tt)
+zip_push R (a ∷ xs) (b ∷ ys) x y all one = (all.0, zip_push R xs ys x y all.1 one)
+zip_push R _ _ x y all one = absurd all
+
+pub zip_more : {A B : Type 0} (R : A → B → Type 0) (xs : List A) (ys : List B) (i : ℕ) (x : A) (y : B) → i < length xs → x ≡ get_or xs i x → AllZip R (take i xs) ys → R x y
+    → AllZip R (take (i + 1) xs) (ys ++ y ∷ [])
+zip_more R xs ys i x y small read all one =
+    subst (λ l. AllZip R l (ys ++ y ∷ [])) (ap (λ z. take i xs ++ z ∷ []) read ∙ sym (take_more xs i x small)) (zip_push R (take i xs) ys x y all one)
+
+pub zip_map : {A B C D : Type 0} (R : C → D → Type 0) (f : A → C) (g : B → D) (xs : List A) (ys : List B) → AllZip (λ x y. R (f x) (g y)) xs ys → AllZip R (map f xs) (map g ys)
+zip_map R f g [] [] all = tt
+zip_map R f g (x ∷ xs) (y ∷ ys) all = (all.0, zip_map R f g xs ys all.1)
+zip_map R f g _ _ all = absurd all
+
+pub zip_length : {A B : Type 0} (R : A → B → Type 0) (xs : List A) (ys : List B) → AllZip R xs ys → length ys ≡ length xs
+zip_length R [] [] all = refl
+zip_length R (x ∷ xs) (y ∷ ys) all = ap suc (zip_length R xs ys all.1)
+zip_length R _ _ all = absurd all
+
+-- ---- tables, host by host
+
+-- what holds of the script holds of this one
+pub of_script : (t : Option Task) (script : Stmts) (P : Stmts → Type 0) → IsScripted t → OnScripted t (λ b n. script ≡ b) → OnScripted t (λ b n. P b) → P script
+of_script (Some (Scripted b n)) script P scripted same all = subst P (sym same) all
+of_script _ script P scripted same all = absurd scripted
+
+-- the views of an outline that is listed stand at the lines of the sends
+pub lines_listed : {S : Type 0} (members : S → Numbers) (o : OutlineBy (ViewOf S)) (script : Stmts) (spots : List Spot) → map place_of spots ≡ places_of script → IsListed script (outline_of members o)
+    → map (λ e. e.0) o.views.items ≡ map (λ p. p.line) spots
+lines_listed {S} members o script spots places listed =
+    sym (map-map (λ (e : ℕ × View). e.0) (λ (e : ℕ × ViewOf S). (e.0, view_of members o.host e.1)) o.views.items) ∙ listed ∙ place_lines script spots places
+
+range_more : (n : ℕ) → range_with_len 0 (n + 1) ≡ range_with_len 0 n ++ n ∷ []
+range_more n = sym (map-id (range_with_len 0 (n + 1))) ∙ map-range_with_len_more (λ h. h) 0 n n (omega arith) ∙ ap (λ l. l ++ n ∷ []) (map-id (range_with_len 0 n))
+
+module _ (p : ℕ → Bool) (n : ℕ) where
+  step : filter p (range_with_len 0 (n + 1)) ≡ filter p (range_with_len 0 n) ++ filter p (n ∷ [])
+  step = ap (filter p) (range_more n) ∙ filter-append p (range_with_len 0 n) (n ∷ [])
+
+  pub filter_kept : p n ≡ true → filter p (range_with_len 0 (n + 1)) ≡ filter p (range_with_len 0 n) ++ n ∷ []
+  filter_kept is = step ∙ ap (λ l. filter p (range_with_len 0 n) ++ l) one
+    where
+      one : filter p (n ∷ []) ≡ n ∷ []
+      one = rw is refl
+
+  pub filter_left : p n ≡ false → filter p (range_with_len 0 (n + 1)) ≡ filter p (range_with_len 0 n)
+  filter_left is = step ∙ ap (λ l. filter p (range_with_len 0 n) ++ l) none ∙ append-nil (filter p (range_with_len 0 n))
+    where
+      none : filter p (n ∷ []) ≡ []
+      none = rw is refl
+
+      append-nil : (l : List ℕ) → l ++ [] ≡ l
+      append-nil [] = refl
+      append-nil (x ∷ xs) = ap (λ ys. x ∷ ys) (append-nil xs)
+
+-- ---- one table more, or none
+
+module _ (s : Scenario) (members : WordSet → Numbers) (room : WordSet → ℕ) where
+  -- those of the nexuses before this one
+  pub record AreBeforeHost (n : ℕ) (ts : List KeptTable) : Type 0 where
+    pub hosts : map (λ t. t.outline.host) ts ≡ filter (λ h. has_script (task s h)) (range_with_len 0 n)
+    pub each : All (λ t. OnScripted (task s t.outline.host) (λ script budget. IsTable s script (table_of members t))) ts
+    pub made : All (λ t. IsMadeFor room s t.outline) ts
+    pub rows : All (λ t. length t.rows.items ≡ length t.outline.views.items) ts
+
+  pub one_table : (n : ℕ) (ts : List KeptTable) (t : KeptTable) → AreBeforeHost n ts → has_script (task s n) ≡ true → t.outline.host ≡ n → OnScripted (task s n) (λ script budget. IsTable s script (table_of members t)) → IsMadeFor room s t.outline
+      → length t.rows.items ≡ length t.outline.views.items → AreBeforeHost (n + 1) (ts ++ t ∷ [])
+  one_table n ts t before is host table made rows = record {
+    hosts = map-append (λ (u : KeptTable). u.outline.host) ts (t ∷ []) ∙ (λ i. before.hosts i ++ host i ∷ []) ∙ sym (filter_kept (λ h. has_script (task s h)) n is);
+    each = All-push (λ u. OnScripted (task s u.outline.host) (λ script budget. IsTable s script (table_of members u))) ts t before.each
+        (subst (λ h. OnScripted (task s h) (λ script budget. IsTable s script (table_of members t))) (sym host) table);
+    made = All-push (λ u. IsMadeFor room s u.outline) ts t before.made made;
+    rows = All-push (λ u. length u.rows.items ≡ length u.outline.views.items) ts t before.rows rows;
+  }
+
+  pub no_table : (n : ℕ) (ts : List KeptTable) → AreBeforeHost n ts → has_script (task s n) ≡ false → AreBeforeHost (n + 1) ts
+  no_table n ts before is = record { hosts = before.hosts ∙ sym (filter_left (λ h. has_script (task s h)) n is); each = before.each; made = before.made; rows = before.rows }
+
+  pub are_tables : (ts : List KeptTable) → AreBeforeHost (length s.nexuses) ts → AreTables s (map (table_of members) ts)
+  are_tables ts before = record {
+    hosts = map-map (λ (t : Table). t.outline.host) (table_of members) ts ∙ before.hosts;
+    each = All-map (λ (t : Table). OnScripted (task s t.outline.host) (λ script budget. IsTable s script t)) (table_of members) ts before.each;
+  }

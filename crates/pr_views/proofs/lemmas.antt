@@ -1,0 +1,4 @@
+pub mod Portions
+pub mod Possibilities
+pub mod Room
+pub mod Views

@@ -1,0 +1,4 @@
+pub mod AllowedStarts
+pub mod Ends
+pub mod FollowedHistories
+pub mod Refutations

@@ -1,0 +1,152 @@
+-- Histories that are followed, and what their last item breaks.
+use Rattle.std.proofs.Common.{◌≡◌, ℕ, ◌+◌, ◌<◌, true, false, List, [], ◌∷◌, ◌++◌, length, get_or, take, Some, None, refl, sym, ap, ◌∙◌, subst, arith}
+use Rattle.std.specs.Prelude.{map, vec_len}
+use Rattle.std.specs.List.{range_with_len}
+use Rattle.std.proofs.lemmas.List.{length-map, take_more}
+use Rattle.pr_cdb.specs.declared.command.Command.{Command}
+use Rattle.pr_cdb.specs.declared.reply.Reply.{Reply}
+use Rattle.pr_cdb.specs.declared.wire.Request.TheVariants.{Plain}
+use Rattle.pr_cdb.specs.Spelling.{spelling}
+use Rattle.pr_unit.specs.UnitStates.{UnitState}
+use Rattle.pr_unit.specs.Replies.{is_good}
+use Rattle.pr_script.specs.Scripts.{ready}
+use Rattle.pr_roles.specs.declared.entry.Entry.{Entry}
+use Rattle.pr_roles.specs.declared.how.How.{How}
+use Rattle.pr_roles.specs.declared.item.Item.{Item}
+use Rattle.pr_roles.specs.declared.item.Item.TheVariants.{Sent, Reset}
+use Rattle.pr_roles.specs.Breaches.{Broken, meets_no_arm, leaves_role, exceeds_budget, Breaks, LeavesRole}
+use Rattle.pr_roles.specs.Permits.{is_permitted}
+use Rattle.pr_roles.specs.declared.parts.Parts.{Parts}
+use Rattle.pr_roles.specs.Scenarios.{Scenario, role, scenario_of}
+use Rattle.pr_roles.specs.Schedules.{plan_of}
+use Rattle.pr_roles.specs.Starts.{IsAllowedStart}
+use Rattle.pr_roles.specs.Worlds.{World, Event, Host, Guest, UnitReset, Happens, HostSends, commands_by, control, entry_of, standing_of, world_from}
+use Rattle.pr_world.specs.declared.auditor.Auditor.{Auditor}
+use Rattle.pr_world.specs.Auditors.{Adds, ActFor, IsTried, is_free, world_at}
+use Rattle.pr_world.specs.Courses.{is_planned}
+use Rattle.pr_world.specs.Ends.{ending_of, endings}
+use Rattle.pr_regions.proofs.lemmas.Showing.ScenarioParts.{count_of_parts}
+use Rattle.pr_world.proofs.lemmas.Auditors.Additions.{guests_free, same_entry, same_item}
+use Rattle.pr_world.proofs.lemmas.Auditing.Histories.{reaches_more}
+use Rattle.pr_witness.specs.declared.breach.Breach.{Breach}
+use Rattle.pr_witness.specs.Breaches.{IsBreachOf, broken_of}
+use Rattle.pr_witness.specs.inside.Following.{IsBroken, IsFollowed, IsForbidden, LeavesWith}
+
+-- there is a script or a guest for each that the scenario declares
+pub control_there : (s : Scenario) (w : World) (h : ℕ) → ActFor s w → h < length s.nexuses → h < length w.controls
+control_there s w h acts there =
+    let all : length w.controls ≡ length s.nexuses = sym (length-map w.controls is_free) ∙ (ap length acts.tasks ∙ length-map s.nexuses (λ n. is_planned n.task)) in
+    omega arith
+
+pub followed_first : (s : Scenario) (u : UnitState) (a : Auditor) → world_at a [] ≡ world_from s u → ActFor s (world_at a []) → IsFollowed s u [] (world_at a [])
+followed_first s u a world acts = record { reaches = record { events = []; run = world; items = refl }; acts = acts }
+
+-- one item more
+pub followed_then : (s : Scenario) (u : UnitState) (history : List Item) (a b : Auditor) (e : Item) → IsFollowed s u history (world_at a history)
+    → Adds s (world_at a history) e (world_at b (history ++ e ∷ [])) → ActFor s (world_at b []) → IsFollowed s u (history ++ e ∷ []) (world_at b (history ++ e ∷ []))
+followed_then s u history a b e followed adds acts = record {
+  reaches = reaches_more s u history (world_at a history) e (world_at b (history ++ e ∷ [])) followed.reaches adds;
+  acts = record { hosts = acts.hosts; tasks = acts.tasks };
+}
+
+pub followed_more : (s : Scenario) (u : UnitState) (history : List Item) (i : ℕ) (a b : Auditor) (e : Item) → i < length history → e ≡ get_or history i e
+    → IsTried s (world_at a (take i history)) e true (world_at b (take i history ++ e ∷ [])) → ActFor s (world_at b [])
+    → IsFollowed s u (take i history) (world_at a (take i history)) → IsFollowed s u (take (i + 1) history) (world_at b (take (i + 1) history))
+followed_more s u history i a b e there is tried acts followed =
+    let more : take (i + 1) history ≡ take i history ++ e ∷ [] = take_more history i e there ∙ ap (λ x. take i history ++ x ∷ []) (sym is) in
+    subst (λ es. IsFollowed s u es (world_at b es)) (sym more) (followed_then s u (take i history) a b e followed tried.0 acts)
+
+-- ---- a command outside its host's role
+
+leaves_at : (s : Scenario) (u : UnitState) (w v : World) (g line : ℕ) (how : How) (command : Command) (reply : Reply) → IsFollowed s u w.history w → (sends : HostSends s w g how v)
+    → sends.reply ≡ reply → standing_of (control w g) ≡ Some (ready line command) → is_good reply ≡ true → is_permitted (role s g) w.unit.registry g (Plain command) ≡ false → LeavesRole s u g line v
+leaves_at s u w v g line how command reply followed sends is stands good forbidden =
+    let both : Some (ready sends.line sends.command) ≡ Some (ready line command) = sym sends.ready ∙ stands in
+    let at : sends.line ≡ line = cc in
+    let same : sends.command ≡ command = cc in
+    record {
+      events = followed.reaches.events;
+      before = w;
+      run = followed.reaches.run;
+      how = how;
+      sends = sends;
+      at = at;
+      good = ap is_good is ∙ good;
+      forbidden = ap (λ c. is_permitted (role s g) w.unit.registry g (Plain c)) same ∙ forbidden;
+    }
+
+-- the entry that was added is the command that leaves the role
+pub leaves : (s : Scenario) (u : UnitState) (w v : World) (e : Entry) (h line : ℕ) → IsFollowed s u w.history w → LeavesWith s w e h line → Adds s w (Sent e) v → LeavesRole s u h line v
+leaves s u w v e h line followed with_it adds = by adds.event adds.happens adds.added
+  where
+    by : (event : Event) → Happens s w event v → v.history ≡ w.history ++ Sent e ∷ [] → LeavesRole s u h line v
+    by (Host g how) sends added =
+        let same : entry_of g (spelling sends.command) sends.reply ≡ e = same_entry w.history v.history (entry_of g (spelling sends.command) sends.reply) e (ap (λ x. x.history) sends.world) added in
+        let sender : h ≡ g = sym with_it.sender ∙ sym (ap (λ d. d.host) same) in
+        subst (λ x. LeavesRole s u x line v) (sym sender) (leaves_at s u w v g line how with_it.command e.reply followed sends (ap (λ d. d.reply) same)
+        (subst (λ x. standing_of (control w x) ≡ Some (ready line with_it.command)) sender with_it.ready) with_it.good
+        (subst (λ x. is_permitted (role s x) w.unit.registry x (Plain with_it.command) ≡ false) sender with_it.forbidden))
+    by (Guest g wire how) sends added =
+        let same : entry_of g wire sends.reply ≡ e = same_entry w.history v.history (entry_of g wire sends.reply) e (ap (λ x. x.history) sends.world) added in
+        let sender : h ≡ g = sym with_it.sender ∙ sym (ap (λ d. d.host) same) in
+        let free : standing_of (control w h) ≡ None = ap (λ x. standing_of (control w x)) sender ∙ ap standing_of (guests_free s w followed.acts g sends.guest) in
+        let bad : None ≡ Some (ready line with_it.command) = sym free ∙ with_it.ready in
+        cc
+    by UnitReset resets added = let bad : Reset ≡ Sent e = same_item w.history v.history Reset (Sent e) (ap (λ x. x.history) resets.world) added in cc
+
+-- ---- what is broken
+
+pub forbidden_breaks : (s : Scenario) (u : UnitState) (history : List Item) (a b : Auditor) (e : Item) (broken : Broken) → IsFollowed s u history (world_at a history)
+    → Adds s (world_at a history) e (world_at b (history ++ e ∷ [])) → IsForbidden s (world_at a []) e broken → Breaks s u (world_at b (history ++ e ∷ [])) broken
+forbidden_breaks s u history a b (Sent e) (meets_no_arm h line) followed adds bad = absurd bad
+forbidden_breaks s u history a b (Sent e) (leaves_role h line) followed adds with_it =
+    leaves s u (world_at a history) (world_at b (history ++ Sent e ∷ [])) e h line followed
+    (record { sender = with_it.sender; command = with_it.command; ready = with_it.ready; good = with_it.good; forbidden = with_it.forbidden }) adds
+forbidden_breaks s u history a b (Sent e) (exceeds_budget h) followed adds bad = absurd bad
+forbidden_breaks s u history a b Reset broken followed adds bad = absurd bad
+
+-- the item is the last one of the history
+pub followed_whole : (s : Scenario) (u : UnitState) (history before : List Item) (a b : Auditor) (e : Item) → history ≡ before ++ e ∷ [] → IsFollowed s u before (world_at a before)
+    → IsTried s (world_at a before) e true (world_at b (before ++ e ∷ [])) → ActFor s (world_at b []) → IsFollowed s u history (world_at b history)
+followed_whole s u history before a b e whole followed tried acts =
+    subst (λ es. IsFollowed s u es (world_at b es)) (sym whole) (followed_then s u before a b e followed tried.0 acts)
+
+pub forbidden_whole : (s : Scenario) (u : UnitState) (history before : List Item) (a b : Auditor) (e : Item) (broken : Broken) → history ≡ before ++ e ∷ []
+    → IsFollowed s u before (world_at a before) → IsTried s (world_at a before) e true (world_at b (before ++ e ∷ [])) → ActFor s (world_at b [])
+    → IsForbidden s (world_at a []) e broken → IsBroken s u history (world_at b history) broken
+forbidden_whole s u history before a b e broken whole followed tried acts bad = record {
+  followed = followed_whole s u history before a b e whole followed tried acts;
+  breaks = subst (λ es. Breaks s u (world_at b es) broken) (sym whole) (forbidden_breaks s u before a b e broken followed tried.0 bad);
+}
+
+-- ---- a breach
+
+pub breach_from : (s : Scenario) (breach : Breach) (v : UnitState) (a b : Auditor) (es : List Item) → IsAllowedStart s breach.start → world_at a [] ≡ world_from s v → v ≡ breach.start
+    → ActFor s (world_at a []) → es ≡ breach.history.items → ((u : UnitState) → IsFollowed s u [] (world_at a []) → IsBroken s u es (world_at b es) (broken_of breach.broken))
+    → breach.unit ≡ (world_at b []).unit
+    → map (λ e. Some (ending_of e)) breach.ends.items ≡ endings (world_at b []).controls (map (λ n. plan_of n.task) s.nexuses)
+    → breach.counts.items ≡ map (commands_by breach.history.items) (range_with_len 0 (length s.nexuses)) → IsBreachOf s breach
+breach_from s breach v a b es allowed world same acts whole breaks unit ends counts =
+    let first = followed_first s breach.start a (world ∙ ap (world_from s) same) acts in
+    let done = subst (λ xs. IsBroken s breach.start xs (world_at b xs) (broken_of breach.broken)) whole (breaks breach.start first) in
+    record {
+      breach = record {
+        allowed = allowed;
+        events = done.followed.reaches.events;
+        world = world_at b breach.history.items;
+        run = done.followed.reaches.run;
+        whole = refl;
+        breaks = done.breaks;
+      };
+      unit = unit;
+      ends = ends;
+      counts = counts;
+    }
+
+-- as many as the parts declare
+pub parts_count : (p q : Parts) (n : ℕ) → q ≡ p → n ≡ vec_len q.nexuses → n ≡ length (scenario_of p).nexuses
+parts_count p q n same is =
+    let parts = count_of_parts p in
+    let items = ap (λ (r : Parts). length r.nexuses.items) same in
+    let all = q.nexuses.ok.0 in
+    omega (arith, parts, items, all, is)

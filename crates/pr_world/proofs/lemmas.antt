@@ -1,0 +1,11 @@
+pub mod Auditing
+pub mod Auditors
+pub mod Audits
+pub mod Courses
+pub mod Ends
+pub mod Laws
+pub mod Participations
+pub mod Replays
+pub mod StepAnswers
+pub mod Turns
+pub mod Workings

@@ -1,0 +1,34 @@
+-- What a reset comes to.
+use Rattle.std.proofs.Common.{◌≡◌, true, false, List, [], ◌∷◌, ◌++◌, sym, ap, ◌∙◌}
+use Rattle.std.specs.Prelude.{if◌then◌else◌}
+use Rattle.pr_unit.specs.UnitStates.{UnitState, reset}
+use Rattle.pr_roles.specs.declared.item.Item.{Item}
+use Rattle.pr_roles.specs.declared.item.Item.TheVariants.{Reset}
+use Rattle.pr_roles.specs.declared.step.Step.{Step}
+use Rattle.pr_roles.specs.declared.step.Step.TheVariants as step
+use Rattle.pr_roles.specs.Scenarios.{Scenario}
+use Rattle.pr_roles.specs.Worlds.{UnitReset, after_reset, may_reset}
+use Rattle.pr_roles.specs.Schedules.{Schedule, ResetTurn}
+use Rattle.pr_world.specs.Courses.{IsReached}
+use Rattle.pr_world.specs.inside.Participations.{Participation, schedule_by}
+use Rattle.pr_world.proofs.lemmas.Replays.Runs.{reached_by, reached_still}
+
+-- the schedule after a reset
+abbrev pub with_reset : Schedule → Schedule
+with_reset x = record x { world = after_reset x.world }
+
+pub reset_made : (s : Scenario) (x y : Schedule) → may_reset s x.world.history ≡ true → y ≡ with_reset x → ResetTurn s x y
+reset_made s x y may is = is ∙ ap (λ b. if b then with_reset x else x) (sym may)
+
+pub reset_passed : (s : Scenario) (x y : Schedule) → may_reset s x.world.history ≡ false → y ≡ x → ResetTurn s x y
+reset_passed s x y over is = is ∙ ap (λ b. if b then with_reset x else x) (sym over)
+
+pub schedule_reset : (u v : UnitState) (xs : List Participation) (es fs : List Item) → v ≡ reset u → fs ≡ es ++ Reset ∷ [] → schedule_by v xs fs ≡ with_reset (schedule_by u xs es)
+schedule_reset u v xs es fs unit added i = schedule_by (unit i) xs (added i)
+
+pub reached_reset : (s : Scenario) (x y : Schedule) → may_reset s x.world.history ≡ true → y ≡ with_reset x → (steps : List Step) → IsReached s steps x → IsReached s (steps ++ step.Reset ∷ []) y
+reached_reset s x y may is steps reached =
+    reached_by s steps x y step.Reset UnitReset (reset_made s x y may is) (record { room = may; world = ap (λ z. z.world) is }) reached
+
+pub reached_unreset : (s : Scenario) (x : Schedule) → may_reset s x.world.history ≡ false → (steps : List Step) → IsReached s steps x → IsReached s (steps ++ step.Reset ∷ []) x
+reached_unreset s x over steps reached = reached_still s steps x x step.Reset (reset_passed s x x over (λ i. x)) (λ i. x.world) reached

@@ -1,0 +1,160 @@
+-- What a nexus is, where its turn does one thing or another.
+use Rattle.std.proofs.Common.{◌≡◌, ℕ, zero, suc, ◌<◌, Bool, true, false, List, [], ◌∷◌, length, get_or, Option, Some, None, ◌⊎◌, inl, inr, refl, sym, ap, ◌∙◌, subst, arith}
+use Rattle.std.specs.Prelude.{slice_set, codes, unwrap_or, if◌then◌else◌}
+use Rattle.std.specs.List.{slice_get}
+use Rattle.std.specs.Option.{option_map_or}
+use Rattle.std.proofs.lemmas.Bool.{false≢true}
+use Rattle.std.proofs.lemmas.List.{set-get_or}
+use Rattle.std.proofs.lemmas.Option.{unwrap_or-slice_get}
+use Rattle.pr_cdb.specs.declared.command.Command.{Command}
+use Rattle.pr_unit.specs.UnitStates.{UnitState}
+use Rattle.pr_script.specs.Scripts.{Stmts, Standing, ready, stopped}
+use Rattle.pr_roles.specs.declared.item.Item.{Item}
+use Rattle.pr_roles.specs.declared.role.Clause.{Clause}
+use Rattle.pr_roles.specs.declared.how.How.{How}
+use Rattle.pr_roles.specs.declared.how.How.TheVariants as how
+use Rattle.pr_roles.specs.Answers.{how_now}
+use Rattle.pr_roles.specs.Scenarios.{Scenario, Task, Scripted, Planned, role, task}
+use Rattle.pr_roles.specs.Worlds.{Control, Going, Trapped, Free, control, standing_of}
+use Rattle.pr_roles.specs.Schedules.{Schedule, GuestTurn, TurnBy, Turn, is_held_back, is_passed_over, plan}
+use Rattle.pr_world.specs.Courses.{is_planned}
+use Rattle.pr_world.specs.inside.Participations.{Participation, StandsFor, schedule_by}
+use Rattle.pr_world.specs.Auditors.{is_free}
+use Rattle.pr_world.specs.StepAnswers.{IsStopped, IsStoppedBy, PassesOver}
+use Rattle.pr_world.specs.inside.Turns.{Doing, sends, stops, is_trapped, is_done, passes, host_does, does, does_as}
+use Rattle.pr_world.proofs.lemmas.Participations.Others.{control_at, has_task}
+use Rattle.pr_world.proofs.lemmas.Turns.Schedules.{length-tasks}
+
+-- ---- its task
+
+-- h has a task, and just a guest sends what it likes
+pub record HasItsTask (s : Scenario) (x : Schedule) (h : ℕ) : Type 0 where
+  pub its_task : Task
+  pub is : task s h ≡ Some its_task
+  pub fits : is_planned its_task ≡ is_free (control x.world h)
+
+found_participation : (xs : List Participation) (h : ℕ) → h < length xs → (x : Participation) × (slice_get xs h ≡ Some x)
+found_participation [] h there = absurd (omega arith)
+found_participation (x ∷ xs) zero there = (x, refl)
+found_participation (x ∷ xs) (suc h) there = found_participation xs h (omega arith)
+
+pub has_its_task : (s : Scenario) (u : UnitState) (xs : List Participation) (es : List Item) (h : ℕ) → StandsFor s u xs → h < length s.nexuses → HasItsTask s (schedule_by u xs es) h
+has_its_task s u xs es h stands there =
+    let found = found_participation xs h (rw (length-tasks s u xs stands) there) in
+    let has = has_task s u xs h found.0 stands found.1 in
+    record {
+      its_task = has.nexus.task;
+      is = ap (λ o. option_map_or (λ n. Some n.task) o None) has.is;
+      fits = has.planned ∙ ap is_free (sym (control_at u xs es h found.0 found.1));
+    }
+
+-- ---- what it is
+
+-- the script of a host stands so
+pub record HostStands (s : Scenario) (x : Schedule) (h : ℕ) (standing : Standing) : Type 0 where
+  pub script : Stmts
+  pub budget : ℕ
+  pub is : task s h ≡ Some (Scripted script budget)
+  pub stands : standing_of (control x.world h) ≡ Some standing
+
+-- so much of its plan is left to a guest
+pub record GuestHas (s : Scenario) (x : Schedule) (h : ℕ) (left : List Command) : Type 0 where
+  pub commands : List Command
+  pub is : task s h ≡ Some (Planned commands)
+  pub has : plan x h ≡ left
+
+pub record HostIsReady (s : Scenario) (x : Schedule) (h : ℕ) : Type 0 where
+  pub line : ℕ
+  pub command : Command
+  pub host : HostStands s x h (ready line command)
+
+-- the next command of a guest is passed over, if it is answered so, or it is not
+pub record GuestIsReady (so : How) (s : Scenario) (x : Schedule) (h : ℕ) (held_back : Bool) : Type 0 where
+  pub command : Command
+  pub left : List Command
+  pub guest : GuestHas s x h (command ∷ left)
+  pub held : is_passed_over so (role s h) x.world.unit h command ≡ held_back
+
+abbrev pub Means : How → Doing → Scenario → Schedule → ℕ → Type 0
+Means so sends s x h = HostIsReady s x h ⊎ GuestIsReady so s x h false
+Means so (stops word) s x h = HostStands s x h (stopped word)
+Means so is_trapped s x h = Unit {0}
+Means so is_done s x h = GuestHas s x h []
+Means so passes s x h = GuestIsReady so s x h true
+
+means_by : (so : How) (s : Scenario) (x : Schedule) (h : ℕ) (t : Task) (k : Control) (planned : List Command) → task s h ≡ Some t → control x.world h ≡ k → plan x h ≡ planned
+    → is_planned t ≡ is_free k → Means so (does_as so k (role s h) x.world.unit h planned) s x h
+means_by so s x h (Scripted script budget) (Going l) planned is goes left fits = host (standing_of (Going l)) refl
+  where
+    host : (o : Option Standing) → standing_of (Going l) ≡ o → Means so (host_does o) s x h
+    host None at = tt
+    host (Some (ready line c)) at = inl (record {
+      line = line;
+      command = c;
+      host = record { script = script; budget = budget; is = is; stands = ap standing_of goes ∙ at };
+    })
+    host (Some (stopped word)) at = record { script = script; budget = budget; is = is; stands = ap standing_of goes ∙ at }
+means_by so s x h (Scripted script budget) (Trapped line) planned is goes left fits = tt
+means_by so s x h (Scripted script budget) Free planned is goes left fits = let bad : false ≡ true = fits in cc
+means_by so s x h (Planned commands) Free [] is goes left fits = record { commands = commands; is = is; has = left }
+means_by so s x h (Planned commands) Free (c ∷ cs) is goes left fits = by (is_passed_over so (role s h) x.world.unit h c) refl
+  where
+    guest : (b : Bool) → is_passed_over so (role s h) x.world.unit h c ≡ b → GuestIsReady so s x h b
+    guest b held = record { command = c; left = cs; guest = record { commands = commands; is = is; has = left }; held = held }
+
+    by : (b : Bool) → is_passed_over so (role s h) x.world.unit h c ≡ b → Means so (if b then passes else sends) s x h
+    by true held = guest true held
+    by false held = inr (guest false held)
+means_by so s x h (Planned commands) _ planned is goes left fits = let bad : true ≡ false = fits in cc
+
+pub means : (wanted : How) (s : Scenario) (x : Schedule) (h : ℕ) (d : Doing) → HasItsTask s x h → d ≡ does s x h wanted → Means (how_now s x.world.history h wanted) d s x h
+means wanted s x h d has is = subst (λ d. Means (how_now s x.world.history h wanted) d s x h) (sym is) (means_by (how_now s x.world.history h wanted) s x h has.its_task (control x.world h) (plan x h) has.is refl refl has.fits)
+
+-- ---- what its turn comes to
+
+schedule_same : (x y : Schedule) → y.world ≡ x.world → y.plans ≡ x.plans → y ≡ x
+schedule_same x y world plans i = record { world = world i; plans = plans i }
+
+pub stopped_is : (s : Scenario) (x : Schedule) (h : ℕ) (word : List ℕ) → HostStands s x h (stopped word) → IsStopped s x h word
+stopped_is s x h word host = subst (λ t. IsStoppedBy t x h word) (sym host.is) host.stands
+
+pub done_is : (s : Scenario) (x : Schedule) (h : ℕ) → GuestHas s x h [] → IsStopped s x h (codes "end")
+done_is s x h guest = subst (λ t. IsStoppedBy t x h (codes "end")) (sym guest.is) (guest.has, refl)
+
+pub stopped_rests : (wanted : How) (s : Scenario) (x y : Schedule) (h : ℕ) (standing : Standing) → HostStands s x h standing → Turn s x h wanted y → y.world ≡ x.world → y ≡ x
+stopped_rests wanted s x y h standing host turn same =
+    let turned : TurnBy (Some (Scripted host.script host.budget)) s x h (how_now s x.world.history h wanted) y = subst (λ t. TurnBy t s x h (how_now s x.world.history h wanted) y) host.is turn in
+    schedule_same x y same turned.1
+
+-- the plan of a guest with nothing left stays as it is
+no_plan : (plans : List (List Command)) (h : ℕ) → option_map_or (λ p. p) (slice_get plans h) [] ≡ [] → slice_set plans h [] ≡ plans
+no_plan plans h none =
+    let here : get_or plans h [] ≡ [] = sym (by (slice_get plans h) ∙ unwrap_or-slice_get plans h []) ∙ none in
+    ap (slice_set plans h) (sym here) ∙ set-get_or plans h []
+  where
+    by : (o : Option (List Command)) → option_map_or (λ p. p) o [] ≡ unwrap_or o []
+    by None = refl
+    by (Some p) = refl
+
+pub done_rests : (wanted : How) (s : Scenario) (x y : Schedule) (h : ℕ) → GuestHas s x h [] → Turn s x h wanted y → y.world ≡ x.world → y ≡ x
+done_rests wanted s x y h guest turn same =
+    let turned : TurnBy (Some (Planned guest.commands)) s x h (how_now s x.world.history h wanted) y = subst (λ t. TurnBy t s x h (how_now s x.world.history h wanted) y) guest.is turn in
+    let left : turned.0 ≡ [] = (subst (λ planned. GuestTurn (role s h) planned x.world h (how_now s x.world.history h wanted) y.world turned.0) guest.has turned.1).1 in
+    schedule_same x y same (turned.2 ∙ (ap (slice_set x.plans h) left ∙ no_plan x.plans h guest.has))
+
+-- just what the unit would answer is passed over
+held_back : (so : How) (clauses : List Clause) (u : UnitState) (h : ℕ) (c : Command) → is_passed_over so clauses u h c ≡ true → is_held_back clauses u h c ≡ true
+held_back how.Plain clauses u h c is = is
+held_back _ clauses u h c is = absurd (false≢true is)
+
+pub passed_over : (wanted : How) (s : Scenario) (x y : Schedule) (h : ℕ) → GuestIsReady (how_now s x.world.history h wanted) s x h true → Turn s x h wanted y → y.world ≡ x.world → PassesOver s x h y
+passed_over wanted s x y h guest turn same =
+    let turned : TurnBy (Some (Planned guest.guest.commands)) s x h (how_now s x.world.history h wanted) y = subst (λ t. TurnBy t s x h (how_now s x.world.history h wanted) y) guest.guest.is turn in
+    let left : turned.0 ≡ guest.left = (subst (λ planned. GuestTurn (role s h) planned x.world h (how_now s x.world.history h wanted) y.world turned.0) guest.guest.has turned.1).1 in
+    record {
+      command = guest.command;
+      left = guest.left;
+      next = guest.guest.has;
+      held = held_back (how_now s x.world.history h wanted) (role s h) x.world.unit h guest.command guest.held;
+      after = schedule_same (record { world = x.world; plans = slice_set x.plans h guest.left }) y same (turned.2 ∙ ap (slice_set x.plans h) left);
+    }

@@ -1,0 +1,238 @@
+-- What one nexus does makes the turn of the schedule.
+use Rattle.std.proofs.Common.{◌≡◌, ℕ, ◌<◌, Bool, true, false, List, [], ◌∷◌, ◌++◌, length, Option, Some, None, refl, sym, ap, ◌∙◌, subst, get_or, vec_len, Vec, Global, arith}
+use Rattle.std.specs.Prelude.{map, slice_set, option_map, IsTrue}
+use Rattle.std.specs.List.{slice_get}
+use Rattle.std.specs.Option.{option_map_or}
+use Rattle.std.proofs.lemmas.List.{map-set, append-nil, length-map}
+use Rattle.std.proofs.lemmas.Option.{slice_get-map, slice_get-get_or}
+use Rattle.std.proofs.Math.ListN.{get_or-map}
+use Rattle.std.proofs.Math.Seq.{map-set_same}
+use Rattle.pr_cdb.specs.declared.command.Command.{Command}
+use Rattle.pr_cdb.specs.declared.reply.Reply.{Reply}
+use Rattle.pr_unit.specs.UnitStates.{UnitState}
+use Rattle.pr_script.specs.Scripts.{Configuration, Standing, ready, stopped}
+use Rattle.pr_script.specs.Takes.{take}
+use Rattle.pr_roles.specs.declared.item.Item.TheVariants.{Sent}
+use Rattle.pr_roles.specs.declared.item.Item.{Item}
+use Rattle.pr_roles.specs.declared.role.Clause.{Clause}
+use Rattle.pr_roles.specs.declared.entry.Entry.{Entry}
+use Rattle.pr_roles.specs.declared.how.How.{How}
+use Rattle.pr_roles.specs.Answers.{how_now}
+use Rattle.pr_roles.specs.declared.parts.Nexus.{Nexus as NexusPart}
+use Rattle.pr_roles.specs.declared.parts.Parts.{Parts}
+use Rattle.pr_roles.specs.Scenarios.{Scenario, Task, Scripted, Planned, nexus, role, nexus_of, scenario_of}
+use Rattle.pr_roles.specs.Worlds.{Control, Going, Trapped, Free, control, is_trapped, standing_of, going_or_trapped, control_after}
+use Rattle.pr_roles.specs.Schedules.{HostTurn, SendsUnless, GuestTurn, TurnBy, Turn, is_passed_over, plan}
+use Rattle.pr_regions.proofs.lemmas.Showing.ScenarioParts.{count_of_parts}
+use Rattle.pr_world.specs.declared.participant.Participant.{Participant}
+use Rattle.pr_world.specs.Courses.{is_planned}
+use Rattle.pr_world.specs.inside.Participations.{items_of, Participation, participation, participation_of, schedule_by, StandsFor, HappensBy}
+use Rattle.pr_world.specs.Auditors.{is_free}
+use Rattle.pr_world.specs.Ends.{Ending, ending}
+use Rattle.pr_world.proofs.lemmas.Participations.Others.{at_participation, control_at, has_task, plan_at, rests, sends, with_participation, world_by}
+use Rattle.pr_world.proofs.lemmas.Turns.Events.{happens_at_participation}
+use Rattle.pr_world.specs.declared.act.Act.{Act}
+use Rattle.pr_world.specs.declared.act.Act.TheVariants as act
+use Rattle.pr_world.specs.inside.Turns.{Acts, ActsAs, GuestActs, HostActs, SendsOr, Doing, sends as sending, doing_of, entry_in, does, does_as}
+
+-- ---- hosts
+
+host_turn : (so : How) (o : Option Standing) (u v : UnitState) (xs : List Participation) (es : List Item) (h : ℕ) (e : Option Entry) (x y : Participation) → h < length xs → get_or xs h x ≡ x
+    → HostActs so o h x u e y v → HostTurn o (world_by u xs es) h so (world_by v (with_participation xs h y) (es ++ items_of e)) × (map (λ s. s.plan) (with_participation xs h y) ≡ map (λ s. s.plan) xs)
+host_turn so (Some (ready line c)) u v xs es h (Some e) x y there at acts = (
+  sends so u v xs es h line c e x y (at_participation xs h x there at) acts.0 (ap (λ s. s.control) acts.1),
+  map-set_same (λ s. s.plan) xs h y x (ap (λ s. s.plan) acts.1 ∙ ap (λ s. s.plan) (sym at)),
+)
+host_turn so (Some (stopped w)) u v xs es h None x y there at acts =
+    (rests u v xs es h x y at (ap (λ s. s.control) acts.0) acts.1, map-set_same (λ s. s.plan) xs h y x (ap (λ s. s.plan) (acts.0 ∙ sym at)))
+host_turn so None u v xs es h None x y there at acts =
+    (rests u v xs es h x y at (ap (λ s. s.control) acts.0) acts.1, map-set_same (λ s. s.plan) xs h y x (ap (λ s. s.plan) (acts.0 ∙ sym at)))
+host_turn so _ u v xs es h _ x y there at acts = absurd acts
+
+-- ---- guests
+
+sends_unless : (so : How) (b : Bool) (u v : UnitState) (xs : List Participation) (es : List Item) (h : ℕ) (c : Command) (e : Option Entry) (x y : Participation) → h < length xs → get_or xs h x ≡ x
+    → x.control ≡ Free → y.control ≡ Free → SendsOr so b h u c e v → SendsUnless b (world_by u xs es) h c so (world_by v (with_participation xs h y) (es ++ items_of e))
+sends_unless so true u v xs es h c None x y there at free still acts = rests u v xs es h x y at (still ∙ sym free) acts
+sends_unless so false u v xs es h c (Some e) x y there at free still acts =
+    sends so u v xs es h 0 c e x y (at_participation xs h x there at) acts (still ∙ ap (λ k. control_after 0 k e.reply) (sym free))
+sends_unless so _ u v xs es h c _ x y there at free still acts = absurd acts
+
+guest_turn : (so : How) (clauses : List Clause) (planned : List Command) (u v : UnitState) (xs : List Participation) (es : List Item) (h : ℕ) (e : Option Entry) (x y : Participation) → h < length xs
+    → get_or xs h x ≡ x → x.control ≡ Free → GuestActs so clauses h planned u e y v
+    → GuestTurn clauses planned (world_by u xs es) h so (world_by v (with_participation xs h y) (es ++ items_of e)) y.plan
+guest_turn so clauses [] u v xs es h (Some e) x y there at free acts = absurd acts
+guest_turn so clauses [] u v xs es h None x y there at free acts =
+    (rests u v xs es h x y at (ap (λ s. s.control) acts.0 ∙ sym free) acts.1, ap (λ s. s.plan) acts.0)
+guest_turn so clauses (c ∷ cs) u v xs es h e x y there at free acts =
+    (sends_unless so (is_passed_over so clauses u h c) u v xs es h c e x y there at free (ap (λ s. s.control) acts.1) acts.0, ap (λ s. s.plan) acts.1)
+
+-- ---- the turn
+
+turn_by : (so : How) (t : Task) (k : Control) (s : Scenario) (u v : UnitState) (xs : List Participation) (es : List Item) (h : ℕ) (e : Option Entry) (p : List Command) (y : Participation) → h < length xs
+    → get_or xs h (participation k p) ≡ participation k p → is_planned t ≡ is_free k → ActsAs so k (role s h) h (participation k p) u e y v
+    → TurnBy (Some t) s (schedule_by u xs es) h so (schedule_by v (with_participation xs h y) (es ++ items_of e))
+turn_by so (Scripted script budget) Free s u v xs es h e p y there at fits acts = let bad : false ≡ true = fits in cc
+turn_by so (Scripted script budget) (Going l) s u v xs es h e p y there at fits acts =
+    let x = participation (Going l) p in
+    subst (λ k. HostTurn (standing_of k) (world_by u xs es) h so (world_by v (with_participation xs h y) (es ++ items_of e)) × (map (λ s. s.plan) (with_participation xs h y) ≡ map (λ s. s.plan) xs))
+    (sym (control_at u xs es h x (at_participation xs h x there at))) (host_turn so (standing_of (Going l)) u v xs es h e x y there at acts)
+turn_by so (Scripted script budget) (Trapped line) s u v xs es h e p y there at fits acts =
+    let x = participation (Trapped line) p in
+    subst (λ k. HostTurn (standing_of k) (world_by u xs es) h so (world_by v (with_participation xs h y) (es ++ items_of e)) × (map (λ s. s.plan) (with_participation xs h y) ≡ map (λ s. s.plan) xs))
+    (sym (control_at u xs es h x (at_participation xs h x there at))) (host_turn so None u v xs es h e x y there at acts)
+turn_by so (Planned commands) Free s u v xs es h e p y there at fits acts =
+    let x = participation Free p in
+    let turn = subst (λ cs. GuestTurn (role s h) cs (world_by u xs es) h so (world_by v (with_participation xs h y) (es ++ items_of e)) y.plan)
+    (sym (plan_at u xs es h x (at_participation xs h x there at))) (guest_turn so (role s h) p u v xs es h e x y there at refl acts) in
+    (y.plan, turn, map-set (λ s. s.plan) xs h y)
+turn_by so (Planned commands) _ s u v xs es h e p y there at fits acts = let bad : true ≡ false = fits in cc
+
+pub turn_of_seats : (wanted : How) (s : Scenario) (u v : UnitState) (xs : List Participation) (es : List Item) (h : ℕ) (e : Option Entry) (x y : Participation) → StandsFor s u xs → h < length xs
+    → get_or xs h x ≡ x → Acts (how_now s es h wanted) (role s h) h x u e y v → Turn s (schedule_by u xs es) h wanted (schedule_by v (with_participation xs h y) (es ++ items_of e))
+turn_of_seats wanted s u v xs es h e x y stands there at acts =
+    let has = has_task s u xs h x stands (at_participation xs h x there at) in
+    subst (λ o. TurnBy (option_map_or (λ n. Some n.task) o None) s (schedule_by u xs es) h (how_now s es h wanted) (schedule_by v (with_participation xs h y) (es ++ items_of e))) (sym has.is)
+    (turn_by (how_now s es h wanted) has.nexus.task x.control s u v xs es h e x.plan y there at has.planned acts)
+
+-- ---- who is a guest stays one
+
+pub free_taken : (line : ℕ) (l : Configuration) (r : Reply) → is_free (control_after line (Going l) r) ≡ false
+free_taken line l r = at (take l r)
+  where
+    at : (o : Option Configuration) → is_free (going_or_trapped line o) ≡ false
+    at None = refl
+    at (Some m) = refl
+
+free_host : (so : How) (o : Option Standing) (h : ℕ) (x : Participation) (u : UnitState) (e : Option Entry) (y : Participation) (v : UnitState) → ((line : ℕ) (r : Reply) → is_free (control_after line x.control r) ≡ is_free x.control)
+    → HostActs so o h x u e y v → is_free y.control ≡ is_free x.control
+free_host so (Some (ready line c)) h x u (Some e) y v same acts = ap (λ s. is_free s.control) acts.1 ∙ same line e.reply
+free_host so (Some (stopped w)) h x u None y v same acts = ap (λ s. is_free s.control) acts.0
+free_host so None h x u None y v same acts = ap (λ s. is_free s.control) acts.0
+free_host so _ h x u _ y v same acts = absurd acts
+
+free_guest : (so : How) (clauses : List Clause) (h : ℕ) (planned : List Command) (u : UnitState) (e : Option Entry) (y : Participation) (v : UnitState) → GuestActs so clauses h planned u e y v → is_free y.control ≡ true
+free_guest so clauses h [] u (Some e) y v acts = absurd acts
+free_guest so clauses h [] u None y v acts = ap (λ s. is_free s.control) acts.0
+free_guest so clauses h (c ∷ cs) u e y v acts = ap (λ s. is_free s.control) acts.1
+
+free_kept : (so : How) (clauses : List Clause) (h : ℕ) (k : Control) (p : List Command) (u : UnitState) (e : Option Entry) (y : Participation) (v : UnitState) → ActsAs so k clauses h (participation k p) u e y v → is_free y.control ≡ is_free k
+free_kept so clauses h (Going l) p u e y v acts = free_host so (standing_of (Going l)) h (participation (Going l) p) u e y v (λ line r. free_taken line l r) acts
+free_kept so clauses h (Trapped at) p u e y v acts = free_host so None h (participation (Trapped at) p) u e y v (λ line r. refl) acts
+free_kept so clauses h Free p u e y v acts = free_guest so clauses h p u e y v acts
+
+-- ---- participants
+
+-- after the turn of one among these participants
+pub record IsTurned (s : Scenario) (u : UnitState) (ps : List Participant) (es : List Item) (h : ℕ) (wanted : How) (e : Option Entry) (v : UnitState) (qs : List Participant) (fs : List Item) : Type 0 where
+  pub turn : Turn s (schedule_by u (map participation_of ps) es) h wanted (schedule_by v (map participation_of qs) fs)
+  pub happens : HappensBy s h e (world_by u (map participation_of ps) es) (world_by v (map participation_of qs) fs)
+  pub stands : StandsFor s v (map participation_of qs)
+
+pub length-tasks : (s : Scenario) (u : UnitState) (xs : List Participation) → StandsFor s u xs → length xs ≡ length s.nexuses
+length-tasks s u xs stands = sym (length-map xs (λ x. is_free x.control)) ∙ (ap length stands.tasks ∙ length-map s.nexuses (λ n. is_planned n.task))
+
+pub length-participants : (s : Scenario) (u : UnitState) (ps : List Participant) → StandsFor s u (map participation_of ps) → length ps ≡ length s.nexuses
+length-participants s u ps stands = sym (length-map ps participation_of) ∙ length-tasks s u (map participation_of ps) stands
+
+turned : (wanted : How) (s : Scenario) (u v : UnitState) (ps : List Participant) (es : List Item) (h : ℕ) (e : Option Entry) (p q : Participant) → StandsFor s u (map participation_of ps) → h < length s.nexuses
+    → get_or ps h p ≡ p → Acts (how_now s es h wanted) (role s h) h (participation_of p) u e (participation_of q) v → v.registry.hosts ≡ u.registry.hosts
+    → IsTurned s u ps es h wanted e v (slice_set ps h q) (es ++ items_of e)
+turned wanted s u v ps es h e p q stands there at acts hosts =
+    let xs = map participation_of ps in
+    let among : h < length xs = rw (length-tasks s u xs stands) there in
+    let seated : get_or xs h (participation_of p) ≡ participation_of p = get_or-map participation_of ps h p ∙ ap participation_of at in
+    let participations : map participation_of (slice_set ps h q) ≡ slice_set xs h (participation_of q) = map-set participation_of ps h q in
+    let free = free_kept (how_now s es h wanted) (role s h) h (participation_of p).control (participation_of p).plan u e (participation_of q) v acts in
+    record {
+      turn = subst (λ ys. Turn s (schedule_by u xs es) h wanted (schedule_by v ys (es ++ items_of e))) (sym participations)
+          (turn_of_seats wanted s u v xs es h e (participation_of p) (participation_of q) stands among seated acts);
+      happens = subst (λ ys. HappensBy s h e (world_by u xs es) (world_by v ys (es ++ items_of e))) (sym participations) (happens_at_participation wanted s u v xs es h e (participation_of p) (participation_of q) stands among seated acts);
+      stands = record {
+        hosts = hosts ∙ stands.hosts;
+        tasks = ap (map (λ x. is_free x.control)) participations
+            ∙ (map-set_same (λ x. is_free x.control) xs h (participation_of q) (participation_of p) (free ∙ ap (λ x. is_free x.control) (sym seated)) ∙ stands.tasks);
+      };
+    }
+
+-- ---- the parts of a scenario
+
+-- the role of the nexus at this place
+pub role_at : (p : Parts) (h : ℕ) (n : NexusPart) → h < length (scenario_of p).nexuses → n ≡ get_or p.nexuses.items h n → n.role.clauses.items ≡ role (scenario_of p) h
+unfolding scenario_of
+role_at p h n there is =
+    let among : h < length p.nexuses.items = rw (← length-map p.nexuses.items nexus_of) there in
+    sym (ap (λ o. option_map_or (λ m. m.role) o []) (slice_get-map nexus_of p.nexuses.items h ∙ ap (option_map nexus_of) (slice_get-get_or p.nexuses.items h n among ∙ ap Some (sym is))))
+
+pub turn_made : (so wanted : How) (p q : Parts) (u v : UnitState) (ps : List Participant) (es fs : List Item) (h i : ℕ) (e : Option Entry) (n : NexusPart) (x y : Participant)
+    → StandsFor (scenario_of p) u (map participation_of ps) → h < length (scenario_of p).nexuses → q ≡ p → i ≡ h → n ≡ get_or q.nexuses.items i n → x ≡ get_or ps i x
+    → so ≡ how_now (scenario_of p) es h wanted → Acts so n.role.clauses.items h (participation_of x) u e (participation_of y) v → v.registry.hosts ≡ u.registry.hosts → fs ≡ es ++ items_of e
+    → IsTurned (scenario_of p) u ps es h wanted e v (slice_set ps i y) fs
+turn_made so wanted p q u v ps es fs h i e n x y stands there same at nexus participation told acts hosts added =
+    let named = nexus ∙ (ap (λ r. get_or r.nexuses.items i n) same ∙ ap (λ j. get_or p.nexuses.items j n) at) in
+    let acting = subst (λ clauses. Acts (how_now (scenario_of p) es h wanted) clauses h (participation_of x) u e (participation_of y) v) (role_at p h n there named)
+    (subst (λ k. Acts k n.role.clauses.items h (participation_of x) u e (participation_of y) v) told acts) in
+    subst (λ j. IsTurned (scenario_of p) u ps es h wanted e v (slice_set ps j y) fs) (sym at)
+    (subst (λ gs. IsTurned (scenario_of p) u ps es h wanted e v (slice_set ps h y) gs) (sym added)
+    (turned wanted (scenario_of p) u v ps es h e x y stands there (sym (participation ∙ ap (λ j. get_or ps j x) at)) acting hosts))
+
+pub nexus_within : (p q : Parts) (h i : ℕ) → h < length (scenario_of p).nexuses → q ≡ p → i ≡ h → i < vec_len q.nexuses
+nexus_within p q h i there same at =
+    let parts = count_of_parts p in
+    let items = ap (λ r. length r.nexuses.items) same in
+    let len = q.nexuses.ok.0 in
+    omega arith
+
+pub player_within : (s : Scenario) (u : UnitState) (ps : Vec Participant Global) (h i : ℕ) → StandsFor s u (map participation_of ps.items) → h < length s.nexuses → i ≡ h → i < vec_len ps
+player_within s u ps h i stands there at =
+    let participants = length-participants s u ps.items stands in
+    let len = ps.ok.0 in
+    omega arith
+
+pub nothing_added : (es : List Item) (e : Option Entry) → None ≡ e → es ≡ es ++ items_of e
+nothing_added es e none = sym (append-nil es) ∙ ap (λ o. es ++ items_of o) none
+
+pub entry_added : (es fs : List Item) (x : Entry) (e : Option Entry) → fs ≡ es ++ Sent x ∷ [] → Some x ≡ e → fs ≡ es ++ items_of e
+entry_added es fs x e added is = added ∙ ap (λ o. es ++ items_of o) is
+
+-- a turn that sends an entry is one that sends
+pub sends_entry : (a : Act) (e : Entry) → Some e ≡ entry_in a → doing_of a ≡ sending
+sends_entry (act.Sent x) e is = refl
+sends_entry _ e is = let bad : Some e ≡ None = is in cc
+
+-- what h would do is found at its participation, before its turn
+pub doing_at : (so wanted : How) (p q : Parts) (u : UnitState) (ps : List Participant) (es : List Item) (h i : ℕ) (d : Doing) (n : NexusPart) (x : Participant)
+    → StandsFor (scenario_of p) u (map participation_of ps) → h < length (scenario_of p).nexuses → q ≡ p → i ≡ h → n ≡ get_or q.nexuses.items i n → x ≡ get_or ps i x
+    → so ≡ how_now (scenario_of p) es h wanted → d ≡ does_as so (participation_of x).control n.role.clauses.items u h (participation_of x).plan
+    → d ≡ does (scenario_of p) (schedule_by u (map participation_of ps) es) h wanted
+doing_at so wanted p q u ps es h i d n x stands there same at nexus participation told does_so =
+    let s = scenario_of p in
+    let xs = map participation_of ps in
+    let among : h < length xs = rw (length-tasks s u xs stands) there in
+    let seated : get_or xs h (participation_of x) ≡ participation_of x = get_or-map participation_of ps h x ∙ ap participation_of (sym (participation ∙ ap (λ j. get_or ps j x) at)) in
+    let found = at_participation xs h (participation_of x) among seated in
+    let named = nexus ∙ (ap (λ r. get_or r.nexuses.items i n) same ∙ ap (λ j. get_or p.nexuses.items j n) at) in
+    subst (λ k. d ≡ does_as k (participation_of x).control (role s h) u h (participation_of x).plan) told
+    (subst (λ clauses. d ≡ does_as so (participation_of x).control clauses u h (participation_of x).plan) (role_at p h n there named) does_so)
+    ∙ sym (λ i. does_as (how_now s es h wanted) (control_at u xs es h (participation_of x) found i) (role s h) u h (plan_at u xs es h (participation_of x) found i))
+
+-- ---- who is in a participation, as the schedule has it
+
+pub seat_here : (ps : List Participant) (h i : ℕ) (x : Participant) → h < length ps → i ≡ h → x ≡ get_or ps i x → slice_get (map participation_of ps) h ≡ Some (participation_of x)
+seat_here ps h i x there at participation =
+    slice_get-map participation_of ps h ∙ ap (option_map participation_of) (slice_get-get_or ps h x there ∙ ap Some (sym (participation ∙ ap (λ j. get_or ps j x) at)))
+
+-- one that is trapped there is trapped in the schedule
+pub trapped_here : (s : Scenario) (u : UnitState) (ps : List Participant) (es : List Item) (h i : ℕ) (x : Participant) → StandsFor s u (map participation_of ps) → h < length s.nexuses → i ≡ h
+    → x ≡ get_or ps i x → IsTrue (is_trapped (participation_of x).control) → IsTrue (is_trapped (control (world_by u (map participation_of ps) es) h))
+trapped_here s u ps es h i x stands there at participation trapped =
+    let found = seat_here ps h i x (rw (length-participants s u ps stands) there) at participation in
+    subst (λ k. IsTrue (is_trapped k)) (sym (control_at u (map participation_of ps) es h (participation_of x) found)) trapped
+
+-- its end is that of what the schedule has
+pub end_here : (u : UnitState) (ps : List Participant) (es : List Item) (h i : ℕ) (x : Participant) (e : Option Ending) → h < length ps → i ≡ h → x ≡ get_or ps i x
+    → ending (participation_of x).control (participation_of x).plan ≡ e → ending (control (world_by u (map participation_of ps) es) h) (plan (schedule_by u (map participation_of ps) es) h) ≡ e
+end_here u ps es h i x e there at participation is =
+    let xs = map participation_of ps in
+    let found = seat_here ps h i x there at participation in
+    (λ j. ending (control_at u xs es h (participation_of x) found j) (plan_at u xs es h (participation_of x) found j)) ∙ is
