@@ -2,4 +2,4 @@ use Rattle.pr_roles.proofs.lemmas.Starts.Reservations
 use Rattle.pr_roles.proofs.laws.first_starts_are_earliest.Goals as goal
 
 pub returns : goal.returns
-returns c = Earliest.first_starts_are_earliest
+returns c = Reservations.first_starts_are_earliest

@@ -2,4 +2,4 @@ use Rattle.pr_roles.proofs.lemmas.Starts.Reservations
 use Rattle.pr_roles.proofs.laws.starts_are_found.Goals as goal
 
 pub returns : goal.returns
-returns c = Earliest.starts_are_found
+returns c = Reservations.starts_are_found
