@@ -1,4 +1,4 @@
 pub mod Portions
 pub mod Possibilities
-pub mod Room
+pub mod Rooms
 pub mod Views

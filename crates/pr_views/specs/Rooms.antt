@@ -2,11 +2,10 @@
 -- The view that a value of the program is.
 use Rattle.std.specs.Prelude.{◌≡◌, ℕ, ◌+◌, ◌<◌, ◌≤◌, Bool, true, false, List, length}
 use Rattle.std.specs.FinSet as set
-use Rattle.std.specs.List.{slice_get, All}
+use Rattle.std.specs.List.{slice_get}
 use Rattle.std.specs.Option.{option_map_or}
-use Rattle.pr_cdb.specs.declared.codes.TheConstants.{MOST_NEXUSES}
-use Rattle.pr_roles.specs.Fitting.{AreDeclared}
 use Rattle.pr_sets.specs.Numbers.{Numbers}
+use Rattle.pr_sets.specs.declared.view_set.ViewSet.{Ghosts as ViewSet}
 use Rattle.pr_views.specs.declared.view.ViewOf.{ViewOf}
 use Rattle.pr_views.specs.Possibilities.{Scope, count_of_reservations, count_of_attentions}
 use Rattle.pr_sets.specs.Words.{has}
@@ -15,32 +14,24 @@ use Rattle.pr_views.specs.declared.possibilities.Possibilities.{Possibilities}
 use Rattle.pr_views.specs.Views.{View}
 use Rattle.pr_views.specs.Portions.{has_at}
 
-abbrev pub scope_of : {S : Type 0} → ℕ → ViewOf S → Scope
+abbrev pub scope_of : {S : Type 0} {sets : ViewSet S} → ℕ → ViewOf S sets → Scope
 scope_of own v = record { own = own; hosts = v.hosts; keys = v.keys.items }
 
 -- n is a member of the set at this place of the list
 abbrev pub contains_at : {S : Type 0} → (S → Numbers) → List S → ℕ → ℕ → Bool
 contains_at members sets g n = option_map_or (λ s. set.contains (members s) n) (slice_get sets g) false
 
--- the view of this owner, by what the members of each set are
-abbrev pub view_of : {S : Type 0} → (S → Numbers) → ℕ → ViewOf S → View
-view_of members own v = record {
+-- the view of this owner
+abbrev pub view_of : {S : Type 0} {sets : ViewSet S} → ℕ → ViewOf S sets → View
+view_of {sets = sets} own v = record {
   scope = scope_of own v;
-  registrations = contains_at members v.registrations;
-  reservations = λ x. set.contains (members v.reservations) x;
-  pending = λ q. set.contains (members v.pending) q;
+  registrations = contains_at sets.members v.registrations;
+  reservations = λ x. set.contains (sets.members v.reservations) x;
+  pending = λ q. set.contains (sets.members v.pending) q;
 }
 
--- some nexuses, no more than a unit has room for, declared keys, and sets with room for what is possible of each
-pub record IsMade {S : Type 0} (room : S → ℕ) (v : ViewOf S) : Type 0 where
-  pub hosts : (1 ≤ v.hosts) × (v.hosts ≤ MOST_NEXUSES)
-  pub keys : AreDeclared v.keys.items
-  pub registrations : All (λ s. room s ≡ length v.keys.items + 1) v.registrations
-  pub reservations : room v.reservations ≡ count_of_reservations v.hosts
-  pub pending : room v.pending ≡ count_of_attentions
-
 -- they have the same keys, and speak of as many nexuses
-pub record AreAlike {S : Type 0} (v w : ViewOf S) : Type 0 where
+pub record AreAlike {S : Type 0} {sets : ViewSet S} (v w : ViewOf S sets) : Type 0 where
   pub keys : v.keys.items ≡ w.keys.items
   pub hosts : v.hosts ≡ w.hosts
 

@@ -158,15 +158,3 @@ pub(crate) fn are_empty<S: ViewSet>(sets: &[S; MOST_NEXUSES], count: u8) -> bool
     }
     true
 }
-
-/// Whether each set is of numbers below the size.
-pub(crate) fn have_room<S: ViewSet>(sets: &[S; MOST_NEXUSES], size: usize) -> bool
-    ensures { IsTrue result ↔ All (λ s. S.room s ≡ size) sets.now }
-{
-    for place in 0..MOST_NEXUSES {
-        if usize::from(sets[place].size()) != size {
-            return false;
-        }
-    }
-    true
-}

@@ -1,29 +1,25 @@
 //! Views.
-//!
-//! `ViewOf::fits` is for who makes a view otherwise than by what this library answers. No command of the program calls it.
 
-ghost use Rattle.std.specs.Prelude.{◌≡◌, ◌<◌, ◌≤◌, ◌+◌, ◌↔◌, ◌⊎◌, ℕ, true, false, length, IsTrue, IfOk, OnOk, OnErr};
+ghost use Rattle.std.specs.Prelude.{◌≡◌, ◌<◌, ◌≤◌, ◌+◌, ℕ, length};
+ghost use Rattle.std.specs.List.{All};
+ghost use Rattle.pr_cdb.specs.declared.codes.TheConstants.{MOST_NEXUSES};
 ghost use Rattle.pr_roles.specs.Fitting.{AreDeclared};
-ghost use Rattle.pr_views.specs.Possibilities.{Item, count_of_reservations};
-ghost use Rattle.pr_views.specs.Views.{IsPossible, Within};
-ghost use Rattle.pr_views.specs.Portions.{has_at, view_in};
-ghost use Rattle.pr_views.specs.Rooms.{scope_of, view_of, IsMade, AreAlike, AreInRange};
-ghost use Rattle.pr_views.specs.inside.Room.{HasRoom};
+ghost use Rattle.pr_views.specs.Possibilities.{count_of_reservations, count_of_attentions};
 
 use crate::possibilities::Possibilities;
 use crate::sets::{
-    are_empty, are_within, empty_sets, have_room, set_of, sets_of, wide_of, wide_set_of, word_of,
-    words_of,
+    are_empty, are_within, empty_sets, set_of, sets_of, wide_of, wide_set_of, word_of, words_of,
 };
 use arrayvec::ArrayVec;
 use pr_cdb::codes::MOST_NEXUSES;
-use pr_roles::are_distinct;
 use pr_roles::limits::MOST_KEYS;
 use pr_sets::{ViewSet, WordSet};
 use std::alloc::{AllocError, Global};
 
 /// What a host can know of the logical unit: which registrations are possible for each nexus, which
 /// reservations, and which attentions pending for itself.
+///
+/// A view is of 1 to 16 nexuses, with declared keys, and its sets have room for what is possible of each. That is said once, here.
 #[derive(Drop)]
 pub struct ViewOf<S: ViewSet> {
     /// The declared keys.
@@ -37,6 +33,12 @@ pub struct ViewOf<S: ViewSet> {
     pub reservations: S,
     /// The attentions pending for the owner of the view, with a bit for each code, the lowest code lowest.
     pub pending: S,
+    pub ghost some: { 1 ≤ hosts },
+    pub ghost few: { hosts ≤ MOST_NEXUSES },
+    pub ghost declared: { AreDeclared keys.items },
+    pub ghost room_of_registrations: { All (λ s. S.room s ≡ length keys.items + 1) registrations },
+    pub ghost room_of_reservations: { S.room reservations ≡ count_of_reservations hosts },
+    pub ghost room_of_pending: { S.room pending ≡ count_of_attentions },
 }
 
 /// A view whose sets take no memory.
@@ -61,14 +63,19 @@ pub const RESERVATIONS_RELEASED_BIT: u8 = 4;
 pub const REGISTRATIONS_PREEMPTED_BIT: u8 = 8;
 
 impl<S: ViewSet> ViewOf<S> {
+    ghost use Rattle.std.specs.Prelude.{◌↔◌, ◌⊎◌, true, false, IsTrue, IfOk, OnOk, OnErr};
+    ghost use Rattle.pr_views.specs.Possibilities.{Item};
+    ghost use Rattle.pr_views.specs.Views.{IsPossible, Within};
+    ghost use Rattle.pr_views.specs.Portions.{has_at, view_in};
+    ghost use Rattle.pr_views.specs.Rooms.{scope_of, view_of, AreAlike, AreInRange};
+
     /// The view in which nothing is possible, of so many nexuses. It takes no memory yet.
     pub fn nothing(alloc: Global, keys: &[u64], hosts: u8) -> Self
         requires hosts { (1 ≤ hosts) × (hosts ≤ MOST_NEXUSES) }
         requires keys { AreDeclared keys.now }
-        ensures made { IsMade S.room result }
         ensures keys { result.keys.items ≡ keys.now }
         ensures hosts { result.hosts ≡ hosts }
-        ensures none { (own : ℕ) (i : Item) → ¬ IsPossible (view_of S.members own result) i }
+        ensures none { (own : ℕ) (i : Item) → ¬ IsPossible (view_of own result) i }
     {
         ViewOf {
             keys: copied(keys),
@@ -89,11 +96,10 @@ impl<S: ViewSet> ViewOf<S> {
         requires hosts { (1 ≤ hosts) × (hosts ≤ MOST_NEXUSES) }
         requires keys { AreDeclared keys.now }
         requires range { AreInRange hosts keys.now possibilities.now }
-        ensures made { IfOk result (IsMade S.room) }
         ensures keys { IfOk result (λ v. v.keys.items ≡ keys.now) }
         ensures hosts { IfOk result (λ v. v.hosts ≡ hosts) }
         ensures same { IfOk result (λ v. (own : ℕ) (i : Item)
-            → IsPossible (view_of S.members own v) i
+            → IsPossible (view_of own v) i
             ↔ IsPossible (view_in (scope_of own v) possibilities.now) i) }
     {
         let registrations = sets_of(
@@ -119,10 +125,9 @@ impl<S: ViewSet> ViewOf<S> {
 
     /// What is possible in the view, as words. Those past the nexuses that are there are empty.
     pub fn possibilities(&self) -> Possibilities
-        requires { IsMade S.room self.now }
         ensures same { (own : ℕ) (i : Item)
             → IsPossible (view_in (scope_of own self.now) result) i
-            ↔ IsPossible (view_of S.members own self.now) i }
+            ↔ IsPossible (view_of own self.now) i }
         ensures past { (g r : ℕ) → self.now.hosts ≤ g → has_at result.registrations g r ≡ false }
         ensures range { AreInRange self.now.hosts self.now.keys.items result }
     {
@@ -135,15 +140,12 @@ impl<S: ViewSet> ViewOf<S> {
 
     /// Adds what is possible in the other. Where memory is refused, the view stays as it was.
     pub fn join(&mut self, alloc: Global, other: &Self) -> Result<(), AllocError>
-        requires made { IsMade S.room self.old }
-        requires other { IsMade S.room other.now }
         requires alike { AreAlike self.old other.now }
-        ensures made { IsMade S.room self.new }
         ensures alike { AreAlike self.old self.new }
         ensures ok { OnOk result ((own : ℕ) (i : Item)
-            → IsPossible (view_of S.members own self.new) i
-            ↔ (IsPossible (view_of S.members own self.old) i
-            ⊎ IsPossible (view_of S.members own other.now) i)) }
+            → IsPossible (view_of own self.new) i
+            ↔ (IsPossible (view_of own self.old) i
+            ⊎ IsPossible (view_of own other.now) i)) }
         ensures err { OnErr result (self.new ≡ self.old) }
     {
         let mut either = self.possibilities();
@@ -154,11 +156,9 @@ impl<S: ViewSet> ViewOf<S> {
 
     /// Whether everything that is possible in the view is possible in the other.
     pub fn within(&self, other: &Self) -> bool
-        requires made { IsMade S.room self.now }
-        requires other { IsMade S.room other.now }
         requires alike { AreAlike self.now other.now }
         ensures { IsTrue result ↔ ((own : ℕ)
-            → Within (view_of S.members own self.now) (view_of S.members own other.now)) }
+            → Within (view_of own self.now) (view_of own other.now)) }
     {
         are_within(&self.registrations, &other.registrations, self.hosts)
             && self.reservations.within(&other.reservations)
@@ -167,9 +167,140 @@ impl<S: ViewSet> ViewOf<S> {
 
     /// Whether nothing is possible in the view.
     pub fn is_empty(&self) -> bool
-        requires { IsMade S.room self.now }
         ensures { IsTrue result ↔ ((own : ℕ) (i : Item)
-            → ¬ IsPossible (view_of S.members own self.now) i) }
+            → ¬ IsPossible (view_of own self.now) i) }
+    {
+        are_empty(&self.registrations, self.hosts)
+            && self.reservations.is_empty()
+            && self.pending.is_empty()
+    }
+}
+
+// How many registrations one can have at most: none, or one by each key.
+pub const MOST_REGISTRATIONS: u8 = MOST_KEYS as u8 + 1;
+
+/// How many sets of pending attentions there are, with a bit for each of the four codes.
+pub const ATTENTION_SETS: u8 = 16;
+
+/// The bit of a power on in the number of a set of attentions.
+pub const POWER_ON_BIT: u8 = 1;
+
+/// The bit of RESERVATIONS PREEMPTED there.
+pub const RESERVATIONS_PREEMPTED_BIT: u8 = 2;
+
+/// The bit of RESERVATIONS RELEASED there.
+pub const RESERVATIONS_RELEASED_BIT: u8 = 4;
+
+/// The bit of REGISTRATIONS PREEMPTED there.
+pub const REGISTRATIONS_PREEMPTED_BIT: u8 = 8;
+
+impl<S: ViewSet> ViewOf<S> {
+    ghost use Rattle.std.specs.Prelude.{◌↔◌, ◌⊎◌, true, false, IsTrue, IfOk, OnOk, OnErr};
+    ghost use Rattle.pr_views.specs.Possibilities.{Item};
+    ghost use Rattle.pr_views.specs.Views.{IsPossible, Within};
+    ghost use Rattle.pr_views.specs.Portions.{has_at, view_in};
+    ghost use Rattle.pr_views.specs.Rooms.{scope_of, view_of, AreAlike, AreInRange};
+
+    /// The view in which nothing is possible, of so many nexuses. It takes no memory yet.
+    pub fn nothing(alloc: Global, keys: &[u64], hosts: u8) -> Self
+        requires hosts { (1 ≤ hosts) × (hosts ≤ MOST_NEXUSES) }
+        requires keys { AreDeclared keys.now }
+        ensures keys { result.keys.items ≡ keys.now }
+        ensures hosts { result.hosts ≡ hosts }
+        ensures none { (own : ℕ) (i : Item) → ¬ IsPossible (view_of own result) i }
+    {
+        ViewOf {
+            keys: copied(keys),
+            hosts,
+            registrations: empty_sets(alloc, count_of_registrations(keys)),
+            reservations: S::none(alloc, count_of_reservations(hosts)),
+            pending: S::none(alloc, ATTENTION_SETS),
+        }
+    }
+
+    /// The view in which this is possible. Where memory is refused, nothing is left behind.
+    pub fn of(
+        alloc: Global,
+        keys: &[u64],
+        hosts: u8,
+        possibilities: &Possibilities,
+    ) -> Result<Self, AllocError>
+        requires hosts { (1 ≤ hosts) × (hosts ≤ MOST_NEXUSES) }
+        requires keys { AreDeclared keys.now }
+        requires range { AreInRange hosts keys.now possibilities.now }
+        ensures keys { IfOk result (λ v. v.keys.items ≡ keys.now) }
+        ensures hosts { IfOk result (λ v. v.hosts ≡ hosts) }
+        ensures same { IfOk result (λ v. (own : ℕ) (i : Item)
+            → IsPossible (view_of own v) i
+            ↔ IsPossible (view_in (scope_of own v) possibilities.now) i) }
+    {
+        let registrations = sets_of(
+            alloc,
+            count_of_registrations(keys),
+            hosts,
+            &possibilities.registrations,
+        )?;
+        let reservations = wide_set_of(
+            alloc,
+            count_of_reservations(hosts),
+            possibilities.reservations,
+        )?;
+        let pending = set_of(alloc, ATTENTION_SETS, possibilities.pending)?;
+        Ok(ViewOf {
+            keys: copied(keys),
+            hosts,
+            registrations,
+            reservations,
+            pending,
+        })
+    }
+
+    /// What is possible in the view, as words. Those past the nexuses that are there are empty.
+    pub fn possibilities(&self) -> Possibilities
+        ensures same { (own : ℕ) (i : Item)
+            → IsPossible (view_in (scope_of own self.now) result) i
+            ↔ IsPossible (view_of own self.now) i }
+        ensures past { (g r : ℕ) → self.now.hosts ≤ g → has_at result.registrations g r ≡ false }
+        ensures range { AreInRange self.now.hosts self.now.keys.items result }
+    {
+        Possibilities {
+            registrations: words_of(&self.registrations, self.hosts),
+            reservations: wide_of(&self.reservations),
+            pending: word_of(&self.pending),
+        }
+    }
+
+    /// Adds what is possible in the other. Where memory is refused, the view stays as it was.
+    pub fn join(&mut self, alloc: Global, other: &Self) -> Result<(), AllocError>
+        requires alike { AreAlike self.old other.now }
+        ensures alike { AreAlike self.old self.new }
+        ensures ok { OnOk result ((own : ℕ) (i : Item)
+            → IsPossible (view_of own self.new) i
+            ↔ (IsPossible (view_of own self.old) i
+            ⊎ IsPossible (view_of own other.now) i)) }
+        ensures err { OnErr result (self.new ≡ self.old) }
+    {
+        let mut either = self.possibilities();
+        either.join(&other.possibilities());
+        *self = Self::of(alloc, &self.keys, self.hosts, &either)?;
+        Ok(())
+    }
+
+    /// Whether everything that is possible in the view is possible in the other.
+    pub fn within(&self, other: &Self) -> bool
+        requires alike { AreAlike self.now other.now }
+        ensures { IsTrue result ↔ ((own : ℕ)
+            → Within (view_of own self.now) (view_of own other.now)) }
+    {
+        are_within(&self.registrations, &other.registrations, self.hosts)
+            && self.reservations.within(&other.reservations)
+            && self.pending.within(&other.pending)
+    }
+
+    /// Whether nothing is possible in the view.
+    pub fn is_empty(&self) -> bool
+        ensures { IsTrue result ↔ ((own : ℕ) (i : Item)
+            → ¬ IsPossible (view_of own self.now) i) }
     {
         are_empty(&self.registrations, self.hosts)
             && self.reservations.is_empty()
@@ -223,11 +354,4 @@ fn copied(keys: &[u64]) -> ArrayVec<u64, MOST_KEYS>
         all.push(*key);
     }
     all
-}
-
-// Whether the keys can be those of a scenario.
-fn are_declared(keys: &[u64]) -> bool
-    ensures { IsTrue result ↔ AreDeclared keys.now }
-{
-    keys.len() <= MOST_KEYS && !keys.contains(&0) && are_distinct(keys)
 }

@@ -3,7 +3,7 @@ use Rattle.std.specs.FinSet as set
 use Rattle.pr_attention.specs.Attentions.{code_of}
 use Rattle.pr_attention.specs.Flagged.{codes_of}
 use Rattle.pr_sets.specs.Words.{has}
-use Rattle.pr_views.proofs.lemmas.Room.Fronts.{IsFront}
+use Rattle.pr_views.proofs.lemmas.Rooms.Fronts.{IsFront}
 use Rattle.pr_domain.proofs.attentions.those_without.Given as goal
 
 abbrev pub invariant-loop-attentions : goal.invariant-loop-attentions

@@ -13,7 +13,7 @@ use Rattle.pr_views.specs.Possibilities.{Scope, Item, Registration, Reservation,
 use Rattle.pr_views.specs.Views.{IsPossible}
 use Rattle.pr_views.specs.Rooms.{scope_of, view_of, IsMade}
 use Rattle.pr_views.specs.Portions.{view_in}
-use Rattle.pr_views.proofs.lemmas.Room.Places.{get_other}
+use Rattle.pr_views.proofs.lemmas.Rooms.Places.{get_other}
 use Rattle.pr_domain.specs.declared.landing.Landing.{Landing}
 use Rattle.pr_domain.specs.inside.Reporting.{HasOutcome, AreKept, AreMore, IsOfWay}
 

@@ -12,7 +12,7 @@ use Rattle.pr_views.specs.declared.possibilities.Possibilities.{Possibilities}
 use Rattle.pr_views.specs.Possibilities.{Scope, Item, Registration, Reservation, Attentions, IsSo}
 use Rattle.pr_views.specs.Views.{Shows, Within}
 use Rattle.pr_views.specs.Portions.{has_at, view_in}
-use Rattle.pr_views.proofs.lemmas.Room.Places.{holds_at-get_or}
+use Rattle.pr_views.proofs.lemmas.Rooms.Places.{holds_at-get_or}
 use Rattle.pr_regions.specs.declared.region.Region.{Region}
 use Rattle.pr_regions.specs.declared.region.Reading.{Reading}
 use Rattle.pr_regions.specs.declared.place.Place.{Place}

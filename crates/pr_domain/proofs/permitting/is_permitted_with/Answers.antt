@@ -1,7 +1,7 @@
 use Rattle.std.proofs.Common.{◌≡◌, ◌<◌, ◌||◌, not, length, slice_index_or, sym, ap, ◌∙◌, subst, arith}
 use Rattle.pr_sets.specs.Words.{has}
 use Rattle.std.proofs.Math.Bool.{or-false}
-use Rattle.pr_views.proofs.lemmas.Room.Places.{holds_at-get_or}
+use Rattle.pr_views.proofs.lemmas.Rooms.Places.{holds_at-get_or}
 use Rattle.pr_domain.specs.inside.Permitting.{scope_at}
 use Rattle.pr_domain.proofs.lemmas.Permitting.Permissions.{not_registered, permitted_by_clauses, one_registration_permitted}
 use Rattle.pr_domain.proofs.permitting.is_permitted_with.Goals as goal

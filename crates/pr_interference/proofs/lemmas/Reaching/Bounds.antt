@@ -28,7 +28,7 @@ use Rattle.pr_views.specs.declared.possibilities.Possibilities.{Possibilities}
 use Rattle.pr_views.specs.Possibilities.{Scope, Item, Registration, Reservation, Attentions, IsSo, key_at, number_of, count_of_reservations}
 use Rattle.pr_views.specs.Views.{IsPossible, IsSeen, Shows}
 use Rattle.pr_views.specs.Portions.{has_at, view_in}
-use Rattle.pr_views.proofs.lemmas.Room.Places.{holds_at-get_or, holds_at_past}
+use Rattle.pr_views.proofs.lemmas.Rooms.Places.{holds_at-get_or, holds_at_past}
 use Rattle.pr_views.proofs.lemmas.Possibilities.Numbers.{one_registration, one_reservation, one_attentions}
 use Rattle.pr_regions.specs.declared.purpose.Purpose.{Purpose}
 use Rattle.pr_regions.specs.declared.purpose.Purpose.TheVariants.{Register, Unregister, Reserve, Release, Clear, PreemptAll, Preempt}

@@ -4,7 +4,7 @@ use Rattle.std.proofs.lemmas.Bool.{cases_lt}
 use Rattle.std.proofs.lemmas.List.{length-set}
 use Rattle.pr_cdb.specs.declared.codes.TheConstants.{MOST_NEXUSES}
 use Rattle.pr_views.specs.Portions.{has_at}
-use Rattle.pr_views.proofs.lemmas.Room.Places.{holds_at-get_or, holds_at_past}
+use Rattle.pr_views.proofs.lemmas.Rooms.Places.{holds_at-get_or, holds_at_past}
 use Rattle.pr_regions.specs.Images.{IsImage, registration_left, becomes}
 use Rattle.pr_regions.proofs.lemmas.Images.Elements.{images_more}
 use Rattle.pr_regions.proofs.changed.registrations_after.Goals.{then-host-from, else-host-from}

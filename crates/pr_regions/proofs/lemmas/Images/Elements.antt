@@ -2,7 +2,7 @@
 use Rattle.pr_regions.proofs.Common.{◌≡◌, ◌≢◌, ℕ, ◌+◌, ◌<◌, true, false, ◌==◌, List, length, sym, ◌∙◌, subst, inl, inr, ◌⊎◌, arith, eqb_tells, Word, has}
 use Rattle.std.proofs.Common.{slice_set}
 use Rattle.pr_views.specs.Portions.{has_at}
-use Rattle.pr_views.proofs.lemmas.Room.Places.{holds_at_written, holds_at_kept}
+use Rattle.pr_views.proofs.lemmas.Rooms.Places.{holds_at_written, holds_at_kept}
 use Rattle.pr_regions.specs.Images.{IsImage}
 
 -- ---- images at each place

@@ -5,7 +5,7 @@ use Rattle.pr_sets.specs.Wides.{has_wide}
 use Rattle.pr_views.specs.declared.possibilities.Possibilities.{Possibilities}
 use Rattle.pr_views.specs.Possibilities.{Reservation, Attentions}
 use Rattle.pr_views.specs.Portions.{has_at}
-use Rattle.pr_views.proofs.lemmas.Room.Places.{holds_at-get_or}
+use Rattle.pr_views.proofs.lemmas.Rooms.Places.{holds_at-get_or}
 use Rattle.pr_regions.specs.Keeping.{IsNew}
 
 -- ---- gains

@@ -3,7 +3,7 @@ use Rattle.pr_regions.proofs.Common.{◌≡◌, ◌≢◌, ℕ, ◌+◌, ◌<◌
 use Rattle.std.proofs.Common.{slice_set}
 use Rattle.pr_registry.specs.Registrations.{holds_alone}
 use Rattle.pr_views.specs.Portions.{has_at}
-use Rattle.pr_views.proofs.lemmas.Room.Places.{holds_at_written, holds_at_kept}
+use Rattle.pr_views.proofs.lemmas.Rooms.Places.{holds_at_written, holds_at_kept}
 use Rattle.pr_regions.specs.declared.region.Region.{Region}
 use Rattle.pr_regions.specs.Regions.{filter_of}
 use Rattle.pr_regions.specs.declared.place.Place.{Place}

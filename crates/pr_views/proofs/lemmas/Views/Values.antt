@@ -7,13 +7,14 @@ use Rattle.std.proofs.lemmas.Bool.{false_from_ne_true}
 use Rattle.std.proofs.lemmas.Option.{slice_get_within, get_or_from_slice_get}
 use Rattle.pr_cdb.specs.declared.codes.TheConstants.{MOST_NEXUSES}
 use Rattle.pr_registry.proofs.lemmas.Sets.{same_hosts}
-use Rattle.pr_sets.specs.Numbers.{Numbers, Within as WithinNumbers, AllBelow}
+use Rattle.pr_sets.specs.Numbers.{Within as WithinNumbers}
+use Rattle.pr_sets.specs.declared.view_set.ViewSet.{Ghosts as ViewSet}
 use Rattle.pr_views.specs.declared.view.ViewOf.{ViewOf}
 use Rattle.pr_views.specs.declared.possibilities.Possibilities.{Possibilities}
 use Rattle.pr_views.specs.Possibilities.{Item}
 use Rattle.pr_views.specs.Views.{IsPossible, Within}
 use Rattle.pr_views.specs.Portions.{view_in}
-use Rattle.pr_views.specs.Rooms.{view_of, IsMade, AreInRange}
+use Rattle.pr_views.specs.Rooms.{view_of, AreInRange}
 
 -- what holds of each element holds of one that is read
 read : {X : Type 0} (P : X → Type 0) (xs : List X) (i : ℕ) (x : X) → All P xs → slice_get xs i ≡ Some x → P x
@@ -33,73 +34,72 @@ words_fit own hosts keys p counted small declared range past = record {
     at g r is (inl there) = range.registrations g r there is
     at g r is (inr late) = absurd (false≢true (sym (past g r late) ∙ is))
 
-module _ {S : Type 0} (members : S → Numbers) where
+module _ {S : Type 0} {sets : ViewSet S} where
   -- ---- nothing is possible
 
-  pub nothing_possible : (v : ViewOf S) → ((g n : ℕ) → g < v.hosts → contains_at members v.registrations g n ≡ false) → members v.reservations ≡ set.empty → members v.pending ≡ set.empty
-      → (own : ℕ) (i : Item) → IsPossible (view_of members own v) i → ⊥
+  pub nothing_possible : (v : ViewOf S sets) → ((g n : ℕ) → g < v.hosts → contains_at sets.members v.registrations g n ≡ false) → sets.members v.reservations ≡ set.empty → sets.members v.pending ≡ set.empty
+      → (own : ℕ) (i : Item) → IsPossible (view_of own v) i → ⊥
   nothing_possible v registrations reservations pending own (Registration g r) is = false≢true (sym (registrations g r is.0) ∙ is.1)
   nothing_possible v registrations reservations pending own (Reservation x) is =
       false≢true (sym (contains-nobody x) ∙ ap (λ s. set.contains s x) (sym reservations) ∙ is)
   nothing_possible v registrations reservations pending own (Attentions q) is =
       false≢true (sym (contains-nobody q) ∙ ap (λ s. set.contains s q) (sym pending) ∙ is)
 
-  pub contains_none : (sets : List S) → All (λ s. members s ≡ set.empty) sets → (g n : ℕ) → contains_at members sets g n ≡ false
+  pub contains_none : (sets : List S) → All (λ s. sets.members s ≡ set.empty) sets → (g n : ℕ) → contains_at sets.members sets g n ≡ false
   contains_none sets all g n = at (slice_get sets g) refl
     where
-      at : (o : Option S) → slice_get sets g ≡ o → option_map_or (λ s. set.contains (members s) n) o false ≡ false
+      at : (o : Option S) → slice_get sets g ≡ o → option_map_or (λ s. set.contains (sets.members s) n) o false ≡ false
       at None there = refl
-      at (Some s) there = ap (λ t. set.contains t n) (read (λ t. members t ≡ set.empty) sets g s all there) ∙ contains-nobody n
+      at (Some s) there = ap (λ t. set.contains t n) (read (λ t. sets.members t ≡ set.empty) sets g s all there) ∙ contains-nobody n
 
-  empty_from_none : (s : S) → ((n : ℕ) → set.contains (members s) n ≡ true → ⊥) → members s ≡ set.empty
+  empty_from_none : (s : S) → ((n : ℕ) → set.contains (sets.members s) n ≡ true → ⊥) → sets.members s ≡ set.empty
   empty_from_none s none =
-      same_hosts (members s) set.empty (λ n. false_from_ne_true (set.contains (members s) n) (none n) ∙ sym (contains-nobody n))
+      same_hosts (sets.members s) set.empty (λ n. false_from_ne_true (set.contains (sets.members s) n) (none n) ∙ sym (contains-nobody n))
 
-  pub no_registrations : (v : ViewOf S) → ((own : ℕ) (i : Item) → IsPossible (view_of members own v) i → ⊥) → (g n : ℕ) → g < v.hosts → contains_at members v.registrations g n ≡ false
-  no_registrations v none g n small = false_from_ne_true (contains_at members v.registrations g n) (λ is. none 0 (Registration g n) (small, is))
+  pub no_registrations : (v : ViewOf S sets) → ((own : ℕ) (i : Item) → IsPossible (view_of own v) i → ⊥) → (g n : ℕ) → g < v.hosts → contains_at sets.members v.registrations g n ≡ false
+  no_registrations v none g n small = false_from_ne_true (contains_at sets.members v.registrations g n) (λ is. none 0 (Registration g n) (small, is))
 
-  pub no_reservations : (v : ViewOf S) → ((own : ℕ) (i : Item) → IsPossible (view_of members own v) i → ⊥) → members v.reservations ≡ set.empty
+  pub no_reservations : (v : ViewOf S sets) → ((own : ℕ) (i : Item) → IsPossible (view_of own v) i → ⊥) → sets.members v.reservations ≡ set.empty
   no_reservations v none = empty_from_none v.reservations (λ x is. none 0 (Reservation x) is)
 
-  pub no_attentions : (v : ViewOf S) → ((own : ℕ) (i : Item) → IsPossible (view_of members own v) i → ⊥) → members v.pending ≡ set.empty
+  pub no_attentions : (v : ViewOf S sets) → ((own : ℕ) (i : Item) → IsPossible (view_of own v) i → ⊥) → sets.members v.pending ≡ set.empty
   no_attentions v none = empty_from_none v.pending (λ q is. none 0 (Attentions q) is)
 
   -- ---- one within the other
 
-  pub view_within : (v w : ViewOf S) → v.hosts ≡ w.hosts → ((g n : ℕ) → g < v.hosts → contains_at members v.registrations g n ≡ true → contains_at members w.registrations g n ≡ true)
-      → WithinNumbers (members v.reservations) (members w.reservations) → WithinNumbers (members v.pending) (members w.pending)
-      → (own : ℕ) → Within (view_of members own v) (view_of members own w)
+  pub view_within : (v w : ViewOf S sets) → v.hosts ≡ w.hosts → ((g n : ℕ) → g < v.hosts → contains_at sets.members v.registrations g n ≡ true → contains_at sets.members w.registrations g n ≡ true)
+      → WithinNumbers (sets.members v.reservations) (sets.members w.reservations) → WithinNumbers (sets.members v.pending) (sets.members w.pending)
+      → (own : ℕ) → Within (view_of own v) (view_of own w)
   view_within v w hosts registrations reservations pending own (Registration g r) is = (subst (λ n. g < n) hosts is.0, registrations g r is.0 is.1)
   view_within v w hosts registrations reservations pending own (Reservation x) is = reservations x is
   view_within v w hosts registrations reservations pending own (Attentions q) is = pending q is
 
-  pub registrations_within : (v w : ViewOf S) → ((own : ℕ) → Within (view_of members own v) (view_of members own w))
-      → (g n : ℕ) → g < v.hosts → contains_at members v.registrations g n ≡ true → contains_at members w.registrations g n ≡ true
+  pub registrations_within : (v w : ViewOf S sets) → ((own : ℕ) → Within (view_of own v) (view_of own w))
+      → (g n : ℕ) → g < v.hosts → contains_at sets.members v.registrations g n ≡ true → contains_at sets.members w.registrations g n ≡ true
   registrations_within v w all g n small is = (all 0 (Registration g n) (small, is)).1
 
-  pub reservations_within : (v w : ViewOf S) → ((own : ℕ) → Within (view_of members own v) (view_of members own w)) → WithinNumbers (members v.reservations) (members w.reservations)
+  pub reservations_within : (v w : ViewOf S sets) → ((own : ℕ) → Within (view_of own v) (view_of own w)) → WithinNumbers (sets.members v.reservations) (sets.members w.reservations)
   reservations_within v w all x is = all 0 (Reservation x) is
 
-  pub attentions_within : (v w : ViewOf S) → ((own : ℕ) → Within (view_of members own v) (view_of members own w)) → WithinNumbers (members v.pending) (members w.pending)
+  pub attentions_within : (v w : ViewOf S sets) → ((own : ℕ) → Within (view_of own v) (view_of own w)) → WithinNumbers (sets.members v.pending) (sets.members w.pending)
   attentions_within v w all q is = all 0 (Attentions q) is
 
   -- ---- its possibilities fit
 
-  module _ (room : S → ℕ) (below : (s : S) → AllBelow (room s) (members s)) where
-    pub registration_in_range : (v : ViewOf S) → IsMade room v → (g r : ℕ) → contains_at members v.registrations g r ≡ true → r ≤ length v.keys.items
-    registration_in_range v made g r is = at (slice_get v.registrations g) refl is
-      where
-        at : (o : Option S) → slice_get v.registrations g ≡ o → option_map_or (λ s. set.contains (members s) r) o false ≡ true → r ≤ length v.keys.items
-        at None there has = absurd (false≢true has)
-        at (Some s) there has =
-            let whole = read (λ t. room t ≡ length v.keys.items + 1) v.registrations g s made.registrations there in
-            let small = below s r has in
-            omega arith
+  pub registration_in_range : (v : ViewOf S sets) → (g r : ℕ) → contains_at sets.members v.registrations g r ≡ true → r ≤ length v.keys.items
+  registration_in_range v g r is = at (slice_get v.registrations g) refl is
+    where
+      at : (o : Option S) → slice_get v.registrations g ≡ o → option_map_or (λ s. set.contains (sets.members s) r) o false ≡ true → r ≤ length v.keys.items
+      at None there has = absurd (false≢true has)
+      at (Some s) there has =
+          let whole = read (λ t. sets.room t ≡ length v.keys.items + 1) v.registrations g s v.room_of_registrations there in
+          let small = sets.below s r has in
+          omega arith
 
-    pub fits : (v : ViewOf S) (own : ℕ) → IsMade room v → own < v.hosts → Fits (view_of members own v)
-    fits v own made small = record {
-      scope = record { hosts = made.hosts; own = small; keys = made.keys };
-      registrations = registration_in_range v made;
-      reservations = λ x is. subst (λ n. x < n) made.reservations (below v.reservations x is);
-      pending = λ q is. subst (λ n. q < n) made.pending (below v.pending q is);
-    }
+  pub fits : (v : ViewOf S sets) (own : ℕ) → own < v.hosts → Fits (view_of own v)
+  fits v own small = record {
+    scope = record { hosts = (v.some, v.few); own = small; keys = v.declared };
+    registrations = registration_in_range v;
+    reservations = λ x is. subst (λ n. x < n) v.room_of_reservations (sets.below v.reservations x is);
+    pending = λ q is. subst (λ n. q < n) v.room_of_pending (sets.below v.pending q is);
+  }

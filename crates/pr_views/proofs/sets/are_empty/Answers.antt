@@ -1,5 +1,5 @@
 use Rattle.pr_views.proofs.Common.{arith, false≢true}
-use Rattle.pr_views.proofs.lemmas.Room.Members.{empty_more, not_empty}
+use Rattle.pr_views.proofs.lemmas.Rooms.Members.{empty_more, not_empty}
 use Rattle.pr_views.proofs.sets.are_empty.Goals as goal
 
 pub returns-then-not-is_empty : goal.returns-then-not-is_empty

@@ -1,5 +1,5 @@
 use Rattle.pr_views.proofs.Common.{arith, false≢true}
-use Rattle.pr_views.proofs.lemmas.Room.Members.{within_more, not_within}
+use Rattle.pr_views.proofs.lemmas.Rooms.Members.{within_more, not_within}
 use Rattle.pr_views.proofs.sets.are_within.Goals as goal
 
 pub returns-then-not-within : goal.returns-then-not-within

@@ -1,6 +1,6 @@
 use Rattle.pr_views.proofs.Common.{◌≡◌, has}
 use Rattle.std.specs.FinSet as set
-use Rattle.pr_views.proofs.lemmas.Room.Fronts.{IsFront}
+use Rattle.pr_views.proofs.lemmas.Rooms.Fronts.{IsFront}
 use Rattle.pr_views.proofs.sets.set_of.Given as goal
 
 abbrev pub invariant-loop-n : goal.invariant-loop-n

@@ -1,7 +1,7 @@
 use Rattle.pr_views.proofs.Common.{◌≡◌, ◌∙◌, arith, has}
 use Rattle.std.proofs.lemmas.List.Elements.{All-set}
-use Rattle.pr_views.proofs.lemmas.Room.Places.{holds_at-get_or}
-use Rattle.pr_views.proofs.lemmas.Room.Members.{sets_more}
+use Rattle.pr_views.proofs.lemmas.Rooms.Places.{holds_at-get_or}
+use Rattle.pr_views.proofs.lemmas.Rooms.Members.{sets_more}
 use Rattle.pr_views.proofs.sets.sets_of.Goals as goal
 
 pub set_of-requires-clause-below : goal.set_of-requires-clause-below

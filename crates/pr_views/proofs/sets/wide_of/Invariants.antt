@@ -1,6 +1,6 @@
 use Rattle.std.specs.FinSet as set
 use Rattle.pr_views.proofs.Common.{has_wide}
-use Rattle.pr_views.proofs.lemmas.Room.Fronts.{IsFront}
+use Rattle.pr_views.proofs.lemmas.Rooms.Fronts.{IsFront}
 use Rattle.pr_views.proofs.sets.wide_of.Given as goal
 
 abbrev pub invariant-loop-n : goal.invariant-loop-n

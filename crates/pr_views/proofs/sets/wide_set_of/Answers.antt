@@ -1,6 +1,6 @@
 use Rattle.pr_views.proofs.Common.{sym, ap, ◌∙◌, has_wide, contains-nobody}
 use Rattle.std.specs.FinSet as set
-use Rattle.pr_views.proofs.lemmas.Room.Fronts.{front_none, front_skips, added}
+use Rattle.pr_views.proofs.lemmas.Rooms.Fronts.{front_none, front_skips, added}
 use Rattle.pr_views.proofs.sets.wide_set_of.Goals.{then-has+in_ok-add, else-has}
 use Rattle.pr_views.proofs.sets.wide_set_of.Goals as goal
 

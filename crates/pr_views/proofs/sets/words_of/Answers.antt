@@ -1,6 +1,6 @@
 use Rattle.pr_views.proofs.Common.{◌∙◌, arith, length-set, has}
-use Rattle.pr_views.proofs.lemmas.Room.Places.{holds_at_kept}
-use Rattle.pr_views.proofs.lemmas.Room.Members.{words_more}
+use Rattle.pr_views.proofs.lemmas.Rooms.Places.{holds_at_kept}
+use Rattle.pr_views.proofs.lemmas.Rooms.Members.{words_more}
 use Rattle.pr_views.proofs.sets.words_of.Goals as goal
 
 pub loop-host-preserved : goal.loop-host-preserved

@@ -1,5 +1,5 @@
 use Rattle.pr_views.proofs.Common.{arith}
-use Rattle.pr_views.proofs.lemmas.Room.Places.{filled_more}
+use Rattle.pr_views.proofs.lemmas.Rooms.Places.{filled_more}
 use Rattle.pr_views.proofs.portion.Portion.is_filled.Goals as goal
 
 pub loop-host-preserved : goal.loop-host-preserved

@@ -1,5 +1,5 @@
 use Rattle.pr_views.proofs.Common.{arith}
-use Rattle.pr_views.proofs.lemmas.Room.Places.{joined_more, joined_all}
+use Rattle.pr_views.proofs.lemmas.Rooms.Places.{joined_more, joined_all}
 use Rattle.pr_views.proofs.possibilities.Possibilities.join.Goals as goal
 
 pub loop-host-preserved : goal.loop-host-preserved

@@ -3,7 +3,7 @@ use Rattle.pr_views.proofs.Common.{◌≡◌, ℕ, ◌+◌, ◌<◌, Bool, true,
 use Rattle.std.specs.FinSet as set
 use Rattle.pr_registry.proofs.lemmas.Sets.{same_hosts}
 use Rattle.pr_sets.specs.Numbers.{Numbers, Within}
-use Rattle.pr_views.proofs.lemmas.Room.Places.{holds_at-get_or, holds_at_written, holds_at_kept, below_more}
+use Rattle.pr_views.proofs.lemmas.Rooms.Places.{holds_at-get_or, holds_at_written, holds_at_kept, below_more}
 
 module _ {S : Type 0} (members : S → Numbers) (sets : List S) where
   -- the members of the set at a place
