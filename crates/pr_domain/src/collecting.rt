@@ -5,7 +5,7 @@ ghost use Rattle.std.specs.List.{slice_get};
 ghost use Rattle.pr_views.specs.declared.view.ViewOf.{ViewOf};
 ghost use Rattle.pr_views.specs.Possibilities.{Item};
 ghost use Rattle.pr_views.specs.Views.{IsPossible};
-ghost use Rattle.pr_views.specs.Rooms.{view_of, IsMade};
+ghost use Rattle.pr_views.specs.Rooms.{view_of};
 ghost use Rattle.pr_domain.specs.inside.Reporting.{AreKept, AreMore};
 
 use crate::landing::Landing;
@@ -41,14 +41,13 @@ pub(crate) fn put<S: ViewSet>(
     landing: Landing,
     view: ViewOf<S>,
 ) -> Result<(), AllocError>
-    requires made { IsMade S.room view }
-    requires some { (own : ℕ) → (i : Item) × IsPossible (view_of S.members own view) i }
-    requires kept { AreKept S.members S.room view.hosts view.keys.items outcomes.old.items }
-    ensures kept { OnOk result (AreKept S.members S.room view.hosts view.keys.items
+    requires some { (own : ℕ) → (i : Item) × IsPossible (view_of own view) i }
+    requires kept { AreKept view.hosts view.keys.items outcomes.old.items }
+    ensures kept { OnOk result (AreKept view.hosts view.keys.items
         outcomes.new.items) }
     ensures more { OnOk result ((own : ℕ)
-        → AreMore S.members own outcomes.old.items
-        (λ l i. (l ≡ landing) × IsPossible (view_of S.members own view) i) outcomes.new.items) }
+        → AreMore own outcomes.old.items
+        (λ l i. (l ≡ landing) × IsPossible (view_of own view) i) outcomes.new.items) }
 {
     match place_of(outcomes, landing) {
         Some(place) => outcomes[place].1.join(alloc, &view)?,

@@ -4,7 +4,7 @@ ghost use Rattle.std.specs.Prelude.{◌≡◌, ◌<◌, ◌≤◌, true, length,
 ghost use Rattle.std.specs.List.{All};
 ghost use Rattle.pr_script.specs.declared.limits.TheConstants.{MOST_ARMS};
 ghost use Rattle.pr_script.specs.Grammar.{is_written, test_fits};
-ghost use Rattle.pr_views.specs.Rooms.{view_of, IsMade, AreAlike};
+ghost use Rattle.pr_views.specs.Rooms.{view_of, AreAlike};
 ghost use Rattle.pr_domain.specs.Outcomes.{AreOutcomes};
 
 use crate::landing::Landing;
@@ -27,16 +27,14 @@ pub fn outcomes<S: ViewSet>(
     tests: &[Test],
     refusals: Refusals,
 ) -> Result<Vec<(Landing, ViewOf<S>)>, AllocError>
-    requires made { IsMade S.room view.now }
     requires host { host < view.now.hosts }
     requires written { IsTrue (is_written view.now.keys.items command.now) }
     requires tests { All (λ t. test_fits view.now.keys.items command.now t ≡ true) tests.now }
     requires few { length tests.now ≤ MOST_ARMS }
-    ensures outcomes { IfOk result (λ outcomes. AreOutcomes (view_of S.members host view.now)
-        refusals command.now tests.now (map (λ o. (o.0, view_of S.members host o.1))
+    ensures outcomes { IfOk result (λ outcomes. AreOutcomes (view_of host view.now)
+        refusals command.now tests.now (map (λ o. (o.0, view_of host o.1))
         outcomes.items)) }
-    ensures made { IfOk result (λ outcomes. All (λ o. IsMade S.room o.1 × AreAlike view.now o.1)
-        outcomes.items) }
+    ensures alike { IfOk result (λ outcomes. All (λ o. AreAlike view.now o.1) outcomes.items) }
 {
     let keys: &[u64] = &view.keys;
     let known = view.possibilities();

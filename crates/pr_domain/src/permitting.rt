@@ -7,7 +7,7 @@ ghost use Rattle.pr_roles.specs.declared.limits.TheConstants.{MOST_KEYS};
 ghost use Rattle.pr_sets.specs.Words.{has};
 ghost use Rattle.pr_views.specs.Possibilities.{Scope, Reservation, IsSo, key_at};
 ghost use Rattle.pr_views.specs.Portions.{view_in};
-ghost use Rattle.pr_views.specs.Rooms.{view_of, IsMade};
+ghost use Rattle.pr_views.specs.Rooms.{view_of};
 ghost use Rattle.pr_regions.specs.Regions.{IsProper as IsProperBranch};
 ghost use Rattle.pr_domain.specs.Outcomes.{IsPermittedIn, IsRefusedIn};
 ghost use Rattle.pr_regions.specs.Gathering.{IsPlace, IsUniform, IsProper};
@@ -26,12 +26,11 @@ use pr_views::{MOST_REGISTRATIONS, Possibilities, ViewOf};
 /// Whether the role permits this command of the host in each state that the host's view shows and in which the
 /// command ends GOOD. It takes no memory.
 pub fn permitted<S: ViewSet>(view: &ViewOf<S>, role: &Role, host: u8, command: &Command) -> bool
-    requires made { IsMade S.room view.now }
     requires host { host < view.now.hosts }
     requires written { IsTrue (is_written view.now.keys.items command.now) }
-    ensures permitted { IsTrue result → IsPermittedIn (view_of S.members host view.now)
+    ensures permitted { IsTrue result → IsPermittedIn (view_of host view.now)
         role.now.clauses.items command.now }
-    ensures refused { result ≡ false → IsRefusedIn (view_of S.members host view.now)
+    ensures refused { result ≡ false → IsRefusedIn (view_of host view.now)
         role.now.clauses.items command.now }
 {
     if is_always_permitted(*command) {

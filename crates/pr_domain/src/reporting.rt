@@ -135,9 +135,9 @@ impl Sending<'_> {
         requires scope { IsScope (scope_of_sending self.now) }
         requires range { (x q : ℕ) → has_wide way.now.reservations x ≡ true → has pending q ≡ true
             → AreInRange self.now.hosts self.now.keys.now (record way.now { pending = pending }) }
-        requires kept { AreKeptFor S.members S.room self.now outcomes.old.items }
-        ensures kept { OnOk result (AreKeptFor S.members S.room self.now outcomes.new.items) }
-        ensures more { OnOk result (AreMore S.members self.now.sender outcomes.old.items
+        requires kept { AreKeptFor self.now outcomes.old.items }
+        ensures kept { OnOk result (AreKeptFor self.now outcomes.new.items) }
+        ensures more { OnOk result (AreMore self.now.sender outcomes.old.items
             (λ l i. (l ≡ landing) × IsOfWay (scope_of_sending self.now) way.now pending i)
             outcomes.new.items) }
     {
@@ -157,9 +157,9 @@ impl Sending<'_> {
         outcomes: &mut Vec<(Landing, ViewOf<S>)>,
     ) -> Result<(), AllocError>
         requires asked { IsAsked self.now }
-        requires kept { AreKeptFor S.members S.room self.now outcomes.old.items }
-        ensures kept { OnOk result (AreKeptFor S.members S.room self.now outcomes.new.items) }
-        ensures more { OnOk result (AreMore S.members self.now.sender outcomes.old.items
+        requires kept { AreKeptFor self.now outcomes.old.items }
+        ensures kept { OnOk result (AreKeptFor self.now outcomes.new.items) }
+        ensures more { OnOk result (AreMore self.now.sender outcomes.old.items
             (LandsBy (view_of_sending self.now) self.now.command self.now.tests.now
             (Reports Attention.PowerOn)) outcomes.new.items) }
     {
@@ -182,9 +182,9 @@ impl Sending<'_> {
     ) -> Result<(), AllocError>
         requires asked { IsAsked self.now }
         requires later { IsLater attention }
-        requires kept { AreKeptFor S.members S.room self.now outcomes.old.items }
-        ensures kept { OnOk result (AreKeptFor S.members S.room self.now outcomes.new.items) }
-        ensures more { OnOk result (AreMore S.members self.now.sender outcomes.old.items
+        requires kept { AreKeptFor self.now outcomes.old.items }
+        ensures kept { OnOk result (AreKeptFor self.now outcomes.new.items) }
+        ensures more { OnOk result (AreMore self.now.sender outcomes.old.items
             (LandsBy (view_of_sending self.now) self.now.command self.now.tests.now
             (Reports attention)) outcomes.new.items) }
     {
@@ -202,9 +202,9 @@ impl Sending<'_> {
         outcomes: &mut Vec<(Landing, ViewOf<S>)>,
     ) -> Result<(), AllocError>
         requires asked { IsAsked self.now }
-        requires kept { AreKeptFor S.members S.room self.now outcomes.old.items }
-        ensures kept { OnOk result (AreKeptFor S.members S.room self.now outcomes.new.items) }
-        ensures more { OnOk result (AreMore S.members self.now.sender outcomes.old.items
+        requires kept { AreKeptFor self.now outcomes.old.items }
+        ensures kept { OnOk result (AreKeptFor self.now outcomes.new.items) }
+        ensures more { OnOk result (AreMore self.now.sender outcomes.old.items
             (LandsBy (view_of_sending self.now) self.now.command self.now.tests.now Conflicts)
             outcomes.new.items) }
     {
@@ -221,9 +221,9 @@ impl Sending<'_> {
         refused: Refused,
     ) -> Result<(), AllocError>
         requires asked { IsAsked self.now }
-        requires kept { AreKeptFor S.members S.room self.now outcomes.old.items }
-        ensures kept { OnOk result (AreKeptFor S.members S.room self.now outcomes.new.items) }
-        ensures more { OnOk result (AreMore S.members self.now.sender outcomes.old.items
+        requires kept { AreKeptFor self.now outcomes.old.items }
+        ensures kept { OnOk result (AreKeptFor self.now outcomes.new.items) }
+        ensures more { OnOk result (AreMore self.now.sender outcomes.old.items
             (LandsBy (view_of_sending self.now) self.now.command self.now.tests.now
             (Refuses refused)) outcomes.new.items) }
     {
@@ -245,9 +245,9 @@ impl Sending<'_> {
         refused: Refused,
     ) -> Result<(), AllocError>
         requires asked { IsAsked self.now }
-        requires kept { AreKeptFor S.members S.room self.now outcomes.old.items }
-        ensures kept { OnOk result (AreKeptFor S.members S.room self.now outcomes.new.items) }
-        ensures more { OnOk result (AreMore S.members self.now.sender outcomes.old.items
+        requires kept { AreKeptFor self.now outcomes.old.items }
+        ensures kept { OnOk result (AreKeptFor self.now outcomes.new.items) }
+        ensures more { OnOk result (AreMore self.now.sender outcomes.old.items
             (λ l i. IsTrue declared × LandsBy (view_of_sending self.now) self.now.command
             self.now.tests.now (Refuses refused) l i) outcomes.new.items) }
     {
@@ -265,9 +265,9 @@ impl Sending<'_> {
         outcomes: &mut Vec<(Landing, ViewOf<S>)>,
     ) -> Result<(), AllocError>
         requires asked { IsAsked self.now }
-        requires kept { AreKeptFor S.members S.room self.now outcomes.old.items }
-        ensures kept { OnOk result (AreKeptFor S.members S.room self.now outcomes.new.items) }
-        ensures more { OnOk result (AreMore S.members self.now.sender outcomes.old.items
+        requires kept { AreKeptFor self.now outcomes.old.items }
+        ensures kept { OnOk result (AreKeptFor self.now outcomes.new.items) }
+        ensures more { OnOk result (AreMore self.now.sender outcomes.old.items
             (LandsBy (view_of_sending self.now) self.now.command self.now.tests.now Fails)
             outcomes.new.items) }
     {
@@ -288,9 +288,9 @@ impl Sending<'_> {
     ) -> Result<(), AllocError>
         requires asked { IsAsked self.now }
         requires there { arm < 17 }
-        requires kept { AreKeptFor S.members S.room self.now outcomes.old.items }
-        ensures kept { OnOk result (AreKeptFor S.members S.room self.now outcomes.new.items) }
-        ensures more { OnOk result (AreMore S.members self.now.sender outcomes.old.items
+        requires kept { AreKeptFor self.now outcomes.old.items }
+        ensures kept { OnOk result (AreKeptFor self.now outcomes.new.items) }
+        ensures more { OnOk result (AreMore self.now.sender outcomes.old.items
             (LandsGood (view_of_sending self.now) self.now.command self.now.tests.now arm)
             outcomes.new.items) }
     {
@@ -316,9 +316,9 @@ impl Sending<'_> {
         outcomes: &mut Vec<(Landing, ViewOf<S>)>,
     ) -> Result<(), AllocError>
         requires asked { IsAsked self.now }
-        requires kept { AreKeptFor S.members S.room self.now outcomes.old.items }
-        ensures kept { OnOk result (AreKeptFor S.members S.room self.now outcomes.new.items) }
-        ensures more { OnOk result (AreMore S.members self.now.sender outcomes.old.items
+        requires kept { AreKeptFor self.now outcomes.old.items }
+        ensures kept { OnOk result (AreKeptFor self.now outcomes.new.items) }
+        ensures more { OnOk result (AreMore self.now.sender outcomes.old.items
             (LandsBy (view_of_sending self.now) self.now.command self.now.tests.now EndsGood)
             outcomes.new.items) }
     {
@@ -336,8 +336,8 @@ impl Sending<'_> {
         requires { IsAsked self.now }
         ensures outcomes { IfOk result (λ outcomes. AreOutcomes (view_of_sending self.now)
             self.now.refusals self.now.command self.now.tests.now
-            (map (λ o. (o.0, view_of S.members self.now.sender o.1)) outcomes.items)) }
-        ensures kept { IfOk result (λ outcomes. AreKeptFor S.members S.room self.now
+            (map (λ o. (o.0, view_of self.now.sender o.1)) outcomes.items)) }
+        ensures kept { IfOk result (λ outcomes. AreKeptFor self.now
             outcomes.items) }
     {
         let mut outcomes = Vec::new(alloc);

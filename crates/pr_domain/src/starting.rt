@@ -10,7 +10,7 @@ ghost use Rattle.pr_sets.specs.Words.{has};
 ghost use Rattle.pr_sets.specs.Wides.{has_wide};
 ghost use Rattle.pr_views.specs.Views.{Fits};
 ghost use Rattle.pr_views.specs.Portions.{has_at, view_in};
-ghost use Rattle.pr_views.specs.Rooms.{view_of, IsMade, AreInRange};
+ghost use Rattle.pr_views.specs.Rooms.{view_of, AreInRange};
 ghost use Rattle.pr_domain.specs.Starting.{IsOfStart};
 ghost use Rattle.pr_domain.specs.inside.Beginning.{AreAlternatives, AreAmong, stays, registration_in, has_alternative, may_have, has_reservation, scope_in};
 
@@ -31,11 +31,10 @@ pub fn of_start<S: ViewSet>(
     own: u8,
 ) -> Result<ViewOf<S>, AllocError>
     requires own { own < length (scenario_of scenario.now).nexuses }
-    ensures made { IfOk result (IsMade S.room) }
     ensures keys { IfOk result (λ v. v.keys.items ≡ (scenario_of scenario.now).keys) }
     ensures hosts { IfOk result (λ v. v.hosts ≡ length (scenario_of scenario.now).nexuses) }
     ensures start { IfOk result (λ v. IsOfStart (scenario_of scenario.now)
-        (view_of S.members own v)) }
+        (view_of own v)) }
 {
     let parts = scenario.parts();
     let hosts = parts.nexuses.len() as u8;

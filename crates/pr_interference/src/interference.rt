@@ -8,7 +8,7 @@ ghost use Rattle.pr_roles.specs.Fitting.{is_action, is_role};
 ghost use Rattle.pr_sets.specs.Words.{has};
 ghost use Rattle.pr_views.specs.Possibilities.{Scope, count_of_reservations};
 ghost use Rattle.pr_views.specs.Portions.{has_at, view_in};
-ghost use Rattle.pr_views.specs.Rooms.{scope_of, view_of, IsMade, AreAlike, AreInRange};
+ghost use Rattle.pr_views.specs.Rooms.{scope_of, view_of, AreAlike, AreInRange};
 ghost use Rattle.pr_regions.specs.Purposes.{HasNumber};
 ghost use Rattle.pr_interference.specs.inside.Interfering.{IsOnlooking, IsWatched, Among, ClauseLeaves};
 ghost use Rattle.pr_regions.specs.inside.Adding.{Adds};
@@ -161,15 +161,13 @@ pub fn interfere<S: ViewSet>(
     other: u8,
     role: &Role,
 ) -> Result<ViewOf<S>, AllocError>
-    requires made { IsMade S.room view.now }
     requires own { own < view.now.hosts }
     requires other { other < view.now.hosts }
     requires apart { own ≢ other }
     requires role { IsTrue (is_role view.now.keys.items role.now.clauses.items) }
-    ensures made { IfOk result (IsMade S.room) }
     ensures alike { IfOk result (AreAlike view.now) }
-    ensures interference { IfOk result (λ w. IsInterference (view_of S.members own view.now)
-        role.now.clauses.items other (view_of S.members own w)) }
+    ensures interference { IfOk result (λ w. IsInterference (view_of own view.now)
+        role.now.clauses.items other (view_of own w)) }
 {
     let left = left_by(view, own, other, role);
     ViewOf::of(alloc, &view.keys, view.hosts, &left)
@@ -177,13 +175,12 @@ pub fn interfere<S: ViewSet>(
 
 // What is possible after such a request.
 fn left_by<S: ViewSet>(view: &ViewOf<S>, own: u8, other: u8, role: &Role) -> Possibilities
-    requires made { IsMade S.room view.now }
     requires own { own < view.now.hosts }
     requires other { other < view.now.hosts }
     requires apart { own ≢ other }
     requires role { IsTrue (is_role view.now.keys.items role.now.clauses.items) }
     ensures range { AreInRange view.now.hosts view.now.keys.items result }
-    ensures interference { IsInterference (view_of S.members own view.now) role.now.clauses.items
+    ensures interference { IsInterference (view_of own view.now) role.now.clauses.items
         other (view_in (scope_of own view.now) result) }
 {
     let onlooker = Onlooker {

@@ -5,7 +5,7 @@ ghost use Rattle.pr_cdb.specs.declared.codes.TheConstants.{MOST_NEXUSES};
 ghost use Rattle.pr_views.specs.Possibilities.{Scope};
 ghost use Rattle.pr_views.specs.Views.{Fits};
 ghost use Rattle.pr_views.specs.Portions.{view_in};
-ghost use Rattle.pr_views.specs.Rooms.{scope_of, view_of, IsMade, AreAlike, AreInRange};
+ghost use Rattle.pr_views.specs.Rooms.{scope_of, view_of, AreAlike, AreInRange};
 ghost use Rattle.pr_interference.specs.Interference.{IsAfterReset};
 
 use crate::marking::attentions_with;
@@ -17,11 +17,9 @@ use std::alloc::{AllocError, Global};
 /// The view of the states that a reset of the unit leads to from a shown one: power on is pending for the owner, and all
 /// else is as it was.
 pub fn reset<S: ViewSet>(alloc: Global, view: &ViewOf<S>) -> Result<ViewOf<S>, AllocError>
-    requires { IsMade S.room view.now }
-    ensures made { IfOk result (IsMade S.room) }
     ensures alike { IfOk result (AreAlike view.now) }
     ensures reset { IfOk result (λ w. (own : ℕ) → own < view.now.hosts
-        → IsAfterReset (view_of S.members own view.now) (view_of S.members own w)) }
+        → IsAfterReset (view_of own view.now) (view_of own w)) }
 {
     let left = left_by_reset(view);
     ViewOf::of(alloc, &view.keys, view.hosts, &left)
@@ -29,10 +27,9 @@ pub fn reset<S: ViewSet>(alloc: Global, view: &ViewOf<S>) -> Result<ViewOf<S>, A
 
 // What is possible after a reset.
 fn left_by_reset<S: ViewSet>(view: &ViewOf<S>) -> Possibilities
-    requires { IsMade S.room view.now }
     ensures range { AreInRange view.now.hosts view.now.keys.items result }
     ensures reset { (own : ℕ) → own < view.now.hosts
-        → IsAfterReset (view_of S.members own view.now) (view_in (scope_of own view.now) result) }
+        → IsAfterReset (view_of own view.now) (view_in (scope_of own view.now) result) }
 {
     after_reset(view.hosts, &view.possibilities())
 }

@@ -19,15 +19,15 @@ use Rattle.pr_script.specs.declared.script.Test.TheVariants as test
 use Rattle.pr_script.specs.Takes.{is_attention, is_sense}
 use Rattle.pr_roles.specs.declared.how.Refusals.{Refusals}
 use Rattle.pr_sets.specs.declared.word.Word.{Word}
-use Rattle.pr_sets.specs.Numbers.{Numbers}
 use Rattle.pr_sets.specs.Words.{has}
 use Rattle.pr_sets.specs.Wides.{has_wide}
 use Rattle.pr_views.specs.declared.possibilities.Possibilities.{Possibilities}
+use Rattle.pr_sets.specs.declared.view_set.ViewSet.{Ghosts as ViewSet}
 use Rattle.pr_views.specs.declared.view.ViewOf.{ViewOf}
 use Rattle.pr_views.specs.Possibilities.{Scope, Item, IsSo, count_of_attentions}
 use Rattle.pr_views.specs.Views.{View, IsPossible, Shows}
 use Rattle.pr_views.specs.Portions.{view_in}
-use Rattle.pr_views.specs.Rooms.{view_of, IsMade}
+use Rattle.pr_views.specs.Rooms.{view_of}
 use Rattle.pr_domain.specs.declared.landing.Landing.{Landing}
 use Rattle.pr_domain.specs.declared.landing.Landing.TheVariants.{Arm, NoArm}
 use Rattle.pr_domain.specs.declared.landing.Class.{Class}
@@ -127,22 +127,20 @@ AreQuiet known quiet = (q : ℕ) → has quiet q ≡ (has known.pending q && q =
 -- ---- outcomes
 
 -- some outcome has this landing and this possibility
-abbrev pub HasOutcome : {S : Type 0} → (S → Numbers) → ℕ → List (Landing × ViewOf S) → Landing → Item → Type 0
-HasOutcome {S = S} members own outcomes l i =
-    (k : ℕ) × (v : ViewOf S) × (slice_get outcomes k ≡ Some (l, v)) × IsPossible (view_of members own v) i
+abbrev pub HasOutcome : {S : Type 0} {sets : ViewSet S} → ℕ → List (Landing × ViewOf S sets) → Landing → Item → Type 0
+HasOutcome {S = S} {sets = sets} own outcomes l i =
+    (k : ℕ) × (v : ViewOf S sets) × (slice_get outcomes k ≡ Some (l, v)) × IsPossible (view_of own v) i
 
--- Each view is made, is of these keys and so many nexuses, and has some possibility; each landing stands
--- once.
-pub record AreKept {S : Type 0} (members : S → Numbers) (room : S → ℕ) (hosts : ℕ) (keys : List ℕ) (outcomes : List (Landing × ViewOf S)) : Type 0 where
-  pub made : (k : ℕ) (l : Landing) (v : ViewOf S) → slice_get outcomes k ≡ Some (l, v) → IsMade room v
-  pub alike : (k : ℕ) (l : Landing) (v : ViewOf S) → slice_get outcomes k ≡ Some (l, v) → (v.keys.items ≡ keys) × (v.hosts ≡ hosts)
-  pub come : (own k : ℕ) (l : Landing) (v : ViewOf S) → slice_get outcomes k ≡ Some (l, v) → (i : Item) × IsPossible (view_of members own v) i
-  pub once : (j k : ℕ) (l : Landing) (v w : ViewOf S) → slice_get outcomes j ≡ Some (l, v) → slice_get outcomes k ≡ Some (l, w) → j ≡ k
+-- Each view is of these keys and so many nexuses, and has some possibility; each landing stands once.
+pub record AreKept {S : Type 0} {sets : ViewSet S} (hosts : ℕ) (keys : List ℕ) (outcomes : List (Landing × ViewOf S sets)) : Type 0 where
+  pub alike : (k : ℕ) (l : Landing) (v : ViewOf S sets) → slice_get outcomes k ≡ Some (l, v) → (v.keys.items ≡ keys) × (v.hosts ≡ hosts)
+  pub come : (own k : ℕ) (l : Landing) (v : ViewOf S sets) → slice_get outcomes k ≡ Some (l, v) → (i : Item) × IsPossible (view_of own v) i
+  pub once : (j k : ℕ) (l : Landing) (v w : ViewOf S sets) → slice_get outcomes j ≡ Some (l, v) → slice_get outcomes k ≡ Some (l, w) → j ≡ k
 
 -- the new outcomes have what the old ones have, and this
-abbrev pub AreMore : {S : Type 0} → (S → Numbers) → ℕ → List (Landing × ViewOf S) → (Landing → Item → Type 0) → List (Landing × ViewOf S) → Type 0
-AreMore members own old This new =
-    (l : Landing) (i : Item) → HasOutcome members own new l i ↔ (HasOutcome members own old l i ⊎ This l i)
+abbrev pub AreMore : {S : Type 0} {sets : ViewSet S} → ℕ → List (Landing × ViewOf S sets) → (Landing → Item → Type 0) → List (Landing × ViewOf S sets) → Type 0
+AreMore own old This new =
+    (l : Landing) (i : Item) → HasOutcome own new l i ↔ (HasOutcome own old l i ⊎ This l i)
 
 -- ---- where they come from
 

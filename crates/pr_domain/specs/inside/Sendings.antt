@@ -7,7 +7,7 @@ use Rattle.pr_registry.specs.Registrations.{State}
 use Rattle.pr_unit.specs.Faults.{command_fault}
 use Rattle.pr_script.specs.declared.limits.TheConstants.{MOST_ARMS}
 use Rattle.pr_script.specs.Grammar.{is_written, test_fits}
-use Rattle.pr_sets.specs.Numbers.{Numbers}
+use Rattle.pr_sets.specs.declared.view_set.ViewSet.{Ghosts as ViewSet}
 use Rattle.pr_views.specs.declared.view.ViewOf.{ViewOf}
 use Rattle.pr_views.specs.Possibilities.{Scope}
 use Rattle.pr_views.specs.Views.{View, Fits}
@@ -25,8 +25,8 @@ abbrev pub view_of_sending : Sending → View
 view_of_sending q = view_in (scope_of_sending q) q.known
 
 -- the outcomes are of the hosts, guests and keys of the command
-abbrev pub AreKeptFor : {S : Type 0} → (S → Numbers) → (S → ℕ) → Sending → List (Landing × ViewOf S) → Type 0
-AreKeptFor members room q outcomes = AreKept members room q.hosts q.keys.now outcomes
+abbrev pub AreKeptFor : {S : Type 0} {sets : ViewSet S} → Sending → List (Landing × ViewOf S sets) → Type 0
+AreKeptFor q outcomes = AreKept q.hosts q.keys.now outcomes
 
 -- The command is one that a text can have, and so are the tests, and the tally is of the states of the view.
 pub record IsAsked (q : Sending) : Type 0 where

@@ -8,13 +8,13 @@ use Rattle.pr_cdb.specs.declared.wire.Request.TheVariants.{Plain}
 use Rattle.pr_roles.specs.declared.how.Refusals.{Refusals}
 use Rattle.pr_roles.specs.DeclaredRefusals.{Answered}
 use Rattle.pr_script.specs.declared.script.Test.{Test}
-use Rattle.pr_sets.specs.Numbers.{Numbers}
 use Rattle.pr_views.specs.declared.possibilities.Possibilities.{Possibilities}
+use Rattle.pr_sets.specs.declared.view_set.ViewSet.{Ghosts as ViewSet}
 use Rattle.pr_views.specs.declared.view.ViewOf.{ViewOf}
 use Rattle.pr_views.specs.Possibilities.{Scope, IsScope, IsSo}
 use Rattle.pr_views.specs.Views.{View, Fits, Within}
 use Rattle.pr_views.specs.Portions.{has_at, view_in}
-use Rattle.pr_views.specs.Rooms.{IsMade, AreAlike, AreInRange}
+use Rattle.pr_views.specs.Rooms.{AreAlike, AreInRange}
 use Rattle.pr_views.proofs.lemmas.Views.ShownStates.{shown_within}
 use Rattle.pr_domain.specs.declared.landing.Landing.{Landing}
 use Rattle.pr_domain.specs.Outcomes.{Outcome, AreOutcomes}
@@ -54,11 +54,11 @@ fits_in s known scope past range = record {
     at g r has (inl small) = range.registrations g r small has
     at g r has (inr beyond) = absurd (false≢true (sym (past g r beyond) ∙ has))
 
--- each outcome's view is made, and alike the first one
-pub all_made : {S : Type 0} (members : S → Numbers) (room : S → ℕ) (v : ViewOf S) (keys : List ℕ) (outcomes : List (Landing × ViewOf S)) → keys ≡ v.keys.items
-    → AreKept members room v.hosts keys outcomes → All (λ o. IsMade room o.1 × AreAlike v o.1) outcomes
-all_made {S = S} members room v keys outcomes same kept i d within =
-    let o : Landing × ViewOf S = get_or outcomes i d in
+-- each outcome's view is alike the first one
+pub all_alike : {S : Type 0} {sets : ViewSet S} (v : ViewOf S sets) (keys : List ℕ) (outcomes : List (Landing × ViewOf S sets)) → keys ≡ v.keys.items
+    → AreKept v.hosts keys outcomes → All (λ o. AreAlike v o.1) outcomes
+all_alike {S = S} {sets = sets} v keys outcomes same kept i d within =
+    let o : Landing × ViewOf S sets = get_or outcomes i d in
     let there = slice_get-get_or outcomes i d within in
     let alike = kept.alike i o.0 o.1 there in
-    (kept.made i o.0 o.1 there, record { keys = sym same ∙ sym alike.0; hosts = sym alike.1 })
+    record { keys = sym same ∙ sym alike.0; hosts = sym alike.1 }

@@ -21,7 +21,7 @@ use Rattle.pr_script.specs.declared.script.Test.TheVariants as test
 use Rattle.pr_script.specs.Grammar.{is_written}
 use Rattle.pr_roles.specs.Fitting.{is_reservation}
 use Rattle.pr_sets.specs.declared.word.Word.{Word}
-use Rattle.pr_sets.specs.Numbers.{Numbers}
+use Rattle.pr_sets.specs.declared.view_set.ViewSet.{Ghosts as ViewSet}
 use Rattle.pr_views.specs.declared.view.ViewOf.{ViewOf}
 use Rattle.pr_sets.specs.Words.{has}
 use Rattle.pr_sets.specs.Wides.{has_wide}
@@ -163,23 +163,23 @@ at_arm (suc n) some = ap Arm (omega arith)
 
 -- ---- GOOD with the data taken by each arm
 
-pub good_more : {S : Type 0} (members : S → Numbers) (own : ℕ) (old mid new : List (Landing × ViewOf S)) (v : View) (c : Command) (tests : List Test) (arm : ℕ)
-    → AreMore members own old (LandsGoodBelow v c tests arm) mid → AreMore members own mid (LandsGood v c tests arm) new → AreMore members own old (LandsGoodBelow v c tests (arm + 1)) new
-good_more members own old mid new v c tests arm first second l i = (λ has. late ((second l i).0 has), back)
+pub good_more : {S : Type 0} {sets : ViewSet S} (own : ℕ) (old mid new : List (Landing × ViewOf S sets)) (v : View) (c : Command) (tests : List Test) (arm : ℕ)
+    → AreMore own old (LandsGoodBelow v c tests arm) mid → AreMore own mid (LandsGood v c tests arm) new → AreMore own old (LandsGoodBelow v c tests (arm + 1)) new
+good_more own old mid new v c tests arm first second l i = (λ has. late ((second l i).0 has), back)
   where
-    early : HasOutcome members own old l i ⊎ LandsGoodBelow v c tests arm l i → HasOutcome members own old l i ⊎ LandsGoodBelow v c tests (arm + 1) l i
+    early : HasOutcome own old l i ⊎ LandsGoodBelow v c tests arm l i → HasOutcome own old l i ⊎ LandsGoodBelow v c tests (arm + 1) l i
     early (inl before) = inl before
     early (inr lands) = inr (lands.0, (let small = lands.1 in omega arith), lands.2)
 
-    late : HasOutcome members own mid l i ⊎ LandsGood v c tests arm l i → HasOutcome members own old l i ⊎ LandsGoodBelow v c tests (arm + 1) l i
+    late : HasOutcome own mid l i ⊎ LandsGood v c tests arm l i → HasOutcome own old l i ⊎ LandsGoodBelow v c tests (arm + 1) l i
     late (inl before) = early ((first l i).0 before)
     late (inr lands) = inr (arm, omega arith, lands)
 
-    back : HasOutcome members own old l i ⊎ LandsGoodBelow v c tests (arm + 1) l i → HasOutcome members own new l i
+    back : HasOutcome own old l i ⊎ LandsGoodBelow v c tests (arm + 1) l i → HasOutcome own new l i
     back (inl before) = (second l i).1 (inl ((first l i).1 (inl before)))
     back (inr lands) = at (eqb_tells lands.0 arm)
       where
-        at : (((lands.0 == arm) ≡ true) × (lands.0 ≡ arm)) ⊎ (((lands.0 == arm) ≡ false) × (lands.0 ≢ arm)) → HasOutcome members own new l i
+        at : (((lands.0 == arm) ≡ true) × (lands.0 ≡ arm)) ⊎ (((lands.0 == arm) ≡ false) × (lands.0 ≢ arm)) → HasOutcome own new l i
         at (inl same) = (second l i).1 (inr (subst (λ n. LandsGood v c tests n l i) same.1 lands.2))
         at (inr other) = (second l i).1 (inl ((first l i).1 (inr (lands.0, (let small = lands.1 in let differs = other.1 in omega arith), lands.2))))
 
@@ -199,22 +199,22 @@ good_all v c tests bound few all l i = (
 
 -- ---- a refusal that is declared, or is not
 
-pub more_declared : {S : Type 0} (members : S → Numbers) (own : ℕ) (old new : List (Landing × ViewOf S)) (declared : Bool) (This : Landing → Item → Type 0) → declared ≡ true
-    → AreMore members own old This new → AreMore members own old (λ l i. IsTrue declared × This l i) new
-more_declared members own old new declared This is more l i = (λ has. on ((more l i).0 has), λ x. (more l i).1 (off x))
+pub more_declared : {S : Type 0} {sets : ViewSet S} (own : ℕ) (old new : List (Landing × ViewOf S sets)) (declared : Bool) (This : Landing → Item → Type 0) → declared ≡ true
+    → AreMore own old This new → AreMore own old (λ l i. IsTrue declared × This l i) new
+more_declared own old new declared This is more l i = (λ has. on ((more l i).0 has), λ x. (more l i).1 (off x))
   where
-    on : HasOutcome members own old l i ⊎ This l i → HasOutcome members own old l i ⊎ (IsTrue declared × This l i)
+    on : HasOutcome own old l i ⊎ This l i → HasOutcome own old l i ⊎ (IsTrue declared × This l i)
     on (inl before) = inl before
     on (inr this) = inr (is, this)
 
-    off : HasOutcome members own old l i ⊎ (IsTrue declared × This l i) → HasOutcome members own old l i ⊎ This l i
+    off : HasOutcome own old l i ⊎ (IsTrue declared × This l i) → HasOutcome own old l i ⊎ This l i
     off (inl before) = inl before
     off (inr this) = inr this.1
 
-pub none_declared : {S : Type 0} (members : S → Numbers) (own : ℕ) (old : List (Landing × ViewOf S)) (declared : Bool) (This : Landing → Item → Type 0) → declared ≡ false
-    → AreMore members own old (λ l i. IsTrue declared × This l i) old
-none_declared members own old declared This is l i = (λ has. inl has, off)
+pub none_declared : {S : Type 0} {sets : ViewSet S} (own : ℕ) (old : List (Landing × ViewOf S sets)) (declared : Bool) (This : Landing → Item → Type 0) → declared ≡ false
+    → AreMore own old (λ l i. IsTrue declared × This l i) old
+none_declared own old declared This is l i = (λ has. inl has, off)
   where
-    off : HasOutcome members own old l i ⊎ (IsTrue declared × This l i) → HasOutcome members own old l i
+    off : HasOutcome own old l i ⊎ (IsTrue declared × This l i) → HasOutcome own old l i
     off (inl before) = before
     off (inr this) = absurd (false≢true (sym is ∙ this.0))

@@ -6,15 +6,16 @@ use Rattle.pr_views.specs.Portions.{view_in}
 use Rattle.pr_views.specs.Rooms.{scope_of, view_of, AreInRange}
 use Rattle.pr_roles.specs.Fitting.{AreDeclared}
 use Rattle.pr_domain.proofs.lemmas.Reporting.OutcomeLists.{possible_scope}
-use Rattle.pr_domain.proofs.lemmas.Reporting.FoundWords.{same_outcomes, fits_in, all_made}
+use Rattle.pr_domain.proofs.lemmas.Reporting.FoundWords.{same_outcomes, fits_in, all_alike}
 use Rattle.pr_domain.proofs.outcome.outcomes.Goals as goal
 
 pub outcomes-requires : goal.outcomes-requires
 outcomes-requires g c =
     let keys = c.deref-keys.result.now in
     let same : keys ≡ c.args.view.now.keys.items = c.deref-keys.ensures.0 in
-    let s : Scope = record { own = c.args.host; hosts = c.args.view.now.hosts; keys = keys } in
-    let fits = fits_in s c.possibilities-known.result (record { hosts = c.requires.made.hosts; own = c.requires.host; keys = subst AreDeclared (sym same) c.requires.made.keys })
+    let view = c.args.view.now in
+    let s : Scope = record { own = c.args.host; hosts = view.hosts; keys = keys } in
+    let fits = fits_in s c.possibilities-known.result (record { hosts = (view.some, view.few); own = c.requires.host; keys = subst AreDeclared (sym same) view.declared })
     c.possibilities-known.ensures.past (subst (λ ks. AreInRange s.hosts ks c.possibilities-known.result) (sym same) c.possibilities-known.ensures.range) in
     let written = subst (λ ks. is_written ks c.args.command.now ≡ true) (sym same) c.requires.written in (
       search rules,
@@ -31,19 +32,18 @@ outcomes-requires g c =
 
 pub returns-clause-outcomes : goal.returns-clause-outcomes
 returns-clause-outcomes g c =
-    let members = g.S.ViewSet.members in
     let view = c.args.view.now in
     let known = c.possibilities-known.result in
     let keys = c.deref-keys.result.now in
     let same : keys ≡ view.keys.items = c.deref-keys.ensures.0 in
     let s : Scope = record { own = c.args.host; hosts = view.hosts; keys = keys } in
     let t : Scope = scope_of c.args.host view in
-    same_outcomes (view_in s known) (view_of members c.args.host view) c.args.refusals c.args.command.now c.args.tests.now (map (λ o. (o.0, view_of members c.args.host o.1)) c.in_ok-outcomes.outcomes.items)
+    same_outcomes (view_in s known) (view_of c.args.host view) c.args.refusals c.args.command.now c.args.tests.now (map (λ o. (o.0, view_of c.args.host o.1)) c.in_ok-outcomes.outcomes.items)
     (λ j. record { own = c.args.host; hosts = view.hosts; keys = same j })
     (λ i is. (c.possibilities-known.ensures.same c.args.host i).0 (possible_scope s t known refl i is))
     (λ i is. possible_scope t s known refl i ((c.possibilities-known.ensures.same c.args.host i).1 is))
     c.in_ok-outcomes.ensures.outcomes
 
-pub returns-clause-made : goal.returns-clause-made
-returns-clause-made g c =
-    all_made g.S.ViewSet.members g.S.ViewSet.room c.args.view.now c.deref-keys.result.now c.in_ok-outcomes.outcomes.items c.deref-keys.ensures.0 c.in_ok-outcomes.ensures.kept
+pub returns-clause-alike : goal.returns-clause-alike
+returns-clause-alike g c =
+    all_alike c.args.view.now c.deref-keys.result.now c.in_ok-outcomes.outcomes.items c.deref-keys.ensures.0 c.in_ok-outcomes.ensures.kept

@@ -51,10 +51,9 @@ pub returns-clause-start : goal.returns-clause-start
 returns-clause-start g c =
     let parts = c.parts-parts.result.now in
     let words = c.starts-words.result in
-    let members = g.S.ViewSet.members in
     let s = scope_in c.args.own c.len-hosts.result parts in
     let start = subst (λ p. IsOfStart (scenario_of p) (view_in s words)) c.parts-parts.ensures.value c.starts-words.ensures.start in
     if_ok c.of.result (λ v keys hosts same.
     let scope : scope_of c.args.own v ≡ s = λ i. record { own = c.args.own; hosts = hosts i; keys = (keys ∙ c.deref.ensures.value) i } in
-    start_same (scenario_of c.args.scenario.now) (view_in s words) (view_of members c.args.own v) (same_views members c.args.own v s words scope (same c.args.own)) start)
+    start_same (scenario_of c.args.scenario.now) (view_in s words) (view_of c.args.own v) (same_views c.args.own v s words scope (same c.args.own)) start)
     c.of.ensures.keys c.of.ensures.hosts c.of.ensures.same

@@ -9,11 +9,10 @@ pub returns-clause-interference : goal.returns-clause-interference
 returns-clause-interference g c =
     let view = c.args.view.now in
     let s = scope_of c.args.own view in
-    let members = g.S.ViewSet.members in
     if_ok c.of.result (λ w keys hosts same.
     let scope : scope_of c.args.own w ≡ s = λ i. record { own = c.args.own; hosts = hosts i; keys = (keys ∙ c.deref.ensures.0) i } in
-    interference_same (view_of members c.args.own view) (view_of members c.args.own view) (view_in s c.left_by-left.result) (view_of members c.args.own w) c.args.role.now.clauses.items c.args.other
+    interference_same (view_of c.args.own view) (view_of c.args.own view) (view_in s c.left_by-left.result) (view_of c.args.own w) c.args.role.now.clauses.items c.args.other
     (record { scope = refl; there = λ i possible. possible; back = λ i possible. possible })
-    (same_views members c.args.own w s c.left_by-left.result scope (same c.args.own))
+    (same_views c.args.own w s c.left_by-left.result scope (same c.args.own))
     c.left_by-left.ensures.interference)
     c.of.ensures.keys c.of.ensures.hosts c.of.ensures.same

@@ -11,7 +11,7 @@ use Rattle.pr_views.specs.declared.possibilities.Possibilities.{Possibilities}
 use Rattle.pr_views.specs.Possibilities.{Item, Reservation, Attentions, count_of_reservations}
 use Rattle.pr_views.specs.Views.{View, IsPossible, Shows, Within}
 use Rattle.pr_views.specs.Portions.{view_in}
-use Rattle.pr_sets.specs.Numbers.{Numbers}
+use Rattle.pr_sets.specs.declared.view_set.ViewSet.{Ghosts as ViewSet}
 use Rattle.pr_views.specs.declared.view.ViewOf.{ViewOf}
 use Rattle.pr_views.specs.Rooms.{scope_of, view_of}
 use Rattle.pr_views.proofs.lemmas.Possibilities.Numbers.{reservation_of}
@@ -60,9 +60,9 @@ pub if_ok : {A E : Type 0} (r : Result A E) {P Q R T : A → Type 0} → ((x : A
 if_ok (Ok x) f p q r = f x p q r
 if_ok (Err e) f p q r = p
 
-pub same_views : {S : Type 0} (members : S → Numbers) (own : ℕ) (w : ViewOf S) (s : Scope) (p : Possibilities) → scope_of own w ≡ s
-    → ((i : Item) → IsPossible (view_of members own w) i ↔ IsPossible (view_in (scope_of own w) p) i) → IsSame (view_in s p) (view_of members own w)
-same_views members own w s p scope same = record {
+pub same_views : {S : Type 0} {sets : ViewSet S} (own : ℕ) (w : ViewOf S sets) (s : Scope) (p : Possibilities) → scope_of own w ≡ s
+    → ((i : Item) → IsPossible (view_of own w) i ↔ IsPossible (view_in (scope_of own w) p) i) → IsSame (view_in s p) (view_of own w)
+same_views own w s p scope same = record {
   scope = scope;
   there = λ i possible. (same i).1 (subst (λ t. IsPossible (view_in t p) i) (sym scope) possible);
   back = λ i possible. subst (λ t. IsPossible (view_in t p) i) scope ((same i).0 possible);

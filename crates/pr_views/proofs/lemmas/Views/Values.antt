@@ -7,12 +7,12 @@ use Rattle.std.proofs.lemmas.Bool.{false_from_ne_true}
 use Rattle.std.proofs.lemmas.Option.{slice_get_within, get_or_from_slice_get}
 use Rattle.pr_cdb.specs.declared.codes.TheConstants.{MOST_NEXUSES}
 use Rattle.pr_registry.proofs.lemmas.Sets.{same_hosts}
-use Rattle.pr_sets.specs.Numbers.{Within as WithinNumbers}
+use Rattle.pr_sets.specs.Numbers.{Numbers, Within as WithinNumbers, AllBelow}
 use Rattle.pr_sets.specs.declared.view_set.ViewSet.{Ghosts as ViewSet}
 use Rattle.pr_views.specs.declared.view.ViewOf.{ViewOf}
 use Rattle.pr_views.specs.declared.possibilities.Possibilities.{Possibilities}
 use Rattle.pr_views.specs.Possibilities.{Item}
-use Rattle.pr_views.specs.Views.{IsPossible, Within}
+use Rattle.pr_views.specs.Views.{View, IsPossible, Within}
 use Rattle.pr_views.specs.Portions.{view_in}
 use Rattle.pr_views.specs.Rooms.{view_of, AreInRange}
 
@@ -34,36 +34,37 @@ words_fit own hosts keys p counted small declared range past = record {
     at g r is (inl there) = range.registrations g r there is
     at g r is (inr late) = absurd (false≢true (sym (past g r late) ∙ is))
 
+pub contains_no : (s : Numbers) → s ≡ set.empty → (n : ℕ) → set.contains s n ≡ false
+contains_no s none n = ap (λ t. set.contains t n) none ∙ contains-nobody n
+
+pub contains_none : {S : Type 0} (members : S → Numbers) (each : List S) → All (λ s. members s ≡ set.empty) each → (g n : ℕ) → contains_at members each g n ≡ false
+contains_none {S = S} members each all g n = at (slice_get each g) refl
+  where
+    at : (o : Option S) → slice_get each g ≡ o → option_map_or (λ s. set.contains (members s) n) o false ≡ false
+    at None there = refl
+    at (Some s) there = contains_no (members s) (read (λ t. members t ≡ set.empty) each g s all there) n
+
+empty_from_none : {S : Type 0} (members : S → Numbers) (s : S) → ((n : ℕ) → set.contains (members s) n ≡ true → ⊥) → members s ≡ set.empty
+empty_from_none members s none =
+    same_hosts (members s) set.empty (λ n. false_from_ne_true (set.contains (members s) n) (none n) ∙ sym (contains-nobody n))
+
+pub nothing_possible : (v : View) → ((g n : ℕ) → g < v.scope.hosts → v.registrations g n ≡ false) → ((x : ℕ) → v.reservations x ≡ false) → ((q : ℕ) → v.pending q ≡ false)
+    → (i : Item) → IsPossible v i → ⊥
+nothing_possible v registrations reservations pending (Registration g r) is = false≢true (sym (registrations g r is.0) ∙ is.1)
+nothing_possible v registrations reservations pending (Reservation x) is = false≢true (sym (reservations x) ∙ is)
+nothing_possible v registrations reservations pending (Attentions q) is = false≢true (sym (pending q) ∙ is)
+
 module _ {S : Type 0} {sets : ViewSet S} where
   -- ---- nothing is possible
-
-  pub nothing_possible : (v : ViewOf S sets) → ((g n : ℕ) → g < v.hosts → contains_at sets.members v.registrations g n ≡ false) → sets.members v.reservations ≡ set.empty → sets.members v.pending ≡ set.empty
-      → (own : ℕ) (i : Item) → IsPossible (view_of own v) i → ⊥
-  nothing_possible v registrations reservations pending own (Registration g r) is = false≢true (sym (registrations g r is.0) ∙ is.1)
-  nothing_possible v registrations reservations pending own (Reservation x) is =
-      false≢true (sym (contains-nobody x) ∙ ap (λ s. set.contains s x) (sym reservations) ∙ is)
-  nothing_possible v registrations reservations pending own (Attentions q) is =
-      false≢true (sym (contains-nobody q) ∙ ap (λ s. set.contains s q) (sym pending) ∙ is)
-
-  pub contains_none : (sets : List S) → All (λ s. sets.members s ≡ set.empty) sets → (g n : ℕ) → contains_at sets.members sets g n ≡ false
-  contains_none sets all g n = at (slice_get sets g) refl
-    where
-      at : (o : Option S) → slice_get sets g ≡ o → option_map_or (λ s. set.contains (sets.members s) n) o false ≡ false
-      at None there = refl
-      at (Some s) there = ap (λ t. set.contains t n) (read (λ t. sets.members t ≡ set.empty) sets g s all there) ∙ contains-nobody n
-
-  empty_from_none : (s : S) → ((n : ℕ) → set.contains (sets.members s) n ≡ true → ⊥) → sets.members s ≡ set.empty
-  empty_from_none s none =
-      same_hosts (sets.members s) set.empty (λ n. false_from_ne_true (set.contains (sets.members s) n) (none n) ∙ sym (contains-nobody n))
 
   pub no_registrations : (v : ViewOf S sets) → ((own : ℕ) (i : Item) → IsPossible (view_of own v) i → ⊥) → (g n : ℕ) → g < v.hosts → contains_at sets.members v.registrations g n ≡ false
   no_registrations v none g n small = false_from_ne_true (contains_at sets.members v.registrations g n) (λ is. none 0 (Registration g n) (small, is))
 
   pub no_reservations : (v : ViewOf S sets) → ((own : ℕ) (i : Item) → IsPossible (view_of own v) i → ⊥) → sets.members v.reservations ≡ set.empty
-  no_reservations v none = empty_from_none v.reservations (λ x is. none 0 (Reservation x) is)
+  no_reservations v none = empty_from_none sets.members v.reservations (λ x is. none 0 (Reservation x) is)
 
   pub no_attentions : (v : ViewOf S sets) → ((own : ℕ) (i : Item) → IsPossible (view_of own v) i → ⊥) → sets.members v.pending ≡ set.empty
-  no_attentions v none = empty_from_none v.pending (λ q is. none 0 (Attentions q) is)
+  no_attentions v none = empty_from_none sets.members v.pending (λ q is. none 0 (Attentions q) is)
 
   -- ---- one within the other
 
@@ -86,20 +87,20 @@ module _ {S : Type 0} {sets : ViewSet S} where
 
   -- ---- its possibilities fit
 
-  pub registration_in_range : (v : ViewOf S sets) → (g r : ℕ) → contains_at sets.members v.registrations g r ≡ true → r ≤ length v.keys.items
-  registration_in_range v g r is = at (slice_get v.registrations g) refl is
+  pub registration_in_range : ((s : S) → AllBelow (sets.room s) (sets.members s)) → (v : ViewOf S sets) (g r : ℕ) → contains_at sets.members v.registrations g r ≡ true → r ≤ length v.keys.items
+  registration_in_range below v g r is = at (slice_get v.registrations g) refl is
     where
       at : (o : Option S) → slice_get v.registrations g ≡ o → option_map_or (λ s. set.contains (sets.members s) r) o false ≡ true → r ≤ length v.keys.items
       at None there has = absurd (false≢true has)
       at (Some s) there has =
           let whole = read (λ t. sets.room t ≡ length v.keys.items + 1) v.registrations g s v.room_of_registrations there in
-          let small = sets.below s r has in
+          let small = below s r has in
           omega arith
 
-  pub fits : (v : ViewOf S sets) (own : ℕ) → own < v.hosts → Fits (view_of own v)
-  fits v own small = record {
+  pub fits : ((s : S) → AllBelow (sets.room s) (sets.members s)) → (v : ViewOf S sets) (own : ℕ) → own < v.hosts → Fits (view_of own v)
+  fits below v own small = record {
     scope = record { hosts = (v.some, v.few); own = small; keys = v.declared };
-    registrations = registration_in_range v;
-    reservations = λ x is. subst (λ n. x < n) v.room_of_reservations (sets.below v.reservations x is);
-    pending = λ q is. subst (λ n. q < n) v.room_of_pending (sets.below v.pending q is);
+    registrations = registration_in_range below v;
+    reservations = λ x is. subst (λ n. x < n) v.room_of_reservations (below v.reservations x is);
+    pending = λ q is. subst (λ n. q < n) v.room_of_pending (below v.pending q is);
   }

@@ -12,12 +12,9 @@ put-requires g c =
     let reserved = c.is_empty.ensures.filled c.if-is_empty.false in (
       search rules,
       (
-        c.in_ok-view.ensures.made,
-        (
-          (λ own. (Reservation reserved.0, (c.in_ok-view.ensures.same own (Reservation reserved.0)).1 reserved.1)),
-          kept_for g.S.ViewSet.members g.S.ViewSet.room c.args.self.now.hosts c.in_ok-view.view.hosts c.args.self.now.keys.now c.in_ok-view.view.keys.items c.args.outcomes.now.items
-              (sym c.in_ok-view.ensures.hosts) (sym c.in_ok-view.ensures.keys) c.requires.kept,
-        ),
+        (λ own. (Reservation reserved.0, (c.in_ok-view.ensures.same own (Reservation reserved.0)).1 reserved.1)),
+        kept_for c.args.self.now.hosts c.in_ok-view.view.hosts c.args.self.now.keys.now c.in_ok-view.view.keys.items c.args.outcomes.now.items
+            (sym c.in_ok-view.ensures.hosts) (sym c.in_ok-view.ensures.keys) c.requires.kept,
       ),
     )
 
@@ -26,7 +23,7 @@ returns-clause-more g c =
     let reserved = c.is_empty.ensures.filled c.if-is_empty.false in
     let pends = c.is_empty-else-is_empty.ensures.filled c.if-is_empty-2.false in
     let s = scope_of_sending c.args.self.now in
-    more_by g.S.ViewSet.members s.own c.args.outcomes.now.items c.put.new.outcomes.items
-    (λ l i. (l ≡ c.args.landing) × IsPossible (view_of g.S.ViewSet.members s.own c.in_ok-view.view) i) (λ l i. (l ≡ c.args.landing) × IsOfWay s c.args.way.now c.args.pending i)
-    (added_way g.S.ViewSet.members s c.args.way.now c.args.pending c.args.landing c.in_ok-view.view reserved.0 pends.0 c.in_ok-view.ensures.hosts reserved.1 pends.1 c.in_ok-view.ensures.same)
+    more_by s.own c.args.outcomes.now.items c.put.new.outcomes.items
+    (λ l i. (l ≡ c.args.landing) × IsPossible (view_of s.own c.in_ok-view.view) i) (λ l i. (l ≡ c.args.landing) × IsOfWay s c.args.way.now c.args.pending i)
+    (added_way s c.args.way.now c.args.pending c.args.landing c.in_ok-view.view reserved.0 pends.0 c.in_ok-view.ensures.hosts reserved.1 pends.1 c.in_ok-view.ensures.same)
     (c.in_ok-put.ensures.more s.own)

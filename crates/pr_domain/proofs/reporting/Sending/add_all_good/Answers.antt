@@ -10,12 +10,12 @@ loop-arm-preserved g c =
     let q = c.args.self.now in
     record {
       kept = c.in_ok-add_good.ensures.kept;
-      more = good_more g.S.ViewSet.members q.sender c.args.outcomes.now.items c.loop-arm.outcomes.items c.add_good.new.outcomes.items (view_of_sending q) q.command q.tests.now c.loop-arm.arm
+      more = good_more q.sender c.args.outcomes.now.items c.loop-arm.outcomes.items c.add_good.new.outcomes.items (view_of_sending q) q.command q.tests.now c.loop-arm.arm
           c.loop-arm.invariant.more c.in_ok-add_good.ensures.more;
     }
 
 pub returns-clause-more : goal.returns-clause-more
 returns-clause-more g c =
     let q = c.args.self.now in
-    more_by g.S.ViewSet.members q.sender c.args.outcomes.now.items c.loop-arm.outcomes.items (LandsGoodBelow (view_of_sending q) q.command q.tests.now c.loop-arm.arm) (LandsBy (view_of_sending q) q.command q.tests.now EndsGood)
+    more_by q.sender c.args.outcomes.now.items c.loop-arm.outcomes.items (LandsGoodBelow (view_of_sending q) q.command q.tests.now c.loop-arm.arm) (LandsBy (view_of_sending q) q.command q.tests.now EndsGood)
     (good_all (view_of_sending q) q.command q.tests.now c.loop-arm.arm c.requires.asked.few (omega arith)) c.loop-arm.invariant.more

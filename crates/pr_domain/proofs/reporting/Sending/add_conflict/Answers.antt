@@ -14,6 +14,6 @@ add-requires g c =
 pub returns-clause-more : goal.returns-clause-more
 returns-clause-more g c =
     let q = c.args.self.now in
-    more_by g.S.ViewSet.members q.sender c.args.outcomes.now.items c.add.new.outcomes.items
+    more_by q.sender c.args.outcomes.now.items c.add.new.outcomes.items
     (λ l i. (l ≡ c.landing_of-landing.result) × IsOfWay (scope_of_sending q) c.way.result c.calm.result i) (LandsBy (view_of_sending q) q.command q.tests.now Conflicts)
     (adds_conflict q c.requires.asked c.landing_of-landing.result c.way.result c.calm.result c.way.ensures c.calm.ensures (c.landing_of-landing.ensures conflict refl tt)).lands c.in_ok-add.ensures.more

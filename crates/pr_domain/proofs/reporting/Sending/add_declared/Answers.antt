@@ -6,5 +6,5 @@ use Rattle.pr_domain.proofs.reporting.Sending.add_declared.Goals as goal
 pub returns-clause-more : goal.returns-clause-more
 returns-clause-more g c =
     let q = c.args.self.now in
-    more_declared g.S.ViewSet.members q.sender c.args.outcomes.now.items c.add_refusal.new.outcomes.items c.args.declared
+    more_declared q.sender c.args.outcomes.now.items c.add_refusal.new.outcomes.items c.args.declared
     (LandsBy (view_of_sending q) q.command q.tests.now (Refuses c.args.refused)) c.if-not-declared.false c.in_ok-add_refusal.ensures.more

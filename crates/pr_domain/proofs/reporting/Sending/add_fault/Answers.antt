@@ -15,6 +15,6 @@ add-requires g c =
 pub returns-clause-more : goal.returns-clause-more
 returns-clause-more g c =
     let q = c.args.self.now in
-    more_by g.S.ViewSet.members q.sender c.args.outcomes.now.items c.add.new.outcomes.items
+    more_by q.sender c.args.outcomes.now.items c.add.new.outcomes.items
     (λ l i. (l ≡ c.landing_of-landing.result) × IsOfWay (scope_of_sending q) c.way.result c.quiet.result i) (LandsBy (view_of_sending q) q.command q.tests.now Fails)
     (adds_fault q c.requires.asked c.landing_of-landing.result c.way.result c.quiet.result c.in-Some.sense c.way.ensures c.quiet.ensures (λ u x is. same_Some x c.in-Some.sense (sym (c.requires.asked.fault u.registry q.sender x is) ∙ c.in-Some.is)) (c.landing_of-landing.ensures (check c.in-Some.sense) (refl, refl) tt)).lands c.in_ok-add.ensures.more

@@ -25,6 +25,6 @@ returns-clause-more g c =
       | then-arm-eq0 w ↦ w.landing-is ∙ ap landing_at (sym w.if-arm-eq0.true)
       | else-arm-eq0 w ↦ w.landing-is ∙ at_arm c.args.arm w.if-arm-eq0.false
     ] in
-    more_by g.S.ViewSet.members q.sender c.args.outcomes.now.items c.add.new.outcomes.items
+    more_by q.sender c.args.outcomes.now.items c.add.new.outcomes.items
     (λ l i. (l ≡ c.if-arm-eq0.landing) × IsOfWay (scope_of_sending q) c.way.result c.quiet.result i) (LandsGood (view_of_sending q) q.command q.tests.now c.args.arm)
     (adds_good q c.requires.asked c.if-arm-eq0.landing c.way.result c.quiet.result c.args.arm there c.quiet.ensures landing).lands c.in_ok-add.ensures.more

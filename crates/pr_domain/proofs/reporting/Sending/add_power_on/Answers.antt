@@ -21,6 +21,6 @@ returns-clause-more g c =
     let q = c.args.self.now in
     let joined = part_joined c.way-way.result c.way.result c.join.new.self c.join.ensures.registrations c.join.ensures.reservations in
     let landing = c.landing_of-landing.ensures (report (Plain q.command) power_on) c.class_of_report-class.ensures.class (c.class_of_report-class.ensures.blind q.keys.now q.tests.now c.requires.asked.tests) in
-    more_by g.S.ViewSet.members q.sender c.args.outcomes.now.items c.add.new.outcomes.items
+    more_by q.sender c.args.outcomes.now.items c.add.new.outcomes.items
     (λ l i. (l ≡ c.landing_of-landing.result) × IsOfWay (scope_of_sending q) c.join.new.self c.after_report-pending.result i) (LandsBy (view_of_sending q) q.command q.tests.now (Reports PowerOn))
     (adds_power_on q c.requires.asked c.landing_of-landing.result c.way-way.result c.way.result c.join.new.self c.after_report-pending.result c.way-way.ensures c.way.ensures joined c.after_report-pending.ensures landing).lands c.in_ok-add.ensures.more

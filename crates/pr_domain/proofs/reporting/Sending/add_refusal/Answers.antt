@@ -17,6 +17,6 @@ returns-clause-more g c =
     let q = c.args.self.now in
     let joined = part_joined c.way-way.result c.way.result c.join.new.self c.join.ensures.registrations c.join.ensures.reservations in
     let landing = c.landing_of-landing.ensures (refusal c.args.refused) c.class-class.ensures.class (c.class-class.ensures.blind q.tests.now) in
-    more_by g.S.ViewSet.members q.sender c.args.outcomes.now.items c.add.new.outcomes.items
+    more_by q.sender c.args.outcomes.now.items c.add.new.outcomes.items
     (λ l i. (l ≡ c.landing_of-landing.result) × IsOfWay (scope_of_sending q) c.join.new.self q.known.pending i) (LandsBy (view_of_sending q) q.command q.tests.now (Refuses c.args.refused))
     (adds_refusal q c.requires.asked c.args.refused c.landing_of-landing.result c.way-way.result c.way.result c.join.new.self c.way-way.ensures c.way.ensures joined landing).lands c.in_ok-add.ensures.more

@@ -18,6 +18,6 @@ pub returns-clause-more : goal.returns-clause-more
 returns-clause-more g c =
     let q = c.args.self.now in
     let landing = c.landing_of-landing.ensures (report (Plain q.command) (code_of c.args.attention)) c.class_of_report-class.ensures.class (c.class_of_report-class.ensures.blind q.keys.now q.tests.now c.requires.asked.tests) in
-    more_by g.S.ViewSet.members q.sender c.args.outcomes.now.items c.add.new.outcomes.items
+    more_by q.sender c.args.outcomes.now.items c.add.new.outcomes.items
     (λ l i. (l ≡ c.landing_of-landing.result) × IsOfWay (scope_of_sending q) c.way.result c.after_report-pending.result i) (LandsBy (view_of_sending q) q.command q.tests.now (Reports c.args.attention))
     (adds_report q c.requires.asked c.args.attention c.landing_of-landing.result c.way.result c.calm.result c.after_report-pending.result c.requires.later c.way.ensures c.calm.ensures c.after_report-pending.ensures landing).lands c.in_ok-add.ensures.more

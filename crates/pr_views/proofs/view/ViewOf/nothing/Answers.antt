@@ -1,8 +1,7 @@
-use Rattle.pr_views.proofs.lemmas.Views.Values.{contains_none, nothing_possible}
+use Rattle.pr_views.proofs.lemmas.Views.Values.{contains_no, contains_none, nothing_possible}
 use Rattle.pr_views.proofs.view.ViewOf.nothing.Goals as goal
 
 pub returns-clause-none : goal.returns-clause-none
-returns-clause-none g c =
-    let members = g.S.ViewSet.members in
-    nothing_possible members (record { keys = c.copied.result; hosts = c.args.hosts; registrations = c.empty_sets.result; reservations = c.none.result; pending = c.none-2.result })
-    (λ h n small. contains_none members c.empty_sets.result c.empty_sets.ensures.members h n) c.none.ensures.members c.none-2.ensures.members
+returns-clause-none g c own =
+    nothing_possible (record { scope = record { own = own; hosts = c.args.hosts; keys = c.args.keys.now }; registrations = _; reservations = _; pending = _ })
+    (λ h n small. contains_none g.S.ViewSet.members c.empty_sets.result c.empty_sets.ensures.members h n) (contains_no _ c.none.ensures.members) (contains_no _ c.none-2.ensures.members)

@@ -5,13 +5,13 @@ use Rattle.pr_views.proofs.view.ViewOf.within.Goals as goal
 
 pub are_within-requires : goal.are_within-requires
 are_within-requires g c =
-    (search rules, (omega arith, λ k d small also. c.args.other.now.room_of_registrations k d also ∙ ap (λ keys. length keys + 1) (sym c.requires.keys) ∙ sym (c.args.self.now.room_of_registrations k d small)))
+    (search rules, (omega arith, λ k d small also. c.args.other.now.room_of_registrations k d also ∙ ap (λ keys. length keys + 1) (sym c.requires.alike.keys) ∙ sym (c.args.self.now.room_of_registrations k d small)))
 
 pub returns-then-within : goal.returns-then-within
 returns-then-within g c =
     elim c.if-are_within.branch [
       | then-are_within w ↦ (
-        λ yes. view_within c.args.self.now c.args.other.now c.requires.hosts (c.are_within.ensures.0 w.if-are_within.true)
+        λ yes. view_within c.args.self.now c.args.other.now c.requires.alike.hosts (c.are_within.ensures.0 w.if-are_within.true)
             (w.within.ensures.0 (sym w.value-is ∙ c.if-within.true)) (c.within-then-within.ensures.0 yes),
         λ all. c.within-then-within.ensures.1 (attentions_within c.args.self.now c.args.other.now all),
       )
@@ -19,11 +19,10 @@ returns-then-within g c =
     ]
 
 pub returns-else-within : goal.returns-else-within
-returns-else-within g c =
-    (
-      λ yes. absurd (false≢true (sym c.if-within.false ∙ yes)),
-      λ all. elim c.if-are_within.branch [
-        | then-are_within w ↦ w.value-is ∙ w.within.ensures.1 (reservations_within c.args.self.now c.args.other.now all)
-        | else-are_within w ↦ absurd (false≢true (sym w.if-are_within.false ∙ c.are_within.ensures.1 (registrations_within c.args.self.now c.args.other.now all)))
-      ],
-    )
+returns-else-within g c = (
+  λ yes. absurd (false≢true (sym c.if-within.false ∙ yes)),
+  λ all. elim c.if-are_within.branch [
+    | then-are_within w ↦ w.value-is ∙ w.within.ensures.1 (reservations_within c.args.self.now c.args.other.now all)
+    | else-are_within w ↦ absurd (false≢true (sym w.if-are_within.false ∙ c.are_within.ensures.1 (registrations_within c.args.self.now c.args.other.now all)))
+  ],
+)
