@@ -21,9 +21,9 @@ fn are_same(landing: Landing, other: Landing) -> bool
 
 // The place of the outcome with this landing.
 fn place_of<S: ViewSet>(outcomes: &[(Landing, ViewOf<S>)], landing: Landing) -> Option<usize>
-    ensures some { IfSome result (λ k. (v : ViewOf S)
+    ensures some { IfSome result (λ k. (v : ViewOf S _)
         × (slice_get outcomes.now k ≡ Some (landing, v))) }
-    ensures none { IfNone result ((k : ℕ) (v : ViewOf S)
+    ensures none { IfNone result ((k : ℕ) (v : ViewOf S _)
         → slice_get outcomes.now k ≢ Some (landing, v)) }
 {
     for (place, outcome) in outcomes.iter().enumerate() {

@@ -1,8 +1,6 @@
 -- Agrees with docs/VERDICTS.md, 'In words: `fence explain`'.
 -- What is said of a scenario: that it is accepted, or that it is refused and why.
 use Rattle.std.specs.Prelude.{◌≡◌, Bool, true, false, map}
-use Rattle.pr_sets.specs.declared.word_set.WordSet.{WordSet}
-use Rattle.pr_sets.specs.Numbers.{Numbers}
 use Rattle.pr_roles.specs.declared.parts.Parts.{Parts}
 use Rattle.pr_roles.specs.Scenarios.{Scenario}
 use Rattle.pr_roles.specs.Safety.{IsSafe}
@@ -24,7 +22,7 @@ is_refusal (Refused scenario refusal tables finding senders) = true
 
 -- Of one that is accepted: it is safe, and these are the costs of its scripts. Of one that is refused: this is the first reason
 -- that the least sound outlines show, the tables are of these outlines, and a run that was found breaks what safety says.
-abbrev pub Holds : (WordSet → Numbers) → Scenario → Explanation → Type 0
-Holds members s (Accepted verified costs lints) = IsSafe s × (costs.items ≡ map (λ n. cost_of n.task) s.nexuses)
-Holds members s (Refused scenario refusal tables finding senders) =
-    IsFirstReason s refusal × AreTables s (map (table_of members) tables.items) × IsFound s finding
+abbrev pub Holds : Scenario → Explanation → Type 0
+Holds s (Accepted verified costs lints) = IsSafe s × (costs.items ≡ map (λ n. cost_of n.task) s.nexuses)
+Holds s (Refused scenario refusal tables finding senders) =
+    IsFirstReason s refusal × AreTables s (map table_of tables.items) × IsFound s finding

@@ -11,7 +11,6 @@ use crate::linting::lints;
 use crate::plan::Explanation;
 use crate::senders::{SentBy, senders};
 use pr_roles::Scenario;
-use pr_sets::{ViewSet, WordSet};
 use pr_verify::{Refusal, Verified, tables, verify};
 use pr_witness::{Finding, USUAL_BOUNDS, search};
 use std::alloc::{AllocError, Global};
@@ -22,7 +21,7 @@ pub fn explanation(alloc: Global, scenario: Scenario) -> Result<Explanation, All
     ensures scenario { IfOk result (λ e. scenario_in e ≡ scenario) }
     ensures accepted { IfOk result (λ e. (is_refusal e ≡ false)
         ↔ HaveOutlines (scenario_of scenario)) }
-    ensures holds { IfOk result (Holds ⟦<WordSet as ViewSet>⟧.members (scenario_of scenario)) }
+    ensures holds { IfOk result (Holds (scenario_of scenario)) }
 {
     match verify(alloc, scenario) {
         Ok(verified) => accepted(alloc, verified),
@@ -33,7 +32,7 @@ pub fn explanation(alloc: Global, scenario: Scenario) -> Result<Explanation, All
 fn accepted(alloc: Global, verified: Verified) -> Result<Explanation, AllocError>
     ensures scenario { IfOk result (λ e. scenario_in e ≡ verified) }
     ensures accepted { IfOk result (λ e. is_refusal e ≡ false) }
-    ensures holds { IfOk result (Holds ⟦<WordSet as ViewSet>⟧.members (scenario_of verified)) }
+    ensures holds { IfOk result (Holds (scenario_of verified)) }
 {
     let scenario = verified.scenario();
     let costs = costs(alloc, &scenario.parts().nexuses)?;
@@ -53,7 +52,7 @@ fn refused(alloc: Global, scenario: Scenario, refusal: Refusal) -> Result<Explan
     ensures scenario { IfOk result (λ e. scenario_in e ≡ scenario) }
     ensures refused { IfOk result (λ e. is_refusal e ≡ true) }
     ensures reason { OnOk result (refusal ≢ Refusal.Memory) }
-    ensures holds { IfOk result (Holds ⟦<WordSet as ViewSet>⟧.members (scenario_of scenario)) }
+    ensures holds { IfOk result (Holds (scenario_of scenario)) }
 {
     if refusal == Refusal::Memory {
         return Err(AllocError);

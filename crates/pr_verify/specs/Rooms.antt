@@ -4,8 +4,9 @@ use Rattle.std.specs.Prelude.{◌≡◌, ℕ, length, map, Option, Some, None}
 use Rattle.std.specs.List.{All}
 use Rattle.pr_sets.specs.Numbers.{Numbers}
 use Rattle.pr_sets.specs.declared.word_set.WordSet.{WordSet}
+use Rattle.pr_sets.specs.declared.view_set.ViewSet.{Ghosts as ViewSet}
 use Rattle.pr_views.specs.declared.view.ViewOf.{ViewOf}
-use Rattle.pr_views.specs.Rooms.{view_of, IsMade}
+use Rattle.pr_views.specs.Rooms.{view_of}
 use Rattle.pr_roles.specs.Scenarios.{Scenario, Task, Scripted, Planned, task}
 use Rattle.pr_verify.specs.declared.outline.OutlineBy.{OutlineBy}
 use Rattle.pr_verify.specs.declared.refusal.Refusal.{Refusal}
@@ -16,13 +17,13 @@ use Rattle.pr_verify.specs.LeastOutlines.{IsLeastSound}
 use Rattle.pr_verify.specs.Refusals.{IsRefusal}
 use Rattle.pr_verify.specs.Tables.{Row, Table}
 
--- the outline, by what the members of each set are
-abbrev pub outline_of : {S : Type 0} → (S → Numbers) → OutlineBy (ViewOf S) → Outline
-outline_of members o = record { host = o.host; views = map (λ e. (e.0, view_of members o.host e.1)) o.views.items }
+-- the outline that a value of the program is
+abbrev pub outline_of : {S : Type 0} {sets : ViewSet S} → OutlineBy (ViewOf S sets) → Outline
+outline_of o = record { host = o.host; views = map (λ e. (e.0, view_of o.host e.1)) o.views.items }
 
 -- the views can be ones of this scenario: they have its keys, and speak of as many nexuses
-abbrev pub IsMadeFor : {S : Type 0} → (S → ℕ) → Scenario → OutlineBy (ViewOf S) → Type 0
-IsMadeFor room s o = All (λ e. IsMade room e.1 × (e.1.keys.items ≡ s.keys) × (e.1.hosts ≡ length s.nexuses)) o.views.items
+abbrev pub IsMadeFor : {S : Type 0} {sets : ViewSet S} → Scenario → OutlineBy (ViewOf S sets) → Type 0
+IsMadeFor s o = All (λ e. (e.1.keys.items ≡ s.keys) × (e.1.hosts ≡ length s.nexuses)) o.views.items
 
 -- there is a script
 abbrev pub IsScripted : Option Task → Type 0
@@ -30,28 +31,28 @@ IsScripted None = ⊥
 IsScripted (Some (Scripted script budget)) = Unit {0}
 IsScripted (Some (Planned commands)) = ⊥
 
--- the row, and the table by what the members of each set are
+-- the row and the table that values of the program are
 abbrev pub row_of : KeptRow → Row
 row_of r = record { command = r.command; tests = r.tests.items; permitted = r.permitted; arms = r.arms.items; unarmed = r.unarmed.items }
 
 abbrev pub table_of : (WordSet → Numbers) → KeptTable → Table
-table_of members t = record { outline = outline_of members t.outline; rows = map row_of t.rows.items }
+table_of t = record { outline = outline_of t.outline; rows = map row_of t.rows.items }
 
 -- ---- what holds of them, by the script of a host, if it has one
 
 -- there is one view for each of its sends, and the outline is the least sound one
-abbrev pub IsListedFor : {S : Type 0} → (S → Numbers) → Scenario → ℕ → OutlineBy (ViewOf S) → Type 0
-IsListedFor members s h o = OnScripted (task s h) (λ script budget. IsListed script (outline_of members o))
+abbrev pub IsListedFor : {S : Type 0} {sets : ViewSet S} → Scenario → ℕ → OutlineBy (ViewOf S sets) → Type 0
+IsListedFor s h o = OnScripted (task s h) (λ script budget. IsListed script (outline_of o))
 
-abbrev pub IsLeastFor : {S : Type 0} → (S → Numbers) → Scenario → ℕ → OutlineBy (ViewOf S) → Type 0
-IsLeastFor members s h o = OnScripted (task s h) (λ script budget. IsLeastSound s script (outline_of members o))
+abbrev pub IsLeastFor : {S : Type 0} {sets : ViewSet S} → Scenario → ℕ → OutlineBy (ViewOf S sets) → Type 0
+IsLeastFor s h o = OnScripted (task s h) (λ script budget. IsLeastSound s script (outline_of o))
 
 -- an outline of its own host is sound, it fits, and this is the first reason against it
-abbrev pub IsSoundFor : {S : Type 0} → (S → Numbers) → Scenario → OutlineBy (ViewOf S) → Type 0
-IsSoundFor members s o = OnScripted (task s o.host) (λ script budget. IsSound s script (outline_of members o))
+abbrev pub IsSoundFor : {S : Type 0} {sets : ViewSet S} → Scenario → OutlineBy (ViewOf S sets) → Type 0
+IsSoundFor s o = OnScripted (task s o.host) (λ script budget. IsSound s script (outline_of o))
 
-abbrev pub IsFittingFor : {S : Type 0} → (S → Numbers) → Scenario → OutlineBy (ViewOf S) → Type 0
-IsFittingFor members s o = OnScripted (task s o.host) (λ script budget. IsFitting s script budget (outline_of members o))
+abbrev pub IsFittingFor : {S : Type 0} {sets : ViewSet S} → Scenario → OutlineBy (ViewOf S sets) → Type 0
+IsFittingFor s o = OnScripted (task s o.host) (λ script budget. IsFitting s script budget (outline_of o))
 
-abbrev pub IsRefusalFor : {S : Type 0} → (S → Numbers) → Scenario → OutlineBy (ViewOf S) → Refusal → Type 0
-IsRefusalFor members s o refusal = OnScripted (task s o.host) (λ script budget. IsRefusal s script budget (outline_of members o) refusal)
+abbrev pub IsRefusalFor : {S : Type 0} {sets : ViewSet S} → Scenario → OutlineBy (ViewOf S sets) → Refusal → Type 0
+IsRefusalFor s o refusal = OnScripted (task s o.host) (λ script budget. IsRefusal s script budget (outline_of o) refusal)

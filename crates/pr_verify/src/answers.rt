@@ -35,10 +35,10 @@ impl<S: ViewSet> Questions<'_, ViewOf<S>> {
     // Whether the two places ask the same in views with the same possibilities. Few sends are of one command, so commands
     // are compared first.
     fn are_same(&self, place: usize, other: usize) -> bool
-        requires made { AreMade S.room self.now }
+        requires made { AreMade self.now }
         requires place { place < length self.now.spots.now }
         requires other { other < length self.now.spots.now }
-        ensures { IsTrue result → IsSameQuestion S.members self.now place other }
+        ensures { IsTrue result → IsSameQuestion self.now place other }
     {
         if !ask_the_same(&self.spots[place], &self.spots[other]) {
             return false;
@@ -50,10 +50,10 @@ impl<S: ViewSet> Questions<'_, ViewOf<S>> {
 
     // Where an equal question was answered.
     fn place_of(&self, known: &[Answer<ViewOf<S>>], place: usize) -> Option<usize>
-        requires made { AreMade S.room self.now }
+        requires made { AreMade self.now }
         requires there { place < length self.now.spots.now }
         requires known { All (λ a. a.spot < length self.now.spots.now) known.now }
-        ensures { IfSome result (IsAskedBefore S.members self.now place known.now) }
+        ensures { IfSome result (IsAskedBefore self.now place known.now) }
     {
         for (number, answer) in known.iter().enumerate() {
             if self.are_same(answer.spot, place) {
@@ -70,11 +70,11 @@ impl<S: ViewSet> Questions<'_, ViewOf<S>> {
         known: &mut Vec<Answer<ViewOf<S>>>,
         place: usize,
     ) -> Result<usize, AllocError>
-        requires made { AreMade S.room self.now }
+        requires made { AreMade self.now }
         requires there { place < length self.now.spots.now }
-        requires known { AreAnswersTo S.members S.room self.now known.old.items }
-        ensures known { OnOk result (AreAnswersTo S.members S.room self.now known.new.items) }
-        ensures answer { IfOk result (IsAnsweredAt S.members S.room self.now place
+        requires known { AreAnswersTo self.now known.old.items }
+        ensures known { OnOk result (AreAnswersTo self.now known.new.items) }
+        ensures answer { IfOk result (IsAnsweredAt self.now place
             known.new.items) }
     {
         if let Some(number) = self.place_of(known, place) {

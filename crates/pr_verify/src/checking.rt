@@ -34,10 +34,10 @@ pub fn check_outline<S: ViewSet>(
     outline: &OutlineOf<S>,
 ) -> Result<(), Refusal>
     requires scripted { IsScripted (task (scenario_of scenario.now) outline.now.host) }
-    requires made { IsMadeFor S.room (scenario_of scenario.now) outline.now }
-    ensures sound { OnOk result (IsSoundFor S.members (scenario_of scenario.now) outline.now) }
-    ensures fitting { OnOk result (IsFittingFor S.members (scenario_of scenario.now) outline.now) }
-    ensures refusal { IfErr result (IsRefusalFor S.members (scenario_of scenario.now)
+    requires made { IsMadeFor (scenario_of scenario.now) outline.now }
+    ensures sound { OnOk result (IsSoundFor (scenario_of scenario.now) outline.now) }
+    ensures fitting { OnOk result (IsFittingFor (scenario_of scenario.now) outline.now) }
+    ensures refusal { IfErr result (IsRefusalFor (scenario_of scenario.now)
         outline.now) }
 {
     match &nexus_in(scenario, outline.host).task {
@@ -73,13 +73,13 @@ fn check_sound<S: ViewSet>(
     outline: &OutlineOf<S>,
 ) -> Result<(), Refusal>
     requires starts { CanStart (scenario_of scenario.now) }
-    requires able { CanCheck S.room (scenario_of scenario.now) (script_of script.now) outline.now }
+    requires able { CanCheck (scenario_of scenario.now) (script_of script.now) outline.now }
     ensures sound { OnOk result (IsSound (scenario_of scenario.now) (script_of script.now)
-        (outline_of S.members outline.now)) }
+        (outline_of outline.now)) }
     ensures refusal { IfErr result (λ refusal. (budget : ℕ)
         → cost_of_all (script_of script.now) ≤ budget
         → IsRefusal (scenario_of scenario.now) (script_of script.now) budget
-        (outline_of S.members outline.now) refusal) }
+        (outline_of outline.now) refusal) }
 {
     let host = outline.host;
     let spots = spots(alloc, script)?;
@@ -104,17 +104,17 @@ pub(crate) fn check_fit<S: ViewSet>(
     script: &Script,
     outline: &OutlineOf<S>,
 ) -> Result<(), Refusal>
-    requires able { CanCheck S.room (scenario_of scenario.now) (script_of script.now) outline.now }
+    requires able { CanCheck (scenario_of scenario.now) (script_of script.now) outline.now }
     requires sound { IsSound (scenario_of scenario.now) (script_of script.now)
-        (outline_of S.members outline.now) }
+        (outline_of outline.now) }
     ensures fields { OnOk result (SendsFit (script_of script.now)) }
     ensures fitting { OnOk result ((budget : ℕ) → cost_of_all (script_of script.now) ≤ budget
         → IsFitting (scenario_of scenario.now) (script_of script.now) budget
-        (outline_of S.members outline.now)) }
+        (outline_of outline.now)) }
     ensures refusal { IfErr result (λ refusal. (budget : ℕ)
         → cost_of_all (script_of script.now) ≤ budget
         → IsRefusal (scenario_of scenario.now) (script_of script.now) budget
-        (outline_of S.members outline.now) refusal) }
+        (outline_of outline.now) refusal) }
 {
     let spots = spots(alloc, script)?;
     let questions = Questions {

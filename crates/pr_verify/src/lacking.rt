@@ -36,8 +36,8 @@ pub(crate) fn first_lacking<S: ViewSet>(
     known: &ViewOf<S>,
     lines: &[u32],
 ) -> Option<u32>
-    requires { CanCompare S.room outline.now.views.items known.now }
-    ensures { IsFirstWithout S.members outline.now known.now lines.now result }
+    requires { CanCompare outline.now.views.items known.now }
+    ensures { IsFirstWithout outline.now known.now lines.now result }
 {
     let mut first = None;
     for line in lines {
@@ -50,8 +50,8 @@ pub(crate) fn first_lacking<S: ViewSet>(
 
 // Whether the outline has a view at this line in which everything is possible that is possible in this one.
 fn has_within<S: ViewSet>(outline: &OutlineOf<S>, line: u32, known: &ViewOf<S>) -> bool
-    requires { CanCompare S.room outline.now.views.items known.now }
-    ensures { IsTrue result ↔ IsWithinAt S.members outline.now known.now line }
+    requires { CanCompare outline.now.views.items known.now }
+    ensures { IsTrue result ↔ IsWithinAt outline.now known.now line }
 {
     match view_at(outline, line) {
         None => false,
@@ -61,8 +61,8 @@ fn has_within<S: ViewSet>(outline: &OutlineOf<S>, line: u32, known: &ViewOf<S>) 
 
 // The view at this line.
 fn view_at<S: ViewSet>(outline: &OutlineOf<S>, line: u32) -> Option<&ViewOf<S>>
-    ensures value { view_at (outline_of S.members outline.now).views line
-        ≡ option_map (λ v. view_of S.members outline.now.host v.now) result }
+    ensures value { view_at (outline_of outline.now).views line
+        ≡ option_map (λ v. view_of outline.now.host v.now) result }
     ensures listed { IfSome result (λ v. Contains (map (λ e. e.1) outline.now.views.items) v.now) }
 {
     for (at, view) in &outline.views {
@@ -81,8 +81,8 @@ pub(crate) fn lacking_at_start<S: ViewSet>(
     lines: &[u32],
 ) -> Result<Option<u32>, AllocError>
     requires starts { CanStart (scenario_in asked.now) }
-    requires made { AreMade S.room asked.now }
-    ensures { IfOk result (IsFirstUnstarted S.members asked.now lines.now) }
+    requires made { AreMade asked.now }
+    ensures { IfOk result (IsFirstUnstarted asked.now lines.now) }
 {
     let outline = asked.outline;
     let start = of_start(alloc, asked.scenario, outline.host)?;

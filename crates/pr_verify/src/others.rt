@@ -2,7 +2,7 @@
 
 ghost use Rattle.std.specs.Prelude.{◌≡◌, ℕ, false, map, IsTrue, IfOk};
 ghost use Rattle.pr_roles.specs.Scenarios.{scenario_of};
-ghost use Rattle.pr_views.specs.Rooms.{view_of, IsMade};
+ghost use Rattle.pr_views.specs.Rooms.{view_of};
 ghost use Rattle.pr_verify.specs.inside.Asked.{AreMade, IsClosedIn, IsClosedToOthersIn, IsFirstLeft, IsOpenIn, scenario_in};
 ghost use Rattle.pr_verify.specs.inside.Lacking.{CanCompare, IsClosedToResetsOfAny, IsOpenOfAny, IsSameAsOne};
 ghost use Rattle.pr_verify.specs.inside.Reviewing.{IsMadeAs};
@@ -20,8 +20,8 @@ pub(crate) fn lacking_by_others<S: ViewSet>(
     alloc: Global,
     asked: &Questions<ViewOf<S>>,
 ) -> Result<Option<u32>, AllocError>
-    requires { AreMade S.room asked.now }
-    ensures { IfOk result (IsFirstLeft S.members asked.now) }
+    requires { AreMade asked.now }
+    ensures { IfOk result (IsFirstLeft asked.now) }
 {
     let outline = asked.outline;
     for (i, entry) in outline.views.iter().enumerate() {
@@ -36,9 +36,9 @@ pub(crate) fn lacking_by_others<S: ViewSet>(
 
 // Whether the same is possible in the view as in one of these.
 fn is_one_of<S: ViewSet>(view: &ViewOf<S>, others: &[(u32, ViewOf<S>)]) -> bool
-    requires { CanCompare S.room others.now view.now }
-    ensures { IsTrue result → (own : ℕ) → IsSameAsOne (view_of S.members own view.now)
-        (map (λ e. view_of S.members own e.1) others.now) }
+    requires { CanCompare others.now view.now }
+    ensures { IsTrue result → (own : ℕ) → IsSameAsOne (view_of own view.now)
+        (map (λ e. view_of own e.1) others.now) }
 {
     for (_, other) in others {
         if view.within(other) && other.within(view) {
@@ -54,9 +54,9 @@ fn is_closed<S: ViewSet>(
     asked: &Questions<ViewOf<S>>,
     view: &ViewOf<S>,
 ) -> Result<bool, AllocError>
-    requires { IsMadeAs S.room (scenario_in asked.now) view.now }
-    ensures closed { IfOk result (λ is. IsTrue is → IsClosedIn S.members asked.now view.now) }
-    ensures open { IfOk result (λ is. is ≡ false → IsOpenIn S.members asked.now view.now) }
+    requires { IsMadeAs (scenario_in asked.now) view.now }
+    ensures closed { IfOk result (λ is. IsTrue is → IsClosedIn asked.now view.now) }
+    ensures open { IfOk result (λ is. is ≡ false → IsOpenIn asked.now view.now) }
 {
     if !is_closed_to_resets(alloc, asked.scenario, view)? {
         return Ok(false);
@@ -70,11 +70,10 @@ fn is_closed_to_resets<S: ViewSet>(
     scenario: &Scenario,
     view: &ViewOf<S>,
 ) -> Result<bool, AllocError>
-    requires { IsMade S.room view.now }
     ensures closed { IfOk result (λ is. IsTrue is
-        → IsClosedToResetsOfAny S.members (scenario_of scenario.now) view.now) }
+        → IsClosedToResetsOfAny (scenario_of scenario.now) view.now) }
     ensures open { IfOk result (λ is. is ≡ false
-        → IsOpenOfAny S.members (scenario_of scenario.now) view.now) }
+        → IsOpenOfAny (scenario_of scenario.now) view.now) }
 {
     if scenario.parts().resets == 0 {
         return Ok(true);
@@ -89,10 +88,10 @@ fn is_closed_to_others<S: ViewSet>(
     asked: &Questions<ViewOf<S>>,
     view: &ViewOf<S>,
 ) -> Result<bool, AllocError>
-    requires { IsMadeAs S.room (scenario_in asked.now) view.now }
+    requires { IsMadeAs (scenario_in asked.now) view.now }
     ensures closed { IfOk result (λ is. IsTrue is
-        → IsClosedToOthersIn S.members asked.now view.now) }
-    ensures open { IfOk result (λ is. is ≡ false → IsOpenIn S.members asked.now view.now) }
+        → IsClosedToOthersIn asked.now view.now) }
+    ensures open { IfOk result (λ is. is ≡ false → IsOpenIn asked.now view.now) }
 {
     let own = asked.outline.host;
     for other in 0..view.hosts {

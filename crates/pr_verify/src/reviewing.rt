@@ -32,9 +32,9 @@ pub(crate) fn first_unsound<S: ViewSet>(
     asked: &Questions<ViewOf<S>>,
 ) -> Result<Option<u32>, AllocError>
     requires starts { CanStart (scenario_in asked.now) }
-    requires made { AreMade S.room asked.now }
+    requires made { AreMade asked.now }
     requires places { map place_of asked.now.spots.now ≡ places_of (script_of script.now) }
-    ensures { IfOk result (IsFirstUnsound S.members asked.now (script_of script.now)) }
+    ensures { IfOk result (IsFirstUnsound asked.now (script_of script.now)) }
 {
     let firsts = first_lines(alloc, script)?;
     let start = lacking_at_start(alloc, asked, &firsts)?;
@@ -54,8 +54,8 @@ pub(crate) fn first_misfit<S: ViewSet>(
     alloc: Global,
     asked: &Questions<ViewOf<S>>,
 ) -> Result<Option<Refusal>, AllocError>
-    requires { AreMade S.room asked.now }
-    ensures { IfOk result (IsFirstMisfitIn S.members asked.now) }
+    requires { AreMade asked.now }
+    ensures { IfOk result (IsFirstMisfitIn asked.now) }
 {
     let mut known = Vec::new(alloc);
     for (i, spot) in asked.spots.iter().enumerate() {
@@ -74,8 +74,8 @@ fn lacking_after<S: ViewSet>(
     outcomes: &[(Landing, ViewOf<S>)],
     next: &[Vec<u32>],
 ) -> Option<u32>
-    requires { All (λ o. CanCompare S.room outline.now.views.items o.1) outcomes.now }
-    ensures { IsFirstWithoutAfter S.members outline.now
+    requires { All (λ o. CanCompare outline.now.views.items o.1) outcomes.now }
+    ensures { IsFirstWithoutAfter outline.now
         (map (λ lines. lines.items) next.now) outcomes.now result }
 {
     let mut first = None;
@@ -105,8 +105,8 @@ fn misfit<S: ViewSet>(
     spot: &Spot,
     outcomes: &[(Landing, ViewOf<S>)],
 ) -> Option<Refusal>
-    requires { IsAnswered S.members S.room asked.now view.now spot.now outcomes.now }
-    ensures { IsMisfitIn S.members asked.now spot.now result }
+    requires { IsAnswered asked.now view.now spot.now outcomes.now }
+    ensures { IsMisfitIn asked.now spot.now result }
 {
     let host = asked.outline.host;
     let line = spot.line;

@@ -50,9 +50,9 @@ pub struct Table {
 /// For each host that has a script, in order: its least sound outline, and what its command may come to at each send.
 pub fn tables(alloc: Global, scenario: &Scenario) -> Result<Vec<Table>, AllocError>
     ensures tables { IfOk result (λ tables. AreTables (scenario_of scenario.now)
-        (map (table_of ⟦<WordSet as ViewSet>⟧.members) tables.items)) }
+        (map table_of tables.items)) }
     ensures made { IfOk result (λ tables. All
-        (λ t. IsMadeFor ⟦<WordSet as ViewSet>⟧.room (scenario_of scenario.now) t.outline)
+        (λ t. IsMadeFor (scenario_of scenario.now) t.outline)
         tables.items) }
     ensures rows { IfOk result (λ tables. All
         (λ t. length t.rows.items ≡ length t.outline.views.items) tables.items) }
@@ -71,9 +71,9 @@ pub fn tables(alloc: Global, scenario: &Scenario) -> Result<Vec<Table>, AllocErr
 fn table_of_host(alloc: Global, scenario: &Scenario, host: u8) -> Result<Table, AllocError>
     requires { IsScripted (task (scenario_of scenario.now) host) }
     ensures host { IfOk result (λ t. t.outline.host ≡ host) }
-    ensures table { IfOk result (IsTableFor ⟦<WordSet as ViewSet>⟧.members
+    ensures table { IfOk result (IsTableFor
         (scenario_of scenario.now) host) }
-    ensures made { IfOk result (λ t. IsMadeFor ⟦<WordSet as ViewSet>⟧.room
+    ensures made { IfOk result (λ t. IsMadeFor
         (scenario_of scenario.now) t.outline) }
     ensures rows { IfOk result (λ t. length t.rows.items ≡ length t.outline.views.items) }
 {
@@ -91,8 +91,8 @@ fn table_of_host(alloc: Global, scenario: &Scenario, host: u8) -> Result<Table, 
 
 // A row for each send.
 fn rows<S: ViewSet>(alloc: Global, asked: &Questions<ViewOf<S>>) -> Result<Vec<Row>, AllocError>
-    requires { AreMade S.room asked.now }
-    ensures { IfOk result (λ rows. AllZip (IsRowIn S.members asked.now) asked.now.spots.now
+    requires { AreMade asked.now }
+    ensures { IfOk result (λ rows. AllZip (IsRowIn asked.now) asked.now.spots.now
         rows.items) }
 {
     let mut known = Vec::new(alloc);
@@ -114,8 +114,8 @@ fn row_of_spot<S: ViewSet>(
     spot: &Spot,
     outcomes: &[(Landing, ViewOf<S>)],
 ) -> Result<Row, AllocError>
-    requires { IsAnswered S.members S.room asked.now view.now spot.now outcomes.now }
-    ensures { IfOk result (IsRowIn S.members asked.now spot.now) }
+    requires { IsAnswered asked.now view.now spot.now outcomes.now }
+    ensures { IfOk result (IsRowIn asked.now spot.now) }
 {
     let host = asked.outline.host;
     let role = &nexus_in(asked.scenario, host).role;

@@ -1,11 +1,11 @@
 -- What the sends of a script come to in the views of an outline, where equal questions are asked once.
 use Rattle.std.specs.Prelude.{◌≡◌, ℕ, ◌<◌, List, length, Option, Some}
 use Rattle.std.specs.List.{slice_get, All}
-use Rattle.pr_sets.specs.Numbers.{Numbers}
 use Rattle.pr_script.specs.Scripts.{Stmts}
 use Rattle.pr_roles.specs.declared.how.Refusals.{Refusals}
 use Rattle.pr_roles.specs.DeclaredRefusals.{refusals_of}
 use Rattle.pr_roles.specs.Scenarios.{Scenario, scenario_of}
+use Rattle.pr_sets.specs.declared.view_set.ViewSet.{Ghosts as ViewSet}
 use Rattle.pr_views.specs.declared.view.ViewOf.{ViewOf}
 use Rattle.pr_views.specs.Views.{View}
 use Rattle.pr_views.specs.Rooms.{view_of}
@@ -31,85 +31,85 @@ use Rattle.pr_verify.specs.inside.Reviewing.{IsMadeAs, IsMisfit, IsFirstMisfit}
 abbrev pub scenario_in : {V : Type 0} → Questions V → Scenario
 scenario_in q = scenario_of q.scenario.now
 
-abbrev pub outline_in : {S : Type 0} → (S → Numbers) → Questions (ViewOf S) → Outline
-outline_in members q = outline_of members q.outline.now
+abbrev pub outline_in : {S : Type 0} {sets : ViewSet S} → Questions (ViewOf S sets) → Outline
+outline_in q = outline_of q.outline.now
 
 -- the view, as its host knows it
-abbrev pub view_in : {S : Type 0} → (S → Numbers) → Questions (ViewOf S) → ViewOf S → View
-view_in members q v = view_of members q.outline.now.host v
+abbrev pub view_in : {S : Type 0} {sets : ViewSet S} → Questions (ViewOf S sets) → ViewOf S sets → View
+view_in q v = view_of q.outline.now.host v
 
 -- the refusals that the sends may meet
 abbrev pub refusals_for : {V : Type 0} → Questions V → Refusals
 refusals_for q = refusals_of (scenario_in q) q.outline.now.host
 
 -- the views can be ones of the scenario
-abbrev pub AreMade : {S : Type 0} → (S → ℕ) → Questions (ViewOf S) → Type 0
-AreMade room q = IsMadeFor room (scenario_in q) q.outline.now
+abbrev pub AreMade : {S : Type 0} {sets : ViewSet S} → Questions (ViewOf S sets) → Type 0
+AreMade q = IsMadeFor (scenario_in q) q.outline.now
 
 -- the two places ask the same, in views with the same possibilities
-pub record IsSameQuestion {S : Type 0} (members : S → Numbers) (q : Questions (ViewOf S)) (place other : ℕ) : Type 0 where
+pub record IsSameQuestion {S : Type 0} {sets : ViewSet S} (q : Questions (ViewOf S sets)) (place other : ℕ) : Type 0 where
   pub sends : (p r : Spot) → slice_get q.spots.now place ≡ Some p → slice_get q.spots.now other ≡ Some r → AskTheSame p r
-  pub views : (d e : ℕ × ViewOf S) → slice_get q.outline.now.views.items place ≡ Some d → slice_get q.outline.now.views.items other ≡ Some e → AreEqual members d.1 e.1
+  pub views : (d e : ℕ × ViewOf S sets) → slice_get q.outline.now.views.items place ≡ Some d → slice_get q.outline.now.views.items other ≡ Some e → AreEqual d.1 e.1
 
 -- ---- answers
 
 -- it is what the command of the named place comes to in the view of that place
-pub record IsAnswerTo {S : Type 0} (members : S → Numbers) (room : S → ℕ) (q : Questions (ViewOf S)) (a : Answer (ViewOf S)) : Type 0 where
+pub record IsAnswerTo {S : Type 0} {sets : ViewSet S} (q : Questions (ViewOf S sets)) (a : Answer (ViewOf S sets)) : Type 0 where
   pub there : a.spot < length q.spots.now
-  pub answer : (e : ℕ × ViewOf S) → slice_get q.outline.now.views.items a.spot ≡ Some e → IsAnswer members room q.outline.now.host (refusals_for q) q.spots.now e.1 a
+  pub answer : (e : ℕ × ViewOf S sets) → slice_get q.outline.now.views.items a.spot ≡ Some e → IsAnswer q.outline.now.host (refusals_for q) q.spots.now e.1 a
 
-abbrev pub AreAnswersTo : {S : Type 0} → (S → Numbers) → (S → ℕ) → Questions (ViewOf S) → List (Answer (ViewOf S)) → Type 0
-AreAnswersTo members room q known = All (IsAnswerTo members room q) known
+abbrev pub AreAnswersTo : {S : Type 0} {sets : ViewSet S} → Questions (ViewOf S sets) → List (Answer (ViewOf S sets)) → Type 0
+AreAnswersTo q known = All (IsAnswerTo q) known
 
 -- these are what the command of the send comes to in the view, which is the one at its line
-pub record IsAnswered {S : Type 0} (members : S → Numbers) (room : S → ℕ) (q : Questions (ViewOf S)) (v : ViewOf S) (p : Spot) (xs : List (Landing × ViewOf S)) : Type 0 where
+pub record IsAnswered {S : Type 0} {sets : ViewSet S} (q : Questions (ViewOf S sets)) (v : ViewOf S sets) (p : Spot) (xs : List (Landing × ViewOf S sets)) : Type 0 where
   pub written : IsPlaceWritten (scenario_in q).keys (place_of p)
-  pub view : IsMadeAs room (scenario_in q) v
-  pub here : view_at (outline_in members q).views p.line ≡ Some (view_in members q v)
-  pub outcomes : ComesTo members q.outline.now.host (refusals_for q) v p xs
+  pub view : IsMadeAs (scenario_in q) v
+  pub here : view_at (outline_in q).views p.line ≡ Some (view_in q v)
+  pub outcomes : ComesTo q.outline.now.host (refusals_for q) v p xs
 
 -- this place of the list has the answer to an equal question
-pub record IsAskedBefore {S : Type 0} (members : S → Numbers) (q : Questions (ViewOf S)) (place : ℕ) (known : List (Answer (ViewOf S))) (k : ℕ) : Type 0 where
-  pub answer : Answer (ViewOf S)
+pub record IsAskedBefore {S : Type 0} {sets : ViewSet S} (q : Questions (ViewOf S sets)) (place : ℕ) (known : List (Answer (ViewOf S sets))) (k : ℕ) : Type 0 where
+  pub answer : Answer (ViewOf S sets)
   pub there : slice_get known k ≡ Some answer
-  pub same : IsSameQuestion members q answer.spot place
+  pub same : IsSameQuestion q answer.spot place
 
 -- this place of the list has the answer to the question of that place
-abbrev pub IsAnsweredAt : {S : Type 0} → (S → Numbers) → (S → ℕ) → Questions (ViewOf S) → ℕ → List (Answer (ViewOf S)) → ℕ → Type 0
-IsAnsweredAt {S} members room q place known k =
-    (p : Spot) (e : ℕ × ViewOf S) → slice_get q.spots.now place ≡ Some p → slice_get q.outline.now.views.items place ≡ Some e
-    → IsAnswerAt members room q.outline.now.host (refusals_for q) p e.1 known k
+abbrev pub IsAnsweredAt : {S : Type 0} {sets : ViewSet S} → Questions (ViewOf S sets) → ℕ → List (Answer (ViewOf S sets)) → ℕ → Type 0
+IsAnsweredAt {S} q place known k =
+    (p : Spot) (e : ℕ × ViewOf S sets) → slice_get q.spots.now place ≡ Some p → slice_get q.outline.now.views.items place ≡ Some e
+    → IsAnswerAt q.outline.now.host (refusals_for q) p e.1 known k
 
 -- ---- what is found
 
 -- the first line whose view lacks a state that it has to show; an allowed start, where the script begins with one of these lines;
 -- what the others leave
-abbrev pub IsFirstUnsound : {S : Type 0} → (S → Numbers) → Questions (ViewOf S) → Stmts → Option ℕ → Type 0
-IsFirstUnsound members q script = IsFirstLacking (outline_in members q) (IsAsked (scenario_in q) script (outline_in members q))
+abbrev pub IsFirstUnsound : {S : Type 0} {sets : ViewSet S} → Questions (ViewOf S sets) → Stmts → Option ℕ → Type 0
+IsFirstUnsound q script = IsFirstLacking (outline_in q) (IsAsked (scenario_in q) script (outline_in q))
 
-abbrev pub IsFirstUnstarted : {S : Type 0} → (S → Numbers) → Questions (ViewOf S) → List ℕ → Option ℕ → Type 0
-IsFirstUnstarted members q lines first = (script : Stmts) → first_lines script ≡ lines → IsFirstLacking (outline_in members q) (StartsAt (scenario_in q) script) first
+abbrev pub IsFirstUnstarted : {S : Type 0} {sets : ViewSet S} → Questions (ViewOf S sets) → List ℕ → Option ℕ → Type 0
+IsFirstUnstarted q lines first = (script : Stmts) → first_lines script ≡ lines → IsFirstLacking (outline_in q) (StartsAt (scenario_in q) script) first
 
-abbrev pub IsFirstLeft : {S : Type 0} → (S → Numbers) → Questions (ViewOf S) → Option ℕ → Type 0
-IsFirstLeft members q = IsFirstLacking (outline_in members q) (IsLeftAt (scenario_in q) (outline_in members q))
+abbrev pub IsFirstLeft : {S : Type 0} {sets : ViewSet S} → Questions (ViewOf S sets) → Option ℕ → Type 0
+IsFirstLeft q = IsFirstLacking (outline_in q) (IsLeftAt (scenario_in q) (outline_in q))
 
 -- the view keeps to what others do, or it does not
-abbrev pub IsClosedIn : {S : Type 0} → (S → Numbers) → Questions (ViewOf S) → ViewOf S → Type 0
-IsClosedIn members q v = IsClosed (scenario_in q) (view_in members q v)
+abbrev pub IsClosedIn : {S : Type 0} {sets : ViewSet S} → Questions (ViewOf S sets) → ViewOf S sets → Type 0
+IsClosedIn q v = IsClosed (scenario_in q) (view_in q v)
 
-abbrev pub IsClosedToOthersIn : {S : Type 0} → (S → Numbers) → Questions (ViewOf S) → ViewOf S → Type 0
-IsClosedToOthersIn members q v = IsClosedTo v.hosts (scenario_in q) (view_in members q v)
+abbrev pub IsClosedToOthersIn : {S : Type 0} {sets : ViewSet S} → Questions (ViewOf S sets) → ViewOf S sets → Type 0
+IsClosedToOthersIn q v = IsClosedTo v.hosts (scenario_in q) (view_in q v)
 
-abbrev pub IsOpenIn : {S : Type 0} → (S → Numbers) → Questions (ViewOf S) → ViewOf S → Type 0
-IsOpenIn members q v = IsOpen (scenario_in q) (view_in members q v)
+abbrev pub IsOpenIn : {S : Type 0} {sets : ViewSet S} → Questions (ViewOf S sets) → ViewOf S sets → Type 0
+IsOpenIn q v = IsOpen (scenario_in q) (view_in q v)
 
 -- how a send does not fit, if it does not, and the first that does not
-abbrev pub IsMisfitIn : {S : Type 0} → (S → Numbers) → Questions (ViewOf S) → Spot → Option Refusal → Type 0
-IsMisfitIn members q p = IsMisfit (scenario_in q) (outline_in members q) (place_of p)
+abbrev pub IsMisfitIn : {S : Type 0} {sets : ViewSet S} → Questions (ViewOf S sets) → Spot → Option Refusal → Type 0
+IsMisfitIn q p = IsMisfit (scenario_in q) (outline_in q) (place_of p)
 
-abbrev pub IsFirstMisfitIn : {S : Type 0} → (S → Numbers) → Questions (ViewOf S) → Option Refusal → Type 0
-IsFirstMisfitIn members q = IsFirstMisfit (scenario_in q) (outline_in members q) (length q.spots.now) q.spots.now
+abbrev pub IsFirstMisfitIn : {S : Type 0} {sets : ViewSet S} → Questions (ViewOf S sets) → Option Refusal → Type 0
+IsFirstMisfitIn q = IsFirstMisfit (scenario_in q) (outline_in q) (length q.spots.now) q.spots.now
 
 -- the row of a send
-abbrev pub IsRowIn : {S : Type 0} → (S → Numbers) → Questions (ViewOf S) → Spot → Row → Type 0
-IsRowIn members q p r = IsRow (scenario_in q) (outline_in members q) (place_of p) (row_of r)
+abbrev pub IsRowIn : {S : Type 0} {sets : ViewSet S} → Questions (ViewOf S sets) → Spot → Row → Type 0
+IsRowIn q p r = IsRow (scenario_in q) (outline_in q) (place_of p) (row_of r)

@@ -3,8 +3,8 @@ use Rattle.std.specs.Prelude.{◌≡◌, ℕ, ◌<◌, ◌≤◌, true, nat_le, 
 use Rattle.pr_script.specs.Grammar.{script_fits}
 use Rattle.pr_script.specs.Scripts.{Stmts}
 use Rattle.pr_roles.specs.Scenarios.{Scenario}
+use Rattle.pr_sets.specs.declared.view_set.ViewSet.{Ghosts as ViewSet}
 use Rattle.pr_views.specs.declared.view.ViewOf.{ViewOf}
-use Rattle.pr_views.specs.Rooms.{IsMade}
 use Rattle.pr_domain.specs.declared.landing.Landing.{Landing}
 use Rattle.pr_domain.specs.declared.landing.Landing.TheVariants as landing
 use Rattle.pr_domain.specs.declared.landing.Class.{Class}
@@ -22,16 +22,15 @@ use Rattle.pr_verify.specs.inside.Lacking.{HasAll, Lacks}
 use Rattle.pr_verify.specs.inside.Listing.{place_of}
 
 -- the view can be one of this scenario
-pub record IsMadeAs {S : Type 0} (room : S → ℕ) (s : Scenario) (v : ViewOf S) : Type 0 where
-  pub made : IsMade room v
+pub record IsMadeAs {S : Type 0} {sets : ViewSet S} (s : Scenario) (v : ViewOf S sets) : Type 0 where
   pub keys : v.keys.items ≡ s.keys
   pub hosts : v.hosts ≡ length s.nexuses
 
 -- the views can be ones of this scenario, the host is one of its nexuses, and the script can stand in a text with its keys
-pub record CanCheck {S : Type 0} (room : S → ℕ) (s : Scenario) (script : Stmts) (o : OutlineBy (ViewOf S)) : Type 0 where
+pub record CanCheck {S : Type 0} {sets : ViewSet S} (s : Scenario) (script : Stmts) (o : OutlineBy (ViewOf S sets)) : Type 0 where
   pub host : o.host < length s.nexuses
   pub written : script_fits s.keys script ≡ true
-  pub made : IsMadeFor room s o
+  pub made : IsMadeFor s o
 
 -- ---- what the views lack
 
@@ -71,16 +70,16 @@ IsFirstMisfit s o n spots (Some refusal) = HasMisfit s o n spots refusal
 -- ---- classes without an arm
 
 -- one of the first n outcomes lands in no arm, with a reply of this class
-abbrev pub IsUnarmed : {S : Type 0} → ℕ → List (Landing × ViewOf S) → Class → Type 0
+abbrev pub IsUnarmed : {S : Type 0} {sets : ViewSet S} → ℕ → List (Landing × ViewOf S sets) → Class → Type 0
 IsUnarmed n outcomes class = Among n outcomes (λ o. o.0 ≡ landing.NoArm class)
 
-pub record IsFirstClass {S : Type 0} (from n : ℕ) (outcomes : List (Landing × ViewOf S)) (class : Class) : Type 0 where
+pub record IsFirstClass {S : Type 0} {sets : ViewSet S} (from n : ℕ) (outcomes : List (Landing × ViewOf S sets)) (class : Class) : Type 0 where
   pub is : IsUnarmed n outcomes class
   pub late : from ≤ class_number class
   pub first : (other : Class) → IsUnarmed n outcomes other → from ≤ class_number other → class_number class ≤ class_number other
 
 -- of the classes with which one lands in no arm, the first that has this number or a greater one, if there is one
-abbrev pub IsFirstUnarmed : {S : Type 0} → ℕ → ℕ → List (Landing × ViewOf S) → Option Class → Type 0
+abbrev pub IsFirstUnarmed : {S : Type 0} {sets : ViewSet S} → ℕ → ℕ → List (Landing × ViewOf S sets) → Option Class → Type 0
 IsFirstUnarmed from n outcomes None = (class : Class) → IsUnarmed n outcomes class → from ≤ class_number class → ⊥
 IsFirstUnarmed from n outcomes (Some class) = IsFirstClass from n outcomes class
 

@@ -1,7 +1,5 @@
 -- Rows of a table while they are made.
 use Rattle.std.specs.Prelude.{ℕ, ◌<◌}
-use Rattle.pr_sets.specs.Numbers.{Numbers}
-use Rattle.pr_sets.specs.declared.word_set.WordSet.{WordSet}
 use Rattle.pr_roles.specs.Scenarios.{Scenario, task}
 use Rattle.pr_domain.specs.declared.landing.Class.{Class}
 use Rattle.pr_domain.specs.declared.landing.Class.TheVariants.{Good, Conflict, Busy, Full, Sense}
@@ -19,5 +17,5 @@ IsInRange Full = Unit {0}
 IsInRange (Sense sense) = (sense.key < 256) × (sense.asc < 256) × (sense.ascq < 256)
 
 -- the table of a host, if it has a script
-abbrev pub IsTableFor : (WordSet → Numbers) → Scenario → ℕ → Table → Type 0
-IsTableFor members s h t = OnScripted (task s h) (λ script budget. IsTable s script (table_of members t))
+abbrev pub IsTableFor : Scenario → ℕ → Table → Type 0
+IsTableFor s h t = OnScripted (task s h) (λ script budget. IsTable s script (table_of t))

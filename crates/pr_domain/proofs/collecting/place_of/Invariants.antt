@@ -5,4 +5,4 @@ use Rattle.pr_domain.proofs.collecting.place_of.Given as goal
 
 -- no outcome before this one has the landing
 abbrev pub invariant-loop-place : goal.invariant-loop-place
-invariant-loop-place g l = (k : ℕ) (v : ViewOf g.row.S.Denot) → k < l.place → slice_get l.outcomes k ≢ Some (l.landing, v)
+invariant-loop-place g l = (k : ℕ) (v : ViewOf g.row.S.Denot g.S.ViewSet) → k < l.place → slice_get l.outcomes k ≢ Some (l.landing, v)

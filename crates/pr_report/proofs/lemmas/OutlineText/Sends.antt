@@ -10,8 +10,8 @@ use Rattle.std.proofs.Math.ListN.{drop_of_length-le}
 use Rattle.pr_roles.specs.declared.parts.Nexus.{Nexus as NexusPart}
 use Rattle.pr_roles.specs.declared.parts.Parts.{Parts}
 use Rattle.pr_roles.specs.Scenarios.{scenario_of}
-use Rattle.pr_sets.specs.declared.word_set.WordSet.{WordSet}
-use Rattle.pr_sets.specs.Kept.{numbers_of_bits}
+use Rattle.pr_sets.specs.Numbers.{Numbers}
+use Rattle.pr_sets.specs.declared.view_set.ViewSet.{Ghosts as ViewSet}
 use Rattle.pr_views.specs.declared.view.ViewOf.{ViewOf}
 use Rattle.pr_views.specs.Possibilities.{key_at}
 use Rattle.pr_views.specs.Views.{View}
@@ -28,49 +28,48 @@ use Rattle.pr_report.proofs.lemmas.Written.Possibilities.{line_pieces, shown}
 use Rattle.pr_report.proofs.lemmas.TraceText.Lines.{drop_here, names_of_scenario}
 
 -- the line of a send, and what its view is for this host
-abbrev pub line_and_view : ℕ → ℕ × ViewOf WordSet → ℕ × View
-line_and_view host e = (e.0, view_of (λ (s : WordSet). numbers_of_bits s.bits) host e.1)
+abbrev pub line_and_view : {S : Type 0} {sets : ViewSet S} → ℕ → ℕ × ViewOf S sets → ℕ × View
+line_and_view host e = (e.0, view_of host e.1)
 
 -- ---- the line of a host's or guest's registrations
 
-abbrev pub is_member : WordSet → ℕ → Bool
-is_member s n = set.contains (numbers_of_bits s.bits) n
+abbrev pub is_member : {S : Type 0} → (S → Numbers) → S → ℕ → Bool
+is_member members s n = set.contains (members s) n
 
 -- the words of those registrations that are in a set
-abbrev pub key_words : List ℕ → WordSet → List ℕ
-key_words keys s = shown (λ r. free_or_key (key_at keys r)) (is_member s) (range_with_len 0 (length keys + 1))
+abbrev pub key_words : {S : Type 0} → (S → Numbers) → List ℕ → S → List ℕ
+key_words members keys s = shown (λ r. free_or_key (key_at keys r)) (is_member members s) (range_with_len 0 (length keys + 1))
 
-own_set : (sets : List WordSet) (g : ℕ) (s : WordSet) → slice_get sets g ≡ Some s
-    → contains_at (λ (t : WordSet). numbers_of_bits t.bits) sets g ≡ is_member s
-own_set sets g s at = ap (λ o. (λ (n : ℕ). option_map_or (λ (t : WordSet). set.contains (numbers_of_bits t.bits) n) o false)) at
+own_set : {S : Type 0} (members : S → Numbers) (each : List S) (g : ℕ) (s : S) → slice_get each g ≡ Some s → contains_at members each g ≡ is_member members s
+own_set {S = S} members each g s at = ap (λ o. (λ (n : ℕ). option_map_or (λ (t : S). set.contains (members t) n) o false)) at
 
 -- the words of those that the view has
-abbrev pub keys_of : ViewOf WordSet → ℕ → List ℕ
-keys_of v g = shown (λ r. free_or_key (key_at v.keys.items r)) (contains_at (λ (t : WordSet). numbers_of_bits t.bits) v.registrations g) (range_with_len 0 (length v.keys.items + 1))
+abbrev pub keys_of : {S : Type 0} {sets : ViewSet S} → ViewOf S sets → ℕ → List ℕ
+keys_of {sets = sets} v g = shown (λ r. free_or_key (key_at v.keys.items r)) (contains_at sets.members v.registrations g) (range_with_len 0 (length v.keys.items + 1))
 
 -- the pieces in which it goes out
-pub registration_begins : (names : List (List ℕ)) (own : ℕ) (v : ViewOf WordSet) (g : ℕ) (name : List ℕ) → name ≡ name_of names g
-    → registration_line names (view_of (λ (t : WordSet). numbers_of_bits t.bits) own v) g
+pub registration_begins : {S : Type 0} {sets : ViewSet S} (names : List (List ℕ)) (own : ℕ) (v : ViewOf S sets) (g : ℕ) (name : List ℕ) → name ≡ name_of names g
+    → registration_line names (view_of own v) g
     ≡ codes " " ++ (joined_by_spaces (codes "registration" ∷ name ∷ []) ++ (keys_of v g ++ 10 ∷ []))
 unfolding registration_line
-registration_begins names own v g name called =
+registration_begins {sets = sets} names own v g name called =
     line_pieces (codes " ") (codes "registration" ∷ name_of names g ∷ [])
-    (map (λ r. free_or_key (key_at v.keys.items r)) (filter (contains_at (λ (t : WordSet). numbers_of_bits t.bits) v.registrations g) (range_with_len 0 (length v.keys.items + 1))))
+    (map (λ r. free_or_key (key_at v.keys.items r)) (filter (contains_at sets.members v.registrations g) (range_with_len 0 (length v.keys.items + 1))))
     ∙ ap (λ n. codes " " ++ (joined_by_spaces (codes "registration" ∷ n ∷ []) ++ (keys_of v g ++ 10 ∷ []))) (sym called)
 
-pub registration_pieces : (names : List (List ℕ)) (own : ℕ) (v : ViewOf WordSet) (g : ℕ) (s : WordSet) (keys name : List ℕ)
+pub registration_pieces : {S : Type 0} {sets : ViewSet S} (names : List (List ℕ)) (own : ℕ) (v : ViewOf S sets) (g : ℕ) (s : S) (keys name : List ℕ)
     → slice_get v.registrations g ≡ Some s → keys ≡ v.keys.items → name ≡ name_of names g
-    → registration_line names (view_of (λ (t : WordSet). numbers_of_bits t.bits) own v) g
-    ≡ codes " " ++ (joined_by_spaces (codes "registration" ∷ name ∷ []) ++ (key_words keys s ++ 10 ∷ []))
-registration_pieces names own v g s keys name at same called =
+    → registration_line names (view_of own v) g
+    ≡ codes " " ++ (joined_by_spaces (codes "registration" ∷ name ∷ []) ++ (key_words sets.members keys s ++ 10 ∷ []))
+registration_pieces {sets = sets} names own v g s keys name at same called =
     let begun = λ (rest : List ℕ). codes " " ++ (joined_by_spaces (codes "registration" ∷ name ∷ []) ++ (rest ++ 10 ∷ [])) in
     registration_begins names own v g name called
-    ∙ (ap (λ p. begun (shown (λ r. free_or_key (key_at v.keys.items r)) p (range_with_len 0 (length v.keys.items + 1)))) (own_set v.registrations g s at)
-    ∙ ap (λ ks. begun (key_words ks s)) (sym same))
+    ∙ (ap (λ p. begun (shown (λ r. free_or_key (key_at v.keys.items r)) p (range_with_len 0 (length v.keys.items + 1)))) (own_set sets.members v.registrations g s at)
+    ∙ ap (λ ks. begun (key_words sets.members ks s)) (sym same))
 
 -- ---- sends
 
-sends_here : (names : List (List ℕ)) (host : ℕ) (vs : List (ℕ × ViewOf WordSet)) (rs : List KeptRow) (i : ℕ) (v : ℕ × ViewOf WordSet) (r : KeptRow)
+sends_here : {S : Type 0} {sets : ViewSet S} (names : List (List ℕ)) (host : ℕ) (vs : List (ℕ × ViewOf S sets)) (rs : List KeptRow) (i : ℕ) (v : ℕ × ViewOf S sets) (r : KeptRow)
     → i < length vs → v ≡ get_or vs i v → i < length rs → r ≡ get_or rs i r
     → sends_text names (map (line_and_view host) (drop i vs)) (map row_of (drop i rs))
     ≡ send_text names v.0 (line_and_view host v).1 (row_of r) ++ sends_text names (map (line_and_view host) (drop (i + 1) vs)) (map row_of (drop (i + 1) rs))
@@ -79,7 +78,7 @@ sends_here names host vs rs i v r h is k has =
     ∙ ap (λ l. sends_text names (map (line_and_view host) (v ∷ drop (i + 1) vs)) (map row_of l)) (drop_here rs i r k has)
 
 -- each goes to the page behind what is held there
-module _ (names : List (List ℕ)) (host : ℕ) (vs : List (ℕ × ViewOf WordSet)) (rs read : List KeptRow) (i : ℕ) (v : ℕ × ViewOf WordSet) (r : KeptRow)
+module _ {S : Type 0} {sets : ViewSet S} (names : List (List ℕ)) (host : ℕ) (vs : List (ℕ × ViewOf S sets)) (rs read : List KeptRow) (i : ℕ) (v : ℕ × ViewOf S sets) (r : KeptRow)
     (same : read ≡ rs) (each : length rs ≡ length vs) (there : i < length read) (is : v ≡ get_or vs i v) (has : r ≡ get_or read i r) where
   row_there : i < length rs
   row_there = subst (λ l. i < length l) same there
@@ -100,7 +99,7 @@ no_sends : (names : List (List ℕ)) (views : List (ℕ × View)) → sends_text
 no_sends names [] = refl
 no_sends names (view ∷ views) = refl
 
-pub sends_end : (old new : Option (List ℕ)) (text held : List ℕ) (names : List (List ℕ)) (host : ℕ) (vs : List (ℕ × ViewOf WordSet)) (rs : List KeptRow) (i : ℕ) → length rs ≤ i
+pub sends_end : {S : Type 0} {sets : ViewSet S} (old new : Option (List ℕ)) (text held : List ℕ) (names : List (List ℕ)) (host : ℕ) (vs : List (ℕ × ViewOf S sets)) (rs : List KeptRow) (i : ℕ) → length rs ≤ i
     → Wrote old new text (held ++ sends_text names (map (line_and_view host) (drop i vs)) (map row_of (drop i rs))) → Wrote old new text held
 sends_end old new text held names host vs rs i h w =
     subst (λ l. Wrote old new text l)

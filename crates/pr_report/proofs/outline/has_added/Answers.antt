@@ -1,6 +1,4 @@
 use Rattle.std.proofs.Common.{ℕ}
-use Rattle.pr_sets.specs.declared.word_set.WordSet.{WordSet}
-use Rattle.pr_sets.specs.Kept.{numbers_of_bits}
 use Rattle.pr_views.specs.Rooms.{view_of}
 use Rattle.pr_verify.specs.Rooms.{row_of}
 use Rattle.pr_report.specs.TraceText.{names_of}
@@ -13,5 +11,5 @@ returns-then-not-is_added-clause-full c = page_kept _ _ _ _ _ _ _ (c.put_send.en
 
 pub returns-else-not-is_added-clause-added : goal.returns-else-not-is_added-clause-added
 returns-else-not-is_added-clause-added c =
-    let text = λ (own : ℕ). send_text (names_of c.args.nexuses.now) c.args.line (view_of (λ (s : WordSet). numbers_of_bits s.bits) own c.args.view.now) (row_of c.args.row.now) in
+    let text = λ (own : ℕ). send_text (names_of c.args.nexuses.now) c.args.line (view_of own c.args.view.now) (row_of c.args.row.now) in
     page_grown _ _ text _ _ c.put_send.ensures c.is_ok-is_added.ensures.value

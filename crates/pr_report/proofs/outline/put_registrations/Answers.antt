@@ -1,5 +1,3 @@
-use Rattle.pr_sets.specs.declared.word_set.WordSet.{WordSet}
-use Rattle.pr_sets.specs.Kept.{numbers_of_bits}
 use Rattle.pr_views.specs.Rooms.{view_of}
 use Rattle.pr_report.specs.TraceText.{names_of}
 use Rattle.pr_report.specs.OutlineText.{registration_line}
@@ -9,17 +7,17 @@ use Rattle.pr_report.proofs.outline.put_registrations.Goals as goal
 
 pub returns-in_err-put_registration_line : goal.returns-in_err-put_registration_line
 returns-in_err-put_registration_line g c = λ own.
-    let each = registration_line (names_of c.args.nexuses.now) (view_of (λ (s : WordSet). numbers_of_bits s.bits) own c.args.view.now) in
+    let each = registration_line (names_of c.args.nexuses.now) (view_of own c.args.view.now) in
     puts_err _ _ _ _ (each_front _ _ _ _ each c.loop-host.host _ _ (range_here c.loop-host.host c.args.view.now.hosts c.loop-host-test.true)
     (c.loop-host.invariant own) (c.in_err-put_registration_line.ensures own)) c.from_residual.ensures.0
 
 pub loop-host-preserved : goal.loop-host-preserved
 loop-host-preserved g c = λ own.
-    let each = registration_line (names_of c.args.nexuses.now) (view_of (λ (s : WordSet). numbers_of_bits s.bits) own c.args.view.now) in
+    let each = registration_line (names_of c.args.nexuses.now) (view_of own c.args.view.now) in
     each_more _ _ _ _ each c.loop-host.host _ _ (range_here c.loop-host.host c.args.view.now.hosts c.loop-host-test.true)
     (c.loop-host.invariant own) (c.in_ok-put_registration_line.ensures own)
 
 pub returns : goal.returns
 returns g c = λ own.
-    let each = registration_line (names_of c.args.nexuses.now) (view_of (λ (s : WordSet). numbers_of_bits s.bits) own c.args.view.now) in
+    let each = registration_line (names_of c.args.nexuses.now) (view_of own c.args.view.now) in
     each_end _ _ _ each _ (range_end c.loop-host.host c.args.view.now.hosts c.loop-host-test.false) (c.loop-host.invariant own)

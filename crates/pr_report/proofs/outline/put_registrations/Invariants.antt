@@ -1,7 +1,5 @@
 use Rattle.std.proofs.Common.{ℕ, ◌-◌}
 use Rattle.std.specs.List.{flat_map, range_with_len}
-use Rattle.pr_sets.specs.declared.word_set.WordSet.{WordSet}
-use Rattle.pr_sets.specs.Kept.{numbers_of_bits}
 use Rattle.pr_views.specs.Rooms.{view_of}
 use Rattle.pr_report.specs.Written.{Wrote}
 use Rattle.pr_report.specs.TraceText.{names_of}
@@ -11,6 +9,6 @@ use Rattle.pr_report.proofs.outline.put_registrations.Given as goal
 abbrev pub invariant-loop-host : goal.invariant-loop-host
 invariant-loop-host g l =
     (own : ℕ)
-    → let each = registration_line (names_of l.nexuses) (view_of (λ (s : WordSet). numbers_of_bits s.bits) own l.view) in
+    → let each = registration_line (names_of l.nexuses) (view_of own l.view) in
     Wrote (g.W.Write.contents l.fn.writer) (g.W.Write.contents l.writer)
     (flat_map each (range_with_len 0 l.view.hosts)) (flat_map each (range_with_len l.host (l.view.hosts - l.host)))

@@ -1,6 +1,4 @@
 use Rattle.std.proofs.Common.{[], ◌∷◌, codes, map}
-use Rattle.pr_sets.specs.declared.word_set.WordSet.{WordSet}
-use Rattle.pr_sets.specs.Kept.{numbers_of_bits}
 use Rattle.pr_views.specs.Rooms.{view_of}
 use Rattle.pr_report.specs.Printed.{printed_word}
 use Rattle.pr_report.specs.TraceText.{held_word, names_of}
@@ -12,14 +10,14 @@ use Rattle.pr_report.proofs.outline.put_reservation_line.Goals as goal
 pub returns-in_err-begin_item : goal.returns-in_err-begin_item
 unfolding printed_word reservation_line
 returns-in_err-begin_item g c = λ own.
-    let view = view_of (λ (s : WordSet). numbers_of_bits s.bits) own c.args.view.now in
+    let view = view_of own c.args.view.now in
     let words = map (held_word (names_of c.args.nexuses.now)) (possible_of view (reservations view.scope.hosts)) in
     puts_as _ _ _ _ _ (line_pieces (codes " ") (codes "reservation" ∷ []) words) (puts_err _ _ _ _ (front_first _ _ _ _ c.in_err-begin_item.ensures) c.from_residual.ensures.0)
 
 pub returns-in_err-put_reservations : goal.returns-in_err-put_reservations
 unfolding printed_word reservation_line
 returns-in_err-put_reservations g c = λ own.
-    let view = view_of (λ (s : WordSet). numbers_of_bits s.bits) own c.args.view.now in
+    let view = view_of own c.args.view.now in
     let words = map (held_word (names_of c.args.nexuses.now)) (possible_of view (reservations view.scope.hosts)) in
     let f = front_first _ _ _ _ (c.in_err-put_reservations.ensures own) in
     puts_as _ _ _ _ _ (line_pieces (codes " ") (codes "reservation" ∷ []) words)
@@ -28,7 +26,7 @@ returns-in_err-put_reservations g c = λ own.
 pub returns : goal.returns
 unfolding printed_word reservation_line
 returns g c = λ own.
-    let view = view_of (λ (s : WordSet). numbers_of_bits s.bits) own c.args.view.now in
+    let view = view_of own c.args.view.now in
     let words = map (held_word (names_of c.args.nexuses.now)) (possible_of view (reservations view.scope.hosts)) in
     puts_as _ _ _ _ _ (line_pieces (codes " ") (codes "reservation" ∷ []) words)
     (puts_last _ _ _ _ _ _ c.in_ok-begin_item.ensures (puts_last _ _ _ _ _ _ (c.in_ok-put_reservations.ensures own) c.put.ensures))

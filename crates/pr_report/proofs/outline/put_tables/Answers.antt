@@ -1,6 +1,4 @@
 use Rattle.std.proofs.Common.{map, ap}
-use Rattle.pr_sets.specs.declared.word_set.WordSet.{WordSet}
-use Rattle.pr_sets.specs.Kept.{numbers_of_bits}
 use Rattle.pr_verify.specs.Rooms.{table_of}
 use Rattle.pr_report.specs.TraceText.{names_of}
 use Rattle.pr_report.specs.OutlineText.{table_text}
@@ -11,12 +9,10 @@ use Rattle.pr_report.proofs.outline.put_tables.Goals as goal
 
 pub returns-in_err-put_table : goal.returns-in_err-put_table
 returns-in_err-put_table g c =
-    let table = table_of (λ (s : WordSet). numbers_of_bits s.bits) in
-    let here = ap (λ ts. map table ts) (drop_here c.args.tables.now c.loop-table.table-index c.table-item.result c.loop-table-test.true c.table-item.is) in
-    puts_err _ _ _ _ (each_front _ _ _ _ (table_text (names_of c.args.nexuses.now)) (table c.table-item.result) _ _ here c.loop-table.invariant c.in_err-put_table.ensures) c.from_residual.ensures.0
+    let here = ap (λ ts. map table_of ts) (drop_here c.args.tables.now c.loop-table.table-index c.table-item.result c.loop-table-test.true c.table-item.is) in
+    puts_err _ _ _ _ (each_front _ _ _ _ (table_text (names_of c.args.nexuses.now)) (table_of c.table-item.result) _ _ here c.loop-table.invariant c.in_err-put_table.ensures) c.from_residual.ensures.0
 
 pub loop-table-preserved : goal.loop-table-preserved
 loop-table-preserved g c =
-    let table = table_of (λ (s : WordSet). numbers_of_bits s.bits) in
-    let here = ap (λ ts. map table ts) (drop_here c.args.tables.now c.loop-table.table-index c.table-item.result c.loop-table-test.true c.table-item.is) in
-    each_more _ _ _ _ (table_text (names_of c.args.nexuses.now)) (table c.table-item.result) _ _ here c.loop-table.invariant c.in_ok-put_table.ensures
+    let here = ap (λ ts. map table_of ts) (drop_here c.args.tables.now c.loop-table.table-index c.table-item.result c.loop-table-test.true c.table-item.is) in
+    each_more _ _ _ _ (table_text (names_of c.args.nexuses.now)) (table_of c.table-item.result) _ _ here c.loop-table.invariant c.in_ok-put_table.ensures

@@ -18,18 +18,18 @@ invariant_of-questions-clause-written g c =
 
 pub invariant_of-questions-clause-listed : goal.invariant_of-questions-clause-listed
 invariant_of-questions-clause-listed g c =
-    subst (λ (xs : List Spot). map (λ (e : ℕ × ViewOf g.row.S.Denot). e.0) c.args.outline.now.views.items ≡ map (λ x. x.line) xs) (sym c.deref.ensures.value)
-    (lines_listed g.S.ViewSet.members c.args.outline.now (script_of c.args.script.now) c.in_ok-spots.spots.items c.in_ok-spots.ensures.places c.requires.sound.listed)
+    subst (λ (xs : List Spot). map (λ (e : ℕ × ViewOf g.row.S.Denot g.S.ViewSet). e.0) c.args.outline.now.views.items ≡ map (λ x. x.line) xs) (sym c.deref.ensures.value)
+    (lines_listed c.args.outline.now (script_of c.args.script.now) c.in_ok-spots.spots.items c.in_ok-spots.ensures.places c.requires.sound.listed)
 
 pub invariant_of-questions-clause-rise : goal.invariant_of-questions-clause-rise
 invariant_of-questions-clause-rise g c =
-    ap (rise_above 0) (lines_listed g.S.ViewSet.members c.args.outline.now (script_of c.args.script.now) c.in_ok-spots.spots.items c.in_ok-spots.ensures.places c.requires.sound.listed)
+    ap (rise_above 0) (lines_listed c.args.outline.now (script_of c.args.script.now) c.in_ok-spots.spots.items c.in_ok-spots.ensures.places c.requires.sound.listed)
     ∙ spots_rise (script_of c.args.script.now) c.in_ok-spots.spots.items c.in_ok-spots.ensures.places (scenario_of c.args.scenario.now).keys c.requires.able.written
 
 pub returns-in-None-clause-fitting : goal.returns-in-None-clause-fitting
 returns-in-None-clause-fitting g c budget cost =
     let s = scenario_of c.args.scenario.now in
-    let o = outline_of g.S.ViewSet.members c.args.outline.now in
+    let o = outline_of c.args.outline.now in
     let spots = c.in_ok-spots.spots.items in
     let found = subst (λ xs. IsFirstMisfit s o (length xs) xs c.in_ok-first_misfit.field-0) c.deref.ensures.value c.in_ok-first_misfit.ensures in
     is_fitting s (script_of c.args.script.now) o spots c.in_ok-spots.ensures.places budget cost (subst (IsFirstMisfit s o (length spots) spots) c.in-None.is found)
@@ -38,7 +38,7 @@ pub returns-clause-refusal : goal.returns-clause-refusal
 returns-clause-refusal g c budget cost =
     let s = scenario_of c.args.scenario.now in
     let script = script_of c.args.script.now in
-    let o = outline_of g.S.ViewSet.members c.args.outline.now in
+    let o = outline_of c.args.outline.now in
     let spots = c.in_ok-spots.spots.items in
     let places = c.in_ok-spots.ensures.places in
     let found = subst (λ xs. IsFirstMisfit s o (length xs) xs c.in_ok-first_misfit.field-0) c.deref.ensures.value c.in_ok-first_misfit.ensures in

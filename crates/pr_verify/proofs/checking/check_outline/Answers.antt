@@ -45,7 +45,7 @@ unreachable-requires g c =
 pub returns-clause-sound : goal.returns-clause-sound
 returns-clause-sound g c =
     let s = scenario_of c.args.scenario.now in
-    let o = outline_of g.S.ViewSet.members c.args.outline.now in
+    let o = outline_of c.args.outline.now in
     let host = c.args.outline.now.host in
     let is = scripted_task s host c.nexus_in.result.now c.nexus_in.ensures.nexus c.in-Scripted.script c.in-Scripted.budget c.in-Scripted.is in
     let sound = on_script (task s host) (script_of c.in-Scripted.script) c.in-Scripted.budget (λ script budget. IsSound s script o) is c.in_ok-check_sound-in-Scripted.ensures.sound in
@@ -55,7 +55,7 @@ returns-clause-sound g c =
 pub returns-clause-fitting : goal.returns-clause-fitting
 returns-clause-fitting g c =
     let s = scenario_of c.args.scenario.now in
-    let o = outline_of g.S.ViewSet.members c.args.outline.now in
+    let o = outline_of c.args.outline.now in
     let host = c.args.outline.now.host in
     let is = scripted_task s host c.nexus_in.result.now c.nexus_in.ensures.nexus c.in-Scripted.script c.in-Scripted.budget c.in-Scripted.is in
     IfOk-weaker c.check_fit.result (λ _. (budget : ℕ) → cost_of_all (script_of c.in-Scripted.script) ≤ budget → IsFitting s (script_of c.in-Scripted.script) budget o)
@@ -65,7 +65,7 @@ returns-clause-fitting g c =
 pub returns-clause-refusal : goal.returns-clause-refusal
 returns-clause-refusal g c =
     let s = scenario_of c.args.scenario.now in
-    let o = outline_of g.S.ViewSet.members c.args.outline.now in
+    let o = outline_of c.args.outline.now in
     let host = c.args.outline.now.host in
     let is = scripted_task s host c.nexus_in.result.now c.nexus_in.ensures.nexus c.in-Scripted.script c.in-Scripted.budget c.in-Scripted.is in
     IfErr-weaker c.check_fit.result (λ refusal. (budget : ℕ) → cost_of_all (script_of c.in-Scripted.script) ≤ budget → IsRefusal s (script_of c.in-Scripted.script) budget o refusal)
@@ -75,7 +75,7 @@ returns-clause-refusal g c =
 pub returns-in_err-check_cost-in-Scripted-clause-refusal : goal.returns-in_err-check_cost-in-Scripted-clause-refusal
 returns-in_err-check_cost-in-Scripted-clause-refusal g c =
     let s = scenario_of c.args.scenario.now in
-    let o = outline_of g.S.ViewSet.members c.args.outline.now in
+    let o = outline_of c.args.outline.now in
     let host = c.args.outline.now.host in
     let is = scripted_task s host c.nexus_in.result.now c.nexus_in.ensures.nexus c.in-Scripted.script c.in-Scripted.budget c.in-Scripted.is in
     let Q = λ (refusal : Refusal). OnScripted (task s host) (λ script budget. IsRefusal s script budget o refusal) in
@@ -87,7 +87,7 @@ returns-in_err-check_cost-in-Scripted-clause-refusal g c =
 pub returns-in_err-check_sound-in-Scripted-clause-refusal : goal.returns-in_err-check_sound-in-Scripted-clause-refusal
 returns-in_err-check_sound-in-Scripted-clause-refusal g c =
     let s = scenario_of c.args.scenario.now in
-    let o = outline_of g.S.ViewSet.members c.args.outline.now in
+    let o = outline_of c.args.outline.now in
     let host = c.args.outline.now.host in
     let budget = c.in-Scripted.budget in
     let is = scripted_task s host c.nexus_in.result.now c.nexus_in.ensures.nexus c.in-Scripted.script budget c.in-Scripted.is in

@@ -20,7 +20,7 @@ returns-in-Some-clause-refusal g c budget cost =
     let views = c.args.outline.now.views.items in
     let spots = c.in_ok-spots.spots.items in
     let is = differing_read c.deref.result.now views c.deref-2.result.now spots (Some c.in-Some.line) c.deref.ensures.value c.deref-2.ensures.value c.in-Some.ensures in
-    (refl, cost, inl (differs_at (script_of c.args.script.now) spots c.in_ok-spots.ensures.places (view_of g.S.ViewSet.members host) views host c.in-Some.line is))
+    (refl, cost, inl (differs_at (script_of c.args.script.now) spots c.in_ok-spots.ensures.places (view_of host) views host c.in-Some.line is))
 
 pub invariant_of-questions-clause-written : goal.invariant_of-questions-clause-written
 invariant_of-questions-clause-written g c =
@@ -29,7 +29,7 @@ invariant_of-questions-clause-written g c =
 
 pub invariant_of-questions-clause-listed : goal.invariant_of-questions-clause-listed
 invariant_of-questions-clause-listed g c =
-    subst (λ (xs : List Spot). map (λ (e : ℕ × ViewOf g.row.S.Denot). e.0) c.args.outline.now.views.items ≡ map (λ x. x.line) xs) (sym c.deref-3.ensures.value)
+    subst (λ (xs : List Spot). map (λ (e : ℕ × ViewOf g.row.S.Denot g.S.ViewSet). e.0) c.args.outline.now.views.items ≡ map (λ x. x.line) xs) (sym c.deref-3.ensures.value)
     (same_lines c.deref.result.now c.args.outline.now.views.items c.deref-2.result.now c.in_ok-spots.spots.items c.first_difference.result c.deref.ensures.value c.deref-2.ensures.value c.first_difference.ensures c.in_default.is)
 
 pub invariant_of-questions-clause-rise : goal.invariant_of-questions-clause-rise
@@ -45,24 +45,24 @@ pub returns-in-None-clause-sound : goal.returns-in-None-clause-sound
 returns-in-None-clause-sound g c =
     let s = scenario_of c.args.scenario.now in
     let script = script_of c.args.script.now in
-    let o = outline_of g.S.ViewSet.members c.args.outline.now in
+    let o = outline_of c.args.outline.now in
     let host = c.args.outline.now.host in
     let views = c.args.outline.now.views.items in
     let spots = c.in_ok-spots.spots.items in
     let places = c.in_ok-spots.ensures.places in
     let same = same_lines c.deref.result.now views c.deref-2.result.now spots c.first_difference.result c.deref.ensures.value c.deref-2.ensures.value c.first_difference.ensures c.in_default.is in
     let found = subst (IsFirstLacking o (IsAsked s script o)) c.in-None.is c.in_ok-first_unsound.ensures in
-    is_sound s script o spots places (is_listed script spots places (view_of g.S.ViewSet.members host) views host same) (scoped g.S.ViewSet.members g.S.ViewSet.room s c.args.outline.now c.requires.able.made) found
+    is_sound s script o spots places (is_listed script spots places (view_of host) views host same) (scoped s c.args.outline.now c.requires.able.made) found
 
 pub returns-clause-refusal : goal.returns-clause-refusal
 returns-clause-refusal g c budget cost =
     let s = scenario_of c.args.scenario.now in
     let script = script_of c.args.script.now in
-    let o = outline_of g.S.ViewSet.members c.args.outline.now in
+    let o = outline_of c.args.outline.now in
     let host = c.args.outline.now.host in
     let views = c.args.outline.now.views.items in
     let spots = c.in_ok-spots.spots.items in
     let places = c.in_ok-spots.ensures.places in
     let same = same_lines c.deref.result.now views c.deref-2.result.now spots c.first_difference.result c.deref.ensures.value c.deref-2.ensures.value c.first_difference.ensures c.in_default.is in
-    let listed = is_listed script spots places (view_of g.S.ViewSet.members host) views host same in
+    let listed = is_listed script spots places (view_of host) views host same in
     (refl, cost, inr (lacks_first s script o spots places c.in-Some-2.line listed (subst (IsFirstLacking o (IsAsked s script o)) c.in-Some-2.is c.in_ok-first_unsound.ensures)))

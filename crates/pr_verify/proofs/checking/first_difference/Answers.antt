@@ -6,17 +6,17 @@ use Rattle.pr_verify.proofs.lemmas.Refusals.Differences.{agree_none, agree_more,
 use Rattle.pr_verify.proofs.checking.first_difference.Goals as goal
 
 pub loop-i-init : goal.loop-i-init
-loop-i-init g c = record { agree = agree_none (λ (e : ℕ × ViewOf g.row.S.Denot). e.0) (λ (p : Spot). p.line) c.args.views.now c.args.spots.now; within = omega arith }
+loop-i-init g c = record { agree = agree_none (λ (e : ℕ × ViewOf g.row.S.Denot g.S.ViewSet). e.0) (λ (p : Spot). p.line) c.args.views.now c.args.spots.now; within = omega arith }
 
 pub returns-then-i-spots : goal.returns-then-i-spots
 returns-then-i-spots g c =
-    ap (λ (e : ℕ × ViewOf g.row.S.Denot). Some e.0) c.index-views-i.is
-    ∙ sym (first_longer (λ (e : ℕ × ViewOf g.row.S.Denot). e.0) (λ (p : Spot). p.line) c.loop-i.i c.args.views.now c.args.spots.now c.index-views-i.result c.loop-i-test.true c.if-i-spots.true c.loop-i.invariant.agree
+    ap (λ (e : ℕ × ViewOf g.row.S.Denot g.S.ViewSet). Some e.0) c.index-views-i.is
+    ∙ sym (first_longer (λ (e : ℕ × ViewOf g.row.S.Denot g.S.ViewSet). e.0) (λ (p : Spot). p.line) c.loop-i.i c.args.views.now c.args.spots.now c.index-views-i.result c.loop-i-test.true c.if-i-spots.true c.loop-i.invariant.agree
     c.loop-i.invariant.within)
 
 pub returns-then-entry-spots : goal.returns-then-entry-spots
 returns-then-entry-spots g c =
-    let f = λ (e : ℕ × ViewOf g.row.S.Denot). e.0 in
+    let f = λ (e : ℕ × ViewOf g.row.S.Denot g.S.ViewSet). e.0 in
     let p = λ (p : Spot). p.line in
     let n = c.loop-i.i in
     let x = c.index-views-i.result in
@@ -26,17 +26,17 @@ returns-then-entry-spots g c =
 
 pub loop-i-preserved : goal.loop-i-preserved
 loop-i-preserved g c = record {
-  agree = agree_more (λ (e : ℕ × ViewOf g.row.S.Denot). e.0) (λ (p : Spot). p.line) c.loop-i.i c.args.views.now c.args.spots.now c.index-views-i.result c.index-spots-i.result c.loop-i-test.true c.if-i-spots.false
+  agree = agree_more (λ (e : ℕ × ViewOf g.row.S.Denot g.S.ViewSet). e.0) (λ (p : Spot). p.line) c.loop-i.i c.args.views.now c.args.spots.now c.index-views-i.result c.index-spots-i.result c.loop-i-test.true c.if-i-spots.false
       c.index-views-i.is c.index-spots-i.is (c.if-entry-spots.false ∙ ap (λ (p : Spot). p.line) (sym c.index-spots-i.is)) c.loop-i.invariant.agree;
   within = omega arith;
 }
 
 pub returns-then-views-spots : goal.returns-then-views-spots
 returns-then-views-spots g c =
-    sym (second_longer (λ (e : ℕ × ViewOf g.row.S.Denot). e.0) (λ (p : Spot). p.line) (length c.args.views.now) c.args.views.now c.args.spots.now c.index-spots-views.result refl c.if-views-spots.true
+    sym (second_longer (λ (e : ℕ × ViewOf g.row.S.Denot g.S.ViewSet). e.0) (λ (p : Spot). p.line) (length c.args.views.now) c.args.views.now c.args.spots.now c.index-spots-views.result refl c.if-views-spots.true
     (λ k d e small. c.loop-i.invariant.agree k d e (omega arith)))
 
 pub returns : goal.returns
 returns g c =
-    sym (as_long (λ (e : ℕ × ViewOf g.row.S.Denot). e.0) (λ (p : Spot). p.line) (length c.args.views.now) c.args.views.now c.args.spots.now refl (let e = c.loop-i.invariant.within in omega arith)
+    sym (as_long (λ (e : ℕ × ViewOf g.row.S.Denot g.S.ViewSet). e.0) (λ (p : Spot). p.line) (length c.args.views.now) c.args.views.now c.args.spots.now refl (let e = c.loop-i.invariant.within in omega arith)
     (λ k d e small. c.loop-i.invariant.agree k d e (omega arith)))

@@ -6,6 +6,6 @@ use Rattle.pr_verify.proofs.checking.first_difference.Given as goal
 
 abbrev pub invariant-loop-i : goal.invariant-loop-i
 invariant-loop-i g l = record {
-  agree : Agree (λ (e : ℕ × ViewOf g.row.S.Denot). e.0) (λ (p : Spot). p.line) l.i l.views l.spots;
+  agree : Agree (λ (e : ℕ × ViewOf g.row.S.Denot g.S.ViewSet). e.0) (λ (p : Spot). p.line) l.i l.views l.spots;
   within : l.i ≤ length l.spots;
 }

@@ -9,16 +9,14 @@ use Rattle.pr_verify.proofs.lacking.first_lacking.Goals as goal
 
 pub loop-line-init : goal.loop-line-init
 loop-line-init g c =
-    let members = g.S.ViewSet.members in
-    let o = outline_of members c.args.outline.now in
-    let w = view_of members c.args.outline.now.host c.args.known.now in
+    let o = outline_of c.args.outline.now in
+    let w = view_of c.args.outline.now.host c.args.known.now in
     least_none (HasAt o w c.args.lines.now) (LacksAt o w c.args.lines.now) c.args.lines.now
 
 pub loop-line-preserved : goal.loop-line-preserved
 loop-line-preserved g c =
-    let members = g.S.ViewSet.members in
-    let o = outline_of members c.args.outline.now in
-    let v = view_of members c.args.outline.now.host c.args.known.now in
+    let o = outline_of c.args.outline.now in
+    let v = view_of c.args.outline.now.host c.args.known.now in
     let n = c.loop-line.line-index in
     elim c.if-not-has_within.branch [
       | then-not-has_within w ↦ subst (IsLeastAmong (n + 1) c.args.lines.now (HasAt o v c.args.lines.now) (LacksAt o v c.args.lines.now)) (sym w.least-first.ensures ∙ sym w.first-is)
@@ -29,6 +27,5 @@ loop-line-preserved g c =
 
 pub returns : goal.returns
 returns g c =
-    let members = g.S.ViewSet.members in
     let whole : c.loop-line.line-index ≡ length c.args.lines.now = omega arith in
-    missing_all (outline_of members c.args.outline.now) (view_of members c.args.outline.now.host c.args.known.now) c.args.lines.now c.loop-line.line-index c.loop-line.first whole c.loop-line.invariant
+    missing_all (outline_of c.args.outline.now) (view_of c.args.outline.now.host c.args.known.now) c.args.lines.now c.loop-line.line-index c.loop-line.first whole c.loop-line.invariant

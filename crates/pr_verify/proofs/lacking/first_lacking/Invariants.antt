@@ -6,6 +6,6 @@ use Rattle.pr_verify.proofs.lacking.first_lacking.Given as goal
 
 abbrev pub invariant-loop-line : goal.invariant-loop-line
 invariant-loop-line g l =
-    let o = outline_of g.S.ViewSet.members l.outline in
-    let w = view_of g.S.ViewSet.members l.outline.host l.known in
+    let o = outline_of l.outline in
+    let w = view_of l.outline.host l.known in
     IsLeastAmong l.line-index l.lines (HasAt o w l.lines) (LacksAt o w l.lines) l.first

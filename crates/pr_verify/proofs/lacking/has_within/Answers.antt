@@ -1,9 +1,9 @@
 use Rattle.std.proofs.Common.{rules}
-use Rattle.pr_views.specs.Rooms.{IsMade, AreAlike}
+use Rattle.pr_views.specs.Rooms.{AreAlike}
 use Rattle.pr_verify.proofs.lemmas.LeastOutlines.MissingViews.{of_entry}
 use Rattle.pr_verify.proofs.lacking.has_within.Goals as goal
 
 pub within-requires : goal.within-requires
 within-requires g c =
-    let known = of_entry (λ v. IsMade g.S.ViewSet.room v × AreAlike c.args.known.now v) c.args.outline.now.views.items c.in-Some.view.now c.requires.alike c.in-Some.ensures.listed in
-    (search rules, (c.requires.made, known))
+    let known = of_entry (λ v. AreAlike c.args.known.now v) c.args.outline.now.views.items c.in-Some.view.now c.requires c.in-Some.ensures.listed in
+    (search rules, known)

@@ -9,16 +9,15 @@ use Rattle.pr_verify.proofs.lacking.lacking_at_start.Goals as goal
 pub first_lacking-requires : goal.first_lacking-requires
 first_lacking-requires g c =
     let start = c.in_ok-start in
-    (search rules, record { made = start.ensures.made; alike = alike g.S.ViewSet.members g.S.ViewSet.room (scenario_of c.args.asked.now.scenario.now) c.args.asked.now.outline.now start.start c.requires.made start.ensures.keys start.ensures.hosts })
+    (search rules, alike (scenario_of c.args.asked.now.scenario.now) c.args.asked.now.outline.now start.start c.requires.made start.ensures.keys start.ensures.hosts)
 
 pub returns : goal.returns
 returns g c script same =
     let start = c.in_ok-start in
-    let members = g.S.ViewSet.members in
     let s = scenario_of c.args.asked.now.scenario.now in
-    let o = outline_of members c.args.asked.now.outline.now in
+    let o = outline_of c.args.asked.now.outline.now in
     let own = c.args.asked.now.outline.now.host in
     let scope = scope_same s own start.start start.ensures.keys start.ensures.hosts in
-    lacks_start s script o (view_of members own start.start) c.args.lines.now c.first_lacking.result start.ensures.start
-    (fits members g.S.ViewSet.room g.met.S.ViewSet.below start.start own start.ensures.made (subst (λ n. own < n) (sym start.ensures.hosts) c.args.asked.now.declared)) c.requires.starts
-    (subst (AreScoped o) (sym scope) (scoped members g.S.ViewSet.room s c.args.asked.now.outline.now c.requires.made)) same c.first_lacking.ensures
+    lacks_start s script o (view_of own start.start) c.args.lines.now c.first_lacking.result start.ensures.start
+    (fits g.met.S.ViewSet.below start.start own (subst (λ n. own < n) (sym start.ensures.hosts) c.args.asked.now.declared)) c.requires.starts
+    (subst (AreScoped o) (sym scope) (scoped s c.args.asked.now.outline.now c.requires.made)) same c.first_lacking.ensures

@@ -9,7 +9,7 @@ loop-at-init g c k d small = absurd (omega arith)
 
 pub returns-then-at-line-clause-value : goal.returns-then-at-line-clause-value
 returns-then-at-line-clause-value g c =
-    let f = view_of g.S.ViewSet.members c.args.outline.now.host in
+    let f = view_of c.args.outline.now.host in
     let xs = c.deref-at-items.result.now in
     let x = c.loop-at-item.result in
     ap (λ es. view_at (entries f es) c.args.line) (sym c.deref-at-items.ensures.value)
@@ -18,11 +18,11 @@ returns-then-at-line-clause-value g c =
 
 pub loop-at-preserved : goal.loop-at-preserved
 loop-at-preserved g c =
-    other_more (view_of g.S.ViewSet.members c.args.outline.now.host) c.deref-at-items.result.now c.args.line c.loop-at.at-index c.loop-at-item.result c.loop-at-test.true c.loop-at-item.is c.if-at-line.false
+    other_more (view_of c.args.outline.now.host) c.deref-at-items.result.now c.args.line c.loop-at.at-index c.loop-at-item.result c.loop-at-test.true c.loop-at-item.is c.if-at-line.false
     c.loop-at.invariant
 
 pub returns-clause-value : goal.returns-clause-value
 returns-clause-value g c =
-    let f = view_of g.S.ViewSet.members c.args.outline.now.host in
+    let f = view_of c.args.outline.now.host in
     ap (λ es. view_at (entries f es) c.args.line) (sym c.deref-at-items.ensures.value)
     ∙ view_at_none f c.deref-at-items.result.now c.args.line c.loop-at.at-index c.loop-at-test.false c.loop-at.invariant

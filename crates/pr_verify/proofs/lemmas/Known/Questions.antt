@@ -5,9 +5,9 @@ use Rattle.std.proofs.lemmas.Option.{same_Some, slice_get_within, slice_get_read
 use Rattle.pr_cdb.specs.declared.command.Command.{Command}
 use Rattle.pr_script.specs.declared.script.Test.{Test}
 use Rattle.pr_roles.specs.declared.how.Refusals.{Refusals}
-use Rattle.pr_sets.specs.Numbers.{Numbers}
+use Rattle.pr_sets.specs.declared.view_set.ViewSet.{Ghosts as ViewSet}
 use Rattle.pr_views.specs.declared.view.ViewOf.{ViewOf}
-use Rattle.pr_views.specs.Rooms.{view_of, scope_of, IsMade, AreAlike}
+use Rattle.pr_views.specs.Rooms.{view_of, scope_of, AreAlike}
 use Rattle.pr_domain.specs.declared.landing.Landing.{Landing}
 use Rattle.pr_domain.specs.Outcomes.{AreOutcomes}
 use Rattle.pr_domain.proofs.lemmas.Reporting.FoundWords.{same_outcomes}
@@ -26,84 +26,84 @@ use Rattle.pr_verify.proofs.lemmas.Inferring.Sketches.{item_is}
 -- ---- views
 
 -- what comes of one view comes of an equal one, where the same is sent
-comes_to_equal : {S : Type 0} (members : S → Numbers) (own : ℕ) (d : Refusals) (v w : ViewOf S) (p q : Spot) (outcomes : List (Landing × ViewOf S)) → v.keys.items ≡ w.keys.items → v.hosts ≡ w.hosts
-    → AreEqual members v w → AskTheSame p q → ComesTo members own d v p outcomes → ComesTo members own d w q outcomes
-comes_to_equal {S} members own d v w p q outcomes keys hosts equal same is =
-    let them = map (λ (o : Landing × ViewOf S). (o.0, view_of members own o.1)) outcomes in
+comes_to_equal : {S : Type 0} {sets : ViewSet S} (own : ℕ) (d : Refusals) (v w : ViewOf S sets) (p q : Spot) (outcomes : List (Landing × ViewOf S sets)) → v.keys.items ≡ w.keys.items → v.hosts ≡ w.hosts
+    → AreEqual v w → AskTheSame p q → ComesTo own d v p outcomes → ComesTo own d w q outcomes
+comes_to_equal {S} own d v w p q outcomes keys hosts equal same is =
+    let them = map (λ (o : Landing × ViewOf S sets). (o.0, view_of own o.1)) outcomes in
     let scope : scope_of own v ≡ scope_of own w = λ i. record { own = own; hosts = hosts i; keys = keys i } in
-    same_outcomes (view_of members own v) (view_of members own w) d q.command q.tests.items them scope (equal.there own) (equal.back own)
-    (subst (λ (ts : List Test). AreOutcomes (view_of members own v) d q.command ts them) same.tests
-    (subst (λ (c : Command). AreOutcomes (view_of members own v) d c p.tests.items them) same.command is))
+    same_outcomes (view_of own v) (view_of own w) d q.command q.tests.items them scope (equal.there own) (equal.back own)
+    (subst (λ (ts : List Test). AreOutcomes (view_of own v) d q.command ts them) same.tests
+    (subst (λ (c : Command). AreOutcomes (view_of own v) d c p.tests.items them) same.command is))
 
 -- ---- questions
 
 -- the host is one of those of which a view speaks that can be one of the scenario
-pub own_there : {S : Type 0} (q : Questions (ViewOf S)) (v : ViewOf S) → v.hosts ≡ length (scenario_in q).nexuses → q.outline.now.host < v.hosts
+pub own_there : {S : Type 0} {sets : ViewSet S} (q : Questions (ViewOf S sets)) (v : ViewOf S sets) → v.hosts ≡ length (scenario_in q).nexuses → q.outline.now.host < v.hosts
 own_there q v same = subst (λ n. q.outline.now.host < n) (sym same) q.declared
 
 -- there is a view for each send
-each : {S : Type 0} (q : Questions (ViewOf S)) → length q.outline.now.views.items ≡ length q.spots.now
+each : {S : Type 0} {sets : ViewSet S} (q : Questions (ViewOf S sets)) → length q.outline.now.views.items ≡ length q.spots.now
 each q = as_many (λ (p : Spot). p.line) q.outline.now.views.items q.spots.now q.listed
 
-pub has_view : {S : Type 0} (q : Questions (ViewOf S)) (place : ℕ) → place < length q.spots.now → place < length q.outline.now.views.items
+pub has_view : {S : Type 0} {sets : ViewSet S} (q : Questions (ViewOf S sets)) (place : ℕ) → place < length q.spots.now → place < length q.outline.now.views.items
 has_view q place small = subst (λ n. place < n) (sym (each q)) small
 
 -- the same is asked at two places, by what is read there
-pub same_question : {S : Type 0} (members : S → Numbers) (q : Questions (ViewOf S)) (place other : ℕ) → place < length q.spots.now → other < length q.spots.now
+pub same_question : {S : Type 0} {sets : ViewSet S} (q : Questions (ViewOf S sets)) (place other : ℕ) → place < length q.spots.now → other < length q.spots.now
     → (p r : Spot) → p ≡ get_or q.spots.now place p → r ≡ get_or q.spots.now other r → AskTheSame p r
-    → (d e : ℕ × ViewOf S) → d ≡ get_or q.outline.now.views.items place d → e ≡ get_or q.outline.now.views.items other e → AreEqual members d.1 e.1 → IsSameQuestion members q place other
-same_question {S} members q place other one two p r here there same d e shown also equal = record {
+    → (d e : ℕ × ViewOf S sets) → d ≡ get_or q.outline.now.views.items place d → e ≡ get_or q.outline.now.views.items other e → AreEqual d.1 e.1 → IsSameQuestion q place other
+same_question {S} q place other one two p r here there same d e shown also equal = record {
   sends = λ x y is too.
       subst (λ (z : Spot). AskTheSame z y) (at q.spots.now place p x one here is) (subst (AskTheSame p) (at q.spots.now other r y two there too) same);
   views = λ x y is too.
-      subst (λ (z : ℕ × ViewOf S). AreEqual members z.1 y.1) (at q.outline.now.views.items place d x (has_view q place one) shown is)
-      (subst (λ (z : ℕ × ViewOf S). AreEqual members d.1 z.1) (at q.outline.now.views.items other e y (has_view q other two) also too) equal);
+      subst (λ (z : ℕ × ViewOf S sets). AreEqual z.1 y.1) (at q.outline.now.views.items place d x (has_view q place one) shown is)
+      (subst (λ (z : ℕ × ViewOf S sets). AreEqual d.1 z.1) (at q.outline.now.views.items other e y (has_view q other two) also too) equal);
 }
   where
     at : {X : Type 0} (xs : List X) (k : ℕ) (x y : X) → k < length xs → x ≡ get_or xs k x → slice_get xs k ≡ Some y → x ≡ y
     at xs k x y small read is = same_Some x y (sym (slice_get_read xs (length xs) k x refl small read) ∙ is)
 
-module _ {S : Type 0} (members : S → Numbers) (room : S → ℕ) (q : Questions (ViewOf S)) (asked : AreMade room q) (place : ℕ) (small : place < length q.spots.now) where
+module _ {S : Type 0} {sets : ViewSet S} (q : Questions (ViewOf S sets)) (asked : AreMade q) (place : ℕ) (small : place < length q.spots.now) where
   viewed : place < length q.outline.now.views.items
   viewed = has_view q place small
 
-  pub kind_at : (e : ℕ × ViewOf S) → e ≡ get_or q.outline.now.views.items place e → IsOf room (scenario_in q).keys (length (scenario_in q).nexuses) e.1
-  kind_at e read = item_is (λ (x : ℕ × ViewOf S). IsOf room (scenario_in q).keys (length (scenario_in q).nexuses) x.1) q.outline.now.views.items place e asked viewed read
+  pub kind_at : (e : ℕ × ViewOf S sets) → e ≡ get_or q.outline.now.views.items place e → IsOf (scenario_in q).keys (length (scenario_in q).nexuses) e.1
+  kind_at e read = item_is (λ (x : ℕ × ViewOf S sets). IsOf (scenario_in q).keys (length (scenario_in q).nexuses) x.1) q.outline.now.views.items place e asked viewed read
 
   -- in the words of the view there
-  pub host_at : (e : ℕ × ViewOf S) → e ≡ get_or q.outline.now.views.items place e → q.outline.now.host < e.1.hosts
-  host_at e read = own_there q e.1 (kind_at e read).2
+  pub host_at : (e : ℕ × ViewOf S sets) → e ≡ get_or q.outline.now.views.items place e → q.outline.now.host < e.1.hosts
+  host_at e read = own_there q e.1 (kind_at e read).1
 
-  pub written_at : (p : Spot) (e : ℕ × ViewOf S) → p ≡ get_or q.spots.now place p → e ≡ get_or q.outline.now.views.items place e → IsPlaceWritten e.1.keys.items (place_of p)
+  pub written_at : (p : Spot) (e : ℕ × ViewOf S sets) → p ≡ get_or q.spots.now place p → e ≡ get_or q.outline.now.views.items place e → IsPlaceWritten e.1.keys.items (place_of p)
   written_at p e read also =
-      subst (λ keys. IsPlaceWritten keys (place_of p)) (sym (kind_at e also).1)
+      subst (λ keys. IsPlaceWritten keys (place_of p)) (sym (kind_at e also).0)
       (item_is (λ r. IsPlaceWritten (scenario_in q).keys (place_of r)) q.spots.now place p q.written small read)
 
   -- an answer that was found
-  pub recalled : (known : List (Answer (ViewOf S))) (k : ℕ) → AreAnswersTo members room q known → IsAskedBefore members q place known k → IsAnsweredAt members room q place known k
+  pub recalled : (known : List (Answer (ViewOf S sets))) (k : ℕ) → AreAnswersTo q known → IsAskedBefore q place known k → IsAnsweredAt q place known k
   recalled known k all before p e here shown =
       let a = before.answer in
-      let to = found (IsAnswerTo members room q) known k a all before.there in
+      let to = found (IsAnswerTo q) known k a all before.there in
       let views = q.outline.now.views.items in
       let d = get_or views a.spot e in
       let there : slice_get views a.spot ≡ Some d = slice_get-get_or views a.spot e (subst (λ n. a.spot < n) (sym (each q)) to.there) in
       let is = to.answer d there in
       let r = get_or q.spots.now a.spot p in
       let sent : slice_get q.spots.now a.spot ≡ Some r = slice_get-get_or q.spots.now a.spot p to.there in
-      let one : IsOf room (scenario_in q).keys (length (scenario_in q).nexuses) d.1 = found (λ (x : ℕ × ViewOf S). IsOf room (scenario_in q).keys (length (scenario_in q).nexuses) x.1) views a.spot d asked there in
-      let two : IsOf room (scenario_in q).keys (length (scenario_in q).nexuses) e.1 = found (λ (x : ℕ × ViewOf S). IsOf room (scenario_in q).keys (length (scenario_in q).nexuses) x.1) views place e asked shown in
-      let keys : d.1.keys.items ≡ e.1.keys.items = one.1 ∙ sym two.1 in
-      let hosts : d.1.hosts ≡ e.1.hosts = one.2 ∙ sym two.2 in
+      let one : IsOf (scenario_in q).keys (length (scenario_in q).nexuses) d.1 = found (λ (x : ℕ × ViewOf S sets). IsOf (scenario_in q).keys (length (scenario_in q).nexuses) x.1) views a.spot d asked there in
+      let two : IsOf (scenario_in q).keys (length (scenario_in q).nexuses) e.1 = found (λ (x : ℕ × ViewOf S sets). IsOf (scenario_in q).keys (length (scenario_in q).nexuses) x.1) views place e asked shown in
+      let keys : d.1.keys.items ≡ e.1.keys.items = one.0 ∙ sym two.0 in
+      let hosts : d.1.hosts ≡ e.1.hosts = one.1 ∙ sym two.1 in
       record {
         answer = a;
         there = before.there;
-        kind = λ i x within. let of = is.kind i x within in (of.0, of.1 ∙ keys, of.2 ∙ hosts);
-        outcomes = comes_to_equal members q.outline.now.host (refusals_for q) d.1 e.1 r p a.outcomes.items keys hosts (before.same.views d e there shown) (before.same.sends r p sent here) (is.outcomes r sent);
+        kind = λ i x within. let of = is.kind i x within in (of.0 ∙ keys, of.1 ∙ hosts);
+        outcomes = comes_to_equal q.outline.now.host (refusals_for q) d.1 e.1 r p a.outcomes.items keys hosts (before.same.views d e there shown) (before.same.sends r p sent here) (is.outcomes r sent);
       }
 
   -- what is answered is there
-  module _ (known : List (Answer (ViewOf S))) (k : ℕ) (at : IsAnsweredAt members room q place known k) where
-    answer_for : (p : Spot) (e : ℕ × ViewOf S) → p ≡ get_or q.spots.now place p → e ≡ get_or q.outline.now.views.items place e → IsAnswerAt members room q.outline.now.host (refusals_for q) p e.1 known k
+  module _ (known : List (Answer (ViewOf S sets))) (k : ℕ) (at : IsAnsweredAt q place known k) where
+    answer_for : (p : Spot) (e : ℕ × ViewOf S sets) → p ≡ get_or q.spots.now place p → e ≡ get_or q.outline.now.views.items place e → IsAnswerAt q.outline.now.host (refusals_for q) p e.1 known k
     answer_for p e sent shown =
         at p e (slice_get_read q.spots.now (length q.spots.now) place p refl small sent)
         (slice_get_read q.outline.now.views.items (length q.outline.now.views.items) place e refl viewed shown)
@@ -115,46 +115,46 @@ module _ {S : Type 0} (members : S → Numbers) (room : S → ℕ) (q : Question
         let is = answer_for p.0 e.0 (sym p.1) (sym e.1) in slice_get_within known k is.answer is.there
 
     -- the outcomes that are read there
-    module _ (p : Spot) (e : ℕ × ViewOf S) (sent : p ≡ get_or q.spots.now place p) (shown : e ≡ get_or q.outline.now.views.items place e) (a : Answer (ViewOf S)) (read : a ≡ get_or known k a)
-        (xs : List (Landing × ViewOf S)) (same : xs ≡ a.outcomes.items) where
+    module _ (p : Spot) (e : ℕ × ViewOf S sets) (sent : p ≡ get_or q.spots.now place p) (shown : e ≡ get_or q.outline.now.views.items place e) (a : Answer (ViewOf S sets)) (read : a ≡ get_or known k a)
+        (xs : List (Landing × ViewOf S sets)) (same : xs ≡ a.outcomes.items) where
       the_outcomes : xs ≡ (answer_for p e sent shown).answer.outcomes.items
       the_outcomes =
           let is = answer_for p e sent shown in
-          same ∙ ap (λ (b : Answer (ViewOf S)). b.outcomes.items) (read_is known k is.answer a is.there read)
+          same ∙ ap (λ (b : Answer (ViewOf S sets)). b.outcomes.items) (read_is known k is.answer a is.there read)
 
-      pub kind_read : All (λ o. IsMade room o.1 × AreAlike e.1 o.1) xs
+      pub kind_read : All (λ o. AreAlike e.1 o.1) xs
       kind_read =
-          subst (All (λ (o : Landing × ViewOf S). IsMade room o.1 × AreAlike e.1 o.1)) (sym the_outcomes)
-          (λ i x within. let of = (answer_for p e sent shown).kind i x within in (of.0, record { keys = sym of.1; hosts = sym of.2 }))
+          subst (All (λ (o : Landing × ViewOf S sets). AreAlike e.1 o.1)) (sym the_outcomes)
+          (λ i x within. let of = (answer_for p e sent shown).kind i x within in record { keys = sym of.0; hosts = sym of.1 })
 
-      outcomes_read : ComesTo members q.outline.now.host (refusals_for q) e.1 p xs
-      outcomes_read = subst (ComesTo members q.outline.now.host (refusals_for q) e.1 p) (sym the_outcomes) (answer_for p e sent shown).outcomes
+      outcomes_read : ComesTo q.outline.now.host (refusals_for q) e.1 p xs
+      outcomes_read = subst (ComesTo q.outline.now.host (refusals_for q) e.1 p) (sym the_outcomes) (answer_for p e sent shown).outcomes
 
       -- so the send is answered
-      pub answered_here : IsAnswered members room q e.1 p xs
+      pub answered_here : IsAnswered q e.1 p xs
       answered_here = record {
         written = item_is (λ r. IsPlaceWritten (scenario_in q).keys (place_of r)) q.spots.now place p q.written small sent;
-        view = let is = kind_at e shown in record { made = is.0; keys = is.1; hosts = is.2 };
-        here = view_at_same (λ (r : Spot). r.line) q.outline.now.views.items q.spots.now q.listed (view_of members q.outline.now.host) 0 place e p q.rise small shown sent;
+        view = let is = kind_at e shown in record { keys = is.0; hosts = is.1 };
+        here = view_at_same (λ (r : Spot). r.line) q.outline.now.views.items q.spots.now q.listed (view_of q.outline.now.host) 0 place e p q.rise small shown sent;
         outcomes = outcomes_read;
       }
 
   -- a new answer
-  module _ (p : Spot) (e : ℕ × ViewOf S) (sent : p ≡ get_or q.spots.now place p) (shown : e ≡ get_or q.outline.now.views.items place e) (a : Answer (ViewOf S)) (asks : a.spot ≡ place)
-      (made : All (λ o. IsMade room o.1 × AreAlike e.1 o.1) a.outcomes.items) (tests : List Test) (same : tests ≡ p.tests.items)
-      (d : Refusals) (may : d ≡ refusals_for q) (outcomes : AreOutcomes (view_of members q.outline.now.host e.1) d p.command tests (map (λ o. (o.0, view_of members q.outline.now.host o.1)) a.outcomes.items)) where
-    the_entry : (x : ℕ × ViewOf S) → slice_get q.outline.now.views.items place ≡ Some x → e ≡ x
+  module _ (p : Spot) (e : ℕ × ViewOf S sets) (sent : p ≡ get_or q.spots.now place p) (shown : e ≡ get_or q.outline.now.views.items place e) (a : Answer (ViewOf S sets)) (asks : a.spot ≡ place)
+      (made : All (λ o. AreAlike e.1 o.1) a.outcomes.items) (tests : List Test) (same : tests ≡ p.tests.items)
+      (d : Refusals) (may : d ≡ refusals_for q) (outcomes : AreOutcomes (view_of q.outline.now.host e.1) d p.command tests (map (λ o. (o.0, view_of q.outline.now.host o.1)) a.outcomes.items)) where
+    the_entry : (x : ℕ × ViewOf S sets) → slice_get q.outline.now.views.items place ≡ Some x → e ≡ x
     the_entry x is = same_Some e x (sym (slice_get_read q.outline.now.views.items (length q.outline.now.views.items) place e refl viewed shown) ∙ is)
 
-    pub answer_to : IsAnswerTo members room q a
+    pub answer_to : IsAnswerTo q a
     answer_to = record {
       there = subst (λ n. n < length q.spots.now) (sym asks) small;
       answer = λ x is.
-          subst (λ (y : ℕ × ViewOf S). IsAnswer members room q.outline.now.host (refusals_for q) q.spots.now y.1 a) (the_entry x (ap (slice_get q.outline.now.views.items) (sym asks) ∙ is))
-          (answer_is members room q.outline.now.host (refusals_for q) q.spots.now e.1 place p a small sent asks made tests same d may outcomes);
+          subst (λ (y : ℕ × ViewOf S sets). IsAnswer q.outline.now.host (refusals_for q) q.spots.now y.1 a) (the_entry x (ap (slice_get q.outline.now.views.items) (sym asks) ∙ is))
+          (answer_is q.outline.now.host (refusals_for q) q.spots.now e.1 place p a small sent asks made tests same d may outcomes);
     }
 
-    pub answered_now : (old known : List (Answer (ViewOf S))) (n : ℕ) → known ≡ old ++ a ∷ [] → n ≡ length old → IsAnsweredAt members room q place known n
+    pub answered_now : (old known : List (Answer (ViewOf S sets))) (n : ℕ) → known ≡ old ++ a ∷ [] → n ≡ length old → IsAnsweredAt q place known n
     answered_now old known n pushed count r x here is =
-        subst (λ (y : ℕ × ViewOf S). IsAnswerAt members room q.outline.now.host (refusals_for q) r y.1 known n) (the_entry x is)
-        (answered_at members room q.outline.now.host (refusals_for q) q.spots.now e.1 place p a small sent asks made tests same d may outcomes old known n pushed count r here)
+        subst (λ (y : ℕ × ViewOf S sets). IsAnswerAt q.outline.now.host (refusals_for q) r y.1 known n) (the_entry x is)
+        (answered_at q.outline.now.host (refusals_for q) q.spots.now e.1 place p a small sent asks made tests same d may outcomes old known n pushed count r here)

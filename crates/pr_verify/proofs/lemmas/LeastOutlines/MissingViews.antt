@@ -4,6 +4,7 @@ use Rattle.std.specs.List.{All, Contains}
 use Rattle.std.proofs.lemmas.Bool.{false≢true}
 use Rattle.std.proofs.lemmas.List.{get_or_default}
 use Rattle.std.proofs.lemmas.List.Elements.{All-map, All-contains}
+use Rattle.pr_sets.specs.declared.view_set.ViewSet.{Ghosts as ViewSet}
 use Rattle.pr_views.specs.declared.view.ViewOf.{ViewOf}
 use Rattle.pr_views.specs.Views.{View}
 use Rattle.pr_interference.specs.inside.Interfering.{Among}
@@ -14,7 +15,7 @@ use Rattle.pr_verify.specs.inside.Lacking.{HasView, LacksView}
 use Rattle.pr_verify.proofs.lemmas.Least.FirstLines.{least_as, least_more, least_same}
 
 -- what holds of the views of all entries holds of one of them
-pub of_entry : {S : Type 0} (P : ViewOf S → Type 0) (xs : List (ℕ × ViewOf S)) (v : ViewOf S) → All (λ e. P e.1) xs → Contains (map (λ e. e.1) xs) v → P v
+pub of_entry : {S : Type 0} {sets : ViewSet S} (P : ViewOf S sets → Type 0) (xs : List (ℕ × ViewOf S sets)) (v : ViewOf S sets) → All (λ e. P e.1) xs → Contains (map (λ e. e.1) xs) v → P v
 of_entry P xs v all there = All-contains P (map (λ e. e.1) xs) v (All-map P (λ e. e.1) xs all) there
 
 module _ (o : Outline) (w : View) (lines : List ℕ) where

@@ -1,6 +1,7 @@
 -- Classes of replies, one after another.
 use Rattle.std.proofs.Common.{◌≡◌, ℕ, ◌+◌, ◌<◌, ◌≤◌, Bool, true, false, nat_le, if◌then◌else◌, List, length, slice_index_or, Option, Some, None, refl, sym, ap, ◌∙◌, subst, inl, inr, ◌⊎◌, arith}
 use Rattle.std.proofs.lemmas.Bool.{leb-true, leb-false}
+use Rattle.pr_sets.specs.declared.view_set.ViewSet.{Ghosts as ViewSet}
 use Rattle.pr_views.specs.declared.view.ViewOf.{ViewOf}
 use Rattle.pr_domain.specs.declared.landing.Landing.{Landing}
 use Rattle.pr_domain.specs.declared.landing.Landing.TheVariants.{NoArm}
@@ -19,18 +20,18 @@ earlier_is first class = at (nat_le (class_number first) (class_number class)) r
     at true is = inl (refl, leb-true (class_number first) (class_number class) is)
     at false is = inr (refl, let less = leb-false (class_number first) (class_number class) is in omega arith)
 
-module _ {S : Type 0} (xs : List (Landing × ViewOf S)) (from : ℕ) where
+module _ {S : Type 0} {sets : ViewSet S} (xs : List (Landing × ViewOf S sets)) (from : ℕ) where
   pub unarmed_none : IsFirstUnarmed from 0 xs None
   unarmed_none class one late = let e = one.below in absurd (omega arith)
 
-  more : (n : ℕ) (x : Landing × ViewOf S) (class : Class) → n < length xs → x ≡ slice_index_or xs n x → IsUnarmed n xs class ⊎ (x.0 ≡ NoArm class) → IsUnarmed (n + 1) xs class
+  more : (n : ℕ) (x : Landing × ViewOf S sets) (class : Class) → n < length xs → x ≡ slice_index_or xs n x → IsUnarmed n xs class ⊎ (x.0 ≡ NoArm class) → IsUnarmed (n + 1) xs class
   more n x class small read = among_there (λ o. o.0 ≡ NoArm class) xs n x small read
 
-  back : (n : ℕ) (x : Landing × ViewOf S) (class : Class) → n < length xs → x ≡ slice_index_or xs n x → IsUnarmed (n + 1) xs class → IsUnarmed n xs class ⊎ (x.0 ≡ NoArm class)
+  back : (n : ℕ) (x : Landing × ViewOf S sets) (class : Class) → n < length xs → x ≡ slice_index_or xs n x → IsUnarmed (n + 1) xs class → IsUnarmed n xs class ⊎ (x.0 ≡ NoArm class)
   back n x class small read = among_back (λ o. o.0 ≡ NoArm class) xs n x small read
 
   -- one that does not count
-  pub unarmed_same : (n : ℕ) (x : Landing × ViewOf S) (first : Option Class) → n < length xs → x ≡ slice_index_or xs n x → ((class : Class) → x.0 ≡ NoArm class → from ≤ class_number class → ⊥)
+  pub unarmed_same : (n : ℕ) (x : Landing × ViewOf S sets) (first : Option Class) → n < length xs → x ≡ slice_index_or xs n x → ((class : Class) → x.0 ≡ NoArm class → from ≤ class_number class → ⊥)
       → IsFirstUnarmed from n xs first → IsFirstUnarmed from (n + 1) xs first
   unarmed_same n x None small read armed none = λ class one late. at class late (back n x class small read one)
     where
@@ -48,7 +49,7 @@ module _ {S : Type 0} (xs : List (Landing × ViewOf S)) (from : ℕ) where
       at other late (inr here) = absurd (armed other here late)
 
   -- one that lands in none, and counts
-  unarmed_counts : (n : ℕ) (x : Landing × ViewOf S) (first : Option Class) (class : Class) → n < length xs → x ≡ slice_index_or xs n x → x.0 ≡ NoArm class → from ≤ class_number class
+  unarmed_counts : (n : ℕ) (x : Landing × ViewOf S sets) (first : Option Class) (class : Class) → n < length xs → x ≡ slice_index_or xs n x → x.0 ≡ NoArm class → from ≤ class_number class
       → IsFirstUnarmed from n xs first → IsFirstUnarmed from (n + 1) xs (Some (earlier first class))
   unarmed_counts n x None class small read is late none = record {
     is = more n x class small read (inr is);
@@ -79,7 +80,7 @@ module _ {S : Type 0} (xs : List (Landing × ViewOf S)) (from : ℕ) where
       })
 
   -- one that lands in none
-  pub unarmed_more : (n : ℕ) (x : Landing × ViewOf S) (first : Option Class) (class : Class) → n < length xs → x ≡ slice_index_or xs n x → x.0 ≡ NoArm class → IsFirstUnarmed from n xs first
+  pub unarmed_more : (n : ℕ) (x : Landing × ViewOf S sets) (first : Option Class) (class : Class) → n < length xs → x ≡ slice_index_or xs n x → x.0 ≡ NoArm class → IsFirstUnarmed from n xs first
       → IsFirstUnarmed from (n + 1) xs (earlier_from from first class)
   unarmed_more n x first class small read is before = at (nat_le from (class_number class)) refl
     where

@@ -13,7 +13,7 @@ use Rattle.pr_script.specs.Takes.{matches}
 use Rattle.pr_roles.specs.DeclaredRefusals.{Answered, refusals_of}
 use Rattle.pr_roles.specs.Permits.{command_permitted}
 use Rattle.pr_roles.specs.Scenarios.{Scenario, role}
-use Rattle.pr_sets.specs.Numbers.{Numbers}
+use Rattle.pr_sets.specs.declared.view_set.ViewSet.{Ghosts as ViewSet}
 use Rattle.pr_views.specs.declared.view.ViewOf.{ViewOf}
 use Rattle.pr_views.specs.Views.{View, Shows}
 use Rattle.pr_views.specs.Rooms.{view_of}
@@ -74,14 +74,14 @@ module _ (s : Scenario) (o : Outline) (p : Place) (v : View) (here : IsHere o p 
 
   -- ---- the arms
 
-  module _ {S : Type 0} (members : S → Numbers) (own : ℕ) (xs : List (Landing × ViewOf S)) (are : AreOutcomes v (refusals_of s o.host) p.command p.tests (map (λ x. (x.0, view_of members own x.1)) xs)) where
-    outcome_of : Landing × ViewOf S → Outcome
-    outcome_of x = (x.0, view_of members own x.1)
+  module _ {S : Type 0} {sets : ViewSet S} (own : ℕ) (xs : List (Landing × ViewOf S sets)) (are : AreOutcomes v (refusals_of s o.host) p.command p.tests (map (λ x. (x.0, view_of own x.1)) xs)) where
+    outcome_of : Landing × ViewOf S sets → Outcome
+    outcome_of x = (x.0, view_of own x.1)
 
     -- an outcome that is listed is one of the found
-    unarmed_listed : (outcome : Outcome) (class : Class) → Contains (map (λ x. (x.0, view_of members own x.1)) xs) outcome → outcome.0 ≡ NoArm class → IsUnarmed (length xs) xs class
+    unarmed_listed : (outcome : Outcome) (class : Class) → Contains (map (λ x. (x.0, view_of own x.1)) xs) outcome → outcome.0 ≡ NoArm class → IsUnarmed (length xs) xs class
     unarmed_listed outcome class listed is =
-        let one = unmapped (λ x. (x.0, view_of members own x.1)) xs outcome listed in
+        let one = unmapped (λ x. (x.0, view_of own x.1)) xs outcome listed in
         among_listed (λ x. x.0 ≡ NoArm class) xs one.0 one.1 (ap (λ (y : Outcome). y.0) one.2 ∙ is)
 
     some_arm : (r : Reply) (n : ℕ) → length p.next ≡ length p.tests → first_test p.tests r ≡ Some n → is_some (follows p r) ≡ true
@@ -92,7 +92,7 @@ module _ (s : Scenario) (o : Outline) (p : Place) (v : View) (here : IsHere o p 
     pub has_arms : length p.next ≡ length p.tests → ((class : Class) → IsUnarmed (length xs) xs class → ⊥) → HasArms s o p
     has_arms same none u r after shown answer = at one.outcome.0 refl one.landing
       where
-        one : IsExpected (map (λ x. (x.0, view_of members own x.1)) xs) p.tests r after
+        one : IsExpected (map (λ x. (x.0, view_of own x.1)) xs) p.tests r after
         one = are.cover u r after (shown_here u shown) (answer_own u r after answer)
 
         at : (l : Landing) → one.outcome.0 ≡ l → IsLanding p.tests r l → is_some (follows p r) ≡ true
@@ -101,9 +101,9 @@ module _ (s : Scenario) (o : Outline) (p : Place) (v : View) (here : IsHere o p 
 
     pub lacks_arm : (class : Class) → IsUnarmed (length xs) xs class → LacksArm s o p class
     lacks_arm class one =
-        let listed = mapped (λ x. (x.0, view_of members own x.1)) xs one.element (listed_among (λ x. x.0 ≡ NoArm class) xs one) in
-        let come = are.come (one.element.0, view_of members own one.element.1) listed in
-        let lands = are.only (one.element.0, view_of members own one.element.1) come.0 listed come.1 in
+        let listed = mapped (λ x. (x.0, view_of own x.1)) xs one.element (listed_among (λ x. x.0 ≡ NoArm class) xs one) in
+        let come = are.come (one.element.0, view_of own one.element.1) listed in
+        let lands = are.only (one.element.0, view_of own one.element.1) come.0 listed come.1 in
         let ends = subst (IsLanding p.tests lands.reply) one.is lands.landing in
         record {
           from = lands.from;
@@ -119,7 +119,7 @@ module _ (s : Scenario) (o : Outline) (p : Place) (v : View) (here : IsHere o p 
     pub lacking_listed : (class : Class) → LacksArm s o p class → IsUnarmed (length xs) xs class
     lacking_listed class lacks = at one.outcome.0 refl one.landing
       where
-        one : IsExpected (map (λ x. (x.0, view_of members own x.1)) xs) p.tests lacks.reply lacks.after
+        one : IsExpected (map (λ x. (x.0, view_of own x.1)) xs) p.tests lacks.reply lacks.after
         one = are.cover lacks.from lacks.reply lacks.after (shown_here lacks.from lacks.shown) (answer_own lacks.from lacks.reply lacks.after lacks.answer)
 
         at : (l : Landing) → one.outcome.0 ≡ l → IsLanding p.tests lacks.reply l → IsUnarmed (length xs) xs class

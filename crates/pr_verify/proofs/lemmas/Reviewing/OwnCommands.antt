@@ -9,11 +9,12 @@ use Rattle.pr_unit.specs.UnitStates.{UnitState}
 use Rattle.pr_roles.specs.declared.how.Refusals.{Refusals}
 use Rattle.pr_roles.specs.DeclaredRefusals.{Answered, refusals_of}
 use Rattle.pr_roles.specs.Scenarios.{Scenario}
-use Rattle.pr_sets.specs.Numbers.{Numbers, AllBelow}
+use Rattle.pr_sets.specs.Numbers.{AllBelow}
+use Rattle.pr_sets.specs.declared.view_set.ViewSet.{Ghosts as ViewSet}
 use Rattle.pr_views.specs.declared.view.ViewOf.{ViewOf}
 use Rattle.pr_views.specs.Possibilities.{IsSo}
 use Rattle.pr_views.specs.Views.{View, Shows, Fits}
-use Rattle.pr_views.specs.Rooms.{view_of, IsMade, AreAlike}
+use Rattle.pr_views.specs.Rooms.{view_of, AreAlike}
 use Rattle.pr_views.proofs.lemmas.Views.Values.{fits}
 use Rattle.pr_domain.specs.declared.landing.Landing.{Landing}
 use Rattle.pr_domain.specs.declared.landing.Landing.TheVariants.{Arm, NoArm}
@@ -43,44 +44,44 @@ record LeadsTo (d : Refusals) (v : View) (p : Place) (l : Landing) (after : Unit
   landing : IsLanding p.tests reply l
 
 module _ (s : Scenario) (o : Outline) (p : Place) (v : View) (here : IsHere o p v) (scopes : AreScoped o v.scope)
-    {S : Type 0} (members : S → Numbers) (own : ℕ) (xs : List (Landing × ViewOf S)) (are : AreOutcomes v (refusals_of s o.host) p.command p.tests (map (λ x. (x.0, view_of members own x.1)) xs))
-    (fits : (x : Landing × ViewOf S) → Contains xs x → Fits (view_of members own x.1) × ((view_of members own x.1).scope ≡ v.scope)) where
+    {S : Type 0} {sets : ViewSet S} (own : ℕ) (xs : List (Landing × ViewOf S sets)) (are : AreOutcomes v (refusals_of s o.host) p.command p.tests (map (λ x. (x.0, view_of own x.1)) xs))
+    (fits : (x : Landing × ViewOf S sets) → Contains xs x → Fits (view_of own x.1) × ((view_of own x.1).scope ≡ v.scope)) where
   -- the outcome's view is within that at the line, if it leads there; or it is not
-  abbrev pub HasOf : Landing × ViewOf S → ℕ → Type 0
-  HasOf x line = HasNext o (lines_after p.next x.0) (view_of members own x.1) line
+  abbrev pub HasOf : Landing × ViewOf S sets → ℕ → Type 0
+  HasOf x line = HasNext o (lines_after p.next x.0) (view_of own x.1) line
 
-  abbrev pub LacksOf : Landing × ViewOf S → ℕ → Type 0
-  LacksOf x line = LacksNext o (lines_after p.next x.0) (view_of members own x.1) line
+  abbrev pub LacksOf : Landing × ViewOf S sets → ℕ → Type 0
+  LacksOf x line = LacksNext o (lines_after p.next x.0) (view_of own x.1) line
 
-  found : (x : Landing × ViewOf S) → Contains xs x → Contains {X = Outcome} (map (λ y. (y.0, view_of members own y.1)) xs) (x.0, view_of members own x.1)
-  found x there = mapped (λ y. (y.0, view_of members own y.1)) xs x there
+  found : (x : Landing × ViewOf S sets) → Contains xs x → Contains {X = Outcome} (map (λ y. (y.0, view_of own y.1)) xs) (x.0, view_of own x.1)
+  found x there = mapped (λ y. (y.0, view_of own y.1)) xs x there
 
-  exact : (x : Landing × ViewOf S) → Contains xs x → IsExact (LeadsTo (refusals_of s o.host) v p x.0) (view_of members own x.1)
+  exact : (x : Landing × ViewOf S sets) → Contains xs x → IsExact (LeadsTo (refusals_of s o.host) v p x.0) (view_of own x.1)
   exact x there = record {
     fits = (fits x there).0;
     cover = cover;
-    only = λ i is. let lands = are.only (x.0, view_of members own x.1) i (found x there) is in (
+    only = λ i is. let lands = are.only (x.0, view_of own x.1) i (found x there) is in (
       lands.after,
       record { from = lands.from; shown = lands.shown; reply = lands.reply; answer = lands.answer; landing = lands.landing },
       subst (λ t. IsSo t lands.after i) (sym (fits x there).1) lands.is,
     );
-    some = let come = are.come (x.0, view_of members own x.1) (found x there) in
-        let lands = are.only (x.0, view_of members own x.1) come.0 (found x there) come.1 in
+    some = let come = are.come (x.0, view_of own x.1) (found x there) in
+        let lands = are.only (x.0, view_of own x.1) come.0 (found x there) come.1 in
         (lands.after, record { from = lands.from; shown = lands.shown; reply = lands.reply; answer = lands.answer; landing = lands.landing });
   }
     where
-      cover : (u : UnitState) → LeadsTo (refusals_of s o.host) v p x.0 u → Shows (view_of members own x.1) u
+      cover : (u : UnitState) → LeadsTo (refusals_of s o.host) v p x.0 u → Shows (view_of own x.1) u
       cover u leads =
           let one = are.cover leads.from leads.reply u leads.shown leads.answer in
           let same = one_landing p.tests leads.reply one.outcome.0 x.0 one.landing leads.landing in
-          let listed = subst (λ l. Contains {X = Outcome} (map (λ y. (y.0, view_of members own y.1)) xs) (l, one.outcome.1)) same one.listed in
-          subst (λ w. Shows w u) (are.once x.0 one.outcome.1 (view_of members own x.1) listed (found x there)) one.shown
+          let listed = subst (λ l. Contains {X = Outcome} (map (λ y. (y.0, view_of own y.1)) xs) (l, one.outcome.1)) same one.listed in
+          subst (λ w. Shows w u) (are.once x.0 one.outcome.1 (view_of own x.1) listed (found x there)) one.shown
 
-  there_next : (x : Landing × ViewOf S) (line : ℕ) (l : Landing) (next : Option (List ℕ)) → Contains xs x → x.0 ≡ l → lines_after p.next l ≡ next → LacksNext o next (view_of members own x.1) line → Lacks o (ComesTo s o p) line
+  there_next : (x : Landing × ViewOf S sets) (line : ℕ) (l : Landing) (next : Option (List ℕ)) → Contains xs x → x.0 ≡ l → lines_after p.next l ≡ next → LacksNext o next (view_of own x.1) line → Lacks o (ComesTo s o p) line
   there_next x line l None there is lines lacks = absurd lacks
   there_next x line (NoArm class) (Some next) there is lines lacks = let bad : None ≡ Some next = lines in cc
   there_next x line (Arm n) (Some next) there is lines lacks =
-      let one = lacks_from_missing (LeadsTo (refusals_of s o.host) v p x.0) (view_of members own x.1) (view_at o.views line) (exact x there) (λ w at. scopes line w at ∙ sym (fits x there).1) lacks.missing in
+      let one = lacks_from_missing (LeadsTo (refusals_of s o.host) v p x.0) (view_of own x.1) (view_at o.views line) (exact x there) (λ w at. scopes line w at ∙ sym (fits x there).1) lacks.missing in
       let first = subst (IsLanding p.tests one.1.reply) is one.1.landing in
       record {
         unit = one.0;
@@ -100,13 +101,13 @@ module _ (s : Scenario) (o : Outline) (p : Place) (v : View) (here : IsHere o p 
   all_shown : (line : ℕ) → EachOf (length xs) xs (λ x. HasOf x line) → HasAll o (ComesTo s o p) line
   all_shown line each u asks = at one.outcome.0 refl one.landing
     where
-      one : IsExpected (map (λ y. (y.0, view_of members own y.1)) xs) p.tests asks.reply u
+      one : IsExpected (map (λ y. (y.0, view_of own y.1)) xs) p.tests asks.reply u
       one = are.cover asks.from asks.reply u (shown_here s o p v here asks.from asks.shown) (answer_own s o p v here asks.from asks.reply u asks.answer)
 
       at : (l : Landing) → one.outcome.0 ≡ l → IsLanding p.tests asks.reply l → IsShownAt o line u
       at (NoArm class) is ends = let bad : None ≡ Some asks.next = ap (option_and_then (slice_get p.next)) (sym ends.0) ∙ asks.follows in cc
       at (Arm n) is first =
-          let listed = unmapped (λ y. (y.0, view_of members own y.1)) xs one.outcome one.listed in
+          let listed = unmapped (λ y. (y.0, view_of own y.1)) xs one.outcome one.listed in
           let x = listed.0 in
           let same : x.0 ≡ Arm n = ap (λ (y : Outcome). y.0) listed.2 ∙ is in
           let lines : lines_after p.next x.0 ≡ Some asks.next = ap (lines_after p.next) same ∙ ap (option_and_then (slice_get p.next)) (sym first) ∙ asks.follows in
@@ -117,8 +118,8 @@ module _ (s : Scenario) (o : Outline) (p : Place) (v : View) (here : IsHere o p 
             answer = answer_own s o p v here asks.from asks.reply u asks.answer;
             landing = subst (IsLanding p.tests asks.reply) (sym same) first;
           } in
-          let has : HasView o asks.next (view_of members own x.1) line = subst (λ next. HasNext o next (view_of members own x.1) line) lines (each_listed (λ y. HasOf y line) xs each x listed.1) in
-          shown_by_within (LeadsTo (refusals_of s o.host) v p x.0) (view_of members own x.1) (view_at o.views line) u (exact x listed.1) (λ w at. scopes line w at ∙ sym (fits x listed.1).1) leads (has asks.there)
+          let has : HasView o asks.next (view_of own x.1) line = subst (λ next. HasNext o next (view_of own x.1) line) lines (each_listed (λ y. HasOf y line) xs each x listed.1) in
+          shown_by_within (LeadsTo (refusals_of s o.host) v p x.0) (view_of own x.1) (view_at o.views line) u (exact x listed.1) (λ w at. scopes line w at ∙ sym (fits x listed.1).1) leads (has asks.there)
 
   pub lacks_next : (first : Option ℕ) → IsLeastAmong (length xs) xs HasOf LacksOf first → IsFirstLacking o (ComesTo s o p) first
   lacks_next first =
@@ -126,25 +127,25 @@ module _ (s : Scenario) (o : Outline) (p : Place) (v : View) (here : IsHere o p 
       all_shown (λ line one. there_next one.element line one.element.0 (lines_after p.next one.element.0) (listed_among (λ x. LacksOf x line) xs one) refl refl one.is)
 
 -- what the views of the outline lack, by what a send comes to in the view at its line
-pub lacks_by_send : {S : Type 0} (members : S → Numbers) (room : S → ℕ) (below : (x : S) → AllBelow (room x) (members x)) (s : Scenario) (out : OutlineBy (ViewOf S)) (p : Place) (view : ViewOf S)
-    (xs : List (Landing × ViewOf S)) (first : Option ℕ) → out.host < length s.nexuses → IsMadeFor room s out → IsMadeAs room s view
-    → view_at (outline_of members out).views p.line ≡ Some (view_of members out.host view) → All (λ x. IsMade room x.1 × AreAlike view x.1) xs
-    → AreOutcomes (view_of members out.host view) (refusals_of s out.host) p.command p.tests (map (λ x. (x.0, view_of members out.host x.1)) xs)
-    → IsLeastAmong (length xs) xs (λ x. HasNext (outline_of members out) (lines_after p.next x.0) (view_of members out.host x.1)) (λ x. LacksNext (outline_of members out) (lines_after p.next x.0) (view_of members out.host x.1)) first
-    → IsFirstLacking (outline_of members out) (ComesTo s (outline_of members out) p) first
-lacks_by_send {S} members room below s out p view xs first there made is here kind are least =
-    lacks_next s o p v (record { at = here; own = refl }) (subst (AreScoped o) (sym scope) (scoped members room s out made)) members out.host xs are known first least
+pub lacks_by_send : {S : Type 0} {sets : ViewSet S} (below : (x : S) → AllBelow (sets.room x) (sets.members x)) (s : Scenario) (out : OutlineBy (ViewOf S sets)) (p : Place) (view : ViewOf S sets)
+    (xs : List (Landing × ViewOf S sets)) (first : Option ℕ) → out.host < length s.nexuses → IsMadeFor s out → IsMadeAs s view
+    → view_at (outline_of out).views p.line ≡ Some (view_of out.host view) → All (λ x. AreAlike view x.1) xs
+    → AreOutcomes (view_of out.host view) (refusals_of s out.host) p.command p.tests (map (λ x. (x.0, view_of out.host x.1)) xs)
+    → IsLeastAmong (length xs) xs (λ x. HasNext (outline_of out) (lines_after p.next x.0) (view_of out.host x.1)) (λ x. LacksNext (outline_of out) (lines_after p.next x.0) (view_of out.host x.1)) first
+    → IsFirstLacking (outline_of out) (ComesTo s (outline_of out) p) first
+lacks_by_send {S} {sets} below s out p view xs first there made is here kind are least =
+    lacks_next s o p v (record { at = here; own = refl }) (subst (AreScoped o) (sym scope) (scoped s out made)) out.host xs are known first least
   where
     o : Outline
-    o = outline_of members out
+    o = outline_of out
 
     v : View
-    v = view_of members out.host view
+    v = view_of out.host view
 
     scope : v.scope ≡ scope_in s out.host
     scope = scope_same s out.host view is.keys is.hosts
 
-    known : (x : Landing × ViewOf S) → Contains xs x → Fits (view_of members out.host x.1) × ((view_of members out.host x.1).scope ≡ v.scope)
+    known : (x : Landing × ViewOf S sets) → Contains xs x → Fits (view_of out.host x.1) × ((view_of out.host x.1).scope ≡ v.scope)
     known x listed =
-        let of = All-contains (λ (y : Landing × ViewOf S). IsMade room y.1 × AreAlike view y.1) xs x kind listed in
-        (fits members room below x.1 out.host of.0 (subst (λ n. out.host < n) (sym is.hosts ∙ of.1.hosts) there), scope_alike out.host view x.1 of.1)
+        let of = All-contains (λ (y : Landing × ViewOf S sets). AreAlike view y.1) xs x kind listed in
+        (fits below x.1 out.host (subst (λ n. out.host < n) (sym is.hosts ∙ of.hosts) there), scope_alike out.host view x.1 of)

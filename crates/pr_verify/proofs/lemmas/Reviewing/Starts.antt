@@ -5,11 +5,11 @@ use Rattle.std.proofs.lemmas.List.Elements.{All-head, All-tail, All-weaker, All-
 use Rattle.pr_script.specs.Scripts.{Stmts}
 use Rattle.pr_roles.specs.Scenarios.{Scenario}
 use Rattle.pr_roles.specs.Starts.{IsAllowedStart, CanStart}
-use Rattle.pr_sets.specs.Numbers.{Numbers}
+use Rattle.pr_sets.specs.declared.view_set.ViewSet.{Ghosts as ViewSet}
 use Rattle.pr_views.specs.declared.view.ViewOf.{ViewOf}
 use Rattle.pr_views.specs.Possibilities.{Scope, Registration, Reservation, Attentions}
 use Rattle.pr_views.specs.Views.{View, Fits, Within}
-use Rattle.pr_views.specs.Rooms.{scope_of, view_of, IsMade, AreAlike}
+use Rattle.pr_views.specs.Rooms.{scope_of, view_of, AreAlike}
 use Rattle.pr_domain.specs.Starting.{IsOfStart}
 use Rattle.pr_verify.specs.declared.outline.OutlineBy.{OutlineBy}
 use Rattle.pr_verify.specs.Places.{first_lines}
@@ -23,71 +23,69 @@ use Rattle.pr_verify.proofs.lemmas.LeastOutlines.Possibilities.{IsExact, lacks_f
 
 -- ---- views of one scenario
 
-pub scope_same : {S : Type 0} (s : Scenario) (own : ℕ) (v : ViewOf S) → v.keys.items ≡ s.keys → v.hosts ≡ length s.nexuses → scope_of own v ≡ scope_in s own
+pub scope_same : {S : Type 0} {sets : ViewSet S} (s : Scenario) (own : ℕ) (v : ViewOf S sets) → v.keys.items ≡ s.keys → v.hosts ≡ length s.nexuses → scope_of own v ≡ scope_in s own
 scope_same s own v keys hosts = λ i. record { own = own; hosts = hosts i; keys = keys i }
 
-pub scope_alike : {S : Type 0} (own : ℕ) (v w : ViewOf S) → AreAlike v w → scope_of own w ≡ scope_of own v
+pub scope_alike : {S : Type 0} {sets : ViewSet S} (own : ℕ) (v w : ViewOf S sets) → AreAlike v w → scope_of own w ≡ scope_of own v
 scope_alike own v w same = λ i. record { own = own; hosts = (sym same.hosts) i; keys = (sym same.keys) i }
 
 -- each view of the outline is of the scope
 abbrev pub AreScoped : Outline → Scope → Type 0
 AreScoped o s = (line : ℕ) (v : View) → view_at o.views line ≡ Some v → v.scope ≡ s
 
-module _ {S : Type 0} (members : S → Numbers) (room : S → ℕ) where
-  scoped_in : (s : Scenario) (own : ℕ) (xs : List (ℕ × ViewOf S)) → All (λ e. IsMade room e.1 × (e.1.keys.items ≡ s.keys) × (e.1.hosts ≡ length s.nexuses)) xs
-      → (line : ℕ) (v : View) → view_at (map (λ e. (e.0, view_of members own e.1)) xs) line ≡ Some v → v.scope ≡ scope_in s own
+module _ {S : Type 0} {sets : ViewSet S} where
+  scoped_in : (s : Scenario) (own : ℕ) (xs : List (ℕ × ViewOf S sets)) → All (λ e. (e.1.keys.items ≡ s.keys) × (e.1.hosts ≡ length s.nexuses)) xs
+      → (line : ℕ) (v : View) → view_at (map (λ e. (e.0, view_of own e.1)) xs) line ≡ Some v → v.scope ≡ scope_in s own
   scoped_in s own [] all line v is = let bad : None ≡ Some v = is in cc
   scoped_in s own (x ∷ xs) all line v is =
-      at (x.0 == line) refl is (scoped_in s own xs (All-tail (λ e. IsMade room e.1 × (e.1.keys.items ≡ s.keys) × (e.1.hosts ≡ length s.nexuses)) x xs all) line v)
+      at (x.0 == line) refl is (scoped_in s own xs (All-tail (λ e. (e.1.keys.items ≡ s.keys) × (e.1.hosts ≡ length s.nexuses)) x xs all) line v)
     where
-      at : (b : Bool) → (x.0 == line) ≡ b → (if b then Some (view_of members own x.1) else view_at (map (λ e. (e.0, view_of members own e.1)) xs) line) ≡ Some v
-          → (view_at (map (λ e. (e.0, view_of members own e.1)) xs) line ≡ Some v → v.scope ≡ scope_in s own) → v.scope ≡ scope_in s own
+      at : (b : Bool) → (x.0 == line) ≡ b → (if b then Some (view_of own x.1) else view_at (map (λ e. (e.0, view_of own e.1)) xs) line) ≡ Some v
+          → (view_at (map (λ e. (e.0, view_of own e.1)) xs) line ≡ Some v → v.scope ≡ scope_in s own) → v.scope ≡ scope_in s own
       at true same here rest =
-          let e : view_of members own x.1 ≡ v = cc in
-          let made = All-head (λ e. IsMade room e.1 × (e.1.keys.items ≡ s.keys) × (e.1.hosts ≡ length s.nexuses)) x xs all in
-          ap (λ (w : View). w.scope) (sym e) ∙ scope_same s own x.1 made.1 made.2
+          let e : view_of own x.1 ≡ v = cc in
+          let made = All-head (λ e. (e.1.keys.items ≡ s.keys) × (e.1.hosts ≡ length s.nexuses)) x xs all in
+          ap (λ (w : View). w.scope) (sym e) ∙ scope_same s own x.1 made.0 made.1
       at false other there rest = rest there
 
-  pub scoped : (s : Scenario) (o : OutlineBy (ViewOf S)) → IsMadeFor room s o → AreScoped (outline_of members o) (scope_in s o.host)
+  pub scoped : (s : Scenario) (o : OutlineBy (ViewOf S sets)) → IsMadeFor s o → AreScoped (outline_of o) (scope_in s o.host)
   scoped s o made = scoped_in s o.host o.views.items made
 
   -- a view of the scenario is alike to each
-  pub alike : (s : Scenario) (o : OutlineBy (ViewOf S)) (v : ViewOf S) → IsMadeFor room s o → v.keys.items ≡ s.keys → v.hosts ≡ length s.nexuses
-      → All (λ e. IsMade room e.1 × AreAlike v e.1) o.views.items
+  pub alike : (s : Scenario) (o : OutlineBy (ViewOf S sets)) (v : ViewOf S sets) → IsMadeFor s o → v.keys.items ≡ s.keys → v.hosts ≡ length s.nexuses
+      → All (λ e. AreAlike v e.1) o.views.items
   alike s o v made keys hosts =
-      All-weaker (λ e. IsMade room e.1 × (e.1.keys.items ≡ s.keys) × (e.1.hosts ≡ length s.nexuses)) (λ e. IsMade room e.1 × AreAlike v e.1)
-      (λ e is. (is.0, record { keys = keys ∙ sym is.1; hosts = hosts ∙ sym is.2 })) o.views.items made
+      All-weaker (λ e. (e.1.keys.items ≡ s.keys) × (e.1.hosts ≡ length s.nexuses)) (λ e. AreAlike v e.1)
+      (λ e is. record { keys = keys ∙ sym is.0; hosts = hosts ∙ sym is.1 }) o.views.items made
 
   -- an entry that is read
-  pub entry_made : (s : Scenario) (o : OutlineBy (ViewOf S)) (xs : List (ℕ × ViewOf S)) (i : ℕ) (x : ℕ × ViewOf S) → xs ≡ o.views.items → IsMadeFor room s o → i < length xs → x ≡ slice_index_or xs i x
-      → IsMadeAs room s x.1
+  pub entry_made : (s : Scenario) (o : OutlineBy (ViewOf S sets)) (xs : List (ℕ × ViewOf S sets)) (i : ℕ) (x : ℕ × ViewOf S sets) → xs ≡ o.views.items → IsMadeFor s o → i < length xs → x ≡ slice_index_or xs i x
+      → IsMadeAs s x.1
   entry_made s o xs i x same made small read =
-      let at = subst (λ (e : ℕ × ViewOf S). IsMade room e.1 × (e.1.keys.items ≡ s.keys) × (e.1.hosts ≡ length s.nexuses)) (ap (λ ys. slice_index_or ys i x) (sym same) ∙ sym read)
+      let at = subst (λ (e : ℕ × ViewOf S sets). (e.1.keys.items ≡ s.keys) × (e.1.hosts ≡ length s.nexuses)) (ap (λ ys. slice_index_or ys i x) (sym same) ∙ sym read)
       (made i x (subst (λ ys. i < length ys) same small)) in
-      record { made = at.0; keys = at.1; hosts = at.2 }
+      record { keys = at.0; hosts = at.1 }
 
   -- the scope of a listed one
-  pub listed_scope : (s : Scenario) (o : OutlineBy (ViewOf S)) (x : ℕ × ViewOf S) → IsMadeFor room s o → Contains o.views.items x → scope_of o.host x.1 ≡ scope_in s o.host
+  pub listed_scope : (s : Scenario) (o : OutlineBy (ViewOf S sets)) (x : ℕ × ViewOf S sets) → IsMadeFor s o → Contains o.views.items x → scope_of o.host x.1 ≡ scope_in s o.host
   listed_scope s o x made there =
-      let is = All-contains (λ e. IsMade room e.1 × (e.1.keys.items ≡ s.keys) × (e.1.hosts ≡ length s.nexuses)) o.views.items x made there in
-      scope_same s o.host x.1 is.1 is.2
+      let is = All-contains (λ e. (e.1.keys.items ≡ s.keys) × (e.1.hosts ≡ length s.nexuses)) o.views.items x made there in
+      scope_same s o.host x.1 is.0 is.1
 
   -- it can be compared with those before it
-  pub compared_before : (s : Scenario) (o : OutlineBy (ViewOf S)) (xs : List (ℕ × ViewOf S)) (i : ℕ) (v : ViewOf S) → xs ≡ o.views.items → IsMadeFor room s o → IsMadeAs room s v → CanCompare room (take i xs) v
-  compared_before s o xs i v same made is = record {
-    made = is.made;
-    alike = All-take (λ e. IsMade room e.1 × AreAlike v e.1) i xs (subst (All (λ e. IsMade room e.1 × AreAlike v e.1)) (sym same) (alike s o v made is.keys is.hosts));
-  }
+  pub compared_before : (s : Scenario) (o : OutlineBy (ViewOf S sets)) (xs : List (ℕ × ViewOf S sets)) (i : ℕ) (v : ViewOf S sets) → xs ≡ o.views.items → IsMadeFor s o → IsMadeAs s v → CanCompare (take i xs) v
+  compared_before s o xs i v same made is =
+      All-take (λ e. AreAlike v e.1) i xs (subst (All (λ e. AreAlike v e.1)) (sym same) (alike s o v made is.keys is.hosts))
 
   -- views that are alike to one of the scenario can be compared with each
-  pub each_compared : {X : Type 0} (s : Scenario) (o : OutlineBy (ViewOf S)) (v : ViewOf S) (xs : List (X × ViewOf S)) → IsMadeFor room s o → IsMadeAs room s v → All (λ x. IsMade room x.1 × AreAlike v x.1) xs
-      → All (λ x. CanCompare room o.views.items x.1) xs
+  pub each_compared : {X : Type 0} (s : Scenario) (o : OutlineBy (ViewOf S sets)) (v : ViewOf S sets) (xs : List (X × ViewOf S sets)) → IsMadeFor s o → IsMadeAs s v → All (λ x. AreAlike v x.1) xs
+      → All (λ x. CanCompare o.views.items x.1) xs
   each_compared s o v xs made is =
-      All-weaker (λ x. IsMade room x.1 × AreAlike v x.1) (λ x. CanCompare room o.views.items x.1)
-      (λ x same. record { made = same.0; alike = alike s o x.1 made (sym same.1.keys ∙ is.keys) (sym same.1.hosts ∙ is.hosts) }) xs
+      All-weaker (λ x. AreAlike v x.1) (λ x. CanCompare o.views.items x.1)
+      (λ x same. alike s o x.1 made (sym same.keys ∙ is.keys) (sym same.hosts ∙ is.hosts)) xs
 
   -- whose views they are does not matter
-  pub any_own : (v w : ViewOf S) (own : ℕ) → Within (view_of members own v) (view_of members own w) → (other : ℕ) → Within (view_of members other v) (view_of members other w)
+  pub any_own : (v w : ViewOf S sets) (own : ℕ) → Within (view_of own v) (view_of own w) → (other : ℕ) → Within (view_of other v) (view_of other w)
   any_own v w own within other (Registration g r) is = within (Registration g r) is
   any_own v w own within other (Reservation x) is = within (Reservation x) is
   any_own v w own within other (Attentions q) is = within (Attentions q) is

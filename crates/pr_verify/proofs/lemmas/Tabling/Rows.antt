@@ -14,6 +14,7 @@ use Rattle.pr_roles.specs.DeclaredRefusals.{refusals_of}
 use Rattle.pr_roles.specs.Scenarios.{Scenario, Task, Scripted, role, task}
 use Rattle.pr_sets.specs.Numbers.{Numbers}
 use Rattle.pr_sets.specs.declared.word_set.WordSet.{WordSet}
+use Rattle.pr_sets.specs.declared.view_set.ViewSet.{Ghosts as ViewSet}
 use Rattle.pr_views.specs.declared.view.ViewOf.{ViewOf}
 use Rattle.pr_views.specs.Views.{View}
 use Rattle.pr_views.specs.Rooms.{view_of}
@@ -112,7 +113,7 @@ all_before P from cs each none class = (λ there. ((each class).0 there).1, λ i
     at is (inr more) = absurd (none class is more)
 
 -- one more in range
-pub in_range_more : {S : Type 0} (xs : List (Landing × ViewOf S)) (n : ℕ) (x : Landing × ViewOf S) → n < length xs → x ≡ slice_index_or xs n x → ((class : Class) → x.0 ≡ NoArm class → IsInRange class)
+pub in_range_more : {S : Type 0} {sets : ViewSet S} (xs : List (Landing × ViewOf S sets)) (n : ℕ) (x : Landing × ViewOf S sets) → n < length xs → x ≡ slice_index_or xs n x → ((class : Class) → x.0 ≡ NoArm class → IsInRange class)
     → ((class : Class) → IsUnarmed n xs class → IsInRange class) → (class : Class) → IsUnarmed (n + 1) xs class → IsInRange class
 in_range_more xs n x small read here before class one = at (among_back (λ o. o.0 ≡ NoArm class) xs n x small read one)
   where
@@ -135,17 +136,17 @@ class_alone _ _ one two same = absurd (omega arith)
 
 -- ---- the row
 
-module _ (s : Scenario) (o : Outline) (p : Place) (v : View) (here : IsHere o p v) {S : Type 0} (members : S → Numbers) (own : ℕ) (xs : List (Landing × ViewOf S))
-    (are : AreOutcomes v (refusals_of s o.host) p.command p.tests (map (λ x. (x.0, view_of members own x.1)) xs)) where
-  landing_listed : (outcome : Outcome) (l : Landing) → Contains (map (λ x. (x.0, view_of members own x.1)) xs) outcome → outcome.0 ≡ l → Contains (map (λ x. x.0) xs) l
+module _ (s : Scenario) (o : Outline) (p : Place) (v : View) (here : IsHere o p v) {S : Type 0} {sets : ViewSet S} (own : ℕ) (xs : List (Landing × ViewOf S sets))
+    (are : AreOutcomes v (refusals_of s o.host) p.command p.tests (map (λ x. (x.0, view_of own x.1)) xs)) where
+  landing_listed : (outcome : Outcome) (l : Landing) → Contains (map (λ x. (x.0, view_of own x.1)) xs) outcome → outcome.0 ≡ l → Contains (map (λ x. x.0) xs) l
   landing_listed outcome l listed is =
-      let one = unmapped (λ x. (x.0, view_of members own x.1)) xs outcome listed in
+      let one = unmapped (λ x. (x.0, view_of own x.1)) xs outcome listed in
       subst (Contains (map (λ x. x.0) xs)) (ap (λ (y : Outcome). y.0) one.2 ∙ is) (mapped (λ x. x.0) xs one.0 one.1)
 
   arm_listed : (n : ℕ) → TakesArm s o p n → Contains (map (λ x. x.0) xs) (Arm n)
   arm_listed n takes = at one.outcome.0 refl one.landing
     where
-      one : IsExpected (map (λ x. (x.0, view_of members own x.1)) xs) p.tests takes.reply takes.after
+      one : IsExpected (map (λ x. (x.0, view_of own x.1)) xs) p.tests takes.reply takes.after
       one = are.cover takes.from takes.reply takes.after (shown_here s o p v here takes.from takes.shown) (answer_own s o p v here takes.from takes.reply takes.after takes.answer)
 
       at : (l : Landing) → one.outcome.0 ≡ l → IsLanding p.tests takes.reply l → Contains (map (λ x. x.0) xs) (Arm n)
@@ -157,10 +158,10 @@ module _ (s : Scenario) (o : Outline) (p : Place) (v : View) (here : IsHere o p 
 
   takes_arm : (n : ℕ) → Contains (map (λ x. x.0) xs) (Arm n) → TakesArm s o p n
   takes_arm n listed =
-      let one = unmapped (λ (x : Landing × ViewOf S). x.0) xs (Arm n) listed in
-      let there = mapped (λ (x : Landing × ViewOf S). (x.0, view_of members own x.1)) xs one.0 one.1 in
-      let come = are.come (one.0.0, view_of members own one.0.1) there in
-      let lands = are.only (one.0.0, view_of members own one.0.1) come.0 there come.1 in
+      let one = unmapped (λ (x : Landing × ViewOf S sets). x.0) xs (Arm n) listed in
+      let there = mapped (λ (x : Landing × ViewOf S sets). (x.0, view_of own x.1)) xs one.0 one.1 in
+      let come = are.come (one.0.0, view_of own one.0.1) there in
+      let lands = are.only (one.0.0, view_of own one.0.1) come.0 there come.1 in
       record {
         from = lands.from;
         shown = shown_there s o p v here lands.from lands.shown;
@@ -192,7 +193,7 @@ module _ (s : Scenario) (o : Outline) (p : Place) (v : View) (here : IsHere o p 
     permitted = permitted_is r.permitted keep break;
     arms = λ n. (λ there. takes_arm n ((arms n).0 there).1, λ takes. (arms n).1 (small_arm n takes, arm_listed n takes));
     arms_rise = arms_rise;
-    unarmed = λ class. (λ there. lacks_arm s o p v here members own xs are class ((unarmed class).0 there), λ lacks. (unarmed class).1 (lacking_listed s o p v here members own xs are class lacks));
+    unarmed = λ class. (λ there. lacks_arm s o p v here own xs are class ((unarmed class).0 there), λ lacks. (unarmed class).1 (lacking_listed s o p v here own xs are class lacks));
     unarmed_rise = unarmed_rise;
   }
 
@@ -226,10 +227,10 @@ of_script (Some (Scripted b n)) script P scripted same all = subst P (sym same) 
 of_script _ script P scripted same all = absurd scripted
 
 -- the views of an outline that is listed stand at the lines of the sends
-pub lines_listed : {S : Type 0} (members : S → Numbers) (o : OutlineBy (ViewOf S)) (script : Stmts) (spots : List Spot) → map place_of spots ≡ places_of script → IsListed script (outline_of members o)
+pub lines_listed : {S : Type 0} {sets : ViewSet S} (o : OutlineBy (ViewOf S sets)) (script : Stmts) (spots : List Spot) → map place_of spots ≡ places_of script → IsListed script (outline_of o)
     → map (λ e. e.0) o.views.items ≡ map (λ p. p.line) spots
-lines_listed {S} members o script spots places listed =
-    sym (map-map (λ (e : ℕ × View). e.0) (λ (e : ℕ × ViewOf S). (e.0, view_of members o.host e.1)) o.views.items) ∙ listed ∙ place_lines script spots places
+lines_listed {S} o script spots places listed =
+    sym (map-map (λ (e : ℕ × View). e.0) (λ (e : ℕ × ViewOf S sets). (e.0, view_of o.host e.1)) o.views.items) ∙ listed ∙ place_lines script spots places
 
 range_more : (n : ℕ) → range_with_len 0 (n + 1) ≡ range_with_len 0 n ++ n ∷ []
 range_more n = sym (map-id (range_with_len 0 (n + 1))) ∙ map-range_with_len_more (λ h. h) 0 n n (omega arith) ∙ ap (λ l. l ++ n ∷ []) (map-id (range_with_len 0 n))
@@ -256,29 +257,29 @@ module _ (p : ℕ → Bool) (n : ℕ) where
 
 -- ---- one table more, or none
 
-module _ (s : Scenario) (members : WordSet → Numbers) (room : WordSet → ℕ) where
+module _ (s : Scenario) where
   -- those of the nexuses before this one
   pub record AreBeforeHost (n : ℕ) (ts : List KeptTable) : Type 0 where
     pub hosts : map (λ t. t.outline.host) ts ≡ filter (λ h. has_script (task s h)) (range_with_len 0 n)
-    pub each : All (λ t. OnScripted (task s t.outline.host) (λ script budget. IsTable s script (table_of members t))) ts
-    pub made : All (λ t. IsMadeFor room s t.outline) ts
+    pub each : All (λ t. OnScripted (task s t.outline.host) (λ script budget. IsTable s script (table_of t))) ts
+    pub made : All (λ t. IsMadeFor s t.outline) ts
     pub rows : All (λ t. length t.rows.items ≡ length t.outline.views.items) ts
 
-  pub one_table : (n : ℕ) (ts : List KeptTable) (t : KeptTable) → AreBeforeHost n ts → has_script (task s n) ≡ true → t.outline.host ≡ n → OnScripted (task s n) (λ script budget. IsTable s script (table_of members t)) → IsMadeFor room s t.outline
+  pub one_table : (n : ℕ) (ts : List KeptTable) (t : KeptTable) → AreBeforeHost n ts → has_script (task s n) ≡ true → t.outline.host ≡ n → OnScripted (task s n) (λ script budget. IsTable s script (table_of t)) → IsMadeFor s t.outline
       → length t.rows.items ≡ length t.outline.views.items → AreBeforeHost (n + 1) (ts ++ t ∷ [])
   one_table n ts t before is host table made rows = record {
     hosts = map-append (λ (u : KeptTable). u.outline.host) ts (t ∷ []) ∙ (λ i. before.hosts i ++ host i ∷ []) ∙ sym (filter_kept (λ h. has_script (task s h)) n is);
-    each = All-push (λ u. OnScripted (task s u.outline.host) (λ script budget. IsTable s script (table_of members u))) ts t before.each
-        (subst (λ h. OnScripted (task s h) (λ script budget. IsTable s script (table_of members t))) (sym host) table);
-    made = All-push (λ u. IsMadeFor room s u.outline) ts t before.made made;
+    each = All-push (λ u. OnScripted (task s u.outline.host) (λ script budget. IsTable s script (table_of u))) ts t before.each
+        (subst (λ h. OnScripted (task s h) (λ script budget. IsTable s script (table_of t))) (sym host) table);
+    made = All-push (λ u. IsMadeFor s u.outline) ts t before.made made;
     rows = All-push (λ u. length u.rows.items ≡ length u.outline.views.items) ts t before.rows rows;
   }
 
   pub no_table : (n : ℕ) (ts : List KeptTable) → AreBeforeHost n ts → has_script (task s n) ≡ false → AreBeforeHost (n + 1) ts
   no_table n ts before is = record { hosts = before.hosts ∙ sym (filter_left (λ h. has_script (task s h)) n is); each = before.each; made = before.made; rows = before.rows }
 
-  pub are_tables : (ts : List KeptTable) → AreBeforeHost (length s.nexuses) ts → AreTables s (map (table_of members) ts)
+  pub are_tables : (ts : List KeptTable) → AreBeforeHost (length s.nexuses) ts → AreTables s (map (table_of) ts)
   are_tables ts before = record {
-    hosts = map-map (λ (t : Table). t.outline.host) (table_of members) ts ∙ before.hosts;
-    each = All-map (λ (t : Table). OnScripted (task s t.outline.host) (λ script budget. IsTable s script t)) (table_of members) ts before.each;
+    hosts = map-map (λ (t : Table). t.outline.host) (table_of) ts ∙ before.hosts;
+    each = All-map (λ (t : Table). OnScripted (task s t.outline.host) (λ script budget. IsTable s script t)) (table_of) ts before.each;
   }

@@ -10,7 +10,7 @@ returns-then-not-branch-clause-open g c denied = c.in_ok-is_closed_to_resets.ens
 pub returns-clause-closed : goal.returns-clause-closed
 returns-clause-closed g c =
     let s = scenario_of c.args.asked.now.scenario.now in
-    let v = view_of g.S.ViewSet.members c.args.asked.now.outline.now.host c.args.view.now in
+    let v = view_of c.args.asked.now.outline.now.host c.args.view.now in
     if_answered c.is_closed_to_others.result
     (λ b others is. is_closed s v c.args.view.now.hosts c.requires.hosts (others is) (c.in_ok-is_closed_to_resets.ensures.closed c.if-not-branch.false c.args.asked.now.outline.now.host (own_there c.args.asked.now c.args.view.now c.requires.hosts)))
     c.is_closed_to_others.ensures.closed

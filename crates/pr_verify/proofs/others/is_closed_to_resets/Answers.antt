@@ -16,18 +16,16 @@ returns-then-parts-eq0-clause-closed g c is own small declared =
 
 pub returns-clause-closed : goal.returns-clause-closed
 returns-clause-closed g c is own small =
-    let members = g.S.ViewSet.members in
     let view = c.args.view.now in
     let left = c.in_ok-left.left in
-    closed_reset (scenario_of c.args.scenario.now) (view_of members own view) (view_of members own left) (scope_alike own view left c.in_ok-left.ensures.alike)
+    closed_reset (scenario_of c.args.scenario.now) (view_of own view) (view_of own left) (scope_alike own view left c.in_ok-left.ensures.alike)
     (c.in_ok-left.ensures.reset own small) (c.within.ensures.0 is own)
 
 pub returns-clause-open : goal.returns-clause-open
 returns-clause-open g c denied own small =
-    let members = g.S.ViewSet.members in
     let view = c.args.view.now in
     let left = c.in_ok-left.left in
     let some : c.args.scenario.now.resets ≢ 0 = λ none. c.if-parts-eq0.false (ap (λ (p : Parts). p.resets) c.parts.ensures.value ∙ none) in
-    open_by_reset (scenario_of c.args.scenario.now) (view_of members own view) (view_of members own left) (scope_alike own view left c.in_ok-left.ensures.alike)
-    (fits members g.S.ViewSet.room g.met.S.ViewSet.below left own c.in_ok-left.ensures.made (subst (λ n. own < n) c.in_ok-left.ensures.alike.hosts small)) (resets_declared c.args.scenario.now some)
-    (c.in_ok-left.ensures.reset own small) (λ within. false≢true (sym denied ∙ c.within.ensures.1 (any_own members g.S.ViewSet.room left view own within)))
+    open_by_reset (scenario_of c.args.scenario.now) (view_of own view) (view_of own left) (scope_alike own view left c.in_ok-left.ensures.alike)
+    (fits g.met.S.ViewSet.below left own (subst (λ n. own < n) c.in_ok-left.ensures.alike.hosts small)) (resets_declared c.args.scenario.now some)
+    (c.in_ok-left.ensures.reset own small) (λ within. false≢true (sym denied ∙ c.within.ensures.1 (any_own left view own within)))

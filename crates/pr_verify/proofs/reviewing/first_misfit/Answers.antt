@@ -15,8 +15,8 @@ pub loop-i-init : goal.loop-i-init
 loop-i-init g c =
     let q = c.args.asked.now in
     record {
-      fit = each_none (λ (p : Spot). FitsAt (scenario_of c.args.asked.now.scenario.now) (outline_of g.S.ViewSet.members c.args.asked.now.outline.now) (place_of p)) c.args.asked.now.spots.now;
-      known = subst (AreAnswersTo g.S.ViewSet.members g.S.ViewSet.room q) (sym c.new-known.ensures.items) (All-nil (IsAnswerTo g.S.ViewSet.members g.S.ViewSet.room q));
+      fit = each_none (λ (p : Spot). FitsAt (scenario_of c.args.asked.now.scenario.now) (outline_of c.args.asked.now.outline.now) (place_of p)) c.args.asked.now.spots.now;
+      known = subst (AreAnswersTo q) (sym c.new-known.ensures.items) (All-nil (IsAnswerTo q));
     }
 
 pub answer-requires : goal.answer-requires
@@ -27,7 +27,7 @@ answer-requires g c =
 pub index-requires : goal.index-requires
 index-requires g c =
     let q = c.args.asked.now in
-    let there = answer_within g.S.ViewSet.members g.S.ViewSet.room q c.requires c.loop-i.i c.loop-i-test.true c.answer.new.known.items c.in_ok-answer.answer c.in_ok-answer.ensures.answer in
+    let there = answer_within q c.requires c.loop-i.i c.loop-i-test.true c.answer.new.known.items c.in_ok-answer.answer c.in_ok-answer.ensures.answer in
     omega arith
 
 pub index-requires-in-loop-i : goal.index-requires-in-loop-i
@@ -39,7 +39,7 @@ index-requires-in-loop-i g c =
 pub misfit-requires : goal.misfit-requires
 misfit-requires g c = (
   search rules,
-  answered_here g.S.ViewSet.members g.S.ViewSet.room c.args.asked.now c.requires c.loop-i.i c.loop-i-test.true c.answer.new.known.items c.in_ok-answer.answer c.in_ok-answer.ensures.answer
+  answered_here c.args.asked.now c.requires c.loop-i.i c.loop-i-test.true c.answer.new.known.items c.in_ok-answer.answer c.in_ok-answer.ensures.answer
       c.spot-item.result c.index-in-loop-i.result.now c.spot-item.is c.index-in-loop-i.ensures c.index.result.now c.index.ensures c.deref.result.now c.deref.ensures.value,
 )
 
@@ -56,7 +56,7 @@ returns-in-Some g c = record {
 pub loop-i-preserved : goal.loop-i-preserved
 loop-i-preserved g c =
     let s = scenario_of c.args.asked.now.scenario.now in
-    let o = outline_of g.S.ViewSet.members c.args.asked.now.outline.now in
+    let o = outline_of c.args.asked.now.outline.now in
     let y = c.spot-item.result in
     record {
       fit = each_more (λ (p : Spot). FitsAt s o (place_of p)) c.args.asked.now.spots.now c.loop-i.i y c.loop-i-test.true c.spot-item.is c.loop-i.invariant.fit c.in_default.ensures;
@@ -66,6 +66,6 @@ loop-i-preserved g c =
 pub returns : goal.returns
 returns g c =
     let s = scenario_of c.args.asked.now.scenario.now in
-    let o = outline_of g.S.ViewSet.members c.args.asked.now.outline.now in
+    let o = outline_of c.args.asked.now.outline.now in
     let whole : c.loop-i.i ≡ length c.args.asked.now.spots.now = omega arith in
     subst (λ n. EachOf n c.args.asked.now.spots.now (λ p. FitsAt s o (place_of p))) whole c.loop-i.invariant.fit

@@ -8,6 +8,6 @@ use Rattle.pr_verify.proofs.reviewing.first_misfit.Given as goal
 
 abbrev pub invariant-loop-i : goal.invariant-loop-i
 invariant-loop-i g l = record {
-  fit : EachOf l.i l.asked.spots.now (λ p. FitsAt (scenario_of l.asked.scenario.now) (outline_of g.S.ViewSet.members l.asked.outline.now) (place_of p));
-  known : AreAnswersTo g.S.ViewSet.members g.S.ViewSet.room l.asked l.known.items;
+  fit : EachOf l.i l.asked.spots.now (λ p. FitsAt (scenario_of l.asked.scenario.now) (outline_of l.asked.outline.now) (place_of p));
+  known : AreAnswersTo l.asked l.known.items;
 }

@@ -21,10 +21,10 @@ use Rattle.pr_verify.proofs.reviewing.first_unsound.Goals as goal
 pub loop-i-init : goal.loop-i-init
 loop-i-init g c =
     let q = c.args.asked.now in
-    let o = outline_of g.S.ViewSet.members c.args.asked.now.outline.now in
+    let o = outline_of c.args.asked.now.outline.now in
     record {
       own = least_none (λ (p : Spot). HasAll o (ComesTo (scenario_of c.args.asked.now.scenario.now) o (place_of p))) (λ p. Lacks o (ComesTo (scenario_of c.args.asked.now.scenario.now) o (place_of p))) c.args.asked.now.spots.now;
-      known = subst (AreAnswersTo g.S.ViewSet.members g.S.ViewSet.room q) (sym c.new-known.ensures.items) (All-nil (IsAnswerTo g.S.ViewSet.members g.S.ViewSet.room q));
+      known = subst (AreAnswersTo q) (sym c.new-known.ensures.items) (All-nil (IsAnswerTo q));
     }
 
 pub answer-requires : goal.answer-requires
@@ -35,13 +35,11 @@ answer-requires g c =
 pub index-requires : goal.index-requires
 index-requires g c =
     let q = c.args.asked.now in
-    let there = answer_within g.S.ViewSet.members g.S.ViewSet.room q c.requires.made c.loop-i.i c.loop-i-test.true c.answer.new.known.items c.in_ok-answer.answer c.in_ok-answer.ensures.answer in
+    let there = answer_within q c.requires.made c.loop-i.i c.loop-i-test.true c.answer.new.known.items c.in_ok-answer.answer c.in_ok-answer.ensures.answer in
     omega arith
 
 pub lacking_after-requires : goal.lacking_after-requires
 lacking_after-requires g c =
-    let members = g.S.ViewSet.members in
-    let room = g.S.ViewSet.room in
     let q = c.args.asked.now in
     let n = c.loop-i.i in
     let x = element q.outline.now.views.items n (has_view q n c.loop-i-test.true) in
@@ -50,18 +48,16 @@ lacking_after-requires g c =
     let k = c.in_ok-answer.answer in
     let a = c.index.result.now in
     let xs = c.deref-in-loop-i.result.now in
-    let is = answered_here members room q c.requires.made n c.loop-i-test.true known k c.in_ok-answer.ensures.answer y x.0 c.spot-item.is (sym x.1) a c.index.ensures xs c.deref-in-loop-i.ensures.value in
-    let kind = kind_read members room q c.requires.made n c.loop-i-test.true known k c.in_ok-answer.ensures.answer y x.0 c.spot-item.is (sym x.1) a c.index.ensures xs c.deref-in-loop-i.ensures.value in
-    (search rules, each_compared members room (scenario_in q) q.outline.now x.0.1 xs c.requires.made is.view kind)
+    let is = answered_here q c.requires.made n c.loop-i-test.true known k c.in_ok-answer.ensures.answer y x.0 c.spot-item.is (sym x.1) a c.index.ensures xs c.deref-in-loop-i.ensures.value in
+    let kind = kind_read q c.requires.made n c.loop-i-test.true known k c.in_ok-answer.ensures.answer y x.0 c.spot-item.is (sym x.1) a c.index.ensures xs c.deref-in-loop-i.ensures.value in
+    (search rules, each_compared (scenario_in q) q.outline.now x.0.1 xs c.requires.made is.view kind)
 
 pub loop-i-preserved : goal.loop-i-preserved
 loop-i-preserved g c =
-    let members = g.S.ViewSet.members in
-    let room = g.S.ViewSet.room in
     let q = c.args.asked.now in
     let s = scenario_in q in
     let out = q.outline.now in
-    let o = outline_in members q in
+    let o = outline_in q in
     let n = c.loop-i.i in
     let x = element out.views.items n (has_view q n c.loop-i-test.true) in
     let y = c.spot-item.result in
@@ -69,12 +65,12 @@ loop-i-preserved g c =
     let k = c.in_ok-answer.answer in
     let a = c.index.result.now in
     let xs = c.deref-in-loop-i.result.now in
-    let is = answered_here members room q c.requires.made n c.loop-i-test.true known k c.in_ok-answer.ensures.answer y x.0 c.spot-item.is (sym x.1) a c.index.ensures xs c.deref-in-loop-i.ensures.value in
-    let kind = kind_read members room q c.requires.made n c.loop-i-test.true known k c.in_ok-answer.ensures.answer y x.0 c.spot-item.is (sym x.1) a c.index.ensures xs c.deref-in-loop-i.ensures.value in
+    let is = answered_here q c.requires.made n c.loop-i-test.true known k c.in_ok-answer.ensures.answer y x.0 c.spot-item.is (sym x.1) a c.index.ensures xs c.deref-in-loop-i.ensures.value in
+    let kind = kind_read q c.requires.made n c.loop-i-test.true known k c.in_ok-answer.ensures.answer y x.0 c.spot-item.is (sym x.1) a c.index.ensures xs c.deref-in-loop-i.ensures.value in
     let least =
-    subst (λ (next : List _). IsLeastAmong (length xs) xs (λ z. HasNext o (lines_after (map (λ lines. lines.items) next) z.0) (view_in members q z.1)) (λ z. LacksNext o (lines_after (map (λ lines. lines.items) next) z.0) (view_in members q z.1)) c.lacking_after.result)
+    subst (λ (next : List _). IsLeastAmong (length xs) xs (λ z. HasNext o (lines_after (map (λ lines. lines.items) next) z.0) (view_in q z.1)) (λ z. LacksNext o (lines_after (map (λ lines. lines.items) next) z.0) (view_in q z.1)) c.lacking_after.result)
     c.deref-in-loop-i-2.ensures.value c.lacking_after.ensures in
-    let lacking = lacks_by_send members room g.met.S.ViewSet.below s out (place_of y) x.0.1 xs c.lacking_after.result q.declared c.requires.made is.view is.here kind is.outcomes least in
+    let lacking = lacks_by_send g.met.S.ViewSet.below s out (place_of y) x.0.1 xs c.lacking_after.result q.declared c.requires.made is.view is.here kind is.outcomes least in
     record {
       own = subst (IsLackingOfSends s o (n + 1) q.spots.now) (sym c.least-own.ensures)
           (least_more (λ (p : Spot). HasAll o (ComesTo s o (place_of p))) (λ p. Lacks o (ComesTo s o (place_of p))) q.spots.now n y c.loop-i.own c.lacking_after.result c.loop-i-test.true c.spot-item.is c.loop-i.invariant.own lacking);
@@ -85,7 +81,7 @@ pub returns : goal.returns
 returns g c =
     let s = scenario_of c.args.asked.now.scenario.now in
     let script = script_of c.args.script.now in
-    let o = outline_of g.S.ViewSet.members c.args.asked.now.outline.now in
+    let o = outline_of c.args.asked.now.outline.now in
     let others = c.in_ok-others.others in
     let whole : c.loop-i.i ≡ length c.args.asked.now.spots.now = omega arith in
     let own = subst (λ n. IsLackingOfSends s o n c.args.asked.now.spots.now c.loop-i.own) whole c.loop-i.invariant.own in

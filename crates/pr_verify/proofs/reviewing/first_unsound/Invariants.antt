@@ -6,6 +6,6 @@ use Rattle.pr_verify.proofs.reviewing.first_unsound.Given as goal
 
 abbrev pub invariant-loop-i : goal.invariant-loop-i
 invariant-loop-i g l = record {
-  own : IsLackingOfSends (scenario_of l.asked.scenario.now) (outline_of g.S.ViewSet.members l.asked.outline.now) l.i l.asked.spots.now l.own;
-  known : AreAnswersTo g.S.ViewSet.members g.S.ViewSet.room l.asked l.known.items;
+  own : IsLackingOfSends (scenario_of l.asked.scenario.now) (outline_of l.asked.outline.now) l.i l.asked.spots.now l.own;
+  known : AreAnswersTo l.asked l.known.items;
 }

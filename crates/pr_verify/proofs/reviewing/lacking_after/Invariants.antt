@@ -7,6 +7,6 @@ use Rattle.pr_verify.proofs.reviewing.lacking_after.Given as goal
 
 abbrev pub invariant-loop-landing : goal.invariant-loop-landing
 invariant-loop-landing g l =
-    let o = outline_of g.S.ViewSet.members l.outline in
+    let o = outline_of l.outline in
     let next = map (λ lines. lines.items) l.next in
-    IsLeastAmong l.landing-index l.outcomes (λ x. HasNext o (lines_after next x.0) (view_of g.S.ViewSet.members l.outline.host x.1)) (λ x. LacksNext o (lines_after next x.0) (view_of g.S.ViewSet.members l.outline.host x.1)) l.first
+    IsLeastAmong l.landing-index l.outcomes (λ x. HasNext o (lines_after next x.0) (view_of l.outline.host x.1)) (λ x. LacksNext o (lines_after next x.0) (view_of l.outline.host x.1)) l.first

@@ -9,7 +9,7 @@ use Rattle.pr_verify.proofs.table.arms_taken.Goals as goal
 
 pub loop-arm-preserved : goal.loop-arm-preserved
 loop-arm-preserved g c =
-    let P = λ (n : ℕ). Contains (map (λ (o : Landing × ViewOf g.row.S.Denot). o.0) c.args.outcomes.now) (Arm n) in
+    let P = λ (n : ℕ). Contains (map (λ (o : Landing × ViewOf g.row.S.Denot g.S.ViewSet). o.0) c.args.outcomes.now) (Arm n) in
     let k = c.loop-arm.arm in
     let xs = c.loop-arm.arms.items in
     let before = c.loop-arm.invariant in
@@ -30,6 +30,6 @@ loop-arm-preserved g c =
 
 pub returns-clause-each : goal.returns-clause-each
 returns-clause-each g c =
-    let P = λ (n : ℕ). Contains (map (λ (o : Landing × ViewOf g.row.S.Denot). o.0) c.args.outcomes.now) (Arm n) in
+    let P = λ (n : ℕ). Contains (map (λ (o : Landing × ViewOf g.row.S.Denot g.S.ViewSet). o.0) c.args.outcomes.now) (Arm n) in
     let whole : c.loop-arm.arm ≡ c.args.count = omega arith in
     subst (λ k. AreBelow P k c.loop-arm.arms.items) whole c.loop-arm.invariant.each

@@ -19,7 +19,7 @@ answer-requires g c =
 pub index-requires : goal.index-requires
 index-requires g c =
     let q = c.args.asked.now in
-    let there = answer_within g.S.ViewSet.members g.S.ViewSet.room q c.requires c.loop-i.i c.loop-i-test.true c.answer.new.known.items c.in_ok-answer.answer c.in_ok-answer.ensures.answer in
+    let there = answer_within q c.requires c.loop-i.i c.loop-i-test.true c.answer.new.known.items c.in_ok-answer.answer c.in_ok-answer.ensures.answer in
     omega arith
 
 pub index-requires-in-loop-i : goal.index-requires-in-loop-i
@@ -31,14 +31,14 @@ index-requires-in-loop-i g c =
 pub row_of_spot-requires : goal.row_of_spot-requires
 row_of_spot-requires g c = (
   search rules,
-  answered_here g.S.ViewSet.members g.S.ViewSet.room c.args.asked.now c.requires c.loop-i.i c.loop-i-test.true c.answer.new.known.items c.in_ok-answer.answer c.in_ok-answer.ensures.answer
+  answered_here c.args.asked.now c.requires c.loop-i.i c.loop-i-test.true c.answer.new.known.items c.in_ok-answer.answer c.in_ok-answer.ensures.answer
       c.spot-item.result c.index-in-loop-i.result.now c.spot-item.is c.index-in-loop-i.ensures c.index.result.now c.index.ensures c.deref.result.now c.deref.ensures.value,
 )
 
 pub loop-i-preserved : goal.loop-i-preserved
 loop-i-preserved g c =
     let s = scenario_of c.args.asked.now.scenario.now in
-    let o = outline_of g.S.ViewSet.members c.args.asked.now.outline.now in
+    let o = outline_of c.args.asked.now.outline.now in
     let R = λ (p : Spot) (r : Row). IsRow s o (place_of p) (row_of r) in
     let ys = c.args.asked.now.spots.now in
     let n = c.loop-i.i in
@@ -51,7 +51,7 @@ loop-i-preserved g c =
 pub returns : goal.returns
 returns g c =
     let s = scenario_of c.args.asked.now.scenario.now in
-    let o = outline_of g.S.ViewSet.members c.args.asked.now.outline.now in
+    let o = outline_of c.args.asked.now.outline.now in
     let R = λ (p : Spot) (r : Row). IsRow s o (place_of p) (row_of r) in
     let ys = c.args.asked.now.spots.now in
     let whole : c.loop-i.i ≡ length ys = omega arith in

@@ -9,6 +9,6 @@ use Rattle.pr_verify.proofs.table.rows.Given as goal
 
 abbrev pub invariant-loop-i : goal.invariant-loop-i
 invariant-loop-i g l = record {
-  rows : AllZip (λ p r. IsRow (scenario_of l.asked.scenario.now) (outline_of g.S.ViewSet.members l.asked.outline.now) (place_of p) (row_of r)) (take l.i l.asked.spots.now) l.rows.items;
-  known : AreAnswersTo g.S.ViewSet.members g.S.ViewSet.room l.asked l.known.items;
+  rows : AllZip (λ p r. IsRow (scenario_of l.asked.scenario.now) (outline_of l.asked.outline.now) (place_of p) (row_of r)) (take l.i l.asked.spots.now) l.rows.items;
+  known : AreAnswersTo l.asked l.known.items;
 }

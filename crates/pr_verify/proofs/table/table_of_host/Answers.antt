@@ -3,7 +3,6 @@ use Rattle.std.specs.List.{AllZip}
 use Rattle.pr_script.specs.Grammar.{rise_above}
 use Rattle.pr_script.specs.Trees.{script_of}
 use Rattle.pr_roles.specs.Scenarios.{scenario_of, task}
-use Rattle.pr_sets.specs.contracts.word_set.WordSetViewSet.TheImpl.{members-value}
 use Rattle.pr_sets.specs.declared.word_set.WordSet.{WordSet}
 use Rattle.pr_views.specs.declared.view.ViewOf.{ViewOf}
 use Rattle.pr_verify.specs.Places.{Place}
@@ -31,14 +30,14 @@ invariant_of-questions-clause-written c =
 
 pub invariant_of-questions-clause-listed : goal.invariant_of-questions-clause-listed
 invariant_of-questions-clause-listed c =
-    let same = lines_listed (members-value).it c.in_ok-outline.outline (script_of c.script_in-script.result.now) c.in_ok-spots.spots.items c.in_ok-spots.ensures.places
-    (of_script (task (scenario_of c.args.scenario.now) c.args.host) (script_of c.script_in-script.result.now) (λ b. IsListed b (outline_of (members-value).it c.in_ok-outline.outline)) c.requires c.script_in-script.ensures.script c.in_ok-outline.ensures.listed) in
-    subst (λ (xs : List Spot). map (λ (e : ℕ × ViewOf WordSet). e.0) c.in_ok-outline.outline.views.items ≡ map (λ x. x.line) xs) (sym c.deref.ensures.value) same
+    let same = lines_listed c.in_ok-outline.outline (script_of c.script_in-script.result.now) c.in_ok-spots.spots.items c.in_ok-spots.ensures.places
+    (of_script (task (scenario_of c.args.scenario.now) c.args.host) (script_of c.script_in-script.result.now) (λ b. IsListed b (outline_of c.in_ok-outline.outline)) c.requires c.script_in-script.ensures.script c.in_ok-outline.ensures.listed) in
+    subst (λ (xs : List Spot). map (λ (e : ℕ × ViewOf WordSet _). e.0) c.in_ok-outline.outline.views.items ≡ map (λ x. x.line) xs) (sym c.deref.ensures.value) same
 
 pub invariant_of-questions-clause-rise : goal.invariant_of-questions-clause-rise
 invariant_of-questions-clause-rise c =
-    let same = lines_listed (members-value).it c.in_ok-outline.outline (script_of c.script_in-script.result.now) c.in_ok-spots.spots.items c.in_ok-spots.ensures.places
-    (of_script (task (scenario_of c.args.scenario.now) c.args.host) (script_of c.script_in-script.result.now) (λ b. IsListed b (outline_of (members-value).it c.in_ok-outline.outline)) c.requires c.script_in-script.ensures.script c.in_ok-outline.ensures.listed) in
+    let same = lines_listed c.in_ok-outline.outline (script_of c.script_in-script.result.now) c.in_ok-spots.spots.items c.in_ok-spots.ensures.places
+    (of_script (task (scenario_of c.args.scenario.now) c.args.host) (script_of c.script_in-script.result.now) (λ b. IsListed b (outline_of c.in_ok-outline.outline)) c.requires c.script_in-script.ensures.script c.in_ok-outline.ensures.listed) in
     ap (rise_above 0) same ∙ spots_rise (script_of c.script_in-script.result.now) c.in_ok-spots.spots.items c.in_ok-spots.ensures.places (scenario_of c.args.scenario.now).keys c.script_in-script.ensures.fits
 
 pub returns-clause-table : goal.returns-clause-table
@@ -47,7 +46,7 @@ returns-clause-table c =
     let t = task s c.args.host in
     let script = script_of c.script_in-script.result.now in
     let spots = c.in_ok-spots.spots.items in
-    let o = outline_of (members-value).it c.in_ok-outline.outline in
+    let o = outline_of c.in_ok-outline.outline in
     let rows = c.in_ok-rows.rows.items in
     let least = of_script t script (λ b. IsLeastSound s b o) c.requires c.script_in-script.ensures.script c.in_ok-outline.ensures.least in
     let all = subst (λ (xs : List Spot). AllZip (λ p r. IsRow s o (place_of p) (row_of r)) xs rows) c.deref.ensures.value c.in_ok-rows.ensures in
@@ -62,9 +61,9 @@ returns-clause-rows c =
     let s = scenario_of c.args.scenario.now in
     let script = script_of c.script_in-script.result.now in
     let spots = c.in_ok-spots.spots.items in
-    let o = outline_of (members-value).it c.in_ok-outline.outline in
-    let listed = lines_listed (members-value).it c.in_ok-outline.outline script spots c.in_ok-spots.ensures.places
-    (of_script (task s c.args.host) script (λ b. IsListed b (outline_of (members-value).it c.in_ok-outline.outline)) c.requires c.script_in-script.ensures.script c.in_ok-outline.ensures.listed) in
+    let o = outline_of c.in_ok-outline.outline in
+    let listed = lines_listed c.in_ok-outline.outline script spots c.in_ok-spots.ensures.places
+    (of_script (task s c.args.host) script (λ b. IsListed b (outline_of c.in_ok-outline.outline)) c.requires c.script_in-script.ensures.script c.in_ok-outline.ensures.listed) in
     let R = λ (p : Spot) (r : Row). IsRow (scenario_of c.args.scenario.now) o (place_of p) (row_of r) in
     zip_length R c.deref.result.now c.in_ok-rows.rows.items c.in_ok-rows.ensures ∙ ap length c.deref.ensures.value
     ∙ sym (as_many (λ (p : Spot). p.line) c.in_ok-outline.outline.views.items spots listed)

@@ -1,7 +1,6 @@
 use Rattle.std.proofs.Common.{◌≡◌, ◌+◌, length, sym, ap, ◌∙◌, subst, arith, Vec, Global}
 use Rattle.pr_roles.specs.Scenarios.{scenario_of}
 use Rattle.pr_domain.proofs.lemmas.Starting.WrittenNumbers.{are_counted}
-use Rattle.pr_sets.specs.contracts.word_set.WordSetViewSet.TheImpl.{members-value, room-value}
 use Rattle.pr_verify.specs.declared.table.Table.{Table}
 use Rattle.pr_verify.proofs.lemmas.Tabling.Rows.{AreBeforeHost, one_table, no_table, are_tables}
 use Rattle.pr_verify.proofs.table.tables.Goals.{then-has_script+in_ok-table_of_host+in_ok-push, else-has_script}
@@ -21,11 +20,11 @@ loop-host-preserved c =
     elim c.if-has_script.branch [
       | then-has_script+in_ok-table_of_host+in_ok-push w ↦
           let t = w.in_ok-table_of_host.ensures in
-          subst (AreBeforeHost s (members-value).it (room-value).it (n + 1)) (sym (ap (λ (v : Vec Table Global). v.items) w.tables-is ∙ w.in_ok-push.ensures.items))
-          (one_table s (members-value).it (room-value).it n ts _ c.loop-host.invariant (sym c.has_script.ensures ∙ w.if-has_script.true) t.host t.table t.made t.rows)
+          subst (AreBeforeHost s (n + 1)) (sym (ap (λ (v : Vec Table Global). v.items) w.tables-is ∙ w.in_ok-push.ensures.items))
+          (one_table s n ts _ c.loop-host.invariant (sym c.has_script.ensures ∙ w.if-has_script.true) t.host t.table t.made t.rows)
       | else-has_script w ↦
-          subst (AreBeforeHost s (members-value).it (room-value).it (n + 1)) (sym (ap (λ (v : Vec Table Global). v.items) w.tables-is))
-          (no_table s (members-value).it (room-value).it n ts c.loop-host.invariant (sym c.has_script.ensures ∙ w.if-has_script.false))
+          subst (AreBeforeHost s (n + 1)) (sym (ap (λ (v : Vec Table Global). v.items) w.tables-is))
+          (no_table s n ts c.loop-host.invariant (sym c.has_script.ensures ∙ w.if-has_script.false))
     ]
 
 pub returns-clause-tables : goal.returns-clause-tables
@@ -34,4 +33,4 @@ returns-clause-tables c =
     let all = (are_counted c.args.scenario.now c.parts.result.now c.len-hosts.result c.parts.ensures.value c.parts.ensures.fits c.len-hosts.ensures).nexuses in
     let last = c.loop-host-test.false in
     let whole : c.loop-host.host ≡ length s.nexuses = omega arith in
-    are_tables s (members-value).it (room-value).it c.loop-host.tables.items (subst (λ n. AreBeforeHost s (members-value).it (room-value).it n c.loop-host.tables.items) whole c.loop-host.invariant)
+    are_tables s c.loop-host.tables.items (subst (λ n. AreBeforeHost s n c.loop-host.tables.items) whole c.loop-host.invariant)
