@@ -2,8 +2,6 @@
 -- The outline and the table that values of the program are.
 use Rattle.std.specs.Prelude.{◌≡◌, ℕ, length, map, Option, Some, None}
 use Rattle.std.specs.List.{All}
-use Rattle.pr_sets.specs.Numbers.{Numbers}
-use Rattle.pr_sets.specs.declared.word_set.WordSet.{WordSet}
 use Rattle.pr_sets.specs.declared.view_set.ViewSet.{Ghosts as ViewSet}
 use Rattle.pr_views.specs.declared.view.ViewOf.{ViewOf}
 use Rattle.pr_views.specs.Rooms.{view_of}
@@ -35,7 +33,7 @@ IsScripted (Some (Planned commands)) = ⊥
 abbrev pub row_of : KeptRow → Row
 row_of r = record { command = r.command; tests = r.tests.items; permitted = r.permitted; arms = r.arms.items; unarmed = r.unarmed.items }
 
-abbrev pub table_of : (WordSet → Numbers) → KeptTable → Table
+abbrev pub table_of : KeptTable → Table
 table_of t = record { outline = outline_of t.outline; rows = map row_of t.rows.items }
 
 -- ---- what holds of them, by the script of a host, if it has one

@@ -76,7 +76,7 @@ pub record IsAskedBefore {S : Type 0} {sets : ViewSet S} (q : Questions (ViewOf 
 
 -- this place of the list has the answer to the question of that place
 abbrev pub IsAnsweredAt : {S : Type 0} {sets : ViewSet S} → Questions (ViewOf S sets) → ℕ → List (Answer (ViewOf S sets)) → ℕ → Type 0
-IsAnsweredAt {S} q place known k =
+IsAnsweredAt {S} {sets} q place known k =
     (p : Spot) (e : ℕ × ViewOf S sets) → slice_get q.spots.now place ≡ Some p → slice_get q.outline.now.views.items place ≡ Some e
     → IsAnswerAt q.outline.now.host (refusals_for q) p e.1 known k
 

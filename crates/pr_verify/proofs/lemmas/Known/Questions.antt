@@ -28,7 +28,7 @@ use Rattle.pr_verify.proofs.lemmas.Inferring.Sketches.{item_is}
 -- what comes of one view comes of an equal one, where the same is sent
 comes_to_equal : {S : Type 0} {sets : ViewSet S} (own : ℕ) (d : Refusals) (v w : ViewOf S sets) (p q : Spot) (outcomes : List (Landing × ViewOf S sets)) → v.keys.items ≡ w.keys.items → v.hosts ≡ w.hosts
     → AreEqual v w → AskTheSame p q → ComesTo own d v p outcomes → ComesTo own d w q outcomes
-comes_to_equal {S} own d v w p q outcomes keys hosts equal same is =
+comes_to_equal {S} {sets} own d v w p q outcomes keys hosts equal same is =
     let them = map (λ (o : Landing × ViewOf S sets). (o.0, view_of own o.1)) outcomes in
     let scope : scope_of own v ≡ scope_of own w = λ i. record { own = own; hosts = hosts i; keys = keys i } in
     same_outcomes (view_of own v) (view_of own w) d q.command q.tests.items them scope (equal.there own) (equal.back own)
@@ -52,7 +52,7 @@ has_view q place small = subst (λ n. place < n) (sym (each q)) small
 pub same_question : {S : Type 0} {sets : ViewSet S} (q : Questions (ViewOf S sets)) (place other : ℕ) → place < length q.spots.now → other < length q.spots.now
     → (p r : Spot) → p ≡ get_or q.spots.now place p → r ≡ get_or q.spots.now other r → AskTheSame p r
     → (d e : ℕ × ViewOf S sets) → d ≡ get_or q.outline.now.views.items place d → e ≡ get_or q.outline.now.views.items other e → AreEqual d.1 e.1 → IsSameQuestion q place other
-same_question {S} q place other one two p r here there same d e shown also equal = record {
+same_question {S} {sets} q place other one two p r here there same d e shown also equal = record {
   sends = λ x y is too.
       subst (λ (z : Spot). AskTheSame z y) (at q.spots.now place p x one here is) (subst (AskTheSame p) (at q.spots.now other r y two there too) same);
   views = λ x y is too.

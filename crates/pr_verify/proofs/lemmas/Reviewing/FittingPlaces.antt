@@ -115,6 +115,9 @@ module _ (s : Scenario) (o : Outline) (p : Place) (v : View) (here : IsHere o p 
           ends = ends.1;
         }
 
+    no_first : (n : ℕ) → None ≡ Some n → ⊥
+    no_first n bad = cc
+
     -- the class of a reply that finds no arm is listed
     pub lacking_listed : (class : Class) → LacksArm s o p class → IsUnarmed (length xs) xs class
     lacking_listed class lacks = at one.outcome.0 refl one.landing
@@ -123,7 +126,7 @@ module _ (s : Scenario) (o : Outline) (p : Place) (v : View) (here : IsHere o p 
         one = are.cover lacks.from lacks.reply lacks.after (shown_here lacks.from lacks.shown) (answer_own lacks.from lacks.reply lacks.after lacks.answer)
 
         at : (l : Landing) → one.outcome.0 ≡ l → IsLanding p.tests lacks.reply l → IsUnarmed (length xs) xs class
-        at (Arm n) is first = let bad : None ≡ Some n = sym lacks.none ∙ first in cc
+        at (Arm n) is first = absurd (no_first n (sym lacks.none ∙ first))
         at (NoArm other) is ends =
             unarmed_listed one.outcome class one.listed (is ∙ ap (λ c. NoArm c) (one_class lacks.reply other class ends.1 lacks.ends))
 

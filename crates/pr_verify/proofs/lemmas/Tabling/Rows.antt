@@ -13,7 +13,6 @@ use Rattle.pr_script.specs.Scripts.{Stmts}
 use Rattle.pr_roles.specs.DeclaredRefusals.{refusals_of}
 use Rattle.pr_roles.specs.Scenarios.{Scenario, Task, Scripted, role, task}
 use Rattle.pr_sets.specs.Numbers.{Numbers}
-use Rattle.pr_sets.specs.declared.word_set.WordSet.{WordSet}
 use Rattle.pr_sets.specs.declared.view_set.ViewSet.{Ghosts as ViewSet}
 use Rattle.pr_views.specs.declared.view.ViewOf.{ViewOf}
 use Rattle.pr_views.specs.Views.{View}
@@ -229,7 +228,7 @@ of_script _ script P scripted same all = absurd scripted
 -- the views of an outline that is listed stand at the lines of the sends
 pub lines_listed : {S : Type 0} {sets : ViewSet S} (o : OutlineBy (ViewOf S sets)) (script : Stmts) (spots : List Spot) → map place_of spots ≡ places_of script → IsListed script (outline_of o)
     → map (λ e. e.0) o.views.items ≡ map (λ p. p.line) spots
-lines_listed {S} o script spots places listed =
+lines_listed {S} {sets} o script spots places listed =
     sym (map-map (λ (e : ℕ × View). e.0) (λ (e : ℕ × ViewOf S sets). (e.0, view_of o.host e.1)) o.views.items) ∙ listed ∙ place_lines script spots places
 
 range_more : (n : ℕ) → range_with_len 0 (n + 1) ≡ range_with_len 0 n ++ n ∷ []

@@ -5,12 +5,12 @@ use Rattle.pr_verify.proofs.others.is_one_of.Goals as goal
 
 pub within-requires : goal.within-requires
 within-requires g c =
-    let is = subst (λ e. AreAlike c.args.view.now e.1) (sym c.loop-other-item.is) (c.requires.alike c.loop-other.other-index c.loop-other-item.result c.loop-other-test.true) in
+    let is = subst (λ e. AreAlike c.args.view.now e.1) (sym c.loop-other-item.is) (c.requires c.loop-other.other-index c.loop-other-item.result c.loop-other-test.true) in
     (search rules, is)
 
 pub within-requires-then-within : goal.within-requires-then-within
 within-requires-then-within g c =
-    let is = subst (λ e. AreAlike c.args.view.now e.1) (sym c.loop-other-item.is) (c.requires.alike c.loop-other.other-index c.loop-other-item.result c.loop-other-test.true) in
+    let is = subst (λ e. AreAlike c.args.view.now e.1) (sym c.loop-other-item.is) (c.requires c.loop-other.other-index c.loop-other-item.result c.loop-other-test.true) in
     (search rules, record { keys = sym is.keys; hosts = sym is.hosts })
 
 pub returns-then-within-2 : goal.returns-then-within-2

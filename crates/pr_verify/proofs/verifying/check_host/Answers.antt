@@ -31,7 +31,7 @@ infer-requires c =
 pub check_fit-requires : goal.check_fit-requires
 check_fit-requires c =
     let s = scenario_of c.args.scenario.now in
-    let o = outline_of _ c.in_ok-outline-in-Scripted.outline in
+    let o = outline_of c.in_ok-outline-in-Scripted.outline in
     let n = c.nexus_in.result.now in
     let is = scripted_task s c.args.host n c.nexus_in.ensures.nexus c.in-Scripted.script c.in-Scripted.budget c.in-Scripted.is in
     let fits = scripted_fits s c.args.host n c.nexus_in.ensures.nexus c.in-Scripted.script c.in-Scripted.budget c.in-Scripted.is c.nexus_in.ensures.fits in
@@ -46,7 +46,7 @@ returns-in_ok-outline-in-Scripted-clause-outline c =
     let script = script_of c.in-Scripted.script in
     let budget = c.in-Scripted.budget in
     let is = scripted_task s host c.nexus_in.result.now c.nexus_in.ensures.nexus c.in-Scripted.script budget c.in-Scripted.is in
-    let o = outline_of _ c.in_ok-outline-in-Scripted.outline in
+    let o = outline_of c.in_ok-outline-in-Scripted.outline in
     let least = subst (λ t. OnScripted t (λ b n. IsLeastSound s b o)) is c.in_ok-outline-in-Scripted.ensures.least in
     one_ok c.check_fit.result
     (λ fitting. on_script (task s host) script budget (HasOutline s host) is
@@ -79,7 +79,7 @@ returns-in_ok-outline-in-Scripted-clause-reason c =
     let host = c.args.host in
     let script = script_of c.in-Scripted.script in
     let budget = c.in-Scripted.budget in
-    let o = outline_of _ c.in_ok-outline-in-Scripted.outline in
+    let o = outline_of c.in_ok-outline-in-Scripted.outline in
     let is = scripted_task s host c.nexus_in.result.now c.nexus_in.ensures.nexus c.in-Scripted.script budget c.in-Scripted.is in
     let least = subst (λ t. OnScripted t (λ b n. IsLeastSound s b o)) is c.in_ok-outline-in-Scripted.ensures.least in
     IfErr-weaker c.check_fit.result (λ refusal. (n : ℕ) → cost_of_all script ≤ n → IsRefusal s script n o refusal) (λ refusal. refusal ≢ Memory → HasReason s host refusal)
