@@ -1,6 +1,6 @@
 -- Agrees with docs/VERDICTS.md, 'Why: `fence outline`'.
 -- The outline and the table that values of the program are.
-use Rattle.std.specs.Prelude.{◌≡◌, ℕ, length, map, Option, Some, None}
+use Rattle.std.specs.Prelude.{◌≡◌, ℕ, List, length, map, Option, Some, None}
 use Rattle.std.specs.List.{All}
 use Rattle.pr_sets.specs.declared.view_set.ViewSet.{Ghosts as ViewSet}
 use Rattle.pr_views.specs.declared.view.ViewOf.{ViewOf}
@@ -22,6 +22,10 @@ outline_of o = record { host = o.host; views = map (λ e. (e.0, view_of o.host e
 -- the views can be ones of this scenario: they have its keys, and speak of as many nexuses
 abbrev pub IsMadeFor : {S : Type 0} {sets : ViewSet S} → Scenario → OutlineBy (ViewOf S sets) → Type 0
 IsMadeFor s o = All (λ e. (e.1.keys.items ≡ s.keys) × (e.1.hosts ≡ length s.nexuses)) o.views.items
+
+-- so can those of each table
+abbrev pub AreMadeFor : Scenario → List KeptTable → Type 0
+AreMadeFor s tables = All (λ t. IsMadeFor s t.outline) tables
 
 -- there is a script
 abbrev pub IsScripted : Option Task → Type 0

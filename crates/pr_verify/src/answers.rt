@@ -3,7 +3,7 @@
 ghost use Rattle.std.specs.Prelude.{◌≡◌, ◌<◌, true, length, map};
 ghost use Rattle.pr_script.specs.Grammar.{rise_above};
 ghost use Rattle.pr_roles.specs.Scenarios.{scenario_of};
-ghost use Rattle.pr_verify.specs.inside.Listing.{AreWritten};
+ghost use Rattle.pr_verify.specs.inside.Listing.{AreWritten, HasEachLine};
 
 use crate::known::{Answer, ask_the_same};
 use crate::nexus::refusals_in;
@@ -23,7 +23,7 @@ pub(crate) struct Questions<'a, V> {
     pub(crate) spots: &'a [Spot],
     ghost declared: { outline.now.host < length (scenario_of scenario.now).nexuses },
     ghost written: { AreWritten (scenario_of scenario.now).keys spots.now },
-    ghost listed: { map (λ e. e.0) outline.now.views.items ≡ map (λ p. p.line) spots.now },
+    ghost listed: { HasEachLine outline.now.views.items spots.now },
     ghost rise: { rise_above 0 (map (λ e. e.0) outline.now.views.items) ≡ true },
 }
 

@@ -3,16 +3,16 @@
 //! No command of the program calls `check_outline`: it is for outlines that were not inferred here. `verify` infers its own, of which
 //! it is proved that they are sound.
 
-ghost use Rattle.std.specs.Prelude.{◌≡◌, ℕ, ◌<◌, ◌≤◌, min, map, OnOk, IfErr};
+ghost use Rattle.std.specs.Prelude.{◌≡◌, ◌<◌, ◌≤◌, min, map, OnOk, IfErr};
 ghost use Rattle.pr_script.specs.declared.limits.TheConstants.{MOST_BUDGET};
 ghost use Rattle.pr_script.specs.Costs.{cost_of_all};
 ghost use Rattle.pr_script.specs.Trees.{script_of};
 ghost use Rattle.pr_roles.specs.Scenarios.{scenario_of, task};
 ghost use Rattle.pr_roles.specs.Starts.{CanStart};
-ghost use Rattle.pr_verify.specs.Outlines.{IsSound, IsFitting, SendsFit};
-ghost use Rattle.pr_verify.specs.Refusals.{IsRefusal, past_budgets, first_difference};
-ghost use Rattle.pr_verify.specs.Rooms.{outline_of, IsFittingFor, IsMadeFor, IsRefusalFor, IsScripted, IsSoundFor};
-ghost use Rattle.pr_verify.specs.inside.Reviewing.{CanCheck};
+ghost use Rattle.pr_verify.specs.Outlines.{SendsFit};
+ghost use Rattle.pr_verify.specs.Refusals.{first_difference};
+ghost use Rattle.pr_verify.specs.Rooms.{IsFittingFor, IsMadeFor, IsRefusalFor, IsScripted, IsSoundFor};
+ghost use Rattle.pr_verify.specs.inside.Reviewing.{CanCheck, FitsAnyBudget, IsOver, IsRefusedBy, IsSoundBy};
 
 use crate::answers::Questions;
 use crate::nexus::nexus_in;
@@ -54,9 +54,7 @@ pub fn check_outline<S: ViewSet>(
 pub(crate) fn check_cost(script: &Script, budget: u32, host: u8) -> Result<(), Refusal>
     requires { budget ≤ MOST_BUDGET }
     ensures within { OnOk result (cost_of_all (script_of script.now) ≤ budget) }
-    ensures over { IfErr result (λ refusal. (budget < cost_of_all (script_of script.now))
-        × (refusal ≡ Refusal.OverBudget host
-        (min past_budgets (cost_of_all (script_of script.now))))) }
+    ensures over { IfErr result (IsOver script.now budget host) }
 {
     let cost = cost(script);
     if cost > u64::from(budget) {
@@ -74,12 +72,8 @@ fn check_sound<S: ViewSet>(
 ) -> Result<(), Refusal>
     requires starts { CanStart (scenario_of scenario.now) }
     requires able { CanCheck (scenario_of scenario.now) (script_of script.now) outline.now }
-    ensures sound { OnOk result (IsSound (scenario_of scenario.now) (script_of script.now)
-        (outline_of outline.now)) }
-    ensures refusal { IfErr result (λ refusal. (budget : ℕ)
-        → cost_of_all (script_of script.now) ≤ budget
-        → IsRefusal (scenario_of scenario.now) (script_of script.now) budget
-        (outline_of outline.now) refusal) }
+    ensures sound { OnOk result (IsSoundBy scenario.now script.now outline.now) }
+    ensures refusal { IfErr result (IsRefusedBy scenario.now script.now outline.now) }
 {
     let host = outline.host;
     let spots = spots(alloc, script)?;
@@ -105,16 +99,10 @@ pub(crate) fn check_fit<S: ViewSet>(
     outline: &OutlineOf<S>,
 ) -> Result<(), Refusal>
     requires able { CanCheck (scenario_of scenario.now) (script_of script.now) outline.now }
-    requires sound { IsSound (scenario_of scenario.now) (script_of script.now)
-        (outline_of outline.now) }
+    requires sound { IsSoundBy scenario.now script.now outline.now }
     ensures fields { OnOk result (SendsFit (script_of script.now)) }
-    ensures fitting { OnOk result ((budget : ℕ) → cost_of_all (script_of script.now) ≤ budget
-        → IsFitting (scenario_of scenario.now) (script_of script.now) budget
-        (outline_of outline.now)) }
-    ensures refusal { IfErr result (λ refusal. (budget : ℕ)
-        → cost_of_all (script_of script.now) ≤ budget
-        → IsRefusal (scenario_of scenario.now) (script_of script.now) budget
-        (outline_of outline.now) refusal) }
+    ensures fitting { OnOk result (FitsAnyBudget scenario.now script.now outline.now) }
+    ensures refusal { IfErr result (IsRefusedBy scenario.now script.now outline.now) }
 {
     let spots = spots(alloc, script)?;
     let questions = Questions {

@@ -18,6 +18,7 @@ mod refusal;
 mod reviewing;
 mod sketch;
 mod table;
+mod tabling;
 mod verifying;
 
 pub use check_gate::{CheckGate, NoCheckGate};
@@ -28,5 +29,6 @@ pub use laws::{outlines_make_safe, reasons_are_final, runs_go_on, safe_sends_are
 pub use nexus::nexus_in;
 pub use outline::{Outline, OutlineBy, OutlineOf};
 pub use refusal::Refusal;
-pub use table::{Row, Table, tables};
+pub use table::{Row, Table};
+pub use tabling::tables;
 pub use verifying::{Refused, Verified, verify};

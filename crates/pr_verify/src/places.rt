@@ -1,11 +1,11 @@
 //! The sends of a script, and where its arms lead.
 
-ghost use Rattle.std.specs.Prelude.{◌≡◌, ◌++◌, IfOk, OnOk, map};
+ghost use Rattle.std.specs.Prelude.{◌≡◌, IfOk, OnOk};
 ghost use Rattle.pr_script.specs.Trees.{script_of, statement_of, statements_in};
 ghost use Rattle.pr_script.specs.inside.ArmLists.{arms_in};
-ghost use Rattle.pr_verify.specs.Places.{places, places_in, places_of_arms, places_of, first_lines, lines_of, round, tests_of, next_of};
+ghost use Rattle.pr_verify.specs.Places.{places, places_in, places_of_arms, first_lines, lines_of, round, tests_of, next_of};
 ghost use Rattle.pr_verify.specs.Outlines.{SendsFit};
-ghost use Rattle.pr_verify.specs.inside.Listing.{place_of, AreInRange};
+ghost use Rattle.pr_verify.specs.inside.Listing.{lines_in, AreInRange, AreSendsOf, HasMore};
 
 use crate::head::{Head, head_in};
 use pr_cdb::{Command, in_range};
@@ -25,8 +25,7 @@ pub(crate) struct Spot {
 
 /// The sends of a script, in the order of their lines.
 pub(crate) fn spots(alloc: Global, script: &Script) -> Result<Vec<Spot>, AllocError>
-    ensures places { IfOk result (λ spots. map place_of spots.items
-        ≡ places_of (script_of script.now)) }
+    ensures places { IfOk result (λ spots. AreSendsOf (script_of script.now) spots.items) }
     ensures fields { OnOk result (SendsFit (script_of script.now)) }
 {
     let mut spots = Vec::new(alloc);
@@ -88,7 +87,7 @@ fn next_in(
     after: &[u32],
     broken: &[u32],
 ) -> Result<Vec<Vec<u32>>, AllocError>
-    ensures { IfOk result (λ next. map (λ lines. lines.items) next.items
+    ensures { IfOk result (λ next. lines_in next.items
         ≡ next_of (arms_in arms.now) after.now broken.now) }
 {
     let mut next = Vec::with_capacity(alloc, arms.len())?;
@@ -107,9 +106,8 @@ fn list(
     after: &[u32],
     broken: &[u32],
 ) -> Result<(), AllocError>
-    ensures listed { OnOk result (map place_of spots.new.items
-        ≡ map place_of spots.old.items
-        ++ places (statements_in statements.now) after.now broken.now) }
+    ensures listed { OnOk result (HasMore spots.old.items spots.new.items
+        (places (statements_in statements.now) after.now broken.now)) }
     ensures fields { OnOk result (AreInRange spots.old.items → AreInRange spots.new.items) }
 {
     for (i, statement) in statements.iter().enumerate() {
@@ -127,9 +125,8 @@ fn list_at(
     after: &[u32],
     broken: &[u32],
 ) -> Result<(), AllocError>
-    ensures listed { OnOk result (map place_of spots.new.items
-        ≡ map place_of spots.old.items
-        ++ places_in (statement_of statement.now) after.now broken.now) }
+    ensures listed { OnOk result (HasMore spots.old.items spots.new.items
+        (places_in (statement_of statement.now) after.now broken.now)) }
     ensures fields { OnOk result (AreInRange spots.old.items → AreInRange spots.new.items) }
 {
     match statement {
@@ -164,9 +161,8 @@ fn list_arms(
     after: &[u32],
     broken: &[u32],
 ) -> Result<(), AllocError>
-    ensures listed { OnOk result (map place_of spots.new.items
-        ≡ map place_of spots.old.items
-        ++ places_of_arms (arms_in arms.now) after.now broken.now) }
+    ensures listed { OnOk result (HasMore spots.old.items spots.new.items
+        (places_of_arms (arms_in arms.now) after.now broken.now)) }
     ensures fields { OnOk result (AreInRange spots.old.items → AreInRange spots.new.items) }
 {
     for arm in arms {

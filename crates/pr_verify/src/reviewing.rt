@@ -1,13 +1,12 @@
 //! The first view of an outline that is not sound, and the first send that does not fit.
 
-ghost use Rattle.std.specs.Prelude.{◌≡◌, length, map, option_map, IfOk};
+ghost use Rattle.std.specs.Prelude.{◌≡◌, length, option_map, IfOk};
 ghost use Rattle.std.specs.List.{All};
 ghost use Rattle.pr_script.specs.Trees.{script_of};
 ghost use Rattle.pr_roles.specs.Starts.{CanStart};
-ghost use Rattle.pr_verify.specs.Places.{places_of};
 ghost use Rattle.pr_verify.specs.Refusals.{class_number};
 ghost use Rattle.pr_verify.specs.inside.Asked.{AreMade, IsAnswered, IsFirstMisfitIn, IsFirstUnsound, IsMisfitIn, scenario_in};
-ghost use Rattle.pr_verify.specs.inside.Listing.{place_of};
+ghost use Rattle.pr_verify.specs.inside.Listing.{lines_in, AreSendsOf};
 ghost use Rattle.pr_verify.specs.inside.Lacking.{CanCompare, IsFirstWithoutAfter, lines_after};
 ghost use Rattle.pr_verify.specs.inside.Reviewing.{IsFirstUnarmed, earlier, earlier_from};
 
@@ -33,7 +32,7 @@ pub(crate) fn first_unsound<S: ViewSet>(
 ) -> Result<Option<u32>, AllocError>
     requires starts { CanStart (scenario_in asked.now) }
     requires made { AreMade asked.now }
-    requires places { map place_of asked.now.spots.now ≡ places_of (script_of script.now) }
+    requires places { AreSendsOf (script_of script.now) asked.now.spots.now }
     ensures { IfOk result (IsFirstUnsound asked.now (script_of script.now)) }
 {
     let firsts = first_lines(alloc, script)?;
@@ -75,8 +74,7 @@ fn lacking_after<S: ViewSet>(
     next: &[Vec<u32>],
 ) -> Option<u32>
     requires { All (λ o. CanCompare outline.now.views.items o.1) outcomes.now }
-    ensures { IsFirstWithoutAfter outline.now
-        (map (λ lines. lines.items) next.now) outcomes.now result }
+    ensures { IsFirstWithoutAfter outline.now (lines_in next.now) outcomes.now result }
 {
     let mut first = None;
     for (landing, left) in outcomes {
@@ -89,8 +87,7 @@ fn lacking_after<S: ViewSet>(
 
 // The lines at which the script may be ready after this landing.
 fn lines_after(landing: Landing, next: &[Vec<u32>]) -> Option<&[u32]>
-    ensures { option_map (λ lines. lines.now) result
-        ≡ lines_after (map (λ lines. lines.items) next.now) landing }
+    ensures { option_map (λ lines. lines.now) result ≡ lines_after (lines_in next.now) landing }
 {
     match landing {
         Landing::Arm(arm) => next.get(arm).map(|lines| lines.as_slice()),

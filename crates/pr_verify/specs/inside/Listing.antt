@@ -1,14 +1,32 @@
 -- The places of a script, as the code lists them.
-use Rattle.std.specs.Prelude.{◌≡◌, ℕ, ◌≤◌, true, IsTrue, List, length, map}
+use Rattle.std.specs.Prelude.{◌≡◌, ℕ, ◌≤◌, ◌++◌, true, IsTrue, List, length, map, Vec}
+use Rattle.std.specs.Global.{Global}
 use Rattle.std.specs.List.{All, Contains}
 use Rattle.pr_cdb.specs.Ranges.{Fits}
 use Rattle.pr_script.specs.declared.limits.TheConstants.{MOST_ARMS}
 use Rattle.pr_script.specs.Grammar.{is_written, test_fits}
 use Rattle.pr_verify.specs.declared.places.Spot.{Spot}
-use Rattle.pr_verify.specs.Places.{Place}
+use Rattle.pr_script.specs.Scripts.{Stmts}
+use Rattle.pr_verify.specs.Places.{Place, places_of}
+
+-- for each arm the lines that may follow it
+abbrev pub lines_in : List (Vec ℕ Global) → List (List ℕ)
+lines_in next = map (λ lines. lines.items) next
 
 abbrev pub place_of : Spot → Place
-place_of p = record { line = p.line; command = p.command; tests = p.tests.items; next = map (λ lines. lines.items) p.next.items }
+place_of p = record { line = p.line; command = p.command; tests = p.tests.items; next = lines_in p.next.items }
+
+-- these are the sends of the script
+abbrev pub AreSendsOf : Stmts → List Spot → Type 0
+AreSendsOf script spots = map place_of spots ≡ places_of script
+
+-- the later list has the sends of the earlier one, and then these
+abbrev pub HasMore : List Spot → List Spot → List Place → Type 0
+HasMore old new places = map place_of new ≡ map place_of old ++ places
+
+-- for each send there is something at its line
+abbrev pub HasEachLine : {V : Type 0} → List (ℕ × V) → List Spot → Type 0
+HasEachLine views spots = map (λ e. e.0) views ≡ map (λ p. p.line) spots
 
 -- the fields of what they send are in the ranges of their types
 unfoldable pub AreInRange : List Spot → Type 0

@@ -1,8 +1,12 @@
 -- What is found at the sends of a script, one after another.
-use Rattle.std.specs.Prelude.{◌≡◌, ℕ, ◌<◌, ◌≤◌, true, nat_le, if◌then◌else◌, List, length, Option, Some, None, slice_index_or}
+use Rattle.std.specs.Prelude.{◌≡◌, ℕ, ◌<◌, ◌≤◌, min, true, nat_le, if◌then◌else◌, List, length, Option, Some, None, slice_index_or}
 use Rattle.pr_script.specs.Grammar.{script_fits}
+use Rattle.pr_script.specs.Costs.{cost_of_all}
 use Rattle.pr_script.specs.Scripts.{Stmts}
-use Rattle.pr_roles.specs.Scenarios.{Scenario}
+use Rattle.pr_script.specs.Trees.{script_of}
+use Rattle.pr_script.specs.declared.script.Script.{Script}
+use Rattle.pr_roles.specs.Scenarios.{Scenario, scenario_of}
+use Rattle.pr_roles.specs.declared.parts.Parts.{Parts}
 use Rattle.pr_sets.specs.declared.view_set.ViewSet.{Ghosts as ViewSet}
 use Rattle.pr_views.specs.declared.view.ViewOf.{ViewOf}
 use Rattle.pr_domain.specs.declared.landing.Landing.{Landing}
@@ -14,9 +18,9 @@ use Rattle.pr_verify.specs.declared.places.Spot.{Spot}
 use Rattle.pr_verify.specs.declared.refusal.Refusal.{Refusal}
 use Rattle.pr_verify.specs.declared.refusal.Refusal.TheVariants.{NoArm, OutOfRole, OverBudget, Memory, NotSound}
 use Rattle.pr_verify.specs.Places.{Place}
-use Rattle.pr_verify.specs.Outlines.{Outline, ComesTo, KeepsToRole}
-use Rattle.pr_verify.specs.Refusals.{class_number, FitsAt, BreaksRole, LacksArmFirst}
-use Rattle.pr_verify.specs.Rooms.{IsMadeFor}
+use Rattle.pr_verify.specs.Outlines.{Outline, ComesTo, KeepsToRole, IsSound, IsFitting}
+use Rattle.pr_verify.specs.Refusals.{class_number, past_budgets, IsRefusal, FitsAt, BreaksRole, LacksArmFirst}
+use Rattle.pr_verify.specs.Rooms.{outline_of, IsMadeFor}
 use Rattle.pr_verify.specs.inside.Least.{EachOf, IsLeastAmong}
 use Rattle.pr_verify.specs.inside.Lacking.{HasAll, Lacks}
 use Rattle.pr_verify.specs.inside.Listing.{place_of}
@@ -31,6 +35,23 @@ pub record CanCheck {S : Type 0} {sets : ViewSet S} (s : Scenario) (script : Stm
   pub host : o.host < length s.nexuses
   pub written : script_fits s.keys script ≡ true
   pub made : IsMadeFor s o
+
+-- ---- a script and an outline, as the program has them
+
+abbrev pub IsSoundBy : {S : Type 0} {sets : ViewSet S} → Parts → Script → OutlineBy (ViewOf S sets) → Type 0
+IsSoundBy p script o = IsSound (scenario_of p) (script_of script) (outline_of o)
+
+-- the outline fits by each budget that the script is within
+abbrev pub FitsAnyBudget : {S : Type 0} {sets : ViewSet S} → Parts → Script → OutlineBy (ViewOf S sets) → Type 0
+FitsAnyBudget p script o = (budget : ℕ) → cost_of_all (script_of script) ≤ budget → IsFitting (scenario_of p) (script_of script) budget (outline_of o)
+
+-- by each such budget this is the first reason against it
+abbrev pub IsRefusedBy : {S : Type 0} {sets : ViewSet S} → Parts → Script → OutlineBy (ViewOf S sets) → Refusal → Type 0
+IsRefusedBy p script o refusal = (budget : ℕ) → cost_of_all (script_of script) ≤ budget → IsRefusal (scenario_of p) (script_of script) budget (outline_of o) refusal
+
+-- the script costs more than the budget, and the refusal says what
+abbrev pub IsOver : Script → ℕ → ℕ → Refusal → Type 0
+IsOver script budget host refusal = (budget < cost_of_all (script_of script)) × (refusal ≡ OverBudget host (min past_budgets (cost_of_all (script_of script))))
 
 -- ---- what the views lack
 

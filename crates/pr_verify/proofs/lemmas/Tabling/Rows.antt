@@ -262,23 +262,21 @@ module _ (s : Scenario) where
     pub hosts : map (λ t. t.outline.host) ts ≡ filter (λ h. has_script (task s h)) (range_with_len 0 n)
     pub each : All (λ t. OnScripted (task s t.outline.host) (λ script budget. IsTable s script (table_of t))) ts
     pub made : All (λ t. IsMadeFor s t.outline) ts
-    pub rows : All (λ t. length t.rows.items ≡ length t.outline.views.items) ts
 
   pub one_table : (n : ℕ) (ts : List KeptTable) (t : KeptTable) → AreBeforeHost n ts → has_script (task s n) ≡ true → t.outline.host ≡ n → OnScripted (task s n) (λ script budget. IsTable s script (table_of t)) → IsMadeFor s t.outline
-      → length t.rows.items ≡ length t.outline.views.items → AreBeforeHost (n + 1) (ts ++ t ∷ [])
-  one_table n ts t before is host table made rows = record {
+      → AreBeforeHost (n + 1) (ts ++ t ∷ [])
+  one_table n ts t before is host table made = record {
     hosts = map-append (λ (u : KeptTable). u.outline.host) ts (t ∷ []) ∙ (λ i. before.hosts i ++ host i ∷ []) ∙ sym (filter_kept (λ h. has_script (task s h)) n is);
     each = All-push (λ u. OnScripted (task s u.outline.host) (λ script budget. IsTable s script (table_of u))) ts t before.each
         (subst (λ h. OnScripted (task s h) (λ script budget. IsTable s script (table_of t))) (sym host) table);
     made = All-push (λ u. IsMadeFor s u.outline) ts t before.made made;
-    rows = All-push (λ u. length u.rows.items ≡ length u.outline.views.items) ts t before.rows rows;
   }
 
   pub no_table : (n : ℕ) (ts : List KeptTable) → AreBeforeHost n ts → has_script (task s n) ≡ false → AreBeforeHost (n + 1) ts
-  no_table n ts before is = record { hosts = before.hosts ∙ sym (filter_left (λ h. has_script (task s h)) n is); each = before.each; made = before.made; rows = before.rows }
+  no_table n ts before is = record { hosts = before.hosts ∙ sym (filter_left (λ h. has_script (task s h)) n is); each = before.each; made = before.made }
 
-  pub are_tables : (ts : List KeptTable) → AreBeforeHost (length s.nexuses) ts → AreTables s (map (table_of) ts)
+  pub are_tables : (ts : List KeptTable) → AreBeforeHost (length s.nexuses) ts → AreTables s (map table_of ts)
   are_tables ts before = record {
-    hosts = map-map (λ (t : Table). t.outline.host) (table_of) ts ∙ before.hosts;
-    each = All-map (λ (t : Table). OnScripted (task s t.outline.host) (λ script budget. IsTable s script t)) (table_of) ts before.each;
+    hosts = map-map (λ (t : Table). t.outline.host) table_of ts ∙ before.hosts;
+    each = All-map (λ (t : Table). OnScripted (task s t.outline.host) (λ script budget. IsTable s script t)) table_of ts before.each;
   }

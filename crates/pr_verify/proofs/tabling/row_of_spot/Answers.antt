@@ -11,7 +11,7 @@ use Rattle.pr_verify.specs.inside.Listing.{place_of}
 use Rattle.pr_verify.proofs.lemmas.Rooms.Nexuses.{role_read}
 use Rattle.pr_verify.proofs.lemmas.Reviewing.FittingPlaces.{IsHere}
 use Rattle.pr_verify.proofs.lemmas.Tabling.Rows.{AreBelow, row_is}
-use Rattle.pr_verify.proofs.table.row_of_spot.Goals as goal
+use Rattle.pr_verify.proofs.tabling.row_of_spot.Goals as goal
 
 pub returns : goal.returns
 returns g c =

@@ -3,7 +3,7 @@ use Rattle.std.specs.List.{AllPairs}
 use Rattle.pr_verify.specs.Refusals.{class_number}
 use Rattle.pr_verify.specs.inside.Reviewing.{IsUnarmed}
 use Rattle.pr_verify.proofs.lemmas.Tabling.Rows.{AreBefore}
-use Rattle.pr_verify.proofs.table.unarmed.Given as goal
+use Rattle.pr_verify.proofs.tabling.unarmed.Given as goal
 
 abbrev pub invariant-loop-class : goal.invariant-loop-class
 invariant-loop-class g l = record {

@@ -4,8 +4,8 @@ use Rattle.pr_domain.specs.declared.landing.Landing.{Landing}
 use Rattle.pr_domain.specs.declared.landing.Landing.TheVariants.{Arm}
 use Rattle.pr_views.specs.declared.view.ViewOf.{ViewOf}
 use Rattle.pr_verify.proofs.lemmas.Tabling.Rows.{AreBelow, below_same, below_more, rise_more}
-use Rattle.pr_verify.proofs.table.arms_taken.Goals.{then-lands_in+in_ok-push, else-lands_in}
-use Rattle.pr_verify.proofs.table.arms_taken.Goals as goal
+use Rattle.pr_verify.proofs.tabling.arms_taken.Goals.{then-lands_in+in_ok-push, else-lands_in}
+use Rattle.pr_verify.proofs.tabling.arms_taken.Goals as goal
 
 pub loop-arm-preserved : goal.loop-arm-preserved
 loop-arm-preserved g c =

@@ -4,8 +4,8 @@ use Rattle.pr_domain.specs.declared.landing.Landing.TheVariants.{NoArm}
 use Rattle.pr_verify.specs.inside.Reviewing.{IsUnarmed}
 use Rattle.pr_verify.specs.inside.Tabling.{IsInRange}
 use Rattle.pr_verify.proofs.lemmas.Tabling.Rows.{in_range_more}
-use Rattle.pr_verify.proofs.table.are_in_range.Goals.{in-NoArm, in_default}
-use Rattle.pr_verify.proofs.table.are_in_range.Goals as goal
+use Rattle.pr_verify.proofs.tabling.are_in_range.Goals.{in-NoArm, in_default}
+use Rattle.pr_verify.proofs.tabling.are_in_range.Goals as goal
 
 pub loop-landing-preserved : goal.loop-landing-preserved
 loop-landing-preserved g c =

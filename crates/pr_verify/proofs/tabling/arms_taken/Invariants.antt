@@ -2,7 +2,7 @@ use Rattle.std.proofs.Common.{◌<◌, map}
 use Rattle.std.specs.List.{AllPairs, Contains}
 use Rattle.pr_domain.specs.declared.landing.Landing.TheVariants.{Arm}
 use Rattle.pr_verify.proofs.lemmas.Tabling.Rows.{AreBelow}
-use Rattle.pr_verify.proofs.table.arms_taken.Given as goal
+use Rattle.pr_verify.proofs.tabling.arms_taken.Given as goal
 
 abbrev pub invariant-loop-arm : goal.invariant-loop-arm
 invariant-loop-arm g l = record {

@@ -4,7 +4,7 @@ use Rattle.pr_domain.specs.declared.landing.Class.{Class}
 use Rattle.pr_verify.specs.Refusals.{class_number}
 use Rattle.pr_verify.specs.inside.Reviewing.{IsUnarmed}
 use Rattle.pr_verify.proofs.lemmas.Tabling.Rows.{AreBefore, before_more, before_rise, all_before, class_alone}
-use Rattle.pr_verify.proofs.table.unarmed.Goals as goal
+use Rattle.pr_verify.proofs.tabling.unarmed.Goals as goal
 
 pub loop-class-preserved : goal.loop-class-preserved
 loop-class-preserved g c =

@@ -3,8 +3,8 @@ use Rattle.pr_roles.specs.Scenarios.{scenario_of}
 use Rattle.pr_domain.proofs.lemmas.Starting.WrittenNumbers.{are_counted}
 use Rattle.pr_verify.specs.declared.table.Table.{Table}
 use Rattle.pr_verify.proofs.lemmas.Tabling.Rows.{AreBeforeHost, one_table, no_table, are_tables}
-use Rattle.pr_verify.proofs.table.tables.Goals.{then-has_script+in_ok-table_of_host+in_ok-push, else-has_script}
-use Rattle.pr_verify.proofs.table.tables.Goals as goal
+use Rattle.pr_verify.proofs.tabling.tables.Goals.{then-has_script+in_ok-table_of_host+in_ok-push, else-has_script}
+use Rattle.pr_verify.proofs.tabling.tables.Goals as goal
 
 pub overflow_cast-hosts : goal.overflow_cast-hosts
 overflow_cast-hosts c = let few = (are_counted c.args.scenario.now c.parts.result.now c.len-hosts.result c.parts.ensures.value c.parts.ensures.fits c.len-hosts.ensures).few.1 in omega arith
@@ -21,7 +21,7 @@ loop-host-preserved c =
       | then-has_script+in_ok-table_of_host+in_ok-push w ↦
           let t = w.in_ok-table_of_host.ensures in
           subst (AreBeforeHost s (n + 1)) (sym (ap (λ (v : Vec Table Global). v.items) w.tables-is ∙ w.in_ok-push.ensures.items))
-          (one_table s n ts _ c.loop-host.invariant (sym c.has_script.ensures ∙ w.if-has_script.true) t.host t.table t.made t.rows)
+          (one_table s n ts _ c.loop-host.invariant (sym c.has_script.ensures ∙ w.if-has_script.true) t.host t.table t.made)
       | else-has_script w ↦
           subst (AreBeforeHost s (n + 1)) (sym (ap (λ (v : Vec Table Global). v.items) w.tables-is))
           (no_table s n ts c.loop-host.invariant (sym c.has_script.ensures ∙ w.if-has_script.false))

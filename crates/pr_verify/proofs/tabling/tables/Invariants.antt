@@ -1,6 +1,6 @@
 use Rattle.pr_roles.specs.Scenarios.{scenario_of}
 use Rattle.pr_verify.proofs.lemmas.Tabling.Rows.{AreBeforeHost}
-use Rattle.pr_verify.proofs.table.tables.Given as goal
+use Rattle.pr_verify.proofs.tabling.tables.Given as goal
 
 -- as after the nexuses before this one
 abbrev pub invariant-loop-host : goal.invariant-loop-host

@@ -1,6 +1,6 @@
 use Rattle.std.proofs.Common.{◌≡◌}
 use Rattle.pr_verify.specs.inside.Least.{EachOf}
-use Rattle.pr_verify.proofs.table.lands_in.Given as goal
+use Rattle.pr_verify.proofs.tabling.lands_in.Given as goal
 
 -- none before this one
 abbrev pub invariant-loop-other : goal.invariant-loop-other

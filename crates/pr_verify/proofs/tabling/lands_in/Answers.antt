@@ -4,7 +4,7 @@ use Rattle.pr_views.specs.declared.view.ViewOf.{ViewOf}
 use Rattle.pr_verify.specs.inside.Least.{EachOf}
 use Rattle.pr_verify.proofs.lemmas.Least.FirstLines.{each_listed}
 use Rattle.pr_verify.proofs.lemmas.Rooms.MappedLists.{unmapped}
-use Rattle.pr_verify.proofs.table.lands_in.Goals as goal
+use Rattle.pr_verify.proofs.tabling.lands_in.Goals as goal
 
 pub returns : goal.returns
 returns g c =

@@ -5,7 +5,7 @@ use Rattle.pr_verify.specs.Rooms.{outline_of, row_of}
 use Rattle.pr_verify.specs.Tables.{IsRow}
 use Rattle.pr_verify.specs.inside.Asked.{AreAnswersTo}
 use Rattle.pr_verify.specs.inside.Listing.{place_of}
-use Rattle.pr_verify.proofs.table.rows.Given as goal
+use Rattle.pr_verify.proofs.tabling.rows.Given as goal
 
 abbrev pub invariant-loop-i : goal.invariant-loop-i
 invariant-loop-i g l = record {

@@ -9,7 +9,7 @@ use Rattle.pr_verify.specs.declared.table.Row.{Row}
 use Rattle.pr_verify.specs.inside.Listing.{place_of}
 use Rattle.pr_verify.proofs.lemmas.Known.Questions.{has_view, answer_within, answered_here}
 use Rattle.pr_verify.proofs.lemmas.Tabling.Rows.{zip_more}
-use Rattle.pr_verify.proofs.table.rows.Goals as goal
+use Rattle.pr_verify.proofs.tabling.rows.Goals as goal
 
 pub answer-requires : goal.answer-requires
 answer-requires g c =

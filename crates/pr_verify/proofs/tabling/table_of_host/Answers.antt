@@ -17,7 +17,7 @@ use Rattle.pr_verify.proofs.lemmas.Reviewing.Findings.{spots_rise, spots_written
 use Rattle.pr_verify.proofs.lemmas.Outlines.LineOrder.{as_many}
 use Rattle.pr_verify.proofs.lemmas.Rooms.Scripts.{on_scripted}
 use Rattle.pr_verify.proofs.lemmas.Tabling.Rows.{of_script, lines_listed, zip_map, zip_length}
-use Rattle.pr_verify.proofs.table.table_of_host.Goals as goal
+use Rattle.pr_verify.proofs.tabling.table_of_host.Goals as goal
 
 pub invariant_of-questions-clause-declared : goal.invariant_of-questions-clause-declared
 invariant_of-questions-clause-declared c = subst (λ h. h < length (scenario_of c.args.scenario.now).nexuses) (sym c.in_ok-outline.ensures.host) c.script_in-script.ensures.there
@@ -56,8 +56,8 @@ returns-clause-table c =
     } in
     on_scripted t (λ b n. script ≡ b) (λ b n. IsTable s b (record { outline = o; rows = map row_of rows })) (λ b n same. subst (λ d. IsTable s d (record { outline = o; rows = map row_of rows })) same is) c.script_in-script.ensures.script
 
-pub returns-clause-rows : goal.returns-clause-rows
-returns-clause-rows c =
+pub invariant_of-result : goal.invariant_of-result
+invariant_of-result c =
     let s = scenario_of c.args.scenario.now in
     let script = script_of c.script_in-script.result.now in
     let spots = c.in_ok-spots.spots.items in
@@ -65,5 +65,7 @@ returns-clause-rows c =
     let listed = lines_listed c.in_ok-outline.outline script spots c.in_ok-spots.ensures.places
     (of_script (task s c.args.host) script (λ b. IsListed b (outline_of c.in_ok-outline.outline)) c.requires c.script_in-script.ensures.script c.in_ok-outline.ensures.listed) in
     let R = λ (p : Spot) (r : Row). IsRow (scenario_of c.args.scenario.now) o (place_of p) (row_of r) in
-    zip_length R c.deref.result.now c.in_ok-rows.rows.items c.in_ok-rows.ensures ∙ ap length c.deref.ensures.value
-    ∙ sym (as_many (λ (p : Spot). p.line) c.in_ok-outline.outline.views.items spots listed)
+    record {
+      each = zip_length R c.deref.result.now c.in_ok-rows.rows.items c.in_ok-rows.ensures ∙ ap length c.deref.ensures.value
+          ∙ sym (as_many (λ (p : Spot). p.line) c.in_ok-outline.outline.views.items spots listed);
+    }
