@@ -1,8 +1,6 @@
 -- How many statements a statement is, by its kind, and one statement or arm more.
-use Rattle.std.proofs.Common.{min, ap, ◌∙◌, arith}
-use Rattle.pr_script.specs.Grammar.{count_of, count_in_arms}
-use Rattle.pr_script.specs.Trees.{statement_of}
-use Rattle.pr_script.specs.inside.ArmLists.{arms_in}
+use Rattle.pr_script.proofs.Common.{min, ap, ◌∙◌, arith, count_in_arms, statement_of, arms_in}
+use Rattle.pr_script.specs.Grammar.{count_of}
 use Rattle.pr_script.proofs.lemmas.Trees.Equations.{tree_send, tree_repeat}
 use Rattle.pr_script.proofs.lemmas.Versions.Statements.{count_taken, arms_count_taken}
 use Rattle.pr_script.proofs.counts.+count.Goals as goal

@@ -1,8 +1,6 @@
 -- How many statements there are before this one, or in the arms before this one.
-use Rattle.std.proofs.Common.{◌≡◌, min, take}
-use Rattle.pr_script.specs.Trees.{statements_in}
-use Rattle.pr_script.specs.inside.ArmLists.{arms_in}
-use Rattle.pr_script.specs.Grammar.{count_of_all, count_in_arms}
+use Rattle.pr_script.proofs.Common.{◌≡◌, min, take, count_in_arms, statements_in, arms_in}
+use Rattle.pr_script.specs.Grammar.{count_of_all}
 use Rattle.pr_script.proofs.counts.+count.Given as goal
 
 abbrev pub invariant-count-loop-statement : goal.invariant-count-loop-statement

@@ -1,8 +1,5 @@
 -- A statement's depth by its kind, and one statement or arm more.
-use Rattle.std.proofs.Common.{min, ap, ◌∙◌, arith}
-use Rattle.pr_script.specs.Depths.{depth_of, depth_of_arms}
-use Rattle.pr_script.specs.Trees.{statement_of}
-use Rattle.pr_script.specs.inside.ArmLists.{arms_in}
+use Rattle.pr_script.proofs.Common.{min, ap, ◌∙◌, arith, depth_of, depth_of_arms, statement_of, arms_in}
 use Rattle.pr_script.proofs.lemmas.Trees.Equations.{tree_send, tree_repeat}
 use Rattle.pr_script.proofs.lemmas.Trees.ListTails.{depth_taken, depth_of_arms_taken}
 use Rattle.pr_script.proofs.depth.+depth.Goals as goal

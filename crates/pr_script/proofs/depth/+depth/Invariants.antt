@@ -1,8 +1,5 @@
 -- How deep the statements or arms before this one nest.
-use Rattle.std.proofs.Common.{◌≡◌, min, take}
-use Rattle.pr_script.specs.Trees.{statements_in}
-use Rattle.pr_script.specs.inside.ArmLists.{arms_in}
-use Rattle.pr_script.specs.Depths.{depth_of_all, depth_of_arms}
+use Rattle.pr_script.proofs.Common.{◌≡◌, min, take, depth_of_all, depth_of_arms, statements_in, arms_in}
 use Rattle.pr_script.proofs.depth.+depth.Given as goal
 
 abbrev pub invariant-repeat_depth-loop-statement : goal.invariant-repeat_depth-loop-statement

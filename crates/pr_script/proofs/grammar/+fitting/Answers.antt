@@ -1,8 +1,6 @@
 -- A statement by its kind, and one statement or arm more.
-use Rattle.std.proofs.Common.{◌+◌, ◌&&◌, nat_lt, ap, ◌∙◌, sym}
-use Rattle.pr_script.specs.Grammar.{statement_fits, arms_fit, is_send_written}
-use Rattle.pr_script.specs.Trees.{statement_of}
-use Rattle.pr_script.specs.inside.ArmLists.{arms_in}
+use Rattle.pr_script.proofs.Common.{◌+◌, ◌&&◌, nat_lt, sym, ap, ◌∙◌, statement_fits, arms_fit, statement_of, arms_in}
+use Rattle.pr_script.specs.Grammar.{is_send_written}
 use Rattle.pr_script.proofs.lemmas.Trees.Equations.{tree_send, tree_repeat}
 use Rattle.pr_script.proofs.lemmas.Versions.Statements.{fit_taken, arms_taken, and_one, and_none}
 use Rattle.pr_script.proofs.grammar.+fitting.Goals as goal

@@ -1,11 +1,7 @@
 -- A script that fits nests no deeper than its limit.
-use Rattle.std.specs.Prelude.{◌≡◌, ℕ, ◌+◌, ◌≤◌, true, ◌&&◌, nat_lt, List}
-use Rattle.std.proofs.Common.{arith}
+use Rattle.pr_script.proofs.Common.{◌≡◌, ℕ, ◌+◌, ◌≤◌, true, ◌&&◌, List, nat_lt, arith, Command, depth_of, depth_of_all, depth_of_arms, statement_fits, statements_fit, arms_fit, Stmt, sends, repeats, Stmts, none, more, Arms, no_arm, arm}
 use Rattle.std.proofs.lemmas.Bool.{and_parts, ltb-true}
-use Rattle.pr_cdb.specs.declared.command.Command.{Command}
-use Rattle.pr_script.specs.Scripts.{Stmt, Stmts, Arms, sends, repeats, none, more, no_arm, arm}
-use Rattle.pr_script.specs.Depths.{depth_of, depth_of_all, depth_of_arms}
-use Rattle.pr_script.specs.Grammar.{statement_fits, statements_fit, arms_fit, is_send_written, is_repeat_written, test_fits, script_fits}
+use Rattle.pr_script.specs.Grammar.{is_send_written, is_repeat_written, test_fits, script_fits}
 
 mutual
   deep : (keys : List ℕ) (r s : ℕ) (st : Stmt) → r ≤ 8 → statement_fits keys r s st ≡ true → r + depth_of st ≤ 8

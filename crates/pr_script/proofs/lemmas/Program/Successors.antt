@@ -1,11 +1,7 @@
 -- Where a place leads.
-use Rattle.std.specs.Prelude.{◌≡◌, ℕ, ◌-◌, ◌<◌, ◌≤◌, List, [], ◌∷◌, ◌++◌, length, Option, Some, None, IfNone}
-use Rattle.std.proofs.Common.{refl, sym, ap, subst, ◌∙◌, arith, rules, get_or}
-use Rattle.pr_script.specs.declared.rows.Instruction.{Instruction}
+use Rattle.pr_script.proofs.Common.{◌≡◌, ℕ, ◌-◌, ◌<◌, ◌≤◌, List, [], ◌∷◌, ◌++◌, length, get_or, Some, None, Option, sym, refl, ap, ◌∙◌, subst, arith, repeats, statement, mark, Configuration, before, turn, past_mark, becomes, LoopFrame, Instruction, place, IsStep, open_configuration, configuration, deepest, AreLoops, IsPlaced, meanings}
+use Rattle.std.proofs.Common.{rules, IfNone}
 use Rattle.pr_script.specs.declared.rows.Step.TheVariants.{Repeat, Break}
-use Rattle.pr_script.specs.declared.advance.LoopFrame.{LoopFrame}
-use Rattle.pr_script.specs.Scripts.{statement, mark, repeats, Configuration, before, turn, past_mark, becomes}
-use Rattle.pr_script.specs.inside.Program.{place, meanings, open_configuration, deepest, configuration, AreLoops, IsStep, IsPlaced}
 use Rattle.pr_script.specs.inside.Advances.{Leads}
 use Rattle.pr_script.proofs.lemmas.Program.Places.{the_row, configuration-step, configuration-zero, opened-push}
 use Rattle.pr_script.proofs.lemmas.Program.OpenRepeats.{opens_less, open_count-configuration, leads_turn, leads_mark, leads_break, past_mark-before}

@@ -1,8 +1,6 @@
 -- A statement's cost by its kind, and one statement or arm more.
-use Rattle.std.proofs.Common.{◌*◌, min, ap, ◌∙◌, sym, arith}
-use Rattle.pr_script.specs.Costs.{cost_of, cost_of_all, greatest}
-use Rattle.pr_script.specs.Trees.{statement_of, script_of}
-use Rattle.pr_script.specs.inside.ArmLists.{arms_in}
+use Rattle.pr_script.proofs.Common.{min, sym, ap, ◌∙◌, arith, cost_of, cost_of_all, greatest, statement_of, script_of, arms_in}
+use Rattle.std.proofs.Common.{◌*◌}
 use Rattle.pr_script.proofs.lemmas.Trees.Equations.{tree_send, tree_repeat}
 use Rattle.pr_script.proofs.lemmas.Trees.ListTails.{cost_taken, greatest_taken}
 use Rattle.pr_script.proofs.lemmas.Costs.Products.{cut_product}

@@ -1,8 +1,5 @@
 -- What the statements or arms before this one cost.
-use Rattle.std.proofs.Common.{◌≡◌, min, take}
-use Rattle.pr_script.specs.Trees.{statements_in}
-use Rattle.pr_script.specs.inside.ArmLists.{arms_in}
-use Rattle.pr_script.specs.Costs.{cost_of_all, greatest}
+use Rattle.pr_script.proofs.Common.{◌≡◌, min, take, cost_of_all, greatest, statements_in, arms_in}
 use Rattle.pr_script.proofs.sizes.+cost.Given as goal
 
 abbrev pub invariant-cost-loop-statement : goal.invariant-cost-loop-statement
