@@ -10,6 +10,7 @@ pub use Rattle.pr_script.specs.Takes.{matches}
 pub use Rattle.pr_script.specs.Trees.{statement_of, statements_in, script_of}
 pub use Rattle.pr_script.specs.Versions.{are_arms_of}
 pub use Rattle.pr_script.specs.declared.advance.LoopFrame.{LoopFrame}
+pub use Rattle.pr_script.specs.declared.limits.TheConstants.{MOST_OPEN}
 pub use Rattle.pr_script.specs.declared.rows.Instruction.{Instruction}
 pub use Rattle.pr_script.specs.declared.rows.Step.{Step}
 pub use Rattle.pr_script.specs.declared.script.Arm.{Arm}

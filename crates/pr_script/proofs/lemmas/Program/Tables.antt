@@ -1,5 +1,5 @@
 -- How a table grows by rows.
-use Rattle.pr_script.proofs.Common.{◌≡◌, ℕ, suc, ◌+◌, ◌-◌, ◌<◌, ◌≤◌, List, [], ◌∷◌, ◌++◌, length, get_or, take, drop, Vec, Global, sym, refl, ap, ◌∙◌, subst, inl, inr, arith, Command, depth_of_all, Stmt, sends, repeats, Stmts, none, more, Arms, no_arm, arm, before, statement_of, statements_in, script_of, Instruction, Step, Arm, Statement, arms_in, IsCompiled, AreArmsCompiled, place, step_at, IsStep, IsTable, configuration, deepest, IsPlaced, meanings}
+use Rattle.pr_script.proofs.Common.{◌≡◌, ℕ, suc, ◌+◌, ◌-◌, ◌<◌, ◌≤◌, List, [], ◌∷◌, ◌++◌, length, get_or, take, drop, Vec, Global, sym, refl, ap, ◌∙◌, subst, inl, inr, arith, Command, depth_of_all, Stmt, sends, repeats, Stmts, none, more, Arms, no_arm, arm, before, statement_of, statements_in, script_of, MOST_OPEN, Instruction, Step, Arm, Statement, arms_in, IsCompiled, AreArmsCompiled, place, step_at, IsStep, IsTable, configuration, deepest, IsPlaced, meanings}
 use Rattle.std.proofs.Common.{add-one, drop-cons}
 use Rattle.std.proofs.lemmas.List.{length-append}
 use Rattle.std.proofs.Math.ListN.{get_or-append}
@@ -226,10 +226,10 @@ laid_whole old rows rows' xs xs' first start same_rows same laid =
 pub configuration-laid : (rows : List Instruction) (b : Stmts) (first : ℕ) → IsCompiled [] rows b 0 first → configuration (meanings rows) first [] ≡ before b []
 configuration-laid rows b first laid = ap (λ s. before s []) (laid.meaning ∙ ap (concatenation b) (place-zero []) ∙ joined-none b)
 
-pub laid_placed : (rows : List Instruction) (b : Stmts) (first : ℕ) → IsCompiled [] rows b 0 first → depth_of_all b ≤ 8 → IsPlaced rows first []
+pub laid_placed : (rows : List Instruction) (b : Stmts) (first : ℕ) → IsCompiled [] rows b 0 first → depth_of_all b ≤ MOST_OPEN → IsPlaced rows first []
 laid_placed rows b first laid shallow = record {
   table = laid.grows.table;
   within = laid.within;
   repeats = tt;
-  room = subst (λ l. deepest l ≤ 8) (sym (configuration-laid rows b first laid)) (omega (arith, deepest-before b []));
+  room = subst (λ l. deepest l ≤ MOST_OPEN) (sym (configuration-laid rows b first laid)) (omega (arith, deepest-before b []));
 }
