@@ -14,11 +14,13 @@ pub use Rattle.pr_registry.specs.declared.held.Held.{Held}
 pub use Rattle.pr_script.specs.Grammar.{is_written, test_fits}
 pub use Rattle.pr_script.specs.Names.{is_name}
 pub use Rattle.pr_script.specs.Scripts.{Stmt, Stmts, Arms, sends, repeats, none, more, no_arm, arm, breaks, stops}
+pub use Rattle.pr_script.specs.declared.limits.TheConstants.{MOST_STATEMENTS, MOST_ARMS, MOST_OPEN, MOST_TURNS, MOST_BUDGET}
 pub use Rattle.pr_script.specs.declared.script.Test.{Test}
 pub use Rattle.pr_roles.specs.Fitting.{Fits, is_version, is_count, are_resets, most_declared, are_distinct, is_action, is_role, is_start, is_nexus}
 pub use Rattle.pr_roles.specs.Scenarios.{Scenario, Nexus, Task, Scripted, Planned}
 unfoldable pub use Rattle.pr_roles.specs.Scenarios.{scenario_of}
 pub use Rattle.pr_roles.specs.FirstStarts.{first_under}
+pub use Rattle.pr_roles.specs.declared.limits.TheConstants.{MOST_CLAUSES, MOST_PLANNED, MOST_REFUSALS, MOST_RESETS}
 pub use Rattle.pr_roles.specs.declared.role.Clause.{Clause}
 pub use Rattle.pr_lines.specs.Chain.{each}
 pub use Rattle.pr_lines.specs.ScenarioLines.{states, ScenarioLine, DeclaringLine, StatementLine, fence_line, declares, nexus_line, start_line, pending_line, refusals_line, resets_line, role_line, script_line, plan_line, end_line, send_line, on_line, done_line, repeat_line, break_line, stop_line, command_line, keys_line, reservation_line, generation_line}

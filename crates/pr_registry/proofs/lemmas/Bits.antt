@@ -1,10 +1,9 @@
 -- A set of hosts as the bits of a word.
-use Rattle.std.proofs.Common.{◌≡◌, ℕ, ◌-◌, ◌*◌, ◌%◌, ◌^◌, ◌<◌, ◌==◌, w16, sym, ap, ◌∙◌, bit_or, bit_and}
+use Rattle.pr_registry.proofs.Common.{◌≡◌, ℕ, ◌<◌, ◌==◌, sym, ap, ◌∙◌, Hosts, nobody, hosts_where}
+use Rattle.std.proofs.Common.{◌-◌, ◌*◌, ◌%◌, ◌^◌, w16, bit_or, bit_and}
 use Rattle.std.specs.Int.{bit_at}
 use Rattle.std.specs.FinSet as set
 use Rattle.pr_sets.proofs.lemmas.BitPlaces.{placed, placed-insert, placed-remove, placed-difference, placed-zero, zero_from_empty}
-use Rattle.pr_registry.specs.Hosts.{Hosts, nobody}
-use Rattle.pr_registry.specs.inside.HostBits.{hosts_where}
 use Rattle.pr_registry.proofs.lemmas.Sets.{hosts_where-numbers_where}
 
 abbrev pub of_bits : ℕ → Hosts

@@ -1,11 +1,11 @@
 -- The keys of a table, in the order of the hosts.
-use Rattle.std.proofs.Common.{◌≡◌, ℕ, zero, suc, ◌+◌, ◌<◌, nat_cmp, List, [], ◌∷◌, ◌++◌, length, map, Option, Some, None, refl, sym, ap, ◌∙◌, subst, add-one, arith}
+use Rattle.pr_registry.proofs.Common.{◌≡◌, ℕ, zero, suc, ◌+◌, ◌<◌, List, [], ◌∷◌, length, Some, None, Option, sym, refl, ap, ◌∙◌, subst, arith, nat_tests, Keys, map_where}
+use Rattle.std.proofs.Common.{nat_cmp, ◌++◌, map, add-one}
 use Rattle.std.specs.declared.cmp.Ordering.TheVariants.{Greater}
 use Rattle.std.specs.Cmp.{nat_cmp_total}
 use Rattle.std.specs.FinMap as finmap
 use Rattle.std.specs.FinMap.{put}
-use Rattle.std.proofs.lemmas.Bool.Decides.{nat_tests}
-use Rattle.pr_registry.specs.Hosts.{Keys, map_where, with_pair}
+use Rattle.pr_registry.specs.Hosts.{with_pair}
 
 -- each host of the list is below n
 abbrev AreBelow : ℕ → List (ℕ × ℕ) → Type 0

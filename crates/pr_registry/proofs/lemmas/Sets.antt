@@ -1,5 +1,6 @@
 -- What sets of hosts and registrations contain, and that these are equal where they contain the same.
-use Rattle.std.proofs.Common.{◌≡◌, ◌↔◌, IsTrue, ℕ, zero, suc, ◌+◌, Bool, true, false, ◌==◌, ◌&&◌, ◌||◌, not, nat_lt, cond, if◌then◌else◌, Option, Some, None, is_some, refl, sym, ap, ◌∙◌, add-one}
+use Rattle.pr_registry.proofs.Common.{◌≡◌, ℕ, zero, suc, ◌+◌, Bool, true, false, cond, not, ◌&&◌, is_some, if◌then◌else◌, IsTrue, nat_lt, ◌==◌, Some, None, Option, sym, refl, ap, ◌∙◌, Hosts, Keys, nobody, just, is_key, is_empty, hosts_in, hosts_with, map_where, hosts_where}
+use Rattle.std.proofs.Common.{◌↔◌, ◌||◌, add-one}
 use Rattle.std.specs.Ordering.{nat_cmp}
 use Rattle.std.specs.Cmp.{nat_cmp_total, unsigned_tied}
 use Rattle.std.specs.FinSet as set
@@ -8,8 +9,7 @@ use Rattle.std.specs.FinMap as map
 use Rattle.pr_sets.specs.Kept.{numbers_where}
 use Rattle.pr_sets.proofs.lemmas.Members.{contains-numbers_where, lt-zero, lt-suc, same_at}
 pub use Rattle.pr_sets.proofs.lemmas.Members.{same_numbers as same_hosts, contains-empty as contains-nobody, contains-insert, contains-remove, contains-difference, contains-union}
-use Rattle.pr_registry.specs.Hosts.{Hosts, Keys, nobody, just, is_key, hosts_in, hosts_with, without, is_empty, with_pair, map_where}
-use Rattle.pr_registry.specs.inside.HostBits.{hosts_where}
+use Rattle.pr_registry.specs.Hosts.{without, with_pair}
 
 pub same_keys : (m n : Keys) → ((q : ℕ) → map.get m q ≡ map.get n q) → m ≡ n
 same_keys m n same = map.same_map nat_cmp_total nat_cmp-IsAntisymmetric m n same

@@ -1,20 +1,19 @@
 -- Each service action keeps states well formed, and the table follows the registrations.
-use Rattle.std.proofs.Common.{◌≡◌, ◌≢◌, ℕ, zero, suc, ◌^◌, ◌<◌, ◌≤◌, Bool, true, false, ◌==◌, ◌&&◌, not, nat_lt, IsTrue, cond, if◌then◌else◌, List, [], ◌∷◌, length, Option, Some, None, is_some, slice_set, refl, sym, ap, ◌∙◌, subst, inl, inr, ◌⊎◌, lit<, option_map, arith}
+use Rattle.pr_registry.proofs.Common.{◌≡◌, ℕ, zero, suc, ◌<◌, ◌≤◌, Bool, true, false, cond, not, ◌&&◌, List, [], ◌∷◌, length, is_some, if◌then◌else◌, IsTrue, nat_lt, ◌==◌, slice_set, Some, None, Option, sym, refl, ap, ◌∙◌, subst, arith, false≢true, nat_tests, MOST_NEXUSES, preempt_case, removed_by_preempt, Hosts, Keys, just, is_key, is_empty, hosts_in, hosts_with, map_where, State, is_registered, IsWellFormed, table_keys, state_of}
+use Rattle.std.proofs.Common.{◌≢◌, ◌^◌, inl, inr, ◌⊎◌, lit<, option_map}
 use Rattle.std.specs.FinSet as set
 use Rattle.std.specs.FinMap as map
-use Rattle.std.proofs.lemmas.Bool.Decides.{nat_tests, eqb_tells}
+use Rattle.std.proofs.lemmas.Bool.Decides.{eqb_tells}
 use Rattle.std.proofs.lemmas.List.{get_or-set_same, get_or-set_other}
-use Rattle.pr_cdb.specs.declared.codes.TheConstants.{MOST_NEXUSES}
 use Rattle.pr_cdb.specs.declared.command.Kind.{Kind}
 use Rattle.pr_registry.specs.declared.held.Held.{Held}
 use Rattle.pr_registry.specs.declared.held.Held.TheVariants.{One, All}
-use Rattle.pr_registry.specs.Hosts.{Hosts, Keys, just, is_key, hosts_in, hosts_with, is_empty, without, map_where}
-use Rattle.pr_registry.specs.Registrations.{State, IsKey, IsWellFormed, HasHolder, table_keys, state_from, is_registered, holds_alone, is_all, new_reservation, empty_registry}
-use Rattle.pr_registry.specs.inside.TableStates.{IsKeyOrNone, state_of}
+use Rattle.pr_registry.specs.Hosts.{without}
+use Rattle.pr_registry.specs.Registrations.{IsKey, HasHolder, state_from, holds_alone, is_all, new_reservation, empty_registry}
+use Rattle.pr_registry.specs.inside.TableStates.{IsKeyOrNone}
 use Rattle.pr_registry.specs.Effects.{next, held_by_rest, held_or, held_after_preempt, with_registration, without_registration, with_reservation, after_release, after_clear, after_preempt}
-use Rattle.pr_registry.specs.Changes.{Case, ReplacesAll, ReplacesHolder, RemovesKey, preempt_case, HasKindIfReplacing, removed_by_preempt, is_released}
+use Rattle.pr_registry.specs.Changes.{Case, ReplacesAll, ReplacesHolder, RemovesKey, HasKindIfReplacing, is_released}
 use Rattle.pr_registry.proofs.lemmas.Sets.{same_keys, get-insert, get-empty, get-without, contains-just, contains-remove, contains-hosts_with, not_empty_from_some}
-use Rattle.std.proofs.lemmas.Bool.{false≢true}
 use Rattle.pr_registry.proofs.lemmas.Tables.{slot, get-table_keys, get-table_keys_in, lt_true, eq_itself, same_number}
 
 -- ---- the table after a write

@@ -1,12 +1,8 @@
 -- What a table of keys says of the registrations.
-use Rattle.std.proofs.Common.{◌≡◌, ℕ, ◌+◌, ◌<◌, ◌≤◌, Bool, true, false, ◌==◌, ◌&&◌, ◌||◌, nat_lt, cond, if◌then◌else◌, List, Option, Some, None, is_some, slice_index_or, refl, sym, ap, ◌∙◌, arith}
+use Rattle.pr_registry.proofs.Common.{◌≡◌, ℕ, ◌+◌, ◌<◌, ◌≤◌, Bool, true, false, cond, ◌&&◌, List, is_some, if◌then◌else◌, nat_lt, ◌==◌, Some, None, Option, sym, refl, ap, ◌∙◌, arith, nat_tests, MOST_NEXUSES, Hosts, is_key, is_empty, hosts_in, hosts_with, table_keys, hosts_where}
+use Rattle.std.proofs.Common.{◌||◌, slice_index_or}
 use Rattle.std.specs.FinSet as set
 use Rattle.std.specs.FinMap as map
-use Rattle.std.proofs.lemmas.Bool.Decides.{nat_tests}
-use Rattle.pr_cdb.specs.declared.codes.TheConstants.{MOST_NEXUSES}
-use Rattle.pr_registry.specs.Hosts.{Hosts, is_key, hosts_in, hosts_with, is_empty}
-use Rattle.pr_registry.specs.inside.HostBits.{hosts_where}
-use Rattle.pr_registry.specs.Registrations.{table_keys}
 use Rattle.pr_registry.proofs.lemmas.Sets.{same_hosts, same_keys, contains-hosts_where, contains-hosts_in, contains-hosts_with, get-map_where, is_empty_from_none, not_empty_from_some}
 
 -- the place of a host

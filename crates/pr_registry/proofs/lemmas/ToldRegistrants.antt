@@ -1,15 +1,14 @@
 -- Only registrants are told.
-use Rattle.std.proofs.Common.{◌≡◌, ℕ, Bool, true, false, ◌==◌, ◌&&◌, not, if◌then◌else◌, Option, Some, None, is_some, refl, sym, ◌∙◌}
+use Rattle.pr_registry.proofs.Common.{◌≡◌, ℕ, Bool, true, false, not, ◌&&◌, is_some, if◌then◌else◌, ◌==◌, Some, None, Option, sym, refl, ◌∙◌, false≢true, preempt_case, removed_by_preempt, Hosts, nobody, is_key, hosts_in, hosts_with, State, is_registered}
 use Rattle.std.specs.FinSet as set
 use Rattle.std.specs.FinMap as map
-use Rattle.std.proofs.lemmas.Bool.{and_parts, false≢true}
+use Rattle.std.proofs.lemmas.Bool.{and_parts}
 use Rattle.pr_cdb.specs.declared.command.Kind.{Kind}
 use Rattle.pr_cdb.specs.declared.command.Command.{Command}
 use Rattle.pr_cdb.specs.declared.command.Command.TheVariants.{Register, RegisterIgnore, Release, Clear, Preempt, PreemptAbort}
 use Rattle.pr_registry.specs.declared.change.Change.{Change}
-use Rattle.pr_registry.specs.Hosts.{Hosts, nobody, is_key, hosts_in, hosts_with}
-use Rattle.pr_registry.specs.Registrations.{State, is_registered, others, registrants, holds_alone}
-use Rattle.pr_registry.specs.Changes.{Case, ReplacesAll, ReplacesHolder, RemovesKey, no_change, preempt_case, removed_by_preempt, is_new_type, is_released, is_told_of_loss, change_on_unregister, change_on_preempt}
+use Rattle.pr_registry.specs.Registrations.{others, registrants, holds_alone}
+use Rattle.pr_registry.specs.Changes.{Case, ReplacesAll, ReplacesHolder, RemovesKey, no_change, is_new_type, is_released, is_told_of_loss, change_on_unregister, change_on_preempt}
 use Rattle.pr_registry.specs.Effects.{change, change_on_register}
 use Rattle.pr_registry.proofs.lemmas.Sets.{contains-nobody, contains-remove, contains-difference, contains-hosts_in, contains-hosts_with}
 

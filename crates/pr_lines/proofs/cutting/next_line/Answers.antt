@@ -1,4 +1,4 @@
-use Rattle.std.proofs.Common.{◌∙◌, sym, refl}
+use Rattle.pr_lines.proofs.Common.{sym, refl, ◌∙◌}
 use Rattle.std.proofs.lemmas.List.{take_rest}
 use Rattle.pr_lines.proofs.lemmas.TextLines.Cuts.{lines_first, lines_last}
 use Rattle.pr_lines.proofs.cutting.next_line.Goals as goal

@@ -1,5 +1,4 @@
-use Rattle.std.proofs.Common.{◌≡◌, ◌≤◌, length}
-use Rattle.pr_lines.specs.TextLines.{words}
+use Rattle.pr_lines.proofs.Common.{◌≡◌, ◌≤◌, length, words}
 use Rattle.pr_lines.proofs.cutting.next_word.Given as goal
 
 abbrev pub invariant-loop-rest : goal.invariant-loop-rest

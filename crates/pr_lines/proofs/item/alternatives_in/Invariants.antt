@@ -1,8 +1,5 @@
-use Rattle.std.proofs.Common.{◌≡◌, length}
-use Rattle.pr_lines.specs.Chain.{each}
-use Rattle.pr_lines.specs.TextLines.{words}
+use Rattle.pr_lines.proofs.Common.{◌≡◌, length, each, words, each_onto}
 use Rattle.pr_lines.specs.ScenarioLines.{alternative_of}
-use Rattle.pr_lines.specs.inside.Lists.{each_onto}
 use Rattle.pr_lines.proofs.item.alternatives_in.Given as goal
 
 -- the words that are left, behind what was read

@@ -1,7 +1,4 @@
-use Rattle.std.proofs.Common.{◌≡◌, length}
-use Rattle.pr_lines.specs.Chain.{each}
-use Rattle.pr_lines.specs.TextLines.{words}
-use Rattle.pr_lines.specs.inside.Lists.{each_onto}
+use Rattle.pr_lines.proofs.Common.{◌≡◌, length, each, words, each_onto}
 use Rattle.pr_lines.specs.WordTerms.{code_of}
 use Rattle.pr_lines.proofs.item.attentions_in.Given as goal
 

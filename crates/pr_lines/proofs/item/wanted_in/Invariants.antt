@@ -1,8 +1,5 @@
-use Rattle.std.proofs.Common.{◌≡◌, length, map}
-use Rattle.pr_lines.specs.Chain.{each}
-use Rattle.pr_lines.specs.TextLines.{words}
+use Rattle.pr_lines.proofs.Common.{◌≡◌, map, length, each, words, each_onto}
 use Rattle.pr_lines.specs.ScenarioLines.{start_reservation_of}
-use Rattle.pr_lines.specs.inside.Lists.{each_onto}
 use Rattle.pr_lines.specs.LineValues.{wanted_seen}
 use Rattle.pr_lines.proofs.item.wanted_in.Given as goal
 

@@ -1,8 +1,6 @@
 -- Lists as loops make them are whole lists.
-use Rattle.std.specs.Prelude.{◌≡◌, List, [], ◌∷◌, ◌++◌, Option, Some, None, option_map, option_and_then}
-use Rattle.std.proofs.Common.{refl, sym, ap, ◌∙◌, append_assoc, append-nil}
-use Rattle.pr_lines.specs.Chain.{each}
-use Rattle.pr_lines.specs.inside.Lists.{each_onto}
+use Rattle.pr_lines.proofs.Common.{◌≡◌, List, [], ◌∷◌, Some, None, Option, sym, refl, ap, ◌∙◌, each, each_onto}
+use Rattle.std.proofs.Common.{append_assoc, append-nil, ◌++◌, option_map, option_and_then}
 
 joined : {B : Type 0} (ys : List B) (y : B) (o : Option (List B)) → option_map (λ ws. (ys ++ y ∷ []) ++ ws) o ≡ option_map (λ ws. ys ++ ws) (option_map (λ ws. y ∷ ws) o)
 joined ys y None = refl

@@ -1,9 +1,7 @@
 -- The terms of a line are what they are meant to be: names are names, and keys are not zero.
-use Rattle.std.specs.Prelude.{◌≡◌, ℕ, ◌+◌, ◌*◌, ◌<◌, ◌^◌, ◌==◌, Bool, true, false, cond, ◌&&◌, not, nat_lt, nat_le, List, [], ◌∷◌, length, take, drop, slice_index, fold, map, Option, Some, None, option_map, option_and_then, IfSome, codes, bytes_eq}
-use Rattle.std.specs.List.{list_all}
-use Rattle.std.proofs.Common.{refl, ap, ◌∙◌, arith, lit<, add-zero, zero-add}
+use Rattle.pr_lines.proofs.Common.{◌≡◌, ℕ, ◌+◌, ◌*◌, ◌^◌, ◌<◌, Bool, true, false, cond, List, [], ◌∷◌, map, length, take, drop, nat_lt, Some, None, fold, Option, refl, ap, ◌∙◌, arith, lit<, list_all, nat_tests, each, worth}
+use Rattle.std.proofs.Common.{add-zero, zero-add, ◌==◌, ◌&&◌, not, nat_le, slice_index, option_map, option_and_then, IfSome, codes, bytes_eq}
 use Rattle.std.proofs.lemmas.Bool.{and_parts}
-use Rattle.std.proofs.lemmas.Bool.Decides.{nat_tests}
 use Rattle.pr_cdb.specs.declared.command.Kind.{Kind}
 use Rattle.pr_registry.specs.Registrations.{is_all}
 use Rattle.pr_roles.specs.Fitting.{is_version}
@@ -17,10 +15,9 @@ use Rattle.pr_lines.specs.declared.keyword.Keyword.{Keyword}
 use Rattle.pr_lines.specs.declared.keyword.Keyword.TheVariants as keyword
 use Rattle.pr_lines.specs.declared.versions.TheConstants.{VERSIONS}
 use Rattle.pr_lines.specs.TextLines.{character, only, is_end, if_alone}
-use Rattle.pr_lines.specs.WordTerms.{worth, number, digit_of, byte_of, without_prefix, hexadecimal, name_of, key_or_zero, key_of, kind_of, code_of, count_of, generation_of, sense_of}
+use Rattle.pr_lines.specs.WordTerms.{number, digit_of, byte_of, without_prefix, hexadecimal, name_of, key_or_zero, key_of, kind_of, code_of, count_of, generation_of, sense_of}
 use Rattle.pr_lines.specs.CommandWords.{spelled_of, spelled_in}
 use Rattle.pr_lines.specs.Clauses.{clause_of, good_of, test_of}
-use Rattle.pr_lines.specs.Chain.{each}
 use Rattle.pr_lines.specs.Lookups.{lookup}
 use Rattle.pr_lines.specs.ScenarioLines.{StartReservation, nobody, single, everybody, ScenarioLine, keys_line, nexus_line, start_line, pending_line, refusals_line, reservation_line, generation_line, resets_line, role_line, script_line, plan_line, end_line, send_line, on_line, done_line, repeat_line, break_line, stop_line, command_line, fence_line, list_of, alternative_of, everybody_of, single_of, start_reservation_of, name_in, only_name, only_count, budget_in, fence_said, said_of_name, item_of, declares, states}
 use Rattle.pr_lines.specs.inside.Keywords.{keyword_of, said_simply, said_after, said_with}

@@ -1,6 +1,6 @@
 -- What a line says is what the words behind its keyword say.
-use Rattle.std.specs.Prelude.{◌≡◌, ℕ, List, Option, Some, codes, bytes_eq, Bool, false, true, cond}
-use Rattle.std.proofs.Common.{refl}
+use Rattle.pr_lines.proofs.Common.{◌≡◌, ℕ, Bool, true, false, cond, List, Some, Option, refl}
+use Rattle.std.specs.Prelude.{codes, bytes_eq}
 use Rattle.pr_lines.specs.declared.keyword.Keyword.{Keyword}
 use Rattle.pr_lines.specs.declared.keyword.Keyword.TheVariants as keyword
 use Rattle.pr_lines.specs.ScenarioLines.{ScenarioLine, item_of}

@@ -1,14 +1,13 @@
 -- Where a text's first line and a line's first word end.
-use Rattle.std.proofs.Common.{◌≡◌, ℕ, ◌+◌, ◌<◌, ◌≤◌, Bool, true, false, cond, not, slice_index, ◌≢◌, inl, inr, subst, List, [], ◌∷◌, length, take, drop, Some, None, refl, ap, ◌∙◌, arith, ltb}
-use Rattle.std.specs.Prelude.{◌==◌, if◌then◌else◌, position, filter, take_while}
+use Rattle.pr_lines.proofs.Common.{◌≡◌, ℕ, ◌+◌, ◌<◌, ◌≤◌, Bool, true, false, cond, List, [], ◌∷◌, length, take, drop, Some, None, refl, ap, ◌∙◌, arith, nat_tests, words}
+use Rattle.std.proofs.Common.{not, slice_index, ◌≢◌, inl, inr, subst, ltb, ◌==◌, if◌then◌else◌, position, filter, take_while}
 use Rattle.std.specs.List.{All, slice_split, before_first, after_first, position_or_len}
 use Rattle.std.specs.Str.Lines.{lines, lines_of_parts, strip_carriage_return}
 use Rattle.std.proofs.lemmas.Bool.{cases_lt}
 use Rattle.std.proofs.lemmas.List.{take_all, drop_all}
-use Rattle.std.proofs.lemmas.Bool.Decides.{nat_tests}
 use Rattle.std.proofs.lemmas.List.Splits.{slice_split_first, slice_split_none, length-slice_split}
 use Rattle.std.proofs.lemmas.List.Sums.{fails_before_first, take_while-cons}
-use Rattle.pr_lines.specs.TextLines.{is_blank, is_comment, words}
+use Rattle.pr_lines.specs.TextLines.{is_blank, is_comment}
 
 found_at : (n m i : ℕ) → cond (ltb n m) (Some n) None ≡ Some i → (n ≡ i) × (n < m)
 found_at n m i e = grind (arith, nat_tests)

@@ -1,9 +1,9 @@
 -- A number that is read digit by digit stays below the base's power.
-use Rattle.std.proofs.Common.{◌≡◌, ℕ, ◌+◌, ◌*◌, ◌^◌, ◌<◌, ◌≤◌, List, [], ◌∷◌, length, get_or, take, drop, fold, take-append-drop, Option, None, Some, IfSome, add-one, sym, ap, ◌∙◌, arith, lit<}
+use Rattle.pr_lines.proofs.Common.{◌≡◌, ℕ, ◌+◌, ◌*◌, ◌^◌, ◌<◌, ◌≤◌, List, [], ◌∷◌, length, take, drop, Some, None, fold, Option, sym, ap, ◌∙◌, arith, lit<, nat_tests, worth}
+use Rattle.std.proofs.Common.{get_or, take-append-drop, IfSome, add-one}
 use Rattle.std.proofs.lemmas.List.Sums.{fold-append}
 use Rattle.std.proofs.Math.Seq.{take-suc}
-use Rattle.std.proofs.lemmas.Bool.Decides.{nat_tests}
-use Rattle.pr_lines.specs.WordTerms.{worth, number, amount_of}
+use Rattle.pr_lines.specs.WordTerms.{number, amount_of}
 use Rattle.std.proofs.Math.Nat.{pow-le-pow_right, mul-le-mul_left, mul_comm}
 use Rattle.std.proofs.lemmas.Grind.{pow_more}
 

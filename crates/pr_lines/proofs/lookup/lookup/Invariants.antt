@@ -1,4 +1,4 @@
-use Rattle.std.proofs.Common.{◌≡◌, length, map}
+use Rattle.pr_lines.proofs.Common.{◌≡◌, map, length}
 use Rattle.pr_lines.specs.Lookups.{lookup}
 use Rattle.pr_lines.proofs.lookup.lookup.Given as goal
 

@@ -1,5 +1,4 @@
-use Rattle.std.proofs.Common.{◌≡◌, ◌∷◌, length}
-use Rattle.pr_lines.specs.TextLines.{words}
+use Rattle.pr_lines.proofs.Common.{◌≡◌, ◌∷◌, length, words}
 use Rattle.pr_lines.specs.CommandOptions.{no_option, with_options}
 use Rattle.pr_lines.proofs.options.options_of.Given as goal
 

@@ -1,5 +1,5 @@
-use Rattle.std.proofs.Common.{◌≡◌, get_or}
-use Rattle.pr_lines.specs.WordTerms.{worth}
+use Rattle.pr_lines.proofs.Common.{◌≡◌, worth}
+use Rattle.std.proofs.Common.{get_or}
 use Rattle.pr_lines.proofs.lemmas.WordTerms.NumberRoom.{none_past}
 use Rattle.pr_lines.proofs.terms.amount_of.Goals as goal
 

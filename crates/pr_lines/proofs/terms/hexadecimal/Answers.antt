@@ -1,4 +1,4 @@
-use Rattle.std.proofs.Common.{length}
+use Rattle.pr_lines.proofs.Common.{length}
 use Rattle.pr_lines.proofs.lemmas.WordTerms.NumberRoom.{hex_some}
 use Rattle.pr_lines.proofs.terms.hexadecimal.Goals as goal
 

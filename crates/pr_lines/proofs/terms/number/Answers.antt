@@ -1,4 +1,4 @@
-use Rattle.std.proofs.Common.{◌+◌, ◌*◌, ◌<◌, ◌^◌, arith, length}
+use Rattle.pr_lines.proofs.Common.{◌+◌, ◌*◌, ◌^◌, ◌<◌, length, arith}
 use Rattle.pr_lines.proofs.lemmas.WordTerms.NumberRoom.{digit_fits}
 use Rattle.pr_lines.proofs.terms.number.Goals as goal
 

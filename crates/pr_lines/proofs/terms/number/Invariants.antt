@@ -1,6 +1,4 @@
-use Rattle.std.proofs.Common.{◌≡◌, ◌+◌, ◌*◌, ◌^◌, ◌<◌, true, take, fold, nat_lt}
-use Rattle.std.specs.List.{list_all}
-use Rattle.pr_lines.specs.WordTerms.{worth}
+use Rattle.pr_lines.proofs.Common.{◌≡◌, ◌+◌, ◌*◌, ◌^◌, ◌<◌, true, take, nat_lt, fold, list_all, worth}
 use Rattle.pr_lines.proofs.terms.number.Given as goal
 
 abbrev pub invariant-loop-digit : goal.invariant-loop-digit

@@ -1,4 +1,4 @@
-use Rattle.std.proofs.Common.{ℕ, ◌<◌}
+use Rattle.pr_registry.proofs.Common.{ℕ, ◌<◌}
 use Rattle.pr_registry.specs.inside.TableStates.{IsKeyOrNone}
 use Rattle.pr_registry.proofs.lemmas.Tables.{slot}
 use Rattle.pr_registry.proofs.table.are_keys.Given as goal

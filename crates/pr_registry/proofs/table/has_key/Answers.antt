@@ -1,6 +1,4 @@
-use Rattle.std.proofs.Common.{◌<◌, ◌≤◌, sym, ap, ◌∙◌, arith}
-use Rattle.pr_cdb.specs.declared.codes.TheConstants.{MOST_NEXUSES}
-use Rattle.pr_registry.specs.Hosts.{is_key}
+use Rattle.pr_registry.proofs.Common.{◌<◌, ◌≤◌, sym, ap, ◌∙◌, arith, MOST_NEXUSES, is_key}
 use Rattle.pr_registry.proofs.lemmas.Tables.{slot, get-table_keys_in, get-table_keys_past}
 use Rattle.pr_registry.proofs.table.has_key.Goals as goal
 

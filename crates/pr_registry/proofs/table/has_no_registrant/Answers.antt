@@ -1,4 +1,4 @@
-use Rattle.std.proofs.Common.{◌==◌, ap, ◌∙◌}
+use Rattle.pr_registry.proofs.Common.{◌==◌, ap, ◌∙◌}
 use Rattle.std.specs.FinSet as set
 use Rattle.pr_registry.proofs.lemmas.Sets.{len-is_nobody}
 use Rattle.pr_registry.proofs.table.has_no_registrant.Goals as goal

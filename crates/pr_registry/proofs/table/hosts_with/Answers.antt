@@ -1,7 +1,5 @@
-use Rattle.std.proofs.Common.{◌≡◌, ap, sym, ◌∙◌, arith}
+use Rattle.pr_registry.proofs.Common.{◌≡◌, sym, ap, ◌∙◌, arith, MOST_NEXUSES, hosts_where}
 use Rattle.std.specs.FinSet as set
-use Rattle.pr_cdb.specs.declared.codes.TheConstants.{MOST_NEXUSES}
-use Rattle.pr_registry.specs.inside.HostBits.{hosts_where}
 use Rattle.pr_registry.proofs.lemmas.Sets.{hosts_where-none, hosts_where-takes, hosts_where-skips}
 use Rattle.pr_registry.proofs.lemmas.Tables.{has_key, hosts_where-has_key}
 use Rattle.pr_registry.proofs.table.hosts_with.Goals as goal

@@ -1,5 +1,4 @@
-use Rattle.std.proofs.Common.{◌≡◌}
-use Rattle.pr_registry.specs.inside.HostBits.{hosts_where}
+use Rattle.pr_registry.proofs.Common.{◌≡◌, hosts_where}
 use Rattle.pr_registry.proofs.lemmas.Tables.{has_key}
 use Rattle.pr_registry.proofs.table.hosts_with.Given as goal
 

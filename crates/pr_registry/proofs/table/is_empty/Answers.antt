@@ -1,5 +1,4 @@
-use Rattle.std.proofs.Common.{sym, ◌∙◌, arith}
-use Rattle.pr_cdb.specs.declared.codes.TheConstants.{MOST_NEXUSES}
+use Rattle.pr_registry.proofs.Common.{sym, ◌∙◌, arith, MOST_NEXUSES}
 use Rattle.pr_registry.proofs.lemmas.Tables.{is_empty-table_keys, not_empty-table_keys}
 use Rattle.pr_registry.proofs.table.is_empty.Goals as goal
 

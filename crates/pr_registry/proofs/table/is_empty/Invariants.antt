@@ -1,4 +1,4 @@
-use Rattle.std.proofs.Common.{◌≡◌, ℕ, ◌<◌, None}
+use Rattle.pr_registry.proofs.Common.{◌≡◌, ℕ, ◌<◌, None}
 use Rattle.pr_registry.proofs.lemmas.Tables.{slot}
 use Rattle.pr_registry.proofs.table.is_empty.Given as goal
 

@@ -1,8 +1,5 @@
-use Rattle.std.proofs.Common.{sym, ap, ◌∙◌, ◌≡◌, nat_lt, false, arith}
+use Rattle.pr_registry.proofs.Common.{◌≡◌, false, nat_lt, sym, ap, ◌∙◌, arith, nat_tests, MOST_NEXUSES, table_keys}
 use Rattle.std.specs.FinMap as map
-use Rattle.std.proofs.lemmas.Bool.Decides.{nat_tests}
-use Rattle.pr_cdb.specs.declared.codes.TheConstants.{MOST_NEXUSES}
-use Rattle.pr_registry.specs.Registrations.{table_keys}
 use Rattle.pr_registry.proofs.lemmas.Tables.{contains_key-table_keys, contains_key-table_keys_past}
 use Rattle.pr_registry.proofs.table.is_registered.Goals as goal
 

@@ -1,4 +1,5 @@
-use Rattle.std.proofs.Common.{length, sym, ap, ◌∙◌, arith, ◌++◌, [], ◌∷◌, List, ℕ}
+use Rattle.pr_registry.proofs.Common.{ℕ, List, [], ◌∷◌, length, sym, ap, ◌∙◌, arith}
+use Rattle.std.proofs.Common.{◌++◌}
 use Rattle.arrayvec.specs.ArrayVec.{ArrayVec}
 use Rattle.pr_registry.proofs.lemmas.Tables.{slot}
 use Rattle.pr_registry.proofs.lemmas.KeyValues.{values-map_where-zero, values-map_where-some, values-map_where-none}

@@ -1,6 +1,5 @@
-use Rattle.std.proofs.Common.{◌≡◌, ◌≤◌, length}
+use Rattle.pr_registry.proofs.Common.{◌≡◌, ◌≤◌, length, map_where}
 use Rattle.std.specs.FinMap as map
-use Rattle.pr_registry.specs.Hosts.{map_where}
 use Rattle.pr_registry.proofs.lemmas.Tables.{slot}
 use Rattle.pr_registry.proofs.table.keys.Given as goal
 

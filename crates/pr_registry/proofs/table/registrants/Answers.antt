@@ -1,9 +1,6 @@
-use Rattle.std.proofs.Common.{◌≡◌, ap, sym, ◌∙◌, arith}
+use Rattle.pr_registry.proofs.Common.{◌≡◌, sym, ap, ◌∙◌, arith, MOST_NEXUSES, table_keys, hosts_where}
 use Rattle.std.specs.FinSet as set
 use Rattle.std.specs.FinMap as map
-use Rattle.pr_cdb.specs.declared.codes.TheConstants.{MOST_NEXUSES}
-use Rattle.pr_registry.specs.inside.HostBits.{hosts_where}
-use Rattle.pr_registry.specs.Registrations.{table_keys}
 use Rattle.pr_registry.proofs.lemmas.Sets.{hosts_where-none, hosts_where-takes, hosts_where-skips}
 use Rattle.pr_registry.proofs.lemmas.Tables.{hosts_where-is_registered}
 use Rattle.pr_registry.proofs.table.registrants.Goals as goal

@@ -1,8 +1,5 @@
-use Rattle.std.proofs.Common.{◌≡◌}
+use Rattle.pr_registry.proofs.Common.{◌≡◌, MOST_NEXUSES, table_keys, hosts_where}
 use Rattle.std.specs.FinMap as map
-use Rattle.pr_cdb.specs.declared.codes.TheConstants.{MOST_NEXUSES}
-use Rattle.pr_registry.specs.inside.HostBits.{hosts_where}
-use Rattle.pr_registry.specs.Registrations.{table_keys}
 use Rattle.pr_registry.proofs.table.registrants.Given as goal
 
 abbrev pub invariant-loop-host : goal.invariant-loop-host

@@ -1,6 +1,4 @@
-use Rattle.std.proofs.Common.{ap, ◌∙◌, None, slice_set}
-use Rattle.pr_cdb.specs.declared.codes.TheConstants.{MOST_NEXUSES}
-use Rattle.pr_registry.specs.Registrations.{table_keys}
+use Rattle.pr_registry.proofs.Common.{slice_set, None, ap, ◌∙◌, MOST_NEXUSES, table_keys}
 use Rattle.pr_registry.proofs.lemmas.States.{table_keys-without}
 use Rattle.pr_registry.proofs.table.remove.Goals as goal
 

@@ -1,8 +1,5 @@
-use Rattle.std.proofs.Common.{◌≡◌, if◌then◌else◌, cond, None, ap, sym, ◌∙◌, arith}
+use Rattle.pr_registry.proofs.Common.{◌≡◌, cond, if◌then◌else◌, None, sym, ap, ◌∙◌, arith, MOST_NEXUSES, just, table_keys}
 use Rattle.std.specs.FinMap as map
-use Rattle.pr_cdb.specs.declared.codes.TheConstants.{MOST_NEXUSES}
-use Rattle.pr_registry.specs.Hosts.{just}
-use Rattle.pr_registry.specs.Registrations.{table_keys}
 use Rattle.pr_registry.proofs.lemmas.Sets.{same_keys, get-without, contains-just}
 use Rattle.pr_registry.proofs.lemmas.Tables.{is_removed_below, none_below_zero, all_below, removes_more, keeps_more}
 use Rattle.pr_registry.proofs.table.remove_all.Goals as goal

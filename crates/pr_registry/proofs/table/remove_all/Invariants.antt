@@ -1,7 +1,5 @@
-use Rattle.std.proofs.Common.{◌≡◌, ℕ, if◌then◌else◌, None}
+use Rattle.pr_registry.proofs.Common.{◌≡◌, ℕ, if◌then◌else◌, None, MOST_NEXUSES, table_keys}
 use Rattle.std.specs.FinMap as map
-use Rattle.pr_cdb.specs.declared.codes.TheConstants.{MOST_NEXUSES}
-use Rattle.pr_registry.specs.Registrations.{table_keys}
 use Rattle.pr_registry.proofs.lemmas.Tables.{is_removed_below}
 use Rattle.pr_registry.proofs.table.remove_all.Given as goal
 

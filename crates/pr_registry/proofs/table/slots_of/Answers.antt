@@ -1,5 +1,4 @@
-use Rattle.std.proofs.Common.{length, arith}
-use Rattle.pr_cdb.specs.declared.codes.TheConstants.{MOST_NEXUSES}
+use Rattle.pr_registry.proofs.Common.{length, arith, MOST_NEXUSES}
 use Rattle.pr_registry.proofs.lemmas.Tables.{same_table_keys}
 use Rattle.pr_registry.proofs.table.slots_of.Goals as goal
 

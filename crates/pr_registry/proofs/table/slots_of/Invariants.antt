@@ -1,5 +1,4 @@
-use Rattle.std.proofs.Common.{◌≡◌, ℕ, ◌<◌, ◌≤◌, length, None}
-use Rattle.pr_cdb.specs.declared.codes.TheConstants.{MOST_NEXUSES}
+use Rattle.pr_registry.proofs.Common.{◌≡◌, ℕ, ◌<◌, ◌≤◌, length, None, MOST_NEXUSES}
 use Rattle.pr_registry.proofs.lemmas.Tables.{slot}
 use Rattle.pr_registry.proofs.table.slots_of.Given as goal
 

@@ -1,4 +1,4 @@
-use Rattle.std.proofs.Common.{◌≡◌, take}
+use Rattle.pr_roles.proofs.Common.{◌≡◌, take}
 use Rattle.pr_roles.proofs.copying.same_commands.Given as goal
 
 -- those before this one are equal

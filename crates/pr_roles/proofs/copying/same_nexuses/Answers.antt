@@ -1,7 +1,5 @@
 -- A place at which two lists differ.
-use Rattle.std.proofs.lemmas.Bool.{false≢true}
-use Rattle.std.proofs.Common.{◌∙◌, ap, sym, length, arith}
-use Rattle.pr_roles.specs.Scenarios.{nexus_of}
+use Rattle.pr_roles.proofs.Common.{length, sym, ap, ◌∙◌, arith, false≢true, nexus_of}
 use Rattle.pr_roles.proofs.lemmas.Fitting.DistinctLists.{part_at, length_of_parts}
 use Rattle.pr_roles.proofs.copying.same_nexuses.Goals as goal
 

@@ -1,6 +1,4 @@
-use Rattle.std.proofs.Common.{◌≡◌, take}
-use Rattle.std.specs.Prelude.{map}
-use Rattle.pr_roles.specs.Scenarios.{nexus_of}
+use Rattle.pr_roles.proofs.Common.{◌≡◌, map, take, nexus_of}
 use Rattle.pr_roles.proofs.copying.same_nexuses.Given as goal
 
 -- those before this one are equal

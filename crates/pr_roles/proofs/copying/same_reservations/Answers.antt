@@ -1,5 +1,5 @@
 -- Equal element by element.
-use Rattle.std.proofs.Common.{rules}
+use Rattle.pr_roles.proofs.Common.{rules}
 use Rattle.std.proofs.lemmas.Slice.Eq.{slice_eq-Decides}
 use Rattle.pr_roles.proofs.copying.same_reservations.Goals as goal
 

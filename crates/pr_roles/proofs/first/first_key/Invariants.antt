@@ -1,5 +1,5 @@
-use Rattle.std.proofs.Common.{◌≡◌, drop}
-use Rattle.pr_roles.specs.FirstStarts.{first_key}
+use Rattle.pr_roles.proofs.Common.{◌≡◌, first_key}
+use Rattle.std.proofs.Common.{drop}
 use Rattle.pr_roles.proofs.first.first_key.Given as goal
 
 -- none of the alternatives before this one is a key

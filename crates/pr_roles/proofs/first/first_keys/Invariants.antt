@@ -1,7 +1,4 @@
-use Rattle.std.proofs.Common.{◌≡◌, take}
-use Rattle.std.specs.Prelude.{map}
-use Rattle.pr_roles.specs.FirstStarts.{first_of}
-use Rattle.pr_roles.specs.inside.StoredStarts.{start_of}
+use Rattle.pr_roles.proofs.Common.{◌≡◌, map, take, first_of, start_of}
 use Rattle.pr_roles.proofs.first.first_keys.Given as goal
 
 abbrev pub invariant-loop-nexus : goal.invariant-loop-nexus

@@ -1,7 +1,5 @@
-use Rattle.std.proofs.Common.{◌≡◌, drop}
-use Rattle.std.specs.Prelude.{map}
-use Rattle.pr_roles.specs.FirstStarts.{first_under}
-use Rattle.pr_roles.specs.inside.StoredStarts.{start_of}
+use Rattle.pr_roles.proofs.Common.{◌≡◌, map, first_under, start_of}
+use Rattle.std.proofs.Common.{drop}
 use Rattle.pr_roles.proofs.first.first_under.Given as goal
 
 -- none of the reservations before this one can be well formed

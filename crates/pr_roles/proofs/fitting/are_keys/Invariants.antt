@@ -1,5 +1,5 @@
-use Rattle.std.proofs.Common.{ℕ, ◌<◌, get_or}
-use Rattle.pr_registry.specs.Registrations.{IsKey}
+use Rattle.pr_roles.proofs.Common.{ℕ, ◌<◌, IsKey}
+use Rattle.std.proofs.Common.{get_or}
 use Rattle.pr_roles.proofs.fitting.are_keys.Given as goal
 
 abbrev pub invariant-loop-key : goal.invariant-loop-key

@@ -1,7 +1,5 @@
 -- The names of the first and of the others.
-use Rattle.std.proofs.Common.{ap, sym, ◌∙◌}
-use Rattle.std.specs.Prelude.{map, bytes_eq}
-use Rattle.pr_roles.specs.Fitting.{are_distinct}
+use Rattle.pr_roles.proofs.Common.{map, bytes_eq, sym, ap, ◌∙◌, are_distinct}
 use Rattle.pr_roles.proofs.lemmas.Fitting.DistinctLists.{named_again, named_once}
 use Rattle.pr_roles.proofs.fitting.are_named_apart.Goals as goal
 

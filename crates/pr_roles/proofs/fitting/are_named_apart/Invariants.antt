@@ -1,6 +1,4 @@
-use Rattle.std.proofs.Common.{◌≡◌, length}
-use Rattle.std.specs.Prelude.{map, bytes_eq}
-use Rattle.pr_roles.specs.Fitting.{are_distinct}
+use Rattle.pr_roles.proofs.Common.{◌≡◌, map, length, bytes_eq, are_distinct}
 use Rattle.pr_roles.proofs.fitting.are_named_apart.Given as goal
 
 abbrev pub invariant-loop-first : goal.invariant-loop-first

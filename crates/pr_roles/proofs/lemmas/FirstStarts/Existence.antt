@@ -1,16 +1,11 @@
 -- The first start: that it is allowed, and that it is there where some state is allowed.
-use Rattle.std.specs.Prelude.{◌≡◌, ℕ, zero, suc, ◌+◌, ◌<◌, Bool, true, false, ◌||◌, not, ◌==◌, cond, List, [], ◌∷◌, length, Option, Some, None, is_some, map, position, slice_index_or, slice_set, option_map}
-use Rattle.std.specs.List.{position_from, slice_get, list_all, Contains, All}
-use Rattle.std.proofs.Common.{refl, sym, ap, ◌∙◌, subst, inl, inr, ◌⊎◌, ◌≢◌, arith}
-use Rattle.std.proofs.lemmas.Bool.{and_parts, false≢true}
+use Rattle.pr_roles.proofs.Common.{◌≡◌, ℕ, zero, suc, ◌+◌, ◌<◌, Bool, true, false, cond, not, ◌⊎◌, List, [], ◌∷◌, map, length, is_some, ◌==◌, slice_get, slice_index_or, Some, None, Contains, Option, option_map, sym, refl, ap, ◌∙◌, subst, inl, inr, arith, list_all, false≢true, and_parts, none-some, same_Some, slice_get-map, IsKey, Starts, first_of, first_key, start_of}
+use Rattle.std.specs.List.{position_from, All}
+use Rattle.std.proofs.Common.{◌≢◌, ◌||◌, position, slice_set}
 use Rattle.std.proofs.lemmas.Bool.Decides.{eqb_tells}
 use Rattle.std.proofs.lemmas.Iterator.Adapters.{position_from-zero}
-use Rattle.std.proofs.lemmas.Option.{slice_get-map, none-some, same_Some}
-use Rattle.pr_registry.specs.Registrations.{IsKey}
 use Rattle.pr_script.specs.Grammar.{is_declared}
 use Rattle.pr_roles.specs.declared.parts.Nexus.{Nexus as NexusPart}
-use Rattle.pr_roles.specs.FirstStarts.{Starts, first_of, first_key}
-use Rattle.pr_roles.specs.inside.StoredStarts.{start_of}
 
 -- ---- where a test first passes
 

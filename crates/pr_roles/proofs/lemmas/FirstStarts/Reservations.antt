@@ -1,16 +1,12 @@
 -- The reservation of the first start, and the registrations under it.
-use Rattle.std.specs.Prelude.{◌≡◌, ℕ, zero, suc, ◌+◌, ◌<◌, Bool, true, false, cond, List, [], ◌∷◌, length, Option, Some, None, is_some, map, position, slice_index_or, slice_set, option_map, option_and_then}
+use Rattle.pr_roles.proofs.Common.{◌≡◌, ℕ, zero, suc, ◌+◌, ◌<◌, Bool, true, false, cond, List, [], ◌∷◌, map, length, is_some, slice_get, slice_index_or, Some, None, Contains, Option, option_map, sym, refl, ap, ◌∙◌, subst, arith, false≢true, none-some, same_Some, slice_get_within, Held, One, All, Starts, first_of, first_key, keys_under, first_under}
+use Rattle.std.specs.Prelude.{position, slice_set, option_and_then}
 use Rattle.std.specs.Option.{option_or}
-use Rattle.std.specs.List.{position_from, slice_get, list_any, Contains}
-use Rattle.std.proofs.Common.{refl, sym, ap, ◌∙◌, subst, arith}
-use Rattle.std.proofs.lemmas.Bool.{false≢true}
-use Rattle.std.proofs.lemmas.Option.{none-some, same_Some, slice_get_within}
+use Rattle.std.specs.List.{position_from, list_any}
 use Rattle.std.proofs.lemmas.List.{get_or-set_same}
 use Rattle.std.proofs.lemmas.Iterator.Adapters.{position_from-zero}
 use Rattle.pr_cdb.specs.declared.command.Kind.{Kind}
-use Rattle.pr_registry.specs.declared.held.Held.{Held}
-use Rattle.pr_registry.specs.declared.held.Held.TheVariants.{One, All}
-use Rattle.pr_roles.specs.FirstStarts.{Starts, first_of, first_key, with_key, keys_under, first_under}
+use Rattle.pr_roles.specs.FirstStarts.{with_key}
 use Rattle.pr_roles.proofs.lemmas.FirstStarts.Existence.{Chosen, chosen_length, chosen_set, AreOffered, firsts_chosen, first_key_there, first_key_found, contains_first, contains_more}
 
 -- the list has a key at h

@@ -1,30 +1,24 @@
 -- The first start is allowed, and where some state is allowed there is a first start.
-use Rattle.std.specs.Prelude.{◌≡◌, ℕ, zero, suc, ◌<◌, ◌≤◌, ◌^◌, Bool, true, false, not, ◌==◌, nat_lt, nat_le, cond, if◌then◌else◌, List, [], ◌∷◌, length, Option, Some, None, is_some, map, slice_index_or, option_map, bytes_eq, IfSome, IsSome}
+use Rattle.pr_roles.proofs.Common.{◌≡◌, ℕ, zero, suc, ◌<◌, ◌≤◌, Bool, true, false, cond, not, ◌⊎◌, List, [], ◌∷◌, map, length, is_some, nat_lt, nat_le, ◌==◌, slice_get, slice_index_or, Some, None, Contains, Option, option_map, bytes_eq, sym, refl, ap, ◌∙◌, subst, inl, inr, arith, list_all, false≢true, and_parts, nat_tests, none-some, slice_get-map, slice_get_within, IsKey, Held, One, All, UnitState, quiet_unit, keys_under, first_under, are_distinct, Nexus, Scenario, nexus_of, start_of}
 use Rattle.std.specs.FinMap as finmap
-use Rattle.std.specs.List.{slice_get, list_all, Contains, All as Each}
-use Rattle.std.proofs.Common.{refl, sym, ap, ◌∙◌, subst, inl, inr, ◌⊎◌, arith, lit≤}
+use Rattle.std.specs.List.{All as Each}
+use Rattle.std.proofs.Common.{lit≤, ◌^◌, if◌then◌else◌, IfSome, IsSome}
 use Rattle.std.proofs.Math.Nat.{eq-or-lt_of_le}
-use Rattle.std.proofs.lemmas.Bool.{and_parts, ltb-true, false≢true}
-use Rattle.std.proofs.lemmas.Bool.Decides.{nat_tests}
-use Rattle.std.proofs.lemmas.Option.{none-some, slice_get-map, slice_get_within}
+use Rattle.std.proofs.lemmas.Bool.{ltb-true}
 use Rattle.pr_cdb.specs.declared.codes.TheConstants.{MOST_NEXUSES}
 use Rattle.pr_roles.specs.declared.limits.TheConstants.{MOST_DECLARED_1, MOST_DECLARED_2}
-use Rattle.pr_registry.specs.declared.held.Held.{Held}
-use Rattle.pr_registry.specs.declared.held.Held.TheVariants.{One, All}
 use Rattle.pr_registry.specs.Hosts.{Keys}
-use Rattle.pr_registry.specs.Registrations.{State, IsKey, HasHolder, is_all, table_keys, key_of, state_from, IsWellFormed}
+use Rattle.pr_registry.specs.Registrations.{State, HasHolder, is_all, table_keys, key_of, state_from, IsWellFormed}
 use Rattle.pr_registry.proofs.lemmas.Sets.{is_empty_from_none}
 use Rattle.pr_registry.proofs.lemmas.Tables.{get-table_keys, get-table_keys_in, not_empty-table_keys}
 use Rattle.pr_unit.proofs.lemmas.Attentions.Pairs.{contains-none}
-use Rattle.pr_unit.specs.UnitStates.{UnitState, quiet_unit}
 use Rattle.pr_script.specs.Names.{is_name}
 use Rattle.pr_roles.specs.declared.parts.Nexus.{Nexus as NexusPart}
 use Rattle.pr_roles.specs.declared.parts.Parts.{Parts}
-use Rattle.pr_roles.specs.Scenarios.{Scenario, Nexus, nexus, nexus_of, scenario_of}
-use Rattle.pr_roles.specs.Fitting.{Fits, most_declared, is_reservation, is_nexus, is_role, is_start, is_task, is_alternative, are_distinct, is_same_reservation}
+use Rattle.pr_roles.specs.Scenarios.{nexus, scenario_of}
+use Rattle.pr_roles.specs.Fitting.{Fits, most_declared, is_reservation, is_nexus, is_role, is_start, is_task, is_alternative, is_same_reservation}
 use Rattle.pr_roles.specs.Starts.{IsAllowedStart, CanStart}
-use Rattle.pr_roles.specs.FirstStarts.{starts, first_state, keys_under, first_under}
-use Rattle.pr_roles.specs.inside.StoredStarts.{start_of}
+use Rattle.pr_roles.specs.FirstStarts.{starts, first_state}
 use Rattle.pr_roles.proofs.lemmas.Fitting.DistinctLists.{length_of_parts}
 use Rattle.pr_roles.proofs.lemmas.FirstStarts.Existence.{chosen_length, chosen_at, AreOffered, all_pass, declared_key, slice_get_contains}
 use Rattle.pr_roles.proofs.lemmas.FirstStarts.Reservations.{Made, Holding, made, first, found_first, found_alone, found_all}

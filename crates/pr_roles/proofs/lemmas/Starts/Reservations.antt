@@ -1,17 +1,11 @@
 -- Where there is a first start, and which reservation it takes.
-use Rattle.std.specs.Prelude.{◌≡◌, ℕ, zero, suc, ◌≤◌, true, List, [], ◌∷◌, Option, Some, None, is_some, option_map}
-use Rattle.std.specs.List.{slice_get}
+use Rattle.pr_roles.proofs.Common.{◌≡◌, ℕ, zero, suc, ◌≤◌, true, List, [], ◌∷◌, is_some, slice_get, Some, None, Option, option_map, sym, refl, ap, ◌∙◌, arith, false≢true, none-some, same_Some, Held, quiet_unit, Starts, keys_under, first_under, Scenario}
 use Rattle.std.specs.Option.{option_or}
-use Rattle.std.proofs.Common.{refl, sym, ap, ◌∙◌, arith, lit<}
-use Rattle.std.proofs.lemmas.Bool.{false≢true}
-use Rattle.std.proofs.lemmas.Option.{none-some, same_Some}
-use Rattle.pr_registry.specs.declared.held.Held.{Held}
+use Rattle.std.proofs.Common.{lit<}
 use Rattle.pr_registry.specs.Registrations.{state_from}
-use Rattle.pr_unit.specs.UnitStates.{quiet_unit}
-use Rattle.pr_roles.specs.Scenarios.{Scenario}
 use Rattle.pr_roles.specs.Fitting.{Fits}
 use Rattle.pr_roles.specs.Starts.{CanStart}
-use Rattle.pr_roles.specs.FirstStarts.{Starts, starts, keys_under, first_under}
+use Rattle.pr_roles.specs.FirstStarts.{starts}
 use Rattle.pr_roles.specs.Laws.{StartsAreFound, FirstStartsAreEarliest}
 use Rattle.pr_roles.proofs.lemmas.Starts.AllowedStarts.{first_allowed, found_under, start_found}
 

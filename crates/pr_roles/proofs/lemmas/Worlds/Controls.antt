@@ -1,11 +1,8 @@
 -- What the nexuses do as a run begins.
-use Rattle.std.specs.Prelude.{◌≡◌, ℕ, ◌<◌, length, Option, Some, None, option_map}
+use Rattle.pr_roles.proofs.Common.{◌≡◌, ℕ, ◌<◌, length, Some, None, Option, option_map, refl, ap, ◌∙◌, none-some, same_Some, slice_get-map, slice_get_within, UnitState, Nexus, Scenario, world_from}
 use Rattle.std.specs.Option.{option_map_or}
-use Rattle.std.proofs.Common.{refl, ap, ◌∙◌}
-use Rattle.std.proofs.lemmas.Option.{none-some, same_Some, slice_get-map, slice_get_within}
-use Rattle.pr_unit.specs.UnitStates.{UnitState}
-use Rattle.pr_roles.specs.Scenarios.{Scenario, Nexus, Task, nexus, task}
-use Rattle.pr_roles.specs.Worlds.{Free, control, control_of, world_from}
+use Rattle.pr_roles.specs.Scenarios.{Task, nexus, task}
+use Rattle.pr_roles.specs.Worlds.{Free, control, control_of}
 
 -- what has a task is there
 pub there : (s : Scenario) (h : ℕ) (t : Task) → task s h ≡ Some t → h < length s.nexuses

@@ -1,5 +1,4 @@
-use Rattle.std.proofs.Common.{◌≡◌, length}
-use Rattle.pr_roles.specs.Fitting.{are_distinct}
+use Rattle.pr_roles.proofs.Common.{◌≡◌, length, are_distinct}
 use Rattle.pr_roles.proofs.uniqueness.are_distinct.Given as goal
 
 abbrev pub invariant-loop-first : goal.invariant-loop-first

@@ -1,9 +1,6 @@
 -- Two reservations are equal where their types and holders are.
-use Rattle.std.specs.Prelude.{◌≡◌, Option, Some, None, ◌&&◌, ◌==◌}
+use Rattle.pr_roles.proofs.Common.{◌≡◌, ◌&&◌, ◌==◌, Some, None, Option, refl, ap, ◌∙◌, rules, Held, One, All}
 use Rattle.std.specs.Option.{option_eq}
-use Rattle.std.proofs.Common.{refl, ap, ◌∙◌, rules}
-use Rattle.pr_registry.specs.declared.held.Held.{Held}
-use Rattle.pr_registry.specs.declared.held.Held.TheVariants.{One, All}
 use Rattle.pr_registry.specs.contracts.held.HeldPartialEq.TheImpl as held
 use Rattle.pr_cdb.specs.declared.command.Kind.{Kind}
 use Rattle.pr_cdb.specs.contracts.command.KindPartialEq.TheImpl as kind

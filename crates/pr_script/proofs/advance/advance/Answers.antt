@@ -1,6 +1,5 @@
 -- Where one advance leads from the end of a body, from a repeat and from a break.
-use Rattle.std.proofs.Common.{length}
-use Rattle.pr_script.specs.inside.Program.{meanings}
+use Rattle.pr_script.proofs.Common.{length, meanings}
 use Rattle.pr_script.proofs.lemmas.Program.Places.{place-zero}
 use Rattle.pr_script.proofs.lemmas.Program.Successors.{if_none, end_rests, placed_on, room_again, places_again, leads_again, next_within, body_within, room_in, leads_in, leads_out}
 use Rattle.pr_script.proofs.advance.advance.Goals as goal

@@ -1,6 +1,5 @@
 -- The repeat that is left names places of the table.
-use Rattle.std.proofs.Common.{subst}
-use Rattle.pr_script.specs.inside.Program.{AreLoops}
+use Rattle.pr_script.proofs.Common.{subst, AreLoops}
 use Rattle.pr_script.proofs.lemmas.Program.OpenRepeats.{opens_less}
 use Rattle.pr_script.proofs.advance.exit_loop.Goals as goal
 

@@ -1,6 +1,5 @@
 -- The repeat that is opened names places of the table.
-use Rattle.std.proofs.Common.{sym, subst}
-use Rattle.pr_script.specs.inside.Program.{AreLoops}
+use Rattle.pr_script.proofs.Common.{sym, subst, AreLoops}
 use Rattle.pr_script.proofs.lemmas.Program.OpenRepeats.{opens_more}
 use Rattle.pr_script.proofs.advance.repeat_or_exit.Goals as goal
 

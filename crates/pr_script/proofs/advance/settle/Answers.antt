@@ -1,6 +1,5 @@
 -- Where advancing ends, what is still to do rests.
-use Rattle.std.proofs.Common.{ap, sym, ◌∙◌}
-use Rattle.pr_script.specs.inside.Program.{meanings, configuration}
+use Rattle.pr_script.proofs.Common.{sym, ap, ◌∙◌, configuration, meanings}
 use Rattle.pr_script.proofs.lemmas.Next.Settlement.{settled-rest}
 use Rattle.pr_script.proofs.advance.settle.Goals as goal
 

@@ -1,7 +1,6 @@
 -- The place and the open repeats settle as those at the start; each step leaves less to unfold.
-use Rattle.std.proofs.Common.{◌≡◌}
-use Rattle.pr_script.specs.Scripts.{work, settled_form}
-use Rattle.pr_script.specs.inside.Program.{meanings, configuration, IsPlaced}
+use Rattle.pr_script.proofs.Common.{◌≡◌, settled_form, configuration, IsPlaced, meanings}
+use Rattle.pr_script.specs.Scripts.{work}
 use Rattle.pr_script.proofs.advance.settle.Given as goal
 
 abbrev pub invariant-loop-to : goal.invariant-loop-to

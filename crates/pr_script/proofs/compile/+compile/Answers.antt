@@ -1,8 +1,5 @@
 -- A step of each kind, and one statement or arm more.
-use Rattle.std.proofs.Common.{◌≡◌, ◌+◌, ◌-◌, take, drop, ap, sym, ◌∙◌, subst, arith}
-use Rattle.pr_script.specs.Trees.{statement_of, statements_in}
-use Rattle.pr_script.specs.inside.ArmLists.{arms_in}
-use Rattle.pr_script.specs.inside.Compiled.{IsCompiled, AreArmsCompiled}
+use Rattle.pr_script.proofs.Common.{◌≡◌, ◌+◌, ◌-◌, take, drop, sym, ap, ◌∙◌, subst, arith, statement_of, statements_in, arms_in, IsCompiled, AreArmsCompiled}
 use Rattle.pr_script.proofs.lemmas.Trees.Equations.{tree_send, tree_repeat}
 use Rattle.pr_script.proofs.lemmas.Program.Tables.{laid_more, arms_laid_more, send_laid, repeat_laid}
 use Rattle.pr_script.proofs.compile.+compile.Goals as goal

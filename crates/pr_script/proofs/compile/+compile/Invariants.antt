@@ -1,8 +1,5 @@
 -- The statements behind this one are laid, and the arms before this one.
-use Rattle.std.proofs.Common.{take, drop}
-use Rattle.pr_script.specs.Trees.{statements_in}
-use Rattle.pr_script.specs.inside.ArmLists.{arms_in}
-use Rattle.pr_script.specs.inside.Compiled.{IsCompiled, AreArmsCompiled}
+use Rattle.pr_script.proofs.Common.{take, drop, statements_in, arms_in, IsCompiled, AreArmsCompiled}
 use Rattle.pr_script.proofs.compile.+compile.Given as goal
 
 abbrev pub invariant-compile-loop-i : goal.invariant-compile-loop-i

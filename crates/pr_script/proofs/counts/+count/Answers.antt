@@ -1,8 +1,7 @@
 -- How many statements a statement is, by its kind, and one statement or arm more.
-use Rattle.std.proofs.Common.{min, ap, ◌∙◌, arith}
-use Rattle.pr_script.specs.Grammar.{count_of, count_in_arms}
-use Rattle.pr_script.specs.Trees.{statement_of}
-use Rattle.pr_script.specs.inside.ArmLists.{arms_in}
+use Rattle.pr_script.proofs.Common.{◌+◌, min, ap, ◌∙◌, arith, count_in_arms, statement_of, arms_in}
+use Rattle.pr_script.specs.declared.limits.TheConstants.{MOST_STATEMENTS}
+use Rattle.pr_script.specs.Grammar.{count_of}
 use Rattle.pr_script.proofs.lemmas.Trees.Equations.{tree_send, tree_repeat}
 use Rattle.pr_script.proofs.lemmas.Versions.Statements.{count_taken, arms_count_taken}
 use Rattle.pr_script.proofs.counts.+count.Goals as goal
@@ -18,7 +17,7 @@ arms_count-loop-arm-preserved t c =
 pub statement_count-returns-in-Send : goal.statement_count-returns-in-Send
 statement_count-returns-in-Send t c =
     let counts = ap (λ s. count_of (statement_of s)) c.in-Send.is ∙ ap count_of (tree_send c.in-Send.line c.in-Send.command c.in-Send.arms) in
-    let most = c.arms_count.ensures ∙ ap (λ arms. min 513 (count_in_arms (arms_in arms))) c.deref.ensures.value in
+    let most = c.arms_count.ensures ∙ ap (λ arms. min (MOST_STATEMENTS + 1) (count_in_arms (arms_in arms))) c.deref.ensures.value in
     omega arith
 
 pub statement_count-returns-in-Repeat : goal.statement_count-returns-in-Repeat

@@ -1,12 +1,11 @@
 -- How many statements there are before this one, or in the arms before this one.
-use Rattle.std.proofs.Common.{◌≡◌, min, take}
-use Rattle.pr_script.specs.Trees.{statements_in}
-use Rattle.pr_script.specs.inside.ArmLists.{arms_in}
-use Rattle.pr_script.specs.Grammar.{count_of_all, count_in_arms}
+use Rattle.pr_script.proofs.Common.{◌≡◌, ◌+◌, min, take, count_in_arms, statements_in, arms_in}
+use Rattle.pr_script.specs.declared.limits.TheConstants.{MOST_STATEMENTS}
+use Rattle.pr_script.specs.Grammar.{count_of_all}
 use Rattle.pr_script.proofs.counts.+count.Given as goal
 
 abbrev pub invariant-count-loop-statement : goal.invariant-count-loop-statement
-invariant-count-loop-statement l = l.total ≡ min 513 (count_of_all (statements_in (take l.statement-index l.statement-items)))
+invariant-count-loop-statement l = l.total ≡ min (MOST_STATEMENTS + 1) (count_of_all (statements_in (take l.statement-index l.statement-items)))
 
 abbrev pub invariant-arms_count-loop-arm : goal.invariant-arms_count-loop-arm
-invariant-arms_count-loop-arm l = l.total ≡ min 513 (count_in_arms (arms_in (take l.arm-index l.arms)))
+invariant-arms_count-loop-arm l = l.total ≡ min (MOST_STATEMENTS + 1) (count_in_arms (arms_in (take l.arm-index l.arms)))

@@ -1,10 +1,7 @@
 -- A statement by its kind, one statement or arm more, and lines that fall.
-use Rattle.std.proofs.Common.{◌+◌, ap, ◌∙◌, sym, arith}
+use Rattle.pr_script.proofs.Common.{◌+◌, sym, ap, ◌∙◌, arith, lines_of_all, lines_of_arms, statement_of, statements_in, script_of, arms_in, last_of_climb}
 use Rattle.std.proofs.lemmas.Bool.{lt-ltb}
-use Rattle.pr_script.specs.Grammar.{lines_of, lines_of_all, lines_of_arms}
-use Rattle.pr_script.specs.inside.Climbs.{last_of_climb}
-use Rattle.pr_script.specs.Trees.{statement_of, statements_in, script_of}
-use Rattle.pr_script.specs.inside.ArmLists.{arms_in}
+use Rattle.pr_script.specs.Grammar.{lines_of}
 use Rattle.pr_script.proofs.lemmas.Trees.Equations.{tree_send, tree_repeat}
 use Rattle.pr_script.proofs.lemmas.Versions.Statements.{then, lines_taken, arm_lines_taken, lines_fallen, arm_lines_fallen, climbed_above}
 use Rattle.pr_script.proofs.counts.+lines.Goals as goal

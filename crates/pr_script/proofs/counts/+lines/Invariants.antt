@@ -1,9 +1,5 @@
 -- The lines before this statement or arm rise to the last of them.
-use Rattle.std.proofs.Common.{◌≡◌, Some, take}
-use Rattle.pr_script.specs.Trees.{statements_in}
-use Rattle.pr_script.specs.inside.ArmLists.{arms_in}
-use Rattle.pr_script.specs.Grammar.{lines_of_all, lines_of_arms}
-use Rattle.pr_script.specs.inside.Climbs.{last_of_climb}
+use Rattle.pr_script.proofs.Common.{◌≡◌, take, Some, lines_of_all, lines_of_arms, statements_in, arms_in, last_of_climb}
 use Rattle.pr_script.proofs.counts.+lines.Given as goal
 
 abbrev pub invariant-last_line-loop-statement : goal.invariant-last_line-loop-statement

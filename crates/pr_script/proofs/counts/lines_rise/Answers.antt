@@ -1,8 +1,5 @@
 -- What does not fall rises.
-use Rattle.std.proofs.Common.{ap, ◌∙◌}
-use Rattle.std.specs.Prelude.{is_some}
-use Rattle.pr_script.specs.Grammar.{lines_of_all}
-use Rattle.pr_script.specs.Trees.{script_of}
+use Rattle.pr_script.proofs.Common.{is_some, ap, ◌∙◌, lines_of_all, script_of}
 use Rattle.pr_script.proofs.lemmas.Versions.Statements.{risen}
 use Rattle.pr_script.proofs.counts.lines_rise.Goals as goal
 

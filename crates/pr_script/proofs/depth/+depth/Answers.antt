@@ -1,8 +1,5 @@
 -- A statement's depth by its kind, and one statement or arm more.
-use Rattle.std.proofs.Common.{min, ap, ◌∙◌, arith}
-use Rattle.pr_script.specs.Depths.{depth_of, depth_of_arms}
-use Rattle.pr_script.specs.Trees.{statement_of}
-use Rattle.pr_script.specs.inside.ArmLists.{arms_in}
+use Rattle.pr_script.proofs.Common.{◌+◌, min, ap, ◌∙◌, arith, depth_of, depth_of_arms, statement_of, MOST_OPEN, arms_in}
 use Rattle.pr_script.proofs.lemmas.Trees.Equations.{tree_send, tree_repeat}
 use Rattle.pr_script.proofs.lemmas.Trees.ListTails.{depth_taken, depth_of_arms_taken}
 use Rattle.pr_script.proofs.depth.+depth.Goals as goal
@@ -18,7 +15,7 @@ arms_depth-loop-arm-preserved t c =
 pub statement_depth-returns-in-Send : goal.statement_depth-returns-in-Send
 statement_depth-returns-in-Send t c =
     let deep = ap (λ s. depth_of (statement_of s)) c.in-Send.is ∙ ap depth_of (tree_send c.in-Send.line c.in-Send.command c.in-Send.arms) in
-    let most = c.arms_depth.ensures ∙ ap (λ arms. min 9 (depth_of_arms (arms_in arms))) c.deref.ensures.value in
+    let most = c.arms_depth.ensures ∙ ap (λ arms. min (MOST_OPEN + 1) (depth_of_arms (arms_in arms))) c.deref.ensures.value in
     omega arith
 
 pub statement_depth-returns-in-Repeat : goal.statement_depth-returns-in-Repeat

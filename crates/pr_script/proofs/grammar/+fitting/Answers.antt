@@ -1,8 +1,6 @@
 -- A statement by its kind, and one statement or arm more.
-use Rattle.std.proofs.Common.{◌+◌, ◌&&◌, nat_lt, ap, ◌∙◌, sym}
-use Rattle.pr_script.specs.Grammar.{statement_fits, arms_fit, is_send_written}
-use Rattle.pr_script.specs.Trees.{statement_of}
-use Rattle.pr_script.specs.inside.ArmLists.{arms_in}
+use Rattle.pr_script.proofs.Common.{◌+◌, ◌&&◌, nat_lt, sym, ap, ◌∙◌, statement_fits, arms_fit, statement_of, MOST_OPEN, arms_in}
+use Rattle.pr_script.specs.Grammar.{is_send_written}
 use Rattle.pr_script.proofs.lemmas.Trees.Equations.{tree_send, tree_repeat}
 use Rattle.pr_script.proofs.lemmas.Versions.Statements.{fit_taken, arms_taken, and_one, and_none}
 use Rattle.pr_script.proofs.grammar.+fitting.Goals as goal
@@ -13,7 +11,7 @@ statement_fits-returns-in-Send t c =
     let is = ap statement_of c.in-Send.is ∙ tree_send c.in-Send.line c.in-Send.command c.in-Send.arms in
     let fits = ap (statement_fits c.args.keys.now c.args.repeated c.args.sent) is in
     c.send_fits.ensures
-    ∙ (ap (λ arms. is_send_written c.args.keys.now c.in-Send.command (arms_in arms) && (nat_lt c.args.sent 8 && arms_fit c.args.keys.now c.args.repeated (c.args.sent + 1) c.in-Send.command (arms_in arms))) c.deref.ensures.value
+    ∙ (ap (λ arms. is_send_written c.args.keys.now c.in-Send.command (arms_in arms) && (nat_lt c.args.sent MOST_OPEN && arms_fit c.args.keys.now c.args.repeated (c.args.sent + 1) c.in-Send.command (arms_in arms))) c.deref.ensures.value
     ∙ sym fits)
 
 pub statement_fits-returns-in-Repeat : goal.statement_fits-returns-in-Repeat

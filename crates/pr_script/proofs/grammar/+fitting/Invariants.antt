@@ -1,8 +1,5 @@
 -- Whether the statements or arms before this one fit.
-use Rattle.std.proofs.Common.{◌≡◌, take}
-use Rattle.pr_script.specs.Trees.{statements_in}
-use Rattle.pr_script.specs.inside.ArmLists.{arms_in}
-use Rattle.pr_script.specs.Grammar.{statements_fit, arms_fit}
+use Rattle.pr_script.proofs.Common.{◌≡◌, take, statements_fit, arms_fit, statements_in, arms_in}
 use Rattle.pr_script.proofs.grammar.+fitting.Given as goal
 
 abbrev pub invariant-statements_fit-loop-statement : goal.invariant-statements_fit-loop-statement

@@ -1,10 +1,10 @@
 -- A script sends at most as many commands as it costs.
-use Rattle.std.specs.Prelude.{◌≡◌, ℕ, suc, ◌+◌, ◌≤◌, List, [], ◌∷◌, Some, option_map, true, false, drop, max, if◌then◌else◌}
-use Rattle.std.proofs.Common.{arith}
+use Rattle.pr_script.proofs.Common.{◌≡◌, ℕ, suc, ◌+◌, ◌≤◌, max, true, false, List, [], ◌∷◌, drop, Some, option_map, arith, cost_of, cost_of_all, greatest, sends, repeats, breaks, Stmts, none, more, Arms, no_arm, arm, statement, mark, Configuration, before, past_mark, becomes, settled_form, matches}
+use Rattle.std.specs.Prelude.{if◌then◌else◌}
 use Rattle.pr_cdb.specs.declared.reply.Reply.{Reply}
-use Rattle.pr_script.specs.Scripts.{Stmts, Arms, sends, repeats, breaks, none, more, no_arm, arm, statement, mark, Configuration, before, past_mark, becomes, settled_form, first_configuration}
-use Rattle.pr_script.specs.Takes.{matches, first_match}
-use Rattle.pr_script.specs.Costs.{cost_of, cost_of_all, greatest, commands_sent, count_in, commands_sent}
+use Rattle.pr_script.specs.Scripts.{first_configuration}
+use Rattle.pr_script.specs.Takes.{first_match}
+use Rattle.pr_script.specs.Costs.{commands_sent, count_in}
 use Rattle.pr_script.specs.Laws.{CostBoundsSends}
 use Rattle.pr_script.proofs.lemmas.Next.Settlement.{kept}
 

@@ -1,7 +1,7 @@
 -- What is still to do comes to rest.
-use Rattle.std.specs.Prelude.{◌≡◌, ℕ, zero, suc, ◌+◌, ◌<◌, ◌≤◌, ◌⊎◌, true, [], ◌∷◌, drop, is_some}
-use Rattle.std.proofs.Common.{refl, sym, ap, subst, ◌∙◌, inl, inr, arith}
-use Rattle.pr_script.specs.Scripts.{Stmts, repeats, breaks, none, more, statement, mark, Configuration, before, turn, past_mark, becomes, work_of_all, work, becomes_often, settled_form, standing_of_items}
+use Rattle.pr_script.proofs.Common.{◌≡◌, ℕ, zero, suc, ◌+◌, ◌<◌, ◌≤◌, true, [], ◌∷◌, drop, is_some, sym, refl, ap, ◌∙◌, subst, inl, inr, arith, repeats, breaks, Stmts, none, more, statement, mark, Configuration, before, turn, past_mark, becomes, settled_form}
+use Rattle.std.specs.Prelude.{◌⊎◌}
+use Rattle.pr_script.specs.Scripts.{work_of_all, work, becomes_often, standing_of_items}
 use Rattle.pr_script.specs.Laws.{Settles}
 
 pub work-before : (b : Stmts) (l : Configuration) → work (before b l) ≡ work_of_all b + work l

@@ -1,14 +1,10 @@
 -- The places of a table, and what is still to do there.
-use Rattle.std.specs.Prelude.{◌≡◌, false, ℕ, ◌+◌, ◌-◌, ◌<◌, ◌≤◌, ◌⊎◌, List, [], ◌∷◌, ◌++◌, length, fold}
-use Rattle.std.proofs.Common.{refl, ap, subst, ◌∙◌, inl, inr, arith, get_or}
+use Rattle.pr_script.proofs.Common.{◌≡◌, ℕ, ◌+◌, ◌-◌, ◌<◌, ◌≤◌, false, List, [], ◌∷◌, ◌++◌, length, get_or, refl, ap, ◌∙◌, subst, inl, inr, arith, Stmts, none, statement, mark, Configuration, before, becomes, is_ready, LoopFrame, Instruction, Step, place, step_at, IsTable, open_configuration, configuration, IsPlaced, meanings}
+use Rattle.std.specs.Prelude.{◌⊎◌, fold}
 use Rattle.std.proofs.lemmas.List.{length-append}
 use Rattle.std.proofs.Math.ListN.{get_or-append}
 use Rattle.std.proofs.lemmas.List.Sums.{fold-append}
-use Rattle.pr_script.specs.declared.rows.Instruction.{Instruction}
-use Rattle.pr_script.specs.declared.rows.Step.{Step}
-use Rattle.pr_script.specs.declared.advance.LoopFrame.{LoopFrame}
-use Rattle.pr_script.specs.Scripts.{Stmts, none, statement, mark, Configuration, before, becomes, is_ready}
-use Rattle.pr_script.specs.inside.Program.{place, row_at, step_at, with_row, meanings, IsRow, IsTable, opened_by, open_configuration, configuration, IsPlaced, IsMachine}
+use Rattle.pr_script.specs.inside.Program.{row_at, with_row, IsRow, opened_by, IsMachine}
 use Rattle.pr_script.proofs.lemmas.Next.Settlement.{no_mark_rests}
 
 -- ---- one row more

@@ -1,11 +1,7 @@
 -- Where a place leads.
-use Rattle.std.specs.Prelude.{◌≡◌, ℕ, ◌-◌, ◌<◌, ◌≤◌, List, [], ◌∷◌, ◌++◌, length, Option, Some, None, IfNone}
-use Rattle.std.proofs.Common.{refl, sym, ap, subst, ◌∙◌, arith, rules, get_or}
-use Rattle.pr_script.specs.declared.rows.Instruction.{Instruction}
+use Rattle.pr_script.proofs.Common.{◌≡◌, ℕ, ◌-◌, ◌<◌, ◌≤◌, List, [], ◌∷◌, ◌++◌, length, get_or, Some, None, Option, sym, refl, ap, ◌∙◌, subst, arith, repeats, statement, mark, Configuration, before, turn, past_mark, becomes, LoopFrame, MOST_OPEN, Instruction, place, IsStep, open_configuration, configuration, deepest, AreLoops, IsPlaced, meanings}
+use Rattle.std.proofs.Common.{rules, IfNone}
 use Rattle.pr_script.specs.declared.rows.Step.TheVariants.{Repeat, Break}
-use Rattle.pr_script.specs.declared.advance.LoopFrame.{LoopFrame}
-use Rattle.pr_script.specs.Scripts.{statement, mark, repeats, Configuration, before, turn, past_mark, becomes}
-use Rattle.pr_script.specs.inside.Program.{place, meanings, open_configuration, deepest, configuration, AreLoops, IsStep, IsPlaced}
 use Rattle.pr_script.specs.inside.Advances.{Leads}
 use Rattle.pr_script.proofs.lemmas.Program.Places.{the_row, configuration-step, configuration-zero, opened-push}
 use Rattle.pr_script.proofs.lemmas.Program.OpenRepeats.{opens_less, open_count-configuration, leads_turn, leads_mark, leads_break, past_mark-before}
@@ -46,10 +42,10 @@ popped rows at opens os o ends were =
     configuration-zero rows at opens ends ∙ ap (open_configuration (meanings rows)) were ∙ opened-push (meanings rows) os o
 
 pub room_again : (rows : List Instruction) (at : ℕ) (opens os : List LoopFrame) (o : LoopFrame) → IsPlaced rows at opens → at ≡ 0 → opens ≡ os ++ o ∷ []
-    → length os < 8
+    → length os < MOST_OPEN
 room_again rows at opens os o placed ends were =
     let is = popped rows at opens os o ends were in
-    let room = subst (λ l. deepest l ≤ 8) is placed.room in
+    let room = subst (λ l. deepest l ≤ MOST_OPEN) is placed.room in
     omega (arith, open_count-configuration (place (meanings rows) o.next) (meanings rows) os)
 
 pub places_again : (rows : List Instruction) (at : ℕ) (opens os : List LoopFrame) (o : LoopFrame) → IsPlaced rows at opens → opens ≡ os ++ o ∷ []
@@ -73,9 +69,9 @@ module _ (rows : List Instruction) (at : ℕ) (opens : List LoopFrame) (row : In
     pub body_within : body ≤ length rows
     body_within = omega (arith, subst (IsStep (meanings rows) (at - 1) row.next) same (the_row rows at row placed.table some placed.within is).step, placed.within)
 
-    pub room_in : length opens < 8
+    pub room_in : length opens < MOST_OPEN
     room_in =
-        let room = subst (λ l. deepest l ≤ 8) (configuration-step rows at opens row (Repeat count body) placed some is same) placed.room in
+        let room = subst (λ l. deepest l ≤ MOST_OPEN) (configuration-step rows at opens row (Repeat count body) placed some is same) placed.room in
         omega (arith, open_count-configuration (place (meanings rows) row.next) (meanings rows) opens)
 
     pub leads_in : (to : ℕ) (next : List LoopFrame)

@@ -1,23 +1,14 @@
 -- How a table grows by rows.
-use Rattle.std.specs.Prelude.{◌≡◌, ℕ, suc, ◌+◌, ◌-◌, ◌<◌, ◌≤◌, List, [], ◌∷◌, ◌++◌, length, drop, take}
-use Rattle.std.proofs.Common.{refl, sym, ap, subst, ◌∙◌, inl, inr, arith, get_or, add-one, drop-cons, Vec, Global}
+use Rattle.pr_script.proofs.Common.{◌≡◌, ℕ, suc, ◌+◌, ◌-◌, ◌<◌, ◌≤◌, List, [], ◌∷◌, ◌++◌, length, get_or, take, drop, Vec, Global, sym, refl, ap, ◌∙◌, subst, inl, inr, arith, Command, depth_of_all, Stmt, sends, repeats, Stmts, none, more, Arms, no_arm, arm, before, statement_of, statements_in, script_of, MOST_OPEN, Instruction, Step, Arm, Statement, arms_in, IsCompiled, AreArmsCompiled, place, step_at, IsStep, IsTable, configuration, deepest, IsPlaced, meanings}
+use Rattle.std.proofs.Common.{add-one, drop-cons}
 use Rattle.std.proofs.lemmas.List.{length-append}
 use Rattle.std.proofs.Math.ListN.{get_or-append}
 use Rattle.std.proofs.Math.Seq.{get_or-append_seam}
 use Rattle.std.proofs.Math.Nat.{eq-or-lt_of_le}
-use Rattle.pr_cdb.specs.declared.command.Command.{Command}
-use Rattle.pr_script.specs.declared.script.Statement.{Statement}
-use Rattle.pr_script.specs.declared.script.Arm.{Arm}
-use Rattle.pr_script.specs.declared.rows.Instruction.{Instruction}
-use Rattle.pr_script.specs.declared.rows.Step.{Step}
 use Rattle.pr_script.specs.declared.rows.Step.TheVariants.{Send, Repeat}
 use Rattle.pr_script.specs.declared.rows.ArmTarget.{ArmTarget}
-use Rattle.pr_script.specs.Scripts.{Stmt, Stmts, Arms, sends, repeats, none, more, no_arm, arm, before}
-use Rattle.pr_script.specs.Depths.{depth_of_all}
-use Rattle.pr_script.specs.Trees.{statement_of, statements_in, script_of}
-use Rattle.pr_script.specs.inside.ArmLists.{arms_in}
-use Rattle.pr_script.specs.inside.Program.{configuration, deepest, IsPlaced, concatenation, size, first_statements, without_end, place, arms_at, step_at, row_at, meanings, AreJumps, IsStep, IsRow, IsTable}
-use Rattle.pr_script.specs.inside.Compiled.{Grows, IsCompiled, IsStepCompiled, AreArmsCompiled}
+use Rattle.pr_script.specs.inside.Program.{concatenation, size, first_statements, without_end, arms_at, row_at, AreJumps, IsRow}
+use Rattle.pr_script.specs.inside.Compiled.{Grows, IsStepCompiled}
 use Rattle.pr_script.proofs.lemmas.Program.Places.{length-meanings, meanings-push, place-zero}
 use Rattle.pr_script.proofs.lemmas.Program.OpenRepeats.{deepest-before}
 use Rattle.pr_script.proofs.lemmas.Trees.ListTails.{taken, with_last_arm, arms_in-append}
@@ -235,10 +226,10 @@ laid_whole old rows rows' xs xs' first start same_rows same laid =
 pub configuration-laid : (rows : List Instruction) (b : Stmts) (first : ℕ) → IsCompiled [] rows b 0 first → configuration (meanings rows) first [] ≡ before b []
 configuration-laid rows b first laid = ap (λ s. before s []) (laid.meaning ∙ ap (concatenation b) (place-zero []) ∙ joined-none b)
 
-pub laid_placed : (rows : List Instruction) (b : Stmts) (first : ℕ) → IsCompiled [] rows b 0 first → depth_of_all b ≤ 8 → IsPlaced rows first []
+pub laid_placed : (rows : List Instruction) (b : Stmts) (first : ℕ) → IsCompiled [] rows b 0 first → depth_of_all b ≤ MOST_OPEN → IsPlaced rows first []
 laid_placed rows b first laid shallow = record {
   table = laid.grows.table;
   within = laid.within;
   repeats = tt;
-  room = subst (λ l. deepest l ≤ 8) (sym (configuration-laid rows b first laid)) (omega (arith, deepest-before b []));
+  room = subst (λ l. deepest l ≤ MOST_OPEN) (sym (configuration-laid rows b first laid)) (omega (arith, deepest-before b []));
 }

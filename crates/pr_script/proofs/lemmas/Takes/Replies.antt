@@ -1,19 +1,14 @@
 -- What a reply at a send leads to.
-use Rattle.std.specs.Prelude.{◌≡◌, ℕ, ◌+◌, ◌-◌, ◌≤◌, List, [], ◌∷◌, length, Bool, true, false, cond, if◌then◌else◌, Option, Some, None, option_map, find, max, IfOk, MatchResult}
+use Rattle.pr_script.proofs.Common.{◌≡◌, ℕ, ◌+◌, ◌-◌, ◌≤◌, max, Bool, true, false, List, [], ◌∷◌, length, get_or, Some, None, Option, Vec, option_map, Global, sym, refl, ap, ◌∙◌, subst, arith, Command, depth_of_all, depth_of_arms, Stmt, sends, Stmts, none, more, Arms, no_arm, arm, statement, Configuration, before, is_ready, settled_form, matches, LoopFrame, Instruction, Step, place, step_at, IsStep, IsTable, open_configuration, deepest, meanings}
 use Rattle.std.specs.Option.{ok_or}
-use Rattle.std.proofs.Common.{refl, sym, ap, subst, ◌∙◌, arith, rules, get_or, Vec, Global}
+use Rattle.std.proofs.Common.{rules, cond, if◌then◌else◌, find, IfOk, MatchResult}
 use Rattle.pr_cdb.specs.declared.reply.Reply.{Reply}
-use Rattle.pr_cdb.specs.declared.command.Command.{Command}
 use Rattle.pr_script.specs.declared.next.NoArm.{NoArm}
-use Rattle.pr_script.specs.declared.rows.Instruction.{Instruction}
-use Rattle.pr_script.specs.declared.rows.Step.{Step}
 use Rattle.pr_script.specs.declared.rows.Step.TheVariants.{Send}
 use Rattle.pr_script.specs.declared.rows.ArmTarget.{ArmTarget}
-use Rattle.pr_script.specs.declared.advance.LoopFrame.{LoopFrame}
-use Rattle.pr_script.specs.Scripts.{Stmt, Stmts, Arms, sends, none, more, no_arm, arm, Configuration, statement, before, settled_form, is_ready, IsReady}
-use Rattle.pr_script.specs.Takes.{matches, first_match, take}
-use Rattle.pr_script.specs.Depths.{depth_of_all, depth_of_arms}
-use Rattle.pr_script.specs.inside.Program.{concatenation, without_end, open_configuration, place, arms_at, step_at, meanings, deepest, open_count, AreJumps, IsStep, IsTable}
+use Rattle.pr_script.specs.Scripts.{IsReady}
+use Rattle.pr_script.specs.Takes.{first_match, take}
+use Rattle.pr_script.specs.inside.Program.{concatenation, without_end, arms_at, open_count, AreJumps}
 use Rattle.pr_script.specs.inside.Advances.{TakesBody}
 use Rattle.pr_script.proofs.lemmas.Program.Places.{place-zero, place-row, the_row, opened-unready}
 use Rattle.pr_script.proofs.lemmas.Program.OpenRepeats.{deepest-before}

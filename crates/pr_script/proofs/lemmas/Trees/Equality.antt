@@ -1,13 +1,7 @@
 -- When two lists of statements, or of arms, are the same.
-use Rattle.std.specs.Prelude.{◌≡◌, ℕ, zero, suc, ◌+◌, ◌<◌, List, [], ◌∷◌, length, take, Bool, true, false, IsTrue, Option, Some, None}
-use Rattle.std.proofs.Common.{refl, sym, ap, ◌∙◌, get_or, arith}
-use Rattle.pr_cdb.specs.declared.command.Command.{Command}
+use Rattle.pr_script.proofs.Common.{◌≡◌, ℕ, zero, suc, ◌+◌, ◌<◌, Bool, true, false, List, [], ◌∷◌, length, get_or, take, Some, None, Option, sym, refl, ap, ◌∙◌, arith, Command, Stmt, sends, repeats, Stmts, none, more, Arms, no_arm, arm, statement_of, statements_in, script_of, Arm, Statement, arms_in}
+use Rattle.std.specs.Prelude.{IsTrue}
 use Rattle.pr_script.specs.declared.script.Test.{Test}
-use Rattle.pr_script.specs.declared.script.Statement.{Statement}
-use Rattle.pr_script.specs.declared.script.Arm.{Arm}
-use Rattle.pr_script.specs.Scripts.{Stmt, Stmts, Arms, sends, repeats, none, more, no_arm, arm}
-use Rattle.pr_script.specs.Trees.{statement_of, statements_in, script_of}
-use Rattle.pr_script.specs.inside.ArmLists.{arms_in}
 use Rattle.pr_script.specs.inside.Program.{size}
 use Rattle.pr_script.proofs.lemmas.Trees.ListTails.{statements_taken, arms_taken, taken}
 

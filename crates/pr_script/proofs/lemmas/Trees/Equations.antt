@@ -1,15 +1,10 @@
 -- What the trees of values are as statements, one level at a time.
-use Rattle.std.specs.Prelude.{◌≡◌, ℕ}
-use Rattle.std.proofs.Common.{refl, sym, ap, ◌∙◌, Vec, Global}
-use Rattle.pr_cdb.specs.declared.command.Command.{Command}
+use Rattle.pr_script.proofs.Common.{◌≡◌, ℕ, Vec, Global, sym, refl, ap, ◌∙◌, Command, sends, repeats, more, arm, statement_of, statements_in, script_of, Arm, arms_in}
 use Rattle.pr_script.specs.declared.script.Statement.{Row_of-Statement, end_of-Statement, more_of-Statement, Row_of-Arm, end_of-Arm, more_of-Arm}
 use Rattle.pr_script.specs.declared.script.Statement.TheVariants.{Send, Repeat}
 use Rattle.pr_script.specs.declared.script.Script.{Script}
-use Rattle.pr_script.specs.declared.script.Arm.{Arm}
 use Rattle.pr_script.specs.declared.script.Statement.TheBlock.{items-the_row-Statement, items-the_row-Arm, items_shown-the_row-Statement-0, items_hidden-the_row-Statement-0, hidden-the_row-Statement-0, hidden-the_row-Arm-1, items_hidden-the_row-Arm-1}
-use Rattle.pr_script.specs.Scripts.{sends, repeats, more, arm}
-use Rattle.pr_script.specs.Trees.{statement_of, statements_of, arms_of, statements_in, script_of}
-use Rattle.pr_script.specs.inside.ArmLists.{arms_in}
+use Rattle.pr_script.specs.Trees.{statements_of, arms_of}
 
 pub statements-items : (n : _) (row : Row_of-Statement n) → statements_of row ≡ statements_in (items-the_row-Statement n row)
 statements-items _ end_of-Statement = refl

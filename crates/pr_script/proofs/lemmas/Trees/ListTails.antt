@@ -1,15 +1,7 @@
 -- One more statement, or arm, of a list.
-use Rattle.std.specs.Prelude.{◌≡◌, ℕ, ◌+◌, ◌<◌, List, [], ◌∷◌, ◌++◌, length, take, max}
-use Rattle.std.proofs.Common.{refl, sym, ap, ◌∙◌, get_or, arith}
+use Rattle.pr_script.proofs.Common.{◌≡◌, ℕ, ◌+◌, ◌<◌, max, List, [], ◌∷◌, ◌++◌, length, get_or, take, sym, refl, ap, ◌∙◌, arith, cost_of, cost_of_all, greatest, depth_of, depth_of_all, depth_of_arms, Stmt, Stmts, none, more, Arms, no_arm, arm, statement_of, statements_in, script_of, Arm, Statement, arms_in}
 use Rattle.std.proofs.lemmas.List.{take_more}
-use Rattle.pr_script.specs.declared.script.Statement.{Statement}
-use Rattle.pr_script.specs.declared.script.Arm.{Arm}
-use Rattle.pr_script.specs.Trees.{statement_of, statements_in, script_of}
-use Rattle.pr_script.specs.inside.ArmLists.{arms_in}
 use Rattle.pr_script.specs.declared.script.Test.{Test}
-use Rattle.pr_script.specs.Scripts.{Stmt, Stmts, Arms, none, more, no_arm, arm}
-use Rattle.pr_script.specs.Depths.{depth_of, depth_of_all, depth_of_arms}
-use Rattle.pr_script.specs.Costs.{cost_of, cost_of_all, greatest}
 
 -- the first i items and the one that was read there
 pub taken : {X : Type 0} (xs : List X) (i : ℕ) (x : X) → i < length xs → x ≡ get_or xs i x → take (i + 1) xs ≡ take i xs ++ x ∷ []

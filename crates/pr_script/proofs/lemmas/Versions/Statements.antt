@@ -1,15 +1,9 @@
 -- One more statement, or arm, of those that are looked at one after another.
-use Rattle.std.specs.Prelude.{◌≡◌, ℕ, ◌+◌, ◌<◌, Bool, true, false, ◌&&◌, nat_lt, nat_le, List, [], ◌∷◌, ◌++◌, length, take, cond, Option, Some, None, is_some}
-use Rattle.std.proofs.Common.{refl, sym, ap, ◌∙◌, get_or, drop, arith}
+use Rattle.pr_script.proofs.Common.{◌≡◌, ℕ, ◌+◌, ◌<◌, Bool, true, false, ◌&&◌, List, [], ◌∷◌, ◌++◌, length, get_or, take, drop, is_some, nat_lt, Some, None, Option, sym, refl, ap, ◌∙◌, arith, Command, statement_fits, statements_fit, arms_fit, count_in_arms, lines_of_all, lines_of_arms, statement_of, statements_in, script_of, are_arms_of, Arm, Statement, arms_in, last_of_climb}
+use Rattle.std.specs.Prelude.{nat_le, cond}
 use Rattle.std.proofs.lemmas.List.{take-append-drop}
-use Rattle.pr_cdb.specs.declared.command.Command.{Command}
-use Rattle.pr_script.specs.declared.script.Statement.{Statement}
-use Rattle.pr_script.specs.declared.script.Arm.{Arm}
-use Rattle.pr_script.specs.Trees.{statement_of, statements_in, script_of}
-use Rattle.pr_script.specs.inside.ArmLists.{arms_in}
-use Rattle.pr_script.specs.Grammar.{test_fits, statement_fits, statements_fit, arms_fit, count_of_arms, count_of, count_of_all, count_in_arms, lines_of, lines_of_all, lines_of_arms, rise_above}
-use Rattle.pr_script.specs.Versions.{since, is_statement_of, is_script_of, are_arms_of}
-use Rattle.pr_script.specs.inside.Climbs.{last_of_climb}
+use Rattle.pr_script.specs.Grammar.{test_fits, count_of_arms, count_of, count_of_all, lines_of, rise_above}
+use Rattle.pr_script.specs.Versions.{since, is_statement_of, is_script_of}
 use Rattle.pr_script.proofs.lemmas.Trees.ListTails.{taken}
 
 -- ---- the grammar

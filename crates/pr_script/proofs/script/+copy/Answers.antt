@@ -1,8 +1,5 @@
 -- A copy's kind, and one statement or arm more.
-use Rattle.std.proofs.Common.{ap, sym, ◌∙◌, refl}
-use Rattle.pr_script.specs.Scripts.{sends, repeats}
-use Rattle.pr_script.specs.Trees.{statement_of, statements_in}
-use Rattle.pr_script.specs.inside.ArmLists.{arms_in}
+use Rattle.pr_script.proofs.Common.{sym, refl, ap, ◌∙◌, sends, repeats, statement_of, statements_in, arms_in}
 use Rattle.pr_script.proofs.lemmas.Trees.Equations.{tree_send, tree_repeat}
 use Rattle.pr_script.proofs.lemmas.Trees.ListTails.{statements_taken, arms_taken}
 use Rattle.pr_script.proofs.script.+copy.Goals as goal

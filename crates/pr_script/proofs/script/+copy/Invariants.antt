@@ -1,7 +1,5 @@
 -- What was copied so far is equal.
-use Rattle.std.proofs.Common.{◌≡◌, take}
-use Rattle.pr_script.specs.Trees.{statements_in}
-use Rattle.pr_script.specs.inside.ArmLists.{arms_in}
+use Rattle.pr_script.proofs.Common.{◌≡◌, take, statements_in, arms_in}
 use Rattle.pr_script.proofs.script.+copy.Given as goal
 
 abbrev pub invariant-Script::copy-loop-statement : goal.invariant-Script::copy-loop-statement

@@ -1,7 +1,6 @@
 -- Equal lists are as long and equal at each place, and equal statements are of one kind.
-use Rattle.std.proofs.Common.{◌≡◌, ◌<◌, length, get_or, IsTrue, ap, subst, ◌∙◌, arith}
-use Rattle.pr_script.specs.Trees.{statement_of}
-use Rattle.pr_script.specs.inside.ArmLists.{arms_in}
+use Rattle.pr_script.proofs.Common.{◌≡◌, ◌<◌, length, get_or, ap, ◌∙◌, subst, arith, statement_of, arms_in}
+use Rattle.std.proofs.Common.{IsTrue}
 use Rattle.pr_script.proofs.lemmas.Trees.Equations.{tree_send, tree_repeat}
 use Rattle.pr_script.proofs.lemmas.Trees.Equality.{refuted, not_both, same_length, same_arm_count, same_statement, same_arm, same_so_far, same_arms_so_far, sends_alike, repeats_alike}
 use Rattle.pr_script.proofs.script.+same.Goals as goal

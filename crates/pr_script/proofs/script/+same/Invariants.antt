@@ -1,7 +1,5 @@
 -- The statements, or arms, before this one are the same.
-use Rattle.std.proofs.Common.{◌≡◌, take}
-use Rattle.pr_script.specs.Trees.{statements_in}
-use Rattle.pr_script.specs.inside.ArmLists.{arms_in}
+use Rattle.pr_script.proofs.Common.{◌≡◌, take, statements_in, arms_in}
 use Rattle.pr_script.proofs.script.+same.Given as goal
 
 abbrev pub invariant-Script::same-loop-i : goal.invariant-Script::same-loop-i

@@ -1,8 +1,6 @@
 -- A statement by its kind, and one statement or arm more.
-use Rattle.std.proofs.Common.{ap, ◌∙◌, sym}
-use Rattle.pr_script.specs.Versions.{is_statement_of, are_arms_of}
-use Rattle.pr_script.specs.Trees.{statement_of}
-use Rattle.pr_script.specs.inside.ArmLists.{arms_in}
+use Rattle.pr_script.proofs.Common.{sym, ap, ◌∙◌, statement_of, are_arms_of, arms_in}
+use Rattle.pr_script.specs.Versions.{is_statement_of}
 use Rattle.pr_script.proofs.lemmas.Trees.Equations.{tree_send, tree_repeat}
 use Rattle.pr_script.proofs.lemmas.Versions.Statements.{dated_taken, arms_dated_taken, and_one, and_none}
 use Rattle.pr_script.proofs.versions.+dating.Goals as goal

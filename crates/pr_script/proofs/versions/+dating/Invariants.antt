@@ -1,8 +1,6 @@
 -- Whether the statements or arms before this one are of the version.
-use Rattle.std.proofs.Common.{◌≡◌, take}
-use Rattle.pr_script.specs.Trees.{statements_in}
-use Rattle.pr_script.specs.inside.ArmLists.{arms_in}
-use Rattle.pr_script.specs.Versions.{is_script_of, are_arms_of}
+use Rattle.pr_script.proofs.Common.{◌≡◌, take, statements_in, are_arms_of, arms_in}
+use Rattle.pr_script.specs.Versions.{is_script_of}
 use Rattle.pr_script.proofs.versions.+dating.Given as goal
 
 abbrev pub invariant-is_script_of-loop-statement : goal.invariant-is_script_of-loop-statement

@@ -1,5 +1,5 @@
 -- The faults of a line in their order, as the tests that the reader makes.
-use Rattle.pr_text.proofs.Common.{◌≡◌, ℕ, Bool, true, false, cond, not, ◌&&◌, ◌||◌, List, [], ◌∷◌, ◌++◌, length, is_some, nat_lt, nat_le, ◌==◌, Some, None, Ok, Err, Option, Result, option_map, refl, ap, ◌∙◌, slice_get, Command, Attention, Held, most_declared, are_distinct, is_action, Clause, each, states, ScenarioLine, DeclaringLine, StatementLine, fence_line, declares, nexus_line, start_line, pending_line, refusals_line, resets_line, role_line, script_line, plan_line, end_line, command_line, keys_line, reservation_line, generation_line, since, Refusal, ParsedCommand, Declared, Declaration, OpenLines, Place, before_all, outside, in_script, in_plan, count_in, declared_keys, held_of, number_of, and_then, unless, with_statement_line, item_placed, ReadError, Which, are_codes_distinct, start_placed, pending_placed, refusals_placed, role_placed, script_placed, plan_placed, planned_step, item_standing, script_step, keys_placed, nexus_placed, reservation_placed, generation_placed, resets_placed}
+use Rattle.pr_text.proofs.Common.{◌≡◌, ℕ, Bool, true, false, cond, not, ◌&&◌, ◌||◌, List, [], ◌∷◌, ◌++◌, length, is_some, nat_lt, nat_le, ◌==◌, Some, None, Ok, Err, Option, Result, option_map, refl, ap, ◌∙◌, slice_get, Command, Attention, Held, MOST_BUDGET, most_declared, are_distinct, is_action, MOST_CLAUSES, MOST_REFUSALS, MOST_RESETS, Clause, each, states, ScenarioLine, DeclaringLine, StatementLine, fence_line, declares, nexus_line, start_line, pending_line, refusals_line, resets_line, role_line, script_line, plan_line, end_line, command_line, keys_line, reservation_line, generation_line, since, Refusal, ParsedCommand, Declared, Declaration, OpenLines, Place, before_all, outside, in_script, in_plan, count_in, declared_keys, held_of, number_of, and_then, unless, with_statement_line, item_placed, ReadError, Which, are_codes_distinct, start_placed, pending_placed, refusals_placed, role_placed, script_placed, plan_placed, planned_step, item_standing, script_step, keys_placed, nexus_placed, reservation_placed, generation_placed, resets_placed}
 use Rattle.pr_roles.specs.Fitting.{is_same_reservation}
 use Rattle.pr_text.specs.declared.fault.Which.TheVariants as which
 use Rattle.pr_text.specs.declared.fault.ReadError.TheVariants as fault
@@ -79,7 +79,7 @@ refusals_same n r name count d = by_number (number_of d.nexuses name) refl
     by_nexus : (h : ℕ) (o : Option Declaration) → number_of d.nexuses name ≡ Some h → slice_get d.nexuses h ≡ o
         → item_stood n (declares (refusals_line r name count)) (at_place d outside) ≡ refusals_placed n r name count (at_place d outside)
     by_nexus h None is there = rw (is, there) refl
-    by_nexus h (Some x) is there = rw (is, there) (limited (is_some (count_in r x)) (not (nat_le 1 count && nat_le count 1000)) _ n (limit_of r) _)
+    by_nexus h (Some x) is there = rw (is, there) (limited (is_some (count_in r x)) (not (nat_le 1 count && nat_le count MOST_REFUSALS)) _ n (limit_of r) _)
 
     by_number : (o : Option ℕ) → number_of d.nexuses name ≡ o → item_stood n (declares (refusals_line r name count)) (at_place d outside) ≡ refusals_placed n r name count (at_place d outside)
     by_number None is = rw is refl
@@ -95,7 +95,7 @@ reservation_same n ws d = by_helds (each (held_of d.nexuses) ws) refl
 
 resets_same : (n count : ℕ) (d : Declared) → item_stood n (declares (resets_line count)) (at_place d outside) ≡ resets_placed n count (at_place d outside)
 unfolding item_stood resets_placed
-resets_same n count d = limited (is_some d.resets) (not (nat_le 1 count && nat_le count 1000)) _ n which.Resets _
+resets_same n count d = limited (is_some d.resets) (not (nat_le 1 count && nat_le count MOST_RESETS)) _ n which.Resets _
 
 role_same : (n : ℕ) (name : List ℕ) (clause : Clause) (d : Declared) → item_stood n (declares (role_line name clause)) (at_place d outside) ≡ role_placed n name clause (at_place d outside)
 unfolding item_stood role_placed
@@ -104,7 +104,7 @@ role_same n name clause d = by_number (number_of d.nexuses name) refl
     by_nexus : (h : ℕ) (o : Option Declaration) → number_of d.nexuses name ≡ Some h → slice_get d.nexuses h ≡ o
         → item_stood n (declares (role_line name clause)) (at_place d outside) ≡ role_placed n name clause (at_place d outside)
     by_nexus h None is there = rw (is, there) refl
-    by_nexus h (Some x) is there = rw (is, there) (limited (not (is_action (declared_keys d) clause.action)) (nat_le 32 (length x.role)) _ n which.Roles _)
+    by_nexus h (Some x) is there = rw (is, there) (limited (not (is_action (declared_keys d) clause.action)) (nat_le MOST_CLAUSES (length x.role)) _ n which.Roles _)
 
     by_number : (o : Option ℕ) → number_of d.nexuses name ≡ o → item_stood n (declares (role_line name clause)) (at_place d outside) ≡ role_placed n name clause (at_place d outside)
     by_number None is = rw is refl
@@ -125,7 +125,7 @@ script_same n name budget d = by_number (number_of d.nexuses name) refl
     by_nexus : (h : ℕ) (o : Option Declaration) → number_of d.nexuses name ≡ Some h → slice_get d.nexuses h ≡ o
         → item_stood n (declares (script_line name budget)) (at_place d outside) ≡ script_placed n name budget (at_place d outside)
     by_nexus h None is there = rw (is, there) refl
-    by_nexus h (Some x) is there = rw (is, there) (script_tests x.is_guest (is_some x.task) (not (nat_le 1 budget && nat_le budget 4096)) _ _ n which.Budget _)
+    by_nexus h (Some x) is there = rw (is, there) (script_tests x.is_guest (is_some x.task) (not (nat_le 1 budget && nat_le budget MOST_BUDGET)) _ _ n which.Budget _)
 
     by_number : (o : Option ℕ) → number_of d.nexuses name ≡ o → item_stood n (declares (script_line name budget)) (at_place d outside) ≡ script_placed n name budget (at_place d outside)
     by_number None is = rw is refl

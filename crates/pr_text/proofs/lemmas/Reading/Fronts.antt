@@ -1,15 +1,16 @@
--- What a text says is settled by its first 65537 bytes.
-use Rattle.pr_text.proofs.Common.{◌≡◌, ℕ, ◌<◌, List, [], ◌++◌, length, IfSome, IfOk, IfErr, Some, None, Ok, Err, Option, Result, sym, ap, ◌∙◌, inl, inr, append-nil, arith, length-append, scenario_of, Fails, IsWrittenAs, answer_of, ReadError}
+-- What a text says is settled by its first bytes: as many as a text may have, and one more.
+use Rattle.pr_text.proofs.Common.{◌≡◌, ℕ, ◌+◌, ◌<◌, List, [], ◌++◌, length, IfSome, IfOk, IfErr, Some, None, Ok, Err, Option, Result, sym, ap, ◌∙◌, inl, inr, append-nil, arith, length-append, scenario_of, Fails, IsWrittenAs, answer_of, ReadError}
 use Rattle.std.proofs.lemmas.Bool.{cases_lt}
 use Rattle.pr_roles.specs.declared.parts.Parts.{Parts}
 use Rattle.pr_text.specs.declared.fault.ReadError.TheVariants.{ReadFault, Memory}
 use Rattle.pr_text.specs.inside.Steps.{ReadsUpTo}
 use Rattle.pr_text.specs.Reading.{IsRead}
+use Rattle.pr_text.specs.declared.text.TheConstants.{MOST_BYTES}
 use Rattle.pr_text.proofs.lemmas.Texts.Readings.{too_large}
 
-answer_of_front : (bytes rest : List ℕ) → (length bytes < 65537 → rest ≡ []) → answer_of (bytes ++ rest) ≡ answer_of bytes
+answer_of_front : (bytes rest : List ℕ) → (length bytes < MOST_BYTES + 1 → rest ≡ []) → answer_of (bytes ++ rest) ≡ answer_of bytes
 answer_of_front bytes rest ended =
-    elim (cases_lt (length bytes) 65537) [
+    elim (cases_lt (length bytes) (MOST_BYTES + 1)) [
       | inl h ↦ ap (λ xs. answer_of (bytes ++ xs)) (ended h) ∙ ap answer_of (append-nil bytes)
       | inr h ↦ too_large (bytes ++ rest) (omega (arith, length-append bytes rest)) ∙ sym (too_large bytes (omega arith))
     ]
@@ -22,7 +23,7 @@ read_along text bytes (Err Memory) e h k = tt
 read_along text bytes _ e h k = e ∙ k
 
 -- what is read of the first bytes is read of the whole
-pub read_front : (old new : Option (List ℕ)) (bytes : List ℕ) (r : Result Parts ReadError) → ReadsUpTo 65537 old new bytes
+pub read_front : (old new : Option (List ℕ)) (bytes : List ℕ) (r : Result Parts ReadError) → ReadsUpTo (MOST_BYTES + 1) old new bytes
     → IfOk r (λ p. IsWrittenAs bytes (scenario_of p)) → IfErr r (λ e. Fails e (answer_of bytes)) → IfSome old (λ text. IsRead text r)
 read_front None new bytes r reads h k = tt
 read_front (Some text) None bytes r reads h k = absurd reads.taken

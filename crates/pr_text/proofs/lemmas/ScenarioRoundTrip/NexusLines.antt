@@ -1,5 +1,5 @@
 -- The lines of one nexus have no fault.
-use Rattle.pr_text.proofs.Common.{◌≡◌, ℕ, suc, ◌+◌, ◌≤◌, Bool, true, false, cond, not, ◌&&◌, ◌||◌, List, [], ◌∷◌, ◌++◌, map, length, is_some, nat_lt, nat_le, ◌==◌, Some, None, Ok, Err, fold, filter, Option, Result, bytes_eq, sym, refl, ap, ◌∙◌, append_assoc, append-nil, arith, length-append, list_all, list_any, unwrap_or, and_parts, nat_tests, Command, Attention, Held, is_written, is_name, is_version, is_count, are_distinct, is_action, is_role, is_start, is_nexus, Nexus, Task, Scripted, Planned, Clause, ScenarioLine, declares, start_line, pending_line, refusals_line, role_line, script_line, plan_line, end_line, command_line, since, Refusal, both, true_le, Declared, WrittenTask, scripted, planned, Declaration, OpenLines, Place, outside, in_script, in_plan, codes_of, count_in, and_then, with_count, with_task, begun_script, item_placed, task_written, body_lines, all_said, ReadError, are_codes_distinct, start_placed, pending_placed, refusals_placed, role_placed, script_placed, plan_placed, planned_step, item_standing}
+use Rattle.pr_text.proofs.Common.{◌≡◌, ℕ, suc, ◌+◌, ◌≤◌, Bool, true, false, cond, not, ◌&&◌, ◌||◌, List, [], ◌∷◌, ◌++◌, map, length, is_some, nat_lt, nat_le, ◌==◌, Some, None, Ok, Err, fold, filter, Option, Result, bytes_eq, sym, refl, ap, ◌∙◌, append_assoc, append-nil, arith, length-append, list_all, list_any, unwrap_or, and_parts, nat_tests, Command, Attention, Held, is_written, is_name, MOST_BUDGET, is_version, is_count, are_distinct, is_action, is_role, is_start, is_nexus, Nexus, Task, Scripted, Planned, MOST_CLAUSES, MOST_PLANNED, MOST_REFUSALS, Clause, ScenarioLine, declares, start_line, pending_line, refusals_line, role_line, script_line, plan_line, end_line, command_line, since, Refusal, both, true_le, Declared, WrittenTask, scripted, planned, Declaration, OpenLines, Place, outside, in_script, in_plan, codes_of, count_in, and_then, with_count, with_task, begun_script, item_placed, task_written, body_lines, all_said, ReadError, are_codes_distinct, start_placed, pending_placed, refusals_placed, role_placed, script_placed, plan_placed, planned_step, item_standing}
 use Rattle.std.specs.FinSet as set
 use Rattle.std.proofs.Math.Seq.{set-append_seam}
 use Rattle.pr_attention.specs.declared.attention.Attention.TheVariants.{PowerOn, ReservationsPreempted, ReservationsReleased, RegistrationsPreempted}
@@ -154,10 +154,10 @@ staged n name guest s p b f r t = record { name = name; line = n; is_guest = gue
 abbrev pub early : ℕ → List ℕ → Bool → Option (List (Option ℕ)) → Option Codes → Declaration
 early n name guest s p = staged n name guest s p None None [] None
 
-short_role : (k m : ℕ) → k + suc m ≤ 32 → nat_le 32 k ≡ false
+short_role : (k m : ℕ) → k + suc m ≤ MOST_CLAUSES → nat_le MOST_CLAUSES k ≡ false
 short_role k m h = grind (arith, nat_tests)
 
-short_plan : (k m : ℕ) → k + suc m ≤ 256 → nat_le 256 k ≡ false
+short_plan : (k m : ℕ) → k + suc m ≤ MOST_PLANNED → nat_le MOST_PLANNED k ≡ false
 short_plan k m h = grind (arith, nat_tests)
 
 pub one_longer : {A : Type 0} (xs : List A) (x : A) (m top : ℕ) → length xs + suc m ≤ top → length (xs ++ x ∷ []) + m ≤ top
@@ -203,10 +203,10 @@ module _ (n version : ℕ) (dated : is_version version ≡ true) (keys : Option 
   new : (count : ℕ) → is_count version count ≡ true → (count == 0) ≡ false → nat_lt version 2 ≡ false
   new count may some = grind (arith, nat_tests)
 
-  room : (count : ℕ) → is_count version count ≡ true → (count == 0) ≡ false → (nat_le 1 count && nat_le count 1000) ≡ true
+  room : (count : ℕ) → is_count version count ≡ true → (count == 0) ≡ false → (nat_le 1 count && nat_le count MOST_REFUSALS) ≡ true
   room count may some = grind (arith, nat_tests)
 
-  refusals_line_goes : (r : Refusal) (count : ℕ) (x : Declaration) → bytes_eq x.name name ≡ true → is_some (count_in r x) ≡ false → (nat_le 1 count && nat_le count 1000) ≡ true
+  refusals_line_goes : (r : Refusal) (count : ℕ) (x : Declaration) → bytes_eq x.name name ≡ true → is_some (count_in r x) ≡ false → (nat_le 1 count && nat_le count MOST_REFUSALS) ≡ true
       → item_standing n (declares (refusals_line r name count)) (with x outside) ≡ Ok (with (with_count r count x) outside)
   unfolding item_standing refusals_placed
   refusals_line_goes r count x it none few =
@@ -259,7 +259,7 @@ module _ (n version : ℕ) (dated : is_version version ≡ true) (keys : Option 
 
   -- ---- a role
 
-  role_goes : (guest : Bool) (s : Option (List (Option ℕ))) (p : Option Codes) (b f : Option ℕ) (done : List Clause) (c : Clause) → is_action (unwrap_or keys []) c.action ≡ true → nat_le 32 (length done) ≡ false
+  role_goes : (guest : Bool) (s : Option (List (Option ℕ))) (p : Option Codes) (b f : Option ℕ) (done : List Clause) (c : Clause) → is_action (unwrap_or keys []) c.action ≡ true → nat_le MOST_CLAUSES (length done) ≡ false
       → item_standing n (declares (role_line name c)) (with (staged n name guest s p b f done None) outside) ≡ Ok (with (staged n name guest s p b f (done ++ c ∷ []) None) outside)
   unfolding item_standing role_placed
   role_goes guest s p b f done c known short =
@@ -267,13 +267,13 @@ module _ (n version : ℕ) (dated : is_version version ≡ true) (keys : Option 
       found x outside (role_at n c (with x outside)) (itself name)
       ∙ rw (known, short, set-append_seam before x after (staged n name guest s p b f (done ++ c ∷ []) None)) refl
 
-  roles_go : (guest : Bool) (s : Option (List (Option ℕ))) (p : Option Codes) (b f : Option ℕ) (done cs : List Clause) → list_all (λ c. is_action (unwrap_or keys []) c.action) cs ≡ true → length done + length cs ≤ 32
+  roles_go : (guest : Bool) (s : Option (List (Option ℕ))) (p : Option Codes) (b f : Option ℕ) (done cs : List Clause) → list_all (λ c. is_action (unwrap_or keys []) c.action) cs ≡ true → length done + length cs ≤ MOST_CLAUSES
       → all_said (map (λ c. line n (declares (role_line name c))) cs) (with (staged n name guest s p b f done None) outside) ≡ Ok (with (staged n name guest s p b f (done ++ cs) None) outside)
   roles_go guest s p b f done [] known short = ap (λ l. Ok (with (staged n name guest s p b f l None) outside)) (sym (append-nil done))
   roles_go guest s p b f done (c ∷ cs) known short =
       let parts = and_parts (is_action (unwrap_or keys []) c.action) _ known in
       said_first n (declares (role_line name c)) (map (λ d. line n (declares (role_line name d))) cs) _ _ _ old (role_goes guest s p b f done c parts.0 (short_role (length done) (length cs) short))
-      (roles_go guest s p b f (done ++ c ∷ []) cs parts.1 (one_longer done c (length cs) 32 short)
+      (roles_go guest s p b f (done ++ c ∷ []) cs parts.1 (one_longer done c (length cs) MOST_CLAUSES short)
       ∙ ap (λ l. Ok (with (staged n name guest s p b f l None) outside)) (append_assoc done (c ∷ []) cs))
 
   -- the last line of a task
@@ -285,7 +285,7 @@ module _ (n version : ℕ) (dated : is_version version ≡ true) (keys : Option 
 
   -- ---- a script
 
-  script_begins : (s : Option (List (Option ℕ))) (p : Option Codes) (b f : Option ℕ) (r : List Clause) (budget : ℕ) → (nat_le 1 budget && nat_le budget 4096) ≡ true
+  script_begins : (s : Option (List (Option ℕ))) (p : Option Codes) (b f : Option ℕ) (r : List Clause) (budget : ℕ) → (nat_le 1 budget && nat_le budget MOST_BUDGET) ≡ true
       → item_standing n (declares (script_line name budget)) (with (staged n name false s p b f r None) outside) ≡ Ok (with (staged n name false s p b f r None) (in_script (begun_script (length before) budget)))
   unfolding item_standing script_placed
   script_begins s p b f r budget fits =
@@ -305,18 +305,18 @@ module _ (n version : ℕ) (dated : is_version version ≡ true) (keys : Option 
       let x = staged n name true s p b f r None in
       found x outside (plan_at n (with x outside)) (itself name)
 
-  command_goes : (x : Declaration) (h : ℕ) (done : List Command) (c : Command) → is_written (unwrap_or keys []) c ≡ true → nat_le 256 (length done) ≡ false
+  command_goes : (x : Declaration) (h : ℕ) (done : List Command) (c : Command) → is_written (unwrap_or keys []) c ≡ true → nat_le MOST_PLANNED (length done) ≡ false
       → item_standing n (command_line (without_keys c)) (with x (in_plan h done)) ≡ Ok (with x (in_plan h (done ++ c ∷ [])))
   unfolding item_standing planned_step
   command_goes x h done c written short = rw (written, short) refl
 
-  commands_go : (x : Declaration) (h : ℕ) (done cs : List Command) → list_all (is_written (unwrap_or keys [])) cs ≡ true → length done + length cs ≤ 256
+  commands_go : (x : Declaration) (h : ℕ) (done cs : List Command) → list_all (is_written (unwrap_or keys [])) cs ≡ true → length done + length cs ≤ MOST_PLANNED
       → all_said (map (λ c. line n (command_line (without_keys c))) cs) (with x (in_plan h done)) ≡ Ok (with x (in_plan h (done ++ cs)))
   commands_go x h done [] written short = ap (λ l. Ok (with x (in_plan h l))) (sym (append-nil done))
   commands_go x h done (c ∷ cs) written short =
       let parts = and_parts (is_written (unwrap_or keys []) c) _ written in
       said_first n (command_line (without_keys c)) (map (λ d. line n (command_line (without_keys d))) cs) _ _ _ old (command_goes x h done c parts.0 (short_plan (length done) (length cs) short))
-      (commands_go x h (done ++ c ∷ []) cs parts.1 (one_longer done c (length cs) 256 short) ∙ ap (λ l. Ok (with x (in_plan h l))) (append_assoc done (c ∷ []) cs))
+      (commands_go x h (done ++ c ∷ []) cs parts.1 (one_longer done c (length cs) MOST_PLANNED short) ∙ ap (λ l. Ok (with x (in_plan h l))) (append_assoc done (c ∷ []) cs))
 
   plan_ends : (x : Declaration) (cs : List Command) → item_standing n end_line (with x (in_plan (length before) cs)) ≡ Ok (with (tasked_as (planned cs) x) outside)
   unfolding item_standing
@@ -337,10 +337,10 @@ module _ (n version : ℕ) (dated : is_version version ≡ true) (keys : Option 
       (ap (λ t. Ok (with (tasked_as t x) outside)) (ap (λ ls. scripted ls read.script.budget) read.lines_are ∙ ap (λ m. scripted (body_lines script) m) read.budget_is))))
   task_goes (Planned commands) s p b f r has h =
       let x = staged n name true s p b f r None in
-      let parts = and_parts (nat_le (length commands) 256) _ h in
+      let parts = and_parts (nat_le (length commands) MOST_PLANNED) _ h in
       said_first n (declares (plan_line name)) (map (λ c. line n (command_line (without_keys c))) commands ++ line n end_line ∷ []) _ _ _ old (plan_begins s p b f r)
       (said_on (map (λ c. line n (command_line (without_keys c))) commands) (line n end_line ∷ []) _ (with x (in_plan (length before) commands)) _
-      (commands_go x (length before) [] commands parts.1 (let few_commands = true_le (length commands) 256 parts.0 in omega arith))
+      (commands_go x (length before) [] commands parts.1 (let few_commands = true_le (length commands) MOST_PLANNED parts.0 in omega arith))
       (said_first n end_line [] _ _ _ old (plan_ends x commands) refl))
 
 -- ---- all of them
@@ -364,7 +364,7 @@ details_go n version dated keys vs g rs before after x free has fits are =
     let fulls = and_parts (is_count version x.full) _ busies.1 in
     let pending = pending_kept (attentions_in x.pending) x.pending in
     let parts = and_parts (is_role (unwrap_or keys []) x.role) _ (and_parts (is_name x.name) _ fits).1 in
-    let roles = and_parts (nat_le (length x.role) 32) _ parts.0 in
+    let roles = and_parts (nat_le (length x.role) MOST_CLAUSES) _ parts.0 in
     let rest = and_parts (is_start (unwrap_or keys []) x.start) _ parts.1 in
     let start = and_parts (list_all (is_alternative (unwrap_or keys [])) x.start) _ (and_parts (not (length x.start == 0)) _ rest.0).1 in
     said_first n (declares (start_line x.name x.start)) _ _ _ _ (has_first version dated) (start_goes n version dated keys vs g rs before after x.name free guest x.start start.0 start.1)
@@ -372,5 +372,5 @@ details_go n version dated keys vs g rs before after x free has fits are =
     (pending_goes n version dated keys vs g rs before after x.name free guest (Some x.start) (attentions_in x.pending) x.pending (attentions_apart x.pending) (attentions_are x.pending are))
     (both_go n version dated keys vs g rs before after x.name free guest (Some x.start) pending x.busy x.full _ _ busies.0 fulls.0
     (said_on (map (λ c. line n (declares (role_line x.name c))) x.role) _ _ _ _
-    (roles_go n version dated keys vs g rs before after x.name free guest (Some x.start) pending (count_said x.busy) (count_said x.full) [] x.role roles.1 (let few_roles = true_le (length x.role) 32 roles.0 in omega arith))
+    (roles_go n version dated keys vs g rs before after x.name free guest (Some x.start) pending (count_said x.busy) (count_said x.full) [] x.role roles.1 (let few_roles = true_le (length x.role) MOST_CLAUSES roles.0 in omega arith))
     (task_goes n version dated keys vs g rs before after x.name free x.task (Some x.start) pending (count_said x.busy) (count_said x.full) x.role fulls.1 rest.1))))

@@ -1,11 +1,12 @@
 -- The lines of a whole scenario have no fault.
-use Rattle.pr_text.proofs.Common.{◌≡◌, ℕ, zero, suc, ◌+◌, ◌<◌, ◌≤◌, Bool, true, false, not, ◌&&◌, List, [], ◌∷◌, ◌++◌, map, length, is_some, nat_lt, nat_le, ◌==◌, Some, None, Ok, Option, option_map, bytes_eq, sym, refl, ap, ◌∙◌, append_assoc, append-nil, arith, length-append, list_all, slice_get, option_map_or, unwrap_or, and_parts, nat_tests, Held, is_version, are_resets, most_declared, are_distinct, is_nexus, Nexus, Task, Scripted, Planned, first_under, each, fence_line, declares, resets_line, keys_line, reservation_line, generation_line, since, true_le, Declared, nothing, Declaration, outside, held_of, number_of, nexus_written, nexus_declared, all_said, start_of, first_unscripted, end_placed, item_standing, keys_placed, nexus_placed, reservation_placed, generation_placed, resets_placed}
+use Rattle.pr_text.proofs.Common.{◌≡◌, ℕ, zero, suc, ◌+◌, ◌<◌, ◌≤◌, Bool, true, false, not, ◌&&◌, List, [], ◌∷◌, ◌++◌, map, length, is_some, nat_lt, nat_le, ◌==◌, Some, None, Ok, Option, option_map, bytes_eq, sym, refl, ap, ◌∙◌, append_assoc, append-nil, arith, length-append, list_all, slice_get, option_map_or, unwrap_or, and_parts, nat_tests, Held, is_version, are_resets, most_declared, are_distinct, is_nexus, Nexus, Task, Scripted, Planned, first_under, MOST_RESETS, each, fence_line, declares, resets_line, keys_line, reservation_line, generation_line, since, true_le, Declared, nothing, Declaration, outside, held_of, number_of, nexus_written, nexus_declared, all_said, start_of, first_unscripted, end_placed, item_standing, keys_placed, nexus_placed, reservation_placed, generation_placed, resets_placed}
 use Rattle.std.specs.List.{All, flat_map}
 use Rattle.pr_registry.specs.declared.held.Held.TheVariants.{One}
 use Rattle.pr_registry.specs.Registrations.{is_all}
 use Rattle.pr_attention.specs.Attentions.{AreAttentions}
 use Rattle.pr_roles.specs.Fitting.{AreDeclared, is_reservation, is_same_reservation, are_of}
 use Rattle.pr_roles.proofs.lemmas.Starts.AllowedStarts.{start_found}
+use Rattle.pr_roles.specs.declared.limits.TheConstants.{MOST_KEYS}
 use Rattle.pr_text.specs.ScriptRoundTrip.{line}
 use Rattle.pr_text.specs.ScenarioRoundTrip.{task_line, details_said, keys_said, resets_said, wanted_by, ScenariosHaveNoFault}
 use Rattle.pr_lines.proofs.lemmas.Tests.{true_lt}
@@ -33,7 +34,7 @@ keys_same : (keys : List ℕ) → unwrap_or (keys_kept keys) [] ≡ keys
 keys_same [] = refl
 keys_same (k ∷ ks) = refl
 
-keys_go : (n version : ℕ) (keys : List ℕ) → are_distinct (λ j k. j == k) keys ≡ true → nat_lt 12 (length keys) ≡ false
+keys_go : (n version : ℕ) (keys : List ℕ) → are_distinct (λ j k. j == k) keys ≡ true → nat_lt MOST_KEYS (length keys) ≡ false
     → item_standing n (declares (keys_line keys)) (placed version None None None None [] outside) ≡ Ok (placed version (Some keys) None None None [] outside)
 unfolding item_standing keys_placed
 keys_go n version keys once few = rw (once, few) refl
@@ -41,8 +42,8 @@ keys_go n version keys once few = rw (once, few) refl
 keys_lines_go : (n version : ℕ) (keys : List ℕ) → is_version version ≡ true → AreDeclared keys → all_said (keys_said n keys) (placed version None None None None [] outside) ≡ Ok (placed version (keys_kept keys) None None None [] outside)
 keys_lines_go n version [] dated h = refl
 keys_lines_go n version (k ∷ ks) dated h =
-    let parts = and_parts (nat_le (length (k ∷ ks)) 12) _ h.once in
-    said_first n (declares (keys_line (k ∷ ks))) [] _ _ _ (has_first version dated) (keys_go n version (k ∷ ks) parts.1 (has_by (length (k ∷ ks)) 12 parts.0)) refl
+    let parts = and_parts (nat_le (length (k ∷ ks)) MOST_KEYS) _ h.once in
+    said_first n (declares (keys_line (k ∷ ks))) [] _ _ _ (has_first version dated) (keys_go n version (k ∷ ks) parts.1 (has_by (length (k ∷ ks)) MOST_KEYS parts.0)) refl
 
 generation_goes : (n version generation : ℕ) (keys : Option (List ℕ)) (xs : List Declaration)
     → item_standing n (declares (generation_line generation)) (placed version keys None None None xs outside) ≡ Ok (placed version keys None (Some generation) None xs outside)
@@ -53,14 +54,14 @@ generation_goes n version generation keys xs = refl
 resets_new : (version count : ℕ) → are_resets version count ≡ true → (count == 0) ≡ false → nat_lt version 2 ≡ false
 resets_new version count may some = grind (arith, nat_tests)
 
-resets_room : (version count : ℕ) → are_resets version count ≡ true → (count == 0) ≡ false → (nat_le 1 count && nat_le count 1000) ≡ true
+resets_room : (version count : ℕ) → are_resets version count ≡ true → (count == 0) ≡ false → (nat_le 1 count && nat_le count MOST_RESETS) ≡ true
 resets_room version count may some = grind (arith, nat_tests)
 
 module _ (n version : ℕ) (keys : Option (List ℕ)) (g : Option ℕ) (xs : List Declaration) where
   abbrev with_resets : Option ℕ → Declared
   with_resets rs = placed version keys None g rs xs outside
 
-  resets_line_goes : (count : ℕ) → (nat_le 1 count && nat_le count 1000) ≡ true → item_standing n (declares (resets_line count)) (with_resets None) ≡ Ok (with_resets (Some count))
+  resets_line_goes : (count : ℕ) → (nat_le 1 count && nat_le count MOST_RESETS) ≡ true → item_standing n (declares (resets_line count)) (with_resets None) ≡ Ok (with_resets (Some count))
   unfolding item_standing resets_placed
   resets_line_goes count few = rw few refl
 

@@ -1,5 +1,5 @@
 -- The lines of a script that fits have no fault.
-use Rattle.pr_text.proofs.Common.{◌≡◌, ℕ, ◌+◌, ◌≤◌, Bool, true, false, not, ◌&&◌, List, [], ◌∷◌, ◌++◌, nat_lt, nat_le, ◌==◌, Ok, Err, count_by, Result, sym, refl, ap, ◌∙◌, append_assoc, append-nil, arith, list_all, and_parts, nat_tests, Command, is_written, test_fits, Stmt, Stmts, Arms, sends, repeats, none, more, no_arm, arm, breaks, stops, Test, is_version, states, send_line, on_line, done_line, repeat_line, break_line, stop_line, both, true_le, Declared, OpenLines, OpenBlock, sending, declared_keys, and_then, begun_script, ScriptLine, arm_on, block_done, statement_lines, body_lines, arms_lines, send_at, repeat_of, break_out, stop_with, all_said, is_repeating, is_sending, awaits_arm, ReadError, item_standing, script_step, is_line_of}
+use Rattle.pr_text.proofs.Common.{◌≡◌, ℕ, ◌+◌, ◌≤◌, Bool, true, false, not, ◌&&◌, List, [], ◌∷◌, ◌++◌, nat_lt, nat_le, ◌==◌, Ok, Err, count_by, Result, sym, refl, ap, ◌∙◌, append_assoc, append-nil, arith, list_all, and_parts, nat_tests, Command, is_written, test_fits, Stmt, Stmts, Arms, sends, repeats, none, more, no_arm, arm, breaks, stops, MOST_STATEMENTS, MOST_ARMS, MOST_OPEN, MOST_TURNS, Test, is_version, states, send_line, on_line, done_line, repeat_line, break_line, stop_line, both, true_le, Declared, OpenLines, OpenBlock, sending, declared_keys, and_then, begun_script, ScriptLine, arm_on, block_done, statement_lines, body_lines, arms_lines, send_at, repeat_of, break_out, stop_with, all_said, is_repeating, is_sending, awaits_arm, ReadError, item_standing, script_step, is_line_of}
 use Rattle.pr_script.specs.Grammar.{stands_under, is_test_declared, has_sense_digit, count_of_arms, begins_body, is_send_written, is_repeat_written, statement_fits, statements_fit, arms_fit, count_of, count_of_all, count_in_arms}
 use Rattle.pr_lines.specs.CommandWords.{without_keys}
 use Rattle.pr_text.specs.Declarations.{repeating}
@@ -20,25 +20,25 @@ pub goes : {A B : Type 0} (step : Result A ReadError) (a : A) (f : A → Result 
 goes step a f e = rw e refl
 
 send_goes : (m : ℕ) (keys : List ℕ) (c : Command) (host budget : ℕ) (ls : List ScriptLine) (k : ℕ) (bs : List OpenBlock) (g : Bool)
-    → awaits_arm bs ≡ false → is_written keys c ≡ true → nat_le 512 k ≡ false → nat_le 8 (count_by is_sending bs) ≡ false
+    → awaits_arm bs ≡ false → is_written keys c ≡ true → nat_le MOST_STATEMENTS k ≡ false → nat_le MOST_OPEN (count_by is_sending bs) ≡ false
     → script_step m keys (send_line (without_keys c)) (open_at host budget ls k bs g) ≡ Ok (open_at host budget (ls ++ send_at m c ∷ []) (k + 1) (sending c 0 ∷ bs) false)
 unfolding script_step
 send_goes m keys c host budget ls k bs g free written short shallow = rw (free, written, short, shallow) refl
 
 repeat_goes : (m : ℕ) (keys : List ℕ) (count : ℕ) (host budget : ℕ) (ls : List ScriptLine) (k : ℕ) (bs : List OpenBlock) (g : Bool)
-    → awaits_arm bs ≡ false → nat_le 512 k ≡ false → nat_le 8 (count_by is_repeating bs) ≡ false → (nat_le 1 count && nat_le count 1000) ≡ true
+    → awaits_arm bs ≡ false → nat_le MOST_STATEMENTS k ≡ false → nat_le MOST_OPEN (count_by is_repeating bs) ≡ false → (nat_le 1 count && nat_le count MOST_TURNS) ≡ true
     → script_step m keys (repeat_line count) (open_at host budget ls k bs g) ≡ Ok (open_at host budget (ls ++ repeat_of count ∷ []) (k + 1) (repeating ∷ bs) false)
 unfolding script_step
 repeat_goes m keys count host budget ls k bs g free short shallow counted = rw (free, short, shallow, counted) refl
 
 break_goes : (m : ℕ) (keys : List ℕ) (host budget : ℕ) (ls : List ScriptLine) (k : ℕ) (bs : List OpenBlock) (g : Bool)
-    → awaits_arm bs ≡ false → (is_in_repeat bs && not g) ≡ false → (count_by is_repeating bs == 0) ≡ false → nat_le 512 k ≡ false
+    → awaits_arm bs ≡ false → (is_in_repeat bs && not g) ≡ false → (count_by is_repeating bs == 0) ≡ false → nat_le MOST_STATEMENTS k ≡ false
     → script_step m keys break_line (open_at host budget ls k bs g) ≡ Ok (open_at host budget (ls ++ break_out ∷ []) (k + 1) bs true)
 unfolding script_step
 break_goes m keys host budget ls k bs g free begun inside short = rw (free, begun, inside, short) refl
 
 stop_goes : (m : ℕ) (keys : List ℕ) (word : List ℕ) (host budget : ℕ) (ls : List ScriptLine) (k : ℕ) (bs : List OpenBlock) (g : Bool)
-    → awaits_arm bs ≡ false → (is_in_repeat bs && not g) ≡ false → nat_le 512 k ≡ false
+    → awaits_arm bs ≡ false → (is_in_repeat bs && not g) ≡ false → nat_le MOST_STATEMENTS k ≡ false
     → script_step m keys (stop_line word) (open_at host budget ls k bs g) ≡ Ok (open_at host budget (ls ++ stop_with word ∷ []) (k + 1) bs true)
 unfolding script_step
 stop_goes m keys word host budget ls k bs g free begun short = rw (free, begun, short) refl
@@ -47,7 +47,7 @@ test_stands : (keys : List ℕ) (c : Command) (t : Test) → test_fits keys c t 
 test_stands keys c t fits = and_parts (stands_under c t) _ (and_parts (has_sense_digit t) _ fits).1
 
 arm_goes : (m : ℕ) (keys : List ℕ) (t : Test) (c : Command) (j : ℕ) (host budget : ℕ) (ls : List ScriptLine) (k : ℕ) (bs : List OpenBlock) (g : Bool)
-    → stands_under c t ≡ true → is_test_declared keys t ≡ true → nat_le 16 j ≡ false
+    → stands_under c t ≡ true → is_test_declared keys t ≡ true → nat_le MOST_ARMS j ≡ false
     → script_step m keys (on_line t) (open_at host budget ls k (sending c j ∷ bs) g) ≡ Ok (open_at host budget (ls ++ arm_on t ∷ []) k (sending c (j + 1) ∷ bs) false)
 unfolding script_step
 arm_goes m keys t c j host budget ls k bs g under known short = rw (under, known, short) refl
@@ -115,16 +115,16 @@ follows_first _ = refl
 
 -- ---- counts
 
-short_now : (k n : ℕ) → k + (1 + n) ≤ 512 → nat_le 512 k ≡ false
+short_now : (k n : ℕ) → k + (1 + n) ≤ MOST_STATEMENTS → nat_le MOST_STATEMENTS k ≡ false
 short_now k n h = grind (arith, nat_tests)
 
-shallow : (n s : ℕ) → n ≡ s → nat_lt s 8 ≡ true → nat_le 8 n ≡ false
+shallow : (n s : ℕ) → n ≡ s → nat_lt s MOST_OPEN ≡ true → nat_le MOST_OPEN n ≡ false
 shallow n s e h = grind (arith, nat_tests)
 
 inside : (n r : ℕ) → n ≡ r → nat_lt 0 r ≡ true → (n == 0) ≡ false
 inside n r e h = grind (arith, nat_tests)
 
-few_arms : (j n : ℕ) → j + (1 + n) ≤ 16 → nat_le 16 j ≡ false
+few_arms : (j n : ℕ) → j + (1 + n) ≤ MOST_ARMS → nat_le MOST_ARMS j ≡ false
 few_arms j n h = grind (arith, nat_tests)
 
 some_arm : (j : ℕ) → (j + 1 == 0) ≡ false
@@ -149,10 +149,10 @@ block_joined ls x inner = simp append_assoc
 arms_joined : (ls : List ScriptLine) (x : ScriptLine) (body rest : List ScriptLine) → ((ls ++ x ∷ []) ++ body) ++ rest ≡ ls ++ x ∷ (body ++ rest)
 arms_joined ls x body rest = simp append_assoc
 
-sum_least : (k a b : ℕ) → k + (a + b) ≤ 512 → k + a ≤ 512
+sum_least : (k a b : ℕ) → k + (a + b) ≤ MOST_STATEMENTS → k + a ≤ MOST_STATEMENTS
 sum_least k a b h = omega arith
 
-sum_rest : (k a b : ℕ) → k + (a + b) ≤ 512 → (k + a) + b ≤ 512
+sum_rest : (k a b : ℕ) → k + (a + b) ≤ MOST_STATEMENTS → (k + a) + b ≤ MOST_STATEMENTS
 sum_rest k a b h = omega arith
 
 sum_joined : (k a b : ℕ) → (k + a) + b ≡ k + (a + b)
@@ -161,31 +161,31 @@ sum_joined k a b = omega arith
 from_none : (n m : ℕ) → n ≤ m → 0 + n ≤ m
 from_none n m h = omega arith
 
-arms_rest : (j n : ℕ) → j + (1 + n) ≤ 16 → (j + 1) + n ≤ 16
+arms_rest : (j n : ℕ) → j + (1 + n) ≤ MOST_ARMS → (j + 1) + n ≤ MOST_ARMS
 arms_rest j n h = omega arith
 
 -- ---- statements, bodies and arms
 
 mutual
   statement_goes : (n : ℕ) (keys : List ℕ) (host budget : ℕ) (x : Stmt) (r s : ℕ) (u ls : List ScriptLine) (k : ℕ) (bs : List OpenBlock) (g : Bool)
-      → statement_fits keys r s x ≡ true → Stands r s bs → may_begin x bs g ≡ true → k + count_of x ≤ 512
+      → statement_fits keys r s x ≡ true → Stands r s bs → may_begin x bs g ≡ true → k + count_of x ≤ MOST_STATEMENTS
       → all_stepped n keys (statement_lines x ++ u) (open_at host budget ls k bs g) ≡ all_stepped n keys u (open_at host budget (ls ++ statement_lines x) (k + count_of x) bs true)
   statement_goes n keys host budget (sends m c a) r s u ls k bs g fits stands begins few =
       let p = and_parts (is_send_written keys c a) _ fits in
       let written = and_parts (is_written keys c) _ p.0 in
-      let q = and_parts (nat_lt s 8) _ p.1 in
+      let q = and_parts (nat_lt s MOST_OPEN) _ p.1 in
       goes _ _ (all_stepped n keys ((arms_lines a ++ block_done ∷ []) ++ u))
       (send_goes m keys c host budget ls k bs g stands.free written.0 (short_now k _ few) (shallow _ s stands.sends_are q.0))
       ∙ (ap (λ v. all_stepped n keys v (open_at host budget (ls ++ send_at m c ∷ []) (k + 1) (sending c 0 ∷ bs) false)) (append_assoc (arms_lines a) (block_done ∷ []) u)
       ∙ (arms_goes n keys host budget c a r s (block_done ∷ u) (ls ++ send_at m c ∷ []) (k + 1) 0 bs false q.1 stands.repeats_are stands.sends_are
-      (from_none (count_of_arms a) 16 (true_le (count_of_arms a) 16 written.1)) (sum_rest k 1 (count_in_arms a) few)
+      (from_none (count_of_arms a) MOST_ARMS (true_le (count_of_arms a) MOST_ARMS written.1)) (sum_rest k 1 (count_in_arms a) few)
       ∙ (goes _ _ (all_stepped n keys u) (done_goes n keys host budget _ _ (sending c (0 + count_of_arms a)) bs _ refl)
       ∙ ap (all_stepped n keys u) (same_at host budget _ _ _ _ bs bs true true (block_joined ls (send_at m c) (arms_lines a)) (sum_joined k 1 (count_in_arms a)) refl refl))))
   statement_goes n keys host budget (repeats count b) r s u ls k bs g fits stands begins few =
       let p = and_parts (is_repeat_written count b) _ fits in
       let written = and_parts (nat_le 1 count) _ p.0 in
-      let body = and_parts (nat_le count 1000) _ written.1 in
-      let q = and_parts (nat_lt r 8) _ p.1 in
+      let body = and_parts (nat_le count MOST_TURNS) _ written.1 in
+      let q = and_parts (nat_lt r MOST_OPEN) _ p.1 in
       goes _ _ (all_stepped n keys ((body_lines b ++ block_done ∷ []) ++ u))
       (repeat_goes n keys count host budget ls k bs g stands.free (short_now k _ few) (shallow _ r stands.repeats_are q.0) (both _ _ written.0 body.0))
       ∙ (ap (λ v. all_stepped n keys v (open_at host budget (ls ++ repeat_of count ∷ []) (k + 1) (repeating ∷ bs) false)) (append_assoc (body_lines b) (block_done ∷ []) u)
@@ -201,7 +201,7 @@ mutual
       (stop_goes n keys w host budget ls k bs g stands.free (no_not _ begins) (short_now k 0 few))
 
   body_goes : (n : ℕ) (keys : List ℕ) (host budget : ℕ) (b : Stmts) (r s : ℕ) (u ls : List ScriptLine) (k : ℕ) (bs : List OpenBlock) (g : Bool)
-      → statements_fit keys r s b ≡ true → Stands r s bs → may_follow b bs g ≡ true → k + count_of_all b ≤ 512
+      → statements_fit keys r s b ≡ true → Stands r s bs → may_follow b bs g ≡ true → k + count_of_all b ≤ MOST_STATEMENTS
       → all_stepped n keys (body_lines b ++ u) (open_at host budget ls k bs g) ≡ all_stepped n keys u (open_at host budget (ls ++ body_lines b) (k + count_of_all b) bs (begun_after b g))
   body_goes n keys host budget none r s u ls k bs g fits stands follows few =
       ap (all_stepped n keys u) (same_at host budget _ _ _ _ bs bs g g (sym (append-nil ls)) (omega arith) refl refl)
@@ -213,7 +213,7 @@ mutual
       ∙ ap (all_stepped n keys u) (same_at host budget _ _ _ _ bs bs _ true (append_assoc ls (statement_lines x) (body_lines rest)) (sum_joined k (count_of x) (count_of_all rest)) refl (begun_still rest))))
 
   arms_goes : (n : ℕ) (keys : List ℕ) (host budget : ℕ) (c : Command) (a : Arms) (r s : ℕ) (u ls : List ScriptLine) (k j : ℕ) (bs : List OpenBlock) (g : Bool)
-      → arms_fit keys r (s + 1) c a ≡ true → count_by is_repeating bs ≡ r → count_by is_sending bs ≡ s → j + count_of_arms a ≤ 16 → k + count_in_arms a ≤ 512
+      → arms_fit keys r (s + 1) c a ≡ true → count_by is_repeating bs ≡ r → count_by is_sending bs ≡ s → j + count_of_arms a ≤ MOST_ARMS → k + count_in_arms a ≤ MOST_STATEMENTS
       → all_stepped n keys (arms_lines a ++ u) (open_at host budget ls k (sending c j ∷ bs) g)
       ≡ all_stepped n keys u (open_at host budget (ls ++ arms_lines a) (k + count_in_arms a) (sending c (j + count_of_arms a) ∷ bs) (begun_arms a g))
   arms_goes n keys host budget c no_arm r s u ls k j bs g fits repeated sent arms few =
@@ -258,11 +258,11 @@ pub reread : ScriptsHaveNoFault
 reread n d host budget b known has fits =
     let keys = declared_keys d in
     let p = and_parts (statements_fit keys 0 0 b) _ fits in
-    let q = and_parts (nat_le (count_of_all b) 512) _ p.1 in
+    let q = and_parts (nat_le (count_of_all b) MOST_STATEMENTS) _ p.1 in
     let script = open_at host budget (body_lines b) (0 + count_of_all b) [] (begun_after b false) in
     let steps : all_stepped n keys (body_lines b) (begun_script host budget) ≡ Ok script =
     ap (λ ls. all_stepped n keys ls (open_at host budget [] 0 [] false)) (sym (append-nil (body_lines b)))
-    ∙ body_goes n keys host budget b 0 0 [] [] 0 [] false p.0 (record { repeats_are = refl; sends_are = refl; free = refl }) (follows_first b) (from_none (count_of_all b) 512 (true_le (count_of_all b) 512 q.0)) in
+    ∙ body_goes n keys host budget b 0 0 [] [] 0 [] false p.0 (record { repeats_are = refl; sends_are = refl; free = refl }) (follows_first b) (from_none (count_of_all b) MOST_STATEMENTS (true_le (count_of_all b) MOST_STATEMENTS q.0)) in
     record {
       script = script;
       stepped = all_step n d (body_lines b) (begun_script host budget) known (body_dated d.version b ∙ has) ∙ goes _ script (λ o. Ok (within d o)) steps;

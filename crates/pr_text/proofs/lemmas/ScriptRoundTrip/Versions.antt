@@ -1,5 +1,5 @@
 -- A version has the lines of a script where it has its arms.
-use Rattle.pr_text.proofs.Common.{◌≡◌, ℕ, true, false, ◌&&◌, [], ◌∷◌, nat_lt, nat_le, sym, refl, ap, ◌∙◌, arith, list_all, nat_tests, list_all-append, Stmt, Stmts, Arms, sends, repeats, none, more, no_arm, arm, is_version, is_count, are_resets, states, since, ScriptLine, arm_on, block_done, statement_lines, body_lines, arms_lines, is_line_of}
+use Rattle.pr_text.proofs.Common.{◌≡◌, ℕ, true, false, ◌&&◌, [], ◌∷◌, nat_lt, nat_le, sym, refl, ap, ◌∙◌, arith, list_all, nat_tests, list_all-append, Stmt, Stmts, Arms, sends, repeats, none, more, no_arm, arm, is_version, is_count, are_resets, MOST_REFUSALS, MOST_RESETS, states, since, ScriptLine, arm_on, block_done, statement_lines, body_lines, arms_lines, is_line_of}
 use Rattle.std.proofs.Math.Bool.{and_assoc, and-true}
 use Rattle.pr_script.specs.Versions.{since as test_since, is_statement_of, is_script_of, are_arms_of}
 use Rattle.pr_text.specs.ScriptRoundTrip.{said_by}
@@ -16,10 +16,10 @@ has_by n v h = grind (arith, nat_tests)
 pub by_has : (n v : ℕ) → nat_lt v n ≡ false → nat_le n v ≡ true
 by_has n v h = grind (arith, nat_tests)
 
-pub count_kept : (v n : ℕ) → is_version v ≡ true → nat_lt v 2 ≡ false → (nat_le 1 n && nat_le n 1000) ≡ true → is_count v n ≡ true
+pub count_kept : (v n : ℕ) → is_version v ≡ true → nat_lt v 2 ≡ false → (nat_le 1 n && nat_le n MOST_REFUSALS) ≡ true → is_count v n ≡ true
 count_kept v n known new room = grind (arith, nat_tests)
 
-pub resets_kept : (v n : ℕ) → is_version v ≡ true → nat_lt v 2 ≡ false → (nat_le 1 n && nat_le n 1000) ≡ true → are_resets v n ≡ true
+pub resets_kept : (v n : ℕ) → is_version v ≡ true → nat_lt v 2 ≡ false → (nat_le 1 n && nat_le n MOST_RESETS) ≡ true → are_resets v n ≡ true
 resets_kept v n known new room = grind (arith, nat_tests)
 
 -- ---- the lines of a script

@@ -1,5 +1,5 @@
 -- Keys, nexuses, and reservations stay sound with one line more.
-use Rattle.pr_text.proofs.Common.{◌≡◌, ℕ, suc, ◌+◌, ◌<◌, Bool, true, false, cond, not, ◌&&◌, ◌||◌, List, [], ◌∷◌, ◌++◌, map, length, is_some, nat_lt, nat_le, ◌==◌, Some, None, Ok, Option, option_map, position, option_and_then, bytes_eq, sym, refl, ap, ◌∙◌, subst, arith, length-append, list_all, list_any, position_from, unwrap_or, and_parts, false≢true, nat_tests, position_from-zero, Command, Held, is_written, test_fits, is_name, Test, are_distinct, is_action, is_role, is_start, Clause, each, both, Declared, WrittenTask, scripted, planned, Declaration, outside, OpenBlock, sending, declared_keys, held_of, number_of, ScriptLine, arm_on, send_at, awaits_arm, start_of, keys_placed, nexus_placed, reservation_placed, IsTask, IsDeclaration, AreDeclarations, IsSound, Reached, may, may_all, IsPlace}
+use Rattle.pr_text.proofs.Common.{◌≡◌, ℕ, suc, ◌+◌, ◌<◌, Bool, true, false, cond, not, ◌&&◌, ◌||◌, List, [], ◌∷◌, ◌++◌, map, length, is_some, nat_lt, nat_le, ◌==◌, Some, None, Ok, Option, option_map, position, option_and_then, bytes_eq, sym, refl, ap, ◌∙◌, subst, arith, length-append, list_all, list_any, position_from, unwrap_or, and_parts, false≢true, nat_tests, position_from-zero, Command, Held, is_written, test_fits, is_name, Test, are_distinct, is_action, is_role, is_start, MOST_CLAUSES, MOST_PLANNED, Clause, each, both, Declared, WrittenTask, scripted, planned, Declaration, outside, OpenBlock, sending, declared_keys, held_of, number_of, ScriptLine, arm_on, send_at, awaits_arm, start_of, keys_placed, nexus_placed, reservation_placed, IsTask, IsDeclaration, AreDeclarations, IsSound, Reached, may, may_all, IsPlace}
 use Rattle.std.proofs.lemmas.List.Sums.{AllPass-from_list_all}
 use Rattle.std.proofs.lemmas.Slice.Eq.{bytes_eq-Decides}
 use Rattle.pr_cdb.specs.declared.command.Kind.{Kind}
@@ -11,6 +11,7 @@ use Rattle.pr_script.specs.Grammar.{is_written_key, is_declared, is_read_keys, i
 use Rattle.pr_roles.specs.declared.role.Action.{Action}
 use Rattle.pr_roles.specs.declared.role.Action.TheVariants as action
 use Rattle.pr_roles.specs.Fitting.{are_reservations, is_reservation, is_alternative}
+use Rattle.pr_roles.specs.declared.limits.TheConstants.{MOST_KEYS}
 use Rattle.pr_lines.specs.ScenarioLines.{StartReservation, nobody, single, everybody}
 use Rattle.pr_text.specs.inside.Chains.{reservations_at}
 use Rattle.pr_text.specs.Texts.{reservations_of}
@@ -80,7 +81,7 @@ module _ (keys : List ℕ) where
   task_more : (o : Option WrittenTask) → IsTask [] o → IsTask keys o
   task_more None h = tt
   task_more (Some (scripted ls budget)) h = (record { standing = lines_more at_first ls h.0.standing; short = h.0.short; rising = h.0.rising }, h.1)
-  task_more (Some (planned commands)) h = let parts = and_parts (nat_le (length commands) 256) _ h in both _ _ parts.0 (all_more (is_written []) (is_written keys) written_more commands parts.1)
+  task_more (Some (planned commands)) h = let parts = and_parts (nat_le (length commands) MOST_PLANNED) _ h in both _ _ parts.0 (all_more (is_written []) (is_written keys) written_more commands parts.1)
 
   action_more : (a : Action) → is_action [] a ≡ true → is_action keys a ≡ true
   action_more (action.Register key) h = cc
@@ -93,7 +94,7 @@ module _ (keys : List ℕ) where
 
   role_more : (clauses : List Clause) → is_role [] clauses ≡ true → is_role keys clauses ≡ true
   role_more clauses h =
-      let parts = and_parts (nat_le (length clauses) 32) _ h in
+      let parts = and_parts (nat_le (length clauses) MOST_CLAUSES) _ h in
       both _ _ parts.0 (all_more (λ c. is_action [] c.action) (λ c. is_action keys c.action) (λ c k. action_more c.action k) clauses parts.1)
 
   start_more : (xs : List (Option ℕ)) → is_start [] xs ≡ true → is_start keys xs ≡ true
@@ -116,7 +117,7 @@ none_of : {A : Type 0} (o : Option A) → is_some o ≡ false → o ≡ None
 none_of None h = refl
 none_of (Some x) h = cc
 
-few_keys : (n : ℕ) → nat_lt 12 n ≡ false → nat_le n 12 ≡ true
+few_keys : (n : ℕ) → nat_lt MOST_KEYS n ≡ false → nat_le n MOST_KEYS ≡ true
 few_keys n h = grind (arith, nat_tests)
 
 pub keys_sound : (n : ℕ) (keys : List ℕ) (d e : Declared) → d.place ≡ outside → list_all is_key keys ≡ true → IsSound n d → keys_placed (n + 1) keys d ≡ Ok e → IsSound (n + 1) e

@@ -1,10 +1,9 @@
 -- What is declared stays sound with one line more.
-use Rattle.pr_text.proofs.Common.{◌≡◌, ℕ, zero, suc, ◌+◌, ◌≤◌, true, false, cond, not, ◌&&◌, List, [], ◌∷◌, ◌++◌, map, length, is_some, nat_le, ◌==◌, slice_set, Some, None, Ok, Err, Option, Result, sym, refl, ap, ◌∙◌, subst, arith, length-append, slice_get, and_parts, nat_tests, list_all-append, Command, Attention, is_written, is_name, is_action, is_role, Clause, states, ScenarioLine, DeclaringLine, fence_line, declares, nexus_line, start_line, pending_line, refusals_line, resets_line, role_line, script_line, plan_line, end_line, command_line, keys_line, reservation_line, generation_line, Refusal, ParsedCommand, is_item, both, Declared, WrittenTask, scripted, planned, Declaration, OpenLines, Place, before_all, outside, in_script, in_plan, codes_of, count_in, declared_keys, number_of, and_then, with_count, with_task, begun_script, item_placed, ReadError, start_fault, start_placed, pending_placed, refusals_placed, role_placed, script_placed, plan_placed, planned_step, item_standing, script_step, generation_placed, resets_placed, IsTask, IsDeclaration, AreDeclarations, IsSound, IsPlace}
+use Rattle.pr_text.proofs.Common.{◌≡◌, ℕ, zero, suc, ◌+◌, ◌≤◌, true, false, cond, not, ◌&&◌, List, [], ◌∷◌, ◌++◌, map, length, is_some, nat_le, ◌==◌, slice_set, Some, None, Ok, Err, Option, Result, sym, refl, ap, ◌∙◌, subst, arith, length-append, slice_get, and_parts, nat_tests, list_all-append, Command, Attention, is_written, is_name, MOST_BUDGET, is_action, is_role, MOST_CLAUSES, MOST_PLANNED, MOST_REFUSALS, MOST_RESETS, Clause, states, ScenarioLine, DeclaringLine, fence_line, declares, nexus_line, start_line, pending_line, refusals_line, resets_line, role_line, script_line, plan_line, end_line, command_line, keys_line, reservation_line, generation_line, Refusal, ParsedCommand, is_item, both, Declared, WrittenTask, scripted, planned, Declaration, OpenLines, Place, before_all, outside, in_script, in_plan, codes_of, count_in, declared_keys, number_of, and_then, with_count, with_task, begun_script, item_placed, ReadError, start_fault, start_placed, pending_placed, refusals_placed, role_placed, script_placed, plan_placed, planned_step, item_standing, script_step, generation_placed, resets_placed, IsTask, IsDeclaration, AreDeclarations, IsSound, IsPlace}
 use Rattle.std.proofs.lemmas.List.{length-set}
 use Rattle.pr_lines.specs.declared.item.Refusal.TheVariants as refusal
 use Rattle.pr_text.specs.declared.fault.Which.TheVariants as which
 use Rattle.pr_text.specs.declared.fault.ReadError.TheVariants as fault
-use Rattle.pr_roles.specs.declared.limits.TheConstants.{MOST_REFUSALS, MOST_RESETS}
 use Rattle.pr_text.specs.LineFaults.{limit_of, command_fault}
 use Rattle.pr_text.specs.inside.Chains.{declared_with, nexus_set, on_nexus, at_number, at_name, start_at, pending_at, refusals_at, role_at, script_fault, script_at, plan_at, placed_first, placed_outside, script_ended, placed_in_script, placed_in_plan, placed_at, item_taken}
 use Rattle.pr_text.specs.Declaring.{is_spelled}
@@ -96,7 +95,7 @@ pending_sound n name xs d e at sound r =
     subst (IsSound (n + 1)) same (changed n d m.number x (record x { pending = Some (codes_of xs) }) d.place sound m.there refl
     (record { described = was.described; task = was.task }) (subst (IsPlace keys (n + 1)) (sym at) tt))
 
-few_more : (k : ℕ) → nat_le 32 k ≡ false → k + 1 ≤ 32
+few_more : (k : ℕ) → nat_le MOST_CLAUSES k ≡ false → k + 1 ≤ MOST_CLAUSES
 few_more k h = grind (arith, nat_tests)
 
 counted_name : (r : Refusal) (count : ℕ) (x : Declaration) → (with_count r count x).name ≡ x.name
@@ -123,10 +122,10 @@ refusals_sound n r name count d e at sound q =
     subst (IsSound (n + 1)) same (changed n d m.number x (with_count r count x) d.place sound m.there (counted_name r count x)
     (counted_is keys r count x was) (subst (IsPlace keys (n + 1)) (sym at) tt))
 
-role_more : (keys : List ℕ) (clauses : List Clause) (c : Clause) → is_role keys clauses ≡ true → is_action keys c.action ≡ true → nat_le 32 (length clauses) ≡ false → is_role keys (clauses ++ c ∷ []) ≡ true
+role_more : (keys : List ℕ) (clauses : List Clause) (c : Clause) → is_role keys clauses ≡ true → is_action keys c.action ≡ true → nat_le MOST_CLAUSES (length clauses) ≡ false → is_role keys (clauses ++ c ∷ []) ≡ true
 role_more keys clauses c h k few =
-    let parts = and_parts (nat_le (length clauses) 32) _ h in
-    both _ _ (le_true (length (clauses ++ c ∷ [])) 32 (omega (arith, length-append clauses (c ∷ []), few_more (length clauses) few)))
+    let parts = and_parts (nat_le (length clauses) MOST_CLAUSES) _ h in
+    both _ _ (le_true (length (clauses ++ c ∷ [])) MOST_CLAUSES (omega (arith, length-append clauses (c ∷ []), few_more (length clauses) few)))
     (list_all-append (λ clause. is_action keys clause.action) clauses (c ∷ []) ∙ both _ _ parts.1 (both _ _ k refl))
 
 role_sound : (n : ℕ) (name : List ℕ) (clause : Clause) (d e : Declared) → d.place ≡ outside → IsSound n d → role_placed (n + 1) name clause d ≡ Ok e → IsSound (n + 1) e
@@ -175,14 +174,14 @@ resets_sound n count d e at sound r =
       place = subst (IsPlace (declared_keys d) (n + 1)) (sym at) tt;
     })
 
-begun_sound : (keys : List ℕ) (n h budget : ℕ) → (nat_le 1 budget && nat_le budget 4096) ≡ true → AreBegun keys n (begun_script h budget)
+begun_sound : (keys : List ℕ) (n h budget : ℕ) → (nat_le 1 budget && nat_le budget MOST_BUDGET) ≡ true → AreBegun keys n (begun_script h budget)
 begun_sound keys n h budget room = record { standing = refl; reaching = refl; counted = refl; short = refl; rising = refl; passed = refl; budget = room }
 
-script_room : (n budget : ℕ) (x : Declaration) → script_fault n budget x ≡ None → (nat_le 1 budget && nat_le budget 4096) ≡ true
+script_room : (n budget : ℕ) (x : Declaration) → script_fault n budget x ≡ None → (nat_le 1 budget && nat_le budget MOST_BUDGET) ≡ true
 script_room n budget x h =
     let b = skips x.is_guest _ _ h in
     let c = skips (is_some x.task) _ _ b.1 in
-    let g = skips (not (nat_le 1 budget && nat_le budget 4096)) _ _ c.1 in
+    let g = skips (not (nat_le 1 budget && nat_le budget MOST_BUDGET)) _ _ c.1 in
     not_no _ g.0
 
 script_line_sound : (n : ℕ) (name : List ℕ) (budget : ℕ) (d e : Declared) → IsSound n d → script_placed (n + 1) name budget d ≡ Ok e → IsSound (n + 1) e
@@ -256,19 +255,19 @@ in_script_sound n o (states l) d e begun h s r =
     step_sound n d e (script_step (n + 1) (declared_keys d) l o) h (λ p q. script_sound (declared_keys d) n l o p s begun q) r
 in_script_sound n o _ d e begun h s r = cc
 
-fewer : (k : ℕ) → nat_le 256 k ≡ false → k + 1 ≤ 256
+fewer : (k : ℕ) → nat_le MOST_PLANNED k ≡ false → k + 1 ≤ MOST_PLANNED
 fewer k h = grind (arith, nat_tests)
 
 plan_more : (keys : List ℕ) (n : ℕ) (s : ParsedCommand) (commands after : List Command) → is_plan keys commands ≡ true → planned_step n keys s commands ≡ Ok after → is_plan keys after ≡ true
 unfolding planned_step
 plan_more keys n s commands after h r =
     let a = passes (command_fault n keys commands s) (commands ++ s.command ∷ []) after r in
-    let b = faultless n false (not (is_spelled keys s)) (cond (nat_le 256 (length commands)) (Some which.Plan) None) a.0 in
-    let c = skips (nat_le 256 (length commands)) _ _ b.1.1 in
-    let parts = and_parts (nat_le (length commands) 256) _ h in
+    let b = faultless n false (not (is_spelled keys s)) (cond (nat_le MOST_PLANNED (length commands)) (Some which.Plan) None) a.0 in
+    let c = skips (nat_le MOST_PLANNED (length commands)) _ _ b.1.1 in
+    let parts = and_parts (nat_le (length commands) MOST_PLANNED) _ h in
     let written = (and_parts (is_written keys s.command) _ (not_no _ b.1.0)).0 in
     subst (λ cs. is_plan keys cs ≡ true) a.1
-    (both _ _ (le_true (length (commands ++ s.command ∷ [])) 256 (omega (arith, length-append commands (s.command ∷ []), fewer (length commands) c.0)))
+    (both _ _ (le_true (length (commands ++ s.command ∷ [])) MOST_PLANNED (omega (arith, length-append commands (s.command ∷ []), fewer (length commands) c.0)))
     (list_all-append (is_written keys) commands (s.command ∷ []) ∙ both _ _ parts.1 (both _ _ written refl)))
 
 plan_step_sound : (n h : ℕ) (d e : Declared) (s : Result (List Command) ReadError) → IsSound n d → ((more : List Command) → s ≡ Ok more → is_plan (declared_keys d) more ≡ true)

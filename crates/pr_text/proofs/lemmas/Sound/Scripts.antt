@@ -1,5 +1,5 @@
 -- The lines of an open script may stand where they do, with one line more.
-use Rattle.pr_text.proofs.Common.{◌≡◌, ℕ, ◌+◌, ◌<◌, ◌≤◌, Bool, true, false, cond, not, ◌&&◌, ◌||◌, List, [], ◌∷◌, ◌++◌, drop, nat_lt, nat_le, ◌==◌, Some, None, Ok, Err, count_by, Option, Result, sym, refl, ap, ◌∙◌, subst, append-nil, arith, list_all, and_parts, nat_tests, list_all-append, Command, is_written, test_fits, is_name, Test, states, StatementLine, send_line, on_line, done_line, repeat_line, break_line, stop_line, ParsedCommand, is_item, both, true_le, OpenLines, OpenBlock, sending, unless, with_statement_line, ScriptLine, arm_on, block_done, send_at, repeat_of, break_out, stop_with, is_repeating, is_sending, awaits_arm, ReadError, Which, script_step, is_statement, Reached, may, may_all}
+use Rattle.pr_text.proofs.Common.{◌≡◌, ℕ, ◌+◌, ◌<◌, ◌≤◌, Bool, true, false, cond, not, ◌&&◌, ◌||◌, List, [], ◌∷◌, ◌++◌, drop, nat_lt, nat_le, ◌==◌, Some, None, Ok, Err, count_by, Option, Result, sym, refl, ap, ◌∙◌, subst, append-nil, arith, list_all, and_parts, nat_tests, list_all-append, Command, is_written, test_fits, is_name, MOST_STATEMENTS, MOST_ARMS, MOST_OPEN, MOST_TURNS, Test, states, StatementLine, send_line, on_line, done_line, repeat_line, break_line, stop_line, ParsedCommand, is_item, both, true_le, OpenLines, OpenBlock, sending, unless, with_statement_line, ScriptLine, arm_on, block_done, send_at, repeat_of, break_out, stop_with, is_repeating, is_sending, awaits_arm, ReadError, Which, script_step, is_statement, Reached, may, may_all}
 use Rattle.std.proofs.lemmas.List.Sums.{fold-append, sum_by-append}
 use Rattle.pr_script.specs.Grammar.{stands_under, is_test_declared, has_sense_digit, rise_above}
 use Rattle.pr_text.specs.Standing.{by_innermost, awaits_more, may_close}
@@ -59,14 +59,14 @@ state_of o = record { blocks = o.blocks; begun = o.begun }
 plain_more : (keys : List ℕ) (n : ℕ) (o p : OpenLines) (l : ScriptLine) → AreBegun keys n o
     → p.lines ≡ o.lines ++ l ∷ [] → sends_in (l ∷ []) ≡ [] → p.budget ≡ o.budget
     → may keys (state_of o) l ≡ true → state_of p ≡ next (state_of o) l
-    → p.statements ≡ o.statements + cond (is_statement l) 1 0 → p.statements ≤ 512 → AreBegun keys (n + 1) p
+    → p.statements ≡ o.statements + cond (is_statement l) 1 0 → p.statements ≤ MOST_STATEMENTS → AreBegun keys (n + 1) p
 plain_more keys n o p l h lines none budget stands steps counts few =
     let same : sends_in p.lines ≡ sends_in o.lines = ap sends_in lines ∙ (sends-append o.lines (l ∷ []) ∙ (ap (λ x. sends_in o.lines ++ x) none ∙ append-nil (sends_in o.lines))) in
     record {
       standing = ap (may_all keys at_first) lines ∙ may_more keys at_first o.lines l h.standing (ap (λ s. may keys s l) h.reaching ∙ stands);
       reaching = ap (reach_after at_first) lines ∙ (reached_more at_first o.lines l ∙ (ap (λ s. next s l) h.reaching ∙ sym steps));
       counted = counts ∙ (ap (λ k. k + cond (is_statement l) 1 0) h.counted ∙ sym (ap (count_by is_statement) lines ∙ counted_more o.lines l));
-      short = le_true p.statements 512 few;
+      short = le_true p.statements MOST_STATEMENTS few;
       rising = rw same h.rising;
       passed = rw same (below_more (sends_in o.lines) n h.passed);
       budget = rw budget h.budget;
@@ -75,7 +75,7 @@ plain_more keys n o p l h lines none budget stands steps counts few =
 send_more : (keys : List ℕ) (n : ℕ) (o p : OpenLines) (c : Command) → AreBegun keys n o
     → p.lines ≡ o.lines ++ send_at (n + 1) c ∷ [] → p.budget ≡ o.budget
     → may keys (state_of o) (send_at (n + 1) c) ≡ true → state_of p ≡ next (state_of o) (send_at (n + 1) c)
-    → p.statements ≡ o.statements + 1 → p.statements ≤ 512 → AreBegun keys (n + 1) p
+    → p.statements ≡ o.statements + 1 → p.statements ≤ MOST_STATEMENTS → AreBegun keys (n + 1) p
 send_more keys n o p c h lines budget stands steps counts few =
     let l = send_at (n + 1) c in
     let same : sends_in p.lines ≡ sends_in o.lines ++ (n + 1) ∷ [] = ap sends_in lines ∙ sends-append o.lines (l ∷ []) in
@@ -83,7 +83,7 @@ send_more keys n o p c h lines budget stands steps counts few =
       standing = ap (may_all keys at_first) lines ∙ may_more keys at_first o.lines l h.standing (ap (λ s. may keys s l) h.reaching ∙ stands);
       reaching = ap (reach_after at_first) lines ∙ (reached_more at_first o.lines l ∙ (ap (λ s. next s l) h.reaching ∙ sym steps));
       counted = counts ∙ (ap (λ k. k + 1) h.counted ∙ sym (ap (count_by is_statement) lines ∙ counted_more o.lines l));
-      short = le_true p.statements 512 few;
+      short = le_true p.statements MOST_STATEMENTS few;
       rising = rw same (rise_more 0 (sends_in o.lines) n (omega arith) h.rising h.passed);
       passed = rw same (list_all-append (λ x. nat_le x (n + 1)) (sends_in o.lines) ((n + 1) ∷ []) ∙ both _ _ (below_more (sends_in o.lines) n h.passed) (both _ _ (le_true (n + 1) (n + 1) (omega arith)) refl));
       budget = rw budget h.budget;
@@ -99,10 +99,10 @@ pub past : {A : Type 0} (b : Bool) (e : ReadError) (r : Result A ReadError) (a :
 past true e r a h = cc
 past false e r a h = (refl, h)
 
-not_full : (n : ℕ) → nat_le 512 n ≡ false → n + 1 ≤ 512
+not_full : (n : ℕ) → nat_le MOST_STATEMENTS n ≡ false → n + 1 ≤ MOST_STATEMENTS
 not_full n h = grind (arith, nat_tests)
 
-few_open : (n : ℕ) → nat_le 8 n ≡ false → nat_lt n 8 ≡ true
+few_open : (n : ℕ) → nat_le MOST_OPEN n ≡ false → nat_lt n MOST_OPEN ≡ true
 few_open n h = grind (arith, nat_tests)
 
 pub no_true : (b : Bool) → b ≡ false → not b ≡ true
@@ -135,8 +135,8 @@ unfolding script_step
 send_sound keys n s o p h r =
     let a = passes (statement_fault (n + 1) keys o (send_line s)) (with_statement_line (n + 1) (send_line s) o) p r in
     let b = faultless (n + 1) (awaits_arm o.blocks) (not (is_spelled keys s)) (past_limit_in o (send_line s)) a.0 in
-    let c = skips (nat_le 512 o.statements) _ _ b.1.1 in
-    let d = skips (nat_le 8 (count_by is_sending o.blocks)) _ _ c.1 in
+    let c = skips (nat_le MOST_STATEMENTS o.statements) _ _ b.1.1 in
+    let d = skips (nat_le MOST_OPEN (count_by is_sending o.blocks)) _ _ c.1 in
     let written = (and_parts (is_written keys s.command) _ (not_no _ b.1.0)).0 in
     subst (AreBegun keys (n + 1)) a.1 (send_more keys n o (with_statement_line (n + 1) (send_line s) o) s.command h refl refl
     (both _ _ (no_true (awaits_arm o.blocks) b.0) (both _ _ written (few_open (count_by is_sending o.blocks) d.0))) refl refl (not_full o.statements c.0))
@@ -146,9 +146,9 @@ unfolding script_step
 repeat_sound keys n count o p h r =
     let a = passes (statement_fault (n + 1) keys o (repeat_line count)) (with_statement_line (n + 1) (repeat_line count) o) p r in
     let b = faultless (n + 1) (awaits_arm o.blocks) false (past_limit_in o (repeat_line count)) a.0 in
-    let c = skips (nat_le 512 o.statements) _ _ b.1.1 in
-    let d = skips (nat_le 8 (count_by is_repeating o.blocks)) _ _ c.1 in
-    let e = skips (not (nat_le 1 count && nat_le count 1000)) _ _ d.1 in
+    let c = skips (nat_le MOST_STATEMENTS o.statements) _ _ b.1.1 in
+    let d = skips (nat_le MOST_OPEN (count_by is_repeating o.blocks)) _ _ c.1 in
+    let e = skips (not (nat_le 1 count && nat_le count MOST_TURNS)) _ _ d.1 in
     subst (AreBegun keys (n + 1)) a.1 (plain_more keys n o (with_statement_line (n + 1) (repeat_line count) o) (repeat_of count) h refl refl refl
     (both _ _ (no_true (awaits_arm o.blocks) b.0) (both _ _ (not_no _ e.0) (few_open (count_by is_repeating o.blocks) d.0))) refl refl (not_full o.statements c.0))
 
@@ -163,7 +163,7 @@ unfolding script_step
 break_sound keys n o p h r =
     let a = passes (statement_fault (n + 1) keys o break_line) (with_statement_line (n + 1) break_line o) p r in
     let b = faultless (n + 1) (out_of_place o break_line) false (past_limit_in o break_line) a.0 in
-    let c = skips (nat_le 512 o.statements) _ _ b.1.1 in
+    let c = skips (nat_le MOST_STATEMENTS o.statements) _ _ b.1.1 in
     let parts = or_no (awaits_more o) _ b.0 in
     subst (AreBegun keys (n + 1)) a.1 (plain_more keys n o (with_statement_line (n + 1) break_line o) break_out h refl refl refl
     (both _ _ (state_true o parts.0) (some_open (count_by is_repeating o.blocks) parts.1)) refl refl (not_full o.statements c.0))
@@ -173,7 +173,7 @@ unfolding script_step
 stop_sound keys n word o p named h r =
     let a = passes (statement_fault (n + 1) keys o (stop_line word)) (with_statement_line (n + 1) (stop_line word) o) p r in
     let b = faultless (n + 1) (awaits_more o) false (past_limit_in o (stop_line word)) a.0 in
-    let c = skips (nat_le 512 o.statements) _ _ b.1.1 in
+    let c = skips (nat_le MOST_STATEMENTS o.statements) _ _ b.1.1 in
     subst (AreBegun keys (n + 1)) a.1 (plain_more keys n o (with_statement_line (n + 1) (stop_line word) o) (stop_with word) h refl refl refl
     (both _ _ (state_true o b.0) named) refl refl (not_full o.statements c.0))
 
@@ -187,18 +187,18 @@ done_sound keys n o p h r =
     let a = passes (statement_fault (n + 1) keys o done_line) (with_statement_line (n + 1) done_line o) p r in
     let b = faultless (n + 1) (not (may_close o.blocks o.begun)) false None a.0 in
     subst (AreBegun keys (n + 1)) a.1
-    (plain_more keys n o (with_statement_line (n + 1) done_line o) block_done h refl refl refl (not_no _ b.0) refl (omega arith) (true_le o.statements 512 h.short))
+    (plain_more keys n o (with_statement_line (n + 1) done_line o) block_done h refl refl refl (not_no _ b.0) refl (omega arith) (true_le o.statements MOST_STATEMENTS h.short))
 
 test_true : (keys : List ℕ) (c : Command) (t : Test) → has_sense_digit t ≡ true → stands_under c t ≡ true → is_test_declared keys t ≡ true → test_fits keys c t ≡ true
 test_true keys c t digit under known = both _ _ digit (both _ _ under known)
 
-few_arms : (n : ℕ) → nat_le 16 n ≡ false → nat_lt n 16 ≡ true
+few_arms : (n : ℕ) → nat_le MOST_ARMS n ≡ false → nat_lt n MOST_ARMS ≡ true
 few_arms n h = grind (arith, nat_tests)
 
-arm_true : (n : ℕ) (keys : List ℕ) (t : Test) (c : Command) (k : ℕ) → has_sense_digit t ≡ true → arm_fault n keys t c k ≡ None → (test_fits keys c t && nat_lt k 16) ≡ true
+arm_true : (n : ℕ) (keys : List ℕ) (t : Test) (c : Command) (k : ℕ) → has_sense_digit t ≡ true → arm_fault n keys t c k ≡ None → (test_fits keys c t && nat_lt k MOST_ARMS) ≡ true
 arm_true n keys t c k sound r =
-    let a = faultless n (not (stands_under c t)) (not (is_test_declared keys t)) (cond (nat_le 16 k) (Some which.Arms) None) r in
-    let b = skips (nat_le 16 k) _ _ a.1.1 in
+    let a = faultless n (not (stands_under c t)) (not (is_test_declared keys t)) (cond (nat_le MOST_ARMS k) (Some which.Arms) None) r in
+    let b = skips (nat_le MOST_ARMS k) _ _ a.1.1 in
     both _ _ (test_true keys c t sound (not_no _ a.0) (not_no _ a.1.0)) (few_arms k b.0)
 
 -- the script with the next arm, where these blocks are open
@@ -208,7 +208,7 @@ armed o t bs = record o { lines = o.lines ++ arm_on t ∷ []; blocks = by_innerm
 abbrev arm_fault_under : ℕ → List ℕ → Test → List OpenBlock → Option ReadError
 arm_fault_under n keys t bs =
     first_fault n (by_innermost true true (λ c arms. not (stands_under c t)) bs) false (not (is_test_declared keys t)) false
-    (cond (by_innermost false false (λ c arms. nat_le 16 arms) bs) (Some which.Arms) None)
+    (cond (by_innermost false false (λ c arms. nat_le MOST_ARMS arms) bs) (Some which.Arms) None)
 
 on_blocks : (keys : List ℕ) (n : ℕ) (t : Test) (o p : OpenLines) (bs : List OpenBlock) → o.blocks ≡ bs → has_sense_digit t ≡ true → AreBegun keys n o
     → unless (arm_fault_under (n + 1) keys t bs) (armed o t bs) ≡ Ok p → AreBegun keys (n + 1) p
@@ -217,7 +217,7 @@ on_blocks keys n t o p ((sending c k) ∷ bs) e sound h r =
     let a = passes (arm_fault (n + 1) keys t c k) after p r in
     let stands : may keys (state_of o) (arm_on t) ≡ true = rw e (arm_true (n + 1) keys t c k sound a.0) in
     let steps : state_of after ≡ next (state_of o) (arm_on t) = rw e refl in
-    subst (AreBegun keys (n + 1)) a.1 (plain_more keys n o after (arm_on t) h refl refl refl stands steps (omega arith) (true_le o.statements 512 h.short))
+    subst (AreBegun keys (n + 1)) a.1 (plain_more keys n o after (arm_on t) h refl refl refl stands steps (omega arith) (true_le o.statements MOST_STATEMENTS h.short))
 on_blocks keys n t o p _ e sound h r = cc
 
 on_sound : (keys : List ℕ) (n : ℕ) (t : Test) (o p : OpenLines) → has_sense_digit t ≡ true → AreBegun keys n o → script_step (n + 1) keys (on_line t) o ≡ Ok p → AreBegun keys (n + 1) p

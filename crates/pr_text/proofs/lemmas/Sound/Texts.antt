@@ -7,6 +7,7 @@ use Rattle.pr_lines.specs.ScenarioLines.{item_of}
 use Rattle.pr_text.specs.Texts.{line_placed, words_placed}
 use Rattle.pr_text.specs.inside.Steps.{AreRead}
 use Rattle.pr_lines.proofs.lemmas.ScenarioLines.Terms.{item_sound}
+use Rattle.pr_text.specs.declared.text.TheConstants.{MOST_LINE_BYTES}
 use Rattle.pr_text.proofs.lemmas.Sound.Scripts.{later_begun}
 use Rattle.pr_text.proofs.lemmas.Sound.Places.{placed_sound}
 use Rattle.pr_text.proofs.lemmas.Standing.Versions.{placed_dated}
@@ -46,8 +47,8 @@ worded_sound n (w ∷ ws) d e h r = said_sound n (item_of w ws) d e h (item_soun
 line_sound : (n : ℕ) (line : List ℕ) (d e : Declared) → Sound n d → line_placed (n + 1) line d ≡ Ok e → Sound (n + 1) e
 unfolding line_placed
 line_sound n line d e h r =
-    let ascii = passed (not (is_text line)) (NotAscii (n + 1)) (cond (nat_lt 256 (length line)) (Err (LineTooLong (n + 1))) (words_placed (n + 1) (words line) d)) e r in
-    let short = passed (nat_lt 256 (length line)) (LineTooLong (n + 1)) (words_placed (n + 1) (words line) d) e ascii in
+    let ascii = passed (not (is_text line)) (NotAscii (n + 1)) (cond (nat_lt MOST_LINE_BYTES (length line)) (Err (LineTooLong (n + 1))) (words_placed (n + 1) (words line) d)) e r in
+    let short = passed (nat_lt MOST_LINE_BYTES (length line)) (LineTooLong (n + 1)) (words_placed (n + 1) (words line) d) e ascii in
     worded_sound n (words line) d e h short
 
 -- ---- all lines

@@ -1,5 +1,5 @@
 -- Scripts whose lines may stand where they do follow the grammar.
-use Rattle.pr_text.proofs.Common.{◌≡◌, ℕ, suc, ◌+◌, ◌≤◌, Bool, true, false, cond, not, ◌&&◌, List, [], ◌∷◌, ◌++◌, nat_lt, nat_le, count_by, refl, ap, ◌∙◌, subst, append_assoc, append-nil, arith, and_parts, nat_tests, Command, is_written, test_fits, Stmt, Stmts, Arms, sends, repeats, none, more, no_arm, arm, breaks, stops, both, OpenBlock, sending, ScriptLine, arm_on, block_done, statement_lines, body_lines, arms_lines, send_at, repeat_of, break_out, stop_with, is_repeating, is_sending, awaits_arm, is_statement, Reached, may, may_all}
+use Rattle.pr_text.proofs.Common.{◌≡◌, ℕ, suc, ◌+◌, ◌≤◌, Bool, true, false, cond, not, ◌&&◌, List, [], ◌∷◌, ◌++◌, nat_lt, nat_le, count_by, refl, ap, ◌∙◌, subst, append_assoc, append-nil, arith, and_parts, nat_tests, Command, is_written, test_fits, Stmt, Stmts, Arms, sends, repeats, none, more, no_arm, arm, breaks, stops, MOST_STATEMENTS, MOST_ARMS, MOST_OPEN, MOST_TURNS, both, OpenBlock, sending, ScriptLine, arm_on, block_done, statement_lines, body_lines, arms_lines, send_at, repeat_of, break_out, stop_with, is_repeating, is_sending, awaits_arm, is_statement, Reached, may, may_all}
 use Rattle.std.proofs.lemmas.List.Sums.{sum_by-cons, sum_by-append}
 use Rattle.pr_script.specs.Grammar.{count_of_arms, begins_body, statement_fits, statements_fit, arms_fit, count_of, count_of_all, count_in_arms, lines_of, lines_of_all, lines_of_arms, rise_above, script_fits}
 use Rattle.pr_text.specs.Declarations.{repeating}
@@ -38,7 +38,7 @@ record Stand (keys : List ℕ) (fits : Bool) (bs : List OpenBlock) (rest : List 
 
 record StandArms (keys : List ℕ) (fits : Bool) (n : ℕ) (bs : List OpenBlock) (rest : List ScriptLine) : Type 0 where
   fitting : fits ≡ true
-  few : n ≤ 16
+  few : n ≤ MOST_ARMS
   behind : May keys bs true rest
 
 -- the first statement of a repeat
@@ -56,20 +56,20 @@ mutual
       let tests = and_parts (is_written keys c) _ (and_parts (not (awaits_arm bs)) _ parts.0).1 in
       let inner : May keys (sending c 0 ∷ bs) false (arms_lines a ++ block_done ∷ rest) = subst (May keys (sending c 0 ∷ bs) false) (append_assoc (arms_lines a) (block_done ∷ []) rest) parts.1 in
       let arms = arms_stand keys a bs c 0 false rest r s er es (omega arith) inner in
-      let room : nat_lt s 8 ≡ true = rw es at tests.1 in
+      let room : nat_lt s MOST_OPEN ≡ true = rw es at tests.1 in
       record {
-        fitting = both _ _ (both _ _ tests.0 (le_true (count_of_arms a) 16 (omega (arith, arms.few)))) (both _ _ room arms.fitting);
+        fitting = both _ _ (both _ _ tests.0 (le_true (count_of_arms a) MOST_ARMS (omega (arith, arms.few)))) (both _ _ room arms.fitting);
         begun = true;
         behind = arms.behind;
       }
   statement_stands keys (repeats n b) bs begun rest r s er es h =
       let parts = and_parts (may keys (state bs begun) (repeat_of n)) _ h in
-      let tests = and_parts (nat_le 1 n && nat_le n 1000) _ (and_parts (not (awaits_arm bs)) _ parts.0).1 in
+      let tests = and_parts (nat_le 1 n && nat_le n MOST_TURNS) _ (and_parts (not (awaits_arm bs)) _ parts.0).1 in
       let bounds = and_parts (nat_le 1 n) _ tests.0 in
       let inner : May keys (repeating ∷ bs) false (body_lines b ++ block_done ∷ rest) = subst (May keys (repeating ∷ bs) false) (append_assoc (body_lines b) (block_done ∷ []) rest) parts.1 in
       let body = statements_stand keys b (repeating ∷ bs) false (block_done ∷ rest) (r + 1) s (one_more is_repeating repeating bs r refl er) (as_many is_sending repeating bs s refl es) inner in
       let done = and_parts body.begun _ body.behind in
-      let room : nat_lt r 8 ≡ true = rw er at tests.1 in
+      let room : nat_lt r MOST_OPEN ≡ true = rw er at tests.1 in
       record {
         fitting = both _ _ (both _ _ bounds.0 (both _ _ bounds.1 (begins keys b bs rest inner))) (both _ _ room body.fitting);
         begun = true;
@@ -94,13 +94,13 @@ mutual
       record { fitting = both _ _ first.fitting others.fitting; begun = others.begun; behind = others.behind }
 
   arms_stand : (keys : List ℕ) (a : Arms) (bs : List OpenBlock) (c : Command) (k : ℕ) (begun : Bool) (rest : List ScriptLine) (r s : ℕ)
-      → count_by is_repeating bs ≡ r → count_by is_sending bs ≡ s → k ≤ 16
+      → count_by is_repeating bs ≡ r → count_by is_sending bs ≡ s → k ≤ MOST_ARMS
       → May keys (sending c k ∷ bs) begun (arms_lines a ++ block_done ∷ rest) → StandArms keys (arms_fit keys r (s + 1) c a) (k + count_of_arms a) bs rest
   arms_stand keys no_arm bs c k begun rest r s er es few h = record { fitting = refl; few = omega arith; behind = h }
   arms_stand keys (arm t body others) bs c k begun rest r s er es few h =
-      let parts = and_parts (test_fits keys c t && nat_lt k 16) _ h in
+      let parts = and_parts (test_fits keys c t && nat_lt k MOST_ARMS) _ h in
       let tests = and_parts (test_fits keys c t) _ parts.0 in
-      let below = true_lt k 16 tests.1 in
+      let below = true_lt k MOST_ARMS tests.1 in
       let whole : May keys (sending c (k + 1) ∷ bs) false (body_lines body ++ (arms_lines others ++ block_done ∷ rest)) = subst (May keys (sending c (k + 1) ∷ bs) false) (append_assoc (body_lines body) (arms_lines others) (block_done ∷ rest)) parts.1 in
       let inner = statements_stand keys body (sending c (k + 1) ∷ bs) false (arms_lines others ++ block_done ∷ rest) r (s + 1)
       (as_many is_repeating (sending c (k + 1)) bs r refl er) (one_more is_sending (sending c (k + 1)) bs s refl es) whole in
@@ -170,4 +170,4 @@ pub whole_fits : (keys : List ℕ) (b : Stmts) → AreWhole keys (body_lines b) 
 whole_fits keys b whole =
     let standing : May keys [] false (body_lines b ++ []) = rw (append-nil (body_lines b)) whole.standing in
     let fits = statements_stand keys b [] false [] 0 0 refl refl standing in
-    both (statements_fit keys 0 0 b) _ fits.fitting (both (nat_le (count_of_all b) 512) (rise_above 0 (lines_of_all b)) (rw (← body_counted b) whole.short) (rw (← body_sends b) whole.rising))
+    both (statements_fit keys 0 0 b) _ fits.fitting (both (nat_le (count_of_all b) MOST_STATEMENTS) (rise_above 0 (lines_of_all b)) (rw (← body_counted b) whole.short) (rw (← body_sends b) whole.rising))

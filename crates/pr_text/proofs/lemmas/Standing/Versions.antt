@@ -1,5 +1,5 @@
 -- What is declared with one line more is what the version has.
-use Rattle.pr_text.proofs.Common.{◌≡◌, ℕ, zero, suc, ◌+◌, Bool, true, false, not, ◌&&◌, List, [], ◌∷◌, ◌++◌, length, nat_lt, nat_le, slice_set, Some, None, Ok, Option, sym, refl, ap, ◌∙◌, subst, arith, list_all, slice_get, option_map_or, unwrap_or, and_parts, nat_tests, list_all-append, is_count, are_resets, most_declared, states, ScenarioLine, DeclaringLine, StatementLine, fence_line, declares, nexus_line, start_line, pending_line, refusals_line, resets_line, role_line, script_line, plan_line, end_line, send_line, on_line, done_line, repeat_line, break_line, stop_line, command_line, since, Refusal, ParsedCommand, is_item, both, Declared, WrittenTask, scripted, planned, Declaration, OpenLines, Place, before_all, outside, in_script, in_plan, codes_of, number_of, with_count, with_task, begun_script, with_statement_line, item_placed, ScriptLine, arm_on, block_done, send_at, repeat_of, break_out, stop_with, Which, is_line_of, IsDated}
+use Rattle.pr_text.proofs.Common.{◌≡◌, ℕ, zero, suc, ◌+◌, Bool, true, false, not, ◌&&◌, List, [], ◌∷◌, ◌++◌, length, nat_lt, nat_le, slice_set, Some, None, Ok, Option, sym, refl, ap, ◌∙◌, subst, arith, list_all, slice_get, option_map_or, unwrap_or, and_parts, nat_tests, list_all-append, is_count, are_resets, most_declared, MOST_REFUSALS, MOST_RESETS, states, ScenarioLine, DeclaringLine, StatementLine, fence_line, declares, nexus_line, start_line, pending_line, refusals_line, resets_line, role_line, script_line, plan_line, end_line, send_line, on_line, done_line, repeat_line, break_line, stop_line, command_line, since, Refusal, ParsedCommand, is_item, both, Declared, WrittenTask, scripted, planned, Declaration, OpenLines, Place, before_all, outside, in_script, in_plan, codes_of, number_of, with_count, with_task, begun_script, with_statement_line, item_placed, ScriptLine, arm_on, block_done, send_at, repeat_of, break_out, stop_with, Which, is_line_of, IsDated}
 use Rattle.std.proofs.lemmas.List.{length-set}
 use Rattle.pr_lines.specs.declared.item.Refusal.TheVariants as refusal
 use Rattle.pr_lines.specs.Versions.{declaring_since, statement_since}
@@ -94,11 +94,11 @@ declared_dated n (nexus_line guest name) d at has few dated =
 declared_dated n (start_line name xs) d at has few dated = named_dated d (λ x. record x { start = Some xs }) (number_of d.nexuses name) dated at (λ x h. h)
 declared_dated n (pending_line name xs) d at has few dated = named_dated d (λ x. record x { pending = Some (codes_of xs) }) (number_of d.nexuses name) dated at (λ x h. h)
 declared_dated n (refusals_line r name count) d at has few dated =
-    let room = skips (not (nat_le 1 count && nat_le count 1000)) _ _ few in
+    let room = skips (not (nat_le 1 count && nat_le count MOST_REFUSALS)) _ _ few in
     let kept = count_kept d.version count dated.version has (not_no _ room.0) in
     named_dated d (with_count r count) (number_of d.nexuses name) dated at (λ x. counted d.version r count x kept)
 declared_dated n (resets_line count) d at has few dated =
-    let room = skips (not (nat_le 1 count && nat_le count 1000)) _ _ few in
+    let room = skips (not (nat_le 1 count && nat_le count MOST_RESETS)) _ _ few in
     record {
       version = dated.version;
       resets = resets_kept d.version count dated.version has (not_no _ room.0);

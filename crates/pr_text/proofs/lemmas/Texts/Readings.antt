@@ -8,45 +8,46 @@ use Rattle.pr_text.specs.declared.fault.ReadError.TheVariants.{TooLarge, EmptySt
 use Rattle.pr_text.specs.Texts.{answer_of_lines, reservations_of}
 use Rattle.pr_text.specs.ScenarioRoundTrip.{IsWhole}
 use Rattle.pr_text.specs.inside.Steps.{AreRead}
+use Rattle.pr_text.specs.declared.text.TheConstants.{MOST_BYTES}
 use Rattle.pr_text.proofs.lemmas.Endings.Faults.{ended_in_turn}
 use Rattle.pr_text.proofs.lemmas.Steps.Failures.{fails_same, fails_first}
 
 -- ---- the whole text
 
-is_small : (n : ℕ) → n ≤ 65536 → nat_lt 65536 n ≡ false
+is_small : (n : ℕ) → n ≤ MOST_BYTES → nat_lt MOST_BYTES n ≡ false
 is_small n h = grind (arith, nat_tests)
 
-is_large : (n : ℕ) → 65536 < n → nat_lt 65536 n ≡ true
+is_large : (n : ℕ) → MOST_BYTES < n → nat_lt MOST_BYTES n ≡ true
 is_large n h = grind (arith, nat_tests)
 
-pub too_large : (text : List ℕ) → 65536 < length text → answer_of text ≡ Err TooLarge
+pub too_large : (text : List ℕ) → MOST_BYTES < length text → answer_of text ≡ Err TooLarge
 unfolding answer_of
 too_large text h = rw (is_large (length text) h) refl
 
-answer_small : (text : List ℕ) → length text ≤ 65536 → answer_of text ≡ answer_of_lines (lines text)
+answer_small : (text : List ℕ) → length text ≤ MOST_BYTES → answer_of text ≡ answer_of_lines (lines text)
 unfolding answer_of
 answer_small text h = rw (is_small (length text) h) refl
 
-answer_first : (text : List ℕ) → length text ≤ 65536 → answer_of text ≡ and_then (all_placed 0 (lines text) nothing) (end_placed (length (lines text)))
+answer_first : (text : List ℕ) → length text ≤ MOST_BYTES → answer_of text ≡ and_then (all_placed 0 (lines text) nothing) (end_placed (length (lines text)))
 unfolding answer_of_lines
 answer_first text h = answer_small text h
 
-answer_read : (text : List ℕ) (n : ℕ) (d : Declared) → length text ≤ 65536 → AreRead text n d → answer_of text ≡ end_placed n d
+answer_read : (text : List ℕ) (n : ℕ) (d : Declared) → length text ≤ MOST_BYTES → AreRead text n d → answer_of text ≡ end_placed n d
 answer_read text n d h read =
     answer_first text h ∙ (ap (λ r. and_then r (end_placed (length (lines text)))) read.placed ∙ ap (λ m. end_placed m d) (sym read.counted))
 
-pub fails_early : (text : List ℕ) (e : ReadError) → length text ≤ 65536 → Fails e (all_placed 0 (lines text) nothing) → Fails e (answer_of text)
+pub fails_early : (text : List ℕ) (e : ReadError) → length text ≤ MOST_BYTES → Fails e (all_placed 0 (lines text) nothing) → Fails e (answer_of text)
 fails_early text e h fails = rw (answer_first text h) (fails_first e (all_placed 0 (lines text) nothing) (end_placed (length (lines text))) fails)
 
-pub fails_late : {A : Type 0} (text : List ℕ) (n : ℕ) (d : Declared) (r : Result A ReadError) → length text ≤ 65536 → AreRead text n d
+pub fails_late : {A : Type 0} (text : List ℕ) (n : ℕ) (d : Declared) (r : Result A ReadError) → length text ≤ MOST_BYTES → AreRead text n d
     → IfErr r (λ e. Fails e (end_placed n d)) → IfErr r (λ e. Fails e (answer_of text))
 fails_late text n d (Ok a) h read fails = tt
 fails_late text n d (Err e) h read fails = rw (answer_read text n d h read) fails
 
-pub written : (text : List ℕ) (n : ℕ) (d : Declared) (s : Scenario) → length text ≤ 65536 → AreRead text n d → IsWhole n d s → IsWrittenAs text s
+pub written : (text : List ℕ) (n : ℕ) (d : Declared) (s : Scenario) → length text ≤ MOST_BYTES → AreRead text n d → IsWhole n d s → IsWrittenAs text s
 written text n d s h read whole = record { declared = d; faultless = answer_read text n d h read ∙ whole.faultless; kept = whole.kept }
 
-pub written_ok : {A E : Type 0} (view : A → Scenario) (text : List ℕ) (n : ℕ) (d : Declared) (r : Result A E) → length text ≤ 65536 → AreRead text n d
+pub written_ok : {A E : Type 0} (view : A → Scenario) (text : List ℕ) (n : ℕ) (d : Declared) (r : Result A E) → length text ≤ MOST_BYTES → AreRead text n d
     → IfOk r (λ a. IsWhole n d (view a)) → IfOk r (λ a. IsWrittenAs text (view a))
 written_ok view text n d (Ok a) h read whole = written text n d (view a) h read whole
 written_ok view text n d (Err e) h read whole = tt

@@ -1,5 +1,6 @@
 -- What sets of pending attentions contain.
-use Rattle.std.proofs.Common.{◌≡◌, ◌≢◌, ℕ, zero, suc, ◌<◌, Bool, true, false, ◌==◌, ◌&&◌, ◌||◌, not, nat_lt, if◌then◌else◌, List, [], ◌∷◌, length, map, slice_index_or, slice_set, refl, sym, ap, ◌∙◌, inl, inr, ◌⊎◌, ◌+◌, add-one, arith}
+use Rattle.pr_unit.proofs.Common.{◌≡◌, ℕ, zero, suc, ◌+◌, ◌<◌, Bool, true, false, not, ◌&&◌, ◌||◌, List, [], ◌∷◌, length, if◌then◌else◌, nat_lt, ◌==◌, sym, refl, ap, ◌∙◌, arith, false≢true, nat_tests, MOST_NEXUSES, Codes, no_code, Pairs, place, table_pairs, each_with, pairs_where}
+use Rattle.std.proofs.Common.{◌≢◌, map, slice_index_or, slice_set, inl, inr, ◌⊎◌, add-one}
 use Rattle.std.specs.Ordering.{nat_cmp, eq_by_cmp, is_eq, ordering_then}
 use Rattle.std.specs.declared.cmp.Ordering.{Ordering}
 use Rattle.std.specs.declared.cmp.Ordering.TheVariants.{Less, Equal, Greater}
@@ -8,16 +9,13 @@ use Rattle.std.specs.Cmp.Lexicographic.{nat_list_cmp_total}
 use Rattle.std.specs.FinSet as set
 use Rattle.std.specs.FinSet.{IsAntisymmetric, slice_cmp-IsAntisymmetric, nat_cmp-IsAntisymmetric}
 use Rattle.std.specs.List.{list_any}
-use Rattle.pr_cdb.specs.declared.codes.TheConstants.{MOST_NEXUSES}
 use Rattle.pr_registry.specs.Hosts.{Hosts}
-use Rattle.std.proofs.lemmas.Bool.{false≢true}
-use Rattle.std.proofs.lemmas.Bool.Decides.{nat_tests, eqb_tells}
+use Rattle.std.proofs.lemmas.Bool.Decides.{eqb_tells}
 use Rattle.std.proofs.lemmas.List.{get_or-set_same, get_or-set_other}
-use Rattle.pr_attention.specs.Attentions.{Codes, no_code}
 use Rattle.pr_attention.proofs.lemmas.Sets.{contains-insert_code, contains-remove_code}
 use Rattle.pr_sets.proofs.lemmas.Members.{lt-suc}
 use Rattle.pr_unit.specs.inside.Told.{AreBelow}
-use Rattle.pr_unit.specs.Attentions.{pair_cmp, Pairs, each_with, of_host, pairs_where, table_pairs, place}
+use Rattle.pr_unit.specs.Attentions.{pair_cmp, of_host}
 
 pub pair_cmp_total : IsTotalOrder pair_cmp
 pair_cmp_total = record {

@@ -1,13 +1,11 @@
 -- What a reset makes pending.
-use Rattle.std.proofs.Common.{◌≡◌, ℕ, ◌<◌, ◌+◌, Bool, true, false, ◌==◌, ◌&&◌, ◌||◌, nat_lt, IsTrue, refl, sym, ap, ◌∙◌, add-one, arith}
+use Rattle.pr_unit.proofs.Common.{◌≡◌, ℕ, ◌+◌, ◌<◌, Bool, true, false, ◌&&◌, ◌||◌, IsTrue, nat_lt, ◌==◌, sym, refl, ap, ◌∙◌, arith, false≢true, nat_tests, no_code, contains-no_code, power_on, Pairs, pairs_where}
+use Rattle.std.proofs.Common.{add-one}
 use Rattle.std.specs.FinSet as set
-use Rattle.std.proofs.lemmas.Bool.{false≢true}
-use Rattle.std.proofs.lemmas.Bool.Decides.{nat_tests}
 use Rattle.std.proofs.Math.Bool.{or-false}
 use Rattle.pr_sets.proofs.lemmas.Members.{lt-suc}
-use Rattle.pr_attention.specs.Attentions.{no_code, is_attention}
-use Rattle.pr_attention.proofs.lemmas.Sets.{contains-insert_code, contains-no_code}
-use Rattle.pr_unit.specs.Attentions.{Pairs, pairs_where, power_on}
+use Rattle.pr_attention.specs.Attentions.{is_attention}
+use Rattle.pr_attention.proofs.lemmas.Sets.{contains-insert_code}
 use Rattle.pr_unit.specs.Laws.{ResetsTellEach, ResetsAreWellFormed}
 use Rattle.pr_unit.proofs.lemmas.Attentions.Pairs.{same_pairs, contains-insert-pair, contains-union-pairs, contains-pairs_where}
 

@@ -1,18 +1,10 @@
 -- Each request has an answer.
-use Rattle.std.proofs.Common.{◌≡◌, ℕ, Bool, true, false, ◌||◌, if◌then◌else◌, List, [], ◌∷◌, Option, Some, None, refl}
+use Rattle.pr_unit.proofs.Common.{◌≡◌, ℕ, Bool, true, false, ◌||◌, List, [], ◌∷◌, if◌then◌else◌, Some, None, Option, refl, Reply, Sense, Request, Plain, Faulty, power_on, command_fault, good, check, report, data_of, last_decision, decision, StepBy, UnitState, is_pending, is_any_pending, effect, after_report, Decision, PowerOn, Conflicting, Attention}
 use Rattle.std.specs.List.{list_any}
-use Rattle.pr_cdb.specs.declared.reply.Sense.{Sense}
-use Rattle.pr_cdb.specs.declared.reply.Reply.{Reply}
-use Rattle.pr_cdb.specs.declared.wire.Request.{Request}
-use Rattle.pr_cdb.specs.declared.wire.Request.TheVariants.{Plain, Faulty}
-use Rattle.pr_unit.specs.declared.decision.Decision.{Decision}
-use Rattle.pr_unit.specs.declared.decision.Decision.TheVariants.{PowerOn, Conflicting, Attention}
-use Rattle.pr_unit.specs.Attentions.{power_on, attentions}
-use Rattle.pr_unit.specs.UnitStates.{UnitState, is_pending, is_any_pending, effect, after_report}
+use Rattle.pr_unit.specs.Attentions.{attentions}
 use Rattle.pr_unit.specs.Conflicts.{conflicts}
-use Rattle.pr_unit.specs.Faults.{command_fault, fault}
-use Rattle.pr_unit.specs.Replies.{good, check, conflict, report, data_of}
-use Rattle.pr_unit.specs.Steps.{StepBy, decision, last_decision}
+use Rattle.pr_unit.specs.Faults.{fault}
+use Rattle.pr_unit.specs.Replies.{conflict}
 use Rattle.pr_unit.specs.Laws.{EveryRequestHasAStep}
 
 record Found (p : ℕ → Bool) : Type 0 where

@@ -1,20 +1,12 @@
 -- What does not end GOOD, and what only looks, changes at most what is pending for the sender.
-use Rattle.std.proofs.Common.{◌≡◌, ◌≢◌, ℕ, Bool, true, false, ◌==◌, ◌&&◌, ◌||◌, not, IsTrue, ◌⊎◌, inl, inr, refl, sym, ap, ◌∙◌, subst, arith}
+use Rattle.pr_unit.proofs.Common.{◌≡◌, ℕ, Bool, true, false, not, ◌&&◌, ◌||◌, IsTrue, ◌==◌, sym, refl, ap, ◌∙◌, subst, arith, false≢true, and_parts, nat_tests, Command, Register, Reserve, Release, Clear, Preempt, Request, Plain, Faulty, power_on, reservations_preempted, reservations_released, registrations_preempted, Pairs, each_with, decision, StepBy, UnitState, effect, after_report, Decision, PowerOn, Attention, Done}
+use Rattle.std.proofs.Common.{◌≢◌, ◌⊎◌, inl, inr}
 use Rattle.std.specs.FinSet as set
-use Rattle.std.proofs.lemmas.Bool.{false≢true, and_parts}
-use Rattle.std.proofs.lemmas.Bool.Decides.{nat_tests}
-use Rattle.pr_cdb.specs.declared.command.Command.{Command}
-use Rattle.pr_cdb.specs.declared.command.Command.TheVariants.{Register, RegisterIgnore, Reserve, Release, Clear, Preempt, PreemptAbort}
-use Rattle.pr_cdb.specs.declared.wire.Request.{Request}
-use Rattle.pr_cdb.specs.declared.wire.Request.TheVariants.{Plain, Faulty}
+use Rattle.pr_cdb.specs.declared.command.Command.TheVariants.{RegisterIgnore, PreemptAbort}
 use Rattle.pr_registry.specs.Hosts.{nobody}
 use Rattle.pr_registry.specs.Changes.{no_change}
-use Rattle.pr_unit.specs.declared.decision.Decision.{Decision}
-use Rattle.pr_unit.specs.declared.decision.Decision.TheVariants.{PowerOn, Attention, Done}
-use Rattle.pr_unit.specs.Attentions.{Pairs, power_on, each_with, reservations_preempted, reservations_released, registrations_preempted}
-use Rattle.pr_unit.specs.UnitStates.{UnitState, effect, after_report, pending_after}
+use Rattle.pr_unit.specs.UnitStates.{pending_after}
 use Rattle.pr_unit.specs.Replies.{is_good}
-use Rattle.pr_unit.specs.Steps.{StepBy, decision}
 use Rattle.pr_unit.specs.Laws.{IsQuiet, request_looks, QuietSteps}
 use Rattle.pr_unit.proofs.lemmas.Attentions.Pairs.{same_pairs, contains-union-pairs, contains-each_with, contains-remove-pair}
 

@@ -1,16 +1,9 @@
 -- The unit by itself answers neither BUSY nor TASK SET FULL.
-use Rattle.std.proofs.Common.{◌≡◌, ℕ, Bool, true, false, if◌then◌else◌, refl}
-use Rattle.pr_cdb.specs.declared.reply.Reply.{Reply}
-use Rattle.pr_cdb.specs.declared.wire.Request.{Request}
-use Rattle.pr_cdb.specs.declared.wire.Request.TheVariants.{Faulty}
+use Rattle.pr_unit.proofs.Common.{◌≡◌, ℕ, Bool, true, false, if◌then◌else◌, refl, Reply, Request, Faulty, power_on, good, check, report, decision, StepBy, UnitState, Decision, PowerOn, Attention, Done}
 use Rattle.pr_cdb.specs.ReplyData.{sense_bytes}
 use Rattle.pr_cdb.specs.Statuses.{is_busy_status, is_full_status}
-use Rattle.pr_unit.specs.Attentions.{power_on, attention_sense}
-use Rattle.pr_unit.specs.UnitStates.{UnitState}
-use Rattle.pr_unit.specs.Replies.{good, check, report, is_request_sense}
-use Rattle.pr_unit.specs.declared.decision.Decision.{Decision}
-use Rattle.pr_unit.specs.declared.decision.Decision.TheVariants.{PowerOn, Attention, Done}
-use Rattle.pr_unit.specs.Steps.{StepBy, decision}
+use Rattle.pr_unit.specs.Attentions.{attention_sense}
+use Rattle.pr_unit.specs.Replies.{is_request_sense}
 use Rattle.pr_unit.specs.Laws.{StepsAreNeverBusy}
 
 abbrev IsOwn : Reply → Type 0

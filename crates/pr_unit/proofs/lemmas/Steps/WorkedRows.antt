@@ -1,22 +1,16 @@
 -- Worked examples of the unit's rules, over the definitions alone. The hosts are a, b and c, numbered 0, 1
 -- and 2, and their keys a1, b2 and c3.
-use Rattle.std.proofs.Common.{◌≡◌, ℕ, true, false, List, [], ◌∷◌, Option, Some, None, refl}
+use Rattle.pr_unit.proofs.Common.{◌≡◌, ℕ, true, false, List, [], ◌∷◌, Some, None, Option, refl, Command, Register, Reserve, Release, Clear, Preempt, Plain, power_on, reservations_preempted, reservations_released, registrations_preempted, command_fault, data_of, decision, UnitState, is_pending, effect, after_report, PowerOn, Conflicting, Attention, Done, AtFault}
 use Rattle.std.specs.FinSet as set
 use Rattle.pr_cdb.specs.declared.command.Kind.{Kind}
 use Rattle.pr_cdb.specs.declared.command.Kind.TheVariants.{WriteExclusive, ExclusiveAccess, WriteExclusiveRegistrantsOnly, ExclusiveAccessRegistrantsOnly, WriteExclusiveAllRegistrants}
-use Rattle.pr_cdb.specs.declared.command.Command.{Command}
-use Rattle.pr_cdb.specs.declared.command.Command.TheVariants.{TestUnitReady, RequestSense, Register, Reserve, Release, Clear, Preempt, Write, ReadReservation}
-use Rattle.pr_cdb.specs.declared.wire.Request.TheVariants.{Plain}
+use Rattle.pr_cdb.specs.declared.command.Command.TheVariants.{TestUnitReady, RequestSense, Write, ReadReservation}
 use Rattle.pr_cdb.specs.ReplyData.{reservation_bytes}
 use Rattle.pr_registry.specs.declared.held.Held.TheVariants.{One}
 use Rattle.pr_registry.specs.Registrations.{empty_registry, key_of}
 use Rattle.pr_registry.proofs.lemmas.Sets.{contains-nobody, contains-insert, contains-remove, contains-just, contains-difference, get-insert, get-empty, get-without, contains-hosts_in, contains-hosts_with}
-use Rattle.pr_unit.specs.Attentions.{power_on, reservations_preempted, reservations_released, registrations_preempted}
-use Rattle.pr_unit.specs.UnitStates.{UnitState, quiet_unit, effect, after_report, is_pending}
-use Rattle.pr_unit.specs.Faults.{command_fault, illegal}
-use Rattle.pr_unit.specs.Replies.{data_of}
-use Rattle.pr_unit.specs.declared.decision.Decision.TheVariants.{PowerOn, Conflicting, Attention, AtFault, Done}
-use Rattle.pr_unit.specs.Steps.{decision}
+use Rattle.pr_unit.specs.UnitStates.{quiet_unit}
+use Rattle.pr_unit.specs.Faults.{illegal}
 use Rattle.pr_unit.proofs.lemmas.Attentions.Pairs.{contains-none, contains-union-pairs, contains-insert-pair, contains-remove-pair, contains-each_with}
 
 ruleset reads = (contains-nobody, contains-insert, contains-remove, contains-just, contains-difference, get-insert, get-empty, get-without, contains-hosts_in, contains-hosts_with, contains-none, contains-union-pairs, contains-insert-pair, contains-remove-pair, contains-each_with)

@@ -1,16 +1,9 @@
 -- Whether a request ends GOOD is fixed by the state, the host and the request.
-use Rattle.std.proofs.Common.{◌≡◌, ℕ, Bool, true, false, if◌then◌else◌, refl, sym, ap, ◌∙◌}
-use Rattle.pr_cdb.specs.declared.reply.Reply.{Reply}
-use Rattle.pr_cdb.specs.declared.wire.Request.{Request}
-use Rattle.pr_cdb.specs.declared.wire.Request.TheVariants.{Plain, Faulty}
+use Rattle.pr_unit.proofs.Common.{◌≡◌, ℕ, Bool, true, false, if◌then◌else◌, sym, refl, ap, ◌∙◌, Reply, Request, Plain, Faulty, power_on, good, check, report, decision, StepBy, Step, ends_good, UnitState, Decision, PowerOn, Attention, Done}
 use Rattle.pr_cdb.specs.ReplyData.{sense_bytes}
-use Rattle.pr_unit.specs.Attentions.{power_on, attention_sense}
-use Rattle.pr_unit.specs.UnitStates.{UnitState}
-use Rattle.pr_unit.specs.Replies.{is_good, good, check, report, is_request_sense}
-use Rattle.pr_unit.specs.declared.decision.Decision.{Decision}
-use Rattle.pr_unit.specs.declared.decision.Decision.TheVariants.{PowerOn, Attention, Done}
-use Rattle.pr_unit.specs.Steps.{StepBy, IsDone, Step, decision}
-use Rattle.pr_unit.specs.TakenSteps.{ends_good}
+use Rattle.pr_unit.specs.Attentions.{attention_sense}
+use Rattle.pr_unit.specs.Replies.{is_good, is_request_sense}
+use Rattle.pr_unit.specs.Steps.{IsDone}
 use Rattle.pr_unit.specs.Laws.{GoodIsFixed}
 
 -- every report of an attention ends alike

@@ -1,19 +1,7 @@
 -- The steps that end GOOD: such a step of a command other than REQUEST SENSE has the command's effect, and
 -- where nothing is in its way there is one.
-use Rattle.std.proofs.Common.{◌≡◌, ℕ, Bool, true, false, ◌||◌, if◌then◌else◌, None, Option, refl, sym, ◌∙◌, subst}
-use Rattle.std.proofs.lemmas.Bool.{false≢true}
-use Rattle.pr_cdb.specs.declared.command.Command.{Command}
-use Rattle.pr_cdb.specs.declared.reply.Sense.{Sense}
-use Rattle.pr_cdb.specs.declared.wire.Request.TheVariants.{Plain}
-use Rattle.pr_unit.specs.declared.decision.Decision.{Decision}
-use Rattle.pr_unit.specs.declared.decision.Decision.TheVariants.{PowerOn, Conflicting, Attention, AtFault, Done}
-use Rattle.pr_unit.specs.Attentions.{power_on}
-use Rattle.pr_unit.specs.UnitStates.{UnitState, is_pending, is_any_pending, effect}
+use Rattle.pr_unit.proofs.Common.{◌≡◌, ℕ, Bool, true, false, ◌||◌, if◌then◌else◌, None, Option, sym, refl, ◌∙◌, subst, false≢true, Command, Sense, Plain, power_on, command_fault, good, data_of, last_decision, decision, StepBy, ends_good, UnitState, is_pending, is_any_pending, effect, Decision, PowerOn, Conflicting, Attention, Done, AtFault}
 use Rattle.pr_unit.specs.Conflicts.{command_conflicts}
-use Rattle.pr_unit.specs.Faults.{command_fault}
-use Rattle.pr_unit.specs.Replies.{good, data_of}
-use Rattle.pr_unit.specs.Steps.{StepBy, decision, last_decision}
-use Rattle.pr_unit.specs.TakenSteps.{ends_good}
 use Rattle.pr_unit.specs.Laws.{TakesEffect, GoodStepsTakeEffect, FreeCommandsEndGood}
 use Rattle.pr_unit.proofs.lemmas.TakenSteps.Determinism.{good_by_decision}
 use Rattle.pr_unit.proofs.lemmas.Steps.WellFormedSteps.{done_is_free}

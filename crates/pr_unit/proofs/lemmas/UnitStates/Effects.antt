@@ -1,12 +1,9 @@
 -- A command without conflict and fault leaves a well formed state well formed.
-use Rattle.std.proofs.Common.{◌≡◌, ℕ, ◌<◌, ◌^◌, Bool, true, false, ◌==◌, ◌&&◌, ◌||◌, not, IsTrue, if◌then◌else◌, Option, Some, None, is_some, is_none, refl, sym, ◌∙◌, subst, arith}
+use Rattle.pr_unit.proofs.Common.{◌≡◌, ℕ, ◌<◌, Bool, true, false, not, ◌&&◌, ◌||◌, if◌then◌else◌, IsTrue, ◌==◌, Some, None, Option, sym, refl, ◌∙◌, subst, arith, false≢true, nat_tests, MOST_NEXUSES, Command, Register, Reserve, Release, Clear, Preempt, reservations_preempted, reservations_released, registrations_preempted, Pairs, each_with, command_fault, UnitState, IsWellFormed}
+use Rattle.std.proofs.Common.{◌^◌, is_some, is_none}
 use Rattle.std.specs.FinSet as set
-use Rattle.std.proofs.lemmas.Bool.{false≢true}
-use Rattle.std.proofs.lemmas.Bool.Decides.{nat_tests}
-use Rattle.pr_cdb.specs.declared.codes.TheConstants.{MOST_NEXUSES}
 use Rattle.pr_cdb.specs.declared.command.Kind.{Kind}
-use Rattle.pr_cdb.specs.declared.command.Command.{Command}
-use Rattle.pr_cdb.specs.declared.command.Command.TheVariants.{Register, RegisterIgnore, Reserve, Release, Clear, Preempt, PreemptAbort}
+use Rattle.pr_cdb.specs.declared.command.Command.TheVariants.{RegisterIgnore, PreemptAbort}
 use Rattle.pr_cdb.specs.Ranges.{Fits}
 use Rattle.pr_registry.specs.declared.change.Change.{Change}
 use Rattle.pr_registry.specs.Hosts.{Hosts, is_key, has_no_registrant}
@@ -15,10 +12,10 @@ use Rattle.pr_registry.specs.Changes.{Case, RemovesKey, conflicts_with_reserve, 
 use Rattle.pr_registry.specs.Effects.{after, after_register, change, with_registration, without_registration}
 use Rattle.pr_registry.proofs.lemmas.States.{well_formed-registered, well_formed-unregistered, well_formed-reserved, well_formed-released, well_formed-cleared, well_formed-preempted}
 use Rattle.pr_registry.proofs.lemmas.ToldRegistrants.{AreRegistered, tells_registrants}
-use Rattle.pr_unit.specs.Attentions.{Pairs, is_attention, each_with, reservations_preempted, reservations_released, registrations_preempted}
-use Rattle.pr_unit.specs.UnitStates.{UnitState, IsWellFormed, pending_after}
+use Rattle.pr_unit.specs.Attentions.{is_attention}
+use Rattle.pr_unit.specs.UnitStates.{pending_after}
 use Rattle.pr_unit.specs.Conflicts.{lacks_key, command_conflicts}
-use Rattle.pr_unit.specs.Faults.{illegal, preempt_fault, command_fault}
+use Rattle.pr_unit.specs.Faults.{illegal, preempt_fault}
 use Rattle.pr_unit.specs.Laws.{EffectsAreWellFormed}
 use Rattle.pr_unit.specs.inside.Told.{AreBelow, TellsBelow}
 use Rattle.pr_unit.proofs.lemmas.Attentions.Pairs.{contains-union-pairs, contains-each_with}

@@ -1,10 +1,8 @@
-use Rattle.std.proofs.Common.{◌<◌, ◌≡◌, ℕ, ap, sym, ◌∙◌, length, get_or, arith}
+use Rattle.pr_unit.proofs.Common.{◌≡◌, ℕ, ◌<◌, length, sym, ap, ◌∙◌, arith, MOST_NEXUSES, code_of, contains-no_code, table_pairs}
+use Rattle.std.proofs.Common.{get_or}
 use Rattle.std.specs.FinSet as set
 use Rattle.std.proofs.lemmas.Option.{IfSome_then}
-use Rattle.pr_cdb.specs.declared.codes.TheConstants.{MOST_NEXUSES}
-use Rattle.pr_attention.specs.Attentions.{code_of}
-use Rattle.pr_attention.proofs.lemmas.Sets.{same_codes, contains-no_code}
-use Rattle.pr_unit.specs.Attentions.{table_pairs}
+use Rattle.pr_attention.proofs.lemmas.Sets.{same_codes}
 use Rattle.pr_unit.proofs.lemmas.Attentions.Pairs.{place_read, contains-table_pairs_in}
 use Rattle.pr_unit.proofs.pending_table.lowest.Goals as goal
 

@@ -1,8 +1,5 @@
-use Rattle.std.proofs.Common.{◌<◌, ap, ◌∙◌, length, arith}
+use Rattle.pr_unit.proofs.Common.{◌<◌, length, ap, ◌∙◌, arith, MOST_NEXUSES, code_of, table_pairs}
 use Rattle.std.specs.FinSet as set
-use Rattle.pr_cdb.specs.declared.codes.TheConstants.{MOST_NEXUSES}
-use Rattle.pr_attention.specs.Attentions.{code_of}
-use Rattle.pr_unit.specs.Attentions.{table_pairs}
 use Rattle.pr_unit.proofs.lemmas.Attentions.Pairs.{place_read, table_pairs-remove}
 use Rattle.pr_unit.proofs.pending_table.remove.Goals as goal
 

@@ -1,7 +1,4 @@
-use Rattle.std.proofs.Common.{ap, subst, ◌∙◌, sym, ◌≡◌, ◌+◌, arith}
-use Rattle.pr_cdb.specs.declared.codes.TheConstants.{MOST_NEXUSES}
-use Rattle.pr_attention.specs.Attentions.{code_of}
-use Rattle.pr_unit.specs.Attentions.{Pairs, table_pairs}
+use Rattle.pr_unit.proofs.Common.{◌≡◌, ◌+◌, sym, ap, ◌∙◌, subst, arith, MOST_NEXUSES, code_of, Pairs, table_pairs}
 use Rattle.pr_unit.proofs.lemmas.Attentions.Pairs.{IsToldBelow, told_none, told_more, told_skips, told_all}
 use Rattle.pr_unit.proofs.pending_table.tell.Goals as goal
 use Rattle.pr_unit.proofs.pending_table.tell.Goals.{then-has, else-has}

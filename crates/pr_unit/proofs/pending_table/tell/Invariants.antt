@@ -1,5 +1,4 @@
-use Rattle.pr_attention.specs.Attentions.{code_of}
-use Rattle.pr_unit.specs.Attentions.{table_pairs}
+use Rattle.pr_unit.proofs.Common.{code_of, table_pairs}
 use Rattle.pr_unit.proofs.lemmas.Attentions.Pairs.{IsToldBelow}
 use Rattle.pr_unit.proofs.pending_table.tell.Given as goal
 

@@ -1,7 +1,5 @@
-use Rattle.std.proofs.Common.{ap, ◌∙◌}
+use Rattle.pr_unit.proofs.Common.{ap, ◌∙◌, code_of, Pairs, table_pairs}
 use Rattle.std.specs.FinSet as set
-use Rattle.pr_attention.specs.Attentions.{code_of}
-use Rattle.pr_unit.specs.Attentions.{Pairs, table_pairs}
 use Rattle.pr_unit.proofs.lemmas.Attentions.Resets.{told_nobody, told_one}
 use Rattle.pr_unit.proofs.pending_table.tell_all.Goals as goal
 

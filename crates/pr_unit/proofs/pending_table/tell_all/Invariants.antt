@@ -1,7 +1,5 @@
-use Rattle.std.proofs.Common.{◌≡◌}
+use Rattle.pr_unit.proofs.Common.{◌≡◌, code_of, no_code, table_pairs, pairs_where}
 use Rattle.std.specs.FinSet as set
-use Rattle.pr_attention.specs.Attentions.{code_of, no_code}
-use Rattle.pr_unit.specs.Attentions.{table_pairs, pairs_where}
 use Rattle.pr_unit.proofs.pending_table.tell_all.Given as goal
 
 abbrev pub invariant-loop-host : goal.invariant-loop-host

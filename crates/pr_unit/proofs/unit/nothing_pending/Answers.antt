@@ -1,10 +1,7 @@
-use Rattle.std.proofs.Common.{◌≡◌, ℕ, zero, suc, ◌&&◌, nat_lt, Bool, true, false, List, [], ◌∷◌, refl, sym, ap, ◌∙◌, rules, arith}
+use Rattle.pr_unit.proofs.Common.{◌≡◌, ℕ, zero, suc, Bool, true, false, ◌&&◌, List, [], ◌∷◌, nat_lt, sym, refl, ap, ◌∙◌, arith, MOST_NEXUSES, Codes, no_code, contains-no_code, place, table_pairs}
+use Rattle.std.proofs.Common.{rules}
 use Rattle.std.specs.FinSet as set
 use Rattle.std.specs.List.{All}
-use Rattle.pr_cdb.specs.declared.codes.TheConstants.{MOST_NEXUSES}
-use Rattle.pr_attention.specs.Attentions.{Codes, no_code}
-use Rattle.pr_attention.proofs.lemmas.Sets.{contains-no_code}
-use Rattle.pr_unit.specs.Attentions.{place, table_pairs}
 use Rattle.pr_unit.proofs.lemmas.Attentions.Pairs.{same_pairs, contains-none, contains-table_pairs}
 use Rattle.pr_unit.proofs.unit.nothing_pending.Goals as goal
 

@@ -1,5 +1,4 @@
-use Rattle.std.proofs.Common.{sym, subst}
-use Rattle.pr_attention.specs.Attentions.{AreAttentions}
+use Rattle.pr_unit.proofs.Common.{sym, subst, AreAttentions}
 use Rattle.pr_attention.proofs.lemmas.Sets.{AreAttentions-no_code}
 use Rattle.pr_unit.proofs.unit.place_of.Goals as goal
 

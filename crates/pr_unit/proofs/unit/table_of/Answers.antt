@@ -1,11 +1,6 @@
-use Rattle.std.proofs.Common.{◌≡◌, ◌<◌, ◌+◌, ℕ, zero, suc, ◌==◌, ◌&&◌, nat_lt, Bool, true, false, if◌then◌else◌, List, [], ◌∷◌, length, length-set, slice_set, refl, sym, ap, ◌∙◌, subst, rules, arith}
+use Rattle.pr_unit.proofs.Common.{◌≡◌, ℕ, zero, suc, ◌+◌, ◌<◌, Bool, true, false, ◌&&◌, List, [], ◌∷◌, length, if◌then◌else◌, nat_lt, ◌==◌, sym, refl, ap, ◌∙◌, subst, arith, false≢true, and_parts, nat_tests, MOST_NEXUSES, Codes, AreAttentions, contains-no_code, place, table_pairs}
+use Rattle.std.proofs.Common.{length-set, slice_set, rules}
 use Rattle.std.specs.FinSet as set
-use Rattle.std.proofs.lemmas.Bool.{and_parts, false≢true}
-use Rattle.std.proofs.lemmas.Bool.Decides.{nat_tests}
-use Rattle.pr_cdb.specs.declared.codes.TheConstants.{MOST_NEXUSES}
-use Rattle.pr_attention.specs.Attentions.{Codes, AreAttentions}
-use Rattle.pr_attention.proofs.lemmas.Sets.{contains-no_code}
-use Rattle.pr_unit.specs.Attentions.{place, table_pairs}
 use Rattle.pr_unit.proofs.lemmas.Attentions.Pairs.{same_pairs, same_number, contains-table_pairs, place-set}
 use Rattle.pr_unit.proofs.unit.table_of.Goals as goal
 

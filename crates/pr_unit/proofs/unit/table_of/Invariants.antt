@@ -1,8 +1,5 @@
 -- each host before this one has what is pending for it, and no code but the four
-use Rattle.std.proofs.Common.{◌≡◌, ◌<◌, ℕ, List, length}
-use Rattle.pr_cdb.specs.declared.codes.TheConstants.{MOST_NEXUSES}
-use Rattle.pr_attention.specs.Attentions.{Codes, AreAttentions}
-use Rattle.pr_unit.specs.Attentions.{place}
+use Rattle.pr_unit.proofs.Common.{◌≡◌, ℕ, ◌<◌, List, length, MOST_NEXUSES, Codes, AreAttentions, place}
 use Rattle.pr_unit.proofs.unit.table_of.Given as goal
 
 pub record AreFilled (table pendings : List Codes) (host : ℕ) : Type 0 where

@@ -1,4 +1,4 @@
-use Rattle.std.proofs.Common.{◌<◌, ◌∙◌, arith}
+use Rattle.pr_registry.proofs.Common.{◌<◌, ◌∙◌, arith}
 use Rattle.std.specs.FinSet as set
 use Rattle.pr_registry.proofs.lemmas.Bits.{of_bits-difference}
 use Rattle.pr_registry.proofs.host_set.HostSet.difference.Goals as goal

@@ -1,6 +1,6 @@
-use Rattle.std.proofs.Common.{sym, ap, ◌∙◌, nat_lt, ◌≡◌, false, w16, arith}
+use Rattle.pr_registry.proofs.Common.{◌≡◌, false, nat_lt, sym, ap, ◌∙◌, arith, nat_tests}
+use Rattle.std.proofs.Common.{w16}
 use Rattle.std.specs.FinSet as set
-use Rattle.std.proofs.lemmas.Bool.Decides.{nat_tests}
 use Rattle.pr_sets.proofs.lemmas.BitPlaces.{placed-tested, contains-placed_above}
 use Rattle.pr_registry.proofs.lemmas.Bits.{of_bits-placed}
 use Rattle.pr_registry.proofs.host_set.HostSet.has.Goals as goal

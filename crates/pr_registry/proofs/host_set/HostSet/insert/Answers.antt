@@ -1,4 +1,4 @@
-use Rattle.std.proofs.Common.{ap, ◌∙◌}
+use Rattle.pr_registry.proofs.Common.{ap, ◌∙◌}
 use Rattle.std.specs.FinSet as set
 use Rattle.pr_registry.proofs.lemmas.Bits.{of_bits-insert}
 use Rattle.pr_registry.proofs.host_set.HostSet.insert.Goals as goal

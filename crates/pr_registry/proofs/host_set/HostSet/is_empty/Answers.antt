@@ -1,5 +1,4 @@
-use Rattle.std.proofs.Common.{◌≡◌, sym, ap, ◌∙◌, ◌<◌, arith}
-use Rattle.std.proofs.lemmas.Bool.Decides.{nat_tests}
+use Rattle.pr_registry.proofs.Common.{◌≡◌, ◌<◌, sym, ap, ◌∙◌, arith, nat_tests}
 use Rattle.pr_registry.proofs.lemmas.Bits.{of_bits, of_bits-zero, zero_of_nobody}
 use Rattle.pr_registry.proofs.host_set.HostSet.is_empty.Goals as goal
 

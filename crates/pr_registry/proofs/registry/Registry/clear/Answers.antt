@@ -1,6 +1,4 @@
-use Rattle.std.proofs.Common.{sym, ap, subst, ◌∙◌}
-use Rattle.pr_registry.specs.Registrations.{IsWellFormed}
-use Rattle.pr_registry.specs.inside.TableStates.{state_of}
+use Rattle.pr_registry.proofs.Common.{sym, ap, ◌∙◌, subst, IsWellFormed, state_of}
 use Rattle.pr_registry.specs.Effects.{after_clear}
 use Rattle.pr_registry.proofs.lemmas.States.{state_of-cleared, well_formed-cleared}
 use Rattle.pr_registry.proofs.registry.Registry.clear.Goals as goal

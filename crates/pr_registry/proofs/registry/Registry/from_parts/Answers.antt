@@ -1,7 +1,5 @@
-use Rattle.std.proofs.Common.{◌≤◌, length, sym, subst, ◌∙◌, refl, arith}
-use Rattle.std.proofs.lemmas.Bool.{false≢true}
-use Rattle.std.proofs.lemmas.Bool.Decides.{nat_tests}
-use Rattle.pr_registry.specs.Registrations.{HasHolder, IsWellFormed, state_from}
+use Rattle.pr_registry.proofs.Common.{◌≤◌, length, sym, refl, ◌∙◌, subst, arith, false≢true, nat_tests, IsWellFormed}
+use Rattle.pr_registry.specs.Registrations.{HasHolder, state_from}
 use Rattle.pr_registry.proofs.lemmas.States.{are_keys-from, well_formed-from}
 use Rattle.pr_registry.proofs.registry.Registry.from_parts.Goals as goal
 

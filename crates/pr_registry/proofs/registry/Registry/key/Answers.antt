@@ -1,6 +1,5 @@
-use Rattle.std.proofs.Common.{◌<◌, ap, sym, ◌∙◌, arith}
-use Rattle.pr_cdb.specs.declared.codes.TheConstants.{MOST_NEXUSES}
-use Rattle.pr_registry.specs.Registrations.{State, key_of}
+use Rattle.pr_registry.proofs.Common.{◌<◌, sym, ap, ◌∙◌, arith, MOST_NEXUSES, State}
+use Rattle.pr_registry.specs.Registrations.{key_of}
 use Rattle.pr_registry.proofs.lemmas.Tables.{slot, get-table_keys_in}
 use Rattle.pr_registry.proofs.registry.Registry.key.Goals as goal
 

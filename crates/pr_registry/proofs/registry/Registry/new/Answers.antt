@@ -1,7 +1,5 @@
-use Rattle.std.proofs.Common.{◌≡◌, ℕ, None, sym, subst}
-use Rattle.pr_cdb.specs.declared.codes.TheConstants.{MOST_NEXUSES}
-use Rattle.pr_registry.specs.Registrations.{IsWellFormed, empty_registry}
-use Rattle.pr_registry.specs.inside.TableStates.{state_of}
+use Rattle.pr_registry.proofs.Common.{◌≡◌, ℕ, None, sym, subst, MOST_NEXUSES, IsWellFormed, state_of}
+use Rattle.pr_registry.specs.Registrations.{empty_registry}
 use Rattle.pr_registry.proofs.lemmas.States.{well_formed-fresh, nones, table_keys-none}
 use Rattle.pr_registry.proofs.registry.Registry.new.Goals as goal
 

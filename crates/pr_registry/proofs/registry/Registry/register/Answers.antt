@@ -1,6 +1,5 @@
-use Rattle.std.proofs.Common.{◌<◌, sym, ap, subst, ◌∙◌, arith}
-use Rattle.pr_registry.specs.Registrations.{State, IsKey, IsWellFormed}
-use Rattle.pr_registry.specs.inside.TableStates.{state_of}
+use Rattle.pr_registry.proofs.Common.{◌<◌, sym, ap, ◌∙◌, subst, arith, State, IsWellFormed, state_of}
+use Rattle.pr_registry.specs.Registrations.{IsKey}
 use Rattle.pr_registry.specs.Effects.{with_registration}
 use Rattle.pr_registry.proofs.lemmas.States.{state_of-registered, well_formed-registered}
 use Rattle.pr_registry.proofs.registry.Registry.register.Goals as goal

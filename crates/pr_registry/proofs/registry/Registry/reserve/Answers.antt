@@ -1,6 +1,4 @@
-use Rattle.std.proofs.Common.{IsTrue, sym, subst, ◌∙◌, ap, not}
-use Rattle.pr_registry.specs.Registrations.{IsWellFormed, is_registered}
-use Rattle.pr_registry.specs.inside.TableStates.{state_of}
+use Rattle.pr_registry.proofs.Common.{not, IsTrue, sym, ap, ◌∙◌, subst, is_registered, IsWellFormed, state_of}
 use Rattle.pr_registry.proofs.lemmas.States.{state_of-reserved, well_formed-reserved}
 use Rattle.pr_registry.proofs.registry.Registry.reserve.Goals as goal
 

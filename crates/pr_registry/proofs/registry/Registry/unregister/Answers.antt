@@ -1,6 +1,4 @@
-use Rattle.std.proofs.Common.{sym, ap, subst, ◌∙◌}
-use Rattle.pr_registry.specs.Registrations.{IsWellFormed}
-use Rattle.pr_registry.specs.inside.TableStates.{state_of}
+use Rattle.pr_registry.proofs.Common.{sym, ap, ◌∙◌, subst, IsWellFormed, state_of}
 use Rattle.pr_registry.specs.Effects.{without_registration}
 use Rattle.pr_registry.proofs.lemmas.States.{state_of-unregistered, well_formed-unregistered}
 use Rattle.pr_registry.proofs.registry.Registry.unregister.Goals as goal

@@ -1,6 +1,5 @@
 -- There is a first start, and so the scenario can start.
-use Rattle.std.proofs.Common.{refl, ap, ◌∙◌}
-use Rattle.std.specs.Prelude.{not}
+use Rattle.pr_roles.proofs.Common.{not, refl, ap, ◌∙◌}
 use Rattle.pr_roles.proofs.scenario.Scenario.make.Goals as goal
 
 pub invariant_of-result : goal.invariant_of-result

@@ -1,7 +1,6 @@
-use Rattle.std.proofs.Common.{◌<◌, sym, subst}
+use Rattle.pr_unit.proofs.Common.{◌<◌, sym, subst, UnitState, unit_of}
 use Rattle.std.specs.Prelude.{Ok}
 use Rattle.pr_cdb.specs.Ranges.{FitsWhereRead}
-use Rattle.pr_unit.specs.UnitStates.{UnitState, unit_of}
 use Rattle.pr_unit.proofs.lemmas.Steps.WellFormedSteps.{well_formed-step}
 use Rattle.pr_unit.proofs.unit.Unit.execute.Goals as goal
 

@@ -1,5 +1,4 @@
-use Rattle.std.proofs.Common.{◌<◌, sym, subst}
-use Rattle.pr_unit.specs.UnitStates.{UnitState, unit_of}
+use Rattle.pr_unit.proofs.Common.{◌<◌, sym, subst, UnitState, unit_of}
 use Rattle.pr_unit.proofs.lemmas.Steps.WellFormedSteps.{well_formed-followed}
 use Rattle.pr_unit.proofs.unit.Unit.follow.Goals as goal
 

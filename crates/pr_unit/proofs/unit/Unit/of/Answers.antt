@@ -1,6 +1,5 @@
-use Rattle.std.proofs.Common.{sym, ap, ◌∙◌}
+use Rattle.pr_unit.proofs.Common.{sym, ap, ◌∙◌, false≢true}
 use Rattle.std.specs.FinSet as set
-use Rattle.std.proofs.lemmas.Bool.{false≢true}
 use Rattle.pr_unit.proofs.lemmas.Attentions.Pairs.{contains-none}
 use Rattle.pr_unit.proofs.unit.Unit.of.Goals as goal
 

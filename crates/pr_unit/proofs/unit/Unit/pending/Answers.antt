@@ -1,8 +1,5 @@
-use Rattle.std.proofs.Common.{◌<◌, ap, sym, ◌∙◌, length, subst, arith}
+use Rattle.pr_unit.proofs.Common.{◌<◌, length, sym, ap, ◌∙◌, subst, arith, MOST_NEXUSES, table_pairs, UnitState, unit_of, is_pending}
 use Rattle.std.specs.FinSet as set
-use Rattle.pr_cdb.specs.declared.codes.TheConstants.{MOST_NEXUSES}
-use Rattle.pr_unit.specs.Attentions.{table_pairs}
-use Rattle.pr_unit.specs.UnitStates.{UnitState, unit_of, is_pending}
 use Rattle.pr_unit.proofs.lemmas.Attentions.Pairs.{place_read, contains-table_pairs_in}
 use Rattle.pr_unit.proofs.unit.Unit.pending.Goals as goal
 

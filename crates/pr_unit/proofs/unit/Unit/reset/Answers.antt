@@ -1,8 +1,5 @@
-use Rattle.std.proofs.Common.{sym, ap, ◌∙◌, subst}
+use Rattle.pr_unit.proofs.Common.{sym, ap, ◌∙◌, subst, no_code, power_on, Pairs, table_pairs, pairs_where, unit_of, IsWellFormed}
 use Rattle.std.specs.FinSet as set
-use Rattle.pr_attention.specs.Attentions.{no_code}
-use Rattle.pr_unit.specs.Attentions.{Pairs, table_pairs, pairs_where, power_on}
-use Rattle.pr_unit.specs.UnitStates.{IsWellFormed, unit_of}
 use Rattle.pr_unit.proofs.lemmas.Attentions.Resets.{well_formed-reset}
 use Rattle.pr_unit.proofs.unit.Unit.reset.Goals as goal
 

@@ -1,8 +1,4 @@
-use Rattle.std.proofs.Common.{sym, ap, ◌∙◌, subst}
-use Rattle.pr_cdb.specs.declared.wire.Request.TheVariants.{Plain}
-use Rattle.pr_unit.specs.UnitStates.{UnitState, unit_of}
-use Rattle.pr_unit.specs.Steps.{Step}
-use Rattle.pr_unit.specs.TakenSteps.{ends_good}
+use Rattle.pr_unit.proofs.Common.{sym, ap, ◌∙◌, subst, Plain, Step, ends_good, UnitState, unit_of}
 use Rattle.pr_unit.proofs.lemmas.TakenSteps.Determinism.{good_by_decision}
 use Rattle.pr_unit.proofs.unit.Unit.would_end_good.Goals as goal
 
