@@ -8,14 +8,14 @@ use Rattle.pr_roles.specs.declared.entry.Entry.{Entry}
 use Rattle.pr_roles.specs.declared.item.Item.{Item}
 use Rattle.pr_roles.specs.Scenarios.{Scenario, scenario_of}
 use Rattle.pr_roles.specs.Safety.{IsLegal}
-use Rattle.pr_roles.specs.Schedules.{Schedule, plan}
+use Rattle.pr_roles.specs.Schedules.{Schedule}
 use Rattle.pr_roles.specs.FirstStarts.{first_state}
-use Rattle.pr_roles.specs.Worlds.{control}
 use Rattle.pr_world.specs.Courses.{IsReached}
-use Rattle.pr_world.specs.Ends.{Ending, stops, waits, traps, leaves, ending, ending_of}
+use Rattle.pr_world.specs.Ends.{Ending, stops, waits, traps, leaves, ending_in, endings_of}
 use Rattle.pr_world.specs.Progress.{Progress}
+use Rattle.pr_shared.specs.declared.outcome.Differs.{Differs}
 use Rattle.pr_shared.specs.declared.outcome.Outcome.{Outcome}
-use Rattle.pr_shared.specs.Histories.{entries_by, entries_of}
+use Rattle.pr_shared.specs.Histories.{entries_by, entries_of, lists_of}
 
 -- a script is stopped, or nothing is left of a plan
 abbrev pub is_over : Option Ending → Bool
@@ -27,7 +27,7 @@ is_over (Some (leaves planned)) = planned == 0
 
 -- how each nexus of the scenario stands, by its number
 abbrev pub endings_in : Scenario → Schedule → List (Option Ending)
-endings_in s y = map (λ h. ending (control y.world h) (plan y h)) (range_with_len 0 (length s.nexuses))
+endings_in s y = map (ending_in y) (range_with_len 0 (length s.nexuses))
 
 -- every script is stopped, and every plan is done
 abbrev pub AreOver : Scenario → Schedule → Type 0
@@ -40,7 +40,7 @@ pub record IsOutcome (s : Scenario) (o : Outcome) : Type 0 where
   pub reached : IsReached s steps last
   pub history : o.history.items ≡ last.world.history
   pub unit : o.unit ≡ last.world.unit
-  pub ends : map (λ e. Some (ending_of e)) o.ends.items ≡ endings_in s last
+  pub ends : endings_of o.ends.items ≡ endings_in s last
   pub over : AreOver s last
 
 -- The world is one of this scenario, each of these lists is what its nexus sent, and all are over.
@@ -48,6 +48,10 @@ pub record IsClosed (s : Scenario) (mine : List (List Entry)) (w : Progress) : T
   pub scenario : scenario_of w.scenario ≡ s
   pub own : entries_by (length mine) w.schedule.world.history ≡ mine
   pub over : AreOver (scenario_of w.scenario) w.schedule
+
+-- the world that is handed out is not closed with the lists beside it
+abbrev pub DiffersFrom : Scenario → Differs → Type 0
+DiffersFrom s d = ¬ IsClosed s (lists_of d.mine.items) d.world
 
 -- A history that is legal from the first start, to which only those before this one have sent.
 pub record IsHalted (s : Scenario) (host : ℕ) (history : List Item) : Type 0 where

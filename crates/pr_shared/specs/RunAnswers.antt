@@ -1,7 +1,8 @@
 -- Agrees with docs/FORMATS.md, 'Running'.
 -- What a run answers that came to no outcome.
-use Rattle.std.specs.Prelude.{ℕ, List}
+use Rattle.std.specs.Prelude.{ℕ, ◌<◌, List, length}
 use Rattle.pr_roles.specs.declared.item.Item.{Item}
+use Rattle.pr_roles.specs.Scenarios.{Scenario}
 use Rattle.pr_shared.specs.declared.run_error.RunError.{RunError}
 use Rattle.pr_shared.specs.declared.run_error.RunError.TheVariants as error
 
@@ -10,3 +11,7 @@ abbrev pub IfSpawn : (ℕ → List Item → Type 0) → RunError → Type 0
 IfSpawn P error.Memory = Unit {0}
 IfSpawn P (error.Spawn host history) = P host history.items
 IfSpawn P error.Differs = Unit {0}
+
+-- it is one of the scenario's, whatever the history
+abbrev pub IsNexusOf : Scenario → ℕ → List Item → Type 0
+IsNexusOf s host history = host < length s.nexuses

@@ -1,9 +1,14 @@
 -- Agrees with docs/FORMATS.md, 'Running'.
--- What a turn does to its seat.
-use Rattle.std.specs.Prelude.{Bool, true, false, List, [], ◌∷◌}
+-- When a seat may take a turn, and what the turn does to it.
+use Rattle.std.specs.Prelude.{◌≡◌, ◌<◌, Bool, true, false, List, [], ◌∷◌, vec_len, vec_capacity}
+use Rattle.std.specs.Global.{Vec}
 use Rattle.pr_roles.specs.declared.entry.Entry.{Entry}
 use Rattle.pr_world.specs.declared.turn.Turn.{Turn}
 use Rattle.pr_world.specs.declared.turn.Turn.TheVariants as turn
+
+-- a seat that has not ended, and has room for an entry more in its list
+abbrev pub MayTurn : Bool → Vec Entry → Type 0
+MayTurn ended mine = (ended ≡ false) × (vec_len mine < vec_capacity mine)
 
 -- the entry that was sent, if one was
 abbrev pub added_by : Turn → List Entry

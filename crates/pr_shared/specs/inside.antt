@@ -1,2 +1,4 @@
-pub mod Starting
+pub mod Seating
 pub mod Senders
+pub mod Starting
+pub mod WorldEnds

@@ -1,12 +1,14 @@
 //! Whether a world is closed: what it has is compared with what the seats have.
 
-ghost use Rattle.std.specs.Prelude.{◌≡◌, ◌↔◌, ◌<◌, ◌≤◌, Some, IsTrue, length, map, vec_len, vec_capacity};
+ghost use Rattle.std.specs.Prelude.{◌≡◌, ◌↔◌, Some, IsTrue, length};
 ghost use Rattle.std.specs.List.{list_all};
 ghost use Rattle.pr_roles.specs.Scenarios.{scenario_of};
 ghost use Rattle.pr_world.specs.Ends.{ending_of};
-ghost use Rattle.pr_shared.specs.Histories.{entries_of, entries_by};
+ghost use Rattle.pr_shared.specs.Histories.{entries_of, entries_by, lists_of};
+ghost use Rattle.pr_shared.specs.Outcomes.{AreOver, IsClosed, IsOutcome, is_over};
+ghost use Rattle.pr_shared.specs.inside.Seating.{HasRoomFor};
 ghost use Rattle.pr_shared.specs.inside.Senders.{is_sent_before};
-ghost use Rattle.pr_shared.specs.Outcomes.{AreOver, IsClosed, IsOutcome, endings_in, is_over};
+ghost use Rattle.pr_shared.specs.inside.WorldEnds.{AreEndsOf};
 
 use crate::outcome::Outcome;
 use pr_roles::{Entry, Item, Scenario};
@@ -19,10 +21,8 @@ pub(crate) fn is_closed(
     lists: &[Vec<Entry>],
     ends: &[End],
 ) -> bool
-    requires { map (λ e. Some (ending_of e)) ends.now
-        ≡ endings_in (scenario_of world.now.scenario) world.now.schedule }
-    ensures { IsTrue result ↔ IsClosed (scenario_of scenario.now) (map (λ l. l.items) lists.now)
-        world.now }
+    requires { AreEndsOf world.now ends.now }
+    ensures { IsTrue result ↔ IsClosed (scenario_of scenario.now) (lists_of lists.now) world.now }
 {
     if !world.scenario().same(scenario) {
         return false;
@@ -35,8 +35,7 @@ pub(crate) fn is_closed(
 
 /// Whether each list is what its nexus sent.
 pub(crate) fn are_own(lists: &[Vec<Entry>], history: &[Item]) -> bool
-    ensures { IsTrue result ↔ (entries_by (length lists.now) history.now
-        ≡ map (λ l. l.items) lists.now) }
+    ensures { IsTrue result ↔ (entries_by (length lists.now) history.now ≡ lists_of lists.now) }
 {
     for (host, mine) in lists.iter().enumerate() {
         if !is_own(host, mine, history) {
@@ -107,10 +106,8 @@ fn is_over(end: &End) -> bool
 
 /// How each nexus stands. There is room in the list for all of them.
 pub(crate) fn ends_of(world: &World, mut ends: Vec<End>) -> Vec<End>
-    requires none { vec_len ends ≡ 0 }
-    requires room { length (scenario_of world.now.scenario).nexuses ≤ vec_capacity ends }
-    ensures { map (λ e. Some (ending_of e)) result.items
-        ≡ endings_in (scenario_of world.now.scenario) world.now.schedule }
+    requires { HasRoomFor (length (scenario_of world.now.scenario).nexuses) ends }
+    ensures { AreEndsOf world.now result.items }
 {
     let nexuses = world.scenario().parts().nexuses.len();
     for host in 0..nexuses {
@@ -121,8 +118,7 @@ pub(crate) fn ends_of(world: &World, mut ends: Vec<End>) -> Vec<End>
 
 /// The outcome of a world in which no script and no plan has anything left to send.
 pub(crate) fn outcome_of(world: World, ends: Vec<End>) -> Outcome
-    requires ends { map (λ e. Some (ending_of e)) ends.items
-        ≡ endings_in (scenario_of world.scenario) world.schedule }
+    requires ends { AreEndsOf world ends.items }
     requires over { AreOver (scenario_of world.scenario) world.schedule }
     ensures outcome { IsOutcome (scenario_of world.scenario) result }
     ensures history { result.history.items ≡ world.schedule.world.history }

@@ -1,7 +1,9 @@
 //! What the seats have, gathered when all turns are taken.
 
-ghost use Rattle.std.specs.Prelude.{◌≡◌, ◌+◌, ◌≤◌, map, vec_len, vec_capacity};
-ghost use Rattle.std.specs.List.{sum_by};
+ghost use Rattle.std.specs.Prelude.{◌≡◌, ◌+◌, vec_len};
+ghost use Rattle.pr_shared.specs.Histories.{lists_of};
+ghost use Rattle.pr_shared.specs.Seats.{kept_by, number_kept};
+ghost use Rattle.pr_shared.specs.inside.Seating.{HasRoomFor};
 
 use crate::round::Round;
 use crate::seat::Seat;
@@ -14,11 +16,10 @@ pub(crate) fn gathered<C: Round>(
     mut lists: Vec<Vec<Entry>>,
     all: &mut Share<C>,
 ) -> Vec<Vec<Entry>>
-    requires none { vec_len lists ≡ 0 }
-    requires room { vec_len seats ≤ vec_capacity lists }
-    ensures mine { map (λ l. l.items) result.items ≡ map (λ s. s.mine.items) seats.items }
+    requires { HasRoomFor (vec_len seats) lists }
+    ensures mine { lists_of result.items ≡ kept_by seats.items }
     ensures parts { all.new.parts ≡ all.old.parts + vec_len seats }
-    ensures amount { all.new.amount ≡ all.old.amount + sum_by (λ s. vec_len s.mine) seats.items }
+    ensures amount { all.new.amount ≡ all.old.amount + number_kept seats.items }
 {
     for seat in seats {
         let Seat {

@@ -1,15 +1,16 @@
 //! What stands behind the lock.
 
-ghost use Rattle.std.specs.Prelude.{◌≡◌, ◌<◌, ◌≤◌, ◌++◌, true, false, Some, length, map, vec_len, vec_capacity};
-ghost use Rattle.std.specs.List.{slice_get, sum_by};
+ghost use Rattle.std.specs.Prelude.{◌≡◌, ◌++◌, true, Some, length, vec_len, vec_capacity};
+ghost use Rattle.std.specs.List.{slice_get};
+ghost use Rattle.pr_roles.specs.declared.step.Step.{Step};
 ghost use Rattle.pr_roles.specs.Scenarios.{scenario_of};
-ghost use Rattle.pr_roles.specs.Schedules.{Turn as IsTurn, ResetTurn};
-ghost use Rattle.pr_roles.specs.Worlds.{may_reset};
-ghost use Rattle.pr_world.specs.Courses.{IsOneEvent};
-ghost use Rattle.pr_world.specs.StepAnswers.{IfSent, IfStopped, IfHeld, IsStopped, PassesOver};
+ghost use Rattle.pr_world.specs.Progress.{IsStoppedIn, PassesCommand, SendsEntry, TakesStep, has_reset_left};
+ghost use Rattle.pr_world.specs.StepAnswers.{IfSent, IfStopped, IfHeld};
 ghost use Rattle.pr_shared.specs.Guests.{guests_of};
-ghost use Rattle.pr_shared.specs.Histories.{sent_in, EndsLegally};
-ghost use Rattle.pr_shared.specs.TurnAnswers.{added_by, is_stopped};
+ghost use Rattle.pr_shared.specs.Histories.{EndsLegally, lists_of, sent_so_far};
+ghost use Rattle.pr_shared.specs.Seats.{kept_by, number_kept};
+ghost use Rattle.pr_shared.specs.TurnAnswers.{MayTurn, added_by, is_stopped};
+ghost use Rattle.pr_shared.specs.inside.Seating.{HasRoomFor};
 
 use crate::gathering::gathered;
 use crate::round::Round;
@@ -27,7 +28,7 @@ pub(crate) struct Locked<C: Round> {
     pub(crate) calls: Book<C>,
     pub(crate) rest: Share<C>,
     ghost guests: { guests_of (scenario_of world.scenario) ≡ C.guests },
-    ghost counted: { sent_in world.schedule.world.history ≡ calls.total },
+    ghost counted: { sent_so_far world ≡ calls.total },
     ghost no_part: { rest.parts ≡ 0 },
     ghost no_amount: { rest.amount ≡ 0 },
 }
@@ -35,25 +36,19 @@ pub(crate) struct Locked<C: Round> {
 impl<C: Round> Locked<C> {
     /// The turn of the seat's nexus, answered so where that may come, which adds its entry to the world and to the seat.
     pub(crate) fn turn(&mut self, seat: &mut Seat<C>, how: How) -> Turn
-        requires going { seat.old.ended ≡ false }
-        requires room { vec_len seat.old.mine < vec_capacity seat.old.mine }
+        requires { MayTurn seat.old.ended seat.old.mine }
         ensures host { seat.new.host ≡ seat.old.host }
         ensures room { vec_capacity seat.new.mine ≡ vec_capacity seat.old.mine }
         ensures mine { seat.new.mine.items ≡ seat.old.mine.items ++ added_by result }
         ensures ended { seat.new.ended ≡ is_stopped result }
         ensures scenario { self.new.world.scenario ≡ self.old.world.scenario }
-        ensures turn { IsTurn (scenario_of self.old.world.scenario) self.old.world.schedule
-            seat.old.host how self.new.world.schedule }
-        ensures sent { IfSent result (λ entry. IsOneEvent (scenario_of self.old.world.scenario)
-            seat.old.host entry self.old.world.schedule.world self.new.world.schedule.world) }
+        ensures turn { TakesStep (Step.Of seat.old.host how) self.old.world self.new.world }
+        ensures sent { IfSent result (SendsEntry seat.old.host self.old.world self.new.world) }
         ensures legal { IfSent result (λ entry. EndsLegally C.guests entry) }
-        ensures stopped { IfStopped result
-            (λ word. IsStopped (scenario_of self.old.world.scenario) self.old.world.schedule
-            seat.old.host word) }
+        ensures stopped { IfStopped result (IsStoppedIn self.old.world seat.old.host) }
         ensures rests { IfStopped result (λ word. self.new.world.schedule
             ≡ self.old.world.schedule) }
-        ensures held { IfHeld result (PassesOver (scenario_of self.old.world.scenario)
-            self.old.world.schedule seat.old.host self.new.world.schedule) }
+        ensures held { IfHeld result (PassesCommand seat.old.host self.old.world self.new.world) }
         ensures guest { IfHeld result (slice_get C.guests seat.old.host ≡ Some true) }
     {
         let turn = self.world.step_as(seat.host, how);
@@ -75,10 +70,8 @@ impl<C: Round> Locked<C> {
     #[tactic(auto, using(crate::proofs::lemmas::Histories::Resets::counted_still))]
     pub(crate) fn reset(&mut self) -> bool
         ensures scenario { self.new.world.scenario ≡ self.old.world.scenario }
-        ensures made { result ≡ may_reset (scenario_of self.old.world.scenario)
-            self.old.world.schedule.world.history }
-        ensures turn { ResetTurn (scenario_of self.old.world.scenario) self.old.world.schedule
-            self.new.world.schedule }
+        ensures made { result ≡ has_reset_left self.old.world }
+        ensures turn { TakesStep Step.Reset self.old.world self.new.world }
     {
         self.world.reset()
     }
@@ -91,12 +84,10 @@ impl<C: Round> Locked<C> {
     ) -> (World, Vec<Vec<Entry>>)
         requires parts { C.parts ≡ length C.guests }
         requires one_each { vec_len seats ≡ length C.guests }
-        requires none { vec_len lists ≡ 0 }
-        requires room { vec_len seats ≤ vec_capacity lists }
+        requires room { HasRoomFor (vec_len seats) lists }
         ensures guests { guests_of (scenario_of result.0.scenario) ≡ C.guests }
-        ensures mine { map (λ l. l.items) result.1.items ≡ map (λ s. s.mine.items) seats.items }
-        ensures counted { sent_in result.0.schedule.world.history
-            ≡ sum_by (λ s. vec_len s.mine) seats.items }
+        ensures mine { lists_of result.1.items ≡ kept_by seats.items }
+        ensures counted { sent_so_far result.0 ≡ number_kept seats.items }
     {
         let Locked {
             world,

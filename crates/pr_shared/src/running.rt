@@ -1,12 +1,13 @@
 //! Runs: the turns of a verified scenario, taken by a thread for each nexus.
 
-ghost use Rattle.std.specs.Prelude.{◌≡◌, ◌↔◌, ◌<◌, IsTrue, IfOk, IfErr, true, length, map};
+ghost use Rattle.std.specs.Prelude.{◌≡◌, ◌↔◌, ◌<◌, IsTrue, IfOk, IfErr, true, length};
 ghost use Rattle.std.specs.List.{All, range_with_len};
 ghost use Rattle.pr_roles.specs.Scenarios.{scenario_of};
 ghost use Rattle.pr_shared.specs.Guests.{guests_of};
-ghost use Rattle.pr_shared.specs.Histories.{entries_by};
 ghost use Rattle.pr_shared.specs.Outcomes.{IsHalted, IsOutcome};
-ghost use Rattle.pr_shared.specs.RunAnswers.{IfSpawn};
+ghost use Rattle.pr_shared.specs.RunAnswers.{IfSpawn, IsNexusOf};
+ghost use Rattle.pr_shared.specs.Seats.{HaveKept};
+ghost use Rattle.pr_shared.specs.inside.Seating.{hosts_of};
 ghost use Rattle.pr_shared.specs.inside.Starting.{StartedBut};
 
 use crate::gate::Gate;
@@ -36,8 +37,7 @@ pub fn run<G: Gate, R: Threads + Wait + Sync>(
     gate: &G,
 ) -> Result<Outcome, RunError>
     ensures outcome { IfOk result (IsOutcome (scenario_of verified)) }
-    ensures known { IfErr result (IfSpawn
-        (λ host history. host < length (scenario_of verified).nexuses)) }
+    ensures known { IfErr result (IfSpawn (IsNexusOf (scenario_of verified))) }
     ensures halted { IfErr result (IfSpawn (IsHalted (scenario_of verified))) }
 {
     let nexuses = verified.scenario().parts().nexuses.len();
@@ -57,8 +57,7 @@ fn run_as<C: Round + Send + Sync, G: Gate, R: Threads + Wait + Sync>(
     requires guests { guests_of (scenario_of verified) ≡ C.guests }
     requires one_each { blank.parts ≡ length C.guests }
     ensures outcome { IfOk result (IsOutcome (scenario_of verified)) }
-    ensures known { IfErr result (IfSpawn
-        (λ host history. host < length (scenario_of verified).nexuses)) }
+    ensures known { IfErr result (IfSpawn (IsNexusOf (scenario_of verified))) }
     ensures halted { IfErr result (IfSpawn (IsHalted (scenario_of verified))) }
 {
     let nexuses = verified.scenario().parts().nexuses.len();
@@ -79,15 +78,14 @@ fn settled<C: Round>(
     failed: Option<u8>,
 ) -> Result<Outcome, RunError>
     requires parts { C.parts ≡ length C.guests }
-    requires started { StartedBut failed (map (λ s. s.host) seats.items)
+    requires started { StartedBut failed (hosts_of seats.items)
         (range_with_len 0 (length C.guests)) }
     ensures outcome { IfOk result (IsOutcome (scenario_of shared.kept.scenario)) }
-    ensures own { IfOk result (λ outcome. entries_by (length C.guests) outcome.history.items
-        ≡ map (λ s. s.mine.items) seats.items) }
+    ensures own { IfOk result (λ outcome. HaveKept (length C.guests) seats.items
+        outcome.history.items) }
     ensures known { IfErr result (IfSpawn (λ host history. host < length C.guests)) }
     ensures halted { IfErr result (IfSpawn (IsHalted (scenario_of shared.kept.scenario))) }
-    ensures sent { IfErr result (IfSpawn (λ host history. entries_by host history
-        ≡ map (λ s. s.mine.items) seats.items)) }
+    ensures sent { IfErr result (IfSpawn (λ host history. HaveKept host seats.items history)) }
 {
     if let Some(host) = failed {
         return match shared.halt(seats) {

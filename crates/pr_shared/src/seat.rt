@@ -4,6 +4,7 @@ ghost use Rattle.std.specs.Prelude.{◌≡◌, ◌↔◌, ◌+◌, ◌<◌, ◌�
 ghost use Rattle.pr_script.specs.declared.limits.TheConstants.{MOST_BUDGET};
 ghost use Rattle.pr_roles.specs.Scenarios.{task_of};
 ghost use Rattle.pr_world.specs.Rooms.{room_of};
+ghost use Rattle.pr_shared.specs.TurnAnswers.{MayTurn};
 
 use crate::round::Round;
 use pr_roles::{Entry, Task};
@@ -83,8 +84,7 @@ impl<C: Round> Seat<C> {
 
     /// Whether it may take a turn: it has not ended, and there is room for an entry.
     pub fn may_turn(&self) -> bool
-        ensures { IsTrue result ↔ ((self.now.ended ≡ false)
-            × (vec_len self.now.mine < vec_capacity self.now.mine)) }
+        ensures { IsTrue result ↔ MayTurn self.now.ended self.now.mine }
     {
         !self.ended && self.mine.len() < self.mine.capacity()
     }

@@ -1,11 +1,13 @@
 //! A seat for each nexus.
 
-ghost use Rattle.std.specs.Prelude.{◌≡◌, ◌+◌, ◌≤◌, [], length, map, IfOk, OnOk, false, vec_capacity};
-ghost use Rattle.std.specs.List.{All, range_with_len};
+ghost use Rattle.std.specs.Prelude.{◌≡◌, ◌≤◌, [], length, IfOk, OnOk, false};
+ghost use Rattle.std.specs.List.{All};
 ghost use Rattle.pr_cdb.specs.declared.codes.TheConstants.{MOST_NEXUSES};
 ghost use Rattle.pr_script.specs.declared.limits.TheConstants.{MOST_BUDGET};
 ghost use Rattle.pr_roles.specs.Scenarios.{task_of};
 ghost use Rattle.pr_world.specs.Rooms.{room_of};
+ghost use Rattle.pr_shared.specs.Seats.{AreInOrder};
+ghost use Rattle.pr_shared.specs.inside.Seating.{HaveRoomAt};
 
 use crate::round::Round;
 use crate::seat::Seat;
@@ -24,12 +26,10 @@ pub(crate) fn seats_for<C: Round>(
     requires known { length nexuses.now ≡ length C.guests }
     requires parts { all.old.parts ≡ length nexuses.now }
     requires amount { all.old.amount ≡ 0 }
-    ensures in_order { IfOk result (λ seats. map (λ s. s.host) seats.items
-        ≡ range_with_len 0 (length nexuses.now)) }
+    ensures in_order { IfOk result (λ seats. AreInOrder (length nexuses.now) seats.items) }
     ensures going { IfOk result (λ seats. All (λ s. s.ended ≡ false) seats.items) }
     ensures empty { IfOk result (λ seats. All (λ s. s.mine.items ≡ []) seats.items) }
-    ensures room { IfOk result (λ seats. map (λ s. vec_capacity s.mine) seats.items
-        ≡ map (λ n. room_of (task_of n.task) + 1) nexuses.now) }
+    ensures room { IfOk result (λ seats. HaveRoomAt nexuses.now seats.items) }
     ensures parts { OnOk result (all.new.parts ≡ 0) }
     ensures amount { OnOk result (all.new.amount ≡ 0) }
 {

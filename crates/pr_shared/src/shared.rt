@@ -1,14 +1,15 @@
 //! A verified scenario under a lock.
 
-ghost use Rattle.std.specs.Prelude.{◌≡◌, ◌+◌, ◌<◌, ◌≤◌, ◌++◌, [], true, false, Some, length, map, IfOk, IfErr, IfSome, OnOk, vec_len, vec_capacity};
-ghost use Rattle.std.specs.List.{All, range_with_len, slice_get, sum_by};
+ghost use Rattle.std.specs.Prelude.{◌≡◌, ◌≤◌, ◌++◌, [], true, false, Some, length, IfOk, IfErr, IfSome, OnOk, vec_len, vec_capacity};
+ghost use Rattle.std.specs.List.{All, slice_get};
 ghost use Rattle.pr_roles.specs.Scenarios.{scenario_of};
-ghost use Rattle.pr_world.specs.Rooms.{room_of};
+ghost use Rattle.pr_world.specs.Progress.{IsLegalProgress};
 ghost use Rattle.pr_world.specs.StepAnswers.{IfSent, IfHeld};
 ghost use Rattle.pr_shared.specs.Guests.{guests_of};
-ghost use Rattle.pr_shared.specs.Histories.{EndsLegally, IsLegalWorld, entries_by, sent_in};
-ghost use Rattle.pr_shared.specs.Outcomes.{IsClosed, IsHalted, IsOutcome};
-ghost use Rattle.pr_shared.specs.TurnAnswers.{added_by, is_stopped};
+ghost use Rattle.pr_shared.specs.Histories.{EndsLegally, lists_of, sent_in, sent_so_far};
+ghost use Rattle.pr_shared.specs.Outcomes.{DiffersFrom, IsHalted, IsOutcome};
+ghost use Rattle.pr_shared.specs.Seats.{AreInOrder, HaveRoom, HaveKept, kept_by, number_kept};
+ghost use Rattle.pr_shared.specs.TurnAnswers.{MayTurn, added_by, is_stopped};
 
 use crate::closing::{are_before, are_own, ends_of, is_closed, outcome_of};
 use crate::gathering::gathered;
@@ -52,12 +53,10 @@ impl<C: Round> SharedWorld<C> {
         requires one_each { blank.parts ≡ length C.guests }
         ensures scenario { IfOk result (λ made. scenario_of made.0.kept.scenario
             ≡ scenario_of verified) }
-        ensures in_order { IfOk result (λ made. map (λ s. s.host) made.1.items
-            ≡ range_with_len 0 (length C.guests)) }
+        ensures in_order { IfOk result (λ made. AreInOrder (length C.guests) made.1.items) }
         ensures going { IfOk result (λ made. All (λ s. s.ended ≡ false) made.1.items) }
         ensures empty { IfOk result (λ made. All (λ s. s.mine.items ≡ []) made.1.items) }
-        ensures room { IfOk result (λ made. map (λ s. vec_capacity s.mine) made.1.items
-            ≡ map (λ n. room_of n.task + 1) (scenario_of verified).nexuses) }
+        ensures room { IfOk result (λ made. HaveRoom (scenario_of verified) made.1.items) }
         ensures back { IfErr result (λ refused. refused.0 ≡ verified) }
     {
         let (calls, mut rest) = blank.open::<C>();
@@ -74,8 +73,7 @@ impl<C: Round> SharedWorld<C> {
     ///
     /// An entry that it answers stands last in the seat's list. A turn that answers `Stopped` ends the seat.
     pub fn turn<R: Wait>(&self, rt: &R, seat: &mut Seat<C>) -> Turn
-        requires going { seat.old.ended ≡ false }
-        requires room { vec_len seat.old.mine < vec_capacity seat.old.mine }
+        requires { MayTurn seat.old.ended seat.old.mine }
         ensures host { seat.new.host ≡ seat.old.host }
         ensures room { vec_capacity seat.new.mine ≡ vec_capacity seat.old.mine }
         ensures mine { seat.new.mine.items ≡ seat.old.mine.items ++ added_by result }
@@ -90,8 +88,7 @@ impl<C: Round> SharedWorld<C> {
     /// The same, with the command answered so, where that is a refusal of which the scenario has one left for the nexus; else
     /// by the unit. It waits for the lock, and takes no memory.
     pub fn turn_as<R: Wait>(&self, rt: &R, seat: &mut Seat<C>, how: How) -> Turn
-        requires going { seat.old.ended ≡ false }
-        requires room { vec_len seat.old.mine < vec_capacity seat.old.mine }
+        requires { MayTurn seat.old.ended seat.old.mine }
         ensures host { seat.new.host ≡ seat.old.host }
         ensures room { vec_capacity seat.new.mine ≡ vec_capacity seat.old.mine }
         ensures mine { seat.new.mine.items ≡ seat.old.mine.items ++ added_by result }
@@ -117,21 +114,18 @@ impl<C: Round> SharedWorld<C> {
     /// counts them.
     pub fn close(self, seats: Vec<Seat<C>>) -> Result<Outcome, Differs>
         requires parts { C.parts ≡ length C.guests }
-        requires in_order { map (λ s. s.host) seats.items ≡ range_with_len 0 (length C.guests) }
+        requires in_order { AreInOrder (length C.guests) seats.items }
         requires ended { All (λ s. s.ended ≡ true) seats.items }
         ensures outcome { IfOk result (IsOutcome (scenario_of self.kept.scenario)) }
-        ensures own { IfOk result (λ outcome. entries_by (length C.guests) outcome.history.items
-            ≡ map (λ s. s.mine.items) seats.items) }
+        ensures own { IfOk result (λ outcome. HaveKept (length C.guests) seats.items
+            outcome.history.items) }
         ensures counted { IfOk result (λ outcome. sent_in outcome.history.items
-            ≡ sum_by (λ s. vec_len s.mine) seats.items) }
-        ensures cause { IfErr result (λ differs. ¬ IsClosed (scenario_of self.kept.scenario)
-            (map (λ l. l.items) differs.mine.items) differs.world) }
-        ensures mine { IfErr result (λ differs. map (λ l. l.items) differs.mine.items
-            ≡ map (λ s. s.mine.items) seats.items) }
-        ensures legal { IfErr result (λ differs. IsLegalWorld (scenario_of differs.world.scenario)
-            differs.world.schedule) }
-        ensures total { IfErr result (λ differs. sent_in differs.world.schedule.world.history
-            ≡ sum_by (λ s. vec_len s.mine) seats.items) }
+            ≡ number_kept seats.items) }
+        ensures cause { IfErr result (DiffersFrom (scenario_of self.kept.scenario)) }
+        ensures mine { IfErr result (λ differs. lists_of differs.mine.items ≡ kept_by seats.items) }
+        ensures legal { IfErr result (λ differs. IsLegalProgress differs.world) }
+        ensures total { IfErr result (λ differs. sent_so_far differs.world
+            ≡ number_kept seats.items) }
     {
         let SharedWorld { lock, kept } = self;
         let Kept {
@@ -155,8 +149,8 @@ impl<C: Round> SharedWorld<C> {
         requires { vec_len seats ≤ length C.guests }
         ensures halted { IfSome result (λ history. IsHalted (scenario_of self.kept.scenario)
             (vec_len seats) history.items) }
-        ensures own { IfSome result (λ history. entries_by (vec_len seats) history.items
-            ≡ map (λ s. s.mine.items) seats.items) }
+        ensures own { IfSome result (λ history. HaveKept (vec_len seats) seats.items
+            history.items) }
     {
         let SharedWorld { lock, kept } = self;
         let Kept {
@@ -195,12 +189,10 @@ fn furnished<C: Round>(
     requires amount { all.old.amount ≡ 0 }
     ensures scenario { IfOk result (λ made. scenario_of made.0.scenario
         ≡ scenario_of scenario.now) }
-    ensures in_order { IfOk result (λ made. map (λ s. s.host) made.1.items
-        ≡ range_with_len 0 (length C.guests)) }
+    ensures in_order { IfOk result (λ made. AreInOrder (length C.guests) made.1.items) }
     ensures going { IfOk result (λ made. All (λ s. s.ended ≡ false) made.1.items) }
     ensures empty { IfOk result (λ made. All (λ s. s.mine.items ≡ []) made.1.items) }
-    ensures room { IfOk result (λ made. map (λ s. vec_capacity s.mine) made.1.items
-        ≡ map (λ n. room_of n.task + 1) (scenario_of scenario.now).nexuses) }
+    ensures room { IfOk result (λ made. HaveRoom (scenario_of scenario.now) made.1.items) }
     ensures parts { OnOk result (all.new.parts ≡ 0) }
     ensures amount { OnOk result (all.new.amount ≡ 0) }
 {

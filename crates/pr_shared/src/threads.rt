@@ -1,6 +1,7 @@
 //! A thread for each seat.
 
-ghost use Rattle.std.specs.Prelude.{◌≡◌, ◌+◌, ◌≤◌, map, vec_len, vec_capacity};
+ghost use Rattle.std.specs.Prelude.{◌≡◌, ◌≤◌, map, vec_len};
+ghost use Rattle.pr_shared.specs.inside.Seating.{HasRoomFor, hosts_of};
 ghost use Rattle.pr_shared.specs.inside.Starting.{StartedBut};
 
 use crate::gate::Gate;
@@ -34,23 +35,17 @@ pub(crate) fn in_threads<'a, C: Round + Send + Sync, G: Gate, R: Threads + Wait 
     started: Vec<Started<C>>,
     back: Vec<Seat<C>>,
 ) -> (Vec<Seat<C>>, Option<u8>)
-    requires none_started { vec_len started ≡ 0 }
-    requires none_back { vec_len back ≡ 0 }
-    requires room_to_start { vec_len seats ≤ vec_capacity started }
-    requires room_back { vec_len seats ≤ vec_capacity back }
-    ensures { StartedBut result.1 (map (λ s. s.host) result.0.items)
-        (map (λ s. s.host) seats.items) }
+    requires started { HasRoomFor (vec_len seats) started }
+    requires back { HasRoomFor (vec_len seats) back }
+    ensures { StartedBut result.1 (hosts_of result.0.items) (hosts_of seats.items) }
 {
     thread::scope(
         thread::scope_env(),
         rt,
         |scope| -> (Vec<Seat<C>>, Option<u8>)
-            requires none_started { vec_len started ≡ 0 }
-            requires none_back { vec_len back ≡ 0 }
-            requires room_to_start { vec_len seats ≤ vec_capacity started }
-            requires room_back { vec_len seats ≤ vec_capacity back }
-            ensures { StartedBut result.1 (map (λ s. s.host) result.0.items)
-                (map (λ s. s.host) seats.items) }
+            requires started { HasRoomFor (vec_len seats) started }
+            requires back { HasRoomFor (vec_len seats) back }
+            ensures { StartedBut result.1 (hosts_of result.0.items) (hosts_of seats.items) }
         {
             let (started, failed) = start_all(scope, rt, shared, gate, seats, started);
             (join_all(rt, started, back), failed)
@@ -67,10 +62,9 @@ fn start_all<'s, 'a: 's, C: Round + Send + Sync, G: Gate, R: Threads + Wait + Sy
     seats: Vec<Seat<C>>,
     mut started: Vec<Started<C>>,
 ) -> (Vec<Started<C>>, Option<u8>)
-    requires none { vec_len started ≡ 0 }
-    requires room { vec_len seats ≤ vec_capacity started }
+    requires { HasRoomFor (vec_len seats) started }
     ensures started { StartedBut result.1 (map (λ h. h.promise.0) result.0.items)
-        (map (λ s. s.host) seats.items) }
+        (hosts_of seats.items) }
     ensures few { vec_len result.0 ≤ vec_len seats }
 {
     for seat in seats {
@@ -89,9 +83,8 @@ fn join_all<C: Round, R: Threads>(
     started: Vec<Started<C>>,
     mut back: Vec<Seat<C>>,
 ) -> Vec<Seat<C>>
-    requires none { vec_len back ≡ 0 }
-    requires room { vec_len started ≤ vec_capacity back }
-    ensures { map (λ s. s.host) result.items ≡ map (λ h. h.promise.0) started.items }
+    requires { HasRoomFor (vec_len started) back }
+    ensures { hosts_of result.items ≡ map (λ h. h.promise.0) started.items }
 {
     for handle in started {
         back.push_reserved(handle.join(rt));

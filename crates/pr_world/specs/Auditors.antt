@@ -1,9 +1,13 @@
 -- Agrees with docs/FORMATS.md, 'Auditing'.
 -- Histories that are followed item by item: which world they have led to, and what may come next.
-use Rattle.std.specs.Prelude.{◌≡◌, Bool, true, false, List, [], ◌∷◌, ◌++◌, length, map}
+use Rattle.std.specs.Prelude.{◌≡◌, ℕ, Bool, true, false, List, [], ◌∷◌, ◌++◌, Some, length, map}
+use Rattle.pr_cdb.specs.declared.command.Command.{Command}
+use Rattle.pr_unit.specs.UnitStates.{UnitState}
+use Rattle.pr_script.specs.Scripts.{ready}
 use Rattle.pr_roles.specs.declared.item.Item.{Item}
-use Rattle.pr_roles.specs.Scenarios.{Scenario}
-use Rattle.pr_roles.specs.Worlds.{World, Event, Happens, Control, Going, Trapped, Free}
+use Rattle.pr_roles.specs.declared.parts.Parts.{Parts}
+use Rattle.pr_roles.specs.Scenarios.{Scenario, scenario_of}
+use Rattle.pr_roles.specs.Worlds.{World, Event, Happens, Control, Going, Trapped, Free, standing_of, world_from}
 use Rattle.pr_world.specs.declared.auditor.Auditor.{Auditor}
 use Rattle.pr_world.specs.declared.sender.Sender.{Sender}
 use Rattle.pr_world.specs.declared.sender.Sender.TheVariants as sender
@@ -38,3 +42,21 @@ is_free Free = true
 pub record ActFor (s : Scenario) (w : World) : Type 0 where
   pub hosts : w.unit.registry.hosts ≡ length s.nexuses
   pub tasks : map is_free w.controls ≡ map (λ n. is_planned n.task) s.nexuses
+
+-- ---- of a scenario as it is kept
+
+-- the auditor follows a history of the scenario
+abbrev pub IsAuditorOf : Parts → Auditor → Type 0
+IsAuditorOf p a = ActFor (scenario_of p) (world_at a [])
+
+-- it stands at the beginning of a history from this state
+abbrev pub StartsAt : Parts → UnitState → Auditor → Type 0
+StartsAt p u a = world_at a [] ≡ world_from (scenario_of p) u
+
+-- the item was tried after these, with this answer, which led from one auditor to the other
+abbrev pub IsTriedAfter : Parts → List Item → Item → Bool → Auditor → Auditor → Type 0
+IsTriedAfter p before i answer a b = IsTried (scenario_of p) (world_at a before) i answer (world_at b (before ++ i ∷ []))
+
+-- the line at which one that acts so is ready, and its command there
+abbrev pub IsNextOf : Control → ℕ × Command → Type 0
+IsNextOf k next = standing_of k ≡ Some (ready next.0 next.1)

@@ -1,9 +1,10 @@
 -- Agrees with docs/FORMATS.md, 'Trace text'.
 -- How nexuses stand at the end of a run.
-use Rattle.std.specs.Prelude.{ℕ, Bool, true, false, List, [], ◌∷◌, length, Option, Some, None}
+use Rattle.std.specs.Prelude.{◌≡◌, ℕ, Bool, true, false, List, [], ◌∷◌, length, Option, Some, None, map}
 use Rattle.pr_cdb.specs.declared.command.Command.{Command}
 use Rattle.pr_script.specs.Scripts.{Standing, ready, stopped, standing_of_items}
-use Rattle.pr_roles.specs.Worlds.{Control, Going, Trapped, Free}
+use Rattle.pr_roles.specs.Schedules.{Schedule, plan}
+use Rattle.pr_roles.specs.Worlds.{Control, Going, Trapped, Free, control}
 use Rattle.pr_world.specs.declared.end.End.{End}
 use Rattle.pr_world.specs.declared.end.End.TheVariants as end
 
@@ -30,6 +31,18 @@ abbrev pub ending : Control → List Command → Option Ending
 ending (Going l) plan = ending_by (standing_of_items l)
 ending (Trapped line) plan = Some (traps line)
 ending Free plan = Some (leaves (length plan))
+
+-- how h stands in a schedule
+abbrev pub ending_in : Schedule → ℕ → Option Ending
+ending_in x h = ending (control x.world h) (plan x h)
+
+-- what these ends say, one after another
+abbrev pub endings_of : List End → List (Option Ending)
+endings_of ends = map (λ e. Some (ending_of e)) ends
+
+-- the end of one that acts so, whatever plan of this length is left to it
+abbrev pub IsEndBy : Control → ℕ → End → Type 0
+IsEndBy k planned e = (plan : List Command) → length plan ≡ planned → ending k plan ≡ Some (ending_of e)
 
 -- the ends of nexuses, each with what is left of its plan
 abbrev pub endings : List Control → List (List Command) → List (Option Ending)

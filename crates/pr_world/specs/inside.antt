@@ -1,5 +1,6 @@
 pub mod Auditing
 pub mod ProgressCodes
+pub mod Plans
 pub mod Workings
 pub mod Turns
 pub mod Participations

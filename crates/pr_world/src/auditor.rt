@@ -1,13 +1,12 @@
 //! A scenario as a history of it is followed: its unit, and who may send what next.
 
-ghost use Rattle.std.specs.Prelude.{◌≡◌, ◌<◌, List, [], ◌∷◌, ◌++◌, Some, length, map, IfSome, IfOk};
-ghost use Rattle.pr_script.specs.Scripts.{ready};
+ghost use Rattle.std.specs.Prelude.{◌≡◌, ◌<◌, [], Some, length, IfSome, IfOk};
 ghost use Rattle.pr_roles.specs.Scenarios.{scenario_of};
 ghost use Rattle.pr_roles.specs.FirstStarts.{first_state};
-ghost use Rattle.pr_roles.specs.Worlds.{control, control_of, standing_of, world_from};
-ghost use Rattle.pr_world.specs.Ends.{ending, ending_of};
-ghost use Rattle.pr_world.specs.inside.Auditing.{how_of};
-ghost use Rattle.pr_world.specs.Auditors.{ActFor, IsTried, control_by, world_at};
+ghost use Rattle.pr_roles.specs.Worlds.{control};
+ghost use Rattle.pr_world.specs.Auditors.{IsAuditorOf, IsNextOf, IsTriedAfter, StartsAt, world_at};
+ghost use Rattle.pr_world.specs.Ends.{IsEndBy};
+ghost use Rattle.pr_world.specs.inside.Auditing.{AreFirstSenders, how_of};
 
 use crate::end::End;
 use crate::refusing::may_come;
@@ -30,10 +29,8 @@ impl Auditor {
     pub(crate) fn begin(alloc: Global, scenario: &Scenario) -> Result<Auditor, AllocError>
         ensures first { IfOk result (λ auditor. first_state (scenario_of scenario.now)
             ≡ Some auditor.unit) }
-        ensures world { IfOk result (λ auditor. world_at auditor []
-            ≡ world_from (scenario_of scenario.now) auditor.unit) }
-        ensures acts { IfOk result (λ auditor. ActFor (scenario_of scenario.now)
-            (world_at auditor [])) }
+        ensures world { IfOk result (λ auditor. StartsAt scenario.now auditor.unit auditor) }
+        ensures acts { IfOk result (IsAuditorOf scenario.now) }
     {
         let start = first_start(scenario);
         Auditor::from_start(alloc, scenario, start)
@@ -47,10 +44,8 @@ impl Auditor {
     ) -> Result<Auditor, AllocError>
         requires { start.registry.hosts ≡ length (scenario_of scenario.now).nexuses }
         ensures unit { IfOk result (λ auditor. auditor.unit ≡ start) }
-        ensures world { IfOk result (λ auditor. world_at auditor []
-            ≡ world_from (scenario_of scenario.now) start) }
-        ensures acts { IfOk result (λ auditor. ActFor (scenario_of scenario.now)
-            (world_at auditor [])) }
+        ensures world { IfOk result (StartsAt scenario.now start) }
+        ensures acts { IfOk result (IsAuditorOf scenario.now) }
     {
         Ok(Auditor {
             unit: start,
@@ -60,10 +55,9 @@ impl Auditor {
 
     /// Whether the item may come next after these, and then goes past it.
     pub fn admits(&mut self, scenario: &Scenario, before: &[Item], item: &Item) -> bool
-        requires { ActFor (scenario_of scenario.now) (world_at self.old []) }
-        ensures tried { IsTried (scenario_of scenario.now) (world_at self.old before.now) item.now
-            result (world_at self.new (before.now ++ item.now ∷ [])) }
-        ensures acts { ActFor (scenario_of scenario.now) (world_at self.new []) }
+        requires { IsAuditorOf scenario.now self.old }
+        ensures tried { IsTriedAfter scenario.now before.now item.now result self.old self.new }
+        ensures acts { IsAuditorOf scenario.now self.new }
     {
         match item {
             Item::Sent(entry) => self.admits_sent(scenario, before, entry),
@@ -82,8 +76,7 @@ impl Auditor {
     /// nor of a guest.
     pub fn next_command(&self, host: u8) -> Option<(u32, Command)>
         requires { host < length (world_at self.now []).controls }
-        ensures { IfSome result (λ next. standing_of (control (world_at self.now []) host)
-            ≡ Some (ready next.0 next.1)) }
+        ensures { IfSome result (IsNextOf (control (world_at self.now []) host)) }
     {
         self.senders[usize::from(host)].next_command()
     }
@@ -91,19 +84,17 @@ impl Auditor {
     /// How the nexus stands. A guest has not reached so many of its planned commands, whatever it has sent.
     pub fn end(&self, host: u8, planned: u32) -> End
         requires { host < length (world_at self.now []).controls }
-        ensures { (plan : List Command) → length plan ≡ planned
-            → ending (control (world_at self.now []) host) plan ≡ Some (ending_of result) }
+        ensures { IsEndBy (control (world_at self.now []) host) planned result }
     {
         self.senders[usize::from(host)].end(planned)
     }
 
     // The same of a command.
     fn admits_sent(&mut self, scenario: &Scenario, before: &[Item], entry: &Entry) -> bool
-        requires { ActFor (scenario_of scenario.now) (world_at self.old []) }
-        ensures tried { IsTried (scenario_of scenario.now) (world_at self.old before.now)
-            (Item.Sent entry.now) result (world_at self.new
-            (before.now ++ Item.Sent entry.now ∷ [])) }
-        ensures acts { ActFor (scenario_of scenario.now) (world_at self.new []) }
+        requires { IsAuditorOf scenario.now self.old }
+        ensures tried { IsTriedAfter scenario.now before.now (Item.Sent entry.now) result self.old
+            self.new }
+        ensures acts { IsAuditorOf scenario.now self.new }
     {
         let index = usize::from(entry.host);
         let nexuses = &scenario.parts().nexuses;
@@ -120,10 +111,9 @@ impl Auditor {
 
     // The same of a reset.
     fn admits_reset(&mut self, scenario: &Scenario, before: &[Item]) -> bool
-        requires { ActFor (scenario_of scenario.now) (world_at self.old []) }
-        ensures tried { IsTried (scenario_of scenario.now) (world_at self.old before.now) Item.Reset
-            result (world_at self.new (before.now ++ Item.Reset ∷ [])) }
-        ensures acts { ActFor (scenario_of scenario.now) (world_at self.new []) }
+        requires { IsAuditorOf scenario.now self.old }
+        ensures tried { IsTriedAfter scenario.now before.now Item.Reset result self.old self.new }
+        ensures acts { IsAuditorOf scenario.now self.new }
     {
         let may = may_reset(scenario, before);
         if may {
@@ -147,8 +137,7 @@ fn how_of(status: Status) -> How
 // Each host and guest at its beginning.
 #[tactic(auto, unfolding(pr_roles::specs::Scenarios::scenario_of))]
 fn senders_of(alloc: Global, scenario: &Scenario) -> Result<Vec<Sender>, AllocError>
-    ensures { IfOk result (λ senders. map control_by senders.items
-        ≡ map (λ n. control_of n.task) (scenario_of scenario.now).nexuses) }
+    ensures { IfOk result (λ senders. AreFirstSenders scenario.now senders.items) }
 {
     let nexuses = &scenario.parts().nexuses;
     let mut senders = Vec::with_capacity(alloc, nexuses.len())?;

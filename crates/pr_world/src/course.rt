@@ -1,16 +1,15 @@
 //! A scenario at work: its unit, its nexuses, and what happened so far.
 
-ghost use Rattle.std.specs.Prelude.{◌≡◌, ◌<◌, ◌≤◌, ◌+◌, ◌^◌, true, List, [], ◌∷◌, ◌++◌, Some, length, map, IfOk, vec_len, vec_capacity, IsTrue};
-ghost use Rattle.std.specs.List.{range_with_len};
+ghost use Rattle.std.specs.Prelude.{◌≡◌, ◌<◌, ◌≤◌, ◌+◌, ◌^◌, true, [], Some, length, map, IfOk, vec_len, vec_capacity};
 ghost use Rattle.pr_roles.specs.declared.step.Step.{Step};
 ghost use Rattle.pr_roles.specs.Scenarios.{scenario_of};
-ghost use Rattle.pr_roles.specs.Schedules.{Turn, ResetTurn, plan};
-ghost use Rattle.pr_roles.specs.Worlds.{control, is_trapped, commands_by, may_reset};
+ghost use Rattle.pr_roles.specs.Worlds.{commands_by, may_reset};
 ghost use Rattle.pr_world.specs.Courses.{IsReached};
-ghost use Rattle.pr_world.specs.inside.Participations.{participation_of, participation_from, schedule_of, HappensBy, StandsFor};
-ghost use Rattle.pr_world.specs.inside.Turns.{doing_of, sends, does, entry_in};
-ghost use Rattle.pr_world.specs.Ends.{ending_of, ending};
-ghost use Rattle.pr_world.specs.Replays.{IsEndOf, IsThere};
+ghost use Rattle.pr_world.specs.Ends.{ending_in, ending_of, endings_of};
+ghost use Rattle.pr_world.specs.Replays.{IsEndOf, IsThere, counts_by};
+ghost use Rattle.pr_world.specs.inside.Participations.{AreFirst, ending_at, schedule_of};
+ghost use Rattle.pr_world.specs.inside.Turns.{doing_of, sends};
+ghost use Rattle.pr_world.specs.inside.Workings.{CourseExtends, CourseHappens, CourseTakes, HasRoom, IsCourseOf, IsEmptyFor, IsTrappedIn, course_does};
 
 use crate::act::Act;
 use crate::end::End;
@@ -39,10 +38,8 @@ impl Course {
     ) -> Result<Course, AllocError>
         ensures reached { IfOk result (λ course. IsReached (scenario_of scenario.now) []
             (schedule_of course)) }
-        ensures stands { IfOk result (λ course. StandsFor (scenario_of scenario.now) course.unit
-            (map participation_of course.participants.items)) }
-        ensures room { IfOk result (λ course. (vec_len course.history ≡ 0)
-            × (vec_capacity course.history ≡ room)) }
+        ensures stands { IfOk result (IsCourseOf scenario.now) }
+        ensures room { IfOk result (IsEmptyFor room) }
     {
         Ok(Course {
             unit: first_start(scenario),
@@ -55,24 +52,14 @@ impl Course {
     /// entry only where it sends.
     pub(crate) fn turn(&mut self, scenario: &Scenario, host: u8, how: How) -> Act
         requires there { host < length (scenario_of scenario.now).nexuses }
-        requires stands { StandsFor (scenario_of scenario.now) self.old.unit
-            (map participation_of self.old.participants.items) }
-        requires room { does (scenario_of scenario.now) (schedule_of self.old) host how ≡ sends
-            → vec_len self.old.history < vec_capacity self.old.history }
-        ensures does { doing_of result ≡ does (scenario_of scenario.now) (schedule_of self.old) host
-            how }
-        ensures trapped { result ≡ Act.Trapped
-            → IsTrue (is_trapped (control (schedule_of self.old).world host)) }
-        ensures turn { Turn (scenario_of scenario.now) (schedule_of self.old) host how
-            (schedule_of self.new) }
-        ensures happens { HappensBy (scenario_of scenario.now) host (entry_in result)
-            (schedule_of self.old).world (schedule_of self.new).world }
-        ensures reached { (steps : List Step)
-            → IsReached (scenario_of scenario.now) steps (schedule_of self.old)
-            → IsReached (scenario_of scenario.now) (steps ++ Step.Of host how ∷ [])
-            (schedule_of self.new) }
-        ensures stands { StandsFor (scenario_of scenario.now) self.new.unit
-            (map participation_of self.new.participants.items) }
+        requires stands { IsCourseOf scenario.now self.old }
+        requires room { course_does scenario.now self.old host how ≡ sends → HasRoom self.old }
+        ensures does { doing_of result ≡ course_does scenario.now self.old host how }
+        ensures trapped { result ≡ Act.Trapped → IsTrappedIn self.old host }
+        ensures turn { CourseTakes scenario.now (Step.Of host how) self.old self.new }
+        ensures happens { CourseHappens scenario.now host result self.old self.new }
+        ensures reached { CourseExtends scenario.now (Step.Of host how) self.old self.new }
+        ensures stands { IsCourseOf scenario.now self.new }
         ensures length { vec_len self.new.history ≤ vec_len self.old.history + 1 }
         ensures room { vec_capacity self.new.history ≡ vec_capacity self.old.history }
     {
@@ -89,19 +76,13 @@ impl Course {
     /// Resets the unit, where a reset may still come; else it answers false, and nothing changes. It takes no memory, and room
     /// for an item only where it resets.
     pub(crate) fn reset(&mut self, scenario: &Scenario) -> bool
-        requires stands { StandsFor (scenario_of scenario.now) self.old.unit
-            (map participation_of self.old.participants.items) }
+        requires stands { IsCourseOf scenario.now self.old }
         requires room { may_reset (scenario_of scenario.now) self.old.history.items ≡ true
-            → vec_len self.old.history < vec_capacity self.old.history }
+            → HasRoom self.old }
         ensures made { result ≡ may_reset (scenario_of scenario.now) self.old.history.items }
-        ensures turn { ResetTurn (scenario_of scenario.now) (schedule_of self.old)
-            (schedule_of self.new) }
-        ensures reached { (steps : List Step)
-            → IsReached (scenario_of scenario.now) steps (schedule_of self.old)
-            → IsReached (scenario_of scenario.now) (steps ++ Step.Reset ∷ [])
-            (schedule_of self.new) }
-        ensures stands { StandsFor (scenario_of scenario.now) self.new.unit
-            (map participation_of self.new.participants.items) }
+        ensures turn { CourseTakes scenario.now Step.Reset self.old self.new }
+        ensures reached { CourseExtends scenario.now Step.Reset self.old self.new }
+        ensures stands { IsCourseOf scenario.now self.new }
         ensures length { vec_len self.new.history ≤ vec_len self.old.history + 1 }
         ensures room { vec_capacity self.new.history ≡ vec_capacity self.old.history }
     {
@@ -116,14 +97,10 @@ impl Course {
     /// Takes the step: the turn of a nexus, or a reset of the unit.
     pub(crate) fn advance(&mut self, scenario: &Scenario, step: Step)
         requires there { IsThere (length (scenario_of scenario.now).nexuses) step }
-        requires stands { StandsFor (scenario_of scenario.now) self.old.unit
-            (map participation_of self.old.participants.items) }
-        requires room { vec_len self.old.history < vec_capacity self.old.history }
-        ensures reached { (steps : List Step)
-            → IsReached (scenario_of scenario.now) steps (schedule_of self.old)
-            → IsReached (scenario_of scenario.now) (steps ++ step ∷ []) (schedule_of self.new) }
-        ensures stands { StandsFor (scenario_of scenario.now) self.new.unit
-            (map participation_of self.new.participants.items) }
+        requires stands { IsCourseOf scenario.now self.old }
+        requires room { HasRoom self.old }
+        ensures reached { CourseExtends scenario.now step self.old self.new }
+        ensures stands { IsCourseOf scenario.now self.new }
         ensures length { vec_len self.new.history ≤ vec_len self.old.history + 1 }
         ensures room { vec_capacity self.new.history ≡ vec_capacity self.old.history }
     {
@@ -140,8 +117,7 @@ impl Course {
     /// How the nexus stands.
     pub(crate) fn end(&self, host: u8) -> End
         requires { host < vec_len self.now.participants }
-        ensures { ending (control (schedule_of self.now).world host)
-            (plan (schedule_of self.now) host) ≡ Some (ending_of result) }
+        ensures { ending_in (schedule_of self.now) host ≡ Some (ending_of result) }
     {
         self.participants[usize::from(host)].end()
     }
@@ -173,8 +149,7 @@ impl Course {
 // Each host and guest at its beginning.
 #[tactic(auto, unfolding(pr_roles::specs::Scenarios::scenario_of))]
 fn participants_of(alloc: Global, scenario: &Scenario) -> Result<Vec<Participant>, AllocError>
-    ensures { IfOk result (λ participants. map participation_of participants.items
-        ≡ map (λ n. participation_from n.task) (scenario_of scenario.now).nexuses) }
+    ensures { IfOk result (λ participants. AreFirst scenario.now participants.items) }
 {
     let nexuses = &scenario.parts().nexuses;
     let mut participants = Vec::with_capacity(alloc, nexuses.len())?;
@@ -186,9 +161,7 @@ fn participants_of(alloc: Global, scenario: &Scenario) -> Result<Vec<Participant
 
 // How each stands.
 fn ends_of(alloc: Global, participants: &[Participant]) -> Result<Vec<End>, AllocError>
-    ensures { IfOk result (λ ends. map (λ e. Some (ending_of e)) ends.items
-        ≡ map (λ p. ending (participation_of p).control (participation_of p).plan)
-        participants.now) }
+    ensures { IfOk result (λ ends. endings_of ends.items ≡ map ending_at participants.now) }
 {
     let mut ends = Vec::with_capacity(alloc, participants.len())?;
     for participant in participants {
@@ -204,8 +177,7 @@ pub fn counts_of(
     participants: usize,
 ) -> Result<Vec<u32>, AllocError>
     requires { length history.now < 2 ^ 32 }
-    ensures { IfOk result (λ counts. counts.items
-        ≡ map (λ h. commands_by history.now h) (range_with_len 0 participants)) }
+    ensures { IfOk result (λ counts. counts.items ≡ counts_by participants history.now) }
 {
     let mut counts = Vec::with_capacity(alloc, participants)?;
     for host in 0..participants {

@@ -2,11 +2,11 @@
 
 ghost use Rattle.std.specs.Prelude.{◌≡◌, ◌<◌, Some, IfOk, IsTrue};
 ghost use Rattle.pr_roles.specs.Scenarios.{task_of};
-ghost use Rattle.pr_world.specs.inside.Participations.{participation_of, participation_from, IsShort, IsSent};
-ghost use Rattle.pr_world.specs.Ends.{ending, ending_of};
+ghost use Rattle.pr_world.specs.Ends.{ending_of};
+ghost use Rattle.pr_world.specs.inside.Participations.{IsFirst, IsSent, IsShort, ending_at, participation_of};
 ghost use Rattle.pr_roles.specs.Worlds.{is_trapped};
 ghost use Rattle.pr_roles.specs.Schedules.{is_held_back, is_passed_over};
-ghost use Rattle.pr_world.specs.inside.Turns.{Acts, entry_in, doing_of, does_as};
+ghost use Rattle.pr_world.specs.inside.Turns.{ParticipantActs, doing_of, participant_does};
 
 use crate::act::Act;
 use crate::end::End;
@@ -35,8 +35,7 @@ impl Participant {
     /// The nexus at its beginning.
     pub(crate) fn new(alloc: Global, nexus: &Nexus) -> Result<Participant, AllocError>
         requires { IsShort (task_of nexus.now.task) }
-        ensures { IfOk result (λ participant. participation_of participant
-            ≡ participation_from (task_of nexus.now.task)) }
+        ensures { IfOk result (IsFirst nexus.now) }
     {
         match &nexus.task {
             Task::Scripted { script, .. } => Ok(Participant::Host(Machine::new(alloc, script)?)),
@@ -47,10 +46,9 @@ impl Participant {
     /// Takes its turn, in which a command is answered so, and says what it did.
     pub(crate) fn act(&mut self, unit: &mut Unit, role: &Role, host: u8, how: How) -> Act
         requires { host < unit.old.registry.hosts }
-        ensures does { doing_of result ≡ does_as how (participation_of self.old).control
-            role.now.clauses.items unit.old host (participation_of self.old).plan }
-        ensures acts { Acts how role.now.clauses.items host (participation_of self.old) unit.old
-            (entry_in result) (participation_of self.new) unit.new }
+        ensures does { doing_of result ≡ participant_does how role.now unit.old host self.old }
+        ensures acts { ParticipantActs how role.now host result self.old unit.old self.new
+            unit.new }
         ensures trapped { result ≡ Act.Trapped
             → IsTrue (is_trapped (participation_of self.old).control) }
         ensures hosts { unit.new.registry.hosts ≡ unit.old.registry.hosts }
@@ -82,8 +80,7 @@ impl Participant {
 
     /// How it stands.
     pub(crate) fn end(&self) -> End
-        ensures { ending (participation_of self.now).control (participation_of self.now).plan
-            ≡ Some (ending_of result) }
+        ensures { ending_at self.now ≡ Some (ending_of result) }
     {
         match self {
             Participant::Host(machine) => match machine.next() {

@@ -1,7 +1,8 @@
 //! What is left of a guest's plan.
 
-ghost use Rattle.std.specs.Prelude.{◌≡◌, ◌≤◌, [], ◌∷◌, length, IfOk, MatchOption};
+ghost use Rattle.std.specs.Prelude.{◌≡◌, ◌≤◌, length, IfOk};
 ghost use Rattle.pr_roles.specs.declared.limits.TheConstants.{MOST_PLANNED};
+ghost use Rattle.pr_world.specs.inside.Plans.{IsNext};
 
 use pr_cdb::Command;
 use std::alloc::{AllocError, Global};
@@ -26,9 +27,7 @@ impl Plan {
 
     /// Takes the next command out of the plan.
     pub(crate) fn next(&mut self) -> Option<Command>
-        ensures { MatchOption result ((self.old.commands.items ≡ [])
-            × (self.new.commands.items ≡ []))
-            (λ command. self.old.commands.items ≡ command ∷ self.new.commands.items) }
+        ensures { IsNext self.old.commands.items result self.new.commands.items }
     {
         self.commands.pop_front()
     }

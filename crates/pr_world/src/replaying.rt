@@ -1,10 +1,10 @@
 //! Replays: turns and resets in an order that is given.
 
-ghost use Rattle.std.specs.Prelude.{◌≡◌, ◌<◌, ◌^◌, length, map, IfOk};
+ghost use Rattle.std.specs.Prelude.{◌≡◌, ◌<◌, ◌^◌, length, IfOk};
 ghost use Rattle.std.specs.List.{All, list_any};
 ghost use Rattle.pr_roles.specs.Scenarios.{scenario_of};
 ghost use Rattle.pr_world.specs.Ends.{is_trapped_end};
-ghost use Rattle.pr_world.specs.Replays.{IsReplayed, IsThere};
+ghost use Rattle.pr_world.specs.Replays.{IsReplayed, IsThere, plain_steps};
 
 use crate::course::Course;
 use crate::end::End;
@@ -45,8 +45,7 @@ impl Replayed {
 pub fn replay(alloc: Global, scenario: &Scenario, steps: &[u8]) -> Result<Replayed, AllocError>
     requires there { All (λ host. host < length (scenario_of scenario.now).nexuses) steps.now }
     requires few { length steps.now < 2 ^ 32 }
-    ensures { IfOk result (IsReplayed (scenario_of scenario.now)
-        (map (λ host. Step.Of host How.Plain) steps.now)) }
+    ensures { IfOk result (IsReplayed (scenario_of scenario.now) (plain_steps steps.now)) }
 {
     let mut course = Course::begin(alloc, scenario, steps.len())?;
     for host in steps {

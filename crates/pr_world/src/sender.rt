@@ -1,15 +1,14 @@
 //! The nexuses of an audit.
 
-ghost use Rattle.std.specs.Prelude.{◌≡◌, ◌<◌, ℕ, List, Some, length, slice_index, IfOk, IfSome};
-ghost use Rattle.pr_script.specs.Scripts.{ready};
+ghost use Rattle.std.specs.Prelude.{◌≡◌, ◌<◌, IfOk, IfSome};
 ghost use Rattle.pr_cdb.specs.Requests.{AreBytes};
 ghost use Rattle.pr_roles.specs.Permits.{is_permitted};
 ghost use Rattle.pr_roles.specs.Scenarios.{task_of};
-ghost use Rattle.pr_roles.specs.Worlds.{control_of, standing_of};
-ghost use Rattle.pr_world.specs.Ends.{ending, ending_of};
+ghost use Rattle.pr_roles.specs.Worlds.{control_of};
+ghost use Rattle.pr_world.specs.Auditors.{IsNextOf, control_by};
+ghost use Rattle.pr_world.specs.Ends.{IsEndBy};
+ghost use Rattle.pr_world.specs.inside.Auditing.{IsAnswered, IsGuestJudged, JudgesEntry};
 ghost use Rattle.pr_world.specs.inside.Participations.{IsShort};
-ghost use Rattle.pr_world.specs.inside.Auditing.{IsAnswered, IsGuestJudged, IsJudged};
-ghost use Rattle.pr_world.specs.Auditors.{control_by};
 
 use crate::end::End;
 use crate::refusing::refused;
@@ -45,8 +44,7 @@ impl Sender {
 
     /// The line of the send at which the host's script is ready, with its command.
     pub(crate) fn next_command(&self) -> Option<(u32, Command)>
-        ensures { IfSome result (λ next. standing_of (control_by self.now)
-            ≡ Some (ready next.0 next.1)) }
+        ensures { IfSome result (IsNextOf (control_by self.now)) }
     {
         match self {
             Sender::Host(machine) => match machine.next() {
@@ -59,8 +57,7 @@ impl Sender {
 
     /// How it stands. A guest has not reached so many of its planned commands.
     pub(crate) fn end(&self, planned: u32) -> End
-        ensures { (plan : List Command) → length plan ≡ planned
-            → ending (control_by self.now) plan ≡ Some (ending_of result) }
+        ensures { IsEndBy (control_by self.now) planned result }
     {
         match self {
             Sender::Host(machine) => match machine.next() {
@@ -76,8 +73,8 @@ impl Sender {
     /// does; else nothing changes.
     pub(crate) fn sends(&mut self, unit: &mut Unit, role: &Role, entry: &Entry, how: How) -> bool
         requires { entry.now.host < unit.old.registry.hosts }
-        ensures judged { IsJudged how (control_by self.old) role.now.clauses.items unit.old
-            entry.now result (control_by self.new) unit.new }
+        ensures judged { JudgesEntry how role.now entry.now result self.old unit.old self.new
+            unit.new }
     {
         match self {
             Sender::Host(machine) => {

@@ -1,6 +1,6 @@
 //! A verified scenario at work.
 
-ghost use Rattle.std.specs.Prelude.{◌≡◌, ◌<◌, ◌^◌, ◌++◌, ◌∷◌, true, false, List, [], Some, length, map, sum, IfOk, IfErr};
+ghost use Rattle.std.specs.Prelude.{◌≡◌, ◌<◌, ◌^◌, true, false, [], Some, length, map, sum, IfOk, IfErr};
 ghost use Rattle.pr_roles.specs.Scenarios.{scenario_of, task_of};
 ghost use Rattle.pr_roles.specs.Safety.{IsSafe};
 ghost use Rattle.pr_world.specs.Courses.{IsReached};
@@ -49,11 +49,9 @@ impl Model for World {
 
 impl World {
     ghost use Rattle.pr_roles.specs.declared.step.Step.{Step};
-    ghost use Rattle.pr_roles.specs.Schedules.{Turn as IsTurn, ResetTurn, plan};
-    ghost use Rattle.pr_roles.specs.Worlds.{IsReset, control, may_reset};
-    ghost use Rattle.pr_world.specs.Courses.{IsOneEvent};
-    ghost use Rattle.pr_world.specs.Ends.{ending, ending_of};
-    ghost use Rattle.pr_world.specs.StepAnswers.{IfSent, IfStopped, IfHeld, IsStopped, PassesOver};
+    ghost use Rattle.pr_world.specs.Ends.{ending_in, ending_of};
+    ghost use Rattle.pr_world.specs.Progress.{Extends, IsLegalProgress, IsStoppedIn, PassesCommand, ResetsUnit, SendsEntry, TakesStep, has_reset_left};
+    ghost use Rattle.pr_world.specs.StepAnswers.{IfSent, IfStopped, IfHeld};
 
     /// The scenario at its first start, with room for its whole history. Where memory is refused it is handed back.
     pub fn begin(alloc: Global, verified: Verified) -> Result<World, (Verified, AllocError)>
@@ -75,19 +73,12 @@ impl World {
     pub fn step(&mut self, host: u8) -> Turn
         requires { host < length (scenario_of self.old.scenario).nexuses }
         ensures scenario { self.new.scenario ≡ self.old.scenario }
-        ensures turn { IsTurn (scenario_of self.old.scenario) self.old.schedule host How.Plain
-            self.new.schedule }
-        ensures reached { (steps : List Step)
-            → IsReached (scenario_of self.old.scenario) steps self.old.schedule
-            → IsReached (scenario_of self.old.scenario) (steps ++ Step.Of host How.Plain ∷ [])
-            self.new.schedule }
-        ensures sent { IfSent result (λ entry. IsOneEvent (scenario_of self.old.scenario) host entry
-            self.old.schedule.world self.new.schedule.world) }
-        ensures stopped { IfStopped result
-            (λ word. IsStopped (scenario_of self.old.scenario) self.old.schedule host word) }
+        ensures turn { TakesStep (Step.Of host How.Plain) self.old self.new }
+        ensures reached { Extends (Step.Of host How.Plain) self.old self.new }
+        ensures sent { IfSent result (SendsEntry host self.old self.new) }
+        ensures stopped { IfStopped result (IsStoppedIn self.old host) }
         ensures rests { IfStopped result (λ word. self.new.schedule ≡ self.old.schedule) }
-        ensures held { IfHeld result (PassesOver (scenario_of self.old.scenario) self.old.schedule
-            host self.new.schedule) }
+        ensures held { IfHeld result (PassesCommand host self.old self.new) }
     {
         self.step_as(host, How::Plain)
     }
@@ -99,19 +90,12 @@ impl World {
     pub fn step_as(&mut self, host: u8, how: How) -> Turn
         requires { host < length (scenario_of self.old.scenario).nexuses }
         ensures scenario { self.new.scenario ≡ self.old.scenario }
-        ensures turn { IsTurn (scenario_of self.old.scenario) self.old.schedule host how
-            self.new.schedule }
-        ensures reached { (steps : List Step)
-            → IsReached (scenario_of self.old.scenario) steps self.old.schedule
-            → IsReached (scenario_of self.old.scenario) (steps ++ Step.Of host how ∷ [])
-            self.new.schedule }
-        ensures sent { IfSent result (λ entry. IsOneEvent (scenario_of self.old.scenario) host entry
-            self.old.schedule.world self.new.schedule.world) }
-        ensures stopped { IfStopped result
-            (λ word. IsStopped (scenario_of self.old.scenario) self.old.schedule host word) }
+        ensures turn { TakesStep (Step.Of host how) self.old self.new }
+        ensures reached { Extends (Step.Of host how) self.old self.new }
+        ensures sent { IfSent result (SendsEntry host self.old self.new) }
+        ensures stopped { IfStopped result (IsStoppedIn self.old host) }
         ensures rests { IfStopped result (λ word. self.new.schedule ≡ self.old.schedule) }
-        ensures held { IfHeld result (PassesOver (scenario_of self.old.scenario) self.old.schedule
-            host self.new.schedule) }
+        ensures held { IfHeld result (PassesCommand host self.old self.new) }
     {
         match self.course.turn(self.verified.scenario(), host, how) {
             Act::Sent(entry) => Turn::Sent(entry),
@@ -126,16 +110,10 @@ impl World {
     /// takes no memory.
     pub fn reset(&mut self) -> bool
         ensures scenario { self.new.scenario ≡ self.old.scenario }
-        ensures made { result ≡ may_reset (scenario_of self.old.scenario)
-            self.old.schedule.world.history }
-        ensures turn { ResetTurn (scenario_of self.old.scenario) self.old.schedule
-            self.new.schedule }
-        ensures reached { (steps : List Step)
-            → IsReached (scenario_of self.old.scenario) steps self.old.schedule
-            → IsReached (scenario_of self.old.scenario) (steps ++ Step.Reset ∷ [])
-            self.new.schedule }
-        ensures reset { result ≡ true → IsReset (scenario_of self.old.scenario)
-            self.old.schedule.world self.new.schedule.world }
+        ensures made { result ≡ has_reset_left self.old }
+        ensures turn { TakesStep Step.Reset self.old self.new }
+        ensures reached { Extends Step.Reset self.old self.new }
+        ensures reset { result ≡ true → ResetsUnit self.old self.new }
         ensures rests { result ≡ false → self.new.schedule ≡ self.old.schedule }
     {
         self.course.reset(self.verified.scenario())
@@ -152,8 +130,7 @@ impl World {
     /// What happened to the unit, in order.
     pub fn history(&self) -> &[Item]
         ensures value { result.now ≡ self.now.schedule.world.history }
-        ensures reached { (steps : List Step)
-            × IsReached (scenario_of self.now.scenario) steps self.now.schedule }
+        ensures reached { IsLegalProgress self.now }
     {
         &self.course.history
     }
@@ -168,8 +145,7 @@ impl World {
     /// How the nexus stands.
     pub fn end(&self, host: u8) -> End
         requires { host < length (scenario_of self.now.scenario).nexuses }
-        ensures { ending (control self.now.schedule.world host) (plan self.now.schedule host)
-            ≡ Some (ending_of result) }
+        ensures { ending_in self.now.schedule host ≡ Some (ending_of result) }
     {
         self.course.end(host)
     }

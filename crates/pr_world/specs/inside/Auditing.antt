@@ -11,20 +11,22 @@ use Rattle.pr_cdb.specs.Spelling.{spelling}
 use Rattle.pr_unit.specs.UnitStates.{UnitState}
 use Rattle.pr_unit.specs.Replies.{is_good}
 use Rattle.pr_script.specs.Scripts.{ready}
+use Rattle.pr_roles.specs.declared.parts.Parts.{Parts}
 use Rattle.pr_roles.specs.declared.role.Clause.{Clause}
+use Rattle.pr_roles.specs.declared.role.Role.{Role}
 use Rattle.pr_roles.specs.declared.entry.Entry.{Entry}
 use Rattle.pr_roles.specs.declared.item.Item.{Item}
 use Rattle.pr_roles.specs.declared.how.How.{How}
 use Rattle.pr_roles.specs.declared.how.How.TheVariants as how
 use Rattle.pr_roles.specs.Answers.{Answers}
 use Rattle.pr_roles.specs.Permits.{is_permitted}
-use Rattle.pr_roles.specs.Scenarios.{Scenario}
-use Rattle.pr_roles.specs.Worlds.{World, Event, Run, Control, Going, Trapped, Free, standing_of, control_after, world_from}
+use Rattle.pr_roles.specs.Scenarios.{Scenario, scenario_of}
+use Rattle.pr_roles.specs.Worlds.{World, Event, Run, Control, Going, Trapped, Free, control_of, standing_of, control_after, world_from}
 use Rattle.pr_world.specs.declared.auditor.Auditor.{Auditor}
 use Rattle.pr_world.specs.declared.sender.Sender.{Sender}
 use Rattle.pr_world.specs.declared.sender.Sender.TheVariants as sender
 use Rattle.pr_world.specs.Courses.{is_planned}
-use Rattle.pr_world.specs.Auditors.{is_free}
+use Rattle.pr_world.specs.Auditors.{control_by, is_free}
 
 -- how it was answered, which its status tells
 abbrev pub how_of : Status → How
@@ -71,12 +73,20 @@ IsJudged k c clauses u e true after v = MayCome k c clauses u e after v
 IsJudged k c clauses u e false after v =
     (after ≡ c) × (v ≡ u) × ((other : Control) (w : UnitState) → MayCome k c clauses u e other w → ⊥)
 
+-- the same of a sender with this role, which becomes the other
+abbrev pub JudgesEntry : How → Role → Entry → Bool → Sender → UnitState → Sender → UnitState → Type 0
+JudgesEntry k role e answer x u y v = IsJudged k (control_by x) role.clauses.items u e answer (control_by y) v
+
 -- the same of a guest
 abbrev pub IsGuestJudged : How → List Clause → UnitState → Entry → Bool → UnitState → Type 0
 IsGuestJudged k clauses u e true v = GuestSendsSo k clauses u e v
 IsGuestJudged k clauses u e false v = (v ≡ u) × ((w : UnitState) → GuestSendsSo k clauses u e w → ⊥)
 
 -- ---- all of them
+
+-- each nexus of the scenario at its beginning
+abbrev pub AreFirstSenders : Parts → List Sender → Type 0
+AreFirstSenders p senders = map control_by senders ≡ map (λ n. control_of n.task) (scenario_of p).nexuses
 
 -- some run from this start has this history, and leads to this world
 pub record Reaches (s : Scenario) (u : UnitState) (history : List Item) (w : World) : Type 0 where

@@ -12,7 +12,9 @@ use Rattle.pr_roles.specs.declared.item.Item.{Item}
 use Rattle.pr_roles.specs.declared.item.Item.TheVariants.{Sent}
 use Rattle.pr_roles.specs.declared.how.How.{How}
 use Rattle.pr_roles.specs.declared.limits.TheConstants.{MOST_PLANNED}
-use Rattle.pr_roles.specs.Scenarios.{Scenario, Task, Scripted, Planned}
+use Rattle.pr_roles.specs.declared.parts.Nexus.{Nexus}
+use Rattle.pr_roles.specs.declared.parts.Parts.{Parts}
+use Rattle.pr_roles.specs.Scenarios.{Scenario, Task, Scripted, Planned, scenario_of, task_of}
 use Rattle.pr_roles.specs.Worlds.{World, Control, Going, Trapped, Free, control_of, entry_of}
 use Rattle.pr_roles.specs.Schedules.{TakenAnswer, Schedule, plan_of}
 use Rattle.pr_world.specs.declared.course.Course.{Course}
@@ -20,6 +22,7 @@ use Rattle.pr_world.specs.declared.participant.Participant.{Participant}
 use Rattle.pr_world.specs.declared.participant.Participant.TheVariants as participant
 use Rattle.pr_world.specs.Auditors.{is_free}
 use Rattle.pr_world.specs.Courses.{is_planned, IsOneEvent}
+use Rattle.pr_world.specs.Ends.{Ending, ending}
 
 -- what one nexus does, and what is left of its plan
 pub record Participation : Type 0 where
@@ -37,6 +40,18 @@ participation_of (participant.Guest plan) = participation Free plan.commands.ite
 -- at the beginning
 abbrev pub participation_from : Task → Participation
 participation_from task = participation (control_of task) (plan_of task)
+
+-- the nexus at its beginning
+abbrev pub IsFirst : Nexus → Participant → Type 0
+IsFirst n x = participation_of x ≡ participation_from (task_of n.task)
+
+-- each nexus of the scenario at its beginning
+abbrev pub AreFirst : Parts → List Participant → Type 0
+AreFirst p xs = map participation_of xs ≡ map (λ n. participation_from n.task) (scenario_of p).nexuses
+
+-- how it stands
+abbrev pub ending_at : Participant → Option Ending
+ending_at x = ending (participation_of x).control (participation_of x).plan
 
 -- the script and the plan are no longer than those that a text can have
 abbrev pub IsShort : Task → Type 0

@@ -4,6 +4,7 @@ use Rattle.pr_cdb.specs.declared.command.Command.{Command}
 use Rattle.pr_unit.specs.UnitStates.{UnitState}
 use Rattle.pr_script.specs.Scripts.{Standing, ready, stopped}
 use Rattle.pr_roles.specs.declared.role.Clause.{Clause}
+use Rattle.pr_roles.specs.declared.role.Role.{Role}
 use Rattle.pr_roles.specs.declared.entry.Entry.{Entry}
 use Rattle.pr_roles.specs.declared.how.How.{How}
 use Rattle.pr_roles.specs.Scenarios.{Scenario, role}
@@ -12,7 +13,8 @@ use Rattle.pr_roles.specs.Answers.{how_now}
 use Rattle.pr_roles.specs.Schedules.{Schedule, plan, is_passed_over}
 use Rattle.pr_world.specs.declared.act.Act.{Act}
 use Rattle.pr_world.specs.declared.act.Act.TheVariants as act
-use Rattle.pr_world.specs.inside.Participations.{Participation, participation, IsSent}
+use Rattle.pr_world.specs.declared.participant.Participant.{Participant}
+use Rattle.pr_world.specs.inside.Participations.{Participation, participation, participation_of, IsSent}
 
 -- ---- which of the things that there are to do
 
@@ -47,6 +49,10 @@ abbrev pub does_as : How → Control → List Clause → UnitState → ℕ → L
 does_as how (Going l) clauses u h planned = host_does (standing_of (Going l))
 does_as how (Trapped line) clauses u h planned = is_trapped
 does_as how Free clauses u h planned = guest_does how clauses u h planned
+
+-- of a participant with this role, as number h
+abbrev pub participant_does : How → Role → UnitState → ℕ → Participant → Doing
+participant_does how role u h x = does_as how (participation_of x).control role.clauses.items u h (participation_of x).plan
 
 -- what h does, if this is its turn, and it is to be answered so
 abbrev pub does : Scenario → Schedule → ℕ → How → Doing
@@ -94,3 +100,7 @@ ActsAs how Free clauses h x u e y v = GuestActs how clauses h x.plan u e y v
 
 abbrev pub Acts : How → List Clause → ℕ → Participation → UnitState → Option Entry → Participation → UnitState → Type 0
 Acts how clauses h x u e y v = ActsAs how x.control clauses h x u e y v
+
+-- the same of a participant with this role, which becomes the other
+abbrev pub ParticipantActs : How → Role → ℕ → Act → Participant → UnitState → Participant → UnitState → Type 0
+ParticipantActs how role h did x u y v = Acts how role.clauses.items h (participation_of x) u (entry_in did) (participation_of y) v

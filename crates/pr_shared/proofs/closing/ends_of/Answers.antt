@@ -17,7 +17,7 @@ end-requires c =
 pub push_reserved-requires : goal.push_reserved-requires
 push_reserved-requires c =
     let all = number_of_nexuses c.args.world.now.scenario _ _ _ refl (c.parts.ensures.value ∙ c.scenario.ensures.value) c.len-nexuses.ensures in
-    omega (arith, all, c.loop-host-test.true, c.requires.room, c.loop-host.invariant.len, c.loop-host.invariant.room)
+    omega (arith, all, c.loop-host-test.true, c.requires.1, c.loop-host.invariant.len, c.loop-host.invariant.room)
 
 pub loop-host-preserved : goal.loop-host-preserved
 loop-host-preserved c = record {

@@ -11,15 +11,16 @@ use Rattle.pr_roles.specs.declared.entry.Entry.{Entry}
 use Rattle.pr_roles.specs.declared.item.Item.{Item}
 use Rattle.pr_roles.specs.declared.item.Item.TheVariants.{Sent, Reset}
 use Rattle.pr_roles.specs.declared.parts.Parts.{Parts}
+use Rattle.pr_roles.specs.declared.step.Step.{Step}
 use Rattle.pr_roles.specs.Scenarios.{Scenario, scenario_of}
 use Rattle.pr_roles.specs.Schedules.{Schedule, plan}
 use Rattle.pr_roles.specs.Worlds.{control}
 use Rattle.pr_world.specs.declared.end.End.{End}
-use Rattle.pr_world.specs.Courses.{is_planned}
+use Rattle.pr_world.specs.Courses.{IsReached, is_planned}
 use Rattle.pr_world.specs.Ends.{Ending, ending, ending_of}
 use Rattle.pr_world.specs.Progress.{Progress}
 use Rattle.pr_shared.specs.Guests.{guests_of}
-use Rattle.pr_shared.specs.Histories.{IsLegalWorld, entries_by, entries_of}
+use Rattle.pr_shared.specs.Histories.{entries_by, entries_of}
 use Rattle.pr_shared.specs.inside.Senders.{is_sent_before}
 use Rattle.pr_shared.specs.Outcomes.{IsClosed, IsHalted, endings_in, is_over}
 
@@ -121,10 +122,10 @@ halted_own lists xs g seats f sent known history n same mine long is is' own =
 
 -- ---- a history that was halted
 
-pub halted : (s t : Scenario) (y : Schedule) (known history : List Item) (count n : ℕ) → t ≡ s → IsLegalWorld t y → known ≡ y.world.history → list_all (is_sent_before count) known ≡ true → count ≡ n
+pub halted : (s t : Scenario) (y : Schedule) (known history : List Item) (count n : ℕ) → t ≡ s → (steps : List Step) × IsReached t steps y → known ≡ y.world.history → list_all (is_sent_before count) known ≡ true → count ≡ n
     → history ≡ y.world.history → IsHalted s n history
 halted s t y known history count n same legal is before all is' =
-    let here : IsLegalWorld s y = subst (λ u. IsLegalWorld u y) same legal in
+    let here : (steps : List Step) × IsReached s steps y = subst (λ u. (steps : List Step) × IsReached u steps y) same legal in
     let less : list_all (is_sent_before n) history ≡ true = subst (λ k. list_all (is_sent_before k) history ≡ true) all (subst (λ items. list_all (is_sent_before count) items ≡ true) (is ∙ sym is') before) in
     record {
       start = here.1.start;

@@ -21,7 +21,7 @@ use Rattle.pr_world.specs.Courses.{IsReached}
 use Rattle.pr_world.specs.inside.Participations.{participation_of, schedule_of, HappensBy, StandsFor}
 use Rattle.pr_world.specs.Ends.{ending_of, ending, endings}
 use Rattle.pr_world.proofs.lemmas.Ends.Traps.{trapped_ends}
-use Rattle.pr_world.specs.Replays.{IsEndOf, IsReplayed}
+use Rattle.pr_world.specs.Replays.{IsEndOf, IsReplayed, plain_steps}
 
 -- ---- one step more
 
@@ -97,20 +97,17 @@ replayed s steps i c (Err e) running done outcome = outcome
 
 -- ---- turns that the unit answers
 
-abbrev pub plain : List ℕ → List Step
-plain hosts = map (λ host. step.Of host how.Plain) hosts
-
-pub plain_more : (s : Scenario) (hosts : List ℕ) (i : ℕ) (c d : Course) → i < length hosts → IsRunning s (plain hosts) i c
+pub plain_more : (s : Scenario) (hosts : List ℕ) (i : ℕ) (c d : Course) → i < length hosts → IsRunning s (plain_steps hosts) i c
     → ((before : List Step) → IsReached s before (schedule_of c) → IsReached s (before ++ step.Of (get_or hosts i 0) how.Plain ∷ []) (schedule_of d))
     → StandsFor s d.unit (map participation_of d.participants.items)
-    → vec_capacity d.history ≡ vec_capacity c.history → vec_len d.history ≤ vec_len c.history + 1 → IsRunning s (plain hosts) (i + 1) d
+    → vec_capacity d.history ≡ vec_capacity c.history → vec_len d.history ≤ vec_len c.history + 1 → IsRunning s (plain_steps hosts) (i + 1) d
 plain_more s hosts i c d there running more stands room few =
-    running_more s (plain hosts) i (step.Of 0 how.Plain) (step.Of (get_or hosts i 0) how.Plain) c d (rw (length-map hosts (λ host. step.Of host how.Plain)) there) running
+    running_more s (plain_steps hosts) i (step.Of 0 how.Plain) (step.Of (get_or hosts i 0) how.Plain) c d (rw (length-map hosts (λ host. step.Of host how.Plain)) there) running
     (sym (get_or-map (λ host. step.Of host how.Plain) hosts i 0)) more stands room few
 
-pub plain_replayed : (s : Scenario) (hosts : List ℕ) (i : ℕ) (c : Course) (r : Result Replayed AllocError) → IsRunning s (plain hosts) i c → length hosts ≤ i
-    → IfOk r (IsEndOf (schedule_of c)) → IfOk r (IsReplayed s (plain hosts))
-plain_replayed s hosts i c r running done outcome = replayed s (plain hosts) i c r running (rw (length-map hosts (λ host. step.Of host how.Plain)) done) outcome
+pub plain_replayed : (s : Scenario) (hosts : List ℕ) (i : ℕ) (c : Course) (r : Result Replayed AllocError) → IsRunning s (plain_steps hosts) i c → length hosts ≤ i
+    → IfOk r (IsEndOf (schedule_of c)) → IfOk r (IsReplayed s (plain_steps hosts))
+plain_replayed s hosts i c r running done outcome = replayed s (plain_steps hosts) i c r running (rw (length-map hosts (λ host. step.Of host how.Plain)) done) outcome
 
 -- ---- how they stand
 

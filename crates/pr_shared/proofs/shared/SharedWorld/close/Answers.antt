@@ -10,7 +10,7 @@ pub finish-world-requires-clause-room : goal.finish-world-requires-clause-room
 finish-world-requires-clause-room g c =
     let seats = ordered_length c.args.seats.items (λ s. s.host) _ c.requires.in_order in
     let nexuses = guests_length (scenario_of c.args.self.kept.scenario) _ c.args.self.guests in
-    omega (arith, seats, nexuses, c.args.seats.ok.0, c.args.self.kept.room_for_mine)
+    (c.args.self.kept.no_mine, omega (arith, seats, nexuses, c.args.seats.ok.0, c.args.self.kept.room_for_mine))
 
 pub returns-clause-own : goal.returns-clause-own
 returns-clause-own g c =
