@@ -1,11 +1,11 @@
 //! Lines of words to a writer, with no text in between that takes memory.
 
-ghost use Rattle.std.specs.Prelude.{◌++◌, ◌<◌, ◌≡◌, codes, false, map};
+ghost use Rattle.std.specs.Prelude.{◌++◌, ◌<◌, ◌≡◌, codes, false};
 ghost use Rattle.std.specs.Fmt.{decimal, digits, digit_glyph};
 ghost use Rattle.pr_cdb.specs.Kinds.{code_of};
 ghost use Rattle.pr_report.specs.Written.{Writes};
-ghost use Rattle.pr_report.specs.PrintedLines.{attention_word, attentions_word, class_word, holder_word, key_or_dash, key_word, line, more_attentions_word, pair, pairs, pairs_or_dash, registration_word, reservation_key_word, sense_word, service_action_key_word, joined_by_spaces, type_word};
-ghost use Rattle.pr_report.specs.Printed.{printed_word};
+ghost use Rattle.pr_report.specs.PrintedLines.{attention_word, attentions_word, class_word, holder_word, key_or_dash, more_attentions_word, pair, pairs, pairs_or_dash, registration_word, reservation_key_word, sense_word, service_action_key_word, joined_by_spaces, type_word};
+ghost use Rattle.pr_report.specs.Printed.{printed_word, printed_words, printed_line};
 
 use crate::output::{WriteFault, put};
 use itoa::Buffer;
@@ -59,8 +59,7 @@ pub fn put_line<W: Write>(
     first: Word<'_>,
     others: &[Word<'_>],
 ) -> Result<(), WriteFault>
-    ensures { Writes W.Write writer (line (printed_word first.entry) (map printed_word others.now))
-        result }
+    ensures { Writes W.Write writer (printed_line first.entry others.now) result }
 {
     put_word(writer, first)?;
     put_spaced(writer, others)?;
@@ -69,7 +68,7 @@ pub fn put_line<W: Write>(
 
 /// Writes each word after a space.
 pub fn put_spaced<W: Write>(writer: &mut W, words: &[Word<'_>]) -> Result<(), WriteFault>
-    ensures { Writes W.Write writer (joined_by_spaces (map printed_word words.now)) result }
+    ensures { Writes W.Write writer (joined_by_spaces (printed_words words.now)) result }
 {
     for word in words {
         put_after_space(writer, *word)?;

@@ -4,14 +4,15 @@ ghost use Rattle.std.specs.Prelude.{◌≡◌, ◌+◌, ◌++◌, ◌∷◌, [],
 ghost use Rattle.pr_registry.specs.Registrations.{key_of};
 ghost use Rattle.pr_roles.specs.Scenarios.{scenario_of};
 ghost use Rattle.pr_world.specs.Ends.{ending_of};
+ghost use Rattle.pr_report.specs.inside.WordsWritten.{WritesWords};
 ghost use Rattle.pr_report.specs.Written.{Writes};
 ghost use Rattle.pr_report.specs.inside.FrontsWritten.{WritesThrough};
 ghost use Rattle.pr_report.specs.inside.TraceLines.{line_text};
 ghost use Rattle.std.specs.Bool.{OnTrue, OnFalse};
 ghost use Rattle.std.specs.Fmt.{decimal};
 ghost use Rattle.pr_report.specs.Printed.{printed_word};
-ghost use Rattle.pr_report.specs.PrintedLines.{line, joined_by_spaces};
-ghost use Rattle.pr_report.specs.TraceText.{ending_line, ending_lines, entry_line, held_word, item_line, item_lines, name_of, names_in, names_of, registration_words, reset_line, sense_data, trace_body, trace_text, unit_line};
+ghost use Rattle.pr_report.specs.PrintedLines.{line};
+ghost use Rattle.pr_report.specs.TraceText.{ending_line, ending_lines, entry_line, held_word, item_line, item_lines, name_of, names_of, registration_words, reset_line, sense_data, trace_body, trace_text, unit_line, names_under};
 
 use crate::first_line::put_first;
 use crate::output::{Page, WriteFault, put};
@@ -57,7 +58,7 @@ pub fn write_trace<W: Write>(
     counts: &[u32],
 ) -> Result<(), WriteFault>
     ensures { Writes W.Write writer (trace_text (scenario_of scenario.now).version
-        (names_in (scenario_of scenario.now)) history.now unit.now.registry (map ending_of ends.now)
+        (names_under scenario.now) history.now unit.now.registry (map ending_of ends.now)
         counts.now) result }
 {
     let parts = scenario.parts();
@@ -99,7 +100,7 @@ pub fn write_trace_body<W: Write>(
     ends: &[End],
     counts: &[u32],
 ) -> Result<(), WriteFault>
-    ensures { Writes W.Write writer (trace_body (names_in (scenario_of scenario.now)) history.now
+    ensures { Writes W.Write writer (trace_body (names_under scenario.now) history.now
         unit.now.registry (map ending_of ends.now) counts.now) result }
 {
     put_trace_body(
@@ -311,8 +312,8 @@ fn put_registrations<W: Write>(
     nexuses: &[Nexus],
     unit: &Registry,
 ) -> Result<(), WriteFault>
-    ensures { Writes W.Write writer (joined_by_spaces
-        (registration_words unit.now 0 (names_of nexuses.now))) result }
+    ensures { WritesWords W.Write writer (registration_words unit.now 0 (names_of nexuses.now))
+        result }
 {
     for (host, nexus) in nexuses.iter().enumerate() {
         put_after_space(
