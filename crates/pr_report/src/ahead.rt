@@ -29,8 +29,7 @@ pub(crate) struct Ahead {
 
 impl Ahead {
     ghost use Rattle.std.specs.Prelude.{◌≡◌, ◌+◌, ◌≤◌, ◌++◌, [], length, drop, OnOk, IfErr, IfOk};
-    ghost use Rattle.std.specs.Io.KnownBytes.{Keeps};
-    ghost use Rattle.pr_report.specs.inside.LinesAhead.{FindsAhead, TakesAhead, TellsGrown, bytes_held, left_after, left_before, line_end};
+    ghost use Rattle.pr_report.specs.inside.LinesAhead.{FindsAhead, TakesAhead, TellsGrown, bytes_held, line_end, KeepsAhead};
 
     pub(crate) fn new() -> Ahead
         ensures { bytes_held result ≡ [] }
@@ -93,8 +92,7 @@ impl Ahead {
     // Whether the reader had more.
     fn read_more<R: Read>(&mut self, reader: &mut R) -> Result<bool, TraceError>
         requires { length (bytes_held self.old) ≤ MOST_LINE_BYTES }
-        ensures kept { OnOk result (Keeps (left_before R.Read reader self)
-            (left_after R.Read reader self)) }
+        ensures kept { OnOk result (KeepsAhead R.Read reader self) }
         ensures taken { TakesAhead R.Read reader self 0 }
         ensures fault { IfErr result (λ e. e ≡ TraceError.ReadFault) }
         ensures grown { IfOk result (TellsGrown R.Read reader self) }

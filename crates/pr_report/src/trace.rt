@@ -1,12 +1,12 @@
 //! The text of a trace.
 
-ghost use Rattle.std.specs.Prelude.{◌≡◌, ◌+◌, ◌++◌, ◌∷◌, [], codes, map, slice_index};
+ghost use Rattle.std.specs.Prelude.{◌≡◌, ◌∷◌, [], codes, map, slice_index};
 ghost use Rattle.pr_registry.specs.Registrations.{key_of};
 ghost use Rattle.pr_roles.specs.Scenarios.{scenario_of};
 ghost use Rattle.pr_world.specs.Ends.{ending_of};
 ghost use Rattle.pr_report.specs.inside.WordsWritten.{WritesWords};
 ghost use Rattle.pr_report.specs.Written.{Writes};
-ghost use Rattle.pr_report.specs.inside.FrontsWritten.{WritesThrough};
+ghost use Rattle.pr_report.specs.inside.FrontsWritten.{WritesPaged, Adds};
 ghost use Rattle.pr_report.specs.inside.TraceLines.{line_text};
 ghost use Rattle.std.specs.Bool.{OnTrue, OnFalse};
 ghost use Rattle.std.specs.Fmt.{decimal};
@@ -139,7 +139,7 @@ fn add_body<W: Write>(
     ends: &[End],
     counts: &[u32],
 ) -> Result<(), WriteFault>
-    ensures { WritesThrough W.Write writer page
+    ensures { WritesPaged W.Write writer page
         (trace_body (names_of nexuses.now) history.now unit.now (map ending_of ends.now) counts.now)
         result }
 {
@@ -154,7 +154,7 @@ fn add_items<W: Write>(
     nexuses: &[Nexus],
     history: &[Item],
 ) -> Result<(), WriteFault>
-    ensures { WritesThrough W.Write writer page (item_lines 0 (names_of nexuses.now) history.now)
+    ensures { WritesPaged W.Write writer page (item_lines 0 (names_of nexuses.now) history.now)
         result }
 {
     for (others, item) in history.iter().enumerate() {
@@ -171,7 +171,7 @@ fn add_ends<W: Write>(
     ends: &[End],
     counts: &[u32],
 ) -> Result<(), WriteFault>
-    ensures { WritesThrough W.Write writer page
+    ensures { WritesPaged W.Write writer page
         (ending_lines 0 (names_of nexuses.now) counts.now (map ending_of ends.now)) result }
 {
     for (host, end) in ends.iter().enumerate() {
@@ -188,7 +188,7 @@ fn add_line<W: Write>(
     nexuses: &[Nexus],
     line: &TraceLine<'_>,
 ) -> Result<(), WriteFault>
-    ensures { WritesThrough W.Write writer page (line_text (names_of nexuses.now) line.now) result }
+    ensures { WritesPaged W.Write writer page (line_text (names_of nexuses.now) line.now) result }
 {
     if has_added(page, nexuses, line) {
         return Ok(());
@@ -203,8 +203,7 @@ fn add_line<W: Write>(
 
 // Whether the page had room for the line, which is on it then.
 fn has_added(page: &mut Page, nexuses: &[Nexus], line: &TraceLine<'_>) -> bool
-    ensures added { OnTrue result (page.new.items
-        ≡ page.old.items ++ line_text (names_of nexuses.now) line.now) }
+    ensures added { OnTrue result (Adds page (line_text (names_of nexuses.now) line.now)) }
     ensures full { OnFalse result (page.new.items ≡ page.old.items) }
 {
     let before = page.len();

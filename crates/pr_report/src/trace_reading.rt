@@ -1,14 +1,14 @@
 //! Traces from their texts.
 
-ghost use Rattle.std.specs.Prelude.{◌≡◌, ◌≤◌, ℕ, List, Ok, length, IfOk, IfSome, OnOk};
+ghost use Rattle.std.specs.Prelude.{◌≡◌, ◌≤◌, length, IfOk, IfSome};
 ghost use Rattle.pr_cdb.specs.declared.codes.TheConstants.{MOST_NEXUSES};
 ghost use Rattle.pr_report.specs.declared.versions.TheConstants.{MOST_ITEMS_2};
 ghost use Rattle.pr_report.specs.Versions.{most_items};
 ghost use Rattle.pr_roles.specs.Scenarios.{scenario_of};
 ghost use Rattle.pr_report.specs.TraceText.{names_of};
 ghost use Rattle.pr_report.specs.BytesTaken.{TakesUpTo, bytes_of_lines, most_of_trace};
-ghost use Rattle.pr_report.specs.TraceReadings.{FaultsTrace, ReadsTrace, items_of, is_later, later_lines, lines, trace_in};
-ghost use Rattle.pr_report.specs.inside.LinesAhead.{FaultsAhead, FirstRead, ItemsRead, LeadsAhead, TakesAhead, left_before};
+ghost use Rattle.pr_report.specs.TraceReadings.{FaultsTrace, ReadsTrace, items_of, is_later, later_lines};
+ghost use Rattle.pr_report.specs.inside.LinesAhead.{FaultsAhead, TakesAhead, ReadsFirst, FaultsFirst, ReadsItems, ReadsLater};
 
 use crate::ahead::{Ahead, MOST_LINE_BYTES};
 use crate::entry_reading::item_on;
@@ -53,10 +53,8 @@ pub fn read_trace<R: Read>(
 // Reads the line above all others.
 fn read_first<R: Read>(version: u8, ahead: &mut Ahead, reader: &mut R) -> Result<(), TraceError>
     ensures taken { TakesAhead R.Read reader ahead (bytes_of_lines 1) }
-    ensures ok { (names : List (List ℕ)) → OnOk result
-        (LeadsAhead R.Read reader ahead (FirstRead version names)) }
-    ensures fault { (names : List (List ℕ))
-        → FaultsAhead R.Read reader ahead (trace_in version names) result }
+    ensures ok { ReadsFirst R.Read reader ahead version result }
+    ensures fault { FaultsFirst R.Read reader ahead version result }
 {
     let Some(end) = ahead.next_line(reader)? else {
         return Err(TraceError::Syntax { line: 1 });
@@ -78,8 +76,7 @@ fn read_items<R: Read>(
 ) -> Result<Vec<Item>, TraceError>
     requires { length nexuses.now ≤ MOST_NEXUSES }
     ensures taken { TakesAhead R.Read reader ahead (bytes_of_lines (most_items version)) }
-    ensures ok { IfOk result (λ history. LeadsAhead R.Read reader ahead
-        (ItemsRead version (names_of nexuses.now) history.items)) }
+    ensures ok { ReadsItems R.Read reader ahead version (names_of nexuses.now) result }
     ensures few { IfOk result (λ history. length history.items ≤ most_items version) }
     ensures fault { FaultsAhead R.Read reader ahead (items_of version (names_of nexuses.now) 0)
         result }
@@ -102,8 +99,7 @@ fn read_items<R: Read>(
 fn read_later<R: Read>(items: u32, ahead: &mut Ahead, reader: &mut R) -> Result<(), TraceError>
     requires { items ≤ MOST_ITEMS_2 }
     ensures taken { TakesAhead R.Read reader ahead (bytes_of_lines MOST_LATER_LINES) }
-    ensures ok { IfSome (left_before R.Read reader ahead)
-        (λ text. OnOk result (later_lines items 0 (lines text) ≡ Ok tt)) }
+    ensures ok { ReadsLater R.Read reader ahead items result }
     ensures fault { FaultsAhead R.Read reader ahead (later_lines items 0) result }
 {
     let mut others = 0;

@@ -1,5 +1,5 @@
 -- Bytes that were read and not looked at yet, and the lines in them.
-use Rattle.std.specs.Prelude.{◌≡◌, ℕ, ◌+◌, ◌≤◌, ◌<◌, ◌==◌, Bool, nat_lt, if◌then◌else◌, List, [], ◌∷◌, ◌++◌, length, take, drop, position, Option, Some, None, IfSome, Result, Ok, IfErr, MatchBool}
+use Rattle.std.specs.Prelude.{◌≡◌, ℕ, ◌+◌, ◌≤◌, ◌<◌, ◌==◌, Bool, nat_lt, if◌then◌else◌, List, [], ◌∷◌, ◌++◌, length, take, drop, position, Option, Some, None, IfSome, Result, Ok, IfOk, IfErr, OnOk, MatchBool, Vec}
 use Rattle.std.specs.Option.{option_or}
 use Rattle.std.specs.Borrow.{MutBor}
 use Rattle.std.specs.Io.KnownBytes.{Consumes, IsAtEnd, Keeps, prepend_known}
@@ -92,10 +92,26 @@ module _ {A : Type 0} (ghosts : Read.Ghosts A) (reader : Both (MutBor A) (MutBor
       MatchBool more (length (bytes_held ahead.entry.now) < length (bytes_held ahead.exit.now))
       ((bytes_held ahead.exit.now ≡ bytes_held ahead.entry.now) × IsAtEnd (ghosts.remaining reader.exit.now))
 
-  -- this holds of what was left and what is left now, where both are known
-  abbrev pub LeadsAhead : (List ℕ → List ℕ → Type 0) → Type 0
-  LeadsAhead P = Leads P left_before left_after
+  -- Nothing of what was left is lost.
+  abbrev pub KeepsAhead : Type 0
+  KeepsAhead = Keeps left_before left_after
 
   -- Where it fails and what was left is known, the fault is that of its lines.
   abbrev pub FaultsAhead : {B C : Type 0} → (List (List ℕ) → Result B TraceError) → Result C TraceError → Type 0
   FaultsAhead answer result = IfSome left_before (λ text. IfErr result (λ e. Faults e (answer (lines text))))
+
+  -- Where it succeeds, the first line is right, and what is left is read under any names as what stands behind it.
+  abbrev pub ReadsFirst : {B : Type 0} → ℕ → Result B TraceError → Type 0
+  ReadsFirst version result = (names : List (List ℕ)) → OnOk result (Leads (FirstRead version names) left_before left_after)
+
+  -- Where it fails, the fault is that of the whole text, under any names.
+  abbrev pub FaultsFirst : {B : Type 0} → ℕ → Result B TraceError → Type 0
+  FaultsFirst version result = (names : List (List ℕ)) → FaultsAhead (trace_in version names) result
+
+  -- Where it succeeds, these are all items, and what is left are later lines.
+  abbrev pub ReadsItems : {B : Type 0} → ℕ → List (List ℕ) → Result (Vec Item B) TraceError → Type 0
+  ReadsItems version names result = IfOk result (λ history. Leads (ItemsRead version names history.items) left_before left_after)
+
+  -- Where it succeeds and what was left is known, that was later lines behind so many items.
+  abbrev pub ReadsLater : {B : Type 0} → ℕ → Result B TraceError → Type 0
+  ReadsLater items result = IfSome left_before (λ text. OnOk result (later_lines items 0 (lines text) ≡ Ok tt))
