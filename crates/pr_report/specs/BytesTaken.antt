@@ -1,7 +1,10 @@
 -- Agrees with docs/FORMATS.md, 'Reading a trace'.
 -- How many bytes are taken from a reader.
 use Rattle.std.specs.Prelude.{ℕ, ◌+◌, ◌*◌, ◌≤◌, List, length, Option}
+use Rattle.std.specs.Borrow.{MutBor}
 use Rattle.std.specs.Io.KnownBytes.{Consumes}
+use Rattle.std.specs.declared.io.Read as Read
+use denote.Triple.Both.{Both}
 use Rattle.pr_report.specs.declared.ahead.TheConstants.{MOST_LINE_BYTES, MOST_HELD}
 use Rattle.pr_report.specs.Versions.{most_items}
 use Rattle.pr_report.specs.declared.trace_reading.TheConstants.{MOST_LATER_LINES}
@@ -11,6 +14,10 @@ pub record LosesUpTo (limit : ℕ) (old new : Option (List ℕ)) : Type 0 where
   pub lost : List ℕ
   pub taken : Consumes old new lost
   pub limited : length lost ≤ limit
+
+-- a call, with the reader as it was and as it is, has taken no more bytes than the limit
+abbrev pub TakesUpTo : {A : Type 0} → Read.Ghosts A → Both (MutBor A) (MutBor A) → ℕ → Type 0
+TakesUpTo ghosts reader limit = LosesUpTo limit (ghosts.remaining reader.entry.now) (ghosts.remaining reader.exit.now)
 
 -- the bytes of so many lines of a trace, with their ends, where each is as long as it may be
 abbrev pub bytes_of_lines : ℕ → ℕ

@@ -26,17 +26,17 @@ indented_line words = line (codes " ") words
 
 -- ---- what is possible
 
--- the registrations of a nexus, by their numbers
-abbrev pub registrations_of : View → ℕ → List ℕ
-registrations_of v g = filter (v.registrations g) (range_with_len 0 (length v.scope.keys + 1))
-
 abbrev pub free_or_key : Option ℕ → List ℕ
 free_or_key None = codes "free"
 free_or_key (Some key) = key_word key
 
+-- the words of the registrations with these keys that are possible, as their numbers tell
+abbrev pub free_or_keys : List ℕ → (ℕ → Bool) → List (List ℕ)
+free_or_keys keys is_possible = map (λ r. free_or_key (key_at keys r)) (filter is_possible (range_with_len 0 (length keys + 1)))
+
 unfoldable pub registration_line : List (List ℕ) → View → ℕ → List ℕ
 registration_line names v g =
-    indented_line (codes "registration" ∷ name_of names g ∷ map (λ r. free_or_key (key_at v.scope.keys r)) (registrations_of v g))
+    indented_line (codes "registration" ∷ name_of names g ∷ free_or_keys v.scope.keys (v.registrations g))
 
 -- the types of which one nexus is the holder
 abbrev pub kinds_of_one : List Kind
@@ -64,9 +64,12 @@ reservation_line names v = indented_line (codes "reservation" ∷ map (held_word
 abbrev pub codes_in : ℕ → List ℕ
 codes_in q = filter (set.contains (codes_of q)) attentions
 
+-- the words of the sets of attentions that are possible, as their numbers tell
+abbrev pub sets_words : (ℕ → Bool) → List (List ℕ)
+sets_words is_possible = map (λ q. attentions_word (codes_in q)) (filter is_possible (range_with_len 0 count_of_attentions))
+
 unfoldable pub pending_line : View → List ℕ
-pending_line v =
-    indented_line (codes "pending" ∷ map (λ q. attentions_word (codes_in q)) (filter v.pending (range_with_len 0 count_of_attentions)))
+pending_line v = indented_line (codes "pending" ∷ sets_words v.pending)
 
 unfoldable pub view_text : List (List ℕ) → View → List ℕ
 view_text names v =
@@ -78,10 +81,18 @@ abbrev pub permitted_text : Bool → List ℕ
 permitted_text true = []
 permitted_text false = indented_line (codes "not" ∷ codes "permitted" ∷ [])
 
+-- the line of an arm that asks this
+abbrev pub on_line : List (List ℕ) → List ℕ
+on_line asked = indented_line (codes "on" ∷ asked)
+
 -- the line of an arm; an arm that is not there has none
 abbrev pub arm_text : Option Test → List ℕ
 arm_text None = []
-arm_text (Some test) = indented_line (codes "on" ∷ test_words test)
+arm_text (Some test) = on_line (test_words test)
+
+-- those of these arms, by their places among the tests
+abbrev pub arms_text : List Test → List ℕ → List ℕ
+arms_text tests arms = flat_map (λ arm. arm_text (slice_get tests arm)) arms
 
 abbrev pub unarmed_line : Class → List ℕ
 unarmed_line class = indented_line (codes "no" ∷ codes "arm" ∷ class_word class ∷ [])
@@ -96,7 +107,7 @@ never_text (arm ∷ arms) (class ∷ classes) = []
 unfoldable pub replies_text : Row → List ℕ
 replies_text r =
     permitted_text r.permitted
-    ++ (flat_map (λ arm. arm_text (slice_get r.tests arm)) r.arms
+    ++ (arms_text r.tests r.arms
     ++ (flat_map unarmed_line r.unarmed ++ never_text r.arms r.unarmed))
 
 -- ---- the whole

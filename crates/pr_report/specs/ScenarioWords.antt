@@ -23,6 +23,10 @@ out_words action options = codes "--out" ∷ action ∷ options
 abbrev pub blocks_words : List ℕ → ℕ → ℕ → List (List ℕ)
 blocks_words name lba blocks = name ∷ decimal lba ∷ decimal blocks ∷ []
 
+-- the options of a reservation of some type
+abbrev pub typed_options : ℕ → Kind → List (List ℕ)
+typed_options rk kind = reservation_key_word rk ∷ type_word kind ∷ []
+
 -- the options of a preempt; where its bytes have no type that is one, neither do its words
 abbrev pub preempt_options : ℕ → ℕ → Option Kind → List (List ℕ)
 preempt_options rk sark None = reservation_key_word rk ∷ service_action_key_word sark ∷ []
@@ -38,19 +42,23 @@ command_words (ReadReservation alloc) = in_words (codes "--read-reservation")
 command_words (ReportCapabilities alloc) = in_words (codes "--report-capabilities")
 command_words (Register rk sark) = out_words (codes "--register") (reservation_key_word rk ∷ service_action_key_word sark ∷ [])
 command_words (RegisterIgnore sark) = out_words (codes "--register-ignore") (service_action_key_word sark ∷ [])
-command_words (Reserve rk kind) = out_words (codes "--reserve") (reservation_key_word rk ∷ type_word kind ∷ [])
-command_words (Release rk kind) = out_words (codes "--release") (reservation_key_word rk ∷ type_word kind ∷ [])
+command_words (Reserve rk kind) = out_words (codes "--reserve") (typed_options rk kind)
+command_words (Release rk kind) = out_words (codes "--release") (typed_options rk kind)
 command_words (Clear rk) = out_words (codes "--clear") (reservation_key_word rk ∷ [])
 command_words (Preempt rk sark kind) = out_words (codes "--preempt") (preempt_options rk sark kind)
 command_words (PreemptAbort rk sark kind) = out_words (codes "--preempt-abort") (preempt_options rk sark kind)
 
 -- ---- arms
 
+-- a GOOD that tells so of a key
+abbrev pub good_words : List ℕ → ℕ → List (List ℕ)
+good_words verb key = class_word class.Good ∷ verb ∷ key_word key ∷ []
+
 -- what an arm asks of a reply; how that ended has the words of its class
 abbrev pub test_words : Test → List (List ℕ)
 test_words Good = class_word class.Good ∷ []
-test_words (GoodHas key) = class_word class.Good ∷ codes "has" ∷ key_word key ∷ []
-test_words (GoodHeld key) = class_word class.Good ∷ codes "held" ∷ key_word key ∷ []
+test_words (GoodHas key) = good_words (codes "has") key
+test_words (GoodHeld key) = good_words (codes "held") key
 test_words GoodUnheld = class_word class.Good ∷ codes "unheld" ∷ []
 test_words Conflict = class_word class.Conflict ∷ []
 test_words Busy = class_word class.Busy ∷ []

@@ -1,19 +1,20 @@
 -- Agrees with docs/FORMATS.md, 'Reading a trace'.
 -- What a trace text is read as: its entries, or its one fault.
-use Rattle.std.specs.Prelude.{◌≡◌, ℕ, Bool, decimal, ◌++◌, ◌+◌, ◌==◌, ◌||◌, ◌&&◌, nat_eq, nat_lt, nat_le, if◌then◌else◌, List, [], ◌∷◌, length, position, codes, bytes_eq, Option, Some, None, Result, Ok, Err}
+use Rattle.std.specs.Prelude.{◌≡◌, ℕ, Bool, decimal, ◌++◌, ◌+◌, ◌==◌, ◌||◌, ◌&&◌, nat_eq, nat_lt, nat_le, if◌then◌else◌, List, [], ◌∷◌, length, position, codes, bytes_eq, Option, Some, None, Result, Ok, Err, IfOk, IfErr, Vec}
 use Rattle.std.specs.List.{slice_split, starts_with}
 use Rattle.pr_cdb.specs.declared.reply.Reply.{Reply}
 use Rattle.pr_cdb.specs.declared.wire.Wire.{Wire}
 use Rattle.pr_roles.specs.declared.entry.Entry.{Entry}
 use Rattle.pr_roles.specs.declared.item.Item.{Item}
 use Rattle.pr_roles.specs.declared.item.Item.TheVariants.{Sent, Reset}
+use Rattle.pr_roles.specs.Scenarios.{Scenario}
 use Rattle.pr_roles.specs.Worlds.{entry_of}
 use Rattle.pr_report.specs.declared.ahead.TheConstants.{MOST_LINE_BYTES}
 use Rattle.pr_report.specs.Versions.{has_resets, most_items}
 use Rattle.pr_report.specs.declared.trace_reading.TheConstants.{MOST_LATER_LINES}
 use Rattle.pr_report.specs.declared.trace_error.TraceError.{TraceError}
 use Rattle.pr_report.specs.declared.trace_error.TraceError.TheVariants.{Syntax, UnknownName, TooLong, ReadFault, Memory}
-use Rattle.pr_report.specs.TraceText.{first_line}
+use Rattle.pr_report.specs.TraceText.{first_line, names_in}
 use Rattle.pr_report.specs.EntryWords.{word_at, exchange_in}
 
 -- the second step, on what the first gave
@@ -57,6 +58,10 @@ entry_on version names index line = entry_said names (index + 1) (word_at (words
 
 -- ---- an item's line
 
+-- the item of a command with this index
+abbrev pub sent_on : ℕ → List (List ℕ) → ℕ → List ℕ → Result Item TraceError
+sent_on version names index line = and_then (entry_on version names index line) (λ e. Ok (Sent e))
+
 -- the line says that the unit was reset, in a version that has resets
 unfoldable pub is_reset_on : ℕ → ℕ → List ℕ → Bool
 is_reset_on version index line = has_resets version && bytes_eq line (decimal index ++ codes " reset")
@@ -66,7 +71,7 @@ unfoldable pub item_on : ℕ → List (List ℕ) → ℕ → List ℕ → Result
 item_on version names index line =
     if nat_lt (most_items version) index then Err TooLong else (
     if nat_lt MOST_LINE_BYTES (length line) then Err (Syntax (index + 1)) else (
-    if is_reset_on version index line then Ok Reset else and_then (entry_on version names index line) (λ e. Ok (Sent e))))
+    if is_reset_on version index line then Ok Reset else sent_on version names index line))
 
 -- ---- all lines
 
@@ -97,6 +102,10 @@ trace_in version names (l ∷ ls) = if bytes_eq l (first_line version) then item
 unfoldable pub trace_of : ℕ → List (List ℕ) → List ℕ → Result (List Item) TraceError
 trace_of version names text = trace_in version names (lines text)
 
+-- those of a trace text of this scenario
+abbrev pub trace_under : Scenario → List ℕ → Result (List Item) TraceError
+trace_under s text = trace_of s.version (names_in s) text
+
 -- ---- the answer
 
 -- This fault is the text's. A reader may fail on any text, and memory may run out on any.
@@ -106,3 +115,11 @@ Faults (UnknownName n) answer = answer ≡ Err (UnknownName n)
 Faults TooLong answer = answer ≡ Err TooLong
 Faults ReadFault answer = Unit {0}
 Faults Memory answer = Unit {0}
+
+-- where a call succeeds, its history is that of this trace text
+abbrev pub ReadsTrace : {A : Type 0} → Scenario → Result (Vec Item A) TraceError → List ℕ → Type 0
+ReadsTrace s result text = IfOk result (λ history. trace_under s text ≡ Ok history.items)
+
+-- where a call fails, the fault is that of this trace text
+abbrev pub FaultsTrace : {A : Type 0} → Scenario → Result A TraceError → List ℕ → Type 0
+FaultsTrace s result text = IfErr result (λ e. Faults e (trace_under s text))

@@ -15,13 +15,18 @@ use Rattle.pr_roles.specs.declared.entry.Entry.{Entry}
 use Rattle.pr_roles.specs.declared.item.Item.{Item}
 use Rattle.pr_roles.specs.declared.item.Item.TheVariants.{Sent, Reset}
 use Rattle.pr_roles.specs.declared.parts.Nexus.{Nexus as NexusPart}
-use Rattle.pr_roles.specs.Scenarios.{Scenario}
+use Rattle.pr_roles.specs.declared.parts.Parts.{Parts}
+use Rattle.pr_roles.specs.Scenarios.{Scenario, scenario_of}
 use Rattle.pr_world.specs.Ends.{Ending, stops, waits, traps, leaves}
 use Rattle.pr_report.specs.PrintedLines.{line, pairs_or_dash, generation_word, holder_word, registration_word}
 
 -- the names of the nexuses, in the order of their numbers
 abbrev pub names_in : Scenario → List (List ℕ)
 names_in s = map (λ n. n.name) s.nexuses
+
+-- those of a scenario in its parts
+abbrev pub names_under : Parts → List (List ℕ)
+names_under parts = names_in (scenario_of parts)
 
 -- as they are kept
 abbrev pub names_of : List NexusPart → List (List ℕ)

@@ -3,3 +3,4 @@ pub mod LinesAhead
 pub mod Possible
 pub mod TraceLines
 pub mod FrontsWritten
+pub mod WordsWritten

@@ -28,9 +28,8 @@ pub(crate) struct Ahead {
 }
 
 impl Ahead {
-    ghost use Rattle.std.specs.Prelude.{◌≡◌, ◌+◌, ◌<◌, ◌≤◌, ◌++◌, [], length, drop, MatchBool, OnOk, IfErr, IfOk};
-    ghost use Rattle.std.specs.Io.KnownBytes.{IsAtEnd, Keeps};
-    ghost use Rattle.pr_report.specs.inside.LinesAhead.{FindsLine, Takes, bytes_held, bytes_left, line_end};
+    ghost use Rattle.std.specs.Prelude.{◌≡◌, ◌+◌, ◌≤◌, ◌++◌, [], length, drop, OnOk, IfErr, IfOk};
+    ghost use Rattle.pr_report.specs.inside.LinesAhead.{FindsAhead, TakesAhead, TellsGrown, bytes_held, line_end, KeepsAhead};
 
     pub(crate) fn new() -> Ahead
         ensures { bytes_held result ≡ [] }
@@ -50,11 +49,8 @@ impl Ahead {
     /// How many bytes the line in front has without its end, or how many of them are at hand where they are more
     /// than a line may have; none where the reader has nothing left.
     pub(crate) fn next_line<R: Read>(&mut self, reader: &mut R) -> Result<Option<usize>, TraceError>
-        ensures found { IfOk result (λ found. FindsLine
-            (bytes_left self.old (R.remaining reader.old)) (bytes_held self.new)
-            (R.remaining reader.new) found) }
-        ensures taken { Takes 0 (R.remaining reader.old) (R.remaining reader.new)
-            (length (bytes_held self.old)) (length (bytes_held self.new)) }
+        ensures found { IfOk result (FindsAhead R.Read reader self) }
+        ensures taken { TakesAhead R.Read reader self 0 }
         ensures fault { IfErr result (λ e. e ≡ TraceError.ReadFault) }
     {
         loop {
@@ -96,14 +92,10 @@ impl Ahead {
     // Whether the reader had more.
     fn read_more<R: Read>(&mut self, reader: &mut R) -> Result<bool, TraceError>
         requires { length (bytes_held self.old) ≤ MOST_LINE_BYTES }
-        ensures kept { OnOk result (Keeps (bytes_left self.old (R.remaining reader.old))
-            (bytes_left self.new (R.remaining reader.new))) }
-        ensures taken { Takes 0 (R.remaining reader.old) (R.remaining reader.new)
-            (length (bytes_held self.old)) (length (bytes_held self.new)) }
+        ensures kept { OnOk result (KeepsAhead R.Read reader self) }
+        ensures taken { TakesAhead R.Read reader self 0 }
         ensures fault { IfErr result (λ e. e ≡ TraceError.ReadFault) }
-        ensures grown { IfOk result (λ more. MatchBool more
-            (length (bytes_held self.old) < length (bytes_held self.new))
-            ((bytes_held self.new ≡ bytes_held self.old) × IsAtEnd (R.remaining reader.new))) }
+        ensures grown { IfOk result (TellsGrown R.Read reader self) }
     {
         let mut chunk = [0; CHUNK];
         let Ok(count) = reader.read(&mut chunk) else {

@@ -1,14 +1,14 @@
 //! The entry that a line of a trace says.
 
-ghost use Rattle.std.specs.Prelude.{◌≡◌, ◌==◌, ◌∷◌, ◌++◌, ◌≤◌, ◌<◌, [], Some, None, Ok, codes, false, length, map, position, bytes_eq, ◌&&◌, MatchBool, MatchOption, IfSome};
+ghost use Rattle.std.specs.Prelude.{◌≡◌, ◌==◌, ◌++◌, ◌≤◌, ◌<◌, [], codes, length, position, bytes_eq, ◌&&◌, IfSome};
 ghost use Rattle.pr_cdb.specs.declared.codes.TheConstants.{MOST_NEXUSES};
 ghost use Rattle.pr_report.specs.TraceText.{names_of};
 ghost use Rattle.std.specs.Fmt.{decimal};
 ghost use Rattle.pr_report.specs.declared.versions.TheConstants.{MOST_ITEMS_2};
 ghost use Rattle.pr_report.specs.EntryWords.{byte_in, bytes_in, sense_of, sense_under, no_sense_in, worth};
 ghost use Rattle.pr_script.specs.Names.{is_name};
-ghost use Rattle.pr_report.specs.TraceReadings.{and_then, entry_on, item_on, is_reset_on, number_of, words};
-ghost use Rattle.pr_report.specs.inside.SevenWords.{answer_in, list_of_words, words_left};
+ghost use Rattle.pr_report.specs.TraceReadings.{item_on, is_reset_on, number_of, words, sent_on};
+ghost use Rattle.pr_report.specs.inside.SevenWords.{answer_in, AreSeven, TakesFirst, TellsBytes};
 
 use crate::ahead::MOST_LINE_BYTES;
 use crate::status::status_in;
@@ -79,8 +79,7 @@ fn is_reset_line(index: u32, line: &[u8]) -> bool
 fn sent_on(version: u8, nexuses: &[Nexus], index: u32, line: &[u8]) -> Result<Item, TraceError>
     requires few { length nexuses.now ≤ MOST_NEXUSES }
     requires index { index ≤ MOST_ITEMS_2 }
-    ensures { result ≡ and_then (entry_on version (names_of nexuses.now) index line.now)
-        (λ e. Ok (Item.Sent e)) }
+    ensures { result ≡ sent_on version (names_of nexuses.now) index line.now }
 {
     let number = index + 1;
     let Some(words) = seven_words(line) else {
@@ -118,8 +117,7 @@ fn sent_on(version: u8, nexuses: &[Nexus], index: u32, line: &[u8]) -> Result<It
 
 // The line's words, if there are just seven.
 fn seven_words(line: &[u8]) -> Option<EntryWords<'_>>
-    ensures { MatchOption result ((length (words line.now) == 7) ≡ false)
-        (λ w. words line.now ≡ list_of_words w) }
+    ensures { AreSeven (words line.now) result }
 {
     let (index, rest) = next_word(Some(line))?;
     let (name, rest) = next_word(rest)?;
@@ -144,8 +142,7 @@ fn seven_words(line: &[u8]) -> Option<EntryWords<'_>>
 
 // The first word of what is left, and what stands behind the space after it.
 fn next_word(rest: Option<&[u8]>) -> Option<(&[u8], Option<&[u8]>)>
-    ensures { MatchOption result (words_left rest.entry ≡ [])
-        (λ r. words_left rest.entry ≡ r.0.now ∷ words_left r.1) }
+    ensures { TakesFirst rest.entry result }
 {
     let line = rest?;
     match space_in(line) {
@@ -215,8 +212,7 @@ fn sense_of(bytes: &[u8]) -> Option<Sense>
 fn bytes_into<const N: usize>(most: usize, word: &[u8], bytes: &mut ArrayVec<u8, N>) -> bool
     requires room { most ≤ N }
     requires empty { bytes.old.items ≡ [] }
-    ensures { MatchBool result (bytes_in most word.now ≡ Some bytes.new.items)
-        (bytes_in most word.now ≡ None) }
+    ensures { TellsBytes (bytes_in most word.now) bytes.new.items result }
 {
     if is_dash(word) {
         return true;

@@ -1,7 +1,7 @@
 //! The line above all others of a trace.
 
 ghost use Rattle.std.specs.Prelude.{◌≡◌, ◌++◌, bytes_eq, codes};
-ghost use Rattle.pr_report.specs.Written.{Puts};
+ghost use Rattle.pr_report.specs.Written.{Writes};
 ghost use Rattle.pr_report.specs.TraceText.{first_line};
 
 use crate::output::{WriteFault, put};
@@ -14,8 +14,7 @@ const BEGINNING: &[u8] = b"fence-trace ";
 
 /// Writes the first line of a trace of this version.
 pub(crate) fn put_first<W: Write>(writer: &mut W, version: u8) -> Result<(), WriteFault>
-    ensures { Puts (W.contents writer.old) (W.contents writer.new)
-        (first_line version ++ codes "\n") result }
+    ensures { Writes W.Write writer (first_line version ++ codes "\n") result }
 {
     put(writer, BEGINNING)?;
     put_number(writer, u64::from(version))?;

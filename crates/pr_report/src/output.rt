@@ -1,6 +1,6 @@
 //! Bytes to a writer, of which a part may go out.
 
-ghost use Rattle.pr_report.specs.Written.{Puts};
+ghost use Rattle.pr_report.specs.Written.{Writes};
 
 use arrayvec::ArrayVec;
 use std::io::Write;
@@ -18,7 +18,7 @@ pub struct WriteFault;
 ///
 /// Every error ends it, one that a second call might not meet among them.
 pub fn put<W: Write>(writer: &mut W, text: &[u8]) -> Result<(), WriteFault>
-    ensures { Puts (W.contents writer.old) (W.contents writer.new) text.now result }
+    ensures { Writes W.Write writer text.now result }
 {
     let mut rest = text;
     while !rest.is_empty() {

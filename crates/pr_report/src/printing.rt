@@ -1,11 +1,11 @@
 //! Lines of words to a writer, with no text in between that takes memory.
 
-ghost use Rattle.std.specs.Prelude.{◌++◌, ◌<◌, ◌≡◌, codes, false, map};
+ghost use Rattle.std.specs.Prelude.{◌++◌, ◌<◌, ◌≡◌, codes, false};
 ghost use Rattle.std.specs.Fmt.{decimal, digits, digit_glyph};
 ghost use Rattle.pr_cdb.specs.Kinds.{code_of};
-ghost use Rattle.pr_report.specs.Written.{Puts};
-ghost use Rattle.pr_report.specs.PrintedLines.{attention_word, attentions_word, class_word, holder_word, key_or_dash, key_word, line, more_attentions_word, pair, pairs, pairs_or_dash, registration_word, reservation_key_word, sense_word, service_action_key_word, joined_by_spaces, type_word};
-ghost use Rattle.pr_report.specs.Printed.{printed_word};
+ghost use Rattle.pr_report.specs.Written.{Writes};
+ghost use Rattle.pr_report.specs.PrintedLines.{attention_word, attentions_word, class_word, holder_word, key_or_dash, more_attentions_word, pair, pairs, pairs_or_dash, registration_word, reservation_key_word, sense_word, service_action_key_word, joined_by_spaces, type_word};
+ghost use Rattle.pr_report.specs.Printed.{printed_word, printed_words, printed_line};
 
 use crate::output::{WriteFault, put};
 use itoa::Buffer;
@@ -59,8 +59,7 @@ pub fn put_line<W: Write>(
     first: Word<'_>,
     others: &[Word<'_>],
 ) -> Result<(), WriteFault>
-    ensures { Puts (W.contents writer.old) (W.contents writer.new)
-        (line (printed_word first.entry) (map printed_word others.now)) result }
+    ensures { Writes W.Write writer (printed_line first.entry others.now) result }
 {
     put_word(writer, first)?;
     put_spaced(writer, others)?;
@@ -69,8 +68,7 @@ pub fn put_line<W: Write>(
 
 /// Writes each word after a space.
 pub fn put_spaced<W: Write>(writer: &mut W, words: &[Word<'_>]) -> Result<(), WriteFault>
-    ensures { Puts (W.contents writer.old) (W.contents writer.new)
-        (joined_by_spaces (map printed_word words.now)) result }
+    ensures { Writes W.Write writer (joined_by_spaces (printed_words words.now)) result }
 {
     for word in words {
         put_after_space(writer, *word)?;
@@ -79,8 +77,7 @@ pub fn put_spaced<W: Write>(writer: &mut W, words: &[Word<'_>]) -> Result<(), Wr
 }
 
 pub(crate) fn put_after_space<W: Write>(writer: &mut W, word: Word<'_>) -> Result<(), WriteFault>
-    ensures { Puts (W.contents writer.old) (W.contents writer.new)
-        (codes " " ++ printed_word word.entry) result }
+    ensures { Writes W.Write writer (codes " " ++ printed_word word.entry) result }
 {
     put(writer, b" ")?;
     put_word(writer, word)
@@ -88,8 +85,7 @@ pub(crate) fn put_after_space<W: Write>(writer: &mut W, word: Word<'_>) -> Resul
 
 #[tactic(auto, unfolding(crate::specs::Printed::printed_word))]
 pub(crate) fn put_word<W: Write>(writer: &mut W, word: Word<'_>) -> Result<(), WriteFault>
-    ensures { Puts (W.contents writer.old) (W.contents writer.new) (printed_word word.entry)
-        result }
+    ensures { Writes W.Write writer (printed_word word.entry) result }
 {
     match word {
         Word::Text(text) => put(writer, text),
@@ -108,14 +104,13 @@ pub(crate) fn put_word<W: Write>(writer: &mut W, word: Word<'_>) -> Result<(), W
 }
 
 pub(crate) fn put_number<W: Write>(writer: &mut W, number: u64) -> Result<(), WriteFault>
-    ensures { Puts (W.contents writer.old) (W.contents writer.new) (decimal number) result }
+    ensures { Writes W.Write writer (decimal number) result }
 {
     put(writer, Buffer::new().format(number).as_bytes())
 }
 
 fn put_pairs_or_dash<W: Write>(writer: &mut W, bytes: &[u8]) -> Result<(), WriteFault>
-    ensures { Puts (W.contents writer.old) (W.contents writer.new) (pairs_or_dash bytes.now)
-        result }
+    ensures { Writes W.Write writer (pairs_or_dash bytes.now) result }
 {
     if bytes.is_empty() {
         put(writer, b"-")
@@ -125,7 +120,7 @@ fn put_pairs_or_dash<W: Write>(writer: &mut W, bytes: &[u8]) -> Result<(), Write
 }
 
 fn put_pairs<W: Write>(writer: &mut W, bytes: &[u8]) -> Result<(), WriteFault>
-    ensures { Puts (W.contents writer.old) (W.contents writer.new) (pairs bytes.now) result }
+    ensures { Writes W.Write writer (pairs bytes.now) result }
 {
     for byte in bytes {
         put(writer, &pair(*byte))?;
@@ -134,8 +129,7 @@ fn put_pairs<W: Write>(writer: &mut W, bytes: &[u8]) -> Result<(), WriteFault>
 }
 
 fn put_holder<W: Write>(writer: &mut W, kind: Kind, name: &[u8]) -> Result<(), WriteFault>
-    ensures { Puts (W.contents writer.old) (W.contents writer.new) (holder_word kind name.now)
-        result }
+    ensures { Writes W.Write writer (holder_word kind name.now) result }
 {
     put_kind(writer, kind)?;
     put(writer, b":")?;
@@ -143,7 +137,7 @@ fn put_holder<W: Write>(writer: &mut W, kind: Kind, name: &[u8]) -> Result<(), W
 }
 
 fn put_kind<W: Write>(writer: &mut W, kind: Kind) -> Result<(), WriteFault>
-    ensures { Puts (W.contents writer.old) (W.contents writer.new) (decimal (code_of kind)) result }
+    ensures { Writes W.Write writer (decimal (code_of kind)) result }
 {
     put_number(writer, u64::from(kind.code()))
 }
@@ -153,8 +147,7 @@ fn put_registration<W: Write>(
     name: &[u8],
     key: Option<u64>,
 ) -> Result<(), WriteFault>
-    ensures { Puts (W.contents writer.old) (W.contents writer.new) (registration_word name.now key)
-        result }
+    ensures { Writes W.Write writer (registration_word name.now key) result }
 {
     put(writer, name)?;
     put(writer, b"=")?;
@@ -162,7 +155,7 @@ fn put_registration<W: Write>(
 }
 
 fn put_key_or_dash<W: Write>(writer: &mut W, key: Option<u64>) -> Result<(), WriteFault>
-    ensures { Puts (W.contents writer.old) (W.contents writer.new) (key_or_dash key) result }
+    ensures { Writes W.Write writer (key_or_dash key) result }
 {
     match key {
         Some(key) => put_digits(writer, key),
@@ -171,30 +164,28 @@ fn put_key_or_dash<W: Write>(writer: &mut W, key: Option<u64>) -> Result<(), Wri
 }
 
 fn put_reservation_key<W: Write>(writer: &mut W, key: u64) -> Result<(), WriteFault>
-    ensures { Puts (W.contents writer.old) (W.contents writer.new) (reservation_key_word key)
-        result }
+    ensures { Writes W.Write writer (reservation_key_word key) result }
 {
     put(writer, b"--param-rk=")?;
     put_digits(writer, key)
 }
 
 fn put_service_action_key<W: Write>(writer: &mut W, key: u64) -> Result<(), WriteFault>
-    ensures { Puts (W.contents writer.old) (W.contents writer.new) (service_action_key_word key)
-        result }
+    ensures { Writes W.Write writer (service_action_key_word key) result }
 {
     put(writer, b"--param-sark=")?;
     put_digits(writer, key)
 }
 
 fn put_type<W: Write>(writer: &mut W, kind: Kind) -> Result<(), WriteFault>
-    ensures { Puts (W.contents writer.old) (W.contents writer.new) (type_word kind) result }
+    ensures { Writes W.Write writer (type_word kind) result }
 {
     put(writer, b"--prout-type=")?;
     put_kind(writer, kind)
 }
 
 fn put_sense<W: Write>(writer: &mut W, sense: Sense) -> Result<(), WriteFault>
-    ensures { Puts (W.contents writer.old) (W.contents writer.new) (sense_word sense) result }
+    ensures { Writes W.Write writer (sense_word sense) result }
 {
     put_digits(writer, u64::from(sense.key))?;
     put_after_slash(writer, sense.asc)?;
@@ -202,7 +193,7 @@ fn put_sense<W: Write>(writer: &mut W, sense: Sense) -> Result<(), WriteFault>
 }
 
 fn put_class<W: Write>(writer: &mut W, class: Class) -> Result<(), WriteFault>
-    ensures { Puts (W.contents writer.old) (W.contents writer.new) (class_word class) result }
+    ensures { Writes W.Write writer (class_word class) result }
 {
     match class {
         Class::Good => put(writer, b"good"),
@@ -214,16 +205,14 @@ fn put_class<W: Write>(writer: &mut W, class: Class) -> Result<(), WriteFault>
 }
 
 fn put_named_sense<W: Write>(writer: &mut W, sense: Sense) -> Result<(), WriteFault>
-    ensures { Puts (W.contents writer.old) (W.contents writer.new)
-        (codes "sense " ++ sense_word sense) result }
+    ensures { Writes W.Write writer (codes "sense " ++ sense_word sense) result }
 {
     put(writer, b"sense ")?;
     put_sense(writer, sense)
 }
 
 fn put_attentions<W: Write>(writer: &mut W, codes: &[u16]) -> Result<(), WriteFault>
-    ensures { Puts (W.contents writer.old) (W.contents writer.new) (attentions_word codes.now)
-        result }
+    ensures { Writes W.Write writer (attentions_word codes.now) result }
 {
     let Some((first, others)) = codes.split_first() else {
         return put(writer, b"none");
@@ -233,8 +222,7 @@ fn put_attentions<W: Write>(writer: &mut W, codes: &[u16]) -> Result<(), WriteFa
 }
 
 fn put_more_attentions<W: Write>(writer: &mut W, codes: &[u16]) -> Result<(), WriteFault>
-    ensures { Puts (W.contents writer.old) (W.contents writer.new) (more_attentions_word codes.now)
-        result }
+    ensures { Writes W.Write writer (more_attentions_word codes.now) result }
 {
     for code in codes {
         put_after_plus(writer, *code)?;
@@ -243,22 +231,21 @@ fn put_more_attentions<W: Write>(writer: &mut W, codes: &[u16]) -> Result<(), Wr
 }
 
 fn put_after_plus<W: Write>(writer: &mut W, code: u16) -> Result<(), WriteFault>
-    ensures { Puts (W.contents writer.old) (W.contents writer.new)
-        (codes "+" ++ attention_word code) result }
+    ensures { Writes W.Write writer (codes "+" ++ attention_word code) result }
 {
     put(writer, b"+")?;
     put_attention(writer, code)
 }
 
 fn put_attention<W: Write>(writer: &mut W, code: u16) -> Result<(), WriteFault>
-    ensures { Puts (W.contents writer.old) (W.contents writer.new) (attention_word code) result }
+    ensures { Writes W.Write writer (attention_word code) result }
 {
     put(writer, &pair((code / 256) as u8))?;
     put_after_slash(writer, (code % 256) as u8)
 }
 
 fn put_after_slash<W: Write>(writer: &mut W, byte: u8) -> Result<(), WriteFault>
-    ensures { Puts (W.contents writer.old) (W.contents writer.new) (codes "/" ++ pair byte) result }
+    ensures { Writes W.Write writer (codes "/" ++ pair byte) result }
 {
     put(writer, b"/")?;
     put(writer, &pair(byte))
@@ -266,7 +253,7 @@ fn put_after_slash<W: Write>(writer: &mut W, byte: u8) -> Result<(), WriteFault>
 
 // In hexadecimal digits, without leading zeros.
 fn put_digits<W: Write>(writer: &mut W, number: u64) -> Result<(), WriteFault>
-    ensures { Puts (W.contents writer.old) (W.contents writer.new) (digits 16 false number) result }
+    ensures { Writes W.Write writer (digits 16 false number) result }
 {
     if number < 16 {
         return put(writer, &[glyph(number as u8)]);

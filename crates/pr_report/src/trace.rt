@@ -1,17 +1,18 @@
 //! The text of a trace.
 
-ghost use Rattle.std.specs.Prelude.{◌≡◌, ◌+◌, ◌++◌, ◌∷◌, [], codes, map, slice_index};
+ghost use Rattle.std.specs.Prelude.{◌≡◌, ◌∷◌, [], codes, map, slice_index};
 ghost use Rattle.pr_registry.specs.Registrations.{key_of};
 ghost use Rattle.pr_roles.specs.Scenarios.{scenario_of};
 ghost use Rattle.pr_world.specs.Ends.{ending_of};
-ghost use Rattle.pr_report.specs.Written.{Puts};
-ghost use Rattle.pr_report.specs.inside.FrontsWritten.{PutsAllBut};
+ghost use Rattle.pr_report.specs.inside.WordsWritten.{WritesWords};
+ghost use Rattle.pr_report.specs.Written.{Writes};
+ghost use Rattle.pr_report.specs.inside.FrontsWritten.{WritesPaged, Adds};
 ghost use Rattle.pr_report.specs.inside.TraceLines.{line_text};
 ghost use Rattle.std.specs.Bool.{OnTrue, OnFalse};
 ghost use Rattle.std.specs.Fmt.{decimal};
 ghost use Rattle.pr_report.specs.Printed.{printed_word};
-ghost use Rattle.pr_report.specs.PrintedLines.{line, joined_by_spaces};
-ghost use Rattle.pr_report.specs.TraceText.{ending_line, ending_lines, entry_line, held_word, item_line, item_lines, name_of, names_in, names_of, registration_words, reset_line, sense_data, trace_body, trace_text, unit_line};
+ghost use Rattle.pr_report.specs.PrintedLines.{line};
+ghost use Rattle.pr_report.specs.TraceText.{ending_line, ending_lines, entry_line, held_word, item_line, item_lines, name_of, names_of, registration_words, reset_line, sense_data, trace_body, trace_text, unit_line, names_under};
 
 use crate::first_line::put_first;
 use crate::output::{Page, WriteFault, put};
@@ -56,9 +57,9 @@ pub fn write_trace<W: Write>(
     ends: &[End],
     counts: &[u32],
 ) -> Result<(), WriteFault>
-    ensures { Puts (W.contents writer.old) (W.contents writer.new)
-        (trace_text (scenario_of scenario.now).version (names_in (scenario_of scenario.now))
-        history.now unit.now.registry (map ending_of ends.now) counts.now) result }
+    ensures { Writes W.Write writer (trace_text (scenario_of scenario.now).version
+        (names_under scenario.now) history.now unit.now.registry (map ending_of ends.now)
+        counts.now) result }
 {
     let parts = scenario.parts();
     put_trace(
@@ -81,9 +82,8 @@ fn put_trace<W: Write>(
     ends: &[End],
     counts: &[u32],
 ) -> Result<(), WriteFault>
-    ensures { Puts (W.contents writer.old) (W.contents writer.new)
-        (trace_text version (names_of nexuses.now) history.now unit.now (map ending_of ends.now)
-        counts.now) result }
+    ensures { Writes W.Write writer (trace_text version (names_of nexuses.now) history.now unit.now
+        (map ending_of ends.now) counts.now) result }
 {
     let mut page = Page::new();
     add_line(writer, &mut page, nexuses, &TraceLine::First(version))?;
@@ -100,9 +100,8 @@ pub fn write_trace_body<W: Write>(
     ends: &[End],
     counts: &[u32],
 ) -> Result<(), WriteFault>
-    ensures { Puts (W.contents writer.old) (W.contents writer.new)
-        (trace_body (names_in (scenario_of scenario.now)) history.now unit.now.registry
-        (map ending_of ends.now) counts.now) result }
+    ensures { Writes W.Write writer (trace_body (names_under scenario.now) history.now
+        unit.now.registry (map ending_of ends.now) counts.now) result }
 {
     put_trace_body(
         writer,
@@ -122,9 +121,8 @@ fn put_trace_body<W: Write>(
     ends: &[End],
     counts: &[u32],
 ) -> Result<(), WriteFault>
-    ensures { Puts (W.contents writer.old) (W.contents writer.new)
-        (trace_body (names_of nexuses.now) history.now unit.now (map ending_of ends.now) counts.now)
-        result }
+    ensures { Writes W.Write writer (trace_body (names_of nexuses.now) history.now unit.now
+        (map ending_of ends.now) counts.now) result }
 {
     let mut page = Page::new();
     add_body(writer, &mut page, nexuses, history, unit, ends, counts)?;
@@ -141,9 +139,9 @@ fn add_body<W: Write>(
     ends: &[End],
     counts: &[u32],
 ) -> Result<(), WriteFault>
-    ensures { PutsAllBut (W.contents writer.old) (W.contents writer.new)
-        (page.old.items ++ trace_body (names_of nexuses.now) history.now unit.now
-        (map ending_of ends.now) counts.now) page.new.items result }
+    ensures { WritesPaged W.Write writer page
+        (trace_body (names_of nexuses.now) history.now unit.now (map ending_of ends.now) counts.now)
+        result }
 {
     add_items(writer, page, nexuses, history)?;
     add_line(writer, page, nexuses, &TraceLine::Unit(unit))?;
@@ -156,8 +154,8 @@ fn add_items<W: Write>(
     nexuses: &[Nexus],
     history: &[Item],
 ) -> Result<(), WriteFault>
-    ensures { PutsAllBut (W.contents writer.old) (W.contents writer.new)
-        (page.old.items ++ item_lines 0 (names_of nexuses.now) history.now) page.new.items result }
+    ensures { WritesPaged W.Write writer page (item_lines 0 (names_of nexuses.now) history.now)
+        result }
 {
     for (others, item) in history.iter().enumerate() {
         let line = TraceLine::Item(others as u64 + 1, item);
@@ -173,9 +171,8 @@ fn add_ends<W: Write>(
     ends: &[End],
     counts: &[u32],
 ) -> Result<(), WriteFault>
-    ensures { PutsAllBut (W.contents writer.old) (W.contents writer.new)
-        (page.old.items ++ ending_lines 0 (names_of nexuses.now) counts.now
-        (map ending_of ends.now)) page.new.items result }
+    ensures { WritesPaged W.Write writer page
+        (ending_lines 0 (names_of nexuses.now) counts.now (map ending_of ends.now)) result }
 {
     for (host, end) in ends.iter().enumerate() {
         let line = TraceLine::End(name_of(nexuses, host), *end, count_of(counts, host));
@@ -191,8 +188,7 @@ fn add_line<W: Write>(
     nexuses: &[Nexus],
     line: &TraceLine<'_>,
 ) -> Result<(), WriteFault>
-    ensures { PutsAllBut (W.contents writer.old) (W.contents writer.new)
-        (page.old.items ++ line_text (names_of nexuses.now) line.now) page.new.items result }
+    ensures { WritesPaged W.Write writer page (line_text (names_of nexuses.now) line.now) result }
 {
     if has_added(page, nexuses, line) {
         return Ok(());
@@ -207,8 +203,7 @@ fn add_line<W: Write>(
 
 // Whether the page had room for the line, which is on it then.
 fn has_added(page: &mut Page, nexuses: &[Nexus], line: &TraceLine<'_>) -> bool
-    ensures added { OnTrue result (page.new.items
-        ≡ page.old.items ++ line_text (names_of nexuses.now) line.now) }
+    ensures added { OnTrue result (Adds page (line_text (names_of nexuses.now) line.now)) }
     ensures full { OnFalse result (page.new.items ≡ page.old.items) }
 {
     let before = page.len();
@@ -224,8 +219,7 @@ fn put_trace_line<W: Write>(
     nexuses: &[Nexus],
     line: &TraceLine<'_>,
 ) -> Result<(), WriteFault>
-    ensures { Puts (W.contents writer.old) (W.contents writer.new)
-        (line_text (names_of nexuses.now) line.now) result }
+    ensures { Writes W.Write writer (line_text (names_of nexuses.now) line.now) result }
 {
     match line {
         TraceLine::First(version) => put_first(writer, *version),
@@ -241,8 +235,7 @@ fn put_item<W: Write>(
     nexuses: &[Nexus],
     item: &Item,
 ) -> Result<(), WriteFault>
-    ensures { Puts (W.contents writer.old) (W.contents writer.new)
-        (item_line index (names_of nexuses.now) item.now) result }
+    ensures { Writes W.Write writer (item_line index (names_of nexuses.now) item.now) result }
 {
     match item {
         Item::Sent(entry) => put_entry(writer, index, nexuses, entry),
@@ -252,7 +245,7 @@ fn put_item<W: Write>(
 
 #[tactic(auto, unfolding(crate::specs::TraceText::reset_line, crate::specs::Printed::printed_word))]
 fn put_reset<W: Write>(writer: &mut W, index: u64) -> Result<(), WriteFault>
-    ensures { Puts (W.contents writer.old) (W.contents writer.new) (reset_line index) result }
+    ensures { Writes W.Write writer (reset_line index) result }
 {
     put_line(writer, Word::Number(index), &[Word::Text(b"reset")])
 }
@@ -264,8 +257,7 @@ fn put_entry<W: Write>(
     nexuses: &[Nexus],
     entry: &Entry,
 ) -> Result<(), WriteFault>
-    ensures { Puts (W.contents writer.old) (W.contents writer.new)
-        (entry_line index (names_of nexuses.now) entry.now) result }
+    ensures { Writes W.Write writer (entry_line index (names_of nexuses.now) entry.now) result }
 {
     let sense = sense_data(entry.reply.sense);
     let words = [
@@ -299,8 +291,7 @@ fn sense_data(sense: Option<Sense>) -> ArrayVec<u8, FIXED_SENSE_LENGTH>
 }
 
 fn put_unit<W: Write>(writer: &mut W, nexuses: &[Nexus], unit: &Registry) -> Result<(), WriteFault>
-    ensures { Puts (W.contents writer.old) (W.contents writer.new)
-        (unit_line (names_of nexuses.now) unit.now) result }
+    ensures { Writes W.Write writer (unit_line (names_of nexuses.now) unit.now) result }
 {
     put_word(writer, Word::Text(b"unit"))?;
     put_spaced(
@@ -320,8 +311,8 @@ fn put_registrations<W: Write>(
     nexuses: &[Nexus],
     unit: &Registry,
 ) -> Result<(), WriteFault>
-    ensures { Puts (W.contents writer.old) (W.contents writer.new)
-        (joined_by_spaces (registration_words unit.now 0 (names_of nexuses.now))) result }
+    ensures { WritesWords W.Write writer (registration_words unit.now 0 (names_of nexuses.now))
+        result }
 {
     for (host, nexus) in nexuses.iter().enumerate() {
         put_after_space(
@@ -367,8 +358,7 @@ fn count_of(counts: &[u32], host: usize) -> u32
 
 #[tactic(auto, unfolding(crate::specs::TraceText::ending_line, crate::specs::Printed::printed_word))]
 fn put_end<W: Write>(writer: &mut W, name: &[u8], end: End, sent: u32) -> Result<(), WriteFault>
-    ensures { Puts (W.contents writer.old) (W.contents writer.new)
-        (ending_line name.now (ending_of end) sent) result }
+    ensures { Writes W.Write writer (ending_line name.now (ending_of end) sent) result }
 {
     match end {
         End::Stopped(word) => {
@@ -399,9 +389,8 @@ fn put_ending<'a, W: Write>(
     what: Word<'a>,
     sent: u32,
 ) -> Result<(), WriteFault>
-    ensures { Puts (W.contents writer.old) (W.contents writer.new)
-        (line role.now (name.now ∷ how.now ∷ printed_word what.entry ∷ codes "sent" ∷ decimal sent
-        ∷ [])) result }
+    ensures { Writes W.Write writer (line role.now
+        (name.now ∷ how.now ∷ printed_word what.entry ∷ codes "sent" ∷ decimal sent ∷ [])) result }
 {
     put_line(
         writer,

@@ -1,14 +1,14 @@
 //! Traces from their texts.
 
-ghost use Rattle.std.specs.Prelude.{◌≡◌, ◌≤◌, ℕ, [], List, Ok, length, IfErr, IfOk, IfSome, OnOk};
+ghost use Rattle.std.specs.Prelude.{◌≡◌, ◌≤◌, length, IfOk, IfSome};
 ghost use Rattle.pr_cdb.specs.declared.codes.TheConstants.{MOST_NEXUSES};
 ghost use Rattle.pr_report.specs.declared.versions.TheConstants.{MOST_ITEMS_2};
 ghost use Rattle.pr_report.specs.Versions.{most_items};
 ghost use Rattle.pr_roles.specs.Scenarios.{scenario_of};
-ghost use Rattle.pr_report.specs.TraceText.{names_in, names_of};
-ghost use Rattle.pr_report.specs.BytesTaken.{LosesUpTo, bytes_of_lines, most_of_trace};
-ghost use Rattle.pr_report.specs.TraceReadings.{Faults, and_then, items_of, is_later, later_lines, lines, trace_in, trace_of};
-ghost use Rattle.pr_report.specs.inside.LinesAhead.{Leads, Takes, bytes_held, bytes_left};
+ghost use Rattle.pr_report.specs.TraceText.{names_of};
+ghost use Rattle.pr_report.specs.BytesTaken.{TakesUpTo, bytes_of_lines, most_of_trace};
+ghost use Rattle.pr_report.specs.TraceReadings.{FaultsTrace, ReadsTrace, items_of, is_later, later_lines};
+ghost use Rattle.pr_report.specs.inside.LinesAhead.{FaultsAhead, TakesAhead, ReadsFirst, FaultsFirst, ReadsItems, ReadsLater};
 
 use crate::ahead::{Ahead, MOST_LINE_BYTES};
 use crate::entry_reading::item_on;
@@ -36,15 +36,10 @@ pub fn read_trace<R: Read>(
     scenario: &Scenario,
     reader: &mut R,
 ) -> Result<Vec<Item>, TraceError>
-    ensures read { IfSome (R.remaining reader.old)
-        (λ text. IfOk result (λ history. trace_of (scenario_of scenario.now).version
-        (names_in (scenario_of scenario.now)) text ≡ Ok history.items)) }
+    ensures read { IfSome (R.remaining reader.old) (ReadsTrace (scenario_of scenario.now) result) }
     ensures fault { IfSome (R.remaining reader.old)
-        (λ text. IfErr result (λ e. Faults e
-        (trace_of (scenario_of scenario.now).version (names_in (scenario_of scenario.now))
-        text))) }
-    ensures limited { LosesUpTo (most_of_trace (scenario_of scenario.now).version)
-        (R.remaining reader.old) (R.remaining reader.new) }
+        (FaultsTrace (scenario_of scenario.now) result) }
+    ensures limited { TakesUpTo R.Read reader (most_of_trace (scenario_of scenario.now).version) }
 {
     let parts = scenario.parts();
     let version = parts.version;
@@ -57,16 +52,9 @@ pub fn read_trace<R: Read>(
 
 // Reads the line above all others.
 fn read_first<R: Read>(version: u8, ahead: &mut Ahead, reader: &mut R) -> Result<(), TraceError>
-    ensures taken { Takes (bytes_of_lines 1) (R.remaining reader.old) (R.remaining reader.new)
-        (length (bytes_held ahead.old)) (length (bytes_held ahead.new)) }
-    ensures ok { (names : List (List ℕ)) → OnOk result
-        (Leads (λ old new. trace_in version names (lines old)
-        ≡ items_of version names 0 (lines new))
-        (bytes_left ahead.old (R.remaining reader.old))
-        (bytes_left ahead.new (R.remaining reader.new))) }
-    ensures fault { (names : List (List ℕ))
-        → IfSome (bytes_left ahead.old (R.remaining reader.old))
-        (λ text. IfErr result (λ e. Faults e (trace_in version names (lines text)))) }
+    ensures taken { TakesAhead R.Read reader ahead (bytes_of_lines 1) }
+    ensures ok { ReadsFirst R.Read reader ahead version result }
+    ensures fault { FaultsFirst R.Read reader ahead version result }
 {
     let Some(end) = ahead.next_line(reader)? else {
         return Err(TraceError::Syntax { line: 1 });
@@ -87,17 +75,11 @@ fn read_items<R: Read>(
     reader: &mut R,
 ) -> Result<Vec<Item>, TraceError>
     requires { length nexuses.now ≤ MOST_NEXUSES }
-    ensures taken { Takes (bytes_of_lines (most_items version)) (R.remaining reader.old)
-        (R.remaining reader.new) (length (bytes_held ahead.old)) (length (bytes_held ahead.new)) }
-    ensures ok { IfOk result (λ history. Leads
-        (λ old new. items_of version (names_of nexuses.now) 0 (lines old)
-        ≡ and_then (later_lines (length history.items) 0 (lines new))
-        (λ _. Ok history.items)) (bytes_left ahead.old (R.remaining reader.old))
-        (bytes_left ahead.new (R.remaining reader.new))) }
+    ensures taken { TakesAhead R.Read reader ahead (bytes_of_lines (most_items version)) }
+    ensures ok { ReadsItems R.Read reader ahead version (names_of nexuses.now) result }
     ensures few { IfOk result (λ history. length history.items ≤ most_items version) }
-    ensures fault { IfSome (bytes_left ahead.old (R.remaining reader.old))
-        (λ text. IfErr result (λ e. Faults e
-        (items_of version (names_of nexuses.now) 0 (lines text)))) }
+    ensures fault { FaultsAhead R.Read reader ahead (items_of version (names_of nexuses.now) 0)
+        result }
 {
     // With room for all that may come nothing is copied as it grows; room that nothing is written into takes no memory.
     let mut history = Vec::with_capacity(alloc, most_items(version) as usize)?;
@@ -116,12 +98,9 @@ fn read_items<R: Read>(
 // Reads the lines behind so many items.
 fn read_later<R: Read>(items: u32, ahead: &mut Ahead, reader: &mut R) -> Result<(), TraceError>
     requires { items ≤ MOST_ITEMS_2 }
-    ensures taken { Takes (bytes_of_lines MOST_LATER_LINES) (R.remaining reader.old)
-        (R.remaining reader.new) (length (bytes_held ahead.old)) (length (bytes_held ahead.new)) }
-    ensures ok { IfSome (bytes_left ahead.old (R.remaining reader.old))
-        (λ text. OnOk result (later_lines items 0 (lines text) ≡ Ok tt)) }
-    ensures fault { IfSome (bytes_left ahead.old (R.remaining reader.old))
-        (λ text. IfErr result (λ e. Faults e (later_lines items 0 (lines text)))) }
+    ensures taken { TakesAhead R.Read reader ahead (bytes_of_lines MOST_LATER_LINES) }
+    ensures ok { ReadsLater R.Read reader ahead items result }
+    ensures fault { FaultsAhead R.Read reader ahead (later_lines items 0) result }
 {
     let mut others = 0;
     while let Some(end) = ahead.next_line(reader)? {

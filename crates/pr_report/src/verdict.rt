@@ -1,13 +1,13 @@
 //! The text of a verdict.
 
-ghost use Rattle.std.specs.Prelude.{◌≡◌, ◌∷◌, [], codes, map};
+ghost use Rattle.std.specs.Prelude.{◌≡◌, ◌∷◌, []};
 ghost use Rattle.std.specs.Fmt.{decimal};
-ghost use Rattle.pr_roles.specs.Scenarios.{scenario_of};
-ghost use Rattle.pr_report.specs.Written.{Puts};
-ghost use Rattle.pr_report.specs.Printed.{printed_word};
+ghost use Rattle.pr_report.specs.inside.WordsWritten.{WritesRefusal};
+ghost use Rattle.pr_report.specs.Written.{Writes};
+ghost use Rattle.pr_report.specs.Printed.{printed_words};
 ghost use Rattle.pr_report.specs.PrintedLines.{class_word, line};
-ghost use Rattle.pr_report.specs.TraceText.{names_in, names_of};
-ghost use Rattle.pr_report.specs.Verdicts.{IsReason, IsVerdict, is_refusal, no_arm_words, over_budget_words, place_words, reason_words, refused_line, verdict_text};
+ghost use Rattle.pr_report.specs.TraceText.{names_of, names_under};
+ghost use Rattle.pr_report.specs.Verdicts.{IsReason, IsVerdict, is_refusal, no_arm_words, over_budget_words, place_words, reason_words, verdict_text};
 
 use crate::output::WriteFault;
 use crate::printing::{Word, put_line};
@@ -53,8 +53,7 @@ pub fn write_verdict<W: Write>(
     verdict: &Verdict,
 ) -> Result<(), WriteFault>
     requires { IsVerdict verdict.now }
-    ensures { Puts (W.contents writer.old) (W.contents writer.new)
-        (verdict_text (names_in (scenario_of scenario.now)) verdict.now) result }
+    ensures { Writes W.Write writer (verdict_text (names_under scenario.now) verdict.now) result }
 {
     match verdict {
         Verdict::Accepted => put_line(writer, Word::Text(b"accepted"), &[]),
@@ -67,8 +66,7 @@ pub fn write_verdict<W: Write>(
 // The line of a word and a number.
 #[tactic(auto, unfolding(crate::specs::Printed::printed_word))]
 fn put_counted<W: Write>(writer: &mut W, word: &[u8], number: usize) -> Result<(), WriteFault>
-    ensures { Puts (W.contents writer.old) (W.contents writer.new)
-        (line word.now (decimal number ∷ [])) result }
+    ensures { Writes W.Write writer (line word.now (decimal number ∷ [])) result }
 {
     put_line(writer, Word::Text(word), &[Word::Number(number as u64)])
 }
@@ -79,8 +77,7 @@ fn put_reason<W: Write>(
     refusal: Refusal,
 ) -> Result<(), WriteFault>
     requires { IsReason refusal }
-    ensures { Puts (W.contents writer.old) (W.contents writer.new)
-        (refused_line (reason_words (names_of nexuses.now) refusal)) result }
+    ensures { WritesRefusal W.Write writer (reason_words (names_of nexuses.now) refusal) result }
 {
     match refusal {
         Refusal::NoArm { host, line, class } => {
@@ -116,8 +113,7 @@ fn put_no_arm<W: Write>(
     line: u32,
     class: Class,
 ) -> Result<(), WriteFault>
-    ensures { Puts (W.contents writer.old) (W.contents writer.new)
-        (refused_line (no_arm_words name.now line (class_word class))) result }
+    ensures { WritesRefusal W.Write writer (no_arm_words name.now line (class_word class)) result }
 {
     put_refused(
         writer,
@@ -140,8 +136,7 @@ fn put_place<'a, W: Write>(
     name: &'a [u8],
     line: u32,
 ) -> Result<(), WriteFault>
-    ensures { Puts (W.contents writer.old) (W.contents writer.new)
-        (refused_line (place_words reason.now name.now line)) result }
+    ensures { WritesRefusal W.Write writer (place_words reason.now name.now line) result }
 {
     put_refused(
         writer,
@@ -157,8 +152,7 @@ fn put_place<'a, W: Write>(
 
 #[tactic(auto, unfolding(crate::specs::Printed::printed_word))]
 fn put_over_budget<W: Write>(writer: &mut W, name: &[u8], cost: u64) -> Result<(), WriteFault>
-    ensures { Puts (W.contents writer.old) (W.contents writer.new)
-        (refused_line (over_budget_words name.now cost)) result }
+    ensures { WritesRefusal W.Write writer (over_budget_words name.now cost) result }
 {
     put_refused(
         writer,
@@ -175,8 +169,7 @@ fn put_over_budget<W: Write>(writer: &mut W, name: &[u8], cost: u64) -> Result<(
 // The line with these words after the first.
 #[tactic(auto, unfolding(crate::specs::Printed::printed_word))]
 fn put_refused<W: Write>(writer: &mut W, words: &[Word<'_>]) -> Result<(), WriteFault>
-    ensures { Puts (W.contents writer.old) (W.contents writer.new)
-        (refused_line (map printed_word words.now)) result }
+    ensures { WritesRefusal W.Write writer (printed_words words.now) result }
 {
     put_line(writer, Word::Text(b"refused"), words)
 }

@@ -14,7 +14,7 @@ use Rattle.pr_report.specs.TraceText.{first_line}
 use Rattle.pr_report.specs.declared.versions.TheConstants.{MOST_ITEMS_1, MOST_ITEMS_2}
 use Rattle.pr_report.specs.Versions.{most_items}
 use Rattle.pr_report.specs.TraceReadings.{Faults, and_then, items_of, item_on, is_later, later_lines, lines, trace_in}
-use Rattle.pr_report.specs.inside.LinesAhead.{Between, FindsLine, IsFront, Leads, StandsInFront}
+use Rattle.pr_report.specs.inside.LinesAhead.{Between, FindsLine, FirstRead, IsFront, ItemsRead, Leads, StandsInFront}
 use Rattle.pr_report.proofs.lemmas.TraceReadings.SolidWords.{digits_word}
 
 -- ---- faults
@@ -165,10 +165,6 @@ trace_other version names l ls h = rw h refl
 trace_right : (version : ℕ) (names : List (List ℕ)) (l : List ℕ) (ls : List (List ℕ)) → bytes_eq l (first_line version) ≡ true → trace_in version names (l ∷ ls) ≡ items_of version names 0 ls
 trace_right version names l ls h = rw h refl
 
--- the first line is right, and these lines follow it
-abbrev pub FirstRead : ℕ → List (List ℕ) → List ℕ → List ℕ → Type 0
-FirstRead version names old new = trace_in version names (lines old) ≡ items_of version names 0 (lines new)
-
 module _ (version : ℕ) (names : List (List ℕ)) {start : Option (List ℕ)} {held : List ℕ} {known : Option (List ℕ)} {n : ℕ} (found : FindsLine start held known (Some n)) where
   first_same : (more : List ℕ) (f : IsFront held more n) → bytes_eq f.line (first_line version) ≡ bytes_eq (take n held) (first_line version)
   first_same more f = by_front held more n f found.within (λ l. bytes_eq l (first_line version)) (first_by_front version)
@@ -210,10 +206,6 @@ entry_by_front version names index l m h k same = rw (many 1024 (length l) h, ma
 abbrev pub EntriesLeft : ℕ → List (List ℕ) → List Item → List ℕ → List ℕ → Type 0
 EntriesLeft version names es old new = items_of version names 0 (lines old) ≡ and_then (items_of version names (length es) (lines new)) (λ more. Ok (es ++ more))
 
--- these are all entries, and what is left are later lines
-abbrev pub EntriesAll : ℕ → List (List ℕ) → List Item → List ℕ → List ℕ → Type 0
-EntriesAll version names es old new = items_of version names 0 (lines old) ≡ and_then (later_lines (length es) 0 (lines new)) (λ _. Ok es)
-
 -- these entries stand in front
 abbrev onto : List Item → Result (List Item) TraceError → Result (List Item) TraceError
 onto es r = and_then r (λ more. Ok (es ++ more))
@@ -252,9 +244,9 @@ entry_short version names index l e k = elim (cases_lt 1024 (length l)) [
 
 module _ (version : ℕ) (names : List (List ℕ)) (es : List Item) {start mid : Option (List ℕ)} {held : List ℕ} {known : Option (List ℕ)} (behind : Leads (EntriesLeft version names es) start mid) where
   -- nothing is left
-  pub entries_end : FindsLine mid held known None → Leads (EntriesAll version names es) start (prepend_known held known)
+  pub entries_end : FindsLine mid held known None → Leads (ItemsRead version names es) start (prepend_known held known)
   entries_end f =
-      leads_on (EntriesAll version names es) held
+      leads_on (ItemsRead version names es) held
       (λ old more here none.
       let is : lines (held ++ more) ≡ [] = ap lines none ∙ lines_none in
       here ∙ (rw (is, append-nil es) refl))
@@ -265,9 +257,9 @@ module _ (version : ℕ) (names : List (List ℕ)) (es : List Item) {start mid :
     later_same more f = by_front held more n f found.within is_later later_by_front
 
     -- a later line is left
-    pub entries_stop : is_later (take n held) ≡ true → Leads (EntriesAll version names es) start (prepend_known held known)
+    pub entries_stop : is_later (take n held) ≡ true → Leads (ItemsRead version names es) start (prepend_known held known)
     entries_stop h =
-        leads_on (EntriesAll version names es) held
+        leads_on (ItemsRead version names es) held
         (λ old more here f.
         here ∙ (ap (λ ls. onto es (items_of version names (length es) ls)) f.cut ∙ (ap (onto es) (entries_later version names (length es) f.line f.others (later_same more f ∙ h))
         ∙ (onto_later es (later_lines (length es) 0 (f.line ∷ f.others)) ∙ ap (λ ls. and_then (later_lines (length es) 0 ls) (λ _. Ok es)) (sym f.cut)))))

@@ -14,9 +14,8 @@ use Rattle.pr_report.specs.declared.trace_error.TraceError.{TraceError}
 use Rattle.pr_report.specs.declared.trace_error.TraceError.TheVariants.{ReadFault, Memory}
 use Rattle.pr_report.specs.TraceText.{names_in, names_of}
 use Rattle.pr_report.specs.TraceReadings.{Faults, and_then, items_of, later_lines, lines, trace_in, trace_of}
-use Rattle.pr_report.specs.inside.LinesAhead.{Between, Leads}
+use Rattle.pr_report.specs.inside.LinesAhead.{Between, FirstRead, ItemsRead, Leads}
 use Rattle.pr_report.proofs.lemmas.TraceText.Lines.{names_of_scenario}
-use Rattle.pr_report.proofs.lemmas.LinesAhead.EntriesInFront.{EntriesAll, FirstRead}
 
 faults_along : {A : Type 0} (e : TraceError) (r s : Result A TraceError) → r ≡ s → Faults e s → Faults e r
 faults_along e r s h f = rw h f
@@ -34,13 +33,13 @@ module _ (version : ℕ) (names : List (List ℕ)) where
   first_by (Some old) None e h k = absurd h
   first_by (Some old) (Some new) e h k = faults_along e (trace_in version names (lines old)) _ h k
 
-  entries_by : (es : List Item) (start mid : Option (List ℕ)) (e : TraceError) → Between (EntriesAll version names es) start mid → IfSome mid (λ text. Faults e (later_lines (length es) 0 (lines text)))
+  entries_by : (es : List Item) (start mid : Option (List ℕ)) (e : TraceError) → Between (ItemsRead version names es) start mid → IfSome mid (λ text. Faults e (later_lines (length es) 0 (lines text)))
       → IfSome start (λ text. Faults e (items_of version names 0 (lines text)))
   entries_by es None mid e h k = tt
   entries_by es (Some old) None e h k = absurd h
   entries_by es (Some old) (Some new) e h k = faults_along e (items_of version names 0 (lines old)) _ h (faults_then e (later_lines (length es) 0 (lines new)) (λ _. Ok es) k)
 
-  all_by : (es : List Item) (start mid last : Option (List ℕ)) → Between (FirstRead version names) start mid → Between (EntriesAll version names es) mid last
+  all_by : (es : List Item) (start mid last : Option (List ℕ)) → Between (FirstRead version names) start mid → Between (ItemsRead version names es) mid last
       → IfSome last (λ text. later_lines (length es) 0 (lines text) ≡ Ok tt) → IfSome start (λ text. trace_of version names text ≡ Ok es)
   unfolding trace_of
   all_by es None mid last h i k = tt
@@ -70,7 +69,7 @@ module _ {held : List ℕ} (known : Option (List ℕ)) (empty : held ≡ []) (ve
     pub entry_fault : (e : TraceError) → IfSome mid (λ text. Faults e (items_of version names 0 (lines text))) → IfSome known (λ text. Faults e (trace_of wanted all text))
     entry_fault e h = fault_along e (first_by version names (prepend_known held known) mid e first.holds h)
 
-    module _ (es : List Item) {last : Option (List ℕ)} (entries : Leads (EntriesAll version names es) mid last) where
+    module _ (es : List Item) {last : Option (List ℕ)} (entries : Leads (ItemsRead version names es) mid last) where
       -- a later line has a fault
       pub later_fault : (e : TraceError) → IfSome last (λ text. Faults e (later_lines (length es) 0 (lines text))) → IfSome known (λ text. Faults e (trace_of wanted all text))
       later_fault e h = entry_fault e (entries_by version names es mid last e entries.holds h)

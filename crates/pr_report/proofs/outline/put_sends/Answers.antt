@@ -16,13 +16,13 @@ pub returns-in_err-add_send : goal.returns-in_err-add_send
 returns-in_err-add_send g c =
     let table = c.args.table.now in
     puts_err _ _ _ _ (sends_front (names_of c.args.nexuses.now) table.outline.host table.outline.views.items table.rows.items c.deref-row-items.result.now c.loop-place.place c.index.result.now c.row-item.result
-    c.deref-row-items.ensures.value c.requires.rows c.loop-place-test.true c.index.ensures c.row-item.is _ _ _ _ _ c.loop-place.invariant (c.in_err-add_send.ensures table.outline.host)) c.from_residual.ensures.0
+    c.deref-row-items.ensures.value c.args.table.now.each c.loop-place-test.true c.index.ensures c.row-item.is _ _ _ _ _ c.loop-place.invariant (c.in_err-add_send.ensures table.outline.host)) c.from_residual.ensures.0
 
 pub loop-place-preserved : goal.loop-place-preserved
 loop-place-preserved g c =
     let table = c.args.table.now in
     sends_more (names_of c.args.nexuses.now) table.outline.host table.outline.views.items table.rows.items c.deref-row-items.result.now c.loop-place.place c.index.result.now c.row-item.result
-    c.deref-row-items.ensures.value c.requires.rows c.loop-place-test.true c.index.ensures c.row-item.is _ _ _ _ _ c.loop-place.invariant _ (c.in_ok-add_send.ensures table.outline.host)
+    c.deref-row-items.ensures.value c.args.table.now.each c.loop-place-test.true c.index.ensures c.row-item.is _ _ _ _ _ c.loop-place.invariant _ (c.in_ok-add_send.ensures table.outline.host)
 
 pub returns : goal.returns
 returns g c =

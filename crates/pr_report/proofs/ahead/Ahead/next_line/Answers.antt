@@ -16,7 +16,7 @@ returns-else-rest-eq0-clause-found g c =
     let before = bytes_left c.args.self.now (g.R.Read.remaining c.args.reader.now) in
     let between = bytes_left c.loop-end.self (g.R.Read.remaining c.loop-end.reader) in
     let after = bytes_left c.read_more.new.self (g.R.Read.remaining c.read_more.new.reader) in
-    rw c.as_slice-rest.ensures (finds_at_end (Keeps-trans before between after c.loop-end.invariant.0 c.in_ok-read_more.ensures.kept) (sym c.line_end.ensures ∙ c.in_default.is) grown.0 grown.1 some_held)
+    rw c.as_slice-rest.ensures (finds_at_end {start = before} (Keeps-trans before between after c.loop-end.invariant.0 c.in_ok-read_more.ensures.kept) (sym c.line_end.ensures ∙ c.in_default.is) grown.0 grown.1 some_held)
 
 pub returns-in_err-read_more-clause-taken : goal.returns-in_err-read_more-clause-taken
 returns-in_err-read_more-clause-taken g c = takes_both 0 c.loop-end.invariant.1 c.in_err-read_more.ensures.taken (omega arith)
