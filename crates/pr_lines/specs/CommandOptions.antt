@@ -8,8 +8,8 @@ use Rattle.pr_cdb.specs.declared.command.Command.TheVariants.{ReadKeys, ReadRese
 use Rattle.pr_script.specs.declared.grammar.TheConstants.{WRITTEN_LENGTH}
 use Rattle.pr_lines.specs.declared.options.Direction.{Direction}
 use Rattle.pr_lines.specs.declared.options.Direction.TheVariants.{In, Out}
-use Rattle.pr_lines.specs.declared.options.Action.{Action}
-use Rattle.pr_lines.specs.declared.options.Action.TheVariants as action
+use Rattle.pr_lines.specs.declared.options.ServiceAction.{ServiceAction}
+use Rattle.pr_lines.specs.declared.options.ServiceAction.TheVariants as action
 use Rattle.pr_lines.specs.declared.options.InAction.{InAction}
 use Rattle.pr_lines.specs.declared.options.InAction.TheVariants as in_action
 use Rattle.pr_lines.specs.declared.options.OutAction.{OutAction}
@@ -69,7 +69,7 @@ command_out out_action.Preempt rk sark kind = option_map (λ k. Preempt rk sark 
 command_out out_action.PreemptAbort rk sark kind = option_map (λ k. PreemptAbort rk sark (Some k)) kind
 
 -- the command of a service action that goes in this direction; one of `--in` has neither a key nor a type
-abbrev pub command_going : Direction → Action → Written → Option Command
+abbrev pub command_going : Direction → ServiceAction → Written → Option Command
 command_going In (action.In a) w = if is_none w.rk && (is_none w.sark && is_none w.kind) then Some (command_in a) else None
 command_going In (action.Out a) w = None
 command_going Out (action.In a) w = None

@@ -7,8 +7,8 @@ use Rattle.pr_registry.specs.Registrations.{is_all}
 use Rattle.pr_script.specs.declared.script.Test.{Test}
 use Rattle.pr_roles.specs.declared.role.Clause.{Clause}
 use Rattle.pr_lines.specs.declared.versions.TheConstants.{VERSIONS}
-use Rattle.pr_lines.specs.declared.item.Refusal.{Refusal}
-use Rattle.pr_lines.specs.declared.item.Refusal.TheVariants as refusal
+use Rattle.pr_lines.specs.declared.item.RefusalKind.{RefusalKind}
+use Rattle.pr_lines.specs.declared.item.RefusalKind.TheVariants as refusal
 use Rattle.pr_lines.specs.declared.spelling.ParsedCommand.{ParsedCommand}
 use Rattle.pr_lines.specs.Chain.{◌>>=◌, each}
 use Rattle.pr_lines.specs.Lookups.{lookup}
@@ -32,7 +32,7 @@ pub data DeclaringLine : Type 0 where
   nexus_line : Bool → List ℕ → DeclaringLine
   start_line : List ℕ → List (Option ℕ) → DeclaringLine
   pending_line : List ℕ → List Attention → DeclaringLine
-  refusals_line : Refusal → List ℕ → ℕ → DeclaringLine
+  refusals_line : RefusalKind → List ℕ → ℕ → DeclaringLine
   reservation_line : List StartReservation → DeclaringLine
   generation_line : ℕ → DeclaringLine
   resets_line : ℕ → DeclaringLine

@@ -36,7 +36,7 @@ pub enum StartReservation {
 
 /// A refusal in which the unit has no part (SAM-5, 'Status').
 #[derive(Clone, Copy, Debug, PartialEq, Eq)]
-pub enum Refusal {
+pub enum RefusalKind {
     /// BUSY.
     Busy,
     /// TASK SET FULL.
@@ -62,7 +62,7 @@ pub enum ScenarioLine {
     /// The attentions that may be pending at the start for the nexus with this name.
     Pending(Word, Vec<Attention>),
     /// How often the nexus with this name may meet this refusal.
-    Refusals(Refusal, Word, u64),
+    Refusals(RefusalKind, Word, u64),
     /// The reservations that there may be at the start.
     Reservation(Vec<StartReservation>),
     /// The generation of the first start.
@@ -135,8 +135,8 @@ fn said_simply(keyword: Keyword, rest: &[u8]) -> Option<ScenarioLine>
         Keyword::Fence => fence_said(rest),
         Keyword::Host => Some(ScenarioLine::Host(only_name(rest)?)),
         Keyword::Guest => Some(ScenarioLine::Guest(only_name(rest)?)),
-        Keyword::Busy => refusals_said(Refusal::Busy, rest),
-        Keyword::Full => refusals_said(Refusal::Full, rest),
+        Keyword::Busy => refusals_said(RefusalKind::Busy, rest),
+        Keyword::Full => refusals_said(RefusalKind::Full, rest),
         Keyword::Generation => Some(ScenarioLine::Generation(generation_of(only(rest)?)?)),
         Keyword::Resets => Some(ScenarioLine::Resets(only_count(rest)?)),
         Keyword::Role => role_said(rest),
@@ -167,7 +167,7 @@ fn fence_said(rest: &[u8]) -> Option<ScenarioLine>
     Some(ScenarioLine::Fence(version))
 }
 
-fn refusals_said(refusal: Refusal, rest: &[u8]) -> Option<ScenarioLine>
+fn refusals_said(refusal: RefusalKind, rest: &[u8]) -> Option<ScenarioLine>
     ensures { option_map line_of_value result
         ≡ said_of_name (λ name count. declares (refusals_line refusal name count)) only_count
         (words rest.now) }

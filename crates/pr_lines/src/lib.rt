@@ -17,5 +17,5 @@ mod terms;
 mod versions;
 
 pub use cutting::{is_text, next_line, next_word};
-pub use item::{Refusal, ScenarioLine, StartReservation, item_of};
+pub use item::{RefusalKind, ScenarioLine, StartReservation, item_of};
 pub use spelling::ParsedCommand;

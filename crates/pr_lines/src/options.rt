@@ -39,7 +39,7 @@ pub enum OutAction {
 
 /// A service action.
 #[derive(Clone, Copy, PartialEq, Eq)]
-pub enum Action {
+pub enum ServiceAction {
     In(InAction),
     Out(OutAction),
 }
@@ -51,27 +51,36 @@ pub const DIRECTIONS: [(&[u8], Direction); 2] = [
 ];
 
 /// The options for the service actions.
-pub const ACTIONS: [(&[u8], Action); 10] = [
-    (b"--read-keys", Action::In(InAction::ReadKeys)),
-    (b"--read-reservation", Action::In(InAction::ReadReservation)),
+pub const ACTIONS: [(&[u8], ServiceAction); 10] = [
+    (b"--read-keys", ServiceAction::In(InAction::ReadKeys)),
+    (
+        b"--read-reservation",
+        ServiceAction::In(InAction::ReadReservation),
+    ),
     (
         b"--report-capabilities",
-        Action::In(InAction::ReportCapabilities),
+        ServiceAction::In(InAction::ReportCapabilities),
     ),
-    (b"--register", Action::Out(OutAction::Register)),
-    (b"--register-ignore", Action::Out(OutAction::RegisterIgnore)),
-    (b"--reserve", Action::Out(OutAction::Reserve)),
-    (b"--release", Action::Out(OutAction::Release)),
-    (b"--clear", Action::Out(OutAction::Clear)),
-    (b"--preempt", Action::Out(OutAction::Preempt)),
-    (b"--preempt-abort", Action::Out(OutAction::PreemptAbort)),
+    (b"--register", ServiceAction::Out(OutAction::Register)),
+    (
+        b"--register-ignore",
+        ServiceAction::Out(OutAction::RegisterIgnore),
+    ),
+    (b"--reserve", ServiceAction::Out(OutAction::Reserve)),
+    (b"--release", ServiceAction::Out(OutAction::Release)),
+    (b"--clear", ServiceAction::Out(OutAction::Clear)),
+    (b"--preempt", ServiceAction::Out(OutAction::Preempt)),
+    (
+        b"--preempt-abort",
+        ServiceAction::Out(OutAction::PreemptAbort),
+    ),
 ];
 
 /// One option of a command.
 #[derive(Clone, Copy, PartialEq, Eq)]
 pub enum CommandOption {
     Direction(Direction),
-    Action(Action),
+    Action(ServiceAction),
     Rk(u64),
     Sark(u64),
     Kind(Kind),
@@ -81,7 +90,7 @@ pub enum CommandOption {
 #[derive(Clone, Copy, PartialEq, Eq)]
 pub struct Written {
     pub direction: Option<Direction>,
-    pub action: Option<Action>,
+    pub action: Option<ServiceAction>,
     pub rk: Option<u64>,
     pub sark: Option<u64>,
     pub kind: Option<Kind>,
@@ -139,8 +148,10 @@ impl Written {
         let direction = self.direction?;
         let action = self.action?;
         match (direction, action) {
-            (Direction::In, Action::In(action)) if self.is_bare() => Some(command_in(action)),
-            (Direction::Out, Action::Out(action)) => command_out(
+            (Direction::In, ServiceAction::In(action)) if self.is_bare() => Some(command_in(
+                action,
+            )),
+            (Direction::Out, ServiceAction::Out(action)) => command_out(
                 action,
                 self.rk.unwrap_or(0),
                 self.sark.unwrap_or(0),

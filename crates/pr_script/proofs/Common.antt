@@ -12,7 +12,7 @@ pub use Rattle.pr_script.specs.Versions.{are_arms_of}
 pub use Rattle.pr_script.specs.declared.advance.LoopFrame.{LoopFrame}
 pub use Rattle.pr_script.specs.declared.limits.TheConstants.{MOST_OPEN}
 pub use Rattle.pr_script.specs.declared.rows.Instruction.{Instruction}
-pub use Rattle.pr_script.specs.declared.rows.Step.{Step}
+pub use Rattle.pr_script.specs.declared.rows.Operation.{Operation}
 pub use Rattle.pr_script.specs.declared.script.Arm.{Arm}
 pub use Rattle.pr_script.specs.declared.script.Statement.{Statement}
 pub use Rattle.pr_script.specs.inside.ArmLists.{arms_in}

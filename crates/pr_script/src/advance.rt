@@ -8,7 +8,7 @@ ghost use Rattle.pr_script.specs.inside.Program.{place, meanings, open_configura
 ghost use Rattle.pr_script.specs.inside.Advances.{Leads};
 
 use crate::limits::MOST_OPEN;
-use crate::rows::{Instruction, Step};
+use crate::rows::{Instruction, Operation};
 use arrayvec::ArrayVec;
 
 /// The repeats that are open, the innermost last.
@@ -57,9 +57,9 @@ fn advance(rows: &[Instruction], at: usize, opens: &mut Loops) -> Option<usize>
     }
     let row = &rows[at - 1];
     match &row.step {
-        Step::Send { .. } => None,
-        Step::Stop(_) => None,
-        Step::Repeat { count, body } => {
+        Operation::Send { .. } => None,
+        Operation::Stop(_) => None,
+        Operation::Repeat { count, body } => {
             let again = LoopFrame {
                 left: *count,
                 body: *body,
@@ -67,7 +67,7 @@ fn advance(rows: &[Instruction], at: usize, opens: &mut Loops) -> Option<usize>
             };
             Some(repeat_or_exit(again, opens))
         }
-        Step::Break => Some(exit_loop(opens)),
+        Operation::Break => Some(exit_loop(opens)),
     }
 }
 

@@ -6,7 +6,7 @@ ghost use Rattle.pr_script.specs.inside.ArmLists.{arms_in};
 ghost use Rattle.pr_script.specs.inside.Program.{IsTable};
 ghost use Rattle.pr_script.specs.inside.Compiled.{IsCompiled, IsStepCompiled, AreArmsCompiled};
 
-use crate::rows::{ArmTarget, Instruction, Step};
+use crate::rows::{ArmTarget, Instruction, Operation};
 use crate::script::{Arm, Statement};
 use std::alloc::{AllocError, Global};
 
@@ -38,7 +38,7 @@ fn compile_step(
     rows: &mut Vec<Instruction>,
     statement: &Statement,
     next: usize,
-) -> Result<Step, AllocError>
+) -> Result<Operation, AllocError>
     requires table { IsTable rows.old.items }
     requires within { next ≤ length rows.old.items }
     ensures { IfOk result (λ step. IsStepCompiled rows.old.items rows.new.items
@@ -51,7 +51,7 @@ fn compile_step(
             arms,
         } => {
             let arms = compile_arms(alloc, rows, arms, next)?;
-            Ok(Step::Send {
+            Ok(Operation::Send {
                 line: *line,
                 command: *command,
                 arms,
@@ -59,13 +59,13 @@ fn compile_step(
         }
         Statement::Repeat { count, body } => {
             let body = compile(alloc, rows, &body.statements, 0)?;
-            Ok(Step::Repeat {
+            Ok(Operation::Repeat {
                 count: *count,
                 body,
             })
         }
-        Statement::Break => Ok(Step::Break),
-        Statement::Stop(word) => Ok(Step::Stop(*word)),
+        Statement::Break => Ok(Operation::Break),
+        Statement::Stop(word) => Ok(Operation::Stop(*word)),
     }
 }
 

@@ -10,13 +10,13 @@ use pr_cdb::Command;
 /// A statement, and the place that follows it.
 #[derive(Drop)]
 pub(crate) struct Instruction {
-    pub step: Step,
+    pub step: Operation,
     pub next: usize,
 }
 
 /// What is done at a row.
 #[derive(Drop)]
-pub(crate) enum Step {
+pub(crate) enum Operation {
     Send {
         line: u32,
         command: Command,

@@ -25,11 +25,11 @@ pub use Rattle.pr_roles.specs.declared.role.Clause.{Clause}
 pub use Rattle.pr_lines.specs.Chain.{each}
 pub use Rattle.pr_lines.specs.ScenarioLines.{states, ScenarioLine, DeclaringLine, StatementLine, fence_line, declares, nexus_line, start_line, pending_line, refusals_line, resets_line, role_line, script_line, plan_line, end_line, send_line, on_line, done_line, repeat_line, break_line, stop_line, command_line, keys_line, reservation_line, generation_line}
 pub use Rattle.pr_lines.specs.Versions.{since}
-pub use Rattle.pr_lines.specs.declared.item.Refusal.{Refusal}
+pub use Rattle.pr_lines.specs.declared.item.RefusalKind.{RefusalKind}
 pub use Rattle.pr_lines.specs.declared.spelling.ParsedCommand.{ParsedCommand}
 pub use Rattle.pr_lines.proofs.lemmas.ScenarioLines.Terms.{is_item}
 pub use Rattle.pr_lines.proofs.lemmas.Tests.{both, true_le}
-pub use Rattle.pr_text.specs.Declarations.{Declared, nothing, WrittenTask, scripted, planned, Declaration, OpenLines, Place, before_all, outside, in_script, in_plan, OpenBlock, sending}
+pub use Rattle.pr_text.specs.Declarations.{Declared, nothing, WrittenTask, scripted, planned, Declaration, OpenLines, Context, before_all, outside, in_script, in_plan, OpenBlock, sending}
 pub use Rattle.pr_text.specs.Declaring.{codes_of, count_in, declared_keys, held_of}
 unfoldable pub use Rattle.pr_text.specs.Declaring.{number_of}
 pub use Rattle.pr_text.specs.Faults.{and_then, Fails, unless}

@@ -47,11 +47,11 @@ pub record OpenLines : Type 0 where
 -- ---- the whole
 
 -- where the next line stands: before the version, outside, in a script, or in a guest's plan
-pub data Place : Type 0 where
-  before_all : Place
-  outside : Place
-  in_script : OpenLines → Place
-  in_plan : ℕ → List Command → Place
+pub data Context : Type 0 where
+  before_all : Context
+  outside : Context
+  in_script : OpenLines → Context
+  in_plan : ℕ → List Command → Context
 
 -- The version is that of the text, and 1 before its first line. The resets are how often the unit may be reset during
 -- a run.
@@ -62,7 +62,7 @@ pub record Declared : Type 0 where
   pub generation : Option ℕ
   pub resets : Option ℕ
   pub nexuses : List Declaration
-  pub place : Place
+  pub place : Context
 
 -- nothing is declared yet
 abbrev pub nothing : Declared

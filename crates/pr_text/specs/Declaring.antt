@@ -9,8 +9,8 @@ use Rattle.pr_registry.specs.declared.held.Held.TheVariants.{One, All as Everybo
 use Rattle.pr_attention.specs.Attentions.{Codes, code_of, no_code}
 use Rattle.pr_attention.specs.declared.attention.Attention.{Attention}
 use Rattle.pr_script.specs.Grammar.{is_written, is_written_key}
-use Rattle.pr_lines.specs.declared.item.Refusal.{Refusal}
-use Rattle.pr_lines.specs.declared.item.Refusal.TheVariants as refusal
+use Rattle.pr_lines.specs.declared.item.RefusalKind.{RefusalKind}
+use Rattle.pr_lines.specs.declared.item.RefusalKind.TheVariants as refusal
 use Rattle.pr_lines.specs.declared.spelling.ParsedCommand.{ParsedCommand}
 use Rattle.pr_lines.specs.Chain.{◌>>=◌}
 use Rattle.pr_text.specs.Declarations.{Declaration, Declared}
@@ -32,7 +32,7 @@ abbrev pub holds_of : Declared → List ℕ → (Declaration → Bool) → Bool
 holds_of d name p = option_map_or p (nexus_named d name) false
 
 -- how often this refusal may come to a nexus, where a line has said it
-abbrev pub count_in : Refusal → Declaration → Option ℕ
+abbrev pub count_in : RefusalKind → Declaration → Option ℕ
 count_in refusal.Busy x = x.busy
 count_in refusal.Full x = x.full
 

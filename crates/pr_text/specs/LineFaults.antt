@@ -8,8 +8,8 @@ use Rattle.pr_attention.specs.Attentions.{code_of}
 use Rattle.pr_script.specs.Grammar.{stands_under, is_test_declared}
 use Rattle.pr_script.specs.declared.limits.TheConstants.{MOST_STATEMENTS, MOST_ARMS, MOST_OPEN, MOST_TURNS, MOST_BUDGET}
 use Rattle.pr_roles.specs.declared.limits.TheConstants.{MOST_KEYS, MOST_CLAUSES, MOST_PLANNED, MOST_REFUSALS, MOST_RESETS}
-use Rattle.pr_lines.specs.declared.item.Refusal.{Refusal}
-use Rattle.pr_lines.specs.declared.item.Refusal.TheVariants as refusal
+use Rattle.pr_lines.specs.declared.item.RefusalKind.{RefusalKind}
+use Rattle.pr_lines.specs.declared.item.RefusalKind.TheVariants as refusal
 use Rattle.pr_lines.specs.declared.spelling.ParsedCommand.{ParsedCommand}
 use Rattle.pr_text.specs.declared.fault.Which.{Which}
 use Rattle.pr_text.specs.declared.fault.ReadError.{ReadError}
@@ -67,7 +67,7 @@ says_again d (script_line name budget) = holds_of d name (λ x. is_some x.task)
 says_again d (plan_line name) = holds_of d name (λ x. is_some x.task)
 
 -- the limit of how often a refusal may come
-abbrev pub limit_of : Refusal → Which
+abbrev pub limit_of : RefusalKind → Which
 limit_of refusal.Busy = which.Busy
 limit_of refusal.Full = which.Full
 

@@ -4,8 +4,8 @@ use Rattle.std.specs.Prelude.{ℕ, List, [], ◌∷◌, Some, None, Bool, false,
 use Rattle.std.specs.Option.{option_map_or}
 use Rattle.std.specs.List.{slice_get}
 use Rattle.pr_script.specs.declared.script.Test.{Test}
-use Rattle.pr_lines.specs.declared.item.Refusal.{Refusal}
-use Rattle.pr_lines.specs.declared.item.Refusal.TheVariants as refusal
+use Rattle.pr_lines.specs.declared.item.RefusalKind.{RefusalKind}
+use Rattle.pr_lines.specs.declared.item.RefusalKind.TheVariants as refusal
 use Rattle.pr_text.specs.declared.fault.ReadError.{ReadError}
 use Rattle.pr_text.specs.Declarations.{WrittenTask, scripted, planned, Declaration, OpenBlock, repeating, sending, OpenLines, outside, in_script, in_plan, Declared}
 use Rattle.pr_lines.specs.Chain.{each}
@@ -31,7 +31,7 @@ with_more n guest name d =
     record d { nexuses = d.nexuses ++ record { name = name; line = n; is_guest = guest; start = None; pending = None; busy = None; full = None; role = []; task = None } ∷ [] }
 
 -- this refusal may come so often
-abbrev pub with_count : Refusal → ℕ → Declaration → Declaration
+abbrev pub with_count : RefusalKind → ℕ → Declaration → Declaration
 with_count refusal.Busy count x = record x { busy = Some count }
 with_count refusal.Full count x = record x { full = Some count }
 

@@ -12,8 +12,8 @@ use Rattle.pr_attention.specs.Attentions.{Codes, code_of, AreAttentions}
 use Rattle.pr_roles.specs.Scenarios.{Scenario, Nexus, Task, Scripted, Planned}
 use Rattle.pr_roles.specs.Starts.{CanStart}
 use Rattle.pr_roles.specs.Fitting.{Fits}
-use Rattle.pr_lines.specs.declared.item.Refusal.{Refusal}
-use Rattle.pr_lines.specs.declared.item.Refusal.TheVariants as refusal
+use Rattle.pr_lines.specs.declared.item.RefusalKind.{RefusalKind}
+use Rattle.pr_lines.specs.declared.item.RefusalKind.TheVariants as refusal
 use Rattle.pr_lines.specs.CommandWords.{without_keys}
 use Rattle.pr_lines.specs.ScenarioLines.{StartReservation, nobody, single, everybody, ScenarioLine, fence_line, keys_line, nexus_line, start_line, pending_line, refusals_line, reservation_line, generation_line, resets_line, role_line, script_line, plan_line, end_line, command_line, declares}
 use Rattle.pr_text.specs.ScriptLines.{body_lines}
@@ -38,7 +38,7 @@ pending_said n name [] = []
 pending_said n name (x ∷ xs) = line n (declares (pending_line name (x ∷ xs))) ∷ []
 
 -- where a refusal may not come, nothing is written
-abbrev pub refusals_said : ℕ → List ℕ → Refusal → ℕ → List Line
+abbrev pub refusals_said : ℕ → List ℕ → RefusalKind → ℕ → List Line
 refusals_said n name r count = if count == 0 then [] else line n (declares (refusals_line r name count)) ∷ []
 
 -- the lines of a task, the last of them included

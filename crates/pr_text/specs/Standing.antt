@@ -2,27 +2,27 @@
 -- Where the next line stands: what is open there, and what may begin or end there.
 use Rattle.std.specs.Prelude.{ℕ, List, [], ◌∷◌, Bool, ◌&&◌, false, ◌==◌, ◌||◌, not, true}
 use Rattle.pr_cdb.specs.declared.command.Command.{Command}
-use Rattle.pr_text.specs.Declarations.{OpenBlock, repeating, sending, OpenLines, Place, before_all, outside, in_script, in_plan}
+use Rattle.pr_text.specs.Declarations.{OpenBlock, repeating, sending, OpenLines, Context, before_all, outside, in_script, in_plan}
 
 -- this before the version, this outside, or what the script or the plan that is open gives
-abbrev pub by_place : {A : Type 0} → A → A → (OpenLines → A) → (ℕ → List Command → A) → Place → A
+abbrev pub by_place : {A : Type 0} → A → A → (OpenLines → A) → (ℕ → List Command → A) → Context → A
 by_place a b f g before_all = a
 by_place a b f g outside = b
 by_place a b f g (in_script o) = f o
 by_place a b f g (in_plan h commands) = g h commands
 
-abbrev pub is_before_all : Place → Bool
+abbrev pub is_before_all : Context → Bool
 is_before_all p = by_place true false (λ o. false) (λ h commands. false) p
 
-abbrev pub is_outside : Place → Bool
+abbrev pub is_outside : Context → Bool
 is_outside p = by_place false true (λ o. false) (λ h commands. false) p
 
 -- what the script that is open gives, or this where none is
-abbrev pub of_script : {A : Type 0} → A → (OpenLines → A) → Place → A
+abbrev pub of_script : {A : Type 0} → A → (OpenLines → A) → Context → A
 of_script a f p = by_place a a f (λ h commands. a) p
 
 -- what the plan that is open gives by its guest and its commands, or this where none is
-abbrev pub of_plan : {A : Type 0} → A → (ℕ → List Command → A) → Place → A
+abbrev pub of_plan : {A : Type 0} → A → (ℕ → List Command → A) → Context → A
 of_plan a f p = by_place a a (λ o. a) f p
 
 -- ---- in a script

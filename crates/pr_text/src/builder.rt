@@ -12,7 +12,7 @@ use crate::open_script::{OpenScript, is_spelled};
 use crate::uniqueness::are_codes_distinct;
 use pr_attention::Attention;
 use pr_cdb::Command;
-use pr_lines::{ParsedCommand, Refusal, ScenarioLine, StartReservation};
+use pr_lines::{ParsedCommand, RefusalKind, ScenarioLine, StartReservation};
 use pr_registry::Held;
 use pr_roles::limits::{
     MOST_CLAUSES, MOST_KEYS, MOST_PLANNED, MOST_REFUSALS, MOST_RESETS, most_declared,
@@ -24,7 +24,7 @@ use std::mem;
 
 /// Where the next line stands.
 #[derive(Drop)]
-pub enum Place {
+pub enum Context {
     /// Before the version.
     BeforeAll,
     /// Outside scripts and plans.
@@ -45,13 +45,13 @@ pub struct Builder {
     /// How often the unit may be reset during a run.
     pub resets: Option<u32>,
     pub nexuses: Vec<Draft>,
-    pub place: Place,
+    pub place: Context,
     ghost few: { length nexuses.items ≤ MOST_DECLARED_2 },
 }
 
 impl Builder {
     ghost use Rattle.std.specs.Prelude.{◌≡◌, ◌<◌, nat_lt, IfOk, IfSome, [], length, map, option_map, position, bytes_eq};
-    ghost use Rattle.pr_text.specs.declared.builder.Place.TheVariants.{Outside};
+    ghost use Rattle.pr_text.specs.declared.builder.Context.TheVariants.{Outside};
     ghost use Rattle.pr_text.specs.inside.Steps.{Gives};
     ghost use Rattle.pr_lines.specs.LineValues.{line_of_value, wanted_seen};
     ghost use Rattle.pr_lines.specs.Versions.{since};
@@ -75,7 +75,7 @@ impl Builder {
             generation: None,
             resets: None,
             nexuses: Vec::new(alloc),
-            place: Place::BeforeAll,
+            place: Context::BeforeAll,
         }
     }
 
@@ -109,11 +109,11 @@ impl Builder {
         ensures { Gives declared_by result
             (item_standing line (line_of_value item) (declared_by self)) }
     {
-        match mem::replace(&mut self.place, Place::Outside) {
-            Place::BeforeAll => self.first_line(line, item),
-            Place::Outside => self.line_outside(alloc, line, item),
-            Place::InScript(script) => self.line_in_script(alloc, line, script, item),
-            Place::InPlan(guest, commands) => self.line_in_plan(line, guest, commands, item),
+        match mem::replace(&mut self.place, Context::Outside) {
+            Context::BeforeAll => self.first_line(line, item),
+            Context::Outside => self.line_outside(alloc, line, item),
+            Context::InScript(script) => self.line_in_script(alloc, line, script, item),
+            Context::InPlan(guest, commands) => self.line_in_plan(line, guest, commands, item),
         }
     }
 
@@ -237,7 +237,7 @@ impl Builder {
     fn refusals_line(
         mut self,
         line: u32,
-        refusal: Refusal,
+        refusal: RefusalKind,
         name: Word,
         count: u64,
     ) -> Result<Self, ReadError>
@@ -341,7 +341,7 @@ impl Builder {
         if let Some(fault) = self.nexuses[host].script_fault(line, budget) {
             return Err(fault);
         }
-        self.place = Place::InScript(OpenScript::new(alloc, host, budget as u32));
+        self.place = Context::InScript(OpenScript::new(alloc, host, budget as u32));
         Ok(self)
     }
 
@@ -359,7 +359,7 @@ impl Builder {
         if nexus.task.is_some() {
             return Err(ReadError::Repeated { line });
         }
-        self.place = Place::InPlan(guest, Vec::new(alloc));
+        self.place = Context::InPlan(guest, Vec::new(alloc));
         Ok(self)
     }
 
@@ -379,7 +379,7 @@ impl Builder {
             return self.script_end(line, script);
         }
         let script = script.with_item(alloc, line, self.declared_keys(), item)?;
-        self.place = Place::InScript(script);
+        self.place = Context::InScript(script);
         Ok(self)
     }
 
@@ -418,7 +418,7 @@ impl Builder {
         match item {
             ScenarioLine::Command(spelled) => {
                 let commands = with_command(line, self.declared_keys(), commands, spelled)?;
-                self.place = Place::InPlan(guest, commands);
+                self.place = Context::InPlan(guest, commands);
                 Ok(self)
             }
             ScenarioLine::End => {
@@ -504,12 +504,12 @@ fn is_within(count: u64, most: u32) -> bool
 }
 
 // The limit of how often the refusal may come.
-fn limit_of(refusal: Refusal) -> Which
+fn limit_of(refusal: RefusalKind) -> Which
     ensures { result ≡ limit_of refusal }
 {
     match refusal {
-        Refusal::Busy => Which::Busy,
-        Refusal::Full => Which::Full,
+        RefusalKind::Busy => Which::Busy,
+        RefusalKind::Full => Which::Full,
     }
 }
 

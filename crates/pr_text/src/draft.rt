@@ -5,7 +5,7 @@ ghost use Rattle.pr_text.specs.Declaring.{codes_of};
 
 use crate::fault::{ReadError, Which};
 use pr_attention::{Attention, Pending};
-use pr_lines::Refusal;
+use pr_lines::RefusalKind;
 use pr_roles::{Clause, Task, Word, are_alternatives, are_distinct};
 use pr_script::limits::MOST_BUDGET;
 use std::alloc::Global;
@@ -80,22 +80,22 @@ impl Draft {
     }
 
     /// How often this refusal may come, where a line has said it.
-    pub fn count(&self, refusal: Refusal) -> Option<u32>
+    pub fn count(&self, refusal: RefusalKind) -> Option<u32>
         ensures { result ≡ count_in refusal (draft_seen self.now) }
     {
         match refusal {
-            Refusal::Busy => self.busy,
-            Refusal::Full => self.full,
+            RefusalKind::Busy => self.busy,
+            RefusalKind::Full => self.full,
         }
     }
 
     /// This refusal may come so often.
-    pub fn set_count(&mut self, refusal: Refusal, count: u32)
+    pub fn set_count(&mut self, refusal: RefusalKind, count: u32)
         ensures { draft_seen self.new ≡ with_count refusal count (draft_seen self.old) }
     {
         match refusal {
-            Refusal::Busy => self.busy = Some(count),
-            Refusal::Full => self.full = Some(count),
+            RefusalKind::Busy => self.busy = Some(count),
+            RefusalKind::Full => self.full = Some(count),
         }
     }
 

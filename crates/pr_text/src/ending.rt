@@ -7,7 +7,7 @@ ghost use Rattle.pr_text.specs.Texts.{first_unscripted};
 ghost use Rattle.pr_text.specs.inside.Endings.{whole_fault};
 ghost use Rattle.pr_text.specs.Reading.{nexus_written, nexus_declared};
 
-use crate::builder::{Builder, Place};
+use crate::builder::{Builder, Context};
 use crate::draft::Draft;
 use crate::fault::{ReadError, Which};
 use pr_attention::Pending;
@@ -48,9 +48,11 @@ impl Builder {
         ensures { result ≡ missing_fault number (declared_by self.now) }
     {
         match self.place {
-            Place::BeforeAll => Some(ReadError::Syntax { line: 1 }),
-            Place::Outside => whole_fault(number, &self.nexuses),
-            Place::InScript(_) | Place::InPlan(..) => Some(ReadError::Unclosed { line: number }),
+            Context::BeforeAll => Some(ReadError::Syntax { line: 1 }),
+            Context::Outside => whole_fault(number, &self.nexuses),
+            Context::InScript(_) | Context::InPlan(..) => Some(ReadError::Unclosed {
+                line: number,
+            }),
         }
     }
 

@@ -57,12 +57,12 @@ impl Promise<Result<(), Refusal>> for CheckOf {
 }
 
 /// A thread that is still to be joined.
-type Started = PromisedHandle<Result<(), Refusal>, CheckOf>;
+type CheckHandle = PromisedHandle<Result<(), Refusal>, CheckOf>;
 
 /// A check that was begun.
 #[derive(Drop)]
 enum Begun {
-    InThread(Started),
+    InThread(CheckHandle),
     /// That of this host, for which no thread was started.
     ToMake(u8),
 }
@@ -70,7 +70,7 @@ enum Begun {
 /// A check, once there is nothing left for the caller to make.
 #[derive(Drop)]
 enum Check {
-    InThread(Started),
+    InThread(CheckHandle),
     Made(Result<(), Refusal>),
 }
 

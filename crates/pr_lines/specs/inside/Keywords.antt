@@ -1,6 +1,6 @@
 -- The words that lines begin with, and what the words behind each say.
 use Rattle.std.specs.Prelude.{ℕ, List, map, Option, Some, option_map, None, true, false}
-use Rattle.pr_lines.specs.declared.item.Refusal.TheVariants as refusal
+use Rattle.pr_lines.specs.declared.item.RefusalKind.TheVariants as refusal
 use Rattle.pr_lines.specs.declared.keyword.Keyword.{Keyword}
 use Rattle.pr_lines.specs.declared.keyword.Keyword.TheVariants as keyword
 use Rattle.pr_lines.specs.declared.keyword.TheConstants.{KEYWORDS}

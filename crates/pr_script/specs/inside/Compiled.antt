@@ -1,7 +1,7 @@
 -- What a table is after statements were laid into it.
 use Rattle.std.specs.Prelude.{◌≡◌, ℕ, ◌≤◌, List, length}
 use Rattle.pr_script.specs.declared.rows.Instruction.{Instruction}
-use Rattle.pr_script.specs.declared.rows.Step.{Step}
+use Rattle.pr_script.specs.declared.rows.Operation.{Operation}
 use Rattle.pr_script.specs.declared.rows.ArmTarget.{ArmTarget}
 use Rattle.pr_script.specs.Scripts.{Stmt, Stmts, Arms}
 use Rattle.pr_script.specs.inside.Program.{concatenation, place, arms_at, step_at, meanings, AreJumps, IsStep, IsTable}
@@ -19,7 +19,7 @@ pub record IsCompiled (old new : List Instruction) (b : Stmts) (next first : ℕ
   pub meaning : place (meanings new) first ≡ concatenation b (place (meanings old) next)
 
 -- The step does the statement, where what is to do from the place next on follows it.
-pub record IsStepCompiled (old new : List Instruction) (s : Stmt) (next : ℕ) (step : Step) : Type 0 where
+pub record IsStepCompiled (old new : List Instruction) (s : Stmt) (next : ℕ) (step : Operation) : Type 0 where
   pub grows : Grows old new
   pub within : IsStep (meanings new) (length new) next step
   pub meaning : step_at (meanings new) next step ≡ s

@@ -1,8 +1,8 @@
 -- What the rows of a table mean, and what is still to do at a place of it.
 use Rattle.std.specs.Prelude.{◌≡◌, ℕ, zero, suc, ◌+◌, ◌-◌, ◌<◌, ◌≤◌, List, [], ◌∷◌, ◌++◌, length, fold, max, slice_index_or}
 use Rattle.pr_script.specs.declared.rows.Instruction.{Instruction}
-use Rattle.pr_script.specs.declared.rows.Step.{Step}
-use Rattle.pr_script.specs.declared.rows.Step.TheVariants.{Send, Repeat, Break, Stop}
+use Rattle.pr_script.specs.declared.rows.Operation.{Operation}
+use Rattle.pr_script.specs.declared.rows.Operation.TheVariants.{Send, Repeat, Break, Stop}
 use Rattle.pr_script.specs.declared.rows.ArmTarget.{ArmTarget}
 use Rattle.pr_script.specs.declared.advance.LoopFrame.{LoopFrame}
 use Rattle.pr_script.specs.declared.limits.TheConstants.{MOST_OPEN}
@@ -37,7 +37,7 @@ abbrev pub arms_at : List Stmts → ℕ → List ArmTarget → Arms
 arms_at ms next [] = no_arm
 arms_at ms next (j ∷ js) = arm j.test (without_end (place ms j.place) (place ms next)) (arms_at ms next js)
 
-abbrev pub step_at : List Stmts → ℕ → Step → Stmt
+abbrev pub step_at : List Stmts → ℕ → Operation → Stmt
 step_at ms next (Send line command arms) = sends line command (arms_at ms next arms.items)
 step_at ms next (Repeat count body) = repeats count (place ms body)
 step_at ms next Break = breaks
@@ -61,7 +61,7 @@ AreJumps ms top next [] = Unit {0}
 AreJumps ms top next (j ∷ js) =
     (j.place ≤ top) × (concatenation (without_end (place ms j.place) (place ms next)) (place ms next) ≡ place ms j.place) × AreJumps ms top next js
 
-abbrev pub IsStep : List Stmts → ℕ → ℕ → Step → Type 0
+abbrev pub IsStep : List Stmts → ℕ → ℕ → Operation → Type 0
 IsStep ms top next (Send line command arms) = AreJumps ms top next arms.items
 IsStep ms top next (Repeat count body) = body ≤ top
 IsStep ms top next Break = Unit {0}

@@ -11,12 +11,12 @@ use Rattle.pr_roles.specs.declared.role.Clause.{Clause}
 use Rattle.pr_roles.specs.Fitting.{most_declared, are_distinct, is_alternative, is_same_alternative, is_same_reservation, is_action}
 use Rattle.pr_script.specs.declared.limits.TheConstants.{MOST_STATEMENTS, MOST_ARMS, MOST_BUDGET}
 use Rattle.pr_roles.specs.declared.limits.TheConstants.{MOST_KEYS, MOST_CLAUSES, MOST_REFUSALS, MOST_RESETS}
-use Rattle.pr_lines.specs.declared.item.Refusal.{Refusal}
+use Rattle.pr_lines.specs.declared.item.RefusalKind.{RefusalKind}
 use Rattle.pr_lines.specs.declared.spelling.ParsedCommand.{ParsedCommand}
 use Rattle.pr_text.specs.declared.fault.ReadError.{ReadError}
 use Rattle.pr_text.specs.declared.fault.Which.TheVariants as which
 use Rattle.pr_text.specs.declared.fault.ReadError.TheVariants as fault
-use Rattle.pr_text.specs.Declarations.{scripted, planned, Declaration, OpenLines, Place, before_all, outside, in_script, in_plan, Declared}
+use Rattle.pr_text.specs.Declarations.{scripted, planned, Declaration, OpenLines, Context, before_all, outside, in_script, in_plan, Declared}
 use Rattle.pr_lines.specs.Chain.{each}
 use Rattle.pr_text.specs.Declaring.{declared_keys, number_of, count_in, codes_of, held_of}
 use Rattle.pr_text.specs.Faults.{and_then, unless}
@@ -81,13 +81,13 @@ pending_at n xs d h x =
 unfoldable pub pending_placed : ℕ → List ℕ → List Attention → Declared → Result Declared ReadError
 pending_placed n name xs d = at_name n d name (pending_at n xs d)
 
-abbrev pub refusals_at : ℕ → Refusal → ℕ → Declared → ℕ → Declaration → Result Declared ReadError
+abbrev pub refusals_at : ℕ → RefusalKind → ℕ → Declared → ℕ → Declaration → Result Declared ReadError
 refusals_at n r count d h x =
     if is_some (count_in r x) then Err (fault.Repeated n) else (
     if not (nat_le 1 count && nat_le count MOST_REFUSALS) then Err (fault.Limit (limit_of r) n) else
     Ok (nexus_set d h (with_count r count x)))
 
-unfoldable pub refusals_placed : ℕ → Refusal → List ℕ → ℕ → Declared → Result Declared ReadError
+unfoldable pub refusals_placed : ℕ → RefusalKind → List ℕ → ℕ → Declared → Result Declared ReadError
 refusals_placed n r name count d = at_name n d name (refusals_at n r count d)
 
 abbrev pub reservations_at : ℕ → Declared → Option (List (Option Held)) → Result Declared ReadError
@@ -208,7 +208,7 @@ placed_in_plan n h commands (command_line s) d = and_then (planned_step n (decla
 placed_in_plan n h commands end_line d = Ok (with_task d h (planned commands))
 placed_in_plan n h commands item d = Err (fault.Syntax n)
 
-abbrev pub placed_at : ℕ → Place → ScenarioLine → Declared → Result Declared ReadError
+abbrev pub placed_at : ℕ → Context → ScenarioLine → Declared → Result Declared ReadError
 placed_at n before_all item d = placed_first n item d
 placed_at n outside item d = placed_outside n item d
 placed_at n (in_script o) item d = placed_in_script n o item d

@@ -4,11 +4,11 @@ use Rattle.pr_script.specs.Trees.{script_of}
 use Rattle.pr_roles.specs.declared.parts.Task.{Task}
 use Rattle.pr_roles.specs.declared.parts.Task.TheVariants as part
 use Rattle.pr_text.specs.declared.draft.Draft.{Draft}
-use Rattle.pr_text.specs.declared.builder.Place.{Place as PlaceValue}
-use Rattle.pr_text.specs.declared.builder.Place.TheVariants as place
+use Rattle.pr_text.specs.declared.builder.Context.{Context as ContextValue}
+use Rattle.pr_text.specs.declared.builder.Context.TheVariants as place
 use Rattle.pr_text.specs.declared.builder.Builder.{Builder}
 use Rattle.pr_text.specs.ScriptLines.{body_lines}
-use Rattle.pr_text.specs.Declarations.{WrittenTask, scripted, planned, Declaration, Place, before_all, outside, in_script, in_plan, Declared}
+use Rattle.pr_text.specs.Declarations.{WrittenTask, scripted, planned, Declaration, Context, before_all, outside, in_script, in_plan, Declared}
 use Rattle.pr_text.specs.inside.OpenScripts.{open_seen}
 
 abbrev pub task_seen : Task → WrittenTask
@@ -28,7 +28,7 @@ draft_seen x = record {
   task = option_map task_seen x.task;
 }
 
-abbrev pub place_seen : PlaceValue → Place
+abbrev pub place_seen : ContextValue → Context
 place_seen place.BeforeAll = before_all
 place_seen place.Outside = outside
 place_seen (place.InScript o) = in_script (open_seen o)

@@ -3,7 +3,7 @@ use Rattle.std.specs.Prelude.{ℕ, List, length, Option, Some, option_map, if◌
 use Rattle.pr_text.specs.declared.fault.ReadError.{ReadError}
 use Rattle.pr_text.specs.declared.fault.Which.TheVariants as which
 use Rattle.pr_text.specs.declared.fault.ReadError.TheVariants as fault
-use Rattle.pr_text.specs.Declarations.{Declaration, Place, before_all, outside, in_script, in_plan, Declared}
+use Rattle.pr_text.specs.Declarations.{Declaration, Context, before_all, outside, in_script, in_plan, Declared}
 use Rattle.pr_text.specs.Texts.{first_unscripted, starts_somewhere}
 
 -- what is missing in a text that ends outside scripts and plans, on the line of this number
@@ -11,7 +11,7 @@ abbrev pub whole_fault : ℕ → List Declaration → Option ReadError
 whole_fault n nexuses =
     if length nexuses == 0 then Some (fault.Limit which.Hosts n) else option_map (λ line. fault.Syntax line) (first_unscripted nexuses)
 
-abbrev pub missing_at : ℕ → Declared → Place → Option ReadError
+abbrev pub missing_at : ℕ → Declared → Context → Option ReadError
 missing_at n d before_all = Some (fault.Syntax 1)
 missing_at n d outside = whole_fault n d.nexuses
 missing_at n d (in_script o) = Some (fault.Unclosed n)

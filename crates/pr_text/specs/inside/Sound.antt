@@ -10,7 +10,7 @@ use Rattle.pr_roles.specs.Fitting.{most_declared, AreDeclared, are_distinct, are
 use Rattle.pr_script.specs.declared.limits.TheConstants.{MOST_STATEMENTS, MOST_ARMS, MOST_OPEN, MOST_TURNS, MOST_BUDGET}
 use Rattle.pr_roles.specs.declared.limits.TheConstants.{MOST_PLANNED}
 use Rattle.pr_text.specs.ScriptLines.{ScriptLine, send_at, arm_on, block_done, repeat_of, break_out, stop_with}
-use Rattle.pr_text.specs.Declarations.{OpenBlock, repeating, sending, OpenLines, WrittenTask, scripted, planned, Declaration, Place, before_all, outside, in_script, in_plan, Declared}
+use Rattle.pr_text.specs.Declarations.{OpenBlock, repeating, sending, OpenLines, WrittenTask, scripted, planned, Declaration, Context, before_all, outside, in_script, in_plan, Declared}
 use Rattle.pr_text.specs.Declaring.{declared_keys}
 use Rattle.pr_text.specs.Standing.{is_repeating, is_sending, awaits_arm, is_in_repeat, may_close}
 use Rattle.pr_text.specs.Texts.{start_of, reservations_of}
@@ -120,7 +120,7 @@ is_declared_of version x =
     is_count version (unwrap_or x.busy 0) && (is_count version (unwrap_or x.full 0) && is_written_of version x.task)
 
 -- nothing is declared before the version is said
-abbrev pub IsPlaceOf : ℕ → Option ℕ → List Declaration → Place → Type 0
+abbrev pub IsPlaceOf : ℕ → Option ℕ → List Declaration → Context → Type 0
 IsPlaceOf version resets xs before_all = (resets ≡ None) × (xs ≡ [])
 IsPlaceOf version resets xs outside = Unit {0}
 IsPlaceOf version resets xs (in_script o) = list_all (is_line_of version) o.lines ≡ true
@@ -155,7 +155,7 @@ abbrev pub AreDeclarations : List ℕ → List Declaration → Type 0
 AreDeclarations keys [] = Unit {0}
 AreDeclarations keys (x ∷ xs) = IsDeclaration keys x × AreDeclarations keys xs
 
-abbrev pub IsPlace : List ℕ → ℕ → Place → Type 0
+abbrev pub IsPlace : List ℕ → ℕ → Context → Type 0
 IsPlace keys n before_all = Unit {0}
 IsPlace keys n outside = Unit {0}
 IsPlace keys n (in_script o) = AreBegun keys n o

@@ -9,8 +9,8 @@ use Rattle.pr_script.specs.Grammar.{has_sense_digit}
 use Rattle.pr_script.specs.Names.{is_name}
 use Rattle.pr_script.specs.declared.script.Test.{Test}
 use Rattle.pr_script.specs.declared.script.Test.TheVariants as test
-use Rattle.pr_lines.specs.declared.item.Refusal.{Refusal}
-use Rattle.pr_lines.specs.declared.item.Refusal.TheVariants as refusal
+use Rattle.pr_lines.specs.declared.item.RefusalKind.{RefusalKind}
+use Rattle.pr_lines.specs.declared.item.RefusalKind.TheVariants as refusal
 use Rattle.pr_lines.specs.declared.keyword.Keyword.{Keyword}
 use Rattle.pr_lines.specs.declared.keyword.Keyword.TheVariants as keyword
 use Rattle.pr_lines.specs.declared.versions.TheConstants.{VERSIONS}
@@ -215,7 +215,7 @@ version_sound w =
 fence_sound : (ws : List (List ℕ)) → IfSome (fence_said ws) Sound
 fence_sound ws = bind_if (λ _. Unit {0}) Sound (λ w. option_map (λ v. fence_line v) (version_of w)) (only ws) (any_if (only ws)) (λ w h. map_if (λ v. is_version v ≡ true) Sound (λ v. fence_line v) (version_of w) (version_sound w) (λ v i. i))
 
-refusals_sound : (r : Refusal) (ws : List (List ℕ)) → IfSome (said_of_name (λ name count. declares (refusals_line r name count)) only_count ws) Sound
+refusals_sound : (r : RefusalKind) (ws : List (List ℕ)) → IfSome (said_of_name (λ name count. declares (refusals_line r name count)) only_count ws) Sound
 refusals_sound r ws = bind_if (λ _. Unit {0}) Sound (λ p. option_map (λ count. declares (refusals_line r p.0 count)) (only_count p.1)) (name_in ws) (any_if _) (λ p h. map_if (λ _. Unit {0}) Sound (λ count. declares (refusals_line r p.0 count)) (only_count p.1) (any_if _) (λ x k. refl))
 
 simply_sound : (k : Keyword) (ws : List (List ℕ)) → IfSome (said_simply k ws) Sound

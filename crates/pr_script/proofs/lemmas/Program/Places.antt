@@ -1,5 +1,5 @@
 -- The places of a table, and what is still to do there.
-use Rattle.pr_script.proofs.Common.{◌≡◌, ℕ, ◌+◌, ◌-◌, ◌<◌, ◌≤◌, false, List, [], ◌∷◌, ◌++◌, length, get_or, refl, ap, ◌∙◌, subst, inl, inr, arith, Stmts, none, statement, mark, Configuration, before, becomes, is_ready, LoopFrame, Instruction, Step, place, step_at, IsTable, open_configuration, configuration, IsPlaced, meanings}
+use Rattle.pr_script.proofs.Common.{◌≡◌, ℕ, ◌+◌, ◌-◌, ◌<◌, ◌≤◌, false, List, [], ◌∷◌, ◌++◌, length, get_or, refl, ap, ◌∙◌, subst, inl, inr, arith, Stmts, none, statement, mark, Configuration, before, becomes, is_ready, LoopFrame, Instruction, Operation, place, step_at, IsTable, open_configuration, configuration, IsPlaced, meanings}
 use Rattle.std.specs.Prelude.{◌⊎◌, fold}
 use Rattle.std.proofs.lemmas.List.{length-append}
 use Rattle.std.proofs.Math.ListN.{get_or-append}
@@ -80,7 +80,7 @@ configuration-end rows at opens machine ends =
     all ∙ opened-rests (meanings rows) opens (subst (λ l. becomes l ≡ l) all machine.rests)
 
 -- at a row, that row is to do first
-pub configuration-step : (rows : List Instruction) (at : ℕ) (opens : List LoopFrame) (row : Instruction) (step : Step) → IsPlaced rows at opens → (at ≡ 0 → ⊥)
+pub configuration-step : (rows : List Instruction) (at : ℕ) (opens : List LoopFrame) (row : Instruction) (step : Operation) → IsPlaced rows at opens → (at ≡ 0 → ⊥)
     → row ≡ get_or rows (at - 1) row → row.step ≡ step
     → configuration (meanings rows) at opens ≡ statement (step_at (meanings rows) row.next step) ∷ configuration (meanings rows) row.next opens
 configuration-step rows at opens row step placed some is same =

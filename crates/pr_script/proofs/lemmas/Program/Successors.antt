@@ -1,7 +1,7 @@
 -- Where a place leads.
 use Rattle.pr_script.proofs.Common.{◌≡◌, ℕ, ◌-◌, ◌<◌, ◌≤◌, List, [], ◌∷◌, ◌++◌, length, get_or, Some, None, Option, sym, refl, ap, ◌∙◌, subst, arith, repeats, statement, mark, Configuration, before, turn, past_mark, becomes, LoopFrame, MOST_OPEN, Instruction, place, IsStep, open_configuration, configuration, deepest, AreLoops, IsPlaced, meanings}
 use Rattle.std.proofs.Common.{rules, IfNone}
-use Rattle.pr_script.specs.declared.rows.Step.TheVariants.{Repeat, Break}
+use Rattle.pr_script.specs.declared.rows.Operation.TheVariants.{Repeat, Break}
 use Rattle.pr_script.specs.inside.Advances.{Leads}
 use Rattle.pr_script.proofs.lemmas.Program.Places.{the_row, configuration-step, configuration-zero, opened-push}
 use Rattle.pr_script.proofs.lemmas.Program.OpenRepeats.{opens_less, open_count-configuration, leads_turn, leads_mark, leads_break, past_mark-before}

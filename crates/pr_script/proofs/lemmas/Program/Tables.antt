@@ -1,11 +1,11 @@
 -- How a table grows by rows.
-use Rattle.pr_script.proofs.Common.{◌≡◌, ℕ, suc, ◌+◌, ◌-◌, ◌<◌, ◌≤◌, List, [], ◌∷◌, ◌++◌, length, get_or, take, drop, Vec, Global, sym, refl, ap, ◌∙◌, subst, inl, inr, arith, Command, depth_of_all, Stmt, sends, repeats, Stmts, none, more, Arms, no_arm, arm, before, statement_of, statements_in, script_of, MOST_OPEN, Instruction, Step, Arm, Statement, arms_in, IsCompiled, AreArmsCompiled, place, step_at, IsStep, IsTable, configuration, deepest, IsPlaced, meanings}
+use Rattle.pr_script.proofs.Common.{◌≡◌, ℕ, suc, ◌+◌, ◌-◌, ◌<◌, ◌≤◌, List, [], ◌∷◌, ◌++◌, length, get_or, take, drop, Vec, Global, sym, refl, ap, ◌∙◌, subst, inl, inr, arith, Command, depth_of_all, Stmt, sends, repeats, Stmts, none, more, Arms, no_arm, arm, before, statement_of, statements_in, script_of, MOST_OPEN, Instruction, Operation, Arm, Statement, arms_in, IsCompiled, AreArmsCompiled, place, step_at, IsStep, IsTable, configuration, deepest, IsPlaced, meanings}
 use Rattle.std.proofs.Common.{add-one, drop-cons}
 use Rattle.std.proofs.lemmas.List.{length-append}
 use Rattle.std.proofs.Math.ListN.{get_or-append}
 use Rattle.std.proofs.Math.Seq.{get_or-append_seam}
 use Rattle.std.proofs.Math.Nat.{eq-or-lt_of_le}
-use Rattle.pr_script.specs.declared.rows.Step.TheVariants.{Send, Repeat}
+use Rattle.pr_script.specs.declared.rows.Operation.TheVariants.{Send, Repeat}
 use Rattle.pr_script.specs.declared.rows.ArmTarget.{ArmTarget}
 use Rattle.pr_script.specs.inside.Program.{concatenation, size, first_statements, without_end, arms_at, row_at, AreJumps, IsRow}
 use Rattle.pr_script.specs.inside.Compiled.{Grows, IsStepCompiled}
@@ -53,12 +53,12 @@ module _ (ms ms' : List Stmts) (top wider next : ℕ) (agree : (k : ℕ) → k �
       ∙ ap (λ e. arm j.test (without_end (place ms j.place) e) (arms_at ms' next js)) (agree next within)
       ∙ ap (arm j.test (without_end (place ms j.place) (place ms next))) (arms_alike js h.2)
 
-  step_alike : (step : Step) → IsStep ms top next step → IsStep ms' wider next step
+  step_alike : (step : Operation) → IsStep ms top next step → IsStep ms' wider next step
   step_alike (Send line command arms) h = jumps_alike arms.items h
   step_alike (Repeat count body) h = omega (arith, h)
   step_alike _ h = tt
 
-  step_at_alike : (step : Step) → IsStep ms top next step → step_at ms' next step ≡ step_at ms next step
+  step_at_alike : (step : Operation) → IsStep ms top next step → step_at ms' next step ≡ step_at ms next step
   step_at_alike (Send line command arms) h = ap (sends line command) (arms_alike arms.items h)
   step_at_alike (Repeat count body) h = ap (repeats count) (agree body h)
   step_at_alike _ h = refl
@@ -133,7 +133,7 @@ laid_nothing rows next table within = record {
 }
 
 -- one statement more, before those that are laid
-pub laid_more : (old mid rows : List Instruction) (xs : List Statement) (i next at : ℕ) (x : Statement) (step : Step) → i < length xs → x ≡ get_or xs i x
+pub laid_more : (old mid rows : List Instruction) (xs : List Statement) (i next at : ℕ) (x : Statement) (step : Operation) → i < length xs → x ≡ get_or xs i x
     → IsCompiled old mid (statements_in (drop (i + 1) xs)) next at
     → IsStepCompiled mid rows (statement_of x) at step
     → (new : List Instruction) (first : ℕ) → new ≡ rows ++ record { step = step; next = at } ∷ [] → first ≡ length rows + 1

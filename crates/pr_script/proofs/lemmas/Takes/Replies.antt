@@ -1,10 +1,10 @@
 -- What a reply at a send leads to.
-use Rattle.pr_script.proofs.Common.{◌≡◌, ℕ, ◌+◌, ◌-◌, ◌≤◌, max, Bool, true, false, List, [], ◌∷◌, length, get_or, Some, None, Option, Vec, option_map, Global, sym, refl, ap, ◌∙◌, subst, arith, Command, depth_of_all, depth_of_arms, Stmt, sends, Stmts, none, more, Arms, no_arm, arm, statement, Configuration, before, is_ready, settled_form, matches, LoopFrame, Instruction, Step, place, step_at, IsStep, IsTable, open_configuration, deepest, meanings}
+use Rattle.pr_script.proofs.Common.{◌≡◌, ℕ, ◌+◌, ◌-◌, ◌≤◌, max, Bool, true, false, List, [], ◌∷◌, length, get_or, Some, None, Option, Vec, option_map, Global, sym, refl, ap, ◌∙◌, subst, arith, Command, depth_of_all, depth_of_arms, Stmt, sends, Stmts, none, more, Arms, no_arm, arm, statement, Configuration, before, is_ready, settled_form, matches, LoopFrame, Instruction, Operation, place, step_at, IsStep, IsTable, open_configuration, deepest, meanings}
 use Rattle.std.specs.Option.{ok_or}
 use Rattle.std.proofs.Common.{rules, cond, if◌then◌else◌, find, IfOk, MatchResult}
 use Rattle.pr_cdb.specs.declared.reply.Reply.{Reply}
 use Rattle.pr_script.specs.declared.next.NoArm.{NoArm}
-use Rattle.pr_script.specs.declared.rows.Step.TheVariants.{Send}
+use Rattle.pr_script.specs.declared.rows.Operation.TheVariants.{Send}
 use Rattle.pr_script.specs.declared.rows.ArmTarget.{ArmTarget}
 use Rattle.pr_script.specs.Scripts.{IsReady}
 use Rattle.pr_script.specs.Takes.{first_match, take}
@@ -29,7 +29,7 @@ pub ready_place : (b : Stmts) (ms : List Stmts) (opens : List LoopFrame) → IsR
 ready_place none ms opens ready = absurd (cc (opened-unready ms opens, ready))
 ready_place (more s b) ms opens ready = first_alone s (before b []) ∙ sym (first_alone s (before b (open_configuration ms opens))) ∙ ready
 
-pub ready_is : (rows : List Instruction) (at : ℕ) (row : Instruction) (step : Step) → IsTable rows → at ≤ length rows → IsReady (before (place (meanings rows) at) [])
+pub ready_is : (rows : List Instruction) (at : ℕ) (row : Instruction) (step : Operation) → IsTable rows → at ≤ length rows → IsReady (before (place (meanings rows) at) [])
     → row ≡ get_or rows (at - 1) row → row.step ≡ step → is_ready (statement (step_at (meanings rows) row.next step) ∷ []) ≡ true
 ready_is rows at row step table within ready is same =
     sym (first_alone (step_at (meanings rows) row.next step) (before (place (meanings rows) row.next) []))

@@ -1,5 +1,5 @@
 -- What is wrong after the last line is what is missing, or else that there is no start.
-use Rattle.pr_text.proofs.Common.{◌≡◌, ℕ, Bool, true, false, cond, length, ◌==◌, Some, None, Ok, Err, Option, option_map, refl, option_map_or, Declared, Place, outside, and_then, unless, starts_somewhere, first_unscripted, end_placed, ReadError, missing_fault}
+use Rattle.pr_text.proofs.Common.{◌≡◌, ℕ, Bool, true, false, cond, length, ◌==◌, Some, None, Ok, Err, Option, option_map, refl, option_map_or, Declared, Context, outside, and_then, unless, starts_somewhere, first_unscripted, end_placed, ReadError, missing_fault}
 use Rattle.pr_text.specs.declared.fault.ReadError.TheVariants as fault
 use Rattle.pr_text.specs.inside.Endings.{missing_at, start_result}
 
@@ -13,10 +13,10 @@ in_turn : (b : Bool) (o : Option ℕ) (e : ReadError) (d : Declared)
 in_turn false None e d = last (starts_somewhere d) d
 in_turn _ _ e d = refl
 
-abbrev at_place : Declared → Place → Declared
+abbrev at_place : Declared → Context → Declared
 at_place d p = record d { place = p }
 
-ended_at : (n : ℕ) (d : Declared) (p : Place) → end_placed n (at_place d p) ≡ and_then (unless (missing_at n (at_place d p) p) (at_place d p)) start_result
+ended_at : (n : ℕ) (d : Declared) (p : Context) → end_placed n (at_place d p) ≡ and_then (unless (missing_at n (at_place d p) p) (at_place d p)) start_result
 unfolding end_placed
 ended_at n d outside = in_turn (length d.nexuses == 0) (first_unscripted d.nexuses) _ (at_place d outside)
 ended_at n d _ = refl

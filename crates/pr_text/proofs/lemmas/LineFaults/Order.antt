@@ -1,5 +1,5 @@
 -- The faults of a line in their order, as the tests that the reader makes.
-use Rattle.pr_text.proofs.Common.{◌≡◌, ℕ, Bool, true, false, cond, not, ◌&&◌, ◌||◌, List, [], ◌∷◌, ◌++◌, length, is_some, nat_lt, nat_le, ◌==◌, Some, None, Ok, Err, Option, Result, option_map, refl, ap, ◌∙◌, slice_get, Command, Attention, Held, MOST_BUDGET, most_declared, are_distinct, is_action, MOST_CLAUSES, MOST_REFUSALS, MOST_RESETS, Clause, each, states, ScenarioLine, DeclaringLine, StatementLine, fence_line, declares, nexus_line, start_line, pending_line, refusals_line, resets_line, role_line, script_line, plan_line, end_line, command_line, keys_line, reservation_line, generation_line, since, Refusal, ParsedCommand, Declared, Declaration, OpenLines, Place, before_all, outside, in_script, in_plan, count_in, declared_keys, held_of, number_of, and_then, unless, with_statement_line, item_placed, ReadError, Which, are_codes_distinct, start_placed, pending_placed, refusals_placed, role_placed, script_placed, plan_placed, planned_step, item_standing, script_step, keys_placed, nexus_placed, reservation_placed, generation_placed, resets_placed}
+use Rattle.pr_text.proofs.Common.{◌≡◌, ℕ, Bool, true, false, cond, not, ◌&&◌, ◌||◌, List, [], ◌∷◌, ◌++◌, length, is_some, nat_lt, nat_le, ◌==◌, Some, None, Ok, Err, Option, Result, option_map, refl, ap, ◌∙◌, slice_get, Command, Attention, Held, MOST_BUDGET, most_declared, are_distinct, is_action, MOST_CLAUSES, MOST_REFUSALS, MOST_RESETS, Clause, each, states, ScenarioLine, DeclaringLine, StatementLine, fence_line, declares, nexus_line, start_line, pending_line, refusals_line, resets_line, role_line, script_line, plan_line, end_line, command_line, keys_line, reservation_line, generation_line, since, RefusalKind, ParsedCommand, Declared, Declaration, OpenLines, Context, before_all, outside, in_script, in_plan, count_in, declared_keys, held_of, number_of, and_then, unless, with_statement_line, item_placed, ReadError, Which, are_codes_distinct, start_placed, pending_placed, refusals_placed, role_placed, script_placed, plan_placed, planned_step, item_standing, script_step, keys_placed, nexus_placed, reservation_placed, generation_placed, resets_placed}
 use Rattle.pr_roles.specs.Fitting.{is_same_reservation}
 use Rattle.pr_text.specs.declared.fault.Which.TheVariants as which
 use Rattle.pr_text.specs.declared.fault.ReadError.TheVariants as fault
@@ -33,7 +33,7 @@ item_stood n i d = unless (standing_fault n d i) (with_line n d i)
 
 -- ---- outside
 
-abbrev at_place : Declared → Place → Declared
+abbrev at_place : Declared → Context → Declared
 at_place d p = record d { place = p }
 
 keys_same : (n : ℕ) (keys : List ℕ) (d : Declared) → item_stood n (declares (keys_line keys)) (at_place d outside) ≡ keys_placed n keys (at_place d outside)
@@ -72,7 +72,7 @@ pending_same n name xs d = by_number (number_of d.nexuses name) refl
     by_number None is = rw is refl
     by_number (Some h) is = by_nexus h (slice_get d.nexuses h) is refl
 
-refusals_same : (n : ℕ) (r : Refusal) (name : List ℕ) (count : ℕ) (d : Declared) → item_stood n (declares (refusals_line r name count)) (at_place d outside) ≡ refusals_placed n r name count (at_place d outside)
+refusals_same : (n : ℕ) (r : RefusalKind) (name : List ℕ) (count : ℕ) (d : Declared) → item_stood n (declares (refusals_line r name count)) (at_place d outside) ≡ refusals_placed n r name count (at_place d outside)
 unfolding item_stood refusals_placed
 refusals_same n r name count d = by_number (number_of d.nexuses name) refl
   where
@@ -206,7 +206,7 @@ in_plan_same n h commands _ d = refl
 
 -- ---- any line
 
-at_same : (n : ℕ) (i : ScenarioLine) (d : Declared) (p : Place) → item_stood n i (at_place d p) ≡ placed_at n p i (at_place d p)
+at_same : (n : ℕ) (i : ScenarioLine) (d : Declared) (p : Context) → item_stood n i (at_place d p) ≡ placed_at n p i (at_place d p)
 at_same n i d before_all = first_same n i d
 at_same n i d outside = outside_same n i d
 at_same n i d (in_script o) = in_script_same n i o d

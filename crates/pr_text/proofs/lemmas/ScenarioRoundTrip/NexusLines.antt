@@ -1,5 +1,5 @@
 -- The lines of one nexus have no fault.
-use Rattle.pr_text.proofs.Common.{◌≡◌, ℕ, suc, ◌+◌, ◌≤◌, Bool, true, false, cond, not, ◌&&◌, ◌||◌, List, [], ◌∷◌, ◌++◌, map, length, is_some, nat_lt, nat_le, ◌==◌, Some, None, Ok, Err, fold, filter, Option, Result, bytes_eq, sym, refl, ap, ◌∙◌, append_assoc, append-nil, arith, length-append, list_all, list_any, unwrap_or, and_parts, nat_tests, Command, Attention, Held, is_written, is_name, MOST_BUDGET, is_version, is_count, are_distinct, is_action, is_role, is_start, is_nexus, Nexus, Task, Scripted, Planned, MOST_CLAUSES, MOST_PLANNED, MOST_REFUSALS, Clause, ScenarioLine, declares, start_line, pending_line, refusals_line, role_line, script_line, plan_line, end_line, command_line, since, Refusal, both, true_le, Declared, WrittenTask, scripted, planned, Declaration, OpenLines, Place, outside, in_script, in_plan, codes_of, count_in, and_then, with_count, with_task, begun_script, item_placed, task_written, body_lines, all_said, ReadError, are_codes_distinct, start_placed, pending_placed, refusals_placed, role_placed, script_placed, plan_placed, planned_step, item_standing}
+use Rattle.pr_text.proofs.Common.{◌≡◌, ℕ, suc, ◌+◌, ◌≤◌, Bool, true, false, cond, not, ◌&&◌, ◌||◌, List, [], ◌∷◌, ◌++◌, map, length, is_some, nat_lt, nat_le, ◌==◌, Some, None, Ok, Err, fold, filter, Option, Result, bytes_eq, sym, refl, ap, ◌∙◌, append_assoc, append-nil, arith, length-append, list_all, list_any, unwrap_or, and_parts, nat_tests, Command, Attention, Held, is_written, is_name, MOST_BUDGET, is_version, is_count, are_distinct, is_action, is_role, is_start, is_nexus, Nexus, Task, Scripted, Planned, MOST_CLAUSES, MOST_PLANNED, MOST_REFUSALS, Clause, ScenarioLine, declares, start_line, pending_line, refusals_line, role_line, script_line, plan_line, end_line, command_line, since, RefusalKind, both, true_le, Declared, WrittenTask, scripted, planned, Declaration, OpenLines, Context, outside, in_script, in_plan, codes_of, count_in, and_then, with_count, with_task, begun_script, item_placed, task_written, body_lines, all_said, ReadError, are_codes_distinct, start_placed, pending_placed, refusals_placed, role_placed, script_placed, plan_placed, planned_step, item_standing}
 use Rattle.std.specs.FinSet as set
 use Rattle.std.proofs.Math.Seq.{set-append_seam}
 use Rattle.pr_attention.specs.declared.attention.Attention.TheVariants.{PowerOn, ReservationsPreempted, ReservationsReleased, RegistrationsPreempted}
@@ -7,7 +7,7 @@ use Rattle.pr_attention.specs.Attentions.{Codes, no_code, code_of, is_attention,
 use Rattle.pr_attention.proofs.lemmas.Sets.{same_codes, contains-no_code, contains-insert_code}
 use Rattle.pr_script.specs.Grammar.{script_fits}
 use Rattle.pr_roles.specs.Fitting.{is_alternative, is_same_alternative, is_task, is_task_of}
-use Rattle.pr_lines.specs.declared.item.Refusal.TheVariants as refusal
+use Rattle.pr_lines.specs.declared.item.RefusalKind.TheVariants as refusal
 use Rattle.pr_lines.specs.CommandWords.{without_keys}
 use Rattle.pr_text.specs.inside.Chains.{at_name, start_at, pending_at, refusals_at, role_at, script_at, plan_at}
 use Rattle.pr_text.specs.ScriptRoundTrip.{Line, line, script_said}
@@ -144,7 +144,7 @@ count_same count = by (count == 0) refl
     by true is = let none : count ≡ 0 = grind (arith, nat_tests) in rw is (sym none)
     by false is = rw is refl
 
-abbrev pub placed : ℕ → Option (List ℕ) → Option (List (Option Held)) → Option ℕ → Option ℕ → List Declaration → Place → Declared
+abbrev pub placed : ℕ → Option (List ℕ) → Option (List (Option Held)) → Option ℕ → Option ℕ → List Declaration → Context → Declared
 placed version keys vs g rs xs p = record { version = version; keys = keys; reservations = vs; generation = g; resets = rs; nexuses = xs; place = p }
 
 -- a nexus of which so much is said; and one of which nothing is said behind what may be pending
@@ -164,13 +164,13 @@ pub one_longer : {A : Type 0} (xs : List A) (x : A) (m top : ℕ) → length xs 
 one_longer xs x m top h = omega (arith, length-append xs (x ∷ []))
 
 module _ (n version : ℕ) (dated : is_version version ≡ true) (keys : Option (List ℕ)) (vs : Option (List (Option Held))) (g rs : Option ℕ) (before after : List Declaration) (name : List ℕ) (free : is_taken name before ≡ false) where
-  abbrev with : Declaration → Place → Declared
+  abbrev with : Declaration → Context → Declared
   with x p = placed version keys vs g rs (before ++ x ∷ after) p
 
   old : nat_lt version 1 ≡ false
   old = has_first version dated
 
-  found : (x : Declaration) (p : Place) (step : ℕ → Declaration → Result Declared ReadError) → bytes_eq x.name name ≡ true → at_name n (with x p) name step ≡ step (length before) x
+  found : (x : Declaration) (p : Context) (step : ℕ → Declaration → Result Declared ReadError) → bytes_eq x.name name ≡ true → at_name n (with x p) name step ≡ step (length before) x
   found x p step it = rw (number_there before x after name free it, element_there before x after) refl
 
   start_goes : (guest : Bool) (xs : List (Option ℕ)) → list_all (is_alternative (unwrap_or keys [])) xs ≡ true → are_distinct is_same_alternative xs ≡ true
@@ -197,7 +197,7 @@ module _ (n version : ℕ) (dated : is_version version ≡ true) (keys : Option 
 
   -- ---- refusals
 
-  abbrev counted_as : Refusal → ℕ → Declaration → Declaration
+  abbrev counted_as : RefusalKind → ℕ → Declaration → Declaration
   counted_as r count x = cond (count == 0) x (with_count r count x)
 
   new : (count : ℕ) → is_count version count ≡ true → (count == 0) ≡ false → nat_lt version 2 ≡ false
@@ -206,14 +206,14 @@ module _ (n version : ℕ) (dated : is_version version ≡ true) (keys : Option 
   room : (count : ℕ) → is_count version count ≡ true → (count == 0) ≡ false → (nat_le 1 count && nat_le count MOST_REFUSALS) ≡ true
   room count may some = grind (arith, nat_tests)
 
-  refusals_line_goes : (r : Refusal) (count : ℕ) (x : Declaration) → bytes_eq x.name name ≡ true → is_some (count_in r x) ≡ false → (nat_le 1 count && nat_le count MOST_REFUSALS) ≡ true
+  refusals_line_goes : (r : RefusalKind) (count : ℕ) (x : Declaration) → bytes_eq x.name name ≡ true → is_some (count_in r x) ≡ false → (nat_le 1 count && nat_le count MOST_REFUSALS) ≡ true
       → item_standing n (declares (refusals_line r name count)) (with x outside) ≡ Ok (with (with_count r count x) outside)
   unfolding item_standing refusals_placed
   refusals_line_goes r count x it none few =
       found x outside (refusals_at n r count (with x outside)) it
       ∙ rw (none, few, set-append_seam before x after (with_count r count x)) refl
 
-  refusals_go : (r : Refusal) (count : ℕ) (x : Declaration) → bytes_eq x.name name ≡ true → is_some (count_in r x) ≡ false → is_count version count ≡ true
+  refusals_go : (r : RefusalKind) (count : ℕ) (x : Declaration) → bytes_eq x.name name ≡ true → is_some (count_in r x) ≡ false → is_count version count ≡ true
       → all_said (refusals_said n name r count) (with x outside) ≡ Ok (with (counted_as r count x) outside)
   refusals_go r count x it none may = by (count == 0) refl
     where
@@ -280,7 +280,7 @@ module _ (n version : ℕ) (dated : is_version version ≡ true) (keys : Option 
   abbrev tasked_as : WrittenTask → Declaration → Declaration
   tasked_as t x = record x { task = Some t }
 
-  task_ends : (x : Declaration) (t : WrittenTask) (p : Place) → with_task (with x p) (length before) t ≡ with (tasked_as t x) outside
+  task_ends : (x : Declaration) (t : WrittenTask) (p : Context) → with_task (with x p) (length before) t ≡ with (tasked_as t x) outside
   task_ends x t p = rw (element_there before x after, set-append_seam before x after (tasked_as t x)) refl
 
   -- ---- a script

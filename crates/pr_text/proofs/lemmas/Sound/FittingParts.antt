@@ -1,5 +1,5 @@
 -- What is declared fits.
-use Rattle.pr_text.proofs.Common.{◌≡◌, ℕ, Bool, true, false, cond, not, ◌&&◌, List, [], ◌∷◌, map, length, nat_le, ◌==◌, Some, None, Option, sym, refl, ap, ◌∙◌, subst, list_all, unwrap_or, and_parts, is_name, Fits, is_version, is_count, are_resets, most_declared, is_role, is_start, is_nexus, Scenario, Nexus, Task, Scripted, Planned, both, Declared, WrittenTask, scripted, planned, Declaration, Place, before_all, outside, in_script, in_plan, declared_keys, nexus_written, nexus_declared, IsDeclaredBy, task_written, body_lines, missing_fault, IsDated, IsTask, IsDeclaration, AreDeclarations, IsSound}
+use Rattle.pr_text.proofs.Common.{◌≡◌, ℕ, Bool, true, false, cond, not, ◌&&◌, List, [], ◌∷◌, map, length, nat_le, ◌==◌, Some, None, Option, sym, refl, ap, ◌∙◌, subst, list_all, unwrap_or, and_parts, is_name, Fits, is_version, is_count, are_resets, most_declared, is_role, is_start, is_nexus, Scenario, Nexus, Task, Scripted, Planned, both, Declared, WrittenTask, scripted, planned, Declaration, Context, before_all, outside, in_script, in_plan, declared_keys, nexus_written, nexus_declared, IsDeclaredBy, task_written, body_lines, missing_fault, IsDated, IsTask, IsDeclaration, AreDeclarations, IsSound}
 use Rattle.std.proofs.lemmas.List.{length-map}
 use Rattle.std.proofs.lemmas.Simd.{map-map}
 use Rattle.pr_roles.specs.Fitting.{is_task, is_task_of, are_of}
@@ -67,7 +67,7 @@ some_left : {A : Type 0} (b : Bool) (x : A) (o : Option A) → cond b (Some x) o
 some_left true x o e = cc
 some_left false x o e = refl
 
-some_nexus : (n : ℕ) (d : Declared) (p : Place) → missing_at n d p ≡ None → not (length d.nexuses == 0) ≡ true
+some_nexus : (n : ℕ) (d : Declared) (p : Context) → missing_at n d p ≡ None → not (length d.nexuses == 0) ≡ true
 some_nexus n d before_all e = cc
 some_nexus n d outside e = some_left (length d.nexuses == 0) _ _ e
 some_nexus n d (in_script o) e = cc

@@ -1,7 +1,7 @@
 -- What is declared stays sound with one line more.
-use Rattle.pr_text.proofs.Common.{◌≡◌, ℕ, zero, suc, ◌+◌, ◌≤◌, true, false, cond, not, ◌&&◌, List, [], ◌∷◌, ◌++◌, map, length, is_some, nat_le, ◌==◌, slice_set, Some, None, Ok, Err, Option, Result, sym, refl, ap, ◌∙◌, subst, arith, length-append, slice_get, and_parts, nat_tests, list_all-append, Command, Attention, is_written, is_name, MOST_BUDGET, is_action, is_role, MOST_CLAUSES, MOST_PLANNED, MOST_REFUSALS, MOST_RESETS, Clause, states, ScenarioLine, DeclaringLine, fence_line, declares, nexus_line, start_line, pending_line, refusals_line, resets_line, role_line, script_line, plan_line, end_line, command_line, keys_line, reservation_line, generation_line, Refusal, ParsedCommand, is_item, both, Declared, WrittenTask, scripted, planned, Declaration, OpenLines, Place, before_all, outside, in_script, in_plan, codes_of, count_in, declared_keys, number_of, and_then, with_count, with_task, begun_script, item_placed, ReadError, start_fault, start_placed, pending_placed, refusals_placed, role_placed, script_placed, plan_placed, planned_step, item_standing, script_step, generation_placed, resets_placed, IsTask, IsDeclaration, AreDeclarations, IsSound, IsPlace}
+use Rattle.pr_text.proofs.Common.{◌≡◌, ℕ, zero, suc, ◌+◌, ◌≤◌, true, false, cond, not, ◌&&◌, List, [], ◌∷◌, ◌++◌, map, length, is_some, nat_le, ◌==◌, slice_set, Some, None, Ok, Err, Option, Result, sym, refl, ap, ◌∙◌, subst, arith, length-append, slice_get, and_parts, nat_tests, list_all-append, Command, Attention, is_written, is_name, MOST_BUDGET, is_action, is_role, MOST_CLAUSES, MOST_PLANNED, MOST_REFUSALS, MOST_RESETS, Clause, states, ScenarioLine, DeclaringLine, fence_line, declares, nexus_line, start_line, pending_line, refusals_line, resets_line, role_line, script_line, plan_line, end_line, command_line, keys_line, reservation_line, generation_line, RefusalKind, ParsedCommand, is_item, both, Declared, WrittenTask, scripted, planned, Declaration, OpenLines, Context, before_all, outside, in_script, in_plan, codes_of, count_in, declared_keys, number_of, and_then, with_count, with_task, begun_script, item_placed, ReadError, start_fault, start_placed, pending_placed, refusals_placed, role_placed, script_placed, plan_placed, planned_step, item_standing, script_step, generation_placed, resets_placed, IsTask, IsDeclaration, AreDeclarations, IsSound, IsPlace}
 use Rattle.std.proofs.lemmas.List.{length-set}
-use Rattle.pr_lines.specs.declared.item.Refusal.TheVariants as refusal
+use Rattle.pr_lines.specs.declared.item.RefusalKind.TheVariants as refusal
 use Rattle.pr_text.specs.declared.fault.Which.TheVariants as which
 use Rattle.pr_text.specs.declared.fault.ReadError.TheVariants as fault
 use Rattle.pr_text.specs.LineFaults.{limit_of, command_fault}
@@ -15,7 +15,7 @@ use Rattle.pr_text.proofs.lemmas.LineFaults.Order.{in_order}
 
 -- ---- the same, at another place
 
-moved : (n : ℕ) (d : Declared) (p : Place) → IsSound n d → IsPlace (declared_keys d) (n + 1) p → IsSound (n + 1) (record d { place = p })
+moved : (n : ℕ) (d : Declared) (p : Context) → IsSound n d → IsPlace (declared_keys d) (n + 1) p → IsSound (n + 1) (record d { place = p })
 moved n d p h at = record { keys = h.keys; reservations = h.reservations; apart = h.apart; each = h.each; place = at }
 
 -- ---- one nexus
@@ -35,7 +35,7 @@ names_same [] h x y there e = refl
 names_same (z ∷ xs) zero x y there e = let same : z ≡ x = cc in ap (λ n. n ∷ map (λ w. w.name) xs) (e ∙ ap (λ w. w.name) (sym same))
 names_same (z ∷ xs) (suc h) x y there e = ap (λ ns. z.name ∷ ns) (names_same xs h x y there e)
 
-changed : (n : ℕ) (d : Declared) (h : ℕ) (x y : Declaration) (p : Place) → IsSound n d → slice_get d.nexuses h ≡ Some x → y.name ≡ x.name
+changed : (n : ℕ) (d : Declared) (h : ℕ) (x y : Declaration) (p : Context) → IsSound n d → slice_get d.nexuses h ≡ Some x → y.name ≡ x.name
     → IsDeclaration (declared_keys d) y → IsPlace (declared_keys d) (n + 1) p → IsSound (n + 1) (record d { nexuses = slice_set d.nexuses h y; place = p })
 changed n d h x y p sound there named is at =
     let long : length (slice_set d.nexuses h y) ≡ length d.nexuses = length-set d.nexuses h y in
@@ -98,15 +98,15 @@ pending_sound n name xs d e at sound r =
 few_more : (k : ℕ) → nat_le MOST_CLAUSES k ≡ false → k + 1 ≤ MOST_CLAUSES
 few_more k h = grind (arith, nat_tests)
 
-counted_name : (r : Refusal) (count : ℕ) (x : Declaration) → (with_count r count x).name ≡ x.name
+counted_name : (r : RefusalKind) (count : ℕ) (x : Declaration) → (with_count r count x).name ≡ x.name
 counted_name refusal.Busy count x = refl
 counted_name refusal.Full count x = refl
 
-counted_is : (keys : List ℕ) (r : Refusal) (count : ℕ) (x : Declaration) → IsDeclaration keys x → IsDeclaration keys (with_count r count x)
+counted_is : (keys : List ℕ) (r : RefusalKind) (count : ℕ) (x : Declaration) → IsDeclaration keys x → IsDeclaration keys (with_count r count x)
 counted_is keys refusal.Busy count x was = record { described = was.described; task = was.task }
 counted_is keys refusal.Full count x was = record { described = was.described; task = was.task }
 
-refusals_sound : (n : ℕ) (r : Refusal) (name : List ℕ) (count : ℕ) (d e : Declared) → d.place ≡ outside → IsSound n d → refusals_placed (n + 1) r name count d ≡ Ok e → IsSound (n + 1) e
+refusals_sound : (n : ℕ) (r : RefusalKind) (name : List ℕ) (count : ℕ) (d e : Declared) → d.place ≡ outside → IsSound n d → refusals_placed (n + 1) r name count d ≡ Ok e → IsSound (n + 1) e
 unfolding refusals_placed
 refusals_sound n r name count d e at sound q =
     let m = named (n + 1) d e name (refusals_at (n + 1) r count d) q in
@@ -282,7 +282,7 @@ in_plan_sound n g commands end_line d e plan h r =
     subst (IsSound (n + 1)) (ok_same _ _ r) (task_at n d g (planned commands) (slice_get d.nexuses g) refl h plan)
 in_plan_sound n g commands _ d e plan h r = cc
 
-placed_by : (n : ℕ) (p : Place) (i : ScenarioLine) (d e : Declared) → d.place ≡ p → IsSound n d → is_item i ≡ true → placed_at (n + 1) p i d ≡ Ok e → IsSound (n + 1) e
+placed_by : (n : ℕ) (p : Context) (i : ScenarioLine) (d e : Declared) → d.place ≡ p → IsSound n d → is_item i ≡ true → placed_at (n + 1) p i d ≡ Ok e → IsSound (n + 1) e
 placed_by n before_all i d e at h s r = first_sound n i d e h r
 placed_by n outside i d e at h s r = outside_sound n i d e at h s r
 placed_by n (in_script o) i d e at h s r = in_script_sound n o i d e (subst (IsPlace (declared_keys d) n) at h.place) h s r

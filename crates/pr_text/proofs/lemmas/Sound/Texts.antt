@@ -1,5 +1,5 @@
 -- What lines declare is sound.
-use Rattle.pr_text.proofs.Common.{◌≡◌, ℕ, ◌+◌, Bool, true, false, cond, not, List, [], ◌∷◌, length, IfSome, nat_lt, Some, None, Ok, Err, Option, Result, sym, refl, subst, arith, option_map_or, lines, ScenarioLine, is_item, Declared, nothing, Place, in_script, in_plan, declared_keys, and_then, item_placed, all_placed, ReadError, IsDated, IsSound, IsPlace}
+use Rattle.pr_text.proofs.Common.{◌≡◌, ℕ, ◌+◌, Bool, true, false, cond, not, List, [], ◌∷◌, length, IfSome, nat_lt, Some, None, Ok, Err, Option, Result, sym, refl, subst, arith, option_map_or, lines, ScenarioLine, is_item, Declared, nothing, Context, in_script, in_plan, declared_keys, and_then, item_placed, all_placed, ReadError, IsDated, IsSound, IsPlace}
 use Rattle.pr_text.specs.declared.fault.ReadError.TheVariants.{NotAscii, LineTooLong}
 use Rattle.pr_text.specs.declared.fault.ReadError.TheVariants as fault
 use Rattle.pr_lines.specs.TextLines.{is_text, words}
@@ -18,7 +18,7 @@ Sound n d = IsSound n d × IsDated d
 
 -- ---- one line
 
-later_place : (keys : List ℕ) (n : ℕ) (p : Place) → IsPlace keys n p → IsPlace keys (n + 1) p
+later_place : (keys : List ℕ) (n : ℕ) (p : Context) → IsPlace keys n p → IsPlace keys (n + 1) p
 later_place keys n (in_script o) h = later_begun keys n o h
 later_place keys n (in_plan g commands) h = h
 later_place keys n _ h = tt

@@ -1,7 +1,7 @@
 -- What is declared with one line more is what the version has.
-use Rattle.pr_text.proofs.Common.{◌≡◌, ℕ, zero, suc, ◌+◌, Bool, true, false, not, ◌&&◌, List, [], ◌∷◌, ◌++◌, length, nat_lt, nat_le, slice_set, Some, None, Ok, Option, sym, refl, ap, ◌∙◌, subst, arith, list_all, slice_get, option_map_or, unwrap_or, and_parts, nat_tests, list_all-append, is_count, are_resets, most_declared, MOST_REFUSALS, MOST_RESETS, states, ScenarioLine, DeclaringLine, StatementLine, fence_line, declares, nexus_line, start_line, pending_line, refusals_line, resets_line, role_line, script_line, plan_line, end_line, send_line, on_line, done_line, repeat_line, break_line, stop_line, command_line, since, Refusal, ParsedCommand, is_item, both, Declared, WrittenTask, scripted, planned, Declaration, OpenLines, Place, before_all, outside, in_script, in_plan, codes_of, number_of, with_count, with_task, begun_script, with_statement_line, item_placed, ScriptLine, arm_on, block_done, send_at, repeat_of, break_out, stop_with, Which, is_line_of, IsDated}
+use Rattle.pr_text.proofs.Common.{◌≡◌, ℕ, zero, suc, ◌+◌, Bool, true, false, not, ◌&&◌, List, [], ◌∷◌, ◌++◌, length, nat_lt, nat_le, slice_set, Some, None, Ok, Option, sym, refl, ap, ◌∙◌, subst, arith, list_all, slice_get, option_map_or, unwrap_or, and_parts, nat_tests, list_all-append, is_count, are_resets, most_declared, MOST_REFUSALS, MOST_RESETS, states, ScenarioLine, DeclaringLine, StatementLine, fence_line, declares, nexus_line, start_line, pending_line, refusals_line, resets_line, role_line, script_line, plan_line, end_line, send_line, on_line, done_line, repeat_line, break_line, stop_line, command_line, since, RefusalKind, ParsedCommand, is_item, both, Declared, WrittenTask, scripted, planned, Declaration, OpenLines, Context, before_all, outside, in_script, in_plan, codes_of, number_of, with_count, with_task, begun_script, with_statement_line, item_placed, ScriptLine, arm_on, block_done, send_at, repeat_of, break_out, stop_with, Which, is_line_of, IsDated}
 use Rattle.std.proofs.lemmas.List.{length-set}
-use Rattle.pr_lines.specs.declared.item.Refusal.TheVariants as refusal
+use Rattle.pr_lines.specs.declared.item.RefusalKind.TheVariants as refusal
 use Rattle.pr_lines.specs.Versions.{declaring_since, statement_since}
 use Rattle.pr_script.specs.Versions.{since as test_since}
 use Rattle.pr_text.specs.Standing.{by_place, is_before_all, is_outside, of_script, of_plan}
@@ -47,7 +47,7 @@ named_dated d f (Some h) dated at each = record {
   place = subst (IsPlaceOf d.version d.resets (with_nexus d h f).nexuses) (sym at) tt;
 }
 
-counted : (v : ℕ) (r : Refusal) (count : ℕ) (x : Declaration) → is_count v count ≡ true → is_declared_of v x ≡ true → is_declared_of v (with_count r count x) ≡ true
+counted : (v : ℕ) (r : RefusalKind) (count : ℕ) (x : Declaration) → is_count v count ≡ true → is_declared_of v x ≡ true → is_declared_of v (with_count r count x) ≡ true
 counted v refusal.Busy count x room h = let parts = and_parts (is_count v (unwrap_or x.busy 0)) _ h in both _ _ room parts.1
 counted v refusal.Full count x room h =
     let parts = and_parts (is_count v (unwrap_or x.busy 0)) _ h in
@@ -71,7 +71,7 @@ tasked_dated d h t written dated = record {
 
 -- ---- a line outside
 
-opened : (d : Declared) (g : ℕ → Place) (o : Option ℕ) → ((h : ℕ) → IsPlaceOf d.version d.resets d.nexuses (g h)) → IsDated d → IsDated (option_map_or (λ h. record d { place = g h }) o d)
+opened : (d : Declared) (g : ℕ → Context) (o : Option ℕ) → ((h : ℕ) → IsPlaceOf d.version d.resets d.nexuses (g h)) → IsDated d → IsDated (option_map_or (λ h. record d { place = g h }) o d)
 opened d g None is dated = dated
 opened d g (Some h) is dated = record { version = dated.version; resets = dated.resets; few = dated.few; each = dated.each; place = is h }
 
@@ -125,18 +125,18 @@ stated_dated v n (repeat_line count) o has all = one_more v o.lines (repeat_of c
 stated_dated v n break_line o has all = one_more v o.lines break_out refl all
 stated_dated v n (stop_line word) o has all = one_more v o.lines (stop_with word) refl all
 
-in_script_dated : (v : ℕ) (r : Option ℕ) (xs : List Declaration) (n : ℕ) (l : StatementLine) (p : Place) → nat_lt v (statement_since l) ≡ false → IsPlaceOf v r xs p
+in_script_dated : (v : ℕ) (r : Option ℕ) (xs : List Declaration) (n : ℕ) (l : StatementLine) (p : Context) → nat_lt v (statement_since l) ≡ false → IsPlaceOf v r xs p
     → IsPlaceOf v r xs (of_script p (λ o. in_script (with_statement_line n l o)) p)
 in_script_dated v r xs n l before_all has h = h
 in_script_dated v r xs n l (in_script o) has h = stated_dated v n l o has h
 in_script_dated v r xs n l _ has h = tt
 
-in_plan_dated : (v : ℕ) (r : Option ℕ) (xs : List Declaration) (s : ParsedCommand) (p : Place) → IsPlaceOf v r xs p → IsPlaceOf v r xs (of_plan p (λ h commands. in_plan h (commands ++ s.command ∷ [])) p)
+in_plan_dated : (v : ℕ) (r : Option ℕ) (xs : List Declaration) (s : ParsedCommand) (p : Context) → IsPlaceOf v r xs p → IsPlaceOf v r xs (of_plan p (λ h commands. in_plan h (commands ++ s.command ∷ [])) p)
 in_plan_dated v r xs s outside h = tt
 in_plan_dated v r xs s (in_plan g commands) h = tt
 in_plan_dated v r xs s _ h = h
 
-ended_dated : (d : Declared) (p : Place) → IsPlaceOf d.version d.resets d.nexuses p → IsDated d
+ended_dated : (d : Declared) (p : Context) → IsPlaceOf d.version d.resets d.nexuses p → IsDated d
     → IsDated (by_place d d (λ o. with_task d o.host (scripted o.lines o.budget)) (λ h commands. with_task d h (planned commands)) p)
 ended_dated d (in_script o) at dated = tasked_dated d o.host (scripted o.lines o.budget) at dated
 ended_dated d (in_plan h commands) at dated = tasked_dated d h (planned commands) refl dated
@@ -144,11 +144,11 @@ ended_dated d _ at dated = dated
 
 -- ---- any line
 
-outside_is : (p : Place) → is_outside p ≡ true → p ≡ outside
+outside_is : (p : Context) → is_outside p ≡ true → p ≡ outside
 outside_is outside h = refl
 outside_is _ h = cc
 
-none_before : (v : ℕ) (r : Option ℕ) (xs : List Declaration) (p : Place) → is_before_all p ≡ true → IsPlaceOf v r xs p → (r ≡ None) × (xs ≡ [])
+none_before : (v : ℕ) (r : Option ℕ) (xs : List Declaration) (p : Context) → is_before_all p ≡ true → IsPlaceOf v r xs p → (r ≡ None) × (xs ≡ [])
 none_before v r xs before_all h at = at
 none_before v r xs _ h at = cc
 
