@@ -1,6 +1,6 @@
 -- Agrees with docs/VIEWS.md, 'What a view has'.
 -- The states of a view that are looked at one part after another, and what each nexus has in such a part.
-use Rattle.std.specs.Prelude.{◌≡◌, ℕ, ◌<◌, true, List}
+use Rattle.std.specs.Prelude.{◌≡◌, ℕ, ◌<◌, ◌≤◌, true, false, List}
 use Rattle.pr_unit.specs.UnitStates.{UnitState}
 use Rattle.pr_sets.specs.declared.word.Word.{Word}
 use Rattle.pr_sets.specs.Words.{has}
@@ -53,3 +53,25 @@ pub record IsGathered (v : View) (place : Place) (senders : Word) (region : Regi
   pub all : (u : UnitState) (g r : ℕ) → IsAt v place senders region u → IsSo v.scope u (Registration g r) → has_at words g r ≡ true
   pub only : (g r q : ℕ) → g < v.scope.hosts → has_at words g r ≡ true → v.pending q ≡ true → IsMet v place senders region g r q
   pub some : (q : ℕ) → v.pending q ≡ true → IsThere v place senders region q
+
+-- ---- whoever's the view is
+
+-- the words are what each nexus has in those states
+abbrev pub IsGatheredIn : Possibilities → Place → Word → Region → List Word → Type 0
+IsGatheredIn view place senders region words =
+    (s : Scope) → IsPlace s view place → IsUniform senders → IsProper region → IsGathered (view_in s view) place senders region words
+
+-- there is no such state
+abbrev pub HasNone : Possibilities → Place → Word → Region → Type 0
+HasNone view place senders region =
+    (s : Scope) → IsPlace s view place → IsUniform senders → IsProper region → (u : UnitState) → IsAt (view_in s view) place senders region u → ⊥
+
+-- the words have whatever is so in those states
+abbrev pub HasAll : Possibilities → Place → Word → Region → List Word → Type 0
+HasAll view place senders region words =
+    (s : Scope) → IsPlace s view place → IsUniform senders → (u : UnitState) → IsAt (view_in s view) place senders region u
+    → (g r : ℕ) → IsSo s u (Registration g r) → has_at words g r ≡ true
+
+-- past the nexuses that are there the words have nothing
+abbrev pub HasNoneBeyond : ℕ → List Word → Type 0
+HasNoneBeyond hosts words = (g r : ℕ) → hosts ≤ g → has_at words g r ≡ false

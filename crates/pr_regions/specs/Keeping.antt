@@ -1,9 +1,10 @@
 -- Agrees with docs/VIEWS.md, 'What becomes of a view'.
 -- What of a view's possibilities is so in some state that it shows, and which of them others are without.
+use Rattle.std.specs.Prelude.{◌≡◌, ℕ}
 use Rattle.pr_unit.specs.UnitStates.{UnitState}
 use Rattle.pr_views.specs.declared.possibilities.Possibilities.{Possibilities}
 use Rattle.pr_views.specs.Possibilities.{Scope, Item, IsSo}
-use Rattle.pr_views.specs.Views.{View, IsPossible, Shows}
+use Rattle.pr_views.specs.Views.{View, IsPossible, Shows, Fits, Within}
 use Rattle.pr_views.specs.Portions.{view_in}
 
 -- in some shown state this is so
@@ -22,3 +23,11 @@ pub record IsNew (s : Scope) (old new : Possibilities) : Type 0 where
   pub item : Item
   pub possible : IsPossible (view_in s new) item
   pub not_before : IsPossible (view_in s old) item → ⊥
+
+-- whoever's the views are: these possibilities are what is so in the states that the view of so many nexuses shows
+abbrev pub IsKeptOf : ℕ → Possibilities → Possibilities → Type 0
+IsKeptOf hosts view kept = (s : Scope) → s.hosts ≡ hosts → Fits (view_in s view) → IsKept (view_in s view) (view_in s kept)
+
+-- .. and what is possible in the one is possible in the other
+abbrev pub IsWithinOf : ℕ → Possibilities → Possibilities → Type 0
+IsWithinOf hosts new old = (s : Scope) → s.hosts ≡ hosts → Within (view_in s new) (view_in s old)

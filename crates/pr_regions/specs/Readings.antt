@@ -34,6 +34,10 @@ pub record AreReadings (keys : List ℕ) (hosts : ℕ) (tests : List Test) (c : 
       → IsSo s u (Registration sender registration) → Contains readings b → IsInRegion s sender b.region u
       → first_test tests (good (data_of u.registry c)) ≡ b.arm
 
+-- so it is whatever the number of nexuses
+abbrev pub AreReadingsOfAny : List ℕ → List Test → Command → Option Held → ℕ → ℕ → List Reading → Type 0
+AreReadingsOfAny keys tests c held sender registration readings = (hosts : ℕ) → AreReadings keys hosts tests c held sender registration readings
+
 -- that a nexus is not registered passes no test
 abbrev pub IsProperReading : Reading → Type 0
 IsProperReading b = IsUntestedOrRegistered b.region.somebody

@@ -5,9 +5,7 @@ ghost use Rattle.pr_cdb.specs.declared.codes.TheConstants.{MOST_NEXUSES};
 ghost use Rattle.pr_sets.specs.Words.{has};
 ghost use Rattle.pr_sets.specs.Wides.{has_wide};
 ghost use Rattle.pr_views.specs.Possibilities.{Scope};
-ghost use Rattle.pr_views.specs.Views.{Within};
-ghost use Rattle.pr_views.specs.Portions.{view_in};
-ghost use Rattle.pr_regions.specs.Keeping.{IsNew};
+ghost use Rattle.pr_regions.specs.Keeping.{IsNew, IsWithinOf};
 
 use pr_sets::{Wide, Word};
 use pr_views::Possibilities;
@@ -16,8 +14,7 @@ use pr_views::Possibilities;
 pub fn gains(hosts: u8, old: &Possibilities, new: &Possibilities) -> bool
     requires { hosts ≤ MOST_NEXUSES }
     ensures gained { IsTrue result → (s : Scope) → s.hosts ≡ hosts → IsNew s old.now new.now }
-    ensures none { result ≡ false → (s : Scope) → s.hosts ≡ hosts
-        → Within (view_in s new.now) (view_in s old.now) }
+    ensures none { result ≡ false → IsWithinOf hosts new.now old.now }
 {
     for host in 0..usize::from(hosts) {
         if exceeds(new.registrations[host], old.registrations[host]) {

@@ -2,16 +2,11 @@
 
 ghost use Rattle.std.specs.Prelude.{◌≡◌, ◌≤◌, ℕ, true, None, IfSome, IfNone};
 ghost use Rattle.pr_cdb.specs.declared.codes.TheConstants.{MOST_NEXUSES};
-ghost use Rattle.pr_unit.specs.UnitStates.{UnitState};
 ghost use Rattle.pr_roles.specs.declared.limits.TheConstants.{MOST_KEYS};
 ghost use Rattle.pr_sets.specs.Words.{has};
-ghost use Rattle.pr_views.specs.Possibilities.{Scope, count_of_reservations};
-ghost use Rattle.pr_views.specs.Views.{Fits};
-ghost use Rattle.pr_views.specs.Portions.{view_in};
-ghost use Rattle.pr_regions.specs.Gathering.{IsPlace, IsUniform};
-ghost use Rattle.pr_regions.specs.inside.Adding.{Adds};
-ghost use Rattle.pr_regions.specs.Keeping.{IsShownSo, IsKept};
-ghost use Rattle.pr_regions.specs.inside.Showing.{IsShownAt, IsShown};
+ghost use Rattle.pr_views.specs.Possibilities.{count_of_reservations};
+ghost use Rattle.pr_regions.specs.Keeping.{IsKeptOf};
+ghost use Rattle.pr_regions.specs.inside.Showing.{AddsShown, IsShownOf, ShowsNone};
 
 use crate::numbers::count_of_reservations;
 use crate::place::Place;
@@ -23,8 +18,7 @@ use pr_views::{MOST_REGISTRATIONS, Possibilities};
 /// The view without the possibilities that none of the states that it shows has.
 pub fn kept(hosts: u8, view: &Possibilities) -> Possibilities
     requires hosts { (1 ≤ hosts) × (hosts ≤ MOST_NEXUSES) }
-    ensures { (s : Scope) → s.hosts ≡ hosts → Fits (view_in s view.now)
-        → IsKept (view_in s view.now) (view_in s result) }
+    ensures { IsKeptOf hosts view.now result }
 {
     let mut kept = Possibilities::none();
     for reservation in 0..count_of_reservations(hosts) {
@@ -40,9 +34,7 @@ pub fn kept(hosts: u8, view: &Possibilities) -> Possibilities
 impl Place {
     // Adds what is so in some state of the place in which the sender has one of these registrations.
     fn add_kept(&self, kept: &mut Possibilities, view: &Possibilities, senders: Word)
-        ensures { (s : Scope) → IsPlace s view.now self.now → IsUniform senders
-            → Adds s kept.old kept.new (λ _ u. IsShownAt (view_in s view.now) self.now senders u)
-            (IsShownSo (view_in s view.now)) }
+        ensures { AddsShown view.now self.now senders kept.old kept.new }
     {
         if let Some(shown) = self.shown(view, senders) {
             kept.join(&shown);
@@ -51,10 +43,8 @@ impl Place {
 
     // What is so in those states, if there are any.
     fn shown(&self, view: &Possibilities, senders: Word) -> Option<Possibilities>
-        ensures some { IfSome result (λ p. (s : Scope) → IsPlace s view.now self.now
-            → IsUniform senders → IsShown s view.now self.now senders p) }
-        ensures none { IfNone result ((s : Scope) → IsPlace s view.now self.now → IsUniform senders
-            → (u : UnitState) → IsShownAt (view_in s view.now) self.now senders u → ⊥) }
+        ensures some { IfSome result (IsShownOf view.now self.now senders) }
+        ensures none { IfNone result (ShowsNone view.now self.now senders) }
     {
         if view.pending.is_empty() {
             return None;

@@ -5,11 +5,10 @@ ghost use Rattle.std.specs.List.{All};
 ghost use Rattle.pr_cdb.specs.declared.command.Command.{Command as CommandOf};
 ghost use Rattle.pr_registry.specs.declared.held.Held.{Held};
 ghost use Rattle.pr_script.specs.declared.limits.TheConstants.{MOST_ARMS};
-ghost use Rattle.pr_script.specs.declared.grammar.TheConstants.{WRITTEN_LENGTH};
 ghost use Rattle.pr_script.specs.Grammar.{test_fits};
 ghost use Rattle.pr_roles.specs.declared.limits.TheConstants.{MOST_KEYS};
 ghost use Rattle.pr_regions.specs.Readings.{AreReadings, IsProperReading};
-ghost use Rattle.pr_regions.specs.inside.Reads.{IsAsked, HasFewer, open_to};
+ghost use Rattle.pr_regions.specs.inside.Reads.{read_keys, IsAsked, HasFewer, TestsFit, open_to};
 
 use crate::commands::number_in;
 use crate::region::{Reading, Region};
@@ -41,10 +40,9 @@ impl Default for Reading {
 
 fn asked_by(test: Test, keys: &[u64], registration: u8) -> Ask
     requires few { length keys.now ≤ MOST_KEYS }
-    requires fits { test_fits keys.now (Command.ReadKeys WRITTEN_LENGTH) test ≡ true }
+    requires fits { test_fits keys.now read_keys test ≡ true }
     ensures asked { (hosts : ℕ) (held : Option Held) (sender : ℕ)
-        → IsAsked keys.now hosts held sender registration (Command.ReadKeys WRITTEN_LENGTH) test
-        result }
+        → IsAsked keys.now hosts held sender registration read_keys test result }
     ensures small { HasFewer result }
 {
     match test {
@@ -82,11 +80,9 @@ fn open_to(left: Word) -> Region
 pub(crate) fn key_readings(tests: &[Test], keys: &[u64], registration: u8) -> ArrayVec<Reading, 17>
     requires few { length keys.now ≤ MOST_KEYS }
     requires arms { length tests.now ≤ MOST_ARMS }
-    requires fits { All (λ test. test_fits keys.now (Command.ReadKeys WRITTEN_LENGTH) test ≡ true)
-        tests.now }
+    requires fits { TestsFit keys.now read_keys tests.now }
     ensures right { (hosts : ℕ) (held : Option Held) (sender : ℕ)
-        → AreReadings keys.now hosts tests.now (Command.ReadKeys WRITTEN_LENGTH) held sender
-        registration result.items }
+        → AreReadings keys.now hosts tests.now read_keys held sender registration result.items }
     ensures proper { All IsProperReading result.items }
 {
     let mut readings = ArrayVec::new();

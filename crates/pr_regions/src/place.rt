@@ -36,11 +36,8 @@ impl Place {
     ghost use Rattle.pr_registry.specs.Registrations.{holds_alone};
     ghost use Rattle.pr_registry.specs.Changes.{is_held_by_all};
     ghost use Rattle.pr_sets.specs.Words.{has};
-    ghost use Rattle.pr_unit.specs.UnitStates.{UnitState};
-    ghost use Rattle.pr_views.specs.Possibilities.{Scope, Registration, IsSo};
-    ghost use Rattle.pr_views.specs.Portions.{has_at, view_in};
-    ghost use Rattle.pr_regions.specs.Gathering.{IsPlace, IsUniform, IsProper, IsAt, IsGathered};
-    ghost use Rattle.pr_regions.specs.inside.Portions.{passes, IsLeftTo, HasTest};
+    ghost use Rattle.pr_regions.specs.Gathering.{HasAll, HasNone, HasNoneBeyond, IsGatheredIn};
+    ghost use Rattle.pr_regions.specs.inside.Portions.{passes, IsLeftAt, IsLeftTo, IsSameAt, HasTest};
 
     /// The place of this reservation.
     pub fn of(hosts: u8, sender: u8, reservation: u8) -> Place
@@ -67,14 +64,9 @@ impl Place {
         senders: Word,
         region: &Region,
     ) -> Option<[Word; MOST_NEXUSES]>
-        ensures some { IfSome result (λ words. (s : Scope) → IsPlace s view.now self.now
-            → IsUniform senders → IsProper region.now
-            → IsGathered (view_in s view.now) self.now senders region.now words) }
-        ensures beyond { IfSome result (λ words. (g r : ℕ) → self.now.hosts ≤ g
-            → has_at words g r ≡ false) }
-        ensures none { IfNone result ((s : Scope) → IsPlace s view.now self.now → IsUniform senders
-            → IsProper region.now → (u : UnitState)
-            → IsAt (view_in s view.now) self.now senders region.now u → ⊥) }
+        ensures some { IfSome result (IsGatheredIn view.now self.now senders region.now) }
+        ensures beyond { IfSome result (HasNoneBeyond self.now.hosts) }
+        ensures none { IfNone result (HasNone view.now self.now senders region.now) }
     {
         self.portion(view, senders, region).projected(self.hosts)
     }
@@ -86,9 +78,7 @@ impl Place {
         senders: Word,
         region: &Region,
     ) -> [Word; MOST_NEXUSES]
-        ensures { (s : Scope) → IsPlace s view.now self.now → IsUniform senders → (u : UnitState)
-            → IsAt (view_in s view.now) self.now senders region.now u → (g r : ℕ)
-            → IsSo s u (Registration g r) → has_at result g r ≡ true }
+        ensures { HasAll view.now self.now senders region.now result }
     {
         self.portion(view, senders, region).registrations
     }
@@ -98,7 +88,7 @@ impl Place {
         ensures sender { result.sender ≡ self.now.sender }
         ensures reservation { result.reservation ≡ self.now.reservation }
         ensures left { IsLeftTo view.now self.now senders region.now result }
-        ensures beyond { (g r : ℕ) → self.now.hosts ≤ g → has_at result.registrations g r ≡ false }
+        ensures beyond { HasNoneBeyond self.now.hosts result.registrations }
         ensures tested { HasTest self.now senders region.now.somebody result.somebody }
     {
         Portion {
@@ -112,9 +102,8 @@ impl Place {
     // What the portion leaves to each: one rule for all, but for the sender and for who holds alone.
     fn left(&self, view: &Possibilities, senders: Word, region: &Region) -> [Word; MOST_NEXUSES]
         ensures left { (g r : ℕ) → g < self.now.hosts
-            → has_at result g r ≡ (has_at view.now.registrations g r
-            && passes self.now senders region.now g r) }
-        ensures beyond { (g r : ℕ) → self.now.hosts ≤ g → has_at result g r ≡ false }
+            → IsLeftAt view.now self.now senders region.now result g r }
+        ensures beyond { HasNoneBeyond self.now.hosts result }
     {
         let mut words = [Word::none(); MOST_NEXUSES];
         for host in 0..usize::from(self.hosts) {
@@ -134,10 +123,9 @@ impl Place {
         region: &Region,
     )
         ensures holder { (g r : ℕ) → g < self.now.hosts → holds_alone self.now.held g ≡ true
-            → has_at words.new g r ≡ (has_at view.now.registrations g r
-            && passes self.now senders region.now g r) }
+            → IsLeftAt view.now self.now senders region.now words.new g r }
         ensures others { (g r : ℕ) → (holds_alone self.now.held g ≡ false) ⊎ (self.now.hosts ≤ g)
-            → has_at words.new g r ≡ has_at words.old g r }
+            → IsSameAt words.old words.new g r }
     {
         if let Some(Held::One(_, holder)) = self.held {
             self.leave_to(words, holder, view, senders, region);
@@ -154,10 +142,9 @@ impl Place {
         region: &Region,
     )
         ensures here { g < self.now.hosts → (r : ℕ)
-            → has_at words.new g r ≡ (has_at view.now.registrations g r
-            && passes self.now senders region.now g r) }
+            → IsLeftAt view.now self.now senders region.now words.new g r }
         ensures others { (h r : ℕ) → (h ≢ g) ⊎ (self.now.hosts ≤ g)
-            → has_at words.new h r ≡ has_at words.old h r }
+            → IsSameAt words.old words.new h r }
     {
         if g < self.hosts {
             let i = usize::from(g);

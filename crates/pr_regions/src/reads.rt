@@ -1,11 +1,11 @@
 //! Which arm takes the data that a command returns.
 
-ghost use Rattle.std.specs.Prelude.{◌≡◌, ◌≤◌, ◌||◌, ℕ, IsTrue, length, true};
+ghost use Rattle.std.specs.Prelude.{◌≤◌, ◌||◌, IsTrue, length};
 ghost use Rattle.std.specs.List.{All};
 ghost use Rattle.pr_script.specs.declared.limits.TheConstants.{MOST_ARMS};
 ghost use Rattle.pr_script.specs.Grammar.{is_written, is_read_keys, is_read_reservation, test_fits};
 ghost use Rattle.pr_roles.specs.declared.limits.TheConstants.{MOST_KEYS};
-ghost use Rattle.pr_regions.specs.Readings.{AreReadings, IsProperReading};
+ghost use Rattle.pr_regions.specs.Readings.{AreReadingsOfAny, IsProperReading};
 
 use crate::key_reads::key_readings;
 use crate::region::Reading;
@@ -31,8 +31,8 @@ pub fn readings(
     requires written { IsTrue (is_written keys.now command) }
     requires fits { All (λ test. IsTrue (test_fits keys.now command test)) tests.now }
     requires known { registration ≤ length keys.now }
-    ensures right { (hosts : ℕ) → AreReadings keys.now hosts tests.now command held sender
-        registration result.items }
+    ensures right { AreReadingsOfAny keys.now tests.now command held sender registration
+        result.items }
     ensures proper { All IsProperReading result.items }
 {
     match command {

@@ -1,15 +1,13 @@
 //! Which arm takes the data of READ RESERVATION.
 
-ghost use Rattle.std.specs.Prelude.{◌≡◌, ◌≢◌, ◌≤◌, ℕ, Some, length, true, unwrap_or, position};
+ghost use Rattle.std.specs.Prelude.{◌≡◌, ◌≤◌, Some, length, true, unwrap_or, position};
 ghost use Rattle.std.specs.List.{All};
 ghost use Rattle.pr_cdb.specs.declared.command.Kind.{Kind as KindOf};
 ghost use Rattle.pr_cdb.specs.declared.command.Command.{Command as CommandOf};
-ghost use Rattle.pr_script.specs.declared.grammar.TheConstants.{WRITTEN_LENGTH};
-ghost use Rattle.pr_script.specs.Grammar.{test_fits};
 ghost use Rattle.pr_roles.specs.declared.limits.TheConstants.{MOST_KEYS};
 ghost use Rattle.pr_views.specs.Possibilities.{key_at};
-ghost use Rattle.pr_regions.specs.Readings.{AreReadings, IsProperReading};
-ghost use Rattle.pr_regions.specs.inside.Reads.{passes_held, IsEverywhere};
+ghost use Rattle.pr_regions.specs.Readings.{AreReadingsOfAny, IsProperReading};
+ghost use Rattle.pr_regions.specs.inside.Reads.{passes_held, read_reservation, AreReadingsByHolder, IsEverywhere, TestsFit};
 
 use crate::commands::is_key;
 use crate::region::{Reading, Region};
@@ -70,11 +68,8 @@ fn everywhere(arm: Option<usize>) -> ArrayVec<Reading, 17>
 // By the key of another host that holds the reservation alone.
 fn by_holder(tests: &[Test], keys: &[u64]) -> ArrayVec<Reading, 17>
     requires few { length keys.now ≤ MOST_KEYS }
-    requires fits { All (λ test. test_fits keys.now (Command.ReadReservation WRITTEN_LENGTH) test
-        ≡ true) tests.now }
-    ensures right { (hosts : ℕ) (kind : KindOf) (holder sender own : ℕ) → holder ≢ sender
-        → AreReadings keys.now hosts tests.now (Command.ReadReservation WRITTEN_LENGTH)
-        (Some (Held.One kind holder)) sender own result.items }
+    requires fits { TestsFit keys.now read_reservation tests.now }
+    ensures right { AreReadingsByHolder keys.now tests.now result.items }
     ensures proper { All IsProperReading result.items }
 {
     let mut readings = ArrayVec::new();
@@ -99,11 +94,10 @@ fn held_readings(
     registration: u8,
 ) -> ArrayVec<Reading, 17>
     requires few { length keys.now ≤ MOST_KEYS }
-    requires fits { All (λ test. test_fits keys.now (Command.ReadReservation WRITTEN_LENGTH) test
-        ≡ true) tests.now }
+    requires fits { TestsFit keys.now read_reservation tests.now }
     requires known { registration ≤ length keys.now }
-    ensures right { (hosts : ℕ) → AreReadings keys.now hosts tests.now
-        (Command.ReadReservation WRITTEN_LENGTH) (Some held) sender registration result.items }
+    ensures right { AreReadingsOfAny keys.now tests.now read_reservation (Some held) sender
+        registration result.items }
     ensures proper { All IsProperReading result.items }
 {
     match held {
@@ -127,11 +121,10 @@ pub(crate) fn reservation_readings(
     registration: u8,
 ) -> ArrayVec<Reading, 17>
     requires few { length keys.now ≤ MOST_KEYS }
-    requires fits { All (λ test. test_fits keys.now (Command.ReadReservation WRITTEN_LENGTH) test
-        ≡ true) tests.now }
+    requires fits { TestsFit keys.now read_reservation tests.now }
     requires known { registration ≤ length keys.now }
-    ensures right { (hosts : ℕ) → AreReadings keys.now hosts tests.now
-        (Command.ReadReservation WRITTEN_LENGTH) held sender registration result.items }
+    ensures right { AreReadingsOfAny keys.now tests.now read_reservation held sender registration
+        result.items }
     ensures proper { All IsProperReading result.items }
 {
     match held {

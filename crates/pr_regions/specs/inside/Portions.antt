@@ -1,5 +1,5 @@
 -- The portion of a view that the states of a place are.
-use Rattle.std.specs.Prelude.{◌≡◌, ℕ, ◌<◌, ◌≤◌, Bool, true, false, not, ◌==◌, ◌&&◌, if◌then◌else◌, Option, Some, None}
+use Rattle.std.specs.Prelude.{◌≡◌, ℕ, ◌<◌, ◌≤◌, Bool, true, false, not, ◌==◌, ◌&&◌, if◌then◌else◌, List, Option, Some, None}
 use Rattle.pr_registry.specs.Registrations.{holds_alone}
 use Rattle.pr_registry.specs.Changes.{is_held_by_all}
 use Rattle.pr_roles.specs.declared.limits.TheConstants.{MOST_KEYS}
@@ -17,10 +17,17 @@ abbrev pub passes : Place → Word → Region → ℕ → ℕ → Bool
 passes place senders region g r =
     has (if g == place.sender then senders else filter_of region place.held g) r && not (holds_alone place.held g && r == 0)
 
+-- the words have this registration of g where the view has it and it passes
+abbrev pub IsLeftAt : Possibilities → Place → Word → Region → List Word → ℕ → ℕ → Type 0
+IsLeftAt view place senders region words g r = has_at words g r ≡ (has_at view.registrations g r && passes place senders region g r)
+
+-- the later words have it where the earlier ones do
+abbrev pub IsSameAt : List Word → List Word → ℕ → ℕ → Type 0
+IsSameAt old new g r = has_at new g r ≡ has_at old g r
+
 -- the registrations that the portion leaves to each
 abbrev pub IsLeftTo : Possibilities → Place → Word → Region → Portion → Type 0
-IsLeftTo view place senders region p =
-    (g r : ℕ) → g < place.hosts → has_at p.registrations g r ≡ (has_at view.registrations g r && passes place senders region g r)
+IsLeftTo view place senders region p = (g r : ℕ) → g < place.hosts → IsLeftAt view place senders region p.registrations g r
 
 -- where all registrants hold and the sender is none, another one must be registered
 abbrev pub HasTest : Place → Word → Option Word → Option Word → Type 0

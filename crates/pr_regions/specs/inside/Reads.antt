@@ -1,8 +1,9 @@
 -- What the functions that say which arm takes data keep.
 use Rattle.std.specs.Prelude.{◌≡◌, ◌≢◌, ◌⊎◌, ℕ, ◌<◌, ◌≤◌, Bool, true, false, List, [], ◌∷◌, Option, Some, None, is_none, slice_index_or}
-use Rattle.std.specs.List.{Contains}
+use Rattle.std.specs.List.{All, Contains}
 use Rattle.pr_cdb.specs.declared.command.Kind.{Kind}
 use Rattle.pr_cdb.specs.declared.command.Command.{Command}
+use Rattle.pr_cdb.specs.declared.command.Command.TheVariants.{ReadKeys, ReadReservation}
 use Rattle.pr_cdb.specs.declared.reply.Reply.{Reply}
 use Rattle.pr_registry.specs.declared.held.Held.{Held}
 use Rattle.pr_registry.specs.declared.held.Held.TheVariants.{One}
@@ -12,6 +13,8 @@ use Rattle.pr_unit.specs.Replies.{good, data_of}
 use Rattle.pr_script.specs.declared.script.Test.{Test}
 use Rattle.pr_script.specs.declared.script.Test.TheVariants as test
 use Rattle.pr_script.specs.Takes.{matches}
+use Rattle.pr_script.specs.Grammar.{test_fits}
+use Rattle.pr_script.specs.declared.grammar.TheConstants.{WRITTEN_LENGTH}
 use Rattle.pr_roles.specs.declared.limits.TheConstants.{MOST_KEYS}
 use Rattle.pr_sets.specs.declared.word.Word.{Word}
 use Rattle.pr_views.specs.Possibilities.{Scope, IsScope, Registration, IsSo}
@@ -21,7 +24,7 @@ use Rattle.pr_regions.specs.declared.region.Reading.{Reading}
 use Rattle.pr_regions.specs.declared.key_reads.Ask.{Ask}
 use Rattle.pr_regions.specs.declared.key_reads.Ask.TheVariants.{Always, Never, Somebody}
 use Rattle.pr_regions.specs.Regions.{IsInRegion}
-use Rattle.pr_regions.specs.Readings.{first_test, IsRead}
+use Rattle.pr_regions.specs.Readings.{first_test, IsRead, AreReadings}
 use Rattle.pr_regions.specs.inside.Parts.{any, only, Leaves}
 
 -- what is known of the states whose data is read
@@ -35,9 +38,25 @@ pub record IsKnown (declared : List ℕ) (count : ℕ) (reserved : Option Held) 
   pub held : u.registry.held ≡ reserved
   pub sender : IsSo s u (Registration from own)
 
+-- READ KEYS and READ RESERVATION, with as much room for data as a text gives them
+abbrev pub read_keys : Command
+read_keys = ReadKeys WRITTEN_LENGTH
+
+abbrev pub read_reservation : Command
+read_reservation = ReadReservation WRITTEN_LENGTH
+
+-- each test can stand with the command in a text with these keys
+abbrev pub TestsFit : List ℕ → Command → List Test → Type 0
+TestsFit keys c tests = All (λ t. test_fits keys c t ≡ true) tests
+
 -- the reply that has the data
 abbrev pub answer : UnitState → Command → Reply
 answer u c = good (data_of u.registry c)
+
+-- they are those under a reservation that another nexus holds alone, whoever holds and whoever sends
+abbrev pub AreReadingsByHolder : List ℕ → List Test → List Reading → Type 0
+AreReadingsByHolder keys tests readings =
+    (hosts : ℕ) (kind : Kind) (holder sender own : ℕ) → holder ≢ sender → AreReadings keys hosts tests read_reservation (Some (One kind holder)) sender own readings
 
 -- nobody but the sender has a registration that passes
 abbrev pub HasNobody : Scope → UnitState → ℕ → (ℕ → Bool) → Type 0
