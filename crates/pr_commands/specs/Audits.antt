@@ -1,7 +1,10 @@
 -- Agrees with docs/FORMATS.md, 'Auditing'.
 -- What `fence audit` writes.
 use Rattle.std.specs.Prelude.{◌≡◌, ℕ, Bool, List, length, Option, Some, IfSome, Result, Ok, Err}
+use Rattle.std.specs.Borrow.{MutBor}
 use Rattle.std.specs.Io.KnownBytes.{Keeps}
+use Rattle.std.specs.declared.io.Read as Read
+use denote.Triple.Both.{Both}
 use Rattle.pr_roles.specs.declared.item.Item.{Item}
 use Rattle.pr_roles.specs.Scenarios.{Scenario}
 use Rattle.pr_text.specs.declared.fault.ReadError.{ReadError}
@@ -55,3 +58,14 @@ pub record EndsAudit (text trace trace_left old new : Option (List ℕ)) (r : Re
   pub outputs : Outputs (λ known answer refused. IfSome trace (λ t. IsAuditOf t known answer refused)) ⊥
       (λ e. IfSome text (λ known. IfSome trace (λ t. IsTraceFault known t e))) (λ name. ⊥) ⊥ text old new r
   pub unread : (e : ReadError) → r ≡ Err (fault.Input e) → Keeps trace trace_left
+
+-- A call, with the reader of a trace as it was and as it is.
+module _ {A : Type 0} (traces : Read.Ghosts A) (trace : Both (MutBor A) (MutBor A)) where
+  -- it ends as an audit of that trace
+  abbrev pub EndsAuditOf : Option (List ℕ) → Option (List ℕ) → Option (List ℕ) → Result Bool Fault → Type 0
+  EndsAuditOf known old new r = EndsAudit known (traces.remaining trace.entry.now) (traces.remaining trace.exit.now) old new r
+
+  -- with that of a text too: so much is taken of the trace
+  abbrev pub TakesTraceUnder : {B : Type 0} → Read.Ghosts B → Both (MutBor B) (MutBor B) → Type 0
+  TakesTraceUnder reads reader =
+      TakesOfTrace (reads.remaining reader.entry.now) (traces.remaining trace.entry.now) (traces.remaining trace.exit.now)

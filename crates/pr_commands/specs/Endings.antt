@@ -1,7 +1,11 @@
 -- Agrees with docs/FORMATS.md, 'Fault lines and exit statuses'.
 -- How a command of the program ends that answers a text: with its answer, which may be a refusal, or with a fault.
 use Rattle.std.specs.Prelude.{◌≡◌, ℕ, Bool, if◌then◌else◌, List, [], Option, IfSome, Result, Ok, Err}
+use Rattle.std.specs.Borrow.{MutBor}
 use Rattle.std.specs.Io.KnownBytes.{Appends, Keeps}
+use Rattle.std.specs.declared.io.Read as Read
+use Rattle.std.specs.declared.io.Write as Write
+use denote.Triple.Both.{Both}
 use Rattle.pr_text.specs.declared.fault.ReadError.TheVariants as input
 use Rattle.pr_text.specs.Texts.{answer_of}
 use Rattle.pr_report.specs.Written.{AppendsFront, FallsShort}
@@ -45,3 +49,22 @@ pub record IsCommand (Ends : Result Bool Fault → Type 0) (old_errors new_error
   pub ends : Ends end
   pub tells : AppendsFront old_errors new_errors (told_of_end end)
   pub answers : answer ≡ status_of_end end
+
+-- A call, with its reader as it was and as it is: nothing of that is taken.
+abbrev pub IsUnread : {A : Type 0} → Read.Ghosts A → Both (MutBor A) (MutBor A) → Type 0
+IsUnread reads reader = Keeps (reads.remaining reader.entry.now) (reads.remaining reader.exit.now)
+
+-- A call, with its error writer as it was and as it is: it is a command that ends so.
+abbrev pub IsCommandOn : {A : Type 0} → Write.Ghosts A → Both (MutBor A) (MutBor A) → (Result Bool Fault → Type 0) → Status → Type 0
+IsCommandOn tells errors Ends answer = IsCommand Ends (tells.contents errors.entry.now) (tells.contents errors.exit.now) answer
+
+-- A call, with its reader and its writer as they were and as they are.
+module _ {A B : Type 0} (reads : Read.Ghosts A) (reader : Both (MutBor A) (MutBor A)) (writes : Write.Ghosts B) (writer : Both (MutBor B) (MutBor B)) where
+  -- it ends so, of what the reader had and of what the writer took
+  abbrev pub EndsOver : (Option (List ℕ) → Option (List ℕ) → Option (List ℕ) → Result Bool Fault → Type 0) → Result Bool Fault → Type 0
+  EndsOver Ends result = Ends (reads.remaining reader.entry.now) (writes.contents writer.entry.now) (writes.contents writer.exit.now) result
+
+  -- with its error writer too: it is a command that ends so
+  abbrev pub IsCommandOver : {C : Type 0} → Write.Ghosts C → Both (MutBor C) (MutBor C)
+      → (Option (List ℕ) → Option (List ℕ) → Option (List ℕ) → Result Bool Fault → Type 0) → Status → Type 0
+  IsCommandOver tells errors Ends answer = IsCommandOn tells errors (EndsOver Ends) answer

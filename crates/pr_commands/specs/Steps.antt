@@ -1,12 +1,17 @@
 -- Agrees with docs/FORMATS.md, 'Replaying'.
 -- The steps of a replay: the nexuses that their words name, and how the commands of these are answered; or a reset.
-use Rattle.std.specs.Prelude.{ℕ, ◌-◌, ◌==◌, ◌&&◌, ◌||◌, Bool, nat_lt, nat_le, if◌then◌else◌, List, [], ◌∷◌, length, take, drop, codes, bytes_eq, Option, Some, option_map, option_and_then}
+use Rattle.std.specs.Prelude.{ℕ, ◌-◌, ◌==◌, ◌&&◌, ◌||◌, Bool, nat_lt, nat_le, if◌then◌else◌, List, [], ◌∷◌, length, take, drop, codes, bytes_eq, Option, Some, map, option_map, option_and_then}
+use Rattle.std.specs.Borrow.{Bor}
 use Rattle.pr_roles.specs.declared.how.How.{How}
 use Rattle.pr_roles.specs.declared.how.How.TheVariants as how
 use Rattle.pr_roles.specs.declared.step.Step.{Step}
 use Rattle.pr_roles.specs.declared.step.Step.TheVariants.{Of, Reset}
 use Rattle.pr_report.specs.TraceReadings.{number_of}
 use Rattle.pr_commands.specs.declared.replays.TheConstants.{MOST_STEPS}
+
+-- the words as a call has them
+abbrev pub texts_of : List (Bor (List ℕ)) → List (List ℕ)
+texts_of words = map (λ w. w.now) words
 
 -- where this ending would begin in the word
 abbrev pub front_of : List ℕ → List ℕ → ℕ

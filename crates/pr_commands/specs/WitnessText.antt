@@ -8,6 +8,7 @@ use Rattle.pr_attention.specs.Attentions.{power_on, reservations_preempted, rese
 use Rattle.pr_domain.specs.declared.landing.Class.{Class}
 use Rattle.pr_domain.specs.declared.landing.Class.TheVariants as class
 use Rattle.pr_registry.specs.Registrations.{State, key_of}
+use Rattle.pr_registry.specs.declared.held.Held.{Held}
 use Rattle.pr_unit.specs.UnitStates.{UnitState, is_pending}
 use Rattle.pr_roles.specs.declared.item.Item.{Item}
 use Rattle.pr_roles.specs.declared.item.Item.TheVariants.{Sent, Reset}
@@ -35,12 +36,21 @@ item_class Reset = class.Good
 abbrev pub last_class : List Item → Class
 last_class history = option_map_or item_class (slice_get history (length history - 1)) class.Good
 
--- in the words of a verdict; of a budget, how many commands were sent
+abbrev pub out_of_role_words : List ℕ → ℕ → List (List ℕ)
+out_of_role_words name at = place_words (codes "OutOfRole") name at
+
+-- of a budget, how many commands were sent
+abbrev pub over_sent_words : List ℕ → ℕ → List (List ℕ)
+over_sent_words name sent = codes "OverBudget" ∷ codes "host" ∷ name ∷ codes "sent" ∷ decimal sent ∷ []
+
+-- in the words of a verdict, but for a budget
 abbrev pub broken_words : List (List ℕ) → Told → List Item → List ℕ → List (List ℕ)
 broken_words names (NoArm host at) history counts = no_arm_words (name_of names host) at (class_word (last_class history))
-broken_words names (OutOfRole host at) history counts = place_words (codes "OutOfRole") (name_of names host) at
-broken_words names (OverBudget host) history counts =
-    codes "OverBudget" ∷ codes "host" ∷ name_of names host ∷ codes "sent" ∷ decimal (slice_index counts host) ∷ []
+broken_words names (OutOfRole host at) history counts = out_of_role_words (name_of names host) at
+broken_words names (OverBudget host) history counts = over_sent_words (name_of names host) (slice_index counts host)
+
+abbrev pub broken_line : List (List ℕ) → Breach → Bool → List ℕ
+broken_line names b told = line (told_word told) (broken_words names b.broken b.history.items b.counts.items)
 
 -- The start, in the words of a scenario's own lines.
 
@@ -71,6 +81,9 @@ some_pending_line name pending = codes "pending " ++ (name ++ code_words pending
 abbrev pub pending_line : List ℕ → (ℕ → Bool) → List ℕ
 pending_line name pending = if has_any pending then some_pending_line name pending else []
 
+abbrev pub held_line : List (List ℕ) → Option Held → List ℕ
+held_line names held = line (codes "reservation") (held_word names held ∷ [])
+
 abbrev pub generation_line : ℕ → List ℕ
 generation_line generation = if generation == 0 then [] else line (codes "generation") (generation_word generation ∷ [])
 
@@ -84,10 +97,10 @@ pending_lines names u = flat_map (λ host. pending_line (name_of names host) (is
 abbrev pub witness_head : List (List ℕ) → Breach → Bool → List ℕ
 witness_head names b told =
     codes "fence-witness 1\n"
-    ++ (line (told_word told) (broken_words names b.broken b.history.items b.counts.items)
+    ++ (broken_line names b told
     ++ (start_lines names b.start
     ++ (pending_lines names b.start
-    ++ (line (codes "reservation") (held_word names b.start.registry.held ∷ [])
+    ++ (held_line names b.start.registry.held
     ++ generation_line b.start.registry.generation))))
 
 abbrev pub witness_text : List (List ℕ) → Breach → Bool → List ℕ

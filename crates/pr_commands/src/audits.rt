@@ -1,14 +1,13 @@
 //! `fence audit`, over any two readers, writer and error writer.
 
 ghost use Rattle.std.specs.Prelude.{◌≡◌, ◌+◌, Err, IfErr, IfOk};
-ghost use Rattle.std.specs.Io.KnownBytes.{Keeps};
 ghost use Rattle.pr_roles.specs.Scenarios.{scenario_of};
 ghost use Rattle.pr_text.specs.declared.fault.ReadError.{ReadError};
 ghost use Rattle.pr_text.specs.declared.text.TheConstants.{MOST_BYTES};
 ghost use Rattle.pr_text.specs.BytesRead.{LosesUpTo};
 ghost use Rattle.pr_commands.specs.declared.fault.Fault.TheVariants.{Input, Memory};
-ghost use Rattle.pr_commands.specs.Audits.{EndsAudit, Holds, TakesOfTrace};
-ghost use Rattle.pr_commands.specs.Endings.{IsCommand};
+ghost use Rattle.pr_commands.specs.Audits.{Holds, EndsAuditOf, TakesTraceUnder};
+ghost use Rattle.pr_commands.specs.Endings.{IsCommandOver, EndsOver, IsUnread};
 ghost use Rattle.pr_commands.specs.inside.Audited.{IsAudited};
 
 use crate::ending::ended;
@@ -32,12 +31,10 @@ pub fn do_audit<R: Read, T: Read, W: Write, E: Write>(
     writer: &mut W,
     errors: &mut E,
 ) -> Status
-    ensures command { IsCommand (EndsAudit (R.remaining reader.old) (T.remaining trace.old)
-        (T.remaining trace.new) (W.contents writer.old) (W.contents writer.new))
-        (E.contents errors.old) (E.contents errors.new) result }
+    ensures command { IsCommandOver R.Read reader W.Write writer E.Write errors
+        (EndsAuditOf T.Read trace) result }
     ensures limited { LosesUpTo (MOST_BYTES + 1) (R.remaining reader.old) (R.remaining reader.new) }
-    ensures limited_trace { TakesOfTrace (R.remaining reader.old) (T.remaining trace.old)
-        (T.remaining trace.new) }
+    ensures limited_trace { TakesTraceUnder T.Read trace R.Read reader }
 {
     let end = audit_texts(alloc, reader, trace, writer);
     ended(errors, end)
@@ -50,11 +47,9 @@ fn audit_texts<R: Read, T: Read, W: Write>(
     trace: &mut T,
     writer: &mut W,
 ) -> Result<bool, Fault>
-    ensures ends { EndsAudit (R.remaining reader.old) (T.remaining trace.old)
-        (T.remaining trace.new) (W.contents writer.old) (W.contents writer.new) result }
+    ensures ends { EndsOver R.Read reader W.Write writer (EndsAuditOf T.Read trace) result }
     ensures limited { LosesUpTo (MOST_BYTES + 1) (R.remaining reader.old) (R.remaining reader.new) }
-    ensures limited_trace { TakesOfTrace (R.remaining reader.old) (T.remaining trace.old)
-        (T.remaining trace.new) }
+    ensures limited_trace { TakesTraceUnder T.Read trace R.Read reader }
 {
     let audited = examine(alloc, reader, trace)?;
     write_verdict(writer, &audited.scenario, &audited.verdict)?;
@@ -72,11 +67,9 @@ struct Audited {
 #[tactic(auto, using(crate::proofs::lemmas::Audits::BytesTaken::untaken, crate::proofs::lemmas::Audits::BytesTaken::taken_by))]
 fn examine<R: Read, T: Read>(alloc: Global, reader: &mut R, trace: &mut T) -> Result<Audited, Fault>
     ensures audited { IsAudited (R.remaining reader.old) (T.remaining trace.old) result }
-    ensures unread { (e : ReadError) → result ≡ Err (Input e)
-        → Keeps (T.remaining trace.old) (T.remaining trace.new) }
+    ensures unread { (e : ReadError) → result ≡ Err (Input e) → IsUnread T.Read trace }
     ensures limited { LosesUpTo (MOST_BYTES + 1) (R.remaining reader.old) (R.remaining reader.new) }
-    ensures limited_trace { TakesOfTrace (R.remaining reader.old) (T.remaining trace.old)
-        (T.remaining trace.new) }
+    ensures limited_trace { TakesTraceUnder T.Read trace R.Read reader }
 {
     let scenario = read(alloc, reader)?;
     let history = read_trace(alloc, &scenario, trace)?;

@@ -3,8 +3,8 @@
 ghost use Rattle.std.specs.Prelude.{◌≡◌, ◌+◌, IfErr, IfOk};
 ghost use Rattle.pr_text.specs.declared.text.TheConstants.{MOST_BYTES};
 ghost use Rattle.pr_text.specs.BytesRead.{LosesUpTo};
-ghost use Rattle.pr_report.specs.Written.{Puts};
-ghost use Rattle.pr_commands.specs.Endings.{IsCommand};
+ghost use Rattle.pr_report.specs.Written.{Writes};
+ghost use Rattle.pr_commands.specs.Endings.{IsCommandOver, EndsOver};
 ghost use Rattle.pr_commands.specs.Checks.{EndsCheck};
 ghost use Rattle.pr_commands.specs.declared.fault.Fault.TheVariants.{Memory};
 ghost use Rattle.pr_commands.specs.inside.Judgements.{IsJudged, IsVerified, Stands, judgement_text};
@@ -27,8 +27,7 @@ pub fn do_check<R: Read, W: Write, E: Write>(
     writer: &mut W,
     errors: &mut E,
 ) -> Status
-    ensures command { IsCommand (EndsCheck (R.remaining reader.old) (W.contents writer.old)
-        (W.contents writer.new)) (E.contents errors.old) (E.contents errors.new) result }
+    ensures command { IsCommandOver R.Read reader W.Write writer E.Write errors EndsCheck result }
     ensures limited { LosesUpTo (MOST_BYTES + 1) (R.remaining reader.old) (R.remaining reader.new) }
 {
     let end = check_text(alloc, reader, writer);
@@ -41,8 +40,7 @@ fn check_text<R: Read, W: Write>(
     reader: &mut R,
     writer: &mut W,
 ) -> Result<bool, Fault>
-    ensures ends { EndsCheck (R.remaining reader.old) (W.contents writer.old)
-        (W.contents writer.new) result }
+    ensures ends { EndsOver R.Read reader W.Write writer EndsCheck result }
     ensures limited { LosesUpTo (MOST_BYTES + 1) (R.remaining reader.old) (R.remaining reader.new) }
 {
     let judgement = judge(alloc, reader)?;
@@ -86,8 +84,7 @@ fn put_judgement<W: Write>(
     judgement: &Result<Verified, Refused>,
 ) -> Result<(), WriteFault>
     requires { Stands judgement.now }
-    ensures { Puts (W.contents writer.old) (W.contents writer.new) (judgement_text judgement.now)
-        result }
+    ensures { Writes W.Write writer (judgement_text judgement.now) result }
 {
     match judgement {
         Ok(verified) => write_verdict(writer, verified.scenario(), &Verdict::Accepted),

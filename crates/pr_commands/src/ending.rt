@@ -1,7 +1,7 @@
 //! How a command of the program ends: its status, and the line that tells its fault.
 
 ghost use Rattle.std.specs.Prelude.{◌≡◌};
-ghost use Rattle.pr_report.specs.Written.{AppendsFront, Puts};
+ghost use Rattle.pr_report.specs.Written.{AppendsFront, Writes};
 ghost use Rattle.pr_commands.specs.Endings.{status_of_end, told_of_end};
 
 use crate::fault::{Fault, Status, put_fault};
@@ -30,7 +30,7 @@ fn status_of(end: Result<bool, Fault>) -> Status
 
 // Tells the fault in one line, if there is one.
 fn tell_end<E: Write>(errors: &mut E, end: &Result<bool, Fault>) -> Result<(), WriteFault>
-    ensures { Puts (E.contents errors.old) (E.contents errors.new) (told_of_end end.now) result }
+    ensures { Writes E.Write errors (told_of_end end.now) result }
 {
     match end {
         Ok(_) => Ok(()),

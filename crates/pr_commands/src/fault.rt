@@ -2,7 +2,7 @@
 
 ghost use Rattle.std.specs.Prelude.{◌≡◌, codes, map};
 ghost use Rattle.std.specs.IoError.{error_kind};
-ghost use Rattle.pr_report.specs.Written.{AppendsFront, Puts};
+ghost use Rattle.pr_report.specs.Written.{AppendsFront, Writes};
 ghost use Rattle.pr_report.specs.Printed.{printed_word};
 ghost use Rattle.pr_commands.specs.FaultText.{args_fault, exit_status_of, fault_text, input_words, open_fault, status_of, told_line, trace_words, which_word};
 ghost use Rattle.pr_commands.specs.inside.FaultRows.{row_words};
@@ -187,7 +187,7 @@ pub fn tell<W: Write>(errors: &mut W, fault: &Fault)
 /// Writes the one line for a fault.
 #[tactic(auto, unfolding(crate::specs::FaultText::fault_text, pr_report::specs::Printed::printed_word))]
 pub(crate) fn put_fault<W: Write>(errors: &mut W, fault: &Fault) -> Result<(), WriteFault>
-    ensures { Puts (W.contents errors.old) (W.contents errors.new) (fault_text fault.now) result }
+    ensures { Writes W.Write errors (fault_text fault.now) result }
 {
     match fault {
         Fault::Usage => put_told(errors, &[Word::Text(b"usage")]),
@@ -255,8 +255,7 @@ fn trace_row(error: TraceError) -> FaultRow
 // The line for a fault of this text, which is the input or the trace.
 #[tactic(auto, unfolding(pr_report::specs::Printed::printed_word))]
 fn put_row<W: Write>(errors: &mut W, text: &[u8], row: FaultRow) -> Result<(), WriteFault>
-    ensures { Puts (W.contents errors.old) (W.contents errors.new)
-        (told_line (row_words text.now row)) result }
+    ensures { Writes W.Write errors (told_line (row_words text.now row)) result }
 {
     let text = Word::Text(text);
     match row {
@@ -310,8 +309,7 @@ fn which_word(which: Which) -> &'static [u8]
 // The line with these words after the program's name.
 #[tactic(auto, unfolding(pr_report::specs::Printed::printed_word))]
 fn put_told<W: Write>(errors: &mut W, words: &[Word<'_>]) -> Result<(), WriteFault>
-    ensures { Puts (W.contents errors.old) (W.contents errors.new)
-        (told_line (map printed_word words.now)) result }
+    ensures { Writes W.Write errors (told_line (map printed_word words.now)) result }
 {
     put_line(errors, Word::Text(b"fence:"), words)
 }

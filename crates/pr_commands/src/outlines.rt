@@ -3,7 +3,7 @@
 ghost use Rattle.std.specs.Prelude.{◌+◌};
 ghost use Rattle.pr_text.specs.declared.text.TheConstants.{MOST_BYTES};
 ghost use Rattle.pr_text.specs.BytesRead.{LosesUpTo};
-ghost use Rattle.pr_commands.specs.Endings.{IsCommand};
+ghost use Rattle.pr_commands.specs.Endings.{IsCommandOver, EndsOver};
 ghost use Rattle.pr_commands.specs.Outlines.{EndsOutline};
 
 use crate::ending::ended;
@@ -24,8 +24,7 @@ pub fn do_outline<R: Read, W: Write, E: Write>(
     writer: &mut W,
     errors: &mut E,
 ) -> Status
-    ensures command { IsCommand (EndsOutline (R.remaining reader.old) (W.contents writer.old)
-        (W.contents writer.new)) (E.contents errors.old) (E.contents errors.new) result }
+    ensures command { IsCommandOver R.Read reader W.Write writer E.Write errors EndsOutline result }
     ensures limited { LosesUpTo (MOST_BYTES + 1) (R.remaining reader.old) (R.remaining reader.new) }
 {
     let end = outline_text(alloc, reader, writer);
@@ -38,8 +37,7 @@ fn outline_text<R: Read, W: Write>(
     reader: &mut R,
     writer: &mut W,
 ) -> Result<bool, Fault>
-    ensures ends { EndsOutline (R.remaining reader.old) (W.contents writer.old)
-        (W.contents writer.new) result }
+    ensures ends { EndsOver R.Read reader W.Write writer EndsOutline result }
     ensures limited { LosesUpTo (MOST_BYTES + 1) (R.remaining reader.old) (R.remaining reader.new) }
 {
     let scenario = read(alloc, reader)?;

@@ -1,11 +1,10 @@
 //! `fence replay`, over any reader, writer and error writer.
 
-ghost use Rattle.std.specs.Prelude.{◌≡◌, ◌+◌, IsTrue, map};
-ghost use Rattle.std.specs.Io.KnownBytes.{Keeps};
+ghost use Rattle.std.specs.Prelude.{◌≡◌, ◌+◌, IsTrue};
 ghost use Rattle.pr_text.specs.declared.text.TheConstants.{MOST_BYTES};
 ghost use Rattle.pr_text.specs.BytesRead.{LosesUpTo};
-ghost use Rattle.pr_commands.specs.Endings.{IsCommand};
-ghost use Rattle.pr_commands.specs.Steps.{has_wrong_count};
+ghost use Rattle.pr_commands.specs.Endings.{IsCommandOver, EndsOver, IsUnread};
+ghost use Rattle.pr_commands.specs.Steps.{has_wrong_count, texts_of};
 ghost use Rattle.pr_commands.specs.Replays.{EndsReplay};
 ghost use Rattle.pr_commands.specs.inside.PlannedReplays.{IsPlanned};
 
@@ -36,12 +35,10 @@ pub fn do_replay<R: Read, W: Write, E: Write>(
     writer: &mut W,
     errors: &mut E,
 ) -> Status
-    ensures command { IsCommand (EndsReplay (map (λ s. s.now) steps.now) (R.remaining reader.old)
-        (W.contents writer.old) (W.contents writer.new)) (E.contents errors.old)
-        (E.contents errors.new) result }
+    ensures command { IsCommandOver R.Read reader W.Write writer E.Write errors
+        (EndsReplay (texts_of steps.now)) result }
     ensures limited { LosesUpTo (MOST_BYTES + 1) (R.remaining reader.old) (R.remaining reader.new) }
-    ensures unread { IsTrue (has_wrong_count (map (λ s. s.now) steps.now))
-        → Keeps (R.remaining reader.old) (R.remaining reader.new) }
+    ensures unread { IsTrue (has_wrong_count (texts_of steps.now)) → IsUnread R.Read reader }
 {
     let end = replay_text(alloc, steps, reader, writer);
     ended(errors, end)
@@ -54,11 +51,9 @@ fn replay_text<R: Read, W: Write>(
     reader: &mut R,
     writer: &mut W,
 ) -> Result<bool, Fault>
-    ensures ends { EndsReplay (map (λ s. s.now) steps.now) (R.remaining reader.old)
-        (W.contents writer.old) (W.contents writer.new) result }
+    ensures ends { EndsOver R.Read reader W.Write writer (EndsReplay (texts_of steps.now)) result }
     ensures limited { LosesUpTo (MOST_BYTES + 1) (R.remaining reader.old) (R.remaining reader.new) }
-    ensures unread { IsTrue (has_wrong_count (map (λ s. s.now) steps.now))
-        → Keeps (R.remaining reader.old) (R.remaining reader.new) }
+    ensures unread { IsTrue (has_wrong_count (texts_of steps.now)) → IsUnread R.Read reader }
 {
     let plan = plan(alloc, steps, reader)?;
     write_trace(
@@ -81,10 +76,9 @@ struct Planned {
 
 // Reads the text and replays the steps, or answers their first fault.
 fn plan<R: Read>(alloc: Global, steps: &[&str], reader: &mut R) -> Result<Planned, Fault>
-    ensures planned { IsPlanned (map (λ s. s.now) steps.now) (R.remaining reader.old) result }
+    ensures planned { IsPlanned (texts_of steps.now) (R.remaining reader.old) result }
     ensures limited { LosesUpTo (MOST_BYTES + 1) (R.remaining reader.old) (R.remaining reader.new) }
-    ensures unread { IsTrue (has_wrong_count (map (λ s. s.now) steps.now))
-        → Keeps (R.remaining reader.old) (R.remaining reader.new) }
+    ensures unread { IsTrue (has_wrong_count (texts_of steps.now)) → IsUnread R.Read reader }
 {
     if has_wrong_count(steps) {
         return Err(Fault::Usage);
@@ -101,7 +95,7 @@ fn plan<R: Read>(alloc: Global, steps: &[&str], reader: &mut R) -> Result<Planne
 // No step, or more than 4,096.
 #[tactic(auto, using(crate::proofs::lemmas::Replays::Plans::wrong_count))]
 fn has_wrong_count(steps: &[&str]) -> bool
-    ensures { result ≡ has_wrong_count (map (λ s. s.now) steps.now) }
+    ensures { result ≡ has_wrong_count (texts_of steps.now) }
 {
     steps.is_empty() || steps.len() > MOST_STEPS
 }

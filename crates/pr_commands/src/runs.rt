@@ -10,8 +10,8 @@ ghost use Rattle.pr_text.specs.BytesRead.{LosesUpTo};
 ghost use Rattle.pr_shared.specs.Outcomes.{IsOutcome};
 ghost use Rattle.pr_shared.specs.RunAnswers.{IfSpawn};
 ghost use Rattle.pr_report.specs.TraceText.{name_of, names_of};
-ghost use Rattle.pr_report.specs.Written.{Puts};
-ghost use Rattle.pr_commands.specs.Endings.{IsCommand};
+ghost use Rattle.pr_report.specs.Written.{Writes};
+ghost use Rattle.pr_commands.specs.Endings.{IsCommandOver, EndsOver};
 ghost use Rattle.pr_commands.specs.Runs.{EndsRun, outcome_text};
 ghost use Rattle.pr_commands.specs.inside.Judgements.{IsJudged};
 ghost use Rattle.pr_commands.specs.inside.Performances.{IsFaultFor, IsPerformed, IsRunFault, Stands, performed_text};
@@ -45,8 +45,7 @@ pub fn do_run<T: Threads + Wait + Sync, R: Read, W: Write, E: Write>(
     writer: &mut W,
     errors: &mut E,
 ) -> Status
-    ensures command { IsCommand (EndsRun (R.remaining reader.old) (W.contents writer.old)
-        (W.contents writer.new)) (E.contents errors.old) (E.contents errors.new) result }
+    ensures command { IsCommandOver R.Read reader W.Write writer E.Write errors EndsRun result }
     ensures limited { LosesUpTo (MOST_BYTES + 1) (R.remaining reader.old) (R.remaining reader.new) }
 {
     let end = run_text(rt, alloc, reader, writer);
@@ -60,8 +59,7 @@ fn run_text<T: Threads + Wait + Sync, R: Read, W: Write>(
     reader: &mut R,
     writer: &mut W,
 ) -> Result<bool, Fault>
-    ensures ends { EndsRun (R.remaining reader.old) (W.contents writer.old) (W.contents writer.new)
-        result }
+    ensures ends { EndsOver R.Read reader W.Write writer EndsRun result }
     ensures limited { LosesUpTo (MOST_BYTES + 1) (R.remaining reader.old) (R.remaining reader.new) }
 {
     let performed = perform(rt, alloc, reader)?;
@@ -152,8 +150,7 @@ fn put_performed<W: Write>(
     performed: &Result<Ran, Refused>,
 ) -> Result<(), WriteFault>
     requires { Stands performed.now }
-    ensures { Puts (W.contents writer.old) (W.contents writer.new) (performed_text performed.now)
-        result }
+    ensures { Writes W.Write writer (performed_text performed.now) result }
 {
     match performed {
         Ok(ran) => put_outcome(writer, &ran.scenario, &ran.outcome),
@@ -172,8 +169,7 @@ fn put_outcome<W: Write>(
 ) -> Result<(), WriteFault>
     requires safe { IsSafe (scenario_of scenario.now) }
     requires comes { IsOutcome (scenario_of scenario.now) outcome.now }
-    ensures { Puts (W.contents writer.old) (W.contents writer.new)
-        (outcome_text (scenario_of scenario.now) outcome.now) result }
+    ensures { Writes W.Write writer (outcome_text (scenario_of scenario.now) outcome.now) result }
 {
     let counts = counts_of(&outcome.history, scenario.parts().nexuses.len());
     write_trace(

@@ -1,11 +1,11 @@
 //! The steps of a replay: names of nexuses, and how their commands are answered; or resets of the unit.
 
-ghost use Rattle.std.specs.Prelude.{◌≡◌, ◌<◌, ◌≤◌, IfOk, IfSome, codes, length, map, option_map, take};
+ghost use Rattle.std.specs.Prelude.{◌≡◌, ◌≤◌, IfOk, IfSome, length, option_map, take};
 ghost use Rattle.std.specs.List.{All};
 ghost use Rattle.pr_cdb.specs.declared.codes.TheConstants.{MOST_NEXUSES};
 ghost use Rattle.pr_world.specs.Replays.{IsThere};
 ghost use Rattle.pr_report.specs.TraceText.{names_of};
-ghost use Rattle.pr_commands.specs.Steps.{asked_of, front_of, has_ending, is_reset_step, step_in, steps_of};
+ghost use Rattle.pr_commands.specs.Steps.{asked_of, front_of, has_ending, is_reset_step, step_in, steps_of, texts_of};
 
 use pr_report::number_of;
 use pr_roles::{How, Nexus, Step};
@@ -21,7 +21,7 @@ pub fn steps_of(
 ) -> Result<Option<Vec<Step>>, AllocError>
     requires { length nexuses.now ≤ MOST_NEXUSES }
     ensures named { IfOk result (λ found. option_map (λ steps. steps.items) found
-        ≡ steps_of version (names_of nexuses.now) (map (λ w. w.now) words.now)) }
+        ≡ steps_of version (names_of nexuses.now) (texts_of words.now)) }
     ensures there { IfOk result (λ found. IfSome found
         (λ steps. All (IsThere (length nexuses.now)) steps.items)) }
 {

@@ -2,15 +2,14 @@
 
 ghost use Rattle.std.specs.Prelude.{◌≡◌, ◌+◌, ◌∷◌, codes};
 ghost use Rattle.std.specs.Fmt.{decimal};
-ghost use Rattle.pr_roles.specs.Scenarios.{scenario_of};
 ghost use Rattle.pr_text.specs.declared.text.TheConstants.{MOST_BYTES};
 ghost use Rattle.pr_text.specs.BytesRead.{LosesUpTo};
 ghost use Rattle.pr_report.specs.PrintedLines.{line};
-ghost use Rattle.pr_report.specs.TraceText.{names_in};
-ghost use Rattle.pr_report.specs.Written.{Puts};
-ghost use Rattle.pr_commands.specs.Endings.{IsCommand};
-ghost use Rattle.pr_commands.specs.Witnesses.{EndsWitness, answer_text, bound_words, is_breach, search_text};
-ghost use Rattle.pr_commands.specs.inside.Witnessed.{IsWitnessed, Stands, answer_in, scenario_in};
+ghost use Rattle.pr_report.specs.TraceText.{names_under};
+ghost use Rattle.pr_report.specs.Written.{Writes};
+ghost use Rattle.pr_commands.specs.Endings.{IsCommandOver, EndsOver};
+ghost use Rattle.pr_commands.specs.Witnesses.{EndsWitness, bound_words, is_breach, search_text};
+ghost use Rattle.pr_commands.specs.inside.Witnessed.{IsWitnessed, answer_in, witnessed_text};
 
 use crate::checks::settled;
 use crate::ending::ended;
@@ -42,8 +41,7 @@ pub fn do_witness<R: Read, W: Write, E: Write>(
     writer: &mut W,
     errors: &mut E,
 ) -> Status
-    ensures command { IsCommand (EndsWitness (R.remaining reader.old) (W.contents writer.old)
-        (W.contents writer.new)) (E.contents errors.old) (E.contents errors.new) result }
+    ensures command { IsCommandOver R.Read reader W.Write writer E.Write errors EndsWitness result }
     ensures limited { LosesUpTo (MOST_BYTES + 1) (R.remaining reader.old) (R.remaining reader.new) }
 {
     let end = witness_text(alloc, reader, writer);
@@ -56,8 +54,7 @@ fn witness_text<R: Read, W: Write>(
     reader: &mut R,
     writer: &mut W,
 ) -> Result<bool, Fault>
-    ensures ends { EndsWitness (R.remaining reader.old) (W.contents writer.old)
-        (W.contents writer.new) result }
+    ensures ends { EndsOver R.Read reader W.Write writer EndsWitness result }
     ensures limited { LosesUpTo (MOST_BYTES + 1) (R.remaining reader.old) (R.remaining reader.new) }
 {
     let witnessed = witness(alloc, reader)?;
@@ -93,9 +90,7 @@ fn is_breach(witnessed: &Witnessed) -> bool
 }
 
 fn put_witnessed<W: Write>(writer: &mut W, witnessed: &Witnessed) -> Result<(), WriteFault>
-    ensures { Puts (W.contents writer.old) (W.contents writer.new)
-        (answer_text (names_in (scenario_of (scenario_in witnessed.now))) (answer_in witnessed.now))
-        result }
+    ensures { Writes W.Write writer (witnessed_text witnessed.now) result }
 {
     match witnessed {
         Witnessed::Accepted(verified) => {
@@ -110,8 +105,7 @@ fn put_search<W: Write>(
     scenario: &Scenario,
     search: &Finding,
 ) -> Result<(), WriteFault>
-    ensures { Puts (W.contents writer.old) (W.contents writer.new)
-        (search_text (names_in (scenario_of scenario.now)) search.now) result }
+    ensures { Writes W.Write writer (search_text (names_under scenario.now) search.now) result }
 {
     match search {
         Finding::Found { breach, is_told } => write_witness(writer, scenario, breach, *is_told),
@@ -122,8 +116,8 @@ fn put_search<W: Write>(
 // That nothing was found among so many worlds, and the bound that was met.
 #[tactic(auto, unfolding(pr_report::specs::Printed::printed_word))]
 fn put_none<W: Write>(writer: &mut W, worlds: usize, bound: Option<Bound>) -> Result<(), WriteFault>
-    ensures { Puts (W.contents writer.old) (W.contents writer.new)
-        (line (codes "none") (decimal worlds ∷ bound_words bound)) result }
+    ensures { Writes W.Write writer (line (codes "none") (decimal worlds ∷ bound_words bound))
+        result }
 {
     let first = Word::Text(b"none");
     let worlds = Word::Number(worlds as u64);

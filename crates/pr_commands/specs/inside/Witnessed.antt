@@ -5,11 +5,12 @@ use Rattle.pr_roles.specs.Scenarios.{scenario_of}
 use Rattle.pr_text.specs.declared.fault.ReadError.TheVariants as input
 use Rattle.pr_text.specs.Texts.{answer_of}
 use Rattle.pr_text.specs.Reading.{IsWrittenAs}
+use Rattle.pr_report.specs.TraceText.{names_under}
 use Rattle.pr_commands.specs.declared.witnesses.Witnessed.{Witnessed}
 use Rattle.pr_commands.specs.declared.witnesses.Witnessed.TheVariants as witnessed
 use Rattle.pr_commands.specs.declared.fault.Fault.{Fault}
 use Rattle.pr_commands.specs.declared.fault.Fault.TheVariants as fault
-use Rattle.pr_commands.specs.Witnesses.{Answer, accepted, searched, Holds}
+use Rattle.pr_commands.specs.Witnesses.{Answer, accepted, searched, Holds, answer_text}
 
 abbrev pub scenario_in : Witnessed → Parts
 scenario_in (witnessed.Accepted verified) = verified
@@ -18,6 +19,9 @@ scenario_in (witnessed.Searched scenario search) = scenario
 abbrev pub answer_in : Witnessed → Answer
 answer_in (witnessed.Accepted verified) = accepted
 answer_in (witnessed.Searched scenario search) = searched search
+
+abbrev pub witnessed_text : Witnessed → List ℕ
+witnessed_text w = answer_text (names_under (scenario_in w)) (answer_in w)
 
 abbrev pub Stands : Witnessed → Type 0
 Stands w = Holds (answer_in w) (scenario_of (scenario_in w))
