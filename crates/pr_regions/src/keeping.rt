@@ -8,12 +8,11 @@ ghost use Rattle.pr_views.specs.Possibilities.{count_of_reservations};
 ghost use Rattle.pr_regions.specs.Keeping.{IsKeptOf};
 ghost use Rattle.pr_regions.specs.inside.Showing.{AddsShown, IsShownOf, ShowsNone};
 
-use crate::numbers::count_of_reservations;
 use crate::place::Place;
 use crate::region::Region;
 use crate::words::every_key;
 use pr_sets::{Wide, Word};
-use pr_views::{MOST_REGISTRATIONS, Possibilities};
+use pr_views::{MOST_REGISTRATIONS, Possibilities, count_of_reservations};
 
 /// The view without the possibilities that none of the states that it shows has.
 pub fn kept(hosts: u8, view: &Possibilities) -> Possibilities

@@ -82,11 +82,3 @@ pub fn reservation_at(hosts: u8, number: u8) -> Option<Held>
         Some(Held::All(shared_kind(place - first_shared)))
     }
 }
-
-/// How many reservations there can be.
-pub fn count_of_reservations(hosts: u8) -> u8
-    requires { hosts ≤ MOST_NEXUSES }
-    ensures { result ≡ count_of_reservations hosts }
-{
-    hosts * 4 + 3
-}

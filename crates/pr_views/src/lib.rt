@@ -10,5 +10,5 @@ pub use portion::Portion;
 pub use possibilities::Possibilities;
 pub use view::{
     ATTENTION_SETS, MOST_REGISTRATIONS, POWER_ON_BIT, REGISTRATIONS_PREEMPTED_BIT,
-    RESERVATIONS_PREEMPTED_BIT, RESERVATIONS_RELEASED_BIT, View, ViewOf,
+    RESERVATIONS_PREEMPTED_BIT, RESERVATIONS_RELEASED_BIT, View, ViewOf, count_of_reservations,
 };

@@ -184,8 +184,8 @@ fn count_of_registrations(keys: &[u64]) -> u8
     keys.len() as u8 + 1
 }
 
-// How many reservations there can be.
-fn count_of_reservations(hosts: u8) -> u8
+/// How many reservations there can be.
+pub fn count_of_reservations(hosts: u8) -> u8
     requires { hosts ≤ MOST_NEXUSES }
     ensures { result ≡ count_of_reservations hosts }
 {
