@@ -1,6 +1,5 @@
-use Rattle.std.proofs.Common.{[], ◌∷◌, length, sym, ap, ◌∙◌, arith, inl, inr, length-append}
+use Rattle.pr_report.proofs.Common.{[], ◌∷◌, length, sym, ap, ◌∙◌, inl, inr, arith, length-append, pairs_in}
 use Rattle.pr_report.proofs.lemmas.EntryWords.PairBytes.{bytes_none, next_pair, no_bytes, no_pair_there, none_left, onto_none, some_left}
-use Rattle.pr_report.specs.EntryWords.{pairs_in}
 use Rattle.pr_report.proofs.lemmas.EntryWords.PairBytes.{onto}
 use Rattle.pr_report.proofs.entry_reading.bytes_into.Goals as goal
 use Rattle.pr_report.proofs.entry_reading.bytes_into.Goals.{then-is_empty-via-then-is_empty, then-is_empty-via-else-is_empty+then-pairs-most, then-is_empty-via-else-is_empty+else-pairs-most+then-not-is_empty}

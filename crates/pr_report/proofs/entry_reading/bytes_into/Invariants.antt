@@ -1,6 +1,5 @@
 -- what the pairs so far write stands in front of what the others write
-use Rattle.std.proofs.Common.{◌≡◌, ◌*◌, length, drop}
-use Rattle.pr_report.specs.EntryWords.{pairs_in}
+use Rattle.pr_report.proofs.Common.{◌≡◌, ◌*◌, length, drop, pairs_in}
 use Rattle.pr_report.proofs.lemmas.EntryWords.PairBytes.{onto}
 use Rattle.pr_report.proofs.entry_reading.bytes_into.Given as goal
 

@@ -1,5 +1,4 @@
-use Rattle.std.proofs.Common.{◌∙◌, ◌++◌, ap, codes}
-use Rattle.std.specs.Prelude.{bytes_eq}
+use Rattle.pr_report.proofs.Common.{◌++◌, codes, bytes_eq, ap, ◌∙◌}
 use Rattle.std.proofs.lemmas.Bool.Decides.{Decides-eqb}
 use Rattle.std.proofs.lemmas.Slice.Eq.{strip_prefix_is}
 use Rattle.pr_report.proofs.lemmas.TraceReadings.EntryLines.{no_rest, by_rest}

@@ -1,4 +1,4 @@
-use Rattle.std.proofs.Common.{sym, ap, ◌∙◌}
+use Rattle.pr_report.proofs.Common.{sym, ap, ◌∙◌}
 use Rattle.std.proofs.lemmas.List.{take_rest}
 use Rattle.pr_report.specs.inside.SevenWords.{words_left}
 use Rattle.pr_report.proofs.lemmas.TraceReadings.Cuts.{words_first, words_last}

@@ -1,5 +1,5 @@
 -- A place among the nexuses is one among their names.
-use Rattle.std.proofs.Common.{sym, ◌∙◌}
+use Rattle.pr_report.proofs.Common.{sym, ◌∙◌}
 use Rattle.pr_report.proofs.lemmas.TraceReadings.NexusNames.{place_in_names}
 use Rattle.pr_report.proofs.entry_reading.number_of.Goals as goal
 

@@ -1,5 +1,4 @@
-use Rattle.std.proofs.Common.{refl}
-use Rattle.pr_report.specs.TraceText.{names_of}
+use Rattle.pr_report.proofs.Common.{refl, names_of}
 use Rattle.pr_report.proofs.lemmas.TraceReadings.EntryLines.{not_seven}
 use Rattle.pr_report.proofs.entry_reading.sent_on.Goals as goal
 

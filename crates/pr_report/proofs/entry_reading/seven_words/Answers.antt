@@ -1,4 +1,4 @@
-use Rattle.std.proofs.Common.{sym, ◌∙◌}
+use Rattle.pr_report.proofs.Common.{sym, ◌∙◌}
 use Rattle.pr_report.proofs.lemmas.TraceReadings.Cuts.{some_left, too_many}
 use Rattle.pr_report.proofs.entry_reading.seven_words.Goals as goal
 

@@ -1,12 +1,9 @@
 -- How many bytes are taken in several steps.
-use Rattle.std.proofs.Common.{◌≡◌, ℕ, ◌+◌, ◌≤◌, List, [], ◌++◌, length, drop, Option, arith, length-append, length-drop, ap, subst}
-use Rattle.std.specs.Io.KnownBytes.{Keeps}
+use Rattle.pr_report.proofs.Common.{◌≡◌, ℕ, ◌+◌, ◌≤◌, List, [], ◌++◌, length, drop, Option, ap, subst, arith, length-append, length-drop, Keeps, bytes_of_lines, most_items, bytes_held, Takes}
 use Rattle.std.proofs.KnownBytes.{Consumes-nil, Consumes-trans, Consumes-kept}
-use Rattle.pr_report.specs.BytesTaken.{LosesUpTo, bytes_of_lines, most_of_trace}
-use Rattle.pr_report.specs.Versions.{most_items}
+use Rattle.pr_report.specs.BytesTaken.{LosesUpTo, most_of_trace}
 use Rattle.pr_report.specs.declared.ahead.TheConstants.{MOST_HELD}
 use Rattle.pr_report.specs.declared.trace_reading.TheConstants.{MOST_LATER_LINES}
-use Rattle.pr_report.specs.inside.LinesAhead.{Takes, bytes_held}
 use Rattle.pr_report.specs.declared.ahead.Ahead.{Ahead}
 
 -- nothing is taken

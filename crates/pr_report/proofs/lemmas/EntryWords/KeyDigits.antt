@@ -1,7 +1,7 @@
 -- The hexadecimal digits of a number, one after another.
-use Rattle.std.proofs.Common.{◌≡◌, ℕ, zero, suc, ◌+◌, ◌/◌, ◌%◌, ◌^◌, ◌<◌, ◌≤◌, false, cond, List, [], ◌∷◌, ◌++◌, refl, sym, ap, ◌∙◌, length, subst, append_assoc, arith, ⊎_elim}
-use Rattle.std.proofs.lemmas.Bool.{eq-eqb, ne_eqb, cases_lt}
-use Rattle.std.specs.Fmt.{digits, digits_onto, digit_glyph}
+use Rattle.pr_report.proofs.Common.{◌≡◌, ℕ, zero, suc, ◌+◌, ◌/◌, ◌%◌, ◌<◌, ◌≤◌, false, cond, List, [], ◌∷◌, ◌++◌, length, sym, refl, ap, ◌∙◌, subst, append_assoc, arith, ne_eqb, digit_glyph, digits_onto, digits, cases_lt}
+use Rattle.std.proofs.Common.{◌^◌, ⊎_elim}
+use Rattle.std.proofs.lemmas.Bool.{eq-eqb}
 
 abbrev spell : ℕ → ℕ → List ℕ → List ℕ
 spell k n acc = digits_onto k 16 false n acc

@@ -1,10 +1,9 @@
 -- Bytes that pairs of digits write.
-use Rattle.std.specs.Prelude.{◌≡◌, ◌==◌, ℕ, zero, suc, ◌+◌, ◌*◌, ◌/◌, ◌<◌, ◌≤◌, nat_lt, nat_le, ◌&&◌, true, false, cond, List, [], ◌∷◌, ◌++◌, length, Option, Some, None, option_map, bytes_eq, codes}
+use Rattle.pr_report.proofs.Common.{◌≡◌, ℕ, zero, suc, ◌+◌, ◌*◌, ◌/◌, ◌<◌, ◌≤◌, true, false, cond, ◌&&◌, List, [], ◌∷◌, ◌++◌, length, get_or, take, drop, nat_lt, nat_le, ◌==◌, Some, None, codes, Option, bytes_eq, sym, refl, ap, ◌∙◌, inl, inr, append_assoc, arith, length-drop, nat_tests, pairs_in}
 use Rattle.std.specs.Simd.{first_chunks}
-use Rattle.std.proofs.Common.{refl, sym, ap, ◌∙◌, arith, ◌⊎◌, inl, inr, take, drop, drop-drop, get_or, append_assoc, length-drop}
-use Rattle.std.proofs.lemmas.Bool.Decides.{nat_tests}
+use Rattle.std.proofs.Common.{◌⊎◌, drop-drop, option_map}
 use Rattle.pr_report.specs.Chain.{◌>>=◌}
-use Rattle.pr_report.specs.EntryWords.{byte_in, pairs_in, bytes_in}
+use Rattle.pr_report.specs.EntryWords.{byte_in, bytes_in}
 
 -- what stands in front of the bytes that the other pairs write
 abbrev pub onto : List ℕ → Option (List ℕ) → Option (List ℕ)

@@ -1,20 +1,11 @@
 -- What is read of the line in front, of which the end may not be at hand.
-use Rattle.std.proofs.Common.{◌≡◌, ℕ, ◌+◌, ◌-◌, ◌<◌, ◌≤◌, Bool, true, false, List, [], ◌∷◌, ◌++◌, length, take, drop, refl, sym, ap, ◌∙◌, arith, append_assoc, append-nil, length-append, length-take, inl, inr, subst}
-use Rattle.std.specs.Prelude.{◌==◌, ◌&&◌, if◌then◌else◌, nat_lt, nat_le, bytes_eq, codes, Option, Some, None, Result, Ok, Err, IfSome}
-use Rattle.std.specs.Fmt.{decimal}
-use Rattle.std.specs.Io.KnownBytes.{Keeps, prepend_known}
-use Rattle.std.proofs.lemmas.Bool.{cases_lt}
-use Rattle.std.proofs.lemmas.Bool.Decides.{nat_tests}
+use Rattle.pr_report.proofs.Common.{◌≡◌, ℕ, ◌+◌, ◌-◌, ◌<◌, ◌≤◌, Bool, true, false, ◌&&◌, List, [], ◌∷◌, ◌++◌, length, take, drop, IfSome, if◌then◌else◌, nat_lt, nat_le, ◌==◌, Some, None, Ok, Err, codes, decimal, Option, Result, bytes_eq, sym, refl, ap, ◌∙◌, subst, inl, inr, append_assoc, append-nil, arith, length-append, length-take, prepend_known, Keeps, cases_lt, nat_tests, bytes_eq-Decides, Item, and_then, later_lines, items_of, trace_in, lines, item_on, is_later, first_line, most_items, Leads}
 use Rattle.std.proofs.lemmas.List.{take-take}
-use Rattle.std.proofs.lemmas.Slice.Eq.{bytes_eq-Decides}
-use Rattle.pr_roles.specs.declared.item.Item.{Item}
 use Rattle.pr_report.specs.declared.trace_error.TraceError.{TraceError}
 use Rattle.pr_report.specs.declared.trace_error.TraceError.TheVariants.{Syntax, TooLong, ReadFault, Memory}
-use Rattle.pr_report.specs.TraceText.{first_line}
 use Rattle.pr_report.specs.declared.versions.TheConstants.{MOST_ITEMS_1, MOST_ITEMS_2}
-use Rattle.pr_report.specs.Versions.{most_items}
-use Rattle.pr_report.specs.TraceReadings.{Faults, and_then, items_of, item_on, is_later, later_lines, lines, trace_in}
-use Rattle.pr_report.specs.inside.LinesAhead.{Between, FindsLine, FirstRead, IsFront, ItemsRead, Leads, StandsInFront}
+use Rattle.pr_report.specs.TraceReadings.{Faults}
+use Rattle.pr_report.specs.inside.LinesAhead.{Between, FindsLine, FirstRead, IsFront, ItemsRead, StandsInFront}
 use Rattle.pr_report.proofs.lemmas.TraceReadings.SolidWords.{digits_word}
 
 -- ---- faults

@@ -1,9 +1,6 @@
 -- The first byte that passes a test, as the kit's search of bytes finds it.
-use Rattle.std.specs.Prelude.{◌≡◌, ◌<◌, ℕ, Bool, true, false, nat_lt, List, length, position, Option, Some, None, cond}
-use Rattle.std.specs.List.{position_or_len}
-use Rattle.std.proofs.Common.{refl, sym, ap, ◌∙◌, arith, get_or}
+use Rattle.pr_report.proofs.Common.{◌≡◌, ℕ, ◌<◌, Bool, true, false, cond, List, length, get_or, nat_lt, Some, None, Option, position, sym, refl, ap, ◌∙◌, arith, position_or_len, nat_tests}
 use Rattle.std.proofs.lemmas.List.Sums.{position_or_len_is}
-use Rattle.std.proofs.lemmas.Bool.Decides.{nat_tests}
 use Rattle.memchr.specs.Find.{IsFirstByte}
 
 fails : (b : Bool) → ((b ≡ true) → ⊥) → b ≡ false

@@ -1,15 +1,13 @@
 -- The line in front of what is left, of which only some is at hand.
-use Rattle.std.proofs.Common.{◌≡◌, ℕ, ◌+◌, ◌<◌, ◌≤◌, Bool, true, false, List, [], ◌∷◌, ◌++◌, length, take, drop, get_or, refl, sym, ap, ◌∙◌, arith, subst, suc, append_assoc, append-nil, length-take, length-append, get_or-take, take-append-drop}
-use Rattle.std.specs.Prelude.{◌==◌, nat_lt, if◌then◌else◌, position, Option, Some, None, IfSome}
+use Rattle.pr_report.proofs.Common.{◌≡◌, ℕ, suc, ◌+◌, ◌<◌, ◌≤◌, Bool, true, false, List, [], ◌∷◌, ◌++◌, length, get_or, take, drop, IfSome, if◌then◌else◌, nat_lt, ◌==◌, Some, None, All, Option, position, sym, refl, ap, ◌∙◌, subst, append_assoc, append-nil, arith, length-append, length-take, ne_eqb, prepend_known, Keeps, slice_split, nat_tests, length-slice_split, lines}
+use Rattle.std.proofs.Common.{get_or-take, take-append-drop}
 use Rattle.std.specs.Option.{option_or}
-use Rattle.std.specs.List.{All, onto_first, slice_split}
-use Rattle.std.specs.Io.KnownBytes.{IsAtEnd, Keeps, prepend_known}
-use Rattle.std.proofs.lemmas.Bool.{ne_eqb}
-use Rattle.std.proofs.lemmas.Bool.Decides.{nat_tests}
+use Rattle.std.specs.List.{onto_first}
+use Rattle.std.specs.Io.KnownBytes.{IsAtEnd}
 use Rattle.std.proofs.lemmas.List.{take_all, take_at, drop_all, drop_more}
 use Rattle.std.proofs.lemmas.List.Quantifiers.{position-Some}
-use Rattle.std.proofs.lemmas.List.Splits.{length-slice_split, slice_split_at, slice_split-cons_no}
-use Rattle.pr_report.specs.TraceReadings.{lines, lines_of_parts}
+use Rattle.std.proofs.lemmas.List.Splits.{slice_split_at, slice_split-cons_no}
+use Rattle.pr_report.specs.TraceReadings.{lines_of_parts}
 use Rattle.pr_report.specs.inside.LinesAhead.{FindsLine, IsFront, StandsInFront, line_end}
 use Rattle.pr_report.proofs.lemmas.TraceReadings.Cuts.{none_passes, missing_at}
 

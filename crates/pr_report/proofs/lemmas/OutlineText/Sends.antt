@@ -1,28 +1,19 @@
 -- Outlines go out one send after another.
-use Rattle.std.proofs.Common.{Bool, false, codes, Some, ◌≡◌, ℕ, ◌+◌, ◌<◌, ◌≤◌, List, [], ◌∷◌, ◌++◌, Option, Result, Ok, Err, take, length, drop, get_or, map, refl, sym, ap, ◌∙◌, subst, append-nil}
+use Rattle.pr_report.proofs.Common.{◌≡◌, ℕ, ◌+◌, ◌<◌, ◌≤◌, Bool, false, List, [], ◌∷◌, ◌++◌, map, length, get_or, take, drop, slice_get, Some, Ok, Err, codes, filter, Option, Result, sym, refl, ap, ◌∙◌, subst, append-nil, drop_of_length-le, range_with_len, scenario_of, Parts, key_at, view_of, row_of, free_or_key, sends_text, registration_line, send_text, joined_by_spaces, names_in, names_of, name_of, Wrote, FallsShort, Puts}
 use Rattle.std.specs.Bool.{OnFalse, OnTrue}
 use Rattle.std.specs.Result.{is_ok}
 use Rattle.std.specs.FinSet as set
-use Rattle.std.specs.List.{filter, range_with_len, slice_get}
 use Rattle.std.specs.Option.{option_map_or}
 use Rattle.std.proofs.lemmas.List.{take_at}
-use Rattle.std.proofs.Math.ListN.{drop_of_length-le}
 use Rattle.pr_roles.specs.declared.parts.Nexus.{Nexus as NexusPart}
-use Rattle.pr_roles.specs.declared.parts.Parts.{Parts}
-use Rattle.pr_roles.specs.Scenarios.{scenario_of}
 use Rattle.pr_sets.specs.Numbers.{Numbers}
 use Rattle.pr_sets.specs.declared.view_set.ViewSet.{Ghosts as ViewSet}
 use Rattle.pr_views.specs.declared.view.ViewOf.{ViewOf}
-use Rattle.pr_views.specs.Possibilities.{key_at}
 use Rattle.pr_views.specs.Views.{View}
-use Rattle.pr_views.specs.Rooms.{contains_at, view_of}
+use Rattle.pr_views.specs.Rooms.{contains_at}
 use Rattle.pr_verify.specs.declared.table.Row.{Row as KeptRow}
 use Rattle.pr_verify.specs.Tables.{Table}
-use Rattle.pr_verify.specs.Rooms.{row_of}
-use Rattle.pr_report.specs.Written.{Wrote, FallsShort, Puts}
-use Rattle.pr_report.specs.PrintedLines.{joined_by_spaces}
-use Rattle.pr_report.specs.TraceText.{name_of, names_in, names_of}
-use Rattle.pr_report.specs.OutlineText.{free_or_key, outlines_text, registration_line, send_text, sends_text}
+use Rattle.pr_report.specs.OutlineText.{outlines_text}
 use Rattle.pr_report.proofs.lemmas.Written.Fronts.{held_front, held_more}
 use Rattle.pr_report.proofs.lemmas.Written.Possibilities.{line_pieces, shown}
 use Rattle.pr_report.proofs.lemmas.TraceText.Lines.{drop_here, names_of_scenario}

@@ -1,10 +1,6 @@
 -- Items that were written are read back.
-use Rattle.std.proofs.Common.{◌≡◌, ℕ, zero, suc, ◌+◌, ◌<◌, ◌≤◌, ◌/◌, ◌%◌, eqb, add-zero, true, false, cond, List, [], ◌∷◌, ◌++◌, length, refl, sym, ap, ◌∙◌, arith, append_assoc, length-append}
-use Rattle.std.specs.Prelude.{Bool, ◌&&◌, bytes_eq, codes, nat_lt, Some, Ok}
-use Rattle.std.specs.Fmt.{decimal, digits, digits_onto, digit_glyph}
-use Rattle.std.proofs.lemmas.Bool.{ne_eqb}
-use Rattle.std.proofs.lemmas.Slice.Eq.{bytes_eq-Decides}
-use Rattle.std.proofs.lemmas.Bool.Decides.{nat_tests}
+use Rattle.pr_report.proofs.Common.{◌≡◌, ℕ, zero, suc, ◌+◌, ◌/◌, ◌%◌, ◌<◌, ◌≤◌, Bool, true, false, cond, ◌&&◌, List, [], ◌∷◌, ◌++◌, length, nat_lt, Some, Ok, codes, decimal, bytes_eq, sym, refl, ap, ◌∙◌, append_assoc, arith, length-append, ne_eqb, digit_glyph, digits_onto, digits, nat_tests, bytes_eq-Decides, Item, pairs_or_dash, joined_by_spaces, and_then, items_of, lines, words, item_on, is_later, name_of, item_lines, most_items}
+use Rattle.std.proofs.Common.{eqb, add-zero}
 use Rattle.pr_cdb.specs.declared.codes.TheConstants.{MOST_DATA_LENGTH}
 use Rattle.pr_cdb.specs.declared.reply.Reply.{Reply}
 use Rattle.pr_cdb.specs.declared.reply.Status.{Status}
@@ -12,15 +8,13 @@ use Rattle.pr_cdb.specs.declared.reply.Status.TheVariants.{Good}
 use Rattle.pr_cdb.specs.declared.wire.Wire.{Wire}
 use Rattle.pr_cdb.specs.Requests.{AreBytes}
 use Rattle.pr_roles.specs.declared.entry.Entry.{Entry}
-use Rattle.pr_roles.specs.declared.item.Item.{Item}
 use Rattle.pr_roles.specs.declared.item.Item.TheVariants.{Sent, Reset}
 use Rattle.pr_roles.proofs.lemmas.Starts.AllowedStarts.{most_fits}
-use Rattle.pr_report.specs.PrintedLines.{pairs_or_dash, joined_by_spaces}
-use Rattle.pr_report.specs.Versions.{has_resets, has_status, most_data, most_items}
-use Rattle.pr_report.specs.TraceText.{entry_line, item_line, item_lines, name_of, reset_line, sense_data, status_word}
+use Rattle.pr_report.specs.Versions.{has_resets, has_status, most_data}
+use Rattle.pr_report.specs.TraceText.{entry_line, item_line, reset_line, sense_data, status_word}
 use Rattle.pr_report.specs.TraceLaws.{HasSense, IsEntry, IsItem}
 use Rattle.pr_report.specs.EntryWords.{exchange_in, reply_in, wire_in}
-use Rattle.pr_report.specs.TraceReadings.{and_then, items_of, item_on, entry_on, is_later, is_reset_on, lines, words}
+use Rattle.pr_report.specs.TraceReadings.{entry_on, is_reset_on}
 use Rattle.pr_report.proofs.lemmas.TraceReadings.SolidWords.{solid_by, AreSolid, IsWord, bare, bytes_word, digits_word, line_back, spaced_none, spaced_word, words_back}
 use Rattle.pr_report.proofs.lemmas.TraceLaws.Words.{bytes_back, data_are_bytes, data_short, same_bytes, sense_back, status_back}
 use Rattle.pr_report.proofs.lemmas.TraceReadings.ScenarioNames.{AreNames, name_of_word, number_back}

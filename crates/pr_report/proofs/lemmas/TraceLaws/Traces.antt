@@ -1,23 +1,18 @@
 -- The text of a trace is read back.
-use Rattle.std.proofs.Common.{◌≡◌, ℕ, suc, ◌+◌, ◌*◌, ◌^◌, ◌<◌, ◌≤◌, true, false, List, [], ◌∷◌, ◌++◌, length, refl, sym, ap, ◌∙◌, arith, append_assoc, append-nil, length-append, subst}
-use Rattle.std.specs.Prelude.{nat_le, codes, Option, Some, None, Ok, slice_index}
-use Rattle.std.specs.Fmt.{decimal}
+use Rattle.pr_report.proofs.Common.{◌≡◌, ℕ, suc, ◌+◌, ◌*◌, ◌<◌, ◌≤◌, true, false, List, [], ◌∷◌, ◌++◌, length, nat_le, slice_index, Some, None, Ok, codes, decimal, All, Option, sym, refl, ap, ◌∙◌, subst, append_assoc, append-nil, arith, length-append, nat_tests, MOST_NEXUSES, Held, One, Item, joined_by_spaces, line, and_then, later_lines, items_of, trace_in, lines, is_later, names_in, name_of, item_lines, held_word, ending_lines, first_line, unit_line}
+use Rattle.std.proofs.Common.{◌^◌}
 use Rattle.std.specs.Int.{w32, to_be_bytes}
-use Rattle.std.specs.List.{All, AllByRecursion}
-use Rattle.std.proofs.lemmas.Bool.Decides.{nat_tests}
+use Rattle.std.specs.List.{AllByRecursion}
 use Rattle.std.proofs.lemmas.List.Elements.{recursion_from_All}
-use Rattle.pr_registry.specs.declared.held.Held.{Held}
-use Rattle.pr_registry.specs.declared.held.Held.TheVariants.{One, All as Everybody}
+use Rattle.pr_registry.specs.declared.held.Held.TheVariants.{All as Everybody}
 use Rattle.pr_report.proofs.lemmas.EntryWords.KeyDigits.{key_short}
 use Rattle.pr_registry.specs.Registrations.{IsWellFormed, State, key_of}
 use Rattle.pr_cdb.specs.Kinds.{code_of}
-use Rattle.pr_cdb.specs.declared.codes.TheConstants.{MOST_NEXUSES}
-use Rattle.pr_roles.specs.declared.item.Item.{Item}
 use Rattle.pr_world.specs.Ends.{Ending, stops, waits, traps, leaves}
-use Rattle.pr_report.specs.PrintedLines.{generation_word, key_or_dash, line, registration_word, joined_by_spaces}
-use Rattle.pr_report.specs.TraceText.{ending_line, ending_lines, item_lines, first_line, held_word, name_of, names_in, registration_words, unit_line}
+use Rattle.pr_report.specs.PrintedLines.{generation_word, key_or_dash, registration_word}
+use Rattle.pr_report.specs.TraceText.{ending_line, registration_words}
 use Rattle.pr_report.specs.TraceLaws.{IsEnding, IsItem, WrittenTracesAreRead}
-use Rattle.pr_report.specs.TraceReadings.{and_then, items_of, is_later, later_lines, lines, trace_in, trace_of}
+use Rattle.pr_report.specs.TraceReadings.{trace_of}
 use Rattle.pr_report.proofs.lemmas.LinesAhead.EntriesInFront.{entries_later, lines_none}
 use Rattle.pr_report.proofs.lemmas.TraceReadings.SolidWords.{is_solid, solid_by, AreSolid, IsWord, bare, bare_back, digits_word, line_back, pairs_word, spaced_none, spaced_word, word_both}
 use Rattle.pr_report.proofs.lemmas.TraceLaws.Words.{same_bytes}

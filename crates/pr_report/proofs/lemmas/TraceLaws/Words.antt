@@ -1,20 +1,14 @@
 -- Words that were written are read back.
-use Rattle.std.proofs.Common.{◌≡◌, ℕ, zero, suc, ◌+◌, ◌<◌, ◌≤◌, ◌/◌, ◌%◌, true, false, List, [], ◌∷◌, length, refl, ap, arith, inl, inr}
-use Rattle.std.specs.Prelude.{nat_le, codes, bytes_eq, slice_index, Option, Some, None}
-use Rattle.std.specs.Fmt.{digit_glyph}
-use Rattle.std.proofs.lemmas.Bool.{cases_lt, ne_eqb}
-use Rattle.std.proofs.lemmas.Bool.Decides.{nat_tests}
-use Rattle.std.proofs.lemmas.Slice.Eq.{bytes_eq-Decides}
+use Rattle.pr_report.proofs.Common.{◌≡◌, ℕ, zero, suc, ◌+◌, ◌/◌, ◌%◌, ◌<◌, ◌≤◌, true, false, List, [], ◌∷◌, length, nat_le, slice_index, Some, None, codes, Option, bytes_eq, refl, ap, inl, inr, arith, ne_eqb, digit_glyph, cases_lt, nat_tests, bytes_eq-Decides, pairs_in, pairs_or_dash, pairs}
 use Rattle.pr_cdb.specs.declared.reply.Sense.{Sense}
 use Rattle.pr_cdb.specs.declared.reply.Status.{Status}
 use Rattle.pr_cdb.specs.declared.reply.Status.TheVariants.{Good, CheckCondition, Conflict, Busy, TaskFull}
 use Rattle.pr_cdb.specs.Requests.{AreBytes}
 use Rattle.pr_cdb.specs.ReplyData.{sense_bytes, sense_in}
-use Rattle.pr_report.specs.PrintedLines.{pairs, pairs_or_dash}
 use Rattle.pr_report.specs.Versions.{has_status}
 use Rattle.pr_report.specs.TraceText.{sense_data, status_word}
 use Rattle.pr_report.specs.TraceLaws.{HasSense}
-use Rattle.pr_report.specs.EntryWords.{byte_in, bytes_in, pairs_in, sense_under, status_in, worth}
+use Rattle.pr_report.specs.EntryWords.{byte_in, bytes_in, sense_under, status_in, worth}
 use Rattle.pr_report.proofs.lemmas.EntryWords.PairBytes.{bytes_all, bytes_dash}
 
 pub same_bytes : (w : List ℕ) → bytes_eq w w ≡ true

@@ -1,13 +1,9 @@
 -- Where the first part of a text ends.
-use Rattle.std.proofs.Common.{◌≡◌, ℕ, ◌+◌, ◌<◌, ◌≤◌, Bool, true, false, cond, List, [], ◌∷◌, length, take, drop, ap, arith, ltb, subst}
-use Rattle.std.specs.Prelude.{◌==◌, position, Option, Some, None, is_some}
+use Rattle.pr_report.proofs.Common.{◌≡◌, ℕ, ◌+◌, ◌<◌, ◌≤◌, Bool, true, false, cond, List, [], ◌∷◌, length, take, drop, ◌==◌, Some, None, All, Option, position, ap, subst, arith, ne_eqb, position_or_len, slice_split, nat_tests, length-slice_split, words}
+use Rattle.std.proofs.Common.{ltb, is_some}
 use Rattle.std.specs.Borrow.{Bor}
-use Rattle.std.specs.List.{All, slice_split, position_or_len}
-use Rattle.std.proofs.lemmas.Bool.Decides.{nat_tests}
-use Rattle.std.proofs.lemmas.List.Splits.{slice_split_first, slice_split_none, length-slice_split}
+use Rattle.std.proofs.lemmas.List.Splits.{slice_split_first, slice_split_none}
 use Rattle.std.proofs.lemmas.List.Sums.{fails_before_first}
-use Rattle.std.proofs.lemmas.Bool.{ne_eqb}
-use Rattle.pr_report.specs.TraceReadings.{words}
 use Rattle.pr_report.specs.inside.SevenWords.{words_left}
 
 found_at : (n m i : ℕ) → cond (ltb n m) (Some n) None ≡ Some i → (n ≡ i) × (n < m)

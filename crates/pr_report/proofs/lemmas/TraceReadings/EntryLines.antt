@@ -1,12 +1,11 @@
 -- The lines of entries.
-use Rattle.std.specs.Prelude.{◌≡◌, ◌≢◌, ◌==◌, ℕ, ◌+◌, ◌++◌, Bool, true, false, List, length, Err, bytes_eq}
-use Rattle.std.proofs.Common.{refl, sym, ap, ◌∙◌}
+use Rattle.pr_report.proofs.Common.{◌≡◌, ℕ, ◌+◌, Bool, true, false, List, ◌++◌, length, ◌==◌, Err, bytes_eq, sym, refl, ap, ◌∙◌, bytes_eq-Decides, words}
+use Rattle.std.specs.Prelude.{◌≢◌}
 use Rattle.std.proofs.lemmas.Bool.{false≢true}
 use Rattle.std.proofs.lemmas.List.{append_cancel_left}
-use Rattle.std.proofs.lemmas.Slice.Eq.{bytes_eq-Decides}
 use Rattle.pr_report.specs.declared.trace_error.TraceError.TheVariants.{Syntax}
 use Rattle.pr_report.specs.EntryWords.{exchange_in}
-use Rattle.pr_report.specs.TraceReadings.{entry_on, words}
+use Rattle.pr_report.specs.TraceReadings.{entry_on}
 
 -- a line that does not have seven words
 pub not_seven : (version : ℕ) (names : List (List ℕ)) (index : ℕ) (line : List ℕ) → (length (words line) == 7) ≡ false

@@ -1,10 +1,8 @@
 -- Nexuses by their names.
-use Rattle.std.specs.Prelude.{◌≡◌, ℕ, ◌+◌, List, [], ◌∷◌, position, bytes_eq, cond, Some}
+use Rattle.pr_report.proofs.Common.{◌≡◌, ℕ, ◌+◌, cond, List, [], ◌∷◌, Some, position, bytes_eq, sym, refl, ap, ◌∙◌, names_of}
 use Rattle.std.specs.List.{position_from}
-use Rattle.std.proofs.Common.{refl, sym, ap, ◌∙◌}
 use Rattle.std.proofs.lemmas.Iterator.Adapters.{position_from-zero}
 use Rattle.pr_roles.specs.declared.parts.Nexus.{Nexus}
-use Rattle.pr_report.specs.TraceText.{names_of}
 use Rattle.pr_report.specs.TraceReadings.{number_of}
 
 from_names : (w : List ℕ) (n : ℕ) (ns : List Nexus)

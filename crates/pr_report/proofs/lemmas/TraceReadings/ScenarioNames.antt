@@ -1,18 +1,14 @@
 -- The names of a scenario, as words of a trace.
-use Rattle.std.proofs.Common.{◌≡◌, ℕ, zero, suc, ◌<◌, ◌≤◌, Bool, true, false, List, [], ◌∷◌, length, get_or, map, refl, sym, arith, inl, inr, subst}
-use Rattle.std.specs.Prelude.{◌==◌, ◌&&◌, ◌||◌, not, nat_lt, nat_le, bytes_eq, Some, None, cond}
-use Rattle.std.specs.List.{list_all, list_any, position_or_len}
-use Rattle.std.proofs.lemmas.Bool.{and_parts, cases_lt, lt-ltb}
-use Rattle.std.proofs.lemmas.Bool.Decides.{nat_tests}
+use Rattle.pr_report.proofs.Common.{◌≡◌, ℕ, zero, suc, ◌<◌, ◌≤◌, Bool, true, false, cond, ◌&&◌, List, [], ◌∷◌, map, length, get_or, nat_lt, nat_le, ◌==◌, Some, None, bytes_eq, sym, refl, subst, inl, inr, arith, position_or_len, cases_lt, nat_tests, bytes_eq-Decides, MOST_NEXUSES, names_in, name_of}
+use Rattle.std.specs.Prelude.{◌||◌, not}
+use Rattle.std.specs.List.{list_all, list_any}
+use Rattle.std.proofs.lemmas.Bool.{and_parts, lt-ltb}
 use Rattle.std.proofs.lemmas.List.{get_or_past, length-map}
 use Rattle.std.proofs.lemmas.List.Sums.{position_or_len_is}
-use Rattle.std.proofs.lemmas.Slice.Eq.{bytes_eq-Decides}
-use Rattle.pr_cdb.specs.declared.codes.TheConstants.{MOST_NEXUSES}
 use Rattle.pr_script.specs.Names.{is_name, is_name_byte}
 use Rattle.pr_roles.specs.Scenarios.{Scenario, Nexus}
 use Rattle.pr_roles.specs.Fitting.{most_declared, Fits, are_distinct, is_nexus, is_role, is_start, is_task}
 use Rattle.pr_roles.proofs.lemmas.Starts.AllowedStarts.{counted}
-use Rattle.pr_report.specs.TraceText.{name_of, names_in}
 use Rattle.pr_report.specs.TraceReadings.{number_of}
 use Rattle.pr_report.proofs.lemmas.TraceReadings.SolidWords.{IsSolid, IsWord}
 

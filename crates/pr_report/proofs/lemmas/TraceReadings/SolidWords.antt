@@ -1,14 +1,11 @@
 -- The words of a trace: no byte of one is a space or a line feed, and none is long.
-use Rattle.std.proofs.Common.{◌≡◌, ℕ, zero, suc, ◌+◌, ◌*◌, ◌<◌, ◌≤◌, ◌/◌, ◌%◌, Bool, true, false, cond, List, [], ◌∷◌, ◌++◌, length, refl, sym, ap, ◌∙◌, arith, eqb, append_assoc, append-nil, length-append}
-use Rattle.std.specs.Prelude.{◌==◌, nat_lt}
-use Rattle.std.specs.Fmt.{digits, digits_onto, digit_glyph}
-use Rattle.std.specs.List.{All, list_all, slice_split}
-use Rattle.std.proofs.lemmas.Bool.{and_parts, ne_eqb}
-use Rattle.std.proofs.lemmas.Bool.Decides.{nat_tests}
+use Rattle.pr_report.proofs.Common.{◌≡◌, ℕ, zero, suc, ◌+◌, ◌*◌, ◌/◌, ◌%◌, ◌<◌, ◌≤◌, Bool, true, false, cond, List, [], ◌∷◌, ◌++◌, length, nat_lt, ◌==◌, All, sym, refl, ap, ◌∙◌, append_assoc, append-nil, arith, length-append, ne_eqb, digit_glyph, digits_onto, digits, slice_split, nat_tests, length-slice_split, pairs_or_dash, joined_by_spaces, line, pairs, lines, words}
+use Rattle.std.proofs.Common.{eqb}
+use Rattle.std.specs.List.{list_all}
+use Rattle.std.proofs.lemmas.Bool.{and_parts}
 use Rattle.std.proofs.lemmas.List.Elements.{All-cons, All-nil}
-use Rattle.std.proofs.lemmas.List.Splits.{slice_split_at, slice_split_none, length-slice_split}
-use Rattle.pr_report.specs.PrintedLines.{line, pairs, pairs_or_dash, joined_by_spaces}
-use Rattle.pr_report.specs.TraceReadings.{lines, lines_of_parts, words}
+use Rattle.std.proofs.lemmas.List.Splits.{slice_split_at, slice_split_none}
+use Rattle.pr_report.specs.TraceReadings.{lines_of_parts}
 use Rattle.pr_report.proofs.lemmas.LinesAhead.LinesInFront.{lines_more}
 
 -- no byte is a space, or before it among the characters

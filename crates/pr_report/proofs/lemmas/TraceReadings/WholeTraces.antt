@@ -1,20 +1,13 @@
 -- A trace is read in three steps: the first line, the entries, and the lines behind them.
-use Rattle.std.proofs.Common.{◌≡◌, ◌≤◌, ℕ, List, [], length, sym, ap, ◌∙◌, subst}
-use Rattle.std.specs.Prelude.{Option, Some, None, Result, Ok, IfSome}
-use Rattle.std.specs.Io.KnownBytes.{prepend_known}
+use Rattle.pr_report.proofs.Common.{◌≡◌, ℕ, ◌≤◌, List, [], length, IfSome, Some, None, Ok, Option, Result, sym, ap, ◌∙◌, subst, prepend_known, MOST_NEXUSES, scenario_of, Item, Parts, and_then, later_lines, items_of, trace_in, lines, names_in, names_of, Leads}
 use Rattle.std.proofs.KnownBytes.{prepend_known-nil}
-use Rattle.pr_cdb.specs.declared.codes.TheConstants.{MOST_NEXUSES}
-use Rattle.pr_roles.specs.declared.item.Item.{Item}
 use Rattle.pr_roles.specs.declared.parts.Nexus.{Nexus}
-use Rattle.pr_roles.specs.declared.parts.Parts.{Parts}
-use Rattle.pr_roles.specs.Scenarios.{scenario_of}
 use Rattle.pr_roles.specs.Fitting.{Fits}
 use Rattle.pr_roles.proofs.lemmas.Starts.AllowedStarts.{few_parts}
 use Rattle.pr_report.specs.declared.trace_error.TraceError.{TraceError}
 use Rattle.pr_report.specs.declared.trace_error.TraceError.TheVariants.{ReadFault, Memory}
-use Rattle.pr_report.specs.TraceText.{names_in, names_of}
-use Rattle.pr_report.specs.TraceReadings.{Faults, and_then, items_of, later_lines, lines, trace_in, trace_of}
-use Rattle.pr_report.specs.inside.LinesAhead.{Between, FirstRead, ItemsRead, Leads}
+use Rattle.pr_report.specs.TraceReadings.{Faults, trace_of}
+use Rattle.pr_report.specs.inside.LinesAhead.{Between, FirstRead, ItemsRead}
 use Rattle.pr_report.proofs.lemmas.TraceText.Lines.{names_of_scenario}
 
 faults_along : {A : Type 0} (e : TraceError) (r s : Result A TraceError) → r ≡ s → Faults e s → Faults e r

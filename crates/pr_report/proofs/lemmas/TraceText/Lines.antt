@@ -1,18 +1,11 @@
 -- A trace goes out one line after another.
-use Rattle.std.proofs.Common.{◌≡◌, ℕ, suc, ◌+◌, ◌<◌, ◌≤◌, List, [], ◌∷◌, ◌++◌, Option, codes, length, drop, get_or, refl, sym, ◌∙◌, ap, subst, Result, append_assoc, append-nil, drop-cons, add-one}
-use Rattle.std.proofs.Math.ListN.{drop_of_length-le}
-use Rattle.std.specs.Io.KnownBytes.{Appends}
-use Rattle.pr_report.specs.Written.{Wrote, FallsShort, Puts}
-use Rattle.pr_report.specs.PrintedLines.{line, joined_by_spaces, generation_word, registration_word}
-use Rattle.pr_report.specs.TraceText.{item_line, item_lines, ending_line, ending_lines, first_line, held_word, name_of, names_in, names_of, registration_words, trace_body, trace_text, unit_line}
-use Rattle.std.specs.Prelude.{map, slice_index}
-use Rattle.pr_roles.specs.declared.item.Item.{Item}
+use Rattle.pr_report.proofs.Common.{◌≡◌, ℕ, suc, ◌+◌, ◌<◌, ◌≤◌, List, [], ◌∷◌, ◌++◌, map, length, get_or, drop, slice_index, codes, Option, Result, sym, refl, ap, ◌∙◌, subst, append_assoc, append-nil, add-one, drop_of_length-le, drop-cons, Appends, scenario_of, Item, Parts, ending_of, joined_by_spaces, line, names_in, names_of, name_of, item_lines, held_word, ending_lines, first_line, unit_line, Wrote, FallsShort, Puts}
+use Rattle.pr_report.specs.PrintedLines.{generation_word, registration_word}
+use Rattle.pr_report.specs.TraceText.{item_line, ending_line, registration_words, trace_body, trace_text}
 use Rattle.pr_roles.specs.declared.parts.Nexus.{Nexus as NexusPart}
-use Rattle.pr_roles.specs.declared.parts.Parts.{Parts}
-use Rattle.pr_roles.specs.Scenarios.{scenario_of, nexus_of}
+use Rattle.pr_roles.specs.Scenarios.{nexus_of}
 use Rattle.pr_registry.specs.Registrations.{State, key_of}
 use Rattle.pr_world.specs.declared.end.End.{End}
-use Rattle.pr_world.specs.Ends.{ending_of}
 use Rattle.pr_report.proofs.lemmas.Written.Fronts.{held_first, held_front, held_more, wrote_front, wrote_more}
 
 -- the element that a loop is at, and what comes after it

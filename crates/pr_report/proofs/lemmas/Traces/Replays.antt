@@ -1,9 +1,7 @@
 -- What a replay answers has the trace of its run.
-use Rattle.std.proofs.Common.{◌≡◌, List, [], ◌∷◌, Some, refl, ap, ◌∙◌}
-use Rattle.std.specs.Prelude.{map}
+use Rattle.pr_report.proofs.Common.{◌≡◌, List, [], ◌∷◌, map, Some, refl, ap, ◌∙◌, ending_of, names_in}
 use Rattle.pr_world.specs.declared.end.End.{End}
-use Rattle.pr_world.specs.Ends.{ending_of}
-use Rattle.pr_report.specs.TraceText.{names_in, trace_text}
+use Rattle.pr_report.specs.TraceText.{trace_text}
 use Rattle.pr_report.specs.Traces.{ReplaysAreTraced}
 
 seen_again : (es : List End) → map (λ e. Some e) (map ending_of es) ≡ map (λ e. Some (ending_of e)) es

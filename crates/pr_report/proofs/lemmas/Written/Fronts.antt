@@ -1,10 +1,7 @@
 -- How pieces of a text go out one after another.
-use Rattle.std.proofs.Common.{◌≡◌, ◌≢◌, ℕ, List, [], ◌∷◌, ◌++◌, Option, None, Some, refl, sym, ap, ◌∙◌, append_assoc, append-nil, Result, Ok, Err, IsErr, take, drop, take-append-drop, length, length-drop, ◌-◌, ◌+◌, ◌<◌, ◌≤◌, get_or, drop-cons, add-one}
-use Rattle.std.specs.List.{flat_map}
-use Rattle.std.proofs.Math.ListN.{drop_of_length-le}
+use Rattle.pr_report.proofs.Common.{◌≡◌, ℕ, ◌+◌, ◌-◌, ◌<◌, ◌≤◌, List, [], ◌∷◌, ◌++◌, length, get_or, take, drop, Some, None, Ok, Err, Option, Result, flat_map, sym, refl, ap, ◌∙◌, append_assoc, append-nil, add-one, length-drop, drop_of_length-le, drop-cons, Appends, Wrote, FallsShort, Puts}
+use Rattle.std.proofs.Common.{◌≢◌, IsErr, take-append-drop}
 use Rattle.std.proofs.Math.Seq.{take-length}
-use Rattle.std.specs.Io.KnownBytes.{Appends}
-use Rattle.pr_report.specs.Written.{Wrote, FallsShort, Puts}
 use Rattle.pr_report.specs.inside.FrontsWritten.{PutsAllBut}
 
 append_some : (x y : List ℕ) → x ≢ [] → x ++ y ≢ []

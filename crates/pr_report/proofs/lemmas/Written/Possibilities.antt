@@ -1,13 +1,8 @@
 -- Words of what is possible go out one after another, and lines of what is numbered.
-use Rattle.std.proofs.Common.{Result, ◌≡◌, ℕ, suc, ◌+◌, ◌-◌, ◌<◌, ◌≤◌, Bool, true, false, List, [], ◌∷◌, ◌++◌, Option, codes, map, cond, refl, sym, ap, ◌∙◌, subst, arith, append_assoc, append-nil}
-use Rattle.std.specs.Prelude.{if◌then◌else◌}
-use Rattle.std.specs.List.{filter, flat_map, range_with_len}
+use Rattle.pr_report.proofs.Common.{◌≡◌, ℕ, suc, ◌+◌, ◌-◌, ◌<◌, ◌≤◌, Bool, true, false, cond, List, [], ◌∷◌, ◌++◌, map, if◌then◌else◌, codes, filter, Option, Result, flat_map, sym, refl, ap, ◌∙◌, subst, append_assoc, append-nil, arith, Appends, range_with_len, joined_by_spaces, line, Wrote, FallsShort, Puts}
 use Rattle.std.proofs.lemmas.Grind.{flat_map-append}
 use Rattle.std.proofs.lemmas.List.{map-append}
 use Rattle.std.proofs.lemmas.List.Elements.{filter-append}
-use Rattle.std.specs.Io.KnownBytes.{Appends}
-use Rattle.pr_report.specs.Written.{Wrote, FallsShort, Puts}
-use Rattle.pr_report.specs.PrintedLines.{line, joined_by_spaces}
 use Rattle.pr_report.proofs.lemmas.Written.Fronts.{wrote_all, wrote_front, wrote_more}
 
 -- ---- words of a line

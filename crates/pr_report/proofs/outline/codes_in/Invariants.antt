@@ -1,6 +1,5 @@
-use Rattle.std.proofs.Common.{◌≡◌, ◌≤◌, length, map, take}
+use Rattle.pr_report.proofs.Common.{◌≡◌, ◌≤◌, map, length, take, filter}
 use Rattle.std.specs.FinSet as set
-use Rattle.std.specs.List.{filter}
 use Rattle.pr_attention.specs.Attentions.{code_of}
 use Rattle.pr_attention.specs.Flagged.{codes_of}
 use Rattle.pr_report.proofs.outline.codes_in.Given as goal

@@ -1,8 +1,4 @@
-use Rattle.std.proofs.Common.{ℕ}
-use Rattle.pr_views.specs.Rooms.{view_of}
-use Rattle.pr_verify.specs.Rooms.{row_of}
-use Rattle.pr_report.specs.TraceText.{names_of}
-use Rattle.pr_report.specs.OutlineText.{send_text}
+use Rattle.pr_report.proofs.Common.{ℕ, view_of, row_of, send_text, names_of}
 use Rattle.pr_report.proofs.lemmas.OutlineText.Sends.{page_grown, page_kept}
 use Rattle.pr_report.proofs.outline.has_added.Goals as goal
 

@@ -1,5 +1,4 @@
-use Rattle.std.proofs.Common.{ℕ}
-use Rattle.std.specs.List.{slice_get}
+use Rattle.pr_report.proofs.Common.{ℕ, slice_get}
 use Rattle.pr_report.specs.OutlineText.{arm_text}
 use Rattle.pr_report.proofs.lemmas.Written.Fronts.{flat_map_end, flat_map_from, puts_err, wrote_all, wrote_front, wrote_more}
 use Rattle.pr_report.proofs.outline.put_arms.Goals as goal

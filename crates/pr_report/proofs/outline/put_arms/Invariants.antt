@@ -1,6 +1,4 @@
-use Rattle.std.proofs.Common.{ℕ, drop}
-use Rattle.std.specs.List.{flat_map, slice_get}
-use Rattle.pr_report.specs.Written.{Wrote}
+use Rattle.pr_report.proofs.Common.{ℕ, drop, slice_get, flat_map, Wrote}
 use Rattle.pr_report.specs.OutlineText.{arm_text}
 use Rattle.pr_report.proofs.outline.put_arms.Given as goal
 

@@ -1,6 +1,4 @@
-use Rattle.std.proofs.Common.{[], ◌∷◌, codes}
-use Rattle.std.specs.Prelude.{decimal}
-use Rattle.pr_report.specs.Printed.{printed_word}
+use Rattle.pr_report.proofs.Common.{[], ◌∷◌, codes, decimal, printed_word}
 use Rattle.pr_report.specs.ScenarioWords.{command_words}
 use Rattle.pr_report.specs.OutlineText.{send_line}
 use Rattle.pr_report.proofs.lemmas.Written.Fronts.{front_first, front_then, puts_err, puts_last}

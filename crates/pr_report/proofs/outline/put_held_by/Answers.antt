@@ -1,11 +1,5 @@
-use Rattle.std.proofs.Common.{ℕ, Some, map, ap}
-use Rattle.std.specs.Prelude.{Option}
+use Rattle.pr_report.proofs.Common.{ℕ, map, Some, Option, ap, numbers_of_bits, Held, One, number_of, names_of, held_word}
 use Rattle.std.specs.FinSet as set
-use Rattle.pr_registry.specs.declared.held.Held.{Held}
-use Rattle.pr_registry.specs.declared.held.Held.TheVariants.{One}
-use Rattle.pr_sets.specs.Kept.{numbers_of_bits}
-use Rattle.pr_views.specs.Possibilities.{number_of}
-use Rattle.pr_report.specs.TraceText.{held_word, names_of}
 use Rattle.pr_report.proofs.lemmas.Written.Fronts.{puts_err}
 use Rattle.pr_report.proofs.lemmas.Written.Possibilities.{range_here, range_end, shown_end, shown_front, shown_more}
 use Rattle.pr_report.proofs.outline.put_held_by.Goals as goal

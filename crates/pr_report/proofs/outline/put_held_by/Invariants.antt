@@ -1,13 +1,5 @@
-use Rattle.std.proofs.Common.{ℕ, ◌-◌, Some, map}
-use Rattle.std.specs.Prelude.{Option}
+use Rattle.pr_report.proofs.Common.{ℕ, ◌-◌, map, Some, Option, range_with_len, numbers_of_bits, Held, One, number_of, names_of, held_word, Wrote}
 use Rattle.std.specs.FinSet as set
-use Rattle.std.specs.List.{range_with_len}
-use Rattle.pr_registry.specs.declared.held.Held.{Held}
-use Rattle.pr_registry.specs.declared.held.Held.TheVariants.{One}
-use Rattle.pr_sets.specs.Kept.{numbers_of_bits}
-use Rattle.pr_views.specs.Possibilities.{number_of}
-use Rattle.pr_report.specs.Written.{Wrote}
-use Rattle.pr_report.specs.TraceText.{held_word, names_of}
 use Rattle.pr_report.proofs.lemmas.Written.Possibilities.{shown}
 use Rattle.pr_report.proofs.outline.put_held_by.Given as goal
 

@@ -1,11 +1,7 @@
-use Rattle.std.specs.Prelude.{Option}
+use Rattle.pr_report.proofs.Common.{Option, numbers_of_bits, Held, number_of, names_of, held_word}
 use Rattle.std.specs.FinSet as set
 use Rattle.pr_cdb.specs.declared.command.Kind.{Kind}
 use Rattle.pr_cdb.specs.declared.command.Kind.TheVariants.{WriteExclusive, ExclusiveAccess, WriteExclusiveRegistrantsOnly, ExclusiveAccessRegistrantsOnly}
-use Rattle.pr_registry.specs.declared.held.Held.{Held}
-use Rattle.pr_sets.specs.Kept.{numbers_of_bits}
-use Rattle.pr_views.specs.Possibilities.{number_of}
-use Rattle.pr_report.specs.TraceText.{held_word, names_of}
 use Rattle.pr_report.specs.OutlineText.{held_by_one}
 use Rattle.pr_report.proofs.lemmas.Written.Fronts.{front_first, front_then, puts_err, puts_last}
 use Rattle.pr_report.proofs.lemmas.Written.Possibilities.{four_pieces, puts_as}

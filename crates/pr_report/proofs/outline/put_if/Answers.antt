@@ -1,5 +1,4 @@
-use Rattle.std.proofs.Common.{append-nil}
-use Rattle.pr_report.specs.PrintedLines.{joined_by_spaces}
+use Rattle.pr_report.proofs.Common.{append-nil, joined_by_spaces}
 use Rattle.pr_report.proofs.lemmas.Written.Fronts.{appends_nothing}
 use Rattle.pr_report.proofs.outline.put_if.Goals as goal
 

@@ -1,8 +1,5 @@
-use Rattle.std.proofs.Common.{ℕ, ◌+◌, ◌<◌, ◌≤◌, length, arith}
+use Rattle.pr_report.proofs.Common.{ℕ, ◌+◌, ◌<◌, ◌≤◌, length, arith, numbers_of_bits, key_at, free_or_key}
 use Rattle.std.specs.FinSet as set
-use Rattle.pr_sets.specs.Kept.{numbers_of_bits}
-use Rattle.pr_views.specs.Possibilities.{key_at}
-use Rattle.pr_report.specs.OutlineText.{free_or_key}
 use Rattle.pr_report.proofs.lemmas.Written.Fronts.{puts_err}
 use Rattle.pr_report.proofs.lemmas.Written.Possibilities.{possible_front, possible_more, range_here, range_end, shown_end}
 use Rattle.pr_report.proofs.outline.put_keys.Goals as goal

@@ -1,10 +1,5 @@
-use Rattle.std.proofs.Common.{ℕ, ◌+◌, ◌-◌, length}
+use Rattle.pr_report.proofs.Common.{ℕ, ◌+◌, ◌-◌, length, range_with_len, numbers_of_bits, key_at, free_or_key, Wrote}
 use Rattle.std.specs.FinSet as set
-use Rattle.std.specs.List.{range_with_len}
-use Rattle.pr_sets.specs.Kept.{numbers_of_bits}
-use Rattle.pr_views.specs.Possibilities.{key_at}
-use Rattle.pr_report.specs.Written.{Wrote}
-use Rattle.pr_report.specs.OutlineText.{free_or_key}
 use Rattle.pr_report.proofs.lemmas.Written.Possibilities.{shown}
 use Rattle.pr_report.proofs.outline.put_keys.Given as goal
 

@@ -1,10 +1,5 @@
-use Rattle.std.proofs.Common.{ℕ, ◌<◌, ◌≤◌, ◌∙◌, ap, arith}
+use Rattle.pr_report.proofs.Common.{ℕ, ◌<◌, ◌≤◌, ap, ◌∙◌, arith, numbers_of_bits, count_of_attentions, codes_in, printed_word, attentions_word}
 use Rattle.std.specs.FinSet as set
-use Rattle.pr_sets.specs.Kept.{numbers_of_bits}
-use Rattle.pr_views.specs.Possibilities.{count_of_attentions}
-use Rattle.pr_report.specs.Printed.{printed_word}
-use Rattle.pr_report.specs.PrintedLines.{attentions_word}
-use Rattle.pr_report.specs.OutlineText.{codes_in}
 use Rattle.pr_report.proofs.lemmas.Written.Fronts.{puts_err}
 use Rattle.pr_report.proofs.lemmas.Written.Possibilities.{possible_front, possible_more, range_here, range_end, shown_end}
 use Rattle.pr_report.proofs.outline.put_pending.Goals as goal

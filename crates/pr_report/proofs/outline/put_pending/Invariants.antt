@@ -1,11 +1,5 @@
-use Rattle.std.proofs.Common.{ℕ, ◌-◌}
+use Rattle.pr_report.proofs.Common.{ℕ, ◌-◌, range_with_len, numbers_of_bits, count_of_attentions, codes_in, attentions_word, Wrote}
 use Rattle.std.specs.FinSet as set
-use Rattle.std.specs.List.{range_with_len}
-use Rattle.pr_sets.specs.Kept.{numbers_of_bits}
-use Rattle.pr_views.specs.Possibilities.{count_of_attentions}
-use Rattle.pr_report.specs.Written.{Wrote}
-use Rattle.pr_report.specs.PrintedLines.{attentions_word}
-use Rattle.pr_report.specs.OutlineText.{codes_in}
 use Rattle.pr_report.proofs.lemmas.Written.Possibilities.{shown}
 use Rattle.pr_report.proofs.outline.put_pending.Given as goal
 

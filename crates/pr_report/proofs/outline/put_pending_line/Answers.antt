@@ -1,11 +1,6 @@
-use Rattle.std.proofs.Common.{ℕ, [], ◌∷◌, codes, map}
+use Rattle.pr_report.proofs.Common.{ℕ, [], ◌∷◌, map, codes, filter, range_with_len, numbers_of_bits, count_of_attentions, codes_in, printed_word, attentions_word}
 use Rattle.std.specs.FinSet as set
-use Rattle.std.specs.List.{filter, range_with_len}
-use Rattle.pr_sets.specs.Kept.{numbers_of_bits}
-use Rattle.pr_views.specs.Possibilities.{count_of_attentions}
-use Rattle.pr_report.specs.Printed.{printed_word}
-use Rattle.pr_report.specs.PrintedLines.{attentions_word}
-use Rattle.pr_report.specs.OutlineText.{codes_in, pending_line}
+use Rattle.pr_report.specs.OutlineText.{pending_line}
 use Rattle.pr_report.proofs.lemmas.Written.Fronts.{front_first, front_then, puts_err, puts_last}
 use Rattle.pr_report.proofs.lemmas.Written.Possibilities.{line_pieces, puts_as}
 use Rattle.pr_report.proofs.outline.put_pending_line.Goals as goal

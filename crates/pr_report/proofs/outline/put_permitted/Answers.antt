@@ -1,4 +1,4 @@
-use Rattle.pr_report.specs.Printed.{printed_word}
+use Rattle.pr_report.proofs.Common.{printed_word}
 use Rattle.pr_report.proofs.outline.put_permitted.Goals as goal
 
 pub returns-else-permitted : goal.returns-else-permitted

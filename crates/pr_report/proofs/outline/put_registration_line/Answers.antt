@@ -1,6 +1,4 @@
-use Rattle.std.proofs.Common.{ap, ◌∙◌}
-use Rattle.pr_report.specs.Printed.{printed_word}
-use Rattle.pr_report.specs.TraceText.{name_of, names_of}
+use Rattle.pr_report.proofs.Common.{ap, ◌∙◌, printed_word, names_of, name_of}
 use Rattle.pr_report.proofs.lemmas.Written.Fronts.{front_first, front_then, puts_err, puts_last}
 use Rattle.pr_report.proofs.lemmas.OutlineText.Sends.{registration_begins, registration_pieces}
 use Rattle.pr_report.proofs.lemmas.Written.Possibilities.{puts_as}

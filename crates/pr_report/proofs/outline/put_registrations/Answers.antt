@@ -1,6 +1,4 @@
-use Rattle.pr_views.specs.Rooms.{view_of}
-use Rattle.pr_report.specs.TraceText.{names_of}
-use Rattle.pr_report.specs.OutlineText.{registration_line}
+use Rattle.pr_report.proofs.Common.{view_of, registration_line, names_of}
 use Rattle.pr_report.proofs.lemmas.Written.Fronts.{puts_err}
 use Rattle.pr_report.proofs.lemmas.Written.Possibilities.{each_end, each_front, each_more, range_here, range_end}
 use Rattle.pr_report.proofs.outline.put_registrations.Goals as goal

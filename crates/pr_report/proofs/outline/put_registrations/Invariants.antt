@@ -1,9 +1,4 @@
-use Rattle.std.proofs.Common.{ℕ, ◌-◌}
-use Rattle.std.specs.List.{flat_map, range_with_len}
-use Rattle.pr_views.specs.Rooms.{view_of}
-use Rattle.pr_report.specs.Written.{Wrote}
-use Rattle.pr_report.specs.TraceText.{names_of}
-use Rattle.pr_report.specs.OutlineText.{registration_line}
+use Rattle.pr_report.proofs.Common.{ℕ, ◌-◌, flat_map, range_with_len, view_of, registration_line, names_of, Wrote}
 use Rattle.pr_report.proofs.outline.put_registrations.Given as goal
 
 abbrev pub invariant-loop-host : goal.invariant-loop-host

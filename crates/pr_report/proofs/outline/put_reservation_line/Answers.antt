@@ -1,7 +1,4 @@
-use Rattle.std.proofs.Common.{[], ◌∷◌, codes, map}
-use Rattle.pr_views.specs.Rooms.{view_of}
-use Rattle.pr_report.specs.Printed.{printed_word}
-use Rattle.pr_report.specs.TraceText.{held_word, names_of}
+use Rattle.pr_report.proofs.Common.{[], ◌∷◌, map, codes, view_of, printed_word, names_of, held_word}
 use Rattle.pr_report.specs.OutlineText.{possible_of, reservation_line, reservations}
 use Rattle.pr_report.proofs.lemmas.Written.Fronts.{front_first, front_then, puts_err, puts_last}
 use Rattle.pr_report.proofs.lemmas.Written.Possibilities.{line_pieces, puts_as}

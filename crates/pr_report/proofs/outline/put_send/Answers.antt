@@ -1,4 +1,4 @@
-use Rattle.pr_report.specs.OutlineText.{send_text}
+use Rattle.pr_report.proofs.Common.{send_text}
 use Rattle.pr_report.proofs.lemmas.Written.Fronts.{front_first, front_then, puts_err, puts_last}
 use Rattle.pr_report.proofs.outline.put_send.Goals as goal
 

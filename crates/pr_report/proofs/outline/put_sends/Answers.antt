@@ -1,7 +1,4 @@
-use Rattle.std.proofs.Common.{◌≤◌, length, map, subst}
-use Rattle.pr_verify.specs.Rooms.{row_of}
-use Rattle.pr_report.specs.TraceText.{names_of}
-use Rattle.pr_report.specs.OutlineText.{sends_text}
+use Rattle.pr_report.proofs.Common.{◌≤◌, map, length, subst, row_of, sends_text, names_of}
 use Rattle.pr_report.proofs.lemmas.Written.Fronts.{held_first, held_last, puts_err}
 use Rattle.pr_report.proofs.lemmas.OutlineText.Sends.{line_and_view, sends_end, sends_front, sends_more}
 use Rattle.pr_report.proofs.outline.put_sends.Goals as goal

@@ -1,8 +1,4 @@
-use Rattle.std.proofs.Common.{◌++◌, drop, map}
-use Rattle.pr_verify.specs.Rooms.{row_of}
-use Rattle.pr_report.specs.Written.{Wrote}
-use Rattle.pr_report.specs.TraceText.{names_of}
-use Rattle.pr_report.specs.OutlineText.{sends_text}
+use Rattle.pr_report.proofs.Common.{◌++◌, map, drop, row_of, sends_text, names_of, Wrote}
 use Rattle.pr_report.proofs.lemmas.OutlineText.Sends.{line_and_view}
 use Rattle.pr_report.proofs.outline.put_sends.Given as goal
 

@@ -1,6 +1,5 @@
-use Rattle.std.proofs.Common.{map, ap}
+use Rattle.pr_report.proofs.Common.{map, ap, names_of}
 use Rattle.pr_verify.specs.Rooms.{table_of}
-use Rattle.pr_report.specs.TraceText.{names_of}
 use Rattle.pr_report.specs.OutlineText.{table_text}
 use Rattle.pr_report.proofs.lemmas.Written.Fronts.{puts_err}
 use Rattle.pr_report.proofs.lemmas.Written.Possibilities.{each_front, each_more}

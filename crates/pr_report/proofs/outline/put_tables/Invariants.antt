@@ -1,7 +1,5 @@
-use Rattle.std.proofs.Common.{drop, map}
+use Rattle.pr_report.proofs.Common.{map, drop, names_of, Wrote}
 use Rattle.pr_verify.specs.Rooms.{table_of}
-use Rattle.pr_report.specs.Written.{Wrote}
-use Rattle.pr_report.specs.TraceText.{names_of}
 use Rattle.pr_report.specs.OutlineText.{outlines_text}
 use Rattle.pr_report.proofs.outline.put_tables.Given as goal
 

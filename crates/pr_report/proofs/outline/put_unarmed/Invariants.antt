@@ -1,6 +1,4 @@
-use Rattle.std.proofs.Common.{drop}
-use Rattle.std.specs.List.{flat_map}
-use Rattle.pr_report.specs.Written.{Wrote}
+use Rattle.pr_report.proofs.Common.{drop, flat_map, Wrote}
 use Rattle.pr_report.specs.OutlineText.{unarmed_line}
 use Rattle.pr_report.proofs.outline.put_unarmed.Given as goal
 

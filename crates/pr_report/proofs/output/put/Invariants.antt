@@ -1,5 +1,4 @@
-use Rattle.std.proofs.Common.{length}
-use Rattle.pr_report.specs.Written.{Wrote}
+use Rattle.pr_report.proofs.Common.{length, Wrote}
 use Rattle.pr_report.proofs.output.put.Given as goal
 
 -- what is left is still to be written

@@ -1,6 +1,6 @@
+use Rattle.pr_report.proofs.Common.{false, arith}
 use Rattle.pr_report.proofs.lemmas.Written.Fronts.{front_first, puts_err, puts_last}
 use Rattle.std.proofs.lemmas.Fmt.{hex_one_digit}
-use Rattle.std.proofs.Common.{arith, false}
 use Rattle.pr_report.proofs.lemmas.EntryWords.KeyDigits.{digits_step}
 use Rattle.pr_report.proofs.printing.+put_digits.Goals as goal
 

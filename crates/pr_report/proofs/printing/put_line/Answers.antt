@@ -1,5 +1,5 @@
+use Rattle.pr_report.proofs.Common.{line}
 use Rattle.pr_report.proofs.lemmas.Written.Fronts.{front_first, front_then, puts_err, puts_last}
-use Rattle.pr_report.specs.PrintedLines.{line}
 use Rattle.pr_report.proofs.printing.put_line.Goals as goal
 
 pub returns-in_err-put_word : goal.returns-in_err-put_word

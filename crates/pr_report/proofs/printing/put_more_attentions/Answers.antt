@@ -1,4 +1,4 @@
-use Rattle.std.proofs.Common.{◌++◌, codes}
+use Rattle.pr_report.proofs.Common.{◌++◌, codes}
 use Rattle.pr_report.specs.PrintedLines.{attention_word}
 use Rattle.pr_report.proofs.lemmas.Written.Fronts.{flat_map_end, flat_map_from, puts_err, wrote_all, wrote_front, wrote_more}
 use Rattle.pr_report.proofs.printing.put_more_attentions.Goals as goal

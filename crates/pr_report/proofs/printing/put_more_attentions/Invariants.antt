@@ -1,5 +1,4 @@
-use Rattle.std.proofs.Common.{drop}
-use Rattle.pr_report.specs.Written.{Wrote}
+use Rattle.pr_report.proofs.Common.{drop, Wrote}
 use Rattle.pr_report.specs.PrintedLines.{more_attentions_word}
 use Rattle.pr_report.proofs.printing.put_more_attentions.Given as goal
 

@@ -1,5 +1,6 @@
+use Rattle.pr_report.proofs.Common.{pairs}
 use Rattle.pr_report.proofs.lemmas.Written.Fronts.{flat_map_end, flat_map_from, puts_err, wrote_all, wrote_front, wrote_more}
-use Rattle.pr_report.specs.PrintedLines.{pair, pairs}
+use Rattle.pr_report.specs.PrintedLines.{pair}
 use Rattle.pr_report.proofs.printing.put_pairs.Goals as goal
 
 pub returns-in_err-put : goal.returns-in_err-put

@@ -1,6 +1,4 @@
-use Rattle.std.proofs.Common.{drop}
-use Rattle.pr_report.specs.Written.{Wrote}
-use Rattle.pr_report.specs.PrintedLines.{pairs}
+use Rattle.pr_report.proofs.Common.{drop, pairs, Wrote}
 use Rattle.pr_report.proofs.printing.put_pairs.Given as goal
 
 abbrev pub invariant-loop-byte : goal.invariant-loop-byte

@@ -1,4 +1,4 @@
-use Rattle.std.proofs.Common.{codes}
+use Rattle.pr_report.proofs.Common.{codes}
 use Rattle.pr_report.proofs.lemmas.Written.Fronts.{front_first, puts_err, puts_last}
 use Rattle.pr_report.proofs.printing.put_reservation_key.Goals as goal
 

@@ -1,9 +1,4 @@
-use Rattle.std.proofs.Common.{◌≡◌, ℕ, ◌+◌, ◌<◌, ◌≤◌, List, [], ◌∷◌, ◌++◌, Option, map, length, drop, get_or, refl, drop-cons, add-one}
-use Rattle.std.proofs.Math.ListN.{drop_of_length-le}
-use Rattle.std.specs.Io.KnownBytes.{Appends}
-use Rattle.pr_report.specs.Written.{Wrote, FallsShort}
-use Rattle.pr_report.specs.PrintedLines.{joined_by_spaces}
-use Rattle.pr_report.specs.Printed.{printed_word}
+use Rattle.pr_report.proofs.Common.{◌≡◌, ℕ, ◌+◌, ◌<◌, ◌≤◌, List, [], ◌∷◌, ◌++◌, map, length, get_or, drop, Option, refl, add-one, drop_of_length-le, drop-cons, Appends, printed_word, joined_by_spaces, Wrote, FallsShort}
 use Rattle.pr_report.specs.declared.printing.Word.{Word}
 use Rattle.pr_report.proofs.lemmas.Written.Fronts.{puts_err, wrote_all, wrote_front, wrote_more}
 use Rattle.pr_report.proofs.printing.put_spaced.Goals as goal

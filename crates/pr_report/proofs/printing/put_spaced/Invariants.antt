@@ -1,7 +1,4 @@
-use Rattle.std.proofs.Common.{drop, map}
-use Rattle.pr_report.specs.Written.{Wrote}
-use Rattle.pr_report.specs.PrintedLines.{joined_by_spaces}
-use Rattle.pr_report.specs.Printed.{printed_word}
+use Rattle.pr_report.proofs.Common.{map, drop, printed_word, joined_by_spaces, Wrote}
 use Rattle.pr_report.proofs.printing.put_spaced.Given as goal
 
 abbrev pub invariant-loop-word : goal.invariant-loop-word

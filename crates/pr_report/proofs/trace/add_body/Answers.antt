@@ -1,7 +1,4 @@
-use Rattle.std.proofs.Common.{refl}
-use Rattle.std.specs.Prelude.{◌++◌, map}
-use Rattle.pr_world.specs.Ends.{ending_of}
-use Rattle.pr_report.specs.TraceText.{ending_lines, item_lines, names_of, unit_line}
+use Rattle.pr_report.proofs.Common.{◌++◌, map, refl, ending_of, names_of, item_lines, ending_lines, unit_line}
 use Rattle.pr_report.proofs.lemmas.Written.Fronts.{held_all, held_err, held_front, held_more, held_through}
 use Rattle.pr_report.proofs.trace.add_body.Goals as goal
 

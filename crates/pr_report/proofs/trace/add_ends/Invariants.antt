@@ -1,8 +1,4 @@
-use Rattle.std.proofs.Common.{◌++◌, drop}
-use Rattle.std.specs.Prelude.{map}
-use Rattle.pr_world.specs.Ends.{ending_of}
-use Rattle.pr_report.specs.Written.{Wrote}
-use Rattle.pr_report.specs.TraceText.{ending_lines, names_of}
+use Rattle.pr_report.proofs.Common.{◌++◌, map, drop, ending_of, names_of, ending_lines, Wrote}
 use Rattle.pr_report.proofs.trace.add_ends.Given as goal
 
 abbrev pub invariant-loop-host : goal.invariant-loop-host

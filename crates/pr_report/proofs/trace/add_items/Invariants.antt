@@ -1,6 +1,4 @@
-use Rattle.std.proofs.Common.{◌++◌, drop}
-use Rattle.pr_report.specs.Written.{Wrote}
-use Rattle.pr_report.specs.TraceText.{item_lines, names_of}
+use Rattle.pr_report.proofs.Common.{◌++◌, drop, names_of, item_lines, Wrote}
 use Rattle.pr_report.proofs.trace.add_items.Given as goal
 
 abbrev pub invariant-loop-others : goal.invariant-loop-others

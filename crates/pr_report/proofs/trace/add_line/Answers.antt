@@ -1,4 +1,4 @@
-use Rattle.std.proofs.Common.{◌∙◌}
+use Rattle.pr_report.proofs.Common.{◌∙◌}
 use Rattle.pr_report.proofs.lemmas.Written.Fronts.{front_first, held_all, held_err, held_next, held_none}
 use Rattle.pr_report.proofs.trace.add_line.Goals as goal
 

@@ -1,5 +1,4 @@
-use Rattle.std.proofs.Common.{drop}
-use Rattle.pr_report.specs.Written.{Wrote}
+use Rattle.pr_report.proofs.Common.{drop, Wrote}
 use Rattle.pr_report.proofs.lemmas.TraceText.Lines.{registrations}
 use Rattle.pr_report.proofs.trace.put_registrations.Given as goal
 

@@ -1,7 +1,4 @@
-use Rattle.std.proofs.Common.{◌≡◌, ◌+◌, true, [], take, sym, ◌∙◌, arith}
-use Rattle.std.specs.Prelude.{bytes_eq}
-use Rattle.pr_report.specs.TraceText.{first_line}
-use Rattle.pr_report.specs.inside.LinesAhead.{bytes_held}
+use Rattle.pr_report.proofs.Common.{◌≡◌, ◌+◌, true, [], take, bytes_eq, sym, ◌∙◌, arith, first_line, bytes_held}
 use Rattle.pr_report.proofs.lemmas.LinesAhead.EntriesInFront.{first_few, first_missing, first_other, first_right}
 use Rattle.pr_report.proofs.lemmas.BytesTaken.Sums.{takes_drop}
 use Rattle.pr_report.proofs.trace_reading.read_first.Given.{Over}

@@ -1,10 +1,5 @@
-use Rattle.std.proofs.Common.{◌≡◌, ◌+◌, ◌*◌, ◌≤◌, false, Ok, length, take, length-take, sym, ◌∙◌, subst, arith}
+use Rattle.pr_report.proofs.Common.{◌≡◌, ◌+◌, ◌*◌, ◌≤◌, false, length, take, Ok, sym, ◌∙◌, subst, arith, length-take, bytes_of_lines, item_on, is_later, names_of, most_items, bytes_held}
 use Rattle.std.proofs.lemmas.Result.{err_from_is_err_and}
-use Rattle.pr_report.specs.TraceText.{names_of}
-use Rattle.pr_report.specs.Versions.{most_items}
-use Rattle.pr_report.specs.BytesTaken.{bytes_of_lines}
-use Rattle.pr_report.specs.TraceReadings.{item_on, is_later}
-use Rattle.pr_report.specs.inside.LinesAhead.{bytes_held}
 use Rattle.pr_report.proofs.lemmas.LinesAhead.EntriesInFront.{entries_bounded, entries_end, entries_fault, entries_fewer, entries_more, entries_stop, entry_few, entry_short, one_longer}
 use Rattle.pr_report.proofs.lemmas.BytesTaken.Sums.{takes_both, takes_drop}
 use Rattle.pr_report.proofs.trace_reading.read_items.Given.{Over}

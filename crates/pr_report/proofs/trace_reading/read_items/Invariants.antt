@@ -1,10 +1,6 @@
 -- the items of the lines that are left stand behind those that were read
-use Rattle.std.proofs.Common.{◌≡◌, ◌≤◌, ◌-◌, ◌*◌, ◌++◌, length, Ok}
-use Rattle.pr_report.specs.TraceText.{names_of}
+use Rattle.pr_report.proofs.Common.{◌≡◌, ◌-◌, ◌*◌, ◌≤◌, ◌++◌, length, Ok, and_then, items_of, lines, names_of, most_items, bytes_held, bytes_left, Takes, Leads}
 use Rattle.pr_report.specs.declared.versions.TheConstants.{MOST_ITEMS_2}
-use Rattle.pr_report.specs.Versions.{most_items}
-use Rattle.pr_report.specs.TraceReadings.{and_then, items_of, lines}
-use Rattle.pr_report.specs.inside.LinesAhead.{Leads, Takes, bytes_held, bytes_left}
 use Rattle.pr_report.proofs.trace_reading.read_items.Given as goal
 
 abbrev pub invariant-loop-history : goal.invariant-loop-history

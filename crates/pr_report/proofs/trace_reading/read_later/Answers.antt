@@ -1,6 +1,5 @@
-use Rattle.std.proofs.Common.{◌+◌, ◌*◌, arith}
+use Rattle.pr_report.proofs.Common.{◌+◌, ◌*◌, arith, bytes_held}
 use Rattle.std.proofs.lemmas.Grind.{common_steps}
-use Rattle.pr_report.specs.inside.LinesAhead.{bytes_held}
 use Rattle.pr_report.proofs.lemmas.LinesAhead.EntriesInFront.{later_done}
 use Rattle.pr_report.proofs.lemmas.BytesTaken.Sums.{takes_both, takes_drop}
 use Rattle.pr_report.proofs.trace_reading.read_later.Goals as goal

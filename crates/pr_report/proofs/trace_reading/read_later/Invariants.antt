@@ -1,7 +1,5 @@
 -- the lines that are left, behind those that were read
-use Rattle.std.proofs.Common.{◌≡◌, ◌≤◌, ◌-◌, ◌*◌, length}
-use Rattle.pr_report.specs.TraceReadings.{later_lines, lines}
-use Rattle.pr_report.specs.inside.LinesAhead.{Leads, Takes, bytes_held, bytes_left}
+use Rattle.pr_report.proofs.Common.{◌≡◌, ◌-◌, ◌*◌, ◌≤◌, length, later_lines, lines, bytes_held, bytes_left, Takes, Leads}
 use Rattle.pr_report.proofs.trace_reading.read_later.Given as goal
 
 abbrev pub invariant-loop-end : goal.invariant-loop-end

@@ -1,10 +1,6 @@
-use Rattle.std.proofs.Common.{◌+◌, arith}
+use Rattle.pr_report.proofs.Common.{◌+◌, arith, scenario_of, bytes_of_lines, names_in, names_of, most_items}
 use Rattle.std.proofs.lemmas.Result.{err_from_is_err_and}
-use Rattle.pr_roles.specs.Scenarios.{scenario_of}
-use Rattle.pr_report.specs.TraceText.{names_in, names_of}
 use Rattle.pr_report.specs.declared.trace_reading.TheConstants.{MOST_LATER_LINES}
-use Rattle.pr_report.specs.Versions.{most_items}
-use Rattle.pr_report.specs.BytesTaken.{bytes_of_lines}
 use Rattle.pr_report.proofs.lemmas.LinesAhead.EntriesInFront.{entries_bounded}
 use Rattle.pr_report.proofs.lemmas.BytesTaken.Sums.{held_few, loses_of_trace, takes_both}
 use Rattle.pr_report.proofs.lemmas.TraceText.Lines.{version_read}

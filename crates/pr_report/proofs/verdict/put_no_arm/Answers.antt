@@ -1,4 +1,4 @@
-use Rattle.pr_report.specs.Printed.{printed_word}
+use Rattle.pr_report.proofs.Common.{printed_word}
 use Rattle.pr_report.proofs.verdict.put_no_arm.Goals as goal
 
 pub returns : goal.returns

@@ -1,4 +1,4 @@
-use Rattle.pr_report.specs.Printed.{printed_word}
+use Rattle.pr_report.proofs.Common.{printed_word}
 use Rattle.pr_report.proofs.lemmas.Verdicts.RefusalLines.{refusal_of_parts}
 use Rattle.pr_report.proofs.verdict.write_verdict.Goals as goal
 

@@ -1,11 +1,4 @@
-use Rattle.std.proofs.Common.{◌≡◌, ℕ, List, length, map, sym, ap, ◌∙◌, subst}
-use Rattle.pr_script.specs.Grammar.{rise_above}
-use Rattle.pr_script.specs.Trees.{script_of}
-use Rattle.pr_roles.specs.Scenarios.{scenario_of}
-use Rattle.pr_views.specs.declared.view.ViewOf.{ViewOf}
-use Rattle.pr_verify.specs.declared.places.Spot.{Spot}
-use Rattle.pr_verify.specs.Rooms.{outline_of}
-use Rattle.pr_verify.specs.inside.Listing.{AreWritten}
+use Rattle.pr_verify.proofs.Common.{◌≡◌, ℕ, List, map, length, sym, ap, ◌∙◌, subst, rise_above, script_of, scenario_of, ViewOf, outline_of, Spot, AreWritten}
 use Rattle.pr_verify.specs.inside.Reviewing.{IsFirstMisfit}
 use Rattle.pr_verify.proofs.lemmas.Reviewing.Findings.{spots_rise, spots_written, is_fitting, is_refusal}
 use Rattle.pr_verify.proofs.lemmas.Tabling.Rows.{lines_listed}

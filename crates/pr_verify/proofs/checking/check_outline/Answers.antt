@@ -1,14 +1,7 @@
-use Rattle.std.proofs.Common.{ℕ, ◌≤◌, min, refl, rules, sym, ◌∙◌, subst}
-use Rattle.std.proofs.lemmas.Result.{IfOk-weaker, IfErr-weaker, err_from_is_err_and}
-use Rattle.pr_script.specs.Costs.{cost_of_all}
-use Rattle.pr_script.specs.Trees.{script_of}
-use Rattle.pr_roles.specs.Scenarios.{scenario_of, task}
-use Rattle.pr_verify.specs.Outlines.{OnScripted, IsSound, IsFitting}
-use Rattle.std.specs.Prelude.{IfErr}
-use Rattle.pr_verify.specs.declared.refusal.Refusal.{Refusal}
+use Rattle.pr_verify.proofs.Common.{ℕ, ◌≤◌, min, IfErr, sym, refl, ◌∙◌, subst, rules, err_from_is_err_and, cost_of_all, script_of, task, scenario_of, IsSound, IsFitting, OnScripted, IsRefusal, outline_of, Refusal}
+use Rattle.std.proofs.lemmas.Result.{IfOk-weaker, IfErr-weaker}
 use Rattle.pr_verify.specs.declared.refusal.Refusal.TheVariants.{OverBudget}
-use Rattle.pr_verify.specs.Refusals.{IsRefusal, past_budgets}
-use Rattle.pr_verify.specs.Rooms.{outline_of}
+use Rattle.pr_verify.specs.Refusals.{past_budgets}
 use Rattle.pr_verify.proofs.lemmas.Rooms.Nexuses.{scripted_there, scripted_task, scripted_fits, planned_not}
 use Rattle.pr_verify.proofs.lemmas.Rooms.Scripts.{on_script}
 use Rattle.pr_verify.proofs.checking.check_outline.Goals as goal

@@ -1,15 +1,4 @@
-use Rattle.std.proofs.Common.{◌≡◌, ℕ, List, map, Some, rules, refl, sym, ap, ◌∙◌, subst, inl, inr}
-use Rattle.pr_script.specs.Trees.{script_of}
-use Rattle.pr_script.specs.Grammar.{rise_above}
-use Rattle.pr_roles.specs.Scenarios.{scenario_of}
-use Rattle.pr_views.specs.declared.view.ViewOf.{ViewOf}
-use Rattle.pr_views.specs.Rooms.{view_of}
-use Rattle.pr_verify.specs.declared.places.Spot.{Spot}
-use Rattle.pr_verify.specs.Places.{places_of}
-use Rattle.pr_verify.specs.Outlines.{IsAsked}
-use Rattle.pr_verify.specs.Rooms.{outline_of}
-use Rattle.pr_verify.specs.inside.Listing.{place_of, AreWritten}
-use Rattle.pr_verify.specs.inside.Lacking.{IsFirstLacking}
+use Rattle.pr_verify.proofs.Common.{◌≡◌, ℕ, List, map, Some, sym, refl, ap, ◌∙◌, subst, inl, inr, rules, rise_above, script_of, scenario_of, view_of, ViewOf, IsAsked, places_of, outline_of, Spot, IsFirstLacking, place_of, AreWritten}
 use Rattle.pr_verify.proofs.lemmas.Reviewing.Findings.{spots_rise, spots_written, is_listed, differs_at, differing_read, same_lines, is_sound, lacks_first}
 use Rattle.pr_verify.proofs.lemmas.Reviewing.Starts.{scoped}
 use Rattle.pr_verify.proofs.checking.check_sound.Goals as goal

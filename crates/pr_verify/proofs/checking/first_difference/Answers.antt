@@ -1,7 +1,4 @@
-use Rattle.std.proofs.Common.{ℕ, min, length, Some, refl, sym, ap, ◌∙◌, arith}
-use Rattle.std.proofs.lemmas.List.{get_or_default}
-use Rattle.pr_views.specs.declared.view.ViewOf.{ViewOf}
-use Rattle.pr_verify.specs.declared.places.Spot.{Spot}
+use Rattle.pr_verify.proofs.Common.{ℕ, min, length, Some, sym, refl, ap, ◌∙◌, arith, get_or_default, ViewOf, Spot}
 use Rattle.pr_verify.proofs.lemmas.Refusals.Differences.{agree_none, agree_more, differs_here, first_longer, second_longer, as_long}
 use Rattle.pr_verify.proofs.checking.first_difference.Goals as goal
 

@@ -1,6 +1,4 @@
-use Rattle.std.proofs.Common.{ℕ, ◌≤◌, length}
-use Rattle.pr_views.specs.declared.view.ViewOf.{ViewOf}
-use Rattle.pr_verify.specs.declared.places.Spot.{Spot}
+use Rattle.pr_verify.proofs.Common.{ℕ, ◌≤◌, length, ViewOf, Spot}
 use Rattle.pr_verify.proofs.lemmas.Refusals.Differences.{Agree}
 use Rattle.pr_verify.proofs.checking.first_difference.Given as goal
 

@@ -1,4 +1,4 @@
-use Rattle.std.proofs.Common.{arith}
+use Rattle.pr_verify.proofs.Common.{arith}
 use Rattle.pr_verify.proofs.each.begin_all.Goals as goal
 
 pub begin-requires-after_bounds : goal.begin-requires-after_bounds

@@ -1,6 +1,5 @@
-use Rattle.std.specs.Prelude.{◌≡◌, ◌≤◌, vec_len, vec_capacity}
-use Rattle.pr_roles.specs.Scenarios.{scenario_of}
-use Rattle.pr_verify.specs.inside.Checks.{EachFrom, IsBegunFor}
+use Rattle.pr_verify.proofs.Common.{◌≡◌, ◌≤◌, vec_len, scenario_of, IsBegunFor, EachFrom}
+use Rattle.std.specs.Prelude.{vec_capacity}
 use Rattle.pr_verify.proofs.each.begin_all.Given as goal
 
 -- the checks before that of this host are begun

@@ -1,5 +1,4 @@
-use Rattle.std.proofs.Common.{arith}
-use Rattle.pr_domain.proofs.lemmas.Starting.WrittenNumbers.{are_counted}
+use Rattle.pr_verify.proofs.Common.{arith, are_counted}
 use Rattle.pr_verify.proofs.each.check_each.Goals as goal
 
 pub overflow_cast-hosts : goal.overflow_cast-hosts

@@ -1,5 +1,4 @@
-use Rattle.std.proofs.Common.{◌+◌, sym, subst, arith}
-use Rattle.pr_verify.specs.inside.Checks.{IsAnswerBefore, IsAnswerFor, IsCheckFor}
+use Rattle.pr_verify.proofs.Common.{◌+◌, sym, subst, arith, IsAnswerFor, IsCheckFor, IsAnswerBefore}
 use Rattle.pr_verify.proofs.lemmas.Checks.CheckLists.{answer_next, each_first, each_rest, kept_answer}
 use Rattle.pr_verify.proofs.each.join_all.Goals.{in-InThread, in-Made}
 use Rattle.pr_verify.proofs.each.join_all.Goals as goal

@@ -1,7 +1,5 @@
-use Rattle.std.specs.Prelude.{◌≡◌, ℕ, ◌+◌, length}
-use Rattle.std.specs.Vec.Iter.{into_iter_items, into_iter_len}
-use Rattle.pr_roles.specs.Scenarios.{Scenario}
-use Rattle.pr_verify.specs.inside.Checks.{EachFrom, IsAnswerBefore, IsCheckFor}
+use Rattle.pr_verify.proofs.Common.{◌≡◌, ℕ, ◌+◌, length, into_iter_items, Scenario, IsCheckFor, EachFrom, IsAnswerBefore}
+use Rattle.std.specs.Vec.Iter.{into_iter_len}
 use Rattle.pr_verify.proofs.each.join_all.Given as goal
 
 -- those before this one have come to the first answer

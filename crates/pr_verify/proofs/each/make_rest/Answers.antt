@@ -1,8 +1,4 @@
-use Rattle.std.proofs.Common.{◌∙◌, sym, subst, arith}
-use Rattle.std.specs.Prelude.{vec_len}
-use Rattle.std.specs.Vec.Iter.{into_iter_items}
-use Rattle.pr_roles.specs.Scenarios.{scenario_of}
-use Rattle.pr_verify.specs.inside.Checks.{EachFrom, IsAnswerFor, IsBegunFor, IsCheckFor}
+use Rattle.pr_verify.proofs.Common.{vec_len, sym, ◌∙◌, subst, arith, into_iter_items, scenario_of, IsAnswerFor, IsBegunFor, IsCheckFor, EachFrom}
 use Rattle.pr_verify.proofs.lemmas.Checks.CheckLists.{each_first, each_more, each_rest}
 use Rattle.pr_verify.proofs.each.make_rest.Goals.{in-InThread, in-ToMake}
 use Rattle.pr_verify.proofs.each.make_rest.Goals as goal

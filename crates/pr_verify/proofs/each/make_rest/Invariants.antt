@@ -1,7 +1,6 @@
-use Rattle.std.specs.Prelude.{◌≡◌, ◌+◌, vec_len, vec_capacity}
-use Rattle.std.specs.Vec.Iter.{into_iter_items, into_iter_len}
-use Rattle.pr_roles.specs.Scenarios.{scenario_of}
-use Rattle.pr_verify.specs.inside.Checks.{EachFrom, IsBegunFor, IsCheckFor}
+use Rattle.pr_verify.proofs.Common.{◌≡◌, ◌+◌, vec_len, into_iter_items, scenario_of, IsBegunFor, IsCheckFor, EachFrom}
+use Rattle.std.specs.Prelude.{vec_capacity}
+use Rattle.std.specs.Vec.Iter.{into_iter_len}
 use Rattle.pr_verify.proofs.each.make_rest.Given as goal
 
 -- those before this one are made, or begun in a thread

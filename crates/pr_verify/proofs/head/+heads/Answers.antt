@@ -1,8 +1,7 @@
 -- What comes first of a repeat that is run.
-use Rattle.std.proofs.Common.{◌∙◌, ap, sym}
-use Rattle.pr_script.specs.Trees.{statement_of, statements_in, script_of}
+use Rattle.pr_verify.proofs.Common.{sym, ap, ◌∙◌, statements_in, script_of, out_of, head_of, head_of_all}
+use Rattle.pr_script.specs.Trees.{statement_of}
 use Rattle.pr_script.proofs.lemmas.Trees.Equations.{tree_repeat}
-use Rattle.pr_verify.specs.Places.{out_of, head_of, head_of_all}
 use Rattle.pr_verify.proofs.lemmas.Listing.Statements.{head_of-repeats}
 use Rattle.pr_verify.proofs.head.+heads.Goals as goal
 

@@ -1,7 +1,5 @@
 -- What comes first of the statements left comes first of all.
-use Rattle.std.proofs.Common.{◌≡◌, drop}
-use Rattle.pr_script.specs.Trees.{statements_in}
-use Rattle.pr_verify.specs.Places.{head_of_all}
+use Rattle.pr_verify.proofs.Common.{◌≡◌, drop, statements_in, head_of_all}
 use Rattle.pr_verify.proofs.head.+heads.Given as goal
 
 abbrev pub invariant-head_in-loop-statement : goal.invariant-head_in-loop-statement

@@ -1,7 +1,4 @@
-use Rattle.std.proofs.Common.{◌≡◌, ◌+◌, length, refl, sym, ◌∙◌, subst, arith}
-use Rattle.pr_views.specs.Rooms.{view_of}
-use Rattle.pr_verify.specs.Rooms.{outline_of}
-use Rattle.pr_verify.specs.inside.Least.{IsLeastAmong}
+use Rattle.pr_verify.proofs.Common.{◌≡◌, ◌+◌, length, sym, refl, ◌∙◌, subst, arith, view_of, outline_of, IsLeastAmong}
 use Rattle.pr_verify.proofs.lemmas.Least.FirstLines.{least_none}
 use Rattle.pr_verify.proofs.lemmas.LeastOutlines.MissingViews.{HasAt, LacksAt, missing_more, missing_same, missing_all}
 use Rattle.pr_verify.proofs.lacking.first_lacking.Goals.{then-not-has_within, else-not-has_within}

@@ -1,6 +1,4 @@
-use Rattle.pr_views.specs.Rooms.{view_of}
-use Rattle.pr_verify.specs.Rooms.{outline_of}
-use Rattle.pr_verify.specs.inside.Least.{IsLeastAmong}
+use Rattle.pr_verify.proofs.Common.{view_of, outline_of, IsLeastAmong}
 use Rattle.pr_verify.proofs.lemmas.LeastOutlines.MissingViews.{HasAt, LacksAt}
 use Rattle.pr_verify.proofs.lacking.first_lacking.Given as goal
 

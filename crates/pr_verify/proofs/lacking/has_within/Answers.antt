@@ -1,5 +1,4 @@
-use Rattle.std.proofs.Common.{rules}
-use Rattle.pr_views.specs.Rooms.{AreAlike}
+use Rattle.pr_verify.proofs.Common.{rules, AreAlike}
 use Rattle.pr_verify.proofs.lemmas.LeastOutlines.MissingViews.{of_entry}
 use Rattle.pr_verify.proofs.lacking.has_within.Goals as goal
 

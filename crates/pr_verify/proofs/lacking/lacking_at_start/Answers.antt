@@ -1,8 +1,4 @@
-use Rattle.std.proofs.Common.{◌<◌, rules, sym, subst}
-use Rattle.pr_roles.specs.Scenarios.{scenario_of}
-use Rattle.pr_views.specs.Rooms.{view_of}
-use Rattle.pr_views.proofs.lemmas.Views.Values.{fits}
-use Rattle.pr_verify.specs.Rooms.{outline_of}
+use Rattle.pr_verify.proofs.Common.{◌<◌, sym, subst, rules, scenario_of, view_of, fits, outline_of}
 use Rattle.pr_verify.proofs.lemmas.Reviewing.Starts.{AreScoped, scope_same, scoped, alike, lacks_start}
 use Rattle.pr_verify.proofs.lacking.lacking_at_start.Goals as goal
 

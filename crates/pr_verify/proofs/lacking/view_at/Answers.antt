@@ -1,6 +1,4 @@
-use Rattle.std.proofs.Common.{Some, ap, ◌∙◌, sym, arith}
-use Rattle.pr_views.specs.Rooms.{view_of}
-use Rattle.pr_verify.specs.Outlines.{view_at}
+use Rattle.pr_verify.proofs.Common.{Some, sym, ap, ◌∙◌, arith, view_of, view_at}
 use Rattle.pr_verify.proofs.lemmas.Outlines.Lookups.{entries, view_at_found, view_at_none, other_more}
 use Rattle.pr_verify.proofs.lacking.view_at.Goals as goal
 

@@ -1,4 +1,4 @@
-use Rattle.pr_views.specs.Rooms.{view_of}
+use Rattle.pr_verify.proofs.Common.{view_of}
 use Rattle.pr_verify.proofs.lemmas.Outlines.Lookups.{AreOther}
 use Rattle.pr_verify.proofs.lacking.view_at.Given as goal
 

@@ -1,11 +1,8 @@
 -- Checks that are made side by side: lists of them, and what they come to.
-use Rattle.std.proofs.Common.{◌≡◌, ℕ, zero, suc, ◌+◌, ◌<◌, List, [], ◌∷◌, ◌++◌, length, slice_index_or, Result, Ok, Err, sym, subst, arith}
+use Rattle.pr_verify.proofs.Common.{◌≡◌, ℕ, zero, suc, ◌+◌, ◌<◌, List, [], ◌∷◌, ◌++◌, length, slice_index_or, Ok, Err, Result, sym, subst, arith, task, Scenario, scenario_of, HasOutline, OnScripted, SendsFit, Refusal, IsAnswerFor, EachFrom, IsAnswerBefore}
 use Rattle.std.specs.Result.{result_and}
-use Rattle.pr_roles.specs.Scenarios.{Scenario, scenario_of, task}
 use Rattle.pr_verify.specs.declared.each.CheckOf.{CheckOf}
-use Rattle.pr_verify.specs.declared.refusal.Refusal.{Refusal}
-use Rattle.pr_verify.specs.Outlines.{HasOutline, OnScripted, SendsFit}
-use Rattle.pr_verify.specs.inside.Checks.{EachFrom, IsAnswerBefore, IsAnswerFor, IsPromised}
+use Rattle.pr_verify.specs.inside.Checks.{IsPromised}
 use Rattle.pr_verify.proofs.lemmas.Outlines.Checks.{below_next}
 use Rattle.pr_verify.proofs.lemmas.Verdicts.Reasons.{is_verdict}
 

@@ -1,8 +1,6 @@
 -- A view lacks less once something is joined to it, and fewer possibilities where it was without one of them.
-use Rattle.std.proofs.Common.{◌≡◌, ℕ, ◌+◌, ◌<◌, ◌≤◌, Bool, true, false, ◌&&◌, nat_lt, refl, ap, subst, inl, inr, ◌⊎◌, arith}
-use Rattle.std.proofs.lemmas.Bool.{and_parts, ltb-true, lt-ltb, cases_lt}
-use Rattle.pr_views.specs.Possibilities.{Registration, Reservation, Attentions}
-use Rattle.pr_views.specs.Views.{View, Within, Fits}
+use Rattle.pr_verify.proofs.Common.{◌≡◌, ℕ, ◌+◌, ◌<◌, ◌≤◌, Bool, true, false, ◌&&◌, ◌⊎◌, nat_lt, refl, ap, subst, inl, inr, arith, ltb-true, cases_lt, and_parts, Registration, Reservation, Attentions, View, Fits, Within}
+use Rattle.std.proofs.lemmas.Bool.{lt-ltb}
 use Rattle.pr_interference.specs.inside.Closing.{count_of_lacking, count_of_all_lacking}
 use Rattle.pr_interference.proofs.lemmas.Closing.ClosedViews.{Passes, lacking_less, lacking_fewer, lacking_all_less, lacking_all_fewer}
 use Rattle.pr_regions.proofs.lemmas.Portions.GatheredStates.{few_keys}

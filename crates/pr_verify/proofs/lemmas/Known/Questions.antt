@@ -1,23 +1,10 @@
 -- The answer to an equal question is the answer.
-use Rattle.std.proofs.Common.{◌≡◌, ℕ, ◌<◌, List, [], ◌∷◌, ◌++◌, length, map, get_or, Some, refl, sym, ap, ◌∙◌, subst}
-use Rattle.std.specs.List.{slice_get, All}
-use Rattle.std.proofs.lemmas.Option.{same_Some, slice_get_within, slice_get_read, slice_get-get_or}
-use Rattle.pr_cdb.specs.declared.command.Command.{Command}
-use Rattle.pr_script.specs.declared.script.Test.{Test}
-use Rattle.pr_roles.specs.declared.how.Refusals.{Refusals}
+use Rattle.pr_verify.proofs.Common.{◌≡◌, ℕ, ◌<◌, List, [], ◌∷◌, ◌++◌, map, length, get_or, slice_get, Some, All, sym, refl, ap, ◌∙◌, subst, same_Some, slice_get_within, slice_get-get_or, slice_get_read, Command, Test, Refusals, scope_of, view_of, AreAlike, ViewOf, AreOutcomes, Landing, Answer, Spot, IsAnswerTo, AreAnswersTo, IsOf, IsAnswer, AreEqual, place_of, IsPlaceWritten}
 use Rattle.pr_sets.specs.declared.view_set.ViewSet.{Ghosts as ViewSet}
-use Rattle.pr_views.specs.declared.view.ViewOf.{ViewOf}
-use Rattle.pr_views.specs.Rooms.{view_of, scope_of, AreAlike}
-use Rattle.pr_domain.specs.declared.landing.Landing.{Landing}
-use Rattle.pr_domain.specs.Outcomes.{AreOutcomes}
 use Rattle.pr_domain.proofs.lemmas.Reporting.FoundWords.{same_outcomes}
 use Rattle.pr_verify.specs.declared.answers.Questions.{Questions}
-use Rattle.pr_verify.specs.declared.known.Answer.{Answer}
-use Rattle.pr_verify.specs.declared.places.Spot.{Spot}
-use Rattle.pr_verify.specs.inside.Asked.{scenario_in, refusals_for, AreMade, IsSameQuestion, IsAnswered, IsAnswerTo, AreAnswersTo, IsAskedBefore, IsAnsweredAt}
-use Rattle.pr_verify.specs.inside.Inferring.{IsOf}
-use Rattle.pr_verify.specs.inside.Known.{ComesTo, AskTheSame, IsAnswer, IsAnswerAt, AreEqual}
-use Rattle.pr_verify.specs.inside.Listing.{place_of, IsPlaceWritten}
+use Rattle.pr_verify.specs.inside.Asked.{scenario_in, refusals_for, AreMade, IsSameQuestion, IsAnswered, IsAskedBefore, IsAnsweredAt}
+use Rattle.pr_verify.specs.inside.Known.{ComesTo, AskTheSame, IsAnswerAt}
 use Rattle.pr_verify.proofs.lemmas.Rooms.MappedLists.{element}
 use Rattle.pr_verify.proofs.lemmas.Known.Recollection.{found, read_is, answer_is, answered_at}
 use Rattle.pr_verify.proofs.lemmas.Outlines.LineOrder.{as_many, view_at_same}

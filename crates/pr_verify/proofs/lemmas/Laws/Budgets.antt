@@ -1,9 +1,8 @@
 -- What a host sent, and what its script may still send.
-use Rattle.std.proofs.Common.{◌≡◌, ◌≢◌, ℕ, ◌+◌, ◌≤◌, ◌==◌, true, false, cond, List, [], ◌∷◌, ◌++◌, Some, ap, arith}
+use Rattle.pr_verify.proofs.Common.{◌≡◌, ℕ, ◌+◌, ◌≤◌, true, false, ◌≢◌, List, [], ◌∷◌, ◌++◌, ◌==◌, Some, ap, arith, Reply, Configuration}
+use Rattle.std.proofs.Common.{cond}
 use Rattle.std.proofs.lemmas.Bool.Decides.{nat_tests}
 use Rattle.std.proofs.lemmas.List.Sums.{sum_by_push}
-use Rattle.pr_cdb.specs.declared.reply.Reply.{Reply}
-use Rattle.pr_script.specs.Scripts.{Configuration}
 use Rattle.pr_script.specs.Takes.{take}
 use Rattle.pr_script.specs.Costs.{commands, count_in, commands_sent as sends_on}
 use Rattle.pr_roles.specs.declared.entry.Entry.{Entry}

@@ -1,8 +1,7 @@
 -- A run and one event more.
-use Rattle.std.proofs.Common.{List, [], ◌∷◌, ◌++◌, refl, subst}
-use Rattle.pr_roles.specs.Scenarios.{Scenario}
-use Rattle.pr_roles.specs.Worlds.{World, Event, Host, Happens, Run, world_from}
-use Rattle.pr_roles.specs.Safety.{IsSafe, KeepsRole, KeepsRoles}
+use Rattle.pr_verify.proofs.Common.{List, [], ◌∷◌, ◌++◌, refl, subst, IsSafe, Scenario, World, Host, world_from}
+use Rattle.pr_roles.specs.Worlds.{Event, Happens, Run}
+use Rattle.pr_roles.specs.Safety.{KeepsRole, KeepsRoles}
 use Rattle.pr_verify.specs.Laws.{RunsGoOn, SafeSendsAreFine}
 
 -- the longer run, in which the event comes last

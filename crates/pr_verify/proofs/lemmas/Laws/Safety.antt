@@ -1,8 +1,7 @@
 -- Outlines make a scenario safe.
-use Rattle.std.proofs.Common.{◌≡◌, ℕ, [], Option, Some, false, ap, arith}
-use Rattle.pr_roles.specs.Scenarios.{Scenario, Task, Scripted, task}
-use Rattle.pr_roles.specs.Worlds.{World, control, is_trapped, world_from}
-use Rattle.pr_roles.specs.Safety.{IsSafe, KeepsBudgetBy}
+use Rattle.pr_verify.proofs.Common.{◌≡◌, ℕ, false, [], Some, Option, ap, arith, IsSafe, Task, Scripted, task, Scenario, World, control, world_from}
+use Rattle.pr_roles.specs.Worlds.{is_trapped}
+use Rattle.pr_roles.specs.Safety.{KeepsBudgetBy}
 use Rattle.pr_verify.specs.Laws.{OutlinesMakeSafe}
 use Rattle.pr_verify.proofs.lemmas.Outlines.Events.{IsKeptBy, kept_at_start, run_kept}
 

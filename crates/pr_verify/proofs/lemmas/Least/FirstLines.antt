@@ -1,10 +1,5 @@
 -- The first line at which something is lacking: of two kinds of things, and of the first elements of a list.
-use Rattle.std.proofs.Common.{◌≡◌, ℕ, ◌+◌, ◌<◌, ◌≤◌, min, List, length, slice_index_or, Option, Some, None, refl, sym, ap, ◌∙◌, subst, inl, inr, ◌⊎◌, arith}
-use Rattle.std.specs.List.{Contains}
-use Rattle.std.proofs.lemmas.List.{get_or_default}
-use Rattle.std.proofs.lemmas.Bool.{cases_eq, cases_order, cases_lt}
-use Rattle.pr_interference.specs.inside.Interfering.{Among}
-use Rattle.pr_verify.specs.inside.Least.{IsFirst, IsLeast, least, EachOf, IsLeastAmong}
+use Rattle.pr_verify.proofs.Common.{◌≡◌, ℕ, ◌+◌, ◌<◌, ◌≤◌, min, ◌⊎◌, List, length, slice_index_or, Some, None, Contains, Option, sym, refl, ap, ◌∙◌, subst, inl, inr, arith, cases_lt, cases_order, cases_eq, get_or_default, Among, IsFirst, IsLeast, least, EachOf, IsLeastAmong}
 
 -- ---- of two kinds
 

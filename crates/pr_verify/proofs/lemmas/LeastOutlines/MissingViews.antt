@@ -1,17 +1,7 @@
 -- The first line at which a view is missing.
-use Rattle.std.proofs.Common.{◌≡◌, ℕ, ◌+◌, ◌<◌, Bool, true, false, IsTrue, ◌↔◌, List, length, map, slice_index_or, Option, Some, refl, sym, ◌∙◌, subst, arith}
-use Rattle.std.specs.List.{All, Contains}
-use Rattle.std.proofs.lemmas.Bool.{false≢true}
-use Rattle.std.proofs.lemmas.List.{get_or_default}
-use Rattle.std.proofs.lemmas.List.Elements.{All-map, All-contains}
+use Rattle.pr_verify.proofs.Common.{◌≡◌, ℕ, ◌+◌, ◌<◌, Bool, true, false, ◌↔◌, List, map, length, IsTrue, slice_index_or, Some, All, Contains, Option, sym, refl, ◌∙◌, subst, arith, false≢true, get_or_default, All-map, All-contains, View, ViewOf, Among, IsWithinIn, Outline, view_at, HasView, IsFirst, IsLeast, least, EachOf, IsLeastAmong}
 use Rattle.pr_sets.specs.declared.view_set.ViewSet.{Ghosts as ViewSet}
-use Rattle.pr_views.specs.declared.view.ViewOf.{ViewOf}
-use Rattle.pr_views.specs.Views.{View}
-use Rattle.pr_interference.specs.inside.Interfering.{Among}
-use Rattle.pr_verify.specs.Outlines.{Outline, view_at}
-use Rattle.pr_verify.specs.inside.Least.{IsFirst, IsLeast, least, EachOf, IsLeastAmong}
-use Rattle.pr_verify.specs.LeastOutlines.{IsWithinIn}
-use Rattle.pr_verify.specs.inside.Lacking.{HasView, LacksView}
+use Rattle.pr_verify.specs.inside.Lacking.{LacksView}
 use Rattle.pr_verify.proofs.lemmas.Least.FirstLines.{least_as, least_more, least_same}
 
 -- what holds of the views of all entries holds of one of them

@@ -1,14 +1,8 @@
 -- A view that is not within another has a possibility that the other is without, and a state in which that is so is not
 -- shown by the other.
-use Rattle.std.proofs.Common.{◌≡◌, ℕ, zero, suc, ◌+◌, ◌<◌, Bool, true, false, length, Option, Some, None, refl, sym, ap, ◌∙◌, subst, inl, inr, ◌⊎◌, arith}
-use Rattle.std.proofs.lemmas.Bool.{false≢true, cases_eq, cases_order}
-use Rattle.pr_unit.specs.UnitStates.{UnitState}
-use Rattle.pr_views.specs.Possibilities.{Scope, IsScope, Item, Registration, Reservation, Attentions, IsSo, count_of_reservations, count_of_attentions}
-use Rattle.pr_views.specs.Views.{View, IsPossible, Shows, Fits, Within}
-use Rattle.pr_views.proofs.lemmas.Views.ShownStates.{shown_within}
+use Rattle.pr_verify.proofs.Common.{◌≡◌, ℕ, zero, suc, ◌+◌, ◌<◌, Bool, true, false, ◌⊎◌, length, Some, None, Option, sym, refl, ap, ◌∙◌, subst, inl, inr, arith, false≢true, cases_order, cases_eq, UnitState, Scope, IsScope, Item, Registration, Reservation, Attentions, IsSo, View, IsPossible, Shows, Fits, Within, shown_within, IsWithinIn, ShowsIn}
+use Rattle.pr_views.specs.Possibilities.{count_of_reservations, count_of_attentions}
 use Rattle.pr_interference.proofs.lemmas.Closing.ClosedViews.{shown_possible}
-use Rattle.pr_verify.specs.Outlines.{ShowsIn}
-use Rattle.pr_verify.specs.LeastOutlines.{IsWithinIn}
 
 -- ---- numbers that one test passes and another does not
 

@@ -1,16 +1,11 @@
 -- The lines of the places of a script: they are those of its sends, and lead to one another.
-use Rattle.std.specs.Prelude.{◌≡◌, ◌⊎◌, ℕ, zero, suc, ◌<◌, true, nat_lt, nat_le, List, [], ◌∷◌, ◌++◌, length, map, slice_index_or}
-use Rattle.std.specs.List.{Contains}
-use Rattle.std.proofs.Common.{refl, sym, ap, subst, ◌∙◌, inl, inr, arith}
-use Rattle.std.proofs.lemmas.Bool.{and_parts, ltb-true}
+use Rattle.pr_verify.proofs.Common.{◌≡◌, ℕ, zero, suc, ◌<◌, true, ◌⊎◌, List, [], ◌∷◌, ◌++◌, map, length, nat_lt, nat_le, slice_index_or, Contains, sym, refl, ap, ◌∙◌, subst, inl, inr, arith, ltb-true, and_parts, Contains-append_left, Contains-append_right, Contains-append_cases, rise_above, script_fits, Stmt, sends, repeats, Stmts, none, more, Arms, no_arm, arm, out_of, head_of, head_of_all, first_of, round, Place, next_of, place, places_in, places, places_of_arms, places_of, first_lines}
 use Rattle.std.proofs.lemmas.List.{map-append}
-use Rattle.std.proofs.lemmas.List.Elements.{Contains-append_cases, Contains-append_left, Contains-append_right}
-use Rattle.pr_script.specs.Scripts.{Stmt, Stmts, Arms, sends, repeats, none, more, no_arm, arm}
 use Rattle.pr_script.specs.Grammar as grammar
-use Rattle.pr_script.specs.Grammar.{lines_of_all, lines_of_arms, rise_above, statements_fit, count_of_all, script_fits}
+use Rattle.pr_script.specs.Grammar.{lines_of_all, lines_of_arms, statements_fit, count_of_all}
 use Rattle.pr_verify.specs.declared.head.Head.{Head}
 use Rattle.pr_verify.specs.declared.head.Head.TheVariants.{Line, Falls, Breaks, Stops}
-use Rattle.pr_verify.specs.Places.{Place, then_head, out_of, head_of, head_of_all, lines_of, first_of, round, place, places, places_in, places_of_arms, places_of, first_lines, next_of}
+use Rattle.pr_verify.specs.Places.{then_head, lines_of}
 use Rattle.pr_verify.specs.inside.Listing.{AreAmong}
 use Rattle.pr_verify.proofs.lemmas.Listing.WrittenPlaces.{first_or_rest, nothing_in}
 

@@ -1,16 +1,8 @@
 -- What comes first of a repeat, and the places of a statement by its kind.
-use Rattle.std.specs.Prelude.{◌≡◌, ℕ, zero, suc, List, [], ◌∷◌, ◌++◌, map}
-use Rattle.std.proofs.Common.{refl, ap, ◌∙◌, append_assoc}
+use Rattle.pr_verify.proofs.Common.{◌≡◌, ℕ, zero, suc, List, [], ◌∷◌, ◌++◌, map, Contains, refl, ap, ◌∙◌, All-nil, All-cons, All-append, All-map, All-contains, Command, sends, repeats, Stmts, Arms, Test, out_of, head_of, head_of_all, round, Place, tests_of, next_of, place, places_in, places, places_of_arms, Spot, place_of, AreInRange}
+use Rattle.std.proofs.Common.{append_assoc}
 use Rattle.std.proofs.lemmas.List.{map_push}
-use Rattle.std.specs.List.{Contains}
-use Rattle.std.proofs.lemmas.List.Elements.{All-nil, All-cons, All-append, All-map, All-contains}
 use Rattle.pr_cdb.specs.Ranges.{Fits}
-use Rattle.pr_cdb.specs.declared.command.Command.{Command}
-use Rattle.pr_script.specs.declared.script.Test.{Test}
-use Rattle.pr_script.specs.Scripts.{Stmts, Arms, sends, repeats}
-use Rattle.pr_verify.specs.declared.places.Spot.{Spot}
-use Rattle.pr_verify.specs.Places.{Place, out_of, head_of, head_of_all, places, places_in, places_of_arms, round, tests_of, next_of, place}
-use Rattle.pr_verify.specs.inside.Listing.{place_of, AreInRange}
 
 pub head_of-repeats : (n : ℕ) (b : Stmts) → (n ≡ 0 → ⊥) → head_of (repeats n b) ≡ out_of (head_of_all b)
 head_of-repeats zero b some = absurd (some refl)

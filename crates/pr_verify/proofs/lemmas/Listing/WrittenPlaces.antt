@@ -1,14 +1,6 @@
 -- The places of a script that fits can be written.
-use Rattle.std.specs.Prelude.{◌≡◌, ◌⊎◌, ℕ, zero, suc, ◌+◌, ◌<◌, true, ◌&&◌, nat_lt, nat_le, List, [], ◌∷◌, length, slice_index_or}
-use Rattle.std.specs.List.{All, Contains}
-use Rattle.std.proofs.Common.{refl, subst, inl, inr, arith}
-use Rattle.std.proofs.lemmas.Bool.{and_parts, leb-true}
-use Rattle.std.proofs.lemmas.List.Elements.{All-nil, All-cons, Contains-append_cases}
-use Rattle.pr_cdb.specs.declared.command.Command.{Command}
-use Rattle.pr_script.specs.Scripts.{Stmt, Stmts, Arms, sends, repeats, none, more, no_arm, arm}
-use Rattle.pr_script.specs.Grammar.{test_fits, statement_fits, statements_fit, arms_fit, is_written, is_send_written, is_repeat_written, count_of_arms, script_fits}
-use Rattle.pr_verify.specs.Places.{Place, place, places, places_in, places_of_arms, places_of, first_of, round, tests_of, next_of}
-use Rattle.pr_verify.specs.inside.Listing.{IsPlaceWritten}
+use Rattle.pr_verify.proofs.Common.{◌≡◌, ℕ, zero, suc, ◌+◌, ◌<◌, true, ◌&&◌, ◌⊎◌, List, [], ◌∷◌, length, nat_lt, nat_le, slice_index_or, All, Contains, refl, subst, inl, inr, arith, leb-true, and_parts, All-nil, All-cons, Contains-append_cases, Command, script_fits, Stmt, sends, repeats, Stmts, none, more, Arms, no_arm, arm, first_of, round, Place, tests_of, next_of, place, places_in, places, places_of_arms, places_of, IsPlaceWritten}
+use Rattle.pr_script.specs.Grammar.{test_fits, statement_fits, statements_fit, arms_fit, is_written, is_send_written, is_repeat_written, count_of_arms}
 
 -- what a list has is its first element, or one of the others
 pub first_or_rest : {X : Type 0} (x : X) (xs : List X) (y : X) → Contains (x ∷ xs) y → (x ≡ y) ⊎ Contains xs y

@@ -1,10 +1,6 @@
 -- A host's outline, put together from what its check promises.
-use Rattle.std.proofs.Common.{◌≡◌, ℕ, ◌+◌, ◌<◌, Ok, Err, Result, inl, inr, ◌⊎◌, sym, subst, arith}
+use Rattle.pr_verify.proofs.Common.{◌≡◌, ℕ, ◌+◌, ◌<◌, ◌⊎◌, Ok, Err, Result, sym, subst, inl, inr, arith, cases_order, cases_eq, Stmts, Scenario, Outline, IsSound, IsFitting, HasOutline}
 use Rattle.std.specs.Result.{IfOk, OnOk}
-use Rattle.std.proofs.lemmas.Bool.{cases_eq, cases_order}
-use Rattle.pr_script.specs.Scripts.{Stmts}
-use Rattle.pr_roles.specs.Scenarios.{Scenario}
-use Rattle.pr_verify.specs.Outlines.{Outline, IsSound, IsFitting, HasOutline}
 
 pub has_outline : (s : Scenario) (h : ℕ) (script : Stmts) (budget : ℕ) {o : Outline} → o.host ≡ h → IsSound s script o → IsFitting s script budget o → HasOutline s h script budget
 has_outline s h script budget {o} host sound fitting = record { outline = o; host = host; sound = sound; fitting = fitting }

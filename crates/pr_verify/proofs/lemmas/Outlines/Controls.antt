@@ -1,15 +1,9 @@
 -- What the nexuses do at the beginning, and after a command of one of them.
-use Rattle.std.proofs.Common.{◌≡◌, ◌≢◌, ℕ, zero, suc, List, ◌∷◌, Option, Some, None, refl, ap, ◌∙◌}
-use Rattle.std.specs.Prelude.{option_map, slice_set}
-use Rattle.std.specs.List.{slice_get}
-use Rattle.std.specs.Option.{option_map_or}
+use Rattle.pr_verify.proofs.Common.{◌≡◌, ℕ, zero, suc, ◌≢◌, List, ◌∷◌, slice_get, slice_set, Some, None, Option, refl, ap, ◌∙◌, option_map_or, Reply, UnitState, Configuration, Nexus, task, Scenario, nexus, World, control, after, world_from}
+use Rattle.std.specs.Prelude.{option_map}
 use Rattle.std.proofs.lemmas.Option.{slice_get-map}
-use Rattle.pr_cdb.specs.declared.reply.Reply.{Reply}
 use Rattle.pr_cdb.specs.declared.wire.Wire.{Wire}
-use Rattle.pr_unit.specs.UnitStates.{UnitState}
-use Rattle.pr_script.specs.Scripts.{Configuration}
-use Rattle.pr_roles.specs.Scenarios.{Scenario, Nexus, nexus, task}
-use Rattle.pr_roles.specs.Worlds.{World, Control, Going, Free, control_after, control, control_of, after, world_from}
+use Rattle.pr_roles.specs.Worlds.{Control, Going, Free, control_after, control_of}
 
 -- one that is not there does nothing
 pub nobody_at_start : (s : Scenario) (u : UnitState) (h : ℕ) → task s h ≡ None → control (world_from s u) h ≡ Free

@@ -1,38 +1,27 @@
 -- What every event keeps: each script stands at places of its outline, whose views show the unit, and what it sent and may
 -- still send is within its cost.
-use Rattle.std.proofs.Common.{◌≡◌, ◌≢◌, ℕ, ◌<◌, ◌==◌, true, false, IsTrue, List, [], ◌∷◌, length, Option, Some, None, refl, sym, ap, ◌∙◌, subst, inl, inr, ◌⊎◌, arith}
-use Rattle.std.specs.Prelude.{IsSome, nat_lt, not}
-use Rattle.std.specs.List.{Contains}
-use Rattle.std.proofs.lemmas.Bool.{false≢true}
-use Rattle.std.proofs.lemmas.Bool.Decides.{eqb_tells, nat_tests}
-use Rattle.std.proofs.lemmas.Option.{none-some}
-use Rattle.pr_cdb.specs.declared.command.Command.{Command}
-use Rattle.pr_cdb.specs.declared.reply.Reply.{Reply}
+use Rattle.pr_verify.proofs.Common.{◌≡◌, ℕ, ◌<◌, true, false, ◌≢◌, ◌⊎◌, List, [], ◌∷◌, length, IsTrue, nat_lt, ◌==◌, Some, None, Contains, Option, sym, refl, ap, ◌∙◌, subst, inl, inr, arith, false≢true, eqb_tells, none-some, Command, Reply, Plain, UnitState, cost_of_all, Stmts, Configuration, Answers, Answered, refusals_of, command_permitted, Task, Scripted, role, task, Scenario, IsAllowedStart, World, control, after, Host, world_from, How, IsDone, by_another, by_reset, IsShownAt, at_start, by_itself, by_others, HasOutline, OnScripted, HaveOutlines, SendsFit, Place, places_of, first_lines, follows}
+use Rattle.std.specs.Prelude.{IsSome, not}
+use Rattle.std.proofs.lemmas.Bool.Decides.{nat_tests}
 use Rattle.pr_cdb.specs.declared.wire.Wire.{Wire}
-use Rattle.pr_cdb.specs.declared.wire.Request.TheVariants.{Plain}
 use Rattle.pr_cdb.specs.Ranges.{Fits, FitsWhereRead}
 use Rattle.pr_cdb.specs.Spelling.{spelling}
 use Rattle.pr_cdb.proofs.lemmas.FieldRanges.{reads_fit}
-use Rattle.pr_unit.specs.UnitStates.{UnitState, reset}
+use Rattle.pr_unit.specs.UnitStates.{reset}
 use Rattle.pr_unit.specs.Replies.{is_good}
-use Rattle.pr_roles.specs.declared.how.How.{How}
 use Rattle.pr_roles.specs.declared.how.How.TheVariants as how
-use Rattle.pr_roles.specs.Answers.{Answers, refusals_by, most_refusals, may_come}
-use Rattle.pr_roles.specs.DeclaredRefusals.{Answered, refusals_of, is_among}
-use Rattle.pr_script.specs.Scripts.{Stmts, Configuration, ready, first_configuration}
+use Rattle.pr_roles.specs.Answers.{refusals_by, most_refusals, may_come}
+use Rattle.pr_roles.specs.DeclaredRefusals.{is_among}
+use Rattle.pr_script.specs.Scripts.{ready, first_configuration}
 use Rattle.pr_script.specs.Takes.{take}
-use Rattle.pr_script.specs.Costs.{cost_of_all}
 use Rattle.pr_script.proofs.lemmas.Costs.Budgets.{cost_bounds_sends}
-use Rattle.pr_roles.specs.Permits.{command_permitted}
 use Rattle.pr_roles.specs.declared.item.Item.{Item}
-use Rattle.pr_roles.specs.Scenarios.{Scenario, Task, Scripted, Planned, role, task}
-use Rattle.pr_roles.specs.Starts.{IsAllowedStart}
-use Rattle.pr_roles.specs.Worlds.{World, Going, Free, Event, Host, Guest, UnitReset, HostSends, GuestSends, IsReset, Happens, Run, after, after_reset, resets_in, control, going_or_trapped, is_guest_task, commands_by, standing_of, control_after, world_from}
+use Rattle.pr_roles.specs.Scenarios.{Planned}
+use Rattle.pr_roles.specs.Worlds.{Going, Free, Event, Guest, UnitReset, HostSends, GuestSends, IsReset, Happens, Run, after_reset, resets_in, going_or_trapped, is_guest_task, commands_by, standing_of, control_after}
 use Rattle.pr_roles.specs.Safety.{KeepsRole, KeepsRoles}
 use Rattle.pr_roles.proofs.lemmas.Worlds.Controls.{there, at_start as begins}
-use Rattle.pr_interference.specs.Interference.{IsDone, declares_resets, by_another, by_reset}
-use Rattle.pr_verify.specs.Places.{Place, places_of, first_lines, follows}
-use Rattle.pr_verify.specs.Outlines.{AllSendsFit, HasOutline, HaveOutlines, IsShownAt, OnScripted, SendsFit, at_start, by_itself, by_others}
+use Rattle.pr_interference.specs.Interference.{declares_resets}
+use Rattle.pr_verify.specs.Outlines.{AllSendsFit}
 use Rattle.pr_verify.proofs.lemmas.Places.Successors.{Leads, leads_begun}
 use Rattle.pr_verify.proofs.lemmas.Places.Replies.{LeadsOn, IsReadyAt, ready_at}
 use Rattle.pr_verify.proofs.lemmas.Laws.Budgets.{IsWithinCost, sent_other, sent_own, sent_reset, within_cost_taken}

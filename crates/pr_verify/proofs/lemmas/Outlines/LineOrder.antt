@@ -1,10 +1,5 @@
 -- Lines that rise: each entry has a line of its own.
-use Rattle.std.proofs.Common.{◌≡◌, ℕ, zero, suc, ◌<◌, ◌≤◌, true, nat_lt, List, [], ◌∷◌, length, map, slice_index_or, Some, refl, sym, ap, ◌∙◌, subst, inl, inr, ◌⊎◌, arith}
-use Rattle.std.proofs.lemmas.Bool.{and_parts, ltb-true, cases_lt, cases_eq, cases_order}
-use Rattle.std.proofs.lemmas.List.{length-map, get_or-map, get_or_default}
-use Rattle.pr_script.specs.Grammar.{rise_above}
-use Rattle.pr_views.specs.Views.{View}
-use Rattle.pr_verify.specs.Outlines.{view_at}
+use Rattle.pr_verify.proofs.Common.{◌≡◌, ℕ, zero, suc, ◌<◌, ◌≤◌, true, ◌⊎◌, List, [], ◌∷◌, map, length, nat_lt, slice_index_or, Some, sym, refl, ap, ◌∙◌, subst, inl, inr, arith, ltb-true, cases_lt, and_parts, cases_order, cases_eq, length-map, get_or_default, get_or-map, rise_above, View, view_at}
 use Rattle.pr_verify.proofs.lemmas.Outlines.Lookups.{entries, view_at_found}
 
 above : (n : ℕ) (ls : List ℕ) (j : ℕ) → rise_above n ls ≡ true → j < length ls → n < slice_index_or ls j 0

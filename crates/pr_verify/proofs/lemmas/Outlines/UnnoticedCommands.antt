@@ -1,27 +1,19 @@
 -- A command that does not end GOOD leaves the state as it is, or reports an attention of its sender. A REQUEST SENSE in
 -- its place would have reported that too, and ended GOOD. So to the others each command is one that ends GOOD, or none.
-use Rattle.std.proofs.Common.{◌≡◌, ℕ, Bool, true, false, IsTrue, List, Option, Some, None, refl, sym, ◌∙◌, inl, inr, ◌⊎◌}
-use Rattle.std.specs.Prelude.{Ok}
-use Rattle.std.proofs.lemmas.Bool.{false≢true}
+use Rattle.pr_verify.proofs.Common.{◌≡◌, ℕ, Bool, true, false, ◌⊎◌, List, IsTrue, Some, None, Ok, Option, sym, refl, ◌∙◌, inl, inr, false≢true, Reply, Plain, Step, UnitState, is_any_pending, Answers, How, IsDone}
 use Rattle.pr_cdb.specs.declared.command.Command.TheVariants.{RequestSense}
 use Rattle.pr_cdb.specs.declared.reply.Sense.{Sense}
-use Rattle.pr_cdb.specs.declared.reply.Reply.{Reply}
 use Rattle.pr_cdb.specs.declared.wire.Request.{Request}
-use Rattle.pr_cdb.specs.declared.wire.Request.TheVariants.{Plain}
 use Rattle.pr_cdb.specs.Ranges.{FitsWhereRead}
 use Rattle.pr_unit.specs.Attentions.{power_on}
-use Rattle.pr_unit.specs.UnitStates.{UnitState, is_pending, is_any_pending, after_report}
+use Rattle.pr_unit.specs.UnitStates.{is_pending, after_report}
 use Rattle.pr_unit.specs.Conflicts.{conflicts}
 use Rattle.pr_unit.specs.Faults.{fault}
 use Rattle.pr_unit.specs.Replies.{is_good, report}
-use Rattle.pr_unit.specs.Steps.{Step}
 use Rattle.pr_unit.proofs.lemmas.TakenSteps.Determinism.{good_by_decision}
 use Rattle.pr_roles.specs.declared.role.Clause.{Clause}
-use Rattle.pr_roles.specs.declared.how.How.{How}
 use Rattle.pr_roles.specs.declared.how.How.TheVariants as how
-use Rattle.pr_roles.specs.Answers.{Answers}
 use Rattle.pr_roles.specs.Permits.{is_permitted}
-use Rattle.pr_interference.specs.Interference.{IsDone}
 
 -- the REQUEST SENSE that reports this attention
 senses_power_on : (u : UnitState) (g : ℕ) (v : UnitState) → is_pending u g power_on ≡ true → v ≡ after_report u g power_on → Step u g (Plain RequestSense) (report (Plain RequestSense) power_on) v

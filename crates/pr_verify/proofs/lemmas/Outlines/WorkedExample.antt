@@ -1,15 +1,9 @@
 -- A worked example of an outline: a host tests the unit in a repeat, beside a guest that may only look. Nothing is ever
 -- pending for the host, and its only arm takes each reply. So what makes a scenario safe can be met.
-use Rattle.std.proofs.Common.{◌≡◌, ◌≢◌, ℕ, zero, suc, ◌<◌, ◌==◌, Bool, IsTrue, true, false, if◌then◌else◌, [], ◌∷◌, Option, Some, None, refl, sym, ap, ◌∙◌, subst, inr, arith}
-use Rattle.std.specs.Prelude.{is_some}
+use Rattle.pr_verify.proofs.Common.{◌≡◌, ℕ, zero, suc, ◌<◌, Bool, true, false, ◌≢◌, [], ◌∷◌, is_some, if◌then◌else◌, IsTrue, ◌==◌, Some, None, Contains, Option, sym, refl, ap, ◌∙◌, subst, inr, arith, false≢true, none-some, same_Some, Reply, Plain, Step, UnitState, is_any_pending, sends, repeats, Stmts, none, more, no_arm, arm, matches, Answers, Answered, refusals_of, IsSafe, Scripted, Nexus, role, Scenario, nexus, IsAllowedStart, How, View, Shows, IsDone, Becomes, by_another, by_reset, Outline, ShowsIn, IsShownAt, scope_in, IsOfScenario, ComesTo, IsLeftAt, IsAsked, at_start, by_itself, by_others, KeepsToRole, HasOutline, HaveOutlines, Place, follows}
 use Rattle.std.specs.FinSet as set
-use Rattle.std.specs.List.{Contains}
-use Rattle.std.proofs.lemmas.Bool.{false≢true}
-use Rattle.std.proofs.lemmas.Option.{none-some, same_Some}
 use Rattle.pr_cdb.specs.declared.command.Command.TheVariants.{TestUnitReady, Register, RegisterIgnore, Reserve, Release, Clear, Preempt, PreemptAbort}
-use Rattle.pr_cdb.specs.declared.reply.Reply.{Reply}
 use Rattle.pr_cdb.specs.declared.wire.Request.{Request}
-use Rattle.pr_cdb.specs.declared.wire.Request.TheVariants.{Plain}
 use Rattle.pr_cdb.specs.Ranges.{Fits}
 use Rattle.pr_attention.specs.Attentions.{no_code, power_on, reservations_preempted, reservations_released, registrations_preempted}
 use Rattle.pr_attention.specs.Flagged.{codes_of}
@@ -21,9 +15,8 @@ use Rattle.pr_registry.specs.Registrations.{State, empty_registry, key_of}
 use Rattle.pr_registry.proofs.lemmas.Sets.{get-empty}
 use Rattle.pr_registry.proofs.lemmas.States.{well_formed-fresh}
 use Rattle.pr_registry.proofs.lemmas.Tables.{same_number}
-use Rattle.pr_unit.specs.UnitStates.{UnitState, IsWellFormed, is_pending, is_any_pending, effect, quiet_unit}
+use Rattle.pr_unit.specs.UnitStates.{IsWellFormed, is_pending, effect, quiet_unit}
 use Rattle.pr_unit.specs.Replies.{good}
-use Rattle.pr_unit.specs.Steps.{Step}
 use Rattle.pr_unit.specs.Laws.{request_looks}
 use Rattle.pr_unit.proofs.lemmas.TakenSteps.Determinism.{good_is_fixed}
 use Rattle.pr_unit.proofs.lemmas.TakenSteps.GoodSteps.{good_step}
@@ -31,21 +24,13 @@ use Rattle.pr_unit.proofs.lemmas.Attentions.Pairs.{contains-none}
 use Rattle.pr_unit.proofs.lemmas.Steps.QuietSteps.{quiet_steps}
 use Rattle.pr_unit.proofs.lemmas.Steps.WellFormedSteps.{well_formed-step}
 use Rattle.pr_script.specs.declared.script.Test.TheVariants.{Good}
-use Rattle.pr_script.specs.Scripts.{Stmts, sends, repeats, none, more, no_arm, arm}
-use Rattle.pr_script.specs.Takes.{matches}
-use Rattle.pr_roles.specs.declared.how.How.{How}
 use Rattle.pr_roles.specs.declared.how.How.TheVariants as how
-use Rattle.pr_roles.specs.Answers.{Answers}
-use Rattle.pr_roles.specs.DeclaredRefusals.{Answered, refusals_of, is_among}
+use Rattle.pr_roles.specs.DeclaredRefusals.{is_among}
 use Rattle.pr_roles.specs.Permits.{is_permitted}
-use Rattle.pr_roles.specs.Scenarios.{Scenario, Nexus, Scripted, Planned, nexus, role}
-use Rattle.pr_roles.specs.Starts.{IsAllowedStart, CanStart}
-use Rattle.pr_roles.specs.Safety.{IsSafe}
+use Rattle.pr_roles.specs.Scenarios.{Planned}
+use Rattle.pr_roles.specs.Starts.{CanStart}
 use Rattle.pr_views.specs.Possibilities.{key_at, number_of}
-use Rattle.pr_views.specs.Views.{View, Shows}
-use Rattle.pr_interference.specs.Interference.{IsDone, Becomes, by_another, by_reset}
-use Rattle.pr_verify.specs.Places.{Place, follows}
-use Rattle.pr_verify.specs.Outlines.{AllSendsFit, Outline, scope_in, IsOfScenario, IsShownAt, ShowsIn, ComesTo, IsLeftAt, IsAsked, at_start, by_itself, by_others, HasArms, KeepsToRole, HasOutline, HaveOutlines}
+use Rattle.pr_verify.specs.Outlines.{AllSendsFit, HasArms}
 use Rattle.pr_verify.proofs.lemmas.Laws.Safety.{outlines_make_safe}
 
 -- ---- the scenario

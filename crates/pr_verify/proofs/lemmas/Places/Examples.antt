@@ -1,27 +1,19 @@
 -- Worked examples: the places of small scripts, and a scenario that is not safe.
-use Rattle.std.proofs.Common.{◌≡◌, ℕ, zero, suc, true, false, List, [], ◌∷◌, Some, None, refl, sym, ◌∙◌, subst, arith}
-use Rattle.std.specs.Prelude.{map}
-use Rattle.std.specs.List.{Contains}
-use Rattle.std.proofs.lemmas.Bool.{false≢true}
-use Rattle.std.proofs.lemmas.Option.{none-some, same_Some}
+use Rattle.pr_verify.proofs.Common.{◌≡◌, ℕ, zero, suc, true, false, List, [], ◌∷◌, map, Some, None, Contains, sym, refl, ◌∙◌, subst, arith, false≢true, none-some, same_Some, UnitState, is_any_pending, Stmt, sends, repeats, stops, Stmts, none, more, no_arm, arm, settled_form, IsSafe, Scripted, Nexus, Scenario, nexus, IsAllowedStart, World, control, after, Host, world_from, places_of, first_lines}
 use Rattle.pr_cdb.specs.declared.command.Command.TheVariants.{TestUnitReady}
 use Rattle.pr_attention.specs.Attentions.{no_code}
 use Rattle.pr_registry.specs.Registrations.{empty_registry, key_of}
 use Rattle.pr_registry.proofs.lemmas.Sets.{get-empty}
 use Rattle.pr_registry.proofs.lemmas.States.{well_formed-fresh}
-use Rattle.pr_unit.specs.UnitStates.{UnitState, is_any_pending, effect, quiet_unit}
+use Rattle.pr_unit.specs.UnitStates.{effect, quiet_unit}
 use Rattle.pr_unit.specs.Replies.{good}
 use Rattle.pr_unit.proofs.lemmas.TakenSteps.GoodSteps.{good_step}
 use Rattle.pr_unit.proofs.lemmas.Attentions.Pairs.{contains-none}
 use Rattle.pr_script.specs.declared.script.Test.TheVariants.{Good, Conflict}
-use Rattle.pr_script.specs.Scripts.{Stmt, Stmts, sends, repeats, breaks, stops, none, more, no_arm, arm, settled_form}
+use Rattle.pr_script.specs.Scripts.{breaks}
 use Rattle.pr_roles.specs.declared.how.How.TheVariants as how
-use Rattle.pr_roles.specs.Scenarios.{Scenario, Nexus, Scripted, nexus}
-use Rattle.pr_roles.specs.Starts.{IsAllowedStart}
-use Rattle.pr_roles.specs.Worlds.{World, Host, HostSends, after, control, is_trapped, world_from}
-use Rattle.pr_roles.specs.Safety.{IsSafe}
+use Rattle.pr_roles.specs.Worlds.{HostSends, is_trapped}
 use Rattle.pr_cdb.specs.Spelling.{spelling}
-use Rattle.pr_verify.specs.Places.{places_of, first_lines}
 
 -- ---- places
 

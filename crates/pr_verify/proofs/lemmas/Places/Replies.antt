@@ -1,18 +1,12 @@
 -- A script that is ready stands at one of its places, and a reply leads from there to the lines of the arm that takes it.
-use Rattle.std.proofs.Common.{◌≡◌, ℕ, zero, suc, ◌<◌, true, false, if◌then◌else◌, List, [], ◌∷◌, Option, Some, None, get_or, refl, sym, subst, arith}
+use Rattle.pr_verify.proofs.Common.{◌≡◌, ℕ, zero, suc, ◌<◌, true, false, List, [], ◌∷◌, get_or, if◌then◌else◌, slice_get, Some, None, Contains, Option, sym, refl, subst, arith, Contains-append_left, Contains-append_right, position-Some, none-some, same_Some, Command, Reply, sends, stops, Stmts, Arms, no_arm, arm, Configuration, settled_form, matches, first_of, Place, tests_of, next_of, place, places, places_of_arms, follows}
 use Rattle.std.specs.Prelude.{codes, option_map}
-use Rattle.std.specs.List.{Contains, slice_get}
-use Rattle.std.proofs.lemmas.List.Elements.{Contains-append_left, Contains-append_right}
-use Rattle.std.proofs.lemmas.List.Quantifiers.{position-Some}
-use Rattle.std.proofs.lemmas.Option.{none-some, option_and_then_some, same_Some}
-use Rattle.pr_cdb.specs.declared.command.Command.{Command}
-use Rattle.pr_cdb.specs.declared.reply.Reply.{Reply}
+use Rattle.std.proofs.lemmas.Option.{option_and_then_some}
 use Rattle.pr_script.specs.declared.script.Test.TheVariants as test
-use Rattle.pr_script.specs.Scripts.{Stmts, Arms, sends, stops, no_arm, arm, statement, Configuration, ready, stopped, before, settled_form, standing_of_items}
-use Rattle.pr_script.specs.Takes.{matches, first_match, take}
+use Rattle.pr_script.specs.Scripts.{statement, ready, stopped, before, standing_of_items}
+use Rattle.pr_script.specs.Takes.{first_match, take}
 use Rattle.pr_script.specs.Costs.{commands}
 use Rattle.pr_roles.proofs.lemmas.FirstStarts.Existence.{contains_first}
-use Rattle.pr_verify.specs.Places.{Place, first_of, tests_of, next_of, place, places, places_of_arms, follows}
 use Rattle.pr_verify.proofs.lemmas.Places.Successors.{IsWithin, Goes, Leads, goes_before, leads_settled}
 
 -- there is something still to do, and it leads to these lines

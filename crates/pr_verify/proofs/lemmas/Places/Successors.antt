@@ -1,14 +1,12 @@
 -- What is still to do of a script leads to lines. The lines at which it may be ready next are known without its counts,
 -- and every unfolding keeps them.
-use Rattle.std.proofs.Common.{◌≡◌, ℕ, zero, suc, ◌<◌, List, [], ◌∷◌, ◌++◌, refl, sym, subst, inl, inr, ◌⊎◌, arith}
-use Rattle.std.specs.List.{Contains}
-use Rattle.std.proofs.lemmas.List.Elements.{Contains-append_left, Contains-append_right, Contains-append_cases}
-use Rattle.pr_script.specs.Scripts.{Stmt, Stmts, sends, repeats, breaks, stops, none, more, statement, mark, Configuration, before, past_mark, becomes, settled_form, first_configuration}
+use Rattle.pr_verify.proofs.Common.{◌≡◌, ℕ, zero, suc, ◌<◌, ◌⊎◌, List, [], ◌∷◌, ◌++◌, Contains, sym, refl, subst, inl, inr, arith, Contains-append_left, Contains-append_right, Contains-append_cases, Stmt, sends, repeats, stops, Stmts, none, more, Configuration, settled_form, out_of, head_of, head_of_all, first_of, Place, places_in, places, places_of, first_lines}
+use Rattle.pr_script.specs.Scripts.{breaks, statement, mark, before, past_mark, becomes, first_configuration}
 use Rattle.pr_script.proofs.lemmas.Next.Settlement.{kept}
 use Rattle.pr_roles.proofs.lemmas.FirstStarts.Existence.{contains_first}
 use Rattle.pr_verify.specs.declared.head.Head.{Head}
 use Rattle.pr_verify.specs.declared.head.Head.TheVariants.{Line, Falls, Breaks, Stops}
-use Rattle.pr_verify.specs.Places.{Place, then_head, out_of, head_of, head_of_all, lines_of, first_of, places_in, places, places_of, first_lines}
+use Rattle.pr_verify.specs.Places.{then_head, lines_of}
 
 -- ---- lists
 

@@ -1,13 +1,8 @@
 -- Classes of replies, one after another.
-use Rattle.std.proofs.Common.{◌≡◌, ℕ, ◌+◌, ◌<◌, ◌≤◌, Bool, true, false, nat_le, if◌then◌else◌, List, length, slice_index_or, Option, Some, None, refl, sym, ap, ◌∙◌, subst, inl, inr, ◌⊎◌, arith}
-use Rattle.std.proofs.lemmas.Bool.{leb-true, leb-false}
+use Rattle.pr_verify.proofs.Common.{◌≡◌, ℕ, ◌+◌, ◌<◌, ◌≤◌, Bool, true, false, ◌⊎◌, List, length, if◌then◌else◌, nat_le, slice_index_or, Some, None, Option, sym, refl, ap, ◌∙◌, subst, inl, inr, arith, leb-true, ViewOf, Class, Landing, NoArm, class_number, IsUnarmed, IsFirstUnarmed}
+use Rattle.std.proofs.lemmas.Bool.{leb-false}
 use Rattle.pr_sets.specs.declared.view_set.ViewSet.{Ghosts as ViewSet}
-use Rattle.pr_views.specs.declared.view.ViewOf.{ViewOf}
-use Rattle.pr_domain.specs.declared.landing.Landing.{Landing}
-use Rattle.pr_domain.specs.declared.landing.Landing.TheVariants.{NoArm}
-use Rattle.pr_domain.specs.declared.landing.Class.{Class}
-use Rattle.pr_verify.specs.Refusals.{class_number}
-use Rattle.pr_verify.specs.inside.Reviewing.{IsUnarmed, IsFirstClass, IsFirstUnarmed, earlier, earlier_from}
+use Rattle.pr_verify.specs.inside.Reviewing.{IsFirstClass, earlier, earlier_from}
 use Rattle.pr_verify.proofs.lemmas.Least.FirstLines.{among_there, among_back}
 
 -- ---- the first by number

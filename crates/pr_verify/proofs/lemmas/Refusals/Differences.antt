@@ -1,9 +1,5 @@
 -- Where the lines of two lists first differ.
-use Rattle.std.proofs.Common.{◌≡◌, ◌≢◌, ℕ, zero, suc, ◌+◌, ◌<◌, ◌≤◌, true, false, ◌==◌, if◌then◌else◌, min, List, [], ◌∷◌, length, map, slice_index_or, Some, None, refl, sym, ap, ◌∙◌, inl, inr, ◌⊎◌, arith}
-use Rattle.std.proofs.lemmas.List.{get_or_default}
-use Rattle.std.proofs.lemmas.Bool.{cases_eq, cases_order}
-use Rattle.std.proofs.lemmas.Bool.Decides.{eqb_tells}
-use Rattle.pr_verify.specs.Refusals.{first_difference}
+use Rattle.pr_verify.proofs.Common.{◌≡◌, ℕ, zero, suc, ◌+◌, ◌<◌, ◌≤◌, min, true, false, ◌≢◌, ◌⊎◌, List, [], ◌∷◌, map, length, if◌then◌else◌, ◌==◌, slice_index_or, Some, None, sym, refl, ap, ◌∙◌, inl, inr, arith, cases_order, cases_eq, eqb_tells, get_or_default, first_difference}
 
 -- lists that do not differ are the same
 pub differing_none : (ls ms : List ℕ) → first_difference ls ms ≡ None → ls ≡ ms

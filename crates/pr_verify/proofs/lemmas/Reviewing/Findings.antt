@@ -1,24 +1,9 @@
 -- What was found of an outline's views and of a script's sends, put together.
-use Rattle.std.proofs.Common.{◌≡◌, ℕ, ◌<◌, ◌≤◌, true, List, length, map, slice_index_or, Option, Some, None, refl, sym, ap, ◌∙◌, subst, inl, inr, ◌⊎◌, arith}
-use Rattle.std.specs.List.{All, Contains}
+use Rattle.pr_verify.proofs.Common.{◌≡◌, ℕ, ◌<◌, ◌≤◌, true, ◌⊎◌, List, map, length, slice_index_or, Some, None, All, Contains, Option, sym, refl, ap, ◌∙◌, subst, inl, inr, arith, map-map, cost_of_all, rise_above, script_fits, Stmts, Scenario, View, Among, Outline, IsOfScenario, StartsAt, ComesTo, IsLeftAt, IsAsked, at_start, by_itself, by_others, IsListed, IsSound, KeepsToRole, IsFitting, Place, places_of, first_difference, BreaksRole, FitsAt, IsRefusal, Spot, Refusal, HasAll, Lacks, IsFirstLacking, least, EachOf, place_of, IsPlaceWritten, IsLackingOfSends}
 use Rattle.std.proofs.lemmas.List.Elements.{Contains-get_or}
-use Rattle.std.proofs.lemmas.Simd.{map-map}
-use Rattle.pr_script.specs.Scripts.{Stmts}
-use Rattle.pr_script.specs.Costs.{cost_of_all}
-use Rattle.pr_script.specs.Grammar.{rise_above, script_fits}
-use Rattle.pr_roles.specs.Scenarios.{Scenario}
-use Rattle.pr_views.specs.Views.{View}
-use Rattle.pr_interference.specs.inside.Interfering.{Among}
-use Rattle.pr_verify.specs.declared.places.Spot.{Spot}
-use Rattle.pr_verify.specs.declared.refusal.Refusal.{Refusal}
 use Rattle.pr_verify.specs.declared.refusal.Refusal.TheVariants.{NoArm, OutOfRole}
-use Rattle.pr_verify.specs.Places.{Place, places_of}
-use Rattle.pr_verify.specs.Outlines.{Outline, IsOfScenario, StartsAt, ComesTo, IsLeftAt, IsAsked, at_start, by_itself, by_others, IsListed, IsSound, IsFitting, KeepsToRole}
-use Rattle.pr_verify.specs.Refusals.{first_difference, DiffersAt, LacksFirst, BreaksRole, LacksArmFirst, FitsAt, IsUnfitAt, IsRefusal}
-use Rattle.pr_verify.specs.inside.Listing.{place_of, IsPlaceWritten}
-use Rattle.pr_verify.specs.inside.Least.{least, EachOf}
-use Rattle.pr_verify.specs.inside.Lacking.{HasAll, Lacks, IsFirstLacking}
-use Rattle.pr_verify.specs.inside.Reviewing.{IsLackingOfSends, IsReason, HasMisfit, IsFirstMisfit}
+use Rattle.pr_verify.specs.Refusals.{DiffersAt, LacksFirst, LacksArmFirst, IsUnfitAt}
+use Rattle.pr_verify.specs.inside.Reviewing.{IsReason, HasMisfit, IsFirstMisfit}
 use Rattle.pr_verify.proofs.lemmas.Least.FirstLines.{least_as, least_either, each_listed, listed_among}
 use Rattle.pr_verify.proofs.lemmas.Rooms.MappedLists.{mapped, unmapped}
 use Rattle.pr_verify.proofs.lemmas.Outlines.Lookups.{entries}

@@ -1,32 +1,10 @@
 -- Whether a place fits, by the outcomes of its command.
-use Rattle.std.proofs.Common.{◌≡◌, ℕ, ◌≤◌, true, false, IsTrue, List, [], length, map, Some, None, is_some, refl, sym, ap, ◌∙◌, subst, arith}
-use Rattle.std.specs.List.{slice_get, Contains}
-use Rattle.std.specs.Option.{option_and_then}
-use Rattle.std.proofs.lemmas.List.Quantifiers.{position-Some}
-use Rattle.std.proofs.lemmas.Option.{slice_get-get_or}
-use Rattle.pr_cdb.specs.declared.reply.Reply.{Reply}
-use Rattle.pr_cdb.specs.declared.wire.Request.TheVariants.{Plain}
-use Rattle.pr_unit.specs.UnitStates.{UnitState}
-use Rattle.pr_unit.specs.Steps.{Step}
+use Rattle.pr_verify.proofs.Common.{◌≡◌, ℕ, ◌≤◌, true, false, List, [], map, length, is_some, IsTrue, slice_get, Some, None, Contains, option_and_then, sym, refl, ap, ◌∙◌, subst, arith, position-Some, slice_get-get_or, Reply, Plain, Step, UnitState, matches, Answered, refusals_of, command_permitted, role, Scenario, view_of, View, Shows, ViewOf, IsLanding, Outcome, IsExpected, AreOutcomes, IsPermittedIn, IsRefusedIn, Class, Landing, NoArm, Arm, Outline, view_at, ShowsIn, IsShownAt, KeepsToRole, Place, follows, BreaksRole, class_number, IsUnarmed}
 use Rattle.pr_script.specs.declared.script.Test.TheVariants as test
-use Rattle.pr_script.specs.Takes.{matches}
-use Rattle.pr_roles.specs.DeclaredRefusals.{Answered, refusals_of}
-use Rattle.pr_roles.specs.Permits.{command_permitted}
-use Rattle.pr_roles.specs.Scenarios.{Scenario, role}
 use Rattle.pr_sets.specs.declared.view_set.ViewSet.{Ghosts as ViewSet}
-use Rattle.pr_views.specs.declared.view.ViewOf.{ViewOf}
-use Rattle.pr_views.specs.Views.{View, Shows}
-use Rattle.pr_views.specs.Rooms.{view_of}
 use Rattle.pr_regions.specs.Readings.{first_test}
-use Rattle.pr_domain.specs.declared.landing.Landing.{Landing}
-use Rattle.pr_domain.specs.declared.landing.Landing.TheVariants.{Arm, NoArm}
-use Rattle.pr_domain.specs.declared.landing.Class.{Class}
-use Rattle.pr_domain.specs.Landings.{IsLanding}
-use Rattle.pr_domain.specs.Outcomes.{Outcome, IsExpected, AreOutcomes, IsPermittedIn, IsRefusedIn}
-use Rattle.pr_verify.specs.Places.{Place, follows}
-use Rattle.pr_verify.specs.Outlines.{Outline, view_at, ShowsIn, IsShownAt, HasArms, KeepsToRole}
-use Rattle.pr_verify.specs.Refusals.{class_number, BreaksRole, LacksArm, LacksArmFirst}
-use Rattle.pr_verify.specs.inside.Reviewing.{IsUnarmed}
+use Rattle.pr_verify.specs.Outlines.{HasArms}
+use Rattle.pr_verify.specs.Refusals.{LacksArm, LacksArmFirst}
 use Rattle.pr_verify.proofs.lemmas.Least.FirstLines.{among_listed, listed_among}
 use Rattle.pr_verify.proofs.lemmas.Rooms.MappedLists.{mapped, unmapped}
 use Rattle.pr_domain.proofs.lemmas.Tallies.Origins.{one_class}

@@ -1,32 +1,7 @@
 -- What the views lack of the states to which a host's own command leads, by the outcomes of the command.
-use Rattle.std.proofs.Common.{◌≡◌, ℕ, ◌<◌, List, length, map, Option, Some, None, refl, sym, ap, ◌∙◌, subst}
-use Rattle.std.specs.List.{slice_get, All, Contains}
-use Rattle.std.specs.Option.{option_and_then}
-use Rattle.std.proofs.lemmas.List.Elements.{All-contains}
-use Rattle.pr_cdb.specs.declared.reply.Reply.{Reply}
-use Rattle.pr_cdb.specs.declared.wire.Request.TheVariants.{Plain}
-use Rattle.pr_unit.specs.UnitStates.{UnitState}
-use Rattle.pr_roles.specs.declared.how.Refusals.{Refusals}
-use Rattle.pr_roles.specs.DeclaredRefusals.{Answered, refusals_of}
-use Rattle.pr_roles.specs.Scenarios.{Scenario}
+use Rattle.pr_verify.proofs.Common.{◌≡◌, ℕ, ◌<◌, List, map, length, slice_get, Some, None, All, Contains, Option, option_and_then, sym, refl, ap, ◌∙◌, subst, All-contains, Reply, Plain, UnitState, Answered, refusals_of, Scenario, Refusals, IsSo, view_of, AreAlike, View, Shows, Fits, ViewOf, fits, IsLanding, Outcome, IsExpected, AreOutcomes, Landing, NoArm, Arm, Among, Outline, view_at, IsShownAt, scope_in, ComesTo, Place, outline_of, IsMadeFor, OutlineBy, HasAll, Lacks, IsFirstLacking, HasView, lines_after, HasNext, LacksNext, EachOf, IsLeastAmong}
 use Rattle.pr_sets.specs.Numbers.{AllBelow}
 use Rattle.pr_sets.specs.declared.view_set.ViewSet.{Ghosts as ViewSet}
-use Rattle.pr_views.specs.declared.view.ViewOf.{ViewOf}
-use Rattle.pr_views.specs.Possibilities.{IsSo}
-use Rattle.pr_views.specs.Views.{View, Shows, Fits}
-use Rattle.pr_views.specs.Rooms.{view_of, AreAlike}
-use Rattle.pr_views.proofs.lemmas.Views.Values.{fits}
-use Rattle.pr_domain.specs.declared.landing.Landing.{Landing}
-use Rattle.pr_domain.specs.declared.landing.Landing.TheVariants.{Arm, NoArm}
-use Rattle.pr_domain.specs.Landings.{IsLanding}
-use Rattle.pr_domain.specs.Outcomes.{Outcome, IsExpected, AreOutcomes}
-use Rattle.pr_interference.specs.inside.Interfering.{Among}
-use Rattle.pr_verify.specs.Places.{Place}
-use Rattle.pr_verify.specs.declared.outline.OutlineBy.{OutlineBy}
-use Rattle.pr_verify.specs.Outlines.{Outline, view_at, scope_in, IsShownAt, ComesTo}
-use Rattle.pr_verify.specs.Rooms.{outline_of, IsMadeFor}
-use Rattle.pr_verify.specs.inside.Least.{EachOf, IsLeastAmong}
-use Rattle.pr_verify.specs.inside.Lacking.{HasAll, Lacks, IsFirstLacking, HasView, lines_after, HasNext, LacksNext}
 use Rattle.pr_verify.proofs.lemmas.Least.FirstLines.{least_as, each_listed, listed_among}
 use Rattle.pr_verify.proofs.lemmas.Rooms.MappedLists.{mapped, unmapped}
 use Rattle.pr_verify.proofs.lemmas.LeastOutlines.Possibilities.{IsExact, lacks_from_missing, shown_by_within}

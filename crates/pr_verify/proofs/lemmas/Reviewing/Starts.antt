@@ -1,22 +1,9 @@
 -- What the views lack of the allowed starts, and the scope of the views of an outline.
-use Rattle.std.proofs.Common.{◌≡◌, ℕ, Bool, ◌==◌, true, false, if◌then◌else◌, List, [], ◌∷◌, ◌<◌, length, map, take, slice_index_or, Option, Some, None, refl, sym, ap, ◌∙◌, subst}
-use Rattle.std.specs.List.{All, Contains}
-use Rattle.std.proofs.lemmas.List.Elements.{All-head, All-tail, All-weaker, All-take, All-contains}
-use Rattle.pr_script.specs.Scripts.{Stmts}
-use Rattle.pr_roles.specs.Scenarios.{Scenario}
-use Rattle.pr_roles.specs.Starts.{IsAllowedStart, CanStart}
+use Rattle.pr_verify.proofs.Common.{◌≡◌, ℕ, ◌<◌, Bool, true, false, List, [], ◌∷◌, map, length, take, if◌then◌else◌, ◌==◌, slice_index_or, Some, None, All, Contains, Option, sym, refl, ap, ◌∙◌, subst, All-contains, Stmts, Scenario, IsAllowedStart, Scope, Registration, Reservation, Attentions, scope_of, view_of, AreAlike, View, Fits, Within, ViewOf, IsOfStart, Outline, view_at, scope_in, StartsAt, first_lines, outline_of, IsMadeFor, OutlineBy, HasAll, Lacks, IsFirstLacking, HasView, IsLeast}
+use Rattle.std.proofs.lemmas.List.Elements.{All-head, All-tail, All-weaker, All-take}
+use Rattle.pr_roles.specs.Starts.{CanStart}
 use Rattle.pr_sets.specs.declared.view_set.ViewSet.{Ghosts as ViewSet}
-use Rattle.pr_views.specs.declared.view.ViewOf.{ViewOf}
-use Rattle.pr_views.specs.Possibilities.{Scope, Registration, Reservation, Attentions}
-use Rattle.pr_views.specs.Views.{View, Fits, Within}
-use Rattle.pr_views.specs.Rooms.{scope_of, view_of, AreAlike}
-use Rattle.pr_domain.specs.Starting.{IsOfStart}
-use Rattle.pr_verify.specs.declared.outline.OutlineBy.{OutlineBy}
-use Rattle.pr_verify.specs.Places.{first_lines}
-use Rattle.pr_verify.specs.Outlines.{Outline, view_at, scope_in, StartsAt}
-use Rattle.pr_verify.specs.Rooms.{outline_of, IsMadeFor}
-use Rattle.pr_verify.specs.inside.Least.{IsLeast}
-use Rattle.pr_verify.specs.inside.Lacking.{CanCompare, HasAll, Lacks, IsFirstLacking, HasView, LacksView}
+use Rattle.pr_verify.specs.inside.Lacking.{CanCompare, LacksView}
 use Rattle.pr_verify.specs.inside.Reviewing.{IsMadeAs}
 use Rattle.pr_verify.proofs.lemmas.Least.FirstLines.{least_as}
 use Rattle.pr_verify.proofs.lemmas.LeastOutlines.Possibilities.{IsExact, lacks_from_missing, shown_by_within}

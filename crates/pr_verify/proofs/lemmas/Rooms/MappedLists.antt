@@ -1,8 +1,5 @@
 -- Elements of lists, and of lists that are mapped.
-use Rattle.std.proofs.Common.{◌≡◌, ℕ, zero, suc, ◌<◌, List, [], ◌∷◌, length, map, slice_index_or, Some, refl, sym, ap, ◌∙◌, subst, arith}
-use Rattle.std.specs.List.{slice_get, Contains}
-use Rattle.std.proofs.lemmas.List.{length-map, get_or-map}
-use Rattle.std.proofs.lemmas.Option.{slice_get-get_or}
+use Rattle.pr_verify.proofs.Common.{◌≡◌, ℕ, zero, suc, ◌<◌, List, [], ◌∷◌, map, length, slice_get, slice_index_or, Some, Contains, sym, refl, ap, ◌∙◌, subst, arith, length-map, get_or-map, slice_get-get_or}
 
 pub element : {X : Type 0} (xs : List X) (k : ℕ) → k < length xs → (x : X) × (slice_index_or xs k x ≡ x)
 element [] k small = absurd (omega arith)

@@ -1,19 +1,11 @@
 -- The nexuses of a scenario, as they are kept.
-use Rattle.std.proofs.Common.{◌≡◌, ℕ, ◌<◌, ◌≤◌, true, ◌&&◌, nat_le, [], length, Option, Some, None, Vec, Global, refl, sym, ap, ◌∙◌, subst}
-use Rattle.std.specs.List.{slice_get}
-use Rattle.std.specs.Option.{option_map_or}
-use Rattle.std.proofs.lemmas.Bool.{and_parts, leb-true}
-use Rattle.std.proofs.lemmas.Option.{slice_get_within}
+use Rattle.pr_verify.proofs.Common.{◌≡◌, ℕ, ◌<◌, ◌≤◌, true, ◌&&◌, [], length, nat_le, slice_get, Some, None, Option, Vec, Global, sym, refl, ap, ◌∙◌, subst, leb-true, option_map_or, and_parts, slice_get_within, Command, script_fits, script_of, Scripted, Nexus, role, task, Scenario, nexus, task_of, IsScripted}
 use Rattle.pr_roles.specs.declared.parts.Nexus.{Nexus as NexusPart}
 use Rattle.pr_roles.specs.declared.parts.Task.TheVariants as part
-use Rattle.pr_roles.specs.Scenarios.{Scenario, Nexus, Scripted, nexus, nexus_of, task_of, role, task}
+use Rattle.pr_roles.specs.Scenarios.{nexus_of}
 use Rattle.pr_roles.specs.Fitting.{Fits, is_role, is_task}
-use Rattle.pr_cdb.specs.declared.command.Command.{Command}
 use Rattle.pr_script.specs.declared.script.Script.{Script}
-use Rattle.pr_script.specs.Grammar.{script_fits}
-use Rattle.pr_script.specs.Trees.{script_of}
 use Rattle.pr_interference.proofs.lemmas.Interference.Nexuses.{nexus_fits}
-use Rattle.pr_verify.specs.Rooms.{IsScripted}
 
 -- a host that is scripted is there
 pub scripted_there : (s : Scenario) (h : ℕ) → IsScripted (task s h) → h < length s.nexuses

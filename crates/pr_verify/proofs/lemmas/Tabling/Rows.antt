@@ -1,39 +1,17 @@
 -- The row of a place, by the outcomes of its command.
-use Rattle.std.proofs.Common.{◌≡◌, ◌↔◌, ℕ, suc, ◌+◌, ◌<◌, ◌≤◌, Bool, true, false, IsTrue, List, [], ◌∷◌, ◌++◌, length, map, get_or, slice_index_or, take, Option, Some, None, refl, sym, ap, ◌∙◌, subst, inl, inr, ◌⊎◌, arith}
-use Rattle.std.specs.List.{All, AllPairs, AllZip, Contains, filter, range_with_len}
+use Rattle.pr_verify.proofs.Common.{◌≡◌, ℕ, suc, ◌+◌, ◌<◌, ◌≤◌, Bool, true, false, ◌⊎◌, ◌↔◌, List, [], ◌∷◌, ◌++◌, map, length, get_or, take, IsTrue, slice_index_or, Some, None, All, Contains, Option, AllPairs, sym, refl, ap, ◌∙◌, subst, inl, inr, arith, AllZip, cases_lt, All-map, Contains-append_left, position-Some, map-map, Stmts, matches, refusals_of, Task, Scripted, role, task, Scenario, view_of, View, ViewOf, IsLanding, Outcome, IsExpected, AreOutcomes, IsPermittedIn, IsRefusedIn, Class, Landing, NoArm, Arm, Outline, IsListed, KeepsToRole, OnScripted, Place, places_of, class_number, outline_of, IsMadeFor, IsScripted, IsRow, OutlineBy, Spot, place_of, IsUnarmed, IsInRange}
+use Rattle.std.specs.List.{filter, range_with_len}
 use Rattle.std.proofs.lemmas.List.{map-append, map-id, take_more}
 use Rattle.std.proofs.lemmas.List.FromFn.{map-range_with_len_more}
-use Rattle.std.proofs.lemmas.Bool.{cases_lt}
-use Rattle.std.proofs.lemmas.List.Elements.{All-map, All-push, filter-append, Contains-append_left, Contains-push, Contains-push_cases, Contains-get_or}
-use Rattle.std.proofs.lemmas.Simd.{map-map}
-use Rattle.std.proofs.lemmas.List.Quantifiers.{all_pairs_push, position-Some}
+use Rattle.std.proofs.lemmas.List.Elements.{All-push, filter-append, Contains-push, Contains-push_cases, Contains-get_or}
+use Rattle.std.proofs.lemmas.List.Quantifiers.{all_pairs_push}
 use Rattle.pr_script.specs.declared.script.Test.TheVariants as test
-use Rattle.pr_script.specs.Takes.{matches}
-use Rattle.pr_script.specs.Scripts.{Stmts}
-use Rattle.pr_roles.specs.DeclaredRefusals.{refusals_of}
-use Rattle.pr_roles.specs.Scenarios.{Scenario, Task, Scripted, role, task}
 use Rattle.pr_sets.specs.Numbers.{Numbers}
 use Rattle.pr_sets.specs.declared.view_set.ViewSet.{Ghosts as ViewSet}
-use Rattle.pr_views.specs.declared.view.ViewOf.{ViewOf}
-use Rattle.pr_views.specs.Views.{View}
-use Rattle.pr_views.specs.Rooms.{view_of}
-use Rattle.pr_domain.specs.declared.landing.Class.{Class}
 use Rattle.pr_domain.specs.declared.landing.Class.TheVariants.{Good, Conflict, Busy, Full, Sense}
-use Rattle.pr_domain.specs.declared.landing.Landing.{Landing}
-use Rattle.pr_domain.specs.declared.landing.Landing.TheVariants.{Arm, NoArm}
-use Rattle.pr_domain.specs.Landings.{IsLanding}
-use Rattle.pr_domain.specs.Outcomes.{Outcome, IsExpected, AreOutcomes, IsPermittedIn, IsRefusedIn}
-use Rattle.pr_verify.specs.declared.outline.OutlineBy.{OutlineBy}
-use Rattle.pr_verify.specs.declared.places.Spot.{Spot}
-use Rattle.pr_verify.specs.Places.{Place, places_of}
-use Rattle.pr_verify.specs.Outlines.{Outline, OnScripted, KeepsToRole, IsListed}
-use Rattle.pr_verify.specs.Rooms.{outline_of, table_of, IsMadeFor, IsScripted}
-use Rattle.pr_verify.specs.Refusals.{class_number}
-use Rattle.pr_verify.specs.Tables.{TakesArm, Row, IsRow, Table, IsTable, AreTables, has_script}
+use Rattle.pr_verify.specs.Rooms.{table_of}
+use Rattle.pr_verify.specs.Tables.{TakesArm, Row, Table, IsTable, AreTables, has_script}
 use Rattle.pr_verify.specs.declared.table.Table.{Table as KeptTable}
-use Rattle.pr_verify.specs.inside.Reviewing.{IsUnarmed}
-use Rattle.pr_verify.specs.inside.Tabling.{IsInRange}
-use Rattle.pr_verify.specs.inside.Listing.{place_of}
 use Rattle.pr_verify.proofs.lemmas.Reviewing.Findings.{place_lines}
 use Rattle.pr_verify.proofs.lemmas.Reviewing.FittingPlaces.{IsHere, shown_here, shown_there, answer_own, answer_host, keeps_role, breaks_role, lacks_arm, lacking_listed}
 use Rattle.pr_verify.proofs.lemmas.Least.FirstLines.{among_back}

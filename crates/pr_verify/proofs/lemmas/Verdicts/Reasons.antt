@@ -1,27 +1,9 @@
 -- Reasons against a host: what the least sound outline shows, every sound outline does.
-use Rattle.std.proofs.Common.{◌≡◌, ◌≢◌, ℕ, ◌<◌, ◌==◌, true, false, if◌then◌else◌, List, [], ◌∷◌, map, min, Option, Some, None, is_some, refl, sym, ap, ◌∙◌, subst, inl, inr, ◌⊎◌, arith}
-use Rattle.std.specs.List.{slice_get, Contains}
-use Rattle.std.specs.Option.{option_and_then}
-use Rattle.std.proofs.lemmas.Bool.{false≢true}
-use Rattle.std.proofs.lemmas.Bool.Decides.{eqb_tells}
-use Rattle.std.proofs.lemmas.Option.{none-some}
-use Rattle.pr_cdb.specs.declared.wire.Request.TheVariants.{Plain}
-use Rattle.pr_unit.specs.UnitStates.{UnitState}
-use Rattle.pr_unit.specs.Steps.{Step}
-use Rattle.pr_script.specs.Scripts.{Stmts}
-use Rattle.pr_roles.specs.Permits.{command_permitted}
-use Rattle.pr_roles.specs.DeclaredRefusals.{Answered, refusals_of}
-use Rattle.pr_roles.specs.Scenarios.{Scenario, Scripted, role, task}
-use Rattle.pr_views.specs.Views.{View}
-use Rattle.pr_views.proofs.lemmas.Views.ShownStates.{shown_within}
-use Rattle.pr_verify.specs.declared.refusal.Refusal.{Refusal}
+use Rattle.pr_verify.proofs.Common.{◌≡◌, ℕ, ◌<◌, min, true, false, ◌≢◌, ◌⊎◌, List, [], ◌∷◌, map, is_some, if◌then◌else◌, ◌==◌, slice_get, Some, None, Contains, Option, option_and_then, sym, refl, ap, ◌∙◌, subst, inl, inr, arith, false≢true, eqb_tells, none-some, Plain, Step, UnitState, Stmts, Answered, refusals_of, command_permitted, Scripted, role, task, Scenario, View, shown_within, IsWithinIn, IsLeastSound, Outline, view_at, ShowsIn, IsShownAt, scope_in, IsSound, HasOutline, OnScripted, HaveOutlines, Place, places_of, first_difference, BreaksRole, IsRefusal, IsVerdict, Refusal}
 use Rattle.pr_verify.specs.declared.refusal.Refusal.TheVariants.{NoArm, OutOfRole, OverBudget, Memory, NotSound}
 use Rattle.pr_verify.specs.Laws.{ReasonsAreFinal}
-use Rattle.pr_verify.specs.Places.{Place, places_of}
-use Rattle.pr_verify.specs.Outlines.{Outline, view_at, scope_in, ShowsIn, IsShownAt, IsSound, HasOutline, HaveOutlines, OnScripted}
-use Rattle.pr_verify.specs.LeastOutlines.{IsWithinIn, IsLeastSound}
-use Rattle.pr_verify.specs.Refusals.{first_difference, BreaksRole, LacksArm, DiffersAt, LacksFirst, IsRefusal}
-use Rattle.pr_verify.specs.Verdicts.{HasReason, IsFirstReason, IsVerdict}
+use Rattle.pr_verify.specs.Refusals.{LacksArm, DiffersAt, LacksFirst}
+use Rattle.pr_verify.specs.Verdicts.{HasReason, IsFirstReason}
 use Rattle.pr_roles.proofs.lemmas.Worlds.Controls.{there}
 
 -- ---- what each sound outline shows

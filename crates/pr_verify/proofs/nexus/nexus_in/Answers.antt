@@ -1,4 +1,4 @@
-use Rattle.std.proofs.Common.{◌≡◌, ◌<◌, ℕ, length, slice_index_or, Some, sym, ap, ◌∙◌, subst, arith}
+use Rattle.pr_verify.proofs.Common.{◌≡◌, ℕ, ◌<◌, length, slice_index_or, Some, sym, ap, ◌∙◌, subst, arith}
 use Rattle.pr_roles.specs.declared.parts.Nexus.{Nexus}
 use Rattle.pr_roles.specs.declared.parts.Parts.{Parts}
 use Rattle.pr_roles.specs.Scenarios.{nexus_of}

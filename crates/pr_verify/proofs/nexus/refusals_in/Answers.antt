@@ -1,5 +1,5 @@
-use Rattle.std.proofs.Common.{◌==◌, not, sym, ap, ◌∙◌}
-use Rattle.std.specs.Option.{option_map_or}
+use Rattle.pr_verify.proofs.Common.{◌==◌, sym, ap, ◌∙◌, option_map_or}
+use Rattle.std.proofs.Common.{not}
 use Rattle.pr_verify.proofs.nexus.refusals_in.Goals as goal
 
 pub returns : goal.returns

@@ -1,5 +1,4 @@
-use Rattle.pr_roles.specs.Scenarios.{scenario_of}
-use Rattle.pr_views.specs.Rooms.{view_of}
+use Rattle.pr_verify.proofs.Common.{scenario_of, view_of}
 use Rattle.pr_verify.proofs.lemmas.Least.Disturbances.{is_closed, if_answered}
 use Rattle.pr_verify.proofs.lemmas.Known.Questions.{own_there}
 use Rattle.pr_verify.proofs.others.is_closed.Goals as goal

@@ -1,9 +1,5 @@
-use Rattle.std.proofs.Common.{◌≡◌, ◌<◌, true, length, rules, sym, ◌∙◌, subst, arith}
-use Rattle.std.proofs.lemmas.Bool.{false≢true}
+use Rattle.pr_verify.proofs.Common.{◌≡◌, ◌<◌, true, length, sym, ◌∙◌, subst, arith, rules, false≢true, scenario_of, view_of, fits}
 use Rattle.pr_roles.specs.Fitting.{is_role}
-use Rattle.pr_roles.specs.Scenarios.{scenario_of}
-use Rattle.pr_views.specs.Rooms.{view_of}
-use Rattle.pr_views.proofs.lemmas.Views.Values.{fits}
 use Rattle.pr_verify.proofs.lemmas.Known.Questions.{own_there}
 use Rattle.pr_verify.proofs.lemmas.Reviewing.Starts.{any_own, scope_alike}
 use Rattle.pr_verify.proofs.lemmas.Rooms.Nexuses.{role_read, role_fits}

@@ -1,5 +1,4 @@
-use Rattle.pr_roles.specs.Scenarios.{scenario_of}
-use Rattle.pr_views.specs.Rooms.{view_of}
+use Rattle.pr_verify.proofs.Common.{scenario_of, view_of}
 use Rattle.pr_verify.specs.inside.Lacking.{IsClosedTo}
 use Rattle.pr_verify.proofs.others.is_closed_to_others.Given as goal
 

@@ -1,9 +1,5 @@
-use Rattle.std.proofs.Common.{◌≢◌, ◌<◌, sym, ap, ◌∙◌, subst}
-use Rattle.std.proofs.lemmas.Bool.{false≢true}
+use Rattle.pr_verify.proofs.Common.{◌<◌, ◌≢◌, sym, ap, ◌∙◌, subst, false≢true, scenario_of, view_of, fits}
 use Rattle.pr_roles.specs.declared.parts.Parts.{Parts}
-use Rattle.pr_roles.specs.Scenarios.{scenario_of}
-use Rattle.pr_views.specs.Rooms.{view_of}
-use Rattle.pr_views.proofs.lemmas.Views.Values.{fits}
 use Rattle.pr_interference.proofs.lemmas.Interference.Nexuses.{no_resets, resets_declared}
 use Rattle.pr_verify.proofs.lemmas.Reviewing.Starts.{any_own, scope_alike}
 use Rattle.pr_verify.proofs.lemmas.Least.Disturbances.{closed_reset, open_by_reset}

@@ -1,6 +1,5 @@
-use Rattle.std.proofs.Common.{rules, sym, subst}
+use Rattle.pr_verify.proofs.Common.{sym, subst, rules, view_of, AreAlike}
 use Rattle.pr_verify.proofs.lemmas.Rooms.MappedLists.{mapped, read_there}
-use Rattle.pr_views.specs.Rooms.{view_of, AreAlike}
 use Rattle.pr_verify.proofs.others.is_one_of.Goals as goal
 
 pub within-requires : goal.within-requires

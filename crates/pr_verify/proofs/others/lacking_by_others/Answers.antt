@@ -1,7 +1,4 @@
-use Rattle.std.proofs.Common.{◌<◌, ◌≤◌, length, map, slice_index_or, take, rules, sym, ap, ◌∙◌, subst, arith}
-use Rattle.pr_roles.specs.Scenarios.{scenario_of}
-use Rattle.pr_views.specs.Rooms.{view_of}
-use Rattle.pr_interference.specs.Interference.{IsClosed}
+use Rattle.pr_verify.proofs.Common.{◌<◌, ◌≤◌, map, length, take, slice_index_or, sym, ap, ◌∙◌, subst, arith, rules, scenario_of, view_of, IsClosed}
 use Rattle.pr_verify.specs.inside.Lacking.{IsSameAsOne}
 use Rattle.pr_verify.proofs.lemmas.Reviewing.Starts.{scoped, entry_made, compared_before, scope_same, listed_scope}
 use Rattle.pr_verify.proofs.lemmas.Least.Disturbances.{all_closed, open_first, closed_as}

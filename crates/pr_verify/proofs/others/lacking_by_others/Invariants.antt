@@ -1,7 +1,4 @@
-use Rattle.pr_roles.specs.Scenarios.{scenario_of}
-use Rattle.pr_views.specs.Rooms.{view_of}
-use Rattle.pr_interference.specs.Interference.{IsClosed}
-use Rattle.pr_verify.specs.inside.Least.{EachOf}
+use Rattle.pr_verify.proofs.Common.{scenario_of, view_of, IsClosed, EachOf}
 use Rattle.pr_verify.proofs.others.lacking_by_others.Given as goal
 
 abbrev pub invariant-loop-i : goal.invariant-loop-i

@@ -1,11 +1,8 @@
 -- The places of a send and of a repeat.
-use Rattle.std.proofs.Common.{◌∙◌, ◌++◌, ap, sym, map}
+use Rattle.pr_verify.proofs.Common.{◌++◌, map, sym, ap, ◌∙◌, statements_in, script_of, arms_in, round, tests_of, next_of, places_in, places, places_of_arms, place_of}
 use Rattle.std.proofs.lemmas.Result.{on_ok_weaker}
-use Rattle.pr_script.specs.Trees.{statement_of, statements_in, script_of}
-use Rattle.pr_script.specs.inside.ArmLists.{arms_in}
+use Rattle.pr_script.specs.Trees.{statement_of}
 use Rattle.pr_script.proofs.lemmas.Trees.Equations.{tree_send, tree_repeat}
-use Rattle.pr_verify.specs.Places.{places, places_in, places_of_arms, round, tests_of, next_of}
-use Rattle.pr_verify.specs.inside.Listing.{place_of}
 use Rattle.pr_verify.proofs.lemmas.Listing.Statements.{send_listed, repeat_listed, one_more_in_range}
 use Rattle.pr_verify.proofs.places.+list.Goals as goal
 

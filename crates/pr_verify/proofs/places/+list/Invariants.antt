@@ -1,9 +1,5 @@
 -- The places so far and those of the statements or arms left are all of them.
-use Rattle.std.proofs.Common.{◌≡◌, ◌++◌, drop, map}
-use Rattle.pr_script.specs.Trees.{statements_in}
-use Rattle.pr_script.specs.inside.ArmLists.{arms_in}
-use Rattle.pr_verify.specs.Places.{places, places_of_arms}
-use Rattle.pr_verify.specs.inside.Listing.{place_of, AreInRange}
+use Rattle.pr_verify.proofs.Common.{◌≡◌, ◌++◌, map, drop, statements_in, arms_in, places, places_of_arms, place_of, AreInRange}
 use Rattle.pr_verify.proofs.places.+list.Given as goal
 
 abbrev pub invariant-list-loop-i : goal.invariant-list-loop-i

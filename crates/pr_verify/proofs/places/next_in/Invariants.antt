@@ -1,7 +1,5 @@
 -- The lines so far and those of the arms left are all of them.
-use Rattle.std.proofs.Common.{◌≡◌, ◌++◌, drop, map}
-use Rattle.pr_script.specs.inside.ArmLists.{arms_in}
-use Rattle.pr_verify.specs.Places.{next_of}
+use Rattle.pr_verify.proofs.Common.{◌≡◌, ◌++◌, map, drop, arms_in, next_of}
 use Rattle.pr_verify.proofs.places.next_in.Given as goal
 
 abbrev pub invariant-loop-arm : goal.invariant-loop-arm

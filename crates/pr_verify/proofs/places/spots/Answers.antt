@@ -1,8 +1,5 @@
 -- The fields of what the listed places send.
-use Rattle.std.proofs.Common.{◌∙◌, ◌++◌, [], ap, sym, subst, map}
-use Rattle.pr_script.specs.Trees.{script_of, statements_in}
-use Rattle.pr_verify.specs.Places.{places, places_of}
-use Rattle.pr_verify.specs.inside.Listing.{place_of, AreInRange}
+use Rattle.pr_verify.proofs.Common.{[], ◌++◌, map, sym, ap, ◌∙◌, subst, statements_in, script_of, places, places_of, place_of, AreInRange}
 use Rattle.pr_verify.proofs.lemmas.Listing.Statements.{none_in_range, fields_of}
 use Rattle.pr_verify.proofs.places.spots.Goals as goal
 

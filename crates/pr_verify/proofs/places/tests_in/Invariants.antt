@@ -1,7 +1,5 @@
 -- The tests so far and those of the arms left are all of them.
-use Rattle.std.proofs.Common.{◌≡◌, ◌++◌, drop}
-use Rattle.pr_script.specs.inside.ArmLists.{arms_in}
-use Rattle.pr_verify.specs.Places.{tests_of}
+use Rattle.pr_verify.proofs.Common.{◌≡◌, ◌++◌, drop, arms_in, tests_of}
 use Rattle.pr_verify.proofs.places.tests_in.Given as goal
 
 abbrev pub invariant-loop-arm : goal.invariant-loop-arm

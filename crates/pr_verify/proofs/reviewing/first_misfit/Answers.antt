@@ -1,12 +1,4 @@
-use Rattle.std.proofs.Common.{◌≡◌, length, rules, sym, subst, arith}
-use Rattle.std.proofs.lemmas.List.Elements.{All-nil}
-use Rattle.pr_roles.specs.Scenarios.{scenario_of}
-use Rattle.pr_verify.specs.Refusals.{FitsAt}
-use Rattle.pr_verify.specs.Rooms.{outline_of}
-use Rattle.pr_verify.specs.declared.places.Spot.{Spot}
-use Rattle.pr_verify.specs.inside.Asked.{IsAnswerTo, AreAnswersTo}
-use Rattle.pr_verify.specs.inside.Least.{EachOf}
-use Rattle.pr_verify.specs.inside.Listing.{place_of}
+use Rattle.pr_verify.proofs.Common.{◌≡◌, length, sym, subst, arith, rules, All-nil, scenario_of, FitsAt, outline_of, Spot, IsAnswerTo, AreAnswersTo, EachOf, place_of}
 use Rattle.pr_verify.proofs.lemmas.Least.FirstLines.{each_none, each_more}
 use Rattle.pr_verify.proofs.lemmas.Known.Questions.{has_view, answer_within, answered_here}
 use Rattle.pr_verify.proofs.reviewing.first_misfit.Goals as goal

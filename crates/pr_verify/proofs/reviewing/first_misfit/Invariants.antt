@@ -1,9 +1,4 @@
-use Rattle.pr_roles.specs.Scenarios.{scenario_of}
-use Rattle.pr_verify.specs.Refusals.{FitsAt}
-use Rattle.pr_verify.specs.Rooms.{outline_of}
-use Rattle.pr_verify.specs.inside.Asked.{AreAnswersTo}
-use Rattle.pr_verify.specs.inside.Least.{EachOf}
-use Rattle.pr_verify.specs.inside.Listing.{place_of}
+use Rattle.pr_verify.proofs.Common.{scenario_of, FitsAt, outline_of, AreAnswersTo, EachOf, place_of}
 use Rattle.pr_verify.proofs.reviewing.first_misfit.Given as goal
 
 abbrev pub invariant-loop-i : goal.invariant-loop-i

@@ -1,5 +1,4 @@
-use Rattle.std.proofs.Common.{◌≡◌, ◌+◌, length, sym, ◌∙◌, subst, arith}
-use Rattle.pr_verify.specs.inside.Reviewing.{IsFirstUnarmed}
+use Rattle.pr_verify.proofs.Common.{◌≡◌, ◌+◌, length, sym, ◌∙◌, subst, arith, IsFirstUnarmed}
 use Rattle.pr_verify.proofs.lemmas.Refusals.Classes.{unarmed_none, unarmed_same, unarmed_more}
 use Rattle.pr_verify.proofs.reviewing.first_unarmed.Goals.{in-NoArm, in_default}
 use Rattle.pr_verify.proofs.reviewing.first_unarmed.Goals as goal

@@ -1,4 +1,4 @@
-use Rattle.pr_verify.specs.inside.Reviewing.{IsFirstUnarmed}
+use Rattle.pr_verify.proofs.Common.{IsFirstUnarmed}
 use Rattle.pr_verify.proofs.reviewing.first_unarmed.Given as goal
 
 abbrev pub invariant-loop-landing : goal.invariant-loop-landing

@@ -1,15 +1,5 @@
-use Rattle.std.proofs.Common.{◌≡◌, ◌+◌, List, length, map, rules, sym, ap, ◌∙◌, subst, arith}
-use Rattle.std.proofs.lemmas.List.Elements.{All-nil}
-use Rattle.pr_script.specs.Trees.{script_of}
-use Rattle.pr_roles.specs.Scenarios.{scenario_of}
-use Rattle.pr_verify.specs.Outlines.{ComesTo, IsAsked}
-use Rattle.pr_verify.specs.Rooms.{outline_of}
-use Rattle.pr_verify.specs.declared.places.Spot.{Spot}
-use Rattle.pr_verify.specs.inside.Listing.{place_of}
-use Rattle.pr_verify.specs.inside.Lacking.{HasAll, Lacks, IsFirstLacking, lines_after, HasNext, LacksNext}
-use Rattle.pr_verify.specs.inside.Least.{least, IsLeastAmong}
-use Rattle.pr_verify.specs.inside.Asked.{scenario_in, outline_in, view_in, IsAnswerTo, AreAnswersTo}
-use Rattle.pr_verify.specs.inside.Reviewing.{IsLackingOfSends}
+use Rattle.pr_verify.proofs.Common.{◌≡◌, ◌+◌, List, map, length, sym, ap, ◌∙◌, subst, arith, rules, All-nil, script_of, scenario_of, ComesTo, IsAsked, outline_of, Spot, IsAnswerTo, AreAnswersTo, HasAll, Lacks, IsFirstLacking, lines_after, HasNext, LacksNext, least, IsLeastAmong, place_of, IsLackingOfSends}
+use Rattle.pr_verify.specs.inside.Asked.{scenario_in, outline_in, view_in}
 use Rattle.pr_verify.proofs.lemmas.Least.FirstLines.{least_none, least_more}
 use Rattle.pr_verify.proofs.lemmas.Reviewing.Starts.{each_compared}
 use Rattle.pr_verify.proofs.lemmas.Rooms.MappedLists.{element}

@@ -1,7 +1,4 @@
-use Rattle.pr_roles.specs.Scenarios.{scenario_of}
-use Rattle.pr_verify.specs.Rooms.{outline_of}
-use Rattle.pr_verify.specs.inside.Asked.{AreAnswersTo}
-use Rattle.pr_verify.specs.inside.Reviewing.{IsLackingOfSends}
+use Rattle.pr_verify.proofs.Common.{scenario_of, outline_of, AreAnswersTo, IsLackingOfSends}
 use Rattle.pr_verify.proofs.reviewing.first_unsound.Given as goal
 
 abbrev pub invariant-loop-i : goal.invariant-loop-i

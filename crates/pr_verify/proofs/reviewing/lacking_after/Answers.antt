@@ -1,10 +1,5 @@
-use Rattle.std.proofs.Common.{◌≡◌, ◌+◌, length, map, rules, sym, ◌∙◌, subst, arith}
-use Rattle.pr_views.specs.declared.view.ViewOf.{ViewOf}
-use Rattle.pr_views.specs.Rooms.{view_of}
-use Rattle.pr_domain.specs.declared.landing.Landing.{Landing}
-use Rattle.pr_verify.specs.Rooms.{outline_of}
-use Rattle.pr_verify.specs.inside.Least.{IsLeast, IsLeastAmong}
-use Rattle.pr_verify.specs.inside.Lacking.{CanCompare, lines_after, HasNext, LacksNext}
+use Rattle.pr_verify.proofs.Common.{◌≡◌, ◌+◌, map, length, sym, ◌∙◌, subst, arith, rules, view_of, ViewOf, Landing, outline_of, lines_after, HasNext, LacksNext, IsLeast, IsLeastAmong}
+use Rattle.pr_verify.specs.inside.Lacking.{CanCompare}
 use Rattle.pr_verify.proofs.lemmas.Least.FirstLines.{least_none, least_more, least_same}
 use Rattle.pr_verify.proofs.reviewing.lacking_after.Goals.{in-Some, in_default}
 use Rattle.pr_verify.proofs.reviewing.lacking_after.Goals as goal

@@ -1,8 +1,4 @@
-use Rattle.std.proofs.Common.{map}
-use Rattle.pr_views.specs.Rooms.{view_of}
-use Rattle.pr_verify.specs.Rooms.{outline_of}
-use Rattle.pr_verify.specs.inside.Least.{IsLeastAmong}
-use Rattle.pr_verify.specs.inside.Lacking.{lines_after, HasNext, LacksNext}
+use Rattle.pr_verify.proofs.Common.{map, view_of, outline_of, lines_after, HasNext, LacksNext, IsLeastAmong}
 use Rattle.pr_verify.proofs.reviewing.lacking_after.Given as goal
 
 abbrev pub invariant-loop-landing : goal.invariant-loop-landing

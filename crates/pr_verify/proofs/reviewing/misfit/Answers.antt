@@ -1,9 +1,4 @@
-use Rattle.std.proofs.Common.{refl, sym, subst, arith}
-use Rattle.pr_roles.specs.Scenarios.{scenario_of}
-use Rattle.pr_views.specs.Rooms.{view_of}
-use Rattle.pr_domain.specs.Outcomes.{IsPermittedIn, IsRefusedIn}
-use Rattle.pr_verify.specs.Rooms.{outline_of}
-use Rattle.pr_verify.specs.inside.Listing.{place_of}
+use Rattle.pr_verify.proofs.Common.{sym, refl, subst, arith, scenario_of, view_of, IsPermittedIn, IsRefusedIn, outline_of, place_of}
 use Rattle.pr_verify.specs.inside.Reviewing.{IsMisfit}
 use Rattle.pr_verify.proofs.lemmas.Rooms.Nexuses.{role_read}
 use Rattle.pr_verify.proofs.lemmas.Reviewing.FittingPlaces.{IsHere, keeps_role, breaks_role, has_arms, lacks_arm_first}

@@ -1,8 +1,4 @@
-use Rattle.std.proofs.Common.{◌≡◌, length, sym, ◌∙◌, subst, arith}
-use Rattle.pr_domain.specs.declared.landing.Class.{Class}
-use Rattle.pr_domain.specs.declared.landing.Landing.TheVariants.{NoArm}
-use Rattle.pr_verify.specs.inside.Reviewing.{IsUnarmed}
-use Rattle.pr_verify.specs.inside.Tabling.{IsInRange}
+use Rattle.pr_verify.proofs.Common.{◌≡◌, length, sym, ◌∙◌, subst, arith, Class, NoArm, IsUnarmed, IsInRange}
 use Rattle.pr_verify.proofs.lemmas.Tabling.Rows.{in_range_more}
 use Rattle.pr_verify.proofs.tabling.are_in_range.Goals.{in-NoArm, in_default}
 use Rattle.pr_verify.proofs.tabling.are_in_range.Goals as goal

@@ -1,8 +1,4 @@
-use Rattle.std.proofs.Common.{◌≡◌, ◌+◌, ◌<◌, true, false, Vec, ℕ, Global, map, sym, ap, ◌∙◌, subst, arith}
-use Rattle.std.specs.List.{AllPairs, Contains}
-use Rattle.pr_domain.specs.declared.landing.Landing.{Landing}
-use Rattle.pr_domain.specs.declared.landing.Landing.TheVariants.{Arm}
-use Rattle.pr_views.specs.declared.view.ViewOf.{ViewOf}
+use Rattle.pr_verify.proofs.Common.{◌≡◌, ℕ, ◌+◌, ◌<◌, true, false, map, Contains, Vec, AllPairs, Global, sym, ap, ◌∙◌, subst, arith, ViewOf, Landing, Arm}
 use Rattle.pr_verify.proofs.lemmas.Tabling.Rows.{AreBelow, below_same, below_more, rise_more}
 use Rattle.pr_verify.proofs.tabling.arms_taken.Goals.{then-lands_in+in_ok-push, else-lands_in}
 use Rattle.pr_verify.proofs.tabling.arms_taken.Goals as goal

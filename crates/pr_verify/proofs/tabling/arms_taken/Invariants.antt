@@ -1,6 +1,4 @@
-use Rattle.std.proofs.Common.{◌<◌, map}
-use Rattle.std.specs.List.{AllPairs, Contains}
-use Rattle.pr_domain.specs.declared.landing.Landing.TheVariants.{Arm}
+use Rattle.pr_verify.proofs.Common.{◌<◌, map, Contains, AllPairs, Arm}
 use Rattle.pr_verify.proofs.lemmas.Tabling.Rows.{AreBelow}
 use Rattle.pr_verify.proofs.tabling.arms_taken.Given as goal
 

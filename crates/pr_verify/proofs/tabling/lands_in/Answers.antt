@@ -1,7 +1,4 @@
-use Rattle.std.proofs.Common.{◌≡◌, true, false, length, subst, arith}
-use Rattle.pr_domain.specs.declared.landing.Landing.{Landing}
-use Rattle.pr_views.specs.declared.view.ViewOf.{ViewOf}
-use Rattle.pr_verify.specs.inside.Least.{EachOf}
+use Rattle.pr_verify.proofs.Common.{◌≡◌, true, false, length, subst, arith, ViewOf, Landing, EachOf}
 use Rattle.pr_verify.proofs.lemmas.Least.FirstLines.{each_listed}
 use Rattle.pr_verify.proofs.lemmas.Rooms.MappedLists.{unmapped}
 use Rattle.pr_verify.proofs.tabling.lands_in.Goals as goal

@@ -1,5 +1,4 @@
-use Rattle.std.proofs.Common.{◌≡◌}
-use Rattle.pr_verify.specs.inside.Least.{EachOf}
+use Rattle.pr_verify.proofs.Common.{◌≡◌, EachOf}
 use Rattle.pr_verify.proofs.tabling.lands_in.Given as goal
 
 -- none before this one

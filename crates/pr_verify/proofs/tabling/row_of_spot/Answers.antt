@@ -1,13 +1,4 @@
-use Rattle.std.proofs.Common.{◌≡◌, length, map, refl, ◌∙◌, subst, arith}
-use Rattle.std.specs.List.{Contains}
-use Rattle.pr_roles.specs.Scenarios.{scenario_of}
-use Rattle.pr_views.specs.Rooms.{view_of}
-use Rattle.pr_views.specs.declared.view.ViewOf.{ViewOf}
-use Rattle.pr_domain.specs.declared.landing.Landing.{Landing}
-use Rattle.pr_domain.specs.declared.landing.Landing.TheVariants.{Arm}
-use Rattle.pr_domain.specs.Outcomes.{IsPermittedIn, IsRefusedIn}
-use Rattle.pr_verify.specs.Rooms.{outline_of}
-use Rattle.pr_verify.specs.inside.Listing.{place_of}
+use Rattle.pr_verify.proofs.Common.{◌≡◌, map, length, Contains, refl, ◌∙◌, subst, arith, scenario_of, view_of, ViewOf, IsPermittedIn, IsRefusedIn, Landing, Arm, outline_of, place_of}
 use Rattle.pr_verify.proofs.lemmas.Rooms.Nexuses.{role_read}
 use Rattle.pr_verify.proofs.lemmas.Reviewing.FittingPlaces.{IsHere}
 use Rattle.pr_verify.proofs.lemmas.Tabling.Rows.{AreBelow, row_is}

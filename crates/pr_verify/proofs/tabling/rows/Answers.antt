@@ -1,12 +1,6 @@
-use Rattle.std.proofs.Common.{◌≡◌, ◌+◌, length, take, rules, sym, ap, ◌∙◌, subst, arith}
-use Rattle.std.specs.List.{AllZip}
+use Rattle.pr_verify.proofs.Common.{◌≡◌, ◌+◌, length, take, sym, ap, ◌∙◌, subst, arith, rules, AllZip, scenario_of, outline_of, row_of, IsRow, Spot, place_of}
 use Rattle.std.proofs.lemmas.List.{take_all}
-use Rattle.pr_roles.specs.Scenarios.{scenario_of}
-use Rattle.pr_verify.specs.Rooms.{outline_of, row_of}
-use Rattle.pr_verify.specs.Tables.{IsRow}
-use Rattle.pr_verify.specs.declared.places.Spot.{Spot}
 use Rattle.pr_verify.specs.declared.table.Row.{Row}
-use Rattle.pr_verify.specs.inside.Listing.{place_of}
 use Rattle.pr_verify.proofs.lemmas.Known.Questions.{has_view, answer_within, answered_here}
 use Rattle.pr_verify.proofs.lemmas.Tabling.Rows.{zip_more}
 use Rattle.pr_verify.proofs.tabling.rows.Goals as goal

@@ -1,10 +1,4 @@
-use Rattle.std.proofs.Common.{take}
-use Rattle.std.specs.List.{AllZip}
-use Rattle.pr_roles.specs.Scenarios.{scenario_of}
-use Rattle.pr_verify.specs.Rooms.{outline_of, row_of}
-use Rattle.pr_verify.specs.Tables.{IsRow}
-use Rattle.pr_verify.specs.inside.Asked.{AreAnswersTo}
-use Rattle.pr_verify.specs.inside.Listing.{place_of}
+use Rattle.pr_verify.proofs.Common.{take, AllZip, scenario_of, outline_of, row_of, IsRow, AreAnswersTo, place_of}
 use Rattle.pr_verify.proofs.tabling.rows.Given as goal
 
 abbrev pub invariant-loop-i : goal.invariant-loop-i

@@ -1,18 +1,7 @@
-use Rattle.std.proofs.Common.{◌≡◌, ◌<◌, length, map, List, sym, ap, ◌∙◌, subst, ℕ}
-use Rattle.std.specs.List.{AllZip}
-use Rattle.pr_script.specs.Grammar.{rise_above}
-use Rattle.pr_script.specs.Trees.{script_of}
-use Rattle.pr_roles.specs.Scenarios.{scenario_of, task}
+use Rattle.pr_verify.proofs.Common.{◌≡◌, ℕ, ◌<◌, List, map, length, sym, ap, ◌∙◌, subst, AllZip, rise_above, script_of, task, scenario_of, ViewOf, IsLeastSound, IsListed, Place, outline_of, row_of, IsRow, Spot, place_of, AreWritten}
 use Rattle.pr_sets.specs.declared.word_set.WordSet.{WordSet}
-use Rattle.pr_views.specs.declared.view.ViewOf.{ViewOf}
-use Rattle.pr_verify.specs.Places.{Place}
-use Rattle.pr_verify.specs.Outlines.{IsListed}
-use Rattle.pr_verify.specs.LeastOutlines.{IsLeastSound}
-use Rattle.pr_verify.specs.Rooms.{outline_of, row_of}
-use Rattle.pr_verify.specs.Tables.{IsRow, IsTable}
-use Rattle.pr_verify.specs.declared.places.Spot.{Spot}
+use Rattle.pr_verify.specs.Tables.{IsTable}
 use Rattle.pr_verify.specs.declared.table.Row.{Row}
-use Rattle.pr_verify.specs.inside.Listing.{place_of, AreWritten}
 use Rattle.pr_verify.proofs.lemmas.Reviewing.Findings.{spots_rise, spots_written}
 use Rattle.pr_verify.proofs.lemmas.Outlines.LineOrder.{as_many}
 use Rattle.pr_verify.proofs.lemmas.Rooms.Scripts.{on_scripted}

@@ -1,6 +1,4 @@
-use Rattle.std.proofs.Common.{◌≡◌, ◌+◌, length, sym, ap, ◌∙◌, subst, arith, Vec, Global}
-use Rattle.pr_roles.specs.Scenarios.{scenario_of}
-use Rattle.pr_domain.proofs.lemmas.Starting.WrittenNumbers.{are_counted}
+use Rattle.pr_verify.proofs.Common.{◌≡◌, ◌+◌, length, Vec, Global, sym, ap, ◌∙◌, subst, arith, scenario_of, are_counted}
 use Rattle.pr_verify.specs.declared.table.Table.{Table}
 use Rattle.pr_verify.proofs.lemmas.Tabling.Rows.{AreBeforeHost, one_table, no_table, are_tables}
 use Rattle.pr_verify.proofs.tabling.tables.Goals.{then-has_script+in_ok-table_of_host+in_ok-push, else-has_script}

@@ -1,4 +1,4 @@
-use Rattle.pr_roles.specs.Scenarios.{scenario_of}
+use Rattle.pr_verify.proofs.Common.{scenario_of}
 use Rattle.pr_verify.proofs.lemmas.Tabling.Rows.{AreBeforeHost}
 use Rattle.pr_verify.proofs.tabling.tables.Given as goal
 

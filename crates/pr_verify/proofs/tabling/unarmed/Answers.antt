@@ -1,8 +1,4 @@
-use Rattle.std.proofs.Common.{◌≡◌, ◌+◌, ◌<◌, length, [], ◌∷◌, ◌++◌, sym, subst}
-use Rattle.std.specs.List.{AllPairs}
-use Rattle.pr_domain.specs.declared.landing.Class.{Class}
-use Rattle.pr_verify.specs.Refusals.{class_number}
-use Rattle.pr_verify.specs.inside.Reviewing.{IsUnarmed}
+use Rattle.pr_verify.proofs.Common.{◌≡◌, ◌+◌, ◌<◌, [], ◌∷◌, ◌++◌, length, AllPairs, sym, subst, Class, class_number, IsUnarmed}
 use Rattle.pr_verify.proofs.lemmas.Tabling.Rows.{AreBefore, before_more, before_rise, all_before, class_alone}
 use Rattle.pr_verify.proofs.tabling.unarmed.Goals as goal
 

@@ -1,7 +1,5 @@
-use Rattle.std.proofs.Common.{◌<◌, ◌-◌, length}
-use Rattle.std.specs.List.{AllPairs}
-use Rattle.pr_verify.specs.Refusals.{class_number}
-use Rattle.pr_verify.specs.inside.Reviewing.{IsUnarmed}
+use Rattle.pr_verify.proofs.Common.{◌<◌, length, AllPairs, class_number, IsUnarmed}
+use Rattle.std.proofs.Common.{◌-◌}
 use Rattle.pr_verify.proofs.lemmas.Tabling.Rows.{AreBefore}
 use Rattle.pr_verify.proofs.tabling.unarmed.Given as goal
 

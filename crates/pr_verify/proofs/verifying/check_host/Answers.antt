@@ -1,19 +1,8 @@
-use Rattle.std.proofs.Common.{◌≢◌, ℕ, ◌≤◌, rules, Some, refl, sym, ap, ◌∙◌, subst, arith}
-use Rattle.std.specs.Prelude.{IfErr}
-use Rattle.std.proofs.lemmas.Result.{IfErr-weaker, err_from_is_err_and}
-use Rattle.pr_script.specs.Costs.{cost_of_all}
-use Rattle.pr_verify.specs.declared.refusal.Refusal.{Refusal}
+use Rattle.pr_verify.proofs.Common.{ℕ, ◌≤◌, ◌≢◌, IfErr, Some, sym, refl, ap, ◌∙◌, subst, arith, rules, err_from_is_err_and, cost_of_all, Stmts, script_of, task, task_of, scenario_of, IsLeastSound, HasOutline, OnScripted, SendsFit, IsRefusal, outline_of, IsScripted, Refusal}
+use Rattle.std.proofs.lemmas.Result.{IfErr-weaker}
 use Rattle.pr_verify.specs.declared.refusal.Refusal.TheVariants.{Memory}
-use Rattle.pr_verify.specs.LeastOutlines.{IsLeastSound}
-use Rattle.pr_verify.specs.Refusals.{IsRefusal}
 use Rattle.pr_verify.specs.Verdicts.{HasReason}
-use Rattle.pr_verify.specs.Rooms.{outline_of}
 use Rattle.pr_verify.proofs.lemmas.Verdicts.Reasons.{has_reason}
-use Rattle.pr_roles.specs.Scenarios.{scenario_of, task, task_of}
-use Rattle.pr_script.specs.Scripts.{Stmts}
-use Rattle.pr_script.specs.Trees.{script_of}
-use Rattle.pr_verify.specs.Outlines.{OnScripted, HasOutline, SendsFit}
-use Rattle.pr_verify.specs.Rooms.{IsScripted}
 use Rattle.pr_verify.proofs.lemmas.Rooms.Nexuses.{scripted_task, scripted_fits, task_read}
 use Rattle.pr_verify.proofs.lemmas.Rooms.Scripts.{on_script}
 use Rattle.pr_verify.proofs.lemmas.Outlines.Checks.{has_outline, one_ok}

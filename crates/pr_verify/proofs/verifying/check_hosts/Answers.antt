@@ -1,10 +1,4 @@
-use Rattle.std.proofs.Common.{sym, subst, arith}
-use Rattle.std.specs.Prelude.{IfErr}
-use Rattle.std.proofs.lemmas.Result.{err_from_is_err_and}
-use Rattle.pr_roles.specs.Scenarios.{scenario_of, task}
-use Rattle.pr_verify.specs.Outlines.{OnScripted, HasOutline, SendsFit}
-use Rattle.pr_domain.proofs.lemmas.Starting.WrittenNumbers.{are_counted}
-use Rattle.pr_verify.specs.Verdicts.{IsVerdict}
+use Rattle.pr_verify.proofs.Common.{IfErr, sym, subst, arith, err_from_is_err_and, task, scenario_of, are_counted, HasOutline, OnScripted, SendsFit, IsVerdict}
 use Rattle.pr_verify.proofs.lemmas.Outlines.Checks.{below_next}
 use Rattle.pr_verify.proofs.lemmas.Verdicts.Reasons.{is_verdict}
 use Rattle.pr_verify.proofs.verifying.check_hosts.Goals as goal

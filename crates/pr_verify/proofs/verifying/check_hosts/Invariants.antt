@@ -1,6 +1,4 @@
-use Rattle.std.proofs.Common.{ℕ, ◌<◌}
-use Rattle.pr_roles.specs.Scenarios.{scenario_of, task}
-use Rattle.pr_verify.specs.Outlines.{OnScripted, HasOutline, SendsFit}
+use Rattle.pr_verify.proofs.Common.{ℕ, ◌<◌, task, scenario_of, HasOutline, OnScripted, SendsFit}
 use Rattle.pr_verify.proofs.verifying.check_hosts.Given as goal
 
 -- each scripted host before this one has an outline, and what it sends is in range

@@ -1,6 +1,5 @@
-use Rattle.pr_roles.specs.Scenarios.{scenario_of}
+use Rattle.pr_verify.proofs.Common.{scenario_of, IsVerdict}
 use Rattle.std.proofs.lemmas.Result.{IfErr-at_err}
-use Rattle.pr_verify.specs.Verdicts.{IsVerdict}
 use Rattle.pr_verify.proofs.lemmas.Verdicts.Reasons.{none_fit}
 use Rattle.pr_verify.proofs.verifying.verdict_on.Goals as goal
 

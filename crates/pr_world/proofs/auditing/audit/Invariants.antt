@@ -1,5 +1,4 @@
-use Rattle.std.proofs.Common.{take}
-use Rattle.pr_roles.specs.Scenarios.{scenario_of}
+use Rattle.pr_world.proofs.Common.{take, scenario_of}
 use Rattle.pr_world.proofs.lemmas.Audits.KnownWorlds.{IsKnown}
 use Rattle.pr_world.proofs.auditing.audit.Given as goal
 

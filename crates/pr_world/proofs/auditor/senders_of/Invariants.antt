@@ -1,8 +1,4 @@
-use Rattle.std.proofs.Common.{◌≡◌, take}
-use Rattle.std.specs.Prelude.{map}
-use Rattle.pr_roles.specs.Scenarios.{nexus_of}
-use Rattle.pr_roles.specs.Worlds.{control_of}
-use Rattle.pr_world.specs.Auditors.{control_by}
+use Rattle.pr_world.proofs.Common.{◌≡◌, map, take, nexus_of, control_of, control_by}
 use Rattle.pr_world.proofs.auditor.senders_of.Given as goal
 
 -- those before this one are at their beginning

@@ -1,7 +1,4 @@
-use Rattle.std.proofs.Common.{◌≡◌, take, Some}
-use Rattle.std.specs.Prelude.{map}
-use Rattle.pr_world.specs.inside.Participations.{participation_of}
-use Rattle.pr_world.specs.Ends.{ending_of, ending}
+use Rattle.pr_world.proofs.Common.{◌≡◌, map, take, Some, ending_of, ending, participation_of}
 use Rattle.pr_world.proofs.course.ends_of.Given as goal
 
 -- how those before this one stand

@@ -1,7 +1,5 @@
-use Rattle.std.proofs.Common.{◌≡◌, take}
-use Rattle.std.specs.Prelude.{map}
-use Rattle.pr_roles.specs.Scenarios.{nexus_of}
-use Rattle.pr_world.specs.inside.Participations.{participation_of, participation_from}
+use Rattle.pr_world.proofs.Common.{◌≡◌, map, take, nexus_of, participation_of}
+use Rattle.pr_world.specs.inside.Participations.{participation_from}
 use Rattle.pr_world.proofs.course.participants_of.Given as goal
 
 -- those before this one are at their beginning

@@ -1,15 +1,8 @@
 -- The histories of runs: each event adds one item, and what stands before the last one is the history of a run.
-use Rattle.std.proofs.Common.{◌≡◌, ℕ, List, [], ◌∷◌, ◌++◌, take, drop, refl, sym, ap, ◌∙◌, subst}
-use Rattle.std.proofs.lemmas.List.{append-nil, append_assoc, take-append-drop}
-use Rattle.pr_cdb.specs.Spelling.{spelling}
-use Rattle.pr_unit.specs.UnitStates.{UnitState}
-use Rattle.pr_roles.specs.declared.item.Item.{Item}
-use Rattle.pr_roles.specs.declared.item.Item.TheVariants.{Sent, Reset}
-use Rattle.pr_roles.specs.Safety.{IsLegal}
-use Rattle.pr_roles.specs.Scenarios.{Scenario}
-use Rattle.pr_roles.specs.Worlds.{World, Event, Host, Guest, UnitReset, Happens, Run, entry_of, world_from}
-use Rattle.pr_world.specs.Auditors.{Adds}
-use Rattle.pr_world.specs.inside.Auditing.{Reaches}
+use Rattle.pr_world.proofs.Common.{◌≡◌, ℕ, List, [], ◌∷◌, ◌++◌, take, sym, refl, ap, ◌∙◌, subst, append-nil, spelling, UnitState, IsLegal, Scenario, World, entry_of, Event, Host, Guest, UnitReset, Happens, world_from, Item, Sent, Reset, Adds, Reaches}
+use Rattle.std.proofs.Common.{drop}
+use Rattle.std.proofs.lemmas.List.{append_assoc, take-append-drop}
+use Rattle.pr_roles.specs.Worlds.{Run}
 use Rattle.pr_world.proofs.lemmas.Replays.Runs.{run_then}
 
 -- ---- the last of a list

@@ -1,21 +1,10 @@
 -- What may come next of one nexus.
-use Rattle.std.proofs.Common.{◌≡◌, ℕ, Bool, true, false, List, Some, Ok, refl, sym, ap, ◌∙◌, subst}
-use Rattle.pr_cdb.specs.declared.reply.Reply.{Reply}
-use Rattle.pr_cdb.specs.declared.wire.Request.{Request}
-use Rattle.pr_cdb.specs.declared.wire.Request.TheVariants.{Plain}
-use Rattle.pr_unit.specs.UnitStates.{UnitState}
+use Rattle.pr_world.proofs.Common.{◌≡◌, ℕ, Bool, true, false, List, Some, Ok, sym, refl, ap, ◌∙◌, subst, Reply, Request, Plain, UnitState, ready, Answers, Control, Going, Trapped, Free, control_after, Entry, How, Clause, control_by, is_free, IsJudged}
 use Rattle.pr_unit.proofs.lemmas.Steps.WellFormedSteps.{hosts-step}
-use Rattle.pr_script.specs.Scripts.{ready}
-use Rattle.pr_roles.specs.declared.role.Clause.{Clause}
-use Rattle.pr_roles.specs.declared.entry.Entry.{Entry}
-use Rattle.pr_roles.specs.declared.how.How.{How}
 use Rattle.pr_roles.specs.declared.how.How.TheVariants as how
-use Rattle.pr_roles.specs.Answers.{Answers}
-use Rattle.pr_roles.specs.Worlds.{Control, Going, Trapped, Free, control_after}
 use Rattle.pr_world.specs.declared.sender.Sender.{Sender}
 use Rattle.pr_world.specs.declared.sender.Sender.TheVariants as sender
-use Rattle.pr_world.specs.Auditors.{is_free, control_by}
-use Rattle.pr_world.specs.inside.Auditing.{ScriptSends, GuestSendsSo, MayCome, IsGuestJudged, IsJudged}
+use Rattle.pr_world.specs.inside.Auditing.{ScriptSends, GuestSendsSo, MayCome, IsGuestJudged}
 use Rattle.pr_world.proofs.lemmas.Auditors.FixedStates.{step_fixed}
 use Rattle.pr_world.proofs.lemmas.Turns.Schedules.{free_taken}
 

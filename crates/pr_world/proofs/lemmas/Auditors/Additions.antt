@@ -1,35 +1,15 @@
 -- The items that some event adds to a world are just those that may come next.
-use Rattle.std.proofs.Common.{◌≡◌, ℕ, ◌<◌, ◌≤◌, Bool, true, false, List, [], ◌∷◌, ◌++◌, length, get_or, Option, Some, None, refl, sym, ap, ◌∙◌, subst, arith}
-use Rattle.std.specs.Prelude.{slice_set, option_map, IsTrue}
-use Rattle.std.specs.List.{slice_get}
-use Rattle.std.specs.Option.{option_map_or}
-use Rattle.std.proofs.lemmas.Bool.{false≢true}
-use Rattle.std.proofs.lemmas.List.{append_cancel_left, length-map}
-use Rattle.std.proofs.lemmas.Option.{slice_get-map, slice_get-get_or, slice_get_past}
-use Rattle.std.proofs.Math.Seq.{map-set_same}
-use Rattle.pr_cdb.specs.declared.command.Command.{Command}
-use Rattle.pr_cdb.specs.declared.reply.Reply.{Reply}
+use Rattle.pr_world.proofs.Common.{◌≡◌, ℕ, ◌<◌, ◌≤◌, Bool, true, false, List, [], ◌∷◌, ◌++◌, length, get_or, IsTrue, slice_get, slice_set, Some, None, Option, option_map, sym, refl, ap, ◌∙◌, subst, arith, option_map_or, map-set_same, false≢true, length-map, slice_get-map, slice_get-get_or, spelling, Command, Reply, Request, Plain, UnitState, ready, Answers, may_come, Task, Scripted, Planned, Nexus, role, Scenario, Control, Going, Trapped, Free, standing_of, control_after, World, control, entry_of, Event, Host, Guest, UnitReset, is_guest_task, Happens, Entry, How, Item, Sent, Reset, Adds, IsTried, is_free, ActFor, is_planned, IsJudged}
+use Rattle.std.proofs.lemmas.List.{append_cancel_left}
+use Rattle.std.proofs.lemmas.Option.{slice_get_past}
 use Rattle.pr_cdb.specs.declared.reply.Status.{Status}
 use Rattle.pr_cdb.specs.declared.reply.Status.TheVariants as status
 use Rattle.pr_cdb.specs.Statuses.{is_busy_status, is_full_status}
 use Rattle.pr_cdb.specs.declared.wire.Wire.{Wire}
-use Rattle.pr_cdb.specs.declared.wire.Request.{Request}
-use Rattle.pr_cdb.specs.declared.wire.Request.TheVariants.{Plain}
-use Rattle.pr_cdb.specs.Spelling.{spelling}
-use Rattle.pr_unit.specs.UnitStates.{UnitState}
 use Rattle.pr_unit.proofs.lemmas.Steps.Statuses.{steps_are_never_busy}
-use Rattle.pr_script.specs.Scripts.{ready}
-use Rattle.pr_roles.specs.declared.entry.Entry.{Entry}
-use Rattle.pr_roles.specs.declared.item.Item.{Item}
-use Rattle.pr_roles.specs.declared.item.Item.TheVariants.{Sent, Reset}
-use Rattle.pr_roles.specs.declared.how.How.{How}
 use Rattle.pr_roles.specs.declared.how.How.TheVariants as how
-use Rattle.pr_roles.specs.Answers.{Answers, may_come}
-use Rattle.pr_roles.specs.Scenarios.{Scenario, Nexus, Task, Scripted, Planned, role}
-use Rattle.pr_roles.specs.Worlds.{World, Control, Going, Trapped, Free, Event, Host, Guest, UnitReset, Happens, GuestSends, control, is_guest, is_guest_task, standing_of, control_after, entry_of, after as world_after}
-use Rattle.pr_world.specs.Courses.{is_planned}
-use Rattle.pr_world.specs.Auditors.{is_free, Adds, IsTried, ActFor}
-use Rattle.pr_world.specs.inside.Auditing.{how_of, MayCome, IsJudged}
+use Rattle.pr_roles.specs.Worlds.{GuestSends, is_guest, after as world_after}
+use Rattle.pr_world.specs.inside.Auditing.{how_of, MayCome}
 use Rattle.pr_world.proofs.lemmas.Auditing.Judgements.{may_fixed, free_judged, hosts_judged}
 
 -- the world after this entry, of one that acts so then

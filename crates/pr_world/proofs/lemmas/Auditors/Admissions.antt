@@ -1,25 +1,9 @@
 -- An entry that one among the senders was asked for.
-use Rattle.std.proofs.Common.{◌≡◌, ℕ, ◌<◌, ◌≤◌, Bool, true, false, IsTrue, List, [], ◌∷◌, ◌++◌, length, get_or, vec_len, Vec, Global, Some, refl, sym, ap, ◌∙◌, subst, arith}
-use Rattle.std.specs.Prelude.{map, slice_set}
-use Rattle.std.specs.Option.{option_map_or}
-use Rattle.std.proofs.lemmas.List.{length-map, map-set}
-use Rattle.std.proofs.lemmas.Option.{slice_get-get_or}
-use Rattle.std.proofs.Math.ListN.{get_or-map}
-use Rattle.pr_unit.specs.UnitStates.{UnitState}
-use Rattle.pr_roles.specs.declared.item.Item.TheVariants.{Sent}
-use Rattle.pr_roles.specs.declared.item.Item.{Item}
-use Rattle.pr_roles.specs.declared.entry.Entry.{Entry}
-use Rattle.pr_roles.specs.declared.how.How.{How}
-use Rattle.pr_roles.specs.Answers.{may_come}
+use Rattle.pr_world.proofs.Common.{◌≡◌, ℕ, ◌<◌, ◌≤◌, Bool, true, false, List, [], ◌∷◌, ◌++◌, map, length, get_or, IsTrue, slice_set, Some, vec_len, sym, refl, ap, ◌∙◌, subst, arith, option_map_or, get_or-map, length-map, map-set, slice_get-get_or, UnitState, may_come, Nexus, role, Scenario, scenario_of, Free, World, control, control_of, Entry, How, Item, Sent, Parts, count_of_parts, control_by, Adds, IsTried, is_free, ActFor, is_planned, IsJudged}
+use Rattle.std.proofs.Common.{Vec, Global}
 use Rattle.pr_roles.specs.declared.parts.Nexus.{Nexus as NexusPart}
-use Rattle.pr_roles.specs.declared.parts.Parts.{Parts}
-use Rattle.pr_roles.specs.Scenarios.{Scenario, Nexus, role, scenario_of}
-use Rattle.pr_roles.specs.Worlds.{World, Free, control, control_of}
-use Rattle.pr_regions.proofs.lemmas.Showing.ScenarioParts.{count_of_parts}
 use Rattle.pr_world.specs.declared.sender.Sender.{Sender}
-use Rattle.pr_world.specs.Courses.{is_planned}
-use Rattle.pr_world.specs.Auditors.{is_free, IsTried, Adds, ActFor, control_by}
-use Rattle.pr_world.specs.inside.Auditing.{how_of, IsJudged}
+use Rattle.pr_world.specs.inside.Auditing.{how_of}
 use Rattle.pr_world.proofs.lemmas.Courses.Starts.{free_from}
 use Rattle.pr_world.proofs.lemmas.Turns.Schedules.{role_at}
 use Rattle.pr_world.proofs.lemmas.Auditors.Additions.{judged_tried, judged_acts, none_left, none_past}

@@ -1,13 +1,11 @@
 -- The state after a step is fixed by the reply.
-use Rattle.std.proofs.Common.{◌≡◌, ℕ, Bool, true, false, if◌then◌else◌, Option, Some, None, sym, ap, ◌∙◌, get_or, arith}
+use Rattle.pr_world.proofs.Common.{◌≡◌, ℕ, Bool, true, false, get_or, if◌then◌else◌, Some, None, Option, sym, ap, ◌∙◌, arith, Reply, Request, Plain, UnitState}
 use Rattle.pr_cdb.specs.declared.codes.TheConstants.{UNIT_ATTENTION}
-use Rattle.pr_cdb.specs.declared.reply.Reply.{Reply}
 use Rattle.pr_cdb.specs.declared.reply.Sense.{Sense}
-use Rattle.pr_cdb.specs.declared.wire.Request.{Request}
-use Rattle.pr_cdb.specs.declared.wire.Request.TheVariants.{Plain, Faulty}
+use Rattle.pr_cdb.specs.declared.wire.Request.TheVariants.{Faulty}
 use Rattle.pr_cdb.specs.ReplyData.{sense_bytes}
 use Rattle.pr_unit.specs.Attentions.{power_on, attention_sense}
-use Rattle.pr_unit.specs.UnitStates.{UnitState, is_pending, is_any_pending, after_report}
+use Rattle.pr_unit.specs.UnitStates.{is_pending, is_any_pending, after_report}
 use Rattle.pr_unit.specs.Replies.{good, check, report, is_request_sense}
 use Rattle.pr_unit.specs.Conflicts.{conflicts}
 use Rattle.pr_unit.specs.Faults.{fault}

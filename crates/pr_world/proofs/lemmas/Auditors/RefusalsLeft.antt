@@ -1,14 +1,10 @@
 -- How many refusals are left to a nexus, by its parts.
-use Rattle.std.proofs.Common.{◌≡◌, ℕ, ◌<◌, nat_lt, List, length, Some, slice_index_or, sym, ap, ◌∙◌, arith}
-use Rattle.std.specs.Option.{option_map_or}
-use Rattle.pr_roles.specs.declared.item.Item.{Item}
+use Rattle.pr_world.proofs.Common.{◌≡◌, ℕ, ◌<◌, List, length, nat_lt, Some, sym, ap, ◌∙◌, arith, option_map_or, may_come, nexus, nexus_of, scenario_of, Item, Parts, count_of_parts}
+use Rattle.std.proofs.Common.{slice_index_or}
 use Rattle.pr_roles.specs.declared.how.How.TheVariants as how
 use Rattle.pr_roles.specs.declared.parts.Nexus.{Nexus as NexusPart}
-use Rattle.pr_roles.specs.declared.parts.Parts.{Parts}
-use Rattle.pr_roles.specs.Answers.{refusals_by, may_come}
-use Rattle.pr_roles.specs.Scenarios.{nexus, nexus_of, scenario_of}
+use Rattle.pr_roles.specs.Answers.{refusals_by}
 use Rattle.pr_interference.proofs.lemmas.Interference.Nexuses.{nexus_at}
-use Rattle.pr_regions.proofs.lemmas.Showing.ScenarioParts.{count_of_parts}
 
 -- the part at this place is that of the nexus
 named : (p q : Parts) (h i : ℕ) (n : NexusPart) → h < length (scenario_of p).nexuses → q ≡ p → i ≡ h → n ≡ slice_index_or q.nexuses.items i n → nexus (scenario_of p) h ≡ Some (nexus_of n)

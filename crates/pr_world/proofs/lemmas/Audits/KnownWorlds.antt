@@ -1,16 +1,10 @@
 -- An audit knows the one world that the history so far leads to.
-use Rattle.std.proofs.Common.{◌≡◌, ℕ, ◌+◌, ◌<◌, ◌≤◌, true, List, [], ◌∷◌, ◌++◌, length, get_or, take, Some, refl, sym, ap, ◌∙◌, subst, arith}
+use Rattle.pr_world.proofs.Common.{◌≡◌, ℕ, ◌+◌, ◌<◌, ◌≤◌, true, List, [], ◌∷◌, ◌++◌, length, get_or, take, Some, sym, refl, ap, ◌∙◌, subst, arith, UnitState, IsLegal, Scenario, World, world_from, Item, Adds, IsTried, ActFor, Reaches}
 use Rattle.std.proofs.lemmas.List.{take_all, take_more, take-take}
-use Rattle.pr_unit.specs.UnitStates.{UnitState}
-use Rattle.pr_roles.specs.declared.item.Item.{Item}
-use Rattle.pr_roles.specs.Scenarios.{Scenario}
 use Rattle.pr_roles.specs.FirstStarts.{first_state}
-use Rattle.pr_roles.specs.Safety.{IsLegal}
-use Rattle.pr_roles.specs.Worlds.{World, world_from}
 use Rattle.pr_world.specs.declared.auditor.Auditor.{Auditor}
 use Rattle.pr_world.specs.Audits.{IsLegalFromFirst, IsFirstIllegal}
-use Rattle.pr_world.specs.Auditors.{Adds, IsTried, ActFor, world_at}
-use Rattle.pr_world.specs.inside.Auditing.{Reaches}
+use Rattle.pr_world.specs.Auditors.{world_at}
 use Rattle.pr_world.proofs.lemmas.Auditing.Histories.{reached_legal, reaches_more, reached_before, reached_at_first, legal_take}
 
 -- whatever run from the first start has this history leads to the world of the audit, and some run does

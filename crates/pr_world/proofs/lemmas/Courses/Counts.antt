@@ -1,13 +1,8 @@
 -- The commands of a history counted by their senders.
-use Rattle.std.proofs.Common.{◌≡◌, ◌≢◌, ℕ, ◌+◌, ◌-◌, ◌<◌, ◌≤◌, ◌==◌, Bool, true, false, cond, List, [], ◌∷◌, ◌++◌, length, get_or, set, refl, sym, ap, ◌∙◌, subst, arith, get_or-set_same, get_or-set_other}
-use Rattle.std.specs.Prelude.{sum}
-use Rattle.std.proofs.lemmas.List.{get_or_past}
+use Rattle.pr_world.proofs.Common.{◌≡◌, ℕ, ◌+◌, ◌<◌, ◌≤◌, Bool, true, false, List, [], ◌∷◌, ◌++◌, length, get_or, sym, refl, ap, ◌∙◌, subst, arith, nat_tests, get_or_past, commands_by, Entry, Item, Sent, Reset}
+use Rattle.std.proofs.Common.{◌≢◌, ◌-◌, ◌==◌, cond, set, get_or-set_same, get_or-set_other, sum}
 use Rattle.std.proofs.lemmas.List.Sums.{sum_by-cons, sum_by-set, sum_by_push}
-use Rattle.std.proofs.lemmas.Bool.Decides.{nat_tests}
-use Rattle.pr_roles.specs.declared.entry.Entry.{Entry}
-use Rattle.pr_roles.specs.declared.item.Item.{Item}
-use Rattle.pr_roles.specs.declared.item.Item.TheVariants.{Sent, Reset}
-use Rattle.pr_roles.specs.Worlds.{commands_by, is_sent_by, resets_in}
+use Rattle.pr_roles.specs.Worlds.{is_sent_by, resets_in}
 use Rattle.pr_roles.proofs.lemmas.Worlds.Resets.{resets-cons}
 
 -- ---- one item more

@@ -1,15 +1,13 @@
 -- What a command is spelled as are bytes, as many as a wire holds.
-use Rattle.std.proofs.Common.{◌≡◌, ℕ, zero, suc, ◌/◌, ◌%◌, ◌^◌, ◌<◌, ◌≤◌, ◌&&◌, nat_lt, Bool, true, false, ◌++◌, List, [], ◌∷◌, length, Option, Some, None, refl, arith}
-use Rattle.std.specs.List.{list_all}
-use Rattle.std.proofs.lemmas.Bool.Decides.{nat_tests}
+use Rattle.pr_world.proofs.Common.{◌≡◌, ℕ, zero, suc, ◌<◌, ◌≤◌, Bool, true, false, List, [], ◌∷◌, ◌++◌, length, nat_lt, Some, None, Option, refl, arith, list_all, nat_tests, spelling, Command}
+use Rattle.std.proofs.Common.{◌/◌, ◌%◌, ◌^◌, ◌&&◌}
 use Rattle.std.specs.Int.{w16, w32, w64, byte_at, bytes_high_first, to_be_bytes}
 use Rattle.pr_cdb.specs.declared.command.Kind.{Kind}
 use Rattle.pr_cdb.specs.declared.command.Kind.TheVariants.{WriteExclusive}
-use Rattle.pr_cdb.specs.declared.command.Command.{Command}
 use Rattle.pr_cdb.specs.declared.command.Command.TheVariants.{TestUnitReady, RequestSense, Read, Write, ReadKeys, ReadReservation, ReportCapabilities, Register, RegisterIgnore, Reserve, Release, Clear, Preempt, PreemptAbort}
 use Rattle.pr_cdb.specs.Kinds.{code_of}
 use Rattle.pr_cdb.specs.Requests.{AreBytes}
-use Rattle.pr_cdb.specs.Spelling.{spelling, kind_byte, transfer, reserve_in, reserve_out}
+use Rattle.pr_cdb.specs.Spelling.{kind_byte, transfer, reserve_in, reserve_out}
 
 none : AreBytes []
 none i = omega arith

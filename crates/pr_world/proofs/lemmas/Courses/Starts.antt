@@ -1,25 +1,17 @@
 -- A scenario at its first start.
-use Rattle.std.proofs.Common.{◌≡◌, ℕ, zero, suc, ◌<◌, true, nat_le, List, [], ◌∷◌, length, Some, refl, sym, ap, ◌∙◌, subst, get_or, arith}
-use Rattle.std.specs.Prelude.{map}
-use Rattle.std.specs.List.{list_all}
+use Rattle.pr_world.proofs.Common.{◌≡◌, ℕ, zero, suc, ◌<◌, true, List, [], ◌∷◌, map, length, get_or, Some, sym, refl, ap, ◌∙◌, subst, arith, list_all, nat_tests, UnitState, Task, Scripted, Planned, Nexus, Scenario, nexus_of, scenario_of, control_of, Item, Parts, is_free, is_planned, IsReached, Participation, schedule_by, StandsFor}
+use Rattle.std.proofs.Common.{nat_le}
 use Rattle.std.proofs.lemmas.Bool.{and_parts}
-use Rattle.std.proofs.lemmas.Bool.Decides.{nat_tests}
 use Rattle.pr_script.proofs.lemmas.Depths.FittingScripts.{shallow}
-use Rattle.pr_roles.specs.declared.item.Item.{Item}
 use Rattle.pr_roles.specs.declared.parts.Nexus.{Nexus as NexusPart}
-use Rattle.pr_roles.specs.declared.parts.Parts.{Parts}
-use Rattle.pr_roles.specs.Scenarios.{Scenario, Nexus, Task, Scripted, Planned, nexus_of, task_of, scenario_of}
+use Rattle.pr_roles.specs.Scenarios.{task_of}
 use Rattle.pr_script.specs.Names.{is_name}
 use Rattle.pr_roles.specs.Fitting.{Fits, is_nexus, is_role, is_start, is_task}
 use Rattle.pr_roles.proofs.lemmas.Starts.AllowedStarts.{each_nexus}
 use Rattle.pr_roles.specs.Starts.{IsAllowedStart}
 use Rattle.pr_roles.specs.FirstStarts.{first_state}
-use Rattle.pr_roles.specs.Worlds.{control_of}
 use Rattle.pr_roles.specs.Schedules.{plan_of}
-use Rattle.pr_unit.specs.UnitStates.{UnitState}
-use Rattle.pr_world.specs.Courses.{IsReached, is_planned}
-use Rattle.pr_world.specs.inside.Participations.{IsShort, Participation, StandsFor, schedule_by, participation_from}
-use Rattle.pr_world.specs.Auditors.{is_free}
+use Rattle.pr_world.specs.inside.Participations.{IsShort, participation_from}
 
 -- ---- what fits is short
 

@@ -1,16 +1,12 @@
 -- A host's end says whether it is trapped.
-use Rattle.std.proofs.Common.{◌≡◌, Bool, true, false, ◌||◌, List, [], ◌∷◌, Option, Some, None, refl, sym, ap, ◌∙◌}
+use Rattle.pr_world.proofs.Common.{◌≡◌, Bool, true, false, List, [], ◌∷◌, map, Some, None, Option, sym, refl, ap, ◌∙◌, Command, Standing, ready, stopped, Control, Going, is_trapped, ending_of, ending, Participant, participation_of}
+use Rattle.std.proofs.Common.{◌||◌}
 use Rattle.std.proofs.lemmas.Option.{same_Some}
-use Rattle.std.specs.Prelude.{map}
 use Rattle.std.specs.List.{list_any}
-use Rattle.pr_cdb.specs.declared.command.Command.{Command}
-use Rattle.pr_script.specs.Scripts.{Standing, ready, stopped, standing_of_items}
-use Rattle.pr_roles.specs.Worlds.{Control, Going, is_trapped}
+use Rattle.pr_script.specs.Scripts.{standing_of_items}
 use Rattle.pr_world.specs.declared.end.End.{End}
 use Rattle.pr_world.specs.declared.end.End.TheVariants as end
-use Rattle.pr_world.specs.declared.participant.Participant.{Participant}
-use Rattle.pr_world.specs.inside.Participations.{participation_of}
-use Rattle.pr_world.specs.Ends.{Ending, stops, waits, traps, ending_of, ending, ending_by, is_trapped_end}
+use Rattle.pr_world.specs.Ends.{Ending, stops, waits, traps, ending_by, is_trapped_end}
 
 abbrev is_trap : Ending → Bool
 is_trap (traps line) = true

@@ -1,29 +1,16 @@
 -- What safety and legality say of a replay.
-use Rattle.std.proofs.Common.{◌≡◌, ℕ, zero, suc, ◌<◌, ◌≤◌, false, IsTrue, ◌||◌, List, [], ◌∷◌, ◌++◌, length, Some, refl, sym, ap, ◌∙◌, subst, zero-add, arith}
-use Rattle.std.specs.Prelude.{map, slice_index}
-use Rattle.std.specs.List.{list_any, range_with_len, slice_get}
-use Rattle.std.specs.Option.{option_map_or}
-use Rattle.std.proofs.lemmas.List.{append_assoc, get_or_past}
+use Rattle.pr_world.proofs.Common.{◌≡◌, ℕ, zero, suc, ◌<◌, ◌≤◌, false, List, [], ◌∷◌, ◌++◌, map, length, IsTrue, slice_get, Some, sym, refl, ap, ◌∙◌, subst, arith, range_with_len, option_map_or, false≢true, nat_tests, get_or_past, spelling, UnitState, Stmts, IsLegal, IsSafe, Scripted, task, Scenario, Control, Free, World, entry_of, Event, Host, Guest, UnitReset, is_guest_task, Happens, commands_by, is_trapped, Entry, Item, Sent, Reset, Step, Reaches}
+use Rattle.std.proofs.Common.{◌||◌, zero-add, slice_index}
+use Rattle.std.specs.List.{list_any}
+use Rattle.std.proofs.lemmas.List.{append_assoc}
 use Rattle.std.proofs.lemmas.List.FromFn.{get_or-map-range_with_len, length-map-range_with_len}
-use Rattle.std.proofs.lemmas.Bool.{false≢true}
-use Rattle.std.proofs.lemmas.Bool.Decides.{nat_tests}
-use Rattle.pr_cdb.specs.Spelling.{spelling}
-use Rattle.pr_unit.specs.UnitStates.{UnitState}
-use Rattle.pr_script.specs.Scripts.{Stmts}
-use Rattle.pr_roles.specs.Scenarios.{Scenario, Scripted, task}
 use Rattle.pr_roles.specs.Starts.{IsAllowedStart}
-use Rattle.pr_roles.specs.Worlds.{World, Event, Host, Guest, UnitReset, Happens, Control, Free, entry_of, is_guest_task, is_trapped, commands_by}
-use Rattle.pr_roles.specs.Safety.{IsSafe, IsLegal, KeepsBudgetBy}
-use Rattle.pr_roles.specs.declared.entry.Entry.{Entry}
-use Rattle.pr_roles.specs.declared.item.Item.{Item}
-use Rattle.pr_roles.specs.declared.item.Item.TheVariants.{Sent, Reset}
-use Rattle.pr_roles.specs.declared.step.Step.{Step}
+use Rattle.pr_roles.specs.Safety.{KeepsBudgetBy}
 use Rattle.pr_world.specs.declared.replaying.Replayed.{Replayed}
 use Rattle.pr_world.specs.Ends.{is_trapped_end}
 use Rattle.pr_world.specs.Laws.{IsPermittedAfter}
 use Rattle.pr_world.specs.Replays.{IsReplayed}
 use Rattle.pr_world.proofs.lemmas.Auditing.Histories.{last_same, legal_before, reached_before}
-use Rattle.pr_world.specs.inside.Auditing.{Reaches}
 use Rattle.pr_verify.proofs.lemmas.Laws.Runs.{safe_sends_are_fine}
 
 pub replay_is_legal : (s : Scenario) (steps : List Step) (r : Replayed) (x : IsReplayed s steps r) → IsLegal s x.start r.history.items

@@ -1,24 +1,8 @@
 -- A nexus among the others.
-use Rattle.std.proofs.Common.{◌≡◌, ℕ, ◌<◌, Bool, List, [], ◌∷◌, ◌++◌, length, Option, Some, None, refl, sym, ap, ◌∙◌, get_or}
-use Rattle.std.specs.Prelude.{map, slice_set, option_map}
-use Rattle.std.specs.List.{slice_get}
-use Rattle.std.specs.Option.{option_map_or}
-use Rattle.std.proofs.lemmas.List.{map-set, append-nil}
-use Rattle.std.proofs.lemmas.Option.{slice_get-map, slice_get-get_or}
-use Rattle.std.proofs.Math.Seq.{map-set_same}
-use Rattle.pr_cdb.specs.declared.command.Command.{Command}
-use Rattle.pr_cdb.specs.Spelling.{spelling}
-use Rattle.pr_unit.specs.UnitStates.{UnitState}
-use Rattle.pr_roles.specs.declared.entry.Entry.{Entry}
-use Rattle.pr_roles.specs.declared.item.Item.{Item}
-use Rattle.pr_roles.specs.declared.item.Item.TheVariants.{Sent}
-use Rattle.pr_roles.specs.declared.how.How.{How}
-use Rattle.pr_roles.specs.Scenarios.{Scenario, Nexus}
-use Rattle.pr_roles.specs.Worlds.{World, Free, control_after, control, after}
-use Rattle.pr_roles.specs.Schedules.{plan, Sends}
-use Rattle.pr_world.specs.Courses.{is_planned}
-use Rattle.pr_world.specs.inside.Participations.{Participation, schedule_by, IsSent, StandsFor}
-use Rattle.pr_world.specs.Auditors.{is_free}
+use Rattle.pr_world.proofs.Common.{◌≡◌, ℕ, ◌<◌, Bool, List, [], ◌∷◌, ◌++◌, map, length, get_or, slice_get, slice_set, Some, None, Option, option_map, sym, refl, ap, ◌∙◌, append-nil, option_map_or, map-set_same, map-set, slice_get-map, slice_get-get_or, spelling, Command, UnitState, Nexus, Scenario, plan, Free, control_after, World, control, Entry, How, Item, Sent, is_free, is_planned, Participation, schedule_by, StandsFor}
+use Rattle.pr_roles.specs.Worlds.{after}
+use Rattle.pr_roles.specs.Schedules.{Sends}
+use Rattle.pr_world.specs.inside.Participations.{IsSent}
 
 -- ---- a participation among the participations
 

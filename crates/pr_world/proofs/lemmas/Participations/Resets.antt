@@ -1,16 +1,9 @@
 -- What a reset comes to.
-use Rattle.std.proofs.Common.{◌≡◌, true, false, List, [], ◌∷◌, ◌++◌, sym, ap, ◌∙◌}
-use Rattle.std.specs.Prelude.{if◌then◌else◌}
-use Rattle.pr_unit.specs.UnitStates.{UnitState, reset}
-use Rattle.pr_roles.specs.declared.item.Item.{Item}
-use Rattle.pr_roles.specs.declared.item.Item.TheVariants.{Reset}
-use Rattle.pr_roles.specs.declared.step.Step.{Step}
+use Rattle.pr_world.proofs.Common.{◌≡◌, true, false, List, [], ◌∷◌, ◌++◌, if◌then◌else◌, sym, ap, ◌∙◌, UnitState, Scenario, Schedule, UnitReset, may_reset, Item, Reset, Step, IsReached, Participation, schedule_by}
+use Rattle.pr_unit.specs.UnitStates.{reset}
 use Rattle.pr_roles.specs.declared.step.Step.TheVariants as step
-use Rattle.pr_roles.specs.Scenarios.{Scenario}
-use Rattle.pr_roles.specs.Worlds.{UnitReset, after_reset, may_reset}
-use Rattle.pr_roles.specs.Schedules.{Schedule, ResetTurn}
-use Rattle.pr_world.specs.Courses.{IsReached}
-use Rattle.pr_world.specs.inside.Participations.{Participation, schedule_by}
+use Rattle.pr_roles.specs.Worlds.{after_reset}
+use Rattle.pr_roles.specs.Schedules.{ResetTurn}
 use Rattle.pr_world.proofs.lemmas.Replays.Runs.{reached_by, reached_still}
 
 -- the schedule after a reset

@@ -1,25 +1,14 @@
 -- Turns and resets one after another, and what they come to.
-use Rattle.std.proofs.Common.{◌≡◌, ℕ, ◌+◌, ◌<◌, ◌≤◌, List, [], ◌∷◌, ◌++◌, length, take, Option, Some, None, Result, Ok, Err, refl, sym, ap, ◌∙◌, subst, get_or, arith}
-use Rattle.std.specs.Prelude.{map, vec_len, vec_capacity, IfOk}
-use Rattle.std.specs.List.{range_with_len}
+use Rattle.pr_world.proofs.Common.{◌≡◌, ℕ, ◌+◌, ◌<◌, ◌≤◌, List, [], ◌∷◌, ◌++◌, map, length, get_or, take, Some, None, Ok, vec_len, vec_capacity, Option, sym, refl, ap, ◌∙◌, subst, arith, range_with_len, get_or-map, length-map, Scenario, Schedule, Turn, World, Event, Happens, world_from, commands_by, Entry, How, Item, Step, IsReached, ending_of, ending, Course, Participant, participation_of, HappensBy, StandsFor, schedule_of}
+use Rattle.std.proofs.Common.{Result, Err, IfOk}
 use Rattle.std.specs.declared.alloc.AllocError.{AllocError}
-use Rattle.std.proofs.lemmas.List.{length-map, take_all, take_more}
-use Rattle.std.proofs.Math.ListN.{get_or-map}
-use Rattle.pr_roles.specs.declared.item.Item.{Item}
-use Rattle.pr_roles.specs.Scenarios.{Scenario}
-use Rattle.pr_roles.specs.Worlds.{World, Event, Happens, Run, commands_by, world_from}
-use Rattle.pr_roles.specs.Schedules.{Schedule, Advances, Turn, ScheduledRun}
-use Rattle.pr_roles.specs.declared.entry.Entry.{Entry}
-use Rattle.pr_roles.specs.declared.how.How.{How}
+use Rattle.std.proofs.lemmas.List.{take_all, take_more}
+use Rattle.pr_roles.specs.Worlds.{Run}
+use Rattle.pr_roles.specs.Schedules.{Advances, ScheduledRun}
 use Rattle.pr_roles.specs.declared.how.How.TheVariants as how
-use Rattle.pr_roles.specs.declared.step.Step.{Step}
 use Rattle.pr_roles.specs.declared.step.Step.TheVariants as step
-use Rattle.pr_world.specs.declared.course.Course.{Course}
-use Rattle.pr_world.specs.declared.participant.Participant.{Participant}
 use Rattle.pr_world.specs.declared.replaying.Replayed.{Replayed}
-use Rattle.pr_world.specs.Courses.{IsReached}
-use Rattle.pr_world.specs.inside.Participations.{participation_of, schedule_of, HappensBy, StandsFor}
-use Rattle.pr_world.specs.Ends.{ending_of, ending, endings}
+use Rattle.pr_world.specs.Ends.{endings}
 use Rattle.pr_world.proofs.lemmas.Ends.Traps.{trapped_ends}
 use Rattle.pr_world.specs.Replays.{IsEndOf, IsReplayed, plain_steps}
 

@@ -1,25 +1,14 @@
 -- What a step answers is what its turn did.
-use Rattle.std.proofs.Common.{◌≡◌, ℕ, ◌<◌, true, IsTrue, List, [], ◌∷◌, ◌++◌, length, None, sym, ap, ◌∙◌, subst, arith}
-use Rattle.std.specs.Prelude.{map, codes, vec_len, vec_capacity}
-use Rattle.std.proofs.lemmas.Bool.{false≢true}
+use Rattle.pr_world.proofs.Common.{◌≡◌, ℕ, ◌<◌, true, List, [], ◌∷◌, ◌++◌, map, length, IsTrue, None, vec_len, vec_capacity, sym, ap, ◌∙◌, subst, arith, false≢true, stopped, IsSafe, Scenario, scenario_of, control, may_reset, is_trapped, How, Parts, Step, IsReached, Course, participation_of, HappensBy, StandsFor, schedule_of, does}
+use Rattle.std.specs.Prelude.{codes}
 use Rattle.arrayvec.specs.ArrayString.{ArrayString}
-use Rattle.pr_script.specs.Scripts.{stopped}
-use Rattle.pr_roles.specs.declared.parts.Parts.{Parts}
-use Rattle.pr_roles.specs.declared.how.How.{How}
-use Rattle.pr_roles.specs.declared.step.Step.{Step}
-use Rattle.pr_roles.specs.Scenarios.{Scenario, scenario_of}
-use Rattle.pr_roles.specs.Safety.{IsSafe}
-use Rattle.pr_roles.specs.Worlds.{control, is_trapped, may_reset}
 use Rattle.pr_roles.specs.Schedules.{Turn as IsTurn}
 use Rattle.pr_world.specs.declared.act.Act.{Act}
 use Rattle.pr_world.specs.declared.act.Act.TheVariants as act
-use Rattle.pr_world.specs.declared.course.Course.{Course}
 use Rattle.pr_world.specs.declared.turn.Turn.{Turn}
 use Rattle.pr_world.specs.declared.turn.Turn.TheVariants as turn
-use Rattle.pr_world.specs.Courses.{IsReached}
-use Rattle.pr_world.specs.inside.Participations.{HappensBy, StandsFor, schedule_of, participation_of}
 use Rattle.pr_world.specs.StepAnswers.{IfStopped, IfHeld, IsStopped, PassesOver}
-use Rattle.pr_world.specs.inside.Turns.{does, entry_in, sends, stops, is_done, passes, doing_of}
+use Rattle.pr_world.specs.inside.Turns.{entry_in, sends, stops, is_done, passes, doing_of}
 use Rattle.pr_world.specs.inside.Workings.{IsAtWork}
 use Rattle.pr_world.proofs.lemmas.Workings.Room.{reset_has_room, turn_has_room}
 use Rattle.pr_world.proofs.lemmas.Turns.Nexuses.{HasItsTask, has_its_task, means, stopped_is, stopped_rests, done_is, done_rests, passed_over}

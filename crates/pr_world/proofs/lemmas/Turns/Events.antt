@@ -1,31 +1,14 @@
 -- The event that a turn is, if it sends.
-use Rattle.std.proofs.Common.{◌≡◌, ℕ, ◌<◌, Bool, true, false, ◌&&◌, not, List, [], ◌∷◌, ◌++◌, length, get_or, Option, Some, None, refl, sym, ap, ◌∙◌, subst}
-use Rattle.std.specs.Prelude.{IsTrue, if◌then◌else◌}
-use Rattle.std.specs.Option.{option_map_or}
-use Rattle.std.proofs.lemmas.Bool.{false≢true}
-use Rattle.pr_cdb.specs.declared.command.Command.{Command}
-use Rattle.pr_cdb.specs.declared.reply.Reply.{Reply}
-use Rattle.pr_cdb.specs.declared.wire.Request.{Request}
-use Rattle.pr_cdb.specs.declared.wire.Request.TheVariants.{Plain}
+use Rattle.pr_world.proofs.Common.{◌≡◌, ℕ, ◌<◌, Bool, true, false, List, [], ◌∷◌, ◌++◌, length, get_or, if◌then◌else◌, IsTrue, Some, None, Option, sym, refl, ap, ◌∙◌, subst, option_map_or, false≢true, spelling, Command, Reply, Request, Plain, UnitState, Standing, ready, stopped, Answers, may_come, how_now, Task, Scripted, Planned, role, Scenario, is_passed_over, Control, Going, Trapped, Free, standing_of, control_after, Host, Guest, is_guest_task, Entry, How, Item, Clause, is_free, is_planned, Participation, HappensBy, StandsFor}
+use Rattle.std.proofs.Common.{◌&&◌, not}
 use Rattle.pr_cdb.specs.Requests.{plain_request, request_of_wire}
-use Rattle.pr_cdb.specs.Spelling.{spelling}
-use Rattle.pr_unit.specs.UnitStates.{UnitState}
 use Rattle.pr_unit.specs.Replies.{is_good}
 use Rattle.pr_unit.proofs.lemmas.TakenSteps.Determinism.{good_by_decision}
-use Rattle.pr_script.specs.Scripts.{Standing, ready, stopped}
-use Rattle.pr_roles.specs.declared.item.Item.{Item}
-use Rattle.pr_roles.specs.declared.entry.Entry.{Entry}
-use Rattle.pr_roles.specs.declared.role.Clause.{Clause}
-use Rattle.pr_roles.specs.declared.how.How.{How}
 use Rattle.pr_roles.specs.declared.how.How.TheVariants as how
-use Rattle.pr_roles.specs.Answers.{Answers, may_come, how_now}
 use Rattle.pr_roles.specs.Permits.{is_permitted}
-use Rattle.pr_roles.specs.Scenarios.{Scenario, Task, Scripted, Planned, role}
-use Rattle.pr_roles.specs.Worlds.{Control, Going, Trapped, Free, Host, Guest, is_guest, is_guest_task, standing_of, control_after}
-use Rattle.pr_roles.specs.Schedules.{TakenAnswer, is_passed_over}
-use Rattle.pr_world.specs.Courses.{is_planned}
-use Rattle.pr_world.specs.inside.Participations.{items_of, HappensBy, Participation, StandsFor, participation}
-use Rattle.pr_world.specs.Auditors.{is_free}
+use Rattle.pr_roles.specs.Worlds.{is_guest}
+use Rattle.pr_roles.specs.Schedules.{TakenAnswer}
+use Rattle.pr_world.specs.inside.Participations.{items_of, participation}
 use Rattle.pr_world.specs.inside.Turns.{Acts, ActsAs, GuestActs, HostActs, SendsOr}
 use Rattle.pr_world.proofs.lemmas.Courses.SpelledBytes.{are_bytes, are_short}
 use Rattle.pr_world.proofs.lemmas.Participations.Others.{at_participation, control_at, has_task, rests, with_participation, world_after, world_by}

@@ -1,27 +1,12 @@
 -- What a nexus is, where its turn does one thing or another.
-use Rattle.std.proofs.Common.{◌≡◌, ℕ, zero, suc, ◌<◌, Bool, true, false, List, [], ◌∷◌, length, get_or, Option, Some, None, ◌⊎◌, inl, inr, refl, sym, ap, ◌∙◌, subst, arith}
-use Rattle.std.specs.Prelude.{slice_set, codes, unwrap_or, if◌then◌else◌}
-use Rattle.std.specs.List.{slice_get}
-use Rattle.std.specs.Option.{option_map_or}
-use Rattle.std.proofs.lemmas.Bool.{false≢true}
+use Rattle.pr_world.proofs.Common.{◌≡◌, ℕ, zero, suc, ◌<◌, Bool, true, false, List, [], ◌∷◌, length, get_or, if◌then◌else◌, slice_get, slice_set, Some, None, Option, sym, refl, ap, ◌∙◌, subst, arith, option_map_or, false≢true, Command, UnitState, Stmts, Standing, ready, stopped, how_now, Task, Scripted, Planned, role, task, Scenario, Schedule, plan, is_passed_over, GuestTurn, TurnBy, Turn, Control, Going, Trapped, Free, standing_of, control, How, Item, Clause, is_free, is_planned, Participation, schedule_by, StandsFor, does}
+use Rattle.std.proofs.Common.{◌⊎◌, inl, inr, codes, unwrap_or}
 use Rattle.std.proofs.lemmas.List.{set-get_or}
 use Rattle.std.proofs.lemmas.Option.{unwrap_or-slice_get}
-use Rattle.pr_cdb.specs.declared.command.Command.{Command}
-use Rattle.pr_unit.specs.UnitStates.{UnitState}
-use Rattle.pr_script.specs.Scripts.{Stmts, Standing, ready, stopped}
-use Rattle.pr_roles.specs.declared.item.Item.{Item}
-use Rattle.pr_roles.specs.declared.role.Clause.{Clause}
-use Rattle.pr_roles.specs.declared.how.How.{How}
 use Rattle.pr_roles.specs.declared.how.How.TheVariants as how
-use Rattle.pr_roles.specs.Answers.{how_now}
-use Rattle.pr_roles.specs.Scenarios.{Scenario, Task, Scripted, Planned, role, task}
-use Rattle.pr_roles.specs.Worlds.{Control, Going, Trapped, Free, control, standing_of}
-use Rattle.pr_roles.specs.Schedules.{Schedule, GuestTurn, TurnBy, Turn, is_held_back, is_passed_over, plan}
-use Rattle.pr_world.specs.Courses.{is_planned}
-use Rattle.pr_world.specs.inside.Participations.{Participation, StandsFor, schedule_by}
-use Rattle.pr_world.specs.Auditors.{is_free}
+use Rattle.pr_roles.specs.Schedules.{is_held_back}
 use Rattle.pr_world.specs.StepAnswers.{IsStopped, IsStoppedBy, PassesOver}
-use Rattle.pr_world.specs.inside.Turns.{Doing, sends, stops, is_trapped, is_done, passes, host_does, does, does_as}
+use Rattle.pr_world.specs.inside.Turns.{Doing, sends, stops, is_trapped, is_done, passes, host_does, does_as}
 use Rattle.pr_world.proofs.lemmas.Participations.Others.{control_at, has_task}
 use Rattle.pr_world.proofs.lemmas.Turns.Schedules.{length-tasks}
 

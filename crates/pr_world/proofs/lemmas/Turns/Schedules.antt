@@ -1,39 +1,18 @@
 -- What one nexus does makes the turn of the schedule.
-use Rattle.std.proofs.Common.{◌≡◌, ℕ, ◌<◌, Bool, true, false, List, [], ◌∷◌, ◌++◌, length, Option, Some, None, refl, sym, ap, ◌∙◌, subst, get_or, vec_len, Vec, Global, arith}
-use Rattle.std.specs.Prelude.{map, slice_set, option_map, IsTrue}
-use Rattle.std.specs.List.{slice_get}
-use Rattle.std.specs.Option.{option_map_or}
-use Rattle.std.proofs.lemmas.List.{map-set, append-nil, length-map}
-use Rattle.std.proofs.lemmas.Option.{slice_get-map, slice_get-get_or}
-use Rattle.std.proofs.Math.ListN.{get_or-map}
-use Rattle.std.proofs.Math.Seq.{map-set_same}
-use Rattle.pr_cdb.specs.declared.command.Command.{Command}
-use Rattle.pr_cdb.specs.declared.reply.Reply.{Reply}
-use Rattle.pr_unit.specs.UnitStates.{UnitState}
-use Rattle.pr_script.specs.Scripts.{Configuration, Standing, ready, stopped}
+use Rattle.pr_world.proofs.Common.{◌≡◌, ℕ, ◌<◌, Bool, true, false, List, [], ◌∷◌, ◌++◌, map, length, get_or, IsTrue, slice_get, slice_set, Some, None, vec_len, Option, option_map, sym, refl, ap, ◌∙◌, subst, append-nil, arith, option_map_or, get_or-map, map-set_same, length-map, map-set, slice_get-map, slice_get-get_or, Command, Reply, UnitState, Standing, ready, stopped, how_now, Task, Scripted, Planned, role, Scenario, nexus, nexus_of, scenario_of, plan, is_passed_over, GuestTurn, TurnBy, Turn, Control, Going, Trapped, Free, standing_of, control_after, control, is_trapped, Entry, How, Item, Sent, Parts, Clause, count_of_parts, is_free, is_planned, ending, Participant, Participation, participation_of, schedule_by, HappensBy, StandsFor, does}
+use Rattle.std.proofs.Common.{Vec, Global}
+use Rattle.pr_script.specs.Scripts.{Configuration}
 use Rattle.pr_script.specs.Takes.{take}
-use Rattle.pr_roles.specs.declared.item.Item.TheVariants.{Sent}
-use Rattle.pr_roles.specs.declared.item.Item.{Item}
-use Rattle.pr_roles.specs.declared.role.Clause.{Clause}
-use Rattle.pr_roles.specs.declared.entry.Entry.{Entry}
-use Rattle.pr_roles.specs.declared.how.How.{How}
-use Rattle.pr_roles.specs.Answers.{how_now}
 use Rattle.pr_roles.specs.declared.parts.Nexus.{Nexus as NexusPart}
-use Rattle.pr_roles.specs.declared.parts.Parts.{Parts}
-use Rattle.pr_roles.specs.Scenarios.{Scenario, Task, Scripted, Planned, nexus, role, nexus_of, scenario_of}
-use Rattle.pr_roles.specs.Worlds.{Control, Going, Trapped, Free, control, is_trapped, standing_of, going_or_trapped, control_after}
-use Rattle.pr_roles.specs.Schedules.{HostTurn, SendsUnless, GuestTurn, TurnBy, Turn, is_passed_over, plan}
-use Rattle.pr_regions.proofs.lemmas.Showing.ScenarioParts.{count_of_parts}
-use Rattle.pr_world.specs.declared.participant.Participant.{Participant}
-use Rattle.pr_world.specs.Courses.{is_planned}
-use Rattle.pr_world.specs.inside.Participations.{items_of, Participation, participation, participation_of, schedule_by, StandsFor, HappensBy}
-use Rattle.pr_world.specs.Auditors.{is_free}
-use Rattle.pr_world.specs.Ends.{Ending, ending}
+use Rattle.pr_roles.specs.Worlds.{going_or_trapped}
+use Rattle.pr_roles.specs.Schedules.{HostTurn, SendsUnless}
+use Rattle.pr_world.specs.inside.Participations.{items_of, participation}
+use Rattle.pr_world.specs.Ends.{Ending}
 use Rattle.pr_world.proofs.lemmas.Participations.Others.{at_participation, control_at, has_task, plan_at, rests, sends, with_participation, world_by}
 use Rattle.pr_world.proofs.lemmas.Turns.Events.{happens_at_participation}
 use Rattle.pr_world.specs.declared.act.Act.{Act}
 use Rattle.pr_world.specs.declared.act.Act.TheVariants as act
-use Rattle.pr_world.specs.inside.Turns.{Acts, ActsAs, GuestActs, HostActs, SendsOr, Doing, sends as sending, doing_of, entry_in, does, does_as}
+use Rattle.pr_world.specs.inside.Turns.{Acts, ActsAs, GuestActs, HostActs, SendsOr, Doing, sends as sending, doing_of, entry_in, does_as}
 
 -- ---- hosts
 

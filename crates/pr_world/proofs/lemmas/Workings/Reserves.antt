@@ -1,20 +1,14 @@
 -- The room that is reserved is enough, and there are so many places.
-use Rattle.std.proofs.Common.{◌≡◌, ℕ, ◌+◌, ◌*◌, ◌≤◌, true, nat_le, List, [], ◌∷◌, length, refl, ap, ◌∙◌, subst, arith}
-use Rattle.std.specs.Prelude.{map, sum, vec_len, vec_capacity}
-use Rattle.std.specs.List.{list_all}
+use Rattle.pr_world.proofs.Common.{◌≡◌, ℕ, ◌+◌, ◌≤◌, true, List, [], ◌∷◌, map, length, vec_len, vec_capacity, refl, ap, ◌∙◌, subst, arith, list_all, nat_tests, Task, Scripted, Planned, Nexus, Scenario, nexus_of, scenario_of, Parts, IsReached, Course, participation_of, StandsFor, schedule_of}
+use Rattle.std.proofs.Common.{◌*◌, nat_le, sum}
 use Rattle.std.proofs.lemmas.Bool.{and_parts}
-use Rattle.std.proofs.lemmas.Bool.Decides.{nat_tests}
 use Rattle.std.proofs.lemmas.List.Sums.{sum_by-cons}
 use Rattle.pr_script.specs.Grammar.{script_fits}
 use Rattle.pr_script.specs.Names.{is_name}
 use Rattle.pr_roles.specs.declared.parts.Nexus.{Nexus as NexusPart}
-use Rattle.pr_roles.specs.declared.parts.Parts.{Parts}
-use Rattle.pr_roles.specs.Scenarios.{Scenario, Nexus, Task, Scripted, Planned, nexus_of, task_of, scenario_of}
+use Rattle.pr_roles.specs.Scenarios.{task_of}
 use Rattle.pr_roles.specs.Fitting.{Fits, is_nexus, is_role, is_start, is_task}
 use Rattle.pr_roles.proofs.lemmas.Starts.AllowedStarts.{counted, each_nexus}
-use Rattle.pr_world.specs.declared.course.Course.{Course}
-use Rattle.pr_world.specs.Courses.{IsReached}
-use Rattle.pr_world.specs.inside.Participations.{StandsFor, schedule_of, participation_of}
 use Rattle.pr_world.specs.Rooms.{room_of}
 use Rattle.pr_world.specs.inside.Workings.{commands_of, rooms, IsAtWork}
 

@@ -1,33 +1,16 @@
 -- What is sent along a scheduled run is within the room for it.
-use Rattle.std.proofs.Common.{◌≡◌, ◌≢◌, ℕ, suc, ◌+◌, ◌<◌, ◌≤◌, ◌==◌, Bool, true, false, nat_lt, List, [], ◌∷◌, ◌++◌, length, Option, Some, None, inl, inr, ◌⊎◌, get_or, length-set, refl, sym, ap, ◌∙◌, subst, arith}
-use Rattle.std.specs.Prelude.{map, slice_set, option_map, unwrap_or, if◌then◌else◌}
-use Rattle.std.specs.List.{slice_get}
-use Rattle.std.specs.Option.{option_map_or}
-use Rattle.std.proofs.lemmas.Bool.Decides.{nat_tests}
-use Rattle.std.proofs.lemmas.List.{get_or-set_same, get_or-set_other, get_or_past}
-use Rattle.std.proofs.lemmas.Option.{slice_get-map, unwrap_or-slice_get}
-use Rattle.pr_cdb.specs.declared.command.Command.{Command}
-use Rattle.pr_cdb.specs.Spelling.{spelling}
-use Rattle.pr_cdb.specs.declared.wire.Request.TheVariants.{Plain}
-use Rattle.pr_unit.specs.UnitStates.{UnitState}
+use Rattle.pr_world.proofs.Common.{◌≡◌, ℕ, suc, ◌+◌, ◌<◌, ◌≤◌, Bool, true, false, List, [], ◌∷◌, ◌++◌, map, length, get_or, if◌then◌else◌, nat_lt, slice_get, slice_set, Some, None, Option, option_map, sym, refl, ap, ◌∙◌, subst, arith, option_map_or, nat_tests, get_or_past, slice_get-map, spelling, Command, Plain, UnitState, Stmts, Standing, ready, how_now, IsSafe, Task, Scripted, Planned, Nexus, role, task, Scenario, nexus, Schedule, plan, is_passed_over, GuestTurn, TurnBy, standing_of, World, control, entry_of, Host, may_reset, world_from, commands_by, Entry, How, Item, Sent, Reset, Clause, Step, IsReached, does}
+use Rattle.std.proofs.Common.{◌≢◌, ◌==◌, inl, inr, ◌⊎◌, length-set, unwrap_or}
+use Rattle.std.proofs.lemmas.List.{get_or-set_same, get_or-set_other}
+use Rattle.std.proofs.lemmas.Option.{unwrap_or-slice_get}
 use Rattle.pr_unit.proofs.lemmas.Steps.Existence.{every_request_has_a_step}
-use Rattle.pr_script.specs.Scripts.{Stmts, Standing, ready}
-use Rattle.pr_roles.specs.declared.entry.Entry.{Entry}
-use Rattle.pr_roles.specs.declared.item.Item.{Item}
-use Rattle.pr_roles.specs.declared.item.Item.TheVariants.{Sent, Reset}
-use Rattle.pr_roles.specs.declared.how.How.{How}
 use Rattle.pr_roles.specs.declared.how.How.TheVariants as how
-use Rattle.pr_roles.specs.declared.step.Step.{Step}
 use Rattle.pr_roles.specs.declared.step.Step.TheVariants as step
-use Rattle.pr_roles.specs.Answers.{how_now}
-use Rattle.pr_roles.specs.declared.role.Clause.{Clause}
-use Rattle.pr_roles.specs.Scenarios.{Scenario, Nexus, Task, Scripted, Planned, nexus, role, task}
-use Rattle.pr_roles.specs.Worlds.{World, Host, HostSends, after, after_reset, control, entry_of, commands_by, may_reset, resets_in, standing_of, world_from}
-use Rattle.pr_roles.specs.Safety.{IsSafe, KeepsBudgetBy}
-use Rattle.pr_roles.specs.Schedules.{Schedule, Sends, SendsUnless, HostTurn, GuestTurn, TurnBy, Advances, ScheduledRun, is_passed_over, plan, plan_of, schedule_from}
+use Rattle.pr_roles.specs.Worlds.{HostSends, after, after_reset, resets_in}
+use Rattle.pr_roles.specs.Safety.{KeepsBudgetBy}
+use Rattle.pr_roles.specs.Schedules.{Sends, SendsUnless, HostTurn, Advances, ScheduledRun, plan_of, schedule_from}
 use Rattle.pr_roles.proofs.lemmas.Worlds.Resets.{run_within}
-use Rattle.pr_world.specs.Courses.{IsReached}
-use Rattle.pr_world.specs.inside.Turns.{does, sends as sending}
+use Rattle.pr_world.specs.inside.Turns.{sends as sending}
 use Rattle.pr_world.specs.Rooms.{room_of, room_by}
 use Rattle.pr_world.specs.inside.Workings.{rooms}
 use Rattle.pr_world.proofs.lemmas.Courses.Counts.{sent-push, sent_other, sent_own, all_have_room, one_has_room}

@@ -1,6 +1,4 @@
-use Rattle.std.proofs.Common.{ap, ◌∙◌}
-use Rattle.pr_cdb.specs.declared.wire.Request.TheVariants.{Plain}
-use Rattle.pr_unit.specs.UnitStates.{UnitState}
+use Rattle.pr_world.proofs.Common.{ap, ◌∙◌, Plain, UnitState}
 use Rattle.pr_unit.proofs.lemmas.Steps.WellFormedSteps.{hosts-step}
 use Rattle.pr_world.proofs.lemmas.Courses.SpelledCommands.{executed}
 use Rattle.pr_world.proofs.participant.send.Goals as goal

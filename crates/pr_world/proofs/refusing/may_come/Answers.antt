@@ -1,6 +1,5 @@
-use Rattle.std.proofs.Common.{◌≡◌, nat_lt, sym, ap, ◌∙◌, subst}
-use Rattle.pr_roles.specs.Answers.{refusals_by, may_come}
-use Rattle.pr_roles.specs.Scenarios.{scenario_of}
+use Rattle.pr_world.proofs.Common.{◌≡◌, nat_lt, sym, ap, ◌∙◌, subst, may_come, scenario_of}
+use Rattle.pr_roles.specs.Answers.{refusals_by}
 use Rattle.pr_world.proofs.lemmas.Auditors.RefusalsLeft.{busy_left, full_left}
 use Rattle.pr_world.proofs.lemmas.Turns.Schedules.{nexus_within}
 use Rattle.pr_world.proofs.refusing.may_come.Goals as goal

@@ -1,4 +1,4 @@
-use Rattle.pr_roles.specs.Scenarios.{scenario_of}
+use Rattle.pr_world.proofs.Common.{scenario_of}
 use Rattle.pr_world.specs.Replays.{plain_steps}
 use Rattle.pr_world.proofs.lemmas.Replays.Runs.{IsRunning}
 use Rattle.pr_world.proofs.replaying.replay.Given as goal

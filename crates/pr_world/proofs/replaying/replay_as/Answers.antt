@@ -1,4 +1,4 @@
-use Rattle.std.proofs.Common.{refl}
+use Rattle.pr_world.proofs.Common.{refl}
 use Rattle.pr_world.proofs.lemmas.Replays.Runs.{running_more, replayed}
 use Rattle.pr_world.proofs.replaying.replay_as.Goals as goal
 

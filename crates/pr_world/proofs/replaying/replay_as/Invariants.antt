@@ -1,4 +1,4 @@
-use Rattle.pr_roles.specs.Scenarios.{scenario_of}
+use Rattle.pr_world.proofs.Common.{scenario_of}
 use Rattle.pr_world.proofs.lemmas.Replays.Runs.{IsRunning}
 use Rattle.pr_world.proofs.replaying.replay_as.Given as goal
 

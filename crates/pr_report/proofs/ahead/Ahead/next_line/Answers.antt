@@ -1,6 +1,5 @@
-use Rattle.std.proofs.Common.{◌<◌, length, sym, ◌∙◌, arith}
+use Rattle.pr_report.proofs.Common.{◌<◌, length, sym, ◌∙◌, arith, bytes_held, bytes_left}
 use Rattle.std.proofs.KnownBytes.{Keeps-trans}
-use Rattle.pr_report.specs.inside.LinesAhead.{bytes_held, bytes_left}
 use Rattle.pr_report.proofs.lemmas.LinesAhead.LinesInFront.{finds_at_end, finds_at_hand}
 use Rattle.pr_report.proofs.lemmas.BytesTaken.Sums.{takes_both}
 use Rattle.pr_report.proofs.ahead.Ahead.next_line.Goals as goal

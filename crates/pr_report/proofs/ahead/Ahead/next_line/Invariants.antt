@@ -1,7 +1,5 @@
 -- nothing of what is left was lost
-use Rattle.std.proofs.Common.{◌-◌, length}
-use Rattle.std.specs.Io.KnownBytes.{Keeps}
-use Rattle.pr_report.specs.inside.LinesAhead.{Takes, bytes_held, bytes_left}
+use Rattle.pr_report.proofs.Common.{◌-◌, length, Keeps, bytes_held, bytes_left, Takes}
 use Rattle.pr_report.proofs.ahead.Ahead.next_line.Given as goal
 
 abbrev pub invariant-loop-end : goal.invariant-loop-end

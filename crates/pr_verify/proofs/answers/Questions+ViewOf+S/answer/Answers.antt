@@ -1,7 +1,6 @@
-use Rattle.std.proofs.Common.{◌≡◌, ◌≤◌, true, length, refl, slice_index_or, rules, sym, ap, subst, arith}
-use Rattle.std.specs.List.{All}
+use Rattle.pr_verify.proofs.Common.{◌≡◌, ◌≤◌, true, length, slice_index_or, All, sym, refl, ap, subst, arith, rules, IsAnswerTo}
 use Rattle.pr_script.specs.Grammar.{test_fits}
-use Rattle.pr_verify.specs.inside.Asked.{IsAnswerTo, IsAskedBefore}
+use Rattle.pr_verify.specs.inside.Asked.{IsAskedBefore}
 use Rattle.pr_verify.proofs.lemmas.Known.Recollection.{all_pushed}
 use Rattle.pr_verify.proofs.lemmas.Known.Questions.{kind_at, host_at, written_at, recalled, answer_to, answered_now}
 use Rattle.pr_verify.proofs.answers.Questions+ViewOf+S.answer.Goals as goal

@@ -1,4 +1,4 @@
-use Rattle.std.proofs.Common.{rules, sym, ◌∙◌}
+use Rattle.pr_verify.proofs.Common.{sym, ◌∙◌, rules}
 use Rattle.pr_verify.proofs.lemmas.Known.Questions.{kind_at, same_question}
 use Rattle.pr_verify.proofs.answers.Questions+ViewOf+S.are_same.Goals as goal
 

@@ -1,5 +1,4 @@
-use Rattle.std.proofs.Common.{length, refl}
-use Rattle.std.proofs.lemmas.Option.{slice_get_read}
+use Rattle.pr_verify.proofs.Common.{length, refl, slice_get_read}
 use Rattle.pr_verify.proofs.answers.Questions+ViewOf+S.place_of.Goals as goal
 
 pub returns-then-are_same : goal.returns-then-are_same

@@ -1,4 +1,4 @@
-use Rattle.std.proofs.Common.{sym, ◌∙◌}
+use Rattle.pr_world.proofs.Common.{sym, ◌∙◌}
 use Rattle.pr_world.proofs.lemmas.Auditors.Admissions.{nobody_tried, none_tried, within_parts, sender_within, sender_tried, sender_acts}
 use Rattle.pr_world.proofs.auditor.Auditor.admits_sent.Goals as goal
 

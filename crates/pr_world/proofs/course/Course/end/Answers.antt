@@ -1,4 +1,4 @@
-use Rattle.std.proofs.Common.{arith}
+use Rattle.pr_world.proofs.Common.{arith}
 use Rattle.pr_world.proofs.lemmas.Turns.Schedules.{end_here}
 use Rattle.pr_world.proofs.course.Course.end.Goals as goal
 

@@ -1,4 +1,4 @@
-use Rattle.std.proofs.Common.{refl}
+use Rattle.pr_world.proofs.Common.{refl}
 use Rattle.pr_world.proofs.lemmas.Replays.Runs.{outcome_of}
 use Rattle.pr_world.proofs.course.Course.outcome.Goals as goal
 

@@ -1,6 +1,4 @@
-use Rattle.std.proofs.Common.{sym, ◌∙◌, ap}
-use Rattle.pr_roles.specs.Scenarios.{scenario_of}
-use Rattle.pr_roles.specs.Worlds.{may_reset}
+use Rattle.pr_world.proofs.Common.{sym, ap, ◌∙◌, scenario_of, may_reset}
 use Rattle.pr_world.proofs.lemmas.Participations.Resets.{reached_reset, reached_unreset, schedule_reset}
 use Rattle.pr_world.proofs.course.Course.reset.Goals as goal
 

@@ -1,6 +1,5 @@
-use Rattle.std.proofs.Common.{Some, sym, ◌∙◌, ap, rules}
-use Rattle.pr_roles.specs.Answers.{how_now}
-use Rattle.pr_roles.specs.Scenarios.{scenario_of}
+use Rattle.pr_world.proofs.Common.{Some, sym, ap, ◌∙◌, how_now, scenario_of}
+use Rattle.std.proofs.Common.{rules}
 use Rattle.pr_world.proofs.lemmas.Turns.Schedules.{nexus_within, turn_made, doing_at, sends_entry, nothing_added, entry_added, trapped_here}
 use Rattle.pr_world.proofs.lemmas.Replays.Runs.{reached_more}
 use Rattle.pr_world.proofs.course.Course.turn.Goals as goal

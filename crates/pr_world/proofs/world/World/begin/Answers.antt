@@ -1,4 +1,4 @@
-use Rattle.std.proofs.Common.{◌∙◌, arith}
+use Rattle.pr_world.proofs.Common.{◌∙◌, arith}
 use Rattle.pr_world.proofs.lemmas.Workings.Reserves.{at_work_at_first, reserved, rooms_are_few}
 use Rattle.pr_world.proofs.world.World.begin.Goals as goal
 

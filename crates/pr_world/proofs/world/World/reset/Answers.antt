@@ -1,9 +1,5 @@
-use Rattle.std.proofs.Common.{List, [], ◌∷◌, ◌++◌, subst}
-use Rattle.pr_roles.specs.declared.step.Step.{Step}
+use Rattle.pr_world.proofs.Common.{List, [], ◌∷◌, ◌++◌, subst, scenario_of, Step, IsReached, schedule_of}
 use Rattle.pr_roles.specs.declared.step.Step.TheVariants as step
-use Rattle.pr_roles.specs.Scenarios.{scenario_of}
-use Rattle.pr_world.specs.Courses.{IsReached}
-use Rattle.pr_world.specs.inside.Participations.{schedule_of}
 use Rattle.pr_world.proofs.lemmas.StepAnswers.Turns.{reset_finds_room, still_at_work}
 use Rattle.pr_world.proofs.world.World.reset.Goals as goal
 

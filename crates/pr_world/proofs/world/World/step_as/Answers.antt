@@ -1,9 +1,5 @@
-use Rattle.std.proofs.Common.{◌<◌, ◌++◌, ◌∷◌, List, [], length, ap, sym, subst}
-use Rattle.pr_roles.specs.declared.step.Step.{Step}
+use Rattle.pr_world.proofs.Common.{◌<◌, List, [], ◌∷◌, ◌++◌, length, sym, ap, subst, scenario_of, Step, IsReached, schedule_of}
 use Rattle.pr_roles.specs.declared.step.Step.TheVariants as step
-use Rattle.pr_roles.specs.Scenarios.{scenario_of}
-use Rattle.pr_world.specs.Courses.{IsReached}
-use Rattle.pr_world.specs.inside.Participations.{schedule_of}
 use Rattle.pr_world.proofs.lemmas.StepAnswers.Turns.{is_turned, never_trapped, said_done, said_held, said_stopped, step_has_room, still_at_work}
 use Rattle.pr_world.proofs.world.World.step_as.Goals as goal
 use Rattle.pr_world.proofs.world.World.step_as.Goals.{in-Sent, in-Stopped, in-Finished, in-Held}

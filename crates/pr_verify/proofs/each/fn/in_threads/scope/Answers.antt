@@ -1,6 +1,4 @@
-use Rattle.std.proofs.Common.{sym, subst, ◌∙◌}
-use Rattle.pr_roles.specs.Scenarios.{scenario_of}
-use Rattle.pr_verify.specs.inside.Checks.{IsAnswerBefore}
+use Rattle.pr_verify.proofs.Common.{sym, ◌∙◌, subst, scenario_of, IsAnswerBefore}
 use Rattle.pr_verify.proofs.each.fn.in_threads.scope.Goals as goal
 
 pub returns : goal.returns
