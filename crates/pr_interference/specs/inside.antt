@@ -3,3 +3,4 @@ pub mod Closing
 pub mod Interfering
 pub mod Marks
 pub mod Reaching
+pub mod Surrounded

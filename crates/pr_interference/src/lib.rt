@@ -9,6 +9,7 @@ mod onlooker;
 mod reach;
 mod reaching;
 mod resetting;
+mod surroundings;
 mod widest;
 
 pub use closing::close;
