@@ -59,13 +59,14 @@ pub record EndsAudit (text trace trace_left old new : Option (List ℕ)) (r : Re
       (λ e. IfSome text (λ known. IfSome trace (λ t. IsTraceFault known t e))) (λ name. ⊥) ⊥ text old new r
   pub unread : (e : ReadError) → r ≡ Err (fault.Input e) → Keeps trace trace_left
 
--- A call, with the reader of a trace as it was and as it is.
-module _ {A : Type 0} (traces : Read.Ghosts A) (trace : Both (MutBor A) (MutBor A)) where
-  -- it ends as an audit of that trace
-  abbrev pub EndsAuditOf : Option (List ℕ) → Option (List ℕ) → Option (List ℕ) → Result Bool Fault → Type 0
-  EndsAuditOf known old new r = EndsAudit known (traces.remaining trace.entry.now) (traces.remaining trace.exit.now) old new r
+-- A call, with the reader of a trace as it was and as it is: it ends as an audit of that trace.
+abbrev pub EndsAuditOf : {A : Type 0} → Read.Ghosts A → Both (MutBor A) (MutBor A) → Option (List ℕ) → Option (List ℕ) → Option (List ℕ)
+    → Result Bool Fault → Type 0
+EndsAuditOf traces trace known old new r =
+    EndsAudit known (traces.remaining trace.entry.now) (traces.remaining trace.exit.now) old new r
 
-  -- with that of a text too: so much is taken of the trace
-  abbrev pub TakesTraceUnder : {B : Type 0} → Read.Ghosts B → Both (MutBor B) (MutBor B) → Type 0
-  TakesTraceUnder reads reader =
-      TakesOfTrace (reads.remaining reader.entry.now) (traces.remaining trace.entry.now) (traces.remaining trace.exit.now)
+-- With that of a text too: so much is taken of the trace.
+abbrev pub TakesTraceUnder : {A B : Type 0} → Read.Ghosts A → Both (MutBor A) (MutBor A) → Read.Ghosts B → Both (MutBor B) (MutBor B)
+    → Type 0
+TakesTraceUnder traces trace reads reader =
+    TakesOfTrace (reads.remaining reader.entry.now) (traces.remaining trace.entry.now) (traces.remaining trace.exit.now)

@@ -58,13 +58,15 @@ IsUnread reads reader = Keeps (reads.remaining reader.entry.now) (reads.remainin
 abbrev pub IsCommandOn : {A : Type 0} → Write.Ghosts A → Both (MutBor A) (MutBor A) → (Result Bool Fault → Type 0) → Status → Type 0
 IsCommandOn tells errors Ends answer = IsCommand Ends (tells.contents errors.entry.now) (tells.contents errors.exit.now) answer
 
--- A call, with its reader and its writer as they were and as they are.
-module _ {A B : Type 0} (reads : Read.Ghosts A) (reader : Both (MutBor A) (MutBor A)) (writes : Write.Ghosts B) (writer : Both (MutBor B) (MutBor B)) where
-  -- it ends so, of what the reader had and of what the writer took
-  abbrev pub EndsOver : (Option (List ℕ) → Option (List ℕ) → Option (List ℕ) → Result Bool Fault → Type 0) → Result Bool Fault → Type 0
-  EndsOver Ends result = Ends (reads.remaining reader.entry.now) (writes.contents writer.entry.now) (writes.contents writer.exit.now) result
+-- A call, with its reader and its writer as they were and as they are: it ends so, of what the one had and of what the other took.
+abbrev pub EndsOver : {A B : Type 0} → Read.Ghosts A → Both (MutBor A) (MutBor A) → Write.Ghosts B → Both (MutBor B) (MutBor B)
+    → (Option (List ℕ) → Option (List ℕ) → Option (List ℕ) → Result Bool Fault → Type 0) → Result Bool Fault → Type 0
+EndsOver reads reader writes writer Ends result =
+    Ends (reads.remaining reader.entry.now) (writes.contents writer.entry.now) (writes.contents writer.exit.now) result
 
-  -- with its error writer too: it is a command that ends so
-  abbrev pub IsCommandOver : {C : Type 0} → Write.Ghosts C → Both (MutBor C) (MutBor C)
-      → (Option (List ℕ) → Option (List ℕ) → Option (List ℕ) → Result Bool Fault → Type 0) → Status → Type 0
-  IsCommandOver tells errors Ends answer = IsCommandOn tells errors (EndsOver Ends) answer
+-- With its error writer too: it is a command that ends so.
+abbrev pub IsCommandOver : {A B C : Type 0} → Read.Ghosts A → Both (MutBor A) (MutBor A) → Write.Ghosts B → Both (MutBor B) (MutBor B)
+    → Write.Ghosts C → Both (MutBor C) (MutBor C)
+    → (Option (List ℕ) → Option (List ℕ) → Option (List ℕ) → Result Bool Fault → Type 0) → Status → Type 0
+IsCommandOver reads reader writes writer tells errors Ends answer =
+    IsCommandOn tells errors (EndsOver reads reader writes writer Ends) answer
