@@ -10,6 +10,7 @@ ghost use Rattle.std.specs.List.{All};
 ghost use Rattle.pr_sets.specs.Numbers.{most};
 ghost use Rattle.pr_sets.specs.Wides.{has_wide};
 ghost use Rattle.pr_cdb.specs.declared.command.Command.{Command as CommandOf};
+ghost use Rattle.pr_cdb.specs.Ranges.{Fits};
 ghost use Rattle.pr_script.specs.declared.script.Test.{Test as TestOf};
 ghost use Rattle.pr_unit.specs.UnitStates.{UnitState};
 ghost use Rattle.pr_roles.specs.declared.limits.TheConstants.{MOST_KEYS};
@@ -17,6 +18,7 @@ ghost use Rattle.pr_views.specs.Portions.{view_in};
 ghost use Rattle.pr_regions.specs.Regions.{HasRoom};
 ghost use Rattle.pr_domain.specs.declared.tally.Tally.{Tally as TallyOf};
 ghost use Rattle.pr_regions.specs.Gathering.{IsPlace, IsUniform, IsAt};
+ghost use Rattle.pr_domain.specs.inside.Ranges.{Fits-prop};
 ghost use Rattle.pr_domain.specs.inside.Tallies.{IsRegistered, has_tallied, Grows, IsRight, AreRight, IsInOne, HasBoth, HasFirst, IsReserved, IsAsked, IsRefusedAt, IsOwners, IsOfScope, IsNothing, IsTally, IsRightReading, AreRightReadings, IsReadAt, IsReadFirst, way_of};
 
 use crate::arms::first_arm;
@@ -45,6 +47,7 @@ pub(crate) struct TestedCommand<'a> {
     ghost written: { is_written keys.now command ≡ true },
     ghost fit: { All (λ t. test_fits keys.now command t ≡ true) tests.now },
     ghost few: { length tests.now ≤ MOST_ARMS },
+    ghost whole: { Fits command } by { Fits-prop command },
 }
 
 // These registrations under this reservation.
