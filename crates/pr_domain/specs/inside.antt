@@ -1,4 +1,5 @@
 pub mod Beginning
+pub mod Owners
 pub mod Permitting
 pub mod Ranges
 pub mod Reporting
