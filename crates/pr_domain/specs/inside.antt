@@ -5,4 +5,5 @@ pub mod Ranges
 pub mod Reporting
 pub mod Sendings
 pub mod Tallies
+pub mod TestedCommands
 pub mod Twins

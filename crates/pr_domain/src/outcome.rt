@@ -9,7 +9,8 @@ ghost use Rattle.pr_domain.specs.Outcomes.{AreOutcomes};
 
 use crate::landing::Landing;
 use crate::reporting::Sending;
-use crate::tallying::{TestedCommand, tally};
+use crate::tallying::tally;
+use crate::tested::TestedCommand;
 use pr_cdb::{Command, in_range};
 use pr_roles::Refusals;
 use pr_script::Test;

@@ -22,7 +22,7 @@ use crate::attentions::{after_report, those_without};
 use crate::collecting::put;
 use crate::landing::{Class, Landing};
 use crate::tally::Tally;
-use crate::tallying::TestedCommand;
+use crate::tested::TestedCommand;
 use pr_attention::Attention;
 use pr_cdb::codes::{
     INVALID_FIELD_IN_PARAMETER_LIST, INVALID_RELEASE_OF_PERSISTENT_RESERVATION,
