@@ -13,6 +13,7 @@ ghost use Rattle.pr_unit.specs.Faults.{command_fault};
 ghost use Rattle.pr_unit.specs.Replies.{report};
 ghost use Rattle.pr_views.specs.Portions.{view_in};
 ghost use Rattle.pr_domain.specs.Landings.{IsClass};
+ghost use Rattle.pr_domain.specs.declared.tally.TheConstants.{WAYS};
 ghost use Rattle.pr_domain.specs.inside.Permitting.{scope_at};
 ghost use Rattle.pr_domain.specs.inside.Reporting.{AreBlind, AreMore, AreCalm, AreQuiet, Reports, Conflicts, Fails, EndsGood, Refuses, refusal, IsLater};
 ghost use Rattle.pr_domain.specs.inside.Tallies.{IsTally};
@@ -99,7 +100,7 @@ fn fault_of(command: &Command) -> Option<Sense>
 impl Tally {
     // What is so of registrations and reservation where the command ends in this way.
     fn way(&self, way: usize) -> Possibilities
-        requires { way < 20 }
+        requires { way < WAYS }
         ensures { slice_get self.now.ways way ≡ Some result }
     {
         self.ways[way]

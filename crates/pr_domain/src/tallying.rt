@@ -28,6 +28,13 @@ use pr_script::limits::MOST_ARMS;
 use pr_sets::{Wide, Word};
 use pr_views::{MOST_REGISTRATIONS, Possibilities};
 
+/// The arm that takes the data of GOOD, counted from 1, or 0 where none does.
+#[derive(Clone, Copy)]
+struct ArmNumber {
+    number: usize,
+    ghost few: { number ≤ MOST_ARMS },
+}
+
 // These registrations under this reservation.
 fn part(registrations: [Word; MOST_NEXUSES], reservation: u8) -> Possibilities
     requires { reservation < most }
@@ -48,11 +55,10 @@ fn add_branch(
     place: Place,
     senders: Word,
     branch: &Branch,
-    arm: usize,
+    arm: ArmNumber,
 )
     requires room { HasRoom place.hosts branch.now.ending }
-    requires arm { arm ≤ MOST_ARMS }
-    ensures { AddsBranch view.now place senders branch.now arm tally.old tally.new }
+    ensures { AddsBranch view.now place senders branch.now arm.number tally.old tally.new }
 {
     let Some(registrations) = place.gather(view, senders, &branch.region) else {
         return;
@@ -67,7 +73,7 @@ fn add_branch(
         Ending::Good(change) => {
             let after = registrations_after(&registrations, place.sender, &change);
             tally.add(1, &here);
-            tally.add(3 + arm, &part(after, change.reservation));
+            tally.add(3 + arm.number, &part(after, change.reservation));
         }
     }
 }
@@ -79,11 +85,10 @@ fn add_branches(
     place: Place,
     senders: Word,
     branches: &[Branch],
-    arm: usize,
+    arm: ArmNumber,
 )
     requires room { All (λ b. HasRoom place.hosts b.ending) branches.now }
-    requires arm { arm ≤ MOST_ARMS }
-    ensures { AddsBranches view.now place senders branches.now arm tally.old tally.new }
+    ensures { AddsBranches view.now place senders branches.now arm.number tally.old tally.new }
 {
     let mut i = 0;
     while i < branches.len() {
@@ -98,13 +103,12 @@ fn add_accepted(
     view: &Possibilities,
     place: Place,
     purpose: Purpose,
-    arm: usize,
+    arm: ArmNumber,
     registration: u8,
 )
     requires number { HasNumber purpose }
-    requires arm { arm ≤ MOST_ARMS }
     requires registration { registration ≤ MOST_KEYS }
-    ensures { AddsAccepted view.now place purpose arm registration tally.old tally.new }
+    ensures { AddsAccepted view.now place purpose arm.number registration tally.old tally.new }
 {
     let standing = standing_of(purpose, registration);
     let branches = branches(place.hosts, purpose, place.held, place.sender, standing);
@@ -126,18 +130,18 @@ fn add_refused(tally: &mut Tally, view: &Possibilities, place: Place, registrati
         region,
         ending: Ending::Conflict,
     };
-    add_branch(tally, view, place, Word::only(registration), &branch, 0);
+    let none = ArmNumber { number: 0 };
+    add_branch(tally, view, place, Word::only(registration), &branch, none);
 }
 
-// The way of GOOD with the data taken by this arm, of at most 16.
-fn way_of(arm: Option<usize>) -> usize
-    ensures few { result ≤ MOST_ARMS }
-    ensures way { IfSome arm (λ n. n < MOST_ARMS) → result ≡ way_of arm }
-    ensures none { IfNone arm (result ≡ 0) }
+// The number of this arm, of at most 16.
+fn way_of(arm: Option<usize>) -> ArmNumber
+    ensures way { IfSome arm (λ n. n < MOST_ARMS) → result.number ≡ way_of arm }
+    ensures none { IfNone arm (result.number ≡ 0) }
 {
     match arm {
-        Some(n) if n < MOST_ARMS => n + 1,
-        _ => 0,
+        Some(n) if n < MOST_ARMS => ArmNumber { number: n + 1 },
+        _ => ArmNumber { number: 0 },
     }
 }
 
@@ -148,14 +152,13 @@ fn is_tallied(
     place: Place,
     senders: Word,
     region: &Region,
-    arm: usize,
+    arm: ArmNumber,
 ) -> bool
-    requires arm { arm ≤ MOST_ARMS }
-    ensures { IsTrue result → AreTallied view.now place senders region.now arm tally.now }
+    ensures { IsTrue result → AreTallied view.now place senders region.now arm.number tally.now }
 {
     let most = place.gathered_at_most(view, senders, region);
     let found = part(most, place.reservation);
-    tally.has(1, place.hosts, &found) && tally.has(3 + arm, place.hosts, &found)
+    tally.has(1, place.hosts, &found) && tally.has(3 + arm.number, place.hosts, &found)
 }
 
 // Adds the states in which this arm takes the data, in which nothing changes.
