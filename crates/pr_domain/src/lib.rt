@@ -11,6 +11,7 @@ mod reporting;
 mod starting;
 mod tally;
 mod tallying;
+mod tested;
 mod twins;
 
 pub use attentions::is_among;

@@ -8,8 +8,9 @@ ghost use Rattle.pr_views.specs.Rooms.{view_of, AreAlike};
 ghost use Rattle.pr_domain.specs.Outcomes.{AreOutcomes};
 
 use crate::landing::Landing;
-use crate::reporting::{Sending, fault_of};
-use crate::tallying::{TestedCommand, tally};
+use crate::reporting::Sending;
+use crate::tallying::tally;
+use crate::tested::TestedCommand;
 use pr_cdb::{Command, in_range};
 use pr_roles::Refusals;
 use pr_script::Test;
@@ -38,22 +39,19 @@ pub fn outcomes<S: ViewSet>(
 {
     let keys: &[u64] = &view.keys;
     let known = view.possibilities();
+    in_range(*command);
     let asked = TestedCommand {
         keys,
         command: *command,
         tests,
     };
     let tally = tally(&known, view.hosts, host, &asked);
-    in_range(*command);
     let sending = Sending {
-        keys,
+        asked,
         hosts: view.hosts,
         sender: host,
         known,
         tally: &tally,
-        command: *command,
-        fault: fault_of(command),
-        tests,
         refusals,
     };
     let outcomes = sending.outcomes(alloc)?;

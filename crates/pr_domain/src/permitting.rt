@@ -1,18 +1,14 @@
 //! Whether a role permits a command of its host in each state of the host's view in which the command ends GOOD.
 
-ghost use Rattle.std.specs.Prelude.{◌≡◌, ◌<◌, ◌≤◌, ◌↔◌, IsTrue, length, true, false};
-ghost use Rattle.std.specs.List.{list_any, All};
+ghost use Rattle.std.specs.Prelude.{◌≡◌, ◌<◌, ◌≤◌, IsTrue, false};
+ghost use Rattle.std.specs.List.{list_any};
 ghost use Rattle.pr_script.specs.Grammar.{is_written};
 ghost use Rattle.pr_roles.specs.declared.limits.TheConstants.{MOST_KEYS};
-ghost use Rattle.pr_sets.specs.Words.{has};
-ghost use Rattle.pr_views.specs.Possibilities.{Scope, Reservation, IsSo, key_at};
-ghost use Rattle.pr_views.specs.Portions.{view_in};
+ghost use Rattle.pr_views.specs.Possibilities.{key_at};
 ghost use Rattle.pr_views.specs.Rooms.{view_of};
-ghost use Rattle.pr_regions.specs.Regions.{IsProper as IsProperBranch};
+ghost use Rattle.pr_regions.specs.Gathering.{IsPlace};
 ghost use Rattle.pr_domain.specs.Outcomes.{IsPermittedIn, IsRefusedIn};
-ghost use Rattle.pr_regions.specs.Gathering.{IsPlace, IsUniform, IsProper};
-ghost use Rattle.pr_domain.specs.inside.Tallies.{HasBoth};
-ghost use Rattle.pr_domain.specs.inside.Permitting.{ArePermitted, IsOneRefused, scope_at, IsAsking, holds_reservation, holds_at, permits_at, IsReached, IsOneReached, permits_always};
+ghost use Rattle.pr_domain.specs.inside.Permitting.{IsAsking, PermitsAll, RefusesOne, scope_of_place, PermitsAt, RefusesAt, PermitsWith, RefusesWith, TellsReached, TellsOneReached, holds_reservation, holds_at, permits_at, permits_always};
 
 use pr_cdb::Command;
 use pr_regions::{
@@ -61,10 +57,10 @@ fn is_permitted_under_each(
     command: Command,
 ) -> bool
     requires asking { IsAsking keys.now hosts sender command view.now }
-    ensures permitted { IsTrue result → ArePermitted
-        (view_in (scope_at keys.now hosts sender) view.now) clauses.now command (λ u. Unit {0}) }
-    ensures refused { result ≡ false → IsOneRefused
-        (view_in (scope_at keys.now hosts sender) view.now) clauses.now command (λ u. Unit {0}) }
+    ensures permitted { IsTrue result → PermitsAll keys.now hosts sender view.now clauses.now
+        command }
+    ensures refused { result ≡ false → RefusesOne keys.now hosts sender view.now clauses.now
+        command }
 {
     if is_one_unconditional(clauses, command) {
         return true;
@@ -112,13 +108,9 @@ fn is_permitted_at(
     command: Command,
 ) -> bool
     requires asking { IsAsking keys.now place.hosts place.sender command view.now }
-    requires place { IsPlace (scope_at keys.now place.hosts place.sender) view.now place }
-    ensures permitted { IsTrue result → ArePermitted
-        (view_in (scope_at keys.now place.hosts place.sender) view.now) clauses.now command
-        (λ u. IsSo (scope_at keys.now place.hosts place.sender) u (Reservation place.reservation)) }
-    ensures refused { result ≡ false → IsOneRefused
-        (view_in (scope_at keys.now place.hosts place.sender) view.now) clauses.now command
-        (λ u. IsSo (scope_at keys.now place.hosts place.sender) u (Reservation place.reservation)) }
+    requires place { IsPlace (scope_of_place keys.now place) view.now place }
+    ensures permitted { IsTrue result → PermitsAt keys.now view.now place clauses.now command }
+    ensures refused { result ≡ false → RefusesAt keys.now view.now place clauses.now command }
 {
     let mut registration = 0;
     while registration < MOST_REGISTRATIONS {
@@ -140,14 +132,12 @@ fn is_permitted_with(
     registration: u8,
 ) -> bool
     requires asking { IsAsking keys.now place.hosts place.sender command view.now }
-    requires place { IsPlace (scope_at keys.now place.hosts place.sender) view.now place }
+    requires place { IsPlace (scope_of_place keys.now place) view.now place }
     requires registration { registration ≤ MOST_KEYS }
-    ensures permitted { IsTrue result → ArePermitted
-        (view_in (scope_at keys.now place.hosts place.sender) view.now) clauses.now command
-        (HasBoth (scope_at keys.now place.hosts place.sender) place registration) }
-    ensures refused { result ≡ false → IsOneRefused
-        (view_in (scope_at keys.now place.hosts place.sender) view.now) clauses.now command
-        (HasBoth (scope_at keys.now place.hosts place.sender) place registration) }
+    ensures permitted { IsTrue result → PermitsWith keys.now view.now place registration clauses.now
+        command }
+    ensures refused { result ≡ false → RefusesWith keys.now view.now place registration clauses.now
+        command }
 {
     let possible = view.registrations[usize::from(place.sender)];
     if !possible.has(registration) {
@@ -177,10 +167,7 @@ fn key_at(keys: &[u64], registration: u8) -> Option<u64>
 
 // Whether one of the branches ends GOOD in some state of the view.
 fn is_one_reached(view: &Possibilities, place: Place, senders: Word, branches: &[Branch]) -> bool
-    ensures { (s : Scope) → IsPlace s view.now place → IsUniform senders
-        → has view.now.pending 0 ≡ true → All IsProperBranch branches.now
-        → (IsTrue result ↔ IsOneReached (view_in s view.now) place senders branches.now
-        (length branches.now)) }
+    ensures { TellsOneReached view.now place senders branches.now result }
 {
     let mut i = 0;
     while i < branches.len() {
@@ -194,9 +181,7 @@ fn is_one_reached(view: &Possibilities, place: Place, senders: Word, branches: &
 
 // Whether the branch ends GOOD in some state of the view, in which nothing is pending for its owner.
 fn is_reached(view: &Possibilities, place: Place, senders: Word, branch: &Branch) -> bool
-    ensures { (s : Scope) → IsPlace s view.now place → IsUniform senders
-        → has view.now.pending 0 ≡ true → IsProper branch.now.region
-        → (IsTrue result ↔ IsReached (view_in s view.now) place senders branch.now) }
+    ensures { TellsReached view.now place senders branch.now result }
 {
     match branch.ending {
         Ending::Conflict | Ending::Fault(_) => false,

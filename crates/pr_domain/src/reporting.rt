@@ -1,7 +1,8 @@
 //! The outcomes of a command, from the tally of its ways to end.
 
-ghost use Rattle.std.specs.Prelude.{◌≡◌, ◌<◌, ℕ, true, List, map, IfOk, OnOk, IsTrue, Some};
+ghost use Rattle.std.specs.Prelude.{◌≡◌, ◌<◌, ◌≤◌, ℕ, true, List, Some};
 ghost use Rattle.std.specs.List.{All, slice_get};
+ghost use Rattle.pr_cdb.specs.declared.codes.TheConstants.{MOST_NEXUSES};
 ghost use Rattle.pr_cdb.specs.declared.reply.Sense.{Sense};
 ghost use Rattle.pr_attention.specs.Attentions.{code_of};
 ghost use Rattle.pr_cdb.specs.declared.wire.Request.TheVariants.{Plain};
@@ -10,20 +11,19 @@ ghost use Rattle.pr_script.specs.declared.script.Test.{Test};
 ghost use Rattle.pr_script.specs.Grammar.{is_written, test_fits};
 ghost use Rattle.pr_unit.specs.Faults.{command_fault};
 ghost use Rattle.pr_unit.specs.Replies.{report};
-ghost use Rattle.pr_sets.specs.Words.{has};
-ghost use Rattle.pr_sets.specs.Wides.{has_wide};
-ghost use Rattle.pr_views.specs.Rooms.{view_of, AreInRange};
-ghost use Rattle.pr_views.specs.Possibilities.{IsScope};
+ghost use Rattle.pr_views.specs.Portions.{view_in};
 ghost use Rattle.pr_domain.specs.Landings.{IsClass};
-ghost use Rattle.pr_domain.specs.Outcomes.{AreOutcomes};
-ghost use Rattle.pr_domain.specs.inside.Reporting.{AreBlind, AreMore, IsOfWay, AreCalm, AreQuiet, LandsBy, Reports, Conflicts, Fails, EndsGood, Refuses, refusal, IsLater, LandsGood};
-ghost use Rattle.pr_domain.specs.inside.Sendings.{scope_of_sending, view_of_sending, AreKeptFor, IsAsked};
+ghost use Rattle.pr_domain.specs.declared.tally.TheConstants.{WAYS};
+ghost use Rattle.pr_domain.specs.inside.Permitting.{scope_at};
+ghost use Rattle.pr_domain.specs.inside.Reporting.{AreBlind, AreMore, AreCalm, AreQuiet, Reports, Conflicts, Fails, EndsGood, Refuses, refusal, IsLater};
+ghost use Rattle.pr_domain.specs.inside.Tallies.{IsTally};
 
 use crate::arms::landing_of;
 use crate::attentions::{after_report, those_without};
 use crate::collecting::put;
 use crate::landing::{Class, Landing};
 use crate::tally::Tally;
+use crate::tested::TestedCommand;
 use pr_attention::Attention;
 use pr_cdb::codes::{
     INVALID_FIELD_IN_PARAMETER_LIST, INVALID_RELEASE_OF_PERSISTENT_RESERVATION,
@@ -31,7 +31,6 @@ use pr_cdb::codes::{
 };
 use pr_cdb::{Command, Sense};
 use pr_roles::Refusals;
-use pr_script::Test;
 use pr_sets::{ViewSet, Word};
 use pr_unit::illegal;
 use pr_views::{Possibilities, ViewOf};
@@ -69,7 +68,7 @@ impl Refused {
 }
 
 /// The sense of the command's fault, where it can be at fault.
-pub(crate) fn fault_of(command: &Command) -> Option<Sense>
+fn fault_of(command: &Command) -> Option<Sense>
     ensures { (keys : List ℕ) (u : State) (h : ℕ) (x : Sense) → is_written keys command.now ≡ true
         → command_fault u h command.now ≡ Some x → result ≡ Some x }
 {
@@ -101,7 +100,7 @@ pub(crate) fn fault_of(command: &Command) -> Option<Sense>
 impl Tally {
     // What is so of registrations and reservation where the command ends in this way.
     fn way(&self, way: usize) -> Possibilities
-        requires { way < 20 }
+        requires { way < WAYS }
         ensures { slice_get self.now.ways way ≡ Some result }
     {
         self.ways[way]
@@ -111,18 +110,24 @@ impl Tally {
 /// A command whose outcomes are to be found, and what is known of the states from which it is sent.
 #[derive(Clone, Copy)]
 pub(crate) struct Sending<'a> {
-    pub(crate) keys: &'a [u64],
+    pub(crate) asked: TestedCommand<'a>,
     pub(crate) hosts: u8,
     pub(crate) sender: u8,
     pub(crate) known: Possibilities,
     pub(crate) tally: &'a Tally,
-    pub(crate) command: Command,
-    pub(crate) fault: Option<Sense>,
-    pub(crate) tests: &'a [Test],
     pub(crate) refusals: Refusals,
+    ghost some: { 1 ≤ hosts },
+    ghost few: { hosts ≤ MOST_NEXUSES },
+    ghost there: { sender < hosts },
+    ghost tallied: { ∥ IsTally (view_in (scope_at asked.keys.now hosts sender) known)
+        asked.command asked.tests.now tally.now ∥₁ },
 }
 
 impl Sending<'_> {
+    ghost use Rattle.std.specs.Prelude.{IfOk, OnOk};
+    ghost use Rattle.pr_attention.specs.declared.attention.Attention.TheVariants.{PowerOn};
+    ghost use Rattle.pr_domain.specs.inside.Sendings.{AreKeptFor, IsInRange, IsOfWayAt, Adds, AddsGood, AddsIf, AreOutcomesOf};
+
     // Adds what one way to end leaves, beside these attentions.
     fn add<S: ViewSet>(
         &self,
@@ -132,20 +137,17 @@ impl Sending<'_> {
         way: &Possibilities,
         pending: Word,
     ) -> Result<(), AllocError>
-        requires scope { IsScope (scope_of_sending self.now) }
-        requires range { (x q : ℕ) → has_wide way.now.reservations x ≡ true → has pending q ≡ true
-            → AreInRange self.now.hosts self.now.keys.now (record way.now { pending = pending }) }
+        requires range { IsInRange self.now way.now pending }
         requires kept { AreKeptFor self.now outcomes.old.items }
         ensures kept { OnOk result (AreKeptFor self.now outcomes.new.items) }
         ensures more { OnOk result (AreMore self.now.sender outcomes.old.items
-            (λ l i. (l ≡ landing) × IsOfWay (scope_of_sending self.now) way.now pending i)
-            outcomes.new.items) }
+            (IsOfWayAt self.now landing way.now pending) outcomes.new.items) }
     {
         if way.reservations.is_empty() || pending.is_empty() {
             return Ok(());
         }
         let found = Possibilities { pending, ..*way };
-        let view = ViewOf::of(alloc, self.keys, self.hosts, &found)?;
+        let view = ViewOf::of(alloc, self.asked.keys, self.hosts, &found)?;
         put(alloc, outcomes, landing, view)?;
         Ok(())
     }
@@ -156,15 +158,13 @@ impl Sending<'_> {
         alloc: Global,
         outcomes: &mut Vec<(Landing, ViewOf<S>)>,
     ) -> Result<(), AllocError>
-        requires asked { IsAsked self.now }
         requires kept { AreKeptFor self.now outcomes.old.items }
         ensures kept { OnOk result (AreKeptFor self.now outcomes.new.items) }
-        ensures more { OnOk result (AreMore self.now.sender outcomes.old.items
-            (LandsBy (view_of_sending self.now) self.now.command self.now.tests.now
-            (Reports Attention.PowerOn)) outcomes.new.items) }
+        ensures more { OnOk result (Adds self.now (Reports PowerOn) outcomes.old.items
+            outcomes.new.items) }
     {
-        let class = class_of_report(&self.command, Attention::PowerOn);
-        let landing = landing_of(self.tests, class);
+        let class = class_of_report(&self.asked.command, Attention::PowerOn);
+        let landing = landing_of(self.asked.tests, class);
         // It comes before a conflict, and so whether there is one or not.
         let mut way = self.tally.way(0);
         way.join(&self.tally.way(1));
@@ -180,16 +180,14 @@ impl Sending<'_> {
         outcomes: &mut Vec<(Landing, ViewOf<S>)>,
         attention: Attention,
     ) -> Result<(), AllocError>
-        requires asked { IsAsked self.now }
         requires later { IsLater attention }
         requires kept { AreKeptFor self.now outcomes.old.items }
         ensures kept { OnOk result (AreKeptFor self.now outcomes.new.items) }
-        ensures more { OnOk result (AreMore self.now.sender outcomes.old.items
-            (LandsBy (view_of_sending self.now) self.now.command self.now.tests.now
-            (Reports attention)) outcomes.new.items) }
+        ensures more { OnOk result (Adds self.now (Reports attention) outcomes.old.items
+            outcomes.new.items) }
     {
-        let class = class_of_report(&self.command, attention);
-        let landing = landing_of(self.tests, class);
+        let class = class_of_report(&self.asked.command, attention);
+        let landing = landing_of(self.asked.tests, class);
         let pending = after_report(self.calm(), attention);
         self.add(alloc, outcomes, landing, &self.tally.way(1), pending)?;
         Ok(())
@@ -201,14 +199,11 @@ impl Sending<'_> {
         alloc: Global,
         outcomes: &mut Vec<(Landing, ViewOf<S>)>,
     ) -> Result<(), AllocError>
-        requires asked { IsAsked self.now }
         requires kept { AreKeptFor self.now outcomes.old.items }
         ensures kept { OnOk result (AreKeptFor self.now outcomes.new.items) }
-        ensures more { OnOk result (AreMore self.now.sender outcomes.old.items
-            (LandsBy (view_of_sending self.now) self.now.command self.now.tests.now Conflicts)
-            outcomes.new.items) }
+        ensures more { OnOk result (Adds self.now Conflicts outcomes.old.items outcomes.new.items) }
     {
-        let landing = landing_of(self.tests, Class::Conflict);
+        let landing = landing_of(self.asked.tests, Class::Conflict);
         self.add(alloc, outcomes, landing, &self.tally.way(0), self.calm())?;
         Ok(())
     }
@@ -220,15 +215,13 @@ impl Sending<'_> {
         outcomes: &mut Vec<(Landing, ViewOf<S>)>,
         refused: Refused,
     ) -> Result<(), AllocError>
-        requires asked { IsAsked self.now }
         requires kept { AreKeptFor self.now outcomes.old.items }
         ensures kept { OnOk result (AreKeptFor self.now outcomes.new.items) }
-        ensures more { OnOk result (AreMore self.now.sender outcomes.old.items
-            (LandsBy (view_of_sending self.now) self.now.command self.now.tests.now
-            (Refuses refused)) outcomes.new.items) }
+        ensures more { OnOk result (Adds self.now (Refuses refused) outcomes.old.items
+            outcomes.new.items) }
     {
         let class = refused.class();
-        let landing = landing_of(self.tests, class);
+        let landing = landing_of(self.asked.tests, class);
         // The state stays: what is so of it is what is so with a conflict or without one.
         let mut way = self.tally.way(0);
         way.join(&self.tally.way(1));
@@ -244,12 +237,10 @@ impl Sending<'_> {
         declared: bool,
         refused: Refused,
     ) -> Result<(), AllocError>
-        requires asked { IsAsked self.now }
         requires kept { AreKeptFor self.now outcomes.old.items }
         ensures kept { OnOk result (AreKeptFor self.now outcomes.new.items) }
-        ensures more { OnOk result (AreMore self.now.sender outcomes.old.items
-            (λ l i. IsTrue declared × LandsBy (view_of_sending self.now) self.now.command
-            self.now.tests.now (Refuses refused) l i) outcomes.new.items) }
+        ensures more { OnOk result (AddsIf self.now declared refused outcomes.old.items
+            outcomes.new.items) }
     {
         if !declared {
             return Ok(());
@@ -264,17 +255,14 @@ impl Sending<'_> {
         alloc: Global,
         outcomes: &mut Vec<(Landing, ViewOf<S>)>,
     ) -> Result<(), AllocError>
-        requires asked { IsAsked self.now }
         requires kept { AreKeptFor self.now outcomes.old.items }
         ensures kept { OnOk result (AreKeptFor self.now outcomes.new.items) }
-        ensures more { OnOk result (AreMore self.now.sender outcomes.old.items
-            (LandsBy (view_of_sending self.now) self.now.command self.now.tests.now Fails)
-            outcomes.new.items) }
+        ensures more { OnOk result (Adds self.now Fails outcomes.old.items outcomes.new.items) }
     {
-        let Some(sense) = self.fault else {
+        let Some(sense) = fault_of(&self.asked.command) else {
             return Ok(());
         };
-        let landing = landing_of(self.tests, Class::Sense(sense));
+        let landing = landing_of(self.asked.tests, Class::Sense(sense));
         self.add(alloc, outcomes, landing, &self.tally.way(2), self.quiet())?;
         Ok(())
     }
@@ -286,13 +274,10 @@ impl Sending<'_> {
         outcomes: &mut Vec<(Landing, ViewOf<S>)>,
         arm: usize,
     ) -> Result<(), AllocError>
-        requires asked { IsAsked self.now }
         requires there { arm < 17 }
         requires kept { AreKeptFor self.now outcomes.old.items }
         ensures kept { OnOk result (AreKeptFor self.now outcomes.new.items) }
-        ensures more { OnOk result (AreMore self.now.sender outcomes.old.items
-            (LandsGood (view_of_sending self.now) self.now.command self.now.tests.now arm)
-            outcomes.new.items) }
+        ensures more { OnOk result (AddsGood self.now arm outcomes.old.items outcomes.new.items) }
     {
         let landing = if arm == 0 {
             Landing::NoArm(Class::Good)
@@ -315,12 +300,9 @@ impl Sending<'_> {
         alloc: Global,
         outcomes: &mut Vec<(Landing, ViewOf<S>)>,
     ) -> Result<(), AllocError>
-        requires asked { IsAsked self.now }
         requires kept { AreKeptFor self.now outcomes.old.items }
         ensures kept { OnOk result (AreKeptFor self.now outcomes.new.items) }
-        ensures more { OnOk result (AreMore self.now.sender outcomes.old.items
-            (LandsBy (view_of_sending self.now) self.now.command self.now.tests.now EndsGood)
-            outcomes.new.items) }
+        ensures more { OnOk result (Adds self.now EndsGood outcomes.old.items outcomes.new.items) }
     {
         for arm in 0..17 {
             self.add_good(alloc, outcomes, arm)?;
@@ -333,12 +315,8 @@ impl Sending<'_> {
         &self,
         alloc: Global,
     ) -> Result<Vec<(Landing, ViewOf<S>)>, AllocError>
-        requires { IsAsked self.now }
-        ensures outcomes { IfOk result (λ outcomes. AreOutcomes (view_of_sending self.now)
-            self.now.refusals self.now.command self.now.tests.now
-            (map (λ o. (o.0, view_of self.now.sender o.1)) outcomes.items)) }
-        ensures kept { IfOk result (λ outcomes. AreKeptFor self.now
-            outcomes.items) }
+        ensures outcomes { IfOk result (λ outcomes. AreOutcomesOf self.now outcomes.items) }
+        ensures kept { IfOk result (λ outcomes. AreKeptFor self.now outcomes.items) }
     {
         let mut outcomes = Vec::new(alloc);
         self.add_all_good(alloc, &mut outcomes)?;

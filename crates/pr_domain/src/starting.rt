@@ -9,10 +9,10 @@ ghost use Rattle.pr_roles.specs.Scenarios.{scenario_of};
 ghost use Rattle.pr_sets.specs.Words.{has};
 ghost use Rattle.pr_sets.specs.Wides.{has_wide};
 ghost use Rattle.pr_views.specs.Views.{Fits};
-ghost use Rattle.pr_views.specs.Portions.{has_at, view_in};
+ghost use Rattle.pr_views.specs.Portions.{has_at};
 ghost use Rattle.pr_views.specs.Rooms.{view_of, AreInRange};
 ghost use Rattle.pr_domain.specs.Starting.{IsOfStart};
-ghost use Rattle.pr_domain.specs.inside.Beginning.{AreAlternatives, AreAmong, stays, registration_in, has_alternative, may_have, has_reservation, scope_in};
+ghost use Rattle.pr_domain.specs.inside.Beginning.{AreAmong, stays, registration_in, has_alternative, may_have, has_reservation};
 
 use crate::attentions::is_among;
 use pr_attention::{Attention, Pending};
@@ -38,72 +38,78 @@ pub fn of_start<S: ViewSet>(
 {
     let parts = scenario.parts();
     let hosts = parts.nexuses.len() as u8;
-    let words = starts(hosts, own, parts);
+    let owner = Owner { parts, hosts, own };
+    let words = owner.starts();
     ViewOf::of(alloc, &parts.keys, hosts, &words)
 }
 
-// The possibilities of the states from which these may start.
-fn starts(hosts: u8, own: u8, parts: &Parts) -> Possibilities
-    requires own { own < hosts }
-    requires nexuses { length parts.now.nexuses.items ≡ hosts }
-    requires parts { FitsAll (scenario_of parts.now) }
-    ensures range { AreInRange hosts parts.now.keys.items result }
-    ensures start { IsOfStart (scenario_of parts.now)
-        (view_in (scope_in own hosts parts.now) result) }
-{
-    // With some of them no state is well formed, as where a holder has no key.
-    kept(hosts, &alternatives(hosts, own, parts))
+/// One nexus of a scenario, whose view of the starts is wanted.
+#[derive(Clone, Copy)]
+struct Owner<'a> {
+    parts: &'a Parts,
+    hosts: u8,
+    own: u8,
+    ghost there: { own < hosts },
+    ghost counted: { length parts.now.nexuses.items ≡ hosts },
+    ghost fits: { FitsAll (scenario_of parts.now) },
 }
 
-// Everything that is written of the start.
-fn alternatives(hosts: u8, own: u8, parts: &Parts) -> Possibilities
-    requires own { own < hosts }
-    requires nexuses { length parts.now.nexuses.items ≡ hosts }
-    requires parts { FitsAll (scenario_of parts.now) }
-    ensures alternatives { AreAlternatives (scenario_of parts.now) (scope_in own hosts parts.now)
-        result }
-    ensures fits { Fits (view_in (scope_in own hosts parts.now) result) }
-{
-    Possibilities {
-        registrations: registrations(&parts.keys, &parts.nexuses),
-        reservations: reservations(hosts, &parts.reservations),
-        pending: sets_within(&parts.nexuses[usize::from(own)].pending),
+impl Owner<'_> {
+    ghost use Rattle.pr_domain.specs.inside.Owners.{view_of_owner, keys_of_owner, AreAlternativesOf, IsOfStartOf};
+
+    // The possibilities of the states from which its scenario may start.
+    fn starts(&self) -> Possibilities
+        ensures range { AreInRange self.now.hosts self.now.parts.now.keys.items result }
+        ensures start { IsOfStartOf self.now result }
+    {
+        // With some of them no state is well formed, as where a holder has no key.
+        kept(self.hosts, &self.alternatives())
     }
-}
 
-// The registrations with which each may start.
-fn registrations(keys: &[u64], nexuses: &[Nexus]) -> [Word; MOST_NEXUSES]
-    requires keys { length keys.now ≤ MOST_KEYS }
-    requires nexuses { length nexuses.now ≤ MOST_NEXUSES }
-    ensures { (g r : ℕ) → has_at result g r ≡ may_have keys.now nexuses.now g r }
-{
-    let mut words = [Word::none(); MOST_NEXUSES];
-    for (host, nexus) in nexuses.iter().enumerate() {
-        words[host] = registrations_of(keys, &nexus.start.alternatives);
+    // Everything that is written of the start.
+    fn alternatives(&self) -> Possibilities
+        ensures alternatives { AreAlternativesOf self.now result }
+        ensures fits { Fits (view_of_owner self.now result) }
+    {
+        Possibilities {
+            registrations: self.registrations(&self.parts.nexuses),
+            reservations: reservations(self.hosts, &self.parts.reservations),
+            pending: sets_within(&self.parts.nexuses[usize::from(self.own)].pending),
+        }
     }
-    words
-}
-
-// The numbers of these registrations.
-fn registrations_of(keys: &[u64], alternatives: &[Option<u64>]) -> Word
-    requires { length keys.now ≤ MOST_KEYS }
-    ensures { (r : ℕ) → has result r ≡ has_alternative keys.now alternatives.now r }
-{
-    let mut numbers = Word::none();
-    for key in alternatives {
-        numbers = numbers.with(registration_in(keys, *key));
+    // The registrations with which each may start.
+    fn registrations(&self, nexuses: &[Nexus]) -> [Word; MOST_NEXUSES]
+        requires { length nexuses.now ≤ MOST_NEXUSES }
+        ensures { (g r : ℕ) → has_at result g r
+            ≡ may_have (keys_of_owner self.now) nexuses.now g r }
+    {
+        let mut words = [Word::none(); MOST_NEXUSES];
+        for (host, nexus) in nexuses.iter().enumerate() {
+            words[host] = self.registrations_of(&nexus.start.alternatives);
+        }
+        words
     }
-    numbers
-}
 
-fn registration_in(keys: &[u64], key: Option<u64>) -> u8
-    requires { length keys.now ≤ MOST_KEYS }
-    ensures number { result ≡ registration_in keys.now key }
-    ensures few { result ≤ MOST_KEYS }
-{
-    match key {
-        Some(key) => number_in(keys, key),
-        None => 0,
+    // The numbers of these registrations.
+    fn registrations_of(&self, alternatives: &[Option<u64>]) -> Word
+        ensures { (r : ℕ) → has result r ≡ has_alternative (keys_of_owner self.now) alternatives.now
+            r }
+    {
+        let mut numbers = Word::none();
+        for key in alternatives {
+            numbers = numbers.with(self.registration_in(*key));
+        }
+        numbers
+    }
+
+    fn registration_in(&self, key: Option<u64>) -> u8
+        ensures number { result ≡ registration_in (keys_of_owner self.now) key }
+        ensures few { result ≤ MOST_KEYS }
+    {
+        match key {
+            Some(key) => number_in(&self.parts.keys, key),
+            None => 0,
+        }
     }
 }
 

@@ -6,17 +6,22 @@ ghost use Rattle.pr_sets.specs.Numbers.{most};
 ghost use Rattle.pr_sets.specs.Words.{has};
 ghost use Rattle.pr_sets.specs.Wides.{has_wide};
 ghost use Rattle.pr_views.specs.Possibilities.{Item};
+ghost use Rattle.pr_domain.specs.declared.tally.TheConstants.{WAYS};
 ghost use Rattle.pr_domain.specs.inside.Tallies.{has_part, has_tallied, HasFound};
 ghost use Rattle.pr_domain.specs.inside.Twins.{has_with_twin};
 
 use pr_regions::gains;
+use pr_script::limits::MOST_ARMS;
 use pr_views::Possibilities;
+
+/// How many ways there are: in a conflict, without one, at fault, and GOOD with the data taken by no arm or by each.
+pub(crate) const WAYS: usize = MOST_ARMS + 4;
 
 /// The possible registrations and reservations after each kind of ending: in a conflict, without a conflict, at fault, and GOOD
 /// with the data taken by no arm or by each of 16.
 #[derive(Clone, Copy, PartialEq, Eq)]
 pub(crate) struct Tally {
-    pub(crate) ways: [Possibilities; 20],
+    pub(crate) ways: [Possibilities; WAYS],
 }
 
 impl Tally {
@@ -25,13 +30,13 @@ impl Tally {
         ensures { (way : ℕ) (i : Item) → has_tallied result way i ≡ false }
     {
         Tally {
-            ways: [Possibilities::none(); 20],
+            ways: [Possibilities::none(); WAYS],
         }
     }
 
     /// Adds what is found of this way.
     pub(crate) fn add(&mut self, way: usize, found: &Possibilities)
-        requires { way < 20 }
+        requires { way < WAYS }
         ensures { (w : ℕ) (i : Item) → has_tallied self.new w i
             ≡ (has_tallied self.old w i || (w == way && has_part found.now i)) }
     {
@@ -42,7 +47,7 @@ impl Tally {
 
     /// Whether all that is found of this way, of so many nexuses, was added before.
     pub(crate) fn has(&self, way: usize, hosts: u8, found: &Possibilities) -> bool
-        requires way { way < 20 }
+        requires way { way < WAYS }
         requires hosts { hosts ≤ MOST_NEXUSES }
         ensures { IsTrue result → HasFound self.now way hosts found.now }
     {
@@ -56,7 +61,7 @@ impl Tally {
         ensures { (way : ℕ) (i : Item) → has_tallied self.new way i
             ≡ has_with_twin self.old twin reservation way i }
     {
-        for way in 0..20 {
+        for way in 0..WAYS {
             self.ways[way] = with_twin(&self.ways[way], twin, reservation);
         }
     }

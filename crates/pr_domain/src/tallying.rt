@@ -1,27 +1,22 @@
 //! The tally of a view: the possible endings of a command of its owner, each with the possible states after it.
 
-ghost use Rattle.std.specs.Prelude.{◌≡◌, ◌<◌, ◌≤◌, ◌+◌, ℕ, List, ◌==◌, ◌||◌, length, IsTrue, true, IfSome, IfNone};
-ghost use Rattle.pr_script.specs.Grammar.{is_written, test_fits, is_read_keys, is_read_reservation};
-ghost use Rattle.pr_script.specs.declared.limits.TheConstants.{MOST_ARMS};
-ghost use Rattle.pr_views.specs.Possibilities.{key_at, Scope, Item};
-ghost use Rattle.pr_roles.specs.Fitting.{AreDeclared};
-ghost use Rattle.pr_regions.specs.Purposes.{HasNumber};
+ghost use Rattle.std.specs.Prelude.{◌≡◌, ◌<◌, ◌≤◌, ℕ, ◌==◌, ◌||◌, length, IsTrue, IfSome, IfNone};
 ghost use Rattle.std.specs.List.{All};
+ghost use Rattle.pr_script.specs.Grammar.{is_read_keys, is_read_reservation};
+ghost use Rattle.pr_script.specs.declared.limits.TheConstants.{MOST_ARMS};
+ghost use Rattle.pr_roles.specs.declared.limits.TheConstants.{MOST_KEYS};
 ghost use Rattle.pr_sets.specs.Numbers.{most};
 ghost use Rattle.pr_sets.specs.Wides.{has_wide};
-ghost use Rattle.pr_cdb.specs.declared.command.Command.{Command as CommandOf};
-ghost use Rattle.pr_script.specs.declared.script.Test.{Test as TestOf};
-ghost use Rattle.pr_unit.specs.UnitStates.{UnitState};
-ghost use Rattle.pr_roles.specs.declared.limits.TheConstants.{MOST_KEYS};
-ghost use Rattle.pr_views.specs.Portions.{view_in};
+ghost use Rattle.pr_views.specs.Possibilities.{key_at};
+ghost use Rattle.pr_regions.specs.Purposes.{HasNumber};
 ghost use Rattle.pr_regions.specs.Regions.{HasRoom};
-ghost use Rattle.pr_domain.specs.declared.tally.Tally.{Tally as TallyOf};
-ghost use Rattle.pr_regions.specs.Gathering.{IsPlace, IsUniform, IsAt};
-ghost use Rattle.pr_domain.specs.inside.Tallies.{IsRegistered, has_tallied, Grows, IsRight, AreRight, IsInOne, HasBoth, HasFirst, IsReserved, IsAsked, IsRefusedAt, IsOwners, IsOfScope, IsNothing, IsTally, IsRightReading, AreRightReadings, IsReadAt, IsReadFirst, way_of};
+ghost use Rattle.pr_domain.specs.inside.Tallies.{AddsBranch, AddsBranches, AddsAccepted, AddsRefused, AddsReading, AddsReadings, AreTallied, way_of};
+ghost use Rattle.pr_domain.specs.inside.TestedCommands.{AddsRegistration, AddsPlace, AddsReservation, IsTallyOf};
 
 use crate::arms::first_arm;
 use crate::landing::Class;
 use crate::tally::Tally;
+use crate::tested::TestedCommand;
 use crate::twins::twin_of;
 use pr_cdb::Command;
 use pr_cdb::codes::MOST_NEXUSES;
@@ -29,22 +24,15 @@ use pr_regions::{
     Branch, Change, Ending, Place, Purpose, Reading, Region, branches, is_refused, purpose_of,
     readings, registrations_after, standing_of,
 };
-use pr_script::Test;
 use pr_script::limits::MOST_ARMS;
 use pr_sets::{Wide, Word};
 use pr_views::{MOST_REGISTRATIONS, Possibilities};
 
-/// What the owner asks: a command, and the tests of its send, written with these keys.
+/// The arm that takes the data of GOOD, counted from 1, or 0 where none does.
 #[derive(Clone, Copy)]
-pub(crate) struct TestedCommand<'a> {
-    pub(crate) keys: &'a [u64],
-    pub(crate) command: Command,
-    pub(crate) tests: &'a [Test],
-    ghost declared: { AreDeclared keys.now },
-    ghost few_keys: { length keys.now ≤ MOST_KEYS },
-    ghost written: { is_written keys.now command ≡ true },
-    ghost fit: { All (λ t. test_fits keys.now command t ≡ true) tests.now },
-    ghost few: { length tests.now ≤ MOST_ARMS },
+struct ArmNumber {
+    number: usize,
+    ghost few: { number ≤ MOST_ARMS },
 }
 
 // These registrations under this reservation.
@@ -67,14 +55,10 @@ fn add_branch(
     place: Place,
     senders: Word,
     branch: &Branch,
-    arm: usize,
+    arm: ArmNumber,
 )
     requires room { HasRoom place.hosts branch.now.ending }
-    requires arm { arm ≤ MOST_ARMS }
-    ensures { (s : Scope) (c : CommandOf) (tests : List TestOf)
-        → IsRight s c tests view.now place senders branch.now arm
-        → Grows (view_in s view.now) c tests tally.old tally.new
-        (IsAt (view_in s view.now) place senders branch.now.region) }
+    ensures { AddsBranch view.now place senders branch.now arm.number tally.old tally.new }
 {
     let Some(registrations) = place.gather(view, senders, &branch.region) else {
         return;
@@ -89,7 +73,7 @@ fn add_branch(
         Ending::Good(change) => {
             let after = registrations_after(&registrations, place.sender, &change);
             tally.add(1, &here);
-            tally.add(3 + arm, &part(after, change.reservation));
+            tally.add(3 + arm.number, &part(after, change.reservation));
         }
     }
 }
@@ -101,14 +85,10 @@ fn add_branches(
     place: Place,
     senders: Word,
     branches: &[Branch],
-    arm: usize,
+    arm: ArmNumber,
 )
     requires room { All (λ b. HasRoom place.hosts b.ending) branches.now }
-    requires arm { arm ≤ MOST_ARMS }
-    ensures { (s : Scope) (c : CommandOf) (tests : List TestOf)
-        → AreRight s c tests view.now place senders branches.now arm
-        → Grows (view_in s view.now) c tests tally.old tally.new
-        (IsInOne (view_in s view.now) place senders branches.now (length branches.now)) }
+    ensures { AddsBranches view.now place senders branches.now arm.number tally.old tally.new }
 {
     let mut i = 0;
     while i < branches.len() {
@@ -123,15 +103,12 @@ fn add_accepted(
     view: &Possibilities,
     place: Place,
     purpose: Purpose,
-    arm: usize,
+    arm: ArmNumber,
     registration: u8,
 )
     requires number { HasNumber purpose }
-    requires arm { arm ≤ MOST_ARMS }
     requires registration { registration ≤ MOST_KEYS }
-    ensures { (s : Scope) (c : CommandOf) (tests : List TestOf)
-        → IsAsked s c tests view.now place purpose arm registration
-        → Grows (view_in s view.now) c tests tally.old tally.new (HasBoth s place registration) }
+    ensures { AddsAccepted view.now place purpose arm.number registration tally.old tally.new }
 {
     let standing = standing_of(purpose, registration);
     let branches = branches(place.hosts, purpose, place.held, place.sender, standing);
@@ -141,9 +118,7 @@ fn add_accepted(
 // Adds those in which its reservation key is not accepted.
 fn add_refused(tally: &mut Tally, view: &Possibilities, place: Place, registration: u8)
     requires registration { registration ≤ MOST_KEYS }
-    ensures { (s : Scope) (c : CommandOf) (tests : List TestOf)
-        → IsRefusedAt s c view.now place registration
-        → Grows (view_in s view.now) c tests tally.old tally.new (HasBoth s place registration) }
+    ensures { AddsRefused view.now place registration tally.old tally.new }
 {
     let anything = Word::below(MOST_REGISTRATIONS);
     let region = Region {
@@ -155,18 +130,18 @@ fn add_refused(tally: &mut Tally, view: &Possibilities, place: Place, registrati
         region,
         ending: Ending::Conflict,
     };
-    add_branch(tally, view, place, Word::only(registration), &branch, 0);
+    let none = ArmNumber { number: 0 };
+    add_branch(tally, view, place, Word::only(registration), &branch, none);
 }
 
-// The way of GOOD with the data taken by this arm, of at most 16.
-fn way_of(arm: Option<usize>) -> usize
-    ensures few { result ≤ MOST_ARMS }
-    ensures way { IfSome arm (λ n. n < MOST_ARMS) → result ≡ way_of arm }
-    ensures none { IfNone arm (result ≡ 0) }
+// The number of this arm, of at most 16.
+fn way_of(arm: Option<usize>) -> ArmNumber
+    ensures way { IfSome arm (λ n. n < MOST_ARMS) → result.number ≡ way_of arm }
+    ensures none { IfNone arm (result.number ≡ 0) }
 {
     match arm {
-        Some(n) if n < MOST_ARMS => n + 1,
-        _ => 0,
+        Some(n) if n < MOST_ARMS => ArmNumber { number: n + 1 },
+        _ => ArmNumber { number: 0 },
     }
 }
 
@@ -177,17 +152,13 @@ fn is_tallied(
     place: Place,
     senders: Word,
     region: &Region,
-    arm: usize,
+    arm: ArmNumber,
 ) -> bool
-    requires arm { arm ≤ MOST_ARMS }
-    ensures { IsTrue result → (s : Scope) → IsPlace s view.now place → IsUniform senders
-        → (u : UnitState) (i : Item) → IsAt (view_in s view.now) place senders region.now u
-        → IsRegistered s u i → (has_tallied tally.now 1 i ≡ true)
-        × (has_tallied tally.now (3 + arm) i ≡ true) }
+    ensures { IsTrue result → AreTallied view.now place senders region.now arm.number tally.now }
 {
     let most = place.gathered_at_most(view, senders, region);
     let found = part(most, place.reservation);
-    tally.has(1, place.hosts, &found) && tally.has(3 + arm, place.hosts, &found)
+    tally.has(1, place.hosts, &found) && tally.has(3 + arm.number, place.hosts, &found)
 }
 
 // Adds the states in which this arm takes the data, in which nothing changes.
@@ -199,10 +170,7 @@ fn add_reading(
     reading: &Reading,
 )
     requires registration { registration ≤ MOST_KEYS }
-    ensures { (s : Scope) (c : CommandOf) (tests : List TestOf)
-        → IsRightReading s c tests view.now place registration reading.now
-        → Grows (view_in s view.now) c tests tally.old tally.new
-        (IsReadAt s view.now place registration reading.now) }
+    ensures { AddsReading view.now place registration reading.now tally.old tally.new }
 {
     let senders = Word::only(registration);
     let way = way_of(reading.arm);
@@ -234,10 +202,7 @@ fn add_readings(
     readings: &[Reading],
 )
     requires registration { registration ≤ MOST_KEYS }
-    ensures { (s : Scope) (c : CommandOf) (tests : List TestOf)
-        → AreRightReadings s c tests view.now place registration readings.now
-        → Grows (view_in s view.now) c tests tally.old tally.new
-        (IsReadFirst s view.now place registration readings.now (length readings.now)) }
+    ensures { AddsReadings view.now place registration readings.now tally.old tally.new }
 {
     let mut i = 0;
     while i < readings.len() {
@@ -275,9 +240,7 @@ fn add_registration(
     registration: u8,
 )
     requires registration { registration ≤ length asked.now.keys.now }
-    ensures { (s : Scope) → IsOwners s asked.now.keys.now view.now place
-        → Grows (view_in s view.now) asked.now.command asked.now.tests.now tally.old tally.new
-        (HasBoth s place registration) }
+    ensures { AddsRegistration view.now place asked.now registration tally.old tally.new }
 {
     if is_refused(key_at(asked.keys, registration), asked.command) {
         add_refused(tally, view, place, registration);
@@ -306,9 +269,7 @@ fn add_registration(
 
 // Adds the states under one reservation.
 fn add_place(tally: &mut Tally, view: &Possibilities, place: Place, asked: &TestedCommand)
-    ensures { (s : Scope) → IsOwners s asked.now.keys.now view.now place
-        → Grows (view_in s view.now) asked.now.command asked.now.tests.now tally.old tally.new
-        (HasFirst s place (length asked.now.keys.now + 1)) }
+    ensures { AddsPlace view.now place asked.now tally.old tally.new }
 {
     let registrations = asked.keys.len() as u8 + 1;
     let possible = view.registrations[usize::from(place.sender)];
@@ -324,11 +285,7 @@ fn add_place(tally: &mut Tally, view: &Possibilities, place: Place, asked: &Test
 // Adds the states under one reservation to those under all that come before it. Commands that read end alike under
 // reservations with the same holders.
 fn add_reservation(tally: &mut Tally, view: &Possibilities, place: Place, asked: &TestedCommand)
-    ensures { (s : Scope) (none : TallyOf) → IsOwners s asked.now.keys.now view.now place
-        → IsNothing none → Grows (view_in s view.now) asked.now.command asked.now.tests.now none
-        tally.old (IsReserved s place.reservation)
-        → Grows (view_in s view.now) asked.now.command asked.now.tests.now none tally.new
-        (IsReserved s (place.reservation + 1)) }
+    ensures { AddsReservation view.now place asked.now tally.old tally.new }
 {
     if is_reading(asked.command) {
         if let Some(twin) = twin_of(&place, view) {
@@ -343,8 +300,7 @@ fn add_reservation(tally: &mut Tally, view: &Possibilities, place: Place, asked:
 pub(crate) fn tally(view: &Possibilities, hosts: u8, own: u8, asked: &TestedCommand) -> Tally
     requires hosts { (1 ≤ hosts) × (hosts ≤ MOST_NEXUSES) }
     requires own { own < hosts }
-    ensures { (s : Scope) → IsOfScope s hosts own asked.now.keys.now view.now
-        → IsTally (view_in s view.now) asked.now.command asked.now.tests.now result }
+    ensures { IsTallyOf view.now hosts own asked.now result }
 {
     let mut tally = Tally::none();
     let mut reservation = 0;

@@ -1,6 +1,6 @@
 -- Whether a role permits a host's command, wherever the command ends GOOD.
-use Rattle.std.specs.Prelude.{◌≡◌, ℕ, ◌<◌, Bool, true, false, not, ◌==◌, ◌&&◌, IsTrue, List, Option, Some, None, is_some, is_none}
-use Rattle.std.specs.List.{list_any, slice_get}
+use Rattle.std.specs.Prelude.{◌≡◌, ◌↔◌, ℕ, ◌<◌, length, Bool, true, false, not, ◌==◌, ◌&&◌, IsTrue, List, Option, Some, None, is_some, is_none}
+use Rattle.std.specs.List.{All as Each, list_any, slice_get}
 use Rattle.pr_cdb.specs.declared.command.Command.{Command}
 use Rattle.pr_registry.specs.declared.held.Held.{Held}
 use Rattle.pr_registry.specs.declared.held.Held.TheVariants.{One, All}
@@ -15,14 +15,16 @@ use Rattle.pr_roles.specs.Permits.{names, clause_permits}
 use Rattle.pr_sets.specs.declared.word.Word.{Word}
 use Rattle.pr_sets.specs.Words.{has}
 use Rattle.pr_views.specs.declared.possibilities.Possibilities.{Possibilities}
-use Rattle.pr_views.specs.Possibilities.{Scope, Attentions, IsSo}
+use Rattle.pr_views.specs.Possibilities.{Scope, Reservation, Attentions, IsSo}
 use Rattle.pr_views.specs.Views.{View, Shows, Fits}
 use Rattle.pr_views.specs.Portions.{view_in}
 use Rattle.pr_regions.specs.declared.region.Branch.{Branch}
 use Rattle.pr_regions.specs.declared.region.Change.{Change}
 use Rattle.pr_regions.specs.declared.region.Ending.TheVariants.{Good}
 use Rattle.pr_regions.specs.declared.place.Place.{Place}
-use Rattle.pr_regions.specs.Gathering.{IsThere}
+use Rattle.pr_regions.specs.Regions.{IsProper as IsProperBranch}
+use Rattle.pr_regions.specs.Gathering.{IsPlace, IsUniform, IsProper, IsThere}
+use Rattle.pr_domain.specs.inside.Tallies.{HasBoth}
 
 -- nothing is pending for the owner, and its command neither conflicts nor is at fault
 pub record EndsGood (s : Scope) (c : Command) (u : UnitState) : Type 0 where
@@ -93,3 +95,49 @@ pub record IsOneReached (v : View) (place : Place) (senders : Word) (branches : 
   pub below : index < n
   pub listed : slice_get branches index ≡ Some branch
   pub reached : IsReached v place senders branch
+
+-- ---- what the walk over a view answers
+
+-- some clause permits the command of this sender in each state that its view shows and in which it ends GOOD
+abbrev pub PermitsAll : List ℕ → ℕ → ℕ → Possibilities → List Clause → Command → Type 0
+PermitsAll keys hosts sender view clauses c = ArePermitted (view_in (scope_at keys hosts sender) view) clauses c (λ u. Unit {0})
+
+-- in one of them none does
+abbrev pub RefusesOne : List ℕ → ℕ → ℕ → Possibilities → List Clause → Command → Type 0
+RefusesOne keys hosts sender view clauses c = IsOneRefused (view_in (scope_at keys hosts sender) view) clauses c (λ u. Unit {0})
+
+-- the scope of the place's sender
+abbrev pub scope_of_place : List ℕ → Place → Scope
+scope_of_place keys place = scope_at keys place.hosts place.sender
+
+-- some clause permits it in each of them in which the reservation of the place stands
+abbrev pub PermitsAt : List ℕ → Possibilities → Place → List Clause → Command → Type 0
+PermitsAt keys view place clauses c =
+    ArePermitted (view_in (scope_of_place keys place) view) clauses c (λ u. IsSo (scope_of_place keys place) u (Reservation place.reservation))
+
+-- in one of those none does
+abbrev pub RefusesAt : List ℕ → Possibilities → Place → List Clause → Command → Type 0
+RefusesAt keys view place clauses c =
+    IsOneRefused (view_in (scope_of_place keys place) view) clauses c (λ u. IsSo (scope_of_place keys place) u (Reservation place.reservation))
+
+-- some clause permits it in each of those in which the sender has this registration
+abbrev pub PermitsWith : List ℕ → Possibilities → Place → ℕ → List Clause → Command → Type 0
+PermitsWith keys view place r clauses c =
+    ArePermitted (view_in (scope_of_place keys place) view) clauses c (HasBoth (scope_of_place keys place) place r)
+
+-- in one of these none does
+abbrev pub RefusesWith : List ℕ → Possibilities → Place → ℕ → List Clause → Command → Type 0
+RefusesWith keys view place r clauses c =
+    IsOneRefused (view_in (scope_of_place keys place) view) clauses c (HasBoth (scope_of_place keys place) place r)
+
+-- it tells whether a proper branch is reached, where the view shows a state in which nothing is pending for its owner
+abbrev pub TellsReached : Possibilities → Place → Word → Branch → Bool → Type 0
+TellsReached view place senders b told =
+    (s : Scope) → IsPlace s view place → IsUniform senders → has view.pending 0 ≡ true → IsProper b.region
+    → (IsTrue told ↔ IsReached (view_in s view) place senders b)
+
+-- so it tells whether one of proper branches is
+abbrev pub TellsOneReached : Possibilities → Place → Word → List Branch → Bool → Type 0
+TellsOneReached view place senders branches told =
+    (s : Scope) → IsPlace s view place → IsUniform senders → has view.pending 0 ≡ true → Each IsProperBranch branches
+    → (IsTrue told ↔ IsOneReached (view_in s view) place senders branches (length branches))

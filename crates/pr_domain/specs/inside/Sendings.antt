@@ -1,24 +1,24 @@
--- What is known of a command whose outcomes are to be found.
-use Rattle.std.specs.Prelude.{◌≡◌, ℕ, ◌≤◌, true, List, length, Some}
-use Rattle.std.specs.List.{All}
-use Rattle.pr_cdb.specs.Ranges.{Fits as FitsCommand}
-use Rattle.pr_cdb.specs.declared.reply.Sense.{Sense}
-use Rattle.pr_registry.specs.Registrations.{State}
-use Rattle.pr_unit.specs.Faults.{command_fault}
-use Rattle.pr_script.specs.declared.limits.TheConstants.{MOST_ARMS}
-use Rattle.pr_script.specs.Grammar.{is_written, test_fits}
+-- What is found of a command whose outcomes are to be found.
+use Rattle.std.specs.Prelude.{◌≡◌, ℕ, true, Bool, IsTrue, List, map}
+use Rattle.pr_sets.specs.declared.word.Word.{Word}
 use Rattle.pr_sets.specs.declared.view_set.ViewSet.{Ghosts as ViewSet}
+use Rattle.pr_sets.specs.Words.{has}
+use Rattle.pr_sets.specs.Wides.{has_wide}
+use Rattle.pr_views.specs.declared.possibilities.Possibilities.{Possibilities}
 use Rattle.pr_views.specs.declared.view.ViewOf.{ViewOf}
-use Rattle.pr_views.specs.Possibilities.{Scope}
-use Rattle.pr_views.specs.Views.{View, Fits}
+use Rattle.pr_views.specs.Possibilities.{Scope, Item}
+use Rattle.pr_views.specs.Views.{View}
 use Rattle.pr_views.specs.Portions.{view_in}
+use Rattle.pr_views.specs.Rooms.{view_of, AreInRange}
 use Rattle.pr_domain.specs.declared.landing.Landing.{Landing}
+use Rattle.pr_domain.specs.declared.reporting.Refused.{Refused}
 use Rattle.pr_domain.specs.declared.reporting.Sending.{Sending}
+use Rattle.pr_domain.specs.Outcomes.{AreOutcomes}
 use Rattle.pr_domain.specs.inside.Tallies.{IsTally}
-use Rattle.pr_domain.specs.inside.Reporting.{AreKept}
+use Rattle.pr_domain.specs.inside.Reporting.{AreKept, AreMore, IsOfWay, Ending, Refuses, LandsBy, LandsGood}
 
 abbrev pub scope_of_sending : Sending → Scope
-scope_of_sending q = record { own = q.sender; hosts = q.hosts; keys = q.keys.now }
+scope_of_sending q = record { own = q.sender; hosts = q.hosts; keys = q.asked.keys.now }
 
 -- the view of the states from which it is sent
 abbrev pub view_of_sending : Sending → View
@@ -26,14 +26,42 @@ view_of_sending q = view_in (scope_of_sending q) q.known
 
 -- the outcomes are of the hosts, guests and keys of the command
 abbrev pub AreKeptFor : {S : Type 0} {sets : ViewSet S} → Sending → List (Landing × ViewOf S sets) → Type 0
-AreKeptFor q outcomes = AreKept q.hosts q.keys.now outcomes
+AreKeptFor q outcomes = AreKept q.hosts q.asked.keys.now outcomes
 
--- The command is one that a text can have, and so are the tests, and the tally is of the states of the view.
-pub record IsAsked (q : Sending) : Type 0 where
-  pub fits : Fits (view_of_sending q)
-  pub written : is_written q.keys.now q.command ≡ true
-  pub whole : FitsCommand q.command
-  pub fault : (u : State) (h : ℕ) (x : Sense) → command_fault u h q.command ≡ Some x → q.fault ≡ Some x
-  pub tests : All (λ t. test_fits q.keys.now q.command t ≡ true) q.tests.now
-  pub few : length q.tests.now ≤ MOST_ARMS
-  pub tally : IsTally (view_of_sending q) q.command q.tests.now q.tally.now
+-- where one way to end leaves something beside these attentions, its possibilities are numbers of the command's nexuses and keys
+abbrev pub IsInRange : Sending → Possibilities → Word → Type 0
+IsInRange q way pending =
+    (x n : ℕ) → has_wide way.reservations x ≡ true → has pending n ≡ true → AreInRange q.hosts q.asked.keys.now (record way { pending = pending })
+
+-- the landing is this one, and the possibility is one of this way to end, beside these attentions
+abbrev pub IsOfWayAt : Sending → Landing → Possibilities → Word → Landing → Item → Type 0
+IsOfWayAt q landing way pending l i = (l ≡ landing) × IsOfWay (scope_of_sending q) way pending i
+
+-- the tally is of the states from which the command is sent
+abbrev pub IsTallied : Sending → Type 0
+IsTallied q = IsTally (view_of_sending q) q.asked.command q.asked.tests.now q.tally.now
+
+-- where such an end of the command lands, and what is possible after it
+abbrev pub LandsOf : Sending → Ending → Landing → Item → Type 0
+LandsOf q ending = LandsBy (view_of_sending q) q.asked.command q.asked.tests.now ending
+
+-- If the tally is of the states from which the command is sent, the new outcomes have what the old ones have, and this.
+abbrev pub AddsThis : {S : Type 0} {sets : ViewSet S} → Sending → (Landing → Item → Type 0) → List (Landing × ViewOf S sets) → List (Landing × ViewOf S sets) → Type 0
+AddsThis q This old new = IsTallied q → AreMore q.sender old This new
+
+-- so they have where such an end of the command lands
+abbrev pub Adds : {S : Type 0} {sets : ViewSet S} → Sending → Ending → List (Landing × ViewOf S sets) → List (Landing × ViewOf S sets) → Type 0
+Adds q ending old new = AddsThis q (LandsOf q ending) old new
+
+-- so they have where GOOD lands whose data this arm takes
+abbrev pub AddsGood : {S : Type 0} {sets : ViewSet S} → Sending → ℕ → List (Landing × ViewOf S sets) → List (Landing × ViewOf S sets) → Type 0
+AddsGood q arm old new = AddsThis q (LandsGood (view_of_sending q) q.asked.command q.asked.tests.now arm) old new
+
+-- so they have where the refusal lands, if the sender may meet it
+abbrev pub AddsIf : {S : Type 0} {sets : ViewSet S} → Sending → Bool → Refused → List (Landing × ViewOf S sets) → List (Landing × ViewOf S sets) → Type 0
+AddsIf q declared refused old new = AddsThis q (λ l i. IsTrue declared × LandsOf q (Refuses refused) l i) old new
+
+-- If the tally is of the states from which the command is sent, these are its outcomes there.
+abbrev pub AreOutcomesOf : {S : Type 0} {sets : ViewSet S} → Sending → List (Landing × ViewOf S sets) → Type 0
+AreOutcomesOf q outcomes =
+    IsTallied q → AreOutcomes (view_of_sending q) q.refusals q.asked.command q.asked.tests.now (map (λ o. (o.0, view_of q.sender o.1)) outcomes)

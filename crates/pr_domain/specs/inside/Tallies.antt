@@ -1,6 +1,6 @@
 -- What is found of each way in which a command can end once nothing is pending for its sender, before the
 -- attentions of the owner are looked at.
-use Rattle.std.specs.Prelude.{◌≡◌, ◌⊎◌, ℕ, zero, suc, ◌<◌, ◌≤◌, length, Bool, true, false, ◌||◌, List, Option, Some, None, is_some}
+use Rattle.std.specs.Prelude.{◌≡◌, ◌⊎◌, ℕ, zero, suc, ◌+◌, ◌<◌, ◌≤◌, length, Bool, true, false, ◌||◌, List, Option, Some, None, is_some}
 use Rattle.std.specs.List.{slice_get, Contains}
 use Rattle.std.specs.Option.{option_map_or}
 use Rattle.pr_cdb.specs.declared.command.Command.{Command}
@@ -19,6 +19,7 @@ use Rattle.pr_regions.specs.Readings.{first_test}
 use Rattle.pr_sets.specs.declared.word.Word.{Word}
 use Rattle.pr_regions.specs.declared.region.Branch.{Branch}
 use Rattle.pr_regions.specs.declared.region.Reading.{Reading}
+use Rattle.pr_regions.specs.declared.region.Region.{Region}
 use Rattle.pr_regions.specs.declared.region.Change.{Change}
 use Rattle.pr_regions.specs.declared.region.Ending.TheVariants as ending
 use Rattle.pr_regions.specs.inside.Parts.{Does, never}
@@ -197,3 +198,44 @@ pub record IsRightReading (s : Scope) (c : Command) (tests : List Test) (view : 
 
 abbrev pub AreRightReadings : Scope → Command → List Test → Possibilities → Place → ℕ → List Reading → Type 0
 AreRightReadings s c tests view place r readings = (b : Reading) → Contains readings b → IsRightReading s c tests view place r b
+
+-- ---- what is added to a tally
+
+-- where the branch is right, what the shown states of its region leave
+abbrev pub AddsBranch : Possibilities → Place → Word → Branch → ℕ → Tally → Tally → Type 0
+AddsBranch view place senders b arm old new =
+    (s : Scope) (c : Command) (tests : List Test) → IsRight s c tests view place senders b arm
+    → Grows (view_in s view) c tests old new (IsAt (view_in s view) place senders b.region)
+
+-- where all branches are, what those of all regions leave
+abbrev pub AddsBranches : Possibilities → Place → Word → List Branch → ℕ → Tally → Tally → Type 0
+AddsBranches view place senders branches arm old new =
+    (s : Scope) (c : Command) (tests : List Test) → AreRight s c tests view place senders branches arm
+    → Grows (view_in s view) c tests old new (IsInOne (view_in s view) place senders branches (length branches))
+
+-- where the reservation key is accepted of this registration, what the shown states leave in which the sender has it
+abbrev pub AddsAccepted : Possibilities → Place → Purpose → ℕ → ℕ → Tally → Tally → Type 0
+AddsAccepted view place purpose arm r old new =
+    (s : Scope) (c : Command) (tests : List Test) → IsAsked s c tests view place purpose arm r → Grows (view_in s view) c tests old new (HasBoth s place r)
+
+-- where it is not accepted, what those leave
+abbrev pub AddsRefused : Possibilities → Place → ℕ → Tally → Tally → Type 0
+AddsRefused view place r old new =
+    (s : Scope) (c : Command) (tests : List Test) → IsRefusedAt s c view place r → Grows (view_in s view) c tests old new (HasBoth s place r)
+
+-- where the reading is right, what the shown states of it leave
+abbrev pub AddsReading : Possibilities → Place → ℕ → Reading → Tally → Tally → Type 0
+AddsReading view place r reading old new =
+    (s : Scope) (c : Command) (tests : List Test) → IsRightReading s c tests view place r reading → Grows (view_in s view) c tests old new (IsReadAt s view place r reading)
+
+-- where all readings are, what those of all leave
+abbrev pub AddsReadings : Possibilities → Place → ℕ → List Reading → Tally → Tally → Type 0
+AddsReadings view place r readings old new =
+    (s : Scope) (c : Command) (tests : List Test) → AreRightReadings s c tests view place r readings
+    → Grows (view_in s view) c tests old new (IsReadFirst s view place r readings (length readings))
+
+-- what is so of registrations and reservation in the shown states of this region is in the tally, of the ways of no conflict and of this arm
+abbrev pub AreTallied : Possibilities → Place → Word → Region → ℕ → Tally → Type 0
+AreTallied view place senders region arm t =
+    (s : Scope) → IsPlace s view place → IsUniform senders → (u : UnitState) (i : Item) → IsAt (view_in s view) place senders region u
+    → IsRegistered s u i → (has_tallied t 1 i ≡ true) × (has_tallied t (3 + arm) i ≡ true)

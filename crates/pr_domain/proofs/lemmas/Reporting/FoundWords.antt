@@ -1,5 +1,5 @@
 -- The outcomes that are found in words are those of the view.
-use Rattle.std.proofs.Common.{◌≡◌, ◌⊎◌, ℕ, ◌<◌, ◌≤◌, true, false, List, length, get_or, sym, ◌∙◌, subst, inl, inr}
+use Rattle.std.proofs.Common.{refl, ◌≡◌, ◌⊎◌, ℕ, ◌<◌, ◌≤◌, true, false, List, length, get_or, sym, ◌∙◌, subst, inl, inr}
 use Rattle.std.specs.List.{All}
 use Rattle.std.proofs.lemmas.Bool.{false≢true, cases_lt}
 use Rattle.std.proofs.lemmas.Option.{slice_get-get_or}
@@ -18,7 +18,11 @@ use Rattle.pr_views.specs.Rooms.{AreAlike, AreInRange}
 use Rattle.pr_views.proofs.lemmas.Views.ShownStates.{shown_within}
 use Rattle.pr_domain.specs.declared.landing.Landing.{Landing}
 use Rattle.pr_domain.specs.Outcomes.{Outcome, AreOutcomes}
+use Rattle.pr_domain.specs.declared.tally.Tally.{Tally}
+use Rattle.pr_domain.specs.inside.Permitting.{scope_at}
 use Rattle.pr_domain.specs.inside.Reporting.{AreKept}
+use Rattle.pr_domain.specs.inside.Tallies.{IsTally, IsOfScope}
+use Rattle.pr_roles.specs.Fitting.{AreDeclared}
 
 -- they are also those of another view with the same possibilities
 pub same_outcomes : (v w : View) (d : Refusals) (c : Command) (tests : List Test) (outcomes : List Outcome) → v.scope ≡ w.scope → Within v w → Within w v
@@ -42,7 +46,7 @@ same_outcomes v w d c tests outcomes same there back are = record {
 }
 
 -- the possibilities fit
-pub fits_in : (s : Scope) (known : Possibilities) → IsScope s → ((g r : ℕ) → s.hosts ≤ g → has_at known.registrations g r ≡ false) → AreInRange s.hosts s.keys known → Fits (view_in s known)
+fits_in : (s : Scope) (known : Possibilities) → IsScope s → ((g r : ℕ) → s.hosts ≤ g → has_at known.registrations g r ≡ false) → AreInRange s.hosts s.keys known → Fits (view_in s known)
 fits_in s known scope past range = record {
   scope = scope;
   registrations = λ g r has. at g r has (cases_lt g s.hosts);
@@ -53,6 +57,19 @@ fits_in s known scope past range = record {
     at : (g r : ℕ) → has_at known.registrations g r ≡ true → (g < s.hosts) ⊎ (s.hosts ≤ g) → r ≤ length s.keys
     at g r has (inl small) = range.registrations g r small has
     at g r has (inr beyond) = absurd (false≢true (sym (past g r beyond) ∙ has))
+
+-- the tally that is made of a view's possibilities is of the states that the view shows
+pub tally_of_view : {S : Type 0} {sets : ViewSet S} (own : ℕ) (keys : List ℕ) (v : ViewOf S sets) (c : Command) (tests : List Test) (known : Possibilities) (tally : Tally)
+    → keys ≡ v.keys.items → own < v.hosts → ((g r : ℕ) → v.hosts ≤ g → has_at known.registrations g r ≡ false) → AreInRange v.hosts v.keys.items known
+    → ((s : Scope) → IsOfScope s v.hosts own keys known → IsTally (view_in s known) c tests tally) → IsTally (view_in (scope_at keys v.hosts own) known) c tests tally
+tally_of_view own keys v c tests known tally same there past range found =
+    let s = scope_at keys v.hosts own in
+    found s (record {
+      same_hosts = refl;
+      same_own = refl;
+      same_keys = refl;
+      fits = fits_in s known (record { hosts = (v.some, v.few); own = there; keys = subst AreDeclared (sym same) v.declared }) past (subst (λ (ks : List ℕ). AreInRange v.hosts ks known) (sym same) range);
+    })
 
 -- each outcome's view is alike the first one
 pub all_alike : {S : Type 0} {sets : ViewSet S} (v : ViewOf S sets) (keys : List ℕ) (outcomes : List (Landing × ViewOf S sets)) → keys ≡ v.keys.items

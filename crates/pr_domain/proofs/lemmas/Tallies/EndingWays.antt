@@ -1,6 +1,8 @@
 -- What is added for each way in which a command can end.
 use Rattle.std.proofs.Common.{◌≡◌, ◌≢◌, ◌⊎◌, ◌↔◌, ℕ, zero, suc, ◌+◌, ◌-◌, ◌<◌, ◌≤◌, Bool, true, false, IsTrue, ◌==◌, ◌||◌, List, length, Some, refl, sym, ap, ◌∙◌, subst, inl, inr, lit<, arith}
+use Rattle.std.specs.Coded.{le_prop}
 use Rattle.std.specs.List.{slice_get}
+use Rattle.std.proofs.Math.Logic.{∥∥₁_elim}
 use Rattle.std.proofs.lemmas.Bool.{false≢true}
 use Rattle.std.proofs.lemmas.Bool.Decides.{eqb_tells}
 use Rattle.std.proofs.lemmas.List.Quantifiers.{position-Some}
@@ -40,7 +42,7 @@ use Rattle.pr_domain.specs.Landings.{IsClass, IsLanding}
 use Rattle.pr_domain.specs.inside.Tallies.{IsRegistered, has_part, Leaves}
 use Rattle.pr_domain.specs.declared.reporting.Refused.{Refused}
 use Rattle.pr_domain.specs.inside.Reporting.{AreReported, AreCalm, AreQuiet, Ending, Reports, Conflicts, Fails, EndsGood, Refuses, refusal, MayReport, Ends, LandsBy, LandsGood, IsLater, IsOfWay, LandsGoodBelow, AreMore, HasOutcome, landing_at}
-use Rattle.pr_domain.specs.inside.Sendings.{scope_of_sending, view_of_sending, IsAsked}
+use Rattle.pr_domain.specs.inside.Sendings.{scope_of_sending, view_of_sending, IsInRange, IsOfWayAt, IsTallied, LandsOf}
 use Rattle.pr_domain.proofs.lemmas.Tallies.Origins.{one_class, one_landing, settled, IsWay, IsTold, from_part, way_lands}
 use Rattle.pr_regions.proofs.lemmas.Showing.AlikeViews.{number_below}
 use Rattle.pr_domain.proofs.lemmas.Tallies.Possibilities.{way_of_tally, either_way, told_power_on, told_later, told_conflict, told_refusal, told_fault, told_good}
@@ -73,76 +75,84 @@ module _ (v : View) (c : Command) (tests : List Test) (ending : Ending) (l : Lan
 
 -- what is known of a way to end
 pub record IsAddedBy (q : Sending) (ending : Ending) (This : Landing → Item → Type 0) (l : Landing) (p : Possibilities) (pending : Word) : Type 0 where
-  pub range : (x n : ℕ) → has_wide p.reservations x ≡ true → has pending n ≡ true → AreInRange q.hosts q.keys.now (record p { pending = pending })
-  pub lands : (m : Landing) (i : Item) → ((m ≡ l) × IsOfWay (scope_of_sending q) p pending i) ↔ This m i
+  pub range : IsInRange q p pending
+  pub lands : (m : Landing) (i : Item) → IsOfWayAt q l p pending m i ↔ This m i
 
-module _ (q : Sending) (asked : IsAsked q) where
-  by_reply : (ending : Ending) (l : Landing) (Left : UnitState → Item → Type 0) (p : Possibilities) (pending : Word) → IsWay (view_of_sending q) Left p → IsTold (view_of_sending q) q.command q.tests.now ending l Left pending
-      → ((u : UnitState) (r : Reply) (w : UnitState) → Ends ending q.command q.sender u r w → IsLanding q.tests.now r l)
-      → IsAddedBy q ending (LandsBy (view_of_sending q) q.command q.tests.now ending) l p pending
+-- the tally's ways are in range, whichever proof there is that it is right
+pub range_of : (q : Sending) (p : Possibilities) (pending : Word) → (IsTallied q → IsInRange q p pending) → IsInRange q p pending
+range_of q p pending from x n reserved pends = record {
+  registrations = λ g r small has. ∥∥₁_elim q.tallied le_prop (λ tally. (from tally x n reserved pends).registrations g r small has);
+  reservations = λ y has. ∥∥₁_elim q.tallied le_prop (λ tally. (from tally x n reserved pends).reservations y has);
+  pending = λ m has. ∥∥₁_elim q.tallied le_prop (λ tally. (from tally x n reserved pends).pending m has);
+}
+
+module _ (q : Sending) (tally : IsTallied q) where
+  by_reply : (ending : Ending) (l : Landing) (Left : UnitState → Item → Type 0) (p : Possibilities) (pending : Word) → IsWay (view_of_sending q) Left p → IsTold (view_of_sending q) q.asked.command q.asked.tests.now ending l Left pending
+      → ((u : UnitState) (r : Reply) (w : UnitState) → Ends ending q.asked.command q.sender u r w → IsLanding q.asked.tests.now r l)
+      → IsAddedBy q ending (LandsOf q ending) l p pending
   by_reply ending l Left p pending way told landing = record {
-    range = range (view_of_sending q) q.command q.tests.now ending l Left p pending way told asked.written asked.whole asked.fits.scope.own;
-    lands = lands_so (view_of_sending q) q.command q.tests.now ending l Left p pending way told asked.written asked.whole asked.fits.scope.own landing;
+    range = range (view_of_sending q) q.asked.command q.asked.tests.now ending l Left p pending way told q.asked.written q.asked.whole q.there;
+    lands = lands_so (view_of_sending q) q.asked.command q.asked.tests.now ending l Left p pending way told q.asked.written q.asked.whole q.there landing;
   }
 
   pub adds_power_on : (l : Landing) (p free either : Possibilities) (left : Word) → slice_get q.tally.now.ways 0 ≡ Some p → slice_get q.tally.now.ways 1 ≡ Some free
-      → ((j : Item) → has_part either j ≡ (has_part p j || has_part free j)) → AreReported 16 q.known.pending PowerOn left → IsLanding q.tests.now (report (Plain q.command) power_on) l
-      → IsAddedBy q (Reports PowerOn) (LandsBy (view_of_sending q) q.command q.tests.now (Reports PowerOn)) l either left
+      → ((j : Item) → has_part either j ≡ (has_part p j || has_part free j)) → AreReported 16 q.known.pending PowerOn left → IsLanding q.asked.tests.now (report (Plain q.asked.command) power_on) l
+      → IsAddedBy q (Reports PowerOn) (LandsOf q (Reports PowerOn)) l either left
   adds_power_on l p free either left first second is are landing =
       by_reply (Reports PowerOn) l (IsRegistered (scope_of_sending q)) either left
-      (either_way (view_of_sending q) q.command q.tests.now q.tally.now p free either asked.tally first second is)
-      (told_power_on (scope_of_sending q) q.known q.command q.tests.now l left are landing)
-      (λ u r w ends. subst (λ x. IsLanding q.tests.now x l) (sym ends.1.1) landing)
+      (either_way (view_of_sending q) q.asked.command q.asked.tests.now q.tally.now p free either tally first second is)
+      (told_power_on (scope_of_sending q) q.known q.asked.command q.asked.tests.now l left are landing)
+      (λ u r w ends. subst (λ x. IsLanding q.asked.tests.now x l) (sym ends.1.1) landing)
 
   pub adds_refusal : (refused : Refused) (l : Landing) (p free either : Possibilities) → slice_get q.tally.now.ways 0 ≡ Some p → slice_get q.tally.now.ways 1 ≡ Some free
-      → ((j : Item) → has_part either j ≡ (has_part p j || has_part free j)) → IsLanding q.tests.now (refusal refused) l
-      → IsAddedBy q (Refuses refused) (LandsBy (view_of_sending q) q.command q.tests.now (Refuses refused)) l either q.known.pending
+      → ((j : Item) → has_part either j ≡ (has_part p j || has_part free j)) → IsLanding q.asked.tests.now (refusal refused) l
+      → IsAddedBy q (Refuses refused) (LandsOf q (Refuses refused)) l either q.known.pending
   adds_refusal refused l p free either first second is landing =
       by_reply (Refuses refused) l (IsRegistered (scope_of_sending q)) either q.known.pending
-      (either_way (view_of_sending q) q.command q.tests.now q.tally.now p free either asked.tally first second is)
-      (told_refusal (scope_of_sending q) q.known q.command q.tests.now l refused landing)
-      (λ u r w ends. subst (λ x. IsLanding q.tests.now x l) (sym ends.0) landing)
+      (either_way (view_of_sending q) q.asked.command q.asked.tests.now q.tally.now p free either tally first second is)
+      (told_refusal (scope_of_sending q) q.known q.asked.command q.asked.tests.now l refused landing)
+      (λ u r w ends. subst (λ x. IsLanding q.asked.tests.now x l) (sym ends.0) landing)
 
-  may : (a : Attention) → IsLater a → (u : UnitState) → MayReport q.command q.sender u a ↔ ((is_pending u q.sender power_on ≡ false) × (command_conflicts u.registry q.sender q.command ≡ false))
+  may : (a : Attention) → IsLater a → (u : UnitState) → MayReport q.asked.command q.sender u a ↔ ((is_pending u q.sender power_on ≡ false) × (command_conflicts u.registry q.sender q.asked.command ≡ false))
   may PowerOn later u = absurd later
   may _ later u = (λ x. x, λ x. x)
 
   pub adds_report : (a : Attention) (l : Landing) (p : Possibilities) (calm left : Word) → IsLater a → slice_get q.tally.now.ways 1 ≡ Some p → AreCalm q.known calm → AreReported 16 calm a left
-      → IsLanding q.tests.now (report (Plain q.command) (code_of a)) l → IsAddedBy q (Reports a) (LandsBy (view_of_sending q) q.command q.tests.now (Reports a)) l p left
+      → IsLanding q.asked.tests.now (report (Plain q.asked.command) (code_of a)) l → IsAddedBy q (Reports a) (LandsOf q (Reports a)) l p left
   adds_report a l p calm left later second calms are landing =
-      by_reply (Reports a) l (Leaves (scope_of_sending q) q.command q.tests.now 1) p left
-      (way_of_tally (view_of_sending q) q.command q.tests.now q.tally.now 1 p asked.tally second)
-      (told_later (scope_of_sending q) q.known q.command q.tests.now l a calm left (may a later) calms are landing)
-      (λ u r w ends. subst (λ x. IsLanding q.tests.now x l) (sym ends.1.1) landing)
+      by_reply (Reports a) l (Leaves (scope_of_sending q) q.asked.command q.asked.tests.now 1) p left
+      (way_of_tally (view_of_sending q) q.asked.command q.asked.tests.now q.tally.now 1 p tally second)
+      (told_later (scope_of_sending q) q.known q.asked.command q.asked.tests.now l a calm left (may a later) calms are landing)
+      (λ u r w ends. subst (λ x. IsLanding q.asked.tests.now x l) (sym ends.1.1) landing)
 
-  pub adds_conflict : (l : Landing) (p : Possibilities) (calm : Word) → slice_get q.tally.now.ways 0 ≡ Some p → AreCalm q.known calm → IsLanding q.tests.now conflict l
-      → IsAddedBy q Conflicts (LandsBy (view_of_sending q) q.command q.tests.now Conflicts) l p calm
+  pub adds_conflict : (l : Landing) (p : Possibilities) (calm : Word) → slice_get q.tally.now.ways 0 ≡ Some p → AreCalm q.known calm → IsLanding q.asked.tests.now conflict l
+      → IsAddedBy q Conflicts (LandsOf q Conflicts) l p calm
   adds_conflict l p calm first calms landing =
-      by_reply Conflicts l (Leaves (scope_of_sending q) q.command q.tests.now 0) p calm
-      (way_of_tally (view_of_sending q) q.command q.tests.now q.tally.now 0 p asked.tally first)
-      (told_conflict (scope_of_sending q) q.known q.command q.tests.now l calm calms landing)
-      (λ u r w ends. subst (λ x. IsLanding q.tests.now x l) (sym ends.2) landing)
+      by_reply Conflicts l (Leaves (scope_of_sending q) q.asked.command q.asked.tests.now 0) p calm
+      (way_of_tally (view_of_sending q) q.asked.command q.asked.tests.now q.tally.now 0 p tally first)
+      (told_conflict (scope_of_sending q) q.known q.asked.command q.asked.tests.now l calm calms landing)
+      (λ u r w ends. subst (λ x. IsLanding q.asked.tests.now x l) (sym ends.2) landing)
 
   pub adds_fault : (l : Landing) (p : Possibilities) (quiet : Word) (sense : Sense) → slice_get q.tally.now.ways 2 ≡ Some p → AreQuiet q.known quiet
-      → ((u : UnitState) (x : Sense) → command_fault u.registry q.sender q.command ≡ Some x → x ≡ sense) → IsLanding q.tests.now (check sense) l
-      → IsAddedBy q Fails (LandsBy (view_of_sending q) q.command q.tests.now Fails) l p quiet
+      → ((u : UnitState) (x : Sense) → command_fault u.registry q.sender q.asked.command ≡ Some x → x ≡ sense) → IsLanding q.asked.tests.now (check sense) l
+      → IsAddedBy q Fails (LandsOf q Fails) l p quiet
   adds_fault l p quiet sense third quiets fixed landing =
-      by_reply Fails l (Leaves (scope_of_sending q) q.command q.tests.now 2) p quiet
-      (way_of_tally (view_of_sending q) q.command q.tests.now q.tally.now 2 p asked.tally third)
-      (told_fault (scope_of_sending q) q.known q.command q.tests.now l quiet sense quiets fixed landing)
-      (λ u r w ends. subst (λ x. IsLanding q.tests.now x l) (sym (ends.4 ∙ ap check (fixed u ends.2 ends.3))) landing)
+      by_reply Fails l (Leaves (scope_of_sending q) q.asked.command q.asked.tests.now 2) p quiet
+      (way_of_tally (view_of_sending q) q.asked.command q.asked.tests.now q.tally.now 2 p tally third)
+      (told_fault (scope_of_sending q) q.known q.asked.command q.asked.tests.now l quiet sense quiets fixed landing)
+      (λ u r w ends. subst (λ x. IsLanding q.asked.tests.now x l) (sym (ends.4 ∙ ap check (fixed u ends.2 ends.3))) landing)
 
   pub adds_good : (l : Landing) (p : Possibilities) (quiet : Word) (arm : ℕ) → slice_get q.tally.now.ways (suc (suc (suc arm))) ≡ Some p → AreQuiet q.known quiet → l ≡ landing_at arm
-      → IsAddedBy q EndsGood (LandsGood (view_of_sending q) q.command q.tests.now arm) l p quiet
+      → IsAddedBy q EndsGood (LandsGood (view_of_sending q) q.asked.command q.asked.tests.now arm) l p quiet
   adds_good l p quiet arm there quiets is_landing =
       let v = view_of_sending q in
-      let Left = Leaves (scope_of_sending q) q.command q.tests.now (suc (suc (suc arm))) in
-      let way = way_of_tally v q.command q.tests.now q.tally.now (suc (suc (suc arm))) p asked.tally there in
-      let told = told_good (scope_of_sending q) q.known q.command q.tests.now l quiet arm quiets is_landing in
+      let Left = Leaves (scope_of_sending q) q.asked.command q.asked.tests.now (suc (suc (suc arm))) in
+      let way = way_of_tally v q.asked.command q.asked.tests.now q.tally.now (suc (suc (suc arm))) p tally there in
+      let told = told_good (scope_of_sending q) q.known q.asked.command q.asked.tests.now l quiet arm quiets is_landing in
       record {
-        range = range v q.command q.tests.now EndsGood l Left p quiet way told asked.written asked.whole asked.fits.scope.own;
+        range = range v q.asked.command q.asked.tests.now EndsGood l Left p quiet way told q.asked.written q.asked.whole q.there;
         lands = λ m i.
-            let both = way_lands v q.command q.tests.now EndsGood l Left p quiet way told asked.written asked.whole asked.fits.scope.own m i in
+            let both = way_lands v q.asked.command q.asked.tests.now EndsGood l Left p quiet way told q.asked.written q.asked.whole q.there m i in
             (λ is. let so = both.0 is in (so.0 ∙ is_landing, so.1), λ is. both.1 (is.0 ∙ sym is_landing, is.1));
       }
 

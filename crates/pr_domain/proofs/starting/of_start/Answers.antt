@@ -19,8 +19,8 @@ counted g c = are_counted c.args.scenario.now c.parts-parts.result.now c.len-hos
 pub overflow_cast-hosts : goal.overflow_cast-hosts
 overflow_cast-hosts g c = let few = (counted g c).few.1 in omega arith
 
-pub starts-words-requires-clause-own : goal.starts-words-requires-clause-own
-starts-words-requires-clause-own g c = subst (λ n. c.args.own < n) (sym (counted g c).nexuses) c.requires.own
+pub invariant_of-owner-clause-there : goal.invariant_of-owner-clause-there
+invariant_of-owner-clause-there g c = subst (λ n. c.args.own < n) (sym (counted g c).nexuses) c.requires.own
 
 pub of-requires : goal.of-requires
 of-requires g c =

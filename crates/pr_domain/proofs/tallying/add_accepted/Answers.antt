@@ -21,6 +21,6 @@ pub returns : goal.returns
 returns c s c' tests asked =
     grows_as (view_in s c.args.view.now) c' tests c.args.tally.now c.add_branches.new.tally
     (IsInOne (view_in s c.args.view.now) c.args.place c.only.result c.deref.result.now (length c.deref.result.now)) (HasBoth s c.args.place c.args.registration)
-    (λ u shown one. asked_back s c' tests c.args.view.now c.args.place c.args.purpose c.args.arm c.args.registration c.only.result c.deref.result.now asked c.only.ensures (length c.deref.result.now) u shown one)
-    (λ u shown both. asked_covers s c' tests c.args.view.now c.args.place c.args.purpose c.args.arm c.args.registration c.only.result c.deref.result.now asked c.only.ensures (are c) u shown both)
-    (c.add_branches.ensures s c' tests (asked_right s c' tests c.args.view.now c.args.place c.args.purpose c.args.arm c.args.registration c.only.result c.deref.result.now asked c.only.ensures (are c) (proper c)))
+    (λ u shown one. asked_back s c' tests c.args.view.now c.args.place c.args.purpose c.args.arm.number c.args.registration c.only.result c.deref.result.now asked c.only.ensures (length c.deref.result.now) u shown one)
+    (λ u shown both. asked_covers s c' tests c.args.view.now c.args.place c.args.purpose c.args.arm.number c.args.registration c.only.result c.deref.result.now asked c.only.ensures (are c) u shown both)
+    (c.add_branches.ensures s c' tests (asked_right s c' tests c.args.view.now c.args.place c.args.purpose c.args.arm.number c.args.registration c.only.result c.deref.result.now asked c.only.ensures (are c) (proper c)))

@@ -8,7 +8,7 @@ use Rattle.pr_domain.proofs.tallying.add_branches.Given as goal
 
 abbrev pub invariant-loop-i : goal.invariant-loop-i
 invariant-loop-i l =
-    ((s : Scope) (c : Command) (tests : List Test) → AreRight s c tests l.view l.place l.senders l.branches l.arm
+    ((s : Scope) (c : Command) (tests : List Test) → AreRight s c tests l.view l.place l.senders l.branches l.arm.number
     → Grows (view_in s l.view) c tests l.initial.tally l.tally (IsInOne (view_in s l.view) l.place l.senders l.branches l.i))
     × (l.i ≤ length l.branches)
 

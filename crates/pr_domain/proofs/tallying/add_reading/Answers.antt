@@ -36,9 +36,9 @@ returns c s c' tests right =
     (IsReadAt s c.args.view.now c.args.place c.args.registration c.args.reading.now)
     (λ u shown at. read_at s c.args.view.now c.args.place c.args.registration c.only-senders.result c.args.reading.now u right.is c.only-senders.ensures at)
     (λ u shown read. at_read s c.args.view.now c.args.place c.args.registration c.only-senders.result c.args.reading.now u right.is c.only-senders.ensures shown read)
-    (c.add_branch.ensures s c' tests (reading_right s c' tests c.args.view.now c.args.place c.args.registration c.only-senders.result c.args.reading.now _ (kept c) c.way_of-way.result right c.only-senders.ensures refl refl (does c) c.way_of-way.ensures.way c.way_of-way.ensures.none))
+    (c.add_branch.ensures s c' tests (reading_right s c' tests c.args.view.now c.args.place c.args.registration c.only-senders.result c.args.reading.now _ (kept c) c.way_of-way.result.number right c.only-senders.ensures refl refl (does c) c.way_of-way.ensures.way c.way_of-way.ensures.none))
 
 pub returns-then-is_tallied : goal.returns-then-is_tallied
 returns-then-is_tallied c s c' tests right =
-    reading_there s c' tests c.args.view.now c.args.place c.args.registration c.only-senders.result c.args.reading.now c.way_of-way.result c.args.tally.now right c.only-senders.ensures c.way_of-way.ensures.way
+    reading_there s c' tests c.args.view.now c.args.place c.args.registration c.only-senders.result c.args.reading.now c.way_of-way.result.number c.args.tally.now right c.only-senders.ensures c.way_of-way.ensures.way
     c.way_of-way.ensures.none (c.is_tallied.ensures c.if-is_tallied.true s right.is (only_uniform c.args.registration c.only-senders.result c.only-senders.ensures))

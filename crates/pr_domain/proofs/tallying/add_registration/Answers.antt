@@ -32,6 +32,6 @@ returns-else-is_reading c s owners = c.add_accepted.ensures s c.args.asked.now.c
   is = owners.is;
   asks = ap (λ k. purpose_of k c.args.asked.now.command) owners.same_keys ∙ sym c.purpose_of.ensures.purpose;
   accepted = ap (λ k. is_refused (key_at k c.args.registration) c.args.asked.now.command) owners.same_keys ∙ ap (λ k. is_refused k c.args.asked.now.command) (sym c.key_at.ensures) ∙ sym c.is_refused.ensures ∙ c.if-is_refused.false;
-  taken = λ u. arm_taken c.args.asked.now.keys.now c.args.asked.now.command c.args.asked.now.tests.now c.first_arm.result c.way_of-arm.result u (sym c.is_reading.ensures ∙ c.if-is_reading.false) c.args.asked.now.fit c.args.asked.now.few
+  taken = λ u. arm_taken c.args.asked.now.keys.now c.args.asked.now.command c.args.asked.now.tests.now c.first_arm.result c.way_of-arm.result.number u (sym c.is_reading.ensures ∙ c.if-is_reading.false) c.args.asked.now.fit c.args.asked.now.few
       c.first_arm.ensures c.way_of-arm.ensures.way c.way_of-arm.ensures.none;
 })

@@ -1,9 +1,9 @@
 use Rattle.std.proofs.Common.{◌≡◌, suc, Some, rules, sym, ap, ◌∙◌}
 use Rattle.std.specs.List.{slice_get}
-use Rattle.pr_domain.specs.inside.Reporting.{IsOfWay, LandsGood, landing_at}
-use Rattle.pr_domain.specs.inside.Sendings.{scope_of_sending, view_of_sending}
+use Rattle.pr_domain.specs.inside.Reporting.{LandsGood, landing_at}
+use Rattle.pr_domain.specs.inside.Sendings.{view_of_sending, IsOfWayAt}
 use Rattle.pr_domain.proofs.lemmas.Reporting.OutcomeLists.{more_by}
-use Rattle.pr_domain.proofs.lemmas.Tallies.EndingWays.{adds_good, three_more, at_arm}
+use Rattle.pr_domain.proofs.lemmas.Tallies.EndingWays.{range_of, adds_good, three_more, at_arm}
 use Rattle.pr_domain.proofs.reporting.Sending.add_good.Goals.{then-arm-eq0, else-arm-eq0}
 use Rattle.pr_domain.proofs.reporting.Sending.add_good.Goals as goal
 
@@ -15,7 +15,7 @@ add-requires g c =
       | then-arm-eq0 w ↦ w.landing-is ∙ ap landing_at (sym w.if-arm-eq0.true)
       | else-arm-eq0 w ↦ w.landing-is ∙ at_arm c.args.arm w.if-arm-eq0.false
     ] in
-    (search rules, (c.requires.asked.fits.scope, ((adds_good q c.requires.asked c.if-arm-eq0.landing c.way.result c.quiet.result c.args.arm there c.quiet.ensures landing).range, c.requires.kept)))
+    (search rules, (range_of q c.way.result c.quiet.result (λ tally. (adds_good q tally c.if-arm-eq0.landing c.way.result c.quiet.result c.args.arm there c.quiet.ensures landing).range), c.requires.kept))
 
 pub returns-clause-more : goal.returns-clause-more
 returns-clause-more g c =
@@ -25,6 +25,7 @@ returns-clause-more g c =
       | then-arm-eq0 w ↦ w.landing-is ∙ ap landing_at (sym w.if-arm-eq0.true)
       | else-arm-eq0 w ↦ w.landing-is ∙ at_arm c.args.arm w.if-arm-eq0.false
     ] in
+    λ tally.
     more_by q.sender c.args.outcomes.now.items c.add.new.outcomes.items
-    (λ l i. (l ≡ c.if-arm-eq0.landing) × IsOfWay (scope_of_sending q) c.way.result c.quiet.result i) (LandsGood (view_of_sending q) q.command q.tests.now c.args.arm)
-    (adds_good q c.requires.asked c.if-arm-eq0.landing c.way.result c.quiet.result c.args.arm there c.quiet.ensures landing).lands c.in_ok-add.ensures.more
+    (IsOfWayAt q c.if-arm-eq0.landing c.way.result c.quiet.result) (LandsGood (view_of_sending q) q.asked.command q.asked.tests.now c.args.arm)
+    (adds_good q tally c.if-arm-eq0.landing c.way.result c.quiet.result c.args.arm there c.quiet.ensures landing).lands c.in_ok-add.ensures.more

@@ -1,26 +1,27 @@
-use Rattle.std.proofs.Common.{◌≡◌, rules}
+use Rattle.std.proofs.Common.{rules}
 use Rattle.pr_attention.specs.declared.attention.Attention.TheVariants.{PowerOn}
 use Rattle.pr_cdb.specs.declared.wire.Request.TheVariants.{Plain}
 use Rattle.pr_attention.specs.Attentions.{power_on}
 use Rattle.pr_unit.specs.Replies.{report}
-use Rattle.pr_domain.specs.inside.Reporting.{IsOfWay, LandsBy, Reports}
-use Rattle.pr_domain.specs.inside.Sendings.{scope_of_sending, view_of_sending}
+use Rattle.pr_domain.specs.inside.Reporting.{Reports}
+use Rattle.pr_domain.specs.inside.Sendings.{IsOfWayAt, LandsOf}
 use Rattle.pr_domain.proofs.lemmas.Reporting.OutcomeLists.{more_by}
-use Rattle.pr_domain.proofs.lemmas.Tallies.EndingWays.{adds_power_on, part_joined}
+use Rattle.pr_domain.proofs.lemmas.Tallies.EndingWays.{range_of, adds_power_on, part_joined}
 use Rattle.pr_domain.proofs.reporting.Sending.add_power_on.Goals as goal
 
 pub add-requires : goal.add-requires
 add-requires g c =
     let q = c.args.self.now in
     let joined = part_joined c.way-way.result c.way.result c.join.new.self c.join.ensures.registrations c.join.ensures.reservations in
-    let landing = c.landing_of-landing.ensures (report (Plain q.command) power_on) c.class_of_report-class.ensures.class (c.class_of_report-class.ensures.blind q.keys.now q.tests.now c.requires.asked.tests) in
-    (search rules, (c.requires.asked.fits.scope, ((adds_power_on q c.requires.asked c.landing_of-landing.result c.way-way.result c.way.result c.join.new.self c.after_report-pending.result c.way-way.ensures c.way.ensures joined c.after_report-pending.ensures landing).range, c.requires.kept)))
+    let landing = c.landing_of-landing.ensures (report (Plain q.asked.command) power_on) c.class_of_report-class.ensures.class (c.class_of_report-class.ensures.blind q.asked.keys.now q.asked.tests.now q.asked.fit) in
+    (search rules, (range_of q c.join.new.self c.after_report-pending.result (λ tally. (adds_power_on q tally c.landing_of-landing.result c.way-way.result c.way.result c.join.new.self c.after_report-pending.result c.way-way.ensures c.way.ensures joined c.after_report-pending.ensures landing).range), c.requires.kept))
 
 pub returns-clause-more : goal.returns-clause-more
 returns-clause-more g c =
     let q = c.args.self.now in
     let joined = part_joined c.way-way.result c.way.result c.join.new.self c.join.ensures.registrations c.join.ensures.reservations in
-    let landing = c.landing_of-landing.ensures (report (Plain q.command) power_on) c.class_of_report-class.ensures.class (c.class_of_report-class.ensures.blind q.keys.now q.tests.now c.requires.asked.tests) in
+    let landing = c.landing_of-landing.ensures (report (Plain q.asked.command) power_on) c.class_of_report-class.ensures.class (c.class_of_report-class.ensures.blind q.asked.keys.now q.asked.tests.now q.asked.fit) in
+    λ tally.
     more_by q.sender c.args.outcomes.now.items c.add.new.outcomes.items
-    (λ l i. (l ≡ c.landing_of-landing.result) × IsOfWay (scope_of_sending q) c.join.new.self c.after_report-pending.result i) (LandsBy (view_of_sending q) q.command q.tests.now (Reports PowerOn))
-    (adds_power_on q c.requires.asked c.landing_of-landing.result c.way-way.result c.way.result c.join.new.self c.after_report-pending.result c.way-way.ensures c.way.ensures joined c.after_report-pending.ensures landing).lands c.in_ok-add.ensures.more
+    (IsOfWayAt q c.landing_of-landing.result c.join.new.self c.after_report-pending.result) (LandsOf q (Reports PowerOn))
+    (adds_power_on q tally c.landing_of-landing.result c.way-way.result c.way.result c.join.new.self c.after_report-pending.result c.way-way.ensures c.way.ensures joined c.after_report-pending.ensures landing).lands c.in_ok-add.ensures.more

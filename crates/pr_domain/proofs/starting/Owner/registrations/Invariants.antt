@@ -2,11 +2,12 @@ use Rattle.std.proofs.Common.{◌≡◌, ◌<◌, ◌≤◌, ℕ, false, length}
 use Rattle.pr_cdb.specs.declared.codes.TheConstants.{MOST_NEXUSES}
 use Rattle.pr_views.specs.Portions.{has_at}
 use Rattle.pr_domain.specs.inside.Beginning.{may_have}
-use Rattle.pr_domain.proofs.starting.registrations.Given as goal
+use Rattle.pr_domain.specs.inside.Owners.{keys_of_owner}
+use Rattle.pr_domain.proofs.starting.Owner.registrations.Given as goal
 
 abbrev pub invariant-loop-host : goal.invariant-loop-host
 invariant-loop-host l = record {
-  done : (g r : ℕ) → g < l.host → has_at l.words g r ≡ may_have l.keys l.nexuses g r;
+  done : (g r : ℕ) → g < l.host → has_at l.words g r ≡ may_have (keys_of_owner l.self) l.nexuses g r;
   past : (g r : ℕ) → l.host ≤ g → has_at l.words g r ≡ false;
   size : length l.words ≡ MOST_NEXUSES;
 }

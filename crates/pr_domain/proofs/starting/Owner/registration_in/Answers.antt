@@ -1,0 +1,6 @@
+use Rattle.std.proofs.Common.{◌≤◌, length, sym, subst}
+use Rattle.pr_regions.proofs.lemmas.Showing.ScenarioParts.{few_of_parts}
+use Rattle.pr_domain.proofs.starting.Owner.registration_in.Goals as goal
+
+pub number_in-requires : goal.number_in-requires
+number_in-requires c = subst (λ keys. length keys ≤ 12) (sym c.deref.ensures.value) (few_of_parts c.args.self.now.parts.now c.args.self.now.fits)

@@ -1,7 +1,0 @@
-use Rattle.std.proofs.Common.{◌≡◌, ℕ, take}
-use Rattle.pr_sets.specs.Words.{has}
-use Rattle.pr_domain.specs.inside.Beginning.{has_alternative}
-use Rattle.pr_domain.proofs.starting.registrations_of.Given as goal
-
-abbrev pub invariant-loop-key : goal.invariant-loop-key
-invariant-loop-key l = (r : ℕ) → has l.numbers r ≡ has_alternative l.keys (take l.key-index l.alternatives) r
