@@ -1,3 +1,4 @@
+pub mod Bounds
 pub mod Clauses
 pub mod Closing
 pub mod Interfering

@@ -1,13 +1,13 @@
 //! What a command gives, removes and tells at most.
 
-ghost use Rattle.std.specs.Prelude.{◌≡◌, ◌≤◌, ◌||◌, ◌&&◌, ℕ, Some, None, true};
-ghost use Rattle.pr_registry.specs.Registrations.{new_reservation, holds_alone, is_for_registrants as is_for_registrants_as};
+ghost use Rattle.std.specs.Prelude.{◌≡◌, ◌≤◌, ◌||◌, ◌&&◌, Some, None, true};
+ghost use Rattle.pr_registry.specs.Registrations.{holds_alone, is_for_registrants as is_for_registrants_as};
 ghost use Rattle.pr_registry.specs.Changes.{is_held_by_all, is_told_of_loss};
 ghost use Rattle.pr_roles.specs.declared.limits.TheConstants.{MOST_KEYS};
 ghost use Rattle.pr_sets.specs.Words.{has};
 ghost use Rattle.pr_sets.specs.Wides.{has_wide};
-ghost use Rattle.pr_views.specs.Possibilities.{number_of};
 ghost use Rattle.pr_interference.specs.inside.Reaching.{IsWider};
+ghost use Rattle.pr_interference.specs.inside.Bounds.{HasEachKey, HasNew};
 
 use pr_cdb::Kind;
 use pr_regions::{Place, every_key, reservation_number};
@@ -77,8 +77,7 @@ impl Reach {
         ensures ended { (holds_alone place.now.held place.now.sender
             || is_held_by_all place.now.held) ≡ true → has_wide result.reservations 0 ≡ true }
         ensures told { (holds_alone place.now.held place.now.sender
-            && is_told_of_loss place.now.held) ≡ true → (r : ℕ) → 1 ≤ r → r ≤ MOST_KEYS
-            → has result.told_04 r ≡ true }
+            && is_told_of_loss place.now.held) ≡ true → HasEachKey result.told_04 }
     {
         let going = Reach {
             given: none_alone(),
@@ -100,8 +99,8 @@ impl Reach {
 
     /// To establish a reservation of this type.
     pub(crate) fn of_reserving(place: &Place, kind: Kind) -> Reach
-        ensures { place.now.held ≡ None → has_wide result.reservations
-            (number_of place.now.hosts (Some (new_reservation kind place.now.sender))) ≡ true }
+        ensures { place.now.held ≡ None → HasNew place.now.hosts kind place.now.sender
+            result.reservations }
     {
         match place.held {
             None => Reach {
@@ -117,8 +116,8 @@ impl Reach {
         ensures ended { (holds_alone place.now.held place.now.sender
             || is_held_by_all place.now.held) ≡ true → has_wide result.reservations 0 ≡ true }
         ensures told { ((holds_alone place.now.held place.now.sender
-            || is_held_by_all place.now.held) && is_told_of_loss place.now.held) ≡ true → (r : ℕ)
-            → 1 ≤ r → r ≤ MOST_KEYS → has result.told_04 r ≡ true }
+            || is_held_by_all place.now.held) && is_told_of_loss place.now.held) ≡ true
+            → HasEachKey result.told_04 }
     {
         match place.held {
             Some(Held::One(kind, holder)) if holder == place.sender => Reach {
@@ -138,9 +137,9 @@ impl Reach {
     /// To remove the reservation and every registration.
     pub(crate) fn of_clearing() -> Reach
         ensures given { has result.given 0 ≡ true }
-        ensures removed { (r : ℕ) → 1 ≤ r → r ≤ MOST_KEYS → has result.removed r ≡ true }
+        ensures removed { HasEachKey result.removed }
         ensures reservations { has_wide result.reservations 0 ≡ true }
-        ensures told { (r : ℕ) → 1 ≤ r → r ≤ MOST_KEYS → has result.told_03 r ≡ true }
+        ensures told { HasEachKey result.told_03 }
     {
         Reach {
             given: none_alone(),
@@ -153,13 +152,10 @@ impl Reach {
 
     /// To preempt all others, where all registrants hold.
     pub(crate) fn of_preempting_all(place: &Place, kind: Kind) -> Reach
-        ensures removed { is_held_by_all place.now.held ≡ true → (r : ℕ) → 1 ≤ r → r ≤ MOST_KEYS
-            → has result.removed r ≡ true }
+        ensures removed { is_held_by_all place.now.held ≡ true → HasEachKey result.removed }
         ensures reservations { is_held_by_all place.now.held ≡ true
-            → has_wide result.reservations
-            (number_of place.now.hosts (Some (new_reservation kind place.now.sender))) ≡ true }
-        ensures told { is_held_by_all place.now.held ≡ true → (r : ℕ) → 1 ≤ r → r ≤ MOST_KEYS
-            → has result.told_05 r ≡ true }
+            → HasNew place.now.hosts kind place.now.sender result.reservations }
+        ensures told { is_held_by_all place.now.held ≡ true → HasEachKey result.told_05 }
     {
         match place.held {
             Some(Held::All(_)) => Reach {
@@ -175,8 +171,7 @@ impl Reach {
 
 /// The reservation of this type that the sender of the place establishes.
 pub(crate) fn new_reservation_at(place: &Place, kind: Kind) -> Wide
-    ensures { has_wide result (number_of place.now.hosts
-        (Some (new_reservation kind place.now.sender))) ≡ true }
+    ensures { HasNew place.now.hosts kind place.now.sender result }
 {
     let held = if is_all(kind) {
         Held::All(kind)
@@ -202,8 +197,7 @@ pub(crate) fn no_reservation() -> Wide
 
 // With which registrations others are told of the loss of a reservation of this type.
 fn those_told(kind: Kind) -> Word
-    ensures { is_for_registrants_as kind ≡ true → (r : ℕ) → 1 ≤ r → r ≤ MOST_KEYS
-        → has result r ≡ true }
+    ensures { is_for_registrants_as kind ≡ true → HasEachKey result }
 {
     match kind {
         Kind::WriteExclusive | Kind::ExclusiveAccess => Word::none(),

@@ -3,7 +3,6 @@
 ghost use Rattle.std.specs.Prelude.{◌≡◌, ◌≢◌, ◌<◌, ◌≤◌, ◌==◌, ◌&&◌, ◌||◌, ℕ, Some, true, false, length, bit_or, IsTrue};
 ghost use Rattle.pr_cdb.specs.declared.command.Kind.{Kind as KindOf};
 ghost use Rattle.pr_registry.specs.declared.held.Held.TheVariants.{One};
-ghost use Rattle.pr_registry.specs.Registrations.{new_reservation};
 ghost use Rattle.pr_registry.specs.Changes.{is_kind, is_held_by_all};
 ghost use Rattle.pr_roles.specs.declared.limits.TheConstants.{MOST_KEYS};
 ghost use Rattle.pr_roles.specs.declared.role.Clause.{Clause as ClauseOf};
@@ -11,12 +10,13 @@ ghost use Rattle.pr_roles.specs.Fitting.{is_action};
 ghost use Rattle.pr_sets.specs.Words.{has};
 ghost use Rattle.pr_sets.specs.Wides.{has_wide};
 ghost use Rattle.pr_views.specs.declared.view.TheConstants.{ATTENTION_SETS};
-ghost use Rattle.pr_views.specs.Possibilities.{Scope, number_of};
+ghost use Rattle.pr_views.specs.Possibilities.{Scope};
 ghost use Rattle.pr_views.specs.Portions.{has_at};
 ghost use Rattle.pr_regions.specs.Purposes.{number_in};
 ghost use Rattle.pr_interference.specs.inside.Clauses.{IsClause};
 ghost use Rattle.pr_interference.specs.inside.Interfering.{IsOnlooking, IsWatched};
 ghost use Rattle.pr_interference.specs.inside.Reaching.{IsReach, IsReachAt, IsMost, IsTold, MayAllGo, number_named};
+ghost use Rattle.pr_interference.specs.inside.Bounds.{HasEachKeyBut, HasNew};
 
 use crate::clauses::holds;
 use crate::marking::attentions_with;
@@ -105,11 +105,10 @@ impl Onlooker {
         ensures removed { has result.removed key ≡ true }
         ensures replaced { (old : KindOf) (holder : ℕ) → place.now.held ≡ Some (One old holder)
             → has_at self.now.view.registrations holder key ≡ true
-            → has_wide result.reservations
-            (number_of place.now.hosts (Some (new_reservation kind place.now.sender))) ≡ true }
+            → HasNew place.now.hosts kind place.now.sender result.reservations }
         ensures told_04 { (old : KindOf) (holder : ℕ) → place.now.held ≡ Some (One old holder)
             → has_at self.now.view.registrations holder key ≡ true → is_kind old kind ≡ false
-            → (r : ℕ) → 1 ≤ r → r ≤ MOST_KEYS → r ≢ key → has result.told_04 r ≡ true }
+            → HasEachKeyBut key result.told_04 }
         ensures told_05 { has result.told_05 key ≡ true }
     {
         let named = Word::only(key);
@@ -249,8 +248,7 @@ fn no_reservation_if(is: bool) -> Wide
 // With which registrations others are told that a reservation was released which one of another type replaced.
 fn told_of_another(old: Kind, kind: Kind, key: u8) -> Word
     requires { key ≤ MOST_KEYS }
-    ensures { is_kind old kind ≡ false → (r : ℕ) → 1 ≤ r → r ≤ MOST_KEYS → r ≢ key
-        → has result r ≡ true }
+    ensures { is_kind old kind ≡ false → HasEachKeyBut key result }
 {
     if old == kind {
         Word::none()

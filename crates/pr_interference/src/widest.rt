@@ -16,6 +16,7 @@ ghost use Rattle.pr_views.specs.Portions.{has_at};
 ghost use Rattle.pr_interference.specs.inside.Clauses.{IsClause};
 ghost use Rattle.pr_interference.specs.inside.Interfering.{IsOnlooking};
 ghost use Rattle.pr_interference.specs.inside.Reaching.{IsReach, AreOfOneType};
+ghost use Rattle.pr_interference.specs.inside.Bounds.{HasEachKey, HasEachKeyBut, HasNew};
 
 use crate::onlooker::Onlooker;
 use crate::reach::{Reach, no_reservation, none_alone};
@@ -54,8 +55,7 @@ impl Onlooker {
 
     // To establish a reservation.
     fn widest_of_reserving(&self, kind: Kind) -> Reach
-        ensures { has_wide result.reservations
-            (number_of self.now.hosts (Some (new_reservation kind self.now.other))) ≡ true }
+        ensures { HasNew self.now.hosts kind self.now.other result.reservations }
     {
         Reach {
             reservations: self.established(kind),
@@ -65,10 +65,9 @@ impl Onlooker {
 
     // To preempt all others.
     fn widest_of_preempting_all(&self, kind: Kind) -> Reach
-        ensures removed { (r : ℕ) → 1 ≤ r → r ≤ MOST_KEYS → has result.removed r ≡ true }
-        ensures reservations { has_wide result.reservations
-            (number_of self.now.hosts (Some (new_reservation kind self.now.other))) ≡ true }
-        ensures told { (r : ℕ) → 1 ≤ r → r ≤ MOST_KEYS → has result.told_05 r ≡ true }
+        ensures removed { HasEachKey result.removed }
+        ensures reservations { HasNew self.now.hosts kind self.now.other result.reservations }
+        ensures told { HasEachKey result.told_05 }
     {
         Reach {
             removed: every_key(),
@@ -87,13 +86,11 @@ impl Onlooker {
             → has_wide self.now.view.reservations (number_of self.now.hosts (Some (All t))) ≡ true
             → has_wide result.reservations 0 ≡ true }
         ensures removed { has result.removed key ≡ true }
-        ensures replaced { has_wide result.reservations
-            (number_of self.now.hosts (Some (new_reservation kind self.now.other))) ≡ true }
+        ensures replaced { HasNew self.now.hosts kind self.now.other result.reservations }
         ensures told_04 { (old : KindOf) (holder : ℕ)
             → is_reservation self.now.hosts (Some (One old holder)) ≡ true
             → has_wide self.now.view.reservations (number_of self.now.hosts (Some (One old holder)))
-            ≡ true → is_kind old kind ≡ false → (r : ℕ) → 1 ≤ r → r ≤ MOST_KEYS → r ≢ key
-            → has result.told_04 r ≡ true }
+            ≡ true → is_kind old kind ≡ false → HasEachKeyBut key result.told_04 }
         ensures told_05 { has result.told_05 key ≡ true }
     {
         let named = Word::only(key);
@@ -113,8 +110,7 @@ impl Onlooker {
 
     // The reservation of this type that the other establishes, and none where one of all registrants may end.
     fn established_or_ended(&self, kind: Kind) -> Wide
-        ensures established { has_wide result
-            (number_of self.now.hosts (Some (new_reservation kind self.now.other))) ≡ true }
+        ensures established { HasNew self.now.hosts kind self.now.other result }
         ensures ended { (t : KindOf) → is_all t ≡ true
             → has_wide self.now.view.reservations (number_of self.now.hosts (Some (All t))) ≡ true
             → has_wide result 0 ≡ true }
@@ -129,8 +125,7 @@ impl Onlooker {
 
     // The reservation of this type that the other establishes.
     fn established(&self, kind: Kind) -> Wide
-        ensures { has_wide result (number_of self.now.hosts
-            (Some (new_reservation kind self.now.other))) ≡ true }
+        ensures { HasNew self.now.hosts kind self.now.other result }
     {
         Wide::only(reservation_number(self.hosts, Some(new_reservation(kind, self.other))))
     }
@@ -162,7 +157,7 @@ impl Onlooker {
 fn widest_of_losing() -> Reach
     ensures given { has result.given 0 ≡ true }
     ensures ended { has_wide result.reservations 0 ≡ true }
-    ensures told { (r : ℕ) → 1 ≤ r → r ≤ MOST_KEYS → has result.told_04 r ≡ true }
+    ensures told { HasEachKey result.told_04 }
 {
     Reach {
         given: none_alone(),
