@@ -1,8 +1,5 @@
-use Rattle.std.proofs.Common.{◌≡◌, refl, ◌∙◌}
-use Rattle.pr_views.specs.Portions.{view_in}
-use Rattle.pr_views.specs.Rooms.{scope_of, view_of}
+use Rattle.pr_interference.proofs.Common.{◌≡◌, refl, ◌∙◌, view_in, scope_of, view_of, if_ok, same_views}
 use Rattle.pr_interference.proofs.lemmas.Interference.AlikeViews.{interference_same}
-use Rattle.pr_regions.proofs.lemmas.Showing.AlikeViews.{same_views, if_ok}
 use Rattle.pr_interference.proofs.interference.interfere.Goals as goal
 
 pub returns-clause-interference : goal.returns-clause-interference

@@ -1,9 +1,4 @@
-use Rattle.std.proofs.Common.{refl, sym, subst}
-use Rattle.pr_views.specs.Views.{Fits}
-use Rattle.pr_views.specs.Portions.{view_in}
-use Rattle.pr_views.specs.Rooms.{scope_of, view_of}
-use Rattle.pr_views.proofs.lemmas.Views.Values.{words_fit}
-use Rattle.pr_interference.specs.Interference.{IsInterference}
+use Rattle.pr_interference.proofs.Common.{sym, refl, subst, view_in, scope_of, view_of, Fits, words_fit, IsInterference}
 use Rattle.pr_interference.proofs.lemmas.Interference.AlikeViews.{interference_same, left_in_range}
 use Rattle.pr_interference.proofs.interference.left_by.Goals as goal
 

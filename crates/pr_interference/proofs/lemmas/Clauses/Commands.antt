@@ -1,33 +1,17 @@
 -- What a command that a clause names asks for, and a command of each clause.
-use Rattle.std.proofs.Common.{◌≡◌, ℕ, Bool, true, false, ◌==◌, ◌&&◌, if◌then◌else◌, List, Option, Some, None, option_map, refl, sym, ap, ◌∙◌, subst, inl, inr, ◌⊎◌, arith}
+use Rattle.pr_interference.proofs.Common.{◌≡◌, ℕ, Bool, true, false, ◌&&◌, ◌⊎◌, List, if◌then◌else◌, ◌==◌, Some, None, Option, option_map, sym, refl, ap, ◌∙◌, subst, inl, inr, arith, false≢true, and_parts, nat_tests, Command, Kind, Plain, is_kind, is_told_of_loss, kind_of, IsKey, Held, request_looks, UnitState, effect, is_declared, is_action, AreDeclared, names, Action, number_in, purpose_of_preempt, purpose_of, Purpose, Register, Unregister, Reserve, Release, Clear, is_pending_after, contains-told, IsLike, purpose_for}
 use Rattle.std.specs.FinSet as set
-use Rattle.std.proofs.lemmas.Bool.{and_parts, false≢true}
-use Rattle.std.proofs.lemmas.Bool.Decides.{nat_tests}
-use Rattle.pr_cdb.specs.declared.command.Kind.{Kind}
 use Rattle.pr_cdb.specs.declared.command.Kind.TheVariants.{WriteExclusive}
-use Rattle.pr_cdb.specs.declared.command.Command.{Command}
 use Rattle.pr_cdb.specs.declared.command.Command.TheVariants as command
-use Rattle.pr_cdb.specs.declared.wire.Request.TheVariants.{Plain}
 use Rattle.pr_cdb.specs.Kinds.{code_of, kind_of_code}
-use Rattle.pr_registry.specs.declared.held.Held.{Held}
 use Rattle.pr_registry.specs.Hosts.{Hosts, nobody}
-use Rattle.pr_registry.specs.Registrations.{IsKey, others, is_holder, kind_of}
-use Rattle.pr_registry.specs.Changes.{no_change, is_kind, is_held_as, is_released, is_told_of_loss}
+use Rattle.pr_registry.specs.Registrations.{others, is_holder}
+use Rattle.pr_registry.specs.Changes.{no_change, is_held_as, is_released}
 use Rattle.pr_registry.proofs.lemmas.Sets.{contains-nobody}
-use Rattle.pr_unit.specs.UnitStates.{UnitState, effect}
-use Rattle.pr_unit.specs.Laws.{request_looks}
-use Rattle.pr_roles.specs.declared.role.Action.{Action}
 use Rattle.pr_roles.specs.declared.role.Action.TheVariants as action
-use Rattle.pr_roles.specs.Permits.{names, is_preempting}
-use Rattle.pr_roles.specs.Fitting.{AreDeclared, is_action}
-use Rattle.pr_script.specs.Grammar.{is_declared}
-use Rattle.pr_regions.specs.declared.purpose.Purpose.{Purpose}
-use Rattle.pr_regions.specs.declared.purpose.Purpose.TheVariants.{Register, Unregister, Reserve, Release, Clear}
-use Rattle.pr_regions.specs.Purposes.{number_in, purpose_of_register, purpose_of_preempt, purpose_of}
-use Rattle.pr_regions.proofs.lemmas.Regions.ToldAttentions.{contains-told, is_pending_after}
-use Rattle.pr_interference.specs.inside.Clauses.{purpose_for}
+use Rattle.pr_roles.specs.Permits.{is_preempting}
+use Rattle.pr_regions.specs.Purposes.{purpose_of_register}
 use Rattle.pr_interference.proofs.lemmas.Interference.Conduct.{any_found}
-use Rattle.pr_regions.proofs.lemmas.Showing.AlikeStates.{IsLike}
 
 -- ---- types and keys
 

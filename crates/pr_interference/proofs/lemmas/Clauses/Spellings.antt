@@ -1,29 +1,18 @@
 -- A command of each clause, with the sender's own key; and which commands are refused for their key.
-use Rattle.std.proofs.Common.{◌≡◌, ℕ, ◌<◌, ◌^◌, Bool, true, false, ◌==◌, ◌&&◌, ◌||◌, not, if◌then◌else◌, List, Option, Some, None, refl, sym, ap, ◌∙◌, subst, arith, lit<}
-use Rattle.std.proofs.lemmas.Bool.{and_from, false≢true}
-use Rattle.std.proofs.lemmas.Bool.Decides.{nat_tests}
-use Rattle.pr_cdb.specs.declared.command.Kind.{Kind}
-use Rattle.pr_cdb.specs.declared.command.Command.{Command}
+use Rattle.pr_interference.proofs.Common.{◌≡◌, ℕ, ◌<◌, Bool, true, false, not, ◌&&◌, ◌||◌, List, if◌then◌else◌, ◌==◌, Some, None, Option, sym, refl, ap, ◌∙◌, subst, arith, false≢true, and_from, nat_tests, Command, Kind, Plain, is_kind, State, key_of, kind_of, IsKey, Held, request_looks, is_declared, is_action, AreDeclared, names, Action, number_in, purpose_of_preempt, purpose_of, Purpose, Register, Unregister, Reserve, Release, Clear, PreemptAll, Preempt, purpose_for}
+use Rattle.std.proofs.Common.{◌^◌, lit<}
 use Rattle.pr_cdb.specs.declared.command.Command.TheVariants as command
-use Rattle.pr_cdb.specs.declared.wire.Request.TheVariants.{Plain}
 use Rattle.pr_cdb.specs.Kinds.{code_of}
 use Rattle.pr_cdb.specs.Ranges.{Fits}
-use Rattle.pr_registry.specs.declared.held.Held.{Held}
-use Rattle.pr_registry.specs.Registrations.{State, IsKey, key_of, kind_of}
-use Rattle.pr_registry.specs.Changes.{is_kind, conflicts_with_reserve}
+use Rattle.pr_registry.specs.Changes.{conflicts_with_reserve}
 use Rattle.pr_registry.specs.Hosts.{has_no_registrant}
 use Rattle.pr_unit.specs.Conflicts.{lacks_key, command_conflicts}
-use Rattle.pr_unit.specs.Laws.{request_looks}
-use Rattle.pr_roles.specs.declared.role.Action.{Action}
 use Rattle.pr_roles.specs.declared.role.Action.TheVariants as action
-use Rattle.pr_roles.specs.Permits.{names}
-use Rattle.pr_roles.specs.Fitting.{AreDeclared, is_action}
-use Rattle.pr_script.specs.Grammar.{is_declared, is_written_key}
-use Rattle.pr_regions.specs.declared.purpose.Purpose.{Purpose}
+use Rattle.pr_script.specs.Grammar.{is_written_key}
 use Rattle.pr_regions.specs.declared.purpose.Purpose.TheVariants as purpose
-use Rattle.pr_regions.specs.declared.purpose.Purpose.TheVariants.{Look, Register, Unregister, Reserve, Release, Clear, PreemptAll, Preempt}
-use Rattle.pr_regions.specs.Purposes.{number_in, purpose_of_register, purpose_of_preempt, purpose_of, is_refused, is_in_range}
-use Rattle.pr_interference.specs.inside.Clauses.{purpose_for, refuses_strangers}
+use Rattle.pr_regions.specs.declared.purpose.Purpose.TheVariants.{Look}
+use Rattle.pr_regions.specs.Purposes.{purpose_of_register, is_refused, is_in_range}
+use Rattle.pr_interference.specs.inside.Clauses.{refuses_strangers}
 use Rattle.pr_interference.proofs.lemmas.Clauses.Commands.{declared_key, registers_key}
 
 same_number : (a b : ℕ) → (a == b) ≡ true → a ≡ b

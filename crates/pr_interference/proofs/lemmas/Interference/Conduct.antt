@@ -1,26 +1,17 @@
 -- What others do that ends GOOD: it looks, or a clause permits it and it has its effect.
-use Rattle.std.proofs.Common.{◌≡◌, ◌≢◌, ℕ, zero, suc, ◌<◌, Bool, true, false, ◌||◌, IsTrue, List, [], ◌∷◌, length, slice_index_or, refl, ap, ◌∙◌, subst, inl, inr, ◌⊎◌, arith}
+use Rattle.pr_interference.proofs.Common.{◌≡◌, ℕ, zero, suc, ◌<◌, Bool, true, false, ◌||◌, ◌≢◌, ◌⊎◌, List, [], ◌∷◌, length, slice_index_or, refl, ap, ◌∙◌, subst, inl, inr, arith, false≢true, Command, Plain, request_looks, UnitState, effect, Clause, Item, IsSo, View, Shows, IsLike, so_like, IsDone, IsLeft, Among, ClauseLeaves}
+use Rattle.std.proofs.Common.{IsTrue, Ok}
 use Rattle.std.specs.List.{list_any}
-use Rattle.std.proofs.lemmas.Bool.{false≢true}
-use Rattle.pr_cdb.specs.declared.command.Command.{Command}
 use Rattle.pr_cdb.specs.declared.command.Command.TheVariants as command
 use Rattle.pr_cdb.specs.declared.wire.Request.{Request}
-use Rattle.pr_cdb.specs.declared.wire.Request.TheVariants.{Plain, Faulty}
+use Rattle.pr_cdb.specs.declared.wire.Request.TheVariants.{Faulty}
 use Rattle.pr_cdb.specs.Ranges.{FitsWhereRead}
-use Rattle.std.specs.Prelude.{Ok}
-use Rattle.pr_unit.specs.UnitStates.{UnitState, effect}
 use Rattle.pr_unit.specs.Replies.{good, is_request_sense, data_of}
 use Rattle.pr_unit.specs.Steps.{Step}
-use Rattle.pr_unit.specs.Laws.{request_looks}
 use Rattle.pr_unit.proofs.lemmas.TakenSteps.GoodSteps.{good_effect, good_step}
 use Rattle.pr_unit.proofs.lemmas.Steps.QuietSteps.{quiet_steps}
-use Rattle.pr_roles.specs.declared.role.Clause.{Clause}
 use Rattle.pr_roles.specs.Permits.{is_always_permitted, clause_permits, command_permitted, is_permitted}
-use Rattle.pr_views.specs.Possibilities.{Item, IsSo}
-use Rattle.pr_views.specs.Views.{View, Shows}
-use Rattle.pr_interference.specs.Interference.{IsDone, IsLeft}
-use Rattle.pr_interference.specs.inside.Interfering.{Among, ClauseLeads, ClauseLeaves}
-use Rattle.pr_regions.proofs.lemmas.Showing.AlikeStates.{IsLike, so_like}
+use Rattle.pr_interference.specs.inside.Interfering.{ClauseLeads}
 use Rattle.pr_interference.proofs.lemmas.Interference.PendingStates.{like_through, quiet_like, shown_like, like_effect, cleared, formed_cleared, like_cleared, none_cleared}
 
 -- ---- the clause that permits

@@ -1,20 +1,13 @@
 -- States that differ in what is pending for one nexus alone: views of the others show them alike.
-use Rattle.std.proofs.Common.{◌≡◌, ◌≢◌, ℕ, Bool, true, false, ◌==◌, ◌&&◌, ◌||◌, not, refl, sym, ap, ◌∙◌, arith}
+use Rattle.pr_interference.proofs.Common.{◌≡◌, ℕ, Bool, true, false, not, ◌&&◌, ◌||◌, ◌≢◌, ◌==◌, sym, refl, ap, ◌∙◌, arith, nat_tests, Command, State, UnitState, effect, Registration, Reservation, Attentions, View, Shows, is_pending_after, contains-told, IsLike, so_like}
 use Rattle.std.specs.FinSet as set
-use Rattle.std.proofs.lemmas.Bool.Decides.{nat_tests}
-use Rattle.pr_cdb.specs.declared.command.Command.{Command}
 use Rattle.pr_attention.specs.Attentions.{power_on, reservations_preempted, reservations_released, registrations_preempted}
-use Rattle.pr_registry.specs.Registrations.{State}
 use Rattle.pr_registry.specs.Effects.{after, change}
 use Rattle.pr_unit.specs.Attentions.{Pairs}
-use Rattle.pr_unit.specs.UnitStates.{UnitState, IsWellFormed, is_any_pending, pending_after, effect, after_report}
+use Rattle.pr_unit.specs.UnitStates.{IsWellFormed, is_any_pending, pending_after, after_report}
 use Rattle.pr_unit.specs.Laws.{IsQuiet}
 use Rattle.pr_unit.proofs.lemmas.Attentions.Pairs.{contains-remove-pair}
-use Rattle.pr_views.specs.Possibilities.{Registration, Reservation, Attentions}
-use Rattle.pr_views.specs.Views.{View, Shows}
-use Rattle.pr_regions.proofs.lemmas.Regions.ToldAttentions.{contains-told, is_pending_after}
 use Rattle.pr_unit.proofs.lemmas.Steps.WellFormedSteps.{well_formed-reported}
-use Rattle.pr_regions.proofs.lemmas.Showing.AlikeStates.{IsLike, so_like}
 
 pub like_through : (own : ℕ) (u v w : UnitState) → IsLike own u v → IsLike own v w → IsLike own u w
 like_through own u v w first second = record {

@@ -1,23 +1,9 @@
 -- What is added to possibilities, step by step.
-use Rattle.std.proofs.Common.{◌≡◌, ◌≢◌, ℕ, ◌+◌, ◌<◌, true, false, ◌==◌, List, length, slice_index_or, sym, ap, ◌∙◌, subst, inl, inr, ◌⊎◌, arith}
-use Rattle.std.proofs.lemmas.Bool.Decides.{eqb_tells}
-use Rattle.std.proofs.lemmas.List.{get_or_default}
-use Rattle.pr_unit.specs.UnitStates.{UnitState}
-use Rattle.pr_sets.specs.declared.word.Word.{Word}
-use Rattle.pr_views.specs.declared.possibilities.Possibilities.{Possibilities}
-use Rattle.pr_views.specs.Possibilities.{Scope, Item}
-use Rattle.pr_views.specs.Views.{IsPossible}
-use Rattle.pr_views.specs.Portions.{view_in}
+use Rattle.pr_interference.proofs.Common.{◌≡◌, ℕ, ◌+◌, ◌<◌, true, false, ◌≢◌, ◌⊎◌, List, length, ◌==◌, slice_index_or, sym, ap, ◌∙◌, subst, inl, inr, arith, eqb_tells, get_or_default, Word, UnitState, view_in, Scope, Item, IsPossible, Possibilities, IsAt, Changes, Place, Branch, Change, Adds, adds_both, IsJoined, Among, IsLedBy, IsLeftBy}
 use Rattle.pr_regions.specs.declared.region.Region.{Region}
-use Rattle.pr_regions.specs.declared.region.Change.{Change}
 use Rattle.pr_regions.specs.declared.region.Ending.TheVariants as ending
-use Rattle.pr_regions.specs.declared.region.Branch.{Branch}
-use Rattle.pr_regions.specs.Regions.{Changes}
-use Rattle.pr_regions.specs.declared.place.Place.{Place}
-use Rattle.pr_regions.specs.Gathering.{IsAt}
-use Rattle.pr_regions.specs.inside.Adding.{Adds}
-use Rattle.pr_interference.specs.inside.Interfering.{Among, IsAfter, IsChanged, IsLedBy, IsLeftBy}
-use Rattle.pr_regions.proofs.lemmas.Keeping.Additions.{grown, adds_both, IsJoined, joined_old, joined_other, joined_either}
+use Rattle.pr_interference.specs.inside.Interfering.{IsAfter, IsChanged}
+use Rattle.pr_regions.proofs.lemmas.Keeping.Additions.{grown, joined_old, joined_other, joined_either}
 
 -- the same, said otherwise
 pub adds_so : (s : Scope) (p q : Possibilities) (L M : UnitState → UnitState → Type 0) (V W : Item → Type 0) → Adds s p q L V

@@ -1,28 +1,13 @@
 -- What is possible after a change, from what is gathered before it.
-use Rattle.std.proofs.Common.{◌≡◌, ◌≢◌, ℕ, ◌<◌, ◌≤◌, true, false, ◌==◌, List, unwrap_or, sym, ◌∙◌, subst, inl, inr, ◌⊎◌, arith}
-use Rattle.std.proofs.lemmas.Bool.Decides.{nat_tests, eqb_tells}
-use Rattle.pr_cdb.specs.declared.codes.TheConstants.{MOST_NEXUSES}
-use Rattle.pr_unit.specs.UnitStates.{UnitState}
-use Rattle.pr_sets.specs.declared.word.Word.{Word}
-use Rattle.pr_sets.specs.Words.{has}
-use Rattle.pr_sets.specs.Wides.{has_wide}
-use Rattle.pr_views.specs.declared.possibilities.Possibilities.{Possibilities}
-use Rattle.pr_views.specs.Possibilities.{Scope, Item, Registration, Reservation, Attentions, IsSo}
-use Rattle.pr_views.specs.Views.{IsPossible}
-use Rattle.pr_views.specs.Portions.{has_at, view_in}
-use Rattle.pr_views.proofs.lemmas.Possibilities.Numbers.{one_registration, one_attentions}
+use Rattle.pr_interference.proofs.Common.{◌≡◌, ℕ, ◌<◌, ◌≤◌, true, false, ◌≢◌, ◌⊎◌, List, ◌==◌, sym, ◌∙◌, subst, inl, inr, arith, eqb_tells, nat_tests, has_wide, has, Word, MOST_NEXUSES, UnitState, has_at, view_in, Scope, Item, Registration, Reservation, Attentions, IsSo, IsPossible, Possibilities, one_registration, one_attentions, IsAt, IsImage, Changes, Place, Change, Allows, few_keys, Onlooker, IsWatched}
+use Rattle.std.proofs.Common.{unwrap_or}
 use Rattle.pr_regions.specs.declared.region.Region.{Region}
-use Rattle.pr_regions.specs.declared.region.Change.{Change}
-use Rattle.pr_regions.specs.Regions.{Changes, told_number}
-use Rattle.pr_regions.specs.declared.place.Place.{Place}
-use Rattle.pr_interference.specs.declared.onlooker.Onlooker.{Onlooker}
-use Rattle.pr_regions.specs.Gathering.{IsAt, IsGathered}
-use Rattle.pr_regions.specs.Images.{IsImage, becomes}
+use Rattle.pr_regions.specs.Regions.{told_number}
+use Rattle.pr_regions.specs.Gathering.{IsGathered}
+use Rattle.pr_regions.specs.Images.{becomes}
 use Rattle.pr_interference.specs.inside.Marks.{AreTold}
-use Rattle.pr_interference.specs.inside.Interfering.{IsWatched, IsChanged, IsAfter}
-use Rattle.pr_regions.specs.inside.Adding.{Allows}
+use Rattle.pr_interference.specs.inside.Interfering.{IsChanged, IsAfter}
 use Rattle.pr_interference.proofs.lemmas.Marks.Images.{first_from, first_parts}
-use Rattle.pr_regions.proofs.lemmas.Portions.GatheredStates.{few_keys}
 
 -- what becomes of a registration
 pub becomes_so : (s : Scope) (sender : ℕ) (c : Change) (u w : UnitState) (g r : ℕ) → Changes s sender c u w → IsSo s u (Registration g r) → IsSo s w (Registration g (becomes sender c g r))

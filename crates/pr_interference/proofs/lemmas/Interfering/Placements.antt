@@ -1,35 +1,16 @@
 -- What a clause leads to under one reservation, whatever its sender's standing.
-use Rattle.std.proofs.Common.{◌≡◌, ℕ, suc, ◌+◌, ◌<◌, ◌≤◌, Bool, true, false, ◌==◌, ◌||◌, if◌then◌else◌, List, [], ◌∷◌, length, Option, Some, None, refl, sym, ap, ◌∙◌, subst, cond, inl, inr, ◌⊎◌, arith}
+use Rattle.pr_interference.proofs.Common.{◌≡◌, ℕ, suc, ◌+◌, ◌<◌, ◌≤◌, Bool, true, false, ◌||◌, ◌⊎◌, List, [], ◌∷◌, length, if◌then◌else◌, ◌==◌, Some, None, Option, sym, refl, ap, ◌∙◌, subst, inl, inr, arith, false≢true, kind_of, Held, UnitState, is_declared, is_action, Action, Clause, view_in, Scope, Item, Registration, IsSo, Possibilities, one_registration, number_in, purpose_of_preempt, Place, Purpose, Register, Unregister, Reserve, Release, Clear, PreemptAll, Preempt, Adds, adds_both, same_reservation, Onlooker, purpose_for, StandingLeads, PlaceLeads, IsWatched}
+use Rattle.std.proofs.Common.{cond}
 use Rattle.std.specs.List.{list_any, position_from}
 use Rattle.std.specs.Option.{option_map_or}
-use Rattle.std.proofs.lemmas.Bool.{false≢true}
 use Rattle.std.proofs.lemmas.List.Quantifiers.{position-Some}
 use Rattle.std.proofs.lemmas.Iterator.Adapters.{position_from-zero}
-use Rattle.pr_registry.specs.declared.held.Held.{Held}
-use Rattle.pr_registry.specs.Registrations.{kind_of}
-use Rattle.pr_unit.specs.UnitStates.{UnitState}
-use Rattle.pr_roles.specs.declared.role.Action.{Action}
 use Rattle.pr_roles.specs.declared.role.Action.TheVariants as action
-use Rattle.pr_roles.specs.declared.role.Clause.{Clause}
-use Rattle.pr_roles.specs.Fitting.{is_action}
-use Rattle.pr_script.specs.Grammar.{is_declared}
-use Rattle.pr_views.specs.declared.possibilities.Possibilities.{Possibilities}
-use Rattle.pr_views.specs.Possibilities.{Scope, Item, Registration, IsSo}
-use Rattle.pr_views.specs.Portions.{view_in}
-use Rattle.pr_views.proofs.lemmas.Possibilities.Numbers.{one_registration}
-use Rattle.pr_regions.specs.declared.purpose.Purpose.{Purpose}
-use Rattle.pr_regions.specs.declared.purpose.Purpose.TheVariants.{Register, Unregister, Reserve, Release, Clear, PreemptAll, Preempt}
 use Rattle.pr_regions.specs.declared.purpose.Standing.{Standing}
 use Rattle.pr_regions.specs.declared.purpose.Standing.TheVariants.{Unregistered, Named, Other}
-use Rattle.pr_regions.specs.Purposes.{HasNumber, number_in, purpose_of_preempt}
+use Rattle.pr_regions.specs.Purposes.{HasNumber}
 use Rattle.pr_regions.specs.Regions.{standing_of}
-use Rattle.pr_regions.specs.declared.place.Place.{Place}
-use Rattle.pr_interference.specs.declared.onlooker.Onlooker.{Onlooker}
-use Rattle.pr_interference.specs.inside.Interfering.{IsWatched}
-use Rattle.pr_regions.specs.inside.Adding.{Adds}
-use Rattle.pr_interference.specs.inside.Clauses.{purpose_for, PurposeLeads, StandingLeads, PlaceLeads}
-use Rattle.pr_regions.proofs.lemmas.Keeping.Additions.{adds_both}
-use Rattle.pr_regions.proofs.lemmas.Portions.GatheredStates.{same_reservation}
+use Rattle.pr_interference.specs.inside.Clauses.{PurposeLeads}
 
 -- ---- the numbers of declared keys
 

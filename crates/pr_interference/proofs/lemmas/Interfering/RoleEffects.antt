@@ -1,30 +1,11 @@
 -- What the clauses of a role lead to, reservation after reservation, and that with looks they are all that is done.
-use Rattle.std.proofs.Common.{◌≡◌, ◌≢◌, ℕ, ◌+◌, ◌<◌, true, false, ◌==◌, List, length, refl, sym, ◌∙◌, subst, inl, inr, ◌⊎◌, arith}
-use Rattle.std.specs.List.{All}
-use Rattle.std.proofs.lemmas.Bool.{and_parts, false≢true}
-use Rattle.std.proofs.lemmas.Bool.Decides.{eqb_tells}
-use Rattle.pr_unit.specs.UnitStates.{UnitState, IsWellFormed, effect}
+use Rattle.pr_interference.proofs.Common.{◌≡◌, ℕ, ◌+◌, ◌<◌, true, false, ◌≢◌, ◌⊎◌, List, length, ◌==◌, All, sym, refl, ◌∙◌, subst, inl, inr, arith, false≢true, and_parts, eqb_tells, has_wide, UnitState, effect, is_action, names, holds, Clause, view_in, Scope, number_of, count_of_reservations, Item, Registration, Reservation, Attentions, IsPossible, Shows, Possibilities, one_reservation, Allows, Adds, adds_nothing, adds_both, IsLike, so_like, IsDone, IsLeft, IsInterference, Onlooker, IsClause, PlaceLeads, FirstLeads, IsWidened, IsOnlooking, Among, ClauseLeaves}
+use Rattle.pr_unit.specs.UnitStates.{IsWellFormed}
 use Rattle.pr_unit.proofs.lemmas.Steps.WellFormedSteps.{well_formed-step, hosts-step}
-use Rattle.pr_roles.specs.declared.role.Clause.{Clause}
-use Rattle.pr_roles.specs.Permits.{names, holds}
-use Rattle.pr_roles.specs.Fitting.{is_action}
-use Rattle.pr_sets.specs.Wides.{has_wide}
-use Rattle.pr_views.specs.declared.possibilities.Possibilities.{Possibilities}
-use Rattle.pr_views.specs.Possibilities.{Scope, Item, Registration, Reservation, Attentions, number_of, count_of_reservations}
-use Rattle.pr_views.specs.Views.{IsPossible, Shows}
-use Rattle.pr_views.specs.Portions.{view_in}
-use Rattle.pr_views.proofs.lemmas.Possibilities.Numbers.{one_reservation}
-use Rattle.pr_interference.specs.Interference.{IsDone, IsLeft, IsInterference}
-use Rattle.pr_interference.specs.inside.Closing.{IsWidened}
 use Rattle.pr_interference.specs.inside.Reaching.{HasShown}
-use Rattle.pr_interference.specs.declared.onlooker.Onlooker.{Onlooker}
-use Rattle.pr_interference.specs.inside.Interfering.{IsOnlooking, Among, ClauseLeads, ClauseLeaves}
-use Rattle.pr_regions.specs.inside.Adding.{Allows, Adds}
-use Rattle.pr_interference.specs.inside.Clauses.{IsClause, PlaceLeads, FirstLeads}
+use Rattle.pr_interference.specs.inside.Interfering.{ClauseLeads}
 use Rattle.pr_regions.specs.Keeping.{IsKept}
-use Rattle.pr_regions.proofs.lemmas.Keeping.Additions.{adds_both, adds_nothing}
 use Rattle.pr_interference.proofs.lemmas.Closing.ClosedViews.{shown_possible}
-use Rattle.pr_regions.proofs.lemmas.Showing.AlikeStates.{IsLike, so_like}
 use Rattle.pr_interference.proofs.lemmas.Interference.Conduct.{kept_left, clause_left, done_leads}
 use Rattle.pr_interference.proofs.lemmas.Clauses.Commands.{IsMeant, meant}
 

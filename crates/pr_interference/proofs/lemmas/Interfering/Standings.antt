@@ -1,39 +1,21 @@
 -- What a clause leads to under one reservation, by how its sender stands to what it asks for.
-use Rattle.std.proofs.Common.{◌≡◌, ℕ, zero, suc, ◌<◌, ◌≤◌, Bool, true, false, ◌||◌, not, if◌then◌else◌, List, length, Option, Some, None, is_some, refl, sym, ap, ◌∙◌, subst, arith}
-use Rattle.std.proofs.lemmas.Bool.{and_parts, and_from, false≢true}
-use Rattle.pr_cdb.specs.declared.command.Command.{Command}
-use Rattle.pr_registry.specs.declared.held.Held.{Held}
-use Rattle.pr_registry.specs.declared.held.Held.TheVariants.{One, All as Everybody}
-use Rattle.pr_registry.specs.Registrations.{State, IsKey, key_of, is_registered}
-use Rattle.pr_unit.specs.UnitStates.{UnitState, effect}
+use Rattle.pr_interference.proofs.Common.{◌≡◌, ℕ, zero, suc, ◌<◌, ◌≤◌, Bool, true, false, not, ◌||◌, List, length, if◌then◌else◌, Some, None, Option, sym, refl, ap, ◌∙◌, subst, arith, false≢true, and_parts, and_from, has, Word, Command, State, key_of, is_registered, IsKey, Held, One, UnitState, effect, is_action, AreDeclared, names, holds, Clause, has_at, view_in, Scope, Item, Registration, Reservation, IsSo, Shows, IsAt, purpose_of, Changes, Place, Purpose, Branch, Change, same_reservation, few_keys, Onlooker, purpose_for, StandingLeads, IsWatched, Among, IsLedBy, IsLeftBy, ClauseLeaves}
+use Rattle.std.proofs.Common.{is_some}
+use Rattle.pr_registry.specs.declared.held.Held.TheVariants.{All as Everybody}
 use Rattle.pr_unit.specs.Conflicts.{command_conflicts}
 use Rattle.pr_unit.specs.Faults.{command_fault}
 use Rattle.pr_roles.specs.declared.role.Condition.{Condition}
 use Rattle.pr_roles.specs.declared.role.Condition.TheVariants as condition
-use Rattle.pr_roles.specs.declared.role.Clause.{Clause}
-use Rattle.pr_roles.specs.Permits.{names, holds}
-use Rattle.pr_roles.specs.Fitting.{AreDeclared, is_action}
-use Rattle.pr_sets.specs.declared.word.Word.{Word}
-use Rattle.pr_sets.specs.Words.{has}
-use Rattle.pr_views.specs.Possibilities.{Scope, Item, Registration, Reservation, IsSo}
-use Rattle.pr_views.specs.Views.{Shows}
-use Rattle.pr_views.specs.Portions.{has_at, view_in}
 use Rattle.pr_views.proofs.lemmas.Possibilities.Numbers.{key_there}
-use Rattle.pr_regions.specs.declared.region.Change.{Change}
 use Rattle.pr_regions.specs.declared.region.Ending.{Ending}
 use Rattle.pr_regions.specs.declared.region.Ending.TheVariants as ending
-use Rattle.pr_regions.specs.declared.region.Branch.{Branch}
-use Rattle.pr_regions.specs.declared.purpose.Purpose.{Purpose}
 use Rattle.pr_regions.specs.declared.purpose.Standing.{Standing}
 use Rattle.pr_regions.specs.declared.purpose.Standing.TheVariants.{Unregistered, Named, Other}
-use Rattle.pr_regions.specs.Purposes.{purpose_of, is_refused}
-use Rattle.pr_regions.specs.Regions.{names as names_key, standing_of, Meets, Changes, Ends, AreBranches}
-use Rattle.pr_regions.specs.declared.place.Place.{Place}
-use Rattle.pr_interference.specs.declared.onlooker.Onlooker.{Onlooker}
-use Rattle.pr_regions.specs.Gathering.{IsAt, IsUniform}
-use Rattle.pr_interference.specs.inside.Interfering.{IsWatched, Among, IsLedBy, IsLeftBy, IsFree, ClauseLeaves}
-use Rattle.pr_interference.specs.inside.Clauses.{purpose_for, refuses_strangers, is_registered_as, is_holder_as, holds_as, may_send, AreSenders, StandingLeads}
-use Rattle.pr_regions.proofs.lemmas.Portions.GatheredStates.{few_keys, same_reservation}
+use Rattle.pr_regions.specs.Purposes.{is_refused}
+use Rattle.pr_regions.specs.Regions.{names as names_key, standing_of, Meets, Ends, AreBranches}
+use Rattle.pr_regions.specs.Gathering.{IsUniform}
+use Rattle.pr_interference.specs.inside.Interfering.{IsFree}
+use Rattle.pr_interference.specs.inside.Clauses.{refuses_strangers, is_registered_as, is_holder_as, holds_as, may_send, AreSenders}
 use Rattle.pr_interference.proofs.lemmas.Clauses.Spellings.{not_refused, strangers_refused, Spells, spells, spells_stranger}
 
 -- ---- who stands so

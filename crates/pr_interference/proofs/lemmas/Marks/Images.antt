@@ -1,13 +1,9 @@
 -- Images of sets of numbers, one number after another.
-use Rattle.std.proofs.Common.{◌≡◌, ◌≢◌, ℕ, ◌+◌, ◌<◌, Bool, true, false, ◌==◌, ◌||◌, nat_lt, refl, sym, ap, ◌∙◌, subst, inl, inr, ◌⊎◌, arith, bit_or}
-use Rattle.std.proofs.lemmas.Bool.{and_parts, and_from, false≢true, ltb-true, lt-ltb}
-use Rattle.std.proofs.lemmas.Bool.Decides.{nat_tests, eqb_tells}
-use Rattle.pr_sets.specs.declared.word.Word.{Word}
-use Rattle.pr_sets.specs.Words.{has}
-use Rattle.pr_regions.specs.declared.region.Change.{Change}
-use Rattle.pr_regions.specs.Regions.{flag, mark}
-use Rattle.pr_regions.specs.Images.{IsImage}
-use Rattle.pr_interference.specs.inside.Marks.{first, AreMarked, AreTold}
+use Rattle.pr_interference.proofs.Common.{◌≡◌, ℕ, ◌+◌, ◌<◌, Bool, true, false, ◌||◌, ◌≢◌, ◌⊎◌, ◌==◌, bit_or, sym, refl, ap, ◌∙◌, subst, inl, inr, arith, lt-ltb, false≢true, and_parts, and_from, eqb_tells, nat_tests, has, Word, IsImage, mark, Change, first, AreMarked}
+use Rattle.std.proofs.Common.{nat_lt}
+use Rattle.std.proofs.lemmas.Bool.{ltb-true}
+use Rattle.pr_regions.specs.Regions.{flag}
+use Rattle.pr_interference.specs.inside.Marks.{AreTold}
 
 -- ---- the numbers of a word below a bound
 

@@ -1,29 +1,18 @@
 -- What a reset makes of a view.
-use Rattle.std.proofs.Common.{◌≡◌, ℕ, ◌<◌, true, ◌==◌, ◌&&◌, ◌||◌, nat_lt, refl, sym, ap, ◌∙◌, subst, arith, bit_or}
+use Rattle.pr_interference.proofs.Common.{◌≡◌, ℕ, ◌<◌, true, ◌&&◌, ◌||◌, ◌==◌, bit_or, sym, refl, ap, ◌∙◌, subst, arith, and_parts, nat_tests, has_wide, has, Word, UnitState, has_at, view_in, Scope, count_of_reservations, Item, Registration, Reservation, Attentions, IsSo, AreInRange, View, IsPossible, Shows, Possibilities, IsImage, IsSame, shows_within, first}
+use Rattle.std.proofs.Common.{nat_lt}
 use Rattle.std.specs.FinSet as set
-use Rattle.std.proofs.lemmas.Bool.{and_parts}
-use Rattle.std.proofs.lemmas.Bool.Decides.{nat_tests}
 use Rattle.std.proofs.Math.Bool.{or_comm}
 use Rattle.pr_attention.specs.declared.attention.Attention.TheVariants.{PowerOn}
 use Rattle.pr_attention.specs.Attentions.{power_on}
 use Rattle.pr_attention.specs.Flagged.{codes_of}
 use Rattle.pr_attention.proofs.lemmas.Bits.{codes_of-or_flag, or_flag-lt}
 use Rattle.pr_attention.proofs.lemmas.Sets.{contains-insert_code}
-use Rattle.pr_unit.specs.UnitStates.{UnitState, is_pending, reset}
+use Rattle.pr_unit.specs.UnitStates.{is_pending, reset}
 use Rattle.pr_unit.proofs.lemmas.Attentions.Resets.{pending-reset, well_formed-reset}
-use Rattle.pr_sets.specs.declared.word.Word.{Word}
-use Rattle.pr_sets.specs.Words.{has}
-use Rattle.pr_sets.specs.Wides.{has_wide}
-use Rattle.pr_views.specs.declared.possibilities.Possibilities.{Possibilities}
-use Rattle.pr_views.specs.Possibilities.{Scope, Item, Registration, Reservation, Attentions, IsSo, count_of_reservations}
-use Rattle.pr_views.specs.Views.{View, IsPossible, Shows}
-use Rattle.pr_views.specs.Portions.{has_at, view_in}
-use Rattle.pr_views.specs.Rooms.{AreInRange}
-use Rattle.pr_regions.specs.Images.{IsImage}
-use Rattle.pr_interference.specs.inside.Marks.{first}
 use Rattle.pr_regions.specs.Keeping.{IsKept}
 use Rattle.pr_interference.specs.Interference.{IsAfterReset, IsLeftByReset}
-use Rattle.pr_regions.proofs.lemmas.Showing.AlikeViews.{IsSame, shows_within, reservation_below}
+use Rattle.pr_regions.proofs.lemmas.Showing.AlikeViews.{reservation_below}
 
 -- the owner has what it had, and power on
 so_after_reset : (s : Scope) (u : UnitState) (q : ℕ) → u.registry.hosts ≡ s.hosts → s.own < s.hosts → IsSo s u (Attentions q) → IsSo s (reset u) (Attentions (bit_or q 1))

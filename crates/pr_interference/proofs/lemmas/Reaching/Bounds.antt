@@ -1,49 +1,24 @@
 -- The reach of each clause, and what is possible within it.
-use Rattle.std.proofs.Common.{◌≡◌, ◌≢◌, ◌⊎◌, ℕ, zero, suc, ◌+◌, ◌<◌, ◌≤◌, Bool, true, false, ◌==◌, ◌&&◌, ◌||◌, not, if◌then◌else◌, List, length, Option, Some, None, option_map, bit_or, refl, sym, ap, ◌∙◌, subst, inl, inr, arith}
+use Rattle.pr_interference.proofs.Common.{◌≡◌, ℕ, zero, suc, ◌+◌, ◌<◌, ◌≤◌, Bool, true, false, not, ◌&&◌, ◌||◌, ◌≢◌, ◌⊎◌, List, length, if◌then◌else◌, ◌==◌, slice_index_or, bit_or, Some, None, Option, option_map, sym, refl, ap, ◌∙◌, subst, inl, inr, arith, false≢true, and_parts, eqb_tells, nat_tests, has_wide, has, Word, MOST_NEXUSES, Kind, is_kind, is_told_of_loss, is_held_by_all, key_of, is_registered, kind_of, new_reservation, IsKey, Held, One, UnitState, is_action, names, holds, Action, Clause, has_at, view_in, Scope, number_of, count_of_reservations, Item, Registration, Reservation, Attentions, IsSo, IsPossible, Shows, Possibilities, one_registration, one_reservation, one_attentions, number_in, purpose_of_preempt, Place, Purpose, Register, Unregister, Reserve, Release, Clear, PreemptAll, Preempt, Allows, Adds, same_reservation, few_keys, Onlooker, Reach, purpose_for, PlaceLeads, FirstLeads, IsWatched, IsOnlooking, ClauseLeaves}
 use Rattle.std.specs.List.{All as Each}
-use Rattle.std.proofs.lemmas.Bool.{and_parts, cases_lt, false≢true, or_left, or_right}
-use Rattle.std.proofs.lemmas.Bool.Decides.{nat_tests, eqb_tells}
+use Rattle.std.proofs.lemmas.Bool.{cases_lt, or_left, or_right}
 use Rattle.std.proofs.lemmas.Option.{same_Some, slice_get_within, get_or_from_slice_get}
-use Rattle.std.specs.Prelude.{get_or, slice_index_or}
-use Rattle.pr_cdb.specs.declared.command.Kind.{Kind}
+use Rattle.std.specs.Prelude.{get_or}
 use Rattle.pr_cdb.specs.declared.reply.Sense.{Sense}
-use Rattle.pr_cdb.specs.declared.codes.TheConstants.{MOST_NEXUSES, INVALID_FIELD_IN_PARAMETER_LIST}
-use Rattle.pr_registry.specs.declared.held.Held.{Held}
-use Rattle.pr_registry.specs.declared.held.Held.TheVariants.{One}
-use Rattle.pr_registry.specs.Registrations.{IsKey, key_of, is_registered, new_reservation, holds_alone, kind_of}
-use Rattle.pr_registry.specs.Changes.{is_kind, is_held_by_all, is_told_of_loss}
-use Rattle.pr_unit.specs.UnitStates.{UnitState}
+use Rattle.pr_cdb.specs.declared.codes.TheConstants.{INVALID_FIELD_IN_PARAMETER_LIST}
+use Rattle.pr_registry.specs.Registrations.{holds_alone}
 use Rattle.pr_unit.specs.Faults.{illegal}
-use Rattle.pr_roles.specs.declared.role.Action.{Action}
 use Rattle.pr_roles.specs.declared.role.Action.TheVariants as action
 use Rattle.pr_roles.specs.declared.role.Condition.{Condition}
 use Rattle.pr_roles.specs.declared.role.Condition.TheVariants as condition
-use Rattle.pr_roles.specs.declared.role.Clause.{Clause}
-use Rattle.pr_roles.specs.Permits.{names, holds}
-use Rattle.pr_roles.specs.Fitting.{is_action}
-use Rattle.pr_sets.specs.declared.word.Word.{Word}
-use Rattle.pr_sets.specs.Words.{has}
-use Rattle.pr_sets.specs.Wides.{has_wide}
-use Rattle.pr_views.specs.declared.possibilities.Possibilities.{Possibilities}
-use Rattle.pr_views.specs.Possibilities.{Scope, Item, Registration, Reservation, Attentions, IsSo, key_at, number_of, count_of_reservations}
-use Rattle.pr_views.specs.Views.{IsPossible, IsSeen, Shows}
-use Rattle.pr_views.specs.Portions.{has_at, view_in}
+use Rattle.pr_views.specs.Possibilities.{key_at}
+use Rattle.pr_views.specs.Views.{IsSeen}
 use Rattle.pr_views.proofs.lemmas.Rooms.Places.{holds_at-get_or, holds_at_past}
-use Rattle.pr_views.proofs.lemmas.Possibilities.Numbers.{one_registration, one_reservation, one_attentions}
-use Rattle.pr_regions.specs.declared.purpose.Purpose.{Purpose}
-use Rattle.pr_regions.specs.declared.purpose.Purpose.TheVariants.{Register, Unregister, Reserve, Release, Clear, PreemptAll, Preempt}
-use Rattle.pr_regions.specs.Purposes.{number_in, purpose_of_preempt}
 use Rattle.pr_regions.proofs.lemmas.Showing.Numbers.{AreDistinct, are_distinct_keys, same_number_at}
 use Rattle.pr_regions.proofs.lemmas.Purposes.Conduct.{key_named, after_for, change_for, fault_for, IsNamed, IsOwned, asked}
 use Rattle.pr_regions.proofs.lemmas.Regions.ChangedStates.{then_in}
-use Rattle.pr_regions.specs.declared.place.Place.{Place}
-use Rattle.pr_interference.specs.declared.onlooker.Onlooker.{Onlooker}
-use Rattle.pr_interference.specs.declared.reach.Reach.{Reach}
-use Rattle.pr_interference.specs.inside.Interfering.{IsOnlooking, IsWatched, ClauseLeaves}
-use Rattle.pr_regions.specs.inside.Adding.{Allows, Adds}
-use Rattle.pr_interference.specs.inside.Clauses.{purpose_for, holds_as, PlaceLeads, FirstLeads}
+use Rattle.pr_interference.specs.inside.Clauses.{holds_as}
 use Rattle.pr_interference.specs.inside.Reaching.{IsTold, IsWithin, IsAtMost, IsReach, IsReachAt, IsWider, MayAllGo, IsMost, HasShown}
-use Rattle.pr_regions.proofs.lemmas.Portions.GatheredStates.{few_keys, same_reservation}
 use Rattle.pr_interference.proofs.lemmas.Interfering.Placements.{has_number}
 use Rattle.pr_interference.proofs.lemmas.Clauses.Spellings.{not_refused}
 use Rattle.pr_interference.proofs.lemmas.Interfering.Standings.{holds_by}

@@ -1,32 +1,25 @@
 -- Whatever becomes another by a service action is in its reach.
-use Rattle.std.proofs.Common.{◌≡◌, ◌≢◌, ◌⊎◌, ℕ, zero, suc, ◌≤◌, Bool, true, false, ◌==◌, ◌&&◌, ◌||◌, not, if◌then◌else◌, length, Option, Some, None, is_some, unwrap_or, bit_or, refl, sym, ap, ◌∙◌, subst, inl, inr, arith}
+use Rattle.pr_interference.proofs.Common.{◌≡◌, ℕ, zero, suc, ◌≤◌, Bool, true, false, not, ◌&&◌, ◌||◌, ◌≢◌, ◌⊎◌, length, if◌then◌else◌, ◌==◌, bit_or, Some, None, Option, sym, refl, ap, ◌∙◌, subst, inl, inr, arith, false≢true, and_parts, and_from, eqb_tells, nat_tests, has_wide, has, Kind, is_kind, is_told_of_loss, is_held_by_all, State, key_of, is_registered, new_reservation, Held, One, UnitState, Scope, number_of, Registration, IsSo, Unregister, is_pending_after, contains-told, Reach}
+use Rattle.std.proofs.Common.{is_some, unwrap_or}
 use Rattle.std.specs.Int.Bits.{or_zero_r}
 use Rattle.std.specs.FinSet as set
 use Rattle.std.specs.FinMap as map
-use Rattle.std.proofs.lemmas.Bool.{and_parts, and_from, or_left, false≢true, not-true}
-use Rattle.std.proofs.lemmas.Bool.Decides.{nat_tests, eqb_tells}
-use Rattle.pr_cdb.specs.declared.command.Kind.{Kind}
-use Rattle.pr_registry.specs.declared.held.Held.{Held}
-use Rattle.pr_registry.specs.declared.held.Held.TheVariants.{One, All}
+use Rattle.std.proofs.lemmas.Bool.{or_left, not-true}
+use Rattle.pr_registry.specs.declared.held.Held.TheVariants.{All}
 use Rattle.pr_registry.specs.declared.change.Change.{Change as Told}
 use Rattle.pr_registry.specs.Hosts.{Keys, just, without, hosts_with, is_key, is_empty}
-use Rattle.pr_registry.specs.Registrations.{State, key_of, is_registered, new_reservation, holds_alone, is_holder_of}
-use Rattle.pr_registry.specs.Changes.{Case, ReplacesAll, ReplacesHolder, RemovesKey, no_change, is_kind, is_told_of_loss, is_held_by_all, is_held_as, is_released, preempt_case, change_on_unregister, change_on_release, change_on_clear, change_on_preempt}
+use Rattle.pr_registry.specs.Registrations.{holds_alone, is_holder_of}
+use Rattle.pr_registry.specs.Changes.{Case, ReplacesAll, ReplacesHolder, RemovesKey, no_change, is_held_as, is_released, preempt_case, change_on_unregister, change_on_release, change_on_clear, change_on_preempt}
 use Rattle.pr_registry.specs.Effects.{with_registration as register, held_by_rest, held_or, with_reservation, after_release, without_registration, after_clear, after_preempt}
 use Rattle.pr_registry.proofs.lemmas.Sets.{get-without, contains-hosts_with, not_empty_from_some}
-use Rattle.pr_unit.specs.UnitStates.{UnitState}
-use Rattle.pr_sets.specs.Words.{has}
-use Rattle.pr_sets.specs.Wides.{has_wide}
-use Rattle.pr_views.specs.Possibilities.{Scope, key_at, number_of, Registration, IsSo}
-use Rattle.pr_regions.specs.declared.purpose.Purpose.TheVariants.{Unregister}
+use Rattle.pr_views.specs.Possibilities.{key_at}
 use Rattle.pr_regions.specs.inside.Parts.{never, is_of_registrant, told_if, told_but, lost_if}
 use Rattle.pr_regions.proofs.lemmas.Showing.Numbers.{AreDistinct, same_number_at}
 use Rattle.pr_regions.proofs.lemmas.Purposes.Conduct.{after_for, change_for}
 use Rattle.pr_regions.proofs.lemmas.Regions.ChangedStates.{Is, then_in}
-use Rattle.pr_regions.proofs.lemmas.Regions.ToldAttentions.{is_pending_after, contains-told, contains-codes_told, told-lt, flags}
+use Rattle.pr_regions.proofs.lemmas.Regions.ToldAttentions.{contains-codes_told, told-lt, flags}
 use Rattle.pr_regions.proofs.lemmas.Regions.Effects.{Becomes, still, on_register, on_unregister, on_release, on_clear, is_key-number, is_registered-number}
 use Rattle.pr_regions.proofs.lemmas.Regions.PreemptCases.{in_case, on_preempt_all, on_preempt_holder, on_preempt_key}
-use Rattle.pr_interference.specs.declared.reach.Reach.{Reach}
 use Rattle.pr_interference.specs.inside.Reaching.{IsTold, IsWithin}
 
 -- ---- what a registry becomes

@@ -1,23 +1,11 @@
 -- What a command reaches whatever is reserved.
-use Rattle.std.proofs.Common.{◌≡◌, ◌≢◌, ◌⊎◌, ℕ, ◌<◌, Bool, true, false, ◌==◌, ◌&&◌, ◌||◌, not, Option, Some, None, refl, sym, ap, ◌∙◌, subst, inl, inr, arith}
-use Rattle.std.proofs.lemmas.Bool.{false≢true, lt-ltb}
-use Rattle.std.proofs.lemmas.Bool.Decides.{nat_tests, eqb_tells}
+use Rattle.pr_interference.proofs.Common.{◌≡◌, ℕ, ◌<◌, Bool, true, false, not, ◌&&◌, ◌||◌, ◌≢◌, ◌⊎◌, ◌==◌, Some, None, Option, sym, refl, ap, ◌∙◌, subst, inl, inr, arith, lt-ltb, false≢true, eqb_tells, nat_tests, has_wide, Kind, is_kind, is_held_by_all, new_reservation, Held, One, Clause, Scope, number_of, count_of_reservations, one_reservation, Place, Onlooker, Reach, IsWatched, IsOnlooking}
 use Rattle.std.proofs.lemmas.Option.{same_Some}
-use Rattle.pr_cdb.specs.declared.command.Kind.{Kind}
-use Rattle.pr_registry.specs.declared.held.Held.{Held}
-use Rattle.pr_registry.specs.declared.held.Held.TheVariants.{One, All}
-use Rattle.pr_registry.specs.Registrations.{new_reservation, is_all}
-use Rattle.pr_registry.specs.Changes.{is_kind, is_held_by_all}
-use Rattle.pr_roles.specs.declared.role.Clause.{Clause}
+use Rattle.pr_registry.specs.declared.held.Held.TheVariants.{All}
+use Rattle.pr_registry.specs.Registrations.{is_all}
 use Rattle.pr_roles.specs.Fitting.{is_reservation}
 use Rattle.pr_sets.specs.declared.wide.Wide.{Wide}
-use Rattle.pr_sets.specs.Wides.{has_wide}
-use Rattle.pr_views.specs.Possibilities.{Scope, number_of, count_of_reservations}
-use Rattle.pr_views.proofs.lemmas.Possibilities.Numbers.{one_reservation, held_at, number_of-held_at, same_held}
-use Rattle.pr_regions.specs.declared.place.Place.{Place}
-use Rattle.pr_interference.specs.declared.onlooker.Onlooker.{Onlooker}
-use Rattle.pr_interference.specs.declared.reach.Reach.{Reach}
-use Rattle.pr_interference.specs.inside.Interfering.{IsOnlooking, IsWatched}
+use Rattle.pr_views.proofs.lemmas.Possibilities.Numbers.{held_at, number_of-held_at, same_held}
 use Rattle.pr_interference.specs.inside.Reaching.{IsReach, IsReachAt, IsOfOneType, AreOfOneType}
 
 -- What is reached at each place of the other's is reached.

@@ -1,5 +1,4 @@
-use Rattle.std.proofs.Common.{◌≡◌, ◌+◌, subst, sym, ◌∙◌, arith}
-use Rattle.pr_interference.specs.inside.Marks.{AreMarked}
+use Rattle.pr_interference.proofs.Common.{◌≡◌, ◌+◌, sym, ◌∙◌, subst, arith, AreMarked}
 use Rattle.pr_interference.proofs.lemmas.Marks.Images.{marked_more, marked_skips, told_from_marks}
 use Rattle.pr_interference.proofs.marking.attentions_after.Goals.{then-has, else-has}
 use Rattle.pr_interference.proofs.marking.attentions_after.Goals as goal

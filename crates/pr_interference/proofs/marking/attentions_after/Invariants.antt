@@ -1,4 +1,4 @@
-use Rattle.pr_interference.specs.inside.Marks.{AreMarked}
+use Rattle.pr_interference.proofs.Common.{AreMarked}
 use Rattle.pr_interference.proofs.marking.attentions_after.Given as goal
 
 abbrev pub invariant-loop-mark : goal.invariant-loop-mark

@@ -1,8 +1,5 @@
-use Rattle.std.proofs.Common.{◌+◌, ◌<◌, bit_or, refl, subst, sym, ◌∙◌, arith}
+use Rattle.pr_interference.proofs.Common.{◌+◌, ◌<◌, bit_or, sym, refl, ◌∙◌, subst, arith, has, IsImage, first}
 use Rattle.std.proofs.lemmas.Nat.{or_lt}
-use Rattle.pr_sets.specs.Words.{has}
-use Rattle.pr_regions.specs.Images.{IsImage}
-use Rattle.pr_interference.specs.inside.Marks.{first}
 use Rattle.pr_interference.proofs.lemmas.Marks.Images.{image_more, image_skips}
 use Rattle.pr_interference.proofs.marking.attentions_with.Goals.{then-has, else-has}
 use Rattle.pr_interference.proofs.marking.attentions_with.Goals as goal

@@ -1,7 +1,4 @@
-use Rattle.std.proofs.Common.{bit_or}
-use Rattle.pr_sets.specs.Words.{has}
-use Rattle.pr_regions.specs.Images.{IsImage}
-use Rattle.pr_interference.specs.inside.Marks.{first}
+use Rattle.pr_interference.proofs.Common.{bit_or, has, IsImage, first}
 use Rattle.pr_interference.proofs.marking.attentions_with.Given as goal
 
 abbrev pub invariant-loop-attentions : goal.invariant-loop-attentions

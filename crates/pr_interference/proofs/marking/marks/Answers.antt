@@ -1,8 +1,4 @@
-use Rattle.std.proofs.Common.{◌+◌, subst, sym, ◌∙◌}
-use Rattle.pr_sets.specs.Words.{has}
-use Rattle.pr_regions.specs.Regions.{mark}
-use Rattle.pr_regions.specs.Images.{IsImage}
-use Rattle.pr_interference.specs.inside.Marks.{first}
+use Rattle.pr_interference.proofs.Common.{◌+◌, sym, ◌∙◌, subst, has, IsImage, mark, first}
 use Rattle.pr_interference.proofs.lemmas.Marks.Images.{image_more, image_skips}
 use Rattle.pr_interference.proofs.marking.marks.Goals.{then-has, else-has}
 use Rattle.pr_interference.proofs.marking.marks.Goals as goal

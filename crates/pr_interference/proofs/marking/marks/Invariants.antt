@@ -1,7 +1,4 @@
-use Rattle.pr_sets.specs.Words.{has}
-use Rattle.pr_regions.specs.Regions.{mark}
-use Rattle.pr_regions.specs.Images.{IsImage}
-use Rattle.pr_interference.specs.inside.Marks.{first}
+use Rattle.pr_interference.proofs.Common.{has, IsImage, mark, first}
 use Rattle.pr_interference.proofs.marking.marks.Given as goal
 
 abbrev pub invariant-loop-registration : goal.invariant-loop-registration

@@ -1,4 +1,4 @@
-use Rattle.std.proofs.Common.{refl}
+use Rattle.pr_interference.proofs.Common.{refl}
 use Rattle.pr_interference.proofs.lemmas.Marks.Resets.{is_after_reset}
 use Rattle.pr_interference.proofs.resetting.after_reset.Goals as goal
 

@@ -1,8 +1,4 @@
-use Rattle.std.proofs.Common.{◌<◌, refl, arith}
-use Rattle.pr_views.specs.Views.{Fits}
-use Rattle.pr_views.specs.Portions.{view_in}
-use Rattle.pr_views.specs.Rooms.{scope_of, view_of}
-use Rattle.pr_views.proofs.lemmas.Views.Values.{words_fit}
+use Rattle.pr_interference.proofs.Common.{◌<◌, refl, arith, view_in, scope_of, view_of, Fits, words_fit}
 use Rattle.pr_interference.proofs.lemmas.Marks.Resets.{after_reset_same, left_in_range}
 use Rattle.pr_interference.proofs.resetting.left_by_reset.Goals as goal
 

@@ -1,5 +1,4 @@
-use Rattle.std.proofs.Common.{◌&&◌, not, sym, ◌∙◌, arith}
-use Rattle.std.proofs.lemmas.Bool.{lt-ltb}
+use Rattle.pr_interference.proofs.Common.{not, ◌&&◌, sym, ◌∙◌, arith, lt-ltb}
 use Rattle.pr_interference.proofs.lemmas.Reaching.WidestBounds.{one_more}
 use Rattle.pr_interference.proofs.widest.of_one_type.Goals as goal
 

@@ -1,4 +1,4 @@
-use Rattle.std.proofs.Common.{refl}
+use Rattle.pr_interference.proofs.Common.{refl}
 use Rattle.pr_cdb.specs.declared.command.Kind.TheVariants.{WriteExclusiveAllRegistrants, ExclusiveAccessAllRegistrants}
 use Rattle.pr_interference.proofs.lemmas.Reaching.WidestBounds.{none_of_type, all_more}
 use Rattle.pr_interference.proofs.widest.without_holder.Goals as goal

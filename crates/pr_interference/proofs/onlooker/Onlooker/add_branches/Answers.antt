@@ -1,9 +1,5 @@
-use Rattle.std.proofs.Common.{◌≡◌, ◌<◌, length, slice_index_or, None, subst, arith}
-use Rattle.std.proofs.lemmas.List.{get_or_default}
-use Rattle.pr_regions.specs.declared.region.Branch.{Branch}
+use Rattle.pr_interference.proofs.Common.{◌≡◌, ◌<◌, length, slice_index_or, None, subst, arith, get_or_default, Branch, Adds, Among, IsLedBy, IsLeftBy}
 use Rattle.pr_regions.specs.declared.region.Ending.TheVariants as ending
-use Rattle.pr_regions.specs.inside.Adding.{Adds}
-use Rattle.pr_interference.specs.inside.Interfering.{Among, IsLedBy, IsLeftBy}
 use Rattle.pr_interference.proofs.lemmas.Interfering.Additions.{adds_element}
 use Rattle.pr_interference.proofs.onlooker.Onlooker.add_branches.Goals as goal
 

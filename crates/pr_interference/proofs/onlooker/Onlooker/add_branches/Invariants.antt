@@ -1,8 +1,6 @@
-use Rattle.std.specs.List.{All}
-use Rattle.pr_views.specs.Possibilities.{Scope}
+use Rattle.pr_interference.proofs.Common.{All, Scope, Adds, IsWatched, Among, IsLedBy, IsLeftBy}
 use Rattle.pr_regions.specs.Gathering.{IsUniform}
-use Rattle.pr_interference.specs.inside.Interfering.{IsWatched, Among, IsLedBy, IsLeftBy, IsProperBranch}
-use Rattle.pr_regions.specs.inside.Adding.{Adds}
+use Rattle.pr_interference.specs.inside.Interfering.{IsProperBranch}
 use Rattle.pr_interference.proofs.onlooker.Onlooker.add_branches.Given as goal
 
 abbrev pub invariant-loop-branch : goal.invariant-loop-branch

@@ -1,9 +1,4 @@
-use Rattle.std.proofs.Common.{◌≡◌, ◌+◌, refl, sym, ◌∙◌, subst, arith}
-use Rattle.pr_views.specs.Possibilities.{count_of_reservations}
-use Rattle.pr_views.specs.Portions.{view_in}
-use Rattle.pr_interference.specs.inside.Interfering.{IsWatched, ClauseLeaves}
-use Rattle.pr_regions.specs.inside.Adding.{Adds}
-use Rattle.pr_interference.specs.inside.Clauses.{PlaceLeads, FirstLeads}
+use Rattle.pr_interference.proofs.Common.{◌≡◌, ◌+◌, sym, refl, ◌∙◌, subst, arith, view_in, count_of_reservations, Adds, PlaceLeads, FirstLeads, IsWatched, ClauseLeaves}
 use Rattle.pr_interference.proofs.lemmas.Interfering.RoleEffects.{first_none, first_more, first_skips}
 use Rattle.pr_regions.proofs.lemmas.Showing.ShownStates.{is_place}
 use Rattle.pr_interference.proofs.lemmas.Reaching.Bounds.{adds_most}

@@ -1,9 +1,4 @@
-use Rattle.std.proofs.Common.{◌≡◌, Some, true, sym, ◌∙◌, subst}
-use Rattle.pr_views.specs.Portions.{view_in}
-use Rattle.pr_roles.specs.Fitting.{is_action}
-use Rattle.pr_interference.specs.inside.Interfering.{ClauseLeaves}
-use Rattle.pr_interference.specs.inside.Clauses.{purpose_for, PlaceLeads}
-use Rattle.pr_regions.proofs.lemmas.Keeping.Additions.{adds_nothing}
+use Rattle.pr_interference.proofs.Common.{◌≡◌, true, Some, sym, ◌∙◌, subst, is_action, view_in, adds_nothing, purpose_for, PlaceLeads, ClauseLeaves}
 use Rattle.pr_interference.proofs.lemmas.Interfering.Placements.{has_number, none_meant, adds_standings}
 use Rattle.pr_interference.proofs.onlooker.Onlooker.add_place.Goals as goal
 

@@ -1,10 +1,4 @@
-use Rattle.std.proofs.Common.{◌≡◌, ◌<◌, length, subst, arith}
-use Rattle.std.proofs.lemmas.List.{get_or_default}
-use Rattle.pr_views.specs.Possibilities.{count_of_reservations}
-use Rattle.pr_views.specs.Portions.{view_in}
-use Rattle.pr_regions.specs.inside.Adding.{Adds}
-use Rattle.pr_interference.specs.inside.Interfering.{Among, ClauseLeaves}
-use Rattle.pr_interference.specs.inside.Clauses.{FirstLeads}
+use Rattle.pr_interference.proofs.Common.{◌≡◌, ◌<◌, length, subst, arith, get_or_default, view_in, count_of_reservations, Adds, FirstLeads, Among, ClauseLeaves}
 use Rattle.pr_interference.proofs.lemmas.Interfering.Additions.{adds_element}
 use Rattle.pr_interference.proofs.onlooker.Onlooker.add_role.Goals as goal
 

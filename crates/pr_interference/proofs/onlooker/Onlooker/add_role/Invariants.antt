@@ -1,9 +1,4 @@
-use Rattle.std.proofs.Common.{◌≡◌}
-use Rattle.pr_views.specs.Possibilities.{Scope, count_of_reservations}
-use Rattle.pr_views.specs.Portions.{view_in}
-use Rattle.pr_interference.specs.inside.Interfering.{IsOnlooking, Among, ClauseLeaves}
-use Rattle.pr_regions.specs.inside.Adding.{Adds}
-use Rattle.pr_interference.specs.inside.Clauses.{FirstLeads}
+use Rattle.pr_interference.proofs.Common.{◌≡◌, view_in, Scope, count_of_reservations, Adds, FirstLeads, IsOnlooking, Among, ClauseLeaves}
 use Rattle.pr_interference.proofs.onlooker.Onlooker.add_role.Given as goal
 
 abbrev pub invariant-loop-clause : goal.invariant-loop-clause

@@ -1,11 +1,6 @@
-use Rattle.std.proofs.Common.{length, refl, sym, ◌∙◌, subst}
-use Rattle.std.specs.List.{All}
-use Rattle.pr_views.specs.Portions.{view_in}
-use Rattle.pr_regions.specs.inside.Adding.{Adds}
-use Rattle.pr_interference.specs.inside.Interfering.{Among, IsLedBy, IsLeftBy, IsProperBranch, ClauseLeaves}
-use Rattle.pr_interference.specs.inside.Clauses.{StandingLeads}
+use Rattle.pr_interference.proofs.Common.{length, All, sym, refl, ◌∙◌, subst, view_in, Adds, adds_nothing, StandingLeads, Among, IsLedBy, IsLeftBy, ClauseLeaves}
+use Rattle.pr_interference.specs.inside.Interfering.{IsProperBranch}
 use Rattle.pr_interference.proofs.lemmas.Interfering.Additions.{adds_so}
-use Rattle.pr_regions.proofs.lemmas.Keeping.Additions.{adds_nothing}
 use Rattle.pr_interference.proofs.lemmas.Interfering.Standings.{uniform, none_send, none_among, led_by_branches, left_by_branches}
 use Rattle.pr_interference.proofs.onlooker.Onlooker.add_standing.Goals as goal
 

@@ -1,5 +1,4 @@
-use Rattle.std.proofs.Common.{◌≡◌, ◌<◌, length, slice_index_or, sym, ◌∙◌, ap, arith}
-use Rattle.pr_sets.specs.Words.{has}
+use Rattle.pr_interference.proofs.Common.{◌≡◌, ◌<◌, length, slice_index_or, sym, ap, ◌∙◌, arith, has}
 use Rattle.pr_views.proofs.lemmas.Rooms.Places.{holds_at-get_or}
 use Rattle.pr_interference.proofs.lemmas.Interfering.Changes.{is_after}
 use Rattle.pr_interference.proofs.onlooker.Onlooker.after.Goals as goal

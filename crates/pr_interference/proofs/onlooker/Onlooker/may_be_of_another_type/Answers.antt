@@ -1,5 +1,4 @@
-use Rattle.std.proofs.Common.{◌≡◌, Bool, not, false, true, refl, sym}
-use Rattle.std.proofs.lemmas.Bool.{false≢true}
+use Rattle.pr_interference.proofs.Common.{◌≡◌, Bool, true, false, not, sym, refl, false≢true}
 use Rattle.pr_interference.proofs.lemmas.Reaching.WidestBounds.{of_one_type}
 use Rattle.pr_interference.proofs.onlooker.Onlooker.may_be_of_another_type.Goals as goal
 

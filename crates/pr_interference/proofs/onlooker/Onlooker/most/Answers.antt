@@ -1,5 +1,4 @@
-use Rattle.std.proofs.Common.{◌≡◌, true, subst}
-use Rattle.pr_views.specs.Portions.{has_at}
+use Rattle.pr_interference.proofs.Common.{◌≡◌, true, subst, has_at}
 use Rattle.pr_interference.proofs.lemmas.Reaching.Bounds.{most_of_reach}
 use Rattle.pr_interference.proofs.onlooker.Onlooker.most.Goals as goal
 

@@ -1,5 +1,4 @@
-use Rattle.std.proofs.Common.{◌≡◌, true, sym, subst}
-use Rattle.pr_views.specs.Portions.{has_at}
+use Rattle.pr_interference.proofs.Common.{◌≡◌, true, sym, subst, has_at}
 use Rattle.pr_interference.proofs.lemmas.Reaching.Bounds.{has_there, told_joined}
 use Rattle.pr_interference.proofs.onlooker.Onlooker.pending_within.Goals as goal
 

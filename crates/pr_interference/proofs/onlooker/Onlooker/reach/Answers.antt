@@ -1,6 +1,4 @@
-use Rattle.std.proofs.Common.{◌≡◌, ◌+◌, true, sym, ap, ◌∙◌, subst, arith}
-use Rattle.pr_roles.specs.Fitting.{is_action}
-use Rattle.pr_interference.specs.inside.Interfering.{IsWatched}
+use Rattle.pr_interference.proofs.Common.{◌≡◌, ◌+◌, true, sym, ap, ◌∙◌, subst, arith, is_action, IsWatched}
 use Rattle.pr_interference.specs.inside.Reaching.{number_named}
 use Rattle.pr_regions.proofs.lemmas.Showing.ShownStates.{is_place}
 use Rattle.pr_interference.proofs.lemmas.Reaching.Bounds.{IsReachBelow, reach_more, reach_skips, reach_all}

@@ -1,6 +1,4 @@
-use Rattle.std.proofs.Common.{◌≡◌}
-use Rattle.pr_views.specs.Possibilities.{Scope}
-use Rattle.pr_interference.specs.inside.Interfering.{IsOnlooking}
+use Rattle.pr_interference.proofs.Common.{◌≡◌, Scope, IsOnlooking}
 use Rattle.pr_interference.proofs.lemmas.Reaching.Bounds.{IsReachBelow}
 use Rattle.pr_interference.proofs.onlooker.Onlooker.reach.Given as goal
 

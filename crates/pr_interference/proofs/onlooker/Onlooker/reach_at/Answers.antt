@@ -1,13 +1,4 @@
-use Rattle.std.proofs.Common.{◌≡◌, ◌≢◌, ◌≤◌, ℕ, true, false, Some, sym, ap, ◌∙◌, subst}
-use Rattle.pr_cdb.specs.declared.command.Kind.{Kind}
-use Rattle.pr_registry.specs.declared.held.Held.TheVariants.{One}
-use Rattle.pr_registry.specs.Registrations.{new_reservation}
-use Rattle.pr_registry.specs.Changes.{is_kind, is_held_by_all}
-use Rattle.pr_sets.specs.Words.{has}
-use Rattle.pr_sets.specs.Wides.{has_wide}
-use Rattle.pr_views.specs.Possibilities.{number_of}
-use Rattle.pr_views.specs.Portions.{has_at}
-use Rattle.pr_regions.specs.Purposes.{number_in}
+use Rattle.pr_interference.proofs.Common.{◌≡◌, ℕ, ◌≤◌, true, false, ◌≢◌, Some, sym, ap, ◌∙◌, subst, has_wide, has, Kind, is_kind, is_held_by_all, new_reservation, One, has_at, number_of, number_in}
 use Rattle.pr_interference.specs.inside.Reaching.{MayAllGo, number_named}
 use Rattle.pr_interference.proofs.lemmas.Reaching.Bounds.{register_reach, unregister_reach, reserve_reach, release_reach, clear_reach, preempt_all_reach, preempt_key_reach, forbidden_reach}
 use Rattle.pr_interference.proofs.onlooker.Onlooker.reach_at.Goals as goal

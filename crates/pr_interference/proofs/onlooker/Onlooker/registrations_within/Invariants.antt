@@ -1,7 +1,4 @@
-use Rattle.std.proofs.Common.{◌≡◌, ◌≢◌, ◌<◌, ℕ, true, length}
-use Rattle.pr_cdb.specs.declared.codes.TheConstants.{MOST_NEXUSES}
-use Rattle.pr_sets.specs.Words.{has}
-use Rattle.pr_views.specs.Portions.{has_at}
+use Rattle.pr_interference.proofs.Common.{◌≡◌, ℕ, ◌<◌, true, ◌≢◌, length, has, MOST_NEXUSES, has_at}
 use Rattle.pr_interference.proofs.onlooker.Onlooker.registrations_within.Given as goal
 
 abbrev pub invariant-loop-host : goal.invariant-loop-host

@@ -1,10 +1,4 @@
-use Rattle.std.proofs.Common.{length, sym, subst}
-use Rattle.std.specs.List.{All}
-use Rattle.pr_views.specs.Possibilities.{count_of_reservations}
-use Rattle.pr_views.specs.Portions.{view_in}
-use Rattle.pr_regions.specs.inside.Adding.{Adds}
-use Rattle.pr_interference.specs.inside.Interfering.{Among, ClauseLeaves}
-use Rattle.pr_interference.specs.inside.Clauses.{IsClause, FirstLeads}
+use Rattle.pr_interference.proofs.Common.{length, All, sym, subst, view_in, count_of_reservations, Adds, IsClause, FirstLeads, Among, ClauseLeaves}
 use Rattle.pr_interference.proofs.lemmas.Interfering.RoleEffects.{is_widened, has_what_it_shows}
 use Rattle.pr_interference.proofs.onlooker.Onlooker.widened.Goals as goal
 

@@ -1,14 +1,6 @@
-use Rattle.std.proofs.Common.{◌≡◌, true, Option, Some, sym, ap, ◌∙◌, subst}
-use Rattle.pr_registry.specs.declared.held.Held.{Held}
-use Rattle.pr_registry.specs.declared.held.Held.TheVariants.{One, All}
-use Rattle.pr_sets.specs.Words.{has}
-use Rattle.pr_sets.specs.Wides.{has_wide}
-use Rattle.pr_views.specs.Portions.{has_at}
-use Rattle.pr_roles.specs.Fitting.{is_action, is_reservation}
-use Rattle.pr_views.specs.Possibilities.{number_of}
-use Rattle.pr_regions.specs.declared.place.Place.{Place}
-use Rattle.pr_interference.specs.declared.onlooker.Onlooker.{Onlooker}
-use Rattle.pr_regions.specs.Purposes.{number_in}
+use Rattle.pr_interference.proofs.Common.{◌≡◌, true, Some, Option, sym, ap, ◌∙◌, subst, has_wide, has, Held, One, is_action, has_at, number_of, number_in, Place, Onlooker}
+use Rattle.pr_registry.specs.declared.held.Held.TheVariants.{All}
+use Rattle.pr_roles.specs.Fitting.{is_reservation}
 use Rattle.pr_interference.proofs.lemmas.Reaching.Bounds.{register_reach, unregister_reach, reserve_reach, release_reach, clear_reach, preempt_all_reach, preempt_key_reach}
 use Rattle.pr_interference.proofs.lemmas.Reaching.WidestBounds.{reach_of_places, established_at, shared_possible, single_possible}
 use Rattle.pr_interference.proofs.onlooker.Onlooker.widest.Goals as goal
