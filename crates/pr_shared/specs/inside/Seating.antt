@@ -11,7 +11,7 @@ use Rattle.pr_shared.specs.declared.seat.Seat.{Seat}
 abbrev pub hosts_of : {C : Type 0} {r : Round.Ghosts C} → List (Seat C r) → List ℕ
 hosts_of seats = map (λ s. s.host) seats
 
--- each has room for one entry more than its nexus can send
+-- each has room for one entry more than its nexus can send, of the nexuses as they are kept
 abbrev pub HaveRoomAt : {C : Type 0} {r : Round.Ghosts C} → List Nexus → List (Seat C r) → Type 0
 HaveRoomAt nexuses seats = map (λ s. vec_capacity s.mine) seats ≡ map (λ n. room_of (task_of n.task) + 1) nexuses
 
