@@ -7,7 +7,7 @@ ghost use Rattle.pr_commands.specs.Endings.{IsCommand};
 ghost use Rattle.fence.specs.Explanations.{EndsTold};
 
 use crate::told::read_and_tell;
-use pr_commands::{Fault, Status, ended};
+use pr_commands::{ExitStatus, Fault, ended};
 use pr_explain::{explanation, lines_of, write_explanation};
 use std::alloc::Global;
 use std::io::{Read, Write};
@@ -21,7 +21,7 @@ pub fn do_explain<R: Read, W: Write, E: Write>(
     reader: &mut R,
     writer: &mut W,
     errors: &mut E,
-) -> Status
+) -> ExitStatus
     ensures command { IsCommand (EndsTold (R.remaining reader.old)) (E.contents errors.old)
         (E.contents errors.new) result }
     ensures limited { LosesUpTo (MOST_BYTES + 1) (R.remaining reader.old) (R.remaining reader.new) }

@@ -17,7 +17,8 @@ use crate::traced::do_explain_trace;
 use clap::ArgMatches;
 use clap::error::ErrorKind;
 use pr_commands::{
-    Fault, Status, args_fault, do_audit, do_check, do_outline, do_replay, do_run, do_witness, ended,
+    ExitStatus, Fault, args_fault, do_audit, do_check, do_outline, do_replay, do_run, do_witness,
+    ended,
 };
 use std::io::Write;
 use std::process::ExitCode;
@@ -31,14 +32,14 @@ fn main(rt: HostRuntime) -> ExitCode {
 
 // Does what the command line says, or tells the fault that comes before any text is read. `main` alone can name the system as what
 // starts threads, and so hands it down a second time.
-fn run<T: Threads + Wait + Sync>(rt: &HostRuntime, threads: &T) -> Status {
+fn run<T: Threads + Wait + Sync>(rt: &HostRuntime, threads: &T) -> ExitStatus {
     match run_words(rt, threads) {
         Ok(status) => status,
         Err(fault) => ended(&mut rt.stderr(), Err(fault)),
     }
 }
 
-fn run_words<T: Threads + Wait + Sync>(rt: &HostRuntime, threads: &T) -> Result<Status, Fault> {
+fn run_words<T: Threads + Wait + Sync>(rt: &HostRuntime, threads: &T) -> Result<ExitStatus, Fault> {
     let words = match words(rt) {
         Ok(words) => words,
         Err(error) => return Err(args_fault(&error)),
@@ -62,7 +63,7 @@ fn run_matches<T: Threads + Wait + Sync>(
     rt: &HostRuntime,
     threads: &T,
     matches: &ArgMatches<'_>,
-) -> Result<Status, Fault> {
+) -> Result<ExitStatus, Fault> {
     match matches.subcommand() {
         Some(("check", arguments)) => run_check(rt, arguments),
         Some(("outline", arguments)) => run_outline(rt, arguments),
@@ -97,7 +98,7 @@ fn scenario(rt: &HostRuntime, arguments: &ArgMatches<'_>) -> Result<Source, Faul
 }
 
 // `fence check FILE`, or `fence check FILE FILE ..`.
-fn run_check(rt: &HostRuntime, arguments: &ArgMatches<'_>) -> Result<Status, Fault> {
+fn run_check(rt: &HostRuntime, arguments: &ArgMatches<'_>) -> Result<ExitStatus, Fault> {
     match word_list(arguments, "FILE")? {
         [path] => Ok(check_path(rt, path, &mut rt.stdout(), &mut rt.stderr())),
         paths => Ok(check_paths(rt, paths)),
@@ -109,7 +110,7 @@ fn check_path<W: Write, E: Write>(
     path: &str,
     output: &mut W,
     errors: &mut E,
-) -> Status {
+) -> ExitStatus {
     match open(rt, path) {
         Ok(mut text) => do_check(rt.alloc(), &mut text, output, errors),
         Err(fault) => ended(errors, Err(fault)),
@@ -117,8 +118,8 @@ fn check_path<W: Write, E: Write>(
 }
 
 // Each line behind its path, and the worst status.
-fn check_paths(rt: &HostRuntime, paths: &[&str]) -> Status {
-    let mut worst = Status::Done;
+fn check_paths(rt: &HostRuntime, paths: &[&str]) -> ExitStatus {
+    let mut worst = ExitStatus::Done;
     for path in paths {
         let mut written = Line::new();
         let mut told = Line::new();
@@ -133,19 +134,19 @@ fn check_paths(rt: &HostRuntime, paths: &[&str]) -> Status {
 }
 
 // `fence outline FILE`.
-fn run_outline(rt: &HostRuntime, arguments: &ArgMatches<'_>) -> Result<Status, Fault> {
+fn run_outline(rt: &HostRuntime, arguments: &ArgMatches<'_>) -> Result<ExitStatus, Fault> {
     let mut text = scenario(rt, arguments)?;
     Ok(do_outline(rt.alloc(), &mut text, &mut rt.stdout(), &mut rt.stderr()))
 }
 
 // `fence witness FILE`.
-fn run_witness(rt: &HostRuntime, arguments: &ArgMatches<'_>) -> Result<Status, Fault> {
+fn run_witness(rt: &HostRuntime, arguments: &ArgMatches<'_>) -> Result<ExitStatus, Fault> {
     let mut text = scenario(rt, arguments)?;
     Ok(do_witness(rt.alloc(), &mut text, &mut rt.stdout(), &mut rt.stderr()))
 }
 
 // `fence replay FILE STEP..`.
-fn run_replay(rt: &HostRuntime, arguments: &ArgMatches<'_>) -> Result<Status, Fault> {
+fn run_replay(rt: &HostRuntime, arguments: &ArgMatches<'_>) -> Result<ExitStatus, Fault> {
     let steps = word_list(arguments, "STEP")?;
     let mut text = scenario(rt, arguments)?;
     Ok(do_replay(
@@ -162,7 +163,7 @@ fn run_threads<T: Threads + Wait + Sync>(
     rt: &HostRuntime,
     threads: &T,
     arguments: &ArgMatches<'_>,
-) -> Result<Status, Fault> {
+) -> Result<ExitStatus, Fault> {
     let mut text = scenario(rt, arguments)?;
     Ok(do_run(
         threads,
@@ -174,7 +175,7 @@ fn run_threads<T: Threads + Wait + Sync>(
 }
 
 // `fence audit FILE TRACE`, where `-` is standard input for the first alone. Both are opened before either is read.
-fn run_audit(rt: &HostRuntime, arguments: &ArgMatches<'_>) -> Result<Status, Fault> {
+fn run_audit(rt: &HostRuntime, arguments: &ArgMatches<'_>) -> Result<ExitStatus, Fault> {
     let path = word(arguments, "TRACE")?;
     let mut text = scenario(rt, arguments)?;
     let mut trace = open_file(rt, path)?;
@@ -189,7 +190,7 @@ fn run_audit(rt: &HostRuntime, arguments: &ArgMatches<'_>) -> Result<Status, Fau
 }
 
 // `fence explain FILE`, or `fence explain FILE TRACE`.
-fn run_explain(rt: &HostRuntime, arguments: &ArgMatches<'_>) -> Result<Status, Fault> {
+fn run_explain(rt: &HostRuntime, arguments: &ArgMatches<'_>) -> Result<ExitStatus, Fault> {
     let mut text = scenario(rt, arguments)?;
     match arguments.get_str("TRACE") {
         Some(trace) => explain_trace(rt, &mut text, trace),
@@ -198,7 +199,7 @@ fn run_explain(rt: &HostRuntime, arguments: &ArgMatches<'_>) -> Result<Status, F
 }
 
 // `-` is standard input for one of the two, and the name of a file where that is taken. Both are opened before either is read.
-fn explain_trace(rt: &HostRuntime, text: &mut Source, path: &str) -> Result<Status, Fault> {
+fn explain_trace(rt: &HostRuntime, text: &mut Source, path: &str) -> Result<ExitStatus, Fault> {
     let mut trace = match text {
         Source::Input(_) => open_file(rt, path)?,
         Source::File(_) => open(rt, path)?,
@@ -214,10 +215,10 @@ fn explain_trace(rt: &HostRuntime, text: &mut Source, path: &str) -> Result<Stat
 }
 
 // Prints clap's text for a command line that it refuses; help and the version come here too.
-fn refuse(rt: &HostRuntime, error: &clap::Error) -> Result<Status, Fault> {
+fn refuse(rt: &HostRuntime, error: &clap::Error) -> Result<ExitStatus, Fault> {
     if error.kind() == ErrorKind::OutOfMemory {
         return Err(Fault::Memory);
     }
     let _ = rt.eprint(error);
-    Ok(Status::Usage)
+    Ok(ExitStatus::Usage)
 }

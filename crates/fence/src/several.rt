@@ -1,7 +1,7 @@
 //! Several scenarios in one command: each line that one of them writes or tells has the path of its text before it.
 
 use arrayvec::ArrayVec;
-use pr_commands::{Fault, Status, tell};
+use pr_commands::{ExitStatus, Fault, tell};
 use pr_report::{WriteFault, put};
 use std::io::Write;
 
@@ -16,14 +16,14 @@ pub fn put_labelled<W: Write, E: Write>(
     path: &str,
     written: &Line,
     told: &Line,
-    status: Status,
-) -> Status {
+    status: ExitStatus,
+) -> ExitStatus {
     let _ = put_behind(errors, path, told);
     match put_behind(writer, path, written) {
         Ok(()) => status,
         Err(WriteFault) => {
             tell(errors, &Fault::Output);
-            worse(status, Status::Fault)
+            worse(status, ExitStatus::Fault)
         }
     }
 }
@@ -39,7 +39,7 @@ fn put_behind<W: Write>(writer: &mut W, path: &str, line: &Line) -> Result<(), W
 }
 
 /// The worse of the two: the one with the greater exit status.
-pub fn worse(one: Status, other: Status) -> Status {
+pub fn worse(one: ExitStatus, other: ExitStatus) -> ExitStatus {
     if one.exit_status() < other.exit_status() {
         other
     } else {

@@ -9,7 +9,7 @@ ghost use Rattle.fence.specs.Explanations.{EndsTraceTold};
 ghost use Rattle.fence.specs.inside.Traced.{IsTraced};
 
 use crate::told::{read_and_tell, read_trace_and_tell};
-use pr_commands::{Fault, Status, ended};
+use pr_commands::{ExitStatus, Fault, ended};
 use pr_roles::Scenario;
 use pr_words::{Telling, telling_of, write_telling};
 use pr_world::Item;
@@ -27,7 +27,7 @@ pub fn do_explain_trace<R: Read, T: Read, W: Write, E: Write>(
     trace: &mut T,
     writer: &mut W,
     errors: &mut E,
-) -> Status
+) -> ExitStatus
     ensures command { IsCommand (EndsTraceTold (R.remaining reader.old) (T.remaining trace.old))
         (E.contents errors.old) (E.contents errors.new) result }
     ensures limited { LosesUpTo (MOST_BYTES + 1) (R.remaining reader.old) (R.remaining reader.new) }

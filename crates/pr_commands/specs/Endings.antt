@@ -12,8 +12,8 @@ use Rattle.pr_report.specs.Written.{AppendsFront, FallsShort}
 use Rattle.pr_report.specs.declared.trace_error.TraceError.{TraceError}
 use Rattle.pr_commands.specs.declared.fault.Fault.{Fault}
 use Rattle.pr_commands.specs.declared.fault.Fault.TheVariants as fault
-use Rattle.pr_commands.specs.declared.fault.Status.{Status}
-use Rattle.pr_commands.specs.declared.fault.Status.TheVariants as status
+use Rattle.pr_commands.specs.declared.fault.ExitStatus.{ExitStatus}
+use Rattle.pr_commands.specs.declared.fault.ExitStatus.TheVariants as status
 use Rattle.pr_commands.specs.FaultText.{fault_text, status_of}
 
 -- What goes to the output, by how the command ends: over a text that is known, the whole answer and nothing else, or a
@@ -34,7 +34,7 @@ Outputs Answers Misused Untraced Unstarted Differs known old new (Err (fault.Thr
 Outputs Answers Misused Untraced Unstarted Differs known old new (Err fault.History) = Differs × Keeps old new
 Outputs Answers Misused Untraced Unstarted Differs known old new (Err fault.File) = ⊥
 
-abbrev pub status_of_end : Result Bool Fault → Status
+abbrev pub status_of_end : Result Bool Fault → ExitStatus
 status_of_end (Ok refused) = if refused then status.Refused else status.Done
 status_of_end (Err f) = status_of f
 
@@ -44,7 +44,7 @@ told_of_end (Ok refused) = []
 told_of_end (Err f) = fault_text f
 
 -- the command's end, the line on its error output, of which the end may be missing, and its status
-pub record IsCommand (Ends : Result Bool Fault → Type 0) (old_errors new_errors : Option (List ℕ)) (answer : Status) : Type 0 where
+pub record IsCommand (Ends : Result Bool Fault → Type 0) (old_errors new_errors : Option (List ℕ)) (answer : ExitStatus) : Type 0 where
   pub end : Result Bool Fault
   pub ends : Ends end
   pub tells : AppendsFront old_errors new_errors (told_of_end end)
@@ -55,7 +55,7 @@ abbrev pub IsUnread : {A : Type 0} → Read.Ghosts A → Both (MutBor A) (MutBor
 IsUnread reads reader = Keeps (reads.remaining reader.entry.now) (reads.remaining reader.exit.now)
 
 -- A call, with its error writer as it was and as it is: it is a command that ends so.
-abbrev pub IsCommandOn : {A : Type 0} → Write.Ghosts A → Both (MutBor A) (MutBor A) → (Result Bool Fault → Type 0) → Status → Type 0
+abbrev pub IsCommandOn : {A : Type 0} → Write.Ghosts A → Both (MutBor A) (MutBor A) → (Result Bool Fault → Type 0) → ExitStatus → Type 0
 IsCommandOn tells errors Ends answer = IsCommand Ends (tells.contents errors.entry.now) (tells.contents errors.exit.now) answer
 
 -- A call, with its reader and its writer as they were and as they are: it ends so, of what the one had and of what the other took.
@@ -67,6 +67,6 @@ EndsOver reads reader writes writer Ends result =
 -- With its error writer too: it is a command that ends so.
 abbrev pub IsCommandOver : {A B C : Type 0} → Read.Ghosts A → Both (MutBor A) (MutBor A) → Write.Ghosts B → Both (MutBor B) (MutBor B)
     → Write.Ghosts C → Both (MutBor C) (MutBor C)
-    → (Option (List ℕ) → Option (List ℕ) → Option (List ℕ) → Result Bool Fault → Type 0) → Status → Type 0
+    → (Option (List ℕ) → Option (List ℕ) → Option (List ℕ) → Result Bool Fault → Type 0) → ExitStatus → Type 0
 IsCommandOver reads reader writes writer tells errors Ends answer =
     IsCommandOn tells errors (EndsOver reads reader writes writer Ends) answer

@@ -13,8 +13,8 @@ use Rattle.pr_report.specs.declared.trace_error.TraceError.{TraceError}
 use Rattle.pr_report.specs.declared.trace_error.TraceError.TheVariants as trace
 use Rattle.pr_commands.specs.declared.fault.Fault.{Fault}
 use Rattle.pr_commands.specs.declared.fault.Fault.TheVariants as fault
-use Rattle.pr_commands.specs.declared.fault.Status.{Status}
-use Rattle.pr_commands.specs.declared.fault.Status.TheVariants as status
+use Rattle.pr_commands.specs.declared.fault.ExitStatus.{ExitStatus}
+use Rattle.pr_commands.specs.declared.fault.ExitStatus.TheVariants as status
 
 abbrev pub which_word : Which → List ℕ
 which_word which.Hosts = codes "Hosts"
@@ -104,7 +104,7 @@ abbrev pub open_fault : ErrorKind → Fault
 open_fault kind.OutOfMemory = fault.Memory
 open_fault _ = fault.File
 
-abbrev pub status_of : Fault → Status
+abbrev pub status_of : Fault → ExitStatus
 status_of fault.Usage = status.Usage
 status_of fault.Memory = status.Memory
 status_of (fault.Input input.Memory) = status.Memory
@@ -116,7 +116,7 @@ status_of fault.History = status.Fault
 status_of fault.File = status.Fault
 status_of fault.Output = status.Fault
 
-abbrev pub exit_status_of : Status → ℕ
+abbrev pub exit_status_of : ExitStatus → ℕ
 exit_status_of status.Done = 0
 exit_status_of status.Refused = 1
 exit_status_of status.Usage = 2

@@ -11,7 +11,7 @@ ghost use Rattle.pr_commands.specs.Endings.{IsCommandOver, EndsOver, IsUnread};
 ghost use Rattle.pr_commands.specs.inside.Audited.{IsAudited};
 
 use crate::ending::ended;
-use crate::fault::{Fault, Status};
+use crate::fault::{ExitStatus, Fault};
 use pr_report::{Verdict, read_trace, write_verdict};
 use pr_roles::Scenario;
 use pr_text::read;
@@ -30,7 +30,7 @@ pub fn do_audit<R: Read, T: Read, W: Write, E: Write>(
     trace: &mut T,
     writer: &mut W,
     errors: &mut E,
-) -> Status
+) -> ExitStatus
     ensures command { IsCommandOver R.Read reader W.Write writer E.Write errors
         (EndsAuditOf T.Read trace) result }
     ensures limited { LosesUpTo (MOST_BYTES + 1) (R.remaining reader.old) (R.remaining reader.new) }

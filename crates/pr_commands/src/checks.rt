@@ -10,7 +10,7 @@ ghost use Rattle.pr_commands.specs.declared.fault.Fault.TheVariants.{Memory};
 ghost use Rattle.pr_commands.specs.inside.Judgements.{IsJudged, IsVerified, Stands, judgement_text};
 
 use crate::ending::ended;
-use crate::fault::{Fault, Status};
+use crate::fault::{ExitStatus, Fault};
 use pr_report::{Verdict, WriteFault, write_verdict};
 use pr_text::read;
 use pr_verify::{Refusal, Refused, Verified, verify};
@@ -26,7 +26,7 @@ pub fn do_check<R: Read, W: Write, E: Write>(
     reader: &mut R,
     writer: &mut W,
     errors: &mut E,
-) -> Status
+) -> ExitStatus
     ensures command { IsCommandOver R.Read reader W.Write writer E.Write errors EndsCheck result }
     ensures limited { LosesUpTo (MOST_BYTES + 1) (R.remaining reader.old) (R.remaining reader.new) }
 {

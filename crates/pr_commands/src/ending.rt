@@ -4,12 +4,12 @@ ghost use Rattle.std.specs.Prelude.{◌≡◌};
 ghost use Rattle.pr_report.specs.Written.{AppendsFront, Writes};
 ghost use Rattle.pr_commands.specs.Endings.{status_of_end, told_of_end};
 
-use crate::fault::{Fault, Status, put_fault};
+use crate::fault::{ExitStatus, Fault, put_fault};
 use pr_report::WriteFault;
 use std::io::Write;
 
 /// Ends a command: a fault is told in one line. What the writer does not take of it is dropped, since the status says enough.
-pub fn ended<E: Write>(errors: &mut E, end: Result<bool, Fault>) -> Status
+pub fn ended<E: Write>(errors: &mut E, end: Result<bool, Fault>) -> ExitStatus
     ensures tells { AppendsFront (E.contents errors.old) (E.contents errors.new) (told_of_end end) }
     ensures answers { result ≡ status_of_end end }
 {
@@ -18,12 +18,12 @@ pub fn ended<E: Write>(errors: &mut E, end: Result<bool, Fault>) -> Status
 }
 
 // The status of a command that ended so: with an answer, which is a refusal or not, or with a fault.
-fn status_of(end: Result<bool, Fault>) -> Status
+fn status_of(end: Result<bool, Fault>) -> ExitStatus
     ensures { result ≡ status_of_end end }
 {
     match end {
-        Ok(false) => Status::Done,
-        Ok(true) => Status::Refused,
+        Ok(false) => ExitStatus::Done,
+        Ok(true) => ExitStatus::Refused,
         Err(fault) => fault.status(),
     }
 }

@@ -44,7 +44,7 @@ pub enum Fault {
 
 /// How a command of the program ended.
 #[derive(Clone, Copy, Debug, PartialEq, Eq)]
-pub enum Status {
+pub enum ExitStatus {
     /// What was asked is done.
     Done,
 
@@ -61,34 +61,34 @@ pub enum Status {
     Memory,
 }
 
-impl Status {
+impl ExitStatus {
     /// The program's exit status.
     pub fn exit_status(self) -> u8
         ensures { result ≡ exit_status_of self }
     {
         match self {
-            Status::Done => 0,
-            Status::Refused => 1,
-            Status::Usage => 2,
-            Status::Fault => 3,
-            Status::Memory => 4,
+            ExitStatus::Done => 0,
+            ExitStatus::Refused => 1,
+            ExitStatus::Usage => 2,
+            ExitStatus::Fault => 3,
+            ExitStatus::Memory => 4,
         }
     }
 }
 
 impl Fault {
     /// How a command with this fault ended.
-    pub fn status(&self) -> Status
+    pub fn status(&self) -> ExitStatus
         ensures { result ≡ status_of self.now }
     {
         match self {
-            Fault::Usage => Status::Usage,
+            Fault::Usage => ExitStatus::Usage,
             Fault::Memory
             | Fault::Input(ReadError::Memory)
             | Fault::Trace(TraceError::Memory)
-            | Fault::Thread(_) => Status::Memory,
+            | Fault::Thread(_) => ExitStatus::Memory,
             Fault::File | Fault::Input(_) | Fault::Trace(_) | Fault::History | Fault::Output => {
-                Status::Fault
+                ExitStatus::Fault
             }
         }
     }

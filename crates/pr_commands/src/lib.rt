@@ -16,7 +16,7 @@ mod witnesses;
 pub use audits::do_audit;
 pub use checks::do_check;
 pub use ending::ended;
-pub use fault::{Fault, Status, args_fault, file_fault, tell};
+pub use fault::{ExitStatus, Fault, args_fault, file_fault, tell};
 pub use outlines::do_outline;
 pub use replays::{MOST_STEPS, do_replay};
 pub use runs::do_run;

@@ -7,7 +7,7 @@ ghost use Rattle.pr_commands.specs.Endings.{IsCommandOver, EndsOver};
 ghost use Rattle.pr_commands.specs.Outlines.{EndsOutline};
 
 use crate::ending::ended;
-use crate::fault::{Fault, Status};
+use crate::fault::{ExitStatus, Fault};
 use pr_report::write_outlines;
 use pr_text::read;
 use pr_verify::tables;
@@ -23,7 +23,7 @@ pub fn do_outline<R: Read, W: Write, E: Write>(
     reader: &mut R,
     writer: &mut W,
     errors: &mut E,
-) -> Status
+) -> ExitStatus
     ensures command { IsCommandOver R.Read reader W.Write writer E.Write errors EndsOutline result }
     ensures limited { LosesUpTo (MOST_BYTES + 1) (R.remaining reader.old) (R.remaining reader.new) }
 {

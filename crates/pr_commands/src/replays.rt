@@ -9,7 +9,7 @@ ghost use Rattle.pr_commands.specs.Replays.{EndsReplay};
 ghost use Rattle.pr_commands.specs.inside.PlannedReplays.{IsPlanned};
 
 use crate::ending::ended;
-use crate::fault::{Fault, Status};
+use crate::fault::{ExitStatus, Fault};
 use crate::steps::steps_of;
 use pr_report::write_trace;
 use pr_roles::Scenario;
@@ -34,7 +34,7 @@ pub fn do_replay<R: Read, W: Write, E: Write>(
     reader: &mut R,
     writer: &mut W,
     errors: &mut E,
-) -> Status
+) -> ExitStatus
     ensures command { IsCommandOver R.Read reader W.Write writer E.Write errors
         (EndsReplay (texts_of steps.now)) result }
     ensures limited { LosesUpTo (MOST_BYTES + 1) (R.remaining reader.old) (R.remaining reader.new) }

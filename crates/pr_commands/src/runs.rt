@@ -18,7 +18,7 @@ ghost use Rattle.pr_commands.specs.inside.Performances.{IsFaultFor, IsPerformed,
 
 use crate::checks::settled;
 use crate::ending::ended;
-use crate::fault::{Fault, Status};
+use crate::fault::{ExitStatus, Fault};
 use arrayvec::ArrayVec;
 use pr_cdb::codes::MOST_NEXUSES;
 use pr_report::{Verdict, WriteFault, write_trace, write_verdict};
@@ -44,7 +44,7 @@ pub fn do_run<T: Threads + Wait + Sync, R: Read, W: Write, E: Write>(
     reader: &mut R,
     writer: &mut W,
     errors: &mut E,
-) -> Status
+) -> ExitStatus
     ensures command { IsCommandOver R.Read reader W.Write writer E.Write errors EndsRun result }
     ensures limited { LosesUpTo (MOST_BYTES + 1) (R.remaining reader.old) (R.remaining reader.new) }
 {

@@ -13,7 +13,7 @@ ghost use Rattle.pr_commands.specs.inside.Witnessed.{IsWitnessed, answer_in, wit
 
 use crate::checks::settled;
 use crate::ending::ended;
-use crate::fault::{Fault, Status};
+use crate::fault::{ExitStatus, Fault};
 use crate::witness_text::write_witness;
 use pr_report::{Verdict, Word, WriteFault, put_line, write_verdict};
 use pr_roles::Scenario;
@@ -40,7 +40,7 @@ pub fn do_witness<R: Read, W: Write, E: Write>(
     reader: &mut R,
     writer: &mut W,
     errors: &mut E,
-) -> Status
+) -> ExitStatus
     ensures command { IsCommandOver R.Read reader W.Write writer E.Write errors EndsWitness result }
     ensures limited { LosesUpTo (MOST_BYTES + 1) (R.remaining reader.old) (R.remaining reader.new) }
 {

@@ -50,19 +50,19 @@ fn class_of_report(command: &Command, attention: Attention) -> Class
 
 /// The two replies in which the unit has no part.
 #[derive(Clone, Copy)]
-pub(crate) enum Refused {
+pub(crate) enum Unserved {
     Busy,
     Full,
 }
 
-impl Refused {
+impl Unserved {
     fn class(self) -> Class
         ensures class { IsClass (refusal self) result }
         ensures blind { (tests : List Test) → AreBlind tests result }
     {
         match self {
-            Refused::Busy => Class::Busy,
-            Refused::Full => Class::Full,
+            Unserved::Busy => Class::Busy,
+            Unserved::Full => Class::Full,
         }
     }
 }
@@ -213,7 +213,7 @@ impl Sending<'_> {
         &self,
         alloc: Global,
         outcomes: &mut Vec<(Landing, ViewOf<S>)>,
-        refused: Refused,
+        refused: Unserved,
     ) -> Result<(), AllocError>
         requires kept { AreKeptFor self.now outcomes.old.items }
         ensures kept { OnOk result (AreKeptFor self.now outcomes.new.items) }
@@ -235,7 +235,7 @@ impl Sending<'_> {
         alloc: Global,
         outcomes: &mut Vec<(Landing, ViewOf<S>)>,
         declared: bool,
-        refused: Refused,
+        refused: Unserved,
     ) -> Result<(), AllocError>
         requires kept { AreKeptFor self.now outcomes.old.items }
         ensures kept { OnOk result (AreKeptFor self.now outcomes.new.items) }
@@ -326,8 +326,8 @@ impl Sending<'_> {
         self.add_report(alloc, &mut outcomes, Attention::ReservationsReleased)?;
         self.add_report(alloc, &mut outcomes, Attention::RegistrationsPreempted)?;
         self.add_fault(alloc, &mut outcomes)?;
-        self.add_declared(alloc, &mut outcomes, self.refusals.busy, Refused::Busy)?;
-        self.add_declared(alloc, &mut outcomes, self.refusals.full, Refused::Full)?;
+        self.add_declared(alloc, &mut outcomes, self.refusals.busy, Unserved::Busy)?;
+        self.add_declared(alloc, &mut outcomes, self.refusals.full, Unserved::Full)?;
         Ok(outcomes)
     }
 

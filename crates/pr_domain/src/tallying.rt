@@ -21,7 +21,7 @@ use crate::twins::twin_of;
 use pr_cdb::Command;
 use pr_cdb::codes::MOST_NEXUSES;
 use pr_regions::{
-    Branch, Change, Ending, Place, Purpose, Reading, Region, branches, is_refused, purpose_of,
+    Branch, Ending, Place, Purpose, Reading, Region, Transition, branches, is_refused, purpose_of,
     readings, registrations_after, standing_of,
 };
 use pr_script::limits::MOST_ARMS;
@@ -178,7 +178,7 @@ fn add_reading(
         return;
     }
     let none = Word::none();
-    let change = Change {
+    let change = Transition {
         sender: None,
         removed: none,
         reservation: place.reservation,

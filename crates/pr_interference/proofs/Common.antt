@@ -39,7 +39,7 @@ pub use Rattle.pr_regions.specs.declared.place.Place.{Place}
 pub use Rattle.pr_regions.specs.declared.purpose.Purpose.{Purpose}
 pub use Rattle.pr_regions.specs.declared.purpose.Purpose.TheVariants.{Register, Unregister, Reserve, Release, Clear, PreemptAll, Preempt}
 pub use Rattle.pr_regions.specs.declared.region.Branch.{Branch}
-pub use Rattle.pr_regions.specs.declared.region.Change.{Change}
+pub use Rattle.pr_regions.specs.declared.region.Transition.{Transition}
 pub use Rattle.pr_regions.specs.inside.Adding.{Allows, Adds}
 pub use Rattle.pr_regions.proofs.lemmas.Keeping.Additions.{adds_nothing, adds_both, IsJoined}
 pub use Rattle.pr_regions.proofs.lemmas.Portions.GatheredStates.{same_reservation, few_keys}

@@ -6,7 +6,7 @@ ghost use Rattle.pr_regions.specs.Regions.{mark as mark_of};
 ghost use Rattle.pr_regions.specs.Images.{IsImage};
 ghost use Rattle.pr_interference.specs.inside.Marks.{first, AreTold};
 
-use pr_regions::Change;
+use pr_regions::Transition;
 use pr_sets::Word;
 use pr_views::{
     ATTENTION_SETS, MOST_REGISTRATIONS, REGISTRATIONS_PREEMPTED_BIT, RESERVATIONS_PREEMPTED_BIT,
@@ -14,7 +14,7 @@ use pr_views::{
 };
 
 /// What becomes of the attentions pending for an owner that has one of these registrations.
-pub(crate) fn attentions_after(owners: Word, pending: Word, change: &Change) -> Word
+pub(crate) fn attentions_after(owners: Word, pending: Word, change: &Transition) -> Word
     ensures { AreTold change.now owners pending result }
 {
     let marks = marks(owners, change);
@@ -28,7 +28,7 @@ pub(crate) fn attentions_after(owners: Word, pending: Word, change: &Change) -> 
 }
 
 // The bits of what hosts with these registrations are told.
-fn marks(owners: Word, change: &Change) -> Word
+fn marks(owners: Word, change: &Transition) -> Word
     ensures image { IsImage (first MOST_REGISTRATIONS owners) (mark_of change.now) (has result) }
 {
     let mut marks = Word::none();
@@ -40,7 +40,7 @@ fn marks(owners: Word, change: &Change) -> Word
     marks
 }
 
-fn mark(registration: u8, change: &Change) -> u8
+fn mark(registration: u8, change: &Transition) -> u8
     requires { registration < MOST_REGISTRATIONS }
     ensures mark { result ≡ mark_of change.now registration }
     ensures few { result < ATTENTION_SETS }

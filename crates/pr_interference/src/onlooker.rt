@@ -4,7 +4,7 @@ ghost use Rattle.std.specs.Prelude.{◌<◌, ◌≤◌, length, IfSome, IfNone};
 ghost use Rattle.pr_cdb.specs.declared.codes.TheConstants.{MOST_NEXUSES};
 
 use crate::marking::attentions_after;
-use pr_regions::{Branch, Change, Ending, Place, Region, registrations_after};
+use pr_regions::{Branch, Ending, Place, Region, Transition, registrations_after};
 use pr_sets::{Wide, Word};
 use pr_views::Possibilities;
 
@@ -41,7 +41,7 @@ impl Onlooker {
         place: &Place,
         senders: Word,
         region: &Region,
-        change: &Change,
+        change: &Transition,
     ) -> Option<Possibilities>
         requires room { HasRoom place.now.hosts (ending.Good change.now) }
         ensures some { IfSome result (λ p. (s : Scope) → IsWatched s self.now place.now

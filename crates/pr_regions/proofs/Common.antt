@@ -30,7 +30,7 @@ pub use Rattle.pr_regions.specs.declared.purpose.Purpose.{Purpose}
 pub use Rattle.pr_regions.specs.declared.purpose.Purpose.TheVariants.{Read, Write, Look, Register, Unregister, Reserve, Release, Clear, PreemptAll, Preempt}
 pub use Rattle.pr_regions.specs.declared.purpose.Standing.{Standing}
 pub use Rattle.pr_regions.specs.declared.region.Branch.{Branch}
-pub use Rattle.pr_regions.specs.declared.region.Change.{Change}
+pub use Rattle.pr_regions.specs.declared.region.Transition.{Transition}
 pub use Rattle.pr_regions.specs.declared.region.Ending.TheVariants.{Conflict, Fault, Good}
 pub use Rattle.pr_regions.specs.inside.Parts.{Does, AlwaysEnds, never, is_unregistered, holds, any, only, is_of_registrant, told_if, but, another, told_but, lost_if, is_named, Leaves, EndsIn, Tell}
 pub use Rattle.pr_regions.specs.inside.Reads.{IsKnown, answer}

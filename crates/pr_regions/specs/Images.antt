@@ -3,7 +3,7 @@
 use Rattle.std.specs.Prelude.{◌≡◌, ℕ, Bool, true, ◌==◌, if◌then◌else◌, unwrap_or}
 use Rattle.pr_sets.specs.declared.word.Word.{Word}
 use Rattle.pr_sets.specs.Words.{has}
-use Rattle.pr_regions.specs.declared.region.Change.{Change}
+use Rattle.pr_regions.specs.declared.region.Transition.{Transition}
 
 -- these numbers are what the others become
 pub record IsImage (from : ℕ → Bool) (becomes : ℕ → ℕ) (to : ℕ → Bool) : Type 0 where
@@ -15,5 +15,5 @@ abbrev pub registration_left : Word → ℕ → ℕ
 registration_left removed r = if has removed r then 0 else r
 
 -- what becomes of g's registration by a change of this sender
-abbrev pub becomes : ℕ → Change → ℕ → ℕ → ℕ
+abbrev pub becomes : ℕ → Transition → ℕ → ℕ → ℕ
 becomes sender c g r = if g == sender then unwrap_or c.sender r else registration_left c.removed r

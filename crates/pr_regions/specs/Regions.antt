@@ -16,7 +16,7 @@ use Rattle.pr_views.specs.declared.view.TheConstants.{RESERVATIONS_PREEMPTED_BIT
 use Rattle.pr_views.specs.Possibilities.{Scope, IsScope, Registration, Reservation, Attentions, IsSo, count_of_reservations}
 use Rattle.pr_views.specs.Portions.{HasSomebody}
 use Rattle.pr_regions.specs.declared.region.Region.{Region}
-use Rattle.pr_regions.specs.declared.region.Change.{Change}
+use Rattle.pr_regions.specs.declared.region.Transition.{Transition}
 use Rattle.pr_regions.specs.declared.region.Ending.{Ending}
 use Rattle.pr_regions.specs.declared.region.Ending.TheVariants.{Conflict, Fault, Good}
 use Rattle.pr_regions.specs.declared.region.Branch.{Branch}
@@ -79,18 +79,18 @@ abbrev pub flag : Bool → ℕ → ℕ
 flag tells bit = if tells then bit else 0
 
 -- the bits of what an owner with registration r is told
-abbrev pub mark : Change → ℕ → ℕ
+abbrev pub mark : Transition → ℕ → ℕ
 mark c r =
     flag (has c.told_03 r) RESERVATIONS_PREEMPTED_BIT +
     (flag (has c.told_04 r) RESERVATIONS_RELEASED_BIT + flag (has c.told_05 r) REGISTRATIONS_PREEMPTED_BIT)
 
 -- the number of the owner's attentions once it has been told
-abbrev pub told_number : Change → ℕ → ℕ → ℕ
+abbrev pub told_number : Transition → ℕ → ℕ → ℕ
 told_number c r q = bit_or q (mark c r)
 
 -- What becomes of the sender's registration, of the others', of the reservation, and of what is pending for
 -- the owner of the view: each by itself.
-pub record Changes (s : Scope) (from : ℕ) (c : Change) (u v : UnitState) : Type 0 where
+pub record Changes (s : Scope) (from : ℕ) (c : Transition) (u v : UnitState) : Type 0 where
   pub sender : (r : ℕ) → IsSo s u (Registration from r) → IsSo s v (Registration from (unwrap_or c.sender r))
   pub others : (g r : ℕ) → g ≢ from → IsSo s u (Registration g r) → IsSo s v (Registration g (if has c.removed r then 0 else r))
   pub reservation : IsSo s v (Reservation c.reservation)

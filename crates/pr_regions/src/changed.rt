@@ -6,7 +6,7 @@ ghost use Rattle.pr_sets.specs.Words.{has};
 ghost use Rattle.pr_views.specs.Portions.{has_at};
 ghost use Rattle.pr_regions.specs.Images.{IsImage, registration_left, becomes};
 
-use crate::region::Change;
+use crate::region::Transition;
 use pr_cdb::codes::MOST_NEXUSES;
 use pr_sets::Word;
 
@@ -14,7 +14,7 @@ use pr_sets::Word;
 pub fn registrations_after(
     words: &[Word; MOST_NEXUSES],
     sender: u8,
-    change: &Change,
+    change: &Transition,
 ) -> [Word; MOST_NEXUSES]
     requires { unwrap_or change.now.sender 0 ≤ MOST_KEYS }
     ensures { (g : ℕ) → IsImage (has_at words.now g) (becomes sender change.now g)

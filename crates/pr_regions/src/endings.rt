@@ -11,7 +11,7 @@ ghost use Rattle.pr_regions.specs.inside.Parts.{Does, AlwaysEnds, EndsFor, never
 use crate::initiator::Initiator;
 use crate::numbers::reservation_number;
 use crate::purpose::{Purpose, Standing};
-use crate::region::{Change, Ending};
+use crate::region::{Ending, Transition};
 use crate::words::every_key;
 use pr_cdb::Kind;
 use pr_cdb::codes::{
@@ -33,11 +33,11 @@ fn holds(held: Held, sender: u8, standing: Standing) -> bool
 }
 
 // A change that leaves everything, and this reservation.
-pub(crate) fn change_to_reservation(reservation: u8) -> Change
+pub(crate) fn change_to_reservation(reservation: u8) -> Transition
     ensures { Does result None never reservation never never never }
 {
     let none = Word::none();
-    Change {
+    Transition {
         sender: None,
         removed: none,
         reservation,
@@ -48,7 +48,7 @@ pub(crate) fn change_to_reservation(reservation: u8) -> Change
 }
 
 // A change to the reservation of this type that the sender comes to hold.
-pub(crate) fn new_change(sender: Initiator, kind: Kind) -> Change
+pub(crate) fn new_change(sender: Initiator, kind: Kind) -> Transition
     ensures change { Does result None never
         (number_of sender.hosts (Some (new_reservation kind sender.number))) never never never }
     ensures room { HasRoom sender.hosts (Ending.Good result) }
@@ -58,7 +58,7 @@ pub(crate) fn new_change(sender: Initiator, kind: Kind) -> Change
 }
 
 // No change.
-pub(crate) fn no_change(sender: Initiator) -> Change
+pub(crate) fn no_change(sender: Initiator) -> Transition
     ensures change { Does result None never (number_of sender.hosts sender.held) never never
         never }
     ensures room { HasRoom sender.hosts (Ending.Good result) }
@@ -126,7 +126,7 @@ pub(crate) fn register_ending(sender: Initiator, key: u8) -> Ending
     requires { HasNumber (Purpose.Register key) }
     ensures { EndsFor sender (Purpose.Register key) result }
 {
-    Ending::Good(Change {
+    Ending::Good(Transition {
         sender: Some(key),
         ..no_change(sender)
     })
@@ -148,7 +148,7 @@ pub(crate) fn reserve_ending(sender: Initiator, kind: Kind) -> Ending
 
 // What ending a reservation of this type changes: registrants who lose their access are told.
 #[tactic(auto, using(crate::proofs::lemmas::Parts::Keys::keys_those))]
-pub(crate) fn release_change(kind: Kind) -> Change
+pub(crate) fn release_change(kind: Kind) -> Transition
     ensures { Does result None never 0 never (told_if (is_for_registrants kind)) never }
 {
     let mut change = change_to_reservation(0);
@@ -182,7 +182,7 @@ pub(crate) fn clear_ending() -> Ending
     ensures { (hosts : ℕ) (held : Option HeldOf) (sender : ℕ) (standing : Standing)
         → AlwaysEnds hosts Purpose.Clear held sender standing result }
 {
-    Ending::Good(Change {
+    Ending::Good(Transition {
         sender: Some(0),
         removed: every_key(),
         told_03: every_key(),
@@ -197,7 +197,7 @@ pub(crate) fn preempt_all_ending(sender: Initiator, kind: Kind) -> Ending
     if !is_held_by_all(sender.held) {
         return Ending::Fault(illegal(INVALID_FIELD_IN_PARAMETER_LIST, 0));
     }
-    Ending::Good(Change {
+    Ending::Good(Transition {
         removed: every_key(),
         told_05: every_key(),
         ..new_change(sender, kind)

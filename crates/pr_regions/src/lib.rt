@@ -30,5 +30,5 @@ pub use place::Place;
 pub use pr_views::count_of_reservations;
 pub use purpose::{Purpose, Standing};
 pub use reads::readings;
-pub use region::{Branch, Change, Ending, Reading, Region};
+pub use region::{Branch, Ending, Reading, Region, Transition};
 pub use words::every_key;

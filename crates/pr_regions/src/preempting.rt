@@ -12,7 +12,7 @@ use crate::branching::{ending_everywhere, three, two};
 use crate::endings::{change_to_reservation, new_change};
 use crate::initiator::Preemption;
 use crate::numbers::reservation_number;
-use crate::region::{Branch, Change, Ending, Region};
+use crate::region::{Branch, Ending, Region, Transition};
 use crate::words::{another_than, anything_but, free_or};
 use arrayvec::ArrayVec;
 use pr_cdb::Kind;
@@ -20,13 +20,13 @@ use pr_registry::{Held, is_kind};
 use pr_sets::Word;
 
 // What changes where the key is the single holder's, which holds by this type: the reservation is replaced.
-fn replacement_change(asked: Preemption, old: Kind) -> Change
+fn replacement_change(asked: Preemption, old: Kind) -> Transition
     ensures change { Does result None (only asked.key)
         (number_of asked.sender.hosts (Some (new_reservation asked.kind asked.sender.number))) never
         (told_but (not (is_kind old asked.kind)) asked.key) (only asked.key) }
     ensures room { HasRoom asked.sender.hosts (Ending.Good result) }
 {
-    let mut change = Change {
+    let mut change = Transition {
         removed: Word::only(asked.key),
         told_05: Word::only(asked.key),
         ..new_change(asked.sender, asked.kind)
@@ -38,11 +38,11 @@ fn replacement_change(asked: Preemption, old: Kind) -> Change
 }
 
 // What changes where the key is another's: those with the key go, the sender among them if it is its own.
-fn removal_change(key: u8, is_own: bool, reservation: u8) -> Change
+fn removal_change(key: u8, is_own: bool, reservation: u8) -> Transition
     requires { key ≤ MOST_KEYS }
     ensures { Does result (lost_if is_own) (only key) reservation never never (only key) }
 {
-    let mut change = Change {
+    let mut change = Transition {
         removed: Word::only(key),
         told_05: Word::only(key),
         ..change_to_reservation(reservation)

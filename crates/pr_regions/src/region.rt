@@ -16,7 +16,7 @@ pub struct Region {
 
 /// What a command that ends GOOD changes.
 #[derive(Clone, Copy, PartialEq, Eq)]
-pub struct Change {
+pub struct Transition {
     /// The sender's registration after it, where it changes.
     pub sender: Option<u8>,
     /// The registrations that others lose.
@@ -39,7 +39,7 @@ pub enum Ending {
     /// CHECK CONDITION with this sense.
     Fault(Sense),
     /// GOOD.
-    Good(Change),
+    Good(Transition),
 }
 
 /// A region with the command's ending there.

@@ -11,14 +11,14 @@ use crate::branching::{ending_everywhere, two};
 use crate::endings::{change_to_reservation, no_change, release_change};
 use crate::initiator::Initiator;
 use crate::purpose::Purpose;
-use crate::region::{Branch, Change, Ending, Region};
+use crate::region::{Branch, Ending, Region, Transition};
 use crate::words::every_key;
 use arrayvec::ArrayVec;
 use pr_registry::{Held, is_held_by_all};
 use pr_sets::Word;
 
 // What unregistering changes where not all registrants hold: a single holder's reservation ends.
-fn unregister_change(sender: Initiator) -> Change
+fn unregister_change(sender: Initiator) -> Transition
     ensures change { Does result (Some 0) never
         (number_of sender.hosts (if holds_alone sender.held sender.number then None
         else sender.held)) never
@@ -29,7 +29,7 @@ fn unregister_change(sender: Initiator) -> Change
         Some(Held::One(kind, holder)) if holder == sender.number => release_change(kind),
         _ => no_change(sender),
     };
-    Change {
+    Transition {
         sender: Some(0),
         ..left
     }
@@ -46,7 +46,7 @@ fn unregistering_registrant(sender: Initiator) -> ArrayVec<Branch, 3>
             somebody: Some(every_key()),
             ..Region::whole()
         },
-        ending: Ending::Good(Change {
+        ending: Ending::Good(Transition {
             sender: Some(0),
             ..no_change(sender)
         }),
@@ -56,7 +56,7 @@ fn unregistering_registrant(sender: Initiator) -> ArrayVec<Branch, 3>
             others: Word::only(0),
             ..Region::whole()
         },
-        ending: Ending::Good(Change {
+        ending: Ending::Good(Transition {
             sender: Some(0),
             ..change_to_reservation(0)
         }),

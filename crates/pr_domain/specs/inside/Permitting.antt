@@ -19,7 +19,7 @@ use Rattle.pr_views.specs.Possibilities.{Scope, Reservation, Attentions, IsSo}
 use Rattle.pr_views.specs.Views.{View, Shows, Fits}
 use Rattle.pr_views.specs.Portions.{view_in}
 use Rattle.pr_regions.specs.declared.region.Branch.{Branch}
-use Rattle.pr_regions.specs.declared.region.Change.{Change}
+use Rattle.pr_regions.specs.declared.region.Transition.{Transition}
 use Rattle.pr_regions.specs.declared.region.Ending.TheVariants.{Good}
 use Rattle.pr_regions.specs.declared.place.Place.{Place}
 use Rattle.pr_regions.specs.Regions.{IsProper as IsProperBranch}
@@ -84,7 +84,7 @@ permits_at clause c place r = names clause.action c && holds_at clause.condition
 
 -- The branch ends GOOD, and its region has a shown state in which nothing is pending for the owner.
 pub record IsReached (v : View) (place : Place) (senders : Word) (b : Branch) : Type 0 where
-  pub change : Change
+  pub change : Transition
   pub good : b.ending ≡ Good change
   pub there : IsThere v place senders b.region 0
 

@@ -32,8 +32,8 @@ use Rattle.pr_domain.specs.declared.landing.Landing.{Landing}
 use Rattle.pr_domain.specs.declared.landing.Landing.TheVariants.{Arm, NoArm}
 use Rattle.pr_domain.specs.declared.landing.Class.{Class}
 use Rattle.pr_domain.specs.declared.landing.Class.TheVariants.{Good, Conflict, Busy, Full, Sense as WithSense}
-use Rattle.pr_domain.specs.declared.reporting.Refused.{Refused}
-use Rattle.pr_domain.specs.declared.reporting.Refused.TheVariants as refused
+use Rattle.pr_domain.specs.declared.reporting.Unserved.{Unserved}
+use Rattle.pr_domain.specs.declared.reporting.Unserved.TheVariants as refused
 use Rattle.pr_domain.specs.Landings.{IsLanding}
 
 -- ---- the arm for a reply whose data no test looks at
@@ -151,7 +151,7 @@ pub data Ending : Type 0 where
   Conflicts : Ending
   Fails : Ending
   EndsGood : Ending
-  Refuses : Refused → Ending
+  Refuses : Unserved → Ending
 
 -- the attention is reported, and is pending no more
 abbrev pub IsReport : Command → ℕ → UnitState → Attention → Reply → UnitState → Type 0
@@ -164,7 +164,7 @@ MayReport c h u ReservationsPreempted = (is_pending u h power_on ≡ false) × (
 MayReport c h u ReservationsReleased = (is_pending u h power_on ≡ false) × (command_conflicts u.registry h c ≡ false)
 MayReport c h u RegistrationsPreempted = (is_pending u h power_on ≡ false) × (command_conflicts u.registry h c ≡ false)
 
-abbrev pub refusal : Refused → Reply
+abbrev pub refusal : Unserved → Reply
 refusal refused.Busy = busy
 refusal refused.Full = full
 

@@ -11,7 +11,7 @@ use Rattle.pr_views.specs.Views.{View}
 use Rattle.pr_views.specs.Portions.{view_in}
 use Rattle.pr_views.specs.Rooms.{view_of, AreInRange}
 use Rattle.pr_domain.specs.declared.landing.Landing.{Landing}
-use Rattle.pr_domain.specs.declared.reporting.Refused.{Refused}
+use Rattle.pr_domain.specs.declared.reporting.Unserved.{Unserved}
 use Rattle.pr_domain.specs.declared.reporting.Sending.{Sending}
 use Rattle.pr_domain.specs.Outcomes.{AreOutcomes}
 use Rattle.pr_domain.specs.inside.Tallies.{IsTally}
@@ -58,7 +58,7 @@ abbrev pub AddsGood : {S : Type 0} {sets : ViewSet S} → Sending → ℕ → Li
 AddsGood q arm old new = AddsThis q (LandsGood (view_of_sending q) q.asked.command q.asked.tests.now arm) old new
 
 -- so they have where the refusal lands, if the sender may meet it
-abbrev pub AddsIf : {S : Type 0} {sets : ViewSet S} → Sending → Bool → Refused → List (Landing × ViewOf S sets) → List (Landing × ViewOf S sets) → Type 0
+abbrev pub AddsIf : {S : Type 0} {sets : ViewSet S} → Sending → Bool → Unserved → List (Landing × ViewOf S sets) → List (Landing × ViewOf S sets) → Type 0
 AddsIf q declared refused old new = AddsThis q (λ l i. IsTrue declared × LandsOf q (Refuses refused) l i) old new
 
 -- If the tally is of the states from which the command is sent, these are its outcomes there.

@@ -15,7 +15,7 @@ use Rattle.pr_views.specs.Possibilities.{Scope, Item, IsSo}
 use Rattle.pr_views.specs.Views.{View, IsPossible, Shows, Fits}
 use Rattle.pr_views.specs.Portions.{view_in}
 use Rattle.pr_regions.specs.declared.region.Region.{Region}
-use Rattle.pr_regions.specs.declared.region.Change.{Change}
+use Rattle.pr_regions.specs.declared.region.Transition.{Transition}
 use Rattle.pr_regions.specs.declared.region.Ending.TheVariants as ending
 use Rattle.pr_regions.specs.declared.region.Branch.{Branch}
 use Rattle.pr_regions.specs.Regions.{Changes, HasRoom}
@@ -38,13 +38,13 @@ pub record IsOnlooking (s : Scope) (o : Onlooker) : Type 0 where
   pub fits : Fits (view_in s o.view)
 
 -- after the change in some state of the region, this is so
-pub record IsChanged (s : Scope) (view : Possibilities) (place : Place) (senders : Word) (region : Region) (change : Change) (i : Item) : Type 0 where
+pub record IsChanged (s : Scope) (view : Possibilities) (place : Place) (senders : Word) (region : Region) (change : Transition) (i : Item) : Type 0 where
   pub from : UnitState
   pub at : IsAt (view_in s view) place senders region from
   pub is : (w : UnitState) → Changes s place.sender change from w → IsSo s w i
 
 -- the possibilities are those of the states that the change leads to
-pub record IsAfter (s : Scope) (view : Possibilities) (place : Place) (senders : Word) (region : Region) (change : Change) (after : Possibilities) : Type 0 where
+pub record IsAfter (s : Scope) (view : Possibilities) (place : Place) (senders : Word) (region : Region) (change : Transition) (after : Possibilities) : Type 0 where
   pub all : (u w : UnitState) → IsAt (view_in s view) place senders region u → Changes s place.sender change u w → Allows s after w
   pub only : (i : Item) → IsPossible (view_in s after) i → IsChanged s view place senders region change i
 
@@ -60,14 +60,14 @@ pub record Among {X : Type 0} (n : ℕ) (xs : List X) (holds : X → Type 0) : T
 
 -- a branch that ends GOOD leads so from a state of its region
 pub record IsLedBy (s : Scope) (view : Possibilities) (place : Place) (senders : Word) (branch : Branch) (u w : UnitState) : Type 0 where
-  pub change : Change
+  pub change : Transition
   pub good : branch.ending ≡ ending.Good change
   pub at : IsAt (view_in s view) place senders branch.region u
   pub changes : Changes s place.sender change u w
 
 -- it leaves this behind in a state of its region
 pub record IsLeftBy (s : Scope) (view : Possibilities) (place : Place) (senders : Word) (branch : Branch) (i : Item) : Type 0 where
-  pub change : Change
+  pub change : Transition
   pub good : branch.ending ≡ ending.Good change
   pub changed : IsChanged s view place senders branch.region change i
 

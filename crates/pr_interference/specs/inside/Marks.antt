@@ -3,7 +3,7 @@ use Rattle.std.specs.Prelude.{◌≡◌, ℕ, Bool, true, ◌&&◌, nat_lt, bit_
 use Rattle.pr_sets.specs.declared.word.Word.{Word}
 use Rattle.pr_sets.specs.Words.{has}
 use Rattle.pr_views.specs.declared.view.TheConstants.{ATTENTION_SETS, MOST_REGISTRATIONS}
-use Rattle.pr_regions.specs.declared.region.Change.{Change}
+use Rattle.pr_regions.specs.declared.region.Transition.{Transition}
 use Rattle.pr_regions.specs.Regions.{mark}
 
 -- those numbers of the word that are below the bound
@@ -16,6 +16,6 @@ pub record AreMarked (bound : ℕ) (marks pending told : Word) : Type 0 where
   pub only : (n : ℕ) → has told n ≡ true → (m : ℕ) × (q : ℕ) × (first bound marks m ≡ true) × (first ATTENTION_SETS pending q ≡ true) × (n ≡ bit_or q m)
 
 -- of the sets of attentions, what they are for an owner with one of the registrations that there may be
-pub record AreTold (c : Change) (owners pending told : Word) : Type 0 where
+pub record AreTold (c : Transition) (owners pending told : Word) : Type 0 where
   pub all : (r q : ℕ) → first MOST_REGISTRATIONS owners r ≡ true → first ATTENTION_SETS pending q ≡ true → has told (bit_or q (mark c r)) ≡ true
   pub only : (n : ℕ) → has told n ≡ true → (r : ℕ) × (q : ℕ) × (first MOST_REGISTRATIONS owners r ≡ true) × (first ATTENTION_SETS pending q ≡ true) × (n ≡ bit_or q (mark c r))

@@ -13,7 +13,7 @@ use Rattle.pr_sets.specs.declared.word.Word.{Word}
 use Rattle.pr_sets.specs.Words.{has}
 use Rattle.pr_views.specs.Possibilities.{Scope}
 use Rattle.pr_regions.specs.declared.region.Region.{Region}
-use Rattle.pr_regions.specs.declared.region.Change.{Change}
+use Rattle.pr_regions.specs.declared.region.Transition.{Transition}
 use Rattle.pr_regions.specs.declared.region.Ending.{Ending}
 use Rattle.pr_regions.specs.declared.region.Branch.{Branch}
 use Rattle.pr_regions.specs.declared.purpose.Purpose.{Purpose}
@@ -84,7 +84,7 @@ pub record Leaves (region : Region) (holder others : ℕ → Bool) (test : Optio
 
 -- the change gives the sender this registration, where it gives one, removes and tells these others, and leaves
 -- this reservation
-pub record Does (c : Change) (to : Option ℕ) (out : ℕ → Bool) (left : ℕ) (tells_03 tells_04 tells_05 : ℕ → Bool) : Type 0 where
+pub record Does (c : Transition) (to : Option ℕ) (out : ℕ → Bool) (left : ℕ) (tells_03 tells_04 tells_05 : ℕ → Bool) : Type 0 where
   pub sender : c.sender ≡ to
   pub removed : HasThose c.removed out
   pub reservation : c.reservation ≡ left

@@ -28,7 +28,7 @@ use Rattle.pr_views.proofs.lemmas.Possibilities.Numbers.{key_there, one_registra
 use Rattle.pr_regions.specs.declared.purpose.Purpose.{Purpose}
 use Rattle.pr_regions.specs.declared.purpose.Standing.{Standing}
 use Rattle.pr_regions.specs.declared.region.Branch.{Branch}
-use Rattle.pr_regions.specs.declared.region.Change.{Change}
+use Rattle.pr_regions.specs.declared.region.Transition.{Transition}
 use Rattle.pr_regions.specs.declared.region.Ending.{Ending}
 use Rattle.pr_regions.specs.declared.region.Ending.TheVariants as ending
 use Rattle.pr_regions.specs.Purposes.{is_refused, purpose_of, names_written}
@@ -57,7 +57,7 @@ written_names keys _ is = refl
 
 -- ---- branches
 
-pub is_reached : (s : Scope) (view : Possibilities) (place : Place) (senders : Word) (b : Branch) (change : Change) (o : Option (List Word)) (there : Bool)
+pub is_reached : (s : Scope) (view : Possibilities) (place : Place) (senders : Word) (b : Branch) (change : Transition) (o : Option (List Word)) (there : Bool)
     → IsPlace s view place → IsUniform senders → has view.pending 0 ≡ true → IsProper b.region → b.ending ≡ ending.Good change → there ≡ is_some o
     → IfSome o (λ words. (t : Scope) → IsPlace t view place → IsUniform senders → IsProper b.region → IsGathered (view_in t view) place senders b.region words)
     → IfNone o ((t : Scope) → IsPlace t view place → IsUniform senders → IsProper b.region → (u : UnitState) → IsAt (view_in t view) place senders b.region u → ⊥)

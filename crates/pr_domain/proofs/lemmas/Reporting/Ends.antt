@@ -19,7 +19,7 @@ use Rattle.pr_roles.specs.declared.how.Refusals.{Refusals}
 use Rattle.pr_roles.specs.declared.how.How.{How}
 use Rattle.pr_roles.specs.Answers.{Answers}
 use Rattle.pr_roles.specs.DeclaredRefusals.{Answered, is_among}
-use Rattle.pr_domain.specs.declared.reporting.Refused.TheVariants as refused
+use Rattle.pr_domain.specs.declared.reporting.Unserved.TheVariants as refused
 use Rattle.pr_domain.specs.inside.Reporting.{Ending, Reports, Conflicts, Fails, EndsGood, Refuses, IsReport, Ends, comes}
 
 -- a code that is pending is one of the four

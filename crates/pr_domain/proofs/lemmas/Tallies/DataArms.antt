@@ -24,7 +24,7 @@ use Rattle.pr_views.specs.Portions.{view_in}
 use Rattle.pr_views.proofs.lemmas.Possibilities.Numbers.{one_registration}
 use Rattle.pr_regions.specs.declared.purpose.Purpose.TheVariants.{Look}
 use Rattle.pr_regions.specs.declared.region.Branch.{Branch}
-use Rattle.pr_regions.specs.declared.region.Change.{Change}
+use Rattle.pr_regions.specs.declared.region.Transition.{Transition}
 use Rattle.pr_regions.specs.declared.region.Reading.{Reading}
 use Rattle.pr_regions.specs.declared.region.Ending.TheVariants as ending
 use Rattle.pr_regions.specs.inside.Parts.{Does, never}
@@ -52,7 +52,7 @@ arm_way tests u c (Some n) way few some none is =
     let small : n < 16 = (let e = found.0 in omega arith) in
     is ∙ ap arm_of (sym (some small))
 
-pub reading_right : (s : Scope) (c : Command) (tests : List Test) (view : Possibilities) (place : Place) (r : ℕ) (w : Word) (b : Reading) (branch : Branch) (change : Change) (way : ℕ)
+pub reading_right : (s : Scope) (c : Command) (tests : List Test) (view : Possibilities) (place : Place) (r : ℕ) (w : Word) (b : Reading) (branch : Branch) (change : Transition) (way : ℕ)
     → IsRightReading s c tests view place r b → ((m : ℕ) → has w m ≡ (m == r)) → branch.region ≡ b.region → branch.ending ≡ ending.Good change
     → Does change None never place.reservation never never never
     → (IfSome b.arm (λ n. n < 16) → way ≡ way_of b.arm) → IfNone b.arm (way ≡ 0) → IsRight s c tests view place w branch way
@@ -111,7 +111,7 @@ readings_none s c tests view place r readings t = grows_from_none (view_in s vie
 
 -- a command whose purpose is to look, and whose key is accepted
 ends_so : (s : Scope) (view : Possibilities) (place : Place) (r : ℕ) (c : Command) → purpose_of s.keys c ≡ Some Look → ((k : Option ℕ) → is_refused k c ≡ false) → place.sender ≡ s.own → IsPlace s view place
-    → (change : Change) → Does change None never place.reservation never never never → (u : UnitState) → Shows (view_in s view) u → HasBoth s place r u → Ends s s.own (ending.Good change) u c
+    → (change : Transition) → Does change None never place.reservation never never never → (u : UnitState) → Shows (view_in s view) u → HasBoth s place r u → Ends s s.own (ending.Good change) u c
 ends_so s view place r c asks accepted own is change does u shown both =
     subst (λ n. Ends s n (ending.Good change) u c) own
     (same_ends s Look place.held place.sender (standing_of Look r) u c s.hosts change tt meets refl refl refl refl refl (subst (λ x. Does change None never x never never never) (number_at s view place is) does))
@@ -131,7 +131,7 @@ ends_so s view place r c asks accepted own is change does u shown both =
 
 -- such a command only looks
 look_ends : (s : Scope) (view : Possibilities) (place : Place) (r : ℕ) (c : Command) → (is_read_keys c || is_read_reservation c) ≡ true → place.sender ≡ s.own → IsPlace s view place
-    → (change : Change) → Does change None never place.reservation never never never → (u : UnitState) → Shows (view_in s view) u → HasBoth s place r u → Ends s s.own (ending.Good change) u c
+    → (change : Transition) → Does change None never place.reservation never never never → (u : UnitState) → Shows (view_in s view) u → HasBoth s place r u → Ends s s.own (ending.Good change) u c
 look_ends s view place r (command.ReadKeys alloc) reads own is change does u shown both = ends_so s view place r (command.ReadKeys alloc) refl (λ k. refl) own is change does u shown both
 look_ends s view place r (command.ReadReservation alloc) reads own is change does u shown both = ends_so s view place r (command.ReadReservation alloc) refl (λ k. refl) own is change does u shown both
 look_ends s view place r _ reads own is change does u shown both = absurd (false≢true reads)

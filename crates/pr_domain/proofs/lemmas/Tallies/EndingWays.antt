@@ -40,7 +40,7 @@ use Rattle.pr_script.specs.Takes.{matches}
 use Rattle.pr_domain.specs.declared.reporting.Sending.{Sending}
 use Rattle.pr_domain.specs.Landings.{IsClass, IsLanding}
 use Rattle.pr_domain.specs.inside.Tallies.{IsRegistered, has_part, Leaves}
-use Rattle.pr_domain.specs.declared.reporting.Refused.{Refused}
+use Rattle.pr_domain.specs.declared.reporting.Unserved.{Unserved}
 use Rattle.pr_domain.specs.inside.Reporting.{AreReported, AreCalm, AreQuiet, Ending, Reports, Conflicts, Fails, EndsGood, Refuses, refusal, MayReport, Ends, LandsBy, LandsGood, IsLater, IsOfWay, LandsGoodBelow, AreMore, HasOutcome, landing_at}
 use Rattle.pr_domain.specs.inside.Sendings.{scope_of_sending, view_of_sending, IsInRange, IsOfWayAt, IsTallied, LandsOf}
 use Rattle.pr_domain.proofs.lemmas.Tallies.Origins.{one_class, one_landing, settled, IsWay, IsTold, from_part, way_lands}
@@ -104,7 +104,7 @@ module _ (q : Sending) (tally : IsTallied q) where
       (told_power_on (scope_of_sending q) q.known q.asked.command q.asked.tests.now l left are landing)
       (λ u r w ends. subst (λ x. IsLanding q.asked.tests.now x l) (sym ends.1.1) landing)
 
-  pub adds_refusal : (refused : Refused) (l : Landing) (p free either : Possibilities) → slice_get q.tally.now.ways 0 ≡ Some p → slice_get q.tally.now.ways 1 ≡ Some free
+  pub adds_refusal : (refused : Unserved) (l : Landing) (p free either : Possibilities) → slice_get q.tally.now.ways 0 ≡ Some p → slice_get q.tally.now.ways 1 ≡ Some free
       → ((j : Item) → has_part either j ≡ (has_part p j || has_part free j)) → IsLanding q.asked.tests.now (refusal refused) l
       → IsAddedBy q (Refuses refused) (LandsOf q (Refuses refused)) l either q.known.pending
   adds_refusal refused l p free either first second is landing =

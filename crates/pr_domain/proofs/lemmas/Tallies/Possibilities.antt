@@ -30,7 +30,7 @@ use Rattle.pr_domain.specs.declared.landing.Landing.{Landing}
 use Rattle.pr_domain.specs.declared.tally.Tally.{Tally}
 use Rattle.pr_domain.specs.Landings.{IsLanding}
 use Rattle.pr_domain.specs.inside.Tallies.{IsRegistered, has_part, has_tallied, arm_of, Leaves, IsTally}
-use Rattle.pr_domain.specs.declared.reporting.Refused.{Refused}
+use Rattle.pr_domain.specs.declared.reporting.Unserved.{Unserved}
 use Rattle.pr_domain.specs.inside.Reporting.{AreReported, AreCalm, AreQuiet, Reports, Conflicts, Fails, EndsGood, Refuses, MayReport, landing_at, refusal}
 use Rattle.pr_domain.proofs.lemmas.Reporting.OwnerStates.{after_reported, reported_after, quiet_number, untold_pending}
 use Rattle.pr_domain.proofs.lemmas.Permitting.IdleCommands.{idle_from_zero}
@@ -131,7 +131,7 @@ module _ (s : Scope) (known : Possibilities) (c : Command) (tests : List Test) (
 
   -- ---- a refusal
 
-  pub told_refusal : (refused : Refused) → IsLanding tests (refusal refused) l → IsTold (view_in s known) c tests (Refuses refused) l (IsRegistered s) known.pending
+  pub told_refusal : (refused : Unserved) → IsLanding tests (refusal refused) l → IsTold (view_in s known) c tests (Refuses refused) l (IsRegistered s) known.pending
   told_refusal refused landing = record {
     forth = λ u r w j shown ends landed so. still_registered s u w j (ap (λ (x : UnitState). x.registry) ends.1) so;
     pends = λ u r w q n ends possible so left.

@@ -19,7 +19,7 @@ use Rattle.pr_views.specs.Views.{View, Shows}
 use Rattle.pr_views.specs.Portions.{has_at, view_in}
 use Rattle.pr_views.proofs.lemmas.Possibilities.Numbers.{one_registration}
 use Rattle.pr_regions.specs.declared.region.Branch.{Branch}
-use Rattle.pr_regions.specs.declared.region.Change.{Change}
+use Rattle.pr_regions.specs.declared.region.Transition.{Transition}
 use Rattle.pr_regions.specs.declared.region.Ending.TheVariants as ending
 use Rattle.pr_regions.specs.declared.region.Region.{Region}
 use Rattle.pr_regions.specs.Readings.{first_test}
@@ -184,7 +184,7 @@ part_here s view place senders region words p is gathered beyond registrations r
         (met.unit, met.at, subst (λ y. IsSo s met.unit (Reservation y)) (sym same) met.at.reservation, met.pending)
     only (Attentions q) p there pending = absurd (false≢true there)
 
-pub part_after : (s : Scope) (c : Command) (change : Change) (view : Possibilities) (place : Place) (senders : Word) (region : Region) (words after : List Word) (p : Possibilities)
+pub part_after : (s : Scope) (c : Command) (change : Transition) (view : Possibilities) (place : Place) (senders : Word) (region : Region) (words after : List Word) (p : Possibilities)
     → IsPlace s view place → place.sender ≡ s.own
     → IsGathered (view_in s view) place senders region words → ((g r : ℕ) → place.hosts ≤ g → has_at words g r ≡ false)
     → ((g : ℕ) → IsImage (has_at words g) (becomes place.sender change g) (has_at after g))
@@ -255,7 +255,7 @@ leaf_fault s c tests view place senders b arm sense words here old mid new right
     (λ u at. subst (λ e. Ends s s.own e u c) ended (right.ends u at))
     (part_here s view place senders b.region words here right.is gathered beyond registrations reservations) first second
 
-pub leaf_good : (s : Scope) (c : Command) (tests : List Test) (view : Possibilities) (place : Place) (senders : Word) (b : Branch) (arm way : ℕ) (change : Change) (words changed : List Word) (here after : Possibilities) (old mid new : Tally)
+pub leaf_good : (s : Scope) (c : Command) (tests : List Test) (view : Possibilities) (place : Place) (senders : Word) (b : Branch) (arm way : ℕ) (change : Transition) (words changed : List Word) (here after : Possibilities) (old mid new : Tally)
     → IsRight s c tests view place senders b arm → b.ending ≡ ending.Good change → way ≡ suc (suc (suc arm))
     → IsGathered (view_in s view) place senders b.region words → ((g r : ℕ) → place.hosts ≤ g → has_at words g r ≡ false)
     → here.registrations ≡ words → ((x : ℕ) → has_wide here.reservations x ≡ (x == place.reservation))

@@ -1,6 +1,6 @@
 use Rattle.std.proofs.Common.{refl, None}
 use Rattle.pr_views.specs.Portions.{view_in}
-use Rattle.pr_regions.specs.declared.region.Change.{Change}
+use Rattle.pr_regions.specs.declared.region.Transition.{Transition}
 use Rattle.pr_regions.specs.inside.Parts.{Does, never}
 use Rattle.pr_regions.specs.Gathering.{IsAt}
 use Rattle.pr_domain.specs.inside.Tallies.{IsReadAt}
@@ -10,7 +10,7 @@ use Rattle.pr_domain.proofs.lemmas.Tallies.Growth.{grows_as}
 use Rattle.pr_domain.proofs.lemmas.Tallies.PresentStates.{reading_there}
 use Rattle.pr_domain.proofs.tallying.add_reading.Goals as goal
 
-abbrev kept : (c : goal.After-add_branch) → Change
+abbrev kept : (c : goal.After-add_branch) → Transition
 kept c = record {
   sender = None;
   removed = c.none-none.result;

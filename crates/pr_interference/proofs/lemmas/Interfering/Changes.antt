@@ -1,5 +1,5 @@
 -- What is possible after a change, from what is gathered before it.
-use Rattle.pr_interference.proofs.Common.{◌≡◌, ℕ, ◌<◌, ◌≤◌, true, false, ◌≢◌, ◌⊎◌, List, ◌==◌, sym, ◌∙◌, subst, inl, inr, arith, eqb_tells, nat_tests, has_wide, has, Word, MOST_NEXUSES, UnitState, has_at, view_in, Scope, Item, Registration, Reservation, Attentions, IsSo, IsPossible, Possibilities, one_registration, one_attentions, IsAt, IsImage, Changes, Place, Change, Allows, few_keys, Onlooker, IsWatched}
+use Rattle.pr_interference.proofs.Common.{◌≡◌, ℕ, ◌<◌, ◌≤◌, true, false, ◌≢◌, ◌⊎◌, List, ◌==◌, sym, ◌∙◌, subst, inl, inr, arith, eqb_tells, nat_tests, has_wide, has, Word, MOST_NEXUSES, UnitState, has_at, view_in, Scope, Item, Registration, Reservation, Attentions, IsSo, IsPossible, Possibilities, one_registration, one_attentions, IsAt, IsImage, Changes, Place, Transition, Allows, few_keys, Onlooker, IsWatched}
 use Rattle.std.proofs.Common.{unwrap_or}
 use Rattle.pr_regions.specs.declared.region.Region.{Region}
 use Rattle.pr_regions.specs.Regions.{told_number}
@@ -10,7 +10,7 @@ use Rattle.pr_interference.specs.inside.Interfering.{IsChanged, IsAfter}
 use Rattle.pr_interference.proofs.lemmas.Marks.Images.{first_from, first_parts}
 
 -- what becomes of a registration
-pub becomes_so : (s : Scope) (sender : ℕ) (c : Change) (u w : UnitState) (g r : ℕ) → Changes s sender c u w → IsSo s u (Registration g r) → IsSo s w (Registration g (becomes sender c g r))
+pub becomes_so : (s : Scope) (sender : ℕ) (c : Transition) (u w : UnitState) (g r : ℕ) → Changes s sender c u w → IsSo s u (Registration g r) → IsSo s w (Registration g (becomes sender c g r))
 becomes_so s sender c u w g r changes so = at (eqb_tells g sender)
   where
     at : (((g == sender) ≡ true) × (g ≡ sender)) ⊎ (((g == sender) ≡ false) × (g ≢ sender)) → IsSo s w (Registration g (becomes sender c g r))
@@ -19,7 +19,7 @@ becomes_so s sender c u w g r changes so = at (eqb_tells g sender)
     at (inr other) = rw other.0 (changes.others g r other.1 so)
 
 -- the possibilities are made of what is gathered
-pub record IsMadeOf (view : Possibilities) (own : ℕ) (place : Place) (change : Change) (words : List Word) (p : Possibilities) : Type 0 where
+pub record IsMadeOf (view : Possibilities) (own : ℕ) (place : Place) (change : Transition) (words : List Word) (p : Possibilities) : Type 0 where
   pub registrations : (g : ℕ) → g < MOST_NEXUSES → IsImage (has_at words g) (becomes place.sender change g) (has_at p.registrations g)
   pub reservation : (x : ℕ) → has_wide p.reservations x ≡ (x == change.reservation)
   pub owners : Word
@@ -32,7 +32,7 @@ same_number a b is = grind (arith, nat_tests)
 itself : (a : ℕ) → (a == a) ≡ true
 itself a = grind (arith, nat_tests)
 
-pub is_after : (s : Scope) (o : Onlooker) (place : Place) (senders : Word) (region : Region) (change : Change) (words : List Word) (p : Possibilities) (q : ℕ) → IsWatched s o place
+pub is_after : (s : Scope) (o : Onlooker) (place : Place) (senders : Word) (region : Region) (change : Transition) (words : List Word) (p : Possibilities) (q : ℕ) → IsWatched s o place
     → s.hosts ≤ MOST_NEXUSES → IsGathered (view_in s o.view) place senders region words → has o.view.pending q ≡ true → IsMadeOf o.view s.own place change words p
     → IsAfter s o.view place senders region change p
 is_after s o place senders region change words p q is most gathered some made = record { all = allows; only = only }

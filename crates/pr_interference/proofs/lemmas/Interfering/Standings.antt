@@ -1,5 +1,5 @@
 -- What a clause leads to under one reservation, by how its sender stands to what it asks for.
-use Rattle.pr_interference.proofs.Common.{◌≡◌, ℕ, zero, suc, ◌<◌, ◌≤◌, Bool, true, false, not, ◌||◌, List, length, if◌then◌else◌, Some, None, Option, sym, refl, ap, ◌∙◌, subst, arith, false≢true, and_parts, and_from, has, Word, Command, State, key_of, is_registered, IsKey, Held, One, UnitState, effect, is_action, AreDeclared, names, holds, Clause, has_at, view_in, Scope, Item, Registration, Reservation, IsSo, Shows, IsAt, purpose_of, Changes, Place, Purpose, Branch, Change, same_reservation, few_keys, Onlooker, purpose_for, StandingLeads, IsWatched, Among, IsLedBy, IsLeftBy, ClauseLeaves}
+use Rattle.pr_interference.proofs.Common.{◌≡◌, ℕ, zero, suc, ◌<◌, ◌≤◌, Bool, true, false, not, ◌||◌, List, length, if◌then◌else◌, Some, None, Option, sym, refl, ap, ◌∙◌, subst, arith, false≢true, and_parts, and_from, has, Word, Command, State, key_of, is_registered, IsKey, Held, One, UnitState, effect, is_action, AreDeclared, names, holds, Clause, has_at, view_in, Scope, Item, Registration, Reservation, IsSo, Shows, IsAt, purpose_of, Changes, Place, Purpose, Branch, Transition, same_reservation, few_keys, Onlooker, purpose_for, StandingLeads, IsWatched, Among, IsLedBy, IsLeftBy, ClauseLeaves}
 use Rattle.std.proofs.Common.{is_some}
 use Rattle.pr_registry.specs.declared.held.Held.TheVariants.{All as Everybody}
 use Rattle.pr_unit.specs.Conflicts.{command_conflicts}
@@ -127,7 +127,7 @@ meets s o place p standing u c is shown reserved stands asked accepted = record 
 
 -- a branch in whose region a command ends GOOD
 ended : (s : Scope) (sender : ℕ) (e : Ending) (u : UnitState) (c : Command) → command_conflicts u.registry sender c ≡ false → command_fault u.registry sender c ≡ None → Ends s sender e u c
-    → (change : Change) × (e ≡ ending.Good change) × Changes s sender change u (effect u sender c)
+    → (change : Transition) × (e ≡ ending.Good change) × Changes s sender change u (effect u sender c)
 ended s sender ending.Conflict u c free whole ends = absurd (false≢true (sym free ∙ ends))
 ended s sender (ending.Fault sense) u c free whole ends = let bad : None ≡ Some sense = sym whole ∙ ends.1 in cc
 ended s sender (ending.Good change) u c free whole ends = (change, refl, ends.2)

@@ -1,5 +1,5 @@
 -- Images of sets of numbers, one number after another.
-use Rattle.pr_interference.proofs.Common.{◌≡◌, ℕ, ◌+◌, ◌<◌, Bool, true, false, ◌||◌, ◌≢◌, ◌⊎◌, ◌==◌, bit_or, sym, refl, ap, ◌∙◌, subst, inl, inr, arith, lt-ltb, false≢true, and_parts, and_from, eqb_tells, nat_tests, has, Word, IsImage, mark, Change, first, AreMarked}
+use Rattle.pr_interference.proofs.Common.{◌≡◌, ℕ, ◌+◌, ◌<◌, Bool, true, false, ◌||◌, ◌≢◌, ◌⊎◌, ◌==◌, bit_or, sym, refl, ap, ◌∙◌, subst, inl, inr, arith, lt-ltb, false≢true, and_parts, and_from, eqb_tells, nat_tests, has, Word, IsImage, mark, Transition, first, AreMarked}
 use Rattle.std.proofs.Common.{nat_lt}
 use Rattle.std.proofs.lemmas.Bool.{ltb-true}
 use Rattle.pr_regions.specs.Regions.{flag}
@@ -98,7 +98,7 @@ marked_skips i marks pending told missing before = record {
     all m q is pends (inl same) = absurd (false≢true (sym missing ∙ subst (λ x. has marks x ≡ true) same (first_parts (i + 1) marks m is).1))
     all m q is pends (inr below) = before.all m q below pends
 
-mark_few : (c : Change) (r : ℕ) → mark c r < 16
+mark_few : (c : Transition) (r : ℕ) → mark c r < 16
 mark_few c r = few (has c.told_03 r) (has c.told_04 r) (has c.told_05 r)
   where
     few : (a b d : Bool) → flag a 2 + (flag b 4 + flag d 8) < 16
@@ -111,7 +111,7 @@ mark_few c r = few (has c.told_03 r) (has c.told_04 r) (has c.told_05 r)
     few false false true = omega arith
     few false false false = omega arith
 
-pub told_from_marks : (c : Change) (owners pending marks told : Word) → IsImage (first 13 owners) (mark c) (has marks) → AreMarked 16 marks pending told → AreTold c owners pending told
+pub told_from_marks : (c : Transition) (owners pending marks told : Word) → IsImage (first 13 owners) (mark c) (has marks) → AreMarked 16 marks pending told → AreTold c owners pending told
 told_from_marks c owners pending marks told image marked = record {
   all = λ r q owns pends. marked.all (mark c r) q (first_from 16 marks (mark c r) (mark_few c r) (image.all r owns)) pends;
   only = λ n is.

@@ -1,4 +1,4 @@
-use Rattle.pr_regions.proofs.Common.{ℕ, ◌≡◌, ◌≢◌, ◌<◌, ◌==◌, Bool, true, false, List, refl, unwrap_or, length, subst, sym, ◌⊎◌, inl, inr, ◌≤◌, ◌∙◌, arith, false≢true, nat_tests, Word, has, Change}
+use Rattle.pr_regions.proofs.Common.{ℕ, ◌≡◌, ◌≢◌, ◌<◌, ◌==◌, Bool, true, false, List, refl, unwrap_or, length, subst, sym, ◌⊎◌, inl, inr, ◌≤◌, ◌∙◌, arith, false≢true, nat_tests, Word, has, Transition}
 use Rattle.std.proofs.Common.{slice_index_or}
 use Rattle.std.proofs.lemmas.Bool.{cases_lt}
 use Rattle.std.proofs.lemmas.List.{length-set}
@@ -22,10 +22,10 @@ same_image p q f g same image = record {
   only = λ m is. let found = image.only m is in (found.0, found.1, found.2 ∙ same found.0);
 }
 
-becomes_sent : (from g r : ℕ) (c : Change) → g ≡ from → unwrap_or c.sender r ≡ becomes from c g r
+becomes_sent : (from g r : ℕ) (c : Transition) → g ≡ from → unwrap_or c.sender r ≡ becomes from c g r
 becomes_sent from g r c is = let same : (g == from) ≡ true = grind (arith, nat_tests) in rw same refl
 
-becomes_left : (from g r : ℕ) (c : Change) → g ≢ from → registration_left c.removed r ≡ becomes from c g r
+becomes_left : (from g r : ℕ) (c : Transition) → g ≢ from → registration_left c.removed r ≡ becomes from c g r
 becomes_left from g r c is = let other : (g == from) ≡ false = grind (arith, nat_tests) in rw other refl
 
 pub loop-host-preserved : goal.loop-host-preserved

@@ -1,5 +1,5 @@
 -- How a command ends in a state that meets what is known, by its purpose.
-use Rattle.pr_regions.proofs.Common.{◌≡◌, ℕ, zero, suc, ◌<◌, ◌≤◌, Bool, true, false, not, if◌then◌else◌, Some, None, Option, unwrap_or, sym, refl, ap, ◌∙◌, subst, arith, nat_tests, Command, Sense, no_change, State, is_registered, Held, One, All, UnitState, Scope, number_of, HasNumber, Meets, HasRoom, Ends, Purpose, Standing, Change, Conflict, Fault, Good, Does, never, is_unregistered, holds, is_of_registrant}
+use Rattle.pr_regions.proofs.Common.{◌≡◌, ℕ, zero, suc, ◌<◌, ◌≤◌, Bool, true, false, not, if◌then◌else◌, Some, None, Option, unwrap_or, sym, refl, ap, ◌∙◌, subst, arith, nat_tests, Command, Sense, no_change, State, is_registered, Held, One, All, UnitState, Scope, number_of, HasNumber, Meets, HasRoom, Ends, Purpose, Standing, Transition, Conflict, Fault, Good, Does, never, is_unregistered, holds, is_of_registrant}
 use Rattle.pr_registry.specs.declared.change.Change.{Change as Told}
 use Rattle.pr_registry.specs.Registrations.{is_holder}
 use Rattle.pr_registry.specs.Effects.{after, change}
@@ -75,7 +75,7 @@ fault_ends s p held sender standing u c sense has m free faulty =
     let asked = asks s p held sender standing u c has m in (asked.conflicting ∙ free, asked.faulty ∙ faulty)
 
 pub good_ends : (s : Scope) (p : Purpose) (held : Option Held) (sender : ℕ) (standing : Standing) (u : UnitState) (c : Command)
-    (to : Option ℕ) (out : ℕ → Bool) (left : ℕ) (t3 t4 t5 : ℕ → Bool) (b : Change) → HasNumber p
+    (to : Option ℕ) (out : ℕ → Bool) (left : ℕ) (t3 t4 t5 : ℕ → Bool) (b : Transition) → HasNumber p
     → Meets s p held sender standing u c → conflicts_for s.keys u.registry sender p ≡ false → fault_for u.registry sender p ≡ None
     → Does b to out left t3 t4 t5
     → Becomes s.keys s.hosts sender to out left t3 t4 t5 u.registry (after_for s.keys u.registry sender p) (change_for s.keys u.registry sender p)
@@ -89,7 +89,7 @@ good_ends s p held sender standing u c to out left t3 t4 t5 b has m free whole d
     (asked.conflicting ∙ free, asked.faulty ∙ whole, changes s sender b u (after u.registry sender c) (change u.registry sender c) so)
 
 -- a number that is left, by another name
-pub leaves : (b : Change) (to : Option ℕ) (out : ℕ → Bool) (x y : ℕ) (t3 t4 t5 : ℕ → Bool) → x ≡ y → Does b to out x t3 t4 t5 → Does b to out y t3 t4 t5
+pub leaves : (b : Transition) (to : Option ℕ) (out : ℕ → Bool) (x y : ℕ) (t3 t4 t5 : ℕ → Bool) → x ≡ y → Does b to out x t3 t4 t5 → Does b to out y t3 t4 t5
 leaves b to out x y t3 t4 t5 same does = record {
   sender = does.sender;
   removed = does.removed;
@@ -100,13 +100,13 @@ leaves b to out x y t3 t4 t5 same does = record {
 }
 
 -- the numbers of a change fit where those that it is to have do
-pub has_room : (hosts : ℕ) (b : Change) (to : Option ℕ) (out : ℕ → Bool) (left : ℕ) (t3 t4 t5 : ℕ → Bool) → Does b to out left t3 t4 t5
+pub has_room : (hosts : ℕ) (b : Transition) (to : Option ℕ) (out : ℕ → Bool) (left : ℕ) (t3 t4 t5 : ℕ → Bool) → Does b to out left t3 t4 t5
     → unwrap_or to 0 ≤ 12 → left < count_of_reservations hosts → HasRoom hosts (Good b)
 has_room hosts b to out left t3 t4 t5 does small below =
     (subst (λ (o : Option ℕ). unwrap_or o 0 ≤ 12) (sym does.sender) small, subst (λ n. n < count_of_reservations hosts) (sym does.reservation) below)
 
 -- the command changes nothing
-pub same_ends : (s : Scope) (p : Purpose) (held : Option Held) (sender : ℕ) (standing : Standing) (u : UnitState) (c : Command) (hosts : ℕ) (b : Change) → HasNumber p
+pub same_ends : (s : Scope) (p : Purpose) (held : Option Held) (sender : ℕ) (standing : Standing) (u : UnitState) (c : Command) (hosts : ℕ) (b : Transition) → HasNumber p
     → Meets s p held sender standing u c → s.hosts ≡ hosts → conflicts_for s.keys u.registry sender p ≡ false → fault_for u.registry sender p ≡ None
     → after_for s.keys u.registry sender p ≡ u.registry → change_for s.keys u.registry sender p ≡ no_change
     → Does b None never (number_of hosts held) never never never → Ends s sender (Good b) u c

@@ -1,5 +1,5 @@
 -- The branches of a command that preempts a key while another host holds the reservation alone.
-use Rattle.pr_regions.proofs.Common.{◌≡◌, ℕ, ◌<◌, Bool, true, false, not, ◌≢◌, ◌⊎◌, [], ◌∷◌, is_some, if◌then◌else◌, IsTrue, ◌==◌, Some, None, Option, sym, refl, ap, ◌∙◌, subst, inl, inr, arith, not-true, false≢true, nat_tests, Command, Kind, is_kind, held_by_rest, is_key, Keys, key_of, new_reservation, Held, One, UnitState, HasSomebody, Scope, number_of, Registration, IsSo, HasNumber, Meets, HasRoom, IsInRegion, IsCovered, Preempt, Standing, Branch, Change, Conflict, Good, Does, never, any, only, is_of_registrant, but, another, told_but, lost_if, is_named, Leaves, EndsIn, Tell}
+use Rattle.pr_regions.proofs.Common.{◌≡◌, ℕ, ◌<◌, Bool, true, false, not, ◌≢◌, ◌⊎◌, [], ◌∷◌, is_some, if◌then◌else◌, IsTrue, ◌==◌, Some, None, Option, sym, refl, ap, ◌∙◌, subst, inl, inr, arith, not-true, false≢true, nat_tests, Command, Kind, is_kind, held_by_rest, is_key, Keys, key_of, new_reservation, Held, One, UnitState, HasSomebody, Scope, number_of, Registration, IsSo, HasNumber, Meets, HasRoom, IsInRegion, IsCovered, Preempt, Standing, Branch, Transition, Conflict, Good, Does, never, any, only, is_of_registrant, but, another, told_but, lost_if, is_named, Leaves, EndsIn, Tell}
 use Rattle.std.specs.FinMap as map
 use Rattle.pr_registry.specs.Registrations.{HasHolder}
 use Rattle.pr_regions.proofs.lemmas.Showing.Numbers.{same_itself, few_keys, one_registration}
@@ -59,7 +59,7 @@ holder_is s j t old h sender standing u c b holder others test apart m leaves in
     sym (left_to_holder holder others old h r) ∙ sym (ap (λ v. left_to holder others v h r) m.held) ∙ there.registrations h r apart so
 
 -- the holder has the key
-pub holders_key : (hosts j : ℕ) (t old : Kind) (h sender : ℕ) (standing : Standing) (b : Branch) (change : Change) → HasNumber (Preempt j t) → h ≢ sender
+pub holders_key : (hosts j : ℕ) (t old : Kind) (h sender : ℕ) (standing : Standing) (b : Branch) (change : Transition) → HasNumber (Preempt j t) → h ≢ sender
     → Leaves b.region (only j) any None → b.ending ≡ Good change
     → Does change None (only j) (number_of hosts (Some (new_reservation t sender))) never (told_but (not (is_kind old t)) j) (only j) → HasRoom hosts (Good change)
     → EndsIn hosts (Preempt j t) (held_by old h) sender standing b
@@ -89,7 +89,7 @@ same_number : (s : Scope) (hosts : ℕ) (old : Kind) (h : ℕ) (u : UnitState) (
 same_number s hosts old h u rest alike is = λ i. number_of (sym alike i) (held_by_rest rest (sym is i))
 
 -- the holder has another key, and the sender this one
-pub own_key_goes : (hosts j : ℕ) (t old : Kind) (h sender : ℕ) (standing : Standing) (b : Branch) (goes : Change) → HasNumber (Preempt j t) → h ≢ sender → is_named standing ≡ true
+pub own_key_goes : (hosts j : ℕ) (t old : Kind) (h sender : ℕ) (standing : Standing) (b : Branch) (goes : Transition) → HasNumber (Preempt j t) → h ≢ sender → is_named standing ≡ true
     → Leaves b.region (another j) any None → b.ending ≡ Good goes → Does goes (lost_if true) (only j) (number_of hosts (held_by old h)) never never (only j) → HasRoom hosts (Good goes)
     → EndsIn hosts (Preempt j t) (held_by old h) sender standing b
 own_key_goes hosts j t old h sender standing b goes has apart own leaves ending does room = record {
@@ -104,7 +104,7 @@ own_key_goes hosts j t old h sender standing b goes has apart own leaves ending 
 }
 
 -- the holder has another key, and so has the sender, and somebody has this one
-pub somebodys_key_goes : (hosts j : ℕ) (t old : Kind) (h sender : ℕ) (standing : Standing) (b : Branch) (goes : Change) → HasNumber (Preempt j t) → h ≢ sender → is_named standing ≡ false
+pub somebodys_key_goes : (hosts j : ℕ) (t old : Kind) (h sender : ℕ) (standing : Standing) (b : Branch) (goes : Transition) → HasNumber (Preempt j t) → h ≢ sender → is_named standing ≡ false
     → Leaves b.region (another j) any (Some (only j)) → b.ending ≡ Good goes → Does goes (lost_if false) (only j) (number_of hosts (held_by old h)) never never (only j) → HasRoom hosts (Good goes)
     → EndsIn hosts (Preempt j t) (held_by old h) sender standing b
 somebodys_key_goes hosts j t old h sender standing b goes has apart other leaves ending does room = record {

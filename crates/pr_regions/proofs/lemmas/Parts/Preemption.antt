@@ -1,5 +1,5 @@
 -- The branches of a command that preempts a key.
-use Rattle.pr_regions.proofs.Common.{◌≡◌, ℕ, ◌≤◌, Bool, true, false, not, ◌&&◌, ◌||◌, ◌≢◌, ◌⊎◌, [], ◌∷◌, is_some, if◌then◌else◌, ◌==◌, Some, None, Option, sym, refl, ap, ◌∙◌, subst, inl, inr, arith, not-true, false≢true, nat_tests, eqb_tells, Command, Kind, is_held_by_all, is_kind, held_by_rest, is_key, Keys, without, hosts_with, is_empty, is_registered, key_of, new_reservation, Held, One, All, UnitState, HasSomebody, Scope, number_of, key_at, Registration, IsSo, HasNumber, Meets, HasRoom, IsCovered, Preempt, Standing, Branch, Change, Conflict, Good, Does, AlwaysEnds, never, any, only, but, another, told_but, lost_if, is_named, Leaves, EndsIn, Tell}
+use Rattle.pr_regions.proofs.Common.{◌≡◌, ℕ, ◌≤◌, Bool, true, false, not, ◌&&◌, ◌||◌, ◌≢◌, ◌⊎◌, [], ◌∷◌, is_some, if◌then◌else◌, ◌==◌, Some, None, Option, sym, refl, ap, ◌∙◌, subst, inl, inr, arith, not-true, false≢true, nat_tests, eqb_tells, Command, Kind, is_held_by_all, is_kind, held_by_rest, is_key, Keys, without, hosts_with, is_empty, is_registered, key_of, new_reservation, Held, One, All, UnitState, HasSomebody, Scope, number_of, key_at, Registration, IsSo, HasNumber, Meets, HasRoom, IsCovered, Preempt, Standing, Branch, Transition, Conflict, Good, Does, AlwaysEnds, never, any, only, but, another, told_but, lost_if, is_named, Leaves, EndsIn, Tell}
 use Rattle.std.specs.FinMap as map
 use Rattle.pr_regions.specs.inside.Parts.{free_or, IsNotAnothers}
 use Rattle.pr_regions.proofs.lemmas.Showing.Numbers.{few_keys, is_some-key_at}
@@ -75,12 +75,12 @@ own_key s j t held sender standing u c m keys own =
     key_is s j sender standing u sender it.number keys (m.below, it.is.known, it.is.key) (keys.own it.number it.is ∙ own)
 
 -- what a change does, by how the sender stands
-pub does_so : (change : Change) (b named : Bool) (out : ℕ → Bool) (left : ℕ) (t5 : ℕ → Bool) → named ≡ b → Does change (lost_if b) out left never never t5 → Does change (lost_if named) out left never never t5
+pub does_so : (change : Transition) (b named : Bool) (out : ℕ → Bool) (left : ℕ) (t5 : ℕ → Bool) → named ≡ b → Does change (lost_if b) out left never never t5 → Does change (lost_if named) out left never never t5
 does_so change b named out left t5 is does = subst (λ x. Does change (lost_if x) out left never never t5) (sym is) does
 
 -- ---- another's key, and no other host holds alone
 
-pub tell_others : (hosts j : ℕ) (t : Kind) (held : Option Held) (sender : ℕ) (standing : Standing) (b d : Branch) (goes : Change) → HasNumber (Preempt j t)
+pub tell_others : (hosts j : ℕ) (t : Kind) (held : Option Held) (sender : ℕ) (standing : Standing) (b d : Branch) (goes : Transition) → HasNumber (Preempt j t)
     → is_named standing ≡ false → IsNotAnothers held sender
     → Leaves b.region any any (Some (only j)) → b.ending ≡ Good goes → Does goes (lost_if false) (only j) (number_of hosts held) never never (only j) → HasRoom hosts (Good goes)
     → Leaves d.region any (but j) None → d.ending ≡ Conflict
@@ -128,7 +128,7 @@ tell_others hosts j t held sender standing b d goes has other own leaves_b ends_
 
 -- ---- the sender's own key
 
-pub own_unheld : (hosts j : ℕ) (t : Kind) (sender : ℕ) (standing : Standing) (goes : Change) → HasNumber (Preempt j t) → is_named standing ≡ true
+pub own_unheld : (hosts j : ℕ) (t : Kind) (sender : ℕ) (standing : Standing) (goes : Transition) → HasNumber (Preempt j t) → is_named standing ≡ true
     → Does goes (lost_if true) (only j) 0 never never (only j) → HasRoom hosts (Good goes) → AlwaysEnds hosts (Preempt j t) None sender standing (Good goes)
 own_unheld hosts j t sender standing goes has own does room = record {
   ends = λ s u c alike m.
@@ -140,7 +140,7 @@ own_unheld hosts j t sender standing goes has own does room = record {
   fits = room;
 }
 
-pub own_single : (hosts j : ℕ) (t old : Kind) (h sender : ℕ) (standing : Standing) (change : Change) → HasNumber (Preempt j t) → is_named standing ≡ true → h ≡ sender
+pub own_single : (hosts j : ℕ) (t old : Kind) (h sender : ℕ) (standing : Standing) (change : Transition) → HasNumber (Preempt j t) → is_named standing ≡ true → h ≡ sender
     → Does change None (only j) (number_of hosts (Some (new_reservation t sender))) never (told_but (not (is_kind old t)) j) (only j) → HasRoom hosts (Good change)
     → AlwaysEnds hosts (Preempt j t) (Some (One old h)) sender standing (Good change)
 own_single hosts j t old h sender standing change has own is does room = record {
@@ -151,7 +151,7 @@ own_single hosts j t old h sender standing change has own is does room = record 
 }
 
 -- of all registrants
-pub tell_own : (hosts j : ℕ) (t : Kind) (held : Option Held) (sender : ℕ) (standing : Standing) (b d : Branch) (stays ends : Change) → HasNumber (Preempt j t)
+pub tell_own : (hosts j : ℕ) (t : Kind) (held : Option Held) (sender : ℕ) (standing : Standing) (b d : Branch) (stays ends : Transition) → HasNumber (Preempt j t)
     → is_named standing ≡ true → is_held_by_all held ≡ true
     → Leaves b.region any any (Some (another j)) → b.ending ≡ Good stays → Does stays (lost_if true) (only j) (number_of hosts held) never never (only j) → HasRoom hosts (Good stays)
     → Leaves d.region any (free_or j) None → d.ending ≡ Good ends → Does ends (lost_if true) (only j) 0 never never (only j) → HasRoom hosts (Good ends)

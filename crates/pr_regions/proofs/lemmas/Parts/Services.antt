@@ -1,5 +1,5 @@
 -- How the service actions that do not depend on who else is registered end.
-use Rattle.pr_regions.proofs.Common.{◌≡◌, ℕ, true, false, not, ◌&&◌, if◌then◌else◌, Some, None, Option, sym, refl, ap, ◌∙◌, false≢true, Command, Kind, is_held_by_all, is_told_of_loss, is_kind, ReplacesAll, preempt_case, Keys, kind_of, new_reservation, Held, All, illegal, UnitState, Scope, number_of, HasNumber, Meets, HasRoom, Ends, Register, Reserve, Release, Clear, PreemptAll, Standing, Change, Conflict, Fault, Good, Does, AlwaysEnds, never, holds, is_of_registrant, told_if}
+use Rattle.pr_regions.proofs.Common.{◌≡◌, ℕ, true, false, not, ◌&&◌, if◌then◌else◌, Some, None, Option, sym, refl, ap, ◌∙◌, false≢true, Command, Kind, is_held_by_all, is_told_of_loss, is_kind, ReplacesAll, preempt_case, Keys, kind_of, new_reservation, Held, All, illegal, UnitState, Scope, number_of, HasNumber, Meets, HasRoom, Ends, Register, Reserve, Release, Clear, PreemptAll, Standing, Transition, Conflict, Fault, Good, Does, AlwaysEnds, never, holds, is_of_registrant, told_if}
 use Rattle.pr_cdb.specs.declared.codes.TheConstants.{INVALID_FIELD_IN_PARAMETER_LIST, INVALID_RELEASE_OF_PERSISTENT_RESERVATION}
 use Rattle.pr_registry.specs.Registrations.{is_holder_of, is_for_registrants}
 use Rattle.pr_registry.specs.Changes.{is_held_as, conflicts_with_reserve, is_released}
@@ -12,7 +12,7 @@ use Rattle.pr_regions.proofs.lemmas.Parts.Endings.{is_holder-standing, asks, con
 
 -- ---- REGISTER
 
-pub register_good : (hosts j : ℕ) (held : Option Held) (sender : ℕ) (standing : Standing) (change : Change) → HasNumber (Register j)
+pub register_good : (hosts j : ℕ) (held : Option Held) (sender : ℕ) (standing : Standing) (change : Transition) → HasNumber (Register j)
     → Does change (Some j) never (number_of hosts held) never never never → HasRoom hosts (Good change) → AlwaysEnds hosts (Register j) held sender standing (Good change)
 register_good hosts j held sender standing change has does room = record {
   ends = λ s u c alike m.
@@ -26,7 +26,7 @@ register_good hosts j held sender standing change has does room = record {
 
 -- ---- RESERVE
 
-pub reserve_new : (hosts : ℕ) (t : Kind) (held : Option Held) (sender : ℕ) (standing : Standing) (change : Change) → held ≡ None
+pub reserve_new : (hosts : ℕ) (t : Kind) (held : Option Held) (sender : ℕ) (standing : Standing) (change : Transition) → held ≡ None
     → Does change None never (number_of hosts (Some (new_reservation t sender))) never never never → HasRoom hosts (Good change) → AlwaysEnds hosts (Reserve t) held sender standing (Good change)
 reserve_new hosts t held sender standing change free does room = record {
   ends = λ s u c alike m.
@@ -46,7 +46,7 @@ in_the_way s t held v sender standing u c m is =
     ap (λ w. conflicts_with_reserve u.registry sender w t) (m.held ∙ is)
     ∙ ap (λ b. not (b && is_kind (kind_of v) t)) (is_holder-standing s (Reserve t) held v sender standing u c m is)
 
-pub reserve_same : (hosts : ℕ) (t : Kind) (held : Option Held) (v : Held) (sender : ℕ) (standing : Standing) (change : Change) → held ≡ Some v
+pub reserve_same : (hosts : ℕ) (t : Kind) (held : Option Held) (v : Held) (sender : ℕ) (standing : Standing) (change : Transition) → held ≡ Some v
     → holds v sender standing ≡ true → is_kind (kind_of v) t ≡ true
     → Does change None never (number_of hosts (Some v)) never never never → HasRoom hosts (Good change) → AlwaysEnds hosts (Reserve t) held sender standing (Good change)
 reserve_same hosts t held v sender standing change is holder same does room = record {
@@ -82,7 +82,7 @@ release_faults s t held v sender standing u c m is =
     λ i. if is_holder-standing s (Release t) held v sender standing u c m is i && not (is_held_as ((m.held ∙ is) i) t) then Some (illegal INVALID_FIELD_IN_PARAMETER_LIST INVALID_RELEASE_OF_PERSISTENT_RESERVATION) else None
 
 -- no reservation stands, or the sender does not hold it
-release_nothing : (s : Scope) (t : Kind) (held : Option Held) (sender : ℕ) (standing : Standing) (u : UnitState) (c : Command) (hosts : ℕ) (change : Change)
+release_nothing : (s : Scope) (t : Kind) (held : Option Held) (sender : ℕ) (standing : Standing) (u : UnitState) (c : Command) (hosts : ℕ) (change : Transition)
     → Meets s (Release t) held sender standing u c → s.hosts ≡ hosts → is_released u.registry sender t ≡ false → release_fault u.registry sender t ≡ None
     → Does change None never (number_of hosts held) never never never
     → Ends s sender (Good change) u c
@@ -101,7 +101,7 @@ release_nothing s t held sender standing u c hosts change m alike kept whole doe
     })
     (on_release s.keys s.hosts sender t u.registry)
 
-pub release_none : (hosts : ℕ) (t : Kind) (held : Option Held) (sender : ℕ) (standing : Standing) (change : Change) → held ≡ None
+pub release_none : (hosts : ℕ) (t : Kind) (held : Option Held) (sender : ℕ) (standing : Standing) (change : Transition) → held ≡ None
     → Does change None never (number_of hosts None) never never never → HasRoom hosts (Good change) → AlwaysEnds hosts (Release t) held sender standing (Good change)
 release_none hosts t held sender standing change free does room = record {
   ends = λ s u c alike m.
@@ -113,7 +113,7 @@ release_none hosts t held sender standing change free does room = record {
   fits = room;
 }
 
-pub release_others : (hosts : ℕ) (t : Kind) (held : Option Held) (v : Held) (sender : ℕ) (standing : Standing) (change : Change) → held ≡ Some v → holds v sender standing ≡ false
+pub release_others : (hosts : ℕ) (t : Kind) (held : Option Held) (v : Held) (sender : ℕ) (standing : Standing) (change : Transition) → held ≡ Some v → holds v sender standing ≡ false
     → Does change None never (number_of hosts (Some v)) never never never → HasRoom hosts (Good change) → AlwaysEnds hosts (Release t) held sender standing (Good change)
 release_others hosts t held v sender standing change is other does room = record {
   ends = λ s u c alike m.
@@ -132,7 +132,7 @@ release_fault_ends hosts t held v sender standing is holder other = record {
   fits = tt;
 }
 
-pub release_good : (hosts : ℕ) (t : Kind) (held : Option Held) (v : Held) (sender : ℕ) (standing : Standing) (change : Change) → held ≡ Some v → holds v sender standing ≡ true → is_kind (kind_of v) t ≡ true
+pub release_good : (hosts : ℕ) (t : Kind) (held : Option Held) (v : Held) (sender : ℕ) (standing : Standing) (change : Transition) → held ≡ Some v → holds v sender standing ≡ true → is_kind (kind_of v) t ≡ true
     → Does change None never 0 never (told_if (is_for_registrants (kind_of v))) never → HasRoom hosts (Good change) → AlwaysEnds hosts (Release t) held sender standing (Good change)
 release_good hosts t held v sender standing change is holder same does room = record {
   ends = λ s u c alike m.
@@ -156,7 +156,7 @@ release_good hosts t held v sender standing change is holder same does room = re
 
 -- ---- CLEAR
 
-pub clear_good : (hosts : ℕ) (held : Option Held) (sender : ℕ) (standing : Standing) (change : Change) → Does change (Some 0) is_of_registrant 0 is_of_registrant never never → HasRoom hosts (Good change)
+pub clear_good : (hosts : ℕ) (held : Option Held) (sender : ℕ) (standing : Standing) (change : Transition) → Does change (Some 0) is_of_registrant 0 is_of_registrant never never → HasRoom hosts (Good change)
     → AlwaysEnds hosts Clear held sender standing (Good change)
 clear_good hosts held sender standing change does room = record {
   ends = λ s u c alike m. good_ends s Clear held sender standing u c (Some 0) is_of_registrant 0 is_of_registrant never never change tt m refl refl does (on_clear s.keys s.hosts sender u.registry);
@@ -178,7 +178,7 @@ replaces_all : (keys : Keys) (held : Option Held) → is_held_by_all held ≡ tr
 replaces_all keys (Some (All t)) is = refl
 replaces_all keys _ is = absurd (false≢true is)
 
-pub preempt_all_good : (hosts : ℕ) (t : Kind) (held : Option Held) (sender : ℕ) (standing : Standing) (change : Change) → is_held_by_all held ≡ true
+pub preempt_all_good : (hosts : ℕ) (t : Kind) (held : Option Held) (sender : ℕ) (standing : Standing) (change : Transition) → is_held_by_all held ≡ true
     → Does change None is_of_registrant (number_of hosts (Some (new_reservation t sender))) never never is_of_registrant → HasRoom hosts (Good change) → AlwaysEnds hosts (PreemptAll t) held sender standing (Good change)
 preempt_all_good hosts t held sender standing change is does room = record {
   ends = λ s u c alike m.

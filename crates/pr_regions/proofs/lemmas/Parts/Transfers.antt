@@ -1,5 +1,5 @@
 -- How commands that read and write blocks end.
-use Rattle.pr_regions.proofs.Common.{◌≡◌, ℕ, Bool, true, false, not, List, if◌then◌else◌, Some, None, Option, sym, refl, ap, ◌∙◌, Command, Kind, Sense, no_change, State, is_registered, kind_of, Held, illegal, UnitState, Scope, number_of, HasNumber, Meets, HasRoom, Purpose, Read, Write, Standing, Change, Conflict, Fault, Good, Does, AlwaysEnds, never, is_unregistered, holds}
+use Rattle.pr_regions.proofs.Common.{◌≡◌, ℕ, Bool, true, false, not, List, if◌then◌else◌, Some, None, Option, sym, refl, ap, ◌∙◌, Command, Kind, Sense, no_change, State, is_registered, kind_of, Held, illegal, UnitState, Scope, number_of, HasNumber, Meets, HasRoom, Purpose, Read, Write, Standing, Transition, Conflict, Fault, Good, Does, AlwaysEnds, never, is_unregistered, holds}
 use Rattle.pr_cdb.specs.declared.command.Kind.TheVariants.{WriteExclusive, ExclusiveAccess, ExclusiveAccessRegistrantsOnly, ExclusiveAccessAllRegistrants}
 use Rattle.pr_cdb.specs.declared.codes.TheConstants.{LOGICAL_BLOCK_ADDRESS_OUT_OF_RANGE}
 use Rattle.pr_registry.specs.Registrations.{is_holder}
@@ -82,7 +82,7 @@ module _ (hosts : ℕ) (p : Purpose) (kept in_range : Bool) (held : Option Held)
     fits = tt;
   }
 
-  pub move_goes : (change : Change) → kept ≡ false → in_range ≡ true → Does change None never (number_of hosts held) never never never → HasRoom hosts (Good change)
+  pub move_goes : (change : Transition) → kept ≡ false → in_range ≡ true → Does change None never (number_of hosts held) never never never → HasRoom hosts (Good change)
       → AlwaysEnds hosts p held sender standing (Good change)
   move_goes change free within does room = record {
     ends = λ s u c alike m.

@@ -1,5 +1,5 @@
 -- How a command ends by which its sender is registered no more.
-use Rattle.pr_regions.proofs.Common.{◌≡◌, ℕ, zero, suc, ◌<◌, Bool, true, false, not, ◌&&◌, ◌≢◌, ◌⊎◌, [], ◌∷◌, is_some, if◌then◌else◌, ◌==◌, Some, None, Option, sym, refl, ap, ◌∙◌, subst, inl, inr, arith, false≢true, eqb_tells, Command, no_change, is_held_by_all, change_on_unregister, is_told_of_loss, held_by_rest, without, is_empty, State, is_registered, key_of, Held, One, All, get-without, UnitState, HasSomebody, Scope, number_of, Registration, IsSo, Meets, HasRoom, IsCovered, Ends, Purpose, Unregister, Standing, Branch, Change, Good, Does, AlwaysEnds, never, is_unregistered, any, only, is_of_registrant, told_if, Leaves, EndsIn, Tell}
+use Rattle.pr_regions.proofs.Common.{◌≡◌, ℕ, zero, suc, ◌<◌, Bool, true, false, not, ◌&&◌, ◌≢◌, ◌⊎◌, [], ◌∷◌, is_some, if◌then◌else◌, ◌==◌, Some, None, Option, sym, refl, ap, ◌∙◌, subst, inl, inr, arith, false≢true, eqb_tells, Command, no_change, is_held_by_all, change_on_unregister, is_told_of_loss, held_by_rest, without, is_empty, State, is_registered, key_of, Held, One, All, get-without, UnitState, HasSomebody, Scope, number_of, Registration, IsSo, Meets, HasRoom, IsCovered, Ends, Purpose, Unregister, Standing, Branch, Transition, Good, Does, AlwaysEnds, never, is_unregistered, any, only, is_of_registrant, told_if, Leaves, EndsIn, Tell}
 use Rattle.std.specs.FinMap as map
 use Rattle.pr_registry.specs.Hosts.{just}
 use Rattle.pr_registry.specs.Registrations.{holds_alone}
@@ -77,7 +77,7 @@ alone_of_all _ h all = refl
 
 -- ---- how it ends
 
-pub unregister_absent : (hosts : ℕ) (held : Option Held) (sender : ℕ) (standing : Standing) (change : Change) → is_unregistered standing ≡ true
+pub unregister_absent : (hosts : ℕ) (held : Option Held) (sender : ℕ) (standing : Standing) (change : Transition) → is_unregistered standing ≡ true
     → Does change None never (number_of hosts held) never never never → HasRoom hosts (Good change) → AlwaysEnds hosts Unregister held sender standing (Good change)
 unregister_absent hosts held sender standing change absent does room = record {
   ends = λ s u c alike m.
@@ -88,7 +88,7 @@ unregister_absent hosts held sender standing change absent does room = record {
 }
 
 -- a registrant that unregisters, by what is left
-unregister_ends : (s : Scope) (held : Option Held) (sender : ℕ) (standing : Standing) (u : UnitState) (c : Command) (left : ℕ) (told : Bool) (change : Change)
+unregister_ends : (s : Scope) (held : Option Held) (sender : ℕ) (standing : Standing) (u : UnitState) (c : Command) (left : ℕ) (told : Bool) (change : Transition)
     → Meets s Unregister held sender standing u c → is_unregistered standing ≡ false
     → left ≡ number_of s.hosts (without_registration u.registry sender).held → told ≡ (holds_alone u.registry.held sender && is_told_of_loss u.registry.held)
     → Does change (Some 0) never left never (told_if told) never → Ends s sender (Good change) u c
@@ -112,7 +112,7 @@ unregister_ends s held sender standing u c left told change m present leaves_it 
     })
     so
 
-pub unregister_good : (hosts : ℕ) (held : Option Held) (sender : ℕ) (standing : Standing) (change : Change) → is_unregistered standing ≡ false → is_held_by_all held ≡ false
+pub unregister_good : (hosts : ℕ) (held : Option Held) (sender : ℕ) (standing : Standing) (change : Transition) → is_unregistered standing ≡ false → is_held_by_all held ≡ false
     → Does change (Some 0) never (number_of hosts (if holds_alone held sender then None else held)) never (told_if (holds_alone held sender && is_told_of_loss held)) never → HasRoom hosts (Good change)
     → AlwaysEnds hosts Unregister held sender standing (Good change)
 unregister_good hosts held sender standing change present other does room = record {
@@ -125,7 +125,7 @@ unregister_good hosts held sender standing change present other does room = reco
 }
 
 -- of all registrants the sender goes: the reservation stays with the others, if there are any
-pub tell_unregistered : (hosts : ℕ) (held : Option Held) (sender : ℕ) (standing : Standing) (b d : Branch) (stays ends : Change) → is_held_by_all held ≡ true → is_unregistered standing ≡ false
+pub tell_unregistered : (hosts : ℕ) (held : Option Held) (sender : ℕ) (standing : Standing) (b d : Branch) (stays ends : Transition) → is_held_by_all held ≡ true → is_unregistered standing ≡ false
     → Leaves b.region any any (Some is_of_registrant) → b.ending ≡ Good stays → Does stays (Some 0) never (number_of hosts held) never never never → HasRoom hosts (Good stays)
     → Leaves d.region any (only 0) None → d.ending ≡ Good ends → Does ends (Some 0) never 0 never never never → HasRoom hosts (Good ends)
     → Tell hosts Unregister held sender standing (b ∷ d ∷ [])

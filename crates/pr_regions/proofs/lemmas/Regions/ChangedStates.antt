@@ -1,5 +1,5 @@
 -- What becomes of a state, by what a change says, registration by registration.
-use Rattle.pr_regions.proofs.Common.{◌≡◌, ℕ, ◌≤◌, Bool, true, false, ◌≢◌, List, length, if◌then◌else◌, None, unwrap_or, sym, refl, ap, ◌∙◌, arith, has, codes_of, State, key_of, UnitState, Scope, number_of, key_at, Change}
+use Rattle.pr_regions.proofs.Common.{◌≡◌, ℕ, ◌≤◌, Bool, true, false, ◌≢◌, List, length, if◌then◌else◌, None, unwrap_or, sym, refl, ap, ◌∙◌, arith, has, codes_of, State, key_of, UnitState, Scope, number_of, key_at, Transition}
 use Rattle.std.specs.FinSet as set
 use Rattle.pr_registry.specs.declared.change.Change.{Change as Told}
 use Rattle.pr_unit.specs.UnitStates.{pending_after, is_pending}
@@ -12,7 +12,7 @@ pub record Is (keys : List ℕ) (u : State) (g r : ℕ) : Type 0 where
   pub key : key_of u g ≡ key_at keys r
 
 -- the change tells what the registry becomes, and who is told
-pub record Acts (keys : List ℕ) (hosts from : ℕ) (c : Change) (u v : State) (t : Told) : Type 0 where
+pub record Acts (keys : List ℕ) (hosts from : ℕ) (c : Transition) (u v : State) (t : Told) : Type 0 where
   pub sender : (r : ℕ) → Is keys u from r → Is keys v from (unwrap_or c.sender r)
   pub others : (g r : ℕ) → g ≢ from → Is keys u g r → key_of v g ≡ (if has c.removed r then None else key_of u g)
   pub reservation : c.reservation ≡ number_of hosts v.held
@@ -44,7 +44,7 @@ nothing_more : (x : Bool) (code : ℕ) → is_pending_after x false false false 
 nothing_more true code = refl
 nothing_more false code = refl
 
-pub changes : (s : Scope) (from : ℕ) (c : Change) (u : UnitState) (v : State) (t : Told) → Acts s.keys s.hosts from c u.registry v t → Changes s from c u (then_in u v t)
+pub changes : (s : Scope) (from : ℕ) (c : Transition) (u : UnitState) (v : State) (t : Told) → Acts s.keys s.hosts from c u.registry v t → Changes s from c u (then_in u v t)
 changes s from c u v t acts = record {
   sender = λ r so. let new = acts.sender r (record { known = so.1; key = so.2 }) in (so.0, new.known, new.key);
   others = λ g r other so.

@@ -1,5 +1,5 @@
 -- Who has the key that a PREEMPT names, and what that makes of the command.
-use Rattle.pr_regions.proofs.Common.{◌≡◌, ℕ, zero, suc, ◌<◌, ◌≤◌, Bool, true, false, not, ◌≢◌, ◌⊎◌, List, length, get_or, is_some, if◌then◌else◌, ◌==◌, Some, None, Option, sym, refl, ap, ◌∙◌, subst, inl, inr, arith, false≢true, nat_tests, eqb_tells, Command, Kind, is_kind, ReplacesAll, preempt_case, held_by_rest, is_key, Hosts, nobody, Keys, without, hosts_with, is_empty, State, is_registered, key_of, new_reservation, Held, One, All, contains-nobody, get-without, UnitState, Scope, number_of, key_at, Registration, IsSo, HasNumber, Meets, Ends, Preempt, Standing, Change, Conflict, Good, Does, never, only, told_but, lost_if, is_named}
+use Rattle.pr_regions.proofs.Common.{◌≡◌, ℕ, zero, suc, ◌<◌, ◌≤◌, Bool, true, false, not, ◌≢◌, ◌⊎◌, List, length, get_or, is_some, if◌then◌else◌, ◌==◌, Some, None, Option, sym, refl, ap, ◌∙◌, subst, inl, inr, arith, false≢true, nat_tests, eqb_tells, Command, Kind, is_kind, ReplacesAll, preempt_case, held_by_rest, is_key, Hosts, nobody, Keys, without, hosts_with, is_empty, State, is_registered, key_of, new_reservation, Held, One, All, contains-nobody, get-without, UnitState, Scope, number_of, key_at, Registration, IsSo, HasNumber, Meets, Ends, Preempt, Standing, Transition, Conflict, Good, Does, never, only, told_but, lost_if, is_named}
 use Rattle.std.specs.FinMap as map
 use Rattle.std.specs.FinSet as set
 use Rattle.std.specs.Ordering.{nat_cmp}
@@ -154,7 +154,7 @@ removes keys (Some (All t)) k nonzero other = ap (λ b. if b then ReplacesAll el
 -- ---- how it ends
 
 -- the key is a single holder's
-pub replaced_ends : (s : Scope) (hosts j : ℕ) (t old : Kind) (h : ℕ) (held : Option Held) (sender : ℕ) (standing : Standing) (u : UnitState) (c : Command) (change : Change) → HasNumber (Preempt j t)
+pub replaced_ends : (s : Scope) (hosts j : ℕ) (t old : Kind) (h : ℕ) (held : Option Held) (sender : ℕ) (standing : Standing) (u : UnitState) (c : Command) (change : Transition) → HasNumber (Preempt j t)
     → Meets s (Preempt j t) held sender standing u c → s.hosts ≡ hosts → held ≡ Some (One old h) → key_of u.registry h ≡ Some (key_named s.keys j)
     → Does change None (only j) (number_of hosts (Some (new_reservation t sender))) never (told_but (not (is_kind old t)) j) (only j) → Ends s sender (Good change) u c
 replaced_ends s hosts j t old h held sender standing u c change has m alike is key does =
@@ -170,7 +170,7 @@ replaced_ends s hosts j t old h held sender standing u c change has m alike is k
     (on_preempt_holder s.keys s.hosts sender j k t old u.registry keys.once keys.fits keys.named))
 
 -- it is another key, which somebody has
-pub removed_ends : (s : Scope) (j : ℕ) (t : Kind) (held : Option Held) (sender : ℕ) (standing : Standing) (u : UnitState) (c : Command) (left : ℕ) (g : ℕ) (change : Change) → HasNumber (Preempt j t)
+pub removed_ends : (s : Scope) (j : ℕ) (t : Kind) (held : Option Held) (sender : ℕ) (standing : Standing) (u : UnitState) (c : Command) (left : ℕ) (g : ℕ) (change : Transition) → HasNumber (Preempt j t)
     → Meets s (Preempt j t) held sender standing u c → IsNotHolders u.registry.keys u.registry.held (key_named s.keys j) → key_of u.registry g ≡ Some (key_named s.keys j)
     → left ≡ number_of s.hosts (held_by_rest (without u.registry.keys (hosts_with u.registry.keys (key_named s.keys j))) u.registry.held)
     → Does change (lost_if (is_named standing)) (only j) left never never (only j) → Ends s sender (Good change) u c
