@@ -1,3 +1,4 @@
+pub mod Askings
 pub mod Beginning
 pub mod Owners
 pub mod Permitting

@@ -1,14 +1,17 @@
 //! Whether a role permits a command of its host in each state of the host's view in which the command ends GOOD.
 
-ghost use Rattle.std.specs.Prelude.{◌≡◌, ◌<◌, ◌≤◌, IsTrue, false};
+ghost use Rattle.std.specs.Prelude.{◌≡◌, ◌<◌, ◌≤◌, IsTrue, true, false};
 ghost use Rattle.std.specs.List.{list_any};
 ghost use Rattle.pr_script.specs.Grammar.{is_written};
 ghost use Rattle.pr_roles.specs.declared.limits.TheConstants.{MOST_KEYS};
+ghost use Rattle.pr_sets.specs.Words.{has};
+ghost use Rattle.pr_sets.specs.Wides.{has_wide};
 ghost use Rattle.pr_views.specs.Possibilities.{key_at};
+ghost use Rattle.pr_views.specs.Portions.{view_in};
 ghost use Rattle.pr_views.specs.Rooms.{view_of};
-ghost use Rattle.pr_regions.specs.Gathering.{IsPlace};
+ghost use Rattle.pr_views.specs.Views.{Fits};
 ghost use Rattle.pr_domain.specs.Outcomes.{IsPermittedIn, IsRefusedIn};
-ghost use Rattle.pr_domain.specs.inside.Permitting.{IsAsking, PermitsAll, RefusesOne, scope_of_place, PermitsAt, RefusesAt, PermitsWith, RefusesWith, TellsReached, TellsOneReached, holds_reservation, holds_at, permits_at, permits_always};
+ghost use Rattle.pr_domain.specs.inside.Permitting.{scope_at, IsAsking, PermitsAll, RefusesOne, TellsReached, TellsOneReached, holds_reservation, holds_at, permits_at, permits_always};
 
 use pr_cdb::Command;
 use pr_regions::{
@@ -75,7 +78,14 @@ fn is_permitted_under_each(
                 reservation,
                 held,
             };
-            if !is_permitted_at(view, place, keys, clauses, command) {
+            let asking = Asking {
+                view,
+                place,
+                keys,
+                clauses,
+                command,
+            };
+            if !asking.is_permitted_at() {
                 return false;
             }
         }
@@ -99,60 +109,61 @@ fn permits_always(clause: Clause, command: Command) -> bool
     clause.condition.is_none() && names(clause.action, command)
 }
 
-// Whether some clause permits it with each registration with which it can end GOOD at this place.
-fn is_permitted_at(
-    view: &Possibilities,
+/// A command at one place of its sender's view, and the clauses of which one may permit it. A text can have the command, and for
+/// the sender it is possible that nothing is pending.
+#[derive(Clone, Copy)]
+struct Asking<'a> {
+    view: &'a Possibilities,
     place: Place,
-    keys: &[u64],
-    clauses: &[Clause],
+    keys: &'a [u64],
+    clauses: &'a [Clause],
     command: Command,
-) -> bool
-    requires asking { IsAsking keys.now place.hosts place.sender command view.now }
-    requires place { IsPlace (scope_of_place keys.now place) view.now place }
-    ensures permitted { IsTrue result → PermitsAt keys.now view.now place clauses.now command }
-    ensures refused { result ≡ false → RefusesAt keys.now view.now place clauses.now command }
-{
-    let mut registration = 0;
-    while registration < MOST_REGISTRATIONS {
-        if !is_permitted_with(view, place, keys, clauses, command, registration) {
-            return false;
-        }
-        registration += 1;
-    }
-    true
+    ghost fits: { Fits (view_in (scope_at keys.now place.hosts place.sender) view.now) },
+    ghost possible: { has_wide view.now.reservations place.reservation ≡ true },
+    ghost written: { is_written keys.now command ≡ true },
+    ghost idle: { has view.now.pending 0 ≡ true },
 }
 
-// Whether some clause permits it with this registration, if it can end GOOD with it.
-fn is_permitted_with(
-    view: &Possibilities,
-    place: Place,
-    keys: &[u64],
-    clauses: &[Clause],
-    command: Command,
-    registration: u8,
-) -> bool
-    requires asking { IsAsking keys.now place.hosts place.sender command view.now }
-    requires place { IsPlace (scope_of_place keys.now place) view.now place }
-    requires registration { registration ≤ MOST_KEYS }
-    ensures permitted { IsTrue result → PermitsWith keys.now view.now place registration clauses.now
-        command }
-    ensures refused { result ≡ false → RefusesWith keys.now view.now place registration clauses.now
-        command }
-{
-    let possible = view.registrations[usize::from(place.sender)];
-    if !possible.has(registration) {
-        return true;
+impl Asking<'_> {
+    ghost use Rattle.pr_domain.specs.inside.Askings.{PermitsAt, RefusesAt, PermitsWith, RefusesWith};
+
+    // Whether some clause permits it with each registration with which it can end GOOD at this place.
+    fn is_permitted_at(&self) -> bool
+        ensures permitted { IsTrue result → PermitsAt self.now }
+        ensures refused { result ≡ false → RefusesAt self.now }
+    {
+        let mut registration = 0;
+        while registration < MOST_REGISTRATIONS {
+            if !self.is_permitted_with(registration) {
+                return false;
+            }
+            registration += 1;
+        }
+        true
     }
-    if is_one_permitting(clauses, command, place, registration) {
-        return true;
+
+    // Whether some clause permits it with this registration, if it can end GOOD with it.
+    fn is_permitted_with(&self, registration: u8) -> bool
+        requires registration { registration ≤ MOST_KEYS }
+        ensures permitted { IsTrue result → PermitsWith self.now registration }
+        ensures refused { result ≡ false → RefusesWith self.now registration }
+    {
+        let place = self.place;
+        let possible = self.view.registrations[usize::from(place.sender)];
+        if !possible.has(registration) {
+            return true;
+        }
+        if is_one_permitting(self.clauses, self.command, place, registration) {
+            return true;
+        }
+        if is_refused(key_at(self.keys, registration), self.command) {
+            return true;
+        }
+        let purpose = purpose_of(self.command, self.keys);
+        let standing = standing_of(purpose, registration);
+        let branches = branches(place.hosts, purpose, place.held, place.sender, standing);
+        !is_one_reached(self.view, place, Word::only(registration), &branches)
     }
-    if is_refused(key_at(keys, registration), command) {
-        return true;
-    }
-    let purpose = purpose_of(command, keys);
-    let standing = standing_of(purpose, registration);
-    let branches = branches(place.hosts, purpose, place.held, place.sender, standing);
-    !is_one_reached(view, place, Word::only(registration), &branches)
 }
 
 // The key of a registration, if it has one.

@@ -15,7 +15,7 @@ use Rattle.pr_roles.specs.Permits.{names, clause_permits}
 use Rattle.pr_sets.specs.declared.word.Word.{Word}
 use Rattle.pr_sets.specs.Words.{has}
 use Rattle.pr_views.specs.declared.possibilities.Possibilities.{Possibilities}
-use Rattle.pr_views.specs.Possibilities.{Scope, Reservation, Attentions, IsSo}
+use Rattle.pr_views.specs.Possibilities.{Scope, Attentions, IsSo}
 use Rattle.pr_views.specs.Views.{View, Shows, Fits}
 use Rattle.pr_views.specs.Portions.{view_in}
 use Rattle.pr_regions.specs.declared.region.Branch.{Branch}
@@ -24,7 +24,6 @@ use Rattle.pr_regions.specs.declared.region.Ending.TheVariants.{Good}
 use Rattle.pr_regions.specs.declared.place.Place.{Place}
 use Rattle.pr_regions.specs.Regions.{IsProper as IsProperBranch}
 use Rattle.pr_regions.specs.Gathering.{IsPlace, IsUniform, IsProper, IsThere}
-use Rattle.pr_domain.specs.inside.Tallies.{HasBoth}
 
 -- nothing is pending for the owner, and its command neither conflicts nor is at fault
 pub record EndsGood (s : Scope) (c : Command) (u : UnitState) : Type 0 where
@@ -105,30 +104,6 @@ PermitsAll keys hosts sender view clauses c = ArePermitted (view_in (scope_at ke
 -- in one of them none does
 abbrev pub RefusesOne : List ℕ → ℕ → ℕ → Possibilities → List Clause → Command → Type 0
 RefusesOne keys hosts sender view clauses c = IsOneRefused (view_in (scope_at keys hosts sender) view) clauses c (λ u. Unit {0})
-
--- the scope of the place's sender
-abbrev pub scope_of_place : List ℕ → Place → Scope
-scope_of_place keys place = scope_at keys place.hosts place.sender
-
--- some clause permits it in each of them in which the reservation of the place stands
-abbrev pub PermitsAt : List ℕ → Possibilities → Place → List Clause → Command → Type 0
-PermitsAt keys view place clauses c =
-    ArePermitted (view_in (scope_of_place keys place) view) clauses c (λ u. IsSo (scope_of_place keys place) u (Reservation place.reservation))
-
--- in one of those none does
-abbrev pub RefusesAt : List ℕ → Possibilities → Place → List Clause → Command → Type 0
-RefusesAt keys view place clauses c =
-    IsOneRefused (view_in (scope_of_place keys place) view) clauses c (λ u. IsSo (scope_of_place keys place) u (Reservation place.reservation))
-
--- some clause permits it in each of those in which the sender has this registration
-abbrev pub PermitsWith : List ℕ → Possibilities → Place → ℕ → List Clause → Command → Type 0
-PermitsWith keys view place r clauses c =
-    ArePermitted (view_in (scope_of_place keys place) view) clauses c (HasBoth (scope_of_place keys place) place r)
-
--- in one of these none does
-abbrev pub RefusesWith : List ℕ → Possibilities → Place → ℕ → List Clause → Command → Type 0
-RefusesWith keys view place r clauses c =
-    IsOneRefused (view_in (scope_of_place keys place) view) clauses c (HasBoth (scope_of_place keys place) place r)
 
 -- it tells whether a proper branch is reached, where the view shows a state in which nothing is pending for its owner
 abbrev pub TellsReached : Possibilities → Place → Word → Branch → Bool → Type 0

@@ -36,6 +36,7 @@ use Rattle.pr_regions.specs.Regions.{AreBranches, standing_of, Ends, IsProper as
 use Rattle.pr_regions.specs.declared.place.Place.{Place}
 use Rattle.pr_regions.specs.Gathering.{IsPlace, IsUniform, IsProper, IsAt, IsGathered}
 use Rattle.pr_domain.specs.inside.Tallies.{IsRight, IsInOne, HasFirst, HasBoth, IsReserved, IsAsked}
+use Rattle.pr_domain.specs.declared.permitting.Asking.{Asking}
 use Rattle.pr_domain.specs.inside.Permitting.{EndsGood, ArePermitted, scope_at, IsAsking, holds_reservation, holds_at, permits_at, IsReached, IsOneReached, IsOneRefused, permits_always}
 use Rattle.pr_regions.proofs.lemmas.Portions.GatheredStates.{few_keys, same_reservation}
 use Rattle.pr_domain.proofs.lemmas.Tallies.Growth.{listed_there}
@@ -114,6 +115,9 @@ permits_same u place keys r c (clause ∷ rest) held small is =
 pub record IsThis (keys : List ℕ) (c : Command) (view : Possibilities) (place : Place) : Type 0 where
   pub asking : IsAsking keys place.hosts place.sender c view
   pub is : IsPlace (scope_at keys place.hosts place.sender) view place
+
+pub asked_at : (q : Asking) → IsThis q.keys.now q.command q.view.now q.place
+asked_at q = record { asking = record { fits = q.fits; written = q.written; idle = q.idle }; is = record { hosts = refl; fits = q.fits; possible = q.possible } }
 
 by_numbers : (keys : List ℕ) (c : Command) (view : Possibilities) (place : Place) (r : ℕ) (clauses : List Clause) (u : UnitState) → IsThis keys c view place
     → Shows (view_in (scope_at keys place.hosts place.sender) view) u → HasBoth (scope_at keys place.hosts place.sender) place r u
