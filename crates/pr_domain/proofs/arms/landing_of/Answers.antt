@@ -1,4 +1,4 @@
-use Rattle.std.proofs.Common.{sym, ◌∙◌}
+use Rattle.pr_domain.proofs.Common.{sym, ◌∙◌}
 use Rattle.pr_domain.proofs.lemmas.Reporting.MatchingTests.{first_of_class}
 use Rattle.pr_domain.proofs.arms.landing_of.Goals as goal
 

@@ -1,5 +1,4 @@
-use Rattle.std.proofs.Common.{ap, sym, ◌∙◌}
-use Rattle.pr_sets.specs.Words.{has}
+use Rattle.pr_domain.proofs.Common.{sym, ap, ◌∙◌, has}
 use Rattle.pr_domain.proofs.lemmas.Reporting.AttentionSets.{reported_more, reported_skips, neither_first, neither_second}
 use Rattle.pr_domain.proofs.attentions.after_report.Goals.{then-has+then-is_among, else-has, else-has-via-then-has+else-is_among, else-has-via-else-has}
 use Rattle.pr_domain.proofs.attentions.after_report.Goals as goal

@@ -1,4 +1,4 @@
-use Rattle.pr_domain.specs.inside.Reporting.{AreReported}
+use Rattle.pr_domain.proofs.Common.{AreReported}
 use Rattle.pr_domain.proofs.attentions.after_report.Given as goal
 
 abbrev pub invariant-loop-attentions : goal.invariant-loop-attentions

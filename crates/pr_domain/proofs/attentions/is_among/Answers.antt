@@ -1,7 +1,5 @@
-use Rattle.std.proofs.Common.{◌≡◌, ◌==◌, sym, subst, bit_and}
+use Rattle.pr_domain.proofs.Common.{◌≡◌, ◌==◌, bit_and, sym, subst, code_of, codes_of}
 use Rattle.std.specs.FinSet as set
-use Rattle.pr_attention.specs.Attentions.{code_of}
-use Rattle.pr_attention.specs.Flagged.{codes_of}
 use Rattle.pr_attention.proofs.lemmas.Bits.{has_flag}
 use Rattle.pr_domain.proofs.attentions.is_among.Goals as goal
 

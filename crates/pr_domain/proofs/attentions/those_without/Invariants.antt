@@ -1,8 +1,5 @@
-use Rattle.std.specs.Prelude.{◌&&◌, not}
+use Rattle.pr_domain.proofs.Common.{not, ◌&&◌, has, code_of, codes_of}
 use Rattle.std.specs.FinSet as set
-use Rattle.pr_attention.specs.Attentions.{code_of}
-use Rattle.pr_attention.specs.Flagged.{codes_of}
-use Rattle.pr_sets.specs.Words.{has}
 use Rattle.pr_views.proofs.lemmas.Rooms.Fronts.{IsFront}
 use Rattle.pr_domain.proofs.attentions.those_without.Given as goal
 

@@ -1,7 +1,5 @@
-use Rattle.std.proofs.Common.{◌≡◌, length, Some, refl, sym, ap, ◌∙◌, arith}
-use Rattle.std.specs.List.{slice_get}
-use Rattle.std.proofs.lemmas.Bool.{false≢true}
-use Rattle.std.proofs.lemmas.Option.{slice_get_read, slice_get_within}
+use Rattle.pr_domain.proofs.Common.{◌≡◌, length, slice_get, Some, sym, refl, ap, ◌∙◌, arith, false≢true, slice_get_within}
+use Rattle.std.proofs.lemmas.Option.{slice_get_read}
 use Rattle.pr_domain.proofs.lemmas.Reporting.OutcomeLists.{none_more}
 use Rattle.pr_domain.proofs.collecting.place_of.Goals as goal
 

@@ -1,6 +1,4 @@
-use Rattle.std.proofs.Common.{◌≢◌, ℕ, ◌<◌, Some}
-use Rattle.std.specs.List.{slice_get}
-use Rattle.pr_views.specs.declared.view.ViewOf.{ViewOf}
+use Rattle.pr_domain.proofs.Common.{ℕ, ◌<◌, ◌≢◌, slice_get, Some, ViewOf}
 use Rattle.pr_domain.proofs.collecting.place_of.Given as goal
 
 -- no outcome before this one has the landing

@@ -1,9 +1,4 @@
-use Rattle.std.proofs.Common.{◌≡◌, slice_set, rules, refl, sym, ap, ◌∙◌, subst}
-use Rattle.std.specs.List.{slice_get}
-use Rattle.pr_views.specs.Views.{IsPossible}
-use Rattle.pr_views.specs.Rooms.{view_of}
-use Rattle.pr_domain.specs.declared.landing.Landing.{Landing}
-use Rattle.pr_domain.specs.inside.Reporting.{AreMore}
+use Rattle.pr_domain.proofs.Common.{◌≡◌, slice_get, slice_set, sym, refl, ap, ◌∙◌, subst, rules, view_of, IsPossible, Landing, AreMore}
 use Rattle.pr_domain.proofs.lemmas.Reporting.OutcomeLists.{read_there, kept_pushed, more_pushed, kept_joined, more_joined}
 use Rattle.pr_domain.proofs.collecting.put.Goals as goal
 

@@ -1,35 +1,21 @@
 -- Where a command ends GOOD that does more than look: nothing is pending for its sender then, and it neither conflicts nor is at fault.
-use Rattle.std.proofs.Common.{◌≡◌, ◌↔◌, ℕ, Bool, true, false, ◌||◌, IsTrue, List, refl, sym, ap, ◌∙◌, subst, arith}
+use Rattle.pr_domain.proofs.Common.{◌≡◌, ℕ, Bool, true, false, ◌||◌, ◌↔◌, List, IsTrue, sym, refl, ap, ◌∙◌, subst, arith, list_any, false≢true, or_right, nat_tests, has, Command, Reply, Plain, power_on, reservations_preempted, reservations_released, registrations_preempted, codes_of, command_conflicts, good, Step, UnitState, is_pending, is_any_pending, IsWellFormed, view_in, Scope, Item, Attentions, IsSo, View, IsPossible, Within, Possibilities, ArePermitted, scope_at}
 use Rattle.std.specs.FinSet as set
-use Rattle.std.specs.List.{list_any}
-use Rattle.std.proofs.lemmas.Bool.{false≢true, or_right, false_from_ne_true}
-use Rattle.std.proofs.lemmas.Bool.Decides.{nat_tests}
-use Rattle.pr_cdb.specs.declared.command.Command.{Command}
+use Rattle.std.proofs.lemmas.Bool.{false_from_ne_true}
 use Rattle.pr_cdb.specs.declared.command.Command.TheVariants as command
-use Rattle.pr_cdb.specs.declared.reply.Reply.{Reply}
-use Rattle.pr_cdb.specs.declared.wire.Request.TheVariants.{Plain}
-use Rattle.pr_attention.specs.Flagged.{codes_of}
-use Rattle.pr_attention.specs.Attentions.{power_on, reservations_preempted, reservations_released, registrations_preempted}
 use Rattle.pr_attention.proofs.lemmas.Bits.{codes_of-zero}
 use Rattle.pr_attention.proofs.lemmas.Sets.{contains-no_code}
-use Rattle.pr_unit.specs.UnitStates.{UnitState, IsWellFormed, is_pending, is_any_pending}
-use Rattle.pr_unit.specs.Conflicts.{command_conflicts}
-use Rattle.pr_unit.specs.Replies.{good, is_good, is_request_sense}
-use Rattle.pr_unit.specs.Steps.{Step, decision}
+use Rattle.pr_unit.specs.Replies.{is_good, is_request_sense}
+use Rattle.pr_unit.specs.Steps.{decision}
 use Rattle.pr_unit.specs.TakenSteps.{ends_good}
 use Rattle.pr_unit.proofs.lemmas.TakenSteps.Determinism.{good_by_decision}
 use Rattle.pr_unit.proofs.lemmas.TakenSteps.GoodSteps.{good_effect, good_step}
 use Rattle.pr_roles.specs.declared.role.Clause.{Clause}
 use Rattle.pr_roles.specs.Permits.{is_always_permitted, clause_permits, command_permitted}
-use Rattle.pr_sets.specs.Words.{has}
-use Rattle.pr_views.specs.declared.possibilities.Possibilities.{Possibilities}
-use Rattle.pr_views.specs.Possibilities.{Scope, Item, Attentions, IsSo}
-use Rattle.pr_views.specs.Views.{View, Within, IsPossible}
-use Rattle.pr_views.specs.Portions.{view_in}
 use Rattle.pr_views.proofs.lemmas.Possibilities.Numbers.{one_attentions}
 use Rattle.pr_views.proofs.lemmas.Views.ShownStates.{shown_within}
 use Rattle.pr_domain.specs.Outcomes.{IsPermittedIn, IsRefusedIn}
-use Rattle.pr_domain.specs.inside.Permitting.{EndsGood, ArePermitted, IsOneRefused, scope_at}
+use Rattle.pr_domain.specs.inside.Permitting.{EndsGood, IsOneRefused}
 
 -- ---- nothing is pending
 

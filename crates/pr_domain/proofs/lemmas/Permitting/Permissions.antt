@@ -1,44 +1,26 @@
 -- Where a command ends GOOD, and what a role says of it there.
-use Rattle.std.proofs.Common.{◌≡◌, ◌⊎◌, ◌↔◌, ℕ, zero, suc, ◌+◌, ◌<◌, ◌≤◌, Bool, true, false, ◌==◌, ◌&&◌, ◌||◌, not, IsTrue, List, [], ◌∷◌, length, Option, Some, None, is_some, IfSome, IfNone, refl, sym, ap, ◌∙◌, subst, inl, inr, arith, is_none}
-use Rattle.std.specs.List.{slice_get, list_any, All, Contains}
+use Rattle.pr_domain.proofs.Common.{◌≡◌, ℕ, zero, suc, ◌+◌, ◌<◌, ◌≤◌, Bool, true, false, not, ◌&&◌, ◌||◌, ◌⊎◌, ◌↔◌, List, [], ◌∷◌, length, is_some, IfSome, IfNone, IsTrue, ◌==◌, slice_get, Some, None, All, Contains, Option, sym, refl, ap, ◌∙◌, subst, inl, inr, arith, list_any, false≢true, and_parts, cases_order, cases_eq, nat_tests, same_Some, has_wide, has, Word, Command, Sense, State, key_of, Held, One, UnitState, is_written_key, is_written, has_at, view_in, Scope, key_at, count_of_reservations, Registration, Reservation, IsSo, View, Shows, Possibilities, one_registration, IsPlace, IsUniform, IsAt, purpose_of, is_refused, standing_of, AreBranches, Place, Branch, Transition, same_reservation, ArePermitted, scope_at, IsRight, IsInOne, HasFirst, HasBoth, IsReserved}
+use Rattle.std.proofs.Common.{is_none}
 use Rattle.std.proofs.lemmas.List.Folds.{Any-from_list_any, list_any-from_Any}
-use Rattle.std.proofs.lemmas.Bool.{and_parts, cases_eq, cases_order, false≢true}
-use Rattle.std.proofs.lemmas.Option.{same_Some}
-use Rattle.std.proofs.lemmas.Bool.Decides.{nat_tests}
-use Rattle.pr_cdb.specs.declared.command.Command.{Command}
 use Rattle.pr_cdb.specs.declared.command.Command.TheVariants as command
-use Rattle.pr_cdb.specs.declared.reply.Sense.{Sense}
-use Rattle.pr_registry.specs.declared.held.Held.{Held}
-use Rattle.pr_registry.specs.declared.held.Held.TheVariants.{One, All as Everybody}
-use Rattle.pr_registry.specs.Registrations.{State, key_of, is_registered, is_holder_of}
-use Rattle.pr_unit.specs.UnitStates.{UnitState}
-use Rattle.pr_script.specs.Grammar.{is_written, is_written_key}
+use Rattle.pr_registry.specs.declared.held.Held.TheVariants.{All as Everybody}
+use Rattle.pr_registry.specs.Registrations.{is_registered, is_holder_of}
 use Rattle.pr_roles.specs.declared.role.Clause.{Clause}
 use Rattle.pr_roles.specs.declared.role.Condition.{Condition}
 use Rattle.pr_roles.specs.declared.role.Condition.TheVariants as condition
 use Rattle.pr_roles.specs.Permits.{names, holds, clause_permits}
-use Rattle.pr_sets.specs.declared.word.Word.{Word}
-use Rattle.pr_sets.specs.Words.{has}
-use Rattle.pr_sets.specs.Wides.{has_wide}
-use Rattle.pr_views.specs.declared.possibilities.Possibilities.{Possibilities}
-use Rattle.pr_views.specs.Possibilities.{Scope, Registration, Reservation, IsSo, key_at, count_of_reservations}
-use Rattle.pr_views.specs.Views.{View, Shows}
-use Rattle.pr_views.specs.Portions.{has_at, view_in}
-use Rattle.pr_views.proofs.lemmas.Possibilities.Numbers.{key_there, one_registration, one_reservation}
+use Rattle.pr_views.proofs.lemmas.Possibilities.Numbers.{key_there, one_reservation}
 use Rattle.pr_regions.specs.declared.purpose.Purpose.{Purpose}
 use Rattle.pr_regions.specs.declared.purpose.Standing.{Standing}
-use Rattle.pr_regions.specs.declared.region.Branch.{Branch}
-use Rattle.pr_regions.specs.declared.region.Transition.{Transition}
 use Rattle.pr_regions.specs.declared.region.Ending.{Ending}
 use Rattle.pr_regions.specs.declared.region.Ending.TheVariants as ending
-use Rattle.pr_regions.specs.Purposes.{is_refused, purpose_of, names_written}
-use Rattle.pr_regions.specs.Regions.{AreBranches, standing_of, Ends, IsProper as IsProperBranch}
-use Rattle.pr_regions.specs.declared.place.Place.{Place}
-use Rattle.pr_regions.specs.Gathering.{IsPlace, IsUniform, IsProper, IsAt, IsGathered}
-use Rattle.pr_domain.specs.inside.Tallies.{IsRight, IsInOne, HasFirst, HasBoth, IsReserved, IsAsked}
+use Rattle.pr_regions.specs.Purposes.{names_written}
+use Rattle.pr_regions.specs.Regions.{Ends, IsProper as IsProperBranch}
+use Rattle.pr_regions.specs.Gathering.{IsProper, IsGathered}
+use Rattle.pr_domain.specs.inside.Tallies.{IsAsked}
 use Rattle.pr_domain.specs.declared.permitting.Asking.{Asking}
-use Rattle.pr_domain.specs.inside.Permitting.{EndsGood, ArePermitted, scope_at, IsAsking, holds_reservation, holds_at, permits_at, IsReached, IsOneReached, IsOneRefused, permits_always}
-use Rattle.pr_regions.proofs.lemmas.Portions.GatheredStates.{few_keys, same_reservation}
+use Rattle.pr_domain.specs.inside.Permitting.{EndsGood, IsAsking, holds_reservation, holds_at, permits_at, IsReached, IsOneReached, IsOneRefused, permits_always}
+use Rattle.pr_regions.proofs.lemmas.Portions.GatheredStates.{few_keys}
 use Rattle.pr_domain.proofs.lemmas.Tallies.Growth.{listed_there}
 use Rattle.pr_domain.proofs.lemmas.Tallies.Requests.{only_uniform, asked_right, asked_covers, asked_back, refused_conflicts}
 

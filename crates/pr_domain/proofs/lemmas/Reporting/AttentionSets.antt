@@ -1,15 +1,8 @@
 -- Sets of attentions as numbers, once one of them was reported.
-use Rattle.std.proofs.Common.{◌≡◌, ◌≢◌, ◌⊎◌, ℕ, ◌+◌, ◌<◌, Bool, true, false, ◌==◌, ◌&&◌, ◌||◌, refl, sym, ap, ◌∙◌, subst, inl, inr, arith}
+use Rattle.pr_domain.proofs.Common.{◌≡◌, ℕ, ◌+◌, ◌<◌, Bool, true, false, ◌&&◌, ◌||◌, ◌≢◌, ◌⊎◌, ◌==◌, sym, refl, ap, ◌∙◌, subst, inl, inr, arith, false≢true, or_cases, or_left, or_right, eqb_tells, nat_tests, has, Word, code_of, codes_of, Attention, AreReported}
 use Rattle.std.specs.FinSet as set
-use Rattle.std.proofs.lemmas.Bool.{or_cases, or_left, or_right, false≢true}
-use Rattle.std.proofs.lemmas.Bool.Decides.{nat_tests, eqb_tells}
-use Rattle.pr_attention.specs.declared.attention.Attention.{Attention}
-use Rattle.pr_attention.specs.Attentions.{code_of}
-use Rattle.pr_attention.specs.Flagged.{codes_of}
 use Rattle.pr_attention.proofs.lemmas.Bits.{same_bits}
-use Rattle.pr_sets.specs.declared.word.Word.{Word}
-use Rattle.pr_sets.specs.Words.{has}
-use Rattle.pr_domain.specs.inside.Reporting.{IsAfter, AreReported}
+use Rattle.pr_domain.specs.inside.Reporting.{IsAfter}
 
 pub reported_none : (pending : Word) (a : Attention) (left : Word) → ((n : ℕ) → has left n ≡ false) → AreReported 0 pending a left
 reported_none pending a left none = record {

@@ -1,26 +1,13 @@
 -- A step of a command is one of the ways in which it ends.
-use Rattle.std.proofs.Common.{◌≡◌, ◌⊎◌, inl, inr, ℕ, Bool, true, false, IsTrue, ◌==◌, Option, Some, None, refl, sym, ap, ◌∙◌, arith}
-use Rattle.std.proofs.lemmas.Bool.{or_left, or_right}
-use Rattle.std.proofs.lemmas.Bool.Decides.{nat_tests}
-use Rattle.pr_cdb.specs.declared.command.Command.{Command}
-use Rattle.pr_cdb.specs.declared.reply.Reply.{Reply}
-use Rattle.pr_cdb.specs.declared.reply.Sense.{Sense}
-use Rattle.pr_cdb.specs.declared.wire.Request.TheVariants.{Plain}
-use Rattle.pr_attention.specs.declared.attention.Attention.{Attention}
-use Rattle.pr_attention.specs.declared.attention.Attention.TheVariants.{PowerOn, ReservationsPreempted, ReservationsReleased, RegistrationsPreempted}
-use Rattle.pr_attention.specs.Attentions.{power_on, reservations_preempted, reservations_released, registrations_preempted, is_attention, code_of}
-use Rattle.pr_unit.specs.UnitStates.{UnitState, IsWellFormed, is_pending, is_any_pending, after_report}
-use Rattle.pr_unit.specs.Conflicts.{command_conflicts}
-use Rattle.pr_unit.specs.Faults.{command_fault}
-use Rattle.pr_unit.specs.Replies.{report}
-use Rattle.pr_unit.specs.Steps.{Step, Reports as ReportsSome}
+use Rattle.pr_domain.proofs.Common.{◌≡◌, ℕ, Bool, true, false, ◌⊎◌, IsTrue, ◌==◌, Some, None, Option, sym, refl, ap, ◌∙◌, inl, inr, arith, or_left, or_right, nat_tests, Command, Reply, Sense, Plain, power_on, reservations_preempted, reservations_released, registrations_preempted, code_of, Attention, PowerOn, ReservationsPreempted, ReservationsReleased, RegistrationsPreempted, command_conflicts, command_fault, report, Step, UnitState, is_pending, is_any_pending, IsWellFormed, after_report, Answered, Refusals, Ending, Reports, Conflicts, Fails, EndsGood, Refuses, Ends}
+use Rattle.pr_attention.specs.Attentions.{is_attention}
+use Rattle.pr_unit.specs.Steps.{Reports as ReportsSome}
 use Rattle.pr_roles.specs.declared.how.How.TheVariants as answer
-use Rattle.pr_roles.specs.declared.how.Refusals.{Refusals}
 use Rattle.pr_roles.specs.declared.how.How.{How}
 use Rattle.pr_roles.specs.Answers.{Answers}
-use Rattle.pr_roles.specs.DeclaredRefusals.{Answered, is_among}
+use Rattle.pr_roles.specs.DeclaredRefusals.{is_among}
 use Rattle.pr_domain.specs.declared.reporting.Unserved.TheVariants as refused
-use Rattle.pr_domain.specs.inside.Reporting.{Ending, Reports, Conflicts, Fails, EndsGood, Refuses, IsReport, Ends, comes}
+use Rattle.pr_domain.specs.inside.Reporting.{IsReport, comes}
 
 -- a code that is pending is one of the four
 pub which : (code : ℕ) → is_attention code ≡ true → (a : Attention) × (code ≡ code_of a)

@@ -1,28 +1,11 @@
 -- The outcomes that are found in words are those of the view.
-use Rattle.std.proofs.Common.{refl, ◌≡◌, ◌⊎◌, ℕ, ◌<◌, ◌≤◌, true, false, List, length, get_or, sym, ◌∙◌, subst, inl, inr}
-use Rattle.std.specs.List.{All}
-use Rattle.std.proofs.lemmas.Bool.{false≢true, cases_lt}
-use Rattle.std.proofs.lemmas.Option.{slice_get-get_or}
-use Rattle.pr_cdb.specs.declared.command.Command.{Command}
-use Rattle.pr_cdb.specs.declared.wire.Request.TheVariants.{Plain}
-use Rattle.pr_roles.specs.declared.how.Refusals.{Refusals}
-use Rattle.pr_roles.specs.DeclaredRefusals.{Answered}
-use Rattle.pr_script.specs.declared.script.Test.{Test}
-use Rattle.pr_views.specs.declared.possibilities.Possibilities.{Possibilities}
+use Rattle.pr_domain.proofs.Common.{◌≡◌, ℕ, ◌<◌, ◌≤◌, true, false, ◌⊎◌, List, length, get_or, All, sym, refl, ◌∙◌, subst, inl, inr, false≢true, cases_lt, slice_get-get_or, Command, Plain, Test, Answered, AreDeclared, Refusals, has_at, view_in, Scope, IsSo, AreInRange, View, Within, Possibilities, ViewOf, Landing, Tally, scope_at, AreKept, IsTally, IsOfScope}
 use Rattle.pr_sets.specs.declared.view_set.ViewSet.{Ghosts as ViewSet}
-use Rattle.pr_views.specs.declared.view.ViewOf.{ViewOf}
-use Rattle.pr_views.specs.Possibilities.{Scope, IsScope, IsSo}
-use Rattle.pr_views.specs.Views.{View, Fits, Within}
-use Rattle.pr_views.specs.Portions.{has_at, view_in}
-use Rattle.pr_views.specs.Rooms.{AreAlike, AreInRange}
+use Rattle.pr_views.specs.Possibilities.{IsScope}
+use Rattle.pr_views.specs.Views.{Fits}
+use Rattle.pr_views.specs.Rooms.{AreAlike}
 use Rattle.pr_views.proofs.lemmas.Views.ShownStates.{shown_within}
-use Rattle.pr_domain.specs.declared.landing.Landing.{Landing}
 use Rattle.pr_domain.specs.Outcomes.{Outcome, AreOutcomes}
-use Rattle.pr_domain.specs.declared.tally.Tally.{Tally}
-use Rattle.pr_domain.specs.inside.Permitting.{scope_at}
-use Rattle.pr_domain.specs.inside.Reporting.{AreKept}
-use Rattle.pr_domain.specs.inside.Tallies.{IsTally, IsOfScope}
-use Rattle.pr_roles.specs.Fitting.{AreDeclared}
 
 -- they are also those of another view with the same possibilities
 pub same_outcomes : (v w : View) (d : Refusals) (c : Command) (tests : List Test) (outcomes : List Outcome) → v.scope ≡ w.scope → Within v w → Within w v

@@ -1,17 +1,10 @@
 -- Which test is the first that matches a reply, by the class of the reply.
-use Rattle.std.proofs.Common.{◌≡◌, ℕ, suc, ◌<◌, Bool, true, false, ◌&&◌, List, [], ◌∷◌, length, get_or, refl, sym, ap, arith}
-use Rattle.std.specs.List.{All, position, position_or_len}
-use Rattle.std.proofs.lemmas.Bool.{false≢true}
-use Rattle.pr_cdb.specs.declared.reply.Sense.{Sense}
-use Rattle.pr_cdb.specs.declared.reply.Reply.{Reply}
+use Rattle.pr_domain.proofs.Common.{◌≡◌, ℕ, suc, ◌<◌, Bool, true, false, ◌&&◌, List, [], ◌∷◌, length, get_or, All, sym, refl, ap, arith, false≢true, Reply, Sense, matches, Test, first_test, IsClass, Class, Good, Conflict, Busy, Full}
+use Rattle.std.specs.List.{position, position_or_len}
 use Rattle.pr_cdb.specs.Statuses.{is_good_status, is_check_status, is_conflict_status, is_busy_status, is_full_status}
-use Rattle.pr_script.specs.declared.script.Test.{Test}
 use Rattle.pr_script.specs.declared.script.Test.TheVariants as test
-use Rattle.pr_script.specs.Takes.{matches, is_attention, is_sense}
-use Rattle.pr_regions.specs.Readings.{first_test}
-use Rattle.pr_domain.specs.declared.landing.Class.{Class}
-use Rattle.pr_domain.specs.declared.landing.Class.TheVariants.{Good, Conflict, Busy, Full, Sense as WithSense}
-use Rattle.pr_domain.specs.Landings.{IsClass}
+use Rattle.pr_script.specs.Takes.{is_attention, is_sense}
+use Rattle.pr_domain.specs.declared.landing.Class.TheVariants.{Sense as WithSense}
 use Rattle.pr_domain.specs.inside.Reporting.{looks, takes, AreBlind}
 
 and_false : (b : Bool) → (b && false) ≡ false

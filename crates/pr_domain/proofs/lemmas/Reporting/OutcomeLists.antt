@@ -1,21 +1,8 @@
 -- Lists of outcomes to which one landing is added.
-use Rattle.std.proofs.Common.{◌≡◌, ◌≢◌, ◌⊎◌, ◌↔◌, ℕ, zero, suc, ◌+◌, ◌<◌, ◌==◌, true, false, List, [], ◌∷◌, ◌++◌, length, slice_set, get_or, Some, None, refl, sym, ap, ◌∙◌, subst, inl, inr, arith}
-use Rattle.std.specs.List.{slice_get}
-use Rattle.std.proofs.lemmas.Bool.Decides.{eqb_tells}
-use Rattle.std.proofs.lemmas.Option.{same_Some, get_or_from_slice_get}
+use Rattle.pr_domain.proofs.Common.{◌≡◌, ℕ, zero, suc, ◌+◌, ◌<◌, true, false, ◌≢◌, ◌⊎◌, ◌↔◌, List, [], ◌∷◌, length, get_or, ◌==◌, slice_get, slice_set, Some, None, sym, refl, ap, ◌∙◌, subst, inl, inr, arith, eqb_tells, same_Some, get_or_from_slice_get, has_wide, has, Word, view_in, Scope, Item, Registration, Reservation, Attentions, scope_of, view_of, IsPossible, Possibilities, ViewOf, Landing, HasOutcome, AreKept, AreMore, IsOfWay}
+use Rattle.std.proofs.Common.{◌++◌}
 use Rattle.pr_sets.specs.declared.view_set.ViewSet.{Ghosts as ViewSet}
-use Rattle.pr_views.specs.declared.view.ViewOf.{ViewOf}
-use Rattle.pr_sets.specs.declared.word.Word.{Word}
-use Rattle.pr_sets.specs.Words.{has}
-use Rattle.pr_sets.specs.Wides.{has_wide}
-use Rattle.pr_views.specs.declared.possibilities.Possibilities.{Possibilities}
-use Rattle.pr_views.specs.Possibilities.{Scope, Item, Registration, Reservation, Attentions}
-use Rattle.pr_views.specs.Views.{IsPossible}
-use Rattle.pr_views.specs.Rooms.{scope_of, view_of}
-use Rattle.pr_views.specs.Portions.{view_in}
 use Rattle.pr_views.proofs.lemmas.Rooms.Places.{get_other}
-use Rattle.pr_domain.specs.declared.landing.Landing.{Landing}
-use Rattle.pr_domain.specs.inside.Reporting.{HasOutcome, AreKept, AreMore, IsOfWay}
 
 -- ---- what is read after a write
 

@@ -1,30 +1,21 @@
 -- What is pending for the owner, and who is registered, after a command of the owner's.
-use Rattle.std.proofs.Common.{◌≡◌, ℕ, suc, ◌≤◌, Bool, true, false, ◌==◌, ◌&&◌, ◌||◌, not, if◌then◌else◌, List, [], ◌∷◌, length, Option, Some, None, refl, sym, ap, ◌∙◌, subst, lit<, arith, inl, inr, ◌⊎◌}
+use Rattle.pr_domain.proofs.Common.{◌≡◌, ℕ, suc, ◌≤◌, Bool, true, false, not, ◌&&◌, ◌||◌, ◌⊎◌, List, [], ◌∷◌, length, if◌then◌else◌, ◌==◌, slice_get, Some, None, Option, sym, refl, ap, ◌∙◌, subst, inl, inr, arith, lit<, list_any, false≢true, and_parts, or_cases, nat_tests, slice_get_within, Command, code_of, codes_of, Attention, State, key_of, UnitState, is_pending, is_any_pending, effect, after_report, is_written_key, is_written, Scope, key_at, Attentions, IsSo}
 use Rattle.std.specs.FinSet as set
 use Rattle.std.specs.FinMap as map
-use Rattle.std.specs.List.{slice_get, list_any}
-use Rattle.std.proofs.lemmas.Bool.{false≢true, and_parts, or_cases, false_from_ne_true}
-use Rattle.std.proofs.lemmas.Bool.Decides.{nat_tests}
-use Rattle.std.proofs.lemmas.Option.{slice_get_within}
+use Rattle.std.proofs.lemmas.Bool.{false_from_ne_true}
 use Rattle.pr_cdb.specs.declared.command.Kind.{Kind}
-use Rattle.pr_cdb.specs.declared.command.Command.{Command}
 use Rattle.pr_cdb.specs.declared.command.Command.TheVariants.{Register, RegisterIgnore, Release, Clear, Preempt, PreemptAbort}
-use Rattle.pr_attention.specs.declared.attention.Attention.{Attention}
-use Rattle.pr_attention.specs.Attentions.{code_of}
-use Rattle.pr_attention.specs.Flagged.{codes_of}
 use Rattle.pr_attention.proofs.lemmas.Sets.{same_codes, contains-no_code, contains-remove_code}
 use Rattle.pr_attention.proofs.lemmas.Bits.{same_bits, codes_of-zero, AreAttentions-codes_of}
 use Rattle.pr_registry.specs.declared.change.Change.{Change}
 use Rattle.pr_registry.specs.Hosts.{Hosts, Keys, nobody, just, without}
-use Rattle.pr_registry.specs.Registrations.{State, key_of, is_registered, others, holds_alone}
+use Rattle.pr_registry.specs.Registrations.{is_registered, others, holds_alone}
 use Rattle.pr_registry.specs.Changes.{no_change, removed_by_preempt, preempt_case, is_new_type, is_released, is_told_of_loss, change_on_unregister, change_on_preempt}
 use Rattle.pr_registry.specs.Effects.{with_registration, without_registration, after_register, after, change}
 use Rattle.pr_registry.proofs.lemmas.Sets.{contains-nobody, contains-difference, get-insert, get-empty, get-without}
 use Rattle.pr_registry.proofs.lemmas.Tables.{eq_itself}
-use Rattle.pr_unit.specs.UnitStates.{UnitState, is_pending, is_any_pending, effect, after_report}
 use Rattle.pr_unit.proofs.lemmas.Attentions.Pairs.{contains-remove-pair}
-use Rattle.pr_script.specs.Grammar.{is_declared, is_written_key, is_written}
-use Rattle.pr_views.specs.Possibilities.{Scope, key_at, Attentions, IsSo}
+use Rattle.pr_script.specs.Grammar.{is_declared}
 use Rattle.pr_regions.proofs.lemmas.Regions.Effects.{not_itself, contains-others_itself}
 use Rattle.pr_regions.proofs.lemmas.Regions.ToldAttentions.{is_pending_after, contains-told}
 use Rattle.pr_domain.specs.inside.Reporting.{IsAfter}

@@ -1,20 +1,11 @@
 -- The view of the written alternatives shows each allowed start, and what is kept of it is so in one.
-use Rattle.std.proofs.Common.{◌≡◌, ℕ, zero, suc, ◌<◌, true, List, [], ◌∷◌, length, Some, sym, ap, ◌∙◌, subst, arith}
-use Rattle.std.specs.List.{slice_get, Contains}
-use Rattle.pr_registry.specs.Registrations.{key_of}
-use Rattle.pr_unit.specs.UnitStates.{UnitState, is_pending}
-use Rattle.pr_roles.specs.Fitting.{Fits as FitsAll, is_reservation, is_alternative}
-use Rattle.pr_roles.specs.Scenarios.{Scenario, Nexus, nexus}
+use Rattle.pr_domain.proofs.Common.{◌≡◌, ℕ, zero, suc, ◌<◌, true, List, [], ◌∷◌, length, slice_get, Some, Contains, sym, ap, ◌∙◌, subst, arith, key_of, UnitState, is_pending, is_reservation, Scenario, nexus, view_in, Scope, number_of, count_of_reservations, Registration, Reservation, Attentions, IsSo, AreInRange, View, Shows, Possibilities, reservation_of, AreAlternatives}
+use Rattle.pr_roles.specs.Fitting.{Fits as FitsAll, is_alternative}
+use Rattle.pr_roles.specs.Scenarios.{Nexus}
 use Rattle.pr_roles.specs.Starts.{IsAllowedStart}
 use Rattle.pr_roles.proofs.lemmas.FirstStarts.Existence.{all_pass}
-use Rattle.pr_views.specs.declared.possibilities.Possibilities.{Possibilities}
-use Rattle.pr_views.specs.Possibilities.{Scope, Registration, Reservation, Attentions, IsSo, number_of, count_of_reservations}
-use Rattle.pr_views.specs.Views.{View, Shows}
-use Rattle.pr_views.specs.Portions.{view_in}
-use Rattle.pr_views.specs.Rooms.{AreInRange}
-use Rattle.pr_views.proofs.lemmas.Possibilities.Numbers.{reservation_of}
 use Rattle.pr_domain.specs.Starting.{IsOfStart}
-use Rattle.pr_domain.specs.inside.Beginning.{AreAlternatives, registration_in}
+use Rattle.pr_domain.specs.inside.Beginning.{registration_in}
 use Rattle.pr_regions.specs.Keeping.{IsKept, IsShownSo}
 use Rattle.pr_domain.proofs.lemmas.Starting.ShownStarts.{starts_so}
 use Rattle.pr_domain.proofs.lemmas.Starting.CodeSubsets.{numbered}

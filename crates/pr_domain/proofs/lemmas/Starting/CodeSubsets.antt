@@ -1,18 +1,12 @@
 -- Sets of codes by their numbers: which are within another, and which one a test tells.
-use Rattle.std.proofs.Common.{◌≡◌, ◌↔◌, ℕ, ◌+◌, ◌<◌, Bool, true, false, ◌==◌, ◌&&◌, ◌||◌, not, if◌then◌else◌, IsTrue, List, [], ◌∷◌, refl, sym, ap, ◌∙◌, lit<}
+use Rattle.pr_domain.proofs.Common.{◌≡◌, ℕ, ◌+◌, ◌<◌, Bool, true, false, not, ◌&&◌, ◌||◌, ◌↔◌, List, [], ◌∷◌, if◌then◌else◌, IsTrue, ◌==◌, sym, refl, ap, ◌∙◌, lit<, list_all, false≢true, and_parts, has, Word, power_on, reservations_preempted, reservations_released, registrations_preempted, code_of, codes_of, Attention, PowerOn, ReservationsPreempted, ReservationsReleased, RegistrationsPreempted, stays}
 use Rattle.std.specs.FinSet as set
 use Rattle.std.specs.Int.{bit_at}
-use Rattle.std.specs.List.{list_all}
-use Rattle.std.proofs.lemmas.Bool.{and_parts, false≢true}
-use Rattle.pr_attention.specs.declared.attention.Attention.{Attention}
-use Rattle.pr_attention.specs.declared.attention.Attention.TheVariants.{PowerOn, ReservationsPreempted, ReservationsReleased, RegistrationsPreempted}
-use Rattle.pr_attention.specs.Attentions.{power_on, reservations_preempted, reservations_released, registrations_preempted, is_attention, code_of, Codes}
-use Rattle.pr_attention.specs.Flagged.{place_of, codes_of}
+use Rattle.pr_attention.specs.Attentions.{is_attention, Codes}
+use Rattle.pr_attention.specs.Flagged.{place_of}
 use Rattle.pr_attention.proofs.lemmas.Bits.{contains-codes_of, AreAttentions-codes_of}
 use Rattle.pr_attention.proofs.lemmas.Sets.{is_attention-code_of}
-use Rattle.pr_sets.specs.declared.word.Word.{Word}
-use Rattle.pr_sets.specs.Words.{has}
-use Rattle.pr_domain.specs.inside.Beginning.{AreAmong, stays}
+use Rattle.pr_domain.specs.inside.Beginning.{AreAmong}
 use Rattle.pr_domain.proofs.lemmas.Reporting.Ends.{which}
 
 -- ---- within another

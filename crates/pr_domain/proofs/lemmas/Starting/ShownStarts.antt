@@ -1,23 +1,9 @@
 -- Starts that a view of the alternatives shows: with nothing pending for the others they are allowed.
-use Rattle.std.proofs.Common.{◌≡◌, ℕ, ◌<◌, true, ◌==◌, ◌&&◌, Some, refl, sym, ap, ◌∙◌, subst, arith}
+use Rattle.pr_domain.proofs.Common.{◌≡◌, ℕ, ◌<◌, true, ◌&&◌, ◌==◌, Some, Contains, sym, refl, ap, ◌∙◌, subst, arith, and_parts, nat_tests, has_wide, codes_of, UnitState, is_pending, IsWellFormed, is_reservation, Scenario, nexus, view_in, Scope, Item, Attentions, IsSo, Shows, Possibilities, reservation_of, AreAlternatives}
 use Rattle.std.specs.FinSet as set
-use Rattle.std.specs.List.{Contains}
-use Rattle.std.proofs.lemmas.Bool.{and_parts}
-use Rattle.std.proofs.lemmas.Bool.Decides.{nat_tests}
-use Rattle.pr_attention.specs.Flagged.{codes_of}
 use Rattle.pr_unit.specs.Attentions.{of_host}
-use Rattle.pr_unit.specs.UnitStates.{UnitState, IsWellFormed, is_pending}
 use Rattle.pr_unit.proofs.lemmas.Attentions.Pairs.{contains-of_host}
-use Rattle.pr_roles.specs.Fitting.{is_reservation}
-use Rattle.pr_roles.specs.Scenarios.{Scenario, nexus}
-use Rattle.pr_sets.specs.Wides.{has_wide}
-use Rattle.pr_views.specs.declared.possibilities.Possibilities.{Possibilities}
-use Rattle.pr_views.specs.Possibilities.{Scope, Item, Attentions, IsSo}
-use Rattle.pr_views.specs.Views.{Shows}
-use Rattle.pr_views.specs.Portions.{view_in}
-use Rattle.pr_views.proofs.lemmas.Possibilities.Numbers.{reservation_of}
 use Rattle.pr_domain.specs.Starting.{StartsSo}
-use Rattle.pr_domain.specs.inside.Beginning.{AreAlternatives}
 use Rattle.pr_regions.proofs.lemmas.Showing.AlikeStates.{IsLike, so_like}
 
 -- the same state, with nothing pending for any but the owner

@@ -1,33 +1,22 @@
 -- The numbers of what a scenario writes of its starts.
-use Rattle.std.proofs.Common.{◌≡◌, ◌↔◌, ◌⊎◌, ℕ, ◌<◌, ◌≤◌, Bool, true, false, not, ◌==◌, ◌&&◌, vec_len, List, length, map, Option, Some, None, option_map, refl, sym, ap, ◌∙◌, subst, inl, inr, arith}
-use Rattle.std.specs.List.{slice_get, list_all, Contains}
-use Rattle.std.specs.Option.{option_map_or}
-use Rattle.std.proofs.lemmas.Bool.{and_parts, false≢true, cases_lt}
-use Rattle.std.proofs.lemmas.Bool.Decides.{nat_tests}
+use Rattle.pr_domain.proofs.Common.{◌≡◌, ℕ, ◌<◌, ◌≤◌, Bool, true, false, not, ◌&&◌, ◌⊎◌, ◌↔◌, List, map, length, ◌==◌, slice_get, Some, None, Contains, Option, option_map, sym, refl, ap, ◌∙◌, subst, inl, inr, arith, list_all, option_map_or, false≢true, cases_lt, and_parts, nat_tests, same_Some, slice_get_within, has_wide, has, MOST_NEXUSES, codes_of, Held, is_reservation, AreDeclared, Scenario, nexus, scenario_of, has_at, key_at, number_of, count_of_reservations, AreInRange, Possibilities, may_have, has_reservation, AreAlternatives}
+use Rattle.std.proofs.Common.{vec_len}
 use Rattle.std.proofs.lemmas.List.Folds.{Any-from_list_any, list_any-from_Any}
-use Rattle.std.proofs.lemmas.Option.{slice_get-map, slice_get_past, slice_get_within, none-some, same_Some}
-use Rattle.pr_cdb.specs.declared.codes.TheConstants.{MOST_NEXUSES}
+use Rattle.std.proofs.lemmas.Option.{slice_get-map, slice_get_past, none-some}
 use Rattle.pr_attention.specs.Attentions.{Codes}
-use Rattle.pr_attention.specs.Flagged.{codes_of}
-use Rattle.pr_registry.specs.declared.held.Held.{Held}
 use Rattle.pr_script.specs.Names.{is_name}
 use Rattle.pr_roles.specs.declared.parts.Nexus.{Nexus as NexusPart}
 use Rattle.pr_roles.specs.declared.parts.Parts.{Parts}
-use Rattle.pr_roles.specs.Fitting.{Fits as FitsAll, AreDeclared, are_distinct, is_alternative, is_same_alternative, is_role, is_start, is_task, is_nexus, is_reservation, is_same_reservation}
-use Rattle.pr_roles.specs.Scenarios.{Scenario, Nexus, nexus, nexus_of, scenario_of}
+use Rattle.pr_roles.specs.Fitting.{Fits as FitsAll, are_distinct, is_alternative, is_same_alternative, is_role, is_start, is_task, is_nexus, is_same_reservation}
+use Rattle.pr_roles.specs.Scenarios.{Nexus, nexus_of}
 use Rattle.pr_roles.specs.inside.StoredStarts.{start_of}
 use Rattle.pr_roles.proofs.lemmas.Starts.AllowedStarts.{counted, each_nexus}
 use Rattle.pr_roles.proofs.lemmas.FirstStarts.Existence.{all_pass, slice_get_contains}
-use Rattle.pr_sets.specs.Words.{has}
-use Rattle.pr_sets.specs.Wides.{has_wide}
-use Rattle.pr_views.specs.declared.possibilities.Possibilities.{Possibilities}
-use Rattle.pr_views.specs.Possibilities.{key_at, number_of, count_of_reservations, count_of_attentions}
-use Rattle.pr_views.specs.Portions.{has_at}
-use Rattle.pr_views.specs.Rooms.{AreInRange}
+use Rattle.pr_views.specs.Possibilities.{count_of_attentions}
 use Rattle.pr_views.proofs.lemmas.Possibilities.Numbers.{same_held, same_registration}
 use Rattle.pr_regions.specs.Purposes.{number_in}
 use Rattle.pr_regions.proofs.lemmas.Purposes.Conduct.{number_named, declared_number}
-use Rattle.pr_domain.specs.inside.Beginning.{AreAlternatives, AreAmong, registration_in, has_alternative, may_have, has_reservation, scope_in}
+use Rattle.pr_domain.specs.inside.Beginning.{AreAmong, registration_in, has_alternative, scope_in}
 use Rattle.pr_regions.proofs.lemmas.Showing.ScenarioParts.{count_of_parts}
 use Rattle.pr_regions.proofs.lemmas.Showing.AlikeViews.{number_below}
 

@@ -1,45 +1,23 @@
 -- READ KEYS and READ RESERVATION: which arm takes their data.
-use Rattle.std.proofs.Common.{◌≡◌, ◌⊎◌, ℕ, ◌+◌, ◌<◌, ◌≤◌, Bool, true, false, ◌==◌, ◌||◌, IfSome, IfNone, List, length, position, Option, Some, None, refl, sym, ap, ◌∙◌, subst, inl, inr, arith}
-use Rattle.std.specs.List.{slice_get, Contains, All}
+use Rattle.pr_domain.proofs.Common.{◌≡◌, ℕ, ◌+◌, ◌<◌, ◌≤◌, Bool, true, false, ◌||◌, ◌⊎◌, List, length, IfSome, IfNone, ◌==◌, slice_get, Some, None, All, Contains, Option, sym, refl, ap, ◌∙◌, subst, inl, inr, arith, false≢true, and_parts, cases_order, cases_eq, nat_tests, same_Some, slice_get-get_or, has, Word, Command, State, key_of, good, data_of, UnitState, is_written_key, test_fits, matches, Test, view_in, Scope, Shows, Possibilities, one_registration, IsPlace, IsAt, purpose_of, is_refused, first_test, standing_of, Place, Branch, Reading, Transition, same_reservation, Tally, arm_of, Grows, IsRight, HasBoth, IsOwners, IsReadAt, IsReadFirst}
+use Rattle.std.proofs.Common.{position}
 use Rattle.std.proofs.lemmas.List.Elements.{All-weaker}
-use Rattle.std.proofs.lemmas.Bool.{cases_eq, cases_order, false≢true, and_parts}
-use Rattle.std.proofs.lemmas.Bool.Decides.{nat_tests}
 use Rattle.std.proofs.lemmas.List.Quantifiers.{position-Some}
-use Rattle.std.proofs.lemmas.Option.{same_Some, slice_get-get_or}
-use Rattle.pr_cdb.specs.declared.command.Command.{Command}
 use Rattle.pr_cdb.specs.declared.command.Command.TheVariants as command
-use Rattle.pr_registry.specs.Registrations.{State, key_of}
-use Rattle.pr_unit.specs.UnitStates.{UnitState}
-use Rattle.pr_unit.specs.Replies.{good, data_of}
-use Rattle.pr_script.specs.declared.script.Test.{Test}
 use Rattle.pr_script.specs.declared.script.Test.TheVariants as test
-use Rattle.pr_script.specs.Takes.{matches}
-use Rattle.pr_script.specs.Grammar.{is_read_keys, is_read_reservation, test_fits, is_declared, is_written_key}
-use Rattle.pr_sets.specs.declared.word.Word.{Word}
-use Rattle.pr_sets.specs.Words.{has}
-use Rattle.pr_views.specs.declared.possibilities.Possibilities.{Possibilities}
-use Rattle.pr_views.specs.Possibilities.{Scope}
-use Rattle.pr_views.specs.Views.{Shows}
-use Rattle.pr_views.specs.Portions.{view_in}
-use Rattle.pr_views.proofs.lemmas.Possibilities.Numbers.{one_registration}
+use Rattle.pr_script.specs.Grammar.{is_read_keys, is_read_reservation, is_declared}
 use Rattle.pr_regions.specs.declared.purpose.Purpose.TheVariants.{Look}
-use Rattle.pr_regions.specs.declared.region.Branch.{Branch}
-use Rattle.pr_regions.specs.declared.region.Transition.{Transition}
-use Rattle.pr_regions.specs.declared.region.Reading.{Reading}
 use Rattle.pr_regions.specs.declared.region.Ending.TheVariants as ending
 use Rattle.pr_regions.specs.inside.Parts.{Does, never}
-use Rattle.pr_regions.specs.Purposes.{is_refused, purpose_of}
-use Rattle.pr_regions.specs.Readings.{first_test, AreReadings, IsProperReading}
-use Rattle.pr_regions.specs.Regions.{Ends, Meets, IsInRegion, standing_of}
+use Rattle.pr_regions.specs.Readings.{AreReadings, IsProperReading}
+use Rattle.pr_regions.specs.Regions.{Ends, Meets, IsInRegion}
 use Rattle.pr_regions.proofs.lemmas.Parts.Endings.{same_ends}
-use Rattle.pr_regions.specs.declared.place.Place.{Place}
-use Rattle.pr_domain.specs.declared.tally.Tally.{Tally}
-use Rattle.pr_regions.specs.Gathering.{IsPlace, IsProper, IsAt}
-use Rattle.pr_domain.specs.inside.Tallies.{arm_of, way_of, Grows, IsRight, HasBoth, IsOwners, IsReadAt, IsReadFirst, IsRightReading, AreRightReadings}
+use Rattle.pr_regions.specs.Gathering.{IsProper}
+use Rattle.pr_domain.specs.inside.Tallies.{way_of, IsRightReading, AreRightReadings}
 use Rattle.pr_domain.specs.declared.landing.Class.TheVariants as class
 use Rattle.pr_domain.specs.inside.Reporting.{looks, takes, AreBlind}
 use Rattle.pr_domain.proofs.lemmas.Reporting.MatchingTests.{first_of_class}
-use Rattle.pr_regions.proofs.lemmas.Portions.GatheredStates.{same_reservation, number_at}
+use Rattle.pr_regions.proofs.lemmas.Portions.GatheredStates.{number_at}
 use Rattle.pr_domain.proofs.lemmas.Tallies.Growth.{grows_then, grows_from_none}
 use Rattle.pr_domain.proofs.lemmas.Tallies.Requests.{only_uniform, sender_is}
 

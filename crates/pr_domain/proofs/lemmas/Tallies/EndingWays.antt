@@ -1,48 +1,15 @@
 -- What is added for each way in which a command can end.
-use Rattle.std.proofs.Common.{◌≡◌, ◌≢◌, ◌⊎◌, ◌↔◌, ℕ, zero, suc, ◌+◌, ◌-◌, ◌<◌, ◌≤◌, Bool, true, false, IsTrue, ◌==◌, ◌||◌, List, length, Some, refl, sym, ap, ◌∙◌, subst, inl, inr, lit<, arith}
+use Rattle.pr_domain.proofs.Common.{◌≡◌, ℕ, zero, suc, ◌+◌, ◌-◌, ◌<◌, ◌≤◌, Bool, true, false, ◌||◌, ◌≢◌, ◌⊎◌, ◌↔◌, List, length, IsTrue, ◌==◌, slice_get, Some, sym, refl, ap, ◌∙◌, subst, inl, inr, arith, lit<, false≢true, eqb_tells, has_wide, has, Word, Command, Reply, Sense, Plain, power_on, code_of, Attention, PowerOn, command_conflicts, command_fault, good, check, conflict, report, UnitState, is_pending, is_written, matches, Test, is_reservation, has_at, count_of_reservations, Item, Registration, Reservation, Attentions, AreInRange, View, Possibilities, ViewOf, reservation_of, IsClass, IsLanding, Good, Landing, Unserved, AreReported, HasOutcome, AreMore, Ending, Reports, Conflicts, Fails, EndsGood, Refuses, refusal, Ends, landing_at, LandsBy, LandsGoodBelow, IsOfWay, view_of_sending, IsOfWayAt, LandsOf, IsRegistered, has_part, Leaves}
 use Rattle.std.specs.Coded.{le_prop}
-use Rattle.std.specs.List.{slice_get}
 use Rattle.std.proofs.Math.Logic.{∥∥₁_elim}
-use Rattle.std.proofs.lemmas.Bool.{false≢true}
-use Rattle.std.proofs.lemmas.Bool.Decides.{eqb_tells}
 use Rattle.std.proofs.lemmas.List.Quantifiers.{position-Some}
-use Rattle.pr_cdb.specs.declared.command.Command.{Command}
-use Rattle.pr_cdb.specs.declared.reply.Reply.{Reply}
-use Rattle.pr_cdb.specs.declared.reply.Sense.{Sense}
-use Rattle.pr_cdb.specs.declared.wire.Request.TheVariants.{Plain}
 use Rattle.pr_cdb.specs.Ranges.{Fits as FitsCommand}
-use Rattle.pr_attention.specs.declared.attention.Attention.{Attention}
-use Rattle.pr_attention.specs.declared.attention.Attention.TheVariants.{PowerOn}
-use Rattle.pr_attention.specs.Attentions.{power_on, code_of}
-use Rattle.pr_unit.specs.UnitStates.{UnitState, is_pending}
-use Rattle.pr_unit.specs.Conflicts.{command_conflicts}
-use Rattle.pr_unit.specs.Faults.{command_fault}
-use Rattle.pr_unit.specs.Replies.{good, check, conflict, report}
-use Rattle.pr_script.specs.declared.script.Test.{Test}
 use Rattle.pr_script.specs.declared.script.Test.TheVariants as test
-use Rattle.pr_script.specs.Grammar.{is_written}
-use Rattle.pr_roles.specs.Fitting.{is_reservation}
-use Rattle.pr_sets.specs.declared.word.Word.{Word}
 use Rattle.pr_sets.specs.declared.view_set.ViewSet.{Ghosts as ViewSet}
-use Rattle.pr_views.specs.declared.view.ViewOf.{ViewOf}
-use Rattle.pr_sets.specs.Words.{has}
-use Rattle.pr_sets.specs.Wides.{has_wide}
-use Rattle.pr_views.specs.declared.possibilities.Possibilities.{Possibilities}
-use Rattle.pr_views.specs.Possibilities.{Item, Registration, Reservation, Attentions, count_of_reservations}
-use Rattle.pr_views.specs.Views.{View}
-use Rattle.pr_views.specs.Portions.{has_at}
-use Rattle.pr_views.specs.Rooms.{AreInRange}
-use Rattle.pr_views.proofs.lemmas.Possibilities.Numbers.{reservation_of}
-use Rattle.pr_domain.specs.declared.landing.Landing.{Landing}
 use Rattle.pr_domain.specs.declared.landing.Landing.TheVariants.{Arm, NoArm}
-use Rattle.pr_domain.specs.declared.landing.Class.TheVariants.{Good}
-use Rattle.pr_script.specs.Takes.{matches}
 use Rattle.pr_domain.specs.declared.reporting.Sending.{Sending}
-use Rattle.pr_domain.specs.Landings.{IsClass, IsLanding}
-use Rattle.pr_domain.specs.inside.Tallies.{IsRegistered, has_part, Leaves}
-use Rattle.pr_domain.specs.declared.reporting.Unserved.{Unserved}
-use Rattle.pr_domain.specs.inside.Reporting.{AreReported, AreCalm, AreQuiet, Ending, Reports, Conflicts, Fails, EndsGood, Refuses, refusal, MayReport, Ends, LandsBy, LandsGood, IsLater, IsOfWay, LandsGoodBelow, AreMore, HasOutcome, landing_at}
-use Rattle.pr_domain.specs.inside.Sendings.{scope_of_sending, view_of_sending, IsInRange, IsOfWayAt, IsTallied, LandsOf}
+use Rattle.pr_domain.specs.inside.Reporting.{AreCalm, AreQuiet, MayReport, LandsGood, IsLater}
+use Rattle.pr_domain.specs.inside.Sendings.{scope_of_sending, IsInRange, IsTallied}
 use Rattle.pr_domain.proofs.lemmas.Tallies.Origins.{one_class, one_landing, settled, IsWay, IsTold, from_part, way_lands}
 use Rattle.pr_regions.proofs.lemmas.Showing.AlikeViews.{number_below}
 use Rattle.pr_domain.proofs.lemmas.Tallies.Possibilities.{way_of_tally, either_way, told_power_on, told_later, told_conflict, told_refusal, told_fault, told_good}

@@ -1,14 +1,6 @@
 -- What a tally has once more is added.
-use Rattle.std.proofs.Common.{◌≡◌, ◌≢◌, ◌⊎◌, ℕ, ◌<◌, Bool, true, false, ◌==◌, ◌&&◌, ◌||◌, List, length, slice_set, Some, refl, sym, ap, ◌∙◌, subst, inl, inr}
-use Rattle.std.specs.List.{slice_get}
-use Rattle.std.specs.Option.{option_map_or}
-use Rattle.std.proofs.lemmas.Bool.Decides.{eqb_tells}
-use Rattle.pr_sets.specs.Wides.{has_wide}
-use Rattle.pr_views.specs.declared.possibilities.Possibilities.{Possibilities}
-use Rattle.pr_views.specs.Possibilities.{Item, Registration, Reservation, Attentions}
-use Rattle.pr_views.specs.Portions.{has_at}
+use Rattle.pr_domain.proofs.Common.{◌≡◌, ℕ, ◌<◌, Bool, true, false, ◌&&◌, ◌||◌, ◌≢◌, ◌⊎◌, List, length, ◌==◌, slice_get, slice_set, Some, sym, refl, ap, ◌∙◌, subst, inl, inr, option_map_or, eqb_tells, has_wide, has_at, Item, Registration, Reservation, Attentions, Possibilities, has_part, has_tallied}
 use Rattle.pr_views.proofs.lemmas.Rooms.Places.{holds_at_written, holds_at_kept}
-use Rattle.pr_domain.specs.inside.Tallies.{has_part, has_tallied}
 
 pub way_added : (ways : List Possibilities) (way : ℕ) (old joined found : Possibilities) → way < length ways → slice_get ways way ≡ Some old
     → ((g r : ℕ) → has_at joined.registrations g r ≡ (has_at old.registrations g r || has_at found.registrations g r))

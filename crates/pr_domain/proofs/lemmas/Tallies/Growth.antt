@@ -1,21 +1,5 @@
 -- Tallies that grow step by step.
-use Rattle.std.proofs.Common.{◌≡◌, ◌⊎◌, ℕ, ◌+◌, ◌<◌, true, List, Some, sym, ap, ◌∙◌, subst, inl, inr, arith}
-use Rattle.std.specs.List.{slice_get, Contains}
-use Rattle.std.proofs.lemmas.Option.{same_Some, slice_get_within, get_or_from_slice_get}
-use Rattle.std.proofs.lemmas.Bool.{cases_eq, cases_order}
-use Rattle.pr_cdb.specs.declared.command.Command.{Command}
-use Rattle.pr_unit.specs.UnitStates.{UnitState}
-use Rattle.pr_script.specs.declared.script.Test.{Test}
-use Rattle.pr_sets.specs.declared.word.Word.{Word}
-use Rattle.pr_views.specs.declared.possibilities.Possibilities.{Possibilities}
-use Rattle.pr_views.specs.Possibilities.{Scope, Item}
-use Rattle.pr_views.specs.Views.{View, Shows}
-use Rattle.pr_views.specs.Portions.{view_in}
-use Rattle.pr_regions.specs.declared.region.Branch.{Branch}
-use Rattle.pr_regions.specs.declared.place.Place.{Place}
-use Rattle.pr_domain.specs.declared.tally.Tally.{Tally}
-use Rattle.pr_regions.specs.Gathering.{IsAt}
-use Rattle.pr_domain.specs.inside.Tallies.{has_tallied, Leaves, IsFound, Grows, IsInOne}
+use Rattle.pr_domain.proofs.Common.{◌≡◌, ℕ, ◌+◌, ◌<◌, true, ◌⊎◌, List, slice_get, Some, Contains, sym, ap, ◌∙◌, subst, inl, inr, arith, cases_order, cases_eq, same_Some, slice_get_within, get_or_from_slice_get, Word, Command, UnitState, Test, view_in, Scope, Item, View, Shows, Possibilities, IsAt, Place, Branch, Tally, has_tallied, Leaves, IsFound, Grows, IsInOne}
 
 -- found among these, and so among those
 found_as : (v : View) (c : Command) (tests : List Test) (A B : UnitState → Type 0) (way : ℕ) (i : Item) (q : ℕ) → ((u : UnitState) → Shows v u → A u → B u)

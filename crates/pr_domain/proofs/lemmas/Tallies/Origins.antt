@@ -1,35 +1,13 @@
 -- Where the possibilities of each landing come from.
-use Rattle.std.proofs.Common.{◌≡◌, ◌⊎◌, ◌↔◌, ℕ, ◌-◌, ◌^◌, ◌<◌, true, List, Option, Some, None, refl, sym, ap, ◌∙◌, subst, inl, inr, bit_and}
-use Rattle.std.proofs.lemmas.Option.{same_Some}
-use Rattle.pr_cdb.specs.declared.command.Command.{Command}
-use Rattle.pr_cdb.specs.declared.reply.Reply.{Reply}
+use Rattle.pr_domain.proofs.Common.{◌≡◌, ℕ, ◌-◌, ◌<◌, true, ◌⊎◌, ◌↔◌, List, bit_and, Some, None, Option, sym, refl, ap, ◌∙◌, subst, inl, inr, same_Some, has, Word, Command, Reply, Plain, code_of, Attention, State, key_of, Step, UnitState, IsWellFormed, effect, is_written, Test, view_in, Scope, number_of, Item, Registration, Reservation, Attentions, IsSo, View, IsPossible, Shows, Possibilities, first_test, IsClass, IsLanding, Class, Good, Conflict, Busy, Full, Landing, Ending, Reports, Conflicts, Fails, EndsGood, Refuses, Ends, LandsBy, IsOfWay, IsRegistered, has_part}
+use Rattle.std.proofs.Common.{◌^◌}
 use Rattle.pr_cdb.specs.declared.reply.Status.{Status}
 use Rattle.pr_cdb.specs.declared.reply.Status.TheVariants as status
-use Rattle.pr_cdb.specs.declared.wire.Request.TheVariants.{Plain}
 use Rattle.pr_cdb.specs.Ranges.{Fits as FitsCommand}
-use Rattle.pr_attention.specs.declared.attention.Attention.{Attention}
-use Rattle.pr_attention.specs.Attentions.{code_of}
-use Rattle.pr_registry.specs.Registrations.{State, key_of}
 use Rattle.pr_attention.proofs.lemmas.Bits.{flag_of, codes_of-without_flag, without_flag-lt}
-use Rattle.pr_unit.specs.UnitStates.{UnitState, IsWellFormed, effect}
-use Rattle.pr_unit.specs.Steps.{Step}
 use Rattle.pr_unit.proofs.lemmas.Steps.WellFormedSteps.{well_formed-step, hosts-step}
-use Rattle.pr_script.specs.declared.script.Test.{Test}
-use Rattle.pr_script.specs.Grammar.{is_written}
-use Rattle.pr_sets.specs.declared.word.Word.{Word}
-use Rattle.pr_sets.specs.Words.{has}
-use Rattle.pr_views.specs.declared.possibilities.Possibilities.{Possibilities}
-use Rattle.pr_views.specs.Possibilities.{Scope, Item, Registration, Reservation, Attentions, IsSo, number_of}
-use Rattle.pr_views.specs.Views.{View, IsPossible, Shows}
-use Rattle.pr_views.specs.Portions.{view_in}
-use Rattle.pr_regions.specs.Readings.{first_test}
-use Rattle.pr_domain.specs.declared.landing.Landing.{Landing}
 use Rattle.pr_domain.specs.declared.landing.Landing.TheVariants.{Arm, NoArm}
-use Rattle.pr_domain.specs.declared.landing.Class.{Class}
-use Rattle.pr_domain.specs.declared.landing.Class.TheVariants.{Good, Conflict, Busy, Full, Sense as WithSense}
-use Rattle.pr_domain.specs.Landings.{IsClass, IsLanding}
-use Rattle.pr_domain.specs.inside.Tallies.{IsRegistered, has_part}
-use Rattle.pr_domain.specs.inside.Reporting.{Ending, Reports, Conflicts, Fails, EndsGood, Refuses, Ends, LandsBy, IsOfWay}
+use Rattle.pr_domain.specs.declared.landing.Class.TheVariants.{Sense as WithSense}
 use Rattle.pr_domain.proofs.lemmas.Reporting.Ends.{steps_or_stays}
 use Rattle.pr_domain.proofs.lemmas.Reporting.OwnerStates.{after_reported, untold_pending, IsNumbered, numbered_after}
 

@@ -1,37 +1,9 @@
 -- The possibilities of a tally, and the attentions beside them, are those of each way to end.
-use Rattle.std.proofs.Common.{◌≡◌, ◌⊎◌, ◌↔◌, ℕ, zero, suc, Bool, true, false, ◌==◌, ◌&&◌, ◌||◌, not, nat_lt, List, Option, Some, None, is_some, refl, sym, ap, ◌∙◌, subst, inl, inr, arith}
+use Rattle.pr_domain.proofs.Common.{◌≡◌, ℕ, zero, suc, Bool, true, false, not, ◌&&◌, ◌||◌, ◌⊎◌, ◌↔◌, List, is_some, nat_lt, ◌==◌, slice_get, Some, None, Option, sym, refl, ap, ◌∙◌, subst, inl, inr, arith, option_map_or, false≢true, not-true, and_parts, or_cases, and_from, or_left, or_right, nat_tests, has, Word, Command, Reply, Sense, Plain, power_on, code_of, codes_of, Attention, PowerOn, command_conflicts, command_fault, good, check, conflict, report, data_of, UnitState, is_pending, is_any_pending, effect, after_report, Test, view_in, Scope, Item, Attentions, IsSo, View, Shows, Possibilities, first_test, IsLanding, Landing, Unserved, Tally, AreReported, Reports, Conflicts, Fails, EndsGood, Refuses, refusal, landing_at, IsRegistered, has_part, has_tallied, arm_of, Leaves, IsTally}
 use Rattle.std.specs.FinSet as set
-use Rattle.std.specs.List.{slice_get}
-use Rattle.std.specs.Option.{option_map_or}
-use Rattle.std.proofs.lemmas.Bool.{and_parts, and_from, or_cases, or_left, or_right, false≢true, lt-ltb, not-true}
-use Rattle.std.proofs.lemmas.Bool.Decides.{nat_tests}
-use Rattle.pr_cdb.specs.declared.command.Command.{Command}
-use Rattle.pr_cdb.specs.declared.reply.Reply.{Reply}
-use Rattle.pr_cdb.specs.declared.reply.Sense.{Sense}
-use Rattle.pr_cdb.specs.declared.wire.Request.TheVariants.{Plain}
-use Rattle.pr_attention.specs.declared.attention.Attention.{Attention}
-use Rattle.pr_attention.specs.declared.attention.Attention.TheVariants.{PowerOn}
-use Rattle.pr_attention.specs.Attentions.{power_on, code_of}
-use Rattle.pr_attention.specs.Flagged.{codes_of}
-use Rattle.pr_unit.specs.UnitStates.{UnitState, is_pending, is_any_pending, effect, after_report}
-use Rattle.pr_unit.specs.Conflicts.{command_conflicts}
-use Rattle.pr_unit.specs.Faults.{command_fault}
-use Rattle.pr_unit.specs.Replies.{good, check, conflict, report, data_of}
-use Rattle.pr_script.specs.declared.script.Test.{Test}
-use Rattle.pr_sets.specs.declared.word.Word.{Word}
-use Rattle.pr_sets.specs.Words.{has}
-use Rattle.pr_views.specs.declared.possibilities.Possibilities.{Possibilities}
-use Rattle.pr_views.specs.Possibilities.{Scope, Item, Attentions, IsSo}
-use Rattle.pr_views.specs.Views.{View, Shows}
+use Rattle.std.proofs.lemmas.Bool.{lt-ltb}
 use Rattle.pr_views.proofs.lemmas.Possibilities.Numbers.{one_attentions}
-use Rattle.pr_views.specs.Portions.{view_in}
-use Rattle.pr_regions.specs.Readings.{first_test}
-use Rattle.pr_domain.specs.declared.landing.Landing.{Landing}
-use Rattle.pr_domain.specs.declared.tally.Tally.{Tally}
-use Rattle.pr_domain.specs.Landings.{IsLanding}
-use Rattle.pr_domain.specs.inside.Tallies.{IsRegistered, has_part, has_tallied, arm_of, Leaves, IsTally}
-use Rattle.pr_domain.specs.declared.reporting.Unserved.{Unserved}
-use Rattle.pr_domain.specs.inside.Reporting.{AreReported, AreCalm, AreQuiet, Reports, Conflicts, Fails, EndsGood, Refuses, MayReport, landing_at, refusal}
+use Rattle.pr_domain.specs.inside.Reporting.{AreCalm, AreQuiet, MayReport}
 use Rattle.pr_domain.proofs.lemmas.Reporting.OwnerStates.{after_reported, reported_after, quiet_number, untold_pending}
 use Rattle.pr_domain.proofs.lemmas.Permitting.IdleCommands.{idle_from_zero}
 use Rattle.pr_domain.proofs.lemmas.Tallies.Origins.{so_from_registered, still_registered, IsWay, IsTold}

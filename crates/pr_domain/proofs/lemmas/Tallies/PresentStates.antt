@@ -1,24 +1,7 @@
 -- States of which a tally has everything already.
-use Rattle.std.proofs.Common.{◌≡◌, ℕ, zero, suc, ◌+◌, ◌<◌, true, ◌==◌, IfSome, IfNone, List, [], length, Some, None, is_some, slice_index_or, refl, sym, ap, ◌∙◌, subst, inl, arith}
-use Rattle.std.proofs.lemmas.Bool.{false≢true}
-use Rattle.std.proofs.lemmas.Bool.Decides.{nat_tests}
-use Rattle.pr_cdb.specs.declared.command.Command.{Command}
-use Rattle.pr_unit.specs.UnitStates.{UnitState}
-use Rattle.pr_script.specs.declared.script.Test.{Test}
-use Rattle.pr_sets.specs.declared.word.Word.{Word}
-use Rattle.pr_sets.specs.Words.{has}
-use Rattle.pr_sets.specs.Wides.{has_wide}
-use Rattle.pr_views.specs.declared.possibilities.Possibilities.{Possibilities}
-use Rattle.pr_views.specs.Possibilities.{Scope, Item, Registration, Reservation, Attentions, IsSo}
-use Rattle.pr_views.specs.Views.{Shows, Within}
-use Rattle.pr_views.specs.Portions.{has_at, view_in}
-use Rattle.pr_views.proofs.lemmas.Rooms.Places.{holds_at-get_or}
-use Rattle.pr_regions.specs.declared.region.Region.{Region}
-use Rattle.pr_regions.specs.declared.region.Reading.{Reading}
-use Rattle.pr_regions.specs.declared.place.Place.{Place}
-use Rattle.pr_domain.specs.declared.tally.Tally.{Tally}
-use Rattle.pr_regions.specs.Gathering.{IsPlace, IsAt}
-use Rattle.pr_domain.specs.inside.Tallies.{IsRegistered, has_part, has_tallied, HasFound, arm_of, way_of, Leaves, Grows, IsReadAt, IsRightReading}
+use Rattle.pr_domain.proofs.Common.{◌≡◌, ℕ, zero, suc, ◌+◌, ◌<◌, true, List, [], length, is_some, IfSome, IfNone, ◌==◌, Some, None, sym, refl, ap, ◌∙◌, subst, inl, arith, false≢true, nat_tests, has_wide, has, Word, Command, UnitState, Test, has_at, view_in, Scope, Item, Registration, Reservation, Attentions, IsSo, Shows, Within, Possibilities, holds_at-get_or, IsPlace, IsAt, Place, Reading, Region, Tally, IsRegistered, has_part, has_tallied, arm_of, Leaves, Grows, IsReadAt}
+use Rattle.std.proofs.Common.{slice_index_or}
+use Rattle.pr_domain.specs.inside.Tallies.{HasFound, way_of, IsRightReading}
 use Rattle.pr_domain.proofs.lemmas.Tallies.DataArms.{arm_way, at_read}
 use Rattle.pr_domain.proofs.lemmas.Twins.RetypedStates.{OnlyReads, only_reads, left_there}
 

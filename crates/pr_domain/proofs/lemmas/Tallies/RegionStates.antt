@@ -1,34 +1,11 @@
 -- What a tally has once the states of one region are added.
-use Rattle.std.proofs.Common.{◌≡◌, ◌≢◌, ◌⊎◌, ℕ, zero, suc, ◌<◌, ◌≤◌, true, false, ◌==◌, ◌&&◌, ◌||◌, if◌then◌else◌, List, Option, Some, None, is_some, unwrap_or, refl, sym, ap, ◌∙◌, subst, inl, inr, arith}
+use Rattle.pr_domain.proofs.Common.{◌≡◌, ℕ, zero, suc, ◌<◌, ◌≤◌, true, false, ◌&&◌, ◌||◌, ◌≢◌, ◌⊎◌, List, is_some, if◌then◌else◌, ◌==◌, Some, None, Option, sym, refl, ap, ◌∙◌, subst, inl, inr, arith, false≢true, cases_lt, and_parts, or_cases, and_from, or_left, or_right, eqb_tells, nat_tests, has_wide, has, Word, Command, Sense, command_conflicts, command_fault, good, data_of, UnitState, effect, Test, has_at, view_in, Scope, Item, Registration, Reservation, Attentions, IsSo, View, Shows, Possibilities, one_registration, IsPlace, IsAt, first_test, Place, Branch, Region, Transition, Tally, IsRegistered, has_part, has_tallied, arm_of, Leaves, IsFound, Grows, IsRight}
+use Rattle.std.proofs.Common.{unwrap_or}
 use Rattle.std.proofs.Math.Logic.{⊎_elim}
-use Rattle.std.proofs.lemmas.Bool.{and_parts, and_from, or_cases, or_left, or_right, false≢true, cases_lt}
-use Rattle.std.proofs.lemmas.Bool.Decides.{nat_tests, eqb_tells}
-use Rattle.pr_cdb.specs.declared.command.Command.{Command}
-use Rattle.pr_cdb.specs.declared.reply.Sense.{Sense}
-use Rattle.pr_unit.specs.UnitStates.{UnitState, effect}
-use Rattle.pr_unit.specs.Conflicts.{command_conflicts}
-use Rattle.pr_unit.specs.Faults.{command_fault}
-use Rattle.pr_unit.specs.Replies.{good, data_of}
-use Rattle.pr_script.specs.declared.script.Test.{Test}
-use Rattle.pr_sets.specs.declared.word.Word.{Word}
-use Rattle.pr_sets.specs.Words.{has}
-use Rattle.pr_sets.specs.Wides.{has_wide}
-use Rattle.pr_views.specs.declared.possibilities.Possibilities.{Possibilities}
-use Rattle.pr_views.specs.Possibilities.{Scope, Item, Registration, Reservation, Attentions, IsSo}
-use Rattle.pr_views.specs.Views.{View, Shows}
-use Rattle.pr_views.specs.Portions.{has_at, view_in}
-use Rattle.pr_views.proofs.lemmas.Possibilities.Numbers.{one_registration}
-use Rattle.pr_regions.specs.declared.region.Branch.{Branch}
-use Rattle.pr_regions.specs.declared.region.Transition.{Transition}
 use Rattle.pr_regions.specs.declared.region.Ending.TheVariants as ending
-use Rattle.pr_regions.specs.declared.region.Region.{Region}
-use Rattle.pr_regions.specs.Readings.{first_test}
 use Rattle.pr_regions.specs.Regions.{Ends, Changes}
-use Rattle.pr_regions.specs.declared.place.Place.{Place}
-use Rattle.pr_domain.specs.declared.tally.Tally.{Tally}
-use Rattle.pr_regions.specs.Gathering.{IsPlace, IsAt, IsGathered}
+use Rattle.pr_regions.specs.Gathering.{IsGathered}
 use Rattle.pr_regions.specs.Images.{IsImage, becomes, registration_left}
-use Rattle.pr_domain.specs.inside.Tallies.{IsRegistered, has_part, has_tallied, arm_of, Leaves, IsFound, Grows, IsRight}
 
 -- the possibilities are what is so, of registrations and reservation, after these states become others
 pub record IsPart (v : View) (At : UnitState → Type 0) (after : UnitState → UnitState) (p : Possibilities) : Type 0 where

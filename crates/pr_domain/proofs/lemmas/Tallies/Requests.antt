@@ -1,36 +1,16 @@
 -- What a sender with one registration asks for, and how that ends.
-use Rattle.std.proofs.Common.{◌≡◌, ℕ, ◌<◌, Bool, true, false, ◌==◌, ◌&&◌, not, if◌then◌else◌, option_map, nat_lt, List, length, Option, Some, None, sym, ap, ◌∙◌, subst, arith}
-use Rattle.std.specs.List.{Contains}
-use Rattle.std.proofs.lemmas.Bool.{false≢true, or_left, lt-ltb}
-use Rattle.std.proofs.lemmas.Bool.Decides.{nat_tests}
-use Rattle.std.proofs.lemmas.Option.{slice_get-get_or}
-use Rattle.pr_cdb.specs.declared.command.Command.{Command}
+use Rattle.pr_domain.proofs.Common.{◌≡◌, ℕ, ◌<◌, Bool, true, false, not, ◌&&◌, List, length, if◌then◌else◌, nat_lt, ◌==◌, Some, None, Contains, Option, option_map, sym, ap, ◌∙◌, subst, arith, false≢true, or_left, nat_tests, slice_get-get_or, has, Word, Command, State, key_of, Held, One, command_conflicts, UnitState, Test, view_in, Scope, Registration, IsSo, Shows, Possibilities, one_registration, IsPlace, IsUniform, IsAt, is_refused, standing_of, AreBranches, Place, Branch, Region, same_reservation, IsRight, IsInOne, HasBoth}
+use Rattle.std.proofs.lemmas.Bool.{lt-ltb}
 use Rattle.pr_cdb.specs.declared.command.Command.TheVariants as command
-use Rattle.pr_registry.specs.declared.held.Held.{Held}
-use Rattle.pr_registry.specs.declared.held.Held.TheVariants.{One, All as Everybody}
+use Rattle.pr_registry.specs.declared.held.Held.TheVariants.{All as Everybody}
 use Rattle.pr_registry.specs.Hosts.{is_key, has_no_registrant}
-use Rattle.pr_registry.specs.Registrations.{State, key_of}
 use Rattle.pr_registry.specs.Changes.{conflicts_with_reserve}
-use Rattle.pr_unit.specs.UnitStates.{UnitState}
-use Rattle.pr_unit.specs.Conflicts.{command_conflicts}
-use Rattle.pr_script.specs.declared.script.Test.{Test}
-use Rattle.pr_sets.specs.declared.word.Word.{Word}
-use Rattle.pr_sets.specs.Words.{has}
-use Rattle.pr_views.specs.declared.possibilities.Possibilities.{Possibilities}
-use Rattle.pr_views.specs.Possibilities.{Scope, Registration, IsSo}
-use Rattle.pr_views.specs.Views.{Shows}
-use Rattle.pr_views.specs.Portions.{view_in, HasSomebody}
-use Rattle.pr_views.proofs.lemmas.Possibilities.Numbers.{one_registration}
+use Rattle.pr_views.specs.Portions.{HasSomebody}
 use Rattle.pr_regions.specs.declared.purpose.Purpose.{Purpose}
-use Rattle.pr_regions.specs.declared.region.Branch.{Branch}
-use Rattle.pr_regions.specs.declared.region.Region.{Region}
 use Rattle.pr_regions.specs.declared.region.Ending.TheVariants as ending
-use Rattle.pr_regions.specs.Purposes.{is_refused}
-use Rattle.pr_regions.specs.Regions.{AreBranches, Meets, filter_of, standing_of, Ends, IsUntestedOrRegistered, IsProper as IsProperBranch}
-use Rattle.pr_regions.specs.declared.place.Place.{Place}
-use Rattle.pr_regions.specs.Gathering.{IsPlace, IsUniform, IsAt}
-use Rattle.pr_domain.specs.inside.Tallies.{IsRight, AreRight, IsInOne, HasBoth, IsAsked, IsRefusedAt}
-use Rattle.pr_regions.proofs.lemmas.Portions.GatheredStates.{few_keys, same_reservation}
+use Rattle.pr_regions.specs.Regions.{Meets, filter_of, Ends, IsUntestedOrRegistered, IsProper as IsProperBranch}
+use Rattle.pr_domain.specs.inside.Tallies.{AreRight, IsAsked, IsRefusedAt}
+use Rattle.pr_regions.proofs.lemmas.Portions.GatheredStates.{few_keys}
 
 -- a sender with this registration alone
 pub only_uniform : (r : ℕ) (w : Word) → ((m : ℕ) → has w m ≡ (m == r)) → IsUniform w

@@ -1,21 +1,6 @@
 -- The states that a view shows, by their reservation and the owner's registration, one after another.
-use Rattle.std.proofs.Common.{◌≡◌, ◌⊎◌, ℕ, ◌+◌, ◌<◌, true, false, List, length, sym, ◌∙◌, subst, inl, inr, arith}
-use Rattle.std.proofs.lemmas.Bool.{cases_eq, cases_order, false≢true}
-use Rattle.pr_cdb.specs.declared.command.Command.{Command}
-use Rattle.pr_unit.specs.UnitStates.{UnitState}
-use Rattle.pr_script.specs.declared.script.Test.{Test}
-use Rattle.pr_sets.specs.Words.{has}
-use Rattle.pr_sets.specs.Wides.{has_wide}
-use Rattle.pr_views.specs.declared.possibilities.Possibilities.{Possibilities}
-use Rattle.pr_views.specs.Possibilities.{Scope, Item, Registration, Reservation, IsSo, count_of_reservations}
-use Rattle.pr_views.specs.Views.{View, Shows}
-use Rattle.pr_views.specs.Portions.{has_at, view_in}
-use Rattle.pr_views.proofs.lemmas.Possibilities.Numbers.{one_registration}
-use Rattle.pr_regions.specs.declared.place.Place.{Place}
+use Rattle.pr_domain.proofs.Common.{◌≡◌, ℕ, ◌+◌, ◌<◌, true, false, ◌⊎◌, List, length, sym, ◌∙◌, subst, inl, inr, arith, false≢true, cases_order, cases_eq, has_wide, has, Command, UnitState, Test, has_at, view_in, Scope, count_of_reservations, Item, Registration, Reservation, IsSo, View, Shows, Possibilities, one_registration, IsPlace, Place, Tally, has_tallied, IsFound, Grows, IsTally, HasFirst, HasBoth, IsReserved, IsOwners, IsOfScope}
 use Rattle.pr_regions.proofs.lemmas.Showing.ShownStates.{is_place}
-use Rattle.pr_domain.specs.declared.tally.Tally.{Tally}
-use Rattle.pr_regions.specs.Gathering.{IsPlace}
-use Rattle.pr_domain.specs.inside.Tallies.{has_tallied, Grows, IsFound, HasBoth, HasFirst, IsReserved, IsOwners, IsOfScope, IsTally}
 use Rattle.pr_domain.proofs.lemmas.Tallies.Growth.{grows_as, grows_then, grows_from_none}
 
 -- ---- one registration more

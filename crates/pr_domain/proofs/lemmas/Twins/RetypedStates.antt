@@ -1,37 +1,19 @@
 -- A state under a reservation of another type that has the same holders: a command that reads ends alike there.
-use Rattle.std.proofs.Common.{◌≡◌, ◌⊎◌, ℕ, zero, suc, ◌+◌, ◌<◌, true, false, ◌==◌, ◌&&◌, ◌||◌, not, nat_lt, List, Option, Some, None, is_some, option_map, unwrap_or, refl, sym, ap, ◌∙◌, subst, inl, inr, arith}
+use Rattle.pr_domain.proofs.Common.{◌≡◌, ℕ, zero, suc, ◌+◌, ◌<◌, true, false, not, ◌&&◌, ◌||◌, ◌⊎◌, List, is_some, nat_lt, ◌==◌, Some, None, Option, option_map, sym, refl, ap, ◌∙◌, subst, inl, inr, arith, false≢true, not-true, and_parts, cases_order, cases_eq, or_cases, and_from, or_left, or_right, nat_tests, has_wide, has, Command, Held, One, command_conflicts, command_fault, good, data_of, UnitState, effect, is_written, test_fits, Test, is_reservation, view_in, Scope, number_of, Item, Registration, Reservation, Attentions, IsSo, Shows, Possibilities, IsPlace, first_test, Place, same_reservation, Tally, IsRegistered, has_tallied, Leaves, IsFound, Grows, IsReserved, IsOwners}
+use Rattle.std.proofs.Common.{unwrap_or}
 use Rattle.std.specs.FinMap as map
 use Rattle.std.specs.List.{All as Each}
-use Rattle.std.proofs.lemmas.Bool.{and_parts, and_from, or_cases, or_left, or_right, false≢true, not-true, cases_eq, cases_order}
-use Rattle.std.proofs.lemmas.Bool.Decides.{nat_tests}
-use Rattle.pr_cdb.specs.declared.command.Command.{Command}
 use Rattle.pr_cdb.specs.declared.command.Command.TheVariants as command
-use Rattle.pr_registry.specs.declared.held.Held.{Held}
-use Rattle.pr_registry.specs.declared.held.Held.TheVariants.{One, All}
+use Rattle.pr_registry.specs.declared.held.Held.TheVariants.{All}
 use Rattle.pr_registry.specs.Hosts.{Keys}
 use Rattle.pr_registry.specs.Registrations.{HasHolder, is_all}
-use Rattle.pr_unit.specs.UnitStates.{UnitState, effect}
-use Rattle.pr_unit.specs.Conflicts.{command_conflicts}
-use Rattle.pr_unit.specs.Faults.{command_fault}
-use Rattle.pr_unit.specs.Replies.{good, data_of, reservation}
-use Rattle.pr_script.specs.declared.script.Test.{Test}
+use Rattle.pr_unit.specs.Replies.{reservation}
 use Rattle.pr_script.specs.declared.grammar.TheConstants.{WRITTEN_LENGTH}
-use Rattle.pr_script.specs.Grammar.{is_read_keys, is_read_reservation, is_written, test_fits}
-use Rattle.pr_roles.specs.Fitting.{is_reservation}
-use Rattle.pr_sets.specs.Words.{has}
-use Rattle.pr_sets.specs.Wides.{has_wide}
-use Rattle.pr_views.specs.declared.possibilities.Possibilities.{Possibilities}
-use Rattle.pr_views.specs.Possibilities.{Scope, Item, Registration, Reservation, Attentions, IsSo, number_of}
-use Rattle.pr_views.specs.Views.{Shows}
-use Rattle.pr_views.specs.Portions.{view_in}
-use Rattle.pr_regions.specs.Readings.{first_test}
+use Rattle.pr_script.specs.Grammar.{is_read_keys, is_read_reservation}
 use Rattle.pr_regions.proofs.lemmas.Readings.ReservationArms.{key_in, first_found}
-use Rattle.pr_regions.specs.declared.place.Place.{Place}
-use Rattle.pr_domain.specs.declared.tally.Tally.{Tally}
-use Rattle.pr_regions.specs.Gathering.{IsPlace}
-use Rattle.pr_domain.specs.inside.Tallies.{IsRegistered, has_tallied, IsNothing, Leaves, IsFound, Grows, IsReserved, IsOwners}
+use Rattle.pr_domain.specs.inside.Tallies.{IsNothing}
 use Rattle.pr_domain.specs.inside.Twins.{AreTwins, IsTwin, has_with_twin}
-use Rattle.pr_regions.proofs.lemmas.Portions.GatheredStates.{same_reservation, number_at, held_at}
+use Rattle.pr_regions.proofs.lemmas.Portions.GatheredStates.{number_at, held_at}
 use Rattle.pr_domain.proofs.lemmas.Tallies.Origins.{still_registered}
 
 -- the same state with this reservation

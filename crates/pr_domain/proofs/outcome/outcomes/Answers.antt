@@ -1,7 +1,4 @@
-use Rattle.std.proofs.Common.{◌≡◌, map, refl}
-use Rattle.pr_views.specs.Possibilities.{Scope}
-use Rattle.pr_views.specs.Portions.{view_in}
-use Rattle.pr_views.specs.Rooms.{scope_of, view_of}
+use Rattle.pr_domain.proofs.Common.{◌≡◌, map, refl, view_in, Scope, scope_of, view_of}
 use Rattle.pr_domain.proofs.lemmas.Reporting.OutcomeLists.{possible_scope}
 use Rattle.pr_domain.proofs.lemmas.Reporting.FoundWords.{same_outcomes, tally_of_view, all_alike}
 use Rattle.pr_domain.proofs.outcome.outcomes.Goals as goal

@@ -1,7 +1,4 @@
-use Rattle.std.proofs.Common.{sym, ◌∙◌, refl, arith}
-use Rattle.std.proofs.lemmas.Bool.{false≢true}
-use Rattle.std.proofs.lemmas.Option.{slice_get-get_or}
-use Rattle.pr_views.specs.Portions.{view_in}
+use Rattle.pr_domain.proofs.Common.{sym, refl, ◌∙◌, arith, false≢true, slice_get-get_or, view_in}
 use Rattle.pr_domain.proofs.lemmas.Permitting.Permissions.{more_unreached}
 use Rattle.pr_domain.proofs.permitting.is_one_reached.Goals as goal
 

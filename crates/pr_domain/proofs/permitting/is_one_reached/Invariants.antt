@@ -1,10 +1,5 @@
-use Rattle.std.proofs.Common.{length, ◌-◌, ◌≡◌, ◌≤◌, true}
-use Rattle.std.specs.List.{All}
-use Rattle.pr_sets.specs.Words.{has}
-use Rattle.pr_views.specs.Possibilities.{Scope}
-use Rattle.pr_views.specs.Portions.{view_in}
+use Rattle.pr_domain.proofs.Common.{◌≡◌, ◌-◌, ◌≤◌, true, length, All, has, view_in, Scope, IsPlace, IsUniform}
 use Rattle.pr_regions.specs.Regions.{IsProper as IsProperBranch}
-use Rattle.pr_regions.specs.Gathering.{IsPlace, IsUniform}
 use Rattle.pr_domain.specs.inside.Permitting.{IsOneReached}
 use Rattle.pr_domain.proofs.permitting.is_one_reached.Given as goal
 

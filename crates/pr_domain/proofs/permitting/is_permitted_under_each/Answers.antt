@@ -1,7 +1,4 @@
-use Rattle.std.proofs.Common.{sym, ◌∙◌}
-use Rattle.pr_views.specs.Portions.{view_in}
-use Rattle.pr_views.specs.Possibilities.{Reservation, IsSo}
-use Rattle.pr_domain.specs.inside.Permitting.{scope_at}
+use Rattle.pr_domain.proofs.Common.{sym, ◌∙◌, view_in, Reservation, IsSo, scope_at}
 use Rattle.pr_domain.proofs.lemmas.Permitting.Permissions.{refused_as, permitted_always}
 use Rattle.pr_domain.proofs.permitting.is_permitted_under_each.Goals as goal
 

@@ -1,7 +1,4 @@
-use Rattle.std.proofs.Common.{◌-◌, ◌+◌, ◌*◌, ◌≤◌}
-use Rattle.pr_views.specs.Portions.{view_in}
-use Rattle.pr_domain.specs.inside.Tallies.{IsReserved}
-use Rattle.pr_domain.specs.inside.Permitting.{ArePermitted, scope_at}
+use Rattle.pr_domain.proofs.Common.{◌+◌, ◌-◌, ◌*◌, ◌≤◌, view_in, ArePermitted, scope_at, IsReserved}
 use Rattle.pr_domain.proofs.permitting.is_permitted_under_each.Given as goal
 
 abbrev pub invariant-loop-reservation : goal.invariant-loop-reservation

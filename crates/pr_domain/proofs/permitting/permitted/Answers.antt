@@ -1,6 +1,5 @@
-use Rattle.std.proofs.Common.{refl, sym, ◌∙◌}
+use Rattle.pr_domain.proofs.Common.{sym, refl, ◌∙◌, view_of}
 use Rattle.pr_domain.proofs.lemmas.Permitting.IdleCommands.{permitted_of_busy, permitted_of_words, refused_of_words}
-use Rattle.pr_views.specs.Rooms.{view_of}
 use Rattle.pr_domain.proofs.permitting.permitted.Goals as goal
 
 pub returns-then-not-has-clause-permitted : goal.returns-then-not-has-clause-permitted

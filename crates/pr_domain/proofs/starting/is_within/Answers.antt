@@ -1,6 +1,4 @@
-use Rattle.std.proofs.Common.{◌≡◌, true, take, refl, subst, arith}
-use Rattle.std.specs.List.{list_all}
-use Rattle.pr_domain.specs.inside.Beginning.{stays}
+use Rattle.pr_domain.proofs.Common.{◌≡◌, true, take, refl, subst, arith, list_all, stays}
 use Rattle.pr_domain.proofs.lemmas.Starting.CodeSubsets.{all_attentions, all_stay_tells}
 use Rattle.pr_domain.proofs.starting.is_within.Goals as goal
 

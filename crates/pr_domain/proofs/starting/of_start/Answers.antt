@@ -1,9 +1,6 @@
-use Rattle.std.proofs.Common.{◌≡◌, ◌<◌, rules, sym, ap, ◌∙◌, subst, arith}
+use Rattle.pr_domain.proofs.Common.{◌≡◌, ◌<◌, sym, ap, ◌∙◌, subst, arith, rules, AreDeclared, scenario_of, view_in, scope_of, view_of, AreInRange}
 use Rattle.pr_roles.specs.declared.parts.Parts.{Parts}
-use Rattle.pr_roles.specs.Fitting.{Fits, AreDeclared}
-use Rattle.pr_roles.specs.Scenarios.{scenario_of}
-use Rattle.pr_views.specs.Portions.{view_in}
-use Rattle.pr_views.specs.Rooms.{AreInRange, scope_of, view_of}
+use Rattle.pr_roles.specs.Fitting.{Fits}
 use Rattle.pr_domain.specs.Starting.{IsOfStart}
 use Rattle.pr_domain.specs.inside.Beginning.{scope_in}
 use Rattle.pr_domain.proofs.lemmas.Starting.AllowedStarts.{start_same}

@@ -1,6 +1,4 @@
-use Rattle.std.proofs.Common.{◌≡◌, ℕ, take}
-use Rattle.pr_sets.specs.Wides.{has_wide}
-use Rattle.pr_domain.specs.inside.Beginning.{has_reservation}
+use Rattle.pr_domain.proofs.Common.{◌≡◌, ℕ, take, has_wide, has_reservation}
 use Rattle.pr_domain.proofs.starting.reservations.Given as goal
 
 abbrev pub invariant-loop-held : goal.invariant-loop-held

@@ -1,10 +1,6 @@
-use Rattle.std.proofs.Common.{length, sym, subst}
-use Rattle.std.specs.List.{Contains, All}
+use Rattle.pr_domain.proofs.Common.{length, All, Contains, sym, subst, view_in, standing_of, AreBranches, Branch, IsInOne, HasBoth}
 use Rattle.std.proofs.lemmas.List.Elements.{All-contains}
-use Rattle.pr_views.specs.Portions.{view_in}
-use Rattle.pr_regions.specs.declared.region.Branch.{Branch}
-use Rattle.pr_regions.specs.Regions.{AreBranches, IsProper, standing_of}
-use Rattle.pr_domain.specs.inside.Tallies.{IsInOne, HasBoth}
+use Rattle.pr_regions.specs.Regions.{IsProper}
 use Rattle.pr_domain.proofs.lemmas.Tallies.Requests.{asked_right, asked_covers, asked_back}
 use Rattle.pr_domain.proofs.lemmas.Tallies.Growth.{grows_as}
 use Rattle.pr_domain.proofs.tallying.add_accepted.Goals as goal

@@ -1,4 +1,4 @@
-use Rattle.std.proofs.Common.{◌≡◌, ◌+◌, suc, arith}
+use Rattle.pr_domain.proofs.Common.{◌≡◌, suc, ◌+◌, arith}
 use Rattle.pr_domain.proofs.lemmas.Tallies.RegionStates.{leaf_conflict, leaf_fault, leaf_good}
 use Rattle.pr_domain.proofs.tallying.add_branch.Goals as goal
 

@@ -1,7 +1,4 @@
-use Rattle.std.proofs.Common.{◌≡◌, length, subst, arith}
-use Rattle.std.proofs.lemmas.Option.{slice_get-get_or}
-use Rattle.pr_views.specs.Portions.{view_in}
-use Rattle.pr_domain.specs.inside.Tallies.{Grows, IsInOne}
+use Rattle.pr_domain.proofs.Common.{◌≡◌, length, subst, arith, slice_get-get_or, view_in, Grows, IsInOne}
 use Rattle.pr_domain.proofs.lemmas.Tallies.Growth.{branches_more, listed_there}
 use Rattle.pr_domain.proofs.tallying.add_branches.Goals as goal
 

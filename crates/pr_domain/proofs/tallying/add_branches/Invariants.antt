@@ -1,9 +1,5 @@
-use Rattle.std.proofs.Common.{◌-◌, ◌≤◌, List, length}
-use Rattle.pr_cdb.specs.declared.command.Command.{Command}
-use Rattle.pr_script.specs.declared.script.Test.{Test}
-use Rattle.pr_views.specs.Possibilities.{Scope}
-use Rattle.pr_views.specs.Portions.{view_in}
-use Rattle.pr_domain.specs.inside.Tallies.{Grows, AreRight, IsInOne}
+use Rattle.pr_domain.proofs.Common.{◌-◌, ◌≤◌, List, length, Command, Test, view_in, Scope, Grows, IsInOne}
+use Rattle.pr_domain.specs.inside.Tallies.{AreRight}
 use Rattle.pr_domain.proofs.tallying.add_branches.Given as goal
 
 abbrev pub invariant-loop-i : goal.invariant-loop-i

@@ -1,8 +1,4 @@
-use Rattle.std.proofs.Common.{◌+◌, sym, ap, ◌∙◌, subst, arith}
-use Rattle.pr_sets.specs.Words.{has}
-use Rattle.pr_views.specs.Portions.{has_at, view_in}
-use Rattle.pr_views.proofs.lemmas.Rooms.Places.{holds_at-get_or}
-use Rattle.pr_domain.specs.inside.Tallies.{Grows, HasFirst}
+use Rattle.pr_domain.proofs.Common.{◌+◌, sym, ap, ◌∙◌, subst, arith, has, has_at, view_in, holds_at-get_or, Grows, HasFirst}
 use Rattle.pr_domain.proofs.lemmas.Tallies.ShownStates.{registration_more, registration_skipped}
 use Rattle.pr_domain.proofs.tallying.add_place.Goals as goal
 use Rattle.pr_domain.proofs.tallying.add_place.Goals.{then-has, else-has}

@@ -1,7 +1,4 @@
-use Rattle.std.proofs.Common.{◌-◌, ◌≤◌}
-use Rattle.pr_views.specs.Possibilities.{Scope}
-use Rattle.pr_views.specs.Portions.{view_in}
-use Rattle.pr_domain.specs.inside.Tallies.{Grows, HasFirst, IsOwners}
+use Rattle.pr_domain.proofs.Common.{◌-◌, ◌≤◌, view_in, Scope, Grows, HasFirst, IsOwners}
 use Rattle.pr_domain.proofs.tallying.add_place.Given as goal
 
 abbrev pub invariant-loop-registration : goal.invariant-loop-registration

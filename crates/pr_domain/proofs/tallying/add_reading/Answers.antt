@@ -1,9 +1,5 @@
-use Rattle.std.proofs.Common.{refl, None}
-use Rattle.pr_views.specs.Portions.{view_in}
-use Rattle.pr_regions.specs.declared.region.Transition.{Transition}
+use Rattle.pr_domain.proofs.Common.{None, refl, view_in, IsAt, Transition, IsReadAt}
 use Rattle.pr_regions.specs.inside.Parts.{Does, never}
-use Rattle.pr_regions.specs.Gathering.{IsAt}
-use Rattle.pr_domain.specs.inside.Tallies.{IsReadAt}
 use Rattle.pr_domain.proofs.lemmas.Tallies.DataArms.{reading_right, read_at, at_read}
 use Rattle.pr_domain.proofs.lemmas.Tallies.Requests.{only_uniform}
 use Rattle.pr_domain.proofs.lemmas.Tallies.Growth.{grows_as}

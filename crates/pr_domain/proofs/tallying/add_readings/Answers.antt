@@ -1,8 +1,5 @@
-use Rattle.std.proofs.Common.{◌≡◌, length, subst, arith}
+use Rattle.pr_domain.proofs.Common.{◌≡◌, length, subst, arith, slice_get-get_or, view_in, Grows, IsReadFirst}
 use Rattle.std.proofs.lemmas.List.Elements.{Contains-get_or}
-use Rattle.std.proofs.lemmas.Option.{slice_get-get_or}
-use Rattle.pr_views.specs.Portions.{view_in}
-use Rattle.pr_domain.specs.inside.Tallies.{Grows, IsReadFirst}
 use Rattle.pr_domain.proofs.lemmas.Tallies.DataArms.{readings_more}
 use Rattle.pr_domain.proofs.tallying.add_readings.Goals as goal
 

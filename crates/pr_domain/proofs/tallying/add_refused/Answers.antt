@@ -1,7 +1,4 @@
-use Rattle.std.proofs.Common.{refl}
-use Rattle.pr_views.specs.Portions.{view_in}
-use Rattle.pr_regions.specs.Gathering.{IsAt}
-use Rattle.pr_domain.specs.inside.Tallies.{HasBoth}
+use Rattle.pr_domain.proofs.Common.{refl, view_in, IsAt, HasBoth}
 use Rattle.pr_domain.proofs.lemmas.Tallies.Requests.{refused_right, refused_back, anywhere}
 use Rattle.pr_domain.proofs.lemmas.Tallies.Growth.{grows_as}
 use Rattle.pr_domain.proofs.tallying.add_refused.Goals as goal

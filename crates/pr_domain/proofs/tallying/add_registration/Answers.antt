@@ -1,12 +1,6 @@
-use Rattle.std.proofs.Common.{ℕ, length, sym, ap, ◌∙◌, subst}
-use Rattle.std.specs.List.{Contains, All}
+use Rattle.pr_domain.proofs.Common.{ℕ, length, All, Contains, sym, ap, ◌∙◌, subst, view_in, key_at, purpose_of, is_refused, Reading, HasBoth, IsReadFirst}
 use Rattle.std.proofs.lemmas.List.Elements.{All-contains}
-use Rattle.pr_views.specs.Possibilities.{key_at}
-use Rattle.pr_views.specs.Portions.{view_in}
-use Rattle.pr_regions.specs.declared.region.Reading.{Reading}
-use Rattle.pr_regions.specs.Purposes.{is_refused, purpose_of}
 use Rattle.pr_regions.specs.Readings.{AreReadings, IsProperReading}
-use Rattle.pr_domain.specs.inside.Tallies.{HasBoth, IsReadFirst}
 use Rattle.pr_domain.proofs.lemmas.Tallies.DataArms.{right_readings, readings_cover, arm_taken}
 use Rattle.pr_domain.proofs.lemmas.Tallies.Growth.{grows_as}
 use Rattle.pr_domain.proofs.tallying.add_registration.Goals as goal

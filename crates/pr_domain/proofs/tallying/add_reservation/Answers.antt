@@ -1,8 +1,4 @@
-use Rattle.std.proofs.Common.{◌≡◌, ◌+◌, true, length, refl, sym, ◌∙◌, subst}
-use Rattle.std.specs.List.{All}
-use Rattle.pr_script.specs.Grammar.{is_written, test_fits}
-use Rattle.pr_views.specs.Portions.{view_in}
-use Rattle.pr_domain.specs.inside.Tallies.{Grows, HasFirst}
+use Rattle.pr_domain.proofs.Common.{◌≡◌, ◌+◌, true, length, All, sym, refl, ◌∙◌, subst, is_written, test_fits, view_in, Grows, HasFirst}
 use Rattle.pr_domain.proofs.lemmas.Twins.RetypedStates.{twin_grows}
 use Rattle.pr_domain.proofs.lemmas.Tallies.ShownStates.{reservation_more}
 use Rattle.pr_domain.proofs.tallying.add_reservation.Goals as goal

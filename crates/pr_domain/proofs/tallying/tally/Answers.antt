@@ -1,6 +1,4 @@
-use Rattle.std.proofs.Common.{◌≡◌, ◌+◌, ◌*◌, sym, ◌∙◌, subst, arith}
-use Rattle.pr_views.specs.Portions.{view_in}
-use Rattle.pr_domain.specs.inside.Tallies.{Grows, IsReserved}
+use Rattle.pr_domain.proofs.Common.{◌≡◌, ◌+◌, ◌*◌, sym, ◌∙◌, subst, arith, view_in, Grows, IsReserved}
 use Rattle.pr_domain.proofs.lemmas.Tallies.ShownStates.{reservation_skipped, is_owners, tally_of_all}
 use Rattle.pr_domain.proofs.tallying.tally.Goals as goal
 use Rattle.pr_domain.proofs.tallying.tally.Goals.{then-has, else-has}

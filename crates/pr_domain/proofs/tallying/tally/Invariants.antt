@@ -1,7 +1,4 @@
-use Rattle.std.proofs.Common.{◌-◌, ◌+◌, ◌*◌, ◌≤◌}
-use Rattle.pr_views.specs.Possibilities.{Scope}
-use Rattle.pr_views.specs.Portions.{view_in}
-use Rattle.pr_domain.specs.inside.Tallies.{Grows, IsReserved, IsOfScope}
+use Rattle.pr_domain.proofs.Common.{◌+◌, ◌-◌, ◌*◌, ◌≤◌, view_in, Scope, Grows, IsReserved, IsOfScope}
 use Rattle.pr_domain.proofs.tallying.tally.Given as goal
 
 abbrev pub invariant-loop-reservation : goal.invariant-loop-reservation

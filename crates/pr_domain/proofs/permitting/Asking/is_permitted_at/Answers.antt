@@ -1,8 +1,4 @@
-use Rattle.std.proofs.Common.{◌≡◌, subst, arith}
-use Rattle.pr_views.specs.Portions.{view_in}
-use Rattle.pr_views.specs.Possibilities.{Reservation, IsSo}
-use Rattle.pr_domain.specs.inside.Tallies.{HasFirst, HasBoth}
-use Rattle.pr_domain.specs.inside.Permitting.{ArePermitted, scope_at}
+use Rattle.pr_domain.proofs.Common.{◌≡◌, subst, arith, view_in, Reservation, IsSo, ArePermitted, scope_at, HasFirst, HasBoth}
 use Rattle.pr_domain.proofs.lemmas.Permitting.Permissions.{asked_at, each_registration, refused_as}
 use Rattle.pr_domain.proofs.permitting.Asking.is_permitted_at.Goals as goal
 

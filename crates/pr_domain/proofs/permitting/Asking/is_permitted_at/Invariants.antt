@@ -1,6 +1,4 @@
-use Rattle.std.proofs.Common.{◌-◌, ◌≤◌}
-use Rattle.pr_domain.specs.inside.Tallies.{HasFirst}
-use Rattle.pr_domain.specs.inside.Permitting.{ArePermitted}
+use Rattle.pr_domain.proofs.Common.{◌-◌, ◌≤◌, ArePermitted, HasFirst}
 use Rattle.pr_domain.specs.inside.Askings.{scope_of_asking, view_of_asking}
 use Rattle.pr_domain.proofs.permitting.Asking.is_permitted_at.Given as goal
 

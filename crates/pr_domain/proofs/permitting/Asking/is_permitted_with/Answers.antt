@@ -1,13 +1,7 @@
-use Rattle.std.proofs.Common.{◌≡◌, ◌⊎◌, ℕ, ◌<◌, ◌≤◌, ◌||◌, false, not, List, length, Option, slice_index_or, sym, ap, ◌∙◌, subst, inl, inr}
-use Rattle.std.specs.Option.{option_map_or}
-use Rattle.std.proofs.lemmas.Bool.{cases_lt}
+use Rattle.pr_domain.proofs.Common.{◌≡◌, ℕ, ◌<◌, ◌≤◌, false, not, ◌||◌, ◌⊎◌, List, length, Option, sym, ap, ◌∙◌, subst, inl, inr, option_map_or, cases_lt, has, Word, has_at, holds_at-get_or, scope_at}
+use Rattle.std.proofs.Common.{slice_index_or}
 use Rattle.std.proofs.lemmas.Option.{slice_get_past}
-use Rattle.pr_sets.specs.declared.word.Word.{Word}
-use Rattle.pr_views.specs.Portions.{has_at}
-use Rattle.pr_sets.specs.Words.{has}
 use Rattle.std.proofs.Math.Bool.{or-false}
-use Rattle.pr_views.proofs.lemmas.Rooms.Places.{holds_at-get_or}
-use Rattle.pr_domain.specs.inside.Permitting.{scope_at}
 use Rattle.pr_domain.proofs.lemmas.Permitting.Permissions.{asked_at, not_registered, permitted_by_clauses, one_registration_permitted}
 use Rattle.pr_domain.proofs.permitting.Asking.is_permitted_with.Goals as goal
 

@@ -1,8 +1,5 @@
-use Rattle.std.proofs.Common.{◌≡◌, rules, sym}
-use Rattle.pr_views.specs.Possibilities.{Reservation}
-use Rattle.pr_views.specs.Views.{IsPossible}
-use Rattle.pr_views.specs.Rooms.{view_of}
-use Rattle.pr_domain.specs.inside.Sendings.{scope_of_sending, IsOfWayAt}
+use Rattle.pr_domain.proofs.Common.{◌≡◌, sym, rules, Reservation, view_of, IsPossible, IsOfWayAt}
+use Rattle.pr_domain.specs.inside.Sendings.{scope_of_sending}
 use Rattle.pr_domain.proofs.lemmas.Reporting.OutcomeLists.{more_by, added_way, kept_for}
 use Rattle.pr_domain.proofs.reporting.Sending.add.Goals as goal
 

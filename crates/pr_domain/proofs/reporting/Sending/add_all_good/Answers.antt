@@ -1,6 +1,4 @@
-use Rattle.std.proofs.Common.{arith}
-use Rattle.pr_domain.specs.inside.Reporting.{LandsGoodBelow, EndsGood}
-use Rattle.pr_domain.specs.inside.Sendings.{view_of_sending, LandsOf}
+use Rattle.pr_domain.proofs.Common.{arith, EndsGood, LandsGoodBelow, view_of_sending, LandsOf}
 use Rattle.pr_domain.proofs.lemmas.Reporting.OutcomeLists.{more_by}
 use Rattle.pr_domain.proofs.lemmas.Tallies.EndingWays.{good_more, good_all}
 use Rattle.pr_domain.proofs.reporting.Sending.add_all_good.Goals as goal

@@ -1,5 +1,5 @@
-use Rattle.pr_domain.specs.inside.Reporting.{LandsGoodBelow}
-use Rattle.pr_domain.specs.inside.Sendings.{view_of_sending, AreKeptFor, AddsThis}
+use Rattle.pr_domain.proofs.Common.{LandsGoodBelow, view_of_sending}
+use Rattle.pr_domain.specs.inside.Sendings.{AreKeptFor, AddsThis}
 use Rattle.pr_domain.proofs.reporting.Sending.add_all_good.Given as goal
 
 -- the arms before this one are added

@@ -1,7 +1,4 @@
-use Rattle.std.proofs.Common.{rules, refl}
-use Rattle.pr_unit.specs.Replies.{conflict}
-use Rattle.pr_domain.specs.inside.Reporting.{Conflicts}
-use Rattle.pr_domain.specs.inside.Sendings.{IsOfWayAt, LandsOf}
+use Rattle.pr_domain.proofs.Common.{refl, rules, conflict, Conflicts, IsOfWayAt, LandsOf}
 use Rattle.pr_domain.proofs.lemmas.Reporting.OutcomeLists.{more_by}
 use Rattle.pr_domain.proofs.lemmas.Tallies.EndingWays.{range_of, adds_conflict}
 use Rattle.pr_domain.proofs.reporting.Sending.add_conflict.Goals as goal

@@ -1,5 +1,4 @@
-use Rattle.pr_domain.specs.inside.Reporting.{Refuses}
-use Rattle.pr_domain.specs.inside.Sendings.{LandsOf}
+use Rattle.pr_domain.proofs.Common.{Refuses, LandsOf}
 use Rattle.pr_domain.proofs.lemmas.Tallies.EndingWays.{more_declared}
 use Rattle.pr_domain.proofs.reporting.Sending.add_declared.Goals as goal
 

@@ -1,8 +1,4 @@
-use Rattle.std.proofs.Common.{rules, refl, sym, ◌∙◌}
-use Rattle.std.proofs.lemmas.Option.{same_Some}
-use Rattle.pr_unit.specs.Replies.{check}
-use Rattle.pr_domain.specs.inside.Reporting.{Fails}
-use Rattle.pr_domain.specs.inside.Sendings.{IsOfWayAt, LandsOf}
+use Rattle.pr_domain.proofs.Common.{sym, refl, ◌∙◌, rules, same_Some, check, Fails, IsOfWayAt, LandsOf}
 use Rattle.pr_domain.proofs.lemmas.Reporting.OutcomeLists.{more_by}
 use Rattle.pr_domain.proofs.lemmas.Tallies.EndingWays.{range_of, adds_fault}
 use Rattle.pr_domain.proofs.reporting.Sending.add_fault.Goals as goal

@@ -1,7 +1,5 @@
-use Rattle.std.proofs.Common.{◌≡◌, suc, Some, rules, sym, ap, ◌∙◌}
-use Rattle.std.specs.List.{slice_get}
-use Rattle.pr_domain.specs.inside.Reporting.{LandsGood, landing_at}
-use Rattle.pr_domain.specs.inside.Sendings.{view_of_sending, IsOfWayAt}
+use Rattle.pr_domain.proofs.Common.{◌≡◌, suc, slice_get, Some, sym, ap, ◌∙◌, rules, landing_at, view_of_sending, IsOfWayAt}
+use Rattle.pr_domain.specs.inside.Reporting.{LandsGood}
 use Rattle.pr_domain.proofs.lemmas.Reporting.OutcomeLists.{more_by}
 use Rattle.pr_domain.proofs.lemmas.Tallies.EndingWays.{range_of, adds_good, three_more, at_arm}
 use Rattle.pr_domain.proofs.reporting.Sending.add_good.Goals.{then-arm-eq0, else-arm-eq0}

@@ -1,10 +1,4 @@
-use Rattle.std.proofs.Common.{rules}
-use Rattle.pr_attention.specs.declared.attention.Attention.TheVariants.{PowerOn}
-use Rattle.pr_cdb.specs.declared.wire.Request.TheVariants.{Plain}
-use Rattle.pr_attention.specs.Attentions.{power_on}
-use Rattle.pr_unit.specs.Replies.{report}
-use Rattle.pr_domain.specs.inside.Reporting.{Reports}
-use Rattle.pr_domain.specs.inside.Sendings.{IsOfWayAt, LandsOf}
+use Rattle.pr_domain.proofs.Common.{rules, Plain, power_on, PowerOn, report, Reports, IsOfWayAt, LandsOf}
 use Rattle.pr_domain.proofs.lemmas.Reporting.OutcomeLists.{more_by}
 use Rattle.pr_domain.proofs.lemmas.Tallies.EndingWays.{range_of, adds_power_on, part_joined}
 use Rattle.pr_domain.proofs.reporting.Sending.add_power_on.Goals as goal

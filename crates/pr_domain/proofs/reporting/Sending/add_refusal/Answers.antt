@@ -1,6 +1,4 @@
-use Rattle.std.proofs.Common.{rules}
-use Rattle.pr_domain.specs.inside.Reporting.{Refuses, refusal}
-use Rattle.pr_domain.specs.inside.Sendings.{IsOfWayAt, LandsOf}
+use Rattle.pr_domain.proofs.Common.{rules, Refuses, refusal, IsOfWayAt, LandsOf}
 use Rattle.pr_domain.proofs.lemmas.Reporting.OutcomeLists.{more_by}
 use Rattle.pr_domain.proofs.lemmas.Tallies.EndingWays.{range_of, adds_refusal, part_joined}
 use Rattle.pr_domain.proofs.reporting.Sending.add_refusal.Goals as goal

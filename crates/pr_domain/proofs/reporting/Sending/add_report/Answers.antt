@@ -1,9 +1,4 @@
-use Rattle.std.proofs.Common.{rules}
-use Rattle.pr_cdb.specs.declared.wire.Request.TheVariants.{Plain}
-use Rattle.pr_attention.specs.Attentions.{code_of}
-use Rattle.pr_unit.specs.Replies.{report}
-use Rattle.pr_domain.specs.inside.Reporting.{Reports}
-use Rattle.pr_domain.specs.inside.Sendings.{IsOfWayAt, LandsOf}
+use Rattle.pr_domain.proofs.Common.{rules, Plain, code_of, report, Reports, IsOfWayAt, LandsOf}
 use Rattle.pr_domain.proofs.lemmas.Reporting.OutcomeLists.{more_by}
 use Rattle.pr_domain.proofs.lemmas.Tallies.EndingWays.{range_of, adds_report}
 use Rattle.pr_domain.proofs.reporting.Sending.add_report.Goals as goal

@@ -1,4 +1,4 @@
-use Rattle.pr_domain.specs.inside.Sendings.{view_of_sending}
+use Rattle.pr_domain.proofs.Common.{view_of_sending}
 use Rattle.pr_domain.proofs.lemmas.Outcomes.Coverage.{are_outcomes, all_ways}
 use Rattle.pr_domain.proofs.reporting.Sending.outcomes.Goals as goal
 

@@ -1,11 +1,5 @@
-use Rattle.std.proofs.Common.{◌≡◌, ◌≤◌, ◌<◌, true, length, get_or, Some, sym, ap, ◌∙◌, subst, arith}
-use Rattle.std.specs.List.{list_all}
-use Rattle.std.proofs.lemmas.Option.{slice_get-get_or}
-use Rattle.pr_cdb.specs.declared.codes.TheConstants.{MOST_NEXUSES}
-use Rattle.pr_roles.specs.Fitting.{is_reservation}
-use Rattle.pr_views.specs.declared.possibilities.Possibilities.{Possibilities}
+use Rattle.pr_domain.proofs.Common.{◌≡◌, ◌<◌, ◌≤◌, true, length, get_or, Some, sym, ap, ◌∙◌, subst, arith, list_all, slice_get-get_or, MOST_NEXUSES, is_reservation, Possibilities, may_have, has_reservation}
 use Rattle.pr_views.proofs.lemmas.Views.Values.{words_fit}
-use Rattle.pr_domain.specs.inside.Beginning.{may_have, has_reservation}
 use Rattle.pr_regions.proofs.lemmas.Showing.ScenarioParts.{keys_of_parts}
 use Rattle.pr_domain.proofs.lemmas.Starting.WrittenNumbers.{AreWritten, few_nexuses, reservations_at, are_alternatives, written_in_range, written_past}
 use Rattle.pr_domain.proofs.starting.Owner.alternatives.Goals as goal

@@ -1,4 +1,4 @@
-use Rattle.std.proofs.Common.{◌≤◌, length, sym, subst}
+use Rattle.pr_domain.proofs.Common.{◌≤◌, length, sym, subst}
 use Rattle.pr_regions.proofs.lemmas.Showing.ScenarioParts.{few_of_parts}
 use Rattle.pr_domain.proofs.starting.Owner.registration_in.Goals as goal
 

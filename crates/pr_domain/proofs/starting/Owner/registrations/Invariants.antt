@@ -1,7 +1,4 @@
-use Rattle.std.proofs.Common.{◌≡◌, ◌<◌, ◌≤◌, ℕ, false, length}
-use Rattle.pr_cdb.specs.declared.codes.TheConstants.{MOST_NEXUSES}
-use Rattle.pr_views.specs.Portions.{has_at}
-use Rattle.pr_domain.specs.inside.Beginning.{may_have}
+use Rattle.pr_domain.proofs.Common.{◌≡◌, ℕ, ◌<◌, ◌≤◌, false, length, MOST_NEXUSES, has_at, may_have}
 use Rattle.pr_domain.specs.inside.Owners.{keys_of_owner}
 use Rattle.pr_domain.proofs.starting.Owner.registrations.Given as goal
 

@@ -1,5 +1,4 @@
-use Rattle.std.proofs.Common.{◌≡◌, ℕ, take}
-use Rattle.pr_sets.specs.Words.{has}
+use Rattle.pr_domain.proofs.Common.{◌≡◌, ℕ, take, has}
 use Rattle.pr_domain.specs.inside.Beginning.{has_alternative}
 use Rattle.pr_domain.specs.inside.Owners.{keys_of_owner}
 use Rattle.pr_domain.proofs.starting.Owner.registrations_of.Given as goal

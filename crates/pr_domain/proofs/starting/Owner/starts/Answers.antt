@@ -1,6 +1,4 @@
-use Rattle.std.proofs.Common.{refl, sym}
-use Rattle.pr_roles.specs.Scenarios.{scenario_of}
-use Rattle.pr_views.specs.Portions.{view_in}
+use Rattle.pr_domain.proofs.Common.{sym, refl, scenario_of, view_in}
 use Rattle.pr_domain.specs.inside.Owners.{scope_of_owner}
 use Rattle.pr_regions.specs.Keeping.{IsKept}
 use Rattle.pr_domain.proofs.lemmas.Starting.AllowedStarts.{kept_of_start, kept_in_range}

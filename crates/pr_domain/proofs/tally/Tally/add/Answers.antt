@@ -1,5 +1,4 @@
-use Rattle.std.proofs.Common.{length, ◌<◌, arith}
-use Rattle.std.proofs.lemmas.Option.{slice_get-get_or}
+use Rattle.pr_domain.proofs.Common.{◌<◌, length, arith, slice_get-get_or}
 use Rattle.pr_domain.proofs.lemmas.Tallies.Gains.{way_added}
 use Rattle.pr_domain.proofs.tally.Tally.add.Goals as goal
 

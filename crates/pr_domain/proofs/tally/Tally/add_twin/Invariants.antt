@@ -1,6 +1,4 @@
-use Rattle.std.proofs.Common.{◌≡◌, ◌<◌, ◌≤◌, ℕ, length}
-use Rattle.pr_views.specs.Possibilities.{Item}
-use Rattle.pr_domain.specs.inside.Tallies.{has_tallied}
+use Rattle.pr_domain.proofs.Common.{◌≡◌, ℕ, ◌<◌, ◌≤◌, length, Item, has_tallied}
 use Rattle.pr_domain.specs.inside.Twins.{has_with_twin}
 use Rattle.pr_domain.proofs.tally.Tally.add_twin.Given as goal
 

@@ -1,5 +1,4 @@
-use Rattle.std.proofs.Common.{arith}
-use Rattle.std.proofs.lemmas.Bool.{not-true}
+use Rattle.pr_domain.proofs.Common.{arith, not-true}
 use Rattle.pr_domain.proofs.lemmas.Tallies.PresentStates.{has_found}
 use Rattle.pr_domain.proofs.tally.Tally.has.Goals as goal
 
