@@ -77,6 +77,7 @@ impl Owner<'_> {
             pending: sets_within(&self.parts.nexuses[usize::from(self.own)].pending),
         }
     }
+
     // The registrations with which each may start.
     fn registrations(&self, nexuses: &[Nexus]) -> [Word; MOST_NEXUSES]
         requires { length nexuses.now ≤ MOST_NEXUSES }
