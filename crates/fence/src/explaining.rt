@@ -3,7 +3,7 @@
 ghost use Rattle.std.specs.Prelude.{◌+◌};
 ghost use Rattle.pr_text.specs.declared.text.TheConstants.{MOST_BYTES};
 ghost use Rattle.pr_text.specs.BytesRead.{LosesUpTo};
-ghost use Rattle.pr_commands.specs.Endings.{IsCommand};
+ghost use Rattle.pr_commands.specs.Endings.{IsCommandOn};
 ghost use Rattle.fence.specs.Explanations.{EndsTold};
 
 use crate::told::read_and_tell;
@@ -22,8 +22,7 @@ pub fn do_explain<R: Read, W: Write, E: Write>(
     writer: &mut W,
     errors: &mut E,
 ) -> ExitStatus
-    ensures command { IsCommand (EndsTold (R.remaining reader.old)) (E.contents errors.old)
-        (E.contents errors.new) result }
+    ensures command { IsCommandOn E.Write errors (EndsTold (R.remaining reader.old)) result }
     ensures limited { LosesUpTo (MOST_BYTES + 1) (R.remaining reader.old) (R.remaining reader.new) }
 {
     let end = explain_text(alloc, reader, writer);

@@ -1,13 +1,12 @@
 //! Texts whose faults are told in words as they are read.
 
-ghost use Rattle.std.specs.Prelude.{◌≡◌, ◌+◌, IfErr, IfOk, IfSome, Ok};
+ghost use Rattle.std.specs.Prelude.{◌+◌, IfSome};
 ghost use Rattle.pr_roles.specs.Scenarios.{scenario_of};
 ghost use Rattle.pr_text.specs.declared.text.TheConstants.{MOST_BYTES};
-ghost use Rattle.pr_text.specs.BytesRead as text;
+ghost use Rattle.pr_text.specs.BytesRead.{LosesUpTo};
 ghost use Rattle.pr_text.specs.Reading.{IsRead};
-ghost use Rattle.pr_report.specs.BytesTaken.{LosesUpTo, most_of_trace};
-ghost use Rattle.pr_report.specs.TraceReadings.{Faults, trace_of};
-ghost use Rattle.pr_report.specs.TraceText.{names_in};
+ghost use Rattle.pr_report.specs.BytesTaken.{TakesUpTo, most_of_trace};
+ghost use Rattle.pr_report.specs.TraceReadings.{FaultsTrace, ReadsTrace};
 
 use pr_faults::{write_text_fault, write_trace_fault};
 use pr_report::{TraceError, read_trace};
@@ -25,8 +24,7 @@ pub fn read_and_tell<R: Read, W: Write>(
     writer: &mut W,
 ) -> (Vec<u8>, Result<Scenario, ReadError>)
     ensures read { IfSome (R.remaining reader.old) (λ text. IsRead text result.1) }
-    ensures limited { text.LosesUpTo (MOST_BYTES + 1) (R.remaining reader.old)
-        (R.remaining reader.new) }
+    ensures limited { LosesUpTo (MOST_BYTES + 1) (R.remaining reader.old) (R.remaining reader.new) }
 {
     let (text, scenario) = read_with_text(alloc, reader);
     if let Err(error) = &scenario {
@@ -42,14 +40,10 @@ pub fn read_trace_and_tell<R: Read, W: Write>(
     reader: &mut R,
     writer: &mut W,
 ) -> Result<Vec<Item>, TraceError>
-    ensures read { IfSome (R.remaining reader.old)
-        (λ text. IfOk result (λ history. trace_of (scenario_of scenario.now).version
-        (names_in (scenario_of scenario.now)) text ≡ Ok history.items)) }
+    ensures read { IfSome (R.remaining reader.old) (ReadsTrace (scenario_of scenario.now) result) }
     ensures fault { IfSome (R.remaining reader.old)
-        (λ text. IfErr result (λ e. Faults e
-        (trace_of (scenario_of scenario.now).version (names_in (scenario_of scenario.now)) text))) }
-    ensures limited { LosesUpTo (most_of_trace (scenario_of scenario.now).version)
-        (R.remaining reader.old) (R.remaining reader.new) }
+        (FaultsTrace (scenario_of scenario.now) result) }
+    ensures limited { TakesUpTo R.Read reader (most_of_trace (scenario_of scenario.now).version) }
 {
     let history = read_trace(alloc, scenario, reader);
     if let Err(error) = &history {

@@ -3,8 +3,8 @@
 ghost use Rattle.std.specs.Prelude.{◌+◌};
 ghost use Rattle.pr_text.specs.declared.text.TheConstants.{MOST_BYTES};
 ghost use Rattle.pr_text.specs.BytesRead.{LosesUpTo};
-ghost use Rattle.pr_commands.specs.Audits.{TakesOfTrace};
-ghost use Rattle.pr_commands.specs.Endings.{IsCommand};
+ghost use Rattle.pr_commands.specs.Audits.{TakesTraceUnder};
+ghost use Rattle.pr_commands.specs.Endings.{IsCommandOn};
 ghost use Rattle.fence.specs.Explanations.{EndsTraceTold};
 ghost use Rattle.fence.specs.inside.Traced.{IsTraced};
 
@@ -28,11 +28,10 @@ pub fn do_explain_trace<R: Read, T: Read, W: Write, E: Write>(
     writer: &mut W,
     errors: &mut E,
 ) -> ExitStatus
-    ensures command { IsCommand (EndsTraceTold (R.remaining reader.old) (T.remaining trace.old))
-        (E.contents errors.old) (E.contents errors.new) result }
+    ensures command { IsCommandOn E.Write errors
+        (EndsTraceTold (R.remaining reader.old) (T.remaining trace.old)) result }
     ensures limited { LosesUpTo (MOST_BYTES + 1) (R.remaining reader.old) (R.remaining reader.new) }
-    ensures limited_trace { TakesOfTrace (R.remaining reader.old) (T.remaining trace.old)
-        (T.remaining trace.new) }
+    ensures limited_trace { TakesTraceUnder T.Read trace R.Read reader }
 {
     let end = explain_texts(alloc, reader, trace, writer);
     ended(errors, end)
@@ -47,8 +46,7 @@ fn explain_texts<R: Read, T: Read, W: Write>(
 ) -> Result<bool, Fault>
     ensures ends { EndsTraceTold (R.remaining reader.old) (T.remaining trace.old) result }
     ensures limited { LosesUpTo (MOST_BYTES + 1) (R.remaining reader.old) (R.remaining reader.new) }
-    ensures limited_trace { TakesOfTrace (R.remaining reader.old) (T.remaining trace.old)
-        (T.remaining trace.new) }
+    ensures limited_trace { TakesTraceUnder T.Read trace R.Read reader }
 {
     let traced = plan(alloc, reader, trace, writer)?;
     write_telling(writer, &traced.scenario, &traced.history, &traced.telling)?;
@@ -73,8 +71,7 @@ fn plan<R: Read, T: Read, W: Write>(
 ) -> Result<Traced, Fault>
     ensures traced { IsTraced (R.remaining reader.old) (T.remaining trace.old) result }
     ensures limited { LosesUpTo (MOST_BYTES + 1) (R.remaining reader.old) (R.remaining reader.new) }
-    ensures limited_trace { TakesOfTrace (R.remaining reader.old) (T.remaining trace.old)
-        (T.remaining trace.new) }
+    ensures limited_trace { TakesTraceUnder T.Read trace R.Read reader }
 {
     let (_, scenario) = read_and_tell(alloc, reader, writer);
     let scenario = scenario?;
