@@ -6,13 +6,13 @@ ghost use Rattle.pr_script.specs.Grammar.{is_written};
 ghost use Rattle.pr_roles.specs.declared.limits.TheConstants.{MOST_KEYS};
 ghost use Rattle.pr_sets.specs.Words.{has};
 ghost use Rattle.pr_sets.specs.Wides.{has_wide};
-ghost use Rattle.pr_views.specs.Possibilities.{key_at};
 ghost use Rattle.pr_views.specs.Portions.{view_in};
 ghost use Rattle.pr_views.specs.Rooms.{view_of};
 ghost use Rattle.pr_views.specs.Views.{Fits};
 ghost use Rattle.pr_domain.specs.Outcomes.{IsPermittedIn, IsRefusedIn};
 ghost use Rattle.pr_domain.specs.inside.Permitting.{scope_at, IsAsking, PermitsAll, RefusesOne, TellsReached, TellsOneReached, holds_reservation, holds_at, permits_at, permits_always};
 
+use crate::tallying::key_at;
 use pr_cdb::Command;
 use pr_regions::{
     Branch, Ending, Place, branches, is_refused, purpose_of, reservation_at, standing_of,
@@ -164,16 +164,6 @@ impl Asking<'_> {
         let branches = branches(place.hosts, purpose, place.held, place.sender, standing);
         !is_one_reached(self.view, place, Word::only(registration), &branches)
     }
-}
-
-// The key of a registration, if it has one.
-fn key_at(keys: &[u64], registration: u8) -> Option<u64>
-    ensures { result ≡ key_at keys.now registration }
-{
-    if registration == 0 {
-        return None;
-    }
-    keys.get(usize::from(registration - 1)).copied()
 }
 
 // Whether one of the branches ends GOOD in some state of the view.
