@@ -1,4 +1,4 @@
--- What is found of a command whose outcomes are to be found.
+-- What is added to the outcomes of a command that is sent.
 use Rattle.std.specs.Prelude.{◌≡◌, ℕ, true, Bool, IsTrue, List, map}
 use Rattle.pr_sets.specs.declared.word.Word.{Word}
 use Rattle.pr_sets.specs.declared.view_set.ViewSet.{Ghosts as ViewSet}
