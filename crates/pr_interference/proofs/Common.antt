@@ -46,11 +46,10 @@ pub use Rattle.pr_regions.proofs.lemmas.Portions.GatheredStates.{same_reservatio
 pub use Rattle.pr_regions.proofs.lemmas.Regions.ToldAttentions.{is_pending_after, contains-told}
 pub use Rattle.pr_regions.proofs.lemmas.Showing.AlikeStates.{IsLike, so_like}
 pub use Rattle.pr_regions.proofs.lemmas.Showing.AlikeViews.{IsSame, shows_within, if_ok, same_views}
-pub use Rattle.pr_regions.proofs.lemmas.Showing.ScenarioParts.{count_of_parts}
 pub use Rattle.pr_interference.specs.Interference.{IsDone, IsLeft, IsInterference}
 pub use Rattle.pr_interference.specs.declared.onlooker.Onlooker.{Onlooker}
 pub use Rattle.pr_interference.specs.declared.reach.Reach.{Reach}
 pub use Rattle.pr_interference.specs.inside.Clauses.{purpose_for, IsClause, StandingLeads, PlaceLeads, FirstLeads}
-pub use Rattle.pr_interference.specs.inside.Closing.{IsRound, IsWidened, scope_in}
+pub use Rattle.pr_interference.specs.inside.Closing.{IsRound, IsWidened, scope_for, view_for}
 pub use Rattle.pr_interference.specs.inside.Interfering.{IsWatched, IsOnlooking, Among, IsLedBy, IsLeftBy, ClauseLeaves}
 pub use Rattle.pr_interference.specs.inside.Marks.{first, AreMarked}

@@ -1,34 +1,36 @@
 //! What the clauses of a role ask for.
 
-ghost use Rattle.std.specs.Prelude.{◌≡◌, ◌≤◌, ◌==◌, ℕ, false, length, IfSome};
+ghost use Rattle.std.specs.Prelude.{◌≡◌, ◌≤◌, ◌==◌, ℕ, false, IfSome};
 ghost use Rattle.std.specs.Option.{option_map_or};
 ghost use Rattle.pr_roles.specs.declared.limits.TheConstants.{MOST_KEYS};
 ghost use Rattle.pr_regions.specs.Purposes.{HasNumber};
 ghost use Rattle.pr_regions.specs.Regions.{names};
 ghost use Rattle.pr_interference.specs.inside.Clauses.{purpose_for, holds_as, may_send as may_send_as, is_registered_as, refuses_strangers, AreSenders};
 
+use crate::onlooker::Onlooker;
 use pr_regions::{Place, Purpose, Standing, every_key, number_in};
 use pr_registry::Held;
 use pr_roles::{Action, Condition};
 use pr_sets::Word;
 
-/// What a clause of this action asks for under a reservation, if it changes anything.
-pub(crate) fn purpose_for(action: Action, keys: &[u64], held: Option<Held>) -> Option<Purpose>
-    requires { length keys.now ≤ MOST_KEYS }
-    ensures { result ≡ purpose_for keys.now action held }
-{
-    match action {
-        Action::Register(key) => Some(Purpose::Register(number_in(keys, key))),
-        Action::Unregister => Some(Purpose::Unregister),
-        Action::Reserve(kind) => Some(Purpose::Reserve(kind)),
-        Action::Release => match held {
-            Some(Held::One(kind, _)) | Some(Held::All(kind)) => Some(Purpose::Release(kind)),
-            None => None,
-        },
-        Action::Clear => Some(Purpose::Clear),
-        Action::Preempt(0, kind) => Some(Purpose::PreemptAll(kind)),
-        Action::Preempt(key, kind) => Some(Purpose::Preempt(number_in(keys, key), kind)),
-        Action::Read | Action::Write => None,
+impl Onlooker<'_> {
+    /// What a clause of this action asks for under a reservation, if it changes anything.
+    pub(crate) fn purpose_for(&self, action: Action, held: Option<Held>) -> Option<Purpose>
+        ensures { result ≡ purpose_for self.now.keys.now action held }
+    {
+        match action {
+            Action::Register(key) => Some(Purpose::Register(number_in(self.keys, key))),
+            Action::Unregister => Some(Purpose::Unregister),
+            Action::Reserve(kind) => Some(Purpose::Reserve(kind)),
+            Action::Release => match held {
+                Some(Held::One(kind, _)) | Some(Held::All(kind)) => Some(Purpose::Release(kind)),
+                None => None,
+            },
+            Action::Clear => Some(Purpose::Clear),
+            Action::Preempt(0, kind) => Some(Purpose::PreemptAll(kind)),
+            Action::Preempt(key, kind) => Some(Purpose::Preempt(number_in(self.keys, key), kind)),
+            Action::Read | Action::Write => None,
+        }
     }
 }
 

@@ -1,23 +1,20 @@
 //! What others may make of the states that a view shows.
 
-ghost use Rattle.std.specs.Prelude.{◌≡◌, ◌≢◌, ◌<◌, ◌≤◌, ℕ, true, false, length, IsTrue, IfOk, Some};
-ghost use Rattle.std.specs.List.{All};
-ghost use Rattle.pr_cdb.specs.declared.codes.TheConstants.{MOST_NEXUSES};
-ghost use Rattle.pr_roles.specs.declared.limits.TheConstants.{MOST_KEYS};
+ghost use Rattle.std.specs.Prelude.{◌≡◌, ◌≢◌, ◌<◌, ℕ, true, false, IsTrue, IfOk, Some};
 ghost use Rattle.pr_roles.specs.Fitting.{is_action, is_role};
 ghost use Rattle.pr_sets.specs.Words.{has};
 ghost use Rattle.pr_views.specs.Possibilities.{Scope, count_of_reservations};
-ghost use Rattle.pr_views.specs.Portions.{has_at, view_in};
+ghost use Rattle.pr_views.specs.Portions.{view_in};
 ghost use Rattle.pr_views.specs.Rooms.{scope_of, view_of, AreAlike, AreInRange};
 ghost use Rattle.pr_regions.specs.Purposes.{HasNumber};
-ghost use Rattle.pr_interference.specs.inside.Interfering.{IsOnlooking, IsWatched, Among, ClauseLeaves};
+ghost use Rattle.pr_interference.specs.inside.Interfering.{IsOnlooking, IsWatched, ClauseLeaves};
 ghost use Rattle.pr_regions.specs.inside.Adding.{Adds};
 ghost use Rattle.pr_interference.specs.Interference.{IsInterference};
-ghost use Rattle.pr_interference.specs.inside.Reaching.{HasShown};
-ghost use Rattle.pr_interference.specs.inside.Closing.{IsWidened};
-ghost use Rattle.pr_interference.specs.inside.Clauses.{purpose_for, IsClause, StandingLeads, PlaceLeads, FirstLeads};
+ghost use Rattle.pr_interference.specs.inside.Reaching.{HasShown, MayHave};
+ghost use Rattle.pr_interference.specs.inside.Closing.{Interferes, Widens};
+ghost use Rattle.pr_interference.specs.inside.Clauses.{purpose_for, IsClause, StandingLeads, AddsRole, AddsClause, AddsPlace};
 
-use crate::clauses::{may_send, purpose_for, senders};
+use crate::clauses::{may_send, senders};
 use crate::onlooker::Onlooker;
 use pr_regions::{Place, Purpose, Standing, branches, count_of_reservations, gains, kept};
 use pr_roles::{Clause, Role};
@@ -25,87 +22,64 @@ use pr_sets::{ViewSet, Word};
 use pr_views::{Possibilities, ViewOf};
 use std::alloc::{AllocError, Global};
 
-impl Onlooker {
-    /// What is possible after any request of the other that ends GOOD and that its role, these clauses, permits.
-    pub(crate) fn interfered(&self, clauses: &[Clause], keys: &[u64]) -> Possibilities
-        requires keys { length keys.now ≤ MOST_KEYS }
-        requires actions { All (IsClause keys.now) clauses.now }
-        ensures { (s : Scope) → IsOnlooking s self.now → s.keys ≡ keys.now
-            → IsInterference (view_in s self.now.view) clauses.now self.now.other
-            (view_in s result) }
+impl Onlooker<'_> {
+    /// What is possible after any request of the other that ends GOOD and that its role permits.
+    pub(crate) fn interfered(&self) -> Possibilities
+        ensures { Interferes self.now result }
     {
         let mut answer = kept(self.hosts, &self.view);
-        self.add_role(&mut answer, clauses, keys);
+        self.add_role(&mut answer);
         answer
     }
 
-    /// What is possible, and what is possible after any request of the other that ends GOOD and that its role, these clauses,
-    /// permits.
-    pub(crate) fn widened(&self, clauses: &[Clause], keys: &[u64]) -> Possibilities
-        requires keys { length keys.now ≤ MOST_KEYS }
-        requires actions { All (IsClause keys.now) clauses.now }
-        ensures { (s : Scope) → IsOnlooking s self.now → s.keys ≡ keys.now
-            → IsWidened (view_in s self.now.view) clauses.now self.now.other (view_in s result) }
+    /// What is possible, and what is possible after any request of the other that ends GOOD and that its role permits.
+    pub(crate) fn widened(&self) -> Possibilities
+        ensures { Widens self.now result }
     {
         let mut answer = self.view;
-        self.add_role(&mut answer, clauses, keys);
+        self.add_role(&mut answer);
         answer
     }
 
     // Adds what is possible after a command of one of the clauses, where the answer has what is shown.
-    fn add_role(&self, answer: &mut Possibilities, clauses: &[Clause], keys: &[u64])
-        requires shown { (s : Scope) → IsOnlooking s self.now → s.keys ≡ keys.now
+    fn add_role(&self, answer: &mut Possibilities)
+        requires shown { (s : Scope) → IsOnlooking s self.now
             → HasShown s self.now.view answer.old }
-        requires keys { length keys.now ≤ MOST_KEYS }
-        requires actions { All (IsClause keys.now) clauses.now }
-        ensures { (s : Scope) → IsOnlooking s self.now → s.keys ≡ keys.now
-            → Adds s answer.old answer.new
-            (λ u w. Among (length clauses.now) clauses.now
-            (λ clause. FirstLeads (count_of_reservations self.now.hosts) (view_in s self.now.view)
-            clause self.now.other u w)) (λ i. Among (length clauses.now) clauses.now
-            (λ clause. ClauseLeaves (view_in s self.now.view) clause self.now.other i)) }
+        ensures { AddsRole self.now answer.old answer.new }
     {
-        for clause in clauses {
-            self.add_clause(answer, clause, keys);
+        for clause in self.clauses {
+            self.add_clause(answer, clause);
         }
     }
 
     // Adds what is possible after a command of this clause, until the answer has the most that it can leave.
-    fn add_clause(&self, answer: &mut Possibilities, clause: &Clause, keys: &[u64])
-        requires shown { (s : Scope) → IsOnlooking s self.now → s.keys ≡ keys.now
+    fn add_clause(&self, answer: &mut Possibilities, clause: &Clause)
+        requires shown { (s : Scope) → IsOnlooking s self.now
             → HasShown s self.now.view answer.old }
-        requires keys { length keys.now ≤ MOST_KEYS }
-        requires action { IsClause keys.now clause.now }
-        ensures { (s : Scope) → IsOnlooking s self.now → s.keys ≡ keys.now
-            → Adds s answer.old answer.new
-            (FirstLeads (count_of_reservations self.now.hosts) (view_in s self.now.view) clause.now
-            self.now.other) (ClauseLeaves (view_in s self.now.view) clause.now self.now.other) }
+        requires action { IsClause self.now.keys.now clause.now }
+        ensures { AddsClause self.now clause.now answer.old answer.new }
     {
-        if !gains(self.hosts, answer, &self.most(&self.widest(clause, keys))) {
+        if !gains(self.hosts, answer, &self.most(&self.widest(clause))) {
             return;
         }
-        let most = self.most(&self.reach(clause, keys));
+        let most = self.most(&self.reach(clause));
         for reservation in 0..count_of_reservations(self.hosts) {
             if !gains(self.hosts, answer, &most) {
                 return;
             }
             if self.view.reservations.has(reservation) {
                 let place = Place::of(self.hosts, self.other, reservation);
-                self.add_place(answer, &place, clause, keys);
+                self.add_place(answer, &place, clause);
             }
         }
     }
 
     // Under one reservation.
-    fn add_place(&self, answer: &mut Possibilities, place: &Place, clause: &Clause, keys: &[u64])
-        requires keys { length keys.now ≤ MOST_KEYS }
-        requires action { is_action keys.now clause.now.action ≡ true }
-        ensures { (s : Scope) → IsWatched s self.now place.now → s.keys ≡ keys.now
-            → Adds s answer.old answer.new
-            (PlaceLeads (view_in s self.now.view) clause.now place.now.sender place.now.reservation)
-            (ClauseLeaves (view_in s self.now.view) clause.now place.now.sender) }
+    fn add_place(&self, answer: &mut Possibilities, place: &Place, clause: &Clause)
+        requires action { is_action self.now.keys.now clause.now.action ≡ true }
+        ensures { AddsPlace self.now place.now clause.now answer.old answer.new }
     {
-        if let Some(purpose) = purpose_for(clause.action, keys, place.held) {
+        if let Some(purpose) = self.purpose_for(clause.action, place.held) {
             self.add_standing(answer, place, clause, purpose, Standing::Unregistered);
             self.add_standing(answer, place, clause, purpose, Standing::Named);
             self.add_standing(answer, place, clause, purpose, Standing::Other);
@@ -131,7 +105,7 @@ impl Onlooker {
             (ClauseLeaves (view_in s self.now.view) clause.now place.now.sender) }
     {
         let senders = senders(purpose, standing);
-        if !self.may_be_among(place.sender, senders) {
+        if !self.may_be_among(place, senders) {
             return;
         }
         if may_send(clause.condition, purpose, place, standing) {
@@ -140,13 +114,13 @@ impl Onlooker {
         }
     }
 
-    // Whether a nexus may have one of these registrations.
-    fn may_be_among(&self, host: u8, registrations: Word) -> bool
-        requires { host < MOST_NEXUSES }
-        ensures { result ≡ false → (r : ℕ) → has_at self.now.view.registrations host r ≡ true
+    // Whether the sender may have one of these registrations.
+    fn may_be_among(&self, place: &Place, registrations: Word) -> bool
+        ensures { result ≡ false → (r : ℕ)
+            → MayHave self.now.view place.now.sender r
             → has registrations r ≡ false }
     {
-        !self.view.registrations[usize::from(host)]
+        !self.view.registrations[usize::from(place.sender)]
             .and(registrations)
             .is_empty()
     }
@@ -188,6 +162,8 @@ fn left_by<S: ViewSet>(view: &ViewOf<S>, own: u8, other: u8, role: &Role) -> Pos
         own,
         other,
         view: view.possibilities(),
+        clauses: &role.clauses,
+        keys: &view.keys,
     };
-    onlooker.interfered(&role.clauses, &view.keys)
+    onlooker.interfered()
 }

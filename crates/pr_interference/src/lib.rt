@@ -9,7 +9,6 @@ mod onlooker;
 mod reach;
 mod reaching;
 mod resetting;
-mod surroundings;
 mod widest;
 
 pub use closing::close;

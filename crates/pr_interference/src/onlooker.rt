@@ -1,38 +1,46 @@
 //! One who watches another's commands, and what is known of both.
 
-ghost use Rattle.std.specs.Prelude.{◌<◌, ◌≤◌, length, IfSome, IfNone};
+ghost use Rattle.std.specs.Prelude.{◌≡◌, ◌<◌, ◌≤◌, true, length, IfSome, IfNone};
+ghost use Rattle.std.specs.List.{All};
 ghost use Rattle.pr_cdb.specs.declared.codes.TheConstants.{MOST_NEXUSES};
+ghost use Rattle.pr_roles.specs.declared.limits.TheConstants.{MOST_KEYS};
+ghost use Rattle.pr_roles.specs.Fitting.{is_action};
 
 use crate::marking::attentions_after;
 use pr_regions::{Branch, Ending, Place, Region, Transition, registrations_after};
+use pr_roles::Clause;
 use pr_sets::{Wide, Word};
 use pr_views::Possibilities;
 
 /// The owner of a view, who looks on while another sends commands.
 #[derive(Clone, Copy)]
-pub(crate) struct Onlooker {
+pub(crate) struct Onlooker<'a> {
     /// How many nexuses there are.
     pub(crate) hosts: u8,
     pub(crate) own: u8,
     /// Who sends commands.
     pub(crate) other: u8,
     pub(crate) view: Possibilities,
+    /// The declared keys.
+    pub(crate) keys: &'a [u64],
+    /// The role of who sends.
+    pub(crate) clauses: &'a [Clause],
     ghost some: { 1 ≤ hosts },
     ghost few: { hosts ≤ MOST_NEXUSES },
     ghost own_there: { own < hosts },
     ghost other_there: { other < hosts },
+    ghost few_keys: { length keys.now ≤ MOST_KEYS },
+    ghost declared: { All (λ clause. is_action keys.now clause.action ≡ true) clauses.now },
 }
 
-impl Onlooker {
-    ghost use Rattle.std.specs.List.{All};
+impl Onlooker<'_> {
     ghost use Rattle.pr_unit.specs.UnitStates.{UnitState};
     ghost use Rattle.pr_views.specs.Possibilities.{Scope};
     ghost use Rattle.pr_views.specs.Portions.{view_in};
     ghost use Rattle.pr_regions.specs.Regions.{HasRoom};
     ghost use Rattle.pr_regions.specs.declared.region.Ending.TheVariants as ending;
     ghost use Rattle.pr_regions.specs.Gathering.{IsUniform, IsProper, IsAt};
-    ghost use Rattle.pr_interference.specs.inside.Interfering.{IsWatched, IsAfter, Among, IsLedBy, IsLeftBy, IsProperBranch, BranchHasRoom};
-    ghost use Rattle.pr_regions.specs.inside.Adding.{Adds};
+    ghost use Rattle.pr_interference.specs.inside.Interfering.{IsWatched, IsAfter, BranchHasRoom, AddsBranch, AddsBranches};
 
     /// What is possible once a command has this effect in the states of the region in which its sender has one of
     /// these registrations; none where the view shows no such state.
@@ -73,13 +81,7 @@ impl Onlooker {
         branches: &[Branch],
     )
         requires room { All (BranchHasRoom place.now.hosts) branches.now }
-        ensures { (s : Scope) → IsWatched s self.now place.now → IsUniform senders
-            → All IsProperBranch branches.now
-            → Adds s answer.old answer.new
-            (λ u w. Among (length branches.now) branches.now
-            (λ b. IsLedBy s self.now.view place.now senders b u w))
-            (λ i. Among (length branches.now) branches.now
-            (λ b. IsLeftBy s self.now.view place.now senders b i)) }
+        ensures { AddsBranches self.now place.now senders branches.now answer.old answer.new }
     {
         for branch in branches {
             self.add_branch(answer, place, senders, branch);
@@ -88,10 +90,7 @@ impl Onlooker {
 
     fn add_branch(&self, answer: &mut Possibilities, place: &Place, senders: Word, branch: &Branch)
         requires room { BranchHasRoom place.now.hosts branch.now }
-        ensures { (s : Scope) → IsWatched s self.now place.now → IsUniform senders
-            → IsProperBranch branch.now → Adds s answer.old answer.new
-            (IsLedBy s self.now.view place.now senders branch.now)
-            (IsLeftBy s self.now.view place.now senders branch.now) }
+        ensures { AddsBranch self.now place.now senders branch.now answer.old answer.new }
     {
         if let Ending::Good(change) = branch.ending {
             if let Some(after) = self.after(place, senders, &branch.region, &change) {

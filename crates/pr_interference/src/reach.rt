@@ -1,13 +1,12 @@
 //! What a command gives, removes and tells at most.
 
-ghost use Rattle.std.specs.Prelude.{◌≡◌, ◌≤◌, ◌||◌, ◌&&◌, Some, None, true};
+ghost use Rattle.std.specs.Prelude.{◌≡◌, ◌≤◌, ◌&&◌, Some, None, true};
 ghost use Rattle.pr_registry.specs.Registrations.{holds_alone, is_for_registrants as is_for_registrants_as};
 ghost use Rattle.pr_registry.specs.Changes.{is_held_by_all, is_told_of_loss};
 ghost use Rattle.pr_roles.specs.declared.limits.TheConstants.{MOST_KEYS};
 ghost use Rattle.pr_sets.specs.Words.{has};
 ghost use Rattle.pr_sets.specs.Wides.{has_wide};
-ghost use Rattle.pr_interference.specs.inside.Reaching.{IsWider};
-ghost use Rattle.pr_interference.specs.inside.Bounds.{HasEachKey, HasNew};
+ghost use Rattle.pr_interference.specs.inside.Reaching.{IsWider, HasEveryKey, HasNew, is_held_with};
 
 use pr_cdb::Kind;
 use pr_regions::{Place, every_key, reservation_number};
@@ -74,10 +73,9 @@ impl Reach {
     /// To be registered no more.
     pub(crate) fn of_unregistering(place: &Place) -> Reach
         ensures given { has result.given 0 ≡ true }
-        ensures ended { (holds_alone place.now.held place.now.sender
-            || is_held_by_all place.now.held) ≡ true → has_wide result.reservations 0 ≡ true }
+        ensures ended { is_held_with place.now ≡ true → has_wide result.reservations 0 ≡ true }
         ensures told { (holds_alone place.now.held place.now.sender
-            && is_told_of_loss place.now.held) ≡ true → HasEachKey result.told_04 }
+            && is_told_of_loss place.now.held) ≡ true → HasEveryKey result.told_04 }
     {
         let going = Reach {
             given: none_alone(),
@@ -99,8 +97,8 @@ impl Reach {
 
     /// To establish a reservation of this type.
     pub(crate) fn of_reserving(place: &Place, kind: Kind) -> Reach
-        ensures { place.now.held ≡ None → HasNew place.now.hosts kind place.now.sender
-            result.reservations }
+        ensures { place.now.held ≡ None → HasNew result.reservations place.now.hosts kind
+            place.now.sender }
     {
         match place.held {
             None => Reach {
@@ -113,11 +111,9 @@ impl Reach {
 
     /// To release the reservation that stands.
     pub(crate) fn of_releasing(place: &Place) -> Reach
-        ensures ended { (holds_alone place.now.held place.now.sender
-            || is_held_by_all place.now.held) ≡ true → has_wide result.reservations 0 ≡ true }
-        ensures told { ((holds_alone place.now.held place.now.sender
-            || is_held_by_all place.now.held) && is_told_of_loss place.now.held) ≡ true
-            → HasEachKey result.told_04 }
+        ensures ended { is_held_with place.now ≡ true → has_wide result.reservations 0 ≡ true }
+        ensures told { (is_held_with place.now && is_told_of_loss place.now.held) ≡ true
+            → HasEveryKey result.told_04 }
     {
         match place.held {
             Some(Held::One(kind, holder)) if holder == place.sender => Reach {
@@ -137,9 +133,9 @@ impl Reach {
     /// To remove the reservation and every registration.
     pub(crate) fn of_clearing() -> Reach
         ensures given { has result.given 0 ≡ true }
-        ensures removed { HasEachKey result.removed }
+        ensures removed { HasEveryKey result.removed }
         ensures reservations { has_wide result.reservations 0 ≡ true }
-        ensures told { HasEachKey result.told_03 }
+        ensures told { HasEveryKey result.told_03 }
     {
         Reach {
             given: none_alone(),
@@ -152,10 +148,10 @@ impl Reach {
 
     /// To preempt all others, where all registrants hold.
     pub(crate) fn of_preempting_all(place: &Place, kind: Kind) -> Reach
-        ensures removed { is_held_by_all place.now.held ≡ true → HasEachKey result.removed }
+        ensures removed { is_held_by_all place.now.held ≡ true → HasEveryKey result.removed }
         ensures reservations { is_held_by_all place.now.held ≡ true
-            → HasNew place.now.hosts kind place.now.sender result.reservations }
-        ensures told { is_held_by_all place.now.held ≡ true → HasEachKey result.told_05 }
+            → HasNew result.reservations place.now.hosts kind place.now.sender }
+        ensures told { is_held_by_all place.now.held ≡ true → HasEveryKey result.told_05 }
     {
         match place.held {
             Some(Held::All(_)) => Reach {
@@ -171,7 +167,7 @@ impl Reach {
 
 /// The reservation of this type that the sender of the place establishes.
 pub(crate) fn new_reservation_at(place: &Place, kind: Kind) -> Wide
-    ensures { HasNew place.now.hosts kind place.now.sender result }
+    ensures { HasNew result place.now.hosts kind place.now.sender }
 {
     let held = if is_all(kind) {
         Held::All(kind)
@@ -197,7 +193,7 @@ pub(crate) fn no_reservation() -> Wide
 
 // With which registrations others are told of the loss of a reservation of this type.
 fn those_told(kind: Kind) -> Word
-    ensures { is_for_registrants_as kind ≡ true → HasEachKey result }
+    ensures { is_for_registrants_as kind ≡ true → HasEveryKey result }
 {
     match kind {
         Kind::WriteExclusive | Kind::ExclusiveAccess => Word::none(),

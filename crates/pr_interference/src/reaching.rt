@@ -1,6 +1,6 @@
 //! What a command can leave at most.
 
-ghost use Rattle.std.specs.Prelude.{◌≡◌, ◌≢◌, ◌<◌, ◌≤◌, ◌==◌, ◌&&◌, ◌||◌, ℕ, Some, true, false, length, bit_or, IsTrue};
+ghost use Rattle.std.specs.Prelude.{◌≡◌, ◌≢◌, ◌<◌, ◌≤◌, ◌==◌, ◌&&◌, ◌||◌, ℕ, Some, true, false, bit_or, IsTrue};
 ghost use Rattle.pr_cdb.specs.declared.command.Kind.{Kind as KindOf};
 ghost use Rattle.pr_registry.specs.declared.held.Held.TheVariants.{One};
 ghost use Rattle.pr_registry.specs.Changes.{is_kind, is_held_by_all};
@@ -15,8 +15,7 @@ ghost use Rattle.pr_views.specs.Portions.{has_at};
 ghost use Rattle.pr_regions.specs.Purposes.{number_in};
 ghost use Rattle.pr_interference.specs.inside.Clauses.{IsClause};
 ghost use Rattle.pr_interference.specs.inside.Interfering.{IsOnlooking, IsWatched};
-ghost use Rattle.pr_interference.specs.inside.Reaching.{IsReach, IsReachAt, IsMost, IsTold, MayAllGo, number_named};
-ghost use Rattle.pr_interference.specs.inside.Bounds.{HasEachKeyBut, HasNew};
+ghost use Rattle.pr_interference.specs.inside.Reaching.{IsReach, IsReachAt, IsMost, IsTold, MayAllGo, number_named, HasEveryKeyBut, HasNew, MayHave, Reaches};
 
 use crate::clauses::holds;
 use crate::marking::attentions_with;
@@ -33,7 +32,7 @@ use pr_views::{
     RESERVATIONS_RELEASED_BIT,
 };
 
-impl Onlooker {
+impl Onlooker<'_> {
     /// What a command that reaches no more than this can leave at most, beside what was so before it.
     pub(crate) fn most(&self, reach: &Reach) -> Possibilities
         ensures { (s : Scope) (clause : ClauseOf) → IsOnlooking s self.now
@@ -48,13 +47,11 @@ impl Onlooker {
     }
 
     /// What a command of this clause reaches under the reservations that are possible.
-    pub(crate) fn reach(&self, clause: &Clause, keys: &[u64]) -> Reach
-        requires keys { length keys.now ≤ MOST_KEYS }
-        requires action { IsClause keys.now clause.now }
-        ensures { (s : Scope) → IsOnlooking s self.now → s.keys ≡ keys.now
-            → IsReach s self.now.view clause.now self.now.other result }
+    pub(crate) fn reach(&self, clause: &Clause) -> Reach
+        requires action { IsClause self.now.keys.now clause.now }
+        ensures { Reaches self.now clause.now result }
     {
-        let number = number_named(clause.action, keys);
+        let number = self.number_named(clause.action);
         let mut reach = Reach::none();
         for reservation in 0..count_of_reservations(self.hosts) {
             if self.view.reservations.has(reservation) {
@@ -63,6 +60,22 @@ impl Onlooker {
             }
         }
         reach
+    }
+
+    // The number of the key that an action registers or preempts.
+    fn number_named(&self, action: Action) -> u8
+        ensures number { result ≡ number_named self.now.keys.now action }
+        ensures few { result ≤ MOST_KEYS }
+    {
+        match action {
+            Action::Register(key) | Action::Preempt(key, _) => number_in(self.keys, key),
+            Action::Unregister
+            | Action::Reserve(_)
+            | Action::Release
+            | Action::Clear
+            | Action::Read
+            | Action::Write => 0,
+        }
     }
 
     // Under one reservation, where its key has this number.
@@ -97,18 +110,18 @@ impl Onlooker {
     // that of all registrants ends where nobody is left.
     fn reach_of_preempting(&self, place: &Place, key: u8, kind: Kind) -> Reach
         requires key { key ≤ MOST_KEYS }
-        ensures given { has_at self.now.view.registrations place.now.sender key ≡ true
+        ensures given { MayHave self.now.view place.now.sender key
             → has result.given 0 ≡ true }
         ensures ended { is_held_by_all place.now.held ≡ true
-            → has_at self.now.view.registrations place.now.sender key ≡ true
+            → MayHave self.now.view place.now.sender key
             → MayAllGo self.now.view place.now key → has_wide result.reservations 0 ≡ true }
         ensures removed { has result.removed key ≡ true }
         ensures replaced { (old : KindOf) (holder : ℕ) → place.now.held ≡ Some (One old holder)
-            → has_at self.now.view.registrations holder key ≡ true
-            → HasNew place.now.hosts kind place.now.sender result.reservations }
+            → MayHave self.now.view holder key
+            → HasNew result.reservations place.now.hosts kind place.now.sender }
         ensures told_04 { (old : KindOf) (holder : ℕ) → place.now.held ≡ Some (One old holder)
-            → has_at self.now.view.registrations holder key ≡ true → is_kind old kind ≡ false
-            → HasEachKeyBut key result.told_04 }
+            → MayHave self.now.view holder key → is_kind old kind ≡ false
+            → HasEveryKeyBut key result.told_04 }
         ensures told_05 { has result.told_05 key ≡ true }
     {
         let named = Word::only(key);
@@ -170,7 +183,7 @@ impl Onlooker {
         ensures given { (n : ℕ) → has reach.now.given n ≡ true
             → has_at result self.now.other n ≡ true }
         ensures freed { (g r : ℕ) → g < MOST_NEXUSES → g ≢ self.now.other
-            → has_at self.now.view.registrations g r ≡ true → has reach.now.removed r ≡ true
+            → MayHave self.now.view g r → has reach.now.removed r ≡ true
             → has_at result g 0 ≡ true }
     {
         let mut words = [Word::none(); MOST_NEXUSES];
@@ -187,7 +200,7 @@ impl Onlooker {
 
     // The attentions that are in reach.
     fn pending_within(&self, reach: &Reach) -> Word
-        ensures { (r q n : ℕ) → has_at self.now.view.registrations self.now.own r ≡ true
+        ensures { (r q n : ℕ) → MayHave self.now.view self.now.own r
             → has self.now.view.pending q ≡ true → q < ATTENTION_SETS → IsTold reach.now r q n
             → has result n ≡ true }
     {
@@ -214,23 +227,6 @@ impl Onlooker {
     }
 }
 
-// The number of the key that an action registers or preempts.
-fn number_named(action: Action, keys: &[u64]) -> u8
-    requires { length keys.now ≤ MOST_KEYS }
-    ensures number { result ≡ number_named keys.now action }
-    ensures few { result ≤ MOST_KEYS }
-{
-    match action {
-        Action::Register(key) | Action::Preempt(key, _) => number_in(keys, key),
-        Action::Unregister
-        | Action::Reserve(_)
-        | Action::Release
-        | Action::Clear
-        | Action::Read
-        | Action::Write => 0,
-    }
-}
-
 /// The number of no registration, if this is so.
 pub(crate) fn none_if(is: bool) -> Word
     ensures { IsTrue is → has result 0 ≡ true }
@@ -248,7 +244,7 @@ fn no_reservation_if(is: bool) -> Wide
 // With which registrations others are told that a reservation was released which one of another type replaced.
 fn told_of_another(old: Kind, kind: Kind, key: u8) -> Word
     requires { key ≤ MOST_KEYS }
-    ensures { is_kind old kind ≡ false → HasEachKeyBut key result }
+    ensures { is_kind old kind ≡ false → HasEveryKeyBut key result }
 {
     if old == kind {
         Word::none()

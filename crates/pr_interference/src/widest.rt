@@ -1,6 +1,6 @@
 //! What a command can leave at most, whatever is reserved: found without a walk through the reservations.
 
-ghost use Rattle.std.specs.Prelude.{◌≡◌, ◌≢◌, ◌≤◌, ◌<◌, ℕ, Some, true, false, length, IsTrue};
+ghost use Rattle.std.specs.Prelude.{◌≡◌, ◌≤◌, ◌<◌, ℕ, Some, true, false, IsTrue};
 ghost use Rattle.pr_cdb.specs.declared.codes.TheConstants.{MOST_NEXUSES};
 ghost use Rattle.pr_cdb.specs.declared.command.Kind.{Kind as KindOf};
 ghost use Rattle.pr_registry.specs.declared.held.Held.TheVariants.{One, All};
@@ -11,12 +11,9 @@ ghost use Rattle.pr_roles.specs.Fitting.{is_reservation};
 ghost use Rattle.pr_sets.specs.Numbers.{most};
 ghost use Rattle.pr_sets.specs.Words.{has};
 ghost use Rattle.pr_sets.specs.Wides.{has_wide};
-ghost use Rattle.pr_views.specs.Possibilities.{Scope, number_of};
-ghost use Rattle.pr_views.specs.Portions.{has_at};
+ghost use Rattle.pr_views.specs.Possibilities.{number_of};
 ghost use Rattle.pr_interference.specs.inside.Clauses.{IsClause};
-ghost use Rattle.pr_interference.specs.inside.Interfering.{IsOnlooking};
-ghost use Rattle.pr_interference.specs.inside.Reaching.{IsReach, AreOfOneType};
-ghost use Rattle.pr_interference.specs.inside.Bounds.{HasEachKey, HasEachKeyBut, HasNew};
+ghost use Rattle.pr_interference.specs.inside.Reaching.{AreOfOneType, HasEveryKeyBut, HasEveryKey, HasReservation, HasNew, MayHave, Reaches};
 
 use crate::onlooker::Onlooker;
 use crate::reach::{Reach, no_reservation, none_alone};
@@ -27,17 +24,15 @@ use pr_registry::{Held, is_all, new_reservation};
 use pr_roles::{Action, Clause};
 use pr_sets::{Wide, Word};
 
-impl Onlooker {
+impl Onlooker<'_> {
     /// What a command of this clause reaches at most, whatever is reserved: no less than [`reach`](Onlooker::reach), and soon
     /// found.
-    pub(crate) fn widest(&self, clause: &Clause, keys: &[u64]) -> Reach
-        requires keys { length keys.now ≤ MOST_KEYS }
-        requires action { IsClause keys.now clause.now }
-        ensures { (s : Scope) → IsOnlooking s self.now → s.keys ≡ keys.now
-            → IsReach s self.now.view clause.now self.now.other result }
+    pub(crate) fn widest(&self, clause: &Clause) -> Reach
+        requires action { IsClause self.now.keys.now clause.now }
+        ensures { Reaches self.now clause.now result }
     {
         match clause.action {
-            Action::Register(key) => Reach::of_registering(number_in(keys, key)),
+            Action::Register(key) => Reach::of_registering(number_in(self.keys, key)),
             Action::Unregister => widest_of_losing(),
             Action::Reserve(kind) => self.widest_of_reserving(kind),
             Action::Release => widest_of_losing(),
@@ -46,7 +41,7 @@ impl Onlooker {
                 if key == 0 {
                     self.widest_of_preempting_all(kind)
                 } else {
-                    self.widest_of_preempting(number_in(keys, key), kind)
+                    self.widest_of_preempting(number_in(self.keys, key), kind)
                 }
             }
             Action::Read | Action::Write => Reach::none(),
@@ -55,7 +50,7 @@ impl Onlooker {
 
     // To establish a reservation.
     fn widest_of_reserving(&self, kind: Kind) -> Reach
-        ensures { HasNew self.now.hosts kind self.now.other result.reservations }
+        ensures { HasNew result.reservations self.now.hosts kind self.now.other }
     {
         Reach {
             reservations: self.established(kind),
@@ -65,9 +60,9 @@ impl Onlooker {
 
     // To preempt all others.
     fn widest_of_preempting_all(&self, kind: Kind) -> Reach
-        ensures removed { HasEachKey result.removed }
-        ensures reservations { HasNew self.now.hosts kind self.now.other result.reservations }
-        ensures told { HasEachKey result.told_05 }
+        ensures removed { HasEveryKey result.removed }
+        ensures reservations { HasNew result.reservations self.now.hosts kind self.now.other }
+        ensures told { HasEveryKey result.told_05 }
     {
         Reach {
             removed: every_key(),
@@ -80,17 +75,17 @@ impl Onlooker {
     // To preempt the key of this number.
     fn widest_of_preempting(&self, key: u8, kind: Kind) -> Reach
         requires key { key ≤ MOST_KEYS }
-        ensures given { has_at self.now.view.registrations self.now.other key ≡ true
+        ensures given { MayHave self.now.view self.now.other key
             → has result.given 0 ≡ true }
         ensures ended { (t : KindOf) → is_all t ≡ true
-            → has_wide self.now.view.reservations (number_of self.now.hosts (Some (All t))) ≡ true
+            → HasReservation self.now.view.reservations self.now.hosts (All t)
             → has_wide result.reservations 0 ≡ true }
         ensures removed { has result.removed key ≡ true }
-        ensures replaced { HasNew self.now.hosts kind self.now.other result.reservations }
+        ensures replaced { HasNew result.reservations self.now.hosts kind self.now.other }
         ensures told_04 { (old : KindOf) (holder : ℕ)
             → is_reservation self.now.hosts (Some (One old holder)) ≡ true
-            → has_wide self.now.view.reservations (number_of self.now.hosts (Some (One old holder)))
-            ≡ true → is_kind old kind ≡ false → HasEachKeyBut key result.told_04 }
+            → HasReservation self.now.view.reservations self.now.hosts (One old holder)
+            → is_kind old kind ≡ false → HasEveryKeyBut key result.told_04 }
         ensures told_05 { has result.told_05 key ≡ true }
     {
         let named = Word::only(key);
@@ -110,9 +105,9 @@ impl Onlooker {
 
     // The reservation of this type that the other establishes, and none where one of all registrants may end.
     fn established_or_ended(&self, kind: Kind) -> Wide
-        ensures established { HasNew self.now.hosts kind self.now.other result }
+        ensures established { HasNew result self.now.hosts kind self.now.other }
         ensures ended { (t : KindOf) → is_all t ≡ true
-            → has_wide self.now.view.reservations (number_of self.now.hosts (Some (All t))) ≡ true
+            → HasReservation self.now.view.reservations self.now.hosts (All t)
             → has_wide result 0 ≡ true }
     {
         let established = self.established(kind);
@@ -125,7 +120,7 @@ impl Onlooker {
 
     // The reservation of this type that the other establishes.
     fn established(&self, kind: Kind) -> Wide
-        ensures { HasNew self.now.hosts kind self.now.other result }
+        ensures { HasNew result self.now.hosts kind self.now.other }
     {
         Wide::only(reservation_number(self.hosts, Some(new_reservation(kind, self.other))))
     }
@@ -133,7 +128,7 @@ impl Onlooker {
     // Whether a reservation of all registrants is possible.
     fn may_all_hold(&self) -> bool
         ensures { (t : KindOf) → is_all t ≡ true
-            → has_wide self.now.view.reservations (number_of self.now.hosts (Some (All t))) ≡ true
+            → HasReservation self.now.view.reservations self.now.hosts (All t)
             → IsTrue result }
     {
         let possible = self.view.reservations;
@@ -145,8 +140,8 @@ impl Onlooker {
     fn may_be_of_another_type(&self, kind: Kind) -> bool
         ensures { result ≡ false → (old : KindOf) (holder : ℕ)
             → is_reservation self.now.hosts (Some (One old holder)) ≡ true
-            → has_wide self.now.view.reservations (number_of self.now.hosts (Some (One old holder)))
-            ≡ true → is_kind old kind ≡ true }
+            → HasReservation self.now.view.reservations self.now.hosts (One old holder)
+            → is_kind old kind ≡ true }
     {
         let alike = of_one_type(self.hosts, kind);
         !self.view.reservations.except(alike).is_empty()
@@ -157,7 +152,7 @@ impl Onlooker {
 fn widest_of_losing() -> Reach
     ensures given { has result.given 0 ≡ true }
     ensures ended { has_wide result.reservations 0 ≡ true }
-    ensures told { HasEachKey result.told_04 }
+    ensures told { HasEveryKey result.told_04 }
 {
     Reach {
         given: none_alone(),

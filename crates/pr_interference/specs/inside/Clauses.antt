@@ -1,5 +1,5 @@
 -- What the clauses of a role ask for, reservation by reservation and standing by standing.
-use Rattle.std.specs.Prelude.{◌≡◌, ℕ, ◌<◌, ◌≤◌, Bool, true, false, not, ◌==◌, ◌&&◌, ◌||◌, List, Option, Some, None, option_map, is_some}
+use Rattle.std.specs.Prelude.{◌≡◌, ℕ, ◌<◌, ◌≤◌, Bool, true, false, not, ◌==◌, ◌&&◌, ◌||◌, List, length, Option, Some, None, option_map, is_some}
 use Rattle.pr_cdb.specs.declared.command.Command.{Command}
 use Rattle.pr_registry.specs.declared.held.Held.{Held}
 use Rattle.pr_registry.specs.declared.held.Held.TheVariants.{One, All}
@@ -14,7 +14,9 @@ use Rattle.pr_roles.specs.declared.role.Clause.{Clause}
 use Rattle.pr_roles.specs.Fitting.{is_action}
 use Rattle.pr_sets.specs.declared.word.Word.{Word}
 use Rattle.pr_sets.specs.Words.{has}
-use Rattle.pr_views.specs.Possibilities.{Registration, Reservation, IsSo}
+use Rattle.pr_views.specs.Possibilities.{Scope, Registration, Reservation, IsSo, count_of_reservations}
+use Rattle.pr_views.specs.declared.possibilities.Possibilities.{Possibilities}
+use Rattle.pr_views.specs.Portions.{view_in}
 use Rattle.pr_views.specs.Views.{View, Shows}
 use Rattle.pr_regions.specs.declared.purpose.Purpose.{Purpose}
 use Rattle.pr_regions.specs.declared.purpose.Purpose.TheVariants.{Look, Read, Write, Register, Unregister, Reserve, Release, Clear, PreemptAll, Preempt}
@@ -22,7 +24,10 @@ use Rattle.pr_regions.specs.declared.purpose.Standing.{Standing}
 use Rattle.pr_regions.specs.declared.purpose.Standing.TheVariants.{Unregistered, Named, Other}
 use Rattle.pr_regions.specs.Purposes.{number_in, purpose_of_preempt, purpose_of}
 use Rattle.pr_regions.specs.Regions.{standing_of}
-use Rattle.pr_interference.specs.inside.Interfering.{IsFree}
+use Rattle.pr_interference.specs.inside.Interfering.{IsFree, IsOnlooking, IsWatched, Among, ClauseLeaves}
+use Rattle.pr_interference.specs.declared.onlooker.Onlooker.{Onlooker}
+use Rattle.pr_regions.specs.declared.place.Place.{Place}
+use Rattle.pr_regions.specs.inside.Adding.{Adds}
 
 -- What a clause of this action asks for under a reservation, if it changes anything: a RELEASE releases the type that
 -- stands.
@@ -105,3 +110,19 @@ pub record FirstLeads (n : ℕ) (v : View) (clause : Clause) (sender : ℕ) (u w
   pub reservation : ℕ
   pub below : reservation < n
   pub leads : PlaceLeads v clause sender reservation u w
+
+-- The answer gains what a command of the clause leads to, in each view of the onlooker's.
+abbrev pub AddsClause : Onlooker → Clause → Possibilities → Possibilities → Type 0
+AddsClause o clause old new = (s : Scope) → IsOnlooking s o
+    → Adds s old new (FirstLeads (count_of_reservations o.hosts) (view_in s o.view) clause o.other) (ClauseLeaves (view_in s o.view) clause o.other)
+
+-- it gains what one of any clause of the role leads to
+abbrev pub AddsRole : Onlooker → Possibilities → Possibilities → Type 0
+AddsRole o old new = (s : Scope) → IsOnlooking s o
+    → Adds s old new (λ u w. Among (length o.clauses.now) o.clauses.now (λ clause. FirstLeads (count_of_reservations o.hosts) (view_in s o.view) clause o.other u w))
+    (λ i. Among (length o.clauses.now) o.clauses.now (λ clause. ClauseLeaves (view_in s o.view) clause o.other i))
+
+-- it gains what one of this clause leads to under the reservation of a place
+abbrev pub AddsPlace : Onlooker → Place → Clause → Possibilities → Possibilities → Type 0
+AddsPlace o place clause old new = (s : Scope) → IsWatched s o place → s.keys ≡ o.keys.now
+    → Adds s old new (PlaceLeads (view_in s o.view) clause place.sender place.reservation) (ClauseLeaves (view_in s o.view) clause place.sender)

@@ -1,5 +1,6 @@
 -- What the steps of another add to possibilities.
-use Rattle.std.specs.Prelude.{◌≡◌, ◌≢◌, ℕ, ◌<◌, true, false, None, List, slice_index_or}
+use Rattle.std.specs.Prelude.{◌≡◌, ◌≢◌, ℕ, ◌<◌, true, false, None, List, length, slice_index_or}
+use Rattle.std.specs.List.{All}
 use Rattle.pr_cdb.specs.declared.command.Command.{Command}
 use Rattle.pr_cdb.specs.declared.wire.Request.TheVariants.{Plain}
 use Rattle.pr_cdb.specs.Ranges.{Fits as IsCommand}
@@ -21,8 +22,8 @@ use Rattle.pr_regions.specs.declared.region.Branch.{Branch}
 use Rattle.pr_regions.specs.Regions.{Changes, HasRoom}
 use Rattle.pr_regions.specs.declared.place.Place.{Place}
 use Rattle.pr_interference.specs.declared.onlooker.Onlooker.{Onlooker}
-use Rattle.pr_regions.specs.Gathering.{IsPlace, IsProper, IsAt}
-use Rattle.pr_regions.specs.inside.Adding.{Allows}
+use Rattle.pr_regions.specs.Gathering.{IsPlace, IsUniform, IsProper, IsAt}
+use Rattle.pr_regions.specs.inside.Adding.{Allows, Adds}
 
 -- it is a place of the onlooker's view, and its sender is another
 pub record IsWatched (s : Scope) (o : Onlooker) (place : Place) : Type 0 where
@@ -35,6 +36,7 @@ pub record IsOnlooking (s : Scope) (o : Onlooker) : Type 0 where
   pub hosts : s.hosts ≡ o.hosts
   pub own : s.own ≡ o.own
   pub other : s.own ≢ o.other
+  pub keys : s.keys ≡ o.keys.now
   pub fits : Fits (view_in s o.view)
 
 -- after the change in some state of the region, this is so
@@ -76,6 +78,16 @@ IsProperBranch branch = IsProper branch.region
 
 abbrev pub BranchHasRoom : ℕ → Branch → Type 0
 BranchHasRoom hosts branch = HasRoom hosts branch.ending
+
+-- In each view of the onlooker's, the answer gains what the branch leads to, if its sender is one of these.
+abbrev pub AddsBranch : Onlooker → Place → Word → Branch → Possibilities → Possibilities → Type 0
+AddsBranch o place senders branch old new = (s : Scope) → IsWatched s o place → IsUniform senders → IsProperBranch branch
+    → Adds s old new (IsLedBy s o.view place senders branch) (IsLeftBy s o.view place senders branch)
+
+-- it gains what any of the branches leads to
+abbrev pub AddsBranches : Onlooker → Place → Word → List Branch → Possibilities → Possibilities → Type 0
+AddsBranches o place senders branches old new = (s : Scope) → IsWatched s o place → IsUniform senders → All IsProperBranch branches
+    → Adds s old new (λ u w. Among (length branches) branches (λ b. IsLedBy s o.view place senders b u w)) (λ i. Among (length branches) branches (λ b. IsLeftBy s o.view place senders b i))
 
 -- ---- clauses
 

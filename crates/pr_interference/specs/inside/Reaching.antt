@@ -1,15 +1,18 @@
 -- What a command of a clause can leave at most, beside what was so before it.
-use Rattle.std.specs.Prelude.{◌≡◌, ◌≢◌, ◌⊎◌, ◌||◌, ℕ, ◌<◌, true, List, Option, Some, bit_or}
+use Rattle.std.specs.Prelude.{◌≡◌, ◌≢◌, ◌⊎◌, ◌||◌, ℕ, ◌<◌, ◌≤◌, Bool, true, List, Option, Some, bit_or}
 use Rattle.pr_cdb.specs.declared.command.Kind.{Kind}
 use Rattle.pr_registry.specs.declared.held.Held.{Held}
 use Rattle.pr_registry.specs.declared.held.Held.TheVariants.{One}
-use Rattle.pr_registry.specs.Changes.{is_kind}
+use Rattle.pr_registry.specs.Changes.{is_kind, is_held_by_all}
+use Rattle.pr_registry.specs.Registrations.{new_reservation, holds_alone}
 use Rattle.pr_unit.specs.UnitStates.{UnitState}
 use Rattle.pr_roles.specs.declared.role.Action.{Action}
 use Rattle.pr_roles.specs.declared.role.Action.TheVariants as action
 use Rattle.pr_roles.specs.declared.role.Clause.{Clause}
 use Rattle.pr_roles.specs.Fitting.{is_reservation}
+use Rattle.pr_roles.specs.declared.limits.TheConstants.{MOST_KEYS}
 use Rattle.pr_sets.specs.declared.wide.Wide.{Wide}
+use Rattle.pr_sets.specs.declared.word.Word.{Word}
 use Rattle.pr_sets.specs.Words.{has}
 use Rattle.pr_sets.specs.Wides.{has_wide}
 use Rattle.pr_views.specs.declared.possibilities.Possibilities.{Possibilities}
@@ -19,8 +22,34 @@ use Rattle.pr_views.specs.Views.{IsPossible, Shows}
 use Rattle.pr_views.specs.Portions.{has_at, view_in}
 use Rattle.pr_regions.specs.Purposes.{number_in}
 use Rattle.pr_regions.specs.declared.place.Place.{Place}
+use Rattle.pr_interference.specs.declared.onlooker.Onlooker.{Onlooker}
 use Rattle.pr_interference.specs.declared.reach.Reach.{Reach}
+use Rattle.pr_interference.specs.inside.Interfering.{IsOnlooking}
 use Rattle.pr_interference.specs.inside.Clauses.{PlaceLeads}
+
+-- the word has the number of every key
+abbrev pub HasEveryKey : Word → Type 0
+HasEveryKey word = (r : ℕ) → 1 ≤ r → r ≤ MOST_KEYS → has word r ≡ true
+
+-- it has that of every key but one
+abbrev pub HasEveryKeyBut : ℕ → Word → Type 0
+HasEveryKeyBut key word = (r : ℕ) → 1 ≤ r → r ≤ MOST_KEYS → r ≢ key → has word r ≡ true
+
+-- among the reservations of so many nexuses is this one
+abbrev pub HasReservation : Wide → ℕ → Held → Type 0
+HasReservation reservations hosts held = has_wide reservations (number_of hosts (Some held)) ≡ true
+
+-- among them is the one of this type that the sender establishes
+abbrev pub HasNew : Wide → ℕ → Kind → ℕ → Type 0
+HasNew reservations hosts kind sender = HasReservation reservations hosts (new_reservation kind sender)
+
+-- the sender of the place holds alone, or all registrants hold
+abbrev pub is_held_with : Place → Bool
+is_held_with place = holds_alone place.held place.sender || is_held_by_all place.held
+
+-- a nexus may have this registration
+abbrev pub MayHave : Possibilities → ℕ → ℕ → Type 0
+MayHave view g r = has_at view.registrations g r ≡ true
 
 -- with registration r the owner can be told, and q becomes n by it
 abbrev pub IsTold : Reach → ℕ → ℕ → ℕ → Type 0
@@ -45,6 +74,10 @@ pub record IsAtMost (s : Scope) (most : Possibilities) (u w : UnitState) : Type 
 -- whatever a command of the clause leads to from a shown state is in reach
 abbrev pub IsReach : Scope → Possibilities → Clause → ℕ → Reach → Type 0
 IsReach s view clause sender reach = (x : ℕ) (u w : UnitState) → PlaceLeads (view_in s view) clause sender x u w → IsWithin s sender reach u w
+
+-- so it is in each view of the onlooker's
+abbrev pub Reaches : Onlooker → Clause → Reach → Type 0
+Reaches o clause reach = (s : Scope) → IsOnlooking s o → IsReach s o.view clause o.other reach
 
 -- the same under the reservation of a place, by its sender
 abbrev pub IsReachAt : Scope → Possibilities → Clause → Place → Reach → Type 0

@@ -9,63 +9,63 @@ possible_in : (o : Onlooker) (place : Place) → place.hosts ≡ o.hosts → (he
 possible_in o place hosts held = subst (λ n. has_wide o.view.reservations (number_of n held) ≡ true) hosts
 
 pub returns-in-Register : goal.returns-in-Register
-returns-in-Register c s is same =
+returns-in-Register c s is =
     let o = c.args.self.now in
     let reach = c.of_registering.result in
     let key = c.in-Register.key in
-    let fits = subst (λ k. is_action k c.args.clause.now.action ≡ true) (sym same) c.requires.action in
-    let number : c.number_in.result ≡ number_in s.keys key = c.number_in.ensures.number ∙ ap (λ k. number_in k key) (sym same) in
+    let fits = subst (λ k. is_action k c.args.clause.now.action ≡ true) (sym is.keys) c.requires.action in
+    let number : c.number_in.result ≡ number_in s.keys key = c.number_in.ensures.number ∙ ap (λ k. number_in k key) (sym is.keys) in
     reach_of_places s o c.args.clause.now reach is (λ place hosts sender watched. register_reach s o place c.args.clause.now reach watched fits key c.in-Register.is (subst (λ n. has reach.given n ≡ true) number c.of_registering.ensures))
 
 pub returns-in-Unregister : goal.returns-in-Unregister
-returns-in-Unregister c s is same =
+returns-in-Unregister c s is =
     let facts = c.widest_of_losing.ensures in
-    let fits = subst (λ k. is_action k c.args.clause.now.action ≡ true) (sym same) c.requires.action in
+    let fits = subst (λ k. is_action k c.args.clause.now.action ≡ true) (sym is.keys) c.requires.action in
     reach_of_places s c.args.self.now c.args.clause.now _ is
     (λ place hosts sender watched. unregister_reach s c.args.self.now place c.args.clause.now _ watched fits c.in-Unregister.is facts.given (λ e. facts.ended) (λ e. facts.told))
 
 pub returns-in-Release : goal.returns-in-Release
-returns-in-Release c s is same =
+returns-in-Release c s is =
     let facts = c.widest_of_losing-in-Release.ensures in
-    let fits = subst (λ k. is_action k c.args.clause.now.action ≡ true) (sym same) c.requires.action in
+    let fits = subst (λ k. is_action k c.args.clause.now.action ≡ true) (sym is.keys) c.requires.action in
     reach_of_places s c.args.self.now c.args.clause.now _ is
     (λ place hosts sender watched. release_reach s c.args.self.now place c.args.clause.now _ watched fits c.in-Release.is (λ e. facts.ended) (λ e. facts.told))
 
 pub returns-in-Reserve : goal.returns-in-Reserve
-returns-in-Reserve c s is same =
+returns-in-Reserve c s is =
     let o = c.args.self.now in
     let kind = c.in-Reserve.kind in
-    let fits = subst (λ k. is_action k c.args.clause.now.action ≡ true) (sym same) c.requires.action in
+    let fits = subst (λ k. is_action k c.args.clause.now.action ≡ true) (sym is.keys) c.requires.action in
     reach_of_places s o c.args.clause.now _ is
     (λ place hosts sender watched. reserve_reach s o place c.args.clause.now _ watched fits kind c.in-Reserve.is
     (λ none. established_at o place kind c.widest_of_reserving.result.reservations hosts sender c.widest_of_reserving.ensures))
 
 pub returns-in-Clear : goal.returns-in-Clear
-returns-in-Clear c s is same =
+returns-in-Clear c s is =
     let facts = c.of_clearing.ensures in
-    let fits = subst (λ k. is_action k c.args.clause.now.action ≡ true) (sym same) c.requires.action in
+    let fits = subst (λ k. is_action k c.args.clause.now.action ≡ true) (sym is.keys) c.requires.action in
     reach_of_places s c.args.self.now c.args.clause.now _ is
     (λ place hosts sender watched. clear_reach s c.args.self.now place c.args.clause.now _ watched fits c.in-Clear.is facts.given facts.removed facts.reservations facts.told)
 
 pub returns-then-key-eq0 : goal.returns-then-key-eq0
-returns-then-key-eq0 c s is same =
+returns-then-key-eq0 c s is =
     let o = c.args.self.now in
     let facts = c.widest_of_preempting_all.ensures in
     let kind = c.in-Preempt.kind in
-    let fits = subst (λ k. is_action k c.args.clause.now.action ≡ true) (sym same) c.requires.action in
+    let fits = subst (λ k. is_action k c.args.clause.now.action ≡ true) (sym is.keys) c.requires.action in
     reach_of_places s o c.args.clause.now _ is
     (λ place hosts sender watched. preempt_all_reach s o place c.args.clause.now _ watched fits c.in-Preempt.key kind c.in-Preempt.is c.if-key-eq0.true
     (λ all. facts.removed) (λ all. established_at o place kind c.widest_of_preempting_all.result.reservations hosts sender facts.reservations) (λ all. facts.told))
 
 pub returns-else-key-eq0 : goal.returns-else-key-eq0
-returns-else-key-eq0 c s is same =
+returns-else-key-eq0 c s is =
     let o = c.args.self.now in
     let reach = c.widest_of_preempting.result in
     let facts = c.widest_of_preempting.ensures in
     let key = c.in-Preempt.key in
     let kind = c.in-Preempt.kind in
-    let fits = subst (λ k. is_action k c.args.clause.now.action ≡ true) (sym same) c.requires.action in
-    let number : c.number_in-else-key-eq0.result ≡ number_in s.keys key = c.number_in-else-key-eq0.ensures.number ∙ ap (λ k. number_in k key) (sym same) in
+    let fits = subst (λ k. is_action k c.args.clause.now.action ≡ true) (sym is.keys) c.requires.action in
+    let number : c.number_in-else-key-eq0.result ≡ number_in s.keys key = c.number_in-else-key-eq0.ensures.number ∙ ap (λ k. number_in k key) (sym is.keys) in
     reach_of_places s o c.args.clause.now reach is
     (λ place hosts sender watched. preempt_key_reach s o place c.args.clause.now reach watched fits key kind c.in-Preempt.is c.if-key-eq0.false
     (λ mine. facts.given (subst (λ n. has_at o.view.registrations o.other n ≡ true) (sym number) (subst (λ g. has_at o.view.registrations g (number_in s.keys key) ≡ true) sender mine)))
