@@ -1,8 +1,6 @@
 -- What is told of texts, where it is known what the readers have.
 use Rattle.std.proofs.Common.{◌≡◌, ℕ, Bool, List, Option, Some, None, refl}
 use Rattle.std.specs.Prelude.{◌↔◌, false, IfSome, Ok}
-use Rattle.pr_sets.specs.Numbers.{Numbers}
-use Rattle.pr_sets.specs.declared.word_set.WordSet.{WordSet}
 use Rattle.pr_roles.specs.declared.parts.Parts.{Parts}
 use Rattle.pr_roles.specs.Scenarios.{scenario_of}
 use Rattle.pr_text.specs.Reading.{IsWrittenAs}
@@ -16,10 +14,10 @@ use Rattle.pr_explain.specs.Explanations.{Holds, is_refusal}
 use Rattle.fence.specs.Explanations.{EndsTold}
 
 -- the verdict that a plan of what is said tells
-pub told_plan : (known : Option (List ℕ)) (members : WordSet → Numbers) (p : Parts) (e : Explanation) (refused : Bool) → IfSome known (λ text. IsWrittenAs text (scenario_of p))
-    → (is_refusal e ≡ false) ↔ HaveOutlines (scenario_of p) → Holds members (scenario_of p) e → refused ≡ is_refusal e → EndsTold known (Ok refused)
-told_plan None members p e refused read exact holds is = tt
-told_plan (Some text) members p (Accepted verified costs lints) refused read exact holds is = (
+pub told_plan : (known : Option (List ℕ)) (p : Parts) (e : Explanation) (refused : Bool) → IfSome known (λ text. IsWrittenAs text (scenario_of p))
+    → (is_refusal e ≡ false) ↔ HaveOutlines (scenario_of p) → Holds (scenario_of p) e → refused ≡ is_refusal e → EndsTold known (Ok refused)
+told_plan None p e refused read exact holds is = tt
+told_plan (Some text) p (Accepted verified costs lints) refused read exact holds is = (
   verdict_text (names_in (scenario_of p)) verdict.Accepted,
   record {
     scenario = scenario_of p;
@@ -30,7 +28,7 @@ told_plan (Some text) members p (Accepted verified costs lints) refused read exa
     refused_is = is;
   },
 )
-told_plan (Some text) members p (Refused scenario refusal tables finding senders) refused read exact holds is = (
+told_plan (Some text) p (Refused scenario refusal tables finding senders) refused read exact holds is = (
   verdict_text (names_in (scenario_of p)) (verdict.Refused refusal),
   record {
     scenario = scenario_of p;

@@ -1,6 +1,5 @@
 use Rattle.std.proofs.Common.{Result, subst}
 use Rattle.std.specs.Prelude.{IfSome}
-use Rattle.pr_sets.specs.contracts.word_set.WordSetViewSet.TheImpl.{members-value}
 use Rattle.pr_roles.specs.declared.parts.Parts.{Parts}
 use Rattle.pr_text.specs.declared.fault.ReadError.{ReadError}
 use Rattle.pr_text.specs.Reading.{IsRead}
@@ -11,5 +10,5 @@ pub returns-clause-ends : goal.returns-clause-ends
 returns-clause-ends g c =
     let known = g.R.Read.remaining c.args.reader.now in
     let read = subst (λ (r : Result Parts ReadError). IfSome known (λ text. IsRead text r)) c.in_ok-scenario.was c.read_and_tell-text.ensures.read in
-    told_plan known (members-value).it c.in_ok-scenario.scenario c.in_ok-explanation.explanation c.is_refusal.result read
+    told_plan known c.in_ok-scenario.scenario c.in_ok-explanation.explanation c.is_refusal.result read
     c.in_ok-explanation.ensures.accepted c.in_ok-explanation.ensures.holds c.is_refusal.ensures
