@@ -6,8 +6,8 @@ pub use Rattle.std.proofs.lemmas.Bool.{false≢true, not-true, cases_lt, and_par
 pub use Rattle.std.proofs.lemmas.Bool.Decides.{eqb_tells, nat_tests}
 pub use Rattle.std.proofs.lemmas.Option.{same_Some, slice_get_within, slice_get-get_or, get_or_from_slice_get}
 pub use Rattle.pr_sets.specs.Wides.{has_wide}
-pub use Rattle.pr_sets.specs.Words.{has}
-pub use Rattle.pr_sets.specs.declared.word.Word.{Word}
+pub use Rattle.pr_sets.specs.BitSets.{has}
+pub use Rattle.pr_sets.specs.declared.bit_set.BitSet.{BitSet}
 pub use Rattle.pr_cdb.specs.declared.codes.TheConstants.{MOST_NEXUSES}
 pub use Rattle.pr_cdb.specs.declared.command.Command.{Command}
 pub use Rattle.pr_cdb.specs.declared.reply.Reply.{Reply}
@@ -62,3 +62,6 @@ pub use Rattle.pr_domain.specs.inside.Permitting.{ArePermitted, scope_at}
 pub use Rattle.pr_domain.specs.inside.Reporting.{AreReported, HasOutcome, AreKept, AreMore, Ending, Reports, Conflicts, Fails, EndsGood, Refuses, refusal, Ends, landing_at, LandsBy, LandsGoodBelow, IsOfWay}
 pub use Rattle.pr_domain.specs.inside.Sendings.{view_of_sending, IsOfWayAt, LandsOf}
 pub use Rattle.pr_domain.specs.inside.Tallies.{IsRegistered, has_part, has_tallied, arm_of, Leaves, IsFound, Grows, IsRight, IsTally, IsInOne, HasFirst, HasBoth, IsReserved, IsOwners, IsOfScope, IsReadAt, IsReadFirst}
+pub use Rattle.pr_views.specs.declared.view.TheConstants.{ATTENTION_SETS, MOST_REGISTRATIONS}
+pub use Rattle.pr_script.specs.declared.limits.TheConstants.{MOST_ARMS}
+pub use Rattle.pr_roles.specs.declared.limits.TheConstants.{MOST_KEYS}

@@ -4,22 +4,21 @@ ghost use Rattle.std.specs.Prelude.{◌≡◌, ◌<◌, ◌≤◌, IsTrue, true,
 ghost use Rattle.std.specs.List.{list_any};
 ghost use Rattle.pr_script.specs.Grammar.{is_written};
 ghost use Rattle.pr_roles.specs.declared.limits.TheConstants.{MOST_KEYS};
-ghost use Rattle.pr_sets.specs.Words.{has};
+ghost use Rattle.pr_sets.specs.BitSets.{has};
 ghost use Rattle.pr_sets.specs.Wides.{has_wide};
 ghost use Rattle.pr_views.specs.Portions.{view_in};
 ghost use Rattle.pr_views.specs.Rooms.{view_of};
 ghost use Rattle.pr_views.specs.Views.{Fits};
 ghost use Rattle.pr_domain.specs.Outcomes.{IsPermittedIn, IsRefusedIn};
-ghost use Rattle.pr_domain.specs.inside.Permitting.{scope_at, IsAsking, PermitsAll, RefusesOne, TellsReached, TellsOneReached, holds_reservation, holds_at, permits_at, permits_always};
+ghost use Rattle.pr_domain.specs.inside.Permitting.{scope_at, IsAsking, PermitsAll, RefusesOne, TellsReached, TellsOneReached, permits_at, permits_always};
 
 use crate::tallying::key_at;
 use pr_cdb::Command;
 use pr_regions::{
     Branch, Ending, Place, branches, is_refused, purpose_of, reservation_at, standing_of,
 };
-use pr_registry::Held;
-use pr_roles::{Clause, Condition, Role, is_always_permitted, names};
-use pr_sets::{ViewSet, Word};
+use pr_roles::{Clause, Role, is_always_permitted, names};
+use pr_sets::{BitSet, ViewSet};
 use pr_views::{MOST_REGISTRATIONS, Possibilities, ViewOf};
 
 /// Whether the role permits this command of the host in each state that the host's view shows and in which the
@@ -162,12 +161,12 @@ impl Asking<'_> {
         let purpose = purpose_of(self.command, self.keys);
         let standing = standing_of(purpose, registration);
         let branches = branches(place.hosts, purpose, place.held, place.sender, standing);
-        !is_one_reached(self.view, place, Word::only(registration), &branches)
+        !is_one_reached(self.view, place, BitSet::only(registration), &branches)
     }
 }
 
 // Whether one of the branches ends GOOD in some state of the view.
-fn is_one_reached(view: &Possibilities, place: Place, senders: Word, branches: &[Branch]) -> bool
+fn is_one_reached(view: &Possibilities, place: Place, senders: BitSet, branches: &[Branch]) -> bool
     ensures { TellsOneReached view.now place senders branches.now result }
 {
     let mut i = 0;
@@ -181,7 +180,7 @@ fn is_one_reached(view: &Possibilities, place: Place, senders: Word, branches: &
 }
 
 // Whether the branch ends GOOD in some state of the view, in which nothing is pending for its owner.
-fn is_reached(view: &Possibilities, place: Place, senders: Word, branch: &Branch) -> bool
+fn is_reached(view: &Possibilities, place: Place, senders: BitSet, branch: &Branch) -> bool
     ensures { TellsReached view.now place senders branch.now result }
 {
     match branch.ending {
@@ -203,27 +202,5 @@ fn is_one_permitting(clauses: &[Clause], command: Command, place: Place, registr
 fn permits_at(clause: Clause, command: Command, place: Place, registration: u8) -> bool
     ensures { result ≡ permits_at clause command place registration }
 {
-    names(clause.action, command) && holds_at(clause.condition, place, registration)
-}
-
-// Whether the condition holds of it.
-fn holds_at(condition: Option<Condition>, place: Place, registration: u8) -> bool
-    ensures { result ≡ holds_at condition place registration }
-{
-    match condition {
-        None => true,
-        Some(Condition::Registered) => registration != 0,
-        Some(Condition::Holder) => holds_reservation(place.held, place.sender, registration),
-        Some(Condition::Reserved) => place.held.is_some(),
-    }
-}
-
-fn holds_reservation(held: Option<Held>, sender: u8, registration: u8) -> bool
-    ensures { result ≡ holds_reservation held sender registration }
-{
-    match held {
-        None => false,
-        Some(Held::One(_, holder)) => holder == sender,
-        Some(Held::All(_)) => registration != 0,
-    }
+    names(clause.action, command) && place.meets(clause.condition, registration != 0)
 }

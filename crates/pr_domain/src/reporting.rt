@@ -7,6 +7,7 @@ ghost use Rattle.pr_cdb.specs.declared.reply.Sense.{Sense};
 ghost use Rattle.pr_attention.specs.Attentions.{code_of};
 ghost use Rattle.pr_cdb.specs.declared.wire.Request.TheVariants.{Plain};
 ghost use Rattle.pr_registry.specs.Registrations.{State};
+ghost use Rattle.pr_script.specs.declared.limits.TheConstants.{MOST_ARMS};
 ghost use Rattle.pr_script.specs.declared.script.Test.{Test};
 ghost use Rattle.pr_script.specs.Grammar.{is_written, test_fits};
 ghost use Rattle.pr_unit.specs.Faults.{command_fault};
@@ -31,7 +32,8 @@ use pr_cdb::codes::{
 };
 use pr_cdb::{Command, Sense};
 use pr_roles::Refusals;
-use pr_sets::{ViewSet, Word};
+use pr_script::limits::MOST_ARMS;
+use pr_sets::{BitSet, ViewSet};
 use pr_unit::illegal;
 use pr_views::{Possibilities, ViewOf};
 use std::alloc::{AllocError, Global};
@@ -135,7 +137,7 @@ impl Sending<'_> {
         outcomes: &mut Vec<(Landing, ViewOf<S>)>,
         landing: Landing,
         way: &Possibilities,
-        pending: Word,
+        pending: BitSet,
     ) -> Result<(), AllocError>
         requires range { IsInRange self.now way.now pending }
         requires kept { AreKeptFor self.now outcomes.old.items }
@@ -274,7 +276,7 @@ impl Sending<'_> {
         outcomes: &mut Vec<(Landing, ViewOf<S>)>,
         arm: usize,
     ) -> Result<(), AllocError>
-        requires there { arm < 17 }
+        requires there { arm ≤ MOST_ARMS }
         requires kept { AreKeptFor self.now outcomes.old.items }
         ensures kept { OnOk result (AreKeptFor self.now outcomes.new.items) }
         ensures more { OnOk result (AddsGood self.now arm outcomes.old.items outcomes.new.items) }
@@ -304,7 +306,7 @@ impl Sending<'_> {
         ensures kept { OnOk result (AreKeptFor self.now outcomes.new.items) }
         ensures more { OnOk result (Adds self.now EndsGood outcomes.old.items outcomes.new.items) }
     {
-        for arm in 0..17 {
+        for arm in 0..MOST_ARMS + 1 {
             self.add_good(alloc, outcomes, arm)?;
         }
         Ok(())
@@ -332,16 +334,16 @@ impl Sending<'_> {
     }
 
     // The possible attentions among which there is no power on.
-    fn calm(&self) -> Word
+    fn calm(&self) -> BitSet
         ensures { AreCalm self.now.known result }
     {
         those_without(self.known.pending, Attention::PowerOn)
     }
 
     // No attention, where that is possible.
-    fn quiet(&self) -> Word
+    fn quiet(&self) -> BitSet
         ensures { AreQuiet self.now.known result }
     {
-        self.known.pending.and(Word::only(0))
+        self.known.pending.and(BitSet::only(0))
     }
 }

@@ -6,7 +6,7 @@ ghost use Rattle.pr_attention.specs.Flagged.{codes_of};
 ghost use Rattle.pr_roles.specs.declared.limits.TheConstants.{MOST_KEYS};
 ghost use Rattle.pr_roles.specs.Fitting.{Fits as FitsAll, is_reservation};
 ghost use Rattle.pr_roles.specs.Scenarios.{scenario_of};
-ghost use Rattle.pr_sets.specs.Words.{has};
+ghost use Rattle.pr_sets.specs.BitSets.{has};
 ghost use Rattle.pr_sets.specs.Wides.{has_wide};
 ghost use Rattle.pr_views.specs.Views.{Fits};
 ghost use Rattle.pr_views.specs.Portions.{has_at};
@@ -20,7 +20,7 @@ use pr_cdb::codes::MOST_NEXUSES;
 use pr_regions::{kept, number_in, reservation_number};
 use pr_registry::Held;
 use pr_roles::{Nexus, Parts, Scenario};
-use pr_sets::{ViewSet, Wide, Word};
+use pr_sets::{BitSet, ViewSet, Wide};
 use pr_views::{ATTENTION_SETS, Possibilities, ViewOf};
 use std::alloc::{AllocError, Global};
 
@@ -79,12 +79,12 @@ impl Owner<'_> {
     }
 
     // The registrations with which each may start.
-    fn registrations(&self, nexuses: &[Nexus]) -> [Word; MOST_NEXUSES]
+    fn registrations(&self, nexuses: &[Nexus]) -> [BitSet; MOST_NEXUSES]
         requires { length nexuses.now ≤ MOST_NEXUSES }
         ensures { (g r : ℕ) → has_at result g r
             ≡ may_have (keys_of_owner self.now) nexuses.now g r }
     {
-        let mut words = [Word::none(); MOST_NEXUSES];
+        let mut words = [BitSet::none(); MOST_NEXUSES];
         for (host, nexus) in nexuses.iter().enumerate() {
             words[host] = self.registrations_of(&nexus.start.alternatives);
         }
@@ -92,11 +92,11 @@ impl Owner<'_> {
     }
 
     // The numbers of these registrations.
-    fn registrations_of(&self, alternatives: &[Option<u64>]) -> Word
+    fn registrations_of(&self, alternatives: &[Option<u64>]) -> BitSet
         ensures { (r : ℕ) → has result r ≡ has_alternative (keys_of_owner self.now) alternatives.now
             r }
     {
-        let mut numbers = Word::none();
+        let mut numbers = BitSet::none();
         for key in alternatives {
             numbers = numbers.with(self.registration_in(*key));
         }
@@ -128,12 +128,12 @@ fn reservations(hosts: u8, reservations: &[Option<Held>]) -> Wide
 }
 
 // The sets of attentions that are within the written one.
-fn sets_within(written: &Pending) -> Word
+fn sets_within(written: &Pending) -> BitSet
     ensures few { (q : ℕ) → has result q ≡ true → q < ATTENTION_SETS }
     ensures within { (q : ℕ) → q < ATTENTION_SETS
         → (has result q ≡ true) ↔ AreAmong (codes_of q) written.now }
 {
-    let mut sets = Word::none();
+    let mut sets = BitSet::none();
     for attentions in 0..ATTENTION_SETS {
         if is_within(attentions, written) {
             sets = sets.with(attentions);

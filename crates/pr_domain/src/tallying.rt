@@ -25,7 +25,7 @@ use pr_regions::{
     readings, registrations_after, standing_of,
 };
 use pr_script::limits::MOST_ARMS;
-use pr_sets::{Wide, Word};
+use pr_sets::{BitSet, Wide};
 use pr_views::{MOST_REGISTRATIONS, Possibilities};
 
 /// The arm that takes the data of GOOD, counted from 1, or 0 where none does.
@@ -36,7 +36,7 @@ struct ArmNumber {
 }
 
 // These registrations under this reservation.
-fn part(registrations: [Word; MOST_NEXUSES], reservation: u8) -> Possibilities
+fn part(registrations: [BitSet; MOST_NEXUSES], reservation: u8) -> Possibilities
     requires { reservation < most }
     ensures registrations { result.registrations ≡ registrations }
     ensures reservations { (x : ℕ) → has_wide result.reservations x ≡ (x == reservation) }
@@ -44,7 +44,7 @@ fn part(registrations: [Word; MOST_NEXUSES], reservation: u8) -> Possibilities
     Possibilities {
         registrations,
         reservations: Wide::only(reservation),
-        pending: Word::none(),
+        pending: BitSet::none(),
     }
 }
 
@@ -53,7 +53,7 @@ fn add_branch(
     tally: &mut Tally,
     view: &Possibilities,
     place: Place,
-    senders: Word,
+    senders: BitSet,
     branch: &Branch,
     arm: ArmNumber,
 )
@@ -83,7 +83,7 @@ fn add_branches(
     tally: &mut Tally,
     view: &Possibilities,
     place: Place,
-    senders: Word,
+    senders: BitSet,
     branches: &[Branch],
     arm: ArmNumber,
 )
@@ -112,7 +112,14 @@ fn add_accepted(
 {
     let standing = standing_of(purpose, registration);
     let branches = branches(place.hosts, purpose, place.held, place.sender, standing);
-    add_branches(tally, view, place, Word::only(registration), &branches, arm);
+    add_branches(
+        tally,
+        view,
+        place,
+        BitSet::only(registration),
+        &branches,
+        arm,
+    );
 }
 
 // Adds those in which its reservation key is not accepted.
@@ -120,7 +127,7 @@ fn add_refused(tally: &mut Tally, view: &Possibilities, place: Place, registrati
     requires registration { registration ≤ MOST_KEYS }
     ensures { AddsRefused view.now place registration tally.old tally.new }
 {
-    let anything = Word::below(MOST_REGISTRATIONS);
+    let anything = BitSet::below(MOST_REGISTRATIONS);
     let region = Region {
         holder: anything,
         others: anything,
@@ -131,7 +138,14 @@ fn add_refused(tally: &mut Tally, view: &Possibilities, place: Place, registrati
         ending: Ending::Conflict,
     };
     let none = ArmNumber { number: 0 };
-    add_branch(tally, view, place, Word::only(registration), &branch, none);
+    add_branch(
+        tally,
+        view,
+        place,
+        BitSet::only(registration),
+        &branch,
+        none,
+    );
 }
 
 // The number of this arm, of at most 16.
@@ -150,7 +164,7 @@ fn is_tallied(
     tally: &Tally,
     view: &Possibilities,
     place: Place,
-    senders: Word,
+    senders: BitSet,
     region: &Region,
     arm: ArmNumber,
 ) -> bool
@@ -172,12 +186,12 @@ fn add_reading(
     requires registration { registration ≤ MOST_KEYS }
     ensures { AddsReading view.now place registration reading.now tally.old tally.new }
 {
-    let senders = Word::only(registration);
+    let senders = BitSet::only(registration);
     let way = way_of(reading.arm);
     if is_tallied(tally, view, place, senders, &reading.region, way) {
         return;
     }
-    let none = Word::none();
+    let none = BitSet::none();
     let change = Transition {
         sender: None,
         removed: none,

@@ -4,8 +4,8 @@ pub use Rattle.std.proofs.lemmas.Bool.{false≢true, and_parts, and_from}
 pub use Rattle.std.proofs.lemmas.Bool.Decides.{eqb_tells, nat_tests}
 pub use Rattle.std.proofs.lemmas.List.{get_or_default}
 pub use Rattle.pr_sets.specs.Wides.{has_wide}
-pub use Rattle.pr_sets.specs.Words.{has}
-pub use Rattle.pr_sets.specs.declared.word.Word.{Word}
+pub use Rattle.pr_sets.specs.BitSets.{has}
+pub use Rattle.pr_sets.specs.declared.bit_set.BitSet.{BitSet}
 pub use Rattle.pr_cdb.specs.declared.codes.TheConstants.{MOST_NEXUSES}
 pub use Rattle.pr_cdb.specs.declared.command.Command.{Command}
 pub use Rattle.pr_cdb.specs.declared.command.Kind.{Kind}
@@ -53,3 +53,5 @@ pub use Rattle.pr_interference.specs.inside.Clauses.{purpose_for, IsClause, Stan
 pub use Rattle.pr_interference.specs.inside.Closing.{IsRound, IsWidened, scope_for, view_for}
 pub use Rattle.pr_interference.specs.inside.Interfering.{IsWatched, IsOnlooking, Among, IsLedBy, IsLeftBy, ClauseLeaves}
 pub use Rattle.pr_interference.specs.inside.Marks.{first, AreMarked}
+pub use Rattle.pr_roles.specs.declared.limits.TheConstants.{MOST_KEYS, MOST_CLAUSES}
+pub use Rattle.pr_views.specs.declared.view.TheConstants.{ATTENTION_SETS, MOST_REGISTRATIONS}

@@ -5,13 +5,13 @@ ghost use Rattle.std.specs.Option.{option_map_or};
 ghost use Rattle.pr_roles.specs.declared.limits.TheConstants.{MOST_KEYS};
 ghost use Rattle.pr_regions.specs.Purposes.{HasNumber};
 ghost use Rattle.pr_regions.specs.Regions.{names};
-ghost use Rattle.pr_interference.specs.inside.Clauses.{purpose_for, holds_as, may_send as may_send_as, is_registered_as, refuses_strangers, AreSenders};
+ghost use Rattle.pr_interference.specs.inside.Clauses.{purpose_for, may_send as may_send_as, is_registered_as, refuses_strangers, AreSenders};
 
 use crate::onlooker::Onlooker;
 use pr_regions::{Place, Purpose, Standing, every_key, number_in};
 use pr_registry::Held;
 use pr_roles::{Action, Condition};
-use pr_sets::Word;
+use pr_sets::BitSet;
 
 impl Onlooker<'_> {
     /// What a clause of this action asks for under a reservation, if it changes anything.
@@ -44,7 +44,7 @@ pub(crate) fn may_send(
     ensures { result ≡ may_send_as condition purpose place.now.held place.now.sender standing }
 {
     let is_registered = is_registered(standing);
-    holds(condition, place, is_registered) && (is_registered || !refuses_strangers(purpose))
+    place.meets(condition, is_registered) && (is_registered || !refuses_strangers(purpose))
 }
 
 fn is_registered(standing: Standing) -> bool
@@ -53,22 +53,6 @@ fn is_registered(standing: Standing) -> bool
     match standing {
         Standing::Unregistered => false,
         Standing::Named | Standing::Other => true,
-    }
-}
-
-/// Whether a sender meets the condition, by whether it is registered.
-pub(crate) fn holds(condition: Option<Condition>, place: &Place, is_registered: bool) -> bool
-    ensures { result ≡ holds_as condition place.now.held place.now.sender is_registered }
-{
-    match condition {
-        None => true,
-        Some(Condition::Registered) => is_registered,
-        Some(Condition::Holder) => match place.held {
-            None => false,
-            Some(Held::One(_, holder)) => holder == place.sender,
-            Some(Held::All(_)) => is_registered,
-        },
-        Some(Condition::Reserved) => place.held.is_some(),
     }
 }
 
@@ -91,14 +75,14 @@ fn refuses_strangers(purpose: Purpose) -> bool
 }
 
 /// The registrations with which a sender stands so.
-pub(crate) fn senders(purpose: Purpose, standing: Standing) -> Word
+pub(crate) fn senders(purpose: Purpose, standing: Standing) -> BitSet
     requires { HasNumber purpose }
     ensures { AreSenders purpose standing result }
 {
     match (standing, key_named(purpose)) {
-        (Standing::Unregistered, _) => Word::only(0),
-        (Standing::Named, Some(key)) => Word::only(key),
-        (Standing::Named, None) => Word::none(),
+        (Standing::Unregistered, _) => BitSet::only(0),
+        (Standing::Named, Some(key)) => BitSet::only(key),
+        (Standing::Named, None) => BitSet::none(),
         (Standing::Other, Some(key)) => every_key().without(key),
         (Standing::Other, None) => every_key(),
     }

@@ -2,7 +2,7 @@
 
 ghost use Rattle.std.specs.Prelude.{◌≡◌, ◌≢◌, ◌<◌, ℕ, true, false, IsTrue, IfOk, Some};
 ghost use Rattle.pr_roles.specs.Fitting.{is_action, is_role};
-ghost use Rattle.pr_sets.specs.Words.{has};
+ghost use Rattle.pr_sets.specs.BitSets.{has};
 ghost use Rattle.pr_views.specs.Possibilities.{Scope, count_of_reservations};
 ghost use Rattle.pr_views.specs.Portions.{view_in};
 ghost use Rattle.pr_views.specs.Rooms.{scope_of, view_of, AreAlike, AreInRange};
@@ -18,7 +18,7 @@ use crate::clauses::{may_send, senders};
 use crate::onlooker::Onlooker;
 use pr_regions::{Place, Purpose, Standing, branches, count_of_reservations, gains, kept};
 use pr_roles::{Clause, Role};
-use pr_sets::{ViewSet, Word};
+use pr_sets::{BitSet, ViewSet};
 use pr_views::{Possibilities, ViewOf};
 use std::alloc::{AllocError, Global};
 
@@ -115,7 +115,7 @@ impl Onlooker<'_> {
     }
 
     // Whether the sender may have one of these registrations.
-    fn may_be_among(&self, place: &Place, registrations: Word) -> bool
+    fn may_be_among(&self, place: &Place, registrations: BitSet) -> bool
         ensures { result ≡ false → (r : ℕ)
             → MayHave self.now.view place.now.sender r
             → has registrations r ≡ false }

@@ -1,24 +1,24 @@
 //! What a change makes of the attentions that are pending for an owner.
 
 ghost use Rattle.std.specs.Prelude.{◌≡◌, ◌<◌, bit_or};
-ghost use Rattle.pr_sets.specs.Words.{has};
+ghost use Rattle.pr_sets.specs.BitSets.{has};
 ghost use Rattle.pr_regions.specs.Regions.{mark as mark_of};
 ghost use Rattle.pr_regions.specs.Images.{IsImage};
 ghost use Rattle.pr_interference.specs.inside.Marks.{first, AreTold};
 
 use pr_regions::Transition;
-use pr_sets::Word;
+use pr_sets::BitSet;
 use pr_views::{
     ATTENTION_SETS, MOST_REGISTRATIONS, REGISTRATIONS_PREEMPTED_BIT, RESERVATIONS_PREEMPTED_BIT,
     RESERVATIONS_RELEASED_BIT,
 };
 
 /// What becomes of the attentions pending for an owner that has one of these registrations.
-pub(crate) fn attentions_after(owners: Word, pending: Word, change: &Transition) -> Word
+pub(crate) fn attentions_after(owners: BitSet, pending: BitSet, change: &Transition) -> BitSet
     ensures { AreTold change.now owners pending result }
 {
     let marks = marks(owners, change);
-    let mut told = Word::none();
+    let mut told = BitSet::none();
     for mark in 0..ATTENTION_SETS {
         if marks.has(mark) {
             told = told.or(attentions_with(pending, mark));
@@ -28,10 +28,10 @@ pub(crate) fn attentions_after(owners: Word, pending: Word, change: &Transition)
 }
 
 // The bits of what hosts with these registrations are told.
-fn marks(owners: Word, change: &Transition) -> Word
+fn marks(owners: BitSet, change: &Transition) -> BitSet
     ensures image { IsImage (first MOST_REGISTRATIONS owners) (mark_of change.now) (has result) }
 {
-    let mut marks = Word::none();
+    let mut marks = BitSet::none();
     for registration in 0..MOST_REGISTRATIONS {
         if owners.has(registration) {
             marks = marks.with(mark(registration, change));
@@ -64,11 +64,11 @@ fn mark(registration: u8, change: &Transition) -> u8
 }
 
 /// The attentions with these bits besides.
-pub(crate) fn attentions_with(pending: Word, mark: u8) -> Word
+pub(crate) fn attentions_with(pending: BitSet, mark: u8) -> BitSet
     requires { mark < ATTENTION_SETS }
     ensures { IsImage (first ATTENTION_SETS pending) (λ q. bit_or q mark) (has result) }
 {
-    let mut marked = Word::none();
+    let mut marked = BitSet::none();
     for attentions in 0..ATTENTION_SETS {
         if pending.has(attentions) {
             marked = marked.with(attentions | mark);

@@ -9,7 +9,7 @@ ghost use Rattle.pr_roles.specs.Fitting.{is_action};
 use crate::marking::attentions_after;
 use pr_regions::{Branch, Ending, Place, Region, Transition, registrations_after};
 use pr_roles::Clause;
-use pr_sets::{Wide, Word};
+use pr_sets::{BitSet, Wide};
 use pr_views::Possibilities;
 
 /// The owner of a view, who looks on while another sends commands.
@@ -47,7 +47,7 @@ impl Onlooker<'_> {
     pub(crate) fn after(
         &self,
         place: &Place,
-        senders: Word,
+        senders: BitSet,
         region: &Region,
         change: &Transition,
     ) -> Option<Possibilities>
@@ -77,7 +77,7 @@ impl Onlooker<'_> {
         &self,
         answer: &mut Possibilities,
         place: &Place,
-        senders: Word,
+        senders: BitSet,
         branches: &[Branch],
     )
         requires room { All (BranchHasRoom place.now.hosts) branches.now }
@@ -88,7 +88,13 @@ impl Onlooker<'_> {
         }
     }
 
-    fn add_branch(&self, answer: &mut Possibilities, place: &Place, senders: Word, branch: &Branch)
+    fn add_branch(
+        &self,
+        answer: &mut Possibilities,
+        place: &Place,
+        senders: BitSet,
+        branch: &Branch,
+    )
         requires room { BranchHasRoom place.now.hosts branch.now }
         ensures { AddsBranch self.now place.now senders branch.now answer.old answer.new }
     {

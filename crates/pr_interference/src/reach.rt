@@ -4,36 +4,36 @@ ghost use Rattle.std.specs.Prelude.{◌≡◌, ◌≤◌, ◌&&◌, Some, None, 
 ghost use Rattle.pr_registry.specs.Registrations.{holds_alone, is_for_registrants as is_for_registrants_as};
 ghost use Rattle.pr_registry.specs.Changes.{is_held_by_all, is_told_of_loss};
 ghost use Rattle.pr_roles.specs.declared.limits.TheConstants.{MOST_KEYS};
-ghost use Rattle.pr_sets.specs.Words.{has};
+ghost use Rattle.pr_sets.specs.BitSets.{has};
 ghost use Rattle.pr_sets.specs.Wides.{has_wide};
 ghost use Rattle.pr_interference.specs.inside.Reaching.{IsWider, HasEveryKey, HasNew, is_held_with};
 
 use pr_cdb::Kind;
 use pr_regions::{Place, every_key, reservation_number};
 use pr_registry::{Held, is_all};
-use pr_sets::{Wide, Word};
+use pr_sets::{BitSet, Wide};
 
 /// What a command gives, removes and tells at most.
 #[derive(Clone, Copy)]
 pub(crate) struct Reach {
     /// The registrations that its sender may get.
-    pub(crate) given: Word,
+    pub(crate) given: BitSet,
     /// The registrations that others may lose.
-    pub(crate) removed: Word,
+    pub(crate) removed: BitSet,
     /// The reservations that may come of it.
     pub(crate) reservations: Wide,
     /// With which registrations others may be told that reservations were preempted.
-    pub(crate) told_03: Word,
+    pub(crate) told_03: BitSet,
     /// With which registrations others may be told that reservations were released.
-    pub(crate) told_04: Word,
+    pub(crate) told_04: BitSet,
     /// With which registrations others may be told that registrations were preempted.
-    pub(crate) told_05: Word,
+    pub(crate) told_05: BitSet,
 }
 
 impl Reach {
     /// Nothing.
     pub(crate) fn none() -> Reach {
-        let none = Word::none();
+        let none = BitSet::none();
         Reach {
             given: none,
             removed: none,
@@ -65,7 +65,7 @@ impl Reach {
         ensures { has result.given key ≡ true }
     {
         Reach {
-            given: Word::only(key),
+            given: BitSet::only(key),
             ..Reach::none()
         }
     }
@@ -178,10 +178,10 @@ pub(crate) fn new_reservation_at(place: &Place, kind: Kind) -> Wide
 }
 
 /// The number of no registration.
-pub(crate) fn none_alone() -> Word
+pub(crate) fn none_alone() -> BitSet
     ensures { has result 0 ≡ true }
 {
-    Word::only(0)
+    BitSet::only(0)
 }
 
 /// The number of no reservation.
@@ -192,11 +192,11 @@ pub(crate) fn no_reservation() -> Wide
 }
 
 // With which registrations others are told of the loss of a reservation of this type.
-fn those_told(kind: Kind) -> Word
+fn those_told(kind: Kind) -> BitSet
     ensures { is_for_registrants_as kind ≡ true → HasEveryKey result }
 {
     match kind {
-        Kind::WriteExclusive | Kind::ExclusiveAccess => Word::none(),
+        Kind::WriteExclusive | Kind::ExclusiveAccess => BitSet::none(),
         Kind::WriteExclusiveRegistrantsOnly
         | Kind::ExclusiveAccessRegistrantsOnly
         | Kind::WriteExclusiveAllRegistrants

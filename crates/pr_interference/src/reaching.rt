@@ -7,7 +7,7 @@ ghost use Rattle.pr_registry.specs.Changes.{is_kind, is_held_by_all};
 ghost use Rattle.pr_roles.specs.declared.limits.TheConstants.{MOST_KEYS};
 ghost use Rattle.pr_roles.specs.declared.role.Clause.{Clause as ClauseOf};
 ghost use Rattle.pr_roles.specs.Fitting.{is_action};
-ghost use Rattle.pr_sets.specs.Words.{has};
+ghost use Rattle.pr_sets.specs.BitSets.{has};
 ghost use Rattle.pr_sets.specs.Wides.{has_wide};
 ghost use Rattle.pr_views.specs.declared.view.TheConstants.{ATTENTION_SETS};
 ghost use Rattle.pr_views.specs.Possibilities.{Scope};
@@ -17,7 +17,6 @@ ghost use Rattle.pr_interference.specs.inside.Clauses.{IsClause};
 ghost use Rattle.pr_interference.specs.inside.Interfering.{IsOnlooking, IsWatched};
 ghost use Rattle.pr_interference.specs.inside.Reaching.{IsReach, IsReachAt, IsMost, IsTold, MayAllGo, number_named, HasEveryKeyBut, HasNew, MayHave, Reaches};
 
-use crate::clauses::holds;
 use crate::marking::attentions_with;
 use crate::onlooker::Onlooker;
 use crate::reach::{Reach, new_reservation_at, no_reservation, none_alone};
@@ -26,7 +25,7 @@ use pr_cdb::codes::MOST_NEXUSES;
 use pr_regions::{Place, count_of_reservations, every_key, number_in};
 use pr_registry::Held;
 use pr_roles::{Action, Clause};
-use pr_sets::{Wide, Word};
+use pr_sets::{BitSet, Wide};
 use pr_views::{
     Possibilities, REGISTRATIONS_PREEMPTED_BIT, RESERVATIONS_PREEMPTED_BIT,
     RESERVATIONS_RELEASED_BIT,
@@ -86,7 +85,7 @@ impl Onlooker<'_> {
             → number_named s.keys clause.now.action ≡ number
             → IsReachAt s self.now.view clause.now place.now result }
     {
-        if !holds(clause.condition, place, true) {
+        if !place.meets(clause.condition, true) {
             return Reach::none();
         }
         match clause.action {
@@ -124,7 +123,7 @@ impl Onlooker<'_> {
             → HasEveryKeyBut key result.told_04 }
         ensures told_05 { has result.told_05 key ≡ true }
     {
-        let named = Word::only(key);
+        let named = BitSet::only(key);
         let is_own = self.may_have(place.sender, key);
         let removing = Reach {
             given: none_if(is_own),
@@ -179,14 +178,14 @@ impl Onlooker<'_> {
     }
 
     // The registrations that are in reach.
-    fn registrations_within(&self, reach: &Reach) -> [Word; MOST_NEXUSES]
+    fn registrations_within(&self, reach: &Reach) -> [BitSet; MOST_NEXUSES]
         ensures given { (n : ℕ) → has reach.now.given n ≡ true
             → has_at result self.now.other n ≡ true }
         ensures freed { (g r : ℕ) → g < MOST_NEXUSES → g ≢ self.now.other
             → MayHave self.now.view g r → has reach.now.removed r ≡ true
             → has_at result g 0 ≡ true }
     {
-        let mut words = [Word::none(); MOST_NEXUSES];
+        let mut words = [BitSet::none(); MOST_NEXUSES];
         let sender = usize::from(self.other);
         for host in 0..MOST_NEXUSES {
             words[host] = if host == sender {
@@ -199,7 +198,7 @@ impl Onlooker<'_> {
     }
 
     // The attentions that are in reach.
-    fn pending_within(&self, reach: &Reach) -> Word
+    fn pending_within(&self, reach: &Reach) -> BitSet
         ensures { (r q n : ℕ) → MayHave self.now.view self.now.own r
             → has self.now.view.pending q ≡ true → q < ATTENTION_SETS → IsTold reach.now r q n
             → has result n ≡ true }
@@ -228,10 +227,10 @@ impl Onlooker<'_> {
 }
 
 /// The number of no registration, if this is so.
-pub(crate) fn none_if(is: bool) -> Word
+pub(crate) fn none_if(is: bool) -> BitSet
     ensures { IsTrue is → has result 0 ≡ true }
 {
-    if is { none_alone() } else { Word::none() }
+    if is { none_alone() } else { BitSet::none() }
 }
 
 // The number of no reservation, if this is so.
@@ -242,37 +241,37 @@ fn no_reservation_if(is: bool) -> Wide
 }
 
 // With which registrations others are told that a reservation was released which one of another type replaced.
-fn told_of_another(old: Kind, kind: Kind, key: u8) -> Word
+fn told_of_another(old: Kind, kind: Kind, key: u8) -> BitSet
     requires { key ≤ MOST_KEYS }
     ensures { is_kind old kind ≡ false → HasEveryKeyBut key result }
 {
     if old == kind {
-        Word::none()
+        BitSet::none()
     } else {
         every_key().without(key)
     }
 }
 
 // The attentions with these bits besides, if an owner with one of the registrations can be told.
-fn attentions_told(owners: Word, told: Word, pending: Word, mark: u8) -> Word
+fn attentions_told(owners: BitSet, told: BitSet, pending: BitSet, mark: u8) -> BitSet
     requires { mark < ATTENTION_SETS }
     ensures { (r q : ℕ) → has owners r ≡ true → has told r ≡ true → has pending q ≡ true
         → q < ATTENTION_SETS → has result (bit_or q mark) ≡ true }
 {
     if owners.and(told).is_empty() {
-        Word::none()
+        BitSet::none()
     } else {
         attentions_with(pending, mark)
     }
 }
 
 // No registration, where one of these can be removed.
-fn free_if_removed(word: Word, removed: Word) -> Word
+fn free_if_removed(word: BitSet, removed: BitSet) -> BitSet
     ensures { (r : ℕ) → has word r ≡ true → has removed r ≡ true → has result 0 ≡ true }
 {
     if word.and(removed).is_empty() {
-        Word::none()
+        BitSet::none()
     } else {
-        Word::only(0)
+        BitSet::only(0)
     }
 }

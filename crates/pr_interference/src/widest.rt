@@ -9,7 +9,7 @@ ghost use Rattle.pr_registry.specs.Changes.{is_kind};
 ghost use Rattle.pr_roles.specs.declared.limits.TheConstants.{MOST_KEYS};
 ghost use Rattle.pr_roles.specs.Fitting.{is_reservation};
 ghost use Rattle.pr_sets.specs.Numbers.{most};
-ghost use Rattle.pr_sets.specs.Words.{has};
+ghost use Rattle.pr_sets.specs.BitSets.{has};
 ghost use Rattle.pr_sets.specs.Wides.{has_wide};
 ghost use Rattle.pr_views.specs.Possibilities.{number_of};
 ghost use Rattle.pr_interference.specs.inside.Clauses.{IsClause};
@@ -22,7 +22,7 @@ use pr_cdb::Kind;
 use pr_regions::{every_key, number_in, reservation_number};
 use pr_registry::{Held, is_all, new_reservation};
 use pr_roles::{Action, Clause};
-use pr_sets::{Wide, Word};
+use pr_sets::{BitSet, Wide};
 
 impl Onlooker<'_> {
     /// What a command of this clause reaches at most, whatever is reserved: no less than [`reach`](Onlooker::reach), and soon
@@ -88,7 +88,7 @@ impl Onlooker<'_> {
             → is_kind old kind ≡ false → HasEveryKeyBut key result.told_04 }
         ensures told_05 { has result.told_05 key ≡ true }
     {
-        let named = Word::only(key);
+        let named = BitSet::only(key);
         Reach {
             given: none_if(self.may_have(self.other, key)),
             removed: named,
@@ -96,7 +96,7 @@ impl Onlooker<'_> {
             told_04: if self.may_be_of_another_type(kind) {
                 every_key().without(key)
             } else {
-                Word::none()
+                BitSet::none()
             },
             told_05: named,
             ..Reach::none()

@@ -3,8 +3,8 @@ pub use Rattle.std.proofs.Common.{◌≡◌, ℕ, zero, suc, ◌+◌, ◌*◌, �
 pub use Rattle.std.specs.List.{position, list_any}
 pub use Rattle.std.proofs.lemmas.Bool.{not-true, false≢true}
 pub use Rattle.std.proofs.lemmas.Bool.Decides.{nat_tests, eqb_tells}
-pub use Rattle.pr_sets.specs.Words.{has}
-pub use Rattle.pr_sets.specs.declared.word.Word.{Word}
+pub use Rattle.pr_sets.specs.BitSets.{has}
+pub use Rattle.pr_sets.specs.declared.bit_set.BitSet.{BitSet}
 pub use Rattle.pr_cdb.specs.declared.command.Command.{Command}
 pub use Rattle.pr_cdb.specs.declared.command.Command.TheVariants.{ReadKeys}
 pub use Rattle.pr_cdb.specs.declared.command.Kind.{Kind}
@@ -34,3 +34,5 @@ pub use Rattle.pr_regions.specs.declared.region.Transition.{Transition}
 pub use Rattle.pr_regions.specs.declared.region.Ending.TheVariants.{Conflict, Fault, Good}
 pub use Rattle.pr_regions.specs.inside.Parts.{Does, AlwaysEnds, never, is_unregistered, holds, any, only, is_of_registrant, told_if, but, another, told_but, lost_if, is_named, Leaves, EndsIn, Tell}
 pub use Rattle.pr_regions.specs.inside.Reads.{IsKnown, answer}
+pub use Rattle.pr_roles.specs.declared.limits.TheConstants.{MOST_KEYS}
+pub use Rattle.pr_views.specs.declared.view.TheConstants.{ATTENTION_SETS}

@@ -1,3 +1,4 @@
+pub mod Conditions
 pub mod Images
 pub mod Keeping
 pub mod Parts

@@ -1,3 +1,4 @@
+pub mod Conditions
 pub mod Purposes
 pub mod Regions
 pub mod Readings

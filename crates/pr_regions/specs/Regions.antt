@@ -10,8 +10,8 @@ use Rattle.pr_unit.specs.UnitStates.{UnitState, IsWellFormed, effect}
 use Rattle.pr_unit.specs.Conflicts.{command_conflicts}
 use Rattle.pr_unit.specs.Faults.{command_fault}
 use Rattle.pr_roles.specs.declared.limits.TheConstants.{MOST_KEYS}
-use Rattle.pr_sets.specs.declared.word.Word.{Word}
-use Rattle.pr_sets.specs.Words.{has}
+use Rattle.pr_sets.specs.declared.bit_set.BitSet.{BitSet}
+use Rattle.pr_sets.specs.BitSets.{has}
 use Rattle.pr_views.specs.declared.view.TheConstants.{RESERVATIONS_PREEMPTED_BIT, RESERVATIONS_RELEASED_BIT, REGISTRATIONS_PREEMPTED_BIT}
 use Rattle.pr_views.specs.Possibilities.{Scope, IsScope, Registration, Reservation, Attentions, IsSo, count_of_reservations}
 use Rattle.pr_views.specs.Portions.{HasSomebody}
@@ -62,7 +62,7 @@ pub record Meets (s : Scope) (asked : Purpose) (reserved : Option Held) (sender 
 -- ---- which states are in a region
 
 -- the registrations that a region leaves to g: those of the single holder, or those of any other
-abbrev pub filter_of : Region → Option Held → ℕ → Word
+abbrev pub filter_of : Region → Option Held → ℕ → BitSet
 filter_of region None g = region.others
 filter_of region (Some (One kind h)) g = if h == g then region.holder else region.others
 filter_of region (Some (All kind)) g = region.others
@@ -124,7 +124,7 @@ AreBranches hosts purpose held sender standing branches =
 -- ---- limits that branches keep
 
 -- that a nexus is not registered passes no test
-abbrev pub IsUntestedOrRegistered : Option Word → Type 0
+abbrev pub IsUntestedOrRegistered : Option BitSet → Type 0
 IsUntestedOrRegistered None = Unit {0}
 IsUntestedOrRegistered (Some w) = has w 0 ≡ false
 

@@ -2,20 +2,20 @@
 
 ghost use Rattle.std.specs.Prelude.{◌≤◌, ℕ, unwrap_or};
 ghost use Rattle.pr_roles.specs.declared.limits.TheConstants.{MOST_KEYS};
-ghost use Rattle.pr_sets.specs.Words.{has};
+ghost use Rattle.pr_sets.specs.BitSets.{has};
 ghost use Rattle.pr_views.specs.Portions.{has_at};
 ghost use Rattle.pr_regions.specs.Images.{IsImage, registration_left, becomes};
 
 use crate::region::Transition;
 use pr_cdb::codes::MOST_NEXUSES;
-use pr_sets::Word;
+use pr_sets::BitSet;
 
 /// What becomes of the registrations of each nexus by a change of the sender's.
 pub fn registrations_after(
-    words: &[Word; MOST_NEXUSES],
+    words: &[BitSet; MOST_NEXUSES],
     sender: u8,
     change: &Transition,
-) -> [Word; MOST_NEXUSES]
+) -> [BitSet; MOST_NEXUSES]
     requires { unwrap_or change.now.sender 0 ≤ MOST_KEYS }
     ensures { (g : ℕ) → IsImage (has_at words.now g) (becomes sender change.now g)
         (has_at result g) }
@@ -33,18 +33,18 @@ pub fn registrations_after(
 }
 
 // The sender's registrations after the change.
-fn with_given(word: Word, to: Option<u8>) -> Word
+fn with_given(word: BitSet, to: Option<u8>) -> BitSet
     requires { unwrap_or to 0 ≤ MOST_KEYS }
     ensures { IsImage (has word) (λ r. unwrap_or to r) (has result) }
 {
     match to {
-        Some(registration) if !word.is_empty() => Word::only(registration),
+        Some(registration) if !word.is_empty() => BitSet::only(registration),
         _ => word,
     }
 }
 
 // Another's: none in the place of those that are removed.
-fn without_removed(word: Word, removed: Word) -> Word
+fn without_removed(word: BitSet, removed: BitSet) -> BitSet
     ensures { IsImage (has word) (registration_left removed) (has result) }
 {
     if word.and(removed).is_empty() {

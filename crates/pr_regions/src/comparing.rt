@@ -2,12 +2,12 @@
 
 ghost use Rattle.std.specs.Prelude.{◌≡◌, ◌≤◌, ℕ, true, false, IsTrue};
 ghost use Rattle.pr_cdb.specs.declared.codes.TheConstants.{MOST_NEXUSES};
-ghost use Rattle.pr_sets.specs.Words.{has};
+ghost use Rattle.pr_sets.specs.BitSets.{has};
 ghost use Rattle.pr_sets.specs.Wides.{has_wide};
 ghost use Rattle.pr_views.specs.Possibilities.{Scope};
 ghost use Rattle.pr_regions.specs.Keeping.{IsNew, IsWithinOf};
 
-use pr_sets::{Wide, Word};
+use pr_sets::{BitSet, Wide};
 use pr_views::Possibilities;
 
 /// Whether the new possibilities have one that the old ones are without.
@@ -25,7 +25,7 @@ pub fn gains(hosts: u8, old: &Possibilities, new: &Possibilities) -> bool
 }
 
 // Whether the one set has a number that the other has not.
-fn exceeds(new: Word, old: Word) -> bool
+fn exceeds(new: BitSet, old: BitSet) -> bool
     ensures gained { IsTrue result → (n : ℕ) × (has new n ≡ true) × (has old n ≡ false) }
     ensures none { result ≡ false → (n : ℕ) → has new n ≡ true → has old n ≡ true }
 {

@@ -8,6 +8,7 @@ ghost use Rattle.pr_regions.specs.Purposes.{HasNumber};
 ghost use Rattle.pr_regions.specs.Regions.{HasRoom};
 ghost use Rattle.pr_regions.specs.inside.Parts.{Does, AlwaysEnds, EndsFor, never, told_if, holds, keeps_from_reading, keeps_from_writing, is_kept_from};
 
+use crate::conditions::is_holder_as;
 use crate::initiator::Initiator;
 use crate::numbers::reservation_number;
 use crate::purpose::{Purpose, Standing};
@@ -19,24 +20,21 @@ use pr_cdb::codes::{
     LOGICAL_BLOCK_ADDRESS_OUT_OF_RANGE,
 };
 use pr_registry::{Held, is_for_registrants, is_held_by_all, is_kind, kind_of, new_reservation};
-use pr_sets::Word;
+use pr_sets::BitSet;
 use pr_unit::illegal;
 
 // Whether a sender whose registration matches so holds the reservation.
 fn holds(held: Held, sender: u8, standing: Standing) -> bool
     ensures { result ≡ holds held sender standing }
 {
-    match held {
-        Held::One(_, holder) => holder == sender,
-        Held::All(_) => standing != Standing::Unregistered,
-    }
+    is_holder_as(Some(held), sender, standing != Standing::Unregistered)
 }
 
 // A change that leaves everything, and this reservation.
 pub(crate) fn change_to_reservation(reservation: u8) -> Transition
     ensures { Does result None never reservation never never never }
 {
-    let none = Word::none();
+    let none = BitSet::none();
     Transition {
         sender: None,
         removed: none,

@@ -3,7 +3,7 @@
 ghost use Rattle.std.specs.Prelude.{◌≡◌, ◌≤◌, ℕ, true, None, IfSome, IfNone};
 ghost use Rattle.pr_cdb.specs.declared.codes.TheConstants.{MOST_NEXUSES};
 ghost use Rattle.pr_roles.specs.declared.limits.TheConstants.{MOST_KEYS};
-ghost use Rattle.pr_sets.specs.Words.{has};
+ghost use Rattle.pr_sets.specs.BitSets.{has};
 ghost use Rattle.pr_views.specs.Possibilities.{count_of_reservations};
 ghost use Rattle.pr_regions.specs.Keeping.{IsKeptOf};
 ghost use Rattle.pr_regions.specs.inside.Showing.{AddsShown, IsShownOf, ShowsNone};
@@ -11,7 +11,7 @@ ghost use Rattle.pr_regions.specs.inside.Showing.{AddsShown, IsShownOf, ShowsNon
 use crate::place::Place;
 use crate::region::Region;
 use crate::words::every_key;
-use pr_sets::{Wide, Word};
+use pr_sets::{BitSet, Wide};
 use pr_views::{MOST_REGISTRATIONS, Possibilities, count_of_reservations};
 
 /// The view without the possibilities that none of the states that it shows has.
@@ -23,7 +23,7 @@ pub fn kept(hosts: u8, view: &Possibilities) -> Possibilities
     for reservation in 0..count_of_reservations(hosts) {
         if view.reservations.has(reservation) {
             let place = Place::of(hosts, 0, reservation);
-            place.add_kept(&mut kept, view, Word::only(0));
+            place.add_kept(&mut kept, view, BitSet::only(0));
             place.add_kept(&mut kept, view, every_key());
         }
     }
@@ -32,7 +32,7 @@ pub fn kept(hosts: u8, view: &Possibilities) -> Possibilities
 
 impl Place {
     // Adds what is so in some state of the place in which the sender has one of these registrations.
-    fn add_kept(&self, kept: &mut Possibilities, view: &Possibilities, senders: Word)
+    fn add_kept(&self, kept: &mut Possibilities, view: &Possibilities, senders: BitSet)
         ensures { AddsShown view.now self.now senders kept.old kept.new }
     {
         if let Some(shown) = self.shown(view, senders) {
@@ -41,7 +41,7 @@ impl Place {
     }
 
     // What is so in those states, if there are any.
-    fn shown(&self, view: &Possibilities, senders: Word) -> Option<Possibilities>
+    fn shown(&self, view: &Possibilities, senders: BitSet) -> Option<Possibilities>
         ensures some { IfSome result (IsShownOf view.now self.now senders) }
         ensures none { IfNone result (ShowsNone view.now self.now senders) }
     {
@@ -65,7 +65,7 @@ fn region_of_all() -> Region
     ensures others { (r : ℕ) → r ≤ MOST_KEYS → has result.others r ≡ true }
     ensures somebody { result.somebody ≡ None }
 {
-    let all = Word::below(MOST_REGISTRATIONS);
+    let all = BitSet::below(MOST_REGISTRATIONS);
     Region {
         holder: all,
         others: all,

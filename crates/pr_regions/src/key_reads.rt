@@ -11,12 +11,12 @@ ghost use Rattle.pr_regions.specs.Readings.{AreReadings, IsProperReading};
 ghost use Rattle.pr_regions.specs.inside.Reads.{read_keys, IsAsked, HasFewer, TestsFit, open_to};
 
 use crate::commands::number_in;
-use crate::region::{Reading, Region};
+use crate::region::{MOST_READINGS, Reading, Region};
 use crate::words::every_registration;
 use arrayvec::ArrayVec;
 use pr_cdb::Command;
 use pr_script::Test;
-use pr_sets::Word;
+use pr_sets::BitSet;
 
 // What a test asks of the keys that are read.
 #[derive(Clone, Copy)]
@@ -66,7 +66,7 @@ fn asked_by(test: Test, keys: &[u64], registration: u8) -> Ask
 }
 
 // The region in which all others have one of these registrations.
-fn open_to(left: Word) -> Region
+fn open_to(left: BitSet) -> Region
     ensures { result ≡ open_to left }
 {
     Region {
@@ -77,7 +77,11 @@ fn open_to(left: Word) -> Region
 }
 
 /// Which arm takes the data of READ KEYS, region by region.
-pub(crate) fn key_readings(tests: &[Test], keys: &[u64], registration: u8) -> ArrayVec<Reading, 17>
+pub(crate) fn key_readings(
+    tests: &[Test],
+    keys: &[u64],
+    registration: u8,
+) -> ArrayVec<Reading, MOST_READINGS>
     requires few { length keys.now ≤ MOST_KEYS }
     requires arms { length tests.now ≤ MOST_ARMS }
     requires fits { TestsFit keys.now read_keys tests.now }
@@ -100,7 +104,7 @@ pub(crate) fn key_readings(tests: &[Test], keys: &[u64], registration: u8) -> Ar
             Ask::Somebody(key) => {
                 readings.push(Reading {
                     region: Region {
-                        somebody: Some(Word::only(key)),
+                        somebody: Some(BitSet::only(key)),
                         ..open_to(left)
                     },
                     arm: Some(arm),

@@ -5,6 +5,7 @@ mod branching;
 mod changed;
 mod commands;
 mod comparing;
+mod conditions;
 mod dispatch;
 mod endings;
 mod initiator;

@@ -10,7 +10,7 @@ use crate::region::Region;
 use crate::words::every_key;
 use pr_cdb::codes::MOST_NEXUSES;
 use pr_registry::Held;
-use pr_sets::Word;
+use pr_sets::BitSet;
 use pr_views::{Portion, Possibilities};
 
 /// One reservation of a view, and who sends a command under it.
@@ -35,7 +35,7 @@ pub struct Place {
 impl Place {
     ghost use Rattle.pr_registry.specs.Registrations.{holds_alone};
     ghost use Rattle.pr_registry.specs.Changes.{is_held_by_all};
-    ghost use Rattle.pr_sets.specs.Words.{has};
+    ghost use Rattle.pr_sets.specs.BitSets.{has};
     ghost use Rattle.pr_regions.specs.Gathering.{HasAll, HasNone, HasNoneBeyond, IsGatheredIn};
     ghost use Rattle.pr_regions.specs.inside.Portions.{passes, IsLeftAt, IsLeftTo, IsSameAt, HasTest};
 
@@ -61,9 +61,9 @@ impl Place {
     pub fn gather(
         &self,
         view: &Possibilities,
-        senders: Word,
+        senders: BitSet,
         region: &Region,
-    ) -> Option<[Word; MOST_NEXUSES]>
+    ) -> Option<[BitSet; MOST_NEXUSES]>
         ensures some { IfSome result (IsGatheredIn view.now self.now senders region.now) }
         ensures beyond { IfSome result (HasNoneBeyond self.now.hosts) }
         ensures none { IfNone result (HasNone view.now self.now senders region.now) }
@@ -75,16 +75,16 @@ impl Place {
     pub fn gathered_at_most(
         &self,
         view: &Possibilities,
-        senders: Word,
+        senders: BitSet,
         region: &Region,
-    ) -> [Word; MOST_NEXUSES]
+    ) -> [BitSet; MOST_NEXUSES]
         ensures { HasAll view.now self.now senders region.now result }
     {
         self.portion(view, senders, region).registrations
     }
 
     // The portion of the view that those states are.
-    fn portion(&self, view: &Possibilities, senders: Word, region: &Region) -> Portion
+    fn portion(&self, view: &Possibilities, senders: BitSet, region: &Region) -> Portion
         ensures sender { result.sender ≡ self.now.sender }
         ensures reservation { result.reservation ≡ self.now.reservation }
         ensures left { IsLeftTo view.now self.now senders region.now result }
@@ -100,12 +100,12 @@ impl Place {
     }
 
     // What the portion leaves to each: one rule for all, but for the sender and for who holds alone.
-    fn left(&self, view: &Possibilities, senders: Word, region: &Region) -> [Word; MOST_NEXUSES]
+    fn left(&self, view: &Possibilities, senders: BitSet, region: &Region) -> [BitSet; MOST_NEXUSES]
         ensures left { (g r : ℕ) → g < self.now.hosts
             → IsLeftAt view.now self.now senders region.now result g r }
         ensures beyond { HasNoneBeyond self.now.hosts result }
     {
-        let mut words = [Word::none(); MOST_NEXUSES];
+        let mut words = [BitSet::none(); MOST_NEXUSES];
         for host in 0..usize::from(self.hosts) {
             words[host] = view.registrations[host].and(region.others);
         }
@@ -117,9 +117,9 @@ impl Place {
     // Puts what the portion leaves to who holds alone, if one does, into its place.
     fn leave_to_holder(
         &self,
-        words: &mut [Word; MOST_NEXUSES],
+        words: &mut [BitSet; MOST_NEXUSES],
         view: &Possibilities,
-        senders: Word,
+        senders: BitSet,
         region: &Region,
     )
         ensures holder { (g r : ℕ) → g < self.now.hosts → holds_alone self.now.held g ≡ true
@@ -135,10 +135,10 @@ impl Place {
     // Puts what the portion leaves to one of them into its place.
     fn leave_to(
         &self,
-        words: &mut [Word; MOST_NEXUSES],
+        words: &mut [BitSet; MOST_NEXUSES],
         g: u8,
         view: &Possibilities,
-        senders: Word,
+        senders: BitSet,
         region: &Region,
     )
         ensures here { g < self.now.hosts → (r : ℕ)
@@ -153,7 +153,7 @@ impl Place {
     }
 
     // What it leaves to one of them.
-    fn left_to(&self, g: u8, word: Word, senders: Word, region: &Region) -> Word
+    fn left_to(&self, g: u8, word: BitSet, senders: BitSet, region: &Region) -> BitSet
         ensures { (r : ℕ) → has result r ≡ (has word r && passes self.now senders region.now g r) }
     {
         let alone = matches!(self.held, Some(Held::One(_, holder)) if holder == g);
@@ -169,7 +169,7 @@ impl Place {
     }
 
     // Under types 7 and 8 all registrants hold the reservation. So where the sender is none, somebody else is registered.
-    fn somebody(&self, senders: Word, somebody: Option<Word>) -> Option<Word>
+    fn somebody(&self, senders: BitSet, somebody: Option<BitSet>) -> Option<BitSet>
         ensures { HasTest self.now senders somebody result }
     {
         match somebody {
@@ -179,7 +179,7 @@ impl Place {
         }
     }
 
-    fn needs_another(&self, senders: Word) -> bool
+    fn needs_another(&self, senders: BitSet) -> bool
         ensures { result ≡ (is_held_by_all self.now.held && has senders 0) }
     {
         matches!(self.held, Some(Held::All(_))) && senders.has(0)

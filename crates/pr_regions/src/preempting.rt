@@ -17,7 +17,7 @@ use crate::words::{another_than, anything_but, free_or};
 use arrayvec::ArrayVec;
 use pr_cdb::Kind;
 use pr_registry::{Held, is_kind};
-use pr_sets::Word;
+use pr_sets::BitSet;
 
 // What changes where the key is the single holder's, which holds by this type: the reservation is replaced.
 fn replacement_change(asked: Preemption, old: Kind) -> Transition
@@ -27,8 +27,8 @@ fn replacement_change(asked: Preemption, old: Kind) -> Transition
     ensures room { HasRoom asked.sender.hosts (Ending.Good result) }
 {
     let mut change = Transition {
-        removed: Word::only(asked.key),
-        told_05: Word::only(asked.key),
+        removed: BitSet::only(asked.key),
+        told_05: BitSet::only(asked.key),
         ..new_change(asked.sender, asked.kind)
     };
     if !is_kind(old, asked.kind) {
@@ -43,8 +43,8 @@ fn removal_change(key: u8, is_own: bool, reservation: u8) -> Transition
     ensures { Does result (lost_if is_own) (only key) reservation never never (only key) }
 {
     let mut change = Transition {
-        removed: Word::only(key),
-        told_05: Word::only(key),
+        removed: BitSet::only(key),
+        told_05: BitSet::only(key),
         ..change_to_reservation(reservation)
     };
     if is_own {
@@ -63,7 +63,7 @@ fn preempting_others(asked: Preemption) -> ArrayVec<Branch, 3>
     let number = reservation_number(sender.hosts, sender.held);
     let somebody_has = Branch {
         region: Region {
-            somebody: Some(Word::only(asked.key)),
+            somebody: Some(BitSet::only(asked.key)),
             ..Region::whole()
         },
         ending: Ending::Good(removal_change(asked.key, false, number)),
@@ -125,7 +125,7 @@ fn preempting_holder(asked: Preemption, old: Kind, holder: u8) -> ArrayVec<Branc
     let number = reservation_number(sender.hosts, sender.held);
     let holder_has = Branch {
         region: Region {
-            holder: Word::only(asked.key),
+            holder: BitSet::only(asked.key),
             ..Region::whole()
         },
         ending: Ending::Good(replacement_change(asked, old)),
@@ -143,7 +143,7 @@ fn preempting_holder(asked: Preemption, old: Kind, holder: u8) -> ArrayVec<Branc
     }
     let somebody_has = Branch {
         region: Region {
-            somebody: Some(Word::only(asked.key)),
+            somebody: Some(BitSet::only(asked.key)),
             ..another
         },
         ending: Ending::Good(removal_change(asked.key, false, number)),

@@ -8,7 +8,7 @@ ghost use Rattle.pr_roles.specs.declared.limits.TheConstants.{MOST_KEYS};
 ghost use Rattle.pr_regions.specs.Readings.{AreReadingsOfAny, IsProperReading};
 
 use crate::key_reads::key_readings;
-use crate::region::Reading;
+use crate::region::{MOST_READINGS, Reading};
 use crate::reservation_reads::reservation_readings;
 use arrayvec::ArrayVec;
 use pr_cdb::Command;
@@ -24,7 +24,7 @@ pub fn readings(
     held: Option<Held>,
     sender: u8,
     registration: u8,
-) -> ArrayVec<Reading, 17>
+) -> ArrayVec<Reading, MOST_READINGS>
     requires arms { length tests.now ≤ MOST_ARMS }
     requires few { length keys.now ≤ MOST_KEYS }
     requires reads { IsTrue (is_read_keys command || is_read_reservation command) }

@@ -10,12 +10,12 @@ ghost use Rattle.pr_regions.specs.Readings.{AreReadingsOfAny, IsProperReading};
 ghost use Rattle.pr_regions.specs.inside.Reads.{passes_held, read_reservation, AreReadingsByHolder, IsEverywhere, TestsFit};
 
 use crate::commands::is_key;
-use crate::region::{Reading, Region};
+use crate::region::{MOST_READINGS, Reading, Region};
 use arrayvec::ArrayVec;
 use pr_cdb::Command;
 use pr_registry::Held;
 use pr_script::Test;
-use pr_sets::Word;
+use pr_sets::BitSet;
 
 // Whether the test matches data with a reservation of this key, or with none.
 fn passes(key: Option<u64>, test: Test) -> bool
@@ -53,7 +53,7 @@ fn key_at(keys: &[u64], number: u8) -> u64
 }
 
 // The same arm in all states.
-fn everywhere(arm: Option<usize>) -> ArrayVec<Reading, 17>
+fn everywhere(arm: Option<usize>) -> ArrayVec<Reading, MOST_READINGS>
     ensures all { IsEverywhere arm result.items }
     ensures proper { All IsProperReading result.items }
 {
@@ -66,7 +66,7 @@ fn everywhere(arm: Option<usize>) -> ArrayVec<Reading, 17>
 }
 
 // By the key of another host that holds the reservation alone.
-fn by_holder(tests: &[Test], keys: &[u64]) -> ArrayVec<Reading, 17>
+fn by_holder(tests: &[Test], keys: &[u64]) -> ArrayVec<Reading, MOST_READINGS>
     requires few { length keys.now ≤ MOST_KEYS }
     requires fits { TestsFit keys.now read_reservation tests.now }
     ensures right { AreReadingsByHolder keys.now tests.now result.items }
@@ -76,7 +76,7 @@ fn by_holder(tests: &[Test], keys: &[u64]) -> ArrayVec<Reading, 17>
     for (place, key) in keys.iter().enumerate() {
         readings.push(Reading {
             region: Region {
-                holder: Word::only(place as u8 + 1),
+                holder: BitSet::only(place as u8 + 1),
                 ..Region::whole()
             },
             arm: first_arm(tests, Some(*key)),
@@ -92,7 +92,7 @@ fn held_readings(
     held: Held,
     sender: u8,
     registration: u8,
-) -> ArrayVec<Reading, 17>
+) -> ArrayVec<Reading, MOST_READINGS>
     requires few { length keys.now ≤ MOST_KEYS }
     requires fits { TestsFit keys.now read_reservation tests.now }
     requires known { registration ≤ length keys.now }
@@ -119,7 +119,7 @@ pub(crate) fn reservation_readings(
     held: Option<Held>,
     sender: u8,
     registration: u8,
-) -> ArrayVec<Reading, 17>
+) -> ArrayVec<Reading, MOST_READINGS>
     requires few { length keys.now ≤ MOST_KEYS }
     requires fits { TestsFit keys.now read_reservation tests.now }
     requires known { registration ≤ length keys.now }

@@ -15,7 +15,7 @@ use crate::region::{Branch, Ending, Region, Transition};
 use crate::words::every_key;
 use arrayvec::ArrayVec;
 use pr_registry::{Held, is_held_by_all};
-use pr_sets::Word;
+use pr_sets::BitSet;
 
 // What unregistering changes where not all registrants hold: a single holder's reservation ends.
 fn unregister_change(sender: Initiator) -> Transition
@@ -53,7 +53,7 @@ fn unregistering_registrant(sender: Initiator) -> ArrayVec<Branch, 3>
     };
     let nobody_stays = Branch {
         region: Region {
-            others: Word::only(0),
+            others: BitSet::only(0),
             ..Region::whole()
         },
         ending: Ending::Good(Transition {

@@ -1,39 +1,39 @@
 //! Words of registrations: 0 for none, and 1 to 12 for the declared keys.
 
 ghost use Rattle.std.specs.Prelude.{◌≡◌, ◌≤◌, ◌==◌, ◌&&◌, ℕ, true, false, not};
-ghost use Rattle.pr_sets.specs.Words.{has};
+ghost use Rattle.pr_sets.specs.BitSets.{has};
 ghost use Rattle.pr_roles.specs.declared.limits.TheConstants.{MOST_KEYS};
 ghost use Rattle.pr_regions.specs.inside.Parts.{HasThose, any, never, but, another, free_or};
 
-use pr_sets::Word;
+use pr_sets::BitSet;
 use pr_views::MOST_REGISTRATIONS;
 
 // Every registration.
-pub(crate) fn every_registration() -> Word
+pub(crate) fn every_registration() -> BitSet
     ensures { HasThose result any }
 {
-    Word::below(MOST_REGISTRATIONS)
+    BitSet::below(MOST_REGISTRATIONS)
 }
 
 /// The registrations by a key.
-pub fn every_key() -> Word
+pub fn every_key() -> BitSet
     ensures keys { (r : ℕ) → 1 ≤ r → r ≤ MOST_KEYS → has result r ≡ true }
     ensures none { has result 0 ≡ false }
 {
-    Word::below(MOST_REGISTRATIONS).without(0)
+    BitSet::below(MOST_REGISTRATIONS).without(0)
 }
 
 // Every registration but this one.
-pub(crate) fn anything_but(registration: u8) -> Word
+pub(crate) fn anything_but(registration: u8) -> BitSet
     requires { registration ≤ MOST_KEYS }
     ensures { HasThose result (but registration) }
 {
-    Word::below(MOST_REGISTRATIONS).without(registration)
+    BitSet::below(MOST_REGISTRATIONS).without(registration)
 }
 
 // Every key but the one of this number.
 #[tactic(auto, using(crate::proofs::lemmas::Parts::Keys::keys_those))]
-pub(crate) fn another_than(key: u8) -> Word
+pub(crate) fn another_than(key: u8) -> BitSet
     requires { key ≤ MOST_KEYS }
     ensures { HasThose result (another key) }
 {
@@ -41,9 +41,9 @@ pub(crate) fn another_than(key: u8) -> Word
 }
 
 // None, or the key of this number.
-pub(crate) fn free_or(key: u8) -> Word
+pub(crate) fn free_or(key: u8) -> BitSet
     requires { key ≤ MOST_KEYS }
     ensures { HasThose result (free_or key) }
 {
-    Word::only(0).with(key)
+    BitSet::only(0).with(key)
 }

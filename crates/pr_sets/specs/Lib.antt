@@ -1,5 +1,5 @@
 pub mod Numbers
-pub mod Words
+pub mod BitSets
 pub mod Wides
 pub mod Kept
 pub mod Laws

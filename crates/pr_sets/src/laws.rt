@@ -2,10 +2,10 @@
 
 ghost use Rattle.std.specs.Prelude.{◌≡◌};
 ghost use Rattle.pr_sets.specs.Numbers.{most};
-ghost use Rattle.pr_sets.specs.Words.{word_size};
+ghost use Rattle.pr_sets.specs.BitSets.{bit_set_size};
 ghost use Rattle.pr_sets.specs.Laws.{InclusionIsAnOrder, UnionIsTheLeastAbove, UnionKeepsWhatHasIt, EmptyIsTheLeast, InsertAddsOne};
 
-use crate::{MOST, WORD_SIZE};
+use crate::{BIT_SET_SIZE, MOST};
 
 /// Inclusion is reflexive and transitive, and sets within each other are equal.
 pub fn inclusion_is_an_order()
@@ -32,8 +32,8 @@ pub fn insert_adds_one()
     ensures { InsertAddsOne }
 {}
 
-/// The code's bounds of a set and of a word are those that the definitions name.
+/// The code's bounds of a set and of a bit set are those that the definitions name.
 pub fn bounds_agree()
     ensures set { MOST ≡ most }
-    ensures word { WORD_SIZE ≡ word_size }
+    ensures bit_set { BIT_SET_SIZE ≡ bit_set_size }
 {}

@@ -5,7 +5,7 @@ ghost use Rattle.pr_sets.specs.Numbers.{most};
 ghost use Rattle.pr_sets.specs.Wides.{has_wide};
 
 /// A set of numbers below 128, for reckoning with whole sets at a time. Sets of numbers below 16 take an eighth of its room
-/// as a [`Word`](crate::Word).
+/// as a [`BitSet`](crate::BitSet).
 #[derive(Clone, Copy, PartialEq, Eq)]
 pub struct Wide {
     bits: u128,

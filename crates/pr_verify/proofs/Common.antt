@@ -76,3 +76,4 @@ unfoldable pub use Rattle.pr_verify.specs.inside.Listing.{AreInRange}
 pub use Rattle.pr_verify.specs.inside.Reviewing.{IsLackingOfSends, IsUnarmed, IsFirstUnarmed}
 pub use Rattle.pr_verify.specs.inside.Tabling.{IsInRange}
 pub use Rattle.pr_verify.specs.inside.Underway.{outline_of_sketch, IsSettled, Closes}
+pub use Rattle.pr_script.specs.declared.limits.TheConstants.{MOST_ARMS}

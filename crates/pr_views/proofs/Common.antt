@@ -4,8 +4,8 @@ pub use Rattle.std.specs.List.{slice_get}
 pub use Rattle.std.proofs.lemmas.Bool.{lt-ltb, le-ltb, false≢true, and_parts, ltb-true, cases_lt}
 pub use Rattle.std.proofs.lemmas.Bool.Decides.{nat_tests}
 pub use Rattle.pr_sets.specs.Wides.{has_wide}
-pub use Rattle.pr_sets.specs.Words.{has}
-pub use Rattle.pr_sets.specs.declared.word.Word.{Word}
+pub use Rattle.pr_sets.specs.BitSets.{has}
+pub use Rattle.pr_sets.specs.declared.bit_set.BitSet.{BitSet}
 pub use Rattle.pr_registry.specs.Registrations.{is_all}
 pub use Rattle.pr_registry.specs.declared.held.Held.{Held}
 pub use Rattle.pr_registry.specs.declared.held.Held.TheVariants.{One, All}
@@ -16,3 +16,4 @@ pub use Rattle.pr_views.specs.Portions.{has_at, AreFilled}
 pub use Rattle.pr_views.specs.Possibilities.{Registration, Reservation, Attentions, IsSo}
 pub use Rattle.pr_views.specs.Rooms.{contains_at}
 pub use Rattle.pr_views.specs.Views.{Fits}
+pub use Rattle.pr_roles.specs.declared.limits.TheConstants.{MOST_KEYS}

@@ -7,8 +7,8 @@ use Rattle.pr_registry.specs.declared.held.Held.{Held}
 use Rattle.pr_registry.specs.declared.held.Held.TheVariants.{One, All}
 use Rattle.pr_unit.specs.UnitStates.{UnitState}
 use Rattle.pr_roles.specs.Fitting.{is_reservation}
-use Rattle.pr_sets.specs.declared.word.Word.{Word}
-use Rattle.pr_sets.specs.Words.{has}
+use Rattle.pr_sets.specs.declared.bit_set.BitSet.{BitSet}
+use Rattle.pr_sets.specs.BitSets.{has}
 use Rattle.pr_sets.specs.Wides.{has_wide}
 use Rattle.pr_views.specs.declared.portion.Portion.{Portion}
 use Rattle.pr_views.specs.declared.possibilities.Possibilities.{Possibilities}
@@ -16,7 +16,7 @@ use Rattle.pr_views.specs.Possibilities.{Scope, Item, Registration, Reservation,
 use Rattle.pr_views.specs.Views.{View, Shows}
 
 -- n is in the word at this place of the list
-abbrev pub has_at : List Word → ℕ → ℕ → Bool
+abbrev pub has_at : List BitSet → ℕ → ℕ → Bool
 has_at words g n = option_map_or (λ w. has w n) (slice_get words g) false
 
 -- the view that possibilities are, to whom they belong
@@ -44,7 +44,7 @@ pub record IsTogether (v : View) (p : Portion) (i : Item) (q : ℕ) : Type 0 whe
   pub pending : IsSo v.scope unit (Attentions q)
 
 -- a registration of none does not pass the test
-abbrev pub TestsRegistered : Option Word → Type 0
+abbrev pub TestsRegistered : Option BitSet → Type 0
 TestsRegistered None = ⊥
 TestsRegistered (Some w) = has w 0 ≡ false
 
@@ -62,16 +62,16 @@ pub record IsPortion (v : View) (p : Portion) : Type 0 where
   pub holder : (held : Option Held) → is_reservation v.scope.hosts held ≡ true → p.reservation ≡ number_of v.scope.hosts held → GivesHolder p held
 
 -- each nexus that is there has some number
-abbrev pub AreFilled : ℕ → List Word → Type 0
+abbrev pub AreFilled : ℕ → List BitSet → Type 0
 AreFilled hosts words = (g : ℕ) → g < hosts → (n : ℕ) × (has_at words g n ≡ true)
 
 -- the numbers that each has here it has there
-abbrev pub AreWithin : List Word → List Word → Type 0
+abbrev pub AreWithin : List BitSet → List BitSet → Type 0
 AreWithin words others = (g n : ℕ) → has_at words g n ≡ true → has_at others g n ≡ true
 
 -- What the states of a portion have: of each nexus just these registrations, each beside any attentions of
 -- the owner that the view has.
-pub record IsProjected (v : View) (p : Portion) (registrations : List Word) : Type 0 where
+pub record IsProjected (v : View) (p : Portion) (registrations : List BitSet) : Type 0 where
   pub all : (u : UnitState) (g r : ℕ) → IsIn v p u → IsSo v.scope u (Registration g r) → has_at registrations g r ≡ true
   pub only : (g r q : ℕ) → g < v.scope.hosts → has_at registrations g r ≡ true → v.pending q ≡ true → IsTogether v p (Registration g r) q
   pub some : (q : ℕ) → v.pending q ≡ true → IsTogether v p (Reservation p.reservation) q

@@ -8,7 +8,7 @@ use Rattle.pr_sets.specs.Numbers.{Numbers}
 use Rattle.pr_sets.specs.declared.view_set.ViewSet.{Ghosts as ViewSet}
 use Rattle.pr_views.specs.declared.view.ViewOf.{ViewOf}
 use Rattle.pr_views.specs.Possibilities.{Scope, count_of_reservations, count_of_attentions}
-use Rattle.pr_sets.specs.Words.{has}
+use Rattle.pr_sets.specs.BitSets.{has}
 use Rattle.pr_sets.specs.Wides.{has_wide}
 use Rattle.pr_views.specs.declared.possibilities.Possibilities.{Possibilities}
 use Rattle.pr_views.specs.Views.{View}

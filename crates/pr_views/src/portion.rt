@@ -2,13 +2,13 @@
 
 ghost use Rattle.std.specs.Prelude.{◌≡◌, ◌≢◌, ℕ, ◌<◌, ◌≤◌, ◌&&◌, true, false, IsTrue, IfSome, IfNone};
 ghost use Rattle.pr_unit.specs.UnitStates.{UnitState};
-ghost use Rattle.pr_sets.specs.Words.{has};
+ghost use Rattle.pr_sets.specs.BitSets.{has};
 ghost use Rattle.pr_views.specs.Views.{View, Fits};
 ghost use Rattle.pr_views.specs.Portions.{has_at, IsIn, IsPortion, AreFilled, AreWithin, IsProjected};
 ghost use Rattle.pr_views.specs.inside.Passing.{LacksOne, CanPass, CannotPass, NonePasses, IsFirstPassing};
 
 use pr_cdb::codes::MOST_NEXUSES;
-use pr_sets::Word;
+use pr_sets::BitSet;
 
 /// Of the states that a view shows, those with one reservation, in which each nexus has one of some
 /// registrations, and, where there is a test, one other than the sender of a command has a registration that passes.
@@ -19,15 +19,15 @@ pub struct Portion {
     /// The reservation, by its number.
     pub reservation: u8,
     /// The registrations that each nexus may have.
-    pub registrations: [Word; MOST_NEXUSES],
+    pub registrations: [BitSet; MOST_NEXUSES],
     /// The registrations of which one other than the sender must have one.
-    pub somebody: Option<Word>,
+    pub somebody: Option<BitSet>,
 }
 
 impl Portion {
     /// What each nexus has in the states of the portion, of so many that are there. None where the portion
     /// has no state.
-    pub fn projected(&self, hosts: u8) -> Option<[Word; MOST_NEXUSES]>
+    pub fn projected(&self, hosts: u8) -> Option<[BitSet; MOST_NEXUSES]>
         requires few { (1 ≤ hosts) × (hosts ≤ MOST_NEXUSES) }
         requires sender { self.now.sender < hosts }
         ensures some { IfSome result (λ words. (v : View) → v.scope.hosts ≡ hosts → Fits v
@@ -65,7 +65,7 @@ impl Portion {
     }
 
     // Of the nexuses from a number on, the first that can pass the test.
-    fn first_passing(&self, test: Word, from: u8, hosts: u8) -> Option<u8>
+    fn first_passing(&self, test: BitSet, from: u8, hosts: u8) -> Option<u8>
         requires { hosts ≤ MOST_NEXUSES }
         ensures some { IfSome result (IsFirstPassing self.now test from hosts) }
         ensures none { IfNone result (NonePasses self.now test from hosts) }
@@ -79,7 +79,7 @@ impl Portion {
     }
 
     // Whether one other than the sender has a registration left that passes the test.
-    fn can_pass(&self, test: Word, host: u8) -> bool
+    fn can_pass(&self, test: BitSet, host: u8) -> bool
         requires { host < MOST_NEXUSES }
         ensures passes { IsTrue result → CanPass self.now test host }
         ensures fails { result ≡ false → CannotPass self.now test host }
@@ -88,7 +88,7 @@ impl Portion {
     }
 
     // What each has left where this one must pass the test.
-    fn passed_by(&self, test: Word, host: u8) -> [Word; MOST_NEXUSES]
+    fn passed_by(&self, test: BitSet, host: u8) -> [BitSet; MOST_NEXUSES]
         requires { host < MOST_NEXUSES }
         ensures here { (r : ℕ) → has_at result host r
             ≡ (has_at self.now.registrations host r && has test r) }

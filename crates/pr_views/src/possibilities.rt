@@ -1,20 +1,20 @@
 //! What is possible, as words.
 
 ghost use Rattle.std.specs.Prelude.{◌≡◌, ℕ, ◌||◌, false};
-ghost use Rattle.pr_sets.specs.Words.{has};
+ghost use Rattle.pr_sets.specs.BitSets.{has};
 ghost use Rattle.pr_sets.specs.Wides.{has_wide};
 ghost use Rattle.pr_views.specs.Portions.{has_at};
 
 use pr_cdb::codes::MOST_NEXUSES;
-use pr_sets::{Wide, Word};
+use pr_sets::{BitSet, Wide};
 
 /// The possibilities of a view as words, for reckoning: those of the first nexuses that are there, in
 /// the numbers of a view.
 #[derive(Clone, Copy, PartialEq, Eq)]
 pub struct Possibilities {
-    pub registrations: [Word; MOST_NEXUSES],
+    pub registrations: [BitSet; MOST_NEXUSES],
     pub reservations: Wide,
-    pub pending: Word,
+    pub pending: BitSet,
 }
 
 impl Possibilities {
@@ -25,9 +25,9 @@ impl Possibilities {
         ensures pending { (q : ℕ) → has result.pending q ≡ false }
     {
         Possibilities {
-            registrations: [Word::none(); MOST_NEXUSES],
+            registrations: [BitSet::none(); MOST_NEXUSES],
             reservations: Wide::none(),
-            pending: Word::none(),
+            pending: BitSet::none(),
         }
     }
 

@@ -4,13 +4,13 @@ ghost use Rattle.std.specs.Prelude.{◌≡◌, ◌<◌, ◌≤◌, ◌↔◌, �
 ghost use Rattle.std.specs.List.{All};
 ghost use Rattle.std.specs.FinSet as set;
 ghost use Rattle.pr_sets.specs.Numbers.{most};
-ghost use Rattle.pr_sets.specs.Words.{has, word_size};
+ghost use Rattle.pr_sets.specs.BitSets.{has, bit_set_size};
 ghost use Rattle.pr_sets.specs.Wides.{has_wide};
 ghost use Rattle.pr_views.specs.Portions.{has_at};
 ghost use Rattle.pr_views.specs.Rooms.{contains_at};
 
 use pr_cdb::codes::MOST_NEXUSES;
-use pr_sets::{ViewSet, Wide, Word};
+use pr_sets::{BitSet, ViewSet, Wide};
 use std::alloc::{AllocError, Global};
 use std::array;
 
@@ -30,8 +30,8 @@ pub(crate) fn empty_sets<S: ViewSet>(alloc: Global, size: u8) -> [S; MOST_NEXUSE
 }
 
 /// The set of a word's numbers, which are below the size.
-pub(crate) fn set_of<S: ViewSet>(alloc: Global, size: u8, word: Word) -> Result<S, AllocError>
-    requires few { size ≤ word_size }
+pub(crate) fn set_of<S: ViewSet>(alloc: Global, size: u8, word: BitSet) -> Result<S, AllocError>
+    requires few { size ≤ bit_set_size }
     requires below { (n : ℕ) → has word n ≡ true → n < size }
     ensures room { IfOk result (λ s. S.room s ≡ size) }
     ensures members { IfOk result (λ s. (n : ℕ) → set.contains (S.members s) n ≡ has word n) }
@@ -66,9 +66,9 @@ pub(crate) fn sets_of<S: ViewSet>(
     alloc: Global,
     size: u8,
     count: u8,
-    words: &[Word; MOST_NEXUSES],
+    words: &[BitSet; MOST_NEXUSES],
 ) -> Result<[S; MOST_NEXUSES], AllocError>
-    requires few { size ≤ word_size }
+    requires few { size ≤ bit_set_size }
     requires count { count ≤ MOST_NEXUSES }
     requires below { (g n : ℕ) → g < count → has_at words.now g n ≡ true → n < size }
     ensures room { IfOk result (All (λ s. S.room s ≡ size)) }
@@ -84,11 +84,11 @@ pub(crate) fn sets_of<S: ViewSet>(
 }
 
 /// The members of a set as a word.
-pub(crate) fn word_of<S: ViewSet>(numbers: &S) -> Word
-    requires { S.room numbers.now ≤ word_size }
+pub(crate) fn word_of<S: ViewSet>(numbers: &S) -> BitSet
+    requires { S.room numbers.now ≤ bit_set_size }
     ensures { (n : ℕ) → has result n ≡ set.contains (S.members numbers.now) n }
 {
-    let mut word = Word::none();
+    let mut word = BitSet::none();
     for n in 0..numbers.size() {
         if numbers.has(n) {
             word = word.with(n);
@@ -111,13 +111,13 @@ pub(crate) fn wide_of<S: ViewSet>(numbers: &S) -> Wide
 }
 
 /// The members of the first sets as words. The others are empty.
-pub(crate) fn words_of<S: ViewSet>(sets: &[S; MOST_NEXUSES], count: u8) -> [Word; MOST_NEXUSES]
+pub(crate) fn words_of<S: ViewSet>(sets: &[S; MOST_NEXUSES], count: u8) -> [BitSet; MOST_NEXUSES]
     requires count { count ≤ MOST_NEXUSES }
-    requires small { All (λ s. S.room s ≤ word_size) sets.now }
+    requires small { All (λ s. S.room s ≤ bit_set_size) sets.now }
     ensures there { (g n : ℕ) → g < count → has_at result g n ≡ contains_at S.members sets.now g n }
     ensures past { (g n : ℕ) → count ≤ g → has_at result g n ≡ false }
 {
-    let mut words = [Word::none(); MOST_NEXUSES];
+    let mut words = [BitSet::none(); MOST_NEXUSES];
     for host in 0..count {
         let place = usize::from(host);
         words[place] = word_of(&sets[place]);

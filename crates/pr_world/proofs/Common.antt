@@ -38,3 +38,4 @@ pub use Rattle.pr_world.specs.declared.participant.Participant.{Participant}
 pub use Rattle.pr_world.specs.inside.Auditing.{IsJudged, Reaches}
 pub use Rattle.pr_world.specs.inside.Participations.{Participation, participation_of, schedule_by, HappensBy, StandsFor, schedule_of}
 pub use Rattle.pr_world.specs.inside.Turns.{does}
+pub use Rattle.pr_cdb.specs.declared.codes.TheConstants.{MOST_CDB_LENGTH, PARAMETER_LIST_LENGTH}

@@ -12,7 +12,7 @@ use Rattle.pr_roles.specs.declared.parts.Parts.{Parts}
 use Rattle.pr_roles.specs.Fitting.{is_reservation}
 use Rattle.pr_roles.specs.Scenarios.{Scenario, Nexus, nexus}
 use Rattle.pr_roles.specs.inside.StoredStarts.{start_of}
-use Rattle.pr_sets.specs.Words.{has}
+use Rattle.pr_sets.specs.BitSets.{has}
 use Rattle.pr_sets.specs.Wides.{has_wide}
 use Rattle.pr_views.specs.declared.possibilities.Possibilities.{Possibilities}
 use Rattle.pr_views.specs.Possibilities.{Scope, key_at, number_of, count_of_attentions}

@@ -1,19 +1,15 @@
 -- Whether a role permits a host's command, wherever the command ends GOOD.
-use Rattle.std.specs.Prelude.{◌≡◌, ◌↔◌, ℕ, ◌<◌, length, Bool, true, false, not, ◌==◌, ◌&&◌, IsTrue, List, Option, Some, None, is_some, is_none}
+use Rattle.std.specs.Prelude.{◌≡◌, ◌↔◌, ℕ, ◌<◌, length, Bool, true, false, not, ◌==◌, ◌&&◌, IsTrue, List, Option, Some, None, is_none}
 use Rattle.std.specs.List.{All as Each, list_any, slice_get}
 use Rattle.pr_cdb.specs.declared.command.Command.{Command}
-use Rattle.pr_registry.specs.declared.held.Held.{Held}
-use Rattle.pr_registry.specs.declared.held.Held.TheVariants.{One, All}
 use Rattle.pr_unit.specs.UnitStates.{UnitState}
 use Rattle.pr_unit.specs.Conflicts.{command_conflicts}
 use Rattle.pr_unit.specs.Faults.{command_fault}
 use Rattle.pr_script.specs.Grammar.{is_written}
 use Rattle.pr_roles.specs.declared.role.Clause.{Clause}
-use Rattle.pr_roles.specs.declared.role.Condition.{Condition}
-use Rattle.pr_roles.specs.declared.role.Condition.TheVariants as condition
 use Rattle.pr_roles.specs.Permits.{names, clause_permits}
-use Rattle.pr_sets.specs.declared.word.Word.{Word}
-use Rattle.pr_sets.specs.Words.{has}
+use Rattle.pr_sets.specs.declared.bit_set.BitSet.{BitSet}
+use Rattle.pr_sets.specs.BitSets.{has}
 use Rattle.pr_views.specs.declared.possibilities.Possibilities.{Possibilities}
 use Rattle.pr_views.specs.Possibilities.{Scope, Attentions, IsSo}
 use Rattle.pr_views.specs.Views.{View, Shows, Fits}
@@ -22,6 +18,7 @@ use Rattle.pr_regions.specs.declared.region.Branch.{Branch}
 use Rattle.pr_regions.specs.declared.region.Transition.{Transition}
 use Rattle.pr_regions.specs.declared.region.Ending.TheVariants.{Good}
 use Rattle.pr_regions.specs.declared.place.Place.{Place}
+use Rattle.pr_regions.specs.Conditions.{holds_as}
 use Rattle.pr_regions.specs.Regions.{IsProper as IsProperBranch}
 use Rattle.pr_regions.specs.Gathering.{IsPlace, IsUniform, IsProper, IsThere}
 
@@ -60,35 +57,23 @@ pub record IsAsking (keys : List ℕ) (hosts sender : ℕ) (c : Command) (view :
 
 -- ---- a sender by the number of its registration
 
-abbrev pub holds_reservation : Option Held → ℕ → ℕ → Bool
-holds_reservation None sender r = false
-holds_reservation (Some (One kind h)) sender r = h == sender
-holds_reservation (Some (All kind)) sender r = not (r == 0)
-
--- the condition, if there is one, holds of the sender of the place where it has registration r
-abbrev pub holds_at : Option Condition → Place → ℕ → Bool
-holds_at None place r = true
-holds_at (Some condition.Registered) place r = not (r == 0)
-holds_at (Some condition.Holder) place r = holds_reservation place.held place.sender r
-holds_at (Some condition.Reserved) place r = is_some place.held
-
 -- the clause permits the command in every state
 abbrev pub permits_always : Clause → Command → Bool
 permits_always clause c = is_none clause.condition && names clause.action c
 
 abbrev pub permits_at : Clause → Command → Place → ℕ → Bool
-permits_at clause c place r = names clause.action c && holds_at clause.condition place r
+permits_at clause c place r = names clause.action c && holds_as clause.condition place.held place.sender (not (r == 0))
 
 -- ---- where the command ends GOOD
 
 -- The branch ends GOOD, and its region has a shown state in which nothing is pending for the owner.
-pub record IsReached (v : View) (place : Place) (senders : Word) (b : Branch) : Type 0 where
+pub record IsReached (v : View) (place : Place) (senders : BitSet) (b : Branch) : Type 0 where
   pub change : Transition
   pub good : b.ending ≡ Good change
   pub there : IsThere v place senders b.region 0
 
 -- so it is of one of the first n branches
-pub record IsOneReached (v : View) (place : Place) (senders : Word) (branches : List Branch) (n : ℕ) : Type 0 where
+pub record IsOneReached (v : View) (place : Place) (senders : BitSet) (branches : List Branch) (n : ℕ) : Type 0 where
   pub branch : Branch
   pub index : ℕ
   pub below : index < n
@@ -106,13 +91,13 @@ abbrev pub RefusesOne : List ℕ → ℕ → ℕ → Possibilities → List Clau
 RefusesOne keys hosts sender view clauses c = IsOneRefused (view_in (scope_at keys hosts sender) view) clauses c (λ u. Unit {0})
 
 -- it tells whether a proper branch is reached, where the view shows a state in which nothing is pending for its owner
-abbrev pub TellsReached : Possibilities → Place → Word → Branch → Bool → Type 0
+abbrev pub TellsReached : Possibilities → Place → BitSet → Branch → Bool → Type 0
 TellsReached view place senders b told =
     (s : Scope) → IsPlace s view place → IsUniform senders → has view.pending 0 ≡ true → IsProper b.region
     → (IsTrue told ↔ IsReached (view_in s view) place senders b)
 
 -- so it tells whether one of proper branches is
-abbrev pub TellsOneReached : Possibilities → Place → Word → List Branch → Bool → Type 0
+abbrev pub TellsOneReached : Possibilities → Place → BitSet → List Branch → Bool → Type 0
 TellsOneReached view place senders branches told =
     (s : Scope) → IsPlace s view place → IsUniform senders → has view.pending 0 ≡ true → Each IsProperBranch branches
     → (IsTrue told ↔ IsOneReached (view_in s view) place senders branches (length branches))

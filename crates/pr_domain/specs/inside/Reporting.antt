@@ -18,8 +18,8 @@ use Rattle.pr_script.specs.declared.script.Test.{Test}
 use Rattle.pr_script.specs.declared.script.Test.TheVariants as test
 use Rattle.pr_script.specs.Takes.{is_attention, is_sense}
 use Rattle.pr_roles.specs.declared.how.Refusals.{Refusals}
-use Rattle.pr_sets.specs.declared.word.Word.{Word}
-use Rattle.pr_sets.specs.Words.{has}
+use Rattle.pr_sets.specs.declared.bit_set.BitSet.{BitSet}
+use Rattle.pr_sets.specs.BitSets.{has}
 use Rattle.pr_sets.specs.Wides.{has_wide}
 use Rattle.pr_views.specs.declared.possibilities.Possibilities.{Possibilities}
 use Rattle.pr_sets.specs.declared.view_set.ViewSet.{Ghosts as ViewSet}
@@ -112,16 +112,16 @@ abbrev pub IsAfter : ℕ → Attention → ℕ → Type 0
 IsAfter q a n = (n < count_of_attentions) × (set.contains (codes_of q) (code_of a) ≡ true) × (codes_of n ≡ set.remove (codes_of q) (code_of a))
 
 -- what is left of those below the bound of which it is one
-pub record AreReported (bound : ℕ) (pending : Word) (a : Attention) (left : Word) : Type 0 where
+pub record AreReported (bound : ℕ) (pending : BitSet) (a : Attention) (left : BitSet) : Type 0 where
   pub all : (q n : ℕ) → q < bound → has pending q ≡ true → IsAfter q a n → has left n ≡ true
   pub only : (n : ℕ) → has left n ≡ true → (q : ℕ) × (q < bound) × (has pending q ≡ true) × IsAfter q a n
 
 -- the possible attentions among which there is no power on
-abbrev pub AreCalm : Possibilities → Word → Type 0
+abbrev pub AreCalm : Possibilities → BitSet → Type 0
 AreCalm known calm = (q : ℕ) → has calm q ≡ ((has known.pending q && not (set.contains (codes_of q) power_on)) && nat_lt q count_of_attentions)
 
 -- nothing, if that is possible
-abbrev pub AreQuiet : Possibilities → Word → Type 0
+abbrev pub AreQuiet : Possibilities → BitSet → Type 0
 AreQuiet known quiet = (q : ℕ) → has quiet q ≡ (has known.pending q && q == 0)
 
 -- ---- outcomes
@@ -217,7 +217,7 @@ LandsGoodBelow v c tests bound l i = (arm : ℕ) × (arm < bound) × LandsGood v
 
 -- a possibility of registrations and reservation as one way to end leaves them, and of these attentions, where
 -- there is some of each
-pub record IsOfWay (s : Scope) (way : Possibilities) (pending : Word) (i : Item) : Type 0 where
+pub record IsOfWay (s : Scope) (way : Possibilities) (pending : BitSet) (i : Item) : Type 0 where
   pub reserved : (x : ℕ) × (has_wide way.reservations x ≡ true)
   pub pends : (q : ℕ) × (has pending q ≡ true)
   pub possible : IsPossible (view_in s (record way { pending = pending })) i

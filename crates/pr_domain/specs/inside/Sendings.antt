@@ -1,8 +1,8 @@
 -- What is added to the outcomes of a command that is sent.
 use Rattle.std.specs.Prelude.{◌≡◌, ℕ, true, Bool, IsTrue, List, map}
-use Rattle.pr_sets.specs.declared.word.Word.{Word}
+use Rattle.pr_sets.specs.declared.bit_set.BitSet.{BitSet}
 use Rattle.pr_sets.specs.declared.view_set.ViewSet.{Ghosts as ViewSet}
-use Rattle.pr_sets.specs.Words.{has}
+use Rattle.pr_sets.specs.BitSets.{has}
 use Rattle.pr_sets.specs.Wides.{has_wide}
 use Rattle.pr_views.specs.declared.possibilities.Possibilities.{Possibilities}
 use Rattle.pr_views.specs.declared.view.ViewOf.{ViewOf}
@@ -29,12 +29,12 @@ abbrev pub AreKeptFor : {S : Type 0} {sets : ViewSet S} → Sending → List (La
 AreKeptFor q outcomes = AreKept q.hosts q.asked.keys.now outcomes
 
 -- where one way to end leaves something beside these attentions, its possibilities are numbers of the command's nexuses and keys
-abbrev pub IsInRange : Sending → Possibilities → Word → Type 0
+abbrev pub IsInRange : Sending → Possibilities → BitSet → Type 0
 IsInRange q way pending =
     (x n : ℕ) → has_wide way.reservations x ≡ true → has pending n ≡ true → AreInRange q.hosts q.asked.keys.now (record way { pending = pending })
 
 -- the landing is this one, and the possibility is one of this way to end, beside these attentions
-abbrev pub IsOfWayAt : Sending → Landing → Possibilities → Word → Landing → Item → Type 0
+abbrev pub IsOfWayAt : Sending → Landing → Possibilities → BitSet → Landing → Item → Type 0
 IsOfWayAt q landing way pending l i = (l ≡ landing) × IsOfWay (scope_of_sending q) way pending i
 
 -- the tally is of the states from which the command is sent

@@ -16,7 +16,7 @@ use Rattle.pr_views.specs.Possibilities.{key_at, Scope, Item, Registration, Rese
 use Rattle.pr_views.specs.Views.{View, Shows, Fits}
 use Rattle.pr_views.specs.Portions.{has_at, view_in}
 use Rattle.pr_regions.specs.Readings.{first_test}
-use Rattle.pr_sets.specs.declared.word.Word.{Word}
+use Rattle.pr_sets.specs.declared.bit_set.BitSet.{BitSet}
 use Rattle.pr_regions.specs.declared.region.Branch.{Branch}
 use Rattle.pr_regions.specs.declared.region.Reading.{Reading}
 use Rattle.pr_regions.specs.declared.region.Region.{Region}
@@ -93,7 +93,7 @@ pub record Grows (v : View) (c : Command) (tests : List Test) (old new : Tally) 
 
 -- What is known of a branch at a place: it says how the command ends in the states of its region, and this is the
 -- way of the arm that takes the data.
-pub record IsRight (s : Scope) (c : Command) (tests : List Test) (view : Possibilities) (place : Place) (senders : Word) (b : Branch) (arm : ℕ) : Type 0 where
+pub record IsRight (s : Scope) (c : Command) (tests : List Test) (view : Possibilities) (place : Place) (senders : BitSet) (b : Branch) (arm : ℕ) : Type 0 where
   pub own : place.sender ≡ s.own
   pub is : IsPlace s view place
   pub uniform : IsUniform senders
@@ -109,11 +109,11 @@ pub record IsTally (v : View) (c : Command) (tests : List Test) (t : Tally) : Ty
 -- ---- the branches of a sender, and its registrations
 
 -- what is known of each branch
-abbrev pub AreRight : Scope → Command → List Test → Possibilities → Place → Word → List Branch → ℕ → Type 0
+abbrev pub AreRight : Scope → Command → List Test → Possibilities → Place → BitSet → List Branch → ℕ → Type 0
 AreRight s c tests view place senders branches arm = (b : Branch) → Contains branches b → IsRight s c tests view place senders b arm
 
 -- the state is in the region of one of the first n branches
-pub record IsInOne (v : View) (place : Place) (senders : Word) (branches : List Branch) (n : ℕ) (u : UnitState) : Type 0 where
+pub record IsInOne (v : View) (place : Place) (senders : BitSet) (branches : List Branch) (n : ℕ) (u : UnitState) : Type 0 where
   pub index : ℕ
   pub below : index < n
   pub branch : Branch
@@ -202,13 +202,13 @@ AreRightReadings s c tests view place r readings = (b : Reading) → Contains re
 -- ---- what is added to a tally
 
 -- where the branch is right, what the shown states of its region leave
-abbrev pub AddsBranch : Possibilities → Place → Word → Branch → ℕ → Tally → Tally → Type 0
+abbrev pub AddsBranch : Possibilities → Place → BitSet → Branch → ℕ → Tally → Tally → Type 0
 AddsBranch view place senders b arm old new =
     (s : Scope) (c : Command) (tests : List Test) → IsRight s c tests view place senders b arm
     → Grows (view_in s view) c tests old new (IsAt (view_in s view) place senders b.region)
 
 -- where all branches are, what those of all regions leave
-abbrev pub AddsBranches : Possibilities → Place → Word → List Branch → ℕ → Tally → Tally → Type 0
+abbrev pub AddsBranches : Possibilities → Place → BitSet → List Branch → ℕ → Tally → Tally → Type 0
 AddsBranches view place senders branches arm old new =
     (s : Scope) (c : Command) (tests : List Test) → AreRight s c tests view place senders branches arm
     → Grows (view_in s view) c tests old new (IsInOne (view_in s view) place senders branches (length branches))
@@ -235,7 +235,7 @@ AddsReadings view place r readings old new =
     → Grows (view_in s view) c tests old new (IsReadFirst s view place r readings (length readings))
 
 -- what is so of registrations and reservation in the shown states of this region is in the tally, of the ways of no conflict and of this arm
-abbrev pub AreTallied : Possibilities → Place → Word → Region → ℕ → Tally → Type 0
+abbrev pub AreTallied : Possibilities → Place → BitSet → Region → ℕ → Tally → Type 0
 AreTallied view place senders region arm t =
     (s : Scope) → IsPlace s view place → IsUniform senders → (u : UnitState) (i : Item) → IsAt (view_in s view) place senders region u
     → IsRegistered s u i → (has_tallied t 1 i ≡ true) × (has_tallied t (3 + arm) i ≡ true)

@@ -1,19 +1,17 @@
 -- What the clauses of a role ask for, reservation by reservation and standing by standing.
-use Rattle.std.specs.Prelude.{◌≡◌, ℕ, ◌<◌, ◌≤◌, Bool, true, false, not, ◌==◌, ◌&&◌, ◌||◌, List, length, Option, Some, None, option_map, is_some}
+use Rattle.std.specs.Prelude.{◌≡◌, ℕ, ◌<◌, ◌≤◌, Bool, true, false, not, ◌&&◌, ◌||◌, List, length, Option, Some, None, option_map}
 use Rattle.pr_cdb.specs.declared.command.Command.{Command}
 use Rattle.pr_registry.specs.declared.held.Held.{Held}
-use Rattle.pr_registry.specs.declared.held.Held.TheVariants.{One, All}
 use Rattle.pr_registry.specs.Registrations.{kind_of}
 use Rattle.pr_unit.specs.UnitStates.{UnitState, effect}
 use Rattle.pr_roles.specs.declared.limits.TheConstants.{MOST_KEYS}
 use Rattle.pr_roles.specs.declared.role.Action.{Action}
 use Rattle.pr_roles.specs.declared.role.Action.TheVariants as action
 use Rattle.pr_roles.specs.declared.role.Condition.{Condition}
-use Rattle.pr_roles.specs.declared.role.Condition.TheVariants as condition
 use Rattle.pr_roles.specs.declared.role.Clause.{Clause}
 use Rattle.pr_roles.specs.Fitting.{is_action}
-use Rattle.pr_sets.specs.declared.word.Word.{Word}
-use Rattle.pr_sets.specs.Words.{has}
+use Rattle.pr_sets.specs.declared.bit_set.BitSet.{BitSet}
+use Rattle.pr_sets.specs.BitSets.{has}
 use Rattle.pr_views.specs.Possibilities.{Scope, Registration, Reservation, IsSo, count_of_reservations}
 use Rattle.pr_views.specs.declared.possibilities.Possibilities.{Possibilities}
 use Rattle.pr_views.specs.Portions.{view_in}
@@ -22,6 +20,7 @@ use Rattle.pr_regions.specs.declared.purpose.Purpose.{Purpose}
 use Rattle.pr_regions.specs.declared.purpose.Purpose.TheVariants.{Look, Read, Write, Register, Unregister, Reserve, Release, Clear, PreemptAll, Preempt}
 use Rattle.pr_regions.specs.declared.purpose.Standing.{Standing}
 use Rattle.pr_regions.specs.declared.purpose.Standing.TheVariants.{Unregistered, Named, Other}
+use Rattle.pr_regions.specs.Conditions.{holds_as}
 use Rattle.pr_regions.specs.Purposes.{number_in, purpose_of_preempt, purpose_of}
 use Rattle.pr_regions.specs.Regions.{standing_of}
 use Rattle.pr_interference.specs.inside.Interfering.{IsFree, IsOnlooking, IsWatched, Among, ClauseLeaves}
@@ -63,25 +62,13 @@ is_registered_as Unregistered = false
 is_registered_as Named = true
 is_registered_as Other = true
 
--- the sender holds the reservation, by whether it is registered
-abbrev pub is_holder_as : Option Held → ℕ → Bool → Bool
-is_holder_as None sender registered = false
-is_holder_as (Some (One kind h)) sender registered = h == sender
-is_holder_as (Some (All kind)) sender registered = registered
-
-abbrev pub holds_as : Option Condition → Option Held → ℕ → Bool → Bool
-holds_as None held sender registered = true
-holds_as (Some condition.Registered) held sender registered = registered
-holds_as (Some condition.Holder) held sender registered = is_holder_as held sender registered
-holds_as (Some condition.Reserved) held sender registered = is_some held
-
 -- a sender that stands so meets the condition, and is not refused as a stranger
 abbrev pub may_send : Option Condition → Purpose → Option Held → ℕ → Standing → Bool
 may_send condition purpose held sender standing =
     holds_as condition held sender (is_registered_as standing) && (is_registered_as standing || not (refuses_strangers purpose))
 
 -- the word has the registrations with which a sender stands so
-pub record AreSenders (purpose : Purpose) (standing : Standing) (word : Word) : Type 0 where
+pub record AreSenders (purpose : Purpose) (standing : Standing) (word : BitSet) : Type 0 where
   pub all : (r : ℕ) → r ≤ MOST_KEYS → standing_of purpose r ≡ standing → has word r ≡ true
   pub only : (r : ℕ) → has word r ≡ true → standing_of purpose r ≡ standing
 

@@ -10,7 +10,7 @@ use Rattle.pr_unit.specs.Faults.{command_fault}
 use Rattle.pr_unit.specs.Laws.{request_looks}
 use Rattle.pr_roles.specs.declared.role.Clause.{Clause}
 use Rattle.pr_roles.specs.Permits.{clause_permits}
-use Rattle.pr_sets.specs.declared.word.Word.{Word}
+use Rattle.pr_sets.specs.declared.bit_set.BitSet.{BitSet}
 use Rattle.pr_views.specs.declared.possibilities.Possibilities.{Possibilities}
 use Rattle.pr_views.specs.Possibilities.{Scope, Item, IsSo}
 use Rattle.pr_views.specs.Views.{View, IsPossible, Shows, Fits}
@@ -40,13 +40,13 @@ pub record IsOnlooking (s : Scope) (o : Onlooker) : Type 0 where
   pub fits : Fits (view_in s o.view)
 
 -- after the change in some state of the region, this is so
-pub record IsChanged (s : Scope) (view : Possibilities) (place : Place) (senders : Word) (region : Region) (change : Transition) (i : Item) : Type 0 where
+pub record IsChanged (s : Scope) (view : Possibilities) (place : Place) (senders : BitSet) (region : Region) (change : Transition) (i : Item) : Type 0 where
   pub from : UnitState
   pub at : IsAt (view_in s view) place senders region from
   pub is : (w : UnitState) → Changes s place.sender change from w → IsSo s w i
 
 -- the possibilities are those of the states that the change leads to
-pub record IsAfter (s : Scope) (view : Possibilities) (place : Place) (senders : Word) (region : Region) (change : Transition) (after : Possibilities) : Type 0 where
+pub record IsAfter (s : Scope) (view : Possibilities) (place : Place) (senders : BitSet) (region : Region) (change : Transition) (after : Possibilities) : Type 0 where
   pub all : (u w : UnitState) → IsAt (view_in s view) place senders region u → Changes s place.sender change u w → Allows s after w
   pub only : (i : Item) → IsPossible (view_in s after) i → IsChanged s view place senders region change i
 
@@ -61,14 +61,14 @@ pub record Among {X : Type 0} (n : ℕ) (xs : List X) (holds : X → Type 0) : T
 -- ---- branches
 
 -- a branch that ends GOOD leads so from a state of its region
-pub record IsLedBy (s : Scope) (view : Possibilities) (place : Place) (senders : Word) (branch : Branch) (u w : UnitState) : Type 0 where
+pub record IsLedBy (s : Scope) (view : Possibilities) (place : Place) (senders : BitSet) (branch : Branch) (u w : UnitState) : Type 0 where
   pub change : Transition
   pub good : branch.ending ≡ ending.Good change
   pub at : IsAt (view_in s view) place senders branch.region u
   pub changes : Changes s place.sender change u w
 
 -- it leaves this behind in a state of its region
-pub record IsLeftBy (s : Scope) (view : Possibilities) (place : Place) (senders : Word) (branch : Branch) (i : Item) : Type 0 where
+pub record IsLeftBy (s : Scope) (view : Possibilities) (place : Place) (senders : BitSet) (branch : Branch) (i : Item) : Type 0 where
   pub change : Transition
   pub good : branch.ending ≡ ending.Good change
   pub changed : IsChanged s view place senders branch.region change i
@@ -80,12 +80,12 @@ abbrev pub BranchHasRoom : ℕ → Branch → Type 0
 BranchHasRoom hosts branch = HasRoom hosts branch.ending
 
 -- In each view of the onlooker's, the answer gains what the branch leads to, if its sender is one of these.
-abbrev pub AddsBranch : Onlooker → Place → Word → Branch → Possibilities → Possibilities → Type 0
+abbrev pub AddsBranch : Onlooker → Place → BitSet → Branch → Possibilities → Possibilities → Type 0
 AddsBranch o place senders branch old new = (s : Scope) → IsWatched s o place → IsUniform senders → IsProperBranch branch
     → Adds s old new (IsLedBy s o.view place senders branch) (IsLeftBy s o.view place senders branch)
 
 -- it gains what any of the branches leads to
-abbrev pub AddsBranches : Onlooker → Place → Word → List Branch → Possibilities → Possibilities → Type 0
+abbrev pub AddsBranches : Onlooker → Place → BitSet → List Branch → Possibilities → Possibilities → Type 0
 AddsBranches o place senders branches old new = (s : Scope) → IsWatched s o place → IsUniform senders → All IsProperBranch branches
     → Adds s old new (λ u w. Among (length branches) branches (λ b. IsLedBy s o.view place senders b u w)) (λ i. Among (length branches) branches (λ b. IsLeftBy s o.view place senders b i))
 

@@ -12,8 +12,8 @@ use Rattle.pr_roles.specs.declared.role.Clause.{Clause}
 use Rattle.pr_roles.specs.Fitting.{is_reservation}
 use Rattle.pr_roles.specs.declared.limits.TheConstants.{MOST_KEYS}
 use Rattle.pr_sets.specs.declared.wide.Wide.{Wide}
-use Rattle.pr_sets.specs.declared.word.Word.{Word}
-use Rattle.pr_sets.specs.Words.{has}
+use Rattle.pr_sets.specs.declared.bit_set.BitSet.{BitSet}
+use Rattle.pr_sets.specs.BitSets.{has}
 use Rattle.pr_sets.specs.Wides.{has_wide}
 use Rattle.pr_views.specs.declared.possibilities.Possibilities.{Possibilities}
 use Rattle.pr_views.specs.declared.view.TheConstants.{RESERVATIONS_PREEMPTED_BIT, RESERVATIONS_RELEASED_BIT, REGISTRATIONS_PREEMPTED_BIT}
@@ -28,11 +28,11 @@ use Rattle.pr_interference.specs.inside.Interfering.{IsOnlooking}
 use Rattle.pr_interference.specs.inside.Clauses.{PlaceLeads}
 
 -- the word has the number of every key
-abbrev pub HasEveryKey : Word → Type 0
+abbrev pub HasEveryKey : BitSet → Type 0
 HasEveryKey word = (r : ℕ) → 1 ≤ r → r ≤ MOST_KEYS → has word r ≡ true
 
 -- it has that of every key but one
-abbrev pub HasEveryKeyBut : ℕ → Word → Type 0
+abbrev pub HasEveryKeyBut : ℕ → BitSet → Type 0
 HasEveryKeyBut key word = (r : ℕ) → 1 ≤ r → r ≤ MOST_KEYS → r ≢ key → has word r ≡ true
 
 -- among the reservations of so many nexuses is this one

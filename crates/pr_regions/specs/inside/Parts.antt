@@ -9,8 +9,8 @@ use Rattle.pr_registry.specs.declared.held.Held.TheVariants.{One, All as Everybo
 use Rattle.pr_registry.specs.Registrations.{kind_of}
 use Rattle.pr_unit.specs.UnitStates.{UnitState}
 use Rattle.pr_roles.specs.declared.limits.TheConstants.{MOST_KEYS}
-use Rattle.pr_sets.specs.declared.word.Word.{Word}
-use Rattle.pr_sets.specs.Words.{has}
+use Rattle.pr_sets.specs.declared.bit_set.BitSet.{BitSet}
+use Rattle.pr_sets.specs.BitSets.{has}
 use Rattle.pr_views.specs.Possibilities.{Scope}
 use Rattle.pr_regions.specs.declared.region.Region.{Region}
 use Rattle.pr_regions.specs.declared.region.Transition.{Transition}
@@ -22,12 +22,13 @@ use Rattle.pr_regions.specs.declared.purpose.Standing.{Standing}
 use Rattle.pr_regions.specs.declared.purpose.Standing.TheVariants.{Unregistered, Named, Other}
 use Rattle.pr_regions.specs.declared.initiator.Initiator.{Initiator}
 use Rattle.pr_regions.specs.declared.initiator.Preemption.{Preemption}
+use Rattle.pr_regions.specs.Conditions.{is_holder_as}
 use Rattle.pr_regions.specs.Regions.{Meets, IsInRegion, Ends, AreBranches, IsProper, HasRoom}
 
 -- ---- words
 
 -- of the registrations that there can be, the word has those that pass
-abbrev pub HasThose : Word → (ℕ → Bool) → Type 0
+abbrev pub HasThose : BitSet → (ℕ → Bool) → Type 0
 HasThose w passes = (r : ℕ) → r ≤ MOST_KEYS → has w r ≡ passes r
 
 abbrev pub any : ℕ → Bool
@@ -70,7 +71,7 @@ lost_if own = if own then Some 0 else None
 -- ---- regions and changes
 
 -- a region's test passes these registrations, if it has one
-abbrev pub IsTest : Option Word → Option (ℕ → Bool) → Type 0
+abbrev pub IsTest : Option BitSet → Option (ℕ → Bool) → Type 0
 IsTest None None = Unit {0}
 IsTest None (Some passes) = ⊥
 IsTest (Some w) None = ⊥
@@ -112,8 +113,7 @@ IsNotAnothers (Some (Everybody kind)) sender = Unit {0}
 
 -- a sender that stands so holds the reservation
 abbrev pub holds : Held → ℕ → Standing → Bool
-holds (One kind h) sender standing = h == sender
-holds (Everybody kind) sender standing = not (is_unregistered standing)
+holds held sender standing = is_holder_as (Some held) sender (not (is_unregistered standing))
 
 -- under this type the sender may not read
 abbrev pub keeps_from_reading : Kind → Held → ℕ → Standing → Bool

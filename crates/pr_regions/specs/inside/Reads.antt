@@ -16,7 +16,7 @@ use Rattle.pr_script.specs.Takes.{matches}
 use Rattle.pr_script.specs.Grammar.{test_fits}
 use Rattle.pr_script.specs.declared.grammar.TheConstants.{WRITTEN_LENGTH}
 use Rattle.pr_roles.specs.declared.limits.TheConstants.{MOST_KEYS}
-use Rattle.pr_sets.specs.declared.word.Word.{Word}
+use Rattle.pr_sets.specs.declared.bit_set.BitSet.{BitSet}
 use Rattle.pr_views.specs.Possibilities.{Scope, IsScope, Registration, IsSo}
 use Rattle.pr_views.specs.Portions.{HasSomebody}
 use Rattle.pr_regions.specs.declared.region.Region.{Region}
@@ -79,12 +79,12 @@ HasFewer Never = Unit {0}
 HasFewer (Somebody j) = (1 ≤ j) × (j ≤ MOST_KEYS)
 
 -- the region in which all others have one of these registrations
-abbrev pub open_to : Word → Region
+abbrev pub open_to : BitSet → Region
 open_to left = record { holder = left; others = left; somebody = None }
 
 -- Of the first tests each reading names the one that takes the data, and in the states that are left none of them
 -- does.
-pub record AreReadSoFar (keys : List ℕ) (hosts : ℕ) (held : Option Held) (sender own : ℕ) (c : Command) (tests : List Test) (count : ℕ) (readings : List Reading) (left : Word) : Type 0 where
+pub record AreReadSoFar (keys : List ℕ) (hosts : ℕ) (held : Option Held) (sender own : ℕ) (c : Command) (tests : List Test) (count : ℕ) (readings : List Reading) (left : BitSet) : Type 0 where
   pub covered : (s : Scope) (u : UnitState) → IsKnown keys hosts held sender own s u → IsRead s sender readings u ⊎ IsInRegion s sender (open_to left) u
   pub right : (s : Scope) (u : UnitState) (b : Reading) → IsKnown keys hosts held sender own s u → Contains readings b → IsInRegion s sender b.region u → first_test tests (answer u c) ≡ b.arm
   pub fails : (s : Scope) (u : UnitState) → IsKnown keys hosts held sender own s u → IsInRegion s sender (open_to left) u

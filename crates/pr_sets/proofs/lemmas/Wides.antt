@@ -1,60 +1,10 @@
 -- The bits of a wide word, as the set of numbers that it stands for.
-use Rattle.std.proofs.Common.{◌≡◌, ◌≢◌, ℕ, ◌-◌, ◌*◌, ◌%◌, ◌^◌, ◌<◌, ◌≤◌, true, false, ◌==◌, ◌&&◌, ◌||◌, not, nat_le, min, max, refl, sym, ap, ◌∙◌, inl, inr, ◌⊎◌, arith, bit_or, bit_and}
-use Rattle.std.specs.Int.{w128, bit_at, trailing_zeros}
-use Rattle.std.proofs.lemmas.Bool.Decides.{nat_tests, eqb_tells, leb_tells}
-use Rattle.std.proofs.lemmas.Nat.Bits.{bit_at_set_same, bit_at_set_other, bit_at_and, bit_at_or, bit_at_not, bit_at-zero, bit_at-lt, bit_at_above, bit_at-trailing_zeros}
-use Rattle.std.proofs.Math.Bool.{or_comm}
+use Rattle.std.proofs.Common.{◌≡◌, ℕ, ◌^◌, ◌<◌, true, ◌==◌, ap}
+use Rattle.std.specs.Int.{w128, trailing_zeros}
+use Rattle.std.proofs.lemmas.Nat.Bits.{bit_at-trailing_zeros}
 use Rattle.pr_sets.specs.declared.wide.Wide.{Wide}
 use Rattle.pr_sets.specs.Wides.{has_wide}
 
 -- a wide word that is not 0 has a number
 pub some_there : (w : Wide) → 0 < w.bits → w.bits < 2 ^ 128 → has_wide w (trailing_zeros w128 w.bits) ≡ true
 some_there w some fits = ap (λ b. b == 1) (bit_at-trailing_zeros w128 w.bits some fits).1
-
--- ---- bits of what is reckoned from words
-pub has-and : (a b n : ℕ) → (bit_at (bit_and a b) n == 1) ≡ ((bit_at a n == 1) && (bit_at b n == 1))
-has-and a b n =
-    ap (λ x. x == 1) (bit_at_and a b n) ∙ at (bit_at a n) (bit_at b n) (bit_at-lt a n) (bit_at-lt b n)
-  where
-    at : (x y : ℕ) → x < 2 → y < 2 → (min x y == 1) ≡ ((x == 1) && (y == 1))
-    at x y one other = grind (arith, nat_tests)
-
-pub has-or : (a b n : ℕ) → (bit_at (bit_or a b) n == 1) ≡ ((bit_at a n == 1) || (bit_at b n == 1))
-has-or a b n =
-    ap (λ x. x == 1) (bit_at_or a b n) ∙ at (bit_at a n) (bit_at b n) (bit_at-lt a n) (bit_at-lt b n)
-  where
-    at : (x y : ℕ) → x < 2 → y < 2 → (max x y == 1) ≡ ((x == 1) || (y == 1))
-    at x y one other = grind (arith, nat_tests)
-
-pub has-except : (a b n : ℕ) → a < 2 ^ 128 → b < 2 ^ 128 → (bit_at (bit_and a (2 ^ 128 - 1 - b)) n == 1) ≡ ((bit_at a n == 1) && not (bit_at b n == 1))
-has-except a b n a_fits b_fits =
-    has-and a (2 ^ 128 - 1 - b) n ∙ at (leb_tells 128 n)
-  where
-    flipped : (y : ℕ) → y < 2 → (1 - y == 1) ≡ not (y == 1)
-    flipped y one = grind (arith, nat_tests)
-
-    at : ((nat_le 128 n ≡ true) × (128 ≤ n)) ⊎ ((nat_le 128 n ≡ false) × (n < 128))
-        → ((bit_at a n == 1) && (bit_at (2 ^ 128 - 1 - b) n == 1)) ≡ ((bit_at a n == 1) && not (bit_at b n == 1))
-    at (inl large) = rw (bit_at_above a 128 n a_fits large.1) refl
-    at (inr small) =
-        ap (λ c. (bit_at a n == 1) && c) (ap (λ x. x == 1) (bit_at_not w128 b n b_fits small.1) ∙ flipped (bit_at b n) (bit_at-lt b n))
-
-pub has-only : (k n : ℕ) → k < 128 → (bit_at (1 * 2 ^ k % 2 ^ 128) n == 1) ≡ (n == k)
-has-only k n small =
-    ap (λ x. x == 1) (sym beside_none) ∙ at (eqb_tells n k)
-  where
-    or_zero : (x : ℕ) → max 0 x ≡ x
-    or_zero x = omega arith
-
-    beside_none : bit_at (bit_or 0 (1 * 2 ^ k % 2 ^ 128)) n ≡ bit_at (1 * 2 ^ k % 2 ^ 128) n
-    beside_none =
-        bit_at_or 0 (1 * 2 ^ k % 2 ^ 128) n ∙ ap (λ x. max x (bit_at (1 * 2 ^ k % 2 ^ 128) n)) (bit_at-zero n) ∙ or_zero (bit_at (1 * 2 ^ k % 2 ^ 128) n)
-
-    at : (((n == k) ≡ true) × (n ≡ k)) ⊎ (((n == k) ≡ false) × (n ≢ k)) → (bit_at (bit_or 0 (1 * 2 ^ k % 2 ^ 128)) n == 1) ≡ (n == k)
-    at (inl same) = rw same.0 (rw same.1 (ap (λ x. x == 1) (bit_at_set_same w128 0 k small)))
-    at (inr other) =
-        rw other.0 (ap (λ x. x == 1) (bit_at_set_other w128 0 k small n other.1 ∙ bit_at-zero n))
-
-pub has-with : (a k n : ℕ) → k < 128 → (bit_at (bit_or a (1 * 2 ^ k % 2 ^ 128)) n == 1) ≡ ((n == k) || (bit_at a n == 1))
-has-with a k n small =
-    has-or a (1 * 2 ^ k % 2 ^ 128) n ∙ ap (λ c. (bit_at a n == 1) || c) (has-only k n small) ∙ or_comm (bit_at a n == 1) (n == k)

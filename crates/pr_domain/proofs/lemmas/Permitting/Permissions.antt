@@ -1,25 +1,25 @@
 -- Where a command ends GOOD, and what a role says of it there.
-use Rattle.pr_domain.proofs.Common.{◌≡◌, ℕ, zero, suc, ◌+◌, ◌<◌, ◌≤◌, Bool, true, false, not, ◌&&◌, ◌||◌, ◌⊎◌, ◌↔◌, List, [], ◌∷◌, length, is_some, IfSome, IfNone, IsTrue, ◌==◌, slice_get, Some, None, All, Contains, Option, sym, refl, ap, ◌∙◌, subst, inl, inr, arith, list_any, false≢true, and_parts, cases_order, cases_eq, nat_tests, same_Some, has_wide, has, Word, Command, Sense, State, key_of, Held, One, UnitState, is_written_key, is_written, has_at, view_in, Scope, key_at, count_of_reservations, Registration, Reservation, IsSo, View, Shows, Possibilities, one_registration, IsPlace, IsUniform, IsAt, purpose_of, is_refused, standing_of, AreBranches, Place, Branch, Transition, same_reservation, ArePermitted, scope_at, IsRight, IsInOne, HasFirst, HasBoth, IsReserved}
+use Rattle.pr_domain.proofs.Common.{MOST_REGISTRATIONS, ◌≡◌, ℕ, zero, suc, ◌+◌, ◌<◌, ◌≤◌, Bool, true, false, not, ◌&&◌, ◌||◌, ◌⊎◌, ◌↔◌, List, [], ◌∷◌, length, is_some, IfSome, IfNone, IsTrue, ◌==◌, slice_get, Some, None, All, Contains, Option, sym, refl, ap, ◌∙◌, subst, inl, inr, arith, list_any, false≢true, and_parts, cases_order, cases_eq, nat_tests, same_Some, has_wide, has, BitSet, Command, Sense, State, key_of, Held, One, UnitState, is_written_key, is_written, has_at, view_in, Scope, key_at, count_of_reservations, Registration, Reservation, IsSo, View, Shows, Possibilities, one_registration, IsPlace, IsUniform, IsAt, purpose_of, is_refused, standing_of, AreBranches, Place, Branch, Transition, same_reservation, ArePermitted, scope_at, IsRight, IsInOne, HasFirst, HasBoth, IsReserved}
 use Rattle.std.proofs.Common.{is_none}
 use Rattle.std.proofs.lemmas.List.Folds.{Any-from_list_any, list_any-from_Any}
 use Rattle.pr_cdb.specs.declared.command.Command.TheVariants as command
-use Rattle.pr_registry.specs.declared.held.Held.TheVariants.{All as Everybody}
-use Rattle.pr_registry.specs.Registrations.{is_registered, is_holder_of}
+use Rattle.pr_registry.specs.Registrations.{is_registered}
 use Rattle.pr_roles.specs.declared.role.Clause.{Clause}
 use Rattle.pr_roles.specs.declared.role.Condition.{Condition}
-use Rattle.pr_roles.specs.declared.role.Condition.TheVariants as condition
 use Rattle.pr_roles.specs.Permits.{names, holds, clause_permits}
 use Rattle.pr_views.proofs.lemmas.Possibilities.Numbers.{key_there, one_reservation}
 use Rattle.pr_regions.specs.declared.purpose.Purpose.{Purpose}
 use Rattle.pr_regions.specs.declared.purpose.Standing.{Standing}
 use Rattle.pr_regions.specs.declared.region.Ending.{Ending}
 use Rattle.pr_regions.specs.declared.region.Ending.TheVariants as ending
+use Rattle.pr_regions.specs.Conditions.{holds_as}
 use Rattle.pr_regions.specs.Purposes.{names_written}
 use Rattle.pr_regions.specs.Regions.{Ends, IsProper as IsProperBranch}
 use Rattle.pr_regions.specs.Gathering.{IsProper, IsGathered}
 use Rattle.pr_domain.specs.inside.Tallies.{IsAsked}
 use Rattle.pr_domain.specs.declared.permitting.Asking.{Asking}
-use Rattle.pr_domain.specs.inside.Permitting.{EndsGood, IsAsking, holds_reservation, holds_at, permits_at, IsReached, IsOneReached, IsOneRefused, permits_always}
+use Rattle.pr_domain.specs.inside.Permitting.{EndsGood, IsAsking, permits_at, IsReached, IsOneReached, IsOneRefused, permits_always}
+use Rattle.pr_regions.proofs.lemmas.Conditions.Senders.{holds_by}
 use Rattle.pr_regions.proofs.lemmas.Portions.GatheredStates.{few_keys}
 use Rattle.pr_domain.proofs.lemmas.Tallies.Growth.{listed_there}
 use Rattle.pr_domain.proofs.lemmas.Tallies.Requests.{only_uniform, asked_right, asked_covers, asked_back, refused_conflicts}
@@ -40,7 +40,7 @@ written_names keys _ is = refl
 
 -- ---- branches
 
-pub is_reached : (s : Scope) (view : Possibilities) (place : Place) (senders : Word) (b : Branch) (change : Transition) (o : Option (List Word)) (there : Bool)
+pub is_reached : (s : Scope) (view : Possibilities) (place : Place) (senders : BitSet) (b : Branch) (change : Transition) (o : Option (List BitSet)) (there : Bool)
     → IsPlace s view place → IsUniform senders → has view.pending 0 ≡ true → IsProper b.region → b.ending ≡ ending.Good change → there ≡ is_some o
     → IfSome o (λ words. (t : Scope) → IsPlace t view place → IsUniform senders → IsProper b.region → IsGathered (view_in t view) place senders b.region words)
     → IfNone o ((t : Scope) → IsPlace t view place → IsUniform senders → IsProper b.region → (u : UnitState) → IsAt (view_in t view) place senders b.region u → ⊥)
@@ -50,7 +50,7 @@ is_reached s view place senders b change (Some words) there is uniform idle prop
 is_reached s view place senders b change None there is uniform idle proper good tells some none =
     (λ yes. absurd (false≢true (sym tells ∙ yes)), λ reached. absurd (none s is uniform proper reached.there.unit reached.there.at))
 
-pub more_unreached : (v : View) (place : Place) (senders : Word) (branches : List Branch) (n : ℕ) (b : Branch) → slice_get branches n ≡ Some b
+pub more_unreached : (v : View) (place : Place) (senders : BitSet) (branches : List Branch) (n : ℕ) (b : Branch) → slice_get branches n ≡ Some b
     → (IsOneReached v place senders branches n → ⊥) → (IsReached v place senders b → ⊥) → IsOneReached v place senders branches (n + 1) → ⊥
 more_unreached v place senders branches n b is before here one = at (cases_eq one.index n)
   where
@@ -63,12 +63,6 @@ more_unreached v place senders branches n b is before here one = at (cases_eq on
 
 -- ---- clauses
 
-holder_same : (u : State) (place : Place) (keys : List ℕ) (r : ℕ) (held : Option Held) → place.held ≡ held → is_registered u place.sender ≡ not (r == 0)
-    → is_holder_of u.keys held place.sender ≡ holds_reservation held place.sender r
-holder_same u place keys r None is registered = refl
-holder_same u place keys r (Some (One kind h)) is registered = refl
-holder_same u place keys r (Some (Everybody kind)) is registered = registered
-
 registered_same : (u : State) (keys : List ℕ) (h r : ℕ) → r ≤ length keys → key_of u h ≡ key_at keys r → is_registered u h ≡ not (r == 0)
 registered_same u keys h zero small is = ap is_some is
 registered_same u keys h (suc i) small is =
@@ -77,12 +71,10 @@ registered_same u keys h (suc i) small is =
 
 -- in such a state the condition holds exactly where it does by the numbers
 holds_same : (u : State) (place : Place) (keys : List ℕ) (r : ℕ) (o : Option Condition) → u.held ≡ place.held → r ≤ length keys → key_of u place.sender ≡ key_at keys r
-    → holds o u place.sender ≡ holds_at o place r
-holds_same u place keys r None held small is = refl
-holds_same u place keys r (Some condition.Registered) held small is = registered_same u keys place.sender r small is
-holds_same u place keys r (Some condition.Holder) held small is =
-    ap (λ v. is_holder_of u.keys v place.sender) held ∙ holder_same u place keys r place.held refl (registered_same u keys place.sender r small is)
-holds_same u place keys r (Some condition.Reserved) held small is = ap is_some held
+    → holds o u place.sender ≡ holds_as o place.held place.sender (not (r == 0))
+holds_same u place keys r o held small is =
+    holds_by o u place.sender ∙ ap (λ v. holds_as o v place.sender (is_registered u place.sender)) held
+    ∙ ap (holds_as o place.held place.sender) (registered_same u keys place.sender r small is)
 
 permits_same : (u : State) (place : Place) (keys : List ℕ) (r : ℕ) (c : Command) (clauses : List Clause) → u.held ≡ place.held → r ≤ length keys → key_of u place.sender ≡ key_at keys r
     → list_any (λ clause. clause_permits clause u place.sender c) clauses ≡ list_any (λ clause. permits_at clause c place r) clauses
@@ -117,7 +109,7 @@ asked : (keys : List ℕ) (c : Command) (view : Possibilities) (place : Place) (
 asked keys c view place purpose r this asks accepted = record { own = refl; is = this.is; asks = asks; accepted = accepted; taken = λ u. refl }
 
 -- a state in which it ends GOOD is in the region of a branch that does
-reached_where_good : (keys : List ℕ) (c : Command) (view : Possibilities) (place : Place) (purpose : Purpose) (r : ℕ) (w : Word) (branches : List Branch)
+reached_where_good : (keys : List ℕ) (c : Command) (view : Possibilities) (place : Place) (purpose : Purpose) (r : ℕ) (w : BitSet) (branches : List Branch)
     → IsThis keys c view place → purpose_of keys c ≡ Some purpose → is_refused (key_at keys r) c ≡ false → ((m : ℕ) → has w m ≡ (m == r))
     → AreBranches place.hosts purpose place.held place.sender (standing_of purpose r) branches → ((b : Branch) → Contains branches b → IsProperBranch b)
     → (u : UnitState) → Shows (view_in (scope_at keys place.hosts place.sender) view) u → HasBoth (scope_at keys place.hosts place.sender) place r u
@@ -160,7 +152,7 @@ pub record IsGoodWith (keys : List ℕ) (c : Command) (view : Possibilities) (pl
   pub both : HasBoth (scope_at keys place.hosts place.sender) place r unit
   pub ends : EndsGood (scope_at keys place.hosts place.sender) c unit
 
-good_where_reached : (keys : List ℕ) (c : Command) (view : Possibilities) (place : Place) (purpose : Purpose) (r : ℕ) (w : Word) (branches : List Branch)
+good_where_reached : (keys : List ℕ) (c : Command) (view : Possibilities) (place : Place) (purpose : Purpose) (r : ℕ) (w : BitSet) (branches : List Branch)
     → IsThis keys c view place → purpose_of keys c ≡ Some purpose → is_refused (key_at keys r) c ≡ false → ((m : ℕ) → has w m ≡ (m == r))
     → AreBranches place.hosts purpose place.held place.sender (standing_of purpose r) branches → ((b : Branch) → Contains branches b → IsProperBranch b)
     → IsOneReached (view_in (scope_at keys place.hosts place.sender) view) place w branches (length branches) → IsGoodWith keys c view place r
@@ -184,7 +176,7 @@ good_where_reached keys c view place purpose r w branches this asks accepted onl
     ended : Ends (scope_at keys place.hosts place.sender) place.sender (ending.Good one.reached.change) one.reached.there.unit c
     ended = subst (λ e. Ends (scope_at keys place.hosts place.sender) place.sender e one.reached.there.unit c) one.reached.good (right.ends one.reached.there.unit one.reached.there.at)
 
-pub one_registration_permitted : (keys : List ℕ) (c : Command) (view : Possibilities) (place : Place) (purpose : Purpose) (r : ℕ) (w : Word) (branches listed : List Branch) (clauses : List Clause) (standing : Standing) (key : Option ℕ) (refused reached result : Bool)
+pub one_registration_permitted : (keys : List ℕ) (c : Command) (view : Possibilities) (place : Place) (purpose : Purpose) (r : ℕ) (w : BitSet) (branches listed : List Branch) (clauses : List Clause) (standing : Standing) (key : Option ℕ) (refused reached result : Bool)
     → IsThis keys c view place → Some purpose ≡ purpose_of keys c → key ≡ key_at keys r → refused ≡ is_refused key c → refused ≡ false → ((m : ℕ) → has w m ≡ (m == r))
     → standing ≡ standing_of purpose r → AreBranches place.hosts purpose place.held place.sender standing listed → All IsProperBranch listed → branches ≡ listed
     → (IsUniform w → All IsProperBranch branches → IsTrue reached ↔ IsOneReached (view_in (scope_at keys place.hosts place.sender) view) place w branches (length branches))
@@ -286,7 +278,7 @@ not_registered keys c view place clauses r this none u shown both ends =
     absurd (false≢true (sym none ∙ subst (λ n. has_at view.registrations place.sender n ≡ true) same seen.1.0.1))
 
 pub each_registration : (keys : List ℕ) (c : Command) (view : Possibilities) (place : Place) (clauses : List Clause) → IsThis keys c view place
-    → ArePermitted (view_in (scope_at keys place.hosts place.sender) view) clauses c (HasFirst (scope_at keys place.hosts place.sender) place 13)
+    → ArePermitted (view_in (scope_at keys place.hosts place.sender) view) clauses c (HasFirst (scope_at keys place.hosts place.sender) place MOST_REGISTRATIONS)
     → ArePermitted (view_in (scope_at keys place.hosts place.sender) view) clauses c (λ u. IsSo (scope_at keys place.hosts place.sender) u (Reservation place.reservation))
 each_registration keys c view place clauses this permitted u shown reserved ends =
     let seen = shown.registrations place.sender place.there in

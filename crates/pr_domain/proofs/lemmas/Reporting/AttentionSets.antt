@@ -1,17 +1,17 @@
 -- Sets of attentions as numbers, once one of them was reported.
-use Rattle.pr_domain.proofs.Common.{◌≡◌, ℕ, ◌+◌, ◌<◌, Bool, true, false, ◌&&◌, ◌||◌, ◌≢◌, ◌⊎◌, ◌==◌, sym, refl, ap, ◌∙◌, subst, inl, inr, arith, false≢true, or_cases, or_left, or_right, eqb_tells, nat_tests, has, Word, code_of, codes_of, Attention, AreReported}
+use Rattle.pr_domain.proofs.Common.{◌≡◌, ℕ, ◌+◌, ◌<◌, Bool, true, false, ◌&&◌, ◌||◌, ◌≢◌, ◌⊎◌, ◌==◌, sym, refl, ap, ◌∙◌, subst, inl, inr, arith, false≢true, or_cases, or_left, or_right, eqb_tells, nat_tests, has, BitSet, code_of, codes_of, Attention, AreReported}
 use Rattle.std.specs.FinSet as set
 use Rattle.pr_attention.proofs.lemmas.Bits.{same_bits}
 use Rattle.pr_domain.specs.inside.Reporting.{IsAfter}
 
-pub reported_none : (pending : Word) (a : Attention) (left : Word) → ((n : ℕ) → has left n ≡ false) → AreReported 0 pending a left
+pub reported_none : (pending : BitSet) (a : Attention) (left : BitSet) → ((n : ℕ) → has left n ≡ false) → AreReported 0 pending a left
 reported_none pending a left none = record {
   all = λ q n below there after. absurd (omega arith);
   only = λ n there. absurd (false≢true (sym (none n) ∙ there));
 }
 
 -- one set more in which it is
-pub reported_more : (bound : ℕ) (pending : Word) (a : Attention) (left new : Word) (m : ℕ) → AreReported bound pending a left → has pending bound ≡ true → IsAfter bound a m
+pub reported_more : (bound : ℕ) (pending : BitSet) (a : Attention) (left new : BitSet) (m : ℕ) → AreReported bound pending a left → has pending bound ≡ true → IsAfter bound a m
     → ((n : ℕ) → has new n ≡ (n == m || has left n)) → AreReported (bound + 1) pending a new
 reported_more bound pending a left new m before there after is = record { all = all; only = λ n has. only n (or_cases (n == m) _ (sym (is n) ∙ has)) }
   where
@@ -34,7 +34,7 @@ reported_more bound pending a left new m before there after is = record { all = 
         (found.0, (let below = found.1 in omega arith), found.2, found.3)
 
 -- one set more that is not possible, or in which it is not
-pub reported_skips : (bound : ℕ) (pending : Word) (a : Attention) (left : Word) → AreReported bound pending a left
+pub reported_skips : (bound : ℕ) (pending : BitSet) (a : Attention) (left : BitSet) → AreReported bound pending a left
     → (has pending bound && set.contains (codes_of bound) (code_of a)) ≡ false → AreReported (bound + 1) pending a left
 reported_skips bound pending a left before none = record {
   all = all;

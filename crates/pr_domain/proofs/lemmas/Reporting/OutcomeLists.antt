@@ -1,5 +1,5 @@
 -- Lists of outcomes to which one landing is added.
-use Rattle.pr_domain.proofs.Common.{◌≡◌, ℕ, zero, suc, ◌+◌, ◌<◌, true, false, ◌≢◌, ◌⊎◌, ◌↔◌, List, [], ◌∷◌, length, get_or, ◌==◌, slice_get, slice_set, Some, None, sym, refl, ap, ◌∙◌, subst, inl, inr, arith, eqb_tells, same_Some, get_or_from_slice_get, has_wide, has, Word, view_in, Scope, Item, Registration, Reservation, Attentions, scope_of, view_of, IsPossible, Possibilities, ViewOf, Landing, HasOutcome, AreKept, AreMore, IsOfWay}
+use Rattle.pr_domain.proofs.Common.{◌≡◌, ℕ, zero, suc, ◌+◌, ◌<◌, true, false, ◌≢◌, ◌⊎◌, ◌↔◌, List, [], ◌∷◌, length, get_or, ◌==◌, slice_get, slice_set, Some, None, sym, refl, ap, ◌∙◌, subst, inl, inr, arith, eqb_tells, same_Some, get_or_from_slice_get, has_wide, has, BitSet, view_in, Scope, Item, Registration, Reservation, Attentions, scope_of, view_of, IsPossible, Possibilities, ViewOf, Landing, HasOutcome, AreKept, AreMore, IsOfWay}
 use Rattle.std.proofs.Common.{◌++◌}
 use Rattle.pr_sets.specs.declared.view_set.ViewSet.{Ghosts as ViewSet}
 use Rattle.pr_views.proofs.lemmas.Rooms.Places.{get_other}
@@ -183,7 +183,7 @@ possible_scope s t p same (Reservation x) is = is
 possible_scope s t p same (Attentions q) is = is
 
 -- the view that is added is of the way
-pub added_way : {S : Type 0} {sets : ViewSet S} (s : Scope) (way : Possibilities) (pending : Word) (landing : Landing) (v : ViewOf S sets) (x q : ℕ) → v.hosts ≡ s.hosts
+pub added_way : {S : Type 0} {sets : ViewSet S} (s : Scope) (way : Possibilities) (pending : BitSet) (landing : Landing) (v : ViewOf S sets) (x q : ℕ) → v.hosts ≡ s.hosts
     → has_wide way.reservations x ≡ true → has pending q ≡ true
     → ((own : ℕ) (i : Item) → IsPossible (view_of own v) i ↔ IsPossible (view_in (scope_of own v) (record way { pending = pending })) i)
     → (l : Landing) (i : Item) → ((l ≡ landing) × IsPossible (view_of s.own v) i) ↔ ((l ≡ landing) × IsOfWay s way pending i)

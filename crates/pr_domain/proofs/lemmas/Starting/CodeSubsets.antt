@@ -1,5 +1,5 @@
 -- Sets of codes by their numbers: which are within another, and which one a test tells.
-use Rattle.pr_domain.proofs.Common.{◌≡◌, ℕ, ◌+◌, ◌<◌, Bool, true, false, not, ◌&&◌, ◌||◌, ◌↔◌, List, [], ◌∷◌, if◌then◌else◌, IsTrue, ◌==◌, sym, refl, ap, ◌∙◌, lit<, list_all, false≢true, and_parts, has, Word, power_on, reservations_preempted, reservations_released, registrations_preempted, code_of, codes_of, Attention, PowerOn, ReservationsPreempted, ReservationsReleased, RegistrationsPreempted, stays}
+use Rattle.pr_domain.proofs.Common.{◌≡◌, ℕ, ◌+◌, ◌<◌, Bool, true, false, not, ◌&&◌, ◌||◌, ◌↔◌, List, [], ◌∷◌, if◌then◌else◌, IsTrue, ◌==◌, sym, refl, ap, ◌∙◌, lit<, list_all, false≢true, and_parts, has, BitSet, power_on, reservations_preempted, reservations_released, registrations_preempted, code_of, codes_of, Attention, PowerOn, ReservationsPreempted, ReservationsReleased, RegistrationsPreempted, stays, ATTENTION_SETS}
 use Rattle.std.specs.FinSet as set
 use Rattle.std.specs.Int.{bit_at}
 use Rattle.pr_attention.specs.Attentions.{is_attention, Codes}
@@ -63,7 +63,7 @@ bits_of a b c d = (if a then 1 else 0) + ((if b then 2 else 0) + ((if c then 4 e
 
 -- the bits are those of the number
 record HasBits (q : ℕ) (a b c d : Bool) : Type 0 where
-  few : q < 16
+  few : q < ATTENTION_SETS
   first : (bit_at q 0 == 1) ≡ a
   second : (bit_at q 1 == 1) ≡ b
   third : (bit_at q 2 == 1) ≡ c
@@ -88,7 +88,7 @@ has_bits false false false true = record { few = lit< tt; first = refl; second =
 has_bits false false false false = record { few = lit< tt; first = refl; second = refl; third = refl; fourth = refl }
 
 -- a test that only attentions pass tells one of the sixteen sets
-pub numbered : (test : ℕ → Bool) → ((code : ℕ) → test code ≡ true → IsTrue (is_attention code)) → (q : ℕ) × (q < 16) × ((code : ℕ) → test code ≡ set.contains (codes_of q) code)
+pub numbered : (test : ℕ → Bool) → ((code : ℕ) → test code ≡ true → IsTrue (is_attention code)) → (q : ℕ) × (q < ATTENTION_SETS) × ((code : ℕ) → test code ≡ set.contains (codes_of q) code)
 numbered test known = (q, bits.few, λ code. at code (is_attention code) refl)
   where
     q : ℕ
@@ -119,6 +119,6 @@ numbered test known = (q, bits.few, λ code. at code (is_attention code) refl)
 -- ---- all the sets within another
 
 -- of the first sets, those within the other
-pub record AreWithin (n : ℕ) (codes : Codes) (sets : Word) : Type 0 where
+pub record AreWithin (n : ℕ) (codes : Codes) (sets : BitSet) : Type 0 where
   pub few : (q : ℕ) → has sets q ≡ true → q < n
   pub within : (q : ℕ) → q < n → (has sets q ≡ true) ↔ AreAmong (codes_of q) codes

@@ -1,5 +1,5 @@
 -- READ KEYS and READ RESERVATION: which arm takes their data.
-use Rattle.pr_domain.proofs.Common.{◌≡◌, ℕ, ◌+◌, ◌<◌, ◌≤◌, Bool, true, false, ◌||◌, ◌⊎◌, List, length, IfSome, IfNone, ◌==◌, slice_get, Some, None, All, Contains, Option, sym, refl, ap, ◌∙◌, subst, inl, inr, arith, false≢true, and_parts, cases_order, cases_eq, nat_tests, same_Some, slice_get-get_or, has, Word, Command, State, key_of, good, data_of, UnitState, is_written_key, test_fits, matches, Test, view_in, Scope, Shows, Possibilities, one_registration, IsPlace, IsAt, purpose_of, is_refused, first_test, standing_of, Place, Branch, Reading, Transition, same_reservation, Tally, arm_of, Grows, IsRight, HasBoth, IsOwners, IsReadAt, IsReadFirst}
+use Rattle.pr_domain.proofs.Common.{◌≡◌, ℕ, ◌+◌, ◌<◌, ◌≤◌, Bool, true, false, ◌||◌, ◌⊎◌, List, length, IfSome, IfNone, ◌==◌, slice_get, Some, None, All, Contains, Option, sym, refl, ap, ◌∙◌, subst, inl, inr, arith, false≢true, and_parts, cases_order, cases_eq, nat_tests, same_Some, slice_get-get_or, has, BitSet, Command, State, key_of, good, data_of, UnitState, is_written_key, test_fits, matches, Test, view_in, Scope, Shows, Possibilities, one_registration, IsPlace, IsAt, purpose_of, is_refused, first_test, standing_of, Place, Branch, Reading, Transition, same_reservation, Tally, arm_of, Grows, IsRight, HasBoth, IsOwners, IsReadAt, IsReadFirst, MOST_ARMS}
 use Rattle.std.proofs.Common.{position}
 use Rattle.std.proofs.lemmas.List.Elements.{All-weaker}
 use Rattle.std.proofs.lemmas.List.Quantifiers.{position-Some}
@@ -22,18 +22,18 @@ use Rattle.pr_domain.proofs.lemmas.Tallies.Growth.{grows_then, grows_from_none}
 use Rattle.pr_domain.proofs.lemmas.Tallies.Requests.{only_uniform, sender_is}
 
 -- the way is that of the arm
-pub arm_way : (tests : List Test) (u : UnitState) (c : Command) (arm : Option ℕ) (way : ℕ) → length tests ≤ 16 → (IfSome arm (λ n. n < 16) → way ≡ way_of arm) → IfNone arm (way ≡ 0)
+pub arm_way : (tests : List Test) (u : UnitState) (c : Command) (arm : Option ℕ) (way : ℕ) → length tests ≤ MOST_ARMS → (IfSome arm (λ n. n < MOST_ARMS) → way ≡ way_of arm) → IfNone arm (way ≡ 0)
     → first_test tests (good (data_of u.registry c)) ≡ arm → first_test tests (good (data_of u.registry c)) ≡ arm_of way
 arm_way tests u c None way few some none is = is ∙ ap arm_of (sym none)
 arm_way tests u c (Some n) way few some none is =
     let found = position-Some (λ t. matches t (good (data_of u.registry c))) tests n test.Good is in
-    let small : n < 16 = (let e = found.0 in omega arith) in
+    let small : n < MOST_ARMS = (let e = found.0 in omega arith) in
     is ∙ ap arm_of (sym (some small))
 
-pub reading_right : (s : Scope) (c : Command) (tests : List Test) (view : Possibilities) (place : Place) (r : ℕ) (w : Word) (b : Reading) (branch : Branch) (change : Transition) (way : ℕ)
+pub reading_right : (s : Scope) (c : Command) (tests : List Test) (view : Possibilities) (place : Place) (r : ℕ) (w : BitSet) (b : Reading) (branch : Branch) (change : Transition) (way : ℕ)
     → IsRightReading s c tests view place r b → ((m : ℕ) → has w m ≡ (m == r)) → branch.region ≡ b.region → branch.ending ≡ ending.Good change
     → Does change None never place.reservation never never never
-    → (IfSome b.arm (λ n. n < 16) → way ≡ way_of b.arm) → IfNone b.arm (way ≡ 0) → IsRight s c tests view place w branch way
+    → (IfSome b.arm (λ n. n < MOST_ARMS) → way ≡ way_of b.arm) → IfNone b.arm (way ≡ 0) → IsRight s c tests view place w branch way
 reading_right s c tests view place r w b branch change way right only region ends does some none = record {
   own = right.own;
   is = right.is;
@@ -46,11 +46,11 @@ reading_right s c tests view place r w b branch change way right only region end
     both : (u : UnitState) → IsAt (view_in s view) place w branch.region u → HasBoth s place r u
     both u at = record { reserved = at.reservation; registered = sender_is s view place r w branch.region u right.is only at }
 
-pub read_at : (s : Scope) (view : Possibilities) (place : Place) (r : ℕ) (w : Word) (b : Reading) (u : UnitState) → IsPlace s view place → ((m : ℕ) → has w m ≡ (m == r))
+pub read_at : (s : Scope) (view : Possibilities) (place : Place) (r : ℕ) (w : BitSet) (b : Reading) (u : UnitState) → IsPlace s view place → ((m : ℕ) → has w m ≡ (m == r))
     → IsAt (view_in s view) place w b.region u → IsReadAt s view place r b u
 read_at s view place r w b u is only at = (record { reserved = at.reservation; registered = sender_is s view place r w b.region u is only at }, at.inside)
 
-pub at_read : (s : Scope) (view : Possibilities) (place : Place) (r : ℕ) (w : Word) (b : Reading) (u : UnitState) → IsPlace s view place → ((m : ℕ) → has w m ≡ (m == r))
+pub at_read : (s : Scope) (view : Possibilities) (place : Place) (r : ℕ) (w : BitSet) (b : Reading) (u : UnitState) → IsPlace s view place → ((m : ℕ) → has w m ≡ (m == r))
     → Shows (view_in s view) u → IsReadAt s view place r b u → IsAt (view_in s view) place w b.region u
 at_read s view place r w b u is only shown read = record {
   shown = shown;
@@ -115,7 +115,7 @@ look_ends s view place r (command.ReadReservation alloc) reads own is change doe
 look_ends s view place r _ reads own is change does u shown both = absurd (false≢true reads)
 
 pub right_readings : (s : Scope) (keys : List ℕ) (c : Command) (tests : List Test) (view : Possibilities) (place : Place) (r : ℕ) (readings : List Reading) → IsOwners s keys view place
-    → (is_read_keys c || is_read_reservation c) ≡ true → length tests ≤ 16 → ((hosts : ℕ) → AreReadings keys hosts tests c place.held place.sender r readings)
+    → (is_read_keys c || is_read_reservation c) ≡ true → length tests ≤ MOST_ARMS → ((hosts : ℕ) → AreReadings keys hosts tests c place.held place.sender r readings)
     → ((b : Reading) → Contains readings b → IsProperReading b) → AreRightReadings s c tests view place r readings
 right_readings s keys c tests view place r readings owners reads few are proper b listed = record {
   own = owners.own;
@@ -164,14 +164,14 @@ blind keys c tests none fit = All-weaker (λ t. test_fits keys c t ≡ true) (λ
     each _ is = refl
 
 pub arm_taken : (keys : List ℕ) (c : Command) (tests : List Test) (arm : Option ℕ) (way : ℕ) (u : State) → (is_read_keys c || is_read_reservation c) ≡ false → All (λ t. test_fits keys c t ≡ true) tests
-    → length tests ≤ 16 → arm ≡ position (λ t. takes t class.Good) tests → (IfSome arm (λ n. n < 16) → way ≡ way_of arm) → IfNone arm (way ≡ 0)
+    → length tests ≤ MOST_ARMS → arm ≡ position (λ t. takes t class.Good) tests → (IfSome arm (λ n. n < MOST_ARMS) → way ≡ way_of arm) → IfNone arm (way ≡ 0)
     → first_test tests (good (data_of u c)) ≡ arm_of way
 arm_taken keys c tests arm way u none fit few is some nothing =
     first_of_class tests class.Good (good (data_of u c)) refl (blind keys c tests none fit) ∙ at arm is some nothing
   where
-    at : (arm : Option ℕ) → arm ≡ position (λ t. takes t class.Good) tests → (IfSome arm (λ n. n < 16) → way ≡ way_of arm) → IfNone arm (way ≡ 0) → position (λ t. takes t class.Good) tests ≡ arm_of way
+    at : (arm : Option ℕ) → arm ≡ position (λ t. takes t class.Good) tests → (IfSome arm (λ n. n < MOST_ARMS) → way ≡ way_of arm) → IfNone arm (way ≡ 0) → position (λ t. takes t class.Good) tests ≡ arm_of way
     at None is some nothing = sym is ∙ ap arm_of (sym nothing)
     at (Some n) is some nothing =
         let found = position-Some (λ t. takes t class.Good) tests n test.Good (sym is) in
-        let small : n < 16 = (let e = found.0 in omega arith) in
+        let small : n < MOST_ARMS = (let e = found.0 in omega arith) in
         sym is ∙ ap arm_of (sym (some small))

@@ -1,5 +1,5 @@
 -- What is added for each way in which a command can end.
-use Rattle.pr_domain.proofs.Common.{◌≡◌, ℕ, zero, suc, ◌+◌, ◌-◌, ◌<◌, ◌≤◌, Bool, true, false, ◌||◌, ◌≢◌, ◌⊎◌, ◌↔◌, List, length, IsTrue, ◌==◌, slice_get, Some, sym, refl, ap, ◌∙◌, subst, inl, inr, arith, lit<, false≢true, eqb_tells, has_wide, has, Word, Command, Reply, Sense, Plain, power_on, code_of, Attention, PowerOn, command_conflicts, command_fault, good, check, conflict, report, UnitState, is_pending, is_written, matches, Test, is_reservation, has_at, count_of_reservations, Item, Registration, Reservation, Attentions, AreInRange, View, Possibilities, ViewOf, reservation_of, IsClass, IsLanding, Good, Landing, Unserved, AreReported, HasOutcome, AreMore, Ending, Reports, Conflicts, Fails, EndsGood, Refuses, refusal, Ends, landing_at, LandsBy, LandsGoodBelow, IsOfWay, view_of_sending, IsOfWayAt, LandsOf, IsRegistered, has_part, Leaves}
+use Rattle.pr_domain.proofs.Common.{◌≡◌, ℕ, zero, suc, ◌+◌, ◌-◌, ◌<◌, ◌≤◌, Bool, true, false, ◌||◌, ◌≢◌, ◌⊎◌, ◌↔◌, List, length, IsTrue, ◌==◌, slice_get, Some, sym, refl, ap, ◌∙◌, subst, inl, inr, arith, lit<, false≢true, eqb_tells, has_wide, has, BitSet, Command, Reply, Sense, Plain, power_on, code_of, Attention, PowerOn, command_conflicts, command_fault, good, check, conflict, report, UnitState, is_pending, is_written, matches, Test, is_reservation, has_at, count_of_reservations, Item, Registration, Reservation, Attentions, AreInRange, View, Possibilities, ViewOf, reservation_of, IsClass, IsLanding, Good, Landing, Unserved, AreReported, HasOutcome, AreMore, Ending, Reports, Conflicts, Fails, EndsGood, Refuses, refusal, Ends, landing_at, LandsBy, LandsGoodBelow, IsOfWay, view_of_sending, IsOfWayAt, LandsOf, IsRegistered, has_part, Leaves, ATTENTION_SETS, MOST_ARMS}
 use Rattle.std.specs.Coded.{le_prop}
 use Rattle.std.proofs.Math.Logic.{∥∥₁_elim}
 use Rattle.std.proofs.lemmas.List.Quantifiers.{position-Some}
@@ -16,7 +16,7 @@ use Rattle.pr_domain.proofs.lemmas.Tallies.Possibilities.{way_of_tally, either_w
 
 -- ---- one way
 
-module _ (v : View) (c : Command) (tests : List Test) (ending : Ending) (l : Landing) (Left : UnitState → Item → Type 0) (p : Possibilities) (pending : Word)
+module _ (v : View) (c : Command) (tests : List Test) (ending : Ending) (l : Landing) (Left : UnitState → Item → Type 0) (p : Possibilities) (pending : BitSet)
     (way : IsWay v Left p) (told : IsTold v c tests ending l Left pending)
     (written : is_written v.scope.keys c ≡ true) (whole : FitsCommand c) (there : v.scope.own < v.scope.hosts) where
   -- its possibilities are numbers of registrations, reservations and attentions
@@ -41,12 +41,12 @@ module _ (v : View) (c : Command) (tests : List Test) (ending : Ending) (l : Lan
   )
 
 -- what is known of a way to end
-pub record IsAddedBy (q : Sending) (ending : Ending) (This : Landing → Item → Type 0) (l : Landing) (p : Possibilities) (pending : Word) : Type 0 where
+pub record IsAddedBy (q : Sending) (ending : Ending) (This : Landing → Item → Type 0) (l : Landing) (p : Possibilities) (pending : BitSet) : Type 0 where
   pub range : IsInRange q p pending
   pub lands : (m : Landing) (i : Item) → IsOfWayAt q l p pending m i ↔ This m i
 
 -- the tally's ways are in range, whichever proof there is that it is right
-pub range_of : (q : Sending) (p : Possibilities) (pending : Word) → (IsTallied q → IsInRange q p pending) → IsInRange q p pending
+pub range_of : (q : Sending) (p : Possibilities) (pending : BitSet) → (IsTallied q → IsInRange q p pending) → IsInRange q p pending
 range_of q p pending from x n reserved pends = record {
   registrations = λ g r small has. ∥∥₁_elim q.tallied le_prop (λ tally. (from tally x n reserved pends).registrations g r small has);
   reservations = λ y has. ∥∥₁_elim q.tallied le_prop (λ tally. (from tally x n reserved pends).reservations y has);
@@ -54,7 +54,7 @@ range_of q p pending from x n reserved pends = record {
 }
 
 module _ (q : Sending) (tally : IsTallied q) where
-  by_reply : (ending : Ending) (l : Landing) (Left : UnitState → Item → Type 0) (p : Possibilities) (pending : Word) → IsWay (view_of_sending q) Left p → IsTold (view_of_sending q) q.asked.command q.asked.tests.now ending l Left pending
+  by_reply : (ending : Ending) (l : Landing) (Left : UnitState → Item → Type 0) (p : Possibilities) (pending : BitSet) → IsWay (view_of_sending q) Left p → IsTold (view_of_sending q) q.asked.command q.asked.tests.now ending l Left pending
       → ((u : UnitState) (r : Reply) (w : UnitState) → Ends ending q.asked.command q.sender u r w → IsLanding q.asked.tests.now r l)
       → IsAddedBy q ending (LandsOf q ending) l p pending
   by_reply ending l Left p pending way told landing = record {
@@ -62,8 +62,8 @@ module _ (q : Sending) (tally : IsTallied q) where
     lands = lands_so (view_of_sending q) q.asked.command q.asked.tests.now ending l Left p pending way told q.asked.written q.asked.whole q.there landing;
   }
 
-  pub adds_power_on : (l : Landing) (p free either : Possibilities) (left : Word) → slice_get q.tally.now.ways 0 ≡ Some p → slice_get q.tally.now.ways 1 ≡ Some free
-      → ((j : Item) → has_part either j ≡ (has_part p j || has_part free j)) → AreReported 16 q.known.pending PowerOn left → IsLanding q.asked.tests.now (report (Plain q.asked.command) power_on) l
+  pub adds_power_on : (l : Landing) (p free either : Possibilities) (left : BitSet) → slice_get q.tally.now.ways 0 ≡ Some p → slice_get q.tally.now.ways 1 ≡ Some free
+      → ((j : Item) → has_part either j ≡ (has_part p j || has_part free j)) → AreReported ATTENTION_SETS q.known.pending PowerOn left → IsLanding q.asked.tests.now (report (Plain q.asked.command) power_on) l
       → IsAddedBy q (Reports PowerOn) (LandsOf q (Reports PowerOn)) l either left
   adds_power_on l p free either left first second is are landing =
       by_reply (Reports PowerOn) l (IsRegistered (scope_of_sending q)) either left
@@ -84,7 +84,7 @@ module _ (q : Sending) (tally : IsTallied q) where
   may PowerOn later u = absurd later
   may _ later u = (λ x. x, λ x. x)
 
-  pub adds_report : (a : Attention) (l : Landing) (p : Possibilities) (calm left : Word) → IsLater a → slice_get q.tally.now.ways 1 ≡ Some p → AreCalm q.known calm → AreReported 16 calm a left
+  pub adds_report : (a : Attention) (l : Landing) (p : Possibilities) (calm left : BitSet) → IsLater a → slice_get q.tally.now.ways 1 ≡ Some p → AreCalm q.known calm → AreReported ATTENTION_SETS calm a left
       → IsLanding q.asked.tests.now (report (Plain q.asked.command) (code_of a)) l → IsAddedBy q (Reports a) (LandsOf q (Reports a)) l p left
   adds_report a l p calm left later second calms are landing =
       by_reply (Reports a) l (Leaves (scope_of_sending q) q.asked.command q.asked.tests.now 1) p left
@@ -92,7 +92,7 @@ module _ (q : Sending) (tally : IsTallied q) where
       (told_later (scope_of_sending q) q.known q.asked.command q.asked.tests.now l a calm left (may a later) calms are landing)
       (λ u r w ends. subst (λ x. IsLanding q.asked.tests.now x l) (sym ends.1.1) landing)
 
-  pub adds_conflict : (l : Landing) (p : Possibilities) (calm : Word) → slice_get q.tally.now.ways 0 ≡ Some p → AreCalm q.known calm → IsLanding q.asked.tests.now conflict l
+  pub adds_conflict : (l : Landing) (p : Possibilities) (calm : BitSet) → slice_get q.tally.now.ways 0 ≡ Some p → AreCalm q.known calm → IsLanding q.asked.tests.now conflict l
       → IsAddedBy q Conflicts (LandsOf q Conflicts) l p calm
   adds_conflict l p calm first calms landing =
       by_reply Conflicts l (Leaves (scope_of_sending q) q.asked.command q.asked.tests.now 0) p calm
@@ -100,7 +100,7 @@ module _ (q : Sending) (tally : IsTallied q) where
       (told_conflict (scope_of_sending q) q.known q.asked.command q.asked.tests.now l calm calms landing)
       (λ u r w ends. subst (λ x. IsLanding q.asked.tests.now x l) (sym ends.2) landing)
 
-  pub adds_fault : (l : Landing) (p : Possibilities) (quiet : Word) (sense : Sense) → slice_get q.tally.now.ways 2 ≡ Some p → AreQuiet q.known quiet
+  pub adds_fault : (l : Landing) (p : Possibilities) (quiet : BitSet) (sense : Sense) → slice_get q.tally.now.ways 2 ≡ Some p → AreQuiet q.known quiet
       → ((u : UnitState) (x : Sense) → command_fault u.registry q.sender q.asked.command ≡ Some x → x ≡ sense) → IsLanding q.asked.tests.now (check sense) l
       → IsAddedBy q Fails (LandsOf q Fails) l p quiet
   adds_fault l p quiet sense third quiets fixed landing =
@@ -109,7 +109,7 @@ module _ (q : Sending) (tally : IsTallied q) where
       (told_fault (scope_of_sending q) q.known q.asked.command q.asked.tests.now l quiet sense quiets fixed landing)
       (λ u r w ends. subst (λ x. IsLanding q.asked.tests.now x l) (sym (ends.4 ∙ ap check (fixed u ends.2 ends.3))) landing)
 
-  pub adds_good : (l : Landing) (p : Possibilities) (quiet : Word) (arm : ℕ) → slice_get q.tally.now.ways (suc (suc (suc arm))) ≡ Some p → AreQuiet q.known quiet → l ≡ landing_at arm
+  pub adds_good : (l : Landing) (p : Possibilities) (quiet : BitSet) (arm : ℕ) → slice_get q.tally.now.ways (suc (suc (suc arm))) ≡ Some p → AreQuiet q.known quiet → l ≡ landing_at arm
       → IsAddedBy q EndsGood (LandsGood (view_of_sending q) q.asked.command q.asked.tests.now arm) l p quiet
   adds_good l p quiet arm there quiets is_landing =
       let v = view_of_sending q in
@@ -160,13 +160,13 @@ good_more own old mid new v c tests arm first second l i = (λ has. late ((secon
         at (inl same) = (second l i).1 (inr (subst (λ n. LandsGood v c tests n l i) same.1 lands.2))
         at (inr other) = (second l i).1 (inl ((first l i).1 (inr (lands.0, (let small = lands.1 in let differs = other.1 in omega arith), lands.2))))
 
-arm_of_landing : (tests : List Test) (r : Reply) (l : Landing) → length tests ≤ 16 → IsClass r Good → IsLanding tests r l → (arm : ℕ) × (arm < 17) × (l ≡ landing_at arm)
+arm_of_landing : (tests : List Test) (r : Reply) (l : Landing) → length tests ≤ MOST_ARMS → IsClass r Good → IsLanding tests r l → (arm : ℕ) × (arm < MOST_ARMS + 1) × (l ≡ landing_at arm)
 arm_of_landing tests r (Arm n) few good is =
     let small = (position-Some (λ t. matches t r) tests n test.Good is).0 in
     (suc n, omega arith, refl)
 arm_of_landing tests r (NoArm class) few good is = (0, lit< tt, ap NoArm (one_class r class Good is.1 good))
 
-pub good_all : (v : View) (c : Command) (tests : List Test) (bound : ℕ) → length tests ≤ 16 → 17 ≤ bound → (l : Landing) (i : Item) → LandsGoodBelow v c tests bound l i ↔ LandsBy v c tests EndsGood l i
+pub good_all : (v : View) (c : Command) (tests : List Test) (bound : ℕ) → length tests ≤ MOST_ARMS → MOST_ARMS < bound → (l : Landing) (i : Item) → LandsGoodBelow v c tests bound l i ↔ LandsBy v c tests EndsGood l i
 good_all v c tests bound few all l i = (
   λ lands. lands.2.1,
   λ by.

@@ -1,5 +1,5 @@
 -- Tallies that grow step by step.
-use Rattle.pr_domain.proofs.Common.{◌≡◌, ℕ, ◌+◌, ◌<◌, true, ◌⊎◌, List, slice_get, Some, Contains, sym, ap, ◌∙◌, subst, inl, inr, arith, cases_order, cases_eq, same_Some, slice_get_within, get_or_from_slice_get, Word, Command, UnitState, Test, view_in, Scope, Item, View, Shows, Possibilities, IsAt, Place, Branch, Tally, has_tallied, Leaves, IsFound, Grows, IsInOne}
+use Rattle.pr_domain.proofs.Common.{◌≡◌, ℕ, ◌+◌, ◌<◌, true, ◌⊎◌, List, slice_get, Some, Contains, sym, ap, ◌∙◌, subst, inl, inr, arith, cases_order, cases_eq, same_Some, slice_get_within, get_or_from_slice_get, BitSet, Command, UnitState, Test, view_in, Scope, Item, View, Shows, Possibilities, IsAt, Place, Branch, Tally, has_tallied, Leaves, IsFound, Grows, IsInOne}
 
 -- found among these, and so among those
 found_as : (v : View) (c : Command) (tests : List Test) (A B : UnitState → Type 0) (way : ℕ) (i : Item) (q : ℕ) → ((u : UnitState) → Shows v u → A u → B u)
@@ -51,7 +51,7 @@ grows_from_none v c tests t A nobody = record {
 }
 
 -- one branch more
-pub branches_more : (s : Scope) (c : Command) (tests : List Test) (view : Possibilities) (place : Place) (senders : Word) (branches : List Branch) (n : ℕ) (b : Branch) (old mid new : Tally)
+pub branches_more : (s : Scope) (c : Command) (tests : List Test) (view : Possibilities) (place : Place) (senders : BitSet) (branches : List Branch) (n : ℕ) (b : Branch) (old mid new : Tally)
     → slice_get branches n ≡ Some b → Grows (view_in s view) c tests old mid (IsInOne (view_in s view) place senders branches n)
     → Grows (view_in s view) c tests mid new (IsAt (view_in s view) place senders b.region)
     → Grows (view_in s view) c tests old new (IsInOne (view_in s view) place senders branches (n + 1))

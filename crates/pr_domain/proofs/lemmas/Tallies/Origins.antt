@@ -1,5 +1,5 @@
 -- Where the possibilities of each landing come from.
-use Rattle.pr_domain.proofs.Common.{◌≡◌, ℕ, ◌-◌, ◌<◌, true, ◌⊎◌, ◌↔◌, List, bit_and, Some, None, Option, sym, refl, ap, ◌∙◌, subst, inl, inr, same_Some, has, Word, Command, Reply, Plain, code_of, Attention, State, key_of, Step, UnitState, IsWellFormed, effect, is_written, Test, view_in, Scope, number_of, Item, Registration, Reservation, Attentions, IsSo, View, IsPossible, Shows, Possibilities, first_test, IsClass, IsLanding, Class, Good, Conflict, Busy, Full, Landing, Ending, Reports, Conflicts, Fails, EndsGood, Refuses, Ends, LandsBy, IsOfWay, IsRegistered, has_part}
+use Rattle.pr_domain.proofs.Common.{◌≡◌, ℕ, ◌-◌, ◌<◌, true, ◌⊎◌, ◌↔◌, List, bit_and, Some, None, Option, sym, refl, ap, ◌∙◌, subst, inl, inr, same_Some, has, BitSet, Command, Reply, Plain, code_of, Attention, State, key_of, Step, UnitState, IsWellFormed, effect, is_written, Test, view_in, Scope, number_of, Item, Registration, Reservation, Attentions, IsSo, View, IsPossible, Shows, Possibilities, first_test, IsClass, IsLanding, Class, Good, Conflict, Busy, Full, Landing, Ending, Reports, Conflicts, Fails, EndsGood, Refuses, Ends, LandsBy, IsOfWay, IsRegistered, has_part}
 use Rattle.std.proofs.Common.{◌^◌}
 use Rattle.pr_cdb.specs.declared.reply.Status.{Status}
 use Rattle.pr_cdb.specs.declared.reply.Status.TheVariants as status
@@ -135,13 +135,13 @@ pub record Leads (v : View) (c : Command) (tests : List Test) (ending : Ending) 
   pub left : IsSo v.scope after (Attentions n)
 
 -- each possibility is left, and nothing else is
-pub record IsTold (v : View) (c : Command) (tests : List Test) (ending : Ending) (l : Landing) (Left : UnitState → Item → Type 0) (pending : Word) : Type 0 where
+pub record IsTold (v : View) (c : Command) (tests : List Test) (ending : Ending) (l : Landing) (Left : UnitState → Item → Type 0) (pending : BitSet) : Type 0 where
   pub forth : (u : UnitState) (r : Reply) (w : UnitState) (j : Item) → Shows v u → Ends ending c v.scope.own u r w → IsLanding tests r l → IsRegistered v.scope w j → Left u j
   pub pends : (u : UnitState) (r : Reply) (w : UnitState) (q n : ℕ) → Ends ending c v.scope.own u r w → v.pending q ≡ true → IsSo v.scope u (Attentions q) → IsSo v.scope w (Attentions n) → has pending n ≡ true
   pub back : (n : ℕ) → has pending n ≡ true
       → (q : ℕ) × (v.pending q ≡ true) × ((u : UnitState) (j : Item) → Shows v u → Left u j → IsSo v.scope u (Attentions q) → Leads v c tests ending l u j n)
 
-module _ (v : View) (c : Command) (tests : List Test) (ending : Ending) (l : Landing) (Left : UnitState → Item → Type 0) (p : Possibilities) (pending : Word)
+module _ (v : View) (c : Command) (tests : List Test) (ending : Ending) (l : Landing) (Left : UnitState → Item → Type 0) (p : Possibilities) (pending : BitSet)
     (way : IsWay v Left p) (told : IsTold v c tests ending l Left pending) where
   pub from_part : (j : Item) (n : ℕ) → has_part p j ≡ true → has pending n ≡ true → (u : UnitState) × Shows v u × Leads v c tests ending l u j n
   from_part j n has left =

@@ -1,5 +1,5 @@
 -- The possibilities of a tally, and the attentions beside them, are those of each way to end.
-use Rattle.pr_domain.proofs.Common.{◌≡◌, ℕ, zero, suc, Bool, true, false, not, ◌&&◌, ◌||◌, ◌⊎◌, ◌↔◌, List, is_some, nat_lt, ◌==◌, slice_get, Some, None, Option, sym, refl, ap, ◌∙◌, subst, inl, inr, arith, option_map_or, false≢true, not-true, and_parts, or_cases, and_from, or_left, or_right, nat_tests, has, Word, Command, Reply, Sense, Plain, power_on, code_of, codes_of, Attention, PowerOn, command_conflicts, command_fault, good, check, conflict, report, data_of, UnitState, is_pending, is_any_pending, effect, after_report, Test, view_in, Scope, Item, Attentions, IsSo, View, Shows, Possibilities, first_test, IsLanding, Landing, Unserved, Tally, AreReported, Reports, Conflicts, Fails, EndsGood, Refuses, refusal, landing_at, IsRegistered, has_part, has_tallied, arm_of, Leaves, IsTally}
+use Rattle.pr_domain.proofs.Common.{◌≡◌, ℕ, zero, suc, Bool, true, false, not, ◌&&◌, ◌||◌, ◌⊎◌, ◌↔◌, List, is_some, nat_lt, ◌==◌, slice_get, Some, None, Option, sym, refl, ap, ◌∙◌, subst, inl, inr, arith, option_map_or, false≢true, not-true, and_parts, or_cases, and_from, or_left, or_right, nat_tests, has, BitSet, Command, Reply, Sense, Plain, power_on, code_of, codes_of, Attention, PowerOn, command_conflicts, command_fault, good, check, conflict, report, data_of, UnitState, is_pending, is_any_pending, effect, after_report, Test, view_in, Scope, Item, Attentions, IsSo, View, Shows, Possibilities, first_test, IsLanding, Landing, Unserved, Tally, AreReported, Reports, Conflicts, Fails, EndsGood, Refuses, refusal, landing_at, IsRegistered, has_part, has_tallied, arm_of, Leaves, IsTally, ATTENTION_SETS}
 use Rattle.std.specs.FinSet as set
 use Rattle.std.proofs.lemmas.Bool.{lt-ltb}
 use Rattle.pr_views.proofs.lemmas.Possibilities.Numbers.{one_attentions}
@@ -47,7 +47,7 @@ either_way v c tests t p q either tally first second is = record { all = all; on
 module _ (s : Scope) (known : Possibilities) (c : Command) (tests : List Test) (l : Landing) where
   -- ---- reports
 
-  pub told_power_on : (left : Word) → AreReported 16 known.pending PowerOn left → IsLanding tests (report (Plain c) power_on) l
+  pub told_power_on : (left : BitSet) → AreReported ATTENTION_SETS known.pending PowerOn left → IsLanding tests (report (Plain c) power_on) l
       → IsTold (view_in s known) c tests (Reports PowerOn) l (IsRegistered s) left
   told_power_on left are landing = record {
     forth = λ u r w j shown ends landed so. still_registered s u w j (ap (λ (x : UnitState). x.registry) ends.1.2) so;
@@ -68,18 +68,18 @@ module _ (s : Scope) (known : Possibilities) (c : Command) (tests : List Test) (
         );
   }
 
-  calm_from : (calm : Word) → AreCalm known calm → (u : UnitState) (q : ℕ) → has known.pending q ≡ true → IsSo s u (Attentions q) → is_pending u s.own power_on ≡ false → has calm q ≡ true
+  calm_from : (calm : BitSet) → AreCalm known calm → (u : UnitState) (q : ℕ) → has known.pending q ≡ true → IsSo s u (Attentions q) → is_pending u s.own power_on ≡ false → has calm q ≡ true
   calm_from calm are u q possible so none =
-      are q ∙ and_from _ _ (and_from (has known.pending q) _ possible (ap not (sym (so.1 power_on) ∙ none))) (lt-ltb q 16 so.0)
+      are q ∙ and_from _ _ (and_from (has known.pending q) _ possible (ap not (sym (so.1 power_on) ∙ none))) (lt-ltb q ATTENTION_SETS so.0)
 
-  calm_is : (calm : Word) → AreCalm known calm → (q : ℕ) → has calm q ≡ true → (has known.pending q ≡ true) × (set.contains (codes_of q) power_on ≡ false)
+  calm_is : (calm : BitSet) → AreCalm known calm → (q : ℕ) → has calm q ≡ true → (has known.pending q ≡ true) × (set.contains (codes_of q) power_on ≡ false)
   calm_is calm are q is =
-      let parts = and_parts (has known.pending q && not (set.contains (codes_of q) power_on)) (nat_lt q 16) (sym (are q) ∙ is) in
+      let parts = and_parts (has known.pending q && not (set.contains (codes_of q) power_on)) (nat_lt q ATTENTION_SETS) (sym (are q) ∙ is) in
       let both = and_parts (has known.pending q) (not (set.contains (codes_of q) power_on)) parts.0 in
       (both.0, not-true _ both.1)
 
-  pub told_later : (a : Attention) (calm left : Word) → ((u : UnitState) → MayReport c s.own u a ↔ ((is_pending u s.own power_on ≡ false) × (command_conflicts u.registry s.own c ≡ false)))
-      → AreCalm known calm → AreReported 16 calm a left → IsLanding tests (report (Plain c) (code_of a)) l
+  pub told_later : (a : Attention) (calm left : BitSet) → ((u : UnitState) → MayReport c s.own u a ↔ ((is_pending u s.own power_on ≡ false) × (command_conflicts u.registry s.own c ≡ false)))
+      → AreCalm known calm → AreReported ATTENTION_SETS calm a left → IsLanding tests (report (Plain c) (code_of a)) l
       → IsTold (view_in s known) c tests (Reports a) l (Leaves s c tests 1) left
   told_later a calm left may calms are landing = record {
     forth = λ u r w j shown ends landed so. (((may u).0 ends.0).1, still_registered s u w j (ap (λ (x : UnitState). x.registry) ends.1.2) so);
@@ -125,7 +125,7 @@ module _ (s : Scope) (known : Possibilities) (c : Command) (tests : List Test) (
 
   -- ---- a conflict
 
-  pub told_conflict : (calm : Word) → AreCalm known calm → IsLanding tests conflict l → IsTold (view_in s known) c tests Conflicts l (Leaves s c tests 0) calm
+  pub told_conflict : (calm : BitSet) → AreCalm known calm → IsLanding tests conflict l → IsTold (view_in s known) c tests Conflicts l (Leaves s c tests 0) calm
   told_conflict calm calms landing = record {
     forth = λ u r w j shown ends landed so. (ends.1, still_registered s u w j (ap (λ (x : UnitState). x.registry) ends.3) so);
     pends = λ u r w q n ends possible so left.
@@ -148,7 +148,7 @@ module _ (s : Scope) (known : Possibilities) (c : Command) (tests : List Test) (
 
   -- ---- where nothing is pending
 
-  quiet_from : (quiet : Word) → AreQuiet known quiet → (u : UnitState) (q n : ℕ) → has known.pending q ≡ true → IsSo s u (Attentions q) → IsSo s u (Attentions n) → is_any_pending u s.own ≡ false
+  quiet_from : (quiet : BitSet) → AreQuiet known quiet → (u : UnitState) (q n : ℕ) → has known.pending q ≡ true → IsSo s u (Attentions q) → IsSo s u (Attentions n) → is_any_pending u s.own ≡ false
       → has quiet n ≡ true
   quiet_from quiet are u q n possible so also none =
       let zero_is : q ≡ 0 = quiet_number s u q so none in
@@ -156,13 +156,13 @@ module _ (s : Scope) (known : Possibilities) (c : Command) (tests : List Test) (
       let tells : (n == 0) ≡ true = grind (arith, nat_tests) in
       are n ∙ and_from _ _ (ap (has known.pending) (same ∙ sym zero_is) ∙ possible) tells
 
-  quiet_is : (quiet : Word) → AreQuiet known quiet → (n : ℕ) → has quiet n ≡ true → (has known.pending n ≡ true) × (n ≡ 0)
+  quiet_is : (quiet : BitSet) → AreQuiet known quiet → (n : ℕ) → has quiet n ≡ true → (has known.pending n ≡ true) × (n ≡ 0)
   quiet_is quiet are n is =
       let parts = and_parts (has known.pending n) (n == 0) (sym (are n) ∙ is) in
       let tells = parts.1 in
       (parts.0, grind (arith, nat_tests))
 
-  pub told_fault : (quiet : Word) (sense : Sense) → AreQuiet known quiet → ((u : UnitState) (x : Sense) → command_fault u.registry s.own c ≡ Some x → x ≡ sense)
+  pub told_fault : (quiet : BitSet) (sense : Sense) → AreQuiet known quiet → ((u : UnitState) (x : Sense) → command_fault u.registry s.own c ≡ Some x → x ≡ sense)
       → IsLanding tests (check sense) l → IsTold (view_in s known) c tests Fails l (Leaves s c tests 2) quiet
   told_fault quiet sense quiets fixed landing = record {
     forth = λ u r w j shown ends landed so. (ends.1, ap is_some ends.3, still_registered s u w j (ap (λ (x : UnitState). x.registry) ends.5) so);
@@ -189,7 +189,7 @@ module _ (s : Scope) (known : Possibilities) (c : Command) (tests : List Test) (
       is_there (Some x) some = (x, refl)
 
   -- the landing of GOOD by the arm that takes the data
-  pub told_good : (quiet : Word) (arm : ℕ) → AreQuiet known quiet → l ≡ landing_at arm → IsTold (view_in s known) c tests EndsGood l (Leaves s c tests (suc (suc (suc arm)))) quiet
+  pub told_good : (quiet : BitSet) (arm : ℕ) → AreQuiet known quiet → l ≡ landing_at arm → IsTold (view_in s known) c tests EndsGood l (Leaves s c tests (suc (suc (suc arm)))) quiet
   told_good quiet arm quiets is_landing = record {
     forth = λ u r w j shown ends landed so.
         (ends.1, ends.2, taken arm r (good (data_of u.registry c)) ends.3 (subst (IsLanding tests r) is_landing landed), registered_at u w j ends.4 so);

@@ -1,5 +1,5 @@
 -- States of which a tally has everything already.
-use Rattle.pr_domain.proofs.Common.{◌≡◌, ℕ, zero, suc, ◌+◌, ◌<◌, true, List, [], length, is_some, IfSome, IfNone, ◌==◌, Some, None, sym, refl, ap, ◌∙◌, subst, inl, arith, false≢true, nat_tests, has_wide, has, Word, Command, UnitState, Test, has_at, view_in, Scope, Item, Registration, Reservation, Attentions, IsSo, Shows, Within, Possibilities, holds_at-get_or, IsPlace, IsAt, Place, Reading, Region, Tally, IsRegistered, has_part, has_tallied, arm_of, Leaves, Grows, IsReadAt}
+use Rattle.pr_domain.proofs.Common.{◌≡◌, ℕ, zero, suc, ◌+◌, ◌<◌, true, List, [], length, is_some, IfSome, IfNone, ◌==◌, Some, None, sym, refl, ap, ◌∙◌, subst, inl, arith, false≢true, nat_tests, has_wide, has, BitSet, Command, UnitState, Test, has_at, view_in, Scope, Item, Registration, Reservation, Attentions, IsSo, Shows, Within, Possibilities, holds_at-get_or, IsPlace, IsAt, Place, Reading, Region, Tally, IsRegistered, has_part, has_tallied, arm_of, Leaves, Grows, IsReadAt, MOST_ARMS}
 use Rattle.std.proofs.Common.{slice_index_or}
 use Rattle.pr_domain.specs.inside.Tallies.{HasFound, way_of, IsRightReading}
 use Rattle.pr_domain.proofs.lemmas.Tallies.DataArms.{arm_way, at_read}
@@ -16,7 +16,7 @@ has_found t way hosts d found there within = record {
     any = record { own = 0; hosts = hosts; keys = [] }
 
 -- what is so in the states of a region is among what each has there at most
-pub tallied_there : (t : Tally) (way : ℕ) (s : Scope) (view : Possibilities) (place : Place) (senders : Word) (region : Region) (most : List Word) (found : Possibilities) → IsPlace s view place
+pub tallied_there : (t : Tally) (way : ℕ) (s : Scope) (view : Possibilities) (place : Place) (senders : BitSet) (region : Region) (most : List BitSet) (found : Possibilities) → IsPlace s view place
     → found.registrations ≡ most → ((x : ℕ) → has_wide found.reservations x ≡ (x == place.reservation)) → HasFound t way place.hosts found
     → (u : UnitState) (i : Item) → IsAt (view_in s view) place senders region u → ((g r : ℕ) → IsSo s u (Registration g r) → has_at most g r ≡ true) → IsRegistered s u i → has_tallied t way i ≡ true
 tallied_there t way s view place senders region most found is registrations reservations has u (Registration g r) at there so =
@@ -27,8 +27,8 @@ tallied_there t way s view place senders region most found is registrations rese
 tallied_there t way s view place senders region most found is registrations reservations has u (Attentions q) at there so = absurd so
 
 -- a reading whose states are there adds nothing
-pub reading_there : (s : Scope) (c : Command) (tests : List Test) (view : Possibilities) (place : Place) (r : ℕ) (w : Word) (b : Reading) (way : ℕ) (t : Tally) → IsRightReading s c tests view place r b
-    → ((m : ℕ) → has w m ≡ (m == r)) → (IfSome b.arm (λ n. n < 16) → way ≡ way_of b.arm) → IfNone b.arm (way ≡ 0)
+pub reading_there : (s : Scope) (c : Command) (tests : List Test) (view : Possibilities) (place : Place) (r : ℕ) (w : BitSet) (b : Reading) (way : ℕ) (t : Tally) → IsRightReading s c tests view place r b
+    → ((m : ℕ) → has w m ≡ (m == r)) → (IfSome b.arm (λ n. n < MOST_ARMS) → way ≡ way_of b.arm) → IfNone b.arm (way ≡ 0)
     → ((u : UnitState) (i : Item) → IsAt (view_in s view) place w b.region u → IsRegistered s u i → (has_tallied t 1 i ≡ true) × (has_tallied t (3 + way) i ≡ true))
     → Grows (view_in s view) c tests t t (IsReadAt s view place r b)
 reading_there s c tests view place r w b way t right only some none there = record {

@@ -1,6 +1,7 @@
 -- What a tally has once the states of one region are added.
-use Rattle.pr_domain.proofs.Common.{◌≡◌, ℕ, zero, suc, ◌<◌, ◌≤◌, true, false, ◌&&◌, ◌||◌, ◌≢◌, ◌⊎◌, List, is_some, if◌then◌else◌, ◌==◌, Some, None, Option, sym, refl, ap, ◌∙◌, subst, inl, inr, arith, false≢true, cases_lt, and_parts, or_cases, and_from, or_left, or_right, eqb_tells, nat_tests, has_wide, has, Word, Command, Sense, command_conflicts, command_fault, good, data_of, UnitState, effect, Test, has_at, view_in, Scope, Item, Registration, Reservation, Attentions, IsSo, View, Shows, Possibilities, one_registration, IsPlace, IsAt, first_test, Place, Branch, Region, Transition, Tally, IsRegistered, has_part, has_tallied, arm_of, Leaves, IsFound, Grows, IsRight}
+use Rattle.pr_domain.proofs.Common.{◌≡◌, ℕ, zero, suc, ◌<◌, ◌≤◌, true, false, ◌&&◌, ◌||◌, ◌≢◌, ◌⊎◌, List, is_some, if◌then◌else◌, ◌==◌, Some, None, Option, sym, refl, ap, ◌∙◌, subst, inl, inr, false≢true, cases_lt, and_parts, or_cases, and_from, or_left, or_right, eqb_tells, has_wide, has, BitSet, Command, Sense, command_conflicts, command_fault, good, data_of, UnitState, effect, Test, has_at, view_in, Scope, Item, Registration, Reservation, Attentions, IsSo, View, Shows, Possibilities, one_registration, IsPlace, IsAt, first_test, Place, Branch, Region, Transition, Tally, IsRegistered, has_part, has_tallied, arm_of, Leaves, IsFound, Grows, IsRight}
 use Rattle.std.proofs.Common.{unwrap_or}
+use Rattle.std.proofs.lemmas.Bool.{eqb-true, eq-eqb}
 use Rattle.std.proofs.Math.Logic.{⊎_elim}
 use Rattle.pr_regions.specs.declared.region.Ending.TheVariants as ending
 use Rattle.pr_regions.specs.Regions.{Ends, Changes}
@@ -23,11 +24,11 @@ added_cases old new way p added w i has = at (or_cases (has_tallied old w i) (w 
   where
     at : (has_tallied old w i ≡ true) ⊎ ((w == way && has_part p i) ≡ true) → (has_tallied old w i ≡ true) ⊎ ((w ≡ way) × (has_part p i ≡ true))
     at (inl before) = inl before
-    at (inr both) = let parts = and_parts (w == way) (has_part p i) both in inr (grind (arith, nat_tests), parts.1)
+    at (inr both) = let parts = and_parts (w == way) (has_part p i) both in inr (eqb-true w way parts.0, parts.1)
 
 added_here : (old new : Tally) (way : ℕ) (p : Possibilities) → IsAdded old way p new → (i : Item) → has_part p i ≡ true → has_tallied new way i ≡ true
 added_here old new way p added i has =
-    let same : (way == way) ≡ true = grind (arith, nat_tests) in
+    let same = eq-eqb way way refl in
     added way i ∙ or_right (has_tallied old way i) (way == way && has_part p i) (and_from _ _ same has)
 
 added_kept : (old new : Tally) (way : ℕ) (p : Possibilities) → IsAdded old way p new → (w : ℕ) (i : Item) → has_tallied old w i ≡ true → has_tallied new w i ≡ true
@@ -132,7 +133,7 @@ grows_good v c tests arm At old mid new p after shows done is then_is first seco
 
 -- ---- what the words of a region are part of
 
-pub part_here : (s : Scope) (view : Possibilities) (place : Place) (senders : Word) (region : Region) (words : List Word) (p : Possibilities) → IsPlace s view place
+pub part_here : (s : Scope) (view : Possibilities) (place : Place) (senders : BitSet) (region : Region) (words : List BitSet) (p : Possibilities) → IsPlace s view place
     → IsGathered (view_in s view) place senders region words → ((g r : ℕ) → place.hosts ≤ g → has_at words g r ≡ false)
     → p.registrations ≡ words → ((x : ℕ) → has_wide p.reservations x ≡ (x == place.reservation))
     → IsPart (view_in s view) (IsAt (view_in s view) place senders region) (λ u. u) p
@@ -141,8 +142,7 @@ part_here s view place senders region words p is gathered beyond registrations r
     all : (u : UnitState) (i : Item) → IsAt (view_in s view) place senders region u → IsRegistered s u i → has_part p i ≡ true
     all u (Registration g r) at so = subst (λ w. has_at w g r ≡ true) (sym registrations) (gathered.all u g r at so)
     all u (Reservation x) at so =
-        let same : x ≡ place.reservation = so ∙ sym at.reservation in
-        reservations x ∙ grind (arith, nat_tests)
+        reservations x ∙ eq-eqb x place.reservation (so ∙ sym at.reservation)
     all u (Attentions q) at so = absurd so
 
     only : (i : Item) (q : ℕ) → has_part p i ≡ true → has view.pending q ≡ true
@@ -157,11 +157,11 @@ part_here s view place senders region words p is gathered beyond registrations r
         below g r has (inr large) = absurd (false≢true (sym (beyond g r large) ∙ has))
     only (Reservation x) q there pending =
         let met = gathered.some q pending in
-        let same : x ≡ place.reservation = (let tells = sym (reservations x) ∙ there in grind (arith, nat_tests)) in
+        let same = eqb-true x place.reservation (sym (reservations x) ∙ there) in
         (met.unit, met.at, subst (λ y. IsSo s met.unit (Reservation y)) (sym same) met.at.reservation, met.pending)
     only (Attentions q) p there pending = absurd (false≢true there)
 
-pub part_after : (s : Scope) (c : Command) (change : Transition) (view : Possibilities) (place : Place) (senders : Word) (region : Region) (words after : List Word) (p : Possibilities)
+pub part_after : (s : Scope) (c : Command) (change : Transition) (view : Possibilities) (place : Place) (senders : BitSet) (region : Region) (words after : List BitSet) (p : Possibilities)
     → IsPlace s view place → place.sender ≡ s.own
     → IsGathered (view_in s view) place senders region words → ((g r : ℕ) → place.hosts ≤ g → has_at words g r ≡ false)
     → ((g : ℕ) → IsImage (has_at words g) (becomes place.sender change g) (has_at after g))
@@ -192,8 +192,7 @@ part_after s c change view place senders region words after p is own gathered be
         let same = one_registration s (effect u s.own c) g (becomes place.sender change g seen.0) r is.fits.scope (moved u g seen.0 at seen.1.1) so in
         subst (λ w. has_at w g r ≡ true) (sym registrations) (subst (λ n. has_at after g n ≡ true) same ((images g).all seen.0 (gathered.all u g seen.0 at seen.1.1)))
     all u (Reservation x) at so =
-        let same : x ≡ change.reservation = so ∙ sym (changes u at).reservation in
-        reservations x ∙ grind (arith, nat_tests)
+        reservations x ∙ eq-eqb x change.reservation (so ∙ sym (changes u at).reservation)
     all u (Attentions q) at so = absurd so
 
     only : (i : Item) (q : ℕ) → has_part p i ≡ true → has view.pending q ≡ true
@@ -208,13 +207,13 @@ part_after s c change view place senders region words after p is own gathered be
         below g r has (inr large) = absurd (false≢true (sym (beyond g r large) ∙ has))
     only (Reservation x) q there pending =
         let met = gathered.some q pending in
-        let same : x ≡ change.reservation = (let tells = sym (reservations x) ∙ there in grind (arith, nat_tests)) in
+        let same = eqb-true x change.reservation (sym (reservations x) ∙ there) in
         (met.unit, met.at, subst (λ y. IsSo s (effect met.unit s.own c) (Reservation y)) (sym same) (changes met.unit met.at).reservation, met.pending)
     only (Attentions q) p there pending = absurd (false≢true there)
 
 -- ---- one branch
 
-pub leaf_conflict : (s : Scope) (c : Command) (tests : List Test) (view : Possibilities) (place : Place) (senders : Word) (b : Branch) (arm : ℕ) (words : List Word) (here : Possibilities) (old new : Tally)
+pub leaf_conflict : (s : Scope) (c : Command) (tests : List Test) (view : Possibilities) (place : Place) (senders : BitSet) (b : Branch) (arm : ℕ) (words : List BitSet) (here : Possibilities) (old new : Tally)
     → IsRight s c tests view place senders b arm → b.ending ≡ ending.Conflict → IsGathered (view_in s view) place senders b.region words → ((g r : ℕ) → place.hosts ≤ g → has_at words g r ≡ false)
     → here.registrations ≡ words → ((x : ℕ) → has_wide here.reservations x ≡ (x == place.reservation)) → IsAdded old 0 here new
     → Grows (view_in s view) c tests old new (IsAt (view_in s view) place senders b.region)
@@ -223,7 +222,7 @@ leaf_conflict s c tests view place senders b arm words here old new right ended 
     (λ u at. subst (λ e. Ends s s.own e u c) ended (right.ends u at))
     (part_here s view place senders b.region words here right.is gathered beyond registrations reservations) added
 
-pub leaf_fault : (s : Scope) (c : Command) (tests : List Test) (view : Possibilities) (place : Place) (senders : Word) (b : Branch) (arm : ℕ) (sense : Sense) (words : List Word) (here : Possibilities) (old mid new : Tally)
+pub leaf_fault : (s : Scope) (c : Command) (tests : List Test) (view : Possibilities) (place : Place) (senders : BitSet) (b : Branch) (arm : ℕ) (sense : Sense) (words : List BitSet) (here : Possibilities) (old mid new : Tally)
     → IsRight s c tests view place senders b arm → b.ending ≡ ending.Fault sense → IsGathered (view_in s view) place senders b.region words → ((g r : ℕ) → place.hosts ≤ g → has_at words g r ≡ false)
     → here.registrations ≡ words → ((x : ℕ) → has_wide here.reservations x ≡ (x == place.reservation)) → IsAdded old 1 here mid → IsAdded mid 2 here new
     → Grows (view_in s view) c tests old new (IsAt (view_in s view) place senders b.region)
@@ -232,7 +231,7 @@ leaf_fault s c tests view place senders b arm sense words here old mid new right
     (λ u at. subst (λ e. Ends s s.own e u c) ended (right.ends u at))
     (part_here s view place senders b.region words here right.is gathered beyond registrations reservations) first second
 
-pub leaf_good : (s : Scope) (c : Command) (tests : List Test) (view : Possibilities) (place : Place) (senders : Word) (b : Branch) (arm way : ℕ) (change : Transition) (words changed : List Word) (here after : Possibilities) (old mid new : Tally)
+pub leaf_good : (s : Scope) (c : Command) (tests : List Test) (view : Possibilities) (place : Place) (senders : BitSet) (b : Branch) (arm way : ℕ) (change : Transition) (words changed : List BitSet) (here after : Possibilities) (old mid new : Tally)
     → IsRight s c tests view place senders b arm → b.ending ≡ ending.Good change → way ≡ suc (suc (suc arm))
     → IsGathered (view_in s view) place senders b.region words → ((g r : ℕ) → place.hosts ≤ g → has_at words g r ≡ false)
     → here.registrations ≡ words → ((x : ℕ) → has_wide here.reservations x ≡ (x == place.reservation))

@@ -1,5 +1,5 @@
 -- What a sender with one registration asks for, and how that ends.
-use Rattle.pr_domain.proofs.Common.{◌≡◌, ℕ, ◌<◌, Bool, true, false, not, ◌&&◌, List, length, if◌then◌else◌, nat_lt, ◌==◌, Some, None, Contains, Option, option_map, sym, ap, ◌∙◌, subst, arith, false≢true, or_left, nat_tests, slice_get-get_or, has, Word, Command, State, key_of, Held, One, command_conflicts, UnitState, Test, view_in, Scope, Registration, IsSo, Shows, Possibilities, one_registration, IsPlace, IsUniform, IsAt, is_refused, standing_of, AreBranches, Place, Branch, Region, same_reservation, IsRight, IsInOne, HasBoth}
+use Rattle.pr_domain.proofs.Common.{◌≡◌, ℕ, ◌<◌, Bool, true, false, not, ◌&&◌, List, length, if◌then◌else◌, nat_lt, ◌==◌, Some, None, Contains, Option, option_map, sym, ap, ◌∙◌, subst, arith, false≢true, or_left, nat_tests, slice_get-get_or, has, BitSet, Command, State, key_of, Held, One, command_conflicts, UnitState, Test, view_in, Scope, Registration, IsSo, Shows, Possibilities, one_registration, IsPlace, IsUniform, IsAt, is_refused, standing_of, AreBranches, Place, Branch, Region, same_reservation, IsRight, IsInOne, HasBoth, MOST_REGISTRATIONS}
 use Rattle.std.proofs.lemmas.Bool.{lt-ltb}
 use Rattle.pr_cdb.specs.declared.command.Command.TheVariants as command
 use Rattle.pr_registry.specs.declared.held.Held.TheVariants.{All as Everybody}
@@ -13,14 +13,14 @@ use Rattle.pr_domain.specs.inside.Tallies.{AreRight, IsAsked, IsRefusedAt}
 use Rattle.pr_regions.proofs.lemmas.Portions.GatheredStates.{few_keys}
 
 -- a sender with this registration alone
-pub only_uniform : (r : ℕ) (w : Word) → ((m : ℕ) → has w m ≡ (m == r)) → IsUniform w
+pub only_uniform : (r : ℕ) (w : BitSet) → ((m : ℕ) → has w m ≡ (m == r)) → IsUniform w
 only_uniform r w only none m there =
     let zero_is : 0 ≡ r = (let tells = sym (only 0) ∙ none in grind (arith, nat_tests)) in
     let m_is : m ≡ r = (let tells = sym (only m) ∙ there in grind (arith, nat_tests)) in
     m_is ∙ sym zero_is
 
 -- the sender's registration in a state where it is among those of the word
-pub sender_is : (s : Scope) (view : Possibilities) (place : Place) (r : ℕ) (w : Word) (region : Region) (u : UnitState) → IsPlace s view place → ((m : ℕ) → has w m ≡ (m == r))
+pub sender_is : (s : Scope) (view : Possibilities) (place : Place) (r : ℕ) (w : BitSet) (region : Region) (u : UnitState) → IsPlace s view place → ((m : ℕ) → has w m ≡ (m == r))
     → IsAt (view_in s view) place w region u → IsSo s u (Registration place.sender r)
 sender_is s view place r w region u is only at =
     let below : place.sender < s.hosts = subst (λ n. place.sender < n) (sym is.hosts) place.there in
@@ -43,7 +43,7 @@ meets s c tests view place purpose arm r u asked shown both = record {
   accepted = subst (λ k. is_refused k c ≡ false) (sym both.registered.2) asked.accepted;
 }
 
-pub asked_right : (s : Scope) (c : Command) (tests : List Test) (view : Possibilities) (place : Place) (purpose : Purpose) (arm r : ℕ) (w : Word) (branches : List Branch)
+pub asked_right : (s : Scope) (c : Command) (tests : List Test) (view : Possibilities) (place : Place) (purpose : Purpose) (arm r : ℕ) (w : BitSet) (branches : List Branch)
     → IsAsked s c tests view place purpose arm r → ((m : ℕ) → has w m ≡ (m == r)) → AreBranches place.hosts purpose place.held place.sender (standing_of purpose r) branches
     → ((b : Branch) → Contains branches b → IsProperBranch b) → AreRight s c tests view place w branches arm
 asked_right s c tests view place purpose arm r w branches asked only are proper b listed = record {
@@ -59,7 +59,7 @@ asked_right s c tests view place purpose arm r w branches asked only are proper 
 }
 
 -- each state with this registration is in the region of one of the branches, and the other way round
-pub asked_covers : (s : Scope) (c : Command) (tests : List Test) (view : Possibilities) (place : Place) (purpose : Purpose) (arm r : ℕ) (w : Word) (branches : List Branch)
+pub asked_covers : (s : Scope) (c : Command) (tests : List Test) (view : Possibilities) (place : Place) (purpose : Purpose) (arm r : ℕ) (w : BitSet) (branches : List Branch)
     → IsAsked s c tests view place purpose arm r → ((m : ℕ) → has w m ≡ (m == r)) → AreBranches place.hosts purpose place.held place.sender (standing_of purpose r) branches
     → (u : UnitState) → Shows (view_in s view) u → HasBoth s place r u → IsInOne (view_in s view) place w branches (length branches) u
 asked_covers s c tests view place purpose arm r w branches asked only are u shown both =
@@ -80,7 +80,7 @@ asked_covers s c tests view place purpose arm r w branches asked only are u show
       };
     }
 
-pub asked_back : (s : Scope) (c : Command) (tests : List Test) (view : Possibilities) (place : Place) (purpose : Purpose) (arm r : ℕ) (w : Word) (branches : List Branch)
+pub asked_back : (s : Scope) (c : Command) (tests : List Test) (view : Possibilities) (place : Place) (purpose : Purpose) (arm r : ℕ) (w : BitSet) (branches : List Branch)
     → IsAsked s c tests view place purpose arm r → ((m : ℕ) → has w m ≡ (m == r)) → (n : ℕ)
     → (u : UnitState) → Shows (view_in s view) u → IsInOne (view_in s view) place w branches n u → HasBoth s place r u
 asked_back s c tests view place purpose arm r w branches asked only n u shown one =
@@ -98,8 +98,8 @@ refused_conflicts u h (command.PreemptAbort rk sark kind) is = or_left (not (is_
 refused_conflicts u h _ is = is
 
 -- every state is in the region that leaves anything
-pub anywhere : (s : Scope) (view : Possibilities) (place : Place) (r : ℕ) (w any : Word) (region : Region) (u : UnitState) → IsPlace s view place → ((m : ℕ) → has w m ≡ (m == r))
-    → ((n : ℕ) → has any n ≡ nat_lt n 13) → region.holder ≡ any → region.others ≡ any → region.somebody ≡ None
+pub anywhere : (s : Scope) (view : Possibilities) (place : Place) (r : ℕ) (w any : BitSet) (region : Region) (u : UnitState) → IsPlace s view place → ((m : ℕ) → has w m ≡ (m == r))
+    → ((n : ℕ) → has any n ≡ nat_lt n MOST_REGISTRATIONS) → region.holder ≡ any → region.others ≡ any → region.somebody ≡ None
     → Shows (view_in s view) u → HasBoth s place r u → IsAt (view_in s view) place w region u
 anywhere s view place r w any region u is only below holder others none shown both = record {
   shown = shown;
@@ -111,16 +111,16 @@ anywhere s view place r w any region u is only below holder others none shown bo
   };
 }
   where
-    passes : (n : ℕ) → n < 13 → (v : Option Held) (g : ℕ) → has (filter_of region v g) n ≡ true
-    passes n small None g = ap (λ x. has x n) others ∙ below n ∙ lt-ltb n 13 small
+    passes : (n : ℕ) → n < MOST_REGISTRATIONS → (v : Option Held) (g : ℕ) → has (filter_of region v g) n ≡ true
+    passes n small None g = ap (λ x. has x n) others ∙ below n ∙ lt-ltb n MOST_REGISTRATIONS small
     passes n small (Some (One kind h)) g = pick (h == g)
       where
         pick : (b : Bool) → has (if b then region.holder else region.others) n ≡ true
-        pick true = ap (λ x. has x n) holder ∙ below n ∙ lt-ltb n 13 small
-        pick false = ap (λ x. has x n) others ∙ below n ∙ lt-ltb n 13 small
-    passes n small (Some (Everybody kind)) g = ap (λ x. has x n) others ∙ below n ∙ lt-ltb n 13 small
+        pick true = ap (λ x. has x n) holder ∙ below n ∙ lt-ltb n MOST_REGISTRATIONS small
+        pick false = ap (λ x. has x n) others ∙ below n ∙ lt-ltb n MOST_REGISTRATIONS small
+    passes n small (Some (Everybody kind)) g = ap (λ x. has x n) others ∙ below n ∙ lt-ltb n MOST_REGISTRATIONS small
 
-pub refused_right : (s : Scope) (c : Command) (tests : List Test) (view : Possibilities) (place : Place) (r : ℕ) (w : Word) (b : Branch) (arm : ℕ)
+pub refused_right : (s : Scope) (c : Command) (tests : List Test) (view : Possibilities) (place : Place) (r : ℕ) (w : BitSet) (b : Branch) (arm : ℕ)
     → IsRefusedAt s c view place r → ((m : ℕ) → has w m ≡ (m == r)) → b.ending ≡ ending.Conflict → b.region.somebody ≡ None → IsRight s c tests view place w b arm
 refused_right s c tests view place r w b arm refused only conflict untested = record {
   own = refused.own;
@@ -137,6 +137,6 @@ refused_right s c tests view place r w b arm refused only conflict untested = re
         subst (λ n. command_conflicts u.registry n c ≡ true) refused.own
         (refused_conflicts u.registry place.sender c (subst (λ k. is_refused k c ≡ true) (sym so.2) refused.refused))
 
-pub refused_back : (s : Scope) (c : Command) (view : Possibilities) (place : Place) (r : ℕ) (w : Word) (region : Region) → IsRefusedAt s c view place r → ((m : ℕ) → has w m ≡ (m == r))
+pub refused_back : (s : Scope) (c : Command) (view : Possibilities) (place : Place) (r : ℕ) (w : BitSet) (region : Region) → IsRefusedAt s c view place r → ((m : ℕ) → has w m ≡ (m == r))
     → (u : UnitState) → IsAt (view_in s view) place w region u → HasBoth s place r u
 refused_back s c view place r w region refused only u at = record { reserved = at.reservation; registered = sender_is s view place r w region u refused.is only at }

@@ -1,5 +1,5 @@
 -- What is added to possibilities, step by step.
-use Rattle.pr_interference.proofs.Common.{◌≡◌, ℕ, ◌+◌, ◌<◌, true, false, ◌≢◌, ◌⊎◌, List, length, ◌==◌, slice_index_or, sym, ap, ◌∙◌, subst, inl, inr, arith, eqb_tells, get_or_default, Word, UnitState, view_in, Scope, Item, IsPossible, Possibilities, IsAt, Changes, Place, Branch, Transition, Adds, adds_both, IsJoined, Among, IsLedBy, IsLeftBy}
+use Rattle.pr_interference.proofs.Common.{◌≡◌, ℕ, ◌+◌, ◌<◌, true, false, ◌≢◌, ◌⊎◌, List, length, ◌==◌, slice_index_or, sym, ap, ◌∙◌, subst, inl, inr, arith, eqb_tells, get_or_default, BitSet, UnitState, view_in, Scope, Item, IsPossible, Possibilities, IsAt, Changes, Place, Branch, Transition, Adds, adds_both, IsJoined, Among, IsLedBy, IsLeftBy}
 use Rattle.pr_regions.specs.declared.region.Region.{Region}
 use Rattle.pr_regions.specs.declared.region.Ending.TheVariants as ending
 use Rattle.pr_interference.specs.inside.Interfering.{IsAfter, IsChanged}
@@ -18,7 +18,7 @@ adds_so s p q L M V W adds leads leaves = record {
     only i (inl is) = inl is
     only i (inr is) = inr (leaves i is)
 
-pub adds_after : (s : Scope) (view old after new : Possibilities) (place : Place) (senders : Word) (region : Region) (change : Transition)
+pub adds_after : (s : Scope) (view old after new : Possibilities) (place : Place) (senders : BitSet) (region : Region) (change : Transition)
     → IsAfter s view place senders region change after → IsJoined old after new
     → Adds s old new (λ u w. IsAt (view_in s view) place senders region u × Changes s place.sender change u w) (IsChanged s view place senders region change)
 adds_after s view old after new place senders region change is joined = record {
@@ -72,7 +72,7 @@ adds_element s p q r n xs x leads leaves small there before now =
 
 -- ---- a branch
 
-pub adds_branch : (s : Scope) (view old after new : Possibilities) (place : Place) (senders : Word) (branch : Branch) (change : Transition) → branch.ending ≡ ending.Good change
+pub adds_branch : (s : Scope) (view old after new : Possibilities) (place : Place) (senders : BitSet) (branch : Branch) (change : Transition) → branch.ending ≡ ending.Good change
     → IsAfter s view place senders branch.region change after → IsJoined old after new → Adds s old new (IsLedBy s view place senders branch) (IsLeftBy s view place senders branch)
 adds_branch s view old after new place senders branch change good is joined =
     adds_so s old new (λ u w. IsAt (view_in s view) place senders branch.region u × Changes s place.sender change u w) (IsLedBy s view place senders branch)

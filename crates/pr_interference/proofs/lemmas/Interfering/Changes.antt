@@ -1,5 +1,5 @@
 -- What is possible after a change, from what is gathered before it.
-use Rattle.pr_interference.proofs.Common.{◌≡◌, ℕ, ◌<◌, ◌≤◌, true, false, ◌≢◌, ◌⊎◌, List, ◌==◌, sym, ◌∙◌, subst, inl, inr, arith, eqb_tells, nat_tests, has_wide, has, Word, MOST_NEXUSES, UnitState, has_at, view_in, Scope, Item, Registration, Reservation, Attentions, IsSo, IsPossible, Possibilities, one_registration, one_attentions, IsAt, IsImage, Changes, Place, Transition, Allows, few_keys, Onlooker, IsWatched}
+use Rattle.pr_interference.proofs.Common.{◌≡◌, ℕ, ◌<◌, ◌≤◌, true, false, ◌≢◌, ◌⊎◌, List, ◌==◌, sym, ◌∙◌, subst, inl, inr, arith, eqb_tells, nat_tests, has_wide, has, BitSet, MOST_NEXUSES, UnitState, has_at, view_in, Scope, Item, Registration, Reservation, Attentions, IsSo, IsPossible, Possibilities, one_registration, one_attentions, IsAt, IsImage, Changes, Place, Transition, Allows, few_keys, Onlooker, IsWatched, ATTENTION_SETS, MOST_REGISTRATIONS}
 use Rattle.std.proofs.Common.{unwrap_or}
 use Rattle.pr_regions.specs.declared.region.Region.{Region}
 use Rattle.pr_regions.specs.Regions.{told_number}
@@ -19,10 +19,10 @@ becomes_so s sender c u w g r changes so = at (eqb_tells g sender)
     at (inr other) = rw other.0 (changes.others g r other.1 so)
 
 -- the possibilities are made of what is gathered
-pub record IsMadeOf (view : Possibilities) (own : ℕ) (place : Place) (change : Transition) (words : List Word) (p : Possibilities) : Type 0 where
+pub record IsMadeOf (view : Possibilities) (own : ℕ) (place : Place) (change : Transition) (words : List BitSet) (p : Possibilities) : Type 0 where
   pub registrations : (g : ℕ) → g < MOST_NEXUSES → IsImage (has_at words g) (becomes place.sender change g) (has_at p.registrations g)
   pub reservation : (x : ℕ) → has_wide p.reservations x ≡ (x == change.reservation)
-  pub owners : Word
+  pub owners : BitSet
   pub are_own : (r : ℕ) → has_at words own r ≡ has owners r
   pub told : AreTold change owners view.pending p.pending
 
@@ -32,15 +32,15 @@ same_number a b is = grind (arith, nat_tests)
 itself : (a : ℕ) → (a == a) ≡ true
 itself a = grind (arith, nat_tests)
 
-pub is_after : (s : Scope) (o : Onlooker) (place : Place) (senders : Word) (region : Region) (change : Transition) (words : List Word) (p : Possibilities) (q : ℕ) → IsWatched s o place
+pub is_after : (s : Scope) (o : Onlooker) (place : Place) (senders : BitSet) (region : Region) (change : Transition) (words : List BitSet) (p : Possibilities) (q : ℕ) → IsWatched s o place
     → s.hosts ≤ MOST_NEXUSES → IsGathered (view_in s o.view) place senders region words → has o.view.pending q ≡ true → IsMadeOf o.view s.own place change words p
     → IsAfter s o.view place senders region change p
 is_after s o place senders region change words p q is most gathered some made = record { all = allows; only = only }
   where
-    few : (u : UnitState) (g r : ℕ) → IsSo s u (Registration g r) → r < 13
+    few : (u : UnitState) (g r : ℕ) → IsSo s u (Registration g r) → r < MOST_REGISTRATIONS
     few u g r so = let keys = few_keys s.keys is.known.fits.scope.keys in let small = so.1 in omega arith
 
-    small : (n : ℕ) → has o.view.pending n ≡ true → n < 16
+    small : (n : ℕ) → has o.view.pending n ≡ true → n < ATTENTION_SETS
     small n pends = is.known.fits.pending n pends
 
     all : (u w : UnitState) → IsAt (view_in s o.view) place senders region u → Changes s place.sender change u w → (i : Item) → IsSo s w i → IsPossible (view_in s p) i
@@ -58,8 +58,8 @@ is_after s o place senders region change words p q is most gathered some made = 
         let after = changes.told owner.0 seen.0 is.other owner.1.1 seen.1.1 in
         let same = one_attentions s w (told_number change owner.0 seen.0) n after so in
         subst (λ m. has p.pending m ≡ true) same
-        (made.told.all owner.0 seen.0 (first_from 13 made.owners owner.0 (few u s.own owner.0 owner.1.1) (sym (made.are_own owner.0) ∙ gathered.all u s.own owner.0 at owner.1.1))
-        (first_from 16 o.view.pending seen.0 (small seen.0 seen.1.0) seen.1.0))
+        (made.told.all owner.0 seen.0 (first_from MOST_REGISTRATIONS made.owners owner.0 (few u s.own owner.0 owner.1.1) (sym (made.are_own owner.0) ∙ gathered.all u s.own owner.0 at owner.1.1))
+        (first_from ATTENTION_SETS o.view.pending seen.0 (small seen.0 seen.1.0) seen.1.0))
 
     allows : (u w : UnitState) → IsAt (view_in s o.view) place senders region u → Changes s place.sender change u w → Allows s p w
     allows u w at changes = record {
@@ -92,8 +92,8 @@ is_after s o place senders region change words p q is most gathered some made = 
         }
     only (Attentions n) got =
         let found = made.told.only n got in
-        let pends = (first_parts 16 o.view.pending found.1 found.3).1 in
-        let met = gathered.only s.own found.0 found.1 is.known.fits.scope.own (made.are_own found.0 ∙ (first_parts 13 made.owners found.0 found.2).1) pends in
+        let pends = (first_parts ATTENTION_SETS o.view.pending found.1 found.3).1 in
+        let met = gathered.only s.own found.0 found.1 is.known.fits.scope.own (made.are_own found.0 ∙ (first_parts MOST_REGISTRATIONS made.owners found.0 found.2).1) pends in
         record {
           from = met.unit;
           at = met.at;

@@ -1,5 +1,5 @@
 -- What a clause leads to under one reservation, whatever its sender's standing.
-use Rattle.pr_interference.proofs.Common.{◌≡◌, ℕ, suc, ◌+◌, ◌<◌, ◌≤◌, Bool, true, false, ◌||◌, ◌⊎◌, List, [], ◌∷◌, length, if◌then◌else◌, ◌==◌, Some, None, Option, sym, refl, ap, ◌∙◌, subst, inl, inr, arith, false≢true, kind_of, Held, UnitState, is_declared, is_action, Action, Clause, view_in, Scope, Item, Registration, IsSo, Possibilities, one_registration, number_in, purpose_of_preempt, Place, Purpose, Register, Unregister, Reserve, Release, Clear, PreemptAll, Preempt, Adds, adds_both, same_reservation, Onlooker, purpose_for, StandingLeads, PlaceLeads, IsWatched}
+use Rattle.pr_interference.proofs.Common.{◌≡◌, ℕ, suc, ◌+◌, ◌<◌, ◌≤◌, Bool, true, false, ◌||◌, ◌⊎◌, List, [], ◌∷◌, length, if◌then◌else◌, ◌==◌, Some, None, Option, sym, refl, ap, ◌∙◌, subst, inl, inr, arith, false≢true, kind_of, Held, UnitState, is_declared, is_action, Action, Clause, view_in, Scope, Item, Registration, IsSo, Possibilities, one_registration, number_in, purpose_of_preempt, Place, Purpose, Register, Unregister, Reserve, Release, Clear, PreemptAll, Preempt, Adds, adds_both, same_reservation, Onlooker, purpose_for, StandingLeads, PlaceLeads, IsWatched, MOST_KEYS}
 use Rattle.std.proofs.Common.{cond}
 use Rattle.std.specs.List.{list_any, position_from}
 use Rattle.std.specs.Option.{option_map_or}
@@ -22,7 +22,7 @@ found_from p n (x ∷ xs) is = at (p x) refl is (λ any. found_from p (n + 1) xs
     at true passes any rest = (n, ap (λ b. cond b (Some n) (position_from p (n + 1) xs)) passes)
     at false fails any rest = let found = rest any in (found.0, ap (λ b. cond b (Some n) (position_from p (n + 1) xs)) fails ∙ found.1)
 
-declared_number : (keys : List ℕ) (key : ℕ) → length keys ≤ 12 → is_declared keys key ≡ true → (1 ≤ number_in keys key) × (number_in keys key ≤ 12)
+declared_number : (keys : List ℕ) (key : ℕ) → length keys ≤ MOST_KEYS → is_declared keys key ≡ true → (1 ≤ number_in keys key) × (number_in keys key ≤ MOST_KEYS)
 declared_number keys key few is =
     let found = found_from (λ k. k == key) 0 keys is in
     let at = position_from-zero (λ k. k == key) keys ∙ found.1 in
@@ -33,7 +33,7 @@ declared_number keys key few is =
 numbered : (p q : Purpose) → Some q ≡ Some p → HasNumber q → HasNumber p
 numbered p q same has = let e : q ≡ p = cc in subst HasNumber e has
 
-pub has_number : (keys : List ℕ) (a : Action) (held : Option Held) (p : Purpose) → length keys ≤ 12 → is_action keys a ≡ true → purpose_for keys a held ≡ Some p → HasNumber p
+pub has_number : (keys : List ℕ) (a : Action) (held : Option Held) (p : Purpose) → length keys ≤ MOST_KEYS → is_action keys a ≡ true → purpose_for keys a held ≡ Some p → HasNumber p
 has_number keys (action.Register key) held p few fits meant = numbered p (Register (number_in keys key)) meant (declared_number keys key few fits)
 has_number keys action.Unregister held p few fits meant = numbered p Unregister meant tt
 has_number keys (action.Reserve kind) held p few fits meant = numbered p (Reserve kind) meant tt

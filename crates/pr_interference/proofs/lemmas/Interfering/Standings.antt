@@ -1,35 +1,23 @@
 -- What a clause leads to under one reservation, by how its sender stands to what it asks for.
-use Rattle.pr_interference.proofs.Common.{◌≡◌, ℕ, zero, suc, ◌<◌, ◌≤◌, Bool, true, false, not, ◌||◌, List, length, if◌then◌else◌, Some, None, Option, sym, refl, ap, ◌∙◌, subst, arith, false≢true, and_parts, and_from, has, Word, Command, State, key_of, is_registered, IsKey, Held, One, UnitState, effect, is_action, AreDeclared, names, holds, Clause, has_at, view_in, Scope, Item, Registration, Reservation, IsSo, Shows, IsAt, purpose_of, Changes, Place, Purpose, Branch, Transition, same_reservation, few_keys, Onlooker, purpose_for, StandingLeads, IsWatched, Among, IsLedBy, IsLeftBy, ClauseLeaves}
+use Rattle.pr_interference.proofs.Common.{◌≡◌, ℕ, zero, suc, ◌<◌, ◌≤◌, Bool, true, false, not, ◌||◌, List, length, if◌then◌else◌, Some, None, Option, sym, refl, ap, ◌∙◌, subst, arith, false≢true, and_parts, and_from, has, BitSet, Command, State, key_of, is_registered, IsKey, Held, One, UnitState, effect, is_action, AreDeclared, names, holds, Clause, has_at, view_in, Scope, Item, Registration, Reservation, IsSo, Shows, IsAt, purpose_of, Changes, Place, Purpose, Branch, Transition, same_reservation, few_keys, Onlooker, purpose_for, StandingLeads, IsWatched, Among, IsLedBy, IsLeftBy, ClauseLeaves, MOST_KEYS}
 use Rattle.std.proofs.Common.{is_some}
-use Rattle.pr_registry.specs.declared.held.Held.TheVariants.{All as Everybody}
 use Rattle.pr_unit.specs.Conflicts.{command_conflicts}
 use Rattle.pr_unit.specs.Faults.{command_fault}
-use Rattle.pr_roles.specs.declared.role.Condition.{Condition}
-use Rattle.pr_roles.specs.declared.role.Condition.TheVariants as condition
 use Rattle.pr_views.proofs.lemmas.Possibilities.Numbers.{key_there}
 use Rattle.pr_regions.specs.declared.region.Ending.{Ending}
 use Rattle.pr_regions.specs.declared.region.Ending.TheVariants as ending
 use Rattle.pr_regions.specs.declared.purpose.Standing.{Standing}
 use Rattle.pr_regions.specs.declared.purpose.Standing.TheVariants.{Unregistered, Named, Other}
+use Rattle.pr_regions.specs.Conditions.{holds_as}
 use Rattle.pr_regions.specs.Purposes.{is_refused}
 use Rattle.pr_regions.specs.Regions.{names as names_key, standing_of, Meets, Ends, AreBranches}
 use Rattle.pr_regions.specs.Gathering.{IsUniform}
+use Rattle.pr_regions.proofs.lemmas.Conditions.Senders.{holds_by}
 use Rattle.pr_interference.specs.inside.Interfering.{IsFree}
-use Rattle.pr_interference.specs.inside.Clauses.{refuses_strangers, is_registered_as, is_holder_as, holds_as, may_send, AreSenders}
+use Rattle.pr_interference.specs.inside.Clauses.{refuses_strangers, is_registered_as, may_send, AreSenders}
 use Rattle.pr_interference.proofs.lemmas.Clauses.Spellings.{not_refused, strangers_refused, Spells, spells, spells_stranger}
 
 -- ---- who stands so
-
-pub holds_by : (condition : Option Condition) (u : State) (h : ℕ) → holds condition u h ≡ holds_as condition u.held h (is_registered u h)
-holds_by None u h = refl
-holds_by (Some condition.Registered) u h = refl
-holds_by (Some condition.Holder) u h = at u.held
-  where
-    at : (held : Option Held) → holds (Some condition.Holder) (record u { held = held }) h ≡ is_holder_as held h (is_registered u h)
-    at None = refl
-    at (Some (One kind g)) = refl
-    at (Some (Everybody kind)) = refl
-holds_by (Some condition.Reserved) u h = refl
 
 registered_as : (p : Purpose) (i : ℕ) → is_registered_as (standing_of p (suc i)) ≡ true
 registered_as p i = at (names_key p (suc i))
@@ -54,7 +42,7 @@ registered_by : (u : State) (sender : ℕ) (standing : Standing) → HasKey u se
 registered_by u sender standing key = ap is_some key.is ∙ sym key.registered
 
 -- senders that stand so have no other standing
-pub uniform : (p : Purpose) (standing : Standing) (word : Word) → AreSenders p standing word → IsUniform word
+pub uniform : (p : Purpose) (standing : Standing) (word : BitSet) → AreSenders p standing word → IsUniform word
 uniform p standing word senders none r is = at r (senders.only r is)
   where
     here : Unregistered ≡ standing
@@ -101,11 +89,11 @@ none_send s o place clause p standing u w is none leads = false≢true (sym none
         (ap (λ b. b || not (refuses_strangers p)) key.registered ∙ admitted (refuses_strangers p) refl key.key key.is)
 
 -- nobody stands so that the view does not have among those who do
-pub none_among : (s : Scope) (o : Onlooker) (place : Place) (clause : Clause) (p : Purpose) (standing : Standing) (senders : Word) (u w : UnitState) → IsWatched s o place → AreSenders p standing senders
+pub none_among : (s : Scope) (o : Onlooker) (place : Place) (clause : Clause) (p : Purpose) (standing : Standing) (senders : BitSet) (u w : UnitState) → IsWatched s o place → AreSenders p standing senders
     → ((r : ℕ) → has_at o.view.registrations place.sender r ≡ true → has senders r ≡ false) → StandingLeads (view_in s o.view) clause place.sender place.reservation p standing u w → ⊥
 none_among s o place clause p standing senders u w is are none leads =
     let seen = leads.leads.shown.registrations place.sender (subst (λ n. place.sender < n) (sym is.known.hosts) place.there) in
-    let few : seen.0 ≤ 12 = (let few = few_keys s.keys is.known.fits.scope.keys in let small = seen.1.1.1 in omega arith) in
+    let few : seen.0 ≤ MOST_KEYS = (let few = few_keys s.keys is.known.fits.scope.keys in let small = seen.1.1.1 in omega arith) in
     false≢true (sym (none seen.0 seen.1.0.1) ∙ are.all seen.0 few (leads.stands seen.0 seen.1.1))
 
 -- ---- what branches lead to
@@ -132,7 +120,7 @@ ended s sender ending.Conflict u c free whole ends = absurd (false≢true (sym f
 ended s sender (ending.Fault sense) u c free whole ends = let bad : None ≡ Some sense = sym whole ∙ ends.1 in cc
 ended s sender (ending.Good change) u c free whole ends = (change, refl, ends.2)
 
-pub led_by_branches : (s : Scope) (o : Onlooker) (place : Place) (clause : Clause) (p : Purpose) (standing : Standing) (senders : Word) (branches : List Branch) (u w : UnitState)
+pub led_by_branches : (s : Scope) (o : Onlooker) (place : Place) (clause : Clause) (p : Purpose) (standing : Standing) (senders : BitSet) (branches : List Branch) (u w : UnitState)
     → IsWatched s o place → AreSenders p standing senders → AreBranches place.hosts p place.held place.sender standing branches
     → StandingLeads (view_in s o.view) clause place.sender place.reservation p standing u w
     → Among (length branches) branches (λ b. IsLedBy s o.view place senders b u w)
@@ -174,7 +162,7 @@ spelled s u sender clause p held standing declared fits keys meant may None is r
     admits false is = is
     admits true is = absurd (false≢true (sym (λ i. registered i || not (is i)) ∙ part))
 
-pub left_by_branches : (s : Scope) (o : Onlooker) (place : Place) (clause : Clause) (p : Purpose) (standing : Standing) (senders : Word) (branches : List Branch) (i : Item)
+pub left_by_branches : (s : Scope) (o : Onlooker) (place : Place) (clause : Clause) (p : Purpose) (standing : Standing) (senders : BitSet) (branches : List Branch) (i : Item)
     → IsWatched s o place → AreSenders p standing senders → AreBranches place.hosts p place.held place.sender standing branches
     → is_action s.keys clause.action ≡ true → purpose_for s.keys clause.action place.held ≡ Some p → may_send clause.condition p place.held place.sender standing ≡ true
     → Among (length branches) branches (λ b. IsLeftBy s o.view place senders b i) → ClauseLeaves (view_in s o.view) clause place.sender i

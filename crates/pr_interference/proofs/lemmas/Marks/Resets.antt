@@ -1,5 +1,5 @@
 -- What a reset makes of a view.
-use Rattle.pr_interference.proofs.Common.{◌≡◌, ℕ, ◌<◌, true, ◌&&◌, ◌||◌, ◌==◌, bit_or, sym, refl, ap, ◌∙◌, subst, arith, and_parts, nat_tests, has_wide, has, Word, UnitState, has_at, view_in, Scope, count_of_reservations, Item, Registration, Reservation, Attentions, IsSo, AreInRange, View, IsPossible, Shows, Possibilities, IsImage, IsSame, shows_within, first}
+use Rattle.pr_interference.proofs.Common.{◌≡◌, ℕ, ◌<◌, true, ◌&&◌, ◌||◌, ◌==◌, bit_or, sym, refl, ap, ◌∙◌, subst, arith, and_parts, nat_tests, has_wide, has, BitSet, UnitState, has_at, view_in, Scope, count_of_reservations, Item, Registration, Reservation, Attentions, IsSo, AreInRange, View, IsPossible, Shows, Possibilities, IsImage, IsSame, shows_within, first, ATTENTION_SETS}
 use Rattle.std.proofs.Common.{nat_lt}
 use Rattle.std.specs.FinSet as set
 use Rattle.std.proofs.Math.Bool.{or_comm}
@@ -29,11 +29,11 @@ so_after_reset s u q hosts own so = (or_flag-lt q PowerOn so.0, λ code. told co
         ∙ or_comm (set.contains (codes_of q) code) (code == power_on)
         ∙ sym (ap (λ (s : set.FinSet _). set.contains s code) (codes_of-or_flag q PowerOn) ∙ contains-insert_code (codes_of q) power_on code)
 
-below_all : (q : ℕ) (w : Word) → q < 16 → has w q ≡ true → first 16 w q ≡ true
-below_all q w few is = let small : nat_lt q 16 ≡ true = grind (arith, nat_tests) in rw (small, is) refl
+below_all : (q : ℕ) (w : BitSet) → q < ATTENTION_SETS → has w q ≡ true → first ATTENTION_SETS w q ≡ true
+below_all q w few is = let small : nat_lt q ATTENTION_SETS ≡ true = grind (arith, nat_tests) in rw (small, is) refl
 
 pub is_after_reset : (s : Scope) (v kept left : Possibilities) → s.own < s.hosts → IsKept (view_in s v) (view_in s kept)
-    → left.registrations ≡ kept.registrations → left.reservations ≡ kept.reservations → IsImage (first 16 kept.pending) (λ q. bit_or q 1) (has left.pending)
+    → left.registrations ≡ kept.registrations → left.reservations ≡ kept.reservations → IsImage (first ATTENTION_SETS kept.pending) (λ q. bit_or q 1) (has left.pending)
     → IsAfterReset (view_in s v) (view_in s left)
 is_after_reset s v kept left own is registrations reservations image = record { cover = cover; only = only }
   where
@@ -64,7 +64,7 @@ is_after_reset s v kept left own is registrations reservations image = record { 
         record { from = from.unit; shown = from.shown; is = from.is }
     only (Attentions n) got =
         let found = image.only n got in
-        let from = is.only (Attentions found.0) (and_parts (nat_lt found.0 16) (has kept.pending found.0) found.1).1 in
+        let from = is.only (Attentions found.0) (and_parts (nat_lt found.0 ATTENTION_SETS) (has kept.pending found.0) found.1).1 in
         record {
           from = from.unit;
           shown = from.shown;

@@ -1,5 +1,5 @@
 -- The reach of each clause, and what is possible within it.
-use Rattle.pr_interference.proofs.Common.{◌≡◌, ℕ, zero, suc, ◌+◌, ◌<◌, ◌≤◌, Bool, true, false, not, ◌&&◌, ◌||◌, ◌≢◌, ◌⊎◌, List, length, if◌then◌else◌, ◌==◌, slice_index_or, bit_or, Some, None, Option, option_map, sym, refl, ap, ◌∙◌, subst, inl, inr, arith, false≢true, and_parts, eqb_tells, nat_tests, has_wide, has, Word, MOST_NEXUSES, Kind, is_kind, is_told_of_loss, is_held_by_all, key_of, is_registered, kind_of, new_reservation, IsKey, Held, One, UnitState, is_action, names, holds, Action, Clause, has_at, view_in, Scope, number_of, count_of_reservations, Item, Registration, Reservation, Attentions, IsSo, IsPossible, Shows, Possibilities, one_registration, one_reservation, one_attentions, number_in, purpose_of_preempt, Place, Purpose, Register, Unregister, Reserve, Release, Clear, PreemptAll, Preempt, Allows, Adds, same_reservation, few_keys, Onlooker, Reach, purpose_for, PlaceLeads, FirstLeads, IsWatched, IsOnlooking, ClauseLeaves}
+use Rattle.pr_interference.proofs.Common.{◌≡◌, ℕ, zero, suc, ◌+◌, ◌<◌, ◌≤◌, Bool, true, false, not, ◌&&◌, ◌||◌, ◌≢◌, ◌⊎◌, List, length, if◌then◌else◌, ◌==◌, slice_index_or, bit_or, Some, None, Option, option_map, sym, refl, ap, ◌∙◌, subst, inl, inr, arith, false≢true, and_parts, eqb_tells, nat_tests, has_wide, has, BitSet, MOST_NEXUSES, Kind, is_kind, is_told_of_loss, is_held_by_all, key_of, is_registered, kind_of, new_reservation, IsKey, Held, One, UnitState, is_action, names, holds, Action, Clause, has_at, view_in, Scope, number_of, count_of_reservations, Item, Registration, Reservation, Attentions, IsSo, IsPossible, Shows, Possibilities, one_registration, one_reservation, one_attentions, number_in, purpose_of_preempt, Place, Purpose, Register, Unregister, Reserve, Release, Clear, PreemptAll, Preempt, Allows, Adds, same_reservation, few_keys, Onlooker, Reach, purpose_for, PlaceLeads, FirstLeads, IsWatched, IsOnlooking, ClauseLeaves, ATTENTION_SETS, MOST_KEYS}
 use Rattle.std.specs.List.{All as Each}
 use Rattle.std.proofs.lemmas.Bool.{cases_lt, or_left, or_right}
 use Rattle.std.proofs.lemmas.Option.{same_Some, slice_get_within, get_or_from_slice_get}
@@ -17,11 +17,11 @@ use Rattle.pr_views.proofs.lemmas.Rooms.Places.{holds_at-get_or, holds_at_past}
 use Rattle.pr_regions.proofs.lemmas.Showing.Numbers.{AreDistinct, are_distinct_keys, same_number_at}
 use Rattle.pr_regions.proofs.lemmas.Purposes.Conduct.{key_named, after_for, change_for, fault_for, IsNamed, IsOwned, asked}
 use Rattle.pr_regions.proofs.lemmas.Regions.ChangedStates.{then_in}
-use Rattle.pr_interference.specs.inside.Clauses.{holds_as}
-use Rattle.pr_interference.specs.inside.Reaching.{IsTold, IsWithin, IsAtMost, IsReach, IsReachAt, IsWider, MayAllGo, IsMost, HasShown}
+use Rattle.pr_regions.specs.Conditions.{holds_as}
+use Rattle.pr_regions.proofs.lemmas.Conditions.Senders.{holds_by}
+use Rattle.pr_interference.specs.inside.Reaching.{IsTold, IsWithin, IsAtMost, IsReach, IsReachAt, IsWider, MayAllGo, IsMost, HasShown, HasEveryKey, HasEveryKeyBut}
 use Rattle.pr_interference.proofs.lemmas.Interfering.Placements.{has_number}
 use Rattle.pr_interference.proofs.lemmas.Clauses.Spellings.{not_refused}
-use Rattle.pr_interference.proofs.lemmas.Interfering.Standings.{holds_by}
 use Rattle.pr_interference.proofs.lemmas.Reaching.Effects.{register_within, unregister_within, reserve_within, release_within, clear_within, preempt_all_within, preempt_key_within}
 
 -- ---- what a clause asks for, and what becomes of the state
@@ -36,7 +36,7 @@ module _ (s : Scope) (o : Onlooker) (place : Place) (clause : Clause) (reach : R
   abbrev Leads : UnitState → UnitState → Type 0
   Leads = PlaceLeads (view_in s o.view) clause place.sender place.reservation
 
-  few : length s.keys ≤ 12
+  few : length s.keys ≤ MOST_KEYS
   few = few_keys s.keys is.known.fits.scope.keys
 
   stands : (u w : UnitState) → Leads u w → u.registry.held ≡ place.held
@@ -68,7 +68,7 @@ module _ (s : Scope) (o : Onlooker) (place : Place) (clause : Clause) (reach : R
       within u w (Register j) known (register_within s place.sender reach u few is.other j (key_named s.keys j) known.named.0 known.named.1 gives)
 
   pub unregister_reach : clause.action ≡ action.Unregister → has reach.given 0 ≡ true → ((holds_alone place.held place.sender || is_held_by_all place.held) ≡ true → has_wide reach.reservations 0 ≡ true)
-      → ((holds_alone place.held place.sender && is_told_of_loss place.held) ≡ true → (r : ℕ) → 1 ≤ r → r ≤ 12 → has reach.told_04 r ≡ true) → IsReachAt s o.view clause place reach
+      → ((holds_alone place.held place.sender && is_told_of_loss place.held) ≡ true → HasEveryKey reach.told_04) → IsReachAt s o.view clause place reach
   unregister_reach acts gives ends tells u w led =
       let held = stands u w led in
       within u w Unregister (served u w action.Unregister Unregister led acts refl)
@@ -84,7 +84,7 @@ module _ (s : Scope) (o : Onlooker) (place : Place) (clause : Clause) (reach : R
       here = subst (λ n. has_wide reach.reservations (number_of n (Some (new_reservation t place.sender))) ≡ true) (sym is.known.hosts)
 
   pub release_reach : clause.action ≡ action.Release → ((holds_alone place.held place.sender || is_held_by_all place.held) ≡ true → has_wide reach.reservations 0 ≡ true)
-      → (((holds_alone place.held place.sender || is_held_by_all place.held) && is_told_of_loss place.held) ≡ true → (r : ℕ) → 1 ≤ r → r ≤ 12 → has reach.told_04 r ≡ true) → IsReachAt s o.view clause place reach
+      → (((holds_alone place.held place.sender || is_held_by_all place.held) && is_told_of_loss place.held) ≡ true → HasEveryKey reach.told_04) → IsReachAt s o.view clause place reach
   release_reach acts ends tells u w led = at u.registry.held refl
     where
       at : (v : Option Held) → u.registry.held ≡ v → IsWithin s place.sender reach u w
@@ -98,14 +98,14 @@ module _ (s : Scope) (o : Onlooker) (place : Place) (clause : Clause) (reach : R
           (release_within s place.sender reach u few is.other t (λ e. ends (subst (λ x. (holds_alone x place.sender || is_held_by_all x) ≡ true) held e))
           (λ e. tells (subst (λ x. ((holds_alone x place.sender || is_held_by_all x) && is_told_of_loss x) ≡ true) held e)))
 
-  pub clear_reach : clause.action ≡ action.Clear → has reach.given 0 ≡ true → ((r : ℕ) → 1 ≤ r → r ≤ 12 → has reach.removed r ≡ true) → has_wide reach.reservations 0 ≡ true
-      → ((r : ℕ) → 1 ≤ r → r ≤ 12 → has reach.told_03 r ≡ true) → IsReachAt s o.view clause place reach
+  pub clear_reach : clause.action ≡ action.Clear → has reach.given 0 ≡ true → HasEveryKey reach.removed → has_wide reach.reservations 0 ≡ true
+      → HasEveryKey reach.told_03 → IsReachAt s o.view clause place reach
   clear_reach acts gives removes none tells u w led =
       within u w Clear (served u w action.Clear Clear led acts refl) (clear_within s place.sender reach u few is.other gives removes none tells)
 
-  pub preempt_all_reach : (key : ℕ) (t : Kind) → clause.action ≡ action.Preempt key t → key ≡ 0 → (is_held_by_all place.held ≡ true → (r : ℕ) → 1 ≤ r → r ≤ 12 → has reach.removed r ≡ true)
+  pub preempt_all_reach : (key : ℕ) (t : Kind) → clause.action ≡ action.Preempt key t → key ≡ 0 → (is_held_by_all place.held ≡ true → HasEveryKey reach.removed)
       → (is_held_by_all place.held ≡ true → has_wide reach.reservations (number_of place.hosts (Some (new_reservation t place.sender))) ≡ true)
-      → (is_held_by_all place.held ≡ true → (r : ℕ) → 1 ≤ r → r ≤ 12 → has reach.told_05 r ≡ true) → IsReachAt s o.view clause place reach
+      → (is_held_by_all place.held ≡ true → HasEveryKey reach.told_05) → IsReachAt s o.view clause place reach
   preempt_all_reach key t acts zero_is removes takes tells u w led =
       let known = served u w (action.Preempt 0 t) (PreemptAll t) led (acts ∙ ap (λ k. action.Preempt k t) zero_is) refl in
       let all = by_all (illegal INVALID_FIELD_IN_PARAMETER_LIST 0) (is_held_by_all u.registry.held) known.whole in
@@ -122,7 +122,7 @@ module _ (s : Scope) (o : Onlooker) (place : Place) (clause : Clause) (reach : R
       → (is_held_by_all place.held ≡ true → has_at o.view.registrations place.sender (number_in s.keys key) ≡ true → MayAllGo o.view place (number_in s.keys key) → has_wide reach.reservations 0 ≡ true) → has reach.removed (number_in s.keys key) ≡ true
       → ((old : Kind) (g : ℕ) → place.held ≡ Some (One old g) → has_at o.view.registrations g (number_in s.keys key) ≡ true → has_wide reach.reservations (number_of place.hosts (Some (new_reservation t place.sender))) ≡ true)
       → ((old : Kind) (g : ℕ) → place.held ≡ Some (One old g) → has_at o.view.registrations g (number_in s.keys key) ≡ true → is_kind old t ≡ false
-      → (r : ℕ) → 1 ≤ r → r ≤ 12 → r ≢ number_in s.keys key → has reach.told_04 r ≡ true)
+      → HasEveryKeyBut (number_in s.keys key) reach.told_04)
       → has reach.told_05 (number_in s.keys key) ≡ true → IsReachAt s o.view clause place reach
   preempt_key_reach key t acts some gives ends removes takes released removed u w led =
       let known = served u w (action.Preempt key t) (Preempt j t) led acts (ap (λ p. Some p) asks) in
@@ -264,7 +264,7 @@ module _ (s : Scope) (o : Onlooker) (clause : Clause) (reach : Reach) (is : IsOn
     pub given : (n : ℕ) → has reach.given n ≡ true → has_at most.registrations o.other n ≡ true
     pub freed : (g r : ℕ) → g < MOST_NEXUSES → g ≢ o.other → has_at o.view.registrations g r ≡ true → has reach.removed r ≡ true → has_at most.registrations g 0 ≡ true
     pub reservations : (x : ℕ) → has_wide reach.reservations x ≡ true → has_wide most.reservations x ≡ true
-    pub pending : (r q n : ℕ) → has_at o.view.registrations s.own r ≡ true → has o.view.pending q ≡ true → q < 16 → IsTold reach r q n → has most.pending n ≡ true
+    pub pending : (r q n : ℕ) → has_at o.view.registrations s.own r ≡ true → has o.view.pending q ≡ true → q < ATTENTION_SETS → IsTold reach r q n → has most.pending n ≡ true
 
   pub most_of_reach : (most : Possibilities) → IsReach s o.view clause o.other reach → AreWithin most → IsMost s o.view clause o.other most
   most_of_reach most reaches are x u w led = record {
@@ -364,7 +364,7 @@ adds_most s o clause old answer most n count shown is has adds = record { kept =
 
 -- ---- what a list of words has at a place
 
-pub has_there : (words : List Word) (g r : ℕ) (d : Word) → has_at words g r ≡ true → has (slice_index_or words g d) r ≡ true
+pub has_there : (words : List BitSet) (g r : ℕ) (d : BitSet) → has_at words g r ≡ true → has (slice_index_or words g d) r ≡ true
 has_there words g r d is = at (cases_lt g (length words))
   where
     at : (g < length words) ⊎ (length words ≤ g) → has (slice_index_or words g d) r ≡ true
@@ -373,11 +373,11 @@ has_there words g r d is = at (cases_lt g (length words))
 
 -- ---- the attentions that are told
 
-abbrev pub Marks : Word → Word → Word → ℕ → Word → Type 0
-Marks owners told pending mark result = (r q : ℕ) → has owners r ≡ true → has told r ≡ true → has pending q ≡ true → q < 16 → has result (bit_or q mark) ≡ true
+abbrev pub Marks : BitSet → BitSet → BitSet → ℕ → BitSet → Type 0
+Marks owners told pending mark result = (r q : ℕ) → has owners r ≡ true → has told r ≡ true → has pending q ≡ true → q < ATTENTION_SETS → has result (bit_or q mark) ≡ true
 
-pub told_joined : (reach : Reach) (owners pending a b c d e : Word) (r q n : ℕ) → Marks owners reach.told_03 pending 2 a → Marks owners reach.told_04 pending 4 b → Marks owners reach.told_05 pending 8 c
-    → ((m : ℕ) → has d m ≡ (has b m || has c m)) → ((m : ℕ) → has e m ≡ (has a m || has d m)) → has owners r ≡ true → has pending q ≡ true → q < 16 → IsTold reach r q n → has e n ≡ true
+pub told_joined : (reach : Reach) (owners pending a b c d e : BitSet) (r q n : ℕ) → Marks owners reach.told_03 pending 2 a → Marks owners reach.told_04 pending 4 b → Marks owners reach.told_05 pending 8 c
+    → ((m : ℕ) → has d m ≡ (has b m || has c m)) → ((m : ℕ) → has e m ≡ (has a m || has d m)) → has owners r ≡ true → has pending q ≡ true → q < ATTENTION_SETS → IsTold reach r q n → has e n ≡ true
 told_joined reach owners pending a b c d e r q n first second third joined all owns pends small tells = all n ∙ at tells
   where
     at : IsTold reach r q n → (has a n || has d n) ≡ true

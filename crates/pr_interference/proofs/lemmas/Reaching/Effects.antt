@@ -1,5 +1,5 @@
 -- Whatever becomes another by a service action is in its reach.
-use Rattle.pr_interference.proofs.Common.{◌≡◌, ℕ, zero, suc, ◌≤◌, Bool, true, false, not, ◌&&◌, ◌||◌, ◌≢◌, ◌⊎◌, length, if◌then◌else◌, ◌==◌, bit_or, Some, None, Option, sym, refl, ap, ◌∙◌, subst, inl, inr, arith, false≢true, and_parts, and_from, eqb_tells, nat_tests, has_wide, has, Kind, is_kind, is_told_of_loss, is_held_by_all, State, key_of, is_registered, new_reservation, Held, One, UnitState, Scope, number_of, Registration, IsSo, Unregister, is_pending_after, contains-told, Reach}
+use Rattle.pr_interference.proofs.Common.{◌≡◌, ℕ, zero, suc, ◌≤◌, Bool, true, false, not, ◌&&◌, ◌||◌, ◌≢◌, ◌⊎◌, length, if◌then◌else◌, ◌==◌, bit_or, Some, None, Option, sym, refl, ap, ◌∙◌, subst, inl, inr, arith, false≢true, and_parts, and_from, eqb_tells, nat_tests, has_wide, has, Kind, is_kind, is_told_of_loss, is_held_by_all, State, key_of, is_registered, new_reservation, Held, One, UnitState, Scope, number_of, Registration, IsSo, Unregister, is_pending_after, contains-told, Reach, MOST_KEYS}
 use Rattle.std.proofs.Common.{is_some, unwrap_or}
 use Rattle.std.specs.Int.Bits.{or_zero_r}
 use Rattle.std.specs.FinSet as set
@@ -20,7 +20,7 @@ use Rattle.pr_regions.proofs.lemmas.Regions.ChangedStates.{Is, then_in}
 use Rattle.pr_regions.proofs.lemmas.Regions.ToldAttentions.{contains-codes_told, told-lt, flags}
 use Rattle.pr_regions.proofs.lemmas.Regions.Effects.{Becomes, still, on_register, on_unregister, on_release, on_clear, is_key-number, is_registered-number}
 use Rattle.pr_regions.proofs.lemmas.Regions.PreemptCases.{in_case, on_preempt_all, on_preempt_holder, on_preempt_key}
-use Rattle.pr_interference.specs.inside.Reaching.{IsTold, IsWithin}
+use Rattle.pr_interference.specs.inside.Reaching.{IsTold, IsWithin, HasEveryKey, HasEveryKeyBut}
 
 -- ---- what a registry becomes
 
@@ -35,9 +35,9 @@ Tells reach r _ _ _ = ⊥
 -- what a registry becomes is in reach
 pub record IsInReach (hosts : ℕ) (reach : Reach) (u : State) (to : Option ℕ) (out : ℕ → Bool) (left : ℕ) (t3 t4 t5 : ℕ → Bool) : Type 0 where
   pub given : (j : ℕ) → to ≡ Some j → has reach.given j ≡ true
-  pub removed : (r : ℕ) → r ≤ 12 → out r ≡ true → has reach.removed r ≡ true
+  pub removed : (r : ℕ) → r ≤ MOST_KEYS → out r ≡ true → has reach.removed r ≡ true
   pub reservation : (left ≡ number_of hosts u.held) ⊎ (has_wide reach.reservations left ≡ true)
-  pub told : (r : ℕ) → r ≤ 12 → Tells reach r (t3 r) (t4 r) (t5 r)
+  pub told : (r : ℕ) → r ≤ MOST_KEYS → Tells reach r (t3 r) (t4 r) (t5 r)
 
 told_one : (reach : Reach) (r q : ℕ) (a b c : Bool) → Tells reach r a b c → (bit_or q (flags a b c) ≡ q) ⊎ IsTold reach r q (bit_or q (flags a b c))
 told_one reach r q false false false tells = inl (or_zero_r q)
@@ -47,7 +47,7 @@ told_one reach r q false false true tells = inr (inr (inr (tells, refl)))
 told_one reach r q _ _ _ tells = absurd tells
 
 pub within_becomes : (s : Scope) (from : ℕ) (reach : Reach) (u : UnitState) (v : State) (t : Told) (to : Option ℕ) (out : ℕ → Bool) (left : ℕ) (t3 t4 t5 : ℕ → Bool)
-    → length s.keys ≤ 12 → s.own ≢ from → Becomes s.keys s.hosts from to out left t3 t4 t5 u.registry v t → IsInReach s.hosts reach u.registry to out left t3 t4 t5
+    → length s.keys ≤ MOST_KEYS → s.own ≢ from → Becomes s.keys s.hosts from to out left t3 t4 t5 u.registry v t → IsInReach s.hosts reach u.registry to out left t3 t4 t5
     → IsWithin s from reach u (then_in u v t)
 within_becomes s from reach u v t to out left t3 t4 t5 few apart becomes is = record {
   sender = λ r so.
@@ -86,18 +86,18 @@ module _ (s : Scope) (from : ℕ) (reach : Reach) (u : UnitState) where
   Stays left = (left ≡ number_of s.hosts u.registry.held) ⊎ (has_wide reach.reservations left ≡ true)
 
   -- that nobody is told is in every reach
-  told_none : (r : ℕ) → r ≤ 12 → Tells reach r false false false
+  told_none : (r : ℕ) → r ≤ MOST_KEYS → Tells reach r false false false
   told_none r few = tt
 
-  told_registered_03 : ((r : ℕ) → 1 ≤ r → r ≤ 12 → has reach.told_03 r ≡ true) → (r : ℕ) → r ≤ 12 → Tells reach r (is_of_registrant r) false false
+  told_registered_03 : HasEveryKey reach.told_03 → (r : ℕ) → r ≤ MOST_KEYS → Tells reach r (is_of_registrant r) false false
   told_registered_03 tells zero few = tt
   told_registered_03 tells (suc i) few = let is : is_of_registrant (suc i) ≡ true = grind (arith, nat_tests) in subst (λ b. Tells reach (suc i) b false false) (sym is) (tells (suc i) (omega arith) few)
 
-  told_registered_05 : ((r : ℕ) → 1 ≤ r → r ≤ 12 → has reach.told_05 r ≡ true) → (r : ℕ) → r ≤ 12 → Tells reach r false false (is_of_registrant r)
+  told_registered_05 : HasEveryKey reach.told_05 → (r : ℕ) → r ≤ MOST_KEYS → Tells reach r false false (is_of_registrant r)
   told_registered_05 tells zero few = tt
   told_registered_05 tells (suc i) few = let is : is_of_registrant (suc i) ≡ true = grind (arith, nat_tests) in subst (λ b. Tells reach (suc i) false false b) (sym is) (tells (suc i) (omega arith) few)
 
-  told_if_04 : (b : Bool) → (b ≡ true → (r : ℕ) → 1 ≤ r → r ≤ 12 → has reach.told_04 r ≡ true) → (r : ℕ) → r ≤ 12 → Tells reach r false (told_if b r) false
+  told_if_04 : (b : Bool) → (b ≡ true → HasEveryKey reach.told_04) → (r : ℕ) → r ≤ MOST_KEYS → Tells reach r false (told_if b r) false
   told_if_04 false tells r few = tt
   told_if_04 true tells zero few = tt
   told_if_04 true tells (suc i) few = let is : is_of_registrant (suc i) ≡ true = grind (arith, nat_tests) in subst (λ b. Tells reach (suc i) false b false) (sym is) (tells refl (suc i) (omega arith) few)
@@ -108,7 +108,7 @@ module _ (s : Scope) (from : ℕ) (reach : Reach) (u : UnitState) where
   left_or_none o (inr ended) = inr (ap (λ v. has_wide reach.reservations (number_of s.hosts v)) ended.0 ∙ ended.1)
 
   -- nothing is removed or given
-  keeps : (left : ℕ) (t4 : ℕ → Bool) → Stays left → ((r : ℕ) → r ≤ 12 → Tells reach r false (t4 r) false) → IsInReach s.hosts reach u.registry None never left never t4 never
+  keeps : (left : ℕ) (t4 : ℕ → Bool) → Stays left → ((r : ℕ) → r ≤ MOST_KEYS → Tells reach r false (t4 r) false) → IsInReach s.hosts reach u.registry None never left never t4 never
   keeps left t4 stays tells = record {
     given = λ j is. let bad : None ≡ Some j = is in cc;
     removed = λ r few goes. absurd (false≢true goes);
@@ -116,7 +116,7 @@ module _ (s : Scope) (from : ℕ) (reach : Reach) (u : UnitState) where
     told = tells;
   }
 
-  module _ (few : length s.keys ≤ 12) (apart : s.own ≢ from) where
+  module _ (few : length s.keys ≤ MOST_KEYS) (apart : s.own ≢ from) where
     pub register_within : (j k : ℕ) → j ≤ length s.keys → key_at s.keys j ≡ Some k → has reach.given j ≡ true → IsWithin s from reach u (then_in u (register u.registry from k) no_change)
     register_within j k small named gives =
         within_becomes s from reach u _ no_change (Some j) never (number_of s.hosts u.registry.held) never never never few apart (on_register s.keys s.hosts from j k u.registry small named)
@@ -132,7 +132,7 @@ module _ (s : Scope) (from : ℕ) (reach : Reach) (u : UnitState) where
     Ends = (holds_alone u.registry.held from || is_held_by_all u.registry.held) ≡ true → has_wide reach.reservations 0 ≡ true
 
     abbrev Releases : Type 0
-    Releases = (holds_alone u.registry.held from && is_told_of_loss u.registry.held) ≡ true → (r : ℕ) → 1 ≤ r → r ≤ 12 → has reach.told_04 r ≡ true
+    Releases = (holds_alone u.registry.held from && is_told_of_loss u.registry.held) ≡ true → HasEveryKey reach.told_04
 
     -- a registrant unregisters
     unregistered_within : has reach.given 0 ≡ true → Ends → Releases → IsWithin s from reach u (then_in u (without_registration u.registry from) (change_on_unregister u.registry from))
@@ -184,7 +184,7 @@ module _ (s : Scope) (from : ℕ) (reach : Reach) (u : UnitState) where
         at None takes = inr (takes refl)
         at (Some v) takes = inl refl
 
-    pub release_within : (t : Kind) → Ends → (((holds_alone u.registry.held from || is_held_by_all u.registry.held) && is_told_of_loss u.registry.held) ≡ true → (r : ℕ) → 1 ≤ r → r ≤ 12 → has reach.told_04 r ≡ true)
+    pub release_within : (t : Kind) → Ends → (((holds_alone u.registry.held from || is_held_by_all u.registry.held) && is_told_of_loss u.registry.held) ≡ true → HasEveryKey reach.told_04)
         → IsWithin s from reach u (then_in u (after_release u.registry from t) (change_on_release u.registry from t))
     release_within t ends tells =
         let now = number_of s.hosts (after_release u.registry from t).held in
@@ -211,11 +211,11 @@ module _ (s : Scope) (from : ℕ) (reach : Reach) (u : UnitState) where
         at false is = inl refl
 
     -- whoever is registered may go
-    goes : ((r : ℕ) → 1 ≤ r → r ≤ 12 → has reach.removed r ≡ true) → (r : ℕ) → r ≤ 12 → is_of_registrant r ≡ true → has reach.removed r ≡ true
+    goes : HasEveryKey reach.removed → (r : ℕ) → r ≤ MOST_KEYS → is_of_registrant r ≡ true → has reach.removed r ≡ true
     goes removes zero few is = absurd (false≢true is)
     goes removes (suc i) few is = removes (suc i) (omega arith) few
 
-    pub clear_within : has reach.given 0 ≡ true → ((r : ℕ) → 1 ≤ r → r ≤ 12 → has reach.removed r ≡ true) → has_wide reach.reservations 0 ≡ true → ((r : ℕ) → 1 ≤ r → r ≤ 12 → has reach.told_03 r ≡ true)
+    pub clear_within : has reach.given 0 ≡ true → HasEveryKey reach.removed → has_wide reach.reservations 0 ≡ true → HasEveryKey reach.told_03
         → IsWithin s from reach u (then_in u (after_clear u.registry) (change_on_clear u.registry from))
     clear_within gives removes none tells =
         within_becomes s from reach u (after_clear u.registry) (change_on_clear u.registry from) (Some 0) is_of_registrant 0 is_of_registrant never never few apart (on_clear s.keys s.hosts from u.registry)
@@ -226,8 +226,8 @@ module _ (s : Scope) (from : ℕ) (reach : Reach) (u : UnitState) where
           told = told_registered_03 tells;
         })
 
-    pub preempt_all_within : (t : Kind) → is_held_by_all u.registry.held ≡ true → ((r : ℕ) → 1 ≤ r → r ≤ 12 → has reach.removed r ≡ true)
-        → has_wide reach.reservations (number_of s.hosts (Some (new_reservation t from))) ≡ true → ((r : ℕ) → 1 ≤ r → r ≤ 12 → has reach.told_05 r ≡ true)
+    pub preempt_all_within : (t : Kind) → is_held_by_all u.registry.held ≡ true → HasEveryKey reach.removed
+        → has_wide reach.reservations (number_of s.hosts (Some (new_reservation t from))) ≡ true → HasEveryKey reach.told_05
         → IsWithin s from reach u (then_in u (after_preempt u.registry from 0 (Some t)) (change_on_preempt u.registry from 0 (Some t)))
     preempt_all_within t all removes takes tells =
         let left = number_of s.hosts (Some (new_reservation t from)) in
@@ -253,7 +253,7 @@ module _ (s : Scope) (from : ℕ) (reach : Reach) (u : UnitState) where
     pub preempt_key_within : (j k r : ℕ) (t : Kind) → AreDistinct s.keys → j ≤ length s.keys → key_at s.keys j ≡ Some k → (k == 0) ≡ false → IsSo s u (Registration from r) → is_registered u.registry from ≡ true
         → (r ≡ j → has reach.given 0 ≡ true) → (is_held_by_all u.registry.held ≡ true → r ≡ j → AllGo j → has_wide reach.reservations 0 ≡ true) → has reach.removed j ≡ true
         → ((old : Kind) (g : ℕ) → u.registry.held ≡ Some (One old g) → key_of u.registry g ≡ Some k → has_wide reach.reservations (number_of s.hosts (Some (new_reservation t from))) ≡ true)
-        → ((old : Kind) (g : ℕ) → u.registry.held ≡ Some (One old g) → key_of u.registry g ≡ Some k → is_kind old t ≡ false → (n : ℕ) → 1 ≤ n → n ≤ 12 → n ≢ j → has reach.told_04 n ≡ true)
+        → ((old : Kind) (g : ℕ) → u.registry.held ≡ Some (One old g) → key_of u.registry g ≡ Some k → is_kind old t ≡ false → HasEveryKeyBut j reach.told_04)
         → has reach.told_05 j ≡ true
         → IsWithin s from reach u (then_in u (after_preempt u.registry from k (Some t)) (change_on_preempt u.registry from k (Some t)))
     preempt_key_within j k r t once small named nonzero so present mine ends removes takes frees removed = at (preempt_case u.registry.keys u.registry.held k) refl
@@ -261,7 +261,7 @@ module _ (s : Scope) (from : ℕ) (reach : Reach) (u : UnitState) where
         out : ℕ → Bool
         out n = n == j
 
-        gone : (n : ℕ) → n ≤ 12 → out n ≡ true → has reach.removed n ≡ true
+        gone : (n : ℕ) → n ≤ MOST_KEYS → out n ≡ true → has reach.removed n ≡ true
         gone n few is = let same : n ≡ j = grind (arith, nat_tests) in subst (λ m. has reach.removed m ≡ true) (sym same) removes
 
         never_all : (v : Option Held) → preempt_case u.registry.keys v k ≡ ReplacesAll → ⊥
@@ -274,7 +274,7 @@ module _ (s : Scope) (from : ℕ) (reach : Reach) (u : UnitState) where
         never_all (Some (All t)) is = let bad : RemovesKey ≡ ReplacesAll = sym (ap (λ b. if b then ReplacesAll else RemovesKey) nonzero) ∙ is in cc
 
         -- the holder's reservation is replaced
-        told_rest : (b : Bool) (n : ℕ) → n ≤ 12 → (b ≡ true → (m : ℕ) → 1 ≤ m → m ≤ 12 → m ≢ j → has reach.told_04 m ≡ true) → (((n == j) ≡ true) × (n ≡ j)) ⊎ (((n == j) ≡ false) × (n ≢ j))
+        told_rest : (b : Bool) (n : ℕ) → n ≤ MOST_KEYS → (b ≡ true → HasEveryKeyBut j reach.told_04) → (((n == j) ≡ true) × (n ≡ j)) ⊎ (((n == j) ≡ false) × (n ≢ j))
             → Tells reach n false (told_but b j n) (n == j)
         told_rest b n few tells (inl same) =
             subst (λ x. Tells reach n false (b && (not (n == 0) && not x)) x) (sym same.0) (subst (λ x. Tells reach n false x true) (sym (nobody b (not (n == 0)))) (subst (λ m. has reach.told_05 m ≡ true) (sym same.1) removed))

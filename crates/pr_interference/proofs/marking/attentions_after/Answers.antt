@@ -1,4 +1,4 @@
-use Rattle.pr_interference.proofs.Common.{◌≡◌, ◌+◌, sym, ◌∙◌, subst, arith, AreMarked}
+use Rattle.pr_interference.proofs.Common.{◌≡◌, ◌+◌, sym, ◌∙◌, subst, arith, AreMarked, ATTENTION_SETS}
 use Rattle.pr_interference.proofs.lemmas.Marks.Images.{marked_more, marked_skips, told_from_marks}
 use Rattle.pr_interference.proofs.marking.attentions_after.Goals.{then-has, else-has}
 use Rattle.pr_interference.proofs.marking.attentions_after.Goals as goal
@@ -14,6 +14,6 @@ loop-mark-preserved c = elim c.if-has.branch [
 
 pub returns : goal.returns
 returns c =
-    let whole : c.loop-mark.mark ≡ 16 = omega arith in
+    let whole : c.loop-mark.mark ≡ ATTENTION_SETS = omega arith in
     told_from_marks c.args.change.now c.args.owners c.args.pending c.marks-marks.result c.loop-mark.told c.marks-marks.ensures.image
     (subst (λ n. AreMarked n c.marks-marks.result c.args.pending c.loop-mark.told) whole c.loop-mark.invariant)

@@ -1,11 +1,11 @@
-use Rattle.pr_interference.proofs.Common.{◌+◌, ◌<◌, bit_or, sym, refl, ◌∙◌, subst, arith, has, IsImage, first}
+use Rattle.pr_interference.proofs.Common.{◌+◌, ◌<◌, bit_or, sym, refl, ◌∙◌, subst, arith, has, IsImage, first, ATTENTION_SETS}
 use Rattle.std.proofs.lemmas.Nat.{or_lt}
 use Rattle.pr_interference.proofs.lemmas.Marks.Images.{image_more, image_skips}
 use Rattle.pr_interference.proofs.marking.attentions_with.Goals.{then-has, else-has}
 use Rattle.pr_interference.proofs.marking.attentions_with.Goals as goal
 
 pub with-marked-requires : goal.with-marked-requires
-with-marked-requires c = let few : bit_or c.loop-attentions.attentions c.args.mark < 16 = or_lt 4 c.loop-attentions.attentions c.args.mark (omega arith) c.requires in omega arith
+with-marked-requires c = let few : bit_or c.loop-attentions.attentions c.args.mark < ATTENTION_SETS = or_lt 4 c.loop-attentions.attentions c.args.mark (omega arith) c.requires in omega arith
 
 pub loop-attentions-preserved : goal.loop-attentions-preserved
 loop-attentions-preserved c = elim c.if-has.branch [

@@ -1,4 +1,4 @@
-use Rattle.pr_regions.proofs.Common.{ℕ, ◌≡◌, ◌≢◌, ◌<◌, ◌==◌, Bool, true, false, List, refl, unwrap_or, length, subst, sym, ◌⊎◌, inl, inr, ◌≤◌, ◌∙◌, arith, false≢true, nat_tests, Word, has, Transition}
+use Rattle.pr_regions.proofs.Common.{ℕ, ◌≡◌, ◌≢◌, ◌<◌, ◌==◌, Bool, true, false, List, refl, unwrap_or, length, subst, sym, ◌⊎◌, inl, inr, ◌≤◌, ◌∙◌, arith, false≢true, nat_tests, BitSet, has, Transition}
 use Rattle.std.proofs.Common.{slice_index_or}
 use Rattle.std.proofs.lemmas.Bool.{cases_lt}
 use Rattle.std.proofs.lemmas.List.{length-set}
@@ -10,7 +10,7 @@ use Rattle.pr_regions.proofs.lemmas.Images.Elements.{images_more}
 use Rattle.pr_regions.proofs.changed.registrations_after.Goals.{then-host-from, else-host-from}
 use Rattle.pr_regions.proofs.changed.registrations_after.Goals as goal
 
-image_at : (words : List Word) (i : ℕ) (w d : Word) (f : ℕ → ℕ) → i < length words → IsImage (has (slice_index_or words i d)) f (has w) → IsImage (has_at words i) f (has w)
+image_at : (words : List BitSet) (i : ℕ) (w d : BitSet) (f : ℕ → ℕ) → i < length words → IsImage (has (slice_index_or words i d)) f (has w) → IsImage (has_at words i) f (has w)
 image_at words i w d f there image = record {
   all = λ n is. image.all n (sym (holds_at-get_or (λ x. has x n) words i d there) ∙ is);
   only = λ m is. let found = image.only m is in (found.0, holds_at-get_or (λ x. has x found.0) words i d there ∙ found.1, found.2);
@@ -32,7 +32,7 @@ pub loop-host-preserved : goal.loop-host-preserved
 loop-host-preserved c =
     let words = c.args.words.now in
     let there : c.loop-host.host < length words = omega arith in
-    let nobody : Word = record { bits = 0 } in
+    let nobody : BitSet = record { bits = 0 } in
     let image : IsImage (has_at words c.loop-host.host) (becomes c.from-from.result c.args.change.now c.loop-host.host) (has c.if-host-from.after) = elim c.if-host-from.branch [
       | then-host-from w ↦ subst (λ x. IsImage (has_at words c.loop-host.host) (becomes c.from-from.result c.args.change.now c.loop-host.host) (has x)) (sym w.after-is)
           (same_image _ _ (λ r. unwrap_or c.args.change.now.sender r) (becomes c.from-from.result c.args.change.now c.loop-host.host) (λ r. becomes_sent c.from-from.result c.loop-host.host r c.args.change.now w.if-host-from.true)
@@ -46,7 +46,7 @@ loop-host-preserved c =
       size = length-set c.loop-host.after c.loop-host.host c.if-host-from.after ∙ c.loop-host.invariant.size;
     }
 
-past_image : (words after : List Word) (g : ℕ) (f : ℕ → ℕ) → length words ≤ g → length after ≤ g → IsImage (has_at words g) f (has_at after g)
+past_image : (words after : List BitSet) (g : ℕ) (f : ℕ → ℕ) → length words ≤ g → length after ≤ g → IsImage (has_at words g) f (has_at after g)
 past_image words after g f beyond also = record {
   all = λ n is. absurd (false≢true (sym (holds_at_past (λ x. has x n) words g beyond) ∙ is));
   only = λ m is. absurd (false≢true (sym (holds_at_past (λ x. has x m) after g also) ∙ is));

@@ -1,5 +1,5 @@
 -- Images of sets of numbers, at each place of a list.
-use Rattle.pr_regions.proofs.Common.{◌≡◌, ◌≢◌, ℕ, ◌+◌, ◌<◌, true, false, ◌==◌, List, length, sym, ◌∙◌, subst, inl, inr, ◌⊎◌, arith, eqb_tells, Word, has}
+use Rattle.pr_regions.proofs.Common.{◌≡◌, ◌≢◌, ℕ, ◌+◌, ◌<◌, true, false, ◌==◌, List, length, sym, ◌∙◌, subst, inl, inr, ◌⊎◌, arith, eqb_tells, BitSet, has}
 use Rattle.std.proofs.Common.{slice_set}
 use Rattle.pr_views.specs.Portions.{has_at}
 use Rattle.pr_views.proofs.lemmas.Rooms.Places.{holds_at_written, holds_at_kept}
@@ -7,7 +7,7 @@ use Rattle.pr_regions.specs.Images.{IsImage}
 
 -- ---- images at each place
 
-pub images_more : (words after : List Word) (i : ℕ) (w : Word) (f : ℕ → ℕ → ℕ) → i < length after → IsImage (has_at words i) (f i) (has w)
+pub images_more : (words after : List BitSet) (i : ℕ) (w : BitSet) (f : ℕ → ℕ → ℕ) → i < length after → IsImage (has_at words i) (f i) (has w)
     → ((g : ℕ) → g < i → IsImage (has_at words g) (f g) (has_at after g))
     → (g : ℕ) → g < i + 1 → IsImage (has_at words g) (f g) (has_at (slice_set after i w) g)
 images_more words after i w f there here before g small = at (eqb_tells g i)

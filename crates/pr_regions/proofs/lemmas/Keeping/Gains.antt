@@ -1,5 +1,5 @@
 -- Possibilities that others are without.
-use Rattle.pr_regions.proofs.Common.{◌≡◌, ◌≢◌, ℕ, ◌+◌, ◌<◌, true, false, ◌==◌, List, length, sym, ◌∙◌, subst, inl, inr, ◌⊎◌, arith, false≢true, eqb_tells, Word, has, Scope, Registration}
+use Rattle.pr_regions.proofs.Common.{◌≡◌, ◌≢◌, ℕ, ◌+◌, ◌<◌, true, false, ◌==◌, List, length, sym, ◌∙◌, subst, inl, inr, ◌⊎◌, arith, false≢true, eqb_tells, BitSet, has, Scope, Registration}
 use Rattle.std.proofs.Common.{slice_index_or}
 use Rattle.pr_sets.specs.Wides.{has_wide}
 use Rattle.pr_views.specs.declared.possibilities.Possibilities.{Possibilities}
@@ -19,7 +19,7 @@ new_reservation s old new x got none = record { item = Reservation x; possible =
 pub new_attentions : (s : Scope) (old new : Possibilities) (q : ℕ) → has new.pending q ≡ true → has old.pending q ≡ false → IsNew s old new
 new_attentions s old new q got none = record { item = Attentions q; possible = got; not_before = λ had. false≢true (sym none ∙ had) }
 
-pub kept_at : (new old : List Word) (i : ℕ) (d e : Word) → i < length new → i < length old → ((n : ℕ) → has (slice_index_or new i d) n ≡ true → has (slice_index_or old i e) n ≡ true)
+pub kept_at : (new old : List BitSet) (i : ℕ) (d e : BitSet) → i < length new → i < length old → ((n : ℕ) → has (slice_index_or new i d) n ≡ true → has (slice_index_or old i e) n ≡ true)
     → ((g n : ℕ) → g < i → has_at new g n ≡ true → has_at old g n ≡ true) → (g n : ℕ) → g < i + 1 → has_at new g n ≡ true → has_at old g n ≡ true
 kept_at new old i d e there also here before g n small got = at (eqb_tells g i)
   where

@@ -1,5 +1,5 @@
 -- Branches that tell how a command ends, by their regions.
-use Rattle.pr_regions.proofs.Common.{◌≡◌, ℕ, zero, suc, ◌<◌, ◌≤◌, Bool, true, false, ◌≢◌, ◌⊎◌, List, [], ◌∷◌, length, if◌then◌else◌, ◌==◌, Some, None, Option, option_map, sym, refl, ap, ◌∙◌, subst, inl, inr, arith, eqb_tells, has, Word, Command, Held, One, UnitState, HasSomebody, Scope, IsScope, Registration, IsSo, Meets, IsInRegion, IsCovered, Purpose, Standing, Branch, AlwaysEnds, any, Leaves, EndsIn, Tell}
+use Rattle.pr_regions.proofs.Common.{◌≡◌, ℕ, zero, suc, ◌<◌, ◌≤◌, Bool, true, false, ◌≢◌, ◌⊎◌, List, [], ◌∷◌, length, if◌then◌else◌, ◌==◌, Some, None, Option, option_map, sym, refl, ap, ◌∙◌, subst, inl, inr, arith, eqb_tells, has, BitSet, Command, Held, One, UnitState, HasSomebody, Scope, IsScope, Registration, IsSo, Meets, IsInRegion, IsCovered, Purpose, Standing, Branch, AlwaysEnds, any, Leaves, EndsIn, Tell, MOST_KEYS}
 use Rattle.std.specs.List.{All as Each, Contains}
 use Rattle.pr_regions.specs.declared.region.Region.{Region}
 use Rattle.pr_regions.specs.Regions.{filter_of, IsUntestedOrRegistered}
@@ -33,7 +33,7 @@ abbrev pub left_to : (ℕ → Bool) → (ℕ → Bool) → Option Held → ℕ �
 left_to holder others (Some (One kind h)) g r = if h == g then holder r else others r
 left_to holder others _ g r = others r
 
-filtered : (region : Region) (holder others : ℕ → Bool) (test : Option (ℕ → Bool)) (held : Option Held) (g r : ℕ) → Leaves region holder others test → r ≤ 12
+filtered : (region : Region) (holder others : ℕ → Bool) (test : Option (ℕ → Bool)) (held : Option Held) (g r : ℕ) → Leaves region holder others test → r ≤ MOST_KEYS
     → has (filter_of region held g) r ≡ left_to holder others held g r
 filtered region holder others test (Some (One kind h)) g r leaves few = at (h == g)
   where
@@ -46,7 +46,7 @@ pub record IsThere (s : Scope) (sender : ℕ) (holder others : ℕ → Bool) (te
   pub registrations : (g r : ℕ) → g ≢ sender → IsSo s u (Registration g r) → left_to holder others u.registry.held g r ≡ true
   pub somebody : HasSomebody s u sender test
 
-somebody_there : (s : Scope) (u : UnitState) (sender : ℕ) (somebody : Option Word) (test : Option (ℕ → Bool)) → length s.keys ≤ 12 → IsTest somebody test
+somebody_there : (s : Scope) (u : UnitState) (sender : ℕ) (somebody : Option BitSet) (test : Option (ℕ → Bool)) → length s.keys ≤ MOST_KEYS → IsTest somebody test
     → HasSomebody s u sender test → HasSomebody s u sender (option_map has somebody)
 somebody_there s u sender None None few tests there = tt
 somebody_there s u sender (Some w) (Some passes) few tests there =
@@ -54,7 +54,7 @@ somebody_there s u sender (Some w) (Some passes) few tests there =
     (there.0, there.1, there.2, there.3, tests there.1 (omega arith) ∙ there.4)
 somebody_there s u sender _ _ few tests there = absurd tests
 
-somebody_here : (s : Scope) (u : UnitState) (sender : ℕ) (somebody : Option Word) (test : Option (ℕ → Bool)) → length s.keys ≤ 12 → IsTest somebody test
+somebody_here : (s : Scope) (u : UnitState) (sender : ℕ) (somebody : Option BitSet) (test : Option (ℕ → Bool)) → length s.keys ≤ MOST_KEYS → IsTest somebody test
     → HasSomebody s u sender (option_map has somebody) → HasSomebody s u sender test
 somebody_here s u sender None None few tests there = tt
 somebody_here s u sender (Some w) (Some passes) few tests there =
@@ -62,14 +62,14 @@ somebody_here s u sender (Some w) (Some passes) few tests there =
     (there.0, there.1, there.2, there.3, sym (tests there.1 (omega arith)) ∙ there.4)
 somebody_here s u sender _ _ few tests there = absurd tests
 
-pub in_region : (s : Scope) (u : UnitState) (sender : ℕ) (region : Region) (holder others : ℕ → Bool) (test : Option (ℕ → Bool)) → length s.keys ≤ 12
+pub in_region : (s : Scope) (u : UnitState) (sender : ℕ) (region : Region) (holder others : ℕ → Bool) (test : Option (ℕ → Bool)) → length s.keys ≤ MOST_KEYS
     → Leaves region holder others test → IsThere s sender holder others test u → IsInRegion s sender region u
 in_region s u sender region holder others test few leaves there = record {
   registrations = λ g r other so. let known = so.1 in filtered region holder others test u.registry.held g r leaves (omega arith) ∙ there.registrations g r other so;
   somebody = somebody_there s u sender region.somebody test few leaves.tested there.somebody;
 }
 
-pub from_region : (s : Scope) (u : UnitState) (sender : ℕ) (region : Region) (holder others : ℕ → Bool) (test : Option (ℕ → Bool)) → length s.keys ≤ 12
+pub from_region : (s : Scope) (u : UnitState) (sender : ℕ) (region : Region) (holder others : ℕ → Bool) (test : Option (ℕ → Bool)) → length s.keys ≤ MOST_KEYS
     → Leaves region holder others test → IsInRegion s sender region u → IsThere s sender holder others test u
 from_region s u sender region holder others test few leaves inside = record {
   registrations = λ g r other so. let known = so.1 in sym (filtered region holder others test u.registry.held g r leaves (omega arith)) ∙ inside.registrations g r other so;
@@ -149,11 +149,11 @@ everyone (Some (One kind h)) g r = at (h == g)
 everyone _ g r = refl
 
 -- a test that none does not pass is proper
-pub untested : (somebody : Option Word) → IsTest somebody None → IsUntestedOrRegistered somebody
+pub untested : (somebody : Option BitSet) → IsTest somebody None → IsUntestedOrRegistered somebody
 untested None tests = tt
 untested (Some w) tests = absurd tests
 
-pub tested : (somebody : Option Word) (passes : ℕ → Bool) → passes 0 ≡ false → IsTest somebody (Some passes) → IsUntestedOrRegistered somebody
+pub tested : (somebody : Option BitSet) (passes : ℕ → Bool) → passes 0 ≡ false → IsTest somebody (Some passes) → IsUntestedOrRegistered somebody
 tested None passes fails tests = absurd tests
 tested (Some w) passes fails tests = tests 0 (omega arith) ∙ fails
 

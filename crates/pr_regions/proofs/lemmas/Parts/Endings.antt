@@ -1,5 +1,5 @@
 -- How a command ends in a state that meets what is known, by its purpose.
-use Rattle.pr_regions.proofs.Common.{◌≡◌, ℕ, zero, suc, ◌<◌, ◌≤◌, Bool, true, false, not, if◌then◌else◌, Some, None, Option, unwrap_or, sym, refl, ap, ◌∙◌, subst, arith, nat_tests, Command, Sense, no_change, State, is_registered, Held, One, All, UnitState, Scope, number_of, HasNumber, Meets, HasRoom, Ends, Purpose, Standing, Transition, Conflict, Fault, Good, Does, never, is_unregistered, holds, is_of_registrant}
+use Rattle.pr_regions.proofs.Common.{◌≡◌, ℕ, zero, suc, ◌<◌, ◌≤◌, Bool, true, false, not, if◌then◌else◌, Some, None, Option, unwrap_or, sym, refl, ap, ◌∙◌, subst, arith, nat_tests, Command, Sense, no_change, State, is_registered, Held, One, All, UnitState, Scope, number_of, HasNumber, Meets, HasRoom, Ends, Purpose, Standing, Transition, Conflict, Fault, Good, Does, never, is_unregistered, holds, is_of_registrant, MOST_KEYS}
 use Rattle.pr_registry.specs.declared.change.Change.{Change as Told}
 use Rattle.pr_registry.specs.Registrations.{is_holder}
 use Rattle.pr_registry.specs.Effects.{after, change}
@@ -101,9 +101,9 @@ leaves b to out x y t3 t4 t5 same does = record {
 
 -- the numbers of a change fit where those that it is to have do
 pub has_room : (hosts : ℕ) (b : Transition) (to : Option ℕ) (out : ℕ → Bool) (left : ℕ) (t3 t4 t5 : ℕ → Bool) → Does b to out left t3 t4 t5
-    → unwrap_or to 0 ≤ 12 → left < count_of_reservations hosts → HasRoom hosts (Good b)
+    → unwrap_or to 0 ≤ MOST_KEYS → left < count_of_reservations hosts → HasRoom hosts (Good b)
 has_room hosts b to out left t3 t4 t5 does small below =
-    (subst (λ (o : Option ℕ). unwrap_or o 0 ≤ 12) (sym does.sender) small, subst (λ n. n < count_of_reservations hosts) (sym does.reservation) below)
+    (subst (λ (o : Option ℕ). unwrap_or o 0 ≤ MOST_KEYS) (sym does.sender) small, subst (λ n. n < count_of_reservations hosts) (sym does.reservation) below)
 
 -- the command changes nothing
 pub same_ends : (s : Scope) (p : Purpose) (held : Option Held) (sender : ℕ) (standing : Standing) (u : UnitState) (c : Command) (hosts : ℕ) (b : Transition) → HasNumber p

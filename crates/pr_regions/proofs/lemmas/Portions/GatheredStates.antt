@@ -1,5 +1,5 @@
 -- The portion of a view that stands for a region: it has the states of the region, and no other.
-use Rattle.pr_regions.proofs.Common.{◌≡◌, ◌≢◌, ℕ, zero, suc, ◌<◌, ◌≤◌, Bool, true, false, not, ◌==◌, ◌&&◌, nat_lt, nat_le, if◌then◌else◌, IsTrue, List, length, Option, Some, None, is_some, option_map, refl, sym, ap, ◌∙◌, subst, inl, inr, ◌⊎◌, arith, false≢true, nat_tests, eqb_tells, Held, One, All, Keys, is_empty, is_held_by_all, UnitState, Word, has, Scope, Registration, IsSo, number_of, HasSomebody}
+use Rattle.pr_regions.proofs.Common.{◌≡◌, ◌≢◌, ℕ, zero, suc, ◌<◌, ◌≤◌, Bool, true, false, not, ◌==◌, ◌&&◌, nat_lt, nat_le, if◌then◌else◌, IsTrue, List, length, Option, Some, None, is_some, option_map, refl, sym, ap, ◌∙◌, subst, inl, inr, ◌⊎◌, arith, false≢true, nat_tests, eqb_tells, Held, One, All, Keys, is_empty, is_held_by_all, UnitState, BitSet, has, Scope, Registration, IsSo, number_of, HasSomebody, MOST_KEYS}
 use Rattle.std.proofs.Common.{IfNone}
 use Rattle.std.specs.FinMap as map
 use Rattle.std.proofs.lemmas.Bool.{and_parts, and_from, ltb-true, leb-true}
@@ -31,20 +31,20 @@ number_at s view place is = subst (λ n. place.reservation ≡ number_of n place
 pub held_at : (s : Scope) (view : Possibilities) (place : Place) → IsPlace s view place → is_reservation s.hosts place.held ≡ true
 held_at s view place is = subst (λ n. is_reservation n place.held ≡ true) (sym is.hosts) place.fits
 
-passed_sender : (place : Place) (senders : Word) (region : Region) (r : ℕ) → passes place senders region place.sender r ≡ true → has senders r ≡ true
+passed_sender : (place : Place) (senders : BitSet) (region : Region) (r : ℕ) → passes place senders region place.sender r ≡ true → has senders r ≡ true
 passed_sender place senders region r is =
     let same : (place.sender == place.sender) ≡ true = grind (arith, nat_tests) in
     subst (λ b. has (if b then senders else filter_of region place.held place.sender) r ≡ true) same
     (and_parts _ (not (holds_alone place.held place.sender && r == 0)) is).0
 
-passed_other : (place : Place) (senders : Word) (region : Region) (g r : ℕ) → g ≢ place.sender → passes place senders region g r ≡ true → has (filter_of region place.held g) r ≡ true
+passed_other : (place : Place) (senders : BitSet) (region : Region) (g r : ℕ) → g ≢ place.sender → passes place senders region g r ≡ true → has (filter_of region place.held g) r ≡ true
 passed_other place senders region g r other is =
     let same : (g == place.sender) ≡ false = grind (arith, nat_tests) in
     subst (λ b. has (if b then senders else filter_of region place.held g) r ≡ true) same
     (and_parts _ (not (holds_alone place.held g && r == 0)) is).0
 
 -- a single holder is left no registration of none
-holder_passes : (place : Place) (senders : Word) (region : Region) (h : ℕ) → holds_alone place.held h ≡ true → passes place senders region h 0 ≡ false
+holder_passes : (place : Place) (senders : BitSet) (region : Region) (h : ℕ) → holds_alone place.held h ≡ true → passes place senders region h 0 ≡ false
 holder_passes place senders region h alone = rw alone (grind (arith, nat_tests))
 
 -- ---- somebody is registered
@@ -78,13 +78,13 @@ someone keys n below filled = at (search_below keys n)
 
 -- ---- the portion
 
-pub record IsPortionOf (view : Possibilities) (place : Place) (senders : Word) (region : Region) (p : Portion) : Type 0 where
+pub record IsPortionOf (view : Possibilities) (place : Place) (senders : BitSet) (region : Region) (p : Portion) : Type 0 where
   pub sender : p.sender ≡ place.sender
   pub reservation : p.reservation ≡ place.reservation
   pub left : IsLeftTo view place senders region p
   pub tested : HasTest place senders region.somebody p.somebody
 
-gives : (s : Scope) (view : Possibilities) (place : Place) (senders : Word) (region : Region) (p : Portion) → IsPlace s view place → IsProper region
+gives : (s : Scope) (view : Possibilities) (place : Place) (senders : BitSet) (region : Region) (p : Portion) → IsPlace s view place → IsProper region
     → IsPortionOf view place senders region p → (held : Option Held) → place.held ≡ held → is_reservation s.hosts held ≡ true → GivesHolder p held
 gives s view place senders region p is proper of None held fits = tt
 gives s view place senders region p is proper of (Some (One kind h)) held fits =
@@ -108,13 +108,13 @@ gives s view place senders region p is proper of (Some (All kind)) held fits = a
             (ap (λ b. b && not (holds_alone place.held place.sender && 0 == 0)) none)
     at true some = inr (tests region.somebody p.somebody of.tested proper)
       where
-        tests : (a b : Option Word) → HasTest place senders a b → IsUntestedOrRegistered a → TestsRegistered b
+        tests : (a b : Option BitSet) → HasTest place senders a b → IsUntestedOrRegistered a → TestsRegistered b
         tests None None none proper = absurd (false≢true (sym none ∙ ap (λ b. b && has senders 0) by_all ∙ some))
         tests None (Some w) another proper = another.2
         tests (Some w) None none proper = absurd none
         tests (Some w) (Some x) same proper = subst (λ y. has y 0 ≡ false) (sym same) proper
 
-pub is_portion : (s : Scope) (view : Possibilities) (place : Place) (senders : Word) (region : Region) (p : Portion) → IsPlace s view place → IsProper region
+pub is_portion : (s : Scope) (view : Possibilities) (place : Place) (senders : BitSet) (region : Region) (p : Portion) → IsPlace s view place → IsProper region
     → IsPortionOf view place senders region p → IsPortion (view_in s view) p
 is_portion s view place senders region p is proper of = record {
   sender = subst (λ n. n < s.hosts) (sym of.sender) (subst (λ n. place.sender < n) (sym is.hosts) place.there);
@@ -134,7 +134,7 @@ same_reservation s view place u is shown so =
     let fits = subst (λ n. is_reservation n u.registry.held ≡ true) shown.hosts (reservation_of u.registry shown.formed.registry) in
     same_held s.hosts u.registry.held place.held fits (held_at s view place is) (sym so ∙ number_at s view place is)
 
-pub at_from_in : (s : Scope) (view : Possibilities) (place : Place) (senders : Word) (region : Region) (p : Portion) → IsPlace s view place
+pub at_from_in : (s : Scope) (view : Possibilities) (place : Place) (senders : BitSet) (region : Region) (p : Portion) → IsPlace s view place
     → IsPortionOf view place senders region p → (u : UnitState) → IsIn (view_in s view) p u → IsAt (view_in s view) place senders region u
 at_from_in s view place senders region p is of u inside =
     let so = subst (λ x. IsSo s u (Reservation x)) of.reservation inside.reservation in
@@ -154,7 +154,7 @@ at_from_in s view place senders region p is of u inside =
         (and_parts (has_at view.registrations g r) (passes place senders region g r)
         (sym (of.left g r (subst (λ n. g < n) is.hosts it.0)) ∙ inside.registrations g r it)).1
 
-    somebody : (a b : Option Word) → HasTest place senders a b → HasSomebody s u place.sender (option_map has b) → HasSomebody s u place.sender (option_map has a)
+    somebody : (a b : Option BitSet) → HasTest place senders a b → HasSomebody s u place.sender (option_map has b) → HasSomebody s u place.sender (option_map has a)
     somebody None None none some = tt
     somebody None (Some w) another some = tt
     somebody (Some w) None none some = absurd none
@@ -175,10 +175,10 @@ holder_registered s u (Some (One kind h)) held formed g (suc i) so alone = grind
 none_some : (k : ℕ) → None ≡ Some k → ⊥
 none_some k same = let bad : None ≡ Some k = same in cc
 
-pub few_keys : (keys : List ℕ) → AreDeclared keys → length keys ≤ 12
-few_keys keys declared = leb-true (length keys) 12 (and_parts (nat_le (length keys) 12) (are_distinct (λ j k. j == k) keys) declared.once).0
+pub few_keys : (keys : List ℕ) → AreDeclared keys → length keys ≤ MOST_KEYS
+few_keys keys declared = leb-true (length keys) MOST_KEYS (and_parts (nat_le (length keys) MOST_KEYS) (are_distinct (λ j k. j == k) keys) declared.once).0
 
-pub in_from_at : (s : Scope) (view : Possibilities) (place : Place) (senders : Word) (region : Region) (p : Portion) → IsPlace s view place → IsUniform senders
+pub in_from_at : (s : Scope) (view : Possibilities) (place : Place) (senders : BitSet) (region : Region) (p : Portion) → IsPlace s view place → IsUniform senders
     → IsPortionOf view place senders region p → (u : UnitState) → IsAt (view_in s view) place senders region u → IsIn (view_in s view) p u
 in_from_at s view place senders region p is uniform of u at = record {
   shown = at.shown;
@@ -211,7 +211,7 @@ in_from_at s view place senders region p is uniform of u at = record {
         pick false is = refl
         pick true alone = ap not (holder_registered s u place.held held at.shown.formed g r so alone)
 
-    another : (w : Word) → is_held_by_all place.held ≡ true → has senders 0 ≡ true → ((r : ℕ) → 1 ≤ r → r ≤ 12 → has w r ≡ true)
+    another : (w : BitSet) → is_held_by_all place.held ≡ true → has senders 0 ≡ true → ((r : ℕ) → 1 ≤ r → r ≤ MOST_KEYS → has w r ≡ true)
         → HasSomebody s u place.sender (Some (has w))
     another w all free keys = pick (someone u.registry.keys u.registry.hosts (λ q k there. (at.shown.formed.registry.keys q k there).0) (filled u.registry.held refl))
       where
@@ -238,7 +238,7 @@ in_from_at s view place senders region p is uniform of u at = record {
                     let none = uniform free (suc i) (at.sender (suc i) (subst (λ n. IsSo s u (Registration n (suc i))) same so)) in
                     absurd (omega arith)
 
-    somebody : (a b : Option Word) → HasTest place senders a b → HasSomebody s u place.sender (option_map has a) → HasSomebody s u place.sender (option_map has b)
+    somebody : (a b : Option BitSet) → HasTest place senders a b → HasSomebody s u place.sender (option_map has a) → HasSomebody s u place.sender (option_map has b)
     somebody None None none some = tt
     somebody None (Some w) more some =
         let parts = and_parts (is_held_by_all place.held) (has senders 0) more.0 in

@@ -1,5 +1,5 @@
 -- Words in an array.
-use Rattle.pr_regions.proofs.Common.{◌≡◌, ◌≢◌, ℕ, ◌+◌, ◌<◌, ◌≤◌, Bool, true, false, ◌==◌, ◌&&◌, not, if◌then◌else◌, List, length, Option, Some, None, refl, sym, ap, ◌∙◌, subst, inl, inr, ◌⊎◌, arith, eqb_tells, Held, One, All, Word, has}
+use Rattle.pr_regions.proofs.Common.{◌≡◌, ◌≢◌, ℕ, ◌+◌, ◌<◌, ◌≤◌, Bool, true, false, ◌==◌, ◌&&◌, not, if◌then◌else◌, List, length, Option, Some, None, refl, sym, ap, ◌∙◌, subst, inl, inr, ◌⊎◌, arith, eqb_tells, Held, One, All, BitSet, has}
 use Rattle.std.proofs.Common.{slice_set}
 use Rattle.pr_registry.specs.Registrations.{holds_alone}
 use Rattle.pr_views.specs.Portions.{has_at}
@@ -14,7 +14,7 @@ and_true true = refl
 and_true false = refl
 
 -- the words below i are as they should be, and then this one is
-pub one_more : (words : List Word) (i : ℕ) (w : Word) (is : ℕ → ℕ → Bool) → i < length words → ((g r : ℕ) → g < i → has_at words g r ≡ is g r)
+pub one_more : (words : List BitSet) (i : ℕ) (w : BitSet) (is : ℕ → ℕ → Bool) → i < length words → ((g r : ℕ) → g < i → has_at words g r ≡ is g r)
     → ((r : ℕ) → has w r ≡ is i r) → (g r : ℕ) → g < i + 1 → has_at (slice_set words i w) g r ≡ is g r
 one_more words i w is there before here g r below = at (eqb_tells g i)
   where
@@ -25,13 +25,13 @@ one_more words i w is there before here g r below = at (eqb_tells g i)
 -- ---- what a portion leaves to each
 
 -- to all but the sender and who holds alone the region leaves the same
-leaves_the_same : (held : Option Held) (is_sender : Bool) (g r : ℕ) (senders : Word) (region : Region) → is_sender ≡ false → holds_alone held g ≡ false
+leaves_the_same : (held : Option Held) (is_sender : Bool) (g r : ℕ) (senders : BitSet) (region : Region) → is_sender ≡ false → holds_alone held g ≡ false
     → (has (if is_sender then senders else filter_of region held g) r && not (holds_alone held g && r == 0)) ≡ has region.others r
 leaves_the_same None is_sender g r senders region other alone = rw other (and_true (has region.others r))
 leaves_the_same (Some (One t h)) is_sender g r senders region other alone = rw (other, alone) (and_true (has region.others r))
 leaves_the_same (Some (All t)) is_sender g r senders region other alone = rw other (and_true (has region.others r))
 
-pub left_to_each : (place : Place) (senders : Word) (region : Region) (view first second third : List Word)
+pub left_to_each : (place : Place) (senders : BitSet) (region : Region) (view first second third : List BitSet)
     → ((g r : ℕ) → g < place.hosts → has_at first g r ≡ (has_at view g r && has region.others r))
     → ((g r : ℕ) → g < place.hosts → holds_alone place.held g ≡ true → has_at second g r ≡ (has_at view g r && passes place senders region g r))
     → ((g r : ℕ) → (holds_alone place.held g ≡ false) ⊎ (place.hosts ≤ g) → has_at second g r ≡ has_at first g r)

@@ -1,5 +1,5 @@
 -- Which arm takes the data of READ KEYS, one arm after another.
-use Rattle.pr_regions.proofs.Common.{◌≡◌, ℕ, zero, suc, ◌+◌, ◌<◌, ◌≤◌, Bool, true, false, cond, not, ◌&&◌, ◌≢◌, ◌⊎◌, List, [], ◌∷◌, ◌++◌, length, get_or, if◌then◌else◌, nat_lt, ◌==◌, Some, None, Option, sym, refl, ap, ◌∙◌, subst, inl, inr, arith, length-append, position, not-true, nat_tests, eqb_tells, has, Word, Command, Held, UnitState, matches, HasSomebody, Scope, IsScope, Registration, IsSo, IsInRegion, any, only, IsKnown, answer}
+use Rattle.pr_regions.proofs.Common.{◌≡◌, ℕ, zero, suc, ◌+◌, ◌<◌, ◌≤◌, Bool, true, false, cond, not, ◌&&◌, ◌≢◌, ◌⊎◌, List, [], ◌∷◌, ◌++◌, length, get_or, if◌then◌else◌, nat_lt, ◌==◌, Some, None, Option, sym, refl, ap, ◌∙◌, subst, inl, inr, arith, length-append, position, not-true, nat_tests, eqb_tells, has, BitSet, Command, Held, UnitState, matches, HasSomebody, Scope, IsScope, Registration, IsSo, IsInRegion, any, only, IsKnown, answer, MOST_KEYS}
 use Rattle.std.specs.List.{Contains}
 use Rattle.std.proofs.lemmas.Bool.{and_parts}
 use Rattle.std.proofs.lemmas.List.Sums.{position_or_len_is}
@@ -67,10 +67,10 @@ position_none p (x ∷ xs) none =
 -- ---- regions that leave the same to all others
 
 -- the region in which, besides, one of them has this
-abbrev pub asking : Word → Word → Region
+abbrev pub asking : BitSet → BitSet → Region
 asking left w = record { holder = left; others = left; somebody = Some w }
 
-open_filter : (left : Word) (somebody : Option Word) (held : Option Held) (g : ℕ) → filter_of (record { holder = left; others = left; somebody = somebody }) held g ≡ left
+open_filter : (left : BitSet) (somebody : Option BitSet) (held : Option Held) (g : ℕ) → filter_of (record { holder = left; others = left; somebody = somebody }) held g ≡ left
 open_filter left somebody None g = refl
 open_filter left somebody (Some (Everybody kind)) g = refl
 open_filter left somebody (Some (One kind h)) g = at (h == g)
@@ -79,7 +79,7 @@ open_filter left somebody (Some (One kind h)) g = at (h == g)
     at true = refl
     at false = refl
 
-opened : (s : Scope) (u : UnitState) (sender : ℕ) (left : Word) (region : Region) → region.holder ≡ left → region.others ≡ left → IsInRegion s sender region u
+opened : (s : Scope) (u : UnitState) (sender : ℕ) (left : BitSet) (region : Region) → region.holder ≡ left → region.others ≡ left → IsInRegion s sender region u
     → (g r : ℕ) → g ≢ sender → IsSo s u (Registration g r) → has left r ≡ true
 opened s u sender left region holder others inside g r apart so =
     ap (λ w. has w r) (sym (at u.registry.held)) ∙ inside.registrations g r apart so
@@ -87,17 +87,17 @@ opened s u sender left region holder others inside g r apart so =
     at : (held : Option Held) → filter_of region held g ≡ left
     at held = (λ i. filter_of (record { holder = holder i; others = others i; somebody = region.somebody }) held g) ∙ open_filter left region.somebody held g
 
-in_open : (s : Scope) (u : UnitState) (sender : ℕ) (left : Word) → ((g r : ℕ) → g ≢ sender → IsSo s u (Registration g r) → has left r ≡ true) → IsInRegion s sender (open_to left) u
+in_open : (s : Scope) (u : UnitState) (sender : ℕ) (left : BitSet) → ((g r : ℕ) → g ≢ sender → IsSo s u (Registration g r) → has left r ≡ true) → IsInRegion s sender (open_to left) u
 in_open s u sender left each = record {
   registrations = λ g r apart so. ap (λ w. has w r) (open_filter left None u.registry.held g) ∙ each g r apart so;
   somebody = tt;
 }
 
 -- a word that has only j passes whom the test passes
-by_word : (s : Scope) (u : UnitState) (sender j : ℕ) (w : Word) → length s.keys ≤ 12 → HasThose w (only j) → HasSomebody s u sender (Some (only j)) → HasSomebody s u sender (Some (has w))
+by_word : (s : Scope) (u : UnitState) (sender j : ℕ) (w : BitSet) → length s.keys ≤ MOST_KEYS → HasThose w (only j) → HasSomebody s u sender (Some (only j)) → HasSomebody s u sender (Some (has w))
 by_word s u sender j w few those there = let known = there.3.1 in (there.0, there.1, there.2, there.3, those there.1 (omega arith) ∙ there.4)
 
-of_word : (s : Scope) (u : UnitState) (sender j : ℕ) (w : Word) → length s.keys ≤ 12 → HasThose w (only j) → HasSomebody s u sender (Some (has w)) → HasSomebody s u sender (Some (only j))
+of_word : (s : Scope) (u : UnitState) (sender j : ℕ) (w : BitSet) → length s.keys ≤ MOST_KEYS → HasThose w (only j) → HasSomebody s u sender (Some (has w)) → HasSomebody s u sender (Some (only j))
 of_word s u sender j w few those there = let known = there.3.1 in (there.0, there.1, there.2, there.3, sym (those there.1 (omega arith)) ∙ there.4)
 
 -- ---- one arm after another
@@ -106,7 +106,7 @@ of_word s u sender j w few those there = let known = there.3.1 in (there.0, ther
 element : (tests : List Test) (i : ℕ) (t d : Test) → i < length tests → t ≡ get_or tests i t → get_or tests i d ≡ t
 element tests i t d small is = read_alike tests i d t small ∙ sym is
 
-pub so_far_start : (keys : List ℕ) (hosts : ℕ) (held : Option Held) (sender own : ℕ) (c : Command) (tests : List Test) (left : Word) → HasThose left any
+pub so_far_start : (keys : List ℕ) (hosts : ℕ) (held : Option Held) (sender own : ℕ) (c : Command) (tests : List Test) (left : BitSet) → HasThose left any
     → AreReadSoFar keys hosts held sender own c tests 0 [] left
 so_far_start keys hosts held sender own c tests left those = record {
   covered = λ s u known. let few = few_keys s.keys known.scope.keys in inr (in_open s u sender left (λ g r apart so. let small = so.1 in those r (omega arith)));
@@ -122,7 +122,7 @@ below_or_last P i k small before last = at (eqb_tells k i)
     at (inl same) = subst P (sym same.1) last
     at (inr other) = let apart = other.1 in before (omega arith)
 
-pub so_far_skip : (keys : List ℕ) (hosts : ℕ) (held : Option Held) (sender own : ℕ) (c : Command) (tests : List Test) (i : ℕ) (readings : List Reading) (left : Word) (t : Test)
+pub so_far_skip : (keys : List ℕ) (hosts : ℕ) (held : Option Held) (sender own : ℕ) (c : Command) (tests : List Test) (i : ℕ) (readings : List Reading) (left : BitSet) (t : Test)
     → AreReadSoFar keys hosts held sender own c tests i readings left → i < length tests → t ≡ get_or tests i t → IsAsked keys hosts held sender own c t Never
     → AreReadSoFar keys hosts held sender own c tests (i + 1) readings left
 so_far_skip keys hosts held sender own c tests i readings left t so_far small is never_so = record {
@@ -134,15 +134,15 @@ so_far_skip keys hosts held sender own c tests i readings left t so_far small is
 }
 
 -- the reading in which somebody has the key that an arm asks for
-abbrev pub asked_at : Word → Word → ℕ → Reading
+abbrev pub asked_at : BitSet → BitSet → ℕ → Reading
 asked_at left w i = record { region = asking left w; arm = Some i }
 
 -- whoever is left has another key, and was left before
-was_left : (left rest : Word) (j r : ℕ) → ((m : ℕ) → has rest m ≡ (not (m == j) && has left m)) → has rest r ≡ true → (only j r ≡ false) × (has left r ≡ true)
+was_left : (left rest : BitSet) (j r : ℕ) → ((m : ℕ) → has rest m ≡ (not (m == j) && has left m)) → has rest r ≡ true → (only j r ≡ false) × (has left r ≡ true)
 was_left left rest j r remains is =
     let parts = and_parts (not (r == j)) (has left r) (sym (remains r) ∙ is) in (not-true (only j r) parts.0, parts.1)
 
-more_covered : (s : Scope) (u : UnitState) (sender i j : ℕ) (readings : List Reading) (left w rest : Word) → IsScope s → HasThose w (only j) → ((m : ℕ) → has rest m ≡ (not (m == j) && has left m))
+more_covered : (s : Scope) (u : UnitState) (sender i j : ℕ) (readings : List Reading) (left w rest : BitSet) → IsScope s → HasThose w (only j) → ((m : ℕ) → has rest m ≡ (not (m == j) && has left m))
     → IsRead s sender readings u ⊎ IsInRegion s sender (open_to left) u → HasSomebody s u sender (Some (only j)) ⊎ HasNobody s u sender (only j)
     → IsRead s sender (readings ++ asked_at left w i ∷ []) u ⊎ IsInRegion s sender (open_to rest) u
 more_covered s u sender i j readings left w rest scope those remains (inl read) who =
@@ -158,7 +158,7 @@ more_covered s u sender i j readings left w rest scope those remains (inr inside
 more_covered s u sender i j readings left w rest scope those remains (inr inside) (inr nobody) =
     inr (in_open s u sender rest (λ g r apart so. remains r ∙ (λ x. not (nobody g r apart so x) && opened s u sender left (open_to left) refl refl inside g r apart so x)))
 
-more_right : (keys : List ℕ) (hosts : ℕ) (held : Option Held) (sender own : ℕ) (c : Command) (tests : List Test) (i : ℕ) (readings : List Reading) (left w : Word) (t : Test) (j : ℕ)
+more_right : (keys : List ℕ) (hosts : ℕ) (held : Option Held) (sender own : ℕ) (c : Command) (tests : List Test) (i : ℕ) (readings : List Reading) (left w : BitSet) (t : Test) (j : ℕ)
     → AreReadSoFar keys hosts held sender own c tests i readings left → i < length tests → t ≡ get_or tests i t → IsAsked keys hosts held sender own c t (Somebody j) → HasThose w (only j)
     → (s : Scope) (u : UnitState) (b : Reading) → IsKnown keys hosts held sender own s u → IsInRegion s sender b.region u → Contains readings b ⊎ (asked_at left w i ≡ b)
     → first_test tests (answer u c) ≡ b.arm
@@ -170,7 +170,7 @@ more_right keys hosts held sender own c tests i readings left w t j so_far small
     (ap (λ x. matches x (answer u c)) (sym is) ∙ asked.0 s u known (of_word s u sender j w (few_keys s.keys known.scope.keys) those here.somebody))
     ∙ ap (λ (x : Reading). x.arm) same
 
-pub so_far_more : (keys : List ℕ) (hosts : ℕ) (held : Option Held) (sender own : ℕ) (c : Command) (tests : List Test) (i : ℕ) (readings : List Reading) (left w rest : Word) (t : Test) (j : ℕ)
+pub so_far_more : (keys : List ℕ) (hosts : ℕ) (held : Option Held) (sender own : ℕ) (c : Command) (tests : List Test) (i : ℕ) (readings : List Reading) (left w rest : BitSet) (t : Test) (j : ℕ)
     → AreReadSoFar keys hosts held sender own c tests i readings left → i < length tests → t ≡ get_or tests i t → IsAsked keys hosts held sender own c t (Somebody j)
     → HasThose w (only j) → ((m : ℕ) → has rest m ≡ (not (m == j) && has left m))
     → AreReadSoFar keys hosts held sender own c tests (i + 1) (readings ++ asked_at left w i ∷ []) rest
@@ -199,10 +199,10 @@ are_readings keys hosts held sender own c tests readings covered right = record 
 }
 
 -- the reading of all that is left
-abbrev pub left_at : Word → Option ℕ → Reading
+abbrev pub left_at : BitSet → Option ℕ → Reading
 left_at left arm = record { region = open_to left; arm = arm }
 
-pub read_at_last : (keys : List ℕ) (hosts : ℕ) (held : Option Held) (sender own : ℕ) (c : Command) (tests : List Test) (i : ℕ) (readings : List Reading) (left : Word) (arm : Option ℕ)
+pub read_at_last : (keys : List ℕ) (hosts : ℕ) (held : Option Held) (sender own : ℕ) (c : Command) (tests : List Test) (i : ℕ) (readings : List Reading) (left : BitSet) (arm : Option ℕ)
     → AreReadSoFar keys hosts held sender own c tests i readings left
     → ((s : Scope) (u : UnitState) → IsKnown keys hosts held sender own s u → IsInRegion s sender (open_to left) u → first_test tests (answer u c) ≡ arm)
     → AreReadings keys hosts tests c held sender own (readings ++ left_at left arm ∷ [])
@@ -220,7 +220,7 @@ read_at_last keys hosts held sender own c tests i readings left arm so_far last 
     right s u b known inside (inr same) =
         last s u known (subst (λ (x : Reading). IsInRegion s sender x.region u) (sym same) inside) ∙ ap (λ (x : Reading). x.arm) same
 
-pub read_always : (keys : List ℕ) (hosts : ℕ) (held : Option Held) (sender own : ℕ) (c : Command) (tests : List Test) (i : ℕ) (readings : List Reading) (left : Word) (t : Test)
+pub read_always : (keys : List ℕ) (hosts : ℕ) (held : Option Held) (sender own : ℕ) (c : Command) (tests : List Test) (i : ℕ) (readings : List Reading) (left : BitSet) (t : Test)
     → AreReadSoFar keys hosts held sender own c tests i readings left → i < length tests → t ≡ get_or tests i t → IsAsked keys hosts held sender own c t Always
     → AreReadings keys hosts tests c held sender own (readings ++ left_at left (Some i) ∷ [])
 read_always keys hosts held sender own c tests i readings left t so_far small is always =
@@ -228,7 +228,7 @@ read_always keys hosts held sender own c tests i readings left t so_far small is
     (λ s u known inside.
     position_at (λ x. matches x (answer u c)) tests i t small (λ k less. so_far.fails s u known inside k t less) (ap (λ x. matches x (answer u c)) (sym is) ∙ always s u known))
 
-pub read_by_none : (keys : List ℕ) (hosts : ℕ) (held : Option Held) (sender own : ℕ) (c : Command) (tests : List Test) (i : ℕ) (readings : List Reading) (left : Word)
+pub read_by_none : (keys : List ℕ) (hosts : ℕ) (held : Option Held) (sender own : ℕ) (c : Command) (tests : List Test) (i : ℕ) (readings : List Reading) (left : BitSet)
     → AreReadSoFar keys hosts held sender own c tests i readings left → i ≡ length tests → AreReadings keys hosts tests c held sender own (readings ++ left_at left None ∷ [])
 read_by_none keys hosts held sender own c tests i readings left so_far all =
     read_at_last keys hosts held sender own c tests i readings left None so_far

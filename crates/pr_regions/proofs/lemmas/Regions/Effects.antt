@@ -1,5 +1,5 @@
 -- What each service action makes of a registry, registration by registration.
-use Rattle.pr_regions.proofs.Common.{◌≡◌, ℕ, zero, suc, ◌≤◌, Bool, true, false, cond, not, ◌&&◌, ◌≢◌, ◌⊎◌, List, length, is_some, if◌then◌else◌, ◌==◌, Some, None, Option, unwrap_or, sym, refl, ap, ◌∙◌, subst, inl, inr, arith, nat_tests, eqb_tells, Kind, no_change, change_on_unregister, is_told_of_loss, is_key, Hosts, nobody, State, is_registered, key_of, contains-nobody, get-without, number_of, key_at, Transition, Does, never, is_of_registrant, told_if}
+use Rattle.pr_regions.proofs.Common.{◌≡◌, ℕ, zero, suc, ◌≤◌, Bool, true, false, cond, not, ◌&&◌, ◌≢◌, ◌⊎◌, List, length, is_some, if◌then◌else◌, ◌==◌, Some, None, Option, unwrap_or, sym, refl, ap, ◌∙◌, subst, inl, inr, arith, nat_tests, eqb_tells, Kind, no_change, change_on_unregister, is_told_of_loss, is_key, Hosts, nobody, State, is_registered, key_of, contains-nobody, get-without, number_of, key_at, Transition, Does, never, is_of_registrant, told_if, MOST_KEYS}
 use Rattle.std.specs.FinSet as set
 use Rattle.std.specs.FinMap as map
 use Rattle.pr_registry.specs.declared.change.Change.{Change as Told}
@@ -24,7 +24,7 @@ pub record Becomes (keys : List ℕ) (hosts from : ℕ) (to : Option ℕ) (out :
   pub untold_05 : set.contains t.told_05 from ≡ false
 
 pub acts : (keys : List ℕ) (hosts from : ℕ) (to : Option ℕ) (out : ℕ → Bool) (left : ℕ) (t3 t4 t5 : ℕ → Bool) (u v : State) (t : Told) (c : Transition)
-    → length keys ≤ 12 → Does c to out left t3 t4 t5 → Becomes keys hosts from to out left t3 t4 t5 u v t → Acts keys hosts from c u v t
+    → length keys ≤ MOST_KEYS → Does c to out left t3 t4 t5 → Becomes keys hosts from to out left t3 t4 t5 u v t → Acts keys hosts from c u v t
 acts keys hosts from to out left t3 t4 t5 u v t c few does b = record {
   sender = λ r is. subst (λ (o : Option ℕ). Is keys v from (unwrap_or o r)) (sym does.sender) (b.sender r is);
   others = λ g r other is. b.others g r other is ∙ ap (λ x. if x then None else key_of u g) (sym (does.removed r (within r is)));
@@ -37,7 +37,7 @@ acts keys hosts from to out left t3 t4 t5 u v t c few does b = record {
   untold_05 = b.untold_05;
 }
   where
-    within : (r : ℕ) {g : ℕ} → Is keys u g r → r ≤ 12
+    within : (r : ℕ) {g : ℕ} → Is keys u g r → r ≤ MOST_KEYS
     within r is = let small = is.known in omega arith
 
 -- ---- who is told

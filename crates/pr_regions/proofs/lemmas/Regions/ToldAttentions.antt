@@ -1,5 +1,5 @@
 -- The attentions of an owner that has been told, as a number.
-use Rattle.pr_regions.proofs.Common.{◌≡◌, ℕ, ◌+◌, ◌<◌, max, Bool, true, false, ◌&&◌, ◌||◌, ◌≢◌, ◌⊎◌, ◌==◌, bit_or, sym, refl, ap, ◌∙◌, subst, inl, inr, arith, lit<, nat_tests, eqb_tells, codes_of}
+use Rattle.pr_regions.proofs.Common.{◌≡◌, ℕ, ◌+◌, ◌<◌, max, Bool, true, false, ◌&&◌, ◌||◌, ◌≢◌, ◌⊎◌, ◌==◌, bit_or, sym, refl, ap, ◌∙◌, subst, inl, inr, arith, lit<, nat_tests, eqb_tells, codes_of, ATTENTION_SETS}
 use Rattle.std.specs.Int.{bit_at}
 use Rattle.std.specs.FinSet as set
 use Rattle.std.proofs.lemmas.Nat.{or_lt}
@@ -35,7 +35,7 @@ contains-told pending t h code =
 abbrev pub flags : Bool → Bool → Bool → ℕ
 flags a b c = flag a 2 + (flag b 4 + flag c 8)
 
-flags-lt : (a b c : Bool) → flags a b c < 16
+flags-lt : (a b c : Bool) → flags a b c < ATTENTION_SETS
 flags-lt true true true = lit< tt
 flags-lt true true false = lit< tt
 flags-lt true false true = lit< tt
@@ -61,7 +61,7 @@ bits_of false true false = record { at_0 = refl; at_1 = refl; at_2 = refl; at_3 
 bits_of false false true = record { at_0 = refl; at_1 = refl; at_2 = refl; at_3 = refl }
 bits_of false false false = record { at_0 = refl; at_1 = refl; at_2 = refl; at_3 = refl }
 
-pub told-lt : (q : ℕ) (a b c : Bool) → q < 16 → bit_or q (flags a b c) < 16
+pub told-lt : (q : ℕ) (a b c : Bool) → q < ATTENTION_SETS → bit_or q (flags a b c) < ATTENTION_SETS
 told-lt q a b c few = or_lt 4 q (flags a b c) few (flags-lt a b c)
 
 joined : (x : ℕ) (b : Bool) → x < 2 → (max x (flag b 1) == 1) ≡ ((x == 1) || b)

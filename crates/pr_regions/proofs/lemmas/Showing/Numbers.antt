@@ -1,5 +1,5 @@
 -- A registration, a reservation and a set of attentions each have one number.
-use Rattle.pr_regions.proofs.Common.{◌≡◌, ℕ, zero, suc, ◌+◌, ◌*◌, ◌<◌, ◌≤◌, Bool, true, false, not, ◌||◌, ◌⊎◌, List, [], ◌∷◌, length, is_some, IsTrue, nat_lt, nat_le, ◌==◌, Some, None, Option, sym, refl, ap, ◌∙◌, inl, inr, arith, list_any, false≢true, nat_tests, Kind, codes_of, Held, UnitState, Scope, number_of, key_at, IsScope, Registration, IsSo}
+use Rattle.pr_regions.proofs.Common.{◌≡◌, ℕ, zero, suc, ◌+◌, ◌*◌, ◌<◌, ◌≤◌, Bool, true, false, not, ◌||◌, ◌⊎◌, List, [], ◌∷◌, length, is_some, IsTrue, nat_lt, nat_le, ◌==◌, Some, None, Option, sym, refl, ap, ◌∙◌, inl, inr, arith, list_any, false≢true, nat_tests, Kind, codes_of, Held, UnitState, Scope, number_of, key_at, IsScope, Registration, IsSo, MOST_KEYS}
 use Rattle.std.specs.List.{slice_get}
 use Rattle.std.proofs.lemmas.Bool.{and_parts}
 use Rattle.std.proofs.lemmas.Bool.Decides.{leb_tells}
@@ -71,11 +71,11 @@ same_number_at keys (suc i) (suc j) once small fits same =
     let there = key_there keys j fits in ap suc (same_place keys i j there.0 once (same ∙ there.1) there.1)
 
 pub are_distinct_keys : (keys : List ℕ) → AreDeclared keys → AreDistinct keys
-are_distinct_keys keys declared = (and_parts (nat_le (length keys) 12) (are_distinct (λ j k. j == k) keys) declared.once).1
+are_distinct_keys keys declared = (and_parts (nat_le (length keys) MOST_KEYS) (are_distinct (λ j k. j == k) keys) declared.once).1
 
-pub few_keys : (keys : List ℕ) → AreDeclared keys → length keys ≤ 12
+pub few_keys : (keys : List ℕ) → AreDeclared keys → length keys ≤ MOST_KEYS
 few_keys keys declared =
-    let few = (and_parts (nat_le (length keys) 12) (are_distinct (λ j k. j == k) keys) declared.once).0 in
+    let few = (and_parts (nat_le (length keys) MOST_KEYS) (are_distinct (λ j k. j == k) keys) declared.once).0 in
     grind (arith, nat_tests)
 
 pub one_registration : (s : Scope) (u : UnitState) (g r q : ℕ) → IsScope s → IsSo s u (Registration g r) → IsSo s u (Registration g q) → r ≡ q

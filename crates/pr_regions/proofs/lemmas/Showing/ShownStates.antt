@@ -1,5 +1,5 @@
 -- What is so in the states that a view shows, reservation by reservation.
-use Rattle.pr_regions.proofs.Common.{◌≡◌, ◌≢◌, ℕ, zero, suc, ◌+◌, ◌<◌, ◌≤◌, Bool, true, false, ◌==◌, if◌then◌else◌, List, Option, Some, None, option_map, sym, ◌∙◌, subst, inl, inr, ◌⊎◌, arith, false≢true, nat_tests, eqb_tells, Held, One, All, UnitState, Word, has, Scope, Registration, IsSo, HasSomebody}
+use Rattle.pr_regions.proofs.Common.{◌≡◌, ◌≢◌, ℕ, zero, suc, ◌+◌, ◌<◌, ◌≤◌, Bool, true, false, ◌==◌, if◌then◌else◌, List, Option, Some, None, option_map, sym, ◌∙◌, subst, inl, inr, ◌⊎◌, arith, false≢true, nat_tests, eqb_tells, Held, One, All, UnitState, BitSet, has, Scope, Registration, IsSo, HasSomebody, MOST_KEYS}
 use Rattle.pr_sets.specs.declared.wide.Wide.{Wide}
 use Rattle.pr_sets.specs.Wides.{has_wide}
 use Rattle.pr_views.specs.declared.possibilities.Possibilities.{Possibilities}
@@ -26,14 +26,14 @@ itself a = grind (arith, nat_tests)
 -- ---- the region of every state
 
 pub record IsEverything (region : Region) : Type 0 where
-  pub holder : (r : ℕ) → r ≤ 12 → has region.holder r ≡ true
-  pub others : (r : ℕ) → r ≤ 12 → has region.others r ≡ true
+  pub holder : (r : ℕ) → r ≤ MOST_KEYS → has region.holder r ≡ true
+  pub others : (r : ℕ) → r ≤ MOST_KEYS → has region.others r ≡ true
   pub somebody : region.somebody ≡ None
 
 pub everything_proper : (region : Region) → IsEverything region → IsProper region
 everything_proper region all = subst IsUntestedOrRegistered (sym all.somebody) tt
 
-passing : (region : Region) (held : Option Held) (g r : ℕ) → IsEverything region → r ≤ 12 → has (filter_of region held g) r ≡ true
+passing : (region : Region) (held : Option Held) (g r : ℕ) → IsEverything region → r ≤ MOST_KEYS → has (filter_of region held g) r ≡ true
 passing region None g r all few = all.others r few
 passing region (Some (One kind h)) g r all few = at (h == g)
   where
@@ -42,7 +42,7 @@ passing region (Some (One kind h)) g r all few = at (h == g)
     at false = all.others r few
 passing region (Some (All kind)) g r all few = all.others r few
 
-pub at_everything : (s : Scope) (view : Possibilities) (place : Place) (senders : Word) (region : Region) (u : UnitState) → IsPlace s view place → IsEverything region
+pub at_everything : (s : Scope) (view : Possibilities) (place : Place) (senders : BitSet) (region : Region) (u : UnitState) → IsPlace s view place → IsEverything region
     → IsShownAt (view_in s view) place senders u → IsAt (view_in s view) place senders region u
 at_everything s view place senders region u is all at = record {
   shown = at.shown;
@@ -56,7 +56,7 @@ at_everything s view place senders region u is all at = record {
 
 -- ---- what is gathered there
 
-pub is_shown : (s : Scope) (view : Possibilities) (place : Place) (senders : Word) (region : Region) (words : List Word) (x : Wide) (q : ℕ) → IsPlace s view place → IsEverything region
+pub is_shown : (s : Scope) (view : Possibilities) (place : Place) (senders : BitSet) (region : Region) (words : List BitSet) (x : Wide) (q : ℕ) → IsPlace s view place → IsEverything region
     → IsGathered (view_in s view) place senders region words → has view.pending q ≡ true → ((n : ℕ) → has_wide x n ≡ (n == place.reservation))
     → (p : Possibilities) → p.registrations ≡ words → p.reservations ≡ x → p.pending ≡ view.pending → IsShown s view place senders p
 is_shown s view place senders region words x q is everything gathered some only_x p are_words is_x is_pending = record { all = allows; only = only }
@@ -89,7 +89,7 @@ is_shown s view place senders region words x q is everything gathered some only_
         let met = gathered.some n (subst (λ w. has w n ≡ true) is_pending got) in
         record { unit = met.unit; shown = met.at.shown; is = met.pending }
 
-pub adds_shown : (s : Scope) (view old shown new : Possibilities) (place : Place) (senders : Word) → IsShown s view place senders shown → IsJoined old shown new
+pub adds_shown : (s : Scope) (view old shown new : Possibilities) (place : Place) (senders : BitSet) → IsShown s view place senders shown → IsJoined old shown new
     → Adds s old new (λ _ u. IsShownAt (view_in s view) place senders u) (IsShownSo (view_in s view))
 adds_shown s view old shown new place senders is joined = record {
   kept = λ i had. joined_old s old shown new i joined had;
@@ -104,7 +104,7 @@ adds_shown s view old shown new place senders is joined = record {
 -- ---- one reservation after another
 
 -- under one reservation the sender is registered or not
-pub adds_place : (s : Scope) (view a b c : Possibilities) (place : Place) (none keys : Word) → IsPlace s view place → ((r : ℕ) → has none r ≡ (r == 0)) → ((r : ℕ) → 1 ≤ r → r ≤ 12 → has keys r ≡ true)
+pub adds_place : (s : Scope) (view a b c : Possibilities) (place : Place) (none keys : BitSet) → IsPlace s view place → ((r : ℕ) → has none r ≡ (r == 0)) → ((r : ℕ) → 1 ≤ r → r ≤ MOST_KEYS → has keys r ≡ true)
     → Adds s a b (λ _ u. IsShownAt (view_in s view) place none u) (IsShownSo (view_in s view)) → Adds s b c (λ _ u. IsShownAt (view_in s view) place keys u) (IsShownSo (view_in s view))
     → Adds s a c (λ _ u. Shows (view_in s view) u × IsSo s u (Reservation place.reservation)) (IsShownSo (view_in s view))
 adds_place s view a b c place none keys is is_none are_keys first second =
@@ -178,8 +178,8 @@ is_place s view place hosts reservation same fits possible is_hosts is_it = reco
   possible = subst (λ x. has_wide view.reservations x ≡ true) (sym is_it) possible;
 }
 
-pub none_uniform : (w : Word) → ((r : ℕ) → has w r ≡ (r == 0)) → IsUniform w
+pub none_uniform : (w : BitSet) → ((r : ℕ) → has w r ≡ (r == 0)) → IsUniform w
 none_uniform w is none r got = same_number r 0 (sym (is r) ∙ got)
 
-pub keys_uniform : (w : Word) → has w 0 ≡ false → IsUniform w
+pub keys_uniform : (w : BitSet) → has w 0 ≡ false → IsUniform w
 keys_uniform w missing none r got = absurd (false≢true (sym missing ∙ none))

@@ -1,5 +1,5 @@
 -- The places of a script that fits can be written.
-use Rattle.pr_verify.proofs.Common.{◌≡◌, ℕ, zero, suc, ◌+◌, ◌<◌, true, ◌&&◌, ◌⊎◌, List, [], ◌∷◌, length, nat_lt, nat_le, slice_index_or, All, Contains, refl, subst, inl, inr, arith, leb-true, and_parts, All-nil, All-cons, Contains-append_cases, Command, script_fits, Stmt, sends, repeats, Stmts, none, more, Arms, no_arm, arm, first_of, round, Place, tests_of, next_of, place, places_in, places, places_of_arms, places_of, IsPlaceWritten}
+use Rattle.pr_verify.proofs.Common.{◌≡◌, ℕ, zero, suc, ◌+◌, ◌<◌, true, ◌&&◌, ◌⊎◌, List, [], ◌∷◌, length, nat_lt, nat_le, slice_index_or, All, Contains, refl, subst, inl, inr, arith, leb-true, and_parts, All-nil, All-cons, Contains-append_cases, Command, script_fits, Stmt, sends, repeats, Stmts, none, more, Arms, no_arm, arm, first_of, round, Place, tests_of, next_of, place, places_in, places, places_of_arms, places_of, IsPlaceWritten, MOST_ARMS}
 use Rattle.pr_script.specs.Grammar.{test_fits, statement_fits, statements_fit, arms_fit, is_written, is_send_written, is_repeat_written, count_of_arms}
 
 -- what a list has is its first element, or one of the others
@@ -33,11 +33,11 @@ tests_written keys r s c (arm t body rest) fit =
 place_written : (keys : List ℕ) (r s n : ℕ) (c : Command) (a : Arms) (after broken : List ℕ) → is_send_written keys c a ≡ true → arms_fit keys r s c a ≡ true
     → IsPlaceWritten keys (place n c a after broken)
 place_written keys r s n c a after broken written fit =
-    let parts = and_parts (is_written keys c) (nat_le (count_of_arms a) 16) written in
+    let parts = and_parts (is_written keys c) (nat_le (count_of_arms a) MOST_ARMS) written in
     record {
       command = parts.0;
       tests = tests_written keys r s c a fit;
-      few = let counted = length-tests_of a in let few = leb-true (count_of_arms a) 16 parts.1 in omega arith;
+      few = let counted = length-tests_of a in let few = leb-true (count_of_arms a) MOST_ARMS parts.1 in omega arith;
       next = length-next_of a after broken;
     }
 

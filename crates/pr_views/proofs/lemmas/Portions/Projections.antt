@@ -1,5 +1,5 @@
 -- What each nexus has in the states of a portion.
-use Rattle.pr_views.proofs.Common.{◌≡◌, ℕ, ◌+◌, ◌<◌, ◌≤◌, true, false, not, ◌&&◌, ◌≢◌, ◌⊎◌, List, is_some, IfSome, IfNone, if◌then◌else◌, nat_lt, ◌==◌, Some, None, Option, option_map, sym, refl, ap, ◌∙◌, subst, inl, inr, arith, false≢true, and_parts, ltb-true, cases_lt, has, Word, is_all, Held, One, All, UnitState, is_reservation, has_at, AreFilled, Registration, IsSo, Fits}
+use Rattle.pr_views.proofs.Common.{◌≡◌, ℕ, ◌+◌, ◌<◌, ◌≤◌, true, false, not, ◌&&◌, ◌≢◌, ◌⊎◌, List, is_some, IfSome, IfNone, if◌then◌else◌, nat_lt, ◌==◌, Some, None, Option, option_map, sym, refl, ap, ◌∙◌, subst, inl, inr, arith, false≢true, and_parts, ltb-true, cases_lt, has, BitSet, is_all, Held, One, All, UnitState, is_reservation, has_at, AreFilled, Registration, IsSo, Fits}
 use Rattle.std.proofs.lemmas.Bool.{and_from, cases_eq, cases_order}
 use Rattle.std.proofs.lemmas.Bool.Decides.{eqb_tells}
 use Rattle.pr_views.specs.declared.portion.Portion.{Portion}
@@ -30,10 +30,10 @@ but_elsewhere f g r h differs = at (eqb_tells h g)
     at (inr other) = rw other.0 refl
 
 -- each nexus that is there has what is chosen for it
-abbrev AreChosen : ℕ → List Word → (ℕ → ℕ) → Type 0
+abbrev AreChosen : ℕ → List BitSet → (ℕ → ℕ) → Type 0
 AreChosen hosts words f = (g : ℕ) → g < hosts → has_at words g (f g) ≡ true
 
-chosen_but : (hosts : ℕ) (words : List Word) (f : ℕ → ℕ) (g r : ℕ) → AreChosen hosts words f → has_at words g r ≡ true → AreChosen hosts words (but f g r)
+chosen_but : (hosts : ℕ) (words : List BitSet) (f : ℕ → ℕ) (g r : ℕ) → AreChosen hosts words f → has_at words g r ≡ true → AreChosen hosts words (but f g r)
 chosen_but hosts words f g r chosen is h there = at (eqb_tells h g)
   where
     at : (((h == g) ≡ true) × (h ≡ g)) ⊎ (((h == g) ≡ false) × (h ≢ g)) → has_at words h (but f g r h) ≡ true
@@ -44,14 +44,14 @@ chosen_but hosts words f g r chosen is h there = at (eqb_tells h g)
     at (inr other) = ap (has_at words h) (but_elsewhere f g r h other.1) ∙ chosen h there
 
 -- some choice
-abbrev choose : (hosts : ℕ) (words : List Word) → AreFilled hosts words → (g : ℕ) → (g < hosts) ⊎ (hosts ≤ g) → ℕ
+abbrev choose : (hosts : ℕ) (words : List BitSet) → AreFilled hosts words → (g : ℕ) → (g < hosts) ⊎ (hosts ≤ g) → ℕ
 choose hosts words filled g (inl there) = (filled g there).0
 choose hosts words filled g (inr past) = 0
 
-abbrev any_choice : (hosts : ℕ) (words : List Word) → AreFilled hosts words → ℕ → ℕ
+abbrev any_choice : (hosts : ℕ) (words : List BitSet) → AreFilled hosts words → ℕ → ℕ
 any_choice hosts words filled g = choose hosts words filled g (cases_lt g hosts)
 
-any_chosen : (hosts : ℕ) (words : List Word) (filled : AreFilled hosts words) → AreChosen hosts words (any_choice hosts words filled)
+any_chosen : (hosts : ℕ) (words : List BitSet) (filled : AreFilled hosts words) → AreChosen hosts words (any_choice hosts words filled)
 any_chosen hosts words filled g there = at (cases_lt g hosts)
   where
     at : (c : (g < hosts) ⊎ (hosts ≤ g)) → has_at words g (choose hosts words filled g c) ≡ true
@@ -61,14 +61,14 @@ any_chosen hosts words filled g there = at (cases_lt g hosts)
 -- ---- a state of the portion
 
 -- somebody passes by its choice
-abbrev IsSomebody : ℕ → ℕ → (ℕ → ℕ) → Option Word → Type 0
+abbrev IsSomebody : ℕ → ℕ → (ℕ → ℕ) → Option BitSet → Type 0
 IsSomebody hosts sender f None = Unit {0}
 IsSomebody hosts sender f (Some test) = (g : ℕ) × (g < hosts) × (g ≢ sender) × (has test (f g) ≡ true)
 
-not_none : (words : List Word) (g r : ℕ) → has_at words g r ≡ true → has_at words g 0 ≡ false → r ≢ 0
+not_none : (words : List BitSet) (g r : ℕ) → has_at words g r ≡ true → has_at words g 0 ≡ false → r ≢ 0
 not_none words g r is none zero = false≢true (sym none ∙ ap (has_at words g) (sym zero) ∙ is)
 
-registered_somebody : (hosts sender : ℕ) (f : ℕ → ℕ) (test : Option Word) → TestsRegistered test → IsSomebody hosts sender f test → (g : ℕ) × (g < hosts) × (f g ≢ 0)
+registered_somebody : (hosts sender : ℕ) (f : ℕ → ℕ) (test : Option BitSet) → TestsRegistered test → IsSomebody hosts sender f test → (g : ℕ) × (g < hosts) × (f g ≢ 0)
 registered_somebody hosts sender f None tests is = absurd tests
 registered_somebody hosts sender f (Some w) tests is = (is.0, is.1, λ zero. false≢true (sym tests ∙ ap (has w) (sym zero) ∙ is.3))
 
@@ -93,7 +93,7 @@ in_state : (v : View) (p : Portion) (f : ℕ → ℕ) (q : ℕ) → Fits v → I
 in_state v p f q fits is chosen g there =
     registration-state_of v.scope f (held_at v.scope.hosts p.reservation) q g there (fits.registrations g (f g) (is.registrations g (f g) there (chosen g there)))
 
-somebody_in : (v : View) (p : Portion) (f : ℕ → ℕ) (q : ℕ) (test : Option Word) → Fits v → IsPortion v p → AreChosen v.scope.hosts p.registrations f → IsSomebody v.scope.hosts p.sender f test
+somebody_in : (v : View) (p : Portion) (f : ℕ → ℕ) (q : ℕ) (test : Option BitSet) → Fits v → IsPortion v p → AreChosen v.scope.hosts p.registrations f → IsSomebody v.scope.hosts p.sender f test
     → HasSomebody v.scope (chosen_state v p f q) p.sender (option_map has test)
 somebody_in v p f q None fits is chosen one = tt
 somebody_in v p f q (Some w) fits is chosen one = (one.0, f one.0, one.2, in_state v p f q fits is chosen one.0 one.1, one.3)
@@ -124,7 +124,7 @@ together v p f g r q fits is chosen one there same pending = record {
 -- ---- who passes
 
 -- what each has, once some state has each of them
-projected_by : (v : View) (p : Portion) (words : List Word) → IsPortion v p → AreFilled v.scope.hosts words
+projected_by : (v : View) (p : Portion) (words : List BitSet) → IsPortion v p → AreFilled v.scope.hosts words
     → ((u : UnitState) (g r : ℕ) → IsIn v p u → IsSo v.scope u (Registration g r) → has_at words g r ≡ true)
     → ((g r q : ℕ) → g < v.scope.hosts → has_at words g r ≡ true → v.pending q ≡ true → IsTogether v p (Registration g r) q)
     → IsProjected v p words
@@ -139,7 +139,7 @@ projected_by v p words is filled all only =
     }
 
 -- where one alone must pass, each still has some registration
-pub filled_by_one : (hosts : ℕ) (p : Portion) (test : Word) (a : ℕ) (words : List Word) → AreFilled hosts p.registrations → CanPass p test a
+pub filled_by_one : (hosts : ℕ) (p : Portion) (test : BitSet) (a : ℕ) (words : List BitSet) → AreFilled hosts p.registrations → CanPass p test a
     → ((r : ℕ) → has_at words a r ≡ (has_at p.registrations a r && has test r)) → ((h r : ℕ) → h ≢ a → has_at words h r ≡ has_at p.registrations h r) → AreFilled hosts words
 filled_by_one hosts p test a words filled pass here elsewhere g there = at (cases_eq g a)
   where
@@ -163,14 +163,14 @@ module _ (v : View) (p : Portion) (fits : Fits v) (is : IsPortion v p) (filled :
       (subst (IsSomebody v.scope.hosts p.sender (but others g r)) (sym none) tt) there (but_there others g r) pending
 
   -- g itself passes
-  itself : (test : Word) (g r q : ℕ) → p.somebody ≡ Some test → g < v.scope.hosts → has_at p.registrations g r ≡ true → v.pending q ≡ true
+  itself : (test : BitSet) (g r q : ℕ) → p.somebody ≡ Some test → g < v.scope.hosts → has_at p.registrations g r ≡ true → v.pending q ≡ true
       → g ≢ p.sender → has test r ≡ true → IsTogether v p (Registration g r) q
   itself test g r q some there left pending other passes =
       together v p (but others g r) g r q fits is (chosen_but v.scope.hosts p.registrations others g r others_chosen left)
       (subst (IsSomebody v.scope.hosts p.sender (but others g r)) (sym some) (g, there, other, ap (has test) (but_there others g r) ∙ passes)) there (but_there others g r) pending
 
   -- somebody else, h, passes
-  beside : (test : Word) (g r q h : ℕ) → p.somebody ≡ Some test → g < v.scope.hosts → has_at p.registrations g r ≡ true → v.pending q ≡ true
+  beside : (test : BitSet) (g r q h : ℕ) → p.somebody ≡ Some test → g < v.scope.hosts → has_at p.registrations g r ≡ true → v.pending q ≡ true
       → h < v.scope.hosts → h ≢ g → CanPass p test h → IsTogether v p (Registration g r) q
   beside test g r q h some there left pending also differs pass =
       let chosen = chosen_but v.scope.hosts p.registrations others h pass.registration others_chosen pass.left in
@@ -184,7 +184,7 @@ module _ (v : View) (p : Portion) (fits : Fits v) (is : IsPortion v p) (filled :
       projected_by v p p.registrations is filled (λ u g r inside so. inside.registrations g r so) (λ g r q there left pending. untested g r q none there left pending)
 
   -- where two can pass the test
-  pub projected_by_several : (test : Word) (a b : ℕ) → p.somebody ≡ Some test → a < v.scope.hosts → b < v.scope.hosts → a ≢ b → CanPass p test a → CanPass p test b
+  pub projected_by_several : (test : BitSet) (a b : ℕ) → p.somebody ≡ Some test → a < v.scope.hosts → b < v.scope.hosts → a ≢ b → CanPass p test a → CanPass p test b
       → IsProjected v p p.registrations
   projected_by_several test a b some there also differ first second =
       projected_by v p p.registrations is filled (λ u g r inside so. inside.registrations g r so)
@@ -196,7 +196,7 @@ module _ (v : View) (p : Portion) (fits : Fits v) (is : IsPortion v p) (filled :
       at g r q in_range left pending (inr other) = beside test g r q a some in_range left pending there other first
 
   -- where one alone can
-  pub projected_by_one : (test : Word) (a : ℕ) (words : List Word) → p.somebody ≡ Some test → a < v.scope.hosts → CanPass p test a
+  pub projected_by_one : (test : BitSet) (a : ℕ) (words : List BitSet) → p.somebody ≡ Some test → a < v.scope.hosts → CanPass p test a
       → ((h : ℕ) → h < v.scope.hosts → h ≢ a → CannotPass p test h) → ((r : ℕ) → has_at words a r ≡ (has_at p.registrations a r && has test r))
       → ((h r : ℕ) → h ≢ a → has_at words h r ≡ has_at p.registrations h r) → IsProjected v p words
   projected_by_one test a words some there pass alone here elsewhere =
@@ -235,7 +235,7 @@ no_state_where_one_lacks v p u lacks inside =
     let one = inside.shown.registrations lacks.host lacks.there in
     false≢true (sym (lacks.none one.0) ∙ inside.registrations lacks.host one.0 one.1.1)
 
-pub no_state_where_none_passes : (v : View) (p : Portion) (test : Word) (u : UnitState) → p.somebody ≡ Some test → NonePasses p test 0 v.scope.hosts → IsIn v p u → ⊥
+pub no_state_where_none_passes : (v : View) (p : Portion) (test : BitSet) (u : UnitState) → p.somebody ≡ Some test → NonePasses p test 0 v.scope.hosts → IsIn v p u → ⊥
 no_state_where_none_passes v p test u some none inside =
     at (subst (λ o. HasSomebody v.scope u p.sender (option_map has o)) some inside.somebody)
   where
@@ -249,7 +249,7 @@ pub untested_of : (hosts : ℕ) (p : Portion) → AreFilled hosts p.registration
 untested_of hosts p filled none v same fits is =
     projected_untested v p fits is (subst (λ n. AreFilled n p.registrations) (sym same) filled) none
 
-pub several_of : (hosts : ℕ) (p : Portion) (test : Word) (a : ℕ) (next : Option ℕ) → AreFilled hosts p.registrations → p.somebody ≡ Some test → IsFirstPassing p test 0 hosts a
+pub several_of : (hosts : ℕ) (p : Portion) (test : BitSet) (a : ℕ) (next : Option ℕ) → AreFilled hosts p.registrations → p.somebody ≡ Some test → IsFirstPassing p test 0 hosts a
     → is_some next ≡ true → IfSome next (IsFirstPassing p test (a + 1) hosts) → (v : View) → v.scope.hosts ≡ hosts → Fits v → IsPortion v p → IsProjected v p p.registrations
 several_of hosts p test a None filled some first found more v same fits is = absurd (false≢true found)
 several_of hosts p test a (Some b) filled some first found more v same fits is =
@@ -257,7 +257,7 @@ several_of hosts p test a (Some b) filled some first found more v same fits is =
     projected_by_several v p fits is (subst (λ n. AreFilled n p.registrations) (sym same) filled) test a b some (subst (λ n. a < n) (sym same) first.there)
     (subst (λ n. b < n) (sym same) more.there) differ first.passes more.passes
 
-pub one_of : (hosts : ℕ) (p : Portion) (test : Word) (a : ℕ) (next : Option ℕ) (words : List Word) → AreFilled hosts p.registrations → p.somebody ≡ Some test → IsFirstPassing p test 0 hosts a
+pub one_of : (hosts : ℕ) (p : Portion) (test : BitSet) (a : ℕ) (next : Option ℕ) (words : List BitSet) → AreFilled hosts p.registrations → p.somebody ≡ Some test → IsFirstPassing p test 0 hosts a
     → is_some next ≡ false → IfNone next (NonePasses p test (a + 1) hosts) → ((r : ℕ) → has_at words a r ≡ (has_at p.registrations a r && has test r))
     → ((h r : ℕ) → h ≢ a → has_at words h r ≡ has_at p.registrations h r) → (v : View) → v.scope.hosts ≡ hosts → Fits v → IsPortion v p → IsProjected v p words
 one_of hosts p test a (Some b) words filled some first found none here elsewhere v same fits is = absurd (false≢true (sym found))
@@ -274,7 +274,7 @@ pub none_of_lacking : (hosts : ℕ) (p : Portion) → LacksOne hosts p.registrat
 none_of_lacking hosts p lacks v same fits is u inside =
     no_state_where_one_lacks v p u (subst (λ n. LacksOne n p.registrations) (sym same) lacks) inside
 
-pub none_of_failing : (hosts : ℕ) (p : Portion) (test : Word) → p.somebody ≡ Some test → NonePasses p test 0 hosts
+pub none_of_failing : (hosts : ℕ) (p : Portion) (test : BitSet) → p.somebody ≡ Some test → NonePasses p test 0 hosts
     → (v : View) → v.scope.hosts ≡ hosts → Fits v → IsPortion v p → (u : UnitState) → IsIn v p u → ⊥
 none_of_failing hosts p test some none v same fits is u inside =
     no_state_where_none_passes v p test u some (subst (NonePasses p test 0) (sym same) none) inside

@@ -1,5 +1,5 @@
 -- Each registration, reservation and set of attentions has one number, and each number below the bound is one's.
-use Rattle.pr_views.proofs.Common.{◌≡◌, ℕ, zero, suc, ◌+◌, ◌-◌, ◌*◌, ◌/◌, ◌%◌, ◌<◌, ◌≤◌, Bool, true, false, not, ◌||◌, List, [], ◌∷◌, length, is_some, IsTrue, nat_lt, nat_le, ◌==◌, Some, None, Option, sym, refl, ap, ◌∙◌, one-add, arith, slice_get, lt-ltb, le-ltb, false≢true, and_parts, ltb-true, nat_tests, is_all, Held, One, All, UnitState, AreDeclared, is_reservation, Registration, Reservation, Attentions, IsSo}
+use Rattle.pr_views.proofs.Common.{◌≡◌, ℕ, zero, suc, ◌+◌, ◌-◌, ◌*◌, ◌/◌, ◌%◌, ◌<◌, ◌≤◌, Bool, true, false, not, ◌||◌, List, [], ◌∷◌, length, is_some, IsTrue, nat_lt, nat_le, ◌==◌, Some, None, Option, sym, refl, ap, ◌∙◌, one-add, arith, slice_get, lt-ltb, le-ltb, false≢true, and_parts, ltb-true, nat_tests, is_all, Held, One, All, UnitState, AreDeclared, is_reservation, Registration, Reservation, Attentions, IsSo, MOST_KEYS}
 use Rattle.std.specs.FinMap as map
 use Rattle.std.specs.List.{list_any}
 use Rattle.std.proofs.lemmas.Bool.{and_from, not-true, or_right, ltb-false}
@@ -49,7 +49,7 @@ key_there (x ∷ xs) zero small = (x, refl)
 key_there (x ∷ xs) (suc i) small = key_there xs i (omega arith)
 
 once_of : (keys : List ℕ) → AreDeclared keys → are_distinct (λ a b. a == b) keys ≡ true
-once_of keys declared = (and_parts (nat_le (length keys) 12) (are_distinct (λ j k. j == k) keys) declared.once).1
+once_of keys declared = (and_parts (nat_le (length keys) MOST_KEYS) (are_distinct (λ j k. j == k) keys) declared.once).1
 
 pub same_registration : (keys : List ℕ) (r t : ℕ) → AreDeclared keys → r ≤ length keys → t ≤ length keys → key_at keys r ≡ key_at keys t → r ≡ t
 same_registration keys zero zero declared small also same = refl

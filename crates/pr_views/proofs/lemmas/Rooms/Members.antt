@@ -1,5 +1,5 @@
 -- What lists of sets contain at a place.
-use Rattle.pr_views.proofs.Common.{◌≡◌, ℕ, ◌+◌, ◌<◌, Bool, true, false, ◌↔◌, List, length, IsTrue, slice_index_or, slice_set, sym, ap, ◌∙◌, arith, false≢true, has, Word, contains-nobody, has_at, contains_at}
+use Rattle.pr_views.proofs.Common.{◌≡◌, ℕ, ◌+◌, ◌<◌, Bool, true, false, ◌↔◌, List, length, IsTrue, slice_index_or, slice_set, sym, ap, ◌∙◌, arith, false≢true, has, BitSet, contains-nobody, has_at, contains_at}
 use Rattle.std.specs.FinSet as set
 use Rattle.pr_registry.proofs.lemmas.Sets.{same_hosts}
 use Rattle.pr_sets.specs.Numbers.{Numbers, Within}
@@ -41,7 +41,7 @@ module _ {S : Type 0} (members : S → Numbers) (sets : List S) where
   -- ---- words
 
   -- one more set has the numbers of its word
-  pub sets_more : (words : List Word) (i j : ℕ) (x : S) (d : Word) → ((h n : ℕ) → h < i → contains_at members sets h n ≡ has_at words h n) → j ≡ i → j < length sets → j < length words
+  pub sets_more : (words : List BitSet) (i j : ℕ) (x : S) (d : BitSet) → ((h n : ℕ) → h < i → contains_at members sets h n ≡ has_at words h n) → j ≡ i → j < length sets → j < length words
       → ((n : ℕ) → set.contains (members x) n ≡ has (slice_index_or words j d) n) → (h n : ℕ) → h < i + 1 → contains_at members (slice_set sets j x) h n ≡ has_at words h n
   sets_more words i j x d before same there also is h n =
       below_more (λ k. contains_at members (slice_set sets j x) k n ≡ has_at words k n) i j
@@ -49,7 +49,7 @@ module _ {S : Type 0} (members : S → Numbers) (sets : List S) where
       (holds_at_written (λ s. set.contains (members s) n) sets j x there ∙ is n ∙ sym (holds_at-get_or (λ w. has w n) words j d also)) h
 
   -- one more word has the members of its set
-  pub words_more : (words : List Word) (i j : ℕ) (d : S) (w : Word) → ((h n : ℕ) → h < i → has_at words h n ≡ contains_at members sets h n) → j ≡ i → j < length sets → j < length words
+  pub words_more : (words : List BitSet) (i j : ℕ) (d : S) (w : BitSet) → ((h n : ℕ) → h < i → has_at words h n ≡ contains_at members sets h n) → j ≡ i → j < length sets → j < length words
       → ((n : ℕ) → has w n ≡ set.contains (members (slice_index_or sets j d)) n) → (h n : ℕ) → h < i + 1 → has_at (slice_set words j w) h n ≡ contains_at members sets h n
   words_more words i j d w before same there also is h n =
       below_more (λ k. has_at (slice_set words j w) k n ≡ contains_at members sets k n) i j

@@ -1,5 +1,5 @@
 -- What lists of words have at a place.
-use Rattle.pr_views.proofs.Common.{◌≡◌, ℕ, zero, suc, ◌+◌, ◌<◌, ◌≤◌, Bool, true, false, ◌&&◌, ◌||◌, ◌≢◌, ◌⊎◌, List, [], ◌∷◌, length, IsTrue, nat_lt, slice_index_or, slice_set, Some, sym, refl, ap, ◌∙◌, subst, inl, inr, arith, slice_get, lt-ltb, le-ltb, cases_lt, nat_tests, has, Word, has_at, AreFilled}
+use Rattle.pr_views.proofs.Common.{◌≡◌, ℕ, zero, suc, ◌+◌, ◌<◌, ◌≤◌, Bool, true, false, ◌&&◌, ◌||◌, ◌≢◌, ◌⊎◌, List, [], ◌∷◌, length, IsTrue, nat_lt, slice_index_or, slice_set, Some, sym, refl, ap, ◌∙◌, subst, inl, inr, arith, slice_get, lt-ltb, le-ltb, cases_lt, nat_tests, has, BitSet, has_at, AreFilled}
 use Rattle.std.specs.Option.{option_map_or}
 use Rattle.std.proofs.lemmas.Bool.{cases_eq, cases_order}
 use Rattle.std.proofs.lemmas.Option.{slice_get-get_or, slice_get_past}
@@ -15,7 +15,7 @@ pub holds_at_past : {X : Type 0} (p : X → Bool) (xs : List X) (i : ℕ) → le
 holds_at_past p xs i past = ap (λ o. option_map_or p o false) (slice_get_past xs i past)
 
 -- one more has some number
-pub filled_more : (words : List Word) (i j : ℕ) (d : Word) → AreFilled i words → j ≡ i → j < length words → (n : ℕ) × IsTrue (has (slice_index_or words j d) n) → AreFilled (i + 1) words
+pub filled_more : (words : List BitSet) (i j : ℕ) (d : BitSet) → AreFilled i words → j ≡ i → j < length words → (n : ℕ) × IsTrue (has (slice_index_or words j d) n) → AreFilled (i + 1) words
 filled_more words i j d filled same small one g there = at (cases_eq g j)
   where
     at : (g ≡ j) ⊎ (g ≡ j → ⊥) → (n : ℕ) × (has_at words g n ≡ true)
@@ -50,10 +50,10 @@ below_more P i j before same here g there = at (cases_eq g j)
 
 -- ---- words that are joined, up to a place
 
-abbrev pub AreJoined : List Word → List Word → List Word → ℕ → Type 0
+abbrev pub AreJoined : List BitSet → List BitSet → List BitSet → ℕ → Type 0
 AreJoined words old others i = (g n : ℕ) → has_at words g n ≡ (has_at old g n || (nat_lt g i && has_at others g n))
 
-pub joined_more : (words old others : List Word) (i : ℕ) (w d : Word) → i < length words → i < length others → AreJoined words old others i
+pub joined_more : (words old others : List BitSet) (i : ℕ) (w d : BitSet) → i < length words → i < length others → AreJoined words old others i
     → ((n : ℕ) → has w n ≡ (has (slice_index_or words i d) n || has (slice_index_or others i d) n)) → AreJoined (slice_set words i w) old others (i + 1)
 joined_more words old others i w d there also joined is g n = at (cases_eq g i)
   where
@@ -81,7 +81,7 @@ joined_more words old others i w d there also joined is g n = at (cases_eq g i)
         let still : nat_lt g i ≡ nat_lt g (i + 1) = grind (arith, nat_tests) in
         holds_at_kept (λ v. has v n) words i g w differs ∙ joined g n ∙ ap (λ b. has_at old g n || (b && has_at others g n)) still
 
-pub joined_all : (words old others : List Word) (i : ℕ) → length others ≤ i → AreJoined words old others i → (g n : ℕ) → has_at words g n ≡ (has_at old g n || has_at others g n)
+pub joined_all : (words old others : List BitSet) (i : ℕ) → length others ≤ i → AreJoined words old others i → (g n : ℕ) → has_at words g n ≡ (has_at old g n || has_at others g n)
 joined_all words old others i all joined g n = at (cases_lt g i)
   where
     at : (g < i) ⊎ (i ≤ g) → has_at words g n ≡ (has_at old g n || has_at others g n)

@@ -1,5 +1,5 @@
 -- What a command is spelled as are bytes, as many as a wire holds.
-use Rattle.pr_world.proofs.Common.{◌≡◌, ℕ, zero, suc, ◌<◌, ◌≤◌, Bool, true, false, List, [], ◌∷◌, ◌++◌, length, nat_lt, Some, None, Option, refl, arith, list_all, nat_tests, spelling, Command}
+use Rattle.pr_world.proofs.Common.{◌≡◌, ℕ, zero, suc, ◌<◌, ◌≤◌, Bool, true, false, List, [], ◌∷◌, ◌++◌, length, nat_lt, Some, None, Option, refl, arith, list_all, nat_tests, spelling, Command, MOST_CDB_LENGTH, PARAMETER_LIST_LENGTH}
 use Rattle.std.proofs.Common.{◌/◌, ◌%◌, ◌^◌, ◌&&◌}
 use Rattle.std.specs.Int.{w16, w32, w64, byte_at, bytes_high_first, to_be_bytes}
 use Rattle.pr_cdb.specs.declared.command.Kind.{Kind}
@@ -85,7 +85,7 @@ are_bytes (Preempt rk sark kind) = told 0x04 (kind_byte kind) rk sark (omega ari
 are_bytes (PreemptAbort rk sark kind) = told 0x05 (kind_byte kind) rk sark (omega arith) (kind_small kind)
 are_bytes (RegisterIgnore sark) = told 0x06 0 0 sark (omega arith) (omega arith)
 
-pub are_short : (c : Command) → (length (spelling c).cdb.items ≤ 16) × (length (spelling c).params.items ≤ 24)
+pub are_short : (c : Command) → (length (spelling c).cdb.items ≤ MOST_CDB_LENGTH) × (length (spelling c).params.items ≤ PARAMETER_LIST_LENGTH)
 unfolding spelling
 are_short TestUnitReady = (omega arith, omega arith)
 are_short _ = (omega arith, omega arith)

@@ -1,16 +1,16 @@
-use Rattle.pr_domain.proofs.Common.{◌≡◌, ℕ, ◌<◌, ◌≤◌, false, not, ◌||◌, ◌⊎◌, List, length, Option, sym, ap, ◌∙◌, subst, inl, inr, option_map_or, cases_lt, has, Word, has_at, holds_at-get_or, scope_at}
+use Rattle.pr_domain.proofs.Common.{◌≡◌, ℕ, ◌<◌, ◌≤◌, false, not, ◌||◌, ◌⊎◌, List, length, Option, sym, ap, ◌∙◌, subst, inl, inr, option_map_or, cases_lt, has, BitSet, has_at, holds_at-get_or, scope_at}
 use Rattle.std.proofs.Common.{slice_index_or}
 use Rattle.std.proofs.lemmas.Option.{slice_get_past}
 use Rattle.std.proofs.Math.Bool.{or-false}
 use Rattle.pr_domain.proofs.lemmas.Permitting.Permissions.{asked_at, not_registered, permitted_by_clauses, one_registration_permitted}
 use Rattle.pr_domain.proofs.permitting.Asking.is_permitted_with.Goals as goal
 
-not_at : (words : List Word) (g r : ℕ) → has (slice_index_or words g (record { bits = 0 })) r ≡ false → has_at words g r ≡ false
+not_at : (words : List BitSet) (g r : ℕ) → has (slice_index_or words g (record { bits = 0 })) r ≡ false → has_at words g r ≡ false
 not_at words g r none = at (cases_lt g (length words))
   where
     at : (g < length words) ⊎ (length words ≤ g) → has_at words g r ≡ false
     at (inl small) = holds_at-get_or (λ w. has w r) words g (record { bits = 0 }) small ∙ none
-    at (inr past) = ap (λ (o : Option Word). option_map_or (λ w. has w r) o false) (slice_get_past words g past)
+    at (inr past) = ap (λ (o : Option BitSet). option_map_or (λ w. has w r) o false) (slice_get_past words g past)
 
 pub returns-then-not-has-clause-permitted : goal.returns-then-not-has-clause-permitted
 returns-then-not-has-clause-permitted c is =

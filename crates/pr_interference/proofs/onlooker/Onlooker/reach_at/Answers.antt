@@ -1,10 +1,10 @@
-use Rattle.pr_interference.proofs.Common.{◌≡◌, ℕ, ◌≤◌, true, false, ◌≢◌, Some, sym, ap, ◌∙◌, subst, has_wide, has, Kind, is_kind, is_held_by_all, new_reservation, One, has_at, number_of, number_in}
-use Rattle.pr_interference.specs.inside.Reaching.{MayAllGo, number_named}
+use Rattle.pr_interference.proofs.Common.{◌≡◌, ℕ, ◌≤◌, true, false, ◌≢◌, Some, sym, ap, ◌∙◌, subst, has_wide, has, Kind, is_kind, is_held_by_all, new_reservation, One, has_at, number_of, number_in, MOST_KEYS}
+use Rattle.pr_interference.specs.inside.Reaching.{MayAllGo, number_named, HasEveryKeyBut}
 use Rattle.pr_interference.proofs.lemmas.Reaching.Bounds.{register_reach, unregister_reach, reserve_reach, release_reach, clear_reach, preempt_all_reach, preempt_key_reach, forbidden_reach}
 use Rattle.pr_interference.proofs.onlooker.Onlooker.reach_at.Goals as goal
 
-pub returns-then-not-holds : goal.returns-then-not-holds
-returns-then-not-holds c s is fits number = forbidden_reach s c.args.self.now c.args.place.now c.args.clause.now _ is fits (sym c.holds.ensures ∙ c.if-not-holds.true)
+pub returns-then-not-meets : goal.returns-then-not-meets
+returns-then-not-meets c s is fits number = forbidden_reach s c.args.self.now c.args.place.now c.args.clause.now _ is fits (sym c.meets.ensures ∙ c.if-not-meets.true)
 
 pub returns-in-Register : goal.returns-in-Register
 returns-in-Register c s is fits number =
@@ -48,6 +48,6 @@ returns-else-key-eq0 c s is fits number =
     (subst (λ j. has reach.removed j ≡ true) same facts.removed)
     (subst (λ j. (old : Kind) (g : ℕ) → place.held ≡ Some (One old g) → has_at o.view.registrations g j ≡ true → has_wide reach.reservations (number_of place.hosts (Some (new_reservation kind place.sender))) ≡ true)
     same facts.replaced)
-    (subst (λ j. (old : Kind) (g : ℕ) → place.held ≡ Some (One old g) → has_at o.view.registrations g j ≡ true → is_kind old kind ≡ false → (r : ℕ) → 1 ≤ r → r ≤ 12 → r ≢ j → has reach.told_04 r ≡ true)
+    (subst (λ j. (old : Kind) (g : ℕ) → place.held ≡ Some (One old g) → has_at o.view.registrations g j ≡ true → is_kind old kind ≡ false → HasEveryKeyBut j reach.told_04)
     same facts.told_04)
     (subst (λ j. has reach.told_05 j ≡ true) same facts.told_05)

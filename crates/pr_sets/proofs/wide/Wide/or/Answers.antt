@@ -1,4 +1,4 @@
-use Rattle.pr_sets.proofs.lemmas.Wides.{has-or}
+use Rattle.pr_sets.proofs.lemmas.WordBits.{has-or}
 use Rattle.pr_sets.proofs.wide.Wide.or.Goals as goal
 
 pub returns : goal.returns

@@ -1,4 +1,4 @@
-use Rattle.pr_verify.proofs.Common.{◌≡◌, ◌≤◌, true, length, slice_index_or, All, sym, refl, ap, subst, arith, rules, IsAnswerTo}
+use Rattle.pr_verify.proofs.Common.{◌≡◌, ◌≤◌, true, length, slice_index_or, All, sym, refl, ap, subst, arith, rules, IsAnswerTo, MOST_ARMS}
 use Rattle.pr_script.specs.Grammar.{test_fits}
 use Rattle.pr_verify.specs.inside.Asked.{IsAskedBefore}
 use Rattle.pr_verify.proofs.lemmas.Known.Recollection.{all_pushed}
@@ -18,7 +18,7 @@ outcomes-requires g c =
     let e = c.index.result.now in
     let is = written_at q c.requires.made c.args.place c.requires.there p e read c.index.ensures in
     let tests = subst (All (λ t. test_fits e.1.keys.items p.command t ≡ true)) (sym c.deref-2.ensures.value) is.tests in
-    let few = subst (λ ts. length ts ≤ 16) (sym c.deref-2.ensures.value) is.few in
+    let few = subst (λ ts. length ts ≤ MOST_ARMS) (sym c.deref-2.ensures.value) is.few in
     (search rules, (host_at q c.requires.made c.args.place c.requires.there e c.index.ensures, (is.command, (tests, few))))
 
 pub returns-clause-known : goal.returns-clause-known

@@ -4,15 +4,16 @@ use Rattle.std.specs.Int.{w16, bit_at, trailing_zeros}
 use Rattle.std.proofs.lemmas.Bool.Decides.{nat_tests, eqb_tells, leb_tells}
 use Rattle.std.proofs.lemmas.Nat.Bits.{bit_at_set_same, bit_at_set_other, bit_at_and, bit_at_or, bit_at_not, bit_at-zero, bit_at-lt, bit_at_above, bit_at_ones, bit_at_ones_above, bit_at-trailing_zeros, ones_shr, same_from_bits_below}
 use Rattle.std.proofs.Math.Bool.{and_comm, or_comm}
-use Rattle.pr_sets.specs.declared.word.Word.{Word}
-use Rattle.pr_sets.specs.Words.{has, IsLeast}
+use Rattle.pr_sets.specs.declared.bit_set.BitSet.{BitSet}
+use Rattle.pr_sets.specs.BitSets.{has, IsLeast}
+use Rattle.pr_sets.proofs.lemmas.WordBits.{has-except, has-only}
 
 -- ---- which numbers a word has
-pub has_none_above : (w : Word) (n : ℕ) → w.bits < 2 ^ 16 → 16 ≤ n → has w n ≡ false
+pub has_none_above : (w : BitSet) (n : ℕ) → w.bits < 2 ^ 16 → 16 ≤ n → has w n ≡ false
 has_none_above w n fits large = ap (λ b. b == 1) (bit_at_above w.bits 16 n fits large)
 
 -- each number in a word is below 16
-pub has-lt : (w : Word) (n : ℕ) → w.bits < 2 ^ 16 → has w n ≡ true → n < 16
+pub has-lt : (w : BitSet) (n : ℕ) → w.bits < 2 ^ 16 → has w n ≡ true → n < 16
 has-lt w n fits there = at (leb_tells 16 n)
   where
     at : ((nat_le 16 n ≡ true) × (16 ≤ n)) ⊎ ((nat_le 16 n ≡ false) × (n < 16)) → n < 16
@@ -21,22 +22,22 @@ has-lt w n fits there = at (leb_tells 16 n)
     at (inr small) = small.1
 
 -- words of the same numbers have the same bits
-pub same_bits : (v w : Word) → v.bits < 2 ^ 16 → w.bits < 2 ^ 16 → ((n : ℕ) → n < 16 → has v n ≡ has w n) → v.bits ≡ w.bits
+pub same_bits : (v w : BitSet) → v.bits < 2 ^ 16 → w.bits < 2 ^ 16 → ((n : ℕ) → n < 16 → has v n ≡ has w n) → v.bits ≡ w.bits
 same_bits v w v_fits w_fits same =
     same_from_bits_below 16 v.bits w.bits v_fits w_fits (λ n small. at (bit_at v.bits n) (bit_at w.bits n) (bit_at-lt v.bits n) (bit_at-lt w.bits n) (same n small))
   where
     at : (x y : ℕ) → x < 2 → y < 2 → (x == 1) ≡ (y == 1) → x ≡ y
     at x y one other both = grind (arith, nat_tests)
 
-pub same_words : (v w : Word) → v.bits < 2 ^ 16 → w.bits < 2 ^ 16 → ((n : ℕ) → n < 16 → has v n ≡ has w n) → v ≡ w
+pub same_words : (v w : BitSet) → v.bits < 2 ^ 16 → w.bits < 2 ^ 16 → ((n : ℕ) → n < 16 → has v n ≡ has w n) → v ≡ w
 same_words v w v_fits w_fits same =
     ap of_bits (same_bits v w v_fits w_fits same)
   where
-    of_bits : ℕ → Word
+    of_bits : ℕ → BitSet
     of_bits b = record { bits = b }
 
 -- a word that is not 0 has a least number
-pub least_there : (w : Word) → 0 < w.bits → w.bits < 2 ^ 16 → IsLeast w (trailing_zeros w16 w.bits)
+pub least_there : (w : BitSet) → 0 < w.bits → w.bits < 2 ^ 16 → IsLeast w (trailing_zeros w16 w.bits)
 least_there w some fits =
     let found = bit_at-trailing_zeros w16 w.bits some fits in
     record {
@@ -52,56 +53,9 @@ least_there w some fits =
         let zero_there = absent m early.1 in grind (arith, nat_tests)
 
 -- ---- bits of what is reckoned from words
-pub has-and : (a b n : ℕ) → (bit_at (bit_and a b) n == 1) ≡ ((bit_at a n == 1) && (bit_at b n == 1))
-has-and a b n =
-    ap (λ x. x == 1) (bit_at_and a b n) ∙ at (bit_at a n) (bit_at b n) (bit_at-lt a n) (bit_at-lt b n)
-  where
-    at : (x y : ℕ) → x < 2 → y < 2 → (min x y == 1) ≡ ((x == 1) && (y == 1))
-    at x y one other = grind (arith, nat_tests)
-
-pub has-or : (a b n : ℕ) → (bit_at (bit_or a b) n == 1) ≡ ((bit_at a n == 1) || (bit_at b n == 1))
-has-or a b n =
-    ap (λ x. x == 1) (bit_at_or a b n) ∙ at (bit_at a n) (bit_at b n) (bit_at-lt a n) (bit_at-lt b n)
-  where
-    at : (x y : ℕ) → x < 2 → y < 2 → (max x y == 1) ≡ ((x == 1) || (y == 1))
-    at x y one other = grind (arith, nat_tests)
-
-pub has-except : (a b n : ℕ) → a < 2 ^ 16 → b < 2 ^ 16 → (bit_at (bit_and a (2 ^ 16 - 1 - b)) n == 1) ≡ ((bit_at a n == 1) && not (bit_at b n == 1))
-has-except a b n a_fits b_fits =
-    has-and a (2 ^ 16 - 1 - b) n ∙ at (leb_tells 16 n)
-  where
-    flipped : (y : ℕ) → y < 2 → (1 - y == 1) ≡ not (y == 1)
-    flipped y one = grind (arith, nat_tests)
-
-    at : ((nat_le 16 n ≡ true) × (16 ≤ n)) ⊎ ((nat_le 16 n ≡ false) × (n < 16))
-        → ((bit_at a n == 1) && (bit_at (2 ^ 16 - 1 - b) n == 1)) ≡ ((bit_at a n == 1) && not (bit_at b n == 1))
-    at (inl large) = rw (bit_at_above a 16 n a_fits large.1) refl
-    at (inr small) =
-        ap (λ c. (bit_at a n == 1) && c) (ap (λ x. x == 1) (bit_at_not w16 b n b_fits small.1) ∙ flipped (bit_at b n) (bit_at-lt b n))
-
-pub has-only : (k n : ℕ) → k < 16 → (bit_at (1 * 2 ^ k % 2 ^ 16) n == 1) ≡ (n == k)
-has-only k n small =
-    ap (λ x. x == 1) (sym beside_none) ∙ at (eqb_tells n k)
-  where
-    or_zero : (x : ℕ) → max 0 x ≡ x
-    or_zero x = omega arith
-
-    beside_none : bit_at (bit_or 0 (1 * 2 ^ k % 2 ^ 16)) n ≡ bit_at (1 * 2 ^ k % 2 ^ 16) n
-    beside_none =
-        bit_at_or 0 (1 * 2 ^ k % 2 ^ 16) n ∙ ap (λ x. max x (bit_at (1 * 2 ^ k % 2 ^ 16) n)) (bit_at-zero n) ∙ or_zero (bit_at (1 * 2 ^ k % 2 ^ 16) n)
-
-    at : (((n == k) ≡ true) × (n ≡ k)) ⊎ (((n == k) ≡ false) × (n ≢ k)) → (bit_at (bit_or 0 (1 * 2 ^ k % 2 ^ 16)) n == 1) ≡ (n == k)
-    at (inl same) = rw same.0 (rw same.1 (ap (λ x. x == 1) (bit_at_set_same w16 0 k small)))
-    at (inr other) =
-        rw other.0 (ap (λ x. x == 1) (bit_at_set_other w16 0 k small n other.1 ∙ bit_at-zero n))
-
-pub has-with : (a k n : ℕ) → k < 16 → (bit_at (bit_or a (1 * 2 ^ k % 2 ^ 16)) n == 1) ≡ ((n == k) || (bit_at a n == 1))
-has-with a k n small =
-    has-or a (1 * 2 ^ k % 2 ^ 16) n ∙ ap (λ c. (bit_at a n == 1) || c) (has-only k n small) ∙ or_comm (bit_at a n == 1) (n == k)
-
 pub has-without : (a k n : ℕ) → a < 2 ^ 16 → k < 16 → (bit_at (bit_and a (2 ^ 16 - 1 - 1 * 2 ^ k % 2 ^ 16)) n == 1) ≡ (not (n == k) && (bit_at a n == 1))
 has-without a k n fits small =
-    has-except a (1 * 2 ^ k % 2 ^ 16) n fits one_fits ∙ ap (λ c. (bit_at a n == 1) && not c) (has-only k n small) ∙ and_comm (bit_at a n == 1) (not (n == k))
+    has-except w16 a (1 * 2 ^ k % 2 ^ 16) n fits one_fits ∙ ap (λ c. (bit_at a n == 1) && not c) (has-only w16 k n small) ∙ and_comm (bit_at a n == 1) (not (n == k))
   where
     one_fits : 1 * 2 ^ k % 2 ^ 16 < 2 ^ 16
     one_fits = omega arith

@@ -1,6 +1,6 @@
 use Rattle.std.proofs.Common.{◌^◌, ◌<◌, arith}
-use Rattle.pr_sets.proofs.lemmas.Words.{has-without}
-use Rattle.pr_sets.proofs.word.Word.without.Goals as goal
+use Rattle.pr_sets.proofs.lemmas.BitSets.{has-without}
+use Rattle.pr_sets.proofs.bit_set.BitSet.without.Goals as goal
 
 pub returns : goal.returns
 returns c m =

@@ -1,8 +1,8 @@
 use Rattle.std.proofs.Common.{◌^◌, ◌<◌, arith}
 use Rattle.std.specs.Int.{w16, trailing_zeros}
 use Rattle.std.proofs.lemmas.Bool.Decides.{nat_tests}
-use Rattle.pr_sets.proofs.lemmas.Words.{least_there}
-use Rattle.pr_sets.proofs.word.Word.is_empty.Goals as goal
+use Rattle.pr_sets.proofs.lemmas.BitSets.{least_there}
+use Rattle.pr_sets.proofs.bit_set.BitSet.is_empty.Goals as goal
 
 pub returns-clause-filled : goal.returns-clause-filled
 returns-clause-filled c filled =

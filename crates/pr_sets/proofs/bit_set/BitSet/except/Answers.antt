@@ -1,9 +1,10 @@
 use Rattle.std.proofs.Common.{◌^◌, ◌<◌, arith}
-use Rattle.pr_sets.proofs.lemmas.Words.{has-except}
-use Rattle.pr_sets.proofs.word.Word.except.Goals as goal
+use Rattle.std.specs.Int.{w16}
+use Rattle.pr_sets.proofs.lemmas.WordBits.{has-except}
+use Rattle.pr_sets.proofs.bit_set.BitSet.except.Goals as goal
 
 pub returns : goal.returns
 returns c m =
     let fits : c.args.self.bits < 2 ^ 16 = omega arith in
     let other_fits : c.args.other.bits < 2 ^ 16 = omega arith in
-    has-except c.args.self.bits c.args.other.bits m fits other_fits
+    has-except w16 c.args.self.bits c.args.other.bits m fits other_fits

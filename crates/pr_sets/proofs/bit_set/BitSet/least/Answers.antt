@@ -1,6 +1,6 @@
 use Rattle.std.proofs.Common.{◌^◌, ◌<◌, arith}
-use Rattle.pr_sets.proofs.lemmas.Words.{least_there}
-use Rattle.pr_sets.proofs.word.Word.least.Goals as goal
+use Rattle.pr_sets.proofs.lemmas.BitSets.{least_there}
+use Rattle.pr_sets.proofs.bit_set.BitSet.least.Goals as goal
 
 pub returns-clause-some : goal.returns-clause-some
 returns-clause-some c =
