@@ -7,8 +7,8 @@ ghost use Rattle.pr_report.specs.Printed.{printed_word};
 ghost use Rattle.pr_commands.specs.FaultText.{args_fault, exit_status_of, fault_text, input_words, open_fault, status_of, told_line, trace_words, which_word};
 ghost use Rattle.pr_commands.specs.inside.FaultRows.{row_words};
 
-use pr_report::{TraceError, Word, WriteFault, put_line};
-use pr_roles::Word as Name;
+use pr_report::{Token, TraceError, WriteFault, put_line};
+use pr_roles::Word;
 use pr_text::{ReadError, Which};
 use std::alloc::{AllocError, AllocFailed};
 use std::io;
@@ -30,7 +30,7 @@ pub enum Fault {
     Trace(TraceError),
 
     /// The thread of the nexus of this name could not be started.
-    Thread(Name),
+    Thread(Word),
 
     /// What stood under a run's lock is not what its threads hand back.
     History,
@@ -190,17 +190,20 @@ pub(crate) fn put_fault<W: Write>(errors: &mut W, fault: &Fault) -> Result<(), W
     ensures { Writes W.Write errors (fault_text fault.now) result }
 {
     match fault {
-        Fault::Usage => put_told(errors, &[Word::Text(b"usage")]),
-        Fault::File => put_told(errors, &[Word::Text(b"file")]),
+        Fault::Usage => put_told(errors, &[Token::Text(b"usage")]),
+        Fault::File => put_told(errors, &[Token::Text(b"file")]),
         Fault::Input(error) => put_row(errors, b"input", input_row(*error)),
         Fault::Trace(error) => put_row(errors, b"trace", trace_row(*error)),
         Fault::Thread(name) => put_told(
             errors,
-            &[Word::Text(b"thread"), Word::Text(name.as_str().as_bytes())],
+            &[
+                Token::Text(b"thread"),
+                Token::Text(name.as_str().as_bytes()),
+            ],
         ),
-        Fault::History => put_told(errors, &[Word::Text(b"history")]),
-        Fault::Memory => put_told(errors, &[Word::Text(b"memory")]),
-        Fault::Output => put_told(errors, &[Word::Text(b"output")]),
+        Fault::History => put_told(errors, &[Token::Text(b"history")]),
+        Fault::Memory => put_told(errors, &[Token::Text(b"memory")]),
+        Fault::Output => put_told(errors, &[Token::Text(b"output")]),
     }
 }
 
@@ -257,33 +260,33 @@ fn trace_row(error: TraceError) -> FaultRow
 fn put_row<W: Write>(errors: &mut W, text: &[u8], row: FaultRow) -> Result<(), WriteFault>
     ensures { Writes W.Write errors (told_line (row_words text.now row)) result }
 {
-    let text = Word::Text(text);
+    let text = Token::Text(text);
     match row {
         FaultRow::Whole(number, name) => {
-            put_told(errors, &[text, Word::Text(number), Word::Text(name)])
+            put_told(errors, &[text, Token::Text(number), Token::Text(name)])
         }
         FaultRow::Line(number, name, line) => put_told(
             errors,
             &[
                 text,
-                Word::Text(number),
-                Word::Text(name),
-                Word::Text(b"line"),
-                Word::Number(u64::from(line)),
+                Token::Text(number),
+                Token::Text(name),
+                Token::Text(b"line"),
+                Token::Number(u64::from(line)),
             ],
         ),
         FaultRow::Limit(number, name, which, line) => put_told(
             errors,
             &[
                 text,
-                Word::Text(number),
-                Word::Text(name),
-                Word::Text(which_word(which)),
-                Word::Text(b"line"),
-                Word::Number(u64::from(line)),
+                Token::Text(number),
+                Token::Text(name),
+                Token::Text(which_word(which)),
+                Token::Text(b"line"),
+                Token::Number(u64::from(line)),
             ],
         ),
-        FaultRow::Memory => put_told(errors, &[Word::Text(b"memory")]),
+        FaultRow::Memory => put_told(errors, &[Token::Text(b"memory")]),
     }
 }
 
@@ -308,8 +311,8 @@ fn which_word(which: Which) -> &'static [u8]
 
 // The line with these words after the program's name.
 #[tactic(auto, unfolding(pr_report::specs::Printed::printed_word))]
-fn put_told<W: Write>(errors: &mut W, words: &[Word<'_>]) -> Result<(), WriteFault>
+fn put_told<W: Write>(errors: &mut W, words: &[Token<'_>]) -> Result<(), WriteFault>
     ensures { Writes W.Write errors (told_line (map printed_word words.now)) result }
 {
-    put_line(errors, Word::Text(b"fence:"), words)
+    put_line(errors, Token::Text(b"fence:"), words)
 }

@@ -22,7 +22,7 @@ use crate::fault::{ExitStatus, Fault};
 use arrayvec::ArrayVec;
 use pr_cdb::codes::MOST_NEXUSES;
 use pr_report::{Verdict, WriteFault, write_trace, write_verdict};
-use pr_roles::{Nexus, Scenario, Word as Name};
+use pr_roles::{Nexus, Scenario, Word};
 use pr_shared::{Item, NoGate, Outcome, RunError, run};
 use pr_text::read;
 use pr_verify::{NoCheckGate, Refused, Verified, verify_each};
@@ -137,7 +137,7 @@ fn fault_for(scenario: &Scenario, error: &RunError) -> Fault
 }
 
 #[tactic(auto, using(crate::proofs::lemmas::Runs::Outcomes::named_there))]
-fn name_at(nexuses: &[Nexus], host: u8) -> Name
+fn name_at(nexuses: &[Nexus], host: u8) -> Word
     requires { host < length nexuses.now }
     ensures { result.bytes ≡ name_of (names_of nexuses.now) host }
 {

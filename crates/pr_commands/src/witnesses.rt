@@ -15,7 +15,7 @@ use crate::checks::settled;
 use crate::ending::ended;
 use crate::fault::{ExitStatus, Fault};
 use crate::witness_text::write_witness;
-use pr_report::{Verdict, Word, WriteFault, put_line, write_verdict};
+use pr_report::{Token, Verdict, WriteFault, put_line, write_verdict};
 use pr_roles::Scenario;
 use pr_text::read;
 use pr_verify::{Verified, verify};
@@ -119,12 +119,12 @@ fn put_none<W: Write>(writer: &mut W, worlds: usize, bound: Option<Bound>) -> Re
     ensures { Writes W.Write writer (line (codes "none") (decimal worlds ∷ bound_words bound))
         result }
 {
-    let first = Word::Text(b"none");
-    let worlds = Word::Number(worlds as u64);
+    let first = Token::Text(b"none");
+    let worlds = Token::Number(worlds as u64);
     match bound {
         None => put_line(writer, first, &[worlds]),
-        Some(Bound::Worlds) => put_line(writer, first, &[worlds, Word::Text(b"worlds")]),
-        Some(Bound::Depth) => put_line(writer, first, &[worlds, Word::Text(b"depth")]),
-        Some(Bound::Memory) => put_line(writer, first, &[worlds, Word::Text(b"memory")]),
+        Some(Bound::Worlds) => put_line(writer, first, &[worlds, Token::Text(b"worlds")]),
+        Some(Bound::Depth) => put_line(writer, first, &[worlds, Token::Text(b"depth")]),
+        Some(Bound::Memory) => put_line(writer, first, &[worlds, Token::Text(b"memory")]),
     }
 }

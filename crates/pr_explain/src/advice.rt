@@ -8,7 +8,7 @@ use crate::source::line_of;
 use pr_cdb::codes::{ILLEGAL_REQUEST, UNIT_ATTENTION};
 use pr_cdb::{Command, Kind, Sense};
 use pr_domain::Class;
-use pr_report::{Word, WriteFault, put, put_line, put_spaced};
+use pr_report::{Token, WriteFault, put, put_line, put_spaced};
 use pr_roles::{Nexus, names};
 use pr_script::limits::MOST_BUDGET;
 use pr_verify::{Refusal, Row, Table};
@@ -76,20 +76,20 @@ fn put_missing<W: Write>(writer: &mut W, unarmed: &[Class]) -> Result<(), WriteF
                 },
             ) => {
                 if !is_told {
-                    put_arm(writer, Word::Text(b"attention"))?;
+                    put_arm(writer, Token::Text(b"attention"))?;
                 }
                 is_told = true;
             }
             Class::Good | Class::Conflict | Class::Busy | Class::Full | Class::Sense(_) => {
-                put_arm(writer, Word::Class(*class))?
+                put_arm(writer, Token::Class(*class))?
             }
         }
     }
     Ok(())
 }
 
-fn put_arm<W: Write>(writer: &mut W, waits_for: Word<'_>) -> Result<(), WriteFault> {
-    put_line(writer, Word::Text(b"  on"), &[waits_for])?;
+fn put_arm<W: Write>(writer: &mut W, waits_for: Token<'_>) -> Result<(), WriteFault> {
+    put_line(writer, Token::Text(b"  on"), &[waits_for])?;
     put(writer, b"    stop gives-up\n")
 }
 
@@ -155,17 +155,17 @@ fn put_action<W: Write>(writer: &mut W, command: &Command) -> Result<(), WriteFa
             if sark == 0 {
                 put(writer, b" unregister")
             } else {
-                put_spaced(writer, &[Word::Text(b"register"), Word::Key(sark)])
+                put_spaced(writer, &[Token::Text(b"register"), Token::Key(sark)])
             }
         }
         Command::Reserve { kind, .. } => put_spaced(
             writer,
-            &[Word::Text(b"reserve"), type_word(kind)],
+            &[Token::Text(b"reserve"), type_word(kind)],
         ),
         Command::Release { .. } => put(writer, b" release"),
         Command::Clear { .. } => put(writer, b" clear"),
         Command::Preempt { sark, kind, .. } | Command::PreemptAbort { sark, kind, .. } => {
-            put_spaced(writer, &[Word::Text(b"preempt"), Word::Key(sark)])?;
+            put_spaced(writer, &[Token::Text(b"preempt"), Token::Key(sark)])?;
             match kind {
                 Some(kind) => put_spaced(writer, &[type_word(kind)]),
                 None => Ok(()),
@@ -181,8 +181,8 @@ fn put_action<W: Write>(writer: &mut W, command: &Command) -> Result<(), WriteFa
     }
 }
 
-fn type_word(kind: Kind) -> Word<'static> {
-    Word::Number(u64::from(kind.code()))
+fn type_word(kind: Kind) -> Token<'static> {
+    Token::Number(u64::from(kind.code()))
 }
 
 // The budget that would do.

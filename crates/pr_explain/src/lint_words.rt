@@ -4,7 +4,7 @@ use crate::blocks::{arm_of, is_denied};
 use crate::lint::Lint;
 use crate::saying::{Part, line_number, name, say};
 use crate::source::{keys_line, line_of};
-use pr_report::{Word, WriteFault, put};
+use pr_report::{Token, WriteFault, put};
 use pr_roles::Nexus;
 use pr_words::name_of;
 use std::io::Write;
@@ -97,7 +97,7 @@ fn put_not_used<W: Write>(writer: &mut W, lines: &[&[u8]], key: u64) -> Result<(
         writer,
         &[
             Part::Text(b"    no start, role, script or plan names the key"),
-            Part::Spaced(Word::Key(key)),
+            Part::Spaced(Token::Key(key)),
             Part::Text(b".\n"),
         ],
     )

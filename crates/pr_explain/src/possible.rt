@@ -5,7 +5,7 @@ use pr_attention::Attention;
 use pr_cdb::codes::MOST_NEXUSES;
 use pr_domain::is_among;
 use pr_regions::reservation_at;
-use pr_report::{Word, WriteFault, put, put_spaced};
+use pr_report::{Token, WriteFault, put, put_spaced};
 use pr_roles::Nexus;
 use pr_sets::{ViewSet, WordSet};
 use pr_views::{ATTENTION_SETS, View};
@@ -52,7 +52,7 @@ fn put_registrations<W: Write>(
         number = number.saturating_add(1);
         if registrations.has(number) {
             put_or(writer, is_first)?;
-            put_spaced(writer, &[Word::Text(b"has"), Word::Key(*key)])?;
+            put_spaced(writer, &[Token::Text(b"has"), Token::Key(*key)])?;
             is_first = false;
         }
     }

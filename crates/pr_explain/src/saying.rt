@@ -1,6 +1,6 @@
 //! Sentences to a writer.
 
-use pr_report::{Word, WriteFault, put, put_spaced};
+use pr_report::{Token, WriteFault, put, put_spaced};
 use std::io::Write;
 
 /// A part of a sentence.
@@ -9,7 +9,7 @@ pub(crate) enum Part<'a> {
     /// This very text.
     Text(&'a [u8]),
     /// The word, after a space.
-    Spaced(Word<'a>),
+    Spaced(Token<'a>),
 }
 
 /// Writes the parts one behind the other.
@@ -25,15 +25,15 @@ pub(crate) fn say<W: Write>(writer: &mut W, parts: &[Part<'_>]) -> Result<(), Wr
 
 /// A name, after a space.
 pub(crate) fn name(text: &[u8]) -> Part<'_> {
-    Part::Spaced(Word::Text(text))
+    Part::Spaced(Token::Text(text))
 }
 
 /// A number, after a space.
 pub(crate) fn number(value: u64) -> Part<'static> {
-    Part::Spaced(Word::Number(value))
+    Part::Spaced(Token::Number(value))
 }
 
 /// The number of the line with this index, after a space.
 pub(crate) fn line_number(index: usize) -> Part<'static> {
-    Part::Spaced(Word::Number((index as u64).saturating_add(1)))
+    Part::Spaced(Token::Number((index as u64).saturating_add(1)))
 }

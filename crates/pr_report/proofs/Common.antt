@@ -9,7 +9,7 @@ pub use Rattle.std.proofs.lemmas.Bool.Decides.{nat_tests}
 pub use Rattle.std.proofs.lemmas.List.Splits.{length-slice_split}
 pub use Rattle.std.proofs.lemmas.Slice.Eq.{bytes_eq-Decides}
 pub use Rattle.pr_sets.specs.Kept.{numbers_of_bits}
-pub use Rattle.pr_cdb.specs.declared.codes.TheConstants.{MOST_NEXUSES}
+pub use Rattle.pr_cdb.specs.declared.codes.TheConstants.{MOST_NEXUSES, MOST_CDB_LENGTH, PARAMETER_LIST_LENGTH}
 pub use Rattle.pr_registry.specs.declared.held.Held.{Held}
 pub use Rattle.pr_registry.specs.declared.held.Held.TheVariants.{One}
 unfoldable pub use Rattle.pr_roles.specs.Scenarios.{scenario_of}
@@ -33,3 +33,6 @@ unfoldable pub use Rattle.pr_report.specs.TraceText.{first_line, unit_line}
 pub use Rattle.pr_report.specs.Versions.{most_items}
 pub use Rattle.pr_report.specs.Written.{Wrote, FallsShort, Puts}
 pub use Rattle.pr_report.specs.inside.LinesAhead.{bytes_held, bytes_left, Takes, Leads}
+pub use Rattle.pr_report.specs.declared.trace_reading.TheConstants.{MOST_LATER_LINES}
+pub use Rattle.pr_report.specs.declared.ahead.TheConstants.{MOST_LINE_BYTES}
+pub use Rattle.pr_script.specs.declared.limits.TheConstants.{MOST_LETTERS}

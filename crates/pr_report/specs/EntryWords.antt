@@ -19,15 +19,15 @@ use Rattle.pr_report.specs.Chain.{◌>>=◌}
 -- ---- bytes
 
 -- what a hexadecimal digit is worth, in either case of its letters
-abbrev pub worth : ℕ → Option ℕ
-worth b =
+abbrev pub digit_value : ℕ → Option ℕ
+digit_value b =
     if is_digit b then Some (b - 48) else (
     if nat_le 97 b && nat_le b 102 then Some (b - 87) else (
     if nat_le 65 b && nat_le b 70 then Some (b - 55) else None))
 
 -- the byte that two digits write
 abbrev pub byte_in : ℕ → ℕ → Option ℕ
-byte_in high low = worth high >>= λ h. worth low >>= λ l. Some (16 * h + l)
+byte_in high low = digit_value high >>= λ h. digit_value low >>= λ l. Some (16 * h + l)
 
 -- the bytes that pairs of digits write
 abbrev pub pairs_in : List ℕ → Option (List ℕ)

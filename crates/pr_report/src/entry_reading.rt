@@ -5,7 +5,7 @@ ghost use Rattle.pr_cdb.specs.declared.codes.TheConstants.{MOST_NEXUSES};
 ghost use Rattle.pr_report.specs.TraceText.{names_of};
 ghost use Rattle.std.specs.Fmt.{decimal};
 ghost use Rattle.pr_report.specs.declared.versions.TheConstants.{MOST_ITEMS_2};
-ghost use Rattle.pr_report.specs.EntryWords.{byte_in, bytes_in, sense_of, sense_under, no_sense_in, worth};
+ghost use Rattle.pr_report.specs.EntryWords.{byte_in, bytes_in, sense_of, sense_under, no_sense_in, digit_value};
 ghost use Rattle.pr_script.specs.Names.{is_name};
 ghost use Rattle.pr_report.specs.TraceReadings.{item_on, is_reset_on, number_of, words, sent_on};
 ghost use Rattle.pr_report.specs.inside.SevenWords.{answer_in, AreSeven, TakesFirst, TellsBytes};
@@ -239,12 +239,12 @@ fn is_dash(word: &[u8]) -> bool
 fn byte_in(high: u8, low: u8) -> Option<u8>
     ensures { result ≡ byte_in high low }
 {
-    Some(16 * worth(high)? + worth(low)?)
+    Some(16 * digit_value(high)? + digit_value(low)?)
 }
 
 // What a hexadecimal digit is worth, in either case of its letters.
-fn worth(digit: u8) -> Option<u8>
-    ensures value { result ≡ worth digit }
+fn digit_value(digit: u8) -> Option<u8>
+    ensures value { result ≡ digit_value digit }
     ensures below { IfSome result (λ n. n < 16) }
 {
     match digit {

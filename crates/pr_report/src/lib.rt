@@ -23,7 +23,7 @@ pub use entry_reading::number_of;
 pub use laws::{replays_are_traced, written_traces_are_read};
 pub use outline::write_outlines;
 pub use output::{WriteFault, put};
-pub use printing::{Word, put_line, put_spaced};
+pub use printing::{Token, put_line, put_spaced};
 pub use trace::{held_word, write_trace, write_trace_body};
 pub use trace_error::TraceError;
 pub use trace_reading::read_trace;

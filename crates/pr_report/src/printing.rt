@@ -13,9 +13,9 @@ use pr_cdb::{Kind, Sense};
 use pr_domain::Class;
 use std::io::Write;
 
-/// What a word of a line can be.
+/// A token of a line: what one of its words can be.
 #[derive(Clone, Copy)]
-pub enum Word<'a> {
+pub enum Token<'a> {
     /// This very text.
     Text(&'a [u8]),
 
@@ -56,8 +56,8 @@ pub enum Word<'a> {
 /// Writes a line: its words with one space between them, and a line feed.
 pub fn put_line<W: Write>(
     writer: &mut W,
-    first: Word<'_>,
-    others: &[Word<'_>],
+    first: Token<'_>,
+    others: &[Token<'_>],
 ) -> Result<(), WriteFault>
     ensures { Writes W.Write writer (printed_line first.entry others.now) result }
 {
@@ -67,7 +67,7 @@ pub fn put_line<W: Write>(
 }
 
 /// Writes each word after a space.
-pub fn put_spaced<W: Write>(writer: &mut W, words: &[Word<'_>]) -> Result<(), WriteFault>
+pub fn put_spaced<W: Write>(writer: &mut W, words: &[Token<'_>]) -> Result<(), WriteFault>
     ensures { Writes W.Write writer (joined_by_spaces (printed_words words.now)) result }
 {
     for word in words {
@@ -76,7 +76,7 @@ pub fn put_spaced<W: Write>(writer: &mut W, words: &[Word<'_>]) -> Result<(), Wr
     Ok(())
 }
 
-pub(crate) fn put_after_space<W: Write>(writer: &mut W, word: Word<'_>) -> Result<(), WriteFault>
+pub(crate) fn put_after_space<W: Write>(writer: &mut W, word: Token<'_>) -> Result<(), WriteFault>
     ensures { Writes W.Write writer (codes " " ++ printed_word word.entry) result }
 {
     put(writer, b" ")?;
@@ -84,22 +84,22 @@ pub(crate) fn put_after_space<W: Write>(writer: &mut W, word: Word<'_>) -> Resul
 }
 
 #[tactic(auto, unfolding(crate::specs::Printed::printed_word))]
-pub(crate) fn put_word<W: Write>(writer: &mut W, word: Word<'_>) -> Result<(), WriteFault>
+pub(crate) fn put_word<W: Write>(writer: &mut W, word: Token<'_>) -> Result<(), WriteFault>
     ensures { Writes W.Write writer (printed_word word.entry) result }
 {
     match word {
-        Word::Text(text) => put(writer, text),
-        Word::Number(number) => put_number(writer, number),
-        Word::Bytes(bytes) => put_pairs_or_dash(writer, bytes),
-        Word::Key(key) => put_digits(writer, key),
-        Word::Generation(generation) => put_pairs(writer, &generation.to_be_bytes()),
-        Word::Holder(kind, name) => put_holder(writer, kind, name),
-        Word::Registration(name, key) => put_registration(writer, name, key),
-        Word::ReservationKey(key) => put_reservation_key(writer, key),
-        Word::ServiceActionKey(key) => put_service_action_key(writer, key),
-        Word::ReservationType(kind) => put_type(writer, kind),
-        Word::Class(class) => put_class(writer, class),
-        Word::Attentions(attentions) => put_attentions(writer, attentions),
+        Token::Text(text) => put(writer, text),
+        Token::Number(number) => put_number(writer, number),
+        Token::Bytes(bytes) => put_pairs_or_dash(writer, bytes),
+        Token::Key(key) => put_digits(writer, key),
+        Token::Generation(generation) => put_pairs(writer, &generation.to_be_bytes()),
+        Token::Holder(kind, name) => put_holder(writer, kind, name),
+        Token::Registration(name, key) => put_registration(writer, name, key),
+        Token::ReservationKey(key) => put_reservation_key(writer, key),
+        Token::ServiceActionKey(key) => put_service_action_key(writer, key),
+        Token::ReservationType(kind) => put_type(writer, kind),
+        Token::Class(class) => put_class(writer, class),
+        Token::Attentions(attentions) => put_attentions(writer, attentions),
     }
 }
 

@@ -16,7 +16,7 @@ ghost use Rattle.pr_report.specs.TraceText.{ending_line, ending_lines, entry_lin
 
 use crate::first_line::put_first;
 use crate::output::{Page, WriteFault, put};
-use crate::printing::{Word, put_after_space, put_line, put_spaced, put_word};
+use crate::printing::{Token, put_after_space, put_line, put_spaced, put_word};
 use crate::status::status_word;
 use arrayvec::ArrayVec;
 use pr_cdb::codes::FIXED_SENSE_LENGTH;
@@ -247,7 +247,7 @@ fn put_item<W: Write>(
 fn put_reset<W: Write>(writer: &mut W, index: u64) -> Result<(), WriteFault>
     ensures { Writes W.Write writer (reset_line index) result }
 {
-    put_line(writer, Word::Number(index), &[Word::Text(b"reset")])
+    put_line(writer, Token::Number(index), &[Token::Text(b"reset")])
 }
 
 #[tactic(auto, unfolding(crate::specs::TraceText::entry_line, crate::specs::Printed::printed_word))]
@@ -261,14 +261,14 @@ fn put_entry<W: Write>(
 {
     let sense = sense_data(entry.reply.sense);
     let words = [
-        Word::Text(name_of(nexuses, usize::from(entry.host))),
-        Word::Bytes(entry.wire.cdb.as_slice()),
-        Word::Bytes(entry.wire.params.as_slice()),
-        Word::Text(status_word(entry.reply.status)),
-        Word::Bytes(sense.as_slice()),
-        Word::Bytes(entry.reply.bytes.as_slice()),
+        Token::Text(name_of(nexuses, usize::from(entry.host))),
+        Token::Bytes(entry.wire.cdb.as_slice()),
+        Token::Bytes(entry.wire.params.as_slice()),
+        Token::Text(status_word(entry.reply.status)),
+        Token::Bytes(sense.as_slice()),
+        Token::Bytes(entry.reply.bytes.as_slice()),
     ];
-    put_line(writer, Word::Number(index), &words)
+    put_line(writer, Token::Number(index), &words)
 }
 
 // The name of a nexus, by its number.
@@ -293,11 +293,11 @@ fn sense_data(sense: Option<Sense>) -> ArrayVec<u8, FIXED_SENSE_LENGTH>
 fn put_unit<W: Write>(writer: &mut W, nexuses: &[Nexus], unit: &Registry) -> Result<(), WriteFault>
     ensures { Writes W.Write writer (unit_line (names_of nexuses.now) unit.now) result }
 {
-    put_word(writer, Word::Text(b"unit"))?;
+    put_word(writer, Token::Text(b"unit"))?;
     put_spaced(
         writer,
         &[
-            Word::Generation(unit.generation()),
+            Token::Generation(unit.generation()),
             held_word(nexuses, unit.held()),
         ],
     )?;
@@ -317,7 +317,7 @@ fn put_registrations<W: Write>(
     for (host, nexus) in nexuses.iter().enumerate() {
         put_after_space(
             writer,
-            Word::Registration(nexus.name.as_str().as_bytes(), key_of(unit, host)),
+            Token::Registration(nexus.name.as_str().as_bytes(), key_of(unit, host)),
         )?;
     }
     Ok(())
@@ -336,13 +336,13 @@ fn key_of(unit: &Registry, host: usize) -> Option<u64>
 
 /// The word for a reservation: its type and holder, as `5:a`, or its type, or `none`.
 #[tactic(auto, unfolding(crate::specs::Printed::printed_word))]
-pub fn held_word(nexuses: &[Nexus], held: Option<Held>) -> Word<'_>
+pub fn held_word(nexuses: &[Nexus], held: Option<Held>) -> Token<'_>
     ensures { printed_word result ≡ held_word (names_of nexuses.now) held }
 {
     match held {
-        None => Word::Text(b"none"),
-        Some(Held::One(kind, host)) => Word::Holder(kind, name_of(nexuses, usize::from(host))),
-        Some(Held::All(kind)) => Word::Number(u64::from(kind.code())),
+        None => Token::Text(b"none"),
+        Some(Held::One(kind, host)) => Token::Holder(kind, name_of(nexuses, usize::from(host))),
+        Some(Held::All(kind)) => Token::Number(u64::from(kind.code())),
     }
 }
 
@@ -362,19 +362,19 @@ fn put_end<W: Write>(writer: &mut W, name: &[u8], end: End, sent: u32) -> Result
 {
     match end {
         End::Stopped(word) => {
-            let word = Word::Text(word.as_str().as_bytes());
+            let word = Token::Text(word.as_str().as_bytes());
             put_ending(writer, b"host", name, b"stopped", word, sent)
         }
         End::Ready(line) => {
-            let line = Word::Number(u64::from(line));
+            let line = Token::Number(u64::from(line));
             put_ending(writer, b"host", name, b"ready", line, sent)
         }
         End::Trapped(line) => {
-            let line = Word::Number(u64::from(line));
+            let line = Token::Number(u64::from(line));
             put_ending(writer, b"host", name, b"trapped", line, sent)
         }
         End::Left(planned) => {
-            let planned = Word::Number(u64::from(planned));
+            let planned = Token::Number(u64::from(planned));
             put_ending(writer, b"guest", name, b"left", planned, sent)
         }
     }
@@ -386,7 +386,7 @@ fn put_ending<'a, W: Write>(
     role: &'a [u8],
     name: &'a [u8],
     how: &'a [u8],
-    what: Word<'a>,
+    what: Token<'a>,
     sent: u32,
 ) -> Result<(), WriteFault>
     ensures { Writes W.Write writer (line role.now
@@ -394,13 +394,13 @@ fn put_ending<'a, W: Write>(
 {
     put_line(
         writer,
-        Word::Text(role),
+        Token::Text(role),
         &[
-            Word::Text(name),
-            Word::Text(how),
+            Token::Text(name),
+            Token::Text(how),
             what,
-            Word::Text(b"sent"),
-            Word::Number(u64::from(sent)),
+            Token::Text(b"sent"),
+            Token::Number(u64::from(sent)),
         ],
     )
 }

@@ -10,7 +10,7 @@ ghost use Rattle.pr_report.specs.TraceText.{names_of, names_under};
 ghost use Rattle.pr_report.specs.Verdicts.{IsReason, IsVerdict, is_refusal, no_arm_words, over_budget_words, place_words, reason_words, verdict_text};
 
 use crate::output::WriteFault;
-use crate::printing::{Word, put_line};
+use crate::printing::{Token, put_line};
 use crate::trace::name_of;
 use pr_domain::Class;
 use pr_roles::{Nexus, Scenario};
@@ -56,7 +56,7 @@ pub fn write_verdict<W: Write>(
     ensures { Writes W.Write writer (verdict_text (names_under scenario.now) verdict.now) result }
 {
     match verdict {
-        Verdict::Accepted => put_line(writer, Word::Text(b"accepted"), &[]),
+        Verdict::Accepted => put_line(writer, Token::Text(b"accepted"), &[]),
         Verdict::Refused(refusal) => put_reason(writer, &scenario.parts().nexuses, *refusal),
         Verdict::Legal { items } => put_counted(writer, b"legal", *items),
         Verdict::Illegal { place } => put_counted(writer, b"illegal", *place),
@@ -68,7 +68,7 @@ pub fn write_verdict<W: Write>(
 fn put_counted<W: Write>(writer: &mut W, word: &[u8], number: usize) -> Result<(), WriteFault>
     ensures { Writes W.Write writer (line word.now (decimal number ∷ [])) result }
 {
-    put_line(writer, Word::Text(word), &[Word::Number(number as u64)])
+    put_line(writer, Token::Text(word), &[Token::Number(number as u64)])
 }
 
 fn put_reason<W: Write>(
@@ -118,13 +118,13 @@ fn put_no_arm<W: Write>(
     put_refused(
         writer,
         &[
-            Word::Text(b"NoArm"),
-            Word::Text(b"host"),
-            Word::Text(name),
-            Word::Text(b"line"),
-            Word::Number(u64::from(line)),
-            Word::Text(b"reply"),
-            Word::Class(class),
+            Token::Text(b"NoArm"),
+            Token::Text(b"host"),
+            Token::Text(name),
+            Token::Text(b"line"),
+            Token::Number(u64::from(line)),
+            Token::Text(b"reply"),
+            Token::Class(class),
         ],
     )
 }
@@ -141,11 +141,11 @@ fn put_place<'a, W: Write>(
     put_refused(
         writer,
         &[
-            Word::Text(reason),
-            Word::Text(b"host"),
-            Word::Text(name),
-            Word::Text(b"line"),
-            Word::Number(u64::from(line)),
+            Token::Text(reason),
+            Token::Text(b"host"),
+            Token::Text(name),
+            Token::Text(b"line"),
+            Token::Number(u64::from(line)),
         ],
     )
 }
@@ -157,19 +157,19 @@ fn put_over_budget<W: Write>(writer: &mut W, name: &[u8], cost: u64) -> Result<(
     put_refused(
         writer,
         &[
-            Word::Text(b"OverBudget"),
-            Word::Text(b"host"),
-            Word::Text(name),
-            Word::Text(b"cost"),
-            Word::Number(cost),
+            Token::Text(b"OverBudget"),
+            Token::Text(b"host"),
+            Token::Text(name),
+            Token::Text(b"cost"),
+            Token::Number(cost),
         ],
     )
 }
 
 // The line with these words after the first.
 #[tactic(auto, unfolding(crate::specs::Printed::printed_word))]
-fn put_refused<W: Write>(writer: &mut W, words: &[Word<'_>]) -> Result<(), WriteFault>
+fn put_refused<W: Write>(writer: &mut W, words: &[Token<'_>]) -> Result<(), WriteFault>
     ensures { WritesRefusal W.Write writer (printed_words words.now) result }
 {
-    put_line(writer, Word::Text(b"refused"), words)
+    put_line(writer, Token::Text(b"refused"), words)
 }

@@ -1,7 +1,7 @@
 //! Commands in words.
 
 use pr_cdb::{Command, Kind, Request, Wire, decode};
-use pr_report::{Word, WriteFault, put, put_spaced};
+use pr_report::{Token, WriteFault, put, put_spaced};
 use std::io::Write;
 
 // What the standard calls each operation code, where the bytes are none of the commands that the unit has.
@@ -33,13 +33,13 @@ pub fn put_command<W: Write>(writer: &mut W, command: &Command) -> Result<(), Wr
         }
         Command::RegisterIgnore { sark } => {
             put(writer, b"REGISTER AND IGNORE EXISTING KEY")?;
-            put_spaced(writer, &[Word::Text(b"sark"), Word::Key(sark)])
+            put_spaced(writer, &[Token::Text(b"sark"), Token::Key(sark)])
         }
         Command::Reserve { rk, kind } => put_held_by(writer, b"RESERVE", rk, kind),
         Command::Release { rk, kind } => put_held_by(writer, b"RELEASE", rk, kind),
         Command::Clear { rk } => {
             put(writer, b"CLEAR")?;
-            put_spaced(writer, &[Word::Text(b"rk"), Word::Key(rk)])
+            put_spaced(writer, &[Token::Text(b"rk"), Token::Key(rk)])
         }
         Command::Preempt { rk, sark, kind } => put_preempt(writer, b"PREEMPT", rk, sark, kind),
         Command::PreemptAbort { rk, sark, kind } => {
@@ -61,8 +61,8 @@ fn put_bytes<W: Write>(writer: &mut W, wire: &Wire) -> Result<(), WriteFault> {
     put_spaced(
         writer,
         &[
-            Word::Bytes(wire.cdb.as_slice()),
-            Word::Bytes(wire.params.as_slice()),
+            Token::Bytes(wire.cdb.as_slice()),
+            Token::Bytes(wire.params.as_slice()),
         ],
     )
 }
@@ -87,9 +87,9 @@ fn put_transfer<W: Write>(
     put_spaced(
         writer,
         &[
-            Word::Number(u64::from(blocks)),
-            Word::Text(b"blocks from"),
-            Word::Number(u64::from(lba)),
+            Token::Number(u64::from(blocks)),
+            Token::Text(b"blocks from"),
+            Token::Number(u64::from(lba)),
         ],
     )
 }
@@ -104,10 +104,10 @@ fn put_held_by<W: Write>(
     put_spaced(
         writer,
         &[
-            Word::Text(b"type"),
-            Word::Number(u64::from(kind.code())),
-            Word::Text(b"rk"),
-            Word::Key(rk),
+            Token::Text(b"type"),
+            Token::Number(u64::from(kind.code())),
+            Token::Text(b"rk"),
+            Token::Key(rk),
         ],
     )
 }
@@ -121,10 +121,10 @@ fn put_preempt<W: Write>(
 ) -> Result<(), WriteFault> {
     put(writer, name)?;
     let kind = match kind {
-        Some(kind) => Word::Number(u64::from(kind.code())),
-        None => Word::Text(b"none"),
+        Some(kind) => Token::Number(u64::from(kind.code())),
+        None => Token::Text(b"none"),
     };
-    put_spaced(writer, &[Word::Text(b"type"), kind])?;
+    put_spaced(writer, &[Token::Text(b"type"), kind])?;
     put_keys(writer, rk, sark)
 }
 
@@ -132,10 +132,10 @@ fn put_keys<W: Write>(writer: &mut W, rk: u64, sark: u64) -> Result<(), WriteFau
     put_spaced(
         writer,
         &[
-            Word::Text(b"rk"),
-            Word::Key(rk),
-            Word::Text(b"sark"),
-            Word::Key(sark),
+            Token::Text(b"rk"),
+            Token::Key(rk),
+            Token::Text(b"sark"),
+            Token::Key(sark),
         ],
     )
 }

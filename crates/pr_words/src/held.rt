@@ -2,7 +2,7 @@
 
 use crate::standing::name_of;
 use pr_registry::Held;
-use pr_report::{Word, WriteFault, put, put_spaced};
+use pr_report::{Token, WriteFault, put, put_spaced};
 use pr_roles::Nexus;
 use std::io::Write;
 
@@ -21,9 +21,9 @@ pub fn put_held<W: Write>(
     put_spaced(
         writer,
         &[
-            Word::Number(u64::from(kind.code())),
-            Word::Text(b"of"),
-            Word::Text(holder),
+            Token::Number(u64::from(kind.code())),
+            Token::Text(b"of"),
+            Token::Text(holder),
         ],
     )
 }

@@ -4,7 +4,7 @@ use crate::command::put_request;
 use crate::numbers::put_number;
 use crate::reply::put_reply;
 use crate::standing::name_of;
-use pr_report::{Word, WriteFault, put, put_spaced};
+use pr_report::{Token, WriteFault, put, put_spaced};
 use pr_roles::{Entry, Item, Nexus};
 use std::io::Write;
 
@@ -34,11 +34,11 @@ fn put_entry<W: Write>(
     entry: &Entry,
     line: Option<u32>,
 ) -> Result<(), WriteFault> {
-    put_spaced(writer, &[Word::Text(name_of(nexuses, entry.host))])?;
+    put_spaced(writer, &[Token::Text(name_of(nexuses, entry.host))])?;
     if let Some(line) = line {
         put_spaced(
             writer,
-            &[Word::Text(b"line"), Word::Number(u64::from(line))],
+            &[Token::Text(b"line"), Token::Number(u64::from(line))],
         )?;
     }
     put(writer, b" ")?;

@@ -5,7 +5,7 @@ use pr_cdb::{
     Command, Reply, Request, Sense, Status, Wire, decode, decode_sense, holder_of, keys_of,
 };
 use pr_domain::Class;
-use pr_report::{Word, WriteFault, put, put_spaced};
+use pr_report::{Token, WriteFault, put, put_spaced};
 use std::io::Write;
 
 const GOOD: &[u8] = b"GOOD";
@@ -62,7 +62,7 @@ fn put_good<W: Write>(writer: &mut W, wire: &Wire, data: &[u8]) -> Result<(), Wr
         Ok(Request::Plain(Command::RequestSense)) => put_sense_data(writer, data),
         Ok(Request::Plain(Command::ReadKeys { .. })) => put_keys_data(writer, data),
         Ok(Request::Plain(Command::ReadReservation { .. })) => put_reservation_data(writer, data),
-        Ok(_) | Err(_) => put_spaced(writer, &[Word::Bytes(data)]),
+        Ok(_) | Err(_) => put_spaced(writer, &[Token::Bytes(data)]),
     }
 }
 
@@ -72,7 +72,7 @@ fn put_sense_data<W: Write>(writer: &mut W, data: &[u8]) -> Result<(), WriteFaul
             put(writer, b" ")?;
             put_sense(writer, sense)
         }
-        None => put_spaced(writer, &[Word::Bytes(data)]),
+        None => put_spaced(writer, &[Token::Bytes(data)]),
     }
 }
 
@@ -84,7 +84,7 @@ fn put_keys_data<W: Write>(writer: &mut W, data: &[u8]) -> Result<(), WriteFault
         return put(writer, b" none");
     }
     for key in &keys {
-        put_spaced(writer, &[Word::Key(*key)])?;
+        put_spaced(writer, &[Token::Key(*key)])?;
     }
     Ok(())
 }
@@ -94,7 +94,7 @@ fn put_reservation_data<W: Write>(writer: &mut W, data: &[u8]) -> Result<(), Wri
     match holder_of(data) {
         Some(None) => put(writer, b" nothing reserved"),
         Some(Some((key, kind))) => put_holder(writer, key, kind % 16),
-        None => put_spaced(writer, &[Word::Bytes(data)]),
+        None => put_spaced(writer, &[Token::Bytes(data)]),
     }
 }
 
@@ -107,8 +107,8 @@ fn put_generation<W: Write>(writer: &mut W, data: &[u8]) -> Result<(), WriteFaul
     put_spaced(
         writer,
         &[
-            Word::Text(b"generation"),
-            Word::Number(u64::from(generation)),
+            Token::Text(b"generation"),
+            Token::Number(u64::from(generation)),
         ],
     )?;
     put(writer, b",")
@@ -116,11 +116,11 @@ fn put_generation<W: Write>(writer: &mut W, data: &[u8]) -> Result<(), WriteFaul
 
 // Where all registrants hold, the key is 0.
 fn put_holder<W: Write>(writer: &mut W, key: u64, kind: u8) -> Result<(), WriteFault> {
-    let kind = Word::Number(u64::from(kind));
-    put_spaced(writer, &[Word::Text(b"type"), kind, Word::Text(b"of")])?;
+    let kind = Token::Number(u64::from(kind));
+    put_spaced(writer, &[Token::Text(b"type"), kind, Token::Text(b"of")])?;
     if key == 0 {
         put(writer, b" all registrants")
     } else {
-        put_spaced(writer, &[Word::Key(key)])
+        put_spaced(writer, &[Token::Key(key)])
     }
 }

@@ -2,7 +2,7 @@
 
 use crate::held::put_held;
 use pr_registry::Registry;
-use pr_report::{Word, WriteFault, put, put_line, put_spaced};
+use pr_report::{Token, WriteFault, put, put_line, put_spaced};
 use pr_roles::Nexus;
 use pr_world::End;
 use std::io::Write;
@@ -22,7 +22,7 @@ pub fn put_unit<W: Write>(
     unit: &Registry,
 ) -> Result<(), WriteFault> {
     put(writer, b"unit generation")?;
-    put_spaced(writer, &[Word::Number(u64::from(unit.generation()))])?;
+    put_spaced(writer, &[Token::Number(u64::from(unit.generation()))])?;
     put(writer, b", ")?;
     put_held(writer, nexuses, unit.held())?;
     for host in 0..unit.hosts() {
@@ -40,9 +40,9 @@ fn put_registration<W: Write>(
     match key {
         Some(key) => put_spaced(
             writer,
-            &[Word::Text(name), Word::Text(b"has"), Word::Key(key)],
+            &[Token::Text(name), Token::Text(b"has"), Token::Key(key)],
         ),
-        None => put_spaced(writer, &[Word::Text(name), Word::Text(b"not registered")]),
+        None => put_spaced(writer, &[Token::Text(name), Token::Text(b"not registered")]),
     }
 }
 
@@ -55,24 +55,24 @@ pub fn put_end<W: Write>(
 ) -> Result<(), WriteFault> {
     match end {
         End::Stopped(word) => {
-            let word = Word::Text(word.as_str().as_bytes());
+            let word = Token::Text(word.as_str().as_bytes());
             put_host(writer, name, b"stopped with the word", word, sent)
         }
         End::Ready(line) => {
-            let line = Word::Number(u64::from(line));
+            let line = Token::Number(u64::from(line));
             put_host(writer, name, b"is ready at line", line, sent)
         }
         End::Trapped(line) => {
-            let line = Word::Number(u64::from(line));
+            let line = Token::Number(u64::from(line));
             put_host(writer, name, b"is trapped at line", line, sent)
         }
         End::Left(_) => put_line(
             writer,
-            Word::Text(b"guest"),
+            Token::Text(b"guest"),
             &[
-                Word::Text(name),
-                Word::Text(b"sent"),
-                Word::Number(u64::from(sent)),
+                Token::Text(name),
+                Token::Text(b"sent"),
+                Token::Number(u64::from(sent)),
             ],
         ),
     }
@@ -82,18 +82,18 @@ fn put_host<'a, W: Write>(
     writer: &mut W,
     name: &'a [u8],
     how: &'a [u8],
-    what: Word<'a>,
+    what: Token<'a>,
     sent: u32,
 ) -> Result<(), WriteFault> {
     put_line(
         writer,
-        Word::Text(b"host"),
+        Token::Text(b"host"),
         &[
-            Word::Text(name),
-            Word::Text(how),
+            Token::Text(name),
+            Token::Text(how),
             what,
-            Word::Text(b"and sent"),
-            Word::Number(u64::from(sent)),
+            Token::Text(b"and sent"),
+            Token::Number(u64::from(sent)),
         ],
     )
 }

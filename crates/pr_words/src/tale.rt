@@ -7,7 +7,7 @@ use crate::reply::put_reply;
 use crate::standing::{name_of, put_end, put_unit};
 use crate::telling::{Instead, Note, Telling};
 use pr_cdb::Status;
-use pr_report::{Word, WriteFault, put, put_line, put_spaced};
+use pr_report::{Token, WriteFault, put, put_line, put_spaced};
 use pr_roles::{Entry, Item, Nexus, Scenario};
 use pr_world::End;
 use std::io::Write;
@@ -46,10 +46,10 @@ fn put_items<W: Write>(
 fn put_out_of_role<W: Write>(writer: &mut W, name: &[u8]) -> Result<(), WriteFault> {
     put_line(
         writer,
-        Word::Text(b"  which the role of"),
+        Token::Text(b"  which the role of"),
         &[
-            Word::Text(name),
-            Word::Text(b"does not permit to end GOOD there"),
+            Token::Text(name),
+            Token::Text(b"does not permit to end GOOD there"),
         ],
     )
 }
@@ -62,8 +62,8 @@ fn put_verdict<W: Write>(
     telling: &Telling,
 ) -> Result<(), WriteFault> {
     let Some(place) = telling.illegal else {
-        let items = Word::Number(history.len() as u64);
-        return put_line(writer, Word::Text(b"legal"), &[items]);
+        let items = Token::Number(history.len() as u64);
+        return put_line(writer, Token::Text(b"legal"), &[items]);
     };
     let item = history.get(place.saturating_sub(1));
     if let Some(item) = item {
@@ -103,8 +103,11 @@ fn put_instead_of<W: Write>(
         }
         Instead::Sending { line, command } => {
             put(writer, b"the script of")?;
-            let line = Word::Number(u64::from(*line));
-            put_spaced(writer, &[Word::Text(name), Word::Text(b"is at line"), line])?;
+            let line = Token::Number(u64::from(*line));
+            put_spaced(
+                writer,
+                &[Token::Text(name), Token::Text(b"is at line"), line],
+            )?;
             put(writer, b", and would have sent ")?;
             put_command(writer, command)
         }
@@ -112,7 +115,7 @@ fn put_instead_of<W: Write>(
         Instead::NotModelled => put(writer, b"the model has no such command"),
         Instead::NotPermitted => {
             put(writer, b"the role of")?;
-            put_spaced(writer, &[Word::Text(name)])?;
+            put_spaced(writer, &[Token::Text(name)])?;
             put(writer, b" does not permit that this ends GOOD there")
         }
         Instead::Refusals(most) => put_refusals(writer, name, entry.reply.status, *most),
@@ -122,15 +125,15 @@ fn put_instead_of<W: Write>(
 
 fn put_nothing<W: Write>(writer: &mut W, name: &[u8], end: End) -> Result<(), WriteFault> {
     put(writer, b"the script of")?;
-    put_spaced(writer, &[Word::Text(name)])?;
+    put_spaced(writer, &[Token::Text(name)])?;
     match end {
         End::Stopped(word) => {
             put(writer, b" has stopped with the word")?;
-            put_spaced(writer, &[Word::Text(word.as_str().as_bytes())])?;
+            put_spaced(writer, &[Token::Text(word.as_str().as_bytes())])?;
         }
         End::Ready(line) | End::Trapped(line) => {
             put(writer, b" has no arm for the reply at line")?;
-            put_spaced(writer, &[Word::Number(u64::from(line))])?;
+            put_spaced(writer, &[Token::Number(u64::from(line))])?;
         }
         End::Left(_) => {}
     }
@@ -150,10 +153,10 @@ fn put_refusals<W: Write>(
     };
     if most == 0 {
         put(writer, b"the scenario has no line")?;
-        return put_spaced(writer, &[Word::Text(word), Word::Text(name)]);
+        return put_spaced(writer, &[Token::Text(word), Token::Text(name)]);
     }
     put(writer, b"the scenario declares")?;
-    put_spaced(writer, &[Word::Text(word), Word::Text(name)])?;
+    put_spaced(writer, &[Token::Text(word), Token::Text(name)])?;
     put_most(writer, most)
 }
 
@@ -174,7 +177,7 @@ fn put_resets<W: Write>(writer: &mut W, instead: &Instead) -> Result<(), WriteFa
 }
 
 fn put_most<W: Write>(writer: &mut W, most: u32) -> Result<(), WriteFault> {
-    put_spaced(writer, &[Word::Number(u64::from(most))])?;
+    put_spaced(writer, &[Token::Number(u64::from(most))])?;
     put(writer, b", and no more")
 }
 

@@ -33,5 +33,5 @@ pub loses_of_trace : {s m n : ℕ} {a b : Option (List ℕ)} (v w : ℕ) → v �
     → LosesUpTo (most_of_trace w) a b
 loses_of_trace {s} {m} {n} {a} {b} v w same taken few held = subst (λ x. LosesUpTo (most_of_trace x) a b) same (loses_up_to (most_of_trace v) taken (omega (arith, few, held)))
 
-pub held_few : (a : Ahead) → length (bytes_held a) ≤ 8192
+pub held_few : (a : Ahead) → length (bytes_held a) ≤ MOST_HELD
 held_few a = omega (arith, length-drop a.start a.bytes.items, a.few)

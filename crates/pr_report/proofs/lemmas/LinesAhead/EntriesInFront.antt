@@ -1,5 +1,5 @@
 -- What is read of the line in front, of which the end may not be at hand.
-use Rattle.pr_report.proofs.Common.{◌≡◌, ℕ, ◌+◌, ◌-◌, ◌<◌, ◌≤◌, Bool, true, false, ◌&&◌, List, [], ◌∷◌, ◌++◌, length, take, drop, IfSome, if◌then◌else◌, nat_lt, nat_le, ◌==◌, Some, None, Ok, Err, codes, decimal, Option, Result, bytes_eq, sym, refl, ap, ◌∙◌, subst, inl, inr, append_assoc, append-nil, arith, length-append, length-take, prepend_known, Keeps, cases_lt, nat_tests, bytes_eq-Decides, Item, and_then, later_lines, items_of, trace_in, lines, item_on, is_later, first_line, most_items, Leads}
+use Rattle.pr_report.proofs.Common.{◌≡◌, ℕ, ◌+◌, ◌-◌, ◌<◌, ◌≤◌, Bool, true, false, ◌&&◌, List, [], ◌∷◌, ◌++◌, length, take, drop, IfSome, if◌then◌else◌, nat_lt, nat_le, ◌==◌, Some, None, Ok, Err, codes, decimal, Option, Result, bytes_eq, sym, refl, ap, ◌∙◌, subst, inl, inr, append_assoc, append-nil, arith, length-append, length-take, prepend_known, Keeps, cases_lt, nat_tests, bytes_eq-Decides, Item, and_then, later_lines, items_of, trace_in, lines, item_on, is_later, first_line, most_items, Leads, MOST_LATER_LINES, MOST_LINE_BYTES}
 use Rattle.std.proofs.lemmas.List.{take-take}
 use Rattle.pr_report.specs.declared.trace_error.TraceError.{TraceError}
 use Rattle.pr_report.specs.declared.trace_error.TraceError.TheVariants.{Syntax, TooLong, ReadFault, Memory}
@@ -28,20 +28,20 @@ faults_memory e (Some text) f h = rw h tt
 
 -- what is read of a line depends on its front alone, where it is longer than a line may be
 abbrev pub ByFront : {X : Type 0} → (List ℕ → X) → Type 0
-ByFront P = (l m : List ℕ) → 1024 < length l → 1024 < length m → take 5 l ≡ take 5 m → P l ≡ P m
+ByFront P = (l m : List ℕ) → MOST_LINE_BYTES < length l → MOST_LINE_BYTES < length m → take 5 l ≡ take 5 m → P l ≡ P m
 
 module _ (held more : List ℕ) (n : ℕ) (front : IsFront held more n) (within : n ≤ length held) where
-  five : 1024 < n → take 5 front.line ≡ take 5 (take n held)
+  five : MOST_LINE_BYTES < n → take 5 front.line ≡ take 5 (take n held)
   five h = sym (take-take 5 n front.line (omega arith)) ∙ ap (take 5) (sym front.shown)
 
-  long_line : 1024 < n → 1024 < length front.line
+  long_line : MOST_LINE_BYTES < n → MOST_LINE_BYTES < length front.line
   long_line h = omega (arith, ap length front.shown, length-take n held, length-take n front.line)
 
-  long_shown : 1024 < n → 1024 < length (take n held)
+  long_shown : MOST_LINE_BYTES < n → MOST_LINE_BYTES < length (take n held)
   long_shown h = omega (arith, length-take n held)
 
   pub by_front : {X : Type 0} (P : List ℕ → X) → ByFront P → P front.line ≡ P (take n held)
-  by_front P same = elim (cases_lt 1024 n) [
+  by_front P same = elim (cases_lt MOST_LINE_BYTES n) [
     | inl h ↦ same front.line (take n held) (long_line h) (long_shown h) (five h)
     | inr h ↦ ap P (front.whole h).0
   ]
@@ -49,16 +49,16 @@ module _ (held more : List ℕ) (n : ℕ) (front : IsFront held more n) (within 
 many : (m n : ℕ) → m < n → nat_lt m n ≡ true
 many m n h = grind (arith, nat_tests)
 
-at_most : (n : ℕ) → n ≡ 64 → nat_le 64 n ≡ true
+at_most : (n : ℕ) → n ≡ MOST_LATER_LINES → nat_le MOST_LATER_LINES n ≡ true
 at_most n h = grind (arith, nat_tests)
 
 nat_le_false : (m n : ℕ) → n < m → nat_le m n ≡ false
 nat_le_false m n h = grind (arith, nat_tests)
 
-below : (n : ℕ) → n ≤ 64 → (n ≡ 64 → ⊥) → nat_le 64 n ≡ false
-below n h k = nat_le_false 64 n (omega arith)
+below : (n : ℕ) → n ≤ MOST_LATER_LINES → (n ≡ MOST_LATER_LINES → ⊥) → nat_le MOST_LATER_LINES n ≡ false
+below n h k = nat_le_false MOST_LATER_LINES n (omega arith)
 
-too_long : (n : ℕ) → 1024 < n → nat_le n 1024 ≡ false
+too_long : (n : ℕ) → MOST_LINE_BYTES < n → nat_le n MOST_LINE_BYTES ≡ false
 too_long n h = grind (arith, nat_tests)
 
 and_false : (b : Bool) → (b && false) ≡ false
@@ -168,7 +168,7 @@ module _ (version : ℕ) (names : List (List ℕ)) {start : Option (List ℕ)} {
       (leads_same start) found
 
   module _ (h : bytes_eq (take n held) (first_line version) ≡ true) where
-    pub first_few : n ≤ 1024
+    pub first_few : n ≤ MOST_LINE_BYTES
     first_few =
         let few = first_short version in
         let same = (bytes_eq-Decides (take n held) (first_line version)).0 h in
@@ -191,7 +191,7 @@ module _ (version : ℕ) (names : List (List ℕ)) {start : Option (List ℕ)} {
 
 entry_by_front : (version : ℕ) (names : List (List ℕ)) (index : ℕ) → ByFront (item_on version names index)
 unfolding item_on
-entry_by_front version names index l m h k same = rw (many 1024 (length l) h, many 1024 (length m) k) refl
+entry_by_front version names index l m h k same = rw (many MOST_LINE_BYTES (length l) h, many MOST_LINE_BYTES (length m) k) refl
 
 -- what is said of the entries that are left, behind these
 abbrev pub EntriesLeft : ℕ → List (List ℕ) → List Item → List ℕ → List ℕ → Type 0
@@ -219,16 +219,16 @@ module _ (version : ℕ) (names : List (List ℕ)) (others : ℕ) (l : List ℕ)
   entries_good : (e : Item) → is_later l ≡ false → item_on version names (others + 1) l ≡ Ok e → items_of version names others (l ∷ ls) ≡ and_then (items_of version names (others + 1) ls) (λ es. Ok (e ∷ es))
   entries_good e h k = rw (h, k) refl
 
-no_entry : (version : ℕ) (names : List (List ℕ)) (index : ℕ) (l : List ℕ) (e : Item) → 1024 < length l → item_on version names index l ≡ Ok e → ⊥
+no_entry : (version : ℕ) (names : List (List ℕ)) (index : ℕ) (l : List ℕ) (e : Item) → MOST_LINE_BYTES < length l → item_on version names index l ≡ Ok e → ⊥
 unfolding item_on
 no_entry version names index l e h k = elim (nat_lt (most_items version) index) as (λ b. nat_lt (most_items version) index ≡ b → ⊥) [
   | true ↦ λ over. let bad : Err TooLong ≡ Ok e = sym (rw over refl) ∙ k in cc
-  | false ↦ λ within. let bad : Err (Syntax (index + 1)) ≡ Ok e = sym (rw (within, many 1024 (length l) h) refl) ∙ k in cc
+  | false ↦ λ within. let bad : Err (Syntax (index + 1)) ≡ Ok e = sym (rw (within, many MOST_LINE_BYTES (length l) h) refl) ∙ k in cc
 ] refl
 
 -- an entry's line is not too long
-pub entry_short : (version : ℕ) (names : List (List ℕ)) (index : ℕ) (l : List ℕ) (e : Item) → item_on version names index l ≡ Ok e → length l ≤ 1024
-entry_short version names index l e k = elim (cases_lt 1024 (length l)) [
+pub entry_short : (version : ℕ) (names : List (List ℕ)) (index : ℕ) (l : List ℕ) (e : Item) → item_on version names index l ≡ Ok e → length l ≤ MOST_LINE_BYTES
+entry_short version names index l e k = elim (cases_lt MOST_LINE_BYTES (length l)) [
   | inl h ↦ absurd (no_entry version names index l e h k)
   | inr h ↦ h
 ]
@@ -266,7 +266,7 @@ module _ (version : ℕ) (names : List (List ℕ)) (es : List Item) {start mid :
         behind found
 
     module _ (e : Item) (h : is_later (take n held) ≡ false) (k : item_on version names (length es + 1) (take n held) ≡ Ok e) where
-      short : n ≤ 1024
+      short : n ≤ MOST_LINE_BYTES
       short = omega (arith, entry_short version names (length es + 1) (take n held) e k, length-take n held, found.within)
 
       one_more : (more : List ℕ) (f : IsFront held more n) → onto es (items_of version names (length es) (lines (held ++ more))) ≡ onto (es ++ e ∷ []) (items_of version names (length (es ++ e ∷ [])) (lines (drop (n + 1) held ++ more)))

@@ -1,5 +1,5 @@
 -- The line in front of what is left, of which only some is at hand.
-use Rattle.pr_report.proofs.Common.{◌≡◌, ℕ, suc, ◌+◌, ◌<◌, ◌≤◌, Bool, true, false, List, [], ◌∷◌, ◌++◌, length, get_or, take, drop, IfSome, if◌then◌else◌, nat_lt, ◌==◌, Some, None, All, Option, position, sym, refl, ap, ◌∙◌, subst, append_assoc, append-nil, arith, length-append, length-take, ne_eqb, prepend_known, Keeps, slice_split, nat_tests, length-slice_split, lines}
+use Rattle.pr_report.proofs.Common.{◌≡◌, ℕ, suc, ◌+◌, ◌<◌, ◌≤◌, Bool, true, false, List, [], ◌∷◌, ◌++◌, length, get_or, take, drop, IfSome, if◌then◌else◌, nat_lt, ◌==◌, Some, None, All, Option, position, sym, refl, ap, ◌∙◌, subst, append_assoc, append-nil, arith, length-append, length-take, ne_eqb, prepend_known, Keeps, slice_split, nat_tests, length-slice_split, lines, MOST_LINE_BYTES}
 use Rattle.std.proofs.Common.{get_or-take, take-append-drop}
 use Rattle.std.specs.Option.{option_or}
 use Rattle.std.specs.List.{onto_first}
@@ -110,7 +110,7 @@ front_found held more n found = record {
   whole = λ short. (refl, refl);
 }
 
-front_long : (held more : List ℕ) → position is_end held ≡ None → 1024 < length held → IsFront held more (length held)
+front_long : (held more : List ℕ) → position is_end held ≡ None → MOST_LINE_BYTES < length held → IsFront held more (length held)
 front_long held more missing h =
     let l = longer held more missing (omega arith) in
     record {
@@ -121,10 +121,10 @@ front_long held more missing h =
       whole = λ short. absurd (omega arith);
     }
 
-grown : (m n : ℕ) → (if nat_lt 1024 m then Some m else None) ≡ Some n → (m ≡ n) × (1024 < m)
+grown : (m n : ℕ) → (if nat_lt MOST_LINE_BYTES m then Some m else None) ≡ Some n → (m ≡ n) × (MOST_LINE_BYTES < m)
 grown m n e = grind (arith, nat_tests)
 
-end_by : (held more : List ℕ) (n : ℕ) (o : Option ℕ) → position is_end held ≡ o → option_or o (if nat_lt 1024 (length held) then Some (length held) else None) ≡ Some n → IsFront held more n
+end_by : (held more : List ℕ) (n : ℕ) (o : Option ℕ) → position is_end held ≡ o → option_or o (if nat_lt MOST_LINE_BYTES (length held) then Some (length held) else None) ≡ Some n → IsFront held more n
 end_by held more n (Some i) found e = let same : i ≡ n = cc in subst (λ k. IsFront held more k) same (front_found held more i found)
 end_by held more n None missing e =
     let at = grown (length held) n e in
@@ -134,7 +134,7 @@ front_at_hand : (held : List ℕ) (known : Option (List ℕ)) (n : ℕ) → line
 front_at_hand held None n e = tt
 front_at_hand held (Some more) n e = end_by held more n (position is_end held) refl e
 
-no_end_at_hand : (held : List ℕ) (o : Option ℕ) → position is_end held ≡ o → option_or o (if nat_lt 1024 (length held) then Some (length held) else None) ≡ None → position is_end held ≡ None
+no_end_at_hand : (held : List ℕ) (o : Option ℕ) → position is_end held ≡ o → option_or o (if nat_lt MOST_LINE_BYTES (length held) then Some (length held) else None) ≡ None → position is_end held ≡ None
 no_end_at_hand held (Some i) found e = cc
 no_end_at_hand held None missing e = missing
 
@@ -161,7 +161,7 @@ front_at_end old held (Some more) e same end h =
     let missing : position is_end held ≡ None = ap (position is_end) same ∙ no_end_at_hand old (position is_end old) refl e in
     subst (λ m. IsFront held m (length held)) (sym end) (front_last held missing h)
 
-within : (held : List ℕ) (n : ℕ) (o : Option ℕ) → position is_end held ≡ o → option_or o (if nat_lt 1024 (length held) then Some (length held) else None) ≡ Some n → n ≤ length held
+within : (held : List ℕ) (n : ℕ) (o : Option ℕ) → position is_end held ≡ o → option_or o (if nat_lt MOST_LINE_BYTES (length held) then Some (length held) else None) ≡ Some n → n ≤ length held
 within held n (Some i) found e =
     let same : i ≡ n = cc in
     let at = (position-Some is_end held i 0 found).0 in omega arith

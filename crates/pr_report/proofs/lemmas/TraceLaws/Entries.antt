@@ -1,5 +1,5 @@
 -- Items that were written are read back.
-use Rattle.pr_report.proofs.Common.{◌≡◌, ℕ, zero, suc, ◌+◌, ◌/◌, ◌%◌, ◌<◌, ◌≤◌, Bool, true, false, cond, ◌&&◌, List, [], ◌∷◌, ◌++◌, length, nat_lt, Some, Ok, codes, decimal, bytes_eq, sym, refl, ap, ◌∙◌, append_assoc, arith, length-append, ne_eqb, digit_glyph, digits_onto, digits, nat_tests, bytes_eq-Decides, Item, pairs_or_dash, joined_by_spaces, and_then, items_of, lines, words, item_on, is_later, name_of, item_lines, most_items}
+use Rattle.pr_report.proofs.Common.{◌≡◌, ℕ, zero, suc, ◌+◌, ◌/◌, ◌%◌, ◌<◌, ◌≤◌, Bool, true, false, cond, ◌&&◌, List, [], ◌∷◌, ◌++◌, length, nat_lt, Some, Ok, codes, decimal, bytes_eq, sym, refl, ap, ◌∙◌, append_assoc, arith, length-append, ne_eqb, digit_glyph, digits_onto, digits, nat_tests, bytes_eq-Decides, Item, pairs_or_dash, joined_by_spaces, and_then, items_of, lines, words, item_on, is_later, name_of, item_lines, most_items, MOST_CDB_LENGTH, MOST_LETTERS, MOST_LINE_BYTES, PARAMETER_LIST_LENGTH}
 use Rattle.std.proofs.Common.{eqb, add-zero}
 use Rattle.pr_cdb.specs.declared.codes.TheConstants.{MOST_DATA_LENGTH}
 use Rattle.pr_cdb.specs.declared.reply.Reply.{Reply}
@@ -27,9 +27,9 @@ data_bounded version n h = omega (arith, h, most_fits version)
 
 -- ---- the words of an entry
 
-wire_back : (w : Wire) → AreBytes w.cdb.items → AreBytes w.params.items → 0 < length w.cdb.items → length w.cdb.items ≤ 16 → length w.params.items ≤ 24
+wire_back : (w : Wire) → AreBytes w.cdb.items → AreBytes w.params.items → 0 < length w.cdb.items → length w.cdb.items ≤ MOST_CDB_LENGTH → length w.params.items ≤ PARAMETER_LIST_LENGTH
     → wire_in (pairs_or_dash w.cdb.items) (pairs_or_dash w.params.items) ≡ Some w
-wire_back w b c some h k = rw (bytes_back 16 w.cdb.items b h, bytes_back 24 w.params.items c k, ne_eqb (length w.cdb.items) 0 (λ e. omega arith)) refl
+wire_back w b c some h k = rw (bytes_back MOST_CDB_LENGTH w.cdb.items b h, bytes_back PARAMETER_LIST_LENGTH w.params.items c k, ne_eqb (length w.cdb.items) 0 (λ e. omega arith)) refl
 
 reply_back : (version : ℕ) (r : Reply) → has_status version r.status ≡ true → HasSense r.status r.sense → AreBytes r.bytes.items → length r.bytes.items ≤ most_data version
     → reply_in version (status_word r.status) (pairs_or_dash (sense_data r.sense)) (pairs_or_dash r.bytes.items) ≡ Some r
@@ -68,9 +68,9 @@ reset_words index = ap words (sym (reset_bare index)) ∙ words_back (decimal in
 reset_back : (version : ℕ) (names : List (List ℕ)) (index : ℕ) → has_resets version ≡ true → index ≤ most_items version → item_on version names index (bare (decimal index) (codes "reset" ∷ [])) ≡ Ok Reset
 unfolding item_on is_reset_on
 reset_back version names index has h =
-    let short : length (decimal index ++ codes " reset") ≤ 1024 = omega (arith, length-append (decimal index) (codes " reset"), (digits_word 10 index).short) in
+    let short : length (decimal index ++ codes " reset") ≤ MOST_LINE_BYTES = omega (arith, length-append (decimal index) (codes " reset"), (digits_word 10 index).short) in
     ap (item_on version names index) (reset_bare index)
-    ∙ rw (no_more (most_items version) index h, no_more 1024 (length (decimal index ++ codes " reset")) short, has, same_bytes (decimal index ++ codes " reset")) refl
+    ∙ rw (no_more (most_items version) index h, no_more MOST_LINE_BYTES (length (decimal index ++ codes " reset")) short, has, same_bytes (decimal index ++ codes " reset")) refl
 
 none_of : (a b : Bool) → (b ≡ true → ⊥) → (a && b) ≡ false
 none_of true true none = absurd (none refl)
@@ -84,10 +84,10 @@ status_solid _ = record { solid = (omega arith, (omega arith, tt)); short = omeg
 
 module _ (version : ℕ) (names : List (List ℕ)) (e : Entry) (are : AreNames names) (is : IsEntry version (length names) e) where
   cdb_word : IsWord 32 (pairs_or_dash e.wire.cdb.items)
-  cdb_word = bytes_word 16 e.wire.cdb.items (omega arith) is.command.1
+  cdb_word = bytes_word MOST_CDB_LENGTH e.wire.cdb.items (omega arith) is.command.1
 
   params_word : IsWord 48 (pairs_or_dash e.wire.params.items)
-  params_word = bytes_word 24 e.wire.params.items (omega arith) is.lengths.0
+  params_word = bytes_word PARAMETER_LIST_LENGTH e.wire.params.items (omega arith) is.lengths.0
 
   sense_word : IsWord 36 (pairs_or_dash (sense_data e.reply.sense))
   sense_word = bytes_word 18 (sense_data e.reply.sense) (omega arith) (data_short e.reply.sense)
@@ -106,14 +106,14 @@ module _ (version : ℕ) (names : List (List ℕ)) (e : Entry) (are : AreNames n
       let status = status_word e.reply.status in
       let params = pairs_or_dash e.wire.params.items in
       let cdb = pairs_or_dash e.wire.cdb.items in
-      spaced_word 16 _ (name_of names e.host) (cdb ∷ params ∷ status ∷ sense ∷ reply ∷ []) (name_of_word names e.host are)
+      spaced_word MOST_LETTERS _ (name_of names e.host) (cdb ∷ params ∷ status ∷ sense ∷ reply ∷ []) (name_of_word names e.host are)
       (spaced_word 32 _ cdb (params ∷ status ∷ sense ∷ reply ∷ []) cdb_word
       (spaced_word 48 _ params (status ∷ sense ∷ reply ∷ []) params_word
       (spaced_word 2 _ status (sense ∷ reply ∷ []) (status_solid e.reply.status)
       (spaced_word 36 _ sense (reply ∷ []) sense_word
       (spaced_word 272 _ reply [] data_word spaced_none)))))
 
-  bare_short : (index : ℕ) → length (bare (decimal index) (others_of names e)) ≤ 1024
+  bare_short : (index : ℕ) → length (bare (decimal index) (others_of names e)) ≤ MOST_LINE_BYTES
   bare_short index = omega (arith, length-append (decimal index) (joined_by_spaces (others_of names e)), (digits_word 10 index).short, others_short)
 
   words_are : (index : ℕ) → words (bare (decimal index) (others_of names e)) ≡ decimal index ∷ others_of names e
@@ -139,7 +139,7 @@ module _ (version : ℕ) (names : List (List ℕ)) (e : Entry) (are : AreNames n
   sent_back index h =
       rw (
         no_more (most_items version) index h,
-        no_more 1024 (length (bare (decimal index) (others_of names e))) (bare_short index),
+        no_more MOST_LINE_BYTES (length (bare (decimal index) (others_of names e))) (bare_short index),
         none_of (has_resets version) (bytes_eq (bare (decimal index) (others_of names e)) (decimal index ++ codes " reset")) (no_reset index),
         entry_back index,
       ) refl

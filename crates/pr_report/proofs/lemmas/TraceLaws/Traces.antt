@@ -1,5 +1,5 @@
 -- The text of a trace is read back.
-use Rattle.pr_report.proofs.Common.{◌≡◌, ℕ, suc, ◌+◌, ◌*◌, ◌<◌, ◌≤◌, true, false, List, [], ◌∷◌, ◌++◌, length, nat_le, slice_index, Some, None, Ok, codes, decimal, All, Option, sym, refl, ap, ◌∙◌, subst, append_assoc, append-nil, arith, length-append, nat_tests, MOST_NEXUSES, Held, One, Item, joined_by_spaces, line, and_then, later_lines, items_of, trace_in, lines, is_later, names_in, name_of, item_lines, held_word, ending_lines, first_line, unit_line}
+use Rattle.pr_report.proofs.Common.{◌≡◌, ℕ, suc, ◌+◌, ◌*◌, ◌<◌, ◌≤◌, true, false, List, [], ◌∷◌, ◌++◌, length, nat_le, slice_index, Some, None, Ok, codes, decimal, All, Option, sym, refl, ap, ◌∙◌, subst, append_assoc, append-nil, arith, length-append, nat_tests, MOST_NEXUSES, Held, One, Item, joined_by_spaces, line, and_then, later_lines, items_of, trace_in, lines, is_later, names_in, name_of, item_lines, held_word, ending_lines, first_line, unit_line, MOST_LATER_LINES, MOST_LETTERS, MOST_LINE_BYTES}
 use Rattle.std.proofs.Common.{◌^◌}
 use Rattle.std.specs.Int.{w32, to_be_bytes}
 use Rattle.std.specs.List.{AllByRecursion}
@@ -45,22 +45,22 @@ spaced_short (w ∷ ws) h = omega (arith, spaced_word 81 (82 * length ws) w ws h
 -- lines that may stand behind the entries
 abbrev AreLater : List (List ℕ) → Type 0
 AreLater [] = Unit {0}
-AreLater (l ∷ ls) = ((is_later l ≡ true) × (length l ≤ 1024)) × AreLater ls
+AreLater (l ∷ ls) = ((is_later l ≡ true) × (length l ≤ MOST_LINE_BYTES)) × AreLater ls
 
-not_all : (n : ℕ) → n < 64 → nat_le 64 n ≡ false
+not_all : (n : ℕ) → n < MOST_LATER_LINES → nat_le MOST_LATER_LINES n ≡ false
 not_all n h = grind (arith, nat_tests)
 
-fits : (n : ℕ) → n ≤ 1024 → nat_le n 1024 ≡ true
+fits : (n : ℕ) → n ≤ MOST_LINE_BYTES → nat_le n MOST_LINE_BYTES ≡ true
 fits n h = grind (arith, nat_tests)
 
-later_good : (entries others : ℕ) (ls : List (List ℕ)) → AreLater ls → others + length ls ≤ 64 → later_lines entries others ls ≡ Ok tt
+later_good : (entries others : ℕ) (ls : List (List ℕ)) → AreLater ls → others + length ls ≤ MOST_LATER_LINES → later_lines entries others ls ≡ Ok tt
 later_good entries others [] h k = refl
 later_good entries others (l ∷ ls) h k =
     rw (not_all others (omega arith), h.0.0, fits (length l) h.0.1) (later_good entries (others + 1) ls h.1 (omega arith))
 
 -- a line of such words, which is cut off
 module _ (first : List ℕ) (others : List (List ℕ)) (solid : IsWord 5 first) (words : AreWords 81 others) (few : length others ≤ 10) where
-  later_short : length (bare first others) ≤ 1024
+  later_short : length (bare first others) ≤ MOST_LINE_BYTES
   later_short = omega (arith, length-append first (joined_by_spaces others), solid.short, spaced_short others words)
 
   later_cut : (rest : List ℕ) → lines (line first others ++ rest) ≡ bare first others ∷ lines rest
@@ -86,7 +86,7 @@ number_word n = wider 81 (decimal n) (digits_word 10 n) (omega arith)
 abbrev ending_words : List ℕ → List ℕ → List ℕ → ℕ → List (List ℕ)
 ending_words name how what sent = name ∷ how ∷ what ∷ codes "sent" ∷ decimal sent ∷ []
 
-ending_are_words : (name how what : List ℕ) (sent : ℕ) → IsWord 16 name → IsWord 81 how → IsWord 81 what → AreWords 81 (ending_words name how what sent)
+ending_are_words : (name how what : List ℕ) (sent : ℕ) → IsWord MOST_LETTERS name → IsWord 81 how → IsWord 81 what → AreWords 81 (ending_words name how what sent)
 ending_are_words name how what sent h k m = (wider 81 name h (omega arith), (k, (m, (known 81 (codes "sent") refl (omega arith), (number_word sent, tt)))))
 
 -- an ending's line is cut off, and may stand there
@@ -94,19 +94,19 @@ record IsCut (text rest : List ℕ) : Type 0 where
   pub bare_line : List ℕ
   pub cut : lines (text ++ rest) ≡ bare_line ∷ lines rest
   pub later : is_later bare_line ≡ true
-  pub short : length bare_line ≤ 1024
+  pub short : length bare_line ≤ MOST_LINE_BYTES
 
-module _ (kind name how what rest : List ℕ) (sent : ℕ) (k : IsWord 5 kind) (n : IsWord 16 name) (h : IsWord 81 how) (w : IsWord 81 what) where
+module _ (kind name how what rest : List ℕ) (sent : ℕ) (k : IsWord 5 kind) (n : IsWord MOST_LETTERS name) (h : IsWord 81 how) (w : IsWord 81 what) where
   kind_cut : ((others : List ℕ) → is_later (kind ++ others) ≡ true) → IsCut (line kind (ending_words name how what sent)) rest
   kind_cut later =
       let ws = ending_words name how what sent in
       let are = ending_are_words name how what sent n h w in
       record { bare_line = bare kind ws; cut = later_cut kind ws k are (omega arith) rest; later = later (joined_by_spaces ws); short = later_short kind ws k are (omega arith) }
 
-host_cut : (name how what rest : List ℕ) (sent : ℕ) → IsWord 16 name → IsWord 81 how → IsWord 81 what → IsCut (line (codes "host") (ending_words name how what sent)) rest
+host_cut : (name how what rest : List ℕ) (sent : ℕ) → IsWord MOST_LETTERS name → IsWord 81 how → IsWord 81 what → IsCut (line (codes "host") (ending_words name how what sent)) rest
 host_cut name how what rest sent n h w = kind_cut (codes "host") name how what rest sent (known 5 (codes "host") refl (omega arith)) n h w host_later
 
-ending_cut : (name rest : List ℕ) (e : Ending) (sent : ℕ) → IsWord 16 name → IsEnding e → IsCut (ending_line name e sent) rest
+ending_cut : (name rest : List ℕ) (e : Ending) (sent : ℕ) → IsWord MOST_LETTERS name → IsEnding e → IsCut (ending_line name e sent) rest
 unfolding ending_line
 ending_cut name rest (stops word) sent h k = host_cut name (codes "stopped") word rest sent h (known 81 (codes "stopped") refl (omega arith)) (wider 81 word (name_word word k) (omega arith))
 ending_cut name rest (waits place) sent h k = host_cut name (codes "ready") (decimal place) rest sent h (known 81 (codes "ready") refl (omega arith)) (number_word place)
@@ -142,7 +142,7 @@ holder_are : (names : List (List ℕ)) (held : Option Held) → AreNames names �
 holder_are names None are = known 81 (codes "none") refl (omega arith)
 holder_are names (Some (One kind host)) are =
     word_both 64 17 (decimal (code_of kind)) (codes ":" ++ name_of names host) (digits_word 10 (code_of kind))
-    (word_both 1 16 (codes ":") (name_of names host) (known 1 (codes ":") refl (omega arith)) (name_of_word names host are))
+    (word_both 1 MOST_LETTERS (codes ":") (name_of names host) (known 1 (codes ":") refl (omega arith)) (name_of_word names host are))
 holder_are names (Some (Everybody kind)) are = number_word (code_of kind)
 
 -- a key of 64 bits has at most 16 digits
@@ -158,10 +158,10 @@ short_key : (u : State) → IsWellFormed u → (h : ℕ) (o : Option ℕ) → ke
 short_key u formed h None is = tt
 short_key u formed h (Some k) is = (formed.keys h k is).1.1
 
-registration_are : (name : List ℕ) (key : Option ℕ) → IsWord 16 name → IsShortKey key → IsWord 33 (registration_word name key)
-registration_are name key h k = word_both 16 17 name (codes "=" ++ key_or_dash key) h (word_both 1 16 (codes "=") (key_or_dash key) (known 1 (codes "=") refl (omega arith)) (key_are key k))
+registration_are : (name : List ℕ) (key : Option ℕ) → IsWord MOST_LETTERS name → IsShortKey key → IsWord 33 (registration_word name key)
+registration_are name key h k = word_both MOST_LETTERS 17 name (codes "=" ++ key_or_dash key) h (word_both 1 16 (codes "=") (key_or_dash key) (known 1 (codes "=") refl (omega arith)) (key_are key k))
 
-registrations_are : (u : State) (host : ℕ) (names : List (List ℕ)) → IsWellFormed u → ((h : ℕ) → IsWord 16 (name_of names h)) → AreWords 33 (registration_words u host names)
+registrations_are : (u : State) (host : ℕ) (names : List (List ℕ)) → IsWellFormed u → ((h : ℕ) → IsWord MOST_LETTERS (name_of names h)) → AreWords 33 (registration_words u host names)
 registrations_are u host [] formed h = tt
 registrations_are u host (name ∷ names) formed h =
     (registration_are name (key_of u host) (h 0) (short_key u formed host (key_of u host) refl), registrations_are u (host + 1) names formed (λ k. h (suc k)))

@@ -8,7 +8,7 @@ use Rattle.pr_cdb.specs.ReplyData.{sense_bytes, sense_in}
 use Rattle.pr_report.specs.Versions.{has_status}
 use Rattle.pr_report.specs.TraceText.{sense_data, status_word}
 use Rattle.pr_report.specs.TraceLaws.{HasSense}
-use Rattle.pr_report.specs.EntryWords.{byte_in, bytes_in, sense_under, status_in, worth}
+use Rattle.pr_report.specs.EntryWords.{byte_in, bytes_in, sense_under, status_in, digit_value}
 use Rattle.pr_report.proofs.lemmas.EntryWords.PairBytes.{bytes_all, bytes_dash}
 
 pub same_bytes : (w : List ℕ) → bytes_eq w w ≡ true
@@ -28,24 +28,24 @@ le_true m n h = grind (arith, nat_tests)
 le_false : (m n : ℕ) → n < m → nat_le m n ≡ false
 le_false m n h = grind (arith, nat_tests)
 
-worth_low : (b d : ℕ) → b ≡ 48 + d → d < 10 → worth b ≡ Some d
-worth_low b d e h = rw (le_true 48 b (omega arith), le_true b 57 (omega arith)) (ap (λ n. Some n) (omega arith))
+digit_value_low : (b d : ℕ) → b ≡ 48 + d → d < 10 → digit_value b ≡ Some d
+digit_value_low b d e h = rw (le_true 48 b (omega arith), le_true b 57 (omega arith)) (ap (λ n. Some n) (omega arith))
 
-worth_high : (b d : ℕ) → b ≡ 87 + d → 10 ≤ d → d < 16 → worth b ≡ Some d
-worth_high b d e h k =
+digit_value_high : (b d : ℕ) → b ≡ 87 + d → 10 ≤ d → d < 16 → digit_value b ≡ Some d
+digit_value_high b d e h k =
     rw (le_true 48 b (omega arith), le_false b 57 (omega arith), le_true 97 b (omega arith), le_true b 102 (omega arith)) (ap (λ n. Some n) (omega arith))
 
-worth_back : (d : ℕ) → d < 16 → worth (digit_glyph false d) ≡ Some d
-worth_back d h = elim (cases_lt d 10) [
-  | inl k ↦ worth_low (digit_glyph false d) d (glyph_low d k) k
-  | inr k ↦ worth_high (digit_glyph false d) d (glyph_high d k) k h
+digit_value_back : (d : ℕ) → d < 16 → digit_value (digit_glyph false d) ≡ Some d
+digit_value_back d h = elim (cases_lt d 10) [
+  | inl k ↦ digit_value_low (digit_glyph false d) d (glyph_low d k) k
+  | inr k ↦ digit_value_high (digit_glyph false d) d (glyph_high d k) k h
 ]
 
 glyph_no_dash : (d : ℕ) → digit_glyph false d ≡ 45 → ⊥
 glyph_no_dash d h = grind (arith, nat_tests)
 
 byte_back : (b : ℕ) → b < 256 → byte_in (digit_glyph false (b / 16)) (digit_glyph false (b % 16)) ≡ Some b
-byte_back b h = rw (worth_back (b / 16) (omega arith), worth_back (b % 16) (omega arith)) (ap (λ n. Some n) (omega arith))
+byte_back b h = rw (digit_value_back (b / 16) (omega arith), digit_value_back (b % 16) (omega arith)) (ap (λ n. Some n) (omega arith))
 
 tail_bytes : (b : ℕ) (bs : List ℕ) → AreBytes (b ∷ bs) → AreBytes bs
 tail_bytes b bs h = λ i. h (suc i)

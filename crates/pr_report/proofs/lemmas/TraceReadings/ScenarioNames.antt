@@ -1,5 +1,5 @@
 -- The names of a scenario, as words of a trace.
-use Rattle.pr_report.proofs.Common.{◌≡◌, ℕ, zero, suc, ◌<◌, ◌≤◌, Bool, true, false, cond, ◌&&◌, List, [], ◌∷◌, map, length, get_or, nat_lt, nat_le, ◌==◌, Some, None, bytes_eq, sym, refl, subst, inl, inr, arith, position_or_len, cases_lt, nat_tests, bytes_eq-Decides, MOST_NEXUSES, names_in, name_of}
+use Rattle.pr_report.proofs.Common.{◌≡◌, ℕ, zero, suc, ◌<◌, ◌≤◌, Bool, true, false, cond, ◌&&◌, List, [], ◌∷◌, map, length, get_or, nat_lt, nat_le, ◌==◌, Some, None, bytes_eq, sym, refl, subst, inl, inr, arith, position_or_len, cases_lt, nat_tests, bytes_eq-Decides, MOST_NEXUSES, names_in, name_of, MOST_LETTERS}
 use Rattle.std.specs.Prelude.{◌||◌, not}
 use Rattle.std.specs.List.{list_all, list_any}
 use Rattle.std.proofs.lemmas.Bool.{and_parts, lt-ltb}
@@ -27,20 +27,20 @@ name_solid : (w : List ℕ) → list_all is_name_byte w ≡ true → IsSolid w
 name_solid [] h = tt
 name_solid (b ∷ bs) h = let p = and_parts (is_name_byte b) (list_all is_name_byte bs) h in (name_byte_solid b p.0, name_solid bs p.1)
 
-short_name : (n : ℕ) → nat_le n 16 ≡ true → n ≤ 16
+short_name : (n : ℕ) → nat_le n MOST_LETTERS ≡ true → n ≤ MOST_LETTERS
 short_name n h = grind (arith, nat_tests)
 
-pub name_word : (w : List ℕ) → is_name w ≡ true → IsWord 16 w
+pub name_word : (w : List ℕ) → is_name w ≡ true → IsWord MOST_LETTERS w
 unfolding is_name
 name_word w h =
     let rest = (and_parts _ _ h).1 in
-    let p = and_parts (nat_le (length w) 16) (list_all is_name_byte w) rest in
+    let p = and_parts (nat_le (length w) MOST_LETTERS) (list_all is_name_byte w) rest in
     record { solid = name_solid w p.1; short = short_name (length w) p.0 }
 
-pub name_of_word : (names : List (List ℕ)) (h : ℕ) → AreNames names → IsWord 16 (name_of names h)
+pub name_of_word : (names : List (List ℕ)) (h : ℕ) → AreNames names → IsWord MOST_LETTERS (name_of names h)
 name_of_word names h are = elim (cases_lt h (length names)) [
   | inl k ↦ name_word (name_of names h) (are.each h k)
-  | inr k ↦ subst (IsWord 16) (sym (get_or_past names h [] k)) (record { solid = tt; short = omega arith })
+  | inr k ↦ subst (IsWord MOST_LETTERS) (sym (get_or_past names h [] k)) (record { solid = tt; short = omega arith })
 ]
 
 -- ---- which name it is

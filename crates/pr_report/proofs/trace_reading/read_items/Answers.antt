@@ -1,4 +1,4 @@
-use Rattle.pr_report.proofs.Common.{◌≡◌, ◌+◌, ◌*◌, ◌≤◌, false, length, take, Ok, sym, ◌∙◌, subst, arith, length-take, bytes_of_lines, item_on, is_later, names_of, most_items, bytes_held}
+use Rattle.pr_report.proofs.Common.{◌≡◌, ◌+◌, ◌*◌, ◌≤◌, false, length, take, Ok, sym, ◌∙◌, subst, arith, length-take, bytes_of_lines, item_on, is_later, names_of, most_items, bytes_held, MOST_LINE_BYTES}
 use Rattle.std.proofs.lemmas.Result.{err_from_is_err_and}
 use Rattle.pr_report.proofs.lemmas.LinesAhead.EntriesInFront.{entries_bounded, entries_end, entries_fault, entries_fewer, entries_more, entries_stop, entry_few, entry_short, one_longer}
 use Rattle.pr_report.proofs.lemmas.BytesTaken.Sums.{takes_both, takes_drop}
@@ -28,7 +28,7 @@ loop-history-preserved g c =
     let longer = one_longer _ _ _ c.in_ok-push.ensures.items in
     let taken = takes_both (1025 * length c.loop-history.history.items) c.loop-history.invariant.2 c.in_ok-end.ensures.taken (omega arith) in
     let few : length c.push.new.self.items ≤ most_items c.args.version = subst (λ n. n ≤ most_items c.args.version) (sym longer) (entry_few _ _ _ _ _ (good g c)) in
-    let short : c.in-Some.end ≤ 1024 = omega (arith, entry_short _ _ _ _ _ (good g c), length-take c.in-Some.end (bytes_held c.next_line.new.self), found.within) in (
+    let short : c.in-Some.end ≤ MOST_LINE_BYTES = omega (arith, entry_short _ _ _ _ _ (good g c), length-take c.in-Some.end (bytes_held c.next_line.new.self), found.within) in (
       entries_more c.args.version (names_of c.args.nexuses.now) c.loop-history.history.items c.loop-history.invariant.0 found c.in_ok-item.item entry (good g c) c.drop_line.ensures c.in_ok-push.ensures.items,
       (few, entries_bounded c.args.version (length c.push.new.self.items) few),
       takes_drop (bytes_held c.next_line.new.self) (bytes_held c.drop_line.new.self) (1025 * length c.push.new.self.items) (c.in-Some.end + 1) taken c.drop_line.ensures (omega (arith, longer, short)),
