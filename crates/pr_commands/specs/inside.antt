@@ -1,3 +1,4 @@
+pub mod EarlyFaults
 pub mod Judgements
 pub mod Audited
 pub mod PlannedReplays

@@ -2,16 +2,14 @@
 use Rattle.std.specs.Prelude.{◌≡◌, ℕ, List, Option, IfSome, Result, Ok, Err}
 use Rattle.pr_roles.specs.declared.item.Item.{Item}
 use Rattle.pr_roles.specs.Scenarios.{scenario_of}
-use Rattle.pr_text.specs.declared.fault.ReadError.TheVariants as input
-use Rattle.pr_text.specs.Texts.{answer_of}
 use Rattle.pr_text.specs.Reading.{IsWrittenAs}
 use Rattle.pr_report.specs.TraceReadings.{trace_of}
 use Rattle.pr_report.specs.TraceText.{names_in}
 use Rattle.pr_report.specs.Verdicts.{IsVerdict}
 use Rattle.pr_commands.specs.declared.audits.Audited.{Audited}
 use Rattle.pr_commands.specs.declared.fault.Fault.{Fault}
-use Rattle.pr_commands.specs.declared.fault.Fault.TheVariants as fault
 use Rattle.pr_commands.specs.Audits.{Holds, IsTraceFault}
+use Rattle.pr_commands.specs.inside.EarlyFaults.{IsEarlyFault}
 
 -- the text is this scenario, and the verdict holds of the history that the trace is read as
 pub record IsOf (text trace : List ℕ) (a : Audited) : Type 0 where
@@ -23,12 +21,5 @@ pub record IsOf (text trace : List ℕ) (a : Audited) : Type 0 where
 -- the verdict on a text and a trace that are known, or their first fault
 abbrev pub IsAudited : Option (List ℕ) → Option (List ℕ) → Result Audited Fault → Type 0
 IsAudited known traced (Ok a) = IfSome known (λ text. IfSome traced (λ trace. IsOf text trace a)) × IsVerdict a.verdict
-IsAudited known traced (Err fault.Usage) = ⊥
-IsAudited known traced (Err fault.File) = ⊥
-IsAudited known traced (Err (fault.Input input.ReadFault)) = Unit {0}
-IsAudited known traced (Err (fault.Input e)) = IfSome known (λ text. answer_of text ≡ Err e)
-IsAudited known traced (Err (fault.Trace e)) = IfSome known (λ text. IfSome traced (λ trace. IsTraceFault text trace e))
-IsAudited known traced (Err (fault.Thread name)) = ⊥
-IsAudited known traced (Err fault.History) = ⊥
-IsAudited known traced (Err fault.Memory) = Unit {0}
-IsAudited known traced (Err fault.Output) = ⊥
+IsAudited known traced (Err f) =
+    IsEarlyFault ⊥ (λ e. IfSome known (λ text. IfSome traced (λ trace. IsTraceFault text trace e))) (λ name. ⊥) ⊥ known f

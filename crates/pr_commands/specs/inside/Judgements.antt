@@ -3,8 +3,6 @@ use Rattle.std.specs.Prelude.{◌≡◌, ℕ, List, Option, IfSome, Result, Ok, 
 use Rattle.pr_roles.specs.declared.parts.Parts.{Parts}
 use Rattle.pr_roles.specs.Scenarios.{scenario_of}
 use Rattle.pr_roles.specs.Safety.{IsSafe}
-use Rattle.pr_text.specs.declared.fault.ReadError.TheVariants as input
-use Rattle.pr_text.specs.Texts.{answer_of}
 use Rattle.pr_text.specs.Reading.{IsWrittenAs}
 use Rattle.pr_verify.specs.declared.verifying.Refused.{Refused}
 use Rattle.pr_verify.specs.Outlines.{HaveOutlines}
@@ -13,7 +11,7 @@ use Rattle.pr_report.specs.TraceText.{names_in}
 use Rattle.pr_report.specs.Verdicts.{verdict_text}
 use Rattle.pr_report.specs.declared.verdict.Verdict.TheVariants as verdict
 use Rattle.pr_commands.specs.declared.fault.Fault.{Fault}
-use Rattle.pr_commands.specs.declared.fault.Fault.TheVariants as fault
+use Rattle.pr_commands.specs.inside.EarlyFaults.{IsEarlyFault}
 
 -- verified, or refused for a reason
 abbrev pub Judgement : Type 0
@@ -40,12 +38,4 @@ judgement_text (Err refused) = verdict_text (names_in (scenario_of refused.scena
 -- of the scenario of a text that is known, or its first fault
 abbrev pub IsJudged : Option (List ℕ) → Result Judgement Fault → Type 0
 IsJudged known (Ok judgement) = IfSome known (λ text. IsWrittenAs text (scenario_of (scenario_in judgement))) × Stands judgement
-IsJudged known (Err fault.Usage) = ⊥
-IsJudged known (Err fault.File) = ⊥
-IsJudged known (Err (fault.Input input.ReadFault)) = Unit {0}
-IsJudged known (Err (fault.Input e)) = IfSome known (λ text. answer_of text ≡ Err e)
-IsJudged known (Err (fault.Trace e)) = ⊥
-IsJudged known (Err (fault.Thread name)) = ⊥
-IsJudged known (Err fault.History) = ⊥
-IsJudged known (Err fault.Memory) = Unit {0}
-IsJudged known (Err fault.Output) = ⊥
+IsJudged known (Err f) = IsEarlyFault ⊥ (λ e. ⊥) (λ name. ⊥) ⊥ known f

@@ -3,8 +3,6 @@ use Rattle.std.specs.Prelude.{◌≡◌, ℕ, ◌<◌, List, length, Option, IfS
 use Rattle.pr_roles.specs.declared.parts.Parts.{Parts}
 use Rattle.pr_roles.specs.Scenarios.{Scenario, scenario_of}
 use Rattle.pr_roles.specs.Safety.{IsSafe}
-use Rattle.pr_text.specs.declared.fault.ReadError.TheVariants as input
-use Rattle.pr_text.specs.Texts.{answer_of}
 use Rattle.pr_text.specs.Reading.{IsWrittenAs}
 use Rattle.pr_verify.specs.declared.verifying.Refused.{Refused}
 use Rattle.pr_verify.specs.Verdicts.{IsFirstReason}
@@ -18,6 +16,7 @@ use Rattle.pr_commands.specs.declared.fault.Fault.{Fault}
 use Rattle.pr_commands.specs.declared.fault.Fault.TheVariants as fault
 use Rattle.pr_commands.specs.declared.runs.Ran.{Ran}
 use Rattle.pr_commands.specs.Runs.{IsUnstarted, outcome_text}
+use Rattle.pr_commands.specs.inside.EarlyFaults.{IsEarlyFault}
 
 abbrev pub Performed : Type 0
 Performed = Result Ran Refused
@@ -66,12 +65,4 @@ IsRunFault s fault.Output = ⊥
 -- of the scenario of a text that is known, or its first fault
 abbrev pub IsPerformed : Option (List ℕ) → Result Performed Fault → Type 0
 IsPerformed known (Ok performed) = IfSome known (λ text. IsWrittenAs text (scenario_of (scenario_in performed))) × Stands performed
-IsPerformed known (Err fault.Usage) = ⊥
-IsPerformed known (Err fault.File) = ⊥
-IsPerformed known (Err (fault.Input input.ReadFault)) = Unit {0}
-IsPerformed known (Err (fault.Input e)) = IfSome known (λ text. answer_of text ≡ Err e)
-IsPerformed known (Err (fault.Trace e)) = ⊥
-IsPerformed known (Err (fault.Thread name)) = IfSome known (λ text. IsUnstarted text name.bytes)
-IsPerformed known (Err fault.History) = Unit {0}
-IsPerformed known (Err fault.Memory) = Unit {0}
-IsPerformed known (Err fault.Output) = ⊥
+IsPerformed known (Err f) = IsEarlyFault ⊥ (λ e. ⊥) (λ name. IfSome known (λ text. IsUnstarted text name)) (Unit {0}) known f

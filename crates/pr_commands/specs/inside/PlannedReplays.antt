@@ -2,8 +2,6 @@
 use Rattle.std.specs.Prelude.{◌≡◌, ℕ, Bool, IsTrue, List, map, Option, IfSome, Result, Ok, Err}
 use Rattle.std.specs.List.{list_any}
 use Rattle.pr_roles.specs.Scenarios.{scenario_of}
-use Rattle.pr_text.specs.declared.fault.ReadError.TheVariants as input
-use Rattle.pr_text.specs.Texts.{answer_of}
 use Rattle.pr_world.specs.Ends.{ending_of, is_trapped_end}
 use Rattle.pr_report.specs.TraceText.{names_in, trace_text}
 use Rattle.pr_commands.specs.declared.replays.Planned.{Planned}
@@ -11,6 +9,7 @@ use Rattle.pr_commands.specs.declared.fault.Fault.{Fault}
 use Rattle.pr_commands.specs.declared.fault.Fault.TheVariants as fault
 use Rattle.pr_commands.specs.Steps.{has_wrong_count}
 use Rattle.pr_commands.specs.Replays.{IsTraceOf, IsUsageFault}
+use Rattle.pr_commands.specs.inside.EarlyFaults.{IsEarlyFault}
 
 -- the text of the trace of what is planned, and whether a host is trapped
 abbrev pub planned_text : Planned → List ℕ
@@ -24,15 +23,7 @@ is_refused p = list_any is_trapped_end p.replayed.ends.items
 -- before the text is read.
 abbrev pub Plans : List (List ℕ) → Option (List ℕ) → Result Planned Fault → Type 0
 Plans steps known (Ok p) = IfSome known (λ text. IsTraceOf steps text (planned_text p) (is_refused p))
-Plans steps known (Err fault.Usage) = IfSome known (λ text. IsUsageFault steps text (has_wrong_count steps))
-Plans steps known (Err (fault.Input input.ReadFault)) = Unit {0}
-Plans steps known (Err (fault.Input e)) = IfSome known (λ text. answer_of text ≡ Err e)
-Plans steps known (Err (fault.Trace e)) = ⊥
-Plans steps known (Err (fault.Thread name)) = ⊥
-Plans steps known (Err fault.History) = ⊥
-Plans steps known (Err fault.Memory) = Unit {0}
-Plans steps known (Err fault.Output) = ⊥
-Plans steps known (Err fault.File) = ⊥
+Plans steps known (Err f) = IsEarlyFault (IfSome known (λ text. IsUsageFault steps text (has_wrong_count steps))) (λ e. ⊥) (λ name. ⊥) ⊥ known f
 
 pub record IsPlanned (steps : List (List ℕ)) (known : Option (List ℕ)) (r : Result Planned Fault) : Type 0 where
   pub plans : Plans steps known r

@@ -2,15 +2,13 @@
 use Rattle.std.specs.Prelude.{◌≡◌, ℕ, List, Option, IfSome, Result, Ok, Err}
 use Rattle.pr_roles.specs.declared.parts.Parts.{Parts}
 use Rattle.pr_roles.specs.Scenarios.{scenario_of}
-use Rattle.pr_text.specs.declared.fault.ReadError.TheVariants as input
-use Rattle.pr_text.specs.Texts.{answer_of}
 use Rattle.pr_text.specs.Reading.{IsWrittenAs}
 use Rattle.pr_report.specs.TraceText.{names_under}
 use Rattle.pr_commands.specs.declared.witnesses.Witnessed.{Witnessed}
 use Rattle.pr_commands.specs.declared.witnesses.Witnessed.TheVariants as witnessed
 use Rattle.pr_commands.specs.declared.fault.Fault.{Fault}
-use Rattle.pr_commands.specs.declared.fault.Fault.TheVariants as fault
 use Rattle.pr_commands.specs.Witnesses.{Answer, accepted, searched, Holds, answer_text}
+use Rattle.pr_commands.specs.inside.EarlyFaults.{IsEarlyFault}
 
 abbrev pub scenario_in : Witnessed → Parts
 scenario_in (witnessed.Accepted verified) = verified
@@ -29,12 +27,4 @@ Stands w = Holds (answer_in w) (scenario_of (scenario_in w))
 -- of the scenario of a text that is known, or its first fault
 abbrev pub IsWitnessed : Option (List ℕ) → Result Witnessed Fault → Type 0
 IsWitnessed known (Ok w) = IfSome known (λ text. IsWrittenAs text (scenario_of (scenario_in w))) × Stands w
-IsWitnessed known (Err fault.Usage) = ⊥
-IsWitnessed known (Err fault.File) = ⊥
-IsWitnessed known (Err (fault.Input input.ReadFault)) = Unit {0}
-IsWitnessed known (Err (fault.Input e)) = IfSome known (λ text. answer_of text ≡ Err e)
-IsWitnessed known (Err (fault.Trace e)) = ⊥
-IsWitnessed known (Err (fault.Thread name)) = ⊥
-IsWitnessed known (Err fault.History) = ⊥
-IsWitnessed known (Err fault.Memory) = Unit {0}
-IsWitnessed known (Err fault.Output) = ⊥
+IsWitnessed known (Err f) = IsEarlyFault ⊥ (λ e. ⊥) (λ name. ⊥) ⊥ known f
