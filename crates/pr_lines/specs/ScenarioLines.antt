@@ -104,29 +104,29 @@ budget_in [] = None
 budget_in (w ∷ ws) = if bytes_eq w (codes "budget") then only_count ws else None
 
 -- the version of the language that this is
-abbrev pub fence_said : List (List ℕ) → Option ScenarioLine
-fence_said ws = only ws >>= λ word. option_map (λ version. fence_line version) (lookup (map (λ row. (row.0.now, row.1)) VERSIONS) word)
+abbrev pub parse_fence : List (List ℕ) → Option ScenarioLine
+parse_fence ws = only ws >>= λ word. option_map (λ version. fence_line version) (lookup (map (λ row. (row.0.now, row.1)) VERSIONS) word)
 
 -- what a line says of a name, and of what the words behind it are
-abbrev pub said_of_name : {A : Type 0} → (List ℕ → A → ScenarioLine) → (List (List ℕ) → Option A) → List (List ℕ) → Option ScenarioLine
-said_of_name says f ws = name_in ws >>= λ r. option_map (says r.0) (f r.1)
+abbrev pub parse_of_name : {A : Type 0} → (List ℕ → A → ScenarioLine) → (List (List ℕ) → Option A) → List (List ℕ) → Option ScenarioLine
+parse_of_name says f ws = name_in ws >>= λ r. option_map (says r.0) (f r.1)
 
 -- what a line says that begins with this word; one without a keyword is a command of a plan
 unfoldable pub item_of : List ℕ → List (List ℕ) → Option ScenarioLine
 item_of word ws =
-    if bytes_eq word (codes "fence") then fence_said ws else (
+    if bytes_eq word (codes "fence") then parse_fence ws else (
     if bytes_eq word (codes "keys") then option_map (λ keys. declares (keys_line keys)) (list_of key_of ws) else (
     if bytes_eq word (codes "host") then option_map (λ name. declares (nexus_line false name)) (only_name ws) else (
     if bytes_eq word (codes "guest") then option_map (λ name. declares (nexus_line true name)) (only_name ws) else (
-    if bytes_eq word (codes "start") then said_of_name (λ name xs. declares (start_line name xs)) (list_of alternative_of) ws else (
-    if bytes_eq word (codes "pending") then said_of_name (λ name xs. declares (pending_line name xs)) (list_of code_of) ws else (
-    if bytes_eq word (codes "busy") then said_of_name (λ name count. declares (refusals_line refusal.Busy name count)) only_count ws else (
-    if bytes_eq word (codes "full") then said_of_name (λ name count. declares (refusals_line refusal.Full name count)) only_count ws else (
+    if bytes_eq word (codes "start") then parse_of_name (λ name xs. declares (start_line name xs)) (list_of alternative_of) ws else (
+    if bytes_eq word (codes "pending") then parse_of_name (λ name xs. declares (pending_line name xs)) (list_of code_of) ws else (
+    if bytes_eq word (codes "busy") then parse_of_name (λ name count. declares (refusals_line refusal.Busy name count)) only_count ws else (
+    if bytes_eq word (codes "full") then parse_of_name (λ name count. declares (refusals_line refusal.Full name count)) only_count ws else (
     if bytes_eq word (codes "reservation") then option_map (λ xs. declares (reservation_line xs)) (list_of start_reservation_of ws) else (
     if bytes_eq word (codes "generation") then option_map (λ n. declares (generation_line n)) (only ws >>= generation_of) else (
     if bytes_eq word (codes "resets") then option_map (λ n. declares (resets_line n)) (only_count ws) else (
-    if bytes_eq word (codes "role") then said_of_name (λ name clause. declares (role_line name clause)) clause_of ws else (
-    if bytes_eq word (codes "script") then said_of_name (λ name budget. declares (script_line name budget)) budget_in ws else (
+    if bytes_eq word (codes "role") then parse_of_name (λ name clause. declares (role_line name clause)) clause_of ws else (
+    if bytes_eq word (codes "script") then parse_of_name (λ name budget. declares (script_line name budget)) budget_in ws else (
     if bytes_eq word (codes "plan") then option_map (λ name. declares (plan_line name)) (only_name ws) else (
     if bytes_eq word (codes "end") then if_alone end_line ws else (
     if bytes_eq word (codes "send") then option_map (λ s. states (send_line s)) (spelled_in ws) else (

@@ -19,8 +19,8 @@ name_of word = if is_name word then Some word else None
 -- ---- digits
 
 -- what a digit is worth, in either case of its letters, and 16 where it is none
-abbrev pub worth : ℕ → ℕ
-worth b =
+abbrev pub digit_value : ℕ → ℕ
+digit_value b =
     if is_digit b then b - 48 else (
     if nat_le 97 b && nat_le b 102 then b - 87 else (
     if nat_le 65 b && nat_le b 70 then b - 55 else 16))
@@ -28,11 +28,11 @@ worth b =
 -- the number that these digits write to this base, the highest digit first
 unfoldable pub number : ℕ → List ℕ → Option ℕ
 number base digits =
-    if list_all (λ b. nat_lt (worth b) base) digits then Some (fold (λ n b. base * n + worth b) 0 digits) else None
+    if list_all (λ b. nat_lt (digit_value b) base) digits then Some (fold (λ n b. base * n + digit_value b) 0 digits) else None
 
 -- a digit, and two digits, to the base 16
 abbrev pub digit_of : ℕ → Option ℕ
-digit_of b = if nat_lt (worth b) 16 then Some (worth b) else None
+digit_of b = if nat_lt (digit_value b) 16 then Some (digit_value b) else None
 
 abbrev pub byte_of : ℕ → ℕ → Option ℕ
 byte_of high low = digit_of high >>= λ h. digit_of low >>= λ l. Some (16 * h + l)

@@ -4,8 +4,8 @@ ghost use Rattle.std.specs.Prelude.{◌≡◌, map, option_map, IfOk};
 ghost use Rattle.pr_lines.specs.TextLines.{words, if_alone};
 ghost use Rattle.pr_lines.specs.WordTerms.{key_of, code_of};
 ghost use Rattle.pr_lines.specs.Clauses.{clause_of};
-ghost use Rattle.pr_lines.specs.ScenarioLines.{list_of, alternative_of, everybody_of, single_of, start_reservation_of, name_in, only_name, only_count, budget_in, fence_said, said_of_name, item_of, declares, keys_line, start_line, pending_line, refusals_line, reservation_line, role_line, script_line};
-ghost use Rattle.pr_lines.specs.inside.Keywords.{said_simply, said_after};
+ghost use Rattle.pr_lines.specs.ScenarioLines.{list_of, alternative_of, everybody_of, single_of, start_reservation_of, name_in, only_name, only_count, budget_in, parse_fence, parse_of_name, item_of, declares, keys_line, start_line, pending_line, refusals_line, reservation_line, role_line, script_line};
+ghost use Rattle.pr_lines.specs.inside.Keywords.{parse_plain, parse_after};
 ghost use Rattle.pr_lines.specs.LineValues.{wanted_seen, line_of_value};
 
 use crate::clauses::{clause_of, test_of};
@@ -104,43 +104,43 @@ pub fn item_of(alloc: Global, word: &[u8], rest: &[u8]) -> Result<Option<Scenari
         ≡ item_of word.now (words rest.now)) }
 {
     match keyword_of(word) {
-        Some(keyword) => said_after(alloc, keyword, rest),
+        Some(keyword) => parse_after(alloc, keyword, rest),
         None => Ok(spelled_of(word, rest).map(ScenarioLine::Command)),
     }
 }
 
 // What the words behind the keyword say.
-fn said_after(
+fn parse_after(
     alloc: Global,
     keyword: Keyword,
     rest: &[u8],
 ) -> Result<Option<ScenarioLine>, AllocError>
     ensures { IfOk result (λ item. option_map line_of_value item
-        ≡ said_after keyword (words rest.now)) }
+        ≡ parse_after keyword (words rest.now)) }
 {
     match keyword {
-        Keyword::Keys => keys_said(alloc, rest),
-        Keyword::Start => start_said(alloc, rest),
-        Keyword::Pending => pending_said(alloc, rest),
-        Keyword::Reservation => reservation_said(alloc, rest),
-        other => Ok(said_simply(other, rest)),
+        Keyword::Keys => parse_keys(alloc, rest),
+        Keyword::Start => parse_start(alloc, rest),
+        Keyword::Pending => parse_pending(alloc, rest),
+        Keyword::Reservation => parse_reservation(alloc, rest),
+        other => Ok(parse_plain(other, rest)),
     }
 }
 
 // What the words behind a keyword say that takes no list.
-fn said_simply(keyword: Keyword, rest: &[u8]) -> Option<ScenarioLine>
-    ensures { option_map line_of_value result ≡ said_simply keyword (words rest.now) }
+fn parse_plain(keyword: Keyword, rest: &[u8]) -> Option<ScenarioLine>
+    ensures { option_map line_of_value result ≡ parse_plain keyword (words rest.now) }
 {
     match keyword {
-        Keyword::Fence => fence_said(rest),
+        Keyword::Fence => parse_fence(rest),
         Keyword::Host => Some(ScenarioLine::Host(only_name(rest)?)),
         Keyword::Guest => Some(ScenarioLine::Guest(only_name(rest)?)),
-        Keyword::Busy => refusals_said(RefusalKind::Busy, rest),
-        Keyword::Full => refusals_said(RefusalKind::Full, rest),
+        Keyword::Busy => parse_refusals(RefusalKind::Busy, rest),
+        Keyword::Full => parse_refusals(RefusalKind::Full, rest),
         Keyword::Generation => Some(ScenarioLine::Generation(generation_of(only(rest)?)?)),
         Keyword::Resets => Some(ScenarioLine::Resets(only_count(rest)?)),
-        Keyword::Role => role_said(rest),
-        Keyword::Script => script_said(rest),
+        Keyword::Role => parse_role(rest),
+        Keyword::Script => parse_script(rest),
         Keyword::Plan => Some(ScenarioLine::Plan(only_name(rest)?)),
         Keyword::End => if_alone(ScenarioLine::End, rest),
         Keyword::Send => Some(ScenarioLine::Send(spelled_in(rest)?)),
@@ -160,16 +160,16 @@ fn if_alone(item: ScenarioLine, rest: &[u8]) -> Option<ScenarioLine>
     if is_end(rest) { Some(item) } else { None }
 }
 
-fn fence_said(rest: &[u8]) -> Option<ScenarioLine>
-    ensures { option_map line_of_value result ≡ fence_said (words rest.now) }
+fn parse_fence(rest: &[u8]) -> Option<ScenarioLine>
+    ensures { option_map line_of_value result ≡ parse_fence (words rest.now) }
 {
     let version = lookup(&VERSIONS, only(rest)?)?;
     Some(ScenarioLine::Fence(version))
 }
 
-fn refusals_said(refusal: RefusalKind, rest: &[u8]) -> Option<ScenarioLine>
+fn parse_refusals(refusal: RefusalKind, rest: &[u8]) -> Option<ScenarioLine>
     ensures { option_map line_of_value result
-        ≡ said_of_name (λ name count. declares (refusals_line refusal name count)) only_count
+        ≡ parse_of_name (λ name count. declares (refusals_line refusal name count)) only_count
         (words rest.now) }
 {
     let Some((name, others)) = name_in(rest) else {
@@ -179,9 +179,9 @@ fn refusals_said(refusal: RefusalKind, rest: &[u8]) -> Option<ScenarioLine>
     Some(ScenarioLine::Refusals(refusal, name, count))
 }
 
-fn role_said(rest: &[u8]) -> Option<ScenarioLine>
+fn parse_role(rest: &[u8]) -> Option<ScenarioLine>
     ensures { option_map line_of_value result
-        ≡ said_of_name (λ name clause. declares (role_line name clause)) clause_of
+        ≡ parse_of_name (λ name clause. declares (role_line name clause)) clause_of
         (words rest.now) }
 {
     let Some((name, others)) = name_in(rest) else {
@@ -191,9 +191,9 @@ fn role_said(rest: &[u8]) -> Option<ScenarioLine>
     Some(ScenarioLine::Role(name, clause))
 }
 
-fn script_said(rest: &[u8]) -> Option<ScenarioLine>
+fn parse_script(rest: &[u8]) -> Option<ScenarioLine>
     ensures { option_map line_of_value result
-        ≡ said_of_name (λ name budget. declares (script_line name budget)) budget_in
+        ≡ parse_of_name (λ name budget. declares (script_line name budget)) budget_in
         (words rest.now) }
 {
     let Some((name, others)) = name_in(rest) else {
@@ -237,7 +237,7 @@ fn only_count(line: &[u8]) -> Option<u64>
     count_of(only(line)?)
 }
 
-fn keys_said(alloc: Global, rest: &[u8]) -> Result<Option<ScenarioLine>, AllocError>
+fn parse_keys(alloc: Global, rest: &[u8]) -> Result<Option<ScenarioLine>, AllocError>
     ensures { IfOk result (λ item. option_map line_of_value item
         ≡ option_map (λ keys. declares (keys_line keys)) (list_of key_of (words rest.now))) }
 {
@@ -245,9 +245,9 @@ fn keys_said(alloc: Global, rest: &[u8]) -> Result<Option<ScenarioLine>, AllocEr
     Ok(keys.map(ScenarioLine::Keys))
 }
 
-fn start_said(alloc: Global, rest: &[u8]) -> Result<Option<ScenarioLine>, AllocError>
+fn parse_start(alloc: Global, rest: &[u8]) -> Result<Option<ScenarioLine>, AllocError>
     ensures { IfOk result (λ item. option_map line_of_value item
-        ≡ said_of_name (λ name xs. declares (start_line name xs)) (list_of alternative_of)
+        ≡ parse_of_name (λ name xs. declares (start_line name xs)) (list_of alternative_of)
         (words rest.now)) }
 {
     let Some((name, others)) = name_in(rest) else {
@@ -257,9 +257,9 @@ fn start_said(alloc: Global, rest: &[u8]) -> Result<Option<ScenarioLine>, AllocE
     Ok(alternatives.map(|alternatives| ScenarioLine::Start(name, alternatives)))
 }
 
-fn pending_said(alloc: Global, rest: &[u8]) -> Result<Option<ScenarioLine>, AllocError>
+fn parse_pending(alloc: Global, rest: &[u8]) -> Result<Option<ScenarioLine>, AllocError>
     ensures { IfOk result (λ item. option_map line_of_value item
-        ≡ said_of_name (λ name xs. declares (pending_line name xs)) (list_of code_of)
+        ≡ parse_of_name (λ name xs. declares (pending_line name xs)) (list_of code_of)
         (words rest.now)) }
 {
     let Some((name, others)) = name_in(rest) else {
@@ -269,7 +269,7 @@ fn pending_said(alloc: Global, rest: &[u8]) -> Result<Option<ScenarioLine>, Allo
     Ok(attentions.map(|attentions| ScenarioLine::Pending(name, attentions)))
 }
 
-fn reservation_said(alloc: Global, rest: &[u8]) -> Result<Option<ScenarioLine>, AllocError>
+fn parse_reservation(alloc: Global, rest: &[u8]) -> Result<Option<ScenarioLine>, AllocError>
     ensures { IfOk result (λ item. option_map line_of_value item
         ≡ option_map (λ xs. declares (reservation_line xs))
         (list_of start_reservation_of (words rest.now))) }

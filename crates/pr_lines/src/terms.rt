@@ -1,7 +1,7 @@
 //! The terms that words are: names, keys, numbers, types and codes.
 
 ghost use Rattle.std.specs.Prelude.{◌≡◌, ◌≤◌, ◌<◌, ◌^◌, length, option_map, option_copied, IfSome};
-ghost use Rattle.pr_lines.specs.WordTerms.{worth, number, digit_of, byte_of, value_after, without_prefix, hexadecimal, name_of, key_or_zero, key_of, generation_of, count_of, amount_of, kind_of, attention_of, code_of, sense_of};
+ghost use Rattle.pr_lines.specs.WordTerms.{digit_value, number, digit_of, byte_of, value_after, without_prefix, hexadecimal, name_of, key_or_zero, key_of, generation_of, count_of, amount_of, kind_of, attention_of, code_of, sense_of};
 
 use pr_attention::Attention;
 use pr_cdb::codes::{
@@ -100,11 +100,11 @@ pub fn amount_of(most: u64, word: &[u8]) -> Option<u64>
     }
     let mut value = 0;
     for digit in word {
-        let worth = u64::from(worth(*digit));
-        if worth >= 10 {
+        let digit_value = u64::from(digit_value(*digit));
+        if digit_value >= 10 {
             return None;
         }
-        value = 10 * value + worth;
+        value = 10 * value + digit_value;
         if value > most {
             return None;
         }
@@ -121,18 +121,18 @@ fn number(base: u64, digits: &[u8]) -> Option<u64>
 {
     let mut value = 0;
     for digit in digits {
-        let worth = u64::from(worth(*digit));
-        if worth >= base {
+        let digit_value = u64::from(digit_value(*digit));
+        if digit_value >= base {
             return None;
         }
-        value = base * value + worth;
+        value = base * value + digit_value;
     }
     Some(value)
 }
 
 // What a digit is worth, and 16 where it is none.
-fn worth(digit: u8) -> u8
-    ensures { result ≡ worth digit }
+fn digit_value(digit: u8) -> u8
+    ensures { result ≡ digit_value digit }
 {
     match digit {
         b'0'..=b'9' => digit - b'0',
@@ -147,8 +147,12 @@ fn digit_of(digit: u8) -> Option<u8>
     ensures value { result ≡ digit_of digit }
     ensures below { IfSome result (λ n. n < 16) }
 {
-    let worth = worth(digit);
-    if worth < 16 { Some(worth) } else { None }
+    let digit_value = digit_value(digit);
+    if digit_value < 16 {
+        Some(digit_value)
+    } else {
+        None
+    }
 }
 
 // The number that two hexadecimal digits write.

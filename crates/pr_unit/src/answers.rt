@@ -14,7 +14,7 @@ ghost use Rattle.pr_unit.specs.TakenSteps.{TakenStep};
 
 use crate::data::data;
 use crate::decision::{Decision, decide};
-use crate::effects::serve;
+use crate::effects::apply;
 use crate::{pending_table, reply};
 use pr_attention::{Attention, Pending};
 use pr_cdb::codes::MOST_NEXUSES;
@@ -91,7 +91,7 @@ pub(crate) fn perform(
         ≡ effect (unit_of registry.old pendings.old) host command }
 {
     let bytes = data(registry, command);
-    let change = serve(registry, host, command);
+    let change = apply(registry, host, command);
     pending_table::tell_change(pendings, &change);
     reply::good(bytes)
 }

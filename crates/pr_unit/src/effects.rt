@@ -9,7 +9,7 @@ use pr_cdb::Command;
 use pr_registry::{Change, Registry};
 
 /// Makes the registry what it is after the command of the host, and says whom the command tells.
-pub(crate) fn serve(registry: &mut Registry, host: u8, command: Command) -> Change
+pub(crate) fn apply(registry: &mut Registry, host: u8, command: Command) -> Change
     requires there { host < registry.old.hosts }
     requires free { command_conflicts registry.old host command ≡ false }
     requires whole { command_fault registry.old host command ≡ None }

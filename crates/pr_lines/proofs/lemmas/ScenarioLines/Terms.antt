@@ -1,5 +1,5 @@
 -- The terms of a line are what they are meant to be: names are names, and keys are not zero.
-use Rattle.pr_lines.proofs.Common.{◌≡◌, ℕ, ◌+◌, ◌*◌, ◌^◌, ◌<◌, Bool, true, false, cond, List, [], ◌∷◌, map, length, take, drop, nat_lt, Some, None, fold, Option, refl, ap, ◌∙◌, arith, lit<, list_all, nat_tests, each, worth}
+use Rattle.pr_lines.proofs.Common.{◌≡◌, ℕ, ◌+◌, ◌*◌, ◌^◌, ◌<◌, Bool, true, false, cond, List, [], ◌∷◌, map, length, take, drop, nat_lt, Some, None, fold, Option, refl, ap, ◌∙◌, arith, lit<, list_all, nat_tests, each, digit_value}
 use Rattle.std.proofs.Common.{add-zero, zero-add, ◌==◌, ◌&&◌, not, nat_le, slice_index, option_map, option_and_then, IfSome, codes, bytes_eq}
 use Rattle.std.proofs.lemmas.Bool.{and_parts}
 use Rattle.pr_cdb.specs.declared.command.Kind.{Kind}
@@ -19,8 +19,8 @@ use Rattle.pr_lines.specs.WordTerms.{number, digit_of, byte_of, without_prefix, 
 use Rattle.pr_lines.specs.CommandWords.{spelled_of, spelled_in}
 use Rattle.pr_lines.specs.Clauses.{clause_of, good_of, test_of}
 use Rattle.pr_lines.specs.Lookups.{lookup}
-use Rattle.pr_lines.specs.ScenarioLines.{StartReservation, nobody, single, everybody, ScenarioLine, keys_line, nexus_line, start_line, pending_line, refusals_line, reservation_line, generation_line, resets_line, role_line, script_line, plan_line, end_line, send_line, on_line, done_line, repeat_line, break_line, stop_line, command_line, fence_line, list_of, alternative_of, everybody_of, single_of, start_reservation_of, name_in, only_name, only_count, budget_in, fence_said, said_of_name, item_of, declares, states}
-use Rattle.pr_lines.specs.inside.Keywords.{keyword_of, said_simply, said_after, said_with}
+use Rattle.pr_lines.specs.ScenarioLines.{StartReservation, nobody, single, everybody, ScenarioLine, keys_line, nexus_line, start_line, pending_line, refusals_line, reservation_line, generation_line, resets_line, role_line, script_line, plan_line, end_line, send_line, on_line, done_line, repeat_line, break_line, stop_line, command_line, fence_line, list_of, alternative_of, everybody_of, single_of, start_reservation_of, name_in, only_name, only_count, budget_in, parse_fence, parse_of_name, item_of, declares, states}
+use Rattle.pr_lines.specs.inside.Keywords.{keyword_of, parse_plain, parse_after, parse_with}
 use Rattle.pr_lines.proofs.lemmas.ScenarioLines.Words.{by_keyword}
 use Rattle.pr_lines.proofs.lemmas.WordTerms.NumberRoom.{digit_more, hex_some}
 use Rattle.pr_lines.proofs.lemmas.Tests.{both, true_le, true_lt}
@@ -106,17 +106,17 @@ name_sound w = keep_if (λ x. is_name x ≡ true) (is_name w) w (λ e. e)
 only_name_sound : (ws : List (List ℕ)) → IfSome (only_name ws) (λ x. is_name x ≡ true)
 only_name_sound ws = bind_if (λ _. Unit {0}) (λ x. is_name x ≡ true) name_of (only ws) (any_if (only ws)) (λ w k. name_sound w)
 
-fold_below : (digits : List ℕ) (n i : ℕ) → n < 16 ^ i → list_all (λ b. nat_lt (worth b) 16) digits ≡ true → fold (λ m b. 16 * m + worth b) n digits < 16 ^ (i + length digits)
+fold_below : (digits : List ℕ) (n i : ℕ) → n < 16 ^ i → list_all (λ b. nat_lt (digit_value b) 16) digits ≡ true → fold (λ m b. 16 * m + digit_value b) n digits < 16 ^ (i + length digits)
 fold_below [] n i h each = rw (add-zero i) h
 fold_below (d ∷ digits) n i h each =
-    let parts = and_parts (nat_lt (worth d) 16) _ each in
+    let parts = and_parts (nat_lt (digit_value d) 16) _ each in
     let e : i + length (d ∷ digits) ≡ (i + 1) + length digits = omega arith in
-    rw e (fold_below digits (16 * n + worth d) (i + 1) (digit_more 16 n (worth d) i h (true_lt (worth d) 16 parts.0)) parts.1)
+    rw e (fold_below digits (16 * n + digit_value d) (i + 1) (digit_more 16 n (digit_value d) i h (true_lt (digit_value d) 16 parts.0)) parts.1)
 
 number_sound : (ds : List ℕ) → IfSome (number 16 ds) (λ n. n < 16 ^ length ds)
 unfolding number
 number_sound ds =
-    keep_if (λ n. n < 16 ^ length ds) (list_all (λ b. nat_lt (worth b) 16) ds) (fold (λ m b. 16 * m + worth b) 0 ds)
+    keep_if (λ n. n < 16 ^ length ds) (list_all (λ b. nat_lt (digit_value b) 16) ds) (fold (λ m b. 16 * m + digit_value b) 0 ds)
     (λ e. let below = fold_below ds 0 0 (lit< tt) e in rw (← zero-add (length ds)) below)
 
 hex_sound : (ds : List ℕ) → IfSome (hexadecimal 16 ds) (λ n. n < 2 ^ 64)
@@ -137,7 +137,7 @@ key_sound w =
     (λ k below. cond_if (λ n. is_key n ≡ true) (k == 0) None (Some k) (λ e. tt) (λ e. key_true k e below))
 
 digit_sound : (b : ℕ) → IfSome (digit_of b) (λ n. nat_lt n 16 ≡ true)
-digit_sound b = keep_if (λ n. nat_lt n 16 ≡ true) (nat_lt (worth b) 16) (worth b) (λ e. e)
+digit_sound b = keep_if (λ n. nat_lt n 16 ≡ true) (nat_lt (digit_value b) 16) (digit_value b) (λ e. e)
 
 sense_sound : (w : List ℕ) → IfSome (sense_of w) (λ s. nat_lt s.key 16 ≡ true)
 unfolding sense_of
@@ -212,13 +212,13 @@ version_sound w =
     cond_if (λ v. is_version v ≡ true) (bytes_eq w (codes "1")) (Some 1) _ (λ e. refl)
     (λ e. cond_if (λ v. is_version v ≡ true) (bytes_eq w (codes "2")) (Some 2) None (λ f. refl) (λ f. tt))
 
-fence_sound : (ws : List (List ℕ)) → IfSome (fence_said ws) Sound
+fence_sound : (ws : List (List ℕ)) → IfSome (parse_fence ws) Sound
 fence_sound ws = bind_if (λ _. Unit {0}) Sound (λ w. option_map (λ v. fence_line v) (version_of w)) (only ws) (any_if (only ws)) (λ w h. map_if (λ v. is_version v ≡ true) Sound (λ v. fence_line v) (version_of w) (version_sound w) (λ v i. i))
 
-refusals_sound : (r : RefusalKind) (ws : List (List ℕ)) → IfSome (said_of_name (λ name count. declares (refusals_line r name count)) only_count ws) Sound
+refusals_sound : (r : RefusalKind) (ws : List (List ℕ)) → IfSome (parse_of_name (λ name count. declares (refusals_line r name count)) only_count ws) Sound
 refusals_sound r ws = bind_if (λ _. Unit {0}) Sound (λ p. option_map (λ count. declares (refusals_line r p.0 count)) (only_count p.1)) (name_in ws) (any_if _) (λ p h. map_if (λ _. Unit {0}) Sound (λ count. declares (refusals_line r p.0 count)) (only_count p.1) (any_if _) (λ x k. refl))
 
-simply_sound : (k : Keyword) (ws : List (List ℕ)) → IfSome (said_simply k ws) Sound
+simply_sound : (k : Keyword) (ws : List (List ℕ)) → IfSome (parse_plain k ws) Sound
 simply_sound keyword.Fence ws = fence_sound ws
 simply_sound keyword.Host ws = map_if (λ x. is_name x ≡ true) Sound (λ name. declares (nexus_line false name)) (only_name ws) (only_name_sound ws) (λ x h. h)
 simply_sound keyword.Guest ws = map_if (λ x. is_name x ≡ true) Sound (λ name. declares (nexus_line true name)) (only_name ws) (only_name_sound ws) (λ x h. h)
@@ -238,11 +238,11 @@ simply_sound keyword.Break ws = keep_if Sound (is_end ws) (states break_line) (�
 simply_sound keyword.Stop ws = map_if (λ x. is_name x ≡ true) Sound (λ word. states (stop_line word)) (only_name ws) (only_name_sound ws) (λ x h. h)
 simply_sound _ ws = tt
 
-start_sound : (ws : List (List ℕ)) → IfSome (said_of_name (λ name xs. declares (start_line name xs)) (list_of alternative_of) ws) Sound
+start_sound : (ws : List (List ℕ)) → IfSome (parse_of_name (λ name xs. declares (start_line name xs)) (list_of alternative_of) ws) Sound
 start_sound ws = bind_if (λ _. Unit {0}) Sound (λ r. option_map (λ xs. declares (start_line r.0 xs)) (list_of alternative_of r.1)) (name_in ws) (any_if _)
     (λ r h. map_if (λ ys. not (length ys == 0) ≡ true) Sound (λ xs. declares (start_line r.0 xs)) (list_of alternative_of r.1) (listed_some alternative_of r.1) (λ x k. k))
 
-pending_sound : (ws : List (List ℕ)) → IfSome (said_of_name (λ name xs. declares (pending_line name xs)) (list_of code_of) ws) Sound
+pending_sound : (ws : List (List ℕ)) → IfSome (parse_of_name (λ name xs. declares (pending_line name xs)) (list_of code_of) ws) Sound
 pending_sound ws = bind_if (λ _. Unit {0}) Sound (λ r. option_map (λ xs. declares (pending_line r.0 xs)) (list_of code_of r.1)) (name_in ws) (any_if _)
     (λ r h. map_if (λ _. Unit {0}) Sound (λ xs. declares (pending_line r.0 xs)) (list_of code_of r.1) (any_if _) (λ x k. refl))
 
@@ -256,14 +256,14 @@ reservation_sound ws =
     (both_if (λ ys. not (length ys == 0) ≡ true) (λ ys. list_all is_wanted ys ≡ true) (list_of start_reservation_of ws) (listed_some start_reservation_of ws) (listed_all is_wanted start_reservation_of ws wanted_sound))
     (λ x k. both _ _ k.0 k.1)
 
-after_sound : (k : Keyword) (ws : List (List ℕ)) → IfSome (said_after k ws) Sound
+after_sound : (k : Keyword) (ws : List (List ℕ)) → IfSome (parse_after k ws) Sound
 after_sound keyword.Keys ws = map_if (λ ys. list_all is_key ys ≡ true) Sound (λ keys. declares (keys_line keys)) (list_of key_of ws) (listed_all is_key key_of ws key_sound) (λ x h. h)
 after_sound keyword.Start ws = start_sound ws
 after_sound keyword.Pending ws = pending_sound ws
 after_sound keyword.Reservation ws = reservation_sound ws
 after_sound k ws = simply_sound k ws
 
-said_sound : (o : Option Keyword) (w : List ℕ) (ws : List (List ℕ)) → IfSome (said_with o w ws) Sound
+said_sound : (o : Option Keyword) (w : List ℕ) (ws : List (List ℕ)) → IfSome (parse_with o w ws) Sound
 said_sound (Some k) w ws = after_sound k ws
 said_sound None w ws = map_if (λ _. Unit {0}) Sound (λ s. command_line s) (spelled_of w ws) (any_if _) (λ x h. refl)
 

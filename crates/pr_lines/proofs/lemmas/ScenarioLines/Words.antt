@@ -4,14 +4,14 @@ use Rattle.std.specs.Prelude.{codes, bytes_eq}
 use Rattle.pr_lines.specs.declared.keyword.Keyword.{Keyword}
 use Rattle.pr_lines.specs.declared.keyword.Keyword.TheVariants as keyword
 use Rattle.pr_lines.specs.ScenarioLines.{ScenarioLine, item_of}
-use Rattle.pr_lines.specs.inside.Keywords.{keyword_of, said_after, said_with}
+use Rattle.pr_lines.specs.inside.Keywords.{keyword_of, parse_after, parse_with}
 
 with_keyword : (b : Bool) (k : Keyword) (o : Option Keyword) (w : List ℕ) (ws : List (List ℕ)) (i : Option ScenarioLine)
-    → i ≡ said_with o w ws → cond b (said_after k ws) i ≡ said_with (cond b (Some k) o) w ws
+    → i ≡ parse_with o w ws → cond b (parse_after k ws) i ≡ parse_with (cond b (Some k) o) w ws
 with_keyword true k o w ws i rest = refl
 with_keyword false k o w ws i rest = rest
 
-pub by_keyword : (w : List ℕ) (ws : List (List ℕ)) → item_of w ws ≡ said_with (keyword_of w) w ws
+pub by_keyword : (w : List ℕ) (ws : List (List ℕ)) → item_of w ws ≡ parse_with (keyword_of w) w ws
 unfolding item_of keyword_of
 by_keyword w ws =
     with_keyword (bytes_eq w (codes "fence")) keyword.Fence _ w ws _ (

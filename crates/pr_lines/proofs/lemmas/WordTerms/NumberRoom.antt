@@ -1,5 +1,5 @@
 -- A number that is read digit by digit stays below the base's power.
-use Rattle.pr_lines.proofs.Common.{◌≡◌, ℕ, ◌+◌, ◌*◌, ◌^◌, ◌<◌, ◌≤◌, List, [], ◌∷◌, length, take, drop, Some, None, fold, Option, sym, ap, ◌∙◌, arith, lit<, nat_tests, worth}
+use Rattle.pr_lines.proofs.Common.{◌≡◌, ℕ, ◌+◌, ◌*◌, ◌^◌, ◌<◌, ◌≤◌, List, [], ◌∷◌, length, take, drop, Some, None, fold, Option, sym, ap, ◌∙◌, arith, lit<, nat_tests, digit_value}
 use Rattle.std.proofs.Common.{get_or, take-append-drop, IfSome, add-one}
 use Rattle.std.proofs.lemmas.List.Sums.{fold-append}
 use Rattle.std.proofs.Math.Seq.{take-suc}
@@ -34,25 +34,25 @@ hex_below n len most below h =
     omega arith
 
 -- more digits make no smaller number
-grows : (n : ℕ) (digits : List ℕ) → n ≤ fold (λ m b. 10 * m + worth b) n digits
+grows : (n : ℕ) (digits : List ℕ) → n ≤ fold (λ m b. 10 * m + digit_value b) n digits
 grows n [] = omega arith
-grows n (d ∷ digits) = omega (arith, grows (10 * n + worth d) digits)
+grows n (d ∷ digits) = omega (arith, grows (10 * n + digit_value d) digits)
 
-pub amount_past : (most i : ℕ) (word : List ℕ) → most < fold (λ m b. 10 * m + worth b) 0 (take i word) → most < fold (λ m b. 10 * m + worth b) 0 word
+pub amount_past : (most i : ℕ) (word : List ℕ) → most < fold (λ m b. 10 * m + digit_value b) 0 (take i word) → most < fold (λ m b. 10 * m + digit_value b) 0 word
 amount_past most i word h =
-    let all : fold (λ m b. 10 * m + worth b) 0 word ≡ fold (λ m b. 10 * m + worth b) (fold (λ m b. 10 * m + worth b) 0 (take i word)) (drop i word) =
-    ap (fold (λ m b. 10 * m + worth b) 0) (sym (take-append-drop i word)) ∙ fold-append (λ m b. 10 * m + worth b) 0 (take i word) (drop i word) in
-    omega (arith, all, grows (fold (λ m b. 10 * m + worth b) 0 (take i word)) (drop i word))
+    let all : fold (λ m b. 10 * m + digit_value b) 0 word ≡ fold (λ m b. 10 * m + digit_value b) (fold (λ m b. 10 * m + digit_value b) 0 (take i word)) (drop i word) =
+    ap (fold (λ m b. 10 * m + digit_value b) 0) (sym (take-append-drop i word)) ∙ fold-append (λ m b. 10 * m + digit_value b) 0 (take i word) (drop i word) in
+    omega (arith, all, grows (fold (λ m b. 10 * m + digit_value b) 0 (take i word)) (drop i word))
 
-past_fold : (most : ℕ) (word : List ℕ) → most < fold (λ m b. 10 * m + worth b) 0 word → None ≡ amount_of most word
+past_fold : (most : ℕ) (word : List ℕ) → most < fold (λ m b. 10 * m + digit_value b) 0 word → None ≡ amount_of most word
 unfolding amount_of number
 past_fold most word h = grind (arith, nat_tests)
 
-pub none_past : (most i v : ℕ) (word : List ℕ) → v ≡ fold (λ m b. 10 * m + worth b) 0 (take i word) → i < length word → most < 10 * v + worth (get_or word i 0) → None ≡ amount_of most word
+pub none_past : (most i v : ℕ) (word : List ℕ) → v ≡ fold (λ m b. 10 * m + digit_value b) 0 (take i word) → i < length word → most < 10 * v + digit_value (get_or word i 0) → None ≡ amount_of most word
 none_past most i v word e h past =
-    let more : fold (λ m b. 10 * m + worth b) 0 (take (i + 1) word) ≡ 10 * v + worth (get_or word i 0) =
-    rw (add-one, take-suc word i 0 h, fold-append (λ m b. 10 * m + worth b) 0 (take i word) (get_or word i 0 ∷ [])) (ap (λ n. 10 * n + worth (get_or word i 0)) (sym e)) in
-    let whole : most < fold (λ m b. 10 * m + worth b) 0 word = amount_past most (i + 1) word (omega (arith, more)) in
+    let more : fold (λ m b. 10 * m + digit_value b) 0 (take (i + 1) word) ≡ 10 * v + digit_value (get_or word i 0) =
+    rw (add-one, take-suc word i 0 h, fold-append (λ m b. 10 * m + digit_value b) 0 (take i word) (get_or word i 0 ∷ [])) (ap (λ n. 10 * n + digit_value (get_or word i 0)) (sym e)) in
+    let whole : most < fold (λ m b. 10 * m + digit_value b) 0 word = amount_past most (i + 1) word (omega (arith, more)) in
     past_fold most word whole
 
 pub hex_some : (r : Option ℕ) (len most : ℕ) → IfSome r (λ n. n < 16 ^ len) → len ≤ most → IfSome r (λ n. n < 16 ^ most)

@@ -2,8 +2,8 @@ use Rattle.pr_lines.proofs.Common.{◌+◌, ◌*◌, ◌^◌, ◌<◌, length, a
 use Rattle.pr_lines.proofs.lemmas.WordTerms.NumberRoom.{digit_fits}
 use Rattle.pr_lines.proofs.terms.number.Goals as goal
 
-fits : (c : goal.Else-worth-base) → c.args.base * c.loop-digit.value + c.from-worth.result < 2 ^ 64
-fits c = digit_fits c.args.base c.loop-digit.value c.from-worth.result c.loop-digit.digit-index (length c.args.digits.now) (2 ^ 64) c.loop-digit.invariant.2 c.if-worth-base.false c.loop-digit-test.true c.requires
+fits : (c : goal.Else-digit_value-base) → c.args.base * c.loop-digit.value + c.from-digit_value.result < 2 ^ 64
+fits c = digit_fits c.args.base c.loop-digit.value c.from-digit_value.result c.loop-digit.digit-index (length c.args.digits.now) (2 ^ 64) c.loop-digit.invariant.2 c.if-digit_value-base.false c.loop-digit-test.true c.requires
 
 pub overflow_mul-value : goal.overflow_mul-value
 overflow_mul-value c = omega (arith, fits c)
