@@ -1,5 +1,5 @@
 -- A scenario that was searched, and its text not written yet.
-use Rattle.std.specs.Prelude.{◌≡◌, ℕ, List, Option, IfSome, Result, Ok, Err}
+use Rattle.std.specs.Prelude.{ℕ, List, Option, IfSome, Result, Ok, Err}
 use Rattle.pr_roles.specs.declared.parts.Parts.{Parts}
 use Rattle.pr_roles.specs.Scenarios.{scenario_of}
 use Rattle.pr_text.specs.Reading.{IsWrittenAs}

@@ -1,5 +1,5 @@
 -- Whether a role permits a host's command, wherever the command ends GOOD.
-use Rattle.std.specs.Prelude.{◌≡◌, ◌↔◌, ℕ, ◌<◌, length, Bool, true, false, not, ◌==◌, ◌&&◌, IsTrue, List, Option, Some, None, is_none}
+use Rattle.std.specs.Prelude.{◌≡◌, ◌↔◌, ℕ, ◌<◌, length, Bool, true, false, not, ◌==◌, ◌&&◌, IsTrue, List, Some, None, is_none}
 use Rattle.std.specs.List.{All as Each, list_any, slice_get}
 use Rattle.pr_cdb.specs.declared.command.Command.{Command}
 use Rattle.pr_unit.specs.UnitStates.{UnitState}

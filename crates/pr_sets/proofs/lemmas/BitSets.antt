@@ -1,9 +1,9 @@
 -- The bits of a word, as the set of numbers that it stands for.
-use Rattle.std.proofs.Common.{◌≡◌, ◌≢◌, ℕ, ◌-◌, ◌*◌, ◌/◌, ◌%◌, ◌^◌, ◌<◌, ◌≤◌, true, false, ◌==◌, ◌&&◌, ◌||◌, not, nat_lt, nat_le, min, max, refl, sym, ap, ◌∙◌, inl, inr, ◌⊎◌, arith, bit_or, bit_and}
+use Rattle.std.proofs.Common.{◌≡◌, ℕ, ◌-◌, ◌*◌, ◌/◌, ◌%◌, ◌^◌, ◌<◌, ◌≤◌, true, false, ◌==◌, ◌&&◌, not, nat_lt, nat_le, ap, ◌∙◌, inl, inr, ◌⊎◌, arith, bit_and}
 use Rattle.std.specs.Int.{w16, bit_at, trailing_zeros}
-use Rattle.std.proofs.lemmas.Bool.Decides.{nat_tests, eqb_tells, leb_tells}
-use Rattle.std.proofs.lemmas.Nat.Bits.{bit_at_set_same, bit_at_set_other, bit_at_and, bit_at_or, bit_at_not, bit_at-zero, bit_at-lt, bit_at_above, bit_at_ones, bit_at_ones_above, bit_at-trailing_zeros, ones_shr, same_from_bits_below}
-use Rattle.std.proofs.Math.Bool.{and_comm, or_comm}
+use Rattle.std.proofs.lemmas.Bool.Decides.{nat_tests, leb_tells}
+use Rattle.std.proofs.lemmas.Nat.Bits.{bit_at-lt, bit_at_above, bit_at_ones, bit_at_ones_above, bit_at-trailing_zeros, ones_shr, same_from_bits_below}
+use Rattle.std.proofs.Math.Bool.{and_comm}
 use Rattle.pr_sets.specs.declared.bit_set.BitSet.{BitSet}
 use Rattle.pr_sets.specs.BitSets.{has, IsLeast}
 use Rattle.pr_sets.proofs.lemmas.WordBits.{has-except, has-only}

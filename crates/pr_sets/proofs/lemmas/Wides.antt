@@ -1,5 +1,5 @@
 -- The bits of a wide word, as the set of numbers that it stands for.
-use Rattle.std.proofs.Common.{◌≡◌, ℕ, ◌^◌, ◌<◌, true, ◌==◌, ap}
+use Rattle.std.proofs.Common.{◌≡◌, ◌^◌, ◌<◌, true, ◌==◌, ap}
 use Rattle.std.specs.Int.{w128, trailing_zeros}
 use Rattle.std.proofs.lemmas.Nat.Bits.{bit_at-trailing_zeros}
 use Rattle.pr_sets.specs.declared.wide.Wide.{Wide}

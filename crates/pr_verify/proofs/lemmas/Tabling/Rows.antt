@@ -6,7 +6,6 @@ use Rattle.std.proofs.lemmas.List.FromFn.{map-range_with_len_more}
 use Rattle.std.proofs.lemmas.List.Elements.{All-push, filter-append, Contains-push, Contains-push_cases, Contains-get_or}
 use Rattle.std.proofs.lemmas.List.Quantifiers.{all_pairs_push}
 use Rattle.pr_script.specs.declared.script.Test.TheVariants as test
-use Rattle.pr_sets.specs.Numbers.{Numbers}
 use Rattle.pr_sets.specs.declared.view_set.ViewSet.{Ghosts as ViewSet}
 use Rattle.pr_domain.specs.declared.landing.Class.TheVariants.{Good, Conflict, Busy, Full, Sense}
 use Rattle.pr_verify.specs.Rooms.{table_of}

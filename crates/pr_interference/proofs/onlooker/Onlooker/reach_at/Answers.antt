@@ -1,4 +1,4 @@
-use Rattle.pr_interference.proofs.Common.{◌≡◌, ℕ, ◌≤◌, true, false, ◌≢◌, Some, sym, ap, ◌∙◌, subst, has_wide, has, Kind, is_kind, is_held_by_all, new_reservation, One, has_at, number_of, number_in, MOST_KEYS}
+use Rattle.pr_interference.proofs.Common.{◌≡◌, ℕ, true, false, Some, sym, ap, ◌∙◌, subst, has_wide, has, Kind, is_kind, is_held_by_all, new_reservation, One, has_at, number_of, number_in}
 use Rattle.pr_interference.specs.inside.Reaching.{MayAllGo, number_named, HasEveryKeyBut}
 use Rattle.pr_interference.proofs.lemmas.Reaching.Bounds.{register_reach, unregister_reach, reserve_reach, release_reach, clear_reach, preempt_all_reach, preempt_key_reach, forbidden_reach}
 use Rattle.pr_interference.proofs.onlooker.Onlooker.reach_at.Goals as goal

@@ -2,7 +2,7 @@ use Rattle.pr_verify.proofs.Common.{◌≡◌, ◌≤◌, true, length, slice_in
 use Rattle.pr_script.specs.Grammar.{test_fits}
 use Rattle.pr_verify.specs.inside.Asked.{IsAskedBefore}
 use Rattle.pr_verify.proofs.lemmas.Known.Recollection.{all_pushed}
-use Rattle.pr_verify.proofs.lemmas.Known.Questions.{kind_at, host_at, written_at, recalled, answer_to, answered_now}
+use Rattle.pr_verify.proofs.lemmas.Known.Questions.{host_at, written_at, recalled, answer_to, answered_now}
 use Rattle.pr_verify.proofs.answers.Questions+ViewOf+S.answer.Goals as goal
 
 pub returns-in-Some-clause-answer : goal.returns-in-Some-clause-answer
