@@ -1,7 +1,7 @@
 //! Which parts make a scenario.
 //!
-//! `Parts::fits`, with what belongs to it, is for who makes a scenario otherwise than by reading a text. No command of the program
-//! calls it.
+//! `Parts::fits`, with what belongs to it, is for who makes a scenario otherwise than by reading a text, and `are_declared` for who
+//! makes a view of keys of his own. No command of the program calls them.
 
 ghost use Rattle.std.specs.Prelude.{◌≡◌, ◌&&◌, ◌↔◌, ◌<◌, ◌≤◌, IsTrue, length, map, bytes_eq};
 ghost use Rattle.std.specs.List.{All, list_all, list_any};
@@ -90,7 +90,9 @@ fn is_task_of(version: u8, task: &Task) -> bool
     }
 }
 
-fn are_declared(keys: &[u64]) -> bool
+/// Whether a scenario can declare these keys: none is zero, each stands once, and there are no more than
+/// [`MOST_KEYS`](crate::limits::MOST_KEYS).
+pub fn are_declared(keys: &[u64]) -> bool
     ensures { IsTrue result ↔ AreDeclared keys.now }
 {
     are_keys(keys) && keys.len() <= MOST_KEYS && are_distinct(keys)

@@ -21,7 +21,7 @@ mod step;
 mod uniqueness;
 
 pub use entry::Entry;
-pub use fitting::{are_alternatives, is_action};
+pub use fitting::{are_alternatives, are_declared, is_action};
 pub use how::{How, Refusals};
 pub use item::Item;
 pub use laws::{

@@ -1,8 +1,10 @@
 //! A set of numbers below 128, as the bits of a wide word.
 
-ghost use Rattle.std.specs.Prelude.{◌≡◌, ◌<◌, ℕ, false, ◌==◌, ◌&&◌, ◌||◌, not, IsTrue};
+ghost use Rattle.std.specs.Prelude.{◌≡◌, ◌<◌, ◌≤◌, ℕ, false, ◌==◌, ◌&&◌, ◌||◌, not, nat_lt, IsTrue};
 ghost use Rattle.pr_sets.specs.Numbers.{most};
 ghost use Rattle.pr_sets.specs.Wides.{has_wide};
+
+use crate::view_set::MOST;
 
 /// A set of numbers below 128, for reckoning with whole sets at a time. Sets of numbers below 16 take an eighth of its room
 /// as a [`BitSet`](crate::BitSet).
@@ -17,6 +19,19 @@ impl Wide {
         ensures { (n : ℕ) → has_wide result n ≡ false }
     {
         Wide { bits: 0 }
+    }
+
+    /// Every number below the size.
+    pub fn below(size: u8) -> Self
+        requires { size ≤ most }
+        ensures { (n : ℕ) → has_wide result n ≡ nat_lt n size }
+    {
+        if size == 0 {
+            return Wide { bits: 0 };
+        }
+        Wide {
+            bits: u128::MAX >> (MOST - size),
+        }
     }
 
     /// This number alone.

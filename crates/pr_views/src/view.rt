@@ -176,8 +176,8 @@ impl<S: ViewSet> ViewOf<S> {
     }
 }
 
-// How many registrations one can have: none, or one by each key.
-fn count_of_registrations(keys: &[u64]) -> u8
+/// How many registrations one can have: none, or one by each key.
+pub(crate) fn count_of_registrations(keys: &[u64]) -> u8
     requires { length keys.now ≤ MOST_KEYS }
     ensures { result ≡ length keys.now + 1 }
 {

@@ -1,8 +1,8 @@
 -- The bits of a word, as the set of numbers that it stands for.
-use Rattle.std.proofs.Common.{◌≡◌, ℕ, ◌-◌, ◌*◌, ◌/◌, ◌%◌, ◌^◌, ◌<◌, ◌≤◌, true, false, ◌==◌, ◌&&◌, not, nat_lt, nat_le, ap, ◌∙◌, inl, inr, ◌⊎◌, arith, bit_and}
+use Rattle.std.proofs.Common.{◌≡◌, ℕ, ◌-◌, ◌*◌, ◌%◌, ◌^◌, ◌<◌, ◌≤◌, true, false, ◌==◌, ◌&&◌, not, nat_le, ap, ◌∙◌, inl, inr, ◌⊎◌, arith, bit_and}
 use Rattle.std.specs.Int.{w16, bit_at, trailing_zeros}
 use Rattle.std.proofs.lemmas.Bool.Decides.{nat_tests, leb_tells}
-use Rattle.std.proofs.lemmas.Nat.Bits.{bit_at-lt, bit_at_above, bit_at_ones, bit_at_ones_above, bit_at-trailing_zeros, ones_shr, same_from_bits_below}
+use Rattle.std.proofs.lemmas.Nat.Bits.{bit_at-lt, bit_at_above, bit_at-trailing_zeros, same_from_bits_below}
 use Rattle.std.proofs.Math.Bool.{and_comm}
 use Rattle.pr_sets.specs.declared.bit_set.BitSet.{BitSet}
 use Rattle.pr_sets.specs.BitSets.{has, IsLeast}
@@ -59,21 +59,3 @@ has-without a k n fits small =
   where
     one_fits : 1 * 2 ^ k % 2 ^ 16 < 2 ^ 16
     one_fits = omega arith
-
-pub has-below : (size n : ℕ) → size ≤ 16 → (bit_at ((2 ^ 16 - 1) / 2 ^ (16 - size)) n == 1) ≡ nat_lt n size
-has-below size n small =
-    ap (λ b. bit_at b n == 1) (ones_shr 16 (16 - size) few ∙ ap (λ k. 2 ^ k - 1) back) ∙ at (leb_tells size n)
-  where
-    few : 16 - size ≤ 16
-    few = omega arith
-
-    back : 16 - (16 - size) ≡ size
-    back = omega arith
-
-    at : ((nat_le size n ≡ true) × (size ≤ n)) ⊎ ((nat_le size n ≡ false) × (n < size)) → (bit_at (2 ^ size - 1) n == 1) ≡ nat_lt n size
-    at (inl above) =
-        let late : nat_lt n size ≡ false = grind (arith, nat_tests) in
-        rw late (ap (λ x. x == 1) (bit_at_ones_above size n above.1))
-    at (inr inside) =
-        let early : nat_lt n size ≡ true = grind (arith, nat_tests) in
-        rw early (ap (λ x. x == 1) (bit_at_ones size n inside.1))

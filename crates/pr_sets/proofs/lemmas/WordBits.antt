@@ -1,9 +1,9 @@
 -- Bits of what is reckoned from words of any width.
-use Rattle.std.proofs.Common.{◌≡◌, ◌≢◌, ℕ, ◌-◌, ◌*◌, ◌%◌, ◌^◌, ◌<◌, ◌≤◌, true, false, ◌==◌, ◌&&◌, ◌||◌, not, nat_le, min, max, refl, sym, ap, ◌∙◌, inl, inr, ◌⊎◌, arith, bit_or, bit_and}
+use Rattle.std.proofs.Common.{◌≡◌, ◌≢◌, ℕ, ◌-◌, ◌*◌, ◌/◌, ◌%◌, ◌^◌, ◌<◌, ◌≤◌, true, false, ◌==◌, ◌&&◌, ◌||◌, not, nat_lt, nat_le, min, max, refl, sym, ap, ◌∙◌, inl, inr, ◌⊎◌, arith, bit_or, bit_and}
 use mir.Val.{bits}
 use Rattle.std.specs.Int.{Width, bit_at}
 use Rattle.std.proofs.lemmas.Bool.Decides.{nat_tests, eqb_tells, leb_tells}
-use Rattle.std.proofs.lemmas.Nat.Bits.{bit_at_set_same, bit_at_set_other, bit_at_and, bit_at_or, bit_at_not, bit_at-zero, bit_at-lt, bit_at_above}
+use Rattle.std.proofs.lemmas.Nat.Bits.{bit_at_set_same, bit_at_set_other, bit_at_and, bit_at_or, bit_at_not, bit_at-zero, bit_at-lt, bit_at_above, bit_at_ones, bit_at_ones_above, ones_shr}
 use Rattle.std.proofs.Math.Bool.{or_comm}
 
 pub has-and : (a b n : ℕ) → (bit_at (bit_and a b) n == 1) ≡ ((bit_at a n == 1) && (bit_at b n == 1))
@@ -52,3 +52,21 @@ has-only w k n small =
 pub has-with : (w : Width) (a k n : ℕ) → k < bits w → (bit_at (bit_or a (1 * 2 ^ k % 2 ^ bits w)) n == 1) ≡ ((n == k) || (bit_at a n == 1))
 has-with w a k n small =
     has-or a (1 * 2 ^ k % 2 ^ bits w) n ∙ ap (λ c. (bit_at a n == 1) || c) (has-only w k n small) ∙ or_comm (bit_at a n == 1) (n == k)
+
+pub has-below : (w : Width) (size n : ℕ) → size ≤ bits w → (bit_at ((2 ^ bits w - 1) / 2 ^ (bits w - size)) n == 1) ≡ nat_lt n size
+has-below w size n small =
+    ap (λ b. bit_at b n == 1) (ones_shr (bits w) (bits w - size) few ∙ ap (λ k. 2 ^ k - 1) back) ∙ at (leb_tells size n)
+  where
+    few : bits w - size ≤ bits w
+    few = omega arith
+
+    back : bits w - (bits w - size) ≡ size
+    back = omega arith
+
+    at : ((nat_le size n ≡ true) × (size ≤ n)) ⊎ ((nat_le size n ≡ false) × (n < size)) → (bit_at (2 ^ size - 1) n == 1) ≡ nat_lt n size
+    at (inl above) =
+        let late : nat_lt n size ≡ false = grind (arith, nat_tests) in
+        rw late (ap (λ x. x == 1) (bit_at_ones_above size n above.1))
+    at (inr inside) =
+        let early : nat_lt n size ≡ true = grind (arith, nat_tests) in
+        rw early (ap (λ x. x == 1) (bit_at_ones size n inside.1))

@@ -1,3 +1,4 @@
 pub mod Fronts
 pub mod Members
 pub mod Places
+pub mod Ranges
