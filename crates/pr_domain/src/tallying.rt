@@ -21,8 +21,8 @@ use crate::twins::twin_of;
 use pr_cdb::Command;
 use pr_cdb::codes::MOST_NEXUSES;
 use pr_regions::{
-    Branch, Ending, Place, Purpose, Reading, Region, Transition, branches, is_refused, purpose_of,
-    readings, registrations_after, standing_of,
+    Branch, Ending, Place, Purpose, Reading, Region, branches, change_to_reservation, is_refused,
+    purpose_of, readings, registrations_after, standing_of,
 };
 use pr_script::limits::MOST_ARMS;
 use pr_sets::{BitSet, Wide};
@@ -191,18 +191,9 @@ fn add_reading(
     if is_tallied(tally, view, place, senders, &reading.region, way) {
         return;
     }
-    let none = BitSet::none();
-    let change = Transition {
-        sender: None,
-        removed: none,
-        reservation: place.reservation,
-        told_03: none,
-        told_04: none,
-        told_05: none,
-    };
     let branch = Branch {
         region: reading.region,
-        ending: Ending::Good(change),
+        ending: Ending::Good(change_to_reservation(place.reservation)),
     };
     add_branch(tally, view, place, senders, &branch, way);
 }

@@ -1,5 +1,5 @@
 -- The names that most proofs of this crate cite, passed on from one place. Declares nothing.
-pub use Rattle.std.proofs.Common.{◌≡◌, ℕ, zero, suc, ◌+◌, ◌*◌, ◌^◌, ◌<◌, ◌≤◌, max, Bool, true, false, cond, not, ◌&&◌, ◌||◌, ◌≢◌, ◌⊎◌, List, [], ◌∷◌, ◌++◌, length, get_or, is_some, is_none, if◌then◌else◌, IsTrue, nat_lt, nat_le, ◌==◌, slice_index, bit_or, Some, None, Option, option_map, unwrap_or, sym, refl, ap, ◌∙◌, subst, inl, inr, add-one, arith, lit<, length-append, rules}
+pub use Rattle.std.proofs.Common.{◌≡◌, ℕ, zero, suc, ◌+◌, ◌*◌, ◌^◌, ◌<◌, ◌≤◌, max, Bool, true, false, cond, not, ◌&&◌, ◌||◌, ◌≢◌, ◌⊎◌, List, [], ◌∷◌, ◌++◌, length, get_or, is_some, is_none, if◌then◌else◌, IsTrue, nat_lt, nat_le, ◌==◌, slice_index, bit_or, Some, None, Option, option_map, unwrap_or, sym, refl, ap, ◌∙◌, subst, inl, inr, add-one, arith, lit<, length-append}
 pub use Rattle.std.specs.List.{position, list_any}
 pub use Rattle.std.proofs.lemmas.Bool.{not-true, false≢true}
 pub use Rattle.std.proofs.lemmas.Bool.Decides.{nat_tests, eqb_tells}
@@ -32,7 +32,8 @@ pub use Rattle.pr_regions.specs.declared.purpose.Standing.{Standing}
 pub use Rattle.pr_regions.specs.declared.region.Branch.{Branch}
 pub use Rattle.pr_regions.specs.declared.region.Transition.{Transition}
 pub use Rattle.pr_regions.specs.declared.region.Ending.TheVariants.{Conflict, Fault, Good}
-pub use Rattle.pr_regions.specs.inside.Parts.{Does, AlwaysEnds, never, is_unregistered, holds, any, only, is_of_registrant, told_if, but, another, told_but, lost_if, is_named, Leaves, EndsIn, Tell}
+pub use Rattle.pr_regions.specs.Transitions.{Does, never}
+pub use Rattle.pr_regions.specs.inside.Parts.{AlwaysEnds, is_unregistered, holds, any, only, is_of_registrant, told_if, but, another, told_but, lost_if, is_named, Leaves, EndsIn, Tell}
 pub use Rattle.pr_regions.specs.inside.Reads.{IsKnown, answer}
 pub use Rattle.pr_roles.specs.declared.limits.TheConstants.{MOST_KEYS}
 pub use Rattle.pr_views.specs.declared.view.TheConstants.{ATTENTION_SETS}

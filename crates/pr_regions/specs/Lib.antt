@@ -1,5 +1,6 @@
 pub mod Conditions
 pub mod Purposes
+pub mod Transitions
 pub mod Regions
 pub mod Readings
 pub mod Gathering

@@ -6,7 +6,8 @@ ghost use Rattle.pr_registry.specs.Registrations.{is_for_registrants, new_reserv
 ghost use Rattle.pr_views.specs.Possibilities.{number_of};
 ghost use Rattle.pr_regions.specs.Purposes.{HasNumber};
 ghost use Rattle.pr_regions.specs.Regions.{HasRoom};
-ghost use Rattle.pr_regions.specs.inside.Parts.{Does, AlwaysEnds, EndsFor, never, told_if, holds, keeps_from_reading, keeps_from_writing, is_kept_from};
+ghost use Rattle.pr_regions.specs.Transitions.{Does, never};
+ghost use Rattle.pr_regions.specs.inside.Parts.{AlwaysEnds, EndsFor, told_if, holds, keeps_from_reading, keeps_from_writing, is_kept_from};
 
 use crate::conditions::is_holder_as;
 use crate::initiator::Initiator;
@@ -30,8 +31,8 @@ fn holds(held: Held, sender: u8, standing: Standing) -> bool
     is_holder_as(Some(held), sender, standing != Standing::Unregistered)
 }
 
-// A change that leaves everything, and this reservation.
-pub(crate) fn change_to_reservation(reservation: u8) -> Transition
+/// A change that leaves every registration as it is, tells nobody, and leaves the reservation of this number.
+pub fn change_to_reservation(reservation: u8) -> Transition
     ensures { Does result None never reservation never never never }
 {
     let none = BitSet::none();

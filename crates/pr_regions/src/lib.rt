@@ -25,6 +25,7 @@ pub use changed::registrations_after;
 pub use commands::{is_refused, number_in, purpose_of, standing_of};
 pub use comparing::gains;
 pub use dispatch::branches;
+pub use endings::change_to_reservation;
 pub use keeping::kept;
 pub use numbers::{reservation_at, reservation_number};
 pub use place::Place;

@@ -6,7 +6,8 @@ ghost use Rattle.pr_registry.specs.Changes.{is_kind, is_held_by_all};
 ghost use Rattle.pr_roles.specs.declared.limits.TheConstants.{MOST_KEYS};
 ghost use Rattle.pr_views.specs.Possibilities.{number_of};
 ghost use Rattle.pr_regions.specs.Regions.{HasRoom};
-ghost use Rattle.pr_regions.specs.inside.Parts.{Does, TellPreempted, never, only, is_named, told_but, lost_if, IsNotAnothers};
+ghost use Rattle.pr_regions.specs.Transitions.{Does, never};
+ghost use Rattle.pr_regions.specs.inside.Parts.{TellPreempted, only, is_named, told_but, lost_if, IsNotAnothers};
 
 use crate::branching::{ending_everywhere, three, two};
 use crate::endings::{change_to_reservation, new_change};

@@ -5,7 +5,8 @@ ghost use Rattle.pr_registry.specs.Registrations.{holds_alone};
 ghost use Rattle.pr_registry.specs.Changes.{is_held_by_all, is_told_of_loss};
 ghost use Rattle.pr_views.specs.Possibilities.{number_of};
 ghost use Rattle.pr_regions.specs.Regions.{HasRoom};
-ghost use Rattle.pr_regions.specs.inside.Parts.{Does, TellFor, never, told_if, is_unregistered};
+ghost use Rattle.pr_regions.specs.Transitions.{Does, never};
+ghost use Rattle.pr_regions.specs.inside.Parts.{TellFor, told_if, is_unregistered};
 
 use crate::branching::{ending_everywhere, two};
 use crate::endings::{change_to_reservation, no_change, release_change};

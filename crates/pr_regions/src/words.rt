@@ -3,7 +3,8 @@
 ghost use Rattle.std.specs.Prelude.{◌≡◌, ◌≤◌, ◌==◌, ◌&&◌, ℕ, true, false, not};
 ghost use Rattle.pr_sets.specs.BitSets.{has};
 ghost use Rattle.pr_roles.specs.declared.limits.TheConstants.{MOST_KEYS};
-ghost use Rattle.pr_regions.specs.inside.Parts.{HasThose, any, never, but, another, free_or};
+ghost use Rattle.pr_regions.specs.Transitions.{HasThose, never};
+ghost use Rattle.pr_regions.specs.inside.Parts.{any, but, another, free_or};
 
 use pr_sets::BitSet;
 use pr_views::MOST_REGISTRATIONS;

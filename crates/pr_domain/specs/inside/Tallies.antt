@@ -22,7 +22,7 @@ use Rattle.pr_regions.specs.declared.region.Reading.{Reading}
 use Rattle.pr_regions.specs.declared.region.Region.{Region}
 use Rattle.pr_regions.specs.declared.region.Transition.{Transition}
 use Rattle.pr_regions.specs.declared.region.Ending.TheVariants as ending
-use Rattle.pr_regions.specs.inside.Parts.{Does, never}
+use Rattle.pr_regions.specs.Transitions.{Does, never}
 use Rattle.pr_registry.specs.Registrations.{State}
 use Rattle.pr_script.specs.declared.limits.TheConstants.{MOST_ARMS}
 use Rattle.pr_regions.specs.declared.purpose.Purpose.{Purpose}

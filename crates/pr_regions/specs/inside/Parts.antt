@@ -23,19 +23,13 @@ use Rattle.pr_regions.specs.declared.purpose.Standing.TheVariants.{Unregistered,
 use Rattle.pr_regions.specs.declared.initiator.Initiator.{Initiator}
 use Rattle.pr_regions.specs.declared.initiator.Preemption.{Preemption}
 use Rattle.pr_regions.specs.Conditions.{is_holder_as}
+use Rattle.pr_regions.specs.Transitions.{Does, HasThose, never}
 use Rattle.pr_regions.specs.Regions.{Meets, IsInRegion, Ends, AreBranches, IsProper, HasRoom}
 
 -- ---- words
 
--- of the registrations that there can be, the word has those that pass
-abbrev pub HasThose : BitSet → (ℕ → Bool) → Type 0
-HasThose w passes = (r : ℕ) → r ≤ MOST_KEYS → has w r ≡ passes r
-
 abbrev pub any : ℕ → Bool
 any r = true
-
-abbrev pub never : ℕ → Bool
-never r = false
 
 abbrev pub is_of_registrant : ℕ → Bool
 is_of_registrant r = not (r == 0)
@@ -82,16 +76,6 @@ pub record Leaves (region : Region) (holder others : ℕ → Bool) (test : Optio
   pub to_holder : HasThose region.holder holder
   pub to_others : HasThose region.others others
   pub tested : IsTest region.somebody test
-
--- the change gives the sender this registration, where it gives one, removes and tells these others, and leaves
--- this reservation
-pub record Does (c : Transition) (to : Option ℕ) (out : ℕ → Bool) (left : ℕ) (tells_03 tells_04 tells_05 : ℕ → Bool) : Type 0 where
-  pub sender : c.sender ≡ to
-  pub removed : HasThose c.removed out
-  pub reservation : c.reservation ≡ left
-  pub told_03 : HasThose c.told_03 tells_03
-  pub told_04 : HasThose c.told_04 tells_04
-  pub told_05 : HasThose c.told_05 tells_05
 
 -- ---- what is known of the sender
 

@@ -8,7 +8,7 @@ use Rattle.pr_script.specs.declared.script.Test.TheVariants as test
 use Rattle.pr_script.specs.Grammar.{is_read_keys, is_read_reservation, is_declared}
 use Rattle.pr_regions.specs.declared.purpose.Purpose.TheVariants.{Look}
 use Rattle.pr_regions.specs.declared.region.Ending.TheVariants as ending
-use Rattle.pr_regions.specs.inside.Parts.{Does, never}
+use Rattle.pr_regions.specs.Transitions.{Does, never}
 use Rattle.pr_regions.specs.Readings.{AreReadings, IsProperReading}
 use Rattle.pr_regions.specs.Regions.{Ends, Meets, IsInRegion}
 use Rattle.pr_regions.proofs.lemmas.Parts.Endings.{same_ends}

@@ -1,30 +1,9 @@
-use Rattle.pr_domain.proofs.Common.{None, refl, view_in, IsAt, Transition, IsReadAt}
-use Rattle.pr_regions.specs.inside.Parts.{Does, never}
+use Rattle.pr_domain.proofs.Common.{refl, view_in, IsAt, IsReadAt}
 use Rattle.pr_domain.proofs.lemmas.Tallies.DataArms.{reading_right, read_at, at_read}
 use Rattle.pr_domain.proofs.lemmas.Tallies.Requests.{only_uniform}
 use Rattle.pr_domain.proofs.lemmas.Tallies.Growth.{grows_as}
 use Rattle.pr_domain.proofs.lemmas.Tallies.PresentStates.{reading_there}
 use Rattle.pr_domain.proofs.tallying.add_reading.Goals as goal
-
-abbrev kept : (c : goal.After-add_branch) → Transition
-kept c = record {
-  sender = None;
-  removed = c.none-none.result;
-  reservation = c.args.place.reservation;
-  told_03 = c.none-none.result;
-  told_04 = c.none-none.result;
-  told_05 = c.none-none.result;
-}
-
-does : (c : goal.After-add_branch) → Does (kept c) None never c.args.place.reservation never never never
-does c = record {
-  sender = refl;
-  removed = λ r small. c.none-none.ensures r;
-  reservation = refl;
-  told_03 = λ r small. c.none-none.ensures r;
-  told_04 = λ r small. c.none-none.ensures r;
-  told_05 = λ r small. c.none-none.ensures r;
-}
 
 pub returns : goal.returns
 returns c s c' tests right =
@@ -32,7 +11,7 @@ returns c s c' tests right =
     (IsReadAt s c.args.view.now c.args.place c.args.registration c.args.reading.now)
     (λ u shown at. read_at s c.args.view.now c.args.place c.args.registration c.only-senders.result c.args.reading.now u right.is c.only-senders.ensures at)
     (λ u shown read. at_read s c.args.view.now c.args.place c.args.registration c.only-senders.result c.args.reading.now u right.is c.only-senders.ensures shown read)
-    (c.add_branch.ensures s c' tests (reading_right s c' tests c.args.view.now c.args.place c.args.registration c.only-senders.result c.args.reading.now _ (kept c) c.way_of-way.result.number right c.only-senders.ensures refl refl (does c) c.way_of-way.ensures.way c.way_of-way.ensures.none))
+    (c.add_branch.ensures s c' tests (reading_right s c' tests c.args.view.now c.args.place c.args.registration c.only-senders.result c.args.reading.now _ c.change_to_reservation.result c.way_of-way.result.number right c.only-senders.ensures refl refl c.change_to_reservation.ensures c.way_of-way.ensures.way c.way_of-way.ensures.none))
 
 pub returns-then-is_tallied : goal.returns-then-is_tallied
 returns-then-is_tallied c s c' tests right =

@@ -13,7 +13,8 @@ use Rattle.pr_registry.specs.Changes.{Case, ReplacesAll, ReplacesHolder, Removes
 use Rattle.pr_registry.specs.Effects.{with_registration as register, held_by_rest, held_or, with_reservation, after_release, without_registration, after_clear, after_preempt}
 use Rattle.pr_registry.proofs.lemmas.Sets.{get-without, contains-hosts_with, not_empty_from_some}
 use Rattle.pr_views.specs.Possibilities.{key_at}
-use Rattle.pr_regions.specs.inside.Parts.{never, is_of_registrant, told_if, told_but, lost_if}
+use Rattle.pr_regions.specs.Transitions.{never}
+use Rattle.pr_regions.specs.inside.Parts.{is_of_registrant, told_if, told_but, lost_if}
 use Rattle.pr_regions.proofs.lemmas.Showing.Numbers.{AreDistinct, same_number_at}
 use Rattle.pr_regions.proofs.lemmas.Purposes.Conduct.{after_for, change_for}
 use Rattle.pr_regions.proofs.lemmas.Regions.ChangedStates.{Is, then_in}

@@ -11,7 +11,7 @@ use Rattle.pr_regions.specs.declared.region.Reading.{Reading}
 use Rattle.pr_regions.specs.declared.key_reads.Ask.TheVariants.{Always, Never, Somebody}
 use Rattle.pr_regions.specs.Regions.{filter_of}
 use Rattle.pr_regions.specs.Readings.{first_test, IsRead, AreReadings}
-use Rattle.pr_regions.specs.inside.Parts.{HasThose}
+use Rattle.pr_regions.specs.Transitions.{HasThose}
 use Rattle.pr_regions.specs.inside.Reads.{HasNobody, IsAsked, open_to, AreReadSoFar}
 use Rattle.pr_regions.proofs.lemmas.Showing.Numbers.{few_keys}
 use Rattle.pr_regions.proofs.lemmas.Parts.Branches.{somebody_or_none}
