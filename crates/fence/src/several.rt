@@ -2,7 +2,7 @@
 
 use arrayvec::ArrayVec;
 use pr_commands::{ExitStatus, Fault, tell};
-use pr_report::{WriteFault, put};
+use pr_output::{WriteFault, put};
 use std::io::Write;
 
 /// The line of a verdict or of a fault, which has at most three names or numbers.

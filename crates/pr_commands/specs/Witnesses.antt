@@ -5,7 +5,7 @@ use Rattle.std.specs.Fmt.{decimal}
 use Rattle.pr_roles.specs.Scenarios.{Scenario}
 use Rattle.pr_roles.specs.Safety.{IsSafe}
 use Rattle.pr_text.specs.Reading.{IsWrittenAs}
-use Rattle.pr_report.specs.PrintedLines.{line}
+use Rattle.pr_output.specs.PrintedLines.{line}
 use Rattle.pr_report.specs.TraceText.{names_in}
 use Rattle.pr_witness.specs.declared.searching.Bound.{Bound}
 use Rattle.pr_witness.specs.declared.searching.Bound.TheVariants.{Worlds, Depth, Memory}

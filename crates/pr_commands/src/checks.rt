@@ -3,7 +3,7 @@
 ghost use Rattle.std.specs.Prelude.{◌≡◌, ◌+◌, IfErr, IfOk};
 ghost use Rattle.pr_text.specs.declared.text.TheConstants.{MOST_BYTES};
 ghost use Rattle.pr_text.specs.BytesRead.{LosesUpTo};
-ghost use Rattle.pr_report.specs.Written.{Writes};
+ghost use Rattle.pr_output.specs.Written.{Writes};
 ghost use Rattle.pr_commands.specs.Endings.{IsCommandOver, EndsOver};
 ghost use Rattle.pr_commands.specs.Checks.{EndsCheck};
 ghost use Rattle.pr_commands.specs.declared.fault.Fault.TheVariants.{Memory};
@@ -11,7 +11,8 @@ ghost use Rattle.pr_commands.specs.inside.Judgements.{IsJudged, IsVerified, Stan
 
 use crate::ending::ended;
 use crate::fault::{ExitStatus, Fault};
-use pr_report::{Verdict, WriteFault, write_verdict};
+use pr_output::WriteFault;
+use pr_report::{Verdict, write_verdict};
 use pr_text::read;
 use pr_verify::{Refusal, Refused, Verified, verify};
 use std::alloc::Global;

@@ -1,11 +1,11 @@
 //! How a command of the program ends: its status, and the line that tells its fault.
 
 ghost use Rattle.std.specs.Prelude.{◌≡◌};
-ghost use Rattle.pr_report.specs.Written.{AppendsFront, Writes};
+ghost use Rattle.pr_output.specs.Written.{AppendsFront, Writes};
 ghost use Rattle.pr_commands.specs.Endings.{status_of_end, told_of_end};
 
 use crate::fault::{ExitStatus, Fault, put_fault};
-use pr_report::WriteFault;
+use pr_output::WriteFault;
 use std::io::Write;
 
 /// Ends a command: a fault is told in one line. What the writer does not take of it is dropped, since the status says enough.

@@ -2,12 +2,13 @@
 
 ghost use Rattle.std.specs.Prelude.{◌≡◌, codes, map};
 ghost use Rattle.std.specs.IoError.{error_kind};
-ghost use Rattle.pr_report.specs.Written.{AppendsFront, Writes};
-ghost use Rattle.pr_report.specs.Printed.{printed_word};
+ghost use Rattle.pr_output.specs.Written.{AppendsFront, Writes};
+ghost use Rattle.pr_output.specs.Printed.{printed_word};
 ghost use Rattle.pr_commands.specs.FaultText.{args_fault, exit_status_of, fault_text, input_words, open_fault, status_of, told_line, trace_words, which_word};
 ghost use Rattle.pr_commands.specs.inside.FaultRows.{row_words};
 
-use pr_report::{Token, TraceError, WriteFault, put_line};
+use pr_output::{Token, WriteFault, put_line};
+use pr_report::TraceError;
 use pr_roles::Word;
 use pr_text::{ReadError, Which};
 use std::alloc::{AllocError, AllocFailed};
@@ -185,7 +186,7 @@ pub fn tell<W: Write>(errors: &mut W, fault: &Fault)
 }
 
 /// Writes the one line for a fault.
-#[tactic(auto, unfolding(crate::specs::FaultText::fault_text, pr_report::specs::Printed::printed_word))]
+#[tactic(auto, unfolding(crate::specs::FaultText::fault_text, pr_output::specs::Printed::printed_word))]
 pub(crate) fn put_fault<W: Write>(errors: &mut W, fault: &Fault) -> Result<(), WriteFault>
     ensures { Writes W.Write errors (fault_text fault.now) result }
 {
@@ -256,7 +257,7 @@ fn trace_row(error: TraceError) -> FaultRow
 }
 
 // The line for a fault of this text, which is the input or the trace.
-#[tactic(auto, unfolding(pr_report::specs::Printed::printed_word))]
+#[tactic(auto, unfolding(pr_output::specs::Printed::printed_word))]
 fn put_row<W: Write>(errors: &mut W, text: &[u8], row: FaultRow) -> Result<(), WriteFault>
     ensures { Writes W.Write errors (told_line (row_words text.now row)) result }
 {
@@ -310,7 +311,7 @@ fn which_word(which: Which) -> &'static [u8]
 }
 
 // The line with these words after the program's name.
-#[tactic(auto, unfolding(pr_report::specs::Printed::printed_word))]
+#[tactic(auto, unfolding(pr_output::specs::Printed::printed_word))]
 fn put_told<W: Write>(errors: &mut W, words: &[Token<'_>]) -> Result<(), WriteFault>
     ensures { Writes W.Write errors (told_line (map printed_word words.now)) result }
 {

@@ -4,9 +4,9 @@ ghost use Rattle.std.specs.Prelude.{◌≡◌, ◌+◌, ◌∷◌, codes};
 ghost use Rattle.std.specs.Fmt.{decimal};
 ghost use Rattle.pr_text.specs.declared.text.TheConstants.{MOST_BYTES};
 ghost use Rattle.pr_text.specs.BytesRead.{LosesUpTo};
-ghost use Rattle.pr_report.specs.PrintedLines.{line};
+ghost use Rattle.pr_output.specs.PrintedLines.{line};
 ghost use Rattle.pr_report.specs.TraceText.{names_under};
-ghost use Rattle.pr_report.specs.Written.{Writes};
+ghost use Rattle.pr_output.specs.Written.{Writes};
 ghost use Rattle.pr_commands.specs.Endings.{IsCommandOver, EndsOver};
 ghost use Rattle.pr_commands.specs.Witnesses.{EndsWitness, bound_words, is_breach, search_text};
 ghost use Rattle.pr_commands.specs.inside.Witnessed.{IsWitnessed, answer_in, witnessed_text};
@@ -15,7 +15,8 @@ use crate::checks::settled;
 use crate::ending::ended;
 use crate::fault::{ExitStatus, Fault};
 use crate::witness_text::write_witness;
-use pr_report::{Token, Verdict, WriteFault, put_line, write_verdict};
+use pr_output::{Token, WriteFault, put_line};
+use pr_report::{Verdict, write_verdict};
 use pr_roles::Scenario;
 use pr_text::read;
 use pr_verify::{Verified, verify};
@@ -114,7 +115,7 @@ fn put_search<W: Write>(
 }
 
 // That nothing was found among so many worlds, and the bound that was met.
-#[tactic(auto, unfolding(pr_report::specs::Printed::printed_word))]
+#[tactic(auto, unfolding(pr_output::specs::Printed::printed_word))]
 fn put_none<W: Write>(writer: &mut W, worlds: usize, bound: Option<Bound>) -> Result<(), WriteFault>
     ensures { Writes W.Write writer (line (codes "none") (decimal worlds ∷ bound_words bound))
         result }

@@ -4,7 +4,7 @@ use crate::costing::Cost;
 use crate::lint::Lint;
 use crate::lint_words::{is_meant, put_lint};
 use crate::saying::{Part, name, number, say};
-use pr_report::{WriteFault, put};
+use pr_output::{WriteFault, put};
 use pr_roles::Scenario;
 use std::io::Write;
 

@@ -8,7 +8,7 @@ use crate::source::line_of;
 use pr_cdb::codes::{ILLEGAL_REQUEST, UNIT_ATTENTION};
 use pr_cdb::{Command, Kind, Sense};
 use pr_domain::Class;
-use pr_report::{Token, WriteFault, put, put_line, put_spaced};
+use pr_output::{Token, WriteFault, put, put_line, put_spaced};
 use pr_roles::{Nexus, names};
 use pr_script::limits::MOST_BUDGET;
 use pr_verify::{Refusal, Row, Table};

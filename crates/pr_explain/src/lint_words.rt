@@ -4,7 +4,7 @@ use crate::blocks::{arm_of, is_denied};
 use crate::lint::Lint;
 use crate::saying::{Part, line_number, name, say};
 use crate::source::{keys_line, line_of};
-use pr_report::{Token, WriteFault, put};
+use pr_output::{Token, WriteFault, put};
 use pr_roles::Nexus;
 use pr_words::name_of;
 use std::io::Write;

@@ -5,7 +5,7 @@ use crate::saying::{Part, name, number, say};
 use crate::senders::SentBy;
 use crate::source::line_of;
 use pr_attention::{Attention, Pending};
-use pr_report::{WriteFault, put};
+use pr_output::{WriteFault, put};
 use pr_roles::{Action, Clause, Item, Nexus};
 use pr_unit::Unit;
 use pr_verify::Refusal;

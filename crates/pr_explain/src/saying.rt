@@ -1,6 +1,6 @@
 //! Sentences to a writer.
 
-use pr_report::{Token, WriteFault, put, put_spaced};
+use pr_output::{Token, WriteFault, put, put_spaced};
 use std::io::Write;
 
 /// A part of a sentence.

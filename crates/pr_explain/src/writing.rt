@@ -3,7 +3,7 @@
 use crate::accepting::put_accepted;
 use crate::plan::Explanation;
 use crate::refusing::put_refused;
-use pr_report::WriteFault;
+use pr_output::WriteFault;
 use std::io::Write;
 
 /// Writes what is said of a scenario whose text has these lines. On a fault, the writer is not called again.

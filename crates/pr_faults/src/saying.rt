@@ -1,6 +1,6 @@
 //! Sentences, of texts and numbers.
 
-use pr_report::{WriteFault, put};
+use pr_output::{WriteFault, put};
 use pr_words::put_number;
 use std::io::Write;
 

@@ -8,7 +8,7 @@ use crate::saying::{Said, say};
 use crate::slots::Slot;
 use crate::unknown::put_word_carets;
 use crate::words::{Placed, Words, is, word_at, words_in};
-use pr_report::{WriteFault, put};
+use pr_output::{WriteFault, put};
 use pr_script::is_name;
 use pr_words::{line_in, put_source_line};
 use std::io::Write;

@@ -6,7 +6,7 @@ use crate::open::{Open, Section};
 use crate::saying::{Said, say};
 use crate::standing::tell_syntax;
 use crate::unknown::{tell_repeated, tell_undeclared, tell_unknown};
-use pr_report::{WriteFault, put};
+use pr_output::{WriteFault, put};
 use pr_text::ReadError;
 use pr_words::{line_in, put_carets, put_source_line};
 use std::io::Write;

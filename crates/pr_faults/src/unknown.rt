@@ -4,7 +4,7 @@ use crate::declared::{declaration, is_declared, keys_line, line_of, nearest_key,
 use crate::saying::{Said, say};
 use crate::slots::option_key;
 use crate::words::{Placed, Words, is, key_in, word_at, words_in};
-use pr_report::{WriteFault, put};
+use pr_output::{WriteFault, put};
 use pr_words::{line_in, put_carets, put_source_line};
 use std::io::Write;
 

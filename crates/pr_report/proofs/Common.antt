@@ -23,15 +23,15 @@ pub use Rattle.pr_report.specs.BytesTaken.{bytes_of_lines}
 pub use Rattle.pr_report.specs.EntryWords.{pairs_in}
 pub use Rattle.pr_report.specs.OutlineText.{free_or_key, codes_in, sends_text}
 unfoldable pub use Rattle.pr_report.specs.OutlineText.{registration_line, send_text}
-unfoldable pub use Rattle.pr_report.specs.Printed.{printed_word}
-pub use Rattle.pr_report.specs.PrintedLines.{pairs_or_dash, attentions_word}
-unfoldable pub use Rattle.pr_report.specs.PrintedLines.{joined_by_spaces, line, pairs}
+unfoldable pub use Rattle.pr_output.specs.Printed.{printed_word}
+pub use Rattle.pr_output.specs.PrintedLines.{pairs_or_dash, attentions_word}
+unfoldable pub use Rattle.pr_output.specs.PrintedLines.{joined_by_spaces, line, pairs}
 pub use Rattle.pr_report.specs.TraceReadings.{and_then, later_lines, items_of, trace_in}
 unfoldable pub use Rattle.pr_report.specs.TraceReadings.{lines, words, item_on, is_later}
 pub use Rattle.pr_report.specs.TraceText.{names_in, names_of, name_of, item_lines, held_word, ending_lines}
 unfoldable pub use Rattle.pr_report.specs.TraceText.{first_line, unit_line}
 pub use Rattle.pr_report.specs.Versions.{most_items}
-pub use Rattle.pr_report.specs.Written.{Wrote, FallsShort, Puts}
+pub use Rattle.pr_output.specs.Written.{Wrote, FallsShort, Puts}
 pub use Rattle.pr_report.specs.inside.LinesAhead.{bytes_held, bytes_left, Takes, Leads}
 pub use Rattle.pr_report.specs.declared.trace_reading.TheConstants.{MOST_LATER_LINES}
 pub use Rattle.pr_report.specs.declared.ahead.TheConstants.{MOST_LINE_BYTES}

@@ -1,5 +1,6 @@
 pub mod BytesTaken
 pub mod EntryWords
+pub mod FrontsWritten
 pub mod LinesAhead
 pub mod OutlineText
 pub mod TraceLaws
@@ -7,4 +8,4 @@ pub mod TraceReadings
 pub mod TraceText
 pub mod Traces
 pub mod Verdicts
-pub mod Written
+pub mod WordsWritten

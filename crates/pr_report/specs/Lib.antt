@@ -1,6 +1,3 @@
-pub mod Written
-pub mod PrintedLines
-pub mod Printed
 pub mod Versions
 pub mod TraceText
 pub mod Traces

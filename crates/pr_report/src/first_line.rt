@@ -1,12 +1,11 @@
 //! The line above all others of a trace.
 
 ghost use Rattle.std.specs.Prelude.{◌≡◌, ◌++◌, bytes_eq, codes};
-ghost use Rattle.pr_report.specs.Written.{Writes};
+ghost use Rattle.pr_output.specs.Written.{Writes};
 ghost use Rattle.pr_report.specs.TraceText.{first_line};
 
-use crate::output::{WriteFault, put};
-use crate::printing::put_number;
 use itoa::Buffer;
+use pr_output::{WriteFault, put, put_number};
 use std::io::Write;
 
 // What stands before the version.

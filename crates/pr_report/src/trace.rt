@@ -5,22 +5,22 @@ ghost use Rattle.pr_registry.specs.Registrations.{key_of};
 ghost use Rattle.pr_roles.specs.Scenarios.{scenario_of};
 ghost use Rattle.pr_world.specs.Ends.{ending_of};
 ghost use Rattle.pr_report.specs.inside.WordsWritten.{WritesWords};
-ghost use Rattle.pr_report.specs.Written.{Writes};
+ghost use Rattle.pr_output.specs.Written.{Writes};
 ghost use Rattle.pr_report.specs.inside.FrontsWritten.{WritesPaged, Adds};
 ghost use Rattle.pr_report.specs.inside.TraceLines.{line_text};
 ghost use Rattle.std.specs.Bool.{OnTrue, OnFalse};
 ghost use Rattle.std.specs.Fmt.{decimal};
-ghost use Rattle.pr_report.specs.Printed.{printed_word};
-ghost use Rattle.pr_report.specs.PrintedLines.{line};
+ghost use Rattle.pr_output.specs.Printed.{printed_word};
+ghost use Rattle.pr_output.specs.PrintedLines.{line};
 ghost use Rattle.pr_report.specs.TraceText.{ending_line, ending_lines, entry_line, held_word, item_line, item_lines, name_of, names_of, registration_words, reset_line, sense_data, trace_body, trace_text, unit_line, names_under};
 
 use crate::first_line::put_first;
-use crate::output::{Page, WriteFault, put};
-use crate::printing::{Token, put_after_space, put_line, put_spaced, put_word};
+use crate::page::Page;
 use crate::status::status_word;
 use arrayvec::ArrayVec;
 use pr_cdb::codes::FIXED_SENSE_LENGTH;
 use pr_cdb::{Sense, encode_sense};
+use pr_output::{Token, WriteFault, put, put_after_space, put_line, put_spaced, put_word};
 use pr_registry::{Held, Registry};
 use pr_roles::{Nexus, Scenario};
 use pr_unit::Unit;
@@ -243,14 +243,14 @@ fn put_item<W: Write>(
     }
 }
 
-#[tactic(auto, unfolding(crate::specs::TraceText::reset_line, crate::specs::Printed::printed_word))]
+#[tactic(auto, unfolding(crate::specs::TraceText::reset_line, pr_output::specs::Printed::printed_word))]
 fn put_reset<W: Write>(writer: &mut W, index: u64) -> Result<(), WriteFault>
     ensures { Writes W.Write writer (reset_line index) result }
 {
     put_line(writer, Token::Number(index), &[Token::Text(b"reset")])
 }
 
-#[tactic(auto, unfolding(crate::specs::TraceText::entry_line, crate::specs::Printed::printed_word))]
+#[tactic(auto, unfolding(crate::specs::TraceText::entry_line, pr_output::specs::Printed::printed_word))]
 fn put_entry<W: Write>(
     writer: &mut W,
     index: u64,
@@ -305,7 +305,7 @@ fn put_unit<W: Write>(writer: &mut W, nexuses: &[Nexus], unit: &Registry) -> Res
     put(writer, b"\n")
 }
 
-#[tactic(auto, unfolding(crate::specs::Printed::printed_word))]
+#[tactic(auto, unfolding(pr_output::specs::Printed::printed_word))]
 fn put_registrations<W: Write>(
     writer: &mut W,
     nexuses: &[Nexus],
@@ -335,7 +335,7 @@ fn key_of(unit: &Registry, host: usize) -> Option<u64>
 }
 
 /// The word for a reservation: its type and holder, as `5:a`, or its type, or `none`.
-#[tactic(auto, unfolding(crate::specs::Printed::printed_word))]
+#[tactic(auto, unfolding(pr_output::specs::Printed::printed_word))]
 pub fn held_word(nexuses: &[Nexus], held: Option<Held>) -> Token<'_>
     ensures { printed_word result ≡ held_word (names_of nexuses.now) held }
 {
@@ -356,7 +356,7 @@ fn count_of(counts: &[u32], host: usize) -> u32
     }
 }
 
-#[tactic(auto, unfolding(crate::specs::TraceText::ending_line, crate::specs::Printed::printed_word))]
+#[tactic(auto, unfolding(crate::specs::TraceText::ending_line, pr_output::specs::Printed::printed_word))]
 fn put_end<W: Write>(writer: &mut W, name: &[u8], end: End, sent: u32) -> Result<(), WriteFault>
     ensures { Writes W.Write writer (ending_line name.now (ending_of end) sent) result }
 {
@@ -380,7 +380,7 @@ fn put_end<W: Write>(writer: &mut W, name: &[u8], end: End, sent: u32) -> Result
     }
 }
 
-#[tactic(auto, unfolding(crate::specs::Printed::printed_word))]
+#[tactic(auto, unfolding(pr_output::specs::Printed::printed_word))]
 fn put_ending<'a, W: Write>(
     writer: &mut W,
     role: &'a [u8],

@@ -3,16 +3,15 @@
 ghost use Rattle.std.specs.Prelude.{◌≡◌, ◌∷◌, []};
 ghost use Rattle.std.specs.Fmt.{decimal};
 ghost use Rattle.pr_report.specs.inside.WordsWritten.{WritesRefusal};
-ghost use Rattle.pr_report.specs.Written.{Writes};
-ghost use Rattle.pr_report.specs.Printed.{printed_words};
-ghost use Rattle.pr_report.specs.PrintedLines.{class_word, line};
+ghost use Rattle.pr_output.specs.Written.{Writes};
+ghost use Rattle.pr_output.specs.Printed.{printed_words};
+ghost use Rattle.pr_output.specs.PrintedLines.{class_word, line};
 ghost use Rattle.pr_report.specs.TraceText.{names_of, names_under};
 ghost use Rattle.pr_report.specs.Verdicts.{IsReason, IsVerdict, is_refusal, no_arm_words, over_budget_words, place_words, reason_words, verdict_text};
 
-use crate::output::WriteFault;
-use crate::printing::{Token, put_line};
 use crate::trace::name_of;
 use pr_domain::Class;
+use pr_output::{Token, WriteFault, put_line};
 use pr_roles::{Nexus, Scenario};
 use pr_verify::Refusal;
 use std::io::Write;
@@ -64,7 +63,7 @@ pub fn write_verdict<W: Write>(
 }
 
 // The line of a word and a number.
-#[tactic(auto, unfolding(crate::specs::Printed::printed_word))]
+#[tactic(auto, unfolding(pr_output::specs::Printed::printed_word))]
 fn put_counted<W: Write>(writer: &mut W, word: &[u8], number: usize) -> Result<(), WriteFault>
     ensures { Writes W.Write writer (line word.now (decimal number ∷ [])) result }
 {
@@ -106,7 +105,7 @@ fn put_reason<W: Write>(
     }
 }
 
-#[tactic(auto, unfolding(crate::specs::Printed::printed_word))]
+#[tactic(auto, unfolding(pr_output::specs::Printed::printed_word))]
 fn put_no_arm<W: Write>(
     writer: &mut W,
     name: &[u8],
@@ -129,7 +128,7 @@ fn put_no_arm<W: Write>(
     )
 }
 
-#[tactic(auto, unfolding(crate::specs::Printed::printed_word))]
+#[tactic(auto, unfolding(pr_output::specs::Printed::printed_word))]
 fn put_place<'a, W: Write>(
     writer: &mut W,
     reason: &'a [u8],
@@ -150,7 +149,7 @@ fn put_place<'a, W: Write>(
     )
 }
 
-#[tactic(auto, unfolding(crate::specs::Printed::printed_word))]
+#[tactic(auto, unfolding(pr_output::specs::Printed::printed_word))]
 fn put_over_budget<W: Write>(writer: &mut W, name: &[u8], cost: u64) -> Result<(), WriteFault>
     ensures { WritesRefusal W.Write writer (over_budget_words name.now cost) result }
 {
@@ -167,7 +166,7 @@ fn put_over_budget<W: Write>(writer: &mut W, name: &[u8], cost: u64) -> Result<(
 }
 
 // The line with these words after the first.
-#[tactic(auto, unfolding(crate::specs::Printed::printed_word))]
+#[tactic(auto, unfolding(pr_output::specs::Printed::printed_word))]
 fn put_refused<W: Write>(writer: &mut W, words: &[Token<'_>]) -> Result<(), WriteFault>
     ensures { WritesRefusal W.Write writer (printed_words words.now) result }
 {

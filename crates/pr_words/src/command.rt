@@ -1,7 +1,7 @@
 //! Commands in words.
 
 use pr_cdb::{Command, Kind, Request, Wire, decode};
-use pr_report::{Token, WriteFault, put, put_spaced};
+use pr_output::{Token, WriteFault, put, put_spaced};
 use std::io::Write;
 
 // What the standard calls each operation code, where the bytes are none of the commands that the unit has.

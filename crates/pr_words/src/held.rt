@@ -1,8 +1,8 @@
 //! Reservations in words.
 
 use crate::standing::name_of;
+use pr_output::{Token, WriteFault, put, put_spaced};
 use pr_registry::Held;
-use pr_report::{Token, WriteFault, put, put_spaced};
 use pr_roles::Nexus;
 use std::io::Write;
 

@@ -1,7 +1,7 @@
 //! Numbers: in decimal digits, and bytes in hexadecimal ones.
 
 use itoa::Buffer;
-use pr_report::{WriteFault, put};
+use pr_output::{WriteFault, put};
 use std::io::Write;
 
 const DIGITS: [u8; 16] = [

@@ -5,7 +5,7 @@ use pr_cdb::{
     Command, Reply, Request, Sense, Status, Wire, decode, decode_sense, holder_of, keys_of,
 };
 use pr_domain::Class;
-use pr_report::{Token, WriteFault, put, put_spaced};
+use pr_output::{Token, WriteFault, put, put_spaced};
 use std::io::Write;
 
 const GOOD: &[u8] = b"GOOD";

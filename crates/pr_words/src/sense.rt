@@ -2,7 +2,7 @@
 
 use crate::numbers::{put_digit, put_pair};
 use pr_cdb::Sense;
-use pr_report::{WriteFault, put};
+use pr_output::{WriteFault, put};
 use std::io::Write;
 
 // What the standard calls each sense that the unit tells: its key, additional sense code and qualifier (SPC-4, 'Sense key and

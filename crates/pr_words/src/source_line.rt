@@ -3,7 +3,7 @@
 use crate::numbers::put_number;
 use itoa::Buffer;
 use pr_lines::next_line;
-use pr_report::{WriteFault, put};
+use pr_output::{WriteFault, put};
 use std::io::Write;
 
 /// The line of a text that has this number, counted from 1, without its end.

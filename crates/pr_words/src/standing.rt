@@ -1,8 +1,8 @@
 //! How the unit and each nexus stand, in words.
 
 use crate::held::put_held;
+use pr_output::{Token, WriteFault, put, put_line, put_spaced};
 use pr_registry::Registry;
-use pr_report::{Token, WriteFault, put, put_line, put_spaced};
 use pr_roles::Nexus;
 use pr_world::End;
 use std::io::Write;

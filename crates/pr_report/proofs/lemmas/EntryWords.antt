@@ -1,2 +1,1 @@
-pub mod KeyDigits
 pub mod PairBytes

@@ -4,7 +4,7 @@ use Rattle.std.specs.Borrow.{MutBor}
 use Rattle.std.specs.declared.io.Write as Write
 use Rattle.arrayvec.specs.ArrayVec.{ArrayVec}
 use denote.Triple.Both.{Both}
-use Rattle.pr_report.specs.Written.{Wrote, FallsShort}
+use Rattle.pr_output.specs.Written.{Wrote, FallsShort}
 
 -- a call wrote this text but for what is left, where it succeeded, and fell short of it where it failed
 abbrev pub PutsAllBut : {E : Type 0} → Option (List ℕ) → Option (List ℕ) → List ℕ → List ℕ → Result (Unit {0}) E → Type 0

@@ -2,7 +2,7 @@
 use Rattle.std.specs.Prelude.{ℕ, Bool, if◌then◌else◌, List, [], ◌∷◌, map, Option}
 use Rattle.pr_registry.specs.declared.held.Held.{Held}
 use Rattle.pr_views.specs.Views.{View}
-use Rattle.pr_report.specs.PrintedLines.{joined_by_spaces}
+use Rattle.pr_output.specs.PrintedLines.{joined_by_spaces}
 use Rattle.pr_report.specs.TraceText.{held_word}
 use Rattle.pr_report.specs.OutlineText.{possible_of}
 

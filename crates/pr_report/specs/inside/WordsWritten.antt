@@ -3,9 +3,9 @@ use Rattle.std.specs.Prelude.{ℕ, List, Result}
 use Rattle.std.specs.Borrow.{MutBor}
 use Rattle.std.specs.declared.io.Write as Write
 use denote.Triple.Both.{Both}
-use Rattle.pr_report.specs.PrintedLines.{joined_by_spaces}
+use Rattle.pr_output.specs.PrintedLines.{joined_by_spaces}
 use Rattle.pr_report.specs.Verdicts.{refused_line}
-use Rattle.pr_report.specs.Written.{Writes}
+use Rattle.pr_output.specs.Written.{Writes}
 
 module _ {A E : Type 0} (ghosts : Write.Ghosts A) (writer : Both (MutBor A) (MutBor A)) where
   -- each after a space

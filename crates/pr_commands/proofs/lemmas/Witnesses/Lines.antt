@@ -4,8 +4,8 @@ use Rattle.std.specs.List.{flat_map, range_with_len}
 use Rattle.std.specs.Io.KnownBytes.{Appends}
 use Rattle.std.proofs.lemmas.List.FromFn.{get_or-range_with_len, length-range_with_len}
 use Rattle.pr_attention.specs.Attentions.{power_on, reservations_preempted, reservations_released, registrations_preempted}
-use Rattle.pr_report.specs.Written.{FallsShort, Wrote}
-use Rattle.pr_report.proofs.lemmas.Written.Fronts.{flat_map_end, flat_map_from, wrote_all, wrote_front, wrote_more}
+use Rattle.pr_output.specs.Written.{FallsShort, Wrote}
+use Rattle.pr_output.proofs.lemmas.Written.Fronts.{flat_map_end, flat_map_from, wrote_all, wrote_front, wrote_more}
 use Rattle.pr_commands.specs.WitnessText.{pending_line}
 
 module _ (f : ℕ → List ℕ) (n i : ℕ) (old mid new : Option (List ℕ)) where

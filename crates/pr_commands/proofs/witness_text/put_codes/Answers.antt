@@ -1,7 +1,7 @@
 use Rattle.std.proofs.Common.{ℕ, Bool}
 use Rattle.std.specs.FinSet as set
 use Rattle.pr_attention.specs.Attentions.{power_on, reservations_preempted, reservations_released, registrations_preempted}
-use Rattle.pr_report.proofs.lemmas.Written.Fronts.{front_first, front_then, puts_err, puts_last}
+use Rattle.pr_output.proofs.lemmas.Written.Fronts.{front_first, front_then, puts_err, puts_last}
 use Rattle.pr_commands.specs.WitnessText.{code_word}
 use Rattle.pr_commands.proofs.witness_text.put_codes.Goals as goal
 

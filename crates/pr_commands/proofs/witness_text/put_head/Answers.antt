@@ -3,10 +3,10 @@ use Rattle.std.specs.Prelude.{codes}
 use Rattle.std.specs.Io.KnownBytes.{Appends}
 use Rattle.pr_registry.specs.declared.held.Held.{Held}
 use Rattle.pr_registry.specs.Registrations.{State}
-use Rattle.pr_report.specs.PrintedLines.{line}
+use Rattle.pr_output.specs.PrintedLines.{line}
 use Rattle.pr_report.specs.TraceText.{held_word, names_of}
-use Rattle.pr_report.specs.Written.{FallsShort, Puts}
-use Rattle.pr_report.proofs.lemmas.Written.Fronts.{front_first, front_then, puts_err, puts_last}
+use Rattle.pr_output.specs.Written.{FallsShort, Puts}
+use Rattle.pr_output.proofs.lemmas.Written.Fronts.{front_first, front_then, puts_err, puts_last}
 use Rattle.pr_commands.specs.WitnessText.{broken_words, generation_line, pending_lines, start_lines, told_word}
 use Rattle.pr_commands.proofs.witness_text.put_head.Goals as goal
 

@@ -1,4 +1,4 @@
-use Rattle.pr_report.specs.Printed.{printed_word}
+use Rattle.pr_output.specs.Printed.{printed_word}
 use Rattle.pr_commands.proofs.witness_text.put_no_arm.Goals as goal
 
 pub returns : goal.returns

@@ -1,5 +1,5 @@
 use Rattle.pr_report.proofs.Common.{first_line}
-use Rattle.pr_report.proofs.lemmas.Written.Fronts.{front_first, front_then, puts_err, puts_last}
+use Rattle.pr_output.proofs.lemmas.Written.Fronts.{front_first, front_then, puts_err, puts_last}
 use Rattle.pr_report.proofs.first_line.put_first.Goals as goal
 
 pub returns-in_err-put : goal.returns-in_err-put

@@ -14,8 +14,8 @@ use Rattle.pr_views.specs.Rooms.{contains_at}
 use Rattle.pr_verify.specs.declared.table.Row.{Row as KeptRow}
 use Rattle.pr_verify.specs.Tables.{Table}
 use Rattle.pr_report.specs.OutlineText.{outlines_text}
-use Rattle.pr_report.proofs.lemmas.Written.Fronts.{held_front, held_more}
-use Rattle.pr_report.proofs.lemmas.Written.Possibilities.{line_pieces, shown}
+use Rattle.pr_report.proofs.lemmas.FrontsWritten.HeldLines.{held_front, held_more}
+use Rattle.pr_report.proofs.lemmas.WordsWritten.Possibilities.{line_pieces, shown}
 use Rattle.pr_report.proofs.lemmas.TraceText.Lines.{drop_here, names_of_scenario}
 
 -- the line of a send, and what its view is for this host

@@ -1,12 +1,13 @@
 -- A trace goes out one line after another.
 use Rattle.pr_report.proofs.Common.{◌≡◌, ℕ, suc, ◌+◌, ◌<◌, ◌≤◌, List, [], ◌∷◌, ◌++◌, map, length, get_or, drop, slice_index, codes, Option, Result, sym, refl, ap, ◌∙◌, subst, append_assoc, append-nil, add-one, drop_of_length-le, drop-cons, Appends, scenario_of, Item, Parts, ending_of, joined_by_spaces, line, names_in, names_of, name_of, item_lines, held_word, ending_lines, first_line, unit_line, Wrote, FallsShort, Puts}
-use Rattle.pr_report.specs.PrintedLines.{generation_word, registration_word}
+use Rattle.pr_output.specs.PrintedLines.{generation_word, registration_word}
 use Rattle.pr_report.specs.TraceText.{item_line, ending_line, registration_words, trace_body, trace_text}
 use Rattle.pr_roles.specs.declared.parts.Nexus.{Nexus as NexusPart}
 use Rattle.pr_roles.specs.Scenarios.{nexus_of}
 use Rattle.pr_registry.specs.Registrations.{State, key_of}
 use Rattle.pr_world.specs.declared.end.End.{End}
-use Rattle.pr_report.proofs.lemmas.Written.Fronts.{held_first, held_front, held_more, wrote_front, wrote_more}
+use Rattle.pr_output.proofs.lemmas.Written.Fronts.{wrote_front, wrote_more}
+use Rattle.pr_report.proofs.lemmas.FrontsWritten.HeldLines.{held_first, held_front, held_more}
 
 -- the element that a loop is at, and what comes after it
 pub drop_here : {X : Type 0} (xs : List X) (i : ℕ) (x : X) → i < length xs → x ≡ get_or xs i x → drop i xs ≡ x ∷ drop (i + 1) xs

@@ -1,8 +1,8 @@
 use Rattle.pr_report.proofs.Common.{[], ◌∷◌, codes, decimal, printed_word}
 use Rattle.pr_report.specs.ScenarioWords.{command_words}
 use Rattle.pr_report.specs.OutlineText.{send_line}
-use Rattle.pr_report.proofs.lemmas.Written.Fronts.{front_first, front_then, puts_err, puts_last}
-use Rattle.pr_report.proofs.lemmas.Written.Possibilities.{line_pieces}
+use Rattle.pr_output.proofs.lemmas.Written.Fronts.{front_first, front_then, puts_err, puts_last}
+use Rattle.pr_report.proofs.lemmas.WordsWritten.Possibilities.{line_pieces}
 use Rattle.pr_report.proofs.outline.put_command_line.Goals as goal
 
 pub returns-in_err-put : goal.returns-in_err-put

@@ -1,7 +1,7 @@
 use Rattle.pr_report.proofs.Common.{ℕ, map, Some, Option, ap, numbers_of_bits, Held, One, number_of, names_of, held_word}
 use Rattle.std.specs.FinSet as set
-use Rattle.pr_report.proofs.lemmas.Written.Fronts.{puts_err}
-use Rattle.pr_report.proofs.lemmas.Written.Possibilities.{range_here, range_end, shown_end, shown_front, shown_more}
+use Rattle.pr_output.proofs.lemmas.Written.Fronts.{puts_err}
+use Rattle.pr_report.proofs.lemmas.WordsWritten.Possibilities.{range_here, range_end, shown_end, shown_front, shown_more}
 use Rattle.pr_report.proofs.outline.put_held_by.Goals as goal
 
 pub returns-in_err-put_reservation : goal.returns-in_err-put_reservation

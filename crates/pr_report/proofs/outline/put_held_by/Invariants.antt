@@ -1,6 +1,6 @@
 use Rattle.pr_report.proofs.Common.{ℕ, ◌-◌, map, Some, Option, range_with_len, numbers_of_bits, Held, One, number_of, names_of, held_word, Wrote}
 use Rattle.std.specs.FinSet as set
-use Rattle.pr_report.proofs.lemmas.Written.Possibilities.{shown}
+use Rattle.pr_report.proofs.lemmas.WordsWritten.Possibilities.{shown}
 use Rattle.pr_report.proofs.outline.put_held_by.Given as goal
 
 abbrev pub invariant-loop-holder : goal.invariant-loop-holder

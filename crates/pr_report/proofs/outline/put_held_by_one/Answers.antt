@@ -3,8 +3,8 @@ use Rattle.std.specs.FinSet as set
 use Rattle.pr_cdb.specs.declared.command.Kind.{Kind}
 use Rattle.pr_cdb.specs.declared.command.Kind.TheVariants.{WriteExclusive, ExclusiveAccess, WriteExclusiveRegistrantsOnly, ExclusiveAccessRegistrantsOnly}
 use Rattle.pr_report.specs.OutlineText.{held_by_one}
-use Rattle.pr_report.proofs.lemmas.Written.Fronts.{front_first, front_then, puts_err, puts_last}
-use Rattle.pr_report.proofs.lemmas.Written.Possibilities.{four_pieces, puts_as}
+use Rattle.pr_output.proofs.lemmas.Written.Fronts.{front_first, front_then, puts_err, puts_last}
+use Rattle.pr_report.proofs.lemmas.WordsWritten.Possibilities.{four_pieces, puts_as}
 use Rattle.pr_report.proofs.outline.put_held_by_one.Goals as goal
 
 pub returns-in_err-put_held_by : goal.returns-in_err-put_held_by

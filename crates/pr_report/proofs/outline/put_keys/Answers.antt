@@ -1,7 +1,7 @@
 use Rattle.pr_report.proofs.Common.{ℕ, ◌+◌, ◌<◌, ◌≤◌, length, arith, numbers_of_bits, key_at, free_or_key}
 use Rattle.std.specs.FinSet as set
-use Rattle.pr_report.proofs.lemmas.Written.Fronts.{puts_err}
-use Rattle.pr_report.proofs.lemmas.Written.Possibilities.{possible_front, possible_more, range_here, range_end, shown_end}
+use Rattle.pr_output.proofs.lemmas.Written.Fronts.{puts_err}
+use Rattle.pr_report.proofs.lemmas.WordsWritten.Possibilities.{possible_front, possible_more, range_here, range_end, shown_end}
 use Rattle.pr_report.proofs.outline.put_keys.Goals as goal
 
 pub returns-in_err-put_if : goal.returns-in_err-put_if

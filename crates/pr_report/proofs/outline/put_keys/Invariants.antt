@@ -1,6 +1,6 @@
 use Rattle.pr_report.proofs.Common.{ℕ, ◌+◌, ◌-◌, length, range_with_len, numbers_of_bits, key_at, free_or_key, Wrote}
 use Rattle.std.specs.FinSet as set
-use Rattle.pr_report.proofs.lemmas.Written.Possibilities.{shown}
+use Rattle.pr_report.proofs.lemmas.WordsWritten.Possibilities.{shown}
 use Rattle.pr_report.proofs.outline.put_keys.Given as goal
 
 abbrev pub invariant-loop-number : goal.invariant-loop-number

@@ -1,6 +1,6 @@
 use Rattle.pr_report.proofs.Common.{ℕ, ◌-◌, range_with_len, numbers_of_bits, count_of_attentions, codes_in, attentions_word, Wrote}
 use Rattle.std.specs.FinSet as set
-use Rattle.pr_report.proofs.lemmas.Written.Possibilities.{shown}
+use Rattle.pr_report.proofs.lemmas.WordsWritten.Possibilities.{shown}
 use Rattle.pr_report.proofs.outline.put_pending.Given as goal
 
 abbrev pub invariant-loop-number : goal.invariant-loop-number

@@ -1,8 +1,8 @@
 use Rattle.pr_report.proofs.Common.{ℕ, [], ◌∷◌, map, codes, filter, range_with_len, numbers_of_bits, count_of_attentions, codes_in, printed_word, attentions_word}
 use Rattle.std.specs.FinSet as set
 use Rattle.pr_report.specs.OutlineText.{pending_line}
-use Rattle.pr_report.proofs.lemmas.Written.Fronts.{front_first, front_then, puts_err, puts_last}
-use Rattle.pr_report.proofs.lemmas.Written.Possibilities.{line_pieces, puts_as}
+use Rattle.pr_output.proofs.lemmas.Written.Fronts.{front_first, front_then, puts_err, puts_last}
+use Rattle.pr_report.proofs.lemmas.WordsWritten.Possibilities.{line_pieces, puts_as}
 use Rattle.pr_report.proofs.outline.put_pending_line.Goals as goal
 
 pub returns-in_err-begin_item : goal.returns-in_err-begin_item

@@ -1,7 +1,7 @@
 use Rattle.pr_report.proofs.Common.{ap, ◌∙◌, printed_word, names_of, name_of}
-use Rattle.pr_report.proofs.lemmas.Written.Fronts.{front_first, front_then, puts_err, puts_last}
+use Rattle.pr_output.proofs.lemmas.Written.Fronts.{front_first, front_then, puts_err, puts_last}
 use Rattle.pr_report.proofs.lemmas.OutlineText.Sends.{registration_begins, registration_pieces}
-use Rattle.pr_report.proofs.lemmas.Written.Possibilities.{puts_as}
+use Rattle.pr_report.proofs.lemmas.WordsWritten.Possibilities.{puts_as}
 use Rattle.pr_report.proofs.outline.put_registration_line.Goals as goal
 
 pub returns-in_err-begin_item : goal.returns-in_err-begin_item

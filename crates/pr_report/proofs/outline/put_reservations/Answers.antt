@@ -4,8 +4,8 @@ use Rattle.pr_cdb.specs.declared.command.Kind.{Kind}
 use Rattle.pr_cdb.specs.declared.command.Kind.TheVariants.{WriteExclusiveAllRegistrants, ExclusiveAccessAllRegistrants}
 use Rattle.pr_registry.specs.declared.held.Held.TheVariants.{All}
 use Rattle.pr_report.specs.OutlineText.{held_by_one, kinds_of_one}
-use Rattle.pr_report.proofs.lemmas.Written.Fronts.{front_first, front_then, puts_err, puts_last}
-use Rattle.pr_report.proofs.lemmas.Written.Possibilities.{ends_pieces, puts_as}
+use Rattle.pr_output.proofs.lemmas.Written.Fronts.{front_first, front_then, puts_err, puts_last}
+use Rattle.pr_report.proofs.lemmas.WordsWritten.Possibilities.{ends_pieces, puts_as}
 use Rattle.pr_report.proofs.outline.put_reservations.Goals as goal
 
 pub returns-in_err-put_reservation : goal.returns-in_err-put_reservation

@@ -1,8 +1,8 @@
 use Rattle.pr_report.proofs.Common.{map, ap, names_of}
 use Rattle.pr_verify.specs.Rooms.{table_of}
 use Rattle.pr_report.specs.OutlineText.{table_text}
-use Rattle.pr_report.proofs.lemmas.Written.Fronts.{puts_err}
-use Rattle.pr_report.proofs.lemmas.Written.Possibilities.{each_front, each_more}
+use Rattle.pr_output.proofs.lemmas.Written.Fronts.{puts_err}
+use Rattle.pr_report.proofs.lemmas.WordsWritten.Possibilities.{each_front, each_more}
 use Rattle.pr_report.proofs.lemmas.TraceText.Lines.{drop_here}
 use Rattle.pr_report.proofs.outline.put_tables.Goals as goal
 

@@ -1,5 +1,5 @@
 use Rattle.pr_report.proofs.Common.{◌++◌, map, refl, ending_of, names_of, item_lines, ending_lines, unit_line}
-use Rattle.pr_report.proofs.lemmas.Written.Fronts.{held_all, held_err, held_front, held_more, held_through}
+use Rattle.pr_report.proofs.lemmas.FrontsWritten.HeldLines.{held_all, held_err, held_front, held_more, held_through}
 use Rattle.pr_report.proofs.trace.add_body.Goals as goal
 
 pub returns-in_err-add_items : goal.returns-in_err-add_items

@@ -1,5 +1,5 @@
 use Rattle.pr_report.proofs.Common.{refl, names_of}
-use Rattle.pr_report.proofs.lemmas.Written.Fronts.{held_all, held_err}
+use Rattle.pr_report.proofs.lemmas.FrontsWritten.HeldLines.{held_all, held_err}
 use Rattle.pr_report.proofs.lemmas.TraceText.Lines.{ends_front, ends_more, ends_end}
 use Rattle.pr_report.proofs.trace.add_ends.Goals as goal
 

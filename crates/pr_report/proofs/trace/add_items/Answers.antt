@@ -1,5 +1,5 @@
 use Rattle.pr_report.proofs.Common.{refl, names_of}
-use Rattle.pr_report.proofs.lemmas.Written.Fronts.{held_all, held_err}
+use Rattle.pr_report.proofs.lemmas.FrontsWritten.HeldLines.{held_all, held_err}
 use Rattle.pr_report.proofs.lemmas.TraceText.Lines.{entries_front, entries_more, entries_end}
 use Rattle.pr_report.proofs.trace.add_items.Goals as goal
 

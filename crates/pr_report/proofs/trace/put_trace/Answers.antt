@@ -1,6 +1,7 @@
 use Rattle.pr_report.proofs.Common.{map, ending_of, names_of}
 use Rattle.pr_report.specs.TraceText.{trace_body}
-use Rattle.pr_report.proofs.lemmas.Written.Fronts.{held_end, held_last, held_over, puts_err}
+use Rattle.pr_output.proofs.lemmas.Written.Fronts.{puts_err}
+use Rattle.pr_report.proofs.lemmas.FrontsWritten.HeldLines.{held_end, held_last, held_over}
 use Rattle.pr_report.proofs.lemmas.TraceText.Lines.{first_front, first_put}
 use Rattle.pr_report.proofs.trace.put_trace.Goals as goal
 

@@ -1,4 +1,5 @@
-use Rattle.pr_report.proofs.lemmas.Written.Fronts.{held_end, held_first, held_last, held_over, puts_err}
+use Rattle.pr_output.proofs.lemmas.Written.Fronts.{puts_err}
+use Rattle.pr_report.proofs.lemmas.FrontsWritten.HeldLines.{held_end, held_first, held_last, held_over}
 use Rattle.pr_report.proofs.trace.put_trace_body.Goals as goal
 
 pub returns-in_err-add_body : goal.returns-in_err-add_body

@@ -1,0 +1,3 @@
+pub mod Written
+pub mod PrintedLines
+pub mod Printed

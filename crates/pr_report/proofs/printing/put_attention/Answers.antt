@@ -1,8 +1,0 @@
-use Rattle.pr_report.proofs.lemmas.Written.Fronts.{front_first, puts_err, puts_last}
-use Rattle.pr_report.proofs.printing.put_attention.Goals as goal
-
-pub returns-in_err-put : goal.returns-in_err-put
-returns-in_err-put g c = puts_err _ _ _ _ (front_first _ _ _ _ (rw c.pair.ensures at c.in_err-put.ensures)) c.from_residual.ensures.0
-
-pub returns : goal.returns
-returns g c = puts_last _ _ _ _ _ _ (rw c.pair.ensures at c.in_ok-put.ensures) c.put_after_slash.ensures

@@ -1,5 +1,0 @@
-use Rattle.pr_report.proofs.Common.{drop, pairs, Wrote}
-use Rattle.pr_report.proofs.printing.put_pairs.Given as goal
-
-abbrev pub invariant-loop-byte : goal.invariant-loop-byte
-invariant-loop-byte g l = Wrote (g.W.Write.contents l.fn.writer) (g.W.Write.contents l.writer) (pairs l.bytes) (pairs (drop l.byte-index l.bytes))
