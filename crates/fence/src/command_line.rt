@@ -33,19 +33,35 @@ pub fn matches_of<'a>(alloc: Global, words: &'a [String]) -> Result<ArgMatches<'
 }
 
 fn command<'a>(alloc: Global) -> Result<Command<'a>, AllocError> {
-    Command::new(alloc, "fence")
+    let command = Command::new(alloc, "fence")
         .about(
             "Verifies SCSI fencing scripts, runs them against one logical unit, and audits traces",
         )
         .version(VERSION)
         .after_help(STATUSES)
         .subcommand_required(true)
-        .arg_required_else_help(true)
+        .arg_required_else_help(true);
+    let command = with_verdicts(alloc, command)?;
+    let command = with_runs(alloc, command)?;
+    with_readings(alloc, command)
+}
+
+// What is said of every run.
+fn with_verdicts<'a>(alloc: Global, command: Command<'a>) -> Result<Command<'a>, AllocError> {
+    command
         .subcommand(check(alloc)?)?
         .subcommand(outline(alloc)?)?
-        .subcommand(witness(alloc)?)?
-        .subcommand(replay(alloc)?)?
-        .subcommand(run(alloc)?)?
+        .subcommand(witness(alloc)?)
+}
+
+// What runs the scripts, and writes a trace.
+fn with_runs<'a>(alloc: Global, command: Command<'a>) -> Result<Command<'a>, AllocError> {
+    command.subcommand(replay(alloc)?)?.subcommand(run(alloc)?)
+}
+
+// What is said of a trace, and in words.
+fn with_readings<'a>(alloc: Global, command: Command<'a>) -> Result<Command<'a>, AllocError> {
+    command
         .subcommand(audit(alloc)?)?
         .subcommand(explain(alloc)?)
 }
